@@ -1,0 +1,17 @@
+pub mod Tests
+pub mod Sums
+pub mod Trying
+pub mod Sizes
+pub mod Passes
+pub mod Bodies
+pub mod Nesting
+pub mod Serial
+pub mod Rank
+pub mod Levels
+pub mod Amounts
+pub mod Peaks
+pub mod Stack
+pub mod Parts
+pub mod Walks
+pub mod Tops
+pub mod EndLevels

@@ -1,0 +1,222 @@
+-- What the walks over one body share: codes against kinds, arguments of 24 bits, the amounts of a body against those of its thread, the least place.
+use mathlib.Core.Path.{_≡_, refl, sym, ap, _∙_}
+use Prim.Native.Nat.{ℕ, zero, suc, _+_, _-_, _*_, _^_, _≤_, _<_, min}
+use mathlib.Core.List.{List, [], _∷_}
+use mathlib.Core.Bool.{Bool, true, false, not, _&&_}
+use native.Mathlib.Decide.{ℕ-discrete}
+use native.Mathlib.Numerals.{add-one}
+use native.Mathlib.Omega.{arith}
+use borrow.Author.Tests.{lt-ltb, le-ltb, eq-eqb, ne-eqb}
+use lib.Dec.{ltb, eqb}
+use lib.ListN.{length, getD, take, drop, set, length-drop, length-set}
+use lib.Seq.{getD-drop, take-all, getD-set-same, getD-set-other}
+use Rattle.table.specs.Sum.{pick, sumTo}
+use Rattle.table.specs.Format.{Kind, alloc, free, join, codeOf, kindOf, is, codeAt, argumentAt, threadsOf, actionsOf, firstOf, countOf, bodiesOf, bodyOf, Table, tableOf, kind}
+use Rattle.table.specs.Rules.{withChild, whole}
+use Rattle.table.specs.Accepted.{ContentRules, BodyRules}
+use Rattle.table.specs.Pass.{Check, orElse, refusal, tryAt, tryFrom}
+use Rattle.table.specs.Steps.{ownAmount, childAmount, amountAt, leastNext, leastThat, WalkReady, Filled, Headed, Formed}
+use Rattle.table.specs.declared.Refusal.{Refusal}
+use Rattle.table.specs.declared.Found.{Found}
+use Rattle.table.specs.declared.Found.the-variants.{Nothing, At}
+use Rattle.table.proofs.Tests.{is-true}
+use Rattle.table.proofs.Sums.{sumTo-cong, sumTo-part}
+use Rattle.table.proofs.Sizes.{Sizes, sizes}
+use Rattle.table.proofs.Passes.{tryFrom-split}
+use Rattle.table.proofs.Bodies.{body-within, owner-at, join-above, join-below}
+use Rattle.table.proofs.Amounts.{action-within}
+use Rattle.table.proofs.Parts.{code-part, argument-part}
+
+-- the code of a kind
+code-least : (k : ℕ) → codeOf (kindOf k) ≡ min k 6
+unfolding codeOf kindOf
+code-least zero = refl
+code-least (suc zero) = refl
+code-least (suc (suc zero)) = refl
+code-least (suc (suc (suc zero))) = refl
+code-least (suc (suc (suc (suc zero)))) = refl
+code-least (suc (suc (suc (suc (suc zero))))) = refl
+code-least (suc (suc (suc (suc (suc (suc k)))))) = omega arith
+
+-- a code below 6 is told from any other by its kind
+pub is-code : (own k : ℕ) → own < 6 → is (kindOf own) (kindOf k) ≡ eqb k own
+unfolding is
+is-code own k h = go (ℕ-discrete k own)
+  where
+    go : Dec (k ≡ own) → eqb (codeOf (kindOf own)) (codeOf (kindOf k)) ≡ eqb k own
+    go (yes e) = eq-eqb _ _ (ap (λ (x : ℕ). codeOf (kindOf x)) (sym e)) ∙ sym (eq-eqb _ _ e)
+    go (no d) =
+        let e : codeOf (kindOf own) ≡ codeOf (kindOf k) → k ≡ own = λ q. omega (arith, code-least own, code-least k) in
+        ne-eqb _ _ (λ q. d (e q)) ∙ sym (ne-eqb _ _ d)
+
+-- an argument has 24 bits
+pub argument-small : (s : List ℕ) → ((i : ℕ) → getD s i 0 < 256) → (a : ℕ) → tableOf s .argument a < 16777216
+unfolding tableOf
+argument-small s h a =
+    let f : ℕ = 4 + 4 * threadsOf s in
+    let i : ℕ = 4 * a + 1 in
+    simp getD-drop (omega (arith, h (f + i), h (f + (i + 1)), h (f + (i + 2))))
+
+-- ---- one action of a walk over a body
+
+-- a sum up to and with action i, which is small
+pub record Summed (f : ℕ → ℕ) (i r : ℕ) : Type 0 where
+  pub value : r ≡ sumTo f (suc i)
+  pub small : r < 2 ^ 40
+
+-- action i's own amount o and its child's amount d go into the sum
+pub sum-next : (own at : Kind) (l amounts : List ℕ) (count i k x o d sum : ℕ) → sumTo (amountAt own at l amounts) count < 2 ^ 40 → i < count
+    → k ≡ codeAt l i → x ≡ argumentAt l i → o ≡ ownAmount own (kindOf k) x → d ≡ childAmount at (kindOf k) x amounts
+    → sum ≡ sumTo (amountAt own at l amounts) i → Summed (amountAt own at l amounts) i (sum + (o + d))
+unfolding sumTo amountAt
+sum-next own at l amounts count i k x o d sum b h e f p q j =
+    let v : sum + (o + d) ≡ sumTo (amountAt own at l amounts) (suc i) = rw (p, q, e, f, j) in
+    record { value = v; small = omega (arith, sumTo-part (amountAt own at l amounts) (suc i) count h) }
+
+-- a child's number is an index
+pub child-small : (at : Kind) (l : List ℕ) (count : ℕ) (rises falls : List ℕ) (i k x : ℕ) → WalkReady at l count rises falls → i < count
+    → k ≡ codeAt l i → x ≡ argumentAt l i → kindOf k ≡ at → x < 1024
+child-small at l count rises falls i k x r h e f g = rw f (r .children i h (rw e at g))
+
+-- ---- a body's sums against those of its thread
+
+-- the part of a slice from k on
+pub rest-part : (l : List ℕ) (k : ℕ) → take (length l - k) (drop k l) ≡ drop k l
+rest-part l k = take-all (length l - k) (drop k l) (omega (arith, length-drop k l))
+
+-- a thread's body as the code takes it: the part from its first action on, of the part from the first body on
+abbrev pub bodyFrom : List ℕ → ℕ → ℕ → List ℕ
+bodyFrom s n first =
+    let actions : List ℕ = take (length s - (4 + 4 * n)) (drop (4 + 4 * n) s) in
+    take (length actions - 4 * first) (drop (4 * first) actions)
+
+pub body-part : (s : List ℕ) (n first t : ℕ) → n ≡ threadsOf s → first ≡ firstOf s t → bodyFrom s n first ≡ bodyOf s t
+body-part s n first t e d = rw (rest-part s (4 + 4 * n), rest-part (drop (4 + 4 * n) s) (4 * first), e, d)
+
+-- the children that a thread's actions of one kind name have higher numbers
+abbrev pub ChildrenAbove : Table → Kind → ℕ → Type 0
+ChildrenAbove T at t =
+    (i : ℕ) → i < T .count t → kind T (T .first t + i) ≡ at → (t < T .argument (T .first t + i)) × (T .argument (T .first t + i) < T .threads)
+
+pub joins-above : (T : Table) → ContentRules T → BodyRules T → (t : ℕ) → t < T .threads → ChildrenAbove T join t
+joins-above T c b t h i k e =
+    let w : T .first t + i < T .actions = action-within T c b t i h k in
+    (rw (owner-at T c t i h k) at (join-above T c b (T .first t + i) w e), join-below T c b (T .first t + i) w e)
+
+-- a choice of two amounts that are equal where the test holds
+pick-same : (j k : Kind) (x y : ℕ) → (k ≡ j → x ≡ y) → pick (is j k) x 0 ≡ pick (is j k) y 0
+pick-same j k x y h = go (is j k) refl
+  where
+    go : (t : Bool) → is j k ≡ t → pick t x 0 ≡ pick t y 0
+    go true e = h (is-true j k e)
+    go false e = refl
+
+pub own-small : (j k : Kind) (x : ℕ) → x < 16777216 → ownAmount j k x ≤ 16777215
+own-small j k x h = go (is j k)
+  where
+    go : (t : Bool) → pick t x 0 ≤ 16777215
+    go true = omega arith
+    go false = omega arith
+
+module _ (s : List ℕ) (own at : Kind) (mine : ℕ → ℕ) (mine-is : (a : ℕ) → mine a ≡ ownAmount own (kind (tableOf s) a) (tableOf s .argument a)) where
+  -- what an action adds, where the children's entries are right
+  amount-is : (whole : ℕ → ℕ) (amounts : List ℕ) (t i : ℕ)
+      → (kind (tableOf s) (tableOf s .first t + i) ≡ at
+      → getD amounts (tableOf s .argument (tableOf s .first t + i)) 0 ≡ whole (tableOf s .argument (tableOf s .first t + i)))
+      → amountAt own at (bodyOf s t) amounts i ≡ withChild (tableOf s) at mine whole (tableOf s .first t + i)
+  unfolding amountAt tableOf
+  amount-is whole amounts t i h =
+      rw (code-part (bodiesOf s) (firstOf s t) i, argument-part (bodiesOf s) (firstOf s t) i, mine-is (firstOf s t + i))
+      (ap (λ (x : ℕ). ownAmount own (kind (tableOf s) (firstOf s t + i)) (tableOf s .argument (firstOf s t + i)) + x)
+      (pick-same at (kind (tableOf s) (firstOf s t + i)) _ _ h))
+
+  pub sums-agree : (amounts : List ℕ) (t : ℕ) → ChildrenAbove (tableOf s) at t → Filled (tableOf s) (whole (tableOf s) mine) amounts (suc t)
+      → (k : ℕ) → k ≤ tableOf s .count t
+      → sumTo (amountAt own at (bodyOf s t) amounts) k ≡ sumTo (λ i. withChild (tableOf s) at mine (whole (tableOf s) mine) (tableOf s .first t + i)) k
+  sums-agree amounts t above f k h =
+      sumTo-cong _ _ k (λ i l. amount-is (whole (tableOf s) mine) amounts t i (λ e.
+      let p = above i (omega arith) e in
+      f .right _ (p .0) (p .1)))
+
+-- the walk over a thread's body may begin
+pub walk-ready : (s : List ℕ) (n m : ℕ) → Formed s n m → (at : Kind) (t count : ℕ) (rises falls : List ℕ) → t < n → count ≡ countOf s t → ChildrenAbove (tableOf s) at t
+    → sumTo (amountAt alloc at (bodyOf s t) rises) count ≤ 16777215 * m → sumTo (amountAt free at (bodyOf s t) falls) count ≤ 16777215 * m
+    → WalkReady at (bodyOf s t) count rises falls
+unfolding tableOf
+walk-ready s n m r at t count rises falls h e above up down =
+    let d : Headed s n m = r .laid .headed in
+    let z : Sizes s n m = sizes d in
+    let w : firstOf s t + countOf s t ≤ actionsOf s = body-within (tableOf s) (r .laid .contents) t (rw (d .threads) at h) in
+    record {
+      room = simp length-drop (omega (arith, d .threads, d .actions, z .total));
+      few = omega (arith, d .actions, z .actions-high);
+      children = λ i l k.
+          let j : i < countOf s t = omega arith in
+          let q = above i j (rw code-part at k) in
+          rw argument-part (omega (arith, q .1, d .threads, z .threads-high));
+      rise-small = omega (arith, z .actions-high);
+      fall-small = omega (arith, z .actions-high);
+    }
+
+-- an array that has the amounts above thread t has its amount too once that is set
+pub filled-set : (T : Table) (amount : ℕ → ℕ) (amounts : List ℕ) (t v : ℕ) → t < 1024 → v ≡ amount t → Filled T amount amounts (suc t)
+    → Filled T amount (set amounts t v) t
+filled-set T amount amounts t v h e f =
+    record { size = length-set amounts t v ∙ f .size; right = λ u l k. go u l k (ℕ-discrete u t) }
+  where
+    go : (u : ℕ) → t ≤ u → u < T .threads → Dec (u ≡ t) → getD (set amounts t v) u 0 ≡ amount u
+    go u l k (yes d) = rw (d, getD-set-same amounts t v 0 (omega (arith, f .size))) e
+    go u l k (no d) = getD-set-other amounts t u v 0 d ∙ f .right u (omega (arith, d)) k
+
+-- ---- the least number that passes a test, against the least place at which a check applies
+
+least-le : (f : ℕ → Bool) (k : ℕ) → leastThat f k ≤ k
+unfolding leastThat
+least-le f zero = omega arith
+least-le f (suc k) = go (least-le f k) (eqb (leastThat f k) k && not (f k))
+  where
+    go : leastThat f k ≤ k → (t : Bool) → pick t (k + 1) (leastThat f k) ≤ suc k
+    go h true = omega arith
+    go h false = omega arith
+
+pub least-cong : (f g : ℕ → Bool) (k : ℕ) → ((i : ℕ) → i < k → f i ≡ g i) → leastThat f k ≡ leastThat g k
+unfolding leastThat
+least-cong f g zero h = refl
+least-cong f g (suc k) h = rw (least-cong f g k (λ i l. h i (omega arith)), h k (omega arith))
+
+-- one place more
+place-more : (c : Check) (from k : ℕ)
+    → tryFrom (c ∷ []) from (suc k) ≡ orElse (tryFrom (c ∷ []) from k) (pick (c .applies (from + k)) (At (refusal (c .number) (from + k))) Nothing)
+unfolding tryFrom tryAt
+place-more c from k =
+    ap (tryFrom (c ∷ []) from) (sym (add-one k))
+    ∙ tryFrom-split (c ∷ []) from k 1
+    ∙ ap (orElse (tryFrom (c ∷ []) from k)) (go (c .applies (from + k)) (refusal (c .number) (from + k)))
+  where
+    go : (t : Bool) (r : Refusal) → orElse (pick t (At r) Nothing) Nothing ≡ pick t (At r) Nothing
+    go true r = refl
+    go false r = refl
+
+least-more : (number from k least : ℕ) (g : Found) (t : Bool) → least ≤ k → g ≡ pick (ltb least k) (At (refusal number (from + least))) Nothing
+    → orElse g (pick t (At (refusal number (from + k))) Nothing)
+    ≡ pick (ltb (leastNext t k least) (suc k)) (At (refusal number (from + leastNext t k least))) Nothing
+least-more number from k least g t h e = go t (ℕ-discrete least k)
+  where
+    go : (t : Bool) → Dec (least ≡ k)
+        → orElse g (pick t (At (refusal number (from + k))) Nothing)
+        ≡ pick (ltb (leastNext t k least) (suc k)) (At (refusal number (from + leastNext t k least))) Nothing
+    go true (yes d) = rw (e, d, le-ltb k k (omega arith), eq-eqb k k refl, lt-ltb k (suc k) (omega arith))
+    go false (yes d) = rw (e, d, le-ltb k k (omega arith), eq-eqb k k refl, le-ltb (k + 1) (suc k) (omega arith))
+    go t (no d) =
+        let l : least < k = omega (arith, d) in
+        rw (e, lt-ltb least k l, ne-eqb least k d, lt-ltb least (suc k) (omega arith))
+
+-- what one check finds among k places is at the least that passes its test
+pub least-found : (c : Check) (from k : ℕ)
+    → tryFrom (c ∷ []) from k
+    ≡ pick (ltb (leastThat (λ i. c .applies (from + i)) k) k) (At (refusal (c .number) (from + leastThat (λ i. c .applies (from + i)) k))) Nothing
+unfolding leastThat tryFrom
+least-found c from zero = refl
+least-found c from (suc k) =
+    place-more c from k
+    ∙ least-more (c .number) from k (leastThat (λ i. c .applies (from + i)) k) (tryFrom (c ∷ []) from k) (c .applies (from + k)) (least-le _ k) (least-found c from k)

@@ -1,0 +1,75 @@
+-- `table::forms::span_at` meets its contract: an action at the end of a body that is not the end of all actions begins the next thread's body.
+use mathlib.Core.Path.{_≡_, sym, _∙_}
+use Prim.Native.Nat.{ℕ, suc, _+_, _*_, _≤_, _<_}
+use mathlib.Core.List.{List}
+use native.Mathlib.Decide.{decLt}
+use native.Mathlib.Numerals.{add-one}
+use native.Mathlib.Omega.{arith}
+use borrow.Author.Needs.{needs}
+use denote.Ref.{now}
+use Rattle.table.specs.Format.{tableOf, countOf}
+use Rattle.table.specs.Steps.{Laid, Reached, Holding}
+use Rattle.table.proofs.Sizes.{Sizes, sizes}
+use Rattle.table.proofs.Bodies.{count-pos, first-next, body-within, last-ends}
+use Rattle.table.proofs.forms.span_at.Statement.{statement}
+use Rattle.table.proofs.forms.span_at.Tie as tie
+
+module _ (s : List ℕ) (n m own stop a : ℕ) (l : Laid s n m) (r : Reached (tableOf s) own stop a) (h : stop ≤ a) where
+  next : suc own < tableOf s .threads
+  next = go (decLt (suc own) (tableOf s .threads))
+    where
+      go : Dec (suc own < tableOf s .threads) → suc own < tableOf s .threads
+      go (yes p) = p
+      go (no p) =
+          let e : suc own ≡ tableOf s .threads = omega (arith, r .thread) in
+          absurd (omega (arith, last-ends (tableOf s) (l .contents) own e, r .stops, r .within))
+
+  -- enough for the reads and sums
+  room : Sizes s n m × (own + 1 < n) × (stop ≤ 8192)
+  unfolding tableOf
+  room =
+      let z : Sizes s n m = sizes (l .headed) in
+      (z, omega (arith, next, l .headed .threads), omega (arith, z .actions-high, l .headed .actions, body-within (tableOf s) (l .contents) own (r .thread), r .stops))
+
+  holds : (count : ℕ) → count ≡ countOf s (own + 1) → Holding (tableOf s) (own + 1) (stop + count) a
+  unfolding tableOf
+  holds count e =
+      let k : tableOf s .first (own + 1) ≡ stop = rw (add-one own) (first-next (tableOf s) (l .contents) own next ∙ sym (r .stops)) in
+      record {
+        thread = rw (add-one own) next;
+        from = omega arith;
+        upto = omega (arith, r .upto, count-pos (tableOf s) (l .contents) (own + 1) (rw (add-one own) next));
+        stops = omega arith;
+      }
+
+returns : tie.Need-returns
+returns c = search needs
+
+add-next : tie.Need-add-next
+add-next c = omega (arith, room _ _ _ _ _ _ (c .before .before .pre .0) (c .before .before .pre .1) (c .if1 .left))
+
+mul-word : tie.Need-mul-word
+mul-word c = omega (arith, room _ _ _ _ _ _ (c .before .before .pre .0) (c .before .before .pre .1) (c .if1 .left))
+
+add-word : tie.Need-add-word
+add-word c = omega (arith, room _ _ _ _ _ _ (c .before .before .pre .0) (c .before .before .pre .1) (c .if1 .left))
+
+word-requires : tie.Need-word-requires
+word-requires c κs = omega (arith, room _ _ _ _ _ _ (c .before .before .pre .0) (c .before .before .pre .1) (c .if1 .left))
+
+add-t13 : tie.Need-add-t13
+add-t13 c =
+    omega (
+      arith,
+      room _ _ _ _ _ _ (c .before .before .before .pre .0) (c .before .before .before .pre .1) (c .before .if1 .left),
+      c .word .ensures .small,
+    )
+
+returns-2 : tie.Need-returns-2
+returns-2 c =
+    let d = c .before .before .before in
+    holds (now (d .args .table)) _ _ _ _ _ (d .pre .0) (d .pre .1) (c .before .if1 .left) _ (c .word .ensures .value)
+
+pub span-at-spec : {M : Type 1} → statement M
+span-at-spec =
+    tie.close (tie.spec returns add-next mul-word add-word word-requires add-t13 returns-2)

@@ -1,0 +1,319 @@
+-- The cycle {`table::level::end_level`, `table::level::walk`} meets its contracts. Each one's measure is the count of actions left in the thread and its children, and one more
+-- for `end_level`: it falls at a fork. What a turn of the walk finds is in proofs/EndLevels.
+use mathlib.Core.Path.{_≡_, sym, _∙_}
+use Prim.Native.Nat.{ℕ, suc, _+_, _-_, _*_, _≤_, _<_}
+use mathlib.Core.List.{List}
+use mathlib.Core.Bool.{false}
+use native.Mathlib.Omega.{arith}
+use borrow.Author.Tests.{ne-eqb}
+use borrow.Fn.Kinds.{In}
+use borrow.Fn.PlainCycle.{Measures, is as equals, falls, and}
+use denote.Ref.{now}
+use lib.ListN.{length, getD, set, length-drop}
+use Rattle.table.specs.Format.{fork, join, kindOf, is, kind, codeAt, argumentAt, firstOf, countOf, bodyOf, tableOf}
+use Rattle.table.specs.Level.{level}
+use Rattle.table.specs.Steps.{Nested, Starts, EndLevels, Walked, nextLevel}
+use Rattle.table.proofs.Sizes.{Sizes, sizes}
+use Rattle.table.proofs.Bodies.{first-within, body-within, fork-below, join-below}
+use Rattle.table.proofs.Rank.{rest}
+use Rattle.table.proofs.Amounts.{action-within}
+use Rattle.table.proofs.Levels.{level-bound, level-child}
+use Rattle.table.proofs.EndLevels.{by-rules, in-threads, few-threads, few-actions, level-pos, Walking, walking-first, walking-last, walking-level, walking-room, walking-joined, walking-falls, walking-step, walking-fork}
+use Rattle.table.proofs.Parts.{body-kind, body-argument}
+use Rattle.table.proofs.Walks.{is-code}
+use Rattle.table.proofs.level.end_level.Reads as end-level
+use Rattle.table.proofs.level.end_level.Kinds as end-level-kinds
+use Rattle.table.proofs.level.+end_level+walk.Lts-end_level as end-level-lts
+use Rattle.table.proofs.level.walk.Reads as walk
+use Rattle.table.proofs.level.walk.Kinds as walk-kinds
+use Rattle.table.proofs.level.+end_level+walk.Lts-walk as walk-lts
+use Rattle.table.proofs.level.body_of.Reads as body-of-reads
+use Rattle.table.proofs.level.next_level.Reads as next-level-reads
+use Rattle.table.proofs.read.argument.Reads as argument-reads
+use Rattle.table.proofs.read.code.Reads as code-reads
+use Rattle.table.proofs.read.word.Reads as word-reads
+use Rattle.table.proofs.level.+end_level+walk.{statement}
+use Rattle.table.proofs.level.+end_level+walk.Tie.{close}
+
+record Inv (s : List ℕ) (n m t : ℕ) (body : List ℕ) (count : ℕ) (ends₀ ends : List ℕ) (last i : ℕ) : Type 0 where
+  nested : Nested s n m
+  sizes : Sizes s n m
+  thread : t < n
+  body-is : body ≡ bodyOf s t
+  count-is : count ≡ countOf s t
+  within : i ≤ count
+  room : 4 * count ≤ length body
+  walking : Walking (tableOf s) t ends₀ ends last i
+
+-- below a measure
+less : (a b c : ℕ) → b ≡ c → a < b → a < c
+less a b c e h = omega arith
+
+-- ---- a walk's start and end
+
+-- a thread's body lies in the table
+body-room : {s : List ℕ} {n m t : ℕ} → Nested s n m → t < n → 4 + 4 * n + 4 * (firstOf s t + countOf s t) ≤ length s
+unfolding tableOf
+body-room {s} {n} {m} {t} w h = omega (arith, sizes (w .formed .laid .headed), body-within (tableOf s) (w .formed .laid .contents) t (in-threads w h))
+
+start-pos : {s : List ℕ} {n m t start : ℕ} → Starts s n m t start → 1 ≤ start
+start-pos {s} {n} {m} {t} h =
+    let w : Nested s n m = h .nested in
+    omega (arith, h .level, by-rules w level-pos (tableOf s .first t) (first-within (tableOf s) (w .formed .laid .contents) t (in-threads w (h .thread))))
+
+begin : {s : List ℕ} {n m t : ℕ} {body : List ℕ} {count start : ℕ} {ends : List ℕ} → Starts s n m t start → (body ≡ bodyOf s t) × (count ≡ countOf s t)
+    → EndLevels (tableOf s) ends → Inv s n m t body count ends ends (start - 1) 0
+begin {s} {n} {m} h e known =
+    let w : Nested s n m = h .nested in
+    record {
+      nested = w;
+      sizes = sizes (w .formed .laid .headed);
+      thread = h .thread;
+      body-is = e .0;
+      count-is = e .1;
+      within = omega arith;
+      room = rw (e .0) (simp length-drop (omega (arith, body-room w (h .thread), w .formed .laid .headed .threads)));
+      walking = by-rules w walking-first _ (in-threads w (h .thread)) _ _ (h .level) known;
+    }
+
+finish : {s : List ℕ} {n m t : ℕ} {body : List ℕ} {count : ℕ} {ends₀ ends : List ℕ} {last i : ℕ} → Inv s n m t body count ends₀ ends last i → count ≤ i
+    → Walked (tableOf s) t ends₀ last ends
+unfolding tableOf
+finish {s} {t = t} {i = i} v h =
+    let e : i ≡ tableOf s .count t = omega (arith, v .count-is, v .within) in
+    by-rules (v .nested) walking-last _ (in-threads (v .nested) (v .thread)) _ _ _ (rw e at (v .walking))
+
+-- ---- a turn of a walk
+
+module _ {s : List ℕ} {n m t : ℕ} {body : List ℕ} {count : ℕ} {ends₀ ends : List ℕ} {last i : ℕ} (v : Inv s n m t body count ends₀ ends last i) (j : i < count)
+    {k x : ℕ} (ek : k ≡ codeAt body i) (ex : x ≡ argumentAt body i) where
+  thread-in : t < tableOf s .threads
+  thread-in = in-threads (v .nested) (v .thread)
+
+  count-in : i < tableOf s .count t
+  unfolding tableOf
+  count-in = omega (arith, v .count-is)
+
+  action-in : tableOf s .first t + i < tableOf s .actions
+  action-in = action-within (tableOf s) (v .nested .formed .laid .contents) (v .nested .formed .bodies) t i thread-in count-in
+
+  kind-is : kindOf k ≡ kind (tableOf s) (tableOf s .first t + i)
+  kind-is = rw (ek, v .body-is, body-kind s t i)
+
+  argument-is : x ≡ tableOf s .argument (tableOf s .first t + i)
+  argument-is = rw (ex, v .body-is, body-argument s t i)
+
+  join-is : k ≡ 5 → kind (tableOf s) (tableOf s .first t + i) ≡ join
+  unfolding kindOf
+  join-is e = sym kind-is ∙ rw e
+
+  fork-is : k ≡ 4 → kind (tableOf s) (tableOf s .first t + i) ≡ fork
+  unfolding kindOf
+  fork-is e = sym kind-is ∙ rw e
+
+  fork-no : (k ≡ 4 → ⊥) → is fork (kind (tableOf s) (tableOf s .first t + i)) ≡ false
+  unfolding kindOf
+  fork-no d = rw (← kind-is, is-code 4 k (omega arith), ne-eqb k 4 d)
+
+  ready : (last < 8192) × (k ≡ 5 → (x < 1024) × (getD ends x 0 ≤ 8192))
+  ready =
+      let w : Nested s n m = v .nested in
+      let below = join-below (tableOf s) (w .formed .laid .contents) (w .formed .bodies) (tableOf s .first t + i) action-in in (
+        by-rules w walking-room _ thread-in _ _ _ _ (v .walking) count-in (few-actions w),
+        λ e. rw argument-is
+            (omega (arith, few-threads w, below (join-is e)), by-rules w walking-joined _ thread-in _ _ _ _ (v .walking) count-in (few-actions w) (join-is e)),
+      )
+
+  module _ {r : ℕ} (er : r ≡ nextLevel (kindOf k) x last ends) where
+    level-is : r ≡ level (tableOf s) (tableOf s .first t + i)
+    level-is = er ∙ rw (kind-is, argument-is) (by-rules (v .nested) walking-level _ thread-in _ _ _ _ (v .walking) count-in)
+
+    small : r ≤ 8192
+    small = omega (arith, level-is, few-actions (v .nested), by-rules (v .nested) level-bound (tableOf s .first t + i) action-in)
+
+    -- what a call for the child asks
+    child : k ≡ 4 → (suc (rest (tableOf s) (tableOf s .first x)) < rest (tableOf s) (tableOf s .first t)) × Starts s n m x (r + 1)
+    unfolding tableOf
+    child e =
+        let w : Nested s n m = v .nested in
+        let below = fork-below (tableOf s) (w .formed .laid .contents) (w .formed .bodies) (tableOf s .first t + i) action-in (fork-is e) in (
+          rw argument-is (by-rules w walking-falls _ thread-in _ _ _ _ (v .walking) count-in (fork-is e)),
+          record {
+            nested = w;
+            thread = rw argument-is (omega (arith, below, w .formed .laid .headed .threads));
+            level = rw argument-is (omega (arith, level-is, by-rules w level-child (tableOf s .first t + i) action-in (fork-is e)));
+          },
+        )
+
+    next : (ends′ : List ℕ) → Walking (tableOf s) t ends₀ ends′ r (i + 1) → Inv s n m t body count ends₀ ends′ r (i + 1)
+    next ends′ q =
+        record {
+          nested = v .nested;
+          sizes = v .sizes;
+          thread = v .thread;
+          body-is = v .body-is;
+          count-is = v .count-is;
+          within = omega arith;
+          room = v .room;
+          walking = q;
+        }
+
+    forked : k ≡ 4 → {end : ℕ} {ends′ : List ℕ} → Walked (tableOf s) x ends end ends′ → Inv s n m t body count ends₀ (set ends′ x end) r (i + 1)
+    forked e {end} {ends′} q =
+        let w : Nested s n m = v .nested in
+        next (set ends′ x end)
+        (rw argument-is (by-rules w walking-fork _ thread-in _ _ _ _ (v .walking) count-in (few-threads w) (fork-is e) _ level-is _ _ (rw argument-is at q)))
+
+    passed : (k ≡ 4 → ⊥) → Inv s n m t body count ends₀ ends r (i + 1)
+    passed d = next ends (by-rules (v .nested) walking-step _ thread-in _ _ _ _ (v .walking) count-in (fork-no d) _ level-is)
+
+-- ---- the measures, and what the members are given and ask of each other
+
+abbrev μ-end-level : Measures 2 end-level-kinds.ps ℕ
+μ-end-level κs a = suc (rest (tableOf (now (a .0))) (tableOf (now (a .0)) .first (a .1 .1 .1 .0)))
+
+abbrev μ-walk : Measures 3 walk-kinds.ps ℕ
+μ-walk κs a = rest (tableOf (now (a .0))) (tableOf (now (a .0)) .first (a .1 .1 .1 .0))
+
+abbrev end-level-at : ℕ → In 2 end-level-kinds.ps
+end-level-at t = and 2 end-level-kinds.ps (equals 2 end-level-kinds.ps μ-end-level t) end-level.Pre
+
+abbrev end-level-below : ℕ → In 2 end-level-kinds.ps
+end-level-below t =
+    and 2 end-level-kinds.ps (falls 2 end-level-kinds.ps _<_ μ-end-level t) end-level.Pre
+
+abbrev walk-at : ℕ → In 3 walk-kinds.ps
+walk-at t = and 3 walk-kinds.ps (equals 3 walk-kinds.ps μ-walk t) walk.Pre
+
+abbrev walk-below : ℕ → In 3 walk-kinds.ps
+walk-below t = and 3 walk-kinds.ps (falls 3 walk-kinds.ps _<_ μ-walk t) walk.Pre
+
+abbrev end-level-calls : ℕ → end-level-lts.Claims
+end-level-calls t = (body-of-reads.Asked, body-of-reads.Learnt, word-reads.Asked, word-reads.Learnt, walk-below t, walk.Post)
+
+abbrev walk-calls : ℕ → walk-lts.Claims
+walk-calls t =
+    (code-reads.Asked, code-reads.Learnt, argument-reads.Asked, argument-reads.Learnt, next-level-reads.Asked, next-level-reads.Learnt, end-level-below t, end-level.Post)
+
+end-level-body-of-requires : (t : ℕ) → end-level-lts.Need-body-of-requires (end-level-calls t) (end-level-at t) end-level.Post
+end-level-body-of-requires t c κs =
+    let h = c .before .pre .1 .0 in
+    (h .nested .formed .laid .headed .threads, h .thread, omega (arith, body-room (h .nested) (h .thread)))
+
+end-level-mul-word : (t : ℕ) → end-level-lts.Need-mul-word (end-level-calls t) (end-level-at t) end-level.Post
+end-level-mul-word t c = omega (arith, sizes (c .before .before .pre .1 .0 .nested .formed .laid .headed))
+
+end-level-add-word : (t : ℕ) → end-level-lts.Need-add-word (end-level-calls t) (end-level-at t) end-level.Post
+end-level-add-word t c = omega (arith, sizes (c .before .before .pre .1 .0 .nested .formed .laid .headed))
+
+end-level-word-requires : (t : ℕ) → end-level-lts.Need-word-requires (end-level-calls t) (end-level-at t) end-level.Post
+end-level-word-requires t c κs = omega (arith, sizes (c .before .before .pre .1 .0 .nested .formed .laid .headed))
+
+end-level-walk-requires : (t : ℕ) → end-level-lts.Need-walk-requires (end-level-calls t) (end-level-at t) end-level.Post
+end-level-walk-requires t c κs =
+    let d = c .before .before .before .before in
+    (less _ _ _ (d .pre .0) (omega arith), (d .pre .1 .0, ((c .before .before .body-of .ensures, c .before .word .ensures .value), d .pre .1 .1)))
+
+end-level-returns : (t : ℕ) → end-level-lts.Need-returns (end-level-calls t) (end-level-at t) end-level.Post
+end-level-returns t c = c .walk .ensures
+
+abbrev walk-Inv-loop : walk-lts.InvT-loop
+walk-Inv-loop table n m t body count start ends₀ last₀ i₀ ends last i = Inv table n m t body count ends₀ ends last i
+
+abbrev walk-μ-loop : walk-lts.MeasureT-loop
+walk-μ-loop table n m t body count start ends₀ last₀ i₀ ends last i = count - i
+
+walk-sub-last : (t : ℕ) → walk-lts.Need-sub-last (walk-calls t) (walk-at t) walk.Post walk-Inv-loop walk-μ-loop
+walk-sub-last t c = start-pos (c .before .before .pre .1 .0)
+
+walk-loop-holds : (t : ℕ) → walk-lts.Need-loop-holds (walk-calls t) (walk-at t) walk.Post walk-Inv-loop walk-μ-loop
+walk-loop-holds t c =
+    let d = c .before .before in
+    begin (d .pre .1 .0) (d .pre .1 .1 .0) (d .pre .1 .1 .1)
+
+walk-code-requires : (t : ℕ) → walk-lts.Need-code-requires (walk-calls t) (walk-at t) walk.Post walk-Inv-loop walk-μ-loop
+walk-code-requires t c κs = omega arith
+
+walk-argument-requires : (t : ℕ) → walk-lts.Need-argument-requires (walk-calls t) (walk-at t) walk.Post walk-Inv-loop walk-μ-loop
+walk-argument-requires t c κs = omega arith
+
+walk-next-level-requires : (t : ℕ) → walk-lts.Need-next-level-requires (walk-calls t) (walk-at t) walk.Post walk-Inv-loop walk-μ-loop
+walk-next-level-requires t c κs =
+    let d = c .before .before in
+    ready (d .before .before .loop .inv) (d .before .loop-test .taken) (d .code .ensures) (c .before .argument .ensures .value)
+
+walk-add-i : (t : ℕ) → walk-lts.Need-add-i (walk-calls t) (walk-at t) walk.Post walk-Inv-loop walk-μ-loop
+walk-add-i t c = omega arith
+
+walk-add-end-level : (t : ℕ) → walk-lts.Need-add-end-level (walk-calls t) (walk-at t) walk.Post walk-Inv-loop walk-μ-loop
+walk-add-end-level t c =
+    let d = c .before .before .before in
+    omega (arith, small (d .before .before .before .loop .inv) (d .before .before .loop-test .taken) (d .before .code .ensures) (d .argument .ensures .value) (c .before .next-level .ensures))
+
+walk-end-level-requires : (t : ℕ) → walk-lts.Need-end-level-requires (walk-calls t) (walk-at t) walk.Post walk-Inv-loop walk-μ-loop
+walk-end-level-requires t c κs =
+    let d = c .before .before .before .before in
+    let f = d .before .before .before in
+    let q = child (f .loop .inv) (d .before .before .loop-test .taken) (d .before .code .ensures) (d .argument .ensures .value) (c .before .before .next-level .ensures)
+    (c .before .if1 .taken) in
+    (less _ _ _ (f .before .before .before .pre .0) (q .0), (q .1, f .loop .inv .walking .known))
+
+walk-mul-ends : (t : ℕ) → walk-lts.Need-mul-ends (walk-calls t) (walk-at t) walk.Post walk-Inv-loop walk-μ-loop
+walk-mul-ends t c =
+    let d = c .before .before .before .before .before in
+    omega (arith, child (d .before .before .before .loop .inv) (d .before .before .loop-test .taken) (d .before .code .ensures) (d .argument .ensures .value) (c .before .before .before .next-level .ensures) (c .before .before .if1 .taken))
+
+walk-element-write-ends : (t : ℕ) → walk-lts.Need-element-write-ends (walk-calls t) (walk-at t) walk.Post walk-Inv-loop walk-μ-loop
+walk-element-write-ends t c =
+    let d = c .before .before .before .before .before in
+    omega (arith, child (d .before .before .before .loop .inv) (d .before .before .loop-test .taken) (d .before .code .ensures) (d .argument .ensures .value) (c .before .before .before .next-level .ensures) (c .before .before .if1 .taken))
+
+walk-loop-less : (t : ℕ) → walk-lts.Need-loop-less (walk-calls t) (walk-at t) walk.Post walk-Inv-loop walk-μ-loop
+walk-loop-less t c = omega arith
+
+walk-loop-again : (t : ℕ) → walk-lts.Need-loop-again (walk-calls t) (walk-at t) walk.Post walk-Inv-loop walk-μ-loop
+walk-loop-again t c =
+    let d = c .before .before .before .before .before in
+    forked (d .before .before .before .loop .inv) (d .before .before .loop-test .taken) (d .before .code .ensures) (d .argument .ensures .value) (c .before .before .before .next-level .ensures) (c .before .before .if1 .taken) (c .end-level .ensures)
+
+walk-loop-less-2 : (t : ℕ) → walk-lts.Need-loop-less-2 (walk-calls t) (walk-at t) walk.Post walk-Inv-loop walk-μ-loop
+walk-loop-less-2 t c = omega arith
+
+walk-loop-again-2 : (t : ℕ) → walk-lts.Need-loop-again-2 (walk-calls t) (walk-at t) walk.Post walk-Inv-loop walk-μ-loop
+walk-loop-again-2 t c =
+    let d = c .before .before .before in
+    passed (d .before .before .before .loop .inv) (d .before .before .loop-test .taken) (d .before .code .ensures) (d .argument .ensures .value) (c .before .next-level .ensures) (c .if1 .left)
+
+walk-returns : (t : ℕ) → walk-lts.Need-returns (walk-calls t) (walk-at t) walk.Post walk-Inv-loop walk-μ-loop
+walk-returns t c = finish (c .before .loop .inv) (c .loop-test .left)
+
+pub +end-level+walk-spec : {M : Type 1} → statement M
++end-level+walk-spec = close μ-end-level μ-walk (λ t. end-level-lts.spec (end-level-calls t)
+    (end-level-at t)
+    end-level.Post
+    (end-level-body-of-requires t)
+    (end-level-mul-word t)
+    (end-level-add-word t)
+    (end-level-word-requires t)
+    (end-level-walk-requires t)
+    (end-level-returns t))
+    λ t. walk-lts.spec (walk-calls t)
+    (walk-at t)
+    walk.Post
+    walk-Inv-loop
+    walk-μ-loop
+    (walk-sub-last t)
+    (walk-loop-holds t)
+    (walk-code-requires t)
+    (walk-argument-requires t)
+    (walk-next-level-requires t)
+    (walk-add-i t)
+    (walk-add-end-level t)
+    (walk-end-level-requires t)
+    (walk-mul-ends t)
+    (walk-element-write-ends t)
+    (walk-loop-less t)
+    (walk-loop-again t)
+    (walk-loop-less-2 t)
+    (walk-loop-again-2 t)
+    (walk-returns t)

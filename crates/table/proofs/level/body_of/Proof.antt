@@ -1,0 +1,70 @@
+-- `table::level::body_of` meets its contract: a part from a place on, of a part from a place on, is all that is left.
+use mathlib.Core.Path.{_≡_, sym, _∙_}
+use Prim.Native.Nat.{ℕ, _+_, _-_, _*_, _≤_}
+use mathlib.Core.List.{List}
+use native.Mathlib.Omega.{arith}
+use borrow.Author.Needs.{needs}
+use denote.Ref.{now}
+use lib.ListN.{length, take, drop, length-drop}
+use lib.Seq.{take-all, drop-drop}
+use Rattle.table.specs.Format.{threadsOf, firstOf, bodyOf}
+use Rattle.table.proofs.level.body_of.Statement.{statement}
+use Rattle.table.proofs.level.body_of.Tie as tie
+
+all-left : (s : List ℕ) (n t first : ℕ) → n ≡ threadsOf s → first ≡ firstOf s t
+    → take (length s - (4 + 4 * n + 4 * first)) (drop (4 + 4 * n + 4 * first) s) ≡ bodyOf s t
+all-left s n t first e d =
+    let k : ℕ = 4 + 4 * n + 4 * first in
+    let h : length (drop k s) ≤ length s - k = simp length-drop (omega arith) in
+    take-all (length s - k) (drop k s) h ∙ rw (e, d) (sym (drop-drop (4 * firstOf s t) (4 + 4 * threadsOf s) s))
+
+mul-start : tie.Need-mul-start
+mul-start c = search needs
+
+add-start : tie.Need-add-start
+add-start c = search needs
+
+mul-word : tie.Need-mul-word
+mul-word c = search needs
+
+add-word : tie.Need-add-word
+add-word c = search needs
+
+word-requires : tie.Need-word-requires
+word-requires c κs = search needs
+
+mul-start-2 : tie.Need-mul-start-2
+mul-start-2 c = search needs
+
+add-start-2 : tie.Need-add-start-2
+add-start-2 c = search needs
+
+sub-result : tie.Need-sub-result
+sub-result c = search needs
+
+part-result-start : tie.Need-part-result-start
+part-result-start c = search needs
+
+part-result-end : tie.Need-part-result-end
+part-result-end c = search needs
+
+returns : tie.Need-returns
+returns c =
+    let d = c .before .before .before in
+    all-left (now (d .args .table)) _ _ _ (d .pre .0) (c .before .word .ensures .value)
+
+pub body-of-spec : {M : Type 1} → statement M
+body-of-spec =
+    tie.close
+    (tie.spec
+    mul-start
+    add-start
+    mul-word
+    add-word
+    word-requires
+    mul-start-2
+    add-start-2
+    sub-result
+    part-result-start
+    part-result-end
+    returns)

@@ -1,0 +1,190 @@
+-- `table::nest::nest_at` meets its contract: each way out is the clause of `nestAt` for its kind, with the open children as the part of `stack` from `top` on.
+use mathlib.Core.Path.{_≡_, refl, sym}
+use Prim.Native.Nat.{ℕ, zero, suc, _+_, _-_, _≤_, _<_}
+use mathlib.Core.List.{List, [], _∷_}
+use mathlib.Core.Bool.{Bool, true, false}
+use native.Mathlib.Numerals.{add-one}
+use native.Mathlib.Omega.{arith}
+use borrow.Author.Needs.{needs}
+use borrow.Author.Tests.{eq-eqb, ne-eqb}
+use denote.Ref.{now}
+use lib.ListN.{length, getD, set, drop, length-set, drop-of-length-le}
+use lib.Seq.{drop-cons, drop-set-lt, getD-set-same}
+use Rattle.table.specs.Format.{kindOf}
+use Rattle.table.specs.Steps.{nest, nestAt, NestReady, NestDone}
+use Rattle.table.proofs.nest.nest_at.Statement.{statement}
+use Rattle.table.proofs.nest.nest_at.Tie as tie
+
+-- ---- the parts of the stack
+
+none-open : (stack : List ℕ) (top : ℕ) → length stack ≡ 1024 → 1024 ≤ top → drop top stack ≡ []
+none-open stack top s h = drop-of-length-le stack {i = top} (omega arith)
+
+some-open : (stack : List ℕ) (top : ℕ) → length stack ≡ 1024 → top < 1024 → drop top stack ≡ getD stack top 0 ∷ drop (top + 1) stack
+some-open stack top s h = rw add-one (drop-cons stack top 0 (omega arith))
+
+push : (stack : List ℕ) (top x : ℕ) → length stack ≡ 1024 → 0 < top → top ≤ 1024 → drop (top - 1) (set stack (top - 1) x) ≡ x ∷ drop top stack
+push stack top x s h w =
+    let e : top - 1 + 1 ≡ top = omega arith in
+    let l : length (set stack (top - 1) x) ≡ 1024 = simp length-set s in
+    rw (
+      some-open (set stack (top - 1) x) (top - 1) l (omega arith),
+      e,
+      drop-set-lt top stack (top - 1) x (omega arith),
+      getD-set-same stack (top - 1) x 0 (omega arith),
+    )
+
+-- ---- one action, by its code
+
+module _ (k x top : ℕ) (stack : List ℕ) (forked : List Bool) (r : NestReady (kindOf k) x top stack forked) where
+  stays : (number : ℕ) → nest number (drop top stack) forked ≡ nestAt (kindOf k) x (drop top stack) forked
+      → NestDone (kindOf k) x top stack forked number top stack forked
+  stays number e = record { stacked = r .stacked; within = r .within; done = e }
+
+  end-open : k ≡ 0 → top < 1024 → NestDone (kindOf k) x top stack forked 9 top stack forked
+  unfolding kindOf nestAt
+  end-open e h = stays 9 (rw (e, some-open stack top (r .stacked) h))
+
+  end-none : k ≡ 0 → 1024 ≤ top → NestDone (kindOf k) x top stack forked 0 top stack forked
+  unfolding kindOf nestAt
+  end-none e h = stays 0 (rw (e, none-open stack top (r .stacked) h))
+
+  fork-below : k ≡ 4 → x < 1024
+  unfolding kindOf
+  fork-below e = r .forks (rw e)
+
+  fork-room : k ≡ 4 → getD forked x false ≡ false → 0 < top
+  unfolding kindOf
+  fork-room e h = r .room (rw e) h
+
+  fork-again : k ≡ 4 → getD forked x false ≡ true → NestDone (kindOf k) x top stack forked 8 top stack forked
+  unfolding kindOf nestAt
+  fork-again e h = stays 8 (rw (e, h))
+
+  fork-first : k ≡ 4 → getD forked x false ≡ false → NestDone (kindOf k) x top stack forked 0 (top - 1) (set stack (top - 1) x) (set forked x true)
+  unfolding kindOf nestAt
+  fork-first e h =
+      let room : 0 < top = fork-room e h in
+      record {
+        stacked = simp length-set (r .stacked);
+        within = omega arith;
+        done = rw (e, h, push stack top x (r .stacked) room (r .within));
+      }
+
+  join-none : k ≡ 5 → top ≡ 1024 → NestDone (kindOf k) x top stack forked 9 top stack forked
+  unfolding kindOf nestAt
+  join-none e h = stays 9 (rw (e, none-open stack top (r .stacked) (omega arith)))
+
+  join-other : k ≡ 5 → (top ≡ 1024 → ⊥) → (getD stack top 0 ≡ x → ⊥) → NestDone (kindOf k) x top stack forked 9 top stack forked
+  unfolding kindOf nestAt
+  join-other e h d =
+      stays 9 (rw (e, some-open stack top (r .stacked) (omega arith), ne-eqb x (getD stack top 0) (λ q. d (sym q))))
+
+  join-latest : k ≡ 5 → (top ≡ 1024 → ⊥) → getD stack top 0 ≡ x → NestDone (kindOf k) x top stack forked 0 (top + 1) stack forked
+  unfolding kindOf nestAt
+  join-latest e h d =
+      record {
+        stacked = r .stacked;
+        within = omega arith;
+        done = rw (e, some-open stack top (r .stacked) (omega arith), eq-eqb x (getD stack top 0) (sym d));
+      }
+
+-- any other code
+others : (k x : ℕ) (stack : List ℕ) (forked : List Bool) → (k ≡ 0 → ⊥) → (k ≡ 4 → ⊥) → (k ≡ 5 → ⊥) → nest 0 stack forked ≡ nestAt (kindOf k) x stack forked
+unfolding kindOf nestAt
+others zero x stack forked e f j = absurd (e refl)
+others (suc zero) x stack forked e f j = refl
+others (suc (suc zero)) x stack forked e f j = refl
+others (suc (suc (suc zero))) x stack forked e f j = refl
+others (suc (suc (suc (suc zero)))) x stack forked e f j = absurd (f refl)
+others (suc (suc (suc (suc (suc zero))))) x stack forked e f j = absurd (j refl)
+others (suc (suc (suc (suc (suc (suc k)))))) x stack forked e f j = refl
+
+returns : tie.Need-returns
+returns c =
+    let d = c .before .before in
+    end-open _ _ _ (now (d .args .stack)) (now (d .args .forked)) (d .pre) (c .before .match .keys1) (c .if1 .taken)
+
+element-copy-out-if2 : tie.Need-element-copy-out-if2
+element-copy-out-if2 c = fork-below _ _ _ _ _ (c .before .pre) (c .match .keys2)
+
+returns-2 : tie.Need-returns-2
+returns-2 c =
+    let d = c .before .before .before in
+    fork-again _ _ _ (now (d .args .stack)) (now (d .args .forked)) (d .pre) (c .before .before .match .keys2) (c .if2 .taken)
+
+element-write-forked : tie.Need-element-write-forked
+element-write-forked c = fork-below _ _ _ _ _ (c .before .before .before .pre) (c .before .before .match .keys2)
+
+sub-stack : tie.Need-sub-stack
+sub-stack c = fork-room _ _ _ _ _ (c .before .before .before .pre) (c .before .before .match .keys2) (c .if2 .left)
+
+mul-stack : tie.Need-mul-stack
+mul-stack c = search needs
+
+element-write-stack : tie.Need-element-write-stack
+element-write-stack c = search needs
+
+sub-t14 : tie.Need-sub-t14
+sub-t14 c = sub-stack c
+
+returns-3 : tie.Need-returns-3
+returns-3 c =
+    let d = c .before .before in
+    join-none _ _ _ (now (d .args .stack)) (now (d .args .forked)) (d .pre) (c .before .match .keys3) (c .if3 .taken)
+
+mul-if4 : tie.Need-mul-if4
+mul-if4 c = search needs
+
+element-copy-out-if4 : tie.Need-element-copy-out-if4
+element-copy-out-if4 c = search needs
+
+returns-4 : tie.Need-returns-4
+returns-4 c =
+    let d = c .before .before .before in
+    join-other _ _ _ (now (d .before .args .stack)) (now (d .before .args .forked)) (d .before .pre) (d .match .keys3) (c .before .before .if3 .left) (c .if4 .taken)
+
+add-t19 : tie.Need-add-t19
+add-t19 c = search needs
+
+returns-5 : tie.Need-returns-5
+returns-5 c =
+    let d = c .before .before in
+    end-none _ _ _ (now (d .args .stack)) (now (d .args .forked)) (d .pre) (c .before .match .keys1) (c .if1 .left)
+
+returns-6 : tie.Need-returns-6
+returns-6 c =
+    let d = c .before .before .before in
+    fork-first _ _ _ (now (d .args .stack)) (now (d .args .forked)) (d .pre) (c .before .before .match .keys2) (c .if2 .left)
+
+returns-7 : tie.Need-returns-7
+returns-7 c =
+    let d = c .before .before .before in
+    join-latest _ _ _ (now (d .before .args .stack)) (now (d .before .args .forked)) (d .before .pre) (d .match .keys3) (c .before .before .if3 .left) (c .if4 .left)
+
+returns-8 : tie.Need-returns-8
+returns-8 c =
+    let d = c .before in
+    stays _ _ _ (now (d .args .stack)) (now (d .args .forked)) (d .pre) 0 (others _ _ _ _ (c .match .rest .0 .0 .1) (c .match .rest .0 .1) (c .match .rest .1))
+
+pub nest-at-spec : {M : Type 1} → statement M
+nest-at-spec =
+    tie.close
+    (tie.spec
+    returns
+    element-copy-out-if2
+    returns-2
+    element-write-forked
+    sub-stack
+    mul-stack
+    element-write-stack
+    sub-t14
+    returns-3
+    mul-if4
+    element-copy-out-if4
+    returns-4
+    add-t19
+    returns-5
+    returns-6
+    returns-7
+    returns-8)

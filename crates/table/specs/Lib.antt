@@ -1,0 +1,12 @@
+pub mod Sum
+pub mod Format
+pub mod Pass
+pub mod First
+pub mod Rules
+pub mod Accepted
+pub mod Serial
+pub mod Level
+pub mod Steps
+pub mod Load
+pub mod Cases
+pub mod Wrong

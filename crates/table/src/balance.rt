@@ -1,0 +1,102 @@
+// Check 10: no thread's balance falls below 0. A thread's rise and fall, its own and those of the children it joins, are kept for its parent.
+use crate::Found;
+use crate::read::argument;
+use crate::read::code;
+use crate::read::refuse;
+use crate::read::word;
+ghost use mathlib.Core.Path.{_≡_};
+ghost use Prim.Native.Nat.{_<_};
+ghost use lib.ListN.{length};
+ghost use Rattle.table.specs.Format.{kindOf, tableOf, join};
+ghost use Rattle.table.specs.Pass.{tryPass};
+ghost use Rattle.table.specs.Rules.{balancePass, whole, allocOf, freeOf};
+ghost use Rattle.table.specs.Steps.{Nested, Filled, WalkReady, ownAmount, childAmount, leastNext, balanceOf};
+
+// What a body draws and gives back, and its first action after which it has given back more (its count of actions, if there is none).
+pub(crate) struct Balance {
+    pub(crate) rise: u64,
+    pub(crate) fall: u64,
+    pub(crate) below: usize,
+}
+
+// The argument x where k is the kind counted, else 0.
+pub(crate) fn own_amount(own: u8, k: u8, x: usize) -> u64
+    requires { ⌜ own < 6 ⌝ }
+    ensures { λ r. ⌜ r ≡ ownAmount (kindOf own) (kindOf k) x ⌝ }
+{
+    if k == own { x as u64 } else { 0 }
+}
+
+// The amount of child x where k is the kind at which children count, else 0.
+pub(crate) fn child_amount(at: u8, k: u8, x: usize, amounts: &[u64; 1024]) -> u64
+    requires { ⌜ (at < 6) × (k ≡ at → x < 1024) ⌝ }
+    ensures { λ r. ⌜ r ≡ childAmount (kindOf at) (kindOf k) x (now (amounts .entry)) ⌝ }
+{
+    if k == at { amounts[x] } else { 0 }
+}
+
+// Of a walk that found nothing up to action i: one action further, if nothing is found there either.
+fn least_next(passes: bool, i: usize, least: usize) -> usize
+    requires { ⌜ i < 8192 ⌝ }
+    ensures { λ r. ⌜ r ≡ leastNext passes i least ⌝ }
+{
+    if passes {
+        return least;
+    }
+    if least == i { i + 1 } else { least }
+}
+
+fn balance_walk(body: &[u8], count: usize, rises: &[u64; 1024], falls: &[u64; 1024]) -> Balance
+    requires { ⌜ WalkReady join (now body) count (now rises) (now falls) ⌝ }
+    ensures { λ r. ⌜ r ≡ balanceOf (now (body .entry)) (now (rises .entry)) (now (falls .entry)) count ⌝ }
+{
+    let mut rise: u64 = 0;
+    let mut fall: u64 = 0;
+    let mut below = 0;
+    let mut i = 0;
+    while i < count {
+        let k = code(body, i);
+        let x = argument(body, i);
+        rise += own_amount(2, k, x) + child_amount(5, k, x, rises);
+        fall += own_amount(3, k, x) + child_amount(5, k, x, falls);
+        below = least_next(rise < fall, i, below);
+        i += 1;
+    }
+    Balance { rise, fall, below }
+}
+
+// Fills in every thread's rise and fall, the children before their parents: a child has the higher number.
+pub(crate) fn balances(
+    table: &[u8],
+    n: usize,
+    m: usize,
+    rises: &mut [u64; 1024],
+    falls: &mut [u64; 1024],
+) -> Found
+    requires { ⌜ Nested (now table) n m ⌝ }
+    requires { ⌜ (length (now rises) ≡ 1024) × (length (now falls) ≡ 1024) ⌝ }
+    ensures { λ r. ⌜ r ≡ tryPass (balancePass (tableOf (now (table .entry)))) ⌝ }
+    ensures { λ r. ⌜ Filled (tableOf (now (table .entry))) (whole (tableOf (now (table .entry))) (allocOf (tableOf (now (table .entry))))) (now (rises .exit)) 0 ⌝ }
+    ensures { λ r. ⌜ Filled (tableOf (now (table .entry))) (whole (tableOf (now (table .entry))) (freeOf (tableOf (now (table .entry))))) (now (falls .exit)) 0 ⌝ }
+{
+    let start = 4 + 4 * n;
+    let actions = &table[start..];
+    let mut lowest = m;
+    let mut t = n;
+    while 0 < t {
+        t -= 1;
+        let first = word(table, 4 + 4 * t);
+        let count = word(table, 6 + 4 * t);
+        let from = 4 * first;
+        let w = balance_walk(&actions[from..], count, rises, falls);
+        rises[t] = w.rise;
+        falls[t] = w.fall;
+        if w.below < count {
+            lowest = first + w.below;
+        }
+    }
+    if lowest < m {
+        return refuse(10, lowest);
+    }
+    Found::Nothing
+}

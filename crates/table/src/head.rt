@@ -1,0 +1,37 @@
+// Checks 1 to 3: the head, and the length that it asks for.
+use crate::Found;
+use crate::read::refuse;
+use crate::read::word;
+ghost use mathlib.Core.Path.{_≡_};
+ghost use mathlib.Core.Bool.{_||_};
+ghost use Rattle.table.specs.Pass.{tryPass};
+ghost use Rattle.table.specs.Rules.{headPass, outside as isOutside};
+
+fn outside(low: usize, high: usize, x: usize) -> bool
+    ensures { λ r. ⌜ r ≡ isOutside low high x ⌝ }
+{
+    x < low || high < x
+}
+
+fn out_of_range(n: usize, m: usize) -> bool
+    ensures { λ r. ⌜ r ≡ (isOutside 1 1024 n || isOutside 1 8192 m) ⌝ }
+{
+    outside(1, 1024, n) || outside(1, 8192, m)
+}
+
+pub(crate) fn head(table: &[u8]) -> Found
+    ensures { λ r. ⌜ r ≡ tryPass (headPass (now (table .entry))) ⌝ }
+{
+    if table.len() < 4 {
+        return refuse(1, 0);
+    }
+    let n = word(table, 0);
+    let m = word(table, 2);
+    if out_of_range(n, m) {
+        return refuse(2, 0);
+    }
+    if table.len() != 4 + 4 * n + 4 * m {
+        return refuse(3, 0);
+    }
+    Found::Nothing
+}
