@@ -1,0 +1,110 @@
+"""Writes the stored input and output of crates/table_cases: tables with a label, and the answer expected of each.
+
+A record of the input is the label's length (1 byte), the label, the table's length (3 bytes), the table.
+Every expected answer is written down here by hand, and held against reference.py as well.
+"""
+import pathlib
+
+from reference import END, WORK, ALLOC, FREE, FORK, JOIN, check, line
+from tables import table, word
+
+end, work = (END, 0), (WORK, 0)
+LARGEST = 16777215
+leaf = [end]
+least = table(leaf)
+head = lambda n, m: word(n) + word(m)
+contents = lambda n, m, *entries: head(n, m) + b''.join(word(x) for e in entries for x in e)
+fork, join, alloc, free = (lambda k: lambda x: (k, x))(FORK), lambda x: (JOIN, x), lambda x: (ALLOC, x), lambda x: (FREE, x)
+parent = lambda *children: [fork(c) for c in children] + [join(c) for c in reversed(children)] + [end]
+chain = [[fork(t + 1), join(t + 1), end] for t in range(1023)] + [leaf]
+fan = [parent(*range(1, 1024))] + [leaf] * 1023
+
+CASES = [
+    ('no bytes', b'', 'refused 1 0'),
+    ('three bytes', b'\1\0\1', 'refused 1 0'),
+    ('n 0', head(0, 1), 'refused 2 0'),
+    ('n 1,025', head(1025, 1), 'refused 2 0'),
+    ('n 1,024 passes 2', head(1024, 1), 'refused 3 0'),
+    ('m 0', head(1, 0), 'refused 2 0'),
+    ('m 8,193', head(1, 8193), 'refused 2 0'),
+    ('m 8,192 passes 2', head(1, 8192), 'refused 3 0'),
+    ('a byte more', least + b'\0', 'refused 3 0'),
+    ('a byte less', least[:-1], 'refused 3 0'),
+    ('40,000 bytes more', least + bytes(40000), 'refused 3 0'),
+    ('2 before 3', head(0, 1) + bytes(9), 'refused 2 0'),
+    ('first entry begins at 1', contents(1, 1, (1, 1)) + bytes(4), 'refused 4 0'),
+    ('first entry has no action', contents(2, 1, (0, 0), (0, 1)) + bytes(4), 'refused 4 0'),
+    ('third entry begins late', contents(3, 3, (0, 1), (1, 1), (3, 1)) + bytes(12), 'refused 4 2'),
+    ('second entry has no action', contents(2, 1, (0, 1), (1, 0)) + bytes(4), 'refused 4 1'),
+    ('counts add up to less', contents(1, 2, (0, 1)) + bytes(8), 'refused 4 1'),
+    ('counts add up to more', contents(3, 2, (0, 1), (1, 1), (2, 1)) + bytes(8), 'refused 4 3'),
+    ('counts add up to m and 65,536', contents(2, 1, (0, 65535), (65535, 2)) + bytes(4), 'refused 4 2'),
+    ('4 before 5', contents(1, 2, (0, 1)) + bytes([9] * 8), 'refused 4 1'),
+    ('kind 6', table([(6, 0)]), 'refused 5 0'),
+    ('kind 255 later', table([work, work, (255, 1), end]), 'refused 5 2'),
+    ('end with an argument', table([(END, 1)]), 'refused 6 0'),
+    ('work with an argument', table([work, (WORK, LARGEST), end]), 'refused 6 1'),
+    ('alloc 0', table([alloc(0), end]), 'refused 6 0'),
+    ('free 0', table([alloc(1), free(0), end]), 'refused 6 1'),
+    ('fork of itself', table([fork(0), end]), 'refused 6 0'),
+    ('fork of thread n', table([work, fork(2), join(2), end], leaf), 'refused 6 1'),
+    ('fork of a lower thread', table(parent(1), [fork(1), end]), 'refused 6 3'),
+    ('join of thread n', table([fork(1), join(2), end], leaf), 'refused 6 1'),
+    ('join of itself', table([join(0), end]), 'refused 6 0'),
+    ('end before the last', table([end, end]), 'refused 7 0'),
+    ('last not an end', table(parent(1), [work]), 'refused 7 3'),
+    ('last of a first body not an end', table([work], leaf), 'refused 7 0'),
+    ('5 before 6', table([(7, LARGEST), end]), 'refused 5 0'),
+    ('6 before 7', table([(WORK, 1)]), 'refused 6 0'),
+    ('7 at a lower action than 5', table([end, (9, 0), end]), 'refused 7 0'),
+    ('6 at a lower action than 5', table([alloc(0), (9, 0), end]), 'refused 6 0'),
+    ('a thread forked twice', table([fork(1), fork(1), join(1), join(1), end], leaf), 'refused 8 1'),
+    ('a thread forked by two', table(parent(1, 2), parent(2), leaf), 'refused 8 5'),
+    ('join with none open', table([join(1), end], leaf), 'refused 9 0'),
+    ('joins in the order of the forks', table([fork(1), fork(2), join(1), join(2), end], leaf, leaf), 'refused 9 2'),
+    ('a child joined twice', table([fork(1), join(1), join(1), end], leaf), 'refused 9 2'),
+    ('a child of another thread joined', table(parent(1), [join(2), end], leaf), 'refused 9 3'),
+    ('end with a child unjoined', table([fork(1), end], leaf), 'refused 9 1'),
+    ('9 at a lower action than 8', table([fork(1), end], [fork(2), fork(2), end], leaf), 'refused 9 1'),
+    ('8 at a lower action than 9', table([fork(1), fork(1), end], leaf), 'refused 8 1'),
+    ('thread 1 never forked', table(leaf, leaf), 'refused 11 1'),
+    ('threads 2 and 4 never forked', table(parent(1), leaf, parent(3), leaf, leaf), 'refused 11 2'),
+    ('thread 4 never forked', table(parent(1, 2, 3), leaf, leaf, leaf, leaf), 'refused 11 4'),
+    ('11 before 10', table([free(1), end], leaf), 'refused 11 1'),
+    ('free with nothing held', table([free(1), end]), 'refused 10 0'),
+    ('free of too much', table([alloc(6), free(7), end]), 'refused 10 1'),
+    ('a child below 0, its parent at the join', table(parent(1), [free(5), end]), 'refused 10 1'),
+    ('a child below 0, its parent above', table([alloc(9)] + parent(1), [free(5), end]), 'refused 10 4'),
+    ('a child below 0 and back', table(parent(1), [free(5), alloc(5), end]), 'refused 10 3'),
+    ('a parent frees what its child left', table([fork(1), join(1), free(5), end], [alloc(5), end]), 'table 2 6 serial 5 depth 6'),
+    ('a parent frees it before the join', table([fork(1), free(5), join(1), end], [alloc(5), end]), 'refused 10 1'),
+    ('a grandchild left it', table(parent(1), parent(2), [alloc(7), end]), 'table 3 8 serial 7 depth 8'),
+    ('one end', least, 'table 1 1 serial 0 depth 1'),
+    ('E', table(parent(1, 2), [alloc(6), work, free(6), end], [alloc(6), free(6), end]), 'table 3 12 serial 6 depth 8'),
+    ('one child runs at a time', table([fork(1), join(1), fork(2), join(2), end], [alloc(4), free(4), end], [alloc(9), free(9), end]), 'table 3 11 serial 9 depth 11'),
+    ('a longer child decides the depth', table([fork(1), work, work, work, join(1), end], [work, work, end]), 'table 2 9 serial 0 depth 6'),
+    ('the highest is inside a child', table([alloc(1), fork(1), join(1), end], [alloc(5), free(5), end]), 'table 2 7 serial 6 depth 7'),
+    ('largest argument', table([alloc(LARGEST), free(LARGEST), end]), 'table 1 3 serial 16777215 depth 3'),
+    ('most memory', table([alloc(LARGEST)] * 8191 + [end]), 'table 1 8192 serial 137422168065 depth 8192'),
+    ('deepest nesting', table(*chain), 'table 1024 3070 serial 0 depth 3070'),
+    ('widest fan', table(*fan), 'table 1024 3070 serial 0 depth 2048'),
+    ('most threads and actions', table(parent(*range(1, 1024))[:-1] + [work] * 1030 + [end], *([[alloc(2), alloc(1), free(3), work, end]] * 1023)), 'table 1024 8192 serial 3 depth 3082'),
+]
+
+
+def main():
+    data, text = b'', ''
+    for label, case, expected in CASES:
+        found = line(check(case))
+        if found != expected:
+            raise SystemExit('%s: expected %s, the reference says %s' % (label, expected, found))
+        data += bytes([len(label)]) + label.encode() + len(case).to_bytes(3, 'little') + case
+        text += '%s: %s\n' % (label, expected)
+    folder = pathlib.Path(__file__).parent.parent / 'crates' / 'table_cases'
+    (folder / 'stdin').write_bytes(data)
+    (folder / 'stdout').write_text(text)
+    print('%d cases, %d bytes' % (len(CASES), len(data)))
+
+
+if __name__ == '__main__':
+    main()
