@@ -1,11 +1,29 @@
--- A body is a part of the action list: what its action i is in the whole.
+-- A body is a part of the action list: that it is there, and what its action i is in the whole.
 use mathlib.Core.Path.{_≡_}
-use Prim.Native.Nat.{ℕ, _+_, _*_}
+use Prim.Native.Nat.{ℕ, _+_, _-_, _*_, _≤_, _<_}
 use mathlib.Core.List.{List}
 use native.Mathlib.Nat.{mul-add, add-assoc}
-use lib.ListN.{drop}
-use lib.Seq.{getD-drop}
-use Rattle.table.specs.Format.{kindOf, kind, codeAt, argumentAt, firstOf, bodiesOf, bodyOf, tableOf}
+use native.Mathlib.Omega.{arith}
+use lib.ListN.{length, take, drop, length-drop}
+use lib.Seq.{getD-drop, take-all}
+use Rattle.table.specs.Format.{kindOf, kind, codeAt, argumentAt, threadsOf, firstOf, countOf, bodiesOf, bodyOf, tableOf}
+use Rattle.table.specs.Steps.{Laid}
+use Rattle.table.proofs.Sizes.{sizes}
+use Rattle.table.proofs.Bodies.{body-within}
+
+-- the part from a place on is all that is left from there
+pub rest-part : (l : List ℕ) (k : ℕ) → take (length l - k) (drop k l) ≡ drop k l
+rest-part l k = take-all (length l - k) (drop k l) (omega (arith, length-drop k l))
+
+-- a thread's body lies in the table
+pub body-room : {s : List ℕ} {n m t : ℕ} → Laid s n m → t < n → 4 + 4 * n + 4 * (firstOf s t + countOf s t) ≤ length s
+unfolding tableOf
+body-room {s} {t = t} l h =
+    omega (arith, l .headed .threads, l .headed .actions, sizes (l .headed), body-within (tableOf s) (l .contents) t (omega (arith, l .headed .threads)))
+
+-- what taking it asks
+pub body-there : {s : List ℕ} {n m t : ℕ} → Laid s n m → t < n → (n ≡ threadsOf s) × (t < n) × (4 + 4 * n + 4 * firstOf s t ≤ length s)
+body-there l h = (l .headed .threads, h, omega (arith, body-room l h))
 
 pub code-part : (l : List ℕ) (f i : ℕ) → codeAt (drop (4 * f) l) i ≡ codeAt l (f + i)
 code-part l f i = simp (getD-drop, mul-add)

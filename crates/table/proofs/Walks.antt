@@ -80,19 +80,6 @@ child-small at l count rises falls i k x r h e f g = rw f (r .children i h (rw e
 
 -- ---- a body's sums against those of its thread
 
--- the part of a slice from k on
-pub rest-part : (l : List ℕ) (k : ℕ) → take (length l - k) (drop k l) ≡ drop k l
-rest-part l k = take-all (length l - k) (drop k l) (omega (arith, length-drop k l))
-
--- a thread's body as the code takes it: the part from its first action on, of the part from the first body on
-abbrev pub bodyFrom : List ℕ → ℕ → ℕ → List ℕ
-bodyFrom s n first =
-    let actions : List ℕ = take (length s - (4 + 4 * n)) (drop (4 + 4 * n) s) in
-    take (length actions - 4 * first) (drop (4 * first) actions)
-
-pub body-part : (s : List ℕ) (n first t : ℕ) → n ≡ threadsOf s → first ≡ firstOf s t → bodyFrom s n first ≡ bodyOf s t
-body-part s n first t e d = rw (rest-part s (4 + 4 * n), rest-part (drop (4 + 4 * n) s) (4 * first), e, d)
-
 -- the children that a thread's actions of one kind name have higher numbers
 abbrev pub ChildrenAbove : Table → Kind → ℕ → Type 0
 ChildrenAbove T at t =

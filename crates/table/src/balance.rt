@@ -1,6 +1,7 @@
 // Check 10: no thread's balance falls below 0. A thread's rise and fall, its own and those of the children it joins, are kept for its parent.
 use crate::Found;
 use crate::read::argument;
+use crate::read::body_of;
 use crate::read::code;
 use crate::read::refuse;
 use crate::read::word;
@@ -79,16 +80,14 @@ pub(crate) fn balances(
     ensures { λ r. ⌜ Filled (tableOf (now (table .entry))) (whole (tableOf (now (table .entry))) (allocOf (tableOf (now (table .entry))))) (now (rises .exit)) 0 ⌝ }
     ensures { λ r. ⌜ Filled (tableOf (now (table .entry))) (whole (tableOf (now (table .entry))) (freeOf (tableOf (now (table .entry))))) (now (falls .exit)) 0 ⌝ }
 {
-    let start = 4 + 4 * n;
-    let actions = &table[start..];
     let mut lowest = m;
     let mut t = n;
     while 0 < t {
         t -= 1;
         let first = word(table, 4 + 4 * t);
         let count = word(table, 6 + 4 * t);
-        let from = 4 * first;
-        let w = balance_walk(&actions[from..], count, rises, falls);
+        let body = body_of(table, n, t);
+        let w = balance_walk(body, count, rises, falls);
         rises[t] = w.rise;
         falls[t] = w.fall;
         if w.below < count {

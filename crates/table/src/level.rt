@@ -1,5 +1,6 @@
 // The depth D: a thread's end level, given its start level, and the walk over its actions call each other.
 use crate::read::argument;
+use crate::read::body_of;
 use crate::read::code;
 use crate::read::word;
 ghost use mathlib.Core.Path.{_≡_};
@@ -68,15 +69,6 @@ fn next_level(k: u8, x: usize, last: usize, ends: &[usize; 1024]) -> usize
     }
     let end = ends[x];
     if last < end { end + 1 } else { last + 1 }
-}
-
-// Thread t's body, with all that follows it.
-fn body_of(table: &[u8], n: usize, t: usize) -> &[u8]
-    requires { ⌜ (n ≡ threadsOf (now table)) × (t < n) × (4 + 4 * n + 4 * firstOf (now table) t ≤ length (now table)) ⌝ }
-    ensures { λ r. ⌜ now r ≡ bodyOf (now (table .entry)) t ⌝ }
-{
-    let start = 4 + 4 * n + 4 * word(table, 4 + 4 * t);
-    &table[start..]
 }
 
 pub(crate) fn depth(table: &[u8], n: usize, m: usize) -> usize

@@ -1,6 +1,7 @@
 // Checks 8, 9 and 11: every thread but the root is forked once, and joins close forks, the latest first.
 use crate::Found;
 use crate::read::argument;
+use crate::read::bodies;
 use crate::read::code;
 use crate::read::refuse;
 ghost use mathlib.Core.Path.{_≡_};
@@ -70,8 +71,7 @@ fn second_pass(table: &[u8], n: usize, m: usize, forked: &mut [bool; 1024]) -> F
     ensures { λ r. ⌜ r ≡ tryPass (secondPass (tableOf (now (table .entry)))) ⌝ }
     ensures { λ r. ⌜ (r ≡ Found.Nothing → (t : ℕ) → getD (now (forked .exit)) t false ≡ forkedBelow (tableOf (now (table .entry))) m t) ⌝ }
 {
-    let start = 4 + 4 * n;
-    let actions = &table[start..];
+    let actions = bodies(table, n);
     let mut stack = [0usize; 1024];
     let mut top = 1024;
     let mut a = 0;

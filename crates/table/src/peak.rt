@@ -2,6 +2,7 @@
 use crate::balance::child_amount;
 use crate::balance::own_amount;
 use crate::read::argument;
+use crate::read::body_of;
 use crate::read::code;
 use crate::read::word;
 ghost use mathlib.Core.Path.{_≡_};
@@ -57,15 +58,13 @@ pub(crate) fn serial_peak(
     requires { ⌜ Filled (tableOf (now table)) (whole (tableOf (now table)) (freeOf (tableOf (now table)))) (now falls) 0 ⌝ }
     ensures { λ r. ⌜ r ≡ S1 (tableOf (now (table .entry))) ⌝ }
 {
-    let start = 4 + 4 * n;
-    let actions = &table[start..];
     let mut peaks = [0u64; 1024];
     let mut t = n;
     while 0 < t {
         t -= 1;
-        let from = 4 * word(table, 4 + 4 * t);
+        let body = body_of(table, n, t);
         let count = word(table, 6 + 4 * t);
-        let peak = peak_walk(&actions[from..], count, rises, falls, &peaks);
+        let peak = peak_walk(body, count, rises, falls, &peaks);
         peaks[t] = peak;
     }
     peaks[0]

@@ -4,7 +4,7 @@ use crate::Refusal;
 ghost use mathlib.Core.Path.{_≡_};
 ghost use Prim.Native.Nat.{ℕ, _+_, _*_, _≤_, _<_};
 ghost use lib.ListN.{length, getD};
-ghost use Rattle.table.specs.Format.{u16At, threadsOf, bodiesOf, codeAt, argumentAt};
+ghost use Rattle.table.specs.Format.{u16At, threadsOf, firstOf, bodiesOf, bodyOf, codeAt, argumentAt};
 ghost use Rattle.table.specs.Pass.{refusal};
 ghost use Rattle.table.specs.Steps.{Read};
 
@@ -29,6 +29,15 @@ pub(crate) fn bodies(table: &[u8], n: usize) -> &[u8]
     ensures { λ r. ⌜ now r ≡ bodiesOf (now (table .entry)) ⌝ }
 {
     let start = 4 + 4 * n;
+    &table[start..]
+}
+
+// Thread t's body, with all that follows it.
+pub(crate) fn body_of(table: &[u8], n: usize, t: usize) -> &[u8]
+    requires { ⌜ (n ≡ threadsOf (now table)) × (t < n) × (4 + 4 * n + 4 * firstOf (now table) t ≤ length (now table)) ⌝ }
+    ensures { λ r. ⌜ now r ≡ bodyOf (now (table .entry)) t ⌝ }
+{
+    let start = 4 + 4 * n + 4 * word(table, 4 + 4 * t);
     &table[start..]
 }
 

@@ -9,7 +9,7 @@ use borrow.Author.Tests.{lt-ltb, le-ltb}
 use denote.Ref.{now}
 use lib.Dec.{ltb}
 use lib.IntN.{subℕ, pos, negsuc}
-use lib.ListN.{length, getD, set, take, drop, length-drop}
+use lib.ListN.{length, getD, set}
 use Rattle.table.specs.Sum.{pick, sumTo}
 use Rattle.table.specs.Format.{Kind, alloc, free, join, kind, bodyOf, tableOf, firstOf, countOf}
 use Rattle.table.specs.Pass.{tryFrom, tryPass, orElse, refusal}
@@ -24,7 +24,8 @@ use Rattle.table.proofs.Trying.{tryFrom-last, tryFrom-all}
 use Rattle.table.proofs.Passes.{tryFrom-split}
 use Rattle.table.proofs.Bodies.{first-is, counts-all, body-within, owner-at}
 use Rattle.table.proofs.Amounts.{whole-is, partOf-bound}
-use Rattle.table.proofs.Walks.{argument-small, rest-part, bodyFrom, body-part, joins-above, own-small, sums-agree, walk-ready, filled-set, least-cong, least-found}
+use Rattle.table.proofs.Walks.{argument-small, joins-above, own-small, sums-agree, walk-ready, filled-set, least-cong, least-found}
+use Rattle.table.proofs.Parts.{body-there}
 use Rattle.table.proofs.balance.balances.Statement.{statement}
 use Rattle.table.proofs.balance.balances.Tie as tie
 
@@ -53,11 +54,12 @@ start s n m rises falls r bytes p q =
     }
 
 -- the turn for thread u: the invariant for the thread above it, and what has been read
-record Turn (s : List ℕ) (n m : ℕ) (rises falls : List ℕ) (lowest t u first count : ℕ) : Type 0 where
+record Turn (s : List ℕ) (n m : ℕ) (rises falls : List ℕ) (lowest t u first count : ℕ) (body : List ℕ) : Type 0 where
   inv : Inv s n m rises falls lowest t
   next : suc u ≡ t
   first-at : first ≡ firstOf s u
   count-at : count ≡ countOf s u
+  body-is : body ≡ bodyOf s u
 
 negative-is : (x y : ℕ) → negative (subℕ x y) ≡ ltb x y
 negative-is x y = go (ltb x y)
@@ -66,7 +68,7 @@ negative-is x y = go (ltb x y)
     go true = refl
     go false = refl
 
-module _ {s : List ℕ} {n m : ℕ} {rises falls : List ℕ} {lowest t u first count : ℕ} (w : Turn s n m rises falls lowest t u first count) where
+module _ {s : List ℕ} {n m : ℕ} {rises falls : List ℕ} {lowest t u first count : ℕ} {body : List ℕ} (w : Turn s n m rises falls lowest t u first count body) where
   nested : Nested s n m
   nested = w .inv .nested
 
@@ -83,9 +85,6 @@ module _ {s : List ℕ} {n m : ℕ} {rises falls : List ℕ} {lowest t u first c
   within-m : first + count ≤ m
   unfolding tableOf
   within-m = omega (arith, body-within (tableOf s) content u below-n, w .first-at, w .count-at, nested .formed .laid .headed .actions)
-
-  from-within : 4 * first ≤ length (take (length s - (4 + 4 * n)) (drop (4 + 4 * n) s))
-  from-within = rw (rest-part s (4 + 4 * n), length-drop (4 + 4 * n) s) (omega (arith, within-m, w .inv .sizes .total))
 
   -- the sums of the body are those of the thread, and small
   module _ (own : Kind) (mine : ℕ → ℕ) (mine-is : (a : ℕ) → mine a ≡ ownAmount own (kind (tableOf s) a) (tableOf s .argument a))
@@ -124,24 +123,21 @@ module _ {s : List ℕ} {n m : ℕ} {rises falls : List ℕ} {lowest t u first c
       rw (owner-at (tableOf s) content u i below-n l, e, rise-is (suc i) l, fall-is (suc i) l)
       (sym (negative-is (partOf (tableOf s) (allocOf (tableOf s)) u (suc i)) (partOf (tableOf s) (freeOf (tableOf s)) u (suc i))))
 
-  body-is : bodyFrom s n first ≡ bodyOf s u
-  body-is = body-part s n first u (nested .formed .laid .headed .threads) (w .first-at)
-
-  ready : WalkReady join (bodyFrom s n first) count rises falls
+  ready : WalkReady join body count rises falls
   unfolding tableOf allocOf freeOf
   ready =
-      rw (body-is, w .count-at)
+      rw (w .body-is, w .count-at)
       (walk-ready s n m (nested .formed) join u (countOf s u) rises falls (omega (arith, w .next, w .inv .within)) refl
       (joins-above (tableOf s) content bodies u below-n)
       (part-small alloc (allocOf (tableOf s)) (λ a. refl) rises (w .inv .rises-done))
       (part-small free (freeOf (tableOf s)) (λ a. refl) falls (w .inv .falls-done)))
 
-  module _ (r : Balance) (e : r ≡ balanceOf (bodyFrom s n first) rises falls count) where
+  module _ (r : Balance) (e : r ≡ balanceOf body rises falls count) where
     -- what is found in this body
     body-found : tryFrom (balancePass (tableOf s) .checks) (tableOf s .first u) count ≡ pick (ltb (r .below) count) (At (refusal 10 (first + r .below))) Nothing
     unfolding tableOf balanceOf
     body-found =
-        rw (e, body-is, w .count-at, w .first-at, least-cong (overdrawn (bodyOf s u) rises falls) (λ i. balanceBelow0 (tableOf s) (firstOf s u + i)) (countOf s u) overdrawn-is)
+        rw (e, w .body-is, w .count-at, w .first-at, least-cong (overdrawn (bodyOf s u) rises falls) (λ i. balanceBelow0 (tableOf s) (firstOf s u + i)) (countOf s u) overdrawn-is)
         (least-found (record { number = 10; applies = balanceBelow0 (tableOf s) }) (firstOf s u) (countOf s u))
 
     -- and from this body on
@@ -165,8 +161,8 @@ module _ {s : List ℕ} {n m : ℕ} {rises falls : List ℕ} {lowest t u first c
           sizes = w .inv .sizes;
           bytes = w .inv .bytes;
           within = omega (arith, w .next, w .inv .within);
-          rises-done = filled-next alloc (allocOf (tableOf s)) (λ a. refl) rises (w .inv .rises-done) (r .rise) (rw (e, body-is, w .count-at));
-          falls-done = filled-next free (freeOf (tableOf s)) (λ a. refl) falls (w .inv .falls-done) (r .fall) (rw (e, body-is, w .count-at));
+          rises-done = filled-next alloc (allocOf (tableOf s)) (λ a. refl) rises (w .inv .rises-done) (r .rise) (rw (e, w .body-is, w .count-at));
+          falls-done = filled-next free (freeOf (tableOf s)) (λ a. refl) falls (w .inv .falls-done) (r .fall) (rw (e, w .body-is, w .count-at));
           found = f;
         }
 
@@ -191,42 +187,29 @@ ends s n m rises falls lowest t v h r d =
     )
 
 abbrev Inv-loop : tie.InvT-loop
-Inv-loop table n m rises₀ falls₀ start actions lowest₀ t₀ rises falls lowest t = Inv table n m rises falls lowest t
+Inv-loop table n m rises₀ falls₀ lowest₀ t₀ rises falls lowest t = Inv table n m rises falls lowest t
 
 abbrev μ-loop : tie.MeasureT-loop
-μ-loop table n m rises₀ falls₀ start actions lowest₀ t₀ rises falls lowest t = t
+μ-loop table n m rises₀ falls₀ lowest₀ t₀ rises falls lowest t = t
 
-turn : (c : tie.After-word2 Inv-loop μ-loop) →
-    let d = c .before .before .before in
-    let a = d .before .before .before .args in
-    Turn (now (a .table)) (a .n) (a .m) (d .loop .rises) (d .loop .falls) (d .loop .lowest) (d .loop .t) (d .loop .t - 1) (c .before .word .result) (c .word2 .result)
+turn : (c : tie.After-body-of Inv-loop μ-loop) →
+    let d = c .before .before .before .before in
+    let a = d .before .before .args in
+    Turn (now (a .table)) (a .n) (a .m) (d .loop .rises) (d .loop .falls) (d .loop .lowest) (d .loop .t) (d .loop .t - 1) (c .before .before .word .result) (c .before .word2 .result)
+    (now (c .body-of .result))
 turn c =
     record {
-      inv = c .before .before .before .loop .inv;
+      inv = c .before .before .before .before .loop .inv;
       next = omega arith;
-      first-at = c .before .word .ensures .value;
-      count-at = c .word2 .ensures .value;
+      first-at = c .before .before .word .ensures .value;
+      count-at = c .before .word2 .ensures .value;
+      body-is = c .body-of .ensures;
     }
-
-mul-start : tie.Need-mul-start Inv-loop μ-loop
-mul-start c = omega (arith, sizes (c .before .pre .0 .formed .laid .headed))
-
-add-start : tie.Need-add-start Inv-loop μ-loop
-add-start c = omega (arith, sizes (c .before .pre .0 .formed .laid .headed))
-
-sub-actions : tie.Need-sub-actions Inv-loop μ-loop
-sub-actions c = omega (arith, sizes (c .before .pre .0 .formed .laid .headed))
-
-part-actions-start : tie.Need-part-actions-start Inv-loop μ-loop
-part-actions-start c = omega (arith, sizes (c .before .pre .0 .formed .laid .headed))
-
-part-actions-end : tie.Need-part-actions-end Inv-loop μ-loop
-part-actions-end c = omega (arith, sizes (c .before .pre .0 .formed .laid .headed))
 
 loop-holds : tie.Need-loop-holds Inv-loop μ-loop
 loop-holds c =
-    let d = c .before .before in
-    start (now (d .args .table)) _ _ _ _ (d .pre .0) (λ i. omega (arith, c .before .shared-slice-known .given i)) (d .pre .1 .0) (d .pre .1 .1)
+    let d = c .before in
+    start (now (d .args .table)) _ _ _ _ (d .pre .0) (λ i. omega (arith, c .shared-slice-known .given i)) (d .pre .1 .0) (d .pre .1 .1)
 
 sub-t : tie.Need-sub-t Inv-loop μ-loop
 sub-t c = search needs
@@ -249,20 +232,13 @@ add-word-2 c = search needs
 word-requires-2 : tie.Need-word-requires-2 Inv-loop μ-loop
 word-requires-2 c κs = search needs
 
-mul-from : tie.Need-mul-from Inv-loop μ-loop
-mul-from c = search needs
-
-sub-balance-walk : tie.Need-sub-balance-walk Inv-loop μ-loop
-sub-balance-walk c = from-within (turn c)
-
-part-balance-walk-start : tie.Need-part-balance-walk-start Inv-loop μ-loop
-part-balance-walk-start c = from-within (turn c)
-
-part-balance-walk-end : tie.Need-part-balance-walk-end Inv-loop μ-loop
-part-balance-walk-end c = omega arith
+body-of-requires : tie.Need-body-of-requires Inv-loop μ-loop
+body-of-requires c κs =
+    let v = c .before .before .before .loop .inv in
+    body-there (v .nested .formed .laid) (omega (arith, v .within))
 
 balance-walk-requires : tie.Need-balance-walk-requires Inv-loop μ-loop
-balance-walk-requires c κs = ready (turn (c .before .before .before))
+balance-walk-requires c κs = ready (turn (c .before .before))
 
 mul-rises : tie.Need-mul-rises Inv-loop μ-loop
 mul-rises c = search needs
@@ -277,7 +253,7 @@ element-write-falls : tie.Need-element-write-falls Inv-loop μ-loop
 element-write-falls c = search needs
 
 add-lowest : tie.Need-add-lowest Inv-loop μ-loop
-add-lowest c = omega (arith, within-m (turn (c .before .before .before .before .before .before .before)), c .before .if1 .taken)
+add-lowest c = omega (arith, within-m (turn (c .before .before .before .before .before .before)), c .before .if1 .taken)
 
 loop-less : tie.Need-loop-less Inv-loop μ-loop
 loop-less c = search needs
@@ -285,7 +261,7 @@ loop-less c = search needs
 loop-again : tie.Need-loop-again Inv-loop μ-loop
 loop-again c =
     let d = c .before .before .before in
-    lower (turn (d .before .before .before .before)) _ (d .balance-walk .ensures) (c .before .if1 .taken)
+    lower (turn (d .before .before .before)) _ (d .balance-walk .ensures) (c .before .if1 .taken)
 
 loop-less-2 : tie.Need-loop-less-2 Inv-loop μ-loop
 loop-less-2 c = search needs
@@ -293,7 +269,7 @@ loop-less-2 c = search needs
 loop-again-2 : tie.Need-loop-again-2 Inv-loop μ-loop
 loop-again-2 c =
     let d = c .before .before in
-    same (turn (d .before .before .before .before)) _ (d .balance-walk .ensures) (c .if1 .left)
+    same (turn (d .before .before .before)) _ (d .balance-walk .ensures) (c .if1 .left)
 
 refuse-requires : tie.Need-refuse-requires Inv-loop μ-loop
 refuse-requires c κs = search needs
@@ -301,13 +277,13 @@ refuse-requires c κs = search needs
 returns : tie.Need-returns Inv-loop μ-loop
 returns c =
     let d = c .before .before in
-    ends (now (d .before .before .before .before .args .table)) _ _ _ _ _ _ (d .before .loop .inv) (d .loop-test .left) _
+    ends (now (d .before .before .before .args .table)) _ _ _ _ _ _ (d .before .loop .inv) (d .loop-test .left) _
     (c .refuse .ensures ∙ rw (lt-ltb _ _ (c .before .if2 .taken)))
 
 returns-2 : tie.Need-returns-2 Inv-loop μ-loop
 returns-2 c =
     let d = c .before in
-    ends (now (d .before .before .before .before .args .table)) _ _ _ _ _ _ (d .before .loop .inv) (d .loop-test .left) _
+    ends (now (d .before .before .before .args .table)) _ _ _ _ _ _ (d .before .loop .inv) (d .loop-test .left) _
     (rw (le-ltb _ _ (c .if2 .left)))
 
 pub balances-spec : {M : Type 1} → statement M
@@ -316,11 +292,6 @@ balances-spec =
     (tie.spec
     Inv-loop
     μ-loop
-    mul-start
-    add-start
-    sub-actions
-    part-actions-start
-    part-actions-end
     loop-holds
     sub-t
     mul-word
@@ -329,10 +300,7 @@ balances-spec =
     mul-word-2
     add-word-2
     word-requires-2
-    mul-from
-    sub-balance-walk
-    part-balance-walk-start
-    part-balance-walk-end
+    body-of-requires
     balance-walk-requires
     mul-rises
     element-write-rises

@@ -19,7 +19,7 @@ use Rattle.table.proofs.Rank.{rest}
 use Rattle.table.proofs.Amounts.{action-within}
 use Rattle.table.proofs.Levels.{level-bound, level-child}
 use Rattle.table.proofs.EndLevels.{by-rules, in-threads, few-threads, few-actions, level-pos, Walking, walking-first, walking-last, walking-level, walking-room, walking-joined, walking-falls, walking-step, walking-fork}
-use Rattle.table.proofs.Parts.{body-kind, body-argument}
+use Rattle.table.proofs.Parts.{body-room, body-there, body-kind, body-argument}
 use Rattle.table.proofs.Walks.{is-code}
 use Rattle.table.proofs.level.end_level.Reads as end-level
 use Rattle.table.proofs.level.end_level.Kinds as end-level-kinds
@@ -27,7 +27,7 @@ use Rattle.table.proofs.level.+end_level+walk.Lts-end_level as end-leve
 use Rattle.table.proofs.level.walk.Reads as walk
 use Rattle.table.proofs.level.walk.Kinds as walk-kinds
 use Rattle.table.proofs.level.+end_level+walk.Lts-walk as walk-lts
-use Rattle.table.proofs.level.body_of.Reads as body-of-reads
+use Rattle.table.proofs.read.body_of.Reads as body-of-reads
 use Rattle.table.proofs.level.next_level.Reads as next-level-reads
 use Rattle.table.proofs.read.argument.Reads as argument-reads
 use Rattle.table.proofs.read.code.Reads as code-reads
@@ -51,11 +51,6 @@ less a b c e h = omega arith
 
 -- ---- a walk's start and end
 
--- a thread's body lies in the table
-body-room : {s : List ℕ} {n m t : ℕ} → Nested s n m → t < n → 4 + 4 * n + 4 * (firstOf s t + countOf s t) ≤ length s
-unfolding tableOf
-body-room {s} {n} {m} {t} w h = omega (arith, sizes (w .formed .laid .headed), body-within (tableOf s) (w .formed .laid .contents) t (in-threads w h))
-
 start-pos : {s : List ℕ} {n m t start : ℕ} → Starts s n m t start → 1 ≤ start
 start-pos {s} {n} {m} {t} h =
     let w : Nested s n m = h .nested in
@@ -72,7 +67,7 @@ begin {s} {n} {m} h e known =
       body-is = e .0;
       count-is = e .1;
       within = omega arith;
-      room = rw (e .0) (simp length-drop (omega (arith, body-room w (h .thread), w .formed .laid .headed .threads)));
+      room = rw (e .0) (simp length-drop (omega (arith, body-room (w .formed .laid) (h .thread), w .formed .laid .headed .threads)));
       walking = by-rules w walking-first _ (in-threads w (h .thread)) _ _ (h .level) known;
     }
 
@@ -198,7 +193,7 @@ walk-calls t =
 end-level-body-of-requires : (t : ℕ) → end-level-lts.Need-body-of-requires (end-level-calls t) (end-level-at t) end-level.Post
 end-level-body-of-requires t c κs =
     let h = c .before .pre .1 .0 in
-    (h .nested .formed .laid .headed .threads, h .thread, omega (arith, body-room (h .nested) (h .thread)))
+    body-there (h .nested .formed .laid) (h .thread)
 
 end-level-mul-word : (t : ℕ) → end-level-lts.Need-mul-word (end-level-calls t) (end-level-at t) end-level.Post
 end-level-mul-word t c = omega (arith, sizes (c .before .before .pre .1 .0 .nested .formed .laid .headed))

@@ -8,7 +8,7 @@ use native.Mathlib.Omega.{arith}
 use denote.Ref.{now}
 use lib.ListN.{length, getD, replicate, take, drop, length-drop, length-replicate, drop-of-length-le}
 use lib.Seq.{take-all}
-use Rattle.table.specs.Format.{fork, kindOf, tableOf, kind, codeAt, argumentAt, actionsOf}
+use Rattle.table.specs.Format.{fork, kindOf, tableOf, kind, codeAt, argumentAt, actionsOf, bodiesOf}
 use Rattle.table.specs.Pass.{tryFrom, tryPass, refusal}
 use Rattle.table.specs.Rules.{secondPass, forkedBelow}
 use Rattle.table.specs.Steps.{Formed, nest, nestAt, NestReady, NestDone}
@@ -22,32 +22,28 @@ use Rattle.table.proofs.Stack.{Stacked, stacked-first, stacked-room, st
 use Rattle.table.proofs.nest.second_pass.Statement.{statement}
 use Rattle.table.proofs.nest.second_pass.Tie as tie
 
--- the part of the bytes that the code reads actions from
-abbrev actions : List ℕ → ℕ → List ℕ
-actions s n = take (length s - (4 + 4 * n)) (drop (4 + 4 * n) s)
-
-actions-rest : (s : List ℕ) (n : ℕ) → actions s n ≡ drop (4 + 4 * n) s
-actions-rest s n = take-all (length s - (4 + 4 * n)) (drop (4 + 4 * n) s) (omega (arith, length-drop (4 + 4 * n) s))
-
-actions-length : (s : List ℕ) (n m : ℕ) → Sizes s n m → length (actions s n) ≡ 4 * m
-actions-length s n m z = rw (actions-rest s n) (omega (arith, length-drop (4 + 4 * n) s, z .total))
-
-record Inv (s : List ℕ) (n m : ℕ) (forked : List Bool) (stack : List ℕ) (top a : ℕ) : Type 0 where
+record Inv (s actions : List ℕ) (n m : ℕ) (forked : List Bool) (stack : List ℕ) (top a : ℕ) : Type 0 where
   sizes : Sizes s n m
   formed : Formed s n m
+  part : actions ≡ bodiesOf s
+  size : length actions ≡ 4 * m
   within : a ≤ m
   stacked : length stack ≡ 1024
   low : top ≤ 1024
   before : Stacked (tableOf s) a (drop top stack) forked
   remains : tryFrom (secondPass (tableOf s) .checks) a (m - a) ≡ tryPass (secondPass (tableOf s))
 
-start : (s : List ℕ) (n m : ℕ) (forked : List Bool) → Formed s n m → forked ≡ replicate 1024 false → Inv s n m forked (replicate 1024 0) 1024 0
+start : (s actions : List ℕ) (n m : ℕ) (forked : List Bool) → Formed s n m → actions ≡ bodiesOf s → forked ≡ replicate 1024 false
+    → Inv s actions n m forked (replicate 1024 0) 1024 0
 unfolding tableOf tryPass
-start s n m forked h e =
+start s actions n m forked h p e =
     let l : length {A = ℕ} (replicate 1024 0) ≡ 1024 = length-replicate {A = ℕ} 1024 0 in
+    let z : Sizes s n m = sizes (h .laid .headed) in
     record {
-      sizes = sizes (h .laid .headed);
+      sizes = z;
       formed = h;
+      part = p;
+      size = rw p (simp length-drop (omega (arith, z .total, h .laid .headed .threads)));
       within = omega arith;
       stacked = l;
       low = omega arith;
@@ -55,15 +51,15 @@ start s n m forked h e =
       remains = rw (h .laid .headed .actions) (tryFrom-all _ _);
     }
 
-module _ (s : List ℕ) (n m : ℕ) (forked : List Bool) (stack : List ℕ) (top a : ℕ) (i : Inv s n m forked stack top a) where
-  module _ (h : a < m) (k x : ℕ) (e : k ≡ codeAt (actions s n) a) (d : x ≡ argumentAt (actions s n) a) where
+module _ (s actions : List ℕ) (n m : ℕ) (forked : List Bool) (stack : List ℕ) (top a : ℕ) (i : Inv s actions n m forked stack top a) where
+  module _ (h : a < m) (k x : ℕ) (e : k ≡ codeAt actions a) (d : x ≡ argumentAt actions a) where
     kind-is : kindOf k ≡ kind (tableOf s) a
     unfolding tableOf
-    kind-is = rw (e, actions-rest s n, i .formed .laid .headed .threads)
+    kind-is = rw (e, i .part)
 
     argument-is : x ≡ tableOf s .argument a
     unfolding tableOf
-    argument-is = rw (d, actions-rest s n, i .formed .laid .headed .threads)
+    argument-is = rw (d, i .part)
 
     below : kind (tableOf s) a ≡ fork → tableOf s .argument a < 1024
     unfolding tableOf
@@ -90,11 +86,13 @@ module _ (s : List ℕ) (n m : ℕ) (forked : List Bool) (stack : List ℕ) (top
       stops : (number ≡ 0 → ⊥) → At (refusal number a) ≡ tryPass (secondPass (tableOf s))
       stops z = sym (tryFrom-here _ a m h (refusal number a) (stacked-stops _ _ _ _ (i .before) _ _ _ done z)) ∙ i .remains
 
-      again : number ≡ 0 → Inv s n m forked′ stack′ top′ (a + 1)
+      again : number ≡ 0 → Inv s actions n m forked′ stack′ top′ (a + 1)
       again z =
           record {
             sizes = i .sizes;
             formed = i .formed;
+            part = i .part;
+            size = i .size;
             within = omega arith;
             stacked = o .stacked;
             low = o .within;
@@ -116,43 +114,31 @@ refused : {f : Found} {number place : ℕ} {A : Type 0} → f ≡ At (refusal nu
 refused e z = no-way cc
 
 abbrev Inv-loop : tie.InvT-loop
-Inv-loop table n m forked₀ start actions stack₀ top₀ a₀ forked stack top a = Inv table n m forked stack top a
+Inv-loop table n m forked₀ actions stack₀ top₀ a₀ forked stack top a = Inv table actions n m forked stack top a
 
 abbrev μ-loop : tie.MeasureT-loop
-μ-loop table n m forked₀ start actions stack₀ top₀ a₀ forked stack top a = m - a
+μ-loop table n m forked₀ actions stack₀ top₀ a₀ forked stack top a = m - a
 
-mul-start : tie.Need-mul-start Inv-loop μ-loop
-mul-start c = omega (arith, sizes (c .before .pre .0 .laid .headed))
-
-add-start : tie.Need-add-start Inv-loop μ-loop
-add-start c = omega (arith, sizes (c .before .pre .0 .laid .headed))
-
-sub-actions : tie.Need-sub-actions Inv-loop μ-loop
-sub-actions c = omega (arith, sizes (c .before .pre .0 .laid .headed))
-
-part-actions-start : tie.Need-part-actions-start Inv-loop μ-loop
-part-actions-start c = omega (arith, sizes (c .before .pre .0 .laid .headed))
-
-part-actions-end : tie.Need-part-actions-end Inv-loop μ-loop
-part-actions-end c = omega (arith, sizes (c .before .pre .0 .laid .headed))
+bodies-requires : tie.Need-bodies-requires Inv-loop μ-loop
+bodies-requires c κs =
+    let d = c .before .pre .0 .laid .headed in
+    (d .threads, omega (arith, sizes d))
 
 loop-holds : tie.Need-loop-holds Inv-loop μ-loop
 loop-holds c =
     let d = c .before .before in
-    start (now (d .args .table)) _ _ (now (d .args .forked)) (d .pre .0) (d .pre .1)
+    start (now (d .args .table)) _ _ _ (now (d .args .forked)) (d .pre .0) (c .bodies .ensures) (d .pre .1)
 
 code-requires : tie.Need-code-requires Inv-loop μ-loop
-code-requires c κs =
-    let i = c .before .loop .inv in
-    omega (arith, actions-length _ _ _ (i .sizes))
+code-requires c κs = omega arith
 
 argument-requires : tie.Need-argument-requires Inv-loop μ-loop
-argument-requires c κs = code-requires (c .before) κs
+argument-requires c κs = omega arith
 
 nest-at-requires : tie.Need-nest-at-requires Inv-loop μ-loop
 nest-at-requires c κs =
     let d = c .before .before .before in
-    ready _ _ _ _ _ _ _ (d .before .before .loop .inv) (d .before .loop-test .taken) _ _ (d .code .ensures) (c .before .before .argument .ensures .value)
+    ready _ _ _ _ _ _ _ _ (d .before .before .loop .inv) (d .before .loop-test .taken) _ _ (d .code .ensures) (c .before .before .argument .ensures .value)
 
 refuse-requires : tie.Need-refuse-requires Inv-loop μ-loop
 refuse-requires c κs = omega (arith, c .before .before .before .before .before .before .before .before .loop .inv .sizes)
@@ -162,7 +148,7 @@ returns c =
     let d = c .before .before .before in
     let f = d .before .before .before .before in (
       c .refuse .ensures
-          ∙ stops _ _ _ _ _ _ _ (f .before .before .loop .inv) (f .before .loop-test .taken) _ _ (f .code .ensures) (d .before .before .before .argument .ensures .value)
+          ∙ stops _ _ _ _ _ _ _ _ (f .before .before .loop .inv) (f .before .loop-test .taken) _ _ (f .code .ensures) (d .before .before .before .argument .ensures .value)
           _ _ _ _ (d .nest-at .ensures) (c .before .if1 .taken),
       refused (c .refuse .ensures),
     )
@@ -177,13 +163,13 @@ loop-again : tie.Need-loop-again Inv-loop μ-loop
 loop-again c =
     let d = c .before .before in
     let f = d .before .before .before .before in
-    again _ _ _ _ _ _ _ (f .before .before .loop .inv) (f .before .loop-test .taken) _ _ (f .code .ensures) (d .before .before .before .argument .ensures .value)
+    again _ _ _ _ _ _ _ _ (f .before .before .loop .inv) (f .before .loop-test .taken) _ _ (f .code .ensures) (d .before .before .before .argument .ensures .value)
     _ _ _ _ (d .nest-at .ensures) (c .if1 .left)
 
 returns-2 : tie.Need-returns-2 Inv-loop μ-loop
 returns-2 c =
     let i = c .before .loop .inv in
-    (none _ _ _ _ _ _ _ i (c .loop-test .left), λ e. marks _ _ _ _ _ _ _ i (c .loop-test .left))
+    (none _ _ _ _ _ _ _ _ i (c .loop-test .left), λ e. marks _ _ _ _ _ _ _ _ i (c .loop-test .left))
 
 pub second-pass-spec : {M : Type 1} → statement M
 second-pass-spec =
@@ -191,11 +177,7 @@ second-pass-spec =
     (tie.spec
     Inv-loop
     μ-loop
-    mul-start
-    add-start
-    sub-actions
-    part-actions-start
-    part-actions-end
+    bodies-requires
     loop-holds
     code-requires
     argument-requires

@@ -4,16 +4,16 @@ use Prim.Native.Nat.{ℕ, suc, _+_, _-_, _*_, _<_, _≤_}
 use mathlib.Core.List.{List}
 use native.Mathlib.Omega.{arith}
 use denote.Ref.{now}
-use lib.ListN.{length, getD, set, take, drop, length-drop}
+use lib.ListN.{length, getD, set}
 use Rattle.table.specs.Sum.{greatestTo}
-use Rattle.table.specs.Format.{fork, tableOf, firstOf, countOf, bodyOf}
+use Rattle.table.specs.Format.{fork, tableOf, countOf, bodyOf}
 use Rattle.table.specs.Rules.{allocOf, freeOf, whole}
 use Rattle.table.specs.Serial.{S1}
 use Rattle.table.specs.Steps.{Headed, Kept, Filled, WalkReady, PeaksReady, topOf}
 use Rattle.table.proofs.Sizes.{Sizes, sizes}
-use Rattle.table.proofs.Bodies.{body-within}
-use Rattle.table.proofs.Walks.{rest-part, body-part, filled-set}
+use Rattle.table.proofs.Walks.{filled-set}
 use Rattle.table.proofs.Tops.{peakAt, walk-ready, peaks-ready, peak-found}
+use Rattle.table.proofs.Parts.{body-there}
 use Rattle.table.proofs.peak.serial_peak.Statement.{statement}
 use Rattle.table.proofs.peak.serial_peak.Tie as tie
 
@@ -43,13 +43,6 @@ start s n m rises falls peaks k b r f l =
     }
 
 module _ (s : List ℕ) (n m : ℕ) (rises falls peaks : List ℕ) (t u : ℕ) (v : Inv s n m rises falls peaks t) (p : suc u ≡ t) where
-  from-within : (first : ℕ) → first ≡ firstOf s u → 4 * first ≤ length (take (length s - (4 + 4 * n)) (drop (4 + 4 * n) s))
-  unfolding tableOf
-  from-within first e =
-      let h : Headed s n m = v .kept .nested .formed .laid .headed in
-      rw (rest-part s (4 + 4 * n), length-drop)
-      (omega (arith, h .actions, v .sized, body-within (tableOf s) (v .kept .nested .formed .laid .contents) u (omega (arith, h .threads))))
-
   later : Filled (tableOf s) (peakAt (tableOf s)) peaks (suc u)
   later = rw p (v .peaking)
 
@@ -82,37 +75,23 @@ unfolding S1 tableOf
 root s n m rises falls peaks t v l = v .peaking .right 0 (omega arith) (omega (arith, v .kept .nested .formed .laid .headed .threads))
 
 abbrev Inv-loop : tie.InvT-loop
-Inv-loop table n m rises falls start actions peaks₀ t₀ peaks t = Inv table n m rises falls peaks t
+Inv-loop table n m rises falls peaks₀ t₀ peaks t = Inv table n m rises falls peaks t
 
 abbrev μ-loop : tie.MeasureT-loop
-μ-loop table n m rises falls start actions peaks₀ t₀ peaks t = t
-
--- the sizes at the entry
-entry : (c : tie.After-shared-slice-known Inv-loop μ-loop) → Sizes (now (c .before .args .table)) (c .before .args .n) (c .before .args .m)
-entry c = sizes (c .before .pre .0 .nested .formed .laid .headed)
-
-mul-start : tie.Need-mul-start Inv-loop μ-loop
-mul-start c = omega (arith, entry c)
-
-add-start : tie.Need-add-start Inv-loop μ-loop
-add-start c = omega (arith, entry c)
-
-sub-actions : tie.Need-sub-actions Inv-loop μ-loop
-sub-actions c = omega (arith, entry c)
-
-part-actions-start : tie.Need-part-actions-start Inv-loop μ-loop
-part-actions-start c = omega (arith, entry c)
-
-part-actions-end : tie.Need-part-actions-end Inv-loop μ-loop
-part-actions-end c = omega arith
+μ-loop table n m rises falls peaks₀ t₀ peaks t = t
 
 loop-holds : tie.Need-loop-holds Inv-loop μ-loop
 loop-holds c =
-    let d = c .before .before in
-    start (now (d .args .table)) _ _ _ _ _ (d .pre .0) (λ i. omega (arith, c .before .shared-slice-known .given i)) (d .pre .1 .0) (d .pre .1 .1) refl
+    let d = c .before in
+    start (now (d .args .table)) _ _ _ _ _ (d .pre .0) (λ i. omega (arith, c .shared-slice-known .given i)) (d .pre .1 .0) (d .pre .1 .1) refl
 
 sub-t : tie.Need-sub-t Inv-loop μ-loop
 sub-t c = omega arith
+
+body-of-requires : tie.Need-body-of-requires Inv-loop μ-loop
+body-of-requires c κs =
+    let v = c .before .loop .inv in
+    body-there (v .kept .nested .formed .laid) (omega (arith, v .within))
 
 mul-word : tie.Need-mul-word Inv-loop μ-loop
 mul-word c = omega arith
@@ -123,37 +102,13 @@ add-word c = omega arith
 word-requires : tie.Need-word-requires Inv-loop μ-loop
 word-requires c κs = omega arith
 
-mul-from : tie.Need-mul-from Inv-loop μ-loop
-mul-from c = omega arith
-
-mul-word-2 : tie.Need-mul-word-2 Inv-loop μ-loop
-mul-word-2 c = omega arith
-
-add-word-2 : tie.Need-add-word-2 Inv-loop μ-loop
-add-word-2 c = omega arith
-
-word-requires-2 : tie.Need-word-requires-2 Inv-loop μ-loop
-word-requires-2 c κs = omega arith
-
-sub-peak-walk : tie.Need-sub-peak-walk Inv-loop μ-loop
-sub-peak-walk c =
-    let a = c .before .before .before in
-    from-within (now (a .before .before .before .args .table)) _ _ _ _ _ _ (a .loop .t - 1) (a .loop .inv) (omega arith) _ (c .before .word .ensures .value)
-
-part-peak-walk-start : tie.Need-part-peak-walk-start Inv-loop μ-loop
-part-peak-walk-start c = sub-peak-walk c
-
-part-peak-walk-end : tie.Need-part-peak-walk-end Inv-loop μ-loop
-part-peak-walk-end c = omega arith
-
 peak-walk-requires : tie.Need-peak-walk-requires Inv-loop μ-loop
 peak-walk-requires c κs =
-    let w = c .before .before in
+    let w = c .before in
     let a = w .before .before .before in
-    let s : List ℕ = now (a .before .before .before .args .table) in
-    let b = body-part s _ _ (a .loop .t - 1) (a .loop .inv .kept .nested .formed .laid .headed .threads) (w .before .word .ensures .value) in (
-      ready s _ _ _ _ _ _ (a .loop .t - 1) (a .loop .inv) (omega arith) _ _ b (w .word2 .ensures .value),
-      low s _ _ _ _ _ _ (a .loop .t - 1) (a .loop .inv) (omega arith) _ _ b (w .word2 .ensures .value),
+    let s : List ℕ = now (a .before .before .args .table) in (
+      ready s _ _ _ _ _ _ (a .loop .t - 1) (a .loop .inv) (omega arith) _ _ (w .before .body-of .ensures) (w .word .ensures .value),
+      low s _ _ _ _ _ _ (a .loop .t - 1) (a .loop .inv) (omega arith) _ _ (w .before .body-of .ensures) (w .word .ensures .value),
     )
 
 mul-peaks : tie.Need-mul-peaks Inv-loop μ-loop
@@ -167,11 +122,10 @@ loop-less c = omega arith
 
 loop-again : tie.Need-loop-again Inv-loop μ-loop
 loop-again c =
-    let w = c .before .before .before in
+    let w = c .before .before in
     let a = w .before .before .before in
-    let s : List ℕ = now (a .before .before .before .args .table) in
-    let b = body-part s _ _ (a .loop .t - 1) (a .loop .inv .kept .nested .formed .laid .headed .threads) (w .before .word .ensures .value) in
-    again s _ _ _ _ _ _ (a .loop .t - 1) (a .loop .inv) (omega arith) _ _ b (w .word2 .ensures .value) _ (c .peak-walk .ensures)
+    again (now (a .before .before .args .table)) _ _ _ _ _ _ (a .loop .t - 1) (a .loop .inv) (omega arith) _ _
+    (w .before .body-of .ensures) (w .word .ensures .value) _ (c .peak-walk .ensures)
 
 array-read-result : tie.Need-array-read-result Inv-loop μ-loop
 array-read-result c = omega arith
@@ -185,23 +139,12 @@ serial-peak-spec =
     (tie.spec
     Inv-loop
     μ-loop
-    mul-start
-    add-start
-    sub-actions
-    part-actions-start
-    part-actions-end
     loop-holds
     sub-t
+    body-of-requires
     mul-word
     add-word
     word-requires
-    mul-from
-    mul-word-2
-    add-word-2
-    word-requires-2
-    sub-peak-walk
-    part-peak-walk-start
-    part-peak-walk-end
     peak-walk-requires
     mul-peaks
     array-write-peaks

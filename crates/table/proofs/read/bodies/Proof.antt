@@ -1,20 +1,11 @@
 -- `table::read::bodies` meets its contract: the part from a place on is all that is left from there.
-use mathlib.Core.Path.{_≡_, refl}
-use Prim.Native.Nat.{ℕ, _+_, _-_, _*_, _≤_}
-use native.Mathlib.Omega.{arith}
-use mathlib.Core.List.{List}
-use lib.ListN.{length, take, drop, length-drop}
-use lib.Seq.{take-all}
-use denote.Ref.{now}
-use Rattle.table.specs.Format.{threadsOf, bodiesOf}
+use mathlib.Core.Path.{_∙_}
+use Prim.Native.Nat.{_+_, _*_}
 use borrow.Author.Needs.{needs}
+use denote.Ref.{now}
+use Rattle.table.proofs.Parts.{rest-part}
 use Rattle.table.proofs.read.bodies.Statement.{statement}
 use Rattle.table.proofs.read.bodies.Tie as tie
-
-whole : (s : List ℕ) (n : ℕ) → n ≡ threadsOf s → take (length s - (4 + 4 * n)) (drop (4 + 4 * n) s) ≡ bodiesOf s
-whole s n e =
-    let h : length (drop (4 + 4 * n) s) ≤ length s - (4 + 4 * n) = simp length-drop (omega arith) in
-    rw (take-all (length s - (4 + 4 * n)) (drop (4 + 4 * n) s) h, e)
 
 mul-start : tie.Need-mul-start
 mul-start c = search needs
@@ -32,7 +23,9 @@ part-result-end : tie.Need-part-result-end
 part-result-end c = search needs
 
 returns : tie.Need-returns
-returns c = whole (now (c .before .args .table)) _ (c .before .pre .0)
+returns c =
+    let d = c .before in
+    rest-part (now (d .args .table)) (4 + 4 * d .args .n) ∙ rw (d .pre .0)
 
 pub bodies-spec : {M : Type 1} → statement M
 bodies-spec =

@@ -1,22 +1,20 @@
--- `table::level::body_of` meets its contract: a part from a place on, of a part from a place on, is all that is left.
+-- `table::read::body_of` meets its contract: a part from a place on, of a part from a place on, is all that is left.
 use mathlib.Core.Path.{_≡_, sym, _∙_}
-use Prim.Native.Nat.{ℕ, _+_, _-_, _*_, _≤_}
+use Prim.Native.Nat.{ℕ, _+_, _-_, _*_}
 use mathlib.Core.List.{List}
-use native.Mathlib.Omega.{arith}
 use borrow.Author.Needs.{needs}
 use denote.Ref.{now}
-use lib.ListN.{length, take, drop, length-drop}
-use lib.Seq.{take-all, drop-drop}
+use lib.ListN.{length, take, drop}
+use lib.Seq.{drop-drop}
 use Rattle.table.specs.Format.{threadsOf, firstOf, bodyOf}
-use Rattle.table.proofs.level.body_of.Statement.{statement}
-use Rattle.table.proofs.level.body_of.Tie as tie
+use Rattle.table.proofs.Parts.{rest-part}
+use Rattle.table.proofs.read.body_of.Statement.{statement}
+use Rattle.table.proofs.read.body_of.Tie as tie
 
 all-left : (s : List ℕ) (n t first : ℕ) → n ≡ threadsOf s → first ≡ firstOf s t
     → take (length s - (4 + 4 * n + 4 * first)) (drop (4 + 4 * n + 4 * first) s) ≡ bodyOf s t
 all-left s n t first e d =
-    let k : ℕ = 4 + 4 * n + 4 * first in
-    let h : length (drop k s) ≤ length s - k = simp length-drop (omega arith) in
-    take-all (length s - k) (drop k s) h ∙ rw (e, d) (sym (drop-drop (4 * firstOf s t) (4 + 4 * threadsOf s) s))
+    rest-part s (4 + 4 * n + 4 * first) ∙ rw (e, d) (sym (drop-drop (4 * firstOf s t) (4 + 4 * threadsOf s) s))
 
 mul-start : tie.Need-mul-start
 mul-start c = search needs
