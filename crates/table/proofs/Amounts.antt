@@ -11,7 +11,7 @@ use Rattle.table.specs.Rules.{owner, endOf, openBefore, withChild, whole
 use Rattle.table.specs.Accepted.{ContentRules, BodyRules, NestRules}
 use Rattle.table.specs.Serial.{serial}
 use Rattle.table.proofs.Sums.{sumTo-cong, sumTo-part, sumOver-append, sumOver-bound}
-use Rattle.table.proofs.Tests.{no-way, is-true}
+use Rattle.table.proofs.Tests.{no-way, is-true, pick-same}
 use Rattle.table.proofs.Bodies.{body-within, count-pos, owner-at, owner-end, next-within, next-owner, end-kind, end-last, fork-below, join-above, join-below}
 use Rattle.table.proofs.Nesting.{open-first, open-end, open-fork, open-join, open-same}
 use Rattle.table.proofs.Serial.{serial-end, serial-fork, serial-step, serial-induction, serial-below, serial-bound}
@@ -19,11 +19,6 @@ use Rattle.table.proofs.Serial.{serial-end, serial-fork, serial-step, s
 -- the amount over the first k actions of a thread where a child counts at its fork: what serial order has come to before action k
 abbrev pub forkPart : Table → (ℕ → ℕ) → ℕ → ℕ → ℕ
 forkPart T own t k = sumTo (λ i. withChild T fork own (whole T own) (T .first t + i)) k
-
--- a choice of two equal amounts, equal where the test holds
-pick-cong : (t : Bool) (x y : ℕ) → (t ≡ true → x ≡ y) → pick t x 0 ≡ pick t y 0
-pick-cong true x y h = h refl
-pick-cong false x y h = refl
 
 pub forkPart-fork : (T : Table) (own : ℕ → ℕ) (t k : ℕ) → kind T (T .first t + k) ≡ fork
     → forkPart T own t (suc k) ≡ forkPart T own t k + own (T .first t + k) + whole T own (T .argument (T .first t + k))
@@ -92,10 +87,7 @@ module _ (T : Table) (c : ContentRules T) (b : BodyRules T) (own : ℕ → ℕ) 
       let w : a < T .actions = action-within T c b t i h k in
       let o : owner T a ≡ t = owner-at T c t i h k in
       ap (λ (x : ℕ). own a + x)
-      (pick-cong (is join (kind T a)) _ _ λ e.
-      below (T .argument a)
-      (rw o at (join-above T c b a w (is-true join (kind T a) e)))
-      (join-below T c b a w (is-true join (kind T a) e)))
+      (pick-same join (kind T a) _ _ λ e. below (T .argument a) (rw o at (join-above T c b a w e)) (join-below T c b a w e))
 
   -- fuel for the threads from a thread on is enough
   whole-fuel : (f g t : ℕ) → t < T .threads → T .threads ≤ f + t → T .threads ≤ g + t → wholeWithin f T own t ≡ wholeWithin g T own t

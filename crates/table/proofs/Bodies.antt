@@ -1,14 +1,14 @@
 -- Where the bodies lie: thread after thread with no gap, so that every action has one owner; and what the first pass says of kinds, arguments and ends.
 use mathlib.Core.Path.{_≡_, refl, sym, ap}
 use Prim.Native.Nat.{ℕ, zero, suc, pred, _+_, _≤_, _<_}
-use mathlib.Core.Bool.{false, not}
+use mathlib.Core.Bool.{false, not, _&&_}
 use native.Mathlib.Decide.{decLt}
 use native.Mathlib.Omega.{arith}
-use lib.Dec.{leb, eqb}
+use lib.Dec.{ltb, leb, eqb}
 use borrow.Author.Tests.{le-leb, lt-leb, eqb-true, eqb-false, eq-eqb, not-false}
 use Rattle.table.specs.Sum.{pick, sumTo}
-use Rattle.table.specs.Format.{end, fork, join, unknown, is, Table, kind}
-use Rattle.table.specs.Rules.{countsBelow, entryWrong, totalWrong, ownerBelow, owner, endOf, kindUnknown, argumentWrong, endMisplaced}
+use Rattle.table.specs.Format.{Kind, end, fork, join, unknown, is, Table, kind}
+use Rattle.table.specs.Rules.{countsBelow, entryWrong, totalWrong, ownerBelow, owner, endOf, kindUnknown, argumentFits, argumentWrong, endMisplaced}
 use Rattle.table.specs.Accepted.{ContentRules, BodyRules}
 use Rattle.table.proofs.Tests.{no-way, or-neither, between, not-differ, is-true, same-is}
 
@@ -126,26 +126,38 @@ module _ (T : Table) (c : ContentRules T) where
 
 -- ---- the first pass
 
+-- the kinds whose argument is a child
+abbrev pub NamesChild : Kind → Type 0
+NamesChild k = (own n x : ℕ) → argumentFits k own n x ≡ (ltb own x && ltb x n)
+
+pub names-fork : NamesChild fork
+names-fork own n x = refl
+
+pub names-join : NamesChild join
+names-join own n x = refl
+
 module _ (T : Table) (c : ContentRules T) (b : BodyRules T) where
   pub kind-known : (a : ℕ) → a < T .actions → kind T a ≡ unknown → ⊥
   unfolding kindUnknown
   kind-known a h k = no-way (cc (b .kinds a h, same-is unknown (kind T a) k))
 
-  pub fork-above : (a : ℕ) → a < T .actions → kind T a ≡ fork → owner T a < T .argument a
+  -- a child is a thread with a higher number
+  pub child-between : (k : Kind) → NamesChild k → (a : ℕ) → a < T .actions → kind T a ≡ k
+      → (owner T a < T .argument a) × (T .argument a < T .threads)
   unfolding argumentWrong
-  fork-above a h k = between (owner T a) (T .argument a) (T .threads) (rw k at (b .arguments a h)) .0
+  child-between k names a h e = between (owner T a) (T .argument a) (T .threads) (rw (e, names) at (b .arguments a h))
+
+  pub fork-above : (a : ℕ) → a < T .actions → kind T a ≡ fork → owner T a < T .argument a
+  fork-above a h e = child-between fork names-fork a h e .0
 
   pub fork-below : (a : ℕ) → a < T .actions → kind T a ≡ fork → T .argument a < T .threads
-  unfolding argumentWrong
-  fork-below a h k = between (owner T a) (T .argument a) (T .threads) (rw k at (b .arguments a h)) .1
+  fork-below a h e = child-between fork names-fork a h e .1
 
   pub join-above : (a : ℕ) → a < T .actions → kind T a ≡ join → owner T a < T .argument a
-  unfolding argumentWrong
-  join-above a h k = between (owner T a) (T .argument a) (T .threads) (rw k at (b .arguments a h)) .0
+  join-above a h e = child-between join names-join a h e .0
 
   pub join-below : (a : ℕ) → a < T .actions → kind T a ≡ join → T .argument a < T .threads
-  unfolding argumentWrong
-  join-below a h k = between (owner T a) (T .argument a) (T .threads) (rw k at (b .arguments a h)) .1
+  join-below a h e = child-between join names-join a h e .1
 
   -- a forked child's body lies beyond the fork
   pub fork-later : (a : ℕ) → a < T .actions → kind T a ≡ fork → a < T .first (T .argument a)

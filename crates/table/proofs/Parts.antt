@@ -7,13 +7,17 @@ use native.Mathlib.Omega.{arith}
 use lib.ListN.{length, take, drop, length-drop}
 use lib.Seq.{getD-drop, take-all}
 use Rattle.table.specs.Format.{kindOf, kind, codeAt, argumentAt, threadsOf, firstOf, countOf, bodiesOf, bodyOf, tableOf}
-use Rattle.table.specs.Steps.{Laid}
+use Rattle.table.specs.Steps.{Headed, Laid}
 use Rattle.table.proofs.Sizes.{sizes}
 use Rattle.table.proofs.Bodies.{body-within}
 
 -- the part from a place on is all that is left from there
 pub rest-part : (l : List ℕ) (k : ℕ) → take (length l - k) (drop k l) ≡ drop k l
 rest-part l k = take-all (length l - k) (drop k l) (omega (arith, length-drop k l))
+
+-- the action list has m actions of 4 bytes
+pub bodies-length : {s : List ℕ} {n m : ℕ} → Headed s n m → length (bodiesOf s) ≡ 4 * m
+bodies-length h = simp length-drop (omega (arith, h .threads, sizes h))
 
 -- a thread's body lies in the table
 pub body-room : {s : List ℕ} {n m t : ℕ} → Laid s n m → t < n → 4 + 4 * n + 4 * (firstOf s t + countOf s t) ≤ length s

@@ -14,7 +14,7 @@ use Rattle.table.specs.Format.{Kind, end, alloc, free, fork, codeOf, is,
 use Rattle.table.specs.Rules.{owner, openBefore, allocOf, freeOf, whole, partOf, balance, negative, balanceBelow0}
 use Rattle.table.specs.Accepted.{ContentRules, BodyRules, NestRules, BalanceRules}
 use Rattle.table.specs.Serial.{serial, heldAfter, fronts, peakOf}
-use Rattle.table.proofs.Tests.{no-way}
+use Rattle.table.proofs.Tests.{negative-is}
 use Rattle.table.proofs.Bodies.{count-pos, owner-at, fork-below}
 use Rattle.table.proofs.Nesting.{open-forked}
 use Rattle.table.proofs.Serial.{serial-end, serial-fork, serial-step}
@@ -38,7 +38,7 @@ topFrom : (ℕ → ℕ) → (ℕ → ℕ) → ℕ → ℕ → List ℕ → ℕ
 topFrom up down u d [] = u - d
 topFrom up down u d (x ∷ l) = max (u - d) (topFrom up down (u + up x) (d + down x) l)
 
-greatest-map : (f : List ℕ → ℕ) (g : List ℕ → List ℕ) (l : List (List ℕ)) → greatest f (map g l) ≡ greatest (λ q. f (g q)) l
+pub greatest-map : (f : List ℕ → ℕ) (g : List ℕ → List ℕ) (l : List (List ℕ)) → greatest f (map g l) ≡ greatest (λ q. f (g q)) l
 unfolding greatest
 greatest-map f g [] = refl
 greatest-map f g (q ∷ l) = rw (greatest-map f g l)
@@ -108,14 +108,6 @@ max-assoc x y z = omega arith
 max-over : (x y z : ℕ) → max x (max (x + y) z) ≡ max (x + y) z
 max-over x y z = omega arith
 
--- a difference that is not negative
-not-negative : (r f : ℕ) → negative (subℕ r f) ≡ false → f ≤ r
-not-negative r f = go (ltb r f) refl
-  where
-    go : (t : Bool) → ltb r f ≡ t → negative (cond t (negsuc (f - suc r)) (pos (r - f))) ≡ false → f ≤ r
-    go true p h = no-way (cc)
-    go false p h = ltb-false r f p
-
 -- an action of a kind that neither draws nor gives back
 no-amount : (T : Table) (a : ℕ) (k : Kind) → kind T a ≡ k → is alloc k ≡ false → is free k ≡ false → (allocOf T a ≡ 0) × (freeOf T a ≡ 0)
 unfolding allocOf freeOf
@@ -125,7 +117,8 @@ peakOf-top : (T : Table) (l : List ℕ) → peakOf T l ≡ topFrom (allocOf T) (
 unfolding peakOf heldAfter
 peakOf-top T l = top-fronts (allocOf T) (freeOf T) l 0 0 (heldAfter T) (λ q. omega arith)
 
-abbrev peakAt : Table → ℕ → ℕ
+-- a thread's peak, counted from its start
+abbrev pub peakAt : Table → ℕ → ℕ
 peakAt T t = peakOf T (serial T (T .first t))
 
 -- from a thread's action k on, counted from its start: the highest amount, and that no front part gives back more than is drawn
@@ -143,8 +136,8 @@ module _ (T : Table) (c : ContentRules T) (b : BodyRules T) (n : NestRules T) (e
   part-held t (suc k) h i =
       let a : ℕ = T .first t + k in
       let m : suc a - T .first t ≡ suc k = omega arith in
-      not-negative (partOf T (allocOf T) t (suc k)) (partOf T (freeOf T) t (suc k))
-      (rw (owner-at T c t k h i, m) at (e .balanced a (action-within T c b t k h i)))
+      ltb-false (partOf T (allocOf T) t (suc k)) (partOf T (freeOf T) t (suc k))
+      (rw (owner-at T c t k h i, m, negative-is) at (e .balanced a (action-within T c b t k h i)))
 
   pub whole-held : (t : ℕ) → t < T .threads → whole T (freeOf T) t ≤ whole T (allocOf T) t
   whole-held t h = rw (whole-is T c b (freeOf T) t h, whole-is T c b (allocOf T) t h) (part-held t (T .count t) h (omega arith))
@@ -256,7 +249,7 @@ module _ (T : Table) (c : ContentRules T) (b : BodyRules T) (n : NestRules T) (e
       (λ t k h i p q next. rw (top-step t k h i p q, ← max-assoc) next)
 
   pub peak-thread : (t : ℕ) → t < T .threads
-      → peakOf T (serial T (T .first t)) ≡ greatestTo (topAt T (λ d. peakOf T (serial T (T .first d))) t) (T .count t)
+      → peakAt T t ≡ greatestTo (topAt T (peakAt T) t) (T .count t)
   unfolding greatestTo sumTo
   peak-thread t h = rw (peakOf-top T (serial T (T .first t))) (omega (arith, rw add-zero at (top-rest t 0 h (count-pos T c t h))))
 
@@ -264,7 +257,7 @@ module _ (T : Table) (c : ContentRules T) (b : BodyRules T) (n : NestRules T) (e
   pub serial-held : (t : ℕ) (q r : List ℕ) → t < T .threads → serial T (T .first t) ≡ q ++ r → sumOver (freeOf T) q ≤ sumOver (allocOf T) q
   serial-held t q r h k = omega (arith, held-front (allocOf T) (freeOf T) q r 0 0 (rw k at (held-thread t h)))
 
-  pub peak-bound : (B : ℕ) → ((a : ℕ) → a < T .actions → allocOf T a ≤ B) → (t : ℕ) → t < T .threads → peakOf T (serial T (T .first t)) ≤ B * T .actions
+  pub peak-bound : (B : ℕ) → ((a : ℕ) → a < T .actions → allocOf T a ≤ B) → (t : ℕ) → t < T .threads → peakAt T t ≤ B * T .actions
   peak-bound B h t k =
       rw (peakOf-top T (serial T (T .first t)))
       (omega (arith, top-bound (allocOf T) (freeOf T) (serial T (T .first t)) 0 0, whole-serial T c b n (allocOf T) t k, whole-bound T c b n (allocOf T) B h t k))

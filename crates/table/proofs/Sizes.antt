@@ -20,7 +20,7 @@ pub record Sizes (s : List ℕ) (n m : ℕ) : Type 0 where
   pub actions-high : m ≤ 8192
   pub total : length s ≡ 4 + 4 * n + 4 * m
 
-inside : (low high x : ℕ) → outside low high x ≡ false → (low ≤ x) × (x ≤ high)
+pub inside : (low high x : ℕ) → outside low high x ≡ false → (low ≤ x) × (x ≤ high)
 inside low high x e =
     let b = or-neither (ltb x low) (ltb high x) e in
     (ltb-false x low (b .0), ltb-false high x (b .1))

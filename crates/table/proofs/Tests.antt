@@ -1,12 +1,14 @@
 -- Tests and kinds: what the two ways through `||` and `&&` say, that the test `is` is equality, and how the kinds part.
 use mathlib.Core.Path.{_≡_, refl, sym}
-use Prim.Native.Nat.{ℕ, _<_}
-use mathlib.Core.Bool.{Bool, true, false, not, _&&_, _||_}
+use Prim.Native.Nat.{ℕ, suc, _-_, _<_}
+use mathlib.Core.Bool.{Bool, true, false, not, _&&_, _||_, cond}
 use native.Mathlib.Omega.{arith}
 use lib.Dec.{ltb}
+use lib.IntN.{subℕ, pos, negsuc}
 use borrow.Author.Tests.{ltb-true, eqb-true, eq-eqb, not-false}
+use Rattle.table.specs.Sum.{pick}
 use Rattle.table.specs.Format.{Kind, end, work, alloc, free, fork, join, unknown, kindOf, codeOf, is}
-use Rattle.table.specs.Rules.{differ}
+use Rattle.table.specs.Rules.{differ, negative}
 
 -- from a contradiction between numbers, as `cc` finds one, anything
 pub no-way {ℓ} : {A : Type ℓ} → _≡_ {A = ℕ} 0 1 → A
@@ -29,6 +31,14 @@ between x y z e =
     let p : (ltb x y ≡ true) × (ltb y z ≡ true) = and-both (ltb x y) (ltb y z) (not-false _ e) in
     (ltb-true x y (p .0), ltb-true y z (p .1))
 
+-- a difference is negative where the first number is the lower one
+pub negative-is : (x y : ℕ) → negative (subℕ x y) ≡ ltb x y
+negative-is x y = go (ltb x y)
+  where
+    go : (t : Bool) → negative (cond t (negsuc (y - suc x)) (pos (x - y))) ≡ t
+    go true = refl
+    go false = refl
+
 kindOf-codeOf : (k : Kind) → kindOf (codeOf k) ≡ k
 unfolding kindOf codeOf
 kindOf-codeOf end = refl
@@ -49,6 +59,14 @@ is-true j k e =
 pub same-is : (j k : Kind) → k ≡ j → is j k ≡ true
 unfolding is
 same-is j k e = eq-eqb (codeOf j) (codeOf k) cc
+
+-- a choice of two amounts that are equal where the test holds
+pub pick-same : (j k : Kind) (x y : ℕ) → (k ≡ j → x ≡ y) → pick (is j k) x 0 ≡ pick (is j k) y 0
+pick-same j k x y h = go (is j k) refl
+  where
+    go : (t : Bool) → is j k ≡ t → pick t x 0 ≡ pick t y 0
+    go true e = h (is-true j k e)
+    go false e = refl
 
 pub or-left : (r a b : Bool) → r ≡ a → r ≡ true → r ≡ (a || b)
 or-left r true b e t = t

@@ -11,11 +11,11 @@ use Rattle.table.specs.Rules.{allocOf, freeOf, whole}
 use Rattle.table.specs.Accepted.{ContentRules, BodyRules}
 use Rattle.table.specs.Serial.{serial, peakOf}
 use Rattle.table.specs.Steps.{Kept, ownAmount, childAmount, amountAt, topOf, Filled, WalkReady, PeaksReady}
-use Rattle.table.proofs.Tests.{is-true}
+use Rattle.table.proofs.Tests.{pick-same}
 use Rattle.table.proofs.Sizes.{sizes}
-use Rattle.table.proofs.Bodies.{owner-at, fork-above, fork-below}
+use Rattle.table.proofs.Bodies.{names-fork}
 use Rattle.table.proofs.Amounts.{forkPart, action-within, forkPart-bound}
-use Rattle.table.proofs.Peaks.{forkPart-held, peak-thread, peak-bound}
+use Rattle.table.proofs.Peaks.{peakAt, forkPart-held, peak-thread, peak-bound}
 use Rattle.table.proofs.Parts.{code-part, argument-part}
 use Rattle.table.proofs.Walks as walks
 
@@ -27,15 +27,6 @@ greatestTo-cong f g (suc k) h = omega (arith, greatestTo-cong f g k (λ i p. h i
 -- an array that is filled from a thread on is filled from a later one on
 pub filled-later : {T : Table} {amount : ℕ → ℕ} {amounts : List ℕ} {u : ℕ} (v : ℕ) → u ≤ v → Filled T amount amounts u → Filled T amount amounts v
 filled-later v l f = record { size = f .size; right = λ t h. f .right t (omega arith) }
-
-pub forks-above : (T : Table) → ContentRules T → BodyRules T → (t : ℕ) → t < T .threads → walks.ChildrenAbove T fork t
-forks-above T c b t h i k e =
-    let w : T .first t + i < T .actions = action-within T c b t i h k in
-    (rw (owner-at T c t i h k) at (fork-above T c b (T .first t + i) w e), fork-below T c b (T .first t + i) w e)
-
--- a thread's peak, counted from its start
-abbrev pub peakAt : Table → ℕ → ℕ
-peakAt T t = peakOf T (serial T (T .first t))
 
 -- an action's own amount: `allocOf` and `freeOf`, over the kind that is counted
 abbrev ownOf : Table → Kind → ℕ → ℕ
@@ -62,7 +53,7 @@ module _ (s : List ℕ) (n m : ℕ) (k : Kept s n m) (bytes : (i : ℕ) → getD
   actions-are = k .nested .formed .laid .headed .actions
 
   above : walks.ChildrenAbove (tableOf s) fork t
-  above = forks-above (tableOf s) contents bodies t thread
+  above = walks.children-above (tableOf s) contents bodies fork names-fork t thread
 
   own-bound : (own : Kind) (a : ℕ) → a < tableOf s .actions → ownOf (tableOf s) own a ≤ 16777215
   own-bound own a w = walks.own-small own (kind (tableOf s) a) (tableOf s .argument a) (walks.argument-small s bytes a)
@@ -87,12 +78,7 @@ module _ (s : List ℕ) (n m : ℕ) (k : Kept s n m) (bytes : (i : ℕ) → getD
   child-peak : (i : ℕ) → i < tableOf s .count t → childAmount fork (kindOf (codeAt (bodyOf s t) i)) (argumentAt (bodyOf s t) i) peaks
       ≡ pick (is fork (kind (tableOf s) (tableOf s .first t + i))) (peakAt (tableOf s) (tableOf s .argument (tableOf s .first t + i))) 0
   unfolding tableOf
-  child-peak i j = rw (code-part, argument-part) (go (is fork (kind (tableOf s) (firstOf s t + i))) refl)
-    where
-      go : (b : Bool) → is fork (kind (tableOf s) (firstOf s t + i)) ≡ b
-          → pick b (getD peaks (tableOf s .argument (firstOf s t + i)) 0) 0 ≡ pick b (peakAt (tableOf s) (tableOf s .argument (firstOf s t + i))) 0
-      go true e = forked-peak i j (is-true fork _ e)
-      go false e = refl
+  child-peak i j = rw (code-part, argument-part) (pick-same fork _ _ _ (forked-peak i j))
 
   child-small : (i : ℕ) → i < tableOf s .count t → kindOf (codeAt (bodyOf s t) i) ≡ fork → getD peaks (argumentAt (bodyOf s t) i) 0 ≤ 16777215 * m
   unfolding tableOf allocOf

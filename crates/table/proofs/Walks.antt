@@ -19,11 +19,11 @@ use Rattle.table.specs.Steps.{ownAmount, childAmount, amountAt, leastNex
 use Rattle.table.specs.declared.Refusal.{Refusal}
 use Rattle.table.specs.declared.Found.{Found}
 use Rattle.table.specs.declared.Found.the-variants.{Nothing, At}
-use Rattle.table.proofs.Tests.{is-true}
+use Rattle.table.proofs.Tests.{pick-same}
 use Rattle.table.proofs.Sums.{sumTo-cong, sumTo-part}
 use Rattle.table.proofs.Sizes.{Sizes, sizes}
 use Rattle.table.proofs.Passes.{tryFrom-split}
-use Rattle.table.proofs.Bodies.{body-within, owner-at, join-above, join-below}
+use Rattle.table.proofs.Bodies.{body-within, owner-at, NamesChild, child-between}
 use Rattle.table.proofs.Amounts.{action-within}
 use Rattle.table.proofs.Parts.{code-part, argument-part}
 
@@ -85,18 +85,9 @@ abbrev pub ChildrenAbove : Table → Kind → ℕ → Type 0
 ChildrenAbove T at t =
     (i : ℕ) → i < T .count t → kind T (T .first t + i) ≡ at → (t < T .argument (T .first t + i)) × (T .argument (T .first t + i) < T .threads)
 
-pub joins-above : (T : Table) → ContentRules T → BodyRules T → (t : ℕ) → t < T .threads → ChildrenAbove T join t
-joins-above T c b t h i k e =
-    let w : T .first t + i < T .actions = action-within T c b t i h k in
-    (rw (owner-at T c t i h k) at (join-above T c b (T .first t + i) w e), join-below T c b (T .first t + i) w e)
-
--- a choice of two amounts that are equal where the test holds
-pick-same : (j k : Kind) (x y : ℕ) → (k ≡ j → x ≡ y) → pick (is j k) x 0 ≡ pick (is j k) y 0
-pick-same j k x y h = go (is j k) refl
-  where
-    go : (t : Bool) → is j k ≡ t → pick t x 0 ≡ pick t y 0
-    go true e = h (is-true j k e)
-    go false e = refl
+pub children-above : (T : Table) → ContentRules T → BodyRules T → (at : Kind) → NamesChild at → (t : ℕ) → t < T .threads → ChildrenAbove T at t
+children-above T c b at names t h i k e =
+    rw (owner-at T c t i h k) at (child-between T c b at names (T .first t + i) (action-within T c b t i h k) e)
 
 pub own-small : (j k : Kind) (x : ℕ) → x < 16777216 → ownAmount j k x ≤ 16777215
 own-small j k x h = go (is j k)

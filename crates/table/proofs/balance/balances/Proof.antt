@@ -19,12 +19,13 @@ use Rattle.table.specs.Steps.{Nested, Filled, WalkReady, ownAmount, amou
 use Rattle.table.specs.declared.balance.Balance.{Balance}
 use Rattle.table.specs.declared.Found.{Found}
 use Rattle.table.specs.declared.Found.the-variants.{Nothing, At}
+use Rattle.table.proofs.Tests.{negative-is}
 use Rattle.table.proofs.Sizes.{Sizes, sizes}
 use Rattle.table.proofs.Trying.{tryFrom-last, tryFrom-all}
 use Rattle.table.proofs.Passes.{tryFrom-split}
-use Rattle.table.proofs.Bodies.{first-is, counts-all, body-within, owner-at}
+use Rattle.table.proofs.Bodies.{names-join, first-is, counts-all, body-within, owner-at}
 use Rattle.table.proofs.Amounts.{whole-is, partOf-bound}
-use Rattle.table.proofs.Walks.{argument-small, joins-above, own-small, sums-agree, walk-ready, filled-set, least-cong, least-found}
+use Rattle.table.proofs.Walks.{argument-small, children-above, own-small, sums-agree, walk-ready, filled-set, least-cong, least-found}
 use Rattle.table.proofs.Parts.{body-there}
 use Rattle.table.proofs.balance.balances.Statement.{statement}
 use Rattle.table.proofs.balance.balances.Tie as tie
@@ -61,13 +62,6 @@ record Turn (s : List ℕ) (n m : ℕ) (rises falls : List ℕ) (lowest t u firs
   count-at : count ≡ countOf s u
   body-is : body ≡ bodyOf s u
 
-negative-is : (x y : ℕ) → negative (subℕ x y) ≡ ltb x y
-negative-is x y = go (ltb x y)
-  where
-    go : (t : Bool) → negative (cond t (negsuc (y - suc x)) (pos (x - y))) ≡ t
-    go true = refl
-    go false = refl
-
 module _ {s : List ℕ} {n m : ℕ} {rises falls : List ℕ} {lowest t u first count : ℕ} {body : List ℕ} (w : Turn s n m rises falls lowest t u first count body) where
   nested : Nested s n m
   nested = w .inv .nested
@@ -90,7 +84,7 @@ module _ {s : List ℕ} {n m : ℕ} {rises falls : List ℕ} {lowest t u first c
   module _ (own : Kind) (mine : ℕ → ℕ) (mine-is : (a : ℕ) → mine a ≡ ownAmount own (kind (tableOf s) a) (tableOf s .argument a))
       (amounts : List ℕ) (filled : Filled (tableOf s) (whole (tableOf s) mine) amounts t) where
     part-is : (k : ℕ) → k ≤ tableOf s .count u → sumTo (amountAt own join (bodyOf s u) amounts) k ≡ partOf (tableOf s) mine u k
-    part-is = sums-agree s own join mine mine-is amounts u (joins-above (tableOf s) content bodies u below-n) (rw (w .next) filled)
+    part-is = sums-agree s own join mine mine-is amounts u (children-above (tableOf s) content bodies join names-join u below-n) (rw (w .next) filled)
 
     part-small : sumTo (amountAt own join (bodyOf s u) amounts) (tableOf s .count u) ≤ 16777215 * m
     unfolding tableOf
@@ -128,7 +122,7 @@ module _ {s : List ℕ} {n m : ℕ} {rises falls : List ℕ} {lowest t u first c
   ready =
       rw (w .body-is, w .count-at)
       (walk-ready s n m (nested .formed) join u (countOf s u) rises falls (omega (arith, w .next, w .inv .within)) refl
-      (joins-above (tableOf s) content bodies u below-n)
+      (children-above (tableOf s) content bodies join names-join u below-n)
       (part-small alloc (allocOf (tableOf s)) (λ a. refl) rises (w .inv .rises-done))
       (part-small free (freeOf (tableOf s)) (λ a. refl) falls (w .inv .falls-done)))
 

@@ -20,6 +20,7 @@ use Rattle.table.proofs.Tests.{no-way}
 use Rattle.table.proofs.Sizes.{Sizes, sizes}
 use Rattle.table.proofs.Trying.{tryFrom-next, tryFrom-here, tryFrom-last, tryFrom-all}
 use Rattle.table.proofs.Bodies.{first-is, count-pos, owner-is}
+use Rattle.table.proofs.Parts.{bodies-length}
 use Rattle.table.proofs.forms.first_pass.Statement.{statement}
 use Rattle.table.proofs.forms.first_pass.Tie as tie
 
@@ -66,7 +67,7 @@ start s actions n m stop l p e =
       sizes = z;
       laid = l;
       part = p;
-      size = rw p (simp length-drop (omega (arith, z .total, l .headed .threads)));
+      size = rw p (bodies-length (l .headed));
       within = omega arith;
       reached = λ h. record {
         within = omega (arith, l .headed .actions);

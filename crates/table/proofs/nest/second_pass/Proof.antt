@@ -18,6 +18,7 @@ use Rattle.table.proofs.Tests.{no-way}
 use Rattle.table.proofs.Trying.{tryFrom-next, tryFrom-here, tryFrom-last, tryFrom-all}
 use Rattle.table.proofs.Sizes.{Sizes, sizes}
 use Rattle.table.proofs.Bodies.{fork-below}
+use Rattle.table.proofs.Parts.{bodies-length}
 use Rattle.table.proofs.Stack.{Stacked, stacked-first, stacked-room, stacked-stops, stacked-passes, stacked-next}
 use Rattle.table.proofs.nest.second_pass.Statement.{statement}
 use Rattle.table.proofs.nest.second_pass.Tie as tie
@@ -38,12 +39,11 @@ start : (s actions : List ℕ) (n m : ℕ) (forked : List Bool) → Formed s n m
 unfolding tableOf tryPass
 start s actions n m forked h p e =
     let l : length {A = ℕ} (replicate 1024 0) ≡ 1024 = length-replicate {A = ℕ} 1024 0 in
-    let z : Sizes s n m = sizes (h .laid .headed) in
     record {
-      sizes = z;
+      sizes = sizes (h .laid .headed);
       formed = h;
       part = p;
-      size = rw p (simp length-drop (omega (arith, z .total, h .laid .headed .threads)));
+      size = rw p (bodies-length (h .laid .headed));
       within = omega arith;
       stacked = l;
       low = omega arith;

@@ -12,7 +12,8 @@ use Rattle.table.specs.Serial.{S1}
 use Rattle.table.specs.Steps.{Headed, Kept, Filled, WalkReady, PeaksReady, topOf}
 use Rattle.table.proofs.Sizes.{Sizes, sizes}
 use Rattle.table.proofs.Walks.{filled-set}
-use Rattle.table.proofs.Tops.{peakAt, walk-ready, peaks-ready, peak-found}
+use Rattle.table.proofs.Peaks.{peakAt}
+use Rattle.table.proofs.Tops.{walk-ready, peaks-ready, peak-found}
 use Rattle.table.proofs.Parts.{body-there}
 use Rattle.table.proofs.peak.serial_peak.Statement.{statement}
 use Rattle.table.proofs.peak.serial_peak.Tie as tie
