@@ -1,54 +1,37 @@
 -- `table::nest::nesting` meets its contract: where the second pass finds nothing, the marks that it leaves are the threads forked, so that the threads without one are
 -- those of check 11.
-use mathlib.Core.Path.{_≡_, refl, sym, _∙_}
+use mathlib.Core.Path.{_≡_, sym, _∙_}
 use Prim.Native.Nat.{ℕ, pred}
 use mathlib.Core.List.{List, [], _∷_}
 use mathlib.Core.Bool.{Bool, false}
 use native.Mathlib.Omega.{arith}
 use borrow.Author.Needs.{needs}
-use denote.Enum.Declared.{tagOf}
 use denote.Ref.{now}
 use lib.ListN.{getD}
-use types.Run.{OneOf}
 use Rattle.table.specs.Format.{tableOf}
 use Rattle.table.specs.Pass.{tryFrom, tryPass, orElse}
 use Rattle.table.specs.Rules.{forkedBelow, neverForked, secondPass, forkedPass}
 use Rattle.table.specs.Steps.{Formed, unmarked}
-use Rattle.table.specs.declared.Found.{Found}
+use Rattle.table.specs.declared.Refusal.{Refusal}
 use Rattle.table.specs.declared.Found.the-variants.{Nothing, At}
-use Rattle.table.proofs.Found.{the-type}
-use Rattle.table.proofs.Tests.{no-way}
 use Rattle.table.proofs.Sizes.{sizes}
 use Rattle.table.proofs.nest.nesting.Statement.{statement}
 use Rattle.table.proofs.nest.nesting.Tie as tie
-
--- ---- the two variants by their tags
-
-at-first : (f g : Found) → OneOf (1 ∷ []) (tagOf the-type f) → f ≡ orElse f g
-at-first Nothing g k = no-way k
-at-first (At r) g k = refl
-
-tag-nothing : (f : Found) → OneOf (0 ∷ []) (tagOf the-type f) → f ≡ Nothing
-tag-nothing Nothing k = refl
-tag-nothing (At r) k = no-way (sym k)
-
--- ---- the two passes
 
 forked-found : (s : List ℕ) (n m : ℕ) → Formed s n m → (forked : List Bool) → ((t : ℕ) → getD forked t false ≡ forkedBelow (tableOf s) m t)
     → tryFrom (unmarked forked ∷ []) 1 (pred n) ≡ tryPass (forkedPass (tableOf s))
 unfolding tableOf tryPass neverForked
 forked-found s n m h forked w = simp (w, h .laid .headed .threads, h .laid .headed .actions)
 
-module _ (s : List ℕ) (f : Found) (e : f ≡ tryPass (secondPass (tableOf s))) where
-  refused : OneOf (1 ∷ []) (tagOf the-type f) → f ≡ orElse (tryPass (secondPass (tableOf s))) (tryPass (forkedPass (tableOf s)))
-  refused k = rw (← e) (at-first f _ k)
+module _ (s : List ℕ) where
+  refused : (r : Refusal) → tryPass (secondPass (tableOf s)) ≡ At r
+      → tryPass (secondPass (tableOf s)) ≡ orElse (tryPass (secondPass (tableOf s))) (tryPass (forkedPass (tableOf s)))
+  refused r e = rw e
 
-  passed : (n m : ℕ) → Formed s n m → (forked : List Bool) → OneOf (0 ∷ []) (tagOf the-type f)
-      → (f ≡ Nothing → (t : ℕ) → getD forked t false ≡ forkedBelow (tableOf s) m t)
+  passed : (n m : ℕ) → Formed s n m → (forked : List Bool) → tryPass (secondPass (tableOf s)) ≡ Nothing
+      → ((t : ℕ) → getD forked t false ≡ forkedBelow (tableOf s) m t)
       → tryFrom (unmarked forked ∷ []) 1 (pred n) ≡ orElse (tryPass (secondPass (tableOf s))) (tryPass (forkedPass (tableOf s)))
-  passed n m h forked k w =
-      let z : f ≡ Nothing = tag-nothing f k in
-      rw (← e, z) (forked-found s n m h forked (w z))
+  passed n m h forked e w = rw e (forked-found s n m h forked w)
 
 second-pass-requires : tie.Need-second-pass-requires
 second-pass-requires c κs = search needs
@@ -59,7 +42,8 @@ enum-told c = search needs
 returns : tie.Need-returns
 returns c =
     let d = c .before .before in
-    refused (now (d .before .before .before .args .table)) _ (d .second-pass .ensures .0) (c .before .match .keys1)
+    d .second-pass .ensures .0
+    ∙ refused (now (d .before .before .before .args .table)) _ (sym (d .second-pass .ensures .0) ∙ c .enum-told .given .1)
 
 enum-told-2 : tie.Need-enum-told-2
 enum-told-2 c = search needs
@@ -70,9 +54,10 @@ never-forked-requires c κs = omega (arith, sizes (c .before .before .before .be
 returns-2 : tie.Need-returns-2
 returns-2 c =
     let d = c .before .before .before .before in
+    let e = c .before .before .enum-told2 .given .1 in
     c .never-forked .ensures
-    ∙ passed (now (d .before .before .before .args .table)) _ (d .second-pass .ensures .0) _ _ (d .before .before .before .pre)
-    (d .second-pass .last .1 .1 .1 .0) (c .before .before .before .match .keys2) (d .second-pass .ensures .1)
+    ∙ passed (now (d .before .before .before .args .table)) _ _ (d .before .before .before .pre)
+    (d .second-pass .last .1 .1 .1 .0) (sym (d .second-pass .ensures .0) ∙ e) (d .second-pass .ensures .1 e)
 
 pub nesting-spec : {M : Type 1} → statement M
 nesting-spec =
