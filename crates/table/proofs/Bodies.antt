@@ -1,5 +1,5 @@
 -- Where the bodies lie: thread after thread with no gap, so that every action has one owner; and what the first pass says of kinds, arguments and ends.
-use mathlib.Core.Path.{_≡_, refl, sym, ap}
+use mathlib.Core.Path.{_≡_, refl, ap}
 use Prim.Native.Nat.{ℕ, zero, suc, pred, _+_, _≤_, _<_}
 use mathlib.Core.Bool.{false, not, _&&_}
 use native.Mathlib.Decide.{decLt}

@@ -2,16 +2,14 @@
 use mathlib.Core.Path.{_≡_, refl}
 use Prim.Native.Nat.{ℕ, zero, suc, _+_, _-_, _*_, _≤_, _<_, max}
 use mathlib.Core.List.{List, [], _∷_, _++_, map, List·Memᴰ, List·Memᴰ·head, List·Memᴰ·tail}
-use mathlib.Core.Bool.{Bool, true, false, cond}
+use mathlib.Core.Bool.{false}
 use native.Mathlib.Omega.{arith}
 use native.Mathlib.Nat.{add-suc, add-zero}
 use native.Mathlib.Decide.{decLt}
-use lib.Dec.{ltb}
-use lib.IntN.{subℕ, pos, negsuc}
 use borrow.Author.Tests.{ltb-false}
 use Rattle.table.specs.Sum.{pick, sumTo, sumOver, greatest, greatestTo}
 use Rattle.table.specs.Format.{Kind, end, alloc, free, fork, codeOf, is, Table, kind}
-use Rattle.table.specs.Rules.{owner, openBefore, allocOf, freeOf, whole, partOf, balance, negative, balanceBelow0}
+use Rattle.table.specs.Rules.{owner, openBefore, allocOf, freeOf, whole, partOf, balance, balanceBelow0}
 use Rattle.table.specs.Accepted.{ContentRules, BodyRules, NestRules, BalanceRules}
 use Rattle.table.specs.Serial.{serial, heldAfter, fronts, peakOf}
 use Rattle.table.proofs.Tests.{negative-is}

@@ -1,13 +1,11 @@
 -- The place of an action in serial order, counted from 0: its rank. Its equations from action to action, and that it lies below the count of actions.
-use mathlib.Core.Path.{_≡_, refl, ap, sym}
-use Prim.Native.Nat.{ℕ, zero, suc, pred, _+_, _-_, _≤_, _<_}
+use mathlib.Core.Path.{_≡_, refl, sym}
+use Prim.Native.Nat.{ℕ, zero, suc, _+_, _-_, _≤_, _<_}
 use mathlib.Core.List.{List·Memᴰ, List·Memᴰ·head}
 use mathlib.Core.Bool.{Bool, true, false}
-use native.Mathlib.Nat.{suc-pred-eq-of-pos}
 use native.Mathlib.Omega.{arith}
 use lib.ListN.{length, length-append}
-use borrow.Author.Tests.{eqb-true}
-use Rattle.table.specs.Format.{Kind, end, work, alloc, free, fork, join, unknown, kindOf, codeOf, is, Table, kind}
+use Rattle.table.specs.Format.{end, fork, join, is, Table, kind}
 use Rattle.table.specs.Rules.{owner, endOf, openBefore}
 use Rattle.table.specs.Accepted.{ContentRules, BodyRules, NestRules, ForkRules}
 use Rattle.table.specs.Serial.{serial}

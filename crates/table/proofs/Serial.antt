@@ -10,14 +10,14 @@ use lib.ListN.{length, length-append}
 use lib.Dec.{ltb, leb, eqb}
 use borrow.Author.Tests.{ltb-true, ltb-false, leb-true, leb-false, eqb-true, lt-ltb, le-ltb, le-leb, lt-leb, eq-eqb}
 use Rattle.table.specs.Sum.{pick, sumTo}
-use Rattle.table.specs.Format.{Kind, end, work, alloc, free, fork, join, unknown, codeOf, kindOf, is, Table, kind}
+use Rattle.table.specs.Format.{Kind, end, work, alloc, free, fork, join, unknown, codeOf, is, Table, kind}
 use Rattle.table.specs.Rules.{owner, forks}
 use Rattle.table.specs.Accepted.{ContentRules, BodyRules, NestRules, ForkRules}
 use Rattle.table.specs.Serial.{serialWithin, serial}
 use Rattle.table.specs.Level.{forkBelow}
 use Rattle.table.proofs.Sums.{sumTo-cong, sumTo-one, sumTo-zero}
 use Rattle.table.proofs.Tests.{and-both, is-true, Turn, ends, branches, goes, turn}
-use Rattle.table.proofs.Bodies.{first-is, first-within, count-pos, body-within, owner-at, owner-below, owner-first, owner-end}
+use Rattle.table.proofs.Bodies.{first-is, first-within, count-pos, owner-at, owner-below, owner-first, owner-end}
 use Rattle.table.proofs.Bodies.{fork-below, fork-later, next-within, next-owner, end-last}
 use Rattle.table.proofs.Nesting.{fork-found, fork-exists}
 

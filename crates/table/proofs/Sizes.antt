@@ -1,6 +1,6 @@
 -- What the head's three checks say in numbers.
-use mathlib.Core.Path.{_≡_, sym, ap, _∙_}
-use Prim.Native.Nat.{ℕ, _+_, _*_, _≤_, _<_}
+use mathlib.Core.Path.{_≡_}
+use Prim.Native.Nat.{ℕ, _+_, _*_, _≤_}
 use mathlib.Core.List.{List}
 use mathlib.Core.Bool.{false}
 use native.Mathlib.Omega.{arith}
@@ -9,7 +9,6 @@ use lib.Dec.{ltb, eqb}
 use lib.ListN.{length}
 use Rattle.table.specs.Format.{threadsOf, actionsOf}
 use Rattle.table.specs.Rules.{outside}
-use Rattle.table.specs.Accepted.{HeadRules}
 use Rattle.table.specs.Steps.{Headed}
 use Rattle.table.proofs.Tests.{or-neither}
 

@@ -2,19 +2,17 @@
 use mathlib.Core.Path.{_≡_, refl, sym, _∙_}
 use Prim.Native.Nat.{ℕ, zero, suc, _+_, _*_, _≤_, _<_}
 use mathlib.Core.List.{List}
-use mathlib.Core.Bool.{Bool, true, false}
 use native.Mathlib.Omega.{arith}
 use lib.ListN.{getD}
 use Rattle.table.specs.Sum.{pick, sumTo, greatestTo}
 use Rattle.table.specs.Format.{Kind, alloc, free, fork, kindOf, is, Table, kind, tableOf, firstOf, bodyOf, codeAt, argumentAt}
 use Rattle.table.specs.Rules.{allocOf, freeOf, whole}
 use Rattle.table.specs.Accepted.{ContentRules, BodyRules}
-use Rattle.table.specs.Serial.{serial, peakOf}
 use Rattle.table.specs.Steps.{Kept, ownAmount, childAmount, amountAt, topOf, Filled, WalkReady, PeaksReady}
 use Rattle.table.proofs.Tests.{pick-same}
 use Rattle.table.proofs.Sizes.{sizes}
 use Rattle.table.proofs.Bodies.{names-fork}
-use Rattle.table.proofs.Amounts.{forkPart, action-within, forkPart-bound}
+use Rattle.table.proofs.Amounts.{forkPart, forkPart-bound}
 use Rattle.table.proofs.Peaks.{peakAt, forkPart-held, peak-thread, peak-bound}
 use Rattle.table.proofs.Parts.{code-part, argument-part}
 use Rattle.table.proofs.Walks as walks

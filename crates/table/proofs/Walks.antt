@@ -1,6 +1,6 @@
 -- What the walks over one body share: codes against kinds, arguments of 24 bits, the amounts of a body against those of its thread, the least place.
 use mathlib.Core.Path.{_≡_, refl, sym, ap, _∙_}
-use Prim.Native.Nat.{ℕ, zero, suc, _+_, _-_, _*_, _^_, _≤_, _<_, min}
+use Prim.Native.Nat.{ℕ, zero, suc, _+_, _*_, _^_, _≤_, _<_, min}
 use mathlib.Core.List.{List, [], _∷_}
 use mathlib.Core.Bool.{Bool, true, false, not, _&&_}
 use native.Mathlib.Decide.{ℕ-discrete}
@@ -8,10 +8,10 @@ use native.Mathlib.Numerals.{add-one}
 use native.Mathlib.Omega.{arith}
 use borrow.Author.Tests.{lt-ltb, le-ltb, eq-eqb, ne-eqb}
 use lib.Dec.{ltb, eqb}
-use lib.ListN.{length, getD, take, drop, set, length-drop, length-set}
-use lib.Seq.{getD-drop, take-all, getD-set-same, getD-set-other}
+use lib.ListN.{getD, set, length-drop, length-set}
+use lib.Seq.{getD-drop, getD-set-same, getD-set-other}
 use Rattle.table.specs.Sum.{pick, sumTo}
-use Rattle.table.specs.Format.{Kind, alloc, free, join, codeOf, kindOf, is, codeAt, argumentAt, threadsOf, actionsOf, firstOf, countOf, bodiesOf, bodyOf, Table, tableOf, kind}
+use Rattle.table.specs.Format.{Kind, alloc, free, codeOf, kindOf, is, codeAt, argumentAt, threadsOf, actionsOf, firstOf, countOf, bodiesOf, bodyOf, Table, tableOf, kind}
 use Rattle.table.specs.Rules.{withChild, whole}
 use Rattle.table.specs.Accepted.{ContentRules, BodyRules}
 use Rattle.table.specs.Pass.{Check, orElse, refusal, tryAt, tryFrom}

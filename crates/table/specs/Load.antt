@@ -7,7 +7,6 @@ use Rattle.table.specs.Rules.{passes}
 use Rattle.table.specs.Serial.{S1}
 use Rattle.table.specs.Level.{D}
 use Rattle.table.specs.declared.Facts.{Facts}
-use Rattle.table.specs.declared.Refusal.{Refusal}
 use Rattle.table.specs.declared.Found.{Found}
 use Rattle.table.specs.declared.Found.the-variants.{Nothing, At}
 use Rattle.table.specs.declared.Loaded.{Loaded}

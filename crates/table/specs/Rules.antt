@@ -7,7 +7,7 @@ use lib.Dec.{ltb, leb, eqb}
 use lib.IntN.{ℤ, pos, negsuc, subℕ}
 use Rattle.table.specs.Sum.{pick, sumTo, anyBelow}
 use Rattle.table.specs.Format.{Kind, is, end, work, alloc, free, fork, join, unknown, Table, kind, threadsOf, actionsOf, tableOf}
-use Rattle.table.specs.Pass.{Check, Pass}
+use Rattle.table.specs.Pass.{Pass}
 
 -- ---- the head
 

@@ -1,7 +1,7 @@
 -- What the code's inner functions promise: small results with their bounds, one step of a pass, and the sums of a walk over one body.
 use mathlib.Core.Path.{_≡_}
 use Prim.Native.Nat.{ℕ, zero, suc, _+_, _-_, _*_, _^_, _≤_, _<_, max}
-use mathlib.Core.List.{List, [], _∷_}
+use mathlib.Core.List.{List, _∷_}
 use mathlib.Core.Bool.{Bool, true, false, not, _&&_}
 use lib.ListN.{length, getD, set, drop}
 use lib.Dec.{ltb, eqb}

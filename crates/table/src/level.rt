@@ -4,9 +4,9 @@ use crate::read::body_of;
 use crate::read::code;
 use crate::read::word;
 ghost use mathlib.Core.Path.{_≡_};
-ghost use Prim.Native.Nat.{_+_, _*_, _<_, _≤_};
-ghost use lib.ListN.{length, getD};
-ghost use Rattle.table.specs.Format.{kindOf, tableOf, threadsOf, firstOf, countOf, bodyOf};
+ghost use Prim.Native.Nat.{_<_, _≤_};
+ghost use lib.ListN.{getD};
+ghost use Rattle.table.specs.Format.{kindOf, tableOf, countOf, bodyOf};
 ghost use Rattle.table.specs.Level.{D};
 ghost use Rattle.table.specs.Steps.{Kept, Starts, EndLevels, Walked, nextLevel};
 

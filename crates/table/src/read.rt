@@ -2,7 +2,7 @@
 use crate::Found;
 use crate::Refusal;
 ghost use mathlib.Core.Path.{_≡_};
-ghost use Prim.Native.Nat.{ℕ, _+_, _*_, _≤_, _<_};
+ghost use Prim.Native.Nat.{_+_, _*_, _≤_, _<_};
 ghost use lib.ListN.{length, getD};
 ghost use Rattle.table.specs.Format.{u16At, threadsOf, firstOf, bodiesOf, bodyOf, codeAt, argumentAt};
 ghost use Rattle.table.specs.Pass.{refusal};

@@ -1,20 +1,19 @@
 -- `table::load` meets its contract: the head, the passes between and the balances, each the next where the one before found nothing.
-use mathlib.Core.Path.{_≡_, refl, sym, ap, _∙_}
-use Prim.Native.Nat.{ℕ, _<_}
+use mathlib.Core.Path.{_≡_, refl, sym, _∙_}
+use Prim.Native.Nat.{ℕ}
 use mathlib.Core.List.{List}
 use native.Mathlib.Omega.{arith}
 use borrow.Author.Needs.{needs}
 use denote.Ref.{now}
 use Rattle.table.specs.Format.{tableOf, threadsOf, actionsOf}
-use Rattle.table.specs.Pass.{tryPass, firstFound, orElse}
+use Rattle.table.specs.Pass.{tryPass, firstFound}
 use Rattle.table.specs.Rules.{headPass, balancePass, passes, shapePasses}
 use Rattle.table.specs.Load.{answer, factsOf, loaded}
 use Rattle.table.specs.Steps.{Headed, Nested}
 use Rattle.table.specs.declared.Refusal.{Refusal}
-use Rattle.table.specs.declared.Found.{Found}
 use Rattle.table.specs.declared.Found.the-variants.{Nothing, At}
 use Rattle.table.specs.declared.Loaded.the-variants.{Refused}
-use Rattle.table.proofs.Sizes.{Sizes, sizes}
+use Rattle.table.proofs.Sizes.{sizes}
 use Rattle.table.proofs.Passes.{firstFound-nothing, firstFound-append, orElse-last, head-rules, content-rules, body-rules, nest-rules, fork-rules}
 use Rattle.table.proofs.load.Statement.{statement}
 use Rattle.table.proofs.load.Tie as tie

@@ -1,20 +1,18 @@
 -- `table::weigh` meets its contract: where no balance falls below 0 every rule is kept, and the facts are the definitions'.
-use mathlib.Core.Path.{_≡_, refl, sym, ap, _∙_}
+use mathlib.Core.Path.{_≡_, sym, _∙_}
 use Prim.Native.Nat.{ℕ, _≤_, _<_}
 use mathlib.Core.List.{List}
 use native.Mathlib.Omega.{arith}
 use borrow.Author.Needs.{needs}
 use denote.Ref.{now}
-use Rattle.table.specs.Format.{Table, tableOf}
+use Rattle.table.specs.Format.{tableOf}
 use Rattle.table.specs.Pass.{tryPass}
 use Rattle.table.specs.Rules.{balancePass}
 use Rattle.table.specs.Serial.{S1}
 use Rattle.table.specs.Level.{D}
 use Rattle.table.specs.Load.{answer, factsOf}
 use Rattle.table.specs.Steps.{Nested, Kept}
-use Rattle.table.specs.declared.Facts.{Facts}
 use Rattle.table.specs.declared.Refusal.{Refusal}
-use Rattle.table.specs.declared.Found.{Found}
 use Rattle.table.specs.declared.Found.the-variants.{Nothing, At}
 use Rattle.table.specs.declared.Loaded.the-variants.{Accepted, Refused}
 use Rattle.table.proofs.Sizes.{Sizes, sizes}

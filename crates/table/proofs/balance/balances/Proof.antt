@@ -2,18 +2,16 @@
 use mathlib.Core.Path.{_≡_, refl, sym, ap, _∙_}
 use Prim.Native.Nat.{ℕ, suc, _+_, _-_, _*_, _<_, _≤_}
 use mathlib.Core.List.{List}
-use mathlib.Core.Bool.{Bool, true, false, cond}
 use native.Mathlib.Omega.{arith}
 use borrow.Author.Needs.{needs}
 use borrow.Author.Tests.{lt-ltb, le-ltb}
 use denote.Ref.{now}
 use lib.Dec.{ltb}
-use lib.IntN.{subℕ, pos, negsuc}
 use lib.ListN.{length, getD, set}
 use Rattle.table.specs.Sum.{pick, sumTo}
 use Rattle.table.specs.Format.{Kind, alloc, free, join, kind, bodyOf, tableOf, firstOf, countOf}
 use Rattle.table.specs.Pass.{tryFrom, tryPass, orElse, refusal}
-use Rattle.table.specs.Rules.{countsBelow, allocOf, freeOf, whole, partOf, balance, negative, balanceBelow0, balancePass}
+use Rattle.table.specs.Rules.{countsBelow, allocOf, freeOf, whole, partOf, balance, balanceBelow0, balancePass}
 use Rattle.table.specs.Accepted.{ContentRules, BodyRules}
 use Rattle.table.specs.Steps.{Nested, Filled, WalkReady, ownAmount, amountAt, overdrawn, balanceOf}
 use Rattle.table.specs.declared.balance.Balance.{Balance}

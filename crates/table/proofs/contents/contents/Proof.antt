@@ -1,6 +1,6 @@
 -- `table::contents::contents` meets its contract. The invariant: `sum` is the sum of the earlier counts, and what is found from entry t on is what is found in all.
-use mathlib.Core.Path.{_≡_, refl, sym, ap, _∙_}
-use Prim.Native.Nat.{ℕ, zero, suc, _+_, _-_, _*_, _<_, _≤_}
+use mathlib.Core.Path.{_≡_, refl, sym, _∙_}
+use Prim.Native.Nat.{ℕ, _+_, _-_, _*_, _<_, _≤_}
 use mathlib.Core.List.{List}
 use mathlib.Core.Bool.{true, false, not, _||_}
 use native.Mathlib.Numerals.{add-one}
@@ -9,13 +9,11 @@ use borrow.Author.Needs.{needs}
 use borrow.Author.Tests.{eq-eqb, ne-eqb}
 use denote.Ref.{now}
 use lib.Dec.{eqb}
-use lib.ListN.{length}
 use Rattle.table.specs.Sum.{sumTo}
-use Rattle.table.specs.Format.{Table, tableOf, threadsOf, actionsOf, firstOf, countOf}
+use Rattle.table.specs.Format.{tableOf, threadsOf, actionsOf, firstOf, countOf}
 use Rattle.table.specs.Pass.{tryAt, tryFrom, tryPass, orElse, refusal}
 use Rattle.table.specs.Rules.{countsBelow, entryWrong, totalWrong, entriesPass, totalPass}
 use Rattle.table.specs.Steps.{Headed}
-use Rattle.table.specs.declared.Found.{Found}
 use Rattle.table.specs.declared.Found.the-variants.{Nothing, At}
 use Rattle.table.proofs.Sizes.{Sizes, sizes}
 use Rattle.table.proofs.Trying.{tryFrom-next, tryFrom-here, tryFrom-last, tryFrom-all}

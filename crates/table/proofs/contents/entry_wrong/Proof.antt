@@ -1,5 +1,4 @@
 -- `table::contents::entry_wrong` meets its contract: `||` is the definition's.
-use mathlib.Core.Path.{_≡_, refl}
 use borrow.Author.Tests.{eq-eqb, ne-eqb}
 use Rattle.table.proofs.contents.entry_wrong.Statement.{statement}
 use Rattle.table.proofs.contents.entry_wrong.Tie as tie

@@ -8,18 +8,16 @@ use borrow.Author.Needs.{needs}
 use borrow.Author.Tests.{eqb-true, eqb-false, eq-eqb, ne-eqb}
 use denote.Ref.{now}
 use lib.Dec.{eqb}
-use lib.ListN.{length, length-drop}
+use lib.ListN.{length}
 use Rattle.table.specs.Sum.{pick, sumTo}
 use Rattle.table.specs.Format.{Kind, end, unknown, is, kind, kindOf, tableOf, threadsOf, countOf, bodiesOf, codeAt, argumentAt}
 use Rattle.table.specs.Pass.{tryAt, tryFrom, tryPass, refusal}
 use Rattle.table.specs.Rules.{firstPass, kindUnknown, argumentWrong, endMisplaced, argumentFits, differ, endOf, owner}
-use Rattle.table.specs.Steps.{Headed, Laid, Reached, Holding, formAt, foundAt}
-use Rattle.table.specs.declared.Found.{Found}
+use Rattle.table.specs.Steps.{Laid, Reached, Holding, formAt, foundAt}
 use Rattle.table.specs.declared.Found.the-variants.{Nothing, At}
-use Rattle.table.proofs.Tests.{no-way}
 use Rattle.table.proofs.Sizes.{Sizes, sizes}
 use Rattle.table.proofs.Trying.{tryFrom-next, tryFrom-here, tryFrom-last, tryFrom-all}
-use Rattle.table.proofs.Bodies.{first-is, count-pos, owner-is}
+use Rattle.table.proofs.Bodies.{first-is, owner-is}
 use Rattle.table.proofs.Parts.{bodies-length}
 use Rattle.table.proofs.forms.first_pass.Statement.{statement}
 use Rattle.table.proofs.forms.first_pass.Tie as tie

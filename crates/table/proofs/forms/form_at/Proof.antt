@@ -1,7 +1,7 @@
 -- `table::forms::form_at` meets its contract: each arm's number is the definition's at that kind.
 use mathlib.Core.Path.{_≡_, refl, sym, _∙_}
 use Prim.Native.Nat.{ℕ, zero, suc, _≤_, _<_}
-use mathlib.Core.Bool.{Bool, true, false, not, _&&_}
+use mathlib.Core.Bool.{Bool, not, _&&_}
 use native.Mathlib.Omega.{arith}
 use borrow.Author.Needs.{needs}
 use borrow.Author.Tests.{eq-eqb, ne-eqb}
@@ -9,7 +9,6 @@ use lib.Dec.{ltb, leb, eqb}
 use Rattle.table.specs.Sum.{pick}
 use Rattle.table.specs.Format.{kindOf, codeOf, is}
 use Rattle.table.specs.Steps.{formAt}
-use Rattle.table.proofs.Tests.{no-way}
 use Rattle.table.proofs.forms.form_at.Statement.{statement}
 use Rattle.table.proofs.forms.form_at.Tie as tie
 

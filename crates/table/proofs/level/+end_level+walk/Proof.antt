@@ -10,11 +10,11 @@ use borrow.Fn.Kinds.{In}
 use borrow.Fn.PlainCycle.{Measures, is as equals, falls, and}
 use denote.Ref.{now}
 use lib.ListN.{length, getD, set, length-drop}
-use Rattle.table.specs.Format.{fork, join, kindOf, is, kind, codeAt, argumentAt, firstOf, countOf, bodyOf, tableOf}
+use Rattle.table.specs.Format.{fork, join, kindOf, is, kind, codeAt, argumentAt, countOf, bodyOf, tableOf}
 use Rattle.table.specs.Level.{level}
 use Rattle.table.specs.Steps.{Nested, Starts, EndLevels, Walked, nextLevel}
 use Rattle.table.proofs.Sizes.{Sizes, sizes}
-use Rattle.table.proofs.Bodies.{first-within, body-within, fork-below, join-below}
+use Rattle.table.proofs.Bodies.{first-within, fork-below, join-below}
 use Rattle.table.proofs.Rank.{rest}
 use Rattle.table.proofs.Amounts.{action-within}
 use Rattle.table.proofs.Levels.{level-bound, level-child}

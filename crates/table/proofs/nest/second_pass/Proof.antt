@@ -6,8 +6,7 @@ use mathlib.Core.List.{List}
 use mathlib.Core.Bool.{Bool, false}
 use native.Mathlib.Omega.{arith}
 use denote.Ref.{now}
-use lib.ListN.{length, getD, replicate, take, drop, length-drop, length-replicate, drop-of-length-le}
-use lib.Seq.{take-all}
+use lib.ListN.{length, getD, replicate, drop, length-drop, length-replicate, drop-of-length-le}
 use Rattle.table.specs.Format.{fork, kindOf, tableOf, kind, codeAt, argumentAt, actionsOf, bodiesOf}
 use Rattle.table.specs.Pass.{tryFrom, tryPass, refusal}
 use Rattle.table.specs.Rules.{secondPass, forkedBelow}
