@@ -22,7 +22,7 @@ use Rattle.table.specs.declared.Found.the-variants.{Nothing, At}
 use Rattle.table.proofs.Tests.{pick-same}
 use Rattle.table.proofs.Sums.{sumTo-cong, sumTo-part}
 use Rattle.table.proofs.Sizes.{Sizes, sizes}
-use Rattle.table.proofs.Passes.{tryFrom-split}
+use Rattle.table.proofs.Trying.{tryFrom-split}
 use Rattle.table.proofs.Bodies.{body-within, owner-at, NamesChild, child-between}
 use Rattle.table.proofs.Amounts.{action-within}
 use Rattle.table.proofs.Parts.{code-part, argument-part}

@@ -14,7 +14,8 @@ use Rattle.table.specs.declared.Refusal.{Refusal}
 use Rattle.table.specs.declared.Found.the-variants.{Nothing, At}
 use Rattle.table.specs.declared.Loaded.the-variants.{Refused}
 use Rattle.table.proofs.Sizes.{sizes}
-use Rattle.table.proofs.Passes.{firstFound-nothing, firstFound-append, orElse-last, head-rules, content-rules, body-rules, nest-rules, fork-rules}
+use Rattle.table.proofs.Trying.{orElse-last}
+use Rattle.table.proofs.Passes.{firstFound-nothing, firstFound-append, head-rules, content-rules, body-rules, nest-rules, fork-rules}
 use Rattle.table.proofs.load.Statement.{statement}
 use Rattle.table.proofs.load.Tie as tie
 

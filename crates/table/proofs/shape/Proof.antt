@@ -11,7 +11,8 @@ use Rattle.table.specs.Steps.{Headed, Laid, Formed}
 use Rattle.table.specs.declared.Refusal.{Refusal}
 use Rattle.table.specs.declared.Found.{Found}
 use Rattle.table.specs.declared.Found.the-variants.{Nothing, At}
-use Rattle.table.proofs.Passes.{orElse-nothing, orElse-assoc, orElse-last, content-rules, body-rules}
+use Rattle.table.proofs.Trying.{orElse-nothing, orElse-assoc, orElse-last}
+use Rattle.table.proofs.Passes.{content-rules, body-rules}
 use Rattle.table.proofs.shape.Statement.{statement}
 use Rattle.table.proofs.shape.Tie as tie
 

@@ -19,8 +19,7 @@ use Rattle.table.specs.declared.Found.{Found}
 use Rattle.table.specs.declared.Found.the-variants.{Nothing, At}
 use Rattle.table.proofs.Tests.{negative-is}
 use Rattle.table.proofs.Sizes.{Sizes, sizes}
-use Rattle.table.proofs.Trying.{tryFrom-last, tryFrom-all}
-use Rattle.table.proofs.Passes.{tryFrom-split}
+use Rattle.table.proofs.Trying.{tryFrom-split, tryFrom-last, tryFrom-all}
 use Rattle.table.proofs.Bodies.{names-join, first-is, counts-all, body-within, owner-at}
 use Rattle.table.proofs.Amounts.{whole-is, partOf-bound}
 use Rattle.table.proofs.Walks.{argument-small, children-above, own-small, sums-agree, walk-ready, filled-set, least-cong, least-found}

@@ -58,22 +58,22 @@ module _ (s : List ℕ) (n m sum t first count : ℕ) (i : Inv s n m sum t) (h :
   stops w = rw (← (i .remains), tryFrom-here (entriesPass (tableOf s) .checks) t n h (refusal 4 t) (simp (← e, ← d, ← (i .counted), w)))
 
 module _ (s : List ℕ) (n m sum t : ℕ) (i : Inv s n m sum t) (h : n ≤ t) where
-  end : t ≡ n
-  end = omega arith
+  at-end : t ≡ n
+  at-end = omega arith
 
   none : tryPass (entriesPass (tableOf s)) ≡ Nothing
-  none = sym (i .remains) ∙ tryFrom-last _ t n end
+  none = sym (i .remains) ∙ tryFrom-last _ t n at-end
 
   unequal : (sum ≡ m → ⊥) → At (refusal 4 n) ≡ orElse (tryPass (entriesPass (tableOf s))) (tryPass (totalPass (tableOf s)))
   unfolding tableOf tryPass tryFrom tryAt totalWrong
   unequal w =
-      let k : countsBelow (tableOf s) (threadsOf s) ≡ actionsOf s → ⊥ = λ q. w (cc end) in
+      let k : countsBelow (tableOf s) (threadsOf s) ≡ actionsOf s → ⊥ = λ q. w (cc at-end) in
       rw none (simp (ne-eqb _ _ k, i .headed .threads))
 
   equal : sum ≡ m → Nothing ≡ orElse (tryPass (entriesPass (tableOf s))) (tryPass (totalPass (tableOf s)))
   unfolding tableOf tryPass tryFrom tryAt totalWrong
   equal w =
-      let k : countsBelow (tableOf s) (threadsOf s) ≡ actionsOf s = cc end in
+      let k : countsBelow (tableOf s) (threadsOf s) ≡ actionsOf s = cc at-end in
       rw none (simp (eq-eqb _ _ k))
 
 abbrev Inv-loop : tie.InvT-loop
