@@ -10,20 +10,10 @@ use Rattle.table.specs.Sum.{pick, sumTo}
 use Rattle.table.specs.Format.{Kind, end, fork, join, unknown, is, Table, kind}
 use Rattle.table.specs.Rules.{countsBelow, entryWrong, totalWrong, ownerBelow, owner, endOf, kindUnknown, argumentFits, argumentWrong, endMisplaced}
 use Rattle.table.specs.Accepted.{ContentRules, BodyRules}
+use Rattle.table.proofs.Sums.{sumTo-part}
 use Rattle.table.proofs.Tests.{no-way, or-neither, between, not-differ, is-true, same-is}
 
 -- ---- the contents
-
-sumTo-before : (f : ℕ → ℕ) (t u : ℕ) → t < u → sumTo f t + f t ≤ sumTo f u
-unfolding sumTo
-sumTo-before f t zero h = omega arith
-sumTo-before f t (suc u) h = go (sumTo-before f t u) (decLt t u)
-  where
-    go : (t < u → sumTo f t + f t ≤ sumTo f u) → Dec (t < u) → sumTo f t + f t ≤ sumTo f u + f u
-    go ih (yes l) = omega (arith, ih l)
-    go ih (no l) =
-        let e : t ≡ u = omega arith in
-        rw e (omega arith)
 
 module _ (T : Table) (c : ContentRules T) where
   pub first-is : (t : ℕ) → t < T .threads → T .first t ≡ countsBelow T t
@@ -40,12 +30,14 @@ module _ (T : Table) (c : ContentRules T) where
 
   -- a body ends at or before the start of every later one, and within the actions
   pub body-before : (t u : ℕ) → t < u → u < T .threads → T .first t + T .count t ≤ T .first u
+  unfolding sumTo
   body-before t u h k =
       let l : t < T .threads = omega arith in
-      omega (arith, first-is t l, first-is u k, sumTo-before (T .count) t u h)
+      omega (arith, first-is t l, first-is u k, sumTo-part (T .count) (suc t) u h)
 
   pub body-within : (t : ℕ) → t < T .threads → T .first t + T .count t ≤ T .actions
-  body-within t h = omega (arith, first-is t h, counts-all, sumTo-before (T .count) t (T .threads) h)
+  unfolding sumTo
+  body-within t h = omega (arith, first-is t h, counts-all, sumTo-part (T .count) (suc t) (T .threads) h)
 
   -- a body begins where the one before it ends
   pub first-next : (t : ℕ) → suc t < T .threads → T .first (suc t) ≡ T .first t + T .count t

@@ -22,7 +22,7 @@ use Rattle.table.specs.declared.Found.the-variants.{Nothing, At}
 use Rattle.table.proofs.Tests.{pick-same}
 use Rattle.table.proofs.Sums.{sumTo-cong, sumTo-part}
 use Rattle.table.proofs.Sizes.{Sizes, sizes}
-use Rattle.table.proofs.Trying.{tryFrom-split}
+use Rattle.table.proofs.Trying.{orElse-last, tryFrom-split}
 use Rattle.table.proofs.Bodies.{body-within, owner-at, NamesChild, child-between}
 use Rattle.table.proofs.Amounts.{action-within}
 use Rattle.table.proofs.Parts.{code-part, argument-part}
@@ -169,11 +169,7 @@ unfolding tryFrom tryAt
 place-more c from k =
     ap (tryFrom (c ∷ []) from) (sym (add-one k))
     ∙ tryFrom-split (c ∷ []) from k 1
-    ∙ ap (orElse (tryFrom (c ∷ []) from k)) (go (c .applies (from + k)) (refusal (c .number) (from + k)))
-  where
-    go : (t : Bool) (r : Refusal) → orElse (pick t (At r) Nothing) Nothing ≡ pick t (At r) Nothing
-    go true r = refl
-    go false r = refl
+    ∙ ap (orElse (tryFrom (c ∷ []) from k)) (orElse-last _)
 
 least-more : (number from k least : ℕ) (g : Found) (t : Bool) → least ≤ k → g ≡ pick (ltb least k) (At (refusal number (from + least))) Nothing
     → orElse g (pick t (At (refusal number (from + k))) Nothing)

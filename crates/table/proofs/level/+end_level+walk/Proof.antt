@@ -80,23 +80,31 @@ finish {s} {t = t} {i = i} v h =
 
 -- ---- a turn of a walk
 
-module _ {s : List ℕ} {n m t : ℕ} {body : List ℕ} {count : ℕ} {ends₀ ends : List ℕ} {last i : ℕ} (v : Inv s n m t body count ends₀ ends last i) (j : i < count)
-    {k x : ℕ} (ek : k ≡ codeAt body i) (ex : x ≡ argumentAt body i) where
+record Turn (s : List ℕ) (n m t : ℕ) (body : List ℕ) (count : ℕ) (ends₀ ends : List ℕ) (last i k x : ℕ) : Type 0 where
+  inv : Inv s n m t body count ends₀ ends last i
+  taken : i < count
+  code : k ≡ codeAt body i
+  argument : x ≡ argumentAt body i
+
+module _ {s : List ℕ} {n m t : ℕ} {body : List ℕ} {count : ℕ} {ends₀ ends : List ℕ} {last i k x : ℕ} (c : Turn s n m t body count ends₀ ends last i k x) where
+  v : Inv s n m t body count ends₀ ends last i
+  v = c .inv
+
   thread-in : t < tableOf s .threads
   thread-in = in-threads (v .nested) (v .thread)
 
   count-in : i < tableOf s .count t
   unfolding tableOf
-  count-in = omega (arith, v .count-is)
+  count-in = omega (arith, c .taken, v .count-is)
 
   action-in : tableOf s .first t + i < tableOf s .actions
   action-in = action-within (tableOf s) (v .nested .formed .laid .contents) (v .nested .formed .bodies) t i thread-in count-in
 
   kind-is : kindOf k ≡ kind (tableOf s) (tableOf s .first t + i)
-  kind-is = rw (ek, v .body-is, body-kind s t i)
+  kind-is = rw (c .code, v .body-is, body-kind s t i)
 
   argument-is : x ≡ tableOf s .argument (tableOf s .first t + i)
-  argument-is = rw (ex, v .body-is, body-argument s t i)
+  argument-is = rw (c .argument, v .body-is, body-argument s t i)
 
   join-is : k ≡ 5 → kind (tableOf s) (tableOf s .first t + i) ≡ join
   unfolding kindOf
@@ -148,7 +156,7 @@ module _ {s : List ℕ} {n m t : ℕ} {body : List ℕ} {count : ℕ} {ends₀ e
           thread = v .thread;
           body-is = v .body-is;
           count-is = v .count-is;
-          within = omega arith;
+          within = omega (arith, c .taken);
           room = v .room;
           walking = q;
         }
@@ -218,6 +226,18 @@ walk-Inv-loop table n m t body count start ends₀ last₀ i₀ ends last i = In
 abbrev walk-μ-loop : walk-lts.MeasureT-loop
 walk-μ-loop table n m t body count start ends₀ last₀ i₀ ends last i = count - i
 
+turn : (t : ℕ) (c : walk-lts.After-argument (walk-calls t) (walk-at t) walk.Post walk-Inv-loop walk-μ-loop) →
+    let f = c .before .before .before in
+    let a = f .before .before .before .args in
+    Turn (now (a .table)) (a .n) (a .m) (a .t) (now (a .body)) (a .count) (now (a .ends)) (f .loop .ends) (f .loop .last) (f .loop .i) (c .before .code .result) (c .argument .result)
+turn t c =
+    record {
+      inv = c .before .before .before .loop .inv;
+      taken = c .before .before .loop-test .taken;
+      code = c .before .code .ensures;
+      argument = c .argument .ensures .value;
+    }
+
 walk-sub-last : (t : ℕ) → walk-lts.Need-sub-last (walk-calls t) (walk-at t) walk.Post walk-Inv-loop walk-μ-loop
 walk-sub-last t c = start-pos (c .before .before .pre .1 .0)
 
@@ -233,51 +253,45 @@ walk-argument-requires : (t : ℕ) → walk-lts.Need-argument-requires (walk-cal
 walk-argument-requires t c κs = omega arith
 
 walk-next-level-requires : (t : ℕ) → walk-lts.Need-next-level-requires (walk-calls t) (walk-at t) walk.Post walk-Inv-loop walk-μ-loop
-walk-next-level-requires t c κs =
-    let d = c .before .before in
-    ready (d .before .before .loop .inv) (d .before .loop-test .taken) (d .code .ensures) (c .before .argument .ensures .value)
+walk-next-level-requires t c κs = ready (turn t (c .before))
 
 walk-add-i : (t : ℕ) → walk-lts.Need-add-i (walk-calls t) (walk-at t) walk.Post walk-Inv-loop walk-μ-loop
 walk-add-i t c = omega arith
 
 walk-add-end-level : (t : ℕ) → walk-lts.Need-add-end-level (walk-calls t) (walk-at t) walk.Post walk-Inv-loop walk-μ-loop
-walk-add-end-level t c =
-    let d = c .before .before .before in
-    omega (arith, small (d .before .before .before .loop .inv) (d .before .before .loop-test .taken) (d .before .code .ensures) (d .argument .ensures .value) (c .before .next-level .ensures))
+walk-add-end-level t c = omega (arith, small (turn t (c .before .before .before)) (c .before .next-level .ensures))
 
 walk-end-level-requires : (t : ℕ) → walk-lts.Need-end-level-requires (walk-calls t) (walk-at t) walk.Post walk-Inv-loop walk-μ-loop
 walk-end-level-requires t c κs =
     let d = c .before .before .before .before in
-    let f = d .before .before .before in
-    let q = child (f .loop .inv) (d .before .before .loop-test .taken) (d .before .code .ensures) (d .argument .ensures .value) (c .before .before .next-level .ensures)
-    (c .before .if1 .taken) in
-    (less _ _ _ (f .before .before .before .pre .0) (q .0), (q .1, f .loop .inv .walking .known))
+    let q = child (turn t d) (c .before .before .next-level .ensures) (c .before .if1 .taken) in
+    (less _ _ _ (d .before .before .before .before .before .before .pre .0) (q .0), (q .1, turn t d .inv .walking .known))
+
+-- a child's number is an index
+walk-child : (t : ℕ) (c : walk-lts.After-end-level (walk-calls t) (walk-at t) walk.Post walk-Inv-loop walk-μ-loop)
+    → c .before .before .before .before .before .argument .result < 1024
+walk-child t c =
+    let w = turn t (c .before .before .before .before .before) in
+    omega (arith, w .inv .sizes, child w (c .before .before .before .next-level .ensures) (c .before .before .if1 .taken))
 
 walk-mul-ends : (t : ℕ) → walk-lts.Need-mul-ends (walk-calls t) (walk-at t) walk.Post walk-Inv-loop walk-μ-loop
-walk-mul-ends t c =
-    let d = c .before .before .before .before .before in
-    omega (arith, child (d .before .before .before .loop .inv) (d .before .before .loop-test .taken) (d .before .code .ensures) (d .argument .ensures .value) (c .before .before .before .next-level .ensures) (c .before .before .if1 .taken))
+walk-mul-ends t c = omega (arith, walk-child t c)
 
 walk-element-write-ends : (t : ℕ) → walk-lts.Need-element-write-ends (walk-calls t) (walk-at t) walk.Post walk-Inv-loop walk-μ-loop
-walk-element-write-ends t c =
-    let d = c .before .before .before .before .before in
-    omega (arith, child (d .before .before .before .loop .inv) (d .before .before .loop-test .taken) (d .before .code .ensures) (d .argument .ensures .value) (c .before .before .before .next-level .ensures) (c .before .before .if1 .taken))
+walk-element-write-ends t c = omega (arith, walk-child t c)
 
 walk-loop-less : (t : ℕ) → walk-lts.Need-loop-less (walk-calls t) (walk-at t) walk.Post walk-Inv-loop walk-μ-loop
 walk-loop-less t c = omega arith
 
 walk-loop-again : (t : ℕ) → walk-lts.Need-loop-again (walk-calls t) (walk-at t) walk.Post walk-Inv-loop walk-μ-loop
 walk-loop-again t c =
-    let d = c .before .before .before .before .before in
-    forked (d .before .before .before .loop .inv) (d .before .before .loop-test .taken) (d .before .code .ensures) (d .argument .ensures .value) (c .before .before .before .next-level .ensures) (c .before .before .if1 .taken) (c .end-level .ensures)
+    forked (turn t (c .before .before .before .before .before)) (c .before .before .before .next-level .ensures) (c .before .before .if1 .taken) (c .end-level .ensures)
 
 walk-loop-less-2 : (t : ℕ) → walk-lts.Need-loop-less-2 (walk-calls t) (walk-at t) walk.Post walk-Inv-loop walk-μ-loop
 walk-loop-less-2 t c = omega arith
 
 walk-loop-again-2 : (t : ℕ) → walk-lts.Need-loop-again-2 (walk-calls t) (walk-at t) walk.Post walk-Inv-loop walk-μ-loop
-walk-loop-again-2 t c =
-    let d = c .before .before .before in
-    passed (d .before .before .before .loop .inv) (d .before .before .loop-test .taken) (d .before .code .ensures) (d .argument .ensures .value) (c .before .next-level .ensures) (c .if1 .left)
+walk-loop-again-2 t c = passed (turn t (c .before .before .before)) (c .before .next-level .ensures) (c .if1 .left)
 
 walk-returns : (t : ℕ) → walk-lts.Need-returns (walk-calls t) (walk-at t) walk.Post walk-Inv-loop walk-μ-loop
 walk-returns t c = finish (c .before .loop .inv) (c .loop-test .left)
