@@ -81,7 +81,7 @@ number-at : (k a : ℕ) → (k ≡ 0 → ⊥) → foundAt k a ≡ At (refusal k 
 number-at zero a h = absurd (h refl)
 number-at (suc k) a h = refl
 
-module _ (s actions : List ℕ) (n m own stop own' stop' a k x number : ℕ) (i : Inv s actions n m own stop a) (h : a < m) (g : Holding (tableOf s) own' stop' a)
+module _ {s actions : List ℕ} {n m own stop own' stop' a k x number : ℕ} (i : Inv s actions n m own stop a) (h : a < m) (g : Holding (tableOf s) own' stop' a)
     (ek : k ≡ codeAt actions a) (ex : x ≡ argumentAt actions a) (en : number ≡ formAt (kindOf k) own' n x (eqb (a + 1) stop')) where
   found : tryAt (firstPass (tableOf s) .checks) a ≡ foundAt number a
   unfolding tableOf
@@ -148,7 +148,7 @@ returns : tie.Need-returns Inv-loop μ-loop
 returns c =
     let d = c .before .before in
     c .refuse .ensures
-    ∙ stops _ _ _ _ _ _ _ _ _ _ _ _ (d .before .before .before .before .before .before .loop .inv) (d .before .before .before .before .before .loop-test .taken) (d .before .before .before .before .span-at .ensures)
+    ∙ stops (d .before .before .before .before .before .before .loop .inv) (d .before .before .before .before .before .loop-test .taken) (d .before .before .before .before .span-at .ensures)
     (d .before .before .before .code .ensures) (d .before .before .argument .ensures .value) (d .form-at .ensures) (c .before .if1 .taken)
 
 add-a : tie.Need-add-a Inv-loop μ-loop
@@ -160,7 +160,7 @@ loop-less c = omega arith
 loop-again : tie.Need-loop-again Inv-loop μ-loop
 loop-again c =
     let d = c .before in
-    again _ _ _ _ _ _ _ _ _ _ _ _ (d .before .before .before .before .before .before .loop .inv) (d .before .before .before .before .before .loop-test .taken) (d .before .before .before .before .span-at .ensures)
+    again (d .before .before .before .before .before .before .loop .inv) (d .before .before .before .before .before .loop-test .taken) (d .before .before .before .before .span-at .ensures)
     (d .before .before .before .code .ensures) (d .before .before .argument .ensures .value) (d .form-at .ensures) (c .if1 .left)
 
 returns-2 : tie.Need-returns-2 Inv-loop μ-loop

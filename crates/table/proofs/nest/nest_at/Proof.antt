@@ -10,7 +10,7 @@ use borrow.Author.Tests.{eq-eqb, ne-eqb}
 use denote.Ref.{now}
 use lib.ListN.{length, getD, set, drop, length-set, drop-of-length-le}
 use lib.Seq.{drop-cons, drop-set-lt, getD-set-same}
-use Rattle.table.specs.Format.{kindOf}
+use Rattle.table.specs.Format.{Kind, kindOf}
 use Rattle.table.specs.Steps.{nest, nestAt, NestReady, NestDone}
 use Rattle.table.proofs.nest.nest_at.Statement.{statement}
 use Rattle.table.proofs.nest.nest_at.Tie as tie
@@ -36,18 +36,19 @@ push stack top x s h w =
 
 -- ---- one action, by its code
 
-module _ (k x top : ℕ) (stack : List ℕ) (forked : List Bool) (r : NestReady (kindOf k) x top stack forked) where
-  stays : (number : ℕ) → nest number (drop top stack) forked ≡ nestAt (kindOf k) x (drop top stack) forked
-      → NestDone (kindOf k) x top stack forked number top stack forked
-  stays number e = record { stacked = r .stacked; within = r .within; done = e }
+-- an action that leaves the stack and the marks
+stays : {k : Kind} {x top : ℕ} {stack : List ℕ} {forked : List Bool} → NestReady k x top stack forked → (number : ℕ)
+    → nest number (drop top stack) forked ≡ nestAt k x (drop top stack) forked → NestDone k x top stack forked number top stack forked
+stays r number e = record { stacked = r .stacked; within = r .within; done = e }
 
+module _ {k x top : ℕ} {stack : List ℕ} {forked : List Bool} (r : NestReady (kindOf k) x top stack forked) where
   end-open : k ≡ 0 → top < 1024 → NestDone (kindOf k) x top stack forked 9 top stack forked
   unfolding kindOf nestAt
-  end-open e h = stays 9 (rw (e, some-open stack top (r .stacked) h))
+  end-open e h = stays r 9 (rw (e, some-open stack top (r .stacked) h))
 
   end-none : k ≡ 0 → 1024 ≤ top → NestDone (kindOf k) x top stack forked 0 top stack forked
   unfolding kindOf nestAt
-  end-none e h = stays 0 (rw (e, none-open stack top (r .stacked) h))
+  end-none e h = stays r 0 (rw (e, none-open stack top (r .stacked) h))
 
   fork-below : k ≡ 4 → x < 1024
   unfolding kindOf
@@ -59,7 +60,7 @@ module _ (k x top : ℕ) (stack : List ℕ) (forked : List Bool) (r : NestReady 
 
   fork-again : k ≡ 4 → getD forked x false ≡ true → NestDone (kindOf k) x top stack forked 8 top stack forked
   unfolding kindOf nestAt
-  fork-again e h = stays 8 (rw (e, h))
+  fork-again e h = stays r 8 (rw (e, h))
 
   fork-first : k ≡ 4 → getD forked x false ≡ false → NestDone (kindOf k) x top stack forked 0 (top - 1) (set stack (top - 1) x) (set forked x true)
   unfolding kindOf nestAt
@@ -73,12 +74,12 @@ module _ (k x top : ℕ) (stack : List ℕ) (forked : List Bool) (r : NestReady 
 
   join-none : k ≡ 5 → top ≡ 1024 → NestDone (kindOf k) x top stack forked 9 top stack forked
   unfolding kindOf nestAt
-  join-none e h = stays 9 (rw (e, none-open stack top (r .stacked) (omega arith)))
+  join-none e h = stays r 9 (rw (e, none-open stack top (r .stacked) (omega arith)))
 
   join-other : k ≡ 5 → (top ≡ 1024 → ⊥) → (getD stack top 0 ≡ x → ⊥) → NestDone (kindOf k) x top stack forked 9 top stack forked
   unfolding kindOf nestAt
   join-other e h d =
-      stays 9 (rw (e, some-open stack top (r .stacked) (omega arith), ne-eqb x (getD stack top 0) (λ q. d (sym q))))
+      stays r 9 (rw (e, some-open stack top (r .stacked) (omega arith), ne-eqb x (getD stack top 0) (λ q. d (sym q))))
 
   join-latest : k ≡ 5 → (top ≡ 1024 → ⊥) → getD stack top 0 ≡ x → NestDone (kindOf k) x top stack forked 0 (top + 1) stack forked
   unfolding kindOf nestAt
@@ -101,23 +102,19 @@ others (suc (suc (suc (suc (suc zero))))) x stack forked e f j = absurd (j refl)
 others (suc (suc (suc (suc (suc (suc k)))))) x stack forked e f j = refl
 
 returns : tie.Need-returns
-returns c =
-    let d = c .before .before in
-    end-open _ _ _ (now (d .args .stack)) (now (d .args .forked)) (d .pre) (c .before .match .keys1) (c .if1 .taken)
+returns c = end-open (c .before .before .pre) (c .before .match .keys1) (c .if1 .taken)
 
 element-copy-out-if2 : tie.Need-element-copy-out-if2
-element-copy-out-if2 c = fork-below _ _ _ _ _ (c .before .pre) (c .match .keys2)
+element-copy-out-if2 c = fork-below (c .before .pre) (c .match .keys2)
 
 returns-2 : tie.Need-returns-2
-returns-2 c =
-    let d = c .before .before .before in
-    fork-again _ _ _ (now (d .args .stack)) (now (d .args .forked)) (d .pre) (c .before .before .match .keys2) (c .if2 .taken)
+returns-2 c = fork-again (c .before .before .before .pre) (c .before .before .match .keys2) (c .if2 .taken)
 
 element-write-forked : tie.Need-element-write-forked
-element-write-forked c = fork-below _ _ _ _ _ (c .before .before .before .pre) (c .before .before .match .keys2)
+element-write-forked c = fork-below (c .before .before .before .pre) (c .before .before .match .keys2)
 
 sub-stack : tie.Need-sub-stack
-sub-stack c = fork-room _ _ _ _ _ (c .before .before .before .pre) (c .before .before .match .keys2) (c .if2 .left)
+sub-stack c = fork-room (c .before .before .before .pre) (c .before .before .match .keys2) (c .if2 .left)
 
 mul-stack : tie.Need-mul-stack
 mul-stack c = search needs
@@ -129,9 +126,7 @@ sub-t14 : tie.Need-sub-t14
 sub-t14 c = sub-stack c
 
 returns-3 : tie.Need-returns-3
-returns-3 c =
-    let d = c .before .before in
-    join-none _ _ _ (now (d .args .stack)) (now (d .args .forked)) (d .pre) (c .before .match .keys3) (c .if3 .taken)
+returns-3 c = join-none (c .before .before .pre) (c .before .match .keys3) (c .if3 .taken)
 
 mul-if4 : tie.Need-mul-if4
 mul-if4 c = search needs
@@ -140,32 +135,22 @@ element-copy-out-if4 : tie.Need-element-copy-out-if4
 element-copy-out-if4 c = search needs
 
 returns-4 : tie.Need-returns-4
-returns-4 c =
-    let d = c .before .before .before in
-    join-other _ _ _ (now (d .before .args .stack)) (now (d .before .args .forked)) (d .before .pre) (d .match .keys3) (c .before .before .if3 .left) (c .if4 .taken)
+returns-4 c = join-other (c .before .before .before .before .pre) (c .before .before .before .match .keys3) (c .before .before .if3 .left) (c .if4 .taken)
 
 add-t19 : tie.Need-add-t19
 add-t19 c = search needs
 
 returns-5 : tie.Need-returns-5
-returns-5 c =
-    let d = c .before .before in
-    end-none _ _ _ (now (d .args .stack)) (now (d .args .forked)) (d .pre) (c .before .match .keys1) (c .if1 .left)
+returns-5 c = end-none (c .before .before .pre) (c .before .match .keys1) (c .if1 .left)
 
 returns-6 : tie.Need-returns-6
-returns-6 c =
-    let d = c .before .before .before in
-    fork-first _ _ _ (now (d .args .stack)) (now (d .args .forked)) (d .pre) (c .before .before .match .keys2) (c .if2 .left)
+returns-6 c = fork-first (c .before .before .before .pre) (c .before .before .match .keys2) (c .if2 .left)
 
 returns-7 : tie.Need-returns-7
-returns-7 c =
-    let d = c .before .before .before in
-    join-latest _ _ _ (now (d .before .args .stack)) (now (d .before .args .forked)) (d .before .pre) (d .match .keys3) (c .before .before .if3 .left) (c .if4 .left)
+returns-7 c = join-latest (c .before .before .before .before .pre) (c .before .before .before .match .keys3) (c .before .before .if3 .left) (c .if4 .left)
 
 returns-8 : tie.Need-returns-8
-returns-8 c =
-    let d = c .before in
-    stays _ _ _ (now (d .args .stack)) (now (d .args .forked)) (d .pre) 0 (others _ _ _ _ (c .match .rest .0 .0 .1) (c .match .rest .0 .1) (c .match .rest .1))
+returns-8 c = stays (c .before .pre) 0 (others _ _ _ _ (c .match .rest .0 .0 .1) (c .match .rest .0 .1) (c .match .rest .1))
 
 pub nest-at-spec : {M : Type 1} → statement M
 nest-at-spec =

@@ -50,8 +50,8 @@ start s actions n m forked h p e =
       remains = rw (h .laid .headed .actions) (tryFrom-all _ _);
     }
 
-module _ (s actions : List ℕ) (n m : ℕ) (forked : List Bool) (stack : List ℕ) (top a : ℕ) (i : Inv s actions n m forked stack top a) where
-  module _ (h : a < m) (k x : ℕ) (e : k ≡ codeAt actions a) (d : x ≡ argumentAt actions a) where
+module _ {s actions : List ℕ} {n m : ℕ} {forked : List Bool} {stack : List ℕ} {top a : ℕ} (i : Inv s actions n m forked stack top a) where
+  module _ (h : a < m) {k x : ℕ} (e : k ≡ codeAt actions a) (d : x ≡ argumentAt actions a) where
     kind-is : kindOf k ≡ kind (tableOf s) a
     unfolding tableOf
     kind-is = rw (e, i .part)
@@ -78,7 +78,7 @@ module _ (s actions : List ℕ) (n m : ℕ) (forked : List Bool) (stack : List �
               omega (arith, length-drop top stack, i .stacked, i .low);
         }
 
-    module _ (number top′ : ℕ) (stack′ : List ℕ) (forked′ : List Bool) (o : NestDone (kindOf k) x top stack forked number top′ stack′ forked′) where
+    module _ {number top′ : ℕ} {stack′ : List ℕ} {forked′ : List Bool} (o : NestDone (kindOf k) x top stack forked number top′ stack′ forked′) where
       done : nest number (drop top′ stack′) forked′ ≡ nestAt (kind (tableOf s) a) (tableOf s .argument a) (drop top stack) forked
       done = rw (kind-is, argument-is) at (o .done)
 
@@ -137,7 +137,7 @@ argument-requires c κs = omega arith
 nest-at-requires : tie.Need-nest-at-requires Inv-loop μ-loop
 nest-at-requires c κs =
     let d = c .before .before .before in
-    ready _ _ _ _ _ _ _ _ (d .before .before .loop .inv) (d .before .loop-test .taken) _ _ (d .code .ensures) (c .before .before .argument .ensures .value)
+    ready (d .before .before .loop .inv) (d .before .loop-test .taken) (d .code .ensures) (c .before .before .argument .ensures .value)
 
 refuse-requires : tie.Need-refuse-requires Inv-loop μ-loop
 refuse-requires c κs = omega (arith, c .before .before .before .before .before .before .before .before .loop .inv .sizes)
@@ -147,8 +147,8 @@ returns c =
     let d = c .before .before .before in
     let f = d .before .before .before .before in (
       c .refuse .ensures
-          ∙ stops _ _ _ _ _ _ _ _ (f .before .before .loop .inv) (f .before .loop-test .taken) _ _ (f .code .ensures) (d .before .before .before .argument .ensures .value)
-          _ _ _ _ (d .nest-at .ensures) (c .before .if1 .taken),
+          ∙ stops (f .before .before .loop .inv) (f .before .loop-test .taken) (f .code .ensures) (d .before .before .before .argument .ensures .value)
+          (d .nest-at .ensures) (c .before .if1 .taken),
       refused (c .refuse .ensures),
     )
 
@@ -162,13 +162,13 @@ loop-again : tie.Need-loop-again Inv-loop μ-loop
 loop-again c =
     let d = c .before .before in
     let f = d .before .before .before .before in
-    again _ _ _ _ _ _ _ _ (f .before .before .loop .inv) (f .before .loop-test .taken) _ _ (f .code .ensures) (d .before .before .before .argument .ensures .value)
-    _ _ _ _ (d .nest-at .ensures) (c .if1 .left)
+    again (f .before .before .loop .inv) (f .before .loop-test .taken) (f .code .ensures) (d .before .before .before .argument .ensures .value)
+    (d .nest-at .ensures) (c .if1 .left)
 
 returns-2 : tie.Need-returns-2 Inv-loop μ-loop
 returns-2 c =
     let i = c .before .loop .inv in
-    (none _ _ _ _ _ _ _ _ i (c .loop-test .left), λ e. marks _ _ _ _ _ _ _ _ i (c .loop-test .left))
+    (none i (c .loop-test .left), λ e. marks i (c .loop-test .left))
 
 pub second-pass-spec : {M : Type 1} → statement M
 second-pass-spec =

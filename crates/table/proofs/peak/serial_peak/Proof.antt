@@ -43,11 +43,11 @@ start s n m rises falls peaks k b r f l =
       peaking = record { size = l; right = λ t p q. absurd (omega (arith, h .threads)) };
     }
 
-module _ (s : List ℕ) (n m : ℕ) (rises falls peaks : List ℕ) (t u : ℕ) (v : Inv s n m rises falls peaks t) (p : suc u ≡ t) where
+module _ {s : List ℕ} {n m : ℕ} {rises falls peaks : List ℕ} {t u : ℕ} (v : Inv s n m rises falls peaks t) (p : suc u ≡ t) where
   later : Filled (tableOf s) (peakAt (tableOf s)) peaks (suc u)
   later = rw p (v .peaking)
 
-  module _ (l : List ℕ) (count : ℕ) (b : l ≡ bodyOf s u) (d : count ≡ countOf s u) where
+  module _ {l : List ℕ} {count : ℕ} (b : l ≡ bodyOf s u) (d : count ≡ countOf s u) where
     ready : WalkReady fork l count rises falls
     unfolding tableOf
     ready = rw (b, d) (walk-ready s n m (v .kept) (v .bytes) rises falls peaks (v .rising) (v .falling) u (omega arith) later)
@@ -56,9 +56,9 @@ module _ (s : List ℕ) (n m : ℕ) (rises falls peaks : List ℕ) (t u : ℕ) (
     unfolding tableOf
     low = rw (b, d) (peaks-ready s n m (v .kept) (v .bytes) rises falls peaks (v .rising) (v .falling) u (omega arith) later)
 
-    again : (r : ℕ) → r ≡ greatestTo (topOf l rises falls peaks) count → Inv s n m rises falls (set peaks u r) u
+    again : {r : ℕ} → r ≡ greatestTo (topOf l rises falls peaks) count → Inv s n m rises falls (set peaks u r) u
     unfolding tableOf
-    again r q =
+    again {r} q =
         let found : r ≡ peakAt (tableOf s) u =
         (rw (b, d) at q) ∙ peak-found s n m (v .kept) (v .bytes) rises falls peaks (v .rising) (v .falling) u (omega arith) later in
         record {
@@ -71,9 +71,9 @@ module _ (s : List ℕ) (n m : ℕ) (rises falls peaks : List ℕ) (t u : ℕ) (
           peaking = filled-set (tableOf s) (peakAt (tableOf s)) peaks u r (omega arith) found later;
         }
 
-root : (s : List ℕ) (n m : ℕ) (rises falls peaks : List ℕ) (t : ℕ) → Inv s n m rises falls peaks t → t ≤ 0 → getD peaks 0 0 ≡ S1 (tableOf s)
+root : {s : List ℕ} {n m : ℕ} {rises falls peaks : List ℕ} {t : ℕ} → Inv s n m rises falls peaks t → t ≤ 0 → getD peaks 0 0 ≡ S1 (tableOf s)
 unfolding S1 tableOf
-root s n m rises falls peaks t v l = v .peaking .right 0 (omega arith) (omega (arith, v .kept .nested .formed .laid .headed .threads))
+root v l = v .peaking .right 0 (omega arith) (omega (arith, v .kept .nested .formed .laid .headed .threads))
 
 abbrev Inv-loop : tie.InvT-loop
 Inv-loop table n m rises falls peaks₀ t₀ peaks t = Inv table n m rises falls peaks t
@@ -106,10 +106,9 @@ word-requires c κs = omega arith
 peak-walk-requires : tie.Need-peak-walk-requires Inv-loop μ-loop
 peak-walk-requires c κs =
     let w = c .before in
-    let a = w .before .before .before in
-    let s : List ℕ = now (a .before .before .args .table) in (
-      ready s _ _ _ _ _ _ (a .loop .t - 1) (a .loop .inv) (omega arith) _ _ (w .before .body-of .ensures) (w .word .ensures .value),
-      low s _ _ _ _ _ _ (a .loop .t - 1) (a .loop .inv) (omega arith) _ _ (w .before .body-of .ensures) (w .word .ensures .value),
+    let a = w .before .before .before in (
+      ready (a .loop .inv) (omega arith) (w .before .body-of .ensures) (w .word .ensures .value),
+      low (a .loop .inv) (omega arith) (w .before .body-of .ensures) (w .word .ensures .value),
     )
 
 mul-peaks : tie.Need-mul-peaks Inv-loop μ-loop
@@ -125,14 +124,13 @@ loop-again : tie.Need-loop-again Inv-loop μ-loop
 loop-again c =
     let w = c .before .before in
     let a = w .before .before .before in
-    again (now (a .before .before .args .table)) _ _ _ _ _ _ (a .loop .t - 1) (a .loop .inv) (omega arith) _ _
-    (w .before .body-of .ensures) (w .word .ensures .value) _ (c .peak-walk .ensures)
+    again (a .loop .inv) (omega arith) (w .before .body-of .ensures) (w .word .ensures .value) (c .peak-walk .ensures)
 
 array-read-result : tie.Need-array-read-result Inv-loop μ-loop
 array-read-result c = omega arith
 
 returns : tie.Need-returns Inv-loop μ-loop
-returns c = root _ _ _ _ _ _ _ (c .before .loop .inv) (c .loop-test .left)
+returns c = root (c .before .loop .inv) (c .loop-test .left)
 
 pub serial-peak-spec : {M : Type 1} → statement M
 serial-peak-spec =
