@@ -16,7 +16,6 @@ use Rattle.table.specs.Rules.{withChild, whole}
 use Rattle.table.specs.Accepted.{ContentRules, BodyRules}
 use Rattle.table.specs.Pass.{Check, orElse, refusal, tryAt, tryFrom}
 use Rattle.table.specs.Steps.{ownAmount, childAmount, amountAt, leastNext, leastThat, WalkReady, Filled, Headed, Formed}
-use Rattle.table.specs.declared.Refusal.{Refusal}
 use Rattle.table.specs.declared.Found.{Found}
 use Rattle.table.specs.declared.Found.the-variants.{Nothing, At}
 use Rattle.table.proofs.Tests.{pick-same}
@@ -65,18 +64,18 @@ pub record Summed (f : ℕ → ℕ) (i r : ℕ) : Type 0 where
   pub small : r < 2 ^ 40
 
 -- action i's own amount o and its child's amount d go into the sum
-pub sum-next : (own at : Kind) (l amounts : List ℕ) (count i k x o d sum : ℕ) → sumTo (amountAt own at l amounts) count < 2 ^ 40 → i < count
+pub sum-next : (own at : Kind) (l amounts : List ℕ) {count i k x o d sum : ℕ} → sumTo (amountAt own at l amounts) count < 2 ^ 40 → i < count
     → k ≡ codeAt l i → x ≡ argumentAt l i → o ≡ ownAmount own (kindOf k) x → d ≡ childAmount at (kindOf k) x amounts
     → sum ≡ sumTo (amountAt own at l amounts) i → Summed (amountAt own at l amounts) i (sum + (o + d))
 unfolding sumTo amountAt
-sum-next own at l amounts count i k x o d sum b h e f p q j =
+sum-next own at l amounts {count} {i} {k} {x} {o} {d} {sum} b h e f p q j =
     let v : sum + (o + d) ≡ sumTo (amountAt own at l amounts) (suc i) = rw (p, q, e, f, j) in
     record { value = v; small = omega (arith, sumTo-part (amountAt own at l amounts) (suc i) count h) }
 
 -- a child's number is an index
-pub child-small : (at : Kind) (l : List ℕ) (count : ℕ) (rises falls : List ℕ) (i k x : ℕ) → WalkReady at l count rises falls → i < count
+pub child-small : {at : Kind} {l : List ℕ} {count : ℕ} {rises falls : List ℕ} {i k x : ℕ} → WalkReady at l count rises falls → i < count
     → k ≡ codeAt l i → x ≡ argumentAt l i → kindOf k ≡ at → x < 1024
-child-small at l count rises falls i k x r h e f g = rw f (r .children i h (rw e at g))
+child-small {i = i} r h e f g = rw f (r .children i h (rw e at g))
 
 -- ---- a body's sums against those of its thread
 

@@ -3,7 +3,6 @@ use mathlib.Core.Path.{_≡_, sym, _∙_}
 use Prim.Native.Nat.{ℕ}
 use mathlib.Core.List.{List}
 use borrow.Author.Needs.{needs}
-use denote.Ref.{now}
 use Rattle.table.specs.Format.{Table, tableOf}
 use Rattle.table.specs.Pass.{tryPass, firstFound, orElse}
 use Rattle.table.specs.Rules.{entriesPass, totalPass, firstPass, secondPass, forkedPass, shapePasses}
@@ -27,16 +26,16 @@ grouped : (T : Table) → firstFound (shapePasses T) ≡ orElse (contentsFound T
 unfolding firstFound
 grouped T = rw (orElse-last, orElse-assoc)
 
-module _ (s : List ℕ) (n m : ℕ) (h : Headed s n m) where
-  in-contents : (r : Refusal) → contentsFound (tableOf s) ≡ At r → contentsFound (tableOf s) ≡ firstFound (shapePasses (tableOf s))
-  in-contents r e = rw (grouped (tableOf s), e)
+module _ {s : List ℕ} {n m : ℕ} (h : Headed s n m) where
+  in-contents : {r : Refusal} → contentsFound (tableOf s) ≡ At r → contentsFound (tableOf s) ≡ firstFound (shapePasses (tableOf s))
+  in-contents e = rw (grouped (tableOf s), e)
 
   module _ (e : contentsFound (tableOf s) ≡ Nothing) where
     laid : Laid s n m
     laid = record { headed = h; contents = content-rules (tableOf s) .0 (orElse-nothing _ _ .0 e) }
 
-    in-first : (r : Refusal) → tryPass (firstPass (tableOf s)) ≡ At r → tryPass (firstPass (tableOf s)) ≡ firstFound (shapePasses (tableOf s))
-    in-first r d = rw (grouped (tableOf s), e, d)
+    in-first : {r : Refusal} → tryPass (firstPass (tableOf s)) ≡ At r → tryPass (firstPass (tableOf s)) ≡ firstFound (shapePasses (tableOf s))
+    in-first d = rw (grouped (tableOf s), e, d)
 
     module _ (d : tryPass (firstPass (tableOf s)) ≡ Nothing) where
       formed : Formed s n m
@@ -54,7 +53,7 @@ enum-told c = search needs
 returns : tie.Need-returns
 returns c =
     let d = c .before .before in
-    d .contents .ensures ∙ in-contents (now (d .before .before .args .table)) _ _ (d .before .before .pre) _ (sym (d .contents .ensures) ∙ c .enum-told .given .1)
+    d .contents .ensures ∙ in-contents (d .before .before .pre) (sym (d .contents .ensures) ∙ c .enum-told .given .1)
 
 enum-told-2 : tie.Need-enum-told-2
 enum-told-2 c = search needs
@@ -62,7 +61,7 @@ enum-told-2 c = search needs
 first-pass-requires : tie.Need-first-pass-requires
 first-pass-requires c κs =
     let d = c .before .before in
-    laid (now (d .before .before .args .table)) _ _ (d .before .before .pre) (sym (d .contents .ensures) ∙ c .enum-told2 .given .1)
+    laid (d .before .before .pre) (sym (d .contents .ensures) ∙ c .enum-told2 .given .1)
 
 enum-told-3 : tie.Need-enum-told-3
 enum-told-3 c = search needs
@@ -72,8 +71,8 @@ returns-2 c =
     let f = c .before .before in
     let d = f .before .before .before in
     f .first-pass .ensures
-    ∙ in-first (now (d .before .before .args .table)) _ _ (d .before .before .pre) (sym (d .contents .ensures) ∙ f .before .enum-told2 .given .1)
-    _ (sym (f .first-pass .ensures) ∙ c .enum-told3 .given .1)
+    ∙ in-first (d .before .before .pre) (sym (d .contents .ensures) ∙ f .before .enum-told2 .given .1)
+    (sym (f .first-pass .ensures) ∙ c .enum-told3 .given .1)
 
 enum-told-4 : tie.Need-enum-told-4
 enum-told-4 c = search needs
@@ -82,7 +81,7 @@ nesting-requires : tie.Need-nesting-requires
 nesting-requires c κs =
     let f = c .before .before in
     let d = f .before .before .before in
-    formed (now (d .before .before .args .table)) _ _ (d .before .before .pre) (sym (d .contents .ensures) ∙ f .before .enum-told2 .given .1)
+    formed (d .before .before .pre) (sym (d .contents .ensures) ∙ f .before .enum-told2 .given .1)
     (sym (f .first-pass .ensures) ∙ c .enum-told4 .given .1)
 
 returns-3 : tie.Need-returns-3
@@ -90,7 +89,7 @@ returns-3 c =
     let f = c .before .before .before in
     let d = f .before .before .before in
     c .nesting .ensures
-    ∙ in-nesting (now (d .before .before .args .table)) _ _ (d .before .before .pre) (sym (d .contents .ensures) ∙ f .before .enum-told2 .given .1)
+    ∙ in-nesting (d .before .before .pre) (sym (d .contents .ensures) ∙ f .before .enum-told2 .given .1)
     (sym (f .first-pass .ensures) ∙ c .before .enum-told4 .given .1)
 
 pub shape-spec : {M : Type 1} → statement M

@@ -4,7 +4,6 @@ use Prim.Native.Nat.{ℕ, _≤_, _<_}
 use mathlib.Core.List.{List}
 use native.Mathlib.Omega.{arith}
 use borrow.Author.Needs.{needs}
-use denote.Ref.{now}
 use Rattle.table.specs.Format.{tableOf}
 use Rattle.table.specs.Pass.{tryPass}
 use Rattle.table.specs.Rules.{balancePass}
@@ -22,9 +21,9 @@ use Rattle.table.proofs.Levels.{level-bound}
 use Rattle.table.proofs.weigh.Statement.{statement}
 use Rattle.table.proofs.weigh.Tie as tie
 
-module _ (s : List ℕ) (n m : ℕ) (h : Nested s n m) where
-  refused : (r : Refusal) → tryPass (balancePass (tableOf s)) ≡ At r → Refused r ≡ answer (tryPass (balancePass (tableOf s))) (factsOf (tableOf s))
-  refused r e = rw e
+module _ {s : List ℕ} {n m : ℕ} (h : Nested s n m) where
+  refused : {r : Refusal} → tryPass (balancePass (tableOf s)) ≡ At r → Refused r ≡ answer (tryPass (balancePass (tableOf s))) (factsOf (tableOf s))
+  refused e = rw e
 
   shallow : D (tableOf s) ≤ 8192
   unfolding tableOf D
@@ -43,10 +42,10 @@ module _ (s : List ℕ) (n m : ℕ) (h : Nested s n m) where
     kept : Kept s n m
     kept = record { nested = h; balances = balance-rules (tableOf s) .0 e }
 
-    accepted : (peak depth : ℕ) → peak ≡ S1 (tableOf s) → depth ≡ D (tableOf s)
+    accepted : {peak depth : ℕ} → peak ≡ S1 (tableOf s) → depth ≡ D (tableOf s)
         → Accepted (record { threads = n; actions = m; peak = peak; depth = depth }) ≡ answer (tryPass (balancePass (tableOf s))) (factsOf (tableOf s))
     unfolding tableOf factsOf
-    accepted peak depth p d = rw (e, p, d, h .formed .laid .headed .threads, h .formed .laid .headed .actions)
+    accepted p d = rw (e, p, d, h .formed .laid .headed .threads, h .formed .laid .headed .actions)
 
 balances-requires : tie.Need-balances-requires
 balances-requires c κs = search needs
@@ -57,7 +56,7 @@ enum-known-found c = search needs
 returns : tie.Need-returns
 returns c =
     let b = c .before .before .before in
-    refused (now (b .before .before .before .before .args .table)) _ _ (b .before .before .before .before .pre) _ (sym (b .balances .ensures .0) ∙ c .before .found .given .1)
+    refused (b .before .before .before .before .pre) (sym (b .balances .ensures .0) ∙ c .before .found .given .1)
 
 enum-told : tie.Need-enum-told
 enum-told c = search needs
@@ -66,13 +65,13 @@ serial-peak-requires : tie.Need-serial-peak-requires
 serial-peak-requires c κs =
     let b = c .before .before .before .before in
     let e = sym (b .balances .ensures .0) ∙ c .before .before .enum-told .given .1 in
-    (kept (now (b .before .before .before .before .args .table)) _ _ (b .before .before .before .before .pre) e, (b .balances .ensures .1 .0, b .balances .ensures .1 .1))
+    (kept (b .before .before .before .before .pre) e, (b .balances .ensures .1 .0, b .balances .ensures .1 .1))
 
 depth-requires : tie.Need-depth-requires
 depth-requires c κs =
     let b = c .before .before .before .before .before in
     let e = sym (b .balances .ensures .0) ∙ c .before .before .before .enum-told .given .1 in
-    kept (now (b .before .before .before .before .args .table)) _ _ (b .before .before .before .before .pre) e
+    kept (b .before .before .before .before .pre) e
 
 cast-t14 : tie.Need-cast-t14
 cast-t14 c = omega (arith, sizes (c .before .before .before .before .before .before .before .before .before .before .pre .formed .laid .headed))
@@ -83,13 +82,13 @@ cast-t15 c = omega (arith, sizes (c .before .before .before .before .before .bef
 cast-t16 : tie.Need-cast-t16
 cast-t16 c =
     let d = c .before .before .before .before .before .before .before .before .before .before in
-    omega (arith, c .depth .ensures, shallow (now (d .args .table)) _ _ (d .pre))
+    omega (arith, c .depth .ensures, shallow (d .pre))
 
 returns-2 : tie.Need-returns-2
 returns-2 c =
     let b = c .before .before .before .before .before .before in
     let e = sym (b .balances .ensures .0) ∙ c .before .before .before .before .enum-told .given .1 in
-    accepted (now (b .before .before .before .before .args .table)) _ _ (b .before .before .before .before .pre) e _ _ (c .before .serial-peak .ensures) (c .depth .ensures)
+    accepted (b .before .before .before .before .pre) e (c .before .serial-peak .ensures) (c .depth .ensures)
 
 pub weigh-spec : {M : Type 1} → statement M
 weigh-spec =

@@ -21,15 +21,15 @@ record Inv (l : List ℕ) (count : ℕ) (rises falls : List ℕ) (rise fall belo
   fall-is : fall ≡ sumTo (amountAt free join l falls) i
   below-is : below ≡ leastThat (overdrawn l rises falls) i
 
-start : (l : List ℕ) (count : ℕ) (rises falls : List ℕ) → WalkReady join l count rises falls → Inv l count rises falls 0 0 0 0
+start : {l : List ℕ} {count : ℕ} {rises falls : List ℕ} → WalkReady join l count rises falls → Inv l count rises falls 0 0 0 0
 unfolding sumTo leastThat
-start l count rises falls r = record { ready = r; within = omega arith; rise-is = refl; fall-is = refl; below-is = refl }
+start r = record { ready = r; within = omega arith; rise-is = refl; fall-is = refl; below-is = refl }
 
-again : (l : List ℕ) (count : ℕ) (rises falls : List ℕ) (rise fall below i rise′ fall′ below′ : ℕ) → Inv l count rises falls rise fall below i → i < count
+again : {l : List ℕ} {count : ℕ} {rises falls : List ℕ} {rise fall below i rise′ fall′ below′ : ℕ} → Inv l count rises falls rise fall below i → i < count
     → rise′ ≡ sumTo (amountAt alloc join l rises) (suc i) → fall′ ≡ sumTo (amountAt free join l falls) (suc i)
     → below′ ≡ leastNext (ltb rise′ fall′) i below → Inv l count rises falls rise′ fall′ below′ (i + 1)
 unfolding leastThat overdrawn
-again l count rises falls rise fall below i rise′ fall′ below′ v h p q w =
+again v h p q w =
     record {
       ready = v .ready;
       within = omega arith;
@@ -38,10 +38,10 @@ again l count rises falls rise fall below i rise′ fall′ below′ v h p q w =
       below-is = rw (add-one, ← p, ← q, ← (v .below-is)) w;
     }
 
-done : (l : List ℕ) (count : ℕ) (rises falls : List ℕ) (rise fall below i : ℕ) → Inv l count rises falls rise fall below i → count ≤ i
+done : {l : List ℕ} {count : ℕ} {rises falls : List ℕ} {rise fall below i : ℕ} → Inv l count rises falls rise fall below i → count ≤ i
     → record { rise = rise; fall = fall; below = below } ≡ balanceOf l rises falls count
 unfolding balanceOf
-done l count rises falls rise fall below i v h =
+done {count = count} {i = i} v h =
     let e : i ≡ count = omega arith in
     rw (v .rise-is, v .fall-is, v .below-is, e)
 
@@ -59,7 +59,7 @@ risen : (c : tie.After-child-amount Inv-loop μ-loop) →
 unfolding kindOf
 risen c =
     let d = c .before .before .before .before in
-    sum-next alloc join _ _ _ _ _ _ _ _ _ (d .before .loop .inv .ready .rise-small) (d .loop-test .taken)
+    sum-next alloc join _ _ (d .before .loop .inv .ready .rise-small) (d .loop-test .taken)
     (c .before .before .before .code .ensures) (c .before .before .argument .ensures .value) (c .before .own-amount .ensures) (c .child-amount .ensures) (d .before .loop .inv .rise-is)
 
 fallen : (c : tie.After-child-amount2 Inv-loop μ-loop) →
@@ -70,11 +70,11 @@ unfolding kindOf
 fallen c =
     let e = c .before .before in
     let d = e .before .before .before .before in
-    sum-next free join _ _ _ _ _ _ _ _ _ (d .before .loop .inv .ready .fall-small) (d .loop-test .taken)
+    sum-next free join _ _ (d .before .loop .inv .ready .fall-small) (d .loop-test .taken)
     (e .before .before .before .code .ensures) (e .before .before .argument .ensures .value) (c .before .own-amount2 .ensures) (c .child-amount2 .ensures) (d .before .loop .inv .fall-is)
 
 loop-holds : tie.Need-loop-holds Inv-loop μ-loop
-loop-holds c = start (now (c .before .args .body)) _ _ _ (c .before .pre)
+loop-holds c = start (c .before .pre)
 
 code-requires : tie.Need-code-requires Inv-loop μ-loop
 code-requires c κs = search needs
@@ -90,7 +90,7 @@ unfolding kindOf
 child-amount-requires c κs =
     let d = c .before .before .before in (
       omega arith,
-      λ g. child-small join (now (d .before .before .before .args .body)) _ _ _ _ _ _ (d .before .loop .inv .ready) (d .loop-test .taken)
+      λ g. child-small (d .before .loop .inv .ready) (d .loop-test .taken)
           (c .before .before .code .ensures) (c .before .argument .ensures .value) (ap kindOf g),
     )
 
@@ -124,11 +124,11 @@ loop-less c = omega arith
 loop-again : tie.Need-loop-again Inv-loop μ-loop
 loop-again c =
     let d = c .before .before .before .before .before .before .before in
-    again (now (d .before .before .before .args .body)) _ _ _ _ _ _ _ _ _ _ (d .before .loop .inv) (d .loop-test .taken)
+    again (d .before .loop .inv) (d .loop-test .taken)
     (risen (c .before .before .before) .value) (fallen (c .before) .value) (c .least-next .ensures)
 
 returns : tie.Need-returns Inv-loop μ-loop
-returns c = done (now (c .before .before .before .args .body)) _ _ _ _ _ _ _ (c .before .loop .inv) (c .loop-test .left)
+returns c = done (c .before .loop .inv) (c .loop-test .left)
 
 pub balance-walk-spec : {M : Type 1} → statement M
 balance-walk-spec =

@@ -36,9 +36,9 @@ record Inv (s : List ℕ) (n m : ℕ) (rises falls : List ℕ) (lowest t : ℕ) 
   falls-done : Filled (tableOf s) (whole (tableOf s) (freeOf (tableOf s))) falls t
   found : tryFrom (balancePass (tableOf s) .checks) (countsBelow (tableOf s) t) (m - countsBelow (tableOf s) t) ≡ pick (ltb lowest m) (At (refusal 10 lowest)) Nothing
 
-start : (s : List ℕ) (n m : ℕ) (rises falls : List ℕ) → Nested s n m → ((i : ℕ) → getD s i 0 < 256) → length rises ≡ 1024 → length falls ≡ 1024 → Inv s n m rises falls m n
+start : {s : List ℕ} {n m : ℕ} {rises falls : List ℕ} → Nested s n m → ((i : ℕ) → getD s i 0 < 256) → length rises ≡ 1024 → length falls ≡ 1024 → Inv s n m rises falls m n
 unfolding tableOf
-start s n m rises falls r bytes p q =
+start {s} {n} {m} r bytes p q =
     let d = r .formed .laid .headed in
     let e : countsBelow (tableOf s) n ≡ m = rw (d .threads, d .actions) (counts-all (tableOf s) (r .formed .laid .contents)) in
     record {
@@ -166,12 +166,12 @@ module _ {s : List ℕ} {n m : ℕ} {rises falls : List ℕ} {lowest t u first c
     same b = again lowest (rw (found-next, le-ltb (r .below) count b))
 
 -- after the loop all places are tried
-ends : (s : List ℕ) (n m : ℕ) (rises falls : List ℕ) (lowest t : ℕ) → Inv s n m rises falls lowest t → t ≤ 0
-    → (r : Found) → r ≡ pick (ltb lowest m) (At (refusal 10 lowest)) Nothing
+ends : {s : List ℕ} {n m : ℕ} {rises falls : List ℕ} {lowest t : ℕ} → Inv s n m rises falls lowest t → t ≤ 0
+    → {r : Found} → r ≡ pick (ltb lowest m) (At (refusal 10 lowest)) Nothing
     → (r ≡ tryPass (balancePass (tableOf s)))
     × (Filled (tableOf s) (whole (tableOf s) (allocOf (tableOf s))) rises 0 × Filled (tableOf s) (whole (tableOf s) (freeOf (tableOf s))) falls 0)
 unfolding tryPass tableOf sumTo
-ends s n m rises falls lowest t v h r d =
+ends {s} {m = m} {t = t} v h d =
     let e : t ≡ 0 = omega arith in (
       d ∙ sym (ap (tryFrom (balancePass (tableOf s) .checks) 0) (sym (v .nested .formed .laid .headed .actions)) ∙ sym (tryFrom-all _ m) ∙ rw e at (v .found)),
       (rw e at (v .rises-done), rw e at (v .falls-done)),
@@ -200,7 +200,7 @@ turn c =
 loop-holds : tie.Need-loop-holds Inv-loop μ-loop
 loop-holds c =
     let d = c .before in
-    start (now (d .args .table)) _ _ _ _ (d .pre .0) (λ i. omega (arith, c .shared-slice-known .given i)) (d .pre .1 .0) (d .pre .1 .1)
+    start (d .pre .0) (λ i. omega (arith, c .shared-slice-known .given i)) (d .pre .1 .0) (d .pre .1 .1)
 
 sub-t : tie.Need-sub-t Inv-loop μ-loop
 sub-t c = search needs
@@ -268,13 +268,13 @@ refuse-requires c κs = search needs
 returns : tie.Need-returns Inv-loop μ-loop
 returns c =
     let d = c .before .before in
-    ends (now (d .before .before .before .args .table)) _ _ _ _ _ _ (d .before .loop .inv) (d .loop-test .left) _
+    ends (d .before .loop .inv) (d .loop-test .left)
     (c .refuse .ensures ∙ rw (lt-ltb _ _ (c .before .if2 .taken)))
 
 returns-2 : tie.Need-returns-2 Inv-loop μ-loop
 returns-2 c =
     let d = c .before in
-    ends (now (d .before .before .before .args .table)) _ _ _ _ _ _ (d .before .loop .inv) (d .loop-test .left) _
+    ends (d .before .loop .inv) (d .loop-test .left)
     (rw (le-ltb _ _ (c .if2 .left)))
 
 pub balances-spec : {M : Type 1} → statement M

@@ -7,7 +7,6 @@ use native.Mathlib.Numerals.{add-one}
 use native.Mathlib.Omega.{arith}
 use borrow.Author.Needs.{needs}
 use borrow.Author.Tests.{eq-eqb, ne-eqb}
-use denote.Ref.{now}
 use lib.Dec.{eqb}
 use Rattle.table.specs.Sum.{sumTo}
 use Rattle.table.specs.Format.{tableOf, threadsOf, actionsOf, firstOf, countOf}
@@ -28,9 +27,9 @@ record Inv (s : List ℕ) (n m sum t : ℕ) : Type 0 where
   small : sum ≤ 65535 * t
   remains : tryFrom (entriesPass (tableOf s) .checks) t (n - t) ≡ tryPass (entriesPass (tableOf s))
 
-start : (s : List ℕ) (n m : ℕ) → Headed s n m → Inv s n m 0 0
+start : {s : List ℕ} {n m : ℕ} → Headed s n m → Inv s n m 0 0
 unfolding tableOf tryPass sumTo
-start s n m h =
+start h =
     record {
       sizes = sizes h;
       headed = h;
@@ -40,7 +39,7 @@ start s n m h =
       remains = rw (h .threads) (tryFrom-all _ _);
     }
 
-module _ (s : List ℕ) (n m sum t first count : ℕ) (i : Inv s n m sum t) (h : t < n) (e : first ≡ firstOf s t) (d : count ≡ countOf s t) where
+module _ {s : List ℕ} {n m sum t first count : ℕ} (i : Inv s n m sum t) (h : t < n) (e : first ≡ firstOf s t) (d : count ≡ countOf s t) where
   again : (not (eqb first sum) || eqb count 0) ≡ false → count < 65536 → Inv s n m (sum + count) (t + 1)
   unfolding tableOf tryAt entryWrong sumTo
   again w b =
@@ -57,7 +56,7 @@ module _ (s : List ℕ) (n m sum t first count : ℕ) (i : Inv s n m sum t) (h :
   unfolding tableOf tryAt entryWrong
   stops w = rw (← (i .remains), tryFrom-here (entriesPass (tableOf s) .checks) t n h (refusal 4 t) (simp (← e, ← d, ← (i .counted), w)))
 
-module _ (s : List ℕ) (n m sum t : ℕ) (i : Inv s n m sum t) (h : n ≤ t) where
+module _ {s : List ℕ} {n m sum t : ℕ} (i : Inv s n m sum t) (h : n ≤ t) where
   at-end : t ≡ n
   at-end = omega arith
 
@@ -83,7 +82,7 @@ abbrev μ-loop : tie.MeasureT-loop
 μ-loop table n m sum₀ t₀ sum t = n - t
 
 loop-holds : tie.Need-loop-holds Inv-loop μ-loop
-loop-holds c = start (now (c .before .args .table)) _ _ (c .before .pre)
+loop-holds c = start (c .before .pre)
 
 mul-word : tie.Need-mul-word Inv-loop μ-loop
 mul-word c = omega arith
@@ -113,7 +112,7 @@ returns : tie.Need-returns Inv-loop μ-loop
 returns c =
     let d = c .before .before .before in
     c .refuse .ensures
-    ∙ stops _ _ _ _ _ _ _ (d .before .before .before .loop .inv) (d .before .before .loop-test .taken) (d .before .word .ensures .value) (d .word2 .ensures .value)
+    ∙ stops (d .before .before .before .loop .inv) (d .before .before .loop-test .taken) (d .before .word .ensures .value) (d .word2 .ensures .value)
     (sym (c .before .before .entry-wrong .ensures) ∙ c .before .if1 .taken)
 
 add-sum : tie.Need-add-sum Inv-loop μ-loop
@@ -128,7 +127,7 @@ loop-less c = omega arith
 loop-again : tie.Need-loop-again Inv-loop μ-loop
 loop-again c =
     let d = c .before .before in
-    again _ _ _ _ _ _ _ (d .before .before .before .loop .inv) (d .before .before .loop-test .taken) (d .before .word .ensures .value) (d .word2 .ensures .value)
+    again (d .before .before .before .loop .inv) (d .before .before .loop-test .taken) (d .before .word .ensures .value) (d .word2 .ensures .value)
     (sym (c .before .entry-wrong .ensures) ∙ c .if1 .left)
     (d .word2 .ensures .small)
 
@@ -138,12 +137,12 @@ refuse-requires-2 c κs = search needs
 returns-2 : tie.Need-returns-2 Inv-loop μ-loop
 returns-2 c =
     let d = c .before .before in
-    c .refuse2 .ensures ∙ unequal _ _ _ _ _ (d .before .loop .inv) (d .loop-test .left) (c .before .if2 .taken)
+    c .refuse2 .ensures ∙ unequal (d .before .loop .inv) (d .loop-test .left) (c .before .if2 .taken)
 
 returns-3 : tie.Need-returns-3 Inv-loop μ-loop
 returns-3 c =
     let d = c .before in
-    equal _ _ _ _ _ (d .before .loop .inv) (d .loop-test .left) (c .if2 .left)
+    equal (d .before .loop .inv) (d .loop-test .left) (c .if2 .left)
 
 pub contents-spec : {M : Type 1} → statement M
 contents-spec =

@@ -6,7 +6,6 @@ use mathlib.Core.Bool.{Bool, true, false, not}
 use native.Mathlib.Omega.{arith}
 use borrow.Author.Needs.{needs}
 use borrow.Author.Tests.{eqb-true, eqb-false, eq-eqb, ne-eqb}
-use denote.Ref.{now}
 use lib.Dec.{eqb}
 use lib.ListN.{length}
 use Rattle.table.specs.Sum.{pick, sumTo}
@@ -56,9 +55,9 @@ record Inv (s actions : List ℕ) (n m own stop a : ℕ) : Type 0 where
   reached : a < m → Reached (tableOf s) own stop a
   remains : tryFrom (firstPass (tableOf s) .checks) a (m - a) ≡ tryPass (firstPass (tableOf s))
 
-start : (s actions : List ℕ) (n m stop : ℕ) → Laid s n m → actions ≡ bodiesOf s → stop ≡ countOf s 0 → Inv s actions n m 0 stop 0
+start : {s actions : List ℕ} {n m stop : ℕ} → Laid s n m → actions ≡ bodiesOf s → stop ≡ countOf s 0 → Inv s actions n m 0 stop 0
 unfolding tableOf tryPass sumTo
-start s actions n m stop l p e =
+start {s} {n = n} {m = m} l p e =
     let z : Sizes s n m = sizes (l .headed) in
     let f : tableOf s .first 0 ≡ 0 = first-is (tableOf s) (l .contents) 0 (omega (arith, z .threads-low, l .headed .threads)) ∙ refl in
     record {
@@ -124,7 +123,7 @@ word-requires : tie.Need-word-requires Inv-loop μ-loop
 word-requires c κs = omega (arith, sizes (c .before .before .pre .headed))
 
 loop-holds : tie.Need-loop-holds Inv-loop μ-loop
-loop-holds c = start (now (c .before .before .before .args .table)) _ _ _ _ (c .before .before .before .pre) (c .before .bodies .ensures) (c .word .ensures .value)
+loop-holds c = start (c .before .before .before .pre) (c .before .bodies .ensures) (c .word .ensures .value)
 
 span-at-requires : tie.Need-span-at-requires Inv-loop μ-loop
 span-at-requires c κs = (c .before .loop .inv .laid, c .before .loop .inv .reached (c .loop-test .taken))

@@ -6,7 +6,6 @@ use native.Mathlib.Decide.{decLt}
 use native.Mathlib.Numerals.{add-one}
 use native.Mathlib.Omega.{arith}
 use borrow.Author.Needs.{needs}
-use denote.Ref.{now}
 use Rattle.table.specs.Format.{tableOf, countOf}
 use Rattle.table.specs.Steps.{Laid, Reached, Holding}
 use Rattle.table.proofs.Sizes.{Sizes, sizes}
@@ -14,7 +13,7 @@ use Rattle.table.proofs.Bodies.{count-pos, first-next, body-within, las
 use Rattle.table.proofs.forms.span_at.Statement.{statement}
 use Rattle.table.proofs.forms.span_at.Tie as tie
 
-module _ (s : List ℕ) (n m own stop a : ℕ) (l : Laid s n m) (r : Reached (tableOf s) own stop a) (h : stop ≤ a) where
+module _ {s : List ℕ} {n m own stop a : ℕ} (l : Laid s n m) (r : Reached (tableOf s) own stop a) (h : stop ≤ a) where
   next : suc own < tableOf s .threads
   next = go (decLt (suc own) (tableOf s .threads))
     where
@@ -31,9 +30,9 @@ module _ (s : List ℕ) (n m own stop a : ℕ) (l : Laid s n m) (r : Reached (ta
       let z : Sizes s n m = sizes (l .headed) in
       (z, omega (arith, next, l .headed .threads), omega (arith, z .actions-high, l .headed .actions, body-within (tableOf s) (l .contents) own (r .thread), r .stops))
 
-  holds : (count : ℕ) → count ≡ countOf s (own + 1) → Holding (tableOf s) (own + 1) (stop + count) a
+  holds : {count : ℕ} → count ≡ countOf s (own + 1) → Holding (tableOf s) (own + 1) (stop + count) a
   unfolding tableOf
-  holds count e =
+  holds e =
       let k : tableOf s .first (own + 1) ≡ stop = rw (add-one own) (first-next (tableOf s) (l .contents) own next ∙ sym (r .stops)) in
       record {
         thread = rw (add-one own) next;
@@ -46,29 +45,29 @@ returns : tie.Need-returns
 returns c = search needs
 
 add-next : tie.Need-add-next
-add-next c = omega (arith, room _ _ _ _ _ _ (c .before .before .pre .0) (c .before .before .pre .1) (c .if1 .left))
+add-next c = omega (arith, room (c .before .before .pre .0) (c .before .before .pre .1) (c .if1 .left))
 
 mul-word : tie.Need-mul-word
-mul-word c = omega (arith, room _ _ _ _ _ _ (c .before .before .pre .0) (c .before .before .pre .1) (c .if1 .left))
+mul-word c = omega (arith, room (c .before .before .pre .0) (c .before .before .pre .1) (c .if1 .left))
 
 add-word : tie.Need-add-word
-add-word c = omega (arith, room _ _ _ _ _ _ (c .before .before .pre .0) (c .before .before .pre .1) (c .if1 .left))
+add-word c = omega (arith, room (c .before .before .pre .0) (c .before .before .pre .1) (c .if1 .left))
 
 word-requires : tie.Need-word-requires
-word-requires c κs = omega (arith, room _ _ _ _ _ _ (c .before .before .pre .0) (c .before .before .pre .1) (c .if1 .left))
+word-requires c κs = omega (arith, room (c .before .before .pre .0) (c .before .before .pre .1) (c .if1 .left))
 
 add-t13 : tie.Need-add-t13
 add-t13 c =
     omega (
       arith,
-      room _ _ _ _ _ _ (c .before .before .before .pre .0) (c .before .before .before .pre .1) (c .before .if1 .left),
+      room (c .before .before .before .pre .0) (c .before .before .before .pre .1) (c .before .if1 .left),
       c .word .ensures .small,
     )
 
 returns-2 : tie.Need-returns-2
 returns-2 c =
     let d = c .before .before .before in
-    holds (now (d .args .table)) _ _ _ _ _ (d .pre .0) (d .pre .1) (c .before .if1 .left) _ (c .word .ensures .value)
+    holds (d .pre .0) (d .pre .1) (c .before .if1 .left) (c .word .ensures .value)
 
 pub span-at-spec : {M : Type 1} → statement M
 span-at-spec =

@@ -22,7 +22,7 @@ start n forked h =
     let e : n - 1 ≡ pred n = omega arith in
     record { small = h; remains = rw e }
 
-module _ (n : ℕ) (forked : List Bool) (t : ℕ) (i : Inv n forked t) where
+module _ {n : ℕ} {forked : List Bool} {t : ℕ} (i : Inv n forked t) where
   again : t < n → not (getD forked t false) ≡ false → Inv n forked (t + 1)
   unfolding tryAt
   again h e = record { small = i .small; remains = sym (tryFrom-next _ t n h (rw e)) ∙ i .remains }
@@ -55,7 +55,7 @@ refuse-requires c κs = omega arith
 returns : tie.Need-returns Inv-loop μ-loop
 returns c =
     let d = c .before .before .before .before in
-    c .refuse .ensures ∙ stops _ (now (d .before .args .forked)) _ (d .loop .inv) (c .before .before .before .loop-test .taken) (c .before .if1 .taken)
+    c .refuse .ensures ∙ stops (d .loop .inv) (c .before .before .before .loop-test .taken) (c .before .if1 .taken)
 
 add-t : tie.Need-add-t Inv-loop μ-loop
 add-t c = omega arith
@@ -66,10 +66,10 @@ loop-less c = omega arith
 loop-again : tie.Need-loop-again Inv-loop μ-loop
 loop-again c =
     let d = c .before .before .before in
-    again _ (now (d .before .args .forked)) _ (d .loop .inv) (c .before .before .loop-test .taken) (c .if1 .left)
+    again (d .loop .inv) (c .before .before .loop-test .taken) (c .if1 .left)
 
 returns-2 : tie.Need-returns-2 Inv-loop μ-loop
-returns-2 c = none _ (now (c .before .before .args .forked)) _ (c .before .loop .inv) (c .loop-test .left)
+returns-2 c = none (c .before .loop .inv) (c .loop-test .left)
 
 pub never-forked-spec : {M : Type 1} → statement M
 never-forked-spec =

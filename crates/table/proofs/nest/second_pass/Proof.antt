@@ -5,7 +5,6 @@ use Prim.Native.Nat.{ℕ, _+_, _-_, _*_, _<_, _≤_}
 use mathlib.Core.List.{List}
 use mathlib.Core.Bool.{Bool, false}
 use native.Mathlib.Omega.{arith}
-use denote.Ref.{now}
 use lib.ListN.{length, getD, replicate, drop, length-drop, length-replicate, drop-of-length-le}
 use Rattle.table.specs.Format.{fork, kindOf, tableOf, kind, codeAt, argumentAt, actionsOf, bodiesOf}
 use Rattle.table.specs.Pass.{tryFrom, tryPass, refusal}
@@ -33,10 +32,10 @@ record Inv (s actions : List ℕ) (n m : ℕ) (forked : List Bool) (stack : List
   before : Stacked (tableOf s) a (drop top stack) forked
   remains : tryFrom (secondPass (tableOf s) .checks) a (m - a) ≡ tryPass (secondPass (tableOf s))
 
-start : (s actions : List ℕ) (n m : ℕ) (forked : List Bool) → Formed s n m → actions ≡ bodiesOf s → forked ≡ replicate 1024 false
+start : {s actions : List ℕ} {n m : ℕ} {forked : List Bool} → Formed s n m → actions ≡ bodiesOf s → forked ≡ replicate 1024 false
     → Inv s actions n m forked (replicate 1024 0) 1024 0
 unfolding tableOf tryPass
-start s actions n m forked h p e =
+start {s} h p e =
     let l : length {A = ℕ} (replicate 1024 0) ≡ 1024 = length-replicate {A = ℕ} 1024 0 in
     record {
       sizes = sizes (h .laid .headed);
@@ -126,7 +125,7 @@ bodies-requires c κs =
 loop-holds : tie.Need-loop-holds Inv-loop μ-loop
 loop-holds c =
     let d = c .before .before in
-    start (now (d .args .table)) _ _ _ (now (d .args .forked)) (d .pre .0) (c .bodies .ensures) (d .pre .1)
+    start (d .pre .0) (c .bodies .ensures) (d .pre .1)
 
 code-requires : tie.Need-code-requires Inv-loop μ-loop
 code-requires c κs = omega arith

@@ -25,28 +25,28 @@ record Inv (l : List ℕ) (count : ℕ) (rises falls peaks : List ℕ) (rise fal
   fallen : fall ≡ sumTo (amountAt free fork l falls) i
   highest : peak ≡ greatestTo (topOf l rises falls peaks) i
 
-module _ (l : List ℕ) (count : ℕ) (rises falls peaks : List ℕ) where
+module _ {l : List ℕ} {count : ℕ} {rises falls peaks : List ℕ} where
   start : WalkReady fork l count rises falls → PeaksReady l count rises falls peaks → Inv l count rises falls peaks 0 0 0 0
   unfolding sumTo greatestTo
   start r p = record { ready = r; low = p; within = omega arith; risen = refl; fallen = refl; highest = refl }
 
-  module _ (rise fall peak i : ℕ) (v : Inv l count rises falls peaks rise fall peak i) where
+  module _ {rise fall peak i : ℕ} (v : Inv l count rises falls peaks rise fall peak i) where
     held : fall ≤ rise
     held = omega (arith, v .low .held i (v .within))
 
     -- what is held while a child runs fits
-    top-small : (k x d : ℕ) → i < count → k ≡ codeAt l i → x ≡ argumentAt l i → d ≡ childAmount fork (kindOf k) x peaks → rise - fall + d < 2 ^ 64
-    top-small k x d h e f g =
+    top-small : {k x d : ℕ} → i < count → k ≡ codeAt l i → x ≡ argumentAt l i → d ≡ childAmount fork (kindOf k) x peaks → rise - fall + d < 2 ^ 64
+    top-small h e f g =
         omega (arith, sumTo-part (amountAt alloc fork l rises) i count (v .within), rw (e, f) at g, go (is fork (kindOf (codeAt l i))) refl)
       where
         go : (t : Bool) → is fork (kindOf (codeAt l i)) ≡ t → pick t (getD peaks (argumentAt l i) 0) 0 < 2 ^ 40
         go true q = v .low .small i h (is-true fork _ q)
         go false q = omega arith
 
-    top-next : (k x d r : ℕ) → k ≡ codeAt l i → x ≡ argumentAt l i → d ≡ childAmount fork (kindOf k) x peaks → r ≡ max peak (rise - fall + d)
+    top-next : {k x d r : ℕ} → k ≡ codeAt l i → x ≡ argumentAt l i → d ≡ childAmount fork (kindOf k) x peaks → r ≡ max peak (rise - fall + d)
         → r ≡ greatestTo (topOf l rises falls peaks) (i + 1)
     unfolding greatestTo topOf
-    top-next k x d r e f g q = rw add-one (cc)
+    top-next e f g q = rw add-one (cc)
 
 abbrev Inv-loop : tie.InvT-loop
 Inv-loop body count rises falls peaks rise₀ fall₀ peak₀ i₀ rise fall peak i = Inv body count rises falls peaks rise fall peak i
@@ -59,7 +59,7 @@ child-index : (c : tie.After-argument Inv-loop μ-loop) → c .before .code .res
 unfolding kindOf
 child-index c e =
     let d = c .before .before in
-    child-small fork _ _ _ _ _ _ _ (d .before .loop .inv .ready) (d .loop-test .taken) (c .before .code .ensures) (c .argument .ensures .value) (rw e)
+    child-small (d .before .loop .inv .ready) (d .loop-test .taken) (c .before .code .ensures) (c .argument .ensures .value) (rw e)
 
 risen-next : (c : tie.After-child-amount2 Inv-loop μ-loop)
     → Summed (amountAt alloc fork (now (c .before .before .before .before .before .before .before .before .before .args .body))
@@ -70,7 +70,7 @@ unfolding kindOf
 risen-next c =
     let a = c .before .before .before .before in
     let d = a .before .before in
-    sum-next alloc fork _ _ _ _ _ _ _ _ _ (d .before .loop .inv .ready .rise-small) (d .loop-test .taken) (a .before .code .ensures) (a .argument .ensures .value)
+    sum-next alloc fork _ _ (d .before .loop .inv .ready .rise-small) (d .loop-test .taken) (a .before .code .ensures) (a .argument .ensures .value)
     (c .before .own-amount .ensures) (c .child-amount2 .ensures) (d .before .loop .inv .risen)
 
 fallen-next : (c : tie.After-child-amount3 Inv-loop μ-loop)
@@ -82,11 +82,11 @@ unfolding kindOf
 fallen-next c =
     let a = c .before .before .before .before .before .before in
     let d = a .before .before in
-    sum-next free fork _ _ _ _ _ _ _ _ _ (d .before .loop .inv .ready .fall-small) (d .loop-test .taken) (a .before .code .ensures) (a .argument .ensures .value)
+    sum-next free fork _ _ (d .before .loop .inv .ready .fall-small) (d .loop-test .taken) (a .before .code .ensures) (a .argument .ensures .value)
     (c .before .own-amount2 .ensures) (c .child-amount3 .ensures) (d .before .loop .inv .fallen)
 
 loop-holds : tie.Need-loop-holds Inv-loop μ-loop
-loop-holds c = start (now (c .before .args .body)) _ _ _ _ (c .before .pre .0) (c .before .pre .1)
+loop-holds c = start (c .before .pre .0) (c .before .pre .1)
 
 code-requires : tie.Need-code-requires Inv-loop μ-loop
 code-requires c κs = omega arith
@@ -95,7 +95,7 @@ argument-requires : tie.Need-argument-requires Inv-loop μ-loop
 argument-requires c κs = omega arith
 
 sub-larger : tie.Need-sub-larger Inv-loop μ-loop
-sub-larger c = held _ _ _ _ _ _ _ _ _ (c .before .before .before .loop .inv)
+sub-larger c = held (c .before .before .before .loop .inv)
 
 child-amount-requires : tie.Need-child-amount-requires Inv-loop μ-loop
 child-amount-requires c κs = (omega arith, child-index c)
@@ -104,7 +104,7 @@ add-larger : tie.Need-add-larger Inv-loop μ-loop
 unfolding kindOf
 add-larger c =
     let d = c .before .before .before in
-    record { fits = top-small _ _ _ _ _ _ _ _ _ (d .before .loop .inv) _ _ _ (d .loop-test .taken) (c .before .before .code .ensures) (c .before .argument .ensures .value) (c .child-amount .ensures) }
+    record { fits = top-small (d .before .loop .inv) (d .loop-test .taken) (c .before .before .code .ensures) (c .before .argument .ensures .value) (c .child-amount .ensures) }
 
 larger-requires : tie.Need-larger-requires Inv-loop μ-loop
 larger-requires c κs = search needs
@@ -151,7 +151,7 @@ loop-again c =
       within = omega arith;
       risen = rw add-one (risen-next (c .before .before) .value);
       fallen = rw add-one (fallen-next c .value);
-      highest = top-next _ _ _ _ _ _ _ _ _ v _ _ _ _ (a .before .code .ensures) (a .argument .ensures .value) (c .before .before .before .before .before .child-amount .ensures) (c .before .before .before .before .larger .ensures);
+      highest = top-next v (a .before .code .ensures) (a .argument .ensures .value) (c .before .before .before .before .before .child-amount .ensures) (c .before .before .before .before .larger .ensures);
     }
 
 returns : tie.Need-returns Inv-loop μ-loop

@@ -1,9 +1,8 @@
 -- `table::peak::serial_peak` meets its contract. The invariant: the array has the peak of each thread from t on.
 use mathlib.Core.Path.{_≡_, refl, _∙_}
-use Prim.Native.Nat.{ℕ, suc, _-_, _<_, _≤_}
+use Prim.Native.Nat.{ℕ, suc, _<_, _≤_}
 use mathlib.Core.List.{List}
 use native.Mathlib.Omega.{arith}
-use denote.Ref.{now}
 use lib.ListN.{length, getD, set}
 use Rattle.table.specs.Sum.{greatestTo}
 use Rattle.table.specs.Format.{fork, tableOf, countOf, bodyOf}
@@ -27,11 +26,11 @@ record Inv (s : List ℕ) (n m : ℕ) (rises falls peaks : List ℕ) (t : ℕ) :
   within : t ≤ n
   peaking : Filled (tableOf s) (peakAt (tableOf s)) peaks t
 
-start : (s : List ℕ) (n m : ℕ) (rises falls peaks : List ℕ) → Kept s n m → ((i : ℕ) → getD s i 0 < 256)
+start : {s : List ℕ} {n m : ℕ} {rises falls peaks : List ℕ} → Kept s n m → ((i : ℕ) → getD s i 0 < 256)
     → Filled (tableOf s) (whole (tableOf s) (allocOf (tableOf s))) rises 0 → Filled (tableOf s) (whole (tableOf s) (freeOf (tableOf s))) falls 0
     → length peaks ≡ 1024 → Inv s n m rises falls peaks n
 unfolding tableOf
-start s n m rises falls peaks k b r f l =
+start {s} {n} {m} k b r f l =
     let h : Headed s n m = k .nested .formed .laid .headed in
     record {
       kept = k;
@@ -84,7 +83,7 @@ abbrev μ-loop : tie.MeasureT-loop
 loop-holds : tie.Need-loop-holds Inv-loop μ-loop
 loop-holds c =
     let d = c .before in
-    start (now (d .args .table)) _ _ _ _ _ (d .pre .0) (λ i. omega (arith, c .shared-slice-known .given i)) (d .pre .1 .0) (d .pre .1 .1) refl
+    start (d .pre .0) (λ i. omega (arith, c .shared-slice-known .given i)) (d .pre .1 .0) (d .pre .1 .1) refl
 
 sub-t : tie.Need-sub-t Inv-loop μ-loop
 sub-t c = omega arith
