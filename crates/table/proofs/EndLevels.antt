@@ -18,7 +18,7 @@ use Rattle.table.specs.Steps.{Nested, EndLevels, Walked, nextLevel}
 use Rattle.table.proofs.Tests.{is-true, fork-no-end}
 use Rattle.table.proofs.Sizes.{sizes}
 use Rattle.table.proofs.Bodies.{first-within, end-within, count-pos, owner-at, owner-of-first, fork-below, join-below, next-within}
-use Rattle.table.proofs.Nesting.{open-first, open-fork, open-join, open-same, open-forked}
+use Rattle.table.proofs.Nesting.{open-first, open-fork, open-join, open-same, open-below}
 use Rattle.table.proofs.Rank.{rest, rest-fork, rest-along, rest-pos, no-end}
 use Rattle.table.proofs.Amounts.{action-within}
 use Rattle.table.proofs.Levels.{first-no-join, level-is, level-bound, level-step, level-join}
@@ -56,11 +56,6 @@ pub record Walking (T : Table) (t : ℕ) (ends₀ ends : List ℕ) (last i : ℕ
 module _ (T : Table) (c : ContentRules T) (b : BodyRules T) (n : NestRules T) (f : ForkRules T) where
   pub level-pos : (a : ℕ) → a < T .actions → 0 < level T a
   level-pos a h = omega (arith, level-is T c b n f a h)
-
-  open-below : (a d : ℕ) → a < T .actions → List·Memᴰ d (openBefore T a) → d < T .threads
-  open-below a d h k =
-      let o = open-forked T c b n a d h k in
-      rw (o .3) at (fork-below T c b (o .0) (omega (arith, o .1)) (o .2))
 
   same-level : (x y : List ℕ) → Same T x y → (d : ℕ) → d < T .threads → getD x d 0 ≡ level T (endOf T d) → getD y d 0 ≡ level T (endOf T d)
   same-level x y p d h e = p d h (λ z. omega (arith, level-pos (endOf T d) (end-within T c d h))) ∙ e
@@ -215,7 +210,7 @@ module _ (T : Table) (c : ContentRules T) (b : BodyRules T) (n : NestRules T) (f
 
           is-open : (d : ℕ) → (d ≡ x) ⊎ List·Memᴰ d (openBefore T (T .first t + i)) → getD (set ends′ x r) d 0 ≡ level T (endOf T d)
           is-open d (inl p) = rw p (set-here x r below few (q .level) ends′ (q .known))
-          is-open d (inr m) = same-level ends (set ends′ x r) kept d (open-below (T .first t + i) d within m) (w .opens k d m)
+          is-open d (inr m) = same-level ends (set ends′ x r) kept d (open-below T c b n (T .first t + i) d within m) (w .opens k d m)
 
 -- ---- a table that keeps the rules
 

@@ -13,7 +13,7 @@ use Rattle.table.specs.Format.{end, fork, join, is, Table, kind}
 use Rattle.table.specs.Rules.{owner, endOf}
 use Rattle.table.specs.Accepted.{ContentRules, BodyRules, NestRules, ForkRules}
 use Rattle.table.specs.Level.{forkOf, beforeIt, joinedEnd, dependsOn, levelWithin, level}
-use Rattle.table.proofs.Tests.{is-true}
+use Rattle.table.proofs.Tests.{no-way, is-true}
 use Rattle.table.proofs.Bodies.{first-within, end-within, owner-is, owner-of-first, owner-below, owner-first, owner-end, fork-above, fork-below, join-below, next-within, next-owner}
 use Rattle.table.proofs.Nesting.{open-first, open-join, fork-found, fork-exists}
 use Rattle.table.proofs.Rank.{rank, no-end, rank-child, rank-rises, rank-join, rank-bound}
@@ -59,8 +59,7 @@ module _ (T : Table) (c : ContentRules T) (b : BodyRules T) (n : NestRules T) wh
     where
       go : (q : Bool) → is join (kind T (T .first t)) ≡ q → q ≡ false
       go true e =
-          let z : _≡_ {A = ℕ} 0 1 = cc (open-first T c b n t h, open-join T c b n (T .first t) (first-within T c t h) (is-true join (kind T (T .first t)) e)) in
-          absurd (omega arith)
+          no-way (cc (open-first T c b n t h, open-join T c b n (T .first t) (first-within T c t h) (is-true join (kind T (T .first t)) e)))
       go false e = refl
 
   pub depends-root : 0 < T .threads → dependsOn T (T .first 0) ≡ []

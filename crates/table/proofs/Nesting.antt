@@ -14,7 +14,7 @@ use Rattle.table.specs.Rules.{owner, forks, forkedBelow, forkedBefore, t
 use Rattle.table.specs.Accepted.{ContentRules, BodyRules, NestRules, ForkRules}
 use Rattle.table.specs.Level.{forkBelow}
 use Rattle.table.proofs.Tests.{no-way, and-both, is-true, same-is}
-use Rattle.table.proofs.Bodies.{first-is, first-next, after-end, next-owner, end-kind}
+use Rattle.table.proofs.Bodies.{first-is, first-next, after-end, fork-below, next-owner, end-kind}
 
 -- ---- tests
 
@@ -142,6 +142,11 @@ module _ (T : Table) (c : ContentRules T) (b : BodyRules T) (n : NestRules T) wh
       go (e, inr m) ih =
           let (x, i, p, q, o) = ih m in
           (x, omega arith, p, q, cc (next-owner T c b a l e))
+
+  pub open-below : (a d : ℕ) → a < T .actions → List·Memᴰ d (openBefore T a) → d < T .threads
+  open-below a d h m =
+      let o = open-forked a d h m in
+      rw (o .3) at (fork-below T c b (o .0) (omega (arith, o .1)) (o .2))
 
   -- no two forks of one child, in order
   fork-not-later : (x y : ℕ) → x < y → y < T .actions → kind T x ≡ fork → kind T y ≡ fork → T .argument x ≡ T .argument y → ⊥

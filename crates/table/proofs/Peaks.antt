@@ -9,12 +9,12 @@ use native.Mathlib.Decide.{decLt}
 use borrow.Author.Tests.{ltb-false}
 use Rattle.table.specs.Sum.{pick, sumTo, sumOver, greatest, greatestTo}
 use Rattle.table.specs.Format.{Kind, end, alloc, free, fork, codeOf, is, Table, kind}
-use Rattle.table.specs.Rules.{owner, openBefore, allocOf, freeOf, whole, partOf, balance, balanceBelow0}
+use Rattle.table.specs.Rules.{openBefore, allocOf, freeOf, whole, partOf, balance, balanceBelow0}
 use Rattle.table.specs.Accepted.{ContentRules, BodyRules, NestRules, BalanceRules}
 use Rattle.table.specs.Serial.{serial, heldAfter, fronts, peakOf}
 use Rattle.table.proofs.Tests.{negative-is}
 use Rattle.table.proofs.Bodies.{count-pos, owner-at, fork-below}
-use Rattle.table.proofs.Nesting.{open-forked}
+use Rattle.table.proofs.Nesting.{open-below}
 use Rattle.table.proofs.Serial.{serial-end, serial-fork, serial-step}
 use Rattle.table.proofs.Amounts.{forkPart, forkPart-fork, forkPart-step, forkPart-open, forkPart-whole, action-within, along-serial, whole-is, whole-serial, whole-bound}
 
@@ -144,10 +144,6 @@ module _ (T : Table) (c : ContentRules T) (b : BodyRules T) (n : NestRules T) (e
   pub forkPart-held : (t k : ℕ) → t < T .threads → k ≤ T .count t → forkPart T (freeOf T) t k ≤ forkPart T (allocOf T) t k
   forkPart-held t k h j = go (decLt k (T .count t))
     where
-      open-within : (a d : ℕ) → a < T .actions
-          → (x : ℕ) × (x < a) × (kind T x ≡ fork) × (T .argument x ≡ d) × (owner T x ≡ owner T a) → d < T .threads
-      open-within a d w p = rw (p .3) at (fork-below T c b (p .0) (omega (arith, p .1)) (p .2))
-
       go : Dec (k < T .count t) → forkPart T (freeOf T) t k ≤ forkPart T (allocOf T) t k
       go (yes i) =
           let a : ℕ = T .first t + k in
@@ -157,7 +153,7 @@ module _ (T : Table) (c : ContentRules T) (b : BodyRules T) (n : NestRules T) (e
             forkPart-open T c b n (freeOf T) t k h i,
             forkPart-open T c b n (allocOf T) t k h i,
             part-held t k h j,
-            sumOver-le (whole T (freeOf T)) (whole T (allocOf T)) (openBefore T a) (λ d m. whole-held d (open-within a d w (open-forked T c b n a d w m))),
+            sumOver-le (whole T (freeOf T)) (whole T (allocOf T)) (openBefore T a) (λ d m. whole-held d (open-below T c b n a d w m)),
           )
       go (no i) =
           let l : k ≡ T .count t = omega (arith, i) in

@@ -7,8 +7,8 @@ use mathlib.Core.List.{List, [], _∷_, _++_, List·Memᴰ, List·Memᴰ·cases-
 use mathlib.Core.Bool.{Bool, true, false, _&&_}
 use mathlib.Core.Logic.{_⊎_, inl, inr, ⊎-elim}
 use lib.ListN.{length, length-append}
-use lib.Dec.{ltb, leb, eqb}
-use borrow.Author.Tests.{ltb-true, ltb-false, leb-true, leb-false, eqb-true, lt-ltb, le-ltb, le-leb, lt-leb, eq-eqb}
+use lib.Dec.{ltb, leb}
+use borrow.Author.Tests.{ltb-true, ltb-false, leb-true, leb-false, lt-ltb, le-ltb, le-leb, lt-leb}
 use Rattle.table.specs.Sum.{pick, sumTo}
 use Rattle.table.specs.Format.{Kind, end, work, alloc, free, fork, join, unknown, codeOf, is, Table, kind}
 use Rattle.table.specs.Rules.{owner, forks}
@@ -16,10 +16,10 @@ use Rattle.table.specs.Accepted.{ContentRules, BodyRules, NestRules, For
 use Rattle.table.specs.Serial.{serialWithin, serial}
 use Rattle.table.specs.Level.{forkBelow}
 use Rattle.table.proofs.Sums.{sumTo-cong, sumTo-one, sumTo-zero}
-use Rattle.table.proofs.Tests.{and-both, is-true, Turn, ends, branches, goes, turn}
+use Rattle.table.proofs.Tests.{no-way, Turn, ends, branches, goes, turn}
 use Rattle.table.proofs.Bodies.{first-is, first-within, count-pos, owner-at, owner-below, owner-first, owner-end}
 use Rattle.table.proofs.Bodies.{fork-below, fork-later, next-within, next-owner, end-last}
-use Rattle.table.proofs.Nesting.{fork-found, fork-exists}
+use Rattle.table.proofs.Nesting.{forks-true, fork-forks, fork-found, fork-exists}
 
 -- ---- fuel
 
@@ -130,15 +130,6 @@ ltb-suc a h d = go (ltb a h) refl
     go false e = le-ltb (suc a) h (omega (arith, ltb-false a h e))
 
 module _ (T : Table) where
-  forks-fork : (a : ℕ) → kind T a ≡ fork → forks T (T .argument a) a ≡ true
-  unfolding is codeOf
-  forks-fork a k = rw (k, eq-eqb (T .argument a) (T .argument a) refl)
-
-  forks-true : (d x : ℕ) → forks T d x ≡ true → (kind T x ≡ fork) × (T .argument x ≡ d)
-  forks-true d x e =
-      let p = and-both (is fork (kind T x)) (eqb (T .argument x) d) e in
-      (is-true fork (kind T x) (p .0), eqb-true (T .argument x) d (p .1))
-
   unrun-same : (a d : ℕ) → (since T d ≡ suc a → ⊥) → (T .first d ≡ suc a → ⊥) → unrun T a d ≡ unrun T (suc a) d
   unfolding unrun
   unrun-same a d p q = rw (leb-suc (since T d) a p, ltb-suc a (T .first d) q)
@@ -176,7 +167,7 @@ module _ (T : Table) where
           → (a ≤ pred (T .actions)) × (kind T a ≡ fork) × (T .argument a ≡ d)
       go true f e =
           let x : forkBelow T (T .actions) d ≡ a = omega arith in
-          let p = forks-true d a (rw x at f) in
+          let p = forks-true T d a (rw x at f) in
           (omega (arith, forkBelow-below (T .actions) d), p .0, p .1)
       go false f e = absurd (omega arith)
 
@@ -184,13 +175,12 @@ module _ (T : Table) where
   unfolding is codeOf
   since-no-fork a d j e =
       let p = rw (since-forks d a e .1) at j in
-      let z : _≡_ {A = ℕ} 0 1 = cc in
-      omega arith
+      no-way cc
 
 module _ (T : Table) (c : ContentRules T) (b : BodyRules T) (n : NestRules T) where
   since-fork : (a : ℕ) → a < T .actions → kind T a ≡ fork → since T (T .argument a) ≡ suc a
   unfolding since
-  since-fork a h k = rw (fork-found T c b n a h k, forks-fork T a k)
+  since-fork a h k = rw (fork-found T c b n a h k, fork-forks T (T .argument a) a k refl)
 
   since-first : (d : ℕ) → d < T .threads → since T d ≤ T .first d
   since-first d h = go (since T d) refl
