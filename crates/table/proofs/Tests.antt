@@ -1,4 +1,4 @@
--- Tests and kinds: what the two ways through `||` and `&&` say, that the test `is` is equality, and how the kinds part.
+-- Tests and kinds: what the two ways through `||` and `&&` say, that the test `is` is equality, what a choice by a test is, and how the kinds part.
 use mathlib.Core.Path.{_≡_, refl, sym}
 use Prim.Native.Nat.{ℕ, suc, _-_, _<_}
 use mathlib.Core.Bool.{Bool, true, false, not, _&&_, _||_, cond}

@@ -1,4 +1,4 @@
-// Numbers out of bytes.
+// Numbers, actions and bodies out of bytes.
 use crate::Found;
 use crate::Refusal;
 ghost use mathlib.Core.Path.{_≡_};
