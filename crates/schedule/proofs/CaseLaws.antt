@@ -1,0 +1,115 @@
+-- The worked cases hold of turns as they are defined, each with its test of the whole record.
+use mathlib.Core.Path.{_≡_, refl, ap, _∙_}
+use Prim.Native.Nat.{ℕ, suc, _+_, _-_, _^_, _≤_, _<_}
+use native.Mathlib.Omega.{arith}
+use mathlib.Core.List.{List, [], _∷_, map}
+use mathlib.Core.Bool.{Bool, true, false, _&&_}
+use lib.ListN.{length}
+use lib.Dec.{ltb, leb, eqb}
+use Rattle.table.specs.Sum.{pick}
+use Rattle.table.specs.Format.{Kind, end, work, alloc, free, fork, join, unknown, Table}
+use Rattle.table.specs.Pass.{tryAt}
+use Rattle.table.specs.declared.Found.{Found}
+use Rattle.table.specs.declared.Found.the-variants.{Nothing, At}
+use Rattle.schedule.specs.declared.Run.{Run}
+use Rattle.schedule.specs.declared.Beginning.{Beginning}
+use Rattle.schedule.specs.declared.Beginning.the-variants.{Begun as started}
+use Rattle.schedule.specs.declared.Beginning.the-variants.{Refused as refusedBeginning}
+use Rattle.schedule.specs.Machine.{State, ended, statusOf, workerOf, parentOf, waitsFor, woken, Stepped, actBy, act, leftmost, taken, turnFree, turnOf}
+use Rattle.schedule.specs.Record.{tableIn, stateOf}
+use Rattle.schedule.specs.Begin.{startState, begin}
+use Rattle.schedule.specs.Sound.{Steady, Sound}
+use Rattle.schedule.specs.Turn.{unsound, turnChecks, stepRun, turnedAs, turned}
+use Rattle.schedule.specs.Cases.{turnsBy, beginThen, ranBy, soundChecks, turnedSound, ranAs, Case, cases, worked}
+use Rattle.schedule.proofs.Words.{and-exactly, ltb-exactly}
+use Rattle.schedule.proofs.Turns.{either}
+use Rattle.schedule.proofs.Tests.{sound-exactly}
+use Rattle.schedule.proofs.Histories.{begin-sound, turn-steady, start-state}
+
+-- a sound record's turn is refused by 30 and 31 alone
+pub sound-checks : (r : Run) (w : ℕ) → Sound r → tryAt (turnChecks r w) 0 ≡ tryAt (soundChecks r w) 0
+unfolding turnChecks tryAt unsound
+sound-checks r w h = rw (sound-exactly r .1 h)
+
+pub turned-sound : (r : Run) (w : ℕ) → Sound r → turned r w ≡ turnedSound r w
+unfolding turned
+turned-sound r w h = rw (sound-checks r w h)
+
+-- ---- "Every turn counts as one."
+
+-- the same where either is picked
+picked : {A : Type 0} (f : A → ℕ) (n : ℕ) (q : Bool) (x y : A) → f x ≡ n → f y ≡ n → f (pick q x y) ≡ n
+picked f n q x y g h = either (λ z. f z ≡ n) q x y (λ e. g) (λ e. h)
+
+module _ (T : Table) where
+  act-turns : (k : Kind) (w t a x : ℕ) (st : State) → actBy k T w t a x st .state .turns ≡ st .turns
+  unfolding actBy woken
+  act-turns end w t a x st = picked (λ (s : State). s .turns) (st .turns) (waitsFor T _ (parentOf T t) t) _ _ refl refl
+  act-turns work w t a x st = refl
+  act-turns alloc w t a x st = picked (λ (s : Stepped). s .state .turns) (st .turns) (leb x (workerOf st w .quota)) _ _ refl refl
+  act-turns free w t a x st = refl
+  act-turns fork w t a x st = refl
+  act-turns join w t a x st = picked (λ (s : Stepped). s .state .turns) (st .turns) (eqb (statusOf st x) ended) _ _ refl refl
+  act-turns unknown w t a x st = refl
+
+  holder-turns : (w : ℕ) (st : State) → act T w st .state .turns ≡ st .turns
+  unfolding act
+  holder-turns w st = act-turns _ w _ _ _ st
+
+  pub turn-turns : (K w : ℕ) (st : State) → turnOf T K w st .state .turns ≡ suc (st .turns)
+  unfolding turnOf turnFree taken
+  turn-turns K w st =
+      ap suc (picked (λ (s : Stepped). s .state .turns) (st .turns) (workerOf st w .holds) _ _ (holder-turns w st)
+      (picked (λ (s : Stepped). s .state .turns) (st .turns) (eqb (leftmost (st .status) (st .list)) (length (st .list))) _ _ refl (holder-turns w _)))
+
+turned-turns : (r : Run) (w : ℕ) → turned r w .run .turns ≤ suc (r .turns)
+unfolding turned stepRun
+turned-turns r w = go (tryAt (turnChecks r w) 0)
+  where
+    go : (f : Found) → turnedAs f r (stepRun r w) .run .turns ≤ suc (r .turns)
+    go Nothing = omega (arith, turn-turns (tableIn r) (r .quota) w (stateOf r))
+    go (At x) = omega arith
+
+-- ---- the runs
+
+-- turns from a sound record, as long as turns taken stays within 2^64 − 1
+turns-sound : (order : List ℕ) (r : Run) → Steady r → r .turns + length order ≤ 2 ^ 64 - 1 → turnsBy turned r order ≡ turnsBy turnedSound r order
+turns-sound [] r h k = refl
+turns-sound (w ∷ order) r h k =
+    let e : turned r w ≡ turnedSound r w = turned-sound r w (record { steady = h; turns = omega arith }) in
+    let ih = turns-sound order (turned r w .run) (turn-steady r w h) (omega (arith, turned-turns r w)) in
+    rw (ih, e)
+
+-- what the cases compute is what a beginning and turns say
+pub ran-turned : (s : List ℕ) (p K : ℕ) (order : List ℕ) → length order < 2 ^ 64 → ranBy turned s p K order ≡ ranAs s p K order
+unfolding startState
+ran-turned s p K order k = go (begin s p K .answer) refl
+  where
+    r : Run
+    r = begin s p K .run
+
+    go : (a : Beginning) → begin s p K .answer ≡ a → beginThen a (turnsBy turned r order) ≡ beginThen a (turnsBy turnedSound r order)
+    go started e =
+        let b : begin s p K ≡ record { answer = started; run = r } = λ i. record { answer = e i; run = r } in
+        let z : r .turns ≡ 0 = ap (λ (st : State). st .turns) (start-state s p K r b .3) in
+        turns-sound order r (begin-sound s p K r b .steady) (omega arith)
+    go (refusedBeginning x) e = refl
+
+-- ---- the table of cases
+
+short : List Case → Bool
+short [] = true
+short (c ∷ l) = ltb (length (c .order)) (2 ^ 64) && short l
+
+all-turned : (l : List Case) → short l ≡ true
+    → map (λ (c : Case). ranBy turned (c .bytes) (c .workers) (c .quota) (c .order)) l ≡ map (λ (c : Case). ranAs (c .bytes) (c .workers) (c .quota) (c .order)) l
+unfolding short
+all-turned [] h = refl
+all-turned (c ∷ l) h =
+    let q : (ltb (length (c .order)) (2 ^ 64) ≡ true) × (short l ≡ true) = and-exactly (ltb (length (c .order)) (2 ^ 64)) (short l) .0 h in
+    cc (ran-turned (c .bytes) (c .workers) (c .quota) (c .order) (ltb-exactly (length (c .order)) (2 ^ 64) .0 (q .0)), all-turned l (q .1))
+
+-- every row's beginning and turns have the row's listing
+pub worked-turned : map (λ (c : Case). ranBy turned (c .bytes) (c .workers) (c .quota) (c .order)) cases ≡ map (λ (c : Case). c .listing) cases
+unfolding short cases
+worked-turned = all-turned cases refl ∙ worked

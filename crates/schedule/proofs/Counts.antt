@@ -1,0 +1,71 @@
+-- Counting: a sum of terms under a bound, a list in which nothing stands twice, and the bits of a set of workers.
+use mathlib.Core.Path.{_≡_, refl, sym, _∙_}
+use Prim.Native.Nat.{ℕ, zero, suc, _+_, _*_, _^_, _≤_, _<_}
+use native.Mathlib.Omega.{arith}
+use native.Mathlib.Nat.{mul-suc}
+use mathlib.Core.List.{List, [], _∷_, List·Memᴰ, List·Memᴰ·head, List·Memᴰ·tail}
+use mathlib.Core.Bool.{Bool, true, false}
+use lib.Count.{ones, ones-cat}
+use lib.ListN.{length, getD}
+use borrow.Author.Tests.{eq-eqb, ne-eqb}
+use Rattle.table.specs.Sum.{pick, sumTo}
+use Rattle.table.proofs.Sums.{sumTo-zero, sumTo-one}
+use Rattle.schedule.specs.declared.Worker.{Worker}
+use Rattle.schedule.specs.Machine.{nobody}
+use Rattle.schedule.specs.Record.{setOf}
+use Rattle.schedule.specs.Sound.{member, countBelow, rises}
+use Rattle.schedule.proofs.Words.{never-true, member-exactly, rises-tail, rises-head}
+
+pub sumTo-bound : (f : ℕ → ℕ) (B k : ℕ) → ((i : ℕ) → i < k → f i ≤ B) → sumTo f k ≤ B * k
+unfolding sumTo
+sumTo-bound f B zero h = omega arith
+sumTo-bound f B (suc k) h = omega (arith, sumTo-bound f B k (λ i l. h i (omega arith)), h k (omega arith), mul-suc B k)
+
+-- the first term apart
+pub sumTo-first : (f : ℕ → ℕ) (k : ℕ) → sumTo f (suc k) ≡ f 0 + sumTo (λ i. f (suc i)) k
+unfolding sumTo
+sumTo-first f zero = omega arith
+sumTo-first f (suc k) = omega (arith, sumTo-first f k)
+
+pub count-bound : (f : ℕ → Bool) (k : ℕ) → countBelow f k ≤ k
+count-bound f k = omega (arith, sumTo-bound (λ i. pick (f i) 1 0) 1 k (λ i l. go (f i)))
+  where
+    go : (t : Bool) → pick t 1 0 ≤ 1
+    go true = omega arith
+    go false = omega arith
+
+-- ---- the numbers below n that are in a list
+
+-- one that is not yet in it counts as one more
+pub member-more : (n x : ℕ) (l : List ℕ) → x < n → member x l ≡ false → countBelow (λ t. member t (x ∷ l)) n ≡ suc (countBelow (λ t. member t l) n)
+unfolding member
+member-more n x l h e =
+    let now : _≡_ {A = ℕ} (pick (member x (x ∷ l)) 1 0) 1 = rw (eq-eqb x x refl) in
+    let before : _≡_ {A = ℕ} (pick (member x l) 1 0) 0 = rw e in
+    omega (arith, sumTo-one (λ t. pick (member t (x ∷ l)) 1 0) (λ t. pick (member t l) 1 0) x n h (λ t i d. rw (ne-eqb t x d)))
+
+-- of a list that rises they are as many as its length
+pub rising-count : (f : ℕ → ℕ) (n : ℕ) (l : List ℕ) → rises f l ≡ true → ((x : ℕ) → List·Memᴰ x l → x < n) → countBelow (λ t. member t l) n ≡ length l
+unfolding member
+rising-count f n [] e h = sumTo-zero (λ t. 0) n (λ t i. refl)
+rising-count f n (x ∷ l) e h =
+    let new : member x l ≡ false = never-true (member x l) (λ m. omega (arith, rises-head f x l e x (member-exactly x l .0 m))) in
+    omega (arith, member-more n x l (h x (List·Memᴰ·head refl)) new, rising-count f n l (rises-tail f x l e) (λ y m. h y (List·Memᴰ·tail m)))
+
+-- ---- the set of workers
+
+-- a lowest bit in front of the others
+digit-ones : (t : Bool) (n : ℕ) → ones (pick t 1 0 + 2 * n) ≡ pick t 1 0 + ones n
+unfolding ones
+digit-ones true n =
+    let e : 1 + 2 * n ≡ n * 2 ^ 1 + 1 = omega arith in
+    rw e (omega (arith, ones-cat 1 n 1 (omega arith)))
+digit-ones false n =
+    let e : 0 + 2 * n ≡ n * 2 ^ 1 + 0 = omega arith in
+    rw e (omega (arith, ones-cat 1 n 0 (omega arith)))
+
+-- the ones of the set are the workers that hold a thread
+pub set-ones : (l : List Worker) → ones (setOf l) ≡ countBelow (λ w. getD l w nobody .holds) (length l)
+unfolding setOf ones sumTo
+set-ones [] = refl
+set-ones (x ∷ l) = digit-ones (x .holds) (setOf l) ∙ omega (arith, set-ones l) ∙ sym (sumTo-first (λ w. pick (getD (x ∷ l) w nobody .holds) 1 0) (length l))

@@ -1,0 +1,56 @@
+-- Demand 3, entire: the memory limit over every list of calls.
+--
+-- What it cites, in crates/schedule/specs: `begin` (Begin) answers with the record of an accepted beginning; `afterCalls` and `rowOfCalls` (Calls) are the record that a list of calls
+-- leaves and its row of turns; `memoryOf` and `peakMemory` (Memory) are what the row's turns hold, from the replies and the table alone; `Keeps` (Memory) is the rule with b; `limit`
+-- (Memory) is S1 + b·K·(p − 1)·(D − 1), with S1 and D of crates/table/specs.
+use mathlib.Core.Path.{_≡_, sym, ap, _∙_}
+use Prim.Native.Nat.{ℕ, _≤_, _<_}
+use native.Mathlib.Omega.{arith}
+use mathlib.Core.List.{List, [], _++_, append-nil, List·Memᴰ}
+use Rattle.table.specs.Format.{Table, tableOf}
+use Rattle.table.specs.Serial.{S1}
+use Rattle.schedule.specs.declared.Run.{Run}
+use Rattle.schedule.specs.declared.Beginning.the-variants.{Begun as started}
+use Rattle.schedule.specs.Machine.{State}
+use Rattle.schedule.specs.Record.{stateOf}
+use Rattle.schedule.specs.Begin.{begin, startState}
+use Rattle.schedule.specs.Calls.{Call, afterCalls, rowOfCalls}
+use Rattle.schedule.specs.Memory.{rowState, memoryOf, peakMemory, Keeps, limit}
+use Rattle.schedule.proofs.Rows.{front-workers, row-held, row-highest}
+use Rattle.schedule.proofs.Histories.{Started, Left, begin-started, begin-sound, calls-left, start-state}
+use Rattle.schedule.proofs.FrontParts.{peak-within, front-bound, front-alone}
+
+-- of a record r and the row of turns that led to it
+pub record MemoryLimit (T : Table) (p K b : ℕ) (r : Run) (row : List ℕ) : Type 0 where
+  -- the record's held is the row's memory, and its highest the greatest after any front part
+  pub held : r .held ≡ memoryOf T K row
+  pub highest : r .highest ≡ peakMemory T K row
+  -- after every front part that keeps the rule with b, both are within the limit
+  pub bounded : (front rest : List ℕ) → row ≡ front ++ rest → Keeps b front → (memoryOf T K front ≤ limit T p K b) × (peakMemory T K front ≤ limit T p K b)
+  -- one worker alone never holds more than the serial peak
+  pub alone : p ≡ 1 → (memoryOf T K row ≤ S1 T) × (peakMemory T K row ≤ S1 T)
+
+-- for every accepted table, p and K, every b at least 1 and every list of calls from the record of the beginning
+pub memory-limit : (s : List ℕ) (p K : ℕ) (r : Run) → begin s p K ≡ record { answer = started; run = r } → (b : ℕ) → 1 ≤ b → (calls : List Call)
+    → MemoryLimit (tableOf s) p K b (afterCalls calls r) (rowOfCalls calls r)
+memory-limit s p K r e b g calls =
+    let T : Table = tableOf s in
+    let i : Started s p K r = begin-started s p K r e in
+    let row : List ℕ = rowOfCalls calls r in
+    let st : State = rowState T K (startState T) row in
+    let c : Left r row (afterCalls calls r) = calls-left r (begin-sound s p K r e .steady) calls in
+    let o = start-state s p K r e in
+    let h : (w : ℕ) → List·Memᴰ w row → w < p = λ w m. omega (arith, c .workers-below w m, o .1) in
+    let q : stateOf (afterCalls calls r) ≡ st = cc (c .state, o .0, o .2, o .3) in
+    let whole : row ≡ row ++ [] = sym (append-nil row) in
+    let alone : p ≡ 1 → (front rest : List ℕ) → row ≡ front ++ rest → memoryOf T K front ≤ S1 T =
+    front-alone T (i .lawful) p K (i .some-worker) (i .few-workers) (i .within) row h in
+    record {
+      held = ap (λ (x : State). x .held) q ∙ row-held T (i .lawful) p K (i .few-workers) (i .within) row h;
+      highest = ap (λ (x : State). x .highest) q ∙ row-highest T (i .lawful) p K (i .few-workers) (i .within) row h;
+      bounded = λ front rest d keeps.
+          let within : (f z : List ℕ) → front ≡ f ++ z → memoryOf T K f ≤ limit T p K b =
+          front-bound T (i .lawful) p K (i .some-worker) (i .few-workers) (i .within) front (front-workers (λ w. w < p) row front rest d h) b g keeps in
+          (within front [] (sym (append-nil front)), peak-within T K (limit T p K b) front within);
+      alone = λ one. (alone one row [] whole, peak-within T K (S1 T) row (alone one));
+    }

@@ -1,0 +1,84 @@
+-- The record and its state: what is stored is read back, a sound state stored gives a sound record, and what the checks of a beginning say.
+use mathlib.Core.Path.{_≡_, refl, sym, ap}
+use Prim.Native.Nat.{ℕ, _≤_, _<_}
+use native.Mathlib.Omega.{arith}
+use mathlib.Core.List.{[], _∷_}
+use mathlib.Core.Bool.{false}
+use lib.Dec.{ltb}
+use borrow.Author.Tests.{ltb-false}
+use lib.ListN.{length}
+use Rattle.table.specs.Format.{Table}
+use Rattle.table.specs.Pass.{firstFound}
+use Rattle.table.specs.Rules.{outside, allocOf}
+use Rattle.table.specs.declared.Found.the-variants.{Nothing}
+use Rattle.table.proofs.Tests.{or-neither}
+use Rattle.table.proofs.Passes.{tryPass-from-0, firstFound-nothing}
+use Rattle.schedule.specs.declared.Run.{Run}
+use Rattle.schedule.specs.Machine.{State, turnOf}
+use Rattle.schedule.specs.Record.{maxThreads, maxWorkers, filled, tableIn, bytesOf, stateOf, stored}
+use Rattle.schedule.specs.Begin.{maxQuota, allocAbove, beginPasses}
+use Rattle.schedule.specs.Sound.{Steady}
+use Rattle.schedule.specs.Turn.{stepRun}
+use Rattle.schedule.specs.Runs.{moved}
+use Rattle.schedule.proofs.Lawful.{Lawful, Within, lawful}
+use Rattle.schedule.proofs.Facts.{Facts, facts, sound-facts}
+use Rattle.schedule.proofs.Turns.{turn-facts}
+use Rattle.schedule.proofs.Lists.{filled-front}
+
+-- ---- the checks of a beginning
+
+-- 20, 21 and 22 do not apply
+pub record Fits (T : Table) (p K : ℕ) : Type 0 where
+  pub some-worker : 1 ≤ p
+  pub few-workers : p ≤ 16
+  pub some-quota : 1 ≤ K
+  pub within : Within T K
+
+inside : (low high x : ℕ) → outside low high x ≡ false → (low ≤ x) × (x ≤ high)
+inside low high x e =
+    let b = or-neither (ltb x low) (ltb high x) e in
+    (ltb-false x low (b .0), ltb-false high x (b .1))
+
+pub begin-fits : (T : Table) (p K : ℕ) → firstFound (beginPasses T p K) ≡ Nothing → Fits T p K
+unfolding allocAbove
+begin-fits T p K e =
+    let h = firstFound-nothing (beginPasses T p K) .0 e in
+    let g = tryPass-from-0 1 (record { number = 20; applies = λ i. outside 1 maxWorkers p } ∷ record { number = 21; applies = λ i. outside 1 maxQuota K } ∷ []) .0 (h .0) in
+    let a = tryPass-from-0 (T .actions) (record { number = 22; applies = allocAbove T K } ∷ []) .0 (h .1 .0) in
+    let w = inside 1 maxWorkers p (g .0 0 (omega arith)) in
+    let q = inside 1 maxQuota K (g .1 .0 0 (omega arith)) in
+    record { some-worker = w .0; few-workers = w .1; some-quota = q .0; within = λ i l. ltb-false K (allocOf T i) (a .0 i l) }
+
+-- ---- the record with another state
+
+pub stateOf-stored : (r : Run) (st : State) → stateOf (stored r st) ≡ st
+stateOf-stored r st = rw (filled-front maxThreads (st .list))
+
+module _ (r : Run) (h : Steady r) where
+  steady-lawful : Lawful (tableIn r)
+  steady-lawful = lawful (bytesOf r) (h .table)
+
+  pub steady-fits : Fits (tableIn r) (r .workers) (r .quota)
+  steady-fits = begin-fits (tableIn r) (r .workers) (r .quota) (h .beginning)
+
+  pub steady-facts : Facts (tableIn r) (r .workers) (r .quota) (stateOf r)
+  steady-facts = facts (tableIn r) steady-lawful (r .workers) (r .quota) (stateOf r) (h .state)
+
+  pub stored-steady : (st : State) → Facts (tableIn r) (r .workers) (r .quota) st → Steady (stored r st)
+  stored-steady st f =
+      record {
+        table = h .table;
+        beginning = h .beginning;
+        state = rw (stateOf-stored r st) (sound-facts (tableIn r) steady-lawful (r .workers) (r .quota) st f);
+        set = refl;
+        table-length = h .table-length;
+        list-length = ap length (filled-front maxThreads (st .list));
+        table-rest = h .table-rest;
+        list-rest = ap (filled maxThreads) (sym (filled-front maxThreads (st .list)));
+      }
+
+  pub moved-steady : (w : ℕ) → w < r .workers → Steady (moved r w)
+  unfolding stepRun
+  moved-steady w b =
+      stored-steady (turnOf (tableIn r) (r .quota) w (stateOf r) .state)
+      (turn-facts (tableIn r) steady-lawful (r .workers) (r .quota) (steady-fits .few-workers) (steady-fits .within) w b (stateOf r) steady-facts)

@@ -1,0 +1,166 @@
+-- A turn keeps a sound state sound.
+use mathlib.Core.Path.{_≡_, refl}
+use Prim.Native.Nat.{ℕ, suc, _+_, _-_, _≤_, _<_, max}
+use native.Mathlib.Nat.{le-max-right}
+use native.Mathlib.Omega.{arith}
+use mathlib.Core.List.{List, [], _∷_, List·Memᴰ, List·Memᴰ·head, List·Memᴰ·tail}
+use mathlib.Core.Bool.{Bool, true, false}
+use lib.ListN.{length, getD, set, length-set}
+use lib.Seq.{getD-set-same, getD-set-other}
+use lib.Dec.{leb, eqb}
+use borrow.Author.Tests.{eqb-true, eqb-false}
+use Rattle.table.specs.Sum.{pick}
+use Rattle.table.specs.Format.{Kind, end, work, alloc, free, fork, join, unknown, codeOf, is, Table, kind}
+use Rattle.table.specs.Rules.{allocOf, freeOf}
+use Rattle.table.proofs.Tests.{no-way}
+use Rattle.table.proofs.Bodies.{kind-known}
+use Rattle.schedule.specs.declared.Worker.{Worker}
+use Rattle.schedule.specs.Machine.{State, ready, held, waiting, ended, nextOf, statusOf, workerOf, nobody, Stepped, actBy, act, leftmost, taken, turnFree, turnOf}
+use Rattle.schedule.proofs.Lawful.{Lawful, Within}
+use Rattle.schedule.proofs.Facts.{Facts}
+use Rattle.schedule.proofs.Shares.{free-held}
+use Rattle.schedule.proofs.Forks.{fork-facts, end-facts}
+use Rattle.schedule.proofs.Moves.{counted-facts, Holding, holding, taken-facts, thread-below, thread-held, holds-alone, released-facts}
+use Rattle.schedule.proofs.Advances.{Goes, goneOn, gone-facts, next-inside}
+
+-- ---- the leftmost ready thread
+
+pub leftmost-ready : (status l : List ℕ) → (leftmost status l ≡ length l → ⊥)
+    → List·Memᴰ (getD l (leftmost status l) 0) l × (getD status (getD l (leftmost status l) 0) 0 ≡ ready)
+unfolding leftmost
+leftmost-ready status [] n = absurd (n refl)
+leftmost-ready status (t ∷ l) n = go (eqb (getD status t 0) ready) refl n (leftmost-ready status l)
+  where
+    go : (q : Bool) → eqb (getD status t 0) ready ≡ q → (pick q 0 (suc (leftmost status l)) ≡ suc (length l) → ⊥)
+        → ((leftmost status l ≡ length l → ⊥) → List·Memᴰ (getD l (leftmost status l) 0) l × (getD status (getD l (leftmost status l) 0) 0 ≡ ready))
+        → List·Memᴰ (getD (t ∷ l) (pick q 0 (suc (leftmost status l))) 0) (t ∷ l) × (getD status (getD (t ∷ l) (pick q 0 (suc (leftmost status l))) 0) 0 ≡ ready)
+    go true e m ih = (List·Memᴰ·head refl, eqb-true (getD status t 0) ready e)
+    go false e m ih =
+        let r : List·Memᴰ (getD l (leftmost status l) 0) l × (getD status (getD l (leftmost status l) 0) 0 ≡ ready) = ih (λ q. m (omega arith)) in
+        (List·Memᴰ·tail (r .0), r .1)
+
+pub taken-holds : (K w t : ℕ) (st : State) → w < length (st .workers) → workerOf (taken K w t st) w .holds ≡ true
+unfolding taken
+taken-holds K w t st h = rw (getD-set-same (st .workers) w (record { holds = true; thread = t; quota = K }) nobody h)
+
+-- ---- the action
+
+-- what holds of both holds of the one picked
+pub either : {A : Type 0} (P : A → Type 0) (q : Bool) (x y : A) → (q ≡ true → P x) → (q ≡ false → P y) → P (pick q x y)
+either P true x y g h = g refl
+either P false x y g h = h refl
+
+module _ (T : Table) (l : Lawful T) (p K : ℕ) (few : p ≤ 16) (w : ℕ) (below : w < p) (st : State) (f : Facts T p K st) (holds : workerOf st w .holds ≡ true) (t a : ℕ)
+    (thread : workerOf st w .thread ≡ t) (next : nextOf st t ≡ a) where
+  goes : is end (kind T a) ≡ false → is fork (kind T a) ≡ false → (kind T a ≡ join → statusOf st (T .argument a) ≡ ended) → Goes T st t a
+  goes e o j =
+      record {
+        below = thread-below T l p K few w below st f holds t thread;
+        status = thread-held T l p K few w below st f holds t thread;
+        next = next;
+        no-end = e;
+        no-fork = o;
+        joined = j;
+      }
+
+  -- the workers as they were
+  hung : (h g : ℕ) → Holding T p K (goneOn t (st .workers) h g st)
+  hung h g =
+      record {
+        worker-size = f .worker-size;
+        holder-below = f .holder-below;
+        holder-thread = f .holder-thread;
+        holder-held = f .holder-held;
+        holder-quota = f .holder-quota;
+        holder-once = f .holder-once;
+        held-holder = f .held-holder;
+        free-worker = f .free-worker;
+      }
+
+  work-facts : kind T a ≡ work → Facts T p K (actBy work T w t a (T .argument a) st .state)
+  unfolding actBy is codeOf allocOf freeOf
+  work-facts e = gone-facts T l p K st f t a (goes (rw e) (rw e) (λ j. no-way cc)) (st .workers) (st .held) (st .highest) (hung (st .held) (st .highest)) (rw e) (f .above)
+
+  free-facts : kind T a ≡ free → Facts T p K (actBy free T w t a (T .argument a) st .state)
+  unfolding actBy is codeOf allocOf freeOf
+  free-facts e =
+      let h : ℕ = st .held - T .argument a in
+      let g : ℕ = max (st .highest) h in
+      let o : Goes T st t a = goes (rw e) (rw e) (λ j. no-way cc) in
+      let i : T .argument (nextOf st t) ≤ st .held = free-held T l p K st f t (o .below) (λ s. omega (arith, o .status)) (rw next e) in
+      gone-facts T l p K st f t a o (st .workers) h g (hung h g) (rw e (omega (arith, rw next at i))) (le-max-right (st .highest) h)
+
+  -- an alloc leaves less of the quota
+  spent : (q h g : ℕ) → q ≤ K → Holding T p K (goneOn t (set (st .workers) w (record { holds = true; thread = t; quota = q })) h g st)
+  spent q h g b =
+      let v : Worker = record { holds = true; thread = t; quota = q } in
+      let status : statusOf st t ≡ held = thread-held T l p K few w below st f holds t thread in
+      holding T p K st (goneOn t (set (st .workers) w v) h g st) f w t v
+      (record {
+        size = rw (length-set (st .workers) w v) (f .worker-size);
+        few = omega arith;
+        new = getD-set-same (st .workers) w v nobody (omega (arith, f .worker-size));
+        old = λ u d. getD-set-other (st .workers) w u v nobody d;
+        same = λ u d. refl;
+        below = thread-below T l p K few w below st f holds t thread;
+        own = λ i. thread;
+        apart = holds-alone T l p K few w below st f holds t thread;
+        gives = λ i. (refl, b, below, status);
+        keeps = λ i. (refl, refl);
+        none = λ i. no-way cc;
+      })
+
+  alloc-facts : kind T a ≡ alloc → Facts T p K (actBy alloc T w t a (T .argument a) st .state)
+  unfolding actBy is codeOf allocOf freeOf
+  alloc-facts e =
+      let q : ℕ = workerOf st w .quota - T .argument a in
+      let h : ℕ = st .held + T .argument a in
+      let g : ℕ = max (st .highest) h in
+      let b : workerOf st w .quota ≤ K = f .holder-quota w (omega arith) holds in
+      either (λ (s : Stepped). Facts T p K (s .state)) (leb (T .argument a) (workerOf st w .quota)) _ _
+      (λ i. gone-facts T l p K st f t a (goes (rw e) (rw e) (λ j. no-way cc)) _ h g (spent q h g (omega arith)) (rw e (omega arith)) (le-max-right (st .highest) h))
+      (λ i. released-facts T l p K few w below st f holds t thread ready (omega arith, omega arith) (λ r. no-way cc) (λ r. no-way cc))
+
+  join-facts : kind T a ≡ join → Facts T p K (actBy join T w t a (T .argument a) st .state)
+  unfolding actBy is codeOf allocOf freeOf
+  join-facts e =
+      either (λ (s : Stepped). Facts T p K (s .state)) (eqb (statusOf st (T .argument a)) ended) _ _
+      (λ i. gone-facts T l p K st f t a (goes (rw e) (rw e) (λ j. eqb-true (statusOf st (T .argument a)) ended i)) (st .workers) (st .held) (st .highest)
+      (hung (st .held) (st .highest)) (rw e) (f .above))
+      (λ i. released-facts T l p K few w below st f holds t thread waiting (omega arith, omega arith) (λ r. no-way cc)
+      (λ r. rw next (e, eqb-false (statusOf st (T .argument a)) ended i)))
+
+  -- by the kind of the thread's next action
+  act-by : (k : Kind) → kind T a ≡ k → Facts T p K (actBy k T w t a (T .argument a) st .state)
+  act-by end e = end-facts T l p K few w below st f holds t a thread next e
+  act-by work e = work-facts e
+  act-by alloc e = alloc-facts e
+  act-by free e = free-facts e
+  act-by fork e = fork-facts T l p K few w below st f holds t a thread next e
+  act-by join e = join-facts e
+  act-by unknown e =
+      absurd (kind-known T (l .contents) (l .bodies) a (rw next at (next-inside T l p K st f t (thread-below T l p K few w below st f holds t thread))) e)
+
+-- ---- the turn
+
+module _ (T : Table) (l : Lawful T) (p K : ℕ) (few : p ≤ 16) (w : ℕ) (below : w < p) where
+  pub act-facts : (st : State) → Facts T p K st → workerOf st w .holds ≡ true → Facts T p K (act T w st .state)
+  unfolding act
+  act-facts st f e = act-by T l p K few w below st f e (workerOf st w .thread) (nextOf st (workerOf st w .thread)) refl refl _ refl
+
+  pub free-turn-facts : (st : State) → Facts T p K st → workerOf st w .holds ≡ false → Facts T p K (turnFree T K w st .state)
+  unfolding turnFree
+  free-turn-facts st f e =
+      let i : ℕ = leftmost (st .status) (st .list) in
+      let t : ℕ = getD (st .list) i 0 in
+      either (λ (s : Stepped). Facts T p K (s .state)) (eqb i (length (st .list))) _ _ (λ q. f)
+      (λ q.
+      let (m, r) = leftmost-ready (st .status) (st .list) (eqb-false i (length (st .list)) q) in
+      act-facts (taken K w t st) (taken-facts T l p K few w below st f e t (f .list-below t m) r) (taken-holds K w t st (omega (arith, f .worker-size))))
+
+module _ (T : Table) (l : Lawful T) (p K : ℕ) (few : p ≤ 16) (k : Within T K) where
+  pub turn-facts : (w : ℕ) → w < p → (st : State) → Facts T p K st → Facts T p K (turnOf T K w st .state)
+  unfolding turnOf
+  turn-facts w h st f =
+      counted-facts T p K _
+      (either (λ (s : Stepped). Facts T p K (s .state)) (workerOf st w .holds) _ _ (act-facts T l p K few w h st f) (free-turn-facts T l p K few w h st f))

@@ -1,0 +1,213 @@
+-- What is done and what is not, in a sound state: nothing of an unborn thread, everything that a born thread's next action comes after, and nothing between a fork to come and the
+-- action after it. And one action more done: what stays.
+use mathlib.Core.Path.{_≡_, refl, sym, _∙_}
+use Prim.Native.Nat.{ℕ, zero, suc, _+_, _≤_, _<_}
+use mathlib.Core.List.{List·Memᴰ, List·Memᴰ·head, List·Memᴰ·not-nil, List·Memᴰ·eq-of-singleton}
+use mathlib.Core.Bool.{Bool, true, false, and-false, or-false}
+use mathlib.Core.Logic.{_⊎_, inl, inr}
+use native.Mathlib.Decide.{ℕ-discrete, decLt}
+use native.Mathlib.Omega.{arith}
+use lib.Dec.{ltb, eqb}
+use borrow.Author.Tests.{eq-eqb, ne-eqb, lt-ltb, le-ltb}
+use Rattle.table.specs.Sum.{pick}
+use Rattle.table.specs.Format.{Kind, end, alloc, free, fork, join, is, Table, kind}
+use Rattle.table.specs.Rules.{owner, allocOf, freeOf}
+use Rattle.table.specs.Level.{forkBelow, dependsOn}
+use Rattle.table.proofs.Tests.{no-way}
+use Rattle.table.proofs.Sums.{sumTo-cong}
+use Rattle.table.proofs.Bodies.{after-end, owner-is, end-within, first-within, owner-of-first, owner-below, owner-first, fork-below, fork-above, next-owner}
+use Rattle.table.proofs.Nesting.{fork-found, fork-exists}
+use Rattle.table.proofs.Levels.{depends-step, depends-root, depends-child, by-place, depends-earlier}
+use Rattle.schedule.specs.Machine.{State, unborn, ended, nextOf, statusOf}
+use Rattle.schedule.specs.Sound.{numberOf, isDone, ofDone, sumDone}
+use Rattle.schedule.proofs.Lawful.{Lawful}
+use Rattle.schedule.proofs.Numbers.{number-child, number-rises, number-between}
+use Rattle.schedule.proofs.Facts.{Done, Facts}
+
+-- ---- tests
+
+not-false-true : (q : Bool) → (q ≡ false → ⊥) → q ≡ true
+not-false-true true n = refl
+not-false-true false n = absurd (n refl)
+
+eqb-same : (x y z : ℕ) → (x ≡ z → y ≡ z) → (y ≡ z → x ≡ z) → eqb x z ≡ eqb y z
+eqb-same x y z to back = go (ℕ-discrete x z)
+  where
+    go : Dec (x ≡ z) → eqb x z ≡ eqb y z
+    go (yes e) = cc (eq-eqb x z e, eq-eqb y z (to e))
+    go (no n) = cc (ne-eqb x z n, ne-eqb y z (λ e. n (back e)))
+
+-- ---- done or not, by the thread's next action
+
+module _ (T : Table) (st : State) (d : ℕ) where
+  pub done-low : d < nextOf st (owner T d) → Done T st d
+  unfolding isDone
+  done-low h = rw (lt-ltb d (nextOf st (owner T d)) h)
+
+  pub done-last : d ≡ nextOf st (owner T d) → statusOf st (owner T d) ≡ ended → Done T st d
+  unfolding isDone
+  done-last h e =
+      rw (le-ltb d (nextOf st (owner T d)) (omega arith), eq-eqb d (nextOf st (owner T d)) h, eq-eqb (statusOf st (owner T d)) ended e)
+
+  -- of a thread not ended, what stands before its next action is done
+  pub done-live : (statusOf st (owner T d) ≡ ended → ⊥) → isDone T st d ≡ ltb d (nextOf st (owner T d))
+  unfolding isDone
+  done-live n = rw (ne-eqb (statusOf st (owner T d)) ended n, and-false (eqb d (nextOf st (owner T d)))) (or-false (ltb d (nextOf st (owner T d))))
+
+  pub undone : nextOf st (owner T d) ≤ d → (statusOf st (owner T d) ≡ ended → ⊥) → isDone T st d ≡ false
+  undone h n = done-live n ∙ le-ltb d (nextOf st (owner T d)) h
+
+  pub done-same : (st' : State) → nextOf st' (owner T d) ≡ nextOf st (owner T d) → (statusOf st' (owner T d) ≡ ended → statusOf st (owner T d) ≡ ended)
+      → (statusOf st (owner T d) ≡ ended → statusOf st' (owner T d) ≡ ended) → isDone T st' d ≡ isDone T st d
+  unfolding isDone
+  done-same st' e to back = rw (e, eqb-same (statusOf st' (owner T d)) (statusOf st (owner T d)) ended to back)
+
+-- a thread's first action has its lowest number
+pub number-first : (T : Table) → Lawful T → (d : ℕ) → d < T .actions → numberOf T (T .first (owner T d)) ≤ numberOf T d
+number-first T l d h = go (ℕ-discrete (T .first (owner T d)) d)
+  where
+    go : Dec (T .first (owner T d) ≡ d) → numberOf T (T .first (owner T d)) ≤ numberOf T d
+    go (yes r) = let y : numberOf T (T .first (owner T d)) ≡ numberOf T d = cc in omega arith
+    go (no r) =
+        let below : T .first (owner T d) < d = omega (arith, owner-first T (l .contents) d h) in
+        omega (arith, number-rises T l (T .first (owner T d)) d below h (owner-of-first T (l .contents) (owner T d) (owner-below T (l .contents) d h)))
+
+-- ---- in a sound state
+
+module _ (T : Table) (l : Lawful T) (p K : ℕ) (st : State) (f : Facts T p K st) where
+  pub next-below : (t : ℕ) → t < T .threads → nextOf st t < T .actions
+  next-below t h = omega (arith, f .next-high t h, end-within T (l .contents) t h)
+
+  pub owner-of-next : (t : ℕ) → t < T .threads → owner T (nextOf st t) ≡ t
+  owner-of-next t h = owner-is T (l .contents) t (nextOf st t) h (f .next-low t h) (omega (arith, f .next-high t h, after-end T (l .contents) t h))
+
+  -- a child not yet forked is unborn
+  pub undone-unborn : (x : ℕ) → x < T .actions → kind T x ≡ fork → isDone T st x ≡ false → statusOf st (T .argument x) ≡ unborn
+  undone-unborn x h k n =
+      f .fork-unborn (T .argument x) (omega (arith, fork-above T (l .contents) (l .bodies) x h k)) (fork-below T (l .contents) (l .bodies) x h k)
+      (rw (fork-found T (l .contents) (l .bodies) (l .nesting) x h k) n)
+
+  -- a born thread's fork is done
+  pub born-forked : (x : ℕ) → x < T .actions → kind T x ≡ fork → (statusOf st (T .argument x) ≡ unborn → ⊥) → Done T st x
+  born-forked x h k n = not-false-true (isDone T st x) (λ e. n (undone-unborn x h k e))
+
+  -- what a born thread's next action depends on is done, where that is no join
+  pub next-depends : (t : ℕ) → t < T .threads → (statusOf st t ≡ unborn → ⊥) → is join (kind T (nextOf st t)) ≡ false
+      → (d : ℕ) → List·Memᴰ d (dependsOn T (nextOf st t)) → Done T st d
+  next-depends t h n j d m = by-place T (l .contents) (l .bodies) (l .nesting) (l .forking) P root child next (nextOf st t) (next-below t h) refl j m
+    where
+      P : ℕ → Type 0
+      P a = nextOf st t ≡ a → is join (kind T a) ≡ false → List·Memᴰ d (dependsOn T a) → Done T st d
+
+      root : 0 < T .threads → P (T .first 0)
+      root s e i k = absurd (List·Memᴰ·not-nil (rw (depends-root T (l .contents) (l .bodies) (l .nesting) s) at k))
+
+      child : (a : ℕ) → a < T .actions → kind T a ≡ fork → P (T .first (T .argument a))
+      child a s q e i k =
+          let o : T .argument a ≡ t = cc (owner-of-next t h, owner-of-first T (l .contents) (T .argument a) (fork-below T (l .contents) (l .bodies) a s q)) in
+          let y : d ≡ a = List·Memᴰ·eq-of-singleton (rw (depends-child T (l .contents) (l .bodies) (l .nesting) a s q) at k) in
+          rw y (born-forked a s q (rw o n))
+
+      next : (a : ℕ) → a < T .actions → is end (kind T a) ≡ false → P (suc a)
+      next a s q e i k =
+          let y : d ≡ a = List·Memᴰ·eq-of-singleton (rw (depends-step T (l .contents) (l .bodies) a s q i) at k) in
+          let o : owner T a ≡ t = cc (owner-of-next t h, next-owner T (l .contents) (l .bodies) a s q) in
+          rw y (done-low T st a (rw (o, e) (omega arith)))
+
+  -- nothing of an unborn thread is done
+  pub unborn-first : (t : ℕ) → t < T .threads → statusOf st t ≡ unborn → nextOf st t ≡ T .first t
+  unborn-first zero h e = absurd (f .root-born e)
+  unborn-first (suc t) h e = go (fork-exists T (l .contents) (l .bodies) (l .nesting) (l .forking) (suc t) (omega arith) h) (decLt (T .first (suc t)) (nextOf st (suc t)))
+    where
+      go : (x : ℕ) × (x < T .actions) × (kind T x ≡ fork) × (T .argument x ≡ suc t) → Dec (T .first (suc t) < nextOf st (suc t)) → nextOf st (suc t) ≡ T .first (suc t)
+      go (x, i, k, q) (yes s) =
+          let done : Done T st (T .first (suc t)) = done-low T st (T .first (suc t)) (rw (owner-of-first T (l .contents) (suc t) h) s) in
+          let m : List·Memᴰ x (dependsOn T (T .first (suc t))) = rw (← q, depends-child T (l .contents) (l .bodies) (l .nesting) x i k) (List·Memᴰ·head refl) in
+          let y : Done T st x = f .ordered (T .first (suc t)) x (first-within T (l .contents) (suc t) h) done m in
+          no-way (cc (f .unborn-fork (suc t) (omega arith) h e, fork-found T (l .contents) (l .bodies) (l .nesting) x i k))
+      go x (no s) = omega (arith, f .next-low (suc t) h)
+
+  pub unborn-undone : (d : ℕ) → d < T .actions → statusOf st (owner T d) ≡ unborn → isDone T st d ≡ false
+  unborn-undone d h e =
+      let first : nextOf st (owner T d) ≤ d = rw (unborn-first (owner T d) (owner-below T (l .contents) d h) e) (owner-first T (l .contents) d h) in
+      undone T st d first (λ q. omega arith)
+
+  -- what lies between a fork that is not done and the action after it belongs to unborn threads
+  pub between-unborn : (x : ℕ) → x < T .actions → kind T x ≡ fork → isDone T st x ≡ false
+      → (d : ℕ) → d < T .actions → numberOf T x < numberOf T d → numberOf T d < numberOf T (suc x) → statusOf st (owner T d) ≡ unborn
+  between-unborn x h k n d i low high = along (numberOf T d) d i low high (omega arith)
+    where
+      -- an action comes after its thread's fork
+      later : (z d : ℕ) → z < T .actions → kind T z ≡ fork → d < T .actions → T .argument z ≡ owner T d → numberOf T z < numberOf T d
+      later z d s q i r =
+          let start : numberOf T (T .first (owner T d)) ≡ suc (numberOf T z) = rw (← r) (number-child T l z s q) in
+          omega (arith, number-first T l d i)
+
+      along : (fuel : ℕ) (d : ℕ) → d < T .actions → numberOf T x < numberOf T d → numberOf T d < numberOf T (suc x) → numberOf T d ≤ fuel
+          → statusOf st (owner T d) ≡ unborn
+      along zero d i low high e = omega arith
+      along (suc fuel) d i low high e = go (along fuel) (number-between T l x d h k i low high)
+        where
+          go : ((y : ℕ) → y < T .actions → numberOf T x < numberOf T y → numberOf T y < numberOf T (suc x) → numberOf T y ≤ fuel → statusOf st (owner T y) ≡ unborn)
+              → (owner T d ≡ T .argument x)
+              ⊎ ((0 < owner T d) × (numberOf T x < numberOf T (forkBelow T (T .actions) (owner T d))) × (numberOf T (forkBelow T (T .actions) (owner T d)) < numberOf T (suc x)))
+              → statusOf st (owner T d) ≡ unborn
+          go ih (inl o) = rw o (undone-unborn x h k n)
+          go ih (inr (pos, above, below)) =
+              let (z, s, q, r) = fork-exists T (l .contents) (l .bodies) (l .nesting) (l .forking) (owner T d) pos (owner-below T (l .contents) d i) in
+              let y : forkBelow T (T .actions) (owner T d) ≡ z = cc (r, fork-found T (l .contents) (l .bodies) (l .nesting) z s q) in
+              let none : statusOf st (owner T z) ≡ unborn = ih z s (rw y at above) (rw y at below) (omega (arith, later z d s q i r)) in
+              cc (r, undone-unborn z s q (unborn-undone z s none))
+
+-- ---- one action more
+
+-- action a is done, and of the others the same ones as before
+pub record Does (T : Table) (a : ℕ) (st st' : State) : Type 0 where
+  pub now : Done T st' a
+  pub same : (d : ℕ) → d < T .actions → (d ≡ a → ⊥) → isDone T st' d ≡ isDone T st d
+
+module _ (T : Table) (l : Lawful T) (p K : ℕ) (st : State) (f : Facts T p K st) (a : ℕ) (within : a < T .actions) (st' : State) (x : Does T a st st') where
+  pub does-ordered : ((d : ℕ) → List·Memᴰ d (dependsOn T a) → Done T st d)
+      → (v d : ℕ) → v < T .actions → Done T st' v → List·Memᴰ d (dependsOn T v) → Done T st' d
+  does-ordered before v d h q m = go (ℕ-discrete v a)
+    where
+      kept : Done T st d → Done T st' d
+      kept e = at (ℕ-discrete d a)
+        where
+          at : Dec (d ≡ a) → Done T st' d
+          at (yes i) = rw i (x .now)
+          at (no i) = x .same d (depends-earlier T (l .contents) (l .bodies) (l .nesting) (l .forking) v h d m .0) i ∙ e
+
+      go : Dec (v ≡ a) → Done T st' d
+      go (yes i) = kept (before d (rw i at m))
+      go (no i) = kept (f .ordered v d h (sym (x .same v h i) ∙ q) m)
+
+  -- what costs nothing adds nothing
+  does-sum : (own : ℕ → ℕ) → own a ≡ 0 → sumDone T st' own ≡ sumDone T st own
+  does-sum own e = sumTo-cong (ofDone T st' own) (ofDone T st own) (T .actions) (λ d h. at d h (ℕ-discrete d a))
+    where
+      nothing : (q : Bool) → pick {A = ℕ} q 0 0 ≡ 0
+      nothing true = refl
+      nothing false = refl
+
+      at : (d : ℕ) → d < T .actions → Dec (d ≡ a) → ofDone T st' own d ≡ ofDone T st own d
+      at d h (yes i) =
+          let z : own d ≡ 0 = cc in
+          rw z (nothing (isDone T st' d) ∙ sym (nothing (isDone T st d)))
+      at d h (no i) = rw (x .same d h i)
+
+  pub does-amount : (j : Kind) → kind T a ≡ j → is free j ≡ false → is alloc j ≡ false → st' .held ≡ st .held
+      → st' .held + sumDone T st' (freeOf T) ≡ sumDone T st' (allocOf T)
+  unfolding allocOf freeOf
+  does-amount j k g h e = omega (arith, does-sum (freeOf T) (rw (k, g)), does-sum (allocOf T) (rw (k, h)), f .amount)
+
+  -- the fork of a thread that a does not fork is done as before
+  pub does-fork : (u : ℕ) → 0 < u → u < T .threads → (kind T a ≡ fork → T .argument a ≡ u → ⊥)
+      → isDone T st' (forkBelow T (T .actions) u) ≡ isDone T st (forkBelow T (T .actions) u)
+  does-fork u pos h n = go (fork-exists T (l .contents) (l .bodies) (l .nesting) (l .forking) u pos h)
+    where
+      go : (z : ℕ) × (z < T .actions) × (kind T z ≡ fork) × (T .argument z ≡ u)
+          → isDone T st' (forkBelow T (T .actions) u) ≡ isDone T st (forkBelow T (T .actions) u)
+      go (z, i, k, e) =
+          let y : forkBelow T (T .actions) u ≡ z = rw (← e) (fork-found T (l .contents) (l .bodies) (l .nesting) z i k) in
+          rw y (x .same z i (λ q. n (rw q at k) (rw q at e)))

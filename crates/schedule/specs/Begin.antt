@@ -1,0 +1,79 @@
+-- Beginning a run: the table's own checks, then 20, 21 and 22; the record that it gives (document 01, "The run" and "Where each check stands").
+use Prim.Native.Nat.{ℕ, zero, suc, _+_, _-_}
+use mathlib.Core.List.{List, [], _∷_, _++_}
+use mathlib.Core.Bool.{Bool, true, false}
+use lib.ListN.{length, replicate, set}
+use lib.Dec.{ltb}
+use Rattle.table.specs.Sum.{pick}
+use Rattle.table.specs.Format.{Table, tableOf}
+use Rattle.table.specs.Pass.{Check, Pass, firstFound}
+use Rattle.table.specs.Rules.{outside, allocOf, passes}
+use Rattle.table.specs.declared.Found.{Found}
+use Rattle.table.specs.declared.Found.the-variants.{Nothing, At}
+use Rattle.schedule.specs.declared.Run.{Run}
+use Rattle.schedule.specs.declared.Begun.{Begun}
+use Rattle.schedule.specs.declared.Beginning.{Beginning}
+use Rattle.schedule.specs.declared.Beginning.the-variants.{Begun as started, Refused}
+use Rattle.schedule.specs.Machine.{State, nobody, ready}
+use Rattle.schedule.specs.Record.{maxThreads, maxWorkers, maxBytes, filled, blank, stored}
+
+abbrev pub maxQuota : ℕ
+maxQuota = 16777215
+
+-- 22: "an alloc above K"
+unfoldable pub allocAbove : Table → ℕ → ℕ → Bool
+allocAbove T K a = ltb K (allocOf T a)
+
+-- 20: "p outside 1 to 16"; 21: "K outside its range", 1 to 16,777,215; 22: "an alloc above K", at the lowest action
+abbrev pub beginPasses : Table → ℕ → ℕ → List Pass
+beginPasses T p K =
+    record { from = 0; places = 1; checks = record { number = 20; applies = λ i. outside 1 maxWorkers p } ∷ record { number = 21; applies = λ i. outside 1 maxQuota K } ∷ [] }
+    ∷ record { from = 0; places = T .actions; checks = record { number = 22; applies = allocAbove T K } ∷ [] }
+    ∷ []
+
+-- each thread's first action, 0 from thread n on: "An unborn thread's next action is its first", "Threads from n on are unborn with next action 0"
+unfoldable pub firsts : (ℕ → ℕ) → ℕ → ℕ → List ℕ
+firsts first t zero = []
+firsts first t (suc k) = first t ∷ firsts first (suc t) k
+
+-- "at the start only thread 0, ready"; "all 0 at the start"
+unfoldable pub startState : Table → State
+startState T =
+    record {
+      next = filled maxThreads (firsts (T .first) 0 (T .threads));
+      status = set (replicate maxThreads 0) 0 ready;
+      list = 0 ∷ [];
+      workers = replicate maxWorkers nobody;
+      held = 0;
+      highest = 0;
+      turns = 0;
+    }
+
+-- "Beginning fixes p and K"
+unfoldable pub startRun : List ℕ → ℕ → ℕ → Run
+startRun s p K =
+    stored
+    (record {
+      table = filled maxBytes s;
+      length = length s;
+      workers = p;
+      quota = K;
+      next = [];
+      status = [];
+      list = [];
+      listed = 0;
+      worker = [];
+      busy = 0;
+      held = 0;
+      highest = 0;
+      turns = 0;
+    })
+    (startState (tableOf s))
+
+abbrev pub begunAs : Found → Run → Begun
+begunAs Nothing r = record { answer = started; run = r }
+begunAs (At x) r = record { answer = Refused x; run = blank }
+
+-- what beginning from bytes, p and K answers: "A refused beginning hands back the blank record"
+unfoldable pub begin : List ℕ → ℕ → ℕ → Begun
+begin s p K = begunAs (firstFound (passes s ++ beginPasses (tableOf s) p K)) (startRun s p K)

@@ -1,0 +1,208 @@
+-- Document 01's worked cases on runs that bear a star, and what its wrong turnings would change, as rows of one table with one theorem over all of them, computed on the definitions.
+use mathlib.Core.Path.{_≡_, refl}
+use Prim.Native.Nat.{ℕ}
+use mathlib.Core.List.{List, [], _∷_, _++_, map}
+use lib.ListN.{replicate}
+use Rattle.table.specs.Sum.{pick, sumTo, anyBelow}
+use Rattle.table.specs.Format.{Kind, end, work, alloc, free, fork, join, codeOf, kindOf, is, kind, tableOf}
+use Rattle.table.specs.Pass.{Check, tryAt, tryFrom, tryPass, firstFound}
+use Rattle.table.specs.Rules.{entryWrong, totalWrong, ownerBelow, kindUnknown, argumentWrong, endMisplaced, forkedBelow, forkedBefore}
+use Rattle.table.specs.Rules.{openBefore, joinNotLatest, endWithOpen, neverForked, allocOf, freeOf, wholeWithin, balance, balanceBelow0, passes}
+use Rattle.table.specs.Level.{forkBelow}
+use Rattle.table.specs.Cases.{written, E, least, twoAllocs}
+use Rattle.table.specs.Cases.{act as action}
+use Rattle.schedule.specs.declared.Run.{Run}
+use Rattle.schedule.specs.declared.Beginning.{Beginning}
+use Rattle.schedule.specs.declared.Beginning.the-variants.{Begun as started}
+use Rattle.schedule.specs.declared.Beginning.the-variants.{Refused as refusedBeginning}
+use Rattle.schedule.specs.declared.Turned.{Turned}
+use Rattle.schedule.specs.declared.Turning.{Turning}
+use Rattle.schedule.specs.declared.Turning.the-variants.{Taken}
+use Rattle.schedule.specs.declared.Turning.the-variants.{Refused as refusedTurn}
+use Rattle.schedule.specs.declared.Reply.{Reply}
+use Rattle.schedule.specs.declared.Reply.the-variants.{Idle, Done, Quota, Wait}
+use Rattle.schedule.specs.Machine.{nextOf, leftOf, without, waitsFor, woken, actBy, act, leftmost, taken, turnFree, turnOf}
+use Rattle.schedule.specs.Record.{setOf, tableIn, stateOf}
+use Rattle.schedule.specs.Begin.{allocAbove, firsts, startState, startRun, begin}
+use Rattle.schedule.specs.Turn.{rootEnded, noWorker, stepRun, turnedAs}
+
+-- ---- the listing of a run
+
+-- what a turn says: nothing was done; the thread, its action and the action's kind; the thread and its action that was not done
+pub data Said : Type 0 where
+  idle : Said
+  did : ℕ → ℕ → Kind → Said
+  quota wait : ℕ → ℕ → Said
+
+-- "Lines: turn from 1, worker, thread, action, the kind's name (or quota, wait, idle), held."
+pub record Line : Type 0 where
+  pub turn : ℕ
+  pub worker : ℕ
+  pub said : Said
+  pub held : ℕ
+
+abbrev pub line : ℕ → ℕ → Said → ℕ → Line
+line i w x h = record { turn = i; worker = w; said = x; held = h }
+
+-- "Last: `done` or, with the root not ended, `open`, with turns and peak; or `refused`, number, place."
+pub data Last : Type 0 where
+  done notDone refused : ℕ → ℕ → Last
+
+pub record Listing : Type 0 where
+  pub lines : List Line
+  pub last : Last
+
+abbrev pub listing : List Line → Last → Listing
+listing l x = record { lines = l; last = x }
+
+-- "A quota or wait line names the action not done": its thread's next one
+abbrev pub saidBy : Reply → Run → Said
+saidBy Idle r = idle
+saidBy (Done t a) r = did t a (kind (tableIn r) a)
+saidBy (Quota t x) r = quota t (nextOf (stateOf r) t)
+saidBy (Wait t c) r = wait t (nextOf (stateOf r) t)
+
+abbrev pub turnThen : Turning → ℕ → Run → Listing → Listing
+turnThen (Taken x) w r rest = listing (line (r .turns) w (saidBy x r) (r .held) ∷ rest .lines) (rest .last)
+turnThen (refusedTurn x) w r rest = listing [] (refused (x .number) (x .place))
+
+-- single turns of an order's workers, one after the other up to a refusal
+abbrev pub turnsBy : (Run → ℕ → Turned) → Run → List ℕ → Listing
+turnsBy turn r [] = listing [] (pick (rootEnded r) (done (r .turns) (r .highest)) (notDone (r .turns) (r .highest)))
+turnsBy turn r (w ∷ order) = turnThen (turn r w .answer) w (turn r w .run) (turnsBy turn (turn r w .run) order)
+
+abbrev pub beginThen : Beginning → Listing → Listing
+beginThen started rest = rest
+beginThen (refusedBeginning x) rest = listing [] (refused (x .number) (x .place))
+
+-- a beginning and then turns
+abbrev pub ranBy : (Run → ℕ → Turned) → List ℕ → ℕ → ℕ → List ℕ → Listing
+ranBy turn s p K order = beginThen (begin s p K .answer) (turnsBy turn (begin s p K .run) order)
+
+-- The checks of a turn on a sound record: 32 does not apply. To test at each turn the whole of a record, with its 36,868 bytes and 1,024 threads, takes seconds to compute. But a
+-- beginning's record is sound and turns keep it so (`begin-sound` and `turn-steady`, proofs/Histories), hence `ranAs` is `ranBy turned` (`ran-turned`, proofs/CaseLaws).
+abbrev pub soundChecks : Run → ℕ → List Check
+soundChecks r w = record { number = 30; applies = λ i. noWorker r w } ∷ record { number = 31; applies = λ i. rootEnded r } ∷ []
+
+abbrev pub turnedSound : Run → ℕ → Turned
+turnedSound r w = turnedAs (tryAt (soundChecks r w) 0) r (stepRun r w)
+
+abbrev pub ranAs : List ℕ → ℕ → ℕ → List ℕ → Listing
+ranAs = ranBy turnedSound
+
+-- ---- the rows
+
+pub record Case : Type 0 where
+  pub bytes : List ℕ
+  pub workers : ℕ
+  pub quota : ℕ
+  pub order : List ℕ
+  pub listing : Listing
+
+-- the table's bytes, p, K, the order of workers, the lines and the last
+abbrev pub runs : List ℕ → ℕ → ℕ → List ℕ → List Line → Last → Case
+runs s p K order l x = record { bytes = s; workers = p; quota = K; order = order; listing = listing l x }
+
+-- "For p 2, K 6, the order 0, 1 given seven times, and table E below it prints"
+abbrev pub orderE : List ℕ
+orderE = 0 ∷ 1 ∷ 0 ∷ 1 ∷ 0 ∷ 1 ∷ 0 ∷ 1 ∷ 0 ∷ 1 ∷ 0 ∷ 1 ∷ 0 ∷ 1 ∷ []
+
+abbrev pub linesE : List Line
+linesE =
+    line 1 0 (did 0 0 fork) 0
+    ∷ line 2 1 (did 1 5 alloc) 6
+    ∷ line 3 0 (did 0 1 fork) 6
+    ∷ line 4 1 (did 1 6 work) 6
+    ∷ line 5 0 (did 2 9 alloc) 12
+    ∷ line 6 1 (did 1 7 free) 6
+    ∷ line 7 0 (did 2 10 free) 0
+    ∷ line 8 1 (did 1 8 end) 0
+    ∷ line 9 0 (did 2 11 end) 0
+    ∷ line 10 1 (did 0 2 join) 0
+    ∷ line 11 0 idle 0
+    ∷ line 12 1 (did 0 3 join) 0
+    ∷ line 13 0 idle 0
+    ∷ line 14 1 (did 0 4 end) 0
+    ∷ []
+
+-- "E with p 1, K 6"
+abbrev pub linesAlone : List Line
+linesAlone =
+    line 1 0 (did 0 0 fork) 0
+    ∷ line 2 0 (did 1 5 alloc) 6
+    ∷ line 3 0 (did 1 6 work) 6
+    ∷ line 4 0 (did 1 7 free) 0
+    ∷ line 5 0 (did 1 8 end) 0
+    ∷ line 6 0 (did 0 1 fork) 0
+    ∷ line 7 0 (did 2 9 alloc) 6
+    ∷ line 8 0 (did 2 10 free) 0
+    ∷ line 9 0 (did 2 11 end) 0
+    ∷ line 10 0 (did 0 2 join) 0
+    ∷ line 11 0 (did 0 3 join) 0
+    ∷ line 12 0 (did 0 4 end) 0
+    ∷ []
+
+-- "E, p 2, order 0 1 0 1 1 1 1 0", its first seven turns
+abbrev pub orderWait : List ℕ
+orderWait = 0 ∷ 1 ∷ 0 ∷ 1 ∷ 1 ∷ 1 ∷ 1 ∷ []
+
+abbrev pub linesWait : List Line
+linesWait =
+    line 1 0 (did 0 0 fork) 0
+    ∷ line 2 1 (did 1 5 alloc) 6
+    ∷ line 3 0 (did 0 1 fork) 6
+    ∷ line 4 1 (did 1 6 work) 6
+    ∷ line 5 1 (did 1 7 free) 0
+    ∷ line 6 1 (did 1 8 end) 0
+    ∷ line 7 1 (did 2 9 alloc) 6
+    ∷ []
+
+-- "E with p 3, K 6, order 0 1 0 2 0 1 1 1 ends thread 1 while thread 0 goes on waiting for thread 2"
+abbrev pub orderOther : List ℕ
+orderOther = 0 ∷ 1 ∷ 0 ∷ 2 ∷ 0 ∷ 1 ∷ 1 ∷ 1 ∷ []
+
+abbrev pub linesOther : List Line
+linesOther =
+    line 1 0 (did 0 0 fork) 0
+    ∷ line 2 1 (did 1 5 alloc) 6
+    ∷ line 3 0 (did 0 1 fork) 6
+    ∷ line 4 2 (did 2 9 alloc) 12
+    ∷ line 5 0 (wait 0 2) 12
+    ∷ line 6 1 (did 1 6 work) 12
+    ∷ line 7 1 (did 1 7 free) 6
+    ∷ line 8 1 (did 1 8 end) 6
+    ∷ []
+
+-- alloc 4, free 4, alloc 4, end: "free a: held falls by a, the quota doesn't rise"
+unfoldable pub freed : List ℕ
+unfolding codeOf
+freed = written ((action alloc 4 ∷ action free 4 ∷ action alloc 4 ∷ action end 0 ∷ []) ∷ [])
+
+unfoldable pub cases : List Case
+unfolding codeOf
+cases =
+    runs E 2 6 orderE linesE (done 14 12)
+    -- "A turn after `done`: 31"
+    ∷ runs E 2 6 (orderE ++ (0 ∷ [])) linesE (refused 31 0)
+    -- "With K 5: 22 at action 5"
+    ∷ runs E 2 5 orderE [] (refused 22 5)
+    ∷ runs E 1 6 (replicate 12 0) linesAlone (done 12 6)
+    -- "Bytes 01 00 01 00 00 00 01 00 00 00 00 00: .. one turn"
+    ∷ runs least 1 1 (0 ∷ []) (line 1 0 (did 0 0 end) 0 ∷ []) (done 1 0)
+    -- "One thread alloc 4, alloc 4, end, K 6, p 1: the second turn says quota; 4 turns, 8 held .. K 8: 3 turns"
+    ∷ runs twoAllocs 1 6 (replicate 4 0) (line 1 0 (did 0 0 alloc) 4 ∷ line 2 0 (quota 0 1) 4 ∷ line 3 0 (did 0 1 alloc) 8 ∷ line 4 0 (did 0 2 end) 8 ∷ []) (done 4 8)
+    ∷ runs twoAllocs 1 8 (replicate 3 0) (line 1 0 (did 0 0 alloc) 4 ∷ line 2 0 (did 0 1 alloc) 8 ∷ line 3 0 (did 0 2 end) 8 ∷ []) (done 3 8)
+    -- "the last turn says wait. Worker 2 instead: 30"
+    ∷ runs E 2 6 (orderWait ++ (0 ∷ [])) (linesWait ++ (line 8 0 (wait 0 2) 6 ∷ [])) (notDone 8 6)
+    ∷ runs E 2 6 (orderWait ++ (2 ∷ [])) linesWait (refused 30 0)
+    -- "ends thread 1 while thread 0 goes on waiting for thread 2": in a turn more, worker 0 finds nothing ready
+    ∷ runs E 3 6 orderOther linesOther (notDone 8 12)
+    ∷ runs E 3 6 (orderOther ++ (0 ∷ [])) (linesOther ++ (line 9 0 idle 6 ∷ [])) (notDone 9 12)
+    -- the third turn says quota
+    ∷ runs freed 1 6 (replicate 5 0) (line 1 0 (did 0 0 alloc) 4 ∷ line 2 0 (did 0 1 free) 0 ∷ line 3 0 (quota 0 2) 0 ∷ line 4 0 (did 0 2 alloc) 4 ∷ line 5 0 (did 0 3 end) 4 ∷ []) (done 5 4)
+    ∷ []
+
+-- every row's run has the row's listing
+pub worked : map (λ (c : Case). ranAs (c .bytes) (c .workers) (c .quota) (c .order)) cases ≡ map (λ (c : Case). c .listing) cases
+unfolding cases freed sumTo anyBelow codeOf kindOf is tableOf tryAt tryFrom tryPass firstFound entryWrong totalWrong ownerBelow kindUnknown argumentWrong endMisplaced forkedBelow forkedBefore openBefore joinNotLatest endWithOpen neverForked allocOf freeOf wholeWithin balance balanceBelow0 passes forkBelow leftOf without waitsFor woken actBy act leftmost taken turnFree turnOf setOf allocAbove firsts startState startRun begin rootEnded noWorker stepRun
+worked = refl

@@ -1,0 +1,11 @@
+pub mod Machine
+pub mod Record
+pub mod Begin
+pub mod Sound
+pub mod Turn
+pub mod Runs
+pub mod Calls
+pub mod Memory
+pub mod Answers
+pub mod Cases
+pub mod Rule

@@ -1,0 +1,85 @@
+-- The run record and the state that turns move: one read off the other, and written back with the unused parts as document 01 fixes them.
+use Prim.Native.Nat.{ℕ, zero, suc, _+_, _-_, _*_}
+use mathlib.Core.List.{List, [], _∷_, _++_}
+use mathlib.Core.Bool.{Bool, true, false}
+use lib.ListN.{length, getD, take, replicate}
+use Rattle.table.specs.Sum.{pick}
+use Rattle.table.specs.Format.{Table, tableOf}
+use Rattle.schedule.specs.declared.Worker.{Worker}
+use Rattle.schedule.specs.declared.Run.{Run}
+use Rattle.schedule.specs.Machine.{State, nobody}
+
+-- the sizes of the record
+abbrev pub maxThreads : ℕ
+maxThreads = 1024
+
+abbrev pub maxWorkers : ℕ
+maxWorkers = 16
+
+abbrev pub maxBytes : ℕ
+maxBytes = 36868
+
+-- a list filled up with 0 to a size: "Table bytes past its length, unused list places .. are 0"
+abbrev pub filled : ℕ → List ℕ → List ℕ
+filled size l = l ++ replicate (size - length l) 0
+
+-- "the workers holding a thread, kept as one 16-bit set": worker 0 is the lowest bit
+unfoldable pub setOf : List Worker → ℕ
+setOf [] = 0
+setOf (x ∷ l) = pick (x .holds) 1 0 + 2 * setOf l
+
+abbrev pub bytesOf : Run → List ℕ
+bytesOf r = take (r .length) (r .table)
+
+abbrev pub tableIn : Run → Table
+tableIn r = tableOf (bytesOf r)
+
+abbrev pub stateOf : Run → State
+stateOf r =
+    record {
+      next = r .next;
+      status = r .status;
+      list = take (r .listed) (r .list);
+      workers = r .worker;
+      held = r .held;
+      highest = r .highest;
+      turns = r .turns;
+    }
+
+-- the record with another state
+abbrev pub stored : Run → State → Run
+stored r st =
+    record {
+      table = r .table;
+      length = r .length;
+      workers = r .workers;
+      quota = r .quota;
+      next = st .next;
+      status = st .status;
+      list = filled maxThreads (st .list);
+      listed = length (st .list);
+      worker = st .workers;
+      busy = setOf (st .workers);
+      held = st .held;
+      highest = st .highest;
+      turns = st .turns;
+    }
+
+-- "the blank record: every number 0, every status unborn, the list empty"
+unfoldable pub blank : Run
+blank =
+    record {
+      table = replicate maxBytes 0;
+      length = 0;
+      workers = 0;
+      quota = 0;
+      next = replicate maxThreads 0;
+      status = replicate maxThreads 0;
+      list = replicate maxThreads 0;
+      listed = 0;
+      worker = replicate maxWorkers nobody;
+      busy = 0;
+      held = 0;
+      highest = 0;
+      turns = 0;
+    }
