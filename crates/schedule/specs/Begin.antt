@@ -1,18 +1,16 @@
 -- Beginning a run: the table's own checks, then 20, 21 and 22; the record that it gives (document 01, "The run" and "Where each check stands").
-use Prim.Native.Nat.{ℕ, zero, suc, _+_, _-_}
+use Prim.Native.Nat.{ℕ, zero, suc}
 use mathlib.Core.List.{List, [], _∷_, _++_}
-use mathlib.Core.Bool.{Bool, true, false}
+use mathlib.Core.Bool.{Bool}
 use lib.ListN.{length, replicate, set}
 use lib.Dec.{ltb}
-use Rattle.table.specs.Sum.{pick}
 use Rattle.table.specs.Format.{Table, tableOf}
-use Rattle.table.specs.Pass.{Check, Pass, firstFound}
+use Rattle.table.specs.Pass.{Pass, firstFound}
 use Rattle.table.specs.Rules.{outside, allocOf, passes}
 use Rattle.table.specs.declared.Found.{Found}
 use Rattle.table.specs.declared.Found.the-variants.{Nothing, At}
 use Rattle.schedule.specs.declared.Run.{Run}
 use Rattle.schedule.specs.declared.Begun.{Begun}
-use Rattle.schedule.specs.declared.Beginning.{Beginning}
 use Rattle.schedule.specs.declared.Beginning.the-variants.{Begun as started, Refused}
 use Rattle.schedule.specs.Machine.{State, nobody, ready}
 use Rattle.schedule.specs.Record.{maxThreads, maxWorkers, maxBytes, filled, blank, stored}

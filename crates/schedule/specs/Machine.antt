@@ -1,7 +1,7 @@
 -- A turn of document 01's machine ("The run"), on what turns move: the threads, the list, the workers and the amounts.
-use Prim.Native.Nat.{ℕ, zero, suc, _+_, _-_, max}
+use Prim.Native.Nat.{ℕ, suc, _+_, _-_, max}
 use mathlib.Core.List.{List, [], _∷_}
-use mathlib.Core.Bool.{Bool, true, false, not, _&&_}
+use mathlib.Core.Bool.{Bool, true, false, _&&_}
 use lib.ListN.{length, getD, set}
 use lib.Dec.{leb, eqb}
 use Rattle.table.specs.Sum.{pick}

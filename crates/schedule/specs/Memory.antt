@@ -1,6 +1,6 @@
 -- Memory held by a row of turns, from the replies and the table alone; the rule with b; the limit (document 01, "What demand 3 ranges over").
 use mathlib.Core.Path.{_≡_}
-use Prim.Native.Nat.{ℕ, zero, suc, _+_, _-_, _*_, _≤_}
+use Prim.Native.Nat.{ℕ, _+_, _-_, _*_, _≤_}
 use mathlib.Core.List.{List, [], _∷_, _++_, map}
 use lib.Dec.{eqb}
 use Rattle.table.specs.Sum.{pick, greatest}
@@ -10,7 +10,7 @@ use Rattle.table.specs.Serial.{S1}
 use Rattle.table.specs.Level.{D}
 use Rattle.schedule.specs.declared.Reply.{Reply}
 use Rattle.schedule.specs.declared.Reply.the-variants.{Idle, Done, Quota, Wait}
-use Rattle.schedule.specs.Machine.{State, Stepped, turnOf}
+use Rattle.schedule.specs.Machine.{State, turnOf}
 use Rattle.schedule.specs.Begin.{startState}
 
 -- ---- memory held by a row

@@ -1,9 +1,8 @@
 -- Runs over a list of workers and in rounds, on any record whatever (document 01, "The run").
 use Prim.Native.Nat.{ℕ, zero, suc, _-_, _^_, _%_}
 use mathlib.Core.List.{List}
-use mathlib.Core.Bool.{Bool, true, false, not}
 use lib.ListN.{length, getD}
-use lib.Dec.{ltb, eqb}
+use lib.Dec.{eqb}
 use Rattle.table.specs.Sum.{pick}
 use Rattle.table.specs.Pass.{refusal}
 use Rattle.schedule.specs.declared.Run.{Run}

@@ -1,12 +1,12 @@
 -- A sound record (document 01, "A record is sound if .."): each clause of the paragraph as a test, the record of all of them, and one executable test.
 use mathlib.Core.Path.{_≡_}
 use Prim.Native.Nat.{ℕ, zero, suc, _+_, _-_, _^_, _<_, _≤_}
-use mathlib.Core.List.{List, [], _∷_, _++_}
+use mathlib.Core.List.{List, [], _∷_}
 use mathlib.Core.Bool.{Bool, true, false, not, _&&_, _||_}
-use lib.ListN.{length, getD, take}
+use lib.ListN.{length, take}
 use lib.Dec.{ltb, leb, eqb}
 use Rattle.table.specs.Sum.{pick, sumTo}
-use Rattle.table.specs.Format.{Kind, join, is, Table, kind, tableOf}
+use Rattle.table.specs.Format.{join, is, Table, kind}
 use Rattle.table.specs.Pass.{firstFound}
 use Rattle.table.specs.Rules.{owner, endOf, allocOf, freeOf, passes}
 use Rattle.table.specs.Accepted.{Rules}
@@ -14,10 +14,9 @@ use Rattle.table.specs.Serial.{serialOrder}
 use Rattle.table.specs.Level.{forkBelow, dependsOn}
 use Rattle.table.specs.declared.Found.{Found}
 use Rattle.table.specs.declared.Found.the-variants.{Nothing, At}
-use Rattle.schedule.specs.declared.Worker.{Worker}
 use Rattle.schedule.specs.declared.Run.{Run}
-use Rattle.schedule.specs.Machine.{State, unborn, ready, held, waiting, ended, nextOf, statusOf, workerOf, nobody}
-use Rattle.schedule.specs.Record.{maxThreads, maxWorkers, maxBytes, filled, setOf, bytesOf, tableIn, stateOf, blank}
+use Rattle.schedule.specs.Machine.{State, unborn, held, waiting, ended, nextOf, statusOf, workerOf}
+use Rattle.schedule.specs.Record.{maxThreads, maxWorkers, maxBytes, filled, setOf, bytesOf, tableIn, stateOf}
 use Rattle.schedule.specs.Begin.{beginPasses}
 
 -- ---- words

@@ -1,19 +1,17 @@
 -- A turn on any record whatever: 32, 30, 31, or the reply and the record after (document 01, "Where each check stands").
 use Prim.Native.Nat.{ℕ}
 use mathlib.Core.List.{List, [], _∷_}
-use mathlib.Core.Bool.{Bool, true, false, not, _&&_, _||_}
+use mathlib.Core.Bool.{Bool, not, _&&_}
 use lib.ListN.{length, getD}
 use lib.Dec.{ltb, eqb}
-use Rattle.table.specs.Sum.{pick}
 use Rattle.table.specs.Pass.{Check, tryAt}
 use Rattle.table.specs.declared.Found.{Found}
 use Rattle.table.specs.declared.Found.the-variants.{Nothing, At}
 use Rattle.schedule.specs.declared.Run.{Run}
 use Rattle.schedule.specs.declared.Worker.{Worker}
-use Rattle.schedule.specs.declared.Turning.{Turning}
 use Rattle.schedule.specs.declared.Turning.the-variants.{Taken, Refused}
 use Rattle.schedule.specs.declared.Turned.{Turned}
-use Rattle.schedule.specs.Machine.{State, Stepped, ended, statusOf, nobody, turnOf}
+use Rattle.schedule.specs.Machine.{Stepped, ended, statusOf, nobody, turnOf}
 use Rattle.schedule.specs.Record.{maxWorkers, tableIn, stateOf, stored, blank}
 use Rattle.schedule.specs.Sound.{sound, sameList, allBelow}
 
