@@ -23,7 +23,7 @@ use Rattle.schedule.proofs.Lawful.{Lawful}
 use Rattle.schedule.proofs.Numbers.{number-depends}
 use Rattle.schedule.proofs.Facts.{Facts}
 use Rattle.schedule.proofs.Moves.{taken-facts}
-use Rattle.schedule.proofs.ListMoves.{Climbs, rises-climbs}
+use Rattle.schedule.proofs.ListMoves.{Ascends, rises-ascends}
 use Rattle.schedule.proofs.Undone.{next-below}
 use Rattle.schedule.proofs.Releases.{Acting, acting}
 use Rattle.schedule.proofs.Turns.{leftmost-ready, taken-holds, act-facts}
@@ -46,8 +46,8 @@ begun T w st J v = J v + beginsBeyond T w st v
 -- ---- a batch begun
 
 -- no ready thread stands left of the leftmost
-leftmost-first : (f : ℕ → ℕ) (status l : List ℕ) → Climbs f l → (t : ℕ) → List·Memᴰ t l → getD status t 0 ≡ ready → f (getD l (leftmost status l) 0) ≤ f t
-unfolding leftmost Climbs
+leftmost-first : (f : ℕ → ℕ) (status l : List ℕ) → Ascends f l → (t : ℕ) → List·Memᴰ t l → getD status t 0 ≡ ready → f (getD l (leftmost status l) 0) ≤ f t
+unfolding leftmost Ascends
 leftmost-first f status [] r t m e = absurd (List·Memᴰ·not-nil m)
 leftmost-first f status (x ∷ l) r t m e = go (eqb (getD status x 0) ready) refl (List·Memᴰ·cases-cons m) (λ k. leftmost-first f status l (r .1) t k e)
   where
@@ -150,7 +150,7 @@ module _ (T : Table) (l : Lawful T) (B : ℕ) (J : ℕ → ℕ) (st : State) whe
 
       lowest : (u : ℕ) → u < T .threads → statusOf st u ≡ ready → beginsBeyond T w st (nextOf st u) ≡ 0
       lowest u i r =
-          beyond-not T w st (nextOf st u) (leftmost-first (λ y. numberOf T (nextOf st y)) (st .status) (st .list) (rises-climbs _ (st .list) (f .serial)) u
+          beyond-not T w st (nextOf st u) (leftmost-first (λ y. numberOf T (nextOf st y)) (st .status) (st .list) (rises-ascends _ (st .list) (f .serial)) u
           (f .live-listed u i (λ e. omega arith) (λ e. omega arith)) r)
 
       ready-after : (u : ℕ) → Enabled T (taken K w t st) u → statusOf (taken K w t st) u ≡ ready → Dec (u ≡ t)

@@ -1,8 +1,7 @@
--- Counting: a sum of terms under a bound, a list in which nothing stands twice, and the bits of a set of workers.
+-- Counting by a test: the numbers below n that pass, those that are in a list in which nothing stands twice, and the workers of a set.
 use mathlib.Core.Path.{_≡_, refl, sym, _∙_}
-use Prim.Native.Nat.{ℕ, zero, suc, _+_, _*_, _^_, _≤_, _<_}
+use Prim.Native.Nat.{ℕ, suc, _+_, _*_, _^_, _≤_, _<_}
 use native.Mathlib.Omega.{arith}
-use native.Mathlib.Nat.{mul-suc}
 use mathlib.Core.List.{List, [], _∷_, List·Memᴰ, List·Memᴰ·head, List·Memᴰ·tail}
 use mathlib.Core.Bool.{Bool, true, false}
 use lib.Count.{ones, ones-cat}
@@ -10,22 +9,12 @@ use lib.ListN.{length, getD}
 use borrow.Author.Tests.{eq-eqb, ne-eqb}
 use Rattle.table.specs.Sum.{pick, sumTo}
 use Rattle.table.proofs.Sums.{sumTo-zero, sumTo-one}
+use Rattle.schedule.proofs.Totals.{sumTo-bound, sumTo-first}
 use Rattle.schedule.specs.declared.Worker.{Worker}
 use Rattle.schedule.specs.Machine.{nobody}
 use Rattle.schedule.specs.Record.{setOf}
 use Rattle.schedule.specs.Sound.{member, countBelow, rises}
 use Rattle.schedule.proofs.Words.{never-true, member-exactly, rises-tail, rises-head}
-
-pub sumTo-bound : (f : ℕ → ℕ) (B k : ℕ) → ((i : ℕ) → i < k → f i ≤ B) → sumTo f k ≤ B * k
-unfolding sumTo
-sumTo-bound f B zero h = omega arith
-sumTo-bound f B (suc k) h = omega (arith, sumTo-bound f B k (λ i l. h i (omega arith)), h k (omega arith), mul-suc B k)
-
--- the first term apart
-pub sumTo-first : (f : ℕ → ℕ) (k : ℕ) → sumTo f (suc k) ≡ f 0 + sumTo (λ i. f (suc i)) k
-unfolding sumTo
-sumTo-first f zero = omega arith
-sumTo-first f (suc k) = omega (arith, sumTo-first f k)
 
 pub count-bound : (f : ℕ → Bool) (k : ℕ) → countBelow f k ≤ k
 count-bound f k = omega (arith, sumTo-bound (λ i. pick (f i) 1 0) 1 k (λ i l. go (f i)))

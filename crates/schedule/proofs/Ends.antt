@@ -21,7 +21,7 @@ use Rattle.schedule.specs.Machine.{State, unborn, ready, held, waiting, 
 use Rattle.schedule.specs.Sound.{numberOf, isDone}
 use Rattle.schedule.proofs.Lawful.{Lawful}
 use Rattle.schedule.proofs.Facts.{Done, Rises, Facts}
-use Rattle.schedule.proofs.ListMoves.{Climbs, rises-climbs, climbs-rises, climbs-same, without-old, without-other, climbs-without, without-gone}
+use Rattle.schedule.proofs.ListMoves.{Ascends, rises-ascends, ascends-rises, ascends-same, without-old, without-other, ascends-without, without-gone}
 use Rattle.schedule.proofs.Undone.{done-low, done-last, done-same, owner-of-next, next-below, Does, does-ordered, does-amount, does-fork}
 use Rattle.schedule.proofs.Releases.{Acting, acting-depends, LetsGo, freed, Releases, released-below, released-thread, released-held, released-quota, released-once, released-holder, released-free}
 
@@ -187,8 +187,8 @@ module _ (T : Table) (l : Lawful T) (p K : ℕ) (w t a : ℕ) (st : State) (f : 
 
   -- ---- the list
 
-  placed : Climbs (λ u. numberOf T (nextOf st u)) (st .list)
-  placed = rises-climbs (λ (u : ℕ). numberOf T (nextOf st u)) (st .list) (f .serial)
+  placed : Ascends (λ u. numberOf T (nextOf st u)) (st .list)
+  placed = rises-ascends (λ (u : ℕ). numberOf T (nextOf st u)) (st .list) (f .serial)
 
   end-listed : (u : ℕ) → List·Memᴰ u (st' .list) → (u ≡ t → ⊥) × List·Memᴰ u (st .list)
   end-listed u i = (gone, without-old t u (st .list) j)
@@ -212,8 +212,8 @@ module _ (T : Table) (l : Lawful T) (p K : ℕ) (w t a : ℕ) (st : State) (f : 
 
   end-serial : Rises (λ u. numberOf T (nextOf st' u)) (st' .list)
   end-serial =
-      climbs-rises after (st' .list)
-      (climbs-same before after (st' .list) (λ u i. rw (m .next-same)) (rw (m .list-is) (climbs-without before t (st .list) placed)))
+      ascends-rises after (st' .list)
+      (ascends-same before after (st' .list) (λ u i. rw (m .next-same)) (rw (m .list-is) (ascends-without before t (st .list) placed)))
     where
       before : ℕ → ℕ
       before u = numberOf T (nextOf st u)

@@ -21,7 +21,7 @@ use Rattle.schedule.specs.Sound.{numberOf, isDone}
 use Rattle.schedule.proofs.Lawful.{Lawful}
 use Rattle.schedule.proofs.Numbers.{number-once, number-child, number-past}
 use Rattle.schedule.proofs.Facts.{Done, Rises, Facts}
-use Rattle.schedule.proofs.ListMoves.{rises-climbs, climbs-rises, leftOf-new, leftOf-old, leftOf-cases, climbs-leftOf}
+use Rattle.schedule.proofs.ListMoves.{rises-ascends, ascends-rises, leftOf-new, leftOf-old, leftOf-cases, ascends-leftOf}
 use Rattle.schedule.proofs.Undone.{done-low, done-live, done-same, owner-of-next, next-below, unborn-first, undone-unborn, between-unborn, Does, does-ordered, does-amount, does-fork, number-first}
 use Rattle.schedule.proofs.Ends.{ownerBelow-less, ended-state, ended-facts}
 use Rattle.schedule.proofs.Releases.{Acting, acting, acting-depends, LetsGo, freed, Releases, released-below, released-thread, released-held, released-quota, released-once, released-holder, released-free}
@@ -195,7 +195,7 @@ module _ (T : Table) (l : Lawful T) (p K : ℕ) (w t a c : ℕ) (st : State) (f 
           leftOf-old c t u (st .list) (f .live-listed u h (λ r. n (q ∙ r)) (λ r. o (q ∙ r)))
 
   fork-serial : Rises (λ u. numberOf T (nextOf st' u)) (st' .list)
-  fork-serial = climbs-rises after (st' .list) (rw (m .list-is) (climbs-leftOf before after c t up past (st .list) same beyond listed (rises-climbs before (st .list) (f .serial))))
+  fork-serial = ascends-rises after (st' .list) (rw (m .list-is) (ascends-leftOf before after c t up past (st .list) same beyond listed (rises-ascends before (st .list) (f .serial))))
     where
       before : ℕ → ℕ
       before u = numberOf T (nextOf st u)

@@ -19,7 +19,7 @@ use Rattle.schedule.specs.Sound.{numberOf, isDone}
 use Rattle.schedule.proofs.Lawful.{Lawful}
 use Rattle.schedule.proofs.Facts.{Done, Facts}
 use Rattle.schedule.proofs.Numbers.{number-rises, number-child, number-depends}
-use Rattle.schedule.proofs.ListMoves.{Climbs, rises-climbs}
+use Rattle.schedule.proofs.ListMoves.{Ascends, rises-ascends}
 use Rattle.schedule.proofs.Undone.{done-low, done-last, undone, number-first, next-below, owner-of-next}
 use Rattle.schedule.proofs.Batches.{Enabled}
 use Rattle.schedule.proofs.Depth.{join-depends, by-joins}
@@ -135,12 +135,12 @@ module _ (T : Table) (l : Lawful T) (p K : ℕ) (st : State) (f : Facts T p K st
   module _ (t : ℕ) (others : List ℕ) (leftmost : st .list ≡ t ∷ others) where
     -- no listed thread's next action is lower
     leftmost-lowest : (u : ℕ) → List·Memᴰ u (st .list) → numberOf T (nextOf st t) ≤ numberOf T (nextOf st u)
-    unfolding Climbs
+    unfolding Ascends
     leftmost-lowest u m = go (List·Memᴰ·cases-cons (rw leftmost at m))
       where
         go : (u ≡ t) ⊎ List·Memᴰ u others → numberOf T (nextOf st t) ≤ numberOf T (nextOf st u)
         go (inl e) = rw e (omega arith)
-        go (inr i) = omega (arith, (rw leftmost at (rises-climbs (λ y. numberOf T (nextOf st y)) (st .list) (f .serial))) .0 u i)
+        go (inr i) = omega (arith, (rw leftmost at (rises-ascends (λ y. numberOf T (nextOf st y)) (st .list) (f .serial))) .0 u i)
 
     leftmost-listed : List·Memᴰ t (st .list)
     leftmost-listed = rw leftmost (List·Memᴰ·head refl)

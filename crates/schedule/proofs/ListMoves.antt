@@ -17,9 +17,9 @@ use Rattle.schedule.proofs.Facts.{Rises}
 -- ---- rising, element by element
 
 -- every element is below all that stand right of it
-unfoldable pub Climbs : (ℕ → ℕ) → List ℕ → Type 0
-Climbs f [] = Unit {0}
-Climbs f (x ∷ l) = ((y : ℕ) → List·Memᴰ y l → f x < f y) × Climbs f l
+unfoldable pub Ascends : (ℕ → ℕ) → List ℕ → Type 0
+Ascends f [] = Unit {0}
+Ascends f (x ∷ l) = ((y : ℕ) → List·Memᴰ y l → f x < f y) × Ascends f l
 
 -- an element splits its list
 split : (y : ℕ) (l : List ℕ) → List·Memᴰ y l → (front : List ℕ) × (rest : List ℕ) × (l ≡ front ++ y ∷ rest)
@@ -33,30 +33,30 @@ split y (x ∷ l) m = go (λ (i : List·Memᴰ y l). split y l i) (List·Memᴰ�
         let (front, rest, e) = ih i in
         (x ∷ front, rest, cc)
 
-pub rises-climbs : (f : ℕ → ℕ) (l : List ℕ) → Rises f l → Climbs f l
-unfolding Climbs
-rises-climbs f [] r = tt
-rises-climbs f (x ∷ l) r = (λ y m. above y (split y l m), rises-climbs f l (λ front middle rest u v e. r (x ∷ front) middle rest u v cc))
+pub rises-ascends : (f : ℕ → ℕ) (l : List ℕ) → Rises f l → Ascends f l
+unfolding Ascends
+rises-ascends f [] r = tt
+rises-ascends f (x ∷ l) r = (λ y m. above y (split y l m), rises-ascends f l (λ front middle rest u v e. r (x ∷ front) middle rest u v cc))
   where
     above : (y : ℕ) → (front : List ℕ) × (rest : List ℕ) × (l ≡ front ++ y ∷ rest) → f x < f y
     above y (front, rest, e) = r [] front rest x y cc
 
-pub climbs-rises : (f : ℕ → ℕ) (l : List ℕ) → Climbs f l → Rises f l
-unfolding Climbs
-climbs-rises f [] c [] middle rest x y e = no-way cc
-climbs-rises f [] c (z ∷ front) middle rest x y e = no-way cc
-climbs-rises f (u ∷ l) c [] middle rest x y e =
+pub ascends-rises : (f : ℕ → ℕ) (l : List ℕ) → Ascends f l → Rises f l
+unfolding Ascends
+ascends-rises f [] c [] middle rest x y e = no-way cc
+ascends-rises f [] c (z ∷ front) middle rest x y e = no-way cc
+ascends-rises f (u ∷ l) c [] middle rest x y e =
     let p : u ≡ x = cc in
     let q : l ≡ middle ++ y ∷ rest = cc in
     let m : List·Memᴰ y l = rw q (Memᴰ·append-right middle (List·Memᴰ·head refl)) in
     rw (← p) (c .0 y m)
-climbs-rises f (u ∷ l) c (z ∷ front) middle rest x y e = climbs-rises f l (c .1) front middle rest x y cc
+ascends-rises f (u ∷ l) c (z ∷ front) middle rest x y e = ascends-rises f l (c .1) front middle rest x y cc
 
-pub climbs-same : (f g : ℕ → ℕ) (l : List ℕ) → ((u : ℕ) → List·Memᴰ u l → g u ≡ f u) → Climbs f l → Climbs g l
-unfolding Climbs
-climbs-same f g [] e c = tt
-climbs-same f g (x ∷ l) e c =
-    (λ y m. omega (arith, c .0 y m, e x (List·Memᴰ·head refl), e y (List·Memᴰ·tail m)), climbs-same f g l (λ u m. e u (List·Memᴰ·tail m)) (c .1))
+pub ascends-same : (f g : ℕ → ℕ) (l : List ℕ) → ((u : ℕ) → List·Memᴰ u l → g u ≡ f u) → Ascends f l → Ascends g l
+unfolding Ascends
+ascends-same f g [] e c = tt
+ascends-same f g (x ∷ l) e c =
+    (λ y m. omega (arith, c .0 y m, e x (List·Memᴰ·head refl), e y (List·Memᴰ·tail m)), ascends-same f g l (λ u m. e u (List·Memᴰ·tail m)) (c .1))
 
 -- ---- one more thread
 
@@ -102,15 +102,15 @@ leftOf-cases c t u (x ∷ l) m = go (eqb x t) (λ (i : List·Memᴰ u (leftOf c 
 
 -- c fits in directly left of t, and t itself moves up to below the next one right of it
 module _ (f g : ℕ → ℕ) (c t : ℕ) (up : f t < g c) (past : g c < g t) where
-  pub climbs-leftOf : (l : List ℕ) → ((u : ℕ) → List·Memᴰ u l → (u ≡ t → ⊥) → g u ≡ f u) → ((u : ℕ) → List·Memᴰ u l → f t < f u → g t < f u)
-      → List·Memᴰ t l → Climbs f l → Climbs g (leftOf c t l)
-  unfolding Climbs leftOf
-  climbs-leftOf [] same above m k = absurd (List·Memᴰ·not-nil m)
-  climbs-leftOf (x ∷ l) same above m k =
-      go (eqb x t) refl (climbs-leftOf l (λ u i. same u (List·Memᴰ·tail i)) (λ u i. above u (List·Memᴰ·tail i)))
+  pub ascends-leftOf : (l : List ℕ) → ((u : ℕ) → List·Memᴰ u l → (u ≡ t → ⊥) → g u ≡ f u) → ((u : ℕ) → List·Memᴰ u l → f t < f u → g t < f u)
+      → List·Memᴰ t l → Ascends f l → Ascends g (leftOf c t l)
+  unfolding Ascends leftOf
+  ascends-leftOf [] same above m k = absurd (List·Memᴰ·not-nil m)
+  ascends-leftOf (x ∷ l) same above m k =
+      go (eqb x t) refl (ascends-leftOf l (λ u i. same u (List·Memᴰ·tail i)) (λ u i. above u (List·Memᴰ·tail i)))
     where
-      go : (q : Bool) → eqb x t ≡ q → (List·Memᴰ t l → Climbs f l → Climbs g (leftOf c t l)) → Climbs g (pick q (c ∷ x ∷ l) (x ∷ leftOf c t l))
-      go true q ih = (first, (second, climbs-same f g l rest (k .1)))
+      go : (q : Bool) → eqb x t ≡ q → (List·Memᴰ t l → Ascends f l → Ascends g (leftOf c t l)) → Ascends g (pick q (c ∷ x ∷ l) (x ∷ leftOf c t l))
+      go true q ih = (first, (second, ascends-same f g l rest (k .1)))
         where
           here : x ≡ t
           here = eqb-true x t q
@@ -183,18 +183,18 @@ without-other t u (x ∷ l) n m = go (eqb x t) refl (without-other t u l n) (Lis
     go false q ih (inr i) = List·Memᴰ·tail (ih i)
 
 module _ (f : ℕ → ℕ) (t : ℕ) where
-  pub climbs-without : (l : List ℕ) → Climbs f l → Climbs f (without t l)
-  unfolding Climbs without
-  climbs-without [] k = tt
-  climbs-without (x ∷ l) k = go (eqb x t) (climbs-without l (k .1))
+  pub ascends-without : (l : List ℕ) → Ascends f l → Ascends f (without t l)
+  unfolding Ascends without
+  ascends-without [] k = tt
+  ascends-without (x ∷ l) k = go (eqb x t) (ascends-without l (k .1))
     where
-      go : (q : Bool) → Climbs f (without t l) → Climbs f (pick q l (x ∷ without t l))
+      go : (q : Bool) → Ascends f (without t l) → Ascends f (pick q l (x ∷ without t l))
       go true ih = k .1
       go false ih = (λ y m. k .0 y (without-old t y l m), ih)
 
   -- it stood there once
-  pub without-gone : (l : List ℕ) → Climbs f l → List·Memᴰ t (without t l) → ⊥
-  unfolding Climbs without
+  pub without-gone : (l : List ℕ) → Ascends f l → List·Memᴰ t (without t l) → ⊥
+  unfolding Ascends without
   without-gone [] k m = List·Memᴰ·not-nil m
   without-gone (x ∷ l) k m = go (eqb x t) refl (without-gone l (k .1)) m
     where

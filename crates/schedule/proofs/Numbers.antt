@@ -21,7 +21,8 @@ use Rattle.table.proofs.Rank.{rank, rank-rest, rank-root, rank-child, rank-fork
 use Rattle.table.proofs.Levels.{by-place, depends-earlier}
 use Rattle.schedule.specs.Sound.{numberOf}
 use Rattle.schedule.proofs.Lawful.{Lawful}
-use Rattle.schedule.proofs.Places.{place-of, getD-member, Climbs, climbs-append, climbs-place, climbs-within, climbs-at}
+use Rattle.schedule.proofs.Lists.{getD-member}
+use Rattle.schedule.proofs.Places.{place-of, Climbs, climbs-append, climbs-place, climbs-within, climbs-at}
 
 -- all elements of one list are in another
 abbrev Inside : List ℕ → List ℕ → Type 0
@@ -150,7 +151,7 @@ module _ (T : Table) (l : Lawful T) where
       let s : 0 < T .threads = l .some-thread in
       let z : T .first 0 < T .actions = first-within T c 0 s in
       let g : k < length (serialOrder T) = omega (arith, serial-length T c b n f s) in
-      let i : a < T .actions = serial-below T c b (T .first 0) z a (getD-member (serialOrder T) k g) in
+      let i : a < T .actions = serial-below T c b (T .first 0) z a (getD-member (serialOrder T) k 0 g) in
       (i, omega (arith, number-rank a i, climbs-at (rank T) _ k (serialOrder T) (serial-climbs (T .first 0) z) g, rank-root T c b n f s))
 
   -- two actions have two numbers
@@ -215,7 +216,7 @@ module _ (T : Table) (l : Lawful T) where
       let s : List ℕ = serial T (T .first (T .argument x)) in
       let j : ℕ = numberOf T a - suc (numberOf T x) in
       let g : j < length s = omega (arith, number-rank x h, number-rank (suc x) (next-within T c b x h (fork-no-end k)), rank-fork T c b n f x h k) in
-      let m : List·Memᴰ (getD s j 0) s = getD-member s j g in
+      let m : List·Memᴰ (getD s j 0) s = getD-member s j 0 g in
       let z : getD s j 0 < T .actions = serial-below T c b (T .first (T .argument x)) (child-within T c b x h k) (getD s j 0) m in
       let e : numberOf T a ≡ numberOf T (getD s j 0) = omega (arith, number-rank x h, number-rank (getD s j 0) z, climbs-at (rank T) _ j s (child-climbs x h k) g) in
       Memᴰ·cast (number-once a (getD s j 0) i z e) m

@@ -1,7 +1,7 @@
 -- The place of an element in a list, and lists along which a function climbs: it has the value k at the first element, and one more at each next.
 use mathlib.Core.Path.{_≡_, refl, ap}
 use Prim.Native.Nat.{ℕ, zero, suc, _+_, _≤_, _<_}
-use mathlib.Core.List.{List, [], _∷_, _++_, List·Memᴰ, List·Memᴰ·head, List·Memᴰ·tail, List·Memᴰ·not-nil, List·Memᴰ·cases-cons}
+use mathlib.Core.List.{List, [], _∷_, _++_, List·Memᴰ, List·Memᴰ·not-nil, List·Memᴰ·cases-cons}
 use mathlib.Core.Bool.{Bool, true, false}
 use mathlib.Core.Logic.{_⊎_, inl, inr}
 use native.Mathlib.Omega.{arith}
@@ -24,11 +24,6 @@ place-of a (x ∷ l) m = go (eqb a x) refl (place-of a l) (List·Memᴰ·cases-c
     go true e ih o = cc (eqb-true a x e)
     go false e ih (inl q) = absurd (eqb-false a x e q)
     go false e ih (inr i) = ih i
-
-pub getD-member : (l : List ℕ) (i : ℕ) → i < length l → List·Memᴰ (getD l i 0) l
-getD-member [] i h = absurd (omega arith)
-getD-member (x ∷ l) zero h = List·Memᴰ·head refl
-getD-member (x ∷ l) (suc i) h = List·Memᴰ·tail (getD-member l i (omega arith))
 
 -- ---- climbing
 

@@ -8,6 +8,7 @@ use Rattle.table.specs.Sum.{greatest}
 use Rattle.table.specs.Format.{Table}
 use Rattle.table.specs.Rules.{allocOf, freeOf}
 use Rattle.table.proofs.Levels.{greatest-same}
+use Rattle.table.proofs.Peaks.{greatest-map}
 use Rattle.schedule.specs.Machine.{State, turnOf}
 use Rattle.schedule.specs.Begin.{startState}
 use Rattle.schedule.specs.Memory.{rowState, replies, sumReplies, memoryOf, frontRows, peakMemory}
@@ -18,11 +19,6 @@ use Rattle.schedule.proofs.Starts.{start-facts, start-held}
 use Rattle.schedule.proofs.Replies.{Amounts, turn-amounts}
 
 -- ---- front parts
-
-greatest-map : (f : List ℕ → ℕ) (g : List ℕ → List ℕ) (l : List (List ℕ)) → greatest f (map g l) ≡ greatest (λ q. f (g q)) l
-unfolding greatest
-greatest-map f g [] = refl
-greatest-map f g (q ∷ l) = rw (greatest-map f g l)
 
 -- the empty front part counts
 greatest-empty : (f : List ℕ → ℕ) (row : List ℕ) → f [] ≤ greatest f (frontRows row)

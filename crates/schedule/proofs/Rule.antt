@@ -13,6 +13,7 @@ use lib.Dec.{eqb}
 use borrow.Author.Tests.{eq-eqb, ne-eqb}
 use Rattle.table.specs.Sum.{pick, sumTo}
 use Rattle.table.proofs.Sums.{sumTo-one}
+use Rattle.schedule.proofs.Totals.{sumTo-bound}
 use Rattle.schedule.specs.Memory.{countIn, Keeps}
 
 -- the number of turns since the latest turn of w, of a row with the latest turn first; where w has had none, of all of them
@@ -44,11 +45,6 @@ length-counts p (w ∷ l) h =
     let ih : length l ≤ sumTo (λ v. countIn v l) p = length-counts p l (λ v m. h v (List·Memᴰ·tail m)) in
     omega (arith, countIn-own w l, sumTo-one (λ v. countIn v (w ∷ l)) (λ v. countIn v l) w p (h w (List·Memᴰ·head refl)) (λ v i d. countIn-other v w l (λ e. d (sym e))))
 
-sumTo-bound : (f : ℕ → ℕ) (b p : ℕ) → ((v : ℕ) → f v ≤ b) → sumTo f p ≤ b * p
-unfolding sumTo
-sumTo-bound f b zero h = omega arith
-sumTo-bound f b (suc p) h = omega (arith, sumTo-bound f b p h, h p, mul-suc b p)
-
 -- p numbers of at most b, of which one is 0
 sumTo-but : (f : ℕ → ℕ) (b p w : ℕ) → w < p → f w ≡ 0 → ((v : ℕ) → f v ≤ b) → sumTo f p + b ≤ b * p
 unfolding sumTo
@@ -58,7 +54,7 @@ sumTo-but f b (suc p) w i z h = go (ℕ-discrete w p) (λ k. sumTo-but f b p w k
     go : Dec (w ≡ p) → (w < p → sumTo f p + b ≤ b * p) → sumTo f p + f p + b ≤ b * suc p
     go (yes e) ih =
         let q : f p ≡ 0 = rw (← e) z in
-        omega (arith, sumTo-bound f b p h, mul-suc b p)
+        omega (arith, sumTo-bound f b p (λ v i. h v), mul-suc b p)
     go (no d) ih = omega (arith, ih (omega (arith, d)), h p, mul-suc b p)
 
 stretch-short : (b p w : ℕ) (l : List ℕ) → w < p → ((v : ℕ) → List·Memᴰ v l → v < p) → countIn w l ≡ 0 → ((v : ℕ) → countIn v l ≤ b) → length l ≤ b * (p - 1)

@@ -7,41 +7,25 @@ use mathlib.Core.List.{List, [], _∷_, List·Memᴰ·not-nil}
 use mathlib.Core.Bool.{Bool, true, false}
 use mathlib.Core.Logic.{_⊎_}
 use lib.Count.{ones}
-use lib.Dec.{ltb}
 use lib.ListN.{length}
-use borrow.Author.Tests.{ltb-false, eqb-false}
+use borrow.Author.Tests.{eqb-false}
 use Rattle.table.specs.Sum.{pick, sumTo}
-use Rattle.table.specs.Format.{free, Table, kind}
-use Rattle.table.specs.Pass.{firstFound}
-use Rattle.table.specs.Rules.{outside, allocOf}
-use Rattle.table.specs.declared.Found.the-variants.{Nothing}
-use Rattle.table.proofs.Tests.{or-neither}
-use Rattle.table.proofs.Passes.{tryPass-from-0, firstFound-nothing}
+use Rattle.table.specs.Format.{free, kind}
+use Rattle.table.specs.Rules.{allocOf}
 use Rattle.schedule.specs.declared.Run.{Run}
 use Rattle.schedule.specs.Machine.{ready, held, ended, nextOf, statusOf, workerOf}
-use Rattle.schedule.specs.Record.{maxWorkers, stateOf, bytesOf, tableIn}
-use Rattle.schedule.specs.Begin.{maxQuota, beginPasses}
+use Rattle.schedule.specs.Record.{stateOf, tableIn}
 use Rattle.schedule.specs.Sound.{Steady, member, countBelow, isDone, ofDone, inSerialOrder, numberOf}
 use Rattle.schedule.specs.Turn.{rootEnded}
-use Rattle.schedule.proofs.Lawful.{Lawful, lawful}
 use Rattle.schedule.proofs.Facts.{Facts}
 use Rattle.schedule.proofs.Words.{never-true, member-exactly}
 use Rattle.schedule.proofs.Shares.{share, held-shares, free-held}
-use Rattle.schedule.proofs.Stores.{steady-fits, steady-facts}
+use Rattle.schedule.proofs.Stores.{steady-lawful, steady-fits, steady-facts}
 use Rattle.schedule.proofs.Leftmost.{leftmost-enabled}
-use Rattle.schedule.proofs.Counts.{sumTo-bound, count-bound, member-more, rising-count, set-ones}
-
--- 21 does not apply: the quota is in its range
-pub quota-high : (T : Table) (p K : ℕ) → firstFound (beginPasses T p K) ≡ Nothing → K ≤ 16777215
-quota-high T p K e =
-    let h = firstFound-nothing (beginPasses T p K) .0 e in
-    let g = tryPass-from-0 1 (record { number = 20; applies = λ i. outside 1 maxWorkers p } ∷ record { number = 21; applies = λ i. outside 1 maxQuota K } ∷ []) .0 (h .0) in
-    ltb-false maxQuota K (or-neither (ltb K 1) (ltb maxQuota K) (g .1 .0 0 (omega arith)) .1)
+use Rattle.schedule.proofs.Totals.{sumTo-bound}
+use Rattle.schedule.proofs.Counts.{count-bound, member-more, rising-count, set-ones}
 
 module _ (r : Run) (h : Steady r) where
-  table-lawful : Lawful (tableIn r)
-  table-lawful = lawful (bytesOf r) (h .table)
-
   -- the threads in the list, counted
   list-count : countBelow (λ t. member t (stateOf r .list)) (tableIn r .threads) ≡ length (stateOf r .list)
   unfolding inSerialOrder
@@ -69,12 +53,12 @@ module _ (r : Run) (h : Steady r) where
 
       go : (l : List ℕ) → stateOf r .list ≡ l
           → (t : ℕ) × (rest : List ℕ) × (stateOf r .list ≡ t ∷ rest) × ((statusOf (stateOf r) t ≡ ready) ⊎ (statusOf (stateOf r) t ≡ held))
-      go [] q = absurd (List·Memᴰ·not-nil (rw q at (f .live-listed 0 (table-lawful .some-thread) (f .root-born) (eqb-false (statusOf (stateOf r) 0) ended e))))
-      go (t ∷ rest) q = (t, rest, q, leftmost-enabled (tableIn r) table-lawful (r .workers) (r .quota) (stateOf r) f t rest q .taken)
+      go [] q = absurd (List·Memᴰ·not-nil (rw q at (f .live-listed 0 (steady-lawful r h .some-thread) (f .root-born) (eqb-false (statusOf (stateOf r) 0) ended e))))
+      go (t ∷ rest) q = (t, rest, q, leftmost-enabled (tableIn r) (steady-lawful r h) (r .workers) (r .quota) (stateOf r) f t rest q .taken)
 
   -- "held is the sum over the threads of the balance so far, 0 once joined"
   pub held-by-thread : r .held ≡ sumTo (share (tableIn r) (stateOf r)) (tableIn r .threads)
-  held-by-thread = held-shares (tableIn r) table-lawful (r .workers) (r .quota) (stateOf r) (steady-facts r h)
+  held-by-thread = held-shares (tableIn r) (steady-lawful r h) (r .workers) (r .quota) (stateOf r) (steady-facts r h)
 
   -- "the count of ones of the busy set is the number of workers that hold a thread"
   pub busy-count : ones (r .busy) ≡ countBelow (λ w. workerOf (stateOf r) w .holds) 16
@@ -83,7 +67,7 @@ module _ (r : Run) (h : Steady r) where
   -- "a free never takes more than is held"
   pub free-within : (t : ℕ) → t < tableIn r .threads → (statusOf (stateOf r) t ≡ ended → ⊥) → kind (tableIn r) (nextOf (stateOf r) t) ≡ free
       → tableIn r .argument (nextOf (stateOf r) t) ≤ r .held
-  free-within t i e k = free-held (tableIn r) table-lawful (r .workers) (r .quota) (stateOf r) (steady-facts r h) t i e k
+  free-within t i e k = free-held (tableIn r) (steady-lawful r h) (r .workers) (r .quota) (stateOf r) (steady-facts r h) t i e k
 
   -- nothing overflows: held stays below 2^37, and with a whole quota on top below 2^38
   pub held-small : r .held ≤ r .quota * tableIn r .actions
@@ -100,5 +84,4 @@ module _ (r : Run) (h : Steady r) where
 
   pub held-fits : r .held + r .quota < 2 ^ 38
   held-fits =
-      let q : r .quota ≤ 16777215 = quota-high (tableIn r) (r .workers) (r .quota) (h .beginning) in
-      omega (arith, held-small, mul-le-mul-right (tableIn r .actions) q, table-lawful .few-actions)
+      omega (arith, held-small, steady-fits r h .few-quota, mul-le-mul-right (tableIn r .actions) (steady-fits r h .few-quota), steady-lawful r h .few-actions)

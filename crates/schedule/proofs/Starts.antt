@@ -15,7 +15,7 @@ use Rattle.table.proofs.Sums.{sumTo-zero}
 use Rattle.table.proofs.Bodies.{count-pos, after-end, owner-below, owner-first}
 use Rattle.table.proofs.Nesting.{fork-exists, fork-found}
 use Rattle.schedule.specs.declared.Worker.{Worker}
-use Rattle.schedule.specs.Machine.{unborn, ready, held, ended, nextOf, statusOf, workerOf, nobody}
+use Rattle.schedule.specs.Machine.{unborn, ready, ended, nextOf, statusOf, workerOf, nobody}
 use Rattle.schedule.specs.Record.{maxThreads, maxWorkers}
 use Rattle.schedule.specs.Begin.{firsts, startState}
 use Rattle.schedule.specs.Sound.{numberOf, isDone, sumDone, ofDone}

@@ -3,15 +3,13 @@ use mathlib.Core.Path.{_≡_, refl, sym, ap}
 use Prim.Native.Nat.{ℕ, _≤_, _<_}
 use native.Mathlib.Omega.{arith}
 use mathlib.Core.List.{[], _∷_}
-use mathlib.Core.Bool.{false}
-use lib.Dec.{ltb}
 use borrow.Author.Tests.{ltb-false}
 use lib.ListN.{length}
 use Rattle.table.specs.Format.{Table}
 use Rattle.table.specs.Pass.{firstFound}
 use Rattle.table.specs.Rules.{outside, allocOf}
 use Rattle.table.specs.declared.Found.the-variants.{Nothing}
-use Rattle.table.proofs.Tests.{or-neither}
+use Rattle.table.proofs.Sizes.{inside}
 use Rattle.table.proofs.Passes.{tryPass-from-0, firstFound-nothing}
 use Rattle.schedule.specs.declared.Run.{Run}
 use Rattle.schedule.specs.Machine.{State, turnOf}
@@ -32,12 +30,8 @@ pub record Fits (T : Table) (p K : ℕ) : Type 0 where
   pub some-worker : 1 ≤ p
   pub few-workers : p ≤ 16
   pub some-quota : 1 ≤ K
+  pub few-quota : K ≤ 16777215
   pub within : Within T K
-
-inside : (low high x : ℕ) → outside low high x ≡ false → (low ≤ x) × (x ≤ high)
-inside low high x e =
-    let b = or-neither (ltb x low) (ltb high x) e in
-    (ltb-false x low (b .0), ltb-false high x (b .1))
 
 pub begin-fits : (T : Table) (p K : ℕ) → firstFound (beginPasses T p K) ≡ Nothing → Fits T p K
 unfolding allocAbove
@@ -47,7 +41,7 @@ begin-fits T p K e =
     let a = tryPass-from-0 (T .actions) (record { number = 22; applies = allocAbove T K } ∷ []) .0 (h .1 .0) in
     let w = inside 1 maxWorkers p (g .0 0 (omega arith)) in
     let q = inside 1 maxQuota K (g .1 .0 0 (omega arith)) in
-    record { some-worker = w .0; few-workers = w .1; some-quota = q .0; within = λ i l. ltb-false K (allocOf T i) (a .0 i l) }
+    record { some-worker = w .0; few-workers = w .1; some-quota = q .0; few-quota = q .1; within = λ i l. ltb-false K (allocOf T i) (a .0 i l) }
 
 -- ---- the record with another state
 
@@ -55,7 +49,7 @@ pub stateOf-stored : (r : Run) (st : State) → stateOf (stored r st) ≡ st
 stateOf-stored r st = rw (filled-front maxThreads (st .list))
 
 module _ (r : Run) (h : Steady r) where
-  steady-lawful : Lawful (tableIn r)
+  pub steady-lawful : Lawful (tableIn r)
   steady-lawful = lawful (bytesOf r) (h .table)
 
   pub steady-fits : Fits (tableIn r) (r .workers) (r .quota)

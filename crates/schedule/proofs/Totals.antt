@@ -1,10 +1,10 @@
--- Laws of sums that runs use: sums that add up term by term, sums over parts laid end to end, and a sum over sources read as one over their targets.
+-- Laws of sums that runs use: sums under a bound, sums that add up term by term, sums over parts laid end to end, and a sum over sources read as one over their targets.
 use mathlib.Core.Path.{_≡_, refl, sym}
-use Prim.Native.Nat.{ℕ, zero, suc, _+_, _≤_, _<_}
+use Prim.Native.Nat.{ℕ, zero, suc, _+_, _*_, _≤_, _<_}
 use mathlib.Core.Bool.{Bool, true, false, _&&_}
 use lib.Dec.{ltb, eqb}
 use native.Mathlib.Omega.{arith}
-use native.Mathlib.Nat.{add-suc, add-zero}
+use native.Mathlib.Nat.{add-suc, add-zero, mul-suc}
 use native.Mathlib.Decide.{decLt}
 use borrow.Author.Tests.{lt-ltb, le-ltb, eq-eqb, ne-eqb}
 use Rattle.table.specs.Sum.{pick, sumTo, anyBelow}
@@ -15,6 +15,18 @@ use Rattle.table.proofs.Nesting.{anyBelow-true}
 pub sumTo-term : (f : ℕ → ℕ) (i k : ℕ) → i < k → f i ≤ sumTo f k
 unfolding sumTo
 sumTo-term f i k h = omega (arith, sumTo-part f (suc i) k h)
+
+-- as many terms under a bound
+pub sumTo-bound : (f : ℕ → ℕ) (B k : ℕ) → ((i : ℕ) → i < k → f i ≤ B) → sumTo f k ≤ B * k
+unfolding sumTo
+sumTo-bound f B zero h = omega arith
+sumTo-bound f B (suc k) h = omega (arith, sumTo-bound f B k (λ i l. h i (omega arith)), h k (omega arith), mul-suc B k)
+
+-- the first term apart
+pub sumTo-first : (f : ℕ → ℕ) (k : ℕ) → sumTo f (suc k) ≡ f 0 + sumTo (λ i. f (suc i)) k
+unfolding sumTo
+sumTo-first f zero = omega arith
+sumTo-first f (suc k) = omega (arith, sumTo-first f k)
 
 -- two sums that add up term by term
 pub sumTo-add : (f g h : ℕ → ℕ) (k : ℕ) → ((i : ℕ) → i < k → f i + g i ≡ h i) → sumTo f k + sumTo g k ≡ sumTo h k
