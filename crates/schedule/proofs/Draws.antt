@@ -26,7 +26,7 @@ use Rattle.schedule.proofs.Numbers.{number-once}
 use Rattle.schedule.proofs.Turns.{turn-facts}
 use Rattle.schedule.proofs.Starts.{start-facts, start-undone, start-worker}
 use Rattle.schedule.proofs.Batches.{startAction, begins, beginsBeyond, batches}
-use Rattle.schedule.proofs.Steps.{done-alike}
+use Rattle.schedule.proofs.Undone.{done-alike}
 use Rattle.schedule.proofs.Tries.{Tries, Turned, idles, tries, turned, undone-before}
 
 -- what the actions done beyond action v cost
@@ -78,7 +78,7 @@ module _ (T : Table) (l : Lawful T) (p K : ℕ) (few : p ≤ 16) (cost : ℕ →
   idle-turn e n s k =
       omega (
         arith,
-        sumTo-cong (spentAt after) (spentAt st) (T .actions) (λ a h. rw (done-alike T st after a (rw n) (rw s))),
+        sumTo-cong (spentAt after) (spentAt st) (T .actions) (λ a h. rw (done-alike T st a after (rw n) (rw s))),
         sumTo-cong (leftAt left' after) (leftAt left st) 16 (λ u h. rw (stands u) (go u h (ℕ-discrete u w))),
       )
     where

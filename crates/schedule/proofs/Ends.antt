@@ -12,7 +12,7 @@ use lib.Seq.{getD-set-same, getD-set-other}
 use borrow.Author.Tests.{eqb-true, eq-eqb}
 use Rattle.table.specs.Sum.{pick}
 use Rattle.table.specs.Format.{end, fork, join, codeOf, is, Table, kind}
-use Rattle.table.specs.Rules.{ownerBelow, owner, endOf, openBefore}
+use Rattle.table.specs.Rules.{ownerBelow, owner, endOf, allocOf, freeOf, openBefore}
 use Rattle.table.specs.Level.{forkBelow, dependsOn}
 use Rattle.table.proofs.Tests.{no-way, and-both, same-is}
 use Rattle.table.proofs.Bodies.{after-end, owner-end, end-last}
@@ -145,7 +145,7 @@ module _ (T : Table) (l : Lawful T) (p K : ℕ) (w t a : ℕ) (st : State) (f : 
       }
 
   does : Does T a st st'
-  does = record { now = done-last T st' a (rw (x .owned, m .next-same) (sym (x .next))) (rw (x .owned) (m .status-here)); same = λ d h n. at d h n (ℕ-discrete (owner T d) t) }
+  does = record { not-yet = x .undone; now = done-last T st' a (rw (x .owned, m .next-same) (sym (x .next))) (rw (x .owned) (m .status-here)); same = λ d h n. at d h n (ℕ-discrete (owner T d) t) }
     where
       at : (d : ℕ) → d < T .actions → (d ≡ a → ⊥) → Dec (owner T d ≡ t) → isDone T st' d ≡ isDone T st d
       at d h n (yes o) =
@@ -155,8 +155,7 @@ module _ (T : Table) (l : Lawful T) (p K : ℕ) (w t a : ℕ) (st : State) (f : 
           done-same T st d st' (m .next-same (owner T d)) (back ended (λ i. omega arith) (owner T d) o) (forth ended (λ i. omega arith) (owner T d) o)
 
   end-ordered : (v d : ℕ) → v < T .actions → Done T st' v → List·Memᴰ d (dependsOn T v) → Done T st' d
-  unfolding is codeOf
-  end-ordered = does-ordered T l p K st f a (x .action) st' does (acting-depends T l p K w t a st f x (rw k))
+  end-ordered = does-ordered T l p K st f a (x .action) st' does (acting-depends T l p K w t a st f x (λ j. no-way cc))
 
   end-known : (u : ℕ) → u < T .threads → statusOf st' u ≤ ended
   end-known u h = go (ℕ-discrete u t)
@@ -255,7 +254,7 @@ module _ (T : Table) (l : Lawful T) (p K : ℕ) (w t a : ℕ) (st : State) (f : 
       go (no e) = f .wait-open u h r (back ended (λ i. omega arith) (T .argument (nextOf st u)) e (rw (m .next-same) at o))
 
   pub ended-facts : Facts T p K st'
-  unfolding is codeOf
+  unfolding is codeOf allocOf freeOf
   ended-facts =
       record {
         next-size = m .lets-go .nexts ∙ f .next-size;
@@ -283,7 +282,7 @@ module _ (T : Table) (l : Lawful T) (p K : ℕ) (w t a : ℕ) (st : State) (f : 
         holder-once = released-once T p K w t a st f x st' releases;
         held-holder = released-holder T p K w t a st f x st' releases;
         free-worker = released-free T p K w t a st f x st' releases;
-        amount = does-amount T l p K st f a (x .action) st' does end k refl refl (m .lets-go .amount);
+        amount = does-amount T l p K st f a (x .action) st' does (rw (k, m .lets-go .amount));
         above = rw (m .lets-go .amount, m .lets-go .most) (f .above);
         unused-status = λ u h i. forth unborn (λ j. omega arith) u (λ j. omega (arith, x .thread)) (f .unused-status u h i);
         unused-next = λ u h i. m .next-same u ∙ f .unused-next u h i;

@@ -7,11 +7,9 @@ use mathlib.Core.Logic.{_⊎_, inl, inr}
 use native.Mathlib.Decide.{ℕ-discrete, decLt}
 use native.Mathlib.Omega.{arith}
 use lib.ListN.{length, set, length-set}
-use lib.Dec.{ltb}
 use lib.Seq.{getD-set-same, getD-set-other}
-use borrow.Author.Tests.{lt-ltb, le-ltb}
 use Rattle.table.specs.Format.{end, fork, join, codeOf, is, Table, kind}
-use Rattle.table.specs.Rules.{owner, endOf}
+use Rattle.table.specs.Rules.{owner, endOf, allocOf, freeOf}
 use Rattle.table.specs.Level.{forkBelow, dependsOn}
 use Rattle.table.proofs.Tests.{no-way, fork-no-end}
 use Rattle.table.proofs.Bodies.{after-end, end-within, owner-end, fork-above, fork-below, next-within, next-owner, owner-of-end}
@@ -22,7 +20,7 @@ use Rattle.schedule.proofs.Lawful.{Lawful}
 use Rattle.schedule.proofs.Numbers.{number-once, number-child, number-past}
 use Rattle.schedule.proofs.Facts.{Done, Rises, Facts}
 use Rattle.schedule.proofs.ListMoves.{rises-ascends, ascends-rises, leftOf-new, leftOf-old, leftOf-cases, ascends-leftOf}
-use Rattle.schedule.proofs.Undone.{done-low, done-live, done-same, owner-of-next, next-below, unborn-first, undone-unborn, between-unborn, Does, does-ordered, does-amount, does-fork, number-first}
+use Rattle.schedule.proofs.Undone.{ltb-next, done-low, done-live, done-same, owner-of-next, next-below, unborn-first, undone-unborn, between-unborn, Does, does-ordered, does-amount, does-fork, number-first}
 use Rattle.schedule.proofs.Ends.{ownerBelow-less, ended-state, ended-facts}
 use Rattle.schedule.proofs.Releases.{Acting, acting, acting-depends, LetsGo, freed, Releases, released-below, released-thread, released-held, released-quota, released-once, released-holder, released-free}
 
@@ -93,16 +91,12 @@ module _ (T : Table) (l : Lawful T) (p K : ℕ) (w t a c : ℕ) (st : State) (f 
       }
 
   does : Does T a st st'
-  does = record { now = done-low T st' a (rw (x .owned, m .next-here) (omega arith)); same = λ d h n. at d n (ℕ-discrete (owner T d) t) }
+  does = record { not-yet = x .undone; now = done-low T st' a (rw (x .owned, m .next-here) (omega arith)); same = λ d h n. at d n (ℕ-discrete (owner T d) t) }
     where
-      shift : (d : ℕ) → (d ≡ a → ⊥) → Dec (d < a) → ltb d (suc a) ≡ ltb d a
-      shift d n (yes i) = lt-ltb d (suc a) (omega arith) ∙ sym (lt-ltb d a i)
-      shift d n (no i) = le-ltb d (suc a) (omega arith) ∙ sym (le-ltb d a (omega arith))
-
       at : (d : ℕ) → (d ≡ a → ⊥) → Dec (owner T d ≡ t) → isDone T st' d ≡ isDone T st d
       at d n (yes o) =
           done-live T st' d (λ q. omega (arith, m .status-here, rw o at q))
-          ∙ rw (o, m .next-here, x .next) (shift d n (decLt d a))
+          ∙ rw (o, m .next-here, x .next) (ltb-next d a n)
           ∙ sym (done-live T st d (λ q. omega (arith, x .taken, rw o at q)))
       at d n (no o) =
           done-same T st d st' (m .next-other (owner T d) o) (λ q. back ended (λ i. omega arith) (owner T d) q .2)
@@ -129,8 +123,7 @@ module _ (T : Table) (l : Lawful T) (p K : ℕ) (w t a c : ℕ) (st : State) (f 
       go (no n) = rw (m .next-other u n) (f .next-high u h)
 
   fork-ordered : (v d : ℕ) → v < T .actions → Done T st' v → List·Memᴰ d (dependsOn T v) → Done T st' d
-  unfolding is codeOf
-  fork-ordered = does-ordered T l p K st f a (x .action) st' does (acting-depends T l p K w t a st f x (rw k))
+  fork-ordered = does-ordered T l p K st f a (x .action) st' does (acting-depends T l p K w t a st f x (λ j. no-way cc))
 
   fork-known : (u : ℕ) → u < T .threads → statusOf st' u ≤ ended
   fork-known u h = go (ℕ-discrete u t) (ℕ-discrete u c)
@@ -252,7 +245,7 @@ module _ (T : Table) (l : Lawful T) (p K : ℕ) (w t a c : ℕ) (st : State) (f 
       f .wait-open u h r (rw (m .next-other u i) at (back ended (λ i. omega arith) (T .argument (nextOf st' u)) o .2))
 
   forked-facts : Facts T p K st'
-  unfolding is codeOf
+  unfolding is codeOf allocOf freeOf
   forked-facts =
       record {
         next-size = m .lets-go .nexts ∙ f .next-size;
@@ -280,7 +273,7 @@ module _ (T : Table) (l : Lawful T) (p K : ℕ) (w t a c : ℕ) (st : State) (f 
         holder-once = released-once T p K w t a st f x st' releases;
         held-holder = released-holder T p K w t a st f x st' releases;
         free-worker = released-free T p K w t a st f x st' releases;
-        amount = does-amount T l p K st f a (x .action) st' does fork k refl refl (m .lets-go .amount);
+        amount = does-amount T l p K st f a (x .action) st' does (rw (k, m .lets-go .amount));
         above = rw (m .lets-go .amount, m .lets-go .most) (f .above);
         unused-status = λ u h i. m .status-other u (λ j. omega (arith, x .thread)) (λ j. omega (arith, child)) ∙ f .unused-status u h i;
         unused-next = λ u h i. m .next-other u (λ j. omega (arith, x .thread)) ∙ f .unused-next u h i;

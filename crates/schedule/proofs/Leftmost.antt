@@ -2,17 +2,15 @@
 use mathlib.Core.Path.{_≡_, refl}
 use Prim.Native.Nat.{ℕ, zero, suc, _≤_, _<_}
 use native.Mathlib.Omega.{arith}
-use native.Mathlib.Decide.{ℕ-discrete, decLt}
+use native.Mathlib.Decide.{decLt}
 use mathlib.Core.List.{List, _∷_, List·Memᴰ, List·Memᴰ·head, List·Memᴰ·cases-cons}
-use mathlib.Core.Bool.{Bool, true, false, _&&_, _||_}
+use mathlib.Core.Bool.{Bool, true, false}
 use mathlib.Core.Logic.{_⊎_, inl, inr}
-use lib.Dec.{ltb, eqb}
-use borrow.Author.Tests.{ltb-true, eqb-true}
 use Rattle.table.specs.Format.{join, Table, kind}
 use Rattle.table.specs.Rules.{owner, endOf}
 use Rattle.table.specs.Level.{forkBelow}
-use Rattle.table.proofs.Tests.{no-way, and-both}
-use Rattle.table.proofs.Bodies.{after-end, owner-of-end, owner-below, owner-end, join-below}
+use Rattle.table.proofs.Tests.{no-way}
+use Rattle.table.proofs.Bodies.{owner-below, join-below}
 use Rattle.table.proofs.Nesting.{fork-found, fork-exists}
 use Rattle.schedule.specs.Machine.{State, unborn, ready, held, waiting, ended, nextOf, statusOf}
 use Rattle.schedule.specs.Sound.{numberOf, isDone}
@@ -20,7 +18,7 @@ use Rattle.schedule.proofs.Lawful.{Lawful}
 use Rattle.schedule.proofs.Facts.{Done, Facts}
 use Rattle.schedule.proofs.Numbers.{number-rises, number-child, number-depends}
 use Rattle.schedule.proofs.ListMoves.{Ascends, rises-ascends}
-use Rattle.schedule.proofs.Undone.{done-low, done-last, undone, number-first, next-below, owner-of-next}
+use Rattle.schedule.proofs.Undone.{done-low, undone, done-ended, ended-all, number-first, next-below, owner-of-next}
 use Rattle.schedule.proofs.Batches.{Enabled}
 use Rattle.schedule.proofs.Depth.{join-depends, by-joins}
 
@@ -36,43 +34,6 @@ ready-or-held (suc (suc (suc (suc (suc k))))) h u v w = absurd (omega arith)
 module _ (T : Table) (l : Lawful T) (p K : ℕ) (st : State) (f : Facts T p K st) where
   -- ---- what is done, thread by thread
 
-  -- an action done stands before its thread's next one, or its thread has ended
-  pub done-where : (a : ℕ) → Done T st a → (a < nextOf st (owner T a)) ⊎ ((a ≡ nextOf st (owner T a)) × (statusOf st (owner T a) ≡ ended))
-  unfolding isDone
-  done-where a d = go (ltb a (nextOf st (owner T a))) refl d
-    where
-      u : ℕ
-      u = owner T a
-
-      go : (q : Bool) → ltb a (nextOf st u) ≡ q → (q || (eqb a (nextOf st u) && eqb (statusOf st u) ended)) ≡ true
-          → (a < nextOf st u) ⊎ ((a ≡ nextOf st u) × (statusOf st u ≡ ended))
-      go true e i = inl (ltb-true a (nextOf st u) e)
-      go false e i =
-          let (p, q) = and-both (eqb a (nextOf st u)) (eqb (statusOf st u) ended) i in
-          inr (eqb-true a (nextOf st u) p, eqb-true (statusOf st u) ended q)
-
-  -- a thread whose end is done has ended, and all of it is done
-  pub end-done : (t : ℕ) → t < T .threads → Done T st (endOf T t) → statusOf st t ≡ ended
-  end-done t h d = go (rw (owner-of-end T (l .contents) t h) at (done-where (endOf T t) d))
-    where
-      go : (endOf T t < nextOf st t) ⊎ ((endOf T t ≡ nextOf st t) × (statusOf st t ≡ ended)) → statusOf st t ≡ ended
-      go (inl i) = absurd (omega (arith, f .next-high t h))
-      go (inr i) = i .1
-
-  pub ended-all : (a : ℕ) → a < T .actions → statusOf st (owner T a) ≡ ended → Done T st a
-  ended-all a h e = go (ℕ-discrete a (nextOf st (owner T a)))
-    where
-      u : ℕ
-      u = owner T a
-
-      w : u < T .threads
-      w = owner-below T (l .contents) a h
-
-      go : Dec (a ≡ nextOf st u) → Done T st a
-      go (yes i) = done-last T st a i e
-      go (no i) =
-          done-low T st a (omega (arith, i, f .ended-last u w e, after-end T (l .contents) u w, owner-end T (l .contents) a h))
-
   -- the next action of a thread not ended is not done
   pub next-undone : (t : ℕ) → t < T .threads → (statusOf st t ≡ ended → ⊥) → isDone T st (nextOf st t) ≡ false
   next-undone t h e =
@@ -83,11 +44,11 @@ module _ (T : Table) (l : Lawful T) (p K : ℕ) (st : State) (f : Facts T p K st
 
   pub all-done : statusOf st 0 ≡ ended → (a : ℕ) → a < T .actions → Done T st a
   all-done e a h =
-      ended-all a h
+      ended-all T l p K st f a h
       (by-joins T (l .contents) (l .bodies) (l .nesting) (l .forking) (λ t. statusOf st t ≡ ended) e
       (λ j i k q.
       let w : T .argument j < T .threads = join-below T (l .contents) (l .bodies) j i k in
-      end-done (T .argument j) w (f .ordered j (endOf T (T .argument j)) i (ended-all j i q) (join-depends T j k)))
+      done-ended T l p K st f (T .argument j) w (f .ordered j (endOf T (T .argument j)) i (ended-all T l p K st f j i q) (join-depends T j k)))
       (owner T a) (owner-below T (l .contents) a h))
 
   -- ---- an action that is not done while all before it are
@@ -97,7 +58,7 @@ module _ (T : Table) (l : Lawful T) (p K : ℕ) (st : State) (f : Facts T p K st
     below = owner-below T (l .contents) a within
 
     unended : statusOf st (owner T a) ≡ ended → ⊥
-    unended e = no-way (cc (ended-all a within e))
+    unended e = no-way (cc (ended-all T l p K st f a within e))
 
     born : statusOf st (owner T a) ≡ unborn → ⊥
     born e = go (owner T a) refl
@@ -165,7 +126,7 @@ module _ (T : Table) (l : Lawful T) (p K : ℕ) (st : State) (f : Facts T p K st
         let w : nextOf st t < T .actions = next-below T l p K st f t (f .list-below t leftmost-listed) in
         let x : ℕ = endOf T (T .argument (nextOf st t)) in
         let (i, j) = number-depends T l (nextOf st t) x w (join-depends T (nextOf st t) k) in
-        end-done (T .argument (nextOf st t)) (join-below T (l .contents) (l .bodies) (nextOf st t) w k) (front-done x i j)
+        done-ended T l p K st f (T .argument (nextOf st t)) (join-below T (l .contents) (l .bodies) (nextOf st t) w k) (front-done x i j)
 
     pub leftmost-enabled : Enabled T st t
     leftmost-enabled =

@@ -7,7 +7,7 @@ use native.Mathlib.Decide.{ℕ-discrete}
 use native.Mathlib.Omega.{arith}
 use lib.ListN.{length, set, length-set}
 use lib.Seq.{getD-set-same, getD-set-other}
-use Rattle.table.specs.Format.{join, is, Table, kind}
+use Rattle.table.specs.Format.{join, Table, kind}
 use Rattle.table.specs.Rules.{owner}
 use Rattle.table.specs.Level.{dependsOn}
 use Rattle.table.proofs.Tests.{no-way}
@@ -49,8 +49,8 @@ acting T l p K w t a st f i h e n =
       undone = undone T st a (rw (own, n) (omega arith)) (λ q. let z : _≡_ {A = ℕ} held ended = cc in omega arith);
     }
 
--- what its action depends on is done, where that is no join
-pub acting-depends : (T : Table) → Lawful T → (p K w t a : ℕ) (st : State) → Facts T p K st → Acting T w t a st → is join (kind T a) ≡ false
+-- what its action depends on is done, where that is no join of a child not ended
+pub acting-depends : (T : Table) → Lawful T → (p K w t a : ℕ) (st : State) → Facts T p K st → Acting T w t a st → (kind T a ≡ join → statusOf st (T .argument a) ≡ ended)
     → (d : ℕ) → List·Memᴰ d (dependsOn T a) → Done T st d
 acting-depends T l p K w t a st f x j d i = next-depends T l p K st f t (x .thread) (λ q. omega (arith, x .taken)) (rw (x .next) j) d (rw (x .next) i)
 

@@ -1,26 +1,28 @@
 -- Held memory by thread: each thread's share is its balance so far, 0 once it is joined, and memory held is the sum of the shares. So a free never takes more than is held.
 use mathlib.Core.Path.{_≡_, refl, sym, _∙_, ap}
 use Prim.Native.Nat.{ℕ, zero, suc, _+_, _-_, _≤_, _<_}
-use mathlib.Core.List.{List·Memᴰ, List·Memᴰ·head, Memᴰ·append-right}
+use mathlib.Core.List.{List·Memᴰ}
 use mathlib.Core.Bool.{Bool, true, false, _&&_, _||_}
 use lib.Dec.{ltb, eqb}
 use native.Mathlib.Omega.{arith}
 use native.Mathlib.Decide.{ℕ-discrete, decLt}
-use borrow.Author.Tests.{ltb-true, lt-ltb, le-ltb, eqb-true, eq-eqb, ne-eqb}
+use borrow.Author.Tests.{lt-ltb, le-ltb, eqb-true, eq-eqb, ne-eqb}
 use Rattle.table.specs.Sum.{pick, sumTo, anyBelow}
 use Rattle.table.specs.Format.{free, join, codeOf, is, Table, kind}
 use Rattle.table.specs.Rules.{endOf, countsBelow, allocOf, freeOf, withChild, whole, partOf}
-use Rattle.table.specs.Level.{dependsOn, joinedEnd, beforeIt}
+use Rattle.table.specs.Level.{dependsOn}
 use Rattle.table.proofs.Tests.{and-both, is-true}
 use Rattle.table.proofs.Sums.{sumTo-cong}
-use Rattle.table.proofs.Bodies.{first-is, counts-all, after-end, owner-at, owner-of-end, join-below}
+use Rattle.table.proofs.Bodies.{first-is, counts-all, after-end, owner-at, join-below}
 use Rattle.table.proofs.Nesting.{anyBelow-true}
 use Rattle.table.proofs.Amounts.{whole-is}
 use Rattle.table.proofs.Peaks.{part-held}
 use Rattle.schedule.specs.Machine.{State, ended, nextOf, statusOf}
 use Rattle.schedule.specs.Sound.{isDone, ofDone, sumDone}
 use Rattle.schedule.proofs.Lawful.{Lawful}
-use Rattle.schedule.proofs.Facts.{Facts, Done}
+use Rattle.schedule.proofs.Facts.{Facts}
+use Rattle.schedule.proofs.Undone.{done-ended}
+use Rattle.schedule.proofs.Depth.{join-depends}
 use Rattle.schedule.proofs.Totals.{and-no, sumTo-term, sumTo-add, sumTo-append, sumTo-front, sum-targets}
 use Rattle.schedule.proofs.Joins.{joins-one}
 
@@ -83,24 +85,15 @@ module _ (T : Table) (l : Lawful T) (p K : ℕ) (st : State) (f : Facts T p K st
           let past : next ≤ a = omega (arith, q) in
           rw (le-ltb a next past, ne-eqb (statusOf st t) ended e, le-ltb i (progress T st t) (omega (arith, progress-next t h e))) (and-no (eqb a next) false refl)
 
-  -- a thread whose end is done has ended
-  pub done-ended : (t : ℕ) → t < T .threads → Done T st (endOf T t) → statusOf st t ≡ ended
-  unfolding isDone
-  done-ended t h d = go (ltb (endOf T t) (nextOf st t)) refl (rw (owner-of-end T (l .contents) t h) at d)
-    where
-      go : (s : Bool) → ltb (endOf T t) (nextOf st t) ≡ s → (s || (eqb (endOf T t) (nextOf st t) && eqb (statusOf st t) ended)) ≡ true → statusOf st t ≡ ended
-      go true q e = absurd (omega (arith, ltb-true (endOf T t) (nextOf st t) q, f .next-high t h))
-      go false q e = eqb-true (statusOf st t) ended (and-both (eqb (endOf T t) (nextOf st t)) (eqb (statusOf st t) ended) e .1)
-
   -- a joined thread has ended: its join depends on its end
   pub joined-ended : (t : ℕ) → t < T .threads → isJoined T st t ≡ true → statusOf st t ≡ ended
-  unfolding isJoined dependsOn joinedEnd
+  unfolding isJoined
   joined-ended t h j =
       let (a, w, x) = anyBelow-true (λ a. is join (kind T a) && (eqb (T .argument a) t && isDone T st a)) (T .actions) j in
       let (k, y) = and-both (is join (kind T a)) (eqb (T .argument a) t && isDone T st a) x in
       let (e, d) = and-both (eqb (T .argument a) t) (isDone T st a) y in
-      let m : List·Memᴰ (endOf T t) (joinedEnd T a) = rw (k, eqb-true (T .argument a) t e) (List·Memᴰ·head refl) in
-      done-ended t h (f .ordered a (endOf T t) w d (Memᴰ·append-right (beforeIt T a) m))
+      let m : List·Memᴰ (endOf T t) (dependsOn T a) = rw (eqb-true (T .argument a) t e) at (join-depends T a (is-true join (kind T a) k)) in
+      done-ended T l p K st f t h (f .ordered a (endOf T t) w d m)
 
   -- ---- amounts by thread
 

@@ -8,8 +8,8 @@ use mathlib.Core.Bool.{Bool, true, false}
 use mathlib.Core.Logic.{_⊎_, inl, inr}
 use lib.ListN.{length, getD, set}
 use lib.Seq.{getD-set-same, getD-set-other, set-out}
-use lib.Dec.{ltb, leb, eqb}
-use borrow.Author.Tests.{eqb-false, leb-true, lt-ltb, le-ltb, ne-eqb}
+use lib.Dec.{leb, eqb}
+use borrow.Author.Tests.{eqb-false, leb-true, ne-eqb}
 use Rattle.table.specs.Format.{Kind, end, work, alloc, free, fork, join, unknown, codeOf, is, Table, kind}
 use Rattle.table.specs.Rules.{owner, allocOf}
 use Rattle.table.specs.Level.{forkBelow}
@@ -23,7 +23,7 @@ use Rattle.schedule.specs.Sound.{numberOf, isDone}
 use Rattle.schedule.proofs.Lawful.{Lawful}
 use Rattle.schedule.proofs.Facts.{Facts}
 use Rattle.schedule.proofs.Numbers.{number-step}
-use Rattle.schedule.proofs.Undone.{done-low, done-live, undone-unborn}
+use Rattle.schedule.proofs.Undone.{ltb-next, done-low, done-live, done-alike, undone-unborn}
 use Rattle.schedule.proofs.Releases.{Acting}
 use Rattle.schedule.proofs.Ends.{ownerBelow-less, Ended, ended-state}
 
@@ -44,19 +44,7 @@ set-ended xs i x e n u = go (decLt i (length xs)) (ℕ-discrete u i)
 
 -- ---- which actions are done
 
-ltb-over : (d a : ℕ) → (d ≡ a → ⊥) → ltb d (suc a) ≡ ltb d a
-ltb-over d a n = go (decLt d a)
-  where
-    go : Dec (d < a) → ltb d (suc a) ≡ ltb d a
-    go (yes h) = rw (lt-ltb d a h, lt-ltb d (suc a) (omega arith))
-    go (no h) = rw (le-ltb d a (omega arith), le-ltb d (suc a) (omega (arith, n)))
-
 module _ (T : Table) (st st' : State) (d : ℕ) where
-  -- with the thread's next action and its being ended the same, the same is done
-  pub done-alike : nextOf st' (owner T d) ≡ nextOf st (owner T d) → eqb (statusOf st' (owner T d)) ended ≡ eqb (statusOf st (owner T d)) ended → isDone T st' d ≡ isDone T st d
-  unfolding isDone
-  done-alike n e = rw (n, e)
-
   -- with the thread's next action the same, the other actions that are done are the same, whether it has ended or not
   done-ending : (a : ℕ) → nextOf st (owner T d) ≡ a → nextOf st' (owner T d) ≡ a → (d ≡ a → ⊥) → isDone T st' d ≡ isDone T st d
   unfolding isDone
@@ -104,9 +92,9 @@ module _ (T : Table) (l : Lawful T) (p K w t a : ℕ) (st : State) (f : Facts T 
         go : Dec (owner T d ≡ t) → isDone T st' d ≡ isDone T st d
         go (yes o) =
             done-live T st' d (rw o (eqb-false (statusOf st' t) ended (ends t ∙ unended)))
-            ∙ rw (o, next-over, x .next) (ltb-over d a n)
+            ∙ rw (o, next-over, x .next) (ltb-next d a n)
             ∙ sym (done-live T st d (rw o (eqb-false (statusOf st t) ended unended)))
-        go (no o) = done-alike T st st' d (next-beside (owner T d) o) (ends (owner T d))
+        go (no o) = done-alike T st d st' (next-beside (owner T d) o) (ends (owner T d))
 
     over-done : isDone T st' a ≡ true
     over-done = done-low T st' a (rw (x .owned, next-over) (omega arith))
@@ -191,7 +179,7 @@ module _ (T : Table) (l : Lawful T) (p K w t a : ℕ) (st : State) (f : Facts T 
       }
     where
       same : (d : ℕ) → isDone T st' d ≡ isDone T st d
-      same d = done-alike T st st' d (next-same st' n (owner T d)) (s (owner T d))
+      same d = done-alike T st d st' (next-same st' n (owner T d)) (s (owner T d))
 
   -- the thread ends
   ends-off : is alloc (kind T a) ≡ false → (st' : State) → Ended T w t st st' → Acted T w t a quotaNow st (Done t a) st'
@@ -212,7 +200,7 @@ module _ (T : Table) (l : Lawful T) (p K w t a : ℕ) (st : State) (f : Facts T 
 
       go : (d : ℕ) → (d ≡ a → ⊥) → Dec (owner T d ≡ t) → isDone T st' d ≡ isDone T st d
       go d i (yes o) = done-ending T st st' d a (rw o (x .next)) (rw o (v .next-same t ∙ x .next)) i
-      go d i (no o) = done-alike T st st' d (v .next-same (owner T d)) (same (owner T d) (v .status-other (owner T d) o))
+      go d i (no o) = done-alike T st d st' (v .next-same (owner T d)) (same (owner T d) (v .status-other (owner T d) o))
 
   -- a status other than `ended` for the thread, and then for the child that it forks
   restated : (y : ℕ) → eqb y ended ≡ false → (u : ℕ) → eqb (getD (set (st .status) t y) u 0) ended ≡ eqb (statusOf st u) ended

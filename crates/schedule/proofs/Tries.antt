@@ -19,11 +19,12 @@ use Rattle.schedule.specs.Machine.{State, ready, held, nextOf, statusOf,
 use Rattle.schedule.specs.Sound.{isDone}
 use Rattle.schedule.proofs.Lawful.{Lawful}
 use Rattle.schedule.proofs.Facts.{Facts}
+use Rattle.schedule.proofs.Undone.{done-alike}
 use Rattle.schedule.proofs.Moves.{taken-facts, holds-alone}
 use Rattle.schedule.proofs.Releases.{Acting, acting}
 use Rattle.schedule.proofs.Turns.{leftmost-ready}
 use Rattle.schedule.proofs.Batches.{startAction, begins}
-use Rattle.schedule.proofs.Steps.{Acted, acted, set-ended, done-alike}
+use Rattle.schedule.proofs.Steps.{Acted, acted, set-ended}
 
 -- The turn of w tries action a of thread t, with what is left of its quota or, at the beginning of a batch, with K.
 pub record Tries (T : Table) (K w : ℕ) (st : State) (t a : ℕ) (s : Stepped) : Type 0 where
@@ -52,7 +53,7 @@ module _ (T : Table) (K w t : ℕ) (st : State) (free : statusOf st t ≡ ready)
 
   taken-done : (d : ℕ) → isDone T (taken K w t st) d ≡ isDone T st d
   unfolding taken
-  taken-done d = done-alike T st (taken K w t st) d refl (set-ended (st .status) t held refl (rw free) (owner T d))
+  taken-done d = done-alike T st d (taken K w t st) refl (set-ended (st .status) t held refl (rw free) (owner T d))
 
   taken-acted : (a : ℕ) (r : Reply) (st' : State) → Acted T w t a K (taken K w t st) r st' → Acted T w t a K st r st'
   unfolding taken
@@ -151,5 +152,5 @@ module _ (T : Table) (l : Lawful T) (p K : ℕ) (few : p ≤ 16) where
       at t a x (no e) = cc (x .acted .done-others d e)
 
       go : Turned T K w st (turnOf T K w st) → isDone T st d ≡ false
-      go (idles e r i j v) = cc (done-alike T st (turnOf T K w st .state) d (rw i) (rw j))
+      go (idles e r i j v) = cc (done-alike T st d (turnOf T K w st .state) (rw i) (rw j))
       go (tries t a x) = at t a x (ℕ-discrete d a)

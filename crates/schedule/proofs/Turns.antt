@@ -21,7 +21,8 @@ use Rattle.schedule.proofs.Facts.{Facts}
 use Rattle.schedule.proofs.Shares.{free-held}
 use Rattle.schedule.proofs.Forks.{fork-facts, end-facts}
 use Rattle.schedule.proofs.Moves.{counted-facts, Holding, holding, taken-facts, thread-below, thread-held, holds-alone, released-facts}
-use Rattle.schedule.proofs.Advances.{Goes, goneOn, gone-facts, next-inside}
+use Rattle.schedule.proofs.Advances.{Goes, goneOn, gone-facts}
+use Rattle.schedule.proofs.Undone.{next-below}
 
 -- ---- the leftmost ready thread
 
@@ -139,7 +140,7 @@ module _ (T : Table) (l : Lawful T) (p K : ℕ) (few : p ≤ 16) (w : ℕ) (belo
   act-by fork e = fork-facts T l p K few w below st f holds t a thread next e
   act-by join e = join-facts e
   act-by unknown e =
-      absurd (kind-known T (l .contents) (l .bodies) a (rw next at (next-inside T l p K st f t (thread-below T l p K few w below st f holds t thread))) e)
+      absurd (kind-known T (l .contents) (l .bodies) a (rw next at (next-below T l p K st f t (thread-below T l p K few w below st f holds t thread))) e)
 
 -- ---- the turn
 

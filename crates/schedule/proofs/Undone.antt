@@ -2,22 +2,21 @@
 -- action after it. And one action more done: what stays.
 use mathlib.Core.Path.{_≡_, refl, sym, _∙_}
 use Prim.Native.Nat.{ℕ, zero, suc, _+_, _≤_, _<_}
-use mathlib.Core.List.{List·Memᴰ, List·Memᴰ·head, List·Memᴰ·not-nil, List·Memᴰ·eq-of-singleton}
-use mathlib.Core.Bool.{Bool, true, false, and-false, or-false}
-use mathlib.Core.Logic.{_⊎_, inl, inr}
+use mathlib.Core.List.{[], _∷_, List·Memᴰ, List·Memᴰ·head, List·Memᴰ·not-nil, List·Memᴰ·cases-cons, List·Memᴰ·eq-of-singleton}
+use mathlib.Core.Bool.{Bool, true, false, _&&_, _||_, and-false, or-false}
+use mathlib.Core.Logic.{_⊎_, inl, inr, ⊎-elim}
 use native.Mathlib.Decide.{ℕ-discrete, decLt}
 use native.Mathlib.Omega.{arith}
 use lib.Dec.{ltb, eqb}
-use borrow.Author.Tests.{eq-eqb, ne-eqb, lt-ltb, le-ltb}
-use Rattle.table.specs.Sum.{pick}
-use Rattle.table.specs.Format.{Kind, end, alloc, free, fork, join, is, Table, kind}
-use Rattle.table.specs.Rules.{owner, allocOf, freeOf}
+use borrow.Author.Tests.{ltb-true, eqb-true, eq-eqb, ne-eqb, lt-ltb, le-ltb}
+use Rattle.table.specs.Format.{end, fork, join, is, Table, kind}
+use Rattle.table.specs.Rules.{owner, endOf, allocOf, freeOf}
 use Rattle.table.specs.Level.{forkBelow, dependsOn}
-use Rattle.table.proofs.Tests.{no-way}
-use Rattle.table.proofs.Sums.{sumTo-cong}
-use Rattle.table.proofs.Bodies.{after-end, owner-is, end-within, first-within, owner-of-first, owner-below, owner-first, fork-below, fork-above, next-owner}
+use Rattle.table.proofs.Tests.{no-way, and-both, is-true}
+use Rattle.table.proofs.Sums.{sumTo-one}
+use Rattle.table.proofs.Bodies.{after-end, owner-is, owner-of-end, owner-end, end-within, join-below, next-within, first-within, owner-of-first, owner-below, owner-first, fork-below, fork-above, next-owner}
 use Rattle.table.proofs.Nesting.{fork-found, fork-exists}
-use Rattle.table.proofs.Levels.{depends-step, depends-root, depends-child, by-place, depends-earlier}
+use Rattle.table.proofs.Levels.{depends-step, depends-join, depends-root, depends-child, by-place, depends-earlier}
 use Rattle.schedule.specs.Machine.{State, unborn, ended, nextOf, statusOf}
 use Rattle.schedule.specs.Sound.{numberOf, isDone, ofDone, sumDone}
 use Rattle.schedule.proofs.Lawful.{Lawful}
@@ -36,6 +35,14 @@ eqb-same x y z to back = go (ℕ-discrete x z)
     go : Dec (x ≡ z) → eqb x z ≡ eqb y z
     go (yes e) = cc (eq-eqb x z e, eq-eqb y z (to e))
     go (no n) = cc (ne-eqb x z n, ne-eqb y z (λ e. n (back e)))
+
+-- one more lets by the number itself alone
+pub ltb-next : (d a : ℕ) → (d ≡ a → ⊥) → ltb d (suc a) ≡ ltb d a
+ltb-next d a n = go (decLt d a)
+  where
+    go : Dec (d < a) → ltb d (suc a) ≡ ltb d a
+    go (yes h) = cc (lt-ltb d a h, lt-ltb d (suc a) (omega arith))
+    go (no h) = cc (le-ltb d a (omega arith), le-ltb d (suc a) (omega (arith, n)))
 
 -- ---- done or not, by the thread's next action
 
@@ -57,10 +64,32 @@ module _ (T : Table) (st : State) (d : ℕ) where
   pub undone : nextOf st (owner T d) ≤ d → (statusOf st (owner T d) ≡ ended → ⊥) → isDone T st d ≡ false
   undone h n = done-live n ∙ le-ltb d (nextOf st (owner T d)) h
 
+  -- it stands before its thread's next action, or the thread has ended with it
+  pub done-where : Done T st d → (d < nextOf st (owner T d)) ⊎ ((d ≡ nextOf st (owner T d)) × (statusOf st (owner T d) ≡ ended))
+  unfolding isDone
+  done-where e = go (ltb d next) refl e
+    where
+      next : ℕ
+      next = nextOf st (owner T d)
+
+      status : ℕ
+      status = statusOf st (owner T d)
+
+      go : (q : Bool) → ltb d next ≡ q → (q || (eqb d next && eqb status ended)) ≡ true → (d < next) ⊎ ((d ≡ next) × (status ≡ ended))
+      go true i j = inl (ltb-true d next i)
+      go false i j =
+          let (p, q) = and-both (eqb d next) (eqb status ended) j in
+          inr (eqb-true d next p, eqb-true status ended q)
+
+  -- with the thread's next action and its being ended the same, the same is done
+  pub done-alike : (st' : State) → nextOf st' (owner T d) ≡ nextOf st (owner T d) → eqb (statusOf st' (owner T d)) ended ≡ eqb (statusOf st (owner T d)) ended
+      → isDone T st' d ≡ isDone T st d
+  unfolding isDone
+  done-alike st' n e = rw (n, e)
+
   pub done-same : (st' : State) → nextOf st' (owner T d) ≡ nextOf st (owner T d) → (statusOf st' (owner T d) ≡ ended → statusOf st (owner T d) ≡ ended)
       → (statusOf st (owner T d) ≡ ended → statusOf st' (owner T d) ≡ ended) → isDone T st' d ≡ isDone T st d
-  unfolding isDone
-  done-same st' e to back = rw (e, eqb-same (statusOf st' (owner T d)) (statusOf st (owner T d)) ended to back)
+  done-same st' e to back = done-alike st' e (eqb-same (statusOf st' (owner T d)) (statusOf st (owner T d)) ended to back)
 
 -- a thread's first action has its lowest number
 pub number-first : (T : Table) → Lawful T → (d : ℕ) → d < T .actions → numberOf T (T .first (owner T d)) ≤ numberOf T d
@@ -81,6 +110,27 @@ module _ (T : Table) (l : Lawful T) (p K : ℕ) (st : State) (f : Facts T p K st
   pub owner-of-next : (t : ℕ) → t < T .threads → owner T (nextOf st t) ≡ t
   owner-of-next t h = owner-is T (l .contents) t (nextOf st t) h (f .next-low t h) (omega (arith, f .next-high t h, after-end T (l .contents) t h))
 
+  -- a thread whose end is done has ended, and all of an ended thread is done
+  pub done-ended : (t : ℕ) → t < T .threads → Done T st (endOf T t) → statusOf st t ≡ ended
+  done-ended t h d = go (rw (owner-of-end T (l .contents) t h) at (done-where T st (endOf T t) d))
+    where
+      go : (endOf T t < nextOf st t) ⊎ ((endOf T t ≡ nextOf st t) × (statusOf st t ≡ ended)) → statusOf st t ≡ ended
+      go (inl i) = absurd (omega (arith, f .next-high t h))
+      go (inr i) = i .1
+
+  pub ended-all : (a : ℕ) → a < T .actions → statusOf st (owner T a) ≡ ended → Done T st a
+  ended-all a h e = go (ℕ-discrete a (nextOf st (owner T a)))
+    where
+      u : ℕ
+      u = owner T a
+
+      w : u < T .threads
+      w = owner-below T (l .contents) a h
+
+      go : Dec (a ≡ nextOf st u) → Done T st a
+      go (yes i) = done-last T st a i e
+      go (no i) = done-low T st a (omega (arith, i, f .ended-last u w e, after-end T (l .contents) u w, owner-end T (l .contents) a h))
+
   -- a child not yet forked is unborn
   pub undone-unborn : (x : ℕ) → x < T .actions → kind T x ≡ fork → isDone T st x ≡ false → statusOf st (T .argument x) ≡ unborn
   undone-unborn x h k n =
@@ -91,13 +141,13 @@ module _ (T : Table) (l : Lawful T) (p K : ℕ) (st : State) (f : Facts T p K st
   pub born-forked : (x : ℕ) → x < T .actions → kind T x ≡ fork → (statusOf st (T .argument x) ≡ unborn → ⊥) → Done T st x
   born-forked x h k n = not-false-true (isDone T st x) (λ e. n (undone-unborn x h k e))
 
-  -- what a born thread's next action depends on is done, where that is no join
-  pub next-depends : (t : ℕ) → t < T .threads → (statusOf st t ≡ unborn → ⊥) → is join (kind T (nextOf st t)) ≡ false
+  -- what a born thread's next action depends on is done, where that is no join of a child not ended
+  pub next-depends : (t : ℕ) → t < T .threads → (statusOf st t ≡ unborn → ⊥) → (kind T (nextOf st t) ≡ join → statusOf st (T .argument (nextOf st t)) ≡ ended)
       → (d : ℕ) → List·Memᴰ d (dependsOn T (nextOf st t)) → Done T st d
   next-depends t h n j d m = by-place T (l .contents) (l .bodies) (l .nesting) (l .forking) P root child next (nextOf st t) (next-below t h) refl j m
     where
       P : ℕ → Type 0
-      P a = nextOf st t ≡ a → is join (kind T a) ≡ false → List·Memᴰ d (dependsOn T a) → Done T st d
+      P a = nextOf st t ≡ a → (kind T a ≡ join → statusOf st (T .argument a) ≡ ended) → List·Memᴰ d (dependsOn T a) → Done T st d
 
       root : 0 < T .threads → P (T .first 0)
       root s e i k = absurd (List·Memᴰ·not-nil (rw (depends-root T (l .contents) (l .bodies) (l .nesting) s) at k))
@@ -109,10 +159,25 @@ module _ (T : Table) (l : Lawful T) (p K : ℕ) (st : State) (f : Facts T p K st
           rw y (born-forked a s q (rw o n))
 
       next : (a : ℕ) → a < T .actions → is end (kind T a) ≡ false → P (suc a)
-      next a s q e i k =
-          let y : d ≡ a = List·Memᴰ·eq-of-singleton (rw (depends-step T (l .contents) (l .bodies) a s q i) at k) in
-          let o : owner T a ≡ t = cc (owner-of-next t h, next-owner T (l .contents) (l .bodies) a s q) in
-          rw y (done-low T st a (rw (o, e) (omega arith)))
+      next a s q e i k = go (is join (kind T (suc a))) refl
+        where
+          before : d ≡ a → Done T st d
+          before y =
+              let o : owner T a ≡ t = cc (owner-of-next t h, next-owner T (l .contents) (l .bodies) a s q) in
+              rw y (done-low T st a (rw (o, e) (omega arith)))
+
+          child-end : kind T (suc a) ≡ join → Done T st (endOf T (T .argument (suc a)))
+          child-end j =
+              let w : T .argument (suc a) < T .threads = join-below T (l .contents) (l .bodies) (suc a) (next-within T (l .contents) (l .bodies) a s q) j in
+              ended-all (endOf T (T .argument (suc a))) (end-within T (l .contents) (T .argument (suc a)) w) (rw (owner-of-end T (l .contents) (T .argument (suc a)) w) (i j))
+
+          go : (r : Bool) → is join (kind T (suc a)) ≡ r → Done T st d
+          go true r =
+              let j : kind T (suc a) ≡ join = is-true join (kind T (suc a)) r in
+              let x : ℕ = endOf T (T .argument (suc a)) in
+              ⊎-elim before (λ (m : List·Memᴰ d (x ∷ [])). let y : d ≡ x = List·Memᴰ·eq-of-singleton m in rw y (child-end j))
+              (List·Memᴰ·cases-cons (rw (depends-join T (l .contents) (l .bodies) a s q j) at k))
+          go false r = before (List·Memᴰ·eq-of-singleton (rw (depends-step T (l .contents) (l .bodies) a s q r) at k))
 
   -- nothing of an unborn thread is done
   pub unborn-first : (t : ℕ) → t < T .threads → statusOf st t ≡ unborn → nextOf st t ≡ T .first t
@@ -163,6 +228,7 @@ module _ (T : Table) (l : Lawful T) (p K : ℕ) (st : State) (f : Facts T p K st
 
 -- action a is done, and of the others the same ones as before
 pub record Does (T : Table) (a : ℕ) (st st' : State) : Type 0 where
+  pub not-yet : isDone T st a ≡ false
   pub now : Done T st' a
   pub same : (d : ℕ) → d < T .actions → (d ≡ a → ⊥) → isDone T st' d ≡ isDone T st d
 
@@ -182,24 +248,15 @@ module _ (T : Table) (l : Lawful T) (p K : ℕ) (st : State) (f : Facts T p K st
       go (yes i) = kept (before d (rw i at m))
       go (no i) = kept (f .ordered v d h (sym (x .same v h i) ∙ q) m)
 
-  -- what costs nothing adds nothing
-  does-sum : (own : ℕ → ℕ) → own a ≡ 0 → sumDone T st' own ≡ sumDone T st own
-  does-sum own e = sumTo-cong (ofDone T st' own) (ofDone T st own) (T .actions) (λ d h. at d h (ℕ-discrete d a))
-    where
-      nothing : (q : Bool) → pick {A = ℕ} q 0 0 ≡ 0
-      nothing true = refl
-      nothing false = refl
+  -- what is done comes to so much more
+  does-sum : (own : ℕ → ℕ) → sumDone T st' own ≡ sumDone T st own + own a
+  does-sum own =
+      let before : ofDone T st own a ≡ 0 = rw (x .not-yet) in
+      let now : ofDone T st' own a ≡ own a = rw (x .now) in
+      omega (arith, sumTo-one (ofDone T st' own) (ofDone T st own) a (T .actions) within (λ d h n. rw (x .same d h n)))
 
-      at : (d : ℕ) → d < T .actions → Dec (d ≡ a) → ofDone T st' own d ≡ ofDone T st own d
-      at d h (yes i) =
-          let z : own d ≡ 0 = cc in
-          rw z (nothing (isDone T st' d) ∙ sym (nothing (isDone T st d)))
-      at d h (no i) = rw (x .same d h i)
-
-  pub does-amount : (j : Kind) → kind T a ≡ j → is free j ≡ false → is alloc j ≡ false → st' .held ≡ st .held
-      → st' .held + sumDone T st' (freeOf T) ≡ sumDone T st' (allocOf T)
-  unfolding allocOf freeOf
-  does-amount j k g h e = omega (arith, does-sum (freeOf T) (rw (k, g)), does-sum (allocOf T) (rw (k, h)), f .amount)
+  pub does-amount : st' .held + freeOf T a ≡ st .held + allocOf T a → st' .held + sumDone T st' (freeOf T) ≡ sumDone T st' (allocOf T)
+  does-amount e = omega (arith, does-sum (freeOf T), does-sum (allocOf T), f .amount)
 
   -- the fork of a thread that a does not fork is done as before
   pub does-fork : (u : ℕ) → 0 < u → u < T .threads → (kind T a ≡ fork → T .argument a ≡ u → ⊥)
