@@ -13,9 +13,9 @@ use lib.Dec.{leb, eqb}
 use borrow.Author.Tests.{eqb-true}
 use Rattle.table.specs.Format.{Kind, end, work, alloc, free, fork, join, unknown, codeOf, is, Table, kind}
 use Rattle.table.specs.Rules.{endOf}
-use Rattle.table.specs.Level.{forkBelow, dependsOn}
+use Rattle.table.specs.Level.{dependsOn}
 use Rattle.table.proofs.Tests.{no-way, is-true, same-is, fork-no-end}
-use Rattle.table.proofs.Bodies.{kind-known, fork-above, fork-below, end-last}
+use Rattle.table.proofs.Bodies.{kind-known, fork-below, end-last}
 use Rattle.table.proofs.Levels.{depends-step, depends-join, depends-child}
 use Rattle.schedule.specs.declared.Worker.{Worker}
 use Rattle.schedule.specs.Machine.{State, ready, held, waiting, ended, nextOf, statusOf, nobody, workerOf, Stepped, actBy, act}
@@ -23,8 +23,8 @@ use Rattle.schedule.proofs.Lawful.{Lawful}
 use Rattle.schedule.proofs.Facts.{Facts}
 use Rattle.schedule.proofs.Undone.{undone-unborn, unborn-first}
 use Rattle.schedule.proofs.Releases.{Acting, LetsGo}
-use Rattle.schedule.proofs.Ends.{ownerBelow-less, Ended, ended-state}
-use Rattle.schedule.proofs.Forks.{Forked, forked}
+use Rattle.schedule.proofs.Ends.{Ended, acting-ended}
+use Rattle.schedule.proofs.Forks.{Forked, acting-forked}
 use Rattle.schedule.proofs.Turns.{either}
 use Rattle.schedule.proofs.Depth.{join-depends}
 use Rattle.schedule.proofs.Beyond.{Enabled}
@@ -151,7 +151,7 @@ module _ (T : Table) (l : Lawful T) (p K : ℕ) (st : State) (f : Facts T p K st
 
   sets-worker : (st′ : State) (y : Worker) → st′ .workers ≡ set (st .workers) w y → (y .holds ≡ true → y .thread ≡ t) → Leaves w t st st′
   sets-worker st′ y e h =
-      let s : workerOf st′ w ≡ y = rw e (getD-set-same (st .workers) w y nobody (omega (arith, f .worker-size, x .worker))) in
+      let s : workerOf st′ w ≡ y = rw e (getD-set-same (st .workers) w y nobody (omega (arith, f .holding .worker-size, x .worker))) in
       record { others = λ v d. rw e (getD-set-other (st .workers) w v y nobody d); own = rw s h }
 
   frees-worker : (st′ : State) → LetsGo w st st′ → Leaves w t st st′
@@ -166,8 +166,7 @@ module _ (T : Table) (l : Lawful T) (p K : ℕ) (st : State) (f : Facts T p K st
   unfolding actBy is codeOf
   act-by end k =
       let m : Ended T w t st (actBy end T w t a (T .argument a) st .state) =
-      ended-state T w t a (T .argument a) st (f .next-size) (f .status-size) (f .worker-size) (x .worker) fits
-      (omega (arith, l .few-threads, ownerBelow-less T (T .threads) (forkBelow T (T .actions) t) (l .some-thread))) in
+      acting-ended T l p K w t a st f x in
       (goes-out k _ m, frees-worker _ (m .lets-go))
   act-by work k = (goes-on _ refl refl (rw k) (λ j. no-way (cc)), keeps-worker _ refl)
   act-by alloc k =
@@ -177,9 +176,7 @@ module _ (T : Table) (l : Lawful T) (p K : ℕ) (st : State) (f : Facts T p K st
   act-by free k = (goes-on _ refl refl (rw k) (λ j. no-way (cc)), keeps-worker _ refl)
   act-by fork k =
       let m : Forked w t a (T .argument a) st (actBy fork T w t a (T .argument a) st .state) =
-      forked T w t a (T .argument a) st (f .next-size) (f .status-size) (f .worker-size) (x .worker)
-      (omega (arith, fork-above T (l .contents) (l .bodies) a (x .action) k, x .owned))
-      (omega (arith, fork-below T (l .contents) (l .bodies) a (x .action) k, l .few-threads)) (x .next) in
+      acting-forked T l p K w t a st f x k in
       (goes-apart k _ m, frees-worker _ (m .lets-go))
   act-by join k =
       either (λ (s : Stepped). Acted (s .state)) (eqb (statusOf st (T .argument a)) ended) _ _

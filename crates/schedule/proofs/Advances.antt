@@ -16,10 +16,11 @@ use Rattle.schedule.specs.declared.Worker.{Worker}
 use Rattle.schedule.specs.Machine.{State, held, waiting, ended, nextOf, statusOf}
 use Rattle.schedule.specs.Sound.{numberOf, isDone}
 use Rattle.schedule.proofs.Lawful.{Lawful}
-use Rattle.schedule.proofs.Facts.{Rises, Facts}
+use Rattle.schedule.proofs.Words.{ltb-next}
+use Rattle.schedule.proofs.Facts.{Rises, Holding, Facts}
 use Rattle.schedule.proofs.Numbers.{number-once, number-step}
-use Rattle.schedule.proofs.Undone.{ltb-next, undone, done-low, done-live, done-alike, next-below, owner-of-next, next-depends, Does, does-ordered, does-amount, does-fork}
-use Rattle.schedule.proofs.Moves.{set-each, Holding}
+use Rattle.schedule.proofs.Undone.{undone, done-low, done-live, done-alike, next-below, owner-of-next, next-depends, Does, does-ordered, does-amount, does-fork}
+use Rattle.schedule.proofs.Lists.{set-each}
 
 -- ---- going on
 
@@ -106,12 +107,11 @@ module _ (T : Table) (l : Lawful T) (p K : ℕ) (st : State) (f : Facts T p K st
       (f .list-below y (rw e (Memᴰ·append-right (front ++ x ∷ middle) (List·Memᴰ·head refl))))
       (f .serial front middle rest x y e)
 
-  pub gone-facts : Holding T p K (goneOn t ws h g st) → h + freeOf T a ≡ st .held + allocOf T a → h ≤ g → Facts T p K (goneOn t ws h g st)
+  pub gone-facts : Holding T p K (st .status) ws → h + freeOf T a ≡ st .held + allocOf T a → h ≤ g → Facts T p K (goneOn t ws h g st)
   gone-facts k e b =
       record {
         next-size = rw (length-set (st .next) t (suc (nextOf st t))) (f .next-size);
         status-size = f .status-size;
-        worker-size = k .worker-size;
         next-low = each (λ u y. u < T .threads → T .first u ≤ y) (λ i. omega (arith, f .next-low t i, o .next)) (λ u d. f .next-low u);
         next-high = each (λ u y. u < T .threads → y ≤ endOf T u) (λ i. omega (arith, f .next-high t i, o .next, not-last)) (λ u d. f .next-high u);
         ordered =
@@ -130,13 +130,7 @@ module _ (T : Table) (l : Lawful T) (p K : ℕ) (st : State) (f : Facts T p K st
         wait-join = each (λ u y. u < T .threads → statusOf st u ≡ waiting → kind T y ≡ join) (λ i s. no-way (cc (o .status))) (λ u d. f .wait-join u);
         wait-open =
             each (λ u y. u < T .threads → statusOf st u ≡ waiting → statusOf st (T .argument y) ≡ ended → ⊥) (λ i s. no-way (cc (o .status))) (λ u d. f .wait-open u);
-        holder-below = k .holder-below;
-        holder-thread = k .holder-thread;
-        holder-held = k .holder-held;
-        holder-quota = k .holder-quota;
-        holder-once = k .holder-once;
-        held-holder = k .held-holder;
-        free-worker = k .free-worker;
+        holding = k;
         amount = does-amount T l p K st f a inside (goneOn t ws h g st) does e;
         above = b;
         unused-status = f .unused-status;

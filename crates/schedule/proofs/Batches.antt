@@ -41,7 +41,7 @@ module _ (T : Table) (l : Lawful T) (p K : ℕ) (some : 1 ≤ p) (few : p ≤ 16
       go : (statusOf st t ≡ ready) ⊎ (statusOf st t ≡ held) → J (nextOf st t) + B ≤ B * level T (nextOf st t)
       go (inl s) = c .count .when-ready t n s
       go (inr s) =
-          let (w, h, q, g) = f .held-holder t (n .below) s in
+          let (w, h, q, g) = f .holding .held-holder t (n .below) s in
           omega (arith, c .count .when-held t w n h q g, young w (c .turned w h q))
 
   -- along the rest of a row, its front part written with the latest turn first

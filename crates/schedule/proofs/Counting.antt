@@ -163,7 +163,7 @@ module _ (T : Table) (l : Lawful T) (B : ℕ) (J : ℕ → ℕ) (st : State) whe
       held-after : (u v : ℕ) → Enabled T (taken K w t st) u → v < 16 → workerOf (taken K w t st) v .holds ≡ true → workerOf (taken K w t st) v .thread ≡ u → Dec (v ≡ w)
           → begun T w st J (nextOf st u) + B + B ≤ B * level T (nextOf st u) + old v
       held-after u v n i q g (yes d) =
-          let y : workerOf (taken K w t st) w .thread ≡ t = rw (getD-set-same (st .workers) w mine nobody (omega (arith, f .worker-size))) in
+          let y : workerOf (taken K w t st) w .thread ≡ t = rw (getD-set-same (st .workers) w mine nobody (omega (arith, f .holding .worker-size))) in
           let e : u ≡ t = cc in
           let r : statusOf st u ≡ ready = cc in
           omega (arith, lowest u (n .below) r, c .when-ready u (enabled-before u n (inl r)) r, o, ap old d)
@@ -171,7 +171,7 @@ module _ (T : Table) (l : Lawful T) (B : ℕ) (J : ℕ → ℕ) (st : State) whe
           let y : workerOf (taken K w t st) v ≡ workerOf st v = getD-set-other (st .workers) w v mine nobody d in
           let e : workerOf st v .holds ≡ true = cc in
           let e′ : workerOf st v .thread ≡ u = cc in
-          let r : statusOf st u ≡ held = cc (f .holder-held v i e) in
+          let r : statusOf st u ≡ held = cc (f .holding .holder-held v i e) in
           omega (arith, beyond-one T w st (nextOf st u), c .when-held u v (enabled-before u n (inr r)) i e e′, o′ v d)
 
   -- worker w tries action a: its age is 0
@@ -214,7 +214,7 @@ module _ (T : Table) (l : Lawful T) (B : ℕ) (J : ℕ → ℕ) (st : State) whe
               let y : workerOf st′ v ≡ workerOf st v = left .others v e in
               rw (j, o′ v e) (c .when-held u v i h (cc) (cc))
       held-after u v n h q g (fresh i m) = omega (arith, fresh-after u (n .below) i m)
-      held-after u v n h q g (kept i j k) = no-way (cc (f .holder-held v h q))
+      held-after u v n h q g (kept i j k) = no-way (cc (f .holding .holder-held v h q))
 
 -- ---- a turn
 
@@ -287,7 +287,7 @@ module _ (T : Table) (l : Lawful T) (p K : ℕ) (few : p ≤ 16) (B : ℕ) (J : 
   along-turn f young c = go (workerOf st w .holds) refl (eqb (placeOf st) (length (st .list))) refl
     where
       fits : w < length (st .workers)
-      fits = omega (arith, f .worker-size)
+      fits = omega (arith, f .holding .worker-size)
 
       -- a worker that holds a thread grows older by the turn
       ageing : (v : ℕ) → v < 16 → workerOf st v .holds ≡ true → Dec (v ≡ w) → age past v ≤ between B w past v

@@ -23,7 +23,7 @@ use Rattle.schedule.proofs.Lawful.{Lawful}
 use Rattle.schedule.proofs.Facts.{Done, Rises, Facts}
 use Rattle.schedule.proofs.ListMoves.{Ascends, rises-ascends, ascends-rises, ascends-same, without-old, without-other, ascends-without, without-gone}
 use Rattle.schedule.proofs.Undone.{done-low, done-last, done-same, owner-of-next, next-below, Does, does-ordered, does-amount, does-fork}
-use Rattle.schedule.proofs.Releases.{Acting, acting-depends, LetsGo, freed, Releases, released-below, released-thread, released-held, released-quota, released-once, released-holder, released-free}
+use Rattle.schedule.proofs.Releases.{Acting, acting-depends, LetsGo, freed, released-holding}
 
 -- ---- the state after an end, place by place
 
@@ -36,7 +36,7 @@ pub record Ended (T : Table) (w t : ℕ) (st st' : State) : Type 0 where
   pub list-is : st' .list ≡ without t (st .list)
 
 -- every action has an owner below the count of threads
-pub ownerBelow-less : (T : Table) (k a : ℕ) → 0 < k → ownerBelow T k a < k
+ownerBelow-less : (T : Table) (k a : ℕ) → 0 < k → ownerBelow T k a < k
 unfolding ownerBelow
 ownerBelow-less T zero a h = h
 ownerBelow-less T (suc zero) a h = go (leb (T .first 0) a)
@@ -60,7 +60,7 @@ true-waits T st u t e k i =
     rw (eq-eqb (statusOf st u) waiting e, same-is join (kind T (nextOf st u)) k, eq-eqb (T .argument (nextOf st u)) t i)
 
 module _ (T : Table) (w t a c : ℕ) (st : State) where
-  pub ended-state : length (st .next) ≡ 1024 → length (st .status) ≡ 1024 → length (st .workers) ≡ 16 → w < 16 → t < 1024 → parentOf T t < 1024
+  ended-state : length (st .next) ≡ 1024 → length (st .status) ≡ 1024 → length (st .workers) ≡ 16 → w < 16 → t < 1024 → parentOf T t < 1024
       → Ended T w t st (actBy end T w t a c st .state)
   unfolding actBy woken
   ended-state n s k i j h = go (waitsFor T mid v t) refl
@@ -109,6 +109,11 @@ module _ (T : Table) (w t a c : ℕ) (st : State) where
             list-is = refl;
           }
 
+pub acting-ended : (T : Table) → Lawful T → (p K w t a : ℕ) (st : State) → Facts T p K st → Acting T w t a st → Ended T w t st (actBy end T w t a (T .argument a) st .state)
+acting-ended T l p K w t a st f x =
+    ended-state T w t a (T .argument a) st (f .next-size) (f .status-size) (f .holding .worker-size) (x .worker) (omega (arith, x .thread, l .few-threads))
+    (omega (arith, l .few-threads, ownerBelow-less T (T .threads) (forkBelow T (T .actions) t) (l .some-thread)))
+
 -- ---- what an end keeps
 
 module _ (T : Table) (l : Lawful T) (p K : ℕ) (w t a : ℕ) (st : State) (f : Facts T p K st) (x : Acting T w t a st) (k : kind T a ≡ end) (st' : State) (m : Ended T w t st st') where
@@ -134,15 +139,6 @@ module _ (T : Table) (l : Lawful T) (p K : ℕ) (w t a : ℕ) (st : State) (f : 
   -- a thread not ended is another one
   other : (s : ℕ) → (s ≡ ended → ⊥) → (u : ℕ) → statusOf st' u ≡ s → u ≡ t → ⊥
   other s n u q i = n (sym q ∙ rw i (m .status-here))
-
-  releases : Releases w t st st'
-  releases =
-      record {
-        lets-go = m .lets-go;
-        no-more = λ q. omega (arith, m .status-here);
-        held-before = λ u q. back held (λ i. omega arith) u (other held (λ i. omega arith) u q) q;
-        held-after = λ u n q. forth held (λ i. omega arith) u n q;
-      }
 
   does : Does T a st st'
   does = record { not-yet = x .undone; now = done-last T st' a (rw (x .owned, m .next-same) (sym (x .next))) (rw (x .owned) (m .status-here)); same = λ d h n. at d h n (ℕ-discrete (owner T d) t) }
@@ -253,13 +249,12 @@ module _ (T : Table) (l : Lawful T) (p K : ℕ) (w t a : ℕ) (st : State) (f : 
       go (yes e) = omega (arith, m .parent u (joins u h (f .wait-join u h r) e) n r (f .wait-join u h r) e)
       go (no e) = f .wait-open u h r (back ended (λ i. omega arith) (T .argument (nextOf st u)) e (rw (m .next-same) at o))
 
-  pub ended-facts : Facts T p K st'
+  ended-facts : Facts T p K st'
   unfolding is codeOf allocOf freeOf
   ended-facts =
       record {
         next-size = m .lets-go .nexts ∙ f .next-size;
         status-size = m .lets-go .statuses ∙ f .status-size;
-        worker-size = m .lets-go .workers ∙ f .worker-size;
         next-low = λ u h. rw (m .next-same) (f .next-low u h);
         next-high = λ u h. rw (m .next-same) (f .next-high u h);
         ordered = end-ordered;
@@ -275,15 +270,14 @@ module _ (T : Table) (l : Lawful T) (p K : ℕ) (w t a : ℕ) (st : State) (f : 
         serial = end-serial;
         wait-join = end-wait-join;
         wait-open = end-wait-open;
-        holder-below = released-below T p K w t a st f x st' releases;
-        holder-thread = released-thread T p K w t a st f x st' releases;
-        holder-held = released-held T p K w t a st f x st' releases;
-        holder-quota = released-quota T p K w t a st f x st' releases;
-        holder-once = released-once T p K w t a st f x st' releases;
-        held-holder = released-holder T p K w t a st f x st' releases;
-        free-worker = released-free T p K w t a st f x st' releases;
+        holding =
+            released-holding T p K w t a st f x st' (m .lets-go) (λ q. omega (arith, m .status-here)) (back held (λ i. omega arith)) (forth held (λ i. omega arith));
         amount = does-amount T l p K st f a (x .action) st' does (rw (k, m .lets-go .amount));
         above = rw (m .lets-go .amount, m .lets-go .most) (f .above);
         unused-status = λ u h i. forth unborn (λ j. omega arith) u (λ j. omega (arith, x .thread)) (f .unused-status u h i);
         unused-next = λ u h i. m .next-same u ∙ f .unused-next u h i;
       }
+
+pub end-facts : (T : Table) (l : Lawful T) (p K w t a : ℕ) (st : State) (f : Facts T p K st) → Acting T w t a st → kind T a ≡ end
+    → Facts T p K (actBy end T w t a (T .argument a) st .state)
+end-facts T l p K w t a st f x k = ended-facts T l p K w t a st f x k (actBy end T w t a (T .argument a) st .state) (acting-ended T l p K w t a st f x)

@@ -3,15 +3,16 @@ use mathlib.Core.Path.{_≡_, refl, sym, _∙_}
 use Prim.Native.Nat.{ℕ, _+_, _≤_, _<_}
 use native.Mathlib.Omega.{arith}
 use native.Mathlib.Decide.{ℕ-discrete}
-use mathlib.Core.List.{List·Memᴰ}
+use mathlib.Core.List.{List, List·Memᴰ}
 use mathlib.Core.Bool.{true, false}
 use mathlib.Core.Logic.{_↔_}
-use lib.ListN.{length}
+use lib.ListN.{length, getD}
 use lib.Dec.{ltb}
 use borrow.Author.Tests.{ltb-true, lt-ltb}
 use Rattle.table.specs.Format.{join, Table, kind}
 use Rattle.table.specs.Rules.{endOf, allocOf, freeOf}
 use Rattle.table.specs.Level.{forkBelow, dependsOn}
+use Rattle.schedule.specs.declared.Worker.{Worker}
 use Rattle.schedule.specs.Machine.{State, unborn, held, waiting, ended, nextOf, statusOf, workerOf, nobody}
 use Rattle.schedule.specs.Sound.{numberOf, isDone, holdsThread, sumDone, SoundState}
 use Rattle.schedule.proofs.Lawful.{Lawful}
@@ -24,10 +25,21 @@ pub use Rattle.schedule.proofs.Words.{Rises}
 abbrev pub Done : Table → State → ℕ → Type 0
 Done T st a = isDone T st a ≡ true
 
+-- who holds what, from the statuses of the threads and the records of the workers
+pub record Holding (T : Table) (p K : ℕ) (status : List ℕ) (workers : List Worker) : Type 0 where
+  pub worker-size : length workers ≡ 16
+  pub holder-below : (w : ℕ) → w < 16 → getD workers w nobody .holds ≡ true → w < p
+  pub holder-thread : (w : ℕ) → w < 16 → getD workers w nobody .holds ≡ true → getD workers w nobody .thread < T .threads
+  pub holder-held : (w : ℕ) → w < 16 → getD workers w nobody .holds ≡ true → getD status (getD workers w nobody .thread) 0 ≡ held
+  pub holder-quota : (w : ℕ) → w < 16 → getD workers w nobody .holds ≡ true → getD workers w nobody .quota ≤ K
+  pub holder-once : (w v : ℕ) → w < 16 → v < 16 → getD workers w nobody .holds ≡ true → getD workers v nobody .holds ≡ true
+      → getD workers w nobody .thread ≡ getD workers v nobody .thread → w ≡ v
+  pub held-holder : (t : ℕ) → t < T .threads → getD status t 0 ≡ held → (w : ℕ) × (w < 16) × (getD workers w nobody .holds ≡ true) × (getD workers w nobody .thread ≡ t)
+  pub free-worker : (w : ℕ) → w < 16 → getD workers w nobody .holds ≡ false → getD workers w nobody ≡ nobody
+
 pub record Facts (T : Table) (p K : ℕ) (st : State) : Type 0 where
   pub next-size : length (st .next) ≡ 1024
   pub status-size : length (st .status) ≡ 1024
-  pub worker-size : length (st .workers) ≡ 16
   -- next actions
   pub next-low : (t : ℕ) → t < T .threads → T .first t ≤ nextOf st t
   pub next-high : (t : ℕ) → t < T .threads → nextOf st t ≤ endOf T t
@@ -48,14 +60,7 @@ pub record Facts (T : Table) (p K : ℕ) (st : State) : Type 0 where
   -- waiting
   pub wait-join : (t : ℕ) → t < T .threads → statusOf st t ≡ waiting → kind T (nextOf st t) ≡ join
   pub wait-open : (t : ℕ) → t < T .threads → statusOf st t ≡ waiting → statusOf st (T .argument (nextOf st t)) ≡ ended → ⊥
-  -- workers
-  pub holder-below : (w : ℕ) → w < 16 → workerOf st w .holds ≡ true → w < p
-  pub holder-thread : (w : ℕ) → w < 16 → workerOf st w .holds ≡ true → workerOf st w .thread < T .threads
-  pub holder-held : (w : ℕ) → w < 16 → workerOf st w .holds ≡ true → statusOf st (workerOf st w .thread) ≡ held
-  pub holder-quota : (w : ℕ) → w < 16 → workerOf st w .holds ≡ true → workerOf st w .quota ≤ K
-  pub holder-once : (w v : ℕ) → w < 16 → v < 16 → workerOf st w .holds ≡ true → workerOf st v .holds ≡ true → workerOf st w .thread ≡ workerOf st v .thread → w ≡ v
-  pub held-holder : (t : ℕ) → t < T .threads → statusOf st t ≡ held → (w : ℕ) × (w < 16) × (workerOf st w .holds ≡ true) × (workerOf st w .thread ≡ t)
-  pub free-worker : (w : ℕ) → w < 16 → workerOf st w .holds ≡ false → workerOf st w ≡ nobody
+  pub holding : Holding T p K (st .status) (st .workers)
   -- amounts
   pub amount : st .held + sumDone T st (freeOf T) ≡ sumDone T st (allocOf T)
   pub above : st .held ≤ st .highest
@@ -69,7 +74,6 @@ module _ (T : Table) (l : Lawful T) (p K : ℕ) (st : State) where
       record {
         next-size = s .next-size;
         status-size = s .status-size;
-        worker-size = s .worker-size;
         next-low = λ t h. nextInBody-exactly T st t .0 (s .placed t h) .0;
         next-high = λ t h. nextInBody-exactly T st t .0 (s .placed t h) .1;
         ordered = λ a d h e m. inOrder-exactly T st a .0 (s .ordered a h) e d m;
@@ -85,13 +89,17 @@ module _ (T : Table) (l : Lawful T) (p K : ℕ) (st : State) where
         serial = inSerialOrder-exactly T st .0 (s .serial);
         wait-join = λ t h e. waitsAtJoin-exactly T st t .0 (s .waits t h) e .0;
         wait-open = λ t h e. waitsAtJoin-exactly T st t .0 (s .waits t h) e .1;
-        holder-below = λ w h e. worker w h .0 e .0;
-        holder-thread = λ w h e. worker w h .0 e .1 .0;
-        holder-held = holds-held;
-        holder-quota = λ w h e. worker w h .0 e .1 .1;
-        holder-once = once;
-        held-holder = some-holder;
-        free-worker = λ w h. worker w h .1;
+        holding =
+            record {
+                worker-size = s .worker-size;
+                holder-below = λ w h e. worker w h .0 e .0;
+                holder-thread = λ w h e. worker w h .0 e .1 .0;
+                holder-held = holds-held;
+                holder-quota = λ w h e. worker w h .0 e .1 .1;
+                holder-once = once;
+                held-holder = some-holder;
+                free-worker = λ w h. worker w h .1;
+            };
         amount = heldRight-exactly T st .0 (s .amount);
         above = s .above;
         unused-status = λ t h k. unused-exactly st t .0 (s .unused-threads t h k) .0;
@@ -145,7 +153,7 @@ module _ (T : Table) (l : Lawful T) (p K : ℕ) (st : State) where
       record {
         next-size = f .next-size;
         status-size = f .status-size;
-        worker-size = f .worker-size;
+        worker-size = f .holding .worker-size;
         placed = λ t h. nextInBody-exactly T st t .1 (f .next-low t h, f .next-high t h);
         ordered = λ a h. inOrder-exactly T st a .1 (λ e d m. f .ordered a d h e m);
         statuses = λ t h. statusFollows-exactly T st t .1 (status t h, (f .ended-last t h, f .status-known t h));
@@ -154,7 +162,7 @@ module _ (T : Table) (l : Lawful T) (p K : ℕ) (st : State) where
         serial = inSerialOrder-exactly T st .1 (f .serial);
         waits = λ t h. waitsAtJoin-exactly T st t .1 (λ e. (f .wait-join t h e, f .wait-open t h e));
         holders = λ t h. oneHolder-exactly st t .1 (one t h, none t);
-        workers = λ w h. workerRight-exactly T p K st w .1 ((λ e. (f .holder-below w h e, (f .holder-thread w h e, f .holder-quota w h e))), f .free-worker w h);
+        workers = λ w h. workerRight-exactly T p K st w .1 ((λ e. (f .holding .holder-below w h e, (f .holding .holder-thread w h e, f .holding .holder-quota w h e))), f .holding .free-worker w h);
         amount = heldRight-exactly T st .1 (f .amount);
         above = f .above;
         unused-threads = λ t h k. unused-exactly st t .1 (f .unused-status t h k, f .unused-next t h k);
@@ -172,13 +180,13 @@ module _ (T : Table) (l : Lawful T) (p K : ℕ) (st : State) where
 
       one : (t : ℕ) → t < T .threads → statusOf st t ≡ held → One (holdsThread st t) 16
       one t h e =
-          let (w, k, q, r) = f .held-holder t h e in
+          let (w, k, q, r) = f .holding .held-holder t h e in
           record { at = w; below = k; passes = holdsThread-exactly st t w .1 (q, r); alone = alone w k q r }
         where
           alone : (w : ℕ) → w < 16 → workerOf st w .holds ≡ true → workerOf st w .thread ≡ t → (v : ℕ) → v < 16 → holdsThread st t v ≡ true → v ≡ w
           alone w k q r v m g =
               let o : (workerOf st v .holds ≡ true) × (workerOf st v .thread ≡ t) = holdsThread-exactly st t v .0 g in
-              f .holder-once v w m k (o .0) q (o .1 ∙ sym r)
+              f .holding .holder-once v w m k (o .0) q (o .1 ∙ sym r)
 
       none : (t : ℕ) → (statusOf st t ≡ held → ⊥) → (w : ℕ) → w < 16 → holdsThread st t w ≡ false
       none t n w h = never-true (holdsThread st t w) by-holder
@@ -187,4 +195,4 @@ module _ (T : Table) (l : Lawful T) (p K : ℕ) (st : State) where
           by-holder g =
               let o : (workerOf st w .holds ≡ true) × (workerOf st w .thread ≡ t) = holdsThread-exactly st t w .0 g in
               let q : workerOf st w .thread ≡ t = o .1 in
-              n (rw q at (f .holder-held w h (o .0)))
+              n (rw q at (f .holding .holder-held w h (o .0)))

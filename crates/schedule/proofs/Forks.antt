@@ -1,28 +1,28 @@
--- The two moves that change the list keep a sound state sound: a fork and an end.
+-- A fork keeps a sound state sound: its child enters the list left of the thread, and both are ready.
 use mathlib.Core.Path.{_≡_, refl, sym, _∙_}
 use Prim.Native.Nat.{ℕ, suc, _+_, _≤_, _<_}
 use mathlib.Core.List.{List·Memᴰ}
-use mathlib.Core.Bool.{true, false}
+use mathlib.Core.Bool.{false}
 use mathlib.Core.Logic.{_⊎_, inl, inr}
 use native.Mathlib.Decide.{ℕ-discrete, decLt}
 use native.Mathlib.Omega.{arith}
 use lib.ListN.{length, set, length-set}
 use lib.Seq.{getD-set-same, getD-set-other}
-use Rattle.table.specs.Format.{end, fork, join, codeOf, is, Table, kind}
+use Rattle.table.specs.Format.{fork, join, codeOf, is, Table, kind}
 use Rattle.table.specs.Rules.{owner, endOf, allocOf, freeOf}
 use Rattle.table.specs.Level.{forkBelow, dependsOn}
 use Rattle.table.proofs.Tests.{no-way, fork-no-end}
 use Rattle.table.proofs.Bodies.{after-end, end-within, owner-end, fork-above, fork-below, next-within, next-owner, owner-of-end}
 use Rattle.table.proofs.Nesting.{fork-found}
-use Rattle.schedule.specs.Machine.{State, unborn, ready, held, waiting, ended, nextOf, statusOf, workerOf, leftOf, actBy}
+use Rattle.schedule.specs.Machine.{State, unborn, ready, held, waiting, ended, nextOf, statusOf, leftOf, actBy}
 use Rattle.schedule.specs.Sound.{numberOf, isDone}
 use Rattle.schedule.proofs.Lawful.{Lawful}
+use Rattle.schedule.proofs.Words.{ltb-next}
 use Rattle.schedule.proofs.Numbers.{number-once, number-child, number-past}
 use Rattle.schedule.proofs.Facts.{Done, Rises, Facts}
 use Rattle.schedule.proofs.ListMoves.{rises-ascends, ascends-rises, leftOf-new, leftOf-old, leftOf-cases, ascends-leftOf}
-use Rattle.schedule.proofs.Undone.{ltb-next, done-low, done-live, done-same, owner-of-next, next-below, unborn-first, undone-unborn, between-unborn, Does, does-ordered, does-amount, does-fork, number-first}
-use Rattle.schedule.proofs.Ends.{ownerBelow-less, ended-state, ended-facts}
-use Rattle.schedule.proofs.Releases.{Acting, acting, acting-depends, LetsGo, freed, Releases, released-below, released-thread, released-held, released-quota, released-once, released-holder, released-free}
+use Rattle.schedule.proofs.Undone.{done-low, done-live, done-same, owner-of-next, next-below, unborn-first, undone-unborn, between-unborn, Does, does-ordered, does-amount, does-fork, number-first}
+use Rattle.schedule.proofs.Releases.{Acting, acting-depends, LetsGo, freed, released-holding}
 
 -- ---- the state after a fork, place by place
 
@@ -36,7 +36,7 @@ pub record Forked (w t a c : ℕ) (st st' : State) : Type 0 where
   pub list-is : st' .list ≡ leftOf c t (st .list)
 
 module _ (T : Table) (w t a c : ℕ) (st : State) where
-  pub forked : length (st .next) ≡ 1024 → length (st .status) ≡ 1024 → length (st .workers) ≡ 16 → w < 16 → t < c → c < 1024 → nextOf st t ≡ a
+  forked : length (st .next) ≡ 1024 → length (st .status) ≡ 1024 → length (st .workers) ≡ 16 → w < 16 → t < c → c < 1024 → nextOf st t ≡ a
       → Forked w t a c st (actBy fork T w t a c st .state)
   unfolding actBy
   forked n s k i j h e =
@@ -49,6 +49,13 @@ module _ (T : Table) (w t a c : ℕ) (st : State) where
         status-other = λ u o r. getD-set-other (set (st .status) t ready) c u ready 0 r ∙ getD-set-other (st .status) t u ready 0 o;
         list-is = refl;
       }
+
+pub acting-forked : (T : Table) → Lawful T → (p K w t a : ℕ) (st : State) → Facts T p K st → Acting T w t a st → kind T a ≡ fork
+    → Forked w t a (T .argument a) st (actBy fork T w t a (T .argument a) st .state)
+acting-forked T l p K w t a st f x k =
+    forked T w t a (T .argument a) st (f .next-size) (f .status-size) (f .holding .worker-size) (x .worker)
+    (omega (arith, fork-above T (l .contents) (l .bodies) a (x .action) k, x .owned))
+    (omega (arith, fork-below T (l .contents) (l .bodies) a (x .action) k, l .few-threads)) (x .next)
 
 -- ---- what a fork keeps
 
@@ -80,15 +87,6 @@ module _ (T : Table) (l : Lawful T) (p K : ℕ) (w t a c : ℕ) (st : State) (f 
   -- a thread that was neither held nor unborn is what it was
   forth : (s : ℕ) → (s ≡ held → ⊥) → (s ≡ unborn → ⊥) → (u : ℕ) → statusOf st u ≡ s → statusOf st' u ≡ s
   forth s n o u q = m .status-other u (λ i. n (sym q ∙ rw i (x .taken))) (λ i. o (sym q ∙ rw i child-unborn)) ∙ q
-
-  releases : Releases w t st st'
-  releases =
-      record {
-        lets-go = m .lets-go;
-        no-more = λ q. omega (arith, m .status-here);
-        held-before = λ u q. back held (λ i. omega arith) u q .2;
-        held-after = λ u n q. m .status-other u n (λ i. omega (arith, child-unborn, rw i at q)) ∙ q;
-      }
 
   does : Does T a st st'
   does = record { not-yet = x .undone; now = done-low T st' a (rw (x .owned, m .next-here) (omega arith)); same = λ d h n. at d n (ℕ-discrete (owner T d) t) }
@@ -250,7 +248,6 @@ module _ (T : Table) (l : Lawful T) (p K : ℕ) (w t a c : ℕ) (st : State) (f 
       record {
         next-size = m .lets-go .nexts ∙ f .next-size;
         status-size = m .lets-go .statuses ∙ f .status-size;
-        worker-size = m .lets-go .workers ∙ f .worker-size;
         next-low = fork-low;
         next-high = fork-high;
         ordered = fork-ordered;
@@ -266,32 +263,17 @@ module _ (T : Table) (l : Lawful T) (p K : ℕ) (w t a c : ℕ) (st : State) (f 
         serial = fork-serial;
         wait-join = fork-wait-join;
         wait-open = fork-wait-open;
-        holder-below = released-below T p K w t a st f x st' releases;
-        holder-thread = released-thread T p K w t a st f x st' releases;
-        holder-held = released-held T p K w t a st f x st' releases;
-        holder-quota = released-quota T p K w t a st f x st' releases;
-        holder-once = released-once T p K w t a st f x st' releases;
-        held-holder = released-holder T p K w t a st f x st' releases;
-        free-worker = released-free T p K w t a st f x st' releases;
+        holding =
+            released-holding T p K w t a st f x st' (m .lets-go) (λ q. omega (arith, m .status-here))
+            (λ u n q. back held (λ i. omega arith) u q .2)
+            (λ u n q. m .status-other u n (λ i. omega (arith, child-unborn, rw i at q)) ∙ q);
         amount = does-amount T l p K st f a (x .action) st' does (rw (k, m .lets-go .amount));
         above = rw (m .lets-go .amount, m .lets-go .most) (f .above);
         unused-status = λ u h i. m .status-other u (λ j. omega (arith, x .thread)) (λ j. omega (arith, child)) ∙ f .unused-status u h i;
         unused-next = λ u h i. m .next-other u (λ j. omega (arith, x .thread)) ∙ f .unused-next u h i;
       }
 
-module _ (T : Table) (l : Lawful T) (p K : ℕ) (few : p ≤ 16) (w : ℕ) (below : w < p) (st : State) (f : Facts T p K st) (holds : workerOf st w .holds ≡ true) (t a : ℕ)
-    (thread : workerOf st w .thread ≡ t) (next : nextOf st t ≡ a) where
-  pub fork-facts : kind T a ≡ fork → Facts T p K (actBy fork T w t a (T .argument a) st .state)
-  fork-facts k =
-      let x : Acting T w t a st = acting T l p K w t a st f (omega arith) holds thread next in
-      let low : t < T .argument a = rw (x .owned) at (fork-above T (l .contents) (l .bodies) a (x .action) k) in
-      forked-facts T l p K w t a (T .argument a) st f x k refl (actBy fork T w t a (T .argument a) st .state)
-      (forked T w t a (T .argument a) st (f .next-size) (f .status-size) (f .worker-size) (x .worker) low
-      (omega (arith, fork-below T (l .contents) (l .bodies) a (x .action) k, l .few-threads)) next)
-
-  pub end-facts : kind T a ≡ end → Facts T p K (actBy end T w t a (T .argument a) st .state)
-  end-facts k =
-      let x : Acting T w t a st = acting T l p K w t a st f (omega arith) holds thread next in
-      ended-facts T l p K w t a st f x k (actBy end T w t a (T .argument a) st .state)
-      (ended-state T w t a (T .argument a) st (f .next-size) (f .status-size) (f .worker-size) (x .worker) (omega (arith, x .thread, l .few-threads))
-      (omega (arith, l .few-threads, ownerBelow-less T (T .threads) (forkBelow T (T .actions) t) (l .some-thread))))
+pub fork-facts : (T : Table) (l : Lawful T) (p K w t a : ℕ) (st : State) (f : Facts T p K st) → Acting T w t a st → kind T a ≡ fork
+    → Facts T p K (actBy fork T w t a (T .argument a) st .state)
+fork-facts T l p K w t a st f x k =
+    forked-facts T l p K w t a (T .argument a) st f x k refl (actBy fork T w t a (T .argument a) st .state) (acting-forked T l p K w t a st f x k)

@@ -1,12 +1,11 @@
 -- A sum over a front part of serial order is a sum over the actions of lower numbers.
-use mathlib.Core.Path.{_≡_, refl, sym}
+use mathlib.Core.Path.{_≡_, sym}
 use Prim.Native.Nat.{ℕ, zero, suc, _≤_, _<_}
-use mathlib.Core.Bool.{Bool, true, false}
 use native.Mathlib.Omega.{arith}
 use lib.ListN.{length, getD, take}
 use lib.Seq.{take-suc}
 use lib.Dec.{ltb}
-use borrow.Author.Tests.{ltb-true, ltb-false, lt-ltb, le-ltb}
+use borrow.Author.Tests.{lt-ltb, le-ltb}
 use Rattle.table.specs.Sum.{pick, sumTo, sumOver}
 use Rattle.table.specs.Format.{Table}
 use Rattle.table.specs.Serial.{serialOrder}
@@ -14,6 +13,7 @@ use Rattle.table.proofs.Sums.{sumTo-zero, sumTo-one, sumOver-append}
 use Rattle.table.proofs.Serial.{serial-length}
 use Rattle.schedule.specs.Sound.{numberOf}
 use Rattle.schedule.proofs.Lawful.{Lawful}
+use Rattle.schedule.proofs.Words.{ltb-next}
 use Rattle.schedule.proofs.Numbers.{number-place, place-number}
 
 -- what an action comes to where its number is below k
@@ -21,11 +21,7 @@ abbrev pub lower : Table → (ℕ → ℕ) → ℕ → ℕ → ℕ
 lower T own k a = pick (ltb (numberOf T a) k) (own a) 0
 
 lower-same : (T : Table) (own : ℕ → ℕ) (k a : ℕ) → (numberOf T a ≡ k → ⊥) → lower T own (suc k) a ≡ lower T own k a
-lower-same T own k a d = go (ltb (numberOf T a) k) refl
-  where
-    go : (t : Bool) → ltb (numberOf T a) k ≡ t → lower T own (suc k) a ≡ pick t (own a) 0
-    go true e = rw (lt-ltb (numberOf T a) (suc k) (omega (arith, ltb-true (numberOf T a) k e)))
-    go false e = rw (le-ltb (numberOf T a) (suc k) (omega (arith, d, ltb-false (numberOf T a) k e)))
+lower-same T own k a d = rw (ltb-next (numberOf T a) k d)
 
 module _ (T : Table) (l : Lawful T) (own : ℕ → ℕ) where
   pub front-sum : (k : ℕ) → k ≤ T .actions → sumOver own (take k (serialOrder T)) ≡ sumTo (lower T own k) (T .actions)

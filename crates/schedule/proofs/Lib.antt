@@ -10,6 +10,7 @@ pub mod Tests
 pub mod Totals
 pub mod Joins
 pub mod Shares
+pub mod Holders
 pub mod Moves
 pub mod Advances
 pub mod ListMoves

@@ -1,10 +1,11 @@
--- Laws on the lists that a record keeps: those filled up with 0, and the values of a function laid out in a row.
+-- Laws on the lists that a record keeps: their elements, those with one place set, those filled up with 0, and the values of a function laid out in a row.
 use mathlib.Core.Path.{_≡_, refl, ap, sym, _∙_}
 use Prim.Native.Nat.{ℕ, zero, suc, _+_, _-_, _≤_, _<_}
+use native.Mathlib.Decide.{ℕ-discrete}
 use native.Mathlib.Omega.{arith}
 use mathlib.Core.List.{List, [], _∷_, _++_, List·Memᴰ, List·Memᴰ·head, List·Memᴰ·tail}
-use lib.ListN.{length, getD, take, replicate, length-append, length-replicate}
-use lib.Seq.{length-take-le, take-append-seam, getD-take, ext-getD}
+use lib.ListN.{length, getD, set, take, replicate, length-append, length-replicate}
+use lib.Seq.{getD-set-same, getD-set-other, length-take-le, take-append-seam, getD-take, ext-getD}
 use Rattle.schedule.specs.Record.{filled}
 use Rattle.schedule.specs.Begin.{firsts}
 
@@ -13,6 +14,15 @@ pub getD-member {ℓ} : {A : Type ℓ} (l : List A) (i : ℕ) (d : A) → i < le
 getD-member [] i d h = absurd (omega arith)
 getD-member (x ∷ l) zero d h = List·Memᴰ·head refl
 getD-member (x ∷ l) (suc i) d h = List·Memᴰ·tail (getD-member l i d (omega arith))
+
+-- what holds at every place of a list after one place is set: of the new element there, and of the old ones elsewhere
+pub set-each : {A : Type 0} (xs : List A) (i : ℕ) (x z : A) (P : ℕ → A → Type 0) → i < length xs → P i x → ((j : ℕ) → (j ≡ i → ⊥) → P j (getD xs j z))
+    → (j : ℕ) → P j (getD (set xs i x) j z)
+set-each xs i x z P h p q j = go (ℕ-discrete j i)
+  where
+    go : Dec (j ≡ i) → P j (getD (set xs i x) j z)
+    go (yes e) = rw (e, getD-set-same xs i x z h) p
+    go (no d) = rw (getD-set-other xs i j x z d) (q j d)
 
 -- ---- filled up
 

@@ -1,11 +1,9 @@
 -- Taking and releasing a thread keep a sound state sound: they change one worker's record and one live thread's status, and nothing is done.
 use mathlib.Core.Path.{_≡_, refl}
 use Prim.Native.Nat.{ℕ, _≤_, _<_}
-use mathlib.Core.List.{List}
 use mathlib.Core.Bool.{true, false}
-use native.Mathlib.Decide.{ℕ-discrete}
 use native.Mathlib.Omega.{arith}
-use lib.ListN.{length, getD, set, length-set}
+use lib.ListN.{length, length-set}
 use lib.Seq.{getD-set-same, getD-set-other}
 use lib.Dec.{eqb}
 use borrow.Author.Tests.{eqb-true, eq-eqb, ne-eqb}
@@ -17,16 +15,10 @@ use Rattle.schedule.specs.declared.Worker.{Worker}
 use Rattle.schedule.specs.Machine.{State, unborn, ready, held, waiting, ended, nextOf, statusOf, workerOf, nobody, withStatus, withWorker, released, counted, taken}
 use Rattle.schedule.specs.Sound.{isDone, ofDone, sumDone}
 use Rattle.schedule.proofs.Lawful.{Lawful}
-use Rattle.schedule.proofs.Facts.{Facts}
-
--- what holds at every place of a list after one place is set: of the new element there, and of the old ones elsewhere
-pub set-each : {A : Type 0} (xs : List A) (i : ℕ) (x z : A) (P : ℕ → A → Type 0) → i < length xs → P i x → ((j : ℕ) → (j ≡ i → ⊥) → P j (getD xs j z))
-    → (j : ℕ) → P j (getD (set xs i x) j z)
-set-each xs i x z P h p q j = go (ℕ-discrete j i)
-  where
-    go : Dec (j ≡ i) → P j (getD (set xs i x) j z)
-    go (yes e) = rw (e, getD-set-same xs i x z h) p
-    go (no d) = rw (getD-set-other xs i j x z d) (q j d)
+use Rattle.schedule.proofs.Facts.{Holding, Facts}
+use Rattle.schedule.proofs.Lists.{set-each}
+use Rattle.schedule.proofs.Holders.{rehung}
+use Rattle.schedule.proofs.Releases.{Acting, freed, released-holding}
 
 -- the count of turns is no part of a sound state
 pub counted-facts : (T : Table) (p K : ℕ) (st : State) → Facts T p K st → Facts T p K (counted st)
@@ -35,7 +27,6 @@ counted-facts T p K st f =
     record {
       next-size = f .next-size;
       status-size = f .status-size;
-      worker-size = f .worker-size;
       next-low = f .next-low;
       next-high = f .next-high;
       ordered = f .ordered;
@@ -51,29 +42,12 @@ counted-facts T p K st f =
       serial = f .serial;
       wait-join = f .wait-join;
       wait-open = f .wait-open;
-      holder-below = f .holder-below;
-      holder-thread = f .holder-thread;
-      holder-held = f .holder-held;
-      holder-quota = f .holder-quota;
-      holder-once = f .holder-once;
-      held-holder = f .held-holder;
-      free-worker = f .free-worker;
+      holding = f .holding;
       amount = f .amount;
       above = f .above;
       unused-status = f .unused-status;
       unused-next = f .unused-next;
     }
-
--- the facts on workers
-pub record Holding (T : Table) (p K : ℕ) (st : State) : Type 0 where
-  pub worker-size : length (st .workers) ≡ 16
-  pub holder-below : (w : ℕ) → w < 16 → workerOf st w .holds ≡ true → w < p
-  pub holder-thread : (w : ℕ) → w < 16 → workerOf st w .holds ≡ true → workerOf st w .thread < T .threads
-  pub holder-held : (w : ℕ) → w < 16 → workerOf st w .holds ≡ true → statusOf st (workerOf st w .thread) ≡ held
-  pub holder-quota : (w : ℕ) → w < 16 → workerOf st w .holds ≡ true → workerOf st w .quota ≤ K
-  pub holder-once : (w v : ℕ) → w < 16 → v < 16 → workerOf st w .holds ≡ true → workerOf st v .holds ≡ true → workerOf st w .thread ≡ workerOf st v .thread → w ≡ v
-  pub held-holder : (t : ℕ) → t < T .threads → statusOf st t ≡ held → (w : ℕ) × (w < 16) × (workerOf st w .holds ≡ true) × (workerOf st w .thread ≡ t)
-  pub free-worker : (w : ℕ) → w < 16 → workerOf st w .holds ≡ false → workerOf st w ≡ nobody
 
 -- a thread that is forked and not ended
 abbrev pub Live : ℕ → Type 0
@@ -128,12 +102,11 @@ module _ (T : Table) (l : Lawful T) (p K : ℕ) (st : State) (f : Facts T p K st
   restated-wait q =
       set-each (st .status) t x 0 (λ u y. u < T .threads → y ≡ waiting → WaitsRightly T st u) fits (λ h e. q e) (λ u d h e. (f .wait-join u h e, f .wait-open u h e))
 
-  pub restated-facts : Holding T p K (restated w v t x st) → (x ≡ waiting → WaitsRightly T st t) → Facts T p K (restated w v t x st)
+  pub restated-facts : Holding T p K (restated w v t x st .status) (restated w v t x st .workers) → (x ≡ waiting → WaitsRightly T st t) → Facts T p K (restated w v t x st)
   restated-facts k q =
       record {
         next-size = f .next-size;
         status-size = rw (length-set (st .status) t x) (f .status-size);
-        worker-size = k .worker-size;
         next-low = f .next-low;
         next-high = f .next-high;
         ordered = λ a d h i m. cc (restated-done d, f .ordered a d h (cc (restated-done a)) m);
@@ -149,80 +122,11 @@ module _ (T : Table) (l : Lawful T) (p K : ℕ) (st : State) (f : Facts T p K st
         serial = f .serial;
         wait-join = λ u h e. restated-wait q u h e .0;
         wait-open = λ u h e i. restated-wait q u h e .1 (was-ended _ i);
-        holder-below = k .holder-below;
-        holder-thread = k .holder-thread;
-        holder-held = k .holder-held;
-        holder-quota = k .holder-quota;
-        holder-once = k .holder-once;
-        held-holder = k .held-holder;
-        free-worker = k .free-worker;
+        holding = k;
         amount = cc (restated-sum (freeOf T), restated-sum (allocOf T), f .amount);
         above = f .above;
         unused-status = λ u h i. still-unborn u (f .unused-status u h i);
         unused-next = f .unused-next;
-      }
-
--- ---- workers
-
--- A state in which worker w alone has another record, v, and thread t alone another status. Neither before nor after does another worker hold t, or w another thread.
-pub record Rehung (T : Table) (p K : ℕ) (st st' : State) (w t : ℕ) (v : Worker) : Type 0 where
-  pub size : length (st' .workers) ≡ 16
-  pub few : w < 16
-  pub new : workerOf st' w ≡ v
-  pub old : (u : ℕ) → (u ≡ w → ⊥) → workerOf st' u ≡ workerOf st u
-  pub same : (u : ℕ) → (u ≡ t → ⊥) → statusOf st' u ≡ statusOf st u
-  pub below : t < T .threads
-  pub own : workerOf st w .holds ≡ true → workerOf st w .thread ≡ t
-  pub apart : (u : ℕ) → u < 16 → (u ≡ w → ⊥) → workerOf st u .holds ≡ true → workerOf st u .thread ≡ t → ⊥
-  pub gives : v .holds ≡ true → (v .thread ≡ t) × (v .quota ≤ K) × (w < p) × (statusOf st' t ≡ held)
-  pub keeps : statusOf st' t ≡ held → (v .holds ≡ true) × (v .thread ≡ t)
-  pub none : v .holds ≡ false → v ≡ nobody
-
-module _ (T : Table) (p K : ℕ) (st st' : State) (f : Facts T p K st) (w t : ℕ) (v : Worker) (r : Rehung T p K st st' w t v) where
-  each : (P : ℕ → Worker → Type 0) → P w v → ((u : ℕ) → (u ≡ w → ⊥) → P u (workerOf st u)) → (u : ℕ) → P u (workerOf st' u)
-  each P b q u = go (ℕ-discrete u w)
-    where
-      go : Dec (u ≡ w) → P u (workerOf st' u)
-      go (yes e) = rw (e, r .new) b
-      go (no d) = rw (r .old u d) (q u d)
-
-  once : (u j : ℕ) → u < 16 → j < 16 → workerOf st' u .holds ≡ true → workerOf st' j .holds ≡ true → workerOf st' u .thread ≡ workerOf st' j .thread → u ≡ j
-  once u j =
-      each (λ u y. u < 16 → j < 16 → y .holds ≡ true → workerOf st' j .holds ≡ true → y .thread ≡ workerOf st' j .thread → u ≡ j)
-      (each (λ j z. w < 16 → j < 16 → v .holds ≡ true → z .holds ≡ true → v .thread ≡ z .thread → w ≡ j)
-      (λ g h d e i. refl)
-      (λ j n g h d e i. absurd (r .apart j h n e (cc (r .gives d .0)))) j)
-      (λ u m. each (λ j z. u < 16 → j < 16 → workerOf st u .holds ≡ true → z .holds ≡ true → workerOf st u .thread ≡ z .thread → u ≡ j)
-      (λ g h d e i. absurd (r .apart u g m d (cc (r .gives e .0))))
-      (λ j n. f .holder-once u j) j)
-      u
-
-  holder : (u : ℕ) → u < T .threads → statusOf st' u ≡ held → (j : ℕ) × (j < 16) × (workerOf st' j .holds ≡ true) × (workerOf st' j .thread ≡ u)
-  holder u h e = go (ℕ-discrete u t)
-    where
-      go : Dec (u ≡ t) → (j : ℕ) × (j < 16) × (workerOf st' j .holds ≡ true) × (workerOf st' j .thread ≡ u)
-      go (yes i) =
-          let k : (v .holds ≡ true) × (v .thread ≡ t) = r .keeps (cc) in
-          (w, r .few, cc (r .new), cc (r .new))
-      go (no d) =
-          let (j, g, k, i) = f .held-holder u h (cc (r .same u d)) in
-          let n : workerOf st' j ≡ workerOf st j = r .old j (λ q. d (cc (r .own (cc)))) in
-          (j, g, cc, cc)
-
-  pub holding : Holding T p K st'
-  holding =
-      record {
-        worker-size = r .size;
-        holder-below = each (λ u y. u < 16 → y .holds ≡ true → u < p) (λ h e. r .gives e .2) (λ u d. f .holder-below u);
-        holder-thread = each (λ u y. u < 16 → y .holds ≡ true → y .thread < T .threads) (λ h e. rw (r .gives e .0) (r .below)) (λ u d. f .holder-thread u);
-        holder-held =
-            each (λ u y. u < 16 → y .holds ≡ true → statusOf st' (y .thread) ≡ held)
-            (λ h e. rw (r .gives e .0) (r .gives e .3))
-            (λ u d h e. cc (r .same (workerOf st u .thread) (r .apart u h d e), f .holder-held u h e));
-        holder-quota = each (λ u y. u < 16 → y .holds ≡ true → y .quota ≤ K) (λ h e. r .gives e .1) (λ u d. f .holder-quota u);
-        holder-once = once;
-        held-holder = holder;
-        free-worker = each (λ u y. u < 16 → y .holds ≡ false → y ≡ nobody) (λ h e. r .none e) (λ u d. f .free-worker u);
       }
 
 -- ---- taking and releasing
@@ -232,7 +136,7 @@ module _ (T : Table) (l : Lawful T) (p K : ℕ) (few : p ≤ 16) (w : ℕ) (belo
   inside = omega arith
 
   worker-fits : w < length (st .workers)
-  worker-fits = omega (arith, inside, f .worker-size)
+  worker-fits = omega (arith, inside, f .holding .worker-size)
 
   -- a free worker takes a ready thread
   pub taken-facts : workerOf st w .holds ≡ false → (t : ℕ) → t < T .threads → statusOf st t ≡ ready → Facts T p K (taken K w t st)
@@ -240,47 +144,31 @@ module _ (T : Table) (l : Lawful T) (p K : ℕ) (few : p ≤ 16) (w : ℕ) (belo
   taken-facts n t h e =
       let v : Worker = record { holds = true; thread = t; quota = K } in
       restated-facts T l p K st f w t held v h (omega arith, omega arith) (omega arith, omega arith)
-      (holding T p K st (restated w v t held st) f w t v (record {
-        size = rw (length-set (st .workers) w v) (f .worker-size);
+      (rehung T p K st (restated w v t held st) f w t v (record {
+        size = rw (length-set (st .workers) w v) (f .holding .worker-size);
         few = inside;
         new = getD-set-same (st .workers) w v nobody worker-fits;
         old = λ u d. getD-set-other (st .workers) w u v nobody d;
-        same = λ u d. getD-set-other (st .status) t u held 0 d;
+        was = λ u d. rw (getD-set-other (st .status) t u held 0 d) (λ e. e);
+        still = λ u d. rw (getD-set-other (st .status) t u held 0 d) (λ e. e);
         below = h;
         own = λ i. no-way cc;
-        apart = λ u g d i q. no-way (cc (f .holder-held u g i));
+        apart = λ u g d i q. no-way (cc (f .holding .holder-held u g i));
         gives = λ i. (refl, omega arith, below, getD-set-same (st .status) t held 0 (omega (arith, f .status-size, l .few-threads)));
         keeps = λ i. (refl, refl);
         none = λ i. no-way cc;
       }))
       (λ q. no-way cc)
 
-  -- the thread that a worker holds
-  module _ (holds : workerOf st w .holds ≡ true) (t : ℕ) (thread : workerOf st w .thread ≡ t) where
-    pub thread-below : t < T .threads
-    thread-below = rw thread at (f .holder-thread w inside holds)
-
-    pub thread-held : statusOf st t ≡ held
-    thread-held = rw thread at (f .holder-held w inside holds)
-
-    pub holds-alone : (u : ℕ) → u < 16 → (u ≡ w → ⊥) → workerOf st u .holds ≡ true → workerOf st u .thread ≡ t → ⊥
-    holds-alone u g d i q = d (f .holder-once u w g inside i holds (cc))
-
-    -- it is put back as ready, or waits
-    pub released-facts : (x : ℕ) → Live x → (x ≡ held → ⊥) → (x ≡ waiting → WaitsRightly T st t) → Facts T p K (released w t x st)
-    released-facts x a n q =
-        restated-facts T l p K st f w t x nobody thread-below (omega (arith, thread-held), omega (arith, thread-held)) a
-        (holding T p K st (released w t x st) f w t nobody (record {
-          size = rw (length-set (st .workers) w nobody) (f .worker-size);
-          few = inside;
-          new = getD-set-same (st .workers) w nobody nobody worker-fits;
-          old = λ u d. getD-set-other (st .workers) w u nobody nobody d;
-          same = λ u d. getD-set-other (st .status) t u x 0 d;
-          below = thread-below;
-          own = λ i. thread;
-          apart = holds-alone;
-          gives = λ i. no-way cc;
-          keeps = λ i. absurd (n (cc (getD-set-same (st .status) t x 0 (omega (arith, f .status-size, l .few-threads, thread-below)))));
-          none = λ i. refl;
-        }))
-        q
+-- the thread of a worker that acts is put back as ready, or waits
+module _ (T : Table) (l : Lawful T) (p K : ℕ) (w t a : ℕ) (st : State) (f : Facts T p K st) (x : Acting T w t a st) where
+  pub released-facts : (y : ℕ) → Live y → (y ≡ held → ⊥) → (y ≡ waiting → WaitsRightly T st t) → Facts T p K (released w t y st)
+  released-facts y b n q =
+      let here : statusOf (released w t y st) t ≡ y = getD-set-same (st .status) t y 0 (omega (arith, f .status-size, l .few-threads, x .thread)) in
+      restated-facts T l p K st f w t y nobody (x .thread) (omega (arith, x .taken), omega (arith, x .taken)) b
+      (released-holding T p K w t a st f x (released w t y st)
+      (freed w st (released w t y st) (x .worker) (f .holding .worker-size) refl refl (length-set (st .status) t y) refl refl)
+      (λ e. n (cc))
+      (λ u d. rw (getD-set-other (st .status) t u y 0 d) (λ e. e))
+      (λ u d. rw (getD-set-other (st .status) t u y 0 d) (λ e. e)))
+      q

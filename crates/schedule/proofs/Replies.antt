@@ -86,9 +86,9 @@ module _ (T : Table) (l : Lawful T) (p K : ℕ) (few : p ≤ 16) (w : ℕ) (belo
   held-amounts e =
       let t : ℕ = workerOf st w .thread in
       let a : ℕ = nextOf st t in
-      let s : statusOf st t ≡ held = f .holder-held w (omega arith) e in
+      let s : statusOf st t ≡ held = f .holding .holder-held w (omega arith) e in
       act-amounts T w t a (T .argument a) st (f .above) refl (kind T a) refl
-      (free-held T l p K st f t (f .holder-thread w (omega arith) e) (λ q. omega arith))
+      (free-held T l p K st f t (f .holding .holder-thread w (omega arith) e) (λ q. omega arith))
 
   -- worker w takes a thread of the list
   taken-amounts : (t : ℕ) → List·Memᴰ t (st .list) → Amounts T st (act T w (taken K w t st))
@@ -96,7 +96,7 @@ module _ (T : Table) (l : Lawful T) (p K : ℕ) (few : p ≤ 16) (w : ℕ) (belo
   taken-amounts t m =
       let st′ : State = taken K w t st in
       let e : workerOf st′ w .thread ≡ t =
-      ap (λ (x : Worker). x .thread) (getD-set-same (st .workers) w (record { holds = true; thread = t; quota = K }) nobody (omega (arith, f .worker-size))) in
+      ap (λ (x : Worker). x .thread) (getD-set-same (st .workers) w (record { holds = true; thread = t; quota = K }) nobody (omega (arith, f .holding .worker-size))) in
       let u : ℕ = workerOf st′ w .thread in
       let a : ℕ = nextOf st u in
       let q : Amounts T st′ (actBy (kind T a) T w u a (T .argument a) st′) =

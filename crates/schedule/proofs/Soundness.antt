@@ -62,7 +62,7 @@ module _ (r : Run) (h : Steady r) where
 
   -- "the count of ones of the busy set is the number of workers that hold a thread"
   pub busy-count : ones (r .busy) ≡ countBelow (λ w. workerOf (stateOf r) w .holds) 16
-  busy-count = ap ones (h .set) ∙ set-ones (r .worker) ∙ ap (countBelow (λ w. workerOf (stateOf r) w .holds)) (steady-facts r h .worker-size)
+  busy-count = ap ones (h .set) ∙ set-ones (r .worker) ∙ ap (countBelow (λ w. workerOf (stateOf r) w .holds)) (steady-facts r h .holding .worker-size)
 
   -- "a free never takes more than is held"
   pub free-within : (t : ℕ) → t < tableIn r .threads → (statusOf (stateOf r) t ≡ ended → ⊥) → kind (tableIn r) (nextOf (stateOf r) t) ≡ free

@@ -119,7 +119,6 @@ start-facts T l p K =
     record {
       next-size = start-sizes T l .0;
       status-size = start-sizes T l .1;
-      worker-size = start-sizes T l .2;
       next-low = λ t h. omega (arith, start-next T l t h);
       next-high = λ t h. omega (arith, start-next T l t h, count-pos T (l .contents) t h, after-end T (l .contents) t h);
       ordered = λ a d h e m. let f : isDone T (startState T) a ≡ false = start-undone T l a h in no-way (cc);
@@ -135,13 +134,17 @@ start-facts T l p K =
       serial = start-serial T l;
       wait-join = λ t h e. absurd (omega (arith, start-status T l t));
       wait-open = λ t h e. absurd (omega (arith, start-status T l t));
-      holder-below = λ w h e. absurd (free-start T l w e);
-      holder-thread = λ w h e. absurd (free-start T l w e);
-      holder-held = λ w h e. absurd (free-start T l w e);
-      holder-quota = λ w h e. absurd (free-start T l w e);
-      holder-once = λ w v h i e. absurd (free-start T l w e);
-      held-holder = λ t h e. absurd (omega (arith, start-status T l t));
-      free-worker = λ w h e. start-worker T l w;
+      holding =
+          record {
+            worker-size = start-sizes T l .2;
+            holder-below = λ w h e. absurd (free-start T l w e);
+            holder-thread = λ w h e. absurd (free-start T l w e);
+            holder-held = λ w h e. absurd (free-start T l w e);
+            holder-quota = λ w h e. absurd (free-start T l w e);
+            holder-once = λ w v h i e. absurd (free-start T l w e);
+            held-holder = λ t h e. absurd (omega (arith, start-status T l t));
+            free-worker = λ w h e. start-worker T l w;
+          };
       amount = omega (arith, start-none T l (freeOf T), start-none T l (allocOf T), start-held T l .0);
       above = omega (arith, start-held T l .0, start-held T l .1);
       unused-status = λ t h i. start-unborn T l t (omega (arith, l .some-thread));

@@ -12,7 +12,6 @@ use lib.Dec.{leb, eqb}
 use borrow.Author.Tests.{eqb-false, leb-true, ne-eqb}
 use Rattle.table.specs.Format.{Kind, end, work, alloc, free, fork, join, unknown, codeOf, is, Table, kind}
 use Rattle.table.specs.Rules.{owner, allocOf}
-use Rattle.table.specs.Level.{forkBelow}
 use Rattle.table.proofs.Tests.{no-way}
 use Rattle.table.proofs.Bodies.{kind-known}
 use Rattle.schedule.specs.declared.Worker.{Worker}
@@ -21,11 +20,12 @@ use Rattle.schedule.specs.declared.Reply.the-variants.{Done, Quota, Wait
 use Rattle.schedule.specs.Machine.{State, ready, waiting, ended, nextOf, statusOf, workerOf, nobody, actBy, act}
 use Rattle.schedule.specs.Sound.{numberOf, isDone}
 use Rattle.schedule.proofs.Lawful.{Lawful}
+use Rattle.schedule.proofs.Words.{ltb-next}
 use Rattle.schedule.proofs.Facts.{Facts}
 use Rattle.schedule.proofs.Numbers.{number-step}
-use Rattle.schedule.proofs.Undone.{ltb-next, done-low, done-live, done-alike, undone-unborn}
+use Rattle.schedule.proofs.Undone.{done-low, done-live, done-alike, undone-unborn}
 use Rattle.schedule.proofs.Releases.{Acting}
-use Rattle.schedule.proofs.Ends.{ownerBelow-less, Ended, ended-state}
+use Rattle.schedule.proofs.Ends.{Ended, acting-ended}
 
 -- ---- which threads have ended
 
@@ -70,7 +70,7 @@ module _ (T : Table) (l : Lawful T) (p K w t a : ℕ) (st : State) (f : Facts T 
   next-fits = omega (arith, f .next-size, l .few-threads, x .thread)
 
   worker-fits : w < length (st .workers)
-  worker-fits = omega (arith, f .worker-size, x .worker)
+  worker-fits = omega (arith, f .holding .worker-size, x .worker)
 
   unended : eqb (statusOf st t) ended ≡ false
   unended = rw (x .taken)
@@ -213,9 +213,7 @@ module _ (T : Table) (l : Lawful T) (p K w t a : ℕ) (st : State) (f : Facts T 
   acted-by : (k : Kind) → kind T a ≡ k → Acted T w t a quotaNow st (actBy k T w t a (T .argument a) st .reply) (actBy k T w t a (T .argument a) st .state)
   unfolding actBy is codeOf
   acted-by end e =
-      ends-off (rw e) _
-      (ended-state T w t a (T .argument a) st (f .next-size) (f .status-size) (f .worker-size) (x .worker) (omega (arith, x .thread, l .few-threads))
-      (omega (arith, l .few-threads, ownerBelow-less T (T .threads) (forkBelow T (T .actions) t) (l .some-thread))))
+      ends-off (rw e) _ (acting-ended T l p K w t a st f x)
   acted-by work e = goes-on (rw e) (rw e) (rw e) _ refl (λ u. refl) refl
   acted-by alloc e = go (leb (T .argument a) quotaNow) refl
     where

@@ -20,8 +20,8 @@ use Rattle.schedule.specs.Sound.{isDone}
 use Rattle.schedule.proofs.Lawful.{Lawful}
 use Rattle.schedule.proofs.Facts.{Facts}
 use Rattle.schedule.proofs.Undone.{done-alike}
-use Rattle.schedule.proofs.Moves.{taken-facts, holds-alone}
-use Rattle.schedule.proofs.Releases.{Acting, acting}
+use Rattle.schedule.proofs.Moves.{taken-facts}
+use Rattle.schedule.proofs.Releases.{Acting, acting, acting-alone}
 use Rattle.schedule.proofs.Turns.{leftmost-ready}
 use Rattle.schedule.proofs.Batches.{startAction, begins}
 use Rattle.schedule.proofs.Steps.{Acted, acted, set-ended}
@@ -78,7 +78,7 @@ module _ (T : Table) (l : Lawful T) (p K : ℕ) (few : p ≤ 16) (w : ℕ) (belo
         (record {
           within = x .action;
           undone = x .undone;
-          apart = holds-alone T l p K few w below st f e t refl;
+          apart = acting-alone T p K w t a st f x;
           from = inl (e, refl, refl);
           acted = rw e (acted T l p K w t a st f x);
         })
@@ -89,14 +89,14 @@ module _ (T : Table) (l : Lawful T) (p K : ℕ) (few : p ≤ 16) (w : ℕ) (belo
         let st' : State = taken K w t st in
         let f' : Facts T p K st' = taken-facts T l p K few w below st f e t h r in
         let a : ℕ = nextOf st t in
-        let now : workerOf st' w ≡ record { holds = true; thread = t; quota = K } = taken-worker T K w t st r (omega (arith, f .worker-size)) in
+        let now : workerOf st' w ≡ record { holds = true; thread = t; quota = K } = taken-worker T K w t st r (omega (arith, f .holding .worker-size)) in
         let x : Acting T w t a st' = acting T l p K w t a st' f' (omega arith) (rw now) (rw now) (taken-next T K w t st r) in
         let q : workerOf st' w .quota ≡ K = rw now in
         tries t a
         (record {
           within = x .action;
           undone = sym (taken-done T K w t st r a) ∙ x .undone;
-          apart = λ u g d j y. no-way (cc (f .holder-held u g j));
+          apart = λ u g d j y. no-way (cc (f .holding .holder-held u g j));
           from = inr (e, b, rw i);
           acted = rw e (taken-acted T K w t st r a _ _ (rw q at (acted T l p K w t a st' f' x)));
         })

@@ -15,14 +15,16 @@ use Rattle.table.specs.Rules.{allocOf, freeOf}
 use Rattle.table.proofs.Tests.{no-way}
 use Rattle.table.proofs.Bodies.{kind-known}
 use Rattle.schedule.specs.declared.Worker.{Worker}
-use Rattle.schedule.specs.Machine.{State, ready, held, waiting, ended, nextOf, statusOf, workerOf, nobody, Stepped, actBy, act, leftmost, taken, turnFree, turnOf}
+use Rattle.schedule.specs.Machine.{State, ready, waiting, ended, nextOf, statusOf, workerOf, nobody, withWorker, Stepped, actBy, act, leftmost, taken, turnFree, turnOf}
 use Rattle.schedule.proofs.Lawful.{Lawful, Within}
-use Rattle.schedule.proofs.Facts.{Facts}
+use Rattle.schedule.proofs.Facts.{Holding, Facts}
 use Rattle.schedule.proofs.Shares.{free-held}
-use Rattle.schedule.proofs.Forks.{fork-facts, end-facts}
-use Rattle.schedule.proofs.Moves.{counted-facts, Holding, holding, taken-facts, thread-below, thread-held, holds-alone, released-facts}
-use Rattle.schedule.proofs.Advances.{Goes, goneOn, gone-facts}
-use Rattle.schedule.proofs.Undone.{next-below}
+use Rattle.schedule.proofs.Holders.{rehung}
+use Rattle.schedule.proofs.Releases.{Acting, acting, acting-alone}
+use Rattle.schedule.proofs.Ends.{end-facts}
+use Rattle.schedule.proofs.Forks.{fork-facts}
+use Rattle.schedule.proofs.Moves.{counted-facts, taken-facts, released-facts}
+use Rattle.schedule.proofs.Advances.{Goes, gone-facts}
 
 -- ---- the leftmost ready thread
 
@@ -51,36 +53,21 @@ pub either : {A : Type 0} (P : A → Type 0) (q : Bool) (x y : A) → (q ≡ tru
 either P true x y g h = g refl
 either P false x y g h = h refl
 
-module _ (T : Table) (l : Lawful T) (p K : ℕ) (few : p ≤ 16) (w : ℕ) (below : w < p) (st : State) (f : Facts T p K st) (holds : workerOf st w .holds ≡ true) (t a : ℕ)
-    (thread : workerOf st w .thread ≡ t) (next : nextOf st t ≡ a) where
+module _ (T : Table) (l : Lawful T) (p K : ℕ) (w t a : ℕ) (below : w < p) (st : State) (f : Facts T p K st) (x : Acting T w t a st) where
   goes : is end (kind T a) ≡ false → is fork (kind T a) ≡ false → (kind T a ≡ join → statusOf st (T .argument a) ≡ ended) → Goes T st t a
   goes e o j =
       record {
-        below = thread-below T l p K few w below st f holds t thread;
-        status = thread-held T l p K few w below st f holds t thread;
-        next = next;
+        below = x .thread;
+        status = x .taken;
+        next = x .next;
         no-end = e;
         no-fork = o;
         joined = j;
       }
 
-  -- the workers as they were
-  hung : (h g : ℕ) → Holding T p K (goneOn t (st .workers) h g st)
-  hung h g =
-      record {
-        worker-size = f .worker-size;
-        holder-below = f .holder-below;
-        holder-thread = f .holder-thread;
-        holder-held = f .holder-held;
-        holder-quota = f .holder-quota;
-        holder-once = f .holder-once;
-        held-holder = f .held-holder;
-        free-worker = f .free-worker;
-      }
-
   work-facts : kind T a ≡ work → Facts T p K (actBy work T w t a (T .argument a) st .state)
   unfolding actBy is codeOf allocOf freeOf
-  work-facts e = gone-facts T l p K st f t a (goes (rw e) (rw e) (λ j. no-way cc)) (st .workers) (st .held) (st .highest) (hung (st .held) (st .highest)) (rw e) (f .above)
+  work-facts e = gone-facts T l p K st f t a (goes (rw e) (rw e) (λ j. no-way cc)) (st .workers) (st .held) (st .highest) (f .holding) (rw e) (f .above)
 
   free-facts : kind T a ≡ free → Facts T p K (actBy free T w t a (T .argument a) st .state)
   unfolding actBy is codeOf allocOf freeOf
@@ -88,25 +75,25 @@ module _ (T : Table) (l : Lawful T) (p K : ℕ) (few : p ≤ 16) (w : ℕ) (belo
       let h : ℕ = st .held - T .argument a in
       let g : ℕ = max (st .highest) h in
       let o : Goes T st t a = goes (rw e) (rw e) (λ j. no-way cc) in
-      let i : T .argument (nextOf st t) ≤ st .held = free-held T l p K st f t (o .below) (λ s. omega (arith, o .status)) (rw next e) in
-      gone-facts T l p K st f t a o (st .workers) h g (hung h g) (rw e (omega (arith, rw next at i))) (le-max-right (st .highest) h)
+      let i : T .argument (nextOf st t) ≤ st .held = free-held T l p K st f t (o .below) (λ s. omega (arith, o .status)) (rw (x .next) e) in
+      gone-facts T l p K st f t a o (st .workers) h g (f .holding) (rw e (omega (arith, rw (x .next) at i))) (le-max-right (st .highest) h)
 
   -- an alloc leaves less of the quota
-  spent : (q h g : ℕ) → q ≤ K → Holding T p K (goneOn t (set (st .workers) w (record { holds = true; thread = t; quota = q })) h g st)
-  spent q h g b =
+  spent : (q : ℕ) → q ≤ K → Holding T p K (st .status) (set (st .workers) w (record { holds = true; thread = t; quota = q }))
+  spent q b =
       let v : Worker = record { holds = true; thread = t; quota = q } in
-      let status : statusOf st t ≡ held = thread-held T l p K few w below st f holds t thread in
-      holding T p K st (goneOn t (set (st .workers) w v) h g st) f w t v
+      rehung T p K st (withWorker w v st) f w t v
       (record {
-        size = rw (length-set (st .workers) w v) (f .worker-size);
-        few = omega arith;
-        new = getD-set-same (st .workers) w v nobody (omega (arith, f .worker-size));
+        size = rw (length-set (st .workers) w v) (f .holding .worker-size);
+        few = x .worker;
+        new = getD-set-same (st .workers) w v nobody (omega (arith, f .holding .worker-size, x .worker));
         old = λ u d. getD-set-other (st .workers) w u v nobody d;
-        same = λ u d. refl;
-        below = thread-below T l p K few w below st f holds t thread;
-        own = λ i. thread;
-        apart = holds-alone T l p K few w below st f holds t thread;
-        gives = λ i. (refl, b, below, status);
+        was = λ u d e. e;
+        still = λ u d e. e;
+        below = x .thread;
+        own = λ i. x .holder;
+        apart = acting-alone T p K w t a st f x;
+        gives = λ i. (refl, b, below, x .taken);
         keeps = λ i. (refl, refl);
         none = λ i. no-way cc;
       })
@@ -117,37 +104,39 @@ module _ (T : Table) (l : Lawful T) (p K : ℕ) (few : p ≤ 16) (w : ℕ) (belo
       let q : ℕ = workerOf st w .quota - T .argument a in
       let h : ℕ = st .held + T .argument a in
       let g : ℕ = max (st .highest) h in
-      let b : workerOf st w .quota ≤ K = f .holder-quota w (omega arith) holds in
+      let b : workerOf st w .quota ≤ K = f .holding .holder-quota w (x .worker) (x .holds) in
       either (λ (s : Stepped). Facts T p K (s .state)) (leb (T .argument a) (workerOf st w .quota)) _ _
-      (λ i. gone-facts T l p K st f t a (goes (rw e) (rw e) (λ j. no-way cc)) _ h g (spent q h g (omega arith)) (rw e (omega arith)) (le-max-right (st .highest) h))
-      (λ i. released-facts T l p K few w below st f holds t thread ready (omega arith, omega arith) (λ r. no-way cc) (λ r. no-way cc))
+      (λ i. gone-facts T l p K st f t a (goes (rw e) (rw e) (λ j. no-way cc)) _ h g (spent q (omega arith)) (rw e (omega arith)) (le-max-right (st .highest) h))
+      (λ i. released-facts T l p K w t a st f x ready (omega arith, omega arith) (λ r. no-way cc) (λ r. no-way cc))
 
   join-facts : kind T a ≡ join → Facts T p K (actBy join T w t a (T .argument a) st .state)
   unfolding actBy is codeOf allocOf freeOf
   join-facts e =
       either (λ (s : Stepped). Facts T p K (s .state)) (eqb (statusOf st (T .argument a)) ended) _ _
       (λ i. gone-facts T l p K st f t a (goes (rw e) (rw e) (λ j. eqb-true (statusOf st (T .argument a)) ended i)) (st .workers) (st .held) (st .highest)
-      (hung (st .held) (st .highest)) (rw e) (f .above))
-      (λ i. released-facts T l p K few w below st f holds t thread waiting (omega arith, omega arith) (λ r. no-way cc)
-      (λ r. rw next (e, eqb-false (statusOf st (T .argument a)) ended i)))
+      (f .holding) (rw e) (f .above))
+      (λ i. released-facts T l p K w t a st f x waiting (omega arith, omega arith) (λ r. no-way cc)
+      (λ r. rw (x .next) (e, eqb-false (statusOf st (T .argument a)) ended i)))
 
   -- by the kind of the thread's next action
   act-by : (k : Kind) → kind T a ≡ k → Facts T p K (actBy k T w t a (T .argument a) st .state)
-  act-by end e = end-facts T l p K few w below st f holds t a thread next e
+  act-by end e = end-facts T l p K w t a st f x e
   act-by work e = work-facts e
   act-by alloc e = alloc-facts e
   act-by free e = free-facts e
-  act-by fork e = fork-facts T l p K few w below st f holds t a thread next e
+  act-by fork e = fork-facts T l p K w t a st f x e
   act-by join e = join-facts e
-  act-by unknown e =
-      absurd (kind-known T (l .contents) (l .bodies) a (rw next at (next-below T l p K st f t (thread-below T l p K few w below st f holds t thread))) e)
+  act-by unknown e = absurd (kind-known T (l .contents) (l .bodies) a (x .action) e)
 
 -- ---- the turn
 
 module _ (T : Table) (l : Lawful T) (p K : ℕ) (few : p ≤ 16) (w : ℕ) (below : w < p) where
   pub act-facts : (st : State) → Facts T p K st → workerOf st w .holds ≡ true → Facts T p K (act T w st .state)
   unfolding act
-  act-facts st f e = act-by T l p K few w below st f e (workerOf st w .thread) (nextOf st (workerOf st w .thread)) refl refl _ refl
+  act-facts st f e =
+      let t : ℕ = workerOf st w .thread in
+      let a : ℕ = nextOf st t in
+      act-by T l p K w t a below st f (acting T l p K w t a st f (omega arith) e refl refl) (kind T a) refl
 
   pub free-turn-facts : (st : State) → Facts T p K st → workerOf st w .holds ≡ false → Facts T p K (turnFree T K w st .state)
   unfolding turnFree
@@ -157,7 +146,7 @@ module _ (T : Table) (l : Lawful T) (p K : ℕ) (few : p ≤ 16) (w : ℕ) (belo
       either (λ (s : Stepped). Facts T p K (s .state)) (eqb i (length (st .list))) _ _ (λ q. f)
       (λ q.
       let (m, r) = leftmost-ready (st .status) (st .list) (eqb-false i (length (st .list)) q) in
-      act-facts (taken K w t st) (taken-facts T l p K few w below st f e t (f .list-below t m) r) (taken-holds K w t st (omega (arith, f .worker-size))))
+      act-facts (taken K w t st) (taken-facts T l p K few w below st f e t (f .list-below t m) r) (taken-holds K w t st (omega (arith, f .holding .worker-size))))
 
 module _ (T : Table) (l : Lawful T) (p K : ℕ) (few : p ≤ 16) (k : Within T K) where
   pub turn-facts : (w : ℕ) → w < p → (st : State) → Facts T p K st → Facts T p K (turnOf T K w st .state)

@@ -36,14 +36,6 @@ eqb-same x y z to back = go (ℕ-discrete x z)
     go (yes e) = cc (eq-eqb x z e, eq-eqb y z (to e))
     go (no n) = cc (ne-eqb x z n, ne-eqb y z (λ e. n (back e)))
 
--- one more lets by the number itself alone
-pub ltb-next : (d a : ℕ) → (d ≡ a → ⊥) → ltb d (suc a) ≡ ltb d a
-ltb-next d a n = go (decLt d a)
-  where
-    go : Dec (d < a) → ltb d (suc a) ≡ ltb d a
-    go (yes h) = cc (lt-ltb d a h, lt-ltb d (suc a) (omega arith))
-    go (no h) = cc (le-ltb d a (omega arith), le-ltb d (suc a) (omega (arith, n)))
-
 -- ---- done or not, by the thread's next action
 
 module _ (T : Table) (st : State) (d : ℕ) where

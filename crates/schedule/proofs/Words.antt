@@ -3,12 +3,12 @@ use mathlib.Core.Path.{_≡_, refl, sym, ap, _∙_}
 use mathlib.Core.Logic.{_↔_, Iff·trans, Iff·and, _⊎_, inl, inr, ⊎-elim}
 use Prim.Native.Nat.{ℕ, zero, suc, _+_, _≤_, _<_}
 use native.Mathlib.Omega.{arith}
-use native.Mathlib.Decide.{ℕ-discrete}
+use native.Mathlib.Decide.{ℕ-discrete, decLt}
 use mathlib.Core.List.{List, [], _∷_, _++_, List·Memᴰ, List·Memᴰ·head, List·Memᴰ·tail, List·Memᴰ·not-nil, List·Memᴰ·cases-cons, Memᴰ·append-right}
 use mathlib.Core.Bool.{Bool, true, false, not, _&&_, _||_}
 use lib.ListN.{length, getD}
 use lib.Dec.{ltb, leb, eqb}
-use borrow.Author.Tests.{ltb-true, lt-ltb, leb-true, le-leb, eqb-true, eqb-false, eq-eqb, ne-eqb, not-true}
+use borrow.Author.Tests.{ltb-true, lt-ltb, le-ltb, leb-true, le-leb, eqb-true, eqb-false, eq-eqb, ne-eqb, not-true}
 use Rattle.table.specs.Sum.{pick, sumTo}
 use Rattle.table.specs.declared.Found.{Found}
 use Rattle.table.specs.declared.Found.the-variants.{Nothing, At}
@@ -72,6 +72,14 @@ not-both s e f = no-way (cc)
 
 pub ltb-exactly : (a b : ℕ) → (ltb a b ≡ true) ↔ (a < b)
 ltb-exactly a b = (ltb-true a b, lt-ltb a b)
+
+-- one more lets by the number itself alone
+pub ltb-next : (d a : ℕ) → (d ≡ a → ⊥) → ltb d (suc a) ≡ ltb d a
+ltb-next d a n = go (decLt d a)
+  where
+    go : Dec (d < a) → ltb d (suc a) ≡ ltb d a
+    go (yes h) = cc (lt-ltb d a h, lt-ltb d (suc a) (omega arith))
+    go (no h) = cc (le-ltb d a (omega arith), le-ltb d (suc a) (omega (arith, n)))
 
 pub leb-exactly : (a b : ℕ) → (leb a b ≡ true) ↔ (a ≤ b)
 leb-exactly a b = (leb-true a b, le-leb a b)
