@@ -12,7 +12,7 @@ use Rattle.table.proofs.Levels.{level-root}
 use Rattle.schedule.specs.Machine.{State, ready, held, nextOf, statusOf, turnOf}
 use Rattle.schedule.specs.Begin.{startState}
 use Rattle.schedule.specs.Memory.{rowState, Keeps}
-use Rattle.schedule.proofs.Lawful.{Lawful, Within}
+use Rattle.schedule.proofs.Lawful.{Lawful}
 use Rattle.schedule.proofs.Facts.{Facts}
 use Rattle.schedule.proofs.Turns.{turn-facts}
 use Rattle.schedule.proofs.Starts.{start-next, start-unborn, start-worker, start-facts}
@@ -21,7 +21,7 @@ use Rattle.schedule.proofs.Counting.{begun, CountAlong, along-turn}
 unfoldable pub use Rattle.schedule.proofs.Beyond.{startAction, begins, beginsBeyond, batches}
 pub use Rattle.schedule.proofs.Beyond.{Enabled}
 
-module _ (T : Table) (l : Lawful T) (p K : ℕ) (some : 1 ≤ p) (few : p ≤ 16) (k : Within T K) where
+module _ (T : Table) (l : Lawful T) (p K : ℕ) (some : 1 ≤ p) (few : p ≤ 16) where
   along-start : (B : ℕ) → CountAlong T B (λ v. 0) [] (startState T)
   along-start B =
       record {
@@ -56,7 +56,7 @@ module _ (T : Table) (l : Lawful T) (p K : ℕ) (some : 1 ≤ p) (few : p ≤ 16
       let i : w < p = h w (List·Memᴰ·head refl) in
       omega (
         arith,
-        rest-few B row young rest (w ∷ past) e (λ v m. h v (List·Memᴰ·tail m)) (begun T w st J) (turnOf T K w st .state) (turn-facts T l p K few k w i st f)
+        rest-few B row young rest (w ∷ past) e (λ v m. h v (List·Memᴰ·tail m)) (begun T w st J) (turnOf T K w st .state) (turn-facts T l p K few w i st f)
             (along-turn T l p K few B J w i past st f (young past (w ∷ rest) e) c) t n,
       )
 

@@ -123,7 +123,7 @@ unended-listed T l p K st f n = go (st .list) refl
 module _ (T : Table) (l : Lawful T) (p K : ℕ) (some : 1 ≤ p) (few : p ≤ 16) (k : Within T K) where
   module _ (row : List ℕ) (h : (w : ℕ) → List·Memᴰ w row → w < p) where
     after : Facts T p K (rowState T K (startState T) row)
-    after = row-facts T l p K few k (startState T) (start-facts T l p K) row h
+    after = row-facts T l p K few (startState T) (start-facts T l p K) row h
 
     -- at most S1, and what the batches begun beyond an enabled action may draw
     row-drawn : (statusOf (rowState T K (startState T) row) 0 ≡ ended → ⊥)
@@ -155,7 +155,7 @@ module _ (T : Table) (l : Lawful T) (p K : ℕ) (some : 1 ≤ p) (few : p ≤ 16
           omega (
             arith,
             i,
-            draws-bound K (batches T K (startState T) row v) (b * (p - 1)) (level T v) (D T) (batches-few T l p K some few k b row h r t e) j,
+            draws-bound K (batches T K (startState T) row v) (b * (p - 1)) (level T v) (D T) (batches-few T l p K some few b row h r t e) j,
             quota-first b K (p - 1) (D T - 1),
           )
 
@@ -166,4 +166,4 @@ module _ (T : Table) (l : Lawful T) (p K : ℕ) (some : 1 ≤ p) (few : p ≤ 16
       go (yes i) = held-ended T l p K (rowState T K (startState T) row) (after row h) i
       go (no n) =
           let (t, q, i) = row-drawn row h n in
-          omega (arith, rw (batches-none T l p K some few k e row h t q, mul-zero) at i)
+          omega (arith, rw (batches-none T l p K some few e row h t q, mul-zero) at i)

@@ -177,7 +177,7 @@ module _ (T : Table) (l : Lawful T) (p K : ℕ) (few : p ≤ 16) (k : Within T K
   undone-row (w ∷ row) h st f v n =
       let b : w < p = h w (List·Memᴰ·head refl) in
       undone-before T l p K few w b st f v
-      (undone-row row (λ u m. h u (List·Memᴰ·tail m)) (turnOf T K w st .state) (turn-facts T l p K few k w b st f) v n)
+      (undone-row row (λ u m. h u (List·Memᴰ·tail m)) (turnOf T K w st .state) (turn-facts T l p K few w b st f) v n)
 
   -- What is left to the workers, as any relation to the state says that each turn can go on from.
   module _ (cost : ℕ → ℕ) (budget : ℕ) (Ghost : State → (ℕ → ℕ) → Type 0)
@@ -192,7 +192,7 @@ module _ (T : Table) (l : Lawful T) (p K : ℕ) (few : p ≤ 16) (k : Within T K
         let b : w < p = h w (List·Memᴰ·head refl) in
         let later : (u : ℕ) → List·Memᴰ u row → u < p = λ u m. h u (List·Memᴰ·tail m) in
         let st' : State = turnOf T K w st .state in
-        let f' : Facts T p K st' = turn-facts T l p K few k w b st f in
+        let f' : Facts T p K st' = turn-facts T l p K few w b st f in
         let (left', g', x) = step w b st f left g in
         omega (
           arith,

@@ -27,9 +27,9 @@ module _ (T : Table) (l : Lawful T) (p K : ℕ) (some : 1 ≤ p) (few : p ≤ 16
 
   pub front-bound : (b : ℕ) → 1 ≤ b → Keeps b row → (front rest : List ℕ) → row ≡ front ++ rest → memoryOf T K front ≤ limit T p K b
   front-bound b g r front rest e =
-      rw (row-held T l p K few k front (front-below front rest e)) at
+      rw (row-held T l p K few front (front-below front rest e)) at
       (row-bound T l p K some few k b g front (front-below front rest e) (keeps-front b row front rest e r))
 
   pub front-alone : p ≡ 1 → (front rest : List ℕ) → row ≡ front ++ rest → memoryOf T K front ≤ S1 T
   front-alone q front rest e =
-      rw (row-held T l p K few k front (front-below front rest e)) at (row-alone T l p K some few k q front (front-below front rest e))
+      rw (row-held T l p K few front (front-below front rest e)) at (row-alone T l p K some few k q front (front-below front rest e))

@@ -46,8 +46,8 @@ memory-limit s p K r e b g calls =
     let alone : p ≡ 1 → (front rest : List ℕ) → row ≡ front ++ rest → memoryOf T K front ≤ S1 T =
     front-alone T (i .lawful) p K (i .some-worker) (i .few-workers) (i .within) row h in
     record {
-      held = ap (λ (x : State). x .held) q ∙ row-held T (i .lawful) p K (i .few-workers) (i .within) row h;
-      highest = ap (λ (x : State). x .highest) q ∙ row-highest T (i .lawful) p K (i .few-workers) (i .within) row h;
+      held = ap (λ (x : State). x .held) q ∙ row-held T (i .lawful) p K (i .few-workers) row h;
+      highest = ap (λ (x : State). x .highest) q ∙ row-highest T (i .lawful) p K (i .few-workers) row h;
       bounded = λ front rest d keeps.
           let within : (f z : List ℕ) → front ≡ f ++ z → memoryOf T K f ≤ limit T p K b =
           front-bound T (i .lawful) p K (i .some-worker) (i .few-workers) (i .within) front (front-workers (λ w. w < p) row front rest d h) b g keeps in

@@ -1,6 +1,6 @@
 -- The 1DF-numbers of actions: how they run along a thread, over a fork and to a join; and what lies between a fork and the action after it.
 use mathlib.Core.Path.{_≡_, refl, sym}
-use Prim.Native.Nat.{ℕ, zero, suc, _+_, _-_, _≤_, _<_}
+use Prim.Native.Nat.{ℕ, zero, suc, _-_, _<_}
 use mathlib.Core.List.{List, List·Memᴰ, List·Memᴰ·head, List·Memᴰ·tail, List·Memᴰ·cases-cons, List·Memᴰ·append-cases, List·Memᴰ·eq-of-singleton}
 use mathlib.Core.List.{Memᴰ·cast, Memᴰ·append-left, Memᴰ·append-right}
 use mathlib.Core.Bool.{Bool, true, false}
@@ -13,11 +13,11 @@ use Rattle.table.specs.Accepted.{ContentRules, BodyRules, NestRules, ForkRules}
 use Rattle.table.specs.Serial.{serial, serialOrder}
 use Rattle.table.specs.Level.{forkBelow, dependsOn}
 use Rattle.table.proofs.Tests.{is-true, fork-no-end}
-use Rattle.table.proofs.Bodies.{first-within, end-within, owner-first, owner-of-first, fork-above, fork-below, fork-later, next-within, next-owner}
+use Rattle.table.proofs.Bodies.{first-within, end-within, owner-of-first, fork-above, fork-below, fork-later, next-within, next-owner}
 use Rattle.table.proofs.Nesting.{fork-found}
 use Rattle.table.proofs.Serial.{child-within, serial-end, serial-fork, serial-step, serial-induction, serial-below, serial-length}
-use Rattle.table.proofs.Rank.{rest, rest-along, rest-pos, after, after-root, after-child}
-use Rattle.table.proofs.Rank.{rank, rank-rest, rank-root, rank-child, rank-fork, rank-step, rank-end, rank-rises, rank-bound}
+use Rattle.table.proofs.Rank.{after-child}
+use Rattle.table.proofs.Rank.{rank, rank-root, rank-child, rank-fork, rank-step, rank-end, rank-rises, rank-bound}
 use Rattle.table.proofs.Levels.{by-place, depends-earlier}
 use Rattle.schedule.specs.Sound.{numberOf}
 use Rattle.schedule.proofs.Lawful.{Lawful}
@@ -118,13 +118,6 @@ module _ (T : Table) (l : Lawful T) where
       next e a h j (inl o) = inl (cc (next-owner T c b e h j))
       next e a h j (inr (p, m)) = inr (p, next-inside e h j _ m)
 
-  -- the action after one in it is in it too
-  serial-on : (e : ℕ) → e < T .actions → (a : ℕ) → List·Memᴰ a (serial T e) → is end (kind T a) ≡ false → List·Memᴰ (suc a) (serial T e)
-  serial-on = inside-induction (λ e a. is end (kind T a) ≡ false → List·Memᴰ (suc a) (serial T e))
-      (λ e h j. next-inside e h j (suc e) (serial-self (suc e) (next-within T c b e h j)))
-      (λ e a h k p j. child-inside e h k (suc a) (p j))
-      (λ e a h i p j. next-inside e h i (suc a) (p j))
-
   -- ---- numbers
 
   serial-order : (a : ℕ) → a < T .actions → List·Memᴰ a (serialOrder T)
@@ -158,9 +151,6 @@ module _ (T : Table) (l : Lawful T) where
   pub number-once : (a d : ℕ) → a < T .actions → d < T .actions → numberOf T a ≡ numberOf T d → a ≡ d
   number-once a d h k e = cc (number-place a h, number-place d k)
 
-  pub number-root : numberOf T (T .first 0) ≡ 0
-  number-root = rw (number-rank (T .first 0) (first-within T c 0 (l .some-thread))) (rank-root T c b n f (l .some-thread))
-
   pub number-step : (a : ℕ) → a < T .actions → is end (kind T a) ≡ false → is fork (kind T a) ≡ false → numberOf T (suc a) ≡ suc (numberOf T a)
   number-step a h e k = rw (number-rank a h, number-rank (suc a) (next-within T c b a h e)) (rank-step T c b n f a h e k)
 
@@ -183,20 +173,11 @@ module _ (T : Table) (l : Lawful T) where
   pub number-rises : (a d : ℕ) → a < d → d < T .actions → owner T a ≡ owner T d → numberOf T a < numberOf T d
   number-rises a d h k o = rw (number-rank a (omega arith), number-rank d k) (rank-rises T c b n f a d h k o)
 
-  pub number-next : (a : ℕ) → a < T .actions → is end (kind T a) ≡ false → numberOf T a < numberOf T (suc a)
-  number-next a h e = number-rises a (suc a) (omega arith) (next-within T c b a h e) (sym (next-owner T c b a h e))
-
   -- whatever an action depends on has a lower number
   pub number-depends : (a d : ℕ) → a < T .actions → List·Memᴰ d (dependsOn T a) → (d < T .actions) × (numberOf T d < numberOf T a)
   number-depends a d h k =
       let (i, r) = depends-earlier T c b n f a h d k in
       (i, rw (number-rank a h, number-rank d i) r)
-
-  -- the root's end comes last
-  pub number-last : (a : ℕ) → a < T .actions → numberOf T a ≤ numberOf T (endOf T 0)
-  number-last a h =
-      let i : 0 < T .threads = l .some-thread in
-      omega (arith, number-below a h, number-rank (endOf T 0) (end-within T c 0 i), rank-end T c b n f 0 i, after-root T c b n f i, serial-length T c b n f i)
 
   -- ---- between a fork and the action after it: what stands in serial order from the forked thread's first action on
 
@@ -235,20 +216,3 @@ module _ (T : Table) (l : Lawful T) where
       go (inr (r, m)) =
           let (u, v) = inside-between x y h k m in
           inr (r, u, v)
-
-  -- all actions of a forked thread lie between the fork and the action after it
-  pub number-inside : (x a : ℕ) → x < T .actions → kind T x ≡ fork → a < T .actions → owner T a ≡ T .argument x
-      → (numberOf T x < numberOf T a) × (numberOf T a < numberOf T (suc x))
-  number-inside x a h k i o =
-      let t : ℕ = T .argument x in
-      let e : rank T a + rest T a ≡ after T t = rw o at (rank-rest T c b n f a i) in
-      let g : T .first t ≤ a = rw o at (owner-first T c a i) in
-      let r = rest-along T c b (a - T .first t) (T .first t) a (omega arith) i (cc (owner-of-first T c t (fork-below T c b x h k))) in
-      rw (number-rank x h, number-rank a i, number-rank (suc x) (next-within T c b x h (fork-no-end k)), rank-fork T c b n f x h k)
-      (omega (arith, after-child T c b n f x h k), omega (arith, after-child T c b n f x h k, rest-pos T c b a i))
-
-  -- the action after one that lies between them lies between them too
-  pub number-nested : (x a : ℕ) → x < T .actions → kind T x ≡ fork → a < T .actions → numberOf T x < numberOf T a → numberOf T a < numberOf T (suc x)
-      → is end (kind T a) ≡ false → numberOf T (suc a) < numberOf T (suc x)
-  number-nested x a h k i p q e =
-      inside-between x (suc a) h k (serial-on (T .first (T .argument x)) (child-within T c b x h k) a (between-inside x a h k i p q) e) .1

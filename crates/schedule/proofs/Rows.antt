@@ -12,7 +12,7 @@ use Rattle.table.proofs.Peaks.{greatest-map}
 use Rattle.schedule.specs.Machine.{State, turnOf}
 use Rattle.schedule.specs.Begin.{startState}
 use Rattle.schedule.specs.Memory.{rowState, replies, sumReplies, memoryOf, frontRows, peakMemory}
-use Rattle.schedule.proofs.Lawful.{Lawful, Within}
+use Rattle.schedule.proofs.Lawful.{Lawful}
 use Rattle.schedule.proofs.Facts.{Facts}
 use Rattle.schedule.proofs.Turns.{turn-facts}
 use Rattle.schedule.proofs.Starts.{start-facts, start-held}
@@ -58,12 +58,12 @@ rowState-append T K st (w ∷ front) rest = rowState-append T K (turnOf T K w st
 
 -- ---- rows
 
-module _ (T : Table) (l : Lawful T) (p K : ℕ) (few : p ≤ 16) (k : Within T K) where
+module _ (T : Table) (l : Lawful T) (p K : ℕ) (few : p ≤ 16) where
   pub row-facts : (st : State) → Facts T p K st → (row : List ℕ) → ((w : ℕ) → List·Memᴰ w row → w < p) → Facts T p K (rowState T K st row)
   unfolding rowState
   row-facts st f [] h = f
   row-facts st f (w ∷ row) h =
-      row-facts (turnOf T K w st .state) (turn-facts T l p K few k w (h w (List·Memᴰ·head refl)) st f) row (λ v m. h v (List·Memᴰ·tail m))
+      row-facts (turnOf T K w st .state) (turn-facts T l p K few w (h w (List·Memᴰ·head refl)) st f) row (λ v m. h v (List·Memᴰ·tail m))
 
   -- from any sound state
   row-amounts : (st : State) → Facts T p K st → (row : List ℕ) → ((w : ℕ) → List·Memᴰ w row → w < p)
@@ -73,7 +73,7 @@ module _ (T : Table) (l : Lawful T) (p K : ℕ) (few : p ≤ 16) (k : Within T K
   row-amounts st f (w ∷ row) h =
       let b : w < p = h w (List·Memᴰ·head refl) in
       let a : Amounts T st (turnOf T K w st) = turn-amounts T l p K few w b st f in
-      let g : Facts T p K (turnOf T K w st .state) = turn-facts T l p K few k w b st f in
+      let g : Facts T p K (turnOf T K w st .state) = turn-facts T l p K few w b st f in
       omega (arith, a .moves, row-amounts (turnOf T K w st .state) g row (λ v m. h v (List·Memᴰ·tail m)))
 
   row-tops : (st : State) → Facts T p K st → (row : List ℕ) → ((w : ℕ) → List·Memᴰ w row → w < p)
@@ -85,7 +85,7 @@ module _ (T : Table) (l : Lawful T) (p K : ℕ) (few : p ≤ 16) (k : Within T K
       let st′ : State = turnOf T K w st .state in
       let a : Amounts T st (turnOf T K w st) = turn-amounts T l p K few w b st f in
       let r : rowState T K st′ row .highest ≡ max (st′ .highest) (greatest (λ front. rowState T K st′ front .held) (frontRows row)) =
-      row-tops st′ (turn-facts T l p K few k w b st f) row (λ v m. h v (List·Memᴰ·tail m)) in
+      row-tops st′ (turn-facts T l p K few w b st f) row (λ v m. h v (List·Memᴰ·tail m)) in
       omega (
         arith,
         a .tops,

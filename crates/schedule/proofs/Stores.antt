@@ -75,4 +75,4 @@ module _ (r : Run) (h : Steady r) where
   unfolding stepRun
   moved-steady w b =
       stored-steady (turnOf (tableIn r) (r .quota) w (stateOf r) .state)
-      (turn-facts (tableIn r) steady-lawful (r .workers) (r .quota) (steady-fits .few-workers) (steady-fits .within) w b (stateOf r) steady-facts)
+      (turn-facts (tableIn r) steady-lawful (r .workers) (r .quota) (steady-fits .few-workers) w b (stateOf r) steady-facts)

@@ -16,7 +16,7 @@ use Rattle.table.proofs.Tests.{no-way}
 use Rattle.table.proofs.Bodies.{kind-known}
 use Rattle.schedule.specs.declared.Worker.{Worker}
 use Rattle.schedule.specs.Machine.{State, ready, waiting, ended, nextOf, statusOf, workerOf, nobody, withWorker, Stepped, actBy, act, leftmost, taken, turnFree, turnOf}
-use Rattle.schedule.proofs.Lawful.{Lawful, Within}
+use Rattle.schedule.proofs.Lawful.{Lawful}
 use Rattle.schedule.proofs.Facts.{Holding, Facts}
 use Rattle.schedule.proofs.Shares.{free-held}
 use Rattle.schedule.proofs.Holders.{rehung}
@@ -148,7 +148,7 @@ module _ (T : Table) (l : Lawful T) (p K : ℕ) (few : p ≤ 16) (w : ℕ) (belo
       let (m, r) = leftmost-ready (st .status) (st .list) (eqb-false i (length (st .list)) q) in
       act-facts (taken K w t st) (taken-facts T l p K few w below st f e t (f .list-below t m) r) (taken-holds K w t st (omega (arith, f .holding .worker-size))))
 
-module _ (T : Table) (l : Lawful T) (p K : ℕ) (few : p ≤ 16) (k : Within T K) where
+module _ (T : Table) (l : Lawful T) (p K : ℕ) (few : p ≤ 16) where
   pub turn-facts : (w : ℕ) → w < p → (st : State) → Facts T p K st → Facts T p K (turnOf T K w st .state)
   unfolding turnOf
   turn-facts w h st f =

@@ -6,7 +6,6 @@ use native.Mathlib.Omega.{arith}
 use native.Mathlib.Decide.{ℕ-discrete, decLt}
 use mathlib.Core.List.{List, [], _∷_, _++_, List·Memᴰ, List·Memᴰ·head, List·Memᴰ·tail, List·Memᴰ·not-nil, List·Memᴰ·cases-cons, Memᴰ·append-right}
 use mathlib.Core.Bool.{Bool, true, false, not, _&&_, _||_}
-use lib.ListN.{length, getD}
 use lib.Dec.{ltb, leb, eqb}
 use borrow.Author.Tests.{ltb-true, lt-ltb, le-ltb, leb-true, le-leb, eqb-true, eqb-false, eq-eqb, ne-eqb, not-true}
 use Rattle.table.specs.Sum.{pick, sumTo}
@@ -14,7 +13,7 @@ use Rattle.table.specs.declared.Found.{Found}
 use Rattle.table.specs.declared.Found.the-variants.{Nothing, At}
 use Rattle.table.proofs.Tests.{no-way}
 use Rattle.table.proofs.Sums.{sumTo-zero}
-use Rattle.schedule.specs.Sound.{allBelow, allIn, member, countBelow, agree, placeIn, risesFrom, rises, sameList, isNothing}
+use Rattle.schedule.specs.Sound.{allBelow, allIn, member, countBelow, agree, risesFrom, rises, sameList, isNothing}
 
 -- ---- tests and truth values
 
@@ -220,39 +219,6 @@ one-count f (suc k) o = go (f k) refl (one-count f k)
 
 pub countBelow-one : (f : ℕ → Bool) (k : ℕ) → (countBelow f k ≡ 1) ↔ One f k
 countBelow-one f k = (count-one f k, one-count f k)
-
--- ---- places in a list
-
-pub placeIn-below : (x : ℕ) (l : List ℕ) → List·Memᴰ x l → placeIn x l < length l
-unfolding placeIn
-placeIn-below x [] m = absurd (List·Memᴰ·not-nil m)
-placeIn-below x (y ∷ l) m = go (eqb x y) refl (List·Memᴰ·cases-cons m) (placeIn-below x l)
-  where
-    go : (t : Bool) → eqb x y ≡ t → (x ≡ y) ⊎ List·Memᴰ x l → (List·Memᴰ x l → placeIn x l < length l) → pick t 0 (suc (placeIn x l)) < suc (length l)
-    go true q p ih = omega arith
-    go false q (inl e) ih = absurd (eqb-false x y q e)
-    go false q (inr n) ih = omega (arith, ih n)
-
-pub placeIn-at : (x : ℕ) (l : List ℕ) (d : ℕ) → placeIn x l < length l → getD l (placeIn x l) d ≡ x
-unfolding placeIn
-placeIn-at x [] d h = no-way (omega arith)
-placeIn-at x (y ∷ l) d h = go (eqb x y) refl h (placeIn-at x l d)
-  where
-    go : (t : Bool) → eqb x y ≡ t → pick t 0 (suc (placeIn x l)) < suc (length l) → (placeIn x l < length l → getD l (placeIn x l) d ≡ x)
-        → getD (y ∷ l) (pick t 0 (suc (placeIn x l))) d ≡ x
-    go true q p ih = sym (eqb-true x y q)
-    go false q p ih = ih (omega arith)
-
--- the place is the first where it stands
-pub placeIn-first : (x : ℕ) (l : List ℕ) (i d : ℕ) → i < length l → getD l i d ≡ x → placeIn x l ≤ i
-unfolding placeIn
-placeIn-first x [] i d h e = no-way (omega arith)
-placeIn-first x (y ∷ l) zero d h e = rw (eq-eqb x y (sym e)) (omega arith)
-placeIn-first x (y ∷ l) (suc i) d h e = go (eqb x y) (placeIn-first x l i d (omega arith) e)
-  where
-    go : (t : Bool) → placeIn x l ≤ i → pick t 0 (suc (placeIn x l)) ≤ suc i
-    go true p = omega arith
-    go false p = omega arith
 
 -- ---- lists that rise
 
