@@ -1,7 +1,7 @@
 -- A thread goes on within its body: its next action, neither a fork nor an end, is done, and the state stays sound.
 use mathlib.Core.Path.{_≡_, refl, sym, _∙_}
 use Prim.Native.Nat.{ℕ, suc, _+_, _≤_, _<_}
-use mathlib.Core.List.{List, _∷_, _++_, List·Memᴰ·head, Memᴰ·append-left, Memᴰ·append-right}
+use mathlib.Core.List.{List}
 use mathlib.Core.Bool.{false}
 use native.Mathlib.Decide.{ℕ-discrete}
 use native.Mathlib.Omega.{arith}
@@ -16,11 +16,12 @@ use Rattle.schedule.specs.declared.Worker.{Worker}
 use Rattle.schedule.specs.Machine.{State, held, waiting, ended, nextOf, statusOf}
 use Rattle.schedule.specs.Sound.{numberOf, isDone}
 use Rattle.schedule.proofs.Lawful.{Lawful}
-use Rattle.schedule.proofs.Words.{ltb-next}
-use Rattle.schedule.proofs.Facts.{Rises, Holding, Facts}
+use Rattle.schedule.proofs.Words.{ltb-next, Ascends}
+use Rattle.schedule.proofs.Facts.{Holding, Facts}
 use Rattle.schedule.proofs.Numbers.{number-once, number-step}
 use Rattle.schedule.proofs.Undone.{undone, done-low, done-live, done-alike, next-below, owner-of-next, next-depends, Does, does-ordered, does-amount, does-fork}
 use Rattle.schedule.proofs.Lists.{set-each}
+use Rattle.schedule.proofs.ListMoves.{ascends-along}
 
 -- ---- going on
 
@@ -100,12 +101,8 @@ module _ (T : Table) (l : Lawful T) (p K : ℕ) (st : State) (f : Facts T p K st
       (λ y n i j q. q) y)
       x
 
-  gone-serial : Rises (λ u. numberOf T (nextOf (goneOn t ws h g st) u)) (st .list)
-  gone-serial front middle rest x y e =
-      gone-follows x y
-      (f .list-below x (rw e (Memᴰ·append-left (y ∷ rest) (Memᴰ·append-right front (List·Memᴰ·head refl)))))
-      (f .list-below y (rw e (Memᴰ·append-right (front ++ x ∷ middle) (List·Memᴰ·head refl))))
-      (f .serial front middle rest x y e)
+  gone-serial : Ascends (λ u. numberOf T (nextOf (goneOn t ws h g st) u)) (st .list)
+  gone-serial = ascends-along _ _ (st .list) (λ x y m n. gone-follows x y (f .list-below x m) (f .list-below y n)) (f .serial)
 
   pub gone-facts : Holding T p K (st .status) ws → h + freeOf T a ≡ st .held + allocOf T a → h ≤ g → Facts T p K (goneOn t ws h g st)
   gone-facts k e b =

@@ -17,7 +17,7 @@ use Rattle.schedule.specs.Sound.{numberOf, countBelow, isDone, isLive, s
 use Rattle.schedule.specs.Sound.{nextInBody, inOrder, statusFollows, listFollows, inSerialOrder, waitsAtJoin, holdsThread, oneHolder, workerRight, heldRight, unused}
 use Rattle.schedule.specs.Turn.{isNobody}
 use Rattle.schedule.proofs.Words.{not-exactly, leb-exactly, ltb-exactly, eqb-exactly, not-eqb-exactly, and-of, implies-of, agree-of, pick-of}
-use Rattle.schedule.proofs.Words.{allIn-exactly, member-exactly, rises-exactly, Rises, One, countBelow-one, countBelow-none}
+use Rattle.schedule.proofs.Words.{allIn-exactly, member-exactly, rises-exactly, Ascends, One, countBelow-one, countBelow-none}
 
 -- ---- the threads
 
@@ -39,7 +39,7 @@ module _ (T : Table) (st : State) where
       and-of (agree-of (eqb-exactly _ _) (and-of (ltb-exactly _ _) (not-exactly _)))
       (and-of (implies-of (eqb-exactly _ _) (eqb-exactly _ _)) (leb-exactly _ _))
 
-  pub inSerialOrder-exactly : (inSerialOrder T st ≡ true) ↔ Rises (λ t. numberOf T (nextOf st t)) (st .list)
+  pub inSerialOrder-exactly : (inSerialOrder T st ≡ true) ↔ Ascends (λ t. numberOf T (nextOf st t)) (st .list)
   unfolding inSerialOrder
   inSerialOrder-exactly = rises-exactly (λ t. numberOf T (nextOf st t)) (st .list)
 

@@ -23,7 +23,7 @@ use Rattle.schedule.proofs.Lawful.{Lawful}
 use Rattle.schedule.proofs.Numbers.{number-depends}
 use Rattle.schedule.proofs.Facts.{Facts}
 use Rattle.schedule.proofs.Moves.{taken-facts}
-use Rattle.schedule.proofs.ListMoves.{Ascends, rises-ascends}
+use Rattle.schedule.proofs.Words.{Ascends}
 use Rattle.schedule.proofs.Undone.{next-below}
 use Rattle.schedule.proofs.Releases.{Acting, acting}
 use Rattle.schedule.proofs.Turns.{leftmost-ready, taken-holds, act-facts}
@@ -150,7 +150,7 @@ module _ (T : Table) (l : Lawful T) (B : ℕ) (J : ℕ → ℕ) (st : State) whe
 
       lowest : (u : ℕ) → u < T .threads → statusOf st u ≡ ready → beginsBeyond T w st (nextOf st u) ≡ 0
       lowest u i r =
-          beyond-not T w st (nextOf st u) (leftmost-first (λ y. numberOf T (nextOf st y)) (st .status) (st .list) (rises-ascends _ (st .list) (f .serial)) u
+          beyond-not T w st (nextOf st u) (leftmost-first (λ y. numberOf T (nextOf st y)) (st .status) (st .list) (f .serial) u
           (f .live-listed u i (λ e. omega arith) (λ e. omega arith)) r)
 
       ready-after : (u : ℕ) → Enabled T (taken K w t st) u → statusOf (taken K w t st) u ≡ ready → Dec (u ≡ t)

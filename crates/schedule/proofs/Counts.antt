@@ -13,8 +13,8 @@ use Rattle.schedule.proofs.Totals.{sumTo-bound, sumTo-first}
 use Rattle.schedule.specs.declared.Worker.{Worker}
 use Rattle.schedule.specs.Machine.{nobody}
 use Rattle.schedule.specs.Record.{setOf}
-use Rattle.schedule.specs.Sound.{member, countBelow, rises}
-use Rattle.schedule.proofs.Words.{never-true, member-exactly, rises-tail, rises-head}
+use Rattle.schedule.specs.Sound.{member, countBelow}
+use Rattle.schedule.proofs.Words.{never-true, member-exactly, Ascends}
 
 pub count-bound : (f : ℕ → Bool) (k : ℕ) → countBelow f k ≤ k
 count-bound f k = omega (arith, sumTo-bound (λ i. pick (f i) 1 0) 1 k (λ i l. go (f i)))
@@ -33,13 +33,13 @@ member-more n x l h e =
     let before : _≡_ {A = ℕ} (pick (member x l) 1 0) 0 = rw e in
     omega (arith, sumTo-one (λ t. pick (member t (x ∷ l)) 1 0) (λ t. pick (member t l) 1 0) x n h (λ t i d. rw (ne-eqb t x d)))
 
--- of a list that rises they are as many as its length
-pub rising-count : (f : ℕ → ℕ) (n : ℕ) (l : List ℕ) → rises f l ≡ true → ((x : ℕ) → List·Memᴰ x l → x < n) → countBelow (λ t. member t l) n ≡ length l
-unfolding member
-rising-count f n [] e h = sumTo-zero (λ t. 0) n (λ t i. refl)
-rising-count f n (x ∷ l) e h =
-    let new : member x l ≡ false = never-true (member x l) (λ m. omega (arith, rises-head f x l e x (member-exactly x l .0 m))) in
-    omega (arith, member-more n x l (h x (List·Memᴰ·head refl)) new, rising-count f n l (rises-tail f x l e) (λ y m. h y (List·Memᴰ·tail m)))
+-- of a list along which f ascends they are as many as its length
+pub ascending-count : (f : ℕ → ℕ) (n : ℕ) (l : List ℕ) → Ascends f l → ((x : ℕ) → List·Memᴰ x l → x < n) → countBelow (λ t. member t l) n ≡ length l
+unfolding member Ascends
+ascending-count f n [] c h = sumTo-zero (λ t. 0) n (λ t i. refl)
+ascending-count f n (x ∷ l) c h =
+    let new : member x l ≡ false = never-true (member x l) (λ m. omega (arith, c .0 x (member-exactly x l .0 m))) in
+    omega (arith, member-more n x l (h x (List·Memᴰ·head refl)) new, ascending-count f n l (c .1) (λ y m. h y (List·Memᴰ·tail m)))
 
 -- ---- the set of workers
 

@@ -20,8 +20,9 @@ use Rattle.table.proofs.Nesting.{open-join, open-forked, fork-found}
 use Rattle.schedule.specs.Machine.{State, unborn, ready, held, waiting, ended, nextOf, statusOf, withStatus, withList, released, without, parentOf, waitsFor, woken, actBy}
 use Rattle.schedule.specs.Sound.{numberOf, isDone}
 use Rattle.schedule.proofs.Lawful.{Lawful}
-use Rattle.schedule.proofs.Facts.{Done, Rises, Facts}
-use Rattle.schedule.proofs.ListMoves.{Ascends, rises-ascends, ascends-rises, ascends-same, without-old, without-other, ascends-without, without-gone}
+use Rattle.schedule.proofs.Facts.{Done, Facts}
+use Rattle.schedule.proofs.Words.{Ascends}
+use Rattle.schedule.proofs.ListMoves.{ascends-same, without-old, without-other, ascends-without, without-gone}
 use Rattle.schedule.proofs.Undone.{done-low, done-last, done-same, owner-of-next, next-below, Does, does-ordered, does-amount, does-fork}
 use Rattle.schedule.proofs.Releases.{Acting, acting-depends, LetsGo, freed, released-holding}
 
@@ -182,9 +183,6 @@ module _ (T : Table) (l : Lawful T) (p K : ℕ) (w t a : ℕ) (st : State) (f : 
 
   -- ---- the list
 
-  placed : Ascends (λ u. numberOf T (nextOf st u)) (st .list)
-  placed = rises-ascends (λ (u : ℕ). numberOf T (nextOf st u)) (st .list) (f .serial)
-
   end-listed : (u : ℕ) → List·Memᴰ u (st' .list) → (u ≡ t → ⊥) × List·Memᴰ u (st .list)
   end-listed u i = (gone, without-old t u (st .list) j)
     where
@@ -192,7 +190,7 @@ module _ (T : Table) (l : Lawful T) (p K : ℕ) (w t a : ℕ) (st : State) (f : 
       j = rw (m .list-is) at i
 
       gone : u ≡ t → ⊥
-      gone e = without-gone (λ (v : ℕ). numberOf T (nextOf st v)) t (st .list) placed (rw e at j)
+      gone e = without-gone (λ (v : ℕ). numberOf T (nextOf st v)) t (st .list) (f .serial) (rw e at j)
 
   -- a status that no listed thread had, and that is not ready, none has
   end-none : (s : ℕ) → (s ≡ ready → ⊥) → ((u : ℕ) → List·Memᴰ u (st .list) → statusOf st u ≡ s → ⊥)
@@ -205,10 +203,9 @@ module _ (T : Table) (l : Lawful T) (p K : ℕ) (w t a : ℕ) (st : State) (f : 
       rw (m .list-is)
       (without-other t u (st .list) i (f .live-listed u h (λ r. n (forth unborn (λ j. omega arith) u i r)) (λ r. o (forth ended (λ j. omega arith) u i r))))
 
-  end-serial : Rises (λ u. numberOf T (nextOf st' u)) (st' .list)
+  end-serial : Ascends (λ u. numberOf T (nextOf st' u)) (st' .list)
   end-serial =
-      ascends-rises after (st' .list)
-      (ascends-same before after (st' .list) (λ u i. rw (m .next-same)) (rw (m .list-is) (ascends-without before t (st .list) placed)))
+      ascends-same before after (st' .list) (λ u i. rw (m .next-same)) (rw (m .list-is) (ascends-without before t (st .list) (f .serial)))
     where
       before : ℕ → ℕ
       before u = numberOf T (nextOf st u)

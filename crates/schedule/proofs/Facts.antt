@@ -16,10 +16,9 @@ use Rattle.schedule.specs.declared.Worker.{Worker}
 use Rattle.schedule.specs.Machine.{State, unborn, held, waiting, ended, nextOf, statusOf, workerOf, nobody}
 use Rattle.schedule.specs.Sound.{numberOf, isDone, holdsThread, sumDone, SoundState}
 use Rattle.schedule.proofs.Lawful.{Lawful}
-use Rattle.schedule.proofs.Words.{not-both, never-true, allIn-exactly, One}
+use Rattle.schedule.proofs.Words.{not-both, never-true, allIn-exactly, One, Ascends}
 use Rattle.schedule.proofs.Clauses.{nextInBody-exactly, inOrder-exactly, statusFollows-exactly, listFollows-exactly, inSerialOrder-exactly, waitsAtJoin-exactly}
 use Rattle.schedule.proofs.Clauses.{heldRight-exactly, unused-exactly, holdsThread-exactly, oneHolder-exactly, workerRight-exactly}
-pub use Rattle.schedule.proofs.Words.{Rises}
 
 -- action a is done
 abbrev pub Done : Table → State → ℕ → Type 0
@@ -56,7 +55,7 @@ pub record Facts (T : Table) (p K : ℕ) (st : State) : Type 0 where
   pub list-born : (t : ℕ) → List·Memᴰ t (st .list) → statusOf st t ≡ unborn → ⊥
   pub list-unended : (t : ℕ) → List·Memᴰ t (st .list) → statusOf st t ≡ ended → ⊥
   pub live-listed : (t : ℕ) → t < T .threads → (statusOf st t ≡ unborn → ⊥) → (statusOf st t ≡ ended → ⊥) → List·Memᴰ t (st .list)
-  pub serial : Rises (λ t. numberOf T (nextOf st t)) (st .list)
+  pub serial : Ascends (λ t. numberOf T (nextOf st t)) (st .list)
   -- waiting
   pub wait-join : (t : ℕ) → t < T .threads → statusOf st t ≡ waiting → kind T (nextOf st t) ≡ join
   pub wait-open : (t : ℕ) → t < T .threads → statusOf st t ≡ waiting → statusOf st (T .argument (nextOf st t)) ≡ ended → ⊥

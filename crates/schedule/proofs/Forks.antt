@@ -17,10 +17,10 @@ use Rattle.table.proofs.Nesting.{fork-found}
 use Rattle.schedule.specs.Machine.{State, unborn, ready, held, waiting, ended, nextOf, statusOf, leftOf, actBy}
 use Rattle.schedule.specs.Sound.{numberOf, isDone}
 use Rattle.schedule.proofs.Lawful.{Lawful}
-use Rattle.schedule.proofs.Words.{ltb-next}
+use Rattle.schedule.proofs.Words.{ltb-next, Ascends}
 use Rattle.schedule.proofs.Numbers.{number-once, number-child, number-past}
-use Rattle.schedule.proofs.Facts.{Done, Rises, Facts}
-use Rattle.schedule.proofs.ListMoves.{rises-ascends, ascends-rises, leftOf-new, leftOf-old, leftOf-cases, ascends-leftOf}
+use Rattle.schedule.proofs.Facts.{Done, Facts}
+use Rattle.schedule.proofs.ListMoves.{leftOf-new, leftOf-old, leftOf-cases, ascends-leftOf}
 use Rattle.schedule.proofs.Undone.{done-low, done-live, done-same, owner-of-next, next-below, unborn-first, undone-unborn, between-unborn, Does, does-ordered, does-amount, does-fork, number-first}
 use Rattle.schedule.proofs.Releases.{Acting, acting-depends, LetsGo, freed, released-holding}
 
@@ -185,8 +185,8 @@ module _ (T : Table) (l : Lawful T) (p K : ℕ) (w t a c : ℕ) (st : State) (f 
           let q : statusOf st' u ≡ statusOf st u = m .status-other u i j in
           leftOf-old c t u (st .list) (f .live-listed u h (λ r. n (q ∙ r)) (λ r. o (q ∙ r)))
 
-  fork-serial : Rises (λ u. numberOf T (nextOf st' u)) (st' .list)
-  fork-serial = ascends-rises after (st' .list) (rw (m .list-is) (ascends-leftOf before after c t up past (st .list) same beyond listed (rises-ascends before (st .list) (f .serial))))
+  fork-serial : Ascends (λ u. numberOf T (nextOf st' u)) (st' .list)
+  fork-serial = rw (m .list-is) (ascends-leftOf before after c t up past (st .list) same beyond listed (f .serial))
     where
       before : ℕ → ℕ
       before u = numberOf T (nextOf st u)

@@ -17,7 +17,7 @@ use Rattle.schedule.specs.Sound.{numberOf, isDone}
 use Rattle.schedule.proofs.Lawful.{Lawful}
 use Rattle.schedule.proofs.Facts.{Done, Facts}
 use Rattle.schedule.proofs.Numbers.{number-rises, number-child, number-depends}
-use Rattle.schedule.proofs.ListMoves.{Ascends, rises-ascends}
+use Rattle.schedule.proofs.Words.{Ascends}
 use Rattle.schedule.proofs.Undone.{done-low, undone, done-ended, ended-all, number-first, next-below, owner-of-next}
 use Rattle.schedule.proofs.Batches.{Enabled}
 use Rattle.schedule.proofs.Depth.{join-depends, by-joins}
@@ -101,7 +101,7 @@ module _ (T : Table) (l : Lawful T) (p K : ℕ) (st : State) (f : Facts T p K st
       where
         go : (u ≡ t) ⊎ List·Memᴰ u others → numberOf T (nextOf st t) ≤ numberOf T (nextOf st u)
         go (inl e) = rw e (omega arith)
-        go (inr i) = omega (arith, (rw leftmost at (rises-ascends (λ y. numberOf T (nextOf st y)) (st .list) (f .serial))) .0 u i)
+        go (inr i) = omega (arith, (rw leftmost at (f .serial)) .0 u i)
 
     leftmost-listed : List·Memᴰ t (st .list)
     leftmost-listed = rw leftmost (List·Memᴰ·head refl)

@@ -1,7 +1,7 @@
--- The thread list after a fork and after an end: what stands in it, and that it still rises.
+-- The thread list after a fork and after an end: what stands in it, and that it still ascends.
 use mathlib.Core.Path.{_≡_, refl, sym, _∙_}
 use Prim.Native.Nat.{ℕ, _<_}
-use mathlib.Core.List.{List, [], _∷_, _++_, Memᴰ·append-right}
+use mathlib.Core.List.{List, [], _∷_}
 use mathlib.Core.List.{List·Memᴰ, List·Memᴰ·head, List·Memᴰ·tail, List·Memᴰ·not-nil, List·Memᴰ·cases-cons}
 use mathlib.Core.Bool.{Bool, true, false}
 use mathlib.Core.Logic.{_⊎_, inl, inr}
@@ -10,53 +10,18 @@ use native.Mathlib.Omega.{arith}
 use lib.Dec.{eqb}
 use borrow.Author.Tests.{eqb-true, eqb-false}
 use Rattle.table.specs.Sum.{pick}
-use Rattle.table.proofs.Tests.{no-way}
 use Rattle.schedule.specs.Machine.{leftOf, without}
-use Rattle.schedule.proofs.Facts.{Rises}
+use Rattle.schedule.proofs.Words.{Ascends}
 
--- ---- rising, element by element
-
--- every element is below all that stand right of it
-unfoldable pub Ascends : (ℕ → ℕ) → List ℕ → Type 0
-Ascends f [] = Unit {0}
-Ascends f (x ∷ l) = ((y : ℕ) → List·Memᴰ y l → f x < f y) × Ascends f l
-
--- an element splits its list
-split : (y : ℕ) (l : List ℕ) → List·Memᴰ y l → (front : List ℕ) × (rest : List ℕ) × (l ≡ front ++ y ∷ rest)
-split y [] m = absurd (List·Memᴰ·not-nil m)
-split y (x ∷ l) m = go (λ (i : List·Memᴰ y l). split y l i) (List·Memᴰ·cases-cons m)
-  where
-    go : (List·Memᴰ y l → (front : List ℕ) × (rest : List ℕ) × (l ≡ front ++ y ∷ rest)) → (y ≡ x) ⊎ List·Memᴰ y l
-        → (front : List ℕ) × (rest : List ℕ) × (x ∷ l ≡ front ++ y ∷ rest)
-    go ih (inl e) = ([], l, cc)
-    go ih (inr i) =
-        let (front, rest, e) = ih i in
-        (x ∷ front, rest, cc)
-
-pub rises-ascends : (f : ℕ → ℕ) (l : List ℕ) → Rises f l → Ascends f l
+-- where g keeps the order of f, it ascends too
+pub ascends-along : (f g : ℕ → ℕ) (l : List ℕ) → ((x y : ℕ) → List·Memᴰ x l → List·Memᴰ y l → f x < f y → g x < g y) → Ascends f l → Ascends g l
 unfolding Ascends
-rises-ascends f [] r = tt
-rises-ascends f (x ∷ l) r = (λ y m. above y (split y l m), rises-ascends f l (λ front middle rest u v e. r (x ∷ front) middle rest u v cc))
-  where
-    above : (y : ℕ) → (front : List ℕ) × (rest : List ℕ) × (l ≡ front ++ y ∷ rest) → f x < f y
-    above y (front, rest, e) = r [] front rest x y cc
-
-pub ascends-rises : (f : ℕ → ℕ) (l : List ℕ) → Ascends f l → Rises f l
-unfolding Ascends
-ascends-rises f [] c [] middle rest x y e = no-way cc
-ascends-rises f [] c (z ∷ front) middle rest x y e = no-way cc
-ascends-rises f (u ∷ l) c [] middle rest x y e =
-    let p : u ≡ x = cc in
-    let q : l ≡ middle ++ y ∷ rest = cc in
-    let m : List·Memᴰ y l = rw q (Memᴰ·append-right middle (List·Memᴰ·head refl)) in
-    rw (← p) (c .0 y m)
-ascends-rises f (u ∷ l) c (z ∷ front) middle rest x y e = ascends-rises f l (c .1) front middle rest x y cc
+ascends-along f g [] e c = tt
+ascends-along f g (x ∷ l) e c =
+    (λ y m. e x y (List·Memᴰ·head refl) (List·Memᴰ·tail m) (c .0 y m), ascends-along f g l (λ u v m n. e u v (List·Memᴰ·tail m) (List·Memᴰ·tail n)) (c .1))
 
 pub ascends-same : (f g : ℕ → ℕ) (l : List ℕ) → ((u : ℕ) → List·Memᴰ u l → g u ≡ f u) → Ascends f l → Ascends g l
-unfolding Ascends
-ascends-same f g [] e c = tt
-ascends-same f g (x ∷ l) e c =
-    (λ y m. omega (arith, c .0 y m, e x (List·Memᴰ·head refl), e y (List·Memᴰ·tail m)), ascends-same f g l (λ u m. e u (List·Memᴰ·tail m)) (c .1))
+ascends-same f g l e = ascends-along f g l (λ x y m n h. omega (arith, e x m, e y n))
 
 -- ---- one more thread
 

@@ -2,18 +2,18 @@
 use mathlib.Core.Path.{_≡_, refl, sym, _∙_, ap}
 use Prim.Native.Nat.{ℕ, zero, suc, _+_, _-_, _≤_, _<_}
 use mathlib.Core.List.{List·Memᴰ}
-use mathlib.Core.Bool.{Bool, true, false, _&&_, _||_}
+use mathlib.Core.Bool.{Bool, true, false, _&&_}
 use lib.Dec.{ltb, eqb}
 use native.Mathlib.Omega.{arith}
 use native.Mathlib.Decide.{ℕ-discrete, decLt}
 use borrow.Author.Tests.{lt-ltb, le-ltb, eqb-true, eq-eqb, ne-eqb}
 use Rattle.table.specs.Sum.{pick, sumTo, anyBelow}
 use Rattle.table.specs.Format.{free, join, codeOf, is, Table, kind}
-use Rattle.table.specs.Rules.{endOf, countsBelow, allocOf, freeOf, withChild, whole, partOf}
+use Rattle.table.specs.Rules.{owner, endOf, countsBelow, allocOf, freeOf, withChild, whole, partOf}
 use Rattle.table.specs.Level.{dependsOn}
 use Rattle.table.proofs.Tests.{and-both, is-true}
 use Rattle.table.proofs.Sums.{sumTo-cong}
-use Rattle.table.proofs.Bodies.{first-is, counts-all, after-end, owner-at, join-below}
+use Rattle.table.proofs.Bodies.{end-within, first-is, counts-all, after-end, owner-at, join-below}
 use Rattle.table.proofs.Nesting.{anyBelow-true}
 use Rattle.table.proofs.Amounts.{whole-is}
 use Rattle.table.proofs.Peaks.{part-held}
@@ -21,9 +21,9 @@ use Rattle.schedule.specs.Machine.{State, ended, nextOf, statusOf}
 use Rattle.schedule.specs.Sound.{isDone, ofDone, sumDone}
 use Rattle.schedule.proofs.Lawful.{Lawful}
 use Rattle.schedule.proofs.Facts.{Facts}
-use Rattle.schedule.proofs.Undone.{done-ended}
+use Rattle.schedule.proofs.Undone.{done-low, undone, done-ended, ended-all}
 use Rattle.schedule.proofs.Depth.{join-depends}
-use Rattle.schedule.proofs.Totals.{and-no, sumTo-term, sumTo-add, sumTo-append, sumTo-front, sum-targets}
+use Rattle.schedule.proofs.Totals.{sumTo-term, sumTo-add, sumTo-append, sumTo-front, sum-targets}
 use Rattle.schedule.proofs.Joins.{joins-one}
 
 -- how many actions of thread t are done
@@ -66,24 +66,20 @@ module _ (T : Table) (l : Lawful T) (p K : ℕ) (st : State) (f : Facts T p K st
 
   -- the actions done of a thread are those below its progress
   pub done-at : (t i : ℕ) → t < T .threads → i < T .count t → isDone T st (T .first t + i) ≡ ltb i (progress T st t)
-  unfolding isDone
-  done-at t i h k = rw (owner-at T (l .contents) t i h k) (go (ℕ-discrete (statusOf st t) ended) (decLt a next))
+  done-at t i h k = go (ℕ-discrete (statusOf st t) ended) (decLt i (progress T st t))
     where
       a : ℕ
       a = T .first t + i
 
-      next : ℕ
-      next = nextOf st t
+      own : owner T a ≡ t
+      own = owner-at T (l .contents) t i h k
 
-      go : Dec (statusOf st t ≡ ended) → Dec (a < next) → (ltb a next || (eqb a next && eqb (statusOf st t) ended)) ≡ ltb i (progress T st t)
-      go (yes e) (yes q) = rw (lt-ltb a next q, progress-ended t e, lt-ltb i (T .count t) k)
-      go (yes e) (no q) =
-          let same : a ≡ next = omega (arith, q, f .ended-last t h e, after-end T (l .contents) t h) in
-          rw (le-ltb a next (omega arith), eq-eqb a next same, eq-eqb (statusOf st t) ended e, progress-ended t e, lt-ltb i (T .count t) k)
-      go (no e) (yes q) = rw (lt-ltb a next q, lt-ltb i (progress T st t) (omega (arith, progress-next t h e)))
-      go (no e) (no q) =
-          let past : next ≤ a = omega (arith, q) in
-          rw (le-ltb a next past, ne-eqb (statusOf st t) ended e, le-ltb i (progress T st t) (omega (arith, progress-next t h e))) (and-no (eqb a next) false refl)
+      go : Dec (statusOf st t ≡ ended) → Dec (i < progress T st t) → isDone T st a ≡ ltb i (progress T st t)
+      go (yes e) q =
+          ended-all T l p K st f a (omega (arith, end-within T (l .contents) t h, after-end T (l .contents) t h)) (rw own e)
+          ∙ sym (rw (progress-ended t e) (lt-ltb i (T .count t) k))
+      go (no e) (yes q) = done-low T st a (rw own (omega (arith, progress-next t h e))) ∙ sym (lt-ltb i (progress T st t) q)
+      go (no e) (no q) = undone T st a (rw own (omega (arith, progress-next t h e, q))) (rw own e) ∙ sym (le-ltb i (progress T st t) (omega (arith, q)))
 
   -- a joined thread has ended: its join depends on its end
   pub joined-ended : (t : ℕ) → t < T .threads → isJoined T st t ≡ true → statusOf st t ≡ ended

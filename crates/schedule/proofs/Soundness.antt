@@ -15,7 +15,7 @@ use Rattle.table.specs.Rules.{allocOf}
 use Rattle.schedule.specs.declared.Run.{Run}
 use Rattle.schedule.specs.Machine.{ready, held, ended, nextOf, statusOf, workerOf}
 use Rattle.schedule.specs.Record.{stateOf, tableIn}
-use Rattle.schedule.specs.Sound.{Steady, member, countBelow, isDone, ofDone, inSerialOrder, numberOf}
+use Rattle.schedule.specs.Sound.{Steady, member, countBelow, isDone, ofDone, numberOf}
 use Rattle.schedule.specs.Turn.{rootEnded}
 use Rattle.schedule.proofs.Facts.{Facts}
 use Rattle.schedule.proofs.Words.{never-true, member-exactly}
@@ -23,14 +23,13 @@ use Rattle.schedule.proofs.Shares.{share, held-shares, free-held}
 use Rattle.schedule.proofs.Stores.{steady-lawful, steady-fits, steady-facts}
 use Rattle.schedule.proofs.Leftmost.{leftmost-enabled}
 use Rattle.schedule.proofs.Totals.{sumTo-bound}
-use Rattle.schedule.proofs.Counts.{count-bound, member-more, rising-count, set-ones}
+use Rattle.schedule.proofs.Counts.{count-bound, member-more, ascending-count, set-ones}
 
 module _ (r : Run) (h : Steady r) where
   -- the threads in the list, counted
   list-count : countBelow (λ t. member t (stateOf r .list)) (tableIn r .threads) ≡ length (stateOf r .list)
-  unfolding inSerialOrder
   list-count =
-      rising-count (λ t. numberOf (tableIn r) (nextOf (stateOf r) t)) (tableIn r .threads) (stateOf r .list) (h .state .serial) (steady-facts r h .list-below)
+      ascending-count (λ t. numberOf (tableIn r) (nextOf (stateOf r) t)) (tableIn r .threads) (stateOf r .list) (steady-facts r h .serial) (steady-facts r h .list-below)
 
   -- the list has room for every thread of the table
   pub list-short : length (stateOf r .list) ≤ tableIn r .threads

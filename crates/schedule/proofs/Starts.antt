@@ -2,9 +2,9 @@
 use mathlib.Core.Path.{_≡_, refl, ap, _∙_}
 use Prim.Native.Nat.{ℕ, zero, suc, _+_, _≤_, _<_}
 use native.Mathlib.Omega.{arith}
-use mathlib.Core.List.{[], _∷_, List·Memᴰ, List·Memᴰ·head, List·Memᴰ·eq-of-singleton}
-use mathlib.Core.Bool.{Bool, true, false, _&&_}
-use lib.ListN.{length, getD, set, replicate, length-set, length-replicate, List·getD-eq-default, length-append}
+use mathlib.Core.List.{List·Memᴰ, List·Memᴰ·not-nil, List·Memᴰ·head, List·Memᴰ·eq-of-singleton}
+use mathlib.Core.Bool.{true, false, and-false}
+use lib.ListN.{length, getD, set, replicate, length-set, length-replicate, List·getD-eq-default}
 use lib.Dec.{ltb, eqb}
 use borrow.Author.Tests.{le-ltb, ne-eqb}
 use Rattle.table.specs.Format.{Table}
@@ -20,7 +20,8 @@ use Rattle.schedule.specs.Record.{maxThreads, maxWorkers}
 use Rattle.schedule.specs.Begin.{firsts, startState}
 use Rattle.schedule.specs.Sound.{numberOf, isDone, sumDone, ofDone}
 use Rattle.schedule.proofs.Lawful.{Lawful}
-use Rattle.schedule.proofs.Facts.{Facts, Rises}
+use Rattle.schedule.proofs.Facts.{Facts}
+use Rattle.schedule.proofs.Words.{Ascends}
 use Rattle.schedule.proofs.Lists.{getD-alike, filled-at, filled-length, firsts-length, firsts-at}
 
 -- the statuses of a beginning, whatever the size
@@ -28,14 +29,6 @@ first-status : (n t : ℕ) → 0 < t → getD (set (replicate n 0) 0 ready) t 0 
 first-status zero t h = refl
 first-status (suc n) zero h = absurd (omega arith)
 first-status (suc n) (suc t) h = getD-alike n t 0
-
-and-false : (t : Bool) → (t && false) ≡ false
-and-false true = refl
-and-false false = refl
-
--- a list of one element has no two in order
-one-rises : (f : ℕ → ℕ) (z : ℕ) → Rises f (z ∷ [])
-one-rises f z front middle rest x y e = absurd (omega (arith, simp length-append at (ap length e)))
 
 module _ (T : Table) (l : Lawful T) where
   pub start-next : (t : ℕ) → t < T .threads → nextOf (startState T) t ≡ T .first t
@@ -103,9 +96,9 @@ module _ (T : Table) (l : Lawful T) where
       let n : length (firsts (T .first) 0 (T .threads)) ≤ maxThreads = omega (arith, firsts-length (T .first) 0 (T .threads), l .few-threads) in
       (filled-length maxThreads (firsts (T .first) 0 (T .threads)) n, length-set (replicate maxThreads 0) 0 ready ∙ length-replicate {A = ℕ} maxThreads 0, length-replicate maxWorkers nobody)
 
-  start-serial : Rises (λ t. numberOf T (nextOf (startState T) t)) (startState T .list)
-  unfolding startState
-  start-serial = one-rises (λ t. numberOf T (nextOf (startState T) t)) 0
+  start-serial : Ascends (λ t. numberOf T (nextOf (startState T) t)) (startState T .list)
+  unfolding startState Ascends
+  start-serial = (λ y m. absurd (List·Memᴰ·not-nil m), tt)
 
   pub start-held : (startState T .held ≡ 0) × (startState T .highest ≡ 0)
   unfolding startState

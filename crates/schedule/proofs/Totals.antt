@@ -1,7 +1,7 @@
 -- Laws of sums that runs use: sums under a bound, sums that add up term by term, sums over parts laid end to end, and a sum over sources read as one over their targets.
 use mathlib.Core.Path.{_≡_, refl, sym}
 use Prim.Native.Nat.{ℕ, zero, suc, _+_, _*_, _≤_, _<_}
-use mathlib.Core.Bool.{Bool, true, false, _&&_}
+use mathlib.Core.Bool.{Bool, true, false, _&&_, and-false}
 use lib.Dec.{ltb, eqb}
 use native.Mathlib.Omega.{arith}
 use native.Mathlib.Nat.{add-suc, add-zero, mul-suc}
@@ -56,11 +56,6 @@ sumTo-front f k (suc l) h = go (sumTo-front f k l) (decLt l k)
 abbrev pub one : ℕ → ℕ → ℕ
 one c x = pick (eqb x c) 1 0
 
--- a test with one that fails
-pub and-no : (s t : Bool) → t ≡ false → (s && t) ≡ false
-and-no true t e = e
-and-no false t e = refl
-
 -- Sources, each with a target below n, no two with the same; some of them are chosen. The weights of the chosen sources' targets are those of the targets of chosen sources.
 module _ (source chosen : ℕ → Bool) (target weight : ℕ → ℕ) (n : ℕ) where
   -- source a is chosen, with target c
@@ -105,7 +100,7 @@ module _ (source chosen : ℕ → Bool) (target weight : ℕ → ℕ) (n : ℕ) 
       go : (s t : Bool) → source m ≡ s → chosen m ≡ t → S ≡ sumTo (W m) n → S + pick t (pick s (weight (target m)) 0) 0 ≡ sumTo (W (suc m)) n
       go false false p q ih = omega (arith, sumTo-cong (W m) (W (suc m)) n (λ c i. same c (rw p)))
       go false true p q ih = omega (arith, sumTo-cong (W m) (W (suc m)) n (λ c i. same c (rw p)))
-      go true false p q ih = omega (arith, sumTo-cong (W m) (W (suc m)) n (λ c i. same c (rw (p, q) (and-no (eqb (target m) c) false refl))))
+      go true false p q ih = omega (arith, sumTo-cong (W m) (W (suc m)) n (λ c i. same c (rw (p, q) (and-false (eqb (target m) c)))))
       go true true p q ih =
           let t : ℕ = target m in
           let old : W m t ≡ 0 = rw (target-new m p (k t)) in

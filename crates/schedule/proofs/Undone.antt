@@ -3,7 +3,7 @@
 use mathlib.Core.Path.{_≡_, refl, sym, _∙_}
 use Prim.Native.Nat.{ℕ, zero, suc, _+_, _≤_, _<_}
 use mathlib.Core.List.{[], _∷_, List·Memᴰ, List·Memᴰ·head, List·Memᴰ·not-nil, List·Memᴰ·cases-cons, List·Memᴰ·eq-of-singleton}
-use mathlib.Core.Bool.{Bool, true, false, _&&_, _||_, and-false, or-false}
+use mathlib.Core.Bool.{Bool, true, false, and-false, or-false}
 use mathlib.Core.Logic.{_⊎_, inl, inr, ⊎-elim}
 use native.Mathlib.Decide.{ℕ-discrete, decLt}
 use native.Mathlib.Omega.{arith}
@@ -20,6 +20,7 @@ use Rattle.table.proofs.Levels.{depends-step, depends-join, depends-root, depen
 use Rattle.schedule.specs.Machine.{State, unborn, ended, nextOf, statusOf}
 use Rattle.schedule.specs.Sound.{numberOf, isDone, ofDone, sumDone}
 use Rattle.schedule.proofs.Lawful.{Lawful}
+use Rattle.schedule.proofs.Words.{or-exactly}
 use Rattle.schedule.proofs.Numbers.{number-child, number-rises, number-between}
 use Rattle.schedule.proofs.Facts.{Done, Facts}
 
@@ -59,19 +60,12 @@ module _ (T : Table) (st : State) (d : ℕ) where
   -- it stands before its thread's next action, or the thread has ended with it
   pub done-where : Done T st d → (d < nextOf st (owner T d)) ⊎ ((d ≡ nextOf st (owner T d)) × (statusOf st (owner T d) ≡ ended))
   unfolding isDone
-  done-where e = go (ltb d next) refl e
-    where
-      next : ℕ
-      next = nextOf st (owner T d)
-
-      status : ℕ
-      status = statusOf st (owner T d)
-
-      go : (q : Bool) → ltb d next ≡ q → (q || (eqb d next && eqb status ended)) ≡ true → (d < next) ⊎ ((d ≡ next) × (status ≡ ended))
-      go true i j = inl (ltb-true d next i)
-      go false i j =
-          let (p, q) = and-both (eqb d next) (eqb status ended) j in
-          inr (eqb-true d next p, eqb-true status ended q)
+  done-where e =
+      ⊎-elim (λ q. inl (ltb-true d (nextOf st (owner T d)) q))
+      (λ q.
+      let (i, j) = and-both (eqb d (nextOf st (owner T d))) (eqb (statusOf st (owner T d)) ended) q in
+      inr (eqb-true d (nextOf st (owner T d)) i, eqb-true (statusOf st (owner T d)) ended j))
+      (or-exactly _ _ .0 e)
 
   -- with the thread's next action and its being ended the same, the same is done
   pub done-alike : (st' : State) → nextOf st' (owner T d) ≡ nextOf st (owner T d) → eqb (statusOf st' (owner T d)) ended ≡ eqb (statusOf st (owner T d)) ended

@@ -1,10 +1,10 @@
 -- The words in which the tests of a record are written: of each word, what it says when it is true.
-use mathlib.Core.Path.{_≡_, refl, sym, ap, _∙_}
+use mathlib.Core.Path.{_≡_, refl, sym, _∙_}
 use mathlib.Core.Logic.{_↔_, Iff·trans, Iff·and, _⊎_, inl, inr, ⊎-elim}
 use Prim.Native.Nat.{ℕ, zero, suc, _+_, _≤_, _<_}
 use native.Mathlib.Omega.{arith}
 use native.Mathlib.Decide.{ℕ-discrete, decLt}
-use mathlib.Core.List.{List, [], _∷_, _++_, List·Memᴰ, List·Memᴰ·head, List·Memᴰ·tail, List·Memᴰ·not-nil, List·Memᴰ·cases-cons, Memᴰ·append-right}
+use mathlib.Core.List.{List, [], _∷_, List·Memᴰ, List·Memᴰ·head, List·Memᴰ·tail, List·Memᴰ·not-nil, List·Memᴰ·cases-cons}
 use mathlib.Core.Bool.{Bool, true, false, not, _&&_, _||_}
 use lib.Dec.{ltb, leb, eqb}
 use borrow.Author.Tests.{ltb-true, lt-ltb, le-ltb, leb-true, le-leb, eqb-true, eqb-false, eq-eqb, ne-eqb, not-true}
@@ -222,18 +222,19 @@ countBelow-one f k = (count-one f k, one-count f k)
 
 -- ---- lists that rise
 
--- a list rises in f: of two elements the left one has the lower value
-abbrev pub Rises : (ℕ → ℕ) → List ℕ → Type 0
-Rises f l = (front middle rest : List ℕ) (x y : ℕ) → l ≡ front ++ x ∷ middle ++ y ∷ rest → f x < f y
+-- f ascends along a list: at every element it is lower than at all that stand right of it
+unfoldable pub Ascends : (ℕ → ℕ) → List ℕ → Type 0
+Ascends f [] = Unit {0}
+Ascends f (x ∷ l) = ((y : ℕ) → List·Memᴰ y l → f x < f y) × Ascends f l
 
 module _ (f : ℕ → ℕ) where
-  pub rises-tail : (x : ℕ) (l : List ℕ) → rises f (x ∷ l) ≡ true → rises f l ≡ true
+  rises-tail : (x : ℕ) (l : List ℕ) → rises f (x ∷ l) ≡ true → rises f l ≡ true
   unfolding rises
   rises-tail x [] e = refl
   rises-tail x (y ∷ l) e = and-exactly (ltb (f x) (f y)) (risesFrom f y l) .0 e .1
 
   -- the first is the lowest
-  pub rises-head : (x : ℕ) (l : List ℕ) → rises f (x ∷ l) ≡ true → (y : ℕ) → List·Memᴰ y l → f x < f y
+  rises-head : (x : ℕ) (l : List ℕ) → rises f (x ∷ l) ≡ true → (y : ℕ) → List·Memᴰ y l → f x < f y
   unfolding rises
   rises-head x [] e y m = absurd (List·Memᴰ·not-nil m)
   rises-head x (z ∷ l) e y m =
@@ -244,23 +245,17 @@ module _ (f : ℕ → ℕ) where
       go h ih (inl d) = rw d h
       go h ih (inr n) = omega (arith, ih n)
 
-  rises-pair : (l front middle rest : List ℕ) (x y : ℕ) → rises f l ≡ true → l ≡ front ++ x ∷ middle ++ y ∷ rest → f x < f y
-  rises-pair [] [] middle rest x y e p = no-way (cc)
-  rises-pair [] (z ∷ front) middle rest x y e p = no-way (cc)
-  rises-pair (u ∷ l) [] middle rest x y e p =
-      let q : u ≡ x = cc in
-      let m : l ≡ middle ++ y ∷ rest = cc in
-      let h : f u < f y = rises-head u l e y (rw m (Memᴰ·append-right middle (List·Memᴰ·head refl))) in
-      rw (← q) h
-  rises-pair (u ∷ l) (z ∷ front) middle rest x y e p = rises-pair l front middle rest x y (rises-tail u l e) (cc)
+  rises-ascends : (l : List ℕ) → rises f l ≡ true → Ascends f l
+  unfolding Ascends
+  rises-ascends [] e = tt
+  rises-ascends (x ∷ l) e = (rises-head x l e, rises-ascends l (rises-tail x l e))
 
-  pair-rises : (l : List ℕ) → Rises f l → rises f l ≡ true
-  unfolding rises
-  pair-rises [] h = refl
-  pair-rises (x ∷ []) h = refl
-  pair-rises (x ∷ y ∷ l) h =
-      and-exactly (ltb (f x) (f y)) (risesFrom f y l) .1
-      (lt-ltb (f x) (f y) (h [] [] l x y refl), pair-rises (y ∷ l) (λ front middle rest u v e. h (x ∷ front) middle rest u v (ap (x ∷_) e)))
+  ascends-rises : (l : List ℕ) → Ascends f l → rises f l ≡ true
+  unfolding rises Ascends
+  ascends-rises [] c = refl
+  ascends-rises (x ∷ []) c = refl
+  ascends-rises (x ∷ y ∷ l) c =
+      and-exactly (ltb (f x) (f y)) (risesFrom f y l) .1 (lt-ltb (f x) (f y) (c .0 y (List·Memᴰ·head refl)), ascends-rises (y ∷ l) (c .1))
 
-  pub rises-exactly : (l : List ℕ) → (rises f l ≡ true) ↔ Rises f l
-  rises-exactly l = ((λ e front middle rest x y p. rises-pair l front middle rest x y e p), pair-rises l)
+  pub rises-exactly : (l : List ℕ) → (rises f l ≡ true) ↔ Ascends f l
+  rises-exactly l = (rises-ascends l, ascends-rises l)
