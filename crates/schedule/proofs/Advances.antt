@@ -1,9 +1,8 @@
 -- A thread goes on within its body: its next action, neither a fork nor an end, is done, and the state stays sound.
-use mathlib.Core.Path.{_≡_, refl, sym, _∙_}
+use mathlib.Core.Path.{_≡_, refl, _∙_}
 use Prim.Native.Nat.{ℕ, suc, _+_, _≤_, _<_}
 use mathlib.Core.List.{List}
 use mathlib.Core.Bool.{false}
-use native.Mathlib.Decide.{ℕ-discrete}
 use native.Mathlib.Omega.{arith}
 use lib.ListN.{length, set, length-set}
 use lib.Seq.{getD-set-same, getD-set-other}
@@ -16,10 +15,10 @@ use Rattle.schedule.specs.declared.Worker.{Worker}
 use Rattle.schedule.specs.Machine.{State, held, waiting, ended, nextOf, statusOf}
 use Rattle.schedule.specs.Sound.{numberOf, isDone}
 use Rattle.schedule.proofs.Lawful.{Lawful}
-use Rattle.schedule.proofs.Words.{ltb-next, Ascends}
+use Rattle.schedule.proofs.Words.{Ascends}
 use Rattle.schedule.proofs.Facts.{Holding, Facts}
 use Rattle.schedule.proofs.Numbers.{number-once, number-step}
-use Rattle.schedule.proofs.Undone.{undone, done-low, done-live, done-alike, next-below, owner-of-next, next-depends, Does, does-ordered, does-amount, does-fork}
+use Rattle.schedule.proofs.Undone.{next-below, owner-of-next, next-depends, Does, over-does, does-ordered, does-amount, does-fork}
 use Rattle.schedule.proofs.Lists.{set-each}
 use Rattle.schedule.proofs.ListMoves.{ascends-along}
 
@@ -60,18 +59,8 @@ module _ (T : Table) (l : Lawful T) (p K : ℕ) (st : State) (f : Facts T p K st
   -- the same actions are done as before, and action a
   does : Does T a st (goneOn t ws h g st)
   does =
-      record {
-        not-yet = undone T st a (rw (own, o .next) (omega arith)) (λ e. omega (arith, o .status, rw own at e));
-        now = done-low T (goneOn t ws h g st) a (rw own (each (λ u y. u ≡ t → a < y) (λ e. omega arith) (λ u d e. absurd (d e)) t refl));
-        same = λ d i n. same d n (ℕ-discrete (owner T d) t);
-      }
-    where
-      same : (d : ℕ) → (d ≡ a → ⊥) → Dec (owner T d ≡ t) → isDone T (goneOn t ws h g st) d ≡ isDone T st d
-      same d n (yes e) =
-          done-live T (goneOn t ws h g st) d (λ q. omega (arith, o .status, rw e at q))
-          ∙ rw (e, getD-set-same (st .next) t (suc (nextOf st t)) 0 next-fits, o .next) (ltb-next d a n)
-          ∙ sym (done-live T st d (λ q. omega (arith, o .status, rw e at q)))
-      same d n (no e) = done-alike T st d (goneOn t ws h g st) (getD-set-other (st .next) t (owner T d) (suc (nextOf st t)) 0 e) refl
+      over-does T st (goneOn t ws h g st) t a own (o .next) (λ e. omega (arith, o .status)) (λ u. refl)
+      (getD-set-same (st .next) t (suc (nextOf st t)) 0 next-fits ∙ rw (o .next)) (λ u d. getD-set-other (st .next) t u (suc (nextOf st t)) 0 d)
 
   -- no fork is done
   gone-fork : (u : ℕ) → 0 < u → u < T .threads → isDone T (goneOn t ws h g st) (forkBelow T (T .actions) u) ≡ isDone T st (forkBelow T (T .actions) u)

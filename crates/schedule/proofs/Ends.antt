@@ -15,7 +15,7 @@ use Rattle.table.specs.Format.{end, fork, join, codeOf, is, Table, kind}
 use Rattle.table.specs.Rules.{ownerBelow, owner, endOf, allocOf, freeOf, openBefore}
 use Rattle.table.specs.Level.{forkBelow, dependsOn}
 use Rattle.table.proofs.Tests.{no-way, and-both, same-is}
-use Rattle.table.proofs.Bodies.{after-end, owner-end, end-last}
+use Rattle.table.proofs.Bodies.{end-last}
 use Rattle.table.proofs.Nesting.{open-join, open-forked, fork-found}
 use Rattle.schedule.specs.Machine.{State, unborn, ready, held, waiting, ended, nextOf, statusOf, withStatus, withList, released, without, parentOf, waitsFor, woken, actBy}
 use Rattle.schedule.specs.Sound.{numberOf, isDone}
@@ -23,7 +23,7 @@ use Rattle.schedule.proofs.Lawful.{Lawful}
 use Rattle.schedule.proofs.Facts.{Done, Facts}
 use Rattle.schedule.proofs.Words.{Ascends}
 use Rattle.schedule.proofs.ListMoves.{ascends-same, without-old, without-other, ascends-without, without-gone}
-use Rattle.schedule.proofs.Undone.{done-low, done-last, done-same, owner-of-next, next-below, Does, does-ordered, does-amount, does-fork}
+use Rattle.schedule.proofs.Undone.{done-last, done-ending, done-same, owner-of-next, next-below, Does, does-ordered, does-amount, does-fork}
 use Rattle.schedule.proofs.Releases.{Acting, acting-depends, LetsGo, freed, released-holding}
 
 -- ---- the state after an end, place by place
@@ -141,18 +141,21 @@ module _ (T : Table) (l : Lawful T) (p K : ℕ) (w t a : ℕ) (st : State) (f : 
   other : (s : ℕ) → (s ≡ ended → ⊥) → (u : ℕ) → statusOf st' u ≡ s → u ≡ t → ⊥
   other s n u q i = n (sym q ∙ rw i (m .status-here))
 
-  does : Does T a st st'
-  does = record { not-yet = x .undone; now = done-last T st' a (rw (x .owned, m .next-same) (sym (x .next))) (rw (x .owned) (m .status-here)); same = λ d h n. at d h n (ℕ-discrete (owner T d) t) }
+  pub ended-does : Does T a st st'
+  ended-does =
+      record {
+        not-yet = x .undone;
+        now = done-last T st' a (rw (x .owned, m .next-same) (sym (x .next))) (rw (x .owned) (m .status-here));
+        same = λ d n. at d n (ℕ-discrete (owner T d) t);
+      }
     where
-      at : (d : ℕ) → d < T .actions → (d ≡ a → ⊥) → Dec (owner T d ≡ t) → isDone T st' d ≡ isDone T st d
-      at d h n (yes o) =
-          let low : d < a = omega (arith, last, after-end T (l .contents) t (x .thread), rw o at (owner-end T (l .contents) d h)) in
-          done-low T st' d (rw (o, m .next-same, x .next) low) ∙ sym (done-low T st d (rw (o, x .next) low))
-      at d h n (no o) =
+      at : (d : ℕ) → (d ≡ a → ⊥) → Dec (owner T d ≡ t) → isDone T st' d ≡ isDone T st d
+      at d n (yes o) = done-ending T st d st' a (rw o (x .next)) (rw o (m .next-same t ∙ x .next)) n
+      at d n (no o) =
           done-same T st d st' (m .next-same (owner T d)) (back ended (λ i. omega arith) (owner T d) o) (forth ended (λ i. omega arith) (owner T d) o)
 
   end-ordered : (v d : ℕ) → v < T .actions → Done T st' v → List·Memᴰ d (dependsOn T v) → Done T st' d
-  end-ordered = does-ordered T l p K st f a (x .action) st' does (acting-depends T l p K w t a st f x (λ j. no-way cc))
+  end-ordered = does-ordered T l p K st f a (x .action) st' ended-does (acting-depends T l p K w t a st f x (λ j. no-way cc))
 
   end-known : (u : ℕ) → u < T .threads → statusOf st' u ≤ ended
   end-known u h = go (ℕ-discrete u t)
@@ -167,7 +170,7 @@ module _ (T : Table) (l : Lawful T) (p K : ℕ) (w t a : ℕ) (st : State) (f : 
 
   -- no fork is done by it
   end-fork : (u : ℕ) → 0 < u → u < T .threads → isDone T st' (forkBelow T (T .actions) u) ≡ isDone T st (forkBelow T (T .actions) u)
-  end-fork u pos h = does-fork T l p K st f a (x .action) st' does u pos h (λ i j. no-way cc)
+  end-fork u pos h = does-fork T l p K st f a (x .action) st' ended-does u pos h (λ i j. no-way cc)
 
   end-undone-unborn : (u : ℕ) → 0 < u → u < T .threads → isDone T st' (forkBelow T (T .actions) u) ≡ false → statusOf st' u ≡ unborn
   end-undone-unborn u pos h q =
@@ -269,7 +272,7 @@ module _ (T : Table) (l : Lawful T) (p K : ℕ) (w t a : ℕ) (st : State) (f : 
         wait-open = end-wait-open;
         holding =
             released-holding T p K w t a st f x st' (m .lets-go) (λ q. omega (arith, m .status-here)) (back held (λ i. omega arith)) (forth held (λ i. omega arith));
-        amount = does-amount T l p K st f a (x .action) st' does (rw (k, m .lets-go .amount));
+        amount = does-amount T l p K st f a (x .action) st' ended-does (rw (k, m .lets-go .amount));
         above = rw (m .lets-go .amount, m .lets-go .most) (f .above);
         unused-status = λ u h i. forth unborn (λ j. omega arith) u (λ j. omega (arith, x .thread)) (f .unused-status u h i);
         unused-next = λ u h i. m .next-same u ∙ f .unused-next u h i;

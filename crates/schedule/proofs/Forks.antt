@@ -17,11 +17,11 @@ use Rattle.table.proofs.Nesting.{fork-found}
 use Rattle.schedule.specs.Machine.{State, unborn, ready, held, waiting, ended, nextOf, statusOf, leftOf, actBy}
 use Rattle.schedule.specs.Sound.{numberOf, isDone}
 use Rattle.schedule.proofs.Lawful.{Lawful}
-use Rattle.schedule.proofs.Words.{ltb-next, Ascends}
+use Rattle.schedule.proofs.Words.{Ascends}
 use Rattle.schedule.proofs.Numbers.{number-once, number-child, number-past}
 use Rattle.schedule.proofs.Facts.{Done, Facts}
 use Rattle.schedule.proofs.ListMoves.{leftOf-new, leftOf-old, leftOf-cases, ascends-leftOf}
-use Rattle.schedule.proofs.Undone.{done-low, done-live, done-same, owner-of-next, next-below, unborn-first, undone-unborn, between-unborn, Does, does-ordered, does-amount, does-fork, number-first}
+use Rattle.schedule.proofs.Undone.{eqb-same, owner-of-next, next-below, unborn-first, undone-unborn, between-unborn, Does, over-does, does-ordered, does-amount, does-fork, number-first}
 use Rattle.schedule.proofs.Releases.{Acting, acting-depends, LetsGo, freed, released-holding}
 
 -- ---- the state after a fork, place by place
@@ -89,16 +89,10 @@ module _ (T : Table) (l : Lawful T) (p K : ℕ) (w t a c : ℕ) (st : State) (f 
   forth s n o u q = m .status-other u (λ i. n (sym q ∙ rw i (x .taken))) (λ i. o (sym q ∙ rw i child-unborn)) ∙ q
 
   does : Does T a st st'
-  does = record { not-yet = x .undone; now = done-low T st' a (rw (x .owned, m .next-here) (omega arith)); same = λ d h n. at d n (ℕ-discrete (owner T d) t) }
-    where
-      at : (d : ℕ) → (d ≡ a → ⊥) → Dec (owner T d ≡ t) → isDone T st' d ≡ isDone T st d
-      at d n (yes o) =
-          done-live T st' d (λ q. omega (arith, m .status-here, rw o at q))
-          ∙ rw (o, m .next-here, x .next) (ltb-next d a n)
-          ∙ sym (done-live T st d (λ q. omega (arith, x .taken, rw o at q)))
-      at d n (no o) =
-          done-same T st d st' (m .next-other (owner T d) o) (λ q. back ended (λ i. omega arith) (owner T d) q .2)
-          (forth ended (λ i. omega arith) (λ i. omega arith) (owner T d))
+  does =
+      over-does T st st' t a (x .owned) (x .next) (λ q. omega (arith, x .taken))
+      (λ u. eqb-same (statusOf st' u) (statusOf st u) ended (λ q. back ended (λ i. omega arith) u q .2) (forth ended (λ i. omega arith) (λ i. omega arith) u))
+      (m .next-here) (m .next-other)
 
   fork-low : (u : ℕ) → u < T .threads → T .first u ≤ nextOf st' u
   fork-low u h = go (ℕ-discrete u t)

@@ -1,15 +1,14 @@
 -- What a turn changes, place by place: one action at most is done, one thread's next action and one worker's record move, and the quota falls by what an alloc draws.
-use mathlib.Core.Path.{_≡_, refl, sym, _∙_}
+use mathlib.Core.Path.{_≡_, refl, _∙_}
 use Prim.Native.Nat.{ℕ, suc, _+_, _-_, _≤_, _<_}
 use native.Mathlib.Omega.{arith}
 use native.Mathlib.Decide.{ℕ-discrete, decLt}
 use mathlib.Core.List.{List}
 use mathlib.Core.Bool.{Bool, true, false}
-use mathlib.Core.Logic.{_⊎_, inl, inr}
 use lib.ListN.{length, getD, set}
 use lib.Seq.{getD-set-same, getD-set-other, set-out}
 use lib.Dec.{leb, eqb}
-use borrow.Author.Tests.{eqb-false, leb-true, ne-eqb}
+use borrow.Author.Tests.{eqb-false, leb-true}
 use Rattle.table.specs.Format.{Kind, end, work, alloc, free, fork, join, unknown, codeOf, is, Table, kind}
 use Rattle.table.specs.Rules.{owner, allocOf}
 use Rattle.table.proofs.Tests.{no-way}
@@ -20,12 +19,11 @@ use Rattle.schedule.specs.declared.Reply.the-variants.{Done, Quota, Wait
 use Rattle.schedule.specs.Machine.{State, ready, waiting, ended, nextOf, statusOf, workerOf, nobody, actBy, act}
 use Rattle.schedule.specs.Sound.{numberOf, isDone}
 use Rattle.schedule.proofs.Lawful.{Lawful}
-use Rattle.schedule.proofs.Words.{ltb-next}
 use Rattle.schedule.proofs.Facts.{Facts}
 use Rattle.schedule.proofs.Numbers.{number-step}
-use Rattle.schedule.proofs.Undone.{done-low, done-live, done-alike, undone-unborn}
+use Rattle.schedule.proofs.Undone.{done-alike, undone-unborn, Does, over-does}
 use Rattle.schedule.proofs.Releases.{Acting}
-use Rattle.schedule.proofs.Ends.{Ended, acting-ended}
+use Rattle.schedule.proofs.Ends.{Ended, acting-ended, ended-does}
 
 -- ---- which threads have ended
 
@@ -41,14 +39,6 @@ set-ended xs i x e n u = go (decLt i (length xs)) (ℕ-discrete u i)
     go (no h) d = rw (set-out xs i x (omega arith))
     go (yes h) (yes d) = rw (d, getD-set-same xs i x 0 h, n) e
     go (yes h) (no d) = rw (getD-set-other xs i u x 0 d)
-
--- ---- which actions are done
-
-module _ (T : Table) (st st' : State) (d : ℕ) where
-  -- with the thread's next action the same, the other actions that are done are the same, whether it has ended or not
-  done-ending : (a : ℕ) → nextOf st (owner T d) ≡ a → nextOf st' (owner T d) ≡ a → (d ≡ a → ⊥) → isDone T st' d ≡ isDone T st d
-  unfolding isDone
-  done-ending a n n' j = rw (n, n', ne-eqb d a j)
 
 -- ---- what an act changes
 
@@ -86,18 +76,8 @@ module _ (T : Table) (l : Lawful T) (p K w t a : ℕ) (st : State) (f : Facts T 
     next-beside : (u : ℕ) → (u ≡ t → ⊥) → nextOf st' u ≡ nextOf st u
     next-beside u d = rw nexts (getD-set-other (st .next) t u (suc (nextOf st t)) 0 d)
 
-    over-others : (d : ℕ) → (d ≡ a → ⊥) → isDone T st' d ≡ isDone T st d
-    over-others d n = go (ℕ-discrete (owner T d) t)
-      where
-        go : Dec (owner T d ≡ t) → isDone T st' d ≡ isDone T st d
-        go (yes o) =
-            done-live T st' d (rw o (eqb-false (statusOf st' t) ended (ends t ∙ unended)))
-            ∙ rw (o, next-over, x .next) (ltb-next d a n)
-            ∙ sym (done-live T st d (rw o (eqb-false (statusOf st t) ended unended)))
-        go (no o) = done-alike T st d st' (next-beside (owner T d) o) (ends (owner T d))
-
-    over-done : isDone T st' a ≡ true
-    over-done = done-low T st' a (rw (x .owned, next-over) (omega arith))
+    over : Does T a st st'
+    over = over-does T st st' t a (x .owned) (x .next) (eqb-false (statusOf st t) ended unended) ends next-over next-beside
 
   -- the action is not done, or the thread ends: next actions stay
   module _ (st' : State) (nexts : st' .next ≡ st .next) where
@@ -124,11 +104,11 @@ module _ (T : Table) (l : Lawful T) (p K w t a : ℕ) (st : State) (f : Facts T 
       → (st' : State) → st' .next ≡ set (st .next) t (suc (nextOf st t)) → SameEnded st st' → st' .workers ≡ st .workers → Acted T w t a quotaNow st (Done t a) st'
   goes-on e k m st' n s v =
       record {
-        done-others = over-others st' n s;
+        done-others = over st' n s .same;
         replied = λ i. refl;
         next-others = next-beside st' n s;
         worker-others = λ u d. rw v;
-        keeps = λ i. (over-done st' n s, rw v (x .holder), rw (next-over st' n s) (number-step T l a (x .action) e k));
+        keeps = λ i. (over st' n s .now, rw v (x .holder), rw (next-over st' n s) (number-step T l a (x .action) e k));
         quota = λ u d i. let z : allocOf T d ≡ 0 = cc (no-alloc m) in rw v (omega arith);
       }
 
@@ -141,11 +121,11 @@ module _ (T : Table) (l : Lawful T) (p K w t a : ℕ) (st : State) (f : Facts T 
       let now : Worker = record { holds = true; thread = t; quota = quotaNow - T .argument a } in
       let here : workerOf st' w ≡ now = rw (v, getD-set-same (st .workers) w now nobody worker-fits) in
       record {
-        done-others = over-others st' n s;
+        done-others = over st' n s .same;
         replied = λ i. refl;
         next-others = next-beside st' n s;
         worker-others = λ u d. rw v (getD-set-other (st .workers) w u now nobody d);
-        keeps = λ i. (over-done st' n s, rw here, rw (next-over st' n s) (number-step T l a (x .action) e k));
+        keeps = λ i. (over st' n s .now, rw here, rw (next-over st' n s) (number-step T l a (x .action) e k));
         quota = λ u d i.
             let z : d ≡ a = cc in
             let y : allocOf T d ≡ T .argument a = rw (z, m) in
@@ -157,7 +137,7 @@ module _ (T : Table) (l : Lawful T) (p K w t a : ℕ) (st : State) (f : Facts T 
       → (st' : State) → st' .next ≡ set (st .next) t (suc (nextOf st t)) → SameEnded st st' → st' .workers ≡ set (st .workers) w nobody → Acted T w t a quotaNow st (Done t a) st'
   forks-off m st' n s v =
       record {
-        done-others = over-others st' n s;
+        done-others = over st' n s .same;
         replied = λ i. refl;
         next-others = next-beside st' n s;
         worker-others = released-others st' v;
@@ -182,25 +162,17 @@ module _ (T : Table) (l : Lawful T) (p K w t a : ℕ) (st : State) (f : Facts T 
       same d = done-alike T st d st' (next-same st' n (owner T d)) (s (owner T d))
 
   -- the thread ends
-  ends-off : is alloc (kind T a) ≡ false → (st' : State) → Ended T w t st st' → Acted T w t a quotaNow st (Done t a) st'
-  ends-off m st' v =
+  ends-off : kind T a ≡ end → (st' : State) → Ended T w t st st' → Acted T w t a quotaNow st (Done t a) st'
+  unfolding is codeOf
+  ends-off e st' v =
       record {
-        done-others = λ d i. go d i (ℕ-discrete (owner T d) t);
+        done-others = ended-does T l p K w t a st f x e st' v .same;
         replied = λ i. refl;
         next-others = λ u d. v .next-same u;
         worker-others = v .lets-go .others;
         keeps = λ i. no-way (cc (v .lets-go .gone));
-        quota = λ u d i. let z : allocOf T d ≡ 0 = cc (no-alloc m) in rw (v .lets-go .gone) (omega arith);
+        quota = λ u d i. let z : allocOf T d ≡ 0 = cc (no-alloc (rw e)) in rw (v .lets-go .gone) (omega arith);
       }
-    where
-      -- of the other threads one may be woken
-      same : (u : ℕ) → (statusOf st' u ≡ statusOf st u) ⊎ ((statusOf st u ≡ waiting) × (statusOf st' u ≡ ready)) → eqb (statusOf st' u) ended ≡ eqb (statusOf st u) ended
-      same u (inl e) = rw e
-      same u (inr (i, j)) = rw (i, j)
-
-      go : (d : ℕ) → (d ≡ a → ⊥) → Dec (owner T d ≡ t) → isDone T st' d ≡ isDone T st d
-      go d i (yes o) = done-ending T st st' d a (rw o (x .next)) (rw o (v .next-same t ∙ x .next)) i
-      go d i (no o) = done-alike T st d st' (v .next-same (owner T d)) (same (owner T d) (v .status-other (owner T d) o))
 
   -- a status other than `ended` for the thread, and then for the child that it forks
   restated : (y : ℕ) → eqb y ended ≡ false → (u : ℕ) → eqb (getD (set (st .status) t y) u 0) ended ≡ eqb (statusOf st u) ended
@@ -213,7 +185,7 @@ module _ (T : Table) (l : Lawful T) (p K w t a : ℕ) (st : State) (f : Facts T 
   acted-by : (k : Kind) → kind T a ≡ k → Acted T w t a quotaNow st (actBy k T w t a (T .argument a) st .reply) (actBy k T w t a (T .argument a) st .state)
   unfolding actBy is codeOf
   acted-by end e =
-      ends-off (rw e) _ (acting-ended T l p K w t a st f x)
+      ends-off e _ (acting-ended T l p K w t a st f x)
   acted-by work e = goes-on (rw e) (rw e) (rw e) _ refl (λ u. refl) refl
   acted-by alloc e = go (leb (T .argument a) quotaNow) refl
     where

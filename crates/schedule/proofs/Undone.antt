@@ -8,7 +8,7 @@ use mathlib.Core.Logic.{_⊎_, inl, inr, ⊎-elim}
 use native.Mathlib.Decide.{ℕ-discrete, decLt}
 use native.Mathlib.Omega.{arith}
 use lib.Dec.{ltb, eqb}
-use borrow.Author.Tests.{ltb-true, eqb-true, eq-eqb, ne-eqb, lt-ltb, le-ltb}
+use borrow.Author.Tests.{ltb-true, eqb-true, eqb-false, eq-eqb, ne-eqb, lt-ltb, le-ltb}
 use Rattle.table.specs.Format.{end, fork, join, is, Table, kind}
 use Rattle.table.specs.Rules.{owner, endOf, allocOf, freeOf}
 use Rattle.table.specs.Level.{forkBelow, dependsOn}
@@ -16,11 +16,11 @@ use Rattle.table.proofs.Tests.{no-way, and-both, is-true}
 use Rattle.table.proofs.Sums.{sumTo-one}
 use Rattle.table.proofs.Bodies.{after-end, owner-is, owner-of-end, owner-end, end-within, join-below, next-within, first-within, owner-of-first, owner-below, owner-first, fork-below, fork-above, next-owner}
 use Rattle.table.proofs.Nesting.{fork-found, fork-exists}
-use Rattle.table.proofs.Levels.{depends-step, depends-join, depends-root, depends-child, by-place, depends-earlier}
+use Rattle.table.proofs.Levels.{depends-step, depends-join, depends-root, depends-child, by-place}
 use Rattle.schedule.specs.Machine.{State, unborn, ended, nextOf, statusOf}
 use Rattle.schedule.specs.Sound.{numberOf, isDone, ofDone, sumDone}
 use Rattle.schedule.proofs.Lawful.{Lawful}
-use Rattle.schedule.proofs.Words.{or-exactly}
+use Rattle.schedule.proofs.Words.{or-exactly, ltb-next}
 use Rattle.schedule.proofs.Numbers.{number-child, number-rises, number-between}
 use Rattle.schedule.proofs.Facts.{Done, Facts}
 
@@ -30,7 +30,7 @@ not-false-true : (q : Bool) → (q ≡ false → ⊥) → q ≡ true
 not-false-true true n = refl
 not-false-true false n = absurd (n refl)
 
-eqb-same : (x y z : ℕ) → (x ≡ z → y ≡ z) → (y ≡ z → x ≡ z) → eqb x z ≡ eqb y z
+pub eqb-same : (x y z : ℕ) → (x ≡ z → y ≡ z) → (y ≡ z → x ≡ z) → eqb x z ≡ eqb y z
 eqb-same x y z to back = go (ℕ-discrete x z)
   where
     go : Dec (x ≡ z) → eqb x z ≡ eqb y z
@@ -72,6 +72,11 @@ module _ (T : Table) (st : State) (d : ℕ) where
       → isDone T st' d ≡ isDone T st d
   unfolding isDone
   done-alike st' n e = rw (n, e)
+
+  -- with the thread's next action the same, the other actions that are done are the same, whether it has ended or not
+  pub done-ending : (st' : State) (a : ℕ) → nextOf st (owner T d) ≡ a → nextOf st' (owner T d) ≡ a → (d ≡ a → ⊥) → isDone T st' d ≡ isDone T st d
+  unfolding isDone
+  done-ending st' a n n' j = rw (n, n', ne-eqb d a j)
 
   pub done-same : (st' : State) → nextOf st' (owner T d) ≡ nextOf st (owner T d) → (statusOf st' (owner T d) ≡ ended → statusOf st (owner T d) ≡ ended)
       → (statusOf st (owner T d) ≡ ended → statusOf st' (owner T d) ≡ ended) → isDone T st' d ≡ isDone T st d
@@ -216,7 +221,24 @@ module _ (T : Table) (l : Lawful T) (p K : ℕ) (st : State) (f : Facts T p K st
 pub record Does (T : Table) (a : ℕ) (st st' : State) : Type 0 where
   pub not-yet : isDone T st a ≡ false
   pub now : Done T st' a
-  pub same : (d : ℕ) → d < T .actions → (d ≡ a → ⊥) → isDone T st' d ≡ isDone T st d
+  pub same : (d : ℕ) → (d ≡ a → ⊥) → isDone T st' d ≡ isDone T st d
+
+-- a thread that has not ended does its next action a and stands at the action after it
+pub over-does : (T : Table) (st st' : State) (t a : ℕ) → owner T a ≡ t → nextOf st t ≡ a → (statusOf st t ≡ ended → ⊥)
+    → ((u : ℕ) → eqb (statusOf st' u) ended ≡ eqb (statusOf st u) ended) → nextOf st' t ≡ suc a → ((u : ℕ) → (u ≡ t → ⊥) → nextOf st' u ≡ nextOf st u) → Does T a st st'
+over-does T st st' t a own next live ends over beside =
+    record {
+      not-yet = undone T st a (rw (own, next) (omega arith)) (rw own live);
+      now = done-low T st' a (rw (own, over) (omega arith));
+      same = λ d n. same d n (ℕ-discrete (owner T d) t);
+    }
+  where
+    same : (d : ℕ) → (d ≡ a → ⊥) → Dec (owner T d ≡ t) → isDone T st' d ≡ isDone T st d
+    same d n (yes o) =
+        done-live T st' d (rw o (eqb-false (statusOf st' t) ended (ends t ∙ ne-eqb (statusOf st t) ended live)))
+        ∙ rw (o, over, next) (ltb-next d a n)
+        ∙ sym (done-live T st d (rw o live))
+    same d n (no o) = done-alike T st d st' (beside (owner T d) o) (ends (owner T d))
 
 module _ (T : Table) (l : Lawful T) (p K : ℕ) (st : State) (f : Facts T p K st) (a : ℕ) (within : a < T .actions) (st' : State) (x : Does T a st st') where
   pub does-ordered : ((d : ℕ) → List·Memᴰ d (dependsOn T a) → Done T st d)
@@ -228,18 +250,18 @@ module _ (T : Table) (l : Lawful T) (p K : ℕ) (st : State) (f : Facts T p K st
         where
           at : Dec (d ≡ a) → Done T st' d
           at (yes i) = rw i (x .now)
-          at (no i) = x .same d (depends-earlier T (l .contents) (l .bodies) (l .nesting) (l .forking) v h d m .0) i ∙ e
+          at (no i) = x .same d i ∙ e
 
       go : Dec (v ≡ a) → Done T st' d
       go (yes i) = kept (before d (rw i at m))
-      go (no i) = kept (f .ordered v d h (sym (x .same v h i) ∙ q) m)
+      go (no i) = kept (f .ordered v d h (sym (x .same v i) ∙ q) m)
 
   -- what is done comes to so much more
   does-sum : (own : ℕ → ℕ) → sumDone T st' own ≡ sumDone T st own + own a
   does-sum own =
       let before : ofDone T st own a ≡ 0 = rw (x .not-yet) in
       let now : ofDone T st' own a ≡ own a = rw (x .now) in
-      omega (arith, sumTo-one (ofDone T st' own) (ofDone T st own) a (T .actions) within (λ d h n. rw (x .same d h n)))
+      omega (arith, sumTo-one (ofDone T st' own) (ofDone T st own) a (T .actions) within (λ d h n. rw (x .same d n)))
 
   pub does-amount : st' .held + freeOf T a ≡ st .held + allocOf T a → st' .held + sumDone T st' (freeOf T) ≡ sumDone T st' (allocOf T)
   does-amount e = omega (arith, does-sum (freeOf T), does-sum (allocOf T), f .amount)
@@ -253,4 +275,4 @@ module _ (T : Table) (l : Lawful T) (p K : ℕ) (st : State) (f : Facts T p K st
           → isDone T st' (forkBelow T (T .actions) u) ≡ isDone T st (forkBelow T (T .actions) u)
       go (z, i, k, e) =
           let y : forkBelow T (T .actions) u ≡ z = rw (← e) (fork-found T (l .contents) (l .bodies) (l .nesting) z i k) in
-          rw y (x .same z i (λ q. n (rw q at k) (rw q at e)))
+          rw y (x .same z (λ q. n (rw q at k) (rw q at e)))
