@@ -18,7 +18,8 @@ use Rattle.schedule.proofs.Lawful.{Lawful}
 use Rattle.schedule.proofs.Words.{Ascends}
 use Rattle.schedule.proofs.Facts.{Holding, Facts}
 use Rattle.schedule.proofs.Numbers.{number-once, number-step}
-use Rattle.schedule.proofs.Undone.{next-below, owner-of-next, next-depends, Does, over-does, does-ordered, does-amount, does-fork}
+use Rattle.schedule.proofs.Done.{next-below, owner-of-next, next-depends}
+use Rattle.schedule.proofs.Does.{Does, over-does, does-ordered, does-amount, does-fork}
 use Rattle.schedule.proofs.Lists.{set-each}
 use Rattle.schedule.proofs.ListMoves.{ascends-along}
 

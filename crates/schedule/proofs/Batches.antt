@@ -16,7 +16,7 @@ use Rattle.schedule.proofs.Lawful.{Lawful}
 use Rattle.schedule.proofs.Facts.{Facts}
 use Rattle.schedule.proofs.Turns.{turn-facts}
 use Rattle.schedule.proofs.Starts.{start-next, start-unborn, start-worker, start-facts}
-use Rattle.schedule.proofs.Rule.{age, age-small, keeps-alone}
+use Rattle.schedule.proofs.Ages.{age, age-small, keeps-alone}
 use Rattle.schedule.proofs.Counting.{begun, CountAlong, along-turn}
 unfoldable pub use Rattle.schedule.proofs.Beyond.{startAction, begins, beginsBeyond, batches}
 pub use Rattle.schedule.proofs.Beyond.{Enabled}

@@ -22,12 +22,12 @@ use Rattle.schedule.specs.Memory.{rowState, Keeps, limit}
 use Rattle.schedule.proofs.Lawful.{Lawful, Within}
 use Rattle.schedule.proofs.Facts.{Done, Facts}
 use Rattle.schedule.proofs.Numbers.{number-below, number-once}
-use Rattle.schedule.proofs.Undone.{next-below}
+use Rattle.schedule.proofs.Done.{next-below}
 use Rattle.schedule.proofs.Starts.{start-facts}
 use Rattle.schedule.proofs.Rows.{row-facts}
 use Rattle.schedule.proofs.Batches.{batches, Enabled, batches-few, batches-none}
 use Rattle.schedule.proofs.Depth.{greatest-member, level-depth}
-use Rattle.schedule.proofs.Fronts.{lower, front-sum}
+use Rattle.schedule.proofs.SerialSums.{lower, front-sum}
 use Rattle.schedule.proofs.Totals.{sumTo-add}
 use Rattle.schedule.proofs.Leftmost.{all-done, front-done, leftmost-enabled, leftmost-undone}
 use Rattle.schedule.proofs.Draws.{spentBeyond, draws-few}

@@ -24,13 +24,13 @@ use Rattle.schedule.proofs.Numbers.{number-depends}
 use Rattle.schedule.proofs.Facts.{Facts}
 use Rattle.schedule.proofs.Moves.{taken-facts}
 use Rattle.schedule.proofs.Words.{Ascends}
-use Rattle.schedule.proofs.Undone.{next-below}
+use Rattle.schedule.proofs.Done.{next-below}
 use Rattle.schedule.proofs.Releases.{Acting, acting}
 use Rattle.schedule.proofs.Turns.{leftmost-ready, taken-holds, act-facts}
 use Rattle.schedule.proofs.Depth.{level-depends}
-use Rattle.schedule.proofs.Rule.{age, age-other}
+use Rattle.schedule.proofs.Ages.{age, age-other}
 use Rattle.schedule.proofs.Beyond.{startAction, begins, beginsBeyond, Enabled}
-use Rattle.schedule.proofs.Acts.{After, same, fresh, kept, Leaves, act-after, act-leaves}
+use Rattle.schedule.proofs.Enables.{After, same, fresh, kept, Leaves, act-after, act-leaves}
 
 -- J v batches began beyond action v, and age w turns ago was worker w's latest turn
 pub record Count (T : Table) (B : ℕ) (J age : ℕ → ℕ) (st : State) : Type 0 where

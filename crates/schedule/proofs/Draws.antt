@@ -26,7 +26,7 @@ use Rattle.schedule.proofs.Numbers.{number-once}
 use Rattle.schedule.proofs.Turns.{turn-facts}
 use Rattle.schedule.proofs.Starts.{start-facts, start-undone, start-worker}
 use Rattle.schedule.proofs.Batches.{startAction, begins, beginsBeyond, batches}
-use Rattle.schedule.proofs.Undone.{done-alike}
+use Rattle.schedule.proofs.Done.{done-alike}
 use Rattle.schedule.proofs.Tries.{Tries, Turned, idles, tries, turned, undone-before}
 
 -- what the actions done beyond action v cost

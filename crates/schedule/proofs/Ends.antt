@@ -23,7 +23,8 @@ use Rattle.schedule.proofs.Lawful.{Lawful}
 use Rattle.schedule.proofs.Facts.{Done, Facts}
 use Rattle.schedule.proofs.Words.{Ascends}
 use Rattle.schedule.proofs.ListMoves.{ascends-same, without-old, without-other, ascends-without, without-gone}
-use Rattle.schedule.proofs.Undone.{done-last, done-ending, done-same, owner-of-next, next-below, Does, does-ordered, does-amount, does-fork}
+use Rattle.schedule.proofs.Done.{done-last, done-ending, done-same, owner-of-next, next-below}
+use Rattle.schedule.proofs.Does.{Does, does-ordered, does-amount, does-fork}
 use Rattle.schedule.proofs.Releases.{Acting, acting-depends, LetsGo, freed, released-holding}
 
 -- ---- the state after an end, place by place

@@ -17,11 +17,12 @@ use Rattle.table.proofs.Nesting.{fork-found}
 use Rattle.schedule.specs.Machine.{State, unborn, ready, held, waiting, ended, nextOf, statusOf, leftOf, actBy}
 use Rattle.schedule.specs.Sound.{numberOf, isDone}
 use Rattle.schedule.proofs.Lawful.{Lawful}
-use Rattle.schedule.proofs.Words.{Ascends}
+use Rattle.schedule.proofs.Words.{Ascends, eqb-same}
 use Rattle.schedule.proofs.Numbers.{number-once, number-child, number-past}
 use Rattle.schedule.proofs.Facts.{Done, Facts}
 use Rattle.schedule.proofs.ListMoves.{leftOf-new, leftOf-old, leftOf-cases, ascends-leftOf}
-use Rattle.schedule.proofs.Undone.{eqb-same, owner-of-next, next-below, unborn-first, undone-unborn, between-unborn, Does, over-does, does-ordered, does-amount, does-fork, number-first}
+use Rattle.schedule.proofs.Done.{owner-of-next, next-below, unborn-first, undone-unborn, between-unborn, number-first}
+use Rattle.schedule.proofs.Does.{Does, over-does, does-ordered, does-amount, does-fork}
 use Rattle.schedule.proofs.Releases.{Acting, acting-depends, LetsGo, freed, released-holding}
 
 -- ---- the state after a fork, place by place

@@ -1,5 +1,5 @@
--- Forks and joins counted: the children forked before an action are those joined before it and those that stand open. So no child is joined twice.
-use mathlib.Core.Path.{_≡_, refl}
+-- Joins: no child is joined twice, and every thread but the root is joined, in a thread of a lower number. So what passes from a thread to those that it joins holds of all.
+use mathlib.Core.Path.{_≡_, refl, sym}
 use Prim.Native.Nat.{ℕ, zero, suc, _+_, _≤_, _<_}
 use mathlib.Core.Bool.{Bool, true, false}
 use lib.Dec.{eqb}
@@ -7,12 +7,19 @@ use native.Mathlib.Omega.{arith}
 use borrow.Author.Tests.{eqb-true}
 use Rattle.table.specs.Sum.{pick, sumTo, sumOver}
 use Rattle.table.specs.Format.{Kind, end, fork, join, codeOf, is, Table, kind}
-use Rattle.table.specs.Rules.{openBefore}
-use Rattle.table.specs.Accepted.{ContentRules, BodyRules, NestRules}
-use Rattle.table.proofs.Tests.{no-way, is-true}
+use Rattle.table.specs.Rules.{openBefore, owner, endOf}
+use Rattle.table.specs.Accepted.{ContentRules, BodyRules, NestRules, ForkRules}
+use Rattle.table.proofs.Tests.{no-way, is-true, same-is, fork-no-end}
 use Rattle.table.proofs.Sums.{sumTo-zero}
-use Rattle.table.proofs.Nesting.{open-end, open-fork, open-join, open-same, fork-once}
+use Rattle.table.proofs.Nesting.{open-end, open-fork, open-join, open-same, fork-once, fork-exists}
 use Rattle.schedule.proofs.Totals.{one}
+use mathlib.Core.List.{List·Memᴰ, List·Memᴰ·head, List·Memᴰ·tail, List·Memᴰ·not-nil, List·Memᴰ·cases-cons, Memᴰ·append-right}
+use mathlib.Core.Logic.{_⊎_, inl, inr}
+use Rattle.table.specs.Level.{beforeIt, joinedEnd, dependsOn}
+use Rattle.table.proofs.Bodies.{fork-above, next-within, next-owner}
+use Rattle.table.proofs.Serial.{serial-induction}
+
+-- ---- forks and joins counted: the children forked before an action are those joined before it and those that stand open
 
 -- what the arguments of the actions of kind k before action a weigh
 abbrev pub weightOf : Table → Kind → (ℕ → ℕ) → ℕ → ℕ
@@ -65,3 +72,57 @@ module _ (T : Table) (c : ContentRules T) (b : BodyRules T) (n : NestRules T) wh
   -- and so at most one joins it
   pub joins-one : (d : ℕ) → weightOf T join (one d) (T .actions) ≤ 1
   joins-one d = omega (arith, forked-weight (one d) (T .actions) (omega arith), forks-one d (T .actions) (omega arith))
+
+-- ---- every thread is joined
+
+-- a join depends on its child's end
+pub join-depends : (T : Table) (a : ℕ) → kind T a ≡ join → List·Memᴰ (endOf T (T .argument a)) (dependsOn T a)
+unfolding dependsOn joinedEnd
+join-depends T a k = Memᴰ·append-right (beforeIt T a) (rw (same-is join (kind T a) k) (List·Memᴰ·head refl))
+
+-- from a on there is a join of child d in a's thread
+abbrev JoinedFrom : Table → ℕ → ℕ → Type 0
+JoinedFrom T d a = (j : ℕ) × (a ≤ j) × (j < T .actions) × (kind T j ≡ join) × (T .argument j ≡ d) × (owner T j ≡ owner T a)
+
+module _ (T : Table) (c : ContentRules T) (b : BodyRules T) (n : NestRules T) (f : ForkRules T) where
+  -- a child that stands open is joined later in the same thread
+  joined-later : (a : ℕ) → a < T .actions → (d : ℕ) → List·Memᴰ d (openBefore T a) → JoinedFrom T d a
+  joined-later = serial-induction T c b (λ a. (d : ℕ) → List·Memᴰ d (openBefore T a) → JoinedFrom T d a)
+      (λ a h k d m. absurd (List·Memᴰ·not-nil (rw (open-end T c b n a h k) at m)))
+      (λ a h k p q d m. back a d h (fork-no-end k) (q d (rw (open-fork T c b n a k) (List·Memᴰ·tail m))))
+      (λ a h e k q d m. next a h e k q d m (is join (kind T a)) refl)
+    where
+      back : (a d : ℕ) → a < T .actions → is end (kind T a) ≡ false → JoinedFrom T d (suc a) → JoinedFrom T d a
+      back a d h e (j, p, q, r, s, o) = (j, omega arith, q, r, s, cc (next-owner T c b a h e))
+
+      at-join : (a : ℕ) → a < T .actions → is end (kind T a) ≡ false → kind T a ≡ join → ((d : ℕ) → List·Memᴰ d (openBefore T (suc a)) → JoinedFrom T d (suc a))
+          → (d : ℕ) → (d ≡ T .argument a) ⊎ List·Memᴰ d (openBefore T (suc a)) → JoinedFrom T d a
+      at-join a h e k q d (inl p) = (a, omega arith, h, k, sym p, refl)
+      at-join a h e k q d (inr m) = back a d h e (q d m)
+
+      next : (a : ℕ) → a < T .actions → is end (kind T a) ≡ false → is fork (kind T a) ≡ false → ((d : ℕ) → List·Memᴰ d (openBefore T (suc a)) → JoinedFrom T d (suc a))
+          → (d : ℕ) → List·Memᴰ d (openBefore T a) → (t : Bool) → is join (kind T a) ≡ t → JoinedFrom T d a
+      next a h e k q d m true j =
+          let i : kind T a ≡ join = is-true join (kind T a) j in
+          at-join a h e i q d (List·Memᴰ·cases-cons (rw (open-join T c b n a h i) at m))
+      next a h e k q d m false j = back a d h e (q d (rw (open-same T c b n a e k j) m))
+
+  -- every thread but the root is joined, in a thread of a lower number
+  pub join-exists : (t : ℕ) → 0 < t → t < T .threads → (j : ℕ) × (j < T .actions) × (kind T j ≡ join) × (T .argument j ≡ t) × (owner T j < t)
+  join-exists t h k =
+      let x = fork-exists T c b n f t h k in
+      let e : is end (kind T (x .0)) ≡ false = fork-no-end (x .2) in
+      let m : List·Memᴰ t (openBefore T (suc (x .0))) = rw (open-fork T c b n (x .0) (x .2)) (List·Memᴰ·head (sym (x .3))) in
+      let (j, p, q, r, s, o) = joined-later (suc (x .0)) (next-within T c b (x .0) (x .1) e) t m in
+      (j, q, r, s, omega (arith, o, next-owner T c b (x .0) (x .1) e, fork-above T c b (x .0) (x .1) (x .2), x .3))
+
+  -- what holds of the root, and passes from a thread to each that it joins, holds of every thread
+  pub by-joins : (P : ℕ → Type 0) → P 0 → ((j : ℕ) → j < T .actions → kind T j ≡ join → P (owner T j) → P (T .argument j)) → (t : ℕ) → t < T .threads → P t
+  by-joins P root joins t h = go (suc t) t (omega arith) h
+    where
+      go : (k t : ℕ) → t < k → t < T .threads → P t
+      go zero t p q = absurd (omega arith)
+      go (suc k) zero p q = root
+      go (suc k) (suc t) p q =
+          let (j, l, i, e, o) = join-exists (suc t) (omega arith) q in
+          rw e at (joins j l i (go k (owner T j) (omega arith) (omega arith)))

@@ -18,9 +18,9 @@ use Rattle.schedule.proofs.Lawful.{Lawful}
 use Rattle.schedule.proofs.Facts.{Done, Facts}
 use Rattle.schedule.proofs.Numbers.{number-rises, number-child, number-depends}
 use Rattle.schedule.proofs.Words.{Ascends}
-use Rattle.schedule.proofs.Undone.{done-low, undone, done-ended, ended-all, number-first, next-below, owner-of-next}
+use Rattle.schedule.proofs.Done.{done-low, undone, done-ended, ended-all, number-first, next-below, owner-of-next}
 use Rattle.schedule.proofs.Batches.{Enabled}
-use Rattle.schedule.proofs.Depth.{join-depends, by-joins}
+use Rattle.schedule.proofs.Joins.{join-depends, by-joins}
 
 -- of the five statuses, neither unborn nor waiting nor ended
 ready-or-held : (s : ℕ) → s ≤ ended → (s ≡ unborn → ⊥) → (s ≡ waiting → ⊥) → (s ≡ ended → ⊥) → (s ≡ ready) ⊎ (s ≡ held)

@@ -1,43 +1,51 @@
+-- tables: what an accepted one keeps, the numbers of its actions, its joins and levels
 pub mod Lawful
 pub mod Places
 pub mod Numbers
-pub mod Fronts
-pub mod Lists
+pub mod SerialSums
+pub mod Joins
+pub mod Depth
+-- the words of the tests, and the lists and sums that they are about
 pub mod Words
+pub mod Lists
+pub mod Totals
+pub mod CountBelow
+-- what is sound
 pub mod Clauses
 pub mod Facts
 pub mod Tests
-pub mod Totals
-pub mod Joins
+pub mod Done
 pub mod Shares
-pub mod Holders
-pub mod Moves
+pub mod Leftmost
+pub mod Soundness
+-- turns keep it
+pub mod Starts
+pub mod Does
 pub mod Advances
-pub mod ListMoves
-pub mod Undone
+pub mod Holders
 pub mod Releases
+pub mod Moves
+pub mod ListMoves
 pub mod Ends
 pub mod Forks
 pub mod Turns
-pub mod Starts
+-- rows and calls
 pub mod Replies
 pub mod Rows
 pub mod Stores
 pub mod Histories
-pub mod Depth
-pub mod Rule
+-- the limit: the rule with b, batches, what they draw
+pub mod Ages
+pub mod KeepsTest
 pub mod Beyond
 pub mod Acts
+pub mod Tries
+pub mod Enables
 pub mod Counting
 pub mod Batches
-pub mod Leftmost
-pub mod Steps
-pub mod Tries
 pub mod Draws
 pub mod Bound
 pub mod FrontParts
 pub mod Limit
-pub mod Counts
-pub mod Soundness
-pub mod KeepsTest
+-- the worked cases
 pub mod CaseLaws

@@ -1,4 +1,4 @@
--- A worker that acts and is released: what is known of its thread's next action, and that what a sound state says of the workers stays.
+-- A worker that acts: what is known of its thread and the next action, and who holds what once the worker is released.
 use mathlib.Core.Path.{_≡_, refl, _∙_}
 use Prim.Native.Nat.{ℕ, _<_}
 use mathlib.Core.List.{List·Memᴰ}
@@ -15,7 +15,7 @@ use Rattle.schedule.specs.Sound.{isDone}
 use Rattle.schedule.proofs.Lawful.{Lawful}
 use Rattle.schedule.proofs.Facts.{Done, Holding, Facts}
 use Rattle.schedule.proofs.Holders.{rehung}
-use Rattle.schedule.proofs.Undone.{undone, next-below, owner-of-next, next-depends}
+use Rattle.schedule.proofs.Done.{undone, next-below, owner-of-next, next-depends}
 
 -- ---- a worker acts
 

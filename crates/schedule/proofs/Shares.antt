@@ -21,10 +21,9 @@ use Rattle.schedule.specs.Machine.{State, ended, nextOf, statusOf}
 use Rattle.schedule.specs.Sound.{isDone, ofDone, sumDone}
 use Rattle.schedule.proofs.Lawful.{Lawful}
 use Rattle.schedule.proofs.Facts.{Facts}
-use Rattle.schedule.proofs.Undone.{done-low, undone, done-ended, ended-all}
-use Rattle.schedule.proofs.Depth.{join-depends}
+use Rattle.schedule.proofs.Done.{done-low, undone, done-ended, ended-all}
 use Rattle.schedule.proofs.Totals.{sumTo-term, sumTo-add, sumTo-append, sumTo-front, sum-targets}
-use Rattle.schedule.proofs.Joins.{joins-one}
+use Rattle.schedule.proofs.Joins.{joins-one, join-depends}
 
 -- how many actions of thread t are done
 unfoldable pub progress : Table → State → ℕ → ℕ

@@ -23,7 +23,7 @@ use Rattle.schedule.proofs.Shares.{share, held-shares, free-held}
 use Rattle.schedule.proofs.Stores.{steady-lawful, steady-fits, steady-facts}
 use Rattle.schedule.proofs.Leftmost.{leftmost-enabled}
 use Rattle.schedule.proofs.Totals.{sumTo-bound}
-use Rattle.schedule.proofs.Counts.{count-bound, member-more, ascending-count, set-ones}
+use Rattle.schedule.proofs.CountBelow.{count-bound, member-more, ascending-count, set-ones}
 
 module _ (r : Run) (h : Steady r) where
   -- the threads in the list, counted

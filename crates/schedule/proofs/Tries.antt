@@ -19,12 +19,12 @@ use Rattle.schedule.specs.Machine.{State, ready, held, nextOf, statusOf,
 use Rattle.schedule.specs.Sound.{isDone}
 use Rattle.schedule.proofs.Lawful.{Lawful}
 use Rattle.schedule.proofs.Facts.{Facts}
-use Rattle.schedule.proofs.Undone.{done-alike}
+use Rattle.schedule.proofs.Done.{done-alike}
 use Rattle.schedule.proofs.Moves.{taken-facts}
 use Rattle.schedule.proofs.Releases.{Acting, acting, acting-alone}
 use Rattle.schedule.proofs.Turns.{leftmost-ready}
 use Rattle.schedule.proofs.Batches.{startAction, begins}
-use Rattle.schedule.proofs.Steps.{Acted, acted, set-ended}
+use Rattle.schedule.proofs.Acts.{Acted, acted, set-ended}
 
 -- The turn of w tries action a of thread t, with what is left of its quota or, at the beginning of a batch, with K.
 pub record Tries (T : Table) (K w : ℕ) (st : State) (t a : ℕ) (s : Stepped) : Type 0 where

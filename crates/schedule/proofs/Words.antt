@@ -61,10 +61,14 @@ pub pick-of : (c : Bool) {s t : Bool} {A B : Type 0} → (s ≡ true) ↔ A → 
 pick-of true p q = ((λ e. ((λ h. p .0 e), (λ h. no-way (cc)))), (λ h. p .1 (h .0 refl)))
 pick-of false p q = ((λ e. ((λ h. no-way (cc)), (λ h. q .0 e))), (λ h. q .1 (h .1 refl)))
 
--- a test that is not true is false
+-- a test that is not true is false, and one that is not false is true
 pub never-true : (s : Bool) → (s ≡ true → ⊥) → s ≡ false
 never-true true h = absurd (h refl)
 never-true false h = refl
+
+pub never-false : (q : Bool) → (q ≡ false → ⊥) → q ≡ true
+never-false true n = refl
+never-false false n = absurd (n refl)
 
 pub not-both : (s : Bool) → s ≡ true → s ≡ false → ⊥
 not-both s e f = no-way (cc)
@@ -85,6 +89,13 @@ leb-exactly a b = (leb-true a b, le-leb a b)
 
 pub eqb-exactly : (a b : ℕ) → (eqb a b ≡ true) ↔ (a ≡ b)
 eqb-exactly a b = (eqb-true a b, eq-eqb a b)
+
+pub eqb-same : (x y z : ℕ) → (x ≡ z → y ≡ z) → (y ≡ z → x ≡ z) → eqb x z ≡ eqb y z
+eqb-same x y z to back = go (ℕ-discrete x z)
+  where
+    go : Dec (x ≡ z) → eqb x z ≡ eqb y z
+    go (yes e) = cc (eq-eqb x z e, eq-eqb y z (to e))
+    go (no n) = cc (ne-eqb x z n, ne-eqb y z (λ e. n (back e)))
 
 pub not-eqb-exactly : (a b : ℕ) → (not (eqb a b) ≡ true) ↔ (a ≡ b → ⊥)
 not-eqb-exactly a b = ((λ e. eqb-false a b (not-true _ e)), (λ h. not-exactly (eqb a b) .1 (ne-eqb a b h)))

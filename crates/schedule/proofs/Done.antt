@@ -1,41 +1,27 @@
 -- What is done and what is not, in a sound state: nothing of an unborn thread, everything that a born thread's next action comes after, and nothing between a fork to come and the
--- action after it. And one action more done: what stays.
-use mathlib.Core.Path.{_≡_, refl, sym, _∙_}
-use Prim.Native.Nat.{ℕ, zero, suc, _+_, _≤_, _<_}
+-- action after it.
+use mathlib.Core.Path.{_≡_, refl, _∙_}
+use Prim.Native.Nat.{ℕ, zero, suc, _≤_, _<_}
 use mathlib.Core.List.{[], _∷_, List·Memᴰ, List·Memᴰ·head, List·Memᴰ·not-nil, List·Memᴰ·cases-cons, List·Memᴰ·eq-of-singleton}
 use mathlib.Core.Bool.{Bool, true, false, and-false, or-false}
 use mathlib.Core.Logic.{_⊎_, inl, inr, ⊎-elim}
 use native.Mathlib.Decide.{ℕ-discrete, decLt}
 use native.Mathlib.Omega.{arith}
 use lib.Dec.{ltb, eqb}
-use borrow.Author.Tests.{ltb-true, eqb-true, eqb-false, eq-eqb, ne-eqb, lt-ltb, le-ltb}
+use borrow.Author.Tests.{ltb-true, eqb-true, eq-eqb, ne-eqb, lt-ltb, le-ltb}
 use Rattle.table.specs.Format.{end, fork, join, is, Table, kind}
-use Rattle.table.specs.Rules.{owner, endOf, allocOf, freeOf}
+use Rattle.table.specs.Rules.{owner, endOf}
 use Rattle.table.specs.Level.{forkBelow, dependsOn}
 use Rattle.table.proofs.Tests.{no-way, and-both, is-true}
-use Rattle.table.proofs.Sums.{sumTo-one}
 use Rattle.table.proofs.Bodies.{after-end, owner-is, owner-of-end, owner-end, end-within, join-below, next-within, first-within, owner-of-first, owner-below, owner-first, fork-below, fork-above, next-owner}
 use Rattle.table.proofs.Nesting.{fork-found, fork-exists}
 use Rattle.table.proofs.Levels.{depends-step, depends-join, depends-root, depends-child, by-place}
 use Rattle.schedule.specs.Machine.{State, unborn, ended, nextOf, statusOf}
-use Rattle.schedule.specs.Sound.{numberOf, isDone, ofDone, sumDone}
+use Rattle.schedule.specs.Sound.{numberOf, isDone}
 use Rattle.schedule.proofs.Lawful.{Lawful}
-use Rattle.schedule.proofs.Words.{or-exactly, ltb-next}
+use Rattle.schedule.proofs.Words.{never-false, or-exactly, eqb-same}
 use Rattle.schedule.proofs.Numbers.{number-child, number-rises, number-between}
 use Rattle.schedule.proofs.Facts.{Done, Facts}
-
--- ---- tests
-
-not-false-true : (q : Bool) → (q ≡ false → ⊥) → q ≡ true
-not-false-true true n = refl
-not-false-true false n = absurd (n refl)
-
-pub eqb-same : (x y z : ℕ) → (x ≡ z → y ≡ z) → (y ≡ z → x ≡ z) → eqb x z ≡ eqb y z
-eqb-same x y z to back = go (ℕ-discrete x z)
-  where
-    go : Dec (x ≡ z) → eqb x z ≡ eqb y z
-    go (yes e) = cc (eq-eqb x z e, eq-eqb y z (to e))
-    go (no n) = cc (ne-eqb x z n, ne-eqb y z (λ e. n (back e)))
 
 -- ---- done or not, by the thread's next action
 
@@ -130,7 +116,7 @@ module _ (T : Table) (l : Lawful T) (p K : ℕ) (st : State) (f : Facts T p K st
 
   -- a born thread's fork is done
   pub born-forked : (x : ℕ) → x < T .actions → kind T x ≡ fork → (statusOf st (T .argument x) ≡ unborn → ⊥) → Done T st x
-  born-forked x h k n = not-false-true (isDone T st x) (λ e. n (undone-unborn x h k e))
+  born-forked x h k n = never-false (isDone T st x) (λ e. n (undone-unborn x h k e))
 
   -- what a born thread's next action depends on is done, where that is no join of a child not ended
   pub next-depends : (t : ℕ) → t < T .threads → (statusOf st t ≡ unborn → ⊥) → (kind T (nextOf st t) ≡ join → statusOf st (T .argument (nextOf st t)) ≡ ended)
@@ -214,65 +200,3 @@ module _ (T : Table) (l : Lawful T) (p K : ℕ) (st : State) (f : Facts T p K st
               let y : forkBelow T (T .actions) (owner T d) ≡ z = cc (r, fork-found T (l .contents) (l .bodies) (l .nesting) z s q) in
               let none : statusOf st (owner T z) ≡ unborn = ih z s (rw y at above) (rw y at below) (omega (arith, later z d s q i r)) in
               cc (r, undone-unborn z s q (unborn-undone z s none))
-
--- ---- one action more
-
--- action a is done, and of the others the same ones as before
-pub record Does (T : Table) (a : ℕ) (st st' : State) : Type 0 where
-  pub not-yet : isDone T st a ≡ false
-  pub now : Done T st' a
-  pub same : (d : ℕ) → (d ≡ a → ⊥) → isDone T st' d ≡ isDone T st d
-
--- a thread that has not ended does its next action a and stands at the action after it
-pub over-does : (T : Table) (st st' : State) (t a : ℕ) → owner T a ≡ t → nextOf st t ≡ a → (statusOf st t ≡ ended → ⊥)
-    → ((u : ℕ) → eqb (statusOf st' u) ended ≡ eqb (statusOf st u) ended) → nextOf st' t ≡ suc a → ((u : ℕ) → (u ≡ t → ⊥) → nextOf st' u ≡ nextOf st u) → Does T a st st'
-over-does T st st' t a own next live ends over beside =
-    record {
-      not-yet = undone T st a (rw (own, next) (omega arith)) (rw own live);
-      now = done-low T st' a (rw (own, over) (omega arith));
-      same = λ d n. same d n (ℕ-discrete (owner T d) t);
-    }
-  where
-    same : (d : ℕ) → (d ≡ a → ⊥) → Dec (owner T d ≡ t) → isDone T st' d ≡ isDone T st d
-    same d n (yes o) =
-        done-live T st' d (rw o (eqb-false (statusOf st' t) ended (ends t ∙ ne-eqb (statusOf st t) ended live)))
-        ∙ rw (o, over, next) (ltb-next d a n)
-        ∙ sym (done-live T st d (rw o live))
-    same d n (no o) = done-alike T st d st' (beside (owner T d) o) (ends (owner T d))
-
-module _ (T : Table) (l : Lawful T) (p K : ℕ) (st : State) (f : Facts T p K st) (a : ℕ) (within : a < T .actions) (st' : State) (x : Does T a st st') where
-  pub does-ordered : ((d : ℕ) → List·Memᴰ d (dependsOn T a) → Done T st d)
-      → (v d : ℕ) → v < T .actions → Done T st' v → List·Memᴰ d (dependsOn T v) → Done T st' d
-  does-ordered before v d h q m = go (ℕ-discrete v a)
-    where
-      kept : Done T st d → Done T st' d
-      kept e = at (ℕ-discrete d a)
-        where
-          at : Dec (d ≡ a) → Done T st' d
-          at (yes i) = rw i (x .now)
-          at (no i) = x .same d i ∙ e
-
-      go : Dec (v ≡ a) → Done T st' d
-      go (yes i) = kept (before d (rw i at m))
-      go (no i) = kept (f .ordered v d h (sym (x .same v i) ∙ q) m)
-
-  -- what is done comes to so much more
-  does-sum : (own : ℕ → ℕ) → sumDone T st' own ≡ sumDone T st own + own a
-  does-sum own =
-      let before : ofDone T st own a ≡ 0 = rw (x .not-yet) in
-      let now : ofDone T st' own a ≡ own a = rw (x .now) in
-      omega (arith, sumTo-one (ofDone T st' own) (ofDone T st own) a (T .actions) within (λ d h n. rw (x .same d n)))
-
-  pub does-amount : st' .held + freeOf T a ≡ st .held + allocOf T a → st' .held + sumDone T st' (freeOf T) ≡ sumDone T st' (allocOf T)
-  does-amount e = omega (arith, does-sum (freeOf T), does-sum (allocOf T), f .amount)
-
-  -- the fork of a thread that a does not fork is done as before
-  pub does-fork : (u : ℕ) → 0 < u → u < T .threads → (kind T a ≡ fork → T .argument a ≡ u → ⊥)
-      → isDone T st' (forkBelow T (T .actions) u) ≡ isDone T st (forkBelow T (T .actions) u)
-  does-fork u pos h n = go (fork-exists T (l .contents) (l .bodies) (l .nesting) (l .forking) u pos h)
-    where
-      go : (z : ℕ) × (z < T .actions) × (kind T z ≡ fork) × (T .argument z ≡ u)
-          → isDone T st' (forkBelow T (T .actions) u) ≡ isDone T st (forkBelow T (T .actions) u)
-      go (z, i, k, e) =
-          let y : forkBelow T (T .actions) u ≡ z = rw (← e) (fork-found T (l .contents) (l .bodies) (l .nesting) z i k) in
-          rw y (x .same z (λ q. n (rw q at k) (rw q at e)))
