@@ -90,14 +90,14 @@ module _ (T : Table) (l : Lawful T) (p K : ℕ) (st : State) where
         wait-open = λ t h e. waitsAtJoin-exactly T st t .0 (s .waits t h) e .1;
         holding =
             record {
-                worker-size = s .worker-size;
-                holder-below = λ w h e. worker w h .0 e .0;
-                holder-thread = λ w h e. worker w h .0 e .1 .0;
-                holder-held = holds-held;
-                holder-quota = λ w h e. worker w h .0 e .1 .1;
-                holder-once = once;
-                held-holder = some-holder;
-                free-worker = λ w h. worker w h .1;
+              worker-size = s .worker-size;
+              holder-below = λ w h e. worker w h .0 e .0;
+              holder-thread = λ w h e. worker w h .0 e .1 .0;
+              holder-held = holds-held;
+              holder-quota = λ w h e. worker w h .0 e .1 .1;
+              holder-once = once;
+              held-holder = some-holder;
+              free-worker = λ w h. worker w h .1;
             };
         amount = heldRight-exactly T st .0 (s .amount);
         above = s .above;

@@ -16,7 +16,7 @@ use Rattle.schedule.specs.declared.Report.the-variants.{Finished, Spent,
 pub data Said : Type 0 where
   nothing idle done quota wait begun finished spent : Said
 
--- number and place of a refusal, 0 and 0 where there is none; what is said; the thread; the action, amount or child; the turns that a run took
+-- number and place of a refusal, 0 and 0 where there is none; what is said; the thread; the action, amount or child; the turns taken, by a single turn or a run
 pub record Values : Type 0 where
   pub number : ℕ
   pub place : ℕ

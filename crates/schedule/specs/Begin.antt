@@ -29,12 +29,12 @@ beginPasses T p K =
     ∷ record { from = 0; places = T .actions; checks = record { number = 22; applies = allocAbove T K } ∷ [] }
     ∷ []
 
--- each thread's first action, 0 from thread n on: "An unborn thread's next action is its first", "Threads from n on are unborn with next action 0"
+-- the values of a function at k numbers, from t on
 unfoldable pub firsts : (ℕ → ℕ) → ℕ → ℕ → List ℕ
 firsts first t zero = []
 firsts first t (suc k) = first t ∷ firsts first (suc t) k
 
--- "at the start only thread 0, ready"; "all 0 at the start"
+-- "An unborn thread's next action is its first", "Threads from n on are unborn with next action 0"; "at the start only thread 0, ready"; "all 0 at the start"
 unfoldable pub startState : Table → State
 startState T =
     record {

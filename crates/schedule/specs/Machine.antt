@@ -98,7 +98,7 @@ without t (u ∷ l) = pick (eqb u t) l (u ∷ without t l)
 
 -- ---- a turn
 
--- the thread that forks t
+-- the thread that forks t; of the root, which none forks, the root itself
 abbrev pub parentOf : Table → ℕ → ℕ
 parentOf T t = owner T (forkBelow T (T .actions) t)
 
