@@ -9,3 +9,4 @@ pub mod Memory
 pub mod Answers
 pub mod Cases
 pub mod Rule
+pub mod Starred

@@ -1,0 +1,57 @@
+-- Document 01's cases that bear a star, on tables, on runs and on the limit, as one table with one theorem over all of them.
+use mathlib.Core.Path.{_≡_, refl, sym, ap, ap₂, _∙_}
+use mathlib.Core.List.{List, [], _∷_, _++_, map, map-map}
+use Rattle.table.specs.Load.{Values, valuesOf, loaded}
+use Rattle.table.specs.Cases.{Case as TableCase}
+use Rattle.table.specs.Cases.{cases as tableCases, worked as tables-worked}
+use Rattle.schedule.specs.Cases.{Listing, Case, ranAs}
+use Rattle.schedule.specs.Cases.{cases as runCases, worked as runs-worked}
+use Rattle.schedule.specs.Rule.{Measures, RowCase, measured, rowCases, rows-worked}
+
+-- what a case comes to: the values of a loaded table, the listing of a run, or a row's measures against the limit
+pub data Outcome : Type 0 where
+  loads : Values → Outcome
+  lists : Listing → Outcome
+  measures : Measures → Outcome
+
+-- what the definitions give, and what document 01 says
+pub record Row : Type 0 where
+  pub computed : Outcome
+  pub expected : Outcome
+
+abbrev pub tableRow : TableCase → Row
+tableRow c = record { computed = loads (valuesOf (loaded (c .bytes))); expected = loads (c .values) }
+
+abbrev pub runRow : Case → Row
+runRow c = record { computed = lists (ranAs (c .bytes) (c .workers) (c .quota) (c .order)); expected = lists (c .listing) }
+
+abbrev pub limitRow : RowCase → Row
+limitRow c = record { computed = measures (measured c); expected = measures (c .measures) }
+
+unfoldable pub starred : List Row
+starred = map tableRow tableCases ++ (map runRow runCases ++ map limitRow rowCases)
+
+abbrev Agree : List Row → Type 0
+Agree l = map (λ (r : Row). r .computed) l ≡ map (λ (r : Row). r .expected) l
+
+map-append : (f : Row → Outcome) (k l : List Row) → map f (k ++ l) ≡ map f k ++ map f l
+map-append f [] l = refl
+map-append f (x ∷ k) l = rw (map-append f k l)
+
+agree-append : (k l : List Row) → Agree k → Agree l → Agree (k ++ l)
+agree-append k l h i = map-append _ k l ∙ ap₂ _++_ h i ∙ sym (map-append _ k l)
+
+-- rows of one sort: what holds of the values holds of the outcomes
+rows-agree : {A B : Type 0} (row : A → Row) (given said : A → B) (kind : B → Outcome) (l : List A)
+    → map (λ x. row x .computed) l ≡ map (λ x. kind (given x)) l → map (λ x. row x .expected) l ≡ map (λ x. kind (said x)) l → map given l ≡ map said l
+    → Agree (map row l)
+rows-agree row given said kind l c e h =
+    map-map _ row l ∙ c ∙ sym (map-map kind given l) ∙ ap (map kind) h ∙ map-map kind said l ∙ sym e ∙ sym (map-map _ row l)
+
+-- every row comes to what document 01 says
+pub starred-worked : map (λ (r : Row). r .computed) starred ≡ map (λ (r : Row). r .expected) starred
+unfolding starred
+starred-worked =
+    agree-append (map tableRow tableCases) (map runRow runCases ++ map limitRow rowCases) (rows-agree tableRow _ _ loads tableCases refl refl tables-worked)
+    (agree-append (map runRow runCases) (map limitRow rowCases) (rows-agree runRow _ _ lists runCases refl refl runs-worked)
+    (rows-agree limitRow _ _ measures rowCases refl refl rows-worked))
