@@ -38,7 +38,7 @@ pub record Ended (T : Table) (w t : ℕ) (st st' : State) : Type 0 where
   pub list-is : st' .list ≡ without t (st .list)
 
 -- every action has an owner below the count of threads
-ownerBelow-less : (T : Table) (k a : ℕ) → 0 < k → ownerBelow T k a < k
+pub ownerBelow-less : (T : Table) (k a : ℕ) → 0 < k → ownerBelow T k a < k
 unfolding ownerBelow
 ownerBelow-less T zero a h = h
 ownerBelow-less T (suc zero) a h = go (leb (T .first 0) a)

@@ -151,6 +151,9 @@ module _ (T : Table) (l : Lawful T) where
   pub number-once : (a d : ℕ) → a < T .actions → d < T .actions → numberOf T a ≡ numberOf T d → a ≡ d
   number-once a d h k e = cc (number-place a h, number-place d k)
 
+  pub number-root : numberOf T (T .first 0) ≡ 0
+  number-root = rw (number-rank (T .first 0) (first-within T c 0 (l .some-thread))) (rank-root T c b n f (l .some-thread))
+
   pub number-step : (a : ℕ) → a < T .actions → is end (kind T a) ≡ false → is fork (kind T a) ≡ false → numberOf T (suc a) ≡ suc (numberOf T a)
   number-step a h e k = rw (number-rank a h, number-rank (suc a) (next-within T c b a h e)) (rank-step T c b n f a h e k)
 

@@ -6,6 +6,7 @@ use native.Mathlib.Omega.{arith}
 use native.Mathlib.Decide.{ℕ-discrete, decLt}
 use mathlib.Core.List.{List, [], _∷_, List·Memᴰ, List·Memᴰ·head, List·Memᴰ·tail, List·Memᴰ·not-nil, List·Memᴰ·cases-cons}
 use mathlib.Core.Bool.{Bool, true, false, not, _&&_, _||_}
+use lib.ListN.{length}
 use lib.Dec.{ltb, leb, eqb}
 use borrow.Author.Tests.{ltb-true, lt-ltb, le-ltb, leb-true, le-leb, eqb-true, eqb-false, eq-eqb, ne-eqb, not-true}
 use Rattle.table.specs.Sum.{pick, sumTo}
@@ -13,7 +14,7 @@ use Rattle.table.specs.declared.Found.{Found}
 use Rattle.table.specs.declared.Found.the-variants.{Nothing, At}
 use Rattle.table.proofs.Tests.{no-way}
 use Rattle.table.proofs.Sums.{sumTo-zero}
-use Rattle.schedule.specs.Sound.{allBelow, allIn, member, countBelow, agree, risesFrom, rises, sameList, isNothing}
+use Rattle.schedule.specs.Sound.{allBelow, allIn, member, countBelow, agree, placeIn, risesFrom, rises, sameList, isNothing}
 
 -- ---- tests and truth values
 
@@ -230,6 +231,18 @@ one-count f (suc k) o = go (f k) refl (one-count f k)
 
 pub countBelow-one : (f : ℕ → Bool) (k : ℕ) → (countBelow f k ≡ 1) ↔ One f k
 countBelow-one f k = (count-one f k, one-count f k)
+
+-- ---- places in a list
+
+pub placeIn-below : (x : ℕ) (l : List ℕ) → List·Memᴰ x l → placeIn x l < length l
+unfolding placeIn
+placeIn-below x [] m = absurd (List·Memᴰ·not-nil m)
+placeIn-below x (y ∷ l) m = go (eqb x y) refl (List·Memᴰ·cases-cons m) (placeIn-below x l)
+  where
+    go : (t : Bool) → eqb x y ≡ t → (x ≡ y) ⊎ List·Memᴰ x l → (List·Memᴰ x l → placeIn x l < length l) → pick t 0 (suc (placeIn x l)) < suc (length l)
+    go true q p ih = omega arith
+    go false q (inl e) ih = absurd (eqb-false x y q e)
+    go false q (inr n) ih = omega (arith, ih n)
 
 -- ---- lists that rise
 
