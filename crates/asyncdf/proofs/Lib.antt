@@ -1,0 +1,14 @@
+pub mod Rows
+pub mod Seats
+pub mod Room
+pub mod DoneSums
+pub mod Laying
+pub mod All
+pub mod Filled
+pub mod Shifts
+pub mod Lookups
+pub mod Every
+pub mod Done
+pub mod Noting
+pub mod Spans
+pub mod Marks

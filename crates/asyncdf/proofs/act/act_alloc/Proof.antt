@@ -1,0 +1,83 @@
+-- `asyncdf::act::act_alloc` meets its contract: the parts that it leaves are those of the clause of `actBy` for alloc, beyond the quota and within it.
+use mathlib.Core.Path.{_≡_}
+use Prim.Native.Nat.{ℕ, _+_, _-_, _≤_, _<_, max}
+use mathlib.Core.List.{List}
+use mathlib.Core.Bool.{true}
+use borrow.Author.Needs.{needs}
+use borrow.Author.Tests.{le-leb, lt-leb}
+use denote.Ref.{now}
+use lib.ListN.{set}
+use Rattle.table.specs.Format.{Table, alloc}
+use Rattle.schedule.specs.declared.Worker.{Worker}
+use Rattle.schedule.specs.declared.Reply.the-variants.{Done, Quota}
+use Rattle.schedule.specs.Machine.{nobody, stepped, actBy}
+use Rattle.asyncdf.specs.Parts.{partState, At}
+use Rattle.asyncdf.specs.declared.act.Totals.{Totals}
+use Rattle.asyncdf.proofs.Rows.{next-done}
+use Rattle.asyncdf.proofs.act.act_alloc.Statement.{statement}
+use Rattle.asyncdf.proofs.act.act_alloc.Tie as tie
+
+module _ (next status : List ℕ) (totals : Totals) (worker : Worker) (a x : ℕ) (T : Table) (list : List ℕ) where
+  beyond : (left : Worker) → worker .quota < x → left ≡ nobody
+      → stepped (Quota (worker .thread) x) (partState next (set status (worker .thread) 1) list totals left)
+      ≡ actBy alloc T 0 (worker .thread) a x (partState next status list totals worker)
+  unfolding actBy
+  beyond left h e = rw (lt-leb x (worker .quota) h, e)
+
+  within : (highest : ℕ) → At next worker a → x ≤ worker .quota → highest ≡ max (totals .highest) (totals .held + x)
+      → stepped (Done (worker .thread) a)
+      (partState (set next (worker .thread) (a + 1)) status list (record { listed = totals .listed; held = totals .held + x; highest = highest })
+      (record { holds = true; thread = worker .thread; quota = worker .quota - x }))
+      ≡ actBy alloc T 0 (worker .thread) a x (partState next status list totals worker)
+  unfolding actBy
+  within highest p h e = rw (le-leb x (worker .quota) h, next-done next worker a p, e)
+
+cast-t : tie.Need-cast-t
+cast-t c = search needs
+
+element-write-status : tie.Need-element-write-status
+element-write-status c = search needs
+
+release-requires : tie.Need-release-requires
+release-requires c κs = search needs
+
+returns : tie.Need-returns
+returns c T list =
+    let d = c .before .before .before in
+    beyond (now (d .args .next)) (now (d .args .status)) (d .args .totals) (d .args .worker) (d .args .a) (d .args .x) T list _ (c .before .if1 .taken) (c .release .ensures)
+
+add-next : tie.Need-add-next
+add-next c = search needs
+
+mul-next : tie.Need-mul-next
+mul-next c = search needs
+
+element-write-next : tie.Need-element-write-next
+element-write-next c = search needs
+
+add-held : tie.Need-add-held
+add-held c = search needs
+
+larger-requires : tie.Need-larger-requires
+larger-requires c κs = search needs
+
+returns-2 : tie.Need-returns-2
+returns-2 c T list =
+    let k = c .before .before .before in
+    let d = k .before .before in
+    within (now (d .args .next)) (now (d .args .status)) (d .args .totals) (d .args .worker) (d .args .a) (d .args .x) T list _ (d .pre .0) (k .if1 .left) (c .larger .ensures)
+
+pub act-alloc-spec : {M : Type 1} → statement M
+act-alloc-spec =
+    tie.close
+    (tie.spec
+    cast-t
+    element-write-status
+    release-requires
+    returns
+    add-next
+    mul-next
+    element-write-next
+    add-held
+    larger-requires
+    returns-2)

@@ -1,0 +1,118 @@
+-- `asyncdf::act::act_end` meets its contract: the parts that it leaves are those of the clause of `actBy` for end, with the list that `remove` leaves and the statuses that
+-- `wake` leaves.
+use mathlib.Core.Path.{_≡_, refl, sym, _∙_}
+use Prim.Native.Nat.{ℕ, _-_, _<_}
+use mathlib.Core.List.{List}
+use mathlib.Core.Bool.{Bool, true, false}
+use native.Mathlib.Decide.{ℕ-discrete}
+use native.Mathlib.Omega.{arith}
+use borrow.Author.Needs.{needs}
+use denote.Ref.{now}
+use lib.ListN.{length, getD, set, take, length-set}
+use lib.Seq.{getD-set-same, getD-set-other}
+use Rattle.table.specs.Sum.{pick}
+use Rattle.table.specs.Format.{Table, end}
+use Rattle.schedule.specs.declared.Worker.{Worker}
+use Rattle.schedule.specs.declared.Reply.the-variants.{Done}
+use Rattle.schedule.specs.Machine.{State, waiting, ended, ready, nobody, without, parentOf, waitsFor, woken, withStatus, stepped, actBy}
+use Rattle.schedule.specs.Record.{filled, maxThreads}
+use Rattle.schedule.specs.Sound.{placeIn}
+use Rattle.asyncdf.specs.Parts.{partState, Rowed, Parents, Wakes, wokenStatus}
+use Rattle.asyncdf.specs.declared.act.Totals.{Totals}
+use Rattle.asyncdf.proofs.Rows.{length-without, take-filled, rowed-filled, rowed-small}
+use Rattle.asyncdf.proofs.act.act_end.Statement.{statement}
+use Rattle.asyncdf.proofs.act.act_end.Tie as tie
+
+-- when thread t has ended, thread u may still be looked at
+wakes : (s : List ℕ) (n : ℕ) (next status : List ℕ) (u t : ℕ) → t < maxThreads → Wakes s n next status u → Wakes s n next (set status t ended) u
+wakes s n next status u t h w =
+    record { threads = w .threads; size = simp length-set (w .size); below = w .below; within = λ e. w .within (go (ℕ-discrete u t) e) }
+  where
+    go : Dec (u ≡ t) → getD (set status t ended) u 0 ≡ waiting → getD status u 0 ≡ waiting
+    go (yes e) q =
+        let z : ended ≡ waiting = sym (getD-set-same status t ended 0 (omega arith)) ∙ rw e at q in
+        omega arith
+    go (no d) q = rw (getD-set-other status t u ended 0 d) at q
+
+-- waking moves the statuses alone
+abbrev withStatuses : List ℕ → State → State
+withStatuses status st =
+    record { next = st .next; status = status; list = st .list; workers = st .workers; held = st .held; highest = st .highest; turns = st .turns }
+
+woken-status : (T : Table) (t : ℕ) (st : State) → woken T t st ≡ withStatuses (wokenStatus T (st .next) (st .status) (parentOf T t) t) st
+unfolding woken waitsFor wokenStatus
+woken-status T t st = go (waitsFor T st (parentOf T t) t)
+  where
+    go : (b : Bool) → pick b (withStatus (parentOf T t) ready st) st ≡ withStatuses (pick b (set (st .status) (parentOf T t) ready) (st .status)) st
+    go true = refl
+    go false = refl
+
+ended-with : (T : Table) (parents next status status' list after : List ℕ) (totals : Totals) (worker left : Worker) (a : ℕ) → Rowed list (totals .listed) → Parents T parents
+    → worker .thread < T .threads → placeIn (worker .thread) (take (totals .listed) list) < totals .listed
+    → status' ≡ wokenStatus T next (set status (worker .thread) ended) (getD parents (worker .thread) 0) (worker .thread)
+    → after ≡ filled maxThreads (without (worker .thread) (take (totals .listed) list)) → left ≡ nobody
+    → ((x : ℕ) → stepped (Done (worker .thread) a) (partState next status' after (record { listed = totals .listed - 1; held = totals .held; highest = totals .highest }) left)
+    ≡ actBy end T 0 (worker .thread) a x (partState next status list totals worker))
+    × Rowed after (totals .listed - 1)
+unfolding actBy
+ended-with T parents next status status' list after totals worker left a r p b h s e n =
+    let t : ℕ = worker .thread in
+    let len : ℕ = totals .listed in
+    let shorter : length (without t (take len list)) ≡ len - 1 = rw (r .front) at (length-without t (take len list) (rw (r .front) h)) in (
+      (λ x. rw (woken-status, s, p .right t b, take-filled after (without t (take len list)) (len - 1) e shorter, n)),
+      rowed-filled after (without t (take len list)) (len - 1) e shorter (omega (arith, rowed-small list len r)),
+    )
+
+cast-t : tie.Need-cast-t
+cast-t c = search needs
+
+element-write-status : tie.Need-element-write-status
+element-write-status c = search needs
+
+remove-requires : tie.Need-remove-requires
+remove-requires c κs =
+    let d = c .before .before in
+    (d .pre .1 .0, (rowed-small (now (d .args .list)) _ (d .pre .1 .0), d .pre .1 .1 .1 .0 .1))
+
+mul-u : tie.Need-mul-u
+mul-u c = search needs
+
+element-copy-out-u : tie.Need-element-copy-out-u
+element-copy-out-u c = search needs
+
+cast-u : tie.Need-cast-u
+cast-u c = search needs
+
+wake-requires : tie.Need-wake-requires
+wake-requires c κs =
+    let d = c .before .before .before .before .before in
+    wakes (now (d .args .table)) _ (now (d .args .next)) (now (d .args .status)) _ _ (d .pre .0 .thread) (d .pre .1 .1 .1 .1)
+
+release-requires : tie.Need-release-requires
+release-requires c κs = search needs
+
+sub-t18 : tie.Need-sub-t18
+sub-t18 c = search needs
+
+returns : tie.Need-returns
+returns c =
+    let k = c .before .before .before .before in
+    let d = k .before .before .before in
+    let q = d .pre .1 in
+    ended-with _ (now (d .args .parents)) (now (d .args .next)) (now (d .args .status)) _ (now (d .args .list)) (k .remove .last .0) (d .args .totals) (d .args .worker) _ _
+    (q .0) (q .1 .0) (q .1 .1 .0 .0) (q .1 .1 .0 .1) (c .before .wake .ensures) (k .remove .ensures) (c .release .ensures)
+
+pub act-end-spec : {M : Type 1} → statement M
+act-end-spec =
+    tie.close
+    (tie.spec
+    cast-t
+    element-write-status
+    remove-requires
+    mul-u
+    element-copy-out-u
+    cast-u
+    wake-requires
+    release-requires
+    sub-t18
+    returns)

@@ -1,0 +1,75 @@
+-- `asyncdf::act::act_join` meets its contract: the parts that it leaves are those of the clause of `actBy` for join, for a child that has ended and for one that has not.
+use mathlib.Core.Path.{_≡_}
+use Prim.Native.Nat.{ℕ, _+_}
+use mathlib.Core.List.{List}
+use borrow.Author.Needs.{needs}
+use borrow.Author.Tests.{eq-eqb, ne-eqb}
+use denote.Ref.{now}
+use lib.ListN.{getD, set}
+use Rattle.table.specs.Format.{Table, join}
+use Rattle.schedule.specs.declared.Worker.{Worker}
+use Rattle.schedule.specs.declared.Reply.the-variants.{Done, Wait}
+use Rattle.schedule.specs.Machine.{ended, waiting, nobody, stepped, actBy}
+use Rattle.asyncdf.specs.Parts.{partState, At}
+use Rattle.asyncdf.specs.declared.act.Totals.{Totals}
+use Rattle.asyncdf.proofs.Rows.{next-done}
+use Rattle.asyncdf.proofs.act.act_join.Statement.{statement}
+use Rattle.asyncdf.proofs.act.act_join.Tie as tie
+
+module _ (next status : List ℕ) (totals : Totals) (worker : Worker) (a x : ℕ) (T : Table) (list : List ℕ) where
+  joined : At next worker a → getD status x 0 ≡ ended
+      → stepped (Done (worker .thread) a) (partState (set next (worker .thread) (a + 1)) status list totals worker)
+      ≡ actBy join T 0 (worker .thread) a x (partState next status list totals worker)
+  unfolding actBy
+  joined p h = rw (eq-eqb (getD status x 0) ended h, next-done next worker a p)
+
+  waits : (left : Worker) → (getD status x 0 ≡ ended → ⊥) → left ≡ nobody
+      → stepped (Wait (worker .thread) x) (partState next (set status (worker .thread) waiting) list totals left)
+      ≡ actBy join T 0 (worker .thread) a x (partState next status list totals worker)
+  unfolding actBy
+  waits left h e = rw (ne-eqb (getD status x 0) ended h, e)
+
+cast-t : tie.Need-cast-t
+cast-t c = search needs
+
+element-copy-out-if1 : tie.Need-element-copy-out-if1
+element-copy-out-if1 c = search needs
+
+add-next : tie.Need-add-next
+add-next c = search needs
+
+mul-next : tie.Need-mul-next
+mul-next c = search needs
+
+element-write-next : tie.Need-element-write-next
+element-write-next c = search needs
+
+returns : tie.Need-returns
+returns c T list =
+    let d = c .before .before in
+    joined (now (d .args .next)) (now (d .args .status)) (d .args .totals) (d .args .worker) (d .args .a) (d .args .c) T list (d .pre .0) (c .if1 .taken)
+
+element-write-status : tie.Need-element-write-status
+element-write-status c = search needs
+
+release-requires : tie.Need-release-requires
+release-requires c κs = search needs
+
+returns-2 : tie.Need-returns-2
+returns-2 c T list =
+    let d = c .before .before .before in
+    waits (now (d .args .next)) (now (d .args .status)) (d .args .totals) (d .args .worker) (d .args .a) (d .args .c) T list _ (c .before .if1 .left) (c .release .ensures)
+
+pub act-join-spec : {M : Type 1} → statement M
+act-join-spec =
+    tie.close
+    (tie.spec
+    cast-t
+    element-copy-out-if1
+    add-next
+    mul-next
+    element-write-next
+    returns
+    element-write-status
+    release-requires
+    returns-2)

@@ -1,0 +1,128 @@
+-- `asyncdf::begin::begin` meets its contract: the table's own checks come first, and those of the beginning where they find nothing.
+use mathlib.Core.Path.{_≡_, ap, sym, _∙_}
+use Prim.Native.Nat.{ℕ, _≤_}
+use mathlib.Core.List.{List}
+use native.Mathlib.Omega.{arith}
+use borrow.Author.Needs.{needs}
+use borrow.Author.Tests.{ltb-false}
+use lib.ListN.{length}
+use denote.Ref.{now}
+use Rattle.table.specs.Format.{tableOf}
+use Rattle.table.specs.Pass.{firstFound}
+use Rattle.table.specs.Rules.{passes}
+use Rattle.table.specs.Accepted.{Rules}
+use Rattle.table.specs.Load.{loaded}
+use Rattle.table.specs.declared.Facts.{Facts}
+use Rattle.table.specs.declared.Refusal.{Refusal}
+use Rattle.table.specs.declared.Found.the-variants.{Nothing, At}
+use Rattle.table.specs.declared.Loaded.the-variants.{Accepted, Refused}
+use Rattle.table.proofs.Passes.{firstFound-append, found-exactly, passes-rules, accepted-exactly, accepted-facts, refused-exactly}
+use Rattle.schedule.specs.Record.{blank}
+use Rattle.schedule.specs.Begin.{begin, beginPasses, begunAs, startRun}
+use Rattle.schedule.specs.declared.Run.{Run}
+use Rattle.schedule.specs.declared.Beginning.the-variants.{Begun as started, Refused as refusedBegin}
+use Rattle.asyncdf.specs.Checks.{Known}
+use Rattle.asyncdf.proofs.begin.begin.Statement.{statement}
+use Rattle.asyncdf.proofs.begin.begin.Tie as tie
+
+accepted-rules : (s : List ℕ) {f : Facts} → loaded s ≡ Accepted f → Rules s
+accepted-rules s {f} h = accepted-exactly s .0 (h ∙ ap Accepted (accepted-facts s f h))
+
+refused-table : (s : List ℕ) (p K : ℕ) {x : Refusal} {b : Run} → loaded s ≡ Refused x → b ≡ blank → record { answer = refusedBegin x; run = b } ≡ begin s p K
+unfolding begin
+refused-table s p K {x} h e =
+    let f : firstFound (passes s) ≡ At x = found-exactly (passes s) x .1 (refused-exactly s x .0 h) in
+    rw (firstFound-append (passes s), f, e)
+
+module _ {s : List ℕ} (r : Rules s) (p K : ℕ) where
+  begin-is : begunAs (firstFound (beginPasses (tableOf s) p K)) (startRun s p K) ≡ begin s p K
+  unfolding begin
+  begin-is = rw (firstFound-append (passes s), passes-rules s .1 r)
+
+  refused-begin : {x : Refusal} {b : Run} → firstFound (beginPasses (tableOf s) p K) ≡ At x → b ≡ blank
+      → record { answer = refusedBegin x; run = b } ≡ begin s p K
+  refused-begin f e = rw (← begin-is, f, e)
+
+  begun : {b : Run} → firstFound (beginPasses (tableOf s) p K) ≡ Nothing → b ≡ startRun s p K → record { answer = started; run = b } ≡ begin s p K
+  begun f e = rw (← begin-is, f, e)
+
+long : {s : List ℕ} → Rules s → 4 ≤ length s
+long {s} r = ltb-false (length s) 4 (r .head .long)
+
+-- the table is accepted
+passed : (c : tie.After-enum-told) → Rules (now (c .before .before .before .before .args .bytes))
+passed c = accepted-rules _ (sym (c .before .before .load .ensures) ∙ c .enum-told .given .1)
+
+known : (c : tie.After-word2) → Known (now (c .before .before .before .before .before .before .args .bytes)) (c .before .word .result) (c .word2 .result)
+unfolding tableOf
+known c = record { rules = passed (c .before .before); threads = c .before .word .ensures .value; actions = c .word2 .ensures .value }
+
+load-requires : tie.Need-load-requires
+load-requires c κs = search needs
+
+enum-known-loaded : tie.Need-enum-known-loaded
+enum-known-loaded c = search needs
+
+blank-requires : tie.Need-blank-requires
+blank-requires c κs = search needs
+
+returns : tie.Need-returns
+returns c =
+    let d = c .before .before .before .before in
+    let a = d .before .before .args in
+    refused-table (now (a .bytes)) (a .p) (a .quota) (sym (d .load .ensures) ∙ c .before .before .loaded .given .1) (c .blank .ensures)
+
+enum-told : tie.Need-enum-told
+enum-told c = search needs
+
+word-requires : tie.Need-word-requires
+word-requires c κs = omega (arith, long (passed c))
+
+word-requires-2 : tie.Need-word-requires-2
+word-requires-2 c κs = omega (arith, long (passed (c .before)))
+
+begin-fault-requires : tie.Need-begin-fault-requires
+begin-fault-requires c κs = known c
+
+enum-known-found : tie.Need-enum-known-found
+enum-known-found c = search needs
+
+blank-requires-2 : tie.Need-blank-requires-2
+blank-requires-2 c κs = search needs
+
+returns-2 : tie.Need-returns-2
+returns-2 c =
+    let d = c .before .before .before .before in
+    let a = d .before .before .before .before .before .before .before .args in
+    refused-begin (known (d .before) .rules) (a .p) (a .quota) (sym (d .begin-fault .ensures) ∙ c .before .before .found .given .1) (c .blank2 .ensures)
+
+enum-told-2 : tie.Need-enum-told-2
+enum-told-2 c = search needs
+
+start-requires : tie.Need-start-requires
+start-requires c κs = known (c .before .before .before)
+
+returns-3 : tie.Need-returns-3
+returns-3 c =
+    let d = c .before .before .before in
+    let a = d .before .before .before .before .before .before .before .args in
+    begun (known (d .before) .rules) (a .p) (a .quota) (sym (d .begin-fault .ensures) ∙ c .before .enum-told2 .given .1) (c .start .ensures)
+
+pub begin-spec : {M : Type 1} → statement M
+begin-spec =
+    tie.close
+    (tie.spec
+    load-requires
+    enum-known-loaded
+    blank-requires
+    returns
+    enum-told
+    word-requires
+    word-requires-2
+    begin-fault-requires
+    enum-known-found
+    blank-requires-2
+    returns-2
+    enum-told-2
+    start-requires
+    returns-3)

@@ -1,0 +1,64 @@
+-- `asyncdf::begin::start` meets its contract: the two filled arrays are the definition's, and the other fields compute.
+use mathlib.Core.Path.{_≡_, refl, ap, _∙_}
+use Prim.Native.Nat.{ℕ}
+use mathlib.Core.List.{List}
+use native.Mathlib.Omega.{arith}
+use borrow.Author.Needs.{needs}
+use lib.ListN.{length, replicate, set}
+use Rattle.table.specs.Format.{tableOf}
+use Rattle.schedule.specs.Machine.{nobody}
+use Rattle.schedule.specs.Record.{filled, setOf}
+use Rattle.schedule.specs.Begin.{firsts, startState, startRun}
+use Rattle.schedule.specs.declared.Run.{Run}
+use Rattle.asyncdf.specs.Checks.{Known}
+use Rattle.asyncdf.proofs.Room.{known-sizes}
+use Rattle.asyncdf.proofs.begin.start.Statement.{statement}
+use Rattle.asyncdf.proofs.begin.start.Tie as tie
+
+-- the record with these two arrays
+abbrev begun : List ℕ → ℕ → ℕ → List ℕ → List ℕ → Run
+begun s p K table next =
+    record {
+      table = table;
+      length = length s;
+      workers = p;
+      quota = K;
+      next = next;
+      status = set (replicate 1024 0) 0 1;
+      list = replicate 1024 0;
+      listed = 1;
+      worker = replicate 16 nobody;
+      busy = 0;
+      held = 0;
+      highest = 0;
+      turns = 0;
+    }
+
+is-start : {s table next : List ℕ} {n m : ℕ} (p K : ℕ) → Known s n m → table ≡ filled 36868 s → next ≡ filled 1024 (firsts (tableOf s .first) 0 n)
+    → begun s p K table next ≡ startRun s p K
+unfolding startRun startState setOf
+is-start {s} p K k e d =
+    let f = d ∙ ap (λ (t : ℕ). filled 1024 (firsts (tableOf s .first) 0 t)) (k .threads) in
+    λ i. begun s p K (e i) (f i)
+
+copy-requires : tie.Need-copy-requires
+copy-requires c κs = (omega (arith, known-sizes (c .before .before .pre)), refl)
+
+fill-next-requires : tie.Need-fill-next-requires
+fill-next-requires c κs = search needs
+
+array-write-status : tie.Need-array-write-status
+array-write-status c = search needs
+
+cast-t16 : tie.Need-cast-t16
+cast-t16 c = omega (arith, known-sizes (c .before .before .before .before .before .pre))
+
+returns : tie.Need-returns
+returns c =
+    let d = c .before .before in
+    let a = d .before .before .before in
+    is-start (a .args .p) (a .args .quota) (a .pre) (d .copy .ensures) (c .fill-next .ensures)
+
+pub start-spec : {M : Type 1} → statement M
+start-spec =
+    tie.close (tie.spec copy-requires fill-next-requires array-write-status cast-t16 returns)

@@ -1,0 +1,277 @@
+// What a worker's turn does with the thread that it holds, by the kind of the thread's next action.
+use crate::list::insert;
+use crate::list::remove;
+use crate::read::argument;
+use crate::read::code;
+use schedule::Reply;
+use schedule::Worker;
+ghost use mathlib.Core.Path.{_≡_};
+ghost use mathlib.Core.List.{List};
+ghost use mathlib.Core.Bool.{true};
+ghost use Prim.Native.Nat.{ℕ, _+_, _^_, _≤_, _<_, max};
+ghost use lib.ListN.{length, getD, take};
+ghost use Rattle.table.specs.Format.{Table, alloc, free, fork, join, end, tableOf, threadsOf};
+ghost use Rattle.schedule.specs.Machine.{nobody, actBy, act as actOf};
+ghost use Rattle.schedule.specs.Sound.{placeIn};
+ghost use Rattle.asyncdf.specs.Parts.{partState, partStepped, At, Rowed, Parents, Sits, Wakes, wokenStatus};
+
+// The amounts that a turn moves, and the length of the list.
+pub(crate) struct Totals {
+    pub(crate) listed: usize,
+    pub(crate) held: u64,
+    pub(crate) highest: u64,
+}
+
+pub(crate) struct Stepped {
+    pub(crate) reply: Reply,
+    pub(crate) worker: Worker,
+    pub(crate) totals: Totals,
+}
+
+// A worker that holds nothing: every end of a batch goes through here.
+pub(crate) fn release() -> Worker
+    ensures { λ r. ⌜ r ≡ nobody ⌝ }
+{
+    Worker {
+        holds: false,
+        thread: 0,
+        quota: 0,
+    }
+}
+
+fn larger(a: u64, b: u64) -> u64
+    ensures { λ r. ⌜ r ≡ max a b ⌝ }
+{
+    if a < b { b } else { a }
+}
+
+fn act_alloc(
+    x: u32,
+    a: u16,
+    next: &mut [u16; 1024],
+    status: &mut [u8; 1024],
+    totals: Totals,
+    worker: Worker,
+) -> Stepped
+    requires { ⌜ At (now next) worker a ⌝ }
+    requires { ⌜ (length (now status) ≡ 1024) × (totals .held + x < 2 ^ 64) ⌝ }
+    ensures { λ r. ⌜ ((T : Table) (list : List ℕ) → partStepped (now (next .exit)) (now (status .exit)) list r
+        ≡ actBy alloc T 0 (worker .thread) a x (partState (now (next .entry)) (now (status .entry)) list totals worker)) ⌝ }
+{
+    let thread = worker.thread;
+    let t = thread as usize;
+    if worker.quota < x {
+        status[t] = 1;
+        return Stepped {
+            reply: Reply::Quota { thread, wanted: x },
+            worker: release(),
+            totals,
+        };
+    }
+    next[t] = a + 1;
+    let held = totals.held + x as u64;
+    Stepped {
+        reply: Reply::Done { thread, action: a },
+        worker: Worker {
+            holds: true,
+            thread,
+            quota: worker.quota - x,
+        },
+        totals: Totals {
+            listed: totals.listed,
+            held,
+            highest: larger(totals.highest, held),
+        },
+    }
+}
+
+fn act_free(x: u32, a: u16, next: &mut [u16; 1024], totals: Totals, worker: Worker) -> Stepped
+    requires { ⌜ At (now next) worker a ⌝ }
+    requires { ⌜ x ≤ totals .held ⌝ }
+    ensures { λ r. ⌜ ((T : Table) (status list : List ℕ) → partStepped (now (next .exit)) status list r
+        ≡ actBy free T 0 (worker .thread) a x (partState (now (next .entry)) status list totals worker)) ⌝ }
+{
+    let thread = worker.thread;
+    let t = thread as usize;
+    next[t] = a + 1;
+    let held = totals.held - x as u64;
+    Stepped {
+        reply: Reply::Done { thread, action: a },
+        worker,
+        totals: Totals {
+            listed: totals.listed,
+            held,
+            highest: larger(totals.highest, held),
+        },
+    }
+}
+
+fn act_fork(
+    c: u16,
+    a: u16,
+    next: &mut [u16; 1024],
+    status: &mut [u8; 1024],
+    list: &mut [u16; 1024],
+    totals: Totals,
+    worker: Worker,
+) -> Stepped
+    requires { ⌜ At (now next) worker a ⌝ }
+    requires { ⌜ Rowed (now list) (totals .listed) ⌝ }
+    requires { ⌜ (length (now status) ≡ 1024) × (c < 1024) × (totals .listed < 1024) × (placeIn (worker .thread) (take (totals .listed) (now list)) < totals .listed) ⌝ }
+    ensures { λ r. ⌜ ((T : Table) → partStepped (now (next .exit)) (now (status .exit)) (now (list .exit)) r
+        ≡ actBy fork T 0 (worker .thread) a c (partState (now (next .entry)) (now (status .entry)) (now (list .entry)) totals worker)) ⌝ }
+    ensures { λ r. ⌜ Rowed (now (list .exit)) (r .totals .listed) ⌝ }
+{
+    let thread = worker.thread;
+    let t = thread as usize;
+    let child = c as usize;
+    next[t] = a + 1;
+    status[t] = 1;
+    let len = totals.listed;
+    insert(list, len, c, thread);
+    status[child] = 1;
+    Stepped {
+        reply: Reply::Done { thread, action: a },
+        worker: release(),
+        totals: Totals {
+            listed: len + 1,
+            held: totals.held,
+            highest: totals.highest,
+        },
+    }
+}
+
+fn act_join(
+    c: u16,
+    a: u16,
+    next: &mut [u16; 1024],
+    status: &mut [u8; 1024],
+    totals: Totals,
+    worker: Worker,
+) -> Stepped
+    requires { ⌜ At (now next) worker a ⌝ }
+    requires { ⌜ (length (now status) ≡ 1024) × (c < 1024) ⌝ }
+    ensures { λ r. ⌜ ((T : Table) (list : List ℕ) → partStepped (now (next .exit)) (now (status .exit)) list r
+        ≡ actBy join T 0 (worker .thread) a c (partState (now (next .entry)) (now (status .entry)) list totals worker)) ⌝ }
+{
+    let thread = worker.thread;
+    let t = thread as usize;
+    let child = c as usize;
+    if status[child] == 4 {
+        next[t] = a + 1;
+        return Stepped {
+            reply: Reply::Done { thread, action: a },
+            worker,
+            totals,
+        };
+    }
+    status[t] = 3;
+    Stepped {
+        reply: Reply::Wait { thread, child: c },
+        worker: release(),
+        totals,
+    }
+}
+
+// The parent u becomes ready if it waits for child t.
+fn wake(table: &[u8], n: usize, next: &[u16; 1024], status: &mut [u8; 1024], u: usize, t: usize)
+    requires { ⌜ Wakes (now table) n (now next) (now status) u ⌝ }
+    ensures { λ _. ⌜ now (status .exit) ≡ wokenStatus (tableOf (now (table .entry))) (now (next .entry)) (now (status .entry)) u t ⌝ }
+{
+    if status[u] != 3 {
+        return;
+    }
+    let a = next[u] as usize;
+    if code(table, n, a) != 5 {
+        return;
+    }
+    if argument(table, n, a) != t {
+        return;
+    }
+    status[u] = 1;
+}
+
+fn act_end(
+    table: &[u8],
+    n: usize,
+    parents: &[u16; 1024],
+    a: u16,
+    next: &[u16; 1024],
+    status: &mut [u8; 1024],
+    list: &mut [u16; 1024],
+    totals: Totals,
+    worker: Worker,
+) -> Stepped
+    requires { ⌜ At (now next) worker a ⌝ }
+    requires { ⌜ Rowed (now list) (totals .listed) ⌝ }
+    requires { ⌜ Parents (tableOf (now table)) (now parents) ⌝ }
+    requires { ⌜ (worker .thread < tableOf (now table) .threads) × (placeIn (worker .thread) (take (totals .listed) (now list)) < totals .listed) ⌝ }
+    requires { ⌜ Wakes (now table) n (now next) (now status) (getD (now parents) (worker .thread) 0) ⌝ }
+    ensures { λ r. ⌜ ((x : ℕ) → partStepped (now (next .entry)) (now (status .exit)) (now (list .exit)) r
+        ≡ actBy end (tableOf (now (table .entry))) 0 (worker .thread) a x (partState (now (next .entry)) (now (status .entry)) (now (list .entry)) totals worker)) ⌝ }
+    ensures { λ r. ⌜ Rowed (now (list .exit)) (r .totals .listed) ⌝ }
+{
+    let thread = worker.thread;
+    let t = thread as usize;
+    status[t] = 4;
+    let len = totals.listed;
+    remove(list, len, thread);
+    let u = parents[t] as usize;
+    wake(table, n, next, status, u, t);
+    Stepped {
+        reply: Reply::Done { thread, action: a },
+        worker: release(),
+        totals: Totals {
+            listed: len - 1,
+            held: totals.held,
+            highest: totals.highest,
+        },
+    }
+}
+
+// A worker goes on with the thread that it holds.
+pub(crate) fn act(
+    table: &[u8],
+    n: usize,
+    quota: u32,
+    parents: &[u16; 1024],
+    next: &mut [u16; 1024],
+    status: &mut [u8; 1024],
+    list: &mut [u16; 1024],
+    totals: Totals,
+    worker: Worker,
+) -> Stepped
+    requires { ⌜ Sits (now table) n quota (now next) (now status) (now list) totals worker ⌝ }
+    requires { ⌜ Parents (tableOf (now table)) (now parents) ⌝ }
+    requires { ⌜ worker .holds ≡ true ⌝ }
+    ensures { λ r. ⌜ partStepped (now (next .exit)) (now (status .exit)) (now (list .exit)) r
+        ≡ actOf (tableOf (now (table .entry))) 0 (partState (now (next .entry)) (now (status .entry)) (now (list .entry)) totals worker) ⌝ }
+    ensures { λ r. ⌜ Rowed (now (list .exit)) (r .totals .listed) ⌝ }
+{
+    let thread = worker.thread;
+    let t = thread as usize;
+    let a = next[t];
+    let at = a as usize;
+    let k = code(table, n, at);
+    let x = argument(table, n, at);
+    match k {
+        0 => act_end(table, n, parents, a, next, status, list, totals, worker),
+        1 => {
+            next[t] = a + 1;
+            Stepped {
+                reply: Reply::Done { thread, action: a },
+                worker,
+                totals,
+            }
+        }
+        2 => act_alloc(x as u32, a, next, status, totals, worker),
+        3 => act_free(x as u32, a, next, totals, worker),
+        4 => act_fork(x as u16, a, next, status, list, totals, worker),
+        5 => act_join(x as u16, a, next, status, totals, worker),
+        _ => Stepped {
+            reply: Reply::Idle,
+            worker,
+            totals,
+        },
+    }
+}

@@ -1,0 +1,122 @@
+// Beginning a run: the table's own checks, then 20 to 22; the record that it gives, or the blank one.
+use crate::amounts::begin_fault;
+use crate::read::word;
+use schedule::Beginning;
+use schedule::Begun;
+use schedule::Run;
+use schedule::Worker;
+use table::Found;
+use table::Loaded;
+ghost use mathlib.Core.Path.{_≡_};
+ghost use Prim.Native.Nat.{ℕ, _≤_};
+ghost use mathlib.Core.List.{List};
+ghost use lib.ListN.{length, replicate};
+ghost use Rattle.table.specs.Format.{tableOf};
+ghost use Rattle.schedule.specs.Record.{blank as blankRun, filled};
+ghost use Rattle.schedule.specs.Begin.{firsts, startRun, begin as beginOf};
+ghost use Rattle.asyncdf.specs.Checks.{Known};
+
+const NOBODY: Worker = Worker {
+    holds: false,
+    thread: 0,
+    quota: 0,
+};
+
+fn blank() -> Run
+    ensures { λ r. ⌜ r ≡ blankRun ⌝ }
+{
+    Run {
+        table: [0; 36868],
+        length: 0,
+        workers: 0,
+        quota: 0,
+        next: [0; 1024],
+        status: [0; 1024],
+        list: [0; 1024],
+        listed: 0,
+        worker: [NOBODY; 16],
+        busy: 0,
+        held: 0,
+        highest: 0,
+        turns: 0,
+    }
+}
+
+// Copies the bytes to the front of an array of zeros.
+fn copy(bytes: &[u8], out: &mut [u8; 36868])
+    requires { ⌜ (length (now bytes) ≤ 36868) × (now out ≡ replicate 36868 0) ⌝ }
+    ensures { λ _. ⌜ now (out .exit) ≡ filled 36868 (now (bytes .entry)) ⌝ }
+{
+    let mut i = 0;
+    while i < bytes.len() {
+        out[i] = bytes[i];
+        i += 1;
+    }
+}
+
+// Each thread's first action as its next.
+fn fill_next(bytes: &[u8], n: usize, m: usize, next: &mut [u16; 1024])
+    requires { ⌜ Known (now bytes) n m ⌝ }
+    requires { ⌜ now next ≡ replicate 1024 0 ⌝ }
+    ensures { λ _. ⌜ now (next .exit) ≡ filled 1024 (firsts (tableOf (now (bytes .entry)) .first) 0 n) ⌝ }
+{
+    let mut t = 0;
+    while t < n {
+        next[t] = word(bytes, 4 + 4 * t) as u16;
+        t += 1;
+    }
+}
+
+// The record of an accepted beginning.
+fn start(bytes: &[u8], n: usize, m: usize, p: u8, quota: u32) -> Run
+    requires { ⌜ Known (now bytes) n m ⌝ }
+    ensures { λ r. ⌜ r ≡ startRun (now (bytes .entry)) p quota ⌝ }
+{
+    let mut table = [0u8; 36868];
+    copy(bytes, &mut table);
+    let mut next = [0u16; 1024];
+    fill_next(bytes, n, m, &mut next);
+    let mut status = [0u8; 1024];
+    status[0] = 1;
+    Run {
+        table,
+        length: bytes.len() as u16,
+        workers: p,
+        quota,
+        next,
+        status,
+        list: [0; 1024],
+        listed: 1,
+        worker: [NOBODY; 16],
+        busy: 0,
+        held: 0,
+        highest: 0,
+        turns: 0,
+    }
+}
+
+// Beginning from a table's bytes, p and K.
+pub(crate) fn begin(bytes: &[u8], p: u8, quota: u32) -> Begun
+    ensures { λ r. ⌜ r ≡ beginOf (now (bytes .entry)) p quota ⌝ }
+{
+    let loaded = table::load(bytes);
+    if let Loaded::Refused(x) = loaded {
+        return Begun {
+            answer: Beginning::Refused(x),
+            run: blank(),
+        };
+    }
+    let n = word(bytes, 0);
+    let m = word(bytes, 2);
+    let found = begin_fault(bytes, n, m, p, quota);
+    if let Found::At(x) = found {
+        return Begun {
+            answer: Beginning::Refused(x),
+            run: blank(),
+        };
+    }
+    Begun {
+        answer: Beginning::Begun,
+        run: start(bytes, n, m, p, quota),
+    }
+}
