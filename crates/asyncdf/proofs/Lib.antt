@@ -12,3 +12,4 @@ pub mod Done
 pub mod Noting
 pub mod Spans
 pub mod Marks
+pub mod Chains

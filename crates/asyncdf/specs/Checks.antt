@@ -1,10 +1,10 @@
 -- What the code's tests of soundness say: each is one clause of the definition, over the parts of the record that it looks at.
 use mathlib.Core.Path.{_≡_}
-use Prim.Native.Nat.{ℕ, _+_, _<_}
+use Prim.Native.Nat.{ℕ, _+_, _-_, _^_, _<_}
 use mathlib.Core.List.{List, []}
 use mathlib.Core.Bool.{Bool, true, not, _&&_, _||_}
 use lib.Dec.{ltb, eqb}
-use lib.ListN.{length, getD}
+use lib.ListN.{length, take, getD}
 use Rattle.table.specs.Sum.{pick}
 use Rattle.table.specs.Format.{fork, join, is, Table, kind, tableOf}
 use Rattle.table.specs.Rules.{owner, endOf}
@@ -12,8 +12,10 @@ use Rattle.table.specs.Accepted.{Rules}
 use Rattle.table.specs.Serial.{serial}
 use Rattle.table.specs.Level.{forkBelow}
 use Rattle.schedule.specs.declared.Worker.{Worker}
+use Rattle.schedule.specs.declared.Run.{Run}
 use Rattle.schedule.specs.Machine.{State, ended}
-use Rattle.schedule.specs.Sound.{allBelow, isDone, nextInBody, inOrder, numberOf}
+use Rattle.schedule.specs.Record.{maxThreads, maxBytes, filled, setOf, bytesOf}
+use Rattle.schedule.specs.Sound.{allBelow, isDone, nextInBody, inOrder, numberOf, sameList}
 
 -- the bytes are an accepted table of n threads and m actions
 pub record Known (s : List ℕ) (n m : ℕ) : Type 0 where
@@ -78,3 +80,18 @@ pub record Lengths (T : Table) (lengths : List ℕ) (u : ℕ) : Type 0 where
 pub record Numbers (T : Table) (next numbers : List ℕ) : Type 0 where
   pub size : length numbers ≡ 1024
   pub right : (t : ℕ) → t < T .threads → getD numbers t 0 ≡ numberOf T (getD next t 0)
+
+-- a state from all its parts
+abbrev pub whole : List ℕ → List ℕ → List ℕ → List Worker → ℕ → ℕ → ℕ → State
+whole next status list workers held highest turns =
+    record { next = next; status = status; list = list; workers = workers; held = held; highest = highest; turns = turns }
+
+-- the clauses of a sound record that need no table
+abbrev pub restSound : Run → Bool
+restSound r =
+    eqb (r .busy) (setOf (r .worker))
+    && (eqb (length (bytesOf r)) (r .length)
+    && (eqb (length (take (r .listed) (r .list))) (r .listed)
+    && (sameList (r .table) (filled maxBytes (bytesOf r))
+    && (sameList (r .list) (filled maxThreads (take (r .listed) (r .list)))
+    && ltb (r .turns) (2 ^ 64 - 1)))))

@@ -1,4 +1,4 @@
-// AsyncDF runs, inside: beginning, a turn on lent arrays and the clauses of soundness, each equal to its definition in crates/schedule. No call is public yet: those that begin a run
+// AsyncDF runs, inside: beginning, a turn on lent arrays and the test of soundness, each equal to its definition in crates/schedule. No call is public yet: those that begin a run
 // and move it on come together.
 mod act;
 mod amounts;
@@ -8,4 +8,5 @@ mod list;
 mod order;
 mod read;
 mod rests;
+mod sound;
 mod step;
