@@ -13,3 +13,5 @@ pub mod Noting
 pub mod Spans
 pub mod Marks
 pub mod Chains
+pub mod Local
+pub mod Driving

@@ -2,3 +2,4 @@ pub mod Parts
 pub mod Checks
 pub mod Adding
 pub mod Order
+pub mod Drives

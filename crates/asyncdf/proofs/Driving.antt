@@ -1,0 +1,192 @@
+-- A run goes turn by turn: what the code moves is the definition's turn, and the root ends exactly where the reply says that its end was done.
+use mathlib.Core.Path.{_≡_, refl, sym, ap, _∙_}
+use Prim.Native.Nat.{ℕ, zero, suc, _+_, _-_, _^_, _≤_, _<_}
+use native.Mathlib.Omega.{arith}
+use native.Mathlib.Decide.{ℕ-discrete}
+use native.Mathlib.Numerals.{add-one}
+use mathlib.Core.List.{List, [], _∷_}
+use mathlib.Core.Bool.{Bool, true, false, not}
+use lib.ListN.{length, getD, set, take}
+use lib.Seq.{getD-set-same}
+use lib.Dec.{leb, ltb, eqb}
+use borrow.Author.Tests.{eqb-true, eqb-false, eq-eqb, ne-eqb, lt-ltb, le-ltb}
+use Rattle.table.specs.Sum.{pick}
+use Rattle.table.specs.Format.{Kind, end, work, alloc, free, fork, join, unknown, Table, kind}
+use Rattle.table.specs.Pass.{refusal}
+use Rattle.table.specs.Rules.{owner, endOf}
+use Rattle.table.proofs.Tests.{no-way}
+use Rattle.table.proofs.Bodies.{owner-of-end, end-kind}
+use Rattle.schedule.specs.declared.Worker.{Worker}
+use Rattle.schedule.specs.declared.Run.{Run}
+use Rattle.schedule.specs.declared.Ran.{Ran}
+use Rattle.schedule.specs.declared.Reply.{Reply}
+use Rattle.schedule.specs.declared.Reply.the-variants.{Idle, Done, Quota, Wait}
+use Rattle.schedule.specs.declared.Report.the-variants.{Finished, Spent, Refused}
+use Rattle.schedule.specs.Machine.{State, Stepped, stepped, counted, ready, ended, nextOf, statusOf, workerOf, nobody}
+use Rattle.schedule.specs.Machine.{actBy, act, leftmost, taken, turnFree, turnOf}
+use Rattle.schedule.specs.Record.{maxThreads, filled, setOf, tableIn, stateOf, stored}
+use Rattle.schedule.specs.Sound.{isDone, Steady}
+use Rattle.schedule.specs.Turn.{rootEnded, noWorker, stepRun}
+use Rattle.schedule.specs.Runs.{ran, moved, drive}
+use Rattle.schedule.specs.Memory.{ofReply}
+use Rattle.schedule.proofs.Lawful.{Lawful}
+use Rattle.schedule.proofs.Facts.{Facts}
+use Rattle.schedule.proofs.Done.{done-last, undone}
+use Rattle.schedule.proofs.Moves.{taken-facts}
+use Rattle.schedule.proofs.Releases.{Acting, acting}
+use Rattle.schedule.proofs.Ends.{Ended, acting-ended}
+use Rattle.schedule.proofs.Turns.{leftmost-ready, taken-holds, turn-facts}
+use Rattle.schedule.proofs.Tries.{Turned, idles, tries, turned}
+use Rattle.schedule.proofs.Stores.{steady-lawful, steady-fits, steady-facts}
+use Rattle.asyncdf.specs.declared.act.Totals.{Totals}
+use Rattle.asyncdf.specs.declared.act.Stepped.{Stepped as StepResult}
+use Rattle.asyncdf.specs.Parts.{partState, partStepped, turnBody, Rowed}
+use Rattle.asyncdf.specs.Drives.{busyAfter, packedOf}
+use Rattle.asyncdf.proofs.Local.{partOf, putBack, turn-local, set-busy}
+
+-- ---- the root's end
+
+-- a reply that says that an action was done names the one tried
+reply-action : (T : Table) (w : ℕ) (st : State) (k : Kind) (t a x u d : ℕ) → actBy k T w t a x st .reply ≡ Done u d → d ≡ a
+unfolding actBy
+reply-action T w st end t a x u d e = sym (ap (ofReply (λ i. i)) e)
+reply-action T w st work t a x u d e = sym (ap (ofReply (λ i. i)) e)
+reply-action T w st alloc t a x u d e = go (leb x (workerOf st w .quota)) refl
+  where
+    go : (q : Bool) → leb x (workerOf st w .quota) ≡ q → d ≡ a
+    go true i = sym (ap (ofReply (λ i. i)) (rw i at e))
+    go false i = let z : Quota t x ≡ Done u d = rw i at e in no-way cc
+reply-action T w st free t a x u d e = sym (ap (ofReply (λ i. i)) e)
+reply-action T w st fork t a x u d e = sym (ap (ofReply (λ i. i)) e)
+reply-action T w st join t a x u d e = go (eqb (statusOf st x) ended) refl
+  where
+    go : (q : Bool) → eqb (statusOf st x) ended ≡ q → d ≡ a
+    go true i = sym (ap (ofReply (λ i. i)) (rw i at e))
+    go false i = let z : Wait t x ≡ Done u d = rw i at e in no-way cc
+reply-action T w st unknown t a x u d e = no-way cc
+
+module _ (T : Table) (l : Lawful T) (p K : ℕ) (few : p ≤ 16) (w : ℕ) (below : w < p) (st : State) (f : Facts T p K st) where
+  last-owner : owner T (endOf T 0) ≡ 0
+  last-owner = owner-of-end T (l .contents) 0 (l .some-thread)
+
+  -- the root has ended after a turn: its end was done in it
+  pub root-replied : (statusOf st 0 ≡ ended → ⊥) → statusOf (turnOf T K w st .state) 0 ≡ ended → (t : ℕ) × (turnOf T K w st .reply ≡ Done t (endOf T 0))
+  root-replied n e = go (turned T l p K few w below st f)
+    where
+      st' : State
+      st' = turnOf T K w st .state
+
+      f' : Facts T p K st'
+      f' = turn-facts T l p K few w below st f
+
+      now-done : isDone T st' (endOf T 0) ≡ true
+      now-done = done-last T st' (endOf T 0) (rw last-owner (sym (f' .ended-last 0 (l .some-thread) e))) (rw last-owner e)
+
+      not-before : isDone T st (endOf T 0) ≡ false
+      not-before = undone T st (endOf T 0) (rw last-owner (f .next-high 0 (l .some-thread))) (rw last-owner n)
+
+      go : Turned T K w st (turnOf T K w st) → (t : ℕ) × (turnOf T K w st .reply ≡ Done t (endOf T 0))
+      go (idles h r m s v) = absurd (n (rw s at e))
+      go (tries t a x) = at (ℕ-discrete (endOf T 0) a)
+        where
+          at : Dec (endOf T 0 ≡ a) → (t : ℕ) × (turnOf T K w st .reply ≡ Done t (endOf T 0))
+          at (yes q) = (t, rw q (x .acted .replied (rw q at now-done)))
+          at (no q) = let z : true ≡ false = sym now-done ∙ x .acted .done-others (endOf T 0) q ∙ not-before in no-way cc
+
+  module _ (u : ℕ) where
+    act-root : (v : State) → Facts T p K v → workerOf v w .holds ≡ true → act T w v .reply ≡ Done u (endOf T 0) → statusOf (act T w v .state) 0 ≡ ended
+    unfolding act
+    act-root v g h e =
+        let t : ℕ = workerOf v w .thread in
+        let a : ℕ = nextOf v t in
+        let x : Acting T w t a v = acting T l p K w t a v g (omega arith) h refl refl in
+        let i : endOf T 0 ≡ a = reply-action T w v (kind T a) t a (T .argument a) u (endOf T 0) e in
+        let k : kind T a ≡ end = rw i at (end-kind T (l .contents) (l .bodies) 0 (l .some-thread)) in
+        let o : t ≡ 0 = sym (x .owned) ∙ rw i at last-owner in
+        let s : statusOf (actBy end T w t a (T .argument a) v .state) t ≡ ended = acting-ended T l p K w t a v g x .status-here in
+        rw k (ap (λ (j : ℕ). statusOf (actBy end T w t a (T .argument a) v .state) j) (sym o) ∙ s)
+
+    free-root : workerOf st w .holds ≡ false → turnFree T K w st .reply ≡ Done u (endOf T 0) → statusOf (turnFree T K w st .state) 0 ≡ ended
+    unfolding turnFree
+    free-root n e = go (eqb (leftmost (st .status) (st .list)) (length (st .list))) refl
+      where
+        t : ℕ
+        t = getD (st .list) (leftmost (st .status) (st .list)) 0
+
+        go : (q : Bool) → eqb (leftmost (st .status) (st .list)) (length (st .list)) ≡ q → statusOf (turnFree T K w st .state) 0 ≡ ended
+        go true i = let z : Idle ≡ Done u (endOf T 0) = rw i at e in no-way cc
+        go false i =
+            let (m, r) = leftmost-ready (st .status) (st .list) (eqb-false _ _ i) in
+            rw i (act-root (taken K w t st) (taken-facts T l p K few w below st f n t (f .list-below _ m) r)
+            (taken-holds K w t st (omega (arith, f .holding .worker-size))) (rw i at e))
+
+  -- and the other way round
+  pub replied-root : (u : ℕ) → turnOf T K w st .reply ≡ Done u (endOf T 0) → statusOf (turnOf T K w st .state) 0 ≡ ended
+  unfolding turnOf
+  replied-root u e = go (workerOf st w .holds) refl
+    where
+      go : (q : Bool) → workerOf st w .holds ≡ q → statusOf (turnOf T K w st .state) 0 ≡ ended
+      go true i = rw i (act-root u st f i (rw i at e))
+      go false i = rw i (free-root u i (rw i at e))
+
+-- ---- the record
+
+module _ (r : Run) (h : Steady r) (w : ℕ) (b : w < r .workers) where
+  pub finishes : (t : ℕ) → stepRun r w .reply ≡ Done t (endOf (tableIn r) 0) → rootEnded (moved r w) ≡ true
+  unfolding rootEnded stepRun
+  finishes t e =
+      eq-eqb _ ended (replied-root (tableIn r) (steady-lawful r h) (r .workers) (r .quota) (steady-fits r h .few-workers) w b (stateOf r) (steady-facts r h) t e)
+
+  pub goes-on : rootEnded r ≡ false → ((t : ℕ) → stepRun r w .reply ≡ Done t (endOf (tableIn r) 0) → ⊥) → rootEnded (moved r w) ≡ false
+  unfolding rootEnded stepRun
+  goes-on o n =
+      ne-eqb _ ended (λ e.
+      let (t, q) = root-replied (tableIn r) (steady-lawful r h) (r .workers) (r .quota) (steady-fits r h .few-workers) w b (stateOf r) (steady-facts r h) (eqb-false _ ended o) e in
+      n t q)
+
+-- what the code moved is the record after the turn
+module _ (run : Run) (next status list : List ℕ) (workers : List Worker) (busy : ℕ) (totals : Totals) (turns w : ℕ)
+    (next' status' list' : List ℕ) (s : StepResult) (busy' : ℕ)
+    (h : Steady (packedOf run next status list workers busy totals turns)) (b : w < run .workers)
+    (e : partStepped next' status' list' s ≡ turnBody (tableIn run) (run .quota) 0 (partState next status list totals (getD workers w nobody)))
+    (row : Rowed list' (s .totals .listed)) (set' : busy' ≡ busyAfter busy (getD workers w nobody .holds) (s .worker .holds) w) where
+  fits : w < length workers
+  fits = omega (arith, h .state .worker-size, steady-fits _ h .few-workers)
+
+  stepped-as : stepRun (packedOf run next status list workers busy totals turns) w
+      ≡ stepped (s .reply) (counted (putBack w (stateOf (packedOf run next status list workers busy totals turns)) (partStepped next' status' list' s) .state))
+  unfolding stepRun
+  stepped-as = turn-local (tableIn run) (run .quota) w (stateOf (packedOf run next status list workers busy totals turns)) fits ∙ rw (← e)
+
+  pub packed-reply : stepRun (packedOf run next status list workers busy totals turns) w .reply ≡ s .reply
+  packed-reply = ap (λ (x : Stepped). x .reply) stepped-as
+
+  pub packed-moved : moved (packedOf run next status list workers busy totals turns) w ≡ packedOf run next' status' list' (set workers w (s .worker)) busy' (s .totals) (turns + 1)
+  packed-moved =
+      let q : setOf (set workers w (s .worker)) ≡ busy' = set-busy workers w (s .worker) fits ∙ rw (set', h .set) in
+      rw (stepped-as, q, ← row .rest, row .front, add-one)
+
+-- ---- the run
+
+module _ (who : ℕ → ℕ) (i : ℕ) (r : Run) where
+  pub drive-over : (k : ℕ) → rootEnded r ≡ true → drive who k i r ≡ ran (Finished i) r
+  unfolding drive
+  drive-over zero e = rw e
+  drive-over (suc k) e = rw e
+
+  module _ (o : rootEnded r ≡ false) where
+    pub drive-spent : drive who 0 i r ≡ ran (Spent i) r
+    unfolding drive
+    drive-spent = rw o
+
+    pub drive-full : (k : ℕ) → r .turns ≡ 2 ^ 64 - 1 → drive who (suc k) i r ≡ ran (Refused i (refusal 32 0)) r
+    unfolding drive
+    drive-full k e = rw (o, eq-eqb (r .turns) (2 ^ 64 - 1) e)
+
+    pub drive-none : (k : ℕ) → (r .turns ≡ 2 ^ 64 - 1 → ⊥) → r .workers ≤ who i → drive who (suc k) i r ≡ ran (Refused i (refusal 30 0)) r
+    unfolding drive noWorker
+    drive-none k e h = rw (o, ne-eqb (r .turns) (2 ^ 64 - 1) e, le-ltb (who i) (r .workers) h)
+
+    pub drive-next : (k : ℕ) → (r .turns ≡ 2 ^ 64 - 1 → ⊥) → who i < r .workers → drive who (suc k) i r ≡ drive who k (suc i) (moved r (who i))
+    unfolding drive noWorker
+    drive-next k e h = rw (o, ne-eqb (r .turns) (2 ^ 64 - 1) e, lt-ltb (who i) (r .workers) h)

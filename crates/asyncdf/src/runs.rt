@@ -1,0 +1,163 @@
+// Runs over a list of workers and in rounds. The record's arrays are copied once; the turns work on them in place.
+use crate::act::Totals;
+use crate::bodies::fill_forks;
+use crate::read::word;
+use crate::step::step;
+use schedule::Ran;
+use schedule::Reply;
+use schedule::Report;
+use schedule::Run;
+use schedule::Worker;
+use table::Refusal;
+ghost use mathlib.Core.Path.{_≡_};
+ghost use mathlib.Core.Bool.{Bool, true, false};
+ghost use Prim.Native.Nat.{ℕ, _+_, _^_, _≤_, _<_};
+ghost use Rattle.table.specs.Pass.{refusal};
+ghost use Rattle.schedule.specs.declared.Report.the-variants.{Refused};
+ghost use Rattle.schedule.specs.Runs.{drive as driveOf};
+ghost use Rattle.schedule.specs.Sound.{Steady};
+ghost use Rattle.asyncdf.specs.Drives.{who, busyAfter, Sequence, Bit, packedOf};
+
+// The worker whose turn comes after i turns: from the order, or in rounds.
+fn worker_of(order: &[u8], rounds: bool, p: usize, i: usize) -> usize
+    requires { ⌜ Sequence (now order) rounds p i ⌝ }
+    ensures { λ r. ⌜ r ≡ who (now (order .entry)) rounds p i ⌝ }
+{
+    if rounds { i % p } else { order[i] as usize }
+}
+
+// The set of workers that hold a thread, after worker w's record changed.
+fn busy_after(busy: u16, before: Worker, after: Worker, w: usize) -> u16
+    requires { ⌜ Bit busy (before .holds) w ⌝ }
+    ensures { λ r. ⌜ r ≡ busyAfter busy (before .holds) (after .holds) w ⌝ }
+{
+    let bit: u16 = 1 << w;
+    if before.holds {
+        if after.holds { busy } else { busy - bit }
+    } else {
+        if after.holds { busy + bit } else { busy }
+    }
+}
+
+// The record with what the turns have moved.
+fn packed(
+    run: Run,
+    next: [u16; 1024],
+    status: [u8; 1024],
+    list: [u16; 1024],
+    worker: [Worker; 16],
+    busy: u16,
+    totals: Totals,
+    turns: u64,
+) -> Run
+    requires { ⌜ totals .listed < 65536 ⌝ }
+    ensures { λ r. ⌜ r ≡ packedOf run next status list worker busy totals turns ⌝ }
+{
+    let table = run.table;
+    Run {
+        table,
+        length: run.length,
+        workers: run.workers,
+        quota: run.quota,
+        next,
+        status,
+        list,
+        listed: totals.listed as u16,
+        worker,
+        busy,
+        held: totals.held,
+        highest: totals.highest,
+        turns,
+    }
+}
+
+// A refusal after i turns.
+fn stopped(number: u8, i: usize) -> Report
+    ensures { λ r. ⌜ r ≡ Refused i (refusal number 0) ⌝ }
+{
+    Report::Refused(i as u64, Refusal { number, place: 0 })
+}
+
+// At most `limit` turns, on a record that is sound but for its turns taken.
+pub(crate) fn drive(run: Run, order: &[u8], rounds: bool, limit: usize) -> Ran
+    requires { ⌜ Steady run ⌝ }
+    requires { ⌜ ((i : ℕ) → i < limit → Sequence (now order) rounds (run .workers) i) ⌝ }
+    ensures { λ r. ⌜ r ≡ driveOf (who (now (order .entry)) rounds (run .workers)) limit 0 run ⌝ }
+{
+    let length = run.length as usize;
+    let table = run.table;
+    let bytes = &table[..length];
+    let n = word(bytes, 0);
+    let m = word(bytes, 2);
+    let p = run.workers as usize;
+    let quota = run.quota;
+    let mut forks = [0u16; 1024];
+    let mut parents = [0u16; 1024];
+    fill_forks(bytes, n, m, &mut forks, &mut parents);
+    let last = word(bytes, 6) - 1;
+    let mut next = run.next;
+    let mut status = run.status;
+    let mut list = run.list;
+    let mut workers = run.worker;
+    let mut busy = run.busy;
+    let mut totals = Totals {
+        listed: run.listed as usize,
+        held: run.held,
+        highest: run.highest,
+    };
+    let mut turns = run.turns;
+    if status[0] == 4 {
+        return Ran {
+            report: Report::Finished(0),
+            run,
+        };
+    }
+    let mut i = 0;
+    while i < limit {
+        let w = worker_of(order, rounds, p, i);
+        if turns == u64::MAX {
+            return Ran {
+                report: stopped(32, i),
+                run: packed(run, next, status, list, workers, busy, totals, turns),
+            };
+        }
+        if p <= w {
+            return Ran {
+                report: stopped(30, i),
+                run: packed(run, next, status, list, workers, busy, totals, turns),
+            };
+        }
+        let before = workers[w];
+        let s = step(
+            bytes,
+            n,
+            &parents,
+            quota,
+            &mut next,
+            &mut status,
+            &mut list,
+            totals,
+            before,
+        );
+        let after = s.worker;
+        busy = busy_after(busy, before, after, w);
+        workers[w] = after;
+        totals = s.totals;
+        turns += 1;
+        i += 1;
+        let reply = s.reply;
+        let Reply::Done { thread: _, action } = reply else {
+            continue;
+        };
+        if action as usize == last {
+            return Ran {
+                report: Report::Finished(i as u64),
+                run: packed(run, next, status, list, workers, busy, totals, turns),
+            };
+        }
+    }
+    Ran {
+        report: Report::Spent(i as u64),
+        run: packed(run, next, status, list, workers, busy, totals, turns),
+    }
+}
