@@ -19,7 +19,7 @@ use Rattle.schedule.specs.Machine.{State, ended, nextOf, statusOf}
 use Rattle.schedule.specs.Begin.{startState}
 use Rattle.schedule.specs.Sound.{numberOf, isDone, ofDone, sumDone}
 use Rattle.schedule.specs.Memory.{rowState, Keeps, limit}
-use Rattle.schedule.proofs.Lawful.{Lawful, Within}
+use Rattle.schedule.proofs.Lawful.{Lawful}
 use Rattle.schedule.proofs.Facts.{Done, Facts}
 use Rattle.schedule.proofs.Numbers.{number-below, number-once}
 use Rattle.schedule.proofs.Done.{next-below}
@@ -120,7 +120,7 @@ unended-listed T l p K st f n = go (st .list) refl
     go [] e = absurd (List·Memᴰ·not-nil (rw e at (f .live-listed 0 (l .some-thread) (f .root-born) n)))
     go (t ∷ others) e = (t, others, e, f .list-below t (rw e (List·Memᴰ·head refl)))
 
-module _ (T : Table) (l : Lawful T) (p K : ℕ) (some : 1 ≤ p) (few : p ≤ 16) (k : Within T K) where
+module _ (T : Table) (l : Lawful T) (p K : ℕ) (some : 1 ≤ p) (few : p ≤ 16) where
   module _ (row : List ℕ) (h : (w : ℕ) → List·Memᴰ w row → w < p) where
     after : Facts T p K (rowState T K (startState T) row)
     after = row-facts T l p K few (startState T) (start-facts T l p K) row h
@@ -137,7 +137,7 @@ module _ (T : Table) (l : Lawful T) (p K : ℕ) (some : 1 ≤ p) (few : p ≤ 16
           omega (
             arith,
             held-open T l p K st after t others e i,
-            draws-few T l p K few k row h (nextOf st t) (next-below T l p K st after t i) (leftmost-undone T l p K st after t others e),
+            draws-few T l p K few row h (nextOf st t) (next-below T l p K st after t i) (leftmost-undone T l p K st after t others e),
           ),
         )
 

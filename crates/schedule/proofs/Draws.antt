@@ -20,7 +20,7 @@ use Rattle.schedule.specs.Machine.{State, nextOf, workerOf, turnOf}
 use Rattle.schedule.specs.Begin.{startState}
 use Rattle.schedule.specs.Sound.{numberOf, isDone}
 use Rattle.schedule.specs.Memory.{rowState}
-use Rattle.schedule.proofs.Lawful.{Lawful, Within}
+use Rattle.schedule.proofs.Lawful.{Lawful}
 use Rattle.schedule.proofs.Facts.{Facts}
 use Rattle.schedule.proofs.Numbers.{number-once}
 use Rattle.schedule.proofs.Turns.{turn-facts}
@@ -169,7 +169,7 @@ module _ (T : Table) (l : Lawful T) (p K : ℕ) (few : p ≤ 16) (cost : ℕ →
 
 -- ---- a row
 
-module _ (T : Table) (l : Lawful T) (p K : ℕ) (few : p ≤ 16) (k : Within T K) where
+module _ (T : Table) (l : Lawful T) (p K : ℕ) (few : p ≤ 16) where
   -- what is not done after a row was not done before it
   pub undone-row : (row : List ℕ) → ((w : ℕ) → List·Memᴰ w row → w < p) → (st : State) → Facts T p K st → (v : ℕ) → isDone T (rowState T K st row) v ≡ false → isDone T st v ≡ false
   unfolding rowState

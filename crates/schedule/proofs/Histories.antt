@@ -34,7 +34,7 @@ use Rattle.schedule.specs.Turn.{unsound, rootEnded, noWorker, turnChecks
 use Rattle.schedule.specs.Runs.{ran, moved, drive, listRun, roundsRun}
 use Rattle.schedule.specs.Calls.{Call, turn, overList, inRounds, turnsIn, turnRow, afterCall, afterCalls, rowOf, rowOfCalls}
 use Rattle.schedule.specs.Memory.{rowState}
-use Rattle.schedule.proofs.Lawful.{Lawful, Within, lawful}
+use Rattle.schedule.proofs.Lawful.{Lawful, lawful}
 use Rattle.schedule.proofs.Facts.{sound-facts}
 use Rattle.schedule.proofs.Starts.{start-facts}
 use Rattle.schedule.proofs.Rows.{rowState-append}
@@ -46,10 +46,8 @@ use Rattle.schedule.proofs.Stores.{Fits, begin-fits, stateOf-stored, mo
 pub record Started (s : List ℕ) (p K : ℕ) (r : Run) : Type 0 where
   pub is-start : r ≡ startRun s p K
   pub lawful : Lawful (tableOf s)
-  pub within : Within (tableOf s) K
   pub some-worker : 1 ≤ p
   pub few-workers : p ≤ 16
-  pub some-quota : 1 ≤ K
 
 -- no check applies, and the record is the start's
 begin-accepted : (s : List ℕ) (p K : ℕ) (r : Run) → begin s p K ≡ record { answer = started; run = r }
@@ -71,10 +69,8 @@ begin-started s p K r e =
     record {
       is-start = b .0;
       lawful = lawful s (b .1);
-      within = f .within;
       some-worker = f .some-worker;
       few-workers = f .few-workers;
-      some-quota = f .some-quota;
     }
 
 start-bytes : (s : List ℕ) (p K : ℕ) → tableIn (startRun s p K) ≡ tableOf s

@@ -44,13 +44,13 @@ memory-limit s p K r e b g calls =
     let q : stateOf (afterCalls calls r) ≡ st = cc (c .state, o .0, o .2, o .3) in
     let whole : row ≡ row ++ [] = sym (append-nil row) in
     let alone : p ≡ 1 → (front rest : List ℕ) → row ≡ front ++ rest → memoryOf T K front ≤ S1 T =
-    front-alone T (i .lawful) p K (i .some-worker) (i .few-workers) (i .within) row h in
+    front-alone T (i .lawful) p K (i .some-worker) (i .few-workers) row h in
     record {
       held = ap (λ (x : State). x .held) q ∙ row-held T (i .lawful) p K (i .few-workers) row h;
       highest = ap (λ (x : State). x .highest) q ∙ row-highest T (i .lawful) p K (i .few-workers) row h;
       bounded = λ front rest d keeps.
           let within : (f z : List ℕ) → front ≡ f ++ z → memoryOf T K f ≤ limit T p K b =
-          front-bound T (i .lawful) p K (i .some-worker) (i .few-workers) (i .within) front (front-workers (λ w. w < p) row front rest d h) b g keeps in
+          front-bound T (i .lawful) p K (i .some-worker) (i .few-workers) front (front-workers (λ w. w < p) row front rest d h) b g keeps in
           (within front [] (sym (append-nil front)), peak-within T K (limit T p K b) front within);
       alone = λ one. (alone one row [] whole, peak-within T K (S1 T) row (alone one));
     }
