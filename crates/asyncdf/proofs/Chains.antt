@@ -16,6 +16,10 @@ on {b} e h = sym e ∙ not-false b h
 pub cut : {a : Bool} (b : Bool) → a ≡ false → false ≡ (a && b)
 cut b e = rw e refl
 
+pub stop : (a b : Bool) → a ≡ false → a ≡ (a && b)
+stop true b e = absurd (let z : _≡_ {A = ℕ} 0 1 = cc in omega arith)
+stop false b e = refl
+
 pub pass : {r a b : Bool} → a ≡ true → r ≡ b → r ≡ (a && b)
 pass e h = rw e h
 

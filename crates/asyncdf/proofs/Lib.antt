@@ -15,3 +15,5 @@ pub mod Marks
 pub mod Chains
 pub mod Local
 pub mod Driving
+pub mod Blank
+pub mod Calls

@@ -95,3 +95,15 @@ restSound r =
     && (sameList (r .table) (filled maxBytes (bytesOf r))
     && (sameList (r .list) (filled maxThreads (take (r .listed) (r .list)))
     && ltb (r .turns) (2 ^ 64 - 1)))))
+
+-- the numbers of a record that stand outside its arrays are all 0
+unfoldable pub allZero : Run → Bool
+allZero r =
+    eqb (r .length) 0
+    && (eqb (r .workers) 0
+    && (eqb (r .quota) 0
+    && (eqb (r .listed) 0
+    && (eqb (r .busy) 0
+    && (eqb (r .held) 0
+    && (eqb (r .highest) 0
+    && eqb (r .turns) 0))))))

@@ -7,6 +7,7 @@ use lib.ListN.{length, getD}
 use Rattle.table.specs.Sum.{pick}
 use Rattle.schedule.specs.declared.Worker.{Worker}
 use Rattle.schedule.specs.declared.Run.{Run}
+use Rattle.schedule.specs.Turn.{rootEnded}
 use Rattle.asyncdf.specs.declared.act.Totals.{Totals}
 
 -- the worker of turn i
@@ -27,6 +28,12 @@ pub record Bit (busy : ℕ) (holds : Bool) (w : ℕ) : Type 0 where
   pub below : w < 16
   pub has : holds ≡ true → 2 ^ w ≤ busy
   pub room : holds ≡ false → busy + 2 ^ w < 65536
+
+-- a turn of worker w may be taken: the root has not ended, and turns taken has room
+pub record Open (r : Run) (w : ℕ) : Type 0 where
+  pub unended : rootEnded r ≡ false
+  pub room : r .turns < 2 ^ 64 - 1
+  pub below : w < r .workers
 
 -- the record with what the turns have moved
 abbrev pub packedOf : Run → List ℕ → List ℕ → List ℕ → List Worker → ℕ → Totals → ℕ → Run

@@ -1,8 +1,35 @@
-// AsyncDF runs, inside: beginning, a turn on lent arrays, the loop of a run and the test of soundness, each equal to its definition in crates/schedule. No call is public yet: those
-// that begin a run and move it on come together.
+// AsyncDF runs: beginning, a single turn, runs over a list of workers and in rounds. Every call is total, and its answer equals a definition of crates/schedule.
+use crate::amounts::begin_fault;
+use crate::beginning::blank;
+use crate::beginning::start;
+use crate::read::word;
+use crate::runs::drive;
+use crate::runs::stopped;
+use crate::sound::unsound;
+use schedule::Beginning;
+use schedule::Begun;
+use schedule::Ran;
+use schedule::Report;
+use schedule::Run;
+use schedule::Turned;
+use schedule::Turning;
+use table::Found;
+use table::Loaded;
+use table::Refusal;
+ghost use mathlib.Core.Path.{_≡_};
+ghost use lib.Count.{ones};
+ghost use Rattle.table.specs.Pass.{refusal};
+ghost use Rattle.schedule.specs.declared.Turning.the-variants.{Refused};
+ghost use Rattle.schedule.specs.Begin.{begin as beginOf};
+ghost use Rattle.schedule.specs.Machine.{workerOf};
+ghost use Rattle.schedule.specs.Record.{stateOf};
+ghost use Rattle.schedule.specs.Sound.{Sound, countBelow};
+ghost use Rattle.schedule.specs.Turn.{turned as turnedOf};
+ghost use Rattle.schedule.specs.Runs.{listRun, roundsRun};
+
 mod act;
 mod amounts;
-mod begin;
+mod beginning;
 mod bodies;
 mod list;
 mod order;
@@ -11,3 +38,116 @@ mod rests;
 mod runs;
 mod sound;
 mod step;
+
+// Beginning from a table's bytes, p and K: the table's own checks, then 20 to 22.
+pub fn begin(bytes: &[u8], p: u8, quota: u32) -> Begun
+    ensures { λ r. ⌜ r ≡ beginOf (now (bytes .entry)) p quota ⌝ }
+{
+    let loaded = table::load(bytes);
+    if let Loaded::Refused(x) = loaded {
+        return Begun {
+            answer: Beginning::Refused(x),
+            run: blank(),
+        };
+    }
+    let n = word(bytes, 0);
+    let m = word(bytes, 2);
+    let found = begin_fault(bytes, n, m, p, quota);
+    if let Found::At(x) = found {
+        return Begun {
+            answer: Beginning::Refused(x),
+            run: blank(),
+        };
+    }
+    Begun {
+        answer: Beginning::Begun,
+        run: start(bytes, n, m, p, quota),
+    }
+}
+
+fn refused(number: u8, run: Run) -> Turned
+    ensures { λ r. ⌜ r ≡ record { answer = Refused (refusal number 0); run = run } ⌝ }
+{
+    Turned {
+        answer: Turning::Refused(Refusal { number, place: 0 }),
+        run,
+    }
+}
+
+// A single turn of worker w: 32, 30, 31, or the reply and the record after.
+pub fn turn(run: Run, w: u8) -> Turned
+    ensures { λ r. ⌜ r ≡ turnedOf run w ⌝ }
+{
+    if unsound(run) {
+        return refused(32, run);
+    }
+    if run.workers <= w {
+        return refused(30, run);
+    }
+    let status = run.status;
+    if status[0] == 4 {
+        return refused(31, run);
+    }
+    let order = [w];
+    let driven = drive(run, &order, false, 1);
+    let reply = driven.reply;
+    let after = driven.run;
+    Turned {
+        answer: Turning::Taken(reply),
+        run: after,
+    }
+}
+
+// A run over a list of workers.
+pub fn run_list(run: Run, order: &[u8]) -> Ran
+    ensures { λ r. ⌜ r ≡ listRun run (now (order .entry)) ⌝ }
+{
+    if unsound(run) {
+        return Ran {
+            report: stopped(32, 0),
+            run,
+        };
+    }
+    if run.workers == 0 {
+        let report = if order.len() == 0 {
+            Report::Spent(0)
+        } else {
+            stopped(30, 0)
+        };
+        return Ran { report, run };
+    }
+    let driven = drive(run, order, false, order.len());
+    let report = driven.report;
+    let after = driven.run;
+    Ran { report, run: after }
+}
+
+// A run in rounds, of at most `limit` turns.
+pub fn run_rounds(run: Run, limit: u32) -> Ran
+    ensures { λ r. ⌜ r ≡ roundsRun run limit ⌝ }
+{
+    if unsound(run) {
+        return Ran {
+            report: stopped(32, 0),
+            run,
+        };
+    }
+    if run.workers == 0 {
+        return Ran {
+            report: stopped(30, 0),
+            run,
+        };
+    }
+    let driven = drive(run, b"", true, limit as usize);
+    let report = driven.report;
+    let after = driven.run;
+    Ran { report, run: after }
+}
+
+// The number busy.
+pub fn number_busy(run: Run) -> u32
+    ensures { λ r. ⌜ r ≡ ones (run .busy) ⌝ }
+    ensures { λ r. ⌜ (Sound run → r ≡ countBelow (λ w. workerOf (stateOf run) w .holds) 16) ⌝ }
+{
+    u16::count_ones(run.busy)
+}

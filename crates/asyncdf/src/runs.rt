@@ -3,7 +3,6 @@ use crate::act::Totals;
 use crate::bodies::fill_forks;
 use crate::read::word;
 use crate::step::step;
-use schedule::Ran;
 use schedule::Reply;
 use schedule::Report;
 use schedule::Run;
@@ -14,9 +13,10 @@ ghost use mathlib.Core.Bool.{Bool, true, false};
 ghost use Prim.Native.Nat.{ℕ, _+_, _^_, _≤_, _<_};
 ghost use Rattle.table.specs.Pass.{refusal};
 ghost use Rattle.schedule.specs.declared.Report.the-variants.{Refused};
-ghost use Rattle.schedule.specs.Runs.{drive as driveOf};
+ghost use Rattle.schedule.specs.Runs.{ran, drive as driveOf};
 ghost use Rattle.schedule.specs.Sound.{Steady};
-ghost use Rattle.asyncdf.specs.Drives.{who, busyAfter, Sequence, Bit, packedOf};
+ghost use Rattle.schedule.specs.Turn.{stepRun};
+ghost use Rattle.asyncdf.specs.Drives.{who, busyAfter, Sequence, Bit, Open, packedOf};
 
 // The worker whose turn comes after i turns: from the order, or in rounds.
 fn worker_of(order: &[u8], rounds: bool, p: usize, i: usize) -> usize
@@ -72,17 +72,25 @@ fn packed(
 }
 
 // A refusal after i turns.
-fn stopped(number: u8, i: usize) -> Report
+pub(crate) fn stopped(number: u8, i: usize) -> Report
     ensures { λ r. ⌜ r ≡ Refused i (refusal number 0) ⌝ }
 {
     Report::Refused(i as u64, Refusal { number, place: 0 })
 }
 
+// What a run did: its report, the reply of its last turn (idle where it took none) and the record that it left.
+pub(crate) struct Driven {
+    pub(crate) report: Report,
+    pub(crate) reply: Reply,
+    pub(crate) run: Run,
+}
+
 // At most `limit` turns, on a record that is sound but for its turns taken.
-pub(crate) fn drive(run: Run, order: &[u8], rounds: bool, limit: usize) -> Ran
+pub(crate) fn drive(run: Run, order: &[u8], rounds: bool, limit: usize) -> Driven
     requires { ⌜ Steady run ⌝ }
     requires { ⌜ ((i : ℕ) → i < limit → Sequence (now order) rounds (run .workers) i) ⌝ }
-    ensures { λ r. ⌜ r ≡ driveOf (who (now (order .entry)) rounds (run .workers)) limit 0 run ⌝ }
+    ensures { λ r. ⌜ ran (r .report) (r .run) ≡ driveOf (who (now (order .entry)) rounds (run .workers)) limit 0 run ⌝ }
+    ensures { λ r. ⌜ (limit ≡ 1 → Open run (who (now (order .entry)) rounds (run .workers) 0) → r .reply ≡ stepRun run (who (now (order .entry)) rounds (run .workers) 0) .reply) ⌝ }
 {
     let length = run.length as usize;
     let table = run.table;
@@ -106,9 +114,11 @@ pub(crate) fn drive(run: Run, order: &[u8], rounds: bool, limit: usize) -> Ran
         highest: run.highest,
     };
     let mut turns = run.turns;
+    let mut reply = Reply::Idle;
     if status[0] == 4 {
-        return Ran {
+        return Driven {
             report: Report::Finished(0),
+            reply,
             run,
         };
     }
@@ -116,14 +126,16 @@ pub(crate) fn drive(run: Run, order: &[u8], rounds: bool, limit: usize) -> Ran
     while i < limit {
         let w = worker_of(order, rounds, p, i);
         if turns == u64::MAX {
-            return Ran {
+            return Driven {
                 report: stopped(32, i),
+                reply,
                 run: packed(run, next, status, list, workers, busy, totals, turns),
             };
         }
         if p <= w {
-            return Ran {
+            return Driven {
                 report: stopped(30, i),
+                reply,
                 run: packed(run, next, status, list, workers, busy, totals, turns),
             };
         }
@@ -145,19 +157,21 @@ pub(crate) fn drive(run: Run, order: &[u8], rounds: bool, limit: usize) -> Ran
         totals = s.totals;
         turns += 1;
         i += 1;
-        let reply = s.reply;
+        reply = s.reply;
         let Reply::Done { thread: _, action } = reply else {
             continue;
         };
         if action as usize == last {
-            return Ran {
+            return Driven {
                 report: Report::Finished(i as u64),
+                reply,
                 run: packed(run, next, status, list, workers, busy, totals, turns),
             };
         }
     }
-    Ran {
+    Driven {
         report: Report::Spent(i as u64),
+        reply,
         run: packed(run, next, status, list, workers, busy, totals, turns),
     }
 }

@@ -23,10 +23,13 @@ ghost use mathlib.Core.Path.{_≡_};
 ghost use mathlib.Core.List.{[]};
 ghost use mathlib.Core.Bool.{true, _&&_};
 ghost use Prim.Native.Nat.{ℕ, _≤_};
-ghost use lib.ListN.{length, take};
+ghost use lib.Dec.{eqb};
+ghost use lib.ListN.{length, take, getD};
 ghost use Rattle.table.specs.Format.{tableOf};
+ghost use Rattle.schedule.specs.Machine.{nobody};
 ghost use Rattle.schedule.specs.Sound.{allBelow, nextInBody, inOrder, statusFollows, soundState, sound as soundOf};
-ghost use Rattle.asyncdf.specs.Checks.{Known, view, whole, restSound};
+ghost use Rattle.schedule.specs.Turn.{isNobody, isBlank, unsound as unsoundOf};
+ghost use Rattle.asyncdf.specs.Checks.{Known, view, whole, restSound, allZero};
 
 // The clauses on what is done, given the table's: next actions, their order, statuses.
 fn done_sound(table: &[u8], n: usize, m: usize, next: &[u16; 1024], status: &[u8; 1024]) -> bool
@@ -123,7 +126,7 @@ fn rest_sound(run: Run) -> bool
 }
 
 // "A record is sound if .."
-pub(crate) fn sound(run: Run) -> bool
+fn sound(run: Run) -> bool
     ensures { λ r. ⌜ r ≡ soundOf run ⌝ }
 {
     if !rest_sound(run) {
@@ -165,4 +168,56 @@ pub(crate) fn sound(run: Run) -> bool
         held,
         highest,
     )
+}
+
+// The numbers that stand outside the arrays are all 0.
+fn all_zero(run: Run) -> bool
+    ensures { λ r. ⌜ r ≡ allZero run ⌝ }
+{
+    run.length == 0
+        && (run.workers == 0
+            && (run.quota == 0
+                && (run.listed == 0
+                    && (run.busy == 0 && (run.held == 0 && (run.highest == 0 && run.turns == 0))))))
+}
+
+// No worker holds anything.
+fn all_free(workers: [Worker; 16]) -> bool
+    ensures { λ r. ⌜ r ≡ (eqb (length workers) 16 && allBelow (λ w. isNobody (getD workers w nobody)) 16) ⌝ }
+{
+    workers_right(0, 0, 0, workers)
+}
+
+// "the blank record: every number 0, every status unborn, the list empty"
+fn is_blank(run: Run) -> bool
+    ensures { λ r. ⌜ r ≡ isBlank run ⌝ }
+{
+    if !all_zero(run) {
+        return false;
+    }
+    let table = run.table;
+    if !table_rest(&table, 0) {
+        return false;
+    }
+    let list = run.list;
+    if !list_rest(&list, 0) {
+        return false;
+    }
+    let next = run.next;
+    let status = run.status;
+    if !unused_right(0, &next, &status) {
+        return false;
+    }
+    let workers = run.worker;
+    all_free(workers)
+}
+
+// 32: "record not sound and not blank"
+pub(crate) fn unsound(run: Run) -> bool
+    ensures { λ r. ⌜ r ≡ unsoundOf run ⌝ }
+{
+    if sound(run) {
+        return false;
+    }
+    !is_blank(run)
 }

@@ -7,7 +7,7 @@ use mathlib.Core.Bool.{Bool, true, false}
 use native.Mathlib.Numerals.{add-one}
 use native.Mathlib.Omega.{arith}
 use borrow.Author.Needs.{needs}
-use borrow.Author.Tests.{ne-eqb, eq-eqb}
+use borrow.Author.Tests.{ne-eqb, eq-eqb, eqb-false}
 use denote.Ref.{now}
 use denote.Enum.Declared.{tagOf}
 use types.Run.{OneOf, miss}
@@ -25,7 +25,7 @@ use Rattle.schedule.specs.declared.Worker.{Worker}
 use Rattle.schedule.specs.declared.Run.{Run}
 use Rattle.schedule.specs.declared.Ran.{Ran}
 use Rattle.schedule.specs.declared.Reply.{Reply}
-use Rattle.schedule.specs.declared.Reply.the-variants.{Done}
+use Rattle.schedule.specs.declared.Reply.the-variants.{Idle, Done}
 use Rattle.schedule.specs.declared.Report.{Report}
 use Rattle.schedule.specs.declared.Report.the-variants.{Finished, Spent, Refused}
 use Rattle.schedule.specs.Machine.{ended, nobody}
@@ -40,7 +40,7 @@ use Rattle.asyncdf.specs.declared.act.Totals.{Totals}
 use Rattle.asyncdf.specs.declared.act.Stepped.{Stepped as StepResult}
 use Rattle.asyncdf.specs.Parts.{partState, partStepped, turnBody, Rowed, Parents, Sits}
 use Rattle.asyncdf.specs.Checks.{Known}
-use Rattle.asyncdf.specs.Drives.{who, busyAfter, Sequence, Bit, packedOf}
+use Rattle.asyncdf.specs.Drives.{who, busyAfter, Sequence, Bit, Open, packedOf}
 use Rattle.asyncdf.proofs.Room.{known-sizes}
 use Rattle.asyncdf.proofs.Local.{set-bit}
 use Rattle.asyncdf.proofs.Driving.{finishes, goes-on, packed-reply, packed-moved, drive-over, drive-spent, drive-full, drive-none, drive-next}
@@ -74,7 +74,7 @@ unfolding rootEnded
 over f limit run e = sym (drive-over f 0 run limit (eq-eqb (getD (run .status) 0 0) ended e))
 
 record Inv (run : Run) (order : List ℕ) (rounds : Bool) (limit n last : ℕ) (parents : List ℕ)
-    (next status list : List ℕ) (workers : List Worker) (busy : ℕ) (totals : Totals) (turns i : ℕ) : Type 0 where
+    (next status list : List ℕ) (workers : List Worker) (busy : ℕ) (totals : Totals) (turns : ℕ) (reply : Reply) (i : ℕ) : Type 0 where
   threads : n ≡ tableIn run .threads
   ends : last ≡ endOf (tableIn run) 0
   parent : Parents (tableIn run) parents
@@ -86,13 +86,15 @@ record Inv (run : Run) (order : List ℕ) (rounds : Bool) (limit n last : ℕ) (
   turns-fit : turns < 2 ^ 64
   remains : drive (who order rounds (run .workers)) (limit - i) i (packedOf run next status list workers busy totals turns)
       ≡ drive (who order rounds (run .workers)) limit 0 run
+  start : i ≡ 0 → packedOf run next status list workers busy totals turns ≡ run
+  said : i ≡ 1 → reply ≡ stepRun run (who order rounds (run .workers) 0) .reply
 
 listed-small : {list : List ℕ} {k : ℕ} → Rowed list k → k ≤ 1024
 listed-small {list} {k} r = omega (arith, r .front, r .size, length-take k list)
 
 module _ {run : Run} {order : List ℕ} {rounds : Bool} {limit n last : ℕ} {parents : List ℕ}
-    {next status list : List ℕ} {workers : List Worker} {busy : ℕ} {totals : Totals} {turns i : ℕ}
-    (v : Inv run order rounds limit n last parents next status list workers busy totals turns i) where
+    {next status list : List ℕ} {workers : List Worker} {busy : ℕ} {totals : Totals} {turns : ℕ} {reply : Reply} {i : ℕ}
+    (v : Inv run order rounds limit n last parents next status list workers busy totals turns reply i) where
   abbrev turnsOf : ℕ → ℕ
   turnsOf = who order rounds (run .workers)
 
@@ -163,9 +165,13 @@ module _ {run : Run} {order : List ℕ} {rounds : Bool} {limit n last : ℕ} {pa
             let a : drive turnsOf (suc k) i here ≡ drive turnsOf k (suc i) (moved here (turnsOf i)) = drive-next turnsOf i here (v .unended) k e (omega arith) in
             ap (λ (j : ℕ). drive turnsOf k j there) y ∙ ap (drive turnsOf k (suc i)) (sym m) ∙ sym a ∙ goes
 
-        again : ((u : ℕ) → s .reply ≡ Done u last → ⊥)
-            → Inv run order rounds limit n last parents next' status' list' (set workers w (s .worker)) busy' (s .totals) (turns + 1) (i + 1)
-        again d =
+        -- the first turn's reply
+        first-said : i ≡ 0 → s .reply ≡ stepRun run (turnsOf 0) .reply
+        first-said z = sym replies ∙ ap (λ (r : Run). stepRun r w .reply) (v .start z) ∙ ap (λ (j : ℕ). stepRun run j .reply) (q ∙ ap turnsOf z)
+
+        again : {reply' : Reply} → reply' ≡ s .reply → ((u : ℕ) → s .reply ≡ Done u last → ⊥)
+            → Inv run order rounds limit n last parents next' status' list' (set workers w (s .worker)) busy' (s .totals) (turns + 1) reply' (i + 1)
+        again a d =
             record {
               threads = v .threads;
               ends = v .ends;
@@ -179,6 +185,8 @@ module _ {run : Run} {order : List ℕ} {rounds : Bool} {limit n last : ℕ} {pa
               within = omega arith;
               turns-fit = omega (arith, v .turns-fit, e);
               remains = rest;
+              start = λ z. absurd (omega (arith, z));
+              said = λ z. a ∙ first-said (omega (arith, z));
             }
 
         finished : {u a : ℕ} → s .reply ≡ Done u a → a ≡ last → ran (Finished (i + 1)) there ≡ drive turnsOf limit 0 run
@@ -186,6 +194,27 @@ module _ {run : Run} {order : List ℕ} {rounds : Bool} {limit n last : ℕ} {pa
             let g : rootEnded there ≡ true =
             subst (λ (r : Run). rootEnded r ≡ true) moves (finishes here (v .steady) w b u (replies ∙ j ∙ ap (Done u) (f ∙ v .ends))) in
             sym (drive-over turnsOf (i + 1) there (limit - (i + 1)) g) ∙ rest
+
+  -- where one turn is asked for and may be taken, no refusal stops it
+  module _ (one : limit ≡ 1) (o : Open run (turnsOf 0)) (h : i < limit) where
+    at-start : i ≡ 0
+    at-start = omega (arith, one, h)
+
+    not-full : turns ≡ 2 ^ 64 - 1 → ⊥
+    not-full e = omega (arith, o .room, ap (λ (r : Run). r .turns) (v .start at-start), e)
+
+    not-none : {w : ℕ} → w ≡ turnsOf i → run .workers ≤ w → ⊥
+    not-none q b = omega (arith, o .below, q ∙ ap turnsOf at-start, b)
+
+  spent-said : limit ≡ 1 → limit ≤ i → reply ≡ stepRun run (turnsOf 0) .reply
+  spent-said one h = v .said (omega (arith, one, h, v .within))
+
+closed : {A : Type 0} (run : Run) (w : ℕ) → getD (run .status) 0 0 ≡ 4 → Open run w → A
+unfolding rootEnded
+closed run w e o = absurd (ne-eqb·not (getD (run .status) 0 0) e (o .unended))
+  where
+    ne-eqb·not : (x : ℕ) → x ≡ 4 → eqb x 4 ≡ false → ⊥
+    ne-eqb·not x a b = eqb-false x 4 b a
 
 -- none was done
 not-done : {r : Reply} → OneOf (0 ∷ 2 ∷ 3 ∷ []) (tagOf the-type r) → (last u : ℕ) → r ≡ Done u last → ⊥
@@ -199,7 +228,7 @@ first-inv : {run : Run} {order : List ℕ} {rounds : Bool} {limit n last : ℕ} 
     → ((j : ℕ) → j < limit → Sequence order rounds (run .workers) j) → n ≡ u16At (bytesOf run) 0 → last ≡ endOf (tableIn run) 0 → Parents (tableIn run) parents
     → length (run .list) ≡ 1024 → run .turns < 2 ^ 64 → (getD (run .status) 0 0 ≡ 4 → ⊥)
     → Inv run order rounds limit n last parents (run .next) (run .status) (run .list) (run .worker) (run .busy)
-    (record { listed = run .listed; held = run .held; highest = run .highest }) (run .turns) 0
+    (record { listed = run .listed; held = run .held; highest = run .highest }) (run .turns) Idle 0
 unfolding rootEnded tableOf
 first-inv {run} {limit = limit} h q n e p z g d =
     let all : limit - 0 ≡ limit = omega arith in
@@ -214,14 +243,16 @@ first-inv {run} {limit = limit} h q n e p z g d =
       within = omega arith;
       turns-fit = g;
       remains = rw all;
+      start = λ z. refl;
+      said = λ z. absurd (omega (arith, z));
     }
 
 abbrev Inv-loop : tie.InvT-loop
-Inv-loop run order rounds limit length bytes n m p quota parents last next₀ status₀ list₀ workers₀ busy₀ totals₀ turns₀ i₀ next status list workers busy totals turns i =
-    Inv run order rounds limit n last parents next status list workers busy totals turns i
+Inv-loop run order rounds limit length bytes n m p quota parents last next₀ status₀ list₀ workers₀ busy₀ totals₀ turns₀ reply₀ i₀ next status list workers busy totals turns reply i =
+    Inv run order rounds limit n last parents next status list workers busy totals turns reply i
 
 abbrev μ-loop : tie.MeasureT-loop
-μ-loop run order rounds limit length bytes n m p quota parents last next₀ status₀ list₀ workers₀ busy₀ totals₀ turns₀ i₀ next status list workers busy totals turns i =
+μ-loop run order rounds limit length bytes n m p quota parents last next₀ status₀ list₀ workers₀ busy₀ totals₀ turns₀ reply₀ i₀ next status list workers busy totals turns reply i =
     limit - i
 
 cast-length : tie.Need-cast-length Inv-loop μ-loop
@@ -258,7 +289,7 @@ array-read-if1 : tie.Need-array-read-if1 Inv-loop μ-loop
 array-read-if1 c = search needs
 
 returns : tie.Need-returns Inv-loop μ-loop
-returns c = over _ _ _ (c .if1 .taken)
+returns c = (over _ _ _ (c .if1 .taken), λ one o. closed _ _ (c .if1 .taken) o)
 
 loop-holds : tie.Need-loop-holds Inv-loop μ-loop
 loop-holds c =
@@ -279,7 +310,7 @@ packed-requires c κs = omega (arith, listed-small (c .before .before .before .b
 
 returns-2 : tie.Need-returns-2 Inv-loop μ-loop
 returns-2 c = let e = full (c .before .before .before .before .before .loop .inv) (c .before .before .before .before .loop-test .taken) (c .before .before .if2 .taken) in
-    rw (c .before .stopped .ensures, c .packed .ensures) e
+    (rw (c .before .stopped .ensures, c .packed .ensures) e, λ one o. absurd (not-full (c .before .before .before .before .before .loop .inv) one o (c .before .before .before .before .loop-test .taken) (c .before .before .if2 .taken)))
 
 stopped-requires-2 : tie.Need-stopped-requires-2 Inv-loop μ-loop
 stopped-requires-2 c κs = search needs
@@ -289,7 +320,7 @@ packed-requires-2 c κs = omega (arith, listed-small (c .before .before .before 
 
 returns-3 : tie.Need-returns-3 Inv-loop μ-loop
 returns-3 c = let e = none (c .before .before .before .before .before .before .loop .inv) (c .before .before .before .before .before .loop-test .taken) (c .before .before .before .before .worker-of .ensures) (c .before .before .before .if2 .left) (c .before .before .if3 .taken) in
-    rw (c .before .stopped2 .ensures, c .packed2 .ensures) e
+    (rw (c .before .stopped2 .ensures, c .packed2 .ensures) e, λ one o. absurd (not-none (c .before .before .before .before .before .before .loop .inv) one o (c .before .before .before .before .before .loop-test .taken) (c .before .before .before .before .worker-of .ensures) (c .before .before .if3 .taken)))
 
 mul-before : tie.Need-mul-before Inv-loop μ-loop
 mul-before c = omega (arith, few (c .before .before .before .before .loop .inv) (c .if3 .left))
@@ -322,7 +353,7 @@ loop-less : tie.Need-loop-less Inv-loop μ-loop
 loop-less c = let h = c .before .before .before .before .before .before .before .before .before .before .before .before .before .loop-test .taken in omega (arith, h)
 
 loop-again : tie.Need-loop-again Inv-loop μ-loop
-loop-again c = again (c .before .before .before .before .before .before .before .before .before .before .before .before .before .before .loop .inv) (c .before .before .before .before .before .before .before .before .before .before .before .before .before .loop-test .taken) (c .before .before .before .before .before .before .before .before .before .before .before .before .worker-of .ensures) (c .before .before .before .before .before .before .before .before .before .before .before .if2 .left) (c .before .before .before .before .before .before .before .before .before .before .if3 .left) (c .before .before .before .before .step .ensures .0) (c .before .before .before .before .step .ensures .1) (c .before .before .busy-after .ensures) (not-done (c .match .keys2) _)
+loop-again c = again (c .before .before .before .before .before .before .before .before .before .before .before .before .before .before .loop .inv) (c .before .before .before .before .before .before .before .before .before .before .before .before .before .loop-test .taken) (c .before .before .before .before .before .before .before .before .before .before .before .before .worker-of .ensures) (c .before .before .before .before .before .before .before .before .before .before .before .if2 .left) (c .before .before .before .before .before .before .before .before .before .before .if3 .left) (c .before .before .before .before .step .ensures .0) (c .before .before .before .before .step .ensures .1) (c .before .before .busy-after .ensures) refl (not-done (c .match .keys2) _)
 
 cast-if4 : tie.Need-cast-if4 Inv-loop μ-loop
 cast-if4 c = search needs
@@ -332,19 +363,21 @@ packed-requires-3 c κs = omega (arith, listed-small (c .before .before .before 
 
 returns-4 : tie.Need-returns-4 Inv-loop μ-loop
 returns-4 c = let g = finished (c .before .before .before .before .before .before .before .before .before .before .before .before .before .before .before .before .before .before .loop .inv) (c .before .before .before .before .before .before .before .before .before .before .before .before .before .before .before .before .before .loop-test .taken) (c .before .before .before .before .before .before .before .before .before .before .before .before .before .before .before .before .worker-of .ensures) (c .before .before .before .before .before .before .before .before .before .before .before .before .before .before .before .if2 .left) (c .before .before .before .before .before .before .before .before .before .before .before .before .before .before .if3 .left) (c .before .before .before .before .before .before .before .before .step .ensures .0) (c .before .before .before .before .before .before .before .before .step .ensures .1) (c .before .before .before .before .before .before .busy-after .ensures) (c .before .before .before .reply .given .1) (c .before .if4 .taken) in
-    rw (c .packed3 .ensures) g
+    let f = first-said (c .before .before .before .before .before .before .before .before .before .before .before .before .before .before .before .before .before .before .loop .inv) (c .before .before .before .before .before .before .before .before .before .before .before .before .before .before .before .before .before .loop-test .taken) (c .before .before .before .before .before .before .before .before .before .before .before .before .before .before .before .before .worker-of .ensures) (c .before .before .before .before .before .before .before .before .before .before .before .before .before .before .before .if2 .left) (c .before .before .before .before .before .before .before .before .before .before .before .before .before .before .if3 .left) (c .before .before .before .before .before .before .before .before .step .ensures .0) (c .before .before .before .before .before .before .before .before .step .ensures .1) (c .before .before .before .before .before .before .busy-after .ensures) in
+    (rw (c .packed3 .ensures) g, λ one o. sym (c .before .before .before .reply .given .1) ∙ f (omega (arith, one, (c .before .before .before .before .before .before .before .before .before .before .before .before .before .before .before .before .before .loop-test .taken))))
 
 loop-less-2 : tie.Need-loop-less-2 Inv-loop μ-loop
 loop-less-2 c = let h = c .before .before .before .before .before .before .before .before .before .before .before .before .before .before .before .before .loop-test .taken in omega (arith, h)
 
 loop-again-2 : tie.Need-loop-again-2 Inv-loop μ-loop
-loop-again-2 c = again (c .before .before .before .before .before .before .before .before .before .before .before .before .before .before .before .before .before .loop .inv) (c .before .before .before .before .before .before .before .before .before .before .before .before .before .before .before .before .loop-test .taken) (c .before .before .before .before .before .before .before .before .before .before .before .before .before .before .before .worker-of .ensures) (c .before .before .before .before .before .before .before .before .before .before .before .before .before .before .if2 .left) (c .before .before .before .before .before .before .before .before .before .before .before .before .before .if3 .left) (c .before .before .before .before .before .before .before .step .ensures .0) (c .before .before .before .before .before .before .before .step .ensures .1) (c .before .before .before .before .before .busy-after .ensures) (other (c .before .before .reply .given .1) (c .if4 .left))
+loop-again-2 c = again (c .before .before .before .before .before .before .before .before .before .before .before .before .before .before .before .before .before .loop .inv) (c .before .before .before .before .before .before .before .before .before .before .before .before .before .before .before .before .loop-test .taken) (c .before .before .before .before .before .before .before .before .before .before .before .before .before .before .before .worker-of .ensures) (c .before .before .before .before .before .before .before .before .before .before .before .before .before .before .if2 .left) (c .before .before .before .before .before .before .before .before .before .before .before .before .before .if3 .left) (c .before .before .before .before .before .before .before .step .ensures .0) (c .before .before .before .before .before .before .before .step .ensures .1) (c .before .before .before .before .before .busy-after .ensures) (sym (c .before .before .reply .given .1)) (other (c .before .before .reply .given .1) (c .if4 .left))
 
 packed-requires-4 : tie.Need-packed-requires-4 Inv-loop μ-loop
 packed-requires-4 c κs = omega (arith, listed-small (c .before .loop .inv .row))
 
 returns-5 : tie.Need-returns-5 Inv-loop μ-loop
-returns-5 c = let g = spent (c .before .before .loop .inv) (c .before .loop-test .left) in rw (c .packed4 .ensures) g
+returns-5 c = let g = spent (c .before .before .loop .inv) (c .before .loop-test .left) in
+    (rw (c .packed4 .ensures) g, λ one o. spent-said (c .before .before .loop .inv) one (c .before .loop-test .left))
 
 pub drive-spec : {M : Type 1} → statement M
 drive-spec =

@@ -1,4 +1,4 @@
--- `asyncdf::begin::copy` meets its contract. The invariant: the first i places have the bytes, and the others 0.
+-- `asyncdf::beginning::copy` meets its contract. The invariant: the first i places have the bytes, and the others 0.
 use mathlib.Core.Path.{_≡_, refl, ap, _∙_}
 use Prim.Native.Nat.{ℕ, _+_, _-_, _≤_, _<_}
 use mathlib.Core.List.{List}
@@ -9,8 +9,8 @@ use Rattle.schedule.specs.Record.{filled}
 use Rattle.schedule.specs.Begin.{firsts}
 use Rattle.schedule.proofs.Lists.{firsts-take}
 use Rattle.asyncdf.proofs.Laying.{Laid, laid-more}
-use Rattle.asyncdf.proofs.begin.copy.Statement.{statement}
-use Rattle.asyncdf.proofs.begin.copy.Tie as tie
+use Rattle.asyncdf.proofs.beginning.copy.Statement.{statement}
+use Rattle.asyncdf.proofs.beginning.copy.Tie as tie
 
 record Inv (s out : List ℕ) (i : ℕ) : Type 0 where
   few : length s ≤ 36868

@@ -1,19 +1,14 @@
-// Beginning a run: the table's own checks, then 20 to 22; the record that it gives, or the blank one.
-use crate::amounts::begin_fault;
+// The record of an accepted beginning, and the blank one.
 use crate::read::word;
-use schedule::Beginning;
-use schedule::Begun;
 use schedule::Run;
 use schedule::Worker;
-use table::Found;
-use table::Loaded;
 ghost use mathlib.Core.Path.{_≡_};
 ghost use Prim.Native.Nat.{ℕ, _≤_};
 ghost use mathlib.Core.List.{List};
 ghost use lib.ListN.{length, replicate};
 ghost use Rattle.table.specs.Format.{tableOf};
 ghost use Rattle.schedule.specs.Record.{blank as blankRun, filled};
-ghost use Rattle.schedule.specs.Begin.{firsts, startRun, begin as beginOf};
+ghost use Rattle.schedule.specs.Begin.{firsts, startRun};
 ghost use Rattle.asyncdf.specs.Checks.{Known};
 
 const NOBODY: Worker = Worker {
@@ -22,7 +17,7 @@ const NOBODY: Worker = Worker {
     quota: 0,
 };
 
-fn blank() -> Run
+pub(crate) fn blank() -> Run
     ensures { λ r. ⌜ r ≡ blankRun ⌝ }
 {
     Run {
@@ -68,7 +63,7 @@ fn fill_next(bytes: &[u8], n: usize, m: usize, next: &mut [u16; 1024])
 }
 
 // The record of an accepted beginning.
-fn start(bytes: &[u8], n: usize, m: usize, p: u8, quota: u32) -> Run
+pub(crate) fn start(bytes: &[u8], n: usize, m: usize, p: u8, quota: u32) -> Run
     requires { ⌜ Known (now bytes) n m ⌝ }
     ensures { λ r. ⌜ r ≡ startRun (now (bytes .entry)) p quota ⌝ }
 {
@@ -92,31 +87,5 @@ fn start(bytes: &[u8], n: usize, m: usize, p: u8, quota: u32) -> Run
         held: 0,
         highest: 0,
         turns: 0,
-    }
-}
-
-// Beginning from a table's bytes, p and K.
-pub(crate) fn begin(bytes: &[u8], p: u8, quota: u32) -> Begun
-    ensures { λ r. ⌜ r ≡ beginOf (now (bytes .entry)) p quota ⌝ }
-{
-    let loaded = table::load(bytes);
-    if let Loaded::Refused(x) = loaded {
-        return Begun {
-            answer: Beginning::Refused(x),
-            run: blank(),
-        };
-    }
-    let n = word(bytes, 0);
-    let m = word(bytes, 2);
-    let found = begin_fault(bytes, n, m, p, quota);
-    if let Found::At(x) = found {
-        return Begun {
-            answer: Beginning::Refused(x),
-            run: blank(),
-        };
-    }
-    Begun {
-        answer: Beginning::Begun,
-        run: start(bytes, n, m, p, quota),
     }
 }

@@ -1,4 +1,4 @@
--- `asyncdf::begin::fill_next` meets its contract. The invariant: the first t places have these threads' first actions, and the others 0.
+-- `asyncdf::beginning::fill_next` meets its contract. The invariant: the first t places have these threads' first actions, and the others 0.
 use mathlib.Core.Path.{_≡_, ap, _∙_}
 use Prim.Native.Nat.{ℕ, _+_, _-_, _≤_, _<_}
 use mathlib.Core.List.{List}
@@ -11,8 +11,8 @@ use Rattle.schedule.specs.Begin.{firsts}
 use Rattle.asyncdf.specs.Checks.{Known}
 use Rattle.asyncdf.proofs.Room.{known-sizes}
 use Rattle.asyncdf.proofs.Laying.{Laid, laid-more}
-use Rattle.asyncdf.proofs.begin.fill_next.Statement.{statement}
-use Rattle.asyncdf.proofs.begin.fill_next.Tie as tie
+use Rattle.asyncdf.proofs.beginning.fill_next.Statement.{statement}
+use Rattle.asyncdf.proofs.beginning.fill_next.Tie as tie
 
 record Inv (s : List ℕ) (n m : ℕ) (next : List ℕ) (t : ℕ) : Type 0 where
   sizes : Sizes s n m

@@ -1,4 +1,4 @@
--- `asyncdf::begin::begin` meets its contract: the table's own checks come first, and those of the beginning where they find nothing.
+-- `asyncdf::begin` meets its contract: the table's own checks come first, and those of the beginning where they find nothing.
 use mathlib.Core.Path.{_≡_, ap, sym, _∙_}
 use Prim.Native.Nat.{ℕ, _≤_}
 use mathlib.Core.List.{List}
@@ -22,8 +22,8 @@ use Rattle.schedule.specs.Begin.{begin, beginPasses, begunAs, startRun}
 use Rattle.schedule.specs.declared.Run.{Run}
 use Rattle.schedule.specs.declared.Beginning.the-variants.{Begun as started, Refused as refusedBegin}
 use Rattle.asyncdf.specs.Checks.{Known}
-use Rattle.asyncdf.proofs.begin.begin.Statement.{statement}
-use Rattle.asyncdf.proofs.begin.begin.Tie as tie
+use Rattle.asyncdf.proofs.begin.Statement.{statement}
+use Rattle.asyncdf.proofs.begin.Tie as tie
 
 accepted-rules : (s : List ℕ) {f : Facts} → loaded s ≡ Accepted f → Rules s
 accepted-rules s {f} h = accepted-exactly s .0 (h ∙ ap Accepted (accepted-facts s f h))

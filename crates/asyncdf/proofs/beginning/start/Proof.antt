@@ -1,4 +1,4 @@
--- `asyncdf::begin::start` meets its contract: the two filled arrays are the definition's, and the other fields compute.
+-- `asyncdf::beginning::start` meets its contract: the two filled arrays are the definition's, and the other fields compute.
 use mathlib.Core.Path.{_≡_, refl, ap, _∙_}
 use Prim.Native.Nat.{ℕ}
 use mathlib.Core.List.{List}
@@ -12,8 +12,8 @@ use Rattle.schedule.specs.Begin.{firsts, startState, startRun}
 use Rattle.schedule.specs.declared.Run.{Run}
 use Rattle.asyncdf.specs.Checks.{Known}
 use Rattle.asyncdf.proofs.Room.{known-sizes}
-use Rattle.asyncdf.proofs.begin.start.Statement.{statement}
-use Rattle.asyncdf.proofs.begin.start.Tie as tie
+use Rattle.asyncdf.proofs.beginning.start.Statement.{statement}
+use Rattle.asyncdf.proofs.beginning.start.Tie as tie
 
 -- the record with these two arrays
 abbrev begun : List ℕ → ℕ → ℕ → List ℕ → List ℕ → Run

@@ -1,0 +1,61 @@
+-- `asyncdf::sound::all_free` meets its contract: of no workers and no threads, a worker that holds one is wrong.
+use mathlib.Core.Path.{_≡_, refl, sym, ap, _∙_}
+use mathlib.Core.Logic.{_↔_}
+use Prim.Native.Nat.{ℕ, _≤_, _<_}
+use native.Mathlib.Omega.{arith}
+use mathlib.Core.List.{List, []}
+use mathlib.Core.Bool.{Bool, true, false, _&&_}
+use borrow.Author.Needs.{needs}
+use borrow.Author.Tests.{eq-eqb}
+use lib.ListN.{length, getD}
+use lib.Dec.{eqb}
+use Rattle.table.specs.Format.{Table}
+use Rattle.schedule.specs.declared.Worker.{Worker}
+use Rattle.schedule.specs.Machine.{nobody}
+use Rattle.schedule.specs.Sound.{allBelow, workerRight}
+use Rattle.schedule.specs.Turn.{isNobody}
+use Rattle.schedule.proofs.Words.{not-both, allBelow-exactly}
+use Rattle.schedule.proofs.Clauses.{nobody-exactly, workerRight-exactly}
+use Rattle.asyncdf.specs.Checks.{view}
+use Rattle.asyncdf.proofs.sound.all_free.Statement.{statement}
+use Rattle.asyncdf.proofs.sound.all_free.Tie as tie
+
+abbrev none : Table
+none = record { threads = 0; actions = 0; first = λ t. 0; count = λ t. 0; code = λ a. 0; argument = λ a. 0 }
+
+same-truth : (a b : Bool) → (a ≡ true) ↔ (b ≡ true) → a ≡ b
+same-truth true b h = sym (h .0 refl)
+same-truth false true h = h .1 refl
+same-truth false false h = refl
+
+module _ (l : List Worker) (w : ℕ) where
+  free-right : (workerRight none 0 0 (view [] [] [] l 0) w ≡ true) ↔ (isNobody (getD l w nobody) ≡ true)
+  free-right = ((λ e. go (getD l w nobody .holds) refl e), (λ e. back (nobody-exactly _ .0 e)))
+    where
+      back : getD l w nobody ≡ nobody → workerRight none 0 0 (view [] [] [] l 0) w ≡ true
+      back e = workerRight-exactly none 0 0 (view [] [] [] l 0) w .1 ((λ y. absurd (not-both _ y (ap (λ (x : Worker). x .holds) e))), λ y. e)
+
+      go : (q : Bool) → getD l w nobody .holds ≡ q → workerRight none 0 0 (view [] [] [] l 0) w ≡ true → isNobody (getD l w nobody) ≡ true
+      go true i e = absurd (omega (arith, workerRight-exactly none 0 0 (view [] [] [] l 0) w .0 e .0 i .0))
+      go false i e = nobody-exactly _ .1 (workerRight-exactly none 0 0 (view [] [] [] l 0) w .0 e .1 i)
+
+all-right : (l : List Worker) → length l ≡ 16 → {b : Bool} → b ≡ allBelow (workerRight none 0 0 (view [] [] [] l 0)) 16
+    → b ≡ (eqb (length l) 16 && allBelow (λ w. isNobody (getD l w nobody)) 16)
+all-right l z e =
+    e ∙ same-truth _ _ (
+      (λ h. allBelow-exactly _ 16 .1 (λ w k. free-right l w .0 (allBelow-exactly _ 16 .0 h w k))),
+      (λ h. allBelow-exactly _ 16 .1 (λ w k. free-right l w .1 (allBelow-exactly _ 16 .0 h w k))),
+    )
+    ∙ rw (eq-eqb (length l) 16 z)
+
+workers-right-requires : tie.Need-workers-right-requires
+workers-right-requires c κs = search needs
+
+worker-size : (c : tie.Start) → length (c .args .workers) ≡ 16
+worker-size c = search needs
+
+returns : tie.Need-returns
+returns c = all-right _ (worker-size (c .before)) (c .workers-right .ensures none refl)
+
+pub all-free-spec : {M : Type 1} → statement M
+all-free-spec = tie.close (tie.spec workers-right-requires returns)
