@@ -17,3 +17,4 @@ pub mod Local
 pub mod Driving
 pub mod Blank
 pub mod Calls
+pub mod Promised
