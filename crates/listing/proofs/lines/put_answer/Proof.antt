@@ -1,38 +1,29 @@
+-- `listing::lines::put_answer` meets its contract: what the line's buffer has at its front is the line.
 use mathlib.Core.Path.{_≡_, sym, ap, _∙_}
+use native.Mathlib.Omega.{arith}
+use borrow.Author.Needs.{needs}
 use lib.ListN.{take}
 use lib.Seq.{take-at}
 use Rattle.text.specs.Text.{lineOf}
-use native.Mathlib.Omega.{arith}
 use Rattle.listing.proofs.Putting.{puts-word, puts-within}
-use borrow.Author.Needs.{needs}
 use Rattle.listing.proofs.lines.put_answer.Statement.{statement}
 use Rattle.listing.proofs.lines.put_answer.Tie as tie
-use Rattle.listing.proofs.lines.put_answer.Reads as reads
-use Rattle.listing.proofs.lines.put_answer.Lts as lts
-use Rattle.text.proofs.put_word.Reads as put-word-reads
-use Rattle.text.proofs.table_line.Reads as table-line-reads
 
--- src/lines.rt:26:9
 table-line-requires : tie.Need-table-line-requires
 table-line-requires c κs = search needs
 
--- src/lines.rt:27:23
 array-share-prefix-line : tie.Need-array-share-prefix-line
 array-share-prefix-line c = search needs
 
--- src/lines.rt:27:23
 slice-aggregate-put-word : tie.Need-slice-aggregate-put-word
 slice-aggregate-put-word c = search needs
 
--- src/lines.rt:27:5
 put-word-requires : tie.Need-put-word-requires
 put-word-requires c κs = search needs
 
--- src/lines.rt:22:1
 same-length : tie.Need-same-length
 same-length c = search needs
 
--- src/lines.rt:22:1
 returns : tie.Need-returns
 returns c =
     let t = c .before .before .before .before .before .table-line in

@@ -1,66 +1,49 @@
+-- `listing::lines::put_last` meets its contract: the word goes by whether the root has ended.
 use native.Mathlib.Omega.{arith}
+use borrow.Author.Needs.{needs}
 use Rattle.text.specs.Text.{newline}
 use Rattle.listing.specs.Lines.{lastTexts}
 use Rattle.listing.proofs.Putting.{puts-word, puts-more, puts-within}
-use borrow.Author.Needs.{needs}
 use Rattle.listing.proofs.lines.put_last.Statement.{statement}
 use Rattle.listing.proofs.lines.put_last.Tie as tie
-use Rattle.listing.proofs.lines.put_last.Reads as reads
-use Rattle.listing.proofs.lines.put_last.Lts as lts
-use Rattle.listing.proofs.lines.put_totals.Reads as put-totals-reads
-use Rattle.listing.proofs.record.is_ended.Reads as is-ended-reads
-use Rattle.text.proofs.put_word.Reads as put-word-reads
 
--- src/lines.rt:108:8
 is-ended-requires : tie.Need-is-ended-requires
 is-ended-requires c κs = search needs
 
--- src/lines.rt:109:38
 slice-aggregate-put-totals : tie.Need-slice-aggregate-put-totals
 slice-aggregate-put-totals c = search needs
 
--- src/lines.rt:109:13
 put-totals-requires : tie.Need-put-totals-requires
 put-totals-requires c κs = search needs
 
--- src/lines.rt:110:27
 slice-aggregate-put-word : tie.Need-slice-aggregate-put-word
 slice-aggregate-put-word c = search needs
 
--- src/lines.rt:110:9
 put-word-requires : tie.Need-put-word-requires
 put-word-requires c κs = search needs
 
--- src/lines.rt:112:38
 slice-aggregate-put-totals-2 : tie.Need-slice-aggregate-put-totals-2
 slice-aggregate-put-totals-2 c = search needs
 
--- src/lines.rt:112:13
 put-totals-requires-2 : tie.Need-put-totals-requires-2
 put-totals-requires-2 c κs = search needs
 
--- src/lines.rt:113:27
 slice-aggregate-put-word-2 : tie.Need-slice-aggregate-put-word-2
 slice-aggregate-put-word-2 c = search needs
 
--- src/lines.rt:113:9
 put-word-requires-2 : tie.Need-put-word-requires-2
 put-word-requires-2 c κs = search needs
 
--- src/lines.rt:105:1
 same-length : tie.Need-same-length
 same-length c = search needs
 
--- src/lines.rt:105:1
 returns : tie.Need-returns
 unfolding lastTexts
 returns c = rw (← c .before .before .before .before .before .before .before .before .before .before .before .is-ended .ensures, c .before .before .before .before .before .before .before .before .before .before .if1 .taken) (puts-within (omega arith) (puts-more (c .before .before .before .before .before .before .before .put-totals .ensures) (puts-word newline (c .before .before .put-word .ensures))))
 
--- src/lines.rt:105:1
 same-length-2 : tie.Need-same-length-2
 same-length-2 c = search needs
 
--- src/lines.rt:105:1
 returns-2 : tie.Need-returns-2
 unfolding lastTexts
 returns-2 c = rw (← c .before .before .before .before .before .before .before .before .before .before .before .is-ended .ensures, c .before .before .before .before .before .before .before .before .before .before .if1 .left) (puts-within (omega arith) (puts-more (c .before .before .before .before .before .before .before .put-totals2 .ensures) (puts-word newline (c .before .before .put-word2 .ensures))))

@@ -1,31 +1,24 @@
+-- `listing::lines::put_totals` meets its contract: two numbers of at most twenty digits.
 use native.Mathlib.Omega.{arith}
+use borrow.Author.Needs.{needs}
 use denote.Ref.{now}
 use Rattle.listing.specs.Lines.{peakWord}
 use Rattle.listing.proofs.Putting.{puts-labelled, puts-more, puts-within}
-use borrow.Author.Needs.{needs}
 use Rattle.listing.proofs.lines.put_totals.Statement.{statement}
 use Rattle.listing.proofs.lines.put_totals.Tie as tie
-use Rattle.listing.proofs.lines.put_totals.Reads as reads
-use Rattle.listing.proofs.lines.put_totals.Lts as lts
-use Rattle.text.proofs.put_labelled.Reads as put-labelled-reads
 
--- src/lines.rt:100:9
 put-labelled-requires : tie.Need-put-labelled-requires
 put-labelled-requires c κs = search needs
 
--- src/lines.rt:101:27
 slice-aggregate-put-labelled : tie.Need-slice-aggregate-put-labelled
 slice-aggregate-put-labelled c = search needs
 
--- src/lines.rt:101:5
 put-labelled-requires-2 : tie.Need-put-labelled-requires-2
 put-labelled-requires-2 c κs = search needs
 
--- src/lines.rt:96:1
 same-length : tie.Need-same-length
 same-length c = search needs
 
--- src/lines.rt:96:1
 returns : tie.Need-returns
 returns c =
     let a = c .before .before .before .before .before .before .before .before .before .before .before in

@@ -1,21 +1,17 @@
+-- `listing::record::byte` meets its contract: past a list's end stands the default.
 use mathlib.Core.Path.{sym}
+use borrow.Author.Needs.{needs}
 use denote.Ref.{now}
 use lib.ListN.{List·getD-eq-default}
-use borrow.Author.Needs.{needs}
 use Rattle.listing.proofs.record.byte.Statement.{statement}
 use Rattle.listing.proofs.record.byte.Tie as tie
-use Rattle.listing.proofs.record.byte.Reads as reads
-use Rattle.listing.proofs.record.byte.Lts as lts
 
--- src/record.rt:16:22
 shared-slice-read-result : tie.Need-shared-slice-read-result
 shared-slice-read-result c = search needs
 
--- src/record.rt:13:1
 returns : tie.Need-returns
 returns c = search needs
 
--- src/record.rt:13:1
 returns-2 : tie.Need-returns-2
 returns-2 c = sym (List·getD-eq-default (now (c .before .args .s)) 0 (c .if1 .left))
 

@@ -1,32 +1,25 @@
+-- `listing::record::code_within` meets its contract: where more is said to be in use than there is, all of it is.
 use mathlib.Core.Path.{_≡_, sym}
 use native.Mathlib.Omega.{arith}
+use borrow.Author.Needs.{needs}
 use denote.Ref.{now}
 use lib.ListN.{take}
 use lib.Seq.{length-take-le, take-all}
-use borrow.Author.Needs.{needs}
 use Rattle.listing.proofs.record.code_within.Statement.{statement}
 use Rattle.listing.proofs.record.code_within.Tie as tie
-use Rattle.listing.proofs.record.code_within.Reads as reads
-use Rattle.listing.proofs.record.code_within.Lts as lts
-use Rattle.listing.proofs.record.code_at.Reads as code-at-reads
 
--- src/record.rt:46:17
 slice-aggregate-code-at : tie.Need-slice-aggregate-code-at
 slice-aggregate-code-at c = sym (length-take-le _ _ (c .before .if1 .taken))
 
--- src/record.rt:46:9
 code-at-requires : tie.Need-code-at-requires
 code-at-requires c κs = search needs
 
--- src/record.rt:48:9
 code-at-requires-2 : tie.Need-code-at-requires-2
 code-at-requires-2 c κs = search needs
 
--- src/record.rt:42:1
 returns : tie.Need-returns
 returns c = search needs
 
--- src/record.rt:42:1
 returns-2 : tie.Need-returns-2
 returns-2 c =
     let a = c .before .before .before .args in

@@ -1,36 +1,27 @@
+-- `listing::rounds::put_held` meets its contract: a number of at most twenty digits between a word and the line's end.
 use native.Mathlib.Omega.{arith}
+use borrow.Author.Needs.{needs}
 use Rattle.text.specs.Text.{newline}
 use Rattle.listing.specs.Lines.{heldWord}
 use Rattle.listing.proofs.Putting.{puts-word, puts-labelled, puts-more}
-use borrow.Author.Needs.{needs}
 use Rattle.listing.proofs.rounds.put_held.Statement.{statement}
 use Rattle.listing.proofs.rounds.put_held.Tie as tie
-use Rattle.listing.proofs.rounds.put_held.Reads as reads
-use Rattle.listing.proofs.rounds.put_held.Lts as lts
-use Rattle.text.proofs.put_labelled.Reads as put-labelled-reads
-use Rattle.text.proofs.put_word.Reads as put-word-reads
 
--- src/rounds.rt:20:36
 slice-aggregate-put-labelled : tie.Need-slice-aggregate-put-labelled
 slice-aggregate-put-labelled c = search needs
 
--- src/rounds.rt:20:9
 put-labelled-requires : tie.Need-put-labelled-requires
 put-labelled-requires c κs = search needs
 
--- src/rounds.rt:21:23
 slice-aggregate-put-word : tie.Need-slice-aggregate-put-word
 slice-aggregate-put-word c = search needs
 
--- src/rounds.rt:21:5
 put-word-requires : tie.Need-put-word-requires
 put-word-requires c κs = search needs
 
--- src/rounds.rt:17:1
 same-length : tie.Need-same-length
 same-length c = search needs
 
--- src/rounds.rt:17:1
 returns : tie.Need-returns
 returns c =
     let a = c .before .before .before .before .before .before .before .before .before .before .before in

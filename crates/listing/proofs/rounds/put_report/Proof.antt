@@ -1,78 +1,58 @@
+-- `listing::rounds::put_report` meets its contract: each sort of report has its line.
 use native.Mathlib.Omega.{arith}
+use borrow.Author.Needs.{needs}
 use Rattle.listing.specs.Lines.{reportTexts}
 use Rattle.listing.proofs.Putting.{puts-more, puts-within}
-use borrow.Author.Needs.{needs}
 use Rattle.listing.proofs.rounds.put_report.Statement.{statement}
 use Rattle.listing.proofs.rounds.put_report.Tie as tie
-use Rattle.listing.proofs.rounds.put_report.Reads as reads
-use Rattle.listing.proofs.rounds.put_report.Lts as lts
-use Rattle.listing.proofs.lines.put_answer.Reads as put-answer-reads
-use Rattle.listing.proofs.lines.put_totals.Reads as put-totals-reads
-use Rattle.listing.proofs.rounds.put_held.Reads as put-held-reads
 
--- src/rounds.rt:28:26
 enum-known-report : tie.Need-enum-known-report
 enum-known-report c = search needs
 
--- src/rounds.rt:29:41
 slice-aggregate-put-totals : tie.Need-slice-aggregate-put-totals
 slice-aggregate-put-totals c = search needs
 
--- src/rounds.rt:29:17
 put-totals-requires : tie.Need-put-totals-requires
 put-totals-requires c κs = search needs
 
--- src/rounds.rt:30:13
 put-held-requires : tie.Need-put-held-requires
 put-held-requires c κs = search needs
 
--- src/rounds.rt:32:23
 enum-known-report-2 : tie.Need-enum-known-report-2
 enum-known-report-2 c = search needs
 
--- src/rounds.rt:33:41
 slice-aggregate-put-totals-2 : tie.Need-slice-aggregate-put-totals-2
 slice-aggregate-put-totals-2 c = search needs
 
--- src/rounds.rt:33:17
 put-totals-requires-2 : tie.Need-put-totals-requires-2
 put-totals-requires-2 c κs = search needs
 
--- src/rounds.rt:34:13
 put-held-requires-2 : tie.Need-put-held-requires-2
 put-held-requires-2 c κs = search needs
 
--- src/rounds.rt:36:28
 enum-known-report-3 : tie.Need-enum-known-report-3
 enum-known-report-3 c = search needs
 
--- src/rounds.rt:36:40
 put-answer-requires : tie.Need-put-answer-requires
 put-answer-requires c κs = search needs
 
--- src/rounds.rt:24:1
 same-length : tie.Need-same-length
 same-length c = search needs
 
--- src/rounds.rt:24:1
 returns : tie.Need-returns
 unfolding reportTexts
 returns c = rw (c .before .before .before .before .before .before .before .before .before .before .report .given .1) (puts-within (omega arith) (puts-more (c .before .before .before .before .before .before .put-totals .ensures) (c .before .before .put-held .ensures)))
 
--- src/rounds.rt:24:1
 same-length-2 : tie.Need-same-length-2
 same-length-2 c = search needs
 
--- src/rounds.rt:24:1
 returns-2 : tie.Need-returns-2
 unfolding reportTexts
 returns-2 c = rw (c .before .before .before .before .before .before .before .before .before .before .report2 .given .1) (puts-within (omega arith) (puts-more (c .before .before .before .before .before .before .put-totals2 .ensures) (c .before .before .put-held2 .ensures)))
 
--- src/rounds.rt:24:1
 same-length-3 : tie.Need-same-length-3
 same-length-3 c = search needs
 
--- src/rounds.rt:24:1
 returns-3 : tie.Need-returns-3
 unfolding reportTexts
 returns-3 c = rw (c .before .before .before .before .before .report3 .given .1) (puts-within (omega arith) (c .before .before .put-answer .ensures))

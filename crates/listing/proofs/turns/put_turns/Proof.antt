@@ -1,3 +1,4 @@
+-- `listing::turns::put_turns` meets its contract. The invariant: whoever puts the texts of the rest of the order puts those of the whole (Ordered).
 use Prim.Native.Nat.{_-_}
 use native.Mathlib.Omega.{arith}
 use borrow.Author.Needs.{needs}
@@ -5,13 +6,6 @@ use lib.ListN.{length}
 use Rattle.listing.proofs.Ordered.{Inv, start, ended, exhausted, refused, again}
 use Rattle.listing.proofs.turns.put_turns.Statement.{statement}
 use Rattle.listing.proofs.turns.put_turns.Tie as tie
-use Rattle.listing.proofs.turns.put_turns.Reads as reads
-use Rattle.listing.proofs.turns.put_turns.Lts as lts
-use Rattle.asyncdf.proofs.turn.Reads as turn-reads
-use Rattle.listing.proofs.lines.put_last.Reads as put-last-reads
-use Rattle.listing.proofs.lines.put_refused.Reads as put-refused-reads
-use Rattle.listing.proofs.lines.put_turn.Reads as put-turn-reads
-use Rattle.listing.proofs.record.is_ended.Reads as is-ended-reads
 
 abbrev Inv-loop : tie.InvT-loop
 Inv-loop order out₀ at run₀ at₀ i₀ out run at' i = Inv order out₀ at₀ run₀ out run at' i
@@ -19,79 +13,68 @@ Inv-loop order out₀ at run₀ at₀ i₀ out run at' i = Inv order out₀ at�
 abbrev μ-loop : tie.MeasureT-loop
 μ-loop order out₀ at run₀ at₀ i₀ out run at' i = length order - i
 
--- src/turns.rt:26:5
 loop-holds : tie.Need-loop-holds Inv-loop μ-loop
 loop-holds c = start _ _ _ _
 
--- src/turns.rt:27:12
 is-ended-requires : tie.Need-is-ended-requires Inv-loop μ-loop
 is-ended-requires c κs = search needs
 
--- src/turns.rt:28:13
 put-last-requires : tie.Need-put-last-requires Inv-loop μ-loop
 put-last-requires c κs = search needs
 
--- src/turns.rt:28:13
 same-length : tie.Need-same-length Inv-loop μ-loop
 same-length c = omega arith
 
--- src/turns.rt:28:13
 returns : tie.Need-returns Inv-loop μ-loop
-returns c = ended (c .before .before .before .before .before .before .before .loop .inv) (rw (c .before .before .before .before .before .is-ended .ensures) at (c .before .before .before .before .if1 .taken)) (c .before .before .put-last .ensures)
+returns c =
+    let d = c .before .before .before .before .before in
+    ended (d .before .before .loop .inv) (rw (d .is-ended .ensures) at (c .before .before .before .before .if1 .taken)) (c .before .before .put-last .ensures)
 
--- src/turns.rt:30:17
 shared-slice-read-w : tie.Need-shared-slice-read-w Inv-loop μ-loop
 shared-slice-read-w c = omega arith
 
--- src/turns.rt:31:13
 turn-requires : tie.Need-turn-requires Inv-loop μ-loop
 turn-requires c κs = search needs
 
--- src/turns.rt:33:28
 enum-known-answer : tie.Need-enum-known-answer Inv-loop μ-loop
 enum-known-answer c = search needs
 
--- src/turns.rt:34:32
 enum-told : tie.Need-enum-told Inv-loop μ-loop
 enum-told c = search needs
 
--- src/turns.rt:34:13
 put-refused-requires : tie.Need-put-refused-requires Inv-loop μ-loop
 put-refused-requires c κs = search needs
 
--- src/turns.rt:34:13
 same-length-2 : tie.Need-same-length-2 Inv-loop μ-loop
 same-length-2 c = omega arith
 
--- src/turns.rt:34:13
 returns-2 : tie.Need-returns-2 Inv-loop μ-loop
-returns-2 c = refused (c .before .before .before .before .before .before .before .before .before .before .before .loop .inv) (c .before .before .before .before .before .before .before .before .before .before .loop-test .taken) (rw (c .before .before .before .before .before .before .before .before .before .is-ended .ensures) at (c .before .before .before .before .before .before .before .before .if1 .left)) (c .before .before .before .before .before .before .turn .ensures) (c .before .before .before .before .enum-told .given .1) (c .before .before .put-refused .ensures)
+returns-2 c =
+    let t = c .before .before .before .before .before .before in
+    let d = t .before .before .before in
+    refused (d .before .before .loop .inv) (d .before .loop-test .taken) (rw (d .is-ended .ensures) at (t .before .before .if1 .left)) (t .turn .ensures) (c .before .before .before .before .enum-told .given .1) (c .before .before .put-refused .ensures)
 
--- src/turns.rt:37:9
 put-turn-requires : tie.Need-put-turn-requires Inv-loop μ-loop
 put-turn-requires c κs = search needs
 
--- src/turns.rt:38:9
 add-i : tie.Need-add-i Inv-loop μ-loop
 add-i c = omega arith
 
--- src/turns.rt:26:5
 loop-less : tie.Need-loop-less Inv-loop μ-loop
 loop-less c = omega arith
 
--- src/turns.rt:26:5
 loop-again : tie.Need-loop-again Inv-loop μ-loop
-loop-again c = again (c .before .before .before .before .before .before .before .before .before .before .before .before .before .loop .inv) (c .before .before .before .before .before .before .before .before .before .before .before .before .loop-test .taken) (rw (c .before .before .before .before .before .before .before .before .before .before .before .is-ended .ensures) at (c .before .before .before .before .before .before .before .before .before .before .if1 .left)) (c .before .before .before .before .before .before .before .before .turn .ensures) (c .before .before .before .before .before .before .answer .given .1) (omega arith) (c .before .before .put-turn .ensures)
+loop-again c =
+    let t = c .before .before .before .before .before .before .before .before in
+    let d = t .before .before .before in
+    again (d .before .before .loop .inv) (d .before .loop-test .taken) (rw (d .is-ended .ensures) at (t .before .before .if1 .left)) (t .turn .ensures) (c .before .before .before .before .before .before .answer .given .1) (omega arith) (c .before .before .put-turn .ensures)
 
--- src/turns.rt:40:5
 put-last-requires-2 : tie.Need-put-last-requires-2 Inv-loop μ-loop
 put-last-requires-2 c κs = search needs
 
--- src/turns.rt:20:1
 same-length-3 : tie.Need-same-length-3 Inv-loop μ-loop
 same-length-3 c = omega arith
 
--- src/turns.rt:20:1
 returns-3 : tie.Need-returns-3 Inv-loop μ-loop
 returns-3 c = exhausted (c .before .before .before .before .before .loop .inv) (c .before .before .before .before .loop-test .left) (c .before .before .put-last2 .ensures)
 
