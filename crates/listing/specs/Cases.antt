@@ -88,7 +88,7 @@ cases =
     ∷ prints (2 ∷ 6 ∷ 0 ∷ 0 ∷ 0 ∷ []) refused33
     ∷ []
 
--- every row's input has the row's text; turns are those of a sound record, which they are on every row (`cases-turned`, proofs/CaseLaws)
+-- every row's input has the row's text; turns are those of a sound record, which they are on every row (`listings-worked`, proofs/Worked)
 pub worked : map (λ (c : Case). listingBy turnedSound (c .input)) cases ≡ map (λ (c : Case). c .text) cases
 unfolding cases flatten inputWrong listedBy listingBy kindWord toldTexts turnTexts lastTexts linesThen acceptedLine refusedLine decimal digitsOf loaded factsOf sumTo sumOver greatest anyBelow codeOf kindOf is tableOf tryAt tryFrom tryPass firstFound entryWrong totalWrong ownerBelow kindUnknown argumentWrong endMisplaced forkedBelow forkedBefore openBefore joinNotLatest endWithOpen neverForked allocOf freeOf wholeWithin balance balanceBelow0 passes serialWithin fronts heldAfter peakOf S1 forkBelow forkOf beforeIt joinedEnd dependsOn levelWithin D leftOf without waitsFor woken actBy act leftmost taken turnFree turnOf setOf allocAbove firsts startState startRun begin rootEnded noWorker stepRun
 worked = refl
