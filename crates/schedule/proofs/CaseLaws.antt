@@ -20,7 +20,7 @@ use Rattle.schedule.specs.Record.{tableIn, stateOf}
 use Rattle.schedule.specs.Begin.{startState, begin}
 use Rattle.schedule.specs.Sound.{Steady, Sound}
 use Rattle.schedule.specs.Turn.{unsound, turnChecks, stepRun, turnedAs, turned}
-use Rattle.schedule.specs.Cases.{turnsBy, beginThen, ranBy, soundChecks, turnedSound, ranAs, Case, cases, worked}
+use Rattle.schedule.specs.Cases.{never, turnsBy, beginThen, ranBy, soundChecks, turnedSound, ranAs, Case, cases, worked}
 use Rattle.schedule.proofs.Words.{and-exactly, ltb-exactly}
 use Rattle.schedule.proofs.Turns.{either}
 use Rattle.schedule.proofs.Tests.{sound-exactly}
@@ -72,28 +72,33 @@ turned-turns r w = go (tryAt (turnChecks r w) 0)
 
 -- ---- the runs
 
--- turns from a sound record, as long as turns taken stays within 2^64 − 1
-turns-sound : (order : List ℕ) (r : Run) → Steady r → r .turns + length order ≤ 2 ^ 64 - 1 → turnsBy turned r order ≡ turnsBy turnedSound r order
-turns-sound [] r h k = refl
-turns-sound (w ∷ order) r h k =
-    let e : turned r w ≡ turnedSound r w = turned-sound r w (record { steady = h; turns = omega arith }) in
-    let ih = turns-sound order (turned r w .run) (turn-steady r w h) (omega (arith, turned-turns r w)) in
-    rw (ih, e)
+module _ (stop : Run → Bool) where
+  -- turns from a sound record, as long as turns taken stays within 2^64 − 1
+  turns-sound : (order : List ℕ) (r : Run) → Steady r → r .turns + length order ≤ 2 ^ 64 - 1 → turnsBy stop turned r order ≡ turnsBy stop turnedSound r order
+  turns-sound [] r h k = refl
+  turns-sound (w ∷ order) r h k =
+      let e : turned r w ≡ turnedSound r w = turned-sound r w (record { steady = h; turns = omega arith }) in
+      let ih = turns-sound order (turned r w .run) (turn-steady r w h) (omega (arith, turned-turns r w)) in
+      rw (ih, e)
 
--- what the cases compute is what a beginning and turns say
-pub ran-turned : (s : List ℕ) (p K : ℕ) (order : List ℕ) → length order < 2 ^ 64 → ranBy turned s p K order ≡ ranAs s p K order
-unfolding startState
-ran-turned s p K order k = go (begin s p K .answer) refl
-  where
-    r : Run
-    r = begin s p K .run
+  -- the same for the turns of an accepted beginning
+  pub begun-turned : (s : List ℕ) (p K : ℕ) (order : List ℕ) → length order < 2 ^ 64 → begin s p K .answer ≡ started
+      → turnsBy stop turned (begin s p K .run) order ≡ turnsBy stop turnedSound (begin s p K .run) order
+  unfolding startState
+  begun-turned s p K order k e =
+      let r : Run = begin s p K .run in
+      let b : begin s p K ≡ record { answer = started; run = r } = λ i. record { answer = e i; run = r } in
+      let z : r .turns ≡ 0 = ap (λ (st : State). st .turns) (start-state s p K r b .3) in
+      turns-sound order r (begin-sound s p K r b .steady) (omega arith)
 
-    go : (a : Beginning) → begin s p K .answer ≡ a → beginThen a (turnsBy turned r order) ≡ beginThen a (turnsBy turnedSound r order)
-    go started e =
-        let b : begin s p K ≡ record { answer = started; run = r } = λ i. record { answer = e i; run = r } in
-        let z : r .turns ≡ 0 = ap (λ (st : State). st .turns) (start-state s p K r b .3) in
-        turns-sound order r (begin-sound s p K r b .steady) (omega arith)
-    go (refusedBeginning x) e = refl
+  -- what the cases compute is what a beginning and turns say
+  pub ran-turned : (s : List ℕ) (p K : ℕ) (order : List ℕ) → length order < 2 ^ 64 → ranBy stop turned s p K order ≡ ranBy stop turnedSound s p K order
+  ran-turned s p K order k = go (begin s p K .answer) refl
+    where
+      go : (a : Beginning) → begin s p K .answer ≡ a
+          → beginThen a (turnsBy stop turned (begin s p K .run) order) ≡ beginThen a (turnsBy stop turnedSound (begin s p K .run) order)
+      go started e = begun-turned s p K order k e
+      go (refusedBeginning x) e = refl
 
 -- ---- the table of cases
 
@@ -102,14 +107,14 @@ short [] = true
 short (c ∷ l) = ltb (length (c .order)) (2 ^ 64) && short l
 
 all-turned : (l : List Case) → short l ≡ true
-    → map (λ (c : Case). ranBy turned (c .bytes) (c .workers) (c .quota) (c .order)) l ≡ map (λ (c : Case). ranAs (c .bytes) (c .workers) (c .quota) (c .order)) l
+    → map (λ (c : Case). ranBy never turned (c .bytes) (c .workers) (c .quota) (c .order)) l ≡ map (λ (c : Case). ranAs (c .bytes) (c .workers) (c .quota) (c .order)) l
 unfolding short
 all-turned [] h = refl
 all-turned (c ∷ l) h =
     let q : (ltb (length (c .order)) (2 ^ 64) ≡ true) × (short l ≡ true) = and-exactly (ltb (length (c .order)) (2 ^ 64)) (short l) .0 h in
-    cc (ran-turned (c .bytes) (c .workers) (c .quota) (c .order) (ltb-exactly (length (c .order)) (2 ^ 64) .0 (q .0)), all-turned l (q .1))
+    cc (ran-turned never (c .bytes) (c .workers) (c .quota) (c .order) (ltb-exactly (length (c .order)) (2 ^ 64) .0 (q .0)), all-turned l (q .1))
 
 -- every row's beginning and turns have the row's listing
-pub worked-turned : map (λ (c : Case). ranBy turned (c .bytes) (c .workers) (c .quota) (c .order)) cases ≡ map (λ (c : Case). c .listing) cases
+pub worked-turned : map (λ (c : Case). ranBy never turned (c .bytes) (c .workers) (c .quota) (c .order)) cases ≡ map (λ (c : Case). c .listing) cases
 unfolding short cases
 worked-turned = all-turned cases refl ∙ worked

@@ -2,6 +2,7 @@
 use mathlib.Core.Path.{_≡_, refl}
 use Prim.Native.Nat.{ℕ}
 use mathlib.Core.List.{List, [], _∷_, _++_, map}
+use mathlib.Core.Bool.{Bool, false}
 use lib.ListN.{replicate}
 use Rattle.table.specs.Sum.{pick, sumTo, anyBelow}
 use Rattle.table.specs.Format.{Kind, end, work, alloc, free, fork, join, codeOf, kindOf, is, kind, tableOf}
@@ -29,20 +30,20 @@ use Rattle.schedule.specs.Turn.{rootEnded, noWorker, stepRun, turnedAs}
 -- ---- the listing of a run
 
 -- what a turn says: nothing was done; the thread, its action and the action's kind; the thread and its action that was not done
-pub data Said : Type 0 where
-  idle : Said
-  did : ℕ → ℕ → Kind → Said
-  quota wait : ℕ → ℕ → Said
+pub data Told : Type 0 where
+  idle : Told
+  did : ℕ → ℕ → Kind → Told
+  quota wait : ℕ → ℕ → Told
 
 -- "Lines: turn from 1, worker, thread, action, the kind's name (or quota, wait, idle), held."
 pub record Line : Type 0 where
   pub turn : ℕ
   pub worker : ℕ
-  pub said : Said
+  pub told : Told
   pub held : ℕ
 
-abbrev pub line : ℕ → ℕ → Said → ℕ → Line
-line i w x h = record { turn = i; worker = w; said = x; held = h }
+abbrev pub line : ℕ → ℕ → Told → ℕ → Line
+line i w x h = record { turn = i; worker = w; told = x; held = h }
 
 -- "Last: `done` or, with the root not ended, `open`, with turns and peak; or `refused`, number, place."
 pub data Last : Type 0 where
@@ -56,31 +57,39 @@ abbrev pub listing : List Line → Last → Listing
 listing l x = record { lines = l; last = x }
 
 -- "A quota or wait line names the action not done": its thread's next one
-abbrev pub saidBy : Reply → Run → Said
-saidBy Idle r = idle
-saidBy (Done t a) r = did t a (kind (tableIn r) a)
-saidBy (Quota t x) r = quota t (nextOf (stateOf r) t)
-saidBy (Wait t c) r = wait t (nextOf (stateOf r) t)
+abbrev pub toldBy : Reply → Run → Told
+toldBy Idle r = idle
+toldBy (Done t a) r = did t a (kind (tableIn r) a)
+toldBy (Quota t x) r = quota t (nextOf (stateOf r) t)
+toldBy (Wait t c) r = wait t (nextOf (stateOf r) t)
 
 abbrev pub turnThen : Turning → ℕ → Run → Listing → Listing
-turnThen (Taken x) w r rest = listing (line (r .turns) w (saidBy x r) (r .held) ∷ rest .lines) (rest .last)
+turnThen (Taken x) w r rest = listing (line (r .turns) w (toldBy x r) (r .held) ∷ rest .lines) (rest .last)
 turnThen (refusedTurn x) w r rest = listing [] (refused (x .number) (x .place))
 
--- single turns of an order's workers, one after the other up to a refusal
-abbrev pub turnsBy : (Run → ℕ → Turned) → Run → List ℕ → Listing
-turnsBy turn r [] = listing [] (pick (rootEnded r) (done (r .turns) (r .highest)) (notDone (r .turns) (r .highest)))
-turnsBy turn r (w ∷ order) = turnThen (turn r w .answer) w (turn r w .run) (turnsBy turn (turn r w .run) order)
+-- the last line where no turn is refused
+abbrev pub lastOf : Run → Last
+lastOf r = pick (rootEnded r) (done (r .turns) (r .highest)) (notDone (r .turns) (r .highest))
+
+-- turns of an order's workers, one after the other up to a refusal or to a record at which they stop
+abbrev pub turnsBy : (Run → Bool) → (Run → ℕ → Turned) → Run → List ℕ → Listing
+turnsBy stop turn r [] = listing [] (lastOf r)
+turnsBy stop turn r (w ∷ order) = pick (stop r) (listing [] (lastOf r)) (turnThen (turn r w .answer) w (turn r w .run) (turnsBy stop turn (turn r w .run) order))
 
 abbrev pub beginThen : Beginning → Listing → Listing
 beginThen started rest = rest
 beginThen (refusedBeginning x) rest = listing [] (refused (x .number) (x .place))
 
 -- a beginning and then turns
-abbrev pub ranBy : (Run → ℕ → Turned) → List ℕ → ℕ → ℕ → List ℕ → Listing
-ranBy turn s p K order = beginThen (begin s p K .answer) (turnsBy turn (begin s p K .run) order)
+abbrev pub ranBy : (Run → Bool) → (Run → ℕ → Turned) → List ℕ → ℕ → ℕ → List ℕ → Listing
+ranBy stop turn s p K order = beginThen (begin s p K .answer) (turnsBy stop turn (begin s p K .run) order)
+
+-- single turns go on at the root's end, and get 31 there
+abbrev pub never : Run → Bool
+never r = false
 
 -- The checks of a turn on a sound record: 32 does not apply. To test at each turn the whole of a record, with its 36,868 bytes and 1,024 threads, takes seconds to compute. But a
--- beginning's record is sound and turns keep it so (`begin-sound` and `turn-steady`, proofs/Histories), hence `ranAs` is `ranBy turned` (`ran-turned`, proofs/CaseLaws).
+-- beginning's record is sound and turns keep it so (`begin-sound` and `turn-steady`, proofs/Histories), hence `ranAs` is `ranBy never turned` (`ran-turned`, proofs/CaseLaws).
 abbrev pub soundChecks : Run → ℕ → List Check
 soundChecks r w = record { number = 30; applies = λ i. noWorker r w } ∷ record { number = 31; applies = λ i. rootEnded r } ∷ []
 
@@ -88,7 +97,7 @@ abbrev pub turnedSound : Run → ℕ → Turned
 turnedSound r w = turnedAs (tryAt (soundChecks r w) 0) r (stepRun r w)
 
 abbrev pub ranAs : List ℕ → ℕ → ℕ → List ℕ → Listing
-ranAs = ranBy turnedSound
+ranAs = ranBy never turnedSound
 
 -- ---- the rows
 

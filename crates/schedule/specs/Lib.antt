@@ -9,4 +9,3 @@ pub mod Memory
 pub mod Answers
 pub mod Cases
 pub mod Rule
-pub mod Starred

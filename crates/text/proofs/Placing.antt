@@ -2,11 +2,12 @@
 use Prim.Native.Nat.{ℕ, _+_, _≤_, _<_}
 use native.Mathlib.Nat.{zero-add, add-assoc}
 use native.Mathlib.Omega.{arith}
-use mathlib.Core.Path.{_≡_, refl, ap, _∙_}
+use mathlib.Core.Path.{_≡_, refl, sym, ap, _∙_}
 use mathlib.Core.List.{List, [], _∷_, _++_, append-assoc, foldl}
 use borrow.Author.Tests.{le-leb, lt-leb}
 use lib.ListN.{length, take, drop, length-append, length-drop}
 use lib.Seq.{length-take-le, take-at, drop-at, drop-drop}
+use Rattle.io.specs.Counts.{Counts}
 use Rattle.text.specs.Text.{Buffer, bufferAt, placed, placedNext}
 
 pub placed-fits : (s : List ℕ) (at : ℕ) (t : List ℕ) → at + length t ≤ length s → placed s at t ≡ bufferAt (take at s ++ t ++ drop (at + length t) s) (at + length t)
@@ -52,3 +53,7 @@ line-put s o r t ws h e =
     e ∙ placed-all s 0 ws t (omega arith) ∙ placed-fits s 0 line (omega arith) ∙ simp zero-add in
     let n : r ≡ length line = ap (λ (b : Buffer). b .next) f in
     (n, rw n (ap (λ (b : Buffer). b .bytes) f))
+
+-- a length that `io` may write
+pub counts : (o : List ℕ) (r : ℕ) → r ≤ length o → Counts r o
+counts o r h = (h, sym (length-take-le r o h))

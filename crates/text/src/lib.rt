@@ -3,6 +3,7 @@ use table::Facts;
 use table::Loaded;
 use table::Refusal;
 ghost use mathlib.Core.Path.{_≡_};
+ghost use Prim.Native.Nat.{_≤_};
 ghost use mathlib.Core.List.{_++_};
 ghost use lib.ListN.{length, drop};
 ghost use Rattle.io.specs.Counts.{Counts};
@@ -48,6 +49,7 @@ pub fn table_line(answer: Loaded, out: &mut [u8; 64]) -> usize
     ensures { λ r. ⌜ r ≡ length (lineOf answer) ⌝ }
     ensures { λ r. ⌜ now (out .exit) ≡ lineOf answer ++ drop r (now (out .entry)) ⌝ }
     ensures { λ r. ⌜ Counts r (now (out .exit)) ⌝ }
+    ensures { λ r. ⌜ r ≤ 64 ⌝ }
 {
     match answer {
         Loaded::Accepted(facts) => accepted_line(facts, out),
@@ -58,6 +60,7 @@ pub fn table_line(answer: Loaded, out: &mut [u8; 64]) -> usize
 fn accepted_line(facts: Facts, out: &mut [u8; 64]) -> usize
     ensures { λ r. ⌜ r ≡ length (acceptedLine facts) ⌝ }
     ensures { λ r. ⌜ now (out .exit) ≡ acceptedLine facts ++ drop r (now (out .entry)) ⌝ }
+    ensures { λ r. ⌜ r ≤ 64 ⌝ }
 {
     let at = put_labelled(out, 0, b"table ", facts.threads as u64);
     let at = put_labelled(out, at, b" ", facts.actions as u64);
@@ -69,6 +72,7 @@ fn accepted_line(facts: Facts, out: &mut [u8; 64]) -> usize
 fn refused_line(refusal: Refusal, out: &mut [u8; 64]) -> usize
     ensures { λ r. ⌜ r ≡ length (refusedLine refusal) ⌝ }
     ensures { λ r. ⌜ now (out .exit) ≡ refusedLine refusal ++ drop r (now (out .entry)) ⌝ }
+    ensures { λ r. ⌜ r ≤ 64 ⌝ }
 {
     let at = put_labelled(out, 0, b"refused ", refusal.number as u64);
     let at = put_labelled(out, at, b" ", refusal.place as u64);

@@ -32,13 +32,14 @@ module _ (s : List ℕ) (long : length s ≡ 64) (f : Facts) (n : f .threads < 2
       → bufferAt o₃ r₃ ≡ placedNext (placed o₂ r₂ serialWord) (decimal (f .peak))
       → bufferAt o₄ r₄ ≡ placedNext (placed o₃ r₃ depthWord) (decimal (f .depth))
       → bufferAt o r ≡ placed o₄ r₄ newline
-      → (r ≡ length (acceptedLine f)) × (o ≡ acceptedLine f ++ drop r s)
+      → (r ≡ length (acceptedLine f)) × ((o ≡ acceptedLine f ++ drop r s) × (r ≤ 64))
   unfolding acceptedLine
   told o₁ o₂ o₃ o₄ o r₁ r₂ r₃ r₄ r e₁ e₂ e₃ e₄ e =
-      line-put s o r tableWord
+      let p = line-put s o r tableWord
       (decimal (f .threads) ∷ space ∷ decimal (f .actions) ∷ serialWord ∷ decimal (f .peak) ∷ depthWord ∷ decimal (f .depth) ∷ newline ∷ [])
       (omega (arith, short))
-      (rw (← e₁, ← e₂, ← e₃, ← e₄) e)
+      (rw (← e₁, ← e₂, ← e₃, ← e₄) e) in
+      (p .0, (p .1, omega (arith, p .0, short)))
 
 slice-aggregate-put-labelled : tie.Need-slice-aggregate-put-labelled
 slice-aggregate-put-labelled c = search needs

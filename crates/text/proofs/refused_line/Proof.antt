@@ -22,10 +22,11 @@ module _ (s : List ℕ) (long : length s ≡ 64) (q : Refusal) (n : q .number < 
       → bufferAt o₁ r₁ ≡ placedNext (placed s 0 refusedWord) (decimal (q .number))
       → bufferAt o₂ r₂ ≡ placedNext (placed o₁ r₁ space) (decimal (q .place))
       → bufferAt o r ≡ placed o₂ r₂ newline
-      → (r ≡ length (refusedLine q)) × (o ≡ refusedLine q ++ drop r s)
+      → (r ≡ length (refusedLine q)) × ((o ≡ refusedLine q ++ drop r s) × (r ≤ 64))
   unfolding refusedLine
   told o₁ o₂ o r₁ r₂ r e₁ e₂ e =
-      line-put s o r refusedWord (decimal (q .number) ∷ space ∷ decimal (q .place) ∷ newline ∷ []) (omega (arith, short)) (rw (← e₁, ← e₂) e)
+      let p = line-put s o r refusedWord (decimal (q .number) ∷ space ∷ decimal (q .place) ∷ newline ∷ []) (omega (arith, short)) (rw (← e₁, ← e₂) e) in
+      (p .0, (p .1, omega (arith, p .0, short)))
 
 slice-aggregate-put-labelled : tie.Need-slice-aggregate-put-labelled
 slice-aggregate-put-labelled c = search needs

@@ -1,17 +1,11 @@
 -- `text::table_line` meets its contract: each kind of answer has its line.
 use borrow.Author.Needs.{needs}
-use mathlib.Core.Path.{ap, sym}
-use Prim.Native.Nat.{ℕ, _≤_}
-use mathlib.Core.List.{List}
+use mathlib.Core.Path.{ap}
 use native.Mathlib.Omega.{arith}
 use lib.ListN.{length, length-append}
-use lib.Seq.{length-take-le}
-use Rattle.io.specs.Counts.{Counts}
+use Rattle.text.proofs.Placing.{counts}
 use Rattle.text.proofs.table_line.Statement.{statement}
 use Rattle.text.proofs.table_line.Tie as tie
-
-counts : (o : List ℕ) (r : ℕ) → r ≤ length o → Counts r o
-counts o r h = (h, sym (length-take-le r o h))
 
 enum-known-answer : tie.Need-enum-known-answer
 enum-known-answer c = search needs
@@ -28,12 +22,12 @@ refused-line-requires c κs = search needs
 returns : tie.Need-returns
 returns c =
     let e = c .accepted-line .ensures in
-    rw (c .before .before .before .answer .given .1) (e .0, (e .1, counts (c .accepted-line .last .1 .0) (c .accepted-line .result) (omega (arith, e .0, simp length-append at (ap length (e .1))))))
+    rw (c .before .before .before .answer .given .1) (e .0, (e .1 .0, (counts (c .accepted-line .last .1 .0) (c .accepted-line .result) (omega (arith, e .0, simp length-append at (ap length (e .1 .0)))), e .1 .1)))
 
 returns-2 : tie.Need-returns-2
 returns-2 c =
     let e = c .refused-line .ensures in
-    rw (c .before .before .before .answer2 .given .1) (e .0, (e .1, counts (c .refused-line .last .1 .0) (c .refused-line .result) (omega (arith, e .0, simp length-append at (ap length (e .1))))))
+    rw (c .before .before .before .answer2 .given .1) (e .0, (e .1 .0, (counts (c .refused-line .last .1 .0) (c .refused-line .result) (omega (arith, e .0, simp length-append at (ap length (e .1 .0)))), e .1 .1)))
 
 pub table-line-spec : {M : Type 1} → statement M
 table-line-spec =

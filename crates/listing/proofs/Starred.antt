@@ -1,18 +1,26 @@
--- Document 01's cases that bear a star, on tables, on runs and on the limit, as one table with one theorem over all of them.
+-- Document 01's cases that bear a star, on tables, on runs, on the limit and on the listing's text, as one table with one theorem over all of them.
 use mathlib.Core.Path.{_≡_, refl, sym, ap, ap₂, _∙_}
+use Prim.Native.Nat.{ℕ}
 use mathlib.Core.List.{List, [], _∷_, _++_, map, map-map}
 use Rattle.table.specs.Load.{Values, valuesOf, loaded}
 use Rattle.table.specs.Cases.{Case as TableCase}
 use Rattle.table.specs.Cases.{cases as tableCases, worked as tables-worked}
-use Rattle.schedule.specs.Cases.{Listing, Case, ranAs}
-use Rattle.schedule.specs.Cases.{cases as runCases, worked as runs-worked}
+use Rattle.schedule.specs.Turn.{turned}
+use Rattle.schedule.specs.Cases.{Listing, Case, never, ranBy}
+use Rattle.schedule.specs.Cases.{cases as runCases}
 use Rattle.schedule.specs.Rule.{Measures, RowCase, measured, rowCases, rows-worked}
+use Rattle.schedule.proofs.CaseLaws.{worked-turned}
+use Rattle.listing.specs.Listing.{listingOf}
+use Rattle.listing.specs.Cases.{Case as ListingCase}
+use Rattle.listing.specs.Cases.{cases as listingCases}
+use Rattle.listing.proofs.Worked.{listings-worked}
 
--- what a case comes to: the values of a loaded table, the listing of a run, or a row's measures against the limit
+-- what a case comes to: the values of a loaded table, the listing of a run, a row's measures against the limit, or the bytes that `turnlist` prints
 pub data Outcome : Type 0 where
   loads : Values → Outcome
   lists : Listing → Outcome
   measures : Measures → Outcome
+  prints : List ℕ → Outcome
 
 -- what the definitions give, and what document 01 says
 pub record Row : Type 0 where
@@ -23,13 +31,16 @@ abbrev pub tableRow : TableCase → Row
 tableRow c = record { computed = loads (valuesOf (loaded (c .bytes))); expected = loads (c .values) }
 
 abbrev pub runRow : Case → Row
-runRow c = record { computed = lists (ranAs (c .bytes) (c .workers) (c .quota) (c .order)); expected = lists (c .listing) }
+runRow c = record { computed = lists (ranBy never turned (c .bytes) (c .workers) (c .quota) (c .order)); expected = lists (c .listing) }
 
 abbrev pub limitRow : RowCase → Row
 limitRow c = record { computed = measures (measured c); expected = measures (c .measures) }
 
+abbrev pub textRow : ListingCase → Row
+textRow c = record { computed = prints (listingOf (c .input)); expected = prints (c .text) }
+
 unfoldable pub starred : List Row
-starred = map tableRow tableCases ++ (map runRow runCases ++ map limitRow rowCases)
+starred = map tableRow tableCases ++ (map runRow runCases ++ (map limitRow rowCases ++ map textRow listingCases))
 
 abbrev Agree : List Row → Type 0
 Agree l = map (λ (r : Row). r .computed) l ≡ map (λ (r : Row). r .expected) l
@@ -52,6 +63,8 @@ rows-agree row given said kind l c e h =
 pub starred-worked : map (λ (r : Row). r .computed) starred ≡ map (λ (r : Row). r .expected) starred
 unfolding starred
 starred-worked =
-    agree-append (map tableRow tableCases) (map runRow runCases ++ map limitRow rowCases) (rows-agree tableRow _ _ loads tableCases refl refl tables-worked)
-    (agree-append (map runRow runCases) (map limitRow rowCases) (rows-agree runRow _ _ lists runCases refl refl runs-worked)
-    (rows-agree limitRow _ _ measures rowCases refl refl rows-worked))
+    agree-append (map tableRow tableCases) (map runRow runCases ++ (map limitRow rowCases ++ map textRow listingCases))
+    (rows-agree tableRow _ _ loads tableCases refl refl tables-worked)
+    (agree-append (map runRow runCases) (map limitRow rowCases ++ map textRow listingCases) (rows-agree runRow _ _ lists runCases refl refl worked-turned)
+    (agree-append (map limitRow rowCases) (map textRow listingCases) (rows-agree limitRow _ _ measures rowCases refl refl rows-worked)
+    (rows-agree textRow _ _ prints listingCases refl refl listings-worked)))

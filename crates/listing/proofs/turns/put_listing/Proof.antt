@@ -1,0 +1,88 @@
+-- `listing::turns::put_listing` meets its contract: the table's refusal, the beginning's, or the header and the turns.
+use native.Mathlib.Omega.{arith}
+use borrow.Author.Needs.{needs}
+use Rattle.listing.specs.Listing.{listedBy}
+use Rattle.listing.proofs.Putting.{puts-more, puts-within}
+use Rattle.listing.proofs.turns.put_listing.Statement.{statement}
+use Rattle.listing.proofs.turns.put_listing.Tie as tie
+
+load-requires : tie.Need-load-requires
+load-requires c κs = search needs
+
+enum-told : tie.Need-enum-told
+enum-told c = search needs
+
+put-answer-requires : tie.Need-put-answer-requires
+put-answer-requires c κs = search needs
+
+same-length : tie.Need-same-length
+same-length c = search needs
+
+returns : tie.Need-returns
+unfolding listedBy
+returns c =
+    let told = c .before .before .before .before .enum-told .given .1 in
+    rw (← c .before .before .before .before .before .before .load .ensures, told) (puts-within (omega arith) (rw told at (c .before .before .put-answer .ensures)))
+
+enum-told-2 : tie.Need-enum-told-2
+enum-told-2 c = search needs
+
+begin-requires : tie.Need-begin-requires
+begin-requires c κs = search needs
+
+enum-known-answer : tie.Need-enum-known-answer
+enum-known-answer c = search needs
+
+put-answer-requires-2 : tie.Need-put-answer-requires-2
+put-answer-requires-2 c κs = search needs
+
+same-length-2 : tie.Need-same-length-2
+same-length-2 c = search needs
+
+returns-2 : tie.Need-returns-2
+unfolding listedBy
+returns-2 c =
+    let b = c .before .before .before .before .before .before .before in
+    rw (← b .before .before .before .load .ensures, b .before .enum-told2 .given .1, ← b .begin .ensures, c .before .before .before .before .before .answer .given .1) (puts-within (omega arith) (c .before .before .put-answer2 .ensures))
+
+enum-told-3 : tie.Need-enum-told-3
+enum-told-3 c = search needs
+
+put-answer-requires-3 : tie.Need-put-answer-requires-3
+put-answer-requires-3 c κs = search needs
+
+put-turns-requires : tie.Need-put-turns-requires
+put-turns-requires c κs = search needs
+
+same-length-3 : tie.Need-same-length-3
+same-length-3 c = search needs
+
+returns-3 : tie.Need-returns-3
+unfolding listedBy
+returns-3 c =
+    let p = c .before .before .before .before .before .before in
+    let b = p .before .before .before .before .before in
+    let told = b .before .enum-told2 .given .1 in
+    rw (← b .before .before .before .load .ensures, told, ← b .begin .ensures, p .before .before .before .enum-told3 .given .1)
+    (puts-within (omega arith) (puts-more (rw told at (p .put-answer3 .ensures)) (c .before .before .put-turns .ensures)))
+
+pub put-listing-spec : {M : Type 1} → statement M
+put-listing-spec =
+    tie.close
+    (tie.spec
+    load-requires
+    enum-told
+    put-answer-requires
+    same-length
+    returns
+    enum-told-2
+    begin-requires
+    enum-known-answer
+    put-answer-requires-2
+    same-length-2
+    returns-2
+    enum-told-3
+    put-answer-requires-3
+    put-turns-requires
+    same-length-3
+    returns-3)

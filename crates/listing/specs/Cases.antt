@@ -1,0 +1,94 @@
+-- Document 01's listing of E and what the program refuses, as rows of one table with one theorem over all of them, computed on the definitions.
+use mathlib.Core.Path.{_≡_, refl}
+use Prim.Native.Nat.{ℕ}
+use mathlib.Core.List.{List, [], _∷_, _++_, map, flatten}
+use lib.ListN.{length}
+use Rattle.table.specs.Sum.{sumTo, sumOver, greatest, anyBelow}
+use Rattle.table.specs.Format.{codeOf, kindOf, is, tableOf}
+use Rattle.table.specs.Pass.{tryAt, tryFrom, tryPass, firstFound}
+use Rattle.table.specs.Rules.{entryWrong, totalWrong, ownerBelow, kindUnknown, argumentWrong, endMisplaced, forkedBelow, forkedBefore}
+use Rattle.table.specs.Rules.{openBefore, joinNotLatest, endWithOpen, neverForked, allocOf, freeOf, wholeWithin, balance, balanceBelow0, passes}
+use Rattle.table.specs.Serial.{serialWithin, fronts, heldAfter, peakOf, S1}
+use Rattle.table.specs.Level.{forkBelow, forkOf, beforeIt, joinedEnd, dependsOn, levelWithin, D}
+use Rattle.table.specs.Load.{loaded, factsOf}
+use Rattle.table.specs.Cases.{E, bytes16}
+use Rattle.text.specs.Text.{digitsOf, decimal, acceptedLine, refusedLine}
+use Rattle.schedule.specs.Machine.{leftOf, without, waitsFor, woken, actBy, act, leftmost, taken, turnFree, turnOf}
+use Rattle.schedule.specs.Record.{setOf}
+use Rattle.schedule.specs.Begin.{allocAbove, firsts, startState, startRun, begin}
+use Rattle.schedule.specs.Turn.{rootEnded, noWorker, stepRun}
+use Rattle.schedule.specs.Cases.{turnedSound, orderE}
+use Rattle.listing.specs.Lines.{kindWord, toldTexts, turnTexts, lastTexts, linesThen}
+use Rattle.listing.specs.Listing.{inputWrong, listedBy, listingBy}
+
+pub record Case : Type 0 where
+  pub input : List ℕ
+  pub text : List ℕ
+
+abbrev pub prints : List ℕ → List ℕ → Case
+prints input text = record { input = input; text = text }
+
+-- the input: p, K in 3 bytes, the order's length, the order, the table
+abbrev pub inputOf : ℕ → ℕ → List ℕ → List ℕ → List ℕ
+inputOf p K order table = p ∷ K ∷ 0 ∷ 0 ∷ bytes16 (length order) ++ order ++ table
+
+-- what document 01 shows for E, p 2, K 6 and the order 0, 1 seven times, line by line
+abbrev pub linesOfE : List ℕ
+linesOfE =
+    -- table 3 12 serial 6 depth 8
+    116 ∷ 97 ∷ 98 ∷ 108 ∷ 101 ∷ 32 ∷ 51 ∷ 32 ∷ 49 ∷ 50 ∷ 32 ∷ 115 ∷ 101 ∷ 114 ∷ 105 ∷ 97 ∷ 108 ∷ 32 ∷ 54 ∷ 32 ∷ 100 ∷ 101 ∷ 112 ∷ 116 ∷ 104 ∷ 32 ∷ 56 ∷ 10
+    -- 1 0 0 0 fork 0
+    ∷ 49 ∷ 32 ∷ 48 ∷ 32 ∷ 48 ∷ 32 ∷ 48 ∷ 32 ∷ 102 ∷ 111 ∷ 114 ∷ 107 ∷ 32 ∷ 48 ∷ 10
+    -- 2 1 1 5 alloc 6
+    ∷ 50 ∷ 32 ∷ 49 ∷ 32 ∷ 49 ∷ 32 ∷ 53 ∷ 32 ∷ 97 ∷ 108 ∷ 108 ∷ 111 ∷ 99 ∷ 32 ∷ 54 ∷ 10
+    -- 3 0 0 1 fork 6
+    ∷ 51 ∷ 32 ∷ 48 ∷ 32 ∷ 48 ∷ 32 ∷ 49 ∷ 32 ∷ 102 ∷ 111 ∷ 114 ∷ 107 ∷ 32 ∷ 54 ∷ 10
+    -- 4 1 1 6 work 6
+    ∷ 52 ∷ 32 ∷ 49 ∷ 32 ∷ 49 ∷ 32 ∷ 54 ∷ 32 ∷ 119 ∷ 111 ∷ 114 ∷ 107 ∷ 32 ∷ 54 ∷ 10
+    -- 5 0 2 9 alloc 12
+    ∷ 53 ∷ 32 ∷ 48 ∷ 32 ∷ 50 ∷ 32 ∷ 57 ∷ 32 ∷ 97 ∷ 108 ∷ 108 ∷ 111 ∷ 99 ∷ 32 ∷ 49 ∷ 50 ∷ 10
+    -- 6 1 1 7 free 6
+    ∷ 54 ∷ 32 ∷ 49 ∷ 32 ∷ 49 ∷ 32 ∷ 55 ∷ 32 ∷ 102 ∷ 114 ∷ 101 ∷ 101 ∷ 32 ∷ 54 ∷ 10
+    -- 7 0 2 10 free 0
+    ∷ 55 ∷ 32 ∷ 48 ∷ 32 ∷ 50 ∷ 32 ∷ 49 ∷ 48 ∷ 32 ∷ 102 ∷ 114 ∷ 101 ∷ 101 ∷ 32 ∷ 48 ∷ 10
+    -- 8 1 1 8 end 0
+    ∷ 56 ∷ 32 ∷ 49 ∷ 32 ∷ 49 ∷ 32 ∷ 56 ∷ 32 ∷ 101 ∷ 110 ∷ 100 ∷ 32 ∷ 48 ∷ 10
+    -- 9 0 2 11 end 0
+    ∷ 57 ∷ 32 ∷ 48 ∷ 32 ∷ 50 ∷ 32 ∷ 49 ∷ 49 ∷ 32 ∷ 101 ∷ 110 ∷ 100 ∷ 32 ∷ 48 ∷ 10
+    -- 10 1 0 2 join 0
+    ∷ 49 ∷ 48 ∷ 32 ∷ 49 ∷ 32 ∷ 48 ∷ 32 ∷ 50 ∷ 32 ∷ 106 ∷ 111 ∷ 105 ∷ 110 ∷ 32 ∷ 48 ∷ 10
+    -- 11 0 - - idle 0
+    ∷ 49 ∷ 49 ∷ 32 ∷ 48 ∷ 32 ∷ 45 ∷ 32 ∷ 45 ∷ 32 ∷ 105 ∷ 100 ∷ 108 ∷ 101 ∷ 32 ∷ 48 ∷ 10
+    -- 12 1 0 3 join 0
+    ∷ 49 ∷ 50 ∷ 32 ∷ 49 ∷ 32 ∷ 48 ∷ 32 ∷ 51 ∷ 32 ∷ 106 ∷ 111 ∷ 105 ∷ 110 ∷ 32 ∷ 48 ∷ 10
+    -- 13 0 - - idle 0
+    ∷ 49 ∷ 51 ∷ 32 ∷ 48 ∷ 32 ∷ 45 ∷ 32 ∷ 45 ∷ 32 ∷ 105 ∷ 100 ∷ 108 ∷ 101 ∷ 32 ∷ 48 ∷ 10
+    -- 14 1 0 4 end 0
+    ∷ 49 ∷ 52 ∷ 32 ∷ 49 ∷ 32 ∷ 48 ∷ 32 ∷ 52 ∷ 32 ∷ 101 ∷ 110 ∷ 100 ∷ 32 ∷ 48 ∷ 10
+    -- done 14 peak 12
+    ∷ 100 ∷ 111 ∷ 110 ∷ 101 ∷ 32 ∷ 49 ∷ 52 ∷ 32 ∷ 112 ∷ 101 ∷ 97 ∷ 107 ∷ 32 ∷ 49 ∷ 50 ∷ 10
+    ∷ []
+
+-- "refused 22 5"
+abbrev pub refused22 : List ℕ
+refused22 = 114 ∷ 101 ∷ 102 ∷ 117 ∷ 115 ∷ 101 ∷ 100 ∷ 32 ∷ 50 ∷ 50 ∷ 32 ∷ 53 ∷ 10 ∷ []
+
+-- "refused 33 0"
+abbrev pub refused33 : List ℕ
+refused33 = 114 ∷ 101 ∷ 102 ∷ 117 ∷ 115 ∷ 101 ∷ 100 ∷ 32 ∷ 51 ∷ 51 ∷ 32 ∷ 48 ∷ 10 ∷ []
+
+unfoldable pub cases : List Case
+unfolding codeOf
+cases =
+    -- "For p 2, K 6, the order 0, 1 given seven times, and table E below it prints"
+    prints (inputOf 2 6 orderE E) linesOfE
+    -- "Refusals 1 to 22 and 33 are the only line"
+    ∷ prints (inputOf 2 5 orderE E) refused22
+    -- "input under 6 bytes"
+    ∷ prints (2 ∷ 6 ∷ 0 ∷ 0 ∷ 0 ∷ []) refused33
+    ∷ []
+
+-- every row's input has the row's text; turns are those of a sound record, which they are on every row (`listings-worked`, proofs/Worked)
+pub worked : map (λ (c : Case). listingBy turnedSound (c .input)) cases ≡ map (λ (c : Case). c .text) cases
+unfolding cases flatten inputWrong listedBy listingBy kindWord toldTexts turnTexts lastTexts linesThen acceptedLine refusedLine decimal digitsOf loaded factsOf sumTo sumOver greatest anyBelow codeOf kindOf is tableOf tryAt tryFrom tryPass firstFound entryWrong totalWrong ownerBelow kindUnknown argumentWrong endMisplaced forkedBelow forkedBefore openBefore joinNotLatest endWithOpen neverForked allocOf freeOf wholeWithin balance balanceBelow0 passes serialWithin fronts heldAfter peakOf S1 forkBelow forkOf beforeIt joinedEnd dependsOn levelWithin D leftOf without waitsFor woken actBy act leftmost taken turnFree turnOf setOf allocAbove firsts startState startRun begin rootEnded noWorker stepRun
+worked = refl

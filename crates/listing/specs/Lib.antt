@@ -1,0 +1,4 @@
+pub mod Lines
+pub mod Puts
+pub mod Listing
+pub mod Cases

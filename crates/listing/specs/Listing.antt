@@ -1,0 +1,87 @@
+-- What `turnlist` and `runrounds` print, from the bytes that they read (document 01, "The turn listing").
+use Prim.Native.Nat.{ℕ, _+_, _*_}
+use mathlib.Core.List.{List, [], _∷_, _++_, flatten}
+use mathlib.Core.Bool.{Bool, _||_}
+use lib.ListN.{length, getD, take, drop}
+use lib.Dec.{ltb}
+use Rattle.table.specs.Sum.{pick}
+use Rattle.table.specs.Format.{u16At, u24At}
+use Rattle.table.specs.Pass.{refusal}
+use Rattle.table.specs.Load.{loaded}
+use Rattle.table.specs.declared.Loaded.{Loaded}
+use Rattle.table.specs.declared.Loaded.the-variants.{Accepted, Refused}
+use Rattle.text.specs.Text.{acceptedLine, refusedLine}
+use Rattle.schedule.specs.declared.Run.{Run}
+use Rattle.schedule.specs.declared.Turned.{Turned}
+use Rattle.schedule.specs.declared.Beginning.{Beginning}
+use Rattle.schedule.specs.declared.Beginning.the-variants.{Begun as started}
+use Rattle.schedule.specs.declared.Beginning.the-variants.{Refused as refusedBeginning}
+use Rattle.schedule.specs.declared.Ran.{Ran}
+use Rattle.schedule.specs.Begin.{begin}
+use Rattle.schedule.specs.Turn.{rootEnded, turned}
+use Rattle.schedule.specs.Runs.{roundsRun}
+use Rattle.schedule.specs.Cases.{turnsBy}
+use Rattle.listing.specs.Lines.{textsOf, reportTexts}
+
+-- ---- the listing of a run over an order
+
+-- "p (1 byte), K (3 bytes), the order's length (2 bytes), the order (a worker per byte), the table"
+abbrev pub workersIn : List ℕ → ℕ
+workersIn s = getD s 0 0
+
+abbrev pub quotaIn : List ℕ → ℕ
+quotaIn s = u24At s 1
+
+abbrev pub orderLength : List ℕ → ℕ
+orderLength s = u16At s 4
+
+abbrev pub orderIn : List ℕ → List ℕ
+orderIn s = take (orderLength s) (drop 6 s)
+
+abbrev pub tableAfter : List ℕ → List ℕ
+tableAfter s = drop (6 + orderLength s) s
+
+abbrev pub maxOrder : ℕ
+maxOrder = 4096
+
+-- 33: "input under 6 bytes, order above 4,096, or fewer bytes than the order"
+unfoldable pub inputWrong : List ℕ → Bool
+inputWrong s = ltb (length s) 6 || (ltb maxOrder (orderLength s) || ltb (length s) (6 + orderLength s))
+
+-- "Refusals 1 to 22 and 33 are the only line": the table's answer first, then the beginning's; the header, "n, m, S1, D", where both accept
+abbrev pub headed : Loaded → Beginning → List (List ℕ) → List (List ℕ)
+headed (Accepted f) started rest = acceptedLine f ∷ rest
+headed (Accepted f) (refusedBeginning x) rest = refusedLine x ∷ []
+headed (Refused x) b rest = refusedLine x ∷ []
+
+-- the table's bytes, p, K, and the order; the run stops at the root's end, whatever is left of the order
+unfoldable pub listedBy : (Run → ℕ → Turned) → List ℕ → ℕ → ℕ → List ℕ → List (List ℕ)
+listedBy turn t p K order = headed (loaded t) (begin t p K .answer) (textsOf (turnsBy rootEnded turn (begin t p K .run) order))
+
+-- the only line of an input that the program itself refuses
+abbrev pub wrongInput : List (List ℕ)
+wrongInput = refusedLine (refusal 33 0) ∷ []
+
+-- "Order of checks: 33, table, beginning, turns."
+unfoldable pub listingBy : (Run → ℕ → Turned) → List ℕ → List ℕ
+listingBy turn s = flatten (pick (inputWrong s) wrongInput (listedBy turn (tableAfter s) (workersIn s) (quotaIn s) (orderIn s)))
+
+abbrev pub listingOf : List ℕ → List ℕ
+listingOf = listingBy turned
+
+-- ---- the line of a run in rounds
+
+-- p (1 byte), K (3 bytes), L (4 bytes), the table
+abbrev pub limitIn : List ℕ → ℕ
+limitIn s = u16At s 4 + 65536 * u16At s 6
+
+abbrev pub roundsAfter : Beginning → Ran → List (List ℕ)
+roundsAfter started x = reportTexts (x .report) (x .run)
+roundsAfter (refusedBeginning x) r = refusedLine x ∷ []
+
+unfoldable pub roundedTexts : List ℕ → ℕ → ℕ → ℕ → List (List ℕ)
+roundedTexts t p K L = roundsAfter (begin t p K .answer) (roundsRun (begin t p K .run) L)
+
+-- under 8 bytes: 33
+unfoldable pub roundsOf : List ℕ → List ℕ
+roundsOf s = flatten (pick (ltb (length s) 8) wrongInput (roundedTexts (drop 8 s) (workersIn s) (quotaIn s) (limitIn s)))

@@ -1,0 +1,57 @@
+// What `turnlist` and `runrounds` print, from the bytes that they read to the bytes that they write.
+mod input;
+mod lines;
+mod record;
+mod rounds;
+mod turns;
+
+use input::input_wrong;
+use input::limit_in;
+use input::put_wrong;
+use input::quota_in;
+use record::byte;
+use record::word;
+use rounds::put_rounds;
+use turns::put_listing;
+ghost use mathlib.Core.Path.{_≡_};
+ghost use mathlib.Core.List.{_++_};
+ghost use lib.ListN.{length, drop};
+ghost use Rattle.io.specs.Counts.{Counts};
+ghost use Rattle.listing.specs.Listing.{listingOf, roundsOf};
+
+// The listing of a run over an order, and its length.
+pub fn turn_listing(input: &[u8], out: &mut [u8; 262400]) -> usize
+    ensures { λ r. ⌜ r ≡ length (listingOf (now (input .entry))) ⌝ }
+    ensures { λ r. ⌜ now (out .exit) ≡ listingOf (now (input .entry)) ++ drop r (now (out .entry)) ⌝ }
+    ensures { λ r. ⌜ Counts r (now (out .exit)) ⌝ }
+{
+    if input_wrong(input) {
+        return put_wrong(out);
+    }
+    let end = 6 + word(input, 4);
+    put_listing(
+        &input[end..],
+        byte(input, 0),
+        quota_in(input),
+        &input[6..end],
+        out,
+    )
+}
+
+// The line of a run in rounds, and its length.
+pub fn rounds_line(input: &[u8], out: &mut [u8; 96]) -> usize
+    ensures { λ r. ⌜ r ≡ length (roundsOf (now (input .entry))) ⌝ }
+    ensures { λ r. ⌜ now (out .exit) ≡ roundsOf (now (input .entry)) ++ drop r (now (out .entry)) ⌝ }
+    ensures { λ r. ⌜ Counts r (now (out .exit)) ⌝ }
+{
+    if input.len() < 8 {
+        return put_wrong(out);
+    }
+    put_rounds(
+        &input[8..],
+        byte(input, 0),
+        quota_in(input),
+        limit_in(input),
+        out,
+    )
+}
