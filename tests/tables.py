@@ -21,8 +21,8 @@ def table(*bodies):
     return out + b''.join(action(k, x) for body in bodies for k, x in body)
 
 
-def drawn(rng, threads, most, big=16777215):
-    """A random accepted table of the given count of threads and about `most` actions."""
+def drawn(rng, threads, most, sizes=(4, 100, 16777215)):
+    """A random accepted table of the given count of threads and about `most` actions; each alloc is at most one of the sizes."""
     parent = [None] + [rng.randrange(t) for t in range(1, threads)]
     if rng.random() < 0.5:  # a few children are born late and in any order
         parent = [None] + [rng.randrange(max(0, t - rng.randint(1, 6)), t) for t in range(1, threads)]
@@ -45,11 +45,11 @@ def drawn(rng, threads, most, big=16777215):
                 room -= 1
                 kind = rng.choice([WORK, ALLOC, ALLOC, FREE])
                 if kind == FREE and balance:
-                    x = rng.randint(1, min(balance, big))
+                    x = rng.randint(1, min(balance, 16777215))
                     balance -= x
                     body.append((FREE, x))
                 elif kind == ALLOC:
-                    x = rng.randint(1, rng.choice([4, 100, big]))
+                    x = rng.randint(1, rng.choice(sizes))
                     balance += x
                     body.append((ALLOC, x))
                 else:
