@@ -65,7 +65,7 @@ def damaged(rng, data):
     """The same bytes with something wrong, most of the time."""
     data = bytearray(data)
     for _ in range(rng.choice([1, 1, 1, 2, 3])):
-        how = rng.randrange(7)
+        how = rng.randrange(8)
         if not data or how == 0:
             data += bytes(rng.randrange(256) for _ in range(rng.randint(1, 5)))
         elif how == 1:
@@ -83,6 +83,12 @@ def damaged(rng, data):
                     data[at] = rng.randrange(7)
                 elif how == 5:
                     data[at + 1] = rng.randrange(8)
+                elif how == 6:  # a child is never forked nor joined, or another in its place
+                    child = data[at + 1:at + 4]
+                    put = rng.choice([None, rng.randint(1, max(1, data[0] - 1))])
+                    for i in range(start, start + 4 * slots, 4):
+                        if data[i] in (FORK, JOIN) and data[i + 1:i + 4] == child:
+                            data[i:i + 4] = action(data[i], put) if put else action(WORK)
                 else:
                     other = start + 4 * rng.randrange(slots)
                     data[at:at + 4], data[other:other + 4] = data[other:other + 4], data[at:at + 4]
