@@ -12,7 +12,7 @@ import subprocess
 import sys
 
 import machine
-from reference import ALLOC, END, FREE, WORK, Table, check, line, serial_order
+from reference import ALLOC, END, FORK, FREE, JOIN, WORK, Table, check, line, serial_order
 from tables import damaged, drawn, table
 
 LARGEST = 2**24 - 1
@@ -66,6 +66,11 @@ def order(rng, p, actions):
     return bytes(row)
 
 
+def mostly_whole(rng, whole, front):
+    """Now and then only the front, or a few bytes."""
+    return rng.choice([front, whole[:rng.randint(0, 8)]]) if rng.random() < 0.03 else whole
+
+
 def turnlist_input(rng):
     data, most = run_table(rng)
     p, front = beginning(rng, most)
@@ -78,7 +83,7 @@ def turnlist_input(rng):
         if rng.random() < 0.5 and len(row) < length:  # the bytes of too long an order are there
             row += bytes(length - len(row))
     whole = front + length.to_bytes(2, 'little') + row + data
-    return whole[:rng.randint(0, 8)] if rng.random() < 0.02 else whole
+    return mostly_whole(rng, whole, front + bytes(2))
 
 
 def runrounds_input(rng):
@@ -90,7 +95,7 @@ def runrounds_input(rng):
     if rng.random() < 0.15:
         data = damaged(rng, data)
     whole = front + limit.to_bytes(4, 'little') + data
-    return whole[:rng.randint(0, 12)] if rng.random() < 0.03 else whole
+    return mostly_whole(rng, whole, whole[:8])
 
 
 def tablecheck_input(rng):
@@ -139,13 +144,22 @@ def table_traits(data, text):
     yield words[0] if words[0] != 'refused' else 'refused ' + words[1]
 
 
+# Inputs at the ends of what there is: the longest listing, the most memory, the most threads nested and side by side.
+MOST = table([(ALLOC, LARGEST)] * 8191 + [(END, 0)])
+CHAIN = table(*[[(FORK, t + 1), (JOIN, t + 1), (END, 0)] for t in range(1023)], [(END, 0)])
+FAN = table([(FORK, t) for t in range(1, 1024)] + [(JOIN, t) for t in range(1023, 0, -1)] + [(END, 0)], *[[(END, 0)]] * 1023)
+FULL = b'\xff' * 3
+ORDERS = [bytes(4096), bytes(i % 16 for i in range(4096))]
+LISTINGS = [bytes([16]) + FULL + b'\0\x10' + row + data for row in ORDERS for data in (MOST, CHAIN, FAN, MOST + b'\0', bytes(60000))]
+ROUNDS = [bytes([p]) + FULL + b'\xff' * 4 + data for p in (1, 2, 16) for data in (MOST, CHAIN, FAN, MOST + b'\0', bytes(60000))]
+
 TABLE = ['refused %d' % i for i in range(1, 12)]
 PROGRAMS = {
-    'tablecheck': (tablecheck_input, lambda data: line(check(data)) + '\n', table_traits, ['table'] + TABLE),
-    'turnlist': (turnlist_input, machine.turnlist, listing_traits,
+    'tablecheck': ([MOST, CHAIN, FAN, bytes(70000)], tablecheck_input, lambda data: line(check(data)) + '\n', table_traits, ['table'] + TABLE),
+    'turnlist': (LISTINGS, turnlist_input, machine.turnlist, listing_traits,
                  ['done', 'open', 'quota', 'wait', 'idle', 'premature', 'order left at the end', 'order of 0', 'order of 4096', 'worker 255',
                   'refused 20', 'refused 21', 'refused 22', 'refused 30', 'refused 33']),
-    'runrounds': (runrounds_input, machine.runrounds, rounds_traits,
+    'runrounds': (ROUNDS, runrounds_input, machine.runrounds, rounds_traits,
                   ['finished', 'spent', 'L 0', 'L at the end', 'refused 20', 'refused 21', 'refused 22', 'refused 33']),
 }
 
@@ -153,11 +167,11 @@ PROGRAMS = {
 def compare(name, count, command):
     if not os.path.exists(command[0]):
         raise SystemExit('%s is not there' % command[0])
-    draw, model, traits, wanted = PROGRAMS[name]
+    ends, draw, model, traits, wanted = PROGRAMS[name]
     rng = random.Random(20261115)
     reached = collections.Counter()
     for i in range(count):
-        data = draw(rng)
+        data = ends[i] if i < len(ends) else draw(rng)
         expected = model(data)
         found = subprocess.run(command, input=data, capture_output=True).stdout.decode()
         if found != expected:
