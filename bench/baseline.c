@@ -101,12 +101,10 @@ static Refusal balances(const uint8_t *table, size_t n, size_t m, uint64_t *rise
         size_t first = first_of(table, t), stop = first + count_of(table, t), below = stop;
         uint64_t rise = 0, fall = 0;
         for (size_t a = first; a < stop; a++) {
+            uint8_t k = code(actions, a);
             size_t x = argument(actions, a);
-            switch (code(actions, a)) {
-            case ALLOC: rise += x; break;
-            case FREE: fall += x; break;
-            case JOIN: rise += rises[x]; fall += falls[x]; break;
-            }
+            rise += (k == ALLOC ? x : 0) + (k == JOIN ? rises[x] : 0);
+            fall += (k == FREE ? x : 0) + (k == JOIN ? falls[x] : 0);
             if (rise < fall && below == stop) below = a;
         }
         rises[t] = rise;
@@ -127,11 +125,8 @@ static uint64_t serial_peak(const uint8_t *table, size_t n, const uint64_t *rise
             size_t x = argument(actions, a);
             uint64_t here = rise - fall + (k == FORK ? peaks[x] : 0);
             if (peak < here) peak = here;
-            switch (k) {
-            case ALLOC: rise += x; break;
-            case FREE: fall += x; break;
-            case FORK: rise += rises[x]; fall += falls[x]; break;
-            }
+            rise += (k == ALLOC ? x : 0) + (k == FORK ? rises[x] : 0);
+            fall += (k == FREE ? x : 0) + (k == FORK ? falls[x] : 0);
         }
         peaks[t] = peak;
     }

@@ -35,7 +35,9 @@ def fan():
 
 
 def build():
-    compiler = shutil.which('cc') or shutil.which('clang')
+    """With clang where it is there: Rattle's compiler has the same optimiser."""
+    compiler = shutil.which('clang') or shutil.which('cc')
+    print('C compiled by %s -O3' % pathlib.Path(compiler).name)
     pathlib.Path('target').mkdir(exist_ok=True)
     subprocess.run([compiler, '-O3', '-Wall', '-Wextra', '-o', 'target/baseline', 'bench/baseline.c'], check=True)
 
