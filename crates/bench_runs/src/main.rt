@@ -40,9 +40,18 @@ fn load_once(bytes: &[u8], total: u64) -> u64 {
 fn reply_value(reply: Reply) -> u64 {
     match reply {
         Reply::Idle => 1,
-        Reply::Done { thread: _, action: _ } => 2,
-        Reply::Quota { thread: _, wanted: _ } => 3,
-        Reply::Wait { thread: _, child: _ } => 4,
+        Reply::Done {
+            thread: _,
+            action: _,
+        } => 2,
+        Reply::Quota {
+            thread: _,
+            wanted: _,
+        } => 3,
+        Reply::Wait {
+            thread: _,
+            child: _,
+        } => 4,
     }
 }
 
