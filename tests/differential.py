@@ -1,9 +1,9 @@
 """Draws random and damaged inputs and compares the programs with reference.py and machine.py, which were written on their own.
 
 usage: python3 tests/differential.py [COUNT] [PROGRAM..] [--baseline]
-    COUNT inputs for each program (default 3,000); PROGRAM: tablecheck, turnlist, runrounds (default: all three).
-    From the repository's top, after `rt check tablecheck turnlist runrounds`; with --baseline it is the C program of bench/ that is
-    compared, after `cc -O3 -o target/baseline bench/baseline.c`.
+    COUNT inputs for each program (default 3,000); PROGRAM: tablecheck, turnlist, runrounds, call_cases (default: all).
+    From the repository's top, after `rt check tablecheck turnlist runrounds call_cases`; with --baseline it is the C program of bench/ that
+    is compared (all but call_cases), after `cc -O3 -o target/baseline bench/baseline.c`.
 """
 import collections
 import os
@@ -11,6 +11,7 @@ import random
 import subprocess
 import sys
 
+import call_cases
 import machine
 from reference import ALLOC, END, FORK, FREE, JOIN, WORK, Table, check, line, serial_order
 from tables import damaged, drawn, table
@@ -105,6 +106,10 @@ def tablecheck_input(rng):
     return damaged(rng, data) if rng.random() < 0.7 else data
 
 
+def call_case(rng):
+    return call_cases.record('case', *call_cases.random_case(rng))
+
+
 def listing_traits(data, text):
     """What a listing shows, for the count of what the inputs reached."""
     rows = [row.split() for row in text.splitlines()]
@@ -139,6 +144,10 @@ def rounds_traits(data, text):
             yield 'L at the end'
 
 
+def call_traits(data, text):
+    yield 'refused 32' if ' 32 0,' in text else 'sound'
+
+
 def table_traits(data, text):
     words = text.split()
     yield words[0] if words[0] != 'refused' else 'refused ' + words[1]
@@ -154,6 +163,7 @@ LISTINGS = [bytes([16]) + FULL + b'\0\x10' + row + data for row in ORDERS for da
 ROUNDS = [bytes([p]) + FULL + b'\xff' * 4 + data for p in (1, 2, 16) for data in (MOST, CHAIN, FAN, MOST + b'\0', bytes(60000))]
 
 TABLE = ['refused %d' % i for i in range(1, 12)]
+
 PROGRAMS = {
     'tablecheck': ([MOST, CHAIN, FAN, bytes(70000)], tablecheck_input, lambda data: line(check(data)) + '\n', table_traits, ['table'] + TABLE),
     'turnlist': (LISTINGS, turnlist_input, machine.turnlist, listing_traits,
@@ -161,6 +171,7 @@ PROGRAMS = {
                   'refused 20', 'refused 21', 'refused 22', 'refused 30', 'refused 33']),
     'runrounds': (ROUNDS, runrounds_input, machine.runrounds, rounds_traits,
                   ['finished', 'spent', 'L 0', 'L at the end', 'refused 20', 'refused 21', 'refused 22', 'refused 33']),
+    'call_cases': ([], call_case, lambda data: call_cases.answers(data)[1], call_traits, ['sound', 'refused 32']),
 }
 
 
@@ -185,11 +196,12 @@ def compare(name, count, command):
 
 
 def main():
+    baseline = '--baseline' in sys.argv
     words = [word for word in sys.argv[1:] if word != '--baseline']
     count = int(words.pop(0)) if words and words[0].isdigit() else 3000
-    names = words or list(PROGRAMS)
+    names = words or [name for name in PROGRAMS if not baseline or name != 'call_cases']
     for name in names:
-        compare(name, count, ['target/baseline', name] if '--baseline' in sys.argv else ['target/bin/' + name])
+        compare(name, count, ['target/baseline', name] if baseline else ['target/bin/' + name])
     print('%d inputs agree: %d each for %s' % (count * len(names), count, ', '.join(names)))
 
 
