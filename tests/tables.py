@@ -1,6 +1,4 @@
 """Tables as bytes: written out, drawn at random, and damaged."""
-import random
-
 from reference import END, WORK, ALLOC, FREE, FORK, JOIN
 
 
