@@ -1,32 +1,208 @@
-"""Draws random and damaged tables and compares the program tablecheck with reference.py.
+"""Draws random and damaged inputs and compares the programs with reference.py and machine.py, which were written on their own.
 
-usage: python3 tests/differential.py [COUNT]     (from the repository's top, after `rt check tablecheck`; default 5,000)
+usage: python3 tests/differential.py [COUNT] [PROGRAM..] [--baseline]
+    COUNT inputs for each program (default 3,000); PROGRAM: tablecheck, turnlist, runrounds, call_cases (default: all).
+    From the repository's top, after `rt check tablecheck turnlist runrounds call_cases`; with --baseline it is the C program of bench/ that
+    is compared (all but call_cases), after `cc -O3 -o target/baseline bench/baseline.c`.
 """
+import collections
+import os
 import random
 import subprocess
 import sys
 
-from reference import check, line
-from tables import damaged, drawn
+import call_cases
+import machine
+from reference import ALLOC, END, FORK, FREE, JOIN, WORK, Table, check, line, serial_order
+from tables import damaged, drawn, table
+
+LARGEST = 2**24 - 1
+
+
+def mostly(rng, usual, *others):
+    """The usual value, or one time in ten one of the others."""
+    return rng.choice(others) if rng.random() < 0.1 else usual
+
+
+def run_table(rng):
+    """A table to run, and the most that one alloc of it draws."""
+    threads = rng.randint(1, rng.choice([3, 12, 40]))
+    if rng.random() < 0.01:
+        threads = rng.randint(100, 1024)
+    sizes = rng.choice([[1], [2, 6], [9], [4, 100, LARGEST]])
+    data = drawn(rng, threads, rng.randint(threads, min(8192, 6 * threads + 20)), sizes)
+    if rng.random() < 0.1:  # one thread that draws again and again
+        x = rng.randint(1, 9)
+        data = table([(ALLOC, x)] * rng.randint(1, 30) + [(WORK, 0), (FREE, x), (END, 0)])
+    return data, max([x for kind, x in Table(data).actions if kind == ALLOC], default=1)
+
+
+def beginning(rng, most):
+    """p and K: mostly in range, K often such that an alloc does not fit in what is left."""
+    p = mostly(rng, rng.choice([1, 2, 2, 3, 4, rng.randint(1, 16), 16]), 0, 17, 255)
+    quota = rng.choice([most, most, most + 1, most + rng.randint(0, most), LARGEST])
+    quota = mostly(rng, min(quota, LARGEST), 0, most - 1, LARGEST)
+    return p, bytes([p]) + quota.to_bytes(3, 'little')
+
+
+def order(rng, p, actions):
+    """Workers for a run over a list, in one of several manners."""
+    p = max(1, min(p, 16))
+    length = rng.choice([0, 1, rng.randint(0, actions), 3 * actions, 3 * actions, 6 * actions])
+    length = min(4096, length) if rng.random() < 0.97 else 4096
+    manner = rng.randrange(4)
+    if manner == 0:
+        row = [rng.randrange(p) for _ in range(length)]
+    elif manner == 1:
+        row = [i % p for i in range(length)]
+    elif manner == 2:  # long stretches of one worker
+        row = []
+        while len(row) < length:
+            row += [rng.randrange(p)] * rng.randint(1, 12)
+        row = row[:length]
+    else:  # a worker that comes only now and then
+        row = [rng.randrange(p) if rng.random() < 0.1 else p - 1 for _ in range(length)]
+    if row and rng.random() < 0.15:
+        row[rng.randrange(len(row))] = rng.choice([p, p, 16, 255])
+    return bytes(row)
+
+
+def mostly_whole(rng, whole, front):
+    """Now and then only the front, or a few bytes."""
+    return rng.choice([front, whole[:rng.randint(0, 8)]]) if rng.random() < 0.03 else whole
+
+
+def turnlist_input(rng):
+    data, most = run_table(rng)
+    p, front = beginning(rng, most)
+    row = order(rng, p, Table(data).m)
+    if rng.random() < 0.15:
+        data = damaged(rng, data)
+    length = len(row)
+    if rng.random() < 0.05:
+        length = rng.choice([length + 1, length + len(data), length + len(data) + 1, 4097, 65535])
+        if rng.random() < 0.5 and len(row) < length:  # the bytes of too long an order are there
+            row += bytes(length - len(row))
+    whole = front + length.to_bytes(2, 'little') + row + data
+    return mostly_whole(rng, whole, front + bytes(2))
+
+
+def runrounds_input(rng):
+    data, most = run_table(rng)
+    p, front = beginning(rng, most)
+    whole = machine.runrounds(front + b'\xff' * 4 + data).split()
+    end = int(whole[1]) if whole[0] == 'finished' else 9
+    limit = rng.choice([0, 1, end - 1, end, end, end + 1, rng.randint(0, end), 2**32 - 1])
+    if rng.random() < 0.15:
+        data = damaged(rng, data)
+    whole = front + limit.to_bytes(4, 'little') + data
+    return mostly_whole(rng, whole, whole[:8])
+
+
+def tablecheck_input(rng):
+    large = rng.random() < 0.02
+    threads = rng.randint(1, 1024 if large else 12)
+    data = drawn(rng, threads, rng.randint(threads, 4 * threads + 40))
+    return damaged(rng, data) if rng.random() < 0.7 else data
+
+
+def call_case(rng):
+    return call_cases.record('case', *call_cases.random_case(rng))
+
+
+def listing_traits(data, text):
+    """What a listing shows, for the count of what the inputs reached."""
+    rows = [row.split() for row in text.splitlines()]
+    last = rows[-1]
+    yield last[0] if last[0] != 'refused' else 'refused ' + last[1]
+    if rows[0][0] == 'refused':
+        return
+    turns = rows[1:-1]
+    for name in ('quota', 'wait', 'idle'):
+        if any(row[4] == name for row in turns):
+            yield name
+    length = data[4] | data[5] << 8
+    if last[0] == 'done' and len(turns) < length:
+        yield 'order left at the end'
+    if length in (0, 4096):
+        yield 'order of %d' % length
+    done = [int(row[3]) for row in turns if row[4] in machine.KINDS]
+    if done != serial_order(Table(data[6 + length:]))[:len(done)]:
+        yield 'premature'
+    if last[0] == 'refused' and data[6 + len(turns)] == 255:
+        yield 'worker 255'
+
+
+def rounds_traits(data, text):
+    words = text.split()
+    yield words[0] if words[0] != 'refused' else 'refused ' + words[1]
+    if words[0] != 'refused':
+        limit = int.from_bytes(data[4:8], 'little')
+        if limit == 0:
+            yield 'L 0'
+        if words[0] == 'finished' and int(words[1]) == limit:
+            yield 'L at the end'
+
+
+def call_traits(data, text):
+    yield 'refused 32' if ' 32 0,' in text else 'sound'
+
+
+def table_traits(data, text):
+    words = text.split()
+    yield words[0] if words[0] != 'refused' else 'refused ' + words[1]
+
+
+# Inputs at the ends of what there is: the longest listing, the most memory, the most threads nested and side by side.
+MOST = table([(ALLOC, LARGEST)] * 8191 + [(END, 0)])
+CHAIN = table(*[[(FORK, t + 1), (JOIN, t + 1), (END, 0)] for t in range(1023)], [(END, 0)])
+FAN = table([(FORK, t) for t in range(1, 1024)] + [(JOIN, t) for t in range(1023, 0, -1)] + [(END, 0)], *[[(END, 0)]] * 1023)
+FULL = b'\xff' * 3
+ORDERS = [bytes(4096), bytes(i % 16 for i in range(4096))]
+LISTINGS = [bytes([16]) + FULL + b'\0\x10' + row + data for row in ORDERS for data in (MOST, CHAIN, FAN, MOST + b'\0', bytes(60000))]
+ROUNDS = [bytes([p]) + FULL + b'\xff' * 4 + data for p in (1, 2, 16) for data in (MOST, CHAIN, FAN, MOST + b'\0', bytes(60000))]
+
+TABLE = ['refused %d' % i for i in range(1, 12)]
+
+PROGRAMS = {
+    'tablecheck': ([MOST, CHAIN, FAN, bytes(70000)], tablecheck_input, lambda data: line(check(data)) + '\n', table_traits, ['table'] + TABLE),
+    'turnlist': (LISTINGS, turnlist_input, machine.turnlist, listing_traits,
+                 ['done', 'open', 'quota', 'wait', 'idle', 'premature', 'order left at the end', 'order of 0', 'order of 4096', 'worker 255',
+                  'refused 20', 'refused 21', 'refused 22', 'refused 30', 'refused 33']),
+    'runrounds': (ROUNDS, runrounds_input, machine.runrounds, rounds_traits,
+                  ['finished', 'spent', 'L 0', 'L at the end', 'refused 20', 'refused 21', 'refused 22', 'refused 33']),
+    'call_cases': ([], call_case, lambda data: call_cases.answers(data)[1], call_traits, ['sound', 'refused 32']),
+}
+
+
+def compare(name, count, command):
+    if not os.path.exists(command[0]):
+        raise SystemExit('%s is not there' % command[0])
+    ends, draw, model, traits, wanted = PROGRAMS[name]
+    rng = random.Random(20261115)
+    reached = collections.Counter()
+    for i in range(count):
+        data = ends[i] if i < len(ends) else draw(rng)
+        expected = model(data)
+        found = subprocess.run(command, input=data, capture_output=True).stdout.decode()
+        if found != expected:
+            open('target/differs', 'wb').write(data)
+            raise SystemExit('%s, input %d (target/differs): expected\n%sfound\n%s' % (name, i, expected, found))
+        reached.update(traits(data, expected))
+    print('%s: %s' % (name, ', '.join('%s %d' % pair for pair in sorted(reached.items()))))
+    missing = [trait for trait in wanted if not reached[trait]]
+    if missing and count >= 1000:
+        raise SystemExit('%s: no input reached %s' % (name, ', '.join(missing)))
 
 
 def main():
-    count = int(sys.argv[1]) if len(sys.argv) > 1 else 5000
-    rng = random.Random(20261115)
-    accepted = 0
-    for i in range(count):
-        large = rng.random() < 0.02
-        threads = rng.randint(1, 1024 if large else 12)
-        data = drawn(rng, threads, rng.randint(threads, 4 * threads + 40))
-        if rng.random() < 0.7:
-            data = damaged(rng, data)
-        expected = line(check(data))
-        found = subprocess.run(['target/bin/tablecheck'], input=data, capture_output=True).stdout.decode()
-        if found != expected + '\n':
-            open('target/differs.table', 'wb').write(data)
-            raise SystemExit('table %d (target/differs.table): expected %r, found %r' % (i, expected, found))
-        accepted += expected.startswith('table')
-    print('%d tables agree, %d accepted and %d refused' % (count, accepted, count - accepted))
+    baseline = '--baseline' in sys.argv
+    words = [word for word in sys.argv[1:] if word != '--baseline']
+    count = int(words.pop(0)) if words and words[0].isdigit() else 3000
+    names = words or [name for name in PROGRAMS if not baseline or name != 'call_cases']
+    for name in names:
+        compare(name, count, ['target/baseline', name] if baseline else ['target/bin/' + name])
+    print('%d inputs agree: %d each for %s' % (count * len(names), count, ', '.join(names)))
 
 
 if __name__ == '__main__':

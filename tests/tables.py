@@ -1,6 +1,4 @@
 """Tables as bytes: written out, drawn at random, and damaged."""
-import random
-
 from reference import END, WORK, ALLOC, FREE, FORK, JOIN
 
 
@@ -21,8 +19,8 @@ def table(*bodies):
     return out + b''.join(action(k, x) for body in bodies for k, x in body)
 
 
-def drawn(rng, threads, most, big=16777215):
-    """A random accepted table of the given count of threads and about `most` actions."""
+def drawn(rng, threads, most, sizes=(4, 100, 16777215)):
+    """A random accepted table of the given count of threads and about `most` actions; each alloc is at most one of the sizes."""
     parent = [None] + [rng.randrange(t) for t in range(1, threads)]
     if rng.random() < 0.5:  # a few children are born late and in any order
         parent = [None] + [rng.randrange(max(0, t - rng.randint(1, 6)), t) for t in range(1, threads)]
@@ -45,11 +43,11 @@ def drawn(rng, threads, most, big=16777215):
                 room -= 1
                 kind = rng.choice([WORK, ALLOC, ALLOC, FREE])
                 if kind == FREE and balance:
-                    x = rng.randint(1, min(balance, big))
+                    x = rng.randint(1, min(balance, 16777215))
                     balance -= x
                     body.append((FREE, x))
                 elif kind == ALLOC:
-                    x = rng.randint(1, rng.choice([4, 100, big]))
+                    x = rng.randint(1, rng.choice(sizes))
                     balance += x
                     body.append((ALLOC, x))
                 else:
@@ -65,7 +63,7 @@ def damaged(rng, data):
     """The same bytes with something wrong, most of the time."""
     data = bytearray(data)
     for _ in range(rng.choice([1, 1, 1, 2, 3])):
-        how = rng.randrange(7)
+        how = rng.randrange(8)
         if not data or how == 0:
             data += bytes(rng.randrange(256) for _ in range(rng.randint(1, 5)))
         elif how == 1:
@@ -83,6 +81,12 @@ def damaged(rng, data):
                     data[at] = rng.randrange(7)
                 elif how == 5:
                     data[at + 1] = rng.randrange(8)
+                elif how == 6:  # a child is never forked nor joined, or another in its place
+                    child = data[at + 1:at + 4]
+                    put = rng.choice([None, rng.randint(1, max(1, data[0] - 1))])
+                    for i in range(start, start + 4 * slots, 4):
+                        if data[i] in (FORK, JOIN) and data[i + 1:i + 4] == child:
+                            data[i:i + 4] = action(data[i], put) if put else action(WORK)
                 else:
                     other = start + 4 * rng.randrange(slots)
                     data[at:at + 4], data[other:other + 4] = data[other:other + 4], data[at:at + 4]

@@ -1,0 +1,627 @@
+// The loader, the machine and the test of soundness in plain C, by the same algorithms as the Rattle code: what the bench measures it
+// against. Nothing of it is proved.
+//
+// usage: baseline tablecheck | turnlist | runrounds | repeat   (input and lines as of the Rattle programs; repeat as bench_runs)
+#include <stdbool.h>
+#include <stdint.h>
+#include <stdio.h>
+#include <string.h>
+#include <unistd.h>
+
+enum { THREADS = 1024, ACTIONS = 8192, BYTES = 36868, WORKERS = 16, ORDER = 4096 };
+enum { END, WORK, ALLOC, FREE, FORK, JOIN };
+enum { UNBORN, READY, HELD, WAITING, ENDED };
+
+typedef struct { uint8_t number; uint16_t place; } Refusal; // number 0: none
+typedef struct { Refusal refusal; uint16_t threads, actions; uint64_t peak; uint16_t depth; } Loaded;
+
+static size_t word(const uint8_t *s, size_t i) { return s[i] | (size_t)s[i + 1] << 8; }
+static uint8_t code(const uint8_t *l, size_t a) { return l[4 * a]; }
+static size_t argument(const uint8_t *l, size_t a) { return l[4 * a + 1] | (size_t)l[4 * a + 2] << 8 | (size_t)l[4 * a + 3] << 16; }
+static const uint8_t *bodies(const uint8_t *table, size_t n) { return table + 4 + 4 * n; }
+static size_t first_of(const uint8_t *table, size_t t) { return word(table, 4 + 4 * t); }
+static size_t count_of(const uint8_t *table, size_t t) { return word(table, 6 + 4 * t); }
+static size_t end_of(const uint8_t *table, size_t t) { return first_of(table, t) + count_of(table, t) - 1; }
+static Refusal refuse(uint8_t number, size_t place) { return (Refusal){ number, (uint16_t)place }; }
+static const Refusal NONE = { 0, 0 };
+
+// ---- the loader
+
+static Refusal head(const uint8_t *table, size_t length) {
+    if (length < 4) return refuse(1, 0);
+    size_t n = word(table, 0), m = word(table, 2);
+    if (n < 1 || THREADS < n || m < 1 || ACTIONS < m) return refuse(2, 0);
+    if (length != 4 + 4 * n + 4 * m) return refuse(3, 0);
+    return NONE;
+}
+
+static Refusal contents(const uint8_t *table, size_t n, size_t m) {
+    size_t sum = 0;
+    for (size_t t = 0; t < n; t++) {
+        if (first_of(table, t) != sum || count_of(table, t) == 0) return refuse(4, t);
+        sum += count_of(table, t);
+    }
+    return sum == m ? NONE : refuse(4, n);
+}
+
+static uint8_t form_at(uint8_t k, size_t own, size_t n, size_t x, bool last) {
+    bool fits;
+    switch (k) {
+    case END: return x != 0 ? 6 : last ? 0 : 7;
+    case WORK: fits = x == 0; break;
+    case ALLOC: case FREE: fits = 1 <= x; break;
+    case FORK: case JOIN: fits = own < x && x < n; break;
+    default: return 5;
+    }
+    return !fits ? 6 : last ? 7 : 0;
+}
+
+static Refusal first_pass(const uint8_t *table, size_t n, size_t m) {
+    const uint8_t *actions = bodies(table, n);
+    size_t own = 0, stop = count_of(table, 0);
+    for (size_t a = 0; a < m; a++) {
+        if (a == stop) stop += count_of(table, ++own);
+        uint8_t number = form_at(code(actions, a), own, n, argument(actions, a), a + 1 == stop);
+        if (number) return refuse(number, a);
+    }
+    return NONE;
+}
+
+static Refusal nesting(const uint8_t *table, size_t n, size_t m) {
+    const uint8_t *actions = bodies(table, n);
+    bool forked[THREADS] = { false };
+    uint16_t stack[THREADS];
+    size_t top = THREADS;
+    for (size_t a = 0; a < m; a++) {
+        size_t x = argument(actions, a);
+        switch (code(actions, a)) {
+        case END:
+            if (top < THREADS) return refuse(9, a);
+            break;
+        case FORK:
+            if (forked[x]) return refuse(8, a);
+            forked[x] = true;
+            stack[--top] = (uint16_t)x;
+            break;
+        case JOIN:
+            if (top == THREADS || stack[top] != x) return refuse(9, a);
+            top++;
+            break;
+        }
+    }
+    for (size_t t = 1; t < n; t++)
+        if (!forked[t]) return refuse(11, t);
+    return NONE;
+}
+
+static Refusal balances(const uint8_t *table, size_t n, size_t m, uint64_t *rises, uint64_t *falls) {
+    const uint8_t *actions = bodies(table, n);
+    size_t lowest = m;
+    for (size_t t = n; t-- > 0;) {
+        size_t first = first_of(table, t), stop = first + count_of(table, t), below = stop;
+        uint64_t rise = 0, fall = 0;
+        for (size_t a = first; a < stop; a++) {
+            uint8_t k = code(actions, a);
+            size_t x = argument(actions, a);
+            rise += (k == ALLOC ? x : 0) + (k == JOIN ? rises[x] : 0);
+            fall += (k == FREE ? x : 0) + (k == JOIN ? falls[x] : 0);
+            if (rise < fall && below == stop) below = a;
+        }
+        rises[t] = rise;
+        falls[t] = fall;
+        if (below < stop) lowest = below;
+    }
+    return lowest < m ? refuse(10, lowest) : NONE;
+}
+
+static uint64_t serial_peak(const uint8_t *table, size_t n, const uint64_t *rises, const uint64_t *falls) {
+    const uint8_t *actions = bodies(table, n);
+    uint64_t peaks[THREADS];
+    for (size_t t = n; t-- > 0;) {
+        size_t first = first_of(table, t), stop = first + count_of(table, t);
+        uint64_t rise = 0, fall = 0, peak = 0;
+        for (size_t a = first; a < stop; a++) {
+            uint8_t k = code(actions, a);
+            size_t x = argument(actions, a);
+            uint64_t here = rise - fall + (k == FORK ? peaks[x] : 0);
+            if (peak < here) peak = here;
+            rise += (k == ALLOC ? x : 0) + (k == FORK ? rises[x] : 0);
+            fall += (k == FREE ? x : 0) + (k == FORK ? falls[x] : 0);
+        }
+        peaks[t] = peak;
+    }
+    return peaks[0];
+}
+
+static size_t end_level(const uint8_t *table, const uint8_t *actions, size_t t, size_t start, uint16_t *ends) {
+    size_t last = start - 1, first = first_of(table, t), stop = first + count_of(table, t);
+    for (size_t a = first; a < stop; a++) {
+        uint8_t k = code(actions, a);
+        size_t x = argument(actions, a);
+        if (k == JOIN && last < ends[x]) last = ends[x];
+        last++;
+        if (k == FORK) ends[x] = (uint16_t)end_level(table, actions, x, last + 1, ends);
+    }
+    return last;
+}
+
+static Loaded load(const uint8_t *table, size_t length) {
+    Loaded answer = { head(table, length), 0, 0, 0, 0 };
+    if (answer.refusal.number) return answer;
+    size_t n = word(table, 0), m = word(table, 2);
+    uint64_t rises[THREADS], falls[THREADS];
+    uint16_t ends[THREADS];
+    answer.refusal = contents(table, n, m);
+    if (!answer.refusal.number) answer.refusal = first_pass(table, n, m);
+    if (!answer.refusal.number) answer.refusal = nesting(table, n, m);
+    if (!answer.refusal.number) answer.refusal = balances(table, n, m, rises, falls);
+    if (answer.refusal.number) return answer;
+    answer.threads = (uint16_t)n;
+    answer.actions = (uint16_t)m;
+    answer.peak = serial_peak(table, n, rises, falls);
+    answer.depth = (uint16_t)end_level(table, bodies(table, n), 0, 1, ends);
+    return answer;
+}
+
+// ---- the record, and beginning
+
+typedef struct { bool holds; uint16_t thread; uint32_t quota; } Worker;
+typedef struct {
+    uint8_t table[BYTES];
+    uint16_t length;
+    uint8_t workers;
+    uint32_t quota;
+    uint16_t next[THREADS];
+    uint8_t status[THREADS];
+    uint16_t list[THREADS];
+    uint16_t listed;
+    Worker worker[WORKERS];
+    uint16_t busy;
+    uint64_t held, highest, turns;
+} Run;
+
+static Refusal begin_fault(const uint8_t *table, size_t n, size_t m, uint8_t p, uint32_t quota) {
+    if (p < 1 || WORKERS < p) return refuse(20, 0);
+    if (quota < 1 || 16777215 < quota) return refuse(21, 0);
+    const uint8_t *actions = bodies(table, n);
+    for (size_t a = 0; a < m; a++)
+        if (code(actions, a) == ALLOC && quota < argument(actions, a)) return refuse(22, a);
+    return NONE;
+}
+
+static Loaded begin(Run *run, const uint8_t *table, size_t length, uint8_t p, uint32_t quota) {
+    memset(run, 0, sizeof *run);
+    Loaded loaded = load(table, length);
+    if (!loaded.refusal.number) loaded.refusal = begin_fault(table, loaded.threads, loaded.actions, p, quota);
+    if (loaded.refusal.number) return loaded;
+    memcpy(run->table, table, length);
+    run->length = (uint16_t)length;
+    run->workers = p;
+    run->quota = quota;
+    for (size_t t = 0; t < loaded.threads; t++) run->next[t] = (uint16_t)first_of(table, t);
+    run->status[0] = READY;
+    run->listed = 1;
+    return loaded;
+}
+
+static void fill_forks(const uint8_t *table, size_t n, uint16_t *forks, uint16_t *parents) {
+    const uint8_t *actions = bodies(table, n);
+    memset(forks, 0, THREADS * sizeof *forks);
+    memset(parents, 0, THREADS * sizeof *parents);
+    size_t a = 0;
+    for (size_t t = 0; t < n; t++)
+        for (size_t stop = a + count_of(table, t); a < stop; a++)
+            if (code(actions, a) == FORK) {
+                size_t c = argument(actions, a);
+                forks[c] = (uint16_t)a;
+                parents[c] = (uint16_t)t;
+            }
+}
+
+// ---- soundness
+
+static size_t done_to(const Run *run, size_t t) { return run->next[t] + (size_t)(run->status[t] == ENDED); }
+
+static bool is_unborn(const Run *run, size_t t, const uint16_t *forks, const uint16_t *parents) {
+    return 0 < t && done_to(run, parents[t]) <= forks[t];
+}
+
+static bool thread_in_order(const Run *run, size_t n, size_t t, const uint16_t *forks, const uint16_t *parents) {
+    const uint8_t *actions = bodies(run->table, n);
+    size_t first = first_of(run->table, t), stop = done_to(run, t);
+    if (is_unborn(run, t, forks, parents)) return stop <= first;
+    for (size_t a = first; a < stop; a++)
+        if (code(actions, a) == JOIN) {
+            size_t c = argument(actions, a);
+            if (done_to(run, c) <= end_of(run->table, c)) return false;
+        }
+    return true;
+}
+
+static bool status_follows(const Run *run, size_t t, const uint16_t *forks, const uint16_t *parents) {
+    uint8_t s = run->status[t];
+    if ((s == UNBORN) != is_unborn(run, t, forks, parents)) return false;
+    if (s != ENDED) return s < ENDED;
+    return run->next[t] == end_of(run->table, t);
+}
+
+static bool done_sound(const Run *run, size_t n) {
+    uint16_t forks[THREADS], parents[THREADS];
+    for (size_t t = 0; t < n; t++)
+        if (run->next[t] < first_of(run->table, t) || end_of(run->table, t) < run->next[t]) return false;
+    fill_forks(run->table, n, forks, parents);
+    for (size_t t = 0; t < n; t++)
+        if (!thread_in_order(run, n, t, forks, parents)) return false;
+    for (size_t t = 0; t < n; t++)
+        if (!status_follows(run, t, forks, parents)) return false;
+    return true;
+}
+
+static bool list_follows(const Run *run, size_t n) {
+    bool marks[THREADS] = { false };
+    for (size_t i = 0; i < run->listed; i++) {
+        if (n <= run->list[i]) return false;
+        marks[run->list[i]] = true;
+    }
+    for (size_t t = 0; t < n; t++)
+        if (marks[t] != (run->status[t] != UNBORN && run->status[t] != ENDED)) return false;
+    return true;
+}
+
+// From action `from` with the number `number` to action `to` of the same thread; children forked between get their numbers.
+static size_t advance(const uint8_t *actions, size_t from, size_t to, size_t number, uint16_t *numbers) {
+    for (size_t a = from; a < to; a++) {
+        number++;
+        if (code(actions, a) == FORK) {
+            size_t c = argument(actions, a), length = numbers[c];
+            numbers[c] = (uint16_t)number;
+            number += length;
+        }
+    }
+    return number;
+}
+
+static bool in_serial_order(const Run *run, size_t n) {
+    const uint8_t *actions = bodies(run->table, n);
+    uint16_t numbers[THREADS];
+    for (size_t t = n; t-- > 0;) {
+        size_t last = end_of(run->table, t), total = 1;
+        for (size_t a = first_of(run->table, t); a < last; a++)
+            total += code(actions, a) == FORK ? 1 + (size_t)numbers[argument(actions, a)] : 1;
+        numbers[t] = (uint16_t)total;
+    }
+    numbers[0] = 0;
+    for (size_t t = 0; t < n; t++) {
+        size_t at = run->next[t];
+        size_t number = advance(actions, first_of(run->table, t), at, numbers[t], numbers);
+        numbers[t] = (uint16_t)number;
+        advance(actions, at, end_of(run->table, t), number, numbers);
+    }
+    for (size_t i = 0; i + 1 < run->listed; i++)
+        if (numbers[run->list[i + 1]] <= numbers[run->list[i]]) return false;
+    return true;
+}
+
+static bool waits_at_joins(const Run *run, size_t n) {
+    const uint8_t *actions = bodies(run->table, n);
+    for (size_t t = 0; t < n; t++)
+        if (run->status[t] == WAITING) {
+            size_t a = run->next[t];
+            if (code(actions, a) != JOIN || run->status[argument(actions, a)] == ENDED) return false;
+        }
+    return true;
+}
+
+static bool workers_right(const Run *run, size_t n) {
+    uint8_t counts[THREADS] = { 0 };
+    for (size_t w = 0; w < WORKERS; w++) {
+        Worker x = run->worker[w];
+        if (x.holds && x.thread < THREADS) counts[x.thread]++;
+    }
+    for (size_t t = 0; t < n; t++)
+        if (counts[t] != (run->status[t] == HELD)) return false;
+    for (size_t w = 0; w < WORKERS; w++) {
+        Worker x = run->worker[w];
+        if (x.holds ? run->workers <= w || n <= x.thread || run->quota < x.quota : x.thread != 0 || x.quota != 0) return false;
+    }
+    return true;
+}
+
+static bool held_right(const Run *run, size_t n) {
+    const uint8_t *actions = bodies(run->table, n);
+    uint64_t allocs = 0, frees = 0;
+    for (size_t t = 0; t < n; t++)
+        for (size_t a = first_of(run->table, t), stop = done_to(run, t); a < stop; a++) {
+            uint8_t k = code(actions, a);
+            size_t x = argument(actions, a);
+            allocs += k == ALLOC ? x : 0;
+            frees += k == FREE ? x : 0;
+        }
+    return frees <= allocs && run->held == allocs - frees;
+}
+
+static bool rest_sound(const Run *run) {
+    if (BYTES < run->length || THREADS < run->listed || run->turns == UINT64_MAX) return false;
+    uint32_t set = 0;
+    for (size_t w = 0; w < WORKERS; w++) set |= (uint32_t)run->worker[w].holds << w;
+    if (run->busy != set) return false;
+    for (size_t i = run->length; i < BYTES; i++)
+        if (run->table[i] != 0) return false;
+    for (size_t i = run->listed; i < THREADS; i++)
+        if (run->list[i] != 0) return false;
+    return true;
+}
+
+static bool sound(const Run *run) {
+    if (!rest_sound(run)) return false;
+    Loaded loaded = load(run->table, run->length);
+    if (loaded.refusal.number) return false;
+    size_t n = loaded.threads, m = loaded.actions;
+    if (begin_fault(run->table, n, m, run->workers, run->quota).number) return false;
+    if (!done_sound(run, n) || !list_follows(run, n) || !in_serial_order(run, n) || !waits_at_joins(run, n)) return false;
+    if (!workers_right(run, n) || !held_right(run, n) || run->highest < run->held) return false;
+    for (size_t t = n; t < THREADS; t++)
+        if (run->status[t] != UNBORN || run->next[t] != 0) return false;
+    return true;
+}
+
+static bool is_blank(const Run *run) {
+    const uint8_t *bytes = (const uint8_t *)run; // the record was cleared whole, so its padding is 0
+    for (size_t i = 0; i < sizeof *run; i++)
+        if (bytes[i] != 0) return false;
+    return true;
+}
+
+// ---- turns and runs
+
+typedef enum { IDLE, DONE, QUOTA, WAIT } What;
+typedef struct { What what; uint16_t thread; uint32_t value; } Reply;
+
+static Reply release(Worker *worker, What what, uint32_t value) {
+    Reply reply = { what, worker->thread, value };
+    memset(worker, 0, sizeof *worker);
+    return reply;
+}
+
+static size_t place(const Run *run, uint16_t t) {
+    size_t i = 0;
+    while (i < run->listed && run->list[i] != t) i++;
+    return i;
+}
+
+static Reply act(Run *run, size_t n, const uint16_t *parents, Worker *worker) {
+    uint16_t t = worker->thread, a = run->next[t];
+    const uint8_t *actions = bodies(run->table, n);
+    uint32_t x = (uint32_t)argument(actions, a);
+    switch (code(actions, a)) {
+    case END: {
+        run->status[t] = ENDED;
+        size_t len = run->listed, i = place(run, t);
+        for (; i + 1 < len; i++) run->list[i] = run->list[i + 1];
+        run->list[i] = 0;
+        run->listed--;
+        size_t u = parents[t];
+        if (run->status[u] == WAITING && code(actions, run->next[u]) == JOIN && argument(actions, run->next[u]) == t)
+            run->status[u] = READY;
+        return release(worker, DONE, a);
+    }
+    case ALLOC:
+        if (worker->quota < x) {
+            run->status[t] = READY;
+            return release(worker, QUOTA, x);
+        }
+        worker->quota -= x;
+        run->held += x;
+        if (run->highest < run->held) run->highest = run->held;
+        break;
+    case FREE:
+        run->held -= x;
+        break;
+    case FORK: {
+        size_t at = place(run, t);
+        for (size_t i = run->listed; at < i; i--) run->list[i] = run->list[i - 1];
+        run->list[at] = (uint16_t)x;
+        run->listed++;
+        run->next[t] = (uint16_t)(a + 1);
+        run->status[t] = READY;
+        run->status[x] = READY;
+        return release(worker, DONE, a);
+    }
+    case JOIN:
+        if (run->status[x] != ENDED) {
+            run->status[t] = WAITING;
+            return release(worker, WAIT, x);
+        }
+        break;
+    }
+    run->next[t] = (uint16_t)(a + 1);
+    return (Reply){ DONE, t, a };
+}
+
+static Reply step(Run *run, size_t n, const uint16_t *parents, size_t w) {
+    Worker *worker = &run->worker[w];
+    bool held = worker->holds;
+    if (!held) {
+        size_t i = 0, len = run->listed;
+        while (i < len && run->status[run->list[i]] != READY) i++;
+        if (i == len) {
+            run->turns++;
+            return (Reply){ IDLE, 0, 0 };
+        }
+        worker->holds = true;
+        worker->thread = run->list[i];
+        worker->quota = run->quota;
+        run->status[worker->thread] = HELD;
+    }
+    Reply reply = act(run, n, parents, worker);
+    if (held != worker->holds) run->busy ^= (uint16_t)(1 << w);
+    run->turns++;
+    return reply;
+}
+
+// A run's answer: number 0 means finished or spent.
+typedef struct { uint8_t number; bool finished; uint64_t turns; } Report;
+
+static void print_turn(const Run *run, size_t n, uint64_t turn, size_t w, Reply reply) {
+    static const char *const kinds[] = { "end", "work", "alloc", "free", "fork", "join" };
+    printf("%llu %zu ", (unsigned long long)turn, w);
+    if (reply.what == IDLE) {
+        printf("- - idle ");
+    } else {
+        size_t a = reply.what == DONE ? reply.value : run->next[reply.thread];
+        printf("%u %zu %s ", reply.thread, a, reply.what == QUOTA ? "quota" : reply.what == WAIT ? "wait" : kinds[code(bodies(run->table, n), a)]);
+    }
+    printf("%llu\n", (unsigned long long)run->held);
+}
+
+// At most `limit` turns: of the order, or in rounds where there is none.
+static Report drive(Run *run, const uint8_t *order, size_t limit, bool print) {
+    uint16_t forks[THREADS], parents[THREADS];
+    size_t n = word(run->table, 0), p = run->workers, last = count_of(run->table, 0) - 1;
+    if (run->status[0] == ENDED) return (Report){ 0, true, 0 };
+    fill_forks(run->table, n, forks, parents);
+    for (size_t i = 0; i < limit; i++) {
+        size_t w = order ? order[i] : i % p;
+        if (run->turns == UINT64_MAX) return (Report){ 32, false, i };
+        if (p <= w) return (Report){ 30, false, i };
+        Reply reply = step(run, n, parents, w);
+        if (print) print_turn(run, n, i + 1, w, reply);
+        if (reply.what == DONE && reply.value == last) return (Report){ 0, true, i + 1 };
+    }
+    return (Report){ 0, false, limit };
+}
+
+static Report run_list(Run *run, const uint8_t *order, size_t length, bool print) {
+    if (is_blank(run)) return (Report){ length ? 30 : 0, false, 0 };
+    if (!sound(run)) return (Report){ 32, false, 0 };
+    return drive(run, order, length, print);
+}
+
+static Report run_rounds(Run *run, uint32_t limit) {
+    if (is_blank(run)) return (Report){ 30, false, 0 };
+    if (!sound(run)) return (Report){ 32, false, 0 };
+    return drive(run, NULL, limit, false);
+}
+
+typedef struct { uint8_t number; Reply reply; } Turned;
+
+static Turned turn(Run *run, uint8_t w) {
+    uint16_t forks[THREADS], parents[THREADS];
+    Turned turned = { 0, { IDLE, 0, 0 } };
+    if (!is_blank(run) && !sound(run)) turned.number = 32;
+    else if (run->workers <= w) turned.number = 30;
+    else if (run->status[0] == ENDED) turned.number = 31;
+    else {
+        size_t n = word(run->table, 0);
+        fill_forks(run->table, n, forks, parents);
+        turned.reply = step(run, n, parents, w);
+    }
+    return turned;
+}
+
+// ---- the programs
+
+static uint8_t input[65536];
+
+static size_t read_all(void) {
+    size_t n = 0;
+    ssize_t got;
+    while (n < sizeof input && 0 < (got = read(0, input + n, sizeof input - n))) n += (size_t)got;
+    return n;
+}
+
+static uint32_t number_at(const uint8_t *s, int bytes) {
+    uint32_t x = 0;
+    while (bytes-- > 0) x = x << 8 | s[bytes];
+    return x;
+}
+
+static int refused(uint8_t number, uint16_t place) {
+    printf("refused %u %u\n", number, place);
+    return 0;
+}
+
+static void table_line(Loaded l) {
+    printf("table %u %u serial %llu depth %u\n", l.threads, l.actions, (unsigned long long)l.peak, l.depth);
+}
+
+static int tablecheck(void) {
+    Loaded l = load(input, read_all());
+    if (l.refusal.number) return refused(l.refusal.number, l.refusal.place);
+    table_line(l);
+    return 0;
+}
+
+static Run run;
+
+static int turnlist(void) {
+    size_t length = read_all();
+    if (length < 6) return refused(33, 0);
+    size_t turns = word(input, 4);
+    if (ORDER < turns || length < 6 + turns) return refused(33, 0);
+    Loaded l = begin(&run, input + 6 + turns, length - 6 - turns, input[0], number_at(input + 1, 3));
+    if (l.refusal.number) return refused(l.refusal.number, l.refusal.place);
+    table_line(l);
+    Report report = run_list(&run, input + 6, turns, true);
+    if (report.number) return refused(report.number, 0);
+    printf("%s %llu peak %llu\n", report.finished ? "done" : "open", (unsigned long long)report.turns, (unsigned long long)run.highest);
+    return 0;
+}
+
+static void rounds_line(Report report) {
+    printf("%s %llu peak %llu held %llu\n", report.finished ? "finished" : "spent", (unsigned long long)report.turns,
+           (unsigned long long)run.highest, (unsigned long long)run.held);
+}
+
+static int runrounds(void) {
+    size_t length = read_all();
+    if (length < 8) return refused(33, 0);
+    Loaded l = begin(&run, input + 8, length - 8, input[0], number_at(input + 1, 3));
+    if (l.refusal.number) return refused(l.refusal.number, l.refusal.place);
+    Report report = run_rounds(&run, number_at(input + 4, 4));
+    if (report.number) return refused(report.number, 0);
+    rounds_line(report);
+    return 0;
+}
+
+// Does a call again and again: 'l' loading, 'r' a run in rounds of L turns from the beginning, 's' a single turn of worker 0 on the record
+// after L turns. What a call is given depends on the total so far, so that none can be left out.
+static int repeat(void) {
+    size_t length = read_all();
+    if (length < 13) return refused(33, 0);
+    uint8_t mode = input[0];
+    uint32_t count = number_at(input + 1, 4), quota = number_at(input + 6, 3), limit = number_at(input + 9, 4);
+    const uint8_t *table = input + 13;
+    static Run copy;
+    uint64_t total = 0;
+    begin(&run, table, length - 13, input[5], quota);
+    if (mode == 's') run_rounds(&run, limit);
+    for (uint32_t i = 0; i < count; i++) {
+        bool never = total == UINT64_MAX;
+        if (mode == 'l') {
+            Loaded l = load(table, never ? 0 : length - 13);
+            total += l.refusal.number ? l.refusal.number : l.depth;
+        } else {
+            copy = run;
+            if (mode == 's') {
+                Turned t = turn(&copy, never);
+                total += t.number ? t.number : 1 + (uint64_t)t.reply.what;
+            } else {
+                Report report = run_rounds(&copy, never ? 0 : limit);
+                total += report.number ? report.number : report.turns;
+            }
+        }
+    }
+    printf("%c %u %llu\n", mode, count, (unsigned long long)total);
+    return 0;
+}
+
+int main(int argc, char **argv) {
+    const char *name = argc == 2 ? argv[1] : "";
+    if (!strcmp(name, "tablecheck")) return tablecheck();
+    if (!strcmp(name, "turnlist")) return turnlist();
+    if (!strcmp(name, "runrounds")) return runrounds();
+    if (!strcmp(name, "repeat")) return repeat();
+    fprintf(stderr, "usage: baseline tablecheck | turnlist | runrounds | repeat\n");
+    return 2;
+}

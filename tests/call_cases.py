@@ -1,0 +1,255 @@
+"""Writes the stored input and output of crates/call_cases: calls on records, also changed by hand, with the answer expected of each.
+
+A record's form is told in crates/call_cases/src/main.rt. The answers of the named cases are written down here by hand and held against
+machine.py; those of the random sample, and what the record then holds, are the model's.
+"""
+import copy
+import functools
+import pathlib
+import random
+
+import machine
+from cases import LARGEST, alloc, end, free, least, parent, work
+from machine import ENDED, HELD, LAST_TURN, READY, WAITING
+from tables import drawn, table
+
+FIELDS = ['length', 'p', 'quota', 'listed', 'busy', 'held', 'highest', 'turns', 'table', 'next', 'status', 'list']
+WORKER = ['holds', 'thread', 'quota']
+E = table(parent(1, 2), [alloc(6), work, free(6), end], [alloc(6), free(6), end])
+
+
+def turn(w):
+    return b't' + bytes([w])
+
+
+def order(*row):
+    return b'l' + bytes([len(row)]) + bytes(row)
+
+
+def rounds(limit):
+    return b'r' + limit.to_bytes(4, 'little')
+
+
+def put(field, value, place=0, worker=False):
+    number = len(FIELDS) + WORKER.index(field) if worker else FIELDS.index(field)
+    return b'p' + bytes([number]) + place.to_bytes(2, 'little') + value.to_bytes(8, 'little')
+
+
+def changed(run, call):
+    run, number = copy.deepcopy(run), call[1]
+    place, value = int.from_bytes(call[2:4], 'little'), int.from_bytes(call[4:], 'little')
+    if number >= len(FIELDS):
+        setattr(run.worker[place], WORKER[number - len(FIELDS)], value)
+    elif FIELDS[number] == 'table':
+        run.table = run.table[:place] + bytes([value]) + run.table[place + 1:]
+    elif FIELDS[number] in ('next', 'status', 'list'):
+        getattr(run, FIELDS[number])[place] = value
+    else:
+        setattr(run, FIELDS[number], value)
+    return 'changed', run
+
+
+def called(run, call):
+    """What the model answers, as text, and the record."""
+    if call[:1] == b'p':
+        return changed(run, call)
+    if call[:1] == b't':
+        answer, run = machine.turn(run, call[1])
+    elif call[:1] == b'l':
+        answer, run = machine.run_list(run, call[2:])
+    else:
+        answer, run = machine.run_rounds(run, int.from_bytes(call[1:], 'little'))
+    return ' '.join(map(str, answer)), run
+
+
+def mix(total, numbers):
+    for x in numbers:
+        total = (3 * total + x) % 2**64
+    return total
+
+
+@functools.lru_cache
+def mixed_table(data):
+    return mix(0, data)
+
+
+def mixed(run):
+    """The whole record in one number, as the program has it."""
+    threads = [x for row in zip(run.next, run.status, run.list) for x in row]
+    workers = [x for w in run.worker for x in (int(w.holds), w.thread, w.quota)]
+    amounts = [run.length, run.p, run.quota, run.listed, run.busy, run.held, run.highest, run.turns]
+    return mix(mixed_table(run.table), threads + workers + amounts)
+
+
+def told(answer, run):
+    return '%s, held %d highest %d turns %d record %d\n' % (answer, run.held, run.highest, run.turns, mixed(run))
+
+
+FIVE = order(0, 1, 0, 2, 0)  # of E with p 3: thread 0 waits for 2, threads 1 and 2 are held, 12 units too
+WAY = [put('turns', LAST_TURN - 1)]
+
+
+def unsound(label, *puts):
+    """After some change every call gets 32, with a worker not below p, an empty list and a limit of 0 too."""
+    n = len(puts)
+    return ('not sound: ' + label, (3, 6, E), [FIVE, *puts, turn(0), turn(9), order(), order(1), rounds(0), rounds(9)],
+            ['spent 5'] + ['changed'] * n + ['refused 32 0'] * 2 + ['refused 0 32 0'] * 4)
+
+
+def as_sound(label, *puts):
+    return ('sound: ' + label, (3, 6, E), [FIVE, *puts, turn(99), order()], ['spent 5'] + ['changed'] * len(puts) + ['refused 30 0', 'spent 0'])
+
+
+CASES = [
+    ('the listing by single turns', (2, 6, E), [turn(w) for w in [0, 1] * 7] + [turn(0), turn(2), order(9), rounds(0), rounds(5)],
+     ['done 0 0', 'done 1 5', 'done 0 1', 'done 1 6', 'done 2 9', 'done 1 7', 'done 2 10', 'done 1 8', 'done 2 11', 'done 0 2', 'idle', 'done 0 3', 'idle',
+      'done 0 4', 'refused 31 0', 'refused 30 0', 'finished 0', 'finished 0', 'finished 0']),
+    ('the last turn says wait', (2, 6, E), [order(0, 1, 0, 1, 1, 1, 1), turn(0), turn(2)], ['spent 7', 'wait 0 2', 'refused 30 0']),
+    ('quota', (1, 6, table([alloc(4), alloc(4), end])), [turn(0)] * 4, ['done 0 0', 'quota 0 4', 'done 0 1', 'done 0 2']),
+    ('a list stopped by 30 goes on after it', (2, 6, E), [order(0, 1, 9, 0), turn(0), rounds(99)], ['refused 2 30 0', 'done 0 1', 'finished 11']),
+    ('rounds begin at worker 0 again', (3, 6, E), [rounds(1), rounds(1), turn(1), rounds(99)], ['spent 1', 'spent 1', 'done 0 1', 'finished 15']),
+    ('L 0', (2, 6, E), [rounds(0), order(), rounds(99)], ['spent 0', 'spent 0', 'finished 14']),
+    ('K above its range', (2, LARGEST + 1, E), [turn(0)], ['refused 30 0']),
+    ('blank', (17, 6, E), [turn(0), turn(255), rounds(0), rounds(7), order(0), order()],
+     ['refused 30 0'] * 2 + ['refused 0 30 0'] * 3 + ['spent 0']),
+    ('blank but for one number', (1, 6, b''), [put('held', 1), turn(0), order(), rounds(0), put('held', 0), turn(0)],
+     ['changed', 'refused 32 0', 'refused 0 32 0', 'refused 0 32 0', 'changed', 'refused 30 0']),
+    ('the last turn but one', (2, 6, E), WAY + [turn(0), turn(0), order(), rounds(0)],
+     ['changed', 'done 0 0', 'refused 32 0', 'refused 0 32 0', 'refused 0 32 0']),
+    ('a run that reaches the last turn', (2, 6, E), WAY + [order(0, 9)], ['changed', 'refused 1 32 0']),
+    ('a run with nothing left there', (2, 6, E), WAY + [rounds(1)], ['changed', 'spent 1']),
+    ('the root ends there', (1, 1, least), WAY + [rounds(9), rounds(0)], ['changed', 'finished 1', 'refused 0 32 0']),
+    ('not sound and the root ended', (1, 1, least), [turn(0), put('held', 1), turn(0), order(), rounds(0)],
+     ['done 0 0', 'changed', 'refused 32 0', 'refused 0 32 0', 'refused 0 32 0']),
+    unsound('a table that fails', put('table', 6, 16)),
+    unsound('a table too short', put('length', 63)),
+    unsound('a table too long', put('length', 65535)),
+    unsound('p 0', put('p', 0)),
+    unsound('p 17', put('p', 17)),
+    unsound('p below a worker that holds', put('p', 2)),
+    unsound('K 0', put('quota', 0)),
+    unsound('K out of range', put('quota', LARGEST + 1)),
+    unsound('an alloc above K', put('quota', 5)),
+    unsound('a next action in another body', put('next', 9, 1)),
+    unsound('a next action before its body', put('next', 8, 2)),
+    unsound('a next action past all bodies', put('next', 65535, 0)),
+    unsound('a join done before the child', put('next', 4, 0), put('status', READY, 0)),
+    unsound('an action undone that others need', put('next', 1, 0), put('status', READY, 0)),
+    unsound('a status that is none', put('status', 5, 1)),
+    unsound('a forked thread unborn', put('status', 0, 1)),
+    unsound('a thread ended early', put('status', ENDED, 1)),
+    unsound('a list out of order', put('list', 2, 0), put('list', 1, 1)),
+    unsound('a thread missing', put('listed', 2)),
+    unsound('a thread twice', put('listed', 4), put('list', 2, 1), put('list', 2, 2)),
+    unsound('a thread not there', put('listed', 4), put('list', 3, 3)),
+    unsound('too long a list', put('listed', 1025)),
+    unsound('held with no worker', put('status', HELD, 0)),
+    unsound('waiting elsewhere', put('status', WAITING, 1), put('holds', 0, 1, True), put('thread', 0, 1, True), put('quota', 0, 1, True), put('busy', 4)),
+    unsound('two workers on a thread', put('holds', 1, 0, True), put('thread', 1, 0, True), put('busy', 7)),
+    unsound('a worker on a ready thread', put('status', READY, 2)),
+    unsound('a worker from p on', put('holds', 1, 3, True), put('busy', 14)),
+    unsound('a worker from p on, its thread held', put('holds', 1, 3, True), put('busy', 14), put('status', HELD, 0)),
+    unsound('a bit too many', put('busy', 14)),
+    unsound('a bit too few', put('busy', 2)),
+    unsound('a quota above K', put('quota', 7, 1, True)),
+    unsound('less memory held', put('held', 11)),
+    unsound('more memory held', put('held', 13), put('highest', 13)),
+    unsound('a highest below', put('highest', 11)),
+    unsound('a byte past the table', put('table', 1, 36867)),
+    unsound('the first byte past the table', put('table', 1, len(E))),
+    unsound('a list place not in use', put('list', 1, 1023)),
+    unsound('a thread from n on, its next', put('next', 1, 3)),
+    unsound('a thread from n on, its status', put('status', READY, 1023)),
+    unsound('a quota with nothing held', put('quota', 1, 0, True)),
+    unsound('a thread with nothing held', put('thread', 1, 15, True)),
+    unsound('turns at the end', put('turns', LAST_TURN)),
+    as_sound('a thread at a join of a child not ended, ready', put('status', READY, 0)),
+    as_sound('that thread held', put('status', HELD, 0), put('holds', 1, 0, True), put('busy', 7)),
+    as_sound('a larger highest', put('highest', LAST_TURN)),
+    as_sound('another quota left', put('quota', 6, 1, True)),
+    as_sound('a larger K', put('quota', LARGEST)),
+    as_sound('a larger p', put('p', 16)),
+    as_sound('other turns', put('turns', LAST_TURN - 1)),
+]
+
+
+def random_put(rng, run):
+    """A change of something in use, often by little."""
+    n = machine.word(run.table, 0)
+    field = rng.choice(FIELDS + WORKER)
+    near = lambda x, most: max(0, min(most, x + rng.choice([-1, 1, rng.randint(-9, 9)])))
+    if field in WORKER and rng.random() < 0.7 or field in ('holds', 'thread'):
+        w = rng.randrange(min(16, run.p + 1))
+        return put(field, {'holds': rng.randrange(2), 'thread': rng.randrange(n + 1)}.get(field, near(run.worker[w].quota, 99)), w, True)
+    if field in ('next', 'list'):
+        t = rng.randrange(n if rng.random() < 0.9 else 1024)
+        return put(field, near(getattr(run, field)[t], 9999), t)
+    if field == 'status':
+        return put(field, rng.randrange(6), rng.randrange(n + 1))
+    if field == 'table':
+        i = rng.randrange(run.length if rng.random() < 0.9 else machine.BYTES)
+        return put(field, near(run.table[i], 255), i)
+    return put(field, near(getattr(run, field), 255), 0)
+
+
+def random_case(rng):
+    """A run, some turns, a change or two, and a call of each sort."""
+    threads = rng.randint(1, 6)
+    data = drawn(rng, threads, rng.randint(threads, 4 * threads), [3, 9])
+    p, quota = rng.randint(1, 4), rng.randint(9, 14)
+    run = machine.begin(data, p, quota)[1]
+    calls = [order(*(rng.randrange(p) for _ in range(rng.randint(1, 40))))]
+    run = called(run, calls[0])[1]
+    for _ in range(rng.choice([1, 1, 2])):
+        calls.append(random_put(rng, run))
+        run = called(run, calls[-1])[1]
+    calls += [turn(rng.randrange(p)), rounds(rng.randint(0, 9)), order(0, rng.randrange(p), rng.randrange(p + 1))]
+    return (p, quota, data), calls
+
+
+def record(label, beginning, calls):
+    p, quota, case = beginning
+    head = bytes([len(label)]) + label.encode() + bytes([p]) + quota.to_bytes(4, 'little') + len(case).to_bytes(3, 'little')
+    return head + case + b''.join(calls) + b'\0'
+
+
+def parts(data):
+    """A record taken apart: label, p, K, table and calls."""
+    at = 1 + data[0]
+    table_at = at + 8
+    calls_at = table_at + int.from_bytes(data[at + 5:table_at], 'little')
+    calls, i = [], calls_at
+    while data[i]:
+        length = {b't': 2, b'l': 2 + data[i + 1], b'r': 5, b'p': 12}[data[i:i + 1]]
+        calls.append(data[i:i + length])
+        i += length
+    return data[1:at].decode(), data[at], int.from_bytes(data[at + 1:at + 5], 'little'), data[table_at:calls_at], calls
+
+
+def answers(data):
+    """The model's answers to the calls, and the text that the program is to print."""
+    label, p, quota, case, calls = parts(data)
+    answer, run = machine.begin(case, p, quota)
+    text, found = label + ': ' + told(answer if answer == 'begun' else ' '.join(map(str, answer)), run), []
+    for call in calls:
+        answer, run = called(run, call)
+        found.append(answer)
+        text += told(answer, run)
+    return found, text
+
+
+def main():
+    rng = random.Random(2)
+    for label, beginning, calls, expected in CASES:
+        found = answers(record(label, beginning, calls))[0]
+        if found != expected:
+            raise SystemExit('%s: expected\n%s\nthe model says\n%s' % (label, expected, found))
+    records = [record(*case[:3]) for case in CASES] + [record('random %d' % i, *random_case(rng)) for i in range(1, 201)]
+    folder = pathlib.Path(__file__).parent.parent / 'crates' / 'call_cases'
+    (folder / 'stdin').write_bytes(b''.join(records))
+    (folder / 'stdout').write_text(''.join(answers(data)[1] for data in records))
+    print('%d named cases and %d random ones' % (len(CASES), len(records) - len(CASES)))
+
+
+if __name__ == '__main__':
+    main()
