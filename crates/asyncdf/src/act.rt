@@ -28,15 +28,15 @@ pub(crate) struct Stepped {
     pub(crate) totals: Totals,
 }
 
-// A worker that holds nothing: every end of a batch goes through here.
-pub(crate) fn release() -> Worker
+// "w is released": every end of a batch goes through here.
+fn release(worker: Worker) -> Worker
     ensures { λ r. ⌜ r ≡ nobody ⌝ }
 {
-    Worker {
-        holds: false,
-        thread: 0,
-        quota: 0,
-    }
+    let mut worker = worker;
+    worker.holds = false;
+    worker.thread = 0;
+    worker.quota = 0;
+    worker
 }
 
 fn larger(a: u64, b: u64) -> u64
@@ -64,7 +64,7 @@ fn act_alloc(
         status[t] = 1;
         return Stepped {
             reply: Reply::Quota { thread, wanted: x },
-            worker: release(),
+            worker: release(worker),
             totals,
         };
     }
@@ -132,7 +132,7 @@ fn act_fork(
     status[child] = 1;
     Stepped {
         reply: Reply::Done { thread, action: a },
-        worker: release(),
+        worker: release(worker),
         totals: Totals {
             listed: len + 1,
             held: totals.held,
@@ -168,7 +168,7 @@ fn act_join(
     status[t] = 3;
     Stepped {
         reply: Reply::Wait { thread, child: c },
-        worker: release(),
+        worker: release(worker),
         totals,
     }
 }
@@ -220,7 +220,7 @@ fn act_end(
     wake(table, n, next, status, u, t);
     Stepped {
         reply: Reply::Done { thread, action: a },
-        worker: release(),
+        worker: release(worker),
         totals: Totals {
             listed: len - 1,
             held: totals.held,
