@@ -11,13 +11,13 @@ use Rattle.table.specs.Rules.{openBefore, joinNotLatest, endWithOpen, neverFork
 use Rattle.table.specs.Serial.{serialWithin, fronts, heldAfter, peakOf, S1}
 use Rattle.table.specs.Level.{forkBelow, forkOf, beforeIt, joinedEnd, dependsOn, levelWithin, D}
 use Rattle.table.specs.Load.{loaded, factsOf}
-use Rattle.table.specs.Cases.{E, bytes16}
+use Rattle.table.specs.Cases.{E, twoAllocs, bytes16}
 use Rattle.text.specs.Text.{digitsOf, decimal, acceptedLine, refusedLine}
 use Rattle.schedule.specs.Machine.{leftOf, without, waitsFor, woken, actBy, act, leftmost, taken, turnFree, turnOf}
 use Rattle.schedule.specs.Record.{setOf}
 use Rattle.schedule.specs.Begin.{allocAbove, firsts, startState, startRun, begin}
 use Rattle.schedule.specs.Turn.{rootEnded, noWorker, stepRun}
-use Rattle.schedule.specs.Cases.{turnedSound, orderE}
+use Rattle.schedule.specs.Cases.{turnedSound, orderE, orderWait}
 use Rattle.listing.specs.Lines.{kindWord, toldTexts, turnTexts, lastTexts, linesThen}
 use Rattle.listing.specs.Listing.{inputWrong, listedBy, listingBy}
 
@@ -69,9 +69,72 @@ linesOfE =
     ∷ 100 ∷ 111 ∷ 110 ∷ 101 ∷ 32 ∷ 49 ∷ 52 ∷ 32 ∷ 112 ∷ 101 ∷ 97 ∷ 107 ∷ 32 ∷ 49 ∷ 50 ∷ 10
     ∷ []
 
+-- the listing of E for p 2, K 6 and the order 0 1 0 1 1 1 1, before its last line
+abbrev pub linesBefore : List ℕ
+linesBefore =
+    -- table 3 12 serial 6 depth 8
+    116 ∷ 97 ∷ 98 ∷ 108 ∷ 101 ∷ 32 ∷ 51 ∷ 32 ∷ 49 ∷ 50 ∷ 32 ∷ 115 ∷ 101 ∷ 114 ∷ 105 ∷ 97 ∷ 108 ∷ 32 ∷ 54 ∷ 32 ∷ 100 ∷ 101 ∷ 112 ∷ 116 ∷ 104 ∷ 32 ∷ 56 ∷ 10
+    -- 1 0 0 0 fork 0
+    ∷ 49 ∷ 32 ∷ 48 ∷ 32 ∷ 48 ∷ 32 ∷ 48 ∷ 32 ∷ 102 ∷ 111 ∷ 114 ∷ 107 ∷ 32 ∷ 48 ∷ 10
+    -- 2 1 1 5 alloc 6
+    ∷ 50 ∷ 32 ∷ 49 ∷ 32 ∷ 49 ∷ 32 ∷ 53 ∷ 32 ∷ 97 ∷ 108 ∷ 108 ∷ 111 ∷ 99 ∷ 32 ∷ 54 ∷ 10
+    -- 3 0 0 1 fork 6
+    ∷ 51 ∷ 32 ∷ 48 ∷ 32 ∷ 48 ∷ 32 ∷ 49 ∷ 32 ∷ 102 ∷ 111 ∷ 114 ∷ 107 ∷ 32 ∷ 54 ∷ 10
+    -- 4 1 1 6 work 6
+    ∷ 52 ∷ 32 ∷ 49 ∷ 32 ∷ 49 ∷ 32 ∷ 54 ∷ 32 ∷ 119 ∷ 111 ∷ 114 ∷ 107 ∷ 32 ∷ 54 ∷ 10
+    -- 5 1 1 7 free 0
+    ∷ 53 ∷ 32 ∷ 49 ∷ 32 ∷ 49 ∷ 32 ∷ 55 ∷ 32 ∷ 102 ∷ 114 ∷ 101 ∷ 101 ∷ 32 ∷ 48 ∷ 10
+    -- 6 1 1 8 end 0
+    ∷ 54 ∷ 32 ∷ 49 ∷ 32 ∷ 49 ∷ 32 ∷ 56 ∷ 32 ∷ 101 ∷ 110 ∷ 100 ∷ 32 ∷ 48 ∷ 10
+    -- 7 1 2 9 alloc 6
+    ∷ 55 ∷ 32 ∷ 49 ∷ 32 ∷ 50 ∷ 32 ∷ 57 ∷ 32 ∷ 97 ∷ 108 ∷ 108 ∷ 111 ∷ 99 ∷ 32 ∷ 54 ∷ 10
+    ∷ []
+
+-- worker 0 comes next
+abbrev pub endsWaiting : List ℕ
+endsWaiting =
+    -- 8 0 0 2 wait 6
+    56 ∷ 32 ∷ 48 ∷ 32 ∷ 48 ∷ 32 ∷ 50 ∷ 32 ∷ 119 ∷ 97 ∷ 105 ∷ 116 ∷ 32 ∷ 54 ∷ 10
+    -- open 8 peak 6
+    ∷ 111 ∷ 112 ∷ 101 ∷ 110 ∷ 32 ∷ 56 ∷ 32 ∷ 112 ∷ 101 ∷ 97 ∷ 107 ∷ 32 ∷ 54 ∷ 10
+    ∷ []
+
+-- worker 2 comes next
+abbrev pub endsRefused : List ℕ
+endsRefused =
+    -- refused 30 0
+    114 ∷ 101 ∷ 102 ∷ 117 ∷ 115 ∷ 101 ∷ 100 ∷ 32 ∷ 51 ∷ 48 ∷ 32 ∷ 48 ∷ 10
+    ∷ []
+
+-- alloc 4, alloc 4, end for p 1, K 6 and the order 0 0
+abbrev pub linesQuota : List ℕ
+linesQuota =
+    -- table 1 3 serial 8 depth 3
+    116 ∷ 97 ∷ 98 ∷ 108 ∷ 101 ∷ 32 ∷ 49 ∷ 32 ∷ 51 ∷ 32 ∷ 115 ∷ 101 ∷ 114 ∷ 105 ∷ 97 ∷ 108 ∷ 32 ∷ 56 ∷ 32 ∷ 100 ∷ 101 ∷ 112 ∷ 116 ∷ 104 ∷ 32 ∷ 51 ∷ 10
+    -- 1 0 0 0 alloc 4
+    ∷ 49 ∷ 32 ∷ 48 ∷ 32 ∷ 48 ∷ 32 ∷ 48 ∷ 32 ∷ 97 ∷ 108 ∷ 108 ∷ 111 ∷ 99 ∷ 32 ∷ 52 ∷ 10
+    -- 2 0 0 1 quota 4
+    ∷ 50 ∷ 32 ∷ 48 ∷ 32 ∷ 48 ∷ 32 ∷ 49 ∷ 32 ∷ 113 ∷ 117 ∷ 111 ∷ 116 ∷ 97 ∷ 32 ∷ 52 ∷ 10
+    -- open 2 peak 4
+    ∷ 111 ∷ 112 ∷ 101 ∷ 110 ∷ 32 ∷ 50 ∷ 32 ∷ 112 ∷ 101 ∷ 97 ∷ 107 ∷ 32 ∷ 52 ∷ 10
+    ∷ []
+
+-- E with an empty order
+abbrev pub notBegun : List ℕ
+notBegun =
+    -- table 3 12 serial 6 depth 8
+    116 ∷ 97 ∷ 98 ∷ 108 ∷ 101 ∷ 32 ∷ 51 ∷ 32 ∷ 49 ∷ 50 ∷ 32 ∷ 115 ∷ 101 ∷ 114 ∷ 105 ∷ 97 ∷ 108 ∷ 32 ∷ 54 ∷ 32 ∷ 100 ∷ 101 ∷ 112 ∷ 116 ∷ 104 ∷ 32 ∷ 56 ∷ 10
+    -- open 0 peak 0
+    ∷ 111 ∷ 112 ∷ 101 ∷ 110 ∷ 32 ∷ 48 ∷ 32 ∷ 112 ∷ 101 ∷ 97 ∷ 107 ∷ 32 ∷ 48 ∷ 10
+    ∷ []
+
 -- "refused 22 5"
 abbrev pub refused22 : List ℕ
 refused22 = 114 ∷ 101 ∷ 102 ∷ 117 ∷ 115 ∷ 101 ∷ 100 ∷ 32 ∷ 50 ∷ 50 ∷ 32 ∷ 53 ∷ 10 ∷ []
+
+-- "refused 1 0"
+abbrev pub refused1 : List ℕ
+refused1 = 114 ∷ 101 ∷ 102 ∷ 117 ∷ 115 ∷ 101 ∷ 100 ∷ 32 ∷ 49 ∷ 32 ∷ 48 ∷ 10 ∷ []
 
 -- "refused 33 0"
 abbrev pub refused33 : List ℕ
@@ -82,10 +145,21 @@ unfolding codeOf
 cases =
     -- "For p 2, K 6, the order 0, 1 given seven times, and table E below it prints"
     prints (inputOf 2 6 orderE E) linesOfE
-    -- "Refusals 1 to 22 and 33 are the only line"
+    -- the run stops at the root's end, whatever is left of the order
+    ∷ prints (inputOf 2 6 (orderE ++ (0 ∷ [])) E) linesOfE
+    -- "A quota or wait line names the action not done."
+    ∷ prints (inputOf 2 6 (orderWait ++ (0 ∷ [])) E) (linesBefore ++ endsWaiting)
+    ∷ prints (inputOf 1 6 (0 ∷ 0 ∷ []) twoAllocs) linesQuota
+    -- "30 comes after the header and the turns before it"
+    ∷ prints (inputOf 2 6 (orderWait ++ (2 ∷ [])) E) (linesBefore ++ endsRefused)
+    ∷ prints (inputOf 2 6 [] E) notBegun
+    -- "Refusals 1 to 22 and 33 are the only line"; "Order of checks: 33, table, beginning, turns."
     ∷ prints (inputOf 2 5 orderE E) refused22
-    -- "input under 6 bytes"
+    ∷ prints (inputOf 0 0 [] []) refused1
+    -- "input under 6 bytes, order above 4,096, or fewer bytes than the order"
     ∷ prints (2 ∷ 6 ∷ 0 ∷ 0 ∷ 0 ∷ []) refused33
+    ∷ prints (2 ∷ 6 ∷ 0 ∷ 0 ∷ bytes16 4097) refused33
+    ∷ prints (2 ∷ 6 ∷ 0 ∷ 0 ∷ bytes16 1) refused33
     ∷ []
 
 -- every row's input has the row's text; turns are those of a sound record, which they are on every row (`listings-worked`, proofs/Worked)
