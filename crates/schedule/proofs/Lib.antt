@@ -49,3 +49,4 @@ pub mod FrontParts
 pub mod Limit
 -- the worked cases
 pub mod CaseLaws
+pub mod Wrong
