@@ -13,7 +13,7 @@ use Rattle.schedule.specs.declared.Turned.{Turned}
 use Rattle.schedule.specs.declared.Turning.{Turning}
 use Rattle.schedule.specs.declared.Turning.the-variants.{Taken, Refused}
 use Rattle.schedule.specs.Turn.{rootEnded, turned}
-use Rattle.schedule.specs.Cases.{line, toldBy, lastOf, turnsBy}
+use Rattle.schedule.specs.Listing.{line, toldBy, lastOf, turnsBy}
 use Rattle.listing.specs.Lines.{turnTexts, lastTexts, linesThen, textsOf, refusedTexts}
 use Rattle.listing.specs.Puts.{Puts}
 use Rattle.listing.proofs.Putting.{puts-within, puts-more}

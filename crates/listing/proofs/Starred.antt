@@ -6,7 +6,8 @@ use Rattle.table.specs.Load.{Values, valuesOf, loaded}
 use Rattle.table.specs.Cases.{Case as TableCase}
 use Rattle.table.specs.Cases.{cases as tableCases, worked as tables-worked}
 use Rattle.schedule.specs.Turn.{turned}
-use Rattle.schedule.specs.Cases.{Listing, Case, never, ranBy}
+use Rattle.schedule.specs.Listing.{Listing}
+use Rattle.schedule.specs.Cases.{Case, never, ranBy}
 use Rattle.schedule.specs.Cases.{cases as runCases}
 use Rattle.schedule.specs.Rule.{Measures, RowCase, measured, rowCases, rows-worked}
 use Rattle.schedule.proofs.CaseLaws.{worked-turned}

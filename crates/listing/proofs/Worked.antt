@@ -15,7 +15,8 @@ use Rattle.schedule.specs.declared.Beginning.the-variants.{Begun as started}
 use Rattle.schedule.specs.declared.Beginning.the-variants.{Refused as refusedBeginning}
 use Rattle.schedule.specs.Begin.{begin}
 use Rattle.schedule.specs.Turn.{rootEnded, turned}
-use Rattle.schedule.specs.Cases.{Listing, turnsBy, turnedSound}
+use Rattle.schedule.specs.Listing.{Listing, turnsBy}
+use Rattle.schedule.specs.Cases.{turnedSound}
 use Rattle.schedule.proofs.CaseLaws.{begun-turned}
 use Rattle.listing.specs.Lines.{textsOf}
 use Rattle.listing.specs.Listing.{workersIn, quotaIn, orderLength, orderIn, tableAfter, inputWrong, headed, listedBy, wrongInput, listingBy, listingOf}

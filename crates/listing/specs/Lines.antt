@@ -9,7 +9,7 @@ use Rattle.schedule.specs.declared.Turning.{Turning}
 use Rattle.schedule.specs.declared.Turning.the-variants.{Taken, Refused as refusedTurn}
 use Rattle.schedule.specs.declared.Report.{Report}
 use Rattle.schedule.specs.declared.Report.the-variants.{Finished, Spent, Refused}
-use Rattle.schedule.specs.Cases.{Told, idle, did, quota, wait, Line, Last, done, notDone, refused, Listing}
+use Rattle.schedule.specs.Listing.{Told, idle, did, quota, wait, Line, Last, done, notDone, refused, Listing}
 
 -- texts put one after another
 abbrev pub putAll : Buffer → List (List ℕ) → Buffer

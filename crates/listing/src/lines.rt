@@ -14,7 +14,7 @@ ghost use mathlib.Core.List.{List, [], _∷_};
 ghost use lib.ListN.{length};
 ghost use Rattle.table.specs.Format.{kindOf};
 ghost use Rattle.text.specs.Text.{lineOf};
-ghost use Rattle.schedule.specs.Cases.{line, toldBy, lastOf};
+ghost use Rattle.schedule.specs.Listing.{line, toldBy, lastOf};
 ghost use Rattle.listing.specs.Lines.{kindWord, pairTexts, toldTexts, turnTexts, totalsTexts, lastTexts, refusedTexts};
 ghost use Rattle.listing.specs.Puts.{Puts};
 

@@ -11,7 +11,7 @@ use table::Loaded;
 ghost use Prim.Native.Nat.{_+_, _*_};
 ghost use lib.ListN.{length};
 ghost use Rattle.schedule.specs.Turn.{rootEnded, turned as turnedOf};
-ghost use Rattle.schedule.specs.Cases.{turnsBy};
+ghost use Rattle.schedule.specs.Listing.{turnsBy};
 ghost use Rattle.listing.specs.Lines.{textsOf};
 ghost use Rattle.listing.specs.Listing.{listedBy};
 ghost use Rattle.listing.specs.Puts.{Puts};

@@ -4,8 +4,8 @@ use Prim.Native.Nat.{ℕ}
 use mathlib.Core.List.{List, [], _∷_, _++_, map}
 use mathlib.Core.Bool.{Bool, false}
 use lib.ListN.{replicate}
-use Rattle.table.specs.Sum.{pick, sumTo, anyBelow}
-use Rattle.table.specs.Format.{Kind, end, work, alloc, free, fork, join, codeOf, kindOf, is, kind, tableOf}
+use Rattle.table.specs.Sum.{sumTo, anyBelow}
+use Rattle.table.specs.Format.{end, work, alloc, free, fork, join, codeOf, kindOf, is, tableOf}
 use Rattle.table.specs.Pass.{Check, tryAt, tryFrom, tryPass, firstFound}
 use Rattle.table.specs.Rules.{entryWrong, totalWrong, ownerBelow, kindUnknown, argumentWrong, endMisplaced, forkedBelow, forkedBefore}
 use Rattle.table.specs.Rules.{openBefore, joinNotLatest, endWithOpen, neverForked, allocOf, freeOf, wholeWithin, balance, balanceBelow0, passes}
@@ -17,64 +17,13 @@ use Rattle.schedule.specs.declared.Beginning.{Beginning}
 use Rattle.schedule.specs.declared.Beginning.the-variants.{Begun as started}
 use Rattle.schedule.specs.declared.Beginning.the-variants.{Refused as refusedBeginning}
 use Rattle.schedule.specs.declared.Turned.{Turned}
-use Rattle.schedule.specs.declared.Turning.{Turning}
-use Rattle.schedule.specs.declared.Turning.the-variants.{Taken}
-use Rattle.schedule.specs.declared.Turning.the-variants.{Refused as refusedTurn}
-use Rattle.schedule.specs.declared.Reply.{Reply}
-use Rattle.schedule.specs.declared.Reply.the-variants.{Idle, Done, Quota, Wait}
-use Rattle.schedule.specs.Machine.{nextOf, leftOf, without, waitsFor, woken, actBy, act, leftmost, taken, turnFree, turnOf}
-use Rattle.schedule.specs.Record.{setOf, tableIn, stateOf}
+use Rattle.schedule.specs.Machine.{leftOf, without, waitsFor, woken, actBy, act, leftmost, taken, turnFree, turnOf}
+use Rattle.schedule.specs.Record.{setOf}
 use Rattle.schedule.specs.Begin.{allocAbove, firsts, startState, startRun, begin}
 use Rattle.schedule.specs.Turn.{rootEnded, noWorker, stepRun, turnedAs}
+use Rattle.schedule.specs.Listing.{idle, did, quota, wait, Line, line, Last, done, notDone, refused, Listing, listing, turnsBy}
 
--- ---- the listing of a run
-
--- what a turn says: nothing was done; the thread, its action and the action's kind; the thread and its action that was not done
-pub data Told : Type 0 where
-  idle : Told
-  did : ℕ → ℕ → Kind → Told
-  quota wait : ℕ → ℕ → Told
-
--- "Lines: turn from 1, worker, thread, action, the kind's name (or quota, wait, idle), held."
-pub record Line : Type 0 where
-  pub turn : ℕ
-  pub worker : ℕ
-  pub told : Told
-  pub held : ℕ
-
-abbrev pub line : ℕ → ℕ → Told → ℕ → Line
-line i w x h = record { turn = i; worker = w; told = x; held = h }
-
--- "Last: `done` or, with the root not ended, `open`, with turns and peak; or `refused`, number, place."
-pub data Last : Type 0 where
-  done notDone refused : ℕ → ℕ → Last
-
-pub record Listing : Type 0 where
-  pub lines : List Line
-  pub last : Last
-
-abbrev pub listing : List Line → Last → Listing
-listing l x = record { lines = l; last = x }
-
--- "A quota or wait line names the action not done": its thread's next one
-abbrev pub toldBy : Reply → Run → Told
-toldBy Idle r = idle
-toldBy (Done t a) r = did t a (kind (tableIn r) a)
-toldBy (Quota t x) r = quota t (nextOf (stateOf r) t)
-toldBy (Wait t c) r = wait t (nextOf (stateOf r) t)
-
-abbrev pub turnThen : Turning → ℕ → Run → Listing → Listing
-turnThen (Taken x) w r rest = listing (line (r .turns) w (toldBy x r) (r .held) ∷ rest .lines) (rest .last)
-turnThen (refusedTurn x) w r rest = listing [] (refused (x .number) (x .place))
-
--- the last line where no turn is refused
-abbrev pub lastOf : Run → Last
-lastOf r = pick (rootEnded r) (done (r .turns) (r .highest)) (notDone (r .turns) (r .highest))
-
--- turns of an order's workers, one after the other up to a refusal or to a record at which they stop
-abbrev pub turnsBy : (Run → Bool) → (Run → ℕ → Turned) → Run → List ℕ → Listing
-turnsBy stop turn r [] = listing [] (lastOf r)
-turnsBy stop turn r (w ∷ order) = pick (stop r) (listing [] (lastOf r)) (turnThen (turn r w .answer) w (turn r w .run) (turnsBy stop turn (turn r w .run) order))
+-- ---- runs from a beginning
 
 abbrev pub beginThen : Beginning → Listing → Listing
 beginThen started rest = rest

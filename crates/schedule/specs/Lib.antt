@@ -7,5 +7,6 @@ pub mod Runs
 pub mod Calls
 pub mod Memory
 pub mod Answers
+pub mod Listing
 pub mod Cases
 pub mod Rule

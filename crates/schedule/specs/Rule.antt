@@ -20,7 +20,8 @@ use Rattle.schedule.specs.Begin.{allocAbove, firsts, startState, startRu
 use Rattle.schedule.specs.Sound.{allIn}
 use Rattle.schedule.specs.Turn.{rootEnded, noWorker, stepRun}
 use Rattle.schedule.specs.Memory.{replies, sumReplies, memoryOf, frontRows, peakMemory, countIn, limit}
-use Rattle.schedule.specs.Cases.{Last, done, notDone, ranAs, orderE}
+use Rattle.schedule.specs.Listing.{Last, done, notDone}
+use Rattle.schedule.specs.Cases.{ranAs, orderE}
 
 -- ---- the test
 
