@@ -4,13 +4,13 @@ use native.Mathlib.Numerals.{add-one}
 use native.Mathlib.Omega.{arith}
 use mathlib.Core.Path.{_≡_, refl}
 use mathlib.Core.List.{List, [], _∷_, _++_}
-use mathlib.Core.Bool.{Bool, true, false}
+use mathlib.Core.Bool.{true, false}
 use lib.ListN.{length, getD, drop, drop-of-length-le}
 use lib.Seq.{drop-cons}
+use Rattle.table.specs.declared.Refusal.{Refusal}
 use Rattle.schedule.specs.declared.Run.{Run}
 use Rattle.schedule.specs.declared.Reply.{Reply}
 use Rattle.schedule.specs.declared.Turned.{Turned}
-use Rattle.schedule.specs.declared.Turning.{Turning}
 use Rattle.schedule.specs.declared.Turning.the-variants.{Taken, Refused}
 use Rattle.schedule.specs.Turn.{rootEnded, turned}
 use Rattle.schedule.specs.Listing.{line, toldBy, lastOf, turnsBy}
@@ -31,15 +31,16 @@ turns-ended r [] e = refl
 turns-ended r (w ∷ order) e = rw e
 
 module _ (r : Run) (w : ℕ) (order : List ℕ) (t : Turned) (going : rootEnded r ≡ false) (e : t ≡ turned r w) where
-  turns-refused : {a : Turning} → t .answer ≡ a → {x : _} → a ≡ Refused x → turnsFrom r (w ∷ order) ≡ refusedTexts a
+  turns-refused : {x : Refusal} → t .answer ≡ Refused x → turnsFrom r (w ∷ order) ≡ refusedTexts (t .answer)
   unfolding linesThen lastTexts
-  turns-refused q z = rw (going, ← e, q, z)
+  turns-refused q = rw (going, ← e, q)
 
   turns-taken : {x : Reply} → t .answer ≡ Taken x
       → turnsFrom r (w ∷ order) ≡ turnTexts (line (t .run .turns) w (toldBy x (t .run)) (t .run .held)) ++ turnsFrom (t .run) order
   unfolding linesThen
   turns-taken q = rw (going, ← e, q)
 
+-- what is put so far is whole with the rest, and at most 64 bytes for each turn
 pub record Inv (order out₀ : List ℕ) (at₀ : ℕ) (run₀ : Run) (out : List ℕ) (run : Run) (at i : ℕ) : Type 0 where
   pub within : i ≤ length order
   pub long : length out ≡ length out₀
@@ -50,21 +51,22 @@ module _ (order out : List ℕ) (at : ℕ) (run : Run) where
   start = record { within = omega arith; long = refl; rest = λ o r m p. puts-within (omega arith) p }
 
 module _ {order out₀ : List ℕ} {at₀ : ℕ} {run₀ : Run} {out : List ℕ} {run : Run} {at i : ℕ} (v : Inv order out₀ at₀ run₀ out run at i) where
-  whole : {o : List ℕ} {r : ℕ} {texts : List (List ℕ)} → i ≤ length order → turnsFrom run (drop i order) ≡ texts → Puts out at o r texts 64
+  whole : {o : List ℕ} {r : ℕ} {texts : List (List ℕ)} → turnsFrom run (drop i order) ≡ texts → Puts out at o r texts 64
       → Puts out₀ at₀ o r (turnsFrom run₀ order) (64 * (length order + 1))
-  whole {o} {r} h e p = puts-within (omega arith) (v .rest o r 64 (rw e p))
+  whole {o} {r} e p = puts-within (omega (arith, v .within)) (v .rest o r 64 (rw e p))
 
-  -- the root's end, or the order's
+  -- the root's end
   pub ended : {o : List ℕ} {r : ℕ} → rootEnded run ≡ true → Puts out at o r (lastTexts (lastOf run)) 64 → Puts out₀ at₀ o r (turnsFrom run₀ order) (64 * (length order + 1))
-  ended e p = whole (v .within) (turns-ended run (drop i order) e) p
+  ended e p = whole (turns-ended run (drop i order) e) p
 
+  -- the order's end
   pub exhausted : {o : List ℕ} {r : ℕ} → length order ≤ i → Puts out at o r (lastTexts (lastOf run)) 64 → Puts out₀ at₀ o r (turnsFrom run₀ order) (64 * (length order + 1))
-  exhausted h p = whole (v .within) (rw (drop-of-length-le order h) (turns-none run)) p
+  exhausted h p = whole (rw (drop-of-length-le order h) (turns-none run)) p
 
   -- a turn
   module _ {t : Turned} (h : i < length order) (going : rootEnded run ≡ false) (e : t ≡ turned run (getD order i 0)) where
-    pub refused : {o : List ℕ} {r : ℕ} {x : _} → t .answer ≡ Refused x → Puts out at o r (refusedTexts (t .answer)) 64 → Puts out₀ at₀ o r (turnsFrom run₀ order) (64 * (length order + 1))
-    refused q p = whole (v .within) (rw (drop-cons order i 0 h) (turns-refused run (getD order i 0) (drop (suc i) order) t going e refl q)) p
+    pub refused : {o : List ℕ} {r : ℕ} {x : Refusal} → t .answer ≡ Refused x → Puts out at o r (refusedTexts (t .answer)) 64 → Puts out₀ at₀ o r (turnsFrom run₀ order) (64 * (length order + 1))
+    refused q p = whole (rw (drop-cons order i 0 h) (turns-refused run (getD order i 0) (drop (suc i) order) t going e q)) p
 
     pub again : {o : List ℕ} {r : ℕ} {x : Reply} → t .answer ≡ Taken x → length o ≡ length out
         → Puts out at o r (turnTexts (line (t .run .turns) (getD order i 0) (toldBy x (t .run)) (t .run .held))) 64

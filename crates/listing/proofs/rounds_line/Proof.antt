@@ -55,7 +55,9 @@ put-rounds-requires c κs = search needs
 
 returns-2 : tie.Need-returns-2
 returns-2 c =
-    rounded (now (c .before .before .before .before .before .before .before .before .args .input)) (le-ltb _ _ (c .before .before .before .before .before .before .if1 .left)) (omega (arith, c .before .put-rounds-arg2 .given)) (c .before .before .before .before .byte .ensures) (c .before .before .before .quota-in .ensures) (c .before .before .limit-in .ensures) (c .put-rounds .ensures)
+    let d = c .before .before .before .before .before .before in
+    rounded (now (d .before .before .args .input)) (le-ltb _ _ (d .if1 .left)) (omega (arith, c .before .put-rounds-arg2 .given)) (c .before .before .before .before .byte .ensures) (c .before .before .before .quota-in .ensures)
+    (c .before .before .limit-in .ensures) (c .put-rounds .ensures)
 
 pub rounds-line-spec : {M : Type 1} → statement M
 rounds-line-spec =

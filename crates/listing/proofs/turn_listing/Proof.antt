@@ -32,6 +32,13 @@ module _ (s : List ℕ) {out o : List ℕ} {r : ℕ} where
       rw (rest-part s (6 + orderLength s), z) at (rw (en, ep, eK) at u) in
       rw h (written (omega (arith, l, k .0, length-take (orderLength s) (drop 6 s))) v)
 
+-- the input passed check 33
+passed : (c : tie.After-word) → inputWrong (now (c .before .before .before .before .args .input)) ≡ false
+passed c = rw (c .before .before .input-wrong .ensures) at (c .before .if1 .left)
+
+within : (c : tie.After-word) → 6 + c .word .result ≤ length (now (c .before .before .before .before .args .input))
+within c = omega (arith, right (now (c .before .before .before .before .args .input)) (passed c) .1, c .word .ensures .value)
+
 input-wrong-requires : tie.Need-input-wrong-requires
 input-wrong-requires c κs = search needs
 
@@ -39,7 +46,9 @@ put-wrong-requires : tie.Need-put-wrong-requires
 put-wrong-requires c κs = search needs
 
 returns : tie.Need-returns
-returns c = wrong (now (c .before .before .before .before .before .args .input)) (rw (c .before .before .before .input-wrong .ensures) at (c .before .before .if1 .taken)) (omega (arith, c .before .put-wrong-arg .given)) (c .put-wrong .ensures)
+returns c =
+    let d = c .before .before .before in
+    wrong (now (d .before .before .args .input)) (rw (d .input-wrong .ensures) at (c .before .before .if1 .taken)) (omega (arith, c .before .put-wrong-arg .given)) (c .put-wrong .ensures)
 
 word-requires : tie.Need-word-requires
 word-requires c κs = search needs
@@ -48,10 +57,10 @@ add-end : tie.Need-add-end
 add-end c = search needs
 
 sub-put-listing : tie.Need-sub-put-listing
-sub-put-listing c = omega (arith, right (now (c .before .before .before .before .args .input)) (rw (c .before .before .input-wrong .ensures) at (c .before .if1 .left)), c .word .ensures .value)
+sub-put-listing c = within c
 
 part-put-listing-start : tie.Need-part-put-listing-start
-part-put-listing-start c = omega (arith, right (now (c .before .before .before .before .args .input)) (rw (c .before .before .input-wrong .ensures) at (c .before .if1 .left)), c .word .ensures .value)
+part-put-listing-start c = within c
 
 part-put-listing-end : tie.Need-part-put-listing-end
 part-put-listing-end c = search needs
@@ -69,14 +78,15 @@ part-put-listing-start-2 : tie.Need-part-put-listing-start-2
 part-put-listing-start-2 c = search needs
 
 part-put-listing-end-2 : tie.Need-part-put-listing-end-2
-part-put-listing-end-2 c = omega (arith, right (now (c .before .before .before .before .before .before .before .args .input)) (rw (c .before .before .before .before .before .input-wrong .ensures) at (c .before .before .before .before .if1 .left)), c .before .before .before .word .ensures .value)
+part-put-listing-end-2 c = within (c .before .before .before)
 
 put-listing-requires : tie.Need-put-listing-requires
 put-listing-requires c κs = search needs
 
 returns-2 : tie.Need-returns-2
 returns-2 c =
-    listed (now (c .before .before .before .before .before .before .before .before .before .before .args .input)) (rw (c .before .before .before .before .before .before .before .before .input-wrong .ensures) at (c .before .before .before .before .before .before .before .if1 .left)) (omega (arith, c .before .put-listing-arg3 .given)) (c .before .before .before .before .before .before .word .ensures .value) (c .before .before .before .before .byte .ensures)
+    let d = c .before .before .before .before .before .before in
+    listed (now (d .before .before .before .before .args .input)) (passed d) (omega (arith, c .before .put-listing-arg3 .given)) (d .word .ensures .value) (c .before .before .before .before .byte .ensures)
     (c .before .before .before .quota-in .ensures) (c .put-listing .ensures)
 
 pub turn-listing-spec : {M : Type 1} → statement M

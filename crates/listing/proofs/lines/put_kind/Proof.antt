@@ -110,7 +110,8 @@ returns-7 : tie.Need-returns-7
 unfolding kindWord kindOf
 returns-7 c =
     let d = c .before .before .before .before .before .match .rest in
-    rw (kind-unknown (c .before .before .before .before .before .before .before .args .code) (omega (arith, d .1, d .0 .1, d .0 .0 .1, d .0 .0 .0 .1, d .0 .0 .0 .0 .1, d .0 .0 .0 .0 .0 .1))) (puts-within (omega arith) (puts-word (kindWord unknown) (c .before .before .put-word7 .ensures)))
+    let k : 6 ≤ c .before .before .before .before .before .before .before .args .code = omega (arith, d .1, d .0 .1, d .0 .0 .1, d .0 .0 .0 .1, d .0 .0 .0 .0 .1, d .0 .0 .0 .0 .0 .1) in
+    rw (kind-unknown (c .before .before .before .before .before .before .before .args .code) k) (puts-within (omega arith) (puts-word (kindWord unknown) (c .before .before .put-word7 .ensures)))
 
 pub put-kind-spec : {M : Type 1} → statement M
 put-kind-spec =

@@ -39,14 +39,18 @@ same-length c = search needs
 
 returns : tie.Need-returns
 unfolding lastTexts
-returns c = rw (← c .before .before .before .before .before .before .before .before .before .before .before .is-ended .ensures, c .before .before .before .before .before .before .before .before .before .before .if1 .taken) (puts-within (omega arith) (puts-more (c .before .before .before .before .before .before .before .put-totals .ensures) (puts-word newline (c .before .before .put-word .ensures))))
+returns c =
+    let p = c .before .before .before .before .before .before .before in
+    rw (← p .before .before .before .before .is-ended .ensures, p .before .before .before .if1 .taken) (puts-within (omega arith) (puts-more (p .put-totals .ensures) (puts-word newline (c .before .before .put-word .ensures))))
 
 same-length-2 : tie.Need-same-length-2
 same-length-2 c = search needs
 
 returns-2 : tie.Need-returns-2
 unfolding lastTexts
-returns-2 c = rw (← c .before .before .before .before .before .before .before .before .before .before .before .is-ended .ensures, c .before .before .before .before .before .before .before .before .before .before .if1 .left) (puts-within (omega arith) (puts-more (c .before .before .before .before .before .before .before .put-totals2 .ensures) (puts-word newline (c .before .before .put-word2 .ensures))))
+returns-2 c =
+    let p = c .before .before .before .before .before .before .before in
+    rw (← p .before .before .before .before .is-ended .ensures, p .before .before .before .if1 .left) (puts-within (omega arith) (puts-more (p .put-totals2 .ensures) (puts-word newline (c .before .before .put-word2 .ensures))))
 
 pub put-last-spec : {M : Type 1} → statement M
 put-last-spec =

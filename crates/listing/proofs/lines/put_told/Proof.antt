@@ -69,21 +69,27 @@ same-length-2 c = search needs
 
 returns-2 : tie.Need-returns-2
 unfolding toldTexts
-returns-2 c = rw (c .before .before .before .before .before .before .before .before .before .before .reply .given .1, ← c .before .before .before .code-in .ensures) (puts-more (c .before .before .before .before .before .before .before .put-pair .ensures) (c .before .before .put-kind .ensures))
+returns-2 c =
+    let p = c .before .before .before .before .before .before .before in
+    rw (p .before .before .before .reply .given .1, ← c .before .before .before .code-in .ensures) (puts-more (p .put-pair .ensures) (c .before .before .put-kind .ensures))
 
 same-length-3 : tie.Need-same-length-3
 same-length-3 c = search needs
 
 returns-3 : tie.Need-returns-3
 unfolding toldTexts
-returns-3 c = rw (c .before .before .before .before .before .before .before .before .before .before .before .reply2 .given .1, ← c .before .before .before .before .before .before .before .before .next-in .ensures) (puts-more (c .before .before .before .before .before .before .before .put-pair2 .ensures) (puts-word quotaWord (c .before .before .put-word2 .ensures)))
+returns-3 c =
+    let p = c .before .before .before .before .before .before .before in
+    rw (p .before .before .before .before .reply2 .given .1, ← p .before .next-in .ensures) (puts-more (p .put-pair2 .ensures) (puts-word quotaWord (c .before .before .put-word2 .ensures)))
 
 same-length-4 : tie.Need-same-length-4
 same-length-4 c = search needs
 
 returns-4 : tie.Need-returns-4
 unfolding toldTexts
-returns-4 c = rw (c .before .before .before .before .before .before .before .before .before .before .before .reply3 .given .1, ← c .before .before .before .before .before .before .before .before .next-in2 .ensures) (puts-within (omega arith) (puts-more (c .before .before .before .before .before .before .before .put-pair3 .ensures) (puts-word waitWord (c .before .before .put-word3 .ensures))))
+returns-4 c =
+    let p = c .before .before .before .before .before .before .before in
+    rw (p .before .before .before .before .reply3 .given .1, ← p .before .next-in2 .ensures) (puts-within (omega arith) (puts-more (p .put-pair3 .ensures) (puts-word waitWord (c .before .before .put-word3 .ensures))))
 
 pub put-told-spec : {M : Type 1} → statement M
 put-told-spec =

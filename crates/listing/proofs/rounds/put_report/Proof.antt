@@ -41,14 +41,18 @@ same-length c = search needs
 
 returns : tie.Need-returns
 unfolding reportTexts
-returns c = rw (c .before .before .before .before .before .before .before .before .before .before .report .given .1) (puts-within (omega arith) (puts-more (c .before .before .before .before .before .before .put-totals .ensures) (c .before .before .put-held .ensures)))
+returns c =
+    let p = c .before .before .before .before .before .before in
+    rw (p .before .before .before .before .report .given .1) (puts-within (omega arith) (puts-more (p .put-totals .ensures) (c .before .before .put-held .ensures)))
 
 same-length-2 : tie.Need-same-length-2
 same-length-2 c = search needs
 
 returns-2 : tie.Need-returns-2
 unfolding reportTexts
-returns-2 c = rw (c .before .before .before .before .before .before .before .before .before .before .report2 .given .1) (puts-within (omega arith) (puts-more (c .before .before .before .before .before .before .put-totals2 .ensures) (c .before .before .put-held2 .ensures)))
+returns-2 c =
+    let p = c .before .before .before .before .before .before in
+    rw (p .before .before .before .before .report2 .given .1) (puts-within (omega arith) (puts-more (p .put-totals2 .ensures) (c .before .before .put-held2 .ensures)))
 
 same-length-3 : tie.Need-same-length-3
 same-length-3 c = search needs
