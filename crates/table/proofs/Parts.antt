@@ -4,7 +4,7 @@ use Prim.Native.Nat.{ℕ, _+_, _-_, _*_, _≤_, _<_}
 use mathlib.Core.List.{List}
 use native.Mathlib.Nat.{mul-add, add-assoc}
 use native.Mathlib.Omega.{arith}
-use lib.ListN.{length, take, drop, length-drop}
+use lib.ListN.{length, getD, take, drop, length-drop}
 use lib.Seq.{getD-drop, take-all}
 use Rattle.table.specs.Format.{kindOf, kind, codeAt, argumentAt, threadsOf, firstOf, countOf, bodiesOf, bodyOf, tableOf}
 use Rattle.table.specs.Steps.{Headed, Laid}
@@ -18,6 +18,11 @@ rest-part l k = take-all (length l - k) (drop k l) (omega (arith, length-drop k 
 -- the action list has m actions of 4 bytes
 pub bodies-length : {s : List ℕ} {n m : ℕ} → Headed s n m → length (bodiesOf s) ≡ 4 * m
 bodies-length h = simp length-drop (omega (arith, h .threads, sizes h))
+
+-- an action's code, read from the whole table
+pub code-in-table : (s : List ℕ) (n a : ℕ) → n ≡ threadsOf s → getD s (4 + 4 * n + 4 * a) 0 ≡ tableOf s .code a
+unfolding tableOf
+code-in-table s n a e = simp (getD-drop, ← e)
 
 -- a thread's body lies in the table
 pub body-room : {s : List ℕ} {n m t : ℕ} → Laid s n m → t < n → 4 + 4 * n + 4 * (firstOf s t + countOf s t) ≤ length s

@@ -1,18 +1,9 @@
 -- `asyncdf::read::code` meets its contract: the byte lies in the part of the table from its actions on.
-use mathlib.Core.Path.{_≡_, sym}
-use Prim.Native.Nat.{ℕ, _+_, _*_}
-use mathlib.Core.List.{List}
 use borrow.Author.Needs.{needs}
 use denote.Ref.{now}
-use lib.ListN.{getD}
-use lib.Seq.{getD-drop}
-use Rattle.table.specs.Format.{threadsOf, tableOf}
+use Rattle.table.proofs.Parts.{code-in-table}
 use Rattle.asyncdf.proofs.read.code.Statement.{statement}
 use Rattle.asyncdf.proofs.read.code.Tie as tie
-
-code-right : (s : List ℕ) (n a : ℕ) → n ≡ threadsOf s → getD s (4 + 4 * n + 4 * a) 0 ≡ tableOf s .code a
-unfolding tableOf
-code-right s n a e = simp (getD-drop, ← e)
 
 mul-result : tie.Need-mul-result
 mul-result c = search needs
@@ -30,7 +21,7 @@ shared-slice-read-result : tie.Need-shared-slice-read-result
 shared-slice-read-result c = search needs
 
 returns : tie.Need-returns
-returns c = code-right (now (c .before .args .table)) _ _ (c .before .pre .0)
+returns c = code-in-table (now (c .before .args .table)) _ _ (c .before .pre .0)
 
 pub code-spec : {M : Type 1} → statement M
 code-spec =
