@@ -2,7 +2,7 @@
 use mathlib.Core.Path.{_≡_, refl, sym, _∙_}
 use Prim.Native.Nat.{ℕ, suc, _+_, _-_, _≤_, _<_}
 use mathlib.Core.List.{List, [], _∷_}
-use mathlib.Core.Bool.{Bool, true, false, not, _&&_, _||_}
+use mathlib.Core.Bool.{Bool, true, false, not, _&&_, _||_, and-true}
 use native.Mathlib.Decide.{ℕ-discrete}
 use native.Mathlib.Omega.{arith}
 use lib.Dec.{ltb, leb, eqb}
@@ -21,7 +21,7 @@ use Rattle.schedule.specs.Sound.{allBelow, allIn, isDone, inOrder}
 use Rattle.schedule.proofs.Words.{allBelow-exactly, and-exactly}
 use Rattle.schedule.proofs.Lawful.{Lawful}
 use Rattle.asyncdf.specs.Checks.{doneAt, doneTo, joinDone, bodyInOrder}
-use Rattle.asyncdf.proofs.Every.{and-true, both-ways, allBelow-fails}
+use Rattle.asyncdf.proofs.All.{same-truth, all-fails}
 
 -- ---- what is done
 
@@ -58,7 +58,7 @@ module _ (T : Table) (l : Lawful T) (st : State) where
   -- no action is done before those it depends on, if that holds of each thread's actions
   pub by-bodies : allBelow (bodyInOrder T st) (T .threads) ≡ allBelow (inOrder T st) (T .actions)
   unfolding bodyInOrder
-  by-bodies = both-ways _ _ there back
+  by-bodies = same-truth _ _ there back
     where
       there : allBelow (bodyInOrder T st) (T .threads) ≡ true → allBelow (inOrder T st) (T .actions) ≡ true
       there e = allBelow-exactly _ _ .1 at
@@ -101,7 +101,7 @@ module _ (T : Table) (l : Lawful T) (st : State) where
     unfolding bodyInOrder
     body-fails x f e p =
         let z : T .first t + (x - T .first t) ≡ x = omega arith in
-        allBelow-fails (λ i. inOrder T st (T .first t + i)) (T .count t) (x - T .first t) (omega arith) (rw z p)
+        sym (all-fails (λ i. inOrder T st (T .first t + i)) (x - T .first t) (T .count t) (omega arith) (rw z p))
 
     -- an unborn thread is in order if nothing of it is done
     pub unborn-in-order : (ltb 0 t && not (isDone T st (forkBelow T (T .actions) t))) ≡ true → leb (doneTo (st .next) (st .status) t) (T .first t) ≡ bodyInOrder T st t

@@ -2,7 +2,7 @@
 use mathlib.Core.Path.{_≡_, refl, sym, ap, _∙_}
 use Prim.Native.Nat.{ℕ}
 use mathlib.Core.List.{List, []}
-use mathlib.Core.Bool.{Bool, true, false, not, _&&_, Bool·beq}
+use mathlib.Core.Bool.{Bool, true, false, not, _&&_, Bool·beq, and-true}
 use native.Mathlib.Omega.{arith}
 use borrow.Author.Needs.{needs}
 use borrow.Author.Tests.{ne-eqb, not-true, not-false}
@@ -18,7 +18,6 @@ use Rattle.schedule.proofs.Lawful.{lawful}
 use Rattle.asyncdf.specs.Parts.{Parents}
 use Rattle.asyncdf.specs.Checks.{Thread, Forks, view, doneAt}
 use Rattle.asyncdf.proofs.Lookups.{entry}
-use Rattle.asyncdf.proofs.Every.{and-true}
 use Rattle.asyncdf.proofs.Noting.{few, unborn-noted}
 use Rattle.asyncdf.proofs.bodies.status_follows.Statement.{statement}
 use Rattle.asyncdf.proofs.bodies.status_follows.Tie as tie

@@ -14,19 +14,15 @@ use Rattle.schedule.specs.declared.Worker.{Worker}
 use Rattle.schedule.specs.Machine.{nobody}
 use Rattle.schedule.specs.Sound.{allBelow, workerRight}
 use Rattle.schedule.specs.Turn.{isNobody}
-use Rattle.schedule.proofs.Words.{not-both, allBelow-exactly}
+use Rattle.schedule.proofs.Words.{not-both}
 use Rattle.schedule.proofs.Clauses.{nobody-exactly, workerRight-exactly}
 use Rattle.asyncdf.specs.Checks.{view}
+use Rattle.asyncdf.proofs.All.{same-truth, all-cong}
 use Rattle.asyncdf.proofs.sound.all_free.Statement.{statement}
 use Rattle.asyncdf.proofs.sound.all_free.Tie as tie
 
 abbrev none : Table
 none = record { threads = 0; actions = 0; first = λ t. 0; count = λ t. 0; code = λ a. 0; argument = λ a. 0 }
-
-same-truth : (a b : Bool) → (a ≡ true) ↔ (b ≡ true) → a ≡ b
-same-truth true b h = sym (h .0 refl)
-same-truth false true h = h .1 refl
-same-truth false false h = refl
 
 module _ (l : List Worker) (w : ℕ) where
   free-right : (workerRight none 0 0 (view [] [] [] l 0) w ≡ true) ↔ (isNobody (getD l w nobody) ≡ true)
@@ -42,11 +38,7 @@ module _ (l : List Worker) (w : ℕ) where
 all-right : (l : List Worker) → length l ≡ 16 → {b : Bool} → b ≡ allBelow (workerRight none 0 0 (view [] [] [] l 0)) 16
     → b ≡ (eqb (length l) 16 && allBelow (λ w. isNobody (getD l w nobody)) 16)
 all-right l z e =
-    e ∙ same-truth _ _ (
-      (λ h. allBelow-exactly _ 16 .1 (λ w k. free-right l w .0 (allBelow-exactly _ 16 .0 h w k))),
-      (λ h. allBelow-exactly _ 16 .1 (λ w k. free-right l w .1 (allBelow-exactly _ 16 .0 h w k))),
-    )
-    ∙ rw (eq-eqb (length l) 16 z)
+    e ∙ all-cong _ _ 16 (λ w h. same-truth _ _ (free-right l w .0) (free-right l w .1)) ∙ rw (eq-eqb (length l) 16 z)
 
 workers-right-requires : tie.Need-workers-right-requires
 workers-right-requires c κs = search needs
