@@ -3,6 +3,7 @@ use crate::list::insert;
 use crate::list::remove;
 use crate::read::argument;
 use crate::read::code;
+use crate::release::release;
 use schedule::Reply;
 use schedule::Worker;
 ghost use mathlib.Core.Path.{_≡_};
@@ -11,7 +12,7 @@ ghost use mathlib.Core.Bool.{true};
 ghost use Prim.Native.Nat.{ℕ, _+_, _^_, _≤_, _<_, max};
 ghost use lib.ListN.{length, getD, take};
 ghost use Rattle.table.specs.Format.{Table, alloc, free, fork, join, end, tableOf, threadsOf};
-ghost use Rattle.schedule.specs.Machine.{nobody, actBy, act as actOf};
+ghost use Rattle.schedule.specs.Machine.{actBy, act as actOf};
 ghost use Rattle.schedule.specs.Sound.{placeIn};
 ghost use Rattle.asyncdf.specs.Parts.{partState, partStepped, At, Rowed, Parents, Sits, Wakes, wokenStatus};
 
@@ -26,17 +27,6 @@ pub(crate) struct Stepped {
     pub(crate) reply: Reply,
     pub(crate) worker: Worker,
     pub(crate) totals: Totals,
-}
-
-// "w is released": every end of a batch goes through here.
-fn release(worker: Worker) -> Worker
-    ensures { λ r. ⌜ r ≡ nobody ⌝ }
-{
-    let mut worker = worker;
-    worker.holds = false;
-    worker.thread = 0;
-    worker.quota = 0;
-    worker
 }
 
 fn larger(a: u64, b: u64) -> u64

@@ -34,6 +34,7 @@ mod bodies;
 mod list;
 mod order;
 mod read;
+mod release;
 mod rests;
 mod runs;
 mod sound;
