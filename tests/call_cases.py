@@ -85,8 +85,11 @@ def told(answer, run):
     return '%s, held %d highest %d turns %d record %d\n' % (answer, run.held, run.highest, run.turns, mixed(run))
 
 
+fork, join = lambda t: (machine.FORK, t), lambda t: (machine.JOIN, t)
+CHAIN = table(*[[fork(t + 1), join(t + 1), end] for t in range(1023)], [end])
+FULL = table(parent(*range(1, 1024)), *[[work] * 5 + [end]] * 1021, [work] * 7 + [end], [work] * 10 + [end])  # 8,192 actions
 FIVE = order(0, 1, 0, 2, 0)  # of E with p 3: thread 0 waits for 2, threads 1 and 2 are held, 12 units too
-WAY = [put('turns', LAST_TURN - 1)]
+NEARLY_LAST = [put('turns', LAST_TURN - 1)]
 
 
 def unsound(label, *puts):
@@ -96,8 +99,15 @@ def unsound(label, *puts):
             ['spent 5'] + ['changed'] * n + ['refused 32 0'] * 2 + ['refused 0 32 0'] * 4)
 
 
-def as_sound(label, *puts):
-    return ('sound: ' + label, (3, 6, E), [FIVE, *puts, turn(99), order()], ['spent 5'] + ['changed'] * len(puts) + ['refused 30 0', 'spent 0'])
+def as_sound(label, w, said, left, *puts):
+    """After some change a turn of worker w says so much, and a run in rounds finishes with so many turns more."""
+    return ('sound: ' + label, (3, 6, E), [FIVE, *puts, turn(99), order(), turn(w), rounds(99)],
+            ['spent 5'] + ['changed'] * len(puts) + ['refused 30 0', 'spent 0', said, left])
+
+
+def idle(w):
+    """Worker w no longer holds anything; the set is the caller's."""
+    return [put('holds', 0, w, True), put('thread', 0, w, True), put('quota', 0, w, True)]
 
 
 CASES = [
@@ -109,16 +119,17 @@ CASES = [
     ('a list stopped by 30 goes on after it', (2, 6, E), [order(0, 1, 9, 0), turn(0), rounds(99)], ['refused 2 30 0', 'done 0 1', 'finished 11']),
     ('rounds begin at worker 0 again', (3, 6, E), [rounds(1), rounds(1), turn(1), rounds(99)], ['spent 1', 'spent 1', 'done 0 1', 'finished 15']),
     ('L 0', (2, 6, E), [rounds(0), order(), rounds(99)], ['spent 0', 'spent 0', 'finished 14']),
+    ('worker 255', (16, 6, E), [turn(255), order(0, 255, 0), turn(16), order(15)], ['refused 30 0', 'refused 1 30 0', 'refused 30 0', 'spent 1']),
     ('K above its range', (2, LARGEST + 1, E), [turn(0)], ['refused 30 0']),
     ('blank', (17, 6, E), [turn(0), turn(255), rounds(0), rounds(7), order(0), order()],
      ['refused 30 0'] * 2 + ['refused 0 30 0'] * 3 + ['spent 0']),
     ('blank but for one number', (1, 6, b''), [put('held', 1), turn(0), order(), rounds(0), put('held', 0), turn(0)],
      ['changed', 'refused 32 0', 'refused 0 32 0', 'refused 0 32 0', 'changed', 'refused 30 0']),
-    ('the last turn but one', (2, 6, E), WAY + [turn(0), turn(0), order(), rounds(0)],
+    ('the last turn but one', (2, 6, E), NEARLY_LAST + [turn(0), turn(0), order(), rounds(0)],
      ['changed', 'done 0 0', 'refused 32 0', 'refused 0 32 0', 'refused 0 32 0']),
-    ('a run that reaches the last turn', (2, 6, E), WAY + [order(0, 9)], ['changed', 'refused 1 32 0']),
-    ('a run with nothing left there', (2, 6, E), WAY + [rounds(1)], ['changed', 'spent 1']),
-    ('the root ends there', (1, 1, least), WAY + [rounds(9), rounds(0)], ['changed', 'finished 1', 'refused 0 32 0']),
+    ('a run that reaches the last turn', (2, 6, E), NEARLY_LAST + [order(0, 9)], ['changed', 'refused 1 32 0']),
+    ('a run with nothing left there', (2, 6, E), NEARLY_LAST + [rounds(1)], ['changed', 'spent 1']),
+    ('the root ends there', (1, 1, least), NEARLY_LAST + [rounds(9), rounds(0)], ['changed', 'finished 1', 'refused 0 32 0']),
     ('not sound and the root ended', (1, 1, least), [turn(0), put('held', 1), turn(0), order(), rounds(0)],
      ['done 0 0', 'changed', 'refused 32 0', 'refused 0 32 0', 'refused 0 32 0']),
     unsound('a table that fails', put('table', 6, 16)),
@@ -135,17 +146,30 @@ CASES = [
     unsound('a next action past all bodies', put('next', 65535, 0)),
     unsound('a join done before the child', put('next', 4, 0), put('status', READY, 0)),
     unsound('an action undone that others need', put('next', 1, 0), put('status', READY, 0)),
+    unsound('a next action past its body, all else right', put('next', 9, 1), put('held', 6)),
     unsound('a status that is none', put('status', 5, 1)),
+    unsound('a status that is none, all else right', put('status', 5, 0)),
     unsound('a forked thread unborn', put('status', 0, 1)),
+    unsound('a forked thread unborn, all else right', put('status', 0, 2), put('list', 0, 1), put('list', 0, 2), put('listed', 2), *idle(2), put('busy', 2)),
     unsound('a thread ended early', put('status', ENDED, 1)),
+    unsound('a thread ended early, all else right', put('status', ENDED, 1), put('list', 2, 0), put('list', 0, 1), put('listed', 2), *idle(1), put('busy', 4)),
     unsound('a list out of order', put('list', 2, 0), put('list', 1, 1)),
     unsound('a thread missing', put('listed', 2)),
     unsound('a thread twice', put('listed', 4), put('list', 2, 1), put('list', 2, 2)),
     unsound('a thread not there', put('listed', 4), put('list', 3, 3)),
+    unsound('a thread not there, all else right', put('listed', 4), put('list', 3, 0), put('list', 1, 1), put('list', 2, 2), put('list', 0, 3)),
     unsound('too long a list', put('listed', 1025)),
+    ('not sound: a list longer than its places, all else right', (1, 1, CHAIN), [rounds(1023), order(), put('listed', 1025), turn(0), order(), rounds(0)],
+     ['spent 1023', 'spent 0', 'changed', 'refused 32 0', 'refused 0 32 0', 'refused 0 32 0']),
+    ('not sound: a table longer than its bytes, all else right', (1, 1, FULL), [order(), put('length', 36869), turn(0), order(), rounds(0)],
+     ['spent 0', 'changed', 'refused 32 0', 'refused 0 32 0', 'refused 0 32 0']),
+    ('not sound: waiting for a child that has ended', (3, 6, E), [order(0, 1, 0, 2, 2, 2), order(), put('status', WAITING, 0), turn(0), order(), rounds(0)],
+     ['spent 6', 'spent 0', 'changed', 'refused 32 0', 'refused 0 32 0', 'refused 0 32 0']),
     unsound('held with no worker', put('status', HELD, 0)),
     unsound('waiting elsewhere', put('status', WAITING, 1), put('holds', 0, 1, True), put('thread', 0, 1, True), put('quota', 0, 1, True), put('busy', 4)),
     unsound('two workers on a thread', put('holds', 1, 0, True), put('thread', 1, 0, True), put('busy', 7)),
+    unsound('a worker on a thread from n on', put('holds', 1, 0, True), put('thread', 3, 0, True), put('busy', 7)),
+    unsound('a worker on thread 65535', put('holds', 1, 0, True), put('thread', 65535, 0, True), put('busy', 7)),
     unsound('a worker on a ready thread', put('status', READY, 2)),
     unsound('a worker from p on', put('holds', 1, 3, True), put('busy', 14)),
     unsound('a worker from p on, its thread held', put('holds', 1, 3, True), put('busy', 14), put('status', HELD, 0)),
@@ -163,13 +187,16 @@ CASES = [
     unsound('a quota with nothing held', put('quota', 1, 0, True)),
     unsound('a thread with nothing held', put('thread', 1, 15, True)),
     unsound('turns at the end', put('turns', LAST_TURN)),
-    as_sound('a thread at a join of a child not ended, ready', put('status', READY, 0)),
-    as_sound('that thread held', put('status', HELD, 0), put('holds', 1, 0, True), put('busy', 7)),
-    as_sound('a larger highest', put('highest', LAST_TURN)),
-    as_sound('another quota left', put('quota', 6, 1, True)),
-    as_sound('a larger K', put('quota', LARGEST)),
-    as_sound('a larger p', put('p', 16)),
-    as_sound('other turns', put('turns', LAST_TURN - 1)),
+    as_sound('a thread at a join of a child not ended, ready', 0, 'wait 0 2', 'finished 13', put('status', READY, 0)),
+    as_sound('that thread held', 0, 'wait 0 2', 'finished 13', put('status', HELD, 0), put('holds', 1, 0, True), put('busy', 7)),
+    as_sound('a larger highest', 1, 'done 1 6', 'finished 13', put('highest', LAST_TURN)),
+    as_sound('another quota left', 1, 'done 1 6', 'finished 13', put('quota', 6, 1, True)),
+    as_sound('a larger K', 1, 'done 1 6', 'finished 13', put('quota', LARGEST)),
+    as_sound('a larger p', 1, 'done 1 6', 'finished 52', put('p', 16)),
+    ('sound: turns at 2^64 - 2', (3, 6, E), [FIVE, *NEARLY_LAST, turn(99), order(), turn(1)], ['spent 5', 'changed', 'refused 30 0', 'spent 0', 'done 1 6']),
+    ('sound: more quota left than a run leaves', (1, 6, table([alloc(4), alloc(4), end])), [turn(0), put('quota', 4, 0, True), turn(0)], ['done 0 0', 'changed', 'done 0 1']),
+    ('sound: less quota left than a run leaves', (1, 9, table([alloc(4), alloc(4), end])), [turn(0), put('quota', 3, 0, True), turn(0)],
+     ['done 0 0', 'changed', 'quota 0 4']),
 ]
 
 

@@ -18,7 +18,7 @@ second = [alloc(6), free(6), end]
 e = table(parent(1, 2), first, second)
 twice = table([alloc(4), alloc(4), end])
 again = table([alloc(4), free(4), alloc(4), end])
-nap = table(parent(1), [work, work, end])
+two_works = table(parent(1), [work, work, end])
 both = bytes([0, 1])
 
 
@@ -95,10 +95,10 @@ CASES = [
      OTHER_CHILD + ['9 2 2 10 free 0', '10 2 2 11 end 0', '11 0 0 2 join 0', '12 1 - - idle 0', '13 0 0 3 join 0', '14 0 0 4 end 0', 'done 14 peak 12']),
     ('a free gives no quota back', t(1, 6, bytes(5), again),
      ['table 1 4 serial 4 depth 4', '1 0 0 0 alloc 4', '2 0 0 1 free 0', '3 0 0 2 quota 0', '4 0 0 2 alloc 4', '5 0 0 3 end 4', 'done 5 peak 4']),
-    ('a waiting join frees its worker', t(2, 6, [0, 1, 0, 0, 1, 1, 0, 0], nap),
+    ('a waiting join frees its worker', t(2, 6, [0, 1, 0, 0, 1, 1, 0, 0], two_works),
      ['table 2 6 serial 0 depth 6', '1 0 0 0 fork 0', '2 1 1 3 work 0', '3 0 0 1 wait 0', '4 0 - - idle 0', '5 1 1 4 work 0', '6 1 1 5 end 0',
       '7 0 0 1 join 0', '8 0 0 2 end 0', 'done 8 peak 0']),
-    ('another worker takes the parent', t(2, 6, [0, 1, 0, 1, 1, 1, 1], nap),
+    ('another worker takes the parent', t(2, 6, [0, 1, 0, 1, 1, 1, 1], two_works),
      ['table 2 6 serial 0 depth 6', '1 0 0 0 fork 0', '2 1 1 3 work 0', '3 0 0 1 wait 0', '4 1 1 4 work 0', '5 1 1 5 end 0', '6 1 0 1 join 0',
       '7 1 0 2 end 0', 'done 7 peak 0']),
     ('an empty order', t(2, 6, [], e), [E, 'open 0 peak 0']),
