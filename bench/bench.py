@@ -1,5 +1,5 @@
-"""Measures the Rattle code against plain C with the same algorithms: user time of a turn (runs in rounds), of loading and of a single
-turn's call (the test of soundness and one turn), each as Rattle / C.
+"""Measures the Rattle code against plain C with the same algorithms: user time of loading, of the test of soundness (a run in rounds of
+no turns), of a turn inside a run (a run in rounds to its end, less that, by its turns) and of a single turn's call, each as Rattle / C.
 
 usage: python3 bench/bench.py [PROGRAM WORDS..]   (from the repository's top, after `rt check bench_runs`; default target/bin/bench_runs)
 """
@@ -66,6 +66,14 @@ def seconds(commands, mode, limit, data):
     return [(min(many) - min(start)) / count for many, start, count in zip(zip(*tries), zip(*none), counts)]
 
 
+def both(rattle, mode, limit, data, said=None):
+    """User time of one call, in C and in Rattle, once the two have said the same."""
+    expected, found = repeat(C, mode, 3, limit, data)[0], repeat(rattle, mode, 3, limit, data)[0]
+    if found != expected or found != (said or found):
+        raise SystemExit('mode %s, limit %d: C says %r, Rattle %r' % (mode, limit, expected, found))
+    return seconds([C, rattle], mode, limit, data)
+
+
 def main():
     rattle = sys.argv[1:] or ['target/bin/bench_runs']
     build()
@@ -78,13 +86,12 @@ def main():
         if words[0] != 'finished' or not (990 <= facts[1] <= 1024 and 6000 <= facts[2] <= 8000):
             raise SystemExit('%s: not the table meant: %s, %s' % (name, facts, words))
         print('%s: %d threads, %d actions, %d turns with %d workers' % (name, facts[1], facts[2], turns, WORKERS))
-        for what, mode, limit, calls in [('turn', 'r', LARGEST_LIMIT, turns), ('loading', 'l', 0, 1), ('single-turn call', 's', turns // 2, 1)]:
-            expected, found = repeat(C, mode, 3, limit, data)[0], repeat(rattle, mode, 3, limit, data)[0]
-            if found != expected or mode == 'r' and found != 'r 3 %d\n' % (3 * turns):
-                raise SystemExit('%s, %s: C says %r, Rattle %r' % (name, what, expected, found))
-            c, r = [time / calls for time in seconds([C, rattle], mode, limit, data)]
+        loading, test = both(rattle, 'l', 0, data), both(rattle, 'r', 0, data)
+        whole, call = both(rattle, 'r', LARGEST_LIMIT, data, 'r 3 %d\n' % (3 * turns)), both(rattle, 's', turns // 2, data)
+        turn = [(run - start) / turns for run, start in zip(whole, test)]
+        for what, (c, r) in [('loading', loading), ('test of soundness', test), ('turn in a run', turn), ('whole run', whole), ('single turn', call)]:
             ratios.append(r / c)
-            print('  %-16s  C %10.1f ns   Rattle %10.1f ns   ratio %.2f' % (what, c * 1e9, r * 1e9, r / c))
+            print('  %-17s  C %11.1f ns   Rattle %11.1f ns   ratio %.2f' % (what, c * 1e9, r * 1e9, r / c))
     print('%d ratios, from %.2f to %.2f' % (len(ratios), min(ratios), max(ratios)))
 
 

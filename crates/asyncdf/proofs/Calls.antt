@@ -9,6 +9,7 @@ use borrow.Author.Tests.{lt-ltb, le-ltb, eq-eqb, ne-eqb, not-false}
 use Rattle.table.specs.Sum.{pick}
 use Rattle.table.specs.Pass.{refusal, tryAt}
 use Rattle.schedule.specs.declared.Run.{Run}
+use Rattle.schedule.specs.declared.Begun.{Begun}
 use Rattle.schedule.specs.declared.Ran.{Ran}
 use Rattle.schedule.specs.declared.Turned.{Turned}
 use Rattle.schedule.specs.declared.Turning.the-variants.{Taken}
@@ -16,6 +17,7 @@ use Rattle.schedule.specs.declared.Turning.the-variants.{Refused as refusedTurn
 use Rattle.schedule.specs.declared.Reply.{Reply}
 use Rattle.schedule.specs.declared.Report.{Report}
 use Rattle.schedule.specs.declared.Report.the-variants.{Finished, Spent, Refused}
+use Rattle.schedule.specs.Answers.{beginningValues, turningValues, reportValues}
 use Rattle.schedule.specs.Record.{blank}
 use Rattle.schedule.specs.Sound.{Steady, Sound, sound}
 use Rattle.schedule.specs.Turn.{isBlank, unsound, rootEnded, noWorker, turnChecks, stepRun, turned}
@@ -161,3 +163,14 @@ module _ (r : Run) (w : ℕ) (e : unsound r ≡ false) (h : w < r .workers) (o :
       let a : y ≡ stepRun r w .reply = t refl may-turn ∙ ap (λ (i : ℕ). stepRun r i .reply) (one-worker w (r .workers)) in
       let b : s ≡ moved r w = ap (λ (z : Ran). z .run) d ∙ drive-one order r may-turn ∙ ap (moved r) (one-worker w (r .workers)) in
       (λ i. record { answer = Taken (a i); run = b i }) ∙ turned-taken r w e h o
+
+-- ---- the values of an answer that is the definition's
+
+pub begun-answers : {x y : Begun} → x ≡ y → (x ≡ y) × (beginningValues (x .answer) ≡ beginningValues (y .answer))
+begun-answers e = (e, ap (λ (z : Begun). beginningValues (z .answer)) e)
+
+pub turned-answers : {x y : Turned} → x ≡ y → (x ≡ y) × (turningValues (x .answer) ≡ turningValues (y .answer))
+turned-answers e = (e, ap (λ (z : Turned). turningValues (z .answer)) e)
+
+pub ran-answers : {x y : Ran} → x ≡ y → (x ≡ y) × (reportValues (x .report) ≡ reportValues (y .report))
+ran-answers e = (e, ap (λ (z : Ran). reportValues (z .report)) e)

@@ -97,16 +97,16 @@ pub record Defined (r : Run) (calls : List Call) (answers : List Answer) (row : 
   pub row-is : row ≡ rowOfCalls calls r
 
 turn-is : {r : Run} {w : ℕ} {d : Turned} → TurnSays r w d → d ≡ turned r w
-turn-is s = s .promised
+turn-is s = s .promised .0
 
 list-is : {r : Run} {l : List ℕ} {d : Ran} → ListSays r l d → d ≡ listRun r l
-list-is {r} s = s .promised ∙ ap (listRun r) (s .lent)
+list-is {r} s = s .promised .0 ∙ ap (listRun r) (s .lent)
 
 rounds-is : {r : Run} {limit : ℕ} {d : Ran} → RoundsSays r limit d → d ≡ roundsRun r limit
-rounds-is s = s .promised
+rounds-is s = s .promised .0
 
 pub begin-is : {s : List ℕ} {p K : ℕ} {b : Begun} → BeginSays s p K b → b ≡ begin s p K
-begin-is {s} {p} {K} h = h .promised ∙ ap (λ (l : List ℕ). begin l p K) (h .lent)
+begin-is {s} {p} {K} h = h .promised .0 ∙ ap (λ (l : List ℕ). begin l p K) (h .lent)
 
 record DefinedCall (r : Run) (c : Call) (x : Answer) (row : List ℕ) (r' : Run) : Type 0 where
   record-is : r' ≡ afterCall c r

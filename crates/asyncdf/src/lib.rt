@@ -20,6 +20,7 @@ ghost use mathlib.Core.Path.{_≡_};
 ghost use lib.Count.{ones};
 ghost use Rattle.table.specs.Pass.{refusal};
 ghost use Rattle.schedule.specs.declared.Turning.the-variants.{Refused};
+ghost use Rattle.schedule.specs.Answers.{beginningValues, turningValues, reportValues};
 ghost use Rattle.schedule.specs.Begin.{begin as beginOf};
 ghost use Rattle.schedule.specs.Machine.{workerOf};
 ghost use Rattle.schedule.specs.Record.{stateOf};
@@ -43,6 +44,7 @@ mod step;
 // Beginning from a table's bytes, p and K: the table's own checks, then 20 to 22.
 pub fn begin(bytes: &[u8], p: u8, quota: u32) -> Begun
     ensures { λ r. ⌜ r ≡ beginOf (now (bytes .entry)) p quota ⌝ }
+    ensures { λ r. ⌜ beginningValues (r .answer) ≡ beginningValues (beginOf (now (bytes .entry)) p quota .answer) ⌝ }
 {
     let loaded = table::load(bytes);
     if let Loaded::Refused(x) = loaded {
@@ -78,6 +80,7 @@ fn refused(number: u8, run: Run) -> Turned
 // A single turn of worker w: 32, 30, 31, or the reply and the record after.
 pub fn turn(run: Run, w: u8) -> Turned
     ensures { λ r. ⌜ r ≡ turnedOf run w ⌝ }
+    ensures { λ r. ⌜ turningValues (r .answer) ≡ turningValues (turnedOf run w .answer) ⌝ }
 {
     if unsound(run) {
         return refused(32, run);
@@ -102,6 +105,7 @@ pub fn turn(run: Run, w: u8) -> Turned
 // A run over a list of workers.
 pub fn run_list(run: Run, order: &[u8]) -> Ran
     ensures { λ r. ⌜ r ≡ listRun run (now (order .entry)) ⌝ }
+    ensures { λ r. ⌜ reportValues (r .report) ≡ reportValues (listRun run (now (order .entry)) .report) ⌝ }
 {
     if unsound(run) {
         return Ran {
@@ -126,6 +130,7 @@ pub fn run_list(run: Run, order: &[u8]) -> Ran
 // A run in rounds, of at most `limit` turns.
 pub fn run_rounds(run: Run, limit: u32) -> Ran
     ensures { λ r. ⌜ r ≡ roundsRun run limit ⌝ }
+    ensures { λ r. ⌜ reportValues (r .report) ≡ reportValues (roundsRun run limit .report) ⌝ }
 {
     if unsound(run) {
         return Ran {

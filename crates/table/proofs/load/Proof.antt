@@ -1,5 +1,5 @@
 -- `table::load` meets its contract: the head, the passes between and the balances, each the next where the one before found nothing.
-use mathlib.Core.Path.{_≡_, sym, _∙_}
+use mathlib.Core.Path.{_≡_, sym, ap, _∙_}
 use Prim.Native.Nat.{ℕ, _≤_}
 use mathlib.Core.List.{List}
 use native.Mathlib.Omega.{arith}
@@ -11,10 +11,11 @@ use Rattle.table.specs.Format.{tableOf}
 use Rattle.table.specs.Pass.{tryPass, firstFound}
 use Rattle.table.specs.Rules.{headPass, balancePass, passes, shapePasses}
 use Rattle.table.specs.Accepted.{HeadRules}
-use Rattle.table.specs.Load.{answer, factsOf, loaded}
+use Rattle.table.specs.Load.{answer, factsOf, loaded, valuesOf}
 use Rattle.table.specs.Steps.{Headed, Nested}
 use Rattle.table.specs.declared.Refusal.{Refusal}
 use Rattle.table.specs.declared.Found.the-variants.{Nothing, At}
+use Rattle.table.specs.declared.Loaded.{Loaded}
 use Rattle.table.specs.declared.Loaded.the-variants.{Refused}
 use Rattle.table.proofs.Trying.{orElse-last}
 use Rattle.table.proofs.Passes.{firstFound-nothing, firstFound-append, head-rules, content-rules, body-rules, nest-rules, fork-rules}
@@ -60,6 +61,10 @@ passed c = head-rules _ .0 (sym (c .before .before .head .ensures) ∙ c .enum-t
 reached : (c : tie.After-word2) → Headed (now (c .before .before .before .before .before .before .args .table)) (c .before .word .result) (c .word2 .result)
 reached c = record { head = passed (c .before .before); threads = c .before .word .ensures .value; actions = c .word2 .ensures .value }
 
+-- and so are its values
+answered : {x y : Loaded} → x ≡ y → (x ≡ y) × (valuesOf x ≡ valuesOf y)
+answered e = (e, ap valuesOf e)
+
 head-requires : tie.Need-head-requires
 head-requires c κs = search needs
 
@@ -67,7 +72,7 @@ enum-known-found : tie.Need-enum-known-found
 enum-known-found c = search needs
 
 returns : tie.Need-returns
-returns c = refused-head (now (c .before .before .before .before .before .args .table)) (sym (c .before .before .before .head .ensures) ∙ c .before .found .given .1)
+returns c = answered (refused-head (now (c .before .before .before .before .before .args .table)) (sym (c .before .before .before .head .ensures) ∙ c .before .found .given .1))
 
 enum-told : tie.Need-enum-told
 enum-told c = search needs
@@ -86,7 +91,7 @@ enum-known-found-2 c = search needs
 
 returns-2 : tie.Need-returns-2
 returns-2 c =
-    refused-shape (reached (c .before .before .before .before)) (sym (c .before .before .before .shape .ensures) ∙ c .before .found2 .given .1)
+    answered (refused-shape (reached (c .before .before .before .before)) (sym (c .before .before .before .shape .ensures) ∙ c .before .found2 .given .1))
 
 enum-told-2 : tie.Need-enum-told-2
 enum-told-2 c = search needs
@@ -96,8 +101,8 @@ weigh-requires c κs = nested (reached (c .before .before .before)) (sym (c .bef
 
 returns-3 : tie.Need-returns-3
 returns-3 c =
-    c .weigh .ensures
-    ∙ rest (reached (c .before .before .before .before)) (sym (c .before .before .before .shape .ensures) ∙ c .before .enum-told2 .given .1)
+    answered (c .weigh .ensures
+    ∙ rest (reached (c .before .before .before .before)) (sym (c .before .before .before .shape .ensures) ∙ c .before .enum-told2 .given .1))
 
 pub load-spec : {M : Type 1} → statement M
 load-spec =

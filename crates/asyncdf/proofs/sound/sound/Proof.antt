@@ -73,7 +73,7 @@ bounds : (c : tie.Else1) → (c .before .before .args .run .length ≤ 36868) ×
 bounds c = c .before .rest-sound .ensures .1 (not-false _ (c .if1 .left))
 
 passed : (c : tie.After-enum-told2) → Rules (bytesOf (c .before .before .before .before .before .before .before .before .args .run))
-passed c = accepted-rules _ (sym (c .before .before .load .ensures) ∙ c .enum-told2 .given .1)
+passed c = accepted-rules _ (sym (c .before .before .load .ensures .0) ∙ c .enum-told2 .given .1)
 
 known : (c : tie.After-word2) → Known (bytesOf (c .before .before .before .before .before .before .before .before .before .before .args .run)) (c .before .word .result) (c .word2 .result)
 unfolding tableOf
@@ -103,7 +103,7 @@ enum-told : tie.Need-enum-told
 enum-told c = search needs
 
 returns-2 : tie.Need-returns-2
-returns-2 c = refused _ (sym (c .before .before .load .ensures) ∙ c .enum-told .given .1)
+returns-2 c = refused _ (sym (c .before .before .load .ensures .0) ∙ c .enum-told .given .1)
 
 enum-told-2 : tie.Need-enum-told-2
 enum-told-2 c = search needs

@@ -22,7 +22,7 @@ returns : tie.Need-returns
 unfolding roundedTexts
 returns c =
     let b = c .before .before .before .before .before .before .before in
-    rw (← b .begin .ensures, c .before .before .before .before .before .answer .given .1) (puts-within (omega arith) (c .before .before .put-answer .ensures))
+    rw (← b .begin .ensures .0, c .before .before .before .before .before .answer .given .1) (puts-within (omega arith) (c .before .before .put-answer .ensures))
 
 enum-told : tie.Need-enum-told
 enum-told c = search needs
@@ -40,7 +40,7 @@ returns-2 : tie.Need-returns-2
 unfolding roundedTexts
 returns-2 c =
     let b = c .before .before .before .before .before .before .before .before .before in
-    rw (← b .begin .ensures, c .before .before .before .before .before .before .before .enum-told .given .1, ← c .before .before .before .before .before .run-rounds .ensures) (c .before .before .put-report .ensures)
+    rw (← b .begin .ensures .0, c .before .before .before .before .before .before .before .enum-told .given .1, ← c .before .before .before .before .before .run-rounds .ensures .0) (c .before .before .put-report .ensures)
 
 pub put-rounds-spec : {M : Type 1} → statement M
 put-rounds-spec =

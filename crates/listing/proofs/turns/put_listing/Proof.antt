@@ -22,7 +22,7 @@ returns : tie.Need-returns
 unfolding listedBy
 returns c =
     let told = c .before .before .before .before .enum-told .given .1 in
-    rw (← c .before .before .before .before .before .before .load .ensures, told) (puts-within (omega arith) (rw told at (c .before .before .put-answer .ensures)))
+    rw (← c .before .before .before .before .before .before .load .ensures .0, told) (puts-within (omega arith) (rw told at (c .before .before .put-answer .ensures)))
 
 enum-told-2 : tie.Need-enum-told-2
 enum-told-2 c = search needs
@@ -43,7 +43,7 @@ returns-2 : tie.Need-returns-2
 unfolding listedBy
 returns-2 c =
     let b = c .before .before .before .before .before .before .before in
-    rw (← b .before .before .before .load .ensures, b .before .enum-told2 .given .1, ← b .begin .ensures, c .before .before .before .before .before .answer .given .1) (puts-within (omega arith) (c .before .before .put-answer2 .ensures))
+    rw (← b .before .before .before .load .ensures .0, b .before .enum-told2 .given .1, ← b .begin .ensures .0, c .before .before .before .before .before .answer .given .1) (puts-within (omega arith) (c .before .before .put-answer2 .ensures))
 
 enum-told-3 : tie.Need-enum-told-3
 enum-told-3 c = search needs
@@ -63,7 +63,7 @@ returns-3 c =
     let p = c .before .before .before .before .before .before in
     let b = p .before .before .before .before .before in
     let told = b .before .enum-told2 .given .1 in
-    rw (← b .before .before .before .load .ensures, told, ← b .begin .ensures, p .before .before .before .enum-told3 .given .1)
+    rw (← b .before .before .before .load .ensures .0, told, ← b .begin .ensures .0, p .before .before .before .enum-told3 .given .1)
     (puts-within (omega arith) (puts-more (rw told at (p .put-answer3 .ensures)) (c .before .before .put-turns .ensures)))
 
 pub put-listing-spec : {M : Type 1} → statement M

@@ -52,7 +52,7 @@ returns-2 : tie.Need-returns-2 Inv-loop μ-loop
 returns-2 c =
     let t = c .before .before .before .before .before .before in
     let d = t .before .before .before in
-    refused (d .before .before .loop .inv) (d .before .loop-test .taken) (rw (d .is-ended .ensures) at (t .before .before .if1 .left)) (t .turn .ensures) (c .before .before .before .before .enum-told .given .1)
+    refused (d .before .before .loop .inv) (d .before .loop-test .taken) (rw (d .is-ended .ensures) at (t .before .before .if1 .left)) (t .turn .ensures .0) (c .before .before .before .before .enum-told .given .1)
     (c .before .before .put-refused .ensures)
 
 put-turn-requires : tie.Need-put-turn-requires Inv-loop μ-loop
@@ -68,7 +68,7 @@ loop-again : tie.Need-loop-again Inv-loop μ-loop
 loop-again c =
     let t = c .before .before .before .before .before .before .before .before in
     let d = t .before .before .before in
-    again (d .before .before .loop .inv) (d .before .loop-test .taken) (rw (d .is-ended .ensures) at (t .before .before .if1 .left)) (t .turn .ensures) (c .before .before .before .before .before .before .answer .given .1) (omega arith)
+    again (d .before .before .loop .inv) (d .before .loop-test .taken) (rw (d .is-ended .ensures) at (t .before .before .if1 .left)) (t .turn .ensures .0) (c .before .before .before .before .before .before .answer .given .1) (omega arith)
     (c .before .before .put-turn .ensures)
 
 put-last-requires-2 : tie.Need-put-last-requires-2 Inv-loop μ-loop
