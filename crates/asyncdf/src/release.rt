@@ -1,4 +1,4 @@
-// "w is released": every release goes through here. The worker's own record is lent and altered in place.
+// "w is released". The worker's own record is lent and altered in place.
 use schedule::Worker;
 ghost use mathlib.Core.Path.{_≡_};
 ghost use Rattle.schedule.specs.Machine.{nobody};

@@ -9,8 +9,8 @@ use Rattle.schedule.specs.Turn.{turned}
 use Rattle.schedule.specs.Listing.{Listing}
 use Rattle.schedule.specs.Cases.{Case, never, ranBy}
 use Rattle.schedule.specs.Cases.{cases as runCases}
-use Rattle.schedule.specs.Rule.{Measures, RowCase, measured, rowCases, rows-worked}
-use Rattle.schedule.proofs.CaseLaws.{worked-turned}
+use Rattle.schedule.specs.Rule.{Measures, RowCase, measuredBy, rowCases}
+use Rattle.schedule.proofs.CaseLaws.{worked-turned, rows-turned}
 use Rattle.listing.specs.Listing.{listingOf}
 use Rattle.listing.specs.Cases.{Case as ListingCase}
 use Rattle.listing.specs.Cases.{cases as listingCases}
@@ -35,7 +35,7 @@ abbrev pub runRow : Case → Row
 runRow c = record { computed = lists (ranBy never turned (c .bytes) (c .workers) (c .quota) (c .order)); expected = lists (c .listing) }
 
 abbrev pub limitRow : RowCase → Row
-limitRow c = record { computed = measures (measured c); expected = measures (c .measures) }
+limitRow c = record { computed = measures (measuredBy turned c); expected = measures (c .measures) }
 
 abbrev pub textRow : ListingCase → Row
 textRow c = record { computed = prints (listingOf (c .input)); expected = prints (c .text) }
@@ -67,5 +67,5 @@ starred-worked =
     agree-append (map tableRow tableCases) (map runRow runCases ++ (map limitRow rowCases ++ map textRow listingCases))
     (rows-agree tableRow _ _ loads tableCases refl refl tables-worked)
     (agree-append (map runRow runCases) (map limitRow rowCases ++ map textRow listingCases) (rows-agree runRow _ _ lists runCases refl refl worked-turned)
-    (agree-append (map limitRow rowCases) (map textRow listingCases) (rows-agree limitRow _ _ measures rowCases refl refl rows-worked)
+    (agree-append (map limitRow rowCases) (map textRow listingCases) (rows-agree limitRow _ _ measures rowCases refl refl rows-turned)
     (rows-agree textRow _ _ prints listingCases refl refl listings-worked)))

@@ -20,8 +20,9 @@ use Rattle.schedule.specs.Record.{tableIn, stateOf}
 use Rattle.schedule.specs.Begin.{startState, begin}
 use Rattle.schedule.specs.Sound.{Steady, Sound}
 use Rattle.schedule.specs.Turn.{unsound, turnChecks, stepRun, turnedAs, turned}
-use Rattle.schedule.specs.Listing.{turnsBy}
+use Rattle.schedule.specs.Listing.{Listing, turnsBy}
 use Rattle.schedule.specs.Cases.{never, beginThen, ranBy, soundChecks, turnedSound, ranAs, Case, cases, worked}
+use Rattle.schedule.specs.Rule.{Measures, RowCase, measuredBy, rowCases, rows-worked}
 use Rattle.schedule.proofs.Words.{and-exactly, ltb-exactly}
 use Rattle.schedule.proofs.Turns.{either}
 use Rattle.schedule.proofs.Tests.{sound-exactly}
@@ -101,21 +102,39 @@ module _ (stop : Run → Bool) where
       go started e = begun-turned s p K order k e
       go (refusedBeginning x) e = refl
 
--- ---- the table of cases
+-- ---- the tables of cases
 
-short : List Case → Bool
-short [] = true
-short (c ∷ l) = ltb (length (c .order)) (2 ^ 64) && short l
+module _ {A : Type 0} (order : A → List ℕ) where
+  short : List A → Bool
+  short [] = true
+  short (c ∷ l) = ltb (length (order c)) (2 ^ 64) && short l
 
-all-turned : (l : List Case) → short l ≡ true
-    → map (λ (c : Case). ranBy never turned (c .bytes) (c .workers) (c .quota) (c .order)) l ≡ map (λ (c : Case). ranAs (c .bytes) (c .workers) (c .quota) (c .order)) l
-unfolding short
-all-turned [] h = refl
-all-turned (c ∷ l) h =
-    let q : (ltb (length (c .order)) (2 ^ 64) ≡ true) × (short l ≡ true) = and-exactly (ltb (length (c .order)) (2 ^ 64)) (short l) .0 h in
-    cc (ran-turned never (c .bytes) (c .workers) (c .quota) (c .order) (ltb-exactly (length (c .order)) (2 ^ 64) .0 (q .0)), all-turned l (q .1))
+  all-same : {B : Type 0} (f g : A → B) → ((c : A) → length (order c) < 2 ^ 64 → f c ≡ g c) → (l : List A) → short l ≡ true → map f l ≡ map g l
+  unfolding short
+  all-same f g same [] h = refl
+  all-same f g same (c ∷ l) h =
+      let q : (ltb (length (order c)) (2 ^ 64) ≡ true) × (short l ≡ true) = and-exactly (ltb (length (order c)) (2 ^ 64)) (short l) .0 h in
+      cc (same c (ltb-exactly (length (order c)) (2 ^ 64) .0 (q .0)), all-same f g same l (q .1))
 
 -- every row's beginning and turns have the row's listing
 pub worked-turned : map (λ (c : Case). ranBy never turned (c .bytes) (c .workers) (c .quota) (c .order)) cases ≡ map (λ (c : Case). c .listing) cases
 unfolding short cases
-worked-turned = all-turned cases refl ∙ worked
+worked-turned =
+    all-same (λ (c : Case). c .order) _ (λ (c : Case). ranAs (c .bytes) (c .workers) (c .quota) (c .order)) (λ c k. ran-turned never (c .bytes) (c .workers) (c .quota) (c .order) k) cases refl
+    ∙ worked
+
+-- and every row against the limit its measures
+pub rows-turned : map (measuredBy turned) rowCases ≡ map (λ (c : RowCase). c .measures) rowCases
+unfolding short rowCases
+rows-turned =
+    all-same (λ (c : RowCase). c .order) (measuredBy turned) (measuredBy turnedSound) (λ c k.
+    ap (λ (x : Listing).
+    record {
+      serial = measuredBy turned c .serial;
+      depth = measuredBy turned c .depth;
+      limit = measuredBy turned c .limit;
+      peak = measuredBy turned c .peak;
+      last = x .last;
+      keeps = measuredBy turned c .keeps;
+    }) (ran-turned never (c .bytes) (c .workers) (c .quota) (c .order) k)) rowCases refl
+    ∙ rows-worked

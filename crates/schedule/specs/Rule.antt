@@ -20,8 +20,10 @@ use Rattle.schedule.specs.Begin.{allocAbove, firsts, startState, startRu
 use Rattle.schedule.specs.Sound.{allIn}
 use Rattle.schedule.specs.Turn.{rootEnded, noWorker, stepRun}
 use Rattle.schedule.specs.Memory.{replies, sumReplies, memoryOf, frontRows, peakMemory, countIn, limit}
+use Rattle.schedule.specs.declared.Run.{Run}
+use Rattle.schedule.specs.declared.Turned.{Turned}
 use Rattle.schedule.specs.Listing.{Last, done, notDone}
-use Rattle.schedule.specs.Cases.{ranAs, orderE}
+use Rattle.schedule.specs.Cases.{never, ranBy, turnedSound, orderE}
 
 -- ---- the test
 
@@ -74,14 +76,14 @@ pub record RowCase : Type 0 where
   pub order : List ℕ
   pub measures : Measures
 
-abbrev pub measured : RowCase → Measures
-measured c =
+abbrev pub measuredBy : (Run → ℕ → Turned) → RowCase → Measures
+measuredBy turn c =
     record {
       serial = S1 (tableOf (c .bytes));
       depth = D (tableOf (c .bytes));
       limit = limit (tableOf (c .bytes)) (c .workers) (c .quota) (c .gap);
       peak = peakMemory (tableOf (c .bytes)) (c .quota) (c .order);
-      last = ranAs (c .bytes) (c .workers) (c .quota) (c .order) .last;
+      last = ranBy never turn (c .bytes) (c .workers) (c .quota) (c .order) .last;
       keeps = keeps (c .gap) (c .order);
     }
 
@@ -108,7 +110,7 @@ rowCases =
     }
     ∷ []
 
--- every row's run measures what the row says
-pub rows-worked : map measured rowCases ≡ map (λ (c : RowCase). c .measures) rowCases
+-- every row's run measures what the row says; turns are those of a sound record, which they are on every row (`rows-turned`, proofs/CaseLaws)
+pub rows-worked : map (measuredBy turnedSound) rowCases ≡ map (λ (c : RowCase). c .measures) rowCases
 unfolding rowCases twoPairs sumTo sumOver greatest anyBelow codeOf kindOf is tableOf tryAt tryFrom tryPass firstFound entryWrong totalWrong ownerBelow kindUnknown argumentWrong endMisplaced forkedBelow forkedBefore openBefore joinNotLatest endWithOpen neverForked allocOf freeOf wholeWithin balance balanceBelow0 passes serialWithin fronts heldAfter peakOf S1 forkBelow forkOf beforeIt joinedEnd dependsOn levelWithin D leftOf without waitsFor woken actBy act leftmost taken turnFree turnOf setOf allocAbove firsts startState startRun begin allIn rootEnded noWorker stepRun replies sumReplies memoryOf frontRows peakMemory countIn limit untilNext atMost keeps
 rows-worked = refl
