@@ -22,7 +22,7 @@ use Rattle.schedule.specs.Sound.{Steady, Sound}
 use Rattle.schedule.specs.Turn.{unsound, turnChecks, stepRun, turnedAs, turned}
 use Rattle.schedule.specs.Listing.{Listing, turnsBy}
 use Rattle.schedule.specs.Cases.{never, beginThen, ranBy, soundChecks, turnedSound, ranAs, Case, cases, worked}
-use Rattle.schedule.specs.Rule.{Measures, RowCase, measuredBy, rowCases, rows-worked}
+use Rattle.schedule.specs.Rule.{RowCase, measuredBy, rowCases, rows-worked}
 use Rattle.schedule.proofs.Words.{and-exactly, ltb-exactly}
 use Rattle.schedule.proofs.Turns.{either}
 use Rattle.schedule.proofs.Tests.{sound-exactly}
