@@ -4,7 +4,7 @@ use mathlib.Core.Path.{_≡_}
 use mathlib.Core.List.{List, flatten}
 use lib.ListN.{length}
 use Rattle.text.specs.Text.{bufferAt}
-use Rattle.listing.specs.Lines.{putAll}
+use Rattle.lines.specs.Lines.{putAll}
 
 -- the texts are put one after another from a position on, and all of them together are at most so long
 pub record Puts (before : List ℕ) (at : ℕ) (after : List ℕ) (next : ℕ) (texts : List (List ℕ)) (most : ℕ) : Type 0 where

@@ -1,10 +1,10 @@
--- `listing::lines::put_pair` meets its contract: two numbers of at most five digits, each after a space.
+-- `lines::put_pair` meets its contract: two numbers of at most five digits, each after a space.
 use native.Mathlib.Omega.{arith}
 use borrow.Author.Needs.{needs}
 use Rattle.text.specs.Text.{space}
-use Rattle.listing.proofs.Putting.{puts-labelled, puts-more}
-use Rattle.listing.proofs.lines.put_pair.Statement.{statement}
-use Rattle.listing.proofs.lines.put_pair.Tie as tie
+use Rattle.lines.proofs.Putting.{puts-labelled, puts-more}
+use Rattle.lines.proofs.put_pair.Statement.{statement}
+use Rattle.lines.proofs.put_pair.Tie as tie
 
 slice-aggregate-put-labelled : tie.Need-slice-aggregate-put-labelled
 slice-aggregate-put-labelled c = search needs

@@ -1,11 +1,11 @@
--- `listing::lines::put_turn` meets its contract: the texts of a line in their order, 64 bytes at most.
+-- `lines::put_turn` meets its contract: the texts of a line in their order, 64 bytes at most.
 use native.Mathlib.Omega.{arith}
 use borrow.Author.Needs.{needs}
 use Rattle.text.specs.Text.{space, newline}
-use Rattle.listing.specs.Lines.{turnTexts}
-use Rattle.listing.proofs.Putting.{puts-word, puts-number, puts-labelled, puts-more}
-use Rattle.listing.proofs.lines.put_turn.Statement.{statement}
-use Rattle.listing.proofs.lines.put_turn.Tie as tie
+use Rattle.lines.specs.Lines.{turnTexts}
+use Rattle.lines.proofs.Putting.{puts-word, puts-number, puts-labelled, puts-more}
+use Rattle.lines.proofs.put_turn.Statement.{statement}
+use Rattle.lines.proofs.put_turn.Tie as tie
 
 put-number-requires : tie.Need-put-number-requires
 put-number-requires c κs = search needs
@@ -42,10 +42,10 @@ returns c =
     let e₂ = e₃ .before .before .before .before in
     let e₁ = e₂ .before .before .before .before .before in
     let a = e₁ .before .before .before in
-    puts-more (puts-number (a .args .run .turns) 19 (omega (arith, a .good)) (e₁ .put-number .ensures))
+    puts-more (puts-number (a .args .turns) 19 (omega (arith, a .good)) (e₁ .put-number .ensures))
     (puts-more (puts-labelled space (a .args .w) 2 (omega (arith, a .good)) (e₂ .put-labelled .ensures))
     (puts-more (e₃ .put-told .ensures)
-    (puts-more (puts-labelled space (a .args .run .held) 19 (omega (arith, a .good)) (e₄ .put-labelled2 .ensures)) (puts-word newline (c .before .before .put-word .ensures)))))
+    (puts-more (puts-labelled space (a .args .held) 19 (omega (arith, a .good)) (e₄ .put-labelled2 .ensures)) (puts-word newline (c .before .before .put-word .ensures)))))
 
 pub put-turn-spec : {M : Type 1} → statement M
 put-turn-spec =

@@ -1,15 +1,13 @@
--- Texts that are put by several calls, one after another: put as one row; and written from a buffer's start on, where they fit.
+-- Texts that are put by several calls, one after another, are put as one row.
 use Prim.Native.Nat.{ℕ, suc, _+_, _^_, _≤_, _<_}
 use native.Mathlib.Omega.{arith}
 use mathlib.Core.Path.{_≡_, refl, sym, ap, _∙_}
 use mathlib.Core.List.{List, [], _∷_, _++_, append-nil, append-assoc, foldl, foldl-append, flatten}
-use lib.ListN.{length, drop, length-append}
-use Rattle.io.specs.Counts.{Counts}
+use lib.ListN.{length, length-append}
 use Rattle.text.specs.Text.{decimal, Buffer, bufferAt, placed, placedNext}
 use Rattle.text.proofs.Decimal.{decimal-length}
-use Rattle.text.proofs.Placing.{placed-fits, line-put, counts}
-use Rattle.listing.specs.Lines.{putAll}
-use Rattle.listing.specs.Puts.{Puts}
+use Rattle.lines.specs.Lines.{putAll}
+use Rattle.lines.specs.Puts.{Puts}
 
 flatten-append : (ts us : List (List ℕ)) → flatten (ts ++ us) ≡ flatten ts ++ flatten us
 unfolding flatten
@@ -47,21 +45,3 @@ module _ {s o : List ℕ} {at r : ℕ} where
         put = u .put ∙ ap (λ (b : Buffer). putAll b us) (p .put) ∙ sym (foldl-append placedNext (bufferAt s at) ts us);
         short = rw (flatten-append ts us, length-append (flatten ts) (flatten us)) (omega (arith, p .short, u .short));
       }
-
-joined : (ts : List (List ℕ)) (t : List ℕ) → foldl _++_ t ts ≡ t ++ flatten ts
-unfolding flatten
-joined [] t = sym (append-nil t)
-joined (u ∷ ts) t = joined ts (t ++ u) ∙ append-assoc t u (flatten ts)
-
--- what a program may write: the text's length, the buffer with the text at its start, and that the length counts bytes of it
-abbrev pub Written : List ℕ → List ℕ → ℕ → List ℕ → Type 0
-Written s o r text = (r ≡ length text) × ((o ≡ text ++ drop r s) × Counts r o)
-
-pub written : {s o : List ℕ} {r : ℕ} {ts : List (List ℕ)} {m : ℕ} → m ≤ length s → Puts s 0 o r ts m → Written s o r (flatten ts)
-written {s} {o} {r} {ts} {m} h p =
-    let j : foldl _++_ [] ts ≡ flatten ts = joined ts [] in
-    let z : placed s 0 [] ≡ bufferAt s 0 = placed-fits s 0 [] (omega arith) in
-    let q = line-put s o r [] ts (rw j (omega (arith, p .short))) (rw z (p .put)) in
-    let size : r ≡ length (flatten ts) = rw j at (q .0) in
-    let bytes : o ≡ flatten ts ++ drop r s = rw j at (q .1) in
-    (size, (bytes, counts o r (omega (arith, size, simp length-append at (ap length bytes)))))

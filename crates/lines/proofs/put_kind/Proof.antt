@@ -1,13 +1,13 @@
--- `listing::lines::put_kind` meets its contract: each code has its kind's name, and a code above 5 that of no kind.
+-- `lines::put_kind` meets its contract: each code has its kind's name, and a code above 5 that of no kind.
 use mathlib.Core.Path.{_≡_, refl}
 use Prim.Native.Nat.{ℕ, zero, suc, _≤_}
 use native.Mathlib.Omega.{arith}
 use borrow.Author.Needs.{needs}
 use Rattle.table.specs.Format.{end, work, alloc, free, fork, join, unknown, kindOf}
-use Rattle.listing.specs.Lines.{kindWord}
-use Rattle.listing.proofs.Putting.{puts-word, puts-within}
-use Rattle.listing.proofs.lines.put_kind.Statement.{statement}
-use Rattle.listing.proofs.lines.put_kind.Tie as tie
+use Rattle.lines.specs.Lines.{kindWord}
+use Rattle.lines.proofs.Putting.{puts-word, puts-within}
+use Rattle.lines.proofs.put_kind.Statement.{statement}
+use Rattle.lines.proofs.put_kind.Tie as tie
 
 kind-unknown : (k : ℕ) → 6 ≤ k → kindOf k ≡ unknown
 unfolding kindOf

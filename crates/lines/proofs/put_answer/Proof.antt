@@ -1,13 +1,13 @@
--- `listing::lines::put_answer` meets its contract: what the line's buffer has at its front is the line.
+-- `lines::put_answer` meets its contract: what the line's buffer has at its front is the line.
 use mathlib.Core.Path.{_≡_, sym, ap, _∙_}
 use native.Mathlib.Omega.{arith}
 use borrow.Author.Needs.{needs}
 use lib.ListN.{take}
 use lib.Seq.{take-at}
 use Rattle.text.specs.Text.{lineOf}
-use Rattle.listing.proofs.Putting.{puts-word, puts-within}
-use Rattle.listing.proofs.lines.put_answer.Statement.{statement}
-use Rattle.listing.proofs.lines.put_answer.Tie as tie
+use Rattle.lines.proofs.Putting.{puts-word, puts-within}
+use Rattle.lines.proofs.put_answer.Statement.{statement}
+use Rattle.lines.proofs.put_answer.Tie as tie
 
 table-line-requires : tie.Need-table-line-requires
 table-line-requires c κs = search needs

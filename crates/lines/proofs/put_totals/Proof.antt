@@ -1,11 +1,11 @@
--- `listing::lines::put_totals` meets its contract: two numbers of at most twenty digits.
+-- `lines::put_totals` meets its contract: two numbers of at most twenty digits.
 use native.Mathlib.Omega.{arith}
 use borrow.Author.Needs.{needs}
 use denote.Ref.{now}
-use Rattle.listing.specs.Lines.{peakWord}
-use Rattle.listing.proofs.Putting.{puts-labelled, puts-more, puts-within}
-use Rattle.listing.proofs.lines.put_totals.Statement.{statement}
-use Rattle.listing.proofs.lines.put_totals.Tie as tie
+use Rattle.lines.specs.Lines.{peakWord}
+use Rattle.lines.proofs.Putting.{puts-labelled, puts-more, puts-within}
+use Rattle.lines.proofs.put_totals.Statement.{statement}
+use Rattle.lines.proofs.put_totals.Tie as tie
 
 put-labelled-requires : tie.Need-put-labelled-requires
 put-labelled-requires c κs = search needs
@@ -22,7 +22,7 @@ same-length c = search needs
 returns : tie.Need-returns
 returns c =
     let a = c .before .before .before .before .before .before .before .before .before .before .before in
-    puts-within (omega (arith, a .pre))
+    puts-within (omega arith)
     (puts-more (puts-labelled (now (a .args .word)) (a .args .turns) 19 (omega (arith, a .good)) (c .before .before .before .before .before .before .before .put-labelled .ensures))
     (puts-labelled peakWord (a .args .peak) 19 (omega (arith, a .good)) (c .before .before .put-labelled2 .ensures)))
 

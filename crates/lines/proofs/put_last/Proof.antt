@@ -1,14 +1,11 @@
--- `listing::lines::put_last` meets its contract: the word goes by whether the root has ended.
+-- `lines::put_last` meets its contract: the word goes by whether the root has ended.
 use native.Mathlib.Omega.{arith}
 use borrow.Author.Needs.{needs}
 use Rattle.text.specs.Text.{newline}
-use Rattle.listing.specs.Lines.{lastTexts}
-use Rattle.listing.proofs.Putting.{puts-word, puts-more, puts-within}
-use Rattle.listing.proofs.lines.put_last.Statement.{statement}
-use Rattle.listing.proofs.lines.put_last.Tie as tie
-
-is-ended-requires : tie.Need-is-ended-requires
-is-ended-requires c κs = search needs
+use Rattle.lines.specs.Lines.{lastTexts}
+use Rattle.lines.proofs.Putting.{puts-word, puts-more, puts-within}
+use Rattle.lines.proofs.put_last.Statement.{statement}
+use Rattle.lines.proofs.put_last.Tie as tie
 
 slice-aggregate-put-totals : tie.Need-slice-aggregate-put-totals
 slice-aggregate-put-totals c = search needs
@@ -41,7 +38,7 @@ returns : tie.Need-returns
 unfolding lastTexts
 returns c =
     let p = c .before .before .before .before .before .before .before in
-    rw (← p .before .before .before .before .is-ended .ensures, p .before .before .before .if1 .taken) (puts-within (omega arith) (puts-more (p .put-totals .ensures) (puts-word newline (c .before .before .put-word .ensures))))
+    rw (p .before .before .before .if1 .taken) (puts-within (omega arith) (puts-more (p .put-totals .ensures) (puts-word newline (c .before .before .put-word .ensures))))
 
 same-length-2 : tie.Need-same-length-2
 same-length-2 c = search needs
@@ -50,13 +47,12 @@ returns-2 : tie.Need-returns-2
 unfolding lastTexts
 returns-2 c =
     let p = c .before .before .before .before .before .before .before in
-    rw (← p .before .before .before .before .is-ended .ensures, p .before .before .before .if1 .left) (puts-within (omega arith) (puts-more (p .put-totals2 .ensures) (puts-word newline (c .before .before .put-word2 .ensures))))
+    rw (p .before .before .before .if1 .left) (puts-within (omega arith) (puts-more (p .put-totals2 .ensures) (puts-word newline (c .before .before .put-word2 .ensures))))
 
 pub put-last-spec : {M : Type 1} → statement M
 put-last-spec =
     tie.close
     (tie.spec
-    is-ended-requires
     slice-aggregate-put-totals
     put-totals-requires
     slice-aggregate-put-word

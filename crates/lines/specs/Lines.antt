@@ -5,8 +5,6 @@ use Rattle.table.specs.Format.{Kind, end, work, alloc, free, fork, join, unknow
 use Rattle.table.specs.Pass.{refusal}
 use Rattle.text.specs.Text.{decimal, space, newline, refusedLine, Buffer, placedNext}
 use Rattle.schedule.specs.declared.Run.{Run}
-use Rattle.schedule.specs.declared.Turning.{Turning}
-use Rattle.schedule.specs.declared.Turning.the-variants.{Taken, Refused as refusedTurn}
 use Rattle.schedule.specs.declared.Report.{Report}
 use Rattle.schedule.specs.declared.Report.the-variants.{Finished, Spent, Refused}
 use Rattle.schedule.specs.Listing.{Told, idle, did, quota, wait, Line, Last, done, notDone, refused, Listing}
@@ -104,11 +102,6 @@ linesThen (l ∷ ls) rest = turnTexts l ++ linesThen ls rest
 
 abbrev pub textsOf : Listing → List (List ℕ)
 textsOf l = linesThen (l .lines) (lastTexts (l .last))
-
--- a refused turn's line
-abbrev pub refusedTexts : Turning → List (List ℕ)
-refusedTexts (Taken x) = []
-refusedTexts (refusedTurn x) = refusedLine x ∷ []
 
 -- ---- the line of a run in rounds
 
