@@ -18,4 +18,5 @@ pub mod Driving
 pub mod Moving
 pub mod Blank
 pub mod Calls
+pub mod Ordered
 pub mod Promised
