@@ -1,10 +1,10 @@
--- `listing::record::byte` meets its contract: past a list's end stands the default.
+-- `listing::read::byte` meets its contract: past a list's end stands the default.
 use mathlib.Core.Path.{sym}
 use borrow.Author.Needs.{needs}
 use denote.Ref.{now}
 use lib.ListN.{List·getD-eq-default}
-use Rattle.listing.proofs.record.byte.Statement.{statement}
-use Rattle.listing.proofs.record.byte.Tie as tie
+use Rattle.listing.proofs.read.byte.Statement.{statement}
+use Rattle.listing.proofs.read.byte.Tie as tie
 
 shared-slice-read-result : tie.Need-shared-slice-read-result
 shared-slice-read-result c = search needs
