@@ -53,6 +53,20 @@ module _ (r : Run) (e : unsound r ≡ false) where
       go true i = absurd (omega (arith, steady-fits r (sound-exactly r .0 i .steady) .some-worker))
       go false i = blank-exactly r .0 (not-false (isBlank r) (rw i at e))
 
+-- turns taken decides it on a record that is sound but for them
+pub steady-full : (r : Run) → Steady r → r .turns ≡ 2 ^ 64 - 1 → unsound r ≡ true
+unfolding unsound
+steady-full r h e = go (sound r) refl (isBlank r) refl
+  where
+    go : (s : Bool) → sound r ≡ s → (b : Bool) → isBlank r ≡ b → not (sound r) && not (isBlank r) ≡ true
+    go true i b j = absurd (omega (arith, sound-exactly r .0 i .turns, e))
+    go false i true j = absurd (omega (arith, ap (λ (x : Run). x .workers) (blank-exactly r .0 j) ∙ blank-none, steady-fits r h .some-worker))
+    go false i false j = rw (i, j)
+
+pub steady-room : (r : Run) → Steady r → r .turns < 2 ^ 64 → (r .turns ≡ 2 ^ 64 - 1 → ⊥) → unsound r ≡ false
+unfolding unsound
+steady-room r h k e = rw (sound-exactly r .1 (record { steady = h; turns = omega (arith, k, e) }))
+
 -- ---- a single turn
 
 abbrev pub refusedAs : ℕ → Run → Turned

@@ -15,6 +15,8 @@ pub mod Marks
 pub mod Chains
 pub mod Local
 pub mod Driving
+pub mod Moving
 pub mod Blank
 pub mod Calls
+pub mod Ordered
 pub mod Promised

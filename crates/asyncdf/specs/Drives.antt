@@ -1,14 +1,17 @@
--- The workers of a run, in the order of a list or in rounds; and the set of those that hold a thread after a turn.
+-- The workers of a run, in the order of a list or in rounds; what a loop of turns reads off its table; the set of those that hold a thread after a turn.
 use mathlib.Core.Path.{_≡_}
 use Prim.Native.Nat.{ℕ, _+_, _-_, _%_, _^_, _≤_, _<_}
 use mathlib.Core.List.{List}
 use mathlib.Core.Bool.{Bool, true, false}
 use lib.ListN.{length, getD}
 use Rattle.table.specs.Sum.{pick}
+use Rattle.table.specs.Format.{tableOf}
+use Rattle.table.specs.Rules.{endOf}
 use Rattle.schedule.specs.declared.Worker.{Worker}
 use Rattle.schedule.specs.declared.Run.{Run}
 use Rattle.schedule.specs.Turn.{rootEnded}
 use Rattle.asyncdf.specs.declared.act.Totals.{Totals}
+use Rattle.asyncdf.specs.Parts.{Parents}
 
 -- the worker of turn i
 unfoldable pub who : List ℕ → Bool → ℕ → ℕ → ℕ
@@ -18,6 +21,12 @@ who order rounds p i = pick rounds (i % p) (getD order i 0)
 pub record Sequence (order : List ℕ) (rounds : Bool) (p i : ℕ) : Type 0 where
   pub workers : rounds ≡ true → 0 < p
   pub within : rounds ≡ false → i < length order
+
+-- what a loop of turns looks up in its table: how many threads, the root's last action, each thread's parent
+pub record Outlined (s : List ℕ) (n last : ℕ) (parents : List ℕ) : Type 0 where
+  pub threads : n ≡ tableOf s .threads
+  pub last-action : last ≡ endOf (tableOf s) 0
+  pub parent : Parents (tableOf s) parents
 
 -- the set after worker w's truth value went from one to the other
 unfoldable pub busyAfter : ℕ → Bool → Bool → ℕ → ℕ

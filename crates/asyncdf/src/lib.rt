@@ -6,6 +6,9 @@ use crate::read::word;
 use crate::runs::drive;
 use crate::runs::stopped;
 use crate::sound::unsound;
+use crate::turns::put_turns;
+use lines::put_last;
+use lines::put_refused;
 use schedule::Beginning;
 use schedule::Begun;
 use schedule::Ran;
@@ -17,7 +20,9 @@ use table::Found;
 use table::Loaded;
 use table::Refusal;
 ghost use mathlib.Core.Path.{_≡_};
+ghost use Prim.Native.Nat.{_+_, _*_};
 ghost use lib.Count.{ones};
+ghost use lib.ListN.{length};
 ghost use Rattle.table.specs.Pass.{refusal};
 ghost use Rattle.schedule.specs.declared.Turning.the-variants.{Refused};
 ghost use Rattle.schedule.specs.Answers.{beginningValues, turningValues, reportValues};
@@ -25,8 +30,11 @@ ghost use Rattle.schedule.specs.Begin.{begin as beginOf};
 ghost use Rattle.schedule.specs.Machine.{workerOf};
 ghost use Rattle.schedule.specs.Record.{stateOf};
 ghost use Rattle.schedule.specs.Sound.{Sound, countBelow};
-ghost use Rattle.schedule.specs.Turn.{turned as turnedOf};
+ghost use Rattle.schedule.specs.Turn.{rootEnded, turned as turnedOf};
+ghost use Rattle.schedule.specs.Listing.{turnsBy};
 ghost use Rattle.schedule.specs.Runs.{listRun, roundsRun};
+ghost use Rattle.lines.specs.Lines.{textsOf};
+ghost use Rattle.lines.specs.Puts.{Puts};
 
 mod act;
 mod amounts;
@@ -40,6 +48,7 @@ mod rests;
 mod runs;
 mod sound;
 mod step;
+mod turns;
 
 // Beginning from a table's bytes, p and K: the table's own checks, then 20 to 22.
 pub fn begin(bytes: &[u8], p: u8, quota: u32) -> Begun
@@ -148,6 +157,26 @@ pub fn run_rounds(run: Run, limit: u32) -> Ran
     let report = driven.report;
     let after = driven.run;
     Ran { report, run: after }
+}
+
+// The lines of the turns of an order's workers, up to the root's end, a refusal or the order's end, and the last line.
+pub fn list_turns(run: Run, order: &[u8], out: &mut [u8], at: usize) -> usize
+    ensures { λ r. ⌜ Puts (now (out .entry)) at (now (out .exit)) r (textsOf (turnsBy rootEnded turnedOf run (now (order .entry)))) (64 * (length (now (order .entry)) + 1)) ⌝ }
+{
+    let status = run.status;
+    if status[0] == 4 {
+        return put_last(out, at, true, run.turns, run.highest);
+    }
+    if order.len() == 0 {
+        return put_last(out, at, false, run.turns, run.highest);
+    }
+    if unsound(run) {
+        return put_refused(out, at, 32);
+    }
+    if run.workers == 0 {
+        return put_refused(out, at, 30);
+    }
+    put_turns(run, order, out, at)
 }
 
 // The number busy.

@@ -28,7 +28,23 @@ pub(crate) fn code(table: &[u8], n: usize, a: usize) -> u8
     table[4 + 4 * n + 4 * a]
 }
 
-// Its argument, 24 bits.
+// The same for any action: 0 past the table's end.
+pub(crate) fn code_or_zero(table: &[u8], n: usize, a: usize) -> u8
+    requires { ⌜ (n ≡ threadsOf (now table)) × (n < 65536) × (a < 65536) ⌝ }
+    ensures { λ r. ⌜ r ≡ tableOf (now (table .entry)) .code a ⌝ }
+{
+    let i = 4 + 4 * n + 4 * a;
+    if i < table.len() { table[i] } else { 0 }
+}
+
+// The number at a position, 0 past the end.
+pub(crate) fn number_or_zero(numbers: &[u16], i: usize) -> u16
+    ensures { λ r. ⌜ r ≡ getD (now (numbers .entry)) i 0 ⌝ }
+{
+    if i < numbers.len() { numbers[i] } else { 0 }
+}
+
+// An action's argument, 24 bits.
 pub(crate) fn argument(table: &[u8], n: usize, a: usize) -> usize
     requires { ⌜ (n ≡ threadsOf (now table)) × (4 + 4 * n + 4 * a + 3 < length (now table)) ⌝ }
     ensures { λ r. ⌜ Read (tableOf (now (table .entry)) .argument a) 16777216 r ⌝ }

@@ -11,12 +11,37 @@ use table::Refusal;
 ghost use mathlib.Core.Path.{_≡_};
 ghost use mathlib.Core.Bool.{Bool, true, false};
 ghost use Prim.Native.Nat.{ℕ, _+_, _^_, _≤_, _<_};
+ghost use lib.ListN.{replicate};
 ghost use Rattle.table.specs.Pass.{refusal};
+ghost use Rattle.table.specs.Accepted.{Rules};
 ghost use Rattle.schedule.specs.declared.Report.the-variants.{Refused};
 ghost use Rattle.schedule.specs.Runs.{ran, drive as driveOf};
 ghost use Rattle.schedule.specs.Sound.{Steady};
 ghost use Rattle.schedule.specs.Turn.{stepRun};
-ghost use Rattle.asyncdf.specs.Drives.{who, busyAfter, Sequence, Bit, Open, packedOf};
+ghost use Rattle.asyncdf.specs.Drives.{who, busyAfter, Sequence, Outlined, Bit, Open, packedOf};
+
+// What a loop of turns looks up in its table again and again.
+pub(crate) struct Outline {
+    pub(crate) threads: usize,
+    // the root's last action
+    pub(crate) last: usize,
+}
+
+// The same read once, with each thread's parent.
+pub(crate) fn outline_of(table: &[u8], parents: &mut [u16; 1024]) -> Outline
+    requires { ⌜ Rules (now table) ⌝ }
+    requires { ⌜ now parents ≡ replicate 1024 0 ⌝ }
+    ensures { λ r. ⌜ Outlined (now (table .entry)) (r .threads) (r .last) (now (parents .exit)) ⌝ }
+{
+    let n = word(table, 0);
+    let m = word(table, 2);
+    let mut forks = [0u16; 1024];
+    fill_forks(table, n, m, &mut forks, parents);
+    Outline {
+        threads: n,
+        last: word(table, 6) - 1,
+    }
+}
 
 // The worker whose turn comes after i turns: from the order, or in rounds.
 fn worker_of(order: &[u8], rounds: bool, p: usize, i: usize) -> usize
@@ -95,14 +120,12 @@ pub(crate) fn drive(run: Run, order: &[u8], rounds: bool, limit: usize) -> Drive
     let length = run.length as usize;
     let table = run.table;
     let bytes = &table[..length];
-    let n = word(bytes, 0);
-    let m = word(bytes, 2);
+    let mut parents = [0u16; 1024];
+    let outline = outline_of(bytes, &mut parents);
+    let n = outline.threads;
+    let last = outline.last;
     let p = run.workers as usize;
     let quota = run.quota;
-    let mut forks = [0u16; 1024];
-    let mut parents = [0u16; 1024];
-    fill_forks(bytes, n, m, &mut forks, &mut parents);
-    let last = word(bytes, 6) - 1;
     let mut next = run.next;
     let mut status = run.status;
     let mut list = run.list;

@@ -1,6 +1,5 @@
 pub mod Inputs
-pub mod Putting
-pub mod Ordered
+pub mod Written
 -- the worked cases
 pub mod Worked
 pub mod Starred

@@ -18,7 +18,7 @@ use Rattle.schedule.specs.Turn.{rootEnded, turned}
 use Rattle.schedule.specs.Listing.{Listing, turnsBy}
 use Rattle.schedule.specs.Cases.{turnedSound}
 use Rattle.schedule.proofs.CaseLaws.{begun-turned}
-use Rattle.listing.specs.Lines.{textsOf}
+use Rattle.lines.specs.Lines.{textsOf}
 use Rattle.listing.specs.Listing.{workersIn, quotaIn, orderLength, orderIn, tableAfter, inputWrong, headed, listedBy, wrongInput, listingBy, listingOf}
 use Rattle.listing.specs.Cases.{Case, cases, worked}
 use Rattle.listing.proofs.Inputs.{right}

@@ -18,7 +18,7 @@ use Rattle.schedule.specs.Record.{setOf}
 use Rattle.schedule.specs.Begin.{allocAbove, firsts, startState, startRun, begin}
 use Rattle.schedule.specs.Turn.{rootEnded, noWorker, stepRun}
 use Rattle.schedule.specs.Cases.{turnedSound, orderE, orderWait}
-use Rattle.listing.specs.Lines.{kindWord, toldTexts, turnTexts, lastTexts, linesThen}
+use Rattle.lines.specs.Lines.{kindWord, toldTexts, turnTexts, lastTexts, linesThen}
 use Rattle.listing.specs.Listing.{inputWrong, listedBy, listingBy}
 
 pub record Case : Type 0 where

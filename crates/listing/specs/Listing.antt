@@ -21,7 +21,7 @@ use Rattle.schedule.specs.Begin.{begin}
 use Rattle.schedule.specs.Turn.{rootEnded, turned}
 use Rattle.schedule.specs.Runs.{roundsRun}
 use Rattle.schedule.specs.Listing.{turnsBy}
-use Rattle.listing.specs.Lines.{textsOf, reportTexts}
+use Rattle.lines.specs.Lines.{textsOf, reportTexts}
 
 -- ---- the listing of a run over an order
 

@@ -1,13 +1,11 @@
 // The numbers at the front of a program's input.
-use crate::lines::put_answer;
-use crate::record::byte;
-use crate::record::wide;
-use crate::record::word;
-use table::Loaded;
-use table::Refusal;
+use crate::read::byte;
+use crate::read::wide;
+use crate::read::word;
+use lines::put_refused;
 ghost use mathlib.Core.Path.{_≡_};
 ghost use Rattle.listing.specs.Listing.{quotaIn, limitIn, inputWrong, wrongInput};
-ghost use Rattle.listing.specs.Puts.{Puts};
+ghost use Rattle.lines.specs.Puts.{Puts};
 
 // K, 24 bits.
 pub(crate) fn quota_in(input: &[u8]) -> u32
@@ -41,12 +39,5 @@ pub(crate) fn input_wrong(input: &[u8]) -> bool
 pub(crate) fn put_wrong(out: &mut [u8]) -> usize
     ensures { λ r. ⌜ Puts (now (out .entry)) 0 (now (out .exit)) r wrongInput 64 ⌝ }
 {
-    put_answer(
-        out,
-        0,
-        Loaded::Refused(Refusal {
-            number: 33,
-            place: 0,
-        }),
-    )
+    put_refused(out, 0, 33)
 }

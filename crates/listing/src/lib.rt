@@ -1,7 +1,6 @@
 // What `turnlist` and `runrounds` print, from the bytes that they read to the bytes that they write.
 mod input;
-mod lines;
-mod record;
+mod read;
 mod rounds;
 mod turns;
 
@@ -9,8 +8,8 @@ use input::input_wrong;
 use input::limit_in;
 use input::put_wrong;
 use input::quota_in;
-use record::byte;
-use record::word;
+use read::byte;
+use read::word;
 use rounds::put_rounds;
 use turns::put_listing;
 ghost use mathlib.Core.Path.{_≡_};

@@ -1,6 +1,6 @@
 // The line of a run in rounds.
-use crate::lines::put_answer;
-use crate::lines::put_totals;
+use lines::put_answer;
+use lines::put_totals;
 use schedule::Beginning;
 use schedule::Report;
 use schedule::Run;
@@ -9,9 +9,9 @@ use text::put_labelled;
 use text::put_word;
 ghost use mathlib.Core.List.{List, [], _∷_};
 ghost use Rattle.text.specs.Text.{decimal, newline};
-ghost use Rattle.listing.specs.Lines.{heldWord, reportTexts};
+ghost use Rattle.lines.specs.Lines.{heldWord, reportTexts};
 ghost use Rattle.listing.specs.Listing.{roundedTexts};
-ghost use Rattle.listing.specs.Puts.{Puts};
+ghost use Rattle.lines.specs.Puts.{Puts};
 
 // Memory held, and the line's end.
 fn put_held(out: &mut [u8], at: usize, held: u64) -> usize

@@ -42,20 +42,40 @@ pub record Listing : Type 0 where
 abbrev pub listing : List Line → Last → Listing
 listing l x = record { lines = l; last = x }
 
+-- the action that a reply says was done, and the thread that it names; 0 where there is none
+abbrev pub actionIn : Reply → ℕ
+actionIn Idle = 0
+actionIn (Done t a) = a
+actionIn (Quota t x) = 0
+actionIn (Wait t c) = 0
+
+abbrev pub threadIn : Reply → ℕ
+threadIn Idle = 0
+threadIn (Done t a) = t
+threadIn (Quota t x) = t
+threadIn (Wait t c) = t
+
+-- what a reply tells, with the kind of the action done and the thread's next action
+abbrev pub toldWith : Reply → Kind → ℕ → Told
+toldWith Idle k a = idle
+toldWith (Done t d) k a = did t d k
+toldWith (Quota t x) k a = quota t a
+toldWith (Wait t c) k a = wait t a
+
 -- "A quota or wait line names the action not done": its thread's next one
 abbrev pub toldBy : Reply → Run → Told
-toldBy Idle r = idle
-toldBy (Done t a) r = did t a (kind (tableIn r) a)
-toldBy (Quota t x) r = quota t (nextOf (stateOf r) t)
-toldBy (Wait t c) r = wait t (nextOf (stateOf r) t)
+toldBy x r = toldWith x (kind (tableIn r) (actionIn x)) (nextOf (stateOf r) (threadIn x))
 
 abbrev pub turnThen : Turning → ℕ → Run → Listing → Listing
 turnThen (Taken x) w r rest = listing (line (r .turns) w (toldBy x r) (r .held) ∷ rest .lines) (rest .last)
 turnThen (refusedTurn x) w r rest = listing [] (refused (x .number) (x .place))
 
 -- the last line where no turn is refused
+abbrev pub lastWith : Bool → ℕ → ℕ → Last
+lastWith ended turns peak = pick ended (done turns peak) (notDone turns peak)
+
 abbrev pub lastOf : Run → Last
-lastOf r = pick (rootEnded r) (done (r .turns) (r .highest)) (notDone (r .turns) (r .highest))
+lastOf r = lastWith (rootEnded r) (r .turns) (r .highest)
 
 -- turns of an order's workers, one after the other up to a refusal or to a record at which they stop
 abbrev pub turnsBy : (Run → Bool) → (Run → ℕ → Turned) → Run → List ℕ → Listing

@@ -10,9 +10,9 @@ use lib.ListN.{length, take, drop, length-take, length-drop}
 use Rattle.table.proofs.Parts.{rest-part}
 use Rattle.schedule.specs.Turn.{turned}
 use Rattle.listing.specs.Listing.{workersIn, quotaIn, orderLength, orderIn, tableAfter, inputWrong, listedBy, wrongInput, listingOf, listingBy}
-use Rattle.listing.specs.Puts.{Puts}
+use Rattle.lines.specs.Puts.{Puts}
 use Rattle.listing.proofs.Inputs.{right}
-use Rattle.listing.proofs.Putting.{Written, written}
+use Rattle.listing.proofs.Written.{Written, written}
 use Rattle.listing.proofs.turn_listing.Statement.{statement}
 use Rattle.listing.proofs.turn_listing.Tie as tie
 

@@ -1,5 +1,4 @@
--- `asyncdf::runs::drive` meets its contract. The invariant: the record packed from what the turns have moved is sound but for its turns taken, its root has not ended, and the run
--- from it is what remains of the whole run.
+-- `asyncdf::runs::drive` meets its contract. The invariant: what every loop of turns keeps (Moving), and the run from here is what remains of the whole run.
 use mathlib.Core.Path.{_≡_, refl, sym, ap, subst, _∙_}
 use Prim.Native.Nat.{ℕ, suc, pred, _+_, _-_, _*_, _^_, _≤_, _<_}
 use mathlib.Core.List.{List, [], _∷_}
@@ -9,18 +8,9 @@ use native.Mathlib.Omega.{arith}
 use borrow.Author.Needs.{needs}
 use borrow.Author.Tests.{ne-eqb, eq-eqb, eqb-false}
 use denote.Ref.{now}
-use denote.Enum.Declared.{tagOf}
-use types.Run.{OneOf, miss}
-use Rattle.schedule.proofs.Reply.{the-type}
 use lib.ListN.{length, getD, set, take, length-take}
 use lib.Dec.{eqb}
-use Rattle.table.specs.Sum.{sumTo}
-use Rattle.table.specs.Format.{Table, u16At, tableOf}
 use Rattle.table.specs.Pass.{refusal}
-use Rattle.table.specs.Rules.{endOf}
-use Rattle.table.specs.Accepted.{Rules}
-use Rattle.table.proofs.Bodies.{first-is, count-pos, after-end}
-use Rattle.table.proofs.Sizes.{Sizes}
 use Rattle.schedule.specs.declared.Worker.{Worker}
 use Rattle.schedule.specs.declared.Run.{Run}
 use Rattle.schedule.specs.declared.Ran.{Ran}
@@ -29,45 +19,19 @@ use Rattle.schedule.specs.declared.Reply.the-variants.{Idle, Done}
 use Rattle.schedule.specs.declared.Report.{Report}
 use Rattle.schedule.specs.declared.Report.the-variants.{Finished, Spent, Refused}
 use Rattle.schedule.specs.Machine.{ended, nobody}
-use Rattle.schedule.specs.Memory.{ofReply}
 use Rattle.schedule.specs.Record.{bytesOf, tableIn, stateOf}
 use Rattle.schedule.specs.Sound.{Steady}
 use Rattle.schedule.specs.Turn.{rootEnded, stepRun}
 use Rattle.schedule.specs.Runs.{ran, moved, drive}
-use Rattle.schedule.proofs.Lawful.{Lawful, lawful}
-use Rattle.schedule.proofs.Stores.{steady-fits, moved-steady}
 use Rattle.asyncdf.specs.declared.act.Totals.{Totals}
 use Rattle.asyncdf.specs.declared.act.Stepped.{Stepped as StepResult}
-use Rattle.asyncdf.specs.Parts.{partState, partStepped, turnBody, Rowed, Parents, Sits}
-use Rattle.asyncdf.specs.Checks.{Known}
-use Rattle.asyncdf.specs.Drives.{who, busyAfter, Sequence, Bit, Open, packedOf}
-use Rattle.asyncdf.proofs.Room.{known-sizes}
-use Rattle.asyncdf.proofs.Local.{set-bit}
-use Rattle.asyncdf.proofs.Driving.{finishes, goes-on, packed-reply, packed-moved, drive-over, drive-spent, drive-full, drive-none, drive-next}
+use Rattle.asyncdf.specs.Parts.{partState, partStepped, turnBody, Rowed}
+use Rattle.asyncdf.specs.Drives.{who, busyAfter, Sequence, Outlined, Open, packedOf}
+use Rattle.asyncdf.proofs.Driving.{drive-over, drive-spent, drive-full, drive-none, drive-next}
+use Rattle.asyncdf.proofs.Moving.{table-room, listed-small, not-done, other, Moving, first-moving, few, sits, bit, moves, replies, keeps}
+use Rattle.asyncdf.proofs.Moving.{over as over-after}
 use Rattle.asyncdf.proofs.runs.drive.Statement.{statement}
 use Rattle.asyncdf.proofs.runs.drive.Tie as tie
-
--- the root's end, from the word that counts the root's actions
-root-last : (s : List ℕ) → Rules s → (x : ℕ) → x ≡ u16At s 6 → (1 ≤ x) × (x - 1 ≡ endOf (tableOf s) 0)
-unfolding sumTo tableOf
-root-last s r x e =
-    let l : Lawful (tableOf s) = lawful s r in
-    let f : tableOf s .first 0 ≡ 0 = first-is (tableOf s) (l .contents) 0 (l .some-thread) in
-    let h : 0 < tableOf s .count 0 = count-pos (tableOf s) (l .contents) 0 (l .some-thread) in
-    let g : suc (endOf (tableOf s) 0) ≡ tableOf s .first 0 + tableOf s .count 0 = after-end (tableOf s) (l .contents) 0 (l .some-thread) in
-    let x-is : x ≡ tableOf s .count 0 = e in
-    (omega (arith, h, x-is), omega (arith, f, g, h, x-is))
-
-known : {s : List ℕ} → Rules s → {n m : ℕ} → n ≡ u16At s 0 → m ≡ u16At s 2 → Known s n m
-unfolding tableOf
-known r e f = record { rules = r; threads = e; actions = f }
-
-long : {s : List ℕ} → Rules s → 12 ≤ length s
-unfolding tableOf
-long {s} r = let z : Sizes s (tableOf s .threads) (tableOf s .actions) = known-sizes (record { rules = r; threads = refl; actions = refl }) in omega (arith, z .total, z .threads-low, z .actions-low)
-
-table-room : {run : Run} → Steady run → run .length ≤ length (run .table)
-table-room {run} h = omega (arith, h .table-length, length-take (run .length) (run .table))
 
 over : (f : ℕ → ℕ) (limit : ℕ) (run : Run) → getD (run .status) 0 0 ≡ 4 → ran (Finished 0) run ≡ drive f limit 0 run
 unfolding rootEnded
@@ -75,22 +39,13 @@ over f limit run e = sym (drive-over f 0 run limit (eq-eqb (getD (run .status) 0
 
 record Inv (run : Run) (order : List ℕ) (rounds : Bool) (limit n last : ℕ) (parents : List ℕ)
     (next status list : List ℕ) (workers : List Worker) (busy : ℕ) (totals : Totals) (turns : ℕ) (reply : Reply) (i : ℕ) : Type 0 where
-  threads : n ≡ tableIn run .threads
-  ends : last ≡ endOf (tableIn run) 0
-  parent : Parents (tableIn run) parents
+  moving : Moving run n last parents next status list workers busy totals turns
   sequence : (j : ℕ) → j < limit → Sequence order rounds (run .workers) j
-  row : Rowed list (totals .listed)
-  steady : Steady (packedOf run next status list workers busy totals turns)
-  unended : rootEnded (packedOf run next status list workers busy totals turns) ≡ false
   within : i ≤ limit
-  turns-fit : turns < 2 ^ 64
   remains : drive (who order rounds (run .workers)) (limit - i) i (packedOf run next status list workers busy totals turns)
       ≡ drive (who order rounds (run .workers)) limit 0 run
   start : i ≡ 0 → packedOf run next status list workers busy totals turns ≡ run
   said : i ≡ 1 → reply ≡ stepRun run (who order rounds (run .workers) 0) .reply
-
-listed-small : {list : List ℕ} {k : ℕ} → Rowed list k → k ≤ 1024
-listed-small {list} {k} r = omega (arith, r .front, r .size, length-take k list)
 
 module _ {run : Run} {order : List ℕ} {rounds : Bool} {limit n last : ℕ} {parents : List ℕ}
     {next status list : List ℕ} {workers : List Worker} {busy : ℕ} {totals : Totals} {turns : ℕ} {reply : Reply} {i : ℕ}
@@ -101,13 +56,10 @@ module _ {run : Run} {order : List ℕ} {rounds : Bool} {limit n last : ℕ} {pa
   abbrev here : Run
   here = packedOf run next status list workers busy totals turns
 
-  few : {w : ℕ} → w < run .workers → w < 16
-  few b = omega (arith, steady-fits here (v .steady) .few-workers)
-
   spent : limit ≤ i → ran (Spent i) here ≡ drive turnsOf limit 0 run
   spent h =
       let z : limit - i ≡ 0 = omega arith in
-      sym (drive-spent turnsOf i here (v .unended)) ∙ rw z at (v .remains)
+      sym (drive-spent turnsOf i here (v .moving .unended)) ∙ rw z at (v .remains)
 
   module _ (h : i < limit) where
     goes : drive turnsOf (suc (limit - (i + 1))) i here ≡ drive turnsOf limit 0 run
@@ -116,84 +68,47 @@ module _ {run : Run} {order : List ℕ} {rounds : Bool} {limit n last : ℕ} {pa
         ap (λ (k : ℕ). drive turnsOf k i here) (sym z) ∙ v .remains
 
     full : turns ≡ 2 ^ 64 - 1 → ran (Refused i (refusal 32 0)) here ≡ drive turnsOf limit 0 run
-    full e = sym (drive-full turnsOf i here (v .unended) (limit - (i + 1)) e) ∙ goes
+    full e = sym (drive-full turnsOf i here (v .moving .unended) (limit - (i + 1)) e) ∙ goes
 
     none : {w : ℕ} → w ≡ turnsOf i → (turns ≡ 2 ^ 64 - 1 → ⊥) → run .workers ≤ w → ran (Refused i (refusal 30 0)) here ≡ drive turnsOf limit 0 run
-    none q e b = sym (drive-none turnsOf i here (v .unended) (limit - (i + 1)) e (omega arith)) ∙ goes
+    none q e b = sym (drive-none turnsOf i here (v .moving .unended) (limit - (i + 1)) e (omega arith)) ∙ goes
 
     module _ {w : ℕ} (q : w ≡ turnsOf i) (e : turns ≡ 2 ^ 64 - 1 → ⊥) (b : w < run .workers) where
-      sits : Sits (bytesOf run) n (run .quota) next status list totals (getD workers w nobody)
-      sits =
-          record {
-            rules = v .steady .table;
-            threads = v .threads;
-            p = run .workers;
-            w = w;
-            below = b;
-            beginning = v .steady .beginning;
-            state = stateOf here;
-            sound = v .steady .state;
-            same-next = refl;
-            same-status = refl;
-            same-list = refl;
-            same-held = refl;
-            same-highest = refl;
-            own = refl;
-            row = v .row;
-          }
-
-      bit : Bit busy (getD workers w nobody .holds) w
-      bit = rw (v .steady .set) (set-bit workers w (v .steady .state .worker-size) (few b))
-
       module _ {next' status' list' : List ℕ} {s : StepResult} {busy' : ℕ}
           (t : partStepped next' status' list' s ≡ turnBody (tableIn run) (run .quota) 0 (partState next status list totals (getD workers w nobody)))
           (row' : Rowed list' (s .totals .listed)) (set' : busy' ≡ busyAfter busy (getD workers w nobody .holds) (s .worker .holds) w) where
         abbrev there : Run
         there = packedOf run next' status' list' (set workers w (s .worker)) busy' (s .totals) (turns + 1)
 
-        moves : moved here w ≡ there
-        moves = packed-moved run next status list workers busy totals turns w next' status' list' s busy' (v .steady) b t row' set'
-
-        replies : stepRun here w .reply ≡ s .reply
-        replies = packed-reply run next status list workers busy totals turns w next' status' list' s busy' (v .steady) b t row' set'
+        goes-to : moved here w ≡ there
+        goes-to = moves (v .moving) b t row' set'
 
         rest : drive turnsOf (limit - (i + 1)) (i + 1) there ≡ drive turnsOf limit 0 run
         rest =
             let k : ℕ = limit - (i + 1) in
             let y : i + 1 ≡ suc i = omega arith in
-            let m : moved here (turnsOf i) ≡ there = ap (moved here) (sym q) ∙ moves in
-            let a : drive turnsOf (suc k) i here ≡ drive turnsOf k (suc i) (moved here (turnsOf i)) = drive-next turnsOf i here (v .unended) k e (omega arith) in
+            let m : moved here (turnsOf i) ≡ there = ap (moved here) (sym q) ∙ goes-to in
+            let a : drive turnsOf (suc k) i here ≡ drive turnsOf k (suc i) (moved here (turnsOf i)) = drive-next turnsOf i here (v .moving .unended) k e (omega arith) in
             ap (λ (j : ℕ). drive turnsOf k j there) y ∙ ap (drive turnsOf k (suc i)) (sym m) ∙ sym a ∙ goes
 
         -- the first turn's reply
         first-said : i ≡ 0 → s .reply ≡ stepRun run (turnsOf 0) .reply
-        first-said z = sym replies ∙ ap (λ (r : Run). stepRun r w .reply) (v .start z) ∙ ap (λ (j : ℕ). stepRun run j .reply) (q ∙ ap turnsOf z)
+        first-said z = sym (replies (v .moving) b t row' set') ∙ ap (λ (r : Run). stepRun r w .reply) (v .start z) ∙ ap (λ (j : ℕ). stepRun run j .reply) (q ∙ ap turnsOf z)
 
         again : {reply' : Reply} → reply' ≡ s .reply → ((u : ℕ) → s .reply ≡ Done u last → ⊥)
             → Inv run order rounds limit n last parents next' status' list' (set workers w (s .worker)) busy' (s .totals) (turns + 1) reply' (i + 1)
         again a d =
             record {
-              threads = v .threads;
-              ends = v .ends;
-              parent = v .parent;
+              moving = keeps (v .moving) b t row' set' e d;
               sequence = v .sequence;
-              row = row';
-              steady = subst (λ (r : Run). Steady r) moves (moved-steady here (v .steady) w b);
-              unended =
-                  subst (λ (r : Run). rootEnded r ≡ false) moves
-                  (goes-on here (v .steady) w b (v .unended) (λ u j. d u (sym replies ∙ j ∙ ap (Done u) (sym (v .ends)))));
               within = omega arith;
-              turns-fit = omega (arith, v .turns-fit, e);
               remains = rest;
               start = λ z. absurd (omega (arith, z));
               said = λ z. a ∙ first-said (omega (arith, z));
             }
 
         finished : {u a : ℕ} → s .reply ≡ Done u a → a ≡ last → ran (Finished (i + 1)) there ≡ drive turnsOf limit 0 run
-        finished {u} j f =
-            let g : rootEnded there ≡ true =
-            subst (λ (r : Run). rootEnded r ≡ true) moves (finishes here (v .steady) w b u (replies ∙ j ∙ ap (Done u) (f ∙ v .ends))) in
-            sym (drive-over turnsOf (i + 1) there (limit - (i + 1)) g) ∙ rest
+        finished j f = sym (drive-over turnsOf (i + 1) there (limit - (i + 1)) (over-after (v .moving) b t row' set' j f)) ∙ rest
 
   -- where one turn is asked for and may be taken, no refusal stops it
   module _ (one : limit ≡ 1) (o : Open run (turnsOf 0)) (h : i < limit) where
@@ -216,43 +131,29 @@ closed run w e o = absurd (ne-eqb·not (getD (run .status) 0 0) e (o .unended))
     ne-eqb·not : (x : ℕ) → x ≡ 4 → eqb x 4 ≡ false → ⊥
     ne-eqb·not x a b = eqb-false x 4 b a
 
--- none was done
-not-done : {r : Reply} → OneOf (0 ∷ 2 ∷ 3 ∷ []) (tagOf the-type r) → (last u : ℕ) → r ≡ Done u last → ⊥
-not-done k last u f = miss (0 ∷ 2 ∷ 3 ∷ []) 1 tt (subst (λ (x : Reply). OneOf (0 ∷ 2 ∷ 3 ∷ []) (tagOf the-type x)) f k)
-
--- another action was done
-other : {r : Reply} {t a last : ℕ} → r ≡ Done t a → (a ≡ last → ⊥) → (u : ℕ) → r ≡ Done u last → ⊥
-other {r} {t} {a} {last} e d u f = d (ap (ofReply (λ j. j)) (sym e ∙ f))
-
 first-inv : {run : Run} {order : List ℕ} {rounds : Bool} {limit n last : ℕ} {parents : List ℕ} → Steady run
-    → ((j : ℕ) → j < limit → Sequence order rounds (run .workers) j) → n ≡ u16At (bytesOf run) 0 → last ≡ endOf (tableIn run) 0 → Parents (tableIn run) parents
+    → ((j : ℕ) → j < limit → Sequence order rounds (run .workers) j) → Outlined (bytesOf run) n last parents
     → length (run .list) ≡ 1024 → run .turns < 2 ^ 64 → (getD (run .status) 0 0 ≡ 4 → ⊥)
     → Inv run order rounds limit n last parents (run .next) (run .status) (run .list) (run .worker) (run .busy)
     (record { listed = run .listed; held = run .held; highest = run .highest }) (run .turns) Idle 0
-unfolding rootEnded tableOf
-first-inv {run} {limit = limit} h q n e p z g d =
+unfolding rootEnded
+first-inv {run} {limit = limit} h q l z g d =
     let all : limit - 0 ≡ limit = omega arith in
     record {
-      threads = n;
-      ends = e;
-      parent = p;
+      moving = first-moving h (ne-eqb (getD (run .status) 0 0) ended d) l z g;
       sequence = q;
-      row = record { size = z; front = h .list-length; rest = h .list-rest };
-      steady = h;
-      unended = ne-eqb (getD (run .status) 0 0) ended d;
       within = omega arith;
-      turns-fit = g;
       remains = rw all;
       start = λ z. refl;
       said = λ z. absurd (omega (arith, z));
     }
 
 abbrev Inv-loop : tie.InvT-loop
-Inv-loop run order rounds limit length bytes n m p quota parents last next₀ status₀ list₀ workers₀ busy₀ totals₀ turns₀ reply₀ i₀ next status list workers busy totals turns reply i =
+Inv-loop run order rounds limit length bytes parents n last p quota next₀ status₀ list₀ workers₀ busy₀ totals₀ turns₀ reply₀ i₀ next status list workers busy totals turns reply i =
     Inv run order rounds limit n last parents next status list workers busy totals turns reply i
 
 abbrev μ-loop : tie.MeasureT-loop
-μ-loop run order rounds limit length bytes n m p quota parents last next₀ status₀ list₀ workers₀ busy₀ totals₀ turns₀ reply₀ i₀ next status list workers busy totals turns reply i =
+μ-loop run order rounds limit length bytes parents n last p quota next₀ status₀ list₀ workers₀ busy₀ totals₀ turns₀ reply₀ i₀ next status list workers busy totals turns reply i =
     limit - i
 
 cast-length : tie.Need-cast-length Inv-loop μ-loop
@@ -264,26 +165,14 @@ array-share-prefix-table c = table-room (c .before .before .before .pre .0)
 slice-aggregate-bytes : tie.Need-slice-aggregate-bytes Inv-loop μ-loop
 slice-aggregate-bytes c = sym (c .before .before .before .before .pre .0 .table-length)
 
-word-requires : tie.Need-word-requires Inv-loop μ-loop
-word-requires c κs = omega (arith, long (c .before .before .before .before .pre .0 .table))
-
-word-requires-2 : tie.Need-word-requires-2 Inv-loop μ-loop
-word-requires-2 c κs = omega (arith, long (c .before .before .before .before .before .pre .0 .table))
+outline-of-requires : tie.Need-outline-of-requires Inv-loop μ-loop
+outline-of-requires c κs = (c .before .before .before .before .before .pre .0 .table, refl)
 
 cast-p : tie.Need-cast-p Inv-loop μ-loop
 cast-p c = search needs
 
-fill-forks-requires : tie.Need-fill-forks-requires Inv-loop μ-loop
-fill-forks-requires c κs = (known (c .before .before .before .before .before .before .before .before .before .pre .0 .table) (c .before .before .before .before .word .ensures .value) (c .before .before .before .word2 .ensures .value), (refl, refl))
-
-word-requires-3 : tie.Need-word-requires-3 Inv-loop μ-loop
-word-requires-3 c κs = omega (arith, long (c .before .before .before .before .before .before .before .before .before .before .pre .0 .table))
-
-sub-last : tie.Need-sub-last Inv-loop μ-loop
-sub-last c = root-last _ (c .before .before .before .before .before .before .before .before .before .before .before .pre .0 .table) _ (c .word3 .ensures .value) .0
-
-cast-t33 : tie.Need-cast-t33 Inv-loop μ-loop
-cast-t33 c = search needs
+cast-t30 : tie.Need-cast-t30 Inv-loop μ-loop
+cast-t30 c = search needs
 
 array-read-if1 : tie.Need-array-read-if1 Inv-loop μ-loop
 array-read-if1 c = search needs
@@ -291,13 +180,15 @@ array-read-if1 c = search needs
 returns : tie.Need-returns Inv-loop μ-loop
 returns c = (over _ _ _ (c .if1 .taken), λ one o. closed _ _ (c .if1 .taken) o)
 
+list-size : (c : tie.After-struct-known Inv-loop μ-loop) → length (c .before .before .args .run .list) ≡ 1024
+list-size c = search needs
+
 loop-holds : tie.Need-loop-holds Inv-loop μ-loop
 loop-holds c =
-    let d = c .before .before .before .before .before .before .before .before .before .before .before .before .before .before .before .before .before in
-    let z : length (d .args .run .list) ≡ 1024 = search needs in
+    let o = c .before .before .before .before .before .before .before in
+    let d = o .before .before .before .before .before .before in
     let y : d .args .run .turns < 2 ^ 64 = omega (arith, c .before .struct-known3 .given) in
-    let r = d .pre .0 .table in
-    first-inv (d .pre .0) (d .pre .1) (c .before .before .before .before .before .before .before .before .before .before .before .before .word .ensures .value) (root-last _ r _ (c .before .before .before .before .before .before .word3 .ensures .value) .1) (c .before .before .before .before .before .before .before .fill-forks .ensures .1) z y (c .if1 .left)
+    first-inv (d .pre .0) (d .pre .1) (o .outline-of .ensures) (list-size (o .before .before .before .before)) y (c .if1 .left)
 
 worker-of-requires : tie.Need-worker-of-requires Inv-loop μ-loop
 worker-of-requires c κs = c .before .loop .inv .sequence (c .before .loop .i) (c .loop-test .taken)
@@ -306,7 +197,7 @@ stopped-requires : tie.Need-stopped-requires Inv-loop μ-loop
 stopped-requires c κs = search needs
 
 packed-requires : tie.Need-packed-requires Inv-loop μ-loop
-packed-requires c κs = omega (arith, listed-small (c .before .before .before .before .loop .inv .row))
+packed-requires c κs = omega (arith, listed-small (c .before .before .before .before .loop .inv .moving .row))
 
 returns-2 : tie.Need-returns-2 Inv-loop μ-loop
 returns-2 c = let e = full (c .before .before .before .before .before .loop .inv) (c .before .before .before .before .loop-test .taken) (c .before .before .if2 .taken) in
@@ -316,35 +207,37 @@ stopped-requires-2 : tie.Need-stopped-requires-2 Inv-loop μ-loop
 stopped-requires-2 c κs = search needs
 
 packed-requires-2 : tie.Need-packed-requires-2 Inv-loop μ-loop
-packed-requires-2 c κs = omega (arith, listed-small (c .before .before .before .before .before .loop .inv .row))
+packed-requires-2 c κs = omega (arith, listed-small (c .before .before .before .before .before .loop .inv .moving .row))
 
 returns-3 : tie.Need-returns-3 Inv-loop μ-loop
 returns-3 c = let e = none (c .before .before .before .before .before .before .loop .inv) (c .before .before .before .before .before .loop-test .taken) (c .before .before .before .before .worker-of .ensures) (c .before .before .before .if2 .left) (c .before .before .if3 .taken) in
     (rw (c .before .stopped2 .ensures, c .packed2 .ensures) e, λ one o. absurd (not-none (c .before .before .before .before .before .before .loop .inv) one o (c .before .before .before .before .before .loop-test .taken) (c .before .before .before .before .worker-of .ensures) (c .before .before .if3 .taken)))
 
 mul-before : tie.Need-mul-before Inv-loop μ-loop
-mul-before c = omega (arith, few (c .before .before .before .before .loop .inv) (c .if3 .left))
+mul-before c = omega (arith, few (c .before .before .before .before .loop .inv .moving) (c .if3 .left))
 
 array-copy-out-before : tie.Need-array-copy-out-before Inv-loop μ-loop
-array-copy-out-before c = few (c .before .before .before .before .loop .inv) (c .if3 .left)
+array-copy-out-before c = few (c .before .before .before .before .loop .inv .moving) (c .if3 .left)
 
 step-requires : tie.Need-step-requires Inv-loop μ-loop
-step-requires c κs = (sits (c .before .before .before .before .before .before .before .before .before .loop .inv) (c .before .before .before .before .before .before .before .before .loop-test .taken) (c .before .before .before .before .before .before .before .worker-of .ensures) (c .before .before .before .before .before .before .if2 .left) (c .before .before .before .before .before .if3 .left), c .before .before .before .before .before .before .before .before .before .loop .inv .parent)
+step-requires c κs =
+    let v = c .before .before .before .before .before .before .before .before .before .loop .inv .moving in
+    (sits v (c .before .before .before .before .before .if3 .left), v .outline .parent)
 
 busy-after-requires : tie.Need-busy-after-requires Inv-loop μ-loop
-busy-after-requires c κs = bit (c .before .before .before .before .before .before .before .before .before .before .before .loop .inv) (c .before .before .before .before .before .before .before .before .before .before .loop-test .taken) (c .before .before .before .before .before .before .before .before .before .worker-of .ensures) (c .before .before .before .before .before .before .before .before .if2 .left) (c .before .before .before .before .before .before .before .if3 .left)
+busy-after-requires c κs = bit (c .before .before .before .before .before .before .before .before .before .before .before .loop .inv .moving) (c .before .before .before .before .before .before .before .if3 .left)
 
 mul-workers : tie.Need-mul-workers Inv-loop μ-loop
-mul-workers c = omega (arith, few (c .before .before .before .before .before .before .before .before .before .before .before .before .loop .inv) (c .before .before .before .before .before .before .before .before .if3 .left))
+mul-workers c = omega (arith, few (c .before .before .before .before .before .before .before .before .before .before .before .before .loop .inv .moving) (c .before .before .before .before .before .before .before .before .if3 .left))
 
 array-set-from-workers : tie.Need-array-set-from-workers Inv-loop μ-loop
-array-set-from-workers c = few (c .before .before .before .before .before .before .before .before .before .before .before .before .loop .inv) (c .before .before .before .before .before .before .before .before .if3 .left)
+array-set-from-workers c = few (c .before .before .before .before .before .before .before .before .before .before .before .before .loop .inv .moving) (c .before .before .before .before .before .before .before .before .if3 .left)
 
 add-turns : tie.Need-add-turns Inv-loop μ-loop
-add-turns c = omega (arith, c .before .before .before .before .before .before .before .before .before .before .before .before .before .loop .inv .turns-fit, c .before .before .before .before .before .before .before .before .before .before .if2 .left)
+add-turns c = omega (arith, c .before .before .before .before .before .before .before .before .before .before .before .before .before .loop .inv .moving .turns-fit, c .before .before .before .before .before .before .before .before .before .before .if2 .left)
 
 add-i : tie.Need-add-i Inv-loop μ-loop
-add-i c = omega (arith, c .before .before .before .before .before .before .before .before .before .before .before .before .loop-test .taken, c .before .before .before .before .before .before .before .before .before .before .before .before .before .before .before .before .before .before .before .before .before .before .before .before .before .before .before .before .before .before .before .fits .limit)
+add-i c = omega (arith, c .before .before .before .before .before .before .before .before .before .before .before .before .loop-test .taken, c .before .before .before .before .before .before .before .before .before .before .before .before .before .before .before .before .before .before .before .before .before .before .before .before .before .before .before .fits .limit)
 
 enum-known-reply : tie.Need-enum-known-reply Inv-loop μ-loop
 enum-known-reply c = c .match .keys1
@@ -373,7 +266,7 @@ loop-again-2 : tie.Need-loop-again-2 Inv-loop μ-loop
 loop-again-2 c = again (c .before .before .before .before .before .before .before .before .before .before .before .before .before .before .before .before .before .loop .inv) (c .before .before .before .before .before .before .before .before .before .before .before .before .before .before .before .before .loop-test .taken) (c .before .before .before .before .before .before .before .before .before .before .before .before .before .before .before .worker-of .ensures) (c .before .before .before .before .before .before .before .before .before .before .before .before .before .before .if2 .left) (c .before .before .before .before .before .before .before .before .before .before .before .before .before .if3 .left) (c .before .before .before .before .before .before .before .step .ensures .0) (c .before .before .before .before .before .before .before .step .ensures .1) (c .before .before .before .before .before .busy-after .ensures) (sym (c .before .before .reply .given .1)) (other (c .before .before .reply .given .1) (c .if4 .left))
 
 packed-requires-4 : tie.Need-packed-requires-4 Inv-loop μ-loop
-packed-requires-4 c κs = omega (arith, listed-small (c .before .loop .inv .row))
+packed-requires-4 c κs = omega (arith, listed-small (c .before .loop .inv .moving .row))
 
 returns-5 : tie.Need-returns-5 Inv-loop μ-loop
 returns-5 c = let g = spent (c .before .before .loop .inv) (c .before .loop-test .left) in
@@ -388,13 +281,9 @@ drive-spec =
     cast-length
     array-share-prefix-table
     slice-aggregate-bytes
-    word-requires
-    word-requires-2
+    outline-of-requires
     cast-p
-    fill-forks-requires
-    word-requires-3
-    sub-last
-    cast-t33
+    cast-t30
     array-read-if1
     returns
     loop-holds

@@ -2,8 +2,8 @@
 use native.Mathlib.Omega.{arith}
 use borrow.Author.Needs.{needs}
 use Rattle.text.specs.Text.{newline}
-use Rattle.listing.specs.Lines.{heldWord}
-use Rattle.listing.proofs.Putting.{puts-word, puts-labelled, puts-more}
+use Rattle.lines.specs.Lines.{heldWord}
+use Rattle.lines.proofs.Putting.{puts-word, puts-labelled, puts-more}
 use Rattle.listing.proofs.rounds.put_held.Statement.{statement}
 use Rattle.listing.proofs.rounds.put_held.Tie as tie
 

@@ -1,8 +1,8 @@
 -- `listing::rounds::put_report` meets its contract: each sort of report has its line.
 use native.Mathlib.Omega.{arith}
 use borrow.Author.Needs.{needs}
-use Rattle.listing.specs.Lines.{reportTexts}
-use Rattle.listing.proofs.Putting.{puts-more, puts-within}
+use Rattle.lines.specs.Lines.{reportTexts}
+use Rattle.lines.proofs.Putting.{puts-more, puts-within}
 use Rattle.listing.proofs.rounds.put_report.Statement.{statement}
 use Rattle.listing.proofs.rounds.put_report.Tie as tie
 

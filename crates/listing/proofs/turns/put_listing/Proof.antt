@@ -2,7 +2,7 @@
 use native.Mathlib.Omega.{arith}
 use borrow.Author.Needs.{needs}
 use Rattle.listing.specs.Listing.{listedBy}
-use Rattle.listing.proofs.Putting.{puts-more, puts-within}
+use Rattle.lines.proofs.Putting.{puts-more, puts-within}
 use Rattle.listing.proofs.turns.put_listing.Statement.{statement}
 use Rattle.listing.proofs.turns.put_listing.Tie as tie
 
@@ -51,8 +51,8 @@ enum-told-3 c = search needs
 put-answer-requires-3 : tie.Need-put-answer-requires-3
 put-answer-requires-3 c κs = search needs
 
-put-turns-requires : tie.Need-put-turns-requires
-put-turns-requires c κs = search needs
+list-turns-requires : tie.Need-list-turns-requires
+list-turns-requires c κs = search needs
 
 same-length-3 : tie.Need-same-length-3
 same-length-3 c = search needs
@@ -64,7 +64,7 @@ returns-3 c =
     let b = p .before .before .before .before .before in
     let told = b .before .enum-told2 .given .1 in
     rw (← b .before .before .before .load .ensures .0, told, ← b .begin .ensures .0, p .before .before .before .enum-told3 .given .1)
-    (puts-within (omega arith) (puts-more (rw told at (p .put-answer3 .ensures)) (c .before .before .put-turns .ensures)))
+    (puts-within (omega arith) (puts-more (rw told at (p .put-answer3 .ensures)) (c .before .before .list-turns .ensures)))
 
 pub put-listing-spec : {M : Type 1} → statement M
 put-listing-spec =
@@ -83,6 +83,6 @@ put-listing-spec =
     returns-2
     enum-told-3
     put-answer-requires-3
-    put-turns-requires
+    list-turns-requires
     same-length-3
     returns-3)
