@@ -1,15 +1,14 @@
 -- The blank record: each test of the code holds of it, and a record of which all of them hold is the blank one.
-use mathlib.Core.Path.{_≡_, refl, sym, ap, subst, _∙_}
-use Prim.Native.Nat.{ℕ, _≤_, _<_}
+use mathlib.Core.Path.{_≡_, refl, sym, ap, _∙_}
+use Prim.Native.Nat.{ℕ, _<_}
 use native.Mathlib.Omega.{arith}
-use mathlib.Core.Logic.{_↔_, _⊎_, inl, inr}
+use mathlib.Core.Logic.{_⊎_, inl, inr}
 use mathlib.Core.List.{List, []}
 use mathlib.Core.Bool.{Bool, true, false, _&&_, _||_}
 use lib.ListN.{length, take, getD, replicate, length-replicate, getD-replicate}
 use lib.Seq.{ext-getD}
 use lib.Dec.{ltb, eqb}
 use borrow.Author.Tests.{ltb-true}
-use Rattle.schedule.specs.declared.Worker.{Worker}
 use Rattle.schedule.specs.declared.Run.{Run}
 use Rattle.schedule.specs.Machine.{nobody}
 use Rattle.schedule.specs.Record.{blank, filled}

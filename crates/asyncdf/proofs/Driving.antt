@@ -4,13 +4,11 @@ use Prim.Native.Nat.{ℕ, zero, suc, _+_, _-_, _^_, _≤_, _<_}
 use native.Mathlib.Omega.{arith}
 use native.Mathlib.Decide.{ℕ-discrete}
 use native.Mathlib.Numerals.{add-one}
-use mathlib.Core.List.{List, [], _∷_}
-use mathlib.Core.Bool.{Bool, true, false, not}
-use lib.ListN.{length, getD, set, take}
-use lib.Seq.{getD-set-same}
-use lib.Dec.{leb, ltb, eqb}
-use borrow.Author.Tests.{eqb-true, eqb-false, eq-eqb, ne-eqb, lt-ltb, le-ltb}
-use Rattle.table.specs.Sum.{pick}
+use mathlib.Core.List.{List}
+use mathlib.Core.Bool.{Bool, true, false}
+use lib.ListN.{length, getD, set}
+use lib.Dec.{leb, eqb}
+use borrow.Author.Tests.{eqb-false, eq-eqb, ne-eqb, lt-ltb, le-ltb}
 use Rattle.table.specs.Format.{Kind, end, work, alloc, free, fork, join, unknown, Table, kind}
 use Rattle.table.specs.Pass.{refusal}
 use Rattle.table.specs.Rules.{owner, endOf}
@@ -18,13 +16,11 @@ use Rattle.table.proofs.Tests.{no-way}
 use Rattle.table.proofs.Bodies.{owner-of-end, end-kind}
 use Rattle.schedule.specs.declared.Worker.{Worker}
 use Rattle.schedule.specs.declared.Run.{Run}
-use Rattle.schedule.specs.declared.Ran.{Ran}
-use Rattle.schedule.specs.declared.Reply.{Reply}
 use Rattle.schedule.specs.declared.Reply.the-variants.{Idle, Done, Quota, Wait}
 use Rattle.schedule.specs.declared.Report.the-variants.{Finished, Spent, Refused}
-use Rattle.schedule.specs.Machine.{State, Stepped, stepped, counted, ready, ended, nextOf, statusOf, workerOf, nobody}
+use Rattle.schedule.specs.Machine.{State, Stepped, stepped, counted, ended, nextOf, statusOf, workerOf, nobody}
 use Rattle.schedule.specs.Machine.{actBy, act, leftmost, taken, turnFree, turnOf}
-use Rattle.schedule.specs.Record.{maxThreads, filled, setOf, tableIn, stateOf, stored}
+use Rattle.schedule.specs.Record.{setOf, tableIn, stateOf}
 use Rattle.schedule.specs.Sound.{isDone, Steady}
 use Rattle.schedule.specs.Turn.{rootEnded, noWorker, stepRun}
 use Rattle.schedule.specs.Runs.{ran, moved, drive}
@@ -34,7 +30,7 @@ use Rattle.schedule.proofs.Facts.{Facts}
 use Rattle.schedule.proofs.Done.{done-last, undone}
 use Rattle.schedule.proofs.Moves.{taken-facts}
 use Rattle.schedule.proofs.Releases.{Acting, acting}
-use Rattle.schedule.proofs.Ends.{Ended, acting-ended}
+use Rattle.schedule.proofs.Ends.{acting-ended}
 use Rattle.schedule.proofs.Turns.{leftmost-ready, taken-holds, turn-facts}
 use Rattle.schedule.proofs.Tries.{Turned, idles, tries, turned}
 use Rattle.schedule.proofs.Stores.{steady-lawful, steady-fits, steady-facts}
@@ -42,7 +38,7 @@ use Rattle.asyncdf.specs.declared.act.Totals.{Totals}
 use Rattle.asyncdf.specs.declared.act.Stepped.{Stepped as StepResult}
 use Rattle.asyncdf.specs.Parts.{partState, partStepped, turnBody, Rowed}
 use Rattle.asyncdf.specs.Drives.{busyAfter, packedOf}
-use Rattle.asyncdf.proofs.Local.{partOf, putBack, turn-local, set-busy}
+use Rattle.asyncdf.proofs.Local.{putBack, turn-local, set-busy}
 
 -- ---- the root's end
 

@@ -1,5 +1,5 @@
 -- A turn is local: what it does to the state of a run, it does to the part of the one worker.
-use mathlib.Core.Path.{_≡_, refl, sym, ap, _∙_}
+use mathlib.Core.Path.{_≡_, refl, ap, _∙_}
 use Prim.Native.Nat.{ℕ, zero, suc, _+_, _-_, _*_, _^_, _≤_, _<_}
 use native.Mathlib.Omega.{arith}
 use native.Mathlib.Nat.{le-of-suc-le-suc}
@@ -11,8 +11,7 @@ use lib.Dec.{leb, eqb}
 use Rattle.table.specs.Sum.{pick}
 use Rattle.table.specs.Format.{Kind, end, work, alloc, free, fork, join, unknown, Table, kind}
 use Rattle.schedule.specs.declared.Worker.{Worker}
-use Rattle.schedule.specs.declared.Reply.the-variants.{Idle}
-use Rattle.schedule.specs.Machine.{State, Stepped, stepped, withStatus, withList, released, ready, held, ended, nextOf, statusOf, workerOf, nobody, counted}
+use Rattle.schedule.specs.Machine.{State, Stepped, stepped, withList, released, held, ended, nextOf, statusOf, workerOf, nobody, counted}
 use Rattle.schedule.specs.Machine.{without, waitsFor, parentOf, woken, actBy, act, leftmost, taken, turnFree, turnOf}
 use Rattle.schedule.specs.Record.{setOf}
 use Rattle.asyncdf.specs.Parts.{turnBody}

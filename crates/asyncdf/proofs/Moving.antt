@@ -1,22 +1,18 @@
 -- What every loop of turns keeps: the record packed from what the turns have moved is sound but for its turns taken, its root has not ended, and a turn of the code is a turn of it.
 use mathlib.Core.Path.{_≡_, refl, sym, ap, subst, _∙_}
-use Prim.Native.Nat.{ℕ, suc, _+_, _-_, _^_, _≤_, _<_}
+use Prim.Native.Nat.{ℕ, _+_, _-_, _^_, _≤_, _<_}
 use mathlib.Core.List.{List, [], _∷_}
 use mathlib.Core.Bool.{true, false}
 use native.Mathlib.Omega.{arith}
-use borrow.Author.Tests.{ne-eqb}
 use denote.Enum.Declared.{tagOf}
 use types.Run.{OneOf, miss}
-use lib.ListN.{length, getD, set, take, length-take}
-use Rattle.table.specs.Format.{tableOf}
-use Rattle.table.specs.Rules.{endOf}
-use Rattle.table.specs.Accepted.{Rules}
+use lib.ListN.{length, getD, set, length-take}
 use Rattle.table.proofs.Sizes.{Sizes}
 use Rattle.schedule.specs.declared.Worker.{Worker}
 use Rattle.schedule.specs.declared.Run.{Run}
 use Rattle.schedule.specs.declared.Reply.{Reply}
 use Rattle.schedule.specs.declared.Reply.the-variants.{Done}
-use Rattle.schedule.specs.Machine.{ended, nobody}
+use Rattle.schedule.specs.Machine.{nobody}
 use Rattle.schedule.specs.Memory.{ofReply}
 use Rattle.schedule.specs.Record.{bytesOf, tableIn, stateOf}
 use Rattle.schedule.specs.Sound.{Steady}
@@ -26,7 +22,7 @@ use Rattle.schedule.proofs.Reply.{the-type}
 use Rattle.schedule.proofs.Stores.{steady-fits, moved-steady}
 use Rattle.asyncdf.specs.declared.act.Totals.{Totals}
 use Rattle.asyncdf.specs.declared.act.Stepped.{Stepped as StepResult}
-use Rattle.asyncdf.specs.Parts.{partState, partStepped, turnBody, Rowed, Parents, Sits}
+use Rattle.asyncdf.specs.Parts.{partState, partStepped, turnBody, Rowed, Sits}
 use Rattle.asyncdf.specs.Drives.{busyAfter, Bit, Outlined, packedOf}
 use Rattle.asyncdf.proofs.Room.{known-sizes}
 use Rattle.asyncdf.proofs.Local.{set-bit}

@@ -1,8 +1,8 @@
 -- What a turn works on in the code, the lent arrays, the totals and the worker's own record, as a state with that one worker; and what a sound run gives such a part.
 use mathlib.Core.Path.{_≡_}
-use Prim.Native.Nat.{ℕ, _+_, _*_, _≤_, _<_}
+use Prim.Native.Nat.{ℕ, _+_, _*_, _<_}
 use mathlib.Core.List.{List, [], _∷_}
-use mathlib.Core.Bool.{Bool, true, false, _&&_}
+use mathlib.Core.Bool.{_&&_}
 use lib.ListN.{length, take, getD, set}
 use lib.Dec.{eqb}
 use Rattle.table.specs.Sum.{pick}
@@ -11,7 +11,6 @@ use Rattle.table.specs.Accepted.{Rules}
 use Rattle.table.specs.Pass.{firstFound}
 use Rattle.table.specs.declared.Found.the-variants.{Nothing}
 use Rattle.schedule.specs.declared.Worker.{Worker}
-use Rattle.schedule.specs.declared.Reply.{Reply}
 use Rattle.schedule.specs.Machine.{State, waiting, ready, Stepped, stepped, workerOf, act, turnFree, parentOf}
 use Rattle.schedule.specs.Record.{filled, maxThreads}
 use Rattle.schedule.specs.Begin.{beginPasses}

@@ -11,7 +11,7 @@ ghost use mathlib.Core.List.{List};
 ghost use mathlib.Core.Bool.{true};
 ghost use Prim.Native.Nat.{ℕ, _+_, _^_, _≤_, _<_, max};
 ghost use lib.ListN.{length, getD, take};
-ghost use Rattle.table.specs.Format.{Table, alloc, free, fork, join, end, tableOf, threadsOf};
+ghost use Rattle.table.specs.Format.{Table, alloc, free, fork, join, end, tableOf};
 ghost use Rattle.schedule.specs.Machine.{actBy, act as actOf};
 ghost use Rattle.schedule.specs.Sound.{placeIn};
 ghost use Rattle.asyncdf.specs.Parts.{partState, partStepped, At, Rowed, Parents, Sits, Wakes, wokenStatus};

@@ -1,6 +1,6 @@
 // Numbers out of a table's bytes.
 ghost use mathlib.Core.Path.{_≡_};
-ghost use Prim.Native.Nat.{ℕ, _+_, _*_, _<_};
+ghost use Prim.Native.Nat.{_+_, _*_, _<_};
 ghost use lib.ListN.{length, getD};
 ghost use Rattle.table.specs.Format.{u16At, threadsOf, tableOf};
 ghost use Rattle.table.specs.Steps.{Read};

@@ -2,7 +2,7 @@
 use Prim.Native.Nat.{ℕ, suc, _+_, _^_, _≤_, _<_}
 use native.Mathlib.Omega.{arith}
 use mathlib.Core.Path.{_≡_, refl, sym, ap, _∙_}
-use mathlib.Core.List.{List, [], _∷_, _++_, append-nil, append-assoc, foldl, foldl-append, flatten}
+use mathlib.Core.List.{List, [], _∷_, _++_, append-nil, append-assoc, foldl-append, flatten}
 use lib.ListN.{length, length-append}
 use Rattle.text.specs.Text.{decimal, Buffer, bufferAt, placed, placedNext}
 use Rattle.text.proofs.Decimal.{decimal-length}

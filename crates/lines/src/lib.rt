@@ -6,7 +6,7 @@ use text::put_labelled;
 use text::put_number;
 use text::put_word;
 ghost use Prim.Native.Nat.{_+_};
-ghost use mathlib.Core.List.{List, [], _∷_};
+ghost use mathlib.Core.List.{[], _∷_};
 ghost use lib.ListN.{length};
 ghost use Rattle.table.specs.Format.{kindOf};
 ghost use Rattle.table.specs.Pass.{refusal};

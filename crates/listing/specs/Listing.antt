@@ -1,6 +1,6 @@
 -- What `turnlist` and `runrounds` print, from the bytes that they read (document 01, "The turn listing").
 use Prim.Native.Nat.{ℕ, _+_, _*_}
-use mathlib.Core.List.{List, [], _∷_, _++_, flatten}
+use mathlib.Core.List.{List, [], _∷_, flatten}
 use mathlib.Core.Bool.{Bool, _||_}
 use lib.ListN.{length, getD, take, drop}
 use lib.Dec.{ltb}

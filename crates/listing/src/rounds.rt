@@ -7,7 +7,7 @@ use schedule::Run;
 use table::Loaded;
 use text::put_labelled;
 use text::put_word;
-ghost use mathlib.Core.List.{List, [], _∷_};
+ghost use mathlib.Core.List.{[], _∷_};
 ghost use Rattle.text.specs.Text.{decimal, newline};
 ghost use Rattle.lines.specs.Lines.{heldWord, reportTexts};
 ghost use Rattle.listing.specs.Listing.{roundedTexts};

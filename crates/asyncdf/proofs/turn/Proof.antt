@@ -1,9 +1,7 @@
 -- `asyncdf::turn` meets its contract, check by check; a turn that is taken is a run of one turn.
-use mathlib.Core.Path.{_≡_, refl, sym, ap, _∙_}
-use Prim.Native.Nat.{ℕ, _-_, _^_, _<_}
+use mathlib.Core.Path.{sym, _∙_}
+use Prim.Native.Nat.{ℕ, _-_, _<_}
 use native.Mathlib.Omega.{arith}
-use mathlib.Core.List.{[], _∷_}
-use mathlib.Core.Bool.{false}
 use borrow.Author.Needs.{needs}
 use Rattle.asyncdf.proofs.Calls.{turned-answers, has-workers, of-list, turned-unsound, turned-none, turned-over, root-over, root-open, turn-driven}
 use Rattle.asyncdf.proofs.turn.Statement.{statement}

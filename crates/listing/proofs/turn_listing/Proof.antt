@@ -6,7 +6,7 @@ use mathlib.Core.Bool.{true, false}
 use native.Mathlib.Omega.{arith}
 use borrow.Author.Needs.{needs}
 use denote.Ref.{now}
-use lib.ListN.{length, take, drop, length-take, length-drop}
+use lib.ListN.{length, take, drop, length-take}
 use Rattle.table.proofs.Parts.{rest-part}
 use Rattle.schedule.specs.Turn.{turned}
 use Rattle.listing.specs.Listing.{workersIn, quotaIn, orderLength, orderIn, tableAfter, inputWrong, listedBy, wrongInput, listingOf, listingBy}

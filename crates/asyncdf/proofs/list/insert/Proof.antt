@@ -1,12 +1,10 @@
 -- `asyncdf::list::insert` meets its contract. The invariant: the list has a place open at i, which each turn moves one to the left.
-use mathlib.Core.Path.{_≡_, refl, sym, _∙_}
-use Prim.Native.Nat.{ℕ, zero, suc, _+_, _-_, _≤_, _<_}
-use mathlib.Core.List.{List, _∷_, _++_, append-assoc}
+use mathlib.Core.Path.{_≡_, sym, _∙_}
+use Prim.Native.Nat.{ℕ, zero, suc, _-_, _≤_, _<_}
+use mathlib.Core.List.{List}
 use native.Mathlib.Omega.{arith}
-use borrow.Author.Needs.{needs}
 use denote.Ref.{now}
-use lib.ListN.{length, getD, set, take, drop, replicate, drop-of-length-le}
-use lib.Seq.{take-all}
+use lib.ListN.{length, getD, set, take}
 use Rattle.schedule.specs.Machine.{leftOf}
 use Rattle.schedule.specs.Record.{filled}
 use Rattle.schedule.specs.Sound.{placeIn}

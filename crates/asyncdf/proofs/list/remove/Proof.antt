@@ -1,5 +1,5 @@
 -- `asyncdf::list::remove` meets its contract. The invariant: the list without the thread has a place open at i, which each turn moves one to the right.
-use mathlib.Core.Path.{_≡_, sym, ap, _∙_}
+use mathlib.Core.Path.{_≡_, ap, _∙_}
 use Prim.Native.Nat.{ℕ, _+_, _-_, _≤_, _<_}
 use mathlib.Core.List.{List}
 use native.Mathlib.Omega.{arith}

@@ -1,25 +1,21 @@
 -- `asyncdf::runs::drive` meets its contract. The invariant: what every loop of turns keeps (Moving), and the run from here is what remains of the whole run.
-use mathlib.Core.Path.{_≡_, refl, sym, ap, subst, _∙_}
-use Prim.Native.Nat.{ℕ, suc, pred, _+_, _-_, _*_, _^_, _≤_, _<_}
-use mathlib.Core.List.{List, [], _∷_}
-use mathlib.Core.Bool.{Bool, true, false}
-use native.Mathlib.Numerals.{add-one}
+use mathlib.Core.Path.{_≡_, refl, sym, ap, _∙_}
+use Prim.Native.Nat.{ℕ, suc, _+_, _-_, _^_, _≤_, _<_}
+use mathlib.Core.List.{List}
+use mathlib.Core.Bool.{Bool, false}
 use native.Mathlib.Omega.{arith}
 use borrow.Author.Needs.{needs}
 use borrow.Author.Tests.{ne-eqb, eq-eqb, eqb-false}
-use denote.Ref.{now}
-use lib.ListN.{length, getD, set, take, length-take}
+use lib.ListN.{length, getD, set}
 use lib.Dec.{eqb}
 use Rattle.table.specs.Pass.{refusal}
 use Rattle.schedule.specs.declared.Worker.{Worker}
 use Rattle.schedule.specs.declared.Run.{Run}
-use Rattle.schedule.specs.declared.Ran.{Ran}
 use Rattle.schedule.specs.declared.Reply.{Reply}
 use Rattle.schedule.specs.declared.Reply.the-variants.{Idle, Done}
-use Rattle.schedule.specs.declared.Report.{Report}
 use Rattle.schedule.specs.declared.Report.the-variants.{Finished, Spent, Refused}
 use Rattle.schedule.specs.Machine.{ended, nobody}
-use Rattle.schedule.specs.Record.{bytesOf, tableIn, stateOf}
+use Rattle.schedule.specs.Record.{bytesOf, tableIn}
 use Rattle.schedule.specs.Sound.{Steady}
 use Rattle.schedule.specs.Turn.{rootEnded, stepRun}
 use Rattle.schedule.specs.Runs.{ran, moved, drive}

@@ -4,10 +4,9 @@ use Prim.Native.Nat.{ℕ, _%_}
 use mathlib.Core.List.{List}
 use mathlib.Core.Bool.{Bool, true, false}
 use native.Mathlib.Omega.{arith}
-use borrow.Author.Needs.{needs}
 use denote.Ref.{now}
 use lib.ListN.{getD}
-use Rattle.asyncdf.specs.Drives.{who, Sequence}
+use Rattle.asyncdf.specs.Drives.{who}
 use Rattle.asyncdf.proofs.runs.worker_of.Statement.{statement}
 use Rattle.asyncdf.proofs.runs.worker_of.Tie as tie
 

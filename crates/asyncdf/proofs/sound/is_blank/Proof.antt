@@ -1,6 +1,5 @@
 -- `asyncdf::sound::is_blank` meets its contract: the blank record passes each test, and what passes all of them is the blank record.
-use mathlib.Core.Path.{_≡_, refl, sym, _∙_}
-use Prim.Native.Nat.{ℕ}
+use mathlib.Core.Path.{_≡_, sym}
 use mathlib.Core.Bool.{Bool, true, false}
 use borrow.Author.Needs.{needs}
 use lib.ListN.{length}

@@ -1,5 +1,4 @@
 -- `asyncdf::turns::put_step` meets its contract: the action's kind and the thread's next action are read where the reply says.
-use mathlib.Core.Path.{_≡_}
 use borrow.Author.Needs.{needs}
 use Rattle.asyncdf.proofs.turns.put_step.Statement.{statement}
 use Rattle.asyncdf.proofs.turns.put_step.Tie as tie

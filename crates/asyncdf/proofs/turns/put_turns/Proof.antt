@@ -12,7 +12,6 @@ use Rattle.table.specs.Pass.{refusal}
 use Rattle.text.specs.Text.{refusedLine}
 use Rattle.schedule.specs.declared.Worker.{Worker}
 use Rattle.schedule.specs.declared.Run.{Run}
-use Rattle.schedule.specs.declared.Turned.{Turned}
 use Rattle.schedule.specs.declared.Reply.the-variants.{Done}
 use Rattle.schedule.specs.declared.Turning.the-variants.{Taken}
 use Rattle.schedule.specs.Machine.{nobody}
@@ -26,7 +25,7 @@ use Rattle.asyncdf.specs.declared.act.Totals.{Totals}
 use Rattle.asyncdf.specs.declared.act.Stepped.{Stepped as StepResult}
 use Rattle.asyncdf.specs.Parts.{partState, partStepped, turnBody, Rowed}
 use Rattle.asyncdf.specs.Drives.{busyAfter, Outlined, packedOf}
-use Rattle.asyncdf.proofs.Calls.{steady-full, steady-room, refusedAs, turned-unsound, turned-none, turned-taken}
+use Rattle.asyncdf.proofs.Calls.{steady-full, steady-room, turned-unsound, turned-none, turned-taken}
 use Rattle.asyncdf.proofs.Moving.{table-room, not-done, other, Moving, first-moving, few, few-threads, sits, moves, replies, keeps, over}
 use Rattle.asyncdf.proofs.Ordered.{turnsFrom, Listed, start, ended, exhausted, refused, again}
 use Rattle.asyncdf.proofs.turns.put_turns.Statement.{statement}
