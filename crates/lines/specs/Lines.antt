@@ -1,10 +1,12 @@
 -- The lines of the programs as text (document 01, "The turn listing"). A line is a row of texts, put one after another.
 use Prim.Native.Nat.{ℕ}
-use mathlib.Core.List.{List, [], _∷_, _++_, foldl}
+use mathlib.Core.Path.{_≡_, refl}
+use mathlib.Core.List.{List, [], _∷_, _++_, foldl, flatten}
 use Rattle.table.specs.Format.{Kind, end, work, alloc, free, fork, join, unknown}
 use Rattle.table.specs.Pass.{refusal}
-use Rattle.text.specs.Text.{decimal, space, newline, refusedLine, Buffer, placedNext}
+use Rattle.text.specs.Text.{digitsOf, decimal, space, newline, refusedLine, Buffer, placedNext}
 use Rattle.schedule.specs.declared.Run.{Run}
+use Rattle.schedule.specs.Record.{blank}
 use Rattle.schedule.specs.declared.Report.{Report}
 use Rattle.schedule.specs.declared.Report.the-variants.{Finished, Spent, Refused}
 use Rattle.schedule.specs.Listing.{Told, idle, did, quota, wait, Line, Last, done, notDone, refused, Listing}
@@ -110,3 +112,15 @@ unfoldable pub reportTexts : Report → Run → List (List ℕ)
 reportTexts (Finished k) r = totalsTexts finishedWord k (r .highest) ++ (heldWord ∷ decimal (r .held) ∷ newline ∷ [])
 reportTexts (Spent k) r = totalsTexts spentWord k (r .highest) ++ (heldWord ∷ decimal (r .held) ∷ newline ∷ [])
 reportTexts (Refused k x) r = refusedLine x ∷ []
+
+-- "finished 14 peak 0 held 0\n"
+finished-example : flatten (reportTexts (Finished 14) blank)
+    ≡ 102 ∷ 105 ∷ 110 ∷ 105 ∷ 115 ∷ 104 ∷ 101 ∷ 100 ∷ 32 ∷ 49 ∷ 52 ∷ 32 ∷ 112 ∷ 101 ∷ 97 ∷ 107 ∷ 32 ∷ 48 ∷ 32 ∷ 104 ∷ 101 ∷ 108 ∷ 100 ∷ 32 ∷ 48 ∷ 10 ∷ []
+unfolding flatten reportTexts decimal digitsOf blank
+finished-example = refl
+
+-- "spent 7 peak 0 held 0\n"
+spent-example : flatten (reportTexts (Spent 7) blank)
+    ≡ 115 ∷ 112 ∷ 101 ∷ 110 ∷ 116 ∷ 32 ∷ 55 ∷ 32 ∷ 112 ∷ 101 ∷ 97 ∷ 107 ∷ 32 ∷ 48 ∷ 32 ∷ 104 ∷ 101 ∷ 108 ∷ 100 ∷ 32 ∷ 48 ∷ 10 ∷ []
+unfolding flatten reportTexts decimal digitsOf blank
+spent-example = refl

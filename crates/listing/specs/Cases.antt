@@ -32,21 +32,30 @@ prints input text = record { input = input; text = text }
 abbrev pub inputOf : ℕ → ℕ → List ℕ → List ℕ → List ℕ
 inputOf p K order table = p ∷ K ∷ 0 ∷ 0 ∷ bytes16 (length order) ++ order ++ table
 
--- what document 01 shows for E, p 2, K 6 and the order 0, 1 seven times, line by line
-abbrev pub linesOfE : List ℕ
-linesOfE =
-    -- table 3 12 serial 6 depth 8
+-- "table 3 12 serial 6 depth 8"
+abbrev pub headerOfE : List ℕ
+headerOfE =
     116 ∷ 97 ∷ 98 ∷ 108 ∷ 101 ∷ 32 ∷ 51 ∷ 32 ∷ 49 ∷ 50 ∷ 32 ∷ 115 ∷ 101 ∷ 114 ∷ 105 ∷ 97 ∷ 108 ∷ 32 ∷ 54 ∷ 32 ∷ 100 ∷ 101 ∷ 112 ∷ 116 ∷ 104 ∷ 32 ∷ 56 ∷ 10
+    ∷ []
+
+-- the first four turns of E for p 2, K 6 and an order that begins with 0 1 0 1
+abbrev pub firstFour : List ℕ
+firstFour =
     -- 1 0 0 0 fork 0
-    ∷ 49 ∷ 32 ∷ 48 ∷ 32 ∷ 48 ∷ 32 ∷ 48 ∷ 32 ∷ 102 ∷ 111 ∷ 114 ∷ 107 ∷ 32 ∷ 48 ∷ 10
+    49 ∷ 32 ∷ 48 ∷ 32 ∷ 48 ∷ 32 ∷ 48 ∷ 32 ∷ 102 ∷ 111 ∷ 114 ∷ 107 ∷ 32 ∷ 48 ∷ 10
     -- 2 1 1 5 alloc 6
     ∷ 50 ∷ 32 ∷ 49 ∷ 32 ∷ 49 ∷ 32 ∷ 53 ∷ 32 ∷ 97 ∷ 108 ∷ 108 ∷ 111 ∷ 99 ∷ 32 ∷ 54 ∷ 10
     -- 3 0 0 1 fork 6
     ∷ 51 ∷ 32 ∷ 48 ∷ 32 ∷ 48 ∷ 32 ∷ 49 ∷ 32 ∷ 102 ∷ 111 ∷ 114 ∷ 107 ∷ 32 ∷ 54 ∷ 10
     -- 4 1 1 6 work 6
     ∷ 52 ∷ 32 ∷ 49 ∷ 32 ∷ 49 ∷ 32 ∷ 54 ∷ 32 ∷ 119 ∷ 111 ∷ 114 ∷ 107 ∷ 32 ∷ 54 ∷ 10
+    ∷ []
+
+-- the turns after them where the order goes on with 0 and 1 in turn, and the last line
+abbrev pub laterOfE : List ℕ
+laterOfE =
     -- 5 0 2 9 alloc 12
-    ∷ 53 ∷ 32 ∷ 48 ∷ 32 ∷ 50 ∷ 32 ∷ 57 ∷ 32 ∷ 97 ∷ 108 ∷ 108 ∷ 111 ∷ 99 ∷ 32 ∷ 49 ∷ 50 ∷ 10
+    53 ∷ 32 ∷ 48 ∷ 32 ∷ 50 ∷ 32 ∷ 57 ∷ 32 ∷ 97 ∷ 108 ∷ 108 ∷ 111 ∷ 99 ∷ 32 ∷ 49 ∷ 50 ∷ 10
     -- 6 1 1 7 free 6
     ∷ 54 ∷ 32 ∷ 49 ∷ 32 ∷ 49 ∷ 32 ∷ 55 ∷ 32 ∷ 102 ∷ 114 ∷ 101 ∷ 101 ∷ 32 ∷ 54 ∷ 10
     -- 7 0 2 10 free 0
@@ -69,26 +78,26 @@ linesOfE =
     ∷ 100 ∷ 111 ∷ 110 ∷ 101 ∷ 32 ∷ 49 ∷ 52 ∷ 32 ∷ 112 ∷ 101 ∷ 97 ∷ 107 ∷ 32 ∷ 49 ∷ 50 ∷ 10
     ∷ []
 
--- the listing of E for p 2, K 6 and the order 0 1 0 1 1 1 1, before its last line
-abbrev pub linesBefore : List ℕ
-linesBefore =
-    -- table 3 12 serial 6 depth 8
-    116 ∷ 97 ∷ 98 ∷ 108 ∷ 101 ∷ 32 ∷ 51 ∷ 32 ∷ 49 ∷ 50 ∷ 32 ∷ 115 ∷ 101 ∷ 114 ∷ 105 ∷ 97 ∷ 108 ∷ 32 ∷ 54 ∷ 32 ∷ 100 ∷ 101 ∷ 112 ∷ 116 ∷ 104 ∷ 32 ∷ 56 ∷ 10
-    -- 1 0 0 0 fork 0
-    ∷ 49 ∷ 32 ∷ 48 ∷ 32 ∷ 48 ∷ 32 ∷ 48 ∷ 32 ∷ 102 ∷ 111 ∷ 114 ∷ 107 ∷ 32 ∷ 48 ∷ 10
-    -- 2 1 1 5 alloc 6
-    ∷ 50 ∷ 32 ∷ 49 ∷ 32 ∷ 49 ∷ 32 ∷ 53 ∷ 32 ∷ 97 ∷ 108 ∷ 108 ∷ 111 ∷ 99 ∷ 32 ∷ 54 ∷ 10
-    -- 3 0 0 1 fork 6
-    ∷ 51 ∷ 32 ∷ 48 ∷ 32 ∷ 48 ∷ 32 ∷ 49 ∷ 32 ∷ 102 ∷ 111 ∷ 114 ∷ 107 ∷ 32 ∷ 54 ∷ 10
-    -- 4 1 1 6 work 6
-    ∷ 52 ∷ 32 ∷ 49 ∷ 32 ∷ 49 ∷ 32 ∷ 54 ∷ 32 ∷ 119 ∷ 111 ∷ 114 ∷ 107 ∷ 32 ∷ 54 ∷ 10
+-- what document 01 shows for E, p 2, K 6 and the order 0, 1 seven times, line by line
+abbrev pub linesOfE : List ℕ
+linesOfE =
+    headerOfE ++ firstFour ++ laterOfE
+
+-- the turns after them where the order goes on with 1 1 1
+abbrev pub nextThree : List ℕ
+nextThree =
     -- 5 1 1 7 free 0
-    ∷ 53 ∷ 32 ∷ 49 ∷ 32 ∷ 49 ∷ 32 ∷ 55 ∷ 32 ∷ 102 ∷ 114 ∷ 101 ∷ 101 ∷ 32 ∷ 48 ∷ 10
+    53 ∷ 32 ∷ 49 ∷ 32 ∷ 49 ∷ 32 ∷ 55 ∷ 32 ∷ 102 ∷ 114 ∷ 101 ∷ 101 ∷ 32 ∷ 48 ∷ 10
     -- 6 1 1 8 end 0
     ∷ 54 ∷ 32 ∷ 49 ∷ 32 ∷ 49 ∷ 32 ∷ 56 ∷ 32 ∷ 101 ∷ 110 ∷ 100 ∷ 32 ∷ 48 ∷ 10
     -- 7 1 2 9 alloc 6
     ∷ 55 ∷ 32 ∷ 49 ∷ 32 ∷ 50 ∷ 32 ∷ 57 ∷ 32 ∷ 97 ∷ 108 ∷ 108 ∷ 111 ∷ 99 ∷ 32 ∷ 54 ∷ 10
     ∷ []
+
+-- the listing of E for p 2, K 6 and the order 0 1 0 1 1 1 1, before its last line
+abbrev pub linesBefore : List ℕ
+linesBefore =
+    headerOfE ++ firstFour ++ nextThree
 
 -- worker 0 comes next
 abbrev pub endsWaiting : List ℕ
@@ -122,10 +131,9 @@ linesQuota =
 -- E with an empty order
 abbrev pub notBegun : List ℕ
 notBegun =
-    -- table 3 12 serial 6 depth 8
-    116 ∷ 97 ∷ 98 ∷ 108 ∷ 101 ∷ 32 ∷ 51 ∷ 32 ∷ 49 ∷ 50 ∷ 32 ∷ 115 ∷ 101 ∷ 114 ∷ 105 ∷ 97 ∷ 108 ∷ 32 ∷ 54 ∷ 32 ∷ 100 ∷ 101 ∷ 112 ∷ 116 ∷ 104 ∷ 32 ∷ 56 ∷ 10
+    headerOfE
     -- open 0 peak 0
-    ∷ 111 ∷ 112 ∷ 101 ∷ 110 ∷ 32 ∷ 48 ∷ 32 ∷ 112 ∷ 101 ∷ 97 ∷ 107 ∷ 32 ∷ 48 ∷ 10
+    ++ 111 ∷ 112 ∷ 101 ∷ 110 ∷ 32 ∷ 48 ∷ 32 ∷ 112 ∷ 101 ∷ 97 ∷ 107 ∷ 32 ∷ 48 ∷ 10
     ∷ []
 
 -- "refused 22 5"
