@@ -1,4 +1,5 @@
-// AsyncDF runs: beginning, a single turn, runs over a list of workers and in rounds. Every call is total, and its answer equals a definition of crates/schedule.
+// AsyncDF runs: beginning, a single turn, runs over a list of workers and in rounds, and the lines of a listing. Every call is total, and what it answers equals a definition of
+// crates/schedule.
 use crate::amounts::begin_fault;
 use crate::beginning::blank;
 use crate::beginning::start;
@@ -30,8 +31,8 @@ ghost use Rattle.schedule.specs.Begin.{begin as beginOf};
 ghost use Rattle.schedule.specs.Machine.{workerOf};
 ghost use Rattle.schedule.specs.Record.{stateOf};
 ghost use Rattle.schedule.specs.Sound.{Sound, countBelow};
-ghost use Rattle.schedule.specs.Turn.{rootEnded, turned as turnedOf};
-ghost use Rattle.schedule.specs.Listing.{turnsBy};
+ghost use Rattle.schedule.specs.Turn.{turned as turnedOf};
+ghost use Rattle.schedule.specs.Listing.{listTurns};
 ghost use Rattle.schedule.specs.Runs.{listRun, roundsRun};
 ghost use Rattle.lines.specs.Lines.{textsOf};
 ghost use Rattle.lines.specs.Puts.{Puts};
@@ -159,19 +160,20 @@ pub fn run_rounds(run: Run, limit: u32) -> Ran
     Ran { report, run: after }
 }
 
-// The lines of the turns of an order's workers, up to the root's end, a refusal or the order's end, and the last line.
+// The lines of the turns of an order's workers, up to the root's end, a refusal or the order's end, and the last line. A text that does not fit is left out; 64 bytes for each of the order
+// and 64 more are enough.
 pub fn list_turns(run: Run, order: &[u8], out: &mut [u8], at: usize) -> usize
-    ensures { λ r. ⌜ Puts (now (out .entry)) at (now (out .exit)) r (textsOf (turnsBy rootEnded turnedOf run (now (order .entry)))) (64 * (length (now (order .entry)) + 1)) ⌝ }
+    ensures { λ r. ⌜ Puts (now (out .entry)) at (now (out .exit)) r (textsOf (listTurns run (now (order .entry)))) (64 * (length (now (order .entry)) + 1)) ⌝ }
 {
+    if unsound(run) {
+        return put_refused(out, at, 32);
+    }
     let status = run.status;
     if status[0] == 4 {
         return put_last(out, at, true, run.turns, run.highest);
     }
     if order.len() == 0 {
         return put_last(out, at, false, run.turns, run.highest);
-    }
-    if unsound(run) {
-        return put_refused(out, at, 32);
     }
     if run.workers == 0 {
         return put_refused(out, at, 30);

@@ -13,7 +13,7 @@ use Rattle.schedule.specs.declared.Reply.{Reply}
 use Rattle.schedule.specs.declared.Reply.the-variants.{Idle, Done, Quota, Wait}
 use Rattle.schedule.specs.Machine.{nextOf}
 use Rattle.schedule.specs.Record.{tableIn, stateOf}
-use Rattle.schedule.specs.Turn.{rootEnded}
+use Rattle.schedule.specs.Turn.{unsound, rootEnded, turned}
 
 -- what a turn says: nothing was done; the thread, its action and the action's kind; the thread and its action that was not done
 pub data Told : Type 0 where
@@ -81,3 +81,7 @@ lastOf r = lastWith (rootEnded r) (r .turns) (r .highest)
 abbrev pub turnsBy : (Run → Bool) → (Run → ℕ → Turned) → Run → List ℕ → Listing
 turnsBy stop turn r [] = listing [] (lastOf r)
 turnsBy stop turn r (w ∷ order) = pick (stop r) (listing [] (lastOf r)) (turnThen (turn r w .answer) w (turn r w .run) (turnsBy stop turn (turn r w .run) order))
+
+-- the listing of turns of an order's workers up to the root's end, on any record whatever: "A call over many turns tests this first."
+unfoldable pub listTurns : Run → List ℕ → Listing
+listTurns r order = pick (unsound r) (listing [] (refused 32 0)) (turnsBy rootEnded turned r order)

@@ -1,10 +1,28 @@
 -- `listing::turns::put_listing` meets its contract: the table's refusal, the beginning's, or the header and the turns.
+use mathlib.Core.Path.{_≡_, sym, _∙_}
+use Prim.Native.Nat.{ℕ}
+use mathlib.Core.List.{List}
 use native.Mathlib.Omega.{arith}
 use borrow.Author.Needs.{needs}
+use Rattle.schedule.specs.declared.Begun.{Begun}
+use Rattle.schedule.specs.declared.Beginning.the-variants.{Begun as started}
+use Rattle.schedule.specs.Begin.{begin}
+use Rattle.schedule.specs.Turn.{unsound, rootEnded, turned}
+use Rattle.schedule.specs.Listing.{turnsBy, listTurns}
+use Rattle.schedule.proofs.Tests.{sound-exactly}
+use Rattle.schedule.proofs.Histories.{begin-sound}
 use Rattle.listing.specs.Listing.{listedBy}
 use Rattle.lines.proofs.Putting.{puts-more, puts-within}
 use Rattle.listing.proofs.turns.put_listing.Statement.{statement}
 use Rattle.listing.proofs.turns.put_listing.Tie as tie
+
+-- an accepted beginning's record is sound, and its turns are listed as they are
+begun-listed : (s : List ℕ) (p K : ℕ) (order : List ℕ) {x : Begun} → x ≡ begin s p K → x .answer ≡ started
+    → listTurns (x .run) order ≡ turnsBy rootEnded turned (x .run) order
+unfolding listTurns unsound
+begun-listed s p K order {x} e a =
+    let h : begin s p K ≡ record { answer = started; run = x .run } = sym e ∙ (λ i. record { answer = a i; run = x .run }) in
+    rw (sound-exactly (x .run) .1 (begin-sound s p K (x .run) h))
 
 load-requires : tie.Need-load-requires
 load-requires c κs = search needs
@@ -63,8 +81,10 @@ returns-3 c =
     let p = c .before .before .before .before .before .before in
     let b = p .before .before .before .before .before in
     let told = b .before .enum-told2 .given .1 in
-    rw (← b .before .before .before .load .ensures .0, told, ← b .begin .ensures .0, p .before .before .before .enum-told3 .given .1)
-    (puts-within (omega arith) (puts-more (rw told at (p .put-answer3 .ensures)) (c .before .before .list-turns .ensures)))
+    let begins = p .before .before .before .enum-told3 .given .1 in
+    let turns = rw (begun-listed _ _ _ _ (b .begin .ensures .0) begins) at (c .before .before .list-turns .ensures) in
+    rw (← b .before .before .before .load .ensures .0, told, ← b .begin .ensures .0, begins)
+    (puts-within (omega arith) (puts-more (rw told at (p .put-answer3 .ensures)) turns))
 
 pub put-listing-spec : {M : Type 1} → statement M
 put-listing-spec =
