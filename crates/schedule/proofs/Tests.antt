@@ -57,11 +57,11 @@ common-exactly T p K next status workers amount highest =
     (and-of (allBelow-exactly (inOrder T next status) (T .actions))
     (and-of (allBelow-exactly (statusFollows T next status) (T .threads))
     (and-of (allBelow-exactly (waitsAtJoin T next status) (T .threads))
+    (and-of (unused-from (T .threads) next status 1024)
     (and-of (allBelow-exactly (oneHolder status workers) (T .threads))
     (and-of (allBelow-exactly (workerRight (T .threads) p K workers) 16)
     (and-of Iff·rfl
-    (and-of (leb-exactly amount highest)
-    (unused-from (T .threads) next status 1024)))))))))))) (
+    (leb-exactly amount highest)))))))))))) (
       (λ (a, (b, (c, (d, (e, (f, (g, (h, (i, (j, (k, l))))))))))).
           record {
             next-size = a;
@@ -71,16 +71,16 @@ common-exactly T p K next status workers amount highest =
             ordered = e;
             statuses = f;
             waits = g;
-            holders = h;
-            worker-each = i;
-            held-right = j;
-            above = k;
-            unused-threads = l;
+            unused-threads = h;
+            holders = i;
+            worker-each = j;
+            held-right = k;
+            above = l;
           }),
       (λ s.
           pair (s .next-size) (pair (s .status-size) (pair (s .worker-size) (pair (s .placed) (pair (s .ordered)
-          (pair (s .statuses) (pair (s .waits) (pair (s .holders) (pair (s .worker-each) (pair (s .held-right)
-          (pair (s .above) (s .unused-threads)))))))))))),
+          (pair (s .statuses) (pair (s .waits) (pair (s .unused-threads) (pair (s .holders) (pair (s .worker-each)
+          (pair (s .held-right) (s .above)))))))))))),
     )
 
 pub listed-exactly : (T : Table) (next status list : List ℕ) → (listed T next status list ≡ true) ↔ Listed T next status list

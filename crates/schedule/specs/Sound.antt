@@ -157,11 +157,11 @@ pub record Common (T : Table) (p K : ℕ) (next status : List ℕ) (workers : Li
   pub ordered : (a : ℕ) → a < T .actions → inOrder T next status a ≡ true
   pub statuses : (t : ℕ) → t < T .threads → statusFollows T next status t ≡ true
   pub waits : (t : ℕ) → t < T .threads → waitsAtJoin T next status t ≡ true
+  pub unused-threads : (t : ℕ) → T .threads ≤ t → t < maxThreads → unused next status t ≡ true
   pub holders : (t : ℕ) → t < T .threads → oneHolder status workers t ≡ true
   pub worker-each : (w : ℕ) → w < maxWorkers → workerRight (T .threads) p K workers w ≡ true
   pub held-right : heldRight T next status amount ≡ true
   pub above : amount ≤ highest
-  pub unused-threads : (t : ℕ) → T .threads ≤ t → t < maxThreads → unused next status t ≡ true
 
 -- what a run with a list keeps besides
 pub record Listed (T : Table) (next status list : List ℕ) : Type 0 where
@@ -215,11 +215,11 @@ common T p K next status workers amount highest =
     && (allBelow (inOrder T next status) (T .actions)
     && (allBelow (statusFollows T next status) (T .threads)
     && (allBelow (waitsAtJoin T next status) (T .threads)
+    && (allBelow (λ t. ltb t (T .threads) || unused next status t) maxThreads
     && (allBelow (oneHolder status workers) (T .threads)
     && (allBelow (workerRight (T .threads) p K workers) maxWorkers
     && (heldRight T next status amount
-    && (leb amount highest
-    && allBelow (λ t. ltb t (T .threads) || unused next status t) maxThreads))))))))))
+    && leb amount highest))))))))))
 
 unfoldable pub listed : Table → List ℕ → List ℕ → List ℕ → Bool
 listed T next status list =

@@ -1,0 +1,12 @@
+pub mod Room
+pub mod DoneSums
+pub mod All
+pub mod Filled
+pub mod Lookups
+pub mod Every
+pub mod Done
+pub mod Noting
+pub mod Spans
+pub mod Marks
+pub mod Chains
+pub mod Blank

@@ -1,0 +1,18 @@
+-- `soundness::read::byte` meets its contract: an element of a slice of bytes is below 256.
+use native.Mathlib.Omega.{arith}
+use mathlib.Core.Path.{refl}
+use borrow.Author.Needs.{needs}
+use Rattle.soundness.proofs.read.byte.Statement.{statement}
+use Rattle.soundness.proofs.read.byte.Tie as tie
+
+shared-slice-read-result : tie.Need-shared-slice-read-result
+shared-slice-read-result c = search needs
+
+cast-result : tie.Need-cast-result
+cast-result c = omega (arith, c .shared-slice-known .given (c .before .args .i))
+
+returns : tie.Need-returns
+returns c = record { value = refl; small = omega (arith, c .shared-slice-known .given (c .before .args .i)) }
+
+pub byte-spec : {M : Type 1} → statement M
+byte-spec = tie.close (tie.spec shared-slice-read-result cast-result returns)
