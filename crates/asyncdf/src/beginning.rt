@@ -1,14 +1,14 @@
 // The record of an accepted beginning, and the blank one.
-use crate::read::word;
 use schedule::Run;
 use schedule::Worker;
+use table::read::first;
 ghost use mathlib.Core.Path.{_≡_};
 ghost use Prim.Native.Nat.{_≤_};
 ghost use lib.ListN.{length, replicate};
 ghost use Rattle.table.specs.Format.{tableOf};
 ghost use Rattle.schedule.specs.Record.{blank as blankRun, filled};
 ghost use Rattle.schedule.specs.Begin.{firsts, startRun};
-ghost use Rattle.asyncdf.specs.Checks.{Known};
+ghost use Rattle.soundness.specs.Checks.{Known};
 
 const NOBODY: Worker = Worker {
     holds: false,
@@ -56,7 +56,7 @@ fn fill_next(bytes: &[u8], n: usize, m: usize, next: &mut [u16; 1024])
 {
     let mut t = 0;
     while t < n {
-        next[t] = word(bytes, 4 + 4 * t) as u16;
+        next[t] = first(bytes, t) as u16;
         t += 1;
     }
 }

@@ -1,12 +1,9 @@
 // AsyncDF runs: beginning, a single turn, runs over a list of workers and in rounds, and the lines of a listing. Every call is total, and what it answers equals a definition of
 // crates/schedule.
-use crate::amounts::begin_fault;
 use crate::beginning::blank;
 use crate::beginning::start;
-use crate::read::word;
 use crate::runs::drive;
 use crate::runs::stopped;
-use crate::sound::unsound;
 use crate::turns::put_turns;
 use lines::put_last;
 use lines::put_refused;
@@ -17,9 +14,13 @@ use schedule::Report;
 use schedule::Run;
 use schedule::Turned;
 use schedule::Turning;
+use soundness::begin_fault;
+use soundness::test;
 use table::Found;
 use table::Loaded;
 use table::Refusal;
+use table::read::actions;
+use table::read::threads;
 ghost use mathlib.Core.Path.{_≡_};
 ghost use Prim.Native.Nat.{_+_, _*_};
 ghost use lib.Count.{ones};
@@ -38,16 +39,10 @@ ghost use Rattle.lines.specs.Lines.{textsOf};
 ghost use Rattle.lines.specs.Puts.{Puts};
 
 mod act;
-mod amounts;
 mod beginning;
-mod bodies;
 mod list;
-mod order;
-mod read;
 mod release;
-mod rests;
 mod runs;
-mod sound;
 mod step;
 mod turns;
 
@@ -63,9 +58,7 @@ pub fn begin(bytes: &[u8], p: u8, quota: u32) -> Begun
             run: blank(),
         };
     }
-    let n = word(bytes, 0);
-    let m = word(bytes, 2);
-    let found = begin_fault(bytes, n, m, p, quota);
+    let found = begin_fault(bytes, threads(bytes), actions(bytes), p, quota);
     if let Found::At(x) = found {
         return Begun {
             answer: Beginning::Refused(x),
@@ -74,7 +67,7 @@ pub fn begin(bytes: &[u8], p: u8, quota: u32) -> Begun
     }
     Begun {
         answer: Beginning::Begun,
-        run: start(bytes, n, m, p, quota),
+        run: start(bytes, threads(bytes), actions(bytes), p, quota),
     }
 }
 
@@ -92,7 +85,8 @@ pub fn turn(run: Run, w: u8) -> Turned
     ensures { λ r. ⌜ r ≡ turnedOf run w ⌝ }
     ensures { λ r. ⌜ turningValues (r .answer) ≡ turningValues (turnedOf run w .answer) ⌝ }
 {
-    if unsound(run) {
+    let tested = test(run);
+    if !tested.passed {
         return refused(32, run);
     }
     if run.workers <= w {
@@ -102,8 +96,9 @@ pub fn turn(run: Run, w: u8) -> Turned
     if status[0] == 4 {
         return refused(31, run);
     }
+    let parents = tested.parents;
     let order = [w];
-    let driven = drive(run, &order, false, 1);
+    let driven = drive(run, &parents, &order, false, 1);
     let reply = driven.reply;
     let after = driven.run;
     Turned {
@@ -117,7 +112,8 @@ pub fn run_list(run: Run, order: &[u8]) -> Ran
     ensures { λ r. ⌜ r ≡ listRun run (now (order .entry)) ⌝ }
     ensures { λ r. ⌜ reportValues (r .report) ≡ reportValues (listRun run (now (order .entry)) .report) ⌝ }
 {
-    if unsound(run) {
+    let tested = test(run);
+    if !tested.passed {
         return Ran {
             report: stopped(32, 0),
             run,
@@ -131,7 +127,8 @@ pub fn run_list(run: Run, order: &[u8]) -> Ran
         };
         return Ran { report, run };
     }
-    let driven = drive(run, order, false, order.len());
+    let parents = tested.parents;
+    let driven = drive(run, &parents, order, false, order.len());
     let report = driven.report;
     let after = driven.run;
     Ran { report, run: after }
@@ -142,7 +139,8 @@ pub fn run_rounds(run: Run, limit: u32) -> Ran
     ensures { λ r. ⌜ r ≡ roundsRun run limit ⌝ }
     ensures { λ r. ⌜ reportValues (r .report) ≡ reportValues (roundsRun run limit .report) ⌝ }
 {
-    if unsound(run) {
+    let tested = test(run);
+    if !tested.passed {
         return Ran {
             report: stopped(32, 0),
             run,
@@ -154,7 +152,8 @@ pub fn run_rounds(run: Run, limit: u32) -> Ran
             run,
         };
     }
-    let driven = drive(run, b"", true, limit as usize);
+    let parents = tested.parents;
+    let driven = drive(run, &parents, b"", true, limit as usize);
     let report = driven.report;
     let after = driven.run;
     Ran { report, run: after }
@@ -165,7 +164,8 @@ pub fn run_rounds(run: Run, limit: u32) -> Ran
 pub fn list_turns(run: Run, order: &[u8], out: &mut [u8], at: usize) -> usize
     ensures { λ r. ⌜ Puts (now (out .entry)) at (now (out .exit)) r (textsOf (listTurns run (now (order .entry)))) (64 * (length (now (order .entry)) + 1)) ⌝ }
 {
-    if unsound(run) {
+    let tested = test(run);
+    if !tested.passed {
         return put_refused(out, at, 32);
     }
     let status = run.status;
@@ -178,7 +178,8 @@ pub fn list_turns(run: Run, order: &[u8], out: &mut [u8], at: usize) -> usize
     if run.workers == 0 {
         return put_refused(out, at, 30);
     }
-    put_turns(run, order, out, at)
+    let parents = tested.parents;
+    put_turns(run, &parents, order, out, at)
 }
 
 // The number busy.

@@ -21,7 +21,7 @@ use Rattle.schedule.specs.Record.{blank}
 use Rattle.schedule.specs.Begin.{begin, beginPasses, begunAs, startRun}
 use Rattle.schedule.specs.declared.Run.{Run}
 use Rattle.schedule.specs.declared.Beginning.the-variants.{Begun as started, Refused as refusedBegin}
-use Rattle.asyncdf.specs.Checks.{Known}
+use Rattle.soundness.specs.Checks.{Known}
 use Rattle.asyncdf.proofs.Calls.{begun-answers}
 use Rattle.asyncdf.proofs.begin.Statement.{statement}
 use Rattle.asyncdf.proofs.begin.Tie as tie

@@ -3,13 +3,14 @@ use mathlib.Core.Path.{_≡_, ap, _∙_}
 use Prim.Native.Nat.{ℕ, _+_, _-_, _≤_, _<_}
 use mathlib.Core.List.{List}
 use native.Mathlib.Omega.{arith}
+use borrow.Author.Needs.{needs}
 use lib.ListN.{set, replicate}
-use Rattle.table.specs.Format.{firstOf, tableOf}
+use Rattle.table.specs.Format.{tableOf}
 use Rattle.table.proofs.Sizes.{Sizes}
 use Rattle.schedule.specs.Record.{filled}
 use Rattle.schedule.specs.Begin.{firsts}
-use Rattle.asyncdf.specs.Checks.{Known}
-use Rattle.asyncdf.proofs.Room.{known-sizes}
+use Rattle.soundness.specs.Checks.{Known}
+use Rattle.soundness.proofs.Room.{known-sizes}
 use Rattle.asyncdf.proofs.Laying.{Laid, laid-more}
 use Rattle.asyncdf.proofs.beginning.fill_next.Statement.{statement}
 use Rattle.asyncdf.proofs.beginning.fill_next.Tie as tie
@@ -23,8 +24,7 @@ start : {s next : List ℕ} {n m : ℕ} → Known s n m → next ≡ replicate 1
 unfolding firsts
 start k e = record { sizes = known-sizes k; within = omega arith; laid = record { row = e } }
 
-again : {s next : List ℕ} {n m t x : ℕ} → Inv s n m next t → t < n → x ≡ firstOf s t → Inv s n m (set next t x) (t + 1)
-unfolding tableOf
+again : {s next : List ℕ} {n m t x : ℕ} → Inv s n m next t → t < n → x ≡ tableOf s .first t → Inv s n m (set next t x) (t + 1)
 again v h e = record { sizes = v .sizes; within = omega arith; laid = laid-more (v .laid) (omega arith) e }
 
 done : {s next : List ℕ} {n m t : ℕ} → Inv s n m next t → n ≤ t → next ≡ filled 1024 (firsts (tableOf s .first) 0 n)
@@ -41,14 +41,8 @@ abbrev μ-loop : tie.MeasureT-loop
 loop-holds : tie.Need-loop-holds Inv-loop μ-loop
 loop-holds c = start (c .before .pre .0) (c .before .pre .1)
 
-mul-word : tie.Need-mul-word Inv-loop μ-loop
-mul-word c = omega arith
-
-add-word : tie.Need-add-word Inv-loop μ-loop
-add-word c = omega arith
-
-word-requires : tie.Need-word-requires Inv-loop μ-loop
-word-requires c κs = omega arith
+first-requires : tie.Need-first-requires Inv-loop μ-loop
+first-requires c κs = search needs
 
 cast-next : tie.Need-cast-next Inv-loop μ-loop
 cast-next c = omega arith
@@ -66,7 +60,7 @@ loop-less : tie.Need-loop-less Inv-loop μ-loop
 loop-less c = omega arith
 
 loop-again : tie.Need-loop-again Inv-loop μ-loop
-loop-again c = again (c .before .before .loop .inv) (c .before .loop-test .taken) (c .word .ensures .value)
+loop-again c = again (c .before .before .loop .inv) (c .before .loop-test .taken) (c .first .ensures .value)
 
 returns : tie.Need-returns Inv-loop μ-loop
 returns c = done (c .before .loop .inv) (c .loop-test .left)
@@ -78,9 +72,7 @@ fill-next-spec =
     Inv-loop
     μ-loop
     loop-holds
-    mul-word
-    add-word
-    word-requires
+    first-requires
     cast-next
     mul-next
     element-write-next

@@ -10,8 +10,8 @@ use Rattle.schedule.specs.Machine.{nobody}
 use Rattle.schedule.specs.Record.{filled, setOf}
 use Rattle.schedule.specs.Begin.{firsts, startState, startRun}
 use Rattle.schedule.specs.declared.Run.{Run}
-use Rattle.asyncdf.specs.Checks.{Known}
-use Rattle.asyncdf.proofs.Room.{known-sizes}
+use Rattle.soundness.specs.Checks.{Known}
+use Rattle.soundness.proofs.Room.{known-sizes}
 use Rattle.asyncdf.proofs.beginning.start.Statement.{statement}
 use Rattle.asyncdf.proofs.beginning.start.Tie as tie
 

@@ -1,10 +1,10 @@
--- `asyncdf::read::number_or_zero` meets its contract: past a list's end stands the default.
+-- `asyncdf::turns::number_or_zero` meets its contract: past a list's end stands the default.
 use mathlib.Core.Path.{sym}
 use borrow.Author.Needs.{needs}
 use denote.Ref.{now}
 use lib.ListN.{List·getD-eq-default}
-use Rattle.asyncdf.proofs.read.number_or_zero.Statement.{statement}
-use Rattle.asyncdf.proofs.read.number_or_zero.Tie as tie
+use Rattle.asyncdf.proofs.turns.number_or_zero.Statement.{statement}
+use Rattle.asyncdf.proofs.turns.number_or_zero.Tie as tie
 
 mul-result : tie.Need-mul-result
 mul-result c = search needs
