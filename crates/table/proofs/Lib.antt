@@ -11,6 +11,7 @@ pub mod Levels
 pub mod Amounts
 pub mod Peaks
 pub mod Stack
+pub mod Words
 pub mod Parts
 pub mod Walks
 pub mod Tops

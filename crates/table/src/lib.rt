@@ -6,7 +6,7 @@ mod head;
 mod level;
 mod nest;
 mod peak;
-mod read;
+pub mod read;
 
 use balance::balances;
 use contents::contents;
@@ -15,7 +15,8 @@ use head::head;
 use level::depth;
 use nest::nesting;
 use peak::serial_peak;
-use read::word;
+use read::actions;
+use read::threads;
 ghost use mathlib.Core.Path.{_≡_};
 ghost use Rattle.table.specs.Format.{tableOf};
 ghost use Rattle.table.specs.Pass.{tryPass, firstFound};
@@ -57,8 +58,8 @@ pub fn load(table: &[u8]) -> Loaded
     if let Found::At(r) = found {
         return Loaded::Refused(r);
     }
-    let n = word(table, 0);
-    let m = word(table, 2);
+    let n = threads(table);
+    let m = actions(table);
     let found = shape(table, n, m);
     if let Found::At(r) = found {
         return Loaded::Refused(r);

@@ -51,15 +51,12 @@ module _ {s : List ℕ} {n m : ℕ} (h : Headed s n m) where
     unfolding loaded passes firstFound
     rest = rw (head-passed, firstFound-append (shapePasses (tableOf s)), e, orElse-last)
 
-long : {s : List ℕ} → HeadRules s → 4 ≤ length s
-long {s} h = ltb-false (length s) 4 (h .long)
-
 -- the head has passed
 passed : (c : tie.After-enum-told) → HeadRules (now (c .before .before .before .before .args .table))
 passed c = head-rules _ .0 (sym (c .before .before .head .ensures) ∙ c .enum-told .given .1)
 
-reached : (c : tie.After-word2) → Headed (now (c .before .before .before .before .before .before .args .table)) (c .before .word .result) (c .word2 .result)
-reached c = record { head = passed (c .before .before); threads = c .before .word .ensures .value; actions = c .word2 .ensures .value }
+reached : (c : tie.After-actions) → Headed (now (c .before .before .before .before .before .before .args .table)) (c .before .threads .result) (c .actions .result)
+reached c = record { head = passed (c .before .before); threads = c .before .threads .ensures .value; actions = c .actions .ensures .value }
 
 -- and so are its values
 answered : {x y : Loaded} → x ≡ y → (x ≡ y) × (valuesOf x ≡ valuesOf y)
@@ -77,11 +74,11 @@ returns c = answered (refused-head (now (c .before .before .before .before .befo
 enum-told : tie.Need-enum-told
 enum-told c = search needs
 
-word-requires : tie.Need-word-requires
-word-requires c κs = omega (arith, long (passed c))
+threads-requires : tie.Need-threads-requires
+threads-requires c κs = search needs
 
-word-requires-2 : tie.Need-word-requires-2
-word-requires-2 c κs = omega (arith, long (passed (c .before)))
+actions-requires : tie.Need-actions-requires
+actions-requires c κs = search needs
 
 shape-requires : tie.Need-shape-requires
 shape-requires c κs = reached c
@@ -112,8 +109,8 @@ load-spec =
     enum-known-found
     returns
     enum-told
-    word-requires
-    word-requires-2
+    threads-requires
+    actions-requires
     shape-requires
     enum-known-found-2
     returns-2
