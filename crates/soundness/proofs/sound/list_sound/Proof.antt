@@ -8,16 +8,15 @@ use denote.Ref.{now}
 use lib.ListN.{length, take}
 use lib.Dec.{ltb}
 use Rattle.table.specs.Format.{Table, tableOf}
-use Rattle.table.proofs.Sizes.{Sizes}
 use Rattle.schedule.specs.Sound.{allBelow, allIn, listFollows, inSerialOrder, listed}
-use Rattle.soundness.specs.Checks.{Known}
-use Rattle.soundness.proofs.Room.{known-sizes}
+use Rattle.soundness.specs.Checks.{Accepted}
+use Rattle.soundness.proofs.Lookups.{accepted-lawful}
 use Rattle.soundness.proofs.Chains.{off, on, cut, pass, second-of}
 use Rattle.soundness.proofs.sound.list_sound.Statement.{statement}
 use Rattle.soundness.proofs.sound.list_sound.Tie as tie
 
-few : {s : List ℕ} {n m : ℕ} → Known s n m → n ≤ 1024
-few {s} {n} {m} k = let z : Sizes s n m = known-sizes k in omega arith
+few : {s : List ℕ} {n : ℕ} → Accepted s n → n ≤ 1024
+few k = omega (arith, k .threads, accepted-lawful k .few-threads)
 
 -- the two tests are the three clauses
 both : (T : Table) (next status list : List ℕ) (n : ℕ) → n ≡ T .threads → {r : Bool}

@@ -1,4 +1,4 @@
--- `soundness::amounts::begin_fault` meets its contract. The invariant: p and K are in range, and what is found from action a on is what is found in all.
+-- `soundness::beginning::begin_fault` meets its contract. The invariant: p and K are in range, and what is found from action a on is what is found in all.
 use mathlib.Core.Path.{_≡_, sym, ap, _∙_}
 use Prim.Native.Nat.{ℕ, _+_, _-_, _≤_, _<_}
 use mathlib.Core.List.{List, [], _∷_}
@@ -6,25 +6,23 @@ use mathlib.Core.Bool.{true, false}
 use native.Mathlib.Omega.{arith}
 use borrow.Author.Needs.{needs}
 use denote.Ref.{now}
-use Rattle.table.specs.Format.{Table, tableOf}
+use Rattle.table.specs.Format.{Table, threadsOf, actionsOf, tableOf}
 use Rattle.table.specs.Pass.{Check, orElse, refusal, tryAt, tryFrom, tryPass, firstFound}
 use Rattle.table.specs.Rules.{outside}
+use Rattle.table.specs.Steps.{Read}
 use Rattle.table.specs.declared.Found.the-variants.{Nothing, At}
-use Rattle.table.proofs.Sizes.{Sizes}
 use Rattle.table.proofs.Trying.{tryFrom-next, tryFrom-here, tryFrom-last, tryFrom-all}
 use Rattle.schedule.specs.Begin.{allocAbove, beginPasses}
-use Rattle.soundness.specs.Checks.{Known}
-use Rattle.soundness.proofs.Room.{known-sizes}
-use Rattle.soundness.proofs.amounts.begin_fault.Statement.{statement}
-use Rattle.soundness.proofs.amounts.begin_fault.Tie as tie
+use Rattle.soundness.proofs.beginning.begin_fault.Statement.{statement}
+use Rattle.soundness.proofs.beginning.begin_fault.Tie as tie
 
 abbrev allocChecks : Table → ℕ → List Check
 allocChecks T K = record { number = 22; applies = allocAbove T K } ∷ []
 
-record Inv (s : List ℕ) (n m p K a : ℕ) : Type 0 where
-  known : Known s n m
-  sizes : Sizes s n m
+record Inv (s : List ℕ) (p K n m a : ℕ) : Type 0 where
+  threads : n ≡ tableOf s .threads
   within : a ≤ m
+  small : m < 65536
   remains : orElse (tryFrom (allocChecks (tableOf s) K) a (m - a)) Nothing ≡ firstFound (beginPasses (tableOf s) p K)
 
 module _ (T : Table) (p K : ℕ) where
@@ -40,23 +38,24 @@ module _ (T : Table) (p K : ℕ) where
   unfolding firstFound tryPass tryFrom tryAt
   in-range h k = rw (h, k)
 
-start : (s : List ℕ) (n m p K : ℕ) → Known s n m → outside 1 16 p ≡ false → outside 1 16777215 K ≡ false → Inv s n m p K 0
-start s n m p K r h k =
+start : (s : List ℕ) (p K n m : ℕ) → n ≡ threadsOf s → Read (actionsOf s) 65536 m → outside 1 16 p ≡ false → outside 1 16777215 K ≡ false → Inv s p K n m 0
+unfolding tableOf
+start s p K n m e r h k =
     record {
-      known = r;
-      sizes = known-sizes r;
+      threads = e;
       within = omega arith;
-      remains = rw (tryFrom-all (allocChecks (tableOf s) K) m, r .actions) (in-range (tableOf s) p K h k);
+      small = r .small;
+      remains = rw (tryFrom-all (allocChecks (tableOf s) K) m, r .value) (in-range (tableOf s) p K h k);
     }
 
-module _ (s : List ℕ) (n m p K a : ℕ) (i : Inv s n m p K a) where
-  again : a < m → allocAbove (tableOf s) K a ≡ false → Inv s n m p K (a + 1)
+module _ (s : List ℕ) (p K n m a : ℕ) (i : Inv s p K n m a) where
+  again : a < m → allocAbove (tableOf s) K a ≡ false → Inv s p K n m (a + 1)
   unfolding tryAt
   again h w =
       record {
-        known = i .known;
-        sizes = i .sizes;
+        threads = i .threads;
         within = omega arith;
+        small = i .small;
         remains = ap (λ f. orElse f Nothing) (sym (tryFrom-next (allocChecks (tableOf s) K) a m h (rw w))) ∙ i .remains;
       }
 
@@ -68,10 +67,10 @@ module _ (s : List ℕ) (n m p K a : ℕ) (i : Inv s n m p K a) where
   none h = ap (λ f. orElse f Nothing) (sym (tryFrom-last (allocChecks (tableOf s) K) a m (omega arith))) ∙ i .remains
 
 abbrev Inv-loop : tie.InvT-loop
-Inv-loop table n m p quota most a₀ a = Inv table n m p quota a
+Inv-loop table p quota n m most a₀ a = Inv table p quota n m a
 
 abbrev μ-loop : tie.MeasureT-loop
-μ-loop table n m p quota most a₀ a = m - a
+μ-loop table p quota n m most a₀ a = m - a
 
 outside-requires : tie.Need-outside-requires Inv-loop μ-loop
 outside-requires c κs = search needs
@@ -97,13 +96,20 @@ returns-2 c =
     c .refuse2 .ensures
     ∙ wide-quota (tableOf (now (a .table))) (a .p) (a .quota) (sym (d .before .outside .ensures) ∙ d .if1 .left) (sym (c .before .before .outside2 .ensures) ∙ c .before .if2 .taken)
 
+threads-requires : tie.Need-threads-requires Inv-loop μ-loop
+threads-requires c κs = search needs
+
+actions-requires : tie.Need-actions-requires Inv-loop μ-loop
+actions-requires c κs = search needs
+
 loop-holds : tie.Need-loop-holds Inv-loop μ-loop
 loop-holds c =
-    let d = c .before .before in
-    start _ _ _ _ _ (d .before .before .before .pre) (sym (d .before .outside .ensures) ∙ d .if1 .left) (sym (c .before .outside2 .ensures) ∙ c .if2 .left)
+    let b = c .before .before in
+    let d = b .before .before in
+    start _ _ _ _ _ (c .before .threads .ensures .value) (c .actions .ensures) (sym (d .before .outside .ensures) ∙ d .if1 .left) (sym (b .before .outside2 .ensures) ∙ b .if2 .left)
 
 alloc-above-requires : tie.Need-alloc-above-requires Inv-loop μ-loop
-alloc-above-requires c κs = (c .before .loop .inv .known, c .loop-test .taken)
+alloc-above-requires c κs = c .before .loop .inv .threads
 
 refuse-requires-3 : tie.Need-refuse-requires-3 Inv-loop μ-loop
 refuse-requires-3 c κs = omega arith
@@ -140,6 +146,8 @@ begin-fault-spec =
     outside-requires-2
     refuse-requires-2
     returns-2
+    threads-requires
+    actions-requires
     loop-holds
     alloc-above-requires
     refuse-requires-3

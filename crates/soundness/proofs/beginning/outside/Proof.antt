@@ -1,7 +1,7 @@
--- `soundness::amounts::outside` meets its contract: `||` is the definition's, one test after the other.
+-- `soundness::beginning::outside` meets its contract: `||` is the definition's, one test after the other.
 use borrow.Author.Tests.{lt-ltb, le-ltb}
-use Rattle.soundness.proofs.amounts.outside.Statement.{statement}
-use Rattle.soundness.proofs.amounts.outside.Tie as tie
+use Rattle.soundness.proofs.beginning.outside.Statement.{statement}
+use Rattle.soundness.proofs.beginning.outside.Tie as tie
 
 returns : tie.Need-returns
 returns c = simp (lt-ltb _ _ (c .if1 .taken))
