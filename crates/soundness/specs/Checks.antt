@@ -1,7 +1,7 @@
 -- What the code's tests of soundness say: each is one clause of the definition, over the parts of the record that it looks at.
 use mathlib.Core.Path.{_≡_}
 use Prim.Native.Nat.{ℕ, _+_, _-_, _^_, _<_, _≤_}
-use mathlib.Core.List.{List, []}
+use mathlib.Core.List.{List}
 use mathlib.Core.Bool.{Bool, true, not, _&&_, _||_}
 use lib.Dec.{ltb, eqb}
 use lib.ListN.{length, take, getD}

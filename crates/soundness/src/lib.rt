@@ -14,9 +14,11 @@ mod amounts;
 mod beginning;
 mod bodies;
 mod common;
+mod holders;
+mod listed;
 mod order;
-mod rests;
 mod sound;
+mod unused;
 
 pub use beginning::begin_fault;
 

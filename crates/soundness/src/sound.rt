@@ -1,12 +1,12 @@
 // The test of a record: the common part, the list's clauses, the lengths, the parts not in use, turns taken; and the blank record.
 use crate::Tested;
+use crate::holders::workers_right;
+use crate::listed::list_follows;
 use crate::order::in_serial_order;
-use crate::rests::list_follows;
-use crate::rests::list_rest;
-use crate::rests::table_rest;
-use crate::rests::unused_right;
-use crate::rests::workers_right;
 use crate::test_common;
+use crate::unused::list_rest;
+use crate::unused::table_rest;
+use crate::unused::unused_right;
 use schedule::Run;
 use schedule::Worker;
 use table::read;

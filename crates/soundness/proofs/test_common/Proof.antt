@@ -2,7 +2,7 @@
 use mathlib.Core.Path.{_≡_, refl, ap, sym, _∙_}
 use Prim.Native.Nat.{ℕ}
 use mathlib.Core.List.{List}
-use mathlib.Core.Bool.{Bool, true, false}
+use mathlib.Core.Bool.{Bool, false}
 use borrow.Author.Needs.{needs}
 use denote.Ref.{now}
 use lib.ListN.{length, replicate}
@@ -18,7 +18,6 @@ use Rattle.table.specs.declared.Loaded.the-variants.{Accepted as good, Refused}
 use Rattle.table.proofs.Passes.{found-exactly, passes-rules, accepted-exactly, accepted-facts, refused-exactly}
 use Rattle.schedule.specs.declared.Worker.{Worker}
 use Rattle.schedule.specs.Sound.{commonSound}
-use Rattle.soundness.specs.declared.Tested.{Tested}
 use Rattle.soundness.specs.Checks.{Accepted}
 use Rattle.soundness.specs.Tested.{parentsIn, commonTested}
 use Rattle.soundness.proofs.Noting.{parents-right}

@@ -1,7 +1,7 @@
 -- `soundness::amounts::held_right` meets its contract. The invariant: the sums are those of what is done in the threads below t.
 use mathlib.Core.Path.{_≡_, sym, _∙_}
 use Prim.Native.Nat.{ℕ, _+_, _-_, _≤_, _<_}
-use mathlib.Core.List.{List, []}
+use mathlib.Core.List.{List}
 use native.Mathlib.Decide.{ℕ-discrete}
 use native.Mathlib.Omega.{arith}
 use borrow.Author.Tests.{eq-eqb, ne-eqb, lt-leb}
@@ -12,7 +12,6 @@ use Rattle.table.specs.Format.{tableOf}
 use Rattle.table.specs.Rules.{endOf, countsBelow, allocOf, freeOf}
 use Rattle.table.specs.Accepted.{ContentRules}
 use Rattle.table.proofs.Bodies.{first-is, body-within}
-use Rattle.schedule.specs.Machine.{State}
 use Rattle.schedule.specs.Sound.{sumDoneIn, heldRight}
 use Rattle.soundness.specs.Checks.{Accepted, Placed, doneTo}
 use Rattle.soundness.specs.Adding.{Adds, Added}

@@ -1,7 +1,7 @@
 -- `soundness::bodies::in_order` meets its contract. The invariant: the actions of the threads below t are in order.
 use mathlib.Core.Path.{_≡_, _∙_}
 use Prim.Native.Nat.{ℕ, _-_}
-use mathlib.Core.List.{List, []}
+use mathlib.Core.List.{List}
 use native.Mathlib.Omega.{arith}
 use denote.Ref.{now}
 use Rattle.table.specs.Format.{tableOf}

@@ -1,7 +1,7 @@
 -- `soundness::bodies::join_done` meets its contract: a child owns its end.
 use mathlib.Core.Path.{_≡_, sym, _∙_}
 use Prim.Native.Nat.{ℕ, _<_}
-use mathlib.Core.List.{List, []}
+use mathlib.Core.List.{List}
 use mathlib.Core.Bool.{Bool, true}
 use borrow.Author.Needs.{needs}
 use denote.Ref.{now}

@@ -1,7 +1,7 @@
 -- `soundness::bodies::status_follows` meets its contract: each way out is the definition's at the status found.
 use mathlib.Core.Path.{_≡_, refl, sym, ap, _∙_}
 use Prim.Native.Nat.{ℕ, _<_}
-use mathlib.Core.List.{List, []}
+use mathlib.Core.List.{List}
 use mathlib.Core.Bool.{Bool, true, false, not, _&&_, Bool·beq, and-true}
 use native.Mathlib.Omega.{arith}
 use borrow.Author.Needs.{needs}

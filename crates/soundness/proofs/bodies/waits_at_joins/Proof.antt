@@ -1,6 +1,5 @@
 -- `soundness::bodies::waits_at_joins` meets its contract. The invariant: the threads below t pass the test.
 use Prim.Native.Nat.{_-_}
-use mathlib.Core.List.{[]}
 use native.Mathlib.Omega.{arith}
 use Rattle.table.specs.Format.{tableOf}
 use Rattle.schedule.specs.Sound.{waitsAtJoin}

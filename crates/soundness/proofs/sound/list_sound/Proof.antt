@@ -1,13 +1,13 @@
 -- `soundness::sound::list_sound` meets its contract: the tests are the clauses, in their order.
-use mathlib.Core.Path.{_≡_, sym, _∙_}
+use mathlib.Core.Path.{_≡_, _∙_}
 use Prim.Native.Nat.{ℕ, _≤_}
 use mathlib.Core.List.{List}
-use mathlib.Core.Bool.{Bool, true, false, _&&_, and-assoc}
+use mathlib.Core.Bool.{Bool, _&&_, and-assoc}
 use native.Mathlib.Omega.{arith}
 use denote.Ref.{now}
-use lib.ListN.{length, take}
+use lib.ListN.{take}
 use lib.Dec.{ltb}
-use Rattle.table.specs.Format.{Table, tableOf}
+use Rattle.table.specs.Format.{Table}
 use Rattle.schedule.specs.Sound.{allBelow, allIn, listFollows, inSerialOrder, listed}
 use Rattle.soundness.specs.Checks.{Accepted}
 use Rattle.soundness.proofs.Lookups.{accepted-lawful}

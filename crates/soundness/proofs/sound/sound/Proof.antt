@@ -1,7 +1,6 @@
 -- `soundness::sound::sound` meets its contract: the lengths and the parts not in use come first, then the common part and the list.
-use mathlib.Core.Path.{_≡_, refl, ap, sym, _∙_}
+use mathlib.Core.Path.{_≡_, ap, sym, _∙_}
 use Prim.Native.Nat.{ℕ, _≤_}
-use mathlib.Core.List.{List}
 use mathlib.Core.Bool.{Bool, true, false}
 use native.Mathlib.Omega.{arith}
 use borrow.Author.Needs.{needs}
@@ -17,7 +16,7 @@ use Rattle.table.proofs.Passes.{passes-rules}
 use Rattle.schedule.specs.declared.Run.{Run}
 use Rattle.schedule.specs.Record.{bytesOf, tableIn}
 use Rattle.schedule.specs.Begin.{beginPasses}
-use Rattle.schedule.specs.Sound.{Common, isNothing, nextInBody, common, commonSound, listed, sound}
+use Rattle.schedule.specs.Sound.{Common, isNothing, nextInBody, commonSound, listed, sound}
 use Rattle.schedule.proofs.Words.{allBelow-exactly, isNothing-exactly}
 use Rattle.schedule.proofs.Tests.{common-exactly}
 use Rattle.soundness.specs.declared.Tested.{Tested}

@@ -1,4 +1,4 @@
--- `soundness::rests::counts_right` meets its contract. The invariant: the counts of the threads below t are those of their statuses.
+-- `soundness::holders::counts_right` meets its contract. The invariant: the counts of the threads below t are those of their statuses.
 use mathlib.Core.Path.{_≡_, refl}
 use Prim.Native.Nat.{ℕ, _+_, _-_, _≤_, _<_}
 use mathlib.Core.List.{List}
@@ -12,8 +12,8 @@ use lib.ListN.{getD}
 use Rattle.table.specs.Sum.{pick}
 use Rattle.schedule.specs.Sound.{allBelow}
 use Rattle.soundness.proofs.All.{all-none, all-more, all-fails, all-pass}
-use Rattle.soundness.proofs.rests.counts_right.Statement.{statement}
-use Rattle.soundness.proofs.rests.counts_right.Tie as tie
+use Rattle.soundness.proofs.holders.counts_right.Statement.{statement}
+use Rattle.soundness.proofs.holders.counts_right.Tie as tie
 
 abbrev test : List ℕ → List ℕ → ℕ → Bool
 test status counts t = eqb (getD counts t 0) (pick (eqb (getD status t 0) 2) 1 0)

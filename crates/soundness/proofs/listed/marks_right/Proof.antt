@@ -1,7 +1,7 @@
--- `soundness::rests::marks_right` meets its contract. The invariant: the threads below t are marked if they are live.
+-- `soundness::listed::marks_right` meets its contract. The invariant: the threads below t are marked if they are live.
 use mathlib.Core.Path.{_≡_, refl, _∙_}
 use Prim.Native.Nat.{ℕ, _+_, _-_, _≤_, _<_}
-use mathlib.Core.List.{List, []}
+use mathlib.Core.List.{List}
 use mathlib.Core.Bool.{Bool, true, false, not, _&&_, Bool·beq}
 use native.Mathlib.Omega.{arith}
 use borrow.Author.Needs.{needs}
@@ -11,8 +11,8 @@ use lib.Dec.{eqb}
 use lib.ListN.{getD}
 use Rattle.schedule.specs.Sound.{allBelow, agree, liveIn}
 use Rattle.soundness.proofs.All.{all-none, all-more, all-fails, all-pass}
-use Rattle.soundness.proofs.rests.marks_right.Statement.{statement}
-use Rattle.soundness.proofs.rests.marks_right.Tie as tie
+use Rattle.soundness.proofs.listed.marks_right.Statement.{statement}
+use Rattle.soundness.proofs.listed.marks_right.Tie as tie
 
 abbrev test : List ℕ → List Bool → ℕ → Bool
 test status marks t = agree (getD marks t false) (liveIn status t)

@@ -1,7 +1,7 @@
--- `soundness::rests::holders_wanted` meets its contract.
+-- `soundness::holders::holders_wanted` meets its contract.
 use borrow.Author.Tests.{eq-eqb, ne-eqb}
-use Rattle.soundness.proofs.rests.holders_wanted.Statement.{statement}
-use Rattle.soundness.proofs.rests.holders_wanted.Tie as tie
+use Rattle.soundness.proofs.holders.holders_wanted.Statement.{statement}
+use Rattle.soundness.proofs.holders.holders_wanted.Tie as tie
 
 returns : tie.Need-returns
 returns c = rw (eq-eqb (c .before .args .status) 2 (c .if1 .taken))

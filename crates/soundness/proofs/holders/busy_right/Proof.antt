@@ -1,4 +1,4 @@
--- `soundness::rests::busy_right` meets its contract. The invariant: `set` is the set of the workers from w on, in its lowest bits.
+-- `soundness::holders::busy_right` meets its contract. The invariant: `set` is the set of the workers from w on, in its lowest bits.
 use mathlib.Core.Path.{_≡_, refl, ap, _∙_}
 use Prim.Native.Nat.{ℕ, suc, _+_, _-_, _*_, _^_, _≤_, _<_}
 use mathlib.Core.List.{List, [], _∷_}
@@ -11,8 +11,8 @@ use Rattle.table.specs.Sum.{pick}
 use Rattle.schedule.specs.declared.Worker.{Worker}
 use Rattle.schedule.specs.Machine.{nobody}
 use Rattle.schedule.specs.Record.{setOf}
-use Rattle.soundness.proofs.rests.busy_right.Statement.{statement}
-use Rattle.soundness.proofs.rests.busy_right.Tie as tie
+use Rattle.soundness.proofs.holders.busy_right.Statement.{statement}
+use Rattle.soundness.proofs.holders.busy_right.Tie as tie
 
 bit-small : (t : Bool) → pick t 1 0 ≤ 1
 bit-small true = omega arith

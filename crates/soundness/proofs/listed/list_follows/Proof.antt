@@ -1,7 +1,7 @@
--- `soundness::rests::list_follows` meets its contract: where all threads of the list are below n, the marks are the threads in the list.
+-- `soundness::listed::list_follows` meets its contract: where all threads of the list are below n, the marks are the threads in the list.
 use mathlib.Core.Path.{_≡_, sym, _∙_}
 use Prim.Native.Nat.{ℕ}
-use mathlib.Core.List.{List, []}
+use mathlib.Core.List.{List}
 use mathlib.Core.Bool.{Bool, true, false, not, _&&_, and-false, and-true}
 use borrow.Author.Needs.{needs}
 use borrow.Author.Tests.{not-true, not-false}
@@ -10,8 +10,8 @@ use lib.Dec.{ltb}
 use lib.ListN.{getD, take}
 use Rattle.schedule.specs.Sound.{allBelow, allIn, member, agree, liveIn, listFollows}
 use Rattle.soundness.proofs.All.{all-cong}
-use Rattle.soundness.proofs.rests.list_follows.Statement.{statement}
-use Rattle.soundness.proofs.rests.list_follows.Tie as tie
+use Rattle.soundness.proofs.listed.list_follows.Statement.{statement}
+use Rattle.soundness.proofs.listed.list_follows.Tie as tie
 
 abbrev follows : List ℕ → List ℕ → ℕ → Bool
 follows status l = listFollows status l

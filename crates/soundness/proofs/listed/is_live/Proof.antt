@@ -1,7 +1,7 @@
--- `soundness::rests::is_live` meets its contract.
+-- `soundness::listed::is_live` meets its contract.
 use borrow.Author.Tests.{eq-eqb, ne-eqb}
-use Rattle.soundness.proofs.rests.is_live.Statement.{statement}
-use Rattle.soundness.proofs.rests.is_live.Tie as tie
+use Rattle.soundness.proofs.listed.is_live.Statement.{statement}
+use Rattle.soundness.proofs.listed.is_live.Tie as tie
 
 returns : tie.Need-returns
 returns c = rw (ne-eqb (c .before .args .status) 0 (c .if1 .taken))

@@ -1,4 +1,4 @@
--- `soundness::rests::mark_listed` meets its contract. The invariant: the marked threads are those in the first i places, and all of them are below n.
+-- `soundness::listed::mark_listed` meets its contract. The invariant: the marked threads are those in the first i places, and all of them are below n.
 use mathlib.Core.Path.{_≡_, refl, sym, _∙_}
 use Prim.Native.Nat.{ℕ, _+_, _-_, _≤_, _<_}
 use mathlib.Core.List.{List, [], _∷_, _++_}
@@ -15,8 +15,8 @@ use Rattle.table.proofs.Tests.{no-way}
 use Rattle.schedule.specs.Sound.{allIn, member}
 use Rattle.schedule.proofs.Lists.{getD-alike, getD-member}
 use Rattle.schedule.proofs.Words.{and-exactly, allIn-exactly, never-true, not-both}
-use Rattle.soundness.proofs.rests.mark_listed.Statement.{statement}
-use Rattle.soundness.proofs.rests.mark_listed.Tie as tie
+use Rattle.soundness.proofs.listed.mark_listed.Statement.{statement}
+use Rattle.soundness.proofs.listed.mark_listed.Tie as tie
 
 -- ---- one element more at the end of a list
 

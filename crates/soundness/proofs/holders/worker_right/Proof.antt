@@ -1,4 +1,4 @@
--- `soundness::rests::worker_right` meets its contract: each way out is the test with its first parts known.
+-- `soundness::holders::worker_right` meets its contract: each way out is the test with its first parts known.
 use mathlib.Core.Path.{_≡_}
 use Prim.Native.Nat.{ℕ, _≤_, _<_}
 use mathlib.Core.Bool.{Bool, true, false, _&&_}
@@ -7,8 +7,8 @@ use borrow.Author.Tests.{lt-ltb, le-ltb, eq-eqb, ne-eqb}
 use lib.Dec.{ltb, leb, eqb}
 use Rattle.table.specs.Sum.{pick}
 use Rattle.schedule.specs.declared.Worker.{Worker}
-use Rattle.soundness.proofs.rests.worker_right.Statement.{statement}
-use Rattle.soundness.proofs.rests.worker_right.Tie as tie
+use Rattle.soundness.proofs.holders.worker_right.Statement.{statement}
+use Rattle.soundness.proofs.holders.worker_right.Tie as tie
 
 module _ (n p K w : ℕ) (x : Worker) where
   abbrev right : Bool

@@ -1,7 +1,7 @@
--- `soundness::rests::unused_right` meets its contract. The invariant: the threads from n to t are unborn with next action 0.
+-- `soundness::unused::unused_right` meets its contract. The invariant: the threads from n to t are unborn with next action 0.
 use mathlib.Core.Path.{_≡_}
 use Prim.Native.Nat.{ℕ, _+_, _-_, _<_}
-use mathlib.Core.List.{List, []}
+use mathlib.Core.List.{List}
 use mathlib.Core.Bool.{Bool, false}
 use native.Mathlib.Omega.{arith}
 use borrow.Author.Needs.{needs}
@@ -10,8 +10,8 @@ use denote.Ref.{now}
 use lib.ListN.{getD}
 use Rattle.schedule.specs.Sound.{allBelow, unused}
 use Rattle.soundness.proofs.All.{fromOn, all-pass, Passed, passed-none, passed-more, passed-fails}
-use Rattle.soundness.proofs.rests.unused_right.Statement.{statement}
-use Rattle.soundness.proofs.rests.unused_right.Tie as tie
+use Rattle.soundness.proofs.unused.unused_right.Statement.{statement}
+use Rattle.soundness.proofs.unused.unused_right.Tie as tie
 
 abbrev isUnused : List ℕ → List ℕ → ℕ → Bool
 isUnused next status = unused next status

@@ -1,7 +1,7 @@
--- `soundness::rests::workers_right` meets its contract. The invariant: the workers below w are right.
+-- `soundness::holders::workers_right` meets its contract. The invariant: the workers below w are right.
 use mathlib.Core.Path.{_≡_, refl, sym, _∙_}
 use Prim.Native.Nat.{ℕ, _+_, _-_, _<_}
-use mathlib.Core.List.{List, []}
+use mathlib.Core.List.{List}
 use mathlib.Core.Bool.{Bool, true, false, not, _&&_}
 use native.Mathlib.Omega.{arith}
 use borrow.Author.Needs.{needs}
@@ -13,8 +13,8 @@ use Rattle.schedule.specs.declared.Worker.{Worker}
 use Rattle.schedule.specs.Machine.{nobody}
 use Rattle.schedule.specs.Sound.{allBelow, workerRight}
 use Rattle.soundness.proofs.All.{all-none, all-more, all-fails, all-pass}
-use Rattle.soundness.proofs.rests.workers_right.Statement.{statement}
-use Rattle.soundness.proofs.rests.workers_right.Tie as tie
+use Rattle.soundness.proofs.holders.workers_right.Statement.{statement}
+use Rattle.soundness.proofs.holders.workers_right.Tie as tie
 
 -- the test of one worker x
 abbrev right : ℕ → ℕ → ℕ → ℕ → Worker → Bool

@@ -1,7 +1,7 @@
--- `soundness::rests::one_holder_each` meets its contract. The invariant: the counts are of the workers below w, so that none is above w.
+-- `soundness::holders::one_holder_each` meets its contract. The invariant: the counts are of the workers below w, so that none is above w.
 use mathlib.Core.Path.{_≡_, refl, sym, _∙_}
 use Prim.Native.Nat.{ℕ, _+_, _-_, _≤_, _<_}
-use mathlib.Core.List.{List, []}
+use mathlib.Core.List.{List}
 use mathlib.Core.Bool.{true, false, _&&_}
 use native.Mathlib.Decide.{ℕ-discrete}
 use native.Mathlib.Numerals.{add-one}
@@ -19,8 +19,8 @@ use Rattle.schedule.specs.Sound.{allBelow, countBelow, holdsThread, oneHolder}
 use Rattle.schedule.proofs.CountBelow.{count-bound}
 use Rattle.schedule.proofs.Lists.{getD-alike}
 use Rattle.soundness.proofs.All.{all-cong}
-use Rattle.soundness.proofs.rests.one_holder_each.Statement.{statement}
-use Rattle.soundness.proofs.rests.one_holder_each.Tie as tie
+use Rattle.soundness.proofs.holders.one_holder_each.Statement.{statement}
+use Rattle.soundness.proofs.holders.one_holder_each.Tie as tie
 
 -- how many of the first w workers hold thread t
 abbrev holders : List Worker → ℕ → ℕ → ℕ
