@@ -1,4 +1,3 @@
-pub mod Room
 pub mod DoneSums
 pub mod All
 pub mod Filled

@@ -1,51 +1,33 @@
--- What an accepted table gives the lookups of the code: bounds of its threads and actions, and room for them in its bytes.
-use mathlib.Core.Path.{_≡_, refl, sym, ap}
-use Prim.Native.Nat.{ℕ, zero, suc, _+_, _*_, _≤_, _<_}
-use mathlib.Core.List.{List, []}
+-- What an accepted table gives the lookups of the code: what is read of an action, kinds by their codes, where a body and a thread's next action lie.
+use mathlib.Core.Path.{_≡_, _∙_}
+use Prim.Native.Nat.{ℕ, _+_, _≤_, _<_}
+use mathlib.Core.List.{List}
 use mathlib.Core.Bool.{true, false}
 use native.Mathlib.Omega.{arith}
-use lib.ListN.{length, getD}
-use Rattle.table.specs.Format.{Kind, fork, join, unknown, is, kindOf, codeOf, kind, threadsOf, actionsOf, tableOf}
-use Rattle.table.specs.Accepted.{Rules}
-use Rattle.table.proofs.Sizes.{Sizes, sizes}
-use Rattle.table.proofs.Tests.{no-way, is-true, same-is}
-use Rattle.table.proofs.Bodies.{count-pos, body-within, after-end, fork-below, join-below}
-use Rattle.schedule.proofs.Words.{never-true, allBelow-exactly}
+use borrow.Author.Tests.{ne-eqb}
+use lib.ListN.{getD}
+use Rattle.table.specs.Format.{fork, join, is, kindOf, codeAt, argumentAt, bodiesFrom, Table, tableOf}
+use Rattle.table.specs.Rules.{endOf}
+use Rattle.table.specs.Steps.{Read}
+use Rattle.table.proofs.Walks.{is-code}
+use Rattle.table.proofs.Tests.{same-is}
+use Rattle.table.proofs.Parts.{code-from, argument-from}
+use Rattle.table.proofs.Bodies.{count-pos, body-within, after-end}
+use Rattle.schedule.proofs.Lawful.{Lawful, lawful}
+use Rattle.schedule.proofs.Words.{not-both, allBelow-exactly}
 use Rattle.schedule.proofs.Clauses.{nextInBody-exactly}
-use Rattle.soundness.specs.Checks.{Known, Thread, Action, Placed}
+use Rattle.soundness.specs.Checks.{Accepted, Placed}
 
-pub sized : {s : List ℕ} → Rules s → Sizes s (threadsOf s) (actionsOf s)
-sized r = sizes (record { head = r .head; threads = refl; actions = refl })
+pub accepted-lawful : {s : List ℕ} {n : ℕ} → Accepted s n → Lawful (tableOf s)
+accepted-lawful {s} k = lawful s (k .rules)
 
-pub thread-of : {s : List ℕ} {n m t : ℕ} → Known s n m → t < n → Thread s t
-thread-of k h = record { rules = k .rules; below = omega (arith, k .threads) }
+-- what is read of action a
+module _ {s : List ℕ} {n : ℕ} (k : Accepted s n) (a : ℕ) where
+  pub code-read : {r : ℕ} → r ≡ codeAt (bodiesFrom s n) a → r ≡ tableOf s .code a
+  code-read e = e ∙ code-from s n (k .threads) a
 
--- a thread's number is below 1,024, its entry is in the bytes, and its body is not empty and ends within 8,192 actions
-pub record Entry (s : List ℕ) (t : ℕ) : Type 0 where
-  pub few : t < 1024
-  pub room : 4 * t + 7 < length s
-  pub some : 0 < tableOf s .count t
-  pub within : tableOf s .first t + tableOf s .count t ≤ tableOf s .actions
-  pub small : tableOf s .actions ≤ 8192
-
-pub entry : {s : List ℕ} {t : ℕ} → Thread s t → Entry s t
-unfolding tableOf
-entry {s} {t} h =
-    let z : Sizes s (threadsOf s) (actionsOf s) = sized (h .rules) in
-    record {
-      few = omega (arith, h .below);
-      room = omega (arith, h .below);
-      some = count-pos (tableOf s) (h .rules .contents) t (h .below);
-      within = body-within (tableOf s) (h .rules .contents) t (h .below);
-      small = z .actions-high;
-    }
-
--- what the lookups of an action ask
-pub place : {s : List ℕ} {n a : ℕ} → Action s n a → (n ≡ threadsOf s) × (4 + 4 * n + 4 * a + 3 < length s)
-unfolding tableOf
-place {s} h =
-    let z : Sizes s (threadsOf s) (actionsOf s) = sized (h .rules) in
-    (h .threads, omega (arith, h .threads, h .below))
+  pub argument-read : {r : ℕ} → Read (argumentAt (bodiesFrom s n) a) 16777216 r → Read (tableOf s .argument a) 16777216 r
+  argument-read e = record { value = e .value ∙ argument-from s n (k .threads) a; small = e .small }
 
 -- ---- kinds by their codes
 
@@ -53,45 +35,51 @@ pub fork-code : {k : ℕ} → k ≡ 4 → kindOf k ≡ fork
 unfolding kindOf
 fork-code e = rw e
 
+pub not-fork : {k : ℕ} → (k ≡ 4 → ⊥) → is fork (kindOf k) ≡ false
+unfolding kindOf
+not-fork {k} h = is-code 4 k (omega arith) ∙ ne-eqb k 4 h
+
+pub no-fork : {k : ℕ} → (k ≡ 4 → ⊥) → kindOf k ≡ fork → ⊥
+no-fork {k} h e = not-both _ (same-is fork (kindOf k) e) (not-fork h)
+
 pub join-code : {k : ℕ} → k ≡ 5 → kindOf k ≡ join
 unfolding kindOf
 join-code e = rw e
-
--- a code that is not a kind's is another kind's
-pub other-code : (k : ℕ) (j : Kind) → (j ≡ unknown → ⊥) → (k ≡ codeOf j → ⊥) → kindOf k ≡ j → ⊥
-unfolding kindOf codeOf
-other-code zero j u h e = h (ap codeOf e)
-other-code (suc zero) j u h e = h (ap codeOf e)
-other-code (suc (suc zero)) j u h e = h (ap codeOf e)
-other-code (suc (suc (suc zero))) j u h e = h (ap codeOf e)
-other-code (suc (suc (suc (suc zero)))) j u h e = h (ap codeOf e)
-other-code (suc (suc (suc (suc (suc zero))))) j u h e = h (ap codeOf e)
-other-code (suc (suc (suc (suc (suc (suc k)))))) j u h e = u (sym e)
-
-pub no-fork : {k : ℕ} → (k ≡ 4 → ⊥) → kindOf k ≡ fork → ⊥
-unfolding codeOf
-no-fork {k} = other-code k fork (λ e. no-way (cc))
 
 pub is-join : {k : ℕ} → k ≡ 5 → is join (kindOf k) ≡ true
 is-join {k} e = same-is join (kindOf k) (join-code e)
 
 pub not-join : {k : ℕ} → (k ≡ 5 → ⊥) → is join (kindOf k) ≡ false
-unfolding codeOf
-not-join {k} h = never-true _ (λ q. other-code k join (λ e. no-way (cc)) h (is-true join (kindOf k) q))
+unfolding kindOf
+not-join {k} h = is-code 5 k (omega arith) ∙ ne-eqb k 5 h
 
--- ---- children and next actions
+-- ---- bodies
 
--- the child that an action forks or joins is a thread
-module _ {s : List ℕ} {n a : ℕ} (h : Action s n a) where
-  pub forked : kind (tableOf s) a ≡ fork → Thread s (tableOf s .argument a)
-  forked k = record { rules = h .rules; below = fork-below (tableOf s) (h .rules .contents) (h .rules .bodies) a (h .below) k }
+-- thread t is below 1,024; its body is not empty and ends within 8,192 actions
+pub record Body (T : Table) (t : ℕ) : Type 0 where
+  pub few : t < 1024
+  pub some : 0 < T .count t
+  pub ends : endOf T t + 1 ≡ T .first t + T .count t
+  pub within : T .first t + T .count t ≤ T .actions
+  pub small : T .actions ≤ 8192
 
-  pub joined : kind (tableOf s) a ≡ join → Thread s (tableOf s .argument a)
-  joined k = record { rules = h .rules; below = join-below (tableOf s) (h .rules .contents) (h .rules .bodies) a (h .below) k }
+pub body : {T : Table} {t : ℕ} → Lawful T → t < T .threads → Body T t
+body {T} {t} l h =
+    record {
+      few = omega (arith, l .few-threads);
+      some = count-pos T (l .contents) t h;
+      ends = omega (arith, after-end T (l .contents) t h);
+      within = body-within T (l .contents) t h;
+      small = l .few-actions;
+    }
 
--- a thread's next action lies in its body
-pub placed : {s : List ℕ} {n t : ℕ} (next : List ℕ) → Thread s t → n ≡ tableOf s .threads → Placed s n next
-    → (tableOf s .first t ≤ getD next t 0) × (getD next t 0 < tableOf s .first t + tableOf s .count t)
-placed {s} {n} {t} next h e p =
-    let i = nextInBody-exactly (tableOf s) next t .0 (allBelow-exactly _ n .0 p t (omega (arith, h .below))) in
-    (i .0, omega (arith, i .1, after-end (tableOf s) (h .rules .contents) t (h .below)))
+module _ {s : List ℕ} {n t : ℕ} (k : Accepted s n) (h : t < n) where
+  pub thread-below : t < tableOf s .threads
+  thread-below = rw (k .threads) at h
+
+  pub accepted-body : Body (tableOf s) t
+  accepted-body = body (accepted-lawful k) thread-below
+
+  -- a thread's next action lies in its body
+  pub placed : (next : List ℕ) → Placed s n next → (tableOf s .first t ≤ getD next t 0) × (getD next t 0 ≤ endOf (tableOf s) t)
+  placed next p = nextInBody-exactly (tableOf s) next t .0 (allBelow-exactly _ n .0 p t h)

@@ -1,7 +1,7 @@
 -- The forks and parents noted action by action: each step, and what they are in the end.
 use mathlib.Core.Path.{_≡_, refl, sym, ap, _∙_}
 use Prim.Native.Nat.{ℕ, zero, suc, _+_, _≤_, _<_}
-use mathlib.Core.List.{List, []}
+use mathlib.Core.List.{List}
 use mathlib.Core.Bool.{Bool, true, false, not, _&&_}
 use native.Mathlib.Decide.{ℕ-discrete, decLt}
 use native.Mathlib.Omega.{arith}
@@ -22,7 +22,6 @@ use Rattle.schedule.proofs.Lists.{getD-alike, filled-at, filled-length, firsts-
 use Rattle.schedule.specs.Sound.{doneIn}
 use Rattle.schedule.proofs.Lawful.{Lawful}
 use Rattle.soundness.specs.Checks.{doneAt, Forks, Parents, Noted}
-use Rattle.soundness.specs.Tested.{parentsIn}
 use Rattle.soundness.specs.Tested.{parentsIn}
 
 parents-at : (T : Table) (t : ℕ) → t < T .threads → getD (filled 1024 (firsts (parentOf T) 0 (T .threads))) t 0 ≡ parentOf T t

@@ -4,15 +4,15 @@ use Prim.Native.Nat.{ℕ, _+_, _*_, _≤_, _<_}
 use mathlib.Core.List.{List}
 use Rattle.table.specs.Sum.{sumTo}
 use Rattle.table.specs.Format.{tableOf}
-use Rattle.soundness.specs.Checks.{Known}
+use Rattle.soundness.specs.Checks.{Accepted}
 use Rattle.soundness.specs.declared.amounts.Sums.{Sums}
 
 -- thread t's actions below stop may be added to sums over the threads before it
-pub record Adds (s : List ℕ) (n m t stop : ℕ) (before : Sums) : Type 0 where
-  pub known : Known s n m
+pub record Adds (s : List ℕ) (n t stop : ℕ) (before : Sums) : Type 0 where
+  pub accepted : Accepted s n
   pub thread : t < n
   pub from : tableOf s .first t ≤ stop
-  pub within : stop ≤ m
+  pub within : stop ≤ tableOf s .actions
   pub few-allocs : before .allocs ≤ 16777215 * tableOf s .first t
   pub few-frees : before .frees ≤ 16777215 * tableOf s .first t
 

@@ -1,7 +1,7 @@
 -- What the code's tests of soundness say: each is one clause of the definition, over the parts of the record that it looks at.
 use mathlib.Core.Path.{_≡_}
 use Prim.Native.Nat.{ℕ, _+_, _-_, _^_, _<_, _≤_}
-use mathlib.Core.List.{List, []}
+use mathlib.Core.List.{List}
 use mathlib.Core.Bool.{Bool, true, not, _&&_, _||_}
 use lib.Dec.{ltb, eqb}
 use lib.ListN.{length, take, getD}
@@ -17,21 +17,10 @@ use Rattle.schedule.specs.Machine.{ended, parentOf}
 use Rattle.schedule.specs.Record.{maxThreads, maxWorkers, maxBytes, filled, bytesOf}
 use Rattle.schedule.specs.Sound.{allBelow, doneIn, nextInBody, inOrder, statusFollows, waitsAtJoin, unused, oneHolder, workerRight, numberOf, sameList}
 
--- the bytes are an accepted table of n threads and m actions
-pub record Known (s : List ℕ) (n m : ℕ) : Type 0 where
+-- the bytes are an accepted table of n threads
+pub record Accepted (s : List ℕ) (n : ℕ) : Type 0 where
   pub rules : Rules s
   pub threads : n ≡ tableOf s .threads
-  pub actions : m ≡ tableOf s .actions
-
--- an accepted table and one of its threads, one of its actions
-pub record Thread (s : List ℕ) (t : ℕ) : Type 0 where
-  pub rules : Rules s
-  pub below : t < tableOf s .threads
-
-pub record Action (s : List ℕ) (n a : ℕ) : Type 0 where
-  pub rules : Rules s
-  pub threads : n ≡ tableOf s .threads
-  pub below : a < tableOf s .actions
 
 -- every next action lies in its thread's body
 abbrev pub Placed : List ℕ → ℕ → List ℕ → Type 0
@@ -81,11 +70,11 @@ pub record Numbers (T : Table) (next numbers : List ℕ) : Type 0 where
   pub size : length numbers ≡ 1024
   pub right : (t : ℕ) → t < T .threads → getD numbers t 0 ≡ numberOf T (getD next t 0)
 
--- the clauses on the threads, and on who holds them, as the code groups them: of a table of n threads and m actions
-abbrev pub threadsSound : Table → ℕ → ℕ → List ℕ → List ℕ → Bool
-threadsSound T n m next status =
+-- the clauses on the threads, and on who holds them, as the code groups them: of a table of n threads
+abbrev pub threadsSound : Table → ℕ → List ℕ → List ℕ → Bool
+threadsSound T n next status =
     allBelow (nextInBody T next) n
-    && (allBelow (inOrder T next status) m
+    && (allBelow (inOrder T next status) (T .actions)
     && (allBelow (statusFollows T next status) n
     && (allBelow (waitsAtJoin T next status) n
     && allBelow (λ t. ltb t n || unused next status t) maxThreads)))

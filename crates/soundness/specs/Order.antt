@@ -3,16 +3,10 @@ use mathlib.Core.Path.{_≡_}
 use Prim.Native.Nat.{ℕ, suc, _≤_, _<_}
 use mathlib.Core.List.{List}
 use lib.ListN.{length, getD}
-use Rattle.table.specs.Format.{fork, Table, kind, tableOf}
+use Rattle.table.specs.Format.{fork, Table, kind}
 use Rattle.table.specs.Rules.{countsBelow, endOf}
-use Rattle.table.specs.Accepted.{Rules}
 use Rattle.table.specs.Serial.{serial}
 use Rattle.schedule.specs.Sound.{numberOf}
-
--- the bytes are an accepted table of n threads
-pub record Accepted (s : List ℕ) (n : ℕ) : Type 0 where
-  pub rules : Rules s
-  pub threads : n ≡ tableOf s .threads
 
 -- an action of thread t that is not its end
 pub record Inside (T : Table) (t a : ℕ) : Type 0 where

@@ -1,7 +1,5 @@
 // Clauses of soundness that go through the bodies: next actions, the order of what is done, statuses, waiting.
-use crate::read::argument;
-use crate::read::code;
-use crate::read::word;
+use table::read;
 ghost use mathlib.Core.Path.{_≡_};
 ghost use mathlib.Core.Bool.{not, _&&_};
 ghost use Prim.Native.Nat.{_+_, _<_};
@@ -9,9 +7,10 @@ ghost use lib.ListN.{getD, replicate};
 ghost use lib.Dec.{ltb};
 ghost use Rattle.table.specs.Format.{tableOf};
 ghost use Rattle.table.specs.Rules.{owner, endOf};
+ghost use Rattle.table.specs.Accepted.{Rules};
 ghost use Rattle.table.specs.Steps.{Read};
 ghost use Rattle.schedule.specs.Sound.{allBelow, nextInBody, inOrder, statusFollows, waitsAtJoin};
-ghost use Rattle.soundness.specs.Checks.{Known, Thread, Action, Placed, Forks, Parents, Noted, doneAt, doneTo, joinDone, bodyInOrder};
+ghost use Rattle.soundness.specs.Checks.{Accepted, Placed, Forks, Parents, Noted, doneAt, doneTo, joinDone, bodyInOrder};
 ghost use Rattle.soundness.specs.Tested.{parentsIn};
 
 // A 16-bit number: that it is in its range is known of a parameter, not of an element.
@@ -23,25 +22,27 @@ fn wide(x: u16) -> usize
 
 // A thread's last action.
 fn end_of(table: &[u8], t: usize) -> usize
-    requires { ⌜ Thread (now table) t ⌝ }
+    requires { ⌜ Rules (now table) ⌝ }
+    requires { ⌜ t < tableOf (now table) .threads ⌝ }
     ensures { λ r. ⌜ r ≡ endOf (tableOf (now (table .entry))) t ⌝ }
 {
-    word(table, 4 + 4 * t) + word(table, 6 + 4 * t) - 1
+    read::first(table, t) + read::count(table, t) - 1
 }
 
 // Of one thread: "the next action of each thread below n lies in its own body".
 fn next_in_body(table: &[u8], t: usize, next: &[u16; 1024]) -> bool
-    requires { ⌜ Thread (now table) t ⌝ }
+    requires { ⌜ Rules (now table) ⌝ }
+    requires { ⌜ t < tableOf (now table) .threads ⌝ }
     ensures { λ r. ⌜ r ≡ nextInBody (tableOf (now (table .entry))) (now (next .entry)) t ⌝ }
 {
-    let first = word(table, 4 + 4 * t);
+    let first = read::first(table, t);
     let a = wide(next[t]);
     first <= a && a <= end_of(table, t)
 }
 
 // "the next action of each thread below n lies in its own body"
-pub(crate) fn next_in_bodies(table: &[u8], n: usize, m: usize, next: &[u16; 1024]) -> bool
-    requires { ⌜ Known (now table) n m ⌝ }
+pub(crate) fn next_in_bodies(table: &[u8], n: usize, next: &[u16; 1024]) -> bool
+    requires { ⌜ Accepted (now table) n ⌝ }
     ensures { λ r. ⌜ r ≡ allBelow (nextInBody (tableOf (now (table .entry))) (now (next .entry))) n ⌝ }
 {
     let mut t = 0;
@@ -63,27 +64,22 @@ fn note_fork(
     forks: &mut [u16; 1024],
     parents: &mut [u16; 1024],
 )
-    requires { ⌜ Action (now table) n a ⌝ }
+    requires { ⌜ Accepted (now table) n ⌝ }
+    requires { ⌜ a < tableOf (now table) .actions ⌝ }
     requires { ⌜ owner (tableOf (now table)) a ≡ t ⌝ }
     requires { ⌜ Noted (tableOf (now table)) (now forks) (now parents) a ⌝ }
     ensures { λ _. ⌜ Noted (tableOf (now (table .entry))) (now (forks .exit)) (now (parents .exit)) (a + 1) ⌝ }
 {
-    if code(table, n, a) == 4 {
-        let c = argument(table, n, a);
+    if read::code(table, n, a) == 4 {
+        let c = read::argument(table, n, a);
         forks[c] = a as u16;
         parents[c] = t as u16;
     }
 }
 
 // Each thread's fork and parent.
-pub(crate) fn fill_forks(
-    table: &[u8],
-    n: usize,
-    m: usize,
-    forks: &mut [u16; 1024],
-    parents: &mut [u16; 1024],
-)
-    requires { ⌜ Known (now table) n m ⌝ }
+pub(crate) fn fill_forks(table: &[u8], n: usize, forks: &mut [u16; 1024], parents: &mut [u16; 1024])
+    requires { ⌜ Accepted (now table) n ⌝ }
     requires { ⌜ (now forks ≡ replicate 1024 0) × (now parents ≡ replicate 1024 0) ⌝ }
     ensures { λ _. ⌜ Forks (tableOf (now (table .entry))) (now (forks .exit)) ⌝ }
     ensures { λ _. ⌜ now (parents .exit) ≡ parentsIn (tableOf (now (table .entry))) ⌝ }
@@ -91,7 +87,7 @@ pub(crate) fn fill_forks(
     let mut a = 0;
     let mut t = 0;
     while t < n {
-        let stop = a + word(table, 6 + 4 * t);
+        let stop = a + read::count(table, t);
         while a < stop {
             note_fork(table, n, t, a, forks, parents);
             a += 1;
@@ -135,13 +131,14 @@ fn is_unborn(
 
 // Action a is no join, or the child that it joins has ended.
 fn join_done(table: &[u8], n: usize, a: usize, next: &[u16; 1024], status: &[u8; 1024]) -> bool
-    requires { ⌜ Action (now table) n a ⌝ }
+    requires { ⌜ Accepted (now table) n ⌝ }
+    requires { ⌜ a < tableOf (now table) .actions ⌝ }
     ensures { λ r. ⌜ r ≡ joinDone (tableOf (now (table .entry))) (now (next .entry)) (now (status .entry)) a ⌝ }
 {
-    if code(table, n, a) != 5 {
+    if read::code(table, n, a) != 5 {
         return true;
     }
-    let c = argument(table, n, a);
+    let c = read::argument(table, n, a);
     is_done(c, end_of(table, c), next, status)
 }
 
@@ -155,13 +152,14 @@ fn thread_in_order(
     next: &[u16; 1024],
     status: &[u8; 1024],
 ) -> bool
-    requires { ⌜ (Thread (now table) t) × (n ≡ tableOf (now table) .threads) ⌝ }
+    requires { ⌜ Accepted (now table) n ⌝ }
+    requires { ⌜ t < n ⌝ }
     requires { ⌜ Placed (now table) n (now next) ⌝ }
     requires { ⌜ Forks (tableOf (now table)) (now forks) ⌝ }
     requires { ⌜ Parents (tableOf (now table)) (now parents) ⌝ }
     ensures { λ r. ⌜ r ≡ bodyInOrder (tableOf (now (table .entry))) (now (next .entry)) (now (status .entry)) t ⌝ }
 {
-    let first = word(table, 4 + 4 * t);
+    let first = read::first(table, t);
     let stop = done_to(t, next, status);
     if is_unborn(t, forks, parents, next, status) {
         return stop <= first;
@@ -180,17 +178,16 @@ fn thread_in_order(
 pub(crate) fn in_order(
     table: &[u8],
     n: usize,
-    m: usize,
     forks: &[u16; 1024],
     parents: &[u16; 1024],
     next: &[u16; 1024],
     status: &[u8; 1024],
 ) -> bool
-    requires { ⌜ Known (now table) n m ⌝ }
+    requires { ⌜ Accepted (now table) n ⌝ }
     requires { ⌜ Placed (now table) n (now next) ⌝ }
     requires { ⌜ Forks (tableOf (now table)) (now forks) ⌝ }
     requires { ⌜ Parents (tableOf (now table)) (now parents) ⌝ }
-    ensures { λ r. ⌜ r ≡ allBelow (inOrder (tableOf (now (table .entry))) (now (next .entry)) (now (status .entry))) m ⌝ }
+    ensures { λ r. ⌜ r ≡ allBelow (inOrder (tableOf (now (table .entry))) (now (next .entry)) (now (status .entry))) (tableOf (now (table .entry)) .actions) ⌝ }
 {
     let mut t = 0;
     while t < n {
@@ -211,7 +208,8 @@ fn status_follows(
     next: &[u16; 1024],
     status: &[u8; 1024],
 ) -> bool
-    requires { ⌜ Thread (now table) t ⌝ }
+    requires { ⌜ Rules (now table) ⌝ }
+    requires { ⌜ t < tableOf (now table) .threads ⌝ }
     requires { ⌜ Forks (tableOf (now table)) (now forks) ⌝ }
     requires { ⌜ Parents (tableOf (now table)) (now parents) ⌝ }
     ensures { λ r. ⌜ r ≡ statusFollows (tableOf (now (table .entry))) (now (next .entry)) (now (status .entry)) t ⌝ }
@@ -231,13 +229,12 @@ fn status_follows(
 pub(crate) fn statuses_follow(
     table: &[u8],
     n: usize,
-    m: usize,
     forks: &[u16; 1024],
     parents: &[u16; 1024],
     next: &[u16; 1024],
     status: &[u8; 1024],
 ) -> bool
-    requires { ⌜ Known (now table) n m ⌝ }
+    requires { ⌜ Accepted (now table) n ⌝ }
     requires { ⌜ Forks (tableOf (now table)) (now forks) ⌝ }
     requires { ⌜ Parents (tableOf (now table)) (now parents) ⌝ }
     ensures { λ r. ⌜ r ≡ allBelow (statusFollows (tableOf (now (table .entry))) (now (next .entry)) (now (status .entry))) n ⌝ }
@@ -254,7 +251,8 @@ pub(crate) fn statuses_follow(
 
 // Of one thread: "a thread waits only at a join of a child not ended".
 fn waits_at_join(table: &[u8], n: usize, t: usize, next: &[u16; 1024], status: &[u8; 1024]) -> bool
-    requires { ⌜ (Thread (now table) t) × (n ≡ tableOf (now table) .threads) ⌝ }
+    requires { ⌜ Accepted (now table) n ⌝ }
+    requires { ⌜ t < n ⌝ }
     requires { ⌜ Placed (now table) n (now next) ⌝ }
     ensures { λ r. ⌜ r ≡ waitsAtJoin (tableOf (now (table .entry))) (now (next .entry)) (now (status .entry)) t ⌝ }
 {
@@ -262,10 +260,10 @@ fn waits_at_join(table: &[u8], n: usize, t: usize, next: &[u16; 1024], status: &
         return true;
     }
     let a = wide(next[t]);
-    if code(table, n, a) != 5 {
+    if read::code(table, n, a) != 5 {
         return false;
     }
-    let c = argument(table, n, a);
+    let c = read::argument(table, n, a);
     status[c] != 4
 }
 
@@ -273,11 +271,10 @@ fn waits_at_join(table: &[u8], n: usize, t: usize, next: &[u16; 1024], status: &
 pub(crate) fn waits_at_joins(
     table: &[u8],
     n: usize,
-    m: usize,
     next: &[u16; 1024],
     status: &[u8; 1024],
 ) -> bool
-    requires { ⌜ Known (now table) n m ⌝ }
+    requires { ⌜ Accepted (now table) n ⌝ }
     requires { ⌜ Placed (now table) n (now next) ⌝ }
     ensures { λ r. ⌜ r ≡ allBelow (waitsAtJoin (tableOf (now (table .entry))) (now (next .entry)) (now (status .entry))) n ⌝ }
 {

@@ -1,14 +1,14 @@
 // The clauses that any kind of run over a table keeps: on its threads, and on who holds them.
-use crate::amounts::begin_fault;
 use crate::amounts::held_right;
+use crate::beginning::begin_fault;
 use crate::bodies::in_order;
 use crate::bodies::next_in_bodies;
 use crate::bodies::statuses_follow;
 use crate::bodies::waits_at_joins;
-use crate::rests::busy_right;
-use crate::rests::one_holder_each;
-use crate::rests::unused_right;
-use crate::rests::workers_right;
+use crate::holders::busy_right;
+use crate::holders::one_holder_each;
+use crate::holders::workers_right;
+use crate::unused::unused_right;
 use schedule::Worker;
 use table::Found;
 ghost use mathlib.Core.Path.{_≡_};
@@ -16,33 +16,32 @@ ghost use Prim.Native.Nat.{_≤_};
 ghost use lib.ListN.{length};
 ghost use Rattle.table.specs.Format.{tableOf};
 ghost use Rattle.schedule.specs.Sound.{commonSound};
-ghost use Rattle.soundness.specs.Checks.{Known, Forks, Parents, threadsSound, holdersSound};
+ghost use Rattle.soundness.specs.Checks.{Accepted, Forks, Parents, threadsSound, holdersSound};
 
 // Next actions, the order of what is done, statuses, waiting threads, threads not in use.
 pub(crate) fn threads_sound(
     table: &[u8],
     n: usize,
-    m: usize,
     forks: &[u16; 1024],
     parents: &[u16; 1024],
     next: &[u16; 1024],
     status: &[u8; 1024],
 ) -> bool
-    requires { ⌜ Known (now table) n m ⌝ }
+    requires { ⌜ Accepted (now table) n ⌝ }
     requires { ⌜ Forks (tableOf (now table)) (now forks) ⌝ }
     requires { ⌜ Parents (tableOf (now table)) (now parents) ⌝ }
-    ensures { λ r. ⌜ r ≡ threadsSound (tableOf (now (table .entry))) n m (now (next .entry)) (now (status .entry)) ⌝ }
+    ensures { λ r. ⌜ r ≡ threadsSound (tableOf (now (table .entry))) n (now (next .entry)) (now (status .entry)) ⌝ }
 {
-    if !next_in_bodies(table, n, m, next) {
+    if !next_in_bodies(table, n, next) {
         return false;
     }
-    if !in_order(table, n, m, forks, parents, next, status) {
+    if !in_order(table, n, forks, parents, next, status) {
         return false;
     }
-    if !statuses_follow(table, n, m, forks, parents, next, status) {
+    if !statuses_follow(table, n, forks, parents, next, status) {
         return false;
     }
-    if !waits_at_joins(table, n, m, next, status) {
+    if !waits_at_joins(table, n, next, status) {
         return false;
     }
     unused_right(n, next, status)
@@ -69,7 +68,6 @@ pub(crate) fn holders_sound(
 pub(crate) fn common_holds(
     table: &[u8],
     n: usize,
-    m: usize,
     p: u8,
     quota: u32,
     forks: &[u16; 1024],
@@ -81,23 +79,23 @@ pub(crate) fn common_holds(
     held: u64,
     highest: u64,
 ) -> bool
-    requires { ⌜ Known (now table) n m ⌝ }
+    requires { ⌜ Accepted (now table) n ⌝ }
     requires { ⌜ Forks (tableOf (now table)) (now forks) ⌝ }
     requires { ⌜ Parents (tableOf (now table)) (now parents) ⌝ }
     requires { ⌜ (length (now next) ≡ 1024) × (length (now status) ≡ 1024) ⌝ }
     ensures { λ r. ⌜ r ≡ commonSound (now (table .entry)) p quota (now (next .entry)) (now (status .entry)) workers busy held highest ⌝ }
 {
-    let found = begin_fault(table, n, m, p, quota);
+    let found = begin_fault(table, p, quota);
     if let Found::At(_) = found {
         return false;
     }
-    if !threads_sound(table, n, m, forks, parents, next, status) {
+    if !threads_sound(table, n, forks, parents, next, status) {
         return false;
     }
     if !holders_sound(n, p, quota, status, workers) {
         return false;
     }
-    if !held_right(table, n, m, next, status, held) {
+    if !held_right(table, n, next, status, held) {
         return false;
     }
     held <= highest && busy_right(busy, workers)

@@ -1,24 +1,26 @@
 // The test of a run's record, check 32, and the checks of a beginning. Every call is total, and what it answers equals a definition.
 use crate::bodies::fill_forks;
 use crate::common::common_holds;
-use crate::read::word;
 use crate::sound::is_blank;
 use crate::sound::sound;
 use schedule::Run;
 use schedule::Worker;
 use table::Loaded;
+use table::read;
 ghost use mathlib.Core.Path.{_≡_};
 ghost use Rattle.soundness.specs.Tested.{commonTested, tested};
 
 mod amounts;
+mod beginning;
 mod bodies;
 mod common;
+mod holders;
+mod listed;
 mod order;
-mod read;
-mod rests;
 mod sound;
+mod unused;
 
-pub use amounts::begin_fault;
+pub use beginning::begin_fault;
 
 // Whether a test passed, and each thread's parent, which the turns after it look up.
 pub struct Tested {
@@ -48,12 +50,22 @@ pub fn test_common(
             parents,
         };
     }
-    let n = word(table, 0);
-    let m = word(table, 2);
+    let n = read::threads(table);
     let mut forks = [0u16; 1024];
-    fill_forks(table, n, m, &mut forks, &mut parents);
+    fill_forks(table, n, &mut forks, &mut parents);
     let passed = common_holds(
-        table, n, m, p, quota, &forks, &parents, &next, &status, workers, busy, held, highest,
+        table,
+        n,
+        p,
+        quota,
+        &forks,
+        &parents,
+        &next,
+        &status,
+        workers,
+        busy,
+        held,
+        highest,
     );
     Tested { passed, parents }
 }

@@ -1,7 +1,5 @@
 // The list in serial order: the 1DF-numbers of the next actions, from the lengths of the threads with their children.
-use crate::read::argument;
-use crate::read::code;
-use crate::read::word;
+use table::read;
 ghost use mathlib.Core.Path.{_≡_};
 ghost use mathlib.Core.Bool.{true, false};
 ghost use Prim.Native.Nat.{ℕ, _+_, _≤_, _<_};
@@ -12,8 +10,8 @@ ghost use Rattle.table.specs.Rules.{owner, endOf};
 ghost use Rattle.table.specs.Serial.{serial};
 ghost use Rattle.table.specs.Steps.{Read};
 ghost use Rattle.schedule.specs.Sound.{allIn, inSerialOrder, rises};
-ghost use Rattle.soundness.specs.Checks.{Known, Placed, Lengths, Numbers};
-ghost use Rattle.soundness.specs.Order.{Accepted, Inside, Numbering, Walked};
+ghost use Rattle.soundness.specs.Checks.{Accepted, Placed, Lengths, Numbers};
+ghost use Rattle.soundness.specs.Order.{Inside, Numbering, Walked};
 
 // How many actions come with action a: itself, and those of the child that it forks.
 fn span(table: &[u8], n: usize, a: usize, lengths: &[u16; 1024]) -> usize
@@ -22,10 +20,10 @@ fn span(table: &[u8], n: usize, a: usize, lengths: &[u16; 1024]) -> usize
     requires { ⌜ Lengths (tableOf (now table)) (now lengths) (owner (tableOf (now table)) a + 1) ⌝ }
     ensures { λ r. ⌜ length (serial (tableOf (now (table .entry))) a) ≡ r + length (serial (tableOf (now (table .entry))) (a + 1)) ⌝ }
 {
-    if code(table, n, a) != 4 {
+    if read::code(table, n, a) != 4 {
         return 1;
     }
-    1 + lengths[argument(table, n, a)] as usize
+    1 + lengths[read::argument(table, n, a)] as usize
 }
 
 // How many actions a thread has with its children, from the lengths of the threads above it.
@@ -35,8 +33,8 @@ fn thread_length(table: &[u8], n: usize, t: usize, lengths: &[u16; 1024]) -> usi
     requires { ⌜ Lengths (tableOf (now table)) (now lengths) (t + 1) ⌝ }
     ensures { λ r. ⌜ Read (length (serial (tableOf (now (table .entry))) (tableOf (now (table .entry)) .first t))) 65536 r ⌝ }
 {
-    let first = word(table, 4 + 4 * t);
-    let last = first + word(table, 6 + 4 * t) - 1;
+    let first = read::first(table, t);
+    let last = first + read::count(table, t) - 1;
     let mut total = 1;
     let mut a = first;
     while a < last {
@@ -68,10 +66,10 @@ fn pass(table: &[u8], n: usize, a: usize, number: usize, numbers: &mut [u16; 102
     ensures { λ r. ⌜ Walked (tableOf (now (table .entry))) (owner (tableOf (now (table .entry))) a) (a + 1) r (now (numbers .entry)) (now (numbers .exit)) ⌝ }
 {
     let after = number + 1;
-    if code(table, n, a) != 4 {
+    if read::code(table, n, a) != 4 {
         return after;
     }
-    let c = argument(table, n, a);
+    let c = read::argument(table, n, a);
     let length = numbers[c] as usize;
     numbers[c] = after as u16;
     after + length
@@ -115,7 +113,7 @@ fn number_thread(
     requires { ⌜ Numbering (tableOf (now table)) (now next) t first (now numbers) ⌝ }
     ensures { λ r. ⌜ Numbering (tableOf (now (table .entry))) (now (next .entry)) (t + 1) r (now (numbers .exit)) ⌝ }
 {
-    let stop = first + word(table, 6 + 4 * t);
+    let stop = first + read::count(table, t);
     let at = next[t] as usize;
     let start = numbers[t] as usize;
     let number = advance(table, n, first, at, start, numbers);
@@ -168,12 +166,11 @@ fn rising(numbers: &[u16; 1024], list: &[u16; 1024], len: usize) -> bool
 pub(crate) fn in_serial_order(
     table: &[u8],
     n: usize,
-    m: usize,
     next: &[u16; 1024],
     list: &[u16; 1024],
     len: usize,
 ) -> bool
-    requires { ⌜ Known (now table) n m ⌝ }
+    requires { ⌜ Accepted (now table) n ⌝ }
     requires { ⌜ Placed (now table) n (now next) ⌝ }
     requires { ⌜ (len ≤ 1024) × (length (now list) ≡ 1024) × (allIn (λ t. ltb t n) (take len (now list)) ≡ true) ⌝ }
     ensures { λ r. ⌜ r ≡ inSerialOrder (tableOf (now (table .entry))) (now (next .entry)) (take len (now (list .entry))) ⌝ }

@@ -1,15 +1,15 @@
 // The test of a record: the common part, the list's clauses, the lengths, the parts not in use, turns taken; and the blank record.
 use crate::Tested;
+use crate::holders::workers_right;
+use crate::listed::list_follows;
 use crate::order::in_serial_order;
-use crate::read::word;
-use crate::rests::list_follows;
-use crate::rests::list_rest;
-use crate::rests::table_rest;
-use crate::rests::unused_right;
-use crate::rests::workers_right;
 use crate::test_common;
+use crate::unused::list_rest;
+use crate::unused::table_rest;
+use crate::unused::unused_right;
 use schedule::Run;
 use schedule::Worker;
+use table::read;
 ghost use mathlib.Core.Path.{_≡_};
 ghost use mathlib.Core.Bool.{true, _&&_};
 ghost use Prim.Native.Nat.{_≤_};
@@ -20,20 +20,19 @@ ghost use Rattle.schedule.specs.Machine.{nobody};
 ghost use Rattle.schedule.specs.Record.{tableIn};
 ghost use Rattle.schedule.specs.Sound.{allBelow, listed as listedOf, sound as soundOf};
 ghost use Rattle.schedule.specs.Turn.{isNobody, isBlank};
-ghost use Rattle.soundness.specs.Checks.{Known, Placed, restSound, allZero};
+ghost use Rattle.soundness.specs.Checks.{Accepted, Placed, restSound, allZero};
 ghost use Rattle.soundness.specs.Tested.{parentsIn};
 
 // The clauses on the list.
 fn list_sound(
     table: &[u8],
     n: usize,
-    m: usize,
     next: &[u16; 1024],
     status: &[u8; 1024],
     list: &[u16; 1024],
     len: usize,
 ) -> bool
-    requires { ⌜ Known (now table) n m ⌝ }
+    requires { ⌜ Accepted (now table) n ⌝ }
     requires { ⌜ Placed (now table) n (now next) ⌝ }
     requires { ⌜ (len ≤ 1024) × (length (now list) ≡ 1024) ⌝ }
     ensures { λ r. ⌜ r ≡ listedOf (tableOf (now (table .entry))) (now (next .entry)) (now (status .entry)) (take len (now (list .entry))) ⌝ }
@@ -41,7 +40,7 @@ fn list_sound(
     if !list_follows(n, status, list, len) {
         return false;
     }
-    in_serial_order(table, n, m, next, list, len)
+    in_serial_order(table, n, next, list, len)
 }
 
 // The lengths, the parts not in use, turns taken.
@@ -102,8 +101,7 @@ pub(crate) fn sound(run: Run) -> Tested
     let parents = found.parents;
     let passed = list_sound(
         bytes,
-        word(bytes, 0),
-        word(bytes, 2),
+        read::threads(bytes),
         &next,
         &status,
         &list,
@@ -153,4 +151,3 @@ pub(crate) fn is_blank(run: Run) -> bool
     let workers = run.worker;
     all_free(workers)
 }
-

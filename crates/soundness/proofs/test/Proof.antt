@@ -1,8 +1,6 @@
 -- `soundness::test` meets its contract: a record that is not sound passes where it is blank, and a sound one has its parents noted.
 use mathlib.Core.Path.{_≡_, refl, sym, _∙_}
-use mathlib.Core.List.{List}
-use mathlib.Core.Bool.{Bool, true, false, not, _&&_}
-use Prim.Native.Nat.{ℕ}
+use mathlib.Core.Bool.{Bool, true, false, not}
 use borrow.Author.Needs.{needs}
 use lib.ListN.{replicate}
 use Rattle.schedule.specs.declared.Run.{Run}

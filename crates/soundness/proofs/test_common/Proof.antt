@@ -1,11 +1,9 @@
 -- `soundness::test_common` meets its contract: the table's own checks come first, then each thread's parent is noted and the common part tested.
 use mathlib.Core.Path.{_≡_, refl, ap, sym, _∙_}
-use Prim.Native.Nat.{ℕ, _≤_}
+use Prim.Native.Nat.{ℕ}
 use mathlib.Core.List.{List}
-use mathlib.Core.Bool.{Bool, true, false}
-use native.Mathlib.Omega.{arith}
+use mathlib.Core.Bool.{Bool, false}
 use borrow.Author.Needs.{needs}
-use borrow.Author.Tests.{ltb-false}
 use denote.Ref.{now}
 use lib.ListN.{length, replicate}
 use Rattle.table.specs.Format.{tableOf}
@@ -16,22 +14,18 @@ use Rattle.table.specs.Load.{loaded}
 use Rattle.table.specs.declared.Facts.{Facts}
 use Rattle.table.specs.declared.Refusal.{Refusal}
 use Rattle.table.specs.declared.Found.the-variants.{At}
-use Rattle.table.specs.declared.Loaded.the-variants.{Accepted, Refused}
+use Rattle.table.specs.declared.Loaded.the-variants.{Accepted as good, Refused}
 use Rattle.table.proofs.Passes.{found-exactly, passes-rules, accepted-exactly, accepted-facts, refused-exactly}
 use Rattle.schedule.specs.declared.Worker.{Worker}
 use Rattle.schedule.specs.Sound.{commonSound}
-use Rattle.soundness.specs.declared.Tested.{Tested}
-use Rattle.soundness.specs.Checks.{Known}
+use Rattle.soundness.specs.Checks.{Accepted}
 use Rattle.soundness.specs.Tested.{parentsIn, commonTested}
 use Rattle.soundness.proofs.Noting.{parents-right}
 use Rattle.soundness.proofs.test_common.Statement.{statement}
 use Rattle.soundness.proofs.test_common.Tie as tie
 
-accepted-rules : (s : List ℕ) {f : Facts} → loaded s ≡ Accepted f → Rules s
-accepted-rules s {f} h = accepted-exactly s .0 (h ∙ ap Accepted (accepted-facts s f h))
-
-long : {s : List ℕ} → Rules s → 4 ≤ length s
-long {s} r = ltb-false (length s) 4 (r .head .long)
+accepted-rules : (s : List ℕ) {f : Facts} → loaded s ≡ good f → Rules s
+accepted-rules s {f} h = accepted-exactly s .0 (h ∙ ap good (accepted-facts s f h))
 
 module _ (s : List ℕ) (p K : ℕ) (next status : List ℕ) (workers : List Worker) (set amount highest : ℕ) where
   refused : {x : Refusal} → loaded s ≡ Refused x
@@ -67,15 +61,12 @@ enum-told-2 c = search needs
 passed : (c : tie.After-enum-told2) → Rules (now (c .before .before .before .before .args .table))
 passed c = accepted-rules _ (sym (c .before .before .load .ensures .0) ∙ c .enum-told2 .given .1)
 
-known : (c : tie.After-word2) → Known (now (c .before .before .before .before .before .before .args .table)) (c .before .word .result) (c .word2 .result)
+known : (c : tie.After-threads) → Accepted (now (c .before .before .before .before .before .args .table)) (c .threads .result)
 unfolding tableOf
-known c = record { rules = passed (c .before .before); threads = c .before .word .ensures .value; actions = c .word2 .ensures .value }
+known c = record { rules = passed (c .before); threads = c .threads .ensures .value }
 
-word-requires : tie.Need-word-requires
-word-requires c κs = omega (arith, long (passed c))
-
-word-requires-2 : tie.Need-word-requires-2
-word-requires-2 c κs = omega (arith, long (passed (c .before)))
+threads-requires : tie.Need-threads-requires
+threads-requires c κs = search needs
 
 fill-forks-requires : tie.Need-fill-forks-requires
 fill-forks-requires c κs = (known (c .before .before), (refl, refl))
@@ -83,7 +74,7 @@ fill-forks-requires c κs = (known (c .before .before), (refl, refl))
 common-holds-requires : tie.Need-common-holds-requires
 common-holds-requires c κs =
     let f = c .before .before .before .before in
-    let s = f .before .before .before .before .before .before .before .before .before in
+    let s = f .before .before .before .before .before .before .before .before in
     (known (f .before .before .before), (f .fill-forks .ensures .0, (parents-right _ (f .fill-forks .ensures .1), (next-size s, status-size s))))
 
 returns-2 : tie.Need-returns-2
@@ -99,8 +90,7 @@ test-common-spec =
     enum-told
     returns
     enum-told-2
-    word-requires
-    word-requires-2
+    threads-requires
     fill-forks-requires
     common-holds-requires
     returns-2)

@@ -1,7 +1,7 @@
 -- `soundness::amounts::held_right` meets its contract. The invariant: the sums are those of what is done in the threads below t.
 use mathlib.Core.Path.{_≡_, sym, _∙_}
 use Prim.Native.Nat.{ℕ, _+_, _-_, _≤_, _<_}
-use mathlib.Core.List.{List, []}
+use mathlib.Core.List.{List}
 use native.Mathlib.Decide.{ℕ-discrete}
 use native.Mathlib.Omega.{arith}
 use borrow.Author.Tests.{eq-eqb, ne-eqb, lt-leb}
@@ -11,77 +11,66 @@ use lib.Dec.{eqb, leb}
 use Rattle.table.specs.Format.{tableOf}
 use Rattle.table.specs.Rules.{endOf, countsBelow, allocOf, freeOf}
 use Rattle.table.specs.Accepted.{ContentRules}
-use Rattle.table.proofs.Sizes.{Sizes}
-use Rattle.table.proofs.Bodies.{first-is, body-within, end-within}
-use Rattle.schedule.specs.Machine.{State}
-use Rattle.schedule.specs.Sound.{nextInBody, sumDoneIn, heldRight}
-use Rattle.schedule.proofs.Words.{allBelow-exactly}
-use Rattle.schedule.proofs.Clauses.{nextInBody-exactly}
-use Rattle.soundness.specs.Checks.{Known, Placed, doneTo}
+use Rattle.table.proofs.Bodies.{first-is, body-within}
+use Rattle.schedule.specs.Sound.{sumDoneIn, heldRight}
+use Rattle.soundness.specs.Checks.{Accepted, Placed, doneTo}
 use Rattle.soundness.specs.Adding.{Adds, Added}
 use Rattle.soundness.specs.declared.amounts.Sums.{Sums}
-use Rattle.soundness.proofs.Room.{known-sizes}
+use Rattle.soundness.proofs.Lookups.{thread-below, accepted-body, placed}
 use Rattle.soundness.proofs.DoneSums.{Undone, Counted, undone-low, undone-high, counted-first, counted-next, counted-last}
 use Rattle.soundness.proofs.amounts.held_right.Statement.{statement}
 use Rattle.soundness.proofs.amounts.held_right.Tie as tie
 
-record Inv (s : List ℕ) (n m : ℕ) (next status : List ℕ) (held : ℕ) (sums : Sums) (t : ℕ) : Type 0 where
-  known : Known s n m
-  sizes : Sizes s n m
+record Inv (s : List ℕ) (n : ℕ) (next status : List ℕ) (held : ℕ) (sums : Sums) (t : ℕ) : Type 0 where
+  accepted : Accepted s n
   placed : Placed s n next
   within : t ≤ n
   drawn : Counted (tableOf s) next status (allocOf (tableOf s)) t (sums .allocs)
   given : Counted (tableOf s) next status (freeOf (tableOf s)) t (sums .frees)
 
-start : (s : List ℕ) (n m : ℕ) (next status : List ℕ) (held : ℕ) → Known s n m → Placed s n next
-    → Inv s n m next status held (record { allocs = 0; frees = 0 }) 0
-start s n m next status held k p =
+start : (s : List ℕ) (n : ℕ) (next status : List ℕ) (held : ℕ) → Accepted s n → Placed s n next
+    → Inv s n next status held (record { allocs = 0; frees = 0 }) 0
+start s n next status held k p =
     record {
-      known = k;
-      sizes = known-sizes k;
+      accepted = k;
       placed = p;
       within = omega arith;
       drawn = counted-first (tableOf s) (k .rules .contents) _ _ _;
       given = counted-first (tableOf s) (k .rules .contents) _ _ _;
     }
 
-module _ (s : List ℕ) (n m : ℕ) (next status : List ℕ) (held : ℕ) (sums : Sums) (t : ℕ) (i : Inv s n m next status held sums t) where
+module _ (s : List ℕ) (n : ℕ) (next status : List ℕ) (held : ℕ) (sums : Sums) (t : ℕ) (i : Inv s n next status held sums t) where
   rules : ContentRules (tableOf s)
-  rules = i .known .rules .contents
+  rules = i .accepted .rules .contents
 
   module _ (h : t < n) where
     thread : t < tableOf s .threads
-    thread = omega (arith, i .known .threads)
+    thread = thread-below (i .accepted) h
 
     in-body : (tableOf s .first t ≤ getD next t 0) × (getD next t 0 ≤ endOf (tableOf s) t)
-    in-body =
-        nextInBody-exactly (tableOf s) next t .0 (allBelow-exactly (nextInBody (tableOf s) next) n .0 (i .placed) t h)
-
-    ready : (t < 1024) × (getD next t 0 < 65536)
-    ready = omega (arith, in-body, i .known .actions, i .sizes, end-within (tableOf s) rules t thread)
+    in-body = placed (i .accepted) h next (i .placed)
 
     module _ (stop : ℕ) (e : stop ≡ doneTo next status t) where
       undone : Undone (tableOf s) next status t stop
       undone = record { thread = thread; low = in-body .0; high = in-body .1; value = e }
 
-      adds : Adds s n m t stop sums
+      adds : Adds s n t stop sums
       adds =
           let first : tableOf s .first t ≡ countsBelow (tableOf s) t = first-is (tableOf s) rules t thread in
           record {
-            known = i .known;
+            accepted = i .accepted;
             thread = h;
             from = undone-low (tableOf s) rules _ _ t stop undone;
-            within = omega (arith, undone-high (tableOf s) rules _ _ t stop undone, body-within (tableOf s) rules t thread, i .known .actions);
+            within = omega (arith, undone-high (tableOf s) rules _ _ t stop undone, body-within (tableOf s) rules t thread);
             few-allocs = rw first (i .drawn .small);
             few-frees = rw first (i .given .small);
           }
 
       again : (r : Sums) → Added (allocOf (tableOf s)) (tableOf s .first t) stop (sums .allocs) (r .allocs)
-          → Added (freeOf (tableOf s)) (tableOf s .first t) stop (sums .frees) (r .frees) → Inv s n m next status held r (t + 1)
+          → Added (freeOf (tableOf s)) (tableOf s .first t) stop (sums .frees) (r .frees) → Inv s n next status held r (t + 1)
       again r a f =
           record {
-            known = i .known;
-            sizes = i .sizes;
+            accepted = i .accepted;
             placed = i .placed;
             within = omega arith;
             drawn = counted-next (tableOf s) rules _ _ t stop undone _ _ _ (i .drawn) a;
@@ -90,10 +79,10 @@ module _ (s : List ℕ) (n m : ℕ) (next status : List ℕ) (held : ℕ) (sums 
 
   module _ (h : n ≤ t) where
     allocs-done : sums .allocs ≡ sumDoneIn (tableOf s) next status (allocOf (tableOf s))
-    allocs-done = counted-last (tableOf s) rules _ _ _ t _ (omega (arith, i .known .threads)) (i .drawn)
+    allocs-done = counted-last (tableOf s) rules _ _ _ t _ (omega (arith, i .accepted .threads)) (i .drawn)
 
     frees-done : sums .frees ≡ sumDoneIn (tableOf s) next status (freeOf (tableOf s))
-    frees-done = counted-last (tableOf s) rules _ _ _ t _ (omega (arith, i .known .threads)) (i .given)
+    frees-done = counted-last (tableOf s) rules _ _ _ t _ (omega (arith, i .accepted .threads)) (i .given)
 
     equal : sums .frees ≤ sums .allocs → eqb held (sums .allocs - sums .frees) ≡ heldRight (tableOf s) next status held
     unfolding heldRight
@@ -108,19 +97,19 @@ module _ (s : List ℕ) (n m : ℕ) (next status : List ℕ) (held : ℕ) (sums 
     more k = rw (← allocs-done, ← frees-done, lt-leb (sums .frees) (sums .allocs) k, ne-eqb (held + sums .frees) (sums .allocs) (λ q. omega arith))
 
 abbrev Inv-loop : tie.InvT-loop
-Inv-loop table n m next status held sums₀ t₀ sums t = Inv table n m next status held sums t
+Inv-loop table n next status held sums₀ t₀ sums t = Inv table n next status held sums t
 
 abbrev μ-loop : tie.MeasureT-loop
-μ-loop table n m next status held sums₀ t₀ sums t = n - t
+μ-loop table n next status held sums₀ t₀ sums t = n - t
 
 loop-holds : tie.Need-loop-holds Inv-loop μ-loop
-loop-holds c = let d = c .before in start (now (d .args .table)) _ _ (now (d .args .next)) (now (d .args .status)) _ (d .pre .0) (d .pre .1)
+loop-holds c = let d = c .before in start (now (d .args .table)) _ (now (d .args .next)) (now (d .args .status)) _ (d .pre .0) (d .pre .1)
 
 done-to-requires : tie.Need-done-to-requires Inv-loop μ-loop
-done-to-requires c κs = ready _ _ _ _ _ _ _ _ (c .before .loop .inv) (c .loop-test .taken) .0
+done-to-requires c κs = accepted-body (c .before .loop .inv .accepted) (c .loop-test .taken) .few
 
 thread-sums-requires : tie.Need-thread-sums-requires Inv-loop μ-loop
-thread-sums-requires c κs = adds _ _ _ _ _ _ _ _ (c .before .before .loop .inv) (c .before .loop-test .taken) _ (c .done-to .ensures)
+thread-sums-requires c κs = adds _ _ _ _ _ _ _ (c .before .before .loop .inv) (c .before .loop-test .taken) _ (c .done-to .ensures)
 
 add-t : tie.Need-add-t Inv-loop μ-loop
 add-t c = omega arith
@@ -131,13 +120,13 @@ loop-less c = omega arith
 loop-again : tie.Need-loop-again Inv-loop μ-loop
 loop-again c =
     let d = c .before .before in
-    again _ _ _ _ _ _ _ _ (d .before .loop .inv) (d .loop-test .taken) _ (c .before .done-to .ensures) _ (c .thread-sums .ensures .0) (c .thread-sums .ensures .1)
+    again _ _ _ _ _ _ _ (d .before .loop .inv) (d .loop-test .taken) _ (c .before .done-to .ensures) _ (c .thread-sums .ensures .0) (c .thread-sums .ensures .1)
 
 returns : tie.Need-returns Inv-loop μ-loop
-returns c = equal _ _ _ _ _ _ _ _ (c .before .before .loop .inv) (c .before .loop-test .left) (c .if1 .taken)
+returns c = equal _ _ _ _ _ _ _ (c .before .before .loop .inv) (c .before .loop-test .left) (c .if1 .taken)
 
 returns-2 : tie.Need-returns-2 Inv-loop μ-loop
-returns-2 c = more _ _ _ _ _ _ _ _ (c .before .before .loop .inv) (c .before .loop-test .left) (c .if1 .left)
+returns-2 c = more _ _ _ _ _ _ _ (c .before .before .loop .inv) (c .before .loop-test .left) (c .if1 .left)
 
 pub held-right-spec : {M : Type 1} → statement M
 held-right-spec = tie.close (tie.spec Inv-loop μ-loop loop-holds done-to-requires thread-sums-requires add-t loop-less loop-again returns returns-2)

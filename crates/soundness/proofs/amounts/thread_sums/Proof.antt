@@ -7,34 +7,30 @@ use native.Mathlib.Omega.{arith}
 use borrow.Author.Needs.{needs}
 use denote.Ref.{now}
 use Rattle.table.specs.Sum.{sumTo}
-use Rattle.table.specs.Format.{Kind, kindOf, Table, kind, firstOf, tableOf}
+use Rattle.table.specs.Format.{Kind, kindOf, Table, kind, tableOf}
 use Rattle.table.specs.Rules.{allocOf, freeOf}
 use Rattle.table.specs.Steps.{Read, ownAmount}
-use Rattle.table.proofs.Sizes.{Sizes}
 use Rattle.table.proofs.Walks.{own-small}
-use Rattle.soundness.specs.Checks.{Known}
+use Rattle.soundness.specs.Checks.{Accepted}
 use Rattle.soundness.specs.Adding.{Adds, Added}
 use Rattle.soundness.specs.declared.amounts.Sums.{Sums}
-use Rattle.soundness.proofs.Room.{known-sizes, action-room}
+use Rattle.soundness.proofs.Lookups.{accepted-lawful, code-read, argument-read}
 use Rattle.soundness.proofs.amounts.thread_sums.Statement.{statement}
 use Rattle.soundness.proofs.amounts.thread_sums.Tie as tie
 
-record Inv (s : List ℕ) (n m t stop allocs₀ frees₀ allocs frees a : ℕ) : Type 0 where
-  known : Known s n m
-  sizes : Sizes s n m
-  within : stop ≤ m
+record Inv (s : List ℕ) (n t stop allocs₀ frees₀ allocs frees a : ℕ) : Type 0 where
+  accepted : Accepted s n
+  few : stop ≤ 8192
   upto : a ≤ stop
   drawn : Added (allocOf (tableOf s)) (tableOf s .first t) a allocs₀ allocs
   given : Added (freeOf (tableOf s)) (tableOf s .first t) a frees₀ frees
 
-start : (s : List ℕ) (n m t stop a : ℕ) (before : Sums) → Adds s n m t stop before → a ≡ firstOf s t
-    → Inv s n m t stop (before .allocs) (before .frees) (before .allocs) (before .frees) a
-unfolding tableOf
-start s n m t stop a before r e =
+start : (s : List ℕ) (n t stop a : ℕ) (before : Sums) → Adds s n t stop before → a ≡ tableOf s .first t
+    → Inv s n t stop (before .allocs) (before .frees) (before .allocs) (before .frees) a
+start s n t stop a before r e =
     record {
-      known = r .known;
-      sizes = known-sizes (r .known);
-      within = r .within;
+      accepted = r .accepted;
+      few = omega (arith, r .within, accepted-lawful (r .accepted) .few-actions);
       upto = omega (arith, r .from);
       drawn = record { value = rw e; small = omega (arith, r .few-allocs) };
       given = record { value = rw e; small = omega (arith, r .few-frees) };
@@ -60,48 +56,41 @@ free-is : (T : Table) (a : ℕ) → freeOf T a ≡ ownAmount (kindOf 3) (kind T 
 unfolding freeOf kindOf
 free-is T a = refl
 
-module _ (s : List ℕ) (n m t stop allocs₀ frees₀ allocs frees a k x r q : ℕ) (i : Inv s n m t stop allocs₀ frees₀ allocs frees a) (h : a < stop)
+module _ (s : List ℕ) (n t stop allocs₀ frees₀ allocs frees a k x r q : ℕ) (i : Inv s n t stop allocs₀ frees₀ allocs frees a) (h : a < stop)
     (e : k ≡ tableOf s .code a) (f : Read (tableOf s .argument a) 16777216 x) (g : r ≡ ownAmount (kindOf 2) (kindOf k) x) (d : q ≡ ownAmount (kindOf 3) (kindOf k) x) where
-  again : Inv s n m t stop allocs₀ frees₀ (allocs + r) (frees + q) (a + 1)
+  again : Inv s n t stop allocs₀ frees₀ (allocs + r) (frees + q) (a + 1)
   again =
       record {
-        known = i .known;
-        sizes = i .sizes;
-        within = i .within;
+        accepted = i .accepted;
+        few = i .few;
         upto = omega arith;
         drawn = add (tableOf s) (allocOf (tableOf s)) (kindOf 2) (alloc-is (tableOf s)) _ _ _ _ _ _ _ (i .drawn) e f g;
         given = add (tableOf s) (freeOf (tableOf s)) (kindOf 3) (free-is (tableOf s)) _ _ _ _ _ _ _ (i .given) e f d;
       }
 
-last : (s : List ℕ) (n m t stop allocs₀ frees₀ allocs frees a : ℕ) → Inv s n m t stop allocs₀ frees₀ allocs frees a → stop ≤ a
+last : (s : List ℕ) (n t stop allocs₀ frees₀ allocs frees a : ℕ) → Inv s n t stop allocs₀ frees₀ allocs frees a → stop ≤ a
     → (Added (allocOf (tableOf s)) (tableOf s .first t) stop allocs₀ allocs) × (Added (freeOf (tableOf s)) (tableOf s .first t) stop frees₀ frees)
-last s n m t stop allocs₀ frees₀ allocs frees a i h =
+last s n t stop allocs₀ frees₀ allocs frees a i h =
     let e : stop ≡ a = omega arith in
     rw e (i .drawn, i .given)
 
 abbrev Inv-loop : tie.InvT-loop
-Inv-loop table n m t stop allocs₀ frees₀ a₀ allocs frees a = Inv table n m t stop allocs₀ frees₀ allocs frees a
+Inv-loop table n t stop allocs₀ frees₀ a₀ allocs frees a = Inv table n t stop allocs₀ frees₀ allocs frees a
 
 abbrev μ-loop : tie.MeasureT-loop
-μ-loop table n m t stop allocs₀ frees₀ a₀ allocs frees a = stop - a
+μ-loop table n t stop allocs₀ frees₀ a₀ allocs frees a = stop - a
 
-mul-word : tie.Need-mul-word Inv-loop μ-loop
-mul-word c = omega (arith, known-sizes (c .before .pre .known))
-
-add-word : tie.Need-add-word Inv-loop μ-loop
-add-word c = omega (arith, known-sizes (c .before .pre .known))
-
-word-requires : tie.Need-word-requires Inv-loop μ-loop
-word-requires c κs = omega (arith, known-sizes (c .before .pre .known))
+first-requires : tie.Need-first-requires Inv-loop μ-loop
+first-requires c κs = search needs
 
 loop-holds : tie.Need-loop-holds Inv-loop μ-loop
-loop-holds c = start (now (c .before .before .args .table)) _ _ _ _ _ (c .before .before .args .before) (c .before .before .pre) (c .word .ensures .value)
+loop-holds c = start (now (c .before .before .args .table)) _ _ _ _ (c .before .before .args .before) (c .before .before .pre) (c .first .ensures .value)
 
 code-requires : tie.Need-code-requires Inv-loop μ-loop
-code-requires c κs = action-room _ (c .before .loop .inv .known) (omega arith)
+code-requires c κs = search needs
 
 argument-requires : tie.Need-argument-requires Inv-loop μ-loop
-argument-requires c κs = action-room _ (c .before .before .loop .inv .known) (omega arith)
+argument-requires c κs = search needs
 
 own-amount-requires : tie.Need-own-amount-requires Inv-loop μ-loop
 own-amount-requires c κs = search needs
@@ -127,11 +116,11 @@ loop-again : tie.Need-loop-again Inv-loop μ-loop
 loop-again c =
     let d = c .before .before in
     let b = d .before .before in
-    again (now (b .before .before .before .before .args .table)) _ _ _ _ _ _ _ _ _ _ _ _ _ (b .before .loop .inv) (b .loop-test .taken)
-    (d .before .code .ensures) (d .argument .ensures) (c .before .own-amount .ensures) (c .own-amount2 .ensures)
+    again (now (b .before .before .before .before .args .table)) _ _ _ _ _ _ _ _ _ _ _ _ (b .before .loop .inv) (b .loop-test .taken)
+    (code-read (b .before .loop .inv .accepted) _ (d .before .code .ensures)) (argument-read (b .before .loop .inv .accepted) _ (d .argument .ensures)) (c .before .own-amount .ensures) (c .own-amount2 .ensures)
 
 returns : tie.Need-returns Inv-loop μ-loop
-returns c = last (now (c .before .before .before .before .args .table)) _ _ _ _ _ _ _ _ _ (c .before .loop .inv) (c .loop-test .left)
+returns c = last (now (c .before .before .before .before .args .table)) _ _ _ _ _ _ _ _ (c .before .loop .inv) (c .loop-test .left)
 
 pub thread-sums-spec : {M : Type 1} → statement M
 thread-sums-spec =
@@ -139,9 +128,7 @@ thread-sums-spec =
     (tie.spec
     Inv-loop
     μ-loop
-    mul-word
-    add-word
-    word-requires
+    first-requires
     loop-holds
     code-requires
     argument-requires

@@ -1,19 +1,18 @@
 -- `soundness::bodies::next_in_bodies` meets its contract. The invariant: the threads below t pass the test.
 use Prim.Native.Nat.{_-_}
-use mathlib.Core.List.{[]}
 use native.Mathlib.Omega.{arith}
 use Rattle.table.specs.Format.{tableOf}
 use Rattle.schedule.specs.Sound.{nextInBody}
-use Rattle.soundness.proofs.Lookups.{thread-of}
+use Rattle.soundness.proofs.Lookups.{thread-below}
 use Rattle.soundness.proofs.Every.{Passed, passed-none, passed-next, passed-stop, passed-all}
 use Rattle.soundness.proofs.bodies.next_in_bodies.Statement.{statement}
 use Rattle.soundness.proofs.bodies.next_in_bodies.Tie as tie
 
 abbrev Inv-loop : tie.InvT-loop
-Inv-loop table n m next t₀ t = Passed (nextInBody (tableOf table) next) n t
+Inv-loop table n next t₀ t = Passed (nextInBody (tableOf table) next) n t
 
 abbrev μ-loop : tie.MeasureT-loop
-μ-loop table n m next t₀ t = n - t
+μ-loop table n next t₀ t = n - t
 
 loop-holds : tie.Need-loop-holds Inv-loop μ-loop
 loop-holds c = passed-none
@@ -21,7 +20,7 @@ loop-holds c = passed-none
 next-in-body-requires : tie.Need-next-in-body-requires Inv-loop μ-loop
 next-in-body-requires c κs =
     let p = c .before .before .before .pre in
-    thread-of p (c .loop-test .taken)
+    (p .rules, thread-below p (c .loop-test .taken))
 
 returns : tie.Need-returns Inv-loop μ-loop
 returns c =

@@ -1,7 +1,7 @@
 -- `soundness::bodies::status_follows` meets its contract: each way out is the definition's at the status found.
 use mathlib.Core.Path.{_≡_, refl, sym, ap, _∙_}
-use Prim.Native.Nat.{ℕ}
-use mathlib.Core.List.{List, []}
+use Prim.Native.Nat.{ℕ, _<_}
+use mathlib.Core.List.{List}
 use mathlib.Core.Bool.{Bool, true, false, not, _&&_, Bool·beq, and-true}
 use native.Mathlib.Omega.{arith}
 use borrow.Author.Needs.{needs}
@@ -11,13 +11,13 @@ use lib.Dec.{ltb, leb, eqb}
 use lib.ListN.{getD}
 use Rattle.table.specs.Format.{tableOf}
 use Rattle.table.specs.Rules.{endOf}
+use Rattle.table.specs.Accepted.{Rules}
 use Rattle.table.specs.Level.{forkBelow}
 use Rattle.schedule.specs.Machine.{unborn, ended}
 use Rattle.schedule.specs.Sound.{agree, doneIn, statusFollows}
 use Rattle.schedule.proofs.Lawful.{lawful}
-use Rattle.soundness.specs.Checks.{Parents}
-use Rattle.soundness.specs.Checks.{Thread, Forks, doneAt}
-use Rattle.soundness.proofs.Lookups.{entry}
+use Rattle.soundness.specs.Checks.{Forks, Parents, doneAt}
+use Rattle.soundness.proofs.Lookups.{body}
 use Rattle.soundness.proofs.Noting.{few, unborn-noted}
 use Rattle.soundness.proofs.bodies.status_follows.Statement.{statement}
 use Rattle.soundness.proofs.bodies.status_follows.Tie as tie
@@ -28,12 +28,12 @@ beq-agree true false = refl
 beq-agree false true = refl
 beq-agree false false = refl
 
-module _ (s : List ℕ) (t : ℕ) (forks parents next status : List ℕ) (h : Thread s t) (f : Forks (tableOf s) forks) (g : Parents (tableOf s) parents) (r : Bool)
+module _ (s : List ℕ) (t : ℕ) (forks parents next status : List ℕ) (l : Rules s) (h : t < tableOf s .threads) (f : Forks (tableOf s) forks) (g : Parents (tableOf s) parents) (r : Bool)
     (e : r ≡ (ltb 0 t && not (doneAt next status (getD parents t 0) (getD forks t 0)))) where
   agrees :
       Bool·beq (eqb (getD status t 0) unborn) r
       ≡ agree (eqb (getD status t 0) unborn) (ltb 0 t && not (doneIn (tableOf s) next status (forkBelow (tableOf s) (tableOf s .actions) t)))
-  agrees = beq-agree (eqb (getD status t 0) unborn) r ∙ ap (agree (eqb (getD status t 0) unborn)) (e ∙ unborn-noted (tableOf s) (lawful s (h .rules)) forks parents f g t (h .below) next status)
+  agrees = beq-agree (eqb (getD status t 0) unborn) r ∙ ap (agree (eqb (getD status t 0) unborn)) (e ∙ unborn-noted (tableOf s) (lawful s l) forks parents f g t h next status)
 
   unlike : not (Bool·beq (eqb (getD status t 0) unborn) r) ≡ true → false ≡ statusFollows (tableOf s) next status t
   unfolding statusFollows
@@ -48,43 +48,48 @@ module _ (s : List ℕ) (t : ℕ) (forks parents next status : List ℕ) (h : Th
     unfolding statusFollows
     at-end d a end p q = rw (sym agrees ∙ not-false _ w, d, p, q) (sym (and-true _))
 
+in-array : (c : tie.Start) → c .args .t < 1024
+in-array c = body (lawful _ (c .pre .0)) (c .pre .1 .0) .few
+
 element-copy-out-s : tie.Need-element-copy-out-s
-element-copy-out-s c = entry (c .before .pre .0) .few
+element-copy-out-s c = in-array (c .before)
 
 is-unborn-requires : tie.Need-is-unborn-requires
 is-unborn-requires c κs =
     let b = c .before .before in
-    few _ (lawful _ (b .pre .0 .rules)) _ _ (b .pre .1 .0) (b .pre .1 .1) _ (b .pre .0 .below)
+    few _ (lawful _ (b .pre .0)) _ _ (b .pre .1 .1 .0) (b .pre .1 .1 .1) _ (b .pre .1 .0)
 
 returns : tie.Need-returns
 returns c =
     let b = c .before .before .before .before in
-    unlike (now (b .args .table)) _ _ _ (now (b .args .next)) (now (b .args .status)) (b .pre .0) (b .pre .1 .0) (b .pre .1 .1) _ (c .before .is-unborn .ensures) (c .if1 .taken)
+    unlike (now (b .args .table)) _ _ _ (now (b .args .next)) (now (b .args .status)) (b .pre .0) (b .pre .1 .0) (b .pre .1 .1 .0) (b .pre .1 .1 .1) _ (c .before .is-unborn .ensures) (c .if1 .taken)
 
 returns-2 : tie.Need-returns-2
 returns-2 c =
     let d = c .before .before in
     let b = d .before .before .before in
-    not-ended (now (b .args .table)) _ _ _ (now (b .args .next)) (now (b .args .status)) (b .pre .0) (b .pre .1 .0) (b .pre .1 .1) _ (d .is-unborn .ensures) (c .before .if1 .left)
+    not-ended (now (b .args .table)) _ _ _ (now (b .args .next)) (now (b .args .status)) (b .pre .0) (b .pre .1 .0) (b .pre .1 .1 .0) (b .pre .1 .1 .1) _ (d .is-unborn .ensures) (c .before .if1 .left)
     (c .if2 .taken)
 
 mul-wide : tie.Need-mul-wide
-mul-wide c = omega (arith, entry (c .before .before .before .before .before .pre .0))
+mul-wide c = omega (arith, in-array (c .before .before .before .before .before))
 
 element-copy-out-wide : tie.Need-element-copy-out-wide
-element-copy-out-wide c = entry (c .before .before .before .before .before .pre .0) .few
+element-copy-out-wide c = in-array (c .before .before .before .before .before)
 
 wide-requires : tie.Need-wide-requires
 wide-requires c κs = search needs
 
 end-of-requires : tie.Need-end-of-requires
-end-of-requires c κs = c .before .before .before .before .before .before .before .pre .0
+end-of-requires c κs =
+    let b = c .before .before .before .before .before .before .before in
+    (b .pre .0, b .pre .1 .0)
 
 returns-3 : tie.Need-returns-3
 returns-3 c =
     let d = c .before .before .before .before .before in
     let b = d .before .before .before in
-    at-end (now (b .args .table)) _ _ _ (now (b .args .next)) (now (b .args .status)) (b .pre .0) (b .pre .1 .0) (b .pre .1 .1) _ (d .is-unborn .ensures)
+    at-end (now (b .args .table)) _ _ _ (now (b .args .next)) (now (b .args .status)) (b .pre .0) (b .pre .1 .0) (b .pre .1 .1 .0) (b .pre .1 .1 .1) _ (d .is-unborn .ensures)
     (c .before .before .before .before .if1 .left) (c .before .before .before .if2 .left) _ _ (c .before .wide .ensures .value) (c .end-of .ensures)
 
 pub status-follows-spec : {M : Type 1} → statement M

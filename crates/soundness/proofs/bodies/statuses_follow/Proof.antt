@@ -1,19 +1,18 @@
 -- `soundness::bodies::statuses_follow` meets its contract. The invariant: the threads below t pass the test.
 use Prim.Native.Nat.{_-_}
-use mathlib.Core.List.{[]}
 use native.Mathlib.Omega.{arith}
 use Rattle.table.specs.Format.{tableOf}
 use Rattle.schedule.specs.Sound.{statusFollows}
-use Rattle.soundness.proofs.Lookups.{thread-of}
+use Rattle.soundness.proofs.Lookups.{thread-below}
 use Rattle.soundness.proofs.Every.{Passed, passed-none, passed-next, passed-stop, passed-all}
 use Rattle.soundness.proofs.bodies.statuses_follow.Statement.{statement}
 use Rattle.soundness.proofs.bodies.statuses_follow.Tie as tie
 
 abbrev Inv-loop : tie.InvT-loop
-Inv-loop table n m forks parents next status t₀ t = Passed (statusFollows (tableOf table) next status) n t
+Inv-loop table n forks parents next status t₀ t = Passed (statusFollows (tableOf table) next status) n t
 
 abbrev μ-loop : tie.MeasureT-loop
-μ-loop table n m forks parents next status t₀ t = n - t
+μ-loop table n forks parents next status t₀ t = n - t
 
 loop-holds : tie.Need-loop-holds Inv-loop μ-loop
 loop-holds c = passed-none
@@ -21,7 +20,7 @@ loop-holds c = passed-none
 status-follows-requires : tie.Need-status-follows-requires Inv-loop μ-loop
 status-follows-requires c κs =
     let p = c .before .before .before .pre in
-    (thread-of (p .0) (c .loop-test .taken), p .1)
+    (p .0 .rules, (thread-below (p .0) (c .loop-test .taken), p .1))
 
 returns : tie.Need-returns Inv-loop μ-loop
 returns c =

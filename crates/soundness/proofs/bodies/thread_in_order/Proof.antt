@@ -1,82 +1,83 @@
 -- `soundness::bodies::thread_in_order` meets its contract. The invariant: the thread is born, and its actions below a are in order.
 use mathlib.Core.Path.{_≡_, sym, _∙_}
 use Prim.Native.Nat.{ℕ, _+_, _-_, _≤_, _<_}
-use mathlib.Core.List.{List, []}
+use mathlib.Core.List.{List}
 use mathlib.Core.Bool.{Bool, true, false, not, _&&_}
 use native.Mathlib.Decide.{ℕ-discrete, decLt}
 use native.Mathlib.Omega.{arith}
 use borrow.Author.Tests.{not-true, not-false}
+use borrow.Author.Needs.{needs}
 use denote.Ref.{now}
 use lib.Dec.{ltb, leb}
 use lib.ListN.{getD}
-use Rattle.table.specs.Format.{tableOf, firstOf}
+use Rattle.table.specs.Format.{tableOf}
 use Rattle.table.specs.Level.{forkBelow}
 use Rattle.schedule.specs.Sound.{doneIn, inOrder}
-use Rattle.schedule.proofs.Lawful.{Lawful, lawful}
-use Rattle.soundness.specs.Checks.{Parents}
-use Rattle.soundness.specs.Checks.{Thread, Action, Placed, Forks, doneAt, doneTo, joinDone, bodyInOrder}
-use Rattle.soundness.proofs.Lookups.{Entry, entry, placed}
+use Rattle.schedule.proofs.Lawful.{Lawful}
+use Rattle.soundness.specs.Checks.{Accepted, Placed, Forks, Parents, doneAt, doneTo, joinDone, bodyInOrder}
+use Rattle.soundness.proofs.Lookups.{Body, accepted-lawful, thread-below, accepted-body, placed}
 use Rattle.soundness.proofs.Done.{stop-within, undone-in-order, unborn-in-order, born-in-order, body-passes, body-fails}
 use Rattle.soundness.proofs.Noting.{few, unborn-noted}
 use Rattle.soundness.proofs.bodies.thread_in_order.Statement.{statement}
 use Rattle.soundness.proofs.bodies.thread_in_order.Tie as tie
 
 record Inv (s : List ℕ) (n t : ℕ) (next status : List ℕ) (stop a : ℕ) : Type 0 where
-  thread : Thread s t
-  threads : n ≡ tableOf s .threads
+  accepted : Accepted s n
+  thread : t < n
   born : (ltb 0 t && not (doneIn (tableOf s) next status (forkBelow (tableOf s) (tableOf s .actions) t))) ≡ false
   stops : stop ≡ doneTo next status t
   within : stop ≤ tableOf s .first t + tableOf s .count t
-  room : Entry s t
+  room : Body (tableOf s) t
   from : tableOf s .first t ≤ a
   ordered : (x : ℕ) → tableOf s .first t ≤ x → x < a → inOrder (tableOf s) next status x ≡ true
 
 -- what the calls before the loop say
-module _ (s : List ℕ) (n t : ℕ) (forks parents next status : List ℕ) (first stop : ℕ) (unborn : Bool) (h : Thread s t) (e : n ≡ tableOf s .threads)
-    (f : Forks (tableOf s) forks) (g : Parents (tableOf s) parents) (ef : first ≡ firstOf s t) (es : stop ≡ doneTo next status t)
+module _ (s : List ℕ) (n t : ℕ) (forks parents next status : List ℕ) (first stop : ℕ) (unborn : Bool) (k : Accepted s n) (h : t < n)
+    (f : Forks (tableOf s) forks) (g : Parents (tableOf s) parents) (ef : first ≡ tableOf s .first t) (es : stop ≡ doneTo next status t)
     (eu : unborn ≡ (ltb 0 t && not (doneAt next status (getD parents t 0) (getD forks t 0)))) where
   is-unborn : unborn ≡ (ltb 0 t && not (doneIn (tableOf s) next status (forkBelow (tableOf s) (tableOf s .actions) t)))
-  is-unborn = eu ∙ unborn-noted (tableOf s) (lawful s (h .rules)) forks parents f g t (h .below) next status
+  is-unborn = eu ∙ unborn-noted (tableOf s) (accepted-lawful k) forks parents f g t (thread-below k h) next status
 
   stays : unborn ≡ true → leb stop first ≡ bodyInOrder (tableOf s) next status t
-  unfolding tableOf
-  stays u = rw (es, ef) (unborn-in-order (tableOf s) (lawful s (h .rules)) next status t (h .below) (sym is-unborn ∙ u))
+  stays u = rw (es, ef) (unborn-in-order (tableOf s) (accepted-lawful k) next status t (thread-below k h) (sym is-unborn ∙ u))
 
   start : Placed s n next → unborn ≡ false → Inv s n t next status stop first
-  unfolding tableOf
   start p u =
       record {
+        accepted = k;
         thread = h;
-        threads = e;
         born = sym is-unborn ∙ u;
         stops = es;
-        within = omega (arith, placed next h e p .1, stop-within next status t);
-        room = entry h;
+        within = omega (arith, placed k h next p .1, accepted-body k h .ends, stop-within next status t);
+        room = accepted-body k h;
         from = omega arith;
-        ordered = λ x j k. absurd (omega arith);
+        ordered = λ x j b. absurd (omega arith);
       }
 
 module _ (s : List ℕ) (n t : ℕ) (next status : List ℕ) (stop a : ℕ) (i : Inv s n t next status stop a) where
   l : Lawful (tableOf s)
-  l = lawful s (i .thread .rules)
+  l = accepted-lawful (i .accepted)
 
-  asked : a < stop → Action s n a
-  asked h = record { rules = i .thread .rules; threads = i .threads; below = omega (arith, i .within, i .room .within) }
+  below : t < tableOf s .threads
+  below = thread-below (i .accepted) (i .thread)
+
+  asked : a < stop → Accepted s n × (a < tableOf s .actions)
+  asked h = (i .accepted, omega (arith, i .within, i .room .within))
 
   -- the test at a
   here : a < stop → (r : Bool) → r ≡ joinDone (tableOf s) next status a → inOrder (tableOf s) next status a ≡ r
   here h r e =
-      born-in-order (tableOf s) l next status t (i .thread .below) (i .born) a (i .from) (omega (arith, i .within)) (omega (arith, i .stops)) ∙ sym e
+      born-in-order (tableOf s) l next status t below (i .born) a (i .from) (omega (arith, i .within)) (omega (arith, i .stops)) ∙ sym e
 
   stopped : a < stop → (r : Bool) → r ≡ joinDone (tableOf s) next status a → not r ≡ true → false ≡ bodyInOrder (tableOf s) next status t
   stopped h r e d =
-      sym (body-fails (tableOf s) l next status t (i .thread .below) a (i .from) (omega (arith, i .within)) (here h r e ∙ not-true r d))
+      sym (body-fails (tableOf s) l next status t below a (i .from) (omega (arith, i .within)) (here h r e ∙ not-true r d))
 
   again : a < stop → (r : Bool) → r ≡ joinDone (tableOf s) next status a → not r ≡ false → Inv s n t next status stop (a + 1)
   again h r e d =
       record {
+        accepted = i .accepted;
         thread = i .thread;
-        threads = i .threads;
         born = i .born;
         stops = i .stops;
         within = i .within;
@@ -93,14 +94,14 @@ module _ (s : List ℕ) (n t : ℕ) (next status : List ℕ) (stop a : ℕ) (i :
           go (no q) = let w : x ≡ a → ⊥ = q in i .ordered x j (omega (arith, w))
 
   all : stop ≤ a → true ≡ bodyInOrder (tableOf s) next status t
-  all h = sym (body-passes (tableOf s) l next status t (i .thread .below) at)
+  all h = sym (body-passes (tableOf s) l next status t below at)
     where
       at : (x : ℕ) → tableOf s .first t ≤ x → x < tableOf s .first t + tableOf s .count t → inOrder (tableOf s) next status x ≡ true
       at x j k = go (decLt x a)
         where
           go : Dec (x < a) → inOrder (tableOf s) next status x ≡ true
           go (yes q) = i .ordered x j q
-          go (no q) = undone-in-order (tableOf s) l next status t (i .thread .below) x j k (omega (arith, i .stops))
+          go (no q) = undone-in-order (tableOf s) l next status t below x j k (omega (arith, i .stops))
 
 abbrev Inv-loop : tie.InvT-loop
 Inv-loop table n t forks parents next status first stop a₀ a = Inv table n t next status stop a
@@ -108,36 +109,30 @@ Inv-loop table n t forks parents next status first stop a₀ a = Inv table n t n
 abbrev μ-loop : tie.MeasureT-loop
 μ-loop table n t forks parents next status first stop a₀ a = stop - a
 
-mul-word : tie.Need-mul-word Inv-loop μ-loop
-mul-word c = omega (arith, entry (c .before .pre .0 .0))
-
-add-word : tie.Need-add-word Inv-loop μ-loop
-add-word c = omega (arith, entry (c .before .pre .0 .0))
-
-word-requires : tie.Need-word-requires Inv-loop μ-loop
-word-requires c κs = omega (arith, entry (c .before .pre .0 .0))
+first-requires : tie.Need-first-requires Inv-loop μ-loop
+first-requires c κs = search needs
 
 done-to-requires : tie.Need-done-to-requires Inv-loop μ-loop
-done-to-requires c κs = entry (c .before .before .pre .0 .0) .few
+done-to-requires c κs = accepted-body (c .before .before .pre .0) (c .before .before .pre .1 .0) .few
 
 is-unborn-requires : tie.Need-is-unborn-requires Inv-loop μ-loop
 is-unborn-requires c κs =
     let b = c .before .before .before in
-    few _ (lawful _ (b .pre .0 .0 .rules)) _ _ (b .pre .1 .1 .0) (b .pre .1 .1 .1) _ (b .pre .0 .0 .below)
+    few _ (accepted-lawful (b .pre .0)) _ _ (b .pre .1 .1 .1 .0) (b .pre .1 .1 .1 .1) _ (thread-below (b .pre .0) (b .pre .1 .0))
 
 returns : tie.Need-returns Inv-loop μ-loop
 returns c =
     let d = c .before .before .before in
     let b = d .before .before in
-    stays (now (b .args .table)) _ _ _ _ (now (b .args .next)) (now (b .args .status)) _ _ _ (b .pre .0 .0) (b .pre .0 .1) (b .pre .1 .1 .0) (b .pre .1 .1 .1)
-    (d .word .ensures .value) (c .before .before .done-to .ensures) (c .before .is-unborn .ensures) (c .if1 .taken)
+    stays (now (b .args .table)) _ _ _ _ (now (b .args .next)) (now (b .args .status)) _ _ _ (b .pre .0) (b .pre .1 .0) (b .pre .1 .1 .1 .0) (b .pre .1 .1 .1 .1)
+    (d .first .ensures .value) (c .before .before .done-to .ensures) (c .before .is-unborn .ensures) (c .if1 .taken)
 
 loop-holds : tie.Need-loop-holds Inv-loop μ-loop
 loop-holds c =
     let d = c .before .before .before in
     let b = d .before .before in
-    start (now (b .args .table)) _ _ _ _ (now (b .args .next)) (now (b .args .status)) _ _ _ (b .pre .0 .0) (b .pre .0 .1) (b .pre .1 .1 .0) (b .pre .1 .1 .1)
-    (d .word .ensures .value) (c .before .before .done-to .ensures) (c .before .is-unborn .ensures) (b .pre .1 .0) (c .if1 .left)
+    start (now (b .args .table)) _ _ _ _ (now (b .args .next)) (now (b .args .status)) _ _ _ (b .pre .0) (b .pre .1 .0) (b .pre .1 .1 .1 .0) (b .pre .1 .1 .1 .1)
+    (d .first .ensures .value) (c .before .before .done-to .ensures) (c .before .is-unborn .ensures) (b .pre .1 .1 .0) (c .if1 .left)
 
 join-done-requires : tie.Need-join-done-requires Inv-loop μ-loop
 join-done-requires c κs = asked _ _ _ _ _ _ _ (c .before .loop .inv) (c .loop-test .taken)
@@ -167,9 +162,7 @@ thread-in-order-spec =
     (tie.spec
     Inv-loop
     μ-loop
-    mul-word
-    add-word
-    word-requires
+    first-requires
     done-to-requires
     is-unborn-requires
     returns

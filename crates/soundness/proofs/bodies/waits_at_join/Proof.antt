@@ -1,7 +1,7 @@
 -- `soundness::bodies::waits_at_join` meets its contract: each way out is the definition's at the status and the kind found.
 use mathlib.Core.Path.{_≡_, sym, _∙_}
-use Prim.Native.Nat.{ℕ}
-use mathlib.Core.List.{List, []}
+use Prim.Native.Nat.{ℕ, _<_}
+use mathlib.Core.List.{List}
 use mathlib.Core.Bool.{true, false, not}
 use native.Mathlib.Omega.{arith}
 use borrow.Author.Needs.{needs}
@@ -9,18 +9,21 @@ use borrow.Author.Tests.{eq-eqb, ne-eqb}
 use denote.Ref.{now}
 use lib.Dec.{eqb}
 use lib.ListN.{getD}
-use Rattle.table.specs.Format.{tableOf}
+use Rattle.table.specs.Format.{join, kind, tableOf}
+use Rattle.table.proofs.Bodies.{join-below}
 use Rattle.schedule.specs.Machine.{waiting, ended}
 use Rattle.schedule.specs.Sound.{waitsAtJoin}
-use Rattle.soundness.specs.Checks.{Thread, Action, Placed}
-use Rattle.soundness.proofs.Lookups.{Entry, entry, place, join-code, is-join, not-join, joined, placed}
+use Rattle.soundness.specs.Checks.{Accepted, Placed}
+use Rattle.soundness.proofs.Lookups.{Body, accepted-lawful, accepted-body, code-read, argument-read, join-code, is-join, not-join, placed}
 use Rattle.soundness.proofs.bodies.waits_at_join.Statement.{statement}
 use Rattle.soundness.proofs.bodies.waits_at_join.Tie as tie
 
-at-next : (s : List ℕ) (n t : ℕ) (next : List ℕ) → Thread s t → n ≡ tableOf s .threads → Placed s n next → (a : ℕ) → a ≡ getD next t 0 → Action s n a
-at-next s n t next h e p a v =
-    let r : Entry s t = entry h in
-    record { rules = h .rules; threads = e; below = omega (arith, placed next h e p .1) }
+-- the thread that is joined
+child : {s : List ℕ} {n t : ℕ} (next : List ℕ) (k : Accepted s n) → t < n → Placed s n next → (a : ℕ) → a ≡ getD next t 0 → kind (tableOf s) a ≡ join → tableOf s .argument a < 1024
+child {s} {n} {t} next k h p a v j =
+    let b : Body (tableOf s) t = accepted-body k h in
+    let c = join-below (tableOf s) (k .rules .contents) (k .rules .bodies) a (omega (arith, placed k h next p .1)) j in
+    omega (arith, c, accepted-lawful k .few-threads)
 
 module _ (s : List ℕ) (t : ℕ) (next status : List ℕ) where
   not-waiting : (getD status t 0 ≡ waiting → ⊥) → true ≡ waitsAtJoin (tableOf s) next status t
@@ -37,7 +40,7 @@ module _ (s : List ℕ) (t : ℕ) (next status : List ℕ) where
     at-join f x d = rw (eq-eqb (getD status t 0) waiting w, ← v, ← e, is-join f, d)
 
 element-copy-out-if1 : tie.Need-element-copy-out-if1
-element-copy-out-if1 c = entry (c .before .pre .0 .0) .few
+element-copy-out-if1 c = accepted-body (c .before .pre .0) (c .before .pre .1 .0) .few
 
 returns : tie.Need-returns
 returns c =
@@ -45,43 +48,39 @@ returns c =
     not-waiting _ _ (now (b .args .next)) (now (b .args .status)) (c .if1 .taken)
 
 mul-wide : tie.Need-mul-wide
-mul-wide c = omega (arith, entry (c .before .before .before .pre .0 .0))
+mul-wide c = omega (arith, accepted-body (c .before .before .before .pre .0) (c .before .before .before .pre .1 .0) .few)
 
 element-copy-out-wide : tie.Need-element-copy-out-wide
-element-copy-out-wide c = entry (c .before .before .before .pre .0 .0) .few
+element-copy-out-wide c = accepted-body (c .before .before .before .pre .0) (c .before .before .before .pre .1 .0) .few
 
 wide-requires : tie.Need-wide-requires
 wide-requires c κs = search needs
 
--- the next action
-next : (c : tie.After-wide) → Action (now (c .before .before .before .before .before .args .table)) (c .before .before .before .before .before .args .n) (c .wide .result)
-next c =
-    let b = c .before .before .before .before .before in
-    at-next _ _ _ (now (b .args .next)) (b .pre .0 .0) (b .pre .0 .1) (b .pre .1) _ (c .wide .ensures .value)
-
 code-requires : tie.Need-code-requires
-code-requires c κs = place (next c)
+code-requires c κs = search needs
 
 returns-2 : tie.Need-returns-2
 returns-2 c =
     let d = c .before .before in
     let b = d .before .before .before .before .before in
-    no-join (now (b .args .table)) _ (now (b .args .next)) (now (b .args .status)) (d .before .before .if1 .left) _ _ (d .wide .ensures .value) (c .before .code .ensures) (c .if2 .taken)
+    no-join (now (b .args .table)) _ (now (b .args .next)) (now (b .args .status)) (d .before .before .if1 .left) _ _ (d .wide .ensures .value) (code-read (b .pre .0) _ (c .before .code .ensures)) (c .if2 .taken)
 
 argument-requires : tie.Need-argument-requires
-argument-requires c κs = place (next (c .before .before))
+argument-requires c κs = search needs
 
 element-copy-out-result : tie.Need-element-copy-out-result
 element-copy-out-result c =
     let d = c .before .before in
-    omega (arith, c .argument .ensures .value, entry (joined (next (d .before)) (join-code (sym (d .code .ensures) ∙ c .before .if2 .left))))
+    let b = d .before .before .before .before .before .before in
+    let j = join-code (sym (code-read (b .pre .0) _ (d .code .ensures)) ∙ c .before .if2 .left) in
+    omega (arith, argument-read (b .pre .0) _ (c .argument .ensures) .value, child (now (b .args .next)) (b .pre .0) (b .pre .1 .0) (b .pre .1 .1) _ (d .before .wide .ensures .value) j)
 
 returns-3 : tie.Need-returns-3
 returns-3 c =
     let d = c .before .before .before .before in
     let b = d .before .before .before .before .before in
     at-join (now (b .args .table)) _ (now (b .args .next)) (now (b .args .status)) (d .before .before .if1 .left) _ _ (d .wide .ensures .value)
-    (c .before .before .before .code .ensures) (c .before .before .if2 .left) _ (c .before .argument .ensures .value)
+    (code-read (b .pre .0) _ (c .before .before .before .code .ensures)) (c .before .before .if2 .left) _ (argument-read (b .pre .0) _ (c .before .argument .ensures) .value)
 
 pub waits-at-join-spec : {M : Type 1} → statement M
 waits-at-join-spec =

@@ -1,19 +1,17 @@
 -- `soundness::bodies::waits_at_joins` meets its contract. The invariant: the threads below t pass the test.
 use Prim.Native.Nat.{_-_}
-use mathlib.Core.List.{[]}
 use native.Mathlib.Omega.{arith}
 use Rattle.table.specs.Format.{tableOf}
 use Rattle.schedule.specs.Sound.{waitsAtJoin}
-use Rattle.soundness.proofs.Lookups.{thread-of}
 use Rattle.soundness.proofs.Every.{Passed, passed-none, passed-next, passed-stop, passed-all}
 use Rattle.soundness.proofs.bodies.waits_at_joins.Statement.{statement}
 use Rattle.soundness.proofs.bodies.waits_at_joins.Tie as tie
 
 abbrev Inv-loop : tie.InvT-loop
-Inv-loop table n m next status t₀ t = Passed (waitsAtJoin (tableOf table) next status) n t
+Inv-loop table n next status t₀ t = Passed (waitsAtJoin (tableOf table) next status) n t
 
 abbrev μ-loop : tie.MeasureT-loop
-μ-loop table n m next status t₀ t = n - t
+μ-loop table n next status t₀ t = n - t
 
 loop-holds : tie.Need-loop-holds Inv-loop μ-loop
 loop-holds c = passed-none
@@ -21,7 +19,7 @@ loop-holds c = passed-none
 waits-at-join-requires : tie.Need-waits-at-join-requires Inv-loop μ-loop
 waits-at-join-requires c κs =
     let p = c .before .before .before .pre in
-    ((thread-of (p .0) (c .loop-test .taken), p .0 .threads), p .1)
+    (p .0, (c .loop-test .taken, p .1))
 
 returns : tie.Need-returns Inv-loop μ-loop
 returns c =

@@ -13,13 +13,12 @@ use Rattle.table.specs.Pass.{firstFound}
 use Rattle.table.specs.declared.Refusal.{Refusal}
 use Rattle.table.specs.declared.Found.the-variants.{Nothing, At}
 use Rattle.table.proofs.Passes.{passes-rules}
-use Rattle.table.proofs.Sizes.{Sizes}
 use Rattle.schedule.specs.declared.Worker.{Worker}
 use Rattle.schedule.specs.Record.{setOf}
 use Rattle.schedule.specs.Begin.{beginPasses}
 use Rattle.schedule.specs.Sound.{allBelow, nextInBody, inOrder, statusFollows, waitsAtJoin, unused, oneHolder, workerRight, heldRight, common, commonSound}
-use Rattle.soundness.specs.Checks.{Known, threadsSound, holdersSound}
-use Rattle.soundness.proofs.Room.{known-sizes}
+use Rattle.soundness.specs.Checks.{Accepted, threadsSound, holdersSound}
+use Rattle.soundness.proofs.Lookups.{accepted-lawful}
 use Rattle.soundness.proofs.Chains.{off, on, cut, stop, pass, first-of}
 use borrow.Author.Needs.{needs}
 use Rattle.soundness.proofs.common.common_holds.Statement.{statement}
@@ -29,28 +28,28 @@ regroup : (a b c d e f g h i j : Bool)
     → ((a && (b && (c && (d && e)))) && ((f && g) && (h && (i && j)))) ≡ ((a && (b && (c && (d && (e && (f && (g && (h && i)))))))) && j)
 regroup a b c d e f g h i j = simp and-assoc
 
-few : {s : List ℕ} {n m : ℕ} → Known s n m → n ≤ 1024
-few {s} {n} {m} k = let z : Sizes s n m = known-sizes k in omega arith
+few : {s : List ℕ} {n : ℕ} → Accepted s n → n ≤ 1024
+few k = omega (arith, k .threads, accepted-lawful k .few-threads)
 
-module _ (s : List ℕ) (n m p K : ℕ) (next status : List ℕ) (workers : List Worker) (set amount highest : ℕ) (k : Known s n m) where
+module _ (s : List ℕ) (n p K : ℕ) (next status : List ℕ) (workers : List Worker) (set amount highest : ℕ) (k : Accepted s n) where
   abbrev T : Table
   T = tableOf s
 
   -- the tests past the beginning's
   abbrev tests : Bool
   tests =
-      threadsSound (tableOf s) n m next status
+      threadsSound (tableOf s) n next status
       && (holdersSound n p K status workers && (heldRight (tableOf s) next status amount && (leb amount highest && eqb set (setOf workers))))
 
   no-begin : {x : Refusal} → firstFound (beginPasses (tableOf s) p K) ≡ At x → false ≡ commonSound s p K next status workers set amount highest
   unfolding commonSound
   no-begin h = rw (passes-rules s .1 (k .rules), h) refl
 
-  in-parts : length next ≡ 1024 → length status ≡ 1024 → length workers ≡ 16 → n ≡ tableOf s .threads → m ≡ tableOf s .actions
+  in-parts : length next ≡ 1024 → length status ≡ 1024 → length workers ≡ 16 → n ≡ tableOf s .threads
       → tests ≡ (common (tableOf s) p K next status workers amount highest && eqb set (setOf workers))
   unfolding common
-  in-parts a b c d e =
-      rw (a, b, c, d, e)
+  in-parts a b c d =
+      rw (a, b, c, d)
       (regroup (allBelow (nextInBody T next) (T .threads)) (allBelow (inOrder T next status) (T .actions)) (allBelow (statusFollows T next status) (T .threads))
       (allBelow (waitsAtJoin T next status) (T .threads)) (allBelow (λ t. ltb t (T .threads) || unused next status t) 1024)
       (allBelow (oneHolder status workers) (T .threads)) (allBelow (workerRight (T .threads) p K workers) 16) (heldRight T next status amount) (leb amount highest)
@@ -59,7 +58,7 @@ module _ (s : List ℕ) (n m p K : ℕ) (next status : List ℕ) (workers : List
   begins : length next ≡ 1024 → length status ≡ 1024 → length workers ≡ 16
       → firstFound (beginPasses (tableOf s) p K) ≡ Nothing → {r : Bool} → r ≡ tests → r ≡ commonSound s p K next status workers set amount highest
   unfolding commonSound
-  begins a b c h e = rw (passes-rules s .1 (k .rules), h) (e ∙ in-parts a b c (k .threads) (k .actions))
+  begins a b c h e = rw (passes-rules s .1 (k .rules), h) (e ∙ in-parts a b c (k .threads))
 
 -- ---- the tests that held, at the function's places
 
@@ -80,18 +79,18 @@ left2 s = heldRight (tableOf (now (s .args .table))) (now (s .args .next)) (now 
 abbrev left1 : tie.Start → Bool
 left1 s = holdersSound (s .args .n) (s .args .p) (s .args .quota) (now (s .args .status)) (s .args .workers) && left2 s
 
-threads-held : (c : tie.Else1) → threadsSound (tableOf (now (start (c .before .before) .args .table))) (start (c .before .before) .args .n) (start (c .before .before) .args .m) (now (start (c .before .before) .args .next)) (now (start (c .before .before) .args .status)) ≡ true
+threads-held : (c : tie.Else1) → threadsSound (tableOf (now (start (c .before .before) .args .table))) (start (c .before .before) .args .n) (now (start (c .before .before) .args .next)) (now (start (c .before .before) .args .status)) ≡ true
 threads-held c = on (c .before .threads-sound .ensures) (c .if1 .left)
 
 worker-size : (s : tie.Start) → length (s .args .workers) ≡ 16
 worker-size s = search needs
 
 begun : (c : tie.After-enum-told2) {r : Bool}
-    → r ≡ (threadsSound (tableOf (now (start c .args .table))) (start c .args .n) (start c .args .m) (now (start c .args .next)) (now (start c .args .status)) && left1 (start c))
+    → r ≡ (threadsSound (tableOf (now (start c .args .table))) (start c .args .n) (now (start c .args .next)) (now (start c .args .status)) && left1 (start c))
     → Goal (start c) r
 begun c h =
     let s = start c in
-    begins _ _ _ _ _ _ _ _ _ _ _ (s .pre .0) (s .pre .1 .1 .1 .0) (s .pre .1 .1 .1 .1) (worker-size s)
+    begins _ _ _ _ _ _ _ _ _ _ (s .pre .0) (s .pre .1 .1 .1 .0) (s .pre .1 .1 .1 .1) (worker-size s)
     (sym (c .before .before .begin-fault .ensures) ∙ c .enum-told2 .given .1) h
 
 after1 : (c : tie.Else1) {r : Bool} → r ≡ left1 (start (c .before .before)) → Goal (start (c .before .before)) r
@@ -114,7 +113,7 @@ enum-told c = search needs
 returns : tie.Need-returns
 returns c =
     let s = c .before .before .before .before in
-    no-begin _ _ _ _ _ _ _ _ _ _ _ (s .pre .0) (sym (c .before .before .begin-fault .ensures) ∙ c .enum-told .given .1)
+    no-begin _ _ _ _ _ _ _ _ _ _ (s .pre .0) (sym (c .before .before .begin-fault .ensures) ∙ c .enum-told .given .1)
 
 enum-told-2 : tie.Need-enum-told-2
 enum-told-2 c = search needs

@@ -5,7 +5,7 @@ use borrow.Author.Needs.{needs}
 use denote.Ref.{now}
 use Rattle.table.specs.Format.{tableOf}
 use Rattle.soundness.specs.Order.{Numbering}
-use Rattle.soundness.proofs.Spans.{accepted-lawful}
+use Rattle.soundness.proofs.Lookups.{accepted-lawful}
 use Rattle.soundness.proofs.Marks.{numbering-starts, numbering-ends}
 use Rattle.soundness.proofs.order.fill_numbers.Statement.{statement}
 use Rattle.soundness.proofs.order.fill_numbers.Tie as tie

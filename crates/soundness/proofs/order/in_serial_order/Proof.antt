@@ -12,10 +12,10 @@ use lib.ListN.{length, getD, take}
 use lib.Seq.{getD-take, length-take-le}
 use Rattle.table.specs.Format.{tableOf}
 use Rattle.schedule.specs.Sound.{allIn, rises, inSerialOrder}
-use Rattle.schedule.proofs.Lawful.{lawful}
 use Rattle.schedule.proofs.Words.{allIn-exactly}
 use Rattle.schedule.proofs.Lists.{getD-member}
-use Rattle.soundness.specs.Checks.{Known, Numbers}
+use Rattle.soundness.specs.Checks.{Accepted, Numbers}
+use Rattle.soundness.proofs.Lookups.{accepted-lawful}
 use Rattle.soundness.proofs.order.in_serial_order.Statement.{statement}
 use Rattle.soundness.proofs.order.in_serial_order.Tie as tie
 
@@ -27,7 +27,7 @@ rises-same f g (x ∷ []) h = refl
 rises-same f g (x ∷ y ∷ l) h =
     rw (h x (List·Memᴰ·head refl), h y (List·Memᴰ·tail (List·Memᴰ·head refl)), rises-same f g (y ∷ l) (λ z m. h z (List·Memᴰ·tail m)))
 
-module _ (s : List ℕ) (n m : ℕ) (next list : List ℕ) (len : ℕ) (k : Known s n m) (a : allIn (λ t. ltb t n) (take len list) ≡ true) where
+module _ (s : List ℕ) (n : ℕ) (next list : List ℕ) (len : ℕ) (k : Accepted s n) (a : allIn (λ t. ltb t n) (take len list) ≡ true) where
   listed : (t : ℕ) → List·Memᴰ t (take len list) → t < n
   listed t h = ltb-true t n (allIn-exactly (λ t. ltb t n) (take len list) .0 a t h)
 
@@ -35,7 +35,7 @@ module _ (s : List ℕ) (n m : ℕ) (next list : List ℕ) (len : ℕ) (k : Know
   below f e i h =
       let g : i < length (take len list) = omega (arith, length-take-le len list (omega arith)) in
       let b = listed _ (rw (getD-take len list i 0 h) at (getD-member (take len list) i 0 g)) in
-      omega (arith, b, k .threads, lawful s (k .rules) .few-threads)
+      omega (arith, b, k .threads, accepted-lawful k .few-threads)
 
   same : (numbers : List ℕ) → Numbers (tableOf s) next numbers
       → rises (λ t. getD numbers t 0) (take len list) ≡ inSerialOrder (tableOf s) next (take len list)
@@ -52,13 +52,13 @@ rising-requires : tie.Need-rising-requires
 rising-requires c κs =
     let d = c .before .before .before .before .before .before in
     let (f, e, a) = d .pre .1 .1 in
-    ((f, e), below (now (d .args .table)) _ _ (now (d .args .next)) (now (d .args .list)) _ (d .pre .0) a f e)
+    ((f, e), below (now (d .args .table)) _ (now (d .args .next)) (now (d .args .list)) _ (d .pre .0) a f e)
 
 returns : tie.Need-returns
 returns c =
     let d = c .before .before .before .before .before .before .before in
     c .rising .ensures
-    ∙ same (now (d .args .table)) _ _ (now (d .args .next)) (now (d .args .list)) (d .args .len) (d .pre .0) (d .pre .1 .1 .2) _ (c .before .before .fill-numbers .ensures)
+    ∙ same (now (d .args .table)) _ (now (d .args .next)) (now (d .args .list)) (d .args .len) (d .pre .0) (d .pre .1 .1 .2) _ (c .before .before .fill-numbers .ensures)
 
 pub in-serial-order-spec : {M : Type 1} → statement M
 in-serial-order-spec =

@@ -3,24 +3,23 @@ use mathlib.Core.Path.{_≡_}
 use Prim.Native.Nat.{ℕ, _+_, _-_, _≤_, _<_}
 use mathlib.Core.List.{List}
 use native.Mathlib.Omega.{arith}
+use borrow.Author.Needs.{needs}
 use denote.Ref.{now}
 use lib.ListN.{getD, set}
-use Rattle.table.specs.Format.{tableOf, firstOf, countOf}
+use Rattle.table.specs.Format.{tableOf}
 use Rattle.table.specs.Rules.{owner, endOf}
 use Rattle.schedule.proofs.Lawful.{Lawful}
-use Rattle.schedule.proofs.Words.{allBelow-exactly}
-use Rattle.schedule.proofs.Clauses.{nextInBody-exactly}
-use Rattle.soundness.specs.Checks.{Placed}
-use Rattle.soundness.specs.Order.{Accepted, Walked, Numbering}
-use Rattle.soundness.proofs.Spans.{accepted-lawful, Body, accepted-body}
+use Rattle.soundness.specs.Checks.{Accepted, Placed}
+use Rattle.soundness.specs.Order.{Walked, Numbering}
+use Rattle.soundness.proofs.Lookups.{Body, accepted-lawful, thread-below, accepted-body, placed}
 use Rattle.soundness.proofs.Marks.{walked-owner, walked-small, walked-stored, numbering-first, numbering-walked, numbering-next}
 use Rattle.soundness.proofs.order.number_thread.Statement.{statement}
 use Rattle.soundness.proofs.order.number_thread.Tie as tie
 
 -- where the thread's body and its next action lie, and how its walk begins
 record Ready (s : List ℕ) (n t first : ℕ) (next numbers : List ℕ) : Type 0 where
-  body : Body s n t
-  begins : first ≡ firstOf s t
+  body : Body (tableOf s) t
+  begins : first ≡ tableOf s .first t
   low : first ≤ getD next t 0
   high : getD next t 0 ≤ endOf (tableOf s) t
   small : getD numbers t 0 < 8192
@@ -32,17 +31,16 @@ module _ (s : List ℕ) (n t first : ℕ) (next numbers : List ℕ)
   lawful = accepted-lawful (p .0)
 
   below : t < tableOf s .threads
-  below = rw (p .0 .threads) at (p .1 .1 .0)
+  below = thread-below (p .0) (p .1 .1 .0)
 
   ready : Ready s n t first next numbers
   ready =
-      let body : Body s n t = accepted-body (p .0) (p .1 .1 .0) in
       let e : first ≡ tableOf s .first t = numbering-first (tableOf s) lawful next numbers t first (p .1 .1 .1) below in
       let walked : Walked (tableOf s) t first (getD numbers t 0) numbers numbers = numbering-walked (tableOf s) lawful next numbers t first (p .1 .1 .1) below in
-      let (low, high) = nextInBody-exactly (tableOf s) _ t .0 (allBelow-exactly _ n .0 (p .1 .0) t (p .1 .1 .0)) in
+      let (low, high) = placed (p .0) (p .1 .1 .0) next (p .1 .0) in
       record {
-        body = body;
-        begins = omega (arith, body .begins);
+        body = accepted-body (p .0) (p .1 .1 .0);
+        begins = e;
         low = omega (arith, low);
         high = high;
         small = walked-small (tableOf s) lawful t first _ numbers numbers walked;
@@ -64,7 +62,7 @@ module _ (s : List ℕ) (n t first : ℕ) (next numbers : List ℕ)
     fits : number < 8192
     fits = walked-small (tableOf s) lawful t _ number numbers middle at-next
 
-    module _ (count : ℕ) (e : count ≡ countOf s t) where
+    module _ (count : ℕ) (e : count ≡ tableOf s .count t) where
       second-walk : ((getD next t 0 ≤ first + count - 1) × (first + count - 1 ≤ endOf (tableOf s) (owner (tableOf s) (getD next t 0))))
           × Walked (tableOf s) (owner (tableOf s) (getD next t 0)) (getD next t 0) number (set middle t number) (set middle t number)
       second-walk =
@@ -73,7 +71,6 @@ module _ (s : List ℕ) (n t first : ℕ) (next numbers : List ℕ)
 
       done : (other : ℕ) (after : List ℕ) → Walked (tableOf s) (owner (tableOf s) (getD next t 0)) (first + count - 1) other (set middle t number) after
           → Numbering (tableOf s) next (t + 1) (first + count) after
-      unfolding tableOf
       done other after w =
           let v : Walked (tableOf s) t (first + count - 1) other (set middle t number) after = rw (own at-next) at w in
           numbering-next (tableOf s) lawful next numbers t first (p .1 .1 .1) below number other (first + count) middle after at-next v (rw e)
@@ -81,17 +78,11 @@ module _ (s : List ℕ) (n t first : ℕ) (next numbers : List ℕ)
 at-start : (c : tie.Start) → Ready (now (c .args .table)) (c .args .n) (c .args .t) (c .args .first) (now (c .args .next)) (now (c .args .numbers))
 at-start c = ready (now (c .args .table)) _ _ _ (now (c .args .next)) (now (c .args .numbers)) (c .pre)
 
-mul-word : tie.Need-mul-word
-mul-word c = omega (arith, at-start (c .before))
-
-add-word : tie.Need-add-word
-add-word c = omega (arith, at-start (c .before))
-
-word-requires : tie.Need-word-requires
-word-requires c κs = omega (arith, at-start (c .before))
+count-requires : tie.Need-count-requires
+count-requires c κs = search needs
 
 add-stop : tie.Need-add-stop
-add-stop c = omega (arith, at-start (c .before .before), c .word .ensures .value)
+add-stop c = omega (arith, at-start (c .before .before), c .count .ensures .value)
 
 mul-at : tie.Need-mul-at
 mul-at c = omega (arith, at-start (c .before .before))
@@ -128,30 +119,28 @@ element-write-numbers : tie.Need-element-write-numbers
 element-write-numbers c = omega (arith, at-start (c .before .before .before .before .before .before))
 
 sub-advance : tie.Need-sub-advance
-sub-advance c = omega (arith, at-start (c .before .before .before .before .before .before), c .before .before .before .before .word .ensures .value)
+sub-advance c = omega (arith, at-start (c .before .before .before .before .before .before), c .before .before .before .before .count .ensures .value)
 
 advance-requires-2 : tie.Need-advance-requires-2
 advance-requires-2 c κs =
     let d = c .before .before .before .before .before .before .before in (
       d .pre .0,
       second-walk (now (d .args .table)) _ _ _ (now (d .args .next)) (now (d .args .numbers)) (d .pre) _ _ (c .before .advance .ensures) _
-          (c .before .before .before .before .before .word .ensures .value),
+          (c .before .before .before .before .before .count .ensures .value),
     )
 
 returns : tie.Need-returns
 returns c =
     let d = c .before .before .before .before .before .before .before .before in
     done (now (d .args .table)) _ _ _ (now (d .args .next)) (now (d .args .numbers)) (d .pre) _ _ (c .before .before .advance .ensures) _
-    (c .before .before .before .before .before .before .word .ensures .value)
+    (c .before .before .before .before .before .before .count .ensures .value)
     _ _ (c .advance2 .ensures)
 
 pub number-thread-spec : {M : Type 1} → statement M
 number-thread-spec =
     tie.close
     (tie.spec
-    mul-word
-    add-word
-    word-requires
+    count-requires
     add-stop
     mul-at
     element-copy-out-at

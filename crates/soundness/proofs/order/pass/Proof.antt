@@ -1,16 +1,18 @@
 -- `soundness::order::pass` meets its contract: after an action that forks nothing the number is one more; a fork leaves a place for each action of the child.
 use mathlib.Core.Path.{_≡_}
-use Prim.Native.Nat.{ℕ, _+_, _*_, _≤_, _<_}
+use Prim.Native.Nat.{ℕ, _+_, _≤_, _<_}
 use mathlib.Core.List.{List}
 use native.Mathlib.Omega.{arith}
 use borrow.Author.Needs.{needs}
 use denote.Ref.{now}
-use lib.ListN.{length, getD, set}
-use Rattle.table.specs.Format.{fork, kind, threadsOf, tableOf}
+use lib.ListN.{getD, set}
+use Rattle.table.specs.Format.{fork, kind, tableOf}
 use Rattle.table.specs.Rules.{owner, endOf}
 use Rattle.schedule.proofs.Lawful.{Lawful}
-use Rattle.soundness.specs.Order.{Accepted, Inside, Walked}
-use Rattle.soundness.proofs.Spans.{accepted-lawful, accepted-reads, code-fork, code-other, inside-within, inside-fork, child-small}
+use Rattle.soundness.specs.Checks.{Accepted}
+use Rattle.soundness.specs.Order.{Inside, Walked}
+use Rattle.soundness.proofs.Lookups.{accepted-lawful, code-read, argument-read, fork-code, not-fork}
+use Rattle.soundness.proofs.Spans.{inside-within, inside-fork, child-small}
 use Rattle.soundness.proofs.Marks.{walked-inside, walked-small, walked-step, walked-fork}
 use Rattle.soundness.proofs.order.pass.Statement.{statement}
 use Rattle.soundness.proofs.order.pass.Tie as tie
@@ -33,18 +35,15 @@ module _ (s : List ℕ) (n a number : ℕ) (numbers : List ℕ)
   within : a < tableOf s .actions
   within = inside-within (tableOf s) lawful _ a inside
 
-  readable : (n ≡ threadsOf s) × (4 + 4 * n + 4 * a + 3 < length s)
-  readable = accepted-reads a (p .0) within
-
   small : number < 8192
   small = walked-small (tableOf s) lawful _ a number numbers numbers (p .1 .1)
 
   step : (k : ℕ) → k ≡ tableOf s .code a → (k ≡ 4 → ⊥) → Walked (tableOf s) (owner (tableOf s) a) (a + 1) (number + 1) numbers numbers
-  step k e d = walked-step (tableOf s) lawful _ a number numbers numbers (p .1 .1) (p .1 .0) (rw e at (code-other k d))
+  step k e d = walked-step (tableOf s) lawful _ a number numbers numbers (p .1 .1) (p .1 .0) (rw e at (not-fork d))
 
   forked : (k x : ℕ) → k ≡ tableOf s .code a → k ≡ 4 → x ≡ tableOf s .argument a → Forked s a number x numbers
   forked k x e d r =
-      let forks : kind (tableOf s) a ≡ fork = rw e at (code-fork k d) in
+      let forks : kind (tableOf s) a ≡ fork = rw e at (fork-code d) in
       let (above, below) = inside-fork (tableOf s) lawful _ a inside forks in
       rw r
       (record {
@@ -58,24 +57,22 @@ add-after : tie.Need-add-after
 add-after c = omega (arith, small (now (c .before .args .table)) _ _ _ (now (c .before .args .numbers)) (c .before .pre))
 
 code-requires : tie.Need-code-requires
-code-requires c κs = readable (now (c .before .args .table)) _ _ _ (now (c .before .args .numbers)) (c .before .pre)
+code-requires c κs = search needs
 
 returns : tie.Need-returns
 returns c =
     let d = c .before .before .before in
-    step (now (d .args .table)) _ _ _ (now (d .args .numbers)) (d .pre) _ (c .before .code .ensures) (c .if1 .taken)
+    step (now (d .args .table)) _ _ _ (now (d .args .numbers)) (d .pre) _ (code-read (d .pre .0) _ (c .before .code .ensures)) (c .if1 .taken)
 
 argument-requires : tie.Need-argument-requires
-argument-requires c κs =
-    let d = c .before .before .before in
-    readable (now (d .args .table)) _ _ _ (now (d .args .numbers)) (d .pre)
+argument-requires c κs = search needs
 
 at-fork : (c : tie.After-argument) → Forked (now (c .before .before .before .before .args .table)) (c .before .before .before .before .args .a)
     (c .before .before .before .before .args .number) (c .argument .result)
     (now (c .before .before .before .before .args .numbers))
 at-fork c =
     let d = c .before .before .before .before in
-    forked (now (d .args .table)) _ _ _ (now (d .args .numbers)) (d .pre) _ _ (c .before .before .code .ensures) (c .before .if1 .left) (c .argument .ensures .value)
+    forked (now (d .args .table)) _ _ _ (now (d .args .numbers)) (d .pre) _ _ (code-read (d .pre .0) _ (c .before .before .code .ensures)) (c .before .if1 .left) (argument-read (d .pre .0) _ (c .argument .ensures) .value)
 
 mul-length : tie.Need-mul-length
 mul-length c = search needs

@@ -3,17 +3,19 @@ use mathlib.Core.Path.{_≡_}
 use Prim.Native.Nat.{ℕ, _+_, _-_, _≤_, _<_}
 use mathlib.Core.List.{List}
 use native.Mathlib.Omega.{arith}
+use borrow.Author.Needs.{needs}
 use denote.Ref.{now}
 use lib.ListN.{length}
-use Rattle.table.specs.Format.{tableOf, firstOf, countOf}
+use Rattle.table.specs.Format.{tableOf}
 use Rattle.table.specs.Rules.{owner, endOf}
 use Rattle.table.specs.Serial.{serial}
 use Rattle.table.specs.Steps.{Read}
 use Rattle.table.proofs.Bodies.{first-within}
 use Rattle.schedule.proofs.Lawful.{Lawful}
-use Rattle.soundness.specs.Checks.{Lengths}
-use Rattle.soundness.specs.Order.{Accepted, Inside}
-use Rattle.soundness.proofs.Spans.{accepted-lawful, Body, accepted-body, inside-owner, end-length, length-small}
+use Rattle.soundness.specs.Checks.{Accepted, Lengths}
+use Rattle.soundness.specs.Order.{Inside}
+use Rattle.soundness.proofs.Lookups.{Body, accepted-lawful, thread-below, accepted-body}
+use Rattle.soundness.proofs.Spans.{inside-owner, end-length, length-small}
 use Rattle.soundness.proofs.order.thread_length.Statement.{statement}
 use Rattle.soundness.proofs.order.thread_length.Tie as tie
 
@@ -25,19 +27,18 @@ record Inv (s : List ℕ) (t last total a : ℕ) : Type 0 where
   small : length (serial (tableOf s) (tableOf s .first t)) ≤ 8192
   counted : total + length (serial (tableOf s) a) ≡ 1 + length (serial (tableOf s) (tableOf s .first t))
 
-start : (s : List ℕ) (n t first count : ℕ) → Accepted s n → t < n → first ≡ firstOf s t → count ≡ countOf s t → Inv s t (first + count - 1) 1 first
+start : (s : List ℕ) (n t first count : ℕ) → Accepted s n → t < n → first ≡ tableOf s .first t → count ≡ tableOf s .count t → Inv s t (first + count - 1) 1 first
 start s n t first count k h e d =
     let lawful : Lawful (tableOf s) = accepted-lawful k in
-    let below : t < tableOf s .threads = rw (k .threads) at h in
-    let b : Body s n t = accepted-body k h in
-    let g : first ≡ tableOf s .first t = omega (arith, b .begins) in
+    let below : t < tableOf s .threads = thread-below k h in
+    let b : Body (tableOf s) t = accepted-body k h in
     record {
       below = below;
       ends = omega (arith, b .ends);
       from = omega arith;
       upto = omega (arith, b .some);
       small = length-small (tableOf s) lawful (tableOf s .first t) (first-within (tableOf s) (lawful .contents) t below);
-      counted = rw g;
+      counted = rw e;
     }
 
 module _ (s : List ℕ) (t last total a : ℕ) (i : Inv s t last total a) where
@@ -64,37 +65,25 @@ Inv-loop table n t lengths first last total₀ a₀ total a = Inv table t last t
 abbrev μ-loop : tie.MeasureT-loop
 μ-loop table n t lengths first last total₀ a₀ total a = last - a
 
-at-start : (c : tie.Start Inv-loop μ-loop) → Body (now (c .args .table)) (c .args .n) (c .args .t)
+at-start : (c : tie.Start Inv-loop μ-loop) → Body (tableOf (now (c .args .table))) (c .args .t)
 at-start c = accepted-body (c .pre .0) (c .pre .1 .0)
 
-mul-word : tie.Need-mul-word Inv-loop μ-loop
-mul-word c = omega (arith, at-start (c .before))
+first-requires : tie.Need-first-requires Inv-loop μ-loop
+first-requires c κs = search needs
 
-add-word : tie.Need-add-word Inv-loop μ-loop
-add-word c = omega (arith, at-start (c .before))
-
-word-requires : tie.Need-word-requires Inv-loop μ-loop
-word-requires c κs = omega (arith, at-start (c .before))
-
-mul-word-2 : tie.Need-mul-word-2 Inv-loop μ-loop
-mul-word-2 c = omega (arith, at-start (c .before .before))
-
-add-word-2 : tie.Need-add-word-2 Inv-loop μ-loop
-add-word-2 c = omega (arith, at-start (c .before .before))
-
-word-requires-2 : tie.Need-word-requires-2 Inv-loop μ-loop
-word-requires-2 c κs = omega (arith, at-start (c .before .before))
+count-requires : tie.Need-count-requires Inv-loop μ-loop
+count-requires c κs = search needs
 
 add-last : tie.Need-add-last Inv-loop μ-loop
-add-last c = omega (arith, at-start (c .before .before .before), c .before .word .ensures .value, c .word2 .ensures .value)
+add-last c = omega (arith, at-start (c .before .before .before), c .before .first .ensures .value, c .count .ensures .value)
 
 sub-last : tie.Need-sub-last Inv-loop μ-loop
-sub-last c = omega (arith, at-start (c .before .before .before), c .before .word .ensures .value, c .word2 .ensures .value)
+sub-last c = omega (arith, at-start (c .before .before .before), c .before .first .ensures .value, c .count .ensures .value)
 
 loop-holds : tie.Need-loop-holds Inv-loop μ-loop
 loop-holds c =
     let d = c .before .before .before in
-    start (now (d .args .table)) _ _ _ _ (d .pre .0) (d .pre .1 .0) (c .before .word .ensures .value) (c .word2 .ensures .value)
+    start (now (d .args .table)) _ _ _ _ (d .pre .0) (d .pre .1 .0) (c .before .first .ensures .value) (c .count .ensures .value)
 
 span-requires : tie.Need-span-requires Inv-loop μ-loop
 span-requires c κs =
@@ -122,12 +111,8 @@ thread-length-spec =
     (tie.spec
     Inv-loop
     μ-loop
-    mul-word
-    add-word
-    word-requires
-    mul-word-2
-    add-word-2
-    word-requires-2
+    first-requires
+    count-requires
     add-last
     sub-last
     loop-holds

@@ -1,14 +1,13 @@
 -- `soundness::sound::sound` meets its contract: the lengths and the parts not in use come first, then the common part and the list.
-use mathlib.Core.Path.{_≡_, refl, ap, sym, _∙_}
+use mathlib.Core.Path.{_≡_, ap, sym, _∙_}
 use Prim.Native.Nat.{ℕ, _≤_}
-use mathlib.Core.List.{List}
 use mathlib.Core.Bool.{Bool, true, false}
 use native.Mathlib.Omega.{arith}
 use borrow.Author.Needs.{needs}
-use borrow.Author.Tests.{ltb-false, not-true, not-false}
+use borrow.Author.Tests.{not-true, not-false}
 use lib.ListN.{length, take}
 use lib.Seq.{length-take-le}
-use Rattle.table.specs.Format.{threadsOf, actionsOf, tableOf}
+use Rattle.table.specs.Format.{threadsOf, tableOf}
 use Rattle.table.specs.Pass.{firstFound}
 use Rattle.table.specs.Rules.{passes}
 use Rattle.table.specs.Accepted.{Rules}
@@ -17,18 +16,15 @@ use Rattle.table.proofs.Passes.{passes-rules}
 use Rattle.schedule.specs.declared.Run.{Run}
 use Rattle.schedule.specs.Record.{bytesOf, tableIn}
 use Rattle.schedule.specs.Begin.{beginPasses}
-use Rattle.schedule.specs.Sound.{Common, isNothing, nextInBody, common, commonSound, listed, sound}
+use Rattle.schedule.specs.Sound.{Common, isNothing, nextInBody, commonSound, listed, sound}
 use Rattle.schedule.proofs.Words.{allBelow-exactly, isNothing-exactly}
 use Rattle.schedule.proofs.Tests.{common-exactly}
 use Rattle.soundness.specs.declared.Tested.{Tested}
-use Rattle.soundness.specs.Checks.{Known, Placed, restSound}
+use Rattle.soundness.specs.Checks.{Accepted, Placed, restSound}
 use Rattle.soundness.specs.Tested.{parentsIn, commonTested}
 use Rattle.soundness.proofs.Chains.{off, cut, skip, last, pass, first-of, second-of, never}
 use Rattle.soundness.proofs.sound.sound.Statement.{statement}
 use Rattle.soundness.proofs.sound.sound.Tie as tie
-
-long : {s : List ℕ} → Rules s → 4 ≤ length s
-long {s} r = ltb-false (length s) 4 (r .head .long)
 
 module _ (r : Run) where
   abbrev shared : Bool
@@ -78,11 +74,11 @@ module _ (r : Run) where
     unfolding commonTested
     parents-are h = ap (λ (x : Tested). x .parents) h ∙ rw no-check
 
-    known : {n m : ℕ} → n ≡ threadsOf (bytesOf r) → m ≡ actionsOf (bytesOf r) → Known (bytesOf r) n m × Placed (bytesOf r) n (r .next)
+    known : {n : ℕ} → n ≡ threadsOf (bytesOf r) → Accepted (bytesOf r) n × Placed (bytesOf r) n (r .next)
     unfolding tableOf
-    known {n} {m} a b =
+    known {n} a =
         let e : n ≡ tableIn r .threads = a in
-        (record { rules = rules; threads = a; actions = b }, rw e placed)
+        (record { rules = rules; threads = a }, rw e placed)
 
 -- ---- the needs
 
@@ -133,11 +129,8 @@ returns-2 c =
     let e = passed-is (start t .args .run) (t .test-common .ensures) in
     (n ∙ not-shared (start t .args .run) (sym e ∙ n), λ h. never (sym n ∙ h))
 
-word-requires : tie.Need-word-requires
-word-requires c κs = omega (arith, long (rules (start (c .before .before .before .before) .args .run) (shared-held (c .before .before))))
-
-word-requires-2 : tie.Need-word-requires-2
-word-requires-2 c κs = omega (arith, long (rules (start (c .before .before .before .before .before) .args .run) (shared-held (c .before .before .before))))
+threads-requires : tie.Need-threads-requires
+threads-requires c κs = search needs
 
 cast-list-sound : tie.Need-cast-list-sound
 cast-list-sound c = search needs
@@ -145,14 +138,14 @@ cast-list-sound c = search needs
 list-sound-requires : tie.Need-list-sound-requires
 list-sound-requires c κs =
     let w = c .before .before .before .before in
-    let d = w .before .before .before .before in
+    let d = w .before .before .before in
     let s = start (d .before .before) in
-    let k = known (s .args .run) (shared-held d) (w .before .word .ensures .value) (w .word2 .ensures .value) in
+    let k = known (s .args .run) (shared-held d) (w .threads .ensures .value) in
     (k .0, (k .1, (bounds (first (d .before .before)) .1, list-size s)))
 
 returns-3 : tie.Need-returns-3
 returns-3 c =
-    let d = c .before .before .before .before .before .before .before .before .before in
+    let d = c .before .before .before .before .before .before .before .before in
     let t = d .before .before in
     let s = start t in
     (all-sound (s .args .run) (shared-held d) (c .list-sound .ensures) (rest-held (first t)), λ h. parents-are (s .args .run) (shared-held d) (t .test-common .ensures))
@@ -168,8 +161,7 @@ sound-spec =
     slice-aggregate-bytes
     test-common-requires
     returns-2
-    word-requires
-    word-requires-2
+    threads-requires
     cast-list-sound
     list-sound-requires
     returns-3)
