@@ -58,7 +58,7 @@ pub fn begin(bytes: &[u8], p: u8, quota: u32) -> Begun
             run: blank(),
         };
     }
-    let found = begin_fault(bytes, threads(bytes), actions(bytes), p, quota);
+    let found = begin_fault(bytes, p, quota);
     if let Found::At(x) = found {
         return Begun {
             answer: Beginning::Refused(x),
