@@ -27,6 +27,7 @@ ghost use lib.ListN.{length};
 ghost use Rattle.table.specs.Pass.{refusal};
 ghost use Rattle.schedule.specs.declared.Turning.the-variants.{Refused};
 ghost use Rattle.schedule.specs.Answers.{beginningValues, turningValues, reportValues};
+ghost use Rattle.schedule.specs.Values.{beginValues, turnValues, listValues, roundsValues};
 ghost use Rattle.schedule.specs.Begin.{begin as beginOf};
 ghost use Rattle.schedule.specs.Machine.{workerOf};
 ghost use Rattle.schedule.specs.Record.{stateOf};
@@ -54,7 +55,7 @@ mod turns;
 // Beginning from a table's bytes, p and K: the table's own checks, then 20 to 22.
 pub fn begin(bytes: &[u8], p: u8, quota: u32) -> Begun
     ensures { λ r. ⌜ r ≡ beginOf (now (bytes .entry)) p quota ⌝ }
-    ensures { λ r. ⌜ beginningValues (r .answer) ≡ beginningValues (beginOf (now (bytes .entry)) p quota .answer) ⌝ }
+    ensures { λ r. ⌜ beginningValues (r .answer) ≡ beginValues (now (bytes .entry)) p quota ⌝ }
 {
     let loaded = table::load(bytes);
     if let Loaded::Refused(x) = loaded {
@@ -90,7 +91,7 @@ fn refused(number: u8, run: Run) -> Turned
 // A single turn of worker w: 32, 30, 31, or the reply and the record after.
 pub fn turn(run: Run, w: u8) -> Turned
     ensures { λ r. ⌜ r ≡ turnedOf run w ⌝ }
-    ensures { λ r. ⌜ turningValues (r .answer) ≡ turningValues (turnedOf run w .answer) ⌝ }
+    ensures { λ r. ⌜ turningValues (r .answer) ≡ turnValues run w ⌝ }
 {
     if unsound(run) {
         return refused(32, run);
@@ -115,7 +116,7 @@ pub fn turn(run: Run, w: u8) -> Turned
 // A run over a list of workers.
 pub fn run_list(run: Run, order: &[u8]) -> Ran
     ensures { λ r. ⌜ r ≡ listRun run (now (order .entry)) ⌝ }
-    ensures { λ r. ⌜ reportValues (r .report) ≡ reportValues (listRun run (now (order .entry)) .report) ⌝ }
+    ensures { λ r. ⌜ reportValues (r .report) ≡ listValues run (now (order .entry)) ⌝ }
 {
     if unsound(run) {
         return Ran {
@@ -140,7 +141,7 @@ pub fn run_list(run: Run, order: &[u8]) -> Ran
 // A run in rounds, of at most `limit` turns.
 pub fn run_rounds(run: Run, limit: u32) -> Ran
     ensures { λ r. ⌜ r ≡ roundsRun run limit ⌝ }
-    ensures { λ r. ⌜ reportValues (r .report) ≡ reportValues (roundsRun run limit .report) ⌝ }
+    ensures { λ r. ⌜ reportValues (r .report) ≡ roundsValues run limit ⌝ }
 {
     if unsound(run) {
         return Ran {

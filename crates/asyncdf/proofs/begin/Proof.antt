@@ -22,6 +22,7 @@ use Rattle.schedule.specs.Begin.{begin, beginPasses, begunAs, startRun}
 use Rattle.schedule.specs.declared.Run.{Run}
 use Rattle.schedule.specs.declared.Beginning.the-variants.{Begun as started, Refused as refusedBegin}
 use Rattle.asyncdf.specs.Checks.{Known}
+use Rattle.schedule.proofs.Values.{begin-values}
 use Rattle.asyncdf.proofs.Calls.{begun-answers}
 use Rattle.asyncdf.proofs.begin.Statement.{statement}
 use Rattle.asyncdf.proofs.begin.Tie as tie
@@ -71,7 +72,7 @@ returns : tie.Need-returns
 returns c =
     let d = c .before .before .before .before in
     let a = d .before .before .args in
-    begun-answers (refused-table (now (a .bytes)) (a .p) (a .quota) (sym (d .load .ensures .0) ∙ c .before .before .loaded .given .1) (c .blank .ensures))
+    rw (← begin-values) (begun-answers (refused-table (now (a .bytes)) (a .p) (a .quota) (sym (d .load .ensures .0) ∙ c .before .before .loaded .given .1) (c .blank .ensures)))
 
 enum-told : tie.Need-enum-told
 enum-told c = search needs
@@ -95,7 +96,7 @@ returns-2 : tie.Need-returns-2
 returns-2 c =
     let d = c .before .before .before .before in
     let a = d .before .before .before .before .before .before .before .args in
-    begun-answers (refused-begin (known (d .before) .rules) (a .p) (a .quota) (sym (d .begin-fault .ensures) ∙ c .before .before .found .given .1) (c .blank2 .ensures))
+    rw (← begin-values) (begun-answers (refused-begin (known (d .before) .rules) (a .p) (a .quota) (sym (d .begin-fault .ensures) ∙ c .before .before .found .given .1) (c .blank2 .ensures)))
 
 enum-told-2 : tie.Need-enum-told-2
 enum-told-2 c = search needs
@@ -107,7 +108,7 @@ returns-3 : tie.Need-returns-3
 returns-3 c =
     let d = c .before .before .before in
     let a = d .before .before .before .before .before .before .before .args in
-    begun-answers (begun (known (d .before) .rules) (a .p) (a .quota) (sym (d .begin-fault .ensures) ∙ c .before .enum-told2 .given .1) (c .start .ensures))
+    rw (← begin-values) (begun-answers (begun (known (d .before) .rules) (a .p) (a .quota) (sym (d .begin-fault .ensures) ∙ c .before .enum-told2 .given .1) (c .start .ensures)))
 
 pub begin-spec : {M : Type 1} → statement M
 begin-spec =
