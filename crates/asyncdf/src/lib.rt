@@ -31,7 +31,7 @@ ghost use Rattle.schedule.specs.Values.{beginValues, turnValues, listValues, ro
 ghost use Rattle.schedule.specs.Begin.{begin as beginOf};
 ghost use Rattle.schedule.specs.Machine.{workerOf};
 ghost use Rattle.schedule.specs.Record.{stateOf};
-ghost use Rattle.schedule.specs.Sound.{Sound, countBelow};
+ghost use Rattle.schedule.specs.Sound.{Steady, countBelow};
 ghost use Rattle.schedule.specs.Turn.{turned as turnedOf};
 ghost use Rattle.schedule.specs.Listing.{listTurns};
 ghost use Rattle.schedule.specs.Runs.{listRun, roundsRun};
@@ -182,10 +182,10 @@ pub fn list_turns(run: Run, order: &[u8], out: &mut [u8], at: usize) -> usize
     put_turns(run, order, out, at)
 }
 
-// The number busy.
+// The number busy: of a record that is sound, turns taken apart, the workers that hold a thread.
 pub fn number_busy(run: Run) -> u32
     ensures { λ r. ⌜ r ≡ ones (run .busy) ⌝ }
-    ensures { λ r. ⌜ (Sound run → r ≡ countBelow (λ w. workerOf (stateOf run) w .holds) 16) ⌝ }
+    ensures { λ r. ⌜ (Steady run → r ≡ countBelow (λ w. workerOf (stateOf run) w .holds) 16) ⌝ }
 {
     u16::count_ones(run.busy)
 }
