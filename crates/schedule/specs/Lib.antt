@@ -10,4 +10,5 @@ pub mod Answers
 pub mod Values
 pub mod Listing
 pub mod Cases
+pub mod TurnCases
 pub mod Rule
