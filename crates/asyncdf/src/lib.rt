@@ -19,7 +19,6 @@ use soundness::test;
 use table::Found;
 use table::Loaded;
 use table::Refusal;
-use table::read::actions;
 use table::read::threads;
 ghost use mathlib.Core.Path.{_≡_};
 ghost use Prim.Native.Nat.{_+_, _*_};
@@ -28,10 +27,11 @@ ghost use lib.ListN.{length};
 ghost use Rattle.table.specs.Pass.{refusal};
 ghost use Rattle.schedule.specs.declared.Turning.the-variants.{Refused};
 ghost use Rattle.schedule.specs.Answers.{beginningValues, turningValues, reportValues};
+ghost use Rattle.schedule.specs.Values.{beginValues, turnValues, listValues, roundsValues};
 ghost use Rattle.schedule.specs.Begin.{begin as beginOf};
 ghost use Rattle.schedule.specs.Machine.{workerOf};
 ghost use Rattle.schedule.specs.Record.{stateOf};
-ghost use Rattle.schedule.specs.Sound.{Sound, countBelow};
+ghost use Rattle.schedule.specs.Sound.{Steady, countBelow};
 ghost use Rattle.schedule.specs.Turn.{turned as turnedOf};
 ghost use Rattle.schedule.specs.Listing.{listTurns};
 ghost use Rattle.schedule.specs.Runs.{listRun, roundsRun};
@@ -49,7 +49,7 @@ mod turns;
 // Beginning from a table's bytes, p and K: the table's own checks, then 20 to 22.
 pub fn begin(bytes: &[u8], p: u8, quota: u32) -> Begun
     ensures { λ r. ⌜ r ≡ beginOf (now (bytes .entry)) p quota ⌝ }
-    ensures { λ r. ⌜ beginningValues (r .answer) ≡ beginningValues (beginOf (now (bytes .entry)) p quota .answer) ⌝ }
+    ensures { λ r. ⌜ beginningValues (r .answer) ≡ beginValues (now (bytes .entry)) p quota ⌝ }
 {
     let loaded = table::load(bytes);
     if let Loaded::Refused(x) = loaded {
@@ -67,7 +67,7 @@ pub fn begin(bytes: &[u8], p: u8, quota: u32) -> Begun
     }
     Begun {
         answer: Beginning::Begun,
-        run: start(bytes, threads(bytes), actions(bytes), p, quota),
+        run: start(bytes, threads(bytes), p, quota),
     }
 }
 
@@ -83,7 +83,7 @@ fn refused(number: u8, run: Run) -> Turned
 // A single turn of worker w: 32, 30, 31, or the reply and the record after.
 pub fn turn(run: Run, w: u8) -> Turned
     ensures { λ r. ⌜ r ≡ turnedOf run w ⌝ }
-    ensures { λ r. ⌜ turningValues (r .answer) ≡ turningValues (turnedOf run w .answer) ⌝ }
+    ensures { λ r. ⌜ turningValues (r .answer) ≡ turnValues run w ⌝ }
 {
     let tested = test(run);
     if !tested.passed {
@@ -110,7 +110,7 @@ pub fn turn(run: Run, w: u8) -> Turned
 // A run over a list of workers.
 pub fn run_list(run: Run, order: &[u8]) -> Ran
     ensures { λ r. ⌜ r ≡ listRun run (now (order .entry)) ⌝ }
-    ensures { λ r. ⌜ reportValues (r .report) ≡ reportValues (listRun run (now (order .entry)) .report) ⌝ }
+    ensures { λ r. ⌜ reportValues (r .report) ≡ listValues run (now (order .entry)) ⌝ }
 {
     let tested = test(run);
     if !tested.passed {
@@ -137,7 +137,7 @@ pub fn run_list(run: Run, order: &[u8]) -> Ran
 // A run in rounds, of at most `limit` turns.
 pub fn run_rounds(run: Run, limit: u32) -> Ran
     ensures { λ r. ⌜ r ≡ roundsRun run limit ⌝ }
-    ensures { λ r. ⌜ reportValues (r .report) ≡ reportValues (roundsRun run limit .report) ⌝ }
+    ensures { λ r. ⌜ reportValues (r .report) ≡ roundsValues run limit ⌝ }
 {
     let tested = test(run);
     if !tested.passed {
@@ -182,10 +182,10 @@ pub fn list_turns(run: Run, order: &[u8], out: &mut [u8], at: usize) -> usize
     put_turns(run, &parents, order, out, at)
 }
 
-// The number busy.
+// The number busy: of a record that is sound, turns taken apart, the workers that hold a thread.
 pub fn number_busy(run: Run) -> u32
     ensures { λ r. ⌜ r ≡ ones (run .busy) ⌝ }
-    ensures { λ r. ⌜ (Sound run → r ≡ countBelow (λ w. workerOf (stateOf run) w .holds) 16) ⌝ }
+    ensures { λ r. ⌜ (Steady run → r ≡ countBelow (λ w. workerOf (stateOf run) w .holds) 16) ⌝ }
 {
     u16::count_ones(run.busy)
 }

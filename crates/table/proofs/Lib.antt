@@ -3,6 +3,7 @@ pub mod Sums
 pub mod Trying
 pub mod Sizes
 pub mod Passes
+pub mod Values
 pub mod Bodies
 pub mod Nesting
 pub mod Serial

@@ -21,7 +21,7 @@ ghost use mathlib.Core.Path.{_≡_};
 ghost use Rattle.table.specs.Format.{tableOf};
 ghost use Rattle.table.specs.Pass.{tryPass, firstFound};
 ghost use Rattle.table.specs.Rules.{balancePass, shapePasses};
-ghost use Rattle.table.specs.Load.{answer, factsOf, loaded, valuesOf};
+ghost use Rattle.table.specs.Load.{answer, factsOf, loaded, tableValues, valuesOf};
 ghost use Rattle.table.specs.Steps.{Headed, Nested};
 
 // What an accepted table tells: threads n, actions m, serial peak S1 and depth D.
@@ -52,7 +52,7 @@ pub enum Found {
 // The answer to any bytes.
 pub fn load(table: &[u8]) -> Loaded
     ensures { λ r. ⌜ r ≡ loaded (now (table .entry)) ⌝ }
-    ensures { λ r. ⌜ valuesOf r ≡ valuesOf (loaded (now (table .entry))) ⌝ }
+    ensures { λ r. ⌜ valuesOf r ≡ tableValues (now (table .entry)) ⌝ }
 {
     let found = head(table);
     if let Found::At(r) = found {

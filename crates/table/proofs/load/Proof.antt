@@ -11,7 +11,7 @@ use Rattle.table.specs.Format.{tableOf}
 use Rattle.table.specs.Pass.{tryPass, firstFound}
 use Rattle.table.specs.Rules.{headPass, balancePass, passes, shapePasses}
 use Rattle.table.specs.Accepted.{HeadRules}
-use Rattle.table.specs.Load.{answer, factsOf, loaded, valuesOf}
+use Rattle.table.specs.Load.{answer, factsOf, loaded, tableValues, valuesOf}
 use Rattle.table.specs.Steps.{Headed, Nested}
 use Rattle.table.specs.declared.Refusal.{Refusal}
 use Rattle.table.specs.declared.Found.the-variants.{Nothing, At}
@@ -19,6 +19,7 @@ use Rattle.table.specs.declared.Loaded.{Loaded}
 use Rattle.table.specs.declared.Loaded.the-variants.{Refused}
 use Rattle.table.proofs.Trying.{orElse-last}
 use Rattle.table.proofs.Passes.{firstFound-nothing, firstFound-append, head-rules, content-rules, body-rules, nest-rules, fork-rules}
+use Rattle.table.proofs.Values.{table-values}
 use Rattle.table.proofs.load.Statement.{statement}
 use Rattle.table.proofs.load.Tie as tie
 
@@ -59,8 +60,8 @@ reached : (c : tie.After-actions) → Headed (now (c .before .before .before .be
 reached c = record { head = passed (c .before .before); threads = c .before .threads .ensures .value; actions = c .actions .ensures .value }
 
 -- and so are its values
-answered : {x y : Loaded} → x ≡ y → (x ≡ y) × (valuesOf x ≡ valuesOf y)
-answered e = (e, ap valuesOf e)
+answered : (s : List ℕ) {x : Loaded} → x ≡ loaded s → (x ≡ loaded s) × (valuesOf x ≡ tableValues s)
+answered s e = (e, ap valuesOf e ∙ table-values s)
 
 head-requires : tie.Need-head-requires
 head-requires c κs = search needs
@@ -69,7 +70,7 @@ enum-known-found : tie.Need-enum-known-found
 enum-known-found c = search needs
 
 returns : tie.Need-returns
-returns c = answered (refused-head (now (c .before .before .before .before .before .args .table)) (sym (c .before .before .before .head .ensures) ∙ c .before .found .given .1))
+returns c = answered _ (refused-head (now (c .before .before .before .before .before .args .table)) (sym (c .before .before .before .head .ensures) ∙ c .before .found .given .1))
 
 enum-told : tie.Need-enum-told
 enum-told c = search needs
@@ -88,7 +89,7 @@ enum-known-found-2 c = search needs
 
 returns-2 : tie.Need-returns-2
 returns-2 c =
-    answered (refused-shape (reached (c .before .before .before .before)) (sym (c .before .before .before .shape .ensures) ∙ c .before .found2 .given .1))
+    answered _ (refused-shape (reached (c .before .before .before .before)) (sym (c .before .before .before .shape .ensures) ∙ c .before .found2 .given .1))
 
 enum-told-2 : tie.Need-enum-told-2
 enum-told-2 c = search needs
@@ -98,7 +99,7 @@ weigh-requires c κs = nested (reached (c .before .before .before)) (sym (c .bef
 
 returns-3 : tie.Need-returns-3
 returns-3 c =
-    answered (c .weigh .ensures
+    answered _ (c .weigh .ensures
     ∙ rest (reached (c .before .before .before .before)) (sym (c .before .before .before .shape .ensures) ∙ c .before .enum-told2 .given .1))
 
 pub load-spec : {M : Type 1} → statement M
