@@ -45,9 +45,9 @@ body-room {s} {t = t} l h =
     omega (arith, l .headed .threads, l .headed .actions, sizes (l .headed), body-within (tableOf s) (l .contents) t (omega (arith, l .headed .threads)))
 
 -- what taking it asks
-pub body-there : {s : List ℕ} {n m t : ℕ} → Laid s n m → t < n → (n ≡ threadsOf s) × (t < n) × (4 + 4 * n + 4 * tableOf s .first t ≤ length s)
+pub body-there : {s : List ℕ} {n m t : ℕ} → Laid s n m → t < n → (n ≡ threadsOf s) × (4 + 4 * n + 4 * tableOf s .first t ≤ length s)
 unfolding tableOf
-body-there l h = (l .headed .threads, h, omega (arith, body-room l h))
+body-there l h = (l .headed .threads, omega (arith, body-room l h))
 
 pub code-part : (l : List ℕ) (f i : ℕ) → codeAt (drop (4 * f) l) i ≡ codeAt l (f + i)
 code-part l f i = simp (getD-drop, mul-add)

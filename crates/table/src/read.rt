@@ -1,4 +1,4 @@
-// Numbers, actions and bodies out of bytes. What other crates call takes any bytes, and past their end there are zeros.
+// Numbers, actions and bodies out of bytes. What other crates may call takes any bytes, and reads zeros past their end.
 use crate::Found;
 use crate::Refusal;
 ghost use mathlib.Core.Path.{_≡_};
@@ -39,7 +39,7 @@ fn double_word(s: &[u8], i: usize) -> usize
     wide(s[i]) + 256 * wide(s[i + 1]) + 65536 * wide(s[i + 2]) + 16777216 * wide(s[i + 3])
 }
 
-// The four bytes of entry or action a of a list of them, or what there is of it.
+// The four bytes of number a in a list of entries or of actions. One test where they are all there, which is the usual case.
 fn item(l: &[u8], a: usize) -> usize
     ensures { λ r. ⌜ DoubleWord (now (l .entry)) (4 * a) r ⌝ }
 {
@@ -68,7 +68,7 @@ pub fn actions(table: &[u8]) -> usize
     word(table, 2)
 }
 
-// The actions of a table of n threads; after the head, what stands there of one of none is its contents.
+// What stands after the head and n entries: the actions of a table of n threads, and with n 0 its contents.
 pub(crate) fn bodies(table: &[u8], n: usize) -> &[u8]
     ensures { λ r. ⌜ now r ≡ bodiesFrom (now (table .entry)) n ⌝ }
 {
@@ -110,14 +110,14 @@ pub fn argument(table: &[u8], n: usize, a: usize) -> usize
 
 // Thread t's body, with all that follows it.
 pub(crate) fn body_of(table: &[u8], n: usize, t: usize) -> &[u8]
-    requires { ⌜ (n ≡ threadsOf (now table)) × (t < n) × (4 + 4 * n + 4 * tableOf (now table) .first t ≤ length (now table)) ⌝ }
+    requires { ⌜ (n ≡ threadsOf (now table)) × (4 + 4 * n + 4 * tableOf (now table) .first t ≤ length (now table)) ⌝ }
     ensures { λ r. ⌜ now r ≡ bodyOf (now (table .entry)) t ⌝ }
 {
     let start = 4 + 4 * n + 4 * first(table, t);
     &table[start..]
 }
 
-// The code and the argument of an action that is known to be there, for the loader's walks over a list of actions: no test at each action.
+// The code and the argument of an action that is known to be there: the loader's walks have no test at each action.
 pub(crate) fn code_at(l: &[u8], a: usize) -> u8
     requires { ⌜ 4 * a + 3 < length (now l) ⌝ }
     ensures { λ r. ⌜ r ≡ codeAt (now (l .entry)) a ⌝ }

@@ -1,12 +1,9 @@
 -- `table::load` meets its contract: the head, the passes between and the balances, each the next where the one before found nothing.
 use mathlib.Core.Path.{_≡_, sym, ap, _∙_}
-use Prim.Native.Nat.{ℕ, _≤_}
+use Prim.Native.Nat.{ℕ}
 use mathlib.Core.List.{List}
-use native.Mathlib.Omega.{arith}
 use borrow.Author.Needs.{needs}
-use borrow.Author.Tests.{ltb-false}
 use denote.Ref.{now}
-use lib.ListN.{length}
 use Rattle.table.specs.Format.{tableOf}
 use Rattle.table.specs.Pass.{tryPass, firstFound}
 use Rattle.table.specs.Rules.{headPass, balancePass, passes, shapePasses}

@@ -50,8 +50,8 @@ fill-next-requires c κs = search needs
 array-write-status : tie.Need-array-write-status
 array-write-status c = search needs
 
-cast-t16 : tie.Need-cast-t16
-cast-t16 c = omega (arith, accepted-sizes (c .before .before .before .before .before .pre))
+cast-t15 : tie.Need-cast-t15
+cast-t15 c = omega (arith, accepted-sizes (c .before .before .before .before .before .pre))
 
 returns : tie.Need-returns
 returns c =
@@ -61,4 +61,4 @@ returns c =
 
 pub start-spec : {M : Type 1} → statement M
 start-spec =
-    tie.close (tie.spec copy-requires fill-next-requires array-write-status cast-t16 returns)
+    tie.close (tie.spec copy-requires fill-next-requires array-write-status cast-t15 returns)

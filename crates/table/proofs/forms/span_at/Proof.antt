@@ -23,7 +23,7 @@ module _ {s : List ℕ} {n m own stop a : ℕ} (l : Laid s n m) (r : Reached (ta
           let e : suc own ≡ tableOf s .threads = omega (arith, r .thread) in
           absurd (omega (arith, last-ends (tableOf s) (l .contents) own e, r .stops, r .within))
 
-  -- enough for the reads and sums
+  -- enough for the sums
   room : Sizes s n m × (own + 1 < n) × (stop ≤ 8192)
   unfolding tableOf
   room =
