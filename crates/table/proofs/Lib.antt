@@ -5,10 +5,12 @@ pub mod Sizes
 pub mod Passes
 pub mod Bodies
 pub mod Nesting
+pub mod Unjoined
 pub mod Serial
 pub mod Rank
 pub mod Levels
 pub mod Amounts
+pub mod Balances
 pub mod Peaks
 pub mod Stack
 pub mod Parts

@@ -4,6 +4,7 @@ pub mod Pass
 pub mod First
 pub mod Rules
 pub mod Accepted
+pub mod JobTable
 pub mod Serial
 pub mod Level
 pub mod Steps
