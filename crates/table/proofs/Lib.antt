@@ -6,6 +6,8 @@ pub mod Passes
 pub mod Bodies
 pub mod Nesting
 pub mod Unjoined
+pub mod WellFormed
+pub mod WellNested
 pub mod Serial
 pub mod Rank
 pub mod Levels
