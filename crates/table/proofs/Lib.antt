@@ -13,6 +13,7 @@ pub mod Rank
 pub mod Levels
 pub mod Amounts
 pub mod Balances
+pub mod JobTables
 pub mod Peaks
 pub mod Stack
 pub mod Parts

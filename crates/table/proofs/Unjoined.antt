@@ -141,11 +141,11 @@ module _ (T : Table) (t a : ℕ) where
       to-either : (x : ℕ) → (x ≡ a) ⊎ List·Memᴰ x l → Unjoined T t (suc a) (T .argument x) x
       to-either x (inl e) =
           let u : Unjoined T t (suc a) (T .argument a) a =
-              record {
-                forked = record { within = i; of-kind = k; named = refl };
-                before = omega arith;
-                not-yet = λ j q h. joined j q h (ℕ-discrete j a);
-              } in
+          record {
+            forked = record { within = i; of-kind = k; named = refl };
+            before = omega arith;
+            not-yet = λ j q h. joined j q h (ℕ-discrete j a);
+          } in
           rw e u
         where
           joined : (j : ℕ) → Names T join t (T .argument a) j → j < suc a → Dec (j ≡ a) → ⊥
@@ -209,7 +209,7 @@ module _ (T : Table) (c : ContentRules T) (b : BodyRules T) (m : ℕ) (n : Neste
   fork-fresh : (a : ℕ) → a < m → a < T .actions → kind T a ≡ fork → (j : ℕ) → Names T join (owner T a) (T .argument a) j → j < a → ⊥
   fork-fresh a h w k j q l =
       let o : map (T .argument) (openForks T j) ≡ T .argument a ∷ openBefore T (suc j) =
-          sym (open-children T j) ∙ n .latest j (omega arith) (q .of-kind) ∙ ap (λ (d : ℕ). d ∷ openBefore T (suc j)) (q .named) in
+      sym (open-children T j) ∙ n .latest j (omega arith) (q .of-kind) ∙ ap (λ (d : ℕ). d ∷ openBefore T (suc j)) (q .named) in
       let there : List·Memᴰ (T .argument a) (map (T .argument) (openForks T j)) = rw o (List·Memᴰ·head refl) in
       let (y, i, e) = Memᴰ·of-map (T .argument) (openForks T j) there in
       let p = openForks-before T c b j y (omega arith) i in

@@ -94,8 +94,8 @@ module _ (T : Table) (t : ℕ) where
   child-fits : (x : ℕ) → ((ltb t x && ltb x (T .threads)) ≡ true) ↔ ((t < x) × (x < T .threads))
   child-fits x = (
     (λ h.
-      let (p, q) = and-both (ltb t x) (ltb x (T .threads)) h in
-      (ltb-true t x p, ltb-true x (T .threads) q)),
+        let (p, q) = and-both (ltb t x) (ltb x (T .threads)) h in
+        (ltb-true t x p, ltb-true x (T .threads) q)),
     (λ h. rw (lt-ltb t x (h .0)) (lt-ltb x (T .threads) (h .1))),
   )
 

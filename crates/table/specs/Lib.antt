@@ -10,4 +10,5 @@ pub mod Level
 pub mod Steps
 pub mod Load
 pub mod Cases
+pub mod JobCases
 pub mod Wrong

@@ -1,0 +1,80 @@
+-- A table is accepted exactly when it is a job table in the paper's words, and then with its n, m, S1 and D.
+use mathlib.Core.Path.{_≡_, refl, sym, _∙_, ap}
+use mathlib.Core.Logic.{_↔_, Iff·trans}
+use Prim.Native.Nat.{ℕ, _<_}
+use mathlib.Core.List.{List}
+use native.Mathlib.Omega.{arith}
+use lib.IntN.{pos}
+use Rattle.table.specs.Format.{Table, tableOf}
+use Rattle.table.specs.Rules.{balance}
+use Rattle.table.specs.Accepted.{ContentRules, BodyRules, NestRules, ForkRules, BalanceRules, Rules}
+use Rattle.table.specs.JobTable.{Sized, Balanced, JobTable}
+use Rattle.table.specs.Load.{factsOf, loaded}
+use Rattle.table.specs.declared.Facts.{Facts}
+use Rattle.table.specs.declared.Loaded.the-variants.{Accepted}
+use Rattle.table.proofs.Passes.{accepted-exactly, accepted-facts}
+use Rattle.table.proofs.Balances.{balance-is, balance-only, balance-natural}
+use Rattle.table.proofs.WellFormed.{head-sized, contents-laid, laid-contents, bodies-exactly}
+use Rattle.table.proofs.WellNested.{nested-exactly}
+
+pub balances-exactly : (T : Table) → ContentRules T → BodyRules T → BalanceRules T ↔ Balanced T
+balances-exactly T c b = (
+  (λ r.
+      record {
+        after = balance T;
+        balance = balance-is T c b;
+        never-below = λ a h. balance-natural T a .0 (r .balanced a h);
+      }),
+  (λ w.
+      record {
+        balanced = λ a h.
+            let (k, e) = w .never-below a h in
+            balance-natural T a .1 (k, sym (balance-only T c b (w .after) (w .balance) a h) ∙ e);
+      }),
+)
+
+some-thread : (s : List ℕ) → Sized s → 0 < tableOf s .threads
+unfolding tableOf
+some-thread s z = z .threads-least
+
+pub job-table-exactly : (s : List ℕ) → JobTable s ↔ Rules s
+job-table-exactly s = (to, from)
+  where
+    T : Table
+    T = tableOf s
+
+    to : JobTable s → Rules s
+    to j =
+        let c : ContentRules T = laid-contents T (some-thread s (j .sized)) (j .laid) (j .formed) in
+        let b : BodyRules T = bodies-exactly T c .1 (j .formed) in
+        let n : NestRules T × ForkRules T = nested-exactly T c b .1 (j .forked, j .nested) in
+        record {
+          head = head-sized s .1 (j .sized);
+          contents = c;
+          bodies = b;
+          nesting = n .0;
+          forking = n .1;
+          balances = balances-exactly T c b .1 (j .balanced);
+        }
+
+    from : Rules s → JobTable s
+    from r =
+        let z : Sized s = head-sized s .0 (r .head) in
+        let n = nested-exactly T (r .contents) (r .bodies) .0 (r .nesting, r .forking) in
+        record {
+          sized = z;
+          laid = contents-laid T (some-thread s z) (r .contents);
+          formed = bodies-exactly T (r .contents) .0 (r .bodies);
+          forked = n .0;
+          nested = n .1;
+          balanced = balances-exactly T (r .contents) (r .bodies) .0 (r .balances);
+        }
+
+-- what loading accepts: the job tables, each with its own facts
+pub accepted-job-table : (s : List ℕ) (f : Facts) → (loaded s ≡ Accepted f) ↔ (JobTable s × (f ≡ factsOf (tableOf s)))
+accepted-job-table s f = (
+  (λ h.
+      let e : f ≡ factsOf (tableOf s) = accepted-facts s f h in
+      (job-table-exactly s .1 (accepted-exactly s .0 (rw e at h)), e)),
+  (λ (j, e). rw e (accepted-exactly s .1 (job-table-exactly s .0 j))),
+)
