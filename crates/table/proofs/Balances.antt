@@ -1,18 +1,18 @@
--- The balance of specs/Rules is the one of document 01's sentence, and the only one; from action to action it moves by what the action counts. This holds of every table that passes
+-- The balance of specs/Rules is the one of document 01's sentence, and the only one; from action to action it changes by what the action moves. This holds of every table that passes
 -- checks 1 to 7, also where a balance falls below 0.
 use mathlib.Core.Path.{_≡_, refl, sym, _∙_, ap}
 use mathlib.Core.Logic.{_↔_}
 use Prim.Native.Nat.{ℕ, zero, suc, pred, _+_, _-_, _≤_, _<_}
-use mathlib.Core.Bool.{Bool, true, false}
-use native.Mathlib.Nat.{add-suc, add-zero, zero-add}
+use mathlib.Core.Bool.{false}
+use native.Mathlib.Nat.{add-zero, zero-add}
 use native.Mathlib.Omega.{arith}
 use borrow.Author.Tests.{le-ltb}
 use lib.IntN.{ℤ, pos, negsuc, negℤ, subℕ, _+ℤ_, +ℤ-idl, +ℤ-assoc, +ℤ-comm, negℤ-+ℤ}
 use Rattle.table.specs.Sum.{pick, sumTo}
 use Rattle.table.specs.Format.{Kind, end, work, alloc, free, fork, join, unknown, codeOf, is, Table, kind}
-use Rattle.table.specs.Rules.{owner, endOf, allocOf, freeOf, withChild, whole, partOf, upTo, balance, negative, balanceBelow0}
+use Rattle.table.specs.Rules.{owner, endOf, allocOf, freeOf, withChild, whole, partOf, balance, negative, balanceBelow0}
 use Rattle.table.specs.Accepted.{ContentRules, BodyRules}
-use Rattle.table.specs.JobTable.{InBody, sumSigned, counts, countsAt, IsBalance}
+use Rattle.table.specs.JobTable.{InBody, sumSigned, moves, movesAt, IsBalance}
 use Rattle.table.proofs.Tests.{no-way}
 use Rattle.table.proofs.Bodies.{count-pos, after-end, owner-at, owner-below, owner-first, owner-end, join-above, join-below}
 use Rattle.table.proofs.Serial.{downward}
@@ -51,28 +51,28 @@ sumSigned-cong f g (suc k) h = rw (sumSigned-cong f g k (λ i l. h i (omega arit
 
 -- ---- one action
 
--- what an action counts, as the difference of what it draws and what it gives back
-counts-difference : (k : Kind) (x up down : ℕ) (final : ℤ) → (k ≡ join → final ≡ subℕ up down)
-    → subℕ (pick (is alloc k) x 0 + pick (is join k) up 0) (pick (is free k) x 0 + pick (is join k) down 0) ≡ counts k x final
+-- by how much an action moves the balance, as the difference of what it draws and what it gives back
+moves-difference : (k : Kind) (x up down : ℕ) (final : ℤ) → (k ≡ join → final ≡ subℕ up down)
+    → subℕ (pick (is alloc k) x 0 + pick (is join k) up 0) (pick (is free k) x 0 + pick (is join k) down 0) ≡ moves k x final
 unfolding is codeOf
-counts-difference end x up down final h = refl
-counts-difference work x up down final h = refl
-counts-difference alloc x up down final h = difference-zero (x + 0) ∙ ap pos (add-zero x)
-counts-difference free x up down final h = rw add-zero (difference-is 0 x ∙ +ℤ-idl (negℤ (pos x)))
-counts-difference fork x up down final h = refl
-counts-difference join x up down final h =
+moves-difference end x up down final h = refl
+moves-difference work x up down final h = refl
+moves-difference alloc x up down final h = difference-zero (x + 0) ∙ ap pos (add-zero x)
+moves-difference free x up down final h = ap (subℕ 0) (add-zero x) ∙ difference-is 0 x ∙ +ℤ-idl (negℤ (pos x))
+moves-difference fork x up down final h = refl
+moves-difference join x up down final h =
     ap (λ (y : ℕ). subℕ y (0 + down)) (zero-add up) ∙ ap (subℕ up) (zero-add down) ∙ sym (h refl)
-counts-difference unknown x up down final h = refl
+moves-difference unknown x up down final h = refl
 
--- only a join counts a child
-counts-cong : (k : Kind) (x : ℕ) (y z : ℤ) → (k ≡ join → y ≡ z) → counts k x y ≡ counts k x z
-counts-cong end x y z h = refl
-counts-cong work x y z h = refl
-counts-cong alloc x y z h = refl
-counts-cong free x y z h = refl
-counts-cong fork x y z h = refl
-counts-cong join x y z h = h refl
-counts-cong unknown x y z h = refl
+-- only a join looks at the child
+moves-cong : (k : Kind) (x : ℕ) (y z : ℤ) → (k ≡ join → y ≡ z) → moves k x y ≡ moves k x z
+moves-cong end x y z h = refl
+moves-cong work x y z h = refl
+moves-cong alloc x y z h = refl
+moves-cong free x y z h = refl
+moves-cong fork x y z h = refl
+moves-cong join x y z h = h refl
+moves-cong unknown x y z h = refl
 
 -- ---- the sentence
 
@@ -94,21 +94,21 @@ module _ (T : Table) (c : ContentRules T) (b : BodyRules T) where
       rw (whole-is T c b (allocOf T) t h, whole-is T c b (freeOf T) t h, ← e)
       (balance-at t (pred (T .count t)) h (omega (arith, count-pos T c t h)) ∙ rw s)
 
-  counts-at : (a : ℕ) → a < T .actions
-      → subℕ (withChild T join (allocOf T) (whole T (allocOf T)) a) (withChild T join (freeOf T) (whole T (freeOf T)) a) ≡ countsAt T (balance T) a
+  moves-at : (a : ℕ) → a < T .actions
+      → subℕ (withChild T join (allocOf T) (whole T (allocOf T)) a) (withChild T join (freeOf T) (whole T (freeOf T)) a) ≡ movesAt T (balance T) a
   unfolding allocOf freeOf
-  counts-at a h =
-      counts-difference (kind T a) (T .argument a) (whole T (allocOf T) (T .argument a)) (whole T (freeOf T) (T .argument a))
+  moves-at a h =
+      moves-difference (kind T a) (T .argument a) (whole T (allocOf T) (T .argument a)) (whole T (freeOf T) (T .argument a))
       (balance T (endOf T (T .argument a)))
       (λ k. balance-final (T .argument a) (join-below T c b a h k))
 
   balance-sum : (t k : ℕ) → t < T .threads → k ≤ T .count t
-      → subℕ (partOf T (allocOf T) t k) (partOf T (freeOf T) t k) ≡ sumSigned (λ i. countsAt T (balance T) (T .first t + i)) k
+      → subℕ (partOf T (allocOf T) t k) (partOf T (freeOf T) t k) ≡ sumSigned (λ i. movesAt T (balance T) (T .first t + i)) k
   unfolding sumTo sumSigned
   balance-sum t zero h i = refl
   balance-sum t (suc k) h i =
       difference-sum (partOf T (allocOf T) t k) _ (partOf T (freeOf T) t k) _
-      ∙ rw (balance-sum t k h (omega arith), counts-at (T .first t + k) (action-within T c b t k h i))
+      ∙ rw (balance-sum t k h (omega arith), moves-at (T .first t + k) (action-within T c b t k h i))
 
   -- "A thread's balance after an action is its allocs less its frees so far, plus the final balances of the children joined so far."
   pub balance-is : IsBalance T (balance T)
@@ -133,24 +133,24 @@ module _ (T : Table) (c : ContentRules T) (b : BodyRules T) where
           ∙ sumSigned-cong _ _ (suc k) (λ j l.
           let a : ℕ = T .first t + j in
           let w : a < T .actions = action-within T c b t j h (omega arith) in
-          counts-cong (kind T a) (T .argument a) _ _ (λ e.
+          moves-cong (kind T a) (T .argument a) _ _ (λ e.
           let d : T .argument a < T .threads = join-below T c b a w e in
           final (T .argument a) d (ih (T .argument a) (rw (owner-at T c t j h (omega arith)) at (join-above T c b a w e)) d)))
           ∙ sym (balance-is t k h i)
 
-  -- before a thread's first action it is 0, and each action moves it by what it counts: an alloc by its argument up, a free by its argument down, a join by
+  -- before a thread's first action it is 0, and each action moves it: an alloc by its argument up, a free by its argument down, a join by
   -- the child's final balance, any other not at all
-  pub balance-first : (t : ℕ) → t < T .threads → balance T (T .first t) ≡ countsAt T (balance T) (T .first t)
+  pub balance-first : (t : ℕ) → t < T .threads → balance T (T .first t) ≡ movesAt T (balance T) (T .first t)
   unfolding sumSigned
   balance-first t h = rw add-zero at (balance-is t 0 h (count-pos T c t h)) ∙ +ℤ-idl _
 
   balance-step : (t k : ℕ) → t < T .threads → suc k < T .count t
-      → balance T (T .first t + suc k) ≡ balance T (T .first t + k) +ℤ countsAt T (balance T) (T .first t + suc k)
+      → balance T (T .first t + suc k) ≡ balance T (T .first t + k) +ℤ movesAt T (balance T) (T .first t + suc k)
   unfolding sumSigned
   balance-step t k h i =
-      balance-is t (suc k) h i ∙ ap (λ (z : ℤ). z +ℤ countsAt T (balance T) (T .first t + suc k)) (sym (balance-is t k h (omega arith)))
+      balance-is t (suc k) h i ∙ ap (λ (z : ℤ). z +ℤ movesAt T (balance T) (T .first t + suc k)) (sym (balance-is t k h (omega arith)))
 
-  pub balance-next : (t a : ℕ) → InBody T t a → InBody T t (suc a) → balance T (suc a) ≡ balance T a +ℤ countsAt T (balance T) (suc a)
+  pub balance-next : (t a : ℕ) → InBody T t a → InBody T t (suc a) → balance T (suc a) ≡ balance T a +ℤ movesAt T (balance T) (suc a)
   balance-next t a i j =
       let k : ℕ = a - T .first t in
       let e : T .first t + k ≡ a = omega (arith, i .from) in

@@ -1,14 +1,12 @@
 -- A table is accepted exactly when it is a job table in the paper's words, and then with its n, m, S1 and D.
-use mathlib.Core.Path.{_≡_, refl, sym, _∙_, ap}
-use mathlib.Core.Logic.{_↔_, Iff·trans}
+use mathlib.Core.Path.{_≡_, sym, _∙_}
+use mathlib.Core.Logic.{_↔_}
 use Prim.Native.Nat.{ℕ, _<_}
 use mathlib.Core.List.{List}
-use native.Mathlib.Omega.{arith}
-use lib.IntN.{pos}
-use Rattle.table.specs.Format.{Table, tableOf}
+use Rattle.table.specs.Format.{fork, Table, tableOf}
 use Rattle.table.specs.Rules.{balance}
 use Rattle.table.specs.Accepted.{ContentRules, BodyRules, NestRules, ForkRules, BalanceRules, Rules}
-use Rattle.table.specs.JobTable.{Sized, Balanced, JobTable}
+use Rattle.table.specs.JobTable.{Sized, Names, Balanced, JobTable}
 use Rattle.table.specs.Load.{factsOf, loaded}
 use Rattle.table.specs.declared.Facts.{Facts}
 use Rattle.table.specs.declared.Loaded.the-variants.{Accepted}
@@ -69,6 +67,12 @@ job-table-exactly s = (to, from)
           nested = n .1;
           balanced = balances-exactly T (r .contents) (r .bodies) .0 (r .balances);
         }
+
+-- a thread is forked by one of a lower number
+pub parent-lower : (s : List ℕ) → JobTable s → (t c a : ℕ) → Names (tableOf s) fork t c a → t < c
+parent-lower s j t c a q =
+    let p : (t < c) × (c < tableOf s .threads) = rw (q .of-kind, q .named) at (j .formed .arguments t a (q .within)) in
+    p .0
 
 -- what loading accepts: the job tables, each with its own facts
 pub accepted-job-table : (s : List ℕ) (f : Facts) → (loaded s ≡ Accepted f) ↔ (JobTable s × (f ≡ factsOf (tableOf s)))

@@ -78,7 +78,7 @@ pub record NestedBelow (T : Table) (m : ℕ) : Type 0 where
   pub once : (x y : ℕ) → x < m → y < m → kind T x ≡ fork → kind T y ≡ fork → T .argument x ≡ T .argument y → x ≡ y
   pub latest : (j : ℕ) → j < m → kind T j ≡ join → openBefore T j ≡ T .argument j ∷ openBefore T (suc j)
 
--- "the children that its thread has forked and not yet joined, the latest first", by their forks
+-- the children that a thread has forked and not yet joined before action a, the latest first, by their forks
 pub record OpenForks (T : Table) (t a : ℕ) (children : List ℕ) : Type 0 where
   pub forks : List ℕ
   pub of-forks : children ≡ map (T .argument) forks
@@ -258,6 +258,13 @@ open-exactly T t a l o d = (to, from)
         let e : T .argument x ≡ d = u .forked .named in
         rw (o .of-forks) (Memᴰ·cast (sym e) (Memᴰ·map (T .argument) (o .exactly x .1 (rw e u))))
 
--- the tables that pass checks 1 to 9
-pub nested-below : (T : Table) → ContentRules T → BodyRules T → NestRules T → NestedBelow T (T .actions)
-nested-below T c b n = record { once = fork-once T c b n; latest = open-join T c b n }
+-- ---- tables that pass checks 1 to 9
+
+module _ (T : Table) (c : ContentRules T) (b : BodyRules T) (n : NestRules T) where
+  nested-below : NestedBelow T (T .actions)
+  nested-below = record { once = fork-once T c b n; latest = open-join T c b n }
+
+  pub rules-unjoined : (t a : ℕ) → InBody T t a → OpenForks T t a (openBefore T a)
+  rules-unjoined t a i =
+      let h : a < T .actions = body-action T c t a i in
+      rw (body-owner T c t a i) at (open-unjoined T c b (T .actions) nested-below a (omega arith) h)

@@ -1,13 +1,13 @@
 -- Checks 1 to 7 against the sentences: sizes, bodies that follow each other, kinds, arguments, one end in each body. Both ways.
-use mathlib.Core.Path.{_≡_, refl, sym, _∙_, ap}
+use mathlib.Core.Path.{_≡_, refl, sym, _∙_}
 use mathlib.Core.Logic.{_↔_}
 use Prim.Native.Nat.{ℕ, zero, suc, _+_, _*_, _≤_, _<_}
 use mathlib.Core.List.{List}
-use mathlib.Core.Bool.{Bool, true, false, not, _&&_}
+use mathlib.Core.Bool.{Bool, true, false, _&&_}
 use native.Mathlib.Decide.{ℕ-discrete}
 use native.Mathlib.Omega.{arith}
 use borrow.Author.Tests.{le-ltb, lt-ltb, le-leb, leb-true, ltb-true, eqb-true, eq-eqb, ne-eqb, not-false}
-use lib.Dec.{ltb, leb, eqb}
+use lib.Dec.{ltb, eqb}
 use lib.ListN.{length}
 use Rattle.table.specs.Sum.{sumTo}
 use Rattle.table.specs.Format.{Kind, end, work, alloc, free, fork, join, unknown, codeOf, kindOf, is, Table, kind, threadsOf, actionsOf}
@@ -17,7 +17,7 @@ use Rattle.table.specs.Steps.{Headed}
 use Rattle.table.specs.JobTable.{Sized, InBody, LaidOut, Argument, OneEnd, WellFormed}
 use Rattle.table.proofs.Tests.{no-way, and-both, is-true, same-is}
 use Rattle.table.proofs.Sizes.{Sizes, sizes}
-use Rattle.table.proofs.Bodies.{first-is, first-next, last-ends, after-end, count-pos, end-within, owner-of-end, owner-below, owner-first, owner-end, kind-known, end-kind, end-last}
+use Rattle.table.proofs.Bodies.{first-is, first-next, last-ends, after-end, end-within, owner-of-end, owner-below, kind-known, end-kind, end-last}
 use Rattle.table.proofs.Unjoined.{in-body, body-owner, body-action}
 
 -- ---- the head

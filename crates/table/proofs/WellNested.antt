@@ -1,21 +1,21 @@
 -- Checks 8, 9 and 11 against the sentences: each thread but the root is forked exactly once, a join names the latest unjoined child, and an end leaves none. Both ways.
-use mathlib.Core.Path.{_≡_, refl, sym, _∙_, ap}
+use mathlib.Core.Path.{_≡_, refl, sym, _∙_}
 use mathlib.Core.Logic.{_↔_, _⊎_, inl, inr}
 use Prim.Native.Nat.{ℕ, zero, suc, _≤_, _<_}
-use mathlib.Core.List.{List, [], _∷_, map, List·Memᴰ, List·Memᴰ·head, List·Memᴰ·tail, List·Memᴰ·not-nil, List·Memᴰ·cases-cons}
+use mathlib.Core.List.{List, [], _∷_, map, List·Memᴰ, List·Memᴰ·head, List·Memᴰ·not-nil, List·Memᴰ·cases-cons}
 use mathlib.Core.Bool.{Bool, true, false, not, _&&_}
 use native.Mathlib.Decide.{ℕ-discrete}
 use native.Mathlib.Omega.{arith}
 use borrow.Author.Tests.{eq-eqb}
 use Rattle.table.specs.Sum.{anyBelow}
 use Rattle.table.specs.Format.{Kind, end, fork, join, is, Table, kind}
-use Rattle.table.specs.Rules.{owner, forks, forkedBelow, forkedBefore, tail, openBefore, isLatest, isEmpty, joinNotLatest, endWithOpen, neverForked}
+use Rattle.table.specs.Rules.{owner, forks, forkedBelow, forkedBefore, tail, openBefore, isLatest, joinNotLatest, endWithOpen, neverForked}
 use Rattle.table.specs.Accepted.{ContentRules, BodyRules, NestRules, ForkRules}
 use Rattle.table.specs.JobTable.{InBody, Names, ForkedOnce, Unjoined, Latest, WellNested}
 use Rattle.table.proofs.Tests.{no-way, is-true}
 use Rattle.table.proofs.Bodies.{fork-above, fork-below}
 use Rattle.table.proofs.Nesting.{some-anyBelow, anyBelow-true, forks-true, fork-forks, fork-once, fork-exists, open-join, open-end}
-use Rattle.table.proofs.Unjoined.{in-body, body-owner, body-action, Falling, NestedBelow, OpenForks, open-unjoined, nested-below}
+use Rattle.table.proofs.Unjoined.{in-body, body-action, Falling, NestedBelow, OpenForks, open-unjoined, rules-unjoined}
 
 -- every thread but the root is forked exactly once
 abbrev pub Forked : Table → Type 0
@@ -69,19 +69,14 @@ module _ (T : Table) (t a : ℕ) where
 -- ---- from the checks
 
 module _ (T : Table) (c : ContentRules T) (b : BodyRules T) (n : NestRules T) where
-  opens : (t a : ℕ) → InBody T t a → OpenForks T t a (openBefore T a)
-  opens t a i =
-      let h : a < T .actions = body-action T c t a i in
-      rw (body-owner T c t a i) at (open-unjoined T c b (T .actions) (nested-below T c b n) a (omega arith) h)
-
   rules-nested : WellNested T
   rules-nested =
       record {
         joins = λ t d a q.
             let i : InBody T t a = q .within in
             let e : openBefore T a ≡ T .argument a ∷ openBefore T (suc a) = open-join T c b n a (body-action T c t a i) (q .of-kind) in
-            head-latest T t a d (openBefore T a) (openBefore T (suc a)) (opens t a i) (rw (q .named) at e);
-        ends = λ t a i k. empty-none T t a (rw (open-end T c b n a (body-action T c t a i) k) at (opens t a i));
+            head-latest T t a d (openBefore T a) (openBefore T (suc a)) (rules-unjoined T c b n t a i) (rw (q .named) at e);
+        ends = λ t a i k. empty-none T t a (rw (open-end T c b n a (body-action T c t a i) k) at (rules-unjoined T c b n t a i));
       }
 
   rules-forked : ForkRules T → Forked T

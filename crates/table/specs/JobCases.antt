@@ -3,11 +3,11 @@ use mathlib.Core.Path.{_≡_, refl, sym}
 use Prim.Native.Nat.{ℕ, zero, suc, _≤_, _<_}
 use native.Mathlib.Omega.{arith}
 use mathlib.Core.List.{List, [], _∷_, map}
-use lib.IntN.{ℤ, pos, negsuc}
+use lib.IntN.{pos, negsuc}
 use Rattle.table.specs.Sum.{sumTo}
-use Rattle.table.specs.Format.{Kind, end, free, fork, join, codeOf, kindOf, is, Table, tableOf}
+use Rattle.table.specs.Format.{Kind, end, free, fork, join, codeOf, kindOf, is, tableOf}
 use Rattle.table.specs.Rules.{ownerBelow, allocOf, freeOf, wholeWithin, balance}
-use Rattle.table.specs.JobTable.{InBody, Names, Unjoined, Latest}
+use Rattle.table.specs.JobTable.{Names, Unjoined, Latest}
 use Rattle.table.specs.Cases.{act, written, E}
 
 no-join : _≡_ {A = Kind} fork join → ⊥

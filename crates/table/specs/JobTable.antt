@@ -64,7 +64,8 @@ pub record Names (T : Table) (k : Kind) (t c a : ℕ) : Type 0 where
   pub of-kind : kind T a ≡ k
   pub named : T .argument a ≡ c
 
--- "Every other thread is forked exactly once in the table." That the thread which forks it has a lower number is the rule on arguments.
+-- "Every other thread is forked exactly once in the table." That the thread which forks it has a lower number is the rule on arguments (`parent-lower`,
+-- proofs/JobTables).
 pub record ForkedOnce (T : Table) (c : ℕ) : Type 0 where
   pub parent : ℕ
   pub action : ℕ
@@ -95,27 +96,27 @@ unfoldable pub sumSigned : (ℕ → ℤ) → ℕ → ℤ
 sumSigned z zero = pos 0
 sumSigned z (suc k) = sumSigned z k +ℤ z k
 
--- what an action of this kind with argument x counts in its thread's balance, where final is the final balance of the child that it names
-abbrev pub counts : Kind → ℕ → ℤ → ℤ
-counts end x final = pos 0
-counts work x final = pos 0
-counts alloc x final = pos x
-counts free x final = negℤ (pos x)
-counts fork x final = pos 0
-counts join x final = final
-counts unknown x final = pos 0
+-- by how much an action of this kind with argument x moves its thread's balance, where final is the final balance of the child that it names
+abbrev pub moves : Kind → ℕ → ℤ → ℤ
+moves end x final = pos 0
+moves work x final = pos 0
+moves alloc x final = pos x
+moves free x final = negℤ (pos x)
+moves fork x final = pos 0
+moves join x final = final
+moves unknown x final = pos 0
 
 -- a child's final balance is the one after its last action
-abbrev pub countsAt : Table → (ℕ → ℤ) → ℕ → ℤ
-countsAt T after a = counts (kind T a) (T .argument a) (after (endOf T (T .argument a)))
+abbrev pub movesAt : Table → (ℕ → ℤ) → ℕ → ℤ
+movesAt T after a = moves (kind T a) (T .argument a) (after (endOf T (T .argument a)))
 
 -- "A thread's balance after an action is its allocs less its frees so far, plus the final balances of the children joined so far.": at action k of thread t,
 -- the sum over its actions 0 to k
 abbrev pub IsBalance : Table → (ℕ → ℤ) → Type 0
 IsBalance T after =
-    (t k : ℕ) → t < T .threads → k < T .count t → after (T .first t + k) ≡ sumSigned (λ i. countsAt T after (T .first t + i)) (suc k)
+    (t k : ℕ) → t < T .threads → k < T .count t → after (T .first t + k) ≡ sumSigned (λ i. movesAt T after (T .first t + i)) (suc k)
 
--- "It is a signed number and may never fall below 0."
+-- "It is a signed number and may never fall below 0." Where bodies, kinds and arguments are right, one function and no other is the balance (proofs/Balances).
 pub record Balanced (T : Table) : Type 0 where
   pub after : ℕ → ℤ
   pub balance : IsBalance T after
