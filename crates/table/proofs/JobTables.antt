@@ -1,5 +1,5 @@
 -- A table is accepted exactly when it is a job table in the paper's words, and then with its n, m, S1 and D.
-use mathlib.Core.Path.{_≡_, sym, _∙_}
+use mathlib.Core.Path.{_≡_, refl, sym, _∙_}
 use mathlib.Core.Logic.{_↔_}
 use Prim.Native.Nat.{ℕ, _<_}
 use mathlib.Core.List.{List}
@@ -9,7 +9,10 @@ use Rattle.table.specs.Accepted.{ContentRules, BodyRules, NestRules, For
 use Rattle.table.specs.JobTable.{Sized, Names, Balanced, JobTable}
 use Rattle.table.specs.Load.{factsOf, loaded}
 use Rattle.table.specs.declared.Facts.{Facts}
-use Rattle.table.specs.declared.Loaded.the-variants.{Accepted}
+use Rattle.table.specs.Cases.{E, overfreed}
+use Rattle.table.specs.Wrong.{refusesAll-wrong, acceptsAll-wrong}
+use Rattle.table.specs.declared.Loaded.{Loaded}
+use Rattle.table.specs.declared.Loaded.the-variants.{Accepted, Refused}
 use Rattle.table.proofs.Passes.{accepted-exactly, accepted-facts}
 use Rattle.table.proofs.Balances.{balance-is, balance-only, balance-natural}
 use Rattle.table.proofs.WellFormed.{head-sized, contents-laid, laid-contents, bodies-exactly}
@@ -82,3 +85,15 @@ accepted-job-table s f = (
       (job-table-exactly s .1 (accepted-exactly s .0 (rw e at h)), e)),
   (λ (j, e). rw e (accepted-exactly s .1 (job-table-exactly s .0 j))),
 )
+
+-- ---- some bytes are a job table, and some of the right size are none
+
+pub E-job-table : JobTable E
+E-job-table = go (loaded E) refl
+  where
+    go : (a : Loaded) → loaded E ≡ a → JobTable E
+    go (Accepted f) e = accepted-job-table E f .0 e .0
+    go (Refused r) e = absurd (refusesAll-wrong r e)
+
+pub overfreed-no-job-table : JobTable overfreed → ⊥
+overfreed-no-job-table j = acceptsAll-wrong (factsOf (tableOf overfreed)) (accepted-job-table overfreed (factsOf (tableOf overfreed)) .1 (j, refl))
