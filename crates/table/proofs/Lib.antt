@@ -6,10 +6,15 @@ pub mod Passes
 pub mod Values
 pub mod Bodies
 pub mod Nesting
+pub mod Unjoined
+pub mod WellFormed
+pub mod WellNested
 pub mod Serial
 pub mod Rank
 pub mod Levels
 pub mod Amounts
+pub mod Balances
+pub mod JobTables
 pub mod Peaks
 pub mod Stack
 pub mod Words
