@@ -11,7 +11,7 @@ use Rattle.schedule.specs.declared.Worker.{Worker}
 use Rattle.schedule.specs.declared.Run.{Run}
 use Rattle.schedule.specs.declared.Reply.{Reply}
 use Rattle.schedule.specs.declared.Reply.the-variants.{Done}
-use Rattle.table.specs.Format.{tableOf}
+use Rattle.table.specs.Format.{threadsOf, tableOf}
 use Rattle.table.specs.Rules.{endOf}
 use Rattle.schedule.specs.Machine.{nobody}
 use Rattle.schedule.specs.Memory.{ofReply}
@@ -63,6 +63,13 @@ first-moving h o e f a z g =
       unended = o;
       turns-fit = g;
     }
+
+-- as the code finds it: the numbers read off the table, the rest copied
+pub copied-moving : {run : Run} {n last : ℕ} {parents : List ℕ} {m : Moved} → Steady run → rootEnded run ≡ false → n ≡ threadsOf (bytesOf run) → last ≡ endOf (tableIn run) 0
+    → Parents (tableIn run) parents → length (run .list) ≡ 1024 → run .turns < 2 ^ 64 → m ≡ movedOf run
+    → Moving run (bytesOf run) n last (run .workers) (run .quota) parents (run .next) (run .status) (run .list) (run .worker) m
+unfolding tableOf
+copied-moving h o e f a z g q = rw q (first-moving h o e f a z g)
 
 module _ {run : Run} {s : List ℕ} {n last p K : ℕ} {parents next status list : List ℕ} {workers : List Worker} {m : Moved}
     (v : Moving run s n last p K parents next status list workers m) where

@@ -100,9 +100,7 @@ pub(crate) fn take_turn(
         (now (next .exit)) (now (status .exit)) (now (list .exit)) r ⌝ }
 {
     let totals = moved.totals;
-    let s = step(
-        table, n, parents, quota, next, status, list, totals, worker,
-    );
+    let s = step(table, n, parents, quota, next, status, list, totals, worker);
     let reply = s.reply;
     let after = s.worker;
     let totals = s.totals;
@@ -195,14 +193,35 @@ fn take_turns(
         let w = worker_of(order, rounds, p, i);
         if moved.turns == u64::MAX {
             let report = stopped(32, i);
-            return Stop { report, reply, workers, moved };
+            return Stop {
+                report,
+                reply,
+                workers,
+                moved,
+            };
         }
         if p <= w {
             let report = stopped(30, i);
-            return Stop { report, reply, workers, moved };
+            return Stop {
+                report,
+                reply,
+                workers,
+                moved,
+            };
         }
         let worker = workers[w];
-        let t = take_turn(table, n, parents, quota, next, status, list, moved, worker, w);
+        let t = take_turn(
+            table,
+            n,
+            parents,
+            quota,
+            next,
+            status,
+            list,
+            moved,
+            worker,
+            w,
+        );
         let after = t.worker;
         workers[w] = after;
         moved = t.moved;
@@ -213,11 +232,21 @@ fn take_turns(
         };
         if action as usize == last {
             let report = Report::Finished(i as u64);
-            return Stop { report, reply, workers, moved };
+            return Stop {
+                report,
+                reply,
+                workers,
+                moved,
+            };
         }
     }
     let report = Report::Spent(i as u64);
-    Stop { report, reply, workers, moved }
+    Stop {
+        report,
+        reply,
+        workers,
+        moved,
+    }
 }
 
 // What a run did: its report, the reply of its last turn (idle where it took none) and the record that it left.

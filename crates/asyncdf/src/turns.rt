@@ -123,14 +123,33 @@ fn put_each(
         let k = w as usize;
         let worker = workers[k];
         let t = take_turn(
-            table, n, parents, quota, next, status, list, moved, worker, k,
+            table,
+            n,
+            parents,
+            quota,
+            next,
+            status,
+            list,
+            moved,
+            worker,
+            k,
         );
         let after = t.worker;
         workers[k] = after;
         moved = t.moved;
         i += 1;
         let reply = t.reply;
-        at = put_step(table, n, next, out, at, moved.turns, w, reply, moved.totals.held);
+        at = put_step(
+            table,
+            n,
+            next,
+            out,
+            at,
+            moved.turns,
+            w,
+            reply,
+            moved.totals.held,
+        );
         let Reply::Done { thread: _, action } = reply else {
             continue;
         };

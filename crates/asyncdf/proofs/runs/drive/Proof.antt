@@ -17,13 +17,14 @@ use Rattle.schedule.specs.Machine.{ended}
 use Rattle.schedule.specs.Record.{bytesOf, tableIn}
 use Rattle.schedule.specs.Sound.{Steady}
 use Rattle.schedule.specs.Turn.{rootEnded}
+use Rattle.asyncdf.proofs.Calls.{root-open}
 use Rattle.table.specs.Format.{threadsOf, tableOf}
 use Rattle.table.specs.Rules.{endOf}
 use Rattle.soundness.specs.Checks.{Parents}
 use Rattle.asyncdf.specs.Drives.{Moving, Driven, movedOf, packedOf}
 use Rattle.asyncdf.specs.declared.runs.Moved.{Moved}
 use Rattle.asyncdf.proofs.Driving.{drive-over}
-use Rattle.asyncdf.proofs.Moving.{table-room, first-moving}
+use Rattle.asyncdf.proofs.Moving.{table-room, copied-moving}
 use Rattle.asyncdf.proofs.runs.drive.Statement.{statement}
 use Rattle.asyncdf.proofs.runs.drive.Tie as tie
 
@@ -34,12 +35,6 @@ over f limit run reply e =
       ran-as = sym (drive-over f 0 run limit (eq-eqb (getD (run .status) 0 0) ended e));
       said = λ one o. absurd (eqb-false (getD (run .status) 0 0) ended (o .unended) e);
     }
-
-first : {run : Run} {n last : ℕ} {parents : List ℕ} {m : Moved} → Steady run → (getD (run .status) 0 0 ≡ 4 → ⊥) → n ≡ threadsOf (bytesOf run) → last ≡ endOf (tableIn run) 0
-    → Parents (tableIn run) parents → length (run .list) ≡ 1024 → run .turns < 2 ^ 64 → m ≡ movedOf run
-    → Moving run (bytesOf run) n last (run .workers) (run .quota) parents (run .next) (run .status) (run .list) (run .worker) m
-unfolding rootEnded tableOf
-first {run} h d e f a z g q = rw q (first-moving h (ne-eqb (getD (run .status) 0 0) ended d) e f a z g)
 
 -- the whole run, from the record itself and to the record packed
 driven : {who : ℕ → ℕ} {limit : ℕ} {run left left' : Run} {report : Report} {reply : Reply} {m : Moved} → m ≡ movedOf run → left' ≡ left
@@ -90,7 +85,7 @@ moving : (c : tie.After-moved-in)
 moving c =
     let r = c .before .before .before .before .before .before in
     let s = start c in
-    first (s .pre .0) (r .before .before .if1 .left) (r .before .threads .ensures .value) (r .root-end .ensures) (s .pre .1 .0) (list-size s) (turns-fit s) (c .moved-in .ensures)
+    copied-moving (s .pre .0) (root-open _ (r .before .before .if1 .left)) (r .before .threads .ensures .value) (r .root-end .ensures) (s .pre .1 .0) (list-size s) (turns-fit s) (c .moved-in .ensures)
 
 take-turns-requires : tie.Need-take-turns-requires
 take-turns-requires c κs = (record { run = start c .args .run; moving = moving c }, start c .pre .1 .1)

@@ -67,18 +67,20 @@ tests c = c .before .before .before .before .before
 
 returns : tie.Need-returns Inv-loop μ-loop
 returns c =
-    let w = c .before .before .before in
-    ((λ run v. rw (c .stopped .ensures) (full (top w .loop .inv .along run v) (w .before .loop-test .taken) (c .before .if1 .taken))),
-    omega (arith, listed-small (moving (top w) .row)))
+    let w = c .before .before .before in (
+      (λ run v. rw (c .stopped .ensures) (full (top w .loop .inv .along run v) (w .before .loop-test .taken) (c .before .if1 .taken))),
+      omega (arith, listed-small (moving (top w) .row)),
+    )
 
 stopped-requires-2 : tie.Need-stopped-requires-2 Inv-loop μ-loop
 stopped-requires-2 c κs = search needs
 
 returns-2 : tie.Need-returns-2 Inv-loop μ-loop
 returns-2 c =
-    let w = c .before .before .before .before in
-    ((λ run v. rw (c .stopped2 .ensures) (none (top w .loop .inv .along run v) (w .before .loop-test .taken) (c .before .before .if1 .left) (w .worker-of .ensures) (c .before .if2 .taken))),
-    omega (arith, listed-small (moving (top w) .row)))
+    let w = c .before .before .before .before in (
+      (λ run v. rw (c .stopped2 .ensures) (none (top w .loop .inv .along run v) (w .before .loop-test .taken) (c .before .before .if1 .left) (w .worker-of .ensures) (c .before .if2 .taken))),
+      omega (arith, listed-small (moving (top w) .row)),
+    )
 
 mul-worker : tie.Need-mul-worker Inv-loop μ-loop
 mul-worker c = omega (arith, few-workers c)
@@ -127,10 +129,11 @@ returns-3 : tie.Need-returns-3 Inv-loop μ-loop
 returns-3 c =
     let t = c .before .before .before .before .before .before in
     let e = tests t in
-    let v = top (asked e) .loop .inv in
-    ((λ run m. finished (v .along run m) (asked e .before .loop-test .taken) (e .before .if1 .left) (asked e .worker-of .ensures) (e .if2 .left) (t .take-turn .ensures)
-    (c .before .before .reply .given .1) (c .if3 .taken)),
-    omega (arith, listed-small (t .take-turn .ensures .row)))
+    let v = top (asked e) .loop .inv in (
+      (λ run m. finished (v .along run m) (asked e .before .loop-test .taken) (e .before .if1 .left) (asked e .worker-of .ensures) (e .if2 .left) (t .take-turn .ensures)
+          (c .before .before .reply .given .1) (c .if3 .taken)),
+      omega (arith, listed-small (t .take-turn .ensures .row)),
+    )
 
 loop-less-2 : tie.Need-loop-less-2 Inv-loop μ-loop
 loop-less-2 c = omega (arith, asked (tests (c .before .before .before .before .before .before)) .before .loop-test .taken)
