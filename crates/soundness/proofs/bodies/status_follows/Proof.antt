@@ -1,5 +1,5 @@
 -- `soundness::bodies::status_follows` meets its contract: each way out is the definition's at the status found.
-use mathlib.Core.Path.{_≡_, refl, sym, ap, _∙_}
+use mathlib.Core.Path.{_≡_, sym, ap, _∙_}
 use Prim.Native.Nat.{ℕ, _<_}
 use mathlib.Core.List.{List}
 use mathlib.Core.Bool.{Bool, true, false, not, _&&_, Bool·beq, and-true}
@@ -18,15 +18,10 @@ use Rattle.schedule.specs.Sound.{agree, doneIn, statusFollows}
 use Rattle.schedule.proofs.Lawful.{lawful}
 use Rattle.soundness.specs.Checks.{Forks, Parents, doneAt}
 use Rattle.soundness.proofs.Lookups.{body}
+use Rattle.soundness.proofs.Every.{beq-agree}
 use Rattle.soundness.proofs.Noting.{few, unborn-noted}
 use Rattle.soundness.proofs.bodies.status_follows.Statement.{statement}
 use Rattle.soundness.proofs.bodies.status_follows.Tie as tie
-
-beq-agree : (p q : Bool) → Bool·beq p q ≡ agree p q
-beq-agree true true = refl
-beq-agree true false = refl
-beq-agree false true = refl
-beq-agree false false = refl
 
 module _ (s : List ℕ) (t : ℕ) (forks parents next status : List ℕ) (l : Rules s) (h : t < tableOf s .threads) (f : Forks (tableOf s) forks) (g : Parents (tableOf s) parents) (r : Bool)
     (e : r ≡ (ltb 0 t && not (doneAt next status (getD parents t 0) (getD forks t 0)))) where
