@@ -1,4 +1,5 @@
 // The list in serial order: the 1DF-numbers of the next actions, from the lengths of the threads with their children.
+use crate::names::FORK;
 use table::read;
 ghost use mathlib.Core.Path.{_≡_};
 ghost use mathlib.Core.Bool.{true, false};
@@ -20,7 +21,7 @@ fn span(table: &[u8], n: usize, a: usize, lengths: &[u16; 1024]) -> usize
     requires { ⌜ Lengths (tableOf (now table)) (now lengths) (owner (tableOf (now table)) a + 1) ⌝ }
     ensures { λ r. ⌜ length (serial (tableOf (now (table .entry))) a) ≡ r + length (serial (tableOf (now (table .entry))) (a + 1)) ⌝ }
 {
-    if read::code(table, n, a) != 4 {
+    if read::code(table, n, a) != FORK {
         return 1;
     }
     1 + lengths[read::argument(table, n, a)] as usize
@@ -66,7 +67,7 @@ fn pass(table: &[u8], n: usize, a: usize, number: usize, numbers: &mut [u16; 102
     ensures { λ r. ⌜ Walked (tableOf (now (table .entry))) (owner (tableOf (now (table .entry))) a) (a + 1) r (now (numbers .entry)) (now (numbers .exit)) ⌝ }
 {
     let after = number + 1;
-    if read::code(table, n, a) != 4 {
+    if read::code(table, n, a) != FORK {
         return after;
     }
     let c = read::argument(table, n, a);

@@ -9,16 +9,16 @@ use borrow.Author.Tests.{eq-eqb, ne-eqb}
 use denote.Ref.{now}
 use lib.Dec.{eqb}
 use lib.ListN.{getD}
-use Rattle.table.specs.Sum.{pick}
+use Rattle.soundness.specs.Checks.{holdersWanted}
 use Rattle.soundness.proofs.Every.{Passed, passed-none, passed-more, passed-fails, passed-all}
 use Rattle.soundness.proofs.holders.counts_right.Statement.{statement}
 use Rattle.soundness.proofs.holders.counts_right.Tie as tie
 
 abbrev test : List ℕ → List ℕ → ℕ → Bool
-test status counts t = eqb (getD counts t 0) (pick (eqb (getD status t 0) 2) 1 0)
+test status counts t = eqb (getD counts t 0) (holdersWanted (getD status t 0))
 
 -- by the count wanted, r
-module _ (status counts : List ℕ) (t r : ℕ) (q : r ≡ pick (eqb (getD status t 0) 2) 1 0) where
+module _ (status counts : List ℕ) (t r : ℕ) (q : r ≡ holdersWanted (getD status t 0)) where
   other : (getD counts t 0 ≡ r → ⊥) → test status counts t ≡ false
   other k = rw (← q) (ne-eqb (getD counts t 0) r k)
 

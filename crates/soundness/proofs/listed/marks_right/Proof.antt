@@ -8,6 +8,7 @@ use borrow.Author.Needs.{needs}
 use denote.Ref.{now}
 use lib.Dec.{eqb}
 use lib.ListN.{getD}
+use Rattle.schedule.specs.Machine.{unborn, ended}
 use Rattle.schedule.specs.Sound.{agree, liveIn}
 use Rattle.soundness.proofs.Every.{Passed, passed-none, passed-next, passed-stop, passed-all, beq-agree}
 use Rattle.soundness.proofs.listed.marks_right.Statement.{statement}
@@ -17,7 +18,7 @@ abbrev test : List ℕ → List Bool → ℕ → Bool
 test status marks t = agree (getD marks t false) (liveIn status t)
 
 -- by what is_live says, r
-asked : (status : List ℕ) (marks : List Bool) (t : ℕ) (r : Bool) → r ≡ (not (eqb (getD status t 0) 0) && not (eqb (getD status t 0) 4))
+asked : (status : List ℕ) (marks : List Bool) (t : ℕ) (r : Bool) → r ≡ (not (eqb (getD status t 0) unborn) && not (eqb (getD status t 0) ended))
     → Bool·beq (getD marks t false) r ≡ test status marks t
 unfolding liveIn
 asked status marks t r q = beq-agree (getD marks t false) r ∙ rw q
