@@ -24,7 +24,7 @@ fn wide(x: u16) -> usize
 }
 
 // A thread's last action.
-fn end_of(table: &[u8], t: usize) -> usize
+pub(crate) fn end_of(table: &[u8], t: usize) -> usize
     requires { ⌜ Rules (now table) ⌝ }
     requires { ⌜ t < tableOf (now table) .threads ⌝ }
     ensures { λ r. ⌜ r ≡ endOf (tableOf (now (table .entry))) t ⌝ }

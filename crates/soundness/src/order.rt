@@ -1,4 +1,5 @@
 // The list in serial order: the 1DF-numbers of the next actions, from the lengths of the threads with their children.
+use crate::bodies::end_of;
 use crate::names::FORK;
 use table::read;
 ghost use mathlib.Core.Path.{_≡_};
@@ -34,10 +35,9 @@ fn thread_length(table: &[u8], n: usize, t: usize, lengths: &[u16; 1024]) -> usi
     requires { ⌜ Lengths (tableOf (now table)) (now lengths) (t + 1) ⌝ }
     ensures { λ r. ⌜ Read (length (serial (tableOf (now (table .entry))) (tableOf (now (table .entry)) .first t))) 65536 r ⌝ }
 {
-    let first = read::first(table, t);
-    let last = first + read::count(table, t) - 1;
+    let last = end_of(table, t);
     let mut total = 1;
-    let mut a = first;
+    let mut a = read::first(table, t);
     while a < last {
         total += span(table, n, a, lengths);
         a += 1;
