@@ -20,8 +20,8 @@ use Rattle.schedule.specs.Machine.{ended}
 use Rattle.schedule.specs.Sound.{allBelow, allIn, doneIn, inOrder}
 use Rattle.schedule.proofs.Words.{allBelow-exactly, and-exactly}
 use Rattle.schedule.proofs.Lawful.{Lawful}
-use Rattle.soundness.specs.Checks.{doneAt, doneTo, joinDone, bodyInOrder}
-use Rattle.soundness.proofs.All.{same-truth, all-fails}
+use Rattle.soundness.specs.Checks.{doneAt, doneTo, unbornIn, joinDone, bodyInOrder}
+use Rattle.soundness.proofs.Every.{same-truth, all-fails}
 
 -- ---- what is done
 
@@ -104,7 +104,7 @@ module _ (T : Table) (l : Lawful T) (next status : List ℕ) where
         sym (all-fails (λ i. inOrder T next status (T .first t + i)) (x - T .first t) (T .count t) (omega arith) (rw z p))
 
     -- an unborn thread is in order if nothing of it is done
-    pub unborn-in-order : (ltb 0 t && not (doneIn T next status (forkBelow T (T .actions) t))) ≡ true → leb (doneTo next status t) (T .first t) ≡ bodyInOrder T next status t
+    pub unborn-in-order : unbornIn T next status t ≡ true → leb (doneTo next status t) (T .first t) ≡ bodyInOrder T next status t
     unfolding inOrder allIn
     unborn-in-order u = go (leb (doneTo next status t) (T .first t)) refl
       where
@@ -128,7 +128,7 @@ module _ (T : Table) (l : Lawful T) (next status : List ℕ) where
 
     -- of a born thread's actions done, only a join can be out of order
     pub born-in-order :
-        (ltb 0 t && not (doneIn T next status (forkBelow T (T .actions) t))) ≡ false → (x : ℕ) → T .first t ≤ x → x < T .first t + T .count t
+        unbornIn T next status t ≡ false → (x : ℕ) → T .first t ≤ x → x < T .first t + T .count t
         → x < doneTo next status t → inOrder T next status x ≡ joinDone T next status x
     unfolding inOrder allIn
     born-in-order u x f e s = rw (in-body x f e ∙ lt-ltb x (doneTo next status t) s) (go (ℕ-discrete x (T .first t)))

@@ -13,7 +13,7 @@ use borrow.Author.Tests.{lt-ltb, ltb-true, eqb-true, eq-eqb, ne-eqb}
 use Rattle.schedule.specs.Record.{filled}
 use Rattle.schedule.specs.Sound.{allBelow, sameList}
 use Rattle.schedule.proofs.Words.{allBelow-exactly, or-exactly, sameList-exactly}
-use Rattle.soundness.proofs.All.{same-truth, fromOn, all-pass, Passed, passed-more, passed-fails}
+use Rattle.soundness.proofs.Every.{same-truth, fromOn, PassedFrom, from-more, from-fails, from-all}
 
 abbrev pub isZero : List ℕ → ℕ → Bool
 isZero l i = eqb (getD l i 0) 0
@@ -56,12 +56,12 @@ module _ (l : List ℕ) (used size : ℕ) (s : length l ≡ size) where
       (λ e. allBelow-exactly (fromOn used (isZero l)) size .1 (λ i h. same-zero i h (sameList-exactly l (filled size (take used l)) .0 e) (decLt i used)))
 
   -- a loop that looks at each place from `used` on
-  module _ (i : ℕ) (p : Passed used (isZero l) i) where
+  module _ (i : ℕ) (p : PassedFrom used (isZero l) i) where
     pub rest-fails : i < size → (getD l i 0 ≡ 0 → ⊥) → false ≡ sameList l (filled size (take used l))
-    rest-fails h e = passed-fails used (isZero l) i p size h (ne-eqb (getD l i 0) 0 e) ∙ rest-right
+    rest-fails h e = from-fails p h (ne-eqb (getD l i 0) 0 e) ∙ rest-right
 
     pub rest-pass : size ≤ i → true ≡ sameList l (filled size (take used l))
-    rest-pass h = all-pass (fromOn used (isZero l)) i size h (p .all) ∙ rest-right
+    rest-pass h = from-all p h ∙ rest-right
 
-pub rest-more : (l : List ℕ) (used i : ℕ) → Passed used (isZero l) i → getD l i 0 ≡ 0 → Passed used (isZero l) (i + 1)
-rest-more l used i p e = passed-more used (isZero l) i p (eq-eqb (getD l i 0) 0 e)
+pub rest-more : (l : List ℕ) (used i : ℕ) → PassedFrom used (isZero l) i → getD l i 0 ≡ 0 → PassedFrom used (isZero l) (i + 1)
+rest-more l used i p e = from-more p (eq-eqb (getD l i 0) 0 e)

@@ -1,5 +1,4 @@
 pub mod DoneSums
-pub mod All
 pub mod Filled
 pub mod Lookups
 pub mod Every

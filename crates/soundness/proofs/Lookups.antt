@@ -21,6 +21,9 @@ use Rattle.soundness.specs.Checks.{Accepted, Placed}
 pub accepted-lawful : {s : List ℕ} {n : ℕ} → Accepted s n → Lawful (tableOf s)
 accepted-lawful {s} k = lawful s (k .rules)
 
+pub few-threads : {s : List ℕ} {n : ℕ} → Accepted s n → n ≤ 1024
+few-threads k = omega (arith, k .threads, accepted-lawful k .few-threads)
+
 -- what is read of action a
 module _ {s : List ℕ} {n : ℕ} (k : Accepted s n) (a : ℕ) where
   pub code-read : {r : ℕ} → r ≡ codeAt (bodiesFrom s n) a → r ≡ tableOf s .code a

@@ -21,7 +21,7 @@ use Rattle.schedule.specs.Begin.{firsts}
 use Rattle.schedule.proofs.Lists.{getD-alike, filled-at, filled-length, firsts-length, firsts-at, firsts-past}
 use Rattle.schedule.specs.Sound.{doneIn}
 use Rattle.schedule.proofs.Lawful.{Lawful}
-use Rattle.soundness.specs.Checks.{doneAt, Forks, Parents, Noted}
+use Rattle.soundness.specs.Checks.{doneAt, unbornIn, unbornAt, Forks, Parents, Noted}
 use Rattle.soundness.specs.Tested.{parentsIn}
 
 parents-at : (T : Table) (t : ℕ) → t < T .threads → getD (filled 1024 (firsts (parentOf T) 0 (T .threads))) t 0 ≡ parentOf T t
@@ -147,7 +147,7 @@ module _ (T : Table) (l : Lawful T) where
 
     -- the thread is unborn
     pub unborn-noted : (next status : List ℕ)
-        → (ltb 0 t && not (doneAt next status (getD ys t 0) (getD xs t 0))) ≡ (ltb 0 t && not (doneIn T next status (forkBelow T (T .actions) t)))
+        → unbornAt xs ys next status t ≡ unbornIn T next status t
     unfolding doneIn
     unborn-noted next status = go (ltb 0 t) refl
       where

@@ -13,7 +13,7 @@ use Rattle.table.specs.Serial.{serial}
 use Rattle.table.specs.Level.{forkBelow}
 use Rattle.schedule.specs.declared.Worker.{Worker}
 use Rattle.schedule.specs.declared.Run.{Run}
-use Rattle.schedule.specs.Machine.{ended, parentOf}
+use Rattle.schedule.specs.Machine.{held, ended, parentOf}
 use Rattle.schedule.specs.Record.{maxThreads, maxWorkers, maxBytes, filled, bytesOf}
 use Rattle.schedule.specs.Sound.{allBelow, doneIn, nextInBody, inOrder, statusFollows, waitsAtJoin, unused, oneHolder, workerRight, numberOf, sameList}
 
@@ -52,6 +52,13 @@ doneAt next status u a = ltb a (getD next u 0) || (eqb a (getD next u 0) && eqb 
 abbrev pub doneTo : List ℕ → List ℕ → ℕ → ℕ
 doneTo next status u = pick (eqb (getD status u 0) ended) (getD next u 0 + 1) (getD next u 0)
 
+-- "statuses .. follow from what is done": unborn while the fork is not done, the root never; by the table, and by what is noted
+abbrev pub unbornIn : Table → List ℕ → List ℕ → ℕ → Bool
+unbornIn T next status t = ltb 0 t && not (doneIn T next status (forkBelow T (T .actions) t))
+
+abbrev pub unbornAt : List ℕ → List ℕ → List ℕ → List ℕ → ℕ → Bool
+unbornAt forks parents next status t = ltb 0 t && not (doneAt next status (getD parents t 0) (getD forks t 0))
+
 -- where action a is a join, the child's end is done
 abbrev pub joinDone : Table → List ℕ → List ℕ → ℕ → Bool
 joinDone T next status a = not (is join (kind T a)) || doneIn T next status (endOf T (T .argument a))
@@ -81,6 +88,10 @@ threadsSound T n next status =
 
 abbrev pub holdersSound : ℕ → ℕ → ℕ → List ℕ → List Worker → Bool
 holdersSound n p K status workers = allBelow (oneHolder status workers) n && allBelow (workerRight n p K workers) maxWorkers
+
+-- "every held thread has one worker", by its status
+abbrev pub holdersWanted : ℕ → ℕ
+holdersWanted status = pick (eqb status held) 1 0
 
 -- the clauses of a sound record on its lengths, its unused parts and its turns
 abbrev pub restSound : Run → Bool

@@ -1,5 +1,7 @@
 // Memory held by what is done.
 use crate::bodies::done_to;
+use crate::names::ALLOC;
+use crate::names::FREE;
 use table::read;
 ghost use mathlib.Core.Path.{_≡_};
 ghost use Prim.Native.Nat.{_<_};
@@ -35,8 +37,8 @@ fn thread_sums(table: &[u8], n: usize, t: usize, stop: usize, before: Sums) -> S
     while a < stop {
         let k = read::code(table, n, a);
         let x = read::argument(table, n, a);
-        allocs += own_amount(2, k, x);
-        frees += own_amount(3, k, x);
+        allocs += own_amount(ALLOC, k, x);
+        frees += own_amount(FREE, k, x);
         a += 1;
     }
     Sums { allocs, frees }

@@ -1,4 +1,5 @@
 // The checks of a beginning, 20 to 22.
+use crate::names::ALLOC;
 use table::Found;
 use table::Refusal;
 use table::read;
@@ -30,7 +31,7 @@ fn alloc_above(table: &[u8], n: usize, quota: usize, a: usize) -> bool
     requires { ⌜ n ≡ tableOf (now table) .threads ⌝ }
     ensures { λ r. ⌜ r ≡ allocAbove (tableOf (now (table .entry))) quota a ⌝ }
 {
-    read::code(table, n, a) == 2 && quota < read::argument(table, n, a)
+    read::code(table, n, a) == ALLOC && quota < read::argument(table, n, a)
 }
 
 // 20: "p outside 1 to 16"; 21: "K outside its range"; 22: "an alloc above K", at the lowest action. Over any bytes.

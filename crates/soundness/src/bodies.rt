@@ -1,16 +1,19 @@
 // Clauses of soundness that go through the bodies: next actions, the order of what is done, statuses, waiting.
+use crate::names::ENDED;
+use crate::names::FORK;
+use crate::names::JOIN;
+use crate::names::UNBORN;
+use crate::names::WAITING;
 use table::read;
 ghost use mathlib.Core.Path.{_≡_};
-ghost use mathlib.Core.Bool.{not, _&&_};
 ghost use Prim.Native.Nat.{_+_, _<_};
 ghost use lib.ListN.{getD, replicate};
-ghost use lib.Dec.{ltb};
 ghost use Rattle.table.specs.Format.{tableOf};
 ghost use Rattle.table.specs.Rules.{owner, endOf};
 ghost use Rattle.table.specs.Accepted.{Rules};
 ghost use Rattle.table.specs.Steps.{Read};
 ghost use Rattle.schedule.specs.Sound.{allBelow, nextInBody, inOrder, statusFollows, waitsAtJoin};
-ghost use Rattle.soundness.specs.Checks.{Accepted, Placed, Forks, Parents, Noted, doneAt, doneTo, joinDone, bodyInOrder};
+ghost use Rattle.soundness.specs.Checks.{Accepted, Placed, Forks, Parents, Noted, doneAt, doneTo, unbornAt, joinDone, bodyInOrder};
 ghost use Rattle.soundness.specs.Tested.{parentsIn};
 
 // A 16-bit number: that it is in its range is known of a parameter, not of an element.
@@ -21,7 +24,7 @@ fn wide(x: u16) -> usize
 }
 
 // A thread's last action.
-fn end_of(table: &[u8], t: usize) -> usize
+pub(crate) fn end_of(table: &[u8], t: usize) -> usize
     requires { ⌜ Rules (now table) ⌝ }
     requires { ⌜ t < tableOf (now table) .threads ⌝ }
     ensures { λ r. ⌜ r ≡ endOf (tableOf (now (table .entry))) t ⌝ }
@@ -70,7 +73,7 @@ fn note_fork(
     requires { ⌜ Noted (tableOf (now table)) (now forks) (now parents) a ⌝ }
     ensures { λ _. ⌜ Noted (tableOf (now (table .entry))) (now (forks .exit)) (now (parents .exit)) (a + 1) ⌝ }
 {
-    if read::code(table, n, a) == 4 {
+    if read::code(table, n, a) == FORK {
         let c = read::argument(table, n, a);
         forks[c] = a as u16;
         parents[c] = t as u16;
@@ -102,7 +105,7 @@ pub(crate) fn done_to(u: usize, next: &[u16; 1024], status: &[u8; 1024]) -> usiz
     ensures { λ r. ⌜ r ≡ doneTo (now (next .entry)) (now (status .entry)) u ⌝ }
 {
     let at = wide(next[u]);
-    if status[u] == 4 { at + 1 } else { at }
+    if status[u] == ENDED { at + 1 } else { at }
 }
 
 // Action a of thread u is done.
@@ -122,7 +125,7 @@ fn is_unborn(
     status: &[u8; 1024],
 ) -> bool
     requires { ⌜ (t < 1024) × (getD (now parents) t 0 < 1024) ⌝ }
-    ensures { λ r. ⌜ r ≡ (ltb 0 t && not (doneAt (now (next .entry)) (now (status .entry)) (getD (now (parents .entry)) t 0) (getD (now (forks .entry)) t 0))) ⌝ }
+    ensures { λ r. ⌜ r ≡ unbornAt (now (forks .entry)) (now (parents .entry)) (now (next .entry)) (now (status .entry)) t ⌝ }
 {
     let u = wide(parents[t]);
     let fork = wide(forks[t]);
@@ -135,7 +138,7 @@ fn join_done(table: &[u8], n: usize, a: usize, next: &[u16; 1024], status: &[u8;
     requires { ⌜ a < tableOf (now table) .actions ⌝ }
     ensures { λ r. ⌜ r ≡ joinDone (tableOf (now (table .entry))) (now (next .entry)) (now (status .entry)) a ⌝ }
 {
-    if read::code(table, n, a) != 5 {
+    if read::code(table, n, a) != JOIN {
         return true;
     }
     let c = read::argument(table, n, a);
@@ -216,11 +219,11 @@ fn status_follows(
 {
     let s = status[t];
     let unborn = is_unborn(t, forks, parents, next, status);
-    if (s == 0) != unborn {
+    if (s == UNBORN) != unborn {
         return false;
     }
-    if s != 4 {
-        return s <= 4;
+    if s != ENDED {
+        return s <= ENDED;
     }
     wide(next[t]) == end_of(table, t)
 }
@@ -256,15 +259,15 @@ fn waits_at_join(table: &[u8], n: usize, t: usize, next: &[u16; 1024], status: &
     requires { ⌜ Placed (now table) n (now next) ⌝ }
     ensures { λ r. ⌜ r ≡ waitsAtJoin (tableOf (now (table .entry))) (now (next .entry)) (now (status .entry)) t ⌝ }
 {
-    if status[t] != 3 {
+    if status[t] != WAITING {
         return true;
     }
     let a = wide(next[t]);
-    if read::code(table, n, a) != 5 {
+    if read::code(table, n, a) != JOIN {
         return false;
     }
     let c = read::argument(table, n, a);
-    status[c] != 4
+    status[c] != ENDED
 }
 
 // "a thread waits only at a join of a child not ended"

@@ -1,4 +1,5 @@
 // Clauses on who holds which thread: held threads, workers, the set of busy workers.
+use crate::names::HELD;
 use schedule::Worker;
 ghost use mathlib.Core.Path.{_≡_};
 ghost use mathlib.Core.Bool.{_&&_};
@@ -8,17 +9,18 @@ ghost use lib.Dec.{ltb, leb, eqb};
 ghost use Rattle.table.specs.Sum.{pick};
 ghost use Rattle.schedule.specs.Record.{setOf};
 ghost use Rattle.schedule.specs.Sound.{allBelow, oneHolder, workerRight};
+ghost use Rattle.soundness.specs.Checks.{holdersWanted};
 
 fn holders_wanted(status: u8) -> u8
-    ensures { λ r. ⌜ r ≡ pick (eqb status 2) 1 0 ⌝ }
+    ensures { λ r. ⌜ r ≡ holdersWanted status ⌝ }
 {
-    if status == 2 { 1 } else { 0 }
+    if status == HELD { 1 } else { 0 }
 }
 
 // The counts are those of the statuses.
 fn counts_right(n: usize, status: &[u8; 1024], counts: &[u8; 1024]) -> bool
     requires { ⌜ n ≤ 1024 ⌝ }
-    ensures { λ r. ⌜ r ≡ allBelow (λ t. eqb (getD (now (counts .entry)) t 0) (pick (eqb (getD (now (status .entry)) t 0) 2) 1 0)) n ⌝ }
+    ensures { λ r. ⌜ r ≡ allBelow (λ t. eqb (getD (now (counts .entry)) t 0) (holdersWanted (getD (now (status .entry)) t 0))) n ⌝ }
 {
     let mut t = 0;
     while t < n {

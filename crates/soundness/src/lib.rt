@@ -16,6 +16,7 @@ mod bodies;
 mod common;
 mod holders;
 mod listed;
+mod names;
 mod order;
 mod sound;
 mod unused;

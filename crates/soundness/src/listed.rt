@@ -1,9 +1,12 @@
 // The clause that the list follows from what is done.
+use crate::names::ENDED;
+use crate::names::UNBORN;
 ghost use mathlib.Core.Path.{_≡_};
 ghost use mathlib.Core.Bool.{true, false, not, _&&_};
 ghost use Prim.Native.Nat.{ℕ, _≤_};
 ghost use lib.ListN.{length, getD, take, replicate};
 ghost use lib.Dec.{ltb, eqb};
+ghost use Rattle.schedule.specs.Machine.{unborn, ended};
 ghost use Rattle.schedule.specs.Sound.{allBelow, allIn, member, agree, liveIn, listFollows};
 
 // Marks the threads in the list, if all are below n.
@@ -27,9 +30,9 @@ fn mark_listed(n: usize, list: &[u16; 1024], len: usize, marks: &mut [bool; 1024
 }
 
 fn is_live(status: u8) -> bool
-    ensures { λ r. ⌜ r ≡ (not (eqb status 0) && not (eqb status 4)) ⌝ }
+    ensures { λ r. ⌜ r ≡ (not (eqb status unborn) && not (eqb status ended)) ⌝ }
 {
-    status != 0 && status != 4
+    status != UNBORN && status != ENDED
 }
 
 // The marked threads are the live ones.

@@ -1,4 +1,6 @@
 // The list in serial order: the 1DF-numbers of the next actions, from the lengths of the threads with their children.
+use crate::bodies::end_of;
+use crate::names::FORK;
 use table::read;
 ghost use mathlib.Core.Path.{_≡_};
 ghost use mathlib.Core.Bool.{true, false};
@@ -20,7 +22,7 @@ fn span(table: &[u8], n: usize, a: usize, lengths: &[u16; 1024]) -> usize
     requires { ⌜ Lengths (tableOf (now table)) (now lengths) (owner (tableOf (now table)) a + 1) ⌝ }
     ensures { λ r. ⌜ length (serial (tableOf (now (table .entry))) a) ≡ r + length (serial (tableOf (now (table .entry))) (a + 1)) ⌝ }
 {
-    if read::code(table, n, a) != 4 {
+    if read::code(table, n, a) != FORK {
         return 1;
     }
     1 + lengths[read::argument(table, n, a)] as usize
@@ -33,10 +35,9 @@ fn thread_length(table: &[u8], n: usize, t: usize, lengths: &[u16; 1024]) -> usi
     requires { ⌜ Lengths (tableOf (now table)) (now lengths) (t + 1) ⌝ }
     ensures { λ r. ⌜ Read (length (serial (tableOf (now (table .entry))) (tableOf (now (table .entry)) .first t))) 65536 r ⌝ }
 {
-    let first = read::first(table, t);
-    let last = first + read::count(table, t) - 1;
+    let last = end_of(table, t);
     let mut total = 1;
-    let mut a = first;
+    let mut a = read::first(table, t);
     while a < last {
         total += span(table, n, a, lengths);
         a += 1;
@@ -66,7 +67,7 @@ fn pass(table: &[u8], n: usize, a: usize, number: usize, numbers: &mut [u16; 102
     ensures { λ r. ⌜ Walked (tableOf (now (table .entry))) (owner (tableOf (now (table .entry))) a) (a + 1) r (now (numbers .entry)) (now (numbers .exit)) ⌝ }
 {
     let after = number + 1;
-    if read::code(table, n, a) != 4 {
+    if read::code(table, n, a) != FORK {
         return after;
     }
     let c = read::argument(table, n, a);

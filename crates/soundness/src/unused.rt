@@ -1,4 +1,5 @@
 // The parts of a record not in use: threads from n on, table bytes and list places past their lengths.
+use crate::names::UNBORN;
 ghost use mathlib.Core.Path.{_≡_};
 ghost use mathlib.Core.Bool.{_||_};
 ghost use lib.ListN.{length, take};
@@ -12,7 +13,7 @@ pub(crate) fn unused_right(n: usize, next: &[u16; 1024], status: &[u8; 1024]) ->
 {
     let mut t = n;
     while t < 1024 {
-        if status[t] != 0 {
+        if status[t] != UNBORN {
             return false;
         }
         if next[t] != 0 {

@@ -19,7 +19,7 @@ all : (s : List ℕ) (n : ℕ) (next status : List ℕ) → Accepted s n
 all s n next status k = rw (k .threads) (by-bodies (tableOf s) (lawful s (k .rules)) next status)
 
 abbrev Inv-loop : tie.InvT-loop
-Inv-loop table n forks parents next status t₀ t = Passed (bodyInOrder (tableOf table) next status) n t
+Inv-loop table n forks parents next status t₀ t = Passed (bodyInOrder (tableOf table) next status) t
 
 abbrev μ-loop : tie.MeasureT-loop
 μ-loop table n forks parents next status t₀ t = n - t
@@ -48,7 +48,7 @@ loop-less c = omega arith
 loop-again : tie.Need-loop-again Inv-loop μ-loop
 loop-again c =
     let d = c .before .before in
-    passed-next (d .before .loop .inv) (d .loop-test .taken) (c .before .thread-in-order .ensures) (c .if1 .left)
+    passed-next (d .before .loop .inv) (c .before .thread-in-order .ensures) (c .if1 .left)
 
 returns-2 : tie.Need-returns-2 Inv-loop μ-loop
 returns-2 c =

@@ -9,7 +9,7 @@ use Rattle.soundness.proofs.bodies.next_in_bodies.Statement.{statement}
 use Rattle.soundness.proofs.bodies.next_in_bodies.Tie as tie
 
 abbrev Inv-loop : tie.InvT-loop
-Inv-loop table n next t₀ t = Passed (nextInBody (tableOf table) next) n t
+Inv-loop table n next t₀ t = Passed (nextInBody (tableOf table) next) t
 
 abbrev μ-loop : tie.MeasureT-loop
 μ-loop table n next t₀ t = n - t
@@ -36,7 +36,7 @@ loop-less c = omega arith
 loop-again : tie.Need-loop-again Inv-loop μ-loop
 loop-again c =
     let d = c .before .before in
-    passed-next (d .before .loop .inv) (d .loop-test .taken) (c .before .next-in-body .ensures) (c .if1 .left)
+    passed-next (d .before .loop .inv) (c .before .next-in-body .ensures) (c .if1 .left)
 
 returns-2 : tie.Need-returns-2 Inv-loop μ-loop
 returns-2 c = passed-all (c .before .loop .inv) (c .loop-test .left)

@@ -1,38 +1,32 @@
 -- `soundness::bodies::status_follows` meets its contract: each way out is the definition's at the status found.
-use mathlib.Core.Path.{_≡_, refl, sym, ap, _∙_}
+use mathlib.Core.Path.{_≡_, sym, ap, _∙_}
 use Prim.Native.Nat.{ℕ, _<_}
 use mathlib.Core.List.{List}
-use mathlib.Core.Bool.{Bool, true, false, not, _&&_, Bool·beq, and-true}
+use mathlib.Core.Bool.{Bool, true, false, not, Bool·beq, and-true}
 use native.Mathlib.Omega.{arith}
 use borrow.Author.Needs.{needs}
 use borrow.Author.Tests.{ne-eqb, not-true, not-false}
 use denote.Ref.{now}
-use lib.Dec.{ltb, leb, eqb}
+use lib.Dec.{leb, eqb}
 use lib.ListN.{getD}
 use Rattle.table.specs.Format.{tableOf}
 use Rattle.table.specs.Rules.{endOf}
 use Rattle.table.specs.Accepted.{Rules}
-use Rattle.table.specs.Level.{forkBelow}
 use Rattle.schedule.specs.Machine.{unborn, ended}
-use Rattle.schedule.specs.Sound.{agree, doneIn, statusFollows}
+use Rattle.schedule.specs.Sound.{agree, statusFollows}
 use Rattle.schedule.proofs.Lawful.{lawful}
-use Rattle.soundness.specs.Checks.{Forks, Parents, doneAt}
+use Rattle.soundness.specs.Checks.{Forks, Parents, unbornIn, unbornAt}
 use Rattle.soundness.proofs.Lookups.{body}
+use Rattle.soundness.proofs.Every.{beq-agree}
 use Rattle.soundness.proofs.Noting.{few, unborn-noted}
 use Rattle.soundness.proofs.bodies.status_follows.Statement.{statement}
 use Rattle.soundness.proofs.bodies.status_follows.Tie as tie
 
-beq-agree : (p q : Bool) → Bool·beq p q ≡ agree p q
-beq-agree true true = refl
-beq-agree true false = refl
-beq-agree false true = refl
-beq-agree false false = refl
-
 module _ (s : List ℕ) (t : ℕ) (forks parents next status : List ℕ) (l : Rules s) (h : t < tableOf s .threads) (f : Forks (tableOf s) forks) (g : Parents (tableOf s) parents) (r : Bool)
-    (e : r ≡ (ltb 0 t && not (doneAt next status (getD parents t 0) (getD forks t 0)))) where
+    (e : r ≡ unbornAt forks parents next status t) where
   agrees :
       Bool·beq (eqb (getD status t 0) unborn) r
-      ≡ agree (eqb (getD status t 0) unborn) (ltb 0 t && not (doneIn (tableOf s) next status (forkBelow (tableOf s) (tableOf s .actions) t)))
+      ≡ agree (eqb (getD status t 0) unborn) (unbornIn (tableOf s) next status t)
   agrees = beq-agree (eqb (getD status t 0) unborn) r ∙ ap (agree (eqb (getD status t 0) unborn)) (e ∙ unborn-noted (tableOf s) (lawful s l) forks parents f g t h next status)
 
   unlike : not (Bool·beq (eqb (getD status t 0) unborn) r) ≡ true → false ≡ statusFollows (tableOf s) next status t

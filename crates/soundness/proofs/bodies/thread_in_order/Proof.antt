@@ -2,19 +2,17 @@
 use mathlib.Core.Path.{_≡_, sym, _∙_}
 use Prim.Native.Nat.{ℕ, _+_, _-_, _≤_, _<_}
 use mathlib.Core.List.{List}
-use mathlib.Core.Bool.{Bool, true, false, not, _&&_}
+use mathlib.Core.Bool.{Bool, true, false, not}
 use native.Mathlib.Decide.{ℕ-discrete, decLt}
 use native.Mathlib.Omega.{arith}
 use borrow.Author.Tests.{not-true, not-false}
 use borrow.Author.Needs.{needs}
 use denote.Ref.{now}
-use lib.Dec.{ltb, leb}
-use lib.ListN.{getD}
+use lib.Dec.{leb}
 use Rattle.table.specs.Format.{tableOf}
-use Rattle.table.specs.Level.{forkBelow}
-use Rattle.schedule.specs.Sound.{doneIn, inOrder}
+use Rattle.schedule.specs.Sound.{inOrder}
 use Rattle.schedule.proofs.Lawful.{Lawful}
-use Rattle.soundness.specs.Checks.{Accepted, Placed, Forks, Parents, doneAt, doneTo, joinDone, bodyInOrder}
+use Rattle.soundness.specs.Checks.{Accepted, Placed, Forks, Parents, doneTo, unbornIn, unbornAt, joinDone, bodyInOrder}
 use Rattle.soundness.proofs.Lookups.{Body, accepted-lawful, thread-below, accepted-body, placed}
 use Rattle.soundness.proofs.Done.{stop-within, undone-in-order, unborn-in-order, born-in-order, body-passes, body-fails}
 use Rattle.soundness.proofs.Noting.{few, unborn-noted}
@@ -24,7 +22,7 @@ use Rattle.soundness.proofs.bodies.thread_in_order.Tie as tie
 record Inv (s : List ℕ) (n t : ℕ) (next status : List ℕ) (stop a : ℕ) : Type 0 where
   accepted : Accepted s n
   thread : t < n
-  born : (ltb 0 t && not (doneIn (tableOf s) next status (forkBelow (tableOf s) (tableOf s .actions) t))) ≡ false
+  born : unbornIn (tableOf s) next status t ≡ false
   stops : stop ≡ doneTo next status t
   within : stop ≤ tableOf s .first t + tableOf s .count t
   room : Body (tableOf s) t
@@ -34,8 +32,8 @@ record Inv (s : List ℕ) (n t : ℕ) (next status : List ℕ) (stop a : ℕ) : 
 -- what the calls before the loop say
 module _ (s : List ℕ) (n t : ℕ) (forks parents next status : List ℕ) (first stop : ℕ) (unborn : Bool) (k : Accepted s n) (h : t < n)
     (f : Forks (tableOf s) forks) (g : Parents (tableOf s) parents) (ef : first ≡ tableOf s .first t) (es : stop ≡ doneTo next status t)
-    (eu : unborn ≡ (ltb 0 t && not (doneAt next status (getD parents t 0) (getD forks t 0)))) where
-  is-unborn : unborn ≡ (ltb 0 t && not (doneIn (tableOf s) next status (forkBelow (tableOf s) (tableOf s .actions) t)))
+    (eu : unborn ≡ unbornAt forks parents next status t) where
+  is-unborn : unborn ≡ unbornIn (tableOf s) next status t
   is-unborn = eu ∙ unborn-noted (tableOf s) (accepted-lawful k) forks parents f g t (thread-below k h) next status
 
   stays : unborn ≡ true → leb stop first ≡ bodyInOrder (tableOf s) next status t

@@ -1,9 +1,8 @@
 -- `soundness::common::common_holds` meets its contract: the tests are the clauses, in their order.
 use mathlib.Core.Path.{_≡_, refl, sym, _∙_}
-use Prim.Native.Nat.{ℕ, _≤_}
+use Prim.Native.Nat.{ℕ}
 use mathlib.Core.List.{List}
 use mathlib.Core.Bool.{Bool, true, false, _&&_, _||_, and-assoc}
-use native.Mathlib.Omega.{arith}
 use borrow.Author.Tests.{le-leb, lt-leb}
 use denote.Ref.{now}
 use lib.ListN.{length}
@@ -18,7 +17,7 @@ use Rattle.schedule.specs.Record.{setOf}
 use Rattle.schedule.specs.Begin.{beginPasses}
 use Rattle.schedule.specs.Sound.{allBelow, nextInBody, inOrder, statusFollows, waitsAtJoin, unused, oneHolder, workerRight, heldRight, common, commonSound}
 use Rattle.soundness.specs.Checks.{Accepted, threadsSound, holdersSound}
-use Rattle.soundness.proofs.Lookups.{accepted-lawful}
+use Rattle.soundness.proofs.Lookups.{few-threads}
 use Rattle.soundness.proofs.Chains.{off, on, cut, stop, pass, first-of}
 use borrow.Author.Needs.{needs}
 use Rattle.soundness.proofs.common.common_holds.Statement.{statement}
@@ -27,9 +26,6 @@ use Rattle.soundness.proofs.common.common_holds.Tie as tie
 regroup : (a b c d e f g h i j : Bool)
     → ((a && (b && (c && (d && e)))) && ((f && g) && (h && (i && j)))) ≡ ((a && (b && (c && (d && (e && (f && (g && (h && i)))))))) && j)
 regroup a b c d e f g h i j = simp and-assoc
-
-few : {s : List ℕ} {n : ℕ} → Accepted s n → n ≤ 1024
-few k = omega (arith, k .threads, accepted-lawful k .few-threads)
 
 module _ (s : List ℕ) (n p K : ℕ) (next status : List ℕ) (workers : List Worker) (set amount highest : ℕ) (k : Accepted s n) where
   abbrev T : Table
@@ -125,7 +121,7 @@ returns-2 : tie.Need-returns-2
 returns-2 c = begun (c .before .before) (cut _ (off (c .before .threads-sound .ensures) (c .if1 .taken)))
 
 holders-sound-requires : tie.Need-holders-sound-requires
-holders-sound-requires c κs = few (start (c .before .before) .pre .0)
+holders-sound-requires c κs = few-threads (start (c .before .before) .pre .0)
 
 returns-3 : tie.Need-returns-3
 returns-3 c = after1 (c .before .before) (cut _ (off (c .before .holders-sound .ensures) (c .if2 .taken)))

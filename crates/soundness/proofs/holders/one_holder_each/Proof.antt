@@ -18,7 +18,8 @@ use Rattle.schedule.specs.Machine.{nobody}
 use Rattle.schedule.specs.Sound.{allBelow, countBelow, holdsThread, oneHolder}
 use Rattle.schedule.proofs.CountBelow.{count-bound}
 use Rattle.schedule.proofs.Lists.{getD-alike}
-use Rattle.soundness.proofs.All.{all-cong}
+use Rattle.soundness.specs.Checks.{holdersWanted}
+use Rattle.soundness.proofs.Every.{all-cong}
 use Rattle.soundness.proofs.holders.one_holder_each.Statement.{statement}
 use Rattle.soundness.proofs.holders.one_holder_each.Tie as tie
 
@@ -82,7 +83,7 @@ module _ (n : ℕ) (workers : List Worker) (counts : List ℕ) (w : ℕ) (i : In
       }
 
 wanted : (n : ℕ) (status : List ℕ) (workers : List Worker) (counts : List ℕ) (w : ℕ) → Inv n workers counts w → 16 ≤ w
-    → allBelow (λ t. eqb (getD counts t 0) (pick (eqb (getD status t 0) 2) 1 0)) n ≡ allBelow (oneHolder status workers) n
+    → allBelow (λ t. eqb (getD counts t 0) (holdersWanted (getD status t 0))) n ≡ allBelow (oneHolder status workers) n
 unfolding oneHolder holdsThread
 wanted n status workers counts w i h =
     let z : w ≡ 16 = omega (arith, i .within) in

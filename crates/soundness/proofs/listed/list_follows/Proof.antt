@@ -9,7 +9,7 @@ use denote.Ref.{now}
 use lib.Dec.{ltb}
 use lib.ListN.{getD, take}
 use Rattle.schedule.specs.Sound.{allBelow, allIn, member, agree, liveIn, listFollows}
-use Rattle.soundness.proofs.All.{all-cong}
+use Rattle.soundness.proofs.Every.{all-cong}
 use Rattle.soundness.proofs.listed.list_follows.Statement.{statement}
 use Rattle.soundness.proofs.listed.list_follows.Tie as tie
 

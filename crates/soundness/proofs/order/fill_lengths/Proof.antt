@@ -10,7 +10,7 @@ use lib.Seq.{getD-set-same, getD-set-other}
 use Rattle.table.specs.Format.{Table, tableOf}
 use Rattle.table.specs.Serial.{serial}
 use Rattle.soundness.specs.Checks.{Accepted, Lengths}
-use Rattle.soundness.proofs.Lookups.{accepted-lawful}
+use Rattle.soundness.proofs.Lookups.{few-threads}
 use Rattle.soundness.proofs.order.fill_lengths.Statement.{statement}
 use Rattle.soundness.proofs.order.fill_lengths.Tie as tie
 
@@ -22,7 +22,7 @@ record Inv (T : Table) (n : ℕ) (lengths : List ℕ) (t : ℕ) : Type 0 where
 start : {s : List ℕ} {n : ℕ} (lengths : List ℕ) → Accepted s n → length lengths ≡ 1024 → Inv (tableOf s) n lengths n
 start lengths k e =
     record {
-      few = omega (arith, k .threads, accepted-lawful k .few-threads);
+      few = few-threads k;
       within = omega arith;
       filled = record { size = e; right = λ t h j. absurd (omega (arith, k .threads)) };
     }

@@ -15,7 +15,7 @@ use Rattle.schedule.specs.Sound.{allIn, rises, inSerialOrder}
 use Rattle.schedule.proofs.Words.{allIn-exactly}
 use Rattle.schedule.proofs.Lists.{getD-member}
 use Rattle.soundness.specs.Checks.{Accepted, Numbers}
-use Rattle.soundness.proofs.Lookups.{accepted-lawful}
+use Rattle.soundness.proofs.Lookups.{few-threads}
 use Rattle.soundness.proofs.order.in_serial_order.Statement.{statement}
 use Rattle.soundness.proofs.order.in_serial_order.Tie as tie
 
@@ -35,7 +35,7 @@ module _ (s : List ℕ) (n : ℕ) (next list : List ℕ) (len : ℕ) (k : Accept
   below f e i h =
       let g : i < length (take len list) = omega (arith, length-take-le len list (omega arith)) in
       let b = listed _ (rw (getD-take len list i 0 h) at (getD-member (take len list) i 0 g)) in
-      omega (arith, b, k .threads, accepted-lawful k .few-threads)
+      omega (arith, b, few-threads k)
 
   same : (numbers : List ℕ) → Numbers (tableOf s) next numbers
       → rises (λ t. getD numbers t 0) (take len list) ≡ inSerialOrder (tableOf s) next (take len list)

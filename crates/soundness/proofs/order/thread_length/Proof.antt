@@ -14,7 +14,7 @@ use Rattle.table.proofs.Bodies.{first-within}
 use Rattle.schedule.proofs.Lawful.{Lawful}
 use Rattle.soundness.specs.Checks.{Accepted, Lengths}
 use Rattle.soundness.specs.Order.{Inside}
-use Rattle.soundness.proofs.Lookups.{Body, accepted-lawful, thread-below, accepted-body}
+use Rattle.soundness.proofs.Lookups.{accepted-lawful, thread-below, accepted-body}
 use Rattle.soundness.proofs.Spans.{inside-owner, end-length, length-small}
 use Rattle.soundness.proofs.order.thread_length.Statement.{statement}
 use Rattle.soundness.proofs.order.thread_length.Tie as tie
@@ -27,16 +27,15 @@ record Inv (s : List ℕ) (t last total a : ℕ) : Type 0 where
   small : length (serial (tableOf s) (tableOf s .first t)) ≤ 8192
   counted : total + length (serial (tableOf s) a) ≡ 1 + length (serial (tableOf s) (tableOf s .first t))
 
-start : (s : List ℕ) (n t first count : ℕ) → Accepted s n → t < n → first ≡ tableOf s .first t → count ≡ tableOf s .count t → Inv s t (first + count - 1) 1 first
-start s n t first count k h e d =
+start : (s : List ℕ) (n t last first : ℕ) → Accepted s n → t < n → last ≡ endOf (tableOf s) t → first ≡ tableOf s .first t → Inv s t last 1 first
+start s n t last first k h d e =
     let lawful : Lawful (tableOf s) = accepted-lawful k in
     let below : t < tableOf s .threads = thread-below k h in
-    let b : Body (tableOf s) t = accepted-body k h in
     record {
       below = below;
-      ends = omega (arith, b .ends);
+      ends = d;
       from = omega arith;
-      upto = omega (arith, b .some);
+      upto = omega (arith, accepted-body k h .some, accepted-body k h .ends);
       small = length-small (tableOf s) lawful (tableOf s .first t) (first-within (tableOf s) (lawful .contents) t below);
       counted = rw e;
     }
@@ -60,30 +59,21 @@ module _ (s : List ℕ) (t last total a : ℕ) (i : Inv s t last total a) where
       record { value = v; small = omega (arith, i .small) }
 
 abbrev Inv-loop : tie.InvT-loop
-Inv-loop table n t lengths first last total₀ a₀ total a = Inv table t last total a
+Inv-loop table n t lengths last total₀ a₀ total a = Inv table t last total a
 
 abbrev μ-loop : tie.MeasureT-loop
-μ-loop table n t lengths first last total₀ a₀ total a = last - a
+μ-loop table n t lengths last total₀ a₀ total a = last - a
 
-at-start : (c : tie.Start Inv-loop μ-loop) → Body (tableOf (now (c .args .table))) (c .args .t)
-at-start c = accepted-body (c .pre .0) (c .pre .1 .0)
+end-of-requires : tie.Need-end-of-requires Inv-loop μ-loop
+end-of-requires c κs = let d = c .before in (d .pre .0 .rules, thread-below (d .pre .0) (d .pre .1 .0))
 
 first-requires : tie.Need-first-requires Inv-loop μ-loop
 first-requires c κs = search needs
 
-count-requires : tie.Need-count-requires Inv-loop μ-loop
-count-requires c κs = search needs
-
-add-last : tie.Need-add-last Inv-loop μ-loop
-add-last c = omega (arith, at-start (c .before .before .before), c .before .first .ensures .value, c .count .ensures .value)
-
-sub-last : tie.Need-sub-last Inv-loop μ-loop
-sub-last c = omega (arith, at-start (c .before .before .before), c .before .first .ensures .value, c .count .ensures .value)
-
 loop-holds : tie.Need-loop-holds Inv-loop μ-loop
 loop-holds c =
     let d = c .before .before .before in
-    start (now (d .args .table)) _ _ _ _ (d .pre .0) (d .pre .1 .0) (c .before .first .ensures .value) (c .count .ensures .value)
+    start (now (d .args .table)) _ _ _ _ (d .pre .0) (d .pre .1 .0) (c .before .end-of .ensures) (c .first .ensures .value)
 
 span-requires : tie.Need-span-requires Inv-loop μ-loop
 span-requires c κs =
@@ -111,10 +101,8 @@ thread-length-spec =
     (tie.spec
     Inv-loop
     μ-loop
+    end-of-requires
     first-requires
-    count-requires
-    add-last
-    sub-last
     loop-holds
     span-requires
     add-total

@@ -15,7 +15,7 @@ use Rattle.schedule.specs.Sound.{allBelow, workerRight}
 use Rattle.schedule.specs.Turn.{isNobody}
 use Rattle.schedule.proofs.Words.{not-both}
 use Rattle.schedule.proofs.Clauses.{nobody-exactly, workerRight-exactly}
-use Rattle.soundness.proofs.All.{same-truth, all-cong}
+use Rattle.soundness.proofs.Every.{same-truth, all-cong}
 use Rattle.soundness.proofs.sound.all_free.Statement.{statement}
 use Rattle.soundness.proofs.sound.all_free.Tie as tie
 

@@ -1,22 +1,17 @@
 -- `soundness::sound::list_sound` meets its contract: the tests are the clauses, in their order.
 use mathlib.Core.Path.{_≡_, _∙_}
-use Prim.Native.Nat.{ℕ, _≤_}
+use Prim.Native.Nat.{ℕ}
 use mathlib.Core.List.{List}
 use mathlib.Core.Bool.{Bool, _&&_, and-assoc}
-use native.Mathlib.Omega.{arith}
 use denote.Ref.{now}
 use lib.ListN.{take}
 use lib.Dec.{ltb}
 use Rattle.table.specs.Format.{Table}
 use Rattle.schedule.specs.Sound.{allBelow, allIn, listFollows, inSerialOrder, listed}
-use Rattle.soundness.specs.Checks.{Accepted}
-use Rattle.soundness.proofs.Lookups.{accepted-lawful}
+use Rattle.soundness.proofs.Lookups.{few-threads}
 use Rattle.soundness.proofs.Chains.{off, on, cut, pass, second-of}
 use Rattle.soundness.proofs.sound.list_sound.Statement.{statement}
 use Rattle.soundness.proofs.sound.list_sound.Tie as tie
-
-few : {s : List ℕ} {n : ℕ} → Accepted s n → n ≤ 1024
-few k = omega (arith, k .threads, accepted-lawful k .few-threads)
 
 -- the two tests are the three clauses
 both : (T : Table) (next status list : List ℕ) (n : ℕ) → n ≡ T .threads → {r : Bool}
@@ -25,7 +20,7 @@ unfolding listed
 both T next status list n e h = h ∙ rw e (and-assoc (allBelow (listFollows status list) (T .threads)) (allIn (λ t. ltb t (T .threads)) list) (inSerialOrder T next list))
 
 list-follows-requires : tie.Need-list-follows-requires
-list-follows-requires c κs = let s = c .before in (few (s .pre .0), s .pre .1 .1 .0, s .pre .1 .1 .1)
+list-follows-requires c κs = let s = c .before in (few-threads (s .pre .0), s .pre .1 .1 .0, s .pre .1 .1 .1)
 
 returns : tie.Need-returns
 returns c = let s = c .before .before .before in both _ _ _ _ _ (s .pre .0 .threads) (cut _ (off (c .before .list-follows .ensures) (c .if1 .taken)))

@@ -3,19 +3,19 @@ use Prim.Native.Nat.{_-_}
 use native.Mathlib.Omega.{arith}
 use borrow.Author.Needs.{needs}
 use denote.Ref.{now}
-use Rattle.soundness.proofs.All.{Passed, passed-none}
+use Rattle.soundness.proofs.Every.{PassedFrom, from-none}
 use Rattle.soundness.proofs.Filled.{isZero, rest-more, rest-fails, rest-pass}
 use Rattle.soundness.proofs.unused.list_rest.Statement.{statement}
 use Rattle.soundness.proofs.unused.list_rest.Tie as tie
 
 abbrev Inv-loop : tie.InvT-loop
-Inv-loop list len i₀ i = Passed len (isZero list) i
+Inv-loop list len i₀ i = PassedFrom len (isZero list) i
 
 abbrev μ-loop : tie.MeasureT-loop
 μ-loop list len i₀ i = 1024 - i
 
 loop-holds : tie.Need-loop-holds Inv-loop μ-loop
-loop-holds c = passed-none _ (isZero (now (c .args .list)))
+loop-holds c = from-none _ (isZero (now (c .args .list)))
 
 mul-if1 : tie.Need-mul-if1 Inv-loop μ-loop
 mul-if1 c = search needs

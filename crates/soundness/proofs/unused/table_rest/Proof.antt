@@ -3,19 +3,19 @@ use Prim.Native.Nat.{_-_}
 use native.Mathlib.Omega.{arith}
 use borrow.Author.Needs.{needs}
 use denote.Ref.{now}
-use Rattle.soundness.proofs.All.{Passed, passed-none}
+use Rattle.soundness.proofs.Every.{PassedFrom, from-none}
 use Rattle.soundness.proofs.Filled.{isZero, rest-more, rest-fails, rest-pass}
 use Rattle.soundness.proofs.unused.table_rest.Statement.{statement}
 use Rattle.soundness.proofs.unused.table_rest.Tie as tie
 
 abbrev Inv-loop : tie.InvT-loop
-Inv-loop table used i₀ i = Passed used (isZero table) i
+Inv-loop table used i₀ i = PassedFrom used (isZero table) i
 
 abbrev μ-loop : tie.MeasureT-loop
 μ-loop table used i₀ i = 36868 - i
 
 loop-holds : tie.Need-loop-holds Inv-loop μ-loop
-loop-holds c = passed-none _ (isZero (now (c .args .table)))
+loop-holds c = from-none _ (isZero (now (c .args .table)))
 
 element-copy-out-if1 : tie.Need-element-copy-out-if1 Inv-loop μ-loop
 element-copy-out-if1 c = search needs

@@ -2,41 +2,38 @@
 use mathlib.Core.Path.{_≡_}
 use Prim.Native.Nat.{ℕ, _+_, _-_, _<_}
 use mathlib.Core.List.{List}
-use mathlib.Core.Bool.{Bool, false}
+use mathlib.Core.Bool.{false}
 use native.Mathlib.Omega.{arith}
 use borrow.Author.Needs.{needs}
 use borrow.Author.Tests.{ne-eqb}
 use denote.Ref.{now}
 use lib.ListN.{getD}
 use Rattle.schedule.specs.Sound.{allBelow, unused}
-use Rattle.soundness.proofs.All.{fromOn, all-pass, Passed, passed-none, passed-more, passed-fails}
+use Rattle.soundness.proofs.Every.{fromOn, PassedFrom, from-none, from-more, from-fails, from-all}
 use Rattle.soundness.proofs.unused.unused_right.Statement.{statement}
 use Rattle.soundness.proofs.unused.unused_right.Tie as tie
 
-abbrev isUnused : List ℕ → List ℕ → ℕ → Bool
-isUnused next status = unused next status
-
-module _ (n : ℕ) (next status : List ℕ) (t : ℕ) (p : Passed n (isUnused next status) t) where
-  born : t < 1024 → (getD status t 0 ≡ 0 → ⊥) → false ≡ allBelow (fromOn n (isUnused next status)) 1024
+module _ (n : ℕ) (next status : List ℕ) (t : ℕ) (p : PassedFrom n (unused next status) t) where
+  born : t < 1024 → (getD status t 0 ≡ 0 → ⊥) → false ≡ allBelow (fromOn n (unused next status)) 1024
   unfolding unused
-  born h e = passed-fails n (isUnused next status) t p 1024 h (rw (ne-eqb (getD status t 0) 0 e))
+  born h e = from-fails p h (rw (ne-eqb (getD status t 0) 0 e))
 
-  moved : t < 1024 → getD status t 0 ≡ 0 → (getD next t 0 ≡ 0 → ⊥) → false ≡ allBelow (fromOn n (isUnused next status)) 1024
+  moved : t < 1024 → getD status t 0 ≡ 0 → (getD next t 0 ≡ 0 → ⊥) → false ≡ allBelow (fromOn n (unused next status)) 1024
   unfolding unused
-  moved h d e = passed-fails n (isUnused next status) t p 1024 h (rw (d, ne-eqb (getD next t 0) 0 e))
+  moved h d e = from-fails p h (rw (d, ne-eqb (getD next t 0) 0 e))
 
-  again : getD status t 0 ≡ 0 → getD next t 0 ≡ 0 → Passed n (isUnused next status) (t + 1)
+  again : getD status t 0 ≡ 0 → getD next t 0 ≡ 0 → PassedFrom n (unused next status) (t + 1)
   unfolding unused
-  again d e = passed-more n (isUnused next status) t p (rw (d, e))
+  again d e = from-more p (rw (d, e))
 
 abbrev Inv-loop : tie.InvT-loop
-Inv-loop n next status t₀ t = Passed n (isUnused next status) t
+Inv-loop n next status t₀ t = PassedFrom n (unused next status) t
 
 abbrev μ-loop : tie.MeasureT-loop
 μ-loop n next status t₀ t = 1024 - t
 
 loop-holds : tie.Need-loop-holds Inv-loop μ-loop
-loop-holds c = passed-none _ (isUnused (now (c .args .next)) (now (c .args .status)))
+loop-holds c = from-none _ (unused (now (c .args .next)) (now (c .args .status)))
 
 element-copy-out-if1 : tie.Need-element-copy-out-if1 Inv-loop μ-loop
 element-copy-out-if1 c = search needs
@@ -70,9 +67,7 @@ loop-again c =
     again _ (now (d .before .args .next)) (now (d .before .args .status)) _ (d .loop .inv) (c .before .before .if1 .left) (c .if2 .left)
 
 returns-3 : tie.Need-returns-3 Inv-loop μ-loop
-returns-3 c =
-    let d = c .before .before in
-    all-pass (fromOn (d .args .n) (isUnused (now (d .args .next)) (now (d .args .status)))) _ 1024 (c .loop-test .left) (c .before .loop .inv .all)
+returns-3 c = from-all (c .before .loop .inv) (c .loop-test .left)
 
 pub unused-right-spec : {M : Type 1} → statement M
 unused-right-spec =
