@@ -1,5 +1,5 @@
 -- What each call answers, by the checks: the definitions, case by case.
-use mathlib.Core.Path.{_≡_, refl, ap, _∙_}
+use mathlib.Core.Path.{_≡_, refl, sym, ap, _∙_}
 use Prim.Native.Nat.{ℕ, _-_, _^_, _≤_, _<_}
 use native.Mathlib.Omega.{arith}
 use mathlib.Core.List.{List, [], _∷_}
@@ -17,14 +17,22 @@ use Rattle.schedule.specs.declared.Reply.{Reply}
 use Rattle.schedule.specs.declared.Report.{Report}
 use Rattle.schedule.specs.declared.Report.the-variants.{Spent, Refused}
 use Rattle.schedule.specs.Answers.{beginningValues, turningValues, reportValues}
-use Rattle.schedule.specs.Record.{blank}
+use Rattle.schedule.specs.Record.{blank, tableIn}
 use Rattle.schedule.specs.Sound.{Steady, Sound, sound}
 use Rattle.schedule.specs.Turn.{isBlank, unsound, rootEnded, noWorker, turnChecks, stepRun, turned}
 use Rattle.schedule.specs.Runs.{ran, moved, drive, listRun, roundsRun}
 use Rattle.schedule.proofs.Tests.{sound-exactly, blank-exactly}
 use Rattle.schedule.proofs.Stores.{steady-fits}
-use Rattle.asyncdf.specs.Drives.{who, Sequence, Open}
+use Rattle.soundness.specs.declared.Tested.{Tested}
+use Rattle.soundness.specs.Checks.{Parents}
+use Rattle.soundness.specs.Tested.{tested}
+use Rattle.soundness.proofs.Noting.{parents-right}
+use Rattle.asyncdf.specs.Drives.{who, Sequence, Open, Driven}
 use Rattle.asyncdf.proofs.Driving.{drive-next}
+
+not-twice : (q : Bool) {b : Bool} → not (not q) ≡ b → q ≡ b
+not-twice true e = e
+not-twice false e = e
 
 -- ---- what stands behind check 32
 
@@ -51,6 +59,20 @@ module _ (r : Run) (e : unsound r ≡ false) where
       go : (s : Bool) → sound r ≡ s → r ≡ blank
       go true i = absurd (omega (arith, steady-fits r (sound-exactly r .0 i .steady) .some-worker))
       go false i = blank-exactly r .0 (not-false (isBlank r) (rw i at e))
+
+-- what the test of a record says of it
+module _ (r : Run) {x : Tested} (e : x ≡ tested r) where
+  pub test-fails : not (x .passed) ≡ true → unsound r ≡ true
+  unfolding tested
+  test-fails h = not-twice (unsound r) (ap (λ (y : Tested). not (y .passed)) (sym e) ∙ h)
+
+  pub test-passes : not (x .passed) ≡ false → unsound r ≡ false
+  unfolding tested
+  test-passes h = not-twice (unsound r) (ap (λ (y : Tested). not (y .passed)) (sym e) ∙ h)
+
+  pub test-parents : Sound r → Parents (tableIn r) (x .parents)
+  unfolding tested
+  test-parents h = parents-right (tableIn r) (ap (λ (y : Tested). y .parents) e ∙ rw (sound-exactly r .1 h))
 
 -- turns taken decides it on a record that is sound but for them
 pub steady-full : (r : Run) → Steady r → r .turns ≡ 2 ^ 64 - 1 → unsound r ≡ true

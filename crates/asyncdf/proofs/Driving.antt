@@ -34,10 +34,10 @@ use Rattle.schedule.proofs.Ends.{acting-ended}
 use Rattle.schedule.proofs.Turns.{leftmost-ready, taken-holds, turn-facts}
 use Rattle.schedule.proofs.Tries.{Turned, idles, tries, turned}
 use Rattle.schedule.proofs.Stores.{steady-lawful, steady-fits, steady-facts}
-use Rattle.asyncdf.specs.declared.act.Totals.{Totals}
-use Rattle.asyncdf.specs.declared.act.Stepped.{Stepped as StepResult}
-use Rattle.asyncdf.specs.Parts.{partState, partStepped, turnBody, Rowed}
-use Rattle.asyncdf.specs.Drives.{busyAfter, packedOf}
+use Rattle.asyncdf.specs.declared.runs.Moved.{Moved}
+use Rattle.asyncdf.specs.declared.runs.Taken.{Taken}
+use Rattle.asyncdf.specs.Parts.{partState}
+use Rattle.asyncdf.specs.Drives.{Took, packedOf}
 use Rattle.asyncdf.proofs.Local.{putBack, turn-local, set-busy}
 
 -- ---- the root's end
@@ -141,26 +141,27 @@ module _ (r : Run) (h : Steady r) (w : ℕ) (b : w < r .workers) where
       n t q)
 
 -- what the code moved is the record after the turn
-module _ (run : Run) (next status list : List ℕ) (workers : List Worker) (busy : ℕ) (totals : Totals) (turns w : ℕ)
-    (next' status' list' : List ℕ) (s : StepResult) (busy' : ℕ)
-    (h : Steady (packedOf run next status list workers busy totals turns)) (b : w < run .workers)
-    (e : partStepped next' status' list' s ≡ turnBody (tableIn run) (run .quota) 0 (partState next status list totals (getD workers w nobody)))
-    (row : Rowed list' (s .totals .listed)) (set' : busy' ≡ busyAfter busy (getD workers w nobody .holds) (s .worker .holds) w) where
+module _ (run : Run) (next status list : List ℕ) (workers : List Worker) (m : Moved) (w : ℕ) (next' status' list' : List ℕ) (r : Taken)
+    (h : Steady (packedOf run next status list workers m)) (b : w < run .workers)
+    (t : Took (tableIn run) (run .quota) w next status list m (getD workers w nobody) next' status' list' r) where
+  abbrev before : Run
+  before = packedOf run next status list workers m
+
   fits : w < length workers
-  fits = omega (arith, h .state .worker-size, steady-fits _ h .few-workers)
+  fits = omega (arith, h .state .common .worker-size, steady-fits _ h .few-workers)
 
-  stepped-as : stepRun (packedOf run next status list workers busy totals turns) w
-      ≡ stepped (s .reply) (counted (putBack w (stateOf (packedOf run next status list workers busy totals turns)) (partStepped next' status' list' s) .state))
+  stepped-as : stepRun before w
+      ≡ stepped (r .reply) (counted (putBack w (stateOf before) (stepped (r .reply) (partState next' status' list' (r .moved .totals) (r .worker))) .state))
   unfolding stepRun
-  stepped-as = turn-local (tableIn run) (run .quota) w (stateOf (packedOf run next status list workers busy totals turns)) fits ∙ rw (← e)
+  stepped-as = turn-local (tableIn run) (run .quota) w (stateOf before) fits ∙ rw (← (t .body))
 
-  pub packed-reply : stepRun (packedOf run next status list workers busy totals turns) w .reply ≡ s .reply
+  pub packed-reply : stepRun before w .reply ≡ r .reply
   packed-reply = ap (λ (x : Stepped). x .reply) stepped-as
 
-  pub packed-moved : moved (packedOf run next status list workers busy totals turns) w ≡ packedOf run next' status' list' (set workers w (s .worker)) busy' (s .totals) (turns + 1)
+  pub packed-moved : moved before w ≡ packedOf run next' status' list' (set workers w (r .worker)) (r .moved)
   packed-moved =
-      let q : setOf (set workers w (s .worker)) ≡ busy' = set-busy workers w (s .worker) fits ∙ rw (set', h .set) in
-      rw (stepped-as, q, ← row .rest, row .front, add-one)
+      let q : setOf (set workers w (r .worker)) ≡ r .moved .busy = set-busy workers w (r .worker) fits ∙ rw (t .set, h .set) in
+      rw (stepped-as, q, ← t .row .rest, t .row .front, t .count, add-one)
 
 -- ---- the run
 

@@ -1,14 +1,21 @@
--- Laying the values of a function into an array of zeros, from its first place on.
-use mathlib.Core.Path.{_≡_, ap, sym, _∙_}
+-- Laying the values of a function into an array of zeros, from its first place on; the sizes of an accepted table, which fit the record.
+use mathlib.Core.Path.{_≡_, refl, ap, sym, _∙_}
 use Prim.Native.Nat.{ℕ, zero, suc, _+_, _-_, _<_}
 use native.Mathlib.Numerals.{add-one}
 use native.Mathlib.Omega.{arith}
 use mathlib.Core.List.{List, [], _∷_, _++_}
 use lib.ListN.{length, set, replicate, length-append}
 use lib.Seq.{set-at, append-snoc}
+use Rattle.table.specs.Format.{actionsOf, tableOf}
+use Rattle.table.proofs.Sizes.{Sizes, sizes}
 use Rattle.schedule.specs.Record.{filled}
 use Rattle.schedule.specs.Begin.{firsts}
 use Rattle.schedule.proofs.Lists.{firsts-length}
+use Rattle.soundness.specs.Checks.{Accepted}
+
+pub accepted-sizes : {s : List ℕ} {n : ℕ} → Accepted s n → Sizes s n (actionsOf s)
+unfolding tableOf
+accepted-sizes k = sizes (record { head = k .rules .head; threads = k .threads; actions = refl })
 
 -- one value more, at the row's end
 firsts-more : (f : ℕ → ℕ) (a k : ℕ) → firsts f a (suc k) ≡ firsts f a k ++ (f (a + k) ∷ [])

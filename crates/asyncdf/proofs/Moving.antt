@@ -1,4 +1,4 @@
--- What every loop of turns keeps: the record packed from what the turns have moved is sound but for its turns taken, its root has not ended, and a turn of the code is a turn of it.
+-- What every loop of turns keeps (`Moving`): it holds at the start, gives a turn what it asks for, and holds after a turn in which the root's end was not done.
 use mathlib.Core.Path.{_≡_, refl, sym, ap, subst, _∙_}
 use Prim.Native.Nat.{ℕ, _+_, _-_, _^_, _≤_, _<_}
 use mathlib.Core.List.{List, [], _∷_}
@@ -7,11 +7,12 @@ use native.Mathlib.Omega.{arith}
 use denote.Enum.Declared.{tagOf}
 use types.Run.{OneOf, miss}
 use lib.ListN.{length, getD, set, length-take}
-use Rattle.table.proofs.Sizes.{Sizes}
 use Rattle.schedule.specs.declared.Worker.{Worker}
 use Rattle.schedule.specs.declared.Run.{Run}
 use Rattle.schedule.specs.declared.Reply.{Reply}
 use Rattle.schedule.specs.declared.Reply.the-variants.{Done}
+use Rattle.table.specs.Format.{threadsOf, tableOf}
+use Rattle.table.specs.Rules.{endOf}
 use Rattle.schedule.specs.Machine.{nobody}
 use Rattle.schedule.specs.Memory.{ofReply}
 use Rattle.schedule.specs.Record.{bytesOf, tableIn, stateOf}
@@ -20,11 +21,11 @@ use Rattle.schedule.specs.Turn.{rootEnded, stepRun}
 use Rattle.schedule.specs.Runs.{moved}
 use Rattle.schedule.proofs.Reply.{the-type}
 use Rattle.schedule.proofs.Stores.{steady-fits, moved-steady}
-use Rattle.asyncdf.specs.declared.act.Totals.{Totals}
-use Rattle.asyncdf.specs.declared.act.Stepped.{Stepped as StepResult}
-use Rattle.asyncdf.specs.Parts.{partState, partStepped, turnBody, Rowed, Sits}
-use Rattle.asyncdf.specs.Drives.{busyAfter, Bit, Outlined, packedOf}
-use Rattle.asyncdf.proofs.Room.{known-sizes}
+use Rattle.soundness.specs.Checks.{Parents}
+use Rattle.asyncdf.specs.declared.runs.Moved.{Moved}
+use Rattle.asyncdf.specs.declared.runs.Taken.{Taken}
+use Rattle.asyncdf.specs.Parts.{Rowed, Sits}
+use Rattle.asyncdf.specs.Drives.{Bit, Outlined, Moving, Took, movedOf, packedOf}
 use Rattle.asyncdf.proofs.Local.{set-bit}
 use Rattle.asyncdf.proofs.Driving.{finishes, goes-on, packed-reply, packed-moved}
 
@@ -48,44 +49,51 @@ other {r} {t} {a} {last} e d u f = d (ap (ofReply (λ j. j)) (sym e ∙ f))
 
 -- ---- the invariant
 
-pub record Moving (run : Run) (n last : ℕ) (parents next status list : List ℕ) (workers : List Worker) (busy : ℕ) (totals : Totals) (turns : ℕ) : Type 0 where
-  pub outline : Outlined (bytesOf run) n last parents
-  pub row : Rowed list (totals .listed)
-  pub steady : Steady (packedOf run next status list workers busy totals turns)
-  pub unended : rootEnded (packedOf run next status list workers busy totals turns) ≡ false
-  pub turns-fit : turns < 2 ^ 64
+pub first-moving : {run : Run} {n last : ℕ} {parents : List ℕ} → Steady run → rootEnded run ≡ false → n ≡ tableIn run .threads → last ≡ endOf (tableIn run) 0
+    → Parents (tableIn run) parents → length (run .list) ≡ 1024 → run .turns < 2 ^ 64
+    → Moving run (bytesOf run) n last (run .workers) (run .quota) parents (run .next) (run .status) (run .list) (run .worker) (movedOf run)
+first-moving h o e f a z g =
+    record {
+      bytes = refl;
+      count = refl;
+      quota = refl;
+      outline = record { threads = e; last-action = f; parent = a };
+      row = record { size = z; front = h .list-length; rest = h .list-rest };
+      steady = h;
+      unended = o;
+      turns-fit = g;
+    }
 
-pub first-moving : {run : Run} {n last : ℕ} {parents : List ℕ} → Steady run → rootEnded run ≡ false → Outlined (bytesOf run) n last parents → length (run .list) ≡ 1024
-    → run .turns < 2 ^ 64
-    → Moving run n last parents (run .next) (run .status) (run .list) (run .worker) (run .busy) (record { listed = run .listed; held = run .held; highest = run .highest }) (run .turns)
-first-moving h o l z g =
-    record { outline = l; row = record { size = z; front = h .list-length; rest = h .list-rest }; steady = h; unended = o; turns-fit = g }
+-- as the code finds it: the numbers read off the table, the rest copied
+pub copied-moving : {run : Run} {n last : ℕ} {parents : List ℕ} {m : Moved} → Steady run → rootEnded run ≡ false → n ≡ threadsOf (bytesOf run) → last ≡ endOf (tableIn run) 0
+    → Parents (tableIn run) parents → length (run .list) ≡ 1024 → run .turns < 2 ^ 64 → m ≡ movedOf run
+    → Moving run (bytesOf run) n last (run .workers) (run .quota) parents (run .next) (run .status) (run .list) (run .worker) m
+unfolding tableOf
+copied-moving h o e f a z g q = rw q (first-moving h o e f a z g)
 
-module _ {run : Run} {n last : ℕ} {parents next status list : List ℕ} {workers : List Worker} {busy : ℕ} {totals : Totals} {turns : ℕ}
-    (v : Moving run n last parents next status list workers busy totals turns) where
+module _ {run : Run} {s : List ℕ} {n last p K : ℕ} {parents next status list : List ℕ} {workers : List Worker} {m : Moved}
+    (v : Moving run s n last p K parents next status list workers m) where
   abbrev pub here : Run
-  here = packedOf run next status list workers busy totals turns
+  here = packedOf run next status list workers m
 
-  pub few-threads : n ≤ 1024
-  few-threads =
-      let z : Sizes (bytesOf run) n (tableIn run .actions) = known-sizes (record { rules = v .steady .table; threads = v .outline .threads; actions = refl }) in
-      z .threads-high
+  module _ {w : ℕ} (b : w < p) where
+    own : w < run .workers
+    own = omega (arith, b, v .count)
 
-  module _ {w : ℕ} (b : w < run .workers) where
     pub few : w < 16
-    few = omega (arith, b, steady-fits here (v .steady) .few-workers)
+    few = omega (arith, own, steady-fits here (v .steady) .few-workers)
 
-    pub sits : Sits (bytesOf run) n (run .quota) next status list totals (getD workers w nobody)
+    pub sits : Sits s n K next status list (m .totals) (getD workers w nobody)
     sits =
         record {
-          rules = v .steady .table;
+          rules = rw (v .bytes) at (v .steady .table);
           threads = v .outline .threads;
-          p = run .workers;
+          p = p;
           w = w;
           below = b;
-          beginning = v .steady .beginning;
+          beginning = rw (v .bytes, v .count, v .quota) at (v .steady .beginning);
           state = stateOf here;
-          sound = v .steady .state;
+          sound = rw (v .bytes, v .count, v .quota) at (v .steady .state);
           same-next = refl;
           same-status = refl;
           same-list = refl;
@@ -95,35 +103,42 @@ module _ {run : Run} {n last : ℕ} {parents next status list : List ℕ} {worke
           row = v .row;
         }
 
-    pub bit : Bit busy (getD workers w nobody .holds) w
-    bit = rw (v .steady .set) (set-bit workers w (v .steady .state .worker-size) few)
+    pub bit : Bit (m .busy) (getD workers w nobody .holds) w
+    bit = rw (v .steady .set) (set-bit workers w (v .steady .state .common .worker-size) few)
 
-    module _ {next' status' list' : List ℕ} {s : StepResult} {busy' : ℕ}
-        (t : partStepped next' status' list' s ≡ turnBody (tableIn run) (run .quota) 0 (partState next status list totals (getD workers w nobody)))
-        (row' : Rowed list' (s .totals .listed)) (set' : busy' ≡ busyAfter busy (getD workers w nobody .holds) (s .worker .holds) w) where
+    module _ {next' status' list' : List ℕ} {r : Taken} (t : Took (tableOf s) K w next status list m (getD workers w nobody) next' status' list' r) where
       abbrev pub there : Run
-      there = packedOf run next' status' list' (set workers w (s .worker)) busy' (s .totals) (turns + 1)
+      there = packedOf run next' status' list' (set workers w (r .worker)) (r .moved)
+
+      took : Took (tableIn run) (run .quota) w next status list m (getD workers w nobody) next' status' list' r
+      took = rw (v .bytes, v .quota) t
 
       pub moves : moved here w ≡ there
-      moves = packed-moved run next status list workers busy totals turns w next' status' list' s busy' (v .steady) b t row' set'
+      moves = packed-moved run next status list workers m w next' status' list' r (v .steady) own took
 
-      pub replies : stepRun here w .reply ≡ s .reply
-      replies = packed-reply run next status list workers busy totals turns w next' status' list' s busy' (v .steady) b t row' set'
+      pub replies : stepRun here w .reply ≡ r .reply
+      replies = packed-reply run next status list workers m w next' status' list' r (v .steady) own took
+
+      last-is : last ≡ endOf (tableIn run) 0
+      last-is = rw (v .bytes) (v .outline .last-action)
 
       -- the root's end was not done: the loop goes on
-      pub keeps : (turns ≡ 2 ^ 64 - 1 → ⊥) → ((u : ℕ) → s .reply ≡ Done u last → ⊥)
-          → Moving run n last parents next' status' list' (set workers w (s .worker)) busy' (s .totals) (turns + 1)
+      pub keeps : (m .turns ≡ 2 ^ 64 - 1 → ⊥) → ((u : ℕ) → r .reply ≡ Done u last → ⊥)
+          → Moving run s n last p K parents next' status' list' (set workers w (r .worker)) (r .moved)
       keeps e d =
           record {
+            bytes = v .bytes;
+            count = v .count;
+            quota = v .quota;
             outline = v .outline;
-            row = row';
-            steady = subst (λ (r : Run). Steady r) moves (moved-steady here (v .steady) w b);
+            row = t .row;
+            steady = subst (λ (x : Run). Steady x) moves (moved-steady here (v .steady) w own);
             unended =
-                subst (λ (r : Run). rootEnded r ≡ false) moves
-                (goes-on here (v .steady) w b (v .unended) (λ u j. d u (sym replies ∙ j ∙ ap (Done u) (sym (v .outline .last-action)))));
-            turns-fit = omega (arith, v .turns-fit, e);
+                subst (λ (x : Run). rootEnded x ≡ false) moves
+                (goes-on here (v .steady) w own (v .unended) (λ u j. d u (sym replies ∙ j ∙ ap (Done u) (sym last-is))));
+            turns-fit = omega (arith, v .turns-fit, e, t .count);
           }
 
       -- it was
-      pub over : {u a : ℕ} → s .reply ≡ Done u a → a ≡ last → rootEnded there ≡ true
-      over {u} j f = subst (λ (r : Run). rootEnded r ≡ true) moves (finishes here (v .steady) w b u (replies ∙ j ∙ ap (Done u) (f ∙ v .outline .last-action)))
+      pub over : {u a : ℕ} → r .reply ≡ Done u a → a ≡ last → rootEnded there ≡ true
+      over {u} j f = subst (λ (x : Run). rootEnded x ≡ true) moves (finishes here (v .steady) w own u (replies ∙ j ∙ ap (Done u) (f ∙ last-is)))

@@ -28,7 +28,8 @@ use Rattle.schedule.proofs.Moves.{taken-facts}
 use Rattle.schedule.proofs.Shares.{free-held}
 use Rattle.schedule.proofs.Stores.{Fits, begin-fits}
 use Rattle.schedule.proofs.Soundness.{list-room, held-fits}
-use Rattle.asyncdf.specs.Parts.{At, Parents, Wakes, Sits}
+use Rattle.soundness.specs.Checks.{Parents}
+use Rattle.asyncdf.specs.Parts.{At, Wakes, Sits}
 use Rattle.asyncdf.specs.declared.act.Totals.{Totals}
 
 -- the next action of the worker's thread
@@ -93,13 +94,13 @@ module _ {s : List ℕ} {n K : ℕ} {next status list : List ℕ} {totals : Tota
   pub status-size : length status ≡ 1024
   status-size = known .status-size
 
-  -- the next action of a thread is in the table's bytes
-  pub next-inside : (t : ℕ) → t < tableOf s .threads → (getD next t 0 < 8192) × (4 + 4 * n + 4 * getD next t 0 + 3 < length s)
+  -- the next action of a thread is one of the table's
+  next-small : (t : ℕ) → t < tableOf s .threads → getD next t 0 < 8192
   unfolding tableOf
-  next-inside t h =
+  next-small t h =
       let z : Sizes s (threadsOf s) (actionsOf s) = sizes (record { head = q .rules .head; threads = refl; actions = refl }) in
       let a : getD next t 0 < actionsOf s = next-below (tableOf s) laws (q .p) K (stateOf run) known t h in
-      (omega arith, omega (arith, q .threads))
+      omega arith
 
   -- the places of the list have threads of the table
   pub row-below : (i : ℕ) → i < totals .listed → getD list i 0 < tableOf s .threads
@@ -128,7 +129,7 @@ module _ {s : List ℕ} {n K : ℕ} {next status list : List ℕ} {totals : Tota
           size = known .next-size;
           thread = omega (arith, thread-below, few-threads);
           action = refl;
-          fits = omega (arith, next-inside (worker .thread) thread-below);
+          fits = omega (arith, next-small (worker .thread) thread-below);
         }
 
     pub place-below : placeIn (worker .thread) (take (totals .listed) list) < totals .listed
@@ -168,13 +169,13 @@ module _ {s : List ℕ} {n K : ℕ} {next status list : List ℕ} {totals : Tota
     join-child k = omega (arith, few-threads, join-below (tableOf s) (laws .contents) (laws .bodies) (actionOf next worker) next-is-below k)
 
     -- the parent may be looked at
-    pub parent-wakes : (parents : List ℕ) → Parents (tableOf s) parents → Wakes s n next status (getD parents (worker .thread) 0)
+    pub parent-wakes : (parents : List ℕ) → Parents (tableOf s) parents → Wakes s n status (getD parents (worker .thread) 0)
     parent-wakes parents r =
         let u : ℕ = getD parents (worker .thread) 0 in
         let b : u < tableOf s .threads =
         rw (r .right (worker .thread) thread-below)
         (ownerBelow-less (tableOf s) (tableOf s .threads) (forkBelow (tableOf s) (tableOf s .actions) (worker .thread)) (laws .some-thread)) in
-        record { threads = q .threads; size = status-size; below = omega (arith, few-threads); within = λ e. next-inside u b .1 }
+        record { threads = q .threads; size = status-size; below = omega (arith, few-threads) }
 
   -- ---- a worker that takes a thread
 

@@ -5,13 +5,22 @@ use mathlib.Core.List.{List}
 use mathlib.Core.Bool.{Bool, true, false}
 use lib.ListN.{length, getD}
 use Rattle.table.specs.Sum.{pick}
-use Rattle.table.specs.Format.{tableOf}
+use Rattle.table.specs.Format.{Table, tableOf}
 use Rattle.table.specs.Rules.{endOf}
 use Rattle.schedule.specs.declared.Worker.{Worker}
 use Rattle.schedule.specs.declared.Run.{Run}
-use Rattle.schedule.specs.Turn.{rootEnded}
+use Rattle.schedule.specs.declared.Reply.{Reply}
+use Rattle.schedule.specs.declared.Report.{Report}
+use Rattle.schedule.specs.Machine.{stepped}
+use Rattle.schedule.specs.Record.{bytesOf}
+use Rattle.schedule.specs.Sound.{Steady}
+use Rattle.schedule.specs.Turn.{rootEnded, stepRun}
+use Rattle.schedule.specs.Runs.{ran, drive}
+use Rattle.soundness.specs.Checks.{Parents}
 use Rattle.asyncdf.specs.declared.act.Totals.{Totals}
-use Rattle.asyncdf.specs.Parts.{Parents}
+use Rattle.asyncdf.specs.declared.runs.Moved.{Moved}
+use Rattle.asyncdf.specs.declared.runs.Taken.{Taken}
+use Rattle.asyncdf.specs.Parts.{partState, turnBody, Rowed}
 
 -- the worker of turn i
 unfoldable pub who : List ℕ → Bool → ℕ → ℕ → ℕ
@@ -44,9 +53,13 @@ pub record Open (r : Run) (w : ℕ) : Type 0 where
   pub room : r .turns < 2 ^ 64 - 1
   pub below : w < r .workers
 
+-- what the turns have moved besides the arrays and the workers' records, as a record has it
+abbrev pub movedOf : Run → Moved
+movedOf r = record { busy = r .busy; totals = record { listed = r .listed; held = r .held; highest = r .highest }; turns = r .turns }
+
 -- the record with what the turns have moved
-abbrev pub packedOf : Run → List ℕ → List ℕ → List ℕ → List Worker → ℕ → Totals → ℕ → Run
-packedOf run next status list worker busy totals turns =
+abbrev pub packedOf : Run → List ℕ → List ℕ → List ℕ → List Worker → Moved → Run
+packedOf run next status list worker m =
     record {
       table = run .table;
       length = run .length;
@@ -55,10 +68,38 @@ packedOf run next status list worker busy totals turns =
       next = next;
       status = status;
       list = list;
-      listed = totals .listed;
+      listed = m .totals .listed;
       worker = worker;
-      busy = busy;
-      held = totals .held;
-      highest = totals .highest;
-      turns = turns;
+      busy = m .busy;
+      held = m .totals .held;
+      highest = m .totals .highest;
+      turns = m .turns;
     }
+
+-- What every loop of turns keeps, over the table's bytes: the record packed from what the turns have moved is sound but for its turns taken, and its root has not ended.
+pub record Moving (run : Run) (s : List ℕ) (n last p K : ℕ) (parents next status list : List ℕ) (workers : List Worker) (m : Moved) : Type 0 where
+  pub bytes : bytesOf run ≡ s
+  pub count : run .workers ≡ p
+  pub quota : run .quota ≡ K
+  pub outline : Outlined s n last parents
+  pub row : Rowed list (m .totals .listed)
+  pub steady : Steady (packedOf run next status list workers m)
+  pub unended : rootEnded (packedOf run next status list workers m) ≡ false
+  pub turns-fit : m .turns < 2 ^ 64
+
+-- the loop's locals belong to some record
+pub record Stands (s : List ℕ) (n last p K : ℕ) (parents next status list : List ℕ) (workers : List Worker) (m : Moved) : Type 0 where
+  pub run : Run
+  pub moving : Moving run s n last p K parents next status list workers m
+
+-- what a turn of worker w in a loop leaves
+pub record Took (T : Table) (K w : ℕ) (next status list : List ℕ) (m : Moved) (worker : Worker) (next' status' list' : List ℕ) (r : Taken) : Type 0 where
+  pub body : stepped (r .reply) (partState next' status' list' (r .moved .totals) (r .worker)) ≡ turnBody T K 0 (partState next status list (m .totals) worker)
+  pub row : Rowed list' (r .moved .totals .listed)
+  pub set : r .moved .busy ≡ busyAfter (m .busy) (worker .holds) (r .worker .holds) w
+  pub count : r .moved .turns ≡ m .turns + 1
+
+-- what is said of a run of at most `limit` turns that stopped with these: its report and record, and the reply of a single turn that could be taken
+pub record Driven (who : ℕ → ℕ) (limit : ℕ) (run : Run) (report : Report) (reply : Reply) (left : Run) : Type 0 where
+  pub ran-as : ran report left ≡ drive who limit 0 run
+  pub said : limit ≡ 1 → Open run (who 0) → reply ≡ stepRun run (who 0) .reply

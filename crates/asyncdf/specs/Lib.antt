@@ -1,5 +1,2 @@
 pub mod Parts
-pub mod Checks
-pub mod Adding
-pub mod Order
 pub mod Drives

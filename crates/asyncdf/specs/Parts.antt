@@ -2,7 +2,7 @@
 use mathlib.Core.Path.{_≡_}
 use Prim.Native.Nat.{ℕ, _+_, _*_, _<_}
 use mathlib.Core.List.{List, [], _∷_}
-use mathlib.Core.Bool.{_&&_}
+use mathlib.Core.Bool.{true, _&&_}
 use lib.ListN.{length, take, getD, set}
 use lib.Dec.{eqb}
 use Rattle.table.specs.Sum.{pick}
@@ -11,7 +11,7 @@ use Rattle.table.specs.Accepted.{Rules}
 use Rattle.table.specs.Pass.{firstFound}
 use Rattle.table.specs.declared.Found.the-variants.{Nothing}
 use Rattle.schedule.specs.declared.Worker.{Worker}
-use Rattle.schedule.specs.Machine.{State, waiting, ready, Stepped, stepped, workerOf, act, turnFree, parentOf}
+use Rattle.schedule.specs.Machine.{State, held, waiting, ready, Stepped, stepped, workerOf, leftmost, act, turnFree}
 use Rattle.schedule.specs.Record.{filled, maxThreads}
 use Rattle.schedule.specs.Begin.{beginPasses}
 use Rattle.schedule.specs.Sound.{SoundState}
@@ -39,15 +39,26 @@ partStepped next status list r = stepped (r .reply) (partState next status list 
 unfoldable pub turnBody : Table → ℕ → ℕ → State → Stepped
 turnBody T K w st = pick (workerOf st w .holds) (act T w st) (turnFree T K w st)
 
+-- the statuses and the worker's record once it has its thread: "If w holds nothing, it takes the leftmost ready thread with quota K"
+pub record Seat : Type 0 where
+  pub status : List ℕ
+  pub worker : Worker
+
+abbrev pub seat : List ℕ → Worker → Seat
+seat status worker = record { status = status; worker = worker }
+
+unfoldable pub seatOf : ℕ → List ℕ → List ℕ → Worker → Seat
+seatOf K status list worker =
+    let i : ℕ = leftmost status list in
+    let t : ℕ = getD list i 0 in
+    pick (worker .holds) (seat status worker)
+    (pick (eqb i (length list)) (seat status worker) (seat (set status t held) (record { holds = true; thread = t; quota = K })))
+
 -- the array has the threads of the list in its first places, and 0 after them
 pub record Rowed (list : List ℕ) (len : ℕ) : Type 0 where
   pub size : length list ≡ maxThreads
   pub front : length (take len list) ≡ len
   pub rest : list ≡ filled maxThreads (take len list)
-
--- each thread's parent
-pub record Parents (T : Table) (parents : List ℕ) : Type 0 where
-  pub right : (t : ℕ) → t < T .threads → getD parents t 0 ≡ parentOf T t
 
 -- the worker's thread is at action a
 pub record At (next : List ℕ) (worker : Worker) (a : ℕ) : Type 0 where
@@ -56,12 +67,11 @@ pub record At (next : List ℕ) (worker : Worker) (a : ℕ) : Type 0 where
   pub action : getD next (worker .thread) 0 ≡ a
   pub fits : a + 1 < 65536
 
--- thread u may be looked at: where it waits, its next action is one of the table's
-pub record Wakes (s : List ℕ) (n : ℕ) (next status : List ℕ) (u : ℕ) : Type 0 where
+-- thread u may be looked at
+pub record Wakes (s : List ℕ) (n : ℕ) (status : List ℕ) (u : ℕ) : Type 0 where
   pub threads : n ≡ tableOf s .threads
   pub size : length status ≡ maxThreads
   pub below : u < maxThreads
-  pub within : getD status u 0 ≡ waiting → 4 + 4 * n + 4 * getD next u 0 + 3 < length s
 
 -- the statuses after the end of t, where u is its parent
 unfoldable pub wokenStatus : Table → List ℕ → List ℕ → ℕ → ℕ → List ℕ

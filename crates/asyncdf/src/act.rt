@@ -1,11 +1,11 @@
 // What a worker's turn does with the thread that it holds, by the kind of the thread's next action.
 use crate::list::insert;
 use crate::list::remove;
-use crate::read::argument;
-use crate::read::code;
 use crate::release::release;
 use schedule::Reply;
 use schedule::Worker;
+use table::read::argument;
+use table::read::code;
 ghost use mathlib.Core.Path.{_≡_};
 ghost use mathlib.Core.List.{List};
 ghost use mathlib.Core.Bool.{true};
@@ -14,7 +14,8 @@ ghost use lib.ListN.{length, getD, take};
 ghost use Rattle.table.specs.Format.{Table, alloc, free, fork, join, end, tableOf};
 ghost use Rattle.schedule.specs.Machine.{actBy, act as actOf};
 ghost use Rattle.schedule.specs.Sound.{placeIn};
-ghost use Rattle.asyncdf.specs.Parts.{partState, partStepped, At, Rowed, Parents, Sits, Wakes, wokenStatus};
+ghost use Rattle.asyncdf.specs.Parts.{partState, partStepped, At, Rowed, Sits, Wakes, wokenStatus};
+ghost use Rattle.soundness.specs.Checks.{Parents};
 
 // The amounts that a turn moves, and the length of the list.
 pub(crate) struct Totals {
@@ -163,15 +164,22 @@ fn act_join(
     }
 }
 
+// A 16-bit number: that it is in its range is known of a parameter, not of an element.
+fn wide(x: u16) -> usize
+    ensures { λ r. ⌜ r ≡ x ⌝ }
+{
+    x as usize
+}
+
 // The parent u becomes ready if it waits for child t.
 fn wake(table: &[u8], n: usize, next: &[u16; 1024], status: &mut [u8; 1024], u: usize, t: usize)
-    requires { ⌜ Wakes (now table) n (now next) (now status) u ⌝ }
+    requires { ⌜ Wakes (now table) n (now status) u ⌝ }
     ensures { λ _. ⌜ now (status .exit) ≡ wokenStatus (tableOf (now (table .entry))) (now (next .entry)) (now (status .entry)) u t ⌝ }
 {
     if status[u] != 3 {
         return;
     }
-    let a = next[u] as usize;
+    let a = wide(next[u]);
     if code(table, n, a) != 5 {
         return;
     }
@@ -196,7 +204,7 @@ fn act_end(
     requires { ⌜ Rowed (now list) (totals .listed) ⌝ }
     requires { ⌜ Parents (tableOf (now table)) (now parents) ⌝ }
     requires { ⌜ (worker .thread < tableOf (now table) .threads) × (placeIn (worker .thread) (take (totals .listed) (now list)) < totals .listed) ⌝ }
-    requires { ⌜ Wakes (now table) n (now next) (now status) (getD (now parents) (worker .thread) 0) ⌝ }
+    requires { ⌜ Wakes (now table) n (now status) (getD (now parents) (worker .thread) 0) ⌝ }
     ensures { λ r. ⌜ ((x : ℕ) → partStepped (now (next .entry)) (now (status .exit)) (now (list .exit)) r
         ≡ actBy end (tableOf (now (table .entry))) 0 (worker .thread) a x (partState (now (next .entry)) (now (status .entry)) (now (list .entry)) totals worker)) ⌝ }
     ensures { λ r. ⌜ Rowed (now (list .exit)) (r .totals .listed) ⌝ }

@@ -1,12 +1,9 @@
 // AsyncDF runs: beginning, a single turn, runs over a list of workers and in rounds, and the lines of a listing. Every call is total, and what it answers equals a definition of
 // crates/schedule.
-use crate::amounts::begin_fault;
 use crate::beginning::blank;
 use crate::beginning::start;
-use crate::read::word;
 use crate::runs::drive;
 use crate::runs::stopped;
-use crate::sound::unsound;
 use crate::turns::put_turns;
 use lines::put_last;
 use lines::put_refused;
@@ -17,9 +14,12 @@ use schedule::Report;
 use schedule::Run;
 use schedule::Turned;
 use schedule::Turning;
+use soundness::begin_fault;
+use soundness::test;
 use table::Found;
 use table::Loaded;
 use table::Refusal;
+use table::read::threads;
 ghost use mathlib.Core.Path.{_≡_};
 ghost use Prim.Native.Nat.{_+_, _*_};
 ghost use lib.Count.{ones};
@@ -27,10 +27,11 @@ ghost use lib.ListN.{length};
 ghost use Rattle.table.specs.Pass.{refusal};
 ghost use Rattle.schedule.specs.declared.Turning.the-variants.{Refused};
 ghost use Rattle.schedule.specs.Answers.{beginningValues, turningValues, reportValues};
+ghost use Rattle.schedule.specs.Values.{beginValues, turnValues, listValues, roundsValues};
 ghost use Rattle.schedule.specs.Begin.{begin as beginOf};
 ghost use Rattle.schedule.specs.Machine.{workerOf};
 ghost use Rattle.schedule.specs.Record.{stateOf};
-ghost use Rattle.schedule.specs.Sound.{Sound, countBelow};
+ghost use Rattle.schedule.specs.Sound.{Steady, countBelow};
 ghost use Rattle.schedule.specs.Turn.{turned as turnedOf};
 ghost use Rattle.schedule.specs.Listing.{listTurns};
 ghost use Rattle.schedule.specs.Runs.{listRun, roundsRun};
@@ -38,23 +39,17 @@ ghost use Rattle.lines.specs.Lines.{textsOf};
 ghost use Rattle.lines.specs.Puts.{Puts};
 
 mod act;
-mod amounts;
 mod beginning;
-mod bodies;
 mod list;
-mod order;
-mod read;
 mod release;
-mod rests;
 mod runs;
-mod sound;
 mod step;
 mod turns;
 
 // Beginning from a table's bytes, p and K: the table's own checks, then 20 to 22.
 pub fn begin(bytes: &[u8], p: u8, quota: u32) -> Begun
     ensures { λ r. ⌜ r ≡ beginOf (now (bytes .entry)) p quota ⌝ }
-    ensures { λ r. ⌜ beginningValues (r .answer) ≡ beginningValues (beginOf (now (bytes .entry)) p quota .answer) ⌝ }
+    ensures { λ r. ⌜ beginningValues (r .answer) ≡ beginValues (now (bytes .entry)) p quota ⌝ }
 {
     let loaded = table::load(bytes);
     if let Loaded::Refused(x) = loaded {
@@ -63,9 +58,7 @@ pub fn begin(bytes: &[u8], p: u8, quota: u32) -> Begun
             run: blank(),
         };
     }
-    let n = word(bytes, 0);
-    let m = word(bytes, 2);
-    let found = begin_fault(bytes, n, m, p, quota);
+    let found = begin_fault(bytes, p, quota);
     if let Found::At(x) = found {
         return Begun {
             answer: Beginning::Refused(x),
@@ -74,7 +67,7 @@ pub fn begin(bytes: &[u8], p: u8, quota: u32) -> Begun
     }
     Begun {
         answer: Beginning::Begun,
-        run: start(bytes, n, m, p, quota),
+        run: start(bytes, threads(bytes), p, quota),
     }
 }
 
@@ -90,9 +83,10 @@ fn refused(number: u8, run: Run) -> Turned
 // A single turn of worker w: 32, 30, 31, or the reply and the record after.
 pub fn turn(run: Run, w: u8) -> Turned
     ensures { λ r. ⌜ r ≡ turnedOf run w ⌝ }
-    ensures { λ r. ⌜ turningValues (r .answer) ≡ turningValues (turnedOf run w .answer) ⌝ }
+    ensures { λ r. ⌜ turningValues (r .answer) ≡ turnValues run w ⌝ }
 {
-    if unsound(run) {
+    let tested = test(run);
+    if !tested.passed {
         return refused(32, run);
     }
     if run.workers <= w {
@@ -102,8 +96,9 @@ pub fn turn(run: Run, w: u8) -> Turned
     if status[0] == 4 {
         return refused(31, run);
     }
+    let parents = tested.parents;
     let order = [w];
-    let driven = drive(run, &order, false, 1);
+    let driven = drive(run, &parents, &order, false, 1);
     let reply = driven.reply;
     let after = driven.run;
     Turned {
@@ -115,9 +110,10 @@ pub fn turn(run: Run, w: u8) -> Turned
 // A run over a list of workers.
 pub fn run_list(run: Run, order: &[u8]) -> Ran
     ensures { λ r. ⌜ r ≡ listRun run (now (order .entry)) ⌝ }
-    ensures { λ r. ⌜ reportValues (r .report) ≡ reportValues (listRun run (now (order .entry)) .report) ⌝ }
+    ensures { λ r. ⌜ reportValues (r .report) ≡ listValues run (now (order .entry)) ⌝ }
 {
-    if unsound(run) {
+    let tested = test(run);
+    if !tested.passed {
         return Ran {
             report: stopped(32, 0),
             run,
@@ -131,7 +127,8 @@ pub fn run_list(run: Run, order: &[u8]) -> Ran
         };
         return Ran { report, run };
     }
-    let driven = drive(run, order, false, order.len());
+    let parents = tested.parents;
+    let driven = drive(run, &parents, order, false, order.len());
     let report = driven.report;
     let after = driven.run;
     Ran { report, run: after }
@@ -140,9 +137,10 @@ pub fn run_list(run: Run, order: &[u8]) -> Ran
 // A run in rounds, of at most `limit` turns.
 pub fn run_rounds(run: Run, limit: u32) -> Ran
     ensures { λ r. ⌜ r ≡ roundsRun run limit ⌝ }
-    ensures { λ r. ⌜ reportValues (r .report) ≡ reportValues (roundsRun run limit .report) ⌝ }
+    ensures { λ r. ⌜ reportValues (r .report) ≡ roundsValues run limit ⌝ }
 {
-    if unsound(run) {
+    let tested = test(run);
+    if !tested.passed {
         return Ran {
             report: stopped(32, 0),
             run,
@@ -154,7 +152,8 @@ pub fn run_rounds(run: Run, limit: u32) -> Ran
             run,
         };
     }
-    let driven = drive(run, b"", true, limit as usize);
+    let parents = tested.parents;
+    let driven = drive(run, &parents, b"", true, limit as usize);
     let report = driven.report;
     let after = driven.run;
     Ran { report, run: after }
@@ -165,7 +164,8 @@ pub fn run_rounds(run: Run, limit: u32) -> Ran
 pub fn list_turns(run: Run, order: &[u8], out: &mut [u8], at: usize) -> usize
     ensures { λ r. ⌜ Puts (now (out .entry)) at (now (out .exit)) r (textsOf (listTurns run (now (order .entry)))) (64 * (length (now (order .entry)) + 1)) ⌝ }
 {
-    if unsound(run) {
+    let tested = test(run);
+    if !tested.passed {
         return put_refused(out, at, 32);
     }
     let status = run.status;
@@ -178,13 +178,14 @@ pub fn list_turns(run: Run, order: &[u8], out: &mut [u8], at: usize) -> usize
     if run.workers == 0 {
         return put_refused(out, at, 30);
     }
-    put_turns(run, order, out, at)
+    let parents = tested.parents;
+    put_turns(run, &parents, order, out, at)
 }
 
-// The number busy.
+// The number busy: of a record that is sound, turns taken apart, the workers that hold a thread.
 pub fn number_busy(run: Run) -> u32
     ensures { λ r. ⌜ r ≡ ones (run .busy) ⌝ }
-    ensures { λ r. ⌜ (Sound run → r ≡ countBelow (λ w. workerOf (stateOf run) w .holds) 16) ⌝ }
+    ensures { λ r. ⌜ (Steady run → r ≡ countBelow (λ w. workerOf (stateOf run) w .holds) 16) ⌝ }
 {
     u16::count_ones(run.busy)
 }

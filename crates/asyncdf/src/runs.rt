@@ -1,44 +1,61 @@
 // Runs over a list of workers and in rounds. The record's arrays are copied once; the turns work on them in place.
 use crate::act::Totals;
-use crate::bodies::fill_forks;
-use crate::read::word;
 use crate::step::step;
 use schedule::Reply;
 use schedule::Report;
 use schedule::Run;
 use schedule::Worker;
 use table::Refusal;
+use table::read::count;
+use table::read::threads;
 ghost use mathlib.Core.Path.{_≡_};
-ghost use Prim.Native.Nat.{ℕ, _+_, _<_};
-ghost use lib.ListN.{replicate};
+ghost use Prim.Native.Nat.{ℕ, _+_, _-_, _^_, _<_};
+ghost use Rattle.table.specs.Format.{tableOf};
 ghost use Rattle.table.specs.Pass.{refusal};
+ghost use Rattle.table.specs.Rules.{endOf};
 ghost use Rattle.table.specs.Accepted.{Rules};
+ghost use Rattle.schedule.specs.declared.Run.{Run as RunRecord};
 ghost use Rattle.schedule.specs.declared.Report.the-variants.{Refused};
-ghost use Rattle.schedule.specs.Runs.{ran, drive as driveOf};
+ghost use Rattle.schedule.specs.Record.{tableIn};
 ghost use Rattle.schedule.specs.Sound.{Steady};
-ghost use Rattle.schedule.specs.Turn.{stepRun};
-ghost use Rattle.asyncdf.specs.Drives.{who, busyAfter, Sequence, Outlined, Bit, Open, packedOf};
+ghost use Rattle.soundness.specs.Checks.{Parents};
+ghost use Rattle.asyncdf.specs.Parts.{Sits};
+ghost use Rattle.asyncdf.specs.Drives.{who, busyAfter, Sequence, Bit, Moving, Took, Stands, Driven, movedOf, packedOf};
 
-// What a loop of turns looks up in its table again and again.
-pub(crate) struct Outline {
-    pub(crate) threads: usize,
-    // the root's last action
-    pub(crate) last: usize,
+// What a loop of turns moves besides the arrays and the workers' records.
+pub(crate) struct Moved {
+    pub(crate) busy: u16,
+    pub(crate) totals: Totals,
+    pub(crate) turns: u64,
 }
 
-// The same read once, with each thread's parent.
-pub(crate) fn outline_of(table: &[u8], parents: &mut [u16; 1024]) -> Outline
+// What a turn in a loop leaves.
+pub(crate) struct Taken {
+    pub(crate) reply: Reply,
+    pub(crate) worker: Worker,
+    pub(crate) moved: Moved,
+}
+
+// The root's last action.
+pub(crate) fn root_end(table: &[u8]) -> usize
     requires { ⌜ Rules (now table) ⌝ }
-    requires { ⌜ now parents ≡ replicate 1024 0 ⌝ }
-    ensures { λ r. ⌜ Outlined (now (table .entry)) (r .threads) (r .last) (now (parents .exit)) ⌝ }
+    ensures { λ r. ⌜ r ≡ endOf (tableOf (now (table .entry))) 0 ⌝ }
 {
-    let n = word(table, 0);
-    let m = word(table, 2);
-    let mut forks = [0u16; 1024];
-    fill_forks(table, n, m, &mut forks, parents);
-    Outline {
-        threads: n,
-        last: word(table, 6) - 1,
+    count(table, 0) - 1
+}
+
+// A record's own.
+pub(crate) fn moved_in(run: Run) -> Moved
+    ensures { λ r. ⌜ r ≡ movedOf run ⌝ }
+{
+    Moved {
+        busy: run.busy,
+        totals: Totals {
+            listed: run.listed as usize,
+            held: run.held,
+            highest: run.highest,
+        },
+        turns: run.turns,
     }
 }
 
@@ -63,6 +80,41 @@ fn busy_after(busy: u16, before: Worker, after: Worker, w: usize) -> u16
     }
 }
 
+// A turn of worker w, whose record is given, and what it moves.
+pub(crate) fn take_turn(
+    table: &[u8],
+    n: usize,
+    parents: &[u16; 1024],
+    quota: u32,
+    next: &mut [u16; 1024],
+    status: &mut [u8; 1024],
+    list: &mut [u16; 1024],
+    moved: Moved,
+    worker: Worker,
+    w: usize,
+) -> Taken
+    requires { ⌜ Sits (now table) n quota (now next) (now status) (now list) (moved .totals) worker ⌝ }
+    requires { ⌜ Parents (tableOf (now table)) (now parents) ⌝ }
+    requires { ⌜ (Bit (moved .busy) (worker .holds) w) × (moved .turns < 2 ^ 64 - 1) ⌝ }
+    ensures { λ r. ⌜ Took (tableOf (now (table .entry))) quota w (now (next .entry)) (now (status .entry)) (now (list .entry)) moved worker
+        (now (next .exit)) (now (status .exit)) (now (list .exit)) r ⌝ }
+{
+    let totals = moved.totals;
+    let s = step(table, n, parents, quota, next, status, list, totals, worker);
+    let reply = s.reply;
+    let after = s.worker;
+    let totals = s.totals;
+    Taken {
+        reply,
+        worker: after,
+        moved: Moved {
+            busy: busy_after(moved.busy, worker, after, w),
+            totals,
+            turns: moved.turns + 1,
+        },
+    }
+}
+
 // The record with what the turns have moved.
 fn packed(
     run: Run,
@@ -70,12 +122,10 @@ fn packed(
     status: [u8; 1024],
     list: [u16; 1024],
     worker: [Worker; 16],
-    busy: u16,
-    totals: Totals,
-    turns: u64,
+    moved: Moved,
 ) -> Run
-    requires { ⌜ totals .listed < 65536 ⌝ }
-    ensures { λ r. ⌜ r ≡ packedOf run next status list worker busy totals turns ⌝ }
+    requires { ⌜ moved .totals .listed < 65536 ⌝ }
+    ensures { λ r. ⌜ r ≡ packedOf run next status list worker moved ⌝ }
 {
     let table = run.table;
     Run {
@@ -86,12 +136,12 @@ fn packed(
         next,
         status,
         list,
-        listed: totals.listed as u16,
+        listed: moved.totals.listed as u16,
         worker,
-        busy,
-        held: totals.held,
-        highest: totals.highest,
-        turns,
+        busy: moved.busy,
+        held: moved.totals.held,
+        highest: moved.totals.highest,
+        turns: moved.turns,
     }
 }
 
@@ -102,98 +152,163 @@ pub(crate) fn stopped(number: u8, i: usize) -> Report
     Report::Refused(i as u64, Refusal { number, place: 0 })
 }
 
+// Where the turns of a run stopped: its report, the reply of its last turn (idle where it took none), the workers and what was moved.
+pub(crate) struct Stop {
+    pub(crate) report: Report,
+    pub(crate) reply: Reply,
+    pub(crate) workers: [Worker; 16],
+    pub(crate) moved: Moved,
+}
+
+// At most `limit` turns, from a record whose root has not ended.
+fn take_turns(
+    table: &[u8],
+    n: usize,
+    last: usize,
+    p: usize,
+    quota: u32,
+    parents: &[u16; 1024],
+    next: &mut [u16; 1024],
+    status: &mut [u8; 1024],
+    list: &mut [u16; 1024],
+    start: [Worker; 16],
+    from: Moved,
+    order: &[u8],
+    rounds: bool,
+    limit: usize,
+) -> Stop
+    requires { ⌜ Stands (now table) n last p quota (now parents) (now next) (now status) (now list) start from ⌝ }
+    requires { ⌜ ((i : ℕ) → i < limit → Sequence (now order) rounds p i) ⌝ }
+    ensures { λ r. ⌜ ((run : RunRecord)
+        → Moving run (now (table .entry)) n last p quota (now (parents .entry)) (now (next .entry)) (now (status .entry)) (now (list .entry)) start from
+        → Driven (who (now (order .entry)) rounds p) limit (packedOf run (now (next .entry)) (now (status .entry)) (now (list .entry)) start from)
+        (r .report) (r .reply) (packedOf run (now (next .exit)) (now (status .exit)) (now (list .exit)) (r .workers) (r .moved))) ⌝ }
+    ensures { λ r. ⌜ r .moved .totals .listed < 65536 ⌝ }
+{
+    let mut workers = start;
+    let mut moved = from;
+    let mut reply = Reply::Idle;
+    let mut i = 0;
+    while i < limit {
+        let w = worker_of(order, rounds, p, i);
+        if moved.turns == u64::MAX {
+            let report = stopped(32, i);
+            return Stop {
+                report,
+                reply,
+                workers,
+                moved,
+            };
+        }
+        if p <= w {
+            let report = stopped(30, i);
+            return Stop {
+                report,
+                reply,
+                workers,
+                moved,
+            };
+        }
+        let worker = workers[w];
+        let t = take_turn(
+            table,
+            n,
+            parents,
+            quota,
+            next,
+            status,
+            list,
+            moved,
+            worker,
+            w,
+        );
+        let after = t.worker;
+        workers[w] = after;
+        moved = t.moved;
+        reply = t.reply;
+        i += 1;
+        let Reply::Done { thread: _, action } = reply else {
+            continue;
+        };
+        if action as usize == last {
+            let report = Report::Finished(i as u64);
+            return Stop {
+                report,
+                reply,
+                workers,
+                moved,
+            };
+        }
+    }
+    let report = Report::Spent(i as u64);
+    Stop {
+        report,
+        reply,
+        workers,
+        moved,
+    }
+}
+
 // What a run did: its report, the reply of its last turn (idle where it took none) and the record that it left.
-pub(crate) struct Driven {
+pub(crate) struct Outcome {
     pub(crate) report: Report,
     pub(crate) reply: Reply,
     pub(crate) run: Run,
 }
 
 // At most `limit` turns, on a record that is sound but for its turns taken.
-pub(crate) fn drive(run: Run, order: &[u8], rounds: bool, limit: usize) -> Driven
+pub(crate) fn drive(
+    run: Run,
+    parents: &[u16; 1024],
+    order: &[u8],
+    rounds: bool,
+    limit: usize,
+) -> Outcome
     requires { ⌜ Steady run ⌝ }
+    requires { ⌜ Parents (tableIn run) (now parents) ⌝ }
     requires { ⌜ ((i : ℕ) → i < limit → Sequence (now order) rounds (run .workers) i) ⌝ }
-    ensures { λ r. ⌜ ran (r .report) (r .run) ≡ driveOf (who (now (order .entry)) rounds (run .workers)) limit 0 run ⌝ }
-    ensures { λ r. ⌜ (limit ≡ 1 → Open run (who (now (order .entry)) rounds (run .workers) 0) → r .reply ≡ stepRun run (who (now (order .entry)) rounds (run .workers) 0) .reply) ⌝ }
+    ensures { λ r. ⌜ Driven (who (now (order .entry)) rounds (run .workers)) limit run (r .report) (r .reply) (r .run) ⌝ }
 {
     let length = run.length as usize;
     let table = run.table;
     let bytes = &table[..length];
-    let mut parents = [0u16; 1024];
-    let outline = outline_of(bytes, &mut parents);
-    let n = outline.threads;
-    let last = outline.last;
-    let p = run.workers as usize;
-    let quota = run.quota;
     let mut next = run.next;
     let mut status = run.status;
     let mut list = run.list;
-    let mut workers = run.worker;
-    let mut busy = run.busy;
-    let mut totals = Totals {
-        listed: run.listed as usize,
-        held: run.held,
-        highest: run.highest,
-    };
-    let mut turns = run.turns;
-    let mut reply = Reply::Idle;
     if status[0] == 4 {
-        return Driven {
+        return Outcome {
             report: Report::Finished(0),
-            reply,
+            reply: Reply::Idle,
             run,
         };
     }
-    let mut i = 0;
-    while i < limit {
-        let w = worker_of(order, rounds, p, i);
-        if turns == u64::MAX {
-            return Driven {
-                report: stopped(32, i),
-                reply,
-                run: packed(run, next, status, list, workers, busy, totals, turns),
-            };
-        }
-        if p <= w {
-            return Driven {
-                report: stopped(30, i),
-                reply,
-                run: packed(run, next, status, list, workers, busy, totals, turns),
-            };
-        }
-        let before = workers[w];
-        let s = step(
-            bytes,
-            n,
-            &parents,
-            quota,
-            &mut next,
-            &mut status,
-            &mut list,
-            totals,
-            before,
-        );
-        let after = s.worker;
-        busy = busy_after(busy, before, after, w);
-        workers[w] = after;
-        totals = s.totals;
-        turns += 1;
-        i += 1;
-        reply = s.reply;
-        let Reply::Done { thread: _, action } = reply else {
-            continue;
-        };
-        if action as usize == last {
-            return Driven {
-                report: Report::Finished(i as u64),
-                reply,
-                run: packed(run, next, status, list, workers, busy, totals, turns),
-            };
-        }
-    }
-    Driven {
-        report: Report::Spent(i as u64),
+    let n = threads(bytes);
+    let last = root_end(bytes);
+    let p = run.workers as usize;
+    let start = run.worker;
+    let stop = take_turns(
+        bytes,
+        n,
+        last,
+        p,
+        run.quota,
+        parents,
+        &mut next,
+        &mut status,
+        &mut list,
+        start,
+        moved_in(run),
+        order,
+        rounds,
+        limit,
+    );
+    let report = stop.report;
+    let reply = stop.reply;
+    let workers = stop.workers;
+    let moved = stop.moved;
+    Outcome {
+        report,
         reply,
-        run: packed(run, next, status, list, workers, busy, totals, turns),
+        run: packed(run, next, status, list, workers, moved),
     }
 }

@@ -6,10 +6,42 @@ use crate::list::leftmost;
 use schedule::Reply;
 use schedule::Worker;
 ghost use mathlib.Core.Path.{_≡_};
+ghost use Prim.Native.Nat.{ℕ, _<_};
+ghost use lib.ListN.{getD, take};
 ghost use Rattle.table.specs.Format.{tableOf};
-ghost use Rattle.asyncdf.specs.Parts.{partState, partStepped, turnBody, Rowed, Parents, Sits};
+ghost use Rattle.soundness.specs.Checks.{Parents};
+ghost use Rattle.asyncdf.specs.Parts.{partState, partStepped, turnBody, Rowed, Sits, seat, seatOf};
 
-// If the worker holds nothing it takes the leftmost ready thread with the whole quota; with none ready the turn is idle.
+// The worker with its thread: a worker that holds nothing takes the leftmost ready thread with the whole quota, if there is one.
+fn find(
+    quota: u32,
+    status: &mut [u8; 1024],
+    list: &[u16; 1024],
+    len: usize,
+    worker: Worker,
+) -> Worker
+    requires { ⌜ Rowed (now list) len ⌝ }
+    requires { ⌜ ((i : ℕ) → i < len → getD (now list) i 0 < 1024) ⌝ }
+    ensures { λ r. ⌜ seat (now (status .exit)) r ≡ seatOf quota (now (status .entry)) (take len (now (list .entry))) worker ⌝ }
+{
+    if worker.holds {
+        return worker;
+    }
+    let i = leftmost(status, list, len);
+    if i == len {
+        return worker;
+    }
+    let thread = list[i];
+    let t = thread as usize;
+    status[t] = 2;
+    Worker {
+        holds: true,
+        thread,
+        quota,
+    }
+}
+
+// "If w holds nothing, it takes the leftmost ready thread with quota K; with none ready, the turn is idle."
 pub(crate) fn step(
     table: &[u8],
     n: usize,
@@ -27,25 +59,13 @@ pub(crate) fn step(
         ≡ turnBody (tableOf (now (table .entry))) quota 0 (partState (now (next .entry)) (now (status .entry)) (now (list .entry)) totals worker) ⌝ }
     ensures { λ r. ⌜ Rowed (now (list .exit)) (r .totals .listed) ⌝ }
 {
-    if worker.holds {
-        return act(table, n, quota, parents, next, status, list, totals, worker);
-    }
-    let len = totals.listed;
-    let i = leftmost(status, list, len);
-    if i == len {
+    let found = find(quota, status, &*list, totals.listed, worker);
+    if !found.holds {
         return Stepped {
             reply: Reply::Idle,
-            worker,
+            worker: found,
             totals,
         };
     }
-    let thread = list[i];
-    let t = thread as usize;
-    status[t] = 2;
-    let taken = Worker {
-        holds: true,
-        thread,
-        quota,
-    };
-    act(table, n, quota, parents, next, status, list, totals, taken)
+    act(table, n, quota, parents, next, status, list, totals, found)
 }

@@ -1,25 +1,29 @@
--- Document 01's cases that bear a star, on tables, on runs, on the limit and on the listing's text, as one table with one theorem over all of them.
+-- Document 01's cases that bear a star, on tables, on runs, on single turns, on the limit and on the listing's text, as one table with one theorem over all of them. The rows of our own
+-- stand beside them in each file and have their theorem there.
 use mathlib.Core.Path.{_≡_, refl, sym, ap, ap₂, _∙_}
 use Prim.Native.Nat.{ℕ}
 use mathlib.Core.List.{List, [], _∷_, _++_, map, map-map}
 use Rattle.table.specs.Load.{Values, valuesOf, loaded}
 use Rattle.table.specs.Cases.{Case as TableCase}
 use Rattle.table.specs.Cases.{cases as tableCases, worked as tables-worked}
+use Rattle.schedule.specs.Answers.{Values as TurnValues}
 use Rattle.schedule.specs.Turn.{turned}
 use Rattle.schedule.specs.Listing.{Listing}
 use Rattle.schedule.specs.Cases.{Case, never, ranBy}
 use Rattle.schedule.specs.Cases.{cases as runCases}
+use Rattle.schedule.specs.TurnCases.{TurnCase, saidBy, turnCases}
 use Rattle.schedule.specs.Rule.{Measures, RowCase, measuredBy, rowCases}
-use Rattle.schedule.proofs.CaseLaws.{worked-turned, rows-turned}
+use Rattle.schedule.proofs.CaseLaws.{worked-turned, said-turned, rows-turned}
 use Rattle.listing.specs.Listing.{listingOf}
 use Rattle.listing.specs.Cases.{Case as ListingCase}
 use Rattle.listing.specs.Cases.{cases as listingCases}
 use Rattle.listing.proofs.Worked.{listings-worked}
 
--- what a case comes to: the values of a loaded table, the listing of a run, a row's measures against the limit, or the bytes that `turnlist` prints
+-- what a case comes to: the values of a loaded table, the listing of a run, what a single turn says, a row's measures against the limit, or the bytes that `turnlist` prints
 pub data Outcome : Type 0 where
   loads : Values → Outcome
   lists : Listing → Outcome
+  says : TurnValues → Outcome
   measures : Measures → Outcome
   prints : List ℕ → Outcome
 
@@ -34,6 +38,9 @@ tableRow c = record { computed = loads (valuesOf (loaded (c .bytes))); expected 
 abbrev pub runRow : Case → Row
 runRow c = record { computed = lists (ranBy never turned (c .bytes) (c .workers) (c .quota) (c .order)); expected = lists (c .listing) }
 
+abbrev pub turnRow : TurnCase → Row
+turnRow c = record { computed = says (saidBy turned c); expected = says (c .values) }
+
 abbrev pub limitRow : RowCase → Row
 limitRow c = record { computed = measures (measuredBy turned c); expected = measures (c .measures) }
 
@@ -41,7 +48,7 @@ abbrev pub textRow : ListingCase → Row
 textRow c = record { computed = prints (listingOf (c .input)); expected = prints (c .text) }
 
 unfoldable pub starred : List Row
-starred = map tableRow tableCases ++ (map runRow runCases ++ (map limitRow rowCases ++ map textRow listingCases))
+starred = map tableRow tableCases ++ (map runRow runCases ++ (map turnRow turnCases ++ (map limitRow rowCases ++ map textRow listingCases)))
 
 abbrev Agree : List Row → Type 0
 Agree l = map (λ (r : Row). r .computed) l ≡ map (λ (r : Row). r .expected) l
@@ -64,8 +71,8 @@ rows-agree row given said kind l c e h =
 pub starred-worked : map (λ (r : Row). r .computed) starred ≡ map (λ (r : Row). r .expected) starred
 unfolding starred
 starred-worked =
-    agree-append (map tableRow tableCases) (map runRow runCases ++ (map limitRow rowCases ++ map textRow listingCases))
-    (rows-agree tableRow _ _ loads tableCases refl refl tables-worked)
-    (agree-append (map runRow runCases) (map limitRow rowCases ++ map textRow listingCases) (rows-agree runRow _ _ lists runCases refl refl worked-turned)
-    (agree-append (map limitRow rowCases) (map textRow listingCases) (rows-agree limitRow _ _ measures rowCases refl refl rows-turned)
-    (rows-agree textRow _ _ prints listingCases refl refl listings-worked)))
+    agree-append (map tableRow tableCases) _ (rows-agree tableRow _ _ loads tableCases refl refl tables-worked)
+    (agree-append (map runRow runCases) _ (rows-agree runRow _ _ lists runCases refl refl (worked-turned .0))
+    (agree-append (map turnRow turnCases) _ (rows-agree turnRow _ _ says turnCases refl refl (said-turned .0))
+    (agree-append (map limitRow rowCases) _ (rows-agree limitRow _ _ measures rowCases refl refl (rows-turned .0))
+    (rows-agree textRow _ _ prints listingCases refl refl (listings-worked .0)))))

@@ -20,7 +20,7 @@ use Rattle.schedule.specs.Cases.{turnedSound}
 use Rattle.schedule.proofs.CaseLaws.{begun-turned}
 use Rattle.lines.specs.Lines.{textsOf}
 use Rattle.listing.specs.Listing.{workersIn, quotaIn, orderLength, orderIn, tableAfter, inputWrong, headed, listedBy, wrongInput, listingBy, listingOf}
-use Rattle.listing.specs.Cases.{Case, cases, worked}
+use Rattle.listing.specs.Cases.{Case, cases, ownCases, Worked, worked}
 use Rattle.listing.proofs.Inputs.{right}
 
 listed-sound : (t : List ℕ) (p K : ℕ) (order : List ℕ) → length order < 2 ^ 64 → listedBy turned t p K order ≡ listedBy turnedSound t p K order
@@ -49,5 +49,5 @@ all-sound [] = refl
 all-sound (c ∷ l) = cc (listing-sound (c .input), all-sound l)
 
 -- every row's input has the row's text
-pub listings-worked : map (λ (c : Case). listingOf (c .input)) cases ≡ map (λ (c : Case). c .text) cases
-listings-worked = all-sound cases ∙ worked
+pub listings-worked : Worked listingOf cases × Worked listingOf ownCases
+listings-worked = (all-sound cases ∙ worked .0, all-sound ownCases ∙ worked .1)

@@ -1,4 +1,4 @@
--- Document 01's listing of E and what the program refuses, as rows of one table with one theorem over all of them, computed on the definitions.
+-- What `turnlist` prints on document 01's worked cases that bear a star, and on rows of our own, as two tables with one theorem over both, computed on the definitions.
 use mathlib.Core.Path.{_≡_, refl}
 use Prim.Native.Nat.{ℕ}
 use mathlib.Core.List.{List, [], _∷_, _++_, map, flatten}
@@ -148,21 +148,31 @@ refused1 = 114 ∷ 101 ∷ 102 ∷ 117 ∷ 115 ∷ 101 ∷ 100 ∷ 32 ∷ 49 ∷
 abbrev pub refused33 : List ℕ
 refused33 = 114 ∷ 101 ∷ 102 ∷ 117 ∷ 115 ∷ 101 ∷ 100 ∷ 32 ∷ 51 ∷ 51 ∷ 32 ∷ 48 ∷ 10 ∷ []
 
+-- the rows that bear a star
 unfoldable pub cases : List Case
 unfolding codeOf
 cases =
     -- "For p 2, K 6, the order 0, 1 given seven times, and table E below it prints"
     prints (inputOf 2 6 orderE E) linesOfE
-    -- the run stops at the root's end, whatever is left of the order
-    ∷ prints (inputOf 2 6 (orderE ++ (0 ∷ [])) E) linesOfE
-    -- "A quota or wait line names the action not done."
+    -- "E, p 2, order 0 1 0 1 1 1 1 0: the last turn says wait"; "A quota or wait line names the action not done."
     ∷ prints (inputOf 2 6 (orderWait ++ (0 ∷ [])) E) (linesBefore ++ endsWaiting)
+    -- "the second turn says quota"
     ∷ prints (inputOf 1 6 (0 ∷ 0 ∷ []) twoAllocs) linesQuota
-    -- "30 comes after the header and the turns before it"
+    -- "Worker 2 instead: 30"; "30 comes after the header and the turns before it"
     ∷ prints (inputOf 2 6 (orderWait ++ (2 ∷ [])) E) (linesBefore ++ endsRefused)
-    ∷ prints (inputOf 2 6 [] E) notBegun
-    -- "Refusals 1 to 22 and 33 are the only line"; "Order of checks: 33, table, beginning, turns."
+    -- "With K 5: 22 at action 5"; "Refusals 1 to 22 and 33 are the only line"
     ∷ prints (inputOf 2 5 orderE E) refused22
+    ∷ []
+
+-- our own, with no star
+unfoldable pub ownCases : List Case
+unfolding codeOf
+ownCases =
+    -- the run stops at the root's end, whatever is left of the order
+    prints (inputOf 2 6 (orderE ++ (0 ∷ [])) E) linesOfE
+    -- an empty order
+    ∷ prints (inputOf 2 6 [] E) notBegun
+    -- "Order of checks: 33, table, beginning, turns.": the table before p and K
     ∷ prints (inputOf 0 0 [] []) refused1
     -- "input under 6 bytes, order above 4,096, or fewer bytes than the order"
     ∷ prints (2 ∷ 6 ∷ 0 ∷ 0 ∷ 0 ∷ []) refused33
@@ -171,6 +181,9 @@ cases =
     ∷ []
 
 -- every row's input has the row's text; turns are those of a sound record, which they are on every row (`listings-worked`, proofs/Worked)
-pub worked : map (λ (c : Case). listingBy turnedSound (c .input)) cases ≡ map (λ (c : Case). c .text) cases
-unfolding cases flatten inputWrong listedBy listingBy kindWord toldTexts turnTexts lastTexts linesThen acceptedLine refusedLine decimal digitsOf loaded factsOf sumTo sumOver greatest anyBelow codeOf kindOf is tableOf tryAt tryFrom tryPass firstFound entryWrong totalWrong ownerBelow kindUnknown argumentWrong endMisplaced forkedBelow forkedBefore openBefore joinNotLatest endWithOpen neverForked allocOf freeOf wholeWithin balance balanceBelow0 passes serialWithin fronts heldAfter peakOf S1 forkBelow forkOf beforeIt joinedEnd dependsOn levelWithin D leftOf without waitsFor woken actBy act leftmost taken turnFree turnOf setOf allocAbove firsts startState startRun begin rootEnded noWorker stepRun
-worked = refl
+abbrev pub Worked : (List ℕ → List ℕ) → List Case → Type 0
+Worked print l = map (λ (c : Case). print (c .input)) l ≡ map (λ (c : Case). c .text) l
+
+pub worked : Worked (listingBy turnedSound) cases × Worked (listingBy turnedSound) ownCases
+unfolding cases ownCases flatten inputWrong listedBy listingBy kindWord toldTexts turnTexts lastTexts linesThen acceptedLine refusedLine decimal digitsOf loaded factsOf sumTo sumOver greatest anyBelow codeOf kindOf is tableOf tryAt tryFrom tryPass firstFound entryWrong totalWrong ownerBelow kindUnknown argumentWrong endMisplaced forkedBelow forkedBefore openBefore joinNotLatest endWithOpen neverForked allocOf freeOf wholeWithin balance balanceBelow0 passes serialWithin fronts heldAfter peakOf S1 forkBelow forkOf beforeIt joinedEnd dependsOn levelWithin D leftOf without waitsFor woken actBy act leftmost taken turnFree turnOf setOf allocAbove firsts startState startRun begin rootEnded noWorker stepRun
+worked = (refl, refl)

@@ -1,11 +1,17 @@
 // The numbers at the front of a program's input.
-use crate::read::byte;
-use crate::read::wide;
-use crate::read::word;
 use lines::put_refused;
+use table::read::byte;
+use table::read::word;
 ghost use mathlib.Core.Path.{_≡_};
+ghost use Rattle.table.specs.Steps.{Read};
 ghost use Rattle.listing.specs.Listing.{quotaIn, limitIn, inputWrong, wrongInput};
 ghost use Rattle.lines.specs.Puts.{Puts};
+
+fn wide(x: u8) -> usize
+    ensures { λ r. ⌜ Read x 256 r ⌝ }
+{
+    x as usize
+}
 
 // K, 24 bits.
 pub(crate) fn quota_in(input: &[u8]) -> u32

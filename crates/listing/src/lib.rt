@@ -1,6 +1,5 @@
 // What `turnlist` and `runrounds` print, from the bytes that they read to the bytes that they write.
 mod input;
-mod read;
 mod rounds;
 mod turns;
 
@@ -8,9 +7,9 @@ use input::input_wrong;
 use input::limit_in;
 use input::put_wrong;
 use input::quota_in;
-use read::byte;
-use read::word;
 use rounds::put_rounds;
+use table::read::byte;
+use table::read::word;
 use turns::put_listing;
 ghost use mathlib.Core.Path.{_≡_};
 ghost use mathlib.Core.List.{_++_};

@@ -21,8 +21,11 @@ use Rattle.schedule.specs.Begin.{startState, begin}
 use Rattle.schedule.specs.Sound.{Steady, Sound}
 use Rattle.schedule.specs.Turn.{unsound, turnChecks, stepRun, turnedAs, turned}
 use Rattle.schedule.specs.Listing.{Listing, turnsBy}
-use Rattle.schedule.specs.Cases.{never, beginThen, ranBy, soundChecks, turnedSound, ranAs, Case, cases, worked}
-use Rattle.schedule.specs.Rule.{RowCase, measuredBy, rowCases, rows-worked}
+use Rattle.schedule.specs.declared.Turned.{Turned}
+use Rattle.schedule.specs.Answers.{Values, turningValues}
+use Rattle.schedule.specs.Cases.{never, beginThen, ranBy, soundChecks, turnedSound, Case, cases, ownCases, Worked, worked}
+use Rattle.schedule.specs.TurnCases.{TurnCase, saidAfter, beginSaying, saidBy, turnCases, ownTurns, Says, said-worked}
+use Rattle.schedule.specs.Rule.{RowCase, measuredBy, rowCases, ownRows, Measured, rows-worked}
 use Rattle.schedule.proofs.Words.{and-exactly, ltb-exactly}
 use Rattle.schedule.proofs.Turns.{either}
 use Rattle.schedule.proofs.Tests.{sound-exactly}
@@ -74,6 +77,14 @@ turned-turns r w = go (tryAt (turnChecks r w) 0)
 
 -- ---- the runs
 
+-- an accepted beginning's record is sound, with no turn taken
+begun-fresh : (s : List ℕ) (p K : ℕ) → begin s p K .answer ≡ started → Steady (begin s p K .run) × (begin s p K .run .turns ≡ 0)
+unfolding startState
+begun-fresh s p K e =
+    let r : Run = begin s p K .run in
+    let b : begin s p K ≡ record { answer = started; run = r } = λ i. record { answer = e i; run = r } in
+    (begin-sound s p K r b .steady, ap (λ (st : State). st .turns) (start-state s p K r b .3))
+
 module _ (stop : Run → Bool) where
   -- turns from a sound record, as long as turns taken stays within 2^64 − 1
   turns-sound : (order : List ℕ) (r : Run) → Steady r → r .turns + length order ≤ 2 ^ 64 - 1 → turnsBy stop turned r order ≡ turnsBy stop turnedSound r order
@@ -86,12 +97,7 @@ module _ (stop : Run → Bool) where
   -- the same for the turns of an accepted beginning
   pub begun-turned : (s : List ℕ) (p K : ℕ) (order : List ℕ) → length order < 2 ^ 64 → begin s p K .answer ≡ started
       → turnsBy stop turned (begin s p K .run) order ≡ turnsBy stop turnedSound (begin s p K .run) order
-  unfolding startState
-  begun-turned s p K order k e =
-      let r : Run = begin s p K .run in
-      let b : begin s p K ≡ record { answer = started; run = r } = λ i. record { answer = e i; run = r } in
-      let z : r .turns ≡ 0 = ap (λ (st : State). st .turns) (start-state s p K r b .3) in
-      turns-sound order r (begin-sound s p K r b .steady) (omega arith)
+  begun-turned s p K order k e = let f = begun-fresh s p K e in turns-sound order (begin s p K .run) (f .0) (omega (arith, f .1))
 
   -- what the cases compute is what a beginning and turns say
   pub ran-turned : (s : List ℕ) (p K : ℕ) (order : List ℕ) → length order < 2 ^ 64 → ranBy stop turned s p K order ≡ ranBy stop turnedSound s p K order
@@ -101,6 +107,24 @@ module _ (stop : Run → Bool) where
           → beginThen a (turnsBy stop turned (begin s p K .run) order) ≡ beginThen a (turnsBy stop turnedSound (begin s p K .run) order)
       go started e = begun-turned s p K order k e
       go (refusedBeginning x) e = refl
+
+-- what a single turn says after an order's turns
+said-sound : (order : List ℕ) (w : ℕ) (r : Run) → Steady r → r .turns + length order < 2 ^ 64 - 1 → saidAfter turned r order w ≡ saidAfter turnedSound r order w
+said-sound [] w r h k = ap (λ (x : Turned). turningValues (x .answer)) (turned-sound r w (record { steady = h; turns = omega arith }))
+said-sound (v ∷ order) w r h k =
+    let e : turned r v ≡ turnedSound r v = turned-sound r v (record { steady = h; turns = omega arith }) in
+    let ih = said-sound order w (turned r v .run) (turn-steady r v h) (omega (arith, turned-turns r v)) in
+    rw (ih, e)
+
+said-same : (c : TurnCase) → length (c .worker ∷ c .order) < 2 ^ 64 → saidBy turned c ≡ saidBy turnedSound c
+said-same c k = go (begin (c .bytes) (c .workers) (c .quota) .answer) refl
+  where
+    after : (Run → ℕ → Turned) → Values
+    after turn = saidAfter turn (begin (c .bytes) (c .workers) (c .quota) .run) (c .order) (c .worker)
+
+    go : (a : Beginning) → begin (c .bytes) (c .workers) (c .quota) .answer ≡ a → beginSaying a (after turned) ≡ beginSaying a (after turnedSound)
+    go started e = let f = begun-fresh (c .bytes) (c .workers) (c .quota) e in said-sound (c .order) (c .worker) _ (f .0) (omega (arith, f .1))
+    go (refusedBeginning x) e = refl
 
 -- ---- the tables of cases
 
@@ -116,17 +140,24 @@ module _ {A : Type 0} (order : A → List ℕ) where
       let q : (ltb (length (order c)) (2 ^ 64) ≡ true) × (short l ≡ true) = and-exactly (ltb (length (order c)) (2 ^ 64)) (short l) .0 h in
       cc (same c (ltb-exactly (length (order c)) (2 ^ 64) .0 (q .0)), all-same f g same l (q .1))
 
--- every row's beginning and turns have the row's listing
-pub worked-turned : map (λ (c : Case). ranBy never turned (c .bytes) (c .workers) (c .quota) (c .order)) cases ≡ map (λ (c : Case). c .listing) cases
-unfolding short cases
-worked-turned =
-    all-same (λ (c : Case). c .order) _ (λ (c : Case). ranAs (c .bytes) (c .workers) (c .quota) (c .order)) (λ c k. ran-turned never (c .bytes) (c .workers) (c .quota) (c .order) k) cases refl
-    ∙ worked
+all-worked : (l : List Case) → short (λ (c : Case). c .order) l ≡ true → Worked turnedSound l → Worked turned l
+all-worked l k w = all-same (λ (c : Case). c .order) _ _ (λ c k. ran-turned never (c .bytes) (c .workers) (c .quota) (c .order) k) l k ∙ w
 
--- and every row against the limit its measures
-pub rows-turned : map (measuredBy turned) rowCases ≡ map (λ (c : RowCase). c .measures) rowCases
-unfolding short rowCases
-rows-turned =
+-- every row's beginning and turns have the row's listing
+pub worked-turned : Worked turned cases × Worked turned ownCases
+unfolding short cases ownCases
+worked-turned = (all-worked cases refl (worked .0), all-worked ownCases refl (worked .1))
+
+all-said : (l : List TurnCase) → short (λ (c : TurnCase). c .worker ∷ c .order) l ≡ true → Says turnedSound l → Says turned l
+all-said l k w = all-same (λ (c : TurnCase). c .worker ∷ c .order) _ _ said-same l k ∙ w
+
+-- every row's single turn says what the row says
+pub said-turned : Says turned turnCases × Says turned ownTurns
+unfolding short turnCases ownTurns
+said-turned = (all-said turnCases refl (said-worked .0), all-said ownTurns refl (said-worked .1))
+
+all-measured : (l : List RowCase) → short (λ (c : RowCase). c .order) l ≡ true → Measured turnedSound l → Measured turned l
+all-measured l k w =
     all-same (λ (c : RowCase). c .order) (measuredBy turned) (measuredBy turnedSound) (λ c k.
     ap (λ (x : Listing).
     record {
@@ -136,5 +167,10 @@ rows-turned =
       peak = measuredBy turned c .peak;
       last = x .last;
       keeps = measuredBy turned c .keeps;
-    }) (ran-turned never (c .bytes) (c .workers) (c .quota) (c .order) k)) rowCases refl
-    ∙ rows-worked
+    }) (ran-turned never (c .bytes) (c .workers) (c .quota) (c .order) k)) l k
+    ∙ w
+
+-- and every row against the limit has the row's measures
+pub rows-turned : Measured turned rowCases × Measured turned ownRows
+unfolding short rowCases ownRows
+rows-turned = (all-measured rowCases refl (rows-worked .0), all-measured ownRows refl (rows-worked .1))

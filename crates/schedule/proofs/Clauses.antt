@@ -2,8 +2,9 @@
 use mathlib.Core.Path.{_≡_, refl}
 use mathlib.Core.Logic.{_↔_, Iff·rfl, Iff·trans}
 use Prim.Native.Nat.{ℕ, _+_, _≤_, _<_}
-use mathlib.Core.List.{List·Memᴰ}
+use mathlib.Core.List.{List, List·Memᴰ}
 use mathlib.Core.Bool.{Bool, true, false}
+use lib.ListN.{getD}
 use lib.Dec.{eqb}
 use borrow.Author.Tests.{eqb-true, eqb-false}
 use Rattle.table.specs.Sum.{pick}
@@ -12,8 +13,8 @@ use Rattle.table.specs.Rules.{endOf, allocOf, freeOf}
 use Rattle.table.specs.Level.{forkBelow, dependsOn}
 use Rattle.table.proofs.Tests.{is-true, same-is}
 use Rattle.schedule.specs.declared.Worker.{Worker}
-use Rattle.schedule.specs.Machine.{State, unborn, held, waiting, ended, nextOf, statusOf, workerOf, nobody}
-use Rattle.schedule.specs.Sound.{numberOf, countBelow, isDone, isLive, sumDone}
+use Rattle.schedule.specs.Machine.{unborn, held, waiting, ended, nobody}
+use Rattle.schedule.specs.Sound.{numberOf, countBelow, doneIn, liveIn, sumDoneIn}
 use Rattle.schedule.specs.Sound.{nextInBody, inOrder, statusFollows, listFollows, inSerialOrder, waitsAtJoin, holdsThread, oneHolder, workerRight, heldRight, unused}
 use Rattle.schedule.specs.Turn.{isNobody}
 use Rattle.schedule.proofs.Words.{not-exactly, leb-exactly, ltb-exactly, eqb-exactly, not-eqb-exactly, and-of, implies-of, agree-of, pick-of}
@@ -21,47 +22,53 @@ use Rattle.schedule.proofs.Words.{allIn-exactly, member-exactly, rises-
 
 -- ---- the threads
 
-module _ (T : Table) (st : State) where
-  pub nextInBody-exactly : (t : ℕ) → (nextInBody T st t ≡ true) ↔ ((T .first t ≤ nextOf st t) × (nextOf st t ≤ endOf T t))
-  unfolding nextInBody
-  nextInBody-exactly t = and-of (leb-exactly _ _) (leb-exactly _ _)
+pub nextInBody-exactly : (T : Table) (next : List ℕ) (t : ℕ) → (nextInBody T next t ≡ true) ↔ ((T .first t ≤ getD next t 0) × (getD next t 0 ≤ endOf T t))
+unfolding nextInBody
+nextInBody-exactly T next t = and-of (leb-exactly _ _) (leb-exactly _ _)
 
-  pub inOrder-exactly : (a : ℕ) → (inOrder T st a ≡ true) ↔ (isDone T st a ≡ true → (d : ℕ) → List·Memᴰ d (dependsOn T a) → isDone T st d ≡ true)
+pub inSerialOrder-exactly : (T : Table) (next list : List ℕ) → (inSerialOrder T next list ≡ true) ↔ Ascends (λ t. numberOf T (getD next t 0)) list
+unfolding inSerialOrder
+inSerialOrder-exactly T next list = rises-exactly (λ t. numberOf T (getD next t 0)) list
+
+module _ (T : Table) (next status : List ℕ) where
+  pub inOrder-exactly :
+      (a : ℕ) → (inOrder T next status a ≡ true)
+      ↔ (doneIn T next status a ≡ true → (d : ℕ) → List·Memᴰ d (dependsOn T a) → doneIn T next status d ≡ true)
   unfolding inOrder
-  inOrder-exactly a = implies-of Iff·rfl (allIn-exactly (isDone T st) (dependsOn T a))
+  inOrder-exactly a = implies-of Iff·rfl (allIn-exactly (doneIn T next status) (dependsOn T a))
 
   pub statusFollows-exactly :
-      (t : ℕ) → (statusFollows T st t ≡ true)
-      ↔ (((statusOf st t ≡ unborn) ↔ ((0 < t) × (isDone T st (forkBelow T (T .actions) t) ≡ false)))
-      × ((statusOf st t ≡ ended → nextOf st t ≡ endOf T t) × (statusOf st t ≤ ended)))
+      (t : ℕ) → (statusFollows T next status t ≡ true)
+      ↔ (((getD status t 0 ≡ unborn) ↔ ((0 < t) × (doneIn T next status (forkBelow T (T .actions) t) ≡ false)))
+      × ((getD status t 0 ≡ ended → getD next t 0 ≡ endOf T t) × (getD status t 0 ≤ ended)))
   unfolding statusFollows
   statusFollows-exactly t =
       and-of (agree-of (eqb-exactly _ _) (and-of (ltb-exactly _ _) (not-exactly _)))
       (and-of (implies-of (eqb-exactly _ _) (eqb-exactly _ _)) (leb-exactly _ _))
 
-  pub inSerialOrder-exactly : (inSerialOrder T st ≡ true) ↔ Ascends (λ t. numberOf T (nextOf st t)) (st .list)
-  unfolding inSerialOrder
-  inSerialOrder-exactly = rises-exactly (λ t. numberOf T (nextOf st t)) (st .list)
-
   pub waitsAtJoin-exactly :
-      (t : ℕ) → (waitsAtJoin T st t ≡ true)
-      ↔ (statusOf st t ≡ waiting → (kind T (nextOf st t) ≡ join) × (statusOf st (T .argument (nextOf st t)) ≡ ended → ⊥))
+      (t : ℕ) → (waitsAtJoin T next status t ≡ true)
+      ↔ (getD status t 0 ≡ waiting → (kind T (getD next t 0) ≡ join) × (getD status (T .argument (getD next t 0)) 0 ≡ ended → ⊥))
   unfolding waitsAtJoin
   waitsAtJoin-exactly t =
-      implies-of (eqb-exactly _ _) (and-of (is-true join (kind T (nextOf st t)), same-is join (kind T (nextOf st t))) (not-eqb-exactly _ _))
+      implies-of (eqb-exactly _ _)
+      (and-of (is-true join (kind T (getD next t 0)), same-is join (kind T (getD next t 0))) (not-eqb-exactly _ _))
 
-  pub heldRight-exactly : (heldRight T st ≡ true) ↔ (st .held + sumDone T st (freeOf T) ≡ sumDone T st (allocOf T))
+  pub heldRight-exactly :
+      (amount : ℕ) → (heldRight T next status amount ≡ true)
+      ↔ (amount + sumDoneIn T next status (freeOf T) ≡ sumDoneIn T next status (allocOf T))
   unfolding heldRight
-  heldRight-exactly = eqb-exactly _ _
+  heldRight-exactly amount = eqb-exactly _ _
 
-module _ (st : State) where
-  pub listFollows-exactly : (t : ℕ) → (listFollows st t ≡ true) ↔ (List·Memᴰ t (st .list) ↔ ((statusOf st t ≡ unborn → ⊥) × (statusOf st t ≡ ended → ⊥)))
-  unfolding listFollows isLive
-  listFollows-exactly t = agree-of (member-exactly t (st .list)) (and-of (not-eqb-exactly _ _) (not-eqb-exactly _ _))
+pub listFollows-exactly :
+    (status list : List ℕ) (t : ℕ) → (listFollows status list t ≡ true)
+    ↔ (List·Memᴰ t list ↔ ((getD status t 0 ≡ unborn → ⊥) × (getD status t 0 ≡ ended → ⊥)))
+unfolding listFollows liveIn
+listFollows-exactly status list t = agree-of (member-exactly t list) (and-of (not-eqb-exactly _ _) (not-eqb-exactly _ _))
 
-  pub unused-exactly : (t : ℕ) → (unused st t ≡ true) ↔ ((statusOf st t ≡ unborn) × (nextOf st t ≡ 0))
-  unfolding unused
-  unused-exactly t = and-of (eqb-exactly _ _) (eqb-exactly _ _)
+pub unused-exactly : (next status : List ℕ) (t : ℕ) → (unused next status t ≡ true) ↔ ((getD status t 0 ≡ unborn) × (getD next t 0 ≡ 0))
+unfolding unused
+unused-exactly next status t = and-of (eqb-exactly _ _) (eqb-exactly _ _)
 
 -- ---- the workers
 
@@ -73,38 +80,38 @@ nobody-exactly x =
     Iff·trans (and-of (not-exactly (x .holds)) (and-of (eqb-exactly (x .thread) 0) (eqb-exactly (x .quota) 0)))
     ((λ h. nobody-by-fields x (h .0) (h .1 .0) (h .1 .1)), (λ e. (cc, (cc, cc))))
 
-module _ (st : State) (t : ℕ) where
-  pub holdsThread-exactly : (w : ℕ) → (holdsThread st t w ≡ true) ↔ ((workerOf st w .holds ≡ true) × (workerOf st w .thread ≡ t))
-  unfolding holdsThread
-  holdsThread-exactly w = and-of Iff·rfl (eqb-exactly _ _)
+pub holdsThread-exactly : (workers : List Worker) (t w : ℕ) → (holdsThread workers t w ≡ true) ↔ ((getD workers w nobody .holds ≡ true) × (getD workers w nobody .thread ≡ t))
+unfolding holdsThread
+holdsThread-exactly workers t w = and-of Iff·rfl (eqb-exactly _ _)
 
-  -- a held thread has one worker, any other has none
+-- a held thread has one worker, any other has none
+module _ (status : List ℕ) (workers : List Worker) (t : ℕ) where
   pub oneHolder-exactly :
-      (oneHolder st t ≡ true)
-      ↔ ((statusOf st t ≡ held → One (holdsThread st t) 16) × ((statusOf st t ≡ held → ⊥) → (w : ℕ) → w < 16 → holdsThread st t w ≡ false))
+      (oneHolder status workers t ≡ true)
+      ↔ ((getD status t 0 ≡ held → One (holdsThread workers t) 16) × ((getD status t 0 ≡ held → ⊥) → (w : ℕ) → w < 16 → holdsThread workers t w ≡ false))
   unfolding oneHolder
-  oneHolder-exactly = Iff·trans (eqb-exactly _ _) (go (eqb (statusOf st t) held) refl)
+  oneHolder-exactly = Iff·trans (eqb-exactly _ _) (go (eqb (getD status t 0) held) refl)
     where
       f : ℕ → Bool
-      f = holdsThread st t
+      f = holdsThread workers t
 
-      go : (s : Bool) → eqb (statusOf st t) held ≡ s
-          → (countBelow f 16 ≡ pick s 1 0) ↔ ((statusOf st t ≡ held → One f 16) × ((statusOf st t ≡ held → ⊥) → (w : ℕ) → w < 16 → f w ≡ false))
+      go : (s : Bool) → eqb (getD status t 0) held ≡ s
+          → (countBelow f 16 ≡ pick s 1 0) ↔ ((getD status t 0 ≡ held → One f 16) × ((getD status t 0 ≡ held → ⊥) → (w : ℕ) → w < 16 → f w ≡ false))
       go true q =
-          let h : statusOf st t ≡ held = eqb-true _ _ q in
+          let h : getD status t 0 ≡ held = eqb-true _ _ q in
           ((λ e. ((λ k. countBelow-one f 16 .0 e), (λ k. absurd (k h)))), (λ p. countBelow-one f 16 .1 (p .0 h)))
       go false q =
-          let h : statusOf st t ≡ held → ⊥ = eqb-false _ _ q in
+          let h : getD status t 0 ≡ held → ⊥ = eqb-false _ _ q in
           ((λ e. ((λ k. absurd (h k)), (λ k. countBelow-none f 16 .0 e))), (λ p. countBelow-none f 16 .1 (p .1 h)))
 
 pub workerRight-exactly :
-    (T : Table) (p K : ℕ) (st : State) (w : ℕ) → (workerRight T p K st w ≡ true)
-    ↔ ((workerOf st w .holds ≡ true → (w < p) × ((workerOf st w .thread < T .threads) × (workerOf st w .quota ≤ K)))
-    × (workerOf st w .holds ≡ false → workerOf st w ≡ nobody))
+    (n p K : ℕ) (workers : List Worker) (w : ℕ) → (workerRight n p K workers w ≡ true)
+    ↔ ((getD workers w nobody .holds ≡ true → (w < p) × ((getD workers w nobody .thread < n) × (getD workers w nobody .quota ≤ K)))
+    × (getD workers w nobody .holds ≡ false → getD workers w nobody ≡ nobody))
 unfolding workerRight
-workerRight-exactly T p K st w =
-    let x : Worker = workerOf st w in
+workerRight-exactly n p K workers w =
+    let x : Worker = getD workers w nobody in
     Iff·trans
-    (pick-of (x .holds) (and-of (ltb-exactly w p) (and-of (ltb-exactly (x .thread) (T .threads)) (leb-exactly (x .quota) K)))
+    (pick-of (x .holds) (and-of (ltb-exactly w p) (and-of (ltb-exactly (x .thread) n) (leb-exactly (x .quota) K)))
     (and-of (eqb-exactly (x .thread) 0) (eqb-exactly (x .quota) 0)))
     ((λ h. (h .0, (λ e. nobody-by-fields x e (h .1 e .0) (h .1 e .1)))), (λ h. (h .0, (λ e. let z : x ≡ nobody = h .1 e in (cc, cc)))))

@@ -17,7 +17,7 @@ use Rattle.table.proofs.Bodies.{after-end, owner-is, owner-of-end, owner-end, e
 use Rattle.table.proofs.Nesting.{fork-found, fork-exists}
 use Rattle.table.proofs.Levels.{depends-step, depends-join, depends-root, depends-child, by-place}
 use Rattle.schedule.specs.Machine.{State, unborn, ended, nextOf, statusOf}
-use Rattle.schedule.specs.Sound.{numberOf, isDone}
+use Rattle.schedule.specs.Sound.{numberOf, isDone, doneIn}
 use Rattle.schedule.proofs.Lawful.{Lawful}
 use Rattle.schedule.proofs.Words.{never-false, or-exactly, eqb-same}
 use Rattle.schedule.proofs.Numbers.{number-child, number-rises, number-between}
@@ -27,17 +27,17 @@ use Rattle.schedule.proofs.Facts.{Done, Facts}
 
 module _ (T : Table) (st : State) (d : ℕ) where
   pub done-low : d < nextOf st (owner T d) → Done T st d
-  unfolding isDone
+  unfolding doneIn
   done-low h = rw (lt-ltb d (nextOf st (owner T d)) h)
 
   pub done-last : d ≡ nextOf st (owner T d) → statusOf st (owner T d) ≡ ended → Done T st d
-  unfolding isDone
+  unfolding doneIn
   done-last h e =
       rw (le-ltb d (nextOf st (owner T d)) (omega arith), eq-eqb d (nextOf st (owner T d)) h, eq-eqb (statusOf st (owner T d)) ended e)
 
   -- of a thread not ended, what stands before its next action is done
   pub done-live : (statusOf st (owner T d) ≡ ended → ⊥) → isDone T st d ≡ ltb d (nextOf st (owner T d))
-  unfolding isDone
+  unfolding doneIn
   done-live n = rw (ne-eqb (statusOf st (owner T d)) ended n, and-false (eqb d (nextOf st (owner T d)))) (or-false (ltb d (nextOf st (owner T d))))
 
   pub undone : nextOf st (owner T d) ≤ d → (statusOf st (owner T d) ≡ ended → ⊥) → isDone T st d ≡ false
@@ -45,7 +45,7 @@ module _ (T : Table) (st : State) (d : ℕ) where
 
   -- it stands before its thread's next action, or the thread has ended with it
   pub done-where : Done T st d → (d < nextOf st (owner T d)) ⊎ ((d ≡ nextOf st (owner T d)) × (statusOf st (owner T d) ≡ ended))
-  unfolding isDone
+  unfolding doneIn
   done-where e =
       ⊎-elim (λ q. inl (ltb-true d (nextOf st (owner T d)) q))
       (λ q.
@@ -56,12 +56,12 @@ module _ (T : Table) (st : State) (d : ℕ) where
   -- with the thread's next action and its being ended the same, the same is done
   pub done-alike : (st' : State) → nextOf st' (owner T d) ≡ nextOf st (owner T d) → eqb (statusOf st' (owner T d)) ended ≡ eqb (statusOf st (owner T d)) ended
       → isDone T st' d ≡ isDone T st d
-  unfolding isDone
+  unfolding doneIn
   done-alike st' n e = rw (n, e)
 
   -- with the thread's next action the same, the other actions that are done are the same, whether it has ended or not
   pub done-ending : (st' : State) (a : ℕ) → nextOf st (owner T d) ≡ a → nextOf st' (owner T d) ≡ a → (d ≡ a → ⊥) → isDone T st' d ≡ isDone T st d
-  unfolding isDone
+  unfolding doneIn
   done-ending st' a n n' j = rw (n, n', ne-eqb d a j)
 
   pub done-same : (st' : State) → nextOf st' (owner T d) ≡ nextOf st (owner T d) → (statusOf st' (owner T d) ≡ ended → statusOf st (owner T d) ≡ ended)

@@ -71,26 +71,26 @@ module _ (T : Table) (l : Lawful T) (p K : ℕ) (st : State) where
   pub facts : SoundState T p K st → Facts T p K st
   facts s =
       record {
-        next-size = s .next-size;
-        status-size = s .status-size;
-        next-low = λ t h. nextInBody-exactly T st t .0 (s .placed t h) .0;
-        next-high = λ t h. nextInBody-exactly T st t .0 (s .placed t h) .1;
-        ordered = λ a d h e m. inOrder-exactly T st a .0 (s .ordered a h) e d m;
+        next-size = s .common .next-size;
+        status-size = s .common .status-size;
+        next-low = λ t h. nextInBody-exactly T (st .next) t .0 (s .common .placed t h) .0;
+        next-high = λ t h. nextInBody-exactly T (st .next) t .0 (s .common .placed t h) .1;
+        ordered = λ a d h e m. inOrder-exactly T (st .next) (st .status) a .0 (s .common .ordered a h) e d m;
         status-known = λ t h. status t h .1 .1;
         root-born = λ e. let z : 0 < 0 = status 0 (l .some-thread) .0 .0 e .0 in omega arith;
         unborn-fork = λ t z h e. status t h .0 .0 e .1;
         fork-unborn = λ t z h e. status t h .0 .1 (z, e);
         ended-last = λ t h. status t h .1 .0;
         list-below = below;
-        list-born = λ t m. listFollows-exactly st t .0 (s .listed t (below t m)) .0 m .0;
-        list-unended = λ t m. listFollows-exactly st t .0 (s .listed t (below t m)) .0 m .1;
-        live-listed = λ t h u e. listFollows-exactly st t .0 (s .listed t h) .1 (u, e);
-        serial = inSerialOrder-exactly T st .0 (s .serial);
-        wait-join = λ t h e. waitsAtJoin-exactly T st t .0 (s .waits t h) e .0;
-        wait-open = λ t h e. waitsAtJoin-exactly T st t .0 (s .waits t h) e .1;
+        list-born = λ t m. listFollows-exactly (st .status) (st .list) t .0 (s .listed .follows t (below t m)) .0 m .0;
+        list-unended = λ t m. listFollows-exactly (st .status) (st .list) t .0 (s .listed .follows t (below t m)) .0 m .1;
+        live-listed = λ t h u e. listFollows-exactly (st .status) (st .list) t .0 (s .listed .follows t h) .1 (u, e);
+        serial = inSerialOrder-exactly T (st .next) (st .list) .0 (s .listed .serial);
+        wait-join = λ t h e. waitsAtJoin-exactly T (st .next) (st .status) t .0 (s .common .waits t h) e .0;
+        wait-open = λ t h e. waitsAtJoin-exactly T (st .next) (st .status) t .0 (s .common .waits t h) e .1;
         holding =
             record {
-              worker-size = s .worker-size;
+              worker-size = s .common .worker-size;
               holder-below = λ w h e. worker w h .0 e .0;
               holder-thread = λ w h e. worker w h .0 e .1 .0;
               holder-held = holds-held;
@@ -99,24 +99,24 @@ module _ (T : Table) (l : Lawful T) (p K : ℕ) (st : State) where
               held-holder = some-holder;
               free-worker = λ w h. worker w h .1;
             };
-        amount = heldRight-exactly T st .0 (s .amount);
-        above = s .above;
-        unused-status = λ t h k. unused-exactly st t .0 (s .unused-threads t h k) .0;
-        unused-next = λ t h k. unused-exactly st t .0 (s .unused-threads t h k) .1;
+        amount = heldRight-exactly T (st .next) (st .status) (st .held) .0 (s .common .held-right);
+        above = s .common .above;
+        unused-status = λ t h k. unused-exactly (st .next) (st .status) t .0 (s .common .unused-threads t h k) .0;
+        unused-next = λ t h k. unused-exactly (st .next) (st .status) t .0 (s .common .unused-threads t h k) .1;
       }
     where
       status : (t : ℕ) → t < T .threads
           → ((statusOf st t ≡ unborn) ↔ ((0 < t) × (isDone T st (forkBelow T (T .actions) t) ≡ false)))
           × ((statusOf st t ≡ ended → nextOf st t ≡ endOf T t) × (statusOf st t ≤ ended))
-      status t h = statusFollows-exactly T st t .0 (s .statuses t h)
+      status t h = statusFollows-exactly T (st .next) (st .status) t .0 (s .common .statuses t h)
 
       below : (t : ℕ) → List·Memᴰ t (st .list) → t < T .threads
-      below t m = ltb-true t (T .threads) (allIn-exactly (λ u. ltb u (T .threads)) (st .list) .0 (s .list-threads) t m)
+      below t m = ltb-true t (T .threads) (allIn-exactly (λ u. ltb u (T .threads)) (st .list) .0 (s .listed .threads-alone) t m)
 
       worker : (w : ℕ) → w < 16
           → (workerOf st w .holds ≡ true → (w < p) × ((workerOf st w .thread < T .threads) × (workerOf st w .quota ≤ K)))
           × (workerOf st w .holds ≡ false → workerOf st w ≡ nobody)
-      worker w h = workerRight-exactly T p K st w .0 (s .workers w h)
+      worker w h = workerRight-exactly (T .threads) p K (st .workers) w .0 (s .common .worker-each w h)
 
       holds-held : (w : ℕ) → w < 16 → workerOf st w .holds ≡ true → statusOf st (workerOf st w .thread) ≡ held
       holds-held w h e = go (ℕ-discrete (statusOf st t) held)
@@ -128,43 +128,54 @@ module _ (T : Table) (l : Lawful T) (p K : ℕ) (st : State) where
           go (yes d) = d
           go (no d) =
               absurd
-              (not-both (holdsThread st t w) (holdsThread-exactly st t w .1 (e, refl))
-              (oneHolder-exactly st t .0 (s .holders t (worker w h .0 e .1 .0)) .1 d w h))
+              (not-both (holdsThread (st .workers) t w) (holdsThread-exactly (st .workers) t w .1 (e, refl))
+              (oneHolder-exactly (st .status) (st .workers) t .0 (s .common .holders t (worker w h .0 e .1 .0)) .1 d w h))
 
-      one : (t : ℕ) → t < T .threads → statusOf st t ≡ held → One (holdsThread st t) 16
-      one t h = oneHolder-exactly st t .0 (s .holders t h) .0
+      one : (t : ℕ) → t < T .threads → statusOf st t ≡ held → One (holdsThread (st .workers) t) 16
+      one t h = oneHolder-exactly (st .status) (st .workers) t .0 (s .common .holders t h) .0
 
       once : (w v : ℕ) → w < 16 → v < 16 → workerOf st w .holds ≡ true → workerOf st v .holds ≡ true → workerOf st w .thread ≡ workerOf st v .thread → w ≡ v
       once w v h k e f q =
-          let o : One (holdsThread st (workerOf st w .thread)) 16 = one (workerOf st w .thread) (worker w h .0 e .1 .0) (holds-held w h e) in
-          let a : w ≡ o .at = o .alone w h (holdsThread-exactly st (workerOf st w .thread) w .1 (e, refl)) in
-          let b : v ≡ o .at = o .alone v k (holdsThread-exactly st (workerOf st w .thread) v .1 (f, sym q)) in
+          let o : One (holdsThread (st .workers) (workerOf st w .thread)) 16 = one (workerOf st w .thread) (worker w h .0 e .1 .0) (holds-held w h e) in
+          let a : w ≡ o .at = o .alone w h (holdsThread-exactly (st .workers) (workerOf st w .thread) w .1 (e, refl)) in
+          let b : v ≡ o .at = o .alone v k (holdsThread-exactly (st .workers) (workerOf st w .thread) v .1 (f, sym q)) in
           cc
 
       some-holder : (t : ℕ) → t < T .threads → statusOf st t ≡ held → (w : ℕ) × (w < 16) × (workerOf st w .holds ≡ true) × (workerOf st w .thread ≡ t)
       some-holder t h e =
-          let o : One (holdsThread st t) 16 = one t h e in
-          let q : (workerOf st (o .at) .holds ≡ true) × (workerOf st (o .at) .thread ≡ t) = holdsThread-exactly st t (o .at) .0 (o .passes) in
+          let o : One (holdsThread (st .workers) t) 16 = one t h e in
+          let q : (workerOf st (o .at) .holds ≡ true) × (workerOf st (o .at) .thread ≡ t) = holdsThread-exactly (st .workers) t (o .at) .0 (o .passes) in
           (o .at, o .below, q .0, q .1)
 
   pub sound-facts : Facts T p K st → SoundState T p K st
   sound-facts f =
       record {
-        next-size = f .next-size;
-        status-size = f .status-size;
-        worker-size = f .holding .worker-size;
-        placed = λ t h. nextInBody-exactly T st t .1 (f .next-low t h, f .next-high t h);
-        ordered = λ a h. inOrder-exactly T st a .1 (λ e d m. f .ordered a d h e m);
-        statuses = λ t h. statusFollows-exactly T st t .1 (status t h, (f .ended-last t h, f .status-known t h));
-        listed = λ t h. listFollows-exactly st t .1 ((λ m. (f .list-born t m, f .list-unended t m)), (λ q. f .live-listed t h (q .0) (q .1)));
-        list-threads = allIn-exactly (λ u. ltb u (T .threads)) (st .list) .1 (λ t m. lt-ltb t (T .threads) (f .list-below t m));
-        serial = inSerialOrder-exactly T st .1 (f .serial);
-        waits = λ t h. waitsAtJoin-exactly T st t .1 (λ e. (f .wait-join t h e, f .wait-open t h e));
-        holders = λ t h. oneHolder-exactly st t .1 (one t h, none t);
-        workers = λ w h. workerRight-exactly T p K st w .1 ((λ e. (f .holding .holder-below w h e, (f .holding .holder-thread w h e, f .holding .holder-quota w h e))), f .holding .free-worker w h);
-        amount = heldRight-exactly T st .1 (f .amount);
-        above = f .above;
-        unused-threads = λ t h k. unused-exactly st t .1 (f .unused-status t h k, f .unused-next t h k);
+        common =
+            record {
+              next-size = f .next-size;
+              status-size = f .status-size;
+              worker-size = f .holding .worker-size;
+              placed = λ t h. nextInBody-exactly T (st .next) t .1 (f .next-low t h, f .next-high t h);
+              ordered = λ a h. inOrder-exactly T (st .next) (st .status) a .1 (λ e d m. f .ordered a d h e m);
+              statuses = λ t h. statusFollows-exactly T (st .next) (st .status) t .1 (status t h, (f .ended-last t h, f .status-known t h));
+              waits = λ t h. waitsAtJoin-exactly T (st .next) (st .status) t .1 (λ e. (f .wait-join t h e, f .wait-open t h e));
+              holders = λ t h. oneHolder-exactly (st .status) (st .workers) t .1 (one t h, none t);
+              worker-each =
+                  λ w h.
+                  workerRight-exactly (T .threads) p K (st .workers) w .1 (
+                    (λ e. (f .holding .holder-below w h e, (f .holding .holder-thread w h e, f .holding .holder-quota w h e))),
+                    f .holding .free-worker w h,
+                  );
+              held-right = heldRight-exactly T (st .next) (st .status) (st .held) .1 (f .amount);
+              above = f .above;
+              unused-threads = λ t h k. unused-exactly (st .next) (st .status) t .1 (f .unused-status t h k, f .unused-next t h k);
+            };
+        listed =
+            record {
+              follows = λ t h. listFollows-exactly (st .status) (st .list) t .1 ((λ m. (f .list-born t m, f .list-unended t m)), (λ q. f .live-listed t h (q .0) (q .1)));
+              threads-alone = allIn-exactly (λ u. ltb u (T .threads)) (st .list) .1 (λ t m. lt-ltb t (T .threads) (f .list-below t m));
+              serial = inSerialOrder-exactly T (st .next) (st .list) .1 (f .serial);
+            };
       }
     where
       status : (t : ℕ) → t < T .threads → (statusOf st t ≡ unborn) ↔ ((0 < t) × (isDone T st (forkBelow T (T .actions) t) ≡ false))
@@ -177,21 +188,21 @@ module _ (T : Table) (l : Lawful T) (p K : ℕ) (st : State) where
               go (yes d) = absurd (f .root-born (rw d at e))
               go (no d) = let n : t ≡ 0 → ⊥ = d in omega (arith, n)
 
-      one : (t : ℕ) → t < T .threads → statusOf st t ≡ held → One (holdsThread st t) 16
+      one : (t : ℕ) → t < T .threads → statusOf st t ≡ held → One (holdsThread (st .workers) t) 16
       one t h e =
           let (w, k, q, r) = f .holding .held-holder t h e in
-          record { at = w; below = k; passes = holdsThread-exactly st t w .1 (q, r); alone = alone w k q r }
+          record { at = w; below = k; passes = holdsThread-exactly (st .workers) t w .1 (q, r); alone = alone w k q r }
         where
-          alone : (w : ℕ) → w < 16 → workerOf st w .holds ≡ true → workerOf st w .thread ≡ t → (v : ℕ) → v < 16 → holdsThread st t v ≡ true → v ≡ w
+          alone : (w : ℕ) → w < 16 → workerOf st w .holds ≡ true → workerOf st w .thread ≡ t → (v : ℕ) → v < 16 → holdsThread (st .workers) t v ≡ true → v ≡ w
           alone w k q r v m g =
-              let o : (workerOf st v .holds ≡ true) × (workerOf st v .thread ≡ t) = holdsThread-exactly st t v .0 g in
+              let o : (workerOf st v .holds ≡ true) × (workerOf st v .thread ≡ t) = holdsThread-exactly (st .workers) t v .0 g in
               f .holding .holder-once v w m k (o .0) q (o .1 ∙ sym r)
 
-      none : (t : ℕ) → (statusOf st t ≡ held → ⊥) → (w : ℕ) → w < 16 → holdsThread st t w ≡ false
-      none t n w h = never-true (holdsThread st t w) by-holder
+      none : (t : ℕ) → (statusOf st t ≡ held → ⊥) → (w : ℕ) → w < 16 → holdsThread (st .workers) t w ≡ false
+      none t n w h = never-true (holdsThread (st .workers) t w) by-holder
         where
-          by-holder : holdsThread st t w ≡ true → ⊥
+          by-holder : holdsThread (st .workers) t w ≡ true → ⊥
           by-holder g =
-              let o : (workerOf st w .holds ≡ true) × (workerOf st w .thread ≡ t) = holdsThread-exactly st t w .0 g in
+              let o : (workerOf st w .holds ≡ true) × (workerOf st w .thread ≡ t) = holdsThread-exactly (st .workers) t w .0 g in
               let q : workerOf st w .thread ≡ t = o .1 in
               n (rw q at (f .holding .holder-held w h (o .0)))

@@ -34,6 +34,8 @@ pub mod Replies
 pub mod Rows
 pub mod Stores
 pub mod Histories
+pub mod Beginnings
+pub mod Values
 -- the limit: the rule with b, batches, what they draw
 pub mod Ages
 pub mod KeepsTest

@@ -1,13 +1,14 @@
 -- Demand 3, entire: the memory limit over every list of calls.
 --
 -- What it cites, in crates/schedule/specs: `begin` (Begin) answers with the record of an accepted beginning; `afterCalls` and `rowOfCalls` (Calls) are the record that a list of calls
--- leaves and its row of turns; `memoryOf` and `peakMemory` (Memory) are what the row's turns hold, from the replies and the table alone; `Keeps` (Memory) is the rule with b; `limit`
--- (Memory) is S1 + b·K·(p − 1)·(D − 1), with S1 and D of crates/table/specs.
+-- leaves and its row of turns; `memoryOf` and `peakMemory` (Memory) are what the row's turns hold, from the replies and the table alone; `doneIn` (Memory) sums the allocs
+-- or the frees done; `Keeps` (Memory) is the rule with b; `limit` (Memory) is S1 + b·K·(p − 1)·(D − 1), with S1 and D of crates/table/specs.
 use mathlib.Core.Path.{_≡_, sym, ap, _∙_}
 use Prim.Native.Nat.{ℕ, _≤_, _<_}
 use native.Mathlib.Omega.{arith}
 use mathlib.Core.List.{List, [], _++_, append-nil, List·Memᴰ}
 use Rattle.table.specs.Format.{Table, tableOf}
+use Rattle.table.specs.Rules.{allocOf, freeOf}
 use Rattle.table.specs.Serial.{S1}
 use Rattle.schedule.specs.declared.Run.{Run}
 use Rattle.schedule.specs.declared.Beginning.the-variants.{Begun as started}
@@ -15,8 +16,8 @@ use Rattle.schedule.specs.Machine.{State}
 use Rattle.schedule.specs.Record.{stateOf}
 use Rattle.schedule.specs.Begin.{begin, startState}
 use Rattle.schedule.specs.Calls.{Call, afterCalls, rowOfCalls}
-use Rattle.schedule.specs.Memory.{rowState, memoryOf, peakMemory, Keeps, limit}
-use Rattle.schedule.proofs.Rows.{front-workers, row-held, row-highest}
+use Rattle.schedule.specs.Memory.{rowState, doneIn, memoryOf, peakMemory, Keeps, limit}
+use Rattle.schedule.proofs.Rows.{front-workers, row-balanced, row-held, row-highest}
 use Rattle.schedule.proofs.Histories.{Started, Left, begin-started, begin-sound, calls-left, start-state}
 use Rattle.schedule.proofs.FrontParts.{peak-within, front-bound, front-alone}
 
@@ -25,6 +26,8 @@ pub record MemoryLimit (T : Table) (p K b : ℕ) (r : Run) (row : List ℕ) : Ty
   -- the record's held is the row's memory, and its highest the greatest after any front part
   pub held : r .held ≡ memoryOf T K row
   pub highest : r .highest ≡ peakMemory T K row
+  -- that memory is allocs done less frees done, and no front part frees more than it drew
+  pub balanced : (front rest : List ℕ) → row ≡ front ++ rest → doneIn freeOf T K front ≤ doneIn allocOf T K front
   -- after every front part that keeps the rule with b, both are within the limit
   pub bounded : (front rest : List ℕ) → row ≡ front ++ rest → Keeps b front → (memoryOf T K front ≤ limit T p K b) × (peakMemory T K front ≤ limit T p K b)
   -- one worker alone never holds more than the serial peak
@@ -48,6 +51,7 @@ memory-limit s p K r e b g calls =
     record {
       held = ap (λ (x : State). x .held) q ∙ row-held T (i .lawful) p K (i .few-workers) row h;
       highest = ap (λ (x : State). x .highest) q ∙ row-highest T (i .lawful) p K (i .few-workers) row h;
+      balanced = λ front rest d. row-balanced T (i .lawful) p K (i .few-workers) front (front-workers (λ w. w < p) row front rest d h);
       bounded = λ front rest d keeps.
           let within : (f z : List ℕ) → front ≡ f ++ z → memoryOf T K f ≤ limit T p K b =
           front-bound T (i .lawful) p K (i .some-worker) (i .few-workers) front (front-workers (λ w. w < p) row front rest d h) b g keeps in

@@ -62,6 +62,12 @@ firsts-at f a (suc k) (suc i) h =
     let e : a + suc i ≡ suc a + i = omega arith in
     firsts-at f (suc a) k i (omega arith) ∙ ap f (sym e)
 
+pub firsts-past : (f : ℕ → ℕ) (a k i : ℕ) → k ≤ i → getD (firsts f a k) i 0 ≡ 0
+unfolding firsts
+firsts-past f a zero i h = refl
+firsts-past f a (suc k) zero h = absurd (omega arith)
+firsts-past f a (suc k) (suc i) h = firsts-past f (suc a) k i (omega arith)
+
 -- a front part of a list is the row of its elements
 pub firsts-take : (l : List ℕ) (j : ℕ) → j ≤ length l → firsts (λ i. getD l i 0) 0 j ≡ take j l
 firsts-take l j h =

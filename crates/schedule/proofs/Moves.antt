@@ -13,7 +13,7 @@ use Rattle.table.proofs.Tests.{no-way}
 use Rattle.table.proofs.Sums.{sumTo-cong}
 use Rattle.schedule.specs.declared.Worker.{Worker}
 use Rattle.schedule.specs.Machine.{State, unborn, ready, held, waiting, ended, nextOf, statusOf, workerOf, nobody, withStatus, withWorker, released, counted, taken}
-use Rattle.schedule.specs.Sound.{isDone, ofDone, sumDone}
+use Rattle.schedule.specs.Sound.{isDone, doneIn, ofDone, sumDone}
 use Rattle.schedule.proofs.Lawful.{Lawful}
 use Rattle.schedule.proofs.Facts.{Holding, Facts}
 use Rattle.schedule.proofs.Lists.{set-each}
@@ -22,7 +22,7 @@ use Rattle.schedule.proofs.Releases.{Acting, freed, released-holding}
 
 -- the count of turns is no part of a sound state
 pub counted-facts : (T : Table) (p K : ℕ) (st : State) → Facts T p K st → Facts T p K (counted st)
-unfolding isDone
+unfolding doneIn
 counted-facts T p K st f =
     record {
       next-size = f .next-size;
@@ -92,7 +92,7 @@ module _ (T : Table) (l : Lawful T) (p K : ℕ) (st : State) (f : Facts T p K st
 
   -- nothing is done
   pub restated-done : (a : ℕ) → isDone T (restated w v t x st) a ≡ isDone T st a
-  unfolding isDone
+  unfolding doneIn
   restated-done a = rw (same-ended (owner T a))
 
   restated-sum : (own : ℕ → ℕ) → sumDone T (restated w v t x st) own ≡ sumDone T st own

@@ -11,7 +11,7 @@ use Rattle.table.proofs.Levels.{greatest-same}
 use Rattle.table.proofs.Peaks.{greatest-map}
 use Rattle.schedule.specs.Machine.{State, turnOf}
 use Rattle.schedule.specs.Begin.{startState}
-use Rattle.schedule.specs.Memory.{rowState, replies, sumReplies, memoryOf, frontRows, peakMemory}
+use Rattle.schedule.specs.Memory.{rowState, replies, sumReplies, doneIn, memoryOf, frontRows, peakMemory}
 use Rattle.schedule.proofs.Lawful.{Lawful}
 use Rattle.schedule.proofs.Facts.{Facts}
 use Rattle.schedule.proofs.Turns.{turn-facts}
@@ -94,6 +94,10 @@ module _ (T : Table) (l : Lawful T) (p K : ℕ) (few : p ≤ 16) where
         greatest-front (λ front. rowState T K st front .held) w row,
         greatest-empty (λ front. rowState T K st′ front .held) row,
       )
+
+  -- what is freed was drawn before: the difference in `memoryOf` is the amount
+  pub row-balanced : (row : List ℕ) → ((w : ℕ) → List·Memᴰ w row → w < p) → doneIn freeOf T K row ≤ doneIn allocOf T K row
+  row-balanced row h = omega (arith, row-amounts (startState T) (start-facts T l p K) row h, start-held T l .0)
 
   pub row-held : (row : List ℕ) → ((w : ℕ) → List·Memᴰ w row → w < p) → rowState T K (startState T) row .held ≡ memoryOf T K row
   unfolding memoryOf

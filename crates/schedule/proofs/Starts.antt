@@ -18,7 +18,7 @@ use Rattle.schedule.specs.declared.Worker.{Worker}
 use Rattle.schedule.specs.Machine.{unborn, ready, ended, nextOf, statusOf, workerOf, nobody}
 use Rattle.schedule.specs.Record.{maxThreads, maxWorkers}
 use Rattle.schedule.specs.Begin.{firsts, startState}
-use Rattle.schedule.specs.Sound.{numberOf, isDone, sumDone, ofDone}
+use Rattle.schedule.specs.Sound.{numberOf, isDone, doneIn, sumDone, ofDone}
 use Rattle.schedule.proofs.Lawful.{Lawful}
 use Rattle.schedule.proofs.Facts.{Facts}
 use Rattle.schedule.proofs.Words.{Ascends}
@@ -62,7 +62,7 @@ module _ (T : Table) (l : Lawful T) where
 
   -- nothing is done
   pub start-undone : (a : ℕ) → a < T .actions → isDone T (startState T) a ≡ false
-  unfolding isDone
+  unfolding doneIn
   start-undone a h =
       let t : ℕ = owner T a in
       let e : nextOf (startState T) t ≡ T .first t = start-next t (owner-below T (l .contents) a h) in

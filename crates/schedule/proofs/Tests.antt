@@ -15,10 +15,10 @@ use Rattle.table.specs.Rules.{passes}
 use Rattle.table.proofs.Passes.{passes-rules}
 use Rattle.schedule.specs.declared.Worker.{Worker}
 use Rattle.schedule.specs.declared.Run.{Run}
-use Rattle.schedule.specs.Machine.{State, nobody}
+use Rattle.schedule.specs.Machine.{nobody}
 use Rattle.schedule.specs.Record.{blank, bytesOf}
 use Rattle.schedule.specs.Sound.{allBelow, nextInBody, inOrder, statusFollows, listFollows, waitsAtJoin, oneHolder, workerRight, unused}
-use Rattle.schedule.specs.Sound.{SoundState, Sound, soundState, sound}
+use Rattle.schedule.specs.Sound.{Common, Listed, Sound, common, listed, commonSound, sound}
 use Rattle.schedule.specs.Turn.{isNobody, isBlank}
 use Rattle.schedule.proofs.Words.{and-of, or-exactly, eqb-exactly, leb-exactly, ltb-exactly, allBelow-exactly, sameList-exactly, isNothing-exactly}
 use Rattle.schedule.proofs.Clauses.{nobody-exactly}
@@ -30,41 +30,39 @@ pair a b = (a, b)
 
 -- the threads from n on
 unused-from :
-    (T : Table) (st : State) (k : ℕ) → (allBelow (λ t. ltb t (T .threads) || unused st t) k ≡ true) ↔ ((t : ℕ) → T .threads ≤ t → t < k → unused st t ≡ true)
-unused-from T st k =
-    Iff·trans (allBelow-exactly (λ t. ltb t (T .threads) || unused st t) k) (
-      (λ h t n l. above t n (or-exactly (ltb t (T .threads)) (unused st t) .0 (h t l))),
-      (λ h t l. or-exactly (ltb t (T .threads)) (unused st t) .1 (by-place t (λ n. h t n l) (ltb t (T .threads)) refl)),
+    (n : ℕ) (next status : List ℕ) (k : ℕ) → (allBelow (λ t. ltb t n || unused next status t) k ≡ true) ↔ ((t : ℕ) → n ≤ t → t < k → unused next status t ≡ true)
+unused-from n next status k =
+    Iff·trans (allBelow-exactly (λ t. ltb t n || unused next status t) k) (
+      (λ h t m l. above t m (or-exactly (ltb t n) (unused next status t) .0 (h t l))),
+      (λ h t l. or-exactly (ltb t n) (unused next status t) .1 (by-place t (λ m. h t m l) (ltb t n) refl)),
     )
   where
-    above : (t : ℕ) → T .threads ≤ t → (ltb t (T .threads) ≡ true) ⊎ (unused st t ≡ true) → unused st t ≡ true
-    above t n (inl e) = absurd (omega (arith, ltb-true t (T .threads) e))
-    above t n (inr e) = e
+    above : (t : ℕ) → n ≤ t → (ltb t n ≡ true) ⊎ (unused next status t ≡ true) → unused next status t ≡ true
+    above t m (inl e) = absurd (omega (arith, ltb-true t n e))
+    above t m (inr e) = e
 
-    by-place : (t : ℕ) → (T .threads ≤ t → unused st t ≡ true) → (s : Bool) → ltb t (T .threads) ≡ s → (ltb t (T .threads) ≡ true) ⊎ (unused st t ≡ true)
+    by-place : (t : ℕ) → (n ≤ t → unused next status t ≡ true) → (s : Bool) → ltb t n ≡ s → (ltb t n ≡ true) ⊎ (unused next status t ≡ true)
     by-place t h true e = inl e
-    by-place t h false e = inr (h (ltb-false t (T .threads) e))
+    by-place t h false e = inr (h (ltb-false t n e))
 
-pub soundState-exactly : (T : Table) (p K : ℕ) (st : State) → (soundState T p K st ≡ true) ↔ SoundState T p K st
-unfolding soundState
-soundState-exactly T p K st =
+pub common-exactly : (T : Table) (p K : ℕ) (next status : List ℕ) (workers : List Worker) (amount highest : ℕ)
+    → (common T p K next status workers amount highest ≡ true) ↔ Common T p K next status workers amount highest
+unfolding common
+common-exactly T p K next status workers amount highest =
     Iff·trans
-    (and-of (eqb-exactly (length (st .next)) 1024)
-    (and-of (eqb-exactly (length (st .status)) 1024)
-    (and-of (eqb-exactly (length (st .workers)) 16)
-    (and-of (allBelow-exactly (nextInBody T st) (T .threads))
-    (and-of (allBelow-exactly (inOrder T st) (T .actions))
-    (and-of (allBelow-exactly (statusFollows T st) (T .threads))
-    (and-of (allBelow-exactly (listFollows st) (T .threads))
+    (and-of (eqb-exactly (length next) 1024)
+    (and-of (eqb-exactly (length status) 1024)
+    (and-of (eqb-exactly (length workers) 16)
+    (and-of (allBelow-exactly (nextInBody T next) (T .threads))
+    (and-of (allBelow-exactly (inOrder T next status) (T .actions))
+    (and-of (allBelow-exactly (statusFollows T next status) (T .threads))
+    (and-of (allBelow-exactly (waitsAtJoin T next status) (T .threads))
+    (and-of (unused-from (T .threads) next status 1024)
+    (and-of (allBelow-exactly (oneHolder status workers) (T .threads))
+    (and-of (allBelow-exactly (workerRight (T .threads) p K workers) 16)
     (and-of Iff·rfl
-    (and-of Iff·rfl
-    (and-of (allBelow-exactly (waitsAtJoin T st) (T .threads))
-    (and-of (allBelow-exactly (oneHolder st) (T .threads))
-    (and-of (allBelow-exactly (workerRight T p K st) 16)
-    (and-of Iff·rfl
-    (and-of (leb-exactly (st .held) (st .highest))
-    (unused-from T st 1024))))))))))))))) (
-      (λ (a, (b, (c, (d, (e, (f, (g, (h, (i, (j, (k, (l, (m, (n, o)))))))))))))).
+    (leb-exactly amount highest)))))))))))) (
+      (λ (a, (b, (c, (d, (e, (f, (g, (h, (i, (j, (k, l))))))))))).
           record {
             next-size = a;
             status-size = b;
@@ -72,45 +70,60 @@ soundState-exactly T p K st =
             placed = d;
             ordered = e;
             statuses = f;
-            listed = g;
-            list-threads = h;
-            serial = i;
-            waits = j;
-            holders = k;
-            workers = l;
-            amount = m;
-            above = n;
-            unused-threads = o;
+            waits = g;
+            unused-threads = h;
+            holders = i;
+            worker-each = j;
+            held-right = k;
+            above = l;
           }),
       (λ s.
           pair (s .next-size) (pair (s .status-size) (pair (s .worker-size) (pair (s .placed) (pair (s .ordered)
-          (pair (s .statuses) (pair (s .listed) (pair (s .list-threads) (pair (s .serial) (pair (s .waits)
-          (pair (s .holders) (pair (s .workers) (pair (s .amount) (pair (s .above) (s .unused-threads))))))))))))))),
+          (pair (s .statuses) (pair (s .waits) (pair (s .unused-threads) (pair (s .holders) (pair (s .worker-each)
+          (pair (s .held-right) (s .above)))))))))))),
+    )
+
+pub listed-exactly : (T : Table) (next status list : List ℕ) → (listed T next status list ≡ true) ↔ Listed T next status list
+unfolding listed
+listed-exactly T next status list =
+    Iff·trans (and-of (allBelow-exactly (listFollows status list) (T .threads)) (and-of Iff·rfl Iff·rfl)) (
+      (λ (a, (b, c)). record { follows = a; threads-alone = b; serial = c }),
+      (λ s. pair (s .follows) (pair (s .threads-alone) (s .serial))),
     )
 
 -- ---- a sound record
 
 pub sound-exactly : (r : Run) → (sound r ≡ true) ↔ Sound r
-unfolding sound
+unfolding sound commonSound
 sound-exactly r =
     Iff·trans
+    (and-of
     (and-of (Iff·trans (isNothing-exactly (firstFound (passes (bytesOf r)))) (passes-rules (bytesOf r)))
-    (and-of (isNothing-exactly _)
-    (and-of (soundState-exactly _ _ _ _)
-    (and-of (eqb-exactly _ _)
+    (and-of (isNothing-exactly _) (and-of (common-exactly _ _ _ _ _ _ _ _) (eqb-exactly _ _))))
+    (and-of (listed-exactly _ _ _ _)
     (and-of (eqb-exactly _ _)
     (and-of (eqb-exactly _ _)
     (and-of (sameList-exactly _ _)
     (and-of (sameList-exactly _ _)
-    (ltb-exactly _ _))))))))) (
-      (λ (a, (b, (c, (d, (i, (j, (e, (f, g)))))))).
+    (ltb-exactly _ _))))))) (
+      (λ ((a, (b, (c, d))), (l, (i, (j, (e, (f, g)))))).
           record {
-            steady = record { table = a; beginning = b; state = c; set = d; table-length = i; list-length = j; table-rest = e; list-rest = f };
+            steady =
+                record {
+                  table = a;
+                  beginning = b;
+                  state = record { common = c; listed = l };
+                  set = d;
+                  table-length = i;
+                  list-length = j;
+                  table-rest = e;
+                  list-rest = f;
+                };
             turns = g;
           }),
       (λ s.
           let x = s .steady in
-          (x .table, (x .beginning, (x .state, (x .set, (x .table-length, (x .list-length, (x .table-rest, (x .list-rest, s .turns))))))))),
+          ((x .table, (x .beginning, (x .state .common, x .set))), (x .state .listed, (x .table-length, (x .list-length, (x .table-rest, (x .list-rest, s .turns))))))),
     )
 
 -- ---- the blank record

@@ -16,7 +16,7 @@ use Rattle.table.proofs.Tests.{no-way}
 use Rattle.schedule.specs.declared.Reply.{Reply}
 use Rattle.schedule.specs.declared.Reply.the-variants.{Idle}
 use Rattle.schedule.specs.Machine.{State, ready, held, nextOf, statusOf, workerOf, nobody, counted, Stepped, stepped, act, leftmost, taken, turnFree, turnOf}
-use Rattle.schedule.specs.Sound.{isDone}
+use Rattle.schedule.specs.Sound.{isDone, doneIn}
 use Rattle.schedule.proofs.Lawful.{Lawful}
 use Rattle.schedule.proofs.Facts.{Facts}
 use Rattle.schedule.proofs.Done.{done-alike}
@@ -114,7 +114,7 @@ module _ (T : Table) (l : Lawful T) (p K : ℕ) (few : p ≤ 16) (w : ℕ) (belo
 
 -- turns taken are counted, and nothing else
 counted-turned : (T : Table) (K w : ℕ) (st : State) (s : Stepped) → Turned T K w st s → Turned T K w st (stepped (s .reply) (counted (s .state)))
-unfolding isDone
+unfolding doneIn
 counted-turned T K w st s (idles e r n t v) = idles e r n t v
 counted-turned T K w st s (tries t a x) =
     tries t a

@@ -1,4 +1,4 @@
--- Document 01's worked cases on runs that bear a star, and what its wrong turnings would change, as rows of one table with one theorem over all of them, computed on the definitions.
+-- Document 01's worked cases on runs that bear a star, and rows of our own, as two tables with one theorem over both, computed on the definitions.
 use mathlib.Core.Path.{_≡_, refl}
 use Prim.Native.Nat.{ℕ}
 use mathlib.Core.List.{List, [], _∷_, _++_, map}
@@ -38,15 +38,13 @@ abbrev pub never : Run → Bool
 never r = false
 
 -- The checks of a turn on a sound record: 32 does not apply. To test at each turn the whole of a record, with its 36,868 bytes and 1,024 threads, takes seconds to compute. But a
--- beginning's record is sound and turns keep it so (`begin-sound` and `turn-steady`, proofs/Histories), hence `ranAs` is `ranBy never turned` (`ran-turned`, proofs/CaseLaws).
+-- beginning's record is sound and turns keep it so (`begin-sound` and `turn-steady`, proofs/Histories), hence `ranBy never turnedSound`, which the rows compute, is
+-- `ranBy never turned` (`ran-turned`, proofs/CaseLaws).
 abbrev pub soundChecks : Run → ℕ → List Check
 soundChecks r w = record { number = 30; applies = λ i. noWorker r w } ∷ record { number = 31; applies = λ i. rootEnded r } ∷ []
 
 abbrev pub turnedSound : Run → ℕ → Turned
 turnedSound r w = turnedAs (tryAt (soundChecks r w) 0) r (stepRun r w)
-
-abbrev pub ranAs : List ℕ → ℕ → ℕ → List ℕ → Listing
-ranAs = ranBy never turnedSound
 
 -- ---- the rows
 
@@ -115,6 +113,21 @@ linesWait =
     ∷ line 7 1 (did 2 9 alloc) 6
     ∷ []
 
+-- ours: worker 0 takes thread 2 to its end and then thread 0 up to its join of thread 1, which is action 3
+abbrev pub orderLater : List ℕ
+orderLater = 0 ∷ 1 ∷ 0 ∷ 0 ∷ 0 ∷ 0 ∷ 0 ∷ []
+
+abbrev pub linesLater : List Line
+linesLater =
+    line 1 0 (did 0 0 fork) 0
+    ∷ line 2 1 (did 1 5 alloc) 6
+    ∷ line 3 0 (did 0 1 fork) 6
+    ∷ line 4 0 (did 2 9 alloc) 12
+    ∷ line 5 0 (did 2 10 free) 6
+    ∷ line 6 0 (did 2 11 end) 6
+    ∷ line 7 0 (did 0 2 join) 6
+    ∷ []
+
 -- "E with p 3, K 6, order 0 1 0 2 0 1 1 1 ends thread 1 while thread 0 goes on waiting for thread 2"
 abbrev pub orderOther : List ℕ
 orderOther = 0 ∷ 1 ∷ 0 ∷ 2 ∷ 0 ∷ 1 ∷ 1 ∷ 1 ∷ []
@@ -131,11 +144,12 @@ linesOther =
     ∷ line 8 1 (did 1 8 end) 6
     ∷ []
 
--- alloc 4, free 4, alloc 4, end: "free a: held falls by a, the quota doesn't rise"
+-- ours, alloc 4, free 4, alloc 4, end: "free a: held falls by a, the quota doesn't rise"
 unfoldable pub freed : List ℕ
 unfolding codeOf
 freed = written ((action alloc 4 ∷ action free 4 ∷ action alloc 4 ∷ action end 0 ∷ []) ∷ [])
 
+-- the rows that bear a star
 unfoldable pub cases : List Case
 unfolding codeOf
 cases =
@@ -153,14 +167,25 @@ cases =
     -- "the last turn says wait. Worker 2 instead: 30"
     ∷ runs E 2 6 (orderWait ++ (0 ∷ [])) (linesWait ++ (line 8 0 (wait 0 2) 6 ∷ [])) (notDone 8 6)
     ∷ runs E 2 6 (orderWait ++ (2 ∷ [])) linesWait (refused 30 0)
+    ∷ []
+
+-- our own, with no star: what document 01's wrong turnings would change, and a wait at a join whose child and action have different numbers
+unfoldable pub ownCases : List Case
+unfolding codeOf
+ownCases =
     -- "ends thread 1 while thread 0 goes on waiting for thread 2": in a turn more, worker 0 finds nothing ready
-    ∷ runs E 3 6 orderOther linesOther (notDone 8 12)
+    runs E 3 6 orderOther linesOther (notDone 8 12)
     ∷ runs E 3 6 (orderOther ++ (0 ∷ [])) (linesOther ++ (line 9 0 idle 6 ∷ [])) (notDone 9 12)
     -- the third turn says quota
     ∷ runs freed 1 6 (replicate 5 0) (line 1 0 (did 0 0 alloc) 4 ∷ line 2 0 (did 0 1 free) 0 ∷ line 3 0 (quota 0 2) 0 ∷ line 4 0 (did 0 2 alloc) 4 ∷ line 5 0 (did 0 3 end) 4 ∷ []) (done 5 4)
+    -- thread 0 waits for child 1 at action 3
+    ∷ runs E 2 6 (orderLater ++ (0 ∷ [])) (linesLater ++ (line 8 0 (wait 0 3) 6 ∷ [])) (notDone 8 12)
     ∷ []
 
 -- every row's run has the row's listing
-pub worked : map (λ (c : Case). ranAs (c .bytes) (c .workers) (c .quota) (c .order)) cases ≡ map (λ (c : Case). c .listing) cases
-unfolding cases freed sumTo anyBelow codeOf kindOf is tableOf tryAt tryFrom tryPass firstFound entryWrong totalWrong ownerBelow kindUnknown argumentWrong endMisplaced forkedBelow forkedBefore openBefore joinNotLatest endWithOpen neverForked allocOf freeOf wholeWithin balance balanceBelow0 passes forkBelow leftOf without waitsFor woken actBy act leftmost taken turnFree turnOf setOf allocAbove firsts startState startRun begin rootEnded noWorker stepRun
-worked = refl
+abbrev pub Worked : (Run → ℕ → Turned) → List Case → Type 0
+Worked turn l = map (λ (c : Case). ranBy never turn (c .bytes) (c .workers) (c .quota) (c .order)) l ≡ map (λ (c : Case). c .listing) l
+
+pub worked : Worked turnedSound cases × Worked turnedSound ownCases
+unfolding cases ownCases freed sumTo anyBelow codeOf kindOf is tableOf tryAt tryFrom tryPass firstFound entryWrong totalWrong ownerBelow kindUnknown argumentWrong endMisplaced forkedBelow forkedBefore openBefore joinNotLatest endWithOpen neverForked allocOf freeOf wholeWithin balance balanceBelow0 passes forkBelow leftOf without waitsFor woken actBy act leftmost taken turnFree turnOf setOf allocAbove firsts startState startRun begin rootEnded noWorker stepRun
+worked = (refl, refl)

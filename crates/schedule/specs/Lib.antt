@@ -7,6 +7,8 @@ pub mod Runs
 pub mod Calls
 pub mod Memory
 pub mod Answers
+pub mod Values
 pub mod Listing
 pub mod Cases
+pub mod TurnCases
 pub mod Rule

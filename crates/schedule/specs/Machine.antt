@@ -128,7 +128,7 @@ actBy alloc T w t a x st =
     pick (leb x (workerOf st w .quota))
     (stepped (Done t a) (withHeld (st .held + x) (withWorker w (record { holds = true; thread = t; quota = workerOf st w .quota - x }) (advanced t st))))
     (stepped (Quota t x) (released w t ready st))
--- "free a: held falls by a, the quota doesn't rise"
+-- "free a: held falls by a, the quota doesn't rise"; of a sound record a free takes at most what is held (`free-within`, proofs/Soundness)
 actBy free T w t a x st = stepped (Done t a) (withHeld (st .held - x) (advanced t st))
 -- "fork c: done; c enters the list directly left of the thread, ready; the thread becomes ready; w is released"
 actBy fork T w t a x st = stepped (Done t a) (withStatus x ready (withList (leftOf x t (st .list)) (released w t ready (advanced t st))))

@@ -36,7 +36,12 @@ unfoldable pub sumReplies : (ℕ → ℕ) → List Reply → ℕ
 sumReplies own [] = 0
 sumReplies own (x ∷ l) = ofReply own x + sumReplies own l
 
--- "memory held is the sum of the arguments of the allocs done, less that of the frees done"
+-- the sum of the arguments of the allocs done in a row, `doneIn allocOf`, and of the frees done, `doneIn freeOf`
+abbrev pub doneIn : (Table → ℕ → ℕ) → Table → ℕ → List ℕ → ℕ
+doneIn own T K row = sumReplies (own T) (replies T K (startState T) row)
+
+-- "memory held is the sum of the arguments of the allocs done, less that of the frees done". The difference never stops at 0: the frees done are at most the allocs done (`row-balanced`,
+-- proofs/Rows, and the field `balanced` of the limit, proofs/Limit).
 unfoldable pub memoryOf : Table → ℕ → List ℕ → ℕ
 memoryOf T K row =
     let l : List Reply = replies T K (startState T) row in

@@ -3,10 +3,10 @@ use mathlib.Core.Path.{_≡_}
 use Prim.Native.Nat.{ℕ, zero, suc, _+_, _-_, _^_, _<_, _≤_}
 use mathlib.Core.List.{List, [], _∷_}
 use mathlib.Core.Bool.{Bool, true, false, not, _&&_, _||_}
-use lib.ListN.{length, take}
+use lib.ListN.{length, take, getD}
 use lib.Dec.{ltb, leb, eqb}
 use Rattle.table.specs.Sum.{pick, sumTo}
-use Rattle.table.specs.Format.{join, is, Table, kind}
+use Rattle.table.specs.Format.{join, is, Table, kind, tableOf}
 use Rattle.table.specs.Pass.{firstFound}
 use Rattle.table.specs.Rules.{owner, endOf, allocOf, freeOf, passes}
 use Rattle.table.specs.Accepted.{Rules}
@@ -14,8 +14,9 @@ use Rattle.table.specs.Serial.{serialOrder}
 use Rattle.table.specs.Level.{forkBelow, dependsOn}
 use Rattle.table.specs.declared.Found.{Found}
 use Rattle.table.specs.declared.Found.the-variants.{Nothing, At}
+use Rattle.schedule.specs.declared.Worker.{Worker}
 use Rattle.schedule.specs.declared.Run.{Run}
-use Rattle.schedule.specs.Machine.{State, unborn, held, waiting, ended, nextOf, statusOf, workerOf}
+use Rattle.schedule.specs.Machine.{State, unborn, held, waiting, ended, nobody}
 use Rattle.schedule.specs.Record.{maxThreads, maxWorkers, maxBytes, filled, setOf, bytesOf, tableIn, stateOf}
 use Rattle.schedule.specs.Begin.{beginPasses}
 
@@ -65,92 +66,112 @@ rises f (x ∷ l) = risesFrom f x l
 -- ---- what is done
 
 -- an action is done: it stands before its thread's next action, or it is the end of an ended thread
-unfoldable pub isDone : Table → State → ℕ → Bool
-isDone T st a =
-    ltb a (nextOf st (owner T a)) || (eqb a (nextOf st (owner T a)) && eqb (statusOf st (owner T a)) ended)
+unfoldable pub doneIn : Table → List ℕ → List ℕ → ℕ → Bool
+doneIn T next status a =
+    ltb a (getD next (owner T a) 0) || (eqb a (getD next (owner T a) 0) && eqb (getD status (owner T a) 0) ended)
 
 -- a thread that is forked and not ended
-unfoldable pub isLive : State → ℕ → Bool
-isLive st t = not (eqb (statusOf st t) unborn) && not (eqb (statusOf st t) ended)
-
--- ---- the clauses
-
--- "the next action of each thread below n lies in its own body"
-unfoldable pub nextInBody : Table → State → ℕ → Bool
-nextInBody T st t = leb (T .first t) (nextOf st t) && leb (nextOf st t) (endOf T t)
-
--- "no action is done before those it depends on"
-unfoldable pub inOrder : Table → State → ℕ → Bool
-inOrder T st a = not (isDone T st a) || allIn (isDone T st) (dependsOn T a)
-
--- "statuses .. follow from what is done": unborn while the fork is not done, the root never; ended at the end alone; one of the five
-unfoldable pub statusFollows : Table → State → ℕ → Bool
-statusFollows T st t =
-    agree (eqb (statusOf st t) unborn) (ltb 0 t && not (isDone T st (forkBelow T (T .actions) t)))
-    && ((not (eqb (statusOf st t) ended) || eqb (nextOf st t) (endOf T t)) && leb (statusOf st t) ended)
-
--- ".. and list follow from what is done": the live threads are in the list and no others
-unfoldable pub listFollows : State → ℕ → Bool
-listFollows st t = agree (member t (st .list)) (isLive st t)
-
--- "the list in serial order": the places of the next actions in serial order rise from left to right
-unfoldable pub inSerialOrder : Table → State → Bool
-inSerialOrder T st = rises (λ t. numberOf T (nextOf st t)) (st .list)
-
--- "a thread waits only at a join of a child not ended"
-unfoldable pub waitsAtJoin : Table → State → ℕ → Bool
-waitsAtJoin T st t =
-    not (eqb (statusOf st t) waiting)
-    || (is join (kind T (nextOf st t)) && not (eqb (statusOf st (T .argument (nextOf st t))) ended))
-
--- the worker holds the thread
-unfoldable pub holdsThread : State → ℕ → ℕ → Bool
-holdsThread st t w = workerOf st w .holds && eqb (workerOf st w .thread) t
-
--- "every held thread has one worker"
-unfoldable pub oneHolder : State → ℕ → Bool
-oneHolder st t = eqb (countBelow (holdsThread st t) maxWorkers) (pick (eqb (statusOf st t) held) 1 0)
-
--- ".. below p, no other worker holds anything"; "quotas are at most K"; a worker holding nothing has 0 for both
-unfoldable pub workerRight : Table → ℕ → ℕ → State → ℕ → Bool
-workerRight T p K st w =
-    pick (workerOf st w .holds)
-    (ltb w p && (ltb (workerOf st w .thread) (T .threads) && leb (workerOf st w .quota) K))
-    (eqb (workerOf st w .thread) 0 && eqb (workerOf st w .quota) 0)
+unfoldable pub liveIn : List ℕ → ℕ → Bool
+liveIn status t = not (eqb (getD status t 0) unborn) && not (eqb (getD status t 0) ended)
 
 -- what the actions done came to
+abbrev pub ofDoneIn : Table → List ℕ → List ℕ → (ℕ → ℕ) → ℕ → ℕ
+ofDoneIn T next status own a = pick (doneIn T next status a) (own a) 0
+
+abbrev pub sumDoneIn : Table → List ℕ → List ℕ → (ℕ → ℕ) → ℕ
+sumDoneIn T next status own = sumTo (ofDoneIn T next status own) (T .actions)
+
+-- the same of a state
+abbrev pub isDone : Table → State → ℕ → Bool
+isDone T st a = doneIn T (st .next) (st .status) a
+
 abbrev pub ofDone : Table → State → (ℕ → ℕ) → ℕ → ℕ
-ofDone T st own a = pick (isDone T st a) (own a) 0
+ofDone T st own = ofDoneIn T (st .next) (st .status) own
 
 abbrev pub sumDone : Table → State → (ℕ → ℕ) → ℕ
-sumDone T st own = sumTo (ofDone T st own) (T .actions)
+sumDone T st own = sumDoneIn T (st .next) (st .status) own
+
+-- ---- the clauses that any kind of run over a table keeps, each over what it speaks of
+
+-- "the next action of each thread below n lies in its own body"
+unfoldable pub nextInBody : Table → List ℕ → ℕ → Bool
+nextInBody T next t = leb (T .first t) (getD next t 0) && leb (getD next t 0) (endOf T t)
+
+-- "no action is done before those it depends on"
+unfoldable pub inOrder : Table → List ℕ → List ℕ → ℕ → Bool
+inOrder T next status a = not (doneIn T next status a) || allIn (doneIn T next status) (dependsOn T a)
+
+-- "statuses .. follow from what is done": unborn while the fork is not done, the root never; ended at the end alone; one of the five
+unfoldable pub statusFollows : Table → List ℕ → List ℕ → ℕ → Bool
+statusFollows T next status t =
+    agree (eqb (getD status t 0) unborn) (ltb 0 t && not (doneIn T next status (forkBelow T (T .actions) t)))
+    && ((not (eqb (getD status t 0) ended) || eqb (getD next t 0) (endOf T t)) && leb (getD status t 0) ended)
+
+-- "a thread waits only at a join of a child not ended"
+unfoldable pub waitsAtJoin : Table → List ℕ → List ℕ → ℕ → Bool
+waitsAtJoin T next status t =
+    not (eqb (getD status t 0) waiting)
+    || (is join (kind T (getD next t 0)) && not (eqb (getD status (T .argument (getD next t 0)) 0) ended))
+
+-- the worker holds the thread
+unfoldable pub holdsThread : List Worker → ℕ → ℕ → Bool
+holdsThread workers t w = getD workers w nobody .holds && eqb (getD workers w nobody .thread) t
+
+-- "every held thread has one worker"
+unfoldable pub oneHolder : List ℕ → List Worker → ℕ → Bool
+oneHolder status workers t = eqb (countBelow (holdsThread workers t) maxWorkers) (pick (eqb (getD status t 0) held) 1 0)
+
+-- ".. below p, no other worker holds anything"; "quotas are at most K"; a worker holding nothing has 0 for both
+unfoldable pub workerRight : ℕ → ℕ → ℕ → List Worker → ℕ → Bool
+workerRight n p K workers w =
+    pick (getD workers w nobody .holds)
+    (ltb w p && (ltb (getD workers w nobody .thread) n && leb (getD workers w nobody .quota) K))
+    (eqb (getD workers w nobody .thread) 0 && eqb (getD workers w nobody .quota) 0)
 
 -- "held is allocs done less frees done"
-unfoldable pub heldRight : Table → State → Bool
-heldRight T st = eqb (st .held + sumDone T st (freeOf T)) (sumDone T st (allocOf T))
+unfoldable pub heldRight : Table → List ℕ → List ℕ → ℕ → Bool
+heldRight T next status amount = eqb (amount + sumDoneIn T next status (freeOf T)) (sumDoneIn T next status (allocOf T))
 
 -- "Threads from n on are unborn with next action 0"
-unfoldable pub unused : State → ℕ → Bool
-unused st t = eqb (statusOf st t) unborn && eqb (nextOf st t) 0
+unfoldable pub unused : List ℕ → List ℕ → ℕ → Bool
+unused next status t = eqb (getD status t 0) unborn && eqb (getD next t 0) 0
+
+-- ---- the clauses on the list
+
+-- ".. and list follow from what is done": the live threads are in the list and no others
+unfoldable pub listFollows : List ℕ → List ℕ → ℕ → Bool
+listFollows status list t = agree (member t list) (liveIn status t)
+
+-- "the list in serial order": the places of the next actions in serial order rise from left to right
+unfoldable pub inSerialOrder : Table → List ℕ → List ℕ → Bool
+inSerialOrder T next list = rises (λ t. numberOf T (getD next t 0)) list
 
 -- ---- a sound state, over an accepted table
 
+-- what any kind of run keeps
+pub record Common (T : Table) (p K : ℕ) (next status : List ℕ) (workers : List Worker) (amount highest : ℕ) : Type 0 where
+  pub next-size : length next ≡ maxThreads
+  pub status-size : length status ≡ maxThreads
+  pub worker-size : length workers ≡ maxWorkers
+  pub placed : (t : ℕ) → t < T .threads → nextInBody T next t ≡ true
+  pub ordered : (a : ℕ) → a < T .actions → inOrder T next status a ≡ true
+  pub statuses : (t : ℕ) → t < T .threads → statusFollows T next status t ≡ true
+  pub waits : (t : ℕ) → t < T .threads → waitsAtJoin T next status t ≡ true
+  pub unused-threads : (t : ℕ) → T .threads ≤ t → t < maxThreads → unused next status t ≡ true
+  pub holders : (t : ℕ) → t < T .threads → oneHolder status workers t ≡ true
+  pub worker-each : (w : ℕ) → w < maxWorkers → workerRight (T .threads) p K workers w ≡ true
+  pub held-right : heldRight T next status amount ≡ true
+  pub above : amount ≤ highest
+
+-- what a run with a list keeps besides
+pub record Listed (T : Table) (next status list : List ℕ) : Type 0 where
+  pub follows : (t : ℕ) → t < T .threads → listFollows status list t ≡ true
+  pub threads-alone : allIn (λ t. ltb t (T .threads)) list ≡ true
+  pub serial : inSerialOrder T next list ≡ true
+
 pub record SoundState (T : Table) (p K : ℕ) (st : State) : Type 0 where
-  pub next-size : length (st .next) ≡ maxThreads
-  pub status-size : length (st .status) ≡ maxThreads
-  pub worker-size : length (st .workers) ≡ maxWorkers
-  pub placed : (t : ℕ) → t < T .threads → nextInBody T st t ≡ true
-  pub ordered : (a : ℕ) → a < T .actions → inOrder T st a ≡ true
-  pub statuses : (t : ℕ) → t < T .threads → statusFollows T st t ≡ true
-  pub listed : (t : ℕ) → t < T .threads → listFollows st t ≡ true
-  pub list-threads : allIn (λ t. ltb t (T .threads)) (st .list) ≡ true
-  pub serial : inSerialOrder T st ≡ true
-  pub waits : (t : ℕ) → t < T .threads → waitsAtJoin T st t ≡ true
-  pub holders : (t : ℕ) → t < T .threads → oneHolder st t ≡ true
-  pub workers : (w : ℕ) → w < maxWorkers → workerRight T p K st w ≡ true
-  pub amount : heldRight T st ≡ true
-  pub above : st .held ≤ st .highest
-  pub unused-threads : (t : ℕ) → T .threads ≤ t → t < maxThreads → unused st t ≡ true
+  pub common : Common T p K (st .next) (st .status) (st .workers) (st .held) (st .highest)
+  pub listed : Listed T (st .next) (st .status) (st .list)
 
 -- ---- a sound record
 
@@ -185,32 +206,39 @@ sameList [] (y ∷ l) = false
 sameList (x ∷ k) [] = false
 sameList (x ∷ k) (y ∷ l) = eqb x y && sameList k l
 
-unfoldable pub soundState : Table → ℕ → ℕ → State → Bool
-soundState T p K st =
-    eqb (length (st .next)) maxThreads
-    && (eqb (length (st .status)) maxThreads
-    && (eqb (length (st .workers)) maxWorkers
-    && (allBelow (nextInBody T st) (T .threads)
-    && (allBelow (inOrder T st) (T .actions)
-    && (allBelow (statusFollows T st) (T .threads)
-    && (allBelow (listFollows st) (T .threads)
-    && (allIn (λ t. ltb t (T .threads)) (st .list)
-    && (inSerialOrder T st
-    && (allBelow (waitsAtJoin T st) (T .threads)
-    && (allBelow (oneHolder st) (T .threads)
-    && (allBelow (workerRight T p K st) maxWorkers
-    && (heldRight T st
-    && (leb (st .held) (st .highest)
-    && allBelow (λ t. ltb t (T .threads) || unused st t) maxThreads)))))))))))))
+unfoldable pub common : Table → ℕ → ℕ → List ℕ → List ℕ → List Worker → ℕ → ℕ → Bool
+common T p K next status workers amount highest =
+    eqb (length next) maxThreads
+    && (eqb (length status) maxThreads
+    && (eqb (length workers) maxWorkers
+    && (allBelow (nextInBody T next) (T .threads)
+    && (allBelow (inOrder T next status) (T .actions)
+    && (allBelow (statusFollows T next status) (T .threads)
+    && (allBelow (waitsAtJoin T next status) (T .threads)
+    && (allBelow (λ t. ltb t (T .threads) || unused next status t) maxThreads
+    && (allBelow (oneHolder status workers) (T .threads)
+    && (allBelow (workerRight (T .threads) p K workers) maxWorkers
+    && (heldRight T next status amount
+    && leb amount highest))))))))))
+
+unfoldable pub listed : Table → List ℕ → List ℕ → List ℕ → Bool
+listed T next status list =
+    allBelow (listFollows status list) (T .threads) && (allIn (λ t. ltb t (T .threads)) list && inSerialOrder T next list)
+
+-- the part that any kind of run over a table has in common, the table's own checks and the beginning's among it
+unfoldable pub commonSound : List ℕ → ℕ → ℕ → List ℕ → List ℕ → List Worker → ℕ → ℕ → ℕ → Bool
+commonSound s p K next status workers set amount highest =
+    isNothing (firstFound (passes s))
+    && (isNothing (firstFound (beginPasses (tableOf s) p K))
+    && (common (tableOf s) p K next status workers amount highest
+    && eqb set (setOf workers)))
 
 unfoldable pub sound : Run → Bool
 sound r =
-    isNothing (firstFound (passes (bytesOf r)))
-    && (isNothing (firstFound (beginPasses (tableIn r) (r .workers) (r .quota)))
-    && (soundState (tableIn r) (r .workers) (r .quota) (stateOf r)
-    && (eqb (r .busy) (setOf (r .worker))
+    commonSound (bytesOf r) (r .workers) (r .quota) (r .next) (r .status) (r .worker) (r .busy) (r .held) (r .highest)
+    && (listed (tableIn r) (r .next) (r .status) (take (r .listed) (r .list))
     && (eqb (length (bytesOf r)) (r .length)
     && (eqb (length (take (r .listed) (r .list))) (r .listed)
     && (sameList (r .table) (filled maxBytes (bytesOf r))
     && (sameList (r .list) (filled maxThreads (take (r .listed) (r .list)))
-    && ltb (r .turns) (2 ^ 64 - 1))))))))
+    && ltb (r .turns) (2 ^ 64 - 1))))))

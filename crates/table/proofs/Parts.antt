@@ -6,7 +6,7 @@ use native.Mathlib.Nat.{mul-add, add-assoc}
 use native.Mathlib.Omega.{arith}
 use lib.ListN.{length, getD, take, drop, length-drop}
 use lib.Seq.{getD-drop, take-all}
-use Rattle.table.specs.Format.{kindOf, kind, codeAt, argumentAt, threadsOf, firstOf, countOf, bodiesOf, bodyOf, tableOf}
+use Rattle.table.specs.Format.{kindOf, kind, codeAt, argumentAt, threadsOf, firstOf, countOf, bodiesFrom, bodiesOf, bodyOf, tableOf}
 use Rattle.table.specs.Steps.{Headed, Laid}
 use Rattle.table.proofs.Sizes.{sizes}
 use Rattle.table.proofs.Bodies.{body-within}
@@ -18,6 +18,20 @@ rest-part l k = take-all (length l - k) (drop k l) (omega (arith, length-drop k 
 -- the action list has m actions of 4 bytes
 pub bodies-length : {s : List ℕ} {n m : ℕ} → Headed s n m → length (bodiesOf s) ≡ 4 * m
 bodies-length h = simp length-drop (omega (arith, h .threads, sizes h))
+
+-- the actions of a table of n threads, and what they say
+module _ (s : List ℕ) (n : ℕ) (e : n ≡ tableOf s .threads) where
+  pub bodies-from : bodiesFrom s n ≡ bodiesOf s
+  unfolding tableOf
+  bodies-from = rw e
+
+  pub code-from : (a : ℕ) → codeAt (bodiesFrom s n) a ≡ tableOf s .code a
+  unfolding tableOf
+  code-from a = rw e
+
+  pub argument-from : (a : ℕ) → argumentAt (bodiesFrom s n) a ≡ tableOf s .argument a
+  unfolding tableOf
+  argument-from a = rw e
 
 -- an action's code, read from the whole table
 pub code-in-table : (s : List ℕ) (n a : ℕ) → n ≡ threadsOf s → getD s (4 + 4 * n + 4 * a) 0 ≡ tableOf s .code a
@@ -31,8 +45,9 @@ body-room {s} {t = t} l h =
     omega (arith, l .headed .threads, l .headed .actions, sizes (l .headed), body-within (tableOf s) (l .contents) t (omega (arith, l .headed .threads)))
 
 -- what taking it asks
-pub body-there : {s : List ℕ} {n m t : ℕ} → Laid s n m → t < n → (n ≡ threadsOf s) × (t < n) × (4 + 4 * n + 4 * firstOf s t ≤ length s)
-body-there l h = (l .headed .threads, h, omega (arith, body-room l h))
+pub body-there : {s : List ℕ} {n m t : ℕ} → Laid s n m → t < n → (n ≡ threadsOf s) × (4 + 4 * n + 4 * tableOf s .first t ≤ length s)
+unfolding tableOf
+body-there l h = (l .headed .threads, omega (arith, body-room l h))
 
 pub code-part : (l : List ℕ) (f i : ℕ) → codeAt (drop (4 * f) l) i ≡ codeAt l (f + i)
 code-part l f i = simp (getD-drop, mul-add)

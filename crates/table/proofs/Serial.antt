@@ -1,4 +1,4 @@
--- Serial order without fuel: the sentence of document 01 as three equations; and no action stands in it twice, so that a part from a on has at most m - a actions.
+-- Serial order without fuel: the sentence of document 01 as three equations; and its length: a part from action a on has at most m - a actions, the whole has m.
 use mathlib.Core.Path.{_≡_, refl, ap, sym, _∙_}
 use Prim.Native.Nat.{ℕ, zero, suc, pred, _+_, _-_, _≤_, _<_}
 use native.Mathlib.Omega.{arith}
@@ -273,7 +273,7 @@ module _ (T : Table) (c : ContentRules T) (b : BodyRules T) (n : NestRules T) wh
   serial-bound a h = omega (arith, counted a h)
 
 module _ (T : Table) (c : ContentRules T) (b : BodyRules T) (n : NestRules T) (f : ForkRules T) where
-  -- every action stands in the serial order
+  -- The serial order has as many actions as the table. That each stands in it, and at one place only, is `number-place` and `place-number` (crates/schedule/proofs/Numbers).
   pub serial-length : 0 < T .threads → length (serial T (T .first 0)) ≡ T .actions
   unfolding sumTo
   serial-length h = omega (arith, start, counted T c b n (T .first 0) (first-within T c 0 h), sumTo-zero (unrun T (T .first 0)) (T .threads) none)

@@ -1,4 +1,5 @@
--- The rules of a job table, in the order of document 01's list, each as a fact at every place: what an accepted table keeps.
+-- The rules of a job table, in the order of document 01's list, each as a fact at every place: what an accepted table keeps. They are the tests of specs/Rules;
+-- specs/JobTable says the same without them, in the paper's words.
 use mathlib.Core.Path.{_≡_}
 use Prim.Native.Nat.{ℕ, _<_}
 use mathlib.Core.List.{List}

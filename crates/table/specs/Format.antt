@@ -52,6 +52,9 @@ u16At s i = getD s i 0 + 256 * getD s (i + 1) 0
 abbrev pub u24At : List ℕ → ℕ → ℕ
 u24At s i = getD s i 0 + 256 * getD s (i + 1) 0 + 65536 * getD s (i + 2) 0
 
+abbrev pub u32At : List ℕ → ℕ → ℕ
+u32At s i = getD s i 0 + 256 * getD s (i + 1) 0 + 65536 * getD s (i + 2) 0 + 16777216 * getD s (i + 3) 0
+
 -- "Head, 4 bytes: threads n (16 bits), actions m (16 bits)"
 abbrev pub threadsOf : List ℕ → ℕ
 threadsOf s = u16At s 0
@@ -66,9 +69,13 @@ firstOf s t = u16At s (4 + 4 * t)
 abbrev pub countOf : List ℕ → ℕ → ℕ
 countOf s t = u16At s (6 + 4 * t)
 
--- "Bodies, m actions of 4 bytes: kind (8 bits), argument (24 bits)". A list of actions is read alike from its start and from a thread's body on.
+-- "Bodies, m actions of 4 bytes: kind (8 bits), argument (24 bits)". They stand after the n entries. A list of actions is
+-- read alike from its start and from a thread's body on.
+abbrev pub bodiesFrom : List ℕ → ℕ → List ℕ
+bodiesFrom s n = drop (4 + 4 * n) s
+
 abbrev pub bodiesOf : List ℕ → List ℕ
-bodiesOf s = drop (4 + 4 * threadsOf s) s
+bodiesOf s = bodiesFrom s (threadsOf s)
 
 abbrev pub codeAt : List ℕ → ℕ → ℕ
 codeAt l a = getD l (4 * a) 0

@@ -4,9 +4,11 @@ pub mod Pass
 pub mod First
 pub mod Rules
 pub mod Accepted
+pub mod JobTable
 pub mod Serial
 pub mod Level
 pub mod Steps
 pub mod Load
 pub mod Cases
+pub mod JobCases
 pub mod Wrong

@@ -38,3 +38,35 @@ valuesOf (Accepted f) =
     record { number = 0; place = 0; threads = f .threads; actions = f .actions; peak = f .peak; depth = f .depth }
 valuesOf (Refused r) =
     record { number = r .number; place = r .place; threads = 0; actions = 0; peak = 0; depth = 0 }
+
+-- ---- the same values from the checks and the table alone
+
+-- number and place of what checks have found, 0 and 0 where none applies
+abbrev pub foundNumber : Found → ℕ
+foundNumber Nothing = 0
+foundNumber (At r) = r .number
+
+abbrev pub foundPlace : Found → ℕ
+foundPlace Nothing = 0
+foundPlace (At r) = r .place
+
+-- the first of two where a check has found something, the second where none has
+abbrev pub ifFound : {A : Type 0} → Found → A → A → A
+ifFound Nothing x y = y
+ifFound (At r) x y = x
+
+-- of a table and what its checks have found: "A refused table gives n, m, S1 and D as 0."
+abbrev pub valuesWith : Found → Table → Values
+valuesWith found T =
+    record {
+      number = foundNumber found;
+      place = foundPlace found;
+      threads = ifFound found 0 (T .threads);
+      actions = ifFound found 0 (T .actions);
+      peak = ifFound found 0 (S1 T);
+      depth = ifFound found 0 (D T);
+    }
+
+-- "The first that applies wins". The values of loading's answer are these: `table-values` (proofs/Values).
+unfoldable pub tableValues : List ℕ → Values
+tableValues s = valuesWith (firstFound (passes s)) (tableOf s)

@@ -115,7 +115,7 @@ opened fork c l = c ∷ l
 opened join c l = tail l
 opened unknown c l = l
 
--- the children that an action's thread has forked and not yet joined before it, the latest first
+-- the children that an action's thread has forked and not yet joined before it, the latest first (`rules-unjoined`, proofs/Unjoined)
 unfoldable pub openBefore : Table → ℕ → List ℕ
 openBefore T zero = []
 openBefore T (suc a) = opened (kind T a) (T .argument a) (openBefore T a)
@@ -170,7 +170,8 @@ partOf T own t k = sumTo (λ i. withChild T join own (whole T own) (T .first t +
 abbrev pub upTo : Table → ℕ → ℕ
 upTo T a = suc a - T .first (owner T a)
 
--- "A thread's balance after an action is its allocs less its frees so far, plus the final balances of the children joined so far. It is a signed number"
+-- "A thread's balance after an action is its allocs less its frees so far, plus the final balances of the children joined so far. It is a signed number";
+-- `balance-is` and `balance-only` (proofs/Balances) say that the sentence holds of it, and of no other
 unfoldable pub balance : Table → ℕ → ℤ
 balance T a = subℕ (partOf T (allocOf T) (owner T a) (upTo T a)) (partOf T (freeOf T) (owner T a) (upTo T a))
 

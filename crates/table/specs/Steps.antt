@@ -6,7 +6,7 @@ use mathlib.Core.Bool.{Bool, true, false, not, _&&_}
 use lib.ListN.{length, getD, set, drop}
 use lib.Dec.{ltb, eqb}
 use Rattle.table.specs.Sum.{pick, sumTo}
-use Rattle.table.specs.Format.{Kind, end, work, alloc, free, fork, join, unknown, is, kindOf, codeAt, argumentAt, threadsOf, actionsOf, Table, tableOf}
+use Rattle.table.specs.Format.{Kind, end, work, alloc, free, fork, join, unknown, is, kindOf, u32At, codeAt, argumentAt, threadsOf, actionsOf, Table, tableOf}
 use Rattle.table.specs.Pass.{Check, refusal}
 use Rattle.table.specs.Rules.{argumentFits, differ, isLatest, isEmpty, tail, endOf}
 use Rattle.table.specs.Accepted.{HeadRules, ContentRules, BodyRules, NestRules, ForkRules, BalanceRules}
@@ -19,6 +19,14 @@ use Rattle.table.specs.declared.Found.the-variants.{Nothing, At}
 pub record Read (x bound r : ℕ) : Type 0 where
   pub value : r ≡ x
   pub small : r < bound
+
+-- a number r that is the four bytes from i on, each below 256
+pub record DoubleWord (s : List ℕ) (i r : ℕ) : Type 0 where
+  pub value : r ≡ u32At s i
+  pub byte0 : getD s i 0 < 256
+  pub byte1 : getD s (i + 1) 0 < 256
+  pub byte2 : getD s (i + 2) 0 < 256
+  pub byte3 : getD s (i + 3) 0 < 256
 
 -- ---- what has been checked when a pass begins
 

@@ -1,10 +1,11 @@
 // Check 10: no thread's balance falls below 0. A thread's rise and fall, its own and those of the children it joins, are kept for its parent.
 use crate::Found;
-use crate::read::argument;
+use crate::read::argument_at;
 use crate::read::body_of;
-use crate::read::code;
+use crate::read::code_at;
+use crate::read::count;
+use crate::read::first;
 use crate::read::refuse;
-use crate::read::word;
 ghost use mathlib.Core.Path.{_≡_};
 ghost use Prim.Native.Nat.{_<_};
 ghost use lib.ListN.{length};
@@ -56,8 +57,8 @@ fn balance_walk(body: &[u8], count: usize, rises: &[u64; 1024], falls: &[u64; 10
     let mut below = 0;
     let mut i = 0;
     while i < count {
-        let k = code(body, i);
-        let x = argument(body, i);
+        let k = code_at(body, i);
+        let x = argument_at(body, i);
         rise += own_amount(2, k, x) + child_amount(5, k, x, rises);
         fall += own_amount(3, k, x) + child_amount(5, k, x, falls);
         below = least_next(rise < fall, i, below);
@@ -84,8 +85,8 @@ pub(crate) fn balances(
     let mut t = n;
     while 0 < t {
         t -= 1;
-        let first = word(table, 4 + 4 * t);
-        let count = word(table, 6 + 4 * t);
+        let first = first(table, t);
+        let count = count(table, t);
         let body = body_of(table, n, t);
         let w = balance_walk(body, count, rises, falls);
         rises[t] = w.rise;

@@ -1,7 +1,8 @@
 // Check 4: each entry begins where the one before it ends, and all counts add up to m.
 use crate::Found;
+use crate::read::count;
+use crate::read::first;
 use crate::read::refuse;
-use crate::read::word;
 ghost use mathlib.Core.Path.{_≡_};
 ghost use mathlib.Core.Bool.{not, _||_};
 ghost use lib.Dec.{eqb};
@@ -24,8 +25,8 @@ pub(crate) fn contents(table: &[u8], n: usize, m: usize) -> Found
     let mut sum = 0;
     let mut t = 0;
     while t < n {
-        let first = word(table, 4 + 4 * t);
-        let count = word(table, 6 + 4 * t);
+        let first = first(table, t);
+        let count = count(table, t);
         if entry_wrong(first, count, sum) {
             return refuse(4, t);
         }

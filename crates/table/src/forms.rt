@@ -1,10 +1,10 @@
 // Checks 5 to 7: each action's kind, argument and place in its body.
 use crate::Found;
-use crate::read::argument;
+use crate::read::argument_at;
 use crate::read::bodies;
-use crate::read::code;
+use crate::read::code_at;
+use crate::read::count;
 use crate::read::refuse;
-use crate::read::word;
 ghost use mathlib.Core.Path.{_≡_};
 ghost use mathlib.Core.Bool.{not, _&&_};
 ghost use lib.Dec.{ltb};
@@ -75,7 +75,7 @@ fn span_at(table: &[u8], n: usize, m: usize, at: Span, a: usize) -> Span
     let next = own + 1;
     Span {
         own: next,
-        stop: stop + word(table, 6 + 4 * next),
+        stop: stop + count(table, next),
     }
 }
 
@@ -86,13 +86,13 @@ pub(crate) fn first_pass(table: &[u8], n: usize, m: usize) -> Found
     let actions = bodies(table, n);
     let mut span = Span {
         own: 0,
-        stop: word(table, 6),
+        stop: count(table, 0),
     };
     let mut a = 0;
     while a < m {
         span = span_at(table, n, m, span, a);
-        let k = code(actions, a);
-        let x = argument(actions, a);
+        let k = code_at(actions, a);
+        let x = argument_at(actions, a);
         let number = form_at(k, span.own, n, x, a + 1 == span.stop);
         if number != 0 {
             return refuse(number, a);

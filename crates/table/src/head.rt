@@ -1,7 +1,8 @@
 // Checks 1 to 3: the head, and the length that it asks for.
 use crate::Found;
+use crate::read::actions;
 use crate::read::refuse;
-use crate::read::word;
+use crate::read::threads;
 ghost use mathlib.Core.Path.{_≡_};
 ghost use mathlib.Core.Bool.{_||_};
 ghost use Rattle.table.specs.Pass.{tryPass};
@@ -25,8 +26,8 @@ pub(crate) fn head(table: &[u8]) -> Found
     if table.len() < 4 {
         return refuse(1, 0);
     }
-    let n = word(table, 0);
-    let m = word(table, 2);
+    let n = threads(table);
+    let m = actions(table);
     if out_of_range(n, m) {
         return refuse(2, 0);
     }

@@ -1,12 +1,12 @@
 // The depth D: a thread's end level, given its start level, and the walk over its actions call each other.
-use crate::read::argument;
+use crate::read::argument_at;
 use crate::read::body_of;
-use crate::read::code;
-use crate::read::word;
+use crate::read::code_at;
+use crate::read::count;
 ghost use mathlib.Core.Path.{_≡_};
 ghost use Prim.Native.Nat.{_<_, _≤_};
 ghost use lib.ListN.{getD};
-ghost use Rattle.table.specs.Format.{kindOf, tableOf, countOf, bodyOf};
+ghost use Rattle.table.specs.Format.{kindOf, tableOf, bodyOf};
 ghost use Rattle.table.specs.Level.{D};
 ghost use Rattle.table.specs.Steps.{Kept, Starts, EndLevels, Walked, nextLevel};
 
@@ -24,7 +24,7 @@ fn end_level(
     ensures { λ r. ⌜ Walked (tableOf (now (table .entry))) t (now (ends .entry)) r (now (ends .exit)) ⌝ }
 {
     let body = body_of(table, n, t);
-    let count = word(table, 6 + 4 * t);
+    let count = count(table, t);
     walk(table, n, m, t, body, count, start, ends)
 }
 
@@ -40,15 +40,15 @@ fn walk(
     ends: &mut [usize; 1024],
 ) -> usize
     requires { ⌜ Starts (now table) n m t start ⌝ }
-    requires { ⌜ (now body ≡ bodyOf (now table) t) × (count ≡ countOf (now table) t) ⌝ }
+    requires { ⌜ (now body ≡ bodyOf (now table) t) × (count ≡ tableOf (now table) .count t) ⌝ }
     requires { ⌜ EndLevels (tableOf (now table)) (now ends) ⌝ }
     ensures { λ r. ⌜ Walked (tableOf (now (table .entry))) t (now (ends .entry)) r (now (ends .exit)) ⌝ }
 {
     let mut last = start - 1;
     let mut i = 0;
     while i < count {
-        let k = code(body, i);
-        let x = argument(body, i);
+        let k = code_at(body, i);
+        let x = argument_at(body, i);
         last = next_level(k, x, last, ends);
         i += 1;
         if k == 4 {

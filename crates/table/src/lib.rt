@@ -6,7 +6,7 @@ mod head;
 mod level;
 mod nest;
 mod peak;
-mod read;
+pub mod read;
 
 use balance::balances;
 use contents::contents;
@@ -15,12 +15,13 @@ use head::head;
 use level::depth;
 use nest::nesting;
 use peak::serial_peak;
-use read::word;
+use read::actions;
+use read::threads;
 ghost use mathlib.Core.Path.{_≡_};
 ghost use Rattle.table.specs.Format.{tableOf};
 ghost use Rattle.table.specs.Pass.{tryPass, firstFound};
 ghost use Rattle.table.specs.Rules.{balancePass, shapePasses};
-ghost use Rattle.table.specs.Load.{answer, factsOf, loaded, valuesOf};
+ghost use Rattle.table.specs.Load.{answer, factsOf, loaded, tableValues, valuesOf};
 ghost use Rattle.table.specs.Steps.{Headed, Nested};
 
 // What an accepted table tells: threads n, actions m, serial peak S1 and depth D.
@@ -51,14 +52,14 @@ pub enum Found {
 // The answer to any bytes.
 pub fn load(table: &[u8]) -> Loaded
     ensures { λ r. ⌜ r ≡ loaded (now (table .entry)) ⌝ }
-    ensures { λ r. ⌜ valuesOf r ≡ valuesOf (loaded (now (table .entry))) ⌝ }
+    ensures { λ r. ⌜ valuesOf r ≡ tableValues (now (table .entry)) ⌝ }
 {
     let found = head(table);
     if let Found::At(r) = found {
         return Loaded::Refused(r);
     }
-    let n = word(table, 0);
-    let m = word(table, 2);
+    let n = threads(table);
+    let m = actions(table);
     let found = shape(table, n, m);
     if let Found::At(r) = found {
         return Loaded::Refused(r);

@@ -1,8 +1,8 @@
 // Checks 8, 9 and 11: every thread but the root is forked once, and joins close forks, the latest first.
 use crate::Found;
-use crate::read::argument;
+use crate::read::argument_at;
 use crate::read::bodies;
-use crate::read::code;
+use crate::read::code_at;
 use crate::read::refuse;
 ghost use mathlib.Core.Path.{_≡_};
 ghost use Prim.Native.Nat.{ℕ, pred, _≤_};
@@ -76,8 +76,8 @@ fn second_pass(table: &[u8], n: usize, m: usize, forked: &mut [bool; 1024]) -> F
     let mut top = 1024;
     let mut a = 0;
     while a < m {
-        let k = code(actions, a);
-        let x = argument(actions, a);
+        let k = code_at(actions, a);
+        let x = argument_at(actions, a);
         let next = nest_at(k, x, top, &mut stack, forked);
         if next.number != 0 {
             return refuse(next.number, a);

@@ -1,10 +1,10 @@
 // The serial peak S1: each thread's highest amount, counted from its start, from those of the children it forks.
 use crate::balance::child_amount;
 use crate::balance::own_amount;
-use crate::read::argument;
+use crate::read::argument_at;
 use crate::read::body_of;
-use crate::read::code;
-use crate::read::word;
+use crate::read::code_at;
+use crate::read::count;
 ghost use mathlib.Core.Path.{_≡_};
 ghost use Prim.Native.Nat.{max};
 ghost use Rattle.table.specs.Sum.{greatestTo};
@@ -36,8 +36,8 @@ fn peak_walk(
     let mut peak: u64 = 0;
     let mut i = 0;
     while i < count {
-        let k = code(body, i);
-        let x = argument(body, i);
+        let k = code_at(body, i);
+        let x = argument_at(body, i);
         peak = larger(peak, rise - fall + child_amount(4, k, x, peaks));
         rise += own_amount(2, k, x) + child_amount(4, k, x, rises);
         fall += own_amount(3, k, x) + child_amount(4, k, x, falls);
@@ -63,7 +63,7 @@ pub(crate) fn serial_peak(
     while 0 < t {
         t -= 1;
         let body = body_of(table, n, t);
-        let count = word(table, 6 + 4 * t);
+        let count = count(table, t);
         let peak = peak_walk(body, count, rises, falls, &peaks);
         peaks[t] = peak;
     }

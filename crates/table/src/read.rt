@@ -1,61 +1,135 @@
-// Numbers, actions and bodies out of bytes.
+// Numbers, actions and bodies out of bytes. What other crates may call takes any bytes, and reads zeros past their end.
 use crate::Found;
 use crate::Refusal;
 ghost use mathlib.Core.Path.{_≡_};
 ghost use Prim.Native.Nat.{_+_, _*_, _≤_, _<_};
 ghost use lib.ListN.{length, getD};
-ghost use Rattle.table.specs.Format.{u16At, threadsOf, firstOf, bodiesOf, bodyOf, codeAt, argumentAt};
+ghost use Rattle.table.specs.Format.{u16At, threadsOf, actionsOf, bodiesFrom, bodyOf, codeAt, argumentAt, tableOf};
 ghost use Rattle.table.specs.Pass.{refusal};
-ghost use Rattle.table.specs.Steps.{Read};
+ghost use Rattle.table.specs.Steps.{Read, DoubleWord};
 
-pub(crate) fn byte(s: &[u8], i: usize) -> usize
-    requires { ⌜ i < length (now s) ⌝ }
-    ensures { λ r. ⌜ Read (getD (now (s .entry)) i 0) 256 r ⌝ }
+// The byte at a position.
+pub fn byte(s: &[u8], i: usize) -> u8
+    ensures { λ r. ⌜ r ≡ getD (now (s .entry)) i 0 ⌝ }
 {
-    s[i] as usize
+    if i < s.len() { s[i] } else { 0 }
+}
+
+fn wide(x: u8) -> usize
+    ensures { λ r. ⌜ Read x 256 r ⌝ }
+{
+    x as usize
 }
 
 // 16 bits, little-endian.
-pub(crate) fn word(s: &[u8], i: usize) -> usize
-    requires { ⌜ i + 1 < length (now s) ⌝ }
+pub fn word(s: &[u8], i: usize) -> usize
     ensures { λ r. ⌜ Read (u16At (now (s .entry)) i) 65536 r ⌝ }
 {
-    byte(s, i) + 256 * byte(s, i + 1)
+    if s.len() <= i {
+        return 0;
+    }
+    wide(s[i]) + 256 * wide(byte(s, i + 1))
 }
 
-// The actions of a table of n threads.
-pub(crate) fn bodies(table: &[u8], n: usize) -> &[u8]
-    requires { ⌜ (n ≡ threadsOf (now table)) × (4 + 4 * n ≤ length (now table)) ⌝ }
-    ensures { λ r. ⌜ now r ≡ bodiesOf (now (table .entry)) ⌝ }
+// 32 bits.
+fn double_word(s: &[u8], i: usize) -> usize
+    requires { ⌜ i + 3 < length (now s) ⌝ }
+    ensures { λ r. ⌜ DoubleWord (now (s .entry)) i r ⌝ }
 {
+    wide(s[i]) + 256 * wide(s[i + 1]) + 65536 * wide(s[i + 2]) + 16777216 * wide(s[i + 3])
+}
+
+// The four bytes of number a in a list of entries or of actions. One test where they are all there, which is the usual case.
+fn item(l: &[u8], a: usize) -> usize
+    ensures { λ r. ⌜ DoubleWord (now (l .entry)) (4 * a) r ⌝ }
+{
+    let whole = l.len() / 4;
+    if a < whole {
+        return double_word(l, 4 * a);
+    }
+    if whole < a {
+        return 0;
+    }
+    let i = 4 * a;
+    wide(byte(l, i)) + 256 * wide(byte(l, i + 1)) + 65536 * wide(byte(l, i + 2))
+}
+
+// The threads n.
+pub fn threads(table: &[u8]) -> usize
+    ensures { λ r. ⌜ Read (threadsOf (now (table .entry))) 65536 r ⌝ }
+{
+    word(table, 0)
+}
+
+// The actions m.
+pub fn actions(table: &[u8]) -> usize
+    ensures { λ r. ⌜ Read (actionsOf (now (table .entry))) 65536 r ⌝ }
+{
+    word(table, 2)
+}
+
+// What stands after the head and n entries: the actions of a table of n threads, and with n 0 its contents.
+pub(crate) fn bodies(table: &[u8], n: usize) -> &[u8]
+    ensures { λ r. ⌜ now r ≡ bodiesFrom (now (table .entry)) n ⌝ }
+{
+    let end = table.len();
+    if end / 4 <= n {
+        return &table[end..];
+    }
     let start = 4 + 4 * n;
     &table[start..]
 }
 
+// Thread t's first action.
+pub fn first(table: &[u8], t: usize) -> usize
+    ensures { λ r. ⌜ Read (tableOf (now (table .entry)) .first t) 65536 r ⌝ }
+{
+    item(bodies(table, 0), t) % 65536
+}
+
+// Its count of actions.
+pub fn count(table: &[u8], t: usize) -> usize
+    ensures { λ r. ⌜ Read (tableOf (now (table .entry)) .count t) 65536 r ⌝ }
+{
+    item(bodies(table, 0), t) / 65536
+}
+
+// The kind's code of action a, in a table of n threads.
+pub fn code(table: &[u8], n: usize, a: usize) -> u8
+    ensures { λ r. ⌜ r ≡ codeAt (bodiesFrom (now (table .entry)) n) a ⌝ }
+{
+    (item(bodies(table, n), a) % 256) as u8
+}
+
+// Its argument, 24 bits.
+pub fn argument(table: &[u8], n: usize, a: usize) -> usize
+    ensures { λ r. ⌜ Read (argumentAt (bodiesFrom (now (table .entry)) n) a) 16777216 r ⌝ }
+{
+    item(bodies(table, n), a) / 256
+}
+
 // Thread t's body, with all that follows it.
 pub(crate) fn body_of(table: &[u8], n: usize, t: usize) -> &[u8]
-    requires { ⌜ (n ≡ threadsOf (now table)) × (t < n) × (4 + 4 * n + 4 * firstOf (now table) t ≤ length (now table)) ⌝ }
+    requires { ⌜ (n ≡ threadsOf (now table)) × (4 + 4 * n + 4 * tableOf (now table) .first t ≤ length (now table)) ⌝ }
     ensures { λ r. ⌜ now r ≡ bodyOf (now (table .entry)) t ⌝ }
 {
-    let start = 4 + 4 * n + 4 * word(table, 4 + 4 * t);
+    let start = 4 + 4 * n + 4 * first(table, t);
     &table[start..]
 }
 
-// The kind's code of action a of a list of actions.
-pub(crate) fn code(l: &[u8], a: usize) -> u8
+// The code and the argument of an action that is known to be there: the loader's walks have no test at each action.
+pub(crate) fn code_at(l: &[u8], a: usize) -> u8
     requires { ⌜ 4 * a + 3 < length (now l) ⌝ }
     ensures { λ r. ⌜ r ≡ codeAt (now (l .entry)) a ⌝ }
 {
-    l[4 * a]
+    (double_word(l, 4 * a) % 256) as u8
 }
 
-// The argument of action a, 24 bits.
-pub(crate) fn argument(l: &[u8], a: usize) -> usize
+pub(crate) fn argument_at(l: &[u8], a: usize) -> usize
     requires { ⌜ 4 * a + 3 < length (now l) ⌝ }
     ensures { λ r. ⌜ Read (argumentAt (now (l .entry)) a) 16777216 r ⌝ }
 {
-    let i = 4 * a + 1;
-    byte(l, i) + 256 * byte(l, i + 1) + 65536 * byte(l, i + 2)
+    double_word(l, 4 * a) / 256
 }
 
 pub(crate) fn refuse(number: u8, place: usize) -> Found

@@ -7,7 +7,7 @@ use borrow.Author.Needs.{needs}
 use borrow.Author.Tests.{ltb-false}
 use lib.ListN.{length}
 use denote.Ref.{now}
-use Rattle.table.specs.Format.{tableOf}
+use Rattle.table.specs.Format.{threadsOf, tableOf}
 use Rattle.table.specs.Pass.{firstFound}
 use Rattle.table.specs.Rules.{passes}
 use Rattle.table.specs.Accepted.{Rules}
@@ -21,7 +21,9 @@ use Rattle.schedule.specs.Record.{blank}
 use Rattle.schedule.specs.Begin.{begin, beginPasses, begunAs, startRun}
 use Rattle.schedule.specs.declared.Run.{Run}
 use Rattle.schedule.specs.declared.Beginning.the-variants.{Begun as started, Refused as refusedBegin}
-use Rattle.asyncdf.specs.Checks.{Known}
+use Rattle.soundness.specs.Checks.{Accepted as Table}
+use Rattle.table.specs.Steps.{Read}
+use Rattle.schedule.proofs.Values.{begin-values}
 use Rattle.asyncdf.proofs.Calls.{begun-answers}
 use Rattle.asyncdf.proofs.begin.Statement.{statement}
 use Rattle.asyncdf.proofs.begin.Tie as tie
@@ -47,16 +49,9 @@ module _ {s : List ℕ} (r : Rules s) (p K : ℕ) where
   begun : {b : Run} → firstFound (beginPasses (tableOf s) p K) ≡ Nothing → b ≡ startRun s p K → record { answer = started; run = b } ≡ begin s p K
   begun f e = rw (← begin-is, f, e)
 
-long : {s : List ℕ} → Rules s → 4 ≤ length s
-long {s} r = ltb-false (length s) 4 (r .head .long)
-
 -- the table is accepted
 passed : (c : tie.After-enum-told) → Rules (now (c .before .before .before .before .args .bytes))
 passed c = accepted-rules _ (sym (c .before .before .load .ensures .0) ∙ c .enum-told .given .1)
-
-known : (c : tie.After-word2) → Known (now (c .before .before .before .before .before .before .args .bytes)) (c .before .word .result) (c .word2 .result)
-unfolding tableOf
-known c = record { rules = passed (c .before .before); threads = c .before .word .ensures .value; actions = c .word2 .ensures .value }
 
 load-requires : tie.Need-load-requires
 load-requires c κs = search needs
@@ -71,19 +66,13 @@ returns : tie.Need-returns
 returns c =
     let d = c .before .before .before .before in
     let a = d .before .before .args in
-    begun-answers (refused-table (now (a .bytes)) (a .p) (a .quota) (sym (d .load .ensures .0) ∙ c .before .before .loaded .given .1) (c .blank .ensures))
+    rw (← begin-values) (begun-answers (refused-table (now (a .bytes)) (a .p) (a .quota) (sym (d .load .ensures .0) ∙ c .before .before .loaded .given .1) (c .blank .ensures)))
 
 enum-told : tie.Need-enum-told
 enum-told c = search needs
 
-word-requires : tie.Need-word-requires
-word-requires c κs = omega (arith, long (passed c))
-
-word-requires-2 : tie.Need-word-requires-2
-word-requires-2 c κs = omega (arith, long (passed (c .before)))
-
 begin-fault-requires : tie.Need-begin-fault-requires
-begin-fault-requires c κs = known c
+begin-fault-requires c κs = search needs
 
 enum-known-found : tie.Need-enum-known-found
 enum-known-found c = search needs
@@ -94,20 +83,27 @@ blank-requires-2 c κs = search needs
 returns-2 : tie.Need-returns-2
 returns-2 c =
     let d = c .before .before .before .before in
-    let a = d .before .before .before .before .before .before .before .args in
-    begun-answers (refused-begin (known (d .before) .rules) (a .p) (a .quota) (sym (d .begin-fault .ensures) ∙ c .before .before .found .given .1) (c .blank2 .ensures))
+    let a = d .before .before .before .before .before .args in
+    rw (← begin-values) (begun-answers (refused-begin (passed (d .before)) (a .p) (a .quota) (sym (d .begin-fault .ensures) ∙ c .before .before .found .given .1) (c .blank2 .ensures)))
 
 enum-told-2 : tie.Need-enum-told-2
 enum-told-2 c = search needs
 
+threads-requires : tie.Need-threads-requires
+threads-requires c κs = search needs
+
+accepted : {s : List ℕ} → Rules s → {n : ℕ} → Read (threadsOf s) 65536 n → Table s n
+unfolding tableOf
+accepted r e = record { rules = r; threads = e .value }
+
 start-requires : tie.Need-start-requires
-start-requires c κs = known (c .before .before .before)
+start-requires c κs = accepted (passed (c .before .before .before .before)) (c .threads .ensures)
 
 returns-3 : tie.Need-returns-3
 returns-3 c =
-    let d = c .before .before .before in
-    let a = d .before .before .before .before .before .before .before .args in
-    begun-answers (begun (known (d .before) .rules) (a .p) (a .quota) (sym (d .begin-fault .ensures) ∙ c .before .enum-told2 .given .1) (c .start .ensures))
+    let d = c .before .before .before .before in
+    let a = d .before .before .before .before .before .args in
+    rw (← begin-values) (begun-answers (begun (passed (d .before)) (a .p) (a .quota) (sym (d .begin-fault .ensures) ∙ c .before .before .enum-told2 .given .1) (c .start .ensures)))
 
 pub begin-spec : {M : Type 1} → statement M
 begin-spec =
@@ -118,12 +114,11 @@ begin-spec =
     blank-requires
     returns
     enum-told
-    word-requires
-    word-requires-2
     begin-fault-requires
     enum-known-found
     blank-requires-2
     returns-2
     enum-told-2
+    threads-requires
     start-requires
     returns-3)

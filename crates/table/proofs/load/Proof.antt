@@ -1,17 +1,14 @@
 -- `table::load` meets its contract: the head, the passes between and the balances, each the next where the one before found nothing.
 use mathlib.Core.Path.{_≡_, sym, ap, _∙_}
-use Prim.Native.Nat.{ℕ, _≤_}
+use Prim.Native.Nat.{ℕ}
 use mathlib.Core.List.{List}
-use native.Mathlib.Omega.{arith}
 use borrow.Author.Needs.{needs}
-use borrow.Author.Tests.{ltb-false}
 use denote.Ref.{now}
-use lib.ListN.{length}
 use Rattle.table.specs.Format.{tableOf}
 use Rattle.table.specs.Pass.{tryPass, firstFound}
 use Rattle.table.specs.Rules.{headPass, balancePass, passes, shapePasses}
 use Rattle.table.specs.Accepted.{HeadRules}
-use Rattle.table.specs.Load.{answer, factsOf, loaded, valuesOf}
+use Rattle.table.specs.Load.{answer, factsOf, loaded, tableValues, valuesOf}
 use Rattle.table.specs.Steps.{Headed, Nested}
 use Rattle.table.specs.declared.Refusal.{Refusal}
 use Rattle.table.specs.declared.Found.the-variants.{Nothing, At}
@@ -19,6 +16,7 @@ use Rattle.table.specs.declared.Loaded.{Loaded}
 use Rattle.table.specs.declared.Loaded.the-variants.{Refused}
 use Rattle.table.proofs.Trying.{orElse-last}
 use Rattle.table.proofs.Passes.{firstFound-nothing, firstFound-append, head-rules, content-rules, body-rules, nest-rules, fork-rules}
+use Rattle.table.proofs.Values.{table-values}
 use Rattle.table.proofs.load.Statement.{statement}
 use Rattle.table.proofs.load.Tie as tie
 
@@ -51,19 +49,16 @@ module _ {s : List ℕ} {n m : ℕ} (h : Headed s n m) where
     unfolding loaded passes firstFound
     rest = rw (head-passed, firstFound-append (shapePasses (tableOf s)), e, orElse-last)
 
-long : {s : List ℕ} → HeadRules s → 4 ≤ length s
-long {s} h = ltb-false (length s) 4 (h .long)
-
 -- the head has passed
 passed : (c : tie.After-enum-told) → HeadRules (now (c .before .before .before .before .args .table))
 passed c = head-rules _ .0 (sym (c .before .before .head .ensures) ∙ c .enum-told .given .1)
 
-reached : (c : tie.After-word2) → Headed (now (c .before .before .before .before .before .before .args .table)) (c .before .word .result) (c .word2 .result)
-reached c = record { head = passed (c .before .before); threads = c .before .word .ensures .value; actions = c .word2 .ensures .value }
+reached : (c : tie.After-actions) → Headed (now (c .before .before .before .before .before .before .args .table)) (c .before .threads .result) (c .actions .result)
+reached c = record { head = passed (c .before .before); threads = c .before .threads .ensures .value; actions = c .actions .ensures .value }
 
 -- and so are its values
-answered : {x y : Loaded} → x ≡ y → (x ≡ y) × (valuesOf x ≡ valuesOf y)
-answered e = (e, ap valuesOf e)
+answered : (s : List ℕ) {x : Loaded} → x ≡ loaded s → (x ≡ loaded s) × (valuesOf x ≡ tableValues s)
+answered s e = (e, ap valuesOf e ∙ table-values s)
 
 head-requires : tie.Need-head-requires
 head-requires c κs = search needs
@@ -72,16 +67,16 @@ enum-known-found : tie.Need-enum-known-found
 enum-known-found c = search needs
 
 returns : tie.Need-returns
-returns c = answered (refused-head (now (c .before .before .before .before .before .args .table)) (sym (c .before .before .before .head .ensures) ∙ c .before .found .given .1))
+returns c = answered _ (refused-head (now (c .before .before .before .before .before .args .table)) (sym (c .before .before .before .head .ensures) ∙ c .before .found .given .1))
 
 enum-told : tie.Need-enum-told
 enum-told c = search needs
 
-word-requires : tie.Need-word-requires
-word-requires c κs = omega (arith, long (passed c))
+threads-requires : tie.Need-threads-requires
+threads-requires c κs = search needs
 
-word-requires-2 : tie.Need-word-requires-2
-word-requires-2 c κs = omega (arith, long (passed (c .before)))
+actions-requires : tie.Need-actions-requires
+actions-requires c κs = search needs
 
 shape-requires : tie.Need-shape-requires
 shape-requires c κs = reached c
@@ -91,7 +86,7 @@ enum-known-found-2 c = search needs
 
 returns-2 : tie.Need-returns-2
 returns-2 c =
-    answered (refused-shape (reached (c .before .before .before .before)) (sym (c .before .before .before .shape .ensures) ∙ c .before .found2 .given .1))
+    answered _ (refused-shape (reached (c .before .before .before .before)) (sym (c .before .before .before .shape .ensures) ∙ c .before .found2 .given .1))
 
 enum-told-2 : tie.Need-enum-told-2
 enum-told-2 c = search needs
@@ -101,7 +96,7 @@ weigh-requires c κs = nested (reached (c .before .before .before)) (sym (c .bef
 
 returns-3 : tie.Need-returns-3
 returns-3 c =
-    answered (c .weigh .ensures
+    answered _ (c .weigh .ensures
     ∙ rest (reached (c .before .before .before .before)) (sym (c .before .before .before .shape .ensures) ∙ c .before .enum-told2 .given .1))
 
 pub load-spec : {M : Type 1} → statement M
@@ -112,8 +107,8 @@ load-spec =
     enum-known-found
     returns
     enum-told
-    word-requires
-    word-requires-2
+    threads-requires
+    actions-requires
     shape-requires
     enum-known-found-2
     returns-2

@@ -9,19 +9,21 @@ use borrow.Author.Needs.{needs}
 use lib.Dec.{leb, eqb}
 use lib.ListN.{length, getD, set, take, replicate, length-replicate}
 use lib.Seq.{length-take-le}
-use Rattle.table.specs.Format.{Kind, end, work, alloc, free, fork, join, unknown, kindOf, codeOf, is, Table, kind, tableOf}
+use Rattle.table.specs.Format.{Kind, end, work, alloc, free, fork, join, unknown, kindOf, codeOf, is, Table, kind, bodiesFrom, codeAt, argumentAt, tableOf}
 use Rattle.table.specs.Steps.{Read}
+use Rattle.table.proofs.Parts.{code-from, argument-from}
 use Rattle.table.proofs.Tests.{no-way}
 use Rattle.schedule.specs.declared.Worker.{Worker}
 use Rattle.schedule.specs.declared.Reply.the-variants.{Idle, Done}
 use Rattle.schedule.specs.Machine.{State, Stepped, ended, statusOf, workerOf, stepped, actBy, act}
 use Rattle.schedule.specs.Sound.{placeIn}
 use Rattle.schedule.proofs.Turns.{either}
-use Rattle.asyncdf.specs.Parts.{partState, partStepped, At, Rowed, Parents, Wakes, Sits}
+use Rattle.soundness.specs.Checks.{Parents}
+use Rattle.asyncdf.specs.Parts.{partState, partStepped, At, Rowed, Wakes, Sits}
 use Rattle.asyncdf.specs.declared.act.Totals.{Totals}
 use Rattle.asyncdf.specs.declared.act.Stepped.{Stepped as StepResult}
 use Rattle.asyncdf.proofs.Rows.{next-done}
-use Rattle.asyncdf.proofs.Seats.{actionOf, status-size, next-inside, thread-below, at-next, place-below}
+use Rattle.asyncdf.proofs.Seats.{actionOf, status-size, thread-below, at-next, place-below}
 use Rattle.asyncdf.proofs.Seats.{alloc-room, free-room, fork-child, fork-room, join-child, parent-wakes}
 use Rattle.asyncdf.proofs.act.act.Statement.{statement}
 use Rattle.asyncdf.proofs.act.act.Tie as tie
@@ -52,7 +54,13 @@ same-front j k h =
 
 -- the code and the argument of the next action of a worker's thread have been read
 module _ {s : List ℕ} {n K : ℕ} {next status list : List ℕ} {totals : Totals} {worker : Worker} (q : Sits s n K next status list totals worker) (h : worker .holds ≡ true) {k x : ℕ}
-    (e : k ≡ tableOf s .code (actionOf next worker)) (f : Read (tableOf s .argument (actionOf next worker)) 16777216 x) where
+    (e' : k ≡ codeAt (bodiesFrom s n) (actionOf next worker)) (f' : Read (argumentAt (bodiesFrom s n) (actionOf next worker)) 16777216 x) where
+  e : k ≡ tableOf s .code (actionOf next worker)
+  e = e' ∙ code-from s n (q .threads) (actionOf next worker)
+
+  x-is : x ≡ tableOf s .argument (actionOf next worker)
+  x-is = f' .value ∙ argument-from s n (q .threads) (actionOf next worker)
+
   kind-read : (j : ℕ) → k ≡ j → kind (tableOf s) (actionOf next worker) ≡ kindOf j
   kind-read j i = rw (← e, i)
 
@@ -63,27 +71,27 @@ module _ {s : List ℕ} {n K : ℕ} {next status list : List ℕ} {totals : Tota
       × (Rowed list (totals .listed)
       × (Parents (tableOf s) parents
       × (((worker .thread < tableOf s .threads) × (placeIn (worker .thread) (take (totals .listed) list) < totals .listed))
-      × Wakes s n next status (getD parents (worker .thread) 0))))
+      × Wakes s n status (getD parents (worker .thread) 0))))
   end-asks parents o = (at-next q h, (q .row, (o, ((thread-below q h, place-below q h), parent-wakes q h parents o))))
 
   alloc-asks : k ≡ 2 → At next worker (actionOf next worker) × ((length status ≡ 1024) × (totals .held + x < 2 ^ 64))
   unfolding kindOf
-  alloc-asks i = (at-next q h, (status-size q, rw (f .value) (alloc-room q h (kind-read 2 i))))
+  alloc-asks i = (at-next q h, (status-size q, rw x-is (alloc-room q h (kind-read 2 i))))
 
   free-asks : k ≡ 3 → At next worker (actionOf next worker) × (x ≤ totals .held)
   unfolding kindOf
-  free-asks i = (at-next q h, rw (f .value) (free-room q h (kind-read 3 i)))
+  free-asks i = (at-next q h, rw x-is (free-room q h (kind-read 3 i)))
 
   fork-asks : k ≡ 4
       → At next worker (actionOf next worker)
       × (Rowed list (totals .listed)
       × ((length status ≡ 1024) × (x < 1024) × (totals .listed < 1024) × (placeIn (worker .thread) (take (totals .listed) list) < totals .listed)))
   unfolding kindOf
-  fork-asks i = (at-next q h, (q .row, (status-size q, rw (f .value) (fork-child q h (kind-read 4 i)), fork-room q h (kind-read 4 i), place-below q h)))
+  fork-asks i = (at-next q h, (q .row, (status-size q, rw x-is (fork-child q h (kind-read 4 i)), fork-room q h (kind-read 4 i), place-below q h)))
 
   join-asks : k ≡ 5 → At next worker (actionOf next worker) × ((length status ≡ 1024) × (x < 1024))
   unfolding kindOf
-  join-asks i = (at-next q h, (status-size q, rw (f .value) (join-child q h (kind-read 5 i))))
+  join-asks i = (at-next q h, (status-size q, rw x-is (join-child q h (kind-read 5 i))))
 
   -- ---- what is left
 
@@ -92,7 +100,7 @@ module _ {s : List ℕ} {n K : ℕ} {next status list : List ℕ} {totals : Tota
       → actBy (kindOf j) (tableOf s) 0 (worker .thread) (actionOf next worker) x (partState next status list totals worker)
       ≡ act (tableOf s) 0 (partState next status list totals worker)
   unfolding act
-  acts j i = rw (← e, ← f .value, i)
+  acts j i = rw (← e, ← x-is, i)
 
   works : k ≡ 1
       → stepped (Done (worker .thread) (actionOf next worker)) (partState (set next (worker .thread) (actionOf next worker + 1)) status list totals worker)
@@ -141,13 +149,10 @@ cast-at c =
     omega (arith, at-next (q .0) (q .1 .1) .fits)
 
 code-requires : tie.Need-code-requires
-unfolding tableOf
-code-requires c κs =
-    let q = c .before .before .pre in
-    (q .0 .threads, next-inside (q .0) _ (thread-below (q .0) (q .1 .1)) .1)
+code-requires c κs = search needs
 
 argument-requires : tie.Need-argument-requires
-argument-requires c κs = code-requires (c .before) κs
+argument-requires c κs = search needs
 
 act-end-requires : tie.Need-act-end-requires
 act-end-requires c κs =

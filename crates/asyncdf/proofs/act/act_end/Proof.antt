@@ -17,22 +17,16 @@ use Rattle.schedule.specs.declared.Reply.the-variants.{Done}
 use Rattle.schedule.specs.Machine.{State, waiting, ended, ready, nobody, without, parentOf, waitsFor, woken, withStatus, stepped, actBy}
 use Rattle.schedule.specs.Record.{filled, maxThreads}
 use Rattle.schedule.specs.Sound.{placeIn}
-use Rattle.asyncdf.specs.Parts.{partState, Rowed, Parents, Wakes, wokenStatus}
+use Rattle.soundness.specs.Checks.{Parents}
+use Rattle.asyncdf.specs.Parts.{partState, Rowed, Wakes, wokenStatus}
 use Rattle.asyncdf.specs.declared.act.Totals.{Totals}
 use Rattle.asyncdf.proofs.Rows.{length-without, take-filled, rowed-filled, rowed-small}
 use Rattle.asyncdf.proofs.act.act_end.Statement.{statement}
 use Rattle.asyncdf.proofs.act.act_end.Tie as tie
 
 -- when thread t has ended, thread u may still be looked at
-wakes : (s : List ℕ) (n : ℕ) (next status : List ℕ) (u t : ℕ) → t < maxThreads → Wakes s n next status u → Wakes s n next (set status t ended) u
-wakes s n next status u t h w =
-    record { threads = w .threads; size = simp length-set (w .size); below = w .below; within = λ e. w .within (go (ℕ-discrete u t) e) }
-  where
-    go : Dec (u ≡ t) → getD (set status t ended) u 0 ≡ waiting → getD status u 0 ≡ waiting
-    go (yes e) q =
-        let z : ended ≡ waiting = sym (getD-set-same status t ended 0 (omega arith)) ∙ rw e at q in
-        omega arith
-    go (no d) q = rw (getD-set-other status t u ended 0 d) at q
+wakes : (s : List ℕ) (n : ℕ) (status : List ℕ) (u t : ℕ) → Wakes s n status u → Wakes s n (set status t ended) u
+wakes s n status u t w = record { threads = w .threads; size = simp length-set (w .size); below = w .below }
 
 -- waking moves the statuses alone
 abbrev withStatuses : List ℕ → State → State
@@ -86,7 +80,7 @@ cast-u c = search needs
 wake-requires : tie.Need-wake-requires
 wake-requires c κs =
     let d = c .before .before .before .before .before in
-    wakes (now (d .args .table)) _ (now (d .args .next)) (now (d .args .status)) _ _ (d .pre .0 .thread) (d .pre .1 .1 .1 .1)
+    wakes (now (d .args .table)) _ (now (d .args .status)) _ _ (d .pre .1 .1 .1 .1)
 
 release-requires : tie.Need-release-requires
 release-requires c κs = search needs

@@ -1,5 +1,5 @@
 -- `asyncdf::act::wake` meets its contract: each way out is `wokenStatus` where one more of the three tests has been made.
-use mathlib.Core.Path.{_≡_, sym, _∙_}
+use mathlib.Core.Path.{ap, _≡_, sym, _∙_}
 use Prim.Native.Nat.{ℕ, _+_, _*_, _<_}
 use mathlib.Core.List.{List}
 use native.Mathlib.Omega.{arith}
@@ -8,7 +8,9 @@ use borrow.Author.Tests.{eq-eqb, ne-eqb}
 use denote.Ref.{now}
 use lib.Dec.{eqb}
 use lib.ListN.{length, getD, set}
-use Rattle.table.specs.Format.{Table, join, is, kind, kindOf, tableOf, threadsOf}
+use Rattle.table.specs.Format.{Table, join, is, kind, kindOf, bodiesFrom, codeAt, argumentAt, tableOf}
+use Rattle.table.specs.Steps.{Read}
+use Rattle.table.proofs.Parts.{code-from, argument-from}
 use Rattle.table.proofs.Walks.{is-code}
 use Rattle.schedule.specs.Machine.{waiting, ready}
 use Rattle.asyncdf.specs.Parts.{Wakes, wokenStatus}
@@ -40,11 +42,13 @@ module _ (T : Table) (next status : List ℕ) (u t : ℕ) where
     waits j d =
         rw (eq-eqb (getD status u 0) waiting h, join-code T (getD next u 0) k e, eq-eqb k 5 j, eq-eqb (T .argument (getD next u 0)) t d)
 
--- the action that u waits at can be read
-readable : (s : List ℕ) (n : ℕ) (next status : List ℕ) (u : ℕ) → Wakes s n next status u → getD status u 0 ≡ waiting
-    → (n ≡ threadsOf s) × (4 + 4 * n + 4 * getD next u 0 + 3 < length s)
-unfolding tableOf
-readable s n next status u w h = (w .threads, w .within h)
+-- the code and the argument that were read are the table's, of the action at which u stands
+module _ {s : List ℕ} {n u : ℕ} {status : List ℕ} (w : Wakes s n status u) {a b : ℕ} (d : a ≡ b) where
+  code-read : {k : ℕ} → k ≡ codeAt (bodiesFrom s n) a → k ≡ tableOf s .code b
+  code-read e = e ∙ code-from s n (w .threads) a ∙ ap (tableOf s .code) d
+
+  argument-read : {x : ℕ} → Read (argumentAt (bodiesFrom s n) a) 16777216 x → x ≡ tableOf s .argument b
+  argument-read e = e .value ∙ argument-from s n (w .threads) a ∙ ap (tableOf s .argument) d
 
 element-copy-out-if1 : tie.Need-element-copy-out-if1
 element-copy-out-if1 c = search needs
@@ -54,38 +58,37 @@ returns c =
     let d = c .before .before .before in
     not-waiting _ (now (d .args .next)) (now (d .args .status)) _ _ (c .if1 .taken)
 
-mul-a : tie.Need-mul-a
-mul-a c = search needs
+mul-wide : tie.Need-mul-wide
+mul-wide c = search needs
 
-element-copy-out-a : tie.Need-element-copy-out-a
-element-copy-out-a c = search needs
+element-copy-out-wide : tie.Need-element-copy-out-wide
+element-copy-out-wide c = search needs
 
-cast-a : tie.Need-cast-a
-cast-a c =
-    let d = c .before .before .before .before in
-    omega (arith, d .pre .within (c .before .if1 .left))
+wide-requires : tie.Need-wide-requires
+wide-requires c κs = search needs
 
 code-requires : tie.Need-code-requires
-code-requires c κs =
-    let d = c .before .before .before .before in
-    readable (now (d .args .table)) _ (now (d .args .next)) (now (d .args .status)) _ (d .pre) (c .before .if1 .left)
+code-requires c κs = search needs
+
+abbrev start : tie.After-wide → tie.Start
+start c = c .before .before .before .before .before
 
 returns-2 : tie.Need-returns-2
 returns-2 c =
-    let k = c .before .before .before in
-    let d = k .before .before .before in
-    no-join _ (now (d .args .next)) (now (d .args .status)) _ _ (k .if1 .left) _ (c .before .code .ensures) (c .if2 .taken)
+    let a = c .before .before in
+    let d = start a in
+    no-join _ (now (d .args .next)) (now (d .args .status)) _ _ (a .before .before .if1 .left) _ (code-read (d .pre) (a .wide .ensures) (c .before .code .ensures)) (c .if2 .taken)
 
 argument-requires : tie.Need-argument-requires
-argument-requires c κs = code-requires (c .before .before) κs
+argument-requires c κs = search needs
 
 returns-3 : tie.Need-returns-3
 returns-3 c =
     let m = c .before .before in
-    let k = m .before .before .before in
-    let d = k .before .before .before in
-    other-child _ (now (d .args .next)) (now (d .args .status)) _ _ (k .if1 .left) _ (m .before .code .ensures) (m .if2 .left)
-    (λ q. c .if3 .taken (c .before .argument .ensures .value ∙ q))
+    let a = m .before .before in
+    let d = start a in
+    other-child _ (now (d .args .next)) (now (d .args .status)) _ _ (a .before .before .if1 .left) _ (code-read (d .pre) (a .wide .ensures) (m .before .code .ensures)) (m .if2 .left)
+    (λ q. c .if3 .taken (argument-read (d .pre) (a .wide .ensures) (c .before .argument .ensures) ∙ q))
 
 element-write-status : tie.Need-element-write-status
 element-write-status c = search needs
@@ -93,10 +96,10 @@ element-write-status c = search needs
 returns-4 : tie.Need-returns-4
 returns-4 c =
     let m = c .before .before in
-    let k = m .before .before .before in
-    let d = k .before .before .before in
-    waits _ (now (d .args .next)) (now (d .args .status)) _ _ (k .if1 .left) _ (m .before .code .ensures) (m .if2 .left)
-    (sym (c .before .argument .ensures .value) ∙ c .if3 .left)
+    let a = m .before .before in
+    let d = start a in
+    waits _ (now (d .args .next)) (now (d .args .status)) _ _ (a .before .before .if1 .left) _ (code-read (d .pre) (a .wide .ensures) (m .before .code .ensures)) (m .if2 .left)
+    (sym (argument-read (d .pre) (a .wide .ensures) (c .before .argument .ensures)) ∙ c .if3 .left)
 
 pub wake-spec : {M : Type 1} → statement M
 wake-spec =
@@ -104,9 +107,9 @@ wake-spec =
     (tie.spec
     element-copy-out-if1
     returns
-    mul-a
-    element-copy-out-a
-    cast-a
+    mul-wide
+    element-copy-out-wide
+    wide-requires
     code-requires
     returns-2
     argument-requires

@@ -3,52 +3,45 @@ use mathlib.Core.Path.{_≡_, ap, _∙_}
 use Prim.Native.Nat.{ℕ, _+_, _-_, _≤_, _<_}
 use mathlib.Core.List.{List}
 use native.Mathlib.Omega.{arith}
+use borrow.Author.Needs.{needs}
 use lib.ListN.{set, replicate}
-use Rattle.table.specs.Format.{firstOf, tableOf}
+use Rattle.table.specs.Format.{actionsOf, tableOf}
 use Rattle.table.proofs.Sizes.{Sizes}
 use Rattle.schedule.specs.Record.{filled}
 use Rattle.schedule.specs.Begin.{firsts}
-use Rattle.asyncdf.specs.Checks.{Known}
-use Rattle.asyncdf.proofs.Room.{known-sizes}
-use Rattle.asyncdf.proofs.Laying.{Laid, laid-more}
+use Rattle.soundness.specs.Checks.{Accepted}
+use Rattle.asyncdf.proofs.Laying.{Laid, laid-more, accepted-sizes}
 use Rattle.asyncdf.proofs.beginning.fill_next.Statement.{statement}
 use Rattle.asyncdf.proofs.beginning.fill_next.Tie as tie
 
-record Inv (s : List ℕ) (n m : ℕ) (next : List ℕ) (t : ℕ) : Type 0 where
-  sizes : Sizes s n m
+record Inv (s : List ℕ) (n : ℕ) (next : List ℕ) (t : ℕ) : Type 0 where
+  sizes : Sizes s n (actionsOf s)
   within : t ≤ n
   laid : Laid 1024 (tableOf s .first) next t
 
-start : {s next : List ℕ} {n m : ℕ} → Known s n m → next ≡ replicate 1024 0 → Inv s n m next 0
+start : {s next : List ℕ} {n : ℕ} → Accepted s n → next ≡ replicate 1024 0 → Inv s n next 0
 unfolding firsts
-start k e = record { sizes = known-sizes k; within = omega arith; laid = record { row = e } }
+start k e = record { sizes = accepted-sizes k; within = omega arith; laid = record { row = e } }
 
-again : {s next : List ℕ} {n m t x : ℕ} → Inv s n m next t → t < n → x ≡ firstOf s t → Inv s n m (set next t x) (t + 1)
-unfolding tableOf
+again : {s next : List ℕ} {n t x : ℕ} → Inv s n next t → t < n → x ≡ tableOf s .first t → Inv s n (set next t x) (t + 1)
 again v h e = record { sizes = v .sizes; within = omega arith; laid = laid-more (v .laid) (omega arith) e }
 
-done : {s next : List ℕ} {n m t : ℕ} → Inv s n m next t → n ≤ t → next ≡ filled 1024 (firsts (tableOf s .first) 0 n)
-done {s} {next} {n} {m} {t} v h =
+done : {s next : List ℕ} {n t : ℕ} → Inv s n next t → n ≤ t → next ≡ filled 1024 (firsts (tableOf s .first) 0 n)
+done {s} {next} {n} {t} v h =
     let e : t ≡ n = omega arith in
     v .laid .row ∙ ap (λ (k : ℕ). filled 1024 (firsts (tableOf s .first) 0 k)) e
 
 abbrev Inv-loop : tie.InvT-loop
-Inv-loop bytes n m next₀ t₀ next t = Inv bytes n m next t
+Inv-loop bytes n next₀ t₀ next t = Inv bytes n next t
 
 abbrev μ-loop : tie.MeasureT-loop
-μ-loop bytes n m next₀ t₀ next t = n - t
+μ-loop bytes n next₀ t₀ next t = n - t
 
 loop-holds : tie.Need-loop-holds Inv-loop μ-loop
 loop-holds c = start (c .before .pre .0) (c .before .pre .1)
 
-mul-word : tie.Need-mul-word Inv-loop μ-loop
-mul-word c = omega arith
-
-add-word : tie.Need-add-word Inv-loop μ-loop
-add-word c = omega arith
-
-word-requires : tie.Need-word-requires Inv-loop μ-loop
-word-requires c κs = omega arith
+first-requires : tie.Need-first-requires Inv-loop μ-loop
+first-requires c κs = search needs
 
 cast-next : tie.Need-cast-next Inv-loop μ-loop
 cast-next c = omega arith
@@ -66,7 +59,7 @@ loop-less : tie.Need-loop-less Inv-loop μ-loop
 loop-less c = omega arith
 
 loop-again : tie.Need-loop-again Inv-loop μ-loop
-loop-again c = again (c .before .before .loop .inv) (c .before .loop-test .taken) (c .word .ensures .value)
+loop-again c = again (c .before .before .loop .inv) (c .before .loop-test .taken) (c .first .ensures .value)
 
 returns : tie.Need-returns Inv-loop μ-loop
 returns c = done (c .before .loop .inv) (c .loop-test .left)
@@ -78,9 +71,7 @@ fill-next-spec =
     Inv-loop
     μ-loop
     loop-holds
-    mul-word
-    add-word
-    word-requires
+    first-requires
     cast-next
     mul-next
     element-write-next

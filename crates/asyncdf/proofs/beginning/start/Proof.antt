@@ -10,8 +10,8 @@ use Rattle.schedule.specs.Machine.{nobody}
 use Rattle.schedule.specs.Record.{filled, setOf}
 use Rattle.schedule.specs.Begin.{firsts, startState, startRun}
 use Rattle.schedule.specs.declared.Run.{Run}
-use Rattle.asyncdf.specs.Checks.{Known}
-use Rattle.asyncdf.proofs.Room.{known-sizes}
+use Rattle.soundness.specs.Checks.{Accepted}
+use Rattle.asyncdf.proofs.Laying.{accepted-sizes}
 use Rattle.asyncdf.proofs.beginning.start.Statement.{statement}
 use Rattle.asyncdf.proofs.beginning.start.Tie as tie
 
@@ -34,7 +34,7 @@ begun s p K table next =
       turns = 0;
     }
 
-is-start : {s table next : List ℕ} {n m : ℕ} (p K : ℕ) → Known s n m → table ≡ filled 36868 s → next ≡ filled 1024 (firsts (tableOf s .first) 0 n)
+is-start : {s table next : List ℕ} {n : ℕ} (p K : ℕ) → Accepted s n → table ≡ filled 36868 s → next ≡ filled 1024 (firsts (tableOf s .first) 0 n)
     → begun s p K table next ≡ startRun s p K
 unfolding startRun startState setOf
 is-start {s} p K k e d =
@@ -42,7 +42,7 @@ is-start {s} p K k e d =
     λ i. begun s p K (e i) (f i)
 
 copy-requires : tie.Need-copy-requires
-copy-requires c κs = (omega (arith, known-sizes (c .before .before .pre)), refl)
+copy-requires c κs = (omega (arith, accepted-sizes (c .before .before .pre)), refl)
 
 fill-next-requires : tie.Need-fill-next-requires
 fill-next-requires c κs = search needs
@@ -50,8 +50,8 @@ fill-next-requires c κs = search needs
 array-write-status : tie.Need-array-write-status
 array-write-status c = search needs
 
-cast-t16 : tie.Need-cast-t16
-cast-t16 c = omega (arith, known-sizes (c .before .before .before .before .before .pre))
+cast-t15 : tie.Need-cast-t15
+cast-t15 c = omega (arith, accepted-sizes (c .before .before .before .before .before .pre))
 
 returns : tie.Need-returns
 returns c =
@@ -61,4 +61,4 @@ returns c =
 
 pub start-spec : {M : Type 1} → statement M
 start-spec =
-    tie.close (tie.spec copy-requires fill-next-requires array-write-status cast-t16 returns)
+    tie.close (tie.spec copy-requires fill-next-requires array-write-status cast-t15 returns)

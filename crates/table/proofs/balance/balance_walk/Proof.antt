@@ -60,7 +60,7 @@ unfolding kindOf
 risen c =
     let d = c .before .before .before .before in
     sum-next alloc join _ _ (d .before .loop .inv .ready .rise-small) (d .loop-test .taken)
-    (c .before .before .before .code .ensures) (c .before .before .argument .ensures .value) (c .before .own-amount .ensures) (c .child-amount .ensures) (d .before .loop .inv .rise-is)
+    (c .before .before .before .code-at .ensures) (c .before .before .argument-at .ensures .value) (c .before .own-amount .ensures) (c .child-amount .ensures) (d .before .loop .inv .rise-is)
 
 fallen : (c : tie.After-child-amount2 Inv-loop μ-loop) →
     let d = c .before .before .before .before .before .before .before in
@@ -71,16 +71,16 @@ fallen c =
     let e = c .before .before in
     let d = e .before .before .before .before in
     sum-next free join _ _ (d .before .loop .inv .ready .fall-small) (d .loop-test .taken)
-    (e .before .before .before .code .ensures) (e .before .before .argument .ensures .value) (c .before .own-amount2 .ensures) (c .child-amount2 .ensures) (d .before .loop .inv .fall-is)
+    (e .before .before .before .code-at .ensures) (e .before .before .argument-at .ensures .value) (c .before .own-amount2 .ensures) (c .child-amount2 .ensures) (d .before .loop .inv .fall-is)
 
 loop-holds : tie.Need-loop-holds Inv-loop μ-loop
 loop-holds c = start (c .before .pre)
 
-code-requires : tie.Need-code-requires Inv-loop μ-loop
-code-requires c κs = search needs
+code-at-requires : tie.Need-code-at-requires Inv-loop μ-loop
+code-at-requires c κs = search needs
 
-argument-requires : tie.Need-argument-requires Inv-loop μ-loop
-argument-requires c κs = search needs
+argument-at-requires : tie.Need-argument-at-requires Inv-loop μ-loop
+argument-at-requires c κs = search needs
 
 own-amount-requires : tie.Need-own-amount-requires Inv-loop μ-loop
 own-amount-requires c κs = search needs
@@ -91,7 +91,7 @@ child-amount-requires c κs =
     let d = c .before .before .before in (
       omega arith,
       λ g. child-small (d .before .loop .inv .ready) (d .loop-test .taken)
-          (c .before .before .code .ensures) (c .before .argument .ensures .value) (ap kindOf g),
+          (c .before .before .code-at .ensures) (c .before .argument-at .ensures .value) (ap kindOf g),
     )
 
 add-rise : tie.Need-add-rise Inv-loop μ-loop
@@ -137,8 +137,8 @@ balance-walk-spec =
     Inv-loop
     μ-loop
     loop-holds
-    code-requires
-    argument-requires
+    code-at-requires
+    argument-at-requires
     own-amount-requires
     child-amount-requires
     add-rise

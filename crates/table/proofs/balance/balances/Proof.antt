@@ -55,8 +55,8 @@ start {s} {n} {m} r bytes p q =
 record Turn (s : List ℕ) (n m : ℕ) (rises falls : List ℕ) (lowest t u first count : ℕ) (body : List ℕ) : Type 0 where
   inv : Inv s n m rises falls lowest t
   next : suc u ≡ t
-  first-at : first ≡ firstOf s u
-  count-at : count ≡ countOf s u
+  first-at : first ≡ tableOf s .first u
+  count-at : count ≡ tableOf s .count u
   body-is : body ≡ bodyOf s u
 
 module _ {s : List ℕ} {n m : ℕ} {rises falls : List ℕ} {lowest t u first count : ℕ} {body : List ℕ} (w : Turn s n m rises falls lowest t u first count body) where
@@ -186,14 +186,14 @@ abbrev μ-loop : tie.MeasureT-loop
 turn : (c : tie.After-body-of Inv-loop μ-loop) →
     let d = c .before .before .before .before in
     let a = d .before .before .args in
-    Turn (now (a .table)) (a .n) (a .m) (d .loop .rises) (d .loop .falls) (d .loop .lowest) (d .loop .t) (d .loop .t - 1) (c .before .before .word .result) (c .before .word2 .result)
+    Turn (now (a .table)) (a .n) (a .m) (d .loop .rises) (d .loop .falls) (d .loop .lowest) (d .loop .t) (d .loop .t - 1) (c .before .before .first .result) (c .before .count .result)
     (now (c .body-of .result))
 turn c =
     record {
       inv = c .before .before .before .before .loop .inv;
       next = omega arith;
-      first-at = c .before .before .word .ensures .value;
-      count-at = c .before .word2 .ensures .value;
+      first-at = c .before .before .first .ensures .value;
+      count-at = c .before .count .ensures .value;
       body-is = c .body-of .ensures;
     }
 
@@ -205,23 +205,11 @@ loop-holds c =
 sub-t : tie.Need-sub-t Inv-loop μ-loop
 sub-t c = search needs
 
-mul-word : tie.Need-mul-word Inv-loop μ-loop
-mul-word c = search needs
+first-requires : tie.Need-first-requires Inv-loop μ-loop
+first-requires c κs = search needs
 
-add-word : tie.Need-add-word Inv-loop μ-loop
-add-word c = search needs
-
-word-requires : tie.Need-word-requires Inv-loop μ-loop
-word-requires c κs = search needs
-
-mul-word-2 : tie.Need-mul-word-2 Inv-loop μ-loop
-mul-word-2 c = search needs
-
-add-word-2 : tie.Need-add-word-2 Inv-loop μ-loop
-add-word-2 c = search needs
-
-word-requires-2 : tie.Need-word-requires-2 Inv-loop μ-loop
-word-requires-2 c κs = search needs
+count-requires : tie.Need-count-requires Inv-loop μ-loop
+count-requires c κs = search needs
 
 body-of-requires : tie.Need-body-of-requires Inv-loop μ-loop
 body-of-requires c κs =
@@ -285,12 +273,8 @@ balances-spec =
     μ-loop
     loop-holds
     sub-t
-    mul-word
-    add-word
-    word-requires
-    mul-word-2
-    add-word-2
-    word-requires-2
+    first-requires
+    count-requires
     body-of-requires
     balance-walk-requires
     mul-rises

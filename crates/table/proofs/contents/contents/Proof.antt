@@ -9,7 +9,7 @@ use borrow.Author.Needs.{needs}
 use borrow.Author.Tests.{eq-eqb, ne-eqb}
 use lib.Dec.{eqb}
 use Rattle.table.specs.Sum.{sumTo}
-use Rattle.table.specs.Format.{tableOf, threadsOf, actionsOf, firstOf, countOf}
+use Rattle.table.specs.Format.{tableOf, threadsOf, actionsOf}
 use Rattle.table.specs.Pass.{tryAt, tryFrom, tryPass, orElse, refusal}
 use Rattle.table.specs.Rules.{countsBelow, entryWrong, totalWrong, entriesPass, totalPass}
 use Rattle.table.specs.Steps.{Headed}
@@ -39,7 +39,7 @@ start h =
       remains = rw (h .threads) (tryFrom-all _ _);
     }
 
-module _ {s : List ℕ} {n m sum t first count : ℕ} (i : Inv s n m sum t) (h : t < n) (e : first ≡ firstOf s t) (d : count ≡ countOf s t) where
+module _ {s : List ℕ} {n m sum t first count : ℕ} (i : Inv s n m sum t) (h : t < n) (e : first ≡ tableOf s .first t) (d : count ≡ tableOf s .count t) where
   again : (not (eqb first sum) || eqb count 0) ≡ false → count < 65536 → Inv s n m (sum + count) (t + 1)
   unfolding tableOf tryAt entryWrong sumTo
   again w b =
@@ -84,23 +84,11 @@ abbrev μ-loop : tie.MeasureT-loop
 loop-holds : tie.Need-loop-holds Inv-loop μ-loop
 loop-holds c = start (c .before .pre)
 
-mul-word : tie.Need-mul-word Inv-loop μ-loop
-mul-word c = omega arith
+first-requires : tie.Need-first-requires Inv-loop μ-loop
+first-requires c κs = search needs
 
-add-word : tie.Need-add-word Inv-loop μ-loop
-add-word c = omega arith
-
-word-requires : tie.Need-word-requires Inv-loop μ-loop
-word-requires c κs = search needs
-
-mul-word-2 : tie.Need-mul-word-2 Inv-loop μ-loop
-mul-word-2 c = omega arith
-
-add-word-2 : tie.Need-add-word-2 Inv-loop μ-loop
-add-word-2 c = omega arith
-
-word-requires-2 : tie.Need-word-requires-2 Inv-loop μ-loop
-word-requires-2 c κs = search needs
+count-requires : tie.Need-count-requires Inv-loop μ-loop
+count-requires c κs = search needs
 
 entry-wrong-requires : tie.Need-entry-wrong-requires Inv-loop μ-loop
 entry-wrong-requires c κs = search needs
@@ -112,7 +100,7 @@ returns : tie.Need-returns Inv-loop μ-loop
 returns c =
     let d = c .before .before .before in
     c .refuse .ensures
-    ∙ stops (d .before .before .before .loop .inv) (d .before .before .loop-test .taken) (d .before .word .ensures .value) (d .word2 .ensures .value)
+    ∙ stops (d .before .before .before .loop .inv) (d .before .before .loop-test .taken) (d .before .first .ensures .value) (d .count .ensures .value)
     (sym (c .before .before .entry-wrong .ensures) ∙ c .before .if1 .taken)
 
 add-sum : tie.Need-add-sum Inv-loop μ-loop
@@ -127,9 +115,9 @@ loop-less c = omega arith
 loop-again : tie.Need-loop-again Inv-loop μ-loop
 loop-again c =
     let d = c .before .before in
-    again (d .before .before .before .loop .inv) (d .before .before .loop-test .taken) (d .before .word .ensures .value) (d .word2 .ensures .value)
+    again (d .before .before .before .loop .inv) (d .before .before .loop-test .taken) (d .before .first .ensures .value) (d .count .ensures .value)
     (sym (c .before .entry-wrong .ensures) ∙ c .if1 .left)
-    (d .word2 .ensures .small)
+    (d .count .ensures .small)
 
 refuse-requires-2 : tie.Need-refuse-requires-2 Inv-loop μ-loop
 refuse-requires-2 c κs = search needs
@@ -151,12 +139,8 @@ contents-spec =
     Inv-loop
     μ-loop
     loop-holds
-    mul-word
-    add-word
-    word-requires
-    mul-word-2
-    add-word-2
-    word-requires-2
+    first-requires
+    count-requires
     entry-wrong-requires
     refuse-requires
     returns

@@ -9,7 +9,7 @@ use borrow.Author.Tests.{eqb-true, eqb-false, eq-eqb, ne-eqb}
 use lib.Dec.{eqb}
 use lib.ListN.{length}
 use Rattle.table.specs.Sum.{pick, sumTo}
-use Rattle.table.specs.Format.{Kind, end, unknown, is, kind, kindOf, tableOf, threadsOf, countOf, bodiesOf, codeAt, argumentAt}
+use Rattle.table.specs.Format.{Kind, end, unknown, is, kind, kindOf, tableOf, threadsOf, bodiesFrom, bodiesOf, codeAt, argumentAt}
 use Rattle.table.specs.Pass.{tryAt, tryFrom, tryPass, refusal}
 use Rattle.table.specs.Rules.{firstPass, kindUnknown, argumentWrong, endMisplaced, argumentFits, differ, endOf, owner}
 use Rattle.table.specs.Steps.{Laid, Reached, Holding, formAt, foundAt}
@@ -17,7 +17,7 @@ use Rattle.table.specs.declared.Found.the-variants.{Nothing, At}
 use Rattle.table.proofs.Sizes.{Sizes, sizes}
 use Rattle.table.proofs.Trying.{tryFrom-next, tryFrom-here, tryFrom-last, tryFrom-all}
 use Rattle.table.proofs.Bodies.{first-is, owner-is}
-use Rattle.table.proofs.Parts.{bodies-length}
+use Rattle.table.proofs.Parts.{bodies-from, bodies-length}
 use Rattle.table.proofs.forms.first_pass.Statement.{statement}
 use Rattle.table.proofs.forms.first_pass.Tie as tie
 
@@ -55,9 +55,10 @@ record Inv (s actions : List ℕ) (n m own stop a : ℕ) : Type 0 where
   reached : a < m → Reached (tableOf s) own stop a
   remains : tryFrom (firstPass (tableOf s) .checks) a (m - a) ≡ tryPass (firstPass (tableOf s))
 
-start : {s actions : List ℕ} {n m stop : ℕ} → Laid s n m → actions ≡ bodiesOf s → stop ≡ countOf s 0 → Inv s actions n m 0 stop 0
+start : {s actions : List ℕ} {n m stop : ℕ} → Laid s n m → actions ≡ bodiesFrom s n → stop ≡ tableOf s .count 0 → Inv s actions n m 0 stop 0
 unfolding tableOf tryPass sumTo
-start {s} {n = n} {m = m} l p e =
+start {s} {actions} {n = n} {m = m} l b e =
+    let p : actions ≡ bodiesOf s = b ∙ bodies-from s n (l .headed .threads) in
     let z : Sizes s n m = sizes (l .headed) in
     let f : tableOf s .first 0 ≡ 0 = first-is (tableOf s) (l .contents) 0 (omega (arith, z .threads-low, l .headed .threads)) ∙ refl in
     record {
@@ -115,24 +116,22 @@ abbrev μ-loop : tie.MeasureT-loop
 μ-loop table n m actions span₀ a₀ span a = m - a
 
 bodies-requires : tie.Need-bodies-requires Inv-loop μ-loop
-bodies-requires c κs =
-    let d = c .before .pre .headed in
-    (d .threads, omega (arith, sizes d))
+bodies-requires c κs = search needs
 
-word-requires : tie.Need-word-requires Inv-loop μ-loop
-word-requires c κs = omega (arith, sizes (c .before .before .pre .headed))
+count-requires : tie.Need-count-requires Inv-loop μ-loop
+count-requires c κs = search needs
 
 loop-holds : tie.Need-loop-holds Inv-loop μ-loop
-loop-holds c = start (c .before .before .before .pre) (c .before .bodies .ensures) (c .word .ensures .value)
+loop-holds c = start (c .before .before .before .pre) (c .before .bodies .ensures) (c .count .ensures .value)
 
 span-at-requires : tie.Need-span-at-requires Inv-loop μ-loop
 span-at-requires c κs = (c .before .loop .inv .laid, c .before .loop .inv .reached (c .loop-test .taken))
 
-code-requires : tie.Need-code-requires Inv-loop μ-loop
-code-requires c κs = search needs
+code-at-requires : tie.Need-code-at-requires Inv-loop μ-loop
+code-at-requires c κs = search needs
 
-argument-requires : tie.Need-argument-requires Inv-loop μ-loop
-argument-requires c κs = search needs
+argument-at-requires : tie.Need-argument-at-requires Inv-loop μ-loop
+argument-at-requires c κs = search needs
 
 add-form-at : tie.Need-add-form-at Inv-loop μ-loop
 add-form-at c = omega arith
@@ -148,7 +147,7 @@ returns c =
     let d = c .before .before in
     c .refuse .ensures
     ∙ stops (d .before .before .before .before .before .before .loop .inv) (d .before .before .before .before .before .loop-test .taken) (d .before .before .before .before .span-at .ensures)
-    (d .before .before .before .code .ensures) (d .before .before .argument .ensures .value) (d .form-at .ensures) (c .before .if1 .taken)
+    (d .before .before .before .code-at .ensures) (d .before .before .argument-at .ensures .value) (d .form-at .ensures) (c .before .if1 .taken)
 
 add-a : tie.Need-add-a Inv-loop μ-loop
 add-a c = omega arith
@@ -160,7 +159,7 @@ loop-again : tie.Need-loop-again Inv-loop μ-loop
 loop-again c =
     let d = c .before in
     again (d .before .before .before .before .before .before .loop .inv) (d .before .before .before .before .before .loop-test .taken) (d .before .before .before .before .span-at .ensures)
-    (d .before .before .before .code .ensures) (d .before .before .argument .ensures .value) (d .form-at .ensures) (c .if1 .left)
+    (d .before .before .before .code-at .ensures) (d .before .before .argument-at .ensures .value) (d .form-at .ensures) (c .if1 .left)
 
 returns-2 : tie.Need-returns-2 Inv-loop μ-loop
 returns-2 c =
@@ -174,11 +173,11 @@ first-pass-spec =
     Inv-loop
     μ-loop
     bodies-requires
-    word-requires
+    count-requires
     loop-holds
     span-at-requires
-    code-requires
-    argument-requires
+    code-at-requires
+    argument-at-requires
     add-form-at
     form-at-requires
     refuse-requires

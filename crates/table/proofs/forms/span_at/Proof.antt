@@ -6,7 +6,7 @@ use native.Mathlib.Decide.{decLt}
 use native.Mathlib.Numerals.{add-one}
 use native.Mathlib.Omega.{arith}
 use borrow.Author.Needs.{needs}
-use Rattle.table.specs.Format.{tableOf, countOf}
+use Rattle.table.specs.Format.{tableOf}
 use Rattle.table.specs.Steps.{Laid, Reached, Holding}
 use Rattle.table.proofs.Sizes.{Sizes, sizes}
 use Rattle.table.proofs.Bodies.{count-pos, first-next, body-within, last-ends}
@@ -23,14 +23,14 @@ module _ {s : List ℕ} {n m own stop a : ℕ} (l : Laid s n m) (r : Reached (ta
           let e : suc own ≡ tableOf s .threads = omega (arith, r .thread) in
           absurd (omega (arith, last-ends (tableOf s) (l .contents) own e, r .stops, r .within))
 
-  -- enough for the reads and sums
+  -- enough for the sums
   room : Sizes s n m × (own + 1 < n) × (stop ≤ 8192)
   unfolding tableOf
   room =
       let z : Sizes s n m = sizes (l .headed) in
       (z, omega (arith, next, l .headed .threads), omega (arith, z .actions-high, l .headed .actions, body-within (tableOf s) (l .contents) own (r .thread), r .stops))
 
-  holds : {count : ℕ} → count ≡ countOf s (own + 1) → Holding (tableOf s) (own + 1) (stop + count) a
+  holds : {count : ℕ} → count ≡ tableOf s .count (own + 1) → Holding (tableOf s) (own + 1) (stop + count) a
   unfolding tableOf
   holds e =
       let k : tableOf s .first (own + 1) ≡ stop = rw (add-one own) (first-next (tableOf s) (l .contents) own next ∙ sym (r .stops)) in
@@ -47,28 +47,22 @@ returns c = search needs
 add-next : tie.Need-add-next
 add-next c = omega (arith, room (c .before .before .pre .0) (c .before .before .pre .1) (c .if1 .left))
 
-mul-word : tie.Need-mul-word
-mul-word c = omega (arith, room (c .before .before .pre .0) (c .before .before .pre .1) (c .if1 .left))
+count-requires : tie.Need-count-requires
+count-requires c κs = search needs
 
-add-word : tie.Need-add-word
-add-word c = omega (arith, room (c .before .before .pre .0) (c .before .before .pre .1) (c .if1 .left))
-
-word-requires : tie.Need-word-requires
-word-requires c κs = omega (arith, room (c .before .before .pre .0) (c .before .before .pre .1) (c .if1 .left))
-
-add-t13 : tie.Need-add-t13
-add-t13 c =
+add-t11 : tie.Need-add-t11
+add-t11 c =
     omega (
       arith,
       room (c .before .before .before .pre .0) (c .before .before .before .pre .1) (c .before .if1 .left),
-      c .word .ensures .small,
+      c .count .ensures .small,
     )
 
 returns-2 : tie.Need-returns-2
 returns-2 c =
     let d = c .before .before .before in
-    holds (d .pre .0) (d .pre .1) (c .before .if1 .left) (c .word .ensures .value)
+    holds (d .pre .0) (d .pre .1) (c .before .if1 .left) (c .count .ensures .value)
 
 pub span-at-spec : {M : Type 1} → statement M
 span-at-spec =
-    tie.close (tie.spec returns add-next mul-word add-word word-requires add-t13 returns-2)
+    tie.close (tie.spec returns add-next count-requires add-t11 returns-2)

@@ -38,11 +38,11 @@ refuse-requires c κs = search needs
 returns : tie.Need-returns
 returns c = c .refuse .ensures ∙ sym (short (now (c .before .before .before .args .table)) (c .before .if1 .taken))
 
-word-requires : tie.Need-word-requires
-word-requires c κs = search needs
+threads-requires : tie.Need-threads-requires
+threads-requires c κs = search needs
 
-word-requires-2 : tie.Need-word-requires-2
-word-requires-2 c κs = search needs
+actions-requires : tie.Need-actions-requires
+actions-requires c κs = search needs
 
 out-of-range-requires : tie.Need-out-of-range-requires
 out-of-range-requires c κs = search needs
@@ -53,7 +53,7 @@ refuse-requires-2 c κs = search needs
 returns-2 : tie.Need-returns-2
 returns-2 c =
     let d = c .before .before .before in
-    c .refuse2 .ensures ∙ sym (ranged (now (d .before .before .before .before .args .table)) _ _ (d .before .before .if1 .left) (d .before .word .ensures .value) (d .word2 .ensures .value)
+    c .refuse2 .ensures ∙ sym (ranged (now (d .before .before .before .before .args .table)) _ _ (d .before .before .if1 .left) (d .before .threads .ensures .value) (d .actions .ensures .value)
     (sym (c .before .before .out-of-range .ensures) ∙ c .before .if2 .taken))
 
 mul-if3 : tie.Need-mul-if3
@@ -74,14 +74,14 @@ refuse-requires-3 c κs = search needs
 returns-3 : tie.Need-returns-3
 returns-3 c =
     let d = c .before .before .before .before in
-    c .refuse3 .ensures ∙ sym (sized (now (d .before .before .before .before .args .table)) _ _ (d .before .before .if1 .left) (d .before .word .ensures .value) (d .word2 .ensures .value)
+    c .refuse3 .ensures ∙ sym (sized (now (d .before .before .before .before .args .table)) _ _ (d .before .before .if1 .left) (d .before .threads .ensures .value) (d .actions .ensures .value)
     (sym (c .before .before .before .out-of-range .ensures) ∙ c .before .before .if2 .left)
     (c .before .if3 .taken))
 
 returns-4 : tie.Need-returns-4
 returns-4 c =
     let d = c .before .before .before in
-    sym (passed (now (d .before .before .before .before .args .table)) _ _ (d .before .before .if1 .left) (d .before .word .ensures .value) (d .word2 .ensures .value)
+    sym (passed (now (d .before .before .before .before .args .table)) _ _ (d .before .before .if1 .left) (d .before .threads .ensures .value) (d .actions .ensures .value)
     (sym (c .before .before .out-of-range .ensures) ∙ c .before .if2 .left)
     (c .if3 .left))
 
@@ -91,8 +91,8 @@ head-spec =
     (tie.spec
     refuse-requires
     returns
-    word-requires
-    word-requires-2
+    threads-requires
+    actions-requires
     out-of-range-requires
     refuse-requires-2
     returns-2

@@ -5,12 +5,13 @@ use Prim.Native.Nat.{ℕ, suc, _+_, _-_, _*_, _≤_, _<_}
 use mathlib.Core.List.{List}
 use mathlib.Core.Bool.{false}
 use native.Mathlib.Omega.{arith}
+use borrow.Author.Needs.{needs}
 use borrow.Author.Tests.{ne-eqb}
 use borrow.Fn.Kinds.{In}
 use borrow.Fn.PlainCycle.{Measures, is as equals, falls, and}
 use denote.Ref.{now}
 use lib.ListN.{length, getD, set, length-drop}
-use Rattle.table.specs.Format.{fork, join, kindOf, is, kind, codeAt, argumentAt, countOf, bodyOf, tableOf}
+use Rattle.table.specs.Format.{fork, join, kindOf, is, kind, codeAt, argumentAt, bodyOf, tableOf}
 use Rattle.table.specs.Level.{level}
 use Rattle.table.specs.Steps.{Nested, Starts, EndLevels, Walked, nextLevel}
 use Rattle.table.proofs.Sizes.{Sizes, sizes}
@@ -29,9 +30,9 @@ use Rattle.table.proofs.level.walk.Kinds as walk-kinds
 use Rattle.table.proofs.level.+end_level+walk.Lts-walk as walk-lts
 use Rattle.table.proofs.read.body_of.Reads as body-of-reads
 use Rattle.table.proofs.level.next_level.Reads as next-level-reads
-use Rattle.table.proofs.read.argument.Reads as argument-reads
-use Rattle.table.proofs.read.code.Reads as code-reads
-use Rattle.table.proofs.read.word.Reads as word-reads
+use Rattle.table.proofs.read.argument_at.Reads as argument-at-reads
+use Rattle.table.proofs.read.code_at.Reads as code-at-reads
+use Rattle.table.proofs.read.count.Reads as count-reads
 use Rattle.table.proofs.level.+end_level+walk.{statement}
 use Rattle.table.proofs.level.+end_level+walk.Tie.{close}
 
@@ -40,7 +41,7 @@ record Inv (s : List ℕ) (n m t : ℕ) (body : List ℕ) (count : ℕ) (ends₀
   sizes : Sizes s n m
   thread : t < n
   body-is : body ≡ bodyOf s t
-  count-is : count ≡ countOf s t
+  count-is : count ≡ tableOf s .count t
   within : i ≤ count
   room : 4 * count ≤ length body
   walking : Walking (tableOf s) t ends₀ ends last i
@@ -56,8 +57,9 @@ start-pos {s} {n} {m} {t} h =
     let w : Nested s n m = h .nested in
     omega (arith, h .level, by-rules w level-pos (tableOf s .first t) (first-within (tableOf s) (w .formed .laid .contents) t (in-threads w (h .thread))))
 
-begin : {s : List ℕ} {n m t : ℕ} {body : List ℕ} {count start : ℕ} {ends : List ℕ} → Starts s n m t start → (body ≡ bodyOf s t) × (count ≡ countOf s t)
+begin : {s : List ℕ} {n m t : ℕ} {body : List ℕ} {count start : ℕ} {ends : List ℕ} → Starts s n m t start → (body ≡ bodyOf s t) × (count ≡ tableOf s .count t)
     → EndLevels (tableOf s) ends → Inv s n m t body count ends ends (start - 1) 0
+unfolding tableOf
 begin {s} {n} {m} h e known =
     let w : Nested s n m = h .nested in
     record {
@@ -192,30 +194,24 @@ abbrev walk-below : ℕ → In 3 walk-kinds.ps
 walk-below t = and 3 walk-kinds.ps (falls 3 walk-kinds.ps _<_ μ-walk t) walk.Pre
 
 abbrev end-level-calls : ℕ → end-level-lts.Claims
-end-level-calls t = (body-of-reads.Asked, body-of-reads.Learnt, word-reads.Asked, word-reads.Learnt, walk-below t, walk.Post)
+end-level-calls t = (body-of-reads.Asked, body-of-reads.Learnt, count-reads.Asked, count-reads.Learnt, walk-below t, walk.Post)
 
 abbrev walk-calls : ℕ → walk-lts.Claims
 walk-calls t =
-    (code-reads.Asked, code-reads.Learnt, argument-reads.Asked, argument-reads.Learnt, next-level-reads.Asked, next-level-reads.Learnt, end-level-below t, end-level.Post)
+    (code-at-reads.Asked, code-at-reads.Learnt, argument-at-reads.Asked, argument-at-reads.Learnt, next-level-reads.Asked, next-level-reads.Learnt, end-level-below t, end-level.Post)
 
 end-level-body-of-requires : (t : ℕ) → end-level-lts.Need-body-of-requires (end-level-calls t) (end-level-at t) end-level.Post
 end-level-body-of-requires t c κs =
     let h = c .before .pre .1 .0 in
     body-there (h .nested .formed .laid) (h .thread)
 
-end-level-mul-word : (t : ℕ) → end-level-lts.Need-mul-word (end-level-calls t) (end-level-at t) end-level.Post
-end-level-mul-word t c = omega (arith, sizes (c .before .before .pre .1 .0 .nested .formed .laid .headed))
-
-end-level-add-word : (t : ℕ) → end-level-lts.Need-add-word (end-level-calls t) (end-level-at t) end-level.Post
-end-level-add-word t c = omega (arith, sizes (c .before .before .pre .1 .0 .nested .formed .laid .headed))
-
-end-level-word-requires : (t : ℕ) → end-level-lts.Need-word-requires (end-level-calls t) (end-level-at t) end-level.Post
-end-level-word-requires t c κs = omega (arith, sizes (c .before .before .pre .1 .0 .nested .formed .laid .headed))
+end-level-count-requires : (t : ℕ) → end-level-lts.Need-count-requires (end-level-calls t) (end-level-at t) end-level.Post
+end-level-count-requires t c κs = search needs
 
 end-level-walk-requires : (t : ℕ) → end-level-lts.Need-walk-requires (end-level-calls t) (end-level-at t) end-level.Post
 end-level-walk-requires t c κs =
     let d = c .before .before .before .before in
-    (less _ _ _ (d .pre .0) (omega arith), (d .pre .1 .0, ((c .before .before .body-of .ensures, c .before .word .ensures .value), d .pre .1 .1)))
+    (less _ _ _ (d .pre .0) (omega arith), (d .pre .1 .0, ((c .before .before .body-of .ensures, c .before .count .ensures .value), d .pre .1 .1)))
 
 end-level-returns : (t : ℕ) → end-level-lts.Need-returns (end-level-calls t) (end-level-at t) end-level.Post
 end-level-returns t c = c .walk .ensures
@@ -226,16 +222,16 @@ walk-Inv-loop table n m t body count start ends₀ last₀ i₀ ends last i = In
 abbrev walk-μ-loop : walk-lts.MeasureT-loop
 walk-μ-loop table n m t body count start ends₀ last₀ i₀ ends last i = count - i
 
-turn : (t : ℕ) (c : walk-lts.After-argument (walk-calls t) (walk-at t) walk.Post walk-Inv-loop walk-μ-loop) →
+turn : (t : ℕ) (c : walk-lts.After-argument-at (walk-calls t) (walk-at t) walk.Post walk-Inv-loop walk-μ-loop) →
     let f = c .before .before .before in
     let a = f .before .before .before .args in
-    Turn (now (a .table)) (a .n) (a .m) (a .t) (now (a .body)) (a .count) (now (a .ends)) (f .loop .ends) (f .loop .last) (f .loop .i) (c .before .code .result) (c .argument .result)
+    Turn (now (a .table)) (a .n) (a .m) (a .t) (now (a .body)) (a .count) (now (a .ends)) (f .loop .ends) (f .loop .last) (f .loop .i) (c .before .code-at .result) (c .argument-at .result)
 turn t c =
     record {
       inv = c .before .before .before .loop .inv;
       taken = c .before .before .loop-test .taken;
-      code = c .before .code .ensures;
-      argument = c .argument .ensures .value;
+      code = c .before .code-at .ensures;
+      argument = c .argument-at .ensures .value;
     }
 
 walk-sub-last : (t : ℕ) → walk-lts.Need-sub-last (walk-calls t) (walk-at t) walk.Post walk-Inv-loop walk-μ-loop
@@ -246,11 +242,11 @@ walk-loop-holds t c =
     let d = c .before .before in
     begin (d .pre .1 .0) (d .pre .1 .1 .0) (d .pre .1 .1 .1)
 
-walk-code-requires : (t : ℕ) → walk-lts.Need-code-requires (walk-calls t) (walk-at t) walk.Post walk-Inv-loop walk-μ-loop
-walk-code-requires t c κs = omega arith
+walk-code-at-requires : (t : ℕ) → walk-lts.Need-code-at-requires (walk-calls t) (walk-at t) walk.Post walk-Inv-loop walk-μ-loop
+walk-code-at-requires t c κs = omega arith
 
-walk-argument-requires : (t : ℕ) → walk-lts.Need-argument-requires (walk-calls t) (walk-at t) walk.Post walk-Inv-loop walk-μ-loop
-walk-argument-requires t c κs = omega arith
+walk-argument-at-requires : (t : ℕ) → walk-lts.Need-argument-at-requires (walk-calls t) (walk-at t) walk.Post walk-Inv-loop walk-μ-loop
+walk-argument-at-requires t c κs = omega arith
 
 walk-next-level-requires : (t : ℕ) → walk-lts.Need-next-level-requires (walk-calls t) (walk-at t) walk.Post walk-Inv-loop walk-μ-loop
 walk-next-level-requires t c κs = ready (turn t (c .before))
@@ -269,7 +265,7 @@ walk-end-level-requires t c κs =
 
 -- a child's number is an index
 walk-child : (t : ℕ) (c : walk-lts.After-end-level (walk-calls t) (walk-at t) walk.Post walk-Inv-loop walk-μ-loop)
-    → c .before .before .before .before .before .argument .result < 1024
+    → c .before .before .before .before .before .argument-at .result < 1024
 walk-child t c =
     let w = turn t (c .before .before .before .before .before) in
     omega (arith, w .inv .sizes, child w (c .before .before .before .next-level .ensures) (c .before .before .if1 .taken))
@@ -301,9 +297,7 @@ pub +end-level+walk-spec : {M : Type 1} → statement M
     (end-level-at t)
     end-level.Post
     (end-level-body-of-requires t)
-    (end-level-mul-word t)
-    (end-level-add-word t)
-    (end-level-word-requires t)
+    (end-level-count-requires t)
     (end-level-walk-requires t)
     (end-level-returns t))
     λ t. walk-lts.spec (walk-calls t)
@@ -313,8 +307,8 @@ pub +end-level+walk-spec : {M : Type 1} → statement M
     walk-μ-loop
     (walk-sub-last t)
     (walk-loop-holds t)
-    (walk-code-requires t)
-    (walk-argument-requires t)
+    (walk-code-at-requires t)
+    (walk-argument-at-requires t)
     (walk-next-level-requires t)
     (walk-add-i t)
     (walk-add-end-level t)

@@ -5,8 +5,9 @@ use Prim.Native.Nat.{ℕ, _+_, _-_, _*_, _<_, _≤_}
 use mathlib.Core.List.{List}
 use mathlib.Core.Bool.{Bool, false}
 use native.Mathlib.Omega.{arith}
+use borrow.Author.Needs.{needs}
 use lib.ListN.{length, getD, replicate, drop, length-drop, length-replicate, drop-of-length-le}
-use Rattle.table.specs.Format.{fork, kindOf, tableOf, kind, codeAt, argumentAt, actionsOf, bodiesOf}
+use Rattle.table.specs.Format.{fork, kindOf, tableOf, kind, codeAt, argumentAt, actionsOf, bodiesFrom, bodiesOf}
 use Rattle.table.specs.Pass.{tryFrom, tryPass, refusal}
 use Rattle.table.specs.Rules.{secondPass, forkedBelow}
 use Rattle.table.specs.Steps.{Formed, nest, nestAt, NestReady, NestDone}
@@ -16,7 +17,7 @@ use Rattle.table.proofs.Tests.{no-way}
 use Rattle.table.proofs.Trying.{tryFrom-next, tryFrom-here, tryFrom-last, tryFrom-all}
 use Rattle.table.proofs.Sizes.{Sizes, sizes}
 use Rattle.table.proofs.Bodies.{fork-below}
-use Rattle.table.proofs.Parts.{bodies-length}
+use Rattle.table.proofs.Parts.{bodies-from, bodies-length}
 use Rattle.table.proofs.Stack.{Stacked, stacked-first, stacked-room, stacked-stops, stacked-passes, stacked-next}
 use Rattle.table.proofs.nest.second_pass.Statement.{statement}
 use Rattle.table.proofs.nest.second_pass.Tie as tie
@@ -32,10 +33,11 @@ record Inv (s actions : List ℕ) (n m : ℕ) (forked : List Bool) (stack : List
   before : Stacked (tableOf s) a (drop top stack) forked
   remains : tryFrom (secondPass (tableOf s) .checks) a (m - a) ≡ tryPass (secondPass (tableOf s))
 
-start : {s actions : List ℕ} {n m : ℕ} {forked : List Bool} → Formed s n m → actions ≡ bodiesOf s → forked ≡ replicate 1024 false
+start : {s actions : List ℕ} {n m : ℕ} {forked : List Bool} → Formed s n m → actions ≡ bodiesFrom s n → forked ≡ replicate 1024 false
     → Inv s actions n m forked (replicate 1024 0) 1024 0
 unfolding tableOf tryPass
-start {s} h p e =
+start {s} {actions} {n} h b e =
+    let p : actions ≡ bodiesOf s = b ∙ bodies-from s n (h .laid .headed .threads) in
     let l : length {A = ℕ} (replicate 1024 0) ≡ 1024 = length-replicate {A = ℕ} 1024 0 in
     record {
       sizes = sizes (h .laid .headed);
@@ -118,25 +120,23 @@ abbrev μ-loop : tie.MeasureT-loop
 μ-loop table n m forked₀ actions stack₀ top₀ a₀ forked stack top a = m - a
 
 bodies-requires : tie.Need-bodies-requires Inv-loop μ-loop
-bodies-requires c κs =
-    let d = c .before .pre .0 .laid .headed in
-    (d .threads, omega (arith, sizes d))
+bodies-requires c κs = search needs
 
 loop-holds : tie.Need-loop-holds Inv-loop μ-loop
 loop-holds c =
     let d = c .before .before in
     start (d .pre .0) (c .bodies .ensures) (d .pre .1)
 
-code-requires : tie.Need-code-requires Inv-loop μ-loop
-code-requires c κs = omega arith
+code-at-requires : tie.Need-code-at-requires Inv-loop μ-loop
+code-at-requires c κs = omega arith
 
-argument-requires : tie.Need-argument-requires Inv-loop μ-loop
-argument-requires c κs = omega arith
+argument-at-requires : tie.Need-argument-at-requires Inv-loop μ-loop
+argument-at-requires c κs = omega arith
 
 nest-at-requires : tie.Need-nest-at-requires Inv-loop μ-loop
 nest-at-requires c κs =
     let d = c .before .before .before in
-    ready (d .before .before .loop .inv) (d .before .loop-test .taken) (d .code .ensures) (c .before .before .argument .ensures .value)
+    ready (d .before .before .loop .inv) (d .before .loop-test .taken) (d .code-at .ensures) (c .before .before .argument-at .ensures .value)
 
 refuse-requires : tie.Need-refuse-requires Inv-loop μ-loop
 refuse-requires c κs = omega (arith, c .before .before .before .before .before .before .before .before .loop .inv .sizes)
@@ -146,7 +146,7 @@ returns c =
     let d = c .before .before .before in
     let f = d .before .before .before .before in (
       c .refuse .ensures
-          ∙ stops (f .before .before .loop .inv) (f .before .loop-test .taken) (f .code .ensures) (d .before .before .before .argument .ensures .value)
+          ∙ stops (f .before .before .loop .inv) (f .before .loop-test .taken) (f .code-at .ensures) (d .before .before .before .argument-at .ensures .value)
           (d .nest-at .ensures) (c .before .if1 .taken),
       refused (c .refuse .ensures),
     )
@@ -161,7 +161,7 @@ loop-again : tie.Need-loop-again Inv-loop μ-loop
 loop-again c =
     let d = c .before .before in
     let f = d .before .before .before .before in
-    again (f .before .before .loop .inv) (f .before .loop-test .taken) (f .code .ensures) (d .before .before .before .argument .ensures .value)
+    again (f .before .before .loop .inv) (f .before .loop-test .taken) (f .code-at .ensures) (d .before .before .before .argument-at .ensures .value)
     (d .nest-at .ensures) (c .if1 .left)
 
 returns-2 : tie.Need-returns-2 Inv-loop μ-loop
@@ -177,8 +177,8 @@ second-pass-spec =
     μ-loop
     bodies-requires
     loop-holds
-    code-requires
-    argument-requires
+    code-at-requires
+    argument-at-requires
     nest-at-requires
     refuse-requires
     returns

@@ -55,11 +55,11 @@ abbrev μ-loop : tie.MeasureT-loop
 μ-loop body count rises falls peaks rise₀ fall₀ peak₀ i₀ rise fall peak i = count - i
 
 -- what the calls of an action give: a child's number, and the two sums after it
-child-index : (c : tie.After-argument Inv-loop μ-loop) → c .before .code .result ≡ 4 → c .argument .result < 1024
+child-index : (c : tie.After-argument-at Inv-loop μ-loop) → c .before .code-at .result ≡ 4 → c .argument-at .result < 1024
 unfolding kindOf
 child-index c e =
     let d = c .before .before in
-    child-small (d .before .loop .inv .ready) (d .loop-test .taken) (c .before .code .ensures) (c .argument .ensures .value) (rw e)
+    child-small (d .before .loop .inv .ready) (d .loop-test .taken) (c .before .code-at .ensures) (c .argument-at .ensures .value) (rw e)
 
 risen-next : (c : tie.After-child-amount2 Inv-loop μ-loop)
     → Summed (amountAt alloc fork (now (c .before .before .before .before .before .before .before .before .before .args .body))
@@ -70,7 +70,7 @@ unfolding kindOf
 risen-next c =
     let a = c .before .before .before .before in
     let d = a .before .before in
-    sum-next alloc fork _ _ (d .before .loop .inv .ready .rise-small) (d .loop-test .taken) (a .before .code .ensures) (a .argument .ensures .value)
+    sum-next alloc fork _ _ (d .before .loop .inv .ready .rise-small) (d .loop-test .taken) (a .before .code-at .ensures) (a .argument-at .ensures .value)
     (c .before .own-amount .ensures) (c .child-amount2 .ensures) (d .before .loop .inv .risen)
 
 fallen-next : (c : tie.After-child-amount3 Inv-loop μ-loop)
@@ -82,17 +82,17 @@ unfolding kindOf
 fallen-next c =
     let a = c .before .before .before .before .before .before in
     let d = a .before .before in
-    sum-next free fork _ _ (d .before .loop .inv .ready .fall-small) (d .loop-test .taken) (a .before .code .ensures) (a .argument .ensures .value)
+    sum-next free fork _ _ (d .before .loop .inv .ready .fall-small) (d .loop-test .taken) (a .before .code-at .ensures) (a .argument-at .ensures .value)
     (c .before .own-amount2 .ensures) (c .child-amount3 .ensures) (d .before .loop .inv .fallen)
 
 loop-holds : tie.Need-loop-holds Inv-loop μ-loop
 loop-holds c = start (c .before .pre .0) (c .before .pre .1)
 
-code-requires : tie.Need-code-requires Inv-loop μ-loop
-code-requires c κs = omega arith
+code-at-requires : tie.Need-code-at-requires Inv-loop μ-loop
+code-at-requires c κs = omega arith
 
-argument-requires : tie.Need-argument-requires Inv-loop μ-loop
-argument-requires c κs = omega arith
+argument-at-requires : tie.Need-argument-at-requires Inv-loop μ-loop
+argument-at-requires c κs = omega arith
 
 sub-larger : tie.Need-sub-larger Inv-loop μ-loop
 sub-larger c = held (c .before .before .before .loop .inv)
@@ -104,7 +104,7 @@ add-larger : tie.Need-add-larger Inv-loop μ-loop
 unfolding kindOf
 add-larger c =
     let d = c .before .before .before in
-    record { fits = top-small (d .before .loop .inv) (d .loop-test .taken) (c .before .before .code .ensures) (c .before .argument .ensures .value) (c .child-amount .ensures) }
+    record { fits = top-small (d .before .loop .inv) (d .loop-test .taken) (c .before .before .code-at .ensures) (c .before .argument-at .ensures .value) (c .child-amount .ensures) }
 
 larger-requires : tie.Need-larger-requires Inv-loop μ-loop
 larger-requires c κs = search needs
@@ -151,7 +151,7 @@ loop-again c =
       within = omega arith;
       risen = rw add-one (risen-next (c .before .before) .value);
       fallen = rw add-one (fallen-next c .value);
-      highest = top-next v (a .before .code .ensures) (a .argument .ensures .value) (c .before .before .before .before .before .child-amount .ensures) (c .before .before .before .before .larger .ensures);
+      highest = top-next v (a .before .code-at .ensures) (a .argument-at .ensures .value) (c .before .before .before .before .before .child-amount .ensures) (c .before .before .before .before .larger .ensures);
     }
 
 returns : tie.Need-returns Inv-loop μ-loop
@@ -166,8 +166,8 @@ peak-walk-spec =
     Inv-loop
     μ-loop
     loop-holds
-    code-requires
-    argument-requires
+    code-at-requires
+    argument-at-requires
     sub-larger
     child-amount-requires
     add-larger

@@ -5,7 +5,7 @@ use mathlib.Core.List.{List}
 use native.Mathlib.Omega.{arith}
 use lib.ListN.{length, getD, set}
 use Rattle.table.specs.Sum.{greatestTo}
-use Rattle.table.specs.Format.{fork, tableOf, countOf, bodyOf}
+use Rattle.table.specs.Format.{fork, tableOf, bodyOf}
 use Rattle.table.specs.Rules.{allocOf, freeOf, whole}
 use Rattle.table.specs.Serial.{S1}
 use Rattle.table.specs.Steps.{Headed, Kept, Filled, WalkReady, PeaksReady, topOf}
@@ -46,7 +46,7 @@ module _ {s : List ℕ} {n m : ℕ} {rises falls peaks : List ℕ} {t u : ℕ} (
   later : Filled (tableOf s) (peakAt (tableOf s)) peaks (suc u)
   later = rw p (v .peaking)
 
-  module _ {l : List ℕ} {count : ℕ} (b : l ≡ bodyOf s u) (d : count ≡ countOf s u) where
+  module _ {l : List ℕ} {count : ℕ} (b : l ≡ bodyOf s u) (d : count ≡ tableOf s .count u) where
     ready : WalkReady fork l count rises falls
     unfolding tableOf
     ready = rw (b, d) (walk-ready s n m (v .kept) (v .bytes) rises falls peaks (v .rising) (v .falling) u (omega arith) later)
@@ -93,21 +93,15 @@ body-of-requires c κs =
     let v = c .before .loop .inv in
     body-there (v .kept .nested .formed .laid) (omega (arith, v .within))
 
-mul-word : tie.Need-mul-word Inv-loop μ-loop
-mul-word c = omega arith
-
-add-word : tie.Need-add-word Inv-loop μ-loop
-add-word c = omega arith
-
-word-requires : tie.Need-word-requires Inv-loop μ-loop
-word-requires c κs = omega arith
+count-requires : tie.Need-count-requires Inv-loop μ-loop
+count-requires c κs = omega arith
 
 peak-walk-requires : tie.Need-peak-walk-requires Inv-loop μ-loop
 peak-walk-requires c κs =
     let w = c .before in
     let a = w .before .before .before in (
-      ready (a .loop .inv) (omega arith) (w .before .body-of .ensures) (w .word .ensures .value),
-      low (a .loop .inv) (omega arith) (w .before .body-of .ensures) (w .word .ensures .value),
+      ready (a .loop .inv) (omega arith) (w .before .body-of .ensures) (w .count .ensures .value),
+      low (a .loop .inv) (omega arith) (w .before .body-of .ensures) (w .count .ensures .value),
     )
 
 mul-peaks : tie.Need-mul-peaks Inv-loop μ-loop
@@ -123,7 +117,7 @@ loop-again : tie.Need-loop-again Inv-loop μ-loop
 loop-again c =
     let w = c .before .before in
     let a = w .before .before .before in
-    again (a .loop .inv) (omega arith) (w .before .body-of .ensures) (w .word .ensures .value) (c .peak-walk .ensures)
+    again (a .loop .inv) (omega arith) (w .before .body-of .ensures) (w .count .ensures .value) (c .peak-walk .ensures)
 
 array-read-result : tie.Need-array-read-result Inv-loop μ-loop
 array-read-result c = omega arith
@@ -140,9 +134,7 @@ serial-peak-spec =
     loop-holds
     sub-t
     body-of-requires
-    mul-word
-    add-word
-    word-requires
+    count-requires
     peak-walk-requires
     mul-peaks
     array-write-peaks

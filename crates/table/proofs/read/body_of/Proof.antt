@@ -6,13 +6,14 @@ use borrow.Author.Needs.{needs}
 use denote.Ref.{now}
 use lib.ListN.{length, take, drop}
 use lib.Seq.{drop-drop}
-use Rattle.table.specs.Format.{threadsOf, firstOf, bodyOf}
+use Rattle.table.specs.Format.{threadsOf, firstOf, bodyOf, tableOf}
 use Rattle.table.proofs.Parts.{rest-part}
 use Rattle.table.proofs.read.body_of.Statement.{statement}
 use Rattle.table.proofs.read.body_of.Tie as tie
 
-all-left : (s : List ℕ) (n t first : ℕ) → n ≡ threadsOf s → first ≡ firstOf s t
+all-left : (s : List ℕ) (n t first : ℕ) → n ≡ threadsOf s → first ≡ tableOf s .first t
     → take (length s - (4 + 4 * n + 4 * first)) (drop (4 + 4 * n + 4 * first) s) ≡ bodyOf s t
+unfolding tableOf
 all-left s n t first e d =
     rest-part s (4 + 4 * n + 4 * first) ∙ rw (e, d) (sym (drop-drop (4 * firstOf s t) (4 + 4 * threadsOf s) s))
 
@@ -22,14 +23,8 @@ mul-start c = search needs
 add-start : tie.Need-add-start
 add-start c = search needs
 
-mul-word : tie.Need-mul-word
-mul-word c = search needs
-
-add-word : tie.Need-add-word
-add-word c = search needs
-
-word-requires : tie.Need-word-requires
-word-requires c κs = search needs
+first-requires : tie.Need-first-requires
+first-requires c κs = search needs
 
 mul-start-2 : tie.Need-mul-start-2
 mul-start-2 c = search needs
@@ -49,7 +44,7 @@ part-result-end c = search needs
 returns : tie.Need-returns
 returns c =
     let d = c .before .before .before in
-    all-left (now (d .args .table)) _ _ _ (d .pre .0) (c .before .word .ensures .value)
+    all-left (now (d .args .table)) _ _ _ (d .pre .0) (c .before .first .ensures .value)
 
 pub body-of-spec : {M : Type 1} → statement M
 body-of-spec =
@@ -57,9 +52,7 @@ body-of-spec =
     (tie.spec
     mul-start
     add-start
-    mul-word
-    add-word
-    word-requires
+    first-requires
     mul-start-2
     add-start-2
     sub-result

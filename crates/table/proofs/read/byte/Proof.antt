@@ -1,18 +1,19 @@
--- `table::read::byte` meets its contract: an element of a slice of bytes is below 256.
-use native.Mathlib.Omega.{arith}
-use mathlib.Core.Path.{refl}
+-- `table::read::byte` meets its contract: past a list's end stands the default.
+use mathlib.Core.Path.{sym}
 use borrow.Author.Needs.{needs}
+use denote.Ref.{now}
+use lib.ListN.{List·getD-eq-default}
 use Rattle.table.proofs.read.byte.Statement.{statement}
 use Rattle.table.proofs.read.byte.Tie as tie
 
 shared-slice-read-result : tie.Need-shared-slice-read-result
 shared-slice-read-result c = search needs
 
-cast-result : tie.Need-cast-result
-cast-result c = omega (arith, c .shared-slice-known .given (c .before .args .i))
-
 returns : tie.Need-returns
-returns c = record { value = refl; small = omega (arith, c .shared-slice-known .given (c .before .args .i)) }
+returns c = search needs
+
+returns-2 : tie.Need-returns-2
+returns-2 c = sym (List·getD-eq-default (now (c .before .args .s)) 0 (c .if1 .left))
 
 pub byte-spec : {M : Type 1} → statement M
-byte-spec = tie.close (tie.spec shared-slice-read-result cast-result returns)
+byte-spec = tie.close (tie.spec shared-slice-read-result returns returns-2)

@@ -1,0 +1,10 @@
+pub mod DoneSums
+pub mod Filled
+pub mod Lookups
+pub mod Every
+pub mod Done
+pub mod Noting
+pub mod Spans
+pub mod Marks
+pub mod Chains
+pub mod Blank

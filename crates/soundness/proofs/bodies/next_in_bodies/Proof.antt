@@ -1,0 +1,56 @@
+-- `soundness::bodies::next_in_bodies` meets its contract. The invariant: the threads below t pass the test.
+use Prim.Native.Nat.{_-_}
+use native.Mathlib.Omega.{arith}
+use Rattle.table.specs.Format.{tableOf}
+use Rattle.schedule.specs.Sound.{nextInBody}
+use Rattle.soundness.proofs.Lookups.{thread-below}
+use Rattle.soundness.proofs.Every.{Passed, passed-none, passed-next, passed-stop, passed-all}
+use Rattle.soundness.proofs.bodies.next_in_bodies.Statement.{statement}
+use Rattle.soundness.proofs.bodies.next_in_bodies.Tie as tie
+
+abbrev Inv-loop : tie.InvT-loop
+Inv-loop table n next t₀ t = Passed (nextInBody (tableOf table) next) t
+
+abbrev μ-loop : tie.MeasureT-loop
+μ-loop table n next t₀ t = n - t
+
+loop-holds : tie.Need-loop-holds Inv-loop μ-loop
+loop-holds c = passed-none
+
+next-in-body-requires : tie.Need-next-in-body-requires Inv-loop μ-loop
+next-in-body-requires c κs =
+    let p = c .before .before .before .pre in
+    (p .rules, thread-below p (c .loop-test .taken))
+
+returns : tie.Need-returns Inv-loop μ-loop
+returns c =
+    let d = c .before .before in
+    passed-stop (d .before .loop .inv) (d .loop-test .taken) (c .before .next-in-body .ensures) (c .if1 .taken)
+
+add-t : tie.Need-add-t Inv-loop μ-loop
+add-t c = omega arith
+
+loop-less : tie.Need-loop-less Inv-loop μ-loop
+loop-less c = omega arith
+
+loop-again : tie.Need-loop-again Inv-loop μ-loop
+loop-again c =
+    let d = c .before .before in
+    passed-next (d .before .loop .inv) (c .before .next-in-body .ensures) (c .if1 .left)
+
+returns-2 : tie.Need-returns-2 Inv-loop μ-loop
+returns-2 c = passed-all (c .before .loop .inv) (c .loop-test .left)
+
+pub next-in-bodies-spec : {M : Type 1} → statement M
+next-in-bodies-spec =
+    tie.close
+    (tie.spec
+    Inv-loop
+    μ-loop
+    loop-holds
+    next-in-body-requires
+    returns
+    add-t
+    loop-less
+    loop-again
+    returns-2)

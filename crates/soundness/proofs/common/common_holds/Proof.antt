@@ -1,0 +1,162 @@
+-- `soundness::common::common_holds` meets its contract: the tests are the clauses, in their order.
+use mathlib.Core.Path.{_≡_, refl, sym, _∙_}
+use Prim.Native.Nat.{ℕ}
+use mathlib.Core.List.{List}
+use mathlib.Core.Bool.{Bool, true, false, _&&_, _||_, and-assoc}
+use borrow.Author.Tests.{le-leb, lt-leb}
+use denote.Ref.{now}
+use lib.ListN.{length}
+use lib.Dec.{ltb, leb, eqb}
+use Rattle.table.specs.Format.{Table, tableOf}
+use Rattle.table.specs.Pass.{firstFound}
+use Rattle.table.specs.declared.Refusal.{Refusal}
+use Rattle.table.specs.declared.Found.the-variants.{Nothing, At}
+use Rattle.table.proofs.Passes.{passes-rules}
+use Rattle.schedule.specs.declared.Worker.{Worker}
+use Rattle.schedule.specs.Record.{setOf}
+use Rattle.schedule.specs.Begin.{beginPasses}
+use Rattle.schedule.specs.Sound.{allBelow, nextInBody, inOrder, statusFollows, waitsAtJoin, unused, oneHolder, workerRight, heldRight, common, commonSound}
+use Rattle.soundness.specs.Checks.{Accepted, threadsSound, holdersSound}
+use Rattle.soundness.proofs.Lookups.{few-threads}
+use Rattle.soundness.proofs.Chains.{off, on, cut, stop, pass, first-of}
+use borrow.Author.Needs.{needs}
+use Rattle.soundness.proofs.common.common_holds.Statement.{statement}
+use Rattle.soundness.proofs.common.common_holds.Tie as tie
+
+regroup : (a b c d e f g h i j : Bool)
+    → ((a && (b && (c && (d && e)))) && ((f && g) && (h && (i && j)))) ≡ ((a && (b && (c && (d && (e && (f && (g && (h && i)))))))) && j)
+regroup a b c d e f g h i j = simp and-assoc
+
+module _ (s : List ℕ) (n p K : ℕ) (next status : List ℕ) (workers : List Worker) (set amount highest : ℕ) (k : Accepted s n) where
+  abbrev T : Table
+  T = tableOf s
+
+  -- the tests past the beginning's
+  abbrev tests : Bool
+  tests =
+      threadsSound (tableOf s) n next status
+      && (holdersSound n p K status workers && (heldRight (tableOf s) next status amount && (leb amount highest && eqb set (setOf workers))))
+
+  no-begin : {x : Refusal} → firstFound (beginPasses (tableOf s) p K) ≡ At x → false ≡ commonSound s p K next status workers set amount highest
+  unfolding commonSound
+  no-begin h = rw (passes-rules s .1 (k .rules), h) refl
+
+  in-parts : length next ≡ 1024 → length status ≡ 1024 → length workers ≡ 16 → n ≡ tableOf s .threads
+      → tests ≡ (common (tableOf s) p K next status workers amount highest && eqb set (setOf workers))
+  unfolding common
+  in-parts a b c d =
+      rw (a, b, c, d)
+      (regroup (allBelow (nextInBody T next) (T .threads)) (allBelow (inOrder T next status) (T .actions)) (allBelow (statusFollows T next status) (T .threads))
+      (allBelow (waitsAtJoin T next status) (T .threads)) (allBelow (λ t. ltb t (T .threads) || unused next status t) 1024)
+      (allBelow (oneHolder status workers) (T .threads)) (allBelow (workerRight (T .threads) p K workers) 16) (heldRight T next status amount) (leb amount highest)
+      (eqb set (setOf workers)))
+
+  begins : length next ≡ 1024 → length status ≡ 1024 → length workers ≡ 16
+      → firstFound (beginPasses (tableOf s) p K) ≡ Nothing → {r : Bool} → r ≡ tests → r ≡ commonSound s p K next status workers set amount highest
+  unfolding commonSound
+  begins a b c h e = rw (passes-rules s .1 (k .rules), h) (e ∙ in-parts a b c (k .threads))
+
+-- ---- the tests that held, at the function's places
+
+abbrev start : tie.After-enum-told2 → tie.Start
+start c = c .before .before .before .before
+
+abbrev Goal : tie.Start → Bool → Type 0
+Goal s r =
+    r
+    ≡ commonSound (now (s .args .table)) (s .args .p) (s .args .quota) (now (s .args .next)) (now (s .args .status)) (s .args .workers) (s .args .busy) (s .args .held) (s .args .highest)
+
+abbrev left3 : tie.Start → Bool
+left3 s = leb (s .args .held) (s .args .highest) && eqb (s .args .busy) (setOf (s .args .workers))
+
+abbrev left2 : tie.Start → Bool
+left2 s = heldRight (tableOf (now (s .args .table))) (now (s .args .next)) (now (s .args .status)) (s .args .held) && left3 s
+
+abbrev left1 : tie.Start → Bool
+left1 s = holdersSound (s .args .n) (s .args .p) (s .args .quota) (now (s .args .status)) (s .args .workers) && left2 s
+
+threads-held : (c : tie.Else1) → threadsSound (tableOf (now (start (c .before .before) .args .table))) (start (c .before .before) .args .n) (now (start (c .before .before) .args .next)) (now (start (c .before .before) .args .status)) ≡ true
+threads-held c = on (c .before .threads-sound .ensures) (c .if1 .left)
+
+worker-size : (s : tie.Start) → length (s .args .workers) ≡ 16
+worker-size s = search needs
+
+begun : (c : tie.After-enum-told2) {r : Bool}
+    → r ≡ (threadsSound (tableOf (now (start c .args .table))) (start c .args .n) (now (start c .args .next)) (now (start c .args .status)) && left1 (start c))
+    → Goal (start c) r
+begun c h =
+    let s = start c in
+    begins _ _ _ _ _ _ _ _ _ _ (s .pre .0) (s .pre .1 .1 .1 .0) (s .pre .1 .1 .1 .1) (worker-size s)
+    (sym (c .before .before .begin-fault .ensures) ∙ c .enum-told2 .given .1) h
+
+after1 : (c : tie.Else1) {r : Bool} → r ≡ left1 (start (c .before .before)) → Goal (start (c .before .before)) r
+after1 c h = begun (c .before .before) (pass (threads-held c) h)
+
+after2 : (c : tie.Else2) {r : Bool} → r ≡ left2 (start (c .before .before .before .before)) → Goal (start (c .before .before .before .before)) r
+after2 c h = after1 (c .before .before) (pass (on (c .before .holders-sound .ensures) (c .if2 .left)) h)
+
+after3 : (c : tie.Else3) {r : Bool} → r ≡ left3 (start (c .before .before .before .before .before .before)) → Goal (start (c .before .before .before .before .before .before)) r
+after3 c h = after2 (c .before .before) (pass (on (c .before .held-right .ensures) (c .if3 .left)) h)
+
+-- ---- the needs
+
+begin-fault-requires : tie.Need-begin-fault-requires
+begin-fault-requires c κs = search needs
+
+enum-told : tie.Need-enum-told
+enum-told c = search needs
+
+returns : tie.Need-returns
+returns c =
+    let s = c .before .before .before .before in
+    no-begin _ _ _ _ _ _ _ _ _ _ (s .pre .0) (sym (c .before .before .begin-fault .ensures) ∙ c .enum-told .given .1)
+
+enum-told-2 : tie.Need-enum-told-2
+enum-told-2 c = search needs
+
+threads-sound-requires : tie.Need-threads-sound-requires
+threads-sound-requires c κs = search needs
+
+returns-2 : tie.Need-returns-2
+returns-2 c = begun (c .before .before) (cut _ (off (c .before .threads-sound .ensures) (c .if1 .taken)))
+
+holders-sound-requires : tie.Need-holders-sound-requires
+holders-sound-requires c κs = few-threads (start (c .before .before) .pre .0)
+
+returns-3 : tie.Need-returns-3
+returns-3 c = after1 (c .before .before) (cut _ (off (c .before .holders-sound .ensures) (c .if2 .taken)))
+
+held-right-requires : tie.Need-held-right-requires
+held-right-requires c κs =
+    let d = c .before .before in
+    (start (d .before .before) .pre .0, first-of _ _ (threads-held d))
+
+returns-4 : tie.Need-returns-4
+returns-4 c = after2 (c .before .before) (cut _ (off (c .before .held-right .ensures) (c .if3 .taken)))
+
+busy-right-requires : tie.Need-busy-right-requires
+busy-right-requires c κs = search needs
+
+returns-5 : tie.Need-returns-5
+returns-5 c = after3 (c .before .before) (pass (le-leb _ _ (c .before .if4 .taken)) (c .busy-right .ensures))
+
+returns-6 : tie.Need-returns-6
+returns-6 c = after3 (c .before) (stop _ _ (lt-leb _ _ (c .if4 .left)))
+
+pub common-holds-spec : {M : Type 1} → statement M
+common-holds-spec =
+    tie.close
+    (tie.spec
+    begin-fault-requires
+    enum-told
+    returns
+    enum-told-2
+    threads-sound-requires
+    returns-2
+    holders-sound-requires
+    returns-3
+    held-right-requires
+    returns-4
+    busy-right-requires
+    returns-5
+    returns-6)

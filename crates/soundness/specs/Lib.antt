@@ -1,0 +1,4 @@
+pub mod Checks
+pub mod Adding
+pub mod Order
+pub mod Tested

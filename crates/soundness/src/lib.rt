@@ -1,0 +1,86 @@
+// The test of a run's record, check 32, and the checks of a beginning. Every call is total, and what it answers equals a definition.
+use crate::bodies::fill_forks;
+use crate::common::common_holds;
+use crate::sound::is_blank;
+use crate::sound::sound;
+use schedule::Run;
+use schedule::Worker;
+use table::Loaded;
+use table::read;
+ghost use mathlib.Core.Path.{_≡_};
+ghost use Rattle.soundness.specs.Tested.{commonTested, tested};
+
+mod amounts;
+mod beginning;
+mod bodies;
+mod common;
+mod holders;
+mod listed;
+mod names;
+mod order;
+mod sound;
+mod unused;
+
+pub use beginning::begin_fault;
+
+// Whether a test passed, and each thread's parent, which the turns after it look up.
+pub struct Tested {
+    pub passed: bool,
+    pub parents: [u16; 1024],
+}
+
+// What any kind of run over a table keeps, with the table's own checks and the beginning's.
+pub fn test_common(
+    table: &[u8],
+    p: u8,
+    quota: u32,
+    next: [u16; 1024],
+    status: [u8; 1024],
+    workers: [Worker; 16],
+    busy: u16,
+    held: u64,
+    highest: u64,
+) -> Tested
+    ensures { λ r. ⌜ r ≡ commonTested (now (table .entry)) p quota next status workers busy held highest ⌝ }
+{
+    let mut parents = [0u16; 1024];
+    let loaded = table::load(table);
+    if let Loaded::Refused(_) = loaded {
+        return Tested {
+            passed: false,
+            parents,
+        };
+    }
+    let n = read::threads(table);
+    let mut forks = [0u16; 1024];
+    fill_forks(table, n, &mut forks, &mut parents);
+    let passed = common_holds(
+        table,
+        n,
+        p,
+        quota,
+        &forks,
+        &parents,
+        &next,
+        &status,
+        workers,
+        busy,
+        held,
+        highest,
+    );
+    Tested { passed, parents }
+}
+
+// 32 does not apply: the record is sound, or blank.
+pub fn test(run: Run) -> Tested
+    ensures { λ r. ⌜ r ≡ tested run ⌝ }
+{
+    let found = sound(run);
+    if found.passed {
+        return found;
+    }
+    Tested {
+        passed: is_blank(run),
+        parents: [0; 1024],
+    }
+}

@@ -1,0 +1,55 @@
+// The parts of a record not in use: threads from n on, table bytes and list places past their lengths.
+use crate::names::UNBORN;
+ghost use mathlib.Core.Path.{_≡_};
+ghost use mathlib.Core.Bool.{_||_};
+ghost use lib.ListN.{length, take};
+ghost use lib.Dec.{ltb};
+ghost use Rattle.schedule.specs.Record.{filled};
+ghost use Rattle.schedule.specs.Sound.{allBelow, unused, sameList};
+
+// "Threads from n on are unborn with next action 0"
+pub(crate) fn unused_right(n: usize, next: &[u16; 1024], status: &[u8; 1024]) -> bool
+    ensures { λ r. ⌜ r ≡ allBelow (λ t. ltb t n || unused (now (next .entry)) (now (status .entry)) t) 1024 ⌝ }
+{
+    let mut t = n;
+    while t < 1024 {
+        if status[t] != UNBORN {
+            return false;
+        }
+        if next[t] != 0 {
+            return false;
+        }
+        t += 1;
+    }
+    true
+}
+
+// "Table bytes past its length .. are 0"
+pub(crate) fn table_rest(table: &[u8; 36868], used: usize) -> bool
+    requires { ⌜ length (now table) ≡ 36868 ⌝ }
+    ensures { λ r. ⌜ r ≡ sameList (now (table .entry)) (filled 36868 (take used (now (table .entry)))) ⌝ }
+{
+    let mut i = used;
+    while i < 36868 {
+        if table[i] != 0 {
+            return false;
+        }
+        i += 1;
+    }
+    true
+}
+
+// "unused list places .. are 0"
+pub(crate) fn list_rest(list: &[u16; 1024], len: usize) -> bool
+    requires { ⌜ length (now list) ≡ 1024 ⌝ }
+    ensures { λ r. ⌜ r ≡ sameList (now (list .entry)) (filled 1024 (take len (now (list .entry)))) ⌝ }
+{
+    let mut i = len;
+    while i < 1024 {
+        if list[i] != 0 {
+            return false;
+        }
+        i += 1;
+    }
+    true
+}
