@@ -1,6 +1,10 @@
-// What a worker's turn does with the thread that it holds, by the kind of the thread's next action.
+// What a worker's turn does with the thread that it holds, by the kind of the thread's next action. Words in quotation marks beside fork, wait and end are those of the thesis, figure 3.2 and
+// the text to it: the steps stand in its order.
 use crate::list::insert;
 use crate::list::remove;
+use crate::names::ENDED;
+use crate::names::READY;
+use crate::names::WAITING;
 use crate::release::release;
 use schedule::Reply;
 use schedule::Worker;
@@ -10,9 +14,9 @@ ghost use mathlib.Core.Path.{_≡_};
 ghost use mathlib.Core.List.{List};
 ghost use mathlib.Core.Bool.{true};
 ghost use Prim.Native.Nat.{ℕ, _+_, _^_, _≤_, _<_, max};
-ghost use lib.ListN.{length, getD, take};
+ghost use lib.ListN.{length, getD, set, take};
 ghost use Rattle.table.specs.Format.{Table, alloc, free, fork, join, end, tableOf};
-ghost use Rattle.schedule.specs.Machine.{actBy, act as actOf};
+ghost use Rattle.schedule.specs.Machine.{nobody, actBy, act as actOf};
 ghost use Rattle.schedule.specs.Sound.{placeIn};
 ghost use Rattle.asyncdf.specs.Parts.{partState, partStepped, At, Rowed, Sits, Wakes, wokenStatus};
 ghost use Rattle.soundness.specs.Checks.{Parents};
@@ -36,6 +40,16 @@ fn larger(a: u64, b: u64) -> u64
     if a < b { b } else { a }
 }
 
+// "insert T into R in its original position": the thread stands in its place with this status, and its worker is released.
+fn put_back(status: &mut [u8; 1024], as_status: u8, worker: Worker) -> Worker
+    requires { ⌜ (length (now status) ≡ 1024) × (worker .thread < 1024) ⌝ }
+    ensures { λ r. ⌜ (now (status .exit) ≡ set (now (status .entry)) (worker .thread) as_status) × (r ≡ nobody) ⌝ }
+{
+    let t = worker.thread as usize;
+    status[t] = as_status;
+    release(worker)
+}
+
 fn act_alloc(
     x: u32,
     a: u16,
@@ -52,10 +66,11 @@ fn act_alloc(
     let thread = worker.thread;
     let t = thread as usize;
     if worker.quota < x {
-        status[t] = 1;
+        // preempted: the thread is returned "in the ready state"
+        let freed = put_back(status, READY, worker);
         return Stepped {
             reply: Reply::Quota { thread, wanted: x },
-            worker: release(worker),
+            worker: freed,
             totals,
         };
     }
@@ -116,14 +131,16 @@ fn act_fork(
     let thread = worker.thread;
     let t = thread as usize;
     let child = c as usize;
+    // preempted at a fork: "insert T into R in its original position", in the ready state
     next[t] = a + 1;
-    status[t] = 1;
+    let freed = put_back(status, READY, worker);
+    // "create child threads in place": "to the immediate left of their parent thread"
     let len = totals.listed;
     insert(list, len, c, thread);
-    status[child] = 1;
+    status[child] = READY;
     Stepped {
         reply: Reply::Done { thread, action: a },
-        worker: release(worker),
+        worker: freed,
         totals: Totals {
             listed: len + 1,
             held: totals.held,
@@ -148,7 +165,7 @@ fn act_join(
     let thread = worker.thread;
     let t = thread as usize;
     let child = c as usize;
-    if status[child] == 4 {
+    if status[child] == ENDED {
         next[t] = a + 1;
         return Stepped {
             reply: Reply::Done { thread, action: a },
@@ -156,10 +173,11 @@ fn act_join(
             totals,
         };
     }
-    status[t] = 3;
+    // suspends: "insert T into R in its original position", and no more
+    let freed = put_back(status, WAITING, worker);
     Stepped {
         reply: Reply::Wait { thread, child: c },
-        worker: release(worker),
+        worker: freed,
         totals,
     }
 }
@@ -176,7 +194,7 @@ fn wake(table: &[u8], n: usize, next: &[u16; 1024], status: &mut [u8; 1024], u: 
     requires { ⌜ Wakes (now table) n (now status) u ⌝ }
     ensures { λ _. ⌜ now (status .exit) ≡ wokenStatus (tableOf (now (table .entry))) (now (next .entry)) (now (status .entry)) u t ⌝ }
 {
-    if status[u] != 3 {
+    if status[u] != WAITING {
         return;
     }
     let a = wide(next[u]);
@@ -186,7 +204,7 @@ fn wake(table: &[u8], n: usize, next: &[u16; 1024], status: &mut [u8; 1024], u: 
     if argument(table, n, a) != t {
         return;
     }
-    status[u] = 1;
+    status[u] = READY;
 }
 
 fn act_end(
@@ -211,14 +229,17 @@ fn act_end(
 {
     let thread = worker.thread;
     let t = thread as usize;
-    status[t] = 4;
-    let len = totals.listed;
-    remove(list, len, thread);
+    // "insert T into R in its original position"; "if (T has terminated)"
+    let freed = put_back(status, ENDED, worker);
+    // "the parent T' of T is suspended": "reactivate T'"
     let u = parents[t] as usize;
     wake(table, n, next, status, u, t);
+    // "delete T from R"
+    let len = totals.listed;
+    remove(list, len, thread);
     Stepped {
         reply: Reply::Done { thread, action: a },
-        worker: release(worker),
+        worker: freed,
         totals: Totals {
             listed: len - 1,
             held: totals.held,

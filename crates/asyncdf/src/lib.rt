@@ -2,6 +2,7 @@
 // crates/schedule.
 use crate::beginning::blank;
 use crate::beginning::start;
+use crate::names::ENDED;
 use crate::runs::drive;
 use crate::runs::stopped;
 use crate::turns::put_turns;
@@ -41,6 +42,7 @@ ghost use Rattle.lines.specs.Puts.{Puts};
 mod act;
 mod beginning;
 mod list;
+mod names;
 mod release;
 mod runs;
 mod step;
@@ -93,7 +95,7 @@ pub fn turn(run: Run, w: u8) -> Turned
         return refused(30, run);
     }
     let status = run.status;
-    if status[0] == 4 {
+    if status[0] == ENDED {
         return refused(31, run);
     }
     let parents = tested.parents;
@@ -169,7 +171,7 @@ pub fn list_turns(run: Run, order: &[u8], out: &mut [u8], at: usize) -> usize
         return put_refused(out, at, 32);
     }
     let status = run.status;
-    if status[0] == 4 {
+    if status[0] == ENDED {
         return put_last(out, at, true, run.turns, run.highest);
     }
     if order.len() == 0 {

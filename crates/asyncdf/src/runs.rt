@@ -1,5 +1,6 @@
 // Runs over a list of workers and in rounds. The record's arrays are copied once; the turns work on them in place.
 use crate::act::Totals;
+use crate::names::ENDED;
 use crate::step::step;
 use schedule::Reply;
 use schedule::Report;
@@ -275,7 +276,7 @@ pub(crate) fn drive(
     let mut next = run.next;
     let mut status = run.status;
     let mut list = run.list;
-    if status[0] == 4 {
+    if status[0] == ENDED {
         return Outcome {
             report: Report::Finished(0),
             reply: Reply::Idle,

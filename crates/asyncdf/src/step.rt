@@ -3,6 +3,7 @@ use crate::act::Stepped;
 use crate::act::Totals;
 use crate::act::act;
 use crate::list::leftmost;
+use crate::names::HELD;
 use schedule::Reply;
 use schedule::Worker;
 ghost use mathlib.Core.Path.{_≡_};
@@ -33,7 +34,7 @@ fn find(
     }
     let thread = list[i];
     let t = thread as usize;
-    status[t] = 2;
+    status[t] = HELD;
     Worker {
         holds: true,
         thread,

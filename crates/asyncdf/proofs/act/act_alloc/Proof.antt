@@ -10,7 +10,7 @@ use lib.ListN.{set}
 use Rattle.table.specs.Format.{Table, alloc}
 use Rattle.schedule.specs.declared.Worker.{Worker}
 use Rattle.schedule.specs.declared.Reply.the-variants.{Done, Quota}
-use Rattle.schedule.specs.Machine.{nobody, stepped, actBy}
+use Rattle.schedule.specs.Machine.{ready, nobody, stepped, actBy}
 use Rattle.asyncdf.specs.Parts.{partState, At}
 use Rattle.asyncdf.specs.declared.act.Totals.{Totals}
 use Rattle.asyncdf.proofs.Rows.{next-done}
@@ -18,11 +18,11 @@ use Rattle.asyncdf.proofs.act.act_alloc.Statement.{statement}
 use Rattle.asyncdf.proofs.act.act_alloc.Tie as tie
 
 module _ (next status : List ℕ) (totals : Totals) (worker : Worker) (a x : ℕ) (T : Table) (list : List ℕ) where
-  beyond : (left : Worker) → worker .quota < x → left ≡ nobody
-      → stepped (Quota (worker .thread) x) (partState next (set status (worker .thread) 1) list totals left)
+  beyond : (status' : List ℕ) (left : Worker) → worker .quota < x → status' ≡ set status (worker .thread) ready → left ≡ nobody
+      → stepped (Quota (worker .thread) x) (partState next status' list totals left)
       ≡ actBy alloc T 0 (worker .thread) a x (partState next status list totals worker)
   unfolding actBy
-  beyond left h e = rw (lt-leb x (worker .quota) h, e)
+  beyond status' left h s e = rw (lt-leb x (worker .quota) h, s, e)
 
   within : (highest : ℕ) → At next worker a → x ≤ worker .quota → highest ≡ max (totals .highest) (totals .held + x)
       → stepped (Done (worker .thread) a)
@@ -35,16 +35,15 @@ module _ (next status : List ℕ) (totals : Totals) (worker : Worker) (a x : ℕ
 cast-t : tie.Need-cast-t
 cast-t c = search needs
 
-element-write-status : tie.Need-element-write-status
-element-write-status c = search needs
-
-release-requires : tie.Need-release-requires
-release-requires c κs = search needs
+put-back-requires : tie.Need-put-back-requires
+put-back-requires c κs = search needs
 
 returns : tie.Need-returns
 returns c T list =
-    let d = c .before .before .before in
-    beyond (now (d .args .next)) (now (d .args .status)) (d .args .totals) (d .args .worker) (d .args .a) (d .args .x) T list _ (c .before .if1 .taken) (c .release .ensures)
+    let t = c .before .before in
+    let d = t .before .before in
+    beyond (now (d .args .next)) (now (d .args .status)) (d .args .totals) (d .args .worker) (d .args .a) (d .args .x) T list _ _ (t .if1 .taken) (c .put-back .ensures .0)
+    (c .put-back .ensures .1)
 
 add-next : tie.Need-add-next
 add-next c = search needs
@@ -72,8 +71,7 @@ act-alloc-spec =
     tie.close
     (tie.spec
     cast-t
-    element-write-status
-    release-requires
+    put-back-requires
     returns
     add-next
     mul-next

@@ -25,8 +25,8 @@ use Rattle.asyncdf.proofs.act.act_end.Statement.{statement}
 use Rattle.asyncdf.proofs.act.act_end.Tie as tie
 
 -- when thread t has ended, thread u may still be looked at
-wakes : (s : List ℕ) (n : ℕ) (status : List ℕ) (u t : ℕ) → Wakes s n status u → Wakes s n (set status t ended) u
-wakes s n status u t w = record { threads = w .threads; size = simp length-set (w .size); below = w .below }
+wakes : (s : List ℕ) (n : ℕ) (status status' : List ℕ) (u t : ℕ) → status' ≡ set status t ended → Wakes s n status u → Wakes s n status' u
+wakes s n status status' u t e w = record { threads = w .threads; size = rw e (simp length-set (w .size)); below = w .below }
 
 -- waking moves the statuses alone
 abbrev withStatuses : List ℕ → State → State
@@ -41,32 +41,27 @@ woken-status T t st = go (waitsFor T st (parentOf T t) t)
     go true = refl
     go false = refl
 
-ended-with : (T : Table) (parents next status status' list after : List ℕ) (totals : Totals) (worker left : Worker) (a : ℕ) → Rowed list (totals .listed) → Parents T parents
+ended-with : (T : Table) (parents next status stood status' list after : List ℕ) (totals : Totals) (worker left : Worker) (a : ℕ) → Rowed list (totals .listed) → Parents T parents
     → worker .thread < T .threads → placeIn (worker .thread) (take (totals .listed) list) < totals .listed
-    → status' ≡ wokenStatus T next (set status (worker .thread) ended) (getD parents (worker .thread) 0) (worker .thread)
+    → stood ≡ set status (worker .thread) ended → status' ≡ wokenStatus T next stood (getD parents (worker .thread) 0) (worker .thread)
     → after ≡ filled maxThreads (without (worker .thread) (take (totals .listed) list)) → left ≡ nobody
     → ((x : ℕ) → stepped (Done (worker .thread) a) (partState next status' after (record { listed = totals .listed - 1; held = totals .held; highest = totals .highest }) left)
     ≡ actBy end T 0 (worker .thread) a x (partState next status list totals worker))
     × Rowed after (totals .listed - 1)
 unfolding actBy
-ended-with T parents next status status' list after totals worker left a r p b h s e n =
+ended-with T parents next status stood status' list after totals worker left a r p b h z s e n =
     let t : ℕ = worker .thread in
     let len : ℕ = totals .listed in
     let shorter : length (without t (take len list)) ≡ len - 1 = rw (r .front) at (length-without t (take len list) (rw (r .front) h)) in (
-      (λ x. rw (woken-status, s, p .right t b, take-filled after (without t (take len list)) (len - 1) e shorter, n)),
+      (λ x. rw (woken-status, s, z, p .right t b, take-filled after (without t (take len list)) (len - 1) e shorter, n)),
       rowed-filled after (without t (take len list)) (len - 1) e shorter (omega (arith, rowed-small list len r)),
     )
 
 cast-t : tie.Need-cast-t
 cast-t c = search needs
 
-element-write-status : tie.Need-element-write-status
-element-write-status c = search needs
-
-remove-requires : tie.Need-remove-requires
-remove-requires c κs =
-    let d = c .before .before in
-    (d .pre .1 .0, (rowed-small (now (d .args .list)) _ (d .pre .1 .0), d .pre .1 .1 .1 .0 .1))
+put-back-requires : tie.Need-put-back-requires
+put-back-requires c κs = search needs
 
 mul-u : tie.Need-mul-u
 mul-u c = search needs
@@ -77,36 +72,42 @@ element-copy-out-u c = search needs
 cast-u : tie.Need-cast-u
 cast-u c = search needs
 
+abbrev start : tie.After-put-back → tie.Start
+start c = c .before .before .before
+
 wake-requires : tie.Need-wake-requires
 wake-requires c κs =
-    let d = c .before .before .before .before .before in
-    wakes (now (d .args .table)) _ (now (d .args .status)) _ _ (d .pre .1 .1 .1 .1)
+    let b = c .before .before in
+    let d = start b in
+    wakes (now (d .args .table)) _ (now (d .args .status)) _ _ _ (b .put-back .ensures .0) (d .pre .1 .1 .1 .1)
 
-release-requires : tie.Need-release-requires
-release-requires c κs = search needs
+remove-requires : tie.Need-remove-requires
+remove-requires c κs =
+    let d = start (c .before .before .before .before) in
+    (d .pre .1 .0, (rowed-small (now (d .args .list)) _ (d .pre .1 .0), d .pre .1 .1 .1 .0 .1))
 
-sub-t18 : tie.Need-sub-t18
-sub-t18 c = search needs
+sub-t16 : tie.Need-sub-t16
+sub-t16 c = search needs
 
 returns : tie.Need-returns
 returns c =
-    let k = c .before .before .before .before in
-    let d = k .before .before .before in
+    let w = c .before .before in
+    let b = w .before .before .before in
+    let d = start b in
     let q = d .pre .1 in
-    ended-with _ (now (d .args .parents)) (now (d .args .next)) (now (d .args .status)) _ (now (d .args .list)) (k .remove .last .0) (d .args .totals) (d .args .worker) _ _
-    (q .0) (q .1 .0) (q .1 .1 .0 .0) (q .1 .1 .0 .1) (c .before .wake .ensures) (k .remove .ensures) (c .release .ensures)
+    ended-with _ (now (d .args .parents)) (now (d .args .next)) (now (d .args .status)) _ _ (now (d .args .list)) (c .remove .last .0) (d .args .totals) (d .args .worker) _ _
+    (q .0) (q .1 .0) (q .1 .1 .0 .0) (q .1 .1 .0 .1) (b .put-back .ensures .0) (w .wake .ensures) (c .remove .ensures) (b .put-back .ensures .1)
 
 pub act-end-spec : {M : Type 1} → statement M
 act-end-spec =
     tie.close
     (tie.spec
     cast-t
-    element-write-status
-    remove-requires
+    put-back-requires
     mul-u
     element-copy-out-u
     cast-u
     wake-requires
-    release-requires
-    sub-t18
+    remove-requires
+    sub-t16
     returns)

@@ -23,11 +23,11 @@ module _ (next status : List ℕ) (totals : Totals) (worker : Worker) (a x : ℕ
   unfolding actBy
   joined p h = rw (eq-eqb (getD status x 0) ended h, next-done next worker a p)
 
-  waits : (left : Worker) → (getD status x 0 ≡ ended → ⊥) → left ≡ nobody
-      → stepped (Wait (worker .thread) x) (partState next (set status (worker .thread) waiting) list totals left)
+  waits : (status' : List ℕ) (left : Worker) → (getD status x 0 ≡ ended → ⊥) → status' ≡ set status (worker .thread) waiting → left ≡ nobody
+      → stepped (Wait (worker .thread) x) (partState next status' list totals left)
       ≡ actBy join T 0 (worker .thread) a x (partState next status list totals worker)
   unfolding actBy
-  waits left h e = rw (ne-eqb (getD status x 0) ended h, e)
+  waits status' left h s e = rw (ne-eqb (getD status x 0) ended h, s, e)
 
 cast-t : tie.Need-cast-t
 cast-t c = search needs
@@ -49,16 +49,15 @@ returns c T list =
     let d = c .before .before in
     joined (now (d .args .next)) (now (d .args .status)) (d .args .totals) (d .args .worker) (d .args .a) (d .args .c) T list (d .pre .0) (c .if1 .taken)
 
-element-write-status : tie.Need-element-write-status
-element-write-status c = search needs
-
-release-requires : tie.Need-release-requires
-release-requires c κs = search needs
+put-back-requires : tie.Need-put-back-requires
+put-back-requires c κs = search needs
 
 returns-2 : tie.Need-returns-2
 returns-2 c T list =
-    let d = c .before .before .before in
-    waits (now (d .args .next)) (now (d .args .status)) (d .args .totals) (d .args .worker) (d .args .a) (d .args .c) T list _ (c .before .if1 .left) (c .release .ensures)
+    let e = c .before .before in
+    let d = e .before .before in
+    waits (now (d .args .next)) (now (d .args .status)) (d .args .totals) (d .args .worker) (d .args .a) (d .args .c) T list _ _ (e .if1 .left) (c .put-back .ensures .0)
+    (c .put-back .ensures .1)
 
 pub act-join-spec : {M : Type 1} → statement M
 act-join-spec =
@@ -70,6 +69,5 @@ act-join-spec =
     mul-next
     element-write-next
     returns
-    element-write-status
-    release-requires
+    put-back-requires
     returns-2)
