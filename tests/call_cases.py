@@ -88,6 +88,8 @@ def told(answer, run):
 fork, join = lambda t: (machine.FORK, t), lambda t: (machine.JOIN, t)
 CHAIN = table(*[[fork(t + 1), join(t + 1), end] for t in range(1023)], [end])
 FULL = table(parent(*range(1, 1024)), *[[work] * 5 + [end]] * 1021, [work] * 7 + [end], [work] * 10 + [end])  # 8,192 actions
+NESTED = table([fork(1), fork(3), join(3), join(1), end], [fork(2), join(2), end], [work, work, end], [work, end])
+FAN = table(parent(*range(1, 16)), *[[work, end]] * 15)
 FIVE = order(0, 1, 0, 2, 0)  # of E with p 3: thread 0 waits for 2, threads 1 and 2 are held, 12 units too
 NEARLY_LAST = [put('turns', LAST_TURN - 1)]
 
@@ -112,12 +114,16 @@ def idle(w):
 
 CASES = [
     ('the listing by single turns', (2, 6, E), [turn(w) for w in [0, 1] * 7] + [turn(0), turn(2), order(9), rounds(0), rounds(5)],
-     ['done 0 0', 'done 1 5', 'done 0 1', 'done 1 6', 'done 2 9', 'done 1 7', 'done 2 10', 'done 1 8', 'done 2 11', 'done 0 2', 'idle', 'done 0 3', 'idle',
+     ['done 0 0', 'done 1 5', 'done 0 1 passed 1', 'done 1 6', 'done 2 9 passed 1', 'done 1 7', 'done 2 10', 'done 1 8', 'done 2 11', 'done 0 2', 'idle', 'done 0 3', 'idle',
       'done 0 4', 'refused 31 0', 'refused 30 0', 'finished 0', 'finished 0', 'finished 0']),
-    ('the last turn says wait', (2, 6, E), [order(0, 1, 0, 1, 1, 1, 1), turn(0), turn(2)], ['spent 7', 'wait 0 2', 'refused 30 0']),
+    ('the last turn says wait', (2, 6, E), [order(0, 1, 0, 1, 1, 1, 1), turn(0), turn(2)], ['spent 7', 'wait 0 2 passed 1', 'refused 30 0']),
     ('quota', (1, 6, table([alloc(4), alloc(4), end])), [turn(0)] * 4, ['done 0 0', 'quota 0 4', 'done 0 1', 'done 0 2']),
-    ('a list stopped by 30 goes on after it', (2, 6, E), [order(0, 1, 9, 0), turn(0), rounds(99)], ['refused 2 30 0', 'done 0 1', 'finished 11']),
-    ('rounds begin at worker 0 again', (3, 6, E), [rounds(1), rounds(1), turn(1), rounds(99)], ['spent 1', 'spent 1', 'done 0 1', 'finished 15']),
+    ('a list stopped by 30 goes on after it', (2, 6, E), [order(0, 1, 9, 0), turn(0), rounds(99)], ['refused 2 30 0', 'done 0 1 passed 1', 'finished 11']),
+    ('rounds begin at worker 0 again', (3, 6, E), [rounds(1), rounds(1), turn(1), rounds(99)], ['spent 1', 'spent 1', 'done 0 1 passed 1', 'finished 15']),
+    ('a held and a waiting thread passed over, and a fork right after', (3, 1, NESTED), [turn(w) for w in (0, 0, 1, 0, 0, 2, 2, 2)],
+     ['done 0 0', 'done 1 5', 'done 2 8', 'wait 1 2 passed 1', 'done 0 1 passed 2', 'done 3 11 passed 2', 'done 3 12', 'done 0 2 passed 2']),
+    ('sixteen workers, each past those before it', (16, 1, FAN), [turn(i // 2) for i in range(31)] + [turn(15)],
+     [said % w for w in range(15) for said in ('done 0 %d' % w + ' passed %d', 'done %d %d' % (w + 1, 31 + 2 * w) + ' passed %d')] + ['wait 0 15 passed 15', 'idle']),
     ('L 0', (2, 6, E), [rounds(0), order(), rounds(99)], ['spent 0', 'spent 0', 'finished 14']),
     ('worker 255', (16, 6, E), [turn(255), order(0, 255, 0), turn(16), order(15)], ['refused 30 0', 'refused 1 30 0', 'refused 30 0', 'spent 1']),
     ('K above its range', (2, LARGEST + 1, E), [turn(0)], ['refused 30 0']),
@@ -187,7 +193,7 @@ CASES = [
     unsound('a quota with nothing held', put('quota', 1, 0, True)),
     unsound('a thread with nothing held', put('thread', 1, 15, True)),
     unsound('turns at the end', put('turns', LAST_TURN)),
-    as_sound('a thread at a join of a child not ended, ready', 0, 'wait 0 2', 'finished 13', put('status', READY, 0)),
+    as_sound('a thread at a join of a child not ended, ready', 0, 'wait 0 2 passed 2', 'finished 13', put('status', READY, 0)),
     as_sound('that thread held', 0, 'wait 0 2', 'finished 13', put('status', HELD, 0), put('holds', 1, 0, True), put('busy', 7)),
     as_sound('a larger highest', 1, 'done 1 6', 'finished 13', put('highest', LAST_TURN)),
     as_sound('another quota left', 1, 'done 1 6', 'finished 13', put('quota', 6, 1, True)),
@@ -265,10 +271,16 @@ def answers(data):
     return found, text
 
 
+def in_full(call, answer):
+    """A turn's answer that names no number of threads passed over passed over none."""
+    return answer if call[:1] != b't' or 'passed' in answer or 'refused' in answer else answer + ' passed 0'
+
+
 def main():
     rng = random.Random(2)
     for label, beginning, calls, expected in CASES:
         found = answers(record(label, beginning, calls))[0]
+        expected = [in_full(*pair) for pair in zip(calls, expected)]
         if found != expected:
             raise SystemExit('%s: expected\n%s\nthe model says\n%s' % (label, expected, found))
     records = [record(*case[:3]) for case in CASES] + [record('random %d' % i, *random_case(rng)) for i in range(1, 201)]

@@ -265,8 +265,14 @@ class Machine:
         self.run.worker[w] = Worker()
 
 
+def passed_over(run, w):
+    """How many threads stand left of the one that worker w takes in its turn; 0 if it holds one, or takes none."""
+    places = [i for i, t in enumerate(run.list[:run.listed]) if run.status[t] == READY]
+    return places[0] if places and not run.worker[w].holds else 0
+
+
 def turn(run, w):
-    """A single turn: the reply or refusal, and the record."""
+    """A single turn: the reply with the number passed over, or the refusal; and the record."""
     if not is_blank(run) and not sound(run):
         return ('refused', 32, 0), run
     if w >= run.p:
@@ -275,7 +281,7 @@ def turn(run, w):
         return ('refused', 31, 0), run
     machine = Machine(run)
     reply = machine.take(w)
-    return reply, machine.record()
+    return (*reply, 'passed', passed_over(run, w)), machine.record()
 
 
 def run_over(run, workers, seen=None):

@@ -19,7 +19,7 @@ use Rattle.schedule.specs.declared.Report.the-variants.{Spent, Refused}
 use Rattle.schedule.specs.Answers.{beginningValues, turningValues, reportValues}
 use Rattle.schedule.specs.Record.{blank, tableIn}
 use Rattle.schedule.specs.Sound.{Steady, Sound, sound}
-use Rattle.schedule.specs.Turn.{isBlank, unsound, rootEnded, noWorker, turnChecks, stepRun, turned}
+use Rattle.schedule.specs.Turn.{isBlank, unsound, rootEnded, noWorker, turnChecks, stepRun, passedIn, turned}
 use Rattle.schedule.specs.Runs.{ran, moved, drive, listRun, roundsRun}
 use Rattle.schedule.proofs.Tests.{sound-exactly, blank-exactly}
 use Rattle.schedule.proofs.Stores.{steady-fits}
@@ -108,7 +108,7 @@ module _ (r : Run) (w : ℕ) where
       unfolding turned turnChecks tryAt noWorker
       turned-over o = rw (e, lt-ltb w (r .workers) h, o)
 
-      pub turned-taken : rootEnded r ≡ false → record { answer = Taken (stepRun r w .reply); run = moved r w } ≡ turned r w
+      pub turned-taken : rootEnded r ≡ false → record { answer = Taken (stepRun r w .reply) (passedIn r w); run = moved r w } ≡ turned r w
       unfolding turned turnChecks tryAt noWorker
       turned-taken o = rw (e, lt-ltb w (r .workers) h, o)
 
@@ -192,12 +192,13 @@ module _ (r : Run) (w : ℕ) (e : unsound r ≡ false) (h : w < r .workers) (o :
   unfolding who
   may-turn = record { unended = o; room = has-workers r e (omega (arith, h)) .turns; below = h }
 
-  pub turn-driven : (x : Report) (y : Reply) (s : Run) → ran x s ≡ drive order 1 0 r → (_≡_ {A = ℕ} 1 1 → Open r (order 0) → y ≡ stepRun r (order 0) .reply)
-      → record { answer = Taken y; run = s } ≡ turned r w
-  turn-driven x y s d t =
-      let a : y ≡ stepRun r w .reply = t refl may-turn ∙ ap (λ (i : ℕ). stepRun r i .reply) (one-worker w (r .workers)) in
-      let b : s ≡ moved r w = ap (λ (z : Ran). z .run) d ∙ drive-one order r may-turn ∙ ap (moved r) (one-worker w (r .workers)) in
-      (λ i. record { answer = Taken (a i); run = b i }) ∙ turned-taken r w e h o
+  pub turn-driven : (x : Report) (y : Reply) (k : ℕ) (s : Run) → Driven order 1 r x y k s → record { answer = Taken y k; run = s } ≡ turned r w
+  turn-driven x y k s d =
+      let t = d .said refl may-turn in
+      let a : y ≡ stepRun r w .reply = t .replied ∙ ap (λ (i : ℕ). stepRun r i .reply) (one-worker w (r .workers)) in
+      let c : k ≡ passedIn r w = t .passed-over ∙ ap (passedIn r) (one-worker w (r .workers)) in
+      let b : s ≡ moved r w = ap (λ (z : Ran). z .run) (d .ran-as) ∙ drive-one order r may-turn ∙ ap (moved r) (one-worker w (r .workers)) in
+      (λ i. record { answer = Taken (a i) (c i); run = b i }) ∙ turned-taken r w e h o
 
 -- ---- the values of an answer that is the definition's
 

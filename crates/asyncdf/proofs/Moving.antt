@@ -13,11 +13,11 @@ use Rattle.schedule.specs.declared.Reply.{Reply}
 use Rattle.schedule.specs.declared.Reply.the-variants.{Done}
 use Rattle.table.specs.Format.{threadsOf, tableOf}
 use Rattle.table.specs.Rules.{endOf}
-use Rattle.schedule.specs.Machine.{nobody}
+use Rattle.schedule.specs.Machine.{nobody, passedBy}
 use Rattle.schedule.specs.Memory.{ofReply}
 use Rattle.schedule.specs.Record.{bytesOf, tableIn, stateOf}
 use Rattle.schedule.specs.Sound.{Steady}
-use Rattle.schedule.specs.Turn.{rootEnded, stepRun}
+use Rattle.schedule.specs.Turn.{rootEnded, stepRun, passedIn}
 use Rattle.schedule.specs.Runs.{moved}
 use Rattle.schedule.proofs.Reply.{the-type}
 use Rattle.schedule.proofs.Stores.{steady-fits, moved-steady}
@@ -118,6 +118,10 @@ module _ {run : Run} {s : List ℕ} {n last p K : ℕ} {parents next status list
 
       pub replies : stepRun here w .reply ≡ r .reply
       replies = packed-reply run next status list workers m w next' status' list' r (v .steady) own took
+
+      pub passes : passedIn here w ≡ r .passed
+      unfolding passedIn passedBy
+      passes = sym (t .passed)
 
       last-is : last ≡ endOf (tableIn run) 0
       last-is = rw (v .bytes) (v .outline .last-action)

@@ -36,7 +36,7 @@ module _ (r : Run) (w : ℕ) (order : List ℕ) (t : Turned) (going : rootEnded 
   unfolding linesThen lastTexts
   turns-refused q = rw (going, ← e, q)
 
-  turns-taken : {x : Reply} → t .answer ≡ Taken x
+  turns-taken : {x : Reply} {k : ℕ} → t .answer ≡ Taken x k
       → turnsFrom r (w ∷ order) ≡ turnTexts (line (t .run .turns) w (toldBy x (t .run)) (t .run .held)) ++ turnsFrom (t .run) order
   unfolding linesThen
   turns-taken q = rw (going, ← e, q)
@@ -70,7 +70,7 @@ module _ {order out₀ : List ℕ} {at₀ : ℕ} {run₀ : Run} {out : List ℕ}
     pub refused : {o : List ℕ} {r : ℕ} {x : Refusal} → t .answer ≡ Refused x → Puts out at o r (refusedLine x ∷ []) 64 → Puts out₀ at₀ o r (turnsFrom run₀ order) (64 * (length order + 1))
     refused q p = whole (rw (drop-cons order i 0 h) (turns-refused run (getD order i 0) (drop (suc i) order) t going e q)) p
 
-    pub again : {o : List ℕ} {r : ℕ} {x : Reply} → t .answer ≡ Taken x → length o ≡ length out
+    pub again : {o : List ℕ} {r : ℕ} {x : Reply} {k : ℕ} → t .answer ≡ Taken x k → length o ≡ length out
         → Puts out at o r (turnTexts (line (t .run .turns) (getD order i 0) (toldBy x (t .run)) (t .run .held))) 64
         → Listed order out₀ at₀ run₀ o (t .run) r (i + 1)
     again q l p =

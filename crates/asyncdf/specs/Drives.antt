@@ -11,10 +11,10 @@ use Rattle.schedule.specs.declared.Worker.{Worker}
 use Rattle.schedule.specs.declared.Run.{Run}
 use Rattle.schedule.specs.declared.Reply.{Reply}
 use Rattle.schedule.specs.declared.Report.{Report}
-use Rattle.schedule.specs.Machine.{stepped}
+use Rattle.schedule.specs.Machine.{stepped, passedBy}
 use Rattle.schedule.specs.Record.{bytesOf}
 use Rattle.schedule.specs.Sound.{Steady}
-use Rattle.schedule.specs.Turn.{rootEnded, stepRun}
+use Rattle.schedule.specs.Turn.{rootEnded, stepRun, passedIn}
 use Rattle.schedule.specs.Runs.{ran, drive}
 use Rattle.soundness.specs.Checks.{Parents}
 use Rattle.asyncdf.specs.declared.act.Totals.{Totals}
@@ -98,8 +98,14 @@ pub record Took (T : Table) (K w : ℕ) (next status list : List ℕ) (m : Moved
   pub row : Rowed list' (r .moved .totals .listed)
   pub set : r .moved .busy ≡ busyAfter (m .busy) (worker .holds) (r .worker .holds) w
   pub count : r .moved .turns ≡ m .turns + 1
+  pub passed : r .passed ≡ passedBy 0 (partState next status list (m .totals) worker)
 
--- what is said of a run of at most `limit` turns that stopped with these: its report and record, and the reply of a single turn that could be taken
-pub record Driven (who : ℕ → ℕ) (limit : ℕ) (run : Run) (report : Report) (reply : Reply) (left : Run) : Type 0 where
+-- what worker w's turn of a record says
+pub record Says (run : Run) (w : ℕ) (reply : Reply) (passed : ℕ) : Type 0 where
+  pub replied : reply ≡ stepRun run w .reply
+  pub passed-over : passed ≡ passedIn run w
+
+-- what is said of a run of at most `limit` turns that stopped with these: its report and record, and what a single turn that could be taken says
+pub record Driven (who : ℕ → ℕ) (limit : ℕ) (run : Run) (report : Report) (reply : Reply) (passed : ℕ) (left : Run) : Type 0 where
   pub ran-as : ran report left ≡ drive who limit 0 run
-  pub said : limit ≡ 1 → Open run (who 0) → reply ≡ stepRun run (who 0) .reply
+  pub said : limit ≡ 1 → Open run (who 0) → Says run (who 0) reply passed

@@ -39,20 +39,21 @@ partStepped next status list r = stepped (r .reply) (partState next status list 
 unfoldable pub turnBody : Table → ℕ → ℕ → State → Stepped
 turnBody T K w st = pick (workerOf st w .holds) (act T w st) (turnFree T K w st)
 
--- the statuses and the worker's record once it has its thread: "If w holds nothing, it takes the leftmost ready thread with quota K"
+-- the statuses and the worker's record once it has its thread: "If w holds nothing, it takes the leftmost ready thread with quota K"; and how many threads stand left of one taken
 pub record Seat : Type 0 where
   pub status : List ℕ
   pub worker : Worker
+  pub passed : ℕ
 
-abbrev pub seat : List ℕ → Worker → Seat
-seat status worker = record { status = status; worker = worker }
+abbrev pub seat : List ℕ → Worker → ℕ → Seat
+seat status worker k = record { status = status; worker = worker; passed = k }
 
 unfoldable pub seatOf : ℕ → List ℕ → List ℕ → Worker → Seat
 seatOf K status list worker =
     let i : ℕ = leftmost status list in
     let t : ℕ = getD list i 0 in
-    pick (worker .holds) (seat status worker)
-    (pick (eqb i (length list)) (seat status worker) (seat (set status t held) (record { holds = true; thread = t; quota = K })))
+    pick (worker .holds) (seat status worker 0)
+    (pick (eqb i (length list)) (seat status worker 0) (seat (set status t held) (record { holds = true; thread = t; quota = K }) i))
 
 -- the array has the threads of the list in its first places, and 0 after them
 pub record Rowed (list : List ℕ) (len : ℕ) : Type 0 where

@@ -82,7 +82,7 @@ fn refused(number: u8, run: Run) -> Turned
     }
 }
 
-// A single turn of worker w: 32, 30, 31, or the reply and the record after.
+// A single turn of worker w: 32, 30, 31, or the reply, how many threads stood left of one that it took, and the record after.
 pub fn turn(run: Run, w: u8) -> Turned
     ensures { λ r. ⌜ r ≡ turnedOf run w ⌝ }
     ensures { λ r. ⌜ turningValues (r .answer) ≡ turnValues run w ⌝ }
@@ -104,7 +104,7 @@ pub fn turn(run: Run, w: u8) -> Turned
     let reply = driven.reply;
     let after = driven.run;
     Turned {
-        answer: Turning::Taken(reply),
+        answer: Turning::Taken(reply, driven.passed),
         run: after,
     }
 }

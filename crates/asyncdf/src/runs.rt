@@ -30,9 +30,10 @@ pub(crate) struct Moved {
     pub(crate) turns: u64,
 }
 
-// What a turn in a loop leaves.
+// What a turn in a loop leaves, and how many threads it passed over.
 pub(crate) struct Taken {
     pub(crate) reply: Reply,
+    pub(crate) passed: u16,
     pub(crate) worker: Worker,
     pub(crate) moved: Moved,
 }
@@ -102,11 +103,13 @@ pub(crate) fn take_turn(
 {
     let totals = moved.totals;
     let s = step(table, n, parents, quota, next, status, list, totals, worker);
-    let reply = s.reply;
-    let after = s.worker;
-    let totals = s.totals;
+    let stepped = s.stepped;
+    let reply = stepped.reply;
+    let after = stepped.worker;
+    let totals = stepped.totals;
     Taken {
         reply,
+        passed: s.passed,
         worker: after,
         moved: Moved {
             busy: busy_after(moved.busy, worker, after, w),
@@ -153,10 +156,11 @@ pub(crate) fn stopped(number: u8, i: usize) -> Report
     Report::Refused(i as u64, Refusal { number, place: 0 })
 }
 
-// Where the turns of a run stopped: its report, the reply of its last turn (idle where it took none), the workers and what was moved.
+// Where the turns of a run stopped: its report, the reply of its last turn and how many threads it passed over (idle and 0 where it took none), the workers and what was moved.
 pub(crate) struct Stop {
     pub(crate) report: Report,
     pub(crate) reply: Reply,
+    pub(crate) passed: u16,
     pub(crate) workers: [Worker; 16],
     pub(crate) moved: Moved,
 }
@@ -183,77 +187,49 @@ fn take_turns(
     ensures { λ r. ⌜ ((run : RunRecord)
         → Moving run (now (table .entry)) n last p quota (now (parents .entry)) (now (next .entry)) (now (status .entry)) (now (list .entry)) start from
         → Driven (who (now (order .entry)) rounds p) limit (packedOf run (now (next .entry)) (now (status .entry)) (now (list .entry)) start from)
-        (r .report) (r .reply) (packedOf run (now (next .exit)) (now (status .exit)) (now (list .exit)) (r .workers) (r .moved))) ⌝ }
+        (r .report) (r .reply) (r .passed) (packedOf run (now (next .exit)) (now (status .exit)) (now (list .exit)) (r .workers) (r .moved))) ⌝ }
     ensures { λ r. ⌜ r .moved .totals .listed < 65536 ⌝ }
 {
     let mut workers = start;
     let mut moved = from;
     let mut reply = Reply::Idle;
+    let mut passed = 0;
     let mut i = 0;
     while i < limit {
         let w = worker_of(order, rounds, p, i);
         if moved.turns == u64::MAX {
             let report = stopped(32, i);
-            return Stop {
-                report,
-                reply,
-                workers,
-                moved,
-            };
+            return Stop { report, reply, passed, workers, moved };
         }
         if p <= w {
             let report = stopped(30, i);
-            return Stop {
-                report,
-                reply,
-                workers,
-                moved,
-            };
+            return Stop { report, reply, passed, workers, moved };
         }
         let worker = workers[w];
-        let t = take_turn(
-            table,
-            n,
-            parents,
-            quota,
-            next,
-            status,
-            list,
-            moved,
-            worker,
-            w,
-        );
+        let t = take_turn(table, n, parents, quota, next, status, list, moved, worker, w);
         let after = t.worker;
         workers[w] = after;
         moved = t.moved;
         reply = t.reply;
+        passed = t.passed;
         i += 1;
         let Reply::Done { thread: _, action } = reply else {
             continue;
         };
         if action as usize == last {
             let report = Report::Finished(i as u64);
-            return Stop {
-                report,
-                reply,
-                workers,
-                moved,
-            };
+            return Stop { report, reply, passed, workers, moved };
         }
     }
     let report = Report::Spent(i as u64);
-    Stop {
-        report,
-        reply,
-        workers,
-        moved,
-    }
+    Stop { report, reply, passed, workers, moved }
 }
 
-// What a run did: its report, the reply of its last turn (idle where it took none) and the record that it left.
+// What a run did: its report, what its last turn said, and the record that it left.
 pub(crate) struct Outcome {
     pub(crate) report: Report,
     pub(crate) reply: Reply,
+    pub(crate) passed: u16,
     pub(crate) run: Run,
 }
 
@@ -268,7 +244,7 @@ pub(crate) fn drive(
     requires { ⌜ Steady run ⌝ }
     requires { ⌜ Parents (tableIn run) (now parents) ⌝ }
     requires { ⌜ ((i : ℕ) → i < limit → Sequence (now order) rounds (run .workers) i) ⌝ }
-    ensures { λ r. ⌜ Driven (who (now (order .entry)) rounds (run .workers)) limit run (r .report) (r .reply) (r .run) ⌝ }
+    ensures { λ r. ⌜ Driven (who (now (order .entry)) rounds (run .workers)) limit run (r .report) (r .reply) (r .passed) (r .run) ⌝ }
 {
     let length = run.length as usize;
     let table = run.table;
@@ -280,6 +256,7 @@ pub(crate) fn drive(
         return Outcome {
             report: Report::Finished(0),
             reply: Reply::Idle,
+            passed: 0,
             run,
         };
     }
@@ -310,6 +287,7 @@ pub(crate) fn drive(
     Outcome {
         report,
         reply,
+        passed: stop.passed,
         run: packed(run, next, status, list, workers, moved),
     }
 }

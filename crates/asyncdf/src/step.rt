@@ -10,8 +10,21 @@ ghost use mathlib.Core.Path.{_≡_};
 ghost use Prim.Native.Nat.{ℕ, _<_};
 ghost use lib.ListN.{getD, take};
 ghost use Rattle.table.specs.Format.{tableOf};
+ghost use Rattle.schedule.specs.Machine.{passedBy};
 ghost use Rattle.soundness.specs.Checks.{Parents};
 ghost use Rattle.asyncdf.specs.Parts.{partState, partStepped, turnBody, Rowed, Sits, seat, seatOf};
+
+// A worker with its thread, and how many threads stood left of it in the list if it was taken now.
+struct Seated {
+    worker: Worker,
+    passed: u16,
+}
+
+// What a turn leaves, and how many threads it passed over.
+pub(crate) struct Leaves {
+    pub(crate) stepped: Stepped,
+    pub(crate) passed: u16,
+}
 
 // The worker with its thread: a worker that holds nothing takes the leftmost ready thread with the whole quota, if there is one.
 fn find(
@@ -20,25 +33,28 @@ fn find(
     list: &[u16; 1024],
     len: usize,
     worker: Worker,
-) -> Worker
+) -> Seated
     requires { ⌜ Rowed (now list) len ⌝ }
     requires { ⌜ ((i : ℕ) → i < len → getD (now list) i 0 < 1024) ⌝ }
-    ensures { λ r. ⌜ seat (now (status .exit)) r ≡ seatOf quota (now (status .entry)) (take len (now (list .entry))) worker ⌝ }
+    ensures { λ r. ⌜ seat (now (status .exit)) (r .worker) (r .passed) ≡ seatOf quota (now (status .entry)) (take len (now (list .entry))) worker ⌝ }
 {
     if worker.holds {
-        return worker;
+        return Seated { worker, passed: 0 };
     }
     let i = leftmost(status, list, len);
     if i == len {
-        return worker;
+        return Seated { worker, passed: 0 };
     }
     let thread = list[i];
     let t = thread as usize;
     status[t] = HELD;
-    Worker {
-        holds: true,
-        thread,
-        quota,
+    Seated {
+        worker: Worker {
+            holds: true,
+            thread,
+            quota,
+        },
+        passed: i as u16,
     }
 }
 
@@ -53,20 +69,27 @@ pub(crate) fn step(
     list: &mut [u16; 1024],
     totals: Totals,
     worker: Worker,
-) -> Stepped
+) -> Leaves
     requires { ⌜ Sits (now table) n quota (now next) (now status) (now list) totals worker ⌝ }
     requires { ⌜ Parents (tableOf (now table)) (now parents) ⌝ }
-    ensures { λ r. ⌜ partStepped (now (next .exit)) (now (status .exit)) (now (list .exit)) r
+    ensures { λ r. ⌜ partStepped (now (next .exit)) (now (status .exit)) (now (list .exit)) (r .stepped)
         ≡ turnBody (tableOf (now (table .entry))) quota 0 (partState (now (next .entry)) (now (status .entry)) (now (list .entry)) totals worker) ⌝ }
-    ensures { λ r. ⌜ Rowed (now (list .exit)) (r .totals .listed) ⌝ }
+    ensures { λ r. ⌜ Rowed (now (list .exit)) (r .stepped .totals .listed) ⌝ }
+    ensures { λ r. ⌜ r .passed ≡ passedBy 0 (partState (now (next .entry)) (now (status .entry)) (now (list .entry)) totals worker) ⌝ }
 {
     let found = find(quota, status, &*list, totals.listed, worker);
-    if !found.holds {
-        return Stepped {
+    let passed = found.passed;
+    let seated = found.worker;
+    if !seated.holds {
+        let stepped = Stepped {
             reply: Reply::Idle,
-            worker: found,
+            worker: seated,
             totals,
         };
+        return Leaves { stepped, passed };
     }
-    act(table, n, quota, parents, next, status, list, totals, found)
+    let stepped = act(
+        table, n, quota, parents, next, status, list, totals, seated,
+    );
+    Leaves { stepped, passed }
 }

@@ -60,7 +60,7 @@ fn turn_once(run: Run, total: u64) -> u64 {
     let turned = asyncdf::turn(run, w);
     let answer = turned.answer;
     match answer {
-        Turning::Taken(reply) => reply_value(reply),
+        Turning::Taken(reply, _) => reply_value(reply),
         Turning::Refused(refusal) => refusal.number as u64,
     }
 }

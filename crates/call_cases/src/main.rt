@@ -265,7 +265,10 @@ fn call_turn(run: Run) -> Run {
     let turned = asyncdf::turn(run, one_byte());
     let answer = turned.answer;
     match answer {
-        Turning::Taken(reply) => tell_reply(reply),
+        Turning::Taken(reply, passed) => {
+            tell_reply(reply);
+            tell(b" passed ", passed as u64);
+        }
         Turning::Refused(x) => {
             say(b"refused");
             tell_refusal(x);

@@ -19,7 +19,7 @@ use Rattle.schedule.specs.Machine.{State, ended, statusOf, workerOf, par
 use Rattle.schedule.specs.Record.{tableIn, stateOf}
 use Rattle.schedule.specs.Begin.{startState, begin}
 use Rattle.schedule.specs.Sound.{Steady, Sound}
-use Rattle.schedule.specs.Turn.{unsound, turnChecks, stepRun, turnedAs, turned}
+use Rattle.schedule.specs.Turn.{unsound, turnChecks, stepRun, passedIn, turnedAs, turned}
 use Rattle.schedule.specs.Listing.{Listing, turnsBy}
 use Rattle.schedule.specs.declared.Turned.{Turned}
 use Rattle.schedule.specs.Answers.{Values, turningValues}
@@ -71,7 +71,7 @@ turned-turns : (r : Run) (w : ℕ) → turned r w .run .turns ≤ suc (r .turns)
 unfolding turned stepRun
 turned-turns r w = go (tryAt (turnChecks r w) 0)
   where
-    go : (f : Found) → turnedAs f r (stepRun r w) .run .turns ≤ suc (r .turns)
+    go : (f : Found) → turnedAs f r (passedIn r w) (stepRun r w) .run .turns ≤ suc (r .turns)
     go Nothing = omega (arith, turn-turns (tableIn r) (r .quota) w (stateOf r))
     go (At x) = omega arith
 

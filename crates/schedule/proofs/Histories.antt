@@ -30,7 +30,7 @@ use Rattle.schedule.specs.Machine.{State, turnOf}
 use Rattle.schedule.specs.Record.{maxThreads, maxBytes, stateOf, tableIn, filled}
 use Rattle.schedule.specs.Begin.{begin, begunAs, beginPasses, firsts, startState, startRun}
 use Rattle.schedule.specs.Sound.{SoundState, Steady, Sound}
-use Rattle.schedule.specs.Turn.{unsound, rootEnded, noWorker, turnChecks, stepRun, turnedAs, turned}
+use Rattle.schedule.specs.Turn.{unsound, rootEnded, noWorker, turnChecks, stepRun, passedIn, turnedAs, turned}
 use Rattle.schedule.specs.Runs.{ran, moved, drive, listRun, roundsRun}
 use Rattle.schedule.specs.Calls.{Call, turn, overList, inRounds, turnsIn, turnRow, afterCall, afterCalls, rowOf, rowOfCalls}
 use Rattle.schedule.specs.Memory.{rowState}
@@ -211,7 +211,7 @@ turn-goes : (r : Run) (w : ℕ) → Steady r → Goes r (turnRow (turned r w .an
 unfolding turned
 turn-goes r w h = go (tryAt (turnChecks r w) 0) refl
   where
-    go : (f : Found) → tryAt (turnChecks r w) 0 ≡ f → Goes r (turnRow (turnedAs f r (stepRun r w) .answer) w) (turnedAs f r (stepRun r w) .run)
+    go : (f : Found) → tryAt (turnChecks r w) 0 ≡ f → Goes r (turnRow (turnedAs f r (passedIn r w) (stepRun r w) .answer) w) (turnedAs f r (passedIn r w) (stepRun r w) .run)
     go Nothing e =
         let b : w < r .workers = turn-worker r w e in
         record { left = left-step r w [] (moved r w) b (left-none (moved r w)); steady = moved-steady r h w b }
@@ -274,7 +274,7 @@ pub turn-refused : (r : Run) (w : ℕ) (x : Refusal) → turned r w .answer ≡ 
 unfolding turned
 turn-refused r w x e = go (tryAt (turnChecks r w) 0) e
   where
-    go : (f : Found) → turnedAs f r (stepRun r w) .answer ≡ refusedTurn x → turnedAs f r (stepRun r w) .run ≡ r
+    go : (f : Found) → turnedAs f r (passedIn r w) (stepRun r w) .answer ≡ refusedTurn x → turnedAs f r (passedIn r w) (stepRun r w) .run ≡ r
     go Nothing e = no-way (cc)
     go (At y) e = refl
 

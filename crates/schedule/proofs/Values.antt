@@ -21,9 +21,9 @@ use Rattle.schedule.specs.declared.Reply.the-variants.{Idle, Done, Quota
 use Rattle.schedule.specs.declared.Report.the-variants.{Finished, Spent, Refused}
 use Rattle.schedule.specs.Machine.{Stepped}
 use Rattle.schedule.specs.Begin.{beginPasses, startRun, begunAs, begin}
-use Rattle.schedule.specs.Turn.{unsound, rootEnded, noWorker, turnChecks, stepRun, turnedAs, turned}
+use Rattle.schedule.specs.Turn.{unsound, rootEnded, noWorker, turnChecks, stepRun, passedIn, turnedAs, turned}
 use Rattle.schedule.specs.Runs.{ran, moved, drive, listRun, roundsRun}
-use Rattle.schedule.specs.Answers.{begun, finished, spent, Values, replyValues, beginningValues, turningValues, reportValues}
+use Rattle.schedule.specs.Answers.{begun, finished, spent, Values, replyValues, passing, beginningValues, turningValues, reportValues}
 use Rattle.schedule.specs.Values.{valuesWith, beginValues, turnValues, afterTurns, runChecks, stops, firstThat, turnsTaken, stoppedBy, runValues, listValues, roundsValues}
 
 -- ---- a beginning and a turn
@@ -41,7 +41,9 @@ unfolding turned turnValues
 turn-values r w = go (tryAt (turnChecks r w) 0) (stepRun r w) (stepRun r w .reply) refl
   where
     go : (found : Found) (d : Stepped) (x : Reply) → d .reply ≡ x
-        → turningValues (turnedAs found r d .answer) ≡ valuesWith found (replyValues (d .reply) .said) (replyValues (d .reply) .thread) (replyValues (d .reply) .value) (ifFound found 0 1)
+        → turningValues (turnedAs found r (passedIn r w) d .answer)
+        ≡ passing (ifFound found 0 (passedIn r w))
+        (valuesWith found (replyValues (d .reply) .said) (replyValues (d .reply) .thread) (replyValues (d .reply) .value) (ifFound found 0 1))
     go (At y) d x e = refl
     go Nothing d Idle e = rw e
     go Nothing d (Done t a) e = rw e

@@ -21,10 +21,10 @@ use Rattle.schedule.specs.declared.Reply.the-variants.{Idle, Done}
 use Rattle.schedule.specs.declared.Turned.{Turned}
 use Rattle.schedule.specs.declared.Turning.{Turning}
 use Rattle.schedule.specs.declared.Turning.the-variants.{Taken}
-use Rattle.schedule.specs.Machine.{leftOf, without, waitsFor, woken, actBy, act, leftmost, taken, turnFree, turnOf}
+use Rattle.schedule.specs.Machine.{leftOf, without, waitsFor, woken, actBy, act, leftmost, taken, turnFree, turnOf, passedBy}
 use Rattle.schedule.specs.Record.{setOf, tableIn, stateOf}
 use Rattle.schedule.specs.Begin.{allocAbove, firsts, startState, startRun, begin}
-use Rattle.schedule.specs.Turn.{unsound, rootEnded, noWorker, stepRun, turned}
+use Rattle.schedule.specs.Turn.{unsound, rootEnded, noWorker, stepRun, turned, passedIn}
 use Rattle.schedule.specs.Runs.{ran, moved, drive, listRun, roundsRun}
 use Rattle.schedule.specs.declared.Beginning.the-variants.{Begun as started}
 use Rattle.schedule.specs.Sound.{Steady, Sound}
@@ -83,7 +83,7 @@ list-spent-all r l j e = go (unsound r) e
 -- ---- "one with invented turn numbers"
 
 moved-turns : (r : Run) (w : ℕ) → moved r w .turns ≡ suc (r .turns)
-unfolding stepRun
+unfolding stepRun passedBy passedIn
 moved-turns r w = turn-turns (tableIn r) (r .quota) w (stateOf r)
 
 -- the turns that a run reports are those by which the record's turns taken have grown
@@ -144,8 +144,8 @@ begunE = begin E 2 6 .run
 
 -- what the turns say and leave, computed; of a sound record check 32 does not apply
 record Seen (turn : Run → ℕ → Turned) : Type 0 where
-  first : turn begunE 0 .answer ≡ Taken (Done 0 0)
-  second : turn (turn begunE 0 .run) 1 .answer ≡ Taken (Done 1 5)
+  first : turn begunE 0 .answer ≡ Taken (Done 0 0) 0
+  second : turn (turn begunE 0 .run) 1 .answer ≡ Taken (Done 1 5) 0
   unended : rootEnded (turn begunE 0 .run) ≡ false
   counted : turn begunE 0 .run .turns ≡ 1
 
@@ -154,7 +154,7 @@ unfolding sumTo anyBelow codeOf kindOf is tableOf tryAt tryFrom tryPass firstFou
 beginsE = (refl, refl)
 
 seen : Seen turnedSound
-unfolding sumTo anyBelow codeOf kindOf is tableOf tryAt tryFrom tryPass firstFound entryWrong totalWrong ownerBelow kindUnknown argumentWrong endMisplaced forkedBelow forkedBefore openBefore joinNotLatest endWithOpen neverForked allocOf freeOf wholeWithin balance balanceBelow0 passes forkBelow leftOf without waitsFor woken actBy act leftmost taken turnFree turnOf setOf allocAbove firsts startState startRun begin rootEnded noWorker stepRun
+unfolding sumTo anyBelow codeOf kindOf is tableOf tryAt tryFrom tryPass firstFound entryWrong totalWrong ownerBelow kindUnknown argumentWrong endMisplaced forkedBelow forkedBefore openBefore joinNotLatest endWithOpen neverForked allocOf freeOf wholeWithin balance balanceBelow0 passes forkBelow leftOf without waitsFor woken actBy act leftmost taken turnFree turnOf setOf allocAbove firsts startState startRun begin rootEnded noWorker stepRun passedBy passedIn
 seen = record { first = refl; second = refl; unended = refl; counted = refl }
 
 -- the same of the turns as they are defined
@@ -175,7 +175,7 @@ seen-turned =
 pub all-at-once-wrong : rootEnded (turned begunE 0 .run) ≡ true → ⊥
 all-at-once-wrong e = not-both _ e (seen-turned .unended)
 
-pub always-idle-wrong : turned (turned begunE 0 .run) 1 .answer ≡ Taken Idle → ⊥
+pub always-idle-wrong : turned (turned begunE 0 .run) 1 .answer ≡ Taken Idle 0 → ⊥
 always-idle-wrong e = let z = ap (λ (x : Turning). turningValues x .value) (sym (seen-turned .second) ∙ e) in omega (arith, z)
 
 pub repeated-wrong : turned (turned begunE 0 .run) 1 .answer ≡ turned begunE 0 .answer → ⊥

@@ -31,7 +31,7 @@ turnsIn (Spent k) = k
 turnsIn (Refused k x) = k
 
 abbrev pub turnRow : Turning → ℕ → List ℕ
-turnRow (Taken x) w = w ∷ []
+turnRow (Taken x k) w = w ∷ []
 turnRow (refusedTurn x) w = []
 
 -- "of a single turn, its worker; of a run over a list, as many from the front as it reports; of a run in rounds, as many of 0 to p − 1, again and again, as it reports"

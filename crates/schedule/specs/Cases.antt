@@ -20,7 +20,7 @@ use Rattle.schedule.specs.declared.Turned.{Turned}
 use Rattle.schedule.specs.Machine.{leftOf, without, waitsFor, woken, actBy, act, leftmost, taken, turnFree, turnOf}
 use Rattle.schedule.specs.Record.{setOf}
 use Rattle.schedule.specs.Begin.{allocAbove, firsts, startState, startRun, begin}
-use Rattle.schedule.specs.Turn.{rootEnded, noWorker, stepRun, turnedAs}
+use Rattle.schedule.specs.Turn.{rootEnded, noWorker, stepRun, passedIn, turnedAs}
 use Rattle.schedule.specs.Listing.{idle, did, quota, wait, Line, line, Last, done, notDone, refused, Listing, listing, turnsBy}
 
 -- ---- runs from a beginning
@@ -44,7 +44,7 @@ abbrev pub soundChecks : Run → ℕ → List Check
 soundChecks r w = record { number = 30; applies = λ i. noWorker r w } ∷ record { number = 31; applies = λ i. rootEnded r } ∷ []
 
 abbrev pub turnedSound : Run → ℕ → Turned
-turnedSound r w = turnedAs (tryAt (soundChecks r w) 0) r (stepRun r w)
+turnedSound r w = turnedAs (tryAt (soundChecks r w) 0) r (passedIn r w) (stepRun r w)
 
 -- ---- the rows
 

@@ -67,7 +67,7 @@ abbrev pub toldBy : Reply → Run → Told
 toldBy x r = toldWith x (kind (tableIn r) (actionIn x)) (nextOf (stateOf r) (threadIn x))
 
 abbrev pub turnThen : Turning → ℕ → Run → Listing → Listing
-turnThen (Taken x) w r rest = listing (line (r .turns) w (toldBy x r) (r .held) ∷ rest .lines) (rest .last)
+turnThen (Taken x k) w r rest = listing (line (r .turns) w (toldBy x r) (r .held) ∷ rest .lines) (rest .last)
 turnThen (refusedTurn x) w r rest = listing [] (refused (x .number) (x .place))
 
 -- the last line where no turn is refused

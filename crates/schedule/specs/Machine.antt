@@ -164,3 +164,9 @@ unfoldable pub turnOf : Table → ℕ → ℕ → State → Stepped
 turnOf T K w st =
     let r : Stepped = pick (workerOf st w .holds) (act T w st) (turnFree T K w st) in
     stepped (r .reply) (counted (r .state))
+
+-- how many threads "stand left of it in the list" (N7), of the thread that worker w takes in its turn, at the moment of taking; 0 for a worker that holds one and where none is ready
+unfoldable pub passedBy : ℕ → State → ℕ
+passedBy w st =
+    let i : ℕ = leftmost (st .status) (st .list) in
+    pick (workerOf st w .holds) 0 (pick (eqb i (length (st .list))) 0 i)

@@ -11,7 +11,7 @@ use Rattle.schedule.specs.declared.Run.{Run}
 use Rattle.schedule.specs.declared.Worker.{Worker}
 use Rattle.schedule.specs.declared.Turning.the-variants.{Taken, Refused}
 use Rattle.schedule.specs.declared.Turned.{Turned}
-use Rattle.schedule.specs.Machine.{Stepped, ended, statusOf, nobody, turnOf}
+use Rattle.schedule.specs.Machine.{Stepped, ended, statusOf, nobody, turnOf, passedBy}
 use Rattle.schedule.specs.Record.{maxWorkers, tableIn, stateOf, stored, blank}
 use Rattle.schedule.specs.Sound.{sound, sameList, allBelow}
 
@@ -61,10 +61,14 @@ turnChecks r w =
 unfoldable pub stepRun : Run → ℕ → Stepped
 stepRun r w = turnOf (tableIn r) (r .quota) w (stateOf r)
 
-abbrev pub turnedAs : Found → Run → Stepped → Turned
-turnedAs Nothing r s = record { answer = Taken (s .reply); run = stored r (s .state) }
-turnedAs (At x) r s = record { answer = Refused x; run = r }
+-- how many threads it passes over to take one
+unfoldable pub passedIn : Run → ℕ → ℕ
+passedIn r w = passedBy w (stateOf r)
+
+abbrev pub turnedAs : Found → Run → ℕ → Stepped → Turned
+turnedAs Nothing r k s = record { answer = Taken (s .reply) k; run = stored r (s .state) }
+turnedAs (At x) r k s = record { answer = Refused x; run = r }
 
 -- "A refused turn hands back its record untouched."
 unfoldable pub turned : Run → ℕ → Turned
-turned r w = turnedAs (tryAt (turnChecks r w) 0) r (stepRun r w)
+turned r w = turnedAs (tryAt (turnChecks r w) 0) r (passedIn r w) (stepRun r w)

@@ -14,11 +14,11 @@ use Rattle.schedule.specs.declared.Beginning.{Beginning}
 use Rattle.schedule.specs.declared.Beginning.the-variants.{Begun as started}
 use Rattle.schedule.specs.declared.Beginning.the-variants.{Refused as refusedBeginning}
 use Rattle.schedule.specs.declared.Turned.{Turned}
-use Rattle.schedule.specs.Machine.{leftOf, without, waitsFor, woken, actBy, act, leftmost, taken, turnFree, turnOf}
+use Rattle.schedule.specs.Machine.{leftOf, without, waitsFor, woken, actBy, act, leftmost, taken, turnFree, turnOf, passedBy}
 use Rattle.schedule.specs.Record.{setOf}
 use Rattle.schedule.specs.Begin.{allocAbove, firsts, startState, startRun, begin}
-use Rattle.schedule.specs.Turn.{rootEnded, noWorker, stepRun}
-use Rattle.schedule.specs.Answers.{quota, wait, Values, saying, refusing, turningValues}
+use Rattle.schedule.specs.Turn.{rootEnded, noWorker, stepRun, passedIn}
+use Rattle.schedule.specs.Answers.{idle, done, quota, wait, Values, saying, refusing, passing, turningValues}
 use Rattle.schedule.specs.Cases.{turnedSound, orderE, orderWait, orderLater}
 
 -- the values of worker w's turn after the turns of an order
@@ -52,8 +52,8 @@ unfolding codeOf
 turnCases =
     -- "alloc 4, alloc 4, end, K 6, p 1: the second turn says quota": thread 0, amount wanted 4
     says twoAllocs 1 6 (0 ∷ []) 0 (saying quota 0 4 1)
-    -- "E, p 2, order 0 1 0 1 1 1 1 0: the last turn says wait. Worker 2 instead: 30. A turn after `done`: 31": thread 0, child 2
-    ∷ says E 2 6 orderWait 0 (saying wait 0 2 1)
+    -- "E, p 2, order 0 1 0 1 1 1 1 0: the last turn says wait. Worker 2 instead: 30. A turn after `done`: 31": thread 0, child 2; thread 2, held, stands left of it
+    ∷ says E 2 6 orderWait 0 (passing 1 (saying wait 0 2 1))
     ∷ says E 2 6 orderWait 2 (refusing (refusal 30 0) 0)
     ∷ says E 2 6 orderE 0 (refusing (refusal 31 0) 0)
     ∷ []
@@ -61,12 +61,17 @@ turnCases =
 -- Our own, with no star. The wait above names child 2 at action 2; here it is child 1 at action 3, so that a reply with the action for the child would show.
 unfoldable pub ownTurns : List TurnCase
 unfolding codeOf
-ownTurns = says E 2 6 orderLater 0 (saying wait 0 1 1) ∷ []
+ownTurns =
+    says E 2 6 orderLater 0 (saying wait 0 1 1)
+    -- N7: worker 0 passes over thread 1, which is held, and its fork of thread 2 does not count; with none ready the turn is idle and passes over none
+    ∷ says E 2 6 (0 ∷ 1 ∷ []) 0 (passing 1 (saying done 0 1 1))
+    ∷ says E 2 6 (0 ∷ 1 ∷ 0 ∷ 1 ∷ 0 ∷ 1 ∷ 0 ∷ 1 ∷ 0 ∷ 1 ∷ []) 0 (saying idle 0 0 1)
+    ∷ []
 
 -- every row's turn says what the row says; turns are those of a sound record, which they are on every row (`said-turned`, proofs/CaseLaws)
 abbrev pub Says : (Run → ℕ → Turned) → List TurnCase → Type 0
 Says turn l = map (saidBy turn) l ≡ map (λ (c : TurnCase). c .values) l
 
 pub said-worked : Says turnedSound turnCases × Says turnedSound ownTurns
-unfolding turnCases ownTurns sumTo anyBelow codeOf kindOf is tableOf tryAt tryFrom tryPass firstFound entryWrong totalWrong ownerBelow kindUnknown argumentWrong endMisplaced forkedBelow forkedBefore openBefore joinNotLatest endWithOpen neverForked allocOf freeOf wholeWithin balance balanceBelow0 passes forkBelow leftOf without waitsFor woken actBy act leftmost taken turnFree turnOf setOf allocAbove firsts startState startRun begin rootEnded noWorker stepRun
+unfolding turnCases ownTurns sumTo anyBelow codeOf kindOf is tableOf tryAt tryFrom tryPass firstFound entryWrong totalWrong ownerBelow kindUnknown argumentWrong endMisplaced forkedBelow forkedBefore openBefore joinNotLatest endWithOpen neverForked allocOf freeOf wholeWithin balance balanceBelow0 passes forkBelow leftOf without waitsFor woken actBy act leftmost taken turnFree turnOf setOf allocAbove firsts startState startRun begin rootEnded noWorker stepRun passedBy passedIn
 said-worked = (refl, refl)

@@ -13,9 +13,9 @@ use Rattle.table.specs.declared.Found.{Found}
 use Rattle.table.specs.declared.Found.the-variants.{Nothing}
 use Rattle.schedule.specs.declared.Run.{Run}
 use Rattle.schedule.specs.Begin.{beginPasses}
-use Rattle.schedule.specs.Turn.{unsound, rootEnded, noWorker, turnChecks, stepRun}
+use Rattle.schedule.specs.Turn.{unsound, rootEnded, noWorker, turnChecks, stepRun, passedIn}
 use Rattle.schedule.specs.Runs.{moved}
-use Rattle.schedule.specs.Answers.{Said, nothing, begun, finished, spent, Values, replyValues}
+use Rattle.schedule.specs.Answers.{Said, nothing, begun, finished, spent, Values, replyValues, passing}
 
 -- number and place of what checks have found; where they have found nothing, what is said, with the thread and the action, amount or child that it names; the turns taken
 abbrev pub valuesWith : Found → Said → ℕ → ℕ → ℕ → Values
@@ -26,6 +26,7 @@ valuesWith found x thread value turns =
       said = ifFound found nothing x;
       thread = ifFound found 0 thread;
       value = ifFound found 0 value;
+      passed = 0;
       turns = turns;
     }
 
@@ -35,12 +36,12 @@ valuesWith found x thread value turns =
 unfoldable pub beginValues : List ℕ → ℕ → ℕ → Values
 beginValues s p K = valuesWith (firstFound (passes s ++ beginPasses (tableOf s) p K)) begun 0 0 0
 
--- 32, 30, 31, or what the machine's reply says; a refused turn is not taken
+-- 32, 30, 31, or what the machine's reply says, with how many threads it passed over; a refused turn is not taken
 unfoldable pub turnValues : Run → ℕ → Values
 turnValues r w =
     let found : Found = tryAt (turnChecks r w) 0 in
     let reply : Values = replyValues (stepRun r w .reply) in
-    valuesWith found (reply .said) (reply .thread) (reply .value) (ifFound found 0 1)
+    passing (ifFound found 0 (passedIn r w)) (valuesWith found (reply .said) (reply .thread) (reply .value) (ifFound found 0 1))
 
 -- ---- the turns of a run, of which the one after n turns is worker `who n`'s
 

@@ -50,9 +50,9 @@ pub struct Begun {
     pub run: Run,
 }
 
-// A single turn.
+// A single turn: its reply, and how many threads stood left of the one that the worker took, 0 where it took none.
 pub enum Turning {
-    Taken(Reply),
+    Taken(Reply, u16),
     Refused(Refusal),
 }
 

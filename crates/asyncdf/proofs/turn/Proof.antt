@@ -59,7 +59,7 @@ returns-4 c =
     let o = c .before .before .before .before .before in
     let n = o .before .before in
     let d = c .before .drive .ensures in
-    rw (← turn-values) (turned-answers (turn-driven _ _ (passed (n .before .before)) (n .if2 .left) (root-open _ (o .if3 .left)) _ _ _ (d .ran-as) (d .said)))
+    rw (← turn-values) (turned-answers (turn-driven _ _ (passed (n .before .before)) (n .if2 .left) (root-open _ (o .if3 .left)) _ _ _ _ d))
 
 pub turn-spec : {M : Type 1} → statement M
 turn-spec =

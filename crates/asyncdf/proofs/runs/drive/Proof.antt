@@ -28,17 +28,17 @@ use Rattle.asyncdf.proofs.Moving.{table-room, copied-moving}
 use Rattle.asyncdf.proofs.runs.drive.Statement.{statement}
 use Rattle.asyncdf.proofs.runs.drive.Tie as tie
 
-over : (f : ℕ → ℕ) (limit : ℕ) (run : Run) (reply : Reply) → getD (run .status) 0 0 ≡ 4 → Driven f limit run (Finished 0) reply run
+over : (f : ℕ → ℕ) (limit : ℕ) (run : Run) (reply : Reply) (passed : ℕ) → getD (run .status) 0 0 ≡ 4 → Driven f limit run (Finished 0) reply passed run
 unfolding rootEnded
-over f limit run reply e =
+over f limit run reply passed e =
     record {
       ran-as = sym (drive-over f 0 run limit (eq-eqb (getD (run .status) 0 0) ended e));
       said = λ one o. absurd (eqb-false (getD (run .status) 0 0) ended (o .unended) e);
     }
 
 -- the whole run, from the record itself and to the record packed
-driven : {who : ℕ → ℕ} {limit : ℕ} {run left left' : Run} {report : Report} {reply : Reply} {m : Moved} → m ≡ movedOf run → left' ≡ left
-    → Driven who limit (packedOf run (run .next) (run .status) (run .list) (run .worker) m) report reply left → Driven who limit run report reply left'
+driven : {who : ℕ → ℕ} {limit : ℕ} {run left left' : Run} {report : Report} {reply : Reply} {passed : ℕ} {m : Moved} → m ≡ movedOf run → left' ≡ left
+    → Driven who limit (packedOf run (run .next) (run .status) (run .list) (run .worker) m) report reply passed left → Driven who limit run report reply passed left'
 driven e d x = rw d (rw e at x)
 
 list-size : (s : tie.Start) → length (s .args .run .list) ≡ 1024
@@ -57,7 +57,7 @@ array-read-if1 : tie.Need-array-read-if1
 array-read-if1 c = search needs
 
 returns : tie.Need-returns
-returns c = over _ _ _ _ (c .if1 .taken)
+returns c = over _ _ _ _ _ (c .if1 .taken)
 
 threads-requires : tie.Need-threads-requires
 threads-requires c κs = search needs

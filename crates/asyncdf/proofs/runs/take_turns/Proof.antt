@@ -18,18 +18,18 @@ use Rattle.asyncdf.proofs.runs.take_turns.Statement.{statement}
 use Rattle.asyncdf.proofs.runs.take_turns.Tie as tie
 
 record Inv (s : List ℕ) (n last p K : ℕ) (parents next₀ status₀ list₀ : List ℕ) (workers₀ : List Worker) (m₀ : Moved) (order : List ℕ) (rounds : Bool) (limit : ℕ)
-    (next status list : List ℕ) (workers : List Worker) (m : Moved) (reply : Reply) (i : ℕ) : Type 0 where
+    (next status list : List ℕ) (workers : List Worker) (m : Moved) (reply : Reply) (passed i : ℕ) : Type 0 where
   begun : Stands s n last p K parents next₀ status₀ list₀ workers₀ m₀
   sequence : (j : ℕ) → j < limit → Sequence order rounds p j
   along : (run : Run) → Moving run s n last p K parents next₀ status₀ list₀ workers₀ m₀
-      → Along (who order rounds p) limit run (packedOf run next₀ status₀ list₀ workers₀ m₀) s n last p K parents next status list workers m reply i
+      → Along (who order rounds p) limit run (packedOf run next₀ status₀ list₀ workers₀ m₀) s n last p K parents next status list workers m reply passed i
 
 abbrev Inv-loop : tie.InvT-loop
-Inv-loop table n last p quota parents next₀ status₀ list₀ order rounds limit workers₀ moved₀ reply₀ i₀ next status list workers moved reply i =
-    Inv table n last p quota parents next₀ status₀ list₀ workers₀ moved₀ order rounds limit next status list workers moved reply i
+Inv-loop table n last p quota parents next₀ status₀ list₀ order rounds limit workers₀ moved₀ reply₀ passed₀ i₀ next status list workers moved reply passed i =
+    Inv table n last p quota parents next₀ status₀ list₀ workers₀ moved₀ order rounds limit next status list workers moved reply passed i
 
 abbrev μ-loop : tie.MeasureT-loop
-μ-loop table n last p quota parents next₀ status₀ list₀ order rounds limit workers₀ moved₀ reply₀ i₀ next status list workers moved reply i = limit - i
+μ-loop table n last p quota parents next₀ status₀ list₀ order rounds limit workers₀ moved₀ reply₀ passed₀ i₀ next status list workers moved reply passed i = limit - i
 
 -- ---- the loop's places
 
@@ -43,7 +43,7 @@ moving c = c .loop .inv .along (c .loop .inv .begun .run) (c .loop .inv .begun .
 loop-holds : tie.Need-loop-holds Inv-loop μ-loop
 loop-holds c =
     let s = c .before .before in
-    record { begun = s .pre .0; sequence = s .pre .1; along = λ run v. first-along _ v }
+    record { begun = s .pre .0; sequence = s .pre .1; along = λ run v. first-along _ _ v }
 
 worker-of-requires : tie.Need-worker-of-requires Inv-loop μ-loop
 worker-of-requires c κs = c .before .loop .inv .sequence (c .before .loop .i) (c .loop-test .taken)

@@ -17,12 +17,12 @@ use Rattle.asyncdf.proofs.step.find.Statement.{statement}
 use Rattle.asyncdf.proofs.step.find.Tie as tie
 
 module _ (K : ℕ) (status list : List ℕ) (len : ℕ) (worker : Worker) where
-  keeps : worker .holds ≡ true → seat status worker ≡ seatOf K status (take len list) worker
+  keeps : worker .holds ≡ true → seat status worker 0 ≡ seatOf K status (take len list) worker
   unfolding seatOf
   keeps h = rw h
 
   module _ (h : worker .holds ≡ false) (row : Rowed list len) {i : ℕ} (e : i ≡ leftmost status (take len list)) where
-    none : i ≡ len → seat status worker ≡ seatOf K status (take len list) worker
+    none : i ≡ len → seat status worker 0 ≡ seatOf K status (take len list) worker
     unfolding seatOf
     none d = rw (h, ← e, row .front, eq-eqb i len d)
 
@@ -30,7 +30,7 @@ module _ (K : ℕ) (status list : List ℕ) (len : ℕ) (worker : Worker) where
       inside : i < len
       inside = omega (arith, d, leftmost-within status (take len list), row .front)
 
-      takes : seat (set status (getD list i 0) held) (record { holds = true; thread = getD list i 0; quota = K }) ≡ seatOf K status (take len list) worker
+      takes : seat (set status (getD list i 0) held) (record { holds = true; thread = getD list i 0; quota = K }) i ≡ seatOf K status (take len list) worker
       unfolding seatOf
       takes = rw (h, ← e, row .front, ne-eqb i len d, getD-take len list i 0 inside)
 
@@ -79,6 +79,9 @@ element-write-status c =
     let k = c .before .before in
     thread-below (start k .args .quota) _ _ _ (start k .args .worker) (free k) (start k .pre .0) (k .leftmost .ensures) (c .before .if2 .left) (start k .pre .1)
 
+cast-t14 : tie.Need-cast-t14
+cast-t14 c = omega (arith, in-row (c .before))
+
 returns-3 : tie.Need-returns-3
 returns-3 c =
     let k = c .before .before in
@@ -95,4 +98,5 @@ find-spec =
     element-copy-out-thread
     cast-t
     element-write-status
+    cast-t14
     returns-3)

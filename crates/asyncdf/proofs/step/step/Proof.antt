@@ -13,7 +13,7 @@ use Rattle.table.specs.Sum.{pick}
 use Rattle.table.specs.Format.{tableOf}
 use Rattle.schedule.specs.declared.Worker.{Worker}
 use Rattle.schedule.specs.declared.Reply.the-variants.{Idle}
-use Rattle.schedule.specs.Machine.{held, leftmost, taken, turnFree, stepped, act}
+use Rattle.schedule.specs.Machine.{held, leftmost, taken, turnFree, stepped, act, passedBy}
 use Rattle.schedule.proofs.Turns.{leftmost-ready}
 use Rattle.schedule.proofs.Replies.{leftmost-within}
 use Rattle.asyncdf.specs.Parts.{partState, partStepped, turnBody, Rowed, Sits, Seat, seat, seatOf}
@@ -28,6 +28,7 @@ record Ready (s : List ℕ) (n K : ℕ) (next status list : List ℕ) (totals : 
   sits : y .worker .holds ≡ true → Sits s n K next (y .status) list totals (y .worker)
   body : pick (y .worker .holds) (act (tableOf s) 0 (partState next (y .status) list totals (y .worker))) (stepped Idle (partState next (y .status) list totals (y .worker)))
       ≡ turnBody (tableOf s) K 0 (partState next status list totals worker)
+  passed : y .passed ≡ passedBy 0 (partState next status list totals worker)
 
 module _ {s : List ℕ} {n K : ℕ} {next status list : List ℕ} {totals : Totals} {worker : Worker} (q : Sits s n K next status list totals worker) where
   abbrev row : List ℕ
@@ -44,15 +45,15 @@ module _ {s : List ℕ} {n K : ℕ} {next status list : List ℕ} {totals : Tota
       rw t (taken-sits q h (getD list i 0) (row-below q i inside) (rw t at (leftmost-ready status row d .1)))
 
   ready : Ready s n K next status list totals worker (seatOf K status row worker)
-  unfolding seatOf turnBody turnFree taken
+  unfolding seatOf turnBody turnFree taken passedBy
   ready = go (worker .holds) refl (eqb i (length row)) refl
     where
       go : (b : Bool) → worker .holds ≡ b → (d : Bool) → eqb i (length row) ≡ d
           → Ready s n K next status list totals worker
-          (pick b (seat status worker) (pick d (seat status worker) (seat (set status (getD row i 0) held) (record { holds = true; thread = getD row i 0; quota = K }))))
-      go true h d e = record { sits = λ o. q; body = rw h }
-      go false h true e = record { sits = λ o. q; body = rw (h, e) }
-      go false h false e = record { sits = λ o. taken-ready h (eqb-false i (length row) e); body = rw (h, e) }
+          (pick b (seat status worker 0) (pick d (seat status worker 0) (seat (set status (getD row i 0) held) (record { holds = true; thread = getD row i 0; quota = K }) i)))
+      go true h d e = record { sits = λ o. q; body = rw h; passed = rw h }
+      go false h true e = record { sits = λ o. q; body = rw (h, e); passed = rw (h, e) }
+      go false h false e = record { sits = λ o. taken-ready h (eqb-false i (length row) e); body = rw (h, e); passed = rw (h, e) }
 
   module _ {y : Seat} (e : y ≡ seatOf K status row worker) where
     at-seat : Ready s n K next status list totals worker y
@@ -74,21 +75,21 @@ find-requires c κs =
 
 returns : tie.Need-returns
 returns c =
-    let f = c .before .before in
-    (idles (start f .pre .0) (f .find .ensures) (not-true _ (c .if1 .taken)), start f .pre .0 .row)
+    let f = c .before .before .before in
+    (idles (start f .pre .0) (f .find .ensures) (not-true _ (c .if1 .taken)), (start f .pre .0 .row, at-seat (start f .pre .0) (f .find .ensures) .passed))
 
 act-requires : tie.Need-act-requires
 act-requires c κs =
     let d = c .before .before .before in
-    let f = d .before .before in
+    let f = d .before .before .before in
     let h = not-false _ (d .if1 .left) in
     (at-seat (start f .pre .0) (f .find .ensures) .sits h, (start f .pre .1, h))
 
 returns-2 : tie.Need-returns-2
 returns-2 c =
     let d = c .before .before .before .before in
-    let f = d .before .before in
-    (c .act .ensures .0 ∙ goes-on (start f .pre .0) (f .find .ensures) (not-false _ (d .if1 .left)), c .act .ensures .1)
+    let f = d .before .before .before in
+    (c .act .ensures .0 ∙ goes-on (start f .pre .0) (f .find .ensures) (not-false _ (d .if1 .left)), (c .act .ensures .1, at-seat (start f .pre .0) (f .find .ensures) .passed))
 
 pub step-spec : {M : Type 1} → statement M
 step-spec = tie.close (tie.spec find-requires returns act-requires returns-2)

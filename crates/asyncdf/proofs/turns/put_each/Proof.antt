@@ -25,7 +25,7 @@ use Rattle.asyncdf.specs.declared.runs.Moved.{Moved}
 use Rattle.asyncdf.specs.declared.runs.Taken.{Taken}
 use Rattle.asyncdf.specs.Drives.{Outlined, Moving, Stands, Took, packedOf}
 use Rattle.asyncdf.proofs.Calls.{steady-full, steady-room, turned-unsound, turned-none, turned-taken}
-use Rattle.asyncdf.proofs.Moving.{not-done, other, few, sits, bit, moves, replies, keeps, over}
+use Rattle.asyncdf.proofs.Moving.{not-done, other, few, sits, bit, moves, replies, passes, keeps, over}
 use Rattle.asyncdf.proofs.Ordered.{turnsFrom, Listed, start, ended, exhausted, refused, again}
 use Rattle.asyncdf.proofs.turns.put_each.Statement.{statement}
 use Rattle.asyncdf.proofs.turns.put_each.Tie as tie
@@ -61,11 +61,12 @@ module _ {run run₀ : Run} {order out₀ : List ℕ} {at₀ : ℕ} {s : List �
         abbrev there : Run
         there = packedOf run next' status' list' (set workers (getD order i 0) (r .worker)) (r .moved)
 
-        takes : record { answer = taken (r .reply); run = there } ≡ turned here (getD order i 0)
+        takes : record { answer = taken (r .reply) (r .passed); run = there } ≡ turned here (getD order i 0)
         takes =
             let a = sym (replies (v .moving) b t) in
+            let c = sym (passes (v .moving) b t) in
             let x : there ≡ _ = sym (moves (v .moving) b t) in
-            (λ j. record { answer = taken (a j); run = x j })
+            (λ j. record { answer = taken (a j) (c j); run = x j })
             ∙ turned-taken here (getD order i 0) sound-here (omega (arith, b, v .moving .count)) (v .moving .unended)
 
         module _ {o : List ℕ} {k : ℕ} (l : length o ≡ length out)
