@@ -279,7 +279,8 @@ fn call_turn(run: Run) -> Run {
 }
 
 fn call_preview(run: Run) -> Run {
-    match preview::preview(run, one_byte()) {
+    let shown = preview::preview(run, one_byte());
+    match shown {
         Previewed::Would {
             reply,
             passed,
