@@ -1,6 +1,6 @@
 -- Demand 3 for the running code. A history is a list of calls, each on the record that the last one left, of which nothing is known but what the promises of the public functions say:
 -- their own `ensures`, as the check reads it (`Learnt`), of the arguments and the answer. `history-is`: the record, the answers and the row of turns are those of the definitions.
--- `code-limit`: and so the memory limit (crates/schedule/proofs/Limit.antt) holds of them.
+-- `history-exists`: every list of calls has one. `code-limit`: and so the memory limit (crates/schedule/proofs/Limit.antt) holds of them.
 use mathlib.Core.Path.{_≡_, refl, sym, ap, ap₂, subst, _∙_}
 use Prim.Native.Nat.{ℕ, _%_, _≤_}
 use mathlib.Core.List.{List, [], _∷_, _++_}
@@ -22,6 +22,7 @@ use Rattle.schedule.specs.Turn.{turned}
 use Rattle.schedule.specs.Runs.{listRun, roundsRun}
 use Rattle.schedule.specs.Calls.{Call, turn, overList, inRounds, turnsIn, turnRow, afterCall, afterCalls, rowOf, rowOfCalls}
 use Rattle.schedule.proofs.Limit.{MemoryLimit, memory-limit}
+use Rattle.schedule.proofs.Values.{begin-values, turn-values, list-values, rounds-values}
 use Rattle.asyncdf.proofs.begin.Kinds as begin-kinds
 use Rattle.asyncdf.proofs.begin.Reads as begin-promise
 use Rattle.asyncdf.proofs.turn.Kinds as turn-kinds
@@ -140,6 +141,38 @@ history-is (next {r} {r'} {r''} {c} {x} {row} {rest} {calls} {answers} h t) =
       answers-are = ap₂ _∷_ (a .answer-is) (b .answers-are ∙ ap (answersOf calls) (a .record-is));
       row-is = ap₂ _++_ (a .row-is) (b .row-is ∙ ap (rowOfCalls calls) (a .record-is));
     }
+
+-- ---- a history exists
+
+-- a reference at some place to a value
+abbrev lentOf : List ℕ → RefT (List ℕ)
+lentOf l = record { ptr = (0, 0); name = 0; now = l }
+
+-- what the definitions answer keeps the promises
+pub begin-says : (s : List ℕ) (p K : ℕ) → BeginSays s p K (begin s p K)
+begin-says s p K =
+    record { lifetimes = ([], tt); bytes = lentOf s; lent = refl; exit = (lentOf s, (p, (K, tt))); promised = (refl, begin-values s p K) }
+
+turn-says : (r : Run) (w : ℕ) → TurnSays r w (turned r w)
+turn-says r w = record { exit = (r, (w, tt)); promised = (refl, turn-values r w) }
+
+list-says : (r : Run) (l : List ℕ) → ListSays r l (listRun r l)
+list-says r l = record { lifetimes = ([], tt); order = lentOf l; lent = refl; exit = (r, (lentOf l, tt)); promised = (refl, list-values r l) }
+
+rounds-says : (r : Run) (limit : ℕ) → RoundsSays r limit (roundsRun r limit)
+rounds-says r limit = record { exit = (r, (limit, tt)); promised = (refl, rounds-values r limit) }
+
+called : (r : Run) (c : Call) → Called r c (answerOf c r) (rowOf c r) (afterCall c r)
+unfolding afterCall rowOf
+called r (turn w) = by-turn w (turned r w) (turn-says r w)
+called r (overList l) = by-list l (listRun r l) (list-says r l)
+called r (inRounds limit) = by-rounds limit (roundsRun r limit) (rounds-says r limit)
+
+-- every list of calls has a history, from every record and so from that of every accepted beginning: what is said of all histories is said of something
+pub history-exists : (r : Run) (calls : List Call) → History r calls (answersOf calls r) (rowOfCalls calls r) (afterCalls calls r)
+unfolding afterCalls answersOf rowOfCalls
+history-exists r [] = none
+history-exists r (c ∷ calls) = next (called r c) (history-exists (afterCall c r) calls)
 
 -- ---- demand 3
 

@@ -11,14 +11,15 @@ use lib.ListN.{length}
 use borrow.Author.Tests.{eqb-false}
 use Rattle.table.specs.Sum.{pick, sumTo}
 use Rattle.table.specs.Format.{free, kind}
-use Rattle.table.specs.Rules.{allocOf}
+use Rattle.table.specs.Rules.{endOf, allocOf}
 use Rattle.schedule.specs.declared.Run.{Run}
-use Rattle.schedule.specs.Machine.{ready, held, ended, nextOf, statusOf, workerOf}
+use Rattle.schedule.specs.Machine.{unborn, ready, held, ended, nextOf, statusOf, workerOf}
 use Rattle.schedule.specs.Record.{stateOf, tableIn}
 use Rattle.schedule.specs.Sound.{Steady, member, countBelow, isDone, ofDone, numberOf}
 use Rattle.schedule.specs.Turn.{rootEnded}
 use Rattle.schedule.proofs.Facts.{Facts}
 use Rattle.schedule.proofs.Words.{never-true, member-exactly}
+use Rattle.schedule.proofs.Done.{unborn-first as unborn-next}
 use Rattle.schedule.proofs.Shares.{share, held-shares, free-held}
 use Rattle.schedule.proofs.Stores.{steady-lawful, steady-fits, steady-facts}
 use Rattle.schedule.proofs.Leftmost.{leftmost-enabled}
@@ -26,6 +27,13 @@ use Rattle.schedule.proofs.Totals.{sumTo-bound}
 use Rattle.schedule.proofs.CountBelow.{count-bound, member-more, ascending-count, set-ones}
 
 module _ (r : Run) (h : Steady r) where
+  -- "An unborn thread's next action is its first; an ended one's remains its end."
+  pub unborn-first : (t : ℕ) → t < tableIn r .threads → statusOf (stateOf r) t ≡ unborn → nextOf (stateOf r) t ≡ tableIn r .first t
+  unborn-first = unborn-next (tableIn r) (steady-lawful r h) (r .workers) (r .quota) (stateOf r) (steady-facts r h)
+
+  pub ended-last : (t : ℕ) → t < tableIn r .threads → statusOf (stateOf r) t ≡ ended → nextOf (stateOf r) t ≡ endOf (tableIn r) t
+  ended-last = steady-facts r h .ended-last
+
   -- the threads in the list, counted
   list-count : countBelow (λ t. member t (stateOf r .list)) (tableIn r .threads) ≡ length (stateOf r .list)
   list-count =

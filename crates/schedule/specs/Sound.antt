@@ -101,7 +101,8 @@ nextInBody T next t = leb (T .first t) (getD next t 0) && leb (getD next t 0) (e
 unfoldable pub inOrder : Table → List ℕ → List ℕ → ℕ → Bool
 inOrder T next status a = not (doneIn T next status a) || allIn (doneIn T next status) (dependsOn T a)
 
--- "statuses .. follow from what is done": unborn while the fork is not done, the root never; ended at the end alone; one of the five
+-- "statuses .. follow from what is done": unborn while the fork is not done, the root never; ended at the end alone; one of the five. "An unborn thread's next action is its first" is no
+-- test of its own: it follows from this test, nextInBody and inOrder, since an action done of an unborn thread would be done before its fork (`unborn-first`, proofs/Soundness).
 unfoldable pub statusFollows : Table → List ℕ → List ℕ → ℕ → Bool
 statusFollows T next status t =
     agree (eqb (getD status t 0) unborn) (ltb 0 t && not (doneIn T next status (forkBelow T (T .actions) t)))
