@@ -6,6 +6,7 @@ pub mod Turn
 pub mod Runs
 pub mod Calls
 pub mod Memory
+pub mod Threads
 pub mod Answers
 pub mod Listing
 pub mod Cases

@@ -8,6 +8,7 @@ pub mod Nesting
 pub mod Serial
 pub mod Rank
 pub mod Levels
+pub mod Nested
 pub mod Amounts
 pub mod Peaks
 pub mod Stack

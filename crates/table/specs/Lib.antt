@@ -6,6 +6,7 @@ pub mod Rules
 pub mod Accepted
 pub mod Serial
 pub mod Level
+pub mod Nested
 pub mod Steps
 pub mod Load
 pub mod Cases
