@@ -19,7 +19,7 @@ use Rattle.table.proofs.Tests.{no-way, is-true, same-is}
 use Rattle.table.proofs.Sums.{sumTo-le}
 use Rattle.table.proofs.Bodies.{end-within, first-within, owner-below, owner-of-first, fork-above, fork-below}
 use Rattle.table.proofs.Nesting.{some-anyBelow, fork-found, fork-exists}
-use Rattle.table.proofs.Nested.{line, nest-line, line-child, line-self, line-top, nest-most}
+use Rattle.table.proofs.NestedThreads.{line, nest-line, line-child, line-self, line-top, nest-most}
 use Rattle.schedule.specs.declared.Reply.the-variants.{Done}
 use Rattle.schedule.specs.Machine.{State, ended, nextOf, statusOf, workerOf, turnOf}
 use Rattle.schedule.specs.Begin.{startState}

@@ -8,7 +8,8 @@ pub mod Nesting
 pub mod Serial
 pub mod Rank
 pub mod Levels
-pub mod Nested
+pub mod NestedThreads
+pub mod NestWalk
 pub mod Amounts
 pub mod Peaks
 pub mod Stack

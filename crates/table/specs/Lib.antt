@@ -10,4 +10,5 @@ pub mod Nested
 pub mod Steps
 pub mod Load
 pub mod Cases
+pub mod NestedCases
 pub mod Wrong

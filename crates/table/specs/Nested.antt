@@ -6,7 +6,7 @@ use Rattle.table.specs.Rules.{owner}
 use Rattle.table.specs.Level.{forkBelow}
 
 -- "nested thread levels, the root being one": of any other thread it is 1 more than its parent's, the thread that forks it. A parent has the lower number, so the count of threads is
--- fuel enough; `nest-root` and `nest-child` (proofs/Nested) are the same sentence without it.
+-- fuel enough; `nest-root` and `nest-child` (proofs/NestedThreads) are the same sentence without it.
 unfoldable pub nestWithin : ℕ → Table → ℕ → ℕ
 nestWithin zero T t = 0
 nestWithin (suc f) T zero = 1

@@ -5,6 +5,7 @@ mod forms;
 mod head;
 mod level;
 mod nest;
+mod nested;
 mod peak;
 mod read;
 
@@ -14,6 +15,7 @@ use forms::first_pass;
 use head::head;
 use level::depth;
 use nest::nesting;
+use nested::nested_levels;
 use peak::serial_peak;
 use read::word;
 ghost use mathlib.Core.Path.{_≡_};
@@ -23,12 +25,13 @@ ghost use Rattle.table.specs.Rules.{balancePass, shapePasses};
 ghost use Rattle.table.specs.Load.{answer, factsOf, loaded, valuesOf};
 ghost use Rattle.table.specs.Steps.{Headed, Nested};
 
-// What an accepted table tells: threads n, actions m, serial peak S1 and depth D.
+// What an accepted table tells: threads n, actions m, serial peak S1, depth D and nested thread levels N.
 pub struct Facts {
     pub threads: u16,
     pub actions: u16,
     pub peak: u64,
     pub depth: u16,
+    pub nested: u16,
 }
 
 // The number of the check that applied, and its place.
@@ -95,10 +98,12 @@ fn weigh(table: &[u8], n: usize, m: usize) -> Loaded
     }
     let peak = serial_peak(table, n, m, &rises, &falls);
     let depth = depth(table, n, m);
+    let nested = nested_levels(table, n, m);
     Loaded::Accepted(Facts {
         threads: n as u16,
         actions: m as u16,
         peak,
         depth: depth as u16,
+        nested: nested as u16,
     })
 }

@@ -30,6 +30,16 @@ nest-length zero T t = refl
 nest-length (suc f) T zero = refl
 nest-length (suc f) T (suc t) = ap suc (nest-length f T (owner T (forkBelow T (T .actions) (suc t))))
 
+-- a line is as long as its fuel at most
+nest-fuel : (f : ℕ) (T : Table) (t : ℕ) → nestWithin f T t ≤ f
+unfolding nestWithin
+nest-fuel zero T t = omega arith
+nest-fuel (suc f) T zero = omega arith
+nest-fuel (suc f) T (suc t) = omega (arith, nest-fuel f T (owner T (forkBelow T (T .actions) (suc t))))
+
+pub nest-few : (T : Table) (t : ℕ) → nest T t ≤ T .threads
+nest-few T t = nest-fuel (T .threads) T t
+
 -- its length is the thread's nesting
 pub nest-line : (T : Table) (t : ℕ) → nest T t ≡ length (line T t)
 nest-line T t = nest-length (T .threads) T t
@@ -114,6 +124,11 @@ greatest-under f (suc k) B h = omega (arith, greatest-under f k B (λ i l. h i (
 pub nest-most : (T : Table) (t : ℕ) → t < T .threads → nest T t ≤ N T
 unfolding N
 nest-most T t h = greatest-at (nest T) (T .threads) t h
+
+-- and no more than there are threads
+pub nested-few : (T : Table) → N T ≤ T .threads
+unfolding N
+nested-few T = greatest-under (nest T) (T .threads) (T .threads) (λ t h. nest-few T t)
 
 -- a number that is one thread's nesting, and that none is above, is N
 pub nest-greatest : (T : Table) (B t : ℕ) → t < T .threads → nest T t ≡ B → ((u : ℕ) → u < T .threads → nest T u ≤ B) → N T ≡ B
