@@ -10,4 +10,5 @@ pub mod Threads
 pub mod Answers
 pub mod Listing
 pub mod Cases
+pub mod ThreadCases
 pub mod Rule
