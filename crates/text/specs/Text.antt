@@ -40,6 +40,10 @@ serialWord = 32 ∷ 115 ∷ 101 ∷ 114 ∷ 105 ∷ 97 ∷ 108 ∷ 32 ∷ []
 abbrev pub depthWord : List ℕ
 depthWord = 32 ∷ 100 ∷ 101 ∷ 112 ∷ 116 ∷ 104 ∷ 32 ∷ []
 
+-- " nested "
+abbrev pub nestedWord : List ℕ
+nestedWord = 32 ∷ 110 ∷ 101 ∷ 115 ∷ 116 ∷ 101 ∷ 100 ∷ 32 ∷ []
+
 -- "refused "
 abbrev pub refusedWord : List ℕ
 refusedWord = 114 ∷ 101 ∷ 102 ∷ 117 ∷ 115 ∷ 101 ∷ 100 ∷ 32 ∷ []
@@ -50,30 +54,52 @@ space = 32 ∷ []
 abbrev pub newline : List ℕ
 newline = 10 ∷ []
 
--- an accepted table's line: "table n m serial S1 depth D"
-unfoldable pub acceptedLine : Facts → List ℕ
-acceptedLine f =
+-- an accepted table: "table n m serial S1 depth D"
+abbrev pub factsText : Facts → List ℕ
+factsText f =
     tableWord ++ decimal (f .threads)
     ++ space ++ decimal (f .actions)
     ++ serialWord ++ decimal (f .peak)
     ++ depthWord ++ decimal (f .depth)
-    ++ newline
+
+-- the header of a listing: "Header: n, m, S1, D."
+unfoldable pub acceptedLine : Facts → List ℕ
+acceptedLine f = factsText f ++ newline
+
+-- all facts, with the nested thread levels: "table n m serial S1 depth D nested N"
+unfoldable pub nestedLine : Facts → List ℕ
+nestedLine f = factsText f ++ nestedWord ++ decimal (f .nested) ++ newline
 
 -- a refused table's line: "refused NUMBER PLACE"
 unfoldable pub refusedLine : Refusal → List ℕ
 refusedLine r = refusedWord ++ decimal (r .number) ++ space ++ decimal (r .place) ++ newline
 
+-- the only line or the header of a listing
 abbrev pub lineOf : Loaded → List ℕ
 lineOf (Accepted f) = acceptedLine f
 lineOf (Refused r) = refusedLine r
 
+-- the line that tells all that loading answered
+abbrev pub factsLineOf : Loaded → List ℕ
+factsLineOf (Accepted f) = nestedLine f
+factsLineOf (Refused r) = refusedLine r
+
 -- "table 3 12 serial 6 depth 8\n"
-accepted-example : lineOf (Accepted (record { threads = 3; actions = 12; peak = 6; depth = 8 }))
+accepted-example : lineOf (Accepted (record { threads = 3; actions = 12; peak = 6; depth = 8; nested = 2 }))
     ≡ 116 ∷ 97 ∷ 98 ∷ 108 ∷ 101 ∷ 32 ∷ 51 ∷ 32 ∷ 49 ∷ 50
     ∷ 32 ∷ 115 ∷ 101 ∷ 114 ∷ 105 ∷ 97 ∷ 108 ∷ 32 ∷ 54
     ∷ 32 ∷ 100 ∷ 101 ∷ 112 ∷ 116 ∷ 104 ∷ 32 ∷ 56 ∷ 10 ∷ []
 unfolding acceptedLine decimal digitsOf
 accepted-example = refl
+
+-- "table 3 12 serial 6 depth 8 nested 2\n"
+nested-example : factsLineOf (Accepted (record { threads = 3; actions = 12; peak = 6; depth = 8; nested = 2 }))
+    ≡ 116 ∷ 97 ∷ 98 ∷ 108 ∷ 101 ∷ 32 ∷ 51 ∷ 32 ∷ 49 ∷ 50
+    ∷ 32 ∷ 115 ∷ 101 ∷ 114 ∷ 105 ∷ 97 ∷ 108 ∷ 32 ∷ 54
+    ∷ 32 ∷ 100 ∷ 101 ∷ 112 ∷ 116 ∷ 104 ∷ 32 ∷ 56
+    ∷ 32 ∷ 110 ∷ 101 ∷ 115 ∷ 116 ∷ 101 ∷ 100 ∷ 32 ∷ 50 ∷ 10 ∷ []
+unfolding nestedLine decimal digitsOf
+nested-example = refl
 
 -- "refused 10 1\n"
 refused-example : lineOf (Refused (record { number = 10; place = 1 }))
