@@ -1,7 +1,7 @@
 // The number of nested thread levels N: a forked thread is one level below the thread that forks it.
-use crate::read::argument;
+use crate::read::argument_at;
 use crate::read::bodies;
-use crate::read::code;
+use crate::read::code_at;
 ghost use mathlib.Core.Path.{_≡_};
 ghost use Prim.Native.Nat.{suc, max, _<_, _≤_};
 ghost use lib.ListN.{set};
@@ -43,8 +43,8 @@ pub(crate) fn nested_levels(table: &[u8], n: usize, m: usize) -> usize
     let mut t = 0;
     let mut a = 0;
     while a < m {
-        let k = code(actions, a);
-        let c = argument(actions, a);
+        let k = code_at(actions, a);
+        let c = argument_at(actions, a);
         let level = levels[t];
         deepest = fork_level(k, c, level, deepest, &mut levels);
         t = next_thread(k, t);

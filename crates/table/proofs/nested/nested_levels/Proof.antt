@@ -5,9 +5,10 @@ use Prim.Native.Nat.{ℕ, suc, _+_, _-_, _*_, _≤_, _<_, max}
 use mathlib.Core.List.{List}
 use native.Mathlib.Numerals.{add-one}
 use native.Mathlib.Omega.{arith}
+use borrow.Author.Needs.{needs}
 use lib.ListN.{length, getD, set, replicate}
 use Rattle.table.specs.Sum.{pick}
-use Rattle.table.specs.Format.{end, fork, is, kindOf, Table, tableOf, kind, codeAt, argumentAt, bodiesOf}
+use Rattle.table.specs.Format.{end, fork, is, kindOf, Table, tableOf, kind, codeAt, argumentAt, bodiesOf, bodiesFrom}
 use Rattle.table.specs.Accepted.{ContentRules, BodyRules, NestRules, ForkRules}
 use Rattle.table.specs.Nested.{N}
 use Rattle.table.specs.Steps.{Nested}
@@ -15,7 +16,7 @@ use Rattle.table.proofs.Sizes.{Sizes, sizes}
 use Rattle.table.proofs.Bodies.{fork-below}
 use Rattle.table.proofs.NestedThreads.{nest-few}
 use Rattle.table.proofs.NestWalk.{Walked, walked-first, walked-below, walked-known, walked-next, walked-all}
-use Rattle.table.proofs.Parts.{bodies-length}
+use Rattle.table.proofs.Parts.{bodies-from, bodies-length}
 use Rattle.table.proofs.nested.nested_levels.Statement.{statement}
 use Rattle.table.proofs.nested.nested_levels.Tie as tie
 
@@ -39,8 +40,10 @@ actions-are : {s : List ℕ} {n m : ℕ} → Nested s n m → m ≡ tableOf s .a
 unfolding tableOf
 actions-are h = h .formed .laid .headed .actions
 
-start : {s actions : List ℕ} {n m : ℕ} → Nested s n m → actions ≡ bodiesOf s → Inv s actions n m (replicate 1024 1) 1 0 0
-start {s} h p =
+start : {s actions : List ℕ} {n m : ℕ} → Nested s n m → actions ≡ bodiesFrom s n → Inv s actions n m (replicate 1024 1) 1 0 0
+unfolding tableOf
+start {s} {actions} {n} h b =
+    let p : actions ≡ bodiesOf s = b ∙ bodies-from s n (h .formed .laid .headed .threads) in
     record {
       sized = sizes (h .formed .laid .headed);
       nested = h;
@@ -114,18 +117,16 @@ abbrev μ-loop : tie.MeasureT-loop
 μ-loop table n m actions levels₀ deepest₀ t₀ a₀ levels deepest t a = m - a
 
 bodies-requires : tie.Need-bodies-requires Inv-loop μ-loop
-bodies-requires c κs =
-    let d = c .before .pre .formed .laid .headed in
-    (d .threads, omega (arith, sizes d))
+bodies-requires c κs = search needs
 
 loop-holds : tie.Need-loop-holds Inv-loop μ-loop
 loop-holds c = start (c .before .before .pre) (c .bodies .ensures)
 
-code-requires : tie.Need-code-requires Inv-loop μ-loop
-code-requires c κs = omega arith
+code-at-requires : tie.Need-code-at-requires Inv-loop μ-loop
+code-at-requires c κs = omega arith
 
-argument-requires : tie.Need-argument-requires Inv-loop μ-loop
-argument-requires c κs = omega arith
+argument-at-requires : tie.Need-argument-at-requires Inv-loop μ-loop
+argument-at-requires c κs = omega arith
 
 mul-level : tie.Need-mul-level Inv-loop μ-loop
 mul-level c = omega (arith, thread-below (c .before .before .before .loop .inv) (c .before .before .loop-test .taken))
@@ -136,7 +137,7 @@ array-read-level c = thread-below (c .before .before .before .loop .inv) (c .bef
 fork-level-requires : tie.Need-fork-level-requires Inv-loop μ-loop
 fork-level-requires c κs =
     let b = c .before .before .before in
-    (level-small (b .before .loop .inv) (b .loop-test .taken), child-below (b .before .loop .inv) (b .loop-test .taken) (c .before .before .code .ensures) (c .before .argument .ensures .value))
+    (level-small (b .before .loop .inv) (b .loop-test .taken), child-below (b .before .loop .inv) (b .loop-test .taken) (c .before .before .code-at .ensures) (c .before .argument-at .ensures .value))
 
 next-thread-requires : tie.Need-next-thread-requires Inv-loop μ-loop
 next-thread-requires c κs =
@@ -152,7 +153,7 @@ loop-less c = omega arith
 loop-again : tie.Need-loop-again Inv-loop μ-loop
 loop-again c =
     let b = c .before .before .before .before .before in
-    again (b .before .loop .inv) (b .loop-test .taken) (c .before .before .before .before .code .ensures) (c .before .before .before .argument .ensures .value)
+    again (b .before .loop .inv) (b .loop-test .taken) (c .before .before .before .before .code-at .ensures) (c .before .before .before .argument-at .ensures .value)
     (c .before .fork-level .ensures .0) (c .before .fork-level .ensures .1) (c .next-thread .ensures)
 
 returns : tie.Need-returns Inv-loop μ-loop
@@ -166,8 +167,8 @@ nested-levels-spec =
     μ-loop
     bodies-requires
     loop-holds
-    code-requires
-    argument-requires
+    code-at-requires
+    argument-at-requires
     mul-level
     array-read-level
     fork-level-requires
