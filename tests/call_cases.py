@@ -22,6 +22,10 @@ def turn(w):
     return b't' + bytes([w])
 
 
+def shown(w):
+    return b'v' + bytes([w])
+
+
 def order(*row):
     return b'l' + bytes([len(row)]) + bytes(row)
 
@@ -55,6 +59,8 @@ def called(run, call):
         return changed(run, call)
     if call[:1] == b't':
         answer, run = machine.turn(run, call[1])
+    elif call[:1] == b'v':
+        answer = machine.preview(run, call[1])
     elif call[:1] == b'l':
         answer, run = machine.run_list(run, call[2:])
     else:
@@ -124,6 +130,20 @@ CASES = [
      ['done 0 0', 'done 1 5', 'done 2 8', 'wait 1 2 passed 1', 'done 0 1 passed 2', 'done 3 11 passed 2', 'done 3 12', 'done 0 2 passed 2']),
     ('sixteen workers, each past those before it', (16, 1, FAN), [turn(i // 2) for i in range(31)] + [turn(15)],
      [said % w for w in range(15) for said in ('done 0 %d' % w + ' passed %d', 'done %d %d' % (w + 1, 31 + 2 * w) + ' passed %d')] + ['wait 0 15 passed 15', 'idle']),
+    ('turns shown before they are taken', (2, 6, E), [call for w in [0, 1] * 4 for call in (shown(w), turn(w))],
+     ['would done 0 0 passed 0 held 0 highest 0 quota 0', 'done 0 0', 'would done 1 5 passed 0 held 6 highest 6 quota 0', 'done 1 5',
+      'would done 0 1 passed 1 held 6 highest 6 quota 0', 'done 0 1 passed 1', 'would done 1 6 passed 0 held 6 highest 6 quota 0', 'done 1 6',
+      'would done 2 9 passed 1 held 12 highest 12 quota 0', 'done 2 9 passed 1', 'would done 1 7 passed 0 held 6 highest 12 quota 0', 'done 1 7',
+      'would done 2 10 passed 0 held 0 highest 12 quota 0', 'done 2 10', 'would done 1 8 passed 0 held 0 highest 12 quota 0', 'done 1 8']),
+    ('shown: a join, an idle turn, the end, refusals', (2, 6, E), [order(*[0, 1] * 4, 0), shown(1), turn(1), shown(0), order(0, 1, 0), shown(1), turn(1), shown(0), shown(2)],
+     ['spent 9', 'would done 0 2 passed 0 held 0 highest 12 quota 6', 'done 0 2', 'would idle passed 0 held 0 highest 12 quota 0', 'spent 3',
+      'would done 0 4 passed 0 held 0 highest 12 quota 0', 'done 0 4', 'refused 31 0', 'refused 30 0']),
+    ('shown: work and quota left', (1, 9, table([work, alloc(4), alloc(4), alloc(4), end])), [shown(0), turn(0), shown(0), turn(0), turn(0), shown(0), turn(0), shown(0)],
+     ['would done 0 0 passed 0 held 0 highest 0 quota 9', 'done 0 0', 'would done 0 1 passed 0 held 4 highest 4 quota 5', 'done 0 1', 'done 0 2',
+      'would quota 0 4 passed 0 held 8 highest 8 quota 0', 'quota 0 4', 'would done 0 3 passed 0 held 12 highest 12 quota 5']),
+    ('shown: a wait, and a record that is not sound', (2, 6, E), [order(0, 1, 0, 1, 1, 1, 1), shown(0), put('held', 7), shown(0), shown(9)],
+     ['spent 7', 'would wait 0 2 passed 1 held 6 highest 6 quota 0', 'changed', 'refused 32 0', 'refused 32 0']),
+    ('shown: the blank record', (0, 6, E), [shown(0), shown(255)], ['refused 30 0'] * 2),
     ('L 0', (2, 6, E), [rounds(0), order(), rounds(99)], ['spent 0', 'spent 0', 'finished 14']),
     ('worker 255', (16, 6, E), [turn(255), order(0, 255, 0), turn(16), order(15)], ['refused 30 0', 'refused 1 30 0', 'refused 30 0', 'spent 1']),
     ('K above its range', (2, LARGEST + 1, E), [turn(0)], ['refused 30 0']),
@@ -239,7 +259,7 @@ def random_case(rng):
     for _ in range(rng.choice([1, 1, 2])):
         calls.append(random_put(rng, run))
         run = called(run, calls[-1])[1]
-    calls += [turn(rng.randrange(p)), rounds(rng.randint(0, 9)), order(0, rng.randrange(p), rng.randrange(p + 1))]
+    calls += [shown(rng.randrange(p + 1)), turn(rng.randrange(p)), rounds(rng.randint(0, 9)), order(0, rng.randrange(p), rng.randrange(p + 1))]
     return (p, quota, data), calls
 
 
@@ -256,7 +276,7 @@ def parts(data):
     calls_at = table_at + int.from_bytes(data[at + 5:table_at], 'little')
     calls, i = [], calls_at
     while data[i]:
-        length = {b't': 2, b'l': 2 + data[i + 1], b'r': 5, b'p': 12}[data[i:i + 1]]
+        length = {b't': 2, b'v': 2, b'l': 2 + data[i + 1], b'r': 5, b'p': 12}[data[i:i + 1]]
         calls.append(data[i:i + length])
         i += length
     return data[1:at].decode(), data[at], int.from_bytes(data[at + 1:at + 5], 'little'), data[table_at:calls_at], calls

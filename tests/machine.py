@@ -284,6 +284,14 @@ def turn(run, w):
     return (*reply, 'passed', passed_over(run, w)), machine.record()
 
 
+def preview(run, w):
+    """What a turn of worker w would say, and after it memory held, its highest and the worker's quota left; or the refusal."""
+    answer, after = turn(run, w)
+    if answer[0] == 'refused':
+        return answer
+    return ('would', *answer, 'held', after.held, 'highest', after.highest, 'quota', after.worker[w].quota)
+
+
 def run_over(run, workers, seen=None):
     """A run over the workers that `workers` gives, one at a time; `seen` is told of each turn."""
     if not sound(run):

@@ -1,8 +1,9 @@
 // Begins runs and moves them on by single calls, also after something in the record was changed by hand, and prints each answer with what the record then holds. A record of the input:
 // the label's length (1 byte), the label, p (1), K (4), the table's length (3), the table, then calls up to a byte 0: 't' and a worker (1); 'l', a length (1) and an order; 'r' and
-// L (4); 'p', a field (1), a place (2) and a value (8).
+// L (4); 'v' and a worker (1), a turn shown and not taken; 'p', a field (1), a place (2) and a value (8).
 use libc::STDIN_FILENO;
 use libc::STDOUT_FILENO;
+use preview::Previewed;
 use schedule::Beginning;
 use schedule::Reply;
 use schedule::Report;
@@ -277,6 +278,31 @@ fn call_turn(run: Run) -> Run {
     turned.run
 }
 
+fn call_preview(run: Run) -> Run {
+    let shown = preview::preview(run, one_byte());
+    match shown {
+        Previewed::Would {
+            reply,
+            passed,
+            held,
+            highest,
+            quota,
+        } => {
+            say(b"would ");
+            tell_reply(reply);
+            tell(b" passed ", passed as u64);
+            tell(b" held ", held);
+            tell(b" highest ", highest);
+            tell(b" quota ", quota as u64);
+        }
+        Previewed::Refused(x) => {
+            say(b"refused");
+            tell_refusal(x);
+        }
+    }
+    run
+}
+
 fn call_order(run: Run, buffer: &mut [u8]) -> Run {
     let n = io::read_full(STDIN_FILENO, buffer);
     let ran = asyncdf::run_list(run, &buffer[..n]);
@@ -312,6 +338,7 @@ fn call(sort: u8, run: Run) -> Run {
         b't' => call_turn(run),
         b'l' => call_list(run),
         b'r' => call_rounds(run),
+        b'v' => call_preview(run),
         _ => call_put(run),
     }
 }

@@ -1,0 +1,55 @@
+-- A turn shown before it is taken (N4): "the reply that a turn would give and, after it, memory held, its highest and the worker's quota left".
+use Prim.Native.Nat.{ℕ}
+use lib.ListN.{getD}
+use Rattle.table.specs.Pass.{refusal, tryAt}
+use Rattle.table.specs.declared.Refusal.{Refusal}
+use Rattle.table.specs.Load.{ifFound}
+use Rattle.table.specs.declared.Found.{Found}
+use Rattle.schedule.specs.declared.Run.{Run}
+use Rattle.schedule.specs.declared.Turning.{Turning}
+use Rattle.schedule.specs.declared.Turning.the-variants.{Taken}
+use Rattle.schedule.specs.declared.Turning.the-variants.{Refused as refusedTurn}
+use Rattle.schedule.specs.Machine.{nobody, workerOf}
+use Rattle.schedule.specs.Turn.{turnChecks, stepRun, turned}
+use Rattle.schedule.specs.Answers.{Values, turningValues}
+use Rattle.schedule.specs.Values.{turnValues}
+use Rattle.preview.specs.declared.Previewed.{Previewed}
+use Rattle.preview.specs.declared.Previewed.the-variants.{Would, Refused}
+
+-- from a turn's answer and the record after it; "refusals included (number and place alone)"
+abbrev pub previewAs : Turning → Run → ℕ → Previewed
+previewAs (Taken x k) r w = Would x k (r .held) (r .highest) (getD (r .worker) w nobody .quota)
+previewAs (refusedTurn x) r w = Refused x
+
+-- "It equals taking the turn on a copy"
+unfoldable pub previewOf : Run → ℕ → Previewed
+previewOf r w = previewAs (turned r w .answer) (turned r w .run) w
+
+-- the refusal of a turn's answer; none, with no number, of a turn that is taken
+abbrev pub refusalOf : Turning → Refusal
+refusalOf (Taken x k) = refusal 0 0
+refusalOf (refusedTurn x) = x
+
+-- ---- the paper's numbers and values
+
+-- those of the turn's answer, and the three amounts, 0 for a refusal
+pub record Shown : Type 0 where
+  pub said : Values
+  pub held : ℕ
+  pub highest : ℕ
+  pub quota : ℕ
+
+abbrev pub shownValues : Previewed → Shown
+shownValues (Would x k h g q) = record { said = turningValues (Taken x k); held = h; highest = g; quota = q }
+shownValues (Refused x) = record { said = turningValues (refusedTurn x); held = 0; highest = 0; quota = 0 }
+
+-- from the turn's checks and the machine's step alone
+unfoldable pub previewValues : Run → ℕ → Shown
+previewValues r w =
+    let found : Found = tryAt (turnChecks r w) 0 in
+    record {
+      said = turnValues r w;
+      held = ifFound found 0 (stepRun r w .state .held);
+      highest = ifFound found 0 (stepRun r w .state .highest);
+      quota = ifFound found 0 (workerOf (stepRun r w .state) w .quota);
+    }
