@@ -199,14 +199,37 @@ fn take_turns(
         let w = worker_of(order, rounds, p, i);
         if moved.turns == u64::MAX {
             let report = stopped(32, i);
-            return Stop { report, reply, passed, workers, moved };
+            return Stop {
+                report,
+                reply,
+                passed,
+                workers,
+                moved,
+            };
         }
         if p <= w {
             let report = stopped(30, i);
-            return Stop { report, reply, passed, workers, moved };
+            return Stop {
+                report,
+                reply,
+                passed,
+                workers,
+                moved,
+            };
         }
         let worker = workers[w];
-        let t = take_turn(table, n, parents, quota, next, status, list, moved, worker, w);
+        let t = take_turn(
+            table,
+            n,
+            parents,
+            quota,
+            next,
+            status,
+            list,
+            moved,
+            worker,
+            w,
+        );
         let after = t.worker;
         workers[w] = after;
         moved = t.moved;
@@ -218,11 +241,23 @@ fn take_turns(
         };
         if action as usize == last {
             let report = Report::Finished(i as u64);
-            return Stop { report, reply, passed, workers, moved };
+            return Stop {
+                report,
+                reply,
+                passed,
+                workers,
+                moved,
+            };
         }
     }
     let report = Report::Spent(i as u64);
-    Stop { report, reply, passed, workers, moved }
+    Stop {
+        report,
+        reply,
+        passed,
+        workers,
+        moved,
+    }
 }
 
 // What a run did: its report, what its last turn said, and the record that it left.

@@ -88,8 +88,6 @@ pub(crate) fn step(
         };
         return Leaves { stepped, passed };
     }
-    let stepped = act(
-        table, n, quota, parents, next, status, list, totals, seated,
-    );
+    let stepped = act(table, n, quota, parents, next, status, list, totals, seated);
     Leaves { stepped, passed }
 }

@@ -4,7 +4,7 @@ use mathlib.Core.Path.{_≡_, refl}
 use mathlib.Core.List.{List, [], _∷_, _++_, foldl, flatten}
 use Rattle.table.specs.Format.{Kind, end, work, alloc, free, fork, join, unknown}
 use Rattle.table.specs.Pass.{refusal}
-use Rattle.text.specs.Text.{digitsOf, decimal, space, newline, refusedLine, Buffer, placedNext}
+use Rattle.text.specs.Text.{ascii, digitsOf, decimal, space, newline, refusedLine, Buffer, placedNext}
 use Rattle.schedule.specs.declared.Run.{Run}
 use Rattle.schedule.specs.Record.{blank}
 use Rattle.schedule.specs.declared.Report.{Report}
@@ -19,32 +19,22 @@ putAll b texts = foldl placedNext b texts
 
 -- "the kind's name"; an action of no known kind is never done
 unfoldable pub kindWord : Kind → List ℕ
--- " end"
-kindWord end = 32 ∷ 101 ∷ 110 ∷ 100 ∷ []
--- " work"
-kindWord work = 32 ∷ 119 ∷ 111 ∷ 114 ∷ 107 ∷ []
--- " alloc"
-kindWord alloc = 32 ∷ 97 ∷ 108 ∷ 108 ∷ 111 ∷ 99 ∷ []
--- " free"
-kindWord free = 32 ∷ 102 ∷ 114 ∷ 101 ∷ 101 ∷ []
--- " fork"
-kindWord fork = 32 ∷ 102 ∷ 111 ∷ 114 ∷ 107 ∷ []
--- " join"
-kindWord join = 32 ∷ 106 ∷ 111 ∷ 105 ∷ 110 ∷ []
--- " -"
-kindWord unknown = 32 ∷ 45 ∷ []
+kindWord end = ascii " end"
+kindWord work = ascii " work"
+kindWord alloc = ascii " alloc"
+kindWord free = ascii " free"
+kindWord fork = ascii " fork"
+kindWord join = ascii " join"
+kindWord unknown = ascii " -"
 
--- " quota"
 abbrev pub quotaWord : List ℕ
-quotaWord = 32 ∷ 113 ∷ 117 ∷ 111 ∷ 116 ∷ 97 ∷ []
+quotaWord = ascii " quota"
 
--- " wait"
 abbrev pub waitWord : List ℕ
-waitWord = 32 ∷ 119 ∷ 97 ∷ 105 ∷ 116 ∷ []
+waitWord = ascii " wait"
 
--- " - - idle"
 abbrev pub idleWord : List ℕ
-idleWord = 32 ∷ 45 ∷ 32 ∷ 45 ∷ 32 ∷ 105 ∷ 100 ∷ 108 ∷ 101 ∷ []
+idleWord = ascii " - - idle"
 
 -- thread and action, each after a space
 abbrev pub pairTexts : ℕ → ℕ → List (List ℕ)
@@ -63,29 +53,23 @@ turnTexts l = decimal (l .turn) ∷ space ∷ decimal (l .worker) ∷ toldTexts 
 
 -- ---- the last line
 
--- "done "
 abbrev pub doneWord : List ℕ
-doneWord = 100 ∷ 111 ∷ 110 ∷ 101 ∷ 32 ∷ []
+doneWord = ascii "done "
 
--- "open "
 abbrev pub openWord : List ℕ
-openWord = 111 ∷ 112 ∷ 101 ∷ 110 ∷ 32 ∷ []
+openWord = ascii "open "
 
--- " peak "
 abbrev pub peakWord : List ℕ
-peakWord = 32 ∷ 112 ∷ 101 ∷ 97 ∷ 107 ∷ 32 ∷ []
+peakWord = ascii " peak "
 
--- " held "
 abbrev pub heldWord : List ℕ
-heldWord = 32 ∷ 104 ∷ 101 ∷ 108 ∷ 100 ∷ 32 ∷ []
+heldWord = ascii " held "
 
--- "finished "
 abbrev pub finishedWord : List ℕ
-finishedWord = 102 ∷ 105 ∷ 110 ∷ 105 ∷ 115 ∷ 104 ∷ 101 ∷ 100 ∷ 32 ∷ []
+finishedWord = ascii "finished "
 
--- "spent "
 abbrev pub spentWord : List ℕ
-spentWord = 115 ∷ 112 ∷ 101 ∷ 110 ∷ 116 ∷ 32 ∷ []
+spentWord = ascii "spent "
 
 -- a word, turns and peak
 abbrev pub totalsTexts : List ℕ → ℕ → ℕ → List (List ℕ)
@@ -113,14 +97,10 @@ reportTexts (Finished k) r = totalsTexts finishedWord k (r .highest) ++ (heldWor
 reportTexts (Spent k) r = totalsTexts spentWord k (r .highest) ++ (heldWord ∷ decimal (r .held) ∷ newline ∷ [])
 reportTexts (Refused k x) r = refusedLine x ∷ []
 
--- "finished 14 peak 0 held 0\n"
-finished-example : flatten (reportTexts (Finished 14) blank)
-    ≡ 102 ∷ 105 ∷ 110 ∷ 105 ∷ 115 ∷ 104 ∷ 101 ∷ 100 ∷ 32 ∷ 49 ∷ 52 ∷ 32 ∷ 112 ∷ 101 ∷ 97 ∷ 107 ∷ 32 ∷ 48 ∷ 32 ∷ 104 ∷ 101 ∷ 108 ∷ 100 ∷ 32 ∷ 48 ∷ 10 ∷ []
+finished-example : flatten (reportTexts (Finished 14) blank) ≡ ascii "finished 14 peak 0 held 0\n"
 unfolding flatten reportTexts decimal digitsOf blank
 finished-example = refl
 
--- "spent 7 peak 0 held 0\n"
-spent-example : flatten (reportTexts (Spent 7) blank)
-    ≡ 115 ∷ 112 ∷ 101 ∷ 110 ∷ 116 ∷ 32 ∷ 55 ∷ 32 ∷ 112 ∷ 101 ∷ 97 ∷ 107 ∷ 32 ∷ 48 ∷ 32 ∷ 104 ∷ 101 ∷ 108 ∷ 100 ∷ 32 ∷ 48 ∷ 10 ∷ []
+spent-example : flatten (reportTexts (Spent 7) blank) ≡ ascii "spent 7 peak 0 held 0\n"
 unfolding flatten reportTexts decimal digitsOf blank
 spent-example = refl

@@ -12,7 +12,7 @@ use Rattle.table.specs.Serial.{serialWithin, fronts, heldAfter, peakOf, S1}
 use Rattle.table.specs.Level.{forkBelow, forkOf, beforeIt, joinedEnd, dependsOn, levelWithin, D}
 use Rattle.table.specs.Load.{loaded, factsOf}
 use Rattle.table.specs.Cases.{E, twoAllocs, bytes16}
-use Rattle.text.specs.Text.{digitsOf, decimal, acceptedLine, refusedLine}
+use Rattle.text.specs.Text.{ascii, digitsOf, decimal, acceptedLine, refusedLine}
 use Rattle.schedule.specs.Machine.{leftOf, without, waitsFor, woken, actBy, act, leftmost, taken, turnFree, turnOf}
 use Rattle.schedule.specs.Record.{setOf}
 use Rattle.schedule.specs.Begin.{allocAbove, firsts, startState, startRun, begin}
@@ -32,51 +32,31 @@ prints input text = record { input = input; text = text }
 abbrev pub inputOf : ℕ → ℕ → List ℕ → List ℕ → List ℕ
 inputOf p K order table = p ∷ K ∷ 0 ∷ 0 ∷ bytes16 (length order) ++ order ++ table
 
--- "table 3 12 serial 6 depth 8"
 abbrev pub headerOfE : List ℕ
-headerOfE =
-    116 ∷ 97 ∷ 98 ∷ 108 ∷ 101 ∷ 32 ∷ 51 ∷ 32 ∷ 49 ∷ 50 ∷ 32 ∷ 115 ∷ 101 ∷ 114 ∷ 105 ∷ 97 ∷ 108 ∷ 32 ∷ 54 ∷ 32 ∷ 100 ∷ 101 ∷ 112 ∷ 116 ∷ 104 ∷ 32 ∷ 56 ∷ 10
-    ∷ []
+headerOfE = ascii "table 3 12 serial 6 depth 8\n"
 
 -- the first four turns of E for p 2, K 6 and an order that begins with 0 1 0 1
 abbrev pub firstFour : List ℕ
 firstFour =
-    -- 1 0 0 0 fork 0
-    49 ∷ 32 ∷ 48 ∷ 32 ∷ 48 ∷ 32 ∷ 48 ∷ 32 ∷ 102 ∷ 111 ∷ 114 ∷ 107 ∷ 32 ∷ 48 ∷ 10
-    -- 2 1 1 5 alloc 6
-    ∷ 50 ∷ 32 ∷ 49 ∷ 32 ∷ 49 ∷ 32 ∷ 53 ∷ 32 ∷ 97 ∷ 108 ∷ 108 ∷ 111 ∷ 99 ∷ 32 ∷ 54 ∷ 10
-    -- 3 0 0 1 fork 6
-    ∷ 51 ∷ 32 ∷ 48 ∷ 32 ∷ 48 ∷ 32 ∷ 49 ∷ 32 ∷ 102 ∷ 111 ∷ 114 ∷ 107 ∷ 32 ∷ 54 ∷ 10
-    -- 4 1 1 6 work 6
-    ∷ 52 ∷ 32 ∷ 49 ∷ 32 ∷ 49 ∷ 32 ∷ 54 ∷ 32 ∷ 119 ∷ 111 ∷ 114 ∷ 107 ∷ 32 ∷ 54 ∷ 10
-    ∷ []
+    ascii "1 0 0 0 fork 0\n"
+    ++ ascii "2 1 1 5 alloc 6\n"
+    ++ ascii "3 0 0 1 fork 6\n"
+    ++ ascii "4 1 1 6 work 6\n"
 
 -- the turns after them where the order goes on with 0 and 1 in turn, and the last line
 abbrev pub laterOfE : List ℕ
 laterOfE =
-    -- 5 0 2 9 alloc 12
-    53 ∷ 32 ∷ 48 ∷ 32 ∷ 50 ∷ 32 ∷ 57 ∷ 32 ∷ 97 ∷ 108 ∷ 108 ∷ 111 ∷ 99 ∷ 32 ∷ 49 ∷ 50 ∷ 10
-    -- 6 1 1 7 free 6
-    ∷ 54 ∷ 32 ∷ 49 ∷ 32 ∷ 49 ∷ 32 ∷ 55 ∷ 32 ∷ 102 ∷ 114 ∷ 101 ∷ 101 ∷ 32 ∷ 54 ∷ 10
-    -- 7 0 2 10 free 0
-    ∷ 55 ∷ 32 ∷ 48 ∷ 32 ∷ 50 ∷ 32 ∷ 49 ∷ 48 ∷ 32 ∷ 102 ∷ 114 ∷ 101 ∷ 101 ∷ 32 ∷ 48 ∷ 10
-    -- 8 1 1 8 end 0
-    ∷ 56 ∷ 32 ∷ 49 ∷ 32 ∷ 49 ∷ 32 ∷ 56 ∷ 32 ∷ 101 ∷ 110 ∷ 100 ∷ 32 ∷ 48 ∷ 10
-    -- 9 0 2 11 end 0
-    ∷ 57 ∷ 32 ∷ 48 ∷ 32 ∷ 50 ∷ 32 ∷ 49 ∷ 49 ∷ 32 ∷ 101 ∷ 110 ∷ 100 ∷ 32 ∷ 48 ∷ 10
-    -- 10 1 0 2 join 0
-    ∷ 49 ∷ 48 ∷ 32 ∷ 49 ∷ 32 ∷ 48 ∷ 32 ∷ 50 ∷ 32 ∷ 106 ∷ 111 ∷ 105 ∷ 110 ∷ 32 ∷ 48 ∷ 10
-    -- 11 0 - - idle 0
-    ∷ 49 ∷ 49 ∷ 32 ∷ 48 ∷ 32 ∷ 45 ∷ 32 ∷ 45 ∷ 32 ∷ 105 ∷ 100 ∷ 108 ∷ 101 ∷ 32 ∷ 48 ∷ 10
-    -- 12 1 0 3 join 0
-    ∷ 49 ∷ 50 ∷ 32 ∷ 49 ∷ 32 ∷ 48 ∷ 32 ∷ 51 ∷ 32 ∷ 106 ∷ 111 ∷ 105 ∷ 110 ∷ 32 ∷ 48 ∷ 10
-    -- 13 0 - - idle 0
-    ∷ 49 ∷ 51 ∷ 32 ∷ 48 ∷ 32 ∷ 45 ∷ 32 ∷ 45 ∷ 32 ∷ 105 ∷ 100 ∷ 108 ∷ 101 ∷ 32 ∷ 48 ∷ 10
-    -- 14 1 0 4 end 0
-    ∷ 49 ∷ 52 ∷ 32 ∷ 49 ∷ 32 ∷ 48 ∷ 32 ∷ 52 ∷ 32 ∷ 101 ∷ 110 ∷ 100 ∷ 32 ∷ 48 ∷ 10
-    -- done 14 peak 12
-    ∷ 100 ∷ 111 ∷ 110 ∷ 101 ∷ 32 ∷ 49 ∷ 52 ∷ 32 ∷ 112 ∷ 101 ∷ 97 ∷ 107 ∷ 32 ∷ 49 ∷ 50 ∷ 10
-    ∷ []
+    ascii "5 0 2 9 alloc 12\n"
+    ++ ascii "6 1 1 7 free 6\n"
+    ++ ascii "7 0 2 10 free 0\n"
+    ++ ascii "8 1 1 8 end 0\n"
+    ++ ascii "9 0 2 11 end 0\n"
+    ++ ascii "10 1 0 2 join 0\n"
+    ++ ascii "11 0 - - idle 0\n"
+    ++ ascii "12 1 0 3 join 0\n"
+    ++ ascii "13 0 - - idle 0\n"
+    ++ ascii "14 1 0 4 end 0\n"
+    ++ ascii "done 14 peak 12\n"
 
 -- what document 01 shows for E, p 2, K 6 and the order 0, 1 seven times, line by line
 abbrev pub linesOfE : List ℕ
@@ -86,13 +66,9 @@ linesOfE =
 -- the turns after them where the order goes on with 1 1 1
 abbrev pub nextThree : List ℕ
 nextThree =
-    -- 5 1 1 7 free 0
-    53 ∷ 32 ∷ 49 ∷ 32 ∷ 49 ∷ 32 ∷ 55 ∷ 32 ∷ 102 ∷ 114 ∷ 101 ∷ 101 ∷ 32 ∷ 48 ∷ 10
-    -- 6 1 1 8 end 0
-    ∷ 54 ∷ 32 ∷ 49 ∷ 32 ∷ 49 ∷ 32 ∷ 56 ∷ 32 ∷ 101 ∷ 110 ∷ 100 ∷ 32 ∷ 48 ∷ 10
-    -- 7 1 2 9 alloc 6
-    ∷ 55 ∷ 32 ∷ 49 ∷ 32 ∷ 50 ∷ 32 ∷ 57 ∷ 32 ∷ 97 ∷ 108 ∷ 108 ∷ 111 ∷ 99 ∷ 32 ∷ 54 ∷ 10
-    ∷ []
+    ascii "5 1 1 7 free 0\n"
+    ++ ascii "6 1 1 8 end 0\n"
+    ++ ascii "7 1 2 9 alloc 6\n"
 
 -- the listing of E for p 2, K 6 and the order 0 1 0 1 1 1 1, before its last line
 abbrev pub linesBefore : List ℕ
@@ -102,51 +78,36 @@ linesBefore =
 -- worker 0 comes next
 abbrev pub endsWaiting : List ℕ
 endsWaiting =
-    -- 8 0 0 2 wait 6
-    56 ∷ 32 ∷ 48 ∷ 32 ∷ 48 ∷ 32 ∷ 50 ∷ 32 ∷ 119 ∷ 97 ∷ 105 ∷ 116 ∷ 32 ∷ 54 ∷ 10
-    -- open 8 peak 6
-    ∷ 111 ∷ 112 ∷ 101 ∷ 110 ∷ 32 ∷ 56 ∷ 32 ∷ 112 ∷ 101 ∷ 97 ∷ 107 ∷ 32 ∷ 54 ∷ 10
-    ∷ []
+    ascii "8 0 0 2 wait 6\n"
+    ++ ascii "open 8 peak 6\n"
 
 -- worker 2 comes next
 abbrev pub endsRefused : List ℕ
 endsRefused =
-    -- refused 30 0
-    114 ∷ 101 ∷ 102 ∷ 117 ∷ 115 ∷ 101 ∷ 100 ∷ 32 ∷ 51 ∷ 48 ∷ 32 ∷ 48 ∷ 10
-    ∷ []
+    ascii "refused 30 0\n"
 
 -- alloc 4, alloc 4, end for p 1, K 6 and the order 0 0
 abbrev pub linesQuota : List ℕ
 linesQuota =
-    -- table 1 3 serial 8 depth 3
-    116 ∷ 97 ∷ 98 ∷ 108 ∷ 101 ∷ 32 ∷ 49 ∷ 32 ∷ 51 ∷ 32 ∷ 115 ∷ 101 ∷ 114 ∷ 105 ∷ 97 ∷ 108 ∷ 32 ∷ 56 ∷ 32 ∷ 100 ∷ 101 ∷ 112 ∷ 116 ∷ 104 ∷ 32 ∷ 51 ∷ 10
-    -- 1 0 0 0 alloc 4
-    ∷ 49 ∷ 32 ∷ 48 ∷ 32 ∷ 48 ∷ 32 ∷ 48 ∷ 32 ∷ 97 ∷ 108 ∷ 108 ∷ 111 ∷ 99 ∷ 32 ∷ 52 ∷ 10
-    -- 2 0 0 1 quota 4
-    ∷ 50 ∷ 32 ∷ 48 ∷ 32 ∷ 48 ∷ 32 ∷ 49 ∷ 32 ∷ 113 ∷ 117 ∷ 111 ∷ 116 ∷ 97 ∷ 32 ∷ 52 ∷ 10
-    -- open 2 peak 4
-    ∷ 111 ∷ 112 ∷ 101 ∷ 110 ∷ 32 ∷ 50 ∷ 32 ∷ 112 ∷ 101 ∷ 97 ∷ 107 ∷ 32 ∷ 52 ∷ 10
-    ∷ []
+    ascii "table 1 3 serial 8 depth 3\n"
+    ++ ascii "1 0 0 0 alloc 4\n"
+    ++ ascii "2 0 0 1 quota 4\n"
+    ++ ascii "open 2 peak 4\n"
 
 -- E with an empty order
 abbrev pub notBegun : List ℕ
 notBegun =
     headerOfE
-    -- open 0 peak 0
-    ++ 111 ∷ 112 ∷ 101 ∷ 110 ∷ 32 ∷ 48 ∷ 32 ∷ 112 ∷ 101 ∷ 97 ∷ 107 ∷ 32 ∷ 48 ∷ 10
-    ∷ []
+    ++ ascii "open 0 peak 0\n"
 
--- "refused 22 5"
 abbrev pub refused22 : List ℕ
-refused22 = 114 ∷ 101 ∷ 102 ∷ 117 ∷ 115 ∷ 101 ∷ 100 ∷ 32 ∷ 50 ∷ 50 ∷ 32 ∷ 53 ∷ 10 ∷ []
+refused22 = ascii "refused 22 5\n"
 
--- "refused 1 0"
 abbrev pub refused1 : List ℕ
-refused1 = 114 ∷ 101 ∷ 102 ∷ 117 ∷ 115 ∷ 101 ∷ 100 ∷ 32 ∷ 49 ∷ 32 ∷ 48 ∷ 10 ∷ []
+refused1 = ascii "refused 1 0\n"
 
--- "refused 33 0"
 abbrev pub refused33 : List ℕ
-refused33 = 114 ∷ 101 ∷ 102 ∷ 117 ∷ 115 ∷ 101 ∷ 100 ∷ 32 ∷ 51 ∷ 51 ∷ 32 ∷ 48 ∷ 10 ∷ []
+refused33 = ascii "refused 33 0\n"
 
 -- the rows that bear a star
 unfoldable pub cases : List Case

@@ -1,5 +1,8 @@
 -- Numbers and lines as text, in ASCII codes, and text that is put into a buffer.
 use Prim.Native.Nat.{ℕ, zero, suc, _+_, _/_, _%_}
+use Prim.Native.Char.{code}
+use Prim.Native.String.{String}
+use Prim.Native.String.{[] as none, _∷_ as _then_}
 use mathlib.Core.Path.{_≡_, refl}
 use mathlib.Core.List.{List, [], _∷_, _++_}
 use mathlib.Core.Bool.{cond}
@@ -9,6 +12,13 @@ use Rattle.table.specs.declared.Facts.{Facts}
 use Rattle.table.specs.declared.Refusal.{Refusal}
 use Rattle.table.specs.declared.Loaded.{Loaded}
 use Rattle.table.specs.declared.Loaded.the-variants.{Accepted, Refused}
+
+-- ---- a text
+
+-- the codes of its characters
+abbrev pub ascii : String → List ℕ
+ascii none = []
+ascii (c then text) = code c ∷ ascii text
 
 -- ---- a number
 
@@ -28,25 +38,20 @@ decimal n = digitsOf n (n / 10) ++ (digit (n % 10) ∷ [])
 
 -- ---- the lines
 
--- "table "
 abbrev pub tableWord : List ℕ
-tableWord = 116 ∷ 97 ∷ 98 ∷ 108 ∷ 101 ∷ 32 ∷ []
+tableWord = ascii "table "
 
--- " serial "
 abbrev pub serialWord : List ℕ
-serialWord = 32 ∷ 115 ∷ 101 ∷ 114 ∷ 105 ∷ 97 ∷ 108 ∷ 32 ∷ []
+serialWord = ascii " serial "
 
--- " depth "
 abbrev pub depthWord : List ℕ
-depthWord = 32 ∷ 100 ∷ 101 ∷ 112 ∷ 116 ∷ 104 ∷ 32 ∷ []
+depthWord = ascii " depth "
 
--- " nested "
 abbrev pub nestedWord : List ℕ
-nestedWord = 32 ∷ 110 ∷ 101 ∷ 115 ∷ 116 ∷ 101 ∷ 100 ∷ 32 ∷ []
+nestedWord = ascii " nested "
 
--- "refused "
 abbrev pub refusedWord : List ℕ
-refusedWord = 114 ∷ 101 ∷ 102 ∷ 117 ∷ 115 ∷ 101 ∷ 100 ∷ 32 ∷ []
+refusedWord = ascii "refused "
 
 abbrev pub space : List ℕ
 space = 32 ∷ []
@@ -84,32 +89,21 @@ abbrev pub factsLineOf : Loaded → List ℕ
 factsLineOf (Accepted f) = nestedLine f
 factsLineOf (Refused r) = refusedLine r
 
--- "table 3 12 serial 6 depth 8\n"
-accepted-example : lineOf (Accepted (record { threads = 3; actions = 12; peak = 6; depth = 8; nested = 2 }))
-    ≡ 116 ∷ 97 ∷ 98 ∷ 108 ∷ 101 ∷ 32 ∷ 51 ∷ 32 ∷ 49 ∷ 50
-    ∷ 32 ∷ 115 ∷ 101 ∷ 114 ∷ 105 ∷ 97 ∷ 108 ∷ 32 ∷ 54
-    ∷ 32 ∷ 100 ∷ 101 ∷ 112 ∷ 116 ∷ 104 ∷ 32 ∷ 56 ∷ 10 ∷ []
+accepted-example : lineOf (Accepted (record { threads = 3; actions = 12; peak = 6; depth = 8; nested = 2 })) ≡ ascii "table 3 12 serial 6 depth 8\n"
 unfolding acceptedLine decimal digitsOf
 accepted-example = refl
 
--- "table 3 12 serial 6 depth 8 nested 2\n"
 nested-example : factsLineOf (Accepted (record { threads = 3; actions = 12; peak = 6; depth = 8; nested = 2 }))
-    ≡ 116 ∷ 97 ∷ 98 ∷ 108 ∷ 101 ∷ 32 ∷ 51 ∷ 32 ∷ 49 ∷ 50
-    ∷ 32 ∷ 115 ∷ 101 ∷ 114 ∷ 105 ∷ 97 ∷ 108 ∷ 32 ∷ 54
-    ∷ 32 ∷ 100 ∷ 101 ∷ 112 ∷ 116 ∷ 104 ∷ 32 ∷ 56
-    ∷ 32 ∷ 110 ∷ 101 ∷ 115 ∷ 116 ∷ 101 ∷ 100 ∷ 32 ∷ 50 ∷ 10 ∷ []
+    ≡ ascii "table 3 12 serial 6 depth 8 nested 2\n"
 unfolding nestedLine decimal digitsOf
 nested-example = refl
 
--- "refused 10 1\n"
-refused-example : lineOf (Refused (record { number = 10; place = 1 }))
-    ≡ 114 ∷ 101 ∷ 102 ∷ 117 ∷ 115 ∷ 101 ∷ 100 ∷ 32 ∷ 49 ∷ 48 ∷ 32 ∷ 49 ∷ 10 ∷ []
+refused-example : lineOf (Refused (record { number = 10; place = 1 })) ≡ ascii "refused 10 1\n"
 unfolding refusedLine decimal digitsOf
 refused-example = refl
 
 -- the largest u64
-largest-example : decimal 18446744073709551615
-    ≡ 49 ∷ 56 ∷ 52 ∷ 52 ∷ 54 ∷ 55 ∷ 52 ∷ 52 ∷ 48 ∷ 55 ∷ 51 ∷ 55 ∷ 48 ∷ 57 ∷ 53 ∷ 53 ∷ 49 ∷ 54 ∷ 49 ∷ 53 ∷ []
+largest-example : decimal 18446744073709551615 ≡ ascii "18446744073709551615"
 unfolding decimal digitsOf
 largest-example = refl
 
