@@ -2,14 +2,15 @@
 use Prim.Native.Nat.{ℕ, suc, _+_, _^_, _≤_, _<_}
 use native.Mathlib.Omega.{arith}
 use mathlib.Core.Path.{_≡_, refl, sym, ap, _∙_}
-use mathlib.Core.List.{List, [], _∷_, _++_, append-nil, append-assoc, foldl-append, flatten}
-use lib.ListN.{length, length-append}
+use mathlib.Core.List.{List, [], _∷_, _++_, append-nil, append-assoc, foldl, foldl-append, flatten}
+use lib.ListN.{length, drop, length-append}
 use Rattle.text.specs.Text.{decimal, Buffer, bufferAt, placed, placedNext}
 use Rattle.text.proofs.Decimal.{decimal-length}
+use Rattle.text.proofs.Placing.{placed-fits, line-put}
 use Rattle.lines.specs.Lines.{putAll}
 use Rattle.lines.specs.Puts.{Puts}
 
-flatten-append : (ts us : List (List ℕ)) → flatten (ts ++ us) ≡ flatten ts ++ flatten us
+pub flatten-append : (ts us : List (List ℕ)) → flatten (ts ++ us) ≡ flatten ts ++ flatten us
 unfolding flatten
 flatten-append [] us = refl
 flatten-append (t ∷ ts) us = rw (flatten-append ts us) (sym (append-assoc t (flatten ts) (flatten us)))
@@ -45,3 +46,18 @@ module _ {s o : List ℕ} {at r : ℕ} where
         put = u .put ∙ ap (λ (b : Buffer). putAll b us) (p .put) ∙ sym (foldl-append placedNext (bufferAt s at) ts us);
         short = rw (flatten-append ts us, length-append (flatten ts) (flatten us)) (omega (arith, p .short, u .short));
       }
+
+-- ---- texts put from a buffer's start on
+
+joined : (ts : List (List ℕ)) (t : List ℕ) → foldl _++_ t ts ≡ t ++ flatten ts
+unfolding flatten
+joined [] t = sym (append-nil t)
+joined (u ∷ ts) t = joined ts (t ++ u) ∙ append-assoc t u (flatten ts)
+
+-- where they fit they are there whole, and nothing after them has changed
+pub puts-whole : {s o : List ℕ} {r : ℕ} {ts : List (List ℕ)} {m : ℕ} → m ≤ length s → Puts s 0 o r ts m → (r ≡ length (flatten ts)) × (o ≡ flatten ts ++ drop r s)
+puts-whole {s} {o} {r} {ts} {m} h p =
+    let j : foldl _++_ [] ts ≡ flatten ts = joined ts [] in
+    let z : placed s 0 [] ≡ bufferAt s 0 = placed-fits s 0 [] (omega arith) in
+    let q = line-put s o r [] ts (rw j (omega (arith, p .short))) (rw z (p .put)) in
+    (rw j at (q .0), rw j at (q .1))

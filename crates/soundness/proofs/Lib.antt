@@ -8,3 +8,4 @@ pub mod Spans
 pub mod Marks
 pub mod Chains
 pub mod Blank
+pub mod Passed

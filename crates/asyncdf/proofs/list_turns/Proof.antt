@@ -15,7 +15,8 @@ use Rattle.schedule.specs.Listing.{lastWith, listTurns}
 use Rattle.lines.specs.Lines.{lastTexts, linesThen, textsOf}
 use Rattle.lines.specs.Puts.{Puts}
 use Rattle.lines.proofs.Putting.{puts-within}
-use Rattle.asyncdf.proofs.Calls.{test-fails, test-passes, test-parents, has-workers, turned-none, root-over, root-open}
+use Rattle.soundness.proofs.Passed.{test-fails, test-passes, test-parents, has-workers}
+use Rattle.asyncdf.proofs.Calls.{turned-none, root-over, root-open}
 use Rattle.asyncdf.proofs.Ordered.{turnsFrom, start, ended, exhausted, refused}
 use Rattle.asyncdf.proofs.list_turns.Statement.{statement}
 use Rattle.asyncdf.proofs.list_turns.Tie as tie

@@ -6,7 +6,8 @@ use native.Mathlib.Omega.{arith}
 use borrow.Author.Needs.{needs}
 use Rattle.schedule.specs.Turn.{unsound}
 use Rattle.schedule.proofs.Values.{turn-values}
-use Rattle.asyncdf.proofs.Calls.{turned-answers, test-fails, test-passes, test-parents, has-workers, of-list, turned-unsound, turned-none, turned-over, root-over, root-open, turn-driven}
+use Rattle.soundness.proofs.Passed.{test-fails, test-passes, test-parents, has-workers}
+use Rattle.asyncdf.proofs.Calls.{turned-answers, of-list, turned-unsound, turned-none, turned-over, root-over, root-open, turn-driven}
 use Rattle.asyncdf.proofs.turn.Statement.{statement}
 use Rattle.asyncdf.proofs.turn.Tie as tie
 

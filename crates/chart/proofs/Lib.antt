@@ -1,0 +1,4 @@
+pub mod Putting
+pub mod Columns
+pub mod Reading
+pub mod Records

@@ -1,0 +1,69 @@
+-- `chart::wall_line` meets its contract, check by check; the line fills the buffer.
+use Prim.Native.Nat.{ℕ, _≤_}
+use native.Mathlib.Omega.{arith}
+use mathlib.Core.Path.{_≡_, refl, sym, ap, _∙_}
+use mathlib.Core.List.{List, _++_, append-nil}
+use mathlib.Core.Bool.{false}
+use denote.Ref.{now}
+use lib.ListN.{length, drop, drop-of-length-le}
+use Rattle.text.specs.Text.{bufferAt}
+use Rattle.lines.specs.Lines.{putAll}
+use Rattle.lines.specs.Puts.{Puts}
+use Rattle.lines.proofs.Putting.{puts-whole}
+use Rattle.schedule.specs.declared.Run.{Run}
+use Rattle.schedule.specs.Turn.{unsound}
+use Rattle.soundness.proofs.Passed.{test-fails, test-passes}
+use Rattle.chart.specs.declared.Charted.{Charted}
+use Rattle.chart.specs.declared.Charted.the-variants.{Written}
+use Rattle.chart.specs.Chart.{shown, lineTexts, lineOf, tooMany, charted, chartedIn}
+use Rattle.chart.proofs.Records.{wall-width, many, few, charted-unsound, charted-many, charted-written}
+use borrow.Author.Needs.{needs}
+use Rattle.chart.proofs.wall_line.Statement.{statement}
+use Rattle.chart.proofs.wall_line.Tie as tie
+
+-- an answer, and the buffer that goes with it
+answers : {x : Charted} (r : Run) (s o : List ℕ) → x ≡ charted r → o ≡ chartedIn x r s → (x ≡ charted r) × (o ≡ chartedIn (charted r) r s)
+answers r s o e f = (e, f ∙ ap (λ (y : Charted). chartedIn y r s) e)
+
+filled : (r : Run) (s o : List ℕ) (k : ℕ) → unsound r ≡ false → tooMany r ≡ false → length s ≡ 85 → bufferAt o k ≡ putAll (bufferAt s 0) (lineTexts (shown r)) → o ≡ lineOf r
+filled r s o k u t l e =
+    let w = wall-width r u t in
+    let p : Puts s 0 o k (lineTexts (shown r)) 85 = record { put = e; short = omega (arith, w) } in
+    let q = puts-whole (omega (arith, l)) p in
+    q .1 ∙ ap (λ (x : List ℕ). lineOf r ++ x) (drop-of-length-le s {i = k} (omega (arith, q .0, w, l))) ∙ append-nil (lineOf r)
+
+-- the record passed the test
+passed : (c : tie.Else1) → unsound (c .before .before .before .args .run) ≡ false
+passed c = test-passes _ (c .before .before .test .ensures) (c .if1 .left)
+
+test-requires : tie.Need-test-requires
+test-requires c κs = search needs
+
+returns : tie.Need-returns
+returns c =
+    let t = c .before .before in
+    let a = t .before .args in
+    answers (a .run) (now (a .out)) _ (charted-unsound (a .run) (test-fails (a .run) (t .test .ensures) (c .if1 .taken))) refl
+
+returns-2 : tie.Need-returns-2
+returns-2 c =
+    let e = c .before .before in
+    let a = e .before .before .before .args in
+    let u = passed e in
+    answers (a .run) (now (a .out)) _ (charted-many (a .run) u (many (a .run) u (c .if2 .taken))) refl
+
+put-line-requires : tie.Need-put-line-requires
+put-line-requires c κs = search needs
+
+returns-3 : tie.Need-returns-3
+returns-3 c =
+    let n = c .before .before .before in
+    let e = n .before .before in
+    let a = e .before .before .before .args in
+    let u = passed e in
+    let t = few (a .run) u (n .if2 .left) in
+    answers (a .run) (now (a .out)) _ (charted-written (a .run) u t)
+    (filled (a .run) (now (a .out)) _ _ u t (omega (arith, c .before .put-line-arg .given)) (c .put-line .ensures))
+
+pub wall-line-spec : {M : Type 1} → statement M
+wall-line-spec = tie.close (tie.spec test-requires returns returns-2 put-line-requires returns-3)
