@@ -13,7 +13,7 @@ enum { END, WORK, ALLOC, FREE, FORK, JOIN };
 enum { UNBORN, READY, HELD, WAITING, ENDED };
 
 typedef struct { uint8_t number; uint16_t place; } Refusal; // number 0: none
-typedef struct { Refusal refusal; uint16_t threads, actions; uint64_t peak; uint16_t depth; } Loaded;
+typedef struct { Refusal refusal; uint16_t threads, actions; uint64_t peak; uint16_t depth, nested; } Loaded;
 
 static size_t word(const uint8_t *s, size_t i) { return s[i] | (size_t)s[i + 1] << 8; }
 static uint8_t code(const uint8_t *l, size_t a) { return l[4 * a]; }
@@ -145,8 +145,24 @@ static size_t end_level(const uint8_t *table, const uint8_t *actions, size_t t, 
     return last;
 }
 
+static size_t nested_levels(const uint8_t *table, size_t n, size_t m) {
+    const uint8_t *actions = bodies(table, n);
+    size_t levels[THREADS], deepest = 1, t = 0;
+    for (size_t i = 0; i < THREADS; i++) levels[i] = 1;
+    for (size_t a = 0; a < m; a++) {
+        uint8_t k = code(actions, a);
+        if (k == FORK) {
+            size_t below = levels[t] + 1;
+            levels[argument(actions, a)] = below;
+            if (deepest < below) deepest = below;
+        }
+        if (k == END) t++;
+    }
+    return deepest;
+}
+
 static Loaded load(const uint8_t *table, size_t length) {
-    Loaded answer = { head(table, length), 0, 0, 0, 0 };
+    Loaded answer = { head(table, length), 0, 0, 0, 0, 0 };
     if (answer.refusal.number) return answer;
     size_t n = word(table, 0), m = word(table, 2);
     uint64_t rises[THREADS], falls[THREADS];
@@ -160,6 +176,7 @@ static Loaded load(const uint8_t *table, size_t length) {
     answer.actions = (uint16_t)m;
     answer.peak = serial_peak(table, n, rises, falls);
     answer.depth = (uint16_t)end_level(table, bodies(table, n), 0, 1, ends);
+    answer.nested = (uint16_t)nested_levels(table, n, m);
     return answer;
 }
 
@@ -541,14 +558,15 @@ static int refused(uint8_t number, uint16_t place) {
     return 0;
 }
 
-static void table_line(Loaded l) {
-    printf("table %u %u serial %llu depth %u\n", l.threads, l.actions, (unsigned long long)l.peak, l.depth);
+static void put_facts(Loaded l) {
+    printf("table %u %u serial %llu depth %u", l.threads, l.actions, (unsigned long long)l.peak, l.depth);
 }
 
 static int tablecheck(void) {
     Loaded l = load(input, read_all());
     if (l.refusal.number) return refused(l.refusal.number, l.refusal.place);
-    table_line(l);
+    put_facts(l);
+    printf(" nested %u\n", l.nested);
     return 0;
 }
 
@@ -561,7 +579,8 @@ static int turnlist(void) {
     if (ORDER < turns || length < 6 + turns) return refused(33, 0);
     Loaded l = begin(&run, input + 6 + turns, length - 6 - turns, input[0], number_at(input + 1, 3));
     if (l.refusal.number) return refused(l.refusal.number, l.refusal.place);
-    table_line(l);
+    put_facts(l);
+    printf("\n");
     Report report = run_list(&run, input + 6, turns, true);
     if (report.number) return refused(report.number, 0);
     printf("%s %llu peak %llu\n", report.finished ? "done" : "open", (unsigned long long)report.turns, (unsigned long long)run.highest);
@@ -600,7 +619,7 @@ static int repeat(void) {
         bool never = total == UINT64_MAX;
         if (mode == 'l') {
             Loaded l = load(table, never ? 0 : length - 13);
-            total += l.refusal.number ? l.refusal.number : l.depth;
+            total += l.refusal.number ? l.refusal.number : l.depth + l.nested;
         } else {
             copy = run;
             if (mode == 's') {

@@ -5,7 +5,7 @@ Every expected answer is written down here by hand, and held against reference.p
 """
 import pathlib
 
-from reference import END, WORK, ALLOC, FREE, FORK, JOIN, check, line
+from reference import END, WORK, ALLOC, FREE, FORK, JOIN, check, facts_line
 from tables import table, word
 
 end, work = (END, 0), (WORK, 0)
@@ -76,26 +76,27 @@ CASES = [
     ('a child below 0, its parent at the join', table(parent(1), [free(5), end]), 'refused 10 1'),
     ('a child below 0, its parent above', table([alloc(9)] + parent(1), [free(5), end]), 'refused 10 4'),
     ('a child below 0 and back', table(parent(1), [free(5), alloc(5), end]), 'refused 10 3'),
-    ('a parent frees what its child left', table([fork(1), join(1), free(5), end], [alloc(5), end]), 'table 2 6 serial 5 depth 6'),
+    ('a parent frees what its child left', table([fork(1), join(1), free(5), end], [alloc(5), end]), 'table 2 6 serial 5 depth 6 nested 2'),
     ('a parent frees it before the join', table([fork(1), free(5), join(1), end], [alloc(5), end]), 'refused 10 1'),
-    ('a grandchild left it', table(parent(1), parent(2), [alloc(7), end]), 'table 3 8 serial 7 depth 8'),
-    ('one end', least, 'table 1 1 serial 0 depth 1'),
-    ('E', table(parent(1, 2), [alloc(6), work, free(6), end], [alloc(6), free(6), end]), 'table 3 12 serial 6 depth 8'),
-    ('one child runs at a time', table([fork(1), join(1), fork(2), join(2), end], [alloc(4), free(4), end], [alloc(9), free(9), end]), 'table 3 11 serial 9 depth 11'),
-    ('a longer child decides the depth', table([fork(1), work, work, work, join(1), end], [work, work, end]), 'table 2 9 serial 0 depth 6'),
-    ('the highest is inside a child', table([alloc(1), fork(1), join(1), end], [alloc(5), free(5), end]), 'table 2 7 serial 6 depth 7'),
-    ('largest argument', table([alloc(LARGEST), free(LARGEST), end]), 'table 1 3 serial 16777215 depth 3'),
-    ('most memory', table([alloc(LARGEST)] * 8191 + [end]), 'table 1 8192 serial 137422168065 depth 8192'),
-    ('deepest nesting', table(*chain), 'table 1024 3070 serial 0 depth 3070'),
-    ('widest fan', table(*fan), 'table 1024 3070 serial 0 depth 2048'),
-    ('most threads and actions', table(parent(*range(1, 1024))[:-1] + [work] * 1030 + [end], *([[alloc(2), alloc(1), free(3), work, end]] * 1023)), 'table 1024 8192 serial 3 depth 3082'),
+    ('a grandchild left it', table(parent(1), parent(2), [alloc(7), end]), 'table 3 8 serial 7 depth 8 nested 3'),
+    ('one end', least, 'table 1 1 serial 0 depth 1 nested 1'),
+    ('E', table(parent(1, 2), [alloc(6), work, free(6), end], [alloc(6), free(6), end]), 'table 3 12 serial 6 depth 8 nested 2'),
+    ('one child runs at a time', table([fork(1), join(1), fork(2), join(2), end], [alloc(4), free(4), end], [alloc(9), free(9), end]), 'table 3 11 serial 9 depth 11 nested 2'),
+    ('a longer child decides the depth', table([fork(1), work, work, work, join(1), end], [work, work, end]), 'table 2 9 serial 0 depth 6 nested 2'),
+    ('the highest is inside a child', table([alloc(1), fork(1), join(1), end], [alloc(5), free(5), end]), 'table 2 7 serial 6 depth 7 nested 2'),
+    ('the deepest is not the last', table(parent(1, 3), parent(2), leaf, leaf), 'table 4 10 serial 0 depth 7 nested 3'),
+    ('largest argument', table([alloc(LARGEST), free(LARGEST), end]), 'table 1 3 serial 16777215 depth 3 nested 1'),
+    ('most memory', table([alloc(LARGEST)] * 8191 + [end]), 'table 1 8192 serial 137422168065 depth 8192 nested 1'),
+    ('deepest nesting', table(*chain), 'table 1024 3070 serial 0 depth 3070 nested 1024'),
+    ('widest fan', table(*fan), 'table 1024 3070 serial 0 depth 2048 nested 2'),
+    ('most threads and actions', table(parent(*range(1, 1024))[:-1] + [work] * 1030 + [end], *([[alloc(2), alloc(1), free(3), work, end]] * 1023)), 'table 1024 8192 serial 3 depth 3082 nested 2'),
 ]
 
 
 def main():
     data, text = b'', ''
     for label, case, expected in CASES:
-        found = line(check(case))
+        found = facts_line(check(case))
         if found != expected:
             raise SystemExit('%s: expected %s, the reference says %s' % (label, expected, found))
         data += bytes([len(label)]) + label.encode() + len(case).to_bytes(3, 'little') + case

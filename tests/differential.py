@@ -13,7 +13,7 @@ import sys
 
 import call_cases
 import machine
-from reference import ALLOC, END, FORK, FREE, JOIN, WORK, Table, check, line, serial_order
+from reference import ALLOC, END, FORK, FREE, JOIN, WORK, Table, check, facts_line, serial_order
 from tables import damaged, drawn, table
 
 LARGEST = 2**24 - 1
@@ -165,7 +165,7 @@ ROUNDS = [bytes([p]) + FULL + b'\xff' * 4 + data for p in (1, 2, 16) for data in
 TABLE = ['refused %d' % i for i in range(1, 12)]
 
 PROGRAMS = {
-    'tablecheck': ([MOST, CHAIN, FAN, bytes(70000)], tablecheck_input, lambda data: line(check(data)) + '\n', table_traits, ['table'] + TABLE),
+    'tablecheck': ([MOST, CHAIN, FAN, bytes(70000)], tablecheck_input, lambda data: facts_line(check(data)) + '\n', table_traits, ['table'] + TABLE),
     'turnlist': (LISTINGS, turnlist_input, machine.turnlist, listing_traits,
                  ['done', 'open', 'quota', 'wait', 'idle', 'premature', 'order left at the end', 'order of 0', 'order of 4096', 'worker 255',
                   'refused 20', 'refused 21', 'refused 22', 'refused 30', 'refused 33']),

@@ -1,6 +1,6 @@
 """Job tables by document 01, written on its own: rules looked up one by one, nothing taken from the Rattle code.
 
-check(bytes) answers ('table', n, m, S1, D) or ('refused', number, place).
+check(bytes) answers ('table', n, m, S1, D, N) or ('refused', number, place).
 """
 import sys
 
@@ -135,6 +135,19 @@ def depth(table, owner):
     return level[first + count - 1]
 
 
+def nested(table, owner):
+    """The number of nested thread levels: from the thread that is the most forks away from the root, the root being one."""
+    parent = {x: owner[a] for a, (kind, x) in enumerate(table.actions) if kind == FORK}
+
+    def levels(t):
+        count = 1
+        while t:
+            t, count = parent[t], count + 1
+        return count
+
+    return max(levels(t) for t in range(len(table.contents)))
+
+
 def check(data):
     if len(data) < 4:
         return 'refused', 1, 0
@@ -150,14 +163,22 @@ def check(data):
         fault = form_fault(table, owner) or nesting_fault(table, owner) or balance_fault(table, owner)
     if fault:
         return ('refused', *fault)
-    return 'table', n, m, peak(table), depth(table, owner)
+    return 'table', n, m, peak(table), depth(table, owner), nested(table, owner)
 
 
 def line(answer):
+    """The header of a listing, or its only line."""
     if answer[0] == 'refused':
         return 'refused %d %d' % answer[1:]
-    return 'table %d %d serial %d depth %d' % answer[1:]
+    return 'table %d %d serial %d depth %d' % answer[1:5]
+
+
+def facts_line(answer):
+    """The line that tells all facts, or the refusal."""
+    if answer[0] == 'refused':
+        return line(answer)
+    return '%s nested %d' % (line(answer), answer[5])
 
 
 if __name__ == '__main__':
-    print(line(check(sys.stdin.buffer.read())))
+    print(facts_line(check(sys.stdin.buffer.read())))

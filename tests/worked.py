@@ -40,7 +40,7 @@ def turns(run, order):
 
 def worked():
     e = table(*E)
-    expect('E', check(e), ('table', 3, 12, 6, 8))
+    expect('E', check(e), ('table', 3, 12, 6, 8, 2))
     expect('E, K 5', begin(e, 2, 5)[0], ('refused', 22, 5))
     listing = [('done', 0, 0), ('done', 1, 5), ('done', 0, 1), ('done', 1, 6), ('done', 2, 9), ('done', 1, 7), ('done', 2, 10),
                ('done', 1, 8), ('done', 2, 11), ('done', 0, 2), ('idle',), ('done', 0, 3), ('idle',), ('done', 0, 4)]
@@ -54,7 +54,7 @@ def worked():
     report, run = run_rounds(begun(e, 1, 6), 99)
     expect('E, p 1', (report, run.highest), (('finished', 12), 6))
     least = bytes([1, 0, 1, 0, 0, 0, 1, 0, 0, 0, 0, 0])
-    expect('one end', check(least), ('table', 1, 1, 0, 1))
+    expect('one end', check(least), ('table', 1, 1, 0, 1, 1))
     expect('its one turn', turns(begun(least, 1, 1), [0])[0], [('done', 0, 0)])
     expect('a byte more', check(least + b'\0'), ('refused', 3, 0))
     expect('no bytes', check(b''), ('refused', 1, 0))

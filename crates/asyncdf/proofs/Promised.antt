@@ -1,6 +1,7 @@
--- Demand 3 for the running code. A history is a list of calls, each on the record that the last one left, of which nothing is known but what the promises of the public functions say:
+-- The limits for the running code. A history is a list of calls, each on the record that the last one left, of which nothing is known but what the promises of the public functions say:
 -- their own `ensures`, as the check reads it (`Learnt`), of the arguments and the answer. `history-is`: the record, the answers and the row of turns are those of the definitions.
--- `history-exists`: every list of calls has one. `code-limit`: and so the memory limit (crates/schedule/proofs/Limit.antt) holds of them.
+-- `history-exists`: every list of calls has one. `code-limit` and `code-threads`: and so the memory limit and the limit on the threads in the list (crates/schedule/proofs, Limit and
+-- ThreadLimit) hold of them.
 use mathlib.Core.Path.{_≡_, refl, sym, ap, ap₂, subst, _∙_}
 use Prim.Native.Nat.{ℕ, _%_, _≤_}
 use mathlib.Core.List.{List, [], _∷_, _++_}
@@ -22,6 +23,7 @@ use Rattle.schedule.specs.Turn.{turned}
 use Rattle.schedule.specs.Runs.{listRun, roundsRun}
 use Rattle.schedule.specs.Calls.{Call, turn, overList, inRounds, turnsIn, turnRow, afterCall, afterCalls, rowOf, rowOfCalls}
 use Rattle.schedule.proofs.Limit.{MemoryLimit, memory-limit}
+use Rattle.schedule.proofs.ThreadLimit.{ThreadLimit, thread-limit}
 use Rattle.schedule.proofs.Values.{begin-values, turn-values, list-values, rounds-values}
 use Rattle.asyncdf.proofs.begin.Kinds as begin-kinds
 use Rattle.asyncdf.proofs.begin.Reads as begin-promise
@@ -174,15 +176,26 @@ unfolding afterCalls answersOf rowOfCalls
 history-exists r [] = none
 history-exists r (c ∷ calls) = next (called r c) (history-exists (afterCall c r) calls)
 
--- ---- demand 3
+-- ---- the limits
 
--- Beginning accepted the bytes, p and K; the calls of any history followed. Of the record that they left and of the row of their turns the memory limit holds, for every b at least 1.
+-- what holds of the record and of the row that the definitions give, from the beginning on, holds of a history's
+history-holds : {s : List ℕ} {p K : ℕ} {b : Begun} → BeginSays s p K b → b .answer ≡ started
+    → {calls : List Call} {answers : List Answer} {row : List ℕ} {r : Run} → History (b .run) calls answers row r
+    → (P : Run → List ℕ → Type 0) → (begin s p K ≡ record { answer = started; run = b .run } → P (afterCalls calls (b .run)) (rowOfCalls calls (b .run))) → P r row
+history-holds {s} {p} {K} {b} h e {calls} {answers} {row} {r} t P given =
+    let d = history-is t in
+    let f : begin s p K ≡ record { answer = started; run = b .run } = sym (begin-is h) ∙ (λ i. record { answer = e i; run = b .run }) in
+    subst (λ (x : Run). P x row) (sym (d .record-is)) (subst (λ (x : List ℕ). P (afterCalls calls (b .run)) x) (sym (d .row-is)) (given f))
+
+-- Demand 3. Beginning accepted the bytes, p and K; the calls of any history followed. Of the record that they left and of the row of their turns the memory limit holds, for every b at
+-- least 1.
 pub code-limit : {s : List ℕ} {p K : ℕ} {b : Begun} → BeginSays s p K b → b .answer ≡ started
     → {calls : List Call} {answers : List Answer} {row : List ℕ} {r : Run} → History (b .run) calls answers row r
     → (most : ℕ) → 1 ≤ most → MemoryLimit (tableOf s) p K most r row
-code-limit {s} {p} {K} {b} h e {calls} {answers} {row} {r} t most g =
-    let d = history-is t in
-    let f : begin s p K ≡ record { answer = started; run = b .run } = sym (begin-is h) ∙ (λ i. record { answer = e i; run = b .run }) in
-    let l : MemoryLimit (tableOf s) p K most (afterCalls calls (b .run)) (rowOfCalls calls (b .run)) = memory-limit s p K (b .run) f most g calls in
-    subst (λ (x : Run). MemoryLimit (tableOf s) p K most x row) (sym (d .record-is))
-    (subst (λ (x : List ℕ). MemoryLimit (tableOf s) p K most (afterCalls calls (b .run)) x) (sym (d .row-is)) l)
+code-limit {s} {p} {K} {b} h e {calls} t most g = history-holds h e t (MemoryLimit (tableOf s) p K most) (λ f. memory-limit s p K (b .run) f most g calls)
+
+-- N2: and so does the limit on the threads in the list
+pub code-threads : {s : List ℕ} {p K : ℕ} {b : Begun} → BeginSays s p K b → b .answer ≡ started
+    → {calls : List Call} {answers : List Answer} {row : List ℕ} {r : Run} → History (b .run) calls answers row r
+    → (most : ℕ) → 1 ≤ most → ThreadLimit (tableOf s) p K most r row
+code-threads {s} {p} {K} {b} h e {calls} t most g = history-holds h e t (ThreadLimit (tableOf s) p K most) (λ f. thread-limit s p K (b .run) f most g calls)

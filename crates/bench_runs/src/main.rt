@@ -32,7 +32,7 @@ fn load_once(bytes: &[u8], total: u64) -> u64 {
     }
     let loaded = table::load(bytes);
     match loaded {
-        Loaded::Accepted(facts) => facts.depth as u64,
+        Loaded::Accepted(facts) => facts.depth as u64 + facts.nested as u64,
         Loaded::Refused(refusal) => refusal.number as u64,
     }
 }

@@ -19,7 +19,7 @@ ghost use Rattle.lines.specs.Puts.{Puts};
 pub fn put_answer(out: &mut [u8], at: usize, answer: Loaded) -> usize
     ensures { λ r. ⌜ Puts (now (out .entry)) at (now (out .exit)) r (lineOf answer ∷ []) 64 ⌝ }
 {
-    let mut line = [0u8; 64];
+    let mut line = [0u8; 80];
     let k = text::table_line(answer, &mut line);
     put_word(out, at, &line[..k])
 }

@@ -38,7 +38,7 @@ pub fn largest_quota(table: &[u8], p: u8, b: u32, memory: u64) -> Quoted
 }
 
 // The line that `maxquota` prints, from the bytes that it reads, and its length.
-pub fn quota_line(input: &[u8], out: &mut [u8; 64]) -> usize
+pub fn quota_line(input: &[u8], out: &mut [u8; 80]) -> usize
     ensures { λ r. ⌜ r ≡ length (quotaLine (answerTo (now (input .entry)))) ⌝ }
     ensures { λ r. ⌜ now (out .exit) ≡ quotaLine (answerTo (now (input .entry))) ++ drop r (now (out .entry)) ⌝ }
     ensures { λ r. ⌜ Counts r (now (out .exit)) ⌝ }

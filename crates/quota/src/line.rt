@@ -52,7 +52,7 @@ pub(crate) fn answer_to(input: &[u8]) -> Quoted
     )
 }
 
-fn given_line(quota: u32, out: &mut [u8; 64]) -> usize
+fn given_line(quota: u32, out: &mut [u8; 80]) -> usize
     ensures { λ r. ⌜ r ≡ length (givenLine quota) ⌝ }
     ensures { λ r. ⌜ now (out .exit) ≡ givenLine quota ++ drop r (now (out .entry)) ⌝ }
     ensures { λ r. ⌜ r ≤ 64 ⌝ }
@@ -62,7 +62,7 @@ fn given_line(quota: u32, out: &mut [u8; 64]) -> usize
 }
 
 // The line of an answer, and its length.
-pub(crate) fn answer_line(answer: Quoted, out: &mut [u8; 64]) -> usize
+pub(crate) fn answer_line(answer: Quoted, out: &mut [u8; 80]) -> usize
     ensures { λ r. ⌜ r ≡ length (quotaLine answer) ⌝ }
     ensures { λ r. ⌜ now (out .exit) ≡ quotaLine answer ++ drop r (now (out .entry)) ⌝ }
     ensures { λ r. ⌜ r ≤ 64 ⌝ }

@@ -1,10 +1,10 @@
--- The memory limit for rows of turns from the beginning.
+-- The memory limit for rows of turns from the beginning: memory held as an instance of what draws bound.
 use mathlib.Core.Path.{_≡_, refl, sym, _∙_}
 use Prim.Native.Nat.{ℕ, zero, suc, _+_, _-_, _*_, _≤_, _<_}
 use native.Mathlib.Omega.{arith}
 use native.Mathlib.Decide.{ℕ-discrete, decLt}
-use native.Mathlib.Nat.{mul-assoc, mul-comm, mul-suc, mul-zero, mul-le-mul-left}
-use mathlib.Core.List.{List, [], _∷_, List·Memᴰ, List·Memᴰ·head, List·Memᴰ·tail, List·Memᴰ·not-nil, Memᴰ·map}
+use native.Mathlib.Nat.{mul-assoc, mul-comm}
+use mathlib.Core.List.{List, [], _∷_, List·Memᴰ, List·Memᴰ·head, List·Memᴰ·tail, Memᴰ·map}
 use mathlib.Core.Bool.{Bool, true, false, _&&_}
 use lib.ListN.{take}
 use lib.Dec.{ltb}
@@ -13,7 +13,7 @@ use Rattle.table.specs.Sum.{pick, sumTo, sumOver}
 use Rattle.table.specs.Format.{Table}
 use Rattle.table.specs.Rules.{allocOf, freeOf}
 use Rattle.table.specs.Serial.{serialOrder, heldAfter, fronts, peakOf, S1}
-use Rattle.table.specs.Level.{level, D}
+use Rattle.table.specs.Level.{D}
 use Rattle.table.proofs.Sums.{sumTo-cong}
 use Rattle.schedule.specs.Machine.{State, ended, nextOf, statusOf}
 use Rattle.schedule.specs.Begin.{startState}
@@ -23,14 +23,12 @@ use Rattle.schedule.proofs.Lawful.{Lawful}
 use Rattle.schedule.proofs.Facts.{Done, Facts}
 use Rattle.schedule.proofs.Numbers.{number-below, number-once}
 use Rattle.schedule.proofs.Done.{next-below}
-use Rattle.schedule.proofs.Starts.{start-facts}
-use Rattle.schedule.proofs.Rows.{row-facts}
-use Rattle.schedule.proofs.Batches.{batches, Enabled, batches-few, batches-none}
-use Rattle.schedule.proofs.Depth.{greatest-member, level-depth}
+use Rattle.schedule.proofs.Depth.{greatest-member}
 use Rattle.schedule.proofs.SerialSums.{lower, front-sum}
 use Rattle.schedule.proofs.Totals.{sumTo-add}
-use Rattle.schedule.proofs.Leftmost.{all-done, front-done, leftmost-enabled, leftmost-undone}
+use Rattle.schedule.proofs.Leftmost.{all-done, front-done, leftmost-undone}
 use Rattle.schedule.proofs.Draws.{spentBeyond, draws-few}
+use Rattle.schedule.proofs.RowBounds.{Covered, Below, row-within, row-serial}
 
 -- the first k actions of serial order are a front part of it
 take-front : (k : ℕ) (l : List ℕ) → List·Memᴰ (take k l) (fronts l)
@@ -43,15 +41,6 @@ take-front (suc k) (x ∷ l) = List·Memᴰ·tail (Memᴰ·map (x ∷_) (take-fr
 front-held : (T : Table) (k : ℕ) → heldAfter T (take k (serialOrder T)) ≤ S1 T
 unfolding S1 peakOf
 front-held T k = greatest-member (heldAfter T) (take k (serialOrder T)) (fronts (serialOrder T)) (take-front k (serialOrder T))
-
--- what n batches of budget K draw, with n + B ≤ B·v and v ≤ d
-draws-bound : (K n B v d : ℕ) → n + B ≤ B * v → v ≤ d → K * n ≤ K * (B * (d - 1))
-draws-bound K n B v zero h i =
-    let e : v ≡ 0 = omega arith in
-    mul-le-mul-left K (omega (arith, rw (e, mul-zero) at h))
-draws-bound K n B v (suc d) h i =
-    let e : suc d - 1 ≡ d = omega arith in
-    rw e (mul-le-mul-left K (omega (arith, mul-le-mul-left B i, mul-suc B d)))
 
 -- the limit's product, with the quota in front
 quota-first : (b K q d : ℕ) → b * K * q * d ≡ K * (b * q * d)
@@ -111,59 +100,19 @@ module _ (T : Table) (l : Lawful T) (p K : ℕ) (st : State) (f : Facts T p K st
         front-held T (numberOf T v),
       )
 
--- a sound state whose root has not ended has a leftmost thread
-unended-listed : (T : Table) (l : Lawful T) (p K : ℕ) (st : State) (f : Facts T p K st) → (statusOf st 0 ≡ ended → ⊥)
-    → (t : ℕ) × (others : List ℕ) × (st .list ≡ t ∷ others) × (t < T .threads)
-unended-listed T l p K st f n = go (st .list) refl
-  where
-    go : (k : List ℕ) → st .list ≡ k → (t : ℕ) × (others : List ℕ) × (st .list ≡ t ∷ others) × (t < T .threads)
-    go [] e = absurd (List·Memᴰ·not-nil (rw e at (f .live-listed 0 (l .some-thread) (f .root-born) n)))
-    go (t ∷ others) e = (t, others, e, f .list-below t (rw e (List·Memᴰ·head refl)))
-
 module _ (T : Table) (l : Lawful T) (p K : ℕ) (some : 1 ≤ p) (few : p ≤ 16) where
-  module _ (row : List ℕ) (h : (w : ℕ) → List·Memᴰ w row → w < p) where
-    after : Facts T p K (rowState T K (startState T) row)
-    after = row-facts T l p K few (startState T) (start-facts T l p K) row h
+  -- memory held, from the serial peak on, is covered by what the allocs done beyond the first action not done drew
+  held-covered : Covered T p K (λ st. st .held) (S1 T) (allocOf T)
+  held-covered = record { at-end = held-ended T l p K; before = held-open T l p K }
 
-    -- at most S1, and what the batches begun beyond an enabled action may draw
-    row-drawn : (statusOf (rowState T K (startState T) row) 0 ≡ ended → ⊥)
-        → (t : ℕ) × Enabled T (rowState T K (startState T) row) t
-        × (rowState T K (startState T) row .held ≤ S1 T + K * batches T K (startState T) row (nextOf (rowState T K (startState T) row) t))
-    row-drawn n =
-        let st : State = rowState T K (startState T) row in
-        let (t, others, e, i) = unended-listed T l p K st after n in (
-          t,
-          leftmost-enabled T l p K st after t others e,
-          omega (
-            arith,
-            held-open T l p K st after t others e i,
-            draws-few T l p K few row h (nextOf st t) (next-below T l p K st after t i) (leftmost-undone T l p K st after t others e),
-          ),
-        )
-
-  pub row-bound : (b : ℕ) → 1 ≤ b → (row : List ℕ) → ((w : ℕ) → List·Memᴰ w row → w < p) → Keeps b row → rowState T K (startState T) row .held ≤ limit T p K b
+  pub row-bound : (b : ℕ) → 1 ≤ b → (row : List ℕ) → Below p row → Keeps b row → rowState T K (startState T) row .held ≤ limit T p K b
   unfolding limit
-  row-bound b g row h r = go (ℕ-discrete (statusOf (rowState T K (startState T) row) 0) ended)
-    where
-      go : Dec (statusOf (rowState T K (startState T) row) 0 ≡ ended) → rowState T K (startState T) row .held ≤ S1 T + b * K * (p - 1) * (D T - 1)
-      go (yes e) = omega (arith, held-ended T l p K (rowState T K (startState T) row) (after row h) e)
-      go (no n) =
-          let (t, e, i) = row-drawn row h n in
-          let v : ℕ = nextOf (rowState T K (startState T) row) t in
-          let w : v < T .actions = next-below T l p K (rowState T K (startState T) row) (after row h) t (e .below) in
-          let j : level T v ≤ D T = level-depth T (l .contents) (l .bodies) (l .nesting) (l .forking) v w in
-          omega (
-            arith,
-            i,
-            draws-bound K (batches T K (startState T) row v) (b * (p - 1)) (level T v) (D T) (batches-few T l p K some few b row h r t e) j,
-            quota-first b K (p - 1) (D T - 1),
-          )
+  row-bound b g row h r =
+      omega (
+        arith,
+        row-within T l p K some few (λ st. st .held) (S1 T) (allocOf T) K held-covered (draws-few T l p K few) row h b r,
+        quota-first b K (p - 1) (D T - 1),
+      )
 
-  pub row-alone : p ≡ 1 → (row : List ℕ) → ((w : ℕ) → List·Memᴰ w row → w < p) → rowState T K (startState T) row .held ≤ S1 T
-  row-alone e row h = go (ℕ-discrete (statusOf (rowState T K (startState T) row) 0) ended)
-    where
-      go : Dec (statusOf (rowState T K (startState T) row) 0 ≡ ended) → rowState T K (startState T) row .held ≤ S1 T
-      go (yes i) = held-ended T l p K (rowState T K (startState T) row) (after row h) i
-      go (no n) =
-          let (t, q, i) = row-drawn row h n in
-          omega (arith, rw (batches-none T l p K some few e row h t q, mul-zero) at i)
+  pub row-alone : p ≡ 1 → (row : List ℕ) → Below p row → rowState T K (startState T) row .held ≤ S1 T
+  row-alone e row h = row-serial T l p K some few (λ st. st .held) (S1 T) (allocOf T) K held-covered (draws-few T l p K few) row h e

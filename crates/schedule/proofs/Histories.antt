@@ -294,6 +294,11 @@ calls-left r h (c ∷ calls) =
     left-append r (rowOf c r) (afterCall c r) (rowOfCalls calls (afterCall c r)) (afterCalls calls (afterCall c r)) (g .left)
     (calls-left (afterCall c r) (g .steady) calls)
 
+pub calls-steady : (r : Run) → Steady r → (calls : List Call) → Steady (afterCalls calls r)
+unfolding afterCalls
+calls-steady r h [] = h
+calls-steady r h (c ∷ calls) = calls-steady (afterCall c r) (call-goes r h c .steady) calls
+
 -- and from a beginning
 pub start-state : (s : List ℕ) (p K : ℕ) (r : Run) → begin s p K ≡ record { answer = started; run = r }
     → (tableIn r ≡ tableOf s) × (r .workers ≡ p) × (r .quota ≡ K) × (stateOf r ≡ startState (tableOf s))

@@ -48,7 +48,7 @@ module _ (T : Table) (c : ContentRules T) (b : BodyRules T) (n : NestRules T) wh
       go false false false p q r ih = rw (open-same T c b n a p q r) (omega arith)
 
   -- at most one action forks a thread
-  forks-one : (d m : ℕ) → m ≤ T .actions → weightOf T fork (one d) m ≤ 1
+  pub forks-one : (d m : ℕ) → m ≤ T .actions → weightOf T fork (one d) m ≤ 1
   unfolding sumTo
   forks-one d zero h = omega arith
   forks-one d (suc m) h = go (is fork (kind T m)) (eqb (T .argument m) d) refl refl (forks-one d m (omega arith))

@@ -46,9 +46,12 @@ pub mod Enables
 pub mod Counting
 pub mod Batches
 pub mod Draws
+pub mod RowBounds
+pub mod Listed
 pub mod Bound
 pub mod FrontParts
 pub mod Limit
+pub mod ThreadLimit
 -- the worked cases
 pub mod CaseLaws
 pub mod Wrong

@@ -29,6 +29,7 @@ use Rattle.schedule.proofs.Acts.{Acted, acted, set-ended}
 -- The turn of w tries action a of thread t, with what is left of its quota or, at the beginning of a batch, with K.
 pub record Tries (T : Table) (K w : ℕ) (st : State) (t a : ℕ) (s : Stepped) : Type 0 where
   pub within : a < T .actions
+  pub owned : owner T a ≡ t
   pub undone : isDone T st a ≡ false
   -- nobody else holds the thread
   pub apart : (u : ℕ) → u < 16 → (u ≡ w → ⊥) → workerOf st u .holds ≡ true → workerOf st u .thread ≡ t → ⊥
@@ -77,6 +78,7 @@ module _ (T : Table) (l : Lawful T) (p K : ℕ) (few : p ≤ 16) (w : ℕ) (belo
         tries t a
         (record {
           within = x .action;
+          owned = x .owned;
           undone = x .undone;
           apart = acting-alone T p K w t a st f x;
           from = inl (e, refl, refl);
@@ -95,6 +97,7 @@ module _ (T : Table) (l : Lawful T) (p K : ℕ) (few : p ≤ 16) (w : ℕ) (belo
         tries t a
         (record {
           within = x .action;
+          owned = x .owned;
           undone = sym (taken-done T K w t st r a) ∙ x .undone;
           apart = λ u g d j y. no-way (cc (f .holding .holder-held u g j));
           from = inr (e, b, rw i);
@@ -120,6 +123,7 @@ counted-turned T K w st s (tries t a x) =
     tries t a
     (record {
       within = x .within;
+      owned = x .owned;
       undone = x .undone;
       apart = x .apart;
       from = x .from;

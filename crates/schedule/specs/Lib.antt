@@ -6,9 +6,11 @@ pub mod Turn
 pub mod Runs
 pub mod Calls
 pub mod Memory
+pub mod Threads
 pub mod Answers
 pub mod Values
 pub mod Listing
 pub mod Cases
 pub mod TurnCases
+pub mod ThreadCases
 pub mod Rule

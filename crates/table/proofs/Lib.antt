@@ -12,6 +12,8 @@ pub mod WellNested
 pub mod Serial
 pub mod Rank
 pub mod Levels
+pub mod NestedThreads
+pub mod NestWalk
 pub mod Amounts
 pub mod Balances
 pub mod JobTables

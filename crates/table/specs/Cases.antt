@@ -3,13 +3,14 @@ use mathlib.Core.Path.{_≡_, refl}
 use Prim.Native.Nat.{ℕ, _+_, _/_, _%_}
 use mathlib.Core.List.{List, [], _∷_, _++_, map}
 use lib.ListN.{length}
-use Rattle.table.specs.Sum.{sumTo, sumOver, greatest, anyBelow}
+use Rattle.table.specs.Sum.{sumTo, sumOver, greatest, anyBelow, greatestTo}
 use Rattle.table.specs.Format.{Kind, end, work, alloc, free, fork, join, codeOf, kindOf, is, tableOf}
 use Rattle.table.specs.Pass.{tryAt, tryFrom, tryPass, firstFound}
 use Rattle.table.specs.Rules.{entryWrong, totalWrong, ownerBelow, kindUnknown, argumentWrong, endMisplaced, forkedBelow, forkedBefore}
 use Rattle.table.specs.Rules.{openBefore, joinNotLatest, endWithOpen, neverForked, allocOf, freeOf, wholeWithin, balance, balanceBelow0, passes}
 use Rattle.table.specs.Serial.{serialWithin, fronts, heldAfter, peakOf, S1}
 use Rattle.table.specs.Level.{forkBelow, forkOf, beforeIt, joinedEnd, dependsOn, levelWithin, D}
+use Rattle.table.specs.Nested.{nestWithin, N}
 use Rattle.table.specs.Load.{Values, valuesOf, loaded, factsOf}
 
 -- ---- writing a table as bytes
@@ -75,33 +76,33 @@ pub record Case : Type 0 where
   pub bytes : List ℕ
   pub values : Values
 
-abbrev pub accepted : List ℕ → ℕ → ℕ → ℕ → ℕ → Case
-accepted s n m peak depth =
+abbrev pub accepted : List ℕ → ℕ → ℕ → ℕ → ℕ → ℕ → Case
+accepted s n m peak depth nested =
     record {
       bytes = s;
-      values = record { number = 0; place = 0; threads = n; actions = m; peak = peak; depth = depth };
+      values = record { number = 0; place = 0; threads = n; actions = m; peak = peak; depth = depth; nested = nested };
     }
 
 abbrev pub refused : List ℕ → ℕ → ℕ → Case
 refused s number place =
     record {
       bytes = s;
-      values = record { number = number; place = place; threads = 0; actions = 0; peak = 0; depth = 0 };
+      values = record { number = number; place = place; threads = 0; actions = 0; peak = 0; depth = 0; nested = 0 };
     }
 
 unfoldable pub cases : List Case
 unfolding codeOf
 cases =
-    accepted E 3 12 6 8
-    ∷ accepted least 1 1 0 1
+    accepted E 3 12 6 8 2
+    ∷ accepted least 1 1 0 1 1
     ∷ refused (least ++ (0 ∷ [])) 3 0
     ∷ refused [] 1 0
-    ∷ accepted twoAllocs 1 3 8 3
+    ∷ accepted twoAllocs 1 3 8 3 1
     ∷ refused overfreed 10 1
     ∷ refused swapped 9 2
     ∷ []
 
 -- every row's table, loaded, has the row's values
 pub worked : map (λ (c : Case). valuesOf (loaded (c .bytes))) cases ≡ map (λ (c : Case). c .values) cases
-unfolding cases loaded factsOf sumTo sumOver greatest anyBelow codeOf kindOf is tableOf tryAt tryFrom tryPass firstFound entryWrong totalWrong ownerBelow kindUnknown argumentWrong endMisplaced forkedBelow forkedBefore openBefore joinNotLatest endWithOpen neverForked allocOf freeOf wholeWithin balance balanceBelow0 passes serialWithin fronts heldAfter peakOf S1 forkBelow forkOf beforeIt joinedEnd dependsOn levelWithin D
+unfolding cases loaded factsOf sumTo sumOver greatest anyBelow codeOf kindOf is tableOf tryAt tryFrom tryPass firstFound entryWrong totalWrong ownerBelow kindUnknown argumentWrong endMisplaced forkedBelow forkedBefore openBefore joinNotLatest endWithOpen neverForked allocOf freeOf wholeWithin balance balanceBelow0 passes serialWithin fronts heldAfter peakOf S1 forkBelow forkOf beforeIt joinedEnd dependsOn levelWithin D greatestTo nestWithin N
 worked = refl

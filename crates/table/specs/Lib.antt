@@ -7,8 +7,10 @@ pub mod Accepted
 pub mod JobTable
 pub mod Serial
 pub mod Level
+pub mod Nested
 pub mod Steps
 pub mod Load
 pub mod Cases
 pub mod JobCases
+pub mod NestedCases
 pub mod Wrong

@@ -6,15 +6,16 @@ use Rattle.table.specs.Pass.{firstFound}
 use Rattle.table.specs.Rules.{passes}
 use Rattle.table.specs.Serial.{S1}
 use Rattle.table.specs.Level.{D}
+use Rattle.table.specs.Nested.{N}
 use Rattle.table.specs.declared.Facts.{Facts}
 use Rattle.table.specs.declared.Found.{Found}
 use Rattle.table.specs.declared.Found.the-variants.{Nothing, At}
 use Rattle.table.specs.declared.Loaded.{Loaded}
 use Rattle.table.specs.declared.Loaded.the-variants.{Accepted, Refused}
 
--- the facts of an accepted table: n, m, S1 and D
+-- the facts of an accepted table: n, m, S1, D and N
 unfoldable pub factsOf : Table → Facts
-factsOf T = record { threads = T .threads; actions = T .actions; peak = S1 T; depth = D T }
+factsOf T = record { threads = T .threads; actions = T .actions; peak = S1 T; depth = D T; nested = N T }
 
 abbrev pub answer : Found → Facts → Loaded
 answer Nothing f = Accepted f
@@ -24,7 +25,7 @@ answer (At r) f = Refused r
 unfoldable pub loaded : List ℕ → Loaded
 loaded s = answer (firstFound (passes s)) (factsOf (tableOf s))
 
--- the paper's values of an answer: number and place, 0 and 0 for an accepted table; n, m, S1 and D, 0 for a refused one
+-- the paper's values of an answer: number and place, 0 and 0 for an accepted table; n, m, S1, D and N, 0 for a refused one
 pub record Values : Type 0 where
   pub number : ℕ
   pub place : ℕ
@@ -32,12 +33,13 @@ pub record Values : Type 0 where
   pub actions : ℕ
   pub peak : ℕ
   pub depth : ℕ
+  pub nested : ℕ
 
 abbrev pub valuesOf : Loaded → Values
 valuesOf (Accepted f) =
-    record { number = 0; place = 0; threads = f .threads; actions = f .actions; peak = f .peak; depth = f .depth }
+    record { number = 0; place = 0; threads = f .threads; actions = f .actions; peak = f .peak; depth = f .depth; nested = f .nested }
 valuesOf (Refused r) =
-    record { number = r .number; place = r .place; threads = 0; actions = 0; peak = 0; depth = 0 }
+    record { number = r .number; place = r .place; threads = 0; actions = 0; peak = 0; depth = 0; nested = 0 }
 
 -- ---- the same values from the checks and the table alone
 
@@ -55,7 +57,7 @@ abbrev pub ifFound : {A : Type 0} → Found → A → A → A
 ifFound Nothing x y = y
 ifFound (At r) x y = x
 
--- of a table and what its checks have found: "A refused table gives n, m, S1 and D as 0."
+-- of a table and what its checks have found: "A refused table gives n, m, S1 and D as 0"; N, "0 for a refused table"
 abbrev pub valuesWith : Found → Table → Values
 valuesWith found T =
     record {
@@ -65,6 +67,7 @@ valuesWith found T =
       actions = ifFound found 0 (T .actions);
       peak = ifFound found 0 (S1 T);
       depth = ifFound found 0 (D T);
+      nested = ifFound found 0 (N T);
     }
 
 -- "The first that applies wins". The values of loading's answer are these: `table-values` (proofs/Values).

@@ -12,7 +12,7 @@ use Rattle.table.specs.declared.Loaded.the-variants.{Accepted, Refused}
 pub refusesAll-wrong : (r : Refusal) → loaded E ≡ Refused r → ⊥
 unfolding cases
 refusesAll-wrong r h =
-    let row : valuesOf (loaded E) ≡ accepted E 3 12 6 8 .values = cc worked in
+    let row : valuesOf (loaded E) ≡ accepted E 3 12 6 8 2 .values = cc worked in
     omega (arith, ap (λ (v : Values). v .threads) row, ap (λ (a : Loaded). valuesOf a .threads) h)
 
 -- a loader that accepts everything gives no number for "Alloc 6, free 7, end", which is refused with 10

@@ -5,6 +5,7 @@ mod forms;
 mod head;
 mod level;
 mod nest;
+mod nested;
 mod peak;
 pub mod read;
 
@@ -14,6 +15,7 @@ use forms::first_pass;
 use head::head;
 use level::depth;
 use nest::nesting;
+use nested::nested_levels;
 use peak::serial_peak;
 use read::actions;
 use read::threads;
@@ -24,12 +26,13 @@ ghost use Rattle.table.specs.Rules.{balancePass, shapePasses};
 ghost use Rattle.table.specs.Load.{answer, factsOf, loaded, tableValues, valuesOf};
 ghost use Rattle.table.specs.Steps.{Headed, Nested};
 
-// What an accepted table tells: threads n, actions m, serial peak S1 and depth D.
+// What an accepted table tells: threads n, actions m, serial peak S1, depth D and nested thread levels N.
 pub struct Facts {
     pub threads: u16,
     pub actions: u16,
     pub peak: u64,
     pub depth: u16,
+    pub nested: u16,
 }
 
 // The number of the check that applied, and its place.
@@ -96,10 +99,12 @@ fn weigh(table: &[u8], n: usize, m: usize) -> Loaded
     }
     let peak = serial_peak(table, n, m, &rises, &falls);
     let depth = depth(table, n, m);
+    let nested = nested_levels(table, n, m);
     Loaded::Accepted(Facts {
         threads: n as u16,
         actions: m as u16,
         peak,
         depth: depth as u16,
+        nested: nested as u16,
     })
 }

@@ -42,8 +42,8 @@ fn label(buffer: &mut [u8]) {
 // Reads a table that fills the buffer and prints its answer.
 fn answer(buffer: &mut [u8]) {
     let n = io::read_full(STDIN_FILENO, buffer);
-    let mut line = [0u8; 64];
-    let k = text::table_line(table::load(&buffer[..n]), &mut line);
+    let mut line = [0u8; 80];
+    let k = text::facts_line(table::load(&buffer[..n]), &mut line);
     io::write_all(STDOUT_FILENO, &line[..k]);
 }
 

@@ -6,7 +6,7 @@ fn main() {
     // More than the longest table: what lies beyond is refused for its length all the same.
     let mut buffer = io::large_buffer();
     let n = io::read_full(STDIN_FILENO, &mut buffer);
-    let mut line = [0u8; 64];
-    let k = text::table_line(table::load(&buffer[..n]), &mut line);
+    let mut line = [0u8; 80];
+    let k = text::facts_line(table::load(&buffer[..n]), &mut line);
     io::write_all(STDOUT_FILENO, &line[..k]);
 }

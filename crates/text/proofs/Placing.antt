@@ -2,6 +2,7 @@
 use Prim.Native.Nat.{ℕ, _+_, _≤_, _<_}
 use native.Mathlib.Nat.{zero-add, add-assoc}
 use native.Mathlib.Omega.{arith}
+use native.Mathlib.Decide.{decLt}
 use mathlib.Core.Path.{_≡_, refl, sym, ap, _∙_}
 use mathlib.Core.List.{List, [], _∷_, _++_, append-assoc, foldl}
 use borrow.Author.Tests.{le-leb, lt-leb}
@@ -17,6 +18,16 @@ placed-fits s at t h = rw (le-leb (at + length t) (length s) h)
 pub placed-over : (s : List ℕ) (at : ℕ) (t : List ℕ) → length s < at + length t → placed s at t ≡ bufferAt s at
 unfolding placed
 placed-over s at t h = rw (lt-leb (at + length t) (length s) h)
+
+-- a buffer keeps its length
+pub placed-length : (s : List ℕ) (at : ℕ) (t : List ℕ) → length (placed s at t .bytes) ≡ length s
+placed-length s at t = go (decLt (length s) (at + length t))
+  where
+    go : Dec (length s < at + length t) → length (placed s at t .bytes) ≡ length s
+    go (yes h) = rw (placed-over s at t h)
+    go (no h) =
+        rw (placed-fits s at t (omega (arith, h)))
+        (simp (length-append, length-take-le at s (omega (arith, h)), length-drop) (omega (arith, h)))
 
 module _ (s : List ℕ) (at : ℕ) where
   -- a text after a text

@@ -47,6 +47,9 @@ serialWord = ascii " serial "
 abbrev pub depthWord : List ℕ
 depthWord = ascii " depth "
 
+abbrev pub nestedWord : List ℕ
+nestedWord = ascii " nested "
+
 abbrev pub refusedWord : List ℕ
 refusedWord = ascii "refused "
 
@@ -56,26 +59,44 @@ space = 32 ∷ []
 abbrev pub newline : List ℕ
 newline = 10 ∷ []
 
--- an accepted table's line: "table n m serial S1 depth D"
-unfoldable pub acceptedLine : Facts → List ℕ
-acceptedLine f =
+-- an accepted table: "table n m serial S1 depth D"
+abbrev pub factsText : Facts → List ℕ
+factsText f =
     tableWord ++ decimal (f .threads)
     ++ space ++ decimal (f .actions)
     ++ serialWord ++ decimal (f .peak)
     ++ depthWord ++ decimal (f .depth)
-    ++ newline
+
+-- the header of a listing: "Header: n, m, S1, D."
+unfoldable pub acceptedLine : Facts → List ℕ
+acceptedLine f = factsText f ++ newline
+
+-- all facts, with the nested thread levels: "table n m serial S1 depth D nested N"
+unfoldable pub nestedLine : Facts → List ℕ
+nestedLine f = factsText f ++ nestedWord ++ decimal (f .nested) ++ newline
 
 -- a refused table's line: "refused NUMBER PLACE"
 unfoldable pub refusedLine : Refusal → List ℕ
 refusedLine r = refusedWord ++ decimal (r .number) ++ space ++ decimal (r .place) ++ newline
 
+-- the only line or the header of a listing
 abbrev pub lineOf : Loaded → List ℕ
 lineOf (Accepted f) = acceptedLine f
 lineOf (Refused r) = refusedLine r
 
-accepted-example : lineOf (Accepted (record { threads = 3; actions = 12; peak = 6; depth = 8 })) ≡ ascii "table 3 12 serial 6 depth 8\n"
+-- the line that tells all that loading answered
+abbrev pub factsLineOf : Loaded → List ℕ
+factsLineOf (Accepted f) = nestedLine f
+factsLineOf (Refused r) = refusedLine r
+
+accepted-example : lineOf (Accepted (record { threads = 3; actions = 12; peak = 6; depth = 8; nested = 2 })) ≡ ascii "table 3 12 serial 6 depth 8\n"
 unfolding acceptedLine decimal digitsOf
 accepted-example = refl
+
+nested-example : factsLineOf (Accepted (record { threads = 3; actions = 12; peak = 6; depth = 8; nested = 2 }))
+    ≡ ascii "table 3 12 serial 6 depth 8 nested 2\n"
+unfolding nestedLine decimal digitsOf
+nested-example = refl
 
 refused-example : lineOf (Refused (record { number = 10; place = 1 })) ≡ ascii "refused 10 1\n"
 unfolding refusedLine decimal digitsOf

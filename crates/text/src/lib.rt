@@ -7,7 +7,7 @@ ghost use Prim.Native.Nat.{_≤_};
 ghost use mathlib.Core.List.{_++_};
 ghost use lib.ListN.{length, drop};
 ghost use Rattle.io.specs.Counts.{Counts};
-ghost use Rattle.text.specs.Text.{decimal, lineOf, acceptedLine, refusedLine, bufferAt, placed, placedNext};
+ghost use Rattle.text.specs.Text.{decimal, lineOf, factsLineOf, factsText, acceptedLine, nestedLine, refusedLine, bufferAt, placed, placedNext};
 
 // Puts a word at a position, and answers the position after it. A word that does not fit is not put.
 pub fn put_word(out: &mut [u8], at: usize, word: &[u8]) -> usize
@@ -44,8 +44,8 @@ pub fn put_labelled(out: &mut [u8], at: usize, label: &[u8], n: u64) -> usize
     put_number(out, after, n)
 }
 
-// The line that tells what loading a table answered, and its length.
-pub fn table_line(answer: Loaded, out: &mut [u8; 64]) -> usize
+// The line that tells what loading a table answered as a listing does, and its length.
+pub fn table_line(answer: Loaded, out: &mut [u8; 80]) -> usize
     ensures { λ r. ⌜ r ≡ length (lineOf answer) ⌝ }
     ensures { λ r. ⌜ now (out .exit) ≡ lineOf answer ++ drop r (now (out .entry)) ⌝ }
     ensures { λ r. ⌜ Counts r (now (out .exit)) ⌝ }
@@ -57,19 +57,47 @@ pub fn table_line(answer: Loaded, out: &mut [u8; 64]) -> usize
     }
 }
 
-fn accepted_line(facts: Facts, out: &mut [u8; 64]) -> usize
-    ensures { λ r. ⌜ r ≡ length (acceptedLine facts) ⌝ }
-    ensures { λ r. ⌜ now (out .exit) ≡ acceptedLine facts ++ drop r (now (out .entry)) ⌝ }
-    ensures { λ r. ⌜ r ≤ 64 ⌝ }
+// The line that tells all of it, and its length.
+pub fn facts_line(answer: Loaded, out: &mut [u8; 80]) -> usize
+    ensures { λ r. ⌜ r ≡ length (factsLineOf answer) ⌝ }
+    ensures { λ r. ⌜ now (out .exit) ≡ factsLineOf answer ++ drop r (now (out .entry)) ⌝ }
+    ensures { λ r. ⌜ Counts r (now (out .exit)) ⌝ }
+{
+    match answer {
+        Loaded::Accepted(facts) => nested_line(facts, out),
+        Loaded::Refused(refusal) => refused_line(refusal, out),
+    }
+}
+
+// Threads, actions, serial peak and depth, at the start of the buffer.
+fn put_facts(out: &mut [u8; 80], facts: Facts) -> usize
+    ensures { λ r. ⌜ bufferAt (now (out .exit)) r ≡ placed (now (out .entry)) 0 (factsText facts) ⌝ }
 {
     let at = put_labelled(out, 0, b"table ", facts.threads as u64);
     let at = put_labelled(out, at, b" ", facts.actions as u64);
     let at = put_labelled(out, at, b" serial ", facts.peak);
-    let at = put_labelled(out, at, b" depth ", facts.depth as u64);
+    put_labelled(out, at, b" depth ", facts.depth as u64)
+}
+
+fn accepted_line(facts: Facts, out: &mut [u8; 80]) -> usize
+    ensures { λ r. ⌜ r ≡ length (acceptedLine facts) ⌝ }
+    ensures { λ r. ⌜ now (out .exit) ≡ acceptedLine facts ++ drop r (now (out .entry)) ⌝ }
+    ensures { λ r. ⌜ r ≤ 64 ⌝ }
+{
+    let at = put_facts(out, facts);
     put_word(out, at, b"\n")
 }
 
-fn refused_line(refusal: Refusal, out: &mut [u8; 64]) -> usize
+fn nested_line(facts: Facts, out: &mut [u8; 80]) -> usize
+    ensures { λ r. ⌜ r ≡ length (nestedLine facts) ⌝ }
+    ensures { λ r. ⌜ now (out .exit) ≡ nestedLine facts ++ drop r (now (out .entry)) ⌝ }
+{
+    let at = put_facts(out, facts);
+    let at = put_labelled(out, at, b" nested ", facts.nested as u64);
+    put_word(out, at, b"\n")
+}
+
+fn refused_line(refusal: Refusal, out: &mut [u8; 80]) -> usize
     ensures { λ r. ⌜ r ≡ length (refusedLine refusal) ⌝ }
     ensures { λ r. ⌜ now (out .exit) ≡ refusedLine refusal ++ drop r (now (out .entry)) ⌝ }
     ensures { λ r. ⌜ r ≤ 64 ⌝ }

@@ -9,6 +9,7 @@ use Rattle.table.specs.Pass.{tryPass}
 use Rattle.table.specs.Rules.{balancePass}
 use Rattle.table.specs.Serial.{S1}
 use Rattle.table.specs.Level.{D}
+use Rattle.table.specs.Nested.{N}
 use Rattle.table.specs.Load.{answer, factsOf}
 use Rattle.table.specs.Steps.{Nested, Kept}
 use Rattle.table.specs.declared.Refusal.{Refusal}
@@ -18,6 +19,7 @@ use Rattle.table.proofs.Sizes.{Sizes, sizes}
 use Rattle.table.proofs.Passes.{balance-rules}
 use Rattle.table.proofs.Bodies.{end-within}
 use Rattle.table.proofs.Levels.{level-bound}
+use Rattle.table.proofs.NestedThreads.{nested-few}
 use Rattle.table.proofs.weigh.Statement.{statement}
 use Rattle.table.proofs.weigh.Tie as tie
 
@@ -38,14 +40,18 @@ module _ {s : List ℕ} {n m : ℕ} (h : Nested s n m) where
         h .formed .laid .headed .actions,
       )
 
+  few-levels : N (tableOf s) ≤ 1024
+  unfolding tableOf
+  few-levels = omega (arith, nested-few (tableOf s), sizes (h .formed .laid .headed) .threads-high, h .formed .laid .headed .threads)
+
   module _ (e : tryPass (balancePass (tableOf s)) ≡ Nothing) where
     kept : Kept s n m
     kept = record { nested = h; balances = balance-rules (tableOf s) .0 e }
 
-    accepted : {peak depth : ℕ} → peak ≡ S1 (tableOf s) → depth ≡ D (tableOf s)
-        → Accepted (record { threads = n; actions = m; peak = peak; depth = depth }) ≡ answer (tryPass (balancePass (tableOf s))) (factsOf (tableOf s))
+    accepted : {peak depth nested : ℕ} → peak ≡ S1 (tableOf s) → depth ≡ D (tableOf s) → nested ≡ N (tableOf s)
+        → Accepted (record { threads = n; actions = m; peak = peak; depth = depth; nested = nested }) ≡ answer (tryPass (balancePass (tableOf s))) (factsOf (tableOf s))
     unfolding tableOf factsOf
-    accepted p d = rw (e, p, d, h .formed .laid .headed .threads, h .formed .laid .headed .actions)
+    accepted p d l = rw (e, p, d, l, h .formed .laid .headed .threads, h .formed .laid .headed .actions)
 
 balances-requires : tie.Need-balances-requires
 balances-requires c κs = search needs
@@ -73,22 +79,30 @@ depth-requires c κs =
     let e = sym (b .balances .ensures .0) ∙ c .before .before .before .enum-told .given .1 in
     kept (b .before .before .before .before .pre) e
 
-cast-t14 : tie.Need-cast-t14
-cast-t14 c = omega (arith, sizes (c .before .before .before .before .before .before .before .before .before .before .pre .formed .laid .headed))
+nested-levels-requires : tie.Need-nested-levels-requires
+nested-levels-requires c κs = c .before .before .before .before .before .before .before .before .before .before .pre
 
 cast-t15 : tie.Need-cast-t15
-cast-t15 c = omega (arith, sizes (c .before .before .before .before .before .before .before .before .before .before .pre .formed .laid .headed))
+cast-t15 c = omega (arith, sizes (c .before .before .before .before .before .before .before .before .before .before .before .pre .formed .laid .headed))
 
 cast-t16 : tie.Need-cast-t16
-cast-t16 c =
-    let d = c .before .before .before .before .before .before .before .before .before .before in
-    omega (arith, c .depth .ensures, shallow (d .pre))
+cast-t16 c = omega (arith, sizes (c .before .before .before .before .before .before .before .before .before .before .before .pre .formed .laid .headed))
+
+cast-t17 : tie.Need-cast-t17
+cast-t17 c =
+    let d = c .before .before .before .before .before .before .before .before .before .before .before in
+    omega (arith, c .before .depth .ensures, shallow (d .pre))
+
+cast-t18 : tie.Need-cast-t18
+cast-t18 c =
+    let d = c .before .before .before .before .before .before .before .before .before .before .before in
+    omega (arith, c .nested-levels .ensures, few-levels (d .pre))
 
 returns-2 : tie.Need-returns-2
 returns-2 c =
-    let b = c .before .before .before .before .before .before in
-    let e = sym (b .balances .ensures .0) ∙ c .before .before .before .before .enum-told .given .1 in
-    accepted (b .before .before .before .before .pre) e (c .before .serial-peak .ensures) (c .depth .ensures)
+    let b = c .before .before .before .before .before .before .before in
+    let e = sym (b .balances .ensures .0) ∙ c .before .before .before .before .before .enum-told .given .1 in
+    accepted (b .before .before .before .before .pre) e (c .before .before .serial-peak .ensures) (c .before .depth .ensures) (c .nested-levels .ensures)
 
 pub weigh-spec : {M : Type 1} → statement M
 weigh-spec =
@@ -100,7 +114,9 @@ weigh-spec =
     enum-told
     serial-peak-requires
     depth-requires
-    cast-t14
+    nested-levels-requires
     cast-t15
     cast-t16
+    cast-t17
+    cast-t18
     returns-2)

@@ -13,7 +13,7 @@ use Rattle.text.proofs.Placing.{line-put}
 use Rattle.text.proofs.refused_line.Statement.{statement}
 use Rattle.text.proofs.refused_line.Tie as tie
 
-module _ (s : List ℕ) (long : length s ≡ 64) (q : Refusal) (n : q .number < 2 ^ 8) (p : q .place < 2 ^ 16) where
+module _ (s : List ℕ) (long : length s ≡ 80) (q : Refusal) (n : q .number < 2 ^ 8) (p : q .place < 2 ^ 16) where
   short : length (refusedLine q) ≤ 18
   unfolding refusedLine
   short = simp length-append (omega (arith, decimal-length 2 (q .number) (omega arith), decimal-length 4 (q .place) (omega arith)))

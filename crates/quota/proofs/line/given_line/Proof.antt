@@ -13,7 +13,7 @@ use borrow.Author.Needs.{needs}
 use Rattle.quota.proofs.line.given_line.Statement.{statement}
 use Rattle.quota.proofs.line.given_line.Tie as tie
 
-module _ (s : List ℕ) (long : length s ≡ 64) (K : ℕ) (small : K < 2 ^ 32) where
+module _ (s : List ℕ) (long : length s ≡ 80) (K : ℕ) (small : K < 2 ^ 32) where
   short : length (givenLine K) ≤ 17
   unfolding givenLine
   short = simp length-append (omega (arith, decimal-length 9 K (omega arith)))
