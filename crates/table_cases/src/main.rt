@@ -39,15 +39,19 @@ fn label(buffer: &mut [u8]) {
     io::write_all(STDOUT_FILENO, b": ");
 }
 
-// Reads an input that fills the buffer and prints its answer.
-fn answer(program: u8, buffer: &mut [u8]) {
+// Reads a table that fills the buffer and prints its answer.
+fn table_answer(buffer: &mut [u8]) {
     let n = io::read_full(STDIN_FILENO, buffer);
     let mut line = [0u8; 80];
-    let k = if program == b'q' {
-        quota::quota_line(&buffer[..n], &mut line)
-    } else {
-        text::facts_line(table::load(&buffer[..n]), &mut line)
-    };
+    let k = text::facts_line(table::load(&buffer[..n]), &mut line);
+    io::write_all(STDOUT_FILENO, &line[..k]);
+}
+
+// The same of an input of `maxquota`.
+fn quota_answer(buffer: &mut [u8]) {
+    let n = io::read_full(STDIN_FILENO, buffer);
+    let mut line = [0u8; 80];
+    let k = quota::quota_line(&buffer[..n], &mut line);
     io::write_all(STDOUT_FILENO, &line[..k]);
 }
 
@@ -64,7 +68,11 @@ fn one() -> bool {
     let length = long_length();
     let mut bytes = io::large_buffer();
     let n = within(length, &bytes);
-    answer(program, &mut bytes[..n]);
+    if program == b'q' {
+        quota_answer(&mut bytes[..n]);
+    } else {
+        table_answer(&mut bytes[..n]);
+    }
     true
 }
 
