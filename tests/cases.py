@@ -1,10 +1,11 @@
-"""Writes the stored input and output of crates/table_cases: tables with a label, and the answer expected of each.
+"""Writes the stored input and output of crates/table_cases: inputs of tablecheck and maxquota with a label, and the answer expected of each.
 
-A record of the input is the label's length (1 byte), the label, the table's length (3 bytes), the table.
-Every expected answer is written down here by hand, and held against reference.py as well.
+A record of the input is the label's length (1 byte), the label, 't' for tablecheck or 'q' for maxquota, the input's length (3 bytes), the input.
+Every expected answer is written down here by hand, and held against reference.py or quota.py as well.
 """
 import pathlib
 
+from quota import board, maxquota
 from reference import END, WORK, ALLOC, FREE, FORK, JOIN, check, facts_line
 from tables import table, word
 
@@ -92,19 +93,70 @@ CASES = [
     ('most threads and actions', table(parent(*range(1, 1024))[:-1] + [work] * 1030 + [end], *([[alloc(2), alloc(1), free(3), work, end]] * 1023)), 'table 1024 8192 serial 3 depth 3082 nested 2'),
 ]
 
+E = table(parent(1, 2), [alloc(6), work, free(6), end], [alloc(6), free(6), end])
+flat = table([alloc(5), free(5), end])
+most = table([alloc(LARGEST)] * 8191 + [end])
+
+# With p 2 and b 1 the bound of E is 6 + 7 K.
+QUOTAS = [
+    ('12 bytes', board(2, 1, 48, b'')[:12], 'refused 33 0'),
+    ('13 bytes', board(2, 1, 48, b''), 'refused 1 0'),
+    ('no bytes at all', b'', 'refused 33 0'),
+    ('E, M 47', board(2, 1, 47, E), 'refused 42 0'),
+    ('E, M 48', board(2, 1, 48, E), 'quota 6'),
+    ('E, M 54', board(2, 1, 54, E), 'quota 6'),
+    ('E, M 55', board(2, 1, 55, E), 'quota 7'),
+    ('E, one worker, M 6', board(1, 1, 6, E), 'quota 16777215'),
+    ('E, one worker, M 5', board(1, 1, 5, E), 'refused 42 0'),
+    ('E, M 2^64 - 1', board(2, 1, 2**64 - 1, E), 'quota 16777215'),
+    ('E, 16 workers, b 65,535, M 2^64 - 1', board(16, 65535, 2**64 - 1, E), 'quota 16777215'),
+    ('E, the upper end exactly', board(2, 1, 6 + 7 * LARGEST, E), 'quota 16777215'),
+    ('E, one below the upper end', board(2, 1, 6 + 7 * LARGEST - 1, E), 'quota 16777214'),
+    ('E, one above the upper end', board(2, 1, 6 + 7 * LARGEST + 7, E), 'quota 16777215'),
+    ('E, M below S1', board(2, 1, 5, E), 'refused 42 0'),
+    ('E, M 0', board(2, 1, 0, E), 'refused 42 0'),
+    ('E, b 0', board(2, 0, 48, E), 'refused 41 0'),
+    ('E, b 65,536', board(2, 65536, 48, E), 'refused 41 0'),
+    ('E, b 2^32 - 1', board(2, 2**32 - 1, 48, E), 'refused 41 0'),
+    ('E, b 65,535, the least M', board(2, 65535, 6 + 7 * 6 * 65535, E), 'quota 6'),
+    ('E, b 65,535, one less', board(2, 65535, 6 + 7 * 6 * 65535 - 1, E), 'refused 42 0'),
+    ('E, no worker', board(0, 1, 48, E), 'refused 20 0'),
+    ('E, 17 workers', board(17, 1, 48, E), 'refused 20 0'),
+    ('E, 16 workers, M 636', board(16, 1, 636, E), 'quota 6'),
+    ('20 before 41', board(17, 0, 0, E), 'refused 20 0'),
+    ('41 before 42', board(2, 0, 0, E), 'refused 41 0'),
+    ('the table before 20', board(0, 0, 0, table([free(1), end])), 'refused 10 0'),
+    ('no alloc: the least is 1', board(2, 1, 3, table(parent(1), leaf)), 'quota 1'),
+    ('no alloc, M 2', board(2, 1, 2, table(parent(1), leaf)), 'refused 42 0'),
+    ('depth 1: only S1 counts', board(16, 65535, 0, least), 'quota 16777215'),
+    ('depth 3, one thread', board(2, 1, 15, flat), 'quota 5'),
+    ('depth 3, one thread, M 14', board(2, 1, 14, flat), 'refused 42 0'),
+    ('most memory', board(16, 65535, 2**64 - 1, most), 'quota 16777215'),
+    ('most memory, M below S1', board(16, 65535, 137422168064, most), 'refused 42 0'),
+    ('most memory, one worker', board(1, 65535, 137422168065, most), 'quota 16777215'),
+]
+
+
+def answers():
+    """Label, program, input, expected answer and the model's, of every case."""
+    for label, case, expected in CASES:
+        yield label, b't', case, expected, facts_line(check(case))
+    for label, case, expected in QUOTAS:
+        yield label, b'q', case, expected, maxquota(case)
+
 
 def main():
     data, text = b'', ''
-    for label, case, expected in CASES:
-        found = facts_line(check(case))
+    for label, program, case, expected, found in answers():
         if found != expected:
-            raise SystemExit('%s: expected %s, the reference says %s' % (label, expected, found))
-        data += bytes([len(label)]) + label.encode() + len(case).to_bytes(3, 'little') + case
+            raise SystemExit('%s: expected %s, the model says %s' % (label, expected, found))
+        name = label.encode()
+        data += bytes([len(name)]) + name + program + len(case).to_bytes(3, 'little') + case
         text += '%s: %s\n' % (label, expected)
     folder = pathlib.Path(__file__).parent.parent / 'crates' / 'table_cases'
     (folder / 'stdin').write_bytes(data)
     (folder / 'stdout').write_text(text)
-    print('%d cases, %d bytes' % (len(CASES), len(data)))
+    print('%d cases, %d bytes' % (len(CASES) + len(QUOTAS), len(data)))
 
 
 if __name__ == '__main__':

@@ -1,9 +1,9 @@
 """Draws random and damaged inputs and compares the programs with reference.py and machine.py, which were written on their own.
 
 usage: python3 tests/differential.py [COUNT] [PROGRAM..] [--baseline]
-    COUNT inputs for each program (default 3,000); PROGRAM: tablecheck, turnlist, runrounds, call_cases (default: all).
-    From the repository's top, after `rt check tablecheck turnlist runrounds call_cases`; with --baseline it is the C program of bench/ that
-    is compared (all but call_cases), after `cc -O3 -o target/baseline bench/baseline.c`.
+    COUNT inputs for each program (default 3,000); PROGRAM: tablecheck, maxquota, turnlist, runrounds, call_cases (default: all).
+    From the repository's top, after `rt check tablecheck maxquota turnlist runrounds call_cases`; with --baseline it is the C program of bench/
+    that is compared (all but maxquota and call_cases), after `cc -O3 -o target/baseline bench/baseline.c`.
 """
 import collections
 import os
@@ -13,6 +13,7 @@ import sys
 
 import call_cases
 import machine
+import quota
 from reference import ALLOC, END, FORK, FREE, JOIN, WORK, Table, check, facts_line, serial_order
 from tables import damaged, drawn, table
 
@@ -106,6 +107,19 @@ def tablecheck_input(rng):
     return damaged(rng, data) if rng.random() < 0.7 else data
 
 
+def maxquota_input(rng):
+    """p, b, M and a table: M mostly about the bound of some K, often at the ends of the range."""
+    data, most = run_table(rng)
+    p = mostly(rng, rng.choice([1, 2, 3, rng.randint(1, 16), 16]), 0, 17, 255)
+    b = mostly(rng, rng.choice([1, 1, 2, rng.randint(1, 65535), 65535]), 0, 65536, 2**32 - 1)
+    K = rng.choice([most, most + rng.randint(0, 9), rng.randint(most, LARGEST), LARGEST])
+    memory = quota.bound(check(data), max(p, 1), b, K) + rng.choice([-1, 0, 0, 1, rng.randint(0, 1000)])
+    memory = mostly(rng, max(0, min(memory, 2**64 - 1)), 0, 1, 2**64 - 1)
+    if rng.random() < 0.15:
+        data = damaged(rng, data)
+    return mostly_whole(rng, quota.board(p, b, memory, data), quota.board(p, b, memory, b''))
+
+
 def call_case(rng):
     return call_cases.record('case', *call_cases.random_case(rng))
 
@@ -153,6 +167,18 @@ def table_traits(data, text):
     yield words[0] if words[0] != 'refused' else 'refused ' + words[1]
 
 
+def quota_traits(data, text):
+    words = text.split()
+    if words[0] == 'refused':
+        yield 'refused ' + words[1]
+    else:
+        yield 'quota'
+        if int(words[1]) == LARGEST:
+            yield 'the upper end'
+        if data[0] == 1:
+            yield 'one worker'
+
+
 # Inputs at the ends of what there is: the longest listing, the most memory, the most threads nested and side by side.
 MOST = table([(ALLOC, LARGEST)] * 8191 + [(END, 0)])
 CHAIN = table(*[[(FORK, t + 1), (JOIN, t + 1), (END, 0)] for t in range(1023)], [(END, 0)])
@@ -160,12 +186,15 @@ FAN = table([(FORK, t) for t in range(1, 1024)] + [(JOIN, t) for t in range(1023
 FULL = b'\xff' * 3
 ORDERS = [bytes(4096), bytes(i % 16 for i in range(4096))]
 LISTINGS = [bytes([16]) + FULL + b'\0\x10' + row + data for row in ORDERS for data in (MOST, CHAIN, FAN, MOST + b'\0', bytes(60000))]
+BOARDS = [quota.board(p, b, M, data) for p in (1, 16) for b in (1, 65535) for M in (0, 2**64 - 1) for data in (MOST, CHAIN, FAN, MOST + b'\0', bytes(60000))]
 ROUNDS = [bytes([p]) + FULL + b'\xff' * 4 + data for p in (1, 2, 16) for data in (MOST, CHAIN, FAN, MOST + b'\0', bytes(60000))]
 
 TABLE = ['refused %d' % i for i in range(1, 12)]
 
 PROGRAMS = {
     'tablecheck': ([MOST, CHAIN, FAN, bytes(70000)], tablecheck_input, lambda data: facts_line(check(data)) + '\n', table_traits, ['table'] + TABLE),
+    'maxquota': (BOARDS, maxquota_input, lambda data: quota.maxquota(data) + '\n', quota_traits,
+                 ['quota', 'the upper end', 'one worker', 'refused 20', 'refused 33', 'refused 41', 'refused 42'] + TABLE),
     'turnlist': (LISTINGS, turnlist_input, machine.turnlist, listing_traits,
                  ['done', 'open', 'quota', 'wait', 'idle', 'premature', 'order left at the end', 'order of 0', 'order of 4096', 'worker 255',
                   'refused 20', 'refused 21', 'refused 22', 'refused 30', 'refused 33']),
@@ -199,7 +228,7 @@ def main():
     baseline = '--baseline' in sys.argv
     words = [word for word in sys.argv[1:] if word != '--baseline']
     count = int(words.pop(0)) if words and words[0].isdigit() else 3000
-    names = words or [name for name in PROGRAMS if not baseline or name != 'call_cases']
+    names = words or [name for name in PROGRAMS if not baseline or name not in ('maxquota', 'call_cases')]
     for name in names:
         compare(name, count, ['target/baseline', name] if baseline else ['target/bin/' + name])
     print('%d inputs agree: %d each for %s' % (count * len(names), count, ', '.join(names)))

@@ -2,12 +2,13 @@
 // the text to it: the steps stand in its order.
 use crate::list::insert;
 use crate::list::remove;
-use crate::names::ENDED;
-use crate::names::READY;
-use crate::names::WAITING;
 use crate::release::release;
 use schedule::Reply;
 use schedule::Worker;
+use schedule::statuses::ENDED;
+use schedule::statuses::READY;
+use schedule::statuses::WAITING;
+use table::kinds::JOIN;
 use table::read::argument;
 use table::read::code;
 ghost use mathlib.Core.Path.{_≡_};
@@ -198,7 +199,7 @@ fn wake(table: &[u8], n: usize, next: &[u16; 1024], status: &mut [u8; 1024], u: 
         return;
     }
     let a = wide(next[u]);
-    if code(table, n, a) != 5 {
+    if code(table, n, a) != JOIN {
         return;
     }
     if argument(table, n, a) != t {

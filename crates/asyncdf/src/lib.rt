@@ -2,7 +2,6 @@
 // crates/schedule.
 use crate::beginning::blank;
 use crate::beginning::start;
-use crate::names::ENDED;
 use crate::runs::drive;
 use crate::runs::stopped;
 use crate::turns::put_turns;
@@ -15,6 +14,7 @@ use schedule::Report;
 use schedule::Run;
 use schedule::Turned;
 use schedule::Turning;
+use schedule::statuses::ENDED;
 use soundness::begin_fault;
 use soundness::test;
 use table::Found;
@@ -42,7 +42,6 @@ ghost use Rattle.lines.specs.Puts.{Puts};
 mod act;
 mod beginning;
 mod list;
-mod names;
 mod release;
 mod runs;
 mod step;

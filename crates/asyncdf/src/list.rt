@@ -1,5 +1,5 @@
 // The list of threads, leftmost first, in the first `len` places of an array; the places after them are 0.
-
+use schedule::statuses::READY;
 ghost use mathlib.Core.Path.{_≡_};
 ghost use Prim.Native.Nat.{ℕ, _≤_, _<_};
 ghost use lib.ListN.{getD, take};
@@ -17,7 +17,7 @@ pub(crate) fn leftmost(status: &[u8; 1024], list: &[u16; 1024], len: usize) -> u
     let mut i = 0;
     while i < len {
         let t = list[i] as usize;
-        if status[t] == 1 {
+        if status[t] == READY {
             return i;
         }
         i += 1;

@@ -1,11 +1,11 @@
 // Runs over a list of workers and in rounds. The record's arrays are copied once; the turns work on them in place.
 use crate::act::Totals;
-use crate::names::ENDED;
 use crate::step::step;
 use schedule::Reply;
 use schedule::Report;
 use schedule::Run;
 use schedule::Worker;
+use schedule::statuses::ENDED;
 use table::Refusal;
 use table::read::count;
 use table::read::threads;

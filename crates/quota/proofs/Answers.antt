@@ -15,6 +15,7 @@ use Rattle.table.specs.Rules.{outside, passes}
 use Rattle.table.specs.declared.Refusal.{Refusal}
 use Rattle.table.specs.declared.Found.{Found}
 use Rattle.table.specs.declared.Found.the-variants.{Nothing, At}
+use Rattle.table.specs.Load.{foundNumber}
 use Rattle.table.proofs.Tests.{no-way}
 use Rattle.table.proofs.Sizes.{inside}
 use Rattle.table.proofs.Trying.{Each, Each-at, orElse-nothing, orElse-last}
@@ -23,7 +24,7 @@ use Rattle.schedule.specs.Record.{maxWorkers}
 use Rattle.schedule.specs.Begin.{maxQuota}
 use Rattle.schedule.specs.Memory.{limit}
 use Rattle.quota.specs.declared.Quoted.the-variants.{Given, Refused}
-use Rattle.quota.specs.Quota.{IsLargest, NoneServes, mostQuota, noQuota, maxGap, quotaPass, quotaPasses, answeredBy, quoted, Asked, numberAt}
+use Rattle.quota.specs.Quota.{IsLargest, NoneServes, mostQuota, noQuota, maxGap, quotaPass, quotaPasses, answeredBy, quoted, Asked}
 use Rattle.quota.proofs.Largest.{none-exactly, largest-exactly}
 
 -- ---- the answer and what the checks find
@@ -47,8 +48,8 @@ refused-exactly s p b M r =
 -- of three checks at place 0 the last is found
 last-found : (x y z : Bool)
     → (orElse (pick x (At (refusal 20 0)) (pick y (At (refusal 41 0)) (pick z (At (refusal 42 0)) Nothing))) Nothing ≡ At (refusal 42 0)) ↔ ((x ≡ false) × (y ≡ false) × (z ≡ true))
-last-found true y z = ((λ e. let d : _≡_ {A = ℕ} 20 42 = ap numberAt e in absurd (omega arith)), (λ h. no-way (cc)))
-last-found false true z = ((λ e. let d : _≡_ {A = ℕ} 41 42 = ap numberAt e in absurd (omega arith)), (λ h. no-way (cc)))
+last-found true y z = ((λ e. let d : _≡_ {A = ℕ} 20 42 = ap foundNumber e in absurd (omega arith)), (λ h. no-way (cc)))
+last-found false true z = ((λ e. let d : _≡_ {A = ℕ} 41 42 = ap foundNumber e in absurd (omega arith)), (λ h. no-way (cc)))
 last-found false false true = ((λ e. (refl, refl, refl)), (λ h. refl))
 last-found false false false = ((λ e. no-way (cc)), (λ h. no-way (cc)))
 
@@ -146,7 +147,7 @@ module _ (s : List ℕ) (p b M : ℕ) where
       go : (f : Found) → firstFound (passes s) ≡ f → orElse f (tryPass own) ≡ At (refusal 42 0) → Asked s p b × (noQuota (tableOf s) p b M ≡ true)
       go Nothing e h = let o = own-none .0 h in (asked e (o .0) (o .1), o .2)
       go (At r) e h =
-          let n : r .number ≡ 42 = ap numberAt h in
+          let n : r .number ≡ 42 = ap foundNumber h in
           absurd (omega (arith, table-number r e))
 
   -- 42 is given exactly when the checks pass and none serves

@@ -1,13 +1,13 @@
 -- What `maxquota` prints, from the bytes that it reads: p (1 byte), b (4 bytes), M (8 bytes) and the table; one line out.
 use mathlib.Core.Path.{_≡_, refl}
 use Prim.Native.Nat.{ℕ, _+_, _*_}
-use mathlib.Core.List.{List, [], _∷_, _++_}
+use mathlib.Core.List.{List, _++_}
 use lib.ListN.{length, getD, drop}
 use lib.Dec.{ltb}
 use Rattle.table.specs.Sum.{pick}
 use Rattle.table.specs.Format.{u32At}
 use Rattle.table.specs.Pass.{refusal}
-use Rattle.text.specs.Text.{digitsOf, decimal, newline, refusedLine}
+use Rattle.text.specs.Text.{ascii, digitsOf, decimal, newline, refusedLine}
 use Rattle.quota.specs.declared.Quoted.{Quoted}
 use Rattle.quota.specs.declared.Quoted.the-variants.{Given, Refused}
 use Rattle.quota.specs.Quota.{quoted}
@@ -29,9 +29,8 @@ answerTo s = pick (ltb (length s) 13) (Refused (refusal 33 0)) (quoted (drop 13 
 
 -- ---- the line
 
--- "quota "
 abbrev pub quotaWord : List ℕ
-quotaWord = 113 ∷ 117 ∷ 111 ∷ 116 ∷ 97 ∷ 32 ∷ []
+quotaWord = ascii "quota "
 
 -- the line of a quota that is given
 unfoldable pub givenLine : ℕ → List ℕ
@@ -41,7 +40,6 @@ abbrev pub quotaLine : Quoted → List ℕ
 quotaLine (Given K) = givenLine K
 quotaLine (Refused r) = refusedLine r
 
--- "quota 16777215\n"
-given-example : quotaLine (Given 16777215) ≡ 113 ∷ 117 ∷ 111 ∷ 116 ∷ 97 ∷ 32 ∷ 49 ∷ 54 ∷ 55 ∷ 55 ∷ 55 ∷ 50 ∷ 49 ∷ 53 ∷ 10 ∷ []
+given-example : quotaLine (Given 16777215) ≡ ascii "quota 16777215\n"
 unfolding givenLine decimal digitsOf
 given-example = refl

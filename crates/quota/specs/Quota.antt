@@ -11,6 +11,7 @@ use Rattle.table.specs.Rules.{outside, allocOf, passes}
 use Rattle.table.specs.Accepted.{Rules}
 use Rattle.table.specs.Serial.{S1}
 use Rattle.table.specs.Level.{D}
+use Rattle.table.specs.Load.{foundNumber, foundPlace, ifFound}
 use Rattle.table.specs.declared.Found.{Found}
 use Rattle.table.specs.declared.Found.the-variants.{Nothing, At}
 use Rattle.schedule.specs.Record.{maxWorkers}
@@ -110,23 +111,9 @@ abbrev pub valuesOf : Quoted → Values
 valuesOf (Given K) = record { number = 0; place = 0; quota = K }
 valuesOf (Refused r) = record { number = r .number; place = r .place; quota = 0 }
 
--- of the first check that applies
-abbrev pub numberAt : Found → ℕ
-numberAt Nothing = 0
-numberAt (At r) = r .number
-
-abbrev pub placeAt : Found → ℕ
-placeAt Nothing = 0
-placeAt (At r) = r .place
-
-abbrev pub unlessFound : Found → ℕ → ℕ
-unlessFound Nothing K = K
-unlessFound (At r) K = 0
+-- the same from the checks and the numbers alone
+abbrev pub valuesWith : Found → ℕ → Values
+valuesWith found K = record { number = foundNumber found; place = foundPlace found; quota = ifFound found 0 K }
 
 unfoldable pub valuesFor : List ℕ → ℕ → ℕ → ℕ → Values
-valuesFor s p b M =
-    record {
-      number = numberAt (firstFound (quotaPasses s p b M));
-      place = placeAt (firstFound (quotaPasses s p b M));
-      quota = unlessFound (firstFound (quotaPasses s p b M)) (mostQuota (tableOf s) p b M);
-    }
+valuesFor s p b M = valuesWith (firstFound (quotaPasses s p b M)) (mostQuota (tableOf s) p b M)

@@ -1,4 +1,5 @@
 // The least quota in range: the table's largest alloc.
+use table::kinds::ALLOC;
 use table::read::actions;
 use table::read::argument;
 use table::read::code;
@@ -15,7 +16,7 @@ fn alloc_at(table: &[u8], n: usize, a: usize) -> usize
     requires { ⌜ n ≡ threadsOf (now table) ⌝ }
     ensures { λ r. ⌜ Read (allocOf (tableOf (now (table .entry))) a) 16777216 r ⌝ }
 {
-    if code(table, n, a) == 2 {
+    if code(table, n, a) == ALLOC {
         argument(table, n, a)
     } else {
         0

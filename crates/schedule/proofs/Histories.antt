@@ -37,7 +37,7 @@ use Rattle.schedule.specs.Memory.{rowState}
 use Rattle.schedule.proofs.Lawful.{Lawful, lawful}
 use Rattle.schedule.proofs.Facts.{sound-facts}
 use Rattle.schedule.proofs.Starts.{start-facts}
-use Rattle.schedule.proofs.Rows.{rowState-append}
+use Rattle.schedule.proofs.Rows.{rowState-append, front-workers}
 use Rattle.schedule.proofs.Lists.{filled-front, firsts-take}
 use Rattle.schedule.proofs.Stores.{Fits, begin-fits, stateOf-stored, moved-steady}
 
@@ -306,3 +306,22 @@ unfolding startRun
 start-state s p K r e =
     let q : r ≡ startRun s p K = begin-accepted s p K r e .0 in
     rw q (start-bytes s p K, refl, refl, rw (filled-front maxThreads (startState (tableOf s) .list)))
+
+-- of a beginning and a list of calls: the record left is the state after the row, and is sound but for its turns taken; the workers of every front part are below p
+pub record Traced (s : List ℕ) (p K : ℕ) (r : Run) (calls : List Call) : Type 0 where
+  pub started : Started s p K r
+  pub steady : Steady (afterCalls calls r)
+  pub state : stateOf (afterCalls calls r) ≡ rowState (tableOf s) K (startState (tableOf s)) (rowOfCalls calls r)
+  pub below : (front rest : List ℕ) → rowOfCalls calls r ≡ front ++ rest → (w : ℕ) → List·Memᴰ w front → w < p
+
+pub calls-traced : (s : List ℕ) (p K : ℕ) (r : Run) → begin s p K ≡ record { answer = started; run = r } → (calls : List Call) → Traced s p K r calls
+calls-traced s p K r e calls =
+    let h : Steady r = begin-sound s p K r e .steady in
+    let c : Left r (rowOfCalls calls r) (afterCalls calls r) = calls-left r h calls in
+    let o = start-state s p K r e in
+    record {
+      started = begin-started s p K r e;
+      steady = calls-steady r h calls;
+      state = cc (c .state, o .0, o .2, o .3);
+      below = λ front rest d. front-workers (λ w. w < p) (rowOfCalls calls r) front rest d (λ w m. omega (arith, c .workers-below w m, o .1));
+    }

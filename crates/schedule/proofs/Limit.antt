@@ -5,7 +5,6 @@
 -- or the frees done; `Keeps` (Memory) is the rule with b; `limit` (Memory) is S1 + b·K·(p − 1)·(D − 1), with S1 and D of crates/table/specs.
 use mathlib.Core.Path.{_≡_, sym, ap, _∙_}
 use Prim.Native.Nat.{ℕ, _≤_, _<_}
-use native.Mathlib.Omega.{arith}
 use mathlib.Core.List.{List, [], _++_, append-nil, List·Memᴰ}
 use Rattle.table.specs.Format.{Table, tableOf}
 use Rattle.table.specs.Rules.{allocOf, freeOf}
@@ -13,12 +12,11 @@ use Rattle.table.specs.Serial.{S1}
 use Rattle.schedule.specs.declared.Run.{Run}
 use Rattle.schedule.specs.declared.Beginning.the-variants.{Begun as started}
 use Rattle.schedule.specs.Machine.{State}
-use Rattle.schedule.specs.Record.{stateOf}
-use Rattle.schedule.specs.Begin.{begin, startState}
+use Rattle.schedule.specs.Begin.{begin}
 use Rattle.schedule.specs.Calls.{Call, afterCalls, rowOfCalls}
-use Rattle.schedule.specs.Memory.{rowState, doneIn, memoryOf, peakMemory, Keeps, limit}
-use Rattle.schedule.proofs.Rows.{front-workers, row-balanced, row-held, row-highest}
-use Rattle.schedule.proofs.Histories.{Started, Left, begin-started, begin-sound, calls-left, start-state}
+use Rattle.schedule.specs.Memory.{doneIn, memoryOf, peakMemory, Keeps, limit}
+use Rattle.schedule.proofs.Rows.{row-balanced, row-held, row-highest}
+use Rattle.schedule.proofs.Histories.{Started, Traced, calls-traced}
 use Rattle.schedule.proofs.FrontParts.{peak-within, front-bound, front-alone}
 
 -- of a record r and the row of turns that led to it
@@ -38,23 +36,20 @@ pub memory-limit : (s : List ℕ) (p K : ℕ) (r : Run) → begin s p K ≡ reco
     → MemoryLimit (tableOf s) p K b (afterCalls calls r) (rowOfCalls calls r)
 memory-limit s p K r e b g calls =
     let T : Table = tableOf s in
-    let i : Started s p K r = begin-started s p K r e in
+    let t : Traced s p K r calls = calls-traced s p K r e calls in
+    let i : Started s p K r = t .started in
     let row : List ℕ = rowOfCalls calls r in
-    let st : State = rowState T K (startState T) row in
-    let c : Left r row (afterCalls calls r) = calls-left r (begin-sound s p K r e .steady) calls in
-    let o = start-state s p K r e in
-    let h : (w : ℕ) → List·Memᴰ w row → w < p = λ w m. omega (arith, c .workers-below w m, o .1) in
-    let q : stateOf (afterCalls calls r) ≡ st = cc (c .state, o .0, o .2, o .3) in
     let whole : row ≡ row ++ [] = sym (append-nil row) in
+    let h : (w : ℕ) → List·Memᴰ w row → w < p = t .below row [] whole in
     let alone : p ≡ 1 → (front rest : List ℕ) → row ≡ front ++ rest → memoryOf T K front ≤ S1 T =
     front-alone T (i .lawful) p K (i .some-worker) (i .few-workers) row h in
     record {
-      held = ap (λ (x : State). x .held) q ∙ row-held T (i .lawful) p K (i .few-workers) row h;
-      highest = ap (λ (x : State). x .highest) q ∙ row-highest T (i .lawful) p K (i .few-workers) row h;
-      balanced = λ front rest d. row-balanced T (i .lawful) p K (i .few-workers) front (front-workers (λ w. w < p) row front rest d h);
+      held = ap (λ (x : State). x .held) (t .state) ∙ row-held T (i .lawful) p K (i .few-workers) row h;
+      highest = ap (λ (x : State). x .highest) (t .state) ∙ row-highest T (i .lawful) p K (i .few-workers) row h;
+      balanced = λ front rest d. row-balanced T (i .lawful) p K (i .few-workers) front (t .below front rest d);
       bounded = λ front rest d keeps.
           let within : (f z : List ℕ) → front ≡ f ++ z → memoryOf T K f ≤ limit T p K b =
-          front-bound T (i .lawful) p K (i .some-worker) (i .few-workers) front (front-workers (λ w. w < p) row front rest d h) b g keeps in
+          front-bound T (i .lawful) p K (i .some-worker) (i .few-workers) front (t .below front rest d) b g keeps in
           (within front [] (sym (append-nil front)), peak-within T K (limit T p K b) front within);
       alone = λ one. (alone one row [] whole, peak-within T K (S1 T) row (alone one));
     }

@@ -4,8 +4,7 @@
 -- leaves and its row of turns; `listedAfter` (Threads) is how many threads the list has after a row; `Keeps` (Memory) is the rule with b; `threadLimit` (Threads) is
 -- N + b·(p − 1)·(D − 1), with N and D of crates/table/specs.
 use mathlib.Core.Path.{_≡_, sym, ap, _∙_}
-use Prim.Native.Nat.{ℕ, _≤_, _<_}
-use native.Mathlib.Omega.{arith}
+use Prim.Native.Nat.{ℕ, _≤_}
 use mathlib.Core.List.{List, _++_}
 use lib.ListN.{length}
 use Rattle.table.specs.Format.{Table, tableOf}
@@ -13,14 +12,11 @@ use Rattle.table.specs.Nested.{N}
 use Rattle.schedule.specs.declared.Run.{Run}
 use Rattle.schedule.specs.declared.Beginning.the-variants.{Begun as started}
 use Rattle.schedule.specs.Machine.{State}
-use Rattle.schedule.specs.Record.{stateOf}
-use Rattle.schedule.specs.Begin.{begin, startState}
+use Rattle.schedule.specs.Begin.{begin}
 use Rattle.schedule.specs.Calls.{Call, afterCalls, rowOfCalls}
-use Rattle.schedule.specs.Memory.{rowState, Keeps}
+use Rattle.schedule.specs.Memory.{Keeps}
 use Rattle.schedule.specs.Threads.{listedAfter, threadLimit}
-use Rattle.schedule.proofs.Rows.{front-workers}
-use Rattle.schedule.proofs.Histories.{Started, Left, begin-started, begin-sound, calls-left, calls-steady, start-state}
-use Rattle.schedule.proofs.RowBounds.{Below}
+use Rattle.schedule.proofs.Histories.{Started, Traced, calls-traced}
 use Rattle.schedule.proofs.Listed.{row-listed, row-listed-alone}
 
 -- of a record r and the row of turns that led to it
@@ -38,15 +34,10 @@ pub thread-limit : (s : List ℕ) (p K : ℕ) (r : Run) → begin s p K ≡ reco
 unfolding listedAfter
 thread-limit s p K r e b g calls =
     let T : Table = tableOf s in
-    let i : Started s p K r = begin-started s p K r e in
-    let row : List ℕ = rowOfCalls calls r in
-    let c : Left r row (afterCalls calls r) = calls-left r (begin-sound s p K r e .steady) calls in
-    let o = start-state s p K r e in
-    let q : stateOf (afterCalls calls r) ≡ rowState T K (startState T) row = cc (c .state, o .0, o .2, o .3) in
-    let below : (front rest : List ℕ) → row ≡ front ++ rest → Below p front = λ front rest d.
-    front-workers (λ w. w < p) row front rest d (λ w m. omega (arith, c .workers-below w m, o .1)) in
+    let t : Traced s p K r calls = calls-traced s p K r e calls in
+    let i : Started s p K r = t .started in
     record {
-      listed = sym (calls-steady r (begin-sound s p K r e .steady) calls .list-length) ∙ ap (λ (x : State). length (x .list)) q;
-      bounded = λ front rest d keeps. row-listed T (i .lawful) p K (i .some-worker) (i .few-workers) b front (below front rest d) keeps;
-      alone = λ one front rest d. row-listed-alone T (i .lawful) p K (i .some-worker) (i .few-workers) one front (below front rest d);
+      listed = sym (t .steady .list-length) ∙ ap (λ (x : State). length (x .list)) (t .state);
+      bounded = λ front rest d keeps. row-listed T (i .lawful) p K (i .some-worker) (i .few-workers) b front (t .below front rest d) keeps;
+      alone = λ one front rest d. row-listed-alone T (i .lawful) p K (i .some-worker) (i .few-workers) one front (t .below front rest d);
     }

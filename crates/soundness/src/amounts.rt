@@ -1,7 +1,7 @@
 // Memory held by what is done.
 use crate::bodies::done_to;
-use crate::names::ALLOC;
-use crate::names::FREE;
+use table::kinds::ALLOC;
+use table::kinds::FREE;
 use table::read;
 ghost use mathlib.Core.Path.{_≡_};
 ghost use Prim.Native.Nat.{_<_};

@@ -1,7 +1,7 @@
 // The checks of a beginning, 20 to 22.
-use crate::names::ALLOC;
 use table::Found;
 use table::Refusal;
+use table::kinds::ALLOC;
 use table::read;
 ghost use mathlib.Core.Path.{_≡_};
 ghost use Prim.Native.Nat.{_<_};

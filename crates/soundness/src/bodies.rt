@@ -1,9 +1,9 @@
 // Clauses of soundness that go through the bodies: next actions, the order of what is done, statuses, waiting.
-use crate::names::ENDED;
-use crate::names::FORK;
-use crate::names::JOIN;
-use crate::names::UNBORN;
-use crate::names::WAITING;
+use schedule::statuses::ENDED;
+use schedule::statuses::UNBORN;
+use schedule::statuses::WAITING;
+use table::kinds::FORK;
+use table::kinds::JOIN;
 use table::read;
 ghost use mathlib.Core.Path.{_≡_};
 ghost use Prim.Native.Nat.{_+_, _<_};

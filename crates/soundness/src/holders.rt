@@ -1,6 +1,6 @@
 // Clauses on who holds which thread: held threads, workers, the set of busy workers.
-use crate::names::HELD;
 use schedule::Worker;
+use schedule::statuses::HELD;
 ghost use mathlib.Core.Path.{_≡_};
 ghost use mathlib.Core.Bool.{_&&_};
 ghost use Prim.Native.Nat.{_≤_};

@@ -16,7 +16,6 @@ mod bodies;
 mod common;
 mod holders;
 mod listed;
-mod names;
 mod order;
 mod sound;
 mod unused;

@@ -1,6 +1,6 @@
 // The clause that the list follows from what is done.
-use crate::names::ENDED;
-use crate::names::UNBORN;
+use schedule::statuses::ENDED;
+use schedule::statuses::UNBORN;
 ghost use mathlib.Core.Path.{_≡_};
 ghost use mathlib.Core.Bool.{true, false, not, _&&_};
 ghost use Prim.Native.Nat.{ℕ, _≤_};

@@ -1,6 +1,6 @@
 // The list in serial order: the 1DF-numbers of the next actions, from the lengths of the threads with their children.
 use crate::bodies::end_of;
-use crate::names::FORK;
+use table::kinds::FORK;
 use table::read;
 ghost use mathlib.Core.Path.{_≡_};
 ghost use mathlib.Core.Bool.{true, false};

@@ -1,5 +1,5 @@
 // The parts of a record not in use: threads from n on, table bytes and list places past their lengths.
-use crate::names::UNBORN;
+use schedule::statuses::UNBORN;
 ghost use mathlib.Core.Path.{_≡_};
 ghost use mathlib.Core.Bool.{_||_};
 ghost use lib.ListN.{length, take};

@@ -3,6 +3,7 @@ mod balance;
 mod contents;
 mod forms;
 mod head;
+pub mod kinds;
 mod level;
 mod nest;
 mod nested;

@@ -1,4 +1,6 @@
 // The number of nested thread levels N: a forked thread is one level below the thread that forks it.
+use crate::kinds::END;
+use crate::kinds::FORK;
 use crate::read::argument_at;
 use crate::read::bodies;
 use crate::read::code_at;
@@ -16,7 +18,7 @@ fn fork_level(k: u8, c: usize, level: usize, deepest: usize, levels: &mut [usize
     ensures { λ r. ⌜ r ≡ pick (is fork (kindOf k)) (max deepest (suc level)) deepest ⌝ }
     ensures { λ r. ⌜ now (levels .exit) ≡ pick (is fork (kindOf k)) (set (now (levels .entry)) c (suc level)) (now (levels .entry)) ⌝ }
 {
-    if k != 4 {
+    if k != FORK {
         return deepest;
     }
     let below = level + 1;
@@ -29,7 +31,7 @@ fn next_thread(k: u8, t: usize) -> usize
     requires { ⌜ t < 1024 ⌝ }
     ensures { λ r. ⌜ r ≡ pick (is end (kindOf k)) (suc t) t ⌝ }
 {
-    if k == 0 { t + 1 } else { t }
+    if k == END { t + 1 } else { t }
 }
 
 // A child's number is above its parent's, so a thread's level is known where its body begins.

@@ -1,5 +1,5 @@
-// Reads tables one after the other, each with a label, and prints the label and the answer of each. A record of the input is the label's length
-// (1 byte), the label, the table's length (3 bytes), the table.
+// Reads inputs of `tablecheck` and `maxquota` one after the other, each with a label, and prints the label and the answer of each. A record of the input is the label's length
+// (1 byte), the label, 't' for `tablecheck` or 'q' for `maxquota`, the input's length (3 bytes), the input.
 use libc::STDIN_FILENO;
 use libc::STDOUT_FILENO;
 ghost use Prim.Native.Nat.{_<_};
@@ -11,11 +11,11 @@ fn wide(x: u8) -> usize
     x as usize
 }
 
-// A length of one byte; 0 where the input ends.
-fn short_length() -> usize {
+// One byte; 0 where the input ends.
+fn one_byte() -> u8 {
     let mut bytes = [0u8; 1];
     io::read_full(STDIN_FILENO, &mut bytes);
-    wide(bytes[0])
+    bytes[0]
 }
 
 // A length of three bytes.
@@ -40,26 +40,39 @@ fn label(buffer: &mut [u8]) {
 }
 
 // Reads a table that fills the buffer and prints its answer.
-fn answer(buffer: &mut [u8]) {
+fn table_answer(buffer: &mut [u8]) {
     let n = io::read_full(STDIN_FILENO, buffer);
     let mut line = [0u8; 80];
     let k = text::facts_line(table::load(&buffer[..n]), &mut line);
     io::write_all(STDOUT_FILENO, &line[..k]);
 }
 
+// The same of an input of `maxquota`.
+fn quota_answer(buffer: &mut [u8]) {
+    let n = io::read_full(STDIN_FILENO, buffer);
+    let mut line = [0u8; 80];
+    let k = quota::quota_line(&buffer[..n], &mut line);
+    io::write_all(STDOUT_FILENO, &line[..k]);
+}
+
 // One record, and whether there was one.
 fn one() -> bool {
-    let length = short_length();
+    let length = wide(one_byte());
     if length == 0 {
         return false;
     }
     let mut name = io::buffer();
     let k = within(length, &name);
     label(&mut name[..k]);
+    let program = one_byte();
     let length = long_length();
     let mut bytes = io::large_buffer();
     let n = within(length, &bytes);
-    answer(&mut bytes[..n]);
+    if program == b'q' {
+        quota_answer(&mut bytes[..n]);
+    } else {
+        table_answer(&mut bytes[..n]);
+    }
     true
 }
 
