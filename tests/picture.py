@@ -249,8 +249,12 @@ def compare_bound(listing, shown, given):
     compare_line(shown, 'bound', amount, any('not to scale' in note for note in notes))
     expect('b not kept', any('b not kept' in note for note in notes), not listing.keeps(b))
     expect('class of the bound', any('unkept' in classes for classes in bounds), not listing.keeps(b))
-    told = 'The run keeps the rule with b %d.' % b in shown.words('caption')[0][2]
-    expect('the sentence on b', told, listing.keeps(b))
+    sentence = shown.words('caption')[0][2]
+    expect('the sentence on b', 'The run keeps the rule with b %d.' % b in sentence, listing.keeps(b))
+    least = re.search(r'only from b (\d+) on', sentence)
+    if least:
+        expect('the least b', (listing.keeps(int(least[1]) - 1), listing.keeps(int(least[1]))), (False, True))
+    expect('the sum', '= %d.' % amount in sentence, True)
 
 
 def compare_peak(listing, shown):
@@ -289,7 +293,7 @@ def compare_trace(text, trace, rows, given):
             inside |= {(e['tid'], i, int(e['name'].split()[1])) for i in range(e['ts'] // 1000 + 1, (e['ts'] + e['dur']) // 1000 + 1)}
     expect('stretches', inside, listing.holding() | {(t.worker, t.turn, t.thread) for t in listing.turns if t.thread is not None})
     counts = [(e['ts'], e['args']['units']) for e in events if e['ph'] == 'C' and e['name'] == 'memory held']
-    expect('memory held', counts, [(0, 0)] + [((t.turn - 1) * 1000, t.held) for t in listing.turns])
+    expect('memory held', counts, [((t.turn - 1) * 1000, t.held) for t in listing.turns])
     bound = listing.serial + given[2] * given[1] * (given[0] - 1) * (listing.depth - 1) if given else None
     for name, amount in (('S1', listing.serial), ('bound', bound)):
         expect(name, {e['args']['units'] for e in events if e['name'] == name}, set() if amount is None else {amount})
@@ -366,7 +370,7 @@ DAMAGES = [
     ('the bound lower', r'(class="bound" d="M96 )[0-9.]*', r'\g<1>250'), ('another bound', '>bound 48<', '>bound 47<'),
     ('no bound', r'<path class="bound[^\n]*\n', ''), ('the peak elsewhere', r'cx="288"', 'cx="240"'), ('another peak', '>peak 12<', '>peak 13<'),
     ('another axis', r'(class="tick amount"[^>]*>)48<', r'\g<1>24<'), ('workers swapped', '>worker 0<', '>worker 1<'),
-    ('another end', 'done 14 peak 12', 'done 14 peak 11'),
+    ('another end', r'(class="head".*?)done 14 peak 12', r'\g<1>done 14 peak 11'),
 ]
 TRACE_DAMAGES = [('another worker', r'"tid": 1, "ts": 1000', '"tid": 0, "ts": 1000'), ('a longer turn', '"dur": 1000,', '"dur": 2000,'),
                  ('other memory', r'"units": 12', '"units": 11'), ('another thread', '"name": "thread 2"', '"name": "thread 1"')]

@@ -210,13 +210,13 @@ class Layout:
 
 # The picture's parts
 
-def number(value):
+def px(value):
     return '%g' % round(value, 2)
 
 
-def text(x, y, content, kind, anchor='start'):
+def words(x, y, content, kind, anchor='start'):
     place = '' if anchor == 'start' else ' text-anchor="%s"' % anchor
-    return '<text class="%s" x="%s" y="%s"%s>%s</text>' % (kind, number(x), number(y), place, content)
+    return '<text class="%s" x="%s" y="%s"%s>%s</text>' % (kind, px(x), px(y), place, content)
 
 
 def path(kind, d, title=None):
@@ -226,7 +226,7 @@ def path(kind, d, title=None):
 
 
 def box(x, y, width, height):
-    return 'M%s %sh%sv%sh-%sz' % tuple(map(number, (x, y, width, height, width)))
+    return 'M%s %sh%sv%sh-%sz' % tuple(map(px, (x, y, width, height, width)))
 
 
 def style():
@@ -250,7 +250,7 @@ def hatches():
 def mark(name, thread, x, y, width, height):
     """The class and the outline of a turn's cell."""
     if name == 'idle':
-        return 'idle', 'M%s %sh%s' % (number(x + width * 0.2), number(y + height / 2), number(width * 0.6))
+        return 'idle', 'M%s %sh%s' % (px(x + width * 0.2), px(y + height / 2), px(width * 0.6))
     if name == 'wait':
         return 'wait t%d' % (thread % 8), box(x + 0.75, y + 0.75, width - 1.5, height - 1.5)
     return '%s t%d' % ('quota' if name == 'quota' else 'done', thread % 8), box(x, y, width, height)
@@ -268,14 +268,14 @@ def cell(layout, turn):
     out, middle = [path(kind, d, turn.line)], x + (layout.cell - gap) / 2
     if layout.cell == 48:
         if turn.name == 'idle':
-            return out + [text(middle, y + 28, 'idle', 'small', 'middle')]
+            return out + [words(middle, y + 28, 'idle', 'small', 'middle')]
         ground = [path('ground', box(x + 8, y + 3, 31, layout.row - 6))] if turn.name == 'quota' else []
-        return out + ground + [text(middle, y + 15, turn.thread, label_kind(turn.name, turn.thread, 'thread'), 'middle'),
-                               text(middle, y + 28, turn.name, label_kind(turn.name, turn.thread, 'small'), 'middle')]
+        return out + ground + [words(middle, y + 15, turn.thread, label_kind(turn.name, turn.thread, 'thread'), 'middle'),
+                               words(middle, y + 28, turn.name, label_kind(turn.name, turn.thread, 'small'), 'middle')]
     if layout.cell == 22 and turn.thread is not None:
         kind = label_kind(turn.name, turn.thread, 'thread', 'small')
         ground = [path('ground', box(x + 2, y + 3, 17, layout.row - 6))] if turn.name == 'quota' else []
-        return out + ground + [text(middle, y + 11, turn.thread, kind, 'middle')]
+        return out + ground + [words(middle, y + 11, turn.thread, kind, 'middle')]
     return out
 
 
@@ -325,7 +325,7 @@ def names(layout, run):
             band = (first - 1) // BAND
             if band not in done and (last - first + 1) * layout.cell >= 6 * len(str(thread)) + 3:
                 done.add(band)
-                out.append(text(layout.x(first) + 2, layout.y(first, row[0].worker) + layout.row - 4, thread, kind))
+                out.append(words(layout.x(first) + 2, layout.y(first, row[0].worker) + layout.row - 4, thread, kind))
     return out
 
 
@@ -341,12 +341,12 @@ def frame(layout, run, band):
     for worker in range(layout.rows):
         top = layout.y(first, worker)
         out.append(path('row', box(LEFT, top + 1, layout.columns * layout.cell, layout.row - 2)))
-        out.append(text(LEFT - 6, top + layout.row / 2 + 4, 'worker %d' % worker, 'worker', 'end'))
+        out.append(words(LEFT - 6, top + layout.row / 2 + 4, 'worker %d' % worker, 'worker', 'end'))
     step = step_of(34 / layout.cell)
     for i in range(first, min(last, len(run.turns)) + 1):
         if step == 1 or i % step == 0 or i == first:
-            out.append(text(layout.x(i) + layout.cell / 2, y + 12, i, 'tick turn', 'middle'))
-    out.append(text(12, y + 12, 'turn', 'tick'))
+            out.append(words(layout.x(i) + layout.cell / 2, y + 12, i, 'tick turn', 'middle'))
+    out.append(words(12, y + 12, 'turn', 'tick'))
     return out
 
 
@@ -354,14 +354,14 @@ def curve(layout, run, band):
     """Memory held after each turn of a band: a step at the left edge of the turn's column."""
     first, last = layout.ends(band)
     held = run.turns[first - 2].held if first > 1 else 0
-    d = 'M%s %s' % (LEFT, number(layout.amount(band, held)))
+    d = 'M%s %s' % (LEFT, px(layout.amount(band, held)))
     for turn in run.turns[first - 1:last]:
         if turn.held != held:
-            d += 'H%sV%s' % (number(layout.x(turn.number)), number(layout.amount(band, turn.held)))
+            d += 'H%sV%s' % (px(layout.x(turn.number)), px(layout.amount(band, turn.held)))
             held = turn.held
     end = layout.x(min(last, max(len(run.turns), first))) + layout.cell
-    d += 'H%s' % number(end)
-    base = number(layout.base(band))
+    d += 'H%s' % px(end)
+    base = px(layout.base(band))
     return [path('area', 'M%s %sL%sV%sz' % (LEFT, base, d[1:], base)), path('held', d)]
 
 
@@ -374,25 +374,25 @@ def spread(labels, least):
     return out
 
 
-def lines(layout, run, band, bound):
+def amount_lines(layout, run, band, bound):
     """S1, the bound and the axis of a band's curve, with their numbers."""
     right = LEFT + layout.columns * layout.cell
     serial = layout.amount(band, run.serial)
-    out = [path('axis', 'M%s %sV%sH%s' % (LEFT, number(layout.amount(band, layout.top)), number(layout.base(band)), right)),
-           path('serial', 'M%s %sH%s' % (LEFT, number(serial), right))]
+    out = [path('axis', 'M%s %sV%sH%s' % (LEFT, px(layout.amount(band, layout.top)), px(layout.base(band)), right)),
+           path('serial', 'M%s %sH%s' % (LEFT, px(serial), right))]
     labels = [(serial, 'S1 %d' % run.serial, 'serial-text')]
     if bound:
         y = layout.bound_at(band)
-        out.append(path('bound' if bound.kept else 'bound unkept', 'M%s %sH%s' % (LEFT, number(y), right)))
+        out.append(path('bound' if bound.kept else 'bound unkept', 'M%s %sH%s' % (LEFT, px(y), right)))
         labels.append((y, 'bound %d' % bound.amount, 'bound-text'))
         notes = ['not to scale'] * layout.far + ['b not kept'] * (not bound.kept)
         if notes:
             labels.append((y + 1, ', '.join(notes), 'small'))
         if layout.far:
-            out.append(path('axis', 'M%s %sl5 -2l-10 -3l10 -3l-5 -2V%s' % (LEFT, number(y + 16), number(y))))
-    out += [text(right + 6, y + 4, content, kind) for y, content, kind in spread(labels, 12)]
-    out += [text(LEFT - 6, layout.amount(band, amount) + 4, amount, 'tick amount', 'end') for amount in (0, layout.top)]
-    return out + [text(12, layout.base(band) - layout.curve / 2, 'held', 'tick')]
+            out.append(path('axis', 'M%s %sl5 -2l-10 -3l10 -3l-5 -2V%s' % (LEFT, px(y + 16), px(y))))
+    out += [words(right + 6, y + 4, content, kind) for y, content, kind in spread(labels, 12)]
+    out += [words(LEFT - 6, layout.amount(band, amount) + 4, amount, 'tick amount', 'end') for amount in (0, layout.top)]
+    return out + [words(12, layout.base(band) - layout.curve / 2, 'held', 'tick')]
 
 
 def peak(layout, run):
@@ -403,8 +403,8 @@ def peak(layout, run):
     band = (highest.number - 1) // BAND
     x, y = layout.x(highest.number), layout.amount(band, highest.held)
     late = x > LEFT + layout.columns * layout.cell - 90
-    mark = '<circle class="peak" cx="%s" cy="%s" r="3"/>' % (number(x), number(y))
-    return [mark, text(x - 6 if late else x + 6, y - 4, 'peak %d' % highest.held, 'peak-text', 'end' if late else 'start')]
+    dot = '<circle class="peak" cx="%s" cy="%s" r="3"/>' % (px(x), px(y))
+    return [dot, words(x - 6 if late else x + 6, y - 4, 'peak %d' % highest.held, 'peak-text', 'end' if late else 'start')]
 
 
 LEGEND = (('work', 'done'), ('hold', 'thread held, no turn'), ('quota', 'quota: alloc not done'), ('wait', 'wait: join not done'),
@@ -415,22 +415,25 @@ def legend():
     out, x = [], LEFT
     for name, content in LEGEND:
         kind, d = ('hold t0', box(x, 60, 22, 13)) if name == 'hold' else mark(name, 0, x, 60, 22, 13)
-        out += [path('key ' + kind, d), text(x + 27, 71, content, 'key')]
+        out += [path('key ' + kind, d), words(x + 27, 71, content, 'key')]
         x += 44 + 6 * len(content)
     return out
 
 
+def head_line(run):
+    return 'Run of %d threads and %d actions: S1 %d, D %d; %s' % (run.threads, run.actions, run.serial, run.depth, run.last)
+
+
 def caption(run, bound):
-    head = 'Run of %d threads and %d actions: S1 %d, D %d; %s' % (run.threads, run.actions, run.serial, run.depth, run.last)
     more = 'Colour: thread number modulo 8.'
-    return [text(LEFT, 24, head, 'head'), text(LEFT, 44, '%s %s' % (bound.sentence(), more) if bound else more, 'caption')]
+    return [words(LEFT, 24, head_line(run), 'head'), words(LEFT, 44, '%s %s' % (bound.sentence(), more) if bound else more, 'caption')]
 
 
 def picture(run, rows, bound=None):
     layout = Layout(run, rows, bound)
     size = layout.width, layout.height
     out = ['<svg xmlns="http://www.w3.org/2000/svg" width="%d" height="%d" viewBox="0 0 %d %d" role="img">' % (size + size),
-           '<title>A run of turns: workers, threads and memory held</title>', style(), hatches(),
+           '<title>%s</title>' % head_line(run), style(), hatches(),
            '<rect width="%d" height="%d" fill="#fff"/>' % size]
     out += caption(run, bound) + legend()
     for band in range(layout.bands):
@@ -441,7 +444,7 @@ def picture(run, rows, bound=None):
     if layout.cell <= 10:
         out += names(layout, run)
     for band in range(layout.bands):
-        out += curve(layout, run, band) + lines(layout, run, band, bound)
+        out += curve(layout, run, band) + amount_lines(layout, run, band, bound)
     return '\n'.join(out + peak(layout, run) + ['</svg>']) + '\n'
 
 
@@ -472,7 +475,6 @@ def trace(run, rows, bound=None):
         events.append({'ph': 'M', 'pid': 1, 'tid': worker, 'name': 'thread_name', 'args': {'name': 'worker %d' % worker}})
         events.append({'ph': 'M', 'pid': 1, 'tid': worker, 'name': 'thread_sort_index', 'args': {'sort_index': worker}})
     events += slices(run)
-    events.append(counter('memory held', 0, 0))
     events += [counter('memory held', turn.number - 1, turn.held) for turn in run.turns]
     for turn in (0, len(run.turns)):
         events.append(counter('S1', turn, run.serial))
@@ -485,12 +487,12 @@ def trace(run, rows, bound=None):
 # The command
 
 def in_range(low, high):
-    def parsed(word):
+    def whole_number(word):
         value = int(word)
         if not low <= value <= high:
             raise argparse.ArgumentTypeError('%d is outside %d to %d' % (value, low, high))
         return value
-    return parsed
+    return whole_number
 
 
 def arguments():
