@@ -8,7 +8,8 @@ usage: python3 tools/picture.py [LISTING] [-p P] [-K K] [-b B] [--trace]     (th
 The picture. A turn is a cell: filled where its action was done, hatched at a quota turn, hollow at a wait, a dash where the worker is idle. A pale
 bar from one cell to the next is a worker that holds its thread between two turns. The colour is the thread's number modulo 8; the number itself
 stands in the cells or bars that have room for it, and each cell shows its line of the listing to a pointer that rests on it. A run of more than 256
-turns is cut into bands of 256, from top to bottom.
+turns is cut into bands of 256, from top to bottom. A bound that is far above the curve stands over a break of the scale. Where the run does not keep
+the rule with b, the bound does not speak of it, which the picture says, with the least b whose rule it keeps.
 """
 import argparse
 import collections
