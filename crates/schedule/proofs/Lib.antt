@@ -12,6 +12,7 @@ pub mod Totals
 pub mod CountBelow
 -- what is sound
 pub mod Clauses
+pub mod Sharing
 pub mod Facts
 pub mod Tests
 pub mod Done
@@ -21,6 +22,7 @@ pub mod Soundness
 -- turns keep it
 pub mod Starts
 pub mod Does
+pub mod ShareMoves
 pub mod Advances
 pub mod Holders
 pub mod Releases
@@ -33,6 +35,7 @@ pub mod Turns
 pub mod Replies
 pub mod Rows
 pub mod Stores
+pub mod ThreadMemory
 pub mod Histories
 pub mod Beginnings
 pub mod Values
