@@ -12,6 +12,7 @@ pub mod Totals
 pub mod CountBelow
 -- what is sound
 pub mod Clauses
+pub mod Balances
 pub mod Sharing
 pub mod Facts
 pub mod Tests

@@ -3,31 +3,29 @@ use mathlib.Core.Path.{_≡_, refl, sym, _∙_}
 use Prim.Native.Nat.{ℕ, zero, suc, _+_, _-_, _≤_, _<_}
 use mathlib.Core.Bool.{Bool, true, false, _&&_}
 use mathlib.Core.List.{List}
-use lib.ListN.{length, getD, set, length-set}
-use lib.Seq.{getD-set-same, getD-set-other}
+use lib.ListN.{length, set, length-set}
 use lib.Dec.{eqb}
 use native.Mathlib.Omega.{arith}
 use native.Mathlib.Decide.{ℕ-discrete}
 use borrow.Author.Tests.{eqb-true, eq-eqb, ne-eqb}
-use Rattle.table.specs.Sum.{pick, sumTo, anyBelow}
+use Rattle.table.specs.Sum.{anyBelow}
 use Rattle.table.specs.Format.{alloc, free, join, codeOf, is, Table, kind}
-use Rattle.table.specs.Rules.{owner, allocOf, freeOf, withChild, whole, partOf}
+use Rattle.table.specs.Rules.{owner, allocOf, freeOf}
 use Rattle.table.proofs.Tests.{no-way, and-both, is-true, same-is}
 use Rattle.table.proofs.Bodies.{after-end, join-above, join-below}
 use Rattle.table.proofs.Nesting.{some-anyBelow, anyBelow-true}
-use Rattle.table.proofs.Amounts.{whole-is}
-use Rattle.table.proofs.Peaks.{part-held, whole-held}
 use Rattle.schedule.specs.Machine.{State, ended, nextOf, statusOf, amountOf}
 use Rattle.schedule.specs.Sound.{progressIn, joinedIn, shareIn, balanceTo, isDone, progress, isJoined, share}
 use Rattle.schedule.proofs.Lawful.{Lawful}
 use Rattle.schedule.proofs.Words.{never-true}
 use Rattle.schedule.proofs.Lists.{set-each}
 use Rattle.schedule.proofs.Joins.{join-once}
+use Rattle.schedule.proofs.Balances.{balance-step, balance-join}
 use Rattle.schedule.proofs.Sharing.{Shared, shared-alike}
 use Rattle.schedule.proofs.Facts.{Facts}
 use Rattle.schedule.proofs.Done.{done-alike, next-below, owner-of-next}
 use Rattle.schedule.proofs.Does.{Does}
-use Rattle.schedule.proofs.Shares.{progress-next, progress-within, progress-ended, joined-ended, free-share}
+use Rattle.schedule.proofs.Shares.{progress-next, progress-ended, joined-ended, free-share}
 
 any-cong : (f g : ℕ → Bool) (k : ℕ) → ((i : ℕ) → i < k → f i ≡ g i) → anyBelow f k ≡ anyBelow g k
 unfolding anyBelow
@@ -74,7 +72,7 @@ module _ (T : Table) (l : Lawful T) (p K : ℕ) (st : State) (f : Facts T p K st
   place : T .first t + progress T st t ≡ a
   place = progress-next T l p K st f t below live ∙ next
 
-  more : suc (progress T st t) ≤ T .count t
+  more : progress T st t < T .count t
   more = omega (arith, place, f .next-high t below, after-end T (l .contents) t below)
 
   -- a join's child has a higher number than its thread
@@ -121,10 +119,6 @@ module _ (T : Table) (l : Lawful T) (p K : ℕ) (st : State) (f : Facts T p K st
 
   -- ---- the shares
 
-  part-next : (own : ℕ → ℕ) → partOf T own t (suc (progress T st t)) ≡ partOf T own t (progress T st t) + withChild T join own (whole T own) a
-  unfolding sumTo
-  part-next own = rw place
-
   share-before : share T st t ≡ balanceTo T t (progress T st t)
   unfolding shareIn
   share-before = rw unjoined
@@ -134,16 +128,7 @@ module _ (T : Table) (l : Lawful T) (p K : ℕ) (st : State) (f : Facts T p K st
   share-after = rw (joined-same t (λ k e. omega (arith, higher k)), unjoined, g .here)
 
   goes-share : is join (kind T a) ≡ false → share T st' t + freeOf T a ≡ share T st t + allocOf T a
-  goes-share k =
-      omega (
-        arith,
-        share-before,
-        share-after,
-        rw k at (part-next (allocOf T)),
-        rw k at (part-next (freeOf T)),
-        part-held T (l .contents) (l .bodies) (l .nesting) (l .balances) t (progress T st t) below (omega (arith, more)),
-        part-held T (l .contents) (l .bodies) (l .nesting) (l .balances) t (suc (progress T st t)) below more,
-      )
+  goes-share k = rw (share-before, share-after) (rw place at (balance-step T l t below (progress T st t) more (rw place k)))
 
   other-share : (u : ℕ) → (u ≡ t → ⊥) → (kind T a ≡ join → T .argument a ≡ u → ⊥) → share T st' u ≡ share T st u
   unfolding shareIn
@@ -154,27 +139,12 @@ module _ (T : Table) (l : Lawful T) (p K : ℕ) (st : State) (f : Facts T p K st
   child-share k = rw (child-joined k)
 
   -- an ended child that is not joined holds its final balance
-  child-before : kind T a ≡ join → statusOf st (T .argument a) ≡ ended
-      → share T st (T .argument a) ≡ whole T (allocOf T) (T .argument a) - whole T (freeOf T) (T .argument a)
+  child-before : kind T a ≡ join → statusOf st (T .argument a) ≡ ended → share T st (T .argument a) ≡ balanceTo T (T .argument a) (T .count (T .argument a))
   unfolding shareIn
-  child-before k e =
-      let h : T .argument a < T .threads = join-below T (l .contents) (l .bodies) a inside k in
-      rw (child-unjoined k, progress-ended T l p K st f (T .argument a) e, whole-is T (l .contents) (l .bodies) (allocOf T) (T .argument a) h,
-        whole-is T (l .contents) (l .bodies) (freeOf T) (T .argument a) h)
+  child-before k e = rw (child-unjoined k, progress-ended T l p K st f (T .argument a) e)
 
   join-share : kind T a ≡ join → statusOf st (T .argument a) ≡ ended → share T st' t ≡ share T st t + share T st (T .argument a)
-  unfolding allocOf freeOf is codeOf
-  join-share k e =
-      omega (
-        arith,
-        share-before,
-        share-after,
-        child-before k e,
-        rw k at (part-next (allocOf T)),
-        rw k at (part-next (freeOf T)),
-        part-held T (l .contents) (l .bodies) (l .nesting) (l .balances) t (progress T st t) below (omega (arith, more)),
-        whole-held T (l .contents) (l .bodies) (l .nesting) (l .balances) (T .argument a) (join-below T (l .contents) (l .bodies) a inside k),
-      )
+  join-share k e = rw (share-before, share-after, child-before k e) (rw place at (balance-join T l t below (progress T st t) more (rw place k)))
 
   -- ---- the amounts
 
@@ -208,10 +178,8 @@ module _ (T : Table) (l : Lawful T) (p K : ℕ) (st : State) (f : Facts T p K st
   pub shared-free : kind T a ≡ free → Shared T (st' .next) (st' .status) (set (st .amounts) t (amountOf st t - T .argument a))
   unfolding allocOf freeOf is codeOf
   shared-free k =
-      omega-free (rw next at (free-share T l p K st f t below live (rw next k)))
-    where
-      omega-free : T .argument a ≤ share T st t → Shared T (st' .next) (st' .status) (set (st .amounts) t (amountOf st t - T .argument a))
-      omega-free h = own-moves _ (rw k) (omega (arith, h, f .shared .each t below, rw k at (goes-share (rw k))))
+      let h : T .argument a ≤ share T st t = rw next at (free-share T l p K st f t below live (rw next k)) in
+      own-moves _ (rw k) (omega (arith, f .shared .each t below, rw k at (goes-share (rw k))))
 
   -- "a join moves the child's amount to its parent"
   pub shared-join : kind T a ≡ join → statusOf st (T .argument a) ≡ ended

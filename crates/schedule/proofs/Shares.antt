@@ -8,7 +8,7 @@ use native.Mathlib.Omega.{arith}
 use native.Mathlib.Decide.{ℕ-discrete, decLt}
 use borrow.Author.Tests.{lt-ltb, le-ltb, eqb-true, eq-eqb, ne-eqb}
 use Rattle.table.specs.Sum.{pick, sumTo, anyBelow}
-use Rattle.table.specs.Format.{free, join, codeOf, is, Table, kind}
+use Rattle.table.specs.Format.{free, join, is, Table, kind}
 use Rattle.table.specs.Rules.{owner, endOf, countsBelow, allocOf, freeOf, withChild, whole, partOf}
 use Rattle.table.specs.Level.{dependsOn}
 use Rattle.table.proofs.Tests.{and-both, is-true}
@@ -24,6 +24,7 @@ use Rattle.schedule.proofs.Facts.{Facts}
 use Rattle.schedule.proofs.Done.{done-low, undone, done-ended, ended-all}
 use Rattle.schedule.proofs.Totals.{sumTo-term, sumTo-add, sumTo-append, sumTo-front, sum-targets}
 use Rattle.schedule.proofs.Joins.{joins-one, join-depends}
+use Rattle.schedule.proofs.Balances.{balance-free}
 
 pick-add : (s : Bool) (x y : ℕ) → pick s x 0 + pick s y 0 ≡ pick s (x + y) 0
 pick-add true x y = refl
@@ -146,17 +147,14 @@ module _ (T : Table) (l : Lawful T) (p K : ℕ) (st : State) (f : Facts T p K st
 
   -- a free takes at most what its thread holds
   pub free-share : (t : ℕ) → t < T .threads → (statusOf st t ≡ ended → ⊥) → kind T (nextOf st t) ≡ free → T .argument (nextOf st t) ≤ share T st t
-  unfolding shareIn sumTo allocOf freeOf is codeOf
+  unfolding shareIn
   free-share t h e k = go (isJoined T st t) refl
     where
       go : (j : Bool) → isJoined T st t ≡ j → T .argument (nextOf st t) ≤ pick j 0 (balanceTo T t (progress T st t))
       go true q = absurd (e (joined-ended t h q))
       go false q =
-          let i : ℕ = progress T st t in
-          let at : T .first t + i ≡ nextOf st t = progress-next t h e in
-          let m : partOf T (freeOf T) t (suc i) ≤ partOf T (allocOf T) t (suc i) =
-          part-held T (l .contents) (l .bodies) (l .nesting) (l .balances) t (suc i) h (omega (arith, f .next-high t h, after-end T (l .contents) t h)) in
-          omega (arith, rw (at, k) at m)
+          let at : T .first t + progress T st t ≡ nextOf st t = progress-next t h e in
+          rw at at (balance-free T l t h (progress T st t) (omega (arith, f .next-high t h, after-end T (l .contents) t h)) (rw at k))
 
   -- no share is above what is held
   pub share-held : (t : ℕ) → t < T .threads → share T st t ≤ st .held

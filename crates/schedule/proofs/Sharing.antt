@@ -24,7 +24,7 @@ pub shared-alike : (T : Table) (next status next' status' amounts : List ℕ) �
 shared-alike T next status next' status' amounts s e = record { size = s .size; each = λ t h. s .each t h ∙ sym (e t h); rest = s .rest }
 
 module _ (T : Table) (few : T .threads ≤ 1024) (next status : List ℕ) where
-  shares-size : length (sharesIn T next status) ≡ 1024
+  pub shares-size : length (sharesIn T next status) ≡ 1024
   unfolding sharesIn
   shares-size = filled-length maxThreads (firsts (shareIn T next status) 0 (T .threads)) (omega (arith, firsts-length (shareIn T next status) 0 (T .threads)))
 
