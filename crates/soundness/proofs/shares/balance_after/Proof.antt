@@ -17,8 +17,12 @@ add-result : tie.Need-add-result
 add-result c =
     let a = c .before in
     let s = a .before .before .before in
-    omega (arith, a .argument .ensures .small, before-small (now (s .args .table)) _ _ _ _ _ (now (s .args .balances)) (s .pre .0) (s .pre .1 .0) (s .pre .1 .1) _ _
-    (code-read (s .pre .0 .accepted) _ (a .before .code .ensures)) (argument-read (s .pre .0 .accepted) _ (a .argument .ensures) .value) )
+    omega (
+      arith,
+      a .argument .ensures .small,
+      before-small (now (s .args .table)) _ _ _ _ _ (now (s .args .balances)) (s .pre .0) (s .pre .1 .0) (s .pre .1 .1) _ _
+          (code-read (s .pre .0 .accepted) _ (a .before .code .ensures)) (argument-read (s .pre .0 .accepted) _ (a .argument .ensures) .value),
+    )
 
 returns : tie.Need-returns
 returns c =
@@ -31,8 +35,11 @@ sub-result : tie.Need-sub-result
 sub-result c =
     let a = c .before .before in
     let s = a .before .before .before in
-    omega (arith, free-room (now (s .args .table)) _ _ _ _ _ (now (s .args .balances)) (s .pre .0) (s .pre .1 .0) (s .pre .1 .1) _ _
-    (code-read (s .pre .0 .accepted) _ (a .before .code .ensures)) (argument-read (s .pre .0 .accepted) _ (a .argument .ensures) .value) (c .if2 .taken))
+    omega (
+      arith,
+      free-room (now (s .args .table)) _ _ _ _ _ (now (s .args .balances)) (s .pre .0) (s .pre .1 .0) (s .pre .1 .1) _ _
+          (code-read (s .pre .0 .accepted) _ (a .before .code .ensures)) (argument-read (s .pre .0 .accepted) _ (a .argument .ensures) .value) (c .if2 .taken),
+    )
 
 returns-2 : tie.Need-returns-2
 returns-2 c =
@@ -58,9 +65,9 @@ add-result-2 c =
     omega (
       arith,
       before-small (now (s .args .table)) _ _ _ _ _ (now (s .args .balances)) (s .pre .0) (s .pre .1 .0) (s .pre .1 .1) _ _
-    (code-read (s .pre .0 .accepted) _ (a .before .code .ensures)) (argument-read (s .pre .0 .accepted) _ (a .argument .ensures) .value) ,
+          (code-read (s .pre .0 .accepted) _ (a .before .code .ensures)) (argument-read (s .pre .0 .accepted) _ (a .argument .ensures) .value),
       child-small (now (s .args .table)) _ _ _ _ _ (now (s .args .balances)) (s .pre .0) (s .pre .1 .0) (s .pre .1 .1) _ _
-    (code-read (s .pre .0 .accepted) _ (a .before .code .ensures)) (argument-read (s .pre .0 .accepted) _ (a .argument .ensures) .value) (c .before .if3 .taken),
+          (code-read (s .pre .0 .accepted) _ (a .before .code .ensures)) (argument-read (s .pre .0 .accepted) _ (a .argument .ensures) .value) (c .before .if3 .taken),
     )
 
 returns-3 : tie.Need-returns-3
