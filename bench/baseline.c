@@ -190,6 +190,7 @@ typedef struct {
     uint32_t quota;
     uint16_t next[THREADS];
     uint8_t status[THREADS];
+    uint64_t amounts[THREADS];
     uint16_t list[THREADS];
     uint16_t listed;
     Worker worker[WORKERS];
@@ -357,6 +358,28 @@ static bool held_right(const Run *run, size_t n) {
     return frees <= allocs && run->held == allocs - frees;
 }
 
+static bool amounts_right(const Run *run, size_t n) {
+    const uint8_t *actions = bodies(run->table, n);
+    uint64_t shares[THREADS] = { 0 };
+    for (size_t t = n; 0 < t--;) {
+        uint64_t sum = 0;
+        for (size_t a = first_of(run->table, t), stop = done_to(run, t); a < stop; a++) {
+            uint8_t k = code(actions, a);
+            size_t x = argument(actions, a);
+            if (k == ALLOC) sum += x;
+            if (k == FREE) sum -= x;
+            if (k == JOIN) sum += shares[x];
+        }
+        shares[t] = sum;
+    }
+    for (size_t t = 0; t < n; t++)
+        for (size_t a = first_of(run->table, t), stop = done_to(run, t); a < stop; a++)
+            if (code(actions, a) == JOIN) shares[argument(actions, a)] = 0;
+    for (size_t t = 0; t < THREADS; t++)
+        if (run->amounts[t] != shares[t]) return false;
+    return true;
+}
+
 static bool rest_sound(const Run *run) {
     if (BYTES < run->length || THREADS < run->listed || run->turns == UINT64_MAX) return false;
     uint32_t set = 0;
@@ -376,7 +399,7 @@ static bool sound(const Run *run) {
     size_t n = loaded.threads, m = loaded.actions;
     if (begin_fault(run->table, n, m, run->workers, run->quota).number) return false;
     if (!done_sound(run, n) || !list_follows(run, n) || !in_serial_order(run, n) || !waits_at_joins(run, n)) return false;
-    if (!workers_right(run, n) || !held_right(run, n) || run->highest < run->held) return false;
+    if (!workers_right(run, n) || !held_right(run, n) || !amounts_right(run, n) || run->highest < run->held) return false;
     for (size_t t = n; t < THREADS; t++)
         if (run->status[t] != UNBORN || run->next[t] != 0) return false;
     return true;
@@ -428,10 +451,12 @@ static Reply act(Run *run, size_t n, const uint16_t *parents, Worker *worker) {
             return release(worker, QUOTA, x);
         }
         worker->quota -= x;
+        run->amounts[t] += x;
         run->held += x;
         if (run->highest < run->held) run->highest = run->held;
         break;
     case FREE:
+        run->amounts[t] -= x;
         run->held -= x;
         break;
     case FORK: {
@@ -449,6 +474,8 @@ static Reply act(Run *run, size_t n, const uint16_t *parents, Worker *worker) {
             run->status[t] = WAITING;
             return release(worker, WAIT, x);
         }
+        run->amounts[t] += run->amounts[x];
+        run->amounts[x] = 0;
         break;
     }
     run->next[t] = (uint16_t)(a + 1);

@@ -13,7 +13,7 @@ from cases import LARGEST, alloc, end, free, least, parent, work
 from machine import ENDED, HELD, LAST_TURN, READY, WAITING
 from tables import drawn, table
 
-FIELDS = ['length', 'p', 'quota', 'listed', 'busy', 'held', 'highest', 'turns', 'table', 'next', 'status', 'list']
+FIELDS = ['length', 'p', 'quota', 'listed', 'busy', 'held', 'highest', 'turns', 'table', 'next', 'status', 'list', 'amounts']
 WORKER = ['holds', 'thread', 'quota']
 E = table(parent(1, 2), [alloc(6), work, free(6), end], [alloc(6), free(6), end])
 
@@ -46,7 +46,7 @@ def changed(run, call):
         setattr(run.worker[place], WORKER[number - len(FIELDS)], value)
     elif FIELDS[number] == 'table':
         run.table = run.table[:place] + bytes([value]) + run.table[place + 1:]
-    elif FIELDS[number] in ('next', 'status', 'list'):
+    elif FIELDS[number] in ('next', 'status', 'list', 'amounts'):
         getattr(run, FIELDS[number])[place] = value
     else:
         setattr(run, FIELDS[number], value)
@@ -81,7 +81,7 @@ def mixed_table(data):
 
 def mixed(run):
     """The whole record in one number, as the program has it."""
-    threads = [x for row in zip(run.next, run.status, run.list) for x in row]
+    threads = [x for row in zip(run.next, run.status, run.amounts, run.list) for x in row]
     workers = [x for w in run.worker for x in (int(w.holds), w.thread, w.quota)]
     amounts = [run.length, run.p, run.quota, run.listed, run.busy, run.held, run.highest, run.turns]
     return mix(mixed_table(run.table), threads + workers + amounts)
@@ -96,8 +96,10 @@ CHAIN = table(*[[fork(t + 1), join(t + 1), end] for t in range(1023)], [end])
 FULL = table(parent(*range(1, 1024)), *[[work] * 5 + [end]] * 1021, [work] * 7 + [end], [work] * 10 + [end])  # 8,192 actions
 NESTED = table([fork(1), fork(3), join(3), join(1), end], [fork(2), join(2), end], [work, work, end], [work, end])
 FAN = table(parent(*range(1, 16)), *[[work, end]] * 15)
+LEFT = table([fork(1), work, join(1), free(3), end], [alloc(4), end])  # a child's 4 go to its parent, which ends with 1
 FIVE = order(0, 1, 0, 2, 0)  # of E with p 3: thread 0 waits for 2, threads 1 and 2 are held, 12 units too
 NEARLY_LAST = [put('turns', LAST_TURN - 1)]
+LEFT_ENDED, LEFT_JOINED = order(0, 1, 1), order(0, 1, 1, 0, 0)  # of LEFT with p 2: the child has ended, and is joined
 
 
 def unsound(label, *puts):
@@ -111,6 +113,12 @@ def as_sound(label, w, said, left, *puts):
     """After some change a turn of worker w says so much, and a run in rounds finishes with so many turns more."""
     return ('sound: ' + label, (3, 6, E), [FIVE, *puts, turn(99), order(), turn(w), rounds(99)],
             ['spent 5'] + ['changed'] * len(puts) + ['refused 30 0', 'spent 0', said, left])
+
+
+def other_amounts(label, to, *puts):
+    """LEFT with an order, and then other amounts: a sound record before, and none after."""
+    return ('not sound: ' + label, (2, 4, LEFT), [to, order(), *puts, turn(0), order(), rounds(0)],
+            ['spent %d' % to[1], 'spent 0'] + ['changed'] * len(puts) + ['refused 32 0'] + ['refused 0 32 0'] * 2)
 
 
 def idle(w):
@@ -172,7 +180,7 @@ CASES = [
     unsound('a next action past all bodies', put('next', 65535, 0)),
     unsound('a join done before the child', put('next', 4, 0), put('status', READY, 0)),
     unsound('an action undone that others need', put('next', 1, 0), put('status', READY, 0)),
-    unsound('a next action past its body, all else right', put('next', 9, 1), put('held', 6)),
+    unsound('a next action past its body, all else right', put('next', 9, 1), put('held', 6), put('amounts', 0, 1)),
     unsound('a status that is none', put('status', 5, 1)),
     unsound('a status that is none, all else right', put('status', 5, 0)),
     unsound('a forked thread unborn', put('status', 0, 1)),
@@ -192,8 +200,8 @@ CASES = [
     ('not sound: waiting for a child that has ended', (3, 6, E), [order(0, 1, 0, 2, 2, 2), order(), put('status', WAITING, 0), turn(0), order(), rounds(0)],
      ['spent 6', 'spent 0', 'changed', 'refused 32 0', 'refused 0 32 0', 'refused 0 32 0']),
     ('not sound: an unborn thread past its first action, all else right', (3, 6, E),
-     [turn(0), order(), put('next', 10, 2), put('held', 6), put('highest', 6), turn(0), turn(9), order(), rounds(0)],
-     ['done 0 0', 'spent 0'] + ['changed'] * 3 + ['refused 32 0'] * 2 + ['refused 0 32 0'] * 2),
+     [turn(0), order(), put('next', 10, 2), put('held', 6), put('highest', 6), put('amounts', 6, 2), turn(0), turn(9), order(), rounds(0)],
+     ['done 0 0', 'spent 0'] + ['changed'] * 4 + ['refused 32 0'] * 2 + ['refused 0 32 0'] * 2),
     unsound('held with no worker', put('status', HELD, 0)),
     unsound('waiting elsewhere', put('status', WAITING, 1), put('holds', 0, 1, True), put('thread', 0, 1, True), put('quota', 0, 1, True), put('busy', 4)),
     unsound('two workers on a thread', put('holds', 1, 0, True), put('thread', 1, 0, True), put('busy', 7)),
@@ -207,6 +215,27 @@ CASES = [
     unsound('a quota above K', put('quota', 7, 1, True)),
     unsound('less memory held', put('held', 11)),
     unsound('more memory held', put('held', 13), put('highest', 13)),
+    unsound('a live thread with less', put('amounts', 5, 1)),
+    unsound('a live thread with more', put('amounts', 1, 0)),
+    unsound('two amounts that add up right', put('amounts', 7, 1), put('amounts', 5, 2)),
+    unsound('two threads\' amounts with one of them', put('amounts', 12, 1), put('amounts', 0, 2)),
+    unsound('amounts whose sum wraps round', put('amounts', LAST_TURN, 0), put('amounts', 1, 3)),
+    unsound('a thread from n on, its amount', put('amounts', 1, 3)),
+    unsound('the last thread from n on, its amount', put('amounts', LAST_TURN, 1023)),
+    ('not sound: an unborn thread with something', (3, 6, E), [turn(0), order(), put('amounts', 1, 2), turn(0), order(), rounds(0)],
+     ['done 0 0', 'spent 0', 'changed', 'refused 32 0', 'refused 0 32 0', 'refused 0 32 0']),
+    other_amounts('an ended thread with nothing', LEFT_ENDED, put('amounts', 0, 1)),
+    other_amounts('its balance with its parent too early', LEFT_ENDED, put('amounts', 4, 0), put('amounts', 0, 1)),
+    other_amounts('its balance with both', LEFT_ENDED, put('amounts', 4, 0)),
+    other_amounts('a joined thread with its balance', LEFT_JOINED, put('amounts', 4, 1)),
+    other_amounts('a joined thread with its balance, and not its parent', LEFT_JOINED, put('amounts', 0, 0), put('amounts', 4, 1)),
+    ('a child ends with a balance and is joined later', (2, 4, LEFT), [turn(w) for w in (0, 1, 1, 0, 0, 0, 0)] + [order()],
+     ['done 0 0', 'done 1 5', 'done 1 6', 'done 0 1', 'done 0 2', 'done 0 3', 'done 0 4', 'finished 0']),
+    ('not sound: the ended root with nothing', (2, 4, LEFT), [rounds(99), order(), put('amounts', 0, 0), turn(0), order(), rounds(0)],
+     ['finished 9', 'finished 0', 'changed', 'refused 32 0', 'refused 0 32 0', 'refused 0 32 0']),
+    ('the root\'s balance at its end', (1, 4, table([alloc(4), end])), [turn(0), turn(0), order(), rounds(0)], ['done 0 0', 'done 0 1', 'finished 0', 'finished 0']),
+    ('blank but for one amount', (1, 6, b''), [put('amounts', 1, 1023), turn(0), order(), put('amounts', 0, 1023), turn(0)],
+     ['changed', 'refused 32 0', 'refused 0 32 0', 'changed', 'refused 30 0']),
     unsound('a highest below', put('highest', 11)),
     unsound('a byte past the table', put('table', 1, 36867)),
     unsound('the first byte past the table', put('table', 1, len(E))),
@@ -237,7 +266,7 @@ def random_put(rng, run):
     if field in WORKER and rng.random() < 0.7 or field in ('holds', 'thread'):
         w = rng.randrange(min(16, run.p + 1))
         return put(field, {'holds': rng.randrange(2), 'thread': rng.randrange(n + 1)}.get(field, near(run.worker[w].quota, 99)), w, True)
-    if field in ('next', 'list'):
+    if field in ('next', 'list', 'amounts'):
         t = rng.randrange(n if rng.random() < 0.9 else 1024)
         return put(field, near(getattr(run, field)[t], 9999), t)
     if field == 'status':

@@ -25,7 +25,7 @@ class Run:
     def __init__(self):
         self.table, self.length = bytes(BYTES), 0
         self.p = self.quota = 0
-        self.next, self.status = [0] * THREADS, [UNBORN] * THREADS
+        self.next, self.status, self.amounts = [0] * THREADS, [UNBORN] * THREADS, [0] * THREADS
         self.list, self.listed = [0] * THREADS, 0
         self.worker, self.busy = [Worker() for _ in range(WORKERS)], 0
         self.held = self.highest = self.turns = 0
@@ -163,6 +163,19 @@ def held_right(v):
     return v.run.held == sum(amounts.get(kind, 0) * x for a, (kind, x) in enumerate(v.table.actions) if v.done(a))
 
 
+def amounts_right(v):
+    """Each alloc and free done counts for its thread, or, where that is joined, for the thread that has joined it."""
+    joined = {x for a, (kind, x) in enumerate(v.table.actions) if kind == JOIN and v.done(a)}
+    amounts = [0] * THREADS
+    for a, (kind, x) in enumerate(v.table.actions):
+        if kind in (ALLOC, FREE) and v.done(a):
+            t = v.owner[a]
+            while t in joined:
+                t = v.owner[v.fork_of[t]]
+            amounts[t] += x if kind == ALLOC else -x
+    return v.run.amounts == amounts
+
+
 def highest_right(v):
     return v.run.highest >= v.run.held
 
@@ -179,7 +192,7 @@ def turns_right(v):
 
 
 CLAUSES = [next_in_body, in_order, statuses_follow, list_follows, waits_at_joins, holders_right, others_hold_nothing, set_agrees,
-           quotas_right, held_right, highest_right, unused_right, turns_right]
+           quotas_right, held_right, amounts_right, highest_right, unused_right, turns_right]
 
 
 def broken(run):
@@ -243,8 +256,13 @@ class Machine:
         if kind == ALLOC:
             worker.quota -= x
             run.held += x
+            run.amounts[t] += x
         elif kind == FREE:
             run.held -= x
+            run.amounts[t] -= x
+        elif kind == JOIN:
+            run.amounts[t] += run.amounts[x]
+            run.amounts[x] = 0
         elif kind == FORK:
             self.threads.insert(self.threads.index(t), x)
             run.status[x] = READY

@@ -30,11 +30,11 @@ def begun(data, p, quota):
 
 
 def turns(run, order):
-    """The replies of single turns, one after the other, and the last record."""
+    """The replies of single turns, without the number passed over, one after the other, and the last record."""
     replies = []
     for w in order:
         reply, run = turn(run, w)
-        replies.append(reply)
+        replies.append(reply if reply[0] == 'refused' else reply[:-2])
     return replies, run
 
 
@@ -71,6 +71,11 @@ def worked():
     expect('worker 2 instead', run_list(begun(e, 2, 6), [0, 1, 0, 1, 1, 1, 1, 2])[0], ('refused', 7, 30, 0))
     replies, run = turns(begun(e, 3, 6), [0, 1, 0, 2, 0, 1, 1, 1])
     expect('thread 1 has ended, thread 0 goes on waiting', (run.status[1], run.status[0], run.list[:run.listed]), (ENDED, WAITING, [2, 0]))
+    left = table([(FORK, 1), work, (JOIN, 1), (FREE, 3), end], [(ALLOC, 4), end])
+    amounts = lambda order: turns(begun(left, 2, 4), order)[1].amounts[:3]
+    expect('an ended child keeps its balance', amounts([0, 1, 1, 0]), [0, 4, 0])
+    expect('its join moves it to the parent', amounts([0, 1, 1, 0, 0]), [4, 0, 0])
+    expect('the root keeps its own at its end', amounts([0, 1, 1, 0, 0, 0, 0]), [1, 0, 0])
     expect('L 0', run_rounds(begun(e, 2, 6), 0)[0], ('spent', 0))
     expect('L 14', run_rounds(begun(e, 2, 6), 14)[0], ('finished', 14))
     expect('L 13', run_rounds(begun(e, 2, 6), 13)[0], ('spent', 13))
@@ -125,7 +130,7 @@ def damages():
     damage('K out of range', ['beginning'], let('quota', LARGEST + 1))
     damage('a next action in another body', ['next_in_body'], put('next', 1, 9))
     damage('a next action before its body', ['next_in_body'], put('next', 2, 8))
-    damage('a join done before the child', ['in_order', 'waits_at_joins'], put('next', 0, 4))
+    damage('a join done before the child', ['in_order', 'waits_at_joins', 'amounts_right'], put('next', 0, 4))
     damage('a status that is none', ['statuses_follow', 'list_follows', 'holders_right'], put('status', 1, 5))
     damage('a forked thread unborn', ['statuses_follow', 'list_follows', 'holders_right'], put('status', 1, UNBORN))
     damage('a thread ended early', ['in_order', 'statuses_follow', 'list_follows', 'holders_right'], put('status', 1, ENDED))
@@ -143,6 +148,9 @@ def damages():
     damage('a bit too few', ['set_agrees'], let('busy', 2))
     damage('a quota above K', ['quotas_right'], worker(1, quota=7))
     damage('other memory held', ['held_right'], let('held', 11))
+    damage('a thread with less', ['amounts_right'], put('amounts', 1, 5))
+    damage('a thread with another\'s', ['amounts_right'], let('amounts', [0, 0, 12] + [0] * 1021))
+    damage('a thread from n on with something', ['amounts_right'], put('amounts', 1023, 1))
     damage('a highest below', ['highest_right'], let('highest', 11))
     damage('a byte past the table', ['unused_right'], table_byte(BYTES - 1, 1))
     damage('a list place not in use', ['unused_right'], put('list', 1023, 1))
@@ -166,7 +174,7 @@ def last_turns():
     run = begun(table(*E), 2, 6)
     run.turns = LAST_TURN - 1
     reply, after = turn(run, 0)
-    expect('the last turn but one', (reply, after.turns, broken(after)), (('done', 0, 0), LAST_TURN, ['turns_right']))
+    expect('the last turn but one', (reply[:3], after.turns, broken(after)), (('done', 0, 0), LAST_TURN, ['turns_right']))
     expect('then 32', turn(after, 0)[0], ('refused', 32, 0))
     expect('in a run, a turn to go', run_list(run, [0, 0])[0], ('refused', 1, 32, 0))
     expect('also before 30', run_list(run, [0, 9])[0], ('refused', 1, 32, 0))
@@ -195,6 +203,7 @@ def random_runs(rng, count):
             rank = {a: i for i, a in enumerate(serial_order(v.table))}
             ranks = [rank[run.next[t]] for t in run.list[:run.listed]]
             expect('sound after a turn', (broken(run), ranks), ([], sorted(ranks)))
+            expect('the amounts come to what is held', sum(run.amounts), run.held)
         expect('a run is its turns', (many[1], same(run, last)), (singles, True))
         expect('its report', many[0], 'finished' if run.status[0] == ENDED else 'spent')
 

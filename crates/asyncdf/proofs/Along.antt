@@ -22,25 +22,25 @@ use Rattle.asyncdf.proofs.Moving.{moves, replies, passes, keeps}
 use Rattle.asyncdf.proofs.Moving.{over as over-after}
 
 -- run₀ is the record at the loop's start; the locals are those after i turns
-pub record Along (who : ℕ → ℕ) (limit : ℕ) (run run₀ : Run) (s : List ℕ) (n last p K : ℕ) (parents next status list : List ℕ) (workers : List Worker) (m : Moved) (reply : Reply) (passed i : ℕ)
+pub record Along (who : ℕ → ℕ) (limit : ℕ) (run run₀ : Run) (s : List ℕ) (n last p K : ℕ) (parents next status amounts list : List ℕ) (workers : List Worker) (m : Moved) (reply : Reply) (passed i : ℕ)
     : Type 0 where
-  pub moving : Moving run s n last p K parents next status list workers m
+  pub moving : Moving run s n last p K parents next status amounts list workers m
   pub within : i ≤ limit
-  pub remains : drive who (limit - i) i (packedOf run next status list workers m) ≡ drive who limit 0 run₀
-  pub start : i ≡ 0 → packedOf run next status list workers m ≡ run₀
+  pub remains : drive who (limit - i) i (packedOf run next status amounts list workers m) ≡ drive who limit 0 run₀
+  pub start : i ≡ 0 → packedOf run next status amounts list workers m ≡ run₀
   pub said : i ≡ 1 → Says run₀ (who 0) reply passed
 
-pub first-along : {who : ℕ → ℕ} {limit : ℕ} {run : Run} {s : List ℕ} {n last p K : ℕ} {parents next status list : List ℕ} {workers : List Worker} {m : Moved} (reply : Reply) (passed : ℕ)
-    → Moving run s n last p K parents next status list workers m
-    → Along who limit run (packedOf run next status list workers m) s n last p K parents next status list workers m reply passed 0
+pub first-along : {who : ℕ → ℕ} {limit : ℕ} {run : Run} {s : List ℕ} {n last p K : ℕ} {parents next status amounts list : List ℕ} {workers : List Worker} {m : Moved} (reply : Reply) (passed : ℕ)
+    → Moving run s n last p K parents next status amounts list workers m
+    → Along who limit run (packedOf run next status amounts list workers m) s n last p K parents next status amounts list workers m reply passed 0
 first-along {limit = limit} reply passed v =
     let all : limit - 0 ≡ limit = omega arith in
     record { moving = v; within = omega arith; remains = rw all; start = λ z. refl; said = λ z. absurd (omega (arith, z)) }
 
-module _ {who : ℕ → ℕ} {limit : ℕ} {run run₀ : Run} {s : List ℕ} {n last p K : ℕ} {parents next status list : List ℕ} {workers : List Worker} {m : Moved} {reply : Reply} {passed i : ℕ}
-    (v : Along who limit run run₀ s n last p K parents next status list workers m reply passed i) where
+module _ {who : ℕ → ℕ} {limit : ℕ} {run run₀ : Run} {s : List ℕ} {n last p K : ℕ} {parents next status amounts list : List ℕ} {workers : List Worker} {m : Moved} {reply : Reply} {passed i : ℕ}
+    (v : Along who limit run run₀ s n last p K parents next status amounts list workers m reply passed i) where
   abbrev here : Run
-  here = packedOf run next status list workers m
+  here = packedOf run next status amounts list workers m
 
   -- nothing is left of the list or the limit
   pub spent : limit ≤ i → Driven who limit run₀ (Spent i) reply passed here
@@ -77,9 +77,9 @@ module _ {who : ℕ → ℕ} {limit : ℕ} {run run₀ : Run} {s : List ℕ} {n 
             said = λ one o. absurd (omega (arith, o .below, ap (λ (r : Run). r .workers) (v .start (at-start one)), q, ap who (at-start one), b, v .moving .count));
           }
 
-      module _ (b : w < p) {next' status' list' : List ℕ} {r : Taken} (t : Took (tableOf s) K w next status list m (getD workers w nobody) next' status' list' r) where
+      module _ (b : w < p) {next' status' amounts' list' : List ℕ} {r : Taken} (t : Took (tableOf s) K w next status amounts list m (getD workers w nobody) next' status' amounts' list' r) where
         abbrev there : Run
-        there = packedOf run next' status' list' (set workers w (r .worker)) (r .moved)
+        there = packedOf run next' status' amounts' list' (set workers w (r .worker)) (r .moved)
 
         rest : drive who (limit - (i + 1)) (i + 1) there ≡ drive who limit 0 run₀
         rest =
@@ -102,7 +102,7 @@ module _ {who : ℕ → ℕ} {limit : ℕ} {run run₀ : Run} {s : List ℕ} {n 
 
         -- the root's end was not done: the run goes on
         pub again : {reply' : Reply} → reply' ≡ r .reply → ((u : ℕ) → r .reply ≡ Done u last → ⊥)
-            → Along who limit run run₀ s n last p K parents next' status' list' (set workers w (r .worker)) (r .moved) reply' (r .passed) (i + 1)
+            → Along who limit run run₀ s n last p K parents next' status' amounts' list' (set workers w (r .worker)) (r .moved) reply' (r .passed) (i + 1)
         again e d =
             record {
               moving = keeps (v .moving) b t room d;

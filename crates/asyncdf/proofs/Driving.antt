@@ -141,24 +141,24 @@ module _ (r : Run) (h : Steady r) (w : ℕ) (b : w < r .workers) where
       n t q)
 
 -- what the code moved is the record after the turn
-module _ (run : Run) (next status list : List ℕ) (workers : List Worker) (m : Moved) (w : ℕ) (next' status' list' : List ℕ) (r : Taken)
-    (h : Steady (packedOf run next status list workers m)) (b : w < run .workers)
-    (t : Took (tableIn run) (run .quota) w next status list m (getD workers w nobody) next' status' list' r) where
+module _ (run : Run) (next status amounts list : List ℕ) (workers : List Worker) (m : Moved) (w : ℕ) (next' status' amounts' list' : List ℕ) (r : Taken)
+    (h : Steady (packedOf run next status amounts list workers m)) (b : w < run .workers)
+    (t : Took (tableIn run) (run .quota) w next status amounts list m (getD workers w nobody) next' status' amounts' list' r) where
   abbrev before : Run
-  before = packedOf run next status list workers m
+  before = packedOf run next status amounts list workers m
 
   fits : w < length workers
   fits = omega (arith, h .state .common .worker-size, steady-fits _ h .few-workers)
 
   stepped-as : stepRun before w
-      ≡ stepped (r .reply) (counted (putBack w (stateOf before) (stepped (r .reply) (partState next' status' list' (r .moved .totals) (r .worker))) .state))
+      ≡ stepped (r .reply) (counted (putBack w (stateOf before) (stepped (r .reply) (partState next' status' amounts' list' (r .moved .totals) (r .worker))) .state))
   unfolding stepRun
   stepped-as = turn-local (tableIn run) (run .quota) w (stateOf before) fits ∙ rw (← (t .body))
 
   pub packed-reply : stepRun before w .reply ≡ r .reply
   packed-reply = ap (λ (x : Stepped). x .reply) stepped-as
 
-  pub packed-moved : moved before w ≡ packedOf run next' status' list' (set workers w (r .worker)) (r .moved)
+  pub packed-moved : moved before w ≡ packedOf run next' status' amounts' list' (set workers w (r .worker)) (r .moved)
   packed-moved =
       let q : setOf (set workers w (r .worker)) ≡ r .moved .busy = set-busy workers w (r .worker) fits ∙ rw (t .set, h .set) in
       rw (stepped-as, q, ← t .row .rest, t .row .front, t .count, add-one)

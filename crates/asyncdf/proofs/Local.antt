@@ -22,7 +22,7 @@ use Rattle.asyncdf.specs.Drives.{busyAfter, Bit}
 -- the state with worker w alone
 abbrev pub partOf : ℕ → State → State
 partOf w st =
-    record { next = st .next; status = st .status; list = st .list; workers = workerOf st w ∷ []; held = st .held; highest = st .highest; turns = 0 }
+    record { next = st .next; status = st .status; amounts = st .amounts; list = st .list; workers = workerOf st w ∷ []; held = st .held; highest = st .highest; turns = 0 }
 
 -- what a part became, put back
 abbrev pub putBack : ℕ → State → Stepped → Stepped
@@ -31,6 +31,7 @@ putBack w st s =
     (record {
       next = s .state .next;
       status = s .state .status;
+      amounts = s .state .amounts;
       list = s .state .list;
       workers = set (st .workers) w (workerOf (s .state) 0);
       held = s .state .held;

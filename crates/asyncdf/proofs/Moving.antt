@@ -51,7 +51,7 @@ other {r} {t} {a} {last} e d u f = d (ap (ofReply (λ j. j)) (sym e ∙ f))
 
 pub first-moving : {run : Run} {n last : ℕ} {parents : List ℕ} → Steady run → rootEnded run ≡ false → n ≡ tableIn run .threads → last ≡ endOf (tableIn run) 0
     → Parents (tableIn run) parents → length (run .list) ≡ 1024 → run .turns < 2 ^ 64
-    → Moving run (bytesOf run) n last (run .workers) (run .quota) parents (run .next) (run .status) (run .list) (run .worker) (movedOf run)
+    → Moving run (bytesOf run) n last (run .workers) (run .quota) parents (run .next) (run .status) (run .amounts) (run .list) (run .worker) (movedOf run)
 first-moving h o e f a z g =
     record {
       bytes = refl;
@@ -67,14 +67,14 @@ first-moving h o e f a z g =
 -- as the code finds it: the numbers read off the table, the rest copied
 pub copied-moving : {run : Run} {n last : ℕ} {parents : List ℕ} {m : Moved} → Steady run → rootEnded run ≡ false → n ≡ threadsOf (bytesOf run) → last ≡ endOf (tableIn run) 0
     → Parents (tableIn run) parents → length (run .list) ≡ 1024 → run .turns < 2 ^ 64 → m ≡ movedOf run
-    → Moving run (bytesOf run) n last (run .workers) (run .quota) parents (run .next) (run .status) (run .list) (run .worker) m
+    → Moving run (bytesOf run) n last (run .workers) (run .quota) parents (run .next) (run .status) (run .amounts) (run .list) (run .worker) m
 unfolding tableOf
 copied-moving h o e f a z g q = rw q (first-moving h o e f a z g)
 
-module _ {run : Run} {s : List ℕ} {n last p K : ℕ} {parents next status list : List ℕ} {workers : List Worker} {m : Moved}
-    (v : Moving run s n last p K parents next status list workers m) where
+module _ {run : Run} {s : List ℕ} {n last p K : ℕ} {parents next status amounts list : List ℕ} {workers : List Worker} {m : Moved}
+    (v : Moving run s n last p K parents next status amounts list workers m) where
   abbrev pub here : Run
-  here = packedOf run next status list workers m
+  here = packedOf run next status amounts list workers m
 
   module _ {w : ℕ} (b : w < p) where
     own : w < run .workers
@@ -83,7 +83,7 @@ module _ {run : Run} {s : List ℕ} {n last p K : ℕ} {parents next status list
     pub few : w < 16
     few = omega (arith, own, steady-fits here (v .steady) .few-workers)
 
-    pub sits : Sits s n K next status list (m .totals) (getD workers w nobody)
+    pub sits : Sits s n K next status amounts list (m .totals) (getD workers w nobody)
     sits =
         record {
           rules = rw (v .bytes) at (v .steady .table);
@@ -96,6 +96,7 @@ module _ {run : Run} {s : List ℕ} {n last p K : ℕ} {parents next status list
           sound = rw (v .bytes, v .count, v .quota) at (v .steady .state);
           same-next = refl;
           same-status = refl;
+          same-amounts = refl;
           same-list = refl;
           same-held = refl;
           same-highest = refl;
@@ -106,18 +107,18 @@ module _ {run : Run} {s : List ℕ} {n last p K : ℕ} {parents next status list
     pub bit : Bit (m .busy) (getD workers w nobody .holds) w
     bit = rw (v .steady .set) (set-bit workers w (v .steady .state .common .worker-size) few)
 
-    module _ {next' status' list' : List ℕ} {r : Taken} (t : Took (tableOf s) K w next status list m (getD workers w nobody) next' status' list' r) where
+    module _ {next' status' amounts' list' : List ℕ} {r : Taken} (t : Took (tableOf s) K w next status amounts list m (getD workers w nobody) next' status' amounts' list' r) where
       abbrev pub there : Run
-      there = packedOf run next' status' list' (set workers w (r .worker)) (r .moved)
+      there = packedOf run next' status' amounts' list' (set workers w (r .worker)) (r .moved)
 
-      took : Took (tableIn run) (run .quota) w next status list m (getD workers w nobody) next' status' list' r
+      took : Took (tableIn run) (run .quota) w next status amounts list m (getD workers w nobody) next' status' amounts' list' r
       took = rw (v .bytes, v .quota) t
 
       pub moves : moved here w ≡ there
-      moves = packed-moved run next status list workers m w next' status' list' r (v .steady) own took
+      moves = packed-moved run next status amounts list workers m w next' status' amounts' list' r (v .steady) own took
 
       pub replies : stepRun here w .reply ≡ r .reply
-      replies = packed-reply run next status list workers m w next' status' list' r (v .steady) own took
+      replies = packed-reply run next status amounts list workers m w next' status' amounts' list' r (v .steady) own took
 
       pub passes : passedIn here w ≡ r .passed
       unfolding passedIn passedBy
@@ -128,7 +129,7 @@ module _ {run : Run} {s : List ℕ} {n last p K : ℕ} {parents next status list
 
       -- the root's end was not done: the loop goes on
       pub keeps : (m .turns ≡ 2 ^ 64 - 1 → ⊥) → ((u : ℕ) → r .reply ≡ Done u last → ⊥)
-          → Moving run s n last p K parents next' status' list' (set workers w (r .worker)) (r .moved)
+          → Moving run s n last p K parents next' status' amounts' list' (set workers w (r .worker)) (r .moved)
       keeps e d =
           record {
             bytes = v .bytes;

@@ -27,6 +27,7 @@ use Rattle.schedule.proofs.Ends.{ownerBelow-less}
 use Rattle.schedule.proofs.Moves.{taken-facts}
 use Rattle.schedule.proofs.Shares.{free-held}
 use Rattle.schedule.proofs.Stores.{Fits, begin-fits}
+use Rattle.schedule.proofs.ThreadMemory.{amount-held, free-amount}
 use Rattle.schedule.proofs.Soundness.{list-room, held-fits}
 use Rattle.soundness.specs.Checks.{Parents}
 use Rattle.asyncdf.specs.Parts.{At, Wakes, Sits}
@@ -36,11 +37,12 @@ use Rattle.asyncdf.specs.declared.act.Totals.{Totals}
 abbrev pub actionOf : List ℕ → Worker → ℕ
 actionOf next worker = getD next (worker .thread) 0
 
-state-is : (st : State) (next status list : List ℕ) (held highest : ℕ) → st .next ≡ next → st .status ≡ status → st .list ≡ list → st .held ≡ held → st .highest ≡ highest
-    → st ≡ record { next = next; status = status; list = list; workers = st .workers; held = held; highest = highest; turns = st .turns }
-state-is st next status list held highest a b c d e = rw (← a, ← b, ← c, ← d, ← e)
+state-is : (st : State) (next status amounts list : List ℕ) (held highest : ℕ) → st .next ≡ next → st .status ≡ status → st .amounts ≡ amounts → st .list ≡ list → st .held ≡ held
+    → st .highest ≡ highest
+    → st ≡ record { next = next; status = status; amounts = amounts; list = list; workers = st .workers; held = held; highest = highest; turns = st .turns }
+state-is st next status amounts list held highest a b m c d e = rw (← a, ← b, ← m, ← c, ← d, ← e)
 
-module _ {s : List ℕ} {n K : ℕ} {next status list : List ℕ} {totals : Totals} {worker : Worker} (q : Sits s n K next status list totals worker) where
+module _ {s : List ℕ} {n K : ℕ} {next status amounts list : List ℕ} {totals : Totals} {worker : Worker} (q : Sits s n K next status amounts list totals worker) where
   -- the record whose part it is
   abbrev run : Run
   run =
@@ -51,6 +53,7 @@ module _ {s : List ℕ} {n K : ℕ} {next status list : List ℕ} {totals : Tota
         quota = K;
         next = next;
         status = status;
+        amounts = amounts;
         list = list;
         listed = totals .listed;
         worker = q .state .workers;
@@ -64,7 +67,7 @@ module _ {s : List ℕ} {n K : ℕ} {next status list : List ℕ} {totals : Tota
   bytes = filled-front maxBytes s
 
   sound-part : SoundState (tableOf s) (q .p) K (stateOf run)
-  sound-part = rw (state-is (q .state) _ _ _ _ _ (q .same-next) (q .same-status) (q .same-list) (q .same-held) (q .same-highest)) at (q .sound)
+  sound-part = rw (state-is (q .state) _ _ _ _ _ _ (q .same-next) (q .same-status) (q .same-amounts) (q .same-list) (q .same-held) (q .same-highest)) at (q .sound)
 
   steady : Steady run
   steady =
@@ -147,6 +150,19 @@ module _ {s : List ℕ} {n K : ℕ} {next status list : List ℕ} {totals : Tota
         let w : tableOf s .argument (actionOf next worker) ≤ K = rw k at (fits .within (actionOf next worker) next-is-below) in
         omega (arith, held-fits run steady)
 
+    -- no thread holds more than is held
+    pub amount-room : (t : ℕ) → getD amounts t 0 ≤ totals .held
+    amount-room = amount-held (tableOf s) laws (q .p) K (stateOf run) known
+
+    pub own-room : kind (tableOf s) (actionOf next worker) ≡ alloc → getD amounts (worker .thread) 0 + tableOf s .argument (actionOf next worker) < 2 ^ 64
+    own-room k = omega (arith, alloc-room k, amount-room (worker .thread))
+
+    pub child-room : (c : ℕ) → getD amounts (worker .thread) 0 + getD amounts c 0 < 2 ^ 64
+    child-room c = omega (arith, amount-room (worker .thread), amount-room c, held-fits run steady)
+
+    pub own-free : kind (tableOf s) (actionOf next worker) ≡ free → tableOf s .argument (actionOf next worker) ≤ getD amounts (worker .thread) 0
+    own-free k = free-amount (tableOf s) laws (q .p) K (stateOf run) known (worker .thread) thread-below (λ e. omega (arith, thread-held)) k
+
     pub free-room : kind (tableOf s) (actionOf next worker) ≡ free → tableOf s .argument (actionOf next worker) ≤ totals .held
     free-room k = free-held (tableOf s) laws (q .p) K (stateOf run) known (worker .thread) thread-below (λ e. omega (arith, thread-held)) k
 
@@ -180,7 +196,7 @@ module _ {s : List ℕ} {n K : ℕ} {next status list : List ℕ} {totals : Tota
   -- ---- a worker that takes a thread
 
   pub taken-sits : worker .holds ≡ false → (t : ℕ) → t < tableOf s .threads → getD status t 0 ≡ ready
-      → Sits s n K next (set status t held) list totals (record { holds = true; thread = t; quota = K })
+      → Sits s n K next (set status t held) amounts list totals (record { holds = true; thread = t; quota = K })
   unfolding taken
   taken-sits h t b e =
       record {
@@ -196,6 +212,7 @@ module _ {s : List ℕ} {n K : ℕ} {next status list : List ℕ} {totals : Tota
             (taken-facts (tableOf s) laws (q .p) K (fits .few-workers) (q .w) (q .below) (stateOf run) known (rw (q .own) h) t b e);
         same-next = refl;
         same-status = refl;
+        same-amounts = refl;
         same-list = refl;
         same-held = refl;
         same-highest = refl;

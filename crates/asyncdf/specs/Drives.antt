@@ -58,8 +58,8 @@ abbrev pub movedOf : Run → Moved
 movedOf r = record { busy = r .busy; totals = record { listed = r .listed; held = r .held; highest = r .highest }; turns = r .turns }
 
 -- the record with what the turns have moved
-abbrev pub packedOf : Run → List ℕ → List ℕ → List ℕ → List Worker → Moved → Run
-packedOf run next status list worker m =
+abbrev pub packedOf : Run → List ℕ → List ℕ → List ℕ → List ℕ → List Worker → Moved → Run
+packedOf run next status amounts list worker m =
     record {
       table = run .table;
       length = run .length;
@@ -67,6 +67,7 @@ packedOf run next status list worker m =
       quota = run .quota;
       next = next;
       status = status;
+      amounts = amounts;
       list = list;
       listed = m .totals .listed;
       worker = worker;
@@ -77,28 +78,28 @@ packedOf run next status list worker m =
     }
 
 -- What every loop of turns keeps, over the table's bytes: the record packed from what the turns have moved is sound but for its turns taken, and its root has not ended.
-pub record Moving (run : Run) (s : List ℕ) (n last p K : ℕ) (parents next status list : List ℕ) (workers : List Worker) (m : Moved) : Type 0 where
+pub record Moving (run : Run) (s : List ℕ) (n last p K : ℕ) (parents next status amounts list : List ℕ) (workers : List Worker) (m : Moved) : Type 0 where
   pub bytes : bytesOf run ≡ s
   pub count : run .workers ≡ p
   pub quota : run .quota ≡ K
   pub outline : Outlined s n last parents
   pub row : Rowed list (m .totals .listed)
-  pub steady : Steady (packedOf run next status list workers m)
-  pub unended : rootEnded (packedOf run next status list workers m) ≡ false
+  pub steady : Steady (packedOf run next status amounts list workers m)
+  pub unended : rootEnded (packedOf run next status amounts list workers m) ≡ false
   pub turns-fit : m .turns < 2 ^ 64
 
 -- the loop's locals belong to some record
-pub record Stands (s : List ℕ) (n last p K : ℕ) (parents next status list : List ℕ) (workers : List Worker) (m : Moved) : Type 0 where
+pub record Stands (s : List ℕ) (n last p K : ℕ) (parents next status amounts list : List ℕ) (workers : List Worker) (m : Moved) : Type 0 where
   pub run : Run
-  pub moving : Moving run s n last p K parents next status list workers m
+  pub moving : Moving run s n last p K parents next status amounts list workers m
 
 -- what a turn of worker w in a loop leaves
-pub record Took (T : Table) (K w : ℕ) (next status list : List ℕ) (m : Moved) (worker : Worker) (next' status' list' : List ℕ) (r : Taken) : Type 0 where
-  pub body : stepped (r .reply) (partState next' status' list' (r .moved .totals) (r .worker)) ≡ turnBody T K 0 (partState next status list (m .totals) worker)
+pub record Took (T : Table) (K w : ℕ) (next status amounts list : List ℕ) (m : Moved) (worker : Worker) (next' status' amounts' list' : List ℕ) (r : Taken) : Type 0 where
+  pub body : stepped (r .reply) (partState next' status' amounts' list' (r .moved .totals) (r .worker)) ≡ turnBody T K 0 (partState next status amounts list (m .totals) worker)
   pub row : Rowed list' (r .moved .totals .listed)
   pub set : r .moved .busy ≡ busyAfter (m .busy) (worker .holds) (r .worker .holds) w
   pub count : r .moved .turns ≡ m .turns + 1
-  pub passed : r .passed ≡ passedBy 0 (partState next status list (m .totals) worker)
+  pub passed : r .passed ≡ passedBy 0 (partState next status amounts list (m .totals) worker)
 
 -- what worker w's turn of a record says
 pub record Says (run : Run) (w : ℕ) (reply : Reply) (passed : ℕ) : Type 0 where

@@ -19,11 +19,12 @@ use Rattle.asyncdf.specs.declared.act.Totals.{Totals}
 use Rattle.asyncdf.specs.declared.act.Stepped.{Stepped as StepResult}
 
 -- the arrays, the totals and one worker as a state
-abbrev pub partState : List ℕ → List ℕ → List ℕ → Totals → Worker → State
-partState next status list totals worker =
+abbrev pub partState : List ℕ → List ℕ → List ℕ → List ℕ → Totals → Worker → State
+partState next status amounts list totals worker =
     record {
       next = next;
       status = status;
+      amounts = amounts;
       list = take (totals .listed) list;
       workers = worker ∷ [];
       held = totals .held;
@@ -32,8 +33,8 @@ partState next status list totals worker =
     }
 
 -- what the code's step leaves, as the definitions have it
-abbrev pub partStepped : List ℕ → List ℕ → List ℕ → StepResult → Stepped
-partStepped next status list r = stepped (r .reply) (partState next status list (r .totals) (r .worker))
+abbrev pub partStepped : List ℕ → List ℕ → List ℕ → List ℕ → StepResult → Stepped
+partStepped next status amounts list r = stepped (r .reply) (partState next status amounts list (r .totals) (r .worker))
 
 -- a turn before it is counted
 unfoldable pub turnBody : Table → ℕ → ℕ → State → Stepped
@@ -80,7 +81,7 @@ wokenStatus T next status u t =
     pick (eqb (getD status u 0) waiting && (is join (kind T (getD next u 0)) && eqb (T .argument (getD next u 0)) t)) (set status u ready) status
 
 -- the part belongs to worker w of a sound state over an accepted table
-pub record Sits (s : List ℕ) (n K : ℕ) (next status list : List ℕ) (totals : Totals) (worker : Worker) : Type 0 where
+pub record Sits (s : List ℕ) (n K : ℕ) (next status amounts list : List ℕ) (totals : Totals) (worker : Worker) : Type 0 where
   pub rules : Rules s
   pub threads : n ≡ tableOf s .threads
   pub p : ℕ
@@ -91,6 +92,7 @@ pub record Sits (s : List ℕ) (n K : ℕ) (next status list : List ℕ) (totals
   pub sound : SoundState (tableOf s) p K state
   pub same-next : state .next ≡ next
   pub same-status : state .status ≡ status
+  pub same-amounts : state .amounts ≡ amounts
   pub same-list : state .list ≡ take (totals .listed) list
   pub same-held : state .held ≡ totals .held
   pub same-highest : state .highest ≡ totals .highest

@@ -56,13 +56,14 @@ fn act_alloc(
     a: u16,
     next: &mut [u16; 1024],
     status: &mut [u8; 1024],
+    amounts: &mut [u64; 1024],
     totals: Totals,
     worker: Worker,
 ) -> Stepped
     requires { ⌜ At (now next) worker a ⌝ }
-    requires { ⌜ (length (now status) ≡ 1024) × (totals .held + x < 2 ^ 64) ⌝ }
-    ensures { λ r. ⌜ ((T : Table) (list : List ℕ) → partStepped (now (next .exit)) (now (status .exit)) list r
-        ≡ actBy alloc T 0 (worker .thread) a x (partState (now (next .entry)) (now (status .entry)) list totals worker)) ⌝ }
+    requires { ⌜ (length (now status) ≡ 1024) × (totals .held + x < 2 ^ 64) × (getD (now amounts) (worker .thread) 0 + x < 2 ^ 64) ⌝ }
+    ensures { λ r. ⌜ ((T : Table) (list : List ℕ) → partStepped (now (next .exit)) (now (status .exit)) (now (amounts .exit)) list r
+        ≡ actBy alloc T 0 (worker .thread) a x (partState (now (next .entry)) (now (status .entry)) (now (amounts .entry)) list totals worker)) ⌝ }
 {
     let thread = worker.thread;
     let t = thread as usize;
@@ -76,6 +77,7 @@ fn act_alloc(
         };
     }
     next[t] = a + 1;
+    amounts[t] += x as u64;
     let held = totals.held + x as u64;
     Stepped {
         reply: Reply::Done { thread, action: a },
@@ -92,15 +94,23 @@ fn act_alloc(
     }
 }
 
-fn act_free(x: u32, a: u16, next: &mut [u16; 1024], totals: Totals, worker: Worker) -> Stepped
+fn act_free(
+    x: u32,
+    a: u16,
+    next: &mut [u16; 1024],
+    amounts: &mut [u64; 1024],
+    totals: Totals,
+    worker: Worker,
+) -> Stepped
     requires { ⌜ At (now next) worker a ⌝ }
-    requires { ⌜ x ≤ totals .held ⌝ }
-    ensures { λ r. ⌜ ((T : Table) (status list : List ℕ) → partStepped (now (next .exit)) status list r
-        ≡ actBy free T 0 (worker .thread) a x (partState (now (next .entry)) status list totals worker)) ⌝ }
+    requires { ⌜ (x ≤ totals .held) × (x ≤ getD (now amounts) (worker .thread) 0) ⌝ }
+    ensures { λ r. ⌜ ((T : Table) (status list : List ℕ) → partStepped (now (next .exit)) status (now (amounts .exit)) list r
+        ≡ actBy free T 0 (worker .thread) a x (partState (now (next .entry)) status (now (amounts .entry)) list totals worker)) ⌝ }
 {
     let thread = worker.thread;
     let t = thread as usize;
     next[t] = a + 1;
+    amounts[t] -= x as u64;
     let held = totals.held - x as u64;
     Stepped {
         reply: Reply::Done { thread, action: a },
@@ -125,8 +135,8 @@ fn act_fork(
     requires { ⌜ At (now next) worker a ⌝ }
     requires { ⌜ Rowed (now list) (totals .listed) ⌝ }
     requires { ⌜ (length (now status) ≡ 1024) × (c < 1024) × (totals .listed < 1024) × (placeIn (worker .thread) (take (totals .listed) (now list)) < totals .listed) ⌝ }
-    ensures { λ r. ⌜ ((T : Table) → partStepped (now (next .exit)) (now (status .exit)) (now (list .exit)) r
-        ≡ actBy fork T 0 (worker .thread) a c (partState (now (next .entry)) (now (status .entry)) (now (list .entry)) totals worker)) ⌝ }
+    ensures { λ r. ⌜ ((T : Table) (amounts : List ℕ) → partStepped (now (next .exit)) (now (status .exit)) amounts (now (list .exit)) r
+        ≡ actBy fork T 0 (worker .thread) a c (partState (now (next .entry)) (now (status .entry)) amounts (now (list .entry)) totals worker)) ⌝ }
     ensures { λ r. ⌜ Rowed (now (list .exit)) (r .totals .listed) ⌝ }
 {
     let thread = worker.thread;
@@ -155,19 +165,22 @@ fn act_join(
     a: u16,
     next: &mut [u16; 1024],
     status: &mut [u8; 1024],
+    amounts: &mut [u64; 1024],
     totals: Totals,
     worker: Worker,
 ) -> Stepped
     requires { ⌜ At (now next) worker a ⌝ }
-    requires { ⌜ (length (now status) ≡ 1024) × (c < 1024) ⌝ }
-    ensures { λ r. ⌜ ((T : Table) (list : List ℕ) → partStepped (now (next .exit)) (now (status .exit)) list r
-        ≡ actBy join T 0 (worker .thread) a c (partState (now (next .entry)) (now (status .entry)) list totals worker)) ⌝ }
+    requires { ⌜ (length (now status) ≡ 1024) × (c < 1024) × (getD (now amounts) (worker .thread) 0 + getD (now amounts) c 0 < 2 ^ 64) ⌝ }
+    ensures { λ r. ⌜ ((T : Table) (list : List ℕ) → partStepped (now (next .exit)) (now (status .exit)) (now (amounts .exit)) list r
+        ≡ actBy join T 0 (worker .thread) a c (partState (now (next .entry)) (now (status .entry)) (now (amounts .entry)) list totals worker)) ⌝ }
 {
     let thread = worker.thread;
     let t = thread as usize;
     let child = c as usize;
     if status[child] == ENDED {
         next[t] = a + 1;
+        amounts[t] += amounts[child];
+        amounts[child] = 0;
         return Stepped {
             reply: Reply::Done { thread, action: a },
             worker,
@@ -224,8 +237,8 @@ fn act_end(
     requires { ⌜ Parents (tableOf (now table)) (now parents) ⌝ }
     requires { ⌜ (worker .thread < tableOf (now table) .threads) × (placeIn (worker .thread) (take (totals .listed) (now list)) < totals .listed) ⌝ }
     requires { ⌜ Wakes (now table) n (now status) (getD (now parents) (worker .thread) 0) ⌝ }
-    ensures { λ r. ⌜ ((x : ℕ) → partStepped (now (next .entry)) (now (status .exit)) (now (list .exit)) r
-        ≡ actBy end (tableOf (now (table .entry))) 0 (worker .thread) a x (partState (now (next .entry)) (now (status .entry)) (now (list .entry)) totals worker)) ⌝ }
+    ensures { λ r. ⌜ ((x : ℕ) (amounts : List ℕ) → partStepped (now (next .entry)) (now (status .exit)) amounts (now (list .exit)) r
+        ≡ actBy end (tableOf (now (table .entry))) 0 (worker .thread) a x (partState (now (next .entry)) (now (status .entry)) amounts (now (list .entry)) totals worker)) ⌝ }
     ensures { λ r. ⌜ Rowed (now (list .exit)) (r .totals .listed) ⌝ }
 {
     let thread = worker.thread;
@@ -257,15 +270,16 @@ pub(crate) fn act(
     parents: &[u16; 1024],
     next: &mut [u16; 1024],
     status: &mut [u8; 1024],
+    amounts: &mut [u64; 1024],
     list: &mut [u16; 1024],
     totals: Totals,
     worker: Worker,
 ) -> Stepped
-    requires { ⌜ Sits (now table) n quota (now next) (now status) (now list) totals worker ⌝ }
+    requires { ⌜ Sits (now table) n quota (now next) (now status) (now amounts) (now list) totals worker ⌝ }
     requires { ⌜ Parents (tableOf (now table)) (now parents) ⌝ }
     requires { ⌜ worker .holds ≡ true ⌝ }
-    ensures { λ r. ⌜ partStepped (now (next .exit)) (now (status .exit)) (now (list .exit)) r
-        ≡ actOf (tableOf (now (table .entry))) 0 (partState (now (next .entry)) (now (status .entry)) (now (list .entry)) totals worker) ⌝ }
+    ensures { λ r. ⌜ partStepped (now (next .exit)) (now (status .exit)) (now (amounts .exit)) (now (list .exit)) r
+        ≡ actOf (tableOf (now (table .entry))) 0 (partState (now (next .entry)) (now (status .entry)) (now (amounts .entry)) (now (list .entry)) totals worker) ⌝ }
     ensures { λ r. ⌜ Rowed (now (list .exit)) (r .totals .listed) ⌝ }
 {
     let thread = worker.thread;
@@ -284,10 +298,10 @@ pub(crate) fn act(
                 totals,
             }
         }
-        2 => act_alloc(x as u32, a, next, status, totals, worker),
-        3 => act_free(x as u32, a, next, totals, worker),
+        2 => act_alloc(x as u32, a, next, status, amounts, totals, worker),
+        3 => act_free(x as u32, a, next, amounts, totals, worker),
         4 => act_fork(x as u16, a, next, status, list, totals, worker),
-        5 => act_join(x as u16, a, next, status, totals, worker),
+        5 => act_join(x as u16, a, next, status, amounts, totals, worker),
         _ => Stepped {
             reply: Reply::Idle,
             worker,

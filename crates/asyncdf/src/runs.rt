@@ -90,19 +90,31 @@ pub(crate) fn take_turn(
     quota: u32,
     next: &mut [u16; 1024],
     status: &mut [u8; 1024],
+    amounts: &mut [u64; 1024],
     list: &mut [u16; 1024],
     moved: Moved,
     worker: Worker,
     w: usize,
 ) -> Taken
-    requires { ⌜ Sits (now table) n quota (now next) (now status) (now list) (moved .totals) worker ⌝ }
+    requires { ⌜ Sits (now table) n quota (now next) (now status) (now amounts) (now list) (moved .totals) worker ⌝ }
     requires { ⌜ Parents (tableOf (now table)) (now parents) ⌝ }
     requires { ⌜ (Bit (moved .busy) (worker .holds) w) × (moved .turns < 2 ^ 64 - 1) ⌝ }
-    ensures { λ r. ⌜ Took (tableOf (now (table .entry))) quota w (now (next .entry)) (now (status .entry)) (now (list .entry)) moved worker
-        (now (next .exit)) (now (status .exit)) (now (list .exit)) r ⌝ }
+    ensures { λ r. ⌜ Took (tableOf (now (table .entry))) quota w (now (next .entry)) (now (status .entry)) (now (amounts .entry)) (now (list .entry)) moved worker
+        (now (next .exit)) (now (status .exit)) (now (amounts .exit)) (now (list .exit)) r ⌝ }
 {
     let totals = moved.totals;
-    let s = step(table, n, parents, quota, next, status, list, totals, worker);
+    let s = step(
+        table,
+        n,
+        parents,
+        quota,
+        next,
+        status,
+        amounts,
+        list,
+        totals,
+        worker,
+    );
     let stepped = s.stepped;
     let reply = stepped.reply;
     let after = stepped.worker;
@@ -124,12 +136,13 @@ fn packed(
     run: Run,
     next: [u16; 1024],
     status: [u8; 1024],
+    amounts: [u64; 1024],
     list: [u16; 1024],
     worker: [Worker; 16],
     moved: Moved,
 ) -> Run
     requires { ⌜ moved .totals .listed < 65536 ⌝ }
-    ensures { λ r. ⌜ r ≡ packedOf run next status list worker moved ⌝ }
+    ensures { λ r. ⌜ r ≡ packedOf run next status amounts list worker moved ⌝ }
 {
     let table = run.table;
     Run {
@@ -139,6 +152,7 @@ fn packed(
         quota: run.quota,
         next,
         status,
+        amounts,
         list,
         listed: moved.totals.listed as u16,
         worker,
@@ -175,6 +189,7 @@ fn take_turns(
     parents: &[u16; 1024],
     next: &mut [u16; 1024],
     status: &mut [u8; 1024],
+    amounts: &mut [u64; 1024],
     list: &mut [u16; 1024],
     start: [Worker; 16],
     from: Moved,
@@ -182,12 +197,12 @@ fn take_turns(
     rounds: bool,
     limit: usize,
 ) -> Stop
-    requires { ⌜ Stands (now table) n last p quota (now parents) (now next) (now status) (now list) start from ⌝ }
+    requires { ⌜ Stands (now table) n last p quota (now parents) (now next) (now status) (now amounts) (now list) start from ⌝ }
     requires { ⌜ ((i : ℕ) → i < limit → Sequence (now order) rounds p i) ⌝ }
     ensures { λ r. ⌜ ((run : RunRecord)
-        → Moving run (now (table .entry)) n last p quota (now (parents .entry)) (now (next .entry)) (now (status .entry)) (now (list .entry)) start from
-        → Driven (who (now (order .entry)) rounds p) limit (packedOf run (now (next .entry)) (now (status .entry)) (now (list .entry)) start from)
-        (r .report) (r .reply) (r .passed) (packedOf run (now (next .exit)) (now (status .exit)) (now (list .exit)) (r .workers) (r .moved))) ⌝ }
+        → Moving run (now (table .entry)) n last p quota (now (parents .entry)) (now (next .entry)) (now (status .entry)) (now (amounts .entry)) (now (list .entry)) start from
+        → Driven (who (now (order .entry)) rounds p) limit (packedOf run (now (next .entry)) (now (status .entry)) (now (amounts .entry)) (now (list .entry)) start from)
+        (r .report) (r .reply) (r .passed) (packedOf run (now (next .exit)) (now (status .exit)) (now (amounts .exit)) (now (list .exit)) (r .workers) (r .moved))) ⌝ }
     ensures { λ r. ⌜ r .moved .totals .listed < 65536 ⌝ }
 {
     let mut workers = start;
@@ -225,6 +240,7 @@ fn take_turns(
             quota,
             next,
             status,
+            amounts,
             list,
             moved,
             worker,
@@ -286,6 +302,7 @@ pub(crate) fn drive(
     let bytes = &table[..length];
     let mut next = run.next;
     let mut status = run.status;
+    let mut amounts = run.amounts;
     let mut list = run.list;
     if status[0] == ENDED {
         return Outcome {
@@ -308,6 +325,7 @@ pub(crate) fn drive(
         parents,
         &mut next,
         &mut status,
+        &mut amounts,
         &mut list,
         start,
         moved_in(run),
@@ -323,6 +341,6 @@ pub(crate) fn drive(
         report,
         reply,
         passed: stop.passed,
-        run: packed(run, next, status, list, workers, moved),
+        run: packed(run, next, status, amounts, list, workers, moved),
     }
 }

@@ -66,16 +66,17 @@ pub(crate) fn step(
     quota: u32,
     next: &mut [u16; 1024],
     status: &mut [u8; 1024],
+    amounts: &mut [u64; 1024],
     list: &mut [u16; 1024],
     totals: Totals,
     worker: Worker,
 ) -> Leaves
-    requires { ⌜ Sits (now table) n quota (now next) (now status) (now list) totals worker ⌝ }
+    requires { ⌜ Sits (now table) n quota (now next) (now status) (now amounts) (now list) totals worker ⌝ }
     requires { ⌜ Parents (tableOf (now table)) (now parents) ⌝ }
-    ensures { λ r. ⌜ partStepped (now (next .exit)) (now (status .exit)) (now (list .exit)) (r .stepped)
-        ≡ turnBody (tableOf (now (table .entry))) quota 0 (partState (now (next .entry)) (now (status .entry)) (now (list .entry)) totals worker) ⌝ }
+    ensures { λ r. ⌜ partStepped (now (next .exit)) (now (status .exit)) (now (amounts .exit)) (now (list .exit)) (r .stepped)
+        ≡ turnBody (tableOf (now (table .entry))) quota 0 (partState (now (next .entry)) (now (status .entry)) (now (amounts .entry)) (now (list .entry)) totals worker) ⌝ }
     ensures { λ r. ⌜ Rowed (now (list .exit)) (r .stepped .totals .listed) ⌝ }
-    ensures { λ r. ⌜ r .passed ≡ passedBy 0 (partState (now (next .entry)) (now (status .entry)) (now (list .entry)) totals worker) ⌝ }
+    ensures { λ r. ⌜ r .passed ≡ passedBy 0 (partState (now (next .entry)) (now (status .entry)) (now (amounts .entry)) (now (list .entry)) totals worker) ⌝ }
 {
     let found = find(quota, status, &*list, totals.listed, worker);
     let passed = found.passed;
@@ -88,6 +89,17 @@ pub(crate) fn step(
         };
         return Leaves { stepped, passed };
     }
-    let stepped = act(table, n, quota, parents, next, status, list, totals, seated);
+    let stepped = act(
+        table,
+        n,
+        quota,
+        parents,
+        next,
+        status,
+        amounts,
+        list,
+        totals,
+        seated,
+    );
     Leaves { stepped, passed }
 }

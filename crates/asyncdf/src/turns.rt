@@ -94,6 +94,7 @@ fn put_each(
     parents: &[u16; 1024],
     next: &mut [u16; 1024],
     status: &mut [u8; 1024],
+    amounts: &mut [u64; 1024],
     list: &mut [u16; 1024],
     start: [Worker; 16],
     from: Moved,
@@ -101,11 +102,11 @@ fn put_each(
     out: &mut [u8],
     at: usize,
 ) -> usize
-    requires { ⌜ Stands (now table) n last p quota (now parents) (now next) (now status) (now list) start from ⌝ }
+    requires { ⌜ Stands (now table) n last p quota (now parents) (now next) (now status) (now amounts) (now list) start from ⌝ }
     ensures { λ r. ⌜ ((run : RunRecord)
-        → Moving run (now (table .entry)) n last p quota (now (parents .entry)) (now (next .entry)) (now (status .entry)) (now (list .entry)) start from
+        → Moving run (now (table .entry)) n last p quota (now (parents .entry)) (now (next .entry)) (now (status .entry)) (now (amounts .entry)) (now (list .entry)) start from
         → Puts (now (out .entry)) at (now (out .exit)) r
-        (textsOf (turnsBy rootEnded turnedOf (packedOf run (now (next .entry)) (now (status .entry)) (now (list .entry)) start from) (now (order .entry))))
+        (textsOf (turnsBy rootEnded turnedOf (packedOf run (now (next .entry)) (now (status .entry)) (now (amounts .entry)) (now (list .entry)) start from) (now (order .entry))))
         (64 * (length (now (order .entry)) + 1))) ⌝ }
 {
     let mut workers = start;
@@ -129,6 +130,7 @@ fn put_each(
             quota,
             next,
             status,
+            amounts,
             list,
             moved,
             worker,
@@ -178,6 +180,7 @@ pub(crate) fn put_turns(
     let bytes = &table[..length];
     let mut next = run.next;
     let mut status = run.status;
+    let mut amounts = run.amounts;
     let mut list = run.list;
     let start = run.worker;
     put_each(
@@ -189,6 +192,7 @@ pub(crate) fn put_turns(
         parents,
         &mut next,
         &mut status,
+        &mut amounts,
         &mut list,
         start,
         moved_in(run),

@@ -110,8 +110,9 @@ fn mix_byte(sum: u64, x: u8) -> u64 {
     mix(sum, x as u64)
 }
 
-fn mix_three(sum: u64, next: u16, status: u8, listed: u16) -> u64 {
-    mix(mix(mix(sum, next as u64), status as u64), listed as u64)
+fn mix_thread(before: u64, next: u16, status: u8, amount: u64, listed: u16) -> u64 {
+    let sum = mix(mix(before, next as u64), status as u64);
+    mix(mix(sum, amount), listed as u64)
 }
 
 fn mix_table(before: u64, table: &[u8; 36868]) -> u64 {
@@ -124,11 +125,17 @@ fn mix_table(before: u64, table: &[u8; 36868]) -> u64 {
     sum
 }
 
-fn mix_threads(before: u64, next: &[u16; 1024], status: &[u8; 1024], list: &[u16; 1024]) -> u64 {
+fn mix_threads(
+    before: u64,
+    next: &[u16; 1024],
+    status: &[u8; 1024],
+    amounts: &[u64; 1024],
+    list: &[u16; 1024],
+) -> u64 {
     let mut sum = before;
     let mut t = 0;
     while t < 1024 {
-        sum = mix_three(sum, next[t], status[t], list[t]);
+        sum = mix_thread(sum, next[t], status[t], amounts[t], list[t]);
         t += 1;
     }
     sum
@@ -154,10 +161,11 @@ fn mix_run(run: Run) -> u64 {
     let table = run.table;
     let next = run.next;
     let status = run.status;
+    let amounts = run.amounts;
     let list = run.list;
     let workers = run.worker;
     let sum = mix_table(0, &table);
-    let sum = mix_threads(sum, &next, &status, &list);
+    let sum = mix_threads(sum, &next, &status, &amounts, &list);
     let sum = mix_workers(sum, workers);
     let sum = mix(mix(sum, run.length as u64), run.workers as u64);
     let sum = mix(mix(sum, run.quota as u64), run.listed as u64);
@@ -193,12 +201,12 @@ fn put_worker(run: Run, field: u8, w: usize, x: u64) -> Run {
     if w < 16 {
         let before = workers[w];
         workers[w] = match field {
-            12 => Worker {
+            13 => Worker {
                 holds: x != 0,
                 thread: before.thread,
                 quota: before.quota,
             },
-            13 => Worker {
+            14 => Worker {
                 holds: before.holds,
                 thread: word_of(x),
                 quota: before.quota,
@@ -219,16 +227,19 @@ fn put_thread(run: Run, field: u8, i: usize, x: u64) -> Run {
     let mut next = run.next;
     let mut status = run.status;
     let mut list = run.list;
+    let mut amounts = run.amounts;
     if i < 1024 {
         match field {
             9 => next[i] = word_of(x),
             10 => status[i] = byte_of(x),
-            _ => list[i] = word_of(x),
+            11 => list[i] = word_of(x),
+            _ => amounts[i] = x,
         }
     }
     changed.next = next;
     changed.status = status;
     changed.list = list;
+    changed.amounts = amounts;
     changed
 }
 
@@ -254,7 +265,7 @@ fn put(run: Run, field: u8, i: usize, x: u64) -> Run {
         6 => changed.highest = x,
         7 => changed.turns = x,
         8 => return put_table(run, i, x),
-        9..=11 => return put_thread(run, field, i, x),
+        9..=12 => return put_thread(run, field, i, x),
         _ => return put_worker(run, field, i, x),
     }
     changed

@@ -9,22 +9,24 @@ use native.Mathlib.Omega.{arith}
 use lib.ListN.{length, set, length-set}
 use lib.Dec.{leb}
 use lib.Seq.{getD-set-same, getD-set-other}
-use borrow.Author.Tests.{eqb-true, eq-eqb}
+use borrow.Author.Tests.{eqb-true, eq-eqb, ne-eqb}
 use Rattle.table.specs.Sum.{pick}
 use Rattle.table.specs.Format.{end, fork, join, codeOf, is, Table, kind}
 use Rattle.table.specs.Rules.{ownerBelow, owner, endOf, allocOf, freeOf, openBefore}
 use Rattle.table.specs.Level.{forkBelow, dependsOn}
 use Rattle.table.proofs.Tests.{no-way, and-both, same-is}
-use Rattle.table.proofs.Bodies.{end-last}
+use Rattle.table.proofs.Bodies.{end-last, after-end, count-pos}
 use Rattle.table.proofs.Nesting.{open-join, open-forked, fork-found}
 use Rattle.schedule.specs.Machine.{State, unborn, ready, held, waiting, ended, nextOf, statusOf, withStatus, withList, released, without, parentOf, waitsFor, woken, actBy}
-use Rattle.schedule.specs.Sound.{numberOf, isDone}
+use Rattle.schedule.specs.Sound.{numberOf, isDone, progressIn}
 use Rattle.schedule.proofs.Lawful.{Lawful}
+use Rattle.schedule.proofs.Sharing.{Shared}
 use Rattle.schedule.proofs.Facts.{Done, Facts}
-use Rattle.schedule.proofs.Words.{Ascends}
+use Rattle.schedule.proofs.Words.{Ascends, eqb-same}
 use Rattle.schedule.proofs.ListMoves.{ascends-same, without-old, without-other, ascends-without, without-gone}
 use Rattle.schedule.proofs.Done.{done-last, done-ending, done-same, owner-of-next, next-below}
 use Rattle.schedule.proofs.Does.{Does, does-ordered, does-amount, does-fork}
+use Rattle.schedule.proofs.ShareMoves.{Progressed, shared-same}
 use Rattle.schedule.proofs.Releases.{Acting, acting-depends, LetsGo, freed, released-holding}
 
 -- ---- the state after an end, place by place
@@ -83,7 +85,7 @@ module _ (T : Table) (w t a c : ℕ) (st : State) where
       go : (q : Bool) → waitsFor T mid v t ≡ q → Ended T w t st (pick q (withStatus v ready mid) mid)
       go true q =
           record {
-            lets-go = freed w st (withStatus v ready mid) i k refl refl (simp length-set) refl refl;
+            lets-go = freed w st (withStatus v ready mid) i k refl refl (simp length-set) refl refl refl;
             next-same = λ u. refl;
             status-here = getD-set-other (set (st .status) t ended) v t ready 0 (λ e. was .0 (sym e)) ∙ getD-set-same (st .status) t ended 0 (omega arith);
             status-other = λ u o. at u o (ℕ-discrete u v);
@@ -103,7 +105,7 @@ module _ (T : Table) (w t a c : ℕ) (st : State) where
           at u o (no e) = inl (getD-set-other (set (st .status) t ended) v u ready 0 e ∙ getD-set-other (st .status) t u ended 0 o)
       go false q =
           record {
-            lets-go = freed w st mid i k refl refl (simp length-set) refl refl;
+            lets-go = freed w st mid i k refl refl (simp length-set) refl refl refl;
             next-same = λ u. refl;
             status-here = getD-set-same (st .status) t ended 0 (omega arith);
             status-other = λ u o. inl (getD-set-other (st .status) t u ended 0 o);
@@ -250,6 +252,25 @@ module _ (T : Table) (l : Lawful T) (p K : ℕ) (w t a : ℕ) (st : State) (f : 
       go (yes e) = omega (arith, m .parent u (joins u h (f .wait-join u h r) e) n r (f .wait-join u h r) e)
       go (no e) = f .wait-open u h r (back ended (λ i. omega arith) (T .argument (nextOf st u)) e (rw (m .next-same) at o))
 
+  -- ---- what the threads hold
+
+  -- "an ended one's [next action] remains its end": it is the last that the thread does
+  end-progressed : Progressed T t st st'
+  unfolding progressIn
+  end-progressed =
+      record {
+        here =
+            rw (eq-eqb (statusOf st' t) ended (m .status-here), ne-eqb (statusOf st t) ended (λ q. omega (arith, x .taken)))
+            (omega (arith, x .next, last, after-end T (l .contents) t (x .thread), count-pos T (l .contents) t (x .thread)));
+        there = λ u n. rw (m .next-same u, eqb-same (statusOf st' u) (statusOf st u) ended (back ended (λ i. omega arith) u n) (forth ended (λ i. omega arith) u n));
+      }
+
+  end-shared : Shared T (st' .next) (st' .status) (st' .amounts)
+  unfolding is codeOf allocOf freeOf
+  end-shared =
+      rw (m .lets-go .amounts)
+      (shared-same T l p K st f t a (x .thread) (x .next) (λ q. omega (arith, x .taken)) st' ended-does end-progressed (rw k) (rw k) (rw k))
+
   ended-facts : Facts T p K st'
   unfolding is codeOf allocOf freeOf
   ended-facts =
@@ -275,6 +296,7 @@ module _ (T : Table) (l : Lawful T) (p K : ℕ) (w t a : ℕ) (st : State) (f : 
             released-holding T p K w t a st f x st' (m .lets-go) (λ q. omega (arith, m .status-here)) (back held (λ i. omega arith)) (forth held (λ i. omega arith));
         amount = does-amount T l p K st f a (x .action) st' ended-does (rw (k, m .lets-go .amount));
         above = rw (m .lets-go .amount, m .lets-go .most) (f .above);
+        shared = end-shared;
         unused-status = λ u h i. forth unborn (λ j. omega arith) u (λ j. omega (arith, x .thread)) (f .unused-status u h i);
         unused-next = λ u h i. m .next-same u ∙ f .unused-next u h i;
       }

@@ -16,6 +16,7 @@ use Rattle.schedule.specs.declared.Worker.{Worker}
 use Rattle.schedule.specs.Machine.{State, unborn, held, waiting, ended, nextOf, statusOf, workerOf, nobody}
 use Rattle.schedule.specs.Sound.{numberOf, isDone, holdsThread, sumDone, SoundState}
 use Rattle.schedule.proofs.Lawful.{Lawful}
+use Rattle.schedule.proofs.Sharing.{Shared, shares-exactly}
 use Rattle.schedule.proofs.Words.{not-both, never-true, allIn-exactly, One, Ascends}
 use Rattle.schedule.proofs.Clauses.{nextInBody-exactly, inOrder-exactly, statusFollows-exactly, listFollows-exactly, inSerialOrder-exactly, waitsAtJoin-exactly}
 use Rattle.schedule.proofs.Clauses.{heldRight-exactly, unused-exactly, holdsThread-exactly, oneHolder-exactly, workerRight-exactly}
@@ -63,6 +64,7 @@ pub record Facts (T : Table) (p K : ℕ) (st : State) : Type 0 where
   -- amounts
   pub amount : st .held + sumDone T st (freeOf T) ≡ sumDone T st (allocOf T)
   pub above : st .held ≤ st .highest
+  pub shared : Shared T (st .next) (st .status) (st .amounts)
   -- threads from n on
   pub unused-status : (t : ℕ) → T .threads ≤ t → t < 1024 → statusOf st t ≡ unborn
   pub unused-next : (t : ℕ) → T .threads ≤ t → t < 1024 → nextOf st t ≡ 0
@@ -101,6 +103,7 @@ module _ (T : Table) (l : Lawful T) (p K : ℕ) (st : State) where
             };
         amount = heldRight-exactly T (st .next) (st .status) (st .held) .0 (s .common .held-right);
         above = s .common .above;
+        shared = shares-exactly T (l .few-threads) (st .next) (st .status) (st .amounts) .0 (s .common .shares);
         unused-status = λ t h k. unused-exactly (st .next) (st .status) t .0 (s .common .unused-threads t h k) .0;
         unused-next = λ t h k. unused-exactly (st .next) (st .status) t .0 (s .common .unused-threads t h k) .1;
       }
@@ -167,6 +170,7 @@ module _ (T : Table) (l : Lawful T) (p K : ℕ) (st : State) where
                     f .holding .free-worker w h,
                   );
               held-right = heldRight-exactly T (st .next) (st .status) (st .held) .1 (f .amount);
+              shares = shares-exactly T (l .few-threads) (st .next) (st .status) (st .amounts) .1 (f .shared);
               above = f .above;
               unused-threads = λ t h k. unused-exactly (st .next) (st .status) t .1 (f .unused-status t h k, f .unused-next t h k);
             };

@@ -8,6 +8,7 @@ use native.Mathlib.Decide.{ℕ-discrete, decLt}
 use native.Mathlib.Omega.{arith}
 use lib.ListN.{length, set, length-set}
 use lib.Seq.{getD-set-same, getD-set-other}
+use lib.Dec.{eqb}
 use Rattle.table.specs.Format.{fork, join, codeOf, is, Table, kind}
 use Rattle.table.specs.Rules.{owner, endOf, allocOf, freeOf}
 use Rattle.table.specs.Level.{forkBelow, dependsOn}
@@ -19,10 +20,12 @@ use Rattle.schedule.specs.Sound.{numberOf, isDone}
 use Rattle.schedule.proofs.Lawful.{Lawful}
 use Rattle.schedule.proofs.Words.{Ascends, eqb-same}
 use Rattle.schedule.proofs.Numbers.{number-once, number-child, number-past}
+use Rattle.schedule.proofs.Sharing.{Shared}
 use Rattle.schedule.proofs.Facts.{Done, Facts}
 use Rattle.schedule.proofs.ListMoves.{leftOf-new, leftOf-old, leftOf-cases, ascends-leftOf}
 use Rattle.schedule.proofs.Done.{owner-of-next, next-below, unborn-first, undone-unborn, between-unborn, number-first}
 use Rattle.schedule.proofs.Does.{Does, over-does, does-ordered, does-amount, does-fork}
+use Rattle.schedule.proofs.ShareMoves.{over-progressed, shared-same}
 use Rattle.schedule.proofs.Releases.{Acting, acting-depends, LetsGo, freed, released-holding}
 
 -- ---- the state after a fork, place by place
@@ -42,7 +45,7 @@ module _ (T : Table) (w t a c : ℕ) (st : State) where
   unfolding actBy
   forked n s k i j h e =
       record {
-        lets-go = freed w st (actBy fork T w t a c st .state) i k refl (simp length-set) (simp length-set) refl refl;
+        lets-go = freed w st (actBy fork T w t a c st .state) i k refl (simp length-set) (simp length-set) refl refl refl;
         next-here = getD-set-same (st .next) t (suc (nextOf st t)) 0 (omega arith) ∙ rw e;
         next-other = λ u o. getD-set-other (st .next) t u (suc (nextOf st t)) 0 o;
         status-here = getD-set-other (set (st .status) t ready) c t ready 0 (λ q. omega arith) ∙ getD-set-same (st .status) t ready 0 (omega arith);
@@ -89,11 +92,13 @@ module _ (T : Table) (l : Lawful T) (p K : ℕ) (w t a c : ℕ) (st : State) (f 
   forth : (s : ℕ) → (s ≡ held → ⊥) → (s ≡ unborn → ⊥) → (u : ℕ) → statusOf st u ≡ s → statusOf st' u ≡ s
   forth s n o u q = m .status-other u (λ i. n (sym q ∙ rw i (x .taken))) (λ i. o (sym q ∙ rw i child-unborn)) ∙ q
 
+  -- the same threads have ended
+  ends : (u : ℕ) → eqb (statusOf st' u) ended ≡ eqb (statusOf st u) ended
+  ends u = eqb-same (statusOf st' u) (statusOf st u) ended (λ q. back ended (λ i. omega arith) u q .2) (forth ended (λ i. omega arith) (λ i. omega arith) u)
+
   does : Does T a st st'
   does =
-      over-does T st st' t a (x .owned) (x .next) (λ q. omega (arith, x .taken))
-      (λ u. eqb-same (statusOf st' u) (statusOf st u) ended (λ q. back ended (λ i. omega arith) u q .2) (forth ended (λ i. omega arith) (λ i. omega arith) u))
-      (m .next-here) (m .next-other)
+      over-does T st st' t a (x .owned) (x .next) (λ q. omega (arith, x .taken)) ends (m .next-here) (m .next-other)
 
   fork-low : (u : ℕ) → u < T .threads → T .first u ≤ nextOf st' u
   fork-low u h = go (ℕ-discrete u t)
@@ -237,6 +242,18 @@ module _ (T : Table) (l : Lawful T) (p K : ℕ) (w t a c : ℕ) (st : State) (f 
       let (i, j, r) = back waiting (λ i. omega arith) u q in
       f .wait-open u h r (rw (m .next-other u i) at (back ended (λ i. omega arith) (T .argument (nextOf st' u)) o .2))
 
+  -- ---- what the threads hold
+
+  fork-shared : Shared T (st' .next) (st' .status) (st' .amounts)
+  unfolding is codeOf allocOf freeOf
+  fork-shared =
+      rw (m .lets-go .amounts)
+      (shared-same T l p K st f t a (x .thread) (x .next) live st' does (over-progressed T p K st st' f t a (x .thread) (x .next) live ends (m .next-here) (m .next-other))
+      (rw k) (rw k) (rw k))
+    where
+      live : statusOf st t ≡ ended → ⊥
+      live q = omega (arith, x .taken)
+
   forked-facts : Facts T p K st'
   unfolding is codeOf allocOf freeOf
   forked-facts =
@@ -264,6 +281,7 @@ module _ (T : Table) (l : Lawful T) (p K : ℕ) (w t a c : ℕ) (st : State) (f 
             (λ u n q. m .status-other u n (λ i. omega (arith, child-unborn, rw i at q)) ∙ q);
         amount = does-amount T l p K st f a (x .action) st' does (rw (k, m .lets-go .amount));
         above = rw (m .lets-go .amount, m .lets-go .most) (f .above);
+        shared = fork-shared;
         unused-status = λ u h i. m .status-other u (λ j. omega (arith, x .thread)) (λ j. omega (arith, child)) ∙ f .unused-status u h i;
         unused-next = λ u h i. m .next-other u (λ j. omega (arith, x .thread)) ∙ f .unused-next u h i;
       }

@@ -4,15 +4,16 @@ use Prim.Native.Nat.{ℕ, zero, suc, _+_, _≤_, _<_}
 use mathlib.Core.Bool.{Bool, true, false}
 use lib.Dec.{eqb}
 use native.Mathlib.Omega.{arith}
-use borrow.Author.Tests.{eqb-true}
+use native.Mathlib.Decide.{ℕ-discrete}
+use borrow.Author.Tests.{eqb-true, eq-eqb, ne-eqb}
 use Rattle.table.specs.Sum.{pick, sumTo, sumOver}
 use Rattle.table.specs.Format.{Kind, end, fork, join, codeOf, is, Table, kind}
 use Rattle.table.specs.Rules.{openBefore, owner, endOf}
 use Rattle.table.specs.Accepted.{ContentRules, BodyRules, NestRules, ForkRules}
 use Rattle.table.proofs.Tests.{no-way, is-true, same-is, fork-no-end}
-use Rattle.table.proofs.Sums.{sumTo-zero}
+use Rattle.table.proofs.Sums.{sumTo-zero, sumTo-one}
 use Rattle.table.proofs.Nesting.{open-end, open-fork, open-join, open-same, fork-once, fork-exists}
-use Rattle.schedule.proofs.Totals.{one}
+use Rattle.schedule.proofs.Totals.{one, sumTo-term}
 use mathlib.Core.List.{List·Memᴰ, List·Memᴰ·head, List·Memᴰ·tail, List·Memᴰ·not-nil, List·Memᴰ·cases-cons, Memᴰ·append-right}
 use mathlib.Core.Logic.{_⊎_, inl, inr}
 use Rattle.table.specs.Level.{beforeIt, joinedEnd, dependsOn}
@@ -72,6 +73,29 @@ module _ (T : Table) (c : ContentRules T) (b : BodyRules T) (n : NestRules T) wh
   -- and so at most one joins it
   pub joins-one : (d : ℕ) → weightOf T join (one d) (T .actions) ≤ 1
   joins-one d = omega (arith, forked-weight (one d) (T .actions) (omega arith), forks-one d (T .actions) (omega arith))
+
+  pub join-once : (i j : ℕ) → i < T .actions → j < T .actions → kind T i ≡ join → kind T j ≡ join → T .argument i ≡ T .argument j → i ≡ j
+  join-once i j hi hj ki kj e = go (ℕ-discrete j i)
+    where
+      joins : ℕ → ℕ
+      joins x = pick (is join (kind T x)) (one (T .argument i) (T .argument x)) 0
+
+      others : ℕ → ℕ
+      others x = pick (eqb x i) 0 (joins x)
+
+      go : Dec (j ≡ i) → i ≡ j
+      go (yes q) = sym q
+      go (no q) =
+          let first : joins i ≡ 1 = rw (same-is join (kind T i) ki, eq-eqb (T .argument i) (T .argument i) refl) in
+          let apart : others i ≡ 0 = rw (eq-eqb i i refl) in
+          let second : others j ≡ 1 = rw (ne-eqb j i q, same-is join (kind T j) kj, eq-eqb (T .argument j) (T .argument i) (sym e)) in
+          absurd
+          (omega (
+            arith,
+            joins-one (T .argument i),
+            sumTo-one joins others i (T .actions) hi (λ x h n. rw (ne-eqb x i n)),
+            sumTo-term others j (T .actions) hj,
+          ))
 
 -- ---- every thread is joined
 

@@ -12,6 +12,8 @@ pub mod Totals
 pub mod CountBelow
 -- what is sound
 pub mod Clauses
+pub mod Balances
+pub mod Sharing
 pub mod Facts
 pub mod Tests
 pub mod Done
@@ -21,6 +23,7 @@ pub mod Soundness
 -- turns keep it
 pub mod Starts
 pub mod Does
+pub mod ShareMoves
 pub mod Advances
 pub mod Holders
 pub mod Releases
@@ -33,6 +36,7 @@ pub mod Turns
 pub mod Replies
 pub mod Rows
 pub mod Stores
+pub mod ThreadMemory
 pub mod Histories
 pub mod Beginnings
 pub mod Values

@@ -17,6 +17,8 @@ use Rattle.schedule.specs.Sound.{isDone, doneIn, ofDone, sumDone}
 use Rattle.schedule.proofs.Lawful.{Lawful}
 use Rattle.schedule.proofs.Facts.{Holding, Facts}
 use Rattle.schedule.proofs.Lists.{set-each}
+use Rattle.schedule.proofs.Sharing.{shared-alike}
+use Rattle.schedule.proofs.ShareMoves.{share-alike}
 use Rattle.schedule.proofs.Holders.{rehung}
 use Rattle.schedule.proofs.Releases.{Acting, freed, released-holding}
 
@@ -45,6 +47,7 @@ counted-facts T p K st f =
       holding = f .holding;
       amount = f .amount;
       above = f .above;
+      shared = f .shared;
       unused-status = f .unused-status;
       unused-next = f .unused-next;
     }
@@ -125,6 +128,8 @@ module _ (T : Table) (l : Lawful T) (p K : ℕ) (st : State) (f : Facts T p K st
         holding = k;
         amount = cc (restated-sum (freeOf T), restated-sum (allocOf T), f .amount);
         above = f .above;
+        shared =
+            shared-alike T (st .next) (st .status) _ _ (st .amounts) (f .shared) (λ u h. share-alike T st (restated w v t x st) (λ u. refl) same-ended u);
         unused-status = λ u h i. still-unborn u (f .unused-status u h i);
         unused-next = f .unused-next;
       }
@@ -167,7 +172,7 @@ module _ (T : Table) (l : Lawful T) (p K : ℕ) (w t a : ℕ) (st : State) (f : 
       let here : statusOf (released w t y st) t ≡ y = getD-set-same (st .status) t y 0 (omega (arith, f .status-size, l .few-threads, x .thread)) in
       restated-facts T l p K st f w t y nobody (x .thread) (omega (arith, x .taken), omega (arith, x .taken)) b
       (released-holding T p K w t a st f x (released w t y st)
-      (freed w st (released w t y st) (x .worker) (f .holding .worker-size) refl refl (length-set (st .status) t y) refl refl)
+      (freed w st (released w t y st) (x .worker) (f .holding .worker-size) refl refl (length-set (st .status) t y) refl refl refl)
       (λ e. n (cc))
       (λ u d. rw (getD-set-other (st .status) t u y 0 d) (λ e. e))
       (λ u d. rw (getD-set-other (st .status) t u y 0 d) (λ e. e)))

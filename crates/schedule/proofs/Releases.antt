@@ -65,10 +65,12 @@ pub record LetsGo (w : ℕ) (st st' : State) : Type 0 where
   pub workers : length (st' .workers) ≡ length (st .workers)
   pub amount : st' .held ≡ st .held
   pub most : st' .highest ≡ st .highest
+  pub amounts : st' .amounts ≡ st .amounts
 
 pub freed : (w : ℕ) (st st' : State) → w < 16 → length (st .workers) ≡ 16 → st' .workers ≡ set (st .workers) w nobody
-    → length (st' .next) ≡ length (st .next) → length (st' .status) ≡ length (st .status) → st' .held ≡ st .held → st' .highest ≡ st .highest → LetsGo w st st'
-freed w st st' i k e n s a h =
+    → length (st' .next) ≡ length (st .next) → length (st' .status) ≡ length (st .status) → st' .held ≡ st .held → st' .highest ≡ st .highest → st' .amounts ≡ st .amounts
+    → LetsGo w st st'
+freed w st st' i k e n s a h m =
     record {
       gone = rw e (getD-set-same (st .workers) w nobody nobody (omega arith));
       others = λ v o. rw e (getD-set-other (st .workers) w v nobody nobody o);
@@ -77,6 +79,7 @@ freed w st st' i k e n s a h =
       workers = rw e (length-set (st .workers) w nobody);
       amount = a;
       most = h;
+      amounts = m;
     }
 
 -- a worker that acts, released: its thread is held no more, the other held threads are

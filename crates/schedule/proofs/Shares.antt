@@ -8,7 +8,7 @@ use native.Mathlib.Omega.{arith}
 use native.Mathlib.Decide.{ℕ-discrete, decLt}
 use borrow.Author.Tests.{lt-ltb, le-ltb, eqb-true, eq-eqb, ne-eqb}
 use Rattle.table.specs.Sum.{pick, sumTo, anyBelow}
-use Rattle.table.specs.Format.{free, join, codeOf, is, Table, kind}
+use Rattle.table.specs.Format.{free, join, is, Table, kind}
 use Rattle.table.specs.Rules.{owner, endOf, countsBelow, allocOf, freeOf, withChild, whole, partOf}
 use Rattle.table.specs.Level.{dependsOn}
 use Rattle.table.proofs.Tests.{and-both, is-true}
@@ -18,24 +18,13 @@ use Rattle.table.proofs.Nesting.{anyBelow-true}
 use Rattle.table.proofs.Amounts.{whole-is}
 use Rattle.table.proofs.Peaks.{part-held}
 use Rattle.schedule.specs.Machine.{State, ended, nextOf, statusOf}
-use Rattle.schedule.specs.Sound.{isDone, ofDone, sumDone}
+use Rattle.schedule.specs.Sound.{progressIn, joinedIn, shareIn, balanceTo, isDone, ofDone, sumDone, progress, isJoined, share}
 use Rattle.schedule.proofs.Lawful.{Lawful}
 use Rattle.schedule.proofs.Facts.{Facts}
 use Rattle.schedule.proofs.Done.{done-low, undone, done-ended, ended-all}
 use Rattle.schedule.proofs.Totals.{sumTo-term, sumTo-add, sumTo-append, sumTo-front, sum-targets}
 use Rattle.schedule.proofs.Joins.{joins-one, join-depends}
-
--- how many actions of thread t are done
-unfoldable pub progress : Table → State → ℕ → ℕ
-progress T st t = pick (eqb (statusOf st t) ended) (T .count t) (nextOf st t - T .first t)
-
--- a join of thread t is done
-unfoldable pub isJoined : Table → State → ℕ → Bool
-isJoined T st t = anyBelow (λ a. is join (kind T a) && (eqb (T .argument a) t && isDone T st a)) (T .actions)
-
--- what thread t holds: its balance so far, 0 once it is joined
-unfoldable pub share : Table → State → ℕ → ℕ
-share T st t = pick (isJoined T st t) 0 (partOf T (allocOf T) t (progress T st t) - partOf T (freeOf T) t (progress T st t))
+use Rattle.schedule.proofs.Balances.{balance-free}
 
 pick-add : (s : Bool) (x y : ℕ) → pick s x 0 + pick s y 0 ≡ pick s (x + y) 0
 pick-add true x y = refl
@@ -49,11 +38,11 @@ module _ (T : Table) (l : Lawful T) (p K : ℕ) (st : State) (f : Facts T p K st
   -- ---- progress
 
   pub progress-ended : (t : ℕ) → statusOf st t ≡ ended → progress T st t ≡ T .count t
-  unfolding progress
+  unfolding progressIn
   progress-ended t e = rw (eq-eqb (statusOf st t) ended e)
 
   pub progress-next : (t : ℕ) → t < T .threads → (statusOf st t ≡ ended → ⊥) → T .first t + progress T st t ≡ nextOf st t
-  unfolding progress
+  unfolding progressIn
   progress-next t h e = rw (ne-eqb (statusOf st t) ended e) (omega (arith, f .next-low t h))
 
   pub progress-within : (t : ℕ) → t < T .threads → progress T st t ≤ T .count t
@@ -82,7 +71,7 @@ module _ (T : Table) (l : Lawful T) (p K : ℕ) (st : State) (f : Facts T p K st
 
   -- a joined thread has ended: its join depends on its end
   pub joined-ended : (t : ℕ) → t < T .threads → isJoined T st t ≡ true → statusOf st t ≡ ended
-  unfolding isJoined
+  unfolding joinedIn
   joined-ended t h j =
       let (a, w, x) = anyBelow-true (λ a. is join (kind T a) && (eqb (T .argument a) t && isDone T st a)) (T .actions) j in
       let (k, y) = and-both (is join (kind T a)) (eqb (T .argument a) t && isDone T st a) x in
@@ -110,7 +99,7 @@ module _ (T : Table) (l : Lawful T) (p K : ℕ) (st : State) (f : Facts T p K st
 
   -- Each thread's amount so far, its joined children's whole amounts with it, counts until the thread is joined and so counts in its parent's: together they are what was done.
   pub parts-sum : (own : ℕ → ℕ) → sumTo (λ t. pick (isJoined T st t) 0 (partOf T own t (progress T st t))) (T .threads) ≡ sumDone T st own
-  unfolding isJoined
+  unfolding joinedIn
   parts-sum own =
       omega (
         arith,
@@ -143,7 +132,7 @@ module _ (T : Table) (l : Lawful T) (p K : ℕ) (st : State) (f : Facts T p K st
   frees-within t h = part-held T (l .contents) (l .bodies) (l .nesting) (l .balances) t (progress T st t) h (progress-within t h)
 
   pub held-shares : st .held ≡ sumTo (share T st) (T .threads)
-  unfolding share
+  unfolding shareIn
   held-shares =
       omega (
         arith,
@@ -156,16 +145,21 @@ module _ (T : Table) (l : Lawful T) (p K : ℕ) (st : State) (f : Facts T p K st
       unjoined : (ℕ → ℕ) → ℕ → ℕ
       unjoined own t = pick (isJoined T st t) 0 (partOf T own t (progress T st t))
 
-  -- "a free never takes more than is held"
-  pub free-held : (t : ℕ) → t < T .threads → (statusOf st t ≡ ended → ⊥) → kind T (nextOf st t) ≡ free → T .argument (nextOf st t) ≤ st .held
-  unfolding share sumTo allocOf freeOf is codeOf
-  free-held t h e k = rw held-shares (omega (arith, sumTo-term (share T st) t (T .threads) h, go (isJoined T st t) refl))
+  -- a free takes at most what its thread holds
+  pub free-share : (t : ℕ) → t < T .threads → (statusOf st t ≡ ended → ⊥) → kind T (nextOf st t) ≡ free → T .argument (nextOf st t) ≤ share T st t
+  unfolding shareIn
+  free-share t h e k = go (isJoined T st t) refl
     where
-      go : (j : Bool) → isJoined T st t ≡ j → T .argument (nextOf st t) ≤ pick j 0 (partOf T (allocOf T) t (progress T st t) - partOf T (freeOf T) t (progress T st t))
+      go : (j : Bool) → isJoined T st t ≡ j → T .argument (nextOf st t) ≤ pick j 0 (balanceTo T t (progress T st t))
       go true q = absurd (e (joined-ended t h q))
       go false q =
-          let i : ℕ = progress T st t in
-          let at : T .first t + i ≡ nextOf st t = progress-next t h e in
-          let m : partOf T (freeOf T) t (suc i) ≤ partOf T (allocOf T) t (suc i) =
-          part-held T (l .contents) (l .bodies) (l .nesting) (l .balances) t (suc i) h (omega (arith, f .next-high t h, after-end T (l .contents) t h)) in
-          omega (arith, rw (at, k) at m)
+          let at : T .first t + progress T st t ≡ nextOf st t = progress-next t h e in
+          rw at at (balance-free T l t h (progress T st t) (omega (arith, f .next-high t h, after-end T (l .contents) t h)) (rw at k))
+
+  -- no share is above what is held
+  pub share-held : (t : ℕ) → t < T .threads → share T st t ≤ st .held
+  share-held t h = rw held-shares (sumTo-term (share T st) t (T .threads) h)
+
+  -- "a free never takes more than is held"
+  pub free-held : (t : ℕ) → t < T .threads → (statusOf st t ≡ ended → ⊥) → kind T (nextOf st t) ≡ free → T .argument (nextOf st t) ≤ st .held
+  free-held t h e k = omega (arith, free-share t h e k, share-held t h)

@@ -15,12 +15,12 @@ use Rattle.table.specs.Rules.{endOf, allocOf}
 use Rattle.schedule.specs.declared.Run.{Run}
 use Rattle.schedule.specs.Machine.{unborn, ready, held, ended, nextOf, statusOf, workerOf}
 use Rattle.schedule.specs.Record.{stateOf, tableIn}
-use Rattle.schedule.specs.Sound.{Steady, member, countBelow, isDone, ofDone, numberOf}
+use Rattle.schedule.specs.Sound.{Steady, member, countBelow, isDone, ofDone, share, numberOf}
 use Rattle.schedule.specs.Turn.{rootEnded}
 use Rattle.schedule.proofs.Facts.{Facts}
 use Rattle.schedule.proofs.Words.{never-true, member-exactly}
 use Rattle.schedule.proofs.Done.{unborn-first as unborn-next}
-use Rattle.schedule.proofs.Shares.{share, held-shares, free-held}
+use Rattle.schedule.proofs.Shares.{held-shares, free-held}
 use Rattle.schedule.proofs.Stores.{steady-lawful, steady-fits, steady-facts}
 use Rattle.schedule.proofs.Leftmost.{leftmost-enabled}
 use Rattle.schedule.proofs.Totals.{sumTo-bound}

@@ -1,12 +1,13 @@
 -- The state at a beginning is sound.
-use mathlib.Core.Path.{_≡_, refl, ap, _∙_}
+use mathlib.Core.Path.{_≡_, refl, sym, ap, _∙_}
 use Prim.Native.Nat.{ℕ, zero, suc, _+_, _≤_, _<_}
 use native.Mathlib.Omega.{arith}
 use mathlib.Core.List.{List·Memᴰ, List·Memᴰ·not-nil, List·Memᴰ·head, List·Memᴰ·eq-of-singleton}
-use mathlib.Core.Bool.{true, false, and-false}
+use mathlib.Core.Bool.{Bool, true, false, and-false}
 use lib.ListN.{length, getD, set, replicate, length-set, length-replicate, List·getD-eq-default}
 use lib.Dec.{ltb, eqb}
 use borrow.Author.Tests.{le-ltb, ne-eqb}
+use Rattle.table.specs.Sum.{pick, sumTo}
 use Rattle.table.specs.Format.{Table}
 use Rattle.table.specs.Rules.{owner, allocOf, freeOf}
 use Rattle.table.specs.Level.{forkBelow}
@@ -15,11 +16,12 @@ use Rattle.table.proofs.Sums.{sumTo-zero}
 use Rattle.table.proofs.Bodies.{count-pos, after-end, owner-below, owner-first}
 use Rattle.table.proofs.Nesting.{fork-exists, fork-found}
 use Rattle.schedule.specs.declared.Worker.{Worker}
-use Rattle.schedule.specs.Machine.{unborn, ready, ended, nextOf, statusOf, workerOf, nobody}
+use Rattle.schedule.specs.Machine.{unborn, ready, ended, nextOf, statusOf, amountOf, workerOf, nobody}
 use Rattle.schedule.specs.Record.{maxThreads, maxWorkers}
 use Rattle.schedule.specs.Begin.{firsts, startState}
-use Rattle.schedule.specs.Sound.{numberOf, isDone, doneIn, sumDone, ofDone}
+use Rattle.schedule.specs.Sound.{numberOf, isDone, doneIn, sumDone, ofDone, progressIn, shareIn, progress, isJoined, share}
 use Rattle.schedule.proofs.Lawful.{Lawful}
+use Rattle.schedule.proofs.Sharing.{Shared}
 use Rattle.schedule.proofs.Facts.{Facts}
 use Rattle.schedule.proofs.Words.{Ascends}
 use Rattle.schedule.proofs.Lists.{getD-alike, filled-at, filled-length, firsts-length, firsts-at}
@@ -104,6 +106,31 @@ module _ (T : Table) (l : Lawful T) where
   unfolding startState
   start-held = (refl, refl)
 
+  -- nothing is held by any thread
+  start-progress : (t : ℕ) → t < T .threads → progress T (startState T) t ≡ 0
+  unfolding progressIn
+  start-progress t h = rw (ne-eqb (statusOf (startState T) t) ended (λ q. omega (arith, start-status t)), start-next t h) (omega arith)
+
+  start-share : (t : ℕ) → t < T .threads → share T (startState T) t ≡ 0
+  unfolding shareIn sumTo
+  start-share t h = rw (start-progress t h) (go (isJoined T (startState T) t))
+    where
+      go : (j : Bool) → _≡_ {A = ℕ} (pick j 0 0) 0
+      go true = refl
+      go false = refl
+
+  start-amounts : (length (startState T .amounts) ≡ 1024) × ((t : ℕ) → amountOf (startState T) t ≡ 0)
+  unfolding startState
+  start-amounts = (length-replicate {A = ℕ} maxThreads 0, λ t. getD-alike maxThreads t 0)
+
+  start-shared : Shared T (startState T .next) (startState T .status) (startState T .amounts)
+  start-shared =
+      record {
+        size = start-amounts .0;
+        each = λ t h. start-amounts .1 t ∙ sym (start-share t h);
+        rest = λ t h. start-amounts .1 t;
+      }
+
   free-start : (w : ℕ) → workerOf (startState T) w .holds ≡ true → ⊥
   free-start w e = let f : workerOf (startState T) w .holds ≡ false = ap (λ (x : Worker). x .holds) (start-worker w) in no-way (cc)
 
@@ -140,6 +167,7 @@ start-facts T l p K =
           };
       amount = omega (arith, start-none T l (freeOf T), start-none T l (allocOf T), start-held T l .0);
       above = omega (arith, start-held T l .0, start-held T l .1);
+      shared = start-shared T l;
       unused-status = λ t h i. start-unborn T l t (omega (arith, l .some-thread));
       unused-next = λ t h i. start-unused T l t h;
     }

@@ -17,7 +17,7 @@ use Rattle.schedule.specs.declared.Worker.{Worker}
 use Rattle.schedule.specs.declared.Run.{Run}
 use Rattle.schedule.specs.Machine.{nobody}
 use Rattle.schedule.specs.Record.{blank, bytesOf}
-use Rattle.schedule.specs.Sound.{allBelow, nextInBody, inOrder, statusFollows, listFollows, waitsAtJoin, oneHolder, workerRight, unused}
+use Rattle.schedule.specs.Sound.{allBelow, nextInBody, inOrder, statusFollows, listFollows, waitsAtJoin, oneHolder, workerRight, unused, sharesIn}
 use Rattle.schedule.specs.Sound.{Common, Listed, Sound, common, listed, commonSound, sound}
 use Rattle.schedule.specs.Turn.{isNobody, isBlank}
 use Rattle.schedule.proofs.Words.{and-of, or-exactly, eqb-exactly, leb-exactly, ltb-exactly, allBelow-exactly, sameList-exactly, isNothing-exactly}
@@ -45,10 +45,10 @@ unused-from n next status k =
     by-place t h true e = inl e
     by-place t h false e = inr (h (ltb-false t n e))
 
-pub common-exactly : (T : Table) (p K : ℕ) (next status : List ℕ) (workers : List Worker) (amount highest : ℕ)
-    → (common T p K next status workers amount highest ≡ true) ↔ Common T p K next status workers amount highest
+pub common-exactly : (T : Table) (p K : ℕ) (next status amounts : List ℕ) (workers : List Worker) (amount highest : ℕ)
+    → (common T p K next status amounts workers amount highest ≡ true) ↔ Common T p K next status amounts workers amount highest
 unfolding common
-common-exactly T p K next status workers amount highest =
+common-exactly T p K next status amounts workers amount highest =
     Iff·trans
     (and-of (eqb-exactly (length next) 1024)
     (and-of (eqb-exactly (length status) 1024)
@@ -61,8 +61,9 @@ common-exactly T p K next status workers amount highest =
     (and-of (allBelow-exactly (oneHolder status workers) (T .threads))
     (and-of (allBelow-exactly (workerRight (T .threads) p K workers) 16)
     (and-of Iff·rfl
-    (leb-exactly amount highest)))))))))))) (
-      (λ (a, (b, (c, (d, (e, (f, (g, (h, (i, (j, (k, l))))))))))).
+    (and-of (sameList-exactly amounts (sharesIn T next status))
+    (leb-exactly amount highest))))))))))))) (
+      (λ (a, (b, (c, (d, (e, (f, (g, (h, (i, (j, (k, (m, l)))))))))))).
           record {
             next-size = a;
             status-size = b;
@@ -75,12 +76,13 @@ common-exactly T p K next status workers amount highest =
             holders = i;
             worker-each = j;
             held-right = k;
+            shares = m;
             above = l;
           }),
       (λ s.
           pair (s .next-size) (pair (s .status-size) (pair (s .worker-size) (pair (s .placed) (pair (s .ordered)
           (pair (s .statuses) (pair (s .waits) (pair (s .unused-threads) (pair (s .holders) (pair (s .worker-each)
-          (pair (s .held-right) (s .above)))))))))))),
+          (pair (s .held-right) (pair (s .shares) (s .above))))))))))))),
     )
 
 pub listed-exactly : (T : Table) (next status list : List ℕ) → (listed T next status list ≡ true) ↔ Listed T next status list
@@ -99,7 +101,7 @@ sound-exactly r =
     Iff·trans
     (and-of
     (and-of (Iff·trans (isNothing-exactly (firstFound (passes (bytesOf r)))) (passes-rules (bytesOf r)))
-    (and-of (isNothing-exactly _) (and-of (common-exactly _ _ _ _ _ _ _ _) (eqb-exactly _ _))))
+    (and-of (isNothing-exactly _) (and-of (common-exactly _ _ _ _ _ _ _ _ _) (eqb-exactly _ _))))
     (and-of (listed-exactly _ _ _ _)
     (and-of (eqb-exactly _ _)
     (and-of (eqb-exactly _ _)
@@ -172,6 +174,7 @@ blank-exactly r =
     (and-of (zero-of (r .quota) (blank .quota) (blank-zeros .quota))
     (and-of (sameList-exactly (r .next) (blank .next))
     (and-of (sameList-exactly (r .status) (blank .status))
+    (and-of (sameList-exactly (r .amounts) (blank .amounts))
     (and-of (sameList-exactly (r .list) (blank .list))
     (and-of (zero-of (r .listed) (blank .listed) (blank-zeros .listed))
     (and-of (eqb-exactly (length (r .worker)) 16)
@@ -179,8 +182,8 @@ blank-exactly r =
     (and-of (zero-of (r .busy) (blank .busy) (blank-zeros .busy))
     (and-of (zero-of (r .held) (blank .held) (blank-zeros .held))
     (and-of (zero-of (r .highest) (blank .highest) (blank-zeros .highest))
-    (zero-of (r .turns) (blank .turns) (blank-zeros .turns))))))))))))))) (
-      (λ (a, (b, (c, (d, (e, (f, (g, (h, (i, (j, (k, (l, (m, n))))))))))))).
+    (zero-of (r .turns) (blank .turns) (blank-zeros .turns)))))))))))))))) (
+      (λ (a, (b, (c, (d, (e, (f, (q, (g, (h, (i, (j, (k, (l, (m, n)))))))))))))).
           let o : r .worker ≡ blank .worker = workers-exactly (r .worker) .0 (i, j) in
           λ x.
           record {
@@ -190,6 +193,7 @@ blank-exactly r =
             quota = d x;
             next = e x;
             status = f x;
+            amounts = q x;
             list = g x;
             listed = h x;
             worker = o x;
@@ -200,5 +204,5 @@ blank-exactly r =
           }),
       (λ e.
           let o : (length (r .worker) ≡ 16) × ((w : ℕ) → w < 16 → isNobody (getD (r .worker) w nobody) ≡ true) = workers-exactly (r .worker) .1 cc in
-          (cc, (cc, (cc, (cc, (cc, (cc, (cc, (cc, (o .0, (o .1, (cc, (cc, (cc, cc)))))))))))))),
+          (cc, (cc, (cc, (cc, (cc, (cc, (cc, (cc, (cc, (o .0, (o .1, (cc, (cc, (cc, cc))))))))))))))),
     )

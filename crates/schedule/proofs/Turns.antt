@@ -24,7 +24,7 @@ use Rattle.schedule.proofs.Releases.{Acting, acting, acting-alone}
 use Rattle.schedule.proofs.Ends.{end-facts}
 use Rattle.schedule.proofs.Forks.{fork-facts}
 use Rattle.schedule.proofs.Moves.{counted-facts, taken-facts, released-facts}
-use Rattle.schedule.proofs.Advances.{Goes, gone-facts}
+use Rattle.schedule.proofs.Advances.{Goes, gone-facts, work-shared, alloc-shared, free-shared, join-shared}
 
 -- ---- the leftmost ready thread
 
@@ -67,7 +67,9 @@ module _ (T : Table) (l : Lawful T) (p K : ℕ) (w t a : ℕ) (below : w < p) (s
 
   work-facts : kind T a ≡ work → Facts T p K (actBy work T w t a (T .argument a) st .state)
   unfolding actBy is codeOf allocOf freeOf
-  work-facts e = gone-facts T l p K st f t a (goes (rw e) (rw e) (λ j. no-way cc)) (st .workers) (st .held) (st .highest) (f .holding) (rw e) (f .above)
+  work-facts e =
+      let o : Goes T st t a = goes (rw e) (rw e) (λ j. no-way cc) in
+      gone-facts T l p K st f t a o (st .workers) (st .amounts) (st .held) (st .highest) (f .holding) (work-shared T l p K st f t a o (rw e) (rw e) (rw e)) (rw e) (f .above)
 
   free-facts : kind T a ≡ free → Facts T p K (actBy free T w t a (T .argument a) st .state)
   unfolding actBy is codeOf allocOf freeOf
@@ -76,7 +78,7 @@ module _ (T : Table) (l : Lawful T) (p K : ℕ) (w t a : ℕ) (below : w < p) (s
       let g : ℕ = max (st .highest) h in
       let o : Goes T st t a = goes (rw e) (rw e) (λ j. no-way cc) in
       let i : T .argument (nextOf st t) ≤ st .held = free-held T l p K st f t (o .below) (λ s. omega (arith, o .status)) (rw (x .next) e) in
-      gone-facts T l p K st f t a o (st .workers) h g (f .holding) (rw e (omega (arith, rw (x .next) at i))) (le-max-right (st .highest) h)
+      gone-facts T l p K st f t a o (st .workers) _ h g (f .holding) (free-shared T l p K st f t a o e) (rw e (omega (arith, rw (x .next) at i))) (le-max-right (st .highest) h)
 
   -- an alloc leaves less of the quota
   spent : (q : ℕ) → q ≤ K → Holding T p K (st .status) (set (st .workers) w (record { holds = true; thread = t; quota = q }))
@@ -105,16 +107,18 @@ module _ (T : Table) (l : Lawful T) (p K : ℕ) (w t a : ℕ) (below : w < p) (s
       let h : ℕ = st .held + T .argument a in
       let g : ℕ = max (st .highest) h in
       let b : workerOf st w .quota ≤ K = f .holding .holder-quota w (x .worker) (x .holds) in
+      let o : Goes T st t a = goes (rw e) (rw e) (λ j. no-way cc) in
       either (λ (s : Stepped). Facts T p K (s .state)) (leb (T .argument a) (workerOf st w .quota)) _ _
-      (λ i. gone-facts T l p K st f t a (goes (rw e) (rw e) (λ j. no-way cc)) _ h g (spent q (omega arith)) (rw e (omega arith)) (le-max-right (st .highest) h))
+      (λ i. gone-facts T l p K st f t a o _ _ h g (spent q (omega arith)) (alloc-shared T l p K st f t a o e) (rw e (omega arith)) (le-max-right (st .highest) h))
       (λ i. released-facts T l p K w t a st f x ready (omega arith, omega arith) (λ r. no-way cc) (λ r. no-way cc))
 
   join-facts : kind T a ≡ join → Facts T p K (actBy join T w t a (T .argument a) st .state)
   unfolding actBy is codeOf allocOf freeOf
   join-facts e =
       either (λ (s : Stepped). Facts T p K (s .state)) (eqb (statusOf st (T .argument a)) ended) _ _
-      (λ i. gone-facts T l p K st f t a (goes (rw e) (rw e) (λ j. eqb-true (statusOf st (T .argument a)) ended i)) (st .workers) (st .held) (st .highest)
-      (f .holding) (rw e) (f .above))
+      (λ i.
+      let o : Goes T st t a = goes (rw e) (rw e) (λ j. eqb-true (statusOf st (T .argument a)) ended i) in
+      gone-facts T l p K st f t a o (st .workers) _ (st .held) (st .highest) (f .holding) (join-shared T l p K st f t a o e) (rw e) (f .above))
       (λ i. released-facts T l p K w t a st f x waiting (omega arith, omega arith) (λ r. no-way cc)
       (λ r. rw (x .next) (e, eqb-false (statusOf st (T .argument a)) ended i)))
 

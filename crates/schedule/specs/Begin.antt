@@ -40,6 +40,7 @@ startState T =
     record {
       next = filled maxThreads (firsts (T .first) 0 (T .threads));
       status = set (replicate maxThreads 0) 0 ready;
+      amounts = replicate maxThreads 0;
       list = 0 ∷ [];
       workers = replicate maxWorkers nobody;
       held = 0;
@@ -58,6 +59,7 @@ startRun s p K =
       quota = K;
       next = [];
       status = [];
+      amounts = [];
       list = [];
       listed = 0;
       worker = [];

@@ -13,4 +13,5 @@ pub mod Listing
 pub mod Cases
 pub mod TurnCases
 pub mod ThreadCases
+pub mod AmountCases
 pub mod Rule

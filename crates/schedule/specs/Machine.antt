@@ -30,10 +30,11 @@ waiting = 3
 abbrev pub ended : ℕ
 ended = 4
 
--- what turns move; the list has the threads in it alone
+-- what turns move; the list has the threads in it alone; `amounts` is "for each thread, the amount it holds" (N9)
 pub record State : Type 0 where
   pub next : List ℕ
   pub status : List ℕ
+  pub amounts : List ℕ
   pub list : List ℕ
   pub workers : List Worker
   pub held : ℕ
@@ -46,6 +47,9 @@ nextOf st t = getD (st .next) t 0
 abbrev pub statusOf : State → ℕ → ℕ
 statusOf st t = getD (st .status) t 0
 
+abbrev pub amountOf : State → ℕ → ℕ
+amountOf st t = getD (st .amounts) t 0
+
 -- a worker holding nothing: "thread and quota of a worker holding nothing, are 0"
 abbrev pub nobody : Worker
 nobody = record { holds = false; thread = 0; quota = 0 }
@@ -57,30 +61,39 @@ workerOf st w = getD (st .workers) w nobody
 
 abbrev pub withStatus : ℕ → ℕ → State → State
 withStatus t x st =
-    record { next = st .next; status = set (st .status) t x; list = st .list; workers = st .workers; held = st .held; highest = st .highest; turns = st .turns }
+    record { next = st .next; status = set (st .status) t x; amounts = st .amounts; list = st .list; workers = st .workers; held = st .held; highest = st .highest; turns = st .turns }
 
 abbrev pub withList : List ℕ → State → State
 withList l st =
-    record { next = st .next; status = st .status; list = l; workers = st .workers; held = st .held; highest = st .highest; turns = st .turns }
+    record { next = st .next; status = st .status; amounts = st .amounts; list = l; workers = st .workers; held = st .held; highest = st .highest; turns = st .turns }
 
 abbrev pub withWorker : ℕ → Worker → State → State
 withWorker w x st =
-    record { next = st .next; status = st .status; list = st .list; workers = set (st .workers) w x; held = st .held; highest = st .highest; turns = st .turns }
+    record { next = st .next; status = st .status; amounts = st .amounts; list = st .list; workers = set (st .workers) w x; held = st .held; highest = st .highest; turns = st .turns }
 
 -- the thread's next action is done
 abbrev pub advanced : ℕ → State → State
 advanced t st =
-    record { next = set (st .next) t (suc (nextOf st t)); status = st .status; list = st .list; workers = st .workers; held = st .held; highest = st .highest; turns = st .turns }
+    record { next = set (st .next) t (suc (nextOf st t)); status = st .status; amounts = st .amounts; list = st .list; workers = st .workers; held = st .held; highest = st .highest; turns = st .turns }
 
 -- "memory held, its highest so far"
 abbrev pub withHeld : ℕ → State → State
 withHeld h st =
-    record { next = st .next; status = st .status; list = st .list; workers = st .workers; held = h; highest = max (st .highest) h; turns = st .turns }
+    record { next = st .next; status = st .status; amounts = st .amounts; list = st .list; workers = st .workers; held = h; highest = max (st .highest) h; turns = st .turns }
+
+-- thread t holds x
+abbrev pub withAmount : ℕ → ℕ → State → State
+withAmount t x st =
+    record { next = st .next; status = st .status; amounts = set (st .amounts) t x; list = st .list; workers = st .workers; held = st .held; highest = st .highest; turns = st .turns }
+
+-- "a join moves the child's amount to its parent" (N9): thread t joins child c
+abbrev pub movedUp : ℕ → ℕ → State → State
+movedUp c t st = withAmount c 0 (withAmount t (amountOf st t + amountOf st c) st)
 
 -- "Every turn counts as one."
 abbrev pub counted : State → State
 counted st =
-    record { next = st .next; status = st .status; list = st .list; workers = st .workers; held = st .held; highest = st .highest; turns = suc (st .turns) }
+    record { next = st .next; status = st .status; amounts = st .amounts; list = st .list; workers = st .workers; held = st .held; highest = st .highest; turns = suc (st .turns) }
 
 -- "w is released", and its thread has the status given
 abbrev pub released : ℕ → ℕ → ℕ → State → State
@@ -126,14 +139,16 @@ actBy work T w t a x st = stepped (Done t a) (advanced t st)
 -- "alloc a: if a is within the quota left, done, and both amounts move by a; otherwise not done, the thread becomes ready in its place in the list and w is released"
 actBy alloc T w t a x st =
     pick (leb x (workerOf st w .quota))
-    (stepped (Done t a) (withHeld (st .held + x) (withWorker w (record { holds = true; thread = t; quota = workerOf st w .quota - x }) (advanced t st))))
+    (stepped (Done t a)
+    (withHeld (st .held + x) (withAmount t (amountOf st t + x) (withWorker w (record { holds = true; thread = t; quota = workerOf st w .quota - x }) (advanced t st)))))
     (stepped (Quota t x) (released w t ready st))
--- "free a: held falls by a, the quota doesn't rise"; of a sound record a free takes at most what is held (`free-within`, proofs/Soundness)
-actBy free T w t a x st = stepped (Done t a) (withHeld (st .held - x) (advanced t st))
+-- "free a: held falls by a, the quota doesn't rise"; of a sound record a free takes at most what its thread holds, and so what is held (`free-amount`, proofs/ThreadMemory; `free-within`, proofs/Soundness)
+actBy free T w t a x st = stepped (Done t a) (withHeld (st .held - x) (withAmount t (amountOf st t - x) (advanced t st)))
 -- "fork c: done; c enters the list directly left of the thread, ready; the thread becomes ready; w is released"
 actBy fork T w t a x st = stepped (Done t a) (withStatus x ready (withList (leftOf x t (st .list)) (released w t ready (advanced t st))))
 -- "join c: done if c has ended; otherwise not done, the thread waits and w is released"
-actBy join T w t a x st = pick (eqb (statusOf st x) ended) (stepped (Done t a) (advanced t st)) (stepped (Wait t x) (released w t waiting st))
+actBy join T w t a x st =
+    pick (eqb (statusOf st x) ended) (stepped (Done t a) (movedUp x t (advanced t st))) (stepped (Wait t x) (released w t waiting st))
 actBy unknown T w t a x st = stepped Idle st
 
 -- worker w goes on with the thread that it holds

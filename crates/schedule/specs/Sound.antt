@@ -5,10 +5,10 @@ use mathlib.Core.List.{List, [], _∷_}
 use mathlib.Core.Bool.{Bool, true, false, not, _&&_, _||_}
 use lib.ListN.{length, take, getD}
 use lib.Dec.{ltb, leb, eqb}
-use Rattle.table.specs.Sum.{pick, sumTo}
+use Rattle.table.specs.Sum.{pick, sumTo, anyBelow}
 use Rattle.table.specs.Format.{join, is, Table, kind, tableOf}
 use Rattle.table.specs.Pass.{firstFound}
-use Rattle.table.specs.Rules.{owner, endOf, allocOf, freeOf, passes}
+use Rattle.table.specs.Rules.{owner, endOf, allocOf, freeOf, partOf, passes}
 use Rattle.table.specs.Accepted.{Rules}
 use Rattle.table.specs.Serial.{serialOrder}
 use Rattle.table.specs.Level.{forkBelow, dependsOn}
@@ -18,7 +18,7 @@ use Rattle.schedule.specs.declared.Worker.{Worker}
 use Rattle.schedule.specs.declared.Run.{Run}
 use Rattle.schedule.specs.Machine.{State, unborn, held, waiting, ended, nobody}
 use Rattle.schedule.specs.Record.{maxThreads, maxWorkers, maxBytes, filled, setOf, bytesOf, tableIn, stateOf}
-use Rattle.schedule.specs.Begin.{beginPasses}
+use Rattle.schedule.specs.Begin.{firsts, beginPasses}
 
 -- ---- words
 
@@ -81,7 +81,31 @@ ofDoneIn T next status own a = pick (doneIn T next status a) (own a) 0
 abbrev pub sumDoneIn : Table → List ℕ → List ℕ → (ℕ → ℕ) → ℕ
 sumDoneIn T next status own = sumTo (ofDoneIn T next status own) (T .actions)
 
--- the same of a state
+-- ---- what each thread holds (N9)
+
+-- how many actions of thread t are done
+unfoldable pub progressIn : Table → List ℕ → List ℕ → ℕ → ℕ
+progressIn T next status t = pick (eqb (getD status t 0) ended) (T .count t) (getD next t 0 - T .first t)
+
+-- a join of thread t is done
+unfoldable pub joinedIn : Table → List ℕ → List ℕ → ℕ → Bool
+joinedIn T next status t = anyBelow (λ a. is join (kind T a) && (eqb (T .argument a) t && doneIn T next status a)) (T .actions)
+
+-- the allocs of the first k actions of thread t less the frees, those of the children joined by then with them; of an accepted table the difference never stops at 0 (`part-held`,
+-- proofs/Peaks of crates/table)
+abbrev pub balanceTo : Table → ℕ → ℕ → ℕ
+balanceTo T t k = partOf T (allocOf T) t k - partOf T (freeOf T) t k
+
+-- "the thread's balance so far, or .. 0 once it is joined"
+unfoldable pub shareIn : Table → List ℕ → List ℕ → ℕ → ℕ
+shareIn T next status t = pick (joinedIn T next status t) 0 (balanceTo T t (progressIn T next status t))
+
+-- the shares of a table's threads, 0 from n on
+unfoldable pub sharesIn : Table → List ℕ → List ℕ → List ℕ
+sharesIn T next status = filled maxThreads (firsts (shareIn T next status) 0 (T .threads))
+
+-- ---- the same of a state
+
 abbrev pub isDone : Table → State → ℕ → Bool
 isDone T st a = doneIn T (st .next) (st .status) a
 
@@ -90,6 +114,15 @@ ofDone T st own = ofDoneIn T (st .next) (st .status) own
 
 abbrev pub sumDone : Table → State → (ℕ → ℕ) → ℕ
 sumDone T st own = sumDoneIn T (st .next) (st .status) own
+
+abbrev pub progress : Table → State → ℕ → ℕ
+progress T st = progressIn T (st .next) (st .status)
+
+abbrev pub isJoined : Table → State → ℕ → Bool
+isJoined T st = joinedIn T (st .next) (st .status)
+
+abbrev pub share : Table → State → ℕ → ℕ
+share T st = shareIn T (st .next) (st .status)
 
 -- ---- the clauses that any kind of run over a table keeps, each over what it speaks of
 
@@ -150,7 +183,7 @@ inSerialOrder T next list = rises (λ t. numberOf T (getD next t 0)) list
 -- ---- a sound state, over an accepted table
 
 -- what any kind of run keeps
-pub record Common (T : Table) (p K : ℕ) (next status : List ℕ) (workers : List Worker) (amount highest : ℕ) : Type 0 where
+pub record Common (T : Table) (p K : ℕ) (next status amounts : List ℕ) (workers : List Worker) (amount highest : ℕ) : Type 0 where
   pub next-size : length next ≡ maxThreads
   pub status-size : length status ≡ maxThreads
   pub worker-size : length workers ≡ maxWorkers
@@ -162,6 +195,8 @@ pub record Common (T : Table) (p K : ℕ) (next status : List ℕ) (workers : Li
   pub holders : (t : ℕ) → t < T .threads → oneHolder status workers t ≡ true
   pub worker-each : (w : ℕ) → w < maxWorkers → workerRight (T .threads) p K workers w ≡ true
   pub held-right : heldRight T next status amount ≡ true
+  -- "A record where an amount differs from the thread's balance so far, or from 0 once it is joined, is not sound" (N9)
+  pub shares : amounts ≡ sharesIn T next status
   pub above : amount ≤ highest
 
 -- what a run with a list keeps besides
@@ -171,7 +206,7 @@ pub record Listed (T : Table) (next status list : List ℕ) : Type 0 where
   pub serial : inSerialOrder T next list ≡ true
 
 pub record SoundState (T : Table) (p K : ℕ) (st : State) : Type 0 where
-  pub common : Common T p K (st .next) (st .status) (st .workers) (st .held) (st .highest)
+  pub common : Common T p K (st .next) (st .status) (st .amounts) (st .workers) (st .held) (st .highest)
   pub listed : Listed T (st .next) (st .status) (st .list)
 
 -- ---- a sound record
@@ -207,8 +242,8 @@ sameList [] (y ∷ l) = false
 sameList (x ∷ k) [] = false
 sameList (x ∷ k) (y ∷ l) = eqb x y && sameList k l
 
-unfoldable pub common : Table → ℕ → ℕ → List ℕ → List ℕ → List Worker → ℕ → ℕ → Bool
-common T p K next status workers amount highest =
+unfoldable pub common : Table → ℕ → ℕ → List ℕ → List ℕ → List ℕ → List Worker → ℕ → ℕ → Bool
+common T p K next status amounts workers amount highest =
     eqb (length next) maxThreads
     && (eqb (length status) maxThreads
     && (eqb (length workers) maxWorkers
@@ -220,23 +255,24 @@ common T p K next status workers amount highest =
     && (allBelow (oneHolder status workers) (T .threads)
     && (allBelow (workerRight (T .threads) p K workers) maxWorkers
     && (heldRight T next status amount
-    && leb amount highest))))))))))
+    && (sameList amounts (sharesIn T next status)
+    && leb amount highest)))))))))))
 
 unfoldable pub listed : Table → List ℕ → List ℕ → List ℕ → Bool
 listed T next status list =
     allBelow (listFollows status list) (T .threads) && (allIn (λ t. ltb t (T .threads)) list && inSerialOrder T next list)
 
 -- the part that any kind of run over a table has in common, the table's own checks and the beginning's among it
-unfoldable pub commonSound : List ℕ → ℕ → ℕ → List ℕ → List ℕ → List Worker → ℕ → ℕ → ℕ → Bool
-commonSound s p K next status workers set amount highest =
+unfoldable pub commonSound : List ℕ → ℕ → ℕ → List ℕ → List ℕ → List ℕ → List Worker → ℕ → ℕ → ℕ → Bool
+commonSound s p K next status amounts workers set amount highest =
     isNothing (firstFound (passes s))
     && (isNothing (firstFound (beginPasses (tableOf s) p K))
-    && (common (tableOf s) p K next status workers amount highest
+    && (common (tableOf s) p K next status amounts workers amount highest
     && eqb set (setOf workers)))
 
 unfoldable pub sound : Run → Bool
 sound r =
-    commonSound (bytesOf r) (r .workers) (r .quota) (r .next) (r .status) (r .worker) (r .busy) (r .held) (r .highest)
+    commonSound (bytesOf r) (r .workers) (r .quota) (r .next) (r .status) (r .amounts) (r .worker) (r .busy) (r .held) (r .highest)
     && (listed (tableIn r) (r .next) (r .status) (take (r .listed) (r .list))
     && (eqb (length (bytesOf r)) (r .length)
     && (eqb (length (take (r .listed) (r .list))) (r .listed)

@@ -28,6 +28,7 @@ isBlank r =
     && (eqb (r .quota) 0
     && (sameList (r .next) (blank .next)
     && (sameList (r .status) (blank .status)
+    && (sameList (r .amounts) (blank .amounts)
     && (sameList (r .list) (blank .list)
     && (eqb (r .listed) 0
     && (eqb (length (r .worker)) maxWorkers
@@ -35,7 +36,7 @@ isBlank r =
     && (eqb (r .busy) 0
     && (eqb (r .held) 0
     && (eqb (r .highest) 0
-    && eqb (r .turns) 0))))))))))))
+    && eqb (r .turns) 0)))))))))))))
 
 -- 32: "record not sound and not blank"
 unfoldable pub unsound : Run → Bool

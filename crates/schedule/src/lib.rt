@@ -22,6 +22,8 @@ pub struct Run {
     // for each thread its next action and its status: 0 unborn, 1 ready, 2 held, 3 waiting, 4 ended
     pub next: [u16; 1024],
     pub status: [u8; 1024],
+    // what each thread holds: its balance so far, 0 once it is joined
+    pub amounts: [u64; 1024],
     // the threads that are forked and not ended, leftmost first, and how many they are
     pub list: [u16; 1024],
     pub listed: u16,

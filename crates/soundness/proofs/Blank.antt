@@ -19,7 +19,7 @@ use Rattle.schedule.proofs.Clauses.{unused-exactly, nobody-exactly}
 use Rattle.schedule.proofs.Tests.{blank-exactly}
 use Rattle.soundness.specs.Checks.{allZero}
 
--- the five tests
+-- the six tests
 abbrev pub tableZero : Run → Bool
 tableZero r = sameList (r .table) (filled 36868 (take 0 (r .table)))
 
@@ -28,6 +28,9 @@ listZero r = sameList (r .list) (filled 1024 (take 0 (r .list)))
 
 abbrev pub threadsZero : Run → Bool
 threadsZero r = allBelow (λ t. ltb t 0 || unused (r .next) (r .status) t) 1024
+
+abbrev pub amountsZero : Run → Bool
+amountsZero r = sameList (r .amounts) (replicate 1024 0)
 
 abbrev pub workersFree : Run → Bool
 workersFree r = eqb (length (r .worker)) 16 && allBelow (λ w. isNobody (getD (r .worker) w nobody)) 16
@@ -51,6 +54,10 @@ unfolding blank
 blank-threads =
     allBelow-exactly _ 1024 .1 (λ t h.
     or-exactly (ltb t 0) _ .1 (inr (unused-exactly (replicate 1024 0) (replicate 1024 0) t .1 (getD-replicate 1024 t 0 0 h, getD-replicate 1024 t 0 0 h))))
+
+pub blank-amounts : amountsZero blank ≡ true
+unfolding blank
+blank-amounts = sameList-exactly _ _ .1 refl
 
 pub blank-free : workersFree blank ≡ true
 unfolding blank
@@ -102,9 +109,9 @@ all-same : {A : Type 0} (d : A) (n : ℕ) (l : List A) → length l ≡ n → ((
 all-same d n l z h = ext-getD d l (replicate n d) (z ∙ sym (length-replicate n d)) (λ i k. let m : i < n = omega (arith, z) in h i m ∙ sym (getD-replicate n i d d m))
 
 pub is-blank : (r : Run) → length (r .next) ≡ 1024 → length (r .status) ≡ 1024
-    → allZero r ≡ true → tableZero r ≡ true → listZero r ≡ true → threadsZero r ≡ true → workersFree r ≡ true → isBlank r ≡ true
+    → allZero r ≡ true → tableZero r ≡ true → listZero r ≡ true → threadsZero r ≡ true → amountsZero r ≡ true → workersFree r ≡ true → isBlank r ≡ true
 unfolding blank
-is-blank r zn zs a b c d e = blank-exactly r .1 whole
+is-blank r zn zs a b c d m e = blank-exactly r .1 whole
   where
     n : Zeros r
     n = zeros r a
@@ -121,6 +128,9 @@ is-blank r zn zs a b c d e = blank-exactly r .1 whole
     y : r .status ≡ replicate 1024 0
     y = all-same 0 1024 (r .status) zs (λ i h. thread-zero (r .next) (r .status) d i h .0)
 
+    z : r .amounts ≡ replicate 1024 0
+    z = sameList-exactly _ _ .0 m
+
     free : (length (r .worker) ≡ 16) × ((w : ℕ) → w < 16 → isNobody (getD (r .worker) w nobody) ≡ true)
     free = and-of (eqb-exactly _ 16) (allBelow-exactly _ 16) .0 e
 
@@ -136,6 +146,7 @@ is-blank r zn zs a b c d e = blank-exactly r .1 whole
           quota = n .quota i;
           next = x i;
           status = y i;
+          amounts = z i;
           list = l i;
           listed = n .listed i;
           worker = v i;

@@ -3,6 +3,8 @@ pub mod Filled
 pub mod Lookups
 pub mod Every
 pub mod Done
+pub mod Balancing
+pub mod Clearing
 pub mod Noting
 pub mod Spans
 pub mod Marks

@@ -1,4 +1,5 @@
 pub mod Checks
 pub mod Adding
+pub mod Balancing
 pub mod Order
 pub mod Tested

@@ -25,10 +25,10 @@ abbrev pub parentsIf : Bool → Table → List ℕ
 parentsIf q T = pick q (parentsIn T) (replicate maxThreads 0)
 
 -- of the parts that any kind of run has: the parents wherever the bytes are a table
-unfoldable pub commonTested : List ℕ → ℕ → ℕ → List ℕ → List ℕ → List Worker → ℕ → ℕ → ℕ → Tested
-commonTested s p K next status workers set amount highest =
+unfoldable pub commonTested : List ℕ → ℕ → ℕ → List ℕ → List ℕ → List ℕ → List Worker → ℕ → ℕ → ℕ → Tested
+commonTested s p K next status amounts workers set amount highest =
     record {
-      passed = commonSound s p K next status workers set amount highest;
+      passed = commonSound s p K next status amounts workers set amount highest;
       parents = parentsIf (isNothing (firstFound (passes s))) (tableOf s);
     }
 

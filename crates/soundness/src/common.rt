@@ -8,6 +8,7 @@ use crate::bodies::waits_at_joins;
 use crate::holders::busy_right;
 use crate::holders::one_holder_each;
 use crate::holders::workers_right;
+use crate::shares::amounts_right;
 use crate::unused::unused_right;
 use schedule::Worker;
 use table::Found;
@@ -74,6 +75,7 @@ pub(crate) fn common_holds(
     parents: &[u16; 1024],
     next: &[u16; 1024],
     status: &[u8; 1024],
+    amounts: &[u64; 1024],
     workers: [Worker; 16],
     busy: u16,
     held: u64,
@@ -82,8 +84,8 @@ pub(crate) fn common_holds(
     requires { ⌜ Accepted (now table) n ⌝ }
     requires { ⌜ Forks (tableOf (now table)) (now forks) ⌝ }
     requires { ⌜ Parents (tableOf (now table)) (now parents) ⌝ }
-    requires { ⌜ (length (now next) ≡ 1024) × (length (now status) ≡ 1024) ⌝ }
-    ensures { λ r. ⌜ r ≡ commonSound (now (table .entry)) p quota (now (next .entry)) (now (status .entry)) workers busy held highest ⌝ }
+    requires { ⌜ (length (now next) ≡ 1024) × (length (now status) ≡ 1024) × (length (now amounts) ≡ 1024) ⌝ }
+    ensures { λ r. ⌜ r ≡ commonSound (now (table .entry)) p quota (now (next .entry)) (now (status .entry)) (now (amounts .entry)) workers busy held highest ⌝ }
 {
     let found = begin_fault(table, p, quota);
     if let Found::At(_) = found {
@@ -96,6 +98,9 @@ pub(crate) fn common_holds(
         return false;
     }
     if !held_right(table, n, next, status, held) {
+        return false;
+    }
+    if !amounts_right(table, n, next, status, amounts) {
         return false;
     }
     held <= highest && busy_right(busy, workers)

@@ -17,6 +17,7 @@ mod common;
 mod holders;
 mod listed;
 mod order;
+mod shares;
 mod sound;
 mod unused;
 
@@ -35,12 +36,13 @@ pub fn test_common(
     quota: u32,
     next: [u16; 1024],
     status: [u8; 1024],
+    amounts: [u64; 1024],
     workers: [Worker; 16],
     busy: u16,
     held: u64,
     highest: u64,
 ) -> Tested
-    ensures { λ r. ⌜ r ≡ commonTested (now (table .entry)) p quota next status workers busy held highest ⌝ }
+    ensures { λ r. ⌜ r ≡ commonTested (now (table .entry)) p quota next status amounts workers busy held highest ⌝ }
 {
     let mut parents = [0u16; 1024];
     let loaded = table::load(table);
@@ -62,6 +64,7 @@ pub fn test_common(
         &parents,
         &next,
         &status,
+        &amounts,
         workers,
         busy,
         held,

@@ -3,6 +3,7 @@ use crate::Tested;
 use crate::holders::workers_right;
 use crate::listed::list_follows;
 use crate::order::in_serial_order;
+use crate::shares::same_amounts;
 use crate::test_common;
 use crate::unused::list_rest;
 use crate::unused::table_rest;
@@ -82,6 +83,7 @@ pub(crate) fn sound(run: Run) -> Tested
     let bytes = &table[..length];
     let next = run.next;
     let status = run.status;
+    let amounts = run.amounts;
     let workers = run.worker;
     let found = test_common(
         bytes,
@@ -89,6 +91,7 @@ pub(crate) fn sound(run: Run) -> Tested
         run.quota,
         next,
         status,
+        amounts,
         workers,
         run.busy,
         run.held,
@@ -146,6 +149,11 @@ pub(crate) fn is_blank(run: Run) -> bool
     let next = run.next;
     let status = run.status;
     if !unused_right(0, &next, &status) {
+        return false;
+    }
+    let amounts = run.amounts;
+    let none = [0u64; 1024];
+    if !same_amounts(&amounts, &none) {
         return false;
     }
     let workers = run.worker;

@@ -6,31 +6,37 @@ use Rattle.call_cases.proofs.mix_threads.Statement.{statement}
 use Rattle.call_cases.proofs.mix_threads.Tie as tie
 
 abbrev Inv-loop : tie.InvT-loop
-Inv-loop before next status list sum₀ t₀ sum t = t ≤ 1024
+Inv-loop before next status amounts list sum₀ t₀ sum t = t ≤ 1024
 
 abbrev μ-loop : tie.MeasureT-loop
-μ-loop before next status list sum₀ t₀ sum t = 1024 - t
+μ-loop before next status amounts list sum₀ t₀ sum t = 1024 - t
 
 loop-holds : tie.Need-loop-holds Inv-loop μ-loop
 loop-holds c = omega arith
 
-mul-mix-three : tie.Need-mul-mix-three Inv-loop μ-loop
-mul-mix-three c = search needs
+mul-mix-thread : tie.Need-mul-mix-thread Inv-loop μ-loop
+mul-mix-thread c = search needs
 
-element-copy-out-mix-three : tie.Need-element-copy-out-mix-three Inv-loop μ-loop
-element-copy-out-mix-three c = search needs
+element-copy-out-mix-thread : tie.Need-element-copy-out-mix-thread Inv-loop μ-loop
+element-copy-out-mix-thread c = search needs
 
-element-copy-out-mix-three-2 : tie.Need-element-copy-out-mix-three-2 Inv-loop μ-loop
-element-copy-out-mix-three-2 c = search needs
+element-copy-out-mix-thread-2 : tie.Need-element-copy-out-mix-thread-2 Inv-loop μ-loop
+element-copy-out-mix-thread-2 c = search needs
 
-mul-mix-three-2 : tie.Need-mul-mix-three-2 Inv-loop μ-loop
-mul-mix-three-2 c = search needs
+mul-mix-thread-2 : tie.Need-mul-mix-thread-2 Inv-loop μ-loop
+mul-mix-thread-2 c = search needs
 
-element-copy-out-mix-three-3 : tie.Need-element-copy-out-mix-three-3 Inv-loop μ-loop
-element-copy-out-mix-three-3 c = search needs
+element-copy-out-mix-thread-3 : tie.Need-element-copy-out-mix-thread-3 Inv-loop μ-loop
+element-copy-out-mix-thread-3 c = search needs
 
-mix-three-requires : tie.Need-mix-three-requires Inv-loop μ-loop
-mix-three-requires c κs = search needs
+mul-mix-thread-3 : tie.Need-mul-mix-thread-3 Inv-loop μ-loop
+mul-mix-thread-3 c = search needs
+
+element-copy-out-mix-thread-4 : tie.Need-element-copy-out-mix-thread-4 Inv-loop μ-loop
+element-copy-out-mix-thread-4 c = search needs
+
+mix-thread-requires : tie.Need-mix-thread-requires Inv-loop μ-loop
+mix-thread-requires c κs = search needs
 
 add-t : tie.Need-add-t Inv-loop μ-loop
 add-t c = omega arith
@@ -51,12 +57,14 @@ mix-threads-spec =
     Inv-loop
     μ-loop
     loop-holds
-    mul-mix-three
-    element-copy-out-mix-three
-    element-copy-out-mix-three-2
-    mul-mix-three-2
-    element-copy-out-mix-three-3
-    mix-three-requires
+    mul-mix-thread
+    element-copy-out-mix-thread
+    element-copy-out-mix-thread-2
+    mul-mix-thread-2
+    element-copy-out-mix-thread-3
+    mul-mix-thread-3
+    element-copy-out-mix-thread-4
+    mix-thread-requires
     add-t
     loop-less
     loop-again

@@ -27,16 +27,16 @@ use Rattle.soundness.proofs.test_common.Tie as tie
 accepted-rules : (s : List ℕ) {f : Facts} → loaded s ≡ good f → Rules s
 accepted-rules s {f} h = accepted-exactly s .0 (h ∙ ap good (accepted-facts s f h))
 
-module _ (s : List ℕ) (p K : ℕ) (next status : List ℕ) (workers : List Worker) (set amount highest : ℕ) where
+module _ (s : List ℕ) (p K : ℕ) (next status amounts : List ℕ) (workers : List Worker) (set amount highest : ℕ) where
   refused : {x : Refusal} → loaded s ≡ Refused x
-      → record { passed = false; parents = replicate 1024 0 } ≡ commonTested s p K next status workers set amount highest
+      → record { passed = false; parents = replicate 1024 0 } ≡ commonTested s p K next status amounts workers set amount highest
   unfolding commonTested commonSound
   refused {x} h =
       let f : firstFound (passes s) ≡ At x = found-exactly (passes s) x .1 (refused-exactly s x .0 h) in
       rw f
 
-  accepted : {q : Bool} {l : List ℕ} → Rules s → q ≡ commonSound s p K next status workers set amount highest → l ≡ parentsIn (tableOf s)
-      → record { passed = q; parents = l } ≡ commonTested s p K next status workers set amount highest
+  accepted : {q : Bool} {l : List ℕ} → Rules s → q ≡ commonSound s p K next status amounts workers set amount highest → l ≡ parentsIn (tableOf s)
+      → record { passed = q; parents = l } ≡ commonTested s p K next status amounts workers set amount highest
   unfolding commonTested
   accepted k e d = rw (e, d, passes-rules s .1 k)
 
@@ -46,6 +46,9 @@ next-size s = search needs
 status-size : (s : tie.Start) → length (s .args .t5) ≡ 1024
 status-size s = search needs
 
+amounts-size : (s : tie.Start) → length (s .args .t6) ≡ 1024
+amounts-size s = search needs
+
 load-requires : tie.Need-load-requires
 load-requires c κs = search needs
 
@@ -53,7 +56,7 @@ enum-told : tie.Need-enum-told
 enum-told c = search needs
 
 returns : tie.Need-returns
-returns c = refused _ _ _ _ _ _ _ _ _ (sym (c .before .before .load .ensures .0) ∙ c .enum-told .given .1)
+returns c = refused _ _ _ _ _ _ _ _ _ _ (sym (c .before .before .load .ensures .0) ∙ c .enum-told .given .1)
 
 enum-told-2 : tie.Need-enum-told-2
 enum-told-2 c = search needs
@@ -73,14 +76,14 @@ fill-forks-requires c κs = (known (c .before .before), (refl, refl))
 
 common-holds-requires : tie.Need-common-holds-requires
 common-holds-requires c κs =
-    let f = c .before .before .before .before in
+    let f = c .before .before .before .before .before in
     let s = f .before .before .before .before .before .before .before .before in
-    (known (f .before .before .before), (f .fill-forks .ensures .0, (parents-right _ (f .fill-forks .ensures .1), (next-size s, status-size s))))
+    (known (f .before .before .before), (f .fill-forks .ensures .0, (parents-right _ (f .fill-forks .ensures .1), (next-size s, status-size s, amounts-size s))))
 
 returns-2 : tie.Need-returns-2
 returns-2 c =
-    let f = c .before .before .before .before .before in
-    accepted _ _ _ _ _ _ _ _ _ (known (f .before .before .before) .rules) (c .common-holds .ensures) (f .fill-forks .ensures .1)
+    let f = c .before .before .before .before .before .before in
+    accepted _ _ _ _ _ _ _ _ _ _ (known (f .before .before .before) .rules) (c .common-holds .ensures) (f .fill-forks .ensures .1)
 
 pub test-common-spec : {M : Type 1} → statement M
 test-common-spec =

@@ -24,7 +24,7 @@ use Rattle.asyncdf.specs.declared.act.Totals.{Totals}
 use Rattle.asyncdf.specs.declared.act.Stepped.{Stepped as StepResult}
 use Rattle.asyncdf.proofs.Rows.{next-done}
 use Rattle.asyncdf.proofs.Seats.{actionOf, status-size, thread-below, at-next, place-below}
-use Rattle.asyncdf.proofs.Seats.{alloc-room, free-room, fork-child, fork-room, join-child, parent-wakes}
+use Rattle.asyncdf.proofs.Seats.{alloc-room, own-room, free-room, own-free, child-room, fork-child, fork-room, join-child, parent-wakes}
 use Rattle.asyncdf.proofs.act.act.Statement.{statement}
 use Rattle.asyncdf.proofs.act.act.Tie as tie
 
@@ -53,7 +53,7 @@ same-front j k h =
     sym (length-take-le j l (omega arith)) ∙ ap length (h l) ∙ length-take-le k l (omega arith)
 
 -- the code and the argument of the next action of a worker's thread have been read
-module _ {s : List ℕ} {n K : ℕ} {next status list : List ℕ} {totals : Totals} {worker : Worker} (q : Sits s n K next status list totals worker) (h : worker .holds ≡ true) {k x : ℕ}
+module _ {s : List ℕ} {n K : ℕ} {next status amounts list : List ℕ} {totals : Totals} {worker : Worker} (q : Sits s n K next status amounts list totals worker) (h : worker .holds ≡ true) {k x : ℕ}
     (e' : k ≡ codeAt (bodiesFrom s n) (actionOf next worker)) (f' : Read (argumentAt (bodiesFrom s n) (actionOf next worker)) 16777216 x) where
   e : k ≡ tableOf s .code (actionOf next worker)
   e = e' ∙ code-from s n (q .threads) (actionOf next worker)
@@ -74,13 +74,13 @@ module _ {s : List ℕ} {n K : ℕ} {next status list : List ℕ} {totals : Tota
       × Wakes s n status (getD parents (worker .thread) 0))))
   end-asks parents o = (at-next q h, (q .row, (o, ((thread-below q h, place-below q h), parent-wakes q h parents o))))
 
-  alloc-asks : k ≡ 2 → At next worker (actionOf next worker) × ((length status ≡ 1024) × (totals .held + x < 2 ^ 64))
+  alloc-asks : k ≡ 2 → At next worker (actionOf next worker) × ((length status ≡ 1024) × (totals .held + x < 2 ^ 64) × (getD amounts (worker .thread) 0 + x < 2 ^ 64))
   unfolding kindOf
-  alloc-asks i = (at-next q h, (status-size q, rw x-is (alloc-room q h (kind-read 2 i))))
+  alloc-asks i = (at-next q h, (status-size q, rw x-is (alloc-room q h (kind-read 2 i)), rw x-is (own-room q h (kind-read 2 i))))
 
-  free-asks : k ≡ 3 → At next worker (actionOf next worker) × (x ≤ totals .held)
+  free-asks : k ≡ 3 → At next worker (actionOf next worker) × ((x ≤ totals .held) × (x ≤ getD amounts (worker .thread) 0))
   unfolding kindOf
-  free-asks i = (at-next q h, rw x-is (free-room q h (kind-read 3 i)))
+  free-asks i = (at-next q h, (rw x-is (free-room q h (kind-read 3 i)), rw x-is (own-free q h (kind-read 3 i))))
 
   fork-asks : k ≡ 4
       → At next worker (actionOf next worker)
@@ -89,43 +89,43 @@ module _ {s : List ℕ} {n K : ℕ} {next status list : List ℕ} {totals : Tota
   unfolding kindOf
   fork-asks i = (at-next q h, (q .row, (status-size q, rw x-is (fork-child q h (kind-read 4 i)), fork-room q h (kind-read 4 i), place-below q h)))
 
-  join-asks : k ≡ 5 → At next worker (actionOf next worker) × ((length status ≡ 1024) × (x < 1024))
+  join-asks : k ≡ 5 → At next worker (actionOf next worker) × ((length status ≡ 1024) × (x < 1024) × (getD amounts (worker .thread) 0 + getD amounts x 0 < 2 ^ 64))
   unfolding kindOf
-  join-asks i = (at-next q h, (status-size q, rw x-is (join-child q h (kind-read 5 i))))
+  join-asks i = (at-next q h, (status-size q, rw x-is (join-child q h (kind-read 5 i)), child-room q h x))
 
   -- ---- what is left
 
   -- the turn is the kind's
   acts : (j : ℕ) → k ≡ j
-      → actBy (kindOf j) (tableOf s) 0 (worker .thread) (actionOf next worker) x (partState next status list totals worker)
-      ≡ act (tableOf s) 0 (partState next status list totals worker)
+      → actBy (kindOf j) (tableOf s) 0 (worker .thread) (actionOf next worker) x (partState next status amounts list totals worker)
+      ≡ act (tableOf s) 0 (partState next status amounts list totals worker)
   unfolding act
   acts j i = rw (← e, ← x-is, i)
 
   works : k ≡ 1
-      → stepped (Done (worker .thread) (actionOf next worker)) (partState (set next (worker .thread) (actionOf next worker + 1)) status list totals worker)
-      ≡ act (tableOf s) 0 (partState next status list totals worker)
+      → stepped (Done (worker .thread) (actionOf next worker)) (partState (set next (worker .thread) (actionOf next worker + 1)) status amounts list totals worker)
+      ≡ act (tableOf s) 0 (partState next status amounts list totals worker)
   unfolding kindOf actBy
   works i = rw (next-done next worker (actionOf next worker) (at-next q h)) (acts 1 i)
 
-  idles : 6 ≤ k → stepped Idle (partState next status list totals worker) ≡ act (tableOf s) 0 (partState next status list totals worker)
+  idles : 6 ≤ k → stepped Idle (partState next status amounts list totals worker) ≡ act (tableOf s) 0 (partState next status amounts list totals worker)
   unfolding actBy
   idles i = rw (code-unknown k i) at (acts k refl)
 
-  acts-as : (j : ℕ) → k ≡ j → {r : StepResult} {next' status' list' : List ℕ}
-      → partStepped next' status' list' r ≡ actBy (kindOf j) (tableOf s) 0 (worker .thread) (actionOf next worker) x (partState next status list totals worker)
+  acts-as : (j : ℕ) → k ≡ j → {r : StepResult} {next' status' amounts' list' : List ℕ}
+      → partStepped next' status' amounts' list' r ≡ actBy (kindOf j) (tableOf s) 0 (worker .thread) (actionOf next worker) x (partState next status amounts list totals worker)
       → Rowed list' (r .totals .listed)
-      → (partStepped next' status' list' r ≡ act (tableOf s) 0 (partState next status list totals worker)) × Rowed list' (r .totals .listed)
+      → (partStepped next' status' amounts' list' r ≡ act (tableOf s) 0 (partState next status amounts list totals worker)) × Rowed list' (r .totals .listed)
   acts-as j i p o = (p ∙ acts j i, o)
 
   -- a kind that does not move the list, whose function's promise speaks of every list
-  module _ (j : ℕ) (i : k ≡ j) (d : is end (kindOf j) ≡ false) (g : is fork (kindOf j) ≡ false) {r : StepResult} {next' status' : List ℕ}
-      (p : (l : List ℕ) → partStepped next' status' l r ≡ actBy (kindOf j) (tableOf s) 0 (worker .thread) (actionOf next worker) x (partState next status l totals worker)) where
-    acts-on-row : (partStepped next' status' list r ≡ act (tableOf s) 0 (partState next status list totals worker)) × Rowed list (r .totals .listed)
+  module _ (j : ℕ) (i : k ≡ j) (d : is end (kindOf j) ≡ false) (g : is fork (kindOf j) ≡ false) {r : StepResult} {next' status' amounts' : List ℕ}
+      (p : (l : List ℕ) → partStepped next' status' amounts' l r ≡ actBy (kindOf j) (tableOf s) 0 (worker .thread) (actionOf next worker) x (partState next status amounts l totals worker)) where
+    acts-on-row : (partStepped next' status' amounts' list r ≡ act (tableOf s) 0 (partState next status amounts list totals worker)) × Rowed list (r .totals .listed)
     acts-on-row =
         let m : r .totals .listed ≡ totals .listed =
         same-front (r .totals .listed) (totals .listed)
-        (λ l. ap (λ (z : Stepped). z .state .list) (p l) ∙ keeps-list (kindOf j) (tableOf s) (worker .thread) (actionOf next worker) x (partState next status l totals worker) d g) in
+        (λ l. ap (λ (z : Stepped). z .state .list) (p l) ∙ keeps-list (kindOf j) (tableOf s) (worker .thread) (actionOf next worker) x (partState next status amounts l totals worker) d g) in
         acts-as j i (p list) (rw m (q .row))
 
 cast-t : tie.Need-cast-t
@@ -176,18 +176,18 @@ cast-act-alloc c = search needs
 
 act-alloc-requires : tie.Need-act-alloc-requires
 act-alloc-requires c κs =
-    let k = c .before .before .before in
+    let k = c .before .before .before .before in
     let q = k .before .before .before .before .pre in
-    alloc-asks (q .0) (q .1 .1) (k .before .code .ensures) (k .argument .ensures) (c .before .before .match .keys3)
+    alloc-asks (q .0) (q .1 .1) (k .before .code .ensures) (k .argument .ensures) (c .before .before .before .match .keys3)
 
 cast-act-free : tie.Need-cast-act-free
 cast-act-free c = search needs
 
 act-free-requires : tie.Need-act-free-requires
 act-free-requires c κs =
-    let k = c .before .before in
+    let k = c .before .before .before in
     let q = k .before .before .before .before .pre in
-    free-asks (q .0) (q .1 .1) (k .before .code .ensures) (k .argument .ensures) (c .before .match .keys4)
+    free-asks (q .0) (q .1 .1) (k .before .code .ensures) (k .argument .ensures) (c .before .before .match .keys4)
 
 cast-act-fork : tie.Need-cast-act-fork
 cast-act-fork c =
@@ -209,9 +209,9 @@ cast-act-join c =
 
 act-join-requires : tie.Need-act-join-requires
 act-join-requires c κs =
-    let k = c .before .before .before in
+    let k = c .before .before .before .before in
     let q = k .before .before .before .before .pre in
-    join-asks (q .0) (q .1 .1) (k .before .code .ensures) (k .argument .ensures) (c .before .before .match .keys6)
+    join-asks (q .0) (q .1 .1) (k .before .code .ensures) (k .argument .ensures) (c .before .before .before .match .keys6)
 
 returns : tie.Need-returns
 unfolding kindOf
@@ -219,7 +219,7 @@ returns c =
     let k = c .before .before .before .before .before in
     let q = k .before .before .before .before .pre in
     let r = c .act-end .ensures in
-    acts-as (q .0) (q .1 .1) (k .before .code .ensures) (k .argument .ensures) 0 (c .before .before .before .before .match .keys1) (r .0 _) (r .1)
+    acts-as (q .0) (q .1 .1) (k .before .code .ensures) (k .argument .ensures) 0 (c .before .before .before .before .match .keys1) (r .0 _ _) (r .1)
 
 returns-2 : tie.Need-returns-2
 returns-2 c =
@@ -230,16 +230,16 @@ returns-2 c =
 returns-3 : tie.Need-returns-3
 unfolding kindOf is codeOf
 returns-3 c =
-    let k = c .before .before .before .before in
+    let k = c .before .before .before .before .before in
     let q = k .before .before .before .before .pre in
-    acts-on-row (q .0) (q .1 .1) (k .before .code .ensures) (k .argument .ensures) 2 (c .before .before .before .match .keys3) refl refl (c .act-alloc .ensures _)
+    acts-on-row (q .0) (q .1 .1) (k .before .code .ensures) (k .argument .ensures) 2 (c .before .before .before .before .match .keys3) refl refl (c .act-alloc .ensures _)
 
 returns-4 : tie.Need-returns-4
 unfolding kindOf is codeOf
 returns-4 c =
-    let k = c .before .before .before in
+    let k = c .before .before .before .before in
     let q = k .before .before .before .before .pre in
-    acts-on-row (q .0) (q .1 .1) (k .before .code .ensures) (k .argument .ensures) 3 (c .before .before .match .keys4) refl refl (c .act-free .ensures _ _)
+    acts-on-row (q .0) (q .1 .1) (k .before .code .ensures) (k .argument .ensures) 3 (c .before .before .before .match .keys4) refl refl (c .act-free .ensures _ _)
 
 returns-5 : tie.Need-returns-5
 unfolding kindOf
@@ -247,14 +247,14 @@ returns-5 c =
     let k = c .before .before .before .before .before in
     let q = k .before .before .before .before .pre in
     let r = c .act-fork .ensures in
-    acts-as (q .0) (q .1 .1) (k .before .code .ensures) (k .argument .ensures) 4 (c .before .before .before .before .match .keys5) (r .0 _) (r .1)
+    acts-as (q .0) (q .1 .1) (k .before .code .ensures) (k .argument .ensures) 4 (c .before .before .before .before .match .keys5) (r .0 _ _) (r .1)
 
 returns-6 : tie.Need-returns-6
 unfolding kindOf is codeOf
 returns-6 c =
-    let k = c .before .before .before .before in
+    let k = c .before .before .before .before .before in
     let q = k .before .before .before .before .pre in
-    acts-on-row (q .0) (q .1 .1) (k .before .code .ensures) (k .argument .ensures) 5 (c .before .before .before .match .keys6) refl refl (c .act-join .ensures _)
+    acts-on-row (q .0) (q .1 .1) (k .before .code .ensures) (k .argument .ensures) 5 (c .before .before .before .before .match .keys6) refl refl (c .act-join .ensures _)
 
 returns-7 : tie.Need-returns-7
 returns-7 c =

@@ -31,7 +31,7 @@ wakes s n status status' u t e w = record { threads = w .threads; size = rw e (s
 -- waking moves the statuses alone
 abbrev withStatuses : List ℕ → State → State
 withStatuses status st =
-    record { next = st .next; status = status; list = st .list; workers = st .workers; held = st .held; highest = st .highest; turns = st .turns }
+    record { next = st .next; status = status; amounts = st .amounts; list = st .list; workers = st .workers; held = st .held; highest = st .highest; turns = st .turns }
 
 woken-status : (T : Table) (t : ℕ) (st : State) → woken T t st ≡ withStatuses (wokenStatus T (st .next) (st .status) (parentOf T t) t) st
 unfolding woken waitsFor wokenStatus
@@ -45,15 +45,15 @@ ended-with : (T : Table) (parents next status stood status' list after : List �
     → worker .thread < T .threads → placeIn (worker .thread) (take (totals .listed) list) < totals .listed
     → stood ≡ set status (worker .thread) ended → status' ≡ wokenStatus T next stood (getD parents (worker .thread) 0) (worker .thread)
     → after ≡ filled maxThreads (without (worker .thread) (take (totals .listed) list)) → left ≡ nobody
-    → ((x : ℕ) → stepped (Done (worker .thread) a) (partState next status' after (record { listed = totals .listed - 1; held = totals .held; highest = totals .highest }) left)
-    ≡ actBy end T 0 (worker .thread) a x (partState next status list totals worker))
+    → ((x : ℕ) (amounts : List ℕ) → stepped (Done (worker .thread) a) (partState next status' amounts after (record { listed = totals .listed - 1; held = totals .held; highest = totals .highest }) left)
+    ≡ actBy end T 0 (worker .thread) a x (partState next status amounts list totals worker))
     × Rowed after (totals .listed - 1)
 unfolding actBy
 ended-with T parents next status stood status' list after totals worker left a r p b h z s e n =
     let t : ℕ = worker .thread in
     let len : ℕ = totals .listed in
     let shorter : length (without t (take len list)) ≡ len - 1 = rw (r .front) at (length-without t (take len list) (rw (r .front) h)) in (
-      (λ x. rw (woken-status, s, z, p .right t b, take-filled after (without t (take len list)) (len - 1) e shorter, n)),
+      (λ x amounts. rw (woken-status, s, z, p .right t b, take-filled after (without t (take len list)) (len - 1) e shorter, n)),
       rowed-filled after (without t (take len list)) (len - 1) e shorter (omega (arith, rowed-small list len r)),
     )
 

@@ -20,17 +20,17 @@ use Rattle.asyncdf.proofs.act.act_fork.Tie as tie
 
 forked : (next status status' list after : List ℕ) (totals : Totals) (worker left : Worker) (a x : ℕ) → status' ≡ set status (worker .thread) ready → At next worker a → Rowed list (totals .listed) → totals .listed < maxThreads
     → placeIn (worker .thread) (take (totals .listed) list) < totals .listed → after ≡ filled maxThreads (leftOf x (worker .thread) (take (totals .listed) list)) → left ≡ nobody
-    → ((T : Table) → stepped (Done (worker .thread) a)
-    (partState (set next (worker .thread) (a + 1)) (set status' x ready) after
+    → ((T : Table) (amounts : List ℕ) → stepped (Done (worker .thread) a)
+    (partState (set next (worker .thread) (a + 1)) (set status' x ready) amounts after
     (record { listed = totals .listed + 1; held = totals .held; highest = totals .highest }) left)
-    ≡ actBy fork T 0 (worker .thread) a x (partState next status list totals worker))
+    ≡ actBy fork T 0 (worker .thread) a x (partState next status amounts list totals worker))
     × Rowed after (totals .listed + 1)
 unfolding actBy
 forked next status status' list after totals worker left a x z p r w h e n =
     let t : ℕ = worker .thread in
     let len : ℕ = totals .listed in
     let longer : length (leftOf x t (take len list)) ≡ len + 1 = rw (r .front) at (length-leftOf x t (take len list) (rw (r .front) h)) in (
-      (λ T. rw (z, next-done next worker a p, take-filled after (leftOf x t (take len list)) (len + 1) e longer, n)),
+      (λ T amounts. rw (z, next-done next worker a p, take-filled after (leftOf x t (take len list)) (len + 1) e longer, n)),
       rowed-filled after (leftOf x t (take len list)) (len + 1) e longer (omega arith),
     )
 

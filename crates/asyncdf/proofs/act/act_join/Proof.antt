@@ -16,16 +16,17 @@ use Rattle.asyncdf.proofs.Rows.{next-done}
 use Rattle.asyncdf.proofs.act.act_join.Statement.{statement}
 use Rattle.asyncdf.proofs.act.act_join.Tie as tie
 
-module _ (next status : List ℕ) (totals : Totals) (worker : Worker) (a x : ℕ) (T : Table) (list : List ℕ) where
+module _ (next status amounts : List ℕ) (totals : Totals) (worker : Worker) (a x : ℕ) (T : Table) (list : List ℕ) where
   joined : At next worker a → getD status x 0 ≡ ended
-      → stepped (Done (worker .thread) a) (partState (set next (worker .thread) (a + 1)) status list totals worker)
-      ≡ actBy join T 0 (worker .thread) a x (partState next status list totals worker)
+      → stepped (Done (worker .thread) a) (partState (set next (worker .thread) (a + 1)) status
+      (set (set amounts (worker .thread) (getD amounts (worker .thread) 0 + getD amounts x 0)) x 0) list totals worker)
+      ≡ actBy join T 0 (worker .thread) a x (partState next status amounts list totals worker)
   unfolding actBy
   joined p h = rw (eq-eqb (getD status x 0) ended h, next-done next worker a p)
 
   waits : (status' : List ℕ) (left : Worker) → (getD status x 0 ≡ ended → ⊥) → status' ≡ set status (worker .thread) waiting → left ≡ nobody
-      → stepped (Wait (worker .thread) x) (partState next status' list totals left)
-      ≡ actBy join T 0 (worker .thread) a x (partState next status list totals worker)
+      → stepped (Wait (worker .thread) x) (partState next status' amounts list totals left)
+      ≡ actBy join T 0 (worker .thread) a x (partState next status amounts list totals worker)
   unfolding actBy
   waits status' left h s e = rw (ne-eqb (getD status x 0) ended h, s, e)
 
@@ -44,10 +45,35 @@ mul-next c = search needs
 element-write-next : tie.Need-element-write-next
 element-write-next c = search needs
 
+mul-amounts : tie.Need-mul-amounts
+mul-amounts c = search needs
+
+element-copy-out-amounts : tie.Need-element-copy-out-amounts
+element-copy-out-amounts c = search needs
+
+mul-amounts-2 : tie.Need-mul-amounts-2
+mul-amounts-2 c = search needs
+
+element-copy-out-amounts-2 : tie.Need-element-copy-out-amounts-2
+element-copy-out-amounts-2 c = search needs
+
+add-amounts : tie.Need-add-amounts
+add-amounts c = search needs
+
+element-write-amounts : tie.Need-element-write-amounts
+element-write-amounts c = search needs
+
+mul-amounts-3 : tie.Need-mul-amounts-3
+mul-amounts-3 c = search needs
+
+element-write-amounts-2 : tie.Need-element-write-amounts-2
+element-write-amounts-2 c = search needs
+
 returns : tie.Need-returns
 returns c T list =
-    let d = c .before .before in
-    joined (now (d .args .next)) (now (d .args .status)) (d .args .totals) (d .args .worker) (d .args .a) (d .args .c) T list (d .pre .0) (c .if1 .taken)
+    let t = c .before .before in
+    let d = t .before .before in
+    joined (now (d .args .next)) (now (d .args .status)) (now (d .args .amounts)) (d .args .totals) (d .args .worker) (d .args .a) (d .args .c) T list (d .pre .0) (t .if1 .taken)
 
 put-back-requires : tie.Need-put-back-requires
 put-back-requires c κs = search needs
@@ -56,7 +82,7 @@ returns-2 : tie.Need-returns-2
 returns-2 c T list =
     let e = c .before .before in
     let d = e .before .before in
-    waits (now (d .args .next)) (now (d .args .status)) (d .args .totals) (d .args .worker) (d .args .a) (d .args .c) T list _ _ (e .if1 .left) (c .put-back .ensures .0)
+    waits (now (d .args .next)) (now (d .args .status)) (now (d .args .amounts)) (d .args .totals) (d .args .worker) (d .args .a) (d .args .c) T list _ _ (e .if1 .left) (c .put-back .ensures .0)
     (c .put-back .ensures .1)
 
 pub act-join-spec : {M : Type 1} → statement M
@@ -68,6 +94,14 @@ act-join-spec =
     add-next
     mul-next
     element-write-next
+    mul-amounts
+    element-copy-out-amounts
+    mul-amounts-2
+    element-copy-out-amounts-2
+    add-amounts
+    element-write-amounts
+    mul-amounts-3
+    element-write-amounts-2
     returns
     put-back-requires
     returns-2)

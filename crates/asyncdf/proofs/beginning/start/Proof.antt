@@ -25,6 +25,7 @@ begun s p K table next =
       quota = K;
       next = next;
       status = set (replicate 1024 0) 0 1;
+      amounts = replicate 1024 0;
       list = replicate 1024 0;
       listed = 1;
       worker = replicate 16 nobody;

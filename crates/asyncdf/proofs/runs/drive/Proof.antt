@@ -38,7 +38,7 @@ over f limit run reply passed e =
 
 -- the whole run, from the record itself and to the record packed
 driven : {who : ℕ → ℕ} {limit : ℕ} {run left left' : Run} {report : Report} {reply : Reply} {passed : ℕ} {m : Moved} → m ≡ movedOf run → left' ≡ left
-    → Driven who limit (packedOf run (run .next) (run .status) (run .list) (run .worker) m) report reply passed left → Driven who limit run report reply passed left'
+    → Driven who limit (packedOf run (run .next) (run .status) (run .amounts) (run .list) (run .worker) m) report reply passed left → Driven who limit run report reply passed left'
 driven e d x = rw d (rw e at x)
 
 list-size : (s : tie.Start) → length (s .args .run .list) ≡ 1024
@@ -73,17 +73,17 @@ moved-in-requires c κs = search needs
 
 -- the record at the loop's start
 abbrev start : tie.After-moved-in → tie.Start
-start c = c .before .before .before .before .before .before .before .before .before .before .before .before .before .before .before .before
+start c = c .before .before .before .before .before .before .before .before .before .before .before .before .before .before .before .before .before .before
 
 turns-fit : (s : tie.Start) → s .args .run .turns < 2 ^ 64
 turns-fit s = search needs
 
 moving : (c : tie.After-moved-in)
-    → Moving (start c .args .run) (bytesOf (start c .args .run)) (c .before .before .before .before .before .before .before .threads .result)
-    (c .before .before .before .before .before .before .root-end .result) (start c .args .run .workers) (start c .args .run .quota) (now (start c .args .parents))
-    (start c .args .run .next) (start c .args .run .status) (start c .args .run .list) (start c .args .run .worker) (c .moved-in .result)
+    → Moving (start c .args .run) (bytesOf (start c .args .run)) (c .before .before .before .before .before .before .before .before .threads .result)
+    (c .before .before .before .before .before .before .before .root-end .result) (start c .args .run .workers) (start c .args .run .quota) (now (start c .args .parents))
+    (start c .args .run .next) (start c .args .run .status) (start c .args .run .amounts) (start c .args .run .list) (start c .args .run .worker) (c .moved-in .result)
 moving c =
-    let r = c .before .before .before .before .before .before in
+    let r = c .before .before .before .before .before .before .before in
     let s = start c in
     copied-moving (s .pre .0) (root-open _ (r .before .before .if1 .left)) (r .before .threads .ensures .value) (r .root-end .ensures) (s .pre .1 .0) (list-size s) (turns-fit s) (c .moved-in .ensures)
 

@@ -17,19 +17,19 @@ use Rattle.asyncdf.proofs.Along.{Along, first-along, spent, full, none,
 use Rattle.asyncdf.proofs.runs.take_turns.Statement.{statement}
 use Rattle.asyncdf.proofs.runs.take_turns.Tie as tie
 
-record Inv (s : List ℕ) (n last p K : ℕ) (parents next₀ status₀ list₀ : List ℕ) (workers₀ : List Worker) (m₀ : Moved) (order : List ℕ) (rounds : Bool) (limit : ℕ)
-    (next status list : List ℕ) (workers : List Worker) (m : Moved) (reply : Reply) (passed i : ℕ) : Type 0 where
-  begun : Stands s n last p K parents next₀ status₀ list₀ workers₀ m₀
+record Inv (s : List ℕ) (n last p K : ℕ) (parents next₀ status₀ amounts₀ list₀ : List ℕ) (workers₀ : List Worker) (m₀ : Moved) (order : List ℕ) (rounds : Bool) (limit : ℕ)
+    (next status amounts list : List ℕ) (workers : List Worker) (m : Moved) (reply : Reply) (passed i : ℕ) : Type 0 where
+  begun : Stands s n last p K parents next₀ status₀ amounts₀ list₀ workers₀ m₀
   sequence : (j : ℕ) → j < limit → Sequence order rounds p j
-  along : (run : Run) → Moving run s n last p K parents next₀ status₀ list₀ workers₀ m₀
-      → Along (who order rounds p) limit run (packedOf run next₀ status₀ list₀ workers₀ m₀) s n last p K parents next status list workers m reply passed i
+  along : (run : Run) → Moving run s n last p K parents next₀ status₀ amounts₀ list₀ workers₀ m₀
+      → Along (who order rounds p) limit run (packedOf run next₀ status₀ amounts₀ list₀ workers₀ m₀) s n last p K parents next status amounts list workers m reply passed i
 
 abbrev Inv-loop : tie.InvT-loop
-Inv-loop table n last p quota parents next₀ status₀ list₀ order rounds limit workers₀ moved₀ reply₀ passed₀ i₀ next status list workers moved reply passed i =
-    Inv table n last p quota parents next₀ status₀ list₀ workers₀ moved₀ order rounds limit next status list workers moved reply passed i
+Inv-loop table n last p quota parents next₀ status₀ amounts₀ list₀ order rounds limit workers₀ moved₀ reply₀ passed₀ i₀ next status amounts list workers moved reply passed i =
+    Inv table n last p quota parents next₀ status₀ amounts₀ list₀ workers₀ moved₀ order rounds limit next status amounts list workers moved reply passed i
 
 abbrev μ-loop : tie.MeasureT-loop
-μ-loop table n last p quota parents next₀ status₀ list₀ order rounds limit workers₀ moved₀ reply₀ passed₀ i₀ next status list workers moved reply passed i = limit - i
+μ-loop table n last p quota parents next₀ status₀ amounts₀ list₀ order rounds limit workers₀ moved₀ reply₀ passed₀ i₀ next status amounts list workers moved reply passed i = limit - i
 
 -- ---- the loop's places
 
@@ -37,7 +37,7 @@ abbrev μ-loop : tie.MeasureT-loop
 moving : (c : tie.At-loop Inv-loop μ-loop)
     → Moving (c .loop .inv .begun .run) (now (c .before .before .before .args .table)) (c .before .before .before .args .n) (c .before .before .before .args .last)
     (c .before .before .before .args .p) (c .before .before .before .args .quota) (now (c .before .before .before .args .parents))
-    (c .loop .next) (c .loop .status) (c .loop .list) (c .loop .workers) (c .loop .moved)
+    (c .loop .next) (c .loop .status) (c .loop .amounts) (c .loop .list) (c .loop .workers) (c .loop .moved)
 moving c = c .loop .inv .along (c .loop .inv .begun .run) (c .loop .inv .begun .moving) .moving
 
 loop-holds : tie.Need-loop-holds Inv-loop μ-loop
@@ -63,7 +63,7 @@ few-workers c = few (moving (top (asked c))) (c .if2 .left)
 
 -- and the turn taken
 abbrev tests : tie.After-take-turn Inv-loop μ-loop → tie.Else2 Inv-loop μ-loop
-tests c = c .before .before .before .before .before
+tests c = c .before .before .before .before .before .before
 
 returns : tie.Need-returns Inv-loop μ-loop
 returns c =
@@ -90,7 +90,7 @@ array-copy-out-worker c = few-workers c
 
 take-turn-requires : tie.Need-take-turn-requires Inv-loop μ-loop
 take-turn-requires c κs =
-    let e = c .before .before .before .before in
+    let e = c .before .before .before .before .before in
     let v = moving (top (asked e)) in
     (sits v (e .if2 .left), (v .outline .parent, (bit v (e .if2 .left), omega (arith, v .turns-fit, e .before .if1 .left))))
 

@@ -30,15 +30,15 @@ use Rattle.asyncdf.proofs.Ordered.{turnsFrom, Listed, start, ended, exh
 use Rattle.asyncdf.proofs.turns.put_each.Statement.{statement}
 use Rattle.asyncdf.proofs.turns.put_each.Tie as tie
 
-record Tells (run run₀ : Run) (order out₀ : List ℕ) (at₀ : ℕ) (s : List ℕ) (n last p K : ℕ) (parents next status list : List ℕ) (workers : List Worker) (m : Moved) (out : List ℕ) (at i : ℕ)
+record Tells (run run₀ : Run) (order out₀ : List ℕ) (at₀ : ℕ) (s : List ℕ) (n last p K : ℕ) (parents next status amounts list : List ℕ) (workers : List Worker) (m : Moved) (out : List ℕ) (at i : ℕ)
     : Type 0 where
-  moving : Moving run s n last p K parents next status list workers m
-  listed : Listed order out₀ at₀ run₀ out (packedOf run next status list workers m) at i
+  moving : Moving run s n last p K parents next status amounts list workers m
+  listed : Listed order out₀ at₀ run₀ out (packedOf run next status amounts list workers m) at i
 
-module _ {run run₀ : Run} {order out₀ : List ℕ} {at₀ : ℕ} {s : List ℕ} {n last p K : ℕ} {parents next status list : List ℕ} {workers : List Worker} {m : Moved} {out : List ℕ} {at i : ℕ}
-    (v : Tells run run₀ order out₀ at₀ s n last p K parents next status list workers m out at i) where
+module _ {run run₀ : Run} {order out₀ : List ℕ} {at₀ : ℕ} {s : List ℕ} {n last p K : ℕ} {parents next status amounts list : List ℕ} {workers : List Worker} {m : Moved} {out : List ℕ} {at i : ℕ}
+    (v : Tells run run₀ order out₀ at₀ s n last p K parents next status amounts list workers m out at i) where
   abbrev here : Run
-  here = packedOf run next status list workers m
+  here = packedOf run next status amounts list workers m
 
   spent : {o : List ℕ} {r : ℕ} → length order ≤ i → Puts out at o r (lastTexts (lastWith false (m .turns) (m .totals .highest))) 64
       → Puts out₀ at₀ o r (turnsFrom run₀ order) (64 * (length order + 1))
@@ -56,10 +56,10 @@ module _ {run run₀ : Run} {order out₀ : List ℕ} {at₀ : ℕ} {s : List �
           → Puts out₀ at₀ o r (turnsFrom run₀ order) (64 * (length order + 1))
       none b q = refused (v .listed) h (v .moving .unended) (turned-none here (getD order i 0) sound-here (omega (arith, b, v .moving .count))) refl q
 
-      module _ (b : getD order i 0 < p) {next' status' list' : List ℕ} {r : Taken}
-          (t : Took (tableOf s) K (getD order i 0) next status list m (getD workers (getD order i 0) nobody) next' status' list' r) where
+      module _ (b : getD order i 0 < p) {next' status' amounts' list' : List ℕ} {r : Taken}
+          (t : Took (tableOf s) K (getD order i 0) next status amounts list m (getD workers (getD order i 0) nobody) next' status' amounts' list' r) where
         abbrev there : Run
-        there = packedOf run next' status' list' (set workers (getD order i 0) (r .worker)) (r .moved)
+        there = packedOf run next' status' amounts' list' (set workers (getD order i 0) (r .worker)) (r .moved)
 
         takes : record { answer = taken (r .reply) (r .passed); run = there } ≡ turned here (getD order i 0)
         takes =
@@ -76,31 +76,31 @@ module _ {run run₀ : Run} {order out₀ : List ℕ} {at₀ : ℕ} {s : List �
           next-listed = again (v .listed) h (v .moving .unended) takes refl l (rw (← (v .moving .bytes)) at q)
 
           goes-on : ((u : ℕ) → r .reply ≡ Done u last → ⊥)
-              → Tells run run₀ order out₀ at₀ s n last p K parents next' status' list' (set workers (getD order i 0) (r .worker)) (r .moved) o k (i + 1)
+              → Tells run run₀ order out₀ at₀ s n last p K parents next' status' amounts' list' (set workers (getD order i 0) (r .worker)) (r .moved) o k (i + 1)
           goes-on d = record { moving = keeps (v .moving) b t e d; listed = next-listed }
 
           finished : {u a : ℕ} {z : List ℕ} {j : ℕ} → r .reply ≡ Done u a → a ≡ last → Puts o k z j (lastTexts (lastWith true (r .moved .turns) (r .moved .totals .highest))) 64
               → Puts out₀ at₀ z j (turnsFrom run₀ order) (64 * (length order + 1))
           finished x f u = ended next-listed (over (v .moving) b t x f) u
 
-record Inv (s : List ℕ) (n last p K : ℕ) (parents next₀ status₀ list₀ : List ℕ) (workers₀ : List Worker) (m₀ : Moved) (order out₀ : List ℕ) (at₀ : ℕ)
-    (next status list : List ℕ) (workers : List Worker) (m : Moved) (out : List ℕ) (at i : ℕ) : Type 0 where
-  begun : Stands s n last p K parents next₀ status₀ list₀ workers₀ m₀
+record Inv (s : List ℕ) (n last p K : ℕ) (parents next₀ status₀ amounts₀ list₀ : List ℕ) (workers₀ : List Worker) (m₀ : Moved) (order out₀ : List ℕ) (at₀ : ℕ)
+    (next status amounts list : List ℕ) (workers : List Worker) (m : Moved) (out : List ℕ) (at i : ℕ) : Type 0 where
+  begun : Stands s n last p K parents next₀ status₀ amounts₀ list₀ workers₀ m₀
   within : i ≤ length order
   long : length out ≡ length out₀
-  tells : (run : Run) → Moving run s n last p K parents next₀ status₀ list₀ workers₀ m₀
-      → Tells run (packedOf run next₀ status₀ list₀ workers₀ m₀) order out₀ at₀ s n last p K parents next status list workers m out at i
+  tells : (run : Run) → Moving run s n last p K parents next₀ status₀ amounts₀ list₀ workers₀ m₀
+      → Tells run (packedOf run next₀ status₀ amounts₀ list₀ workers₀ m₀) order out₀ at₀ s n last p K parents next status amounts list workers m out at i
 
 threads-in : (s : List ℕ) {n last : ℕ} {parents : List ℕ} → Outlined s n last parents → n ≡ threadsOf s
 unfolding tableOf
 threads-in s l = l .threads
 
 abbrev Inv-loop : tie.InvT-loop
-Inv-loop table n last p quota parents next₀ status₀ list₀ order out₀ at workers₀ moved₀ at₀ i₀ next status list out workers moved at' i =
-    Inv table n last p quota parents next₀ status₀ list₀ workers₀ moved₀ order out₀ at₀ next status list workers moved out at' i
+Inv-loop table n last p quota parents next₀ status₀ amounts₀ list₀ order out₀ at workers₀ moved₀ at₀ i₀ next status amounts list out workers moved at' i =
+    Inv table n last p quota parents next₀ status₀ amounts₀ list₀ workers₀ moved₀ order out₀ at₀ next status amounts list workers moved out at' i
 
 abbrev μ-loop : tie.MeasureT-loop
-μ-loop table n last p quota parents next₀ status₀ list₀ order out₀ at workers₀ moved₀ at₀ i₀ next status list out workers moved at' i = length order - i
+μ-loop table n last p quota parents next₀ status₀ amounts₀ list₀ order out₀ at workers₀ moved₀ at₀ i₀ next status amounts list out workers moved at' i = length order - i
 
 -- ---- the loop's places
 
@@ -109,7 +109,7 @@ begin c = c .before .before .before .before
 
 moving : (c : tie.At-loop Inv-loop μ-loop)
     → Moving (c .loop .inv .begun .run) (now (begin c .args .table)) (begin c .args .n) (begin c .args .last) (begin c .args .p) (begin c .args .quota) (now (begin c .args .parents))
-    (c .loop .next) (c .loop .status) (c .loop .list) (c .loop .workers) (c .loop .moved)
+    (c .loop .next) (c .loop .status) (c .loop .amounts) (c .loop .list) (c .loop .workers) (c .loop .moved)
 moving c = c .loop .inv .tells (c .loop .inv .begun .run) (c .loop .inv .begun .moving) .moving
 
 -- the tests of 32 and 30 have passed
@@ -124,7 +124,7 @@ few-workers c = few (moving (top c)) (c .if2 .left)
 
 -- a turn is taken, and its line put
 abbrev tests : tie.After-take-turn Inv-loop μ-loop → tie.Else2 Inv-loop μ-loop
-tests c = c .before .before .before .before .before
+tests c = c .before .before .before .before .before .before
 
 abbrev turn-of : tie.After-slice-known4 Inv-loop μ-loop → tie.After-take-turn Inv-loop μ-loop
 turn-of c = c .before .before .before .before .before .before .before
@@ -172,7 +172,7 @@ array-copy-out-worker c = few-workers c
 
 take-turn-requires : tie.Need-take-turn-requires Inv-loop μ-loop
 take-turn-requires c κs =
-    let e = c .before .before .before .before in
+    let e = c .before .before .before .before .before in
     let v = moving (top e) in
     (sits v (e .if2 .left), (v .outline .parent, (bit v (e .if2 .left), omega (arith, v .turns-fit, e .before .if1 .left))))
 

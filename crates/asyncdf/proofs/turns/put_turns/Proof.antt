@@ -18,7 +18,7 @@ use Rattle.asyncdf.proofs.turns.put_turns.Tie as tie
 
 -- from the record itself
 puts : (run : Run) (order : List ℕ) {out o : List ℕ} {at r size : ℕ} {m : Moved} → m ≡ movedOf run
-    → Puts out at o r (turnsFrom (packedOf run (run .next) (run .status) (run .list) (run .worker) m) order) size → Puts out at o r (turnsFrom run order) size
+    → Puts out at o r (turnsFrom (packedOf run (run .next) (run .status) (run .amounts) (run .list) (run .worker) m) order) size → Puts out at o r (turnsFrom run order) size
 puts run order e x = rw e at x
 
 list-size : (s : tie.Start) → length (s .args .run .list) ≡ 1024
@@ -28,14 +28,14 @@ turns-fit : (s : tie.Start) → s .args .run .turns < 2 ^ 64
 turns-fit s = search needs
 
 abbrev start : tie.After-moved-in → tie.Start
-start c = c .before .before .before .before .before .before .before .before .before .before .before .before .before .before .before
+start c = c .before .before .before .before .before .before .before .before .before .before .before .before .before .before .before .before .before
 
 moving : (c : tie.After-moved-in)
-    → Moving (start c .args .run) (bytesOf (start c .args .run)) (c .before .before .before .before .before .threads .result) (c .before .before .before .before .root-end .result)
+    → Moving (start c .args .run) (bytesOf (start c .args .run)) (c .before .before .before .before .before .before .threads .result) (c .before .before .before .before .before .root-end .result)
     (start c .args .run .workers) (start c .args .run .quota) (now (start c .args .parents))
-    (start c .args .run .next) (start c .args .run .status) (start c .args .run .list) (start c .args .run .worker) (c .moved-in .result)
+    (start c .args .run .next) (start c .args .run .status) (start c .args .run .amounts) (start c .args .run .list) (start c .args .run .worker) (c .moved-in .result)
 moving c =
-    let r = c .before .before .before .before in
+    let r = c .before .before .before .before .before in
     let s = start c in
     copied-moving (s .pre .0) (s .pre .1 .1) (r .before .threads .ensures .value) (r .root-end .ensures) (s .pre .1 .0) (list-size s) (turns-fit s) (c .moved-in .ensures)
 

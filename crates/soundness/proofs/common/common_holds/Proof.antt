@@ -15,7 +15,7 @@ use Rattle.table.proofs.Passes.{passes-rules}
 use Rattle.schedule.specs.declared.Worker.{Worker}
 use Rattle.schedule.specs.Record.{setOf}
 use Rattle.schedule.specs.Begin.{beginPasses}
-use Rattle.schedule.specs.Sound.{allBelow, nextInBody, inOrder, statusFollows, waitsAtJoin, unused, oneHolder, workerRight, heldRight, common, commonSound}
+use Rattle.schedule.specs.Sound.{allBelow, nextInBody, inOrder, statusFollows, waitsAtJoin, unused, oneHolder, workerRight, heldRight, sharesIn, sameList, common, commonSound}
 use Rattle.soundness.specs.Checks.{Accepted, threadsSound, holdersSound}
 use Rattle.soundness.proofs.Lookups.{few-threads}
 use Rattle.soundness.proofs.Chains.{off, on, cut, stop, pass, first-of}
@@ -23,11 +23,11 @@ use borrow.Author.Needs.{needs}
 use Rattle.soundness.proofs.common.common_holds.Statement.{statement}
 use Rattle.soundness.proofs.common.common_holds.Tie as tie
 
-regroup : (a b c d e f g h i j : Bool)
-    → ((a && (b && (c && (d && e)))) && ((f && g) && (h && (i && j)))) ≡ ((a && (b && (c && (d && (e && (f && (g && (h && i)))))))) && j)
-regroup a b c d e f g h i j = simp and-assoc
+regroup : (a b c d e f g h m i j : Bool)
+    → ((a && (b && (c && (d && e)))) && ((f && g) && (h && (m && (i && j))))) ≡ ((a && (b && (c && (d && (e && (f && (g && (h && (m && i))))))))) && j)
+regroup a b c d e f g h m i j = simp and-assoc
 
-module _ (s : List ℕ) (n p K : ℕ) (next status : List ℕ) (workers : List Worker) (set amount highest : ℕ) (k : Accepted s n) where
+module _ (s : List ℕ) (n p K : ℕ) (next status amounts : List ℕ) (workers : List Worker) (set amount highest : ℕ) (k : Accepted s n) where
   abbrev T : Table
   T = tableOf s
 
@@ -35,24 +35,25 @@ module _ (s : List ℕ) (n p K : ℕ) (next status : List ℕ) (workers : List W
   abbrev tests : Bool
   tests =
       threadsSound (tableOf s) n next status
-      && (holdersSound n p K status workers && (heldRight (tableOf s) next status amount && (leb amount highest && eqb set (setOf workers))))
+      && (holdersSound n p K status workers
+      && (heldRight (tableOf s) next status amount && (sameList amounts (sharesIn (tableOf s) next status) && (leb amount highest && eqb set (setOf workers)))))
 
-  no-begin : {x : Refusal} → firstFound (beginPasses (tableOf s) p K) ≡ At x → false ≡ commonSound s p K next status workers set amount highest
+  no-begin : {x : Refusal} → firstFound (beginPasses (tableOf s) p K) ≡ At x → false ≡ commonSound s p K next status amounts workers set amount highest
   unfolding commonSound
   no-begin h = rw (passes-rules s .1 (k .rules), h) refl
 
   in-parts : length next ≡ 1024 → length status ≡ 1024 → length workers ≡ 16 → n ≡ tableOf s .threads
-      → tests ≡ (common (tableOf s) p K next status workers amount highest && eqb set (setOf workers))
+      → tests ≡ (common (tableOf s) p K next status amounts workers amount highest && eqb set (setOf workers))
   unfolding common
   in-parts a b c d =
       rw (a, b, c, d)
       (regroup (allBelow (nextInBody T next) (T .threads)) (allBelow (inOrder T next status) (T .actions)) (allBelow (statusFollows T next status) (T .threads))
       (allBelow (waitsAtJoin T next status) (T .threads)) (allBelow (λ t. ltb t (T .threads) || unused next status t) 1024)
-      (allBelow (oneHolder status workers) (T .threads)) (allBelow (workerRight (T .threads) p K workers) 16) (heldRight T next status amount) (leb amount highest)
+      (allBelow (oneHolder status workers) (T .threads)) (allBelow (workerRight (T .threads) p K workers) 16) (heldRight T next status amount) (sameList amounts (sharesIn T next status)) (leb amount highest)
       (eqb set (setOf workers)))
 
   begins : length next ≡ 1024 → length status ≡ 1024 → length workers ≡ 16
-      → firstFound (beginPasses (tableOf s) p K) ≡ Nothing → {r : Bool} → r ≡ tests → r ≡ commonSound s p K next status workers set amount highest
+      → firstFound (beginPasses (tableOf s) p K) ≡ Nothing → {r : Bool} → r ≡ tests → r ≡ commonSound s p K next status amounts workers set amount highest
   unfolding commonSound
   begins a b c h e = rw (passes-rules s .1 (k .rules), h) (e ∙ in-parts a b c (k .threads))
 
@@ -64,10 +65,13 @@ start c = c .before .before .before .before
 abbrev Goal : tie.Start → Bool → Type 0
 Goal s r =
     r
-    ≡ commonSound (now (s .args .table)) (s .args .p) (s .args .quota) (now (s .args .next)) (now (s .args .status)) (s .args .workers) (s .args .busy) (s .args .held) (s .args .highest)
+    ≡ commonSound (now (s .args .table)) (s .args .p) (s .args .quota) (now (s .args .next)) (now (s .args .status)) (now (s .args .amounts)) (s .args .workers) (s .args .busy) (s .args .held) (s .args .highest)
+
+abbrev left4 : tie.Start → Bool
+left4 s = leb (s .args .held) (s .args .highest) && eqb (s .args .busy) (setOf (s .args .workers))
 
 abbrev left3 : tie.Start → Bool
-left3 s = leb (s .args .held) (s .args .highest) && eqb (s .args .busy) (setOf (s .args .workers))
+left3 s = sameList (now (s .args .amounts)) (sharesIn (tableOf (now (s .args .table))) (now (s .args .next)) (now (s .args .status))) && left4 s
 
 abbrev left2 : tie.Start → Bool
 left2 s = heldRight (tableOf (now (s .args .table))) (now (s .args .next)) (now (s .args .status)) (s .args .held) && left3 s
@@ -86,7 +90,7 @@ begun : (c : tie.After-enum-told2) {r : Bool}
     → Goal (start c) r
 begun c h =
     let s = start c in
-    begins _ _ _ _ _ _ _ _ _ _ (s .pre .0) (s .pre .1 .1 .1 .0) (s .pre .1 .1 .1 .1) (worker-size s)
+    begins _ _ _ _ _ _ _ _ _ _ _ (s .pre .0) (s .pre .1 .1 .1 .0) (s .pre .1 .1 .1 .1) (worker-size s)
     (sym (c .before .before .begin-fault .ensures) ∙ c .enum-told2 .given .1) h
 
 after1 : (c : tie.Else1) {r : Bool} → r ≡ left1 (start (c .before .before)) → Goal (start (c .before .before)) r
@@ -97,6 +101,9 @@ after2 c h = after1 (c .before .before) (pass (on (c .before .holders-sound .ens
 
 after3 : (c : tie.Else3) {r : Bool} → r ≡ left3 (start (c .before .before .before .before .before .before)) → Goal (start (c .before .before .before .before .before .before)) r
 after3 c h = after2 (c .before .before) (pass (on (c .before .held-right .ensures) (c .if3 .left)) h)
+
+after4 : (c : tie.Else4) {r : Bool} → r ≡ left4 (start (c .before .before .before .before .before .before .before .before)) → Goal (start (c .before .before .before .before .before .before .before .before)) r
+after4 c h = after3 (c .before .before) (pass (on (c .before .amounts-right .ensures) (c .if4 .left)) h)
 
 -- ---- the needs
 
@@ -109,7 +116,7 @@ enum-told c = search needs
 returns : tie.Need-returns
 returns c =
     let s = c .before .before .before .before in
-    no-begin _ _ _ _ _ _ _ _ _ _ (s .pre .0) (sym (c .before .before .begin-fault .ensures) ∙ c .enum-told .given .1)
+    no-begin _ _ _ _ _ _ _ _ _ _ _ (s .pre .0) (sym (c .before .before .begin-fault .ensures) ∙ c .enum-told .given .1)
 
 enum-told-2 : tie.Need-enum-told-2
 enum-told-2 c = search needs
@@ -134,14 +141,23 @@ held-right-requires c κs =
 returns-4 : tie.Need-returns-4
 returns-4 c = after2 (c .before .before) (cut _ (off (c .before .held-right .ensures) (c .if3 .taken)))
 
+amounts-right-requires : tie.Need-amounts-right-requires
+amounts-right-requires c κs =
+    let d = c .before .before .before .before in
+    let s = start (d .before .before) in
+    (s .pre .0, (threads-held d, s .pre .1 .1 .1 .2))
+
+returns-5 : tie.Need-returns-5
+returns-5 c = after3 (c .before .before) (cut _ (off (c .before .amounts-right .ensures) (c .if4 .taken)))
+
 busy-right-requires : tie.Need-busy-right-requires
 busy-right-requires c κs = search needs
 
-returns-5 : tie.Need-returns-5
-returns-5 c = after3 (c .before .before) (pass (le-leb _ _ (c .before .if4 .taken)) (c .busy-right .ensures))
-
 returns-6 : tie.Need-returns-6
-returns-6 c = after3 (c .before) (stop _ _ (lt-leb _ _ (c .if4 .left)))
+returns-6 c = after4 (c .before .before) (pass (le-leb _ _ (c .before .if5 .taken)) (c .busy-right .ensures))
+
+returns-7 : tie.Need-returns-7
+returns-7 c = after4 (c .before) (stop _ _ (lt-leb _ _ (c .if5 .left)))
 
 pub common-holds-spec : {M : Type 1} → statement M
 common-holds-spec =
@@ -157,6 +173,8 @@ common-holds-spec =
     returns-3
     held-right-requires
     returns-4
-    busy-right-requires
+    amounts-right-requires
     returns-5
-    returns-6)
+    busy-right-requires
+    returns-6
+    returns-7)

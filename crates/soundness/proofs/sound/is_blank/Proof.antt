@@ -1,5 +1,5 @@
 -- `soundness::sound::is_blank` meets its contract: the blank record passes each test, and what passes all of them is the blank record.
-use mathlib.Core.Path.{_≡_, sym}
+use mathlib.Core.Path.{_≡_, refl, sym}
 use mathlib.Core.Bool.{Bool, true, false}
 use borrow.Author.Needs.{needs}
 use lib.ListN.{length}
@@ -7,15 +7,16 @@ use Rattle.schedule.specs.declared.Run.{Run}
 use Rattle.schedule.specs.Turn.{isBlank}
 use Rattle.soundness.specs.Checks.{allZero}
 use Rattle.soundness.proofs.Chains.{off, on}
-use Rattle.soundness.proofs.Blank.{tableZero, listZero, threadsZero, workersFree, blank-zero, blank-table, blank-list, blank-threads, blank-free, not-blank, is-blank}
+use Rattle.soundness.proofs.Blank.{tableZero, listZero, threadsZero, amountsZero, workersFree}
+use Rattle.soundness.proofs.Blank.{blank-zero, blank-table, blank-list, blank-threads, blank-amounts, blank-free, not-blank, is-blank}
 use Rattle.soundness.proofs.sound.is_blank.Statement.{statement}
 use Rattle.soundness.proofs.sound.is_blank.Tie as tie
 
 -- the last test decides
 by-workers : (r : Run) → length (r .next) ≡ 1024 → length (r .status) ≡ 1024
-    → allZero r ≡ true → tableZero r ≡ true → listZero r ≡ true → threadsZero r ≡ true → (b : Bool) → b ≡ workersFree r → b ≡ isBlank r
-by-workers r zn zs a c d f true e = sym (is-blank r zn zs a c d f (sym e))
-by-workers r zn zs a c d f false e = not-blank workersFree blank-free r (sym e)
+    → allZero r ≡ true → tableZero r ≡ true → listZero r ≡ true → threadsZero r ≡ true → amountsZero r ≡ true → (b : Bool) → b ≡ workersFree r → b ≡ isBlank r
+by-workers r zn zs a c d f m true e = sym (is-blank r zn zs a c d f m (sym e))
+by-workers r zn zs a c d f m false e = not-blank workersFree blank-free r (sym e)
 
 next-size : (c : tie.Start) → length (c .args .run .next) ≡ 1024
 next-size c = search needs
@@ -50,18 +51,36 @@ unused-right-requires c κs = search needs
 returns-4 : tie.Need-returns-4
 returns-4 c = not-blank threadsZero blank-threads (c .before .before .before .before .before .before .before .before .before .before .before .before .before .before .before .before .args .run) (off (c .before .unused-right .ensures) (c .if4 .taken))
 
+amounts-size : (c : tie.Start) → length (c .args .run .amounts) ≡ 1024
+amounts-size c = search needs
+
+-- where the amounts are tested
+abbrev threads-passed : tie.After-same-amounts → tie.Else4
+threads-passed c = c .before .before .before .before
+
+abbrev start : tie.Else4 → tie.Start
+start u = u .before .before .before .before .before .before .before .before .before .before .before .before .before .before .before .before
+
+same-amounts-requires : tie.Need-same-amounts-requires
+same-amounts-requires c κs = (amounts-size (start (c .before .before .before)), refl)
+
+returns-5 : tie.Need-returns-5
+returns-5 c = not-blank amountsZero blank-amounts (start (threads-passed (c .before)) .args .run) (off (c .before .same-amounts .ensures) (c .if5 .taken))
+
 all-free-requires : tie.Need-all-free-requires
 all-free-requires c κs = search needs
 
-returns-5 : tie.Need-returns-5
-returns-5 c =
-    let u = c .before .before in
+returns-6 : tie.Need-returns-6
+returns-6 c =
+    let m = c .before .before in
+    let u = threads-passed (m .before) in
     let l = u .before .before .before .before .before .before in
     let t = l .before .before .before .before in
     let z = t .before .before .before .before in
     let s = z .before .before in
     by-workers (s .args .run) (next-size s) (status-size s) (on (z .before .all-zero .ensures) (z .if1 .left))
-    (on (t .before .table-rest .ensures) (t .if2 .left)) (on (l .before .list-rest .ensures) (l .if3 .left)) (on (u .before .unused-right .ensures) (u .if4 .left)) _ (c .all-free .ensures)
+    (on (t .before .table-rest .ensures) (t .if2 .left)) (on (l .before .list-rest .ensures) (l .if3 .left)) (on (u .before .unused-right .ensures) (u .if4 .left))
+    (on (m .before .same-amounts .ensures) (m .if5 .left)) _ (c .all-free .ensures)
 
 pub is-blank-spec : {M : Type 1} → statement M
 is-blank-spec =
@@ -75,5 +94,7 @@ is-blank-spec =
     returns-3
     unused-right-requires
     returns-4
+    same-amounts-requires
+    returns-5
     all-free-requires
-    returns-5)
+    returns-6)

@@ -28,10 +28,10 @@ use Rattle.soundness.proofs.sound.sound.Tie as tie
 
 module _ (r : Run) where
   abbrev shared : Bool
-  shared = commonSound (bytesOf r) (r .workers) (r .quota) (r .next) (r .status) (r .worker) (r .busy) (r .held) (r .highest)
+  shared = commonSound (bytesOf r) (r .workers) (r .quota) (r .next) (r .status) (r .amounts) (r .worker) (r .busy) (r .held) (r .highest)
 
   abbrev found : Tested
-  found = commonTested (bytesOf r) (r .workers) (r .quota) (r .next) (r .status) (r .worker) (r .busy) (r .held) (r .highest)
+  found = commonTested (bytesOf r) (r .workers) (r .quota) (r .next) (r .status) (r .amounts) (r .worker) (r .busy) (r .held) (r .highest)
 
   abbrev in-list : Bool
   in-list = listed (tableIn r) (r .next) (r .status) (take (r .listed) (r .list))
@@ -63,8 +63,8 @@ module _ (r : Run) where
     placed : Placed (bytesOf r) (tableIn r .threads) (r .next)
     unfolding commonSound
     placed =
-        let c : Common (tableIn r) (r .workers) (r .quota) (r .next) (r .status) (r .worker) (r .held) (r .highest) =
-        common-exactly _ _ _ _ _ _ _ _ .0
+        let c : Common (tableIn r) (r .workers) (r .quota) (r .next) (r .status) (r .amounts) (r .worker) (r .held) (r .highest) =
+        common-exactly _ _ _ _ _ _ _ _ _ .0
         (first-of _ _
         (second-of (isNothing (firstFound (beginPasses (tableIn r) (r .workers) (r .quota)))) _
         (second-of (isNothing (firstFound (passes (bytesOf r)))) _ e))) in
@@ -93,7 +93,7 @@ bounds c = c .before .rest-sound .ensures .1 (not-false _ (c .if1 .left))
 
 -- the common part is tested after the lengths
 abbrev first : tie.After-test-common → tie.Else1
-first c = c .before .before .before .before .before .before .before
+first c = c .before .before .before .before .before .before .before .before
 
 abbrev start : tie.After-test-common → tie.Start
 start c = first c .before .before
