@@ -8,6 +8,7 @@ import functools
 import pathlib
 import random
 
+import chart
 import machine
 from cases import LARGEST, alloc, end, free, least, parent, work
 from machine import ENDED, HELD, LAST_TURN, READY, WAITING
@@ -24,6 +25,14 @@ def turn(w):
 
 def shown(w):
     return b'v' + bytes([w])
+
+
+def lined():
+    return b'w'
+
+
+def charted(*row):
+    return b'c' + bytes([len(row)]) + bytes(row)
 
 
 def order(*row):
@@ -57,6 +66,11 @@ def called(run, call):
     """What the model answers, as text, and the record."""
     if call[:1] == b'p':
         return changed(run, call)
+    if call[:1] == b'c':
+        return 'chart\n' + chart.chart(run, call[2:]).rstrip('\n'), run
+    if call[:1] == b'w':
+        answer = chart.line(run)
+        return answer if isinstance(answer, str) else ' '.join(map(str, answer)), run
     if call[:1] == b't':
         answer, run = machine.turn(run, call[1])
     elif call[:1] == b'v':
@@ -100,6 +114,17 @@ LEFT = table([fork(1), work, join(1), free(3), end], [alloc(4), end])  # a child
 FIVE = order(0, 1, 0, 2, 0)  # of E with p 3: thread 0 waits for 2, threads 1 and 2 are held, 12 units too
 NEARLY_LAST = [put('turns', LAST_TURN - 1)]
 LEFT_ENDED, LEFT_JOINED = order(0, 1, 1), order(0, 1, 1, 0, 0)  # of LEFT with p 2: the child has ended, and is joined
+WIDE = table(parent(*range(1, 17)), *[[work, end]] * 16)
+LATE = table(parent(1023, *range(1, 1023)), *[[end]] * 1022, [work, end])
+
+
+def row(turns, cells, held):
+    """A line of the chart, its cells written out."""
+    return '%6d%-64s%14d' % (turns, cells, held)
+
+
+def rows(*texts):
+    return 'chart\n' + '\n'.join(texts)
 
 
 def unsound(label, *puts):
@@ -152,6 +177,26 @@ CASES = [
     ('shown: a wait, and a record that is not sound', (2, 6, E), [order(0, 1, 0, 1, 1, 1, 1), shown(0), put('held', 7), shown(0), shown(9)],
      ['spent 7', 'would wait 0 2 passed 1 held 6 highest 6 quota 0', 'changed', 'refused 32 0', 'refused 32 0']),
     ('shown: the blank record', (0, 6, E), [shown(0), shown(255)], ['refused 30 0'] * 2),
+    ('lines of E', (2, 6, E), [lined(), turn(0), lined(), turn(1), lined(), order(0, 1, 0), lined(), rounds(99), lined()],
+     [row(0, '   .   .', 0), 'done 0 0', row(1, '   .   .', 0), 'done 1 5', row(2, '   .   1', 6), 'spent 3', row(5, '   2   1', 12), 'finished 9', row(14, '   .   .', 0)]),
+    ('a line: sixteen workers, all holding', (16, 1, WIDE), [order(*(i // 2 for i in range(32))), lined()],
+     ['spent 32', row(32, '   1   2   3   4   5   6   7   8   9  10  11  12  13  14  15  16', 0)]),
+    ('a line: thread 1,023 fills its cell', (2, 1, LATE), [order(1, 1), lined(), put('turns', 999999), lined()], ['spent 2', row(2, '   .1023', 0), 'changed', row(999999, '   .1023', 0)]),
+    ('a line: 1,023 beside 999,999', (1, 1, LATE), [order(0, 0), put('turns', 999999), lined()], ['spent 2', 'changed', '9999991023' + ' ' * 60 + '             0']),
+    ('a line: 1,000,000 turns', (2, 6, E), [put('turns', 1000000), lined(), *NEARLY_LAST, lined(), put('turns', LAST_TURN), lined()],
+     ['changed', 'refused 43 0', 'changed', 'refused 43 0', 'changed', 'refused 32 0']),
+    ('a line: the blank record', (17, 6, E), [lined(), charted(), charted(0)], [row(0, '', 0), rows(row(0, '', 0)), rows(row(0, '', 0), 'refused 30 0')]),
+    ('a line: not sound', (3, 6, E), [FIVE, put('held', 13), lined(), charted(0), put('turns', 1000000), lined(), charted()],
+     ['spent 5', 'changed', 'refused 32 0', rows('refused 32 0'), 'changed', 'refused 32 0', rows('refused 32 0')]),
+    ('a line: most memory held', (1, LARGEST, table([alloc(LARGEST)] * 8191 + [end])), [rounds(16381), lined()], ['spent 16381', row(16381, '   0', 137422168065)]),
+    ('a chart that reaches 1,000,000 turns', (2, 6, E), [put('turns', 999998), charted(0, 1, 0), charted(0, 2), charted(0), put('turns', 999999), charted(2), charted(0), charted(),
+     put('turns', 1000000), charted(), charted(2)],
+     ['changed', rows(row(999998, '   .   .', 0), row(999999, '   .   .', 0), 'refused 43 0'), rows(row(999998, '   .   .', 0), row(999999, '   .   .', 0), 'refused 30 0'),
+      rows(row(999998, '   .   .', 0), row(999999, '   .   .', 0)), 'changed', rows(row(999999, '   .   .', 0), 'refused 30 0'), rows(row(999999, '   .   .', 0), 'refused 43 0'),
+      rows(row(999999, '   .   .', 0)), 'changed', rows('refused 43 0'), rows('refused 43 0')]),
+    ('a chart where the root ends', (1, 1, least), [put('turns', 999998), charted(0, 0), put('turns', 999999), charted(0), turn(0), charted(0), put('turns', 999999), charted(9)],
+     ['changed', rows(row(999998, '   .', 0), row(999999, '   .', 0)), 'changed', rows(row(999999, '   .', 0), 'refused 43 0'), 'done 0 0', rows('refused 43 0'), 'changed',
+      rows(row(999999, '   .', 0))]),
     ('L 0', (2, 6, E), [rounds(0), order(), rounds(99)], ['spent 0', 'spent 0', 'finished 14']),
     ('worker 255', (16, 6, E), [turn(255), order(0, 255, 0), turn(16), order(15)], ['refused 30 0', 'refused 1 30 0', 'refused 30 0', 'spent 1']),
     ('K above its range', (2, LARGEST + 1, E), [turn(0)], ['refused 30 0']),
@@ -288,7 +333,7 @@ def random_case(rng):
     for _ in range(rng.choice([1, 1, 2])):
         calls.append(random_put(rng, run))
         run = called(run, calls[-1])[1]
-    calls += [shown(rng.randrange(p + 1)), turn(rng.randrange(p)), rounds(rng.randint(0, 9)), order(0, rng.randrange(p), rng.randrange(p + 1))]
+    calls += [lined(), charted(*(rng.randrange(p + 1) for _ in range(rng.randint(0, 3)))), shown(rng.randrange(p + 1)), turn(rng.randrange(p)), rounds(rng.randint(0, 9)), order(0, rng.randrange(p), rng.randrange(p + 1))]
     return (p, quota, data), calls
 
 
@@ -305,7 +350,7 @@ def parts(data):
     calls_at = table_at + int.from_bytes(data[at + 5:table_at], 'little')
     calls, i = [], calls_at
     while data[i]:
-        length = {b't': 2, b'v': 2, b'l': 2 + data[i + 1], b'r': 5, b'p': 12}[data[i:i + 1]]
+        length = {b't': 2, b'v': 2, b'w': 1, b'c': 2 + data[i + 1], b'l': 2 + data[i + 1], b'r': 5, b'p': 12}[data[i:i + 1]]
         calls.append(data[i:i + length])
         i += length
     return data[1:at].decode(), data[at], int.from_bytes(data[at + 1:at + 5], 'little'), data[table_at:calls_at], calls

@@ -1,9 +1,9 @@
 """Draws random and damaged inputs and compares the programs with reference.py and machine.py, which were written on their own.
 
 usage: python3 tests/differential.py [COUNT] [PROGRAM..] [--baseline]
-    COUNT inputs for each program (default 3,000); PROGRAM: tablecheck, maxquota, turnlist, runrounds, call_cases (default: all).
-    From the repository's top, after `rt check tablecheck maxquota turnlist runrounds call_cases`; with --baseline it is the C program of bench/
-    that is compared (all but maxquota and call_cases), after `cc -O3 -o target/baseline bench/baseline.c`.
+    COUNT inputs for each program (default 3,000); PROGRAM: tablecheck, maxquota, turnlist, wallchart, runrounds, call_cases (default: all).
+    From the repository's top, after `rt check tablecheck maxquota turnlist wallchart runrounds call_cases`; with --baseline it is the C
+    program of bench/ that is compared (tablecheck, turnlist and runrounds), after `cc -O3 -o target/baseline bench/baseline.c`.
 """
 import collections
 import os
@@ -12,6 +12,7 @@ import subprocess
 import sys
 
 import call_cases
+import chart
 import machine
 import quota
 from reference import ALLOC, END, FORK, FREE, JOIN, WORK, Table, check, facts_line, serial_order
@@ -147,6 +148,23 @@ def listing_traits(data, text):
         yield 'worker 255'
 
 
+def chart_traits(data, text):
+    """What a chart shows; its inputs are the listing's."""
+    rows = text.splitlines()
+    if rows[-1].startswith('refused'):
+        yield ' '.join(rows[-1].split()[:2])
+    if rows[0].startswith('refused'):
+        return
+    seen = [chart.read(row) for row in rows if not row.startswith('refused')]
+    if len(seen) == 4097:
+        yield 'all 4,097 lines'
+    if any(None not in cells and '.' not in cells for _, cells, _ in seen):
+        yield '16 workers all holding'
+    if any(cell not in (None, '.') and cell > 999 for _, cells, _ in seen for cell in cells):
+        yield 'a thread of four digits'
+    yield 'a chart'
+
+
 def rounds_traits(data, text):
     words = text.split()
     yield words[0] if words[0] != 'refused' else 'refused ' + words[1]
@@ -198,6 +216,9 @@ PROGRAMS = {
     'turnlist': (LISTINGS, turnlist_input, machine.turnlist, listing_traits,
                  ['done', 'open', 'quota', 'wait', 'idle', 'premature', 'order left at the end', 'order of 0', 'order of 4096', 'worker 255',
                   'refused 20', 'refused 21', 'refused 22', 'refused 30', 'refused 33']),
+    'wallchart': (LISTINGS, turnlist_input, chart.wallchart, chart_traits,
+                  ['a chart', 'all 4,097 lines', '16 workers all holding', 'a thread of four digits',
+                   'refused 20', 'refused 21', 'refused 22', 'refused 30', 'refused 33']),
     'runrounds': (ROUNDS, runrounds_input, machine.runrounds, rounds_traits,
                   ['finished', 'spent', 'L 0', 'L at the end', 'refused 20', 'refused 21', 'refused 22', 'refused 33']),
     'call_cases': ([], call_case, lambda data: call_cases.answers(data)[1], call_traits, ['sound', 'refused 32']),
@@ -228,7 +249,7 @@ def main():
     baseline = '--baseline' in sys.argv
     words = [word for word in sys.argv[1:] if word != '--baseline']
     count = int(words.pop(0)) if words and words[0].isdigit() else 3000
-    names = words or [name for name in PROGRAMS if not baseline or name not in ('maxquota', 'call_cases')]
+    names = words or [name for name in PROGRAMS if not baseline or name not in ('maxquota', 'wallchart', 'call_cases')]
     for name in names:
         compare(name, count, ['target/baseline', name] if baseline else ['target/bin/' + name])
     print('%d inputs agree: %d each for %s' % (count * len(names), count, ', '.join(names)))

@@ -1,18 +1,20 @@
-"""Writes the stored input and output of crates/run_cases: inputs of turnlist and runrounds with a label, and the answer expected of each.
+"""Writes the stored input and output of crates/run_cases: inputs of turnlist, runrounds and wallchart with a label, and the answer expected of each.
 
-A record is its sort ('t' turnlist, 'r' runrounds), the label's length (1 byte), the label, the input's length (3 bytes), the input. The
-answers of the named cases are written down here by hand, and held against machine.py as well; those of the random sample are its own.
+A record is its sort ('t' turnlist, 'r' runrounds, 'w' wallchart), the label's length (1 byte), the label, the input's length (3 bytes), the
+input. The answers of the named cases are written down here by hand, and held against machine.py and chart.py as well; those of the random
+sample are theirs.
 """
 import pathlib
 import random
 
 import cases
+import chart
 import differential
 import machine
 from cases import LARGEST, alloc, chain, end, fan, fork, free, join, least, parent, work
 from tables import table
 
-MODEL = {'t': machine.turnlist, 'r': machine.runrounds}
+MODEL = {'t': machine.turnlist, 'r': machine.runrounds, 'w': chart.wallchart}
 first = [alloc(6), work, free(6), end]
 second = [alloc(6), free(6), end]
 e = table(parent(1, 2), first, second)
@@ -31,6 +33,15 @@ def r(p, quota, limit, data):
     return 'r', bytes([p]) + quota.to_bytes(3, 'little') + limit.to_bytes(4, 'little') + data
 
 
+def w(*args):
+    return 'w', t(*args)[1]
+
+
+def row(turns, cells, held):
+    """A line of the chart, its cells written out."""
+    return '%6d%-64s%14d' % (turns, cells, held)
+
+
 E = 'table 3 12 serial 6 depth 8'
 LISTING = [
     E, '1 0 0 0 fork 0', '2 1 1 5 alloc 6', '3 0 0 1 fork 6', '4 1 1 6 work 6', '5 0 2 9 alloc 12', '6 1 1 7 free 6', '7 0 2 10 free 0',
@@ -44,6 +55,9 @@ SEVEN = [
 OTHER_CHILD = [
     E, '1 0 0 0 fork 0', '2 1 1 5 alloc 6', '3 0 0 1 fork 6', '4 2 2 9 alloc 12', '5 0 0 2 wait 12', '6 1 1 6 work 12', '7 1 1 7 free 6',
     '8 1 1 8 end 6']
+CHART = [
+    row(0, '   .   .', 0), row(1, '   .   .', 0), row(2, '   .   1', 6), row(3, '   .   1', 6), row(4, '   .   1', 6), row(5, '   2   1', 12), row(6, '   2   1', 6), row(7, '   2   1', 0),
+    row(8, '   2   .', 0), row(9, '   .   .', 0), row(10, '   .   0', 0), row(11, '   .   0', 0), row(12, '   .   0', 0), row(13, '   .   0', 0), row(14, '   .   .', 0)]
 
 CASES = [
     ('the listing', t(2, 6, both * 7, e), LISTING),
@@ -132,6 +146,21 @@ CASES = [
     ('a byte of the order missing', t(2, 6, both, b'', 3), ['refused 33 0']),
     ('33 before a bad table and p 0', t(0, 0, [], b'\1', 2), ['refused 33 0']),
     ('the table all taken by the order', t(2, 6, [], e, len(e)), ['refused 1 0']),
+    ('the chart', w(2, 6, both * 7, e), CHART),
+    ('the chart, an order one shorter', w(2, 6, (both * 7)[:13], e), CHART[:14]),
+    ('the chart, an order that goes on', w(2, 6, both * 9 + b'\xff', e), CHART),
+    ('the chart, worker 2 instead', w(2, 6, [0, 1, 0, 2, 0], e), CHART[:4] + ['refused 30 0']),
+    ('the chart, worker 2 at once', w(2, 6, [2], e), [CHART[0], 'refused 30 0']),
+    ('the chart, an empty order', w(2, 6, [], e), [CHART[0]]),
+    ('the chart of one end', w(1, 1, [0, 0], least), [row(0, '   .', 0), row(1, '   .', 0)]),
+    ('the chart, quota', w(2, 6, [0, 0, 1], twice), [row(0, '   .   .', 0), row(1, '   0   .', 4), row(2, '   .   .', 4), row(3, '   .   0', 8)]),
+    ('the chart, sixteen workers', w(16, 6, [15, 9], e), [row(0, '   .' * 16, 0), row(1, '   .' * 16, 0), row(2, '   .' * 9 + '   1' + '   .' * 6, 6)]),
+    ('the chart, K 5', w(2, 5, both * 7, e), ['refused 22 5']),
+    ('the chart, p 17', w(17, 6, both * 7, e), ['refused 20 0']),
+    ('the chart, no table', w(1, 1, [0], b''), ['refused 1 0']),
+    ('the chart, an order of 4,097', w(2, 6, bytes(4097), e), ['refused 33 0']),
+    ('the chart, five bytes', ('w', bytes(5)), ['refused 33 0']),
+    ('the chart, an order of 4,096', w(2, 1, [0] + [1] * 4095, table([work, work, end])), [row(0, '   .   .', 0)] + [row(i, '   0   .', 0) for i in range(1, 4097)]),
     ('an order of 4,096', t(2, 1, [0] + [1] * 4095, table([work, work, end])),
      ['table 1 3 serial 0 depth 3', '1 0 0 0 work 0'] + ['%d 1 - - idle 0' % i for i in range(2, 4097)] + ['open 4096 peak 0']),
     ('most memory', r(1, LARGEST, 2**32 - 1, table([alloc(LARGEST)] * 8191 + [end])), ['finished 16382 peak 137422168065 held 137422168065']),
@@ -153,7 +182,7 @@ def sample(rng, sort, draw, count):
     while i < count:
         data = draw(rng)
         text = MODEL[sort](data)
-        if len(data) <= 500 and len(text) <= 900:
+        if len(data) <= 500 and len(text) <= (2500 if sort == 'w' else 900):
             i += 1
             yield 'random %s %d' % (sort, i), (sort, data), text.splitlines()
 
@@ -161,7 +190,7 @@ def sample(rng, sort, draw, count):
 def main():
     rng = random.Random(1)
     named = CASES + list(refused_tables())
-    drawn = list(sample(rng, 't', differential.turnlist_input, 80)) + list(sample(rng, 'r', differential.runrounds_input, 60))
+    drawn = list(sample(rng, 't', differential.turnlist_input, 80)) + list(sample(rng, 'r', differential.runrounds_input, 60)) + list(sample(rng, 'w', differential.turnlist_input, 20))
     data, text = b'', ''
     for label, (sort, case), expected in named + drawn:
         expected = '\n'.join(expected) + '\n'

@@ -8,4 +8,5 @@ pub mod Moving
 pub mod Along
 pub mod Calls
 pub mod Ordered
+pub mod Hindrances
 pub mod Promised

@@ -1,2 +1,3 @@
 pub mod Parts
 pub mod Drives
+pub mod Sheets

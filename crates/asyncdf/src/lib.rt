@@ -1,11 +1,12 @@
-// AsyncDF runs: beginning, a single turn, runs over a list of workers and in rounds, and the lines of a listing. Every call is total, and what it answers equals a definition of
-// crates/schedule.
+// AsyncDF runs: beginning, a single turn, runs over a list of workers and in rounds, and the lines of a listing and of a chart. Every call is total, and what it answers equals a
+// definition of crates/schedule, or of crates/chart.
 use crate::beginning::blank;
 use crate::beginning::start;
 use crate::runs::drive;
 use crate::runs::stopped;
 use crate::turns::put_turns;
-use lines::put_last;
+use chart::MOST_TURNS;
+use chart::put_line;
 use lines::put_refused;
 use schedule::Beginning;
 use schedule::Begun;
@@ -38,6 +39,7 @@ ghost use Rattle.schedule.specs.Listing.{listTurns};
 ghost use Rattle.schedule.specs.Runs.{listRun, roundsRun};
 ghost use Rattle.lines.specs.Lines.{textsOf};
 ghost use Rattle.lines.specs.Puts.{Puts};
+ghost use Rattle.chart.specs.Turns.{chartTurns};
 
 mod act;
 mod beginning;
@@ -169,18 +171,26 @@ pub fn list_turns(run: Run, order: &[u8], out: &mut [u8], at: usize) -> usize
     if !tested.passed {
         return put_refused(out, at, 32);
     }
-    let status = run.status;
-    if status[0] == ENDED {
-        return put_last(out, at, true, run.turns, run.highest);
-    }
-    if order.len() == 0 {
-        return put_last(out, at, false, run.turns, run.highest);
-    }
-    if run.workers == 0 {
-        return put_refused(out, at, 30);
-    }
     let parents = tested.parents;
-    put_turns(run, &parents, order, out, at)
+    put_turns(false, run, &parents, order, out, at)
+}
+
+// The chart's line of a record and those after each turn of an order's workers, up to the root's end, a refusal or the order's end. A text that does not fit is left out; 85 bytes for
+// each of the order and for two lines more are enough.
+pub fn chart_turns(run: Run, order: &[u8], out: &mut [u8], at: usize) -> usize
+    ensures { λ r. ⌜ Puts (now (out .entry)) at (now (out .exit)) r (chartTurns run (now (order .entry))) (85 * (length (now (order .entry)) + 2)) ⌝ }
+{
+    let tested = test(run);
+    if !tested.passed {
+        return put_refused(out, at, 32);
+    }
+    if MOST_TURNS < run.turns {
+        return put_refused(out, at, 43);
+    }
+    let workers = run.worker;
+    let at = put_line(out, at, run.turns, run.workers, workers, run.held);
+    let parents = tested.parents;
+    put_turns(true, run, &parents, order, out, at)
 }
 
 // The number busy: of a record that is sound, turns taken apart, the workers that hold a thread.

@@ -1,30 +1,34 @@
-// The lines of an order's turns: the loop of a run, with a line put after each turn and no record at its end.
+// The lines of an order's turns, of a listing or of a chart: the loop of a run, with a line put after each turn and no record at its end.
 use crate::runs::Moved;
 use crate::runs::moved_in;
 use crate::runs::root_end;
 use crate::runs::take_turn;
+use chart::MOST_TURNS;
+use chart::put_line;
 use lines::put_last;
 use lines::put_refused;
 use lines::put_turn;
 use schedule::Reply;
 use schedule::Run;
 use schedule::Worker;
+use schedule::statuses::ENDED;
 use table::read::code;
 use table::read::threads;
 ghost use mathlib.Core.Path.{_≡_};
-ghost use mathlib.Core.Bool.{false};
-ghost use Prim.Native.Nat.{_+_, _*_};
+ghost use mathlib.Core.Bool.{true, false};
+ghost use Prim.Native.Nat.{_+_, _*_, _≤_, _<_};
 ghost use lib.ListN.{length, getD};
 ghost use Rattle.table.specs.Format.{kind, threadsOf, tableOf};
 ghost use Rattle.schedule.specs.declared.Run.{Run as RunRecord};
-ghost use Rattle.schedule.specs.Listing.{actionIn, threadIn, line, toldWith, turnsBy};
+ghost use Rattle.schedule.specs.Listing.{actionIn, threadIn, line, toldWith, lastWith};
 ghost use Rattle.schedule.specs.Record.{tableIn};
-ghost use Rattle.schedule.specs.Sound.{Steady};
-ghost use Rattle.schedule.specs.Turn.{rootEnded, turned as turnedOf};
-ghost use Rattle.lines.specs.Lines.{turnTexts, textsOf};
+ghost use Rattle.schedule.specs.Turn.{unsound};
+ghost use Rattle.lines.specs.Lines.{turnTexts};
 ghost use Rattle.lines.specs.Puts.{Puts};
+ghost use Rattle.chart.specs.Chart.{shownOf, mostTurns};
 ghost use Rattle.soundness.specs.Checks.{Parents};
 ghost use Rattle.asyncdf.specs.Drives.{Moving, Stands, packedOf};
+ghost use Rattle.asyncdf.specs.Sheets.{turnsTexts, widest, afterTexts, afterSize, overTexts, hindered};
 
 // The action that a reply says was done, 0 where none was.
 fn action_in(reply: Reply) -> u16
@@ -84,8 +88,65 @@ fn put_step(
     put_turn(out, at, turns, w, reply, code, action, held)
 }
 
+// What is put after a turn: the chart's line of the record, or the turn's line.
+fn put_after(
+    chart: bool,
+    table: &[u8],
+    n: usize,
+    next: &[u16; 1024],
+    out: &mut [u8],
+    at: usize,
+    p: u8,
+    workers: [Worker; 16],
+    w: u8,
+    reply: Reply,
+    turns: u64,
+    held: u64,
+) -> usize
+    requires { ⌜ n ≡ threadsOf (now table) ⌝ }
+    ensures { λ r. ⌜ Puts (now (out .entry)) at (now (out .exit)) r
+        (afterTexts chart (shownOf turns p workers held)
+        (line turns w (toldWith reply (kind (tableOf (now (table .entry))) (actionIn reply)) (getD (now (next .entry)) (threadIn reply) 0)) held))
+        (afterSize chart (shownOf turns p workers held)) ⌝ }
+{
+    if chart {
+        return put_line(out, at, turns, p, workers, held);
+    }
+    put_step(table, n, next, out, at, turns, w, reply, held)
+}
+
+// What is put at the root's end or the order's: the last line, and of a chart nothing.
+fn put_over(chart: bool, out: &mut [u8], at: usize, ended: bool, turns: u64, peak: u64) -> usize
+    ensures { λ r. ⌜ Puts (now (out .entry)) at (now (out .exit)) r (overTexts chart (lastWith ended turns peak)) 64 ⌝ }
+{
+    if chart {
+        return at;
+    }
+    put_last(out, at, ended, turns, peak)
+}
+
+// The number with which a turn of worker w is refused, or the chart's line after it; 0 where neither is.
+fn hindrance(chart: bool, p: u8, w: u8, turns: u64) -> u8
+    ensures { λ r. ⌜ r ≡ hindered chart p w turns ⌝ }
+{
+    if chart {
+        if p <= w {
+            return 30;
+        }
+        if turns < MOST_TURNS {
+            return 0;
+        }
+        return 43;
+    }
+    if turns == u64::MAX {
+        return 32;
+    }
+    if p <= w { 30 } else { 0 }
+}
+
 // The turns of an order, from a record whose root has not ended.
 fn put_each(
+    chart: bool,
     table: &[u8],
     n: usize,
     last: usize,
@@ -103,11 +164,12 @@ fn put_each(
     at: usize,
 ) -> usize
     requires { ⌜ Stands (now table) n last p quota (now parents) (now next) (now status) (now amounts) (now list) start from ⌝ }
+    requires { ⌜ (chart ≡ true → from .turns ≤ mostTurns) ⌝ }
     ensures { λ r. ⌜ ((run : RunRecord)
         → Moving run (now (table .entry)) n last p quota (now (parents .entry)) (now (next .entry)) (now (status .entry)) (now (amounts .entry)) (now (list .entry)) start from
         → Puts (now (out .entry)) at (now (out .exit)) r
-        (textsOf (turnsBy rootEnded turnedOf (packedOf run (now (next .entry)) (now (status .entry)) (now (amounts .entry)) (now (list .entry)) start from) (now (order .entry))))
-        (64 * (length (now (order .entry)) + 1))) ⌝ }
+        (turnsTexts chart (packedOf run (now (next .entry)) (now (status .entry)) (now (amounts .entry)) (now (list .entry)) start from) (now (order .entry)))
+        (widest chart * (length (now (order .entry)) + 1))) ⌝ }
 {
     let mut workers = start;
     let mut moved = from;
@@ -115,11 +177,9 @@ fn put_each(
     let mut i = 0;
     while i < order.len() {
         let w = order[i];
-        if moved.turns == u64::MAX {
-            return put_refused(out, at, 32);
-        }
-        if p <= w {
-            return put_refused(out, at, 30);
+        let number = hindrance(chart, p, w, moved.turns);
+        if number != 0 {
+            return put_refused(out, at, number);
         }
         let k = w as usize;
         let worker = workers[k];
@@ -141,49 +201,63 @@ fn put_each(
         moved = t.moved;
         i += 1;
         let reply = t.reply;
-        at = put_step(
+        at = put_after(
+            chart,
             table,
             n,
             next,
             out,
             at,
-            moved.turns,
+            p,
+            workers,
             w,
             reply,
+            moved.turns,
             moved.totals.held,
         );
         let Reply::Done { thread: _, action } = reply else {
             continue;
         };
         if action as usize == last {
-            return put_last(out, at, true, moved.turns, moved.totals.highest);
+            return put_over(chart, out, at, true, moved.turns, moved.totals.highest);
         }
     }
-    put_last(out, at, false, moved.turns, moved.totals.highest)
+    put_over(chart, out, at, false, moved.turns, moved.totals.highest)
 }
 
-// The turns of an order, on a record that is sound but for its turns taken and whose root has not ended.
+// The turns of an order, on a record that passed check 32.
 pub(crate) fn put_turns(
+    chart: bool,
     run: Run,
     parents: &[u16; 1024],
     order: &[u8],
     out: &mut [u8],
     at: usize,
 ) -> usize
-    requires { ⌜ Steady run ⌝ }
-    requires { ⌜ Parents (tableIn run) (now parents) ⌝ }
-    requires { ⌜ rootEnded run ≡ false ⌝ }
-    ensures { λ r. ⌜ Puts (now (out .entry)) at (now (out .exit)) r (textsOf (turnsBy rootEnded turnedOf run (now (order .entry)))) (64 * (length (now (order .entry)) + 1)) ⌝ }
+    requires { ⌜ unsound run ≡ false ⌝ }
+    requires { ⌜ (0 < run .workers → Parents (tableIn run) (now parents)) ⌝ }
+    requires { ⌜ (chart ≡ true → run .turns ≤ mostTurns) ⌝ }
+    ensures { λ r. ⌜ Puts (now (out .entry)) at (now (out .exit)) r (turnsTexts chart run (now (order .entry))) (widest chart * (length (now (order .entry)) + 1)) ⌝ }
 {
+    let mut status = run.status;
+    if status[0] == ENDED {
+        return put_over(chart, out, at, true, run.turns, run.highest);
+    }
+    if order.len() == 0 {
+        return put_over(chart, out, at, false, run.turns, run.highest);
+    }
+    if run.workers == 0 {
+        return put_refused(out, at, 30);
+    }
     let length = run.length as usize;
     let table = run.table;
     let bytes = &table[..length];
     let mut next = run.next;
-    let mut status = run.status;
     let mut amounts = run.amounts;
     let mut list = run.list;
     let start = run.worker;
     put_each(
+        chart,
         bytes,
         threads(bytes),
         root_end(bytes),

@@ -1,6 +1,8 @@
 // Begins runs and moves them on by single calls, also after something in the record was changed by hand, and prints each answer with what the record then holds. A record of the input:
 // the label's length (1 byte), the label, p (1), K (4), the table's length (3), the table, then calls up to a byte 0: 't' and a worker (1); 'l', a length (1) and an order; 'r' and
-// L (4); 'v' and a worker (1), a turn shown and not taken; 'p', a field (1), a place (2) and a value (8).
+// L (4); 'v' and a worker (1), a turn shown and not taken; 'w', the record's line of the wall chart; 'c', a length (1) and an order, the chart over it; 'p', a field (1), a place (2) and a
+// value (8).
+use chart::Charted;
 use libc::STDIN_FILENO;
 use libc::STDOUT_FILENO;
 use preview::Previewed;
@@ -58,6 +60,12 @@ fn within(k: usize, buffer: &[u8]) -> usize
 
 fn say(word: &[u8]) {
     io::write_all(STDOUT_FILENO, word);
+}
+
+// The first k bytes of a text.
+fn say_front(text: &[u8], k: usize) {
+    let n = within(k, text);
+    say(&text[..n]);
 }
 
 // A word and a number.
@@ -314,6 +322,44 @@ fn call_preview(run: Run) -> Run {
     run
 }
 
+// A line without its newline.
+fn say_line(line: &[u8; 85]) {
+    let text = &line[..];
+    say_front(text, 84);
+}
+
+fn call_line(run: Run) -> Run {
+    let mut line = [0u8; 85];
+    let charted = chart::wall_line(run, &mut line);
+    match charted {
+        Charted::Written => say_line(&line),
+        Charted::Refused(x) => {
+            say(b"refused");
+            tell_refusal(x);
+        }
+    }
+    run
+}
+
+// Reads an order that fills the buffer and prints the chart over it, without its last newline.
+fn call_lines(run: Run, buffer: &mut [u8]) -> Run {
+    let n = io::read_full(STDIN_FILENO, buffer);
+    let mut text = [0u8; 21845];
+    let k = asyncdf::chart_turns(run, &buffer[..n], &mut text, 0);
+    say(b"chart\n");
+    if 0 < k {
+        say_front(&text, k - 1);
+    }
+    run
+}
+
+fn call_chart(run: Run) -> Run {
+    let length = wide(one_byte());
+    let mut buffer = io::buffer();
+    let n = within(length, &buffer);
+    call_lines(run, &mut buffer[..n])
+}
+
 fn call_order(run: Run, buffer: &mut [u8]) -> Run {
     let n = io::read_full(STDIN_FILENO, buffer);
     let ran = asyncdf::run_list(run, &buffer[..n]);
@@ -350,6 +396,8 @@ fn call(sort: u8, run: Run) -> Run {
         b'l' => call_list(run),
         b'r' => call_rounds(run),
         b'v' => call_preview(run),
+        b'w' => call_line(run),
+        b'c' => call_chart(run),
         _ => call_put(run),
     }
 }

@@ -1,5 +1,5 @@
 -- The line of every record that passes 32 and 43: each number fits its columns, so that the line has its width and is read back; and the call's answer, check by check.
-use mathlib.Core.Path.{_≡_, refl, ap, subst, _∙_}
+use mathlib.Core.Path.{_≡_, refl, sym, ap, subst, _∙_}
 use Prim.Native.Nat.{ℕ, zero, suc, _+_, _^_, _≤_, _<_}
 use native.Mathlib.Omega.{arith}
 use mathlib.Core.List.{List, [], _∷_}
@@ -9,17 +9,21 @@ use lib.Dec.{ltb}
 use lib.ListN.{length, getD}
 use Rattle.table.specs.Sum.{pick}
 use Rattle.table.specs.Pass.{refusal, tryAt}
+use Rattle.table.specs.Load.{foundNumber, foundPlace}
+use Rattle.table.specs.declared.Found.{Found}
+use Rattle.table.specs.declared.Found.the-variants.{Nothing, At}
 use Rattle.schedule.specs.declared.Worker.{Worker}
 use Rattle.schedule.specs.declared.Run.{Run}
 use Rattle.schedule.specs.Machine.{nobody}
 use Rattle.schedule.specs.Record.{blank}
 use Rattle.schedule.specs.Sound.{Steady}
 use Rattle.schedule.specs.Turn.{unsound}
+use Rattle.schedule.proofs.Tests.{sound-exactly}
 use Rattle.schedule.proofs.Stores.{steady-lawful, steady-facts}
 use Rattle.schedule.proofs.Soundness.{held-fits}
 use Rattle.soundness.proofs.Passed.{has-workers, no-workers}
 use Rattle.chart.specs.declared.Charted.the-variants.{Written, Refused}
-use Rattle.chart.specs.Chart.{Cell, thread, none, absent, cellsFrom, shown, lineOf, readBack, tooMany, chartChecks, charted}
+use Rattle.chart.specs.Chart.{Cell, thread, none, absent, cellsFrom, shown, lineOf, readBack, mostTurns, tooMany, chartChecks, chartedAs, charted, chartedValues, lineValues}
 use Rattle.chart.proofs.Reading.{CellFits, CellsFit, Fits, line-width, line-newline, line-read}
 
 -- ---- the cells
@@ -42,7 +46,7 @@ cells-fit p w (x ∷ l) h = (cell-fits (ltb w p) (x .holds) (x .thread) (h 0 (om
 -- ---- the numbers
 
 -- of a record that is sound but for its turns taken
-pub steady-shown : (r : Run) → Steady r → r .turns ≤ 999999 → Fits (shown r)
+pub steady-shown : (r : Run) → Steady r → r .turns ≤ mostTurns → Fits (shown r)
 steady-shown r h t =
     let f = steady-facts r h .holding in
     record {
@@ -56,10 +60,14 @@ blank-shown : Fits (shown blank)
 unfolding blank cellsFrom
 blank-shown = record { turns = omega arith; sixteen = refl; cells = (tt, (tt, (tt, (tt, (tt, (tt, (tt, (tt, (tt, (tt, (tt, (tt, (tt, (tt, (tt, (tt, tt)))))))))))))))); held = omega arith }
 
+pub steady-passes : (r : Run) → Steady r → r .turns ≤ mostTurns → unsound r ≡ false
+unfolding unsound
+steady-passes r h t = rw (sound-exactly r .1 (record { steady = h; turns = omega arith }))
+
 module _ (r : Run) (e : unsound r ≡ false) (t : tooMany r ≡ false) where
-  few-turns : r .turns ≤ 999999
+  few-turns : r .turns ≤ mostTurns
   unfolding tooMany
-  few-turns = ltb-false 999999 (r .turns) t
+  few-turns = ltb-false mostTurns (r .turns) t
 
   pub fits : Fits (shown r)
   fits = go (ltb 0 (r .workers)) refl
@@ -87,13 +95,13 @@ module _ (r : Run) where
   charted-unsound e = rw e
 
   module _ (e : unsound r ≡ false) where
-    pub many : 999999 < r .turns → tooMany r ≡ true
+    pub many : mostTurns < r .turns → tooMany r ≡ true
     unfolding tooMany
-    many h = lt-ltb 999999 (r .turns) h
+    many h = lt-ltb mostTurns (r .turns) h
 
-    pub few : r .turns ≤ 999999 → tooMany r ≡ false
+    pub few : r .turns ≤ mostTurns → tooMany r ≡ false
     unfolding tooMany
-    few h = le-ltb 999999 (r .turns) h
+    few h = le-ltb mostTurns (r .turns) h
 
     pub charted-many : tooMany r ≡ true → Refused (refusal 43 0) ≡ charted r
     unfolding charted chartChecks tryAt
@@ -102,3 +110,16 @@ module _ (r : Run) where
     pub charted-written : tooMany r ≡ false → Written ≡ charted r
     unfolding charted chartChecks tryAt
     charted-written t = rw (e, t)
+
+  -- number and place of the answer are those of the first check that applies
+  pub charted-values : chartedValues (charted r) ≡ lineValues r
+  unfolding charted lineValues
+  charted-values = go (tryAt (chartChecks r) 0)
+    where
+      go : (f : Found) → chartedValues (chartedAs f) ≡ record { number = foundNumber f; place = foundPlace f }
+      go Nothing = refl
+      go (At x) = refl
+
+-- a record that is sound but for its turns taken, of which there are not too many, has its line
+pub steady-written : (r : Run) → Steady r → r .turns ≤ mostTurns → charted r ≡ Written
+steady-written r h t = let e = steady-passes r h t in sym (charted-written r e (few r e t))

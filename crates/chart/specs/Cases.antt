@@ -1,15 +1,12 @@
 -- Lines worked out: the blank record's, and one with a thread that fills its cell, a worker with none and no worker.
 use mathlib.Core.Path.{_≡_, refl}
 use mathlib.Core.List.{List, [], _∷_, flatten}
-use Rattle.text.specs.Text.{decimal, digitsOf}
+use Rattle.text.specs.Text.{ascii, decimal, digitsOf}
 use Rattle.schedule.specs.Record.{blank}
 use Rattle.chart.specs.Chart.{thread, none, absent, cellsFrom, rightTexts, cellTexts, cellsTexts, lineTexts, lineText, lineOf, readBack, cellsIn, cellIn, numberFrom}
 use Rattle.chart.specs.Chart.{Shown, shown}
 
--- "9999991023   .                12\n"
-touching : lineText (record { turns = 999999; cells = thread 1023 ∷ none ∷ absent ∷ []; held = 12 })
-    ≡ 57 ∷ 57 ∷ 57 ∷ 57 ∷ 57 ∷ 57 ∷ 49 ∷ 48 ∷ 50 ∷ 51 ∷ 32 ∷ 32 ∷ 32 ∷ 46 ∷ 32 ∷ 32 ∷ 32 ∷ 32
-    ∷ 32 ∷ 32 ∷ 32 ∷ 32 ∷ 32 ∷ 32 ∷ 32 ∷ 32 ∷ 32 ∷ 32 ∷ 32 ∷ 32 ∷ 49 ∷ 50 ∷ 10 ∷ []
+touching : lineText (record { turns = 999999; cells = thread 1023 ∷ none ∷ absent ∷ []; held = 12 }) ≡ ascii "9999991023   .                12\n"
 unfolding lineTexts cellsTexts cellTexts rightTexts flatten decimal digitsOf
 touching = refl
 

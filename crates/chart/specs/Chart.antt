@@ -6,9 +6,10 @@ use lib.ListN.{length, getD, take, drop, replicate}
 use lib.Dec.{eqb, ltb}
 use Rattle.table.specs.Sum.{pick}
 use Rattle.table.specs.Pass.{Check, tryAt}
+use Rattle.table.specs.Load.{foundNumber, foundPlace}
 use Rattle.table.specs.declared.Found.{Found}
 use Rattle.table.specs.declared.Found.the-variants.{Nothing, At}
-use Rattle.text.specs.Text.{decimal, newline}
+use Rattle.text.specs.Text.{ascii, decimal, newline}
 use Rattle.schedule.specs.declared.Worker.{Worker}
 use Rattle.schedule.specs.declared.Run.{Run}
 use Rattle.schedule.specs.Turn.{unsound}
@@ -48,13 +49,11 @@ shown r = shownOf (r .turns) (r .workers) (r .worker) (r .held)
 unfoldable pub rightTexts : ℕ → ℕ → List (List ℕ)
 rightTexts width n = replicate (width - length (decimal n)) 32 ∷ decimal n ∷ []
 
--- "   ."
 abbrev pub noneWord : List ℕ
-noneWord = 32 ∷ 32 ∷ 32 ∷ 46 ∷ []
+noneWord = ascii "   ."
 
--- "    "
 abbrev pub absentWord : List ℕ
-absentWord = 32 ∷ 32 ∷ 32 ∷ 32 ∷ []
+absentWord = ascii "    "
 
 -- "cells of 4 .. the thread .. right-aligned, or a full stop in its last column"
 unfoldable pub cellTexts : Cell → List (List ℕ)
@@ -100,8 +99,11 @@ readBack s = record { turns = numberIn (take 6 s); cells = cellsIn 16 (drop 6 s)
 -- ---- the call
 
 -- 43: "turns taken above 999,999"
+abbrev pub mostTurns : ℕ
+mostTurns = 999999
+
 unfoldable pub tooMany : Run → Bool
-tooMany r = ltb 999999 (r .turns)
+tooMany r = ltb mostTurns (r .turns)
 
 -- "43 .. after 32"; their place is 0
 unfoldable pub chartChecks : Run → List Check
@@ -118,3 +120,18 @@ charted r = chartedAs (tryAt (chartChecks r) 0)
 abbrev pub chartedIn : Charted → Run → List ℕ → List ℕ
 chartedIn Written r out = lineOf r
 chartedIn (Refused x) r out = out
+
+-- ---- the paper's number and place
+
+-- of an answer: 0 and 0 where a line is written
+pub record Values : Type 0 where
+  pub number : ℕ
+  pub place : ℕ
+
+abbrev pub chartedValues : Charted → Values
+chartedValues Written = record { number = 0; place = 0 }
+chartedValues (Refused x) = record { number = x .number; place = x .place }
+
+-- from the checks alone
+unfoldable pub lineValues : Run → Values
+lineValues r = record { number = foundNumber (tryAt (chartChecks r) 0); place = foundPlace (tryAt (chartChecks r) 0) }

@@ -1,2 +1,3 @@
 pub mod Chart
+pub mod Turns
 pub mod Cases

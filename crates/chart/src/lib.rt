@@ -3,11 +3,14 @@ use schedule::Run;
 use soundness::test;
 use table::Refusal;
 ghost use mathlib.Core.Path.{_≡_};
-ghost use Rattle.chart.specs.Chart.{charted, chartedIn};
+ghost use Rattle.chart.specs.Chart.{charted, chartedIn, chartedValues, lineValues};
 
 mod line;
 
 pub use line::put_line;
+
+// The most turns taken that a line shows.
+pub const MOST_TURNS: u64 = 999_999;
 
 // Whether a line was written.
 pub enum Charted {
@@ -18,6 +21,7 @@ pub enum Charted {
 // The line of a record that passes 32 and 43; on either the buffer is as it was.
 pub fn wall_line(run: Run, out: &mut [u8; 85]) -> Charted
     ensures { λ r. ⌜ r ≡ charted run ⌝ }
+    ensures { λ r. ⌜ chartedValues r ≡ lineValues run ⌝ }
     ensures { λ r. ⌜ now (out .exit) ≡ chartedIn (charted run) run (now (out .entry)) ⌝ }
 {
     let tested = test(run);
@@ -27,7 +31,7 @@ pub fn wall_line(run: Run, out: &mut [u8; 85]) -> Charted
             place: 0,
         });
     }
-    if 999_999 < run.turns {
+    if MOST_TURNS < run.turns {
         return Charted::Refused(Refusal {
             number: 43,
             place: 0,

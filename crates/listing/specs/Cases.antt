@@ -1,4 +1,5 @@
--- What `turnlist` prints on document 01's worked cases that bear a star, and on rows of our own, as two tables with one theorem over both, computed on the definitions.
+-- What `turnlist` prints on document 01's worked cases that bear a star, and on rows of our own, as two tables with one theorem over both, computed on the definitions; and what `wallchart`
+-- prints on some of them.
 use mathlib.Core.Path.{_≡_, refl}
 use Prim.Native.Nat.{ℕ}
 use mathlib.Core.List.{List, [], _∷_, _++_, map, flatten}
@@ -19,7 +20,11 @@ use Rattle.schedule.specs.Begin.{allocAbove, firsts, startState, startRun, begi
 use Rattle.schedule.specs.Turn.{rootEnded, noWorker, stepRun}
 use Rattle.schedule.specs.Cases.{turnedSound, orderE, orderWait}
 use Rattle.lines.specs.Lines.{kindWord, toldTexts, turnTexts, lastTexts, linesThen}
-use Rattle.listing.specs.Listing.{inputWrong, listedBy, listingBy}
+use Rattle.schedule.specs.declared.Run.{Run}
+use Rattle.chart.specs.declared.Charted.{Charted}
+use Rattle.chart.specs.declared.Charted.the-variants.{Written}
+use Rattle.chart.specs.Chart.{cellsFrom, rightTexts, cellTexts, cellsTexts, lineTexts}
+use Rattle.listing.specs.Listing.{inputWrong, listedBy, listingBy, walledBy, wallBy}
 
 pub record Case : Type 0 where
   pub input : List ℕ
@@ -148,3 +153,55 @@ Worked print l = map (λ (c : Case). print (c .input)) l ≡ map (λ (c : Case).
 pub worked : Worked (listingBy turnedSound) cases × Worked (listingBy turnedSound) ownCases
 unfolding cases ownCases flatten inputWrong listedBy listingBy kindWord toldTexts turnTexts lastTexts linesThen acceptedLine refusedLine decimal digitsOf loaded factsOf sumTo sumOver greatest anyBelow codeOf kindOf is tableOf tryAt tryFrom tryPass firstFound entryWrong totalWrong ownerBelow kindUnknown argumentWrong endMisplaced forkedBelow forkedBefore openBefore joinNotLatest endWithOpen neverForked allocOf freeOf wholeWithin balance balanceBelow0 passes serialWithin fronts heldAfter peakOf S1 forkBelow forkOf beforeIt joinedEnd dependsOn levelWithin D leftOf without waitsFor woken actBy act leftmost taken turnFree turnOf setOf allocAbove firsts startState startRun begin rootEnded noWorker stepRun
 worked = (refl, refl)
+
+-- ---- the wall chart
+
+-- E for p 2, K 6: the record of the beginning, the first three turns, and those after them where 0 and 1 go on in turn
+abbrev pub wallOfE : List ℕ
+wallOfE =
+    ascii "     0   .   .                                                                     0\n"
+
+abbrev pub firstRows : List ℕ
+firstRows =
+    ascii "     1   .   .                                                                     0\n"
+    ++ ascii "     2   .   1                                                                     6\n"
+    ++ ascii "     3   .   1                                                                     6\n"
+
+abbrev pub laterRows : List ℕ
+laterRows =
+    ascii "     4   .   1                                                                     6\n"
+    ++ ascii "     5   2   1                                                                    12\n"
+    ++ ascii "     6   2   1                                                                     6\n"
+    ++ ascii "     7   2   1                                                                     0\n"
+    ++ ascii "     8   2   .                                                                     0\n"
+    ++ ascii "     9   .   .                                                                     0\n"
+    ++ ascii "    10   .   0                                                                     0\n"
+    ++ ascii "    11   .   0                                                                     0\n"
+    ++ ascii "    12   .   0                                                                     0\n"
+    ++ ascii "    13   .   0                                                                     0\n"
+    ++ ascii "    14   .   .                                                                     0\n"
+
+unfoldable pub wallCases : List Case
+unfolding codeOf
+wallCases =
+    -- the chart of the listing's run
+    prints (inputOf 2 6 orderE E) (wallOfE ++ firstRows ++ laterRows)
+    -- it stops at the root's end, whatever is left of the order
+    ∷ prints (inputOf 2 6 (orderE ++ (9 ∷ [])) E) (wallOfE ++ firstRows ++ laterRows)
+    -- "a refusal, which is a line"
+    ∷ prints (inputOf 2 6 (0 ∷ 1 ∷ 0 ∷ 2 ∷ 0 ∷ []) E) (wallOfE ++ firstRows ++ endsRefused)
+    -- an empty order
+    ∷ prints (inputOf 2 6 [] E) wallOfE
+    -- the checks of the listing
+    ∷ prints (inputOf 2 5 orderE E) refused22
+    ∷ prints (inputOf 0 0 [] []) refused1
+    ∷ prints (2 ∷ 6 ∷ 0 ∷ 0 ∷ bytes16 1) refused33
+    ∷ []
+
+-- every record has its line; it has on every row (`walls-worked`, proofs/Worked)
+abbrev pub always : Run → Charted
+always r = Written
+
+pub walls : Worked (wallBy always turnedSound) wallCases
+unfolding wallCases flatten inputWrong walledBy wallBy lineTexts cellsTexts cellTexts rightTexts cellsFrom refusedLine decimal digitsOf loaded factsOf sumTo sumOver greatest anyBelow codeOf kindOf is tableOf tryAt tryFrom tryPass firstFound entryWrong totalWrong ownerBelow kindUnknown argumentWrong endMisplaced forkedBelow forkedBefore openBefore joinNotLatest endWithOpen neverForked allocOf freeOf wholeWithin balance balanceBelow0 passes serialWithin fronts heldAfter peakOf S1 forkBelow forkOf beforeIt joinedEnd dependsOn levelWithin D leftOf without waitsFor woken actBy act leftmost taken turnFree turnOf setOf allocAbove firsts startState startRun begin rootEnded noWorker stepRun
+walls = refl

@@ -1,4 +1,4 @@
--- What `turnlist` and `runrounds` print, from the bytes that they read (document 01, "The turn listing").
+-- What `turnlist`, `runrounds` and `wallchart` print, from the bytes that they read (document 01, "The turn listing"; change request N5).
 use Prim.Native.Nat.{ℕ, _+_, _*_}
 use mathlib.Core.List.{List, [], _∷_, flatten}
 use mathlib.Core.Bool.{Bool, _||_}
@@ -22,6 +22,9 @@ use Rattle.schedule.specs.Turn.{rootEnded, turned}
 use Rattle.schedule.specs.Runs.{roundsRun}
 use Rattle.schedule.specs.Listing.{turnsBy}
 use Rattle.lines.specs.Lines.{textsOf, reportTexts}
+use Rattle.chart.specs.declared.Charted.{Charted}
+use Rattle.chart.specs.Chart.{charted}
+use Rattle.chart.specs.Turns.{chartBy}
 
 -- ---- the listing of a run over an order
 
@@ -68,6 +71,30 @@ listingBy turn s = flatten (pick (inputWrong s) wrongInput (listedBy turn (table
 
 abbrev pub listingOf : List ℕ → List ℕ
 listingOf = listingBy turned
+
+-- ---- the wall chart of a run over an order
+
+-- the beginning's refusal, the table's among them, is the only line
+abbrev pub begunThen : Beginning → List (List ℕ) → List (List ℕ)
+begunThen started rest = rest
+begunThen (refusedBeginning x) rest = refusedLine x ∷ []
+
+-- a line for the record of the beginning and one after each turn
+unfoldable pub walledBy : (Run → Charted) → (Run → ℕ → Turned) → List ℕ → ℕ → ℕ → List ℕ → List (List ℕ)
+walledBy line turn t p K order = begunThen (begin t p K .answer) (chartBy line turn (begin t p K .run) order)
+
+-- the input and its check are the listing's
+unfoldable pub wallBy : (Run → Charted) → (Run → ℕ → Turned) → List ℕ → List ℕ
+wallBy line turn s = flatten (pick (inputWrong s) wrongInput (walledBy line turn (tableAfter s) (workersIn s) (quotaIn s) (orderIn s)))
+
+abbrev pub wallOf : List ℕ → List ℕ
+wallOf = wallBy charted turned
+
+-- either, as the code has it: the texts of a chart or of a listing
+unfoldable pub printedTexts : Bool → List ℕ → List (List ℕ)
+printedTexts chart s =
+    pick (inputWrong s) wrongInput
+    (pick chart (walledBy charted turned (tableAfter s) (workersIn s) (quotaIn s) (orderIn s)) (listedBy turned (tableAfter s) (workersIn s) (quotaIn s) (orderIn s)))
 
 -- ---- the line of a run in rounds
 

@@ -1,5 +1,5 @@
-// Reads inputs of turnlist and runrounds one after the other, each with a label, and prints the label and the answer of each. A record of the input
-// is its sort ('t' or 'r', 1 byte), the label's length (1 byte), the label, the input's length (3 bytes), the input.
+// Reads inputs of turnlist, runrounds and wallchart one after the other, each with a label, and prints the label and the answer of each. A record of the input
+// is its sort ('t', 'r' or 'w', 1 byte), the label's length (1 byte), the label, the input's length (3 bytes), the input.
 use libc::STDIN_FILENO;
 use libc::STDOUT_FILENO;
 ghost use Prim.Native.Nat.{_<_};
@@ -46,6 +46,13 @@ fn turns(input: &[u8]) {
     io::write_all(STDOUT_FILENO, &text[..k]);
 }
 
+// Prints what wallchart answers.
+fn chart(input: &[u8]) {
+    let mut text = [0u8; 348330];
+    let k = listing::wall_chart(input, &mut text);
+    io::write_all(STDOUT_FILENO, &text[..k]);
+}
+
 // Prints what runrounds answers.
 fn rounds(input: &[u8]) {
     let mut text = [0u8; 96];
@@ -58,6 +65,8 @@ fn answer(sort: u8, buffer: &mut [u8]) {
     let n = io::read_full(STDIN_FILENO, buffer);
     if sort == b't' {
         turns(&buffer[..n]);
+    } else if sort == b'w' {
+        chart(&buffer[..n]);
     } else {
         rounds(&buffer[..n]);
     }

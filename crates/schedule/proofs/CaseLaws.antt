@@ -67,7 +67,7 @@ module _ (T : Table) where
       ap suc (picked (λ (s : Stepped). s .state .turns) (st .turns) (workerOf st w .holds) _ _ (holder-turns w st)
       (picked (λ (s : Stepped). s .state .turns) (st .turns) (eqb (leftmost (st .status) (st .list)) (length (st .list))) _ _ refl (holder-turns w _)))
 
-turned-turns : (r : Run) (w : ℕ) → turned r w .run .turns ≤ suc (r .turns)
+pub turned-turns : (r : Run) (w : ℕ) → turned r w .run .turns ≤ suc (r .turns)
 unfolding turned stepRun
 turned-turns r w = go (tryAt (turnChecks r w) 0)
   where
@@ -78,7 +78,7 @@ turned-turns r w = go (tryAt (turnChecks r w) 0)
 -- ---- the runs
 
 -- an accepted beginning's record is sound, with no turn taken
-begun-fresh : (s : List ℕ) (p K : ℕ) → begin s p K .answer ≡ started → Steady (begin s p K .run) × (begin s p K .run .turns ≡ 0)
+pub begun-fresh : (s : List ℕ) (p K : ℕ) → begin s p K .answer ≡ started → Steady (begin s p K .run) × (begin s p K .run .turns ≡ 0)
 unfolding startState
 begun-fresh s p K e =
     let r : Run = begin s p K .run in

@@ -15,15 +15,16 @@ use Rattle.schedule.specs.Turn.{unsound}
 use Rattle.soundness.proofs.Passed.{test-fails, test-passes}
 use Rattle.chart.specs.declared.Charted.{Charted}
 use Rattle.chart.specs.declared.Charted.the-variants.{Written}
-use Rattle.chart.specs.Chart.{shown, lineTexts, lineOf, tooMany, charted, chartedIn}
-use Rattle.chart.proofs.Records.{wall-width, many, few, charted-unsound, charted-many, charted-written}
+use Rattle.chart.specs.Chart.{shown, lineTexts, lineOf, tooMany, charted, chartedIn, chartedValues, lineValues}
+use Rattle.chart.proofs.Records.{wall-width, many, few, charted-unsound, charted-many, charted-written, charted-values}
 use borrow.Author.Needs.{needs}
 use Rattle.chart.proofs.wall_line.Statement.{statement}
 use Rattle.chart.proofs.wall_line.Tie as tie
 
 -- an answer, and the buffer that goes with it
-answers : {x : Charted} (r : Run) (s o : List ℕ) → x ≡ charted r → o ≡ chartedIn x r s → (x ≡ charted r) × (o ≡ chartedIn (charted r) r s)
-answers r s o e f = (e, f ∙ ap (λ (y : Charted). chartedIn y r s) e)
+answers : {x : Charted} (r : Run) (s o : List ℕ) → x ≡ charted r → o ≡ chartedIn x r s
+    → (x ≡ charted r) × ((chartedValues x ≡ lineValues r) × (o ≡ chartedIn (charted r) r s))
+answers r s o e f = (e, (ap chartedValues e ∙ charted-values r, f ∙ ap (λ (y : Charted). chartedIn y r s) e))
 
 filled : (r : Run) (s o : List ℕ) (k : ℕ) → unsound r ≡ false → tooMany r ≡ false → length s ≡ 85 → bufferAt o k ≡ putAll (bufferAt s 0) (lineTexts (shown r)) → o ≡ lineOf r
 filled r s o k u t l e =

@@ -1,9 +1,9 @@
 -- `asyncdf::turns::put_each` meets its contract. The invariant: of every record that the locals belong to at the start, what every loop of turns keeps (Moving), and whoever puts the
--- texts of the rest of the order puts those of the whole (Ordered).
-use mathlib.Core.Path.{_≡_, refl, sym, _∙_}
+-- texts of the rest of the order puts those of the whole (Ordered); a chart's turns taken have room in a line.
+use mathlib.Core.Path.{_≡_, refl, sym, subst, _∙_}
 use Prim.Native.Nat.{ℕ, _+_, _-_, _*_, _^_, _≤_, _<_}
 use mathlib.Core.List.{List, [], _∷_}
-use mathlib.Core.Bool.{true, false}
+use mathlib.Core.Bool.{Bool, true, false}
 use native.Mathlib.Omega.{arith}
 use borrow.Author.Needs.{needs}
 use denote.Ref.{now}
@@ -16,91 +16,118 @@ use Rattle.schedule.specs.declared.Run.{Run}
 use Rattle.schedule.specs.declared.Reply.the-variants.{Done}
 use Rattle.schedule.specs.declared.Turning.the-variants.{Taken as taken}
 use Rattle.schedule.specs.Machine.{nobody}
+use Rattle.schedule.specs.Sound.{Steady}
 use Rattle.schedule.specs.Turn.{unsound, turned}
 use Rattle.schedule.specs.Listing.{line, toldWith, actionIn, threadIn, lastWith}
+use Rattle.schedule.proofs.Stores.{moved-steady}
 use Rattle.table.specs.Format.{kind}
-use Rattle.lines.specs.Lines.{turnTexts, lastTexts}
 use Rattle.lines.specs.Puts.{Puts}
+use Rattle.lines.proofs.Putting.{puts-within}
+use Rattle.chart.specs.declared.Charted.the-variants.{Written}
+use Rattle.chart.specs.Chart.{Shown, shown, shownOf, lineText, lineOf, mostTurns, tooMany, charted}
+use Rattle.chart.proofs.Records.{wall-width, charted-written}
+use Rattle.chart.proofs.Records.{few as few-turns}
 use Rattle.asyncdf.specs.declared.runs.Moved.{Moved}
 use Rattle.asyncdf.specs.declared.runs.Taken.{Taken}
 use Rattle.asyncdf.specs.Drives.{Outlined, Moving, Stands, Took, packedOf}
-use Rattle.asyncdf.proofs.Calls.{steady-full, steady-room, turned-unsound, turned-none, turned-taken}
+use Rattle.asyncdf.specs.Sheets.{turnsTexts, widest, afterTexts, afterSize, overTexts, hindered}
+use Rattle.asyncdf.proofs.Calls.{steady-room, turned-taken}
 use Rattle.asyncdf.proofs.Moving.{not-done, other, few, sits, bit, moves, replies, passes, keeps, over}
-use Rattle.asyncdf.proofs.Ordered.{turnsFrom, Listed, start, ended, exhausted, refused, again}
+use Rattle.asyncdf.proofs.Ordered.{Listed, start, ended, exhausted, refused, again}
+use Rattle.asyncdf.proofs.Hindrances.{Free, unhindered, hinders}
 use Rattle.asyncdf.proofs.turns.put_each.Statement.{statement}
 use Rattle.asyncdf.proofs.turns.put_each.Tie as tie
 
-record Tells (run run₀ : Run) (order out₀ : List ℕ) (at₀ : ℕ) (s : List ℕ) (n last p K : ℕ) (parents next status amounts list : List ℕ) (workers : List Worker) (m : Moved) (out : List ℕ) (at i : ℕ)
-    : Type 0 where
+record Tells (chart : Bool) (run run₀ : Run) (order out₀ : List ℕ) (at₀ : ℕ) (s : List ℕ) (n last p K : ℕ) (parents next status amounts list : List ℕ) (workers : List Worker) (m : Moved) (out : List ℕ)
+    (at i : ℕ) : Type 0 where
   moving : Moving run s n last p K parents next status amounts list workers m
-  listed : Listed order out₀ at₀ run₀ out (packedOf run next status amounts list workers m) at i
+  listed : Listed chart order out₀ at₀ run₀ out (packedOf run next status amounts list workers m) at i
 
-module _ {run run₀ : Run} {order out₀ : List ℕ} {at₀ : ℕ} {s : List ℕ} {n last p K : ℕ} {parents next status amounts list : List ℕ} {workers : List Worker} {m : Moved} {out : List ℕ} {at i : ℕ}
-    (v : Tells run run₀ order out₀ at₀ s n last p K parents next status amounts list workers m out at i) where
+-- a chart's line that has its width is as long as a line may be
+sized : (chart : Bool) (x : Shown) {s o : List ℕ} {at k : ℕ} {texts : List (List ℕ)} → (chart ≡ true → length (lineText x) ≡ 85) → Puts s at o k texts (afterSize chart x)
+    → Puts s at o k texts (widest chart)
+sized true x h p = puts-within (omega (arith, h refl)) p
+sized false x h p = p
+
+module _ {chart : Bool} {run run₀ : Run} {order out₀ : List ℕ} {at₀ : ℕ} {s : List ℕ} {n last p K : ℕ} {parents next status amounts list : List ℕ} {workers : List Worker} {m : Moved} {out : List ℕ}
+    {at i : ℕ} (v : Tells chart run run₀ order out₀ at₀ s n last p K parents next status amounts list workers m out at i) where
   abbrev here : Run
   here = packedOf run next status amounts list workers m
 
-  spent : {o : List ℕ} {r : ℕ} → length order ≤ i → Puts out at o r (lastTexts (lastWith false (m .turns) (m .totals .highest))) 64
-      → Puts out₀ at₀ o r (turnsFrom run₀ order) (64 * (length order + 1))
+  spent : {o : List ℕ} {r : ℕ} → length order ≤ i → Puts out at o r (overTexts chart (lastWith false (m .turns) (m .totals .highest))) 64
+      → Puts out₀ at₀ o r (turnsTexts chart run₀ order) (widest chart * (length order + 1))
   spent h q = exhausted (v .listed) (v .moving .unended) h q
 
   module _ (h : i < length order) where
-    full : {o : List ℕ} {r : ℕ} → m .turns ≡ 2 ^ 64 - 1 → Puts out at o r (refusedLine (refusal 32 0) ∷ []) 64 → Puts out₀ at₀ o r (turnsFrom run₀ order) (64 * (length order + 1))
-    full e q = refused (v .listed) h (v .moving .unended) (turned-unsound here (getD order i 0) (steady-full here (v .moving .steady) e)) refl q
+    stopped : {number : ℕ} {o : List ℕ} {r : ℕ} → (chart ≡ true → m .turns ≤ mostTurns) → number ≡ hindered chart p (getD order i 0) (m .turns) → (number ≡ 0 → ⊥)
+        → Puts out at o r (refusedLine (refusal number 0) ∷ []) 64 → Puts out₀ at₀ o r (turnsTexts chart run₀ order) (widest chart * (length order + 1))
+    stopped {number} room e z q = refused (v .listed) h (refusal number 0) (λ rest. rw e (hinders (v .moving) (getD order i 0) rest chart room (λ y. z (e ∙ y)))) q
 
-    module _ (e : m .turns ≡ 2 ^ 64 - 1 → ⊥) where
-      sound-here : unsound here ≡ false
-      sound-here = steady-room here (v .moving .steady) (v .moving .turns-fit) e
+    module _ (f : Free chart p (getD order i 0) (m .turns)) {next' status' amounts' list' : List ℕ} {r : Taken}
+        (t : Took (tableOf s) K (getD order i 0) next status amounts list m (getD workers (getD order i 0) nobody) next' status' amounts' list' r) where
+      abbrev there : Run
+      there = packedOf run next' status' amounts' list' (set workers (getD order i 0) (r .worker)) (r .moved)
 
-      none : {o : List ℕ} {r : ℕ} → p ≤ getD order i 0 → Puts out at o r (refusedLine (refusal 30 0) ∷ []) 64
-          → Puts out₀ at₀ o r (turnsFrom run₀ order) (64 * (length order + 1))
-      none b q = refused (v .listed) h (v .moving .unended) (turned-none here (getD order i 0) sound-here (omega (arith, b, v .moving .count))) refl q
+      own : getD order i 0 < run .workers
+      own = omega (arith, f .below, v .moving .count)
 
-      module _ (b : getD order i 0 < p) {next' status' amounts' list' : List ℕ} {r : Taken}
-          (t : Took (tableOf s) K (getD order i 0) next status amounts list m (getD workers (getD order i 0) nobody) next' status' amounts' list' r) where
-        abbrev there : Run
-        there = packedOf run next' status' amounts' list' (set workers (getD order i 0) (r .worker)) (r .moved)
+      takes : record { answer = taken (r .reply) (r .passed); run = there } ≡ turned here (getD order i 0)
+      takes =
+          let a = sym (replies (v .moving) (f .below) t) in
+          let c = sym (passes (v .moving) (f .below) t) in
+          let x : there ≡ _ = sym (moves (v .moving) (f .below) t) in
+          let u : unsound here ≡ false = steady-room here (v .moving .steady) (v .moving .turns-fit) (f .room) in
+          (λ j. record { answer = taken (a j) (c j); run = x j }) ∙ turned-taken here (getD order i 0) u own (v .moving .unended)
 
-        takes : record { answer = taken (r .reply) (r .passed); run = there } ≡ turned here (getD order i 0)
-        takes =
-            let a = sym (replies (v .moving) b t) in
-            let c = sym (passes (v .moving) b t) in
-            let x : there ≡ _ = sym (moves (v .moving) b t) in
-            (λ j. record { answer = taken (a j) (c j); run = x j })
-            ∙ turned-taken here (getD order i 0) sound-here (omega (arith, b, v .moving .count)) (v .moving .unended)
+      -- the record after a turn of a chart has its line
+      room-there : chart ≡ true → r .moved .turns ≤ mostTurns
+      room-there c = omega (arith, f .few c, t .count)
 
-        module _ {o : List ℕ} {k : ℕ} (l : length o ≡ length out)
-            (q : Puts out at o k
-            (turnTexts (line (r .moved .turns) (getD order i 0) (toldWith (r .reply) (kind (tableOf s) (actionIn (r .reply))) (getD next' (threadIn (r .reply)) 0)) (r .moved .totals .held))) 64) where
-          next-listed : Listed order out₀ at₀ run₀ o there k (i + 1)
-          next-listed = again (v .listed) h (v .moving .unended) takes refl l (rw (← (v .moving .bytes)) at q)
+      sound-there : chart ≡ true → unsound there ≡ false
+      sound-there c =
+          steady-room there (subst (λ (x : Run). Steady x) (moves (v .moving) (f .below) t) (moved-steady here (v .moving .steady) (getD order i 0) own))
+          (omega (arith, room-there c)) (λ z. omega (arith, z, room-there c))
 
-          goes-on : ((u : ℕ) → r .reply ≡ Done u last → ⊥)
-              → Tells run run₀ order out₀ at₀ s n last p K parents next' status' amounts' list' (set workers (getD order i 0) (r .worker)) (r .moved) o k (i + 1)
-          goes-on d = record { moving = keeps (v .moving) b t e d; listed = next-listed }
+      few-there : chart ≡ true → tooMany there ≡ false
+      few-there c = few-turns there (sound-there c) (room-there c)
 
-          finished : {u a : ℕ} {z : List ℕ} {j : ℕ} → r .reply ≡ Done u a → a ≡ last → Puts o k z j (lastTexts (lastWith true (r .moved .turns) (r .moved .totals .highest))) 64
-              → Puts out₀ at₀ z j (turnsFrom run₀ order) (64 * (length order + 1))
-          finished x f u = ended next-listed (over (v .moving) b t x f) u
+      module _ {o : List ℕ} {k : ℕ} (l : length o ≡ length out)
+          (q : Puts out at o k
+          (afterTexts chart (shownOf (r .moved .turns) p (set workers (getD order i 0) (r .worker)) (r .moved .totals .held))
+          (line (r .moved .turns) (getD order i 0) (toldWith (r .reply) (kind (tableOf s) (actionIn (r .reply))) (getD next' (threadIn (r .reply)) 0)) (r .moved .totals .held)))
+          (afterSize chart (shownOf (r .moved .turns) p (set workers (getD order i 0) (r .worker)) (r .moved .totals .held)))) where
+        next-listed : Listed chart order out₀ at₀ run₀ o there k (i + 1)
+        next-listed =
+            again (v .listed) h (v .moving .unended) takes refl (λ c. sym (charted-written there (sound-there c) (few-there c))) l
+            (sized chart (shown there) (λ c. wall-width there (sound-there c) (few-there c)) (rw (← (v .moving .bytes), ← (v .moving .count)) at q))
 
-record Inv (s : List ℕ) (n last p K : ℕ) (parents next₀ status₀ amounts₀ list₀ : List ℕ) (workers₀ : List Worker) (m₀ : Moved) (order out₀ : List ℕ) (at₀ : ℕ)
+        goes-on : ((u : ℕ) → r .reply ≡ Done u last → ⊥)
+            → Tells chart run run₀ order out₀ at₀ s n last p K parents next' status' amounts' list' (set workers (getD order i 0) (r .worker)) (r .moved) o k (i + 1)
+        goes-on d = record { moving = keeps (v .moving) (f .below) t (f .room) d; listed = next-listed }
+
+        finished : {u a : ℕ} {z : List ℕ} {j : ℕ} → r .reply ≡ Done u a → a ≡ last → Puts o k z j (overTexts chart (lastWith true (r .moved .turns) (r .moved .totals .highest))) 64
+            → Puts out₀ at₀ z j (turnsTexts chart run₀ order) (widest chart * (length order + 1))
+        finished x e u = ended next-listed (over (v .moving) (f .below) t x e) u
+
+record Inv (chart : Bool) (s : List ℕ) (n last p K : ℕ) (parents next₀ status₀ amounts₀ list₀ : List ℕ) (workers₀ : List Worker) (m₀ : Moved) (order out₀ : List ℕ) (at₀ : ℕ)
     (next status amounts list : List ℕ) (workers : List Worker) (m : Moved) (out : List ℕ) (at i : ℕ) : Type 0 where
   begun : Stands s n last p K parents next₀ status₀ amounts₀ list₀ workers₀ m₀
   within : i ≤ length order
   long : length out ≡ length out₀
+  room : chart ≡ true → m .turns ≤ mostTurns
   tells : (run : Run) → Moving run s n last p K parents next₀ status₀ amounts₀ list₀ workers₀ m₀
-      → Tells run (packedOf run next₀ status₀ amounts₀ list₀ workers₀ m₀) order out₀ at₀ s n last p K parents next status amounts list workers m out at i
+      → Tells chart run (packedOf run next₀ status₀ amounts₀ list₀ workers₀ m₀) order out₀ at₀ s n last p K parents next status amounts list workers m out at i
 
 threads-in : (s : List ℕ) {n last : ℕ} {parents : List ℕ} → Outlined s n last parents → n ≡ threadsOf s
 unfolding tableOf
 threads-in s l = l .threads
 
 abbrev Inv-loop : tie.InvT-loop
-Inv-loop table n last p quota parents next₀ status₀ amounts₀ list₀ order out₀ at workers₀ moved₀ at₀ i₀ next status amounts list out workers moved at' i =
-    Inv table n last p quota parents next₀ status₀ amounts₀ list₀ workers₀ moved₀ order out₀ at₀ next status amounts list workers moved out at' i
+Inv-loop chart table n last p quota parents next₀ status₀ amounts₀ list₀ order out₀ at workers₀ moved₀ at₀ i₀ next status amounts list out workers moved at' i =
+    Inv chart table n last p quota parents next₀ status₀ amounts₀ list₀ workers₀ moved₀ order out₀ at₀ next status amounts list workers moved out at' i
 
 abbrev μ-loop : tie.MeasureT-loop
-μ-loop table n last p quota parents next₀ status₀ amounts₀ list₀ order out₀ at workers₀ moved₀ at₀ i₀ next status amounts list out workers moved at' i = length order - i
+μ-loop chart table n last p quota parents next₀ status₀ amounts₀ list₀ order out₀ at workers₀ moved₀ at₀ i₀ next status amounts list out workers moved at' i = length order - i
 
 -- ---- the loop's places
 
@@ -112,30 +139,39 @@ moving : (c : tie.At-loop Inv-loop μ-loop)
     (c .loop .next) (c .loop .status) (c .loop .amounts) (c .loop .list) (c .loop .workers) (c .loop .moved)
 moving c = c .loop .inv .tells (c .loop .inv .begun .run) (c .loop .inv .begun .moving) .moving
 
--- the tests of 32 and 30 have passed
-abbrev top : tie.Else2 Inv-loop μ-loop → tie.At-loop Inv-loop μ-loop
-top c = c .before .before .before .before .before
+-- nothing hinders the turn
+abbrev top : tie.Else1 Inv-loop μ-loop → tie.At-loop Inv-loop μ-loop
+top c = c .before .before .before .before
 
-abbrev inside : tie.Else2 Inv-loop μ-loop → tie.In-loop Inv-loop μ-loop
-inside c = c .before .before .before .before
+abbrev inside : tie.Else1 Inv-loop μ-loop → tie.In-loop Inv-loop μ-loop
+inside c = c .before .before .before
 
-few-workers : (c : tie.Else2 Inv-loop μ-loop) → getD (now (begin (top c) .args .order)) (top c .loop .i) 0 < 16
-few-workers c = few (moving (top c)) (c .if2 .left)
+abbrev worker : tie.Else1 Inv-loop μ-loop → ℕ
+worker c = getD (now (begin (top c) .args .order)) (top c .loop .i) 0
+
+goes : (c : tie.Else1 Inv-loop μ-loop) → Free (begin (top c) .args .chart) (begin (top c) .args .p) (worker c) (top c .loop .moved .turns)
+goes c = unhindered (begin (top c) .args .chart) (begin (top c) .args .p) (worker c) (top c .loop .moved .turns) (sym (c .before .hindrance .ensures) ∙ c .if1 .left)
+
+few-workers : (c : tie.Else1 Inv-loop μ-loop) → worker c < 16
+few-workers c = few (moving (top c)) (goes c .below)
 
 -- a turn is taken, and its line put
-abbrev tests : tie.After-take-turn Inv-loop μ-loop → tie.Else2 Inv-loop μ-loop
+abbrev tests : tie.After-take-turn Inv-loop μ-loop → tie.Else1 Inv-loop μ-loop
 tests c = c .before .before .before .before .before .before
 
-abbrev turn-of : tie.After-slice-known4 Inv-loop μ-loop → tie.After-take-turn Inv-loop μ-loop
+abbrev turn-of : tie.After-slice-known3 Inv-loop μ-loop → tie.After-take-turn Inv-loop μ-loop
 turn-of c = c .before .before .before .before .before .before .before
 
 loop-holds : tie.Need-loop-holds Inv-loop μ-loop
 loop-holds c =
     let s = c .before .before .before in
-    record { begun = s .pre; within = omega arith; long = refl; tells = λ run v. record { moving = v; listed = start _ _ _ _ } }
+    record { begun = s .pre .0; within = omega arith; long = refl; room = s .pre .1; tells = λ run v. record { moving = v; listed = start _ _ _ _ _ } }
 
 shared-slice-read-w : tie.Need-shared-slice-read-w Inv-loop μ-loop
 shared-slice-read-w c = omega arith
+
+hindrance-requires : tie.Need-hindrance-requires Inv-loop μ-loop
+hindrance-requires c κs = search needs
 
 put-refused-requires : tie.Need-put-refused-requires Inv-loop μ-loop
 put-refused-requires c κs = search needs
@@ -147,22 +183,11 @@ returns : tie.Need-returns Inv-loop μ-loop
 returns c run m =
     let t = c .before .before .before .before in
     let i = t .before .before .before in
-    full (i .before .loop .inv .tells run m) (i .loop-test .taken) (t .if1 .taken) (c .before .before .put-refused .ensures)
-
-put-refused-requires-2 : tie.Need-put-refused-requires-2 Inv-loop μ-loop
-put-refused-requires-2 c κs = search needs
-
-same-length-2 : tie.Need-same-length-2 Inv-loop μ-loop
-same-length-2 c = omega arith
-
-returns-2 : tie.Need-returns-2 Inv-loop μ-loop
-returns-2 c run m =
-    let t = c .before .before .before .before in
-    let i = t .before .before .before .before in
-    none (i .before .loop .inv .tells run m) (i .loop-test .taken) (t .before .if1 .left) (t .if2 .taken) (c .before .before .put-refused2 .ensures)
+    let v = i .before .loop .inv in
+    stopped (v .tells run m) (i .loop-test .taken) (v .room) (t .before .hindrance .ensures) (t .if1 .taken) (c .before .before .put-refused .ensures)
 
 cast-k : tie.Need-cast-k Inv-loop μ-loop
-cast-k c = search needs
+cast-k c = omega (arith, few-workers c)
 
 mul-worker : tie.Need-mul-worker Inv-loop μ-loop
 mul-worker c = omega (arith, few-workers c)
@@ -174,7 +199,8 @@ take-turn-requires : tie.Need-take-turn-requires Inv-loop μ-loop
 take-turn-requires c κs =
     let e = c .before .before .before .before .before in
     let v = moving (top e) in
-    (sits v (e .if2 .left), (v .outline .parent, (bit v (e .if2 .left), omega (arith, v .turns-fit, e .before .if1 .left))))
+    let f = goes e in
+    (sits v (f .below), (v .outline .parent, (bit v (f .below), omega (arith, v .turns-fit, f .room))))
 
 mul-workers : tie.Need-mul-workers Inv-loop μ-loop
 mul-workers c = omega (arith, few-workers (tests (c .before)))
@@ -187,8 +213,8 @@ add-i c =
     let e = tests (c .before .before) in
     omega (arith, inside e .loop-test .taken, begin (top e) .good)
 
-put-step-requires : tie.Need-put-step-requires Inv-loop μ-loop
-put-step-requires c κs = threads-in _ (moving (top (tests (c .before .before .before .before))) .outline)
+put-after-requires : tie.Need-put-after-requires Inv-loop μ-loop
+put-after-requires c κs = threads-in _ (moving (top (tests (c .before .before .before .before))) .outline)
 
 enum-known-reply : tie.Need-enum-known-reply Inv-loop μ-loop
 enum-known-reply c = c .match .keys1
@@ -204,31 +230,32 @@ loop-again c =
     record {
       begun = v .begun;
       within = omega (arith, inside e .loop-test .taken);
-      long = omega (arith, p .before .out3 .given, v .long);
+      long = omega (arith, p .before .out2 .given, v .long);
+      room = λ x. omega (arith, goes e .few x, turn-of p .take-turn .ensures .count);
       tells =
           λ run m.
-          goes-on (v .tells run m) (inside e .loop-test .taken) (e .before .if1 .left) (e .if2 .left) (turn-of p .take-turn .ensures) (omega (arith, p .before .out3 .given))
-          (p .before .before .put-step .ensures) (not-done (c .match .keys2) _);
+          goes-on (v .tells run m) (inside e .loop-test .taken) (goes e) (turn-of p .take-turn .ensures) (omega (arith, p .before .out2 .given)) (p .before .before .put-after .ensures)
+          (not-done (c .match .keys2) _);
     }
 
-cast-if3 : tie.Need-cast-if3 Inv-loop μ-loop
-cast-if3 c = search needs
+cast-if2 : tie.Need-cast-if2 Inv-loop μ-loop
+cast-if2 c = search needs
 
-put-last-requires : tie.Need-put-last-requires Inv-loop μ-loop
-put-last-requires c κs = search needs
+put-over-requires : tie.Need-put-over-requires Inv-loop μ-loop
+put-over-requires c κs = search needs
 
-same-length-3 : tie.Need-same-length-3 Inv-loop μ-loop
-same-length-3 c =
+same-length-2 : tie.Need-same-length-2 Inv-loop μ-loop
+same-length-2 c =
     let p = c .before .before .before .before .before .before .before .before in
-    omega (arith, p .before .out3 .given, top (tests (turn-of p)) .loop .inv .long)
+    omega (arith, p .before .out2 .given, top (tests (turn-of p)) .loop .inv .long)
 
-returns-3 : tie.Need-returns-3 Inv-loop μ-loop
-returns-3 c run m =
+returns-2 : tie.Need-returns-2 Inv-loop μ-loop
+returns-2 c run m =
     let t = c .before .before .before .before in
     let p = t .before .before .before .before in
     let e = tests (turn-of p) in
-    finished (top e .loop .inv .tells run m) (inside e .loop-test .taken) (e .before .if1 .left) (e .if2 .left) (turn-of p .take-turn .ensures) (omega (arith, p .before .out3 .given))
-    (p .before .before .put-step .ensures) (t .before .before .reply .given .1) (t .if3 .taken) (c .before .before .put-last .ensures)
+    finished (top e .loop .inv .tells run m) (inside e .loop-test .taken) (goes e) (turn-of p .take-turn .ensures) (omega (arith, p .before .out2 .given)) (p .before .before .put-after .ensures)
+    (t .before .before .reply .given .1) (t .if2 .taken) (c .before .before .put-over .ensures)
 
 loop-less-2 : tie.Need-loop-less-2 Inv-loop μ-loop
 loop-less-2 c = omega (arith, inside (tests (turn-of (c .before .before .before .before))) .loop-test .taken)
@@ -241,23 +268,24 @@ loop-again-2 c =
     record {
       begun = v .begun;
       within = omega (arith, inside e .loop-test .taken);
-      long = omega (arith, p .before .out3 .given, v .long);
+      long = omega (arith, p .before .out2 .given, v .long);
+      room = λ x. omega (arith, goes e .few x, turn-of p .take-turn .ensures .count);
       tells =
           λ run m.
-          goes-on (v .tells run m) (inside e .loop-test .taken) (e .before .if1 .left) (e .if2 .left) (turn-of p .take-turn .ensures) (omega (arith, p .before .out3 .given))
-          (p .before .before .put-step .ensures) (other (c .before .before .reply .given .1) (c .if3 .left));
+          goes-on (v .tells run m) (inside e .loop-test .taken) (goes e) (turn-of p .take-turn .ensures) (omega (arith, p .before .out2 .given)) (p .before .before .put-after .ensures)
+          (other (c .before .before .reply .given .1) (c .if2 .left));
     }
 
-put-last-requires-2 : tie.Need-put-last-requires-2 Inv-loop μ-loop
-put-last-requires-2 c κs = search needs
+put-over-requires-2 : tie.Need-put-over-requires-2 Inv-loop μ-loop
+put-over-requires-2 c κs = search needs
 
-same-length-4 : tie.Need-same-length-4 Inv-loop μ-loop
-same-length-4 c = omega arith
+same-length-3 : tie.Need-same-length-3 Inv-loop μ-loop
+same-length-3 c = omega arith
 
-returns-4 : tie.Need-returns-4 Inv-loop μ-loop
-returns-4 c run m =
+returns-3 : tie.Need-returns-3 Inv-loop μ-loop
+returns-3 c run m =
     let l = c .before .before .before .before in
-    spent (l .before .loop .inv .tells run m) (l .loop-test .left) (c .before .before .put-last2 .ensures)
+    spent (l .before .loop .inv .tells run m) (l .loop-test .left) (c .before .before .put-over2 .ensures)
 
 pub put-each-spec : {M : Type 1} → statement M
 put-each-spec =
@@ -267,12 +295,10 @@ put-each-spec =
     μ-loop
     loop-holds
     shared-slice-read-w
+    hindrance-requires
     put-refused-requires
     same-length
     returns
-    put-refused-requires-2
-    same-length-2
-    returns-2
     cast-k
     mul-worker
     array-copy-out-worker
@@ -280,16 +306,16 @@ put-each-spec =
     mul-workers
     array-set-from-workers
     add-i
-    put-step-requires
+    put-after-requires
     enum-known-reply
     loop-less
     loop-again
-    cast-if3
-    put-last-requires
-    same-length-3
-    returns-3
+    cast-if2
+    put-over-requires
+    same-length-2
+    returns-2
     loop-less-2
     loop-again-2
-    put-last-requires-2
-    same-length-4
-    returns-4)
+    put-over-requires-2
+    same-length-3
+    returns-3)

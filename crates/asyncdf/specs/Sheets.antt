@@ -1,0 +1,36 @@
+-- What is put of the turns of an order: the lines of a listing, or those of a chart.
+use Prim.Native.Nat.{ℕ, _-_, _^_}
+use mathlib.Core.List.{List, []}
+use mathlib.Core.Bool.{Bool}
+use lib.ListN.{length}
+use lib.Dec.{ltb, eqb}
+use Rattle.table.specs.Sum.{pick}
+use Rattle.schedule.specs.declared.Run.{Run}
+use Rattle.schedule.specs.Turn.{rootEnded, turned}
+use Rattle.schedule.specs.Listing.{Line, Last, turnsBy}
+use Rattle.lines.specs.Lines.{turnTexts, lastTexts, textsOf}
+use Rattle.chart.specs.Chart.{Shown, lineTexts, lineText, mostTurns, charted}
+use Rattle.chart.specs.Turns.{laterLines}
+
+-- the texts of the turns; a chart's first line stands before them
+unfoldable pub turnsTexts : Bool → Run → List ℕ → List (List ℕ)
+turnsTexts chart r order = pick chart (laterLines charted turned r order) (textsOf (turnsBy rootEnded turned r order))
+
+-- as long as a line may be
+abbrev pub widest : Bool → ℕ
+widest chart = pick chart 85 64
+
+-- what is put after a turn, and as long as it may be by the types of its numbers: a chart's line is as long as it is
+abbrev pub afterTexts : Bool → Shown → Line → List (List ℕ)
+afterTexts chart x l = pick chart (lineTexts x) (turnTexts l)
+
+abbrev pub afterSize : Bool → Shown → ℕ
+afterSize chart x = pick chart (length (lineText x)) 64
+
+-- the last line; a chart has none
+abbrev pub overTexts : Bool → Last → List (List ℕ)
+overTexts chart x = pick chart [] (lastTexts x)
+
+-- the number with which a turn of worker w is refused, or the chart's line after it; 0 where neither is
+unfoldable pub hindered : Bool → ℕ → ℕ → ℕ → ℕ
+hindered chart p w turns = pick chart (pick (ltb w p) (pick (ltb turns mostTurns) 0 43) 30) (pick (eqb turns (2 ^ 64 - 1)) 32 (pick (ltb w p) 0 30))
