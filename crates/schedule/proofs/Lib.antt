@@ -52,6 +52,8 @@ pub mod Bound
 pub mod FrontParts
 pub mod Limit
 pub mod ThreadLimit
+-- the list as links, and the second list
+pub mod Once
 -- the worked cases
 pub mod CaseLaws
 pub mod Wrong

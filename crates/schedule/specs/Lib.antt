@@ -14,3 +14,5 @@ pub mod Cases
 pub mod TurnCases
 pub mod ThreadCases
 pub mod Rule
+pub mod Links
+pub mod Actives
