@@ -54,6 +54,7 @@ pub mod Limit
 pub mod ThreadLimit
 -- the list as links, and the second list
 pub mod Once
+pub mod Neighbours
 -- the worked cases
 pub mod CaseLaws
 pub mod Wrong
