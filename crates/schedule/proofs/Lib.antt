@@ -55,6 +55,7 @@ pub mod ThreadLimit
 -- the list as links, and the second list
 pub mod Once
 pub mod Neighbours
+pub mod Links
 -- the worked cases
 pub mod CaseLaws
 pub mod Wrong
