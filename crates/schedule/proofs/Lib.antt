@@ -56,6 +56,8 @@ pub mod ThreadLimit
 pub mod Once
 pub mod Neighbours
 pub mod Links
+pub mod Waiting
+pub mod Actives
 -- the worked cases
 pub mod CaseLaws
 pub mod Wrong
