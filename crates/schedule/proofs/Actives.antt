@@ -145,12 +145,6 @@ module _ (s l : List ℕ) (o : Once l) (t : ℕ) (fits : t < length s) (runs : W
 
 -- ---- a wake
 
--- u stands directly right of t
-pub record Beside (t u : ℕ) (l : List ℕ) : Type 0 where
-  pub before : List ℕ
-  pub after : List ℕ
-  pub row : l ≡ before ++ t ∷ u ∷ after
-
 pub actives-append : (s k l : List ℕ) → actives s (k ++ l) ≡ actives s k ++ actives s l
 unfolding actives
 actives-append s [] l = refl

@@ -58,6 +58,7 @@ pub mod Neighbours
 pub mod Links
 pub mod Waiting
 pub mod Actives
+pub mod ActiveMoves
 -- the worked cases
 pub mod CaseLaws
 pub mod Wrong
