@@ -56,9 +56,11 @@ pub mod ThreadLimit
 pub mod Once
 pub mod Neighbours
 pub mod Links
+pub mod LinkTests
 pub mod Waiting
 pub mod Actives
 pub mod ActiveMoves
+pub mod Searches
 -- the worked cases
 pub mod CaseLaws
 pub mod Wrong

@@ -15,4 +15,5 @@ pub mod TurnCases
 pub mod ThreadCases
 pub mod Rule
 pub mod Links
+pub mod LinkTest
 pub mod Actives
