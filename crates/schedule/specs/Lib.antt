@@ -17,3 +17,4 @@ pub mod Rule
 pub mod Links
 pub mod LinkTest
 pub mod Actives
+pub mod LinkMoves
