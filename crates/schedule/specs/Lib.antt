@@ -18,3 +18,4 @@ pub mod Links
 pub mod LinkTest
 pub mod Actives
 pub mod LinkMoves
+pub mod LinkCases
