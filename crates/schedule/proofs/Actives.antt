@@ -167,7 +167,7 @@ without-after t [] l n = rw (eq-eqb t t refl)
 without-after t (x ∷ k) l n = rw (ne-eqb x t (λ e. n (List·Memᴰ·head (sym e))), without-after t k l (λ m. n (List·Memᴰ·tail m)))
 
 -- of a list in which nothing stands twice
-once-after : (k l : List ℕ) (t : ℕ) → Once (k ++ t ∷ l) → (List·Memᴰ t k → ⊥) × (List·Memᴰ t l → ⊥)
+pub once-after : (k l : List ℕ) (t : ℕ) → Once (k ++ t ∷ l) → (List·Memᴰ t k → ⊥) × (List·Memᴰ t l → ⊥)
 unfolding Once
 once-after [] l t o = (List·Memᴰ·not-nil, o .0)
 once-after (x ∷ k) l t o = go (once-after k l t (o .1))

@@ -61,6 +61,7 @@ pub mod Waiting
 pub mod Actives
 pub mod ActiveMoves
 pub mod Searches
+pub mod Fills
 pub mod LinkMoves
 -- the worked cases
 pub mod CaseLaws

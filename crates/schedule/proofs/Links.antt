@@ -72,14 +72,14 @@ walk-laid l o b = walk-linked (laid l .left) (laid l .right) (laid l .head) l (l
 -- ---- writing
 
 -- one write, and two, seen from a place of the array
-set-seen : (a : List ℕ) (i x v : ℕ) → v < length a → getD (set a i x) v 0 ≡ pick (eqb i v) x (getD a v 0)
+pub set-seen : (a : List ℕ) (i x v : ℕ) → v < length a → getD (set a i x) v 0 ≡ pick (eqb i v) x (getD a v 0)
 set-seen a i x v h = go (ℕ-discrete i v)
   where
     go : Dec (i ≡ v) → getD (set a i x) v 0 ≡ pick (eqb i v) x (getD a v 0)
     go (yes e) = rw (e, eq-eqb v v refl) (getD-set-same a v x 0 h)
     go (no d) = rw (ne-eqb i v d) (getD-set-other a i v x 0 (λ e. d (sym e)))
 
-sets-seen : (a : List ℕ) (i x j y v : ℕ) → v < length a → getD (set (set a i x) j y) v 0 ≡ pick (eqb j v) y (pick (eqb i v) x (getD a v 0))
+pub sets-seen : (a : List ℕ) (i x j y v : ℕ) → v < length a → getD (set (set a i x) j y) v 0 ≡ pick (eqb j v) y (pick (eqb i v) x (getD a v 0))
 sets-seen a i x j y v h = set-seen (set a i x) j y v (simp length-set h) ∙ ap (λ (r : ℕ). pick (eqb j v) y r) (set-seen a i x v h)
 
 module _ (k : Links) (l : List ℕ) (h : LinkedAs k l) (o : Once l) (b : Below noThread l) (t : ℕ) (m : List·Memᴰ t l) where

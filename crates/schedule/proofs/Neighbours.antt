@@ -75,7 +75,7 @@ rightIn-in t (x ∷ l) = go (eqb x t) (rightIn-in t l)
 -- ---- choices
 
 -- a choice that excludes two others may be made first or last
-choose-last : (a b c : Bool) (x y z r : ℕ) → (a ≡ true → b ≡ false) → (a ≡ true → c ≡ false) → pick a x (pick b y (pick c z r)) ≡ pick b y (pick c z (pick a x r))
+pub choose-last : (a b c : Bool) (x y z r : ℕ) → (a ≡ true → b ≡ false) → (a ≡ true → c ≡ false) → pick a x (pick b y (pick c z r)) ≡ pick b y (pick c z (pick a x r))
 choose-last true true c x y z r p q = no-way (cc (p refl))
 choose-last true false true x y z r p q = no-way (cc (q refl))
 choose-last true false false x y z r p q = refl
@@ -85,7 +85,7 @@ choose-again : (a : Bool) (x y r : ℕ) → pick a x r ≡ pick a x (pick a y r)
 choose-again true x y r = refl
 choose-again false x y r = refl
 
-choose-either : (a b : Bool) (x y r : ℕ) → (a ≡ true → b ≡ false) → pick a x (pick b y r) ≡ pick b y (pick a x (pick a y r))
+pub choose-either : (a b : Bool) (x y r : ℕ) → (a ≡ true → b ≡ false) → pick a x (pick b y r) ≡ pick b y (pick a x (pick a y r))
 choose-either true true x y r p = no-way (cc (p refl))
 choose-either true false x y r p = refl
 choose-either false true x y r p = refl
@@ -99,7 +99,7 @@ choose-out false true x y z w r p q = q refl
 choose-out false false x y z w r p q = refl
 
 -- two names that differ are not both v
-apart : (x y v : ℕ) → (y ≡ x → ⊥) → eqb x v ≡ true → eqb y v ≡ false
+pub apart : (x y v : ℕ) → (y ≡ x → ⊥) → eqb x v ≡ true → eqb y v ≡ false
 apart x y v d e = ne-eqb y v (λ i. d (i ∙ sym (eqb-true x v e)))
 
 -- ---- c enters directly left of t

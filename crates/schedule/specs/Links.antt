@@ -76,6 +76,18 @@ unlink t k =
     let y : ℕ = getD (k .right) t 0 in
     record { left = set (set (k .left) y x) t noThread; right = set (set (k .right) x y) t noThread; head = pick (ltb x noThread) (k .head) y }
 
+-- the last thread of a list, where y stands before the list
+unfoldable pub lastAfter : ℕ → List ℕ → ℕ
+lastAfter y [] = y
+lastAfter y (t ∷ l) = lastAfter t l
+
+abbrev pub lastOf : List ℕ → ℕ
+lastOf l = lastAfter noThread l
+
+-- c enters at the right end, where y is the last thread (`linkLast-linked`, proofs/Fills)
+unfoldable pub linkLast : ℕ → ℕ → Links → Links
+linkLast c y k = record { left = set (k .left) c y; right = set (set (k .right) y c) c noThread; head = pick (ltb y noThread) (k .head) c }
+
 -- ---- searching
 
 -- a thread, noThread where there is none, and how many stand left of it
