@@ -1,26 +1,19 @@
 -- The second list over the turns of a sound state: what each action does to it. A waiting thread stands directly right of the child that it waits for, so a wake puts it in the child's
 -- place.
-use mathlib.Core.Path.{_≡_, refl, sym, ap, _∙_}
-use Prim.Native.Nat.{ℕ, zero, suc, _≤_, _<_}
+use mathlib.Core.Path.{_≡_, refl, sym, ap}
+use Prim.Native.Nat.{ℕ, _<_}
 use native.Mathlib.Omega.{arith}
 use native.Mathlib.Decide.{ℕ-discrete}
 use mathlib.Core.List.{List, [], _∷_, _++_, List·Memᴰ, List·Memᴰ·head, List·Memᴰ·tail, List·Memᴰ·not-nil, List·Memᴰ·cases-cons}
-use mathlib.Core.Bool.{Bool, true, false}
 use mathlib.Core.Logic.{_⊎_, inl, inr}
-use lib.ListN.{length, getD, set}
-use borrow.Author.Tests.{eqb-true}
-use Rattle.table.specs.Sum.{pick}
-use Rattle.table.specs.Format.{fork, join, Table, kind}
-use Rattle.table.proofs.Tests.{and-both}
-use Rattle.table.proofs.Bodies.{fork-below}
-use Rattle.schedule.specs.Machine.{State, unborn, ready, held, waiting, ended, nextOf, statusOf, leftOf, without, waitsFor}
+use lib.ListN.{length, set}
+use Rattle.table.specs.Format.{Table}
+use Rattle.schedule.specs.Machine.{State, unborn, ready, waiting, ended, nextOf, statusOf, leftOf, without}
 use Rattle.schedule.specs.Sound.{numberOf}
 use Rattle.schedule.specs.Actives.{actives}
 use Rattle.schedule.proofs.Lawful.{Lawful}
 use Rattle.schedule.proofs.Words.{Ascends}
 use Rattle.schedule.proofs.Facts.{Facts}
-use Rattle.schedule.proofs.Done.{undone-unborn}
-use Rattle.schedule.proofs.Releases.{Acting}
 use Rattle.schedule.proofs.Once.{Once, Below, ascends-once}
 use Rattle.schedule.proofs.Waiting.{awaited, child-listed, child-left, none-between}
 use Rattle.schedule.proofs.Actives.{actives-set, actives-fork, actives-wait, actives-end, actives-wake}

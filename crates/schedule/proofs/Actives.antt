@@ -1,6 +1,6 @@
 -- The second list, of the listed threads that do not wait: it moves by `leftOf` and `without` at a fork, a wait, an end and a wake, and its leftmost ready thread is the list's.
 use mathlib.Core.Path.{_≡_, refl, sym, ap, _∙_}
-use Prim.Native.Nat.{ℕ, suc, _≤_, _<_}
+use Prim.Native.Nat.{ℕ, _<_}
 use native.Mathlib.Omega.{arith}
 use native.Mathlib.Decide.{ℕ-discrete}
 use mathlib.Core.List.{List, [], _∷_, _++_, List·Memᴰ, List·Memᴰ·head, List·Memᴰ·tail, List·Memᴰ·not-nil, List·Memᴰ·cases-cons}
@@ -12,11 +12,8 @@ use lib.ListN.{length, getD, set, length-set}
 use lib.Seq.{getD-set-same, getD-set-other}
 use borrow.Author.Tests.{eqb-true, eqb-false, eq-eqb, ne-eqb}
 use Rattle.table.specs.Sum.{pick}
-use Rattle.table.proofs.Tests.{no-way}
-use Rattle.schedule.specs.Machine.{ready, waiting, ended, leftOf, without}
-use Rattle.schedule.specs.Links.{noThread, firstReady}
+use Rattle.schedule.specs.Machine.{ready, waiting, leftOf, without}
 use Rattle.schedule.specs.Actives.{actives}
-use Rattle.schedule.proofs.ListMoves.{without-old}
 use Rattle.schedule.proofs.Once.{Once, Below, once-gone}
 
 -- thread t waits, by the statuses

@@ -2,17 +2,16 @@
 use mathlib.Core.Path.{_≡_, refl, sym, ap, _∙_}
 use Prim.Native.Nat.{ℕ, zero, suc, _<_}
 use native.Mathlib.Omega.{arith}
-use mathlib.Core.List.{List, [], _∷_, _++_, append-nil, append-assoc, List·Memᴰ, List·Memᴰ·head, List·Memᴰ·tail, List·Memᴰ·not-nil, List·Memᴰ·cases-cons, Memᴰ·cast}
-use mathlib.Core.List.{Memᴰ·append-left, Memᴰ·append-right}
+use mathlib.Core.List.{List, [], _∷_, _++_, append-nil, append-assoc, List·Memᴰ, List·Memᴰ·head, List·Memᴰ·tail, Memᴰ·cast}
+use mathlib.Core.List.{Memᴰ·append-left}
 use mathlib.Core.Bool.{Bool, true, false}
-use mathlib.Core.Logic.{_⊎_, inl, inr}
 use lib.Dec.{ltb, eqb}
-use lib.ListN.{length, getD, set, replicate, length-set, length-replicate, getD-replicate}
+use lib.ListN.{getD, length-set, length-replicate, getD-replicate}
 use borrow.Author.Tests.{ltb-true, lt-ltb}
 use Rattle.table.specs.Sum.{pick}
 use Rattle.table.proofs.Tests.{no-way}
 use Rattle.schedule.specs.Machine.{waiting}
-use Rattle.schedule.specs.Links.{noThread, Links, walk, firstOf, rightIn, leftAfter, leftIn, lastAfter, lastOf, Linked, LinkedAs, linkLast}
+use Rattle.schedule.specs.Links.{noThread, Links, walk, firstOf, rightIn, leftAfter, lastAfter, lastOf, Linked, LinkedAs, linkLast}
 use Rattle.schedule.specs.Actives.{actives, noLinks, filledFrom}
 use Rattle.schedule.proofs.Once.{Once, Below}
 use Rattle.schedule.proofs.Neighbours.{rightIn-later, choose-last, choose-either, apart}

@@ -1,12 +1,12 @@
 -- An action moves the links as the machine moves its list: those of the list, and those of the second list.
-use mathlib.Core.Path.{_≡_, refl, sym, _∙_}
+use mathlib.Core.Path.{_≡_, refl}
 use Prim.Native.Nat.{ℕ, _<_}
 use native.Mathlib.Omega.{arith}
 use native.Mathlib.Decide.{ℕ-discrete}
-use mathlib.Core.List.{List, List·Memᴰ}
+use mathlib.Core.List.{List·Memᴰ}
 use mathlib.Core.Bool.{Bool, true, false, _&&_}
 use lib.Dec.{eqb, leb}
-use lib.ListN.{length, getD, set}
+use lib.ListN.{getD, set}
 use lib.Seq.{getD-set-same, getD-set-other}
 use borrow.Author.Tests.{eqb-true, ne-eqb}
 use Rattle.table.specs.Sum.{pick}
@@ -143,6 +143,13 @@ module _ (T : Table) (l : Lawful T) (p K : ℕ) (w t a : ℕ) (st : State) (f : 
         at-join true = h
         at-join false = actives-wait-by
     actives-by unknown e = absurd (kind-known T (l .contents) (l .bodies) a (x .action) e)
+
+-- ---- a free worker takes a ready thread: neither list moves
+
+pub take-actives : (T : Table) → Lawful T → (p K w t : ℕ) (st : State) → Facts T p K st → t < T .threads → statusOf st t ≡ ready
+    → actives (taken K w t st .status) (taken K w t st .list) ≡ actives (st .status) (st .list)
+unfolding taken
+take-actives T l p K w t st f h e = moves-set T l p K st f t held h (λ r. omega arith) (λ r. omega arith)
 
 -- ---- a worker that holds a thread acts
 

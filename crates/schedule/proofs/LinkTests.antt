@@ -7,7 +7,7 @@ use mathlib.Core.Logic.{_↔_, Iff·trans, _⊎_, inl, inr, ⊎-elim}
 use lib.ListN.{length, getD}
 use lib.Dec.{eqb}
 use Rattle.schedule.specs.Sound.{member}
-use Rattle.schedule.specs.Links.{noThread, firstOf, rightIn, leftAfter, leftIn, Linked}
+use Rattle.schedule.specs.Links.{noThread, firstOf, rightIn, leftAfter, Linked}
 use Rattle.schedule.specs.LinkTest.{rowLinked, elseUnlinked, linked}
 use Rattle.schedule.proofs.Words.{or-exactly, and-of, eqb-exactly, member-exactly, not-both, allBelow-exactly}
 use Rattle.schedule.proofs.Once.{Once, Below}
@@ -85,8 +85,7 @@ module _ (left right : List ℕ) where
         Iff·trans
         (and-of (eqb-exactly (length left) noThread)
         (and-of (eqb-exactly (length right) noThread)
-        (and-of (eqb-exactly head (firstOf l)) (and-of (row-exactly noThread l o) (allBelow-exactly (elseUnlinked left right l) noThread)))))
-        (
+        (and-of (eqb-exactly head (firstOf l)) (and-of (row-exactly noThread l o) (allBelow-exactly (elseUnlinked left right l) noThread))))) (
           (λ (a, (c, (d, r))). record { left-size = a; right-size = c; leftmost = d; lefts = λ t h. all-exactly .0 r t h .0; rights = λ t h. all-exactly .0 r t h .1 }),
           (λ h. (h .left-size, (h .right-size, (h .leftmost, all-exactly .1 (λ t i. (h .lefts t i, h .rights t i)))))),
         )

@@ -1,15 +1,14 @@
 -- The list of threads as links: reading laid links gives the list back, the writes of specs/Links are `leftOf` and `without`, and the search along the links is the list's.
 use mathlib.Core.Path.{_≡_, refl, sym, ap, _∙_}
-use Prim.Native.Nat.{ℕ, zero, suc, _+_, _≤_, _<_}
+use Prim.Native.Nat.{ℕ, zero, suc, _≤_, _<_}
 use native.Mathlib.Omega.{arith}
 use native.Mathlib.Decide.{ℕ-discrete}
 use mathlib.Core.List.{List, [], _∷_, List·Memᴰ, List·Memᴰ·head, List·Memᴰ·tail}
 use mathlib.Core.Bool.{Bool, true, false}
-use mathlib.Core.Logic.{_↔_}
 use lib.Dec.{ltb, eqb}
 use lib.ListN.{length, getD, set, length-set}
 use lib.Seq.{getD-set-same, getD-set-other, ext-getD}
-use borrow.Author.Tests.{eq-eqb, ne-eqb, lt-ltb}
+use borrow.Author.Tests.{eq-eqb, ne-eqb, lt-ltb, le-ltb}
 use Rattle.table.specs.Sum.{pick}
 use Rattle.schedule.specs.Machine.{ready, leftOf, without, leftmost}
 use Rattle.schedule.specs.Begin.{firsts}
@@ -151,6 +150,22 @@ seek-walk (suc k) status right t = outer (ltb t noThread) (inner (eqb (getD stat
         → pick p (at (eqb (getD status t 0) ready)) (record { thread = noThread; passed = 0 }) ≡ soughtIn status (pick p (t ∷ row) [])
     outer true e = e
     outer false e = refl
+
+-- step by step, as a loop goes: it stops beyond the last, hits a ready thread, or goes on to the right
+pub seek-stop : (k : ℕ) (status right : List ℕ) (t : ℕ) → noThread ≤ t → seek k status right t ≡ record { thread = noThread; passed = 0 }
+unfolding seek
+seek-stop zero status right t h = refl
+seek-stop (suc k) status right t h = rw (le-ltb t noThread h)
+
+module _ (k : ℕ) (status right : List ℕ) (t : ℕ) (h : t < noThread) where
+  pub seek-hit : getD status t 0 ≡ ready → seek (suc k) status right t ≡ record { thread = t; passed = 0 }
+  unfolding seek
+  seek-hit e = rw (lt-ltb t noThread h, eq-eqb (getD status t 0) ready e)
+
+  pub seek-next : (getD status t 0 ≡ ready → ⊥)
+      → seek (suc k) status right t ≡ record { thread = seek k status right (getD right t 0) .thread; passed = suc (seek k status right (getD right t 0) .passed) }
+  unfolding seek
+  seek-next n = rw (lt-ltb t noThread h, ne-eqb (getD status t 0) ready n)
 
 pub seek-linked : (left right : List ℕ) (head : ℕ) (l status : List ℕ) → Linked left right head l → Once l → Below noThread l
     → seek noThread status right head ≡ soughtIn status l

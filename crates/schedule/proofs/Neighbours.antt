@@ -151,7 +151,7 @@ module _ (t : ℕ) where
     where
       go : (q : Bool) → eqb x t ≡ q
           → ((t ≡ x → ⊥) → List·Memᴰ t l
-            → rightIn (x ∷ without t l) v ≡ pick (eqb t v) noThread (pick (eqb (leftAfter x l t) v) (rightIn l t) (rightIn (x ∷ l) v)))
+          → rightIn (x ∷ without t l) v ≡ pick (eqb t v) noThread (pick (eqb (leftAfter x l t) v) (rightIn l t) (rightIn (x ∷ l) v)))
           → (t ≡ x) ⊎ List·Memᴰ t l
           → rightIn (y ∷ pick q l (x ∷ without t l)) v
           ≡ pick (eqb t v) noThread (pick (eqb (pick q y (leftAfter x l t)) v) (pick q (firstOf l) (rightIn l t)) (rightIn (y ∷ x ∷ l) v))

@@ -13,7 +13,7 @@ use Rattle.table.specs.Sum.{pick}
 use Rattle.table.specs.Format.{Table}
 use Rattle.table.proofs.Tests.{no-way}
 use Rattle.schedule.specs.declared.Reply.the-variants.{Idle}
-use Rattle.schedule.specs.Machine.{State, Stepped, stepped, unborn, ready, held, waiting, ended, statusOf, workerOf, leftmost, taken, act, turnFree, passedBy}
+use Rattle.schedule.specs.Machine.{State, stepped, unborn, ready, held, waiting, ended, statusOf, workerOf, leftmost, taken, act, turnFree, passedBy}
 use Rattle.schedule.specs.Links.{noThread, firstReady}
 use Rattle.schedule.specs.Actives.{actives}
 use Rattle.schedule.proofs.Lawful.{Lawful}

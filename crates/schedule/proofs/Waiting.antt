@@ -12,12 +12,12 @@ use Rattle.table.specs.Rules.{openBefore, owner, endOf}
 use Rattle.table.specs.Level.{forkBelow}
 use Rattle.table.specs.JobTable.{Names, Unjoined, Latest}
 use Rattle.table.proofs.Tests.{no-way, is-true, fork-no-end}
-use Rattle.table.proofs.Bodies.{after-end, end-within, end-last, owner-is, owner-of-end, owner-first, owner-end, owner-below, fork-above, fork-below, join-below, next-within, next-owner}
+use Rattle.table.proofs.Bodies.{after-end, end-within, end-last, owner-is, owner-of-end, owner-first, owner-end, owner-below, fork-above, fork-below, join-below, next-owner}
 use Rattle.table.proofs.Nesting.{open-join, open-forked, fork-once, fork-found, fork-exists}
-use Rattle.table.proofs.Unjoined.{in-body, body-owner, body-action}
+use Rattle.table.proofs.Unjoined.{in-body, body-owner}
 use Rattle.table.proofs.WellNested.{nested-exactly}
 use Rattle.schedule.specs.Machine.{State, unborn, waiting, ended, nextOf, statusOf}
-use Rattle.schedule.specs.Sound.{numberOf, isDone}
+use Rattle.schedule.specs.Sound.{numberOf}
 use Rattle.schedule.proofs.Lawful.{Lawful}
 use Rattle.schedule.proofs.Numbers.{number-once, number-step, number-child, number-past, number-rises, number-between}
 use Rattle.schedule.proofs.Facts.{Done, Facts}
