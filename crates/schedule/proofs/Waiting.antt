@@ -176,7 +176,7 @@ module _ (T : Table) (l : Lawful T) (p K : ℕ) (st : State) (f : Facts T p K st
     lower : numberOf T x < numberOf T (nextOf st t)
     lower = in-fork T l x (nextOf st t) within forks inside (own ∙ sym child) .0
 
-    -- (nextOf st t) fork of t that is done has all around it before t's next action
+    -- a fork of t that is done has all around it before t's next action
     forked-here : (z d : ℕ) → z < T .actions → kind T z ≡ fork → owner T z ≡ t → numberOf T (nextOf st t) < numberOf T d → numberOf T d < numberOf T (suc z) → statusOf st (T .argument z) ≡ unborn
     forked-here z d s q o low high = go (decLt z (nextOf st t))
       where
