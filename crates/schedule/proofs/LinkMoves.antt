@@ -14,8 +14,7 @@ use Rattle.table.specs.Format.{Kind, end, work, alloc, free, fork, join, unknow
 use Rattle.table.specs.Level.{forkBelow}
 use Rattle.table.proofs.Tests.{and-both}
 use Rattle.table.proofs.Bodies.{kind-known, fork-below}
-use Rattle.schedule.specs.declared.Reply.the-variants.{Done, Wait}
-use Rattle.schedule.specs.Machine.{State, Stepped, stepped, unborn, ready, held, waiting, ended, nextOf, statusOf, workerOf, withStatus, withList, advanced, released, leftOf, without, parentOf, waitsFor, woken, taken, actBy, act}
+use Rattle.schedule.specs.Machine.{State, Stepped, unborn, ready, held, waiting, ended, nextOf, statusOf, workerOf, withStatus, withList, released, leftOf, without, parentOf, waitsFor, woken, taken, actBy, act}
 use Rattle.schedule.specs.Links.{noThread, Links, LinkedAs, linkLeft, unlink}
 use Rattle.schedule.specs.LinkMoves.{linksBy, activesBy}
 use Rattle.schedule.specs.Actives.{actives}
@@ -40,6 +39,12 @@ waits-for T st u t e =
     and-both (eqb (statusOf st u) waiting) (is join (kind T (nextOf st u)) && eqb (awaited T st u) t) e in
     let j : (is join (kind T (nextOf st u)) ≡ true) × (eqb (awaited T st u) t ≡ true) = and-both (is join (kind T (nextOf st u))) (eqb (awaited T st u) t) (i .1) in
     (eqb-true (statusOf st u) waiting (i .0), eqb-true (awaited T st u) t (j .1))
+
+-- links and a step picked by the same test
+both : (q : Bool) (k k' : Links) (s s' : Stepped) → LinkedAs k (actives (s .state .status) (s .state .list)) → LinkedAs k' (actives (s' .state .status) (s' .state .list))
+    → LinkedAs (pick q k k') (actives (pick q s s' .state .status) (pick q s s' .state .list))
+both true k k' s s' h h' = h
+both false k k' s s' h h' = h'
 
 module _ (T : Table) (l : Lawful T) (p K : ℕ) (w t a : ℕ) (st : State) (f : Facts T p K st) (x : Acting T w t a st) where
   runs : statusOf st t ≡ waiting → ⊥
@@ -134,14 +139,7 @@ module _ (T : Table) (l : Lawful T) (p K : ℕ) (w t a : ℕ) (st : State) (f : 
         (λ i. rw (moves-set T l p K st f t ready (x .thread) runs (λ r. omega arith)) h)
     actives-by free e = h
     actives-by fork e = actives-fork-by e
-    actives-by join e = at-join (eqb (statusOf st (T .argument a)) ended)
-      where
-        at-join : (q : Bool)
-            → LinkedAs (pick q k (unlink t k))
-            (actives (pick q (stepped (Done t a) (advanced t st)) (stepped (Wait t (T .argument a)) (released w t waiting st)) .state .status)
-            (pick q (stepped (Done t a) (advanced t st)) (stepped (Wait t (T .argument a)) (released w t waiting st)) .state .list))
-        at-join true = h
-        at-join false = actives-wait-by
+    actives-by join e = both (eqb (statusOf st (T .argument a)) ended) k (unlink t k) _ _ h actives-wait-by
     actives-by unknown e = absurd (kind-known T (l .contents) (l .bodies) a (x .action) e)
 
 -- ---- a free worker takes a ready thread: neither list moves
