@@ -56,6 +56,17 @@ pub mod Bound
 pub mod FrontParts
 pub mod Limit
 pub mod ThreadLimit
+-- the list as links, and the second list
+pub mod Once
+pub mod Neighbours
+pub mod Links
+pub mod LinkTests
+pub mod Waiting
+pub mod Actives
+pub mod ActiveMoves
+pub mod Searches
+pub mod Fills
+pub mod LinkMoves
 -- the worked cases
 pub mod CaseLaws
 pub mod Wrong

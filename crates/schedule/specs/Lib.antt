@@ -15,3 +15,8 @@ pub mod TurnCases
 pub mod ThreadCases
 pub mod AmountCases
 pub mod Rule
+pub mod Links
+pub mod LinkTest
+pub mod Actives
+pub mod LinkMoves
+pub mod LinkCases

@@ -1,0 +1,86 @@
+-- Links, worked: the list 2 0 1 in links of four threads, what a fork and an end write, what a search finds, and links that describe no list.
+use mathlib.Core.Path.{_≡_, refl}
+use mathlib.Core.List.{List, [], _∷_}
+use Prim.Native.Nat.{ℕ}
+use mathlib.Core.Bool.{true, false}
+use lib.ListN.{take}
+use Rattle.schedule.specs.Begin.{firsts}
+use Rattle.schedule.specs.Links.{noThread, Links, walk, rightIn, leftAfter, laid, linkLeft, unlink, seek}
+use Rattle.schedule.specs.LinkTest.{rowLinked}
+use Rattle.schedule.specs.Actives.{actives}
+
+abbrev links : List ℕ → List ℕ → ℕ → Links
+links left right head = record { left = left; right = right; head = head }
+
+abbrev three : Links
+three = links (2 ∷ 0 ∷ noThread ∷ noThread ∷ []) (1 ∷ noThread ∷ 0 ∷ noThread ∷ []) 2
+
+laid-worked : links (take 4 (laid (2 ∷ 0 ∷ 1 ∷ []) .left)) (take 4 (laid (2 ∷ 0 ∷ 1 ∷ []) .right)) (laid (2 ∷ 0 ∷ 1 ∷ []) .head) ≡ three
+unfolding firsts rightIn leftAfter
+laid-worked = refl
+
+walk-worked : walk noThread (three .right) (three .head) ≡ 2 ∷ 0 ∷ 1 ∷ []
+unfolding walk
+walk-worked = refl
+
+-- thread 0 forks 3; thread 2, the leftmost, does
+fork-worked : linkLeft 3 0 three ≡ links (3 ∷ 0 ∷ noThread ∷ 2 ∷ []) (1 ∷ noThread ∷ 3 ∷ 0 ∷ []) 2
+unfolding linkLeft
+fork-worked = refl
+
+fork-first-worked : linkLeft 3 2 three ≡ links (2 ∷ 0 ∷ 3 ∷ noThread ∷ []) (1 ∷ noThread ∷ 0 ∷ 2 ∷ []) 3
+unfolding linkLeft
+fork-first-worked = refl
+
+-- thread 0 ends; thread 2 does, the leftmost, and thread 1, the last; and the only one
+end-worked : unlink 0 three ≡ links (noThread ∷ 2 ∷ noThread ∷ noThread ∷ []) (noThread ∷ noThread ∷ 1 ∷ noThread ∷ []) 2
+unfolding unlink
+end-worked = refl
+
+end-first-worked : unlink 2 three ≡ links (noThread ∷ 0 ∷ noThread ∷ noThread ∷ []) (1 ∷ noThread ∷ noThread ∷ noThread ∷ []) 0
+unfolding unlink
+end-first-worked = refl
+
+end-last-worked : unlink 1 three ≡ links (2 ∷ noThread ∷ noThread ∷ noThread ∷ []) (noThread ∷ noThread ∷ 0 ∷ noThread ∷ []) 2
+unfolding unlink
+end-last-worked = refl
+
+end-only-worked : unlink 0 (links (noThread ∷ []) (noThread ∷ []) 0) ≡ links (noThread ∷ []) (noThread ∷ []) noThread
+unfolding unlink
+end-only-worked = refl
+
+-- with thread 2 held and 0 and 1 ready; with none ready
+seek-worked : seek noThread (1 ∷ 1 ∷ 2 ∷ []) (three .right) (three .head) ≡ record { thread = 0; passed = 1 }
+unfolding seek
+seek-worked = refl
+
+seek-none-worked : seek noThread (3 ∷ 2 ∷ 2 ∷ []) (three .right) (three .head) ≡ record { thread = noThread; passed = 3 }
+unfolding seek
+seek-none-worked = refl
+
+-- with thread 0 waiting
+actives-worked : actives (3 ∷ 1 ∷ 2 ∷ []) (2 ∷ 0 ∷ 1 ∷ []) ≡ 2 ∷ 1 ∷ []
+unfolding actives
+actives-worked = refl
+
+-- a circle, and the blank record's zeros, are read as far as asked; a link out of range ends the row
+circle-worked : walk 5 (1 ∷ 0 ∷ []) 0 ≡ 0 ∷ 1 ∷ 0 ∷ 1 ∷ 0 ∷ []
+unfolding walk
+circle-worked = refl
+
+blank-worked : walk 3 (0 ∷ 0 ∷ 0 ∷ []) 0 ≡ 0 ∷ 0 ∷ 0 ∷ []
+unfolding walk
+blank-worked = refl
+
+range-worked : walk noThread (2000 ∷ []) 0 ≡ 0 ∷ []
+unfolding walk
+range-worked = refl
+
+-- a left link that is no right link's opposite is found
+test-worked : rowLinked (2 ∷ 0 ∷ noThread ∷ []) (1 ∷ noThread ∷ 0 ∷ []) noThread (2 ∷ 0 ∷ 1 ∷ []) ≡ true
+unfolding rowLinked
+test-worked = refl
+
+test-false-worked : rowLinked (2 ∷ 2 ∷ noThread ∷ []) (1 ∷ noThread ∷ 0 ∷ []) noThread (2 ∷ 0 ∷ 1 ∷ []) ≡ false
+unfolding rowLinked
+test-false-worked = refl
