@@ -1,0 +1,4 @@
+pub mod Searching
+pub mod Reading
+pub mod Laying
+pub mod Comparing

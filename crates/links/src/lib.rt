@@ -1,0 +1,200 @@
+// The list of threads as links, on lent arrays: read off, laid, compared, a thread put in and taken out, the leftmost ready thread sought. Every call is total: whatever the arrays
+// hold, it does what the definition says, and none needs the links to describe a list.
+use schedule::statuses::READY;
+ghost use mathlib.Core.Path.{_≡_};
+ghost use mathlib.Core.Bool.{_&&_};
+ghost use mathlib.Core.List.{_++_};
+ghost use Prim.Native.Nat.{_≤_};
+ghost use lib.ListN.{length, take, drop, getD, set, replicate};
+ghost use Rattle.schedule.specs.Links.{firstOf, laid, linkLeft, noThread, seek as seekOf, unlink as unlinkOf, walk};
+ghost use Rattle.links.specs.Steps.{leftThere};
+ghost use Rattle.schedule.specs.Sound.{sameList};
+
+// "No neighbour is written as 1,024"
+pub const NO_THREAD: u16 = 1024;
+
+// The leftmost ready thread, or NO_THREAD, and how many threads stand left of it.
+pub struct Sought {
+    pub thread: u16,
+    pub passed: u16,
+}
+
+// The neighbour of thread t, 0 for a number that is no thread's.
+fn neighbour(links: &[u16], t: u16) -> u16
+    ensures { λ r. ⌜ r ≡ getD (now (links .entry)) t 0 ⌝ }
+{
+    let place = t as usize;
+    if place < links.len() { links[place] } else { 0 }
+}
+
+// Thread t has the neighbour x; nothing for a number that is no thread's.
+fn put(links: &mut [u16], t: u16, x: u16)
+    ensures { λ _. ⌜ now (links .exit) ≡ set (now (links .entry)) t x ⌝ }
+{
+    let place = t as usize;
+    if place < links.len() {
+        links[place] = x;
+    }
+}
+
+// Puts c directly left of t. The leftmost thread then.
+pub fn link_left(
+    left: &mut [u16; 1024],
+    right: &mut [u16; 1024],
+    leftmost: u16,
+    c: u16,
+    t: u16,
+) -> u16
+    ensures { λ r. ⌜ now (left .exit) ≡ linkLeft c t (record { left = now (left .entry); right = now (right .entry); head = leftmost }) .left ⌝ }
+    ensures { λ r. ⌜ now (right .exit) ≡ linkLeft c t (record { left = now (left .entry); right = now (right .entry); head = leftmost }) .right ⌝ }
+    ensures { λ r. ⌜ r ≡ linkLeft c t (record { left = now (left .entry); right = now (right .entry); head = leftmost }) .head ⌝ }
+{
+    let x = neighbour(left, t);
+    put(left, t, c);
+    put(left, c, x);
+    put(right, x, c);
+    put(right, c, t);
+    if x < NO_THREAD { leftmost } else { c }
+}
+
+// Takes t out. The leftmost thread then.
+pub fn unlink(left: &mut [u16; 1024], right: &mut [u16; 1024], leftmost: u16, t: u16) -> u16
+    ensures { λ r. ⌜ now (left .exit) ≡ unlinkOf t (record { left = now (left .entry); right = now (right .entry); head = leftmost }) .left ⌝ }
+    ensures { λ r. ⌜ now (right .exit) ≡ unlinkOf t (record { left = now (left .entry); right = now (right .entry); head = leftmost }) .right ⌝ }
+    ensures { λ r. ⌜ r ≡ unlinkOf t (record { left = now (left .entry); right = now (right .entry); head = leftmost }) .head ⌝ }
+{
+    let x = neighbour(left, t);
+    let y = neighbour(right, t);
+    put(left, y, x);
+    put(left, t, NO_THREAD);
+    put(right, x, y);
+    put(right, t, NO_THREAD);
+    if x < NO_THREAD { leftmost } else { y }
+}
+
+// The search along the right links, over 1,024 threads at most.
+pub fn seek(status: &[u8; 1024], right: &[u16; 1024], leftmost: u16) -> Sought
+    ensures { λ r. ⌜ r .thread ≡ seekOf 1024 (now (status .entry)) (now (right .entry)) leftmost .thread ⌝ }
+    ensures { λ r. ⌜ r .passed ≡ seekOf 1024 (now (status .entry)) (now (right .entry)) leftmost .passed ⌝ }
+{
+    let mut t = leftmost;
+    let mut passed = 0;
+    while passed < 1024 {
+        if NO_THREAD <= t {
+            break;
+        }
+        if status[t as usize] == READY {
+            return Sought { thread: t, passed };
+        }
+        t = right[t as usize];
+        passed += 1;
+    }
+    Sought {
+        thread: NO_THREAD,
+        passed,
+    }
+}
+
+// Writes the list into the front of a row, as far as the row goes, and gives its length.
+fn write_threads(right: &[u16; 1024], leftmost: u16, row: &mut [u16]) -> usize
+    ensures { λ r. ⌜ r ≡ length (walk (length (now (row .entry))) (now (right .entry)) leftmost) ⌝ }
+    ensures { λ r. ⌜ now (row .exit) ≡ walk (length (now (row .entry))) (now (right .entry)) leftmost ++ drop r (now (row .entry)) ⌝ }
+{
+    let mut t = leftmost;
+    let mut k = 0;
+    while k < row.len() {
+        if NO_THREAD <= t {
+            break;
+        }
+        row[k] = t;
+        t = right[t as usize];
+        k += 1;
+    }
+    k
+}
+
+// Reads the list into the front of a row, leftmost first, and gives its length.
+pub fn read_row(right: &[u16; 1024], leftmost: u16, row: &mut [u16; 1024]) -> usize
+    ensures { λ r. ⌜ r ≡ length (walk 1024 (now (right .entry)) leftmost) ⌝ }
+    ensures { λ r. ⌜ now (row .exit) ≡ walk 1024 (now (right .entry)) leftmost ++ drop r (now (row .entry)) ⌝ }
+{
+    write_threads(right, leftmost, row)
+}
+
+// No thread has a neighbour.
+fn clear(links: &mut [u16; 1024])
+    ensures { λ _. ⌜ now (links .exit) ≡ replicate 1024 noThread ⌝ }
+{
+    *links = [NO_THREAD; 1024];
+}
+
+// The thread at place i of a row; NO_THREAD past its end.
+fn thread_at(row: &[u16], i: usize) -> u16
+    ensures { λ r. ⌜ r ≡ firstOf (drop i (now (row .entry))) ⌝ }
+{
+    if i < row.len() { row[i] } else { NO_THREAD }
+}
+
+// The thread left of place i of a row; NO_THREAD at the first.
+fn thread_before(row: &[u16], i: usize) -> u16
+    requires { ⌜ i ≤ length (now row) ⌝ }
+    ensures { λ r. ⌜ r ≡ leftThere (now (row .entry)) i ⌝ }
+{
+    if i == 0 { NO_THREAD } else { row[i - 1] }
+}
+
+// Puts the threads of a row into links that have none, from the last to the first.
+fn lay_threads(row: &[u16], left: &mut [u16; 1024], right: &mut [u16; 1024])
+    requires { ⌜ (now left ≡ replicate 1024 noThread) × (now right ≡ replicate 1024 noThread) ⌝ }
+    ensures { λ _. ⌜ now (left .exit) ≡ laid (now (row .entry)) .left ⌝ }
+    ensures { λ _. ⌜ now (right .exit) ≡ laid (now (row .entry)) .right ⌝ }
+{
+    let mut i = row.len();
+    while 0 < i {
+        let x = thread_at(row, i);
+        i -= 1;
+        let t = row[i];
+        put(right, t, x);
+        put(left, t, thread_before(row, i));
+    }
+}
+
+// Lays the first len threads of a row into links. The leftmost thread.
+pub fn lay(row: &[u16; 1024], len: usize, left: &mut [u16; 1024], right: &mut [u16; 1024]) -> u16
+    ensures { λ r. ⌜ now (left .exit) ≡ laid (take len (now (row .entry))) .left ⌝ }
+    ensures { λ r. ⌜ now (right .exit) ≡ laid (take len (now (row .entry))) .right ⌝ }
+    ensures { λ r. ⌜ r ≡ laid (take len (now (row .entry))) .head ⌝ }
+{
+    let count = if len < 1024 { len } else { 1024 };
+    let places = &row[..];
+    let threads = &places[..count];
+    clear(left);
+    clear(right);
+    lay_threads(threads, left, right);
+    thread_at(threads, 0)
+}
+
+// Whether two rows of one length are the same.
+fn same(a: &[u16], b: &[u16]) -> bool
+    requires { ⌜ length (now a) ≡ length (now b) ⌝ }
+    ensures { λ r. ⌜ r ≡ sameList (now (a .entry)) (now (b .entry)) ⌝ }
+{
+    let mut i = 0;
+    while i < a.len() {
+        if a[i] != b[i] {
+            return false;
+        }
+        i += 1;
+    }
+    true
+}
+
+// Whether the links are those of the first len threads of a row.
+pub fn describe(left: &[u16; 1024], right: &[u16; 1024], row: &[u16; 1024], len: usize) -> bool
+    ensures { λ r. ⌜ r ≡ (sameList (now (left .entry)) (laid (take len (now (row .entry))) .left) && sameList (now (right .entry)) (laid (take len (now (row .entry))) .right)) ⌝ }
+{
+    let mut lefts = [0u16; 1024];
+    let mut rights = [0u16; 1024];
+    lay(row, len, &mut lefts, &mut rights);
+    same(left, &lefts) && same(right, &rights)
+}
