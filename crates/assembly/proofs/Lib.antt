@@ -1,0 +1,13 @@
+pub mod Parts
+pub mod Lines
+pub mod Counts
+pub mod TableRows
+pub mod Accepted
+pub mod Numbers
+pub mod Says
+pub mod Back
+pub mod RoundTrip
+pub mod SameWords
+pub mod Within
+pub mod Exact
+pub mod WordsBack

@@ -1,0 +1,61 @@
+-- The text of a table: each thread's line, and its actions one to a line.
+use Prim.Native.Nat.{ℕ, zero, suc, _+_}
+use mathlib.Core.List.{List, [], _∷_, _++_, flatten}
+use lib.ListN.{length}
+use Rattle.table.specs.Format.{Table, tableOf, Kind, end, work, alloc, free, fork, join, unknown, kindOf}
+use Rattle.table.specs.Load.{loaded}
+use Rattle.table.specs.declared.Loaded.{Loaded}
+use Rattle.table.specs.declared.Loaded.the-variants.{Accepted, Refused}
+use Rattle.text.specs.Text.{ascii, decimal, newline}
+use Rattle.assembly.specs.Assembly.{over}
+use Rattle.assembly.specs.declared.Disassembled.{Disassembled}
+use Rattle.assembly.specs.declared.Disassembled.the-variants.{Listed, Refused as Rejected}
+
+-- "thread 0"
+abbrev pub threadTexts : ℕ → List (List ℕ)
+threadTexts t = ascii "thread " ∷ decimal t ∷ newline ∷ []
+
+abbrev pub operandTexts : List ℕ → ℕ → List (List ℕ)
+operandTexts word x = word ∷ decimal x ∷ newline ∷ []
+
+-- "alloc 6"; `end` and `work` have no number, and no kind has no text
+unfoldable pub actionTexts : Kind → ℕ → List (List ℕ)
+actionTexts end x = ascii "end\n" ∷ []
+actionTexts work x = ascii "work\n" ∷ []
+actionTexts alloc x = operandTexts (ascii "alloc ") x
+actionTexts free x = operandTexts (ascii "free ") x
+actionTexts fork x = operandTexts (ascii "fork ") x
+actionTexts join x = operandTexts (ascii "join ") x
+actionTexts unknown x = []
+
+-- k actions from a on
+unfoldable pub bodyTexts : Table → ℕ → ℕ → List (List ℕ)
+bodyTexts T a zero = []
+bodyTexts T a (suc k) = bodyTexts T a k ++ actionTexts (kindOf (T .code (a + k))) (T .argument (a + k))
+
+-- a thread's line and its body
+abbrev pub wholeTexts : Table → ℕ → List (List ℕ)
+wholeTexts T t = threadTexts t ++ bodyTexts T (T .first t) (T .count t)
+
+-- the threads below k
+unfoldable pub threadsTexts : Table → ℕ → List (List ℕ)
+threadsTexts T zero = []
+threadsTexts T (suc k) = threadsTexts T k ++ wholeTexts T k
+
+unfoldable pub textOf : Table → List ℕ
+textOf T = flatten (threadsTexts T (T .threads))
+
+abbrev pub listedAs : Loaded → Table → Disassembled
+listedAs (Accepted f) T = Listed (length (textOf T))
+listedAs (Refused r) T = Rejected r
+
+unfoldable pub disassembled : List ℕ → Disassembled
+disassembled s = listedAs (loaded s) (tableOf s)
+
+-- the lent buffer afterwards
+abbrev pub listedIn : Loaded → Table → List ℕ → List ℕ
+listedIn (Accepted f) T out = over (textOf T) out
+listedIn (Refused r) T out = out
+
+unfoldable pub disassembledIn : List ℕ → List ℕ → List ℕ
+disassembledIn s out = listedIn (loaded s) (tableOf s) out

@@ -1,0 +1,58 @@
+-- What the code's inner functions require and promise.
+use Prim.Native.Nat.{ℕ, _-_, _≤_, _<_}
+use mathlib.Core.Path.{_≡_}
+use mathlib.Core.List.{List, [], _∷_}
+use mathlib.Core.Bool.{Bool, true, false}
+use lib.ListN.{length, take, drop}
+use Rattle.assembly.specs.Words.{spanOf, wordsIn, noNumber, numberIn}
+use Rattle.assembly.specs.Said.{saids}
+use Rattle.assembly.specs.Assembly.{isThread, isAction, bodyCount, longestText, checked}
+use Rattle.assembly.specs.declared.Said.{Said}
+use Rattle.assembly.specs.declared.check.Checked.the-variants.{WellFormed}
+use Rattle.assembly.specs.declared.line.Line.{Line}
+
+-- a front of a list whose bytes pass a test, the longest
+pub record Spans (p : ℕ → Bool) (s : List ℕ) (r : ℕ) : Type 0 where
+  pub value : r ≡ spanOf p s
+  pub within : r ≤ length s
+
+-- a line's first word, from start to end; none where these are the same
+pub record FirstWord (s : List ℕ) (start end : ℕ) : Type 0 where
+  pub order : start ≤ end
+  pub within : end ≤ length s
+  pub none : start ≡ end → wordsIn s ≡ []
+  pub some : start < end → wordsIn s ≡ take (end - start) (drop start s) ∷ wordsIn (drop end s)
+
+pub record Valued (w : List ℕ) (r : ℕ) : Type 0 where
+  pub value : r ≡ numberIn w
+  pub small : r ≤ noNumber
+
+-- the line that begins at a position, and where the next one begins
+pub record Reads (s : List ℕ) (at : ℕ) (r : Line) : Type 0 where
+  pub later : at < r .next
+  pub within : r .next ≤ length s
+  pub says : saids (drop at s) ≡ r .said ∷ saids (drop (r .next) s)
+
+-- counts that one line more does not overflow
+pub record Countable (n m : ℕ) : Type 0 where
+  pub threads : n ≤ longestText
+  pub actions : m ≤ longestText
+
+-- a thread's line, or an action's
+abbrev pub ofSort : Bool → Said → Bool
+ofSort true x = isThread x
+ofSort false x = isAction x
+
+pub record CountsBody (s : List ℕ) (at r : ℕ) : Type 0 where
+  pub value : r ≡ bodyCount (saids (drop at s))
+  pub small : r ≤ length s
+
+-- a well-formed text's counts
+pub record Sized (s : List ℕ) (n m : ℕ) : Type 0 where
+  pub short : length s ≤ longestText
+  pub counts : checked (saids s) ≡ WellFormed n m
+
+-- a word and a number that make a line of at most 15 bytes
+pub record Operand (w : List ℕ) (x : ℕ) : Type 0 where
+  pub short : length w ≤ 6
+  pub small : x < noNumber

@@ -1,0 +1,95 @@
+"""Writes the stored input and output of crates/assembly_cases: texts with a label, and the answer expected of each.
+
+A record of the input is the label's length (1 byte), the label, the text's length (3 bytes), the text.
+Every expected answer is written down here by hand, and held against texts.py as well.
+"""
+import pathlib
+
+from reference import check, facts_line
+from texts import LONGEST, assemble
+
+KEYWORD = 'expected thread, alloc, free, fork, join, work or end'
+NUMBER = 'expected a number up to 16777215'
+LINE_END = 'expected the end of the line'
+LEAST = 'table 1 1 serial 0 depth 1 nested 1'
+E = b'''# the root
+thread 0
+fork 1
+fork 2
+join 2
+join 1
+end
+thread 1
+alloc 6
+work
+free 6
+end
+thread 2
+alloc 6
+free 6
+end
+'''
+many = lambda n: b''.join(b'thread %d\nend\n' % t for t in range(n))
+
+CASES = [
+    ('table E', E, 'table 3 12 serial 6 depth 8 nested 2'),
+    ('the least', b'thread 0\nend\n', LEAST),
+    ('no newline at the end', b'thread 0\nend', LEAST),
+    ('blanks, a comment and blank lines', b'\n \t\n\tthread\t0 # 1\n#end\n  end#\n\n', LEAST),
+    ('empty text', b'', 'refused 2 0'),
+    ('nothing but a comment', b'# thread 0', 'refused 2 0'),
+    ('a thread and no action', b'thread 0\n', 'refused 2 0'),
+    ('1,025 threads', many(1025), 'refused 2 0'),
+    ('8,193 actions', b'thread 0\n' + b'work\n' * 8192 + b'end\n', 'refused 2 0'),
+    ('8,192 actions', b'thread 0\n' + b'work\n' * 8191 + b'end\n', 'table 1 8192 serial 0 depth 8192 nested 1'),
+    ('unknown word', b'thread 0\nwait\nend\n', 'line 2: ' + KEYWORD),
+    ('a word in capitals', b'Thread 0\nend\n', 'line 1: ' + KEYWORD),
+    ('a word that goes on', b'thread 0\nends\n', 'line 2: ' + KEYWORD),
+    ('a carriage return', b'thread 0\nend\r\n', 'line 2: ' + KEYWORD),
+    ('missing number', b'thread 0\nalloc # 6\nend\n', 'line 2: ' + NUMBER),
+    ('no number', b'thread 0\nalloc six\nend\n', 'line 2: ' + NUMBER),
+    ('a sign', b'thread 0\nalloc +6\nend\n', 'line 2: ' + NUMBER),
+    ('a 0 in front', b'thread 0\nalloc 06\nend\n', 'line 2: ' + NUMBER),
+    ('number too large', b'thread 0\nalloc 16777216\nend\n', 'line 2: ' + NUMBER),
+    ('number far too large', b'thread 0\nalloc 99999999999999999999999999\nend\n', 'line 2: ' + NUMBER),
+    ('the largest number', b'thread 0\nalloc 16777215\nend\n', 'table 1 2 serial 16777215 depth 2 nested 1'),
+    ('a number too many', b'thread 0\nalloc 6 7\nend\n', 'line 2: ' + LINE_END),
+    ('a number after end', b'thread 0\nend 0\n', 'line 2: ' + LINE_END),
+    ('an action before any thread', b'\nend\n', 'line 2: expected thread 0'),
+    ('first thread 1', b'thread 1\nend\n', 'line 1: expected thread 0'),
+    ('a thread left out', b'thread 0\nend\nthread 2\nend\n', 'line 3: expected thread 1'),
+    ('a thread twice', b'thread 0\nend\nthread 0\nend\n', 'line 3: expected thread 1'),
+    ('missing end', b'thread 0\nalloc 6\n', 'refused 7 0 line 2'),
+    ('an end too early', b'thread 0\n\nend\nwork\nend\n', 'refused 7 0 line 3'),
+    ('a thread with no action', b'thread 0\nfork 1\njoin 1\nend\n\nthread 1\nthread 2\nend\n', 'refused 4 1 line 6'),
+    ('a thread that is never forked', b'thread 0\nend\n# 1\nthread 1\nend\n', 'refused 11 1 line 4'),
+    ('an alloc of 0', b'thread 0\nalloc 0\nend\n', 'refused 6 0 line 2'),
+    ('joins in the wrong order', E.replace(b'join 2\njoin 1', b'join 1\njoin 2'), 'refused 9 2 line 5'),
+    ('more freed than drawn', b'thread 0\nalloc 6\n# 7\nfree 7\nend\n', 'refused 10 1 line 4'),
+    ('the first fault counts', b'thread 0\nalloc\nwait\n', 'line 2: ' + NUMBER),
+    ('a fault before a refusal', b'thread 0\nalloc 0\nwait\n', 'line 3: ' + KEYWORD),
+    ('a byte of 0', b'thread 0\n\0\nend\n', 'line 2: ' + KEYWORD),
+    ('the longest text', (b'thread 0\nend\n' + b'#' * LONGEST)[:LONGEST], LEAST),
+    ('a byte more', (b'thread 0\nend\n' + b'#' * LONGEST)[:LONGEST + 1], 'text above 262144 bytes'),
+    # the last, of which only as much is stored as the program reads
+    ('1 MB of zeros', bytes(1048576), 'text above 262144 bytes'),
+]
+
+
+def main():
+    data, text = b'', ''
+    for label, case, expected in CASES:
+        table, message = assemble(case)
+        found = message or facts_line(check(table))
+        if found != expected:
+            raise SystemExit('%s: expected %s, the reference says %s' % (label, expected, found))
+        data += bytes([len(label)]) + label.encode() + len(case).to_bytes(3, 'little') + case[:LONGEST + 1]
+        text += '%s: %s\n' % (label, expected)
+    folder = pathlib.Path(__file__).parent.parent / 'crates' / 'assembly_cases'
+    (folder / 'stdin').write_bytes(data)
+    (folder / 'stdout').write_text(text)
+    print('%d cases, %d bytes' % (len(CASES), len(data)))
+
+
+if __name__ == '__main__':
+    main()
