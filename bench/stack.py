@@ -2,7 +2,7 @@
 deeply nested table there is. Where a stack begins is drawn anew for each process, so that the least moves by a few KiB: it is one with which several
 tries in a row go well.
 
-usage: python3 bench/stack.py [PROGRAM..]    (from the repository's top, after `rt check` of the programs; default tablecheck, turnlist, runrounds)
+usage: python3 bench/stack.py [PROGRAM..]    (from the repository's top, after `rt check` of the programs; default tablecheck, turnlist, wallchart, runrounds)
 """
 import pathlib
 import subprocess
@@ -31,7 +31,8 @@ def fan():
 
 BEGIN = bytes([WORKERS]) + (1).to_bytes(3, 'little')
 ORDER = bytes(i % WORKERS for i in range(4096))
-FRONTS = {'tablecheck': b'', 'turnlist': BEGIN + len(ORDER).to_bytes(2, 'little') + ORDER, 'runrounds': BEGIN + b'\xff' * 4}
+LISTING = BEGIN + len(ORDER).to_bytes(2, 'little') + ORDER
+FRONTS = {'tablecheck': b'', 'turnlist': LISTING, 'wallchart': LISTING, 'runrounds': BEGIN + b'\xff' * 4}
 
 
 def answer(program, data, kib):
@@ -50,7 +51,7 @@ def least(program, data):
 
 
 def main():
-    for program in sys.argv[1:] or ['tablecheck', 'turnlist', 'runrounds']:
+    for program in sys.argv[1:] or FRONTS:
         for name, data in (('nested', nested()), ('fan', fan())):
             print('%-10s %-6s %4d KiB   %s' % (program, name, *least(program, FRONTS[program] + data)))
 
