@@ -204,6 +204,8 @@ FAN = table([(FORK, t) for t in range(1, 1024)] + [(JOIN, t) for t in range(1023
 FULL = b'\xff' * 3
 ORDERS = [bytes(4096), bytes(i % 16 for i in range(4096))]
 LISTINGS = [bytes([16]) + FULL + b'\0\x10' + row + data for row in ORDERS for data in (MOST, CHAIN, FAN, MOST + b'\0', bytes(60000))]
+WIDE = table([(FORK, t) for t in range(1, 17)] + [(JOIN, t) for t in range(16, 0, -1)] + [(END, 0)], *[[(WORK, 0), (END, 0)]] * 16)
+HOLDING = bytes([16]) + FULL + b'\x40\0' + bytes(i // 2 % 16 for i in range(64)) + WIDE  # each forks a child and takes it: after 32 turns all hold one
 BOARDS = [quota.board(p, b, M, data) for p in (1, 16) for b in (1, 65535) for M in (0, 2**64 - 1) for data in (MOST, CHAIN, FAN, MOST + b'\0', bytes(60000))]
 ROUNDS = [bytes([p]) + FULL + b'\xff' * 4 + data for p in (1, 2, 16) for data in (MOST, CHAIN, FAN, MOST + b'\0', bytes(60000))]
 
@@ -216,7 +218,7 @@ PROGRAMS = {
     'turnlist': (LISTINGS, turnlist_input, machine.turnlist, listing_traits,
                  ['done', 'open', 'quota', 'wait', 'idle', 'premature', 'order left at the end', 'order of 0', 'order of 4096', 'worker 255',
                   'refused 20', 'refused 21', 'refused 22', 'refused 30', 'refused 33']),
-    'wallchart': (LISTINGS, turnlist_input, chart.wallchart, chart_traits,
+    'wallchart': (LISTINGS + [HOLDING], turnlist_input, chart.wallchart, chart_traits,
                   ['a chart', 'all 4,097 lines', '16 workers all holding', 'a thread of four digits',
                    'refused 20', 'refused 21', 'refused 22', 'refused 30', 'refused 33']),
     'runrounds': (ROUNDS, runrounds_input, machine.runrounds, rounds_traits,
