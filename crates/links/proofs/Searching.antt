@@ -1,36 +1,17 @@
 -- The search along the links, a thread at a time: what the whole search finds is what the search from here finds, with the threads passed so far.
 use mathlib.Core.Path.{_≡_, refl, ap, sym, _∙_}
-use Prim.Native.Nat.{ℕ, zero, suc, _+_, _-_, _≤_, _<_}
+use Prim.Native.Nat.{ℕ, suc, _+_, _-_, _≤_, _<_}
 use native.Mathlib.Omega.{arith}
 use mathlib.Core.List.{List}
 use lib.ListN.{getD}
-use borrow.Author.Tests.{lt-ltb, le-ltb, eq-eqb, ne-eqb}
 use Rattle.schedule.specs.Machine.{ready}
 use Rattle.schedule.specs.Links.{noThread, Sought, seek}
+use Rattle.schedule.proofs.Links.{seek-stop, seek-hit, seek-next}
 
--- ---- one step of the search
-
-seek-found : (k : ℕ) (status right : List ℕ) (t : ℕ) → t < noThread → getD status t 0 ≡ ready
-    → seek (suc k) status right t ≡ record { thread = t; passed = 0 }
-unfolding seek
-seek-found k status right t h e = rw (lt-ltb t noThread h, eq-eqb (getD status t 0) ready e)
-
-seek-on : (k : ℕ) (status right : List ℕ) (t : ℕ) → t < noThread → (getD status t 0 ≡ ready → ⊥)
-    → seek (suc k) status right t
-    ≡ record { thread = seek k status right (getD right t 0) .thread; passed = suc (seek k status right (getD right t 0) .passed) }
-unfolding seek
-seek-on k status right t h e = rw (lt-ltb t noThread h, ne-eqb (getD status t 0) ready e)
-
-seek-out : (k : ℕ) (status right : List ℕ) (t : ℕ) → noThread ≤ t → seek k status right t ≡ record { thread = noThread; passed = 0 }
-unfolding seek
-seek-out zero status right t h = refl
-seek-out (suc k) status right t h = rw (le-ltb t noThread h)
-
+-- no step is left
 seek-over : (status right : List ℕ) (t : ℕ) → seek 0 status right t ≡ record { thread = noThread; passed = 0 }
 unfolding seek
 seek-over status right t = refl
-
--- ---- the whole search
 
 -- k threads are passed, and the search stands at t
 pub record SoFar (status right : List ℕ) (leftmost t k : ℕ) : Type 0 where
@@ -53,10 +34,10 @@ module _ (status right : List ℕ) (leftmost t k : ℕ) (s : SoFar status right 
 
   pub sought-found : k < 1024 → t < noThread → getD status t 0 ≡ ready
       → (t ≡ seek 1024 status right leftmost .thread) × (k ≡ seek 1024 status right leftmost .passed)
-  sought-found h b e = ends-at t (rw (left h) (seek-found (1024 - (k + 1)) status right t b e))
+  sought-found h b e = ends-at t (rw (left h) (seek-hit (1024 - (k + 1)) status right t b e))
 
   pub sought-out : noThread ≤ t → (noThread ≡ seek 1024 status right leftmost .thread) × (k ≡ seek 1024 status right leftmost .passed)
-  sought-out b = ends-at noThread (seek-out (1024 - k) status right t b)
+  sought-out b = ends-at noThread (seek-stop (1024 - k) status right t b)
 
   pub sought-over : 1024 ≤ k → (noThread ≡ seek 1024 status right leftmost .thread) × (k ≡ seek 1024 status right leftmost .passed)
   sought-over h =
@@ -68,7 +49,7 @@ module _ (status right : List ℕ) (leftmost t k : ℕ) (s : SoFar status right 
       let m : ℕ = 1024 - (k + 1) in
       let n : seek (1024 - k) status right t
       ≡ record { thread = seek m status right (getD right t 0) .thread; passed = suc (seek m status right (getD right t 0) .passed) } =
-      rw (left h) (seek-on m status right t b e) in
+      rw (left h) (seek-next m status right t b e) in
       record {
         within = omega arith;
         thread = s .thread ∙ ap (λ (r : Sought). r .thread) n;

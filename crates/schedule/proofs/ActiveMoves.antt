@@ -14,7 +14,8 @@ use Rattle.schedule.specs.Actives.{actives}
 use Rattle.schedule.proofs.Lawful.{Lawful}
 use Rattle.schedule.proofs.Words.{Ascends}
 use Rattle.schedule.proofs.Facts.{Facts}
-use Rattle.schedule.proofs.Once.{Once, Below, ascends-once}
+use Rattle.schedule.proofs.Lists.{Below}
+use Rattle.schedule.proofs.Once.{Once, ascends-once}
 use Rattle.schedule.proofs.Waiting.{awaited, child-listed, child-left, none-between}
 use Rattle.schedule.proofs.Actives.{actives-set, actives-fork, actives-wait, actives-end, actives-wake}
 

@@ -14,7 +14,8 @@ use borrow.Author.Tests.{eqb-true, eqb-false, eq-eqb, ne-eqb}
 use Rattle.table.specs.Sum.{pick}
 use Rattle.schedule.specs.Machine.{ready, waiting, leftOf, without}
 use Rattle.schedule.specs.Actives.{actives}
-use Rattle.schedule.proofs.Once.{Once, Below, once-gone}
+use Rattle.schedule.proofs.Lists.{Below}
+use Rattle.schedule.proofs.Once.{Once, once-gone}
 
 -- thread t waits, by the statuses
 abbrev Waits : List ℕ → ℕ → Type 0

@@ -28,7 +28,8 @@ use Rattle.schedule.proofs.SerialSums.{lower, front-sum}
 use Rattle.schedule.proofs.Totals.{sumTo-add}
 use Rattle.schedule.proofs.Leftmost.{all-done, front-done, leftmost-undone}
 use Rattle.schedule.proofs.Draws.{spentBeyond, draws-few}
-use Rattle.schedule.proofs.RowBounds.{Covered, Below, row-within, row-serial}
+use Rattle.schedule.proofs.Lists.{Below}
+use Rattle.schedule.proofs.RowBounds.{Covered, row-within, row-serial}
 
 -- the first k actions of serial order are a front part of it
 take-front : (k : ℕ) (l : List ℕ) → List·Memᴰ (take k l) (fronts l)

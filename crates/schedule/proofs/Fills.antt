@@ -13,7 +13,8 @@ use Rattle.table.proofs.Tests.{no-way}
 use Rattle.schedule.specs.Machine.{waiting}
 use Rattle.schedule.specs.Links.{noThread, Links, walk, firstOf, rightIn, leftAfter, lastAfter, lastOf, Linked, LinkedAs, linkLast}
 use Rattle.schedule.specs.Actives.{actives, noLinks, filledFrom}
-use Rattle.schedule.proofs.Once.{Once, Below}
+use Rattle.schedule.proofs.Lists.{Below}
+use Rattle.schedule.proofs.Once.{Once}
 use Rattle.schedule.proofs.Neighbours.{rightIn-later, choose-last, choose-either, apart}
 use Rattle.schedule.proofs.Links.{set-seen, sets-seen, walk-linked}
 use Rattle.schedule.proofs.Actives.{once-actives, below-actives, once-after}

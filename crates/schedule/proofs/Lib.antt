@@ -60,7 +60,6 @@ pub mod ThreadLimit
 pub mod Once
 pub mod Neighbours
 pub mod Links
-pub mod LinkTests
 pub mod Waiting
 pub mod Actives
 pub mod ActiveMoves

@@ -25,7 +25,8 @@ use Rattle.schedule.proofs.Releases.{Acting, acting}
 use Rattle.schedule.proofs.Ends.{ownerBelow-less, acting-ended}
 use Rattle.schedule.proofs.ListMoves.{leftOf-old}
 use Rattle.schedule.proofs.Turns.{either}
-use Rattle.schedule.proofs.Once.{Once, Below, once-leftOf, below-leftOf}
+use Rattle.schedule.proofs.Lists.{Below}
+use Rattle.schedule.proofs.Once.{Once, once-leftOf, below-leftOf}
 use Rattle.schedule.proofs.Links.{linkLeft-linked, unlink-linked}
 use Rattle.schedule.proofs.Waiting.{awaited}
 use Rattle.schedule.proofs.Actives.{actives-old, actives-new, once-actives, below-actives}

@@ -13,8 +13,8 @@ use Rattle.table.specs.Sum.{pick}
 use Rattle.schedule.specs.Machine.{ready, leftOf, without, leftmost}
 use Rattle.schedule.specs.Begin.{firsts}
 use Rattle.schedule.specs.Links.{noThread, Links, walk, firstOf, rightIn, leftIn, laid, Linked, LinkedAs, linkLeft, unlink, Sought, firstReady, seek}
-use Rattle.schedule.proofs.Lists.{firsts-length, firsts-at}
-use Rattle.schedule.proofs.Once.{Once, Below, once-short}
+use Rattle.schedule.proofs.Lists.{Below, firsts-length, firsts-at}
+use Rattle.schedule.proofs.Once.{Once, once-short}
 use Rattle.schedule.proofs.Neighbours.{rightIn-here, rightIn-later, rightIn-leftOf, leftIn-leftOf, rightIn-without, leftIn-without, first-leftOf, first-without}
 
 -- ---- laying

@@ -38,7 +38,8 @@ use Rattle.schedule.proofs.Leftmost.{all-done, front-done, leftmost-und
 use Rattle.schedule.proofs.Turns.{turn-facts}
 use Rattle.schedule.proofs.Tries.{Tries, Turned, idles, tries, turned}
 use Rattle.schedule.proofs.Draws.{spentBeyond, Draw, draws-within}
-use Rattle.schedule.proofs.RowBounds.{Covered, Below, Draws, row-within, row-serial}
+use Rattle.schedule.proofs.Lists.{Below}
+use Rattle.schedule.proofs.RowBounds.{Covered, Draws, row-within, row-serial}
 
 -- a fork costs 1, any other action nothing
 abbrev forkCost : Table → ℕ → ℕ

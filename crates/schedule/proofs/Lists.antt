@@ -9,6 +9,10 @@ use lib.Seq.{getD-set-same, getD-set-other, length-take-le, take-append-seam, ge
 use Rattle.schedule.specs.Record.{filled}
 use Rattle.schedule.specs.Begin.{firsts}
 
+-- the numbers in a list are below n: threads of a table, workers of a row
+abbrev pub Below : ℕ → List ℕ → Type 0
+Below n l = (x : ℕ) → List·Memᴰ x l → x < n
+
 -- what a list reads within its length is an element
 pub getD-member {ℓ} : {A : Type ℓ} (l : List A) (i : ℕ) (d : A) → i < length l → List·Memᴰ (getD l i d) l
 getD-member [] i d h = absurd (omega arith)

@@ -15,14 +15,11 @@ use Rattle.schedule.specs.Sound.{member, countBelow}
 use Rattle.schedule.proofs.Words.{never-true, member-exactly, Ascends}
 use Rattle.schedule.proofs.CountBelow.{count-bound, member-more}
 use Rattle.schedule.proofs.ListMoves.{leftOf-cases, without-old}
+use Rattle.schedule.proofs.Lists.{Below}
 
 unfoldable pub Once : List ℕ → Type 0
 Once [] = Unit {0}
 Once (x ∷ l) = (List·Memᴰ x l → ⊥) × Once l
-
--- all threads of a list are below n
-abbrev pub Below : ℕ → List ℕ → Type 0
-Below n l = (t : ℕ) → List·Memᴰ t l → t < n
 
 pub ascends-once : (f : ℕ → ℕ) (l : List ℕ) → Ascends f l → Once l
 unfolding Ascends Once

@@ -22,6 +22,7 @@ use Rattle.schedule.proofs.Batches.{batches, Enabled, batches-few, batc
 use Rattle.schedule.proofs.Depth.{level-depth}
 use Rattle.schedule.proofs.Leftmost.{leftmost-enabled, leftmost-undone}
 use Rattle.schedule.proofs.Draws.{spentBeyond}
+use Rattle.schedule.proofs.Lists.{Below}
 
 -- what n batches of a budget draw, with n + B ≤ B·v and v ≤ d
 draws-bound : (budget n B v d : ℕ) → n + B ≤ B * v → v ≤ d → budget * n ≤ budget * (B * (d - 1))
@@ -46,10 +47,6 @@ unended-listed T l p K st f n = go (st .list) refl
 pub record Covered (T : Table) (p K : ℕ) (amount : State → ℕ) (base : ℕ) (cost : ℕ → ℕ) : Type 0 where
   pub at-end : (st : State) → Facts T p K st → statusOf st 0 ≡ ended → amount st ≤ base
   pub before : (st : State) → Facts T p K st → (t : ℕ) (others : List ℕ) → st .list ≡ t ∷ others → t < T .threads → amount st ≤ base + spentBeyond T cost st (nextOf st t)
-
--- the workers of a row are below p
-abbrev pub Below : ℕ → List ℕ → Type 0
-Below p row = (w : ℕ) → List·Memᴰ w row → w < p
 
 -- the actions done beyond an action that is not done cost at most a budget for each batch begun beyond it
 abbrev pub Draws : Table → ℕ → ℕ → (ℕ → ℕ) → ℕ → Type 0

@@ -18,7 +18,8 @@ use Rattle.schedule.specs.Links.{noThread, firstReady}
 use Rattle.schedule.specs.Actives.{actives}
 use Rattle.schedule.proofs.Lawful.{Lawful}
 use Rattle.schedule.proofs.Facts.{Facts}
-use Rattle.schedule.proofs.Once.{Once, Below, once-short}
+use Rattle.schedule.proofs.Lists.{Below}
+use Rattle.schedule.proofs.Once.{Once, once-short}
 use Rattle.schedule.proofs.Actives.{actives-old, once-actives}
 use Rattle.schedule.proofs.ActiveMoves.{list-once}
 

@@ -16,7 +16,6 @@ pub mod ThreadCases
 pub mod AmountCases
 pub mod Rule
 pub mod Links
-pub mod LinkTest
 pub mod Actives
 pub mod LinkMoves
 pub mod LinkCases

@@ -2,11 +2,9 @@
 use mathlib.Core.Path.{_≡_, refl}
 use mathlib.Core.List.{List, [], _∷_}
 use Prim.Native.Nat.{ℕ}
-use mathlib.Core.Bool.{true, false}
 use lib.ListN.{take}
 use Rattle.schedule.specs.Begin.{firsts}
 use Rattle.schedule.specs.Links.{noThread, Links, walk, rightIn, leftAfter, laid, linkLeft, unlink, seek}
-use Rattle.schedule.specs.LinkTest.{rowLinked}
 use Rattle.schedule.specs.Actives.{actives}
 
 abbrev links : List ℕ → List ℕ → ℕ → Links
@@ -75,12 +73,3 @@ blank-worked = refl
 range-worked : walk noThread (2000 ∷ []) 0 ≡ 0 ∷ []
 unfolding walk
 range-worked = refl
-
--- a left link that is no right link's opposite is found
-test-worked : rowLinked (2 ∷ 0 ∷ noThread ∷ []) (1 ∷ noThread ∷ 0 ∷ []) noThread (2 ∷ 0 ∷ 1 ∷ []) ≡ true
-unfolding rowLinked
-test-worked = refl
-
-test-false-worked : rowLinked (2 ∷ 2 ∷ noThread ∷ []) (1 ∷ noThread ∷ 0 ∷ []) noThread (2 ∷ 0 ∷ 1 ∷ []) ≡ false
-unfolding rowLinked
-test-false-worked = refl

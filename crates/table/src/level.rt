@@ -1,4 +1,5 @@
 // The depth D: a thread's end level, given its start level, and the walk over its actions call each other.
+use crate::kinds::FORK;
 use crate::read::argument_at;
 use crate::read::body_of;
 use crate::read::code_at;
@@ -51,7 +52,7 @@ fn walk(
         let x = argument_at(body, i);
         last = next_level(k, x, last, ends);
         i += 1;
-        if k == 4 {
+        if k == FORK {
             let end = end_level(table, n, m, x, last + 1, ends);
             ends[x] = end;
         }
