@@ -85,7 +85,10 @@ ORDER = lambda n: b'workers 2\nquota 6\n' + b'order 1 1 1 1 1 1 1 1\n' * (n // 8
 
 INPUTS = [
     ('input of a run of E', TURNS + E, example('e.run')),
+    ('the same from the examples', example('turns.front') + example('e.text'), example('e.run')),
     ('input of a board for E', BOARD + E, example('e.board')),
+    ('the same from the examples', example('board.front') + example('e.text'), example('e.board')),
+    ('input of 255 threads', example('rounds.front') + example('tree.text'), bytes.fromhex('04 080000 10270000') + assemble(example('tree.text'))[0]),
     ('input in rounds', ROUNDS + TINY, tiny('02 060000 64000000')),
     ('an order of none', b'workers 2\nquota 6\norder\n' + TINY, tiny('02 060000 0000')),
     ('blanks and comments in front', b'\t\nworkers\t2#3\n # quota 7\n quota 6 \n\nlimit 100\n' + TINY, tiny('02 060000 64000000')),

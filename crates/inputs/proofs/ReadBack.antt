@@ -1,13 +1,13 @@
 -- The numbers of a text are read back from the front of its input, and what follows the front is the table that the rest of the text assembles to.
 use Prim.Native.Nat.{ℕ, suc, _+_, _*_, _/_, _%_, _≤_}
 use native.Mathlib.Omega.{arith}
-use mathlib.Core.Path.{_≡_, refl, sym, ap, _∙_}
+use mathlib.Core.Path.{_≡_, refl, sym}
 use mathlib.Core.List.{List, [], _∷_, _++_, append-nil, flatten}
 use mathlib.Core.Bool.{Bool, true, false, _&&_}
 use borrow.Author.Tests.{leb-true, ltb-true}
 use lib.Dec.{leb, ltb}
 use lib.ListN.{length, getD, take, drop, length-append}
-use lib.Seq.{take-at, drop-at, take-append-seam, drop-append-seam}
+use lib.Seq.{take-at, take-append-seam, drop-append-seam}
 use Rattle.table.specs.Sum.{pick}
 use Rattle.table.specs.Format.{u16At, u24At, u32At}
 use Rattle.assembly.specs.Words.{isDigit, zeroLed, same, linesOf, wordsOf}
@@ -15,11 +15,10 @@ use Rattle.text.specs.Text.{ascii}
 use Rattle.assembly.specs.Said.{saids}
 use Rattle.assembly.specs.Assembly.{tableBytes, over, assembled, assembledIn}
 use Rattle.assembly.specs.declared.Assembled.the-variants.{Written}
-use Rattle.inputs.specs.Number.{nextValue, goesOn, valueFrom, numberIn, figureBy, figureLast, figureOf}
+use Rattle.inputs.specs.Number.{nextValue, valueFrom, numberIn, figureBy, figureOf}
 use Rattle.inputs.specs.Front.{Front, nothing, workers, quota, between, turns, rounds, board, Step, goes, stops, ends, Order, listed, broken, maxOrder, most8, most24, most32, most64, addedBy, added, onwardOrder, orderFrom, givenTo, orderedTo, stepWith, stepOf, Fronted, whole, fault, atEnd, onward, frontFrom, frontOf, afterLines}
 use Rattle.inputs.specs.Input.{frontTexts, inputBytes, made, madeIn}
-use Rattle.inputs.specs.declared.Wanted.{Wanted}
-use Rattle.inputs.specs.declared.Wanted.the-variants.{Workers, QuotaOrBetween, OrderOrLimit, Memory, FewerWorkers}
+use Rattle.inputs.specs.declared.Wanted.the-variants.{FewerWorkers}
 use Rattle.inputs.specs.declared.number.Number.{Number}
 use Rattle.inputs.specs.declared.number.Number.the-variants.{Value, NoNumber}
 use Rattle.inputs.specs.declared.number.Figure.{Figure}
@@ -183,6 +182,12 @@ pub record BoardBack (i : List ℕ) (p b M : ℕ) (t : List ℕ) : Type 0 where
   pub memory-back : u32At i 5 + 4294967296 * u32At i 9 ≡ M
   pub table-back : drop 13 i ≡ t
 
+-- a text of a table, and the bytes that are put for it
+pub record TableBack (s : List ℕ) : Type 0 where
+  pub size : ℕ
+  pub written : assembled s ≡ Written size
+  pub bytes : (out : List ℕ) → take size (assembledIn s out) ≡ tableBytes (saids s)
+
 -- a number by its bytes, a pair of bytes at a time
 pair-bytes : (x : ℕ) → x % 256 + 256 * (x / 256 % 256) ≡ x % 65536
 pair-bytes x = omega arith
@@ -263,6 +268,10 @@ module _ (s out : List ℕ) (k : ℕ) (q : made s ≡ Filled k) where
   pub board-back : (p b M n : ℕ) → frontOf s ≡ whole (board p b M) n → BoardBack input p b M (tableBytes (saids (afterLines n s)))
   board-back p b M n e = rw (input-is (board p b M) n e) (board-bytes (tableBytes (saids (afterLines n s))) p b M (in-range s (board p b M) n e))
 
--- and those bytes of the table are what `assemble` of tables puts, of the text after the front's lines
-pub table-back : (s out : List ℕ) (k : ℕ) → assembled s ≡ Written k → take k (assembledIn s out) ≡ tableBytes (saids s)
-table-back s out k q = table-written s out (assembledIn s out) k q refl
+  -- those bytes of the table are what `assembly::assemble` puts, of the text after the front's lines
+  pub table-back : (f : Front) (n : ℕ) → frontOf s ≡ whole f n → TableBack (afterLines n s)
+  table-back f n e =
+      let m = makes s k q in
+      let b : m .lines ≡ n = cc in
+      let w : assembled (afterLines n s) ≡ Written (m .size) = rw (← b) (m .tabled) in
+      record { size = m .size; written = w; bytes = λ o. table-written (afterLines n s) o (assembledIn (afterLines n s) o) (m .size) w refl }

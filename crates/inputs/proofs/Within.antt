@@ -6,13 +6,11 @@ use mathlib.Core.List.{List}
 use mathlib.Core.Bool.{Bool, true, false}
 use lib.Dec.{ltb}
 use lib.ListN.{length, drop, length-append}
-use Rattle.table.specs.Sum.{pick}
 use Rattle.assembly.specs.Assembly.{over, longestText, assembled}
 use Rattle.assembly.specs.declared.Assembled.{Assembled}
 use Rattle.assembly.specs.declared.Assembled.the-variants.{Written, TooLong, Malformed, Refused}
 use Rattle.inputs.specs.Front.{Front, Fronted, whole, fault, frontOf, afterLines}
-use Rattle.inputs.specs.Input.{inputBytes, withTable, filledWith, madeBy, filledBy, made, madeIn}
-use Rattle.inputs.specs.declared.Made.{Made}
+use Rattle.inputs.specs.Input.{inputBytes, withTable, madeBy, made, madeIn}
 use Rattle.inputs.specs.declared.Made.the-variants.{Written as Filled, NoTable}
 
 no-input : {a : Assembled} {k : ℕ} → NoTable a ≡ Filled k → ⊥

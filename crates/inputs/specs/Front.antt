@@ -1,7 +1,6 @@
 -- The lines in front of a table's text: workers, then quota and an order, quota and a limit, or between and memory.
 use Prim.Native.Nat.{ℕ, zero, suc}
 use mathlib.Core.List.{List, [], _∷_, _++_}
-use mathlib.Core.Bool.{Bool}
 use lib.Dec.{ltb}
 use lib.ListN.{length, drop}
 use Rattle.table.specs.Sum.{pick}

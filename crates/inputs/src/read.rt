@@ -31,6 +31,17 @@ fn line_end(text: &[u8], at: usize) -> usize
     at + span(&text[at..], Class::Line)
 }
 
+// Past a newline, if one stands there.
+fn next_line(text: &[u8], end: usize) -> usize
+    ensures { λ r. ⌜ r ≡ min (suc end) (length (now (text .entry))) ⌝ }
+{
+    if end < text.len() {
+        end + 1
+    } else {
+        text.len()
+    }
+}
+
 // The text ends here.
 fn at_end(front: Front) -> End
     ensures { λ r. ⌜ Ending front r ⌝ }
@@ -82,16 +93,5 @@ pub(crate) fn read_front(text: &[u8], order: &mut [u8]) -> Read
         end: at_end(front),
         lines,
         at,
-    }
-}
-
-// Past a newline, if one stands there.
-fn next_line(text: &[u8], end: usize) -> usize
-    ensures { λ r. ⌜ r ≡ min (suc end) (length (now (text .entry))) ⌝ }
-{
-    if end < text.len() {
-        end + 1
-    } else {
-        text.len()
     }
 }

@@ -1,6 +1,6 @@
 -- `inputs::add_table` meets its contract, by what is answered to the text of the table.
 use native.Mathlib.Omega.{arith}
-use Prim.Native.Nat.{ℕ, suc, _≤_}
+use Prim.Native.Nat.{ℕ, _≤_}
 use mathlib.Core.Path.{_≡_, refl, sym, ap, _∙_}
 use mathlib.Core.List.{List, _∷_, [], _++_}
 use lib.ListN.{length, take}
@@ -8,8 +8,7 @@ use lib.Seq.{length-take-le}
 use Rattle.lines.specs.Puts.{Puts}
 use Rattle.assembly.specs.Assembly.{longestText, assembled, assembledIn}
 use Rattle.assembly.specs.declared.Expected.{Expected}
-use Rattle.assembly.specs.declared.Assembled.{Assembled}
-use Rattle.assembly.specs.declared.Assembled.the-variants.{Written, TooLong, Malformed, Refused}
+use Rattle.assembly.specs.declared.Assembled.the-variants.{Written, Malformed, Refused}
 use Rattle.assembly.proofs.FaultLines.{lineOf, line-small}
 use Rattle.assembly.proofs.Within.{written-within}
 use Rattle.table.specs.declared.Refusal.{Refusal}
@@ -17,7 +16,7 @@ use Rattle.inputs.specs.Front.{Front}
 use Rattle.inputs.specs.Input.{frontTexts, withTable, filledWith}
 use Rattle.inputs.specs.Steps.{Passed}
 use Rattle.inputs.specs.declared.Made.{Made}
-use Rattle.inputs.specs.declared.Made.the-variants.{Written as Filled, NoTable}
+use Rattle.inputs.specs.declared.Made.the-variants.{Written as Filled}
 use Rattle.inputs.proofs.Tables.{table-written, table-small, input-put}
 use borrow.Author.Needs.{needs}
 use Rattle.inputs.proofs.add_table.Statement.{statement}

@@ -2,17 +2,16 @@
 use native.Mathlib.Omega.{arith}
 use Prim.Native.Nat.{ℕ, suc, _+_, _-_, _≤_, _<_}
 use native.Mathlib.Numerals.{add-one}
-use mathlib.Core.Path.{_≡_, refl, sym, ap, _∙_}
+use mathlib.Core.Path.{_≡_, sym, _∙_}
 use mathlib.Core.List.{List}
 use borrow.Author.Tests.{lt-ltb, le-ltb}
-use denote.Ref.{now}
 use lib.ListN.{length, take, drop, length-drop}
 use Rattle.table.proofs.Parts.{rest-part}
 use Rattle.assembly.specs.Assembly.{longestText, assembled}
 use Rattle.assembly.specs.declared.Assembled.the-variants.{TooLong}
-use Rattle.inputs.specs.Front.{Front, whole, fault, frontOf, afterLines}
+use Rattle.inputs.specs.Front.{whole, fault, frontOf, afterLines}
 use Rattle.inputs.specs.Input.{withTable, filledWith, made, madeIn}
-use Rattle.inputs.specs.Steps.{Room, ReadsFront, Addable, frontIs, heldBy}
+use Rattle.inputs.specs.Steps.{ReadsFront, Addable, frontIs}
 use Rattle.inputs.specs.declared.Wanted.{Wanted}
 use Rattle.inputs.specs.declared.front.Front.{Front as Kept}
 use Rattle.inputs.specs.declared.read.End.the-variants.{Whole, Fault}

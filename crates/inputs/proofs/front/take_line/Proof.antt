@@ -1,7 +1,7 @@
 -- `inputs::front::take_line` meets its contract: a line without words, or its first word and what stands after it.
 use native.Mathlib.Omega.{arith}
 use Prim.Native.Nat.{ℕ, _-_, _<_}
-use mathlib.Core.Path.{_≡_, refl, sym}
+use mathlib.Core.Path.{_≡_, sym}
 use mathlib.Core.List.{List, []}
 use denote.Ref.{now}
 use lib.ListN.{length, take, drop}

@@ -3,8 +3,7 @@ use native.Mathlib.Omega.{arith}
 use Prim.Native.Nat.{ℕ, suc, _+_, _-_, _≤_, _<_, min}
 use native.Mathlib.Numerals.{add-one}
 use mathlib.Core.Path.{_≡_, refl, sym, ap, _∙_}
-use mathlib.Core.List.{List, [], _∷_}
-use denote.Ref.{now}
+use mathlib.Core.List.{List}
 use lib.ListN.{length, take, drop}
 use Rattle.assembly.specs.Words.{linesOf, wordsOf}
 use Rattle.assembly.specs.Assembly.{longestText}
