@@ -32,7 +32,7 @@ pub(crate) enum Step {
     Ends(Front),
 }
 
-// A line of the number p.
+// The line of p.
 fn workers_line(rest: &[u8]) -> Step
     ensures { λ r. ⌜ Plainly r (givenTo workers (figureOf most8 (wordsIn (now (rest .entry))))) ⌝ }
 {
@@ -87,7 +87,7 @@ fn memory_line(p: u64, b: u64, rest: &[u8]) -> Step
     }
 }
 
-// Of an order that has n workers already.
+// Of an order, which has n workers already.
 fn turns_line(p: u64, k: u64, n: usize, rest: &[u8], order: &mut [u8]) -> Step
     requires { ⌜ Room (now order) n ⌝ }
     ensures { λ r. ⌜ Stepping r (now (order .exit)) (orderedTo p k (orderFrom (take n (now (order .entry))) (wordsIn (now (rest .entry))))) ⌝ }
@@ -99,6 +99,7 @@ fn turns_line(p: u64, k: u64, n: usize, rest: &[u8], order: &mut [u8]) -> Step
     }
 }
 
+// After the line of p: K, or b.
 fn after_workers(p: u64, w: &[u8], rest: &[u8]) -> Step
     ensures { λ r. ⌜ Plainly r (stepWith (workers p) (now (w .entry)) (wordsIn (now (rest .entry)))) ⌝ }
 {
@@ -111,6 +112,7 @@ fn after_workers(p: u64, w: &[u8], rest: &[u8]) -> Step
     Step::Stops(Wanted::QuotaOrBetween)
 }
 
+// After the line of K: an order, or L.
 fn after_quota(p: u64, k: u64, w: &[u8], rest: &[u8], order: &mut [u8]) -> Step
     requires { ⌜ Room (now order) 0 ⌝ }
     ensures { λ r. ⌜ Stepping r (now (order .exit)) (stepWith (quota p k) (now (w .entry)) (wordsIn (now (rest .entry)))) ⌝ }
