@@ -1,7 +1,7 @@
-"""Tables as text, written on its own from the format: nothing taken from the Rattle code.
+"""Tables and inputs as text, written on its own from the format: nothing taken from the Rattle code.
 
-assemble(bytes) answers (table, None) or (None, message); disassemble(bytes) answers (text, None) or (None, message).
-After `rt check tableasm tabledis`, `python3 tests/texts.py 1000` draws random and damaged texts and compares the two programs with it.
+assemble(bytes) answers (table, None) or (None, message); disassemble(bytes) answers (text, None) or (None, message); assemble_input(bytes) answers (input, None) or (None, message).
+After `rt check tableasm tabledis inputasm`, `python3 tests/texts.py 1000` draws random and damaged texts and compares the three programs with it.
 """
 import pathlib
 import random
@@ -16,11 +16,15 @@ KINDS = [b'end', b'work', b'alloc', b'free', b'fork', b'join']
 LONGEST = 262144
 
 
-def number(word):
-    """Decimal as one writes it, at most 24 bits; None where it is no such number."""
-    if not re.fullmatch(rb'0|[1-9][0-9]*', word) or len(word) > 8 or int(word) > 16777215:
+def number(word, most=16777215):
+    """Decimal as one writes it; None where it is no number up to the most."""
+    if not re.fullmatch(rb'0|[1-9][0-9]*', word) or len(word) > 20 or int(word) > most:
         return None
     return int(word)
+
+
+def words_of(line):
+    return [w for w in re.split(rb'[ \t]', line.split(b'#')[0]) if w]
 
 
 def said(words):
@@ -44,8 +48,7 @@ def assemble(text):
         return None, 'text above 262144 bytes'
     bodies, threads, actions = [], [], []
     for place, raw in enumerate(text.split(b'\n'), 1):
-        words = [w for w in re.split(rb'[ \t]', raw.split(b'#')[0]) if w]
-        what = said(words)
+        what = said(words_of(raw))
         if what is None:
             continue
         if isinstance(what, str):
@@ -81,6 +84,60 @@ def disassemble(data):
     return b'\n'.join(out) + b'\n', None
 
 
+# ---- inputs
+
+# the bytes of each number, and which lines may come next
+WIDTHS = {b'workers': 1, b'quota': 3, b'between': 4, b'limit': 4, b'memory': 8}
+NEXT = {None: [b'workers'], b'workers': [b'quota', b'between'], b'quota': [b'order', b'limit'], b'between': [b'memory'], b'order': [b'order'], b'limit': [], b'memory': []}
+LONGEST_ORDER = 4096
+
+
+def front(lines):
+    """(bytes, lines passed), or the line and what was expected there."""
+    last, out, order = None, b'', []
+    for place, raw in enumerate(lines + [None], 1):
+        words = words_of(raw) if raw is not None else [b'']
+        if not words:
+            continue
+        word, rest = words[0], words[1:]
+        if word not in NEXT[last]:
+            if last in (b'limit', b'memory'):
+                return out, place - 1
+            if last == b'order':
+                return out + len(order).to_bytes(2, 'little') + bytes(order), place - 1
+            return place, b' or '.join(NEXT[last]).decode()
+        if word == b'order':
+            for worker in rest:
+                if len(order) == LONGEST_ORDER:
+                    return place, 'an order of at most 4096 workers'
+                if number(worker, 255) is None:
+                    return place, 'a number up to 255'
+                order.append(number(worker, 255))
+        else:
+            most = 256 ** WIDTHS[word] - 1
+            if not rest or number(rest[0], most) is None:
+                return place, 'a number up to %d' % most
+            if rest[1:]:
+                return place, 'the end of the line'
+            out += number(rest[0], most).to_bytes(WIDTHS[word], 'little')
+        last = word
+
+
+def assemble_input(text):
+    if len(text) > LONGEST:
+        return None, 'text above 262144 bytes'
+    lines = text.split(b'\n')
+    if lines[-1] == b'':
+        lines.pop()
+    found = front(lines)
+    if isinstance(found[1], str):
+        return None, 'line %d: expected %s' % found
+    # the front's lines are made blank, so that the table's keep their numbers
+    out, passed = found
+    table, message = assemble(b'\n' * passed + b'\n'.join(lines[passed:]))
+    return (out + table, None) if table is not None else (None, message)
+
+
 # ---- the programs against it
 
 def loosened(rng, text):
@@ -95,6 +152,22 @@ def loosened(rng, text):
     return b'\n'.join(out)
 
 
+def drawn_front(rng):
+    """Random lines in front, most of them as they should be."""
+    at_most = lambda k: rng.choice([rng.randint(0, 20), rng.randint(0, 256 ** k), 256 ** k - 1, 256 ** k])
+    order = lambda: b'order' + b''.join(b' %d' % rng.randint(0, 16) for _ in range(rng.randint(0, 30)))
+    lines = [b'workers %d' % at_most(1)]
+    form = rng.random()
+    if form < 0.3:
+        lines += [b'between %d' % at_most(4), b'memory %d' % at_most(8)]
+    else:
+        lines.append(b'quota %d' % at_most(3))
+        lines += [b'limit %d' % at_most(4)] if form < 0.6 else [order() for _ in range(rng.randint(1, 4))]
+    if rng.random() < 0.1:
+        rng.shuffle(lines)
+    return b'\n'.join(lines) + b'\n'
+
+
 def damaged(rng, text):
     text = bytearray(text)
     for _ in range(rng.randint(1, 3)):
@@ -103,7 +176,7 @@ def damaged(rng, text):
         if choice < 0.4 and at < len(text):
             text[at] = rng.choice(b' \t\n#0123456789adefhijklnorstw\0\xff')
         elif choice < 0.7:
-            text[at:at] = rng.choice([b'0', b'9', b'\n', b' ', b'#', b'end', b'\nend\n', b'\nthread 3\n', b'\nfree 9\n'])
+            text[at:at] = rng.choice([b'0', b'9', b'\n', b' ', b'#', b'end', b'\nend\n', b'\nthread 3\n', b'\nfree 9\n', b'\norder 3\n', b'\nlimit 9\n'])
         else:
             del text[at:at + rng.randint(1, 9)]
     return bytes(text)
@@ -119,7 +192,7 @@ def compare(name, data, expected):
 
 
 def main(count):
-    rng, written = random.Random(19), 0
+    rng, written, inputs = random.Random(19), 0, 0
     for _ in range(count):
         data = drawn(rng, rng.randint(1, 12), rng.randint(4, 60))
         compare('tabledis', data, disassemble(data))
@@ -129,10 +202,15 @@ def main(count):
         text = damaged(rng, text)
         compare('tableasm', text, assemble(text))
         written += assemble(text)[0] is not None
+        text = loosened(rng, drawn_front(rng) + disassemble(data)[0])
+        compare('inputasm', text, assemble_input(text))
+        inputs += assemble_input(text)[0] is not None
+        text = damaged(rng, text)
+        compare('inputasm', text, assemble_input(text))
         data = bytearray(data)
         data[rng.randrange(len(data))] = rng.randrange(256)
         compare('tabledis', bytes(data), disassemble(bytes(data)))
-    print('%d tables, texts and damaged ones, %d of the damaged texts still assembled' % (count, written))
+    print('%d tables, texts and damaged ones, %d of the damaged texts still assembled; as many inputs, %d of them written' % (count, written, inputs))
 
 
 if __name__ == '__main__':

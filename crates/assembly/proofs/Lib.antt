@@ -8,6 +8,7 @@ pub mod Says
 pub mod Back
 pub mod RoundTrip
 pub mod SameWords
+pub mod FaultLines
 pub mod Within
 pub mod Exact
 pub mod WordsBack

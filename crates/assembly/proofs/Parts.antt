@@ -123,6 +123,8 @@ word-first s start k e d h =
     record {
       order = omega arith;
       within = omega arith;
+      starts = e;
+      ends = ap (λ (x : ℕ). start + x) d;
       none = λ q. sym w ∙ words-none (drop start s) (rw e (span-over isBlank s)) (omega (arith, q, d));
       some =
           λ q.

@@ -5,8 +5,8 @@ mod line;
 mod listing;
 mod place;
 mod rows;
-mod scan;
-mod word;
+pub mod scan;
+pub mod word;
 
 use check::Checked;
 use check::check;

@@ -4,7 +4,7 @@ ghost use Rattle.assembly.specs.Words.{inClass};
 ghost use Rattle.assembly.specs.Steps.{Spans};
 
 // What a line goes on with, what stands before a comment, what is between words, what a word goes on with.
-pub(crate) enum Class {
+pub enum Class {
     Line,
     Plain,
     Blank,
@@ -23,7 +23,7 @@ fn in_class(class: Class, b: u8) -> bool
 }
 
 // How many bytes of a class stand first.
-pub(crate) fn span(s: &[u8], class: Class) -> usize
+pub fn span(s: &[u8], class: Class) -> usize
     ensures { λ r. ⌜ Spans (inClass class) (now (s .entry)) r ⌝ }
 {
     let mut i = 0;

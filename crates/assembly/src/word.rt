@@ -11,13 +11,13 @@ ghost use Rattle.assembly.specs.Steps.{FirstWord, Valued};
 pub(crate) const NO_NUMBER: usize = 16777216;
 
 // Where a word starts and ends.
-pub(crate) struct Word {
-    pub(crate) start: usize,
-    pub(crate) end: usize,
+pub struct Word {
+    pub start: usize,
+    pub end: usize,
 }
 
 // The first word; it starts and ends at the same place where there is none.
-pub(crate) fn first_word(s: &[u8]) -> Word
+pub fn first_word(s: &[u8]) -> Word
     ensures { λ r. ⌜ FirstWord (now (s .entry)) (r .start) (r .end) ⌝ }
 {
     let start = span(s, Class::Blank);
@@ -25,7 +25,7 @@ pub(crate) fn first_word(s: &[u8]) -> Word
     Word { start, end }
 }
 
-fn same(a: &[u8], b: &[u8]) -> bool
+pub fn same(a: &[u8], b: &[u8]) -> bool
     ensures { λ r. ⌜ r ≡ isSame (now (a .entry)) (now (b .entry)) ⌝ }
 {
     if a.len() != b.len() {
@@ -84,7 +84,7 @@ fn next_value(v: usize, b: u8) -> usize
 }
 
 // A 0 that other digits follow.
-fn zero_led(w: &[u8]) -> bool
+pub fn zero_led(w: &[u8]) -> bool
     ensures { λ r. ⌜ r ≡ zeroLed (now (w .entry)) ⌝ }
 {
     1 < w.len() && w[0] == b'0'

@@ -1,10 +1,10 @@
--- `assembly_cases::answer` is safe: the table lies within its buffer.
+-- `assembly_cases::answer_table` is safe: the table lies within its buffer.
 use mathlib.Core.Path.{sym, _∙_}
 use lib.Seq.{length-take-le}
 use Rattle.assembly.proofs.Within.{written-within}
 use borrow.Author.Needs.{needs}
-use Rattle.assembly_cases.proofs.answer.Statement.{statement}
-use Rattle.assembly_cases.proofs.answer.Tie as tie
+use Rattle.assembly_cases.proofs.answer_table.Statement.{statement}
+use Rattle.assembly_cases.proofs.answer_table.Tie as tie
 
 read-full-requires : tie.Need-read-full-requires
 read-full-requires c κs = search needs
@@ -54,8 +54,8 @@ same-length-2 c = search needs
 returns-2 : tie.Need-returns-2
 returns-2 c = search needs
 
-pub answer-spec : {M : Type 1} → statement M
-answer-spec =
+pub answer-table-spec : {M : Type 1} → statement M
+answer-table-spec =
     tie.close
     (tie.spec
     read-full-requires

@@ -1,0 +1,23 @@
+-- `inputs::fault::put_most` meets its contract: no number has more than 20 digits.
+use native.Mathlib.Omega.{arith}
+use Rattle.text.specs.Text.{ascii}
+use Rattle.lines.proofs.Putting.{puts-labelled, puts-within}
+use borrow.Author.Needs.{needs}
+use Rattle.inputs.proofs.fault.put_most.Statement.{statement}
+use Rattle.inputs.proofs.fault.put_most.Tie as tie
+
+slice-aggregate-put-labelled : tie.Need-slice-aggregate-put-labelled
+slice-aggregate-put-labelled c = search needs
+
+put-labelled-requires : tie.Need-put-labelled-requires
+put-labelled-requires c κs = search needs
+
+same-length : tie.Need-same-length
+same-length c = search needs
+
+returns : tie.Need-returns
+returns c = puts-within (omega arith) (puts-labelled (ascii "a number up to ") (c .before .before .before .before .before .before .args .most) 19 (omega (arith, (c .before .before .before .before .before .before .good))) (c .before .before .put-labelled .ensures))
+
+pub put-most-spec : {M : Type 1} → statement M
+put-most-spec =
+    tie.close (tie.spec slice-aggregate-put-labelled put-labelled-requires same-length returns)

@@ -1,0 +1,32 @@
+-- What is said of a text that gives no input, on one line.
+use Prim.Native.Nat.{ℕ}
+use mathlib.Core.Path.{_≡_, refl}
+use mathlib.Core.List.{List, [], _∷_, _++_, flatten}
+use Rattle.text.specs.Text.{ascii, digitsOf, decimal, newline}
+use Rattle.assembly.specs.Message.{messageOf}
+use Rattle.inputs.specs.declared.Wanted.{Wanted}
+use Rattle.inputs.specs.declared.Wanted.the-variants.{Workers, QuotaOrBetween, OrderOrLimit, Memory, Number, LineEnd, FewerWorkers}
+use Rattle.inputs.specs.declared.Made.{Made}
+use Rattle.inputs.specs.declared.Made.the-variants.{Written, Malformed, NoTable}
+
+unfoldable pub wantedTexts : Wanted → List (List ℕ)
+wantedTexts Workers = ascii "workers" ∷ []
+wantedTexts QuotaOrBetween = ascii "quota or between" ∷ []
+wantedTexts OrderOrLimit = ascii "order or limit" ∷ []
+wantedTexts Memory = ascii "memory" ∷ []
+wantedTexts (Number most) = ascii "a number up to " ∷ decimal most ∷ []
+wantedTexts LineEnd = ascii "the end of the line" ∷ []
+wantedTexts FewerWorkers = ascii "an order of at most 4096 workers" ∷ []
+
+unfoldable pub malformedTexts : ℕ → Wanted → List (List ℕ)
+malformedTexts line e = (ascii "line " ∷ decimal line ∷ []) ++ ((ascii ": expected " ∷ []) ++ (wantedTexts e ++ (newline ∷ [])))
+
+-- the table's own message, and none where there is an input
+abbrev pub said : Made → List ℕ
+said (Written k) = []
+said (Malformed line e) = flatten (malformedTexts line e)
+said (NoTable a) = messageOf a
+
+number-example : said (Malformed 1 (Number 255)) ≡ ascii "line 1: expected a number up to 255\n"
+unfolding malformedTexts wantedTexts flatten decimal digitsOf
+number-example = refl
