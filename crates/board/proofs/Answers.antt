@@ -48,12 +48,12 @@ module _ (s : List ℕ) (b M : ℕ) where
   same-values Nothing r K L = refl
   same-values (At q) r K L = refl
 
-  pub as-17 : (p : ℕ) → 17 ≤ p → valuesFor s 17 b M ≡ valuesFor s p b M
+  as-17 : (p : ℕ) → 17 ≤ p → valuesFor s 17 b M ≡ valuesFor s p b M
   unfolding valuesFor
   as-17 p h = rw (too-many p h, too-many 17 (omega arith)) (same-values (firstFound (passes s)) (refusal 20 0) (mostQuota (tableOf s) 17 b M) (mostQuota (tableOf s) p b M))
 
   -- what the call hands on in place of p
-  pub as-handed : (p : ℕ) → valuesFor s (min p 17) b M ≡ valuesFor s p b M
+  as-handed : (p : ℕ) → valuesFor s (min p 17) b M ≡ valuesFor s p b M
   as-handed p =
       by-cases (decLt p 17)
       (λ (h : p < 17). ap (λ (w : ℕ). valuesFor s w b M) (min-eq-left (omega arith)))
