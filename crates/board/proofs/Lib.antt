@@ -1,0 +1,3 @@
+-- What the proofs of the calls use.
+mod Answers
+mod Cases
