@@ -7,7 +7,8 @@ ghost use Prim.Native.Nat.{_≤_};
 ghost use lib.ListN.{length, replicate};
 ghost use Rattle.table.specs.Format.{tableOf};
 ghost use Rattle.schedule.specs.Record.{blank as blankRun, filled};
-ghost use Rattle.schedule.specs.Begin.{firsts, startRun};
+ghost use Rattle.schedule.specs.Begin.{startRun};
+ghost use Rattle.schedule.specs.Firsts.{firsts};
 ghost use Rattle.soundness.specs.Checks.{Accepted};
 
 const NOBODY: Worker = Worker {

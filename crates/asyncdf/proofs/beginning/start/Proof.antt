@@ -8,7 +8,8 @@ use lib.ListN.{length, replicate, set}
 use Rattle.table.specs.Format.{tableOf}
 use Rattle.schedule.specs.Machine.{nobody}
 use Rattle.schedule.specs.Record.{filled, setOf}
-use Rattle.schedule.specs.Begin.{firsts, startState, startRun}
+use Rattle.schedule.specs.Begin.{startState, startRun}
+use Rattle.schedule.specs.Firsts.{firsts}
 use Rattle.schedule.specs.declared.Run.{Run}
 use Rattle.soundness.specs.Checks.{Accepted}
 use Rattle.asyncdf.proofs.Laying.{accepted-sizes}
