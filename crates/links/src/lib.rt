@@ -47,9 +47,8 @@ pub fn link_left(
     c: u16,
     t: u16,
 ) -> u16
-    ensures { λ r. ⌜ now (left .exit) ≡ linkLeft c t (record { left = now (left .entry); right = now (right .entry); head = leftmost }) .left ⌝ }
-    ensures { λ r. ⌜ now (right .exit) ≡ linkLeft c t (record { left = now (left .entry); right = now (right .entry); head = leftmost }) .right ⌝ }
-    ensures { λ r. ⌜ r ≡ linkLeft c t (record { left = now (left .entry); right = now (right .entry); head = leftmost }) .head ⌝ }
+    ensures { λ r. ⌜ record { left = now (left .exit); right = now (right .exit); head = r }
+        ≡ linkLeft c t (record { left = now (left .entry); right = now (right .entry); head = leftmost }) ⌝ }
 {
     let x = neighbour(left, t);
     put(left, t, c);
@@ -61,9 +60,8 @@ pub fn link_left(
 
 // Takes t out. The leftmost thread then.
 pub fn unlink(left: &mut [u16; 1024], right: &mut [u16; 1024], leftmost: u16, t: u16) -> u16
-    ensures { λ r. ⌜ now (left .exit) ≡ unlinkOf t (record { left = now (left .entry); right = now (right .entry); head = leftmost }) .left ⌝ }
-    ensures { λ r. ⌜ now (right .exit) ≡ unlinkOf t (record { left = now (left .entry); right = now (right .entry); head = leftmost }) .right ⌝ }
-    ensures { λ r. ⌜ r ≡ unlinkOf t (record { left = now (left .entry); right = now (right .entry); head = leftmost }) .head ⌝ }
+    ensures { λ r. ⌜ record { left = now (left .exit); right = now (right .exit); head = r }
+        ≡ unlinkOf t (record { left = now (left .entry); right = now (right .entry); head = leftmost }) ⌝ }
 {
     let x = neighbour(left, t);
     let y = neighbour(right, t);
