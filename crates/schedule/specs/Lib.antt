@@ -20,3 +20,4 @@ pub mod Rule
 pub mod Actives
 pub mod LinkMoves
 pub mod LinkCases
+pub mod RowList
