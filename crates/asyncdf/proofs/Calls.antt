@@ -5,8 +5,8 @@ use native.Mathlib.Omega.{arith}
 use mathlib.Core.List.{List, [], _∷_}
 use mathlib.Core.Bool.{Bool, true, false, not, _&&_}
 use lib.ListN.{length, getD}
-use lib.Dec.{ltb, eqb}
-use borrow.Author.Tests.{lt-ltb, le-ltb, eq-eqb, ne-eqb, eqb-true, eqb-false, not-false}
+use lib.Dec.{eqb}
+use borrow.Author.Tests.{lt-ltb, le-ltb, eq-eqb, ne-eqb, not-false}
 use Rattle.table.specs.Pass.{refusal, tryAt}
 use Rattle.schedule.specs.declared.Run.{Run}
 use Rattle.schedule.specs.declared.Begun.{Begun}
@@ -20,7 +20,7 @@ use Rattle.schedule.specs.declared.Report.the-variants.{Spent, Refused}
 use Rattle.table.specs.Sum.{pick}
 use Rattle.schedule.specs.Machine.{workerOf, leftmost, passedBy}
 use Rattle.schedule.specs.Answers.{beginningValues, turningValues, reportValues}
-use Rattle.schedule.specs.Links.{noThread, Sought, firstReady, seek}
+use Rattle.schedule.specs.Links.{noThread, seek}
 use Rattle.schedule.specs.Record.{maxThreads, blank, tableIn, listIn, stateOf}
 use Rattle.schedule.specs.Sound.{Steady, Sound, sound}
 use Rattle.schedule.specs.Turn.{isBlank, unsound, rootEnded, noWorker, turnChecks, stepRun, passedIn, turned}
@@ -28,9 +28,8 @@ use Rattle.schedule.specs.Runs.{ran, moved, drive, listRun, roundsRun}
 use Rattle.schedule.proofs.Tests.{sound-exactly, blank-exactly}
 use Rattle.schedule.proofs.Lists.{Below}
 use Rattle.schedule.proofs.Links.{seek-walk}
-use Rattle.schedule.proofs.Searches.{ready-none, ready-there}
+use Rattle.schedule.proofs.Searches.{found-below}
 use Rattle.schedule.proofs.ActiveMoves.{list-small}
-use Rattle.schedule.proofs.Turns.{leftmost-ready}
 use Rattle.schedule.proofs.Stores.{steady-lawful, steady-fits, steady-facts}
 use Rattle.soundness.specs.declared.Tested.{Tested}
 use Rattle.soundness.specs.Checks.{Parents}
@@ -155,20 +154,15 @@ module _ (r : Run) where
 pub passed-along : (r : Run) (w : ℕ) → Steady r → {k : ℕ} → k ≡ passedAlong (workerOf (stateOf r) w .holds) (seek maxThreads (r .status) (r .right) (r .leftmost)) → k ≡ passedIn r w
 unfolding passedAlong passedIn passedBy
 passed-along r w h {k} e =
-    e ∙ rw (seek-walk maxThreads (r .status) (r .right) (r .leftmost)) (ap (pick (workerOf (stateOf r) w .holds) 0) (go (eqb i (length l)) refl))
+    e ∙ rw (seek-walk maxThreads (r .status) (r .right) (r .leftmost), found-below (r .status) (listIn r) small)
+    (ap (pick (workerOf (stateOf r) w .holds) 0) (go (eqb (leftmost (r .status) (listIn r)) (length (listIn r))) (leftmost (r .status) (listIn r))))
   where
-    l : List ℕ
-    l = listIn r
-
-    i : ℕ
-    i = leftmost (r .status) l
-
-    small : Below noThread l
+    small : Below noThread (listIn r)
     small = list-small (tableIn r) (steady-lawful r h) (r .workers) (r .quota) (stateOf r) (steady-facts r h)
 
-    go : (q : Bool) → eqb i (length l) ≡ q → pick (ltb (firstReady (r .status) l) noThread) i 0 ≡ pick (eqb i (length l)) 0 i
-    go true d = rw (d, eqb-true (firstReady (r .status) l) noThread (sym (ready-none (r .status) l small) ∙ d))
-    go false d = rw (d, lt-ltb (firstReady (r .status) l) noThread (rw (ready-there (r .status) l d) at (small _ (leftmost-ready (r .status) l (eqb-false i (length l) d) .0))))
+    go : (q : Bool) (i : ℕ) → pick (not q) i 0 ≡ pick q 0 i
+    go true i = refl
+    go false i = refl
 
 -- ---- a turn that is taken, as a run of one turn
 

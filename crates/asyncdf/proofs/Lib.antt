@@ -1,4 +1,3 @@
-pub mod Rows
 pub mod Seats
 pub mod Laying
 pub mod Local

@@ -1,16 +1,15 @@
 -- The links of both lists along a turn: what an action writes into them makes them those of the lists after it, and a search along the second list finds the leftmost ready thread.
 use mathlib.Core.Path.{_≡_, refl, sym, ap, subst, _∙_}
-use Prim.Native.Nat.{ℕ, _<_}
+use Prim.Native.Nat.{ℕ}
 use mathlib.Core.List.{List}
 use mathlib.Core.Bool.{true}
-use lib.ListN.{getD}
 use Rattle.table.specs.Format.{Kind, end, work, alloc, free, fork, join, unknown, Table, kind, tableOf}
 use Rattle.schedule.specs.declared.Worker.{Worker}
-use Rattle.schedule.specs.Machine.{State, Stepped, stepped, waitsFor, workerOf, act}
-use Rattle.schedule.specs.Links.{noThread, Links, walk, laid, LinkedAs, Sought, firstReady, seek}
+use Rattle.schedule.specs.Machine.{State, Stepped, stepped, waitsFor, act}
+use Rattle.schedule.specs.Links.{noThread, Links, LinkedAs, Sought, firstReady, seek}
 use Rattle.schedule.specs.Actives.{actives}
-use Rattle.schedule.specs.LinkMoves.{linksBy, activesBy}
-use Rattle.schedule.specs.Record.{maxThreads, stateOf}
+use Rattle.schedule.specs.LinkMoves.{activesBy}
+use Rattle.schedule.specs.Record.{stateOf}
 use Rattle.schedule.proofs.Facts.{Facts}
 use Rattle.schedule.proofs.Lists.{Below}
 use Rattle.schedule.proofs.Once.{Once}
@@ -20,7 +19,7 @@ use Rattle.schedule.proofs.ActiveMoves.{list-once, list-small}
 use Rattle.schedule.proofs.LinkMoves.{act-links, act-actives}
 use Rattle.schedule.proofs.Searches.{firstReady-actives}
 use Rattle.schedule.proofs.Turns.{act-facts}
-use Rattle.asyncdf.specs.Parts.{Arrays, linksOf, secondOf, listOf, stateOver, stateIn, actionOf, Acted, Chained, Sits}
+use Rattle.asyncdf.specs.Parts.{Arrays, linksOf, secondOf, listOf, stateIn, actionOf, Acted, Chained, Sits}
 use Rattle.asyncdf.specs.declared.act.Totals.{Totals}
 use Rattle.asyncdf.specs.declared.act.Stepped.{Stepped as StepResult}
 use Rattle.asyncdf.proofs.Local.{partOf, putBack, goes-local}

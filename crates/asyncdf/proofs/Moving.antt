@@ -15,7 +15,7 @@ use Rattle.table.specs.Format.{threadsOf, tableOf}
 use Rattle.table.specs.Rules.{endOf}
 use Rattle.schedule.specs.Machine.{nobody}
 use Rattle.schedule.specs.Memory.{ofReply}
-use Rattle.schedule.specs.Links.{noThread}
+use Rattle.schedule.specs.Links.{noThread, LinkedAs}
 use Rattle.schedule.specs.Actives.{actives, noLinks, filledFrom}
 use Rattle.schedule.specs.Record.{maxThreads, bytesOf, tableIn, listIn, stateOf}
 use Rattle.schedule.specs.Sound.{Steady}
@@ -29,7 +29,7 @@ use Rattle.schedule.proofs.Stores.{steady-lawful, steady-fits, steady-facts, mo
 use Rattle.soundness.specs.Checks.{Parents}
 use Rattle.asyncdf.specs.declared.runs.Moved.{Moved}
 use Rattle.asyncdf.specs.declared.runs.Taken.{Taken}
-use Rattle.asyncdf.specs.Parts.{Arrays, arrays, links, Chained, Sits}
+use Rattle.asyncdf.specs.Parts.{Arrays, arrays, links, Sits}
 use Rattle.asyncdf.specs.Drives.{Bit, Outlined, Moving, Took, movedOf, packedOf}
 use Rattle.asyncdf.proofs.Local.{set-bit}
 use Rattle.asyncdf.proofs.Linking.{linked-as}
@@ -58,17 +58,13 @@ arraysOf run under over = arrays (run .next) (run .status) (run .amounts) (run .
 
 module _ {run : Run} (h : Steady run) where
   -- filled from the record's links, the second list is that of the record's list
-  pub filled-chained : {under over : List ℕ} {first : ℕ} → links under over first ≡ filledFrom maxThreads (run .status) (run .right) (run .leftmost) noThread noLinks
-      → Chained (arraysOf run under over) (movedOf run first .totals)
-  filled-chained e =
-      record {
-        list-links = h .links;
-        second-links =
-            linked-as _ _ (actives (run .status) (listIn run)) e
-            (fill-linked (run .left) (run .right) (run .leftmost) (listIn run) (run .status) (linked-as _ _ (listIn run) (h .links) (laid-linked (listIn run)))
-            (list-once (tableIn run) (steady-lawful run h) (run .workers) (run .quota) (stateOf run) (steady-facts run h))
-            (list-small (tableIn run) (steady-lawful run h) (run .workers) (run .quota) (stateOf run) (steady-facts run h)));
-      }
+  pub filled-second : {under over : List ℕ} {first : ℕ} → links under over first ≡ filledFrom maxThreads (run .status) (run .right) (run .leftmost) noThread noLinks
+      → LinkedAs (links under over first) (actives (run .status) (listIn run))
+  filled-second e =
+      linked-as _ _ (actives (run .status) (listIn run)) e
+      (fill-linked (run .left) (run .right) (run .leftmost) (listIn run) (run .status) (linked-as _ _ (listIn run) (h .links) (laid-linked (listIn run)))
+      (list-once (tableIn run) (steady-lawful run h) (run .workers) (run .quota) (stateOf run) (steady-facts run h))
+      (list-small (tableIn run) (steady-lawful run h) (run .workers) (run .quota) (stateOf run) (steady-facts run h)))
 
   -- as the code finds it: the numbers read off the table, the second list filled, the rest copied
   pub first-moving : {n last first : ℕ} {parents under over : List ℕ} {m : Moved} → rootEnded run ≡ false → n ≡ threadsOf (bytesOf run) → last ≡ endOf (tableIn run) 0
@@ -82,7 +78,7 @@ module _ {run : Run} (h : Steady run) where
         count = refl;
         quota = refl;
         outline = record { threads = e; last-action = f; parent = a };
-        chained = filled-chained c;
+        second = filled-second c;
         steady = h;
         unended = o;
         turns-fit = g;
@@ -118,7 +114,7 @@ module _ {run : Run} {s : List ℕ} {n last p K : ℕ} {parents : List ℕ} {A :
           same-held = refl;
           same-highest = refl;
           own = refl;
-          chained = v .chained;
+          chained = record { list-links = v .steady .links; second-links = v .second };
         }
 
     pub bit : Bit (m .busy) (getD workers w nobody .holds) w
@@ -149,7 +145,7 @@ module _ {run : Run} {s : List ℕ} {n last p K : ℕ} {parents : List ℕ} {A :
             count = v .count;
             quota = v .quota;
             outline = v .outline;
-            chained = t .went .chained;
+            second = t .went .chained .second-links;
             steady = subst (λ (x : Run). Steady x) moves (moved-steady here (v .steady) w own);
             unended =
                 subst (λ (x : Run). rootEnded x ≡ false) moves

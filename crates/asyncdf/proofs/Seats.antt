@@ -1,9 +1,10 @@
 -- What the part of a worker of a sound state has: the worker's thread and action are in their ranges, and each kind of action finds what it asks for.
 use mathlib.Core.Path.{_≡_, refl}
-use Prim.Native.Nat.{ℕ, _+_, _*_, _^_, _≤_, _<_}
+use Prim.Native.Nat.{ℕ, suc, _+_, _*_, _^_, _≤_, _<_}
 use mathlib.Core.List.{List}
 use mathlib.Core.Bool.{true, false}
 use native.Mathlib.Omega.{arith}
+use native.Mathlib.Numerals.{add-one}
 use lib.ListN.{length, getD, set}
 use lib.Seq.{getD-set-same}
 use Rattle.table.specs.Format.{alloc, free, fork, join, codeOf, is, kind, threadsOf, actionsOf, tableOf}
@@ -30,6 +31,11 @@ use Rattle.schedule.proofs.LinkMoves.{take-actives}
 use Rattle.soundness.specs.Checks.{Parents}
 use Rattle.asyncdf.specs.Parts.{Arrays, actionOf, withStatuses, At, Wakes, Sits}
 use Rattle.asyncdf.specs.declared.act.Totals.{Totals}
+
+-- the thread's next action is done
+pub next-done : (next : List ℕ) (worker : Worker) (a : ℕ) → At next worker a
+    → set next (worker .thread) (a + 1) ≡ set next (worker .thread) (suc (getD next (worker .thread) 0))
+next-done next worker a h = rw (h .action, add-one)
 
 state-is : (st : State) (next status amounts list : List ℕ) (held highest : ℕ) → st .next ≡ next → st .status ≡ status → st .amounts ≡ amounts → st .list ≡ list → st .held ≡ held
     → st .highest ≡ highest

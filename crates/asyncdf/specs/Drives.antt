@@ -12,7 +12,8 @@ use Rattle.schedule.specs.declared.Worker.{Worker}
 use Rattle.schedule.specs.declared.Run.{Run}
 use Rattle.schedule.specs.declared.Reply.{Reply}
 use Rattle.schedule.specs.declared.Report.{Report}
-use Rattle.schedule.specs.Links.{noThread, Sought}
+use Rattle.schedule.specs.Links.{noThread, LinkedAs, Sought}
+use Rattle.schedule.specs.Actives.{actives}
 use Rattle.schedule.specs.Record.{bytesOf}
 use Rattle.schedule.specs.Sound.{Steady}
 use Rattle.schedule.specs.Turn.{rootEnded, stepRun}
@@ -21,7 +22,7 @@ use Rattle.soundness.specs.Checks.{Parents}
 use Rattle.asyncdf.specs.declared.act.Stepped.{Stepped as StepResult}
 use Rattle.asyncdf.specs.declared.runs.Moved.{Moved}
 use Rattle.asyncdf.specs.declared.runs.Taken.{Taken}
-use Rattle.asyncdf.specs.Parts.{Arrays, Chained, Went}
+use Rattle.asyncdf.specs.Parts.{Arrays, secondOf, listOf, Went}
 
 -- the worker of turn i
 unfoldable pub who : List ℕ → Bool → ℕ → ℕ → ℕ
@@ -90,7 +91,7 @@ pub record Moving (run : Run) (s : List ℕ) (n last p K : ℕ) (parents : List 
   pub count : run .workers ≡ p
   pub quota : run .quota ≡ K
   pub outline : Outlined s n last parents
-  pub chained : Chained A (m .totals)
+  pub second : LinkedAs (secondOf A (m .totals)) (actives (A .status) (listOf A (m .totals)))
   pub steady : Steady (packedOf run A workers m)
   pub unended : rootEnded (packedOf run A workers m) ≡ false
   pub turns-fit : m .turns < 2 ^ 64

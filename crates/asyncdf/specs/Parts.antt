@@ -11,7 +11,7 @@ use Rattle.table.specs.Accepted.{Rules}
 use Rattle.table.specs.Pass.{firstFound}
 use Rattle.table.specs.declared.Found.the-variants.{Nothing}
 use Rattle.schedule.specs.declared.Worker.{Worker}
-use Rattle.schedule.specs.Machine.{State, held, waiting, ready, Stepped, stepped, workerOf, act, turnFree}
+use Rattle.schedule.specs.Machine.{State, held, waiting, Stepped, stepped, workerOf, act, turnFree}
 use Rattle.schedule.specs.Links.{noThread, Links, walk, laid, LinkedAs}
 use Rattle.schedule.specs.Actives.{actives}
 use Rattle.schedule.specs.LinkMoves.{linksBy, activesBy}
@@ -23,7 +23,7 @@ use Rattle.asyncdf.specs.declared.act.Stepped.{Stepped as StepResult}
 
 -- ---- what is lent
 
--- of each thread its next action, its status, its amount, its neighbours in the list and those in the second list
+-- of each thread its next action, its status, its amount, its neighbours in the list (left, right) and those in the second list (under, over)
 pub record Arrays : Type 0 where
   pub next : List ℕ
   pub status : List ℕ
@@ -117,13 +117,9 @@ pub record Wakes (s : List ℕ) (n : ℕ) (status : List ℕ) (u : ℕ) : Type 0
   pub size : length status ≡ maxThreads
   pub below : u < maxThreads
 
--- thread u waits for child t
+-- thread u waits for child t: the machine's `waitsFor`, of the next actions and the statuses alone
 unfoldable pub waitsIn : Table → List ℕ → List ℕ → ℕ → ℕ → Bool
 waitsIn T next status u t = eqb (getD status u 0) waiting && (is join (kind T (getD next u 0)) && eqb (T .argument (getD next u 0)) t)
-
--- the statuses after the end of t, where u is its parent
-abbrev pub wokenStatus : Table → List ℕ → List ℕ → ℕ → ℕ → List ℕ
-wokenStatus T next status u t = pick (waitsIn T next status u t) (set status u ready) status
 
 -- ---- what a worker's action leaves
 

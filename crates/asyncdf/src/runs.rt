@@ -1,7 +1,6 @@
 // Runs over a list of workers and in rounds. The record's arrays are copied once; the turns work on them in place.
 use crate::act::Totals;
 use crate::step::step;
-use links::NO_THREAD;
 use links::fill_actives;
 use schedule::Reply;
 use schedule::Report;
@@ -322,8 +321,8 @@ pub(crate) fn drive(
     let last = root_end(bytes);
     let p = run.workers as usize;
     let start = run.worker;
-    let mut under = [NO_THREAD; 1024];
-    let mut over = [NO_THREAD; 1024];
+    let mut under = [0u16; 1024];
+    let mut over = [0u16; 1024];
     let first = fill_actives(&status, &right, run.leftmost, &mut under, &mut over);
     let stop = take_turns(
         bytes,

@@ -8,7 +8,6 @@ use chart::put_line;
 use lines::put_last;
 use lines::put_refused;
 use lines::put_turn;
-use links::NO_THREAD;
 use links::fill_actives;
 use schedule::Reply;
 use schedule::Run;
@@ -265,8 +264,8 @@ pub(crate) fn put_turns(
     let mut amounts = run.amounts;
     let mut left = run.left;
     let mut right = run.right;
-    let mut under = [NO_THREAD; 1024];
-    let mut over = [NO_THREAD; 1024];
+    let mut under = [0u16; 1024];
+    let mut over = [0u16; 1024];
     let first = fill_actives(&status, &right, run.leftmost, &mut under, &mut over);
     let start = run.worker;
     put_each(

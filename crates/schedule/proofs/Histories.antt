@@ -26,7 +26,7 @@ use Rattle.schedule.specs.declared.Turning.the-variants.{Refused as refu
 use Rattle.schedule.specs.declared.Report.{Report}
 use Rattle.schedule.specs.declared.Report.the-variants.{Finished, Spent, Refused}
 use Rattle.schedule.specs.declared.Ran.{Ran}
-use Rattle.schedule.specs.Machine.{State, turnOf}
+use Rattle.schedule.specs.Machine.{State}
 use Rattle.schedule.specs.Record.{maxThreads, maxBytes, stateOf, tableIn, filled}
 use Rattle.schedule.specs.Begin.{begin, begunAs, beginPasses, startState, startRun}
 use Rattle.schedule.specs.Firsts.{firsts}
@@ -36,6 +36,7 @@ use Rattle.schedule.specs.Turn.{unsound, rootEnded, noWorker, turnChecks
 use Rattle.schedule.specs.Runs.{ran, moved, drive, listRun, roundsRun}
 use Rattle.schedule.specs.Calls.{Call, turn, overList, inRounds, turnsIn, turnRow, afterCall, afterCalls, rowOf, rowOfCalls}
 use Rattle.schedule.specs.Memory.{rowState}
+use Rattle.schedule.specs.RowList.{afterRow}
 use Rattle.schedule.proofs.Lawful.{Lawful, lawful}
 use Rattle.schedule.proofs.Facts.{Facts, sound-facts}
 use Rattle.schedule.proofs.Starts.{start-facts}
@@ -114,13 +115,14 @@ pub record Left (r : Run) (row : List ℕ) (r' : Run) : Type 0 where
   pub same-workers : r' .workers ≡ r .workers
   pub same-quota : r' .quota ≡ r .quota
   pub state : stateOf r' ≡ rowState (tableIn r) (r .quota) (stateOf r) row
+  pub after : r' ≡ afterRow r row
 
 left-none : (r : Run) → Left r [] r
-unfolding rowState
-left-none r = record { workers-below = λ w m. absurd (List·Memᴰ·not-nil m); same-table = refl; same-workers = refl; same-quota = refl; state = refl }
+unfolding rowState afterRow
+left-none r = record { workers-below = λ w m. absurd (List·Memᴰ·not-nil m); same-table = refl; same-workers = refl; same-quota = refl; state = refl; after = refl }
 
 left-step : (r : Run) (w : ℕ) (row : List ℕ) (r' : Run) → Steady r → w < r .workers → Left (moved r w) row r' → Left r (w ∷ row) r'
-unfolding rowState
+unfolding rowState afterRow
 left-step r w row r' h b l =
     record {
       workers-below = λ v m. go v (List·Memᴰ·cases-cons m);
@@ -128,11 +130,17 @@ left-step r w row r' h b l =
       same-workers = l .same-workers;
       same-quota = l .same-quota;
       state = l .state ∙ ap (λ (x : State). rowState (tableIn r) (r .quota) x row) (moved-state r h w b);
+      after = l .after;
     }
   where
     go : (v : ℕ) → (v ≡ w) ⊎ List·Memᴰ v row → v < r .workers
     go v (inl e) = omega arith
     go v (inr m) = l .workers-below v m
+
+afterRow-append : (r : Run) (row rest : List ℕ) → afterRow r (row ++ rest) ≡ afterRow (afterRow r row) rest
+unfolding afterRow
+afterRow-append r [] rest = refl
+afterRow-append r (w ∷ row) rest = afterRow-append (moved r w) row rest
 
 left-append : (r : Run) (row : List ℕ) (r' : Run) (rest : List ℕ) (r″ : Run) → Left r row r' → Left r' rest r″ → Left r (row ++ rest) r″
 left-append r row r' rest r″ l m =
@@ -142,6 +150,7 @@ left-append r row r' rest r″ l m =
       same-workers = m .same-workers ∙ l .same-workers;
       same-quota = m .same-quota ∙ l .same-quota;
       state = m .state ∙ rw (l .same-table, l .same-quota, l .state) (sym (rowState-append (tableIn r) (r .quota) (stateOf r) row rest));
+      after = m .after ∙ ap (λ (x : Run). afterRow x rest) (l .after) ∙ sym (afterRow-append r row rest);
     }
   where
     go : (w : ℕ) → List·Memᴰ w row ⊎ List·Memᴰ w rest → w < r .workers

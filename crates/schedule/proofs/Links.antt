@@ -112,17 +112,6 @@ module _ (k : Links) (l : List ℕ) (h : LinkedAs k l) (o : Once l) (b : Below n
 
 -- ---- searching
 
--- the leftmost ready thread stands at its place
-pub firstReady-at : (status l : List ℕ) → firstReady status l ≡ getD l (leftmost status l) noThread
-unfolding firstReady leftmost
-firstReady-at status [] = refl
-firstReady-at status (t ∷ l) = go (eqb (getD status t 0) ready) (firstReady-at status l)
-  where
-    go : (q : Bool) → firstReady status l ≡ getD l (leftmost status l) noThread
-        → pick q t (firstReady status l) ≡ getD (t ∷ l) (pick q 0 (suc (leftmost status l))) noThread
-    go true ih = refl
-    go false ih = ih
-
 -- what a search of a list finds: the thread that `leftmost` gives, and as many passed
 abbrev pub soughtIn : List ℕ → List ℕ → Sought
 soughtIn status l = record { thread = firstReady status l; passed = leftmost status l }

@@ -5,9 +5,9 @@ use crate::listed::list_follows;
 use crate::order::in_serial_order;
 use crate::shares::same_amounts;
 use crate::test_common;
-use crate::unused::no_links;
 use crate::unused::table_rest;
 use crate::unused::unused_right;
+use crate::unused::zero_links;
 use links::NO_THREAD;
 use schedule::Run;
 use schedule::Worker;
@@ -154,11 +154,11 @@ pub(crate) fn is_blank(run: Run) -> bool
         return false;
     }
     let left = run.left;
-    if !no_links(&left) {
+    if !zero_links(&left) {
         return false;
     }
     let right = run.right;
-    if !no_links(&right) {
+    if !zero_links(&right) {
         return false;
     }
     let next = run.next;

@@ -40,7 +40,7 @@ pub(crate) fn table_rest(table: &[u8; 36868], used: usize) -> bool
 }
 
 // Of the links: "in the blank record all are 0" (N10).
-pub(crate) fn no_links(links: &[u16; 1024]) -> bool
+pub(crate) fn zero_links(links: &[u16; 1024]) -> bool
     requires { ⌜ length (now links) ≡ 1024 ⌝ }
     ensures { λ r. ⌜ r ≡ sameList (now (links .entry)) (replicate 1024 0) ⌝ }
 {

@@ -1,5 +1,5 @@
 -- `links::link_left` meets its contract: its four writes are those of `linkLeft`.
-use mathlib.Core.Path.{_≡_, _∙_}
+use mathlib.Core.Path.{_≡_}
 use Prim.Native.Nat.{ℕ, _≤_, _<_}
 use mathlib.Core.List.{List}
 use lib.ListN.{getD, set}

@@ -1,5 +1,5 @@
 -- `links::unlink` meets its contract: its four writes are those of the definition.
-use mathlib.Core.Path.{_≡_, _∙_}
+use mathlib.Core.Path.{_≡_}
 use Prim.Native.Nat.{ℕ, _≤_, _<_}
 use mathlib.Core.List.{List}
 use lib.ListN.{getD, set}

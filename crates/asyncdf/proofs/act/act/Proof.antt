@@ -18,7 +18,7 @@ use Rattle.soundness.specs.Checks.{Parents}
 use Rattle.asyncdf.specs.Parts.{Arrays, links, linksOf, secondOf, partState, stateOver, partStepped, actionOf, At, Wakes, waitsIn, Acted, Sits}
 use Rattle.asyncdf.specs.declared.act.Totals.{Totals}
 use Rattle.asyncdf.specs.declared.act.Stepped.{Stepped as StepResult}
-use Rattle.asyncdf.proofs.Rows.{next-done}
+use Rattle.asyncdf.proofs.Seats.{next-done}
 use Rattle.asyncdf.proofs.Seats.{status-size, thread-below, at-next}
 use Rattle.asyncdf.proofs.Seats.{alloc-room, own-room, free-room, own-free, child-room, fork-child, join-child, parent-wakes}
 use Rattle.asyncdf.proofs.act.act.Statement.{statement}

@@ -13,7 +13,7 @@ use Rattle.schedule.specs.declared.Reply.the-variants.{Done, Quota}
 use Rattle.schedule.specs.Machine.{ready, nobody, stepped, actBy}
 use Rattle.asyncdf.specs.Parts.{partState, At}
 use Rattle.asyncdf.specs.declared.act.Totals.{Totals}
-use Rattle.asyncdf.proofs.Rows.{next-done}
+use Rattle.asyncdf.proofs.Seats.{next-done}
 use Rattle.asyncdf.proofs.act.act_alloc.Statement.{statement}
 use Rattle.asyncdf.proofs.act.act_alloc.Tie as tie
 

@@ -1,13 +1,12 @@
 -- `asyncdf::act::act_end` meets its contract: the parts that it leaves are those of the clause of `actBy` for end, with the statuses that `wake` leaves; the links are those that `unlink`
 -- and `leave` leave.
-use mathlib.Core.Path.{_≡_, refl, ap, _∙_}
+use mathlib.Core.Path.{_≡_, refl, _∙_}
 use Prim.Native.Nat.{ℕ, _<_}
 use mathlib.Core.List.{List}
 use mathlib.Core.Bool.{Bool, true, false}
-use native.Mathlib.Omega.{arith}
 use borrow.Author.Needs.{needs}
 use denote.Ref.{now}
-use lib.ListN.{length, getD, set, length-set}
+use lib.ListN.{getD, set, length-set}
 use Rattle.table.specs.Sum.{pick}
 use Rattle.table.specs.Format.{Table, end}
 use Rattle.schedule.specs.declared.Worker.{Worker}
@@ -15,7 +14,7 @@ use Rattle.schedule.specs.declared.Reply.the-variants.{Done}
 use Rattle.schedule.specs.Machine.{State, waiting, ended, ready, nobody, without, parentOf, waitsFor, woken, withStatus, stepped, actBy}
 use Rattle.schedule.specs.Links.{Links, linkLeft, unlink}
 use Rattle.soundness.specs.Checks.{Parents}
-use Rattle.asyncdf.specs.Parts.{partState, Wakes, waitsIn, wokenStatus}
+use Rattle.asyncdf.specs.Parts.{partState, Wakes, waitsIn}
 use Rattle.asyncdf.specs.declared.act.Totals.{Totals}
 use Rattle.asyncdf.proofs.act.act_end.Statement.{statement}
 use Rattle.asyncdf.proofs.act.act_end.Tie as tie
@@ -25,15 +24,19 @@ wakes : (s : List ℕ) (n : ℕ) (status status' : List ℕ) (u t : ℕ) → sta
 wakes s n status status' u t e w = record { threads = w .threads; size = rw e (simp length-set (w .size)); below = w .below }
 
 -- waking moves the statuses alone
-abbrev withStatuses : List ℕ → State → State
-withStatuses status st =
+abbrev statusesIn : List ℕ → State → State
+statusesIn status st =
     record { next = st .next; status = status; amounts = st .amounts; list = st .list; workers = st .workers; held = st .held; highest = st .highest; turns = st .turns }
 
-woken-status : (T : Table) (t : ℕ) (st : State) → woken T t st ≡ withStatuses (wokenStatus T (st .next) (st .status) (parentOf T t) t) st
+-- the statuses after the end of t, where u is its parent
+abbrev wokenStatus : Table → List ℕ → List ℕ → ℕ → ℕ → List ℕ
+wokenStatus T next status u t = pick (waitsIn T next status u t) (set status u ready) status
+
+woken-status : (T : Table) (t : ℕ) (st : State) → woken T t st ≡ statusesIn (wokenStatus T (st .next) (st .status) (parentOf T t) t) st
 unfolding woken waitsFor waitsIn
 woken-status T t st = go (waitsFor T st (parentOf T t) t)
   where
-    go : (b : Bool) → pick b (withStatus (parentOf T t) ready st) st ≡ withStatuses (pick b (set (st .status) (parentOf T t) ready) (st .status)) st
+    go : (b : Bool) → pick b (withStatus (parentOf T t) ready st) st ≡ statusesIn (pick b (set (st .status) (parentOf T t) ready) (st .status)) st
     go true = refl
     go false = refl
 

@@ -11,7 +11,7 @@ use Rattle.schedule.specs.declared.Reply.the-variants.{Done}
 use Rattle.schedule.specs.Machine.{nobody, ready, leftOf, stepped, actBy}
 use Rattle.asyncdf.specs.Parts.{partState, At}
 use Rattle.asyncdf.specs.declared.act.Totals.{Totals}
-use Rattle.asyncdf.proofs.Rows.{next-done}
+use Rattle.asyncdf.proofs.Seats.{next-done}
 use Rattle.asyncdf.proofs.act.act_fork.Statement.{statement}
 use Rattle.asyncdf.proofs.act.act_fork.Tie as tie
 

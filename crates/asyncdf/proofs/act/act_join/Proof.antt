@@ -12,7 +12,7 @@ use Rattle.schedule.specs.declared.Reply.the-variants.{Done, Wait}
 use Rattle.schedule.specs.Machine.{ended, waiting, nobody, stepped, actBy}
 use Rattle.asyncdf.specs.Parts.{partState, At}
 use Rattle.asyncdf.specs.declared.act.Totals.{Totals}
-use Rattle.asyncdf.proofs.Rows.{next-done}
+use Rattle.asyncdf.proofs.Seats.{next-done}
 use Rattle.asyncdf.proofs.act.act_join.Statement.{statement}
 use Rattle.asyncdf.proofs.act.act_join.Tie as tie
 

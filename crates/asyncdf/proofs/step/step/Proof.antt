@@ -5,7 +5,7 @@ use mathlib.Core.List.{List}
 use mathlib.Core.Bool.{Bool, true, false}
 use native.Mathlib.Omega.{arith}
 use borrow.Author.Needs.{needs}
-use borrow.Author.Tests.{eqb-true, eqb-false, lt-ltb, not-true, not-false}
+use borrow.Author.Tests.{eqb-false, not-true, not-false}
 use denote.Ref.{now}
 use lib.ListN.{length, getD, set}
 use lib.Dec.{eqb}
@@ -17,11 +17,11 @@ use Rattle.schedule.specs.Machine.{held, leftmost, taken, turnFree, stepped, ac
 use Rattle.schedule.specs.Links.{noThread, LinkedAs, firstReady, seek}
 use Rattle.schedule.specs.Actives.{actives}
 use Rattle.schedule.proofs.Turns.{leftmost-ready}
-use Rattle.schedule.proofs.Searches.{ready-none, ready-there}
+use Rattle.schedule.proofs.Searches.{ready-there, found-below}
 use Rattle.asyncdf.specs.Parts.{Arrays, withStatuses, secondOf, listOf, stateIn, turnBody, Acted, Went, Sits, Seat, seat, seatOf}
 use Rattle.asyncdf.specs.declared.act.Totals.{Totals}
 use Rattle.asyncdf.specs.declared.act.Stepped.{Stepped as StepResult}
-use Rattle.asyncdf.proofs.Seats.{few-threads, known, taken-sits}
+use Rattle.asyncdf.proofs.Seats.{known, taken-sits}
 use Rattle.asyncdf.proofs.Linking.{small, found, acted-body, acted-chained}
 use Rattle.asyncdf.proofs.step.step.Statement.{statement}
 use Rattle.asyncdf.proofs.step.step.Tie as tie
@@ -51,12 +51,8 @@ module _ {s : List ℕ} {n K : ℕ} {A : Arrays} {totals : Totals} {worker : Wor
       ≡ pick b (seat (A .status) worker) (pick d (seat (A .status) worker) (seat (set (A .status) t held) (record { holds = true; thread = t; quota = K })))
   unfolding seatOf
   seated true h d e = rw h
-  seated false h true e =
-      let f : firstReady (A .status) list ≡ noThread = eqb-true _ noThread (sym (ready-none (A .status) list (small q)) ∙ e) in
-      rw (h, f)
-  seated false h false e =
-      let f : firstReady (A .status) list ≡ t = sym (ready-there (A .status) list e) in
-      rw (h, f, lt-ltb t noThread (omega (arith, thread-below (eqb-false i (length list) e), few-threads q)))
+  seated false h true e = rw (h, found-below (A .status) list (small q), e)
+  seated false h false e = rw (h, found-below (A .status) list (small q), e, ← ready-there (A .status) list e)
 
   ready : Ready s n K A totals worker (seatOf K (A .status) (firstReady (A .status) list) worker)
   unfolding turnBody turnFree taken

@@ -37,17 +37,17 @@ table-rest-requires c κs = search needs
 returns-2 : tie.Need-returns-2
 returns-2 c = not-blank tableZero blank-table (c .before .before .before .before .before .before .args .run) (off (c .before .table-rest .ensures) (c .if2 .taken))
 
-no-links-requires : tie.Need-no-links-requires
-no-links-requires c κs = search needs
+zero-links-requires : tie.Need-zero-links-requires
+zero-links-requires c κs = search needs
 
 returns-3 : tie.Need-returns-3
-returns-3 c = not-blank leftZero blank-left (c .before .before .before .before .before .before .before .before .before .before .args .run) (off (c .before .no-links .ensures) (c .if3 .taken))
+returns-3 c = not-blank leftZero blank-left (c .before .before .before .before .before .before .before .before .before .before .args .run) (off (c .before .zero-links .ensures) (c .if3 .taken))
 
-no-links-requires-2 : tie.Need-no-links-requires-2
-no-links-requires-2 c κs = search needs
+zero-links-requires-2 : tie.Need-zero-links-requires-2
+zero-links-requires-2 c κs = search needs
 
 returns-4 : tie.Need-returns-4
-returns-4 c = not-blank rightZero blank-right (c .before .before .before .before .before .before .before .before .before .before .before .before .before .before .args .run) (off (c .before .no-links2 .ensures) (c .if4 .taken))
+returns-4 c = not-blank rightZero blank-right (c .before .before .before .before .before .before .before .before .before .before .before .before .before .before .args .run) (off (c .before .zero-links2 .ensures) (c .if4 .taken))
 
 unused-right-requires : tie.Need-unused-right-requires
 unused-right-requires c κs = search needs
@@ -84,7 +84,7 @@ returns-7 c =
     let z = t .before .before .before .before in
     let s = z .before .before in
     by-workers (s .args .run) (next-size s) (status-size s) (on (z .before .all-zero .ensures) (z .if1 .left))
-    (on (t .before .table-rest .ensures) (t .if2 .left)) (on (l .before .no-links .ensures) (l .if3 .left)) (on (g .before .no-links2 .ensures) (g .if4 .left))
+    (on (t .before .table-rest .ensures) (t .if2 .left)) (on (l .before .zero-links .ensures) (l .if3 .left)) (on (g .before .zero-links2 .ensures) (g .if4 .left))
     (on (u .before .unused-right .ensures) (u .if5 .left)) (on (m .before .same-amounts .ensures) (m .if6 .left)) _ (c .all-free .ensures)
 
 pub is-blank-spec : {M : Type 1} → statement M
@@ -95,9 +95,9 @@ is-blank-spec =
     returns
     table-rest-requires
     returns-2
-    no-links-requires
+    zero-links-requires
     returns-3
-    no-links-requires-2
+    zero-links-requires-2
     returns-4
     unused-right-requires
     returns-5

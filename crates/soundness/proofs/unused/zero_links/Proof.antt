@@ -1,12 +1,12 @@
--- `soundness::unused::no_links` meets its contract. The invariant: the links of the threads below t are 0.
+-- `soundness::unused::zero_links` meets its contract. The invariant: the links of the threads below t are 0.
 use Prim.Native.Nat.{_-_}
 use native.Mathlib.Omega.{arith}
 use borrow.Author.Needs.{needs}
 use denote.Ref.{now}
 use Rattle.soundness.proofs.Every.{PassedFrom, from-none}
 use Rattle.soundness.proofs.Filled.{isZero, rest-more, rest-fails, rest-pass}
-use Rattle.soundness.proofs.unused.no_links.Statement.{statement}
-use Rattle.soundness.proofs.unused.no_links.Tie as tie
+use Rattle.soundness.proofs.unused.zero_links.Statement.{statement}
+use Rattle.soundness.proofs.unused.zero_links.Tie as tie
 
 abbrev Inv-loop : tie.InvT-loop
 Inv-loop links t₀ t = PassedFrom 0 (isZero links) t
@@ -44,8 +44,8 @@ returns-2 c =
     let d = c .before .before in
     rest-pass (now (d .args .links)) 0 1024 (d .pre) _ (c .before .loop .inv) (c .loop-test .left)
 
-pub no-links-spec : {M : Type 1} → statement M
-no-links-spec =
+pub zero-links-spec : {M : Type 1} → statement M
+zero-links-spec =
     tie.close
     (tie.spec
     Inv-loop
