@@ -140,7 +140,8 @@ def report(cases, programs):
         print('| %s | %d | %s |' % (case.name, case.p, ' | '.join(cells)))
     missed = ['%s, %d workers, %s: %.2f x %s' % (case.name, case.p, MEASURED[i], of[RATTLE][i] / of[name][i], name)
               for case, of in zip(cases, times) for name, i, goal in case.goals if name in of and of[RATTLE][i] > goal * of[name][i]]
-    print('\n' + '\n'.join(['goals missed:', *missed] if missed else ['all goals met']))
+    met = 'all goals met' if BEFORE in programs else 'all goals met but that of the single turn, which was not looked at: it needs --before'
+    print('\n' + '\n'.join(['goals missed:', *missed] if missed else [met]))
 
 
 def main():
