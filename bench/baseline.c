@@ -1,5 +1,6 @@
-// The loader, the machine and the test of soundness in plain C, by the same algorithms as the Rattle code: what the bench measures it
-// against. Nothing of it is proved.
+// The loader, the machine and the test of soundness in plain C: what the bench measures the Rattle code against. Nothing of it is proved.
+// The list of threads is kept in one of two ways, chosen when it is compiled: as a row that is searched and shifted, which is what one
+// would write first; or, with -DLINKS, by the same algorithms as the Rattle code. All else is by those algorithms in both.
 //
 // usage: baseline tablecheck | turnlist | runrounds | repeat   (input and lines as of the Rattle programs; repeat as bench_runs)
 #include <stdbool.h>
@@ -180,6 +181,154 @@ static Loaded load(const uint8_t *table, size_t length) {
     return answer;
 }
 
+// ---- the list of threads, in one of two layouts
+//
+// `active` is a second list, beside the record, of those listed that do not wait; a row does without. `search` gives the leftmost ready
+// thread, THREADS if there is none, and `passed_over` how many stand left of it.
+
+typedef struct { const uint16_t *at; size_t len; } Row; // threads, leftmost first
+
+#ifdef LINKS
+
+// For each thread its neighbours, and the leftmost; THREADS where there is none.
+typedef struct { uint16_t left[THREADS], right[THREADS], leftmost; } List;
+
+static void clear(List *l) {
+    for (size_t t = 0; t < THREADS; t++) l->left[t] = l->right[t] = THREADS;
+    l->leftmost = THREADS;
+}
+
+static void list_root(List *l) {
+    clear(l);
+    l->leftmost = 0;
+}
+
+// y is the first to the right of x, or of the left end.
+static void set_right(List *l, uint16_t x, uint16_t y) { *(x < THREADS ? &l->right[x] : &l->leftmost) = y; }
+
+static void insert(List *l, uint16_t c, uint16_t t) {
+    uint16_t x = l->left[t];
+    l->left[c] = x;
+    l->right[c] = t;
+    l->left[t] = c;
+    set_right(l, x, c);
+}
+
+static void take_out(List *l, uint16_t t) {
+    uint16_t x = l->left[t], y = l->right[t];
+    if (y < THREADS) l->left[y] = x;
+    set_right(l, x, y);
+    l->left[t] = l->right[t] = THREADS;
+}
+
+static void append(List *l, uint16_t last, uint16_t t) {
+    l->left[t] = last;
+    set_right(l, last, t);
+}
+
+static void insert_active(List *active, uint16_t c, uint16_t t) { insert(active, c, t); }
+static void take_out_active(List *active, uint16_t t) { take_out(active, t); }
+
+static void fill_active(List *active, const List *l, const uint8_t *status) {
+    uint16_t last = THREADS;
+    clear(active);
+    for (uint16_t t = l->leftmost; t < THREADS; t = l->right[t])
+        if (status[t] != WAITING) {
+            append(active, last, t);
+            last = t;
+        }
+}
+
+static size_t search(const List *l, const List *active, const uint8_t *status) {
+    (void)l;
+    size_t t = active->leftmost;
+    while (t < THREADS && status[t] != READY) t = active->right[t];
+    return t;
+}
+
+static size_t passed_over(const List *l, const uint8_t *status) {
+    size_t t = l->leftmost, count = 0;
+    for (; t < THREADS && status[t] != READY; t = l->right[t]) count++;
+    return t == THREADS ? 0 : count;
+}
+
+// THREADS threads at most: the links may go in a circle.
+static Row read_row(const List *l, uint16_t *row) {
+    size_t len = 0;
+    for (uint16_t t = l->leftmost; t < THREADS && len < THREADS; t = l->right[t]) row[len++] = t;
+    return (Row){ row, len };
+}
+
+// Whether the links are those of a row, whose threads are all different.
+static bool describes(const List *l, Row row) {
+    List laid;
+    clear(&laid);
+    for (size_t i = 0; i < row.len; i++) append(&laid, i ? row.at[i - 1] : THREADS, row.at[i]);
+    return !memcmp(l, &laid, sizeof laid);
+}
+
+#else
+
+// The threads, leftmost first; the places from `listed` on are 0.
+typedef struct { uint16_t list[THREADS], listed; } List;
+
+static void list_root(List *l) { l->listed = 1; }
+
+static size_t place(const List *l, uint16_t t) {
+    size_t i = 0;
+    while (i < l->listed && l->list[i] != t) i++;
+    return i;
+}
+
+static void insert(List *l, uint16_t c, uint16_t t) {
+    size_t at = place(l, t);
+    for (size_t i = l->listed; at < i; i--) l->list[i] = l->list[i - 1];
+    l->list[at] = c;
+    l->listed++;
+}
+
+static void take_out(List *l, uint16_t t) {
+    size_t len = l->listed, i = place(l, t);
+    for (; i + 1 < len; i++) l->list[i] = l->list[i + 1];
+    l->list[i] = 0;
+    l->listed--;
+}
+
+static void insert_active(List *active, uint16_t c, uint16_t t) { (void)active, (void)c, (void)t; }
+static void take_out_active(List *active, uint16_t t) { (void)active, (void)t; }
+static void fill_active(List *active, const List *l, const uint8_t *status) { (void)active, (void)l, (void)status; }
+
+static size_t first_ready(const List *l, const uint8_t *status) {
+    size_t i = 0, len = l->listed;
+    while (i < len && status[l->list[i]] != READY) i++;
+    return i;
+}
+
+static size_t search(const List *l, const List *active, const uint8_t *status) {
+    (void)active;
+    size_t i = first_ready(l, status);
+    return i == l->listed ? THREADS : l->list[i];
+}
+
+static size_t passed_over(const List *l, const uint8_t *status) {
+    size_t i = first_ready(l, status);
+    return i == l->listed ? 0 : i;
+}
+
+static Row read_row(const List *l, uint16_t *row) {
+    (void)row;
+    return (Row){ l->list, l->listed < THREADS ? l->listed : THREADS };
+}
+
+static bool describes(const List *l, Row row) {
+    if (row.len != l->listed) return false;
+    for (size_t i = row.len; i < THREADS; i++)
+        if (l->list[i] != 0) return false;
+    return true;
+}
+
+#endif
+
 // ---- the record, and beginning
 
 typedef struct { bool holds; uint16_t thread; uint32_t quota; } Worker;
@@ -191,8 +340,7 @@ typedef struct {
     uint16_t next[THREADS];
     uint8_t status[THREADS];
     uint64_t amounts[THREADS];
-    uint16_t list[THREADS];
-    uint16_t listed;
+    List list;
     Worker worker[WORKERS];
     uint16_t busy;
     uint64_t held, highest, turns;
@@ -218,7 +366,7 @@ static Loaded begin(Run *run, const uint8_t *table, size_t length, uint8_t p, ui
     run->quota = quota;
     for (size_t t = 0; t < loaded.threads; t++) run->next[t] = (uint16_t)first_of(table, t);
     run->status[0] = READY;
-    run->listed = 1;
+    list_root(&run->list);
     return loaded;
 }
 
@@ -275,11 +423,11 @@ static bool done_sound(const Run *run, size_t n) {
     return true;
 }
 
-static bool list_follows(const Run *run, size_t n) {
+static bool list_follows(const Run *run, size_t n, Row row) {
     bool marks[THREADS] = { false };
-    for (size_t i = 0; i < run->listed; i++) {
-        if (n <= run->list[i]) return false;
-        marks[run->list[i]] = true;
+    for (size_t i = 0; i < row.len; i++) {
+        if (n <= row.at[i]) return false;
+        marks[row.at[i]] = true;
     }
     for (size_t t = 0; t < n; t++)
         if (marks[t] != (run->status[t] != UNBORN && run->status[t] != ENDED)) return false;
@@ -299,7 +447,7 @@ static size_t advance(const uint8_t *actions, size_t from, size_t to, size_t num
     return number;
 }
 
-static bool in_serial_order(const Run *run, size_t n) {
+static bool in_serial_order(const Run *run, size_t n, Row row) {
     const uint8_t *actions = bodies(run->table, n);
     uint16_t numbers[THREADS];
     for (size_t t = n; t-- > 0;) {
@@ -315,9 +463,15 @@ static bool in_serial_order(const Run *run, size_t n) {
         numbers[t] = (uint16_t)number;
         advance(actions, at, end_of(run->table, t), number, numbers);
     }
-    for (size_t i = 0; i + 1 < run->listed; i++)
-        if (numbers[run->list[i + 1]] <= numbers[run->list[i]]) return false;
+    for (size_t i = 0; i + 1 < row.len; i++)
+        if (numbers[row.at[i + 1]] <= numbers[row.at[i]]) return false;
     return true;
+}
+
+static bool list_right(const Run *run, size_t n) {
+    uint16_t places[THREADS];
+    Row row = read_row(&run->list, places);
+    return list_follows(run, n, row) && in_serial_order(run, n, row) && describes(&run->list, row);
 }
 
 static bool waits_at_joins(const Run *run, size_t n) {
@@ -381,14 +535,12 @@ static bool amounts_right(const Run *run, size_t n) {
 }
 
 static bool rest_sound(const Run *run) {
-    if (BYTES < run->length || THREADS < run->listed || run->turns == UINT64_MAX) return false;
+    if (BYTES < run->length || run->turns == UINT64_MAX) return false;
     uint32_t set = 0;
     for (size_t w = 0; w < WORKERS; w++) set |= (uint32_t)run->worker[w].holds << w;
     if (run->busy != set) return false;
     for (size_t i = run->length; i < BYTES; i++)
         if (run->table[i] != 0) return false;
-    for (size_t i = run->listed; i < THREADS; i++)
-        if (run->list[i] != 0) return false;
     return true;
 }
 
@@ -398,7 +550,7 @@ static bool sound(const Run *run) {
     if (loaded.refusal.number) return false;
     size_t n = loaded.threads, m = loaded.actions;
     if (begin_fault(run->table, n, m, run->workers, run->quota).number) return false;
-    if (!done_sound(run, n) || !list_follows(run, n) || !in_serial_order(run, n) || !waits_at_joins(run, n)) return false;
+    if (!done_sound(run, n) || !list_right(run, n) || !waits_at_joins(run, n)) return false;
     if (!workers_right(run, n) || !held_right(run, n) || !amounts_right(run, n) || run->highest < run->held) return false;
     for (size_t t = n; t < THREADS; t++)
         if (run->status[t] != UNBORN || run->next[t] != 0) return false;
@@ -423,26 +575,29 @@ static Reply release(Worker *worker, What what, uint32_t value) {
     return reply;
 }
 
-static size_t place(const Run *run, uint16_t t) {
-    size_t i = 0;
-    while (i < run->listed && run->list[i] != t) i++;
-    return i;
+// What a run keeps beside its record.
+typedef struct { uint16_t parents[THREADS]; List active; } Beside;
+
+static void fill_beside(Beside *beside, const Run *run, size_t n) {
+    uint16_t forks[THREADS];
+    fill_forks(run->table, n, forks, beside->parents);
+    fill_active(&beside->active, &run->list, run->status);
 }
 
-static Reply act(Run *run, size_t n, const uint16_t *parents, Worker *worker) {
+static Reply act(Run *run, size_t n, Beside *beside, Worker *worker) {
     uint16_t t = worker->thread, a = run->next[t];
     const uint8_t *actions = bodies(run->table, n);
     uint32_t x = (uint32_t)argument(actions, a);
     switch (code(actions, a)) {
     case END: {
         run->status[t] = ENDED;
-        size_t len = run->listed, i = place(run, t);
-        for (; i + 1 < len; i++) run->list[i] = run->list[i + 1];
-        run->list[i] = 0;
-        run->listed--;
-        size_t u = parents[t];
-        if (run->status[u] == WAITING && code(actions, run->next[u]) == JOIN && argument(actions, run->next[u]) == t)
+        uint16_t u = beside->parents[t];
+        if (run->status[u] == WAITING && code(actions, run->next[u]) == JOIN && argument(actions, run->next[u]) == t) {
             run->status[u] = READY;
+            insert_active(&beside->active, u, t);
+        }
+        take_out(&run->list, t);
+        take_out_active(&beside->active, t);
         return release(worker, DONE, a);
     }
     case ALLOC:
@@ -459,19 +614,17 @@ static Reply act(Run *run, size_t n, const uint16_t *parents, Worker *worker) {
         run->amounts[t] -= x;
         run->held -= x;
         break;
-    case FORK: {
-        size_t at = place(run, t);
-        for (size_t i = run->listed; at < i; i--) run->list[i] = run->list[i - 1];
-        run->list[at] = (uint16_t)x;
-        run->listed++;
+    case FORK:
+        insert(&run->list, (uint16_t)x, t);
+        insert_active(&beside->active, (uint16_t)x, t);
         run->next[t] = (uint16_t)(a + 1);
         run->status[t] = READY;
         run->status[x] = READY;
         return release(worker, DONE, a);
-    }
     case JOIN:
         if (run->status[x] != ENDED) {
             run->status[t] = WAITING;
+            take_out_active(&beside->active, t);
             return release(worker, WAIT, x);
         }
         run->amounts[t] += run->amounts[x];
@@ -482,22 +635,21 @@ static Reply act(Run *run, size_t n, const uint16_t *parents, Worker *worker) {
     return (Reply){ DONE, t, a };
 }
 
-static Reply step(Run *run, size_t n, const uint16_t *parents, size_t w) {
+static Reply step(Run *run, size_t n, Beside *beside, size_t w) {
     Worker *worker = &run->worker[w];
     bool held = worker->holds;
     if (!held) {
-        size_t i = 0, len = run->listed;
-        while (i < len && run->status[run->list[i]] != READY) i++;
-        if (i == len) {
+        size_t t = search(&run->list, &beside->active, run->status);
+        if (t == THREADS) {
             run->turns++;
             return (Reply){ IDLE, 0, 0 };
         }
         worker->holds = true;
-        worker->thread = run->list[i];
+        worker->thread = (uint16_t)t;
         worker->quota = run->quota;
-        run->status[worker->thread] = HELD;
+        run->status[t] = HELD;
     }
-    Reply reply = act(run, n, parents, worker);
+    Reply reply = act(run, n, beside, worker);
     if (held != worker->holds) run->busy ^= (uint16_t)(1 << w);
     run->turns++;
     return reply;
@@ -520,15 +672,15 @@ static void print_turn(const Run *run, size_t n, uint64_t turn, size_t w, Reply 
 
 // At most `limit` turns: of the order, or in rounds where there is none.
 static Report drive(Run *run, const uint8_t *order, size_t limit, bool print) {
-    uint16_t forks[THREADS], parents[THREADS];
+    Beside beside;
     size_t n = word(run->table, 0), p = run->workers, last = count_of(run->table, 0) - 1;
     if (run->status[0] == ENDED) return (Report){ 0, true, 0 };
-    fill_forks(run->table, n, forks, parents);
+    fill_beside(&beside, run, n);
     for (size_t i = 0; i < limit; i++) {
         size_t w = order ? order[i] : i % p;
         if (run->turns == UINT64_MAX) return (Report){ 32, false, i };
         if (p <= w) return (Report){ 30, false, i };
-        Reply reply = step(run, n, parents, w);
+        Reply reply = step(run, n, &beside, w);
         if (print) print_turn(run, n, i + 1, w, reply);
         if (reply.what == DONE && reply.value == last) return (Report){ 0, true, i + 1 };
     }
@@ -547,18 +699,19 @@ static Report run_rounds(Run *run, uint32_t limit) {
     return drive(run, NULL, limit, false);
 }
 
-typedef struct { uint8_t number; Reply reply; } Turned;
+typedef struct { uint8_t number; Reply reply; uint16_t passed; } Turned;
 
 static Turned turn(Run *run, uint8_t w) {
-    uint16_t forks[THREADS], parents[THREADS];
-    Turned turned = { 0, { IDLE, 0, 0 } };
+    Beside beside;
+    Turned turned = { 0, { IDLE, 0, 0 }, 0 };
     if (!is_blank(run) && !sound(run)) turned.number = 32;
     else if (run->workers <= w) turned.number = 30;
     else if (run->status[0] == ENDED) turned.number = 31;
     else {
         size_t n = word(run->table, 0);
-        fill_forks(run->table, n, forks, parents);
-        turned.reply = step(run, n, parents, w);
+        fill_beside(&beside, run, n);
+        if (!run->worker[w].holds) turned.passed = (uint16_t)passed_over(&run->list, run->status);
+        turned.reply = step(run, n, &beside, w);
     }
     return turned;
 }
@@ -651,7 +804,7 @@ static int repeat(void) {
             copy = run;
             if (mode == 's') {
                 Turned t = turn(&copy, never);
-                total += t.number ? t.number : 1 + (uint64_t)t.reply.what;
+                total += t.number ? t.number : 1 + (uint64_t)t.reply.what + t.passed;
             } else {
                 Report report = run_rounds(&copy, never ? 0 : limit);
                 total += report.number ? report.number : report.turns;

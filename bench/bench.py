@@ -1,8 +1,13 @@
-"""Measures the Rattle code against plain C with the same algorithms: user time of loading, of the test of soundness (a run in rounds of
-no turns), of a turn inside a run (a run in rounds to its end, less that, by its turns) and of a single turn's call, each as Rattle / C.
+"""Measures the Rattle code against plain C (bench/baseline.c), once with the list of threads as a row, which is what one would write first,
+and once by the same algorithms: user time of loading, of the test of soundness (a run in rounds of no turns), of a turn inside a run (a run
+to its end, less that, by its turns), of that whole run and of a single turn's call. On four tables, with 2, 4 and 16 workers.
 
-usage: python3 bench/bench.py [PROGRAM WORDS..]   (from the repository's top, after `rt check bench_runs`; default target/bin/bench_runs)
+usage: python3 bench/bench.py [--runs N] [--before PROGRAM] [PROGRAM WORDS..]
+    From the repository's top, after `rt check bench_runs`; PROGRAM by default target/bin/bench_runs. All is measured N times over (default
+    5), and each time is the least of these. --before: a bench_runs of an earlier version, to compare the single turn with.
 """
+import argparse
+import itertools
 import pathlib
 import random
 import resource
@@ -15,12 +20,13 @@ import machine
 from reference import ALLOC, END, FORK, FREE, JOIN, WORK, check
 from tables import drawn, table
 
-C = ['target/baseline', 'repeat']
-WORKERS, QUOTA, LARGEST_LIMIT = 16, 100, 2**32 - 1
-LEAST_TIME, TRIES = 0.2, 7
+ROW, LINKS, RATTLE, BEFORE = 'row', 'links', 'Rattle', 'before'
+MEASURED = ['loading', 'test of soundness', 'a turn inside a run', 'a whole run in rounds', 'a single turn by value']
+WORKERS, QUOTA, LARGEST_LIMIT = (2, 4, 16), 100, 2**32 - 1
+LEAST_TIME, TRIES = 0.1, 3
 
 
-def random_tree():
+def tree():
     return drawn(random.Random(7), 1000, 6000, [8, 64])
 
 
@@ -29,9 +35,87 @@ def chain():
     return table(*map(link, range(999)), [(WORK, 0), (END, 0)])
 
 
+def forked(children):
+    return [(FORK, t) for t in children] + [(JOIN, t) for t in reversed(children)] + [(END, 0)]
+
+
 def fan():
-    root = [(FORK, t) for t in range(1, 1000)] + [(JOIN, t) for t in range(999, 0, -1)] + [(END, 0)]
-    return table(root, *[[(ALLOC, 64), (WORK, 0), (WORK, 0), (FREE, 64), (END, 0)]] * 999)
+    return table(forked(range(1, 1000)), *[[(ALLOC, 64), (WORK, 0), (WORK, 0), (FREE, 64), (END, 0)]] * 999)
+
+
+def comb():
+    """A chain of 500 threads that all wait while its leaf works for long; on its right 498 short threads, each given up once for its quota."""
+    links = [[(FORK, t + 1), (JOIN, t + 1), (END, 0)] for t in range(1, 501)]
+    leaf, short = [(WORK, 0)] * 3500 + [(END, 0)], [(ALLOC, 64), (ALLOC, 64), (FREE, 128), (END, 0)]
+    return table(forked([1, *range(502, 1000)]), *links, leaf, *[short] * 498)
+
+
+# The tables with their goals, of a turn inside a run: at most so many times C with a row, for each number of workers, and C by the same algorithms.
+TABLES = {tree: ((0.9, 0.9, 0.9), 1.5), chain: ((0.2, 0.2, 0.2), 2.2), fan: ((1.6, 1.3, 1.3), 1.5), comb: ((0.2, 0.2, 0.2), 1.5)}
+SINGLE_GOAL = 1.1  # a single turn, against that before
+
+
+def counted(data, p):
+    """Of a run in rounds to its end, by the model: its turns, how many of them are idle, and how many waiting threads a take passes over on average."""
+    taking = machine.Machine(machine.begin(data, p, QUOTA)[1])
+    status, replies, passed = taking.run.status, [], []
+    while not taking.ended():
+        w = len(replies) % p
+        free = not taking.run.worker[w].holds
+        over = [status[t] for t in itertools.takewhile(lambda t: status[t] != machine.READY, taking.threads)] if free else []
+        replies.append(taking.take(w)[0])
+        if free and replies[-1] != 'idle':
+            passed.append(over.count(machine.WAITING))
+    return len(replies), replies.count('idle'), sum(passed) / len(passed)
+
+
+class Case:
+    """A table and a number of workers: what to call, and the least times so far."""
+
+    def __init__(self, make, p):
+        self.name, self.data, self.p = make.__name__, make(), p
+        rows, links = TABLES[make]
+        self.goals = [(ROW, 2, rows[WORKERS.index(p)]), (LINKS, 2, links), (BEFORE, 4, SINGLE_GOAL)]
+        facts = check(self.data)
+        self.turns, idle, passed = counted(self.data, p)
+        if not (990 <= facts[1] <= 1024 and 6000 <= facts[2] <= 8000) or self.name == 'comb' and passed < 200:
+            raise SystemExit('%s: not the table meant: %s, %.1f passed over' % (self.name, facts, passed))
+        print('%-5s %2d workers: %d threads, %d actions, %d turns, of them %d idle; a take passes over %.1f waiting threads'
+              % (self.name, p, facts[1], facts[2], self.turns, idle, passed), flush=True)
+        self.calls = {'loading': ('l', 0), 'test': ('r', 0), 'run': ('r', LARGEST_LIMIT), 'single': ('s', self.turns // 2)}
+        self.counts, self.many, self.none = {}, {}, {}
+
+    def repeat(self, command, call, count):
+        """The line printed by a process that makes a call so many times, and its user time."""
+        mode, limit = self.calls[call]
+        head = mode.encode() + count.to_bytes(4, 'little') + bytes([self.p]) + QUOTA.to_bytes(3, 'little') + limit.to_bytes(4, 'little')
+        before = resource.getrusage(resource.RUSAGE_CHILDREN).ru_utime
+        done = subprocess.run(command, input=head + self.data, capture_output=True, check=True)
+        return done.stdout.decode(), resource.getrusage(resource.RUSAGE_CHILDREN).ru_utime - before
+
+    def agree(self, programs):
+        """All say the same, and the model's number of turns; how many calls of each take long enough to measure."""
+        for call in self.calls:
+            said = {name: self.repeat(command, call, 3)[0] for name, command in programs.items()}
+            if len(set(said.values())) > 1 or call == 'run' and said[RATTLE] != 'r 3 %d\n' % (3 * self.turns):
+                raise SystemExit('%s, %d workers, %s: %s' % (self.name, self.p, call, said))
+            for name, command in programs.items():
+                count = 1
+                while self.repeat(command, call, count)[1] < LEAST_TIME:
+                    count *= 2
+                self.counts[call, name] = count
+
+    def measure(self, programs):
+        """The least time with many calls, and that with none, of what comes before them."""
+        for call, _, (name, command) in itertools.product(self.calls, range(TRIES), programs.items()):
+            key = call, name
+            for least, count in (self.many, self.counts[key]), (self.none, 0):
+                least[key] = min(least.get(key, 1e9), self.repeat(command, call, count)[1])
+
+    def times(self, name):
+        """What was measured of a program, in nanoseconds."""
+        each = {call: (self.many[call, name] - self.none[call, name]) / self.counts[call, name] * 1e9 for call in self.calls}
+        return [each['loading'], each['test'], (each['run'] - each['test']) / self.turns, each['run'], each['single']]
 
 
 def build():
@@ -39,60 +123,41 @@ def build():
     compiler = shutil.which('clang') or shutil.which('cc')
     print('C compiled by %s -O3' % pathlib.Path(compiler).name)
     pathlib.Path('target').mkdir(exist_ok=True)
-    subprocess.run([compiler, '-O3', '-Wall', '-Wextra', '-o', 'target/baseline', 'bench/baseline.c'], check=True)
+    for words in ['target/baseline'], ['target/baseline_links', '-DLINKS']:
+        subprocess.run([compiler, '-O3', '-Wall', '-Wextra', 'bench/baseline.c', '-o', *words], check=True)
+    return {ROW: ['target/baseline', 'repeat'], LINKS: ['target/baseline_links', 'repeat']}
 
 
-def repeat(command, mode, count, limit, data):
-    """The line printed, and the user time of the process."""
-    head = mode.encode() + count.to_bytes(4, 'little') + bytes([WORKERS]) + QUOTA.to_bytes(3, 'little') + limit.to_bytes(4, 'little')
-    before = resource.getrusage(resource.RUSAGE_CHILDREN).ru_utime
-    done = subprocess.run(command, input=head + data, capture_output=True, check=True)
-    return done.stdout.decode(), resource.getrusage(resource.RUSAGE_CHILDREN).ru_utime - before
-
-
-def enough(command, mode, limit, data):
-    """A count of calls that takes long enough to measure."""
-    count = 1
-    while repeat(command, mode, count, limit, data)[1] < LEAST_TIME:
-        count *= 2
-    return count
-
-
-def seconds(commands, mode, limit, data):
-    """User time of one call for each command: the least of some tries by turns, less that of a process without any call."""
-    counts = [enough(command, mode, limit, data) for command in commands]
-    tries = [[repeat(command, mode, count, limit, data)[1] for command, count in zip(commands, counts)] for _ in range(TRIES)]
-    none = [[repeat(command, mode, 0, limit, data)[1] for command in commands] for _ in range(TRIES)]
-    return [(min(many) - min(start)) / count for many, start, count in zip(zip(*tries), zip(*none), counts)]
-
-
-def both(rattle, mode, limit, data, said=None):
-    """User time of one call, in C and in Rattle, once the two have said the same."""
-    expected, found = repeat(C, mode, 3, limit, data)[0], repeat(rattle, mode, 3, limit, data)[0]
-    if found != expected or found != (said or found):
-        raise SystemExit('mode %s, limit %d: C says %r, Rattle %r' % (mode, limit, expected, found))
-    return seconds([C, rattle], mode, limit, data)
+def report(cases, programs):
+    times = [{name: case.times(name) for name in programs} for case in cases]
+    print('\nns of a turn inside a run, and of a single turn by value:')
+    for case, of in zip(cases, times):
+        print('%-5s %2d  ' % (case.name, case.p) + '   '.join('%s %.1f, %.0f' % (name, t[2], t[4]) for name, t in of.items()))
+    print('\nRattle / C with a row, and Rattle / C by the same algorithms:\n')
+    print('| | workers | %s |\n|---|---|%s' % (' | '.join(MEASURED), '---|' * len(MEASURED)))
+    for case, of in zip(cases, times):
+        cells = ['%.2f / %.2f' % (rattle / row, rattle / links) for row, links, rattle in zip(of[ROW], of[LINKS], of[RATTLE])]
+        print('| %s | %d | %s |' % (case.name, case.p, ' | '.join(cells)))
+    missed = ['%s, %d workers, %s: %.2f x %s' % (case.name, case.p, MEASURED[i], of[RATTLE][i] / of[name][i], name)
+              for case, of in zip(cases, times) for name, i, goal in case.goals if name in of and of[RATTLE][i] > goal * of[name][i]]
+    met = 'all goals met' if BEFORE in programs else 'all goals met but that of the single turn, which was not looked at: it needs --before'
+    print('\n' + '\n'.join(['goals missed:', *missed] if missed else [met]))
 
 
 def main():
-    rattle = sys.argv[1:] or ['target/bin/bench_runs']
-    build()
-    ratios = []
-    for name, data in [('random tree', random_tree()), ('chain', chain()), ('fan', fan())]:
-        head = bytes([WORKERS]) + QUOTA.to_bytes(3, 'little') + LARGEST_LIMIT.to_bytes(4, 'little')
-        words = machine.runrounds(head + data).split()
-        turns = int(words[1])
-        facts = check(data)
-        if words[0] != 'finished' or not (990 <= facts[1] <= 1024 and 6000 <= facts[2] <= 8000):
-            raise SystemExit('%s: not the table meant: %s, %s' % (name, facts, words))
-        print('%s: %d threads, %d actions, %d turns with %d workers' % (name, facts[1], facts[2], turns, WORKERS))
-        loading, test = both(rattle, 'l', 0, data), both(rattle, 'r', 0, data)
-        whole, call = both(rattle, 'r', LARGEST_LIMIT, data, 'r 3 %d\n' % (3 * turns)), both(rattle, 's', turns // 2, data)
-        turn = [(run - start) / turns for run, start in zip(whole, test)]
-        for what, (c, r) in [('loading', loading), ('test of soundness', test), ('turn in a run', turn), ('whole run', whole), ('single turn', call)]:
-            ratios.append(r / c)
-            print('  %-17s  C %11.1f ns   Rattle %11.1f ns   ratio %.2f' % (what, c * 1e9, r * 1e9, r / c))
-    print('%d ratios, from %.2f to %.2f' % (len(ratios), min(ratios), max(ratios)))
+    options = argparse.ArgumentParser()
+    options.add_argument('--runs', type=int, default=5)
+    options.add_argument('--before')
+    options.add_argument('program', nargs='*', default=['target/bin/bench_runs'])
+    words = options.parse_args()
+    programs = {**build(), RATTLE: words.program, **({BEFORE: [words.before]} if words.before else {})}
+    cases = [Case(make, p) for make in TABLES for p in WORKERS]
+    for case in cases:
+        case.agree(programs)
+    for _ in range(words.runs):
+        for case in cases:
+            case.measure(programs)
+    report(cases, programs)
 
 
 if __name__ == '__main__':

@@ -1,8 +1,8 @@
 """Measures the least stack, in KiB by `ulimit -s`, with which each program still gives the answer that it gives with plenty, on the widest and the most
-deeply nested table there is. Where a stack begins is drawn anew for each process, so that the least moves by a few KiB: it is one with which several
-tries in a row go well.
+deeply nested table there is; and the same of single calls, in bench_runs, which has its input of 64 KiB and a record on the stack besides. Where a stack
+begins is drawn anew for each process, so that the least moves by a few KiB: it is one with which several tries in a row go well.
 
-usage: python3 bench/stack.py [PROGRAM..]    (from the repository's top, after `rt check` of the programs; default tablecheck, turnlist, wallchart, runrounds)
+usage: python3 bench/stack.py [NAME..]    (from the repository's top, after `rt check` of the programs; default: all names of FRONTS)
 """
 import pathlib
 import subprocess
@@ -32,7 +32,18 @@ def fan():
 BEGIN = bytes([WORKERS]) + (1).to_bytes(3, 'little')
 ORDER = bytes(i % WORKERS for i in range(4096))
 LISTING = BEGIN + len(ORDER).to_bytes(2, 'little') + ORDER
-FRONTS = {'tablecheck': b'', 'turnlist': LISTING, 'wallchart': LISTING, 'runrounds': BEGIN + b'\xff' * 4}
+ONCE = (1).to_bytes(4, 'little') + BEGIN
+NO_TURNS, SOME_TURNS = (0).to_bytes(4, 'little'), (500).to_bytes(4, 'little')
+# what is measured: the program, and what stands before the table in its input
+FRONTS = {
+    'tablecheck': ('tablecheck', b''),
+    'turnlist': ('turnlist', LISTING),
+    'wallchart': ('wallchart', LISTING),
+    'runrounds': ('runrounds', BEGIN + b'\xff' * 4),
+    'load': ('bench_runs', b'l' + ONCE + NO_TURNS),
+    'run_rounds': ('bench_runs', b'r' + ONCE + SOME_TURNS),
+    'turn': ('bench_runs', b's' + ONCE + SOME_TURNS),
+}
 
 
 def answer(program, data, kib):
@@ -51,9 +62,10 @@ def least(program, data):
 
 
 def main():
-    for program in sys.argv[1:] or FRONTS:
+    for what in sys.argv[1:] or FRONTS:
+        program, front = FRONTS[what]
         for name, data in (('nested', nested()), ('fan', fan())):
-            print('%-10s %-6s %4d KiB   %s' % (program, name, *least(program, FRONTS[program] + data)))
+            print('%-10s %-6s %4d KiB   %s' % (what, name, *least(program, front + data)))
 
 
 if __name__ == '__main__':

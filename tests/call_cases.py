@@ -3,7 +3,6 @@
 A record's form is told in crates/call_cases/src/main.rt. The answers of the named cases are written down here by hand and held against
 machine.py; those of the random sample, and what the record then holds, are the model's.
 """
-import copy
 import functools
 import pathlib
 import random
@@ -11,10 +10,10 @@ import random
 import chart
 import machine
 from cases import LARGEST, alloc, end, free, least, parent, work
-from machine import ENDED, HELD, LAST_TURN, READY, WAITING
+from machine import ENDED, HELD, LAST_TURN, NO_THREAD, READY, WAITING, described
 from tables import drawn, table
 
-FIELDS = ['length', 'p', 'quota', 'listed', 'busy', 'held', 'highest', 'turns', 'table', 'next', 'status', 'list', 'amounts']
+FIELDS = ['length', 'p', 'quota', 'leftmost', 'busy', 'held', 'highest', 'turns', 'table', 'next', 'status', 'amounts', 'left', 'right']
 WORKER = ['holds', 'thread', 'quota']
 E = table(parent(1, 2), [alloc(6), work, free(6), end], [alloc(6), free(6), end])
 
@@ -49,13 +48,13 @@ def put(field, value, place=0, worker=False):
 
 
 def changed(run, call):
-    run, number = copy.deepcopy(run), call[1]
+    run, number = machine.copied(run), call[1]
     place, value = int.from_bytes(call[2:4], 'little'), int.from_bytes(call[4:], 'little')
     if number >= len(FIELDS):
         setattr(run.worker[place], WORKER[number - len(FIELDS)], value)
     elif FIELDS[number] == 'table':
         run.table = run.table[:place] + bytes([value]) + run.table[place + 1:]
-    elif FIELDS[number] in ('next', 'status', 'list', 'amounts'):
+    elif FIELDS[number] in ('next', 'status', 'amounts', 'left', 'right'):
         getattr(run, FIELDS[number])[place] = value
     else:
         setattr(run, FIELDS[number], value)
@@ -95,9 +94,9 @@ def mixed_table(data):
 
 def mixed(run):
     """The whole record in one number, as the program has it."""
-    threads = [x for row in zip(run.next, run.status, run.amounts, run.list) for x in row]
+    threads = [x for row in zip(run.next, run.status, run.amounts, run.left, run.right) for x in row]
     workers = [x for w in run.worker for x in (int(w.holds), w.thread, w.quota)]
-    amounts = [run.length, run.p, run.quota, run.listed, run.busy, run.held, run.highest, run.turns]
+    amounts = [run.length, run.p, run.quota, run.leftmost, run.busy, run.held, run.highest, run.turns]
     return mix(mixed_table(run.table), threads + workers + amounts)
 
 
@@ -110,8 +109,9 @@ CHAIN = table(*[[fork(t + 1), join(t + 1), end] for t in range(1023)], [end])
 FULL = table(parent(*range(1, 1024)), *[[work] * 5 + [end]] * 1021, [work] * 7 + [end], [work] * 10 + [end])  # 8,192 actions
 NESTED = table([fork(1), fork(3), join(3), join(1), end], [fork(2), join(2), end], [work, work, end], [work, end])
 FAN = table(parent(*range(1, 16)), *[[work, end]] * 15)
+DEEP = table(*[[fork(t + 1), join(t + 1), end] for t in range(1023)], [work, work, end])
 LEFT = table([fork(1), work, join(1), free(3), end], [alloc(4), end])  # a child's 4 go to its parent, which ends with 1
-FIVE = order(0, 1, 0, 2, 0)  # of E with p 3: thread 0 waits for 2, threads 1 and 2 are held, 12 units too
+FIVE = order(0, 1, 0, 2, 0)  # of E with p 3: thread 0 waits for 2, threads 1 and 2 are held, 12 units too; the list is 1, 2, 0
 NEARLY_LAST = [put('turns', LAST_TURN - 1)]
 LEFT_ENDED, LEFT_JOINED = order(0, 1, 1), order(0, 1, 1, 0, 0)  # of LEFT with p 2: the child has ended, and is joined
 WIDE = table(parent(*range(1, 17)), *[[work, end]] * 16)
@@ -140,10 +140,21 @@ def as_sound(label, w, said, left, *puts):
             ['spent 5'] + ['changed'] * len(puts) + ['refused 30 0', 'spent 0', said, left])
 
 
+def damaged(label, beginning, to, said, *puts):
+    """A call, after which the record is sound, and then some change, after which it is not."""
+    return ('not sound: ' + label, beginning, [to, order(), *puts, turn(0), order(), rounds(0)],
+            [said, said.split()[0] + ' 0'] + ['changed'] * len(puts) + ['refused 32 0'] + ['refused 0 32 0'] * 2)
+
+
 def other_amounts(label, to, *puts):
-    """LEFT with an order, and then other amounts: a sound record before, and none after."""
-    return ('not sound: ' + label, (2, 4, LEFT), [to, order(), *puts, turn(0), order(), rounds(0)],
-            ['spent %d' % to[1], 'spent 0'] + ['changed'] * len(puts) + ['refused 32 0'] + ['refused 0 32 0'] * 2)
+    return damaged(label, (2, 4, LEFT), to, 'spent %d' % to[1], *puts)
+
+
+def listed(*threads):
+    """After FIVE, the links of another list."""
+    (lefts, rights, _), (left, right, leftmost) = described([1, 2, 0]), described(list(threads))
+    return ([put('left', left[t], t) for t in range(1024) if left[t] != lefts[t]] + [put('right', right[t], t) for t in range(1024) if right[t] != rights[t]]
+            + [put('leftmost', leftmost)])
 
 
 def idle(w):
@@ -229,17 +240,84 @@ CASES = [
     unsound('a status that is none', put('status', 5, 1)),
     unsound('a status that is none, all else right', put('status', 5, 0)),
     unsound('a forked thread unborn', put('status', 0, 1)),
-    unsound('a forked thread unborn, all else right', put('status', 0, 2), put('list', 0, 1), put('list', 0, 2), put('listed', 2), *idle(2), put('busy', 2)),
+    unsound('a forked thread unborn, all else right', put('status', 0, 2), *listed(1, 0), *idle(2), put('busy', 2)),
     unsound('a thread ended early', put('status', ENDED, 1)),
-    unsound('a thread ended early, all else right', put('status', ENDED, 1), put('list', 2, 0), put('list', 0, 1), put('listed', 2), *idle(1), put('busy', 4)),
-    unsound('a list out of order', put('list', 2, 0), put('list', 1, 1)),
-    unsound('a thread missing', put('listed', 2)),
-    unsound('a thread twice', put('listed', 4), put('list', 2, 1), put('list', 2, 2)),
-    unsound('a thread not there', put('listed', 4), put('list', 3, 3)),
-    unsound('a thread not there, all else right', put('listed', 4), put('list', 3, 0), put('list', 1, 1), put('list', 2, 2), put('list', 0, 3)),
-    unsound('too long a list', put('listed', 1025)),
-    ('not sound: a list longer than its places, all else right', (1, 1, CHAIN), [rounds(1023), order(), put('listed', 1025), turn(0), order(), rounds(0)],
-     ['spent 1023', 'spent 0', 'changed', 'refused 32 0', 'refused 0 32 0', 'refused 0 32 0']),
+    unsound('a thread ended early, all else right', put('status', ENDED, 1), *listed(2, 0), *idle(1), put('busy', 4)),
+    unsound('a list out of order', *listed(2, 1, 0)),
+    unsound('a list from right to left', *listed(0, 2, 1)),
+    unsound('the first thread missing', *listed(2, 0)),
+    unsound('the last thread missing', *listed(1, 2)),
+    unsound('a thread between others missing', *listed(1, 0)),
+    unsound('no list', *listed()),
+    unsound('a thread not there at the right end', *listed(1, 2, 0, 3)),
+    unsound('a thread not there at the left end', *listed(3, 1, 2, 0)),
+    unsound('a thread not there in between', *listed(1, 1023, 2, 0)),
+    unsound('a cycle: a thread right of itself', put('right', 2, 2)),
+    unsound('a cycle: the leftmost right of itself', put('right', 1, 1)),
+    unsound('a cycle: a ring', put('right', 1, 0), put('left', 0, 1)),
+    unsound('a cycle: a ring, and a thread outside', put('right', 1, 2), put('left', 2, 1)),
+    unsound('a cycle: from the last to one in between', put('right', 2, 0)),
+    unsound('a cycle: two threads back and forth', put('right', 1, 2)),
+    unsound('out of range: right of the last', put('right', 1025, 0)),
+    unsound('out of range: far right of the last', put('right', 65535, 0)),
+    unsound('out of range: right of another', put('right', 1025, 1)),
+    unsound('out of range: left of the first', put('left', 65535, 1)),
+    unsound('out of range: left of another', put('left', 1025, 2)),
+    unsound('out of range: leftmost', put('leftmost', 65535)),
+    unsound('out of range: leftmost, by one', put('leftmost', 1025)),
+    unsound('out of range: right of a thread from n on', put('right', 1025, 3)),
+    unsound('out of range: left of the last thread from n on', put('left', 65535, 1023)),
+    unsound('a right that leads to a thread from n on', put('right', 3, 0)),
+    unsound('a right that leads past a thread', put('right', 0, 1)),
+    unsound('a right that ends the list too early', put('right', NO_THREAD, 2)),
+    unsound('a left that leads past a thread', put('left', 1, 0)),
+    unsound('a left that leads to the right', put('left', 0, 2)),
+    unsound('a left that leads to itself', put('left', 2, 2)),
+    unsound('a left that leads to nobody', put('left', NO_THREAD, 0)),
+    unsound('a left that leads to a thread from n on', put('left', 3, 0)),
+    unsound('a left of the leftmost', put('left', 0, 1)),
+    unsound('no lefts', put('left', NO_THREAD, 2), put('left', NO_THREAD, 0)),
+    unsound('a leftmost that is another', put('leftmost', 2)),
+    unsound('a leftmost that is nobody', put('leftmost', NO_THREAD)),
+    unsound('a leftmost from n on', put('leftmost', 3)),
+    unsound('a second chain: the list cut in two', put('right', NO_THREAD, 1), put('left', NO_THREAD, 2)),
+    unsound('a second chain: the first thread left out of it', put('leftmost', 2), put('left', NO_THREAD, 2)),
+    unsound('a second chain: threads from n on', put('right', 4, 3), put('left', 3, 4)),
+    unsound('a second chain: the last threads from n on', put('right', 1023, 1022), put('left', 1022, 1023)),
+    unsound('a second chain: a ring from n on', put('right', 3, 3), put('left', 3, 3)),
+    unsound('a second chain: it leads into the list', put('right', 1, 3)),
+    unsound('a thread from n on, its right 0', put('right', 0, 3)),
+    unsound('the last thread from n on, its left 0', put('left', 0, 1023)),
+    damaged('a second chain: an ended thread in its old place', (3, 6, E), order(0, 1, 0, 2, 2, 2), 'spent 6', put('left', 1, 2), put('right', 0, 2)),
+    damaged('a second chain: an ended thread, its left alone', (3, 6, E), order(0, 1, 0, 2, 2, 2), 'spent 6', put('left', 1, 2)),
+    damaged('a second chain: an ended thread, its right alone', (3, 6, E), order(0, 1, 0, 2, 2, 2), 'spent 6', put('right', 0, 2)),
+    damaged('a second chain: an unborn thread', (3, 6, E), order(0), 'spent 1', put('left', 1, 2), put('right', 0, 2)),
+    damaged('a second chain: an unborn thread in a ring', (3, 6, E), order(0), 'spent 1', put('left', 2, 2), put('right', 2, 2)),
+    damaged('a cycle: a ring of all 1,024', (1, 1, CHAIN), rounds(1023), 'spent 1023', put('right', 1023, 0), put('left', 0, 1023)),
+    damaged('a cycle: 1,024 read, and the right of the last', (1, 1, CHAIN), rounds(1023), 'spent 1023', put('right', 1023, 0)),
+    damaged('a left of the first of 1,024', (1, 1, CHAIN), rounds(1023), 'spent 1023', put('left', 0, 1023)),
+    damaged('two of 1,024 read again and again', (1, 1, CHAIN), rounds(1023), 'spent 1023', put('right', 1023, 1022)),
+    damaged('the ended root leftmost', (2, 6, E), rounds(99), 'finished 14', put('leftmost', 0)),
+    damaged('the ended root\'s run with a leftmost out of range', (2, 6, E), rounds(99), 'finished 14', put('leftmost', 1025)),
+    damaged('the ended root with a left', (2, 6, E), rounds(99), 'finished 14', put('left', 0, 0)),
+    damaged('the ended root with a right', (2, 6, E), rounds(99), 'finished 14', put('right', 65535, 0)),
+    damaged('two ended threads in a chain', (2, 6, E), rounds(99), 'finished 14', put('right', 2, 1), put('left', 1, 2)),
+    ('the empty list after the root\'s end', (2, 6, E), [rounds(13), turn(1), order(), turn(0), shown(1), rounds(5), lined()],
+     ['spent 13', 'done 0 4', 'finished 0', 'refused 31 0', 'refused 31 0', 'finished 0', row(14, '   .   .', 0)]),
+    ('the one thread of a list ends', (1, 1, least), [order(), turn(0), order(), rounds(0), turn(0)], ['spent 0', 'done 0 0', 'finished 0', 'finished 0', 'refused 31 0']),
+    ('one in between, the first and the last of the list end', (3, 6, E), [FIVE, *[call for w in (2, 2, 1, 1, 1, 0, 0, 0) for call in (turn(w), order())]],
+     ['spent 5', 'done 2 10', 'spent 0', 'done 2 11', 'spent 0', 'done 1 6', 'spent 0', 'done 1 7', 'spent 0', 'done 1 8', 'spent 0', 'done 0 2', 'spent 0', 'done 0 3', 'spent 0',
+      'done 0 4', 'finished 0']),
+    ('the first of the list ends, then the next', (3, 6, E), [FIVE, *[call for w in (1, 1, 1, 2, 2, 1, 1, 1) for call in (turn(w), order())]],
+     ['spent 5', 'done 1 6', 'spent 0', 'done 1 7', 'spent 0', 'done 1 8', 'spent 0', 'done 2 10', 'spent 0', 'done 2 11', 'spent 0', 'done 0 2', 'spent 0', 'done 0 3', 'spent 0',
+      'done 0 4', 'finished 0']),
+    ('1,024 threads in the list', (1, 1, CHAIN), [rounds(1022), order(), turn(0), order(), shown(0), turn(0), order(), turn(0), order(), rounds(9999), order()],
+     ['spent 1022', 'spent 0', 'done 1022 3066', 'spent 0', 'would done 1023 3069 passed 0 held 0 highest 0 quota 0', 'done 1023 3069', 'spent 0', 'done 1022 3067', 'spent 0',
+      'finished 2045', 'finished 0']),
+    ('1,024 threads in the list, 1,023 of them waiting', (2, 1, DEEP), [rounds(1022), turn(0), turn(0), *[order(*[1] * 255)] * 4, turn(1), turn(1), turn(1), turn(1), order(), turn(0), turn(0), turn(1),
+     rounds(9999)],
+     ['spent 1022', 'done 1022 3066', 'done 1023 3069', *['spent 255'] * 4, 'wait 2 3 passed 1021', 'wait 1 2 passed 1022', 'wait 0 1 passed 1023', 'idle', 'spent 0', 'done 1023 3070',
+      'done 1023 3071', 'done 1022 3067', 'finished 3068']),
     ('not sound: a table longer than its bytes, all else right', (1, 1, FULL), [order(), put('length', 36869), turn(0), order(), rounds(0)],
      ['spent 0', 'changed', 'refused 32 0', 'refused 0 32 0', 'refused 0 32 0']),
     ('not sound: waiting for a child that has ended', (3, 6, E), [order(0, 1, 0, 2, 2, 2), order(), put('status', WAITING, 0), turn(0), order(), rounds(0)],
@@ -281,10 +359,11 @@ CASES = [
     ('the root\'s balance at its end', (1, 4, table([alloc(4), end])), [turn(0), turn(0), order(), rounds(0)], ['done 0 0', 'done 0 1', 'finished 0', 'finished 0']),
     ('blank but for one amount', (1, 6, b''), [put('amounts', 1, 1023), turn(0), order(), put('amounts', 0, 1023), turn(0)],
      ['changed', 'refused 32 0', 'refused 0 32 0', 'changed', 'refused 30 0']),
+    *[('blank but for one link: %s' % field, (1, 6, b''), [put(field, x, t), turn(0), order(), put(field, 0, t), turn(0)],
+       ['changed', 'refused 32 0', 'refused 0 32 0', 'changed', 'refused 30 0']) for field, x, t in [('leftmost', NO_THREAD, 0), ('left', NO_THREAD, 0), ('right', 1, 1023)]],
     unsound('a highest below', put('highest', 11)),
     unsound('a byte past the table', put('table', 1, 36867)),
     unsound('the first byte past the table', put('table', 1, len(E))),
-    unsound('a list place not in use', put('list', 1, 1023)),
     unsound('a thread from n on, its next', put('next', 1, 3)),
     unsound('a thread from n on, its status', put('status', READY, 1023)),
     unsound('a quota with nothing held', put('quota', 1, 0, True)),
@@ -311,9 +390,12 @@ def random_put(rng, run):
     if field in WORKER and rng.random() < 0.7 or field in ('holds', 'thread'):
         w = rng.randrange(min(16, run.p + 1))
         return put(field, {'holds': rng.randrange(2), 'thread': rng.randrange(n + 1)}.get(field, near(run.worker[w].quota, 99)), w, True)
-    if field in ('next', 'list', 'amounts'):
+    if field in ('next', 'amounts', 'left', 'right'):
         t = rng.randrange(n if rng.random() < 0.9 else 1024)
-        return put(field, near(getattr(run, field)[t], 9999), t)
+        x = getattr(run, field)[t]
+        if field in ('left', 'right') and rng.random() < 0.5:
+            return put(field, rng.choice([NO_THREAD, rng.randrange(n + 1)]), t)
+        return put(field, near(x, 9999), t)
     if field == 'status':
         return put(field, rng.randrange(6), rng.randrange(n + 1))
     if field == 'table':

@@ -3,7 +3,8 @@
 usage: python3 tests/differential.py [COUNT] [PROGRAM..] [--baseline]
     COUNT inputs for each program (default 3,000); PROGRAM: tablecheck, maxquota, turnlist, wallchart, runrounds, call_cases (default: all).
     From the repository's top, after `rt check tablecheck maxquota turnlist wallchart runrounds call_cases`; with --baseline it is the C
-    program of bench/ that is compared (tablecheck, turnlist and runrounds), after `cc -O3 -o target/baseline bench/baseline.c`.
+    of bench/ that is compared, in both layouts (tablecheck, turnlist and runrounds), after `cc -O3 -o target/baseline bench/baseline.c`
+    and `cc -O3 -DLINKS -o target/baseline_links bench/baseline.c`.
 """
 import collections
 import os
@@ -178,6 +179,9 @@ def rounds_traits(data, text):
 
 def call_traits(data, text):
     yield 'refused 32' if ' 32 0,' in text else 'sound'
+    for call in call_cases.parts(data)[4]:
+        if call[:1] == b'p' and call_cases.FIELDS[call[1]:][:1] in (['left'], ['right'], ['leftmost']):
+            yield 'another ' + call_cases.FIELDS[call[1]]
 
 
 def table_traits(data, text):
@@ -223,7 +227,8 @@ PROGRAMS = {
                    'refused 20', 'refused 21', 'refused 22', 'refused 30', 'refused 33']),
     'runrounds': (ROUNDS, runrounds_input, machine.runrounds, rounds_traits,
                   ['finished', 'spent', 'L 0', 'L at the end', 'refused 20', 'refused 21', 'refused 22', 'refused 33']),
-    'call_cases': ([], call_case, lambda data: call_cases.answers(data)[1], call_traits, ['sound', 'refused 32']),
+    'call_cases': ([], call_case, lambda data: call_cases.answers(data)[1], call_traits,
+                   ['sound', 'refused 32', 'another left', 'another right', 'another leftmost']),
 }
 
 
@@ -253,7 +258,8 @@ def main():
     count = int(words.pop(0)) if words and words[0].isdigit() else 3000
     names = words or [name for name in PROGRAMS if not baseline or name not in ('maxquota', 'wallchart', 'call_cases')]
     for name in names:
-        compare(name, count, ['target/baseline', name] if baseline else ['target/bin/' + name])
+        for command in [['target/baseline', name], ['target/baseline_links', name]] if baseline else [['target/bin/' + name]]:
+            compare(name, count, command)
     print('%d inputs agree: %d each for %s' % (count * len(names), count, ', '.join(names)))
 
 

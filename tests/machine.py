@@ -1,6 +1,9 @@
 """The machine of document 01, written on its own from the paper's sentences: beginning, a turn, the two runs, a record's
 soundness clause by clause, and the text that turnlist and runrounds print. Nothing is taken from the Rattle code.
 
+The record has the list of threads as change request N10 wants it, in links. Each turn is taken in the layout before it as well, a row
+of numbers, and the two are compared: replies, the list read from the left, and the whole record at the end of a call.
+
 A refusal is ('refused', number, place). A turn's reply is ('idle',), ('done', thread, action), ('quota', thread, amount) or
 ('wait', thread, child). A run's report is ('finished', turns), ('spent', turns) or ('refused', turns, number, place).
 """
@@ -11,6 +14,7 @@ from reference import END, ALLOC, FREE, FORK, JOIN, Table, check, line, owners, 
 UNBORN, READY, HELD, WAITING, ENDED = range(5)
 KINDS = ['end', 'work', 'alloc', 'free', 'fork', 'join']
 THREADS, BYTES, WORKERS = 1024, 36868, 16
+NO_THREAD = 1024
 LARGEST, LAST_TURN = 2**24 - 1, 2**64 - 1
 
 
@@ -26,9 +30,17 @@ class Run:
         self.table, self.length = bytes(BYTES), 0
         self.p = self.quota = 0
         self.next, self.status, self.amounts = [0] * THREADS, [UNBORN] * THREADS, [0] * THREADS
-        self.list, self.listed = [0] * THREADS, 0
+        self.left, self.right, self.leftmost = [0] * THREADS, [0] * THREADS, 0
         self.worker, self.busy = [Worker() for _ in range(WORKERS)], 0
         self.held = self.highest = self.turns = 0
+
+
+def copied(run):
+    made = copy.copy(run)
+    for name in ('next', 'status', 'amounts', 'left', 'right'):
+        setattr(made, name, getattr(run, name)[:])
+    made.worker = [copy.copy(w) for w in run.worker]
+    return made
 
 
 def same(run, other):
@@ -40,6 +52,65 @@ def same(run, other):
 
 def is_blank(run):
     return same(run, Run())
+
+
+# The list of threads
+
+class Row:
+    """As it was before N10: the threads in a row, leftmost first."""
+
+    def __init__(self, run):
+        self.threads = list(Links(run))
+
+    def __iter__(self):
+        return iter(self.threads)
+
+    def insert(self, c, t):
+        self.threads.insert(self.threads.index(t), c)
+
+    def remove(self, t):
+        self.threads.remove(t)
+
+
+class Links:
+    """The record's left and right neighbours and its leftmost thread."""
+
+    def __init__(self, run):
+        self.run = run
+
+    def __iter__(self):
+        """Reading from the left; no more than all threads, whatever the links say."""
+        t = self.run.leftmost
+        for _ in range(THREADS):
+            if t >= THREADS:
+                return
+            yield t
+            t = self.run.right[t]
+
+    def insert(self, c, t):
+        self.neighbours(self.run.left[t], c)
+        self.neighbours(c, t)
+
+    def remove(self, t):
+        self.neighbours(self.run.left[t], self.run.right[t])
+        self.run.left[t] = self.run.right[t] = NO_THREAD
+
+    def neighbours(self, t, u):
+        """From now on nobody stands between t and u; either may be nobody."""
+        if t == NO_THREAD:
+            self.run.leftmost = u
+        else:
+            self.run.right[t] = u
+        if u != NO_THREAD:
+            self.run.left[u] = t
+
+
+def described(threads):
+    """The links that describe a list: left and right neighbours, and the leftmost thread."""
+    left, right = [NO_THREAD] * THREADS, [NO_THREAD] * THREADS
+    for t, u in zip(threads, threads[1:]):
+        right[t], left[u] = u, t
+    return left, right, threads[0] if threads else NO_THREAD
 
 
 # Beginning
@@ -69,7 +140,8 @@ def begin(data, p, quota):
     run.p, run.quota = p, quota
     for t, (first, _) in enumerate(table.contents):
         run.next[t] = first
-    run.status[0], run.listed = READY, 1
+    run.status[0] = READY
+    run.left, run.right, run.leftmost = described([0])
     return 'begun', run
 
 
@@ -107,6 +179,10 @@ class View:
         """All threads in serial order of their ends: a thread stands right of all that it forks."""
         return [self.owner[a] for a in serial_order(self.table) if self.table.actions[a][0] == END]
 
+    def live(self):
+        """The threads that are forked and not ended, in serial order."""
+        return [t for t in self.after_children() if self.run.status[t] in (READY, HELD, WAITING)]
+
 
 def next_in_body(v):
     return all(first <= v.run.next[t] < first + count for t, (first, count) in enumerate(v.table.contents))
@@ -128,8 +204,11 @@ def statuses_follow(v):
 
 
 def list_follows(v):
-    live = [t for t in v.after_children() if v.run.status[t] in (READY, HELD, WAITING)]
-    return v.run.list[:v.run.listed] == live
+    return list(Links(v.run)) == v.live()
+
+
+def links_describe(v):
+    return (v.run.left, v.run.right, v.run.leftmost) == described(v.live())
 
 
 def waits_at_joins(v):
@@ -182,8 +261,7 @@ def highest_right(v):
 
 def unused_right(v):
     run = v.run
-    return (not any(run.table[run.length:]) and not any(run.list[run.listed:])
-            and not any(run.next[v.table.n:]) and not any(run.status[v.table.n:])
+    return (not any(run.table[run.length:]) and not any(run.next[v.table.n:]) and not any(run.status[v.table.n:])
             and all(w.holds or (w.thread, w.quota) == (0, 0) for w in run.worker))
 
 
@@ -191,14 +269,14 @@ def turns_right(v):
     return v.run.turns < LAST_TURN
 
 
-CLAUSES = [next_in_body, in_order, statuses_follow, list_follows, waits_at_joins, holders_right, others_hold_nothing, set_agrees,
-           quotas_right, held_right, amounts_right, highest_right, unused_right, turns_right]
+CLAUSES = [next_in_body, in_order, statuses_follow, list_follows, links_describe, waits_at_joins, holders_right, others_hold_nothing,
+           set_agrees, quotas_right, held_right, amounts_right, highest_right, unused_right, turns_right]
 
 
 def broken(run):
     """The names of the clauses that a record breaks. Where a next action is outside its body the other clauses have no sense."""
-    if run.length > BYTES or run.listed > THREADS:
-        return ['lengths']
+    if run.length > BYTES:
+        return ['length']
     if check(run.table[:run.length])[0] == 'refused':
         return ['table']
     v = View(run)
@@ -216,12 +294,13 @@ def sound(run):
 # Turns and runs
 
 class Machine:
-    """Takes turns on a copy of a record that is sound but for its turns taken; what the checks ask has been asked."""
+    """Takes turns on a copy of a record that is sound but for its turns taken; what the checks ask has been asked. The list of threads
+    is kept in the given layout; in rows the record's links stay as they were."""
 
-    def __init__(self, run):
-        self.run = copy.deepcopy(run)
+    def __init__(self, run, layout=Links):
+        self.run = copied(run)
         self.table = Table(run.table[:run.length])
-        self.threads = run.list[:run.listed]
+        self.threads = layout(self.run)
         owner = owners(self.table)
         self.parent = {x: owner[a] for a, (kind, x) in enumerate(self.table.actions) if kind == FORK}
 
@@ -229,8 +308,6 @@ class Machine:
         return self.run.status[0] == ENDED
 
     def record(self):
-        self.run.listed = len(self.threads)
-        self.run.list = self.threads + [0] * (THREADS - len(self.threads))
         self.run.busy = sum(2**i for i, w in enumerate(self.run.worker) if w.holds)
         return self.run
 
@@ -264,7 +341,7 @@ class Machine:
             run.amounts[t] += run.amounts[x]
             run.amounts[x] = 0
         elif kind == FORK:
-            self.threads.insert(self.threads.index(t), x)
+            self.threads.insert(x, t)
             run.status[x] = READY
             self.release(w, READY)
         elif kind == END:
@@ -283,9 +360,30 @@ class Machine:
         self.run.worker[w] = Worker()
 
 
+class Both(Machine):
+    """Takes each turn in both layouts, and compares."""
+
+    def __init__(self, run):
+        super().__init__(run)
+        self.old = Machine(run, Row)
+
+    def take(self, w):
+        reply, before = super().take(w), self.old.take(w)
+        if (reply, list(self.threads)) != (before, list(self.old.threads)):
+            raise SystemExit('in links: %s, %s; in a row: %s, %s' % (reply, list(self.threads), before, list(self.old.threads)))
+        return reply
+
+    def record(self):
+        run, before = super().record(), self.old.record()
+        before.left, before.right, before.leftmost = described(self.old.threads.threads)
+        if not same(run, before):
+            raise SystemExit('the record in links is not that in a row: %s, %s' % (vars(run), vars(before)))
+        return run
+
+
 def passed_over(run, w):
     """How many threads stand left of the one that worker w takes in its turn; 0 if it holds one, or takes none."""
-    places = [i for i, t in enumerate(run.list[:run.listed]) if run.status[t] == READY]
+    places = [i for i, t in enumerate(Links(run)) if run.status[t] == READY]
     return places[0] if places and not run.worker[w].holds else 0
 
 
@@ -297,7 +395,7 @@ def turn(run, w):
         return ('refused', 30, 0), run
     if run.status[0] == ENDED:
         return ('refused', 31, 0), run
-    machine = Machine(run)
+    machine = Both(run)
     reply = machine.take(w)
     return (*reply, 'passed', passed_over(run, w)), machine.record()
 
@@ -314,7 +412,7 @@ def run_over(run, workers, seen=None):
     """A run over the workers that `workers` gives, one at a time; `seen` is told of each turn."""
     if not sound(run):
         return ('refused', 0, 32, 0), run
-    machine = Machine(run)
+    machine = Both(run)
     count = 0
     while not machine.ended():
         w = next(workers, None)

@@ -1,13 +1,13 @@
 """Holds machine.py to document 01: its worked cases on replies and records, what breaks a sound record, and on random runs that
-every record reached is sound, by both ways to say the list's order.
+every record reached is sound, by both ways to say the list's order. The model takes each turn with the list in links and in a row; that
+it notices where the two part is tried here with wrong links.
 
 usage: python3 tests/worked.py
 """
-import copy
 import random
 
-from machine import BYTES, ENDED, HELD, LARGEST, LAST_TURN, READY, UNBORN, WAITING, View, begin, broken, is_blank
-from machine import run_list, run_rounds, same, serial_order, sound, turn
+from machine import BYTES, ENDED, HELD, LARGEST, LAST_TURN, NO_THREAD, READY, THREADS, UNBORN, WAITING, Both, Links, View, begin, broken
+from machine import copied, described, is_blank, run_list, run_rounds, same, serial_order, sound, turn
 from reference import ALLOC, END, FORK, FREE, JOIN, WORK, check
 from tables import drawn, table
 
@@ -70,7 +70,7 @@ def worked():
     expect('the last turn says wait', replies[-1], ('wait', 0, 2))
     expect('worker 2 instead', run_list(begun(e, 2, 6), [0, 1, 0, 1, 1, 1, 1, 2])[0], ('refused', 7, 30, 0))
     replies, run = turns(begun(e, 3, 6), [0, 1, 0, 2, 0, 1, 1, 1])
-    expect('thread 1 has ended, thread 0 goes on waiting', (run.status[1], run.status[0], run.list[:run.listed]), (ENDED, WAITING, [2, 0]))
+    expect('thread 1 has ended, thread 0 goes on waiting', (run.status[1], run.status[0], list(Links(run))), (ENDED, WAITING, [2, 0]))
     left = table([(FORK, 1), work, (JOIN, 1), (FREE, 3), end], [(ALLOC, 4), end])
     amounts = lambda order: turns(begun(left, 2, 4), order)[1].amounts[:3]
     expect('an ended child keeps its balance', amounts([0, 1, 1, 0]), [0, 4, 0])
@@ -89,6 +89,7 @@ def worked():
 def blank():
     _, run = begin(b'', 1, 1)
     expect('a refused beginning is blank', is_blank(run), True)
+    expect('its links are all 0', (run.left, run.right, run.leftmost), ([0] * THREADS, [0] * THREADS, 0))
     expect('and not sound', sound(run), False)
     for w in (0, 1, 255):
         expect('a turn on it', turn(run, w), (('refused', 30, 0), run))
@@ -101,11 +102,11 @@ def blank():
 def damages():
     """What each clause rules out, one damage at a time, on E after five turns: thread 0 waits, 1 and 2 are held."""
     _, good = turns(begun(table(*E), 3, 6), [0, 1, 0, 2, 0])
-    expect('the record before', (good.status[:3], good.next[:3], good.list[:3], good.held), ([WAITING, HELD, HELD], [2, 6, 10], [1, 2, 0], 12))
+    expect('the record before', (good.status[:3], good.next[:3], list(Links(good)), good.held), ([WAITING, HELD, HELD], [2, 6, 10], [1, 2, 0], 12))
     expect('is sound', broken(good), [])
 
     def damage(what, clauses, change):
-        run = copy.deepcopy(good)
+        run = copied(good)
         change(run)
         expect(what, broken(run), clauses)
         expect(what + ', a turn', turn(run, 9), (('refused', 32, 0), run))
@@ -131,14 +132,24 @@ def damages():
     damage('a next action in another body', ['next_in_body'], put('next', 1, 9))
     damage('a next action before its body', ['next_in_body'], put('next', 2, 8))
     damage('a join done before the child', ['in_order', 'waits_at_joins', 'amounts_right'], put('next', 0, 4))
-    damage('a status that is none', ['statuses_follow', 'list_follows', 'holders_right'], put('status', 1, 5))
-    damage('a forked thread unborn', ['statuses_follow', 'list_follows', 'holders_right'], put('status', 1, UNBORN))
-    damage('a thread ended early', ['in_order', 'statuses_follow', 'list_follows', 'holders_right'], put('status', 1, ENDED))
-    damage('a list out of order', ['list_follows'], let('list', [2, 1, 0] + [0] * 1021))
-    damage('a thread missing', ['list_follows'], let('listed', 2))
-    damage('a thread twice', ['list_follows'], let('list', [1, 2, 2] + [0] * 1021))
-    damage('too long a list', ['lengths'], let('listed', 1025))
-    damage('too long a table', ['lengths'], let('length', BYTES + 1))
+    other_list, other_links = ['list_follows', 'links_describe'], ['links_describe']
+    damage('a status that is none', ['statuses_follow', *other_list, 'holders_right'], put('status', 1, 5))
+    damage('a forked thread unborn', ['statuses_follow', *other_list, 'holders_right'], put('status', 1, UNBORN))
+    damage('a thread ended early', ['in_order', 'statuses_follow', *other_list, 'holders_right'], put('status', 1, ENDED))
+    damage('too long a table', ['length'], let('length', BYTES + 1))
+    for what, threads in [('a list out of order', [2, 1, 0]), ('a list read from the right', [0, 2, 1]), ('the first thread missing', [2, 0]),
+                          ('the last thread missing', [1, 2]), ('no list', []), ('a thread not there', [1, 2, 0, 3])]:
+        damage(what, other_list, lambda run: vars(run).update(zip(('left', 'right', 'leftmost'), described(threads))))
+    for t in (0, 2, NO_THREAD, NO_THREAD + 1, 65535):
+        damage('leftmost %d' % t, other_list, let('leftmost', t))
+    for t, u in [(0, 0), (0, 1), (0, 2), (0, 3), (1, 0), (1, 1), (1, NO_THREAD), (2, 1), (2, 65535)]:
+        damage('%d right of %d' % (u, t), other_list, put('right', t, u))
+    for t, u in [(0, NO_THREAD + 1), (0, 65535), (3, 0), (3, 1), (3, 3), (1023, 0), (1023, 65535)]:
+        damage('%d right of %d, which changes no reading' % (u, t), other_links, put('right', t, u))
+    for t, u in [(0, 0), (0, 1), (0, NO_THREAD), (1, 0), (1, 65535), (2, 0), (2, 2), (3, 0), (3, 3), (1023, 0)]:
+        damage('%d left of %d' % (u, t), other_links, put('left', t, u))
+    damage('a ring', other_list, lambda run: (put('right', 0, 1)(run), put('left', 1, 0)(run)))
+    damage('a second chain', other_links, lambda run: (put('right', 3, 4)(run), put('left', 4, 3)(run)))
     damage('held with no worker', ['holders_right'], put('status', 0, HELD))
     damage('waiting elsewhere', ['waits_at_joins', 'holders_right'], put('status', 1, WAITING))
     damage('two workers on a thread', ['holders_right', 'set_agrees'], worker(0, holds=True, thread=1))
@@ -153,7 +164,6 @@ def damages():
     damage('a thread from n on with something', ['amounts_right'], put('amounts', 1023, 1))
     damage('a highest below', ['highest_right'], let('highest', 11))
     damage('a byte past the table', ['unused_right'], table_byte(BYTES - 1, 1))
-    damage('a list place not in use', ['unused_right'], put('list', 1023, 1))
     damage('a thread from n on, its next', ['unused_right'], put('next', 3, 1))
     damage('a thread from n on, its status', ['unused_right'], put('status', 1023, READY))
     damage('a quota with nothing held', ['unused_right'], worker(0, quota=1))
@@ -161,7 +171,7 @@ def damages():
     damage('turns at the end', ['turns_right'], let('turns', LAST_TURN))
 
     def allowed(what, change):
-        run = copy.deepcopy(good)
+        run = copied(good)
         change(run)
         expect(what, broken(run), [])
     allowed('a thread at a join may be ready', put('status', 0, READY))
@@ -184,6 +194,44 @@ def last_turns():
     expect('the root ended there', run_rounds(least, 9)[0], ('finished', 1))
 
 
+def layouts():
+    """The list along a run of E; and links that are written wrongly, which the model must notice by its row."""
+    lists = [[0], [1, 0], [1, 0], [1, 2, 0], [1, 2, 0], [1, 2, 0], [1, 2, 0], [1, 2, 0], [2, 0], [0], [0], [0], [0], [0], []]
+    run = begun(table(*E), 2, 6)
+    for i, threads in enumerate(lists):
+        expect('the list after %d turns' % i, list(Links(run)), threads)
+        expect('its links', (run.left, run.right, run.leftmost), described(threads))
+        run = turn(run, i % 2)[1]
+
+    class Right(Links):
+        def insert(self, c, t):
+            right = self.run.right[t]
+            self.neighbours(t, c)
+            self.neighbours(c, right)
+
+    class Stays(Links):
+        def remove(self, t):
+            self.neighbours(self.run.left[t], self.run.right[t])
+
+    class OneWay(Links):
+        def neighbours(self, t, u):
+            kept = self.run.left[:]
+            super().neighbours(t, u)
+            self.run.left = kept
+
+    for wrong in (Links, Right, Stays, OneWay):
+        machine = Both(begun(table(*E), 2, 6))
+        machine.threads = wrong(machine.run)
+        try:
+            for i in range(9):
+                machine.take(i % 2)
+            machine.record()
+            noticed = False
+        except SystemExit:
+            noticed = True
+        expect('%s noticed' % wrong.__name__, noticed, wrong is not Links)
+
+
 def random_runs(rng, count):
     for _ in range(count):
         threads = rng.randint(1, 9)
@@ -201,7 +249,7 @@ def random_runs(rng, count):
             run, singles = after, singles + 1
             v = View(run)
             rank = {a: i for i, a in enumerate(serial_order(v.table))}
-            ranks = [rank[run.next[t]] for t in run.list[:run.listed]]
+            ranks = [rank[run.next[t]] for t in Links(run)]
             expect('sound after a turn', (broken(run), ranks), ([], sorted(ranks)))
             expect('the amounts come to what is held', sum(run.amounts), run.held)
         expect('a run is its turns', (many[1], same(run, last)), (singles, True))
@@ -213,6 +261,7 @@ def main():
     blank()
     damages()
     last_turns()
+    layouts()
     random_runs(random.Random(20261115), 60)
     print('%d checks hold' % held_checks)
 

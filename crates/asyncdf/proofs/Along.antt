@@ -12,38 +12,39 @@ use Rattle.schedule.specs.declared.Reply.{Reply}
 use Rattle.schedule.specs.declared.Reply.the-variants.{Done}
 use Rattle.schedule.specs.declared.Report.the-variants.{Finished, Spent, Refused}
 use Rattle.schedule.specs.Machine.{nobody}
-use Rattle.schedule.specs.Turn.{stepRun, passedIn}
+use Rattle.schedule.specs.Turn.{stepRun}
 use Rattle.schedule.specs.Runs.{ran, moved, drive}
 use Rattle.asyncdf.specs.declared.runs.Moved.{Moved}
 use Rattle.asyncdf.specs.declared.runs.Taken.{Taken}
-use Rattle.asyncdf.specs.Drives.{Open, Moving, Took, Says, Driven, packedOf}
+use Rattle.asyncdf.specs.Parts.{Arrays}
+use Rattle.asyncdf.specs.Drives.{Open, Moving, Took, Driven, packedOf}
 use Rattle.asyncdf.proofs.Driving.{drive-over, drive-spent, drive-full, drive-none, drive-next}
-use Rattle.asyncdf.proofs.Moving.{moves, replies, passes, keeps}
+use Rattle.asyncdf.proofs.Moving.{moves, replies, keeps}
 use Rattle.asyncdf.proofs.Moving.{over as over-after}
 
 -- run₀ is the record at the loop's start; the locals are those after i turns
-pub record Along (who : ℕ → ℕ) (limit : ℕ) (run run₀ : Run) (s : List ℕ) (n last p K : ℕ) (parents next status amounts list : List ℕ) (workers : List Worker) (m : Moved) (reply : Reply) (passed i : ℕ)
+pub record Along (who : ℕ → ℕ) (limit : ℕ) (run run₀ : Run) (s : List ℕ) (n last p K : ℕ) (parents : List ℕ) (A : Arrays) (workers : List Worker) (m : Moved) (reply : Reply) (i : ℕ)
     : Type 0 where
-  pub moving : Moving run s n last p K parents next status amounts list workers m
+  pub moving : Moving run s n last p K parents A workers m
   pub within : i ≤ limit
-  pub remains : drive who (limit - i) i (packedOf run next status amounts list workers m) ≡ drive who limit 0 run₀
-  pub start : i ≡ 0 → packedOf run next status amounts list workers m ≡ run₀
-  pub said : i ≡ 1 → Says run₀ (who 0) reply passed
+  pub remains : drive who (limit - i) i (packedOf run A workers m) ≡ drive who limit 0 run₀
+  pub start : i ≡ 0 → packedOf run A workers m ≡ run₀
+  pub said : i ≡ 1 → reply ≡ stepRun run₀ (who 0) .reply
 
-pub first-along : {who : ℕ → ℕ} {limit : ℕ} {run : Run} {s : List ℕ} {n last p K : ℕ} {parents next status amounts list : List ℕ} {workers : List Worker} {m : Moved} (reply : Reply) (passed : ℕ)
-    → Moving run s n last p K parents next status amounts list workers m
-    → Along who limit run (packedOf run next status amounts list workers m) s n last p K parents next status amounts list workers m reply passed 0
-first-along {limit = limit} reply passed v =
+pub first-along : {who : ℕ → ℕ} {limit : ℕ} {run : Run} {s : List ℕ} {n last p K : ℕ} {parents : List ℕ} {A : Arrays} {workers : List Worker} {m : Moved} (reply : Reply)
+    → Moving run s n last p K parents A workers m
+    → Along who limit run (packedOf run A workers m) s n last p K parents A workers m reply 0
+first-along {limit = limit} reply v =
     let all : limit - 0 ≡ limit = omega arith in
     record { moving = v; within = omega arith; remains = rw all; start = λ z. refl; said = λ z. absurd (omega (arith, z)) }
 
-module _ {who : ℕ → ℕ} {limit : ℕ} {run run₀ : Run} {s : List ℕ} {n last p K : ℕ} {parents next status amounts list : List ℕ} {workers : List Worker} {m : Moved} {reply : Reply} {passed i : ℕ}
-    (v : Along who limit run run₀ s n last p K parents next status amounts list workers m reply passed i) where
+module _ {who : ℕ → ℕ} {limit : ℕ} {run run₀ : Run} {s : List ℕ} {n last p K : ℕ} {parents : List ℕ} {A : Arrays} {workers : List Worker} {m : Moved} {reply : Reply} {i : ℕ}
+    (v : Along who limit run run₀ s n last p K parents A workers m reply i) where
   abbrev here : Run
-  here = packedOf run next status amounts list workers m
+  here = packedOf run A workers m
 
   -- nothing is left of the list or the limit
-  pub spent : limit ≤ i → Driven who limit run₀ (Spent i) reply passed here
+  pub spent : limit ≤ i → Driven who limit run₀ (Spent i) reply here
   spent h =
       let z : limit - i ≡ 0 = omega (arith, h) in
       record {
@@ -62,7 +63,7 @@ module _ {who : ℕ → ℕ} {limit : ℕ} {run run₀ : Run} {s : List ℕ} {n 
     at-start one = omega (arith, one, h)
 
     -- "a run that reaches it before the root's end and has a turn to go stops with 32"
-    pub full : m .turns ≡ 2 ^ 64 - 1 → Driven who limit run₀ (Refused i (refusal 32 0)) reply passed here
+    pub full : m .turns ≡ 2 ^ 64 - 1 → Driven who limit run₀ (Refused i (refusal 32 0)) reply here
     full e =
         record {
           ran-as = sym (drive-full who i here (v .moving .unended) (limit - (i + 1)) e) ∙ goes;
@@ -70,16 +71,16 @@ module _ {who : ℕ → ℕ} {limit : ℕ} {run run₀ : Run} {s : List ℕ} {n 
         }
 
     module _ (room : m .turns ≡ 2 ^ 64 - 1 → ⊥) {w : ℕ} (q : w ≡ who i) where
-      pub none : p ≤ w → Driven who limit run₀ (Refused i (refusal 30 0)) reply passed here
+      pub none : p ≤ w → Driven who limit run₀ (Refused i (refusal 30 0)) reply here
       none b =
           record {
             ran-as = sym (drive-none who i here (v .moving .unended) (limit - (i + 1)) room (omega (arith, b, q, v .moving .count))) ∙ goes;
             said = λ one o. absurd (omega (arith, o .below, ap (λ (r : Run). r .workers) (v .start (at-start one)), q, ap who (at-start one), b, v .moving .count));
           }
 
-      module _ (b : w < p) {next' status' amounts' list' : List ℕ} {r : Taken} (t : Took (tableOf s) K w next status amounts list m (getD workers w nobody) next' status' amounts' list' r) where
+      module _ (b : w < p) {B : Arrays} {r : Taken} (t : Took (tableOf s) K w A m (getD workers w nobody) B r) where
         abbrev there : Run
-        there = packedOf run next' status' amounts' list' (set workers w (r .worker)) (r .moved)
+        there = packedOf run B (set workers w (r .worker)) (r .moved)
 
         rest : drive who (limit - (i + 1)) (i + 1) there ≡ drive who limit 0 run₀
         rest =
@@ -90,32 +91,28 @@ module _ {who : ℕ → ℕ} {limit : ℕ} {run run₀ : Run} {s : List ℕ} {n 
             ∙ sym (drive-next who i here (v .moving .unended) (limit - (i + 1)) room (omega (arith, b, q, v .moving .count)))
             ∙ goes
 
-        first-said : i ≡ 0 → Says run₀ (who 0) (r .reply) (r .passed)
+        first-said : i ≡ 0 → r .reply ≡ stepRun run₀ (who 0) .reply
         first-said z =
-            record {
-              replied =
-                  sym (replies (v .moving) b t)
-                  ∙ ap (λ (x : Run). stepRun x w .reply) (v .start z)
-                  ∙ ap (λ (j : ℕ). stepRun run₀ j .reply) (q ∙ ap who z);
-              passed-over = sym (passes (v .moving) b t) ∙ ap (λ (x : Run). passedIn x w) (v .start z) ∙ ap (passedIn run₀) (q ∙ ap who z);
-            }
+            sym (replies (v .moving) b t)
+            ∙ ap (λ (x : Run). stepRun x w .reply) (v .start z)
+            ∙ ap (λ (j : ℕ). stepRun run₀ j .reply) (q ∙ ap who z)
 
         -- the root's end was not done: the run goes on
         pub again : {reply' : Reply} → reply' ≡ r .reply → ((u : ℕ) → r .reply ≡ Done u last → ⊥)
-            → Along who limit run run₀ s n last p K parents next' status' amounts' list' (set workers w (r .worker)) (r .moved) reply' (r .passed) (i + 1)
+            → Along who limit run run₀ s n last p K parents B (set workers w (r .worker)) (r .moved) reply' (i + 1)
         again e d =
             record {
               moving = keeps (v .moving) b t room d;
               within = omega (arith, h);
               remains = rest;
               start = λ z. absurd (omega (arith, z));
-              said = λ z. rw e (first-said (omega (arith, z)));
+              said = λ z. e ∙ first-said (omega (arith, z));
             }
 
         -- "a run stops at the root's end"
-        pub finished : {u a : ℕ} → r .reply ≡ Done u a → a ≡ last → Driven who limit run₀ (Finished (i + 1)) (Done u a) (r .passed) there
+        pub finished : {u a : ℕ} → r .reply ≡ Done u a → a ≡ last → Driven who limit run₀ (Finished (i + 1)) (Done u a) there
         finished j f =
             record {
               ran-as = sym (drive-over who (i + 1) there (limit - (i + 1)) (over-after (v .moving) b t j f)) ∙ rest;
-              said = λ one o. rw j at (first-said (at-start one));
+              said = λ one o. sym j ∙ first-said (at-start one);
             }

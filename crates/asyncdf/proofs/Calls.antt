@@ -5,6 +5,7 @@ use native.Mathlib.Omega.{arith}
 use mathlib.Core.List.{List, [], _∷_}
 use mathlib.Core.Bool.{Bool, true, false, not, _&&_}
 use lib.ListN.{length, getD}
+use lib.Dec.{eqb}
 use borrow.Author.Tests.{lt-ltb, le-ltb, eq-eqb, ne-eqb, not-false}
 use Rattle.table.specs.Pass.{refusal, tryAt}
 use Rattle.schedule.specs.declared.Run.{Run}
@@ -16,18 +17,25 @@ use Rattle.schedule.specs.declared.Turning.the-variants.{Refused as refusedTurn
 use Rattle.schedule.specs.declared.Reply.{Reply}
 use Rattle.schedule.specs.declared.Report.{Report}
 use Rattle.schedule.specs.declared.Report.the-variants.{Spent, Refused}
+use Rattle.table.specs.Sum.{pick}
+use Rattle.schedule.specs.Machine.{workerOf, leftmost, passedBy}
 use Rattle.schedule.specs.Answers.{beginningValues, turningValues, reportValues}
-use Rattle.schedule.specs.Record.{blank, tableIn}
+use Rattle.schedule.specs.Links.{noThread, seek}
+use Rattle.schedule.specs.Record.{maxThreads, blank, tableIn, listIn, stateOf}
 use Rattle.schedule.specs.Sound.{Steady, Sound, sound}
 use Rattle.schedule.specs.Turn.{isBlank, unsound, rootEnded, noWorker, turnChecks, stepRun, passedIn, turned}
 use Rattle.schedule.specs.Runs.{ran, moved, drive, listRun, roundsRun}
 use Rattle.schedule.proofs.Tests.{sound-exactly, blank-exactly}
-use Rattle.schedule.proofs.Stores.{steady-fits}
+use Rattle.schedule.proofs.Lists.{Below}
+use Rattle.schedule.proofs.Links.{seek-walk}
+use Rattle.schedule.proofs.Searches.{found-below}
+use Rattle.schedule.proofs.ActiveMoves.{list-small}
+use Rattle.schedule.proofs.Stores.{steady-lawful, steady-fits, steady-facts}
 use Rattle.soundness.specs.declared.Tested.{Tested}
 use Rattle.soundness.specs.Checks.{Parents}
 use Rattle.soundness.specs.Tested.{tested}
 use Rattle.soundness.proofs.Passed.{blank-none, has-workers, no-workers}
-use Rattle.asyncdf.specs.Drives.{who, Sequence, Open, Driven}
+use Rattle.asyncdf.specs.Drives.{who, Sequence, Open, passedAlong, Driven}
 use Rattle.asyncdf.proofs.Driving.{drive-next}
 
 -- ---- what stands behind check 32
@@ -140,6 +148,22 @@ module _ (r : Run) where
       unfolding roundsRun
       rounds-blank limit = rw (e, n)
 
+-- ---- how many threads stand left of the one that a worker takes
+
+-- the search along the record's links counts them
+pub passed-along : (r : Run) (w : ℕ) → Steady r → {k : ℕ} → k ≡ passedAlong (workerOf (stateOf r) w .holds) (seek maxThreads (r .status) (r .right) (r .leftmost)) → k ≡ passedIn r w
+unfolding passedAlong passedIn passedBy
+passed-along r w h {k} e =
+    e ∙ rw (seek-walk maxThreads (r .status) (r .right) (r .leftmost), found-below (r .status) (listIn r) small)
+    (ap (pick (workerOf (stateOf r) w .holds) 0) (go (eqb (leftmost (r .status) (listIn r)) (length (listIn r))) (leftmost (r .status) (listIn r))))
+  where
+    small : Below noThread (listIn r)
+    small = list-small (tableIn r) (steady-lawful r h) (r .workers) (r .quota) (stateOf r) (steady-facts r h)
+
+    go : (q : Bool) (i : ℕ) → pick (not q) i 0 ≡ pick q 0 i
+    go true i = refl
+    go false i = refl
+
 -- ---- a turn that is taken, as a run of one turn
 
 module _ (r : Run) (w : ℕ) (e : unsound r ≡ false) (h : w < r .workers) (o : rootEnded r ≡ false) where
@@ -150,11 +174,9 @@ module _ (r : Run) (w : ℕ) (e : unsound r ≡ false) (h : w < r .workers) (o :
   unfolding who
   may-turn = record { unended = o; room = has-workers r e (omega (arith, h)) .turns; below = h }
 
-  pub turn-driven : (x : Report) (y : Reply) (k : ℕ) (s : Run) → Driven order 1 r x y k s → record { answer = Taken y k; run = s } ≡ turned r w
-  turn-driven x y k s d =
-      let t = d .said refl may-turn in
-      let a : y ≡ stepRun r w .reply = t .replied ∙ ap (λ (i : ℕ). stepRun r i .reply) (one-worker w (r .workers)) in
-      let c : k ≡ passedIn r w = t .passed-over ∙ ap (passedIn r) (one-worker w (r .workers)) in
+  pub turn-driven : (x : Report) (y : Reply) (k : ℕ) (s : Run) → Driven order 1 r x y s → k ≡ passedIn r w → record { answer = Taken y k; run = s } ≡ turned r w
+  turn-driven x y k s d c =
+      let a : y ≡ stepRun r w .reply = d .said refl may-turn ∙ ap (λ (i : ℕ). stepRun r i .reply) (one-worker w (r .workers)) in
       let b : s ≡ moved r w = ap (λ (z : Ran). z .run) (d .ran-as) ∙ drive-one order r may-turn ∙ ap (moved r) (one-worker w (r .workers)) in
       (λ i. record { answer = Taken (a i) (c i); run = b i }) ∙ turned-taken r w e h o
 

@@ -20,6 +20,7 @@ use Rattle.schedule.specs.declared.Reply.the-variants.{Idle, Done, Quota, Wait}
 use Rattle.schedule.specs.declared.Report.the-variants.{Finished, Spent, Refused}
 use Rattle.schedule.specs.Machine.{State, Stepped, stepped, counted, ended, nextOf, statusOf, workerOf, nobody}
 use Rattle.schedule.specs.Machine.{actBy, act, leftmost, taken, turnFree, turnOf}
+use Rattle.schedule.specs.Links.{Links}
 use Rattle.schedule.specs.Record.{setOf, tableIn, stateOf}
 use Rattle.schedule.specs.Sound.{isDone, Steady}
 use Rattle.schedule.specs.Turn.{rootEnded, noWorker, stepRun}
@@ -36,7 +37,7 @@ use Rattle.schedule.proofs.Tries.{Turned, idles, tries, turned}
 use Rattle.schedule.proofs.Stores.{steady-lawful, steady-fits, steady-facts}
 use Rattle.asyncdf.specs.declared.runs.Moved.{Moved}
 use Rattle.asyncdf.specs.declared.runs.Taken.{Taken}
-use Rattle.asyncdf.specs.Parts.{partState}
+use Rattle.asyncdf.specs.Parts.{Arrays, stateIn}
 use Rattle.asyncdf.specs.Drives.{Took, packedOf}
 use Rattle.asyncdf.proofs.Local.{putBack, turn-local, set-busy}
 
@@ -141,27 +142,28 @@ module _ (r : Run) (h : Steady r) (w : ℕ) (b : w < r .workers) where
       n t q)
 
 -- what the code moved is the record after the turn
-module _ (run : Run) (next status amounts list : List ℕ) (workers : List Worker) (m : Moved) (w : ℕ) (next' status' amounts' list' : List ℕ) (r : Taken)
-    (h : Steady (packedOf run next status amounts list workers m)) (b : w < run .workers)
-    (t : Took (tableIn run) (run .quota) w next status amounts list m (getD workers w nobody) next' status' amounts' list' r) where
+module _ (run : Run) (A : Arrays) (workers : List Worker) (m : Moved) (w : ℕ) (B : Arrays) (r : Taken)
+    (h : Steady (packedOf run A workers m)) (b : w < run .workers)
+    (t : Took (tableIn run) (run .quota) w A m (getD workers w nobody) B r) where
   abbrev before : Run
-  before = packedOf run next status amounts list workers m
+  before = packedOf run A workers m
 
   fits : w < length workers
   fits = omega (arith, h .state .common .worker-size, steady-fits _ h .few-workers)
 
   stepped-as : stepRun before w
-      ≡ stepped (r .reply) (counted (putBack w (stateOf before) (stepped (r .reply) (partState next' status' amounts' list' (r .moved .totals) (r .worker))) .state))
+      ≡ stepped (r .reply) (counted (putBack w (stateOf before) (stepped (r .reply) (stateIn B (r .moved .totals) (r .worker))) .state))
   unfolding stepRun
-  stepped-as = turn-local (tableIn run) (run .quota) w (stateOf before) fits ∙ rw (← (t .body))
+  stepped-as = turn-local (tableIn run) (run .quota) w (stateOf before) fits ∙ rw (← (t .went .body))
 
   pub packed-reply : stepRun before w .reply ≡ r .reply
   packed-reply = ap (λ (x : Stepped). x .reply) stepped-as
 
-  pub packed-moved : moved before w ≡ packedOf run next' status' amounts' list' (set workers w (r .worker)) (r .moved)
+  pub packed-moved : moved before w ≡ packedOf run B (set workers w (r .worker)) (r .moved)
   packed-moved =
       let q : setOf (set workers w (r .worker)) ≡ r .moved .busy = set-busy workers w (r .worker) fits ∙ rw (t .set, h .set) in
-      rw (stepped-as, q, ← t .row .rest, t .row .front, t .count, add-one)
+      let k = t .went .chained .list-links in
+      rw (stepped-as, q, ← ap (λ (x : Links). x .left) k, ← ap (λ (x : Links). x .right) k, ← ap (λ (x : Links). x .head) k, t .count, add-one)
 
 -- ---- the run
 

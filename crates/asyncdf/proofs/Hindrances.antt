@@ -20,6 +20,7 @@ use Rattle.schedule.proofs.CaseLaws.{turn-turns}
 use Rattle.chart.specs.Chart.{mostTurns}
 use Rattle.chart.proofs.Records.{many, charted-many}
 use Rattle.asyncdf.specs.declared.runs.Moved.{Moved}
+use Rattle.asyncdf.specs.Parts.{Arrays}
 use Rattle.asyncdf.specs.Drives.{Moving, packedOf}
 use Rattle.asyncdf.specs.Sheets.{turnsTexts, hindered}
 use Rattle.asyncdf.proofs.Calls.{steady-full, steady-room, turned-unsound, turned-none, turned-taken}
@@ -53,10 +54,10 @@ moved-turns : (r : Run) (w : ℕ) → moved r w .turns ≡ r .turns + 1
 unfolding stepRun
 moved-turns r w = omega (arith, turn-turns (tableIn r) (r .quota) w (stateOf r))
 
-module _ {run : Run} {s : List ℕ} {n last p K : ℕ} {parents next status amounts list : List ℕ} {workers : List Worker} {m : Moved}
-    (v : Moving run s n last p K parents next status amounts list workers m) (w : ℕ) (rest : List ℕ) where
+module _ {run : Run} {s : List ℕ} {n last p K : ℕ} {parents : List ℕ} {A : Arrays} {workers : List Worker} {m : Moved}
+    (v : Moving run s n last p K parents A workers m) (w : ℕ) (rest : List ℕ) where
   abbrev here : Run
-  here = packedOf run next status amounts list workers m
+  here = packedOf run A workers m
 
   -- the last text is the line of this number
   abbrev Ends : Bool → ℕ → Type 0

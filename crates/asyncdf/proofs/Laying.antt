@@ -9,7 +9,7 @@ use lib.Seq.{set-at, append-snoc}
 use Rattle.table.specs.Format.{actionsOf, tableOf}
 use Rattle.table.proofs.Sizes.{Sizes, sizes}
 use Rattle.schedule.specs.Record.{filled}
-use Rattle.schedule.specs.Begin.{firsts}
+use Rattle.schedule.specs.Firsts.{firsts}
 use Rattle.schedule.proofs.Lists.{firsts-length}
 use Rattle.soundness.specs.Checks.{Accepted}
 

@@ -1,8 +1,7 @@
-pub mod Rows
 pub mod Seats
 pub mod Laying
-pub mod Shifts
 pub mod Local
+pub mod Linking
 pub mod Driving
 pub mod Moving
 pub mod Along

@@ -66,7 +66,7 @@ module _ (T : Table) (w : ℕ) (st : State) where
       go false e = rw e refl
   act-local unknown t a x = rw (same-workers w st)
 
-  goes-local : act T w st ≡ putBack w st (act T 0 (partOf w st))
+  pub goes-local : act T w st ≡ putBack w st (act T 0 (partOf w st))
   unfolding act
   goes-local =
       let t : ℕ = workerOf st w .thread in

@@ -13,29 +13,32 @@ use Rattle.schedule.specs.declared.Reply.{Reply}
 use Rattle.schedule.specs.declared.Reply.the-variants.{Done}
 use Rattle.table.specs.Format.{threadsOf, tableOf}
 use Rattle.table.specs.Rules.{endOf}
-use Rattle.schedule.specs.Machine.{nobody, passedBy}
+use Rattle.schedule.specs.Machine.{nobody}
 use Rattle.schedule.specs.Memory.{ofReply}
-use Rattle.schedule.specs.Record.{bytesOf, tableIn, stateOf}
+use Rattle.schedule.specs.Links.{noThread, LinkedAs}
+use Rattle.schedule.specs.Actives.{actives, noLinks, filledFrom}
+use Rattle.schedule.specs.Record.{maxThreads, bytesOf, tableIn, listIn, stateOf}
 use Rattle.schedule.specs.Sound.{Steady}
-use Rattle.schedule.specs.Turn.{rootEnded, stepRun, passedIn}
+use Rattle.schedule.specs.Turn.{rootEnded, stepRun}
 use Rattle.schedule.specs.Runs.{moved}
 use Rattle.schedule.proofs.Reply.{the-type}
-use Rattle.schedule.proofs.Stores.{steady-fits, moved-steady}
+use Rattle.schedule.proofs.Links.{laid-linked}
+use Rattle.schedule.proofs.ActiveMoves.{list-once, list-small}
+use Rattle.schedule.proofs.Fills.{fill-linked}
+use Rattle.schedule.proofs.Stores.{steady-lawful, steady-fits, steady-facts, moved-steady}
 use Rattle.soundness.specs.Checks.{Parents}
 use Rattle.asyncdf.specs.declared.runs.Moved.{Moved}
 use Rattle.asyncdf.specs.declared.runs.Taken.{Taken}
-use Rattle.asyncdf.specs.Parts.{Rowed, Sits}
+use Rattle.asyncdf.specs.Parts.{Arrays, arrays, links, Sits}
 use Rattle.asyncdf.specs.Drives.{Bit, Outlined, Moving, Took, movedOf, packedOf}
 use Rattle.asyncdf.proofs.Local.{set-bit}
+use Rattle.asyncdf.proofs.Linking.{linked-as}
 use Rattle.asyncdf.proofs.Driving.{finishes, goes-on, packed-reply, packed-moved}
 
 -- ---- the record's parts
 
 pub table-room : {run : Run} → Steady run → run .length ≤ length (run .table)
 table-room {run} h = omega (arith, h .table-length, length-take (run .length) (run .table))
-
-pub listed-small : {list : List ℕ} {k : ℕ} → Rowed list k → k ≤ 1024
-listed-small {list} {k} r = omega (arith, r .front, r .size, length-take k list)
 
 -- ---- the reply that a loop goes on by
 
@@ -49,32 +52,42 @@ other {r} {t} {a} {last} e d u f = d (ap (ofReply (λ j. j)) (sym e ∙ f))
 
 -- ---- the invariant
 
-pub first-moving : {run : Run} {n last : ℕ} {parents : List ℕ} → Steady run → rootEnded run ≡ false → n ≡ tableIn run .threads → last ≡ endOf (tableIn run) 0
-    → Parents (tableIn run) parents → length (run .list) ≡ 1024 → run .turns < 2 ^ 64
-    → Moving run (bytesOf run) n last (run .workers) (run .quota) parents (run .next) (run .status) (run .amounts) (run .list) (run .worker) (movedOf run)
-first-moving h o e f a z g =
-    record {
-      bytes = refl;
-      count = refl;
-      quota = refl;
-      outline = record { threads = e; last-action = f; parent = a };
-      row = record { size = z; front = h .list-length; rest = h .list-rest };
-      steady = h;
-      unended = o;
-      turns-fit = g;
-    }
+-- the record's own arrays, and a second list beside them
+abbrev pub arraysOf : Run → List ℕ → List ℕ → Arrays
+arraysOf run under over = arrays (run .next) (run .status) (run .amounts) (run .left) (run .right) under over
 
--- as the code finds it: the numbers read off the table, the rest copied
-pub copied-moving : {run : Run} {n last : ℕ} {parents : List ℕ} {m : Moved} → Steady run → rootEnded run ≡ false → n ≡ threadsOf (bytesOf run) → last ≡ endOf (tableIn run) 0
-    → Parents (tableIn run) parents → length (run .list) ≡ 1024 → run .turns < 2 ^ 64 → m ≡ movedOf run
-    → Moving run (bytesOf run) n last (run .workers) (run .quota) parents (run .next) (run .status) (run .amounts) (run .list) (run .worker) m
-unfolding tableOf
-copied-moving h o e f a z g q = rw q (first-moving h o e f a z g)
+module _ {run : Run} (h : Steady run) where
+  -- filled from the record's links, the second list is that of the record's list
+  pub filled-second : {under over : List ℕ} {first : ℕ} → links under over first ≡ filledFrom maxThreads (run .status) (run .right) (run .leftmost) noThread noLinks
+      → LinkedAs (links under over first) (actives (run .status) (listIn run))
+  filled-second e =
+      linked-as _ _ (actives (run .status) (listIn run)) e
+      (fill-linked (run .left) (run .right) (run .leftmost) (listIn run) (run .status) (linked-as _ _ (listIn run) (h .links) (laid-linked (listIn run)))
+      (list-once (tableIn run) (steady-lawful run h) (run .workers) (run .quota) (stateOf run) (steady-facts run h))
+      (list-small (tableIn run) (steady-lawful run h) (run .workers) (run .quota) (stateOf run) (steady-facts run h)))
 
-module _ {run : Run} {s : List ℕ} {n last p K : ℕ} {parents next status amounts list : List ℕ} {workers : List Worker} {m : Moved}
-    (v : Moving run s n last p K parents next status amounts list workers m) where
+  -- as the code finds it: the numbers read off the table, the second list filled, the rest copied
+  pub first-moving : {n last first : ℕ} {parents under over : List ℕ} {m : Moved} → rootEnded run ≡ false → n ≡ threadsOf (bytesOf run) → last ≡ endOf (tableIn run) 0
+      → Parents (tableIn run) parents → links under over first ≡ filledFrom maxThreads (run .status) (run .right) (run .leftmost) noThread noLinks → run .turns < 2 ^ 64
+      → m ≡ movedOf run first → Moving run (bytesOf run) n last (run .workers) (run .quota) parents (arraysOf run under over) (run .worker) m
+  unfolding tableOf
+  first-moving o e f a c g q =
+      rw q
+      (record {
+        bytes = refl;
+        count = refl;
+        quota = refl;
+        outline = record { threads = e; last-action = f; parent = a };
+        second = filled-second c;
+        steady = h;
+        unended = o;
+        turns-fit = g;
+      })
+
+module _ {run : Run} {s : List ℕ} {n last p K : ℕ} {parents : List ℕ} {A : Arrays} {workers : List Worker} {m : Moved}
+    (v : Moving run s n last p K parents A workers m) where
   abbrev pub here : Run
-  here = packedOf run next status amounts list workers m
+  here = packedOf run A workers m
 
   module _ {w : ℕ} (b : w < p) where
     own : w < run .workers
@@ -83,7 +96,7 @@ module _ {run : Run} {s : List ℕ} {n last p K : ℕ} {parents next status amou
     pub few : w < 16
     few = omega (arith, own, steady-fits here (v .steady) .few-workers)
 
-    pub sits : Sits s n K next status amounts list (m .totals) (getD workers w nobody)
+    pub sits : Sits s n K A (m .totals) (getD workers w nobody)
     sits =
         record {
           rules = rw (v .bytes) at (v .steady .table);
@@ -101,42 +114,38 @@ module _ {run : Run} {s : List ℕ} {n last p K : ℕ} {parents next status amou
           same-held = refl;
           same-highest = refl;
           own = refl;
-          row = v .row;
+          chained = record { list-links = v .steady .links; second-links = v .second };
         }
 
     pub bit : Bit (m .busy) (getD workers w nobody .holds) w
     bit = rw (v .steady .set) (set-bit workers w (v .steady .state .common .worker-size) few)
 
-    module _ {next' status' amounts' list' : List ℕ} {r : Taken} (t : Took (tableOf s) K w next status amounts list m (getD workers w nobody) next' status' amounts' list' r) where
+    module _ {B : Arrays} {r : Taken} (t : Took (tableOf s) K w A m (getD workers w nobody) B r) where
       abbrev pub there : Run
-      there = packedOf run next' status' amounts' list' (set workers w (r .worker)) (r .moved)
+      there = packedOf run B (set workers w (r .worker)) (r .moved)
 
-      took : Took (tableIn run) (run .quota) w next status amounts list m (getD workers w nobody) next' status' amounts' list' r
+      took : Took (tableIn run) (run .quota) w A m (getD workers w nobody) B r
       took = rw (v .bytes, v .quota) t
 
       pub moves : moved here w ≡ there
-      moves = packed-moved run next status amounts list workers m w next' status' amounts' list' r (v .steady) own took
+      moves = packed-moved run A workers m w B r (v .steady) own took
 
       pub replies : stepRun here w .reply ≡ r .reply
-      replies = packed-reply run next status amounts list workers m w next' status' amounts' list' r (v .steady) own took
-
-      pub passes : passedIn here w ≡ r .passed
-      unfolding passedIn passedBy
-      passes = sym (t .passed)
+      replies = packed-reply run A workers m w B r (v .steady) own took
 
       last-is : last ≡ endOf (tableIn run) 0
       last-is = rw (v .bytes) (v .outline .last-action)
 
       -- the root's end was not done: the loop goes on
       pub keeps : (m .turns ≡ 2 ^ 64 - 1 → ⊥) → ((u : ℕ) → r .reply ≡ Done u last → ⊥)
-          → Moving run s n last p K parents next' status' amounts' list' (set workers w (r .worker)) (r .moved)
+          → Moving run s n last p K parents B (set workers w (r .worker)) (r .moved)
       keeps e d =
           record {
             bytes = v .bytes;
             count = v .count;
             quota = v .quota;
             outline = v .outline;
-            row = t .row;
+            second = t .went .chained .second-links;
             steady = subst (λ (x : Run). Steady x) moves (moved-steady here (v .steady) w own);
             unended =
                 subst (λ (x : Run). rootEnded x ≡ false) moves

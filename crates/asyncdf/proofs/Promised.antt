@@ -18,7 +18,8 @@ use Rattle.schedule.specs.declared.Turned.{Turned}
 use Rattle.schedule.specs.declared.Turning.{Turning}
 use Rattle.schedule.specs.declared.Ran.{Ran}
 use Rattle.schedule.specs.declared.Report.{Report}
-use Rattle.schedule.specs.Begin.{begin, firsts}
+use Rattle.schedule.specs.Begin.{begin}
+use Rattle.schedule.specs.Firsts.{firsts}
 use Rattle.schedule.specs.Turn.{turned}
 use Rattle.schedule.specs.Runs.{listRun, roundsRun}
 use Rattle.schedule.specs.Calls.{Call, turn, overList, inRounds, turnsIn, turnRow, afterCall, afterCalls, rowOf, rowOfCalls}

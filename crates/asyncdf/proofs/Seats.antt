@@ -1,11 +1,12 @@
 -- What the part of a worker of a sound state has: the worker's thread and action are in their ranges, and each kind of action finds what it asks for.
 use mathlib.Core.Path.{_≡_, refl}
-use Prim.Native.Nat.{ℕ, _+_, _*_, _^_, _≤_, _<_}
+use Prim.Native.Nat.{ℕ, suc, _+_, _*_, _^_, _≤_, _<_}
 use mathlib.Core.List.{List}
 use mathlib.Core.Bool.{true, false}
 use native.Mathlib.Omega.{arith}
-use lib.ListN.{length, getD, set, take}
-use lib.Seq.{getD-take, getD-set-same}
+use native.Mathlib.Numerals.{add-one}
+use lib.ListN.{length, getD, set}
+use lib.Seq.{getD-set-same}
 use Rattle.table.specs.Format.{alloc, free, fork, join, codeOf, is, kind, threadsOf, actionsOf, tableOf}
 use Rattle.table.specs.Rules.{allocOf}
 use Rattle.table.specs.Level.{forkBelow}
@@ -15,47 +16,47 @@ use Rattle.schedule.specs.declared.Worker.{Worker}
 use Rattle.schedule.specs.declared.Run.{Run}
 use Rattle.schedule.specs.Machine.{State, ready, held, nobody, workerOf, taken}
 use Rattle.schedule.specs.Record.{maxBytes, filled, setOf, bytesOf, stateOf}
-use Rattle.schedule.specs.Sound.{placeIn, SoundState, Steady}
+use Rattle.schedule.specs.Sound.{SoundState, Steady}
 use Rattle.schedule.proofs.Lawful.{Lawful, lawful}
 use Rattle.schedule.proofs.Facts.{Facts, facts, sound-facts}
-use Rattle.schedule.proofs.Words.{placeIn-below}
-use Rattle.schedule.proofs.Lists.{getD-member}
 use Rattle.schedule.proofs.Lists.{filled-front}
-use Rattle.schedule.proofs.Done.{next-below, undone-unborn}
-use Rattle.schedule.proofs.Leftmost.{next-undone}
+use Rattle.schedule.proofs.Done.{next-below}
 use Rattle.schedule.proofs.Ends.{ownerBelow-less}
 use Rattle.schedule.proofs.Moves.{taken-facts}
 use Rattle.schedule.proofs.Shares.{free-held}
 use Rattle.schedule.proofs.Stores.{Fits, begin-fits}
 use Rattle.schedule.proofs.ThreadMemory.{amount-held, free-amount}
-use Rattle.schedule.proofs.Soundness.{list-room, held-fits}
+use Rattle.schedule.proofs.Soundness.{held-fits}
+use Rattle.schedule.proofs.LinkMoves.{take-actives}
 use Rattle.soundness.specs.Checks.{Parents}
-use Rattle.asyncdf.specs.Parts.{At, Wakes, Sits}
+use Rattle.asyncdf.specs.Parts.{Arrays, actionOf, withStatuses, At, Wakes, Sits}
 use Rattle.asyncdf.specs.declared.act.Totals.{Totals}
 
--- the next action of the worker's thread
-abbrev pub actionOf : List ℕ → Worker → ℕ
-actionOf next worker = getD next (worker .thread) 0
+-- the thread's next action is done
+pub next-done : (next : List ℕ) (worker : Worker) (a : ℕ) → At next worker a
+    → set next (worker .thread) (a + 1) ≡ set next (worker .thread) (suc (getD next (worker .thread) 0))
+next-done next worker a h = rw (h .action, add-one)
 
 state-is : (st : State) (next status amounts list : List ℕ) (held highest : ℕ) → st .next ≡ next → st .status ≡ status → st .amounts ≡ amounts → st .list ≡ list → st .held ≡ held
     → st .highest ≡ highest
     → st ≡ record { next = next; status = status; amounts = amounts; list = list; workers = st .workers; held = held; highest = highest; turns = st .turns }
 state-is st next status amounts list held highest a b m c d e = rw (← a, ← b, ← m, ← c, ← d, ← e)
 
-module _ {s : List ℕ} {n K : ℕ} {next status amounts list : List ℕ} {totals : Totals} {worker : Worker} (q : Sits s n K next status amounts list totals worker) where
+module _ {s : List ℕ} {n K : ℕ} {A : Arrays} {totals : Totals} {worker : Worker} (q : Sits s n K A totals worker) where
   -- the record whose part it is
-  abbrev run : Run
+  abbrev pub run : Run
   run =
       record {
         table = filled maxBytes s;
         length = length s;
         workers = q .p;
         quota = K;
-        next = next;
-        status = status;
-        amounts = amounts;
-        list = list;
-        listed = totals .listed;
+        next = A .next;
+        status = A .status;
+        amounts = A .amounts;
+        left = A .left;
+        right = A .right;
+        leftmost = totals .leftmost;
         worker = q .state .workers;
         busy = setOf (q .state .workers);
         held = totals .held;
@@ -77,56 +78,49 @@ module _ {s : List ℕ} {n K : ℕ} {next status amounts list : List ℕ} {total
         state = rw bytes sound-part;
         set = refl;
         table-length = rw bytes;
-        list-length = q .row .front;
         table-rest = rw bytes;
-        list-rest = q .row .rest;
+        links = q .chained .list-links;
       }
 
-  laws : Lawful (tableOf s)
+  pub laws : Lawful (tableOf s)
   laws = lawful s (q .rules)
 
-  known : Facts (tableOf s) (q .p) K (stateOf run)
+  pub known : Facts (tableOf s) (q .p) K (stateOf run)
   known = facts (tableOf s) laws (q .p) K (stateOf run) sound-part
 
-  fits : Fits (tableOf s) (q .p) K
+  pub fits : Fits (tableOf s) (q .p) K
   fits = begin-fits (tableOf s) (q .p) K (q .beginning)
 
   pub few-threads : tableOf s .threads ≤ 1024
   few-threads = laws .few-threads
 
-  pub status-size : length status ≡ 1024
+  pub status-size : length (A .status) ≡ 1024
   status-size = known .status-size
 
   -- the next action of a thread is one of the table's
-  next-small : (t : ℕ) → t < tableOf s .threads → getD next t 0 < 8192
+  next-small : (t : ℕ) → t < tableOf s .threads → getD (A .next) t 0 < 8192
   unfolding tableOf
   next-small t h =
       let z : Sizes s (threadsOf s) (actionsOf s) = sizes (record { head = q .rules .head; threads = refl; actions = refl }) in
-      let a : getD next t 0 < actionsOf s = next-below (tableOf s) laws (q .p) K (stateOf run) known t h in
+      let a : getD (A .next) t 0 < actionsOf s = next-below (tableOf s) laws (q .p) K (stateOf run) known t h in
       omega arith
 
-  -- the places of the list have threads of the table
-  pub row-below : (i : ℕ) → i < totals .listed → getD list i 0 < tableOf s .threads
-  row-below i h =
-      rw (getD-take (totals .listed) list i 0 h) at
-      (known .list-below (getD (take (totals .listed) list) i 0) (getD-member (take (totals .listed) list) i 0 (omega (arith, q .row .front))))
-
-  worker-few : q .w < 16
+  pub worker-few : q .w < 16
   worker-few = omega (arith, q .below, fits .few-workers)
 
   -- ---- a worker that holds a thread
 
   module _ (h : worker .holds ≡ true) where
-    holds : workerOf (stateOf run) (q .w) .holds ≡ true
+    pub holds : workerOf (stateOf run) (q .w) .holds ≡ true
     holds = rw (q .own) h
 
     pub thread-below : worker .thread < tableOf s .threads
     thread-below = rw (q .own) at (known .holding .holder-thread (q .w) worker-few holds)
 
-    thread-held : getD status (worker .thread) 0 ≡ held
+    thread-held : getD (A .status) (worker .thread) 0 ≡ held
     thread-held = rw (q .own) at (known .holding .holder-held (q .w) worker-few holds)
 
-    pub at-next : At next worker (actionOf next worker)
+    pub at-next : At (A .next) worker (actionOf A worker)
     at-next =
         record {
           size = known .next-size;
@@ -135,57 +129,39 @@ module _ {s : List ℕ} {n K : ℕ} {next status amounts list : List ℕ} {total
           fits = omega (arith, next-small (worker .thread) thread-below);
         }
 
-    pub place-below : placeIn (worker .thread) (take (totals .listed) list) < totals .listed
-    place-below =
-        rw (q .row .front) at
-        (placeIn-below (worker .thread) (take (totals .listed) list)
-        (known .live-listed (worker .thread) thread-below (λ e. omega (arith, thread-held)) (λ e. omega (arith, thread-held))))
-
-    next-is-below : actionOf next worker < tableOf s .actions
+    next-is-below : actionOf A worker < tableOf s .actions
     next-is-below = next-below (tableOf s) laws (q .p) K (stateOf run) known (worker .thread) thread-below
 
-    pub alloc-room : kind (tableOf s) (actionOf next worker) ≡ alloc → totals .held + tableOf s .argument (actionOf next worker) < 2 ^ 64
+    pub alloc-room : kind (tableOf s) (actionOf A worker) ≡ alloc → totals .held + tableOf s .argument (actionOf A worker) < 2 ^ 64
     unfolding allocOf is codeOf
     alloc-room k =
-        let w : tableOf s .argument (actionOf next worker) ≤ K = rw k at (fits .within (actionOf next worker) next-is-below) in
+        let w : tableOf s .argument (actionOf A worker) ≤ K = rw k at (fits .within (actionOf A worker) next-is-below) in
         omega (arith, held-fits run steady)
 
     -- no thread holds more than is held
-    pub amount-room : (t : ℕ) → getD amounts t 0 ≤ totals .held
+    pub amount-room : (t : ℕ) → getD (A .amounts) t 0 ≤ totals .held
     amount-room = amount-held (tableOf s) laws (q .p) K (stateOf run) known
 
-    pub own-room : kind (tableOf s) (actionOf next worker) ≡ alloc → getD amounts (worker .thread) 0 + tableOf s .argument (actionOf next worker) < 2 ^ 64
+    pub own-room : kind (tableOf s) (actionOf A worker) ≡ alloc → getD (A .amounts) (worker .thread) 0 + tableOf s .argument (actionOf A worker) < 2 ^ 64
     own-room k = omega (arith, alloc-room k, amount-room (worker .thread))
 
-    pub child-room : (c : ℕ) → getD amounts (worker .thread) 0 + getD amounts c 0 < 2 ^ 64
+    pub child-room : (c : ℕ) → getD (A .amounts) (worker .thread) 0 + getD (A .amounts) c 0 < 2 ^ 64
     child-room c = omega (arith, amount-room (worker .thread), amount-room c, held-fits run steady)
 
-    pub own-free : kind (tableOf s) (actionOf next worker) ≡ free → tableOf s .argument (actionOf next worker) ≤ getD amounts (worker .thread) 0
+    pub own-free : kind (tableOf s) (actionOf A worker) ≡ free → tableOf s .argument (actionOf A worker) ≤ getD (A .amounts) (worker .thread) 0
     own-free k = free-amount (tableOf s) laws (q .p) K (stateOf run) known (worker .thread) thread-below (λ e. omega (arith, thread-held)) k
 
-    pub free-room : kind (tableOf s) (actionOf next worker) ≡ free → tableOf s .argument (actionOf next worker) ≤ totals .held
+    pub free-room : kind (tableOf s) (actionOf A worker) ≡ free → tableOf s .argument (actionOf A worker) ≤ totals .held
     free-room k = free-held (tableOf s) laws (q .p) K (stateOf run) known (worker .thread) thread-below (λ e. omega (arith, thread-held)) k
 
-    pub fork-child : kind (tableOf s) (actionOf next worker) ≡ fork → tableOf s .argument (actionOf next worker) < 1024
-    fork-child k = omega (arith, few-threads, fork-below (tableOf s) (laws .contents) (laws .bodies) (actionOf next worker) next-is-below k)
+    pub fork-child : kind (tableOf s) (actionOf A worker) ≡ fork → tableOf s .argument (actionOf A worker) < 1024
+    fork-child k = omega (arith, few-threads, fork-below (tableOf s) (laws .contents) (laws .bodies) (actionOf A worker) next-is-below k)
 
-    pub fork-room : kind (tableOf s) (actionOf next worker) ≡ fork → totals .listed < 1024
-    fork-room k =
-        let a : ℕ = actionOf next worker in
-        omega (
-          arith,
-          few-threads,
-          q .row .front,
-          rw bytes at (list-room run steady (tableOf s .argument a) (rw bytes (fork-below (tableOf s) (laws .contents) (laws .bodies) a next-is-below k))
-              (undone-unborn (tableOf s) laws (q .p) K (stateOf run) known a next-is-below k
-              (next-undone (tableOf s) laws (q .p) K (stateOf run) known (worker .thread) thread-below (λ e. omega (arith, thread-held))))),
-        )
-
-    pub join-child : kind (tableOf s) (actionOf next worker) ≡ join → tableOf s .argument (actionOf next worker) < 1024
-    join-child k = omega (arith, few-threads, join-below (tableOf s) (laws .contents) (laws .bodies) (actionOf next worker) next-is-below k)
+    pub join-child : kind (tableOf s) (actionOf A worker) ≡ join → tableOf s .argument (actionOf A worker) < 1024
+    join-child k = omega (arith, few-threads, join-below (tableOf s) (laws .contents) (laws .bodies) (actionOf A worker) next-is-below k)
 
     -- the parent may be looked at
-    pub parent-wakes : (parents : List ℕ) → Parents (tableOf s) parents → Wakes s n status (getD parents (worker .thread) 0)
+    pub parent-wakes : (parents : List ℕ) → Parents (tableOf s) parents → Wakes s n (A .status) (getD parents (worker .thread) 0)
     parent-wakes parents r =
         let u : ℕ = getD parents (worker .thread) 0 in
         let b : u < tableOf s .threads =
@@ -195,8 +171,8 @@ module _ {s : List ℕ} {n K : ℕ} {next status amounts list : List ℕ} {total
 
   -- ---- a worker that takes a thread
 
-  pub taken-sits : worker .holds ≡ false → (t : ℕ) → t < tableOf s .threads → getD status t 0 ≡ ready
-      → Sits s n K next (set status t held) amounts list totals (record { holds = true; thread = t; quota = K })
+  pub taken-sits : worker .holds ≡ false → (t : ℕ) → t < tableOf s .threads → getD (A .status) t 0 ≡ ready
+      → Sits s n K (withStatuses (set (A .status) t held) A) totals (record { holds = true; thread = t; quota = K })
   unfolding taken
   taken-sits h t b e =
       record {
@@ -217,5 +193,10 @@ module _ {s : List ℕ} {n K : ℕ} {next status amounts list : List ℕ} {total
         same-held = refl;
         same-highest = refl;
         own = getD-set-same (q .state .workers) (q .w) _ nobody (omega (arith, worker-few, known .holding .worker-size));
-        row = q .row;
+        chained =
+            record {
+              list-links = q .chained .list-links;
+              second-links =
+                  rw (take-actives (tableOf s) laws (q .p) K (q .w) t (stateOf run) known b e) (q .chained .second-links);
+            };
       }

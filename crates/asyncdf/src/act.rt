@@ -1,8 +1,8 @@
 // What a worker's turn does with the thread that it holds, by the kind of the thread's next action. Words in quotation marks beside fork, wait and end are those of the thesis, figure 3.2 and
 // the text to it: the steps stand in its order.
-use crate::list::insert;
-use crate::list::remove;
 use crate::release::release;
+use links::link_left;
+use links::unlink;
 use schedule::Reply;
 use schedule::Worker;
 use schedule::statuses::ENDED;
@@ -13,18 +13,21 @@ use table::read::argument;
 use table::read::code;
 ghost use mathlib.Core.Path.{_≡_};
 ghost use mathlib.Core.List.{List};
+ghost use Rattle.table.specs.Sum.{pick};
 ghost use mathlib.Core.Bool.{true};
 ghost use Prim.Native.Nat.{ℕ, _+_, _^_, _≤_, _<_, max};
-ghost use lib.ListN.{length, getD, set, take};
+ghost use lib.Dec.{eqb};
+ghost use lib.ListN.{length, getD, set};
 ghost use Rattle.table.specs.Format.{Table, alloc, free, fork, join, end, tableOf};
-ghost use Rattle.schedule.specs.Machine.{nobody, actBy, act as actOf};
-ghost use Rattle.schedule.specs.Sound.{placeIn};
-ghost use Rattle.asyncdf.specs.Parts.{partState, partStepped, At, Rowed, Sits, Wakes, wokenStatus};
+ghost use Rattle.schedule.specs.Machine.{nobody, ended, ready, leftOf, without, parentOf, actBy};
+ghost use Rattle.schedule.specs.Links.{linkLeft, unlink as unlinkOf};
+ghost use Rattle.asyncdf.specs.Parts.{arrays, links, partState, partStepped, SameHeads, At, Acted, Sits, Wakes, waitsIn};
 ghost use Rattle.soundness.specs.Checks.{Parents};
 
-// The amounts that a turn moves, and the length of the list.
+// The amounts that a turn moves, and the leftmost threads of the list and of the second list.
 pub(crate) struct Totals {
-    pub(crate) listed: usize,
+    pub(crate) leftmost: u16,
+    pub(crate) first: u16,
     pub(crate) held: u64,
     pub(crate) highest: u64,
 }
@@ -64,6 +67,7 @@ fn act_alloc(
     requires { ⌜ (length (now status) ≡ 1024) × (totals .held + x < 2 ^ 64) × (getD (now amounts) (worker .thread) 0 + x < 2 ^ 64) ⌝ }
     ensures { λ r. ⌜ ((T : Table) (list : List ℕ) → partStepped (now (next .exit)) (now (status .exit)) (now (amounts .exit)) list r
         ≡ actBy alloc T 0 (worker .thread) a x (partState (now (next .entry)) (now (status .entry)) (now (amounts .entry)) list totals worker)) ⌝ }
+    ensures { λ r. ⌜ SameHeads totals (r .totals) ⌝ }
 {
     let thread = worker.thread;
     let t = thread as usize;
@@ -87,7 +91,8 @@ fn act_alloc(
             quota: worker.quota - x,
         },
         totals: Totals {
-            listed: totals.listed,
+            leftmost: totals.leftmost,
+            first: totals.first,
             held,
             highest: larger(totals.highest, held),
         },
@@ -106,6 +111,7 @@ fn act_free(
     requires { ⌜ (x ≤ totals .held) × (x ≤ getD (now amounts) (worker .thread) 0) ⌝ }
     ensures { λ r. ⌜ ((T : Table) (status list : List ℕ) → partStepped (now (next .exit)) status (now (amounts .exit)) list r
         ≡ actBy free T 0 (worker .thread) a x (partState (now (next .entry)) status (now (amounts .entry)) list totals worker)) ⌝ }
+    ensures { λ r. ⌜ SameHeads totals (r .totals) ⌝ }
 {
     let thread = worker.thread;
     let t = thread as usize;
@@ -116,7 +122,8 @@ fn act_free(
         reply: Reply::Done { thread, action: a },
         worker,
         totals: Totals {
-            listed: totals.listed,
+            leftmost: totals.leftmost,
+            first: totals.first,
             held,
             highest: larger(totals.highest, held),
         },
@@ -128,16 +135,21 @@ fn act_fork(
     a: u16,
     next: &mut [u16; 1024],
     status: &mut [u8; 1024],
-    list: &mut [u16; 1024],
+    left: &mut [u16; 1024],
+    right: &mut [u16; 1024],
+    under: &mut [u16; 1024],
+    over: &mut [u16; 1024],
     totals: Totals,
     worker: Worker,
 ) -> Stepped
     requires { ⌜ At (now next) worker a ⌝ }
-    requires { ⌜ Rowed (now list) (totals .listed) ⌝ }
-    requires { ⌜ (length (now status) ≡ 1024) × (c < 1024) × (totals .listed < 1024) × (placeIn (worker .thread) (take (totals .listed) (now list)) < totals .listed) ⌝ }
-    ensures { λ r. ⌜ ((T : Table) (amounts : List ℕ) → partStepped (now (next .exit)) (now (status .exit)) amounts (now (list .exit)) r
-        ≡ actBy fork T 0 (worker .thread) a c (partState (now (next .entry)) (now (status .entry)) amounts (now (list .entry)) totals worker)) ⌝ }
-    ensures { λ r. ⌜ Rowed (now (list .exit)) (r .totals .listed) ⌝ }
+    requires { ⌜ (length (now status) ≡ 1024) × (c < 1024) ⌝ }
+    ensures { λ r. ⌜ ((T : Table) (amounts list : List ℕ) → partStepped (now (next .exit)) (now (status .exit)) amounts (leftOf c (worker .thread) list) r
+        ≡ actBy fork T 0 (worker .thread) a c (partState (now (next .entry)) (now (status .entry)) amounts list totals worker)) ⌝ }
+    ensures { λ r. ⌜ links (now (left .exit)) (now (right .exit)) (r .totals .leftmost)
+        ≡ linkLeft c (worker .thread) (links (now (left .entry)) (now (right .entry)) (totals .leftmost)) ⌝ }
+    ensures { λ r. ⌜ links (now (under .exit)) (now (over .exit)) (r .totals .first)
+        ≡ linkLeft c (worker .thread) (links (now (under .entry)) (now (over .entry)) (totals .first)) ⌝ }
 {
     let thread = worker.thread;
     let t = thread as usize;
@@ -146,14 +158,15 @@ fn act_fork(
     next[t] = a + 1;
     let freed = put_back(status, READY, worker);
     // "create child threads in place": "to the immediate left of their parent thread"
-    let len = totals.listed;
-    insert(list, len, c, thread);
+    let leftmost = link_left(left, right, totals.leftmost, c, thread);
+    let first = link_left(under, over, totals.first, c, thread);
     status[child] = READY;
     Stepped {
         reply: Reply::Done { thread, action: a },
         worker: freed,
         totals: Totals {
-            listed: len + 1,
+            leftmost,
+            first,
             held: totals.held,
             highest: totals.highest,
         },
@@ -166,6 +179,8 @@ fn act_join(
     next: &mut [u16; 1024],
     status: &mut [u8; 1024],
     amounts: &mut [u64; 1024],
+    under: &mut [u16; 1024],
+    over: &mut [u16; 1024],
     totals: Totals,
     worker: Worker,
 ) -> Stepped
@@ -173,6 +188,10 @@ fn act_join(
     requires { ⌜ (length (now status) ≡ 1024) × (c < 1024) × (getD (now amounts) (worker .thread) 0 + getD (now amounts) c 0 < 2 ^ 64) ⌝ }
     ensures { λ r. ⌜ ((T : Table) (list : List ℕ) → partStepped (now (next .exit)) (now (status .exit)) (now (amounts .exit)) list r
         ≡ actBy join T 0 (worker .thread) a c (partState (now (next .entry)) (now (status .entry)) (now (amounts .entry)) list totals worker)) ⌝ }
+    ensures { λ r. ⌜ r .totals .leftmost ≡ totals .leftmost ⌝ }
+    ensures { λ r. ⌜ links (now (under .exit)) (now (over .exit)) (r .totals .first)
+        ≡ pick (eqb (getD (now (status .entry)) c 0) ended) (links (now (under .entry)) (now (over .entry)) (totals .first))
+        (unlinkOf (worker .thread) (links (now (under .entry)) (now (over .entry)) (totals .first))) ⌝ }
 {
     let thread = worker.thread;
     let t = thread as usize;
@@ -187,12 +206,18 @@ fn act_join(
             totals,
         };
     }
-    // suspends: "insert T into R in its original position", and no more
+    // suspends: "insert T into R in its original position", and no more; the second list has no thread that waits
     let freed = put_back(status, WAITING, worker);
+    let first = unlink(under, over, totals.first, thread);
     Stepped {
         reply: Reply::Wait { thread, child: c },
         worker: freed,
-        totals,
+        totals: Totals {
+            leftmost: totals.leftmost,
+            first,
+            held: totals.held,
+            highest: totals.highest,
+        },
     }
 }
 
@@ -203,22 +228,50 @@ fn wide(x: u16) -> usize
     x as usize
 }
 
-// The parent u becomes ready if it waits for child t.
-fn wake(table: &[u8], n: usize, next: &[u16; 1024], status: &mut [u8; 1024], u: usize, t: usize)
+// Whether the parent u waits for child t; if so it becomes ready.
+fn wake(
+    table: &[u8],
+    n: usize,
+    next: &[u16; 1024],
+    status: &mut [u8; 1024],
+    u: usize,
+    t: usize,
+) -> bool
     requires { ⌜ Wakes (now table) n (now status) u ⌝ }
-    ensures { λ _. ⌜ now (status .exit) ≡ wokenStatus (tableOf (now (table .entry))) (now (next .entry)) (now (status .entry)) u t ⌝ }
+    ensures { λ r. ⌜ (r ≡ waitsIn (tableOf (now (table .entry))) (now (next .entry)) (now (status .entry)) u t)
+        × (now (status .exit) ≡ pick r (set (now (status .entry)) u ready) (now (status .entry))) ⌝ }
 {
     if status[u] != WAITING {
-        return;
+        return false;
     }
     let a = wide(next[u]);
     if code(table, n, a) != JOIN {
-        return;
+        return false;
     }
     if argument(table, n, a) != t {
-        return;
+        return false;
     }
     status[u] = READY;
+    true
+}
+
+// The second list after the end of t: the parent u, if it was woken, comes in its place. Its leftmost thread.
+fn leave(
+    under: &mut [u16; 1024],
+    over: &mut [u16; 1024],
+    first: u16,
+    woken: bool,
+    u: u16,
+    t: u16,
+) -> u16
+    ensures { λ r. ⌜ links (now (under .exit)) (now (over .exit)) r
+        ≡ unlinkOf t (pick woken (linkLeft u t (links (now (under .entry)) (now (over .entry)) first)) (links (now (under .entry)) (now (over .entry)) first)) ⌝ }
+{
+    if woken {
+        let before = link_left(under, over, first, u, t);
+        return unlink(under, over, before, t);
+    }
+    unlink(under, over, first, t)
 }
 
 fn act_end(
@@ -228,34 +281,43 @@ fn act_end(
     a: u16,
     next: &[u16; 1024],
     status: &mut [u8; 1024],
-    list: &mut [u16; 1024],
+    left: &mut [u16; 1024],
+    right: &mut [u16; 1024],
+    under: &mut [u16; 1024],
+    over: &mut [u16; 1024],
     totals: Totals,
     worker: Worker,
 ) -> Stepped
     requires { ⌜ At (now next) worker a ⌝ }
-    requires { ⌜ Rowed (now list) (totals .listed) ⌝ }
     requires { ⌜ Parents (tableOf (now table)) (now parents) ⌝ }
-    requires { ⌜ (worker .thread < tableOf (now table) .threads) × (placeIn (worker .thread) (take (totals .listed) (now list)) < totals .listed) ⌝ }
+    requires { ⌜ worker .thread < tableOf (now table) .threads ⌝ }
     requires { ⌜ Wakes (now table) n (now status) (getD (now parents) (worker .thread) 0) ⌝ }
-    ensures { λ r. ⌜ ((x : ℕ) (amounts : List ℕ) → partStepped (now (next .entry)) (now (status .exit)) amounts (now (list .exit)) r
-        ≡ actBy end (tableOf (now (table .entry))) 0 (worker .thread) a x (partState (now (next .entry)) (now (status .entry)) amounts (now (list .entry)) totals worker)) ⌝ }
-    ensures { λ r. ⌜ Rowed (now (list .exit)) (r .totals .listed) ⌝ }
+    ensures { λ r. ⌜ ((x : ℕ) (amounts list : List ℕ) → partStepped (now (next .entry)) (now (status .exit)) amounts (without (worker .thread) list) r
+        ≡ actBy end (tableOf (now (table .entry))) 0 (worker .thread) a x (partState (now (next .entry)) (now (status .entry)) amounts list totals worker)) ⌝ }
+    ensures { λ r. ⌜ links (now (left .exit)) (now (right .exit)) (r .totals .leftmost)
+        ≡ unlinkOf (worker .thread) (links (now (left .entry)) (now (right .entry)) (totals .leftmost)) ⌝ }
+    ensures { λ r. ⌜ (let T : Table = tableOf (now (table .entry)) in
+        let t : ℕ = worker .thread in
+        let k = links (now (under .entry)) (now (over .entry)) (totals .first) in
+        links (now (under .exit)) (now (over .exit)) (r .totals .first)
+        ≡ unlinkOf t (pick (waitsIn T (now (next .entry)) (set (now (status .entry)) t ended) (parentOf T t) t) (linkLeft (parentOf T t) t k) k)) ⌝ }
 {
     let thread = worker.thread;
     let t = thread as usize;
     // "insert T into R in its original position"; "if (T has terminated)"
     let freed = put_back(status, ENDED, worker);
     // "the parent T' of T is suspended": "reactivate T'"
-    let u = parents[t] as usize;
-    wake(table, n, next, status, u, t);
+    let u = parents[t];
+    let woken = wake(table, n, next, status, u as usize, t);
     // "delete T from R"
-    let len = totals.listed;
-    remove(list, len, thread);
+    let leftmost = unlink(left, right, totals.leftmost, thread);
+    let first = leave(under, over, totals.first, woken, u, thread);
     Stepped {
         reply: Reply::Done { thread, action: a },
         worker: freed,
         totals: Totals {
-            listed: len - 1,
+            leftmost,
+            first,
             held: totals.held,
             highest: totals.highest,
         },
@@ -271,16 +333,19 @@ pub(crate) fn act(
     next: &mut [u16; 1024],
     status: &mut [u8; 1024],
     amounts: &mut [u64; 1024],
-    list: &mut [u16; 1024],
+    left: &mut [u16; 1024],
+    right: &mut [u16; 1024],
+    under: &mut [u16; 1024],
+    over: &mut [u16; 1024],
     totals: Totals,
     worker: Worker,
 ) -> Stepped
-    requires { ⌜ Sits (now table) n quota (now next) (now status) (now amounts) (now list) totals worker ⌝ }
+    requires { ⌜ Sits (now table) n quota (arrays (now next) (now status) (now amounts) (now left) (now right) (now under) (now over)) totals worker ⌝ }
     requires { ⌜ Parents (tableOf (now table)) (now parents) ⌝ }
     requires { ⌜ worker .holds ≡ true ⌝ }
-    ensures { λ r. ⌜ partStepped (now (next .exit)) (now (status .exit)) (now (amounts .exit)) (now (list .exit)) r
-        ≡ actOf (tableOf (now (table .entry))) 0 (partState (now (next .entry)) (now (status .entry)) (now (amounts .entry)) (now (list .entry)) totals worker) ⌝ }
-    ensures { λ r. ⌜ Rowed (now (list .exit)) (r .totals .listed) ⌝ }
+    ensures { λ r. ⌜ Acted (tableOf (now (table .entry)))
+        (arrays (now (next .entry)) (now (status .entry)) (now (amounts .entry)) (now (left .entry)) (now (right .entry)) (now (under .entry)) (now (over .entry))) totals worker
+        (arrays (now (next .exit)) (now (status .exit)) (now (amounts .exit)) (now (left .exit)) (now (right .exit)) (now (under .exit)) (now (over .exit))) r ⌝ }
 {
     let thread = worker.thread;
     let t = thread as usize;
@@ -289,7 +354,20 @@ pub(crate) fn act(
     let k = code(table, n, at);
     let x = argument(table, n, at);
     match k {
-        0 => act_end(table, n, parents, a, next, status, list, totals, worker),
+        0 => act_end(
+            table,
+            n,
+            parents,
+            a,
+            next,
+            status,
+            left,
+            right,
+            under,
+            over,
+            totals,
+            worker,
+        ),
         1 => {
             next[t] = a + 1;
             Stepped {
@@ -300,8 +378,29 @@ pub(crate) fn act(
         }
         2 => act_alloc(x as u32, a, next, status, amounts, totals, worker),
         3 => act_free(x as u32, a, next, amounts, totals, worker),
-        4 => act_fork(x as u16, a, next, status, list, totals, worker),
-        5 => act_join(x as u16, a, next, status, amounts, totals, worker),
+        4 => act_fork(
+            x as u16,
+            a,
+            next,
+            status,
+            left,
+            right,
+            under,
+            over,
+            totals,
+            worker,
+        ),
+        5 => act_join(
+            x as u16,
+            a,
+            next,
+            status,
+            amounts,
+            under,
+            over,
+            totals,
+            worker,
+        ),
         _ => Stepped {
             reply: Reply::Idle,
             worker,

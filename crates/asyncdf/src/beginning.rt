@@ -1,4 +1,5 @@
 // The record of an accepted beginning, and the blank one.
+use links::NO_THREAD;
 use schedule::Run;
 use schedule::Worker;
 use table::read::first;
@@ -7,7 +8,8 @@ ghost use Prim.Native.Nat.{_≤_};
 ghost use lib.ListN.{length, replicate};
 ghost use Rattle.table.specs.Format.{tableOf};
 ghost use Rattle.schedule.specs.Record.{blank as blankRun, filled};
-ghost use Rattle.schedule.specs.Begin.{firsts, startRun};
+ghost use Rattle.schedule.specs.Begin.{startRun};
+ghost use Rattle.schedule.specs.Firsts.{firsts};
 ghost use Rattle.soundness.specs.Checks.{Accepted};
 
 const NOBODY: Worker = Worker {
@@ -27,8 +29,9 @@ pub(crate) fn blank() -> Run
         next: [0; 1024],
         status: [0; 1024],
         amounts: [0; 1024],
-        list: [0; 1024],
-        listed: 0,
+        left: [0; 1024],
+        right: [0; 1024],
+        leftmost: 0,
         worker: [NOBODY; 16],
         busy: 0,
         held: 0,
@@ -81,8 +84,9 @@ pub(crate) fn start(bytes: &[u8], n: usize, p: u8, quota: u32) -> Run
         next,
         status,
         amounts: [0; 1024],
-        list: [0; 1024],
-        listed: 1,
+        left: [NO_THREAD; 1024],
+        right: [NO_THREAD; 1024],
+        leftmost: 0,
         worker: [NOBODY; 16],
         busy: 0,
         held: 0,

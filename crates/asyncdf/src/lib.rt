@@ -8,6 +8,8 @@ use crate::turns::put_turns;
 use chart::MOST_TURNS;
 use chart::put_line;
 use lines::put_refused;
+use links::NO_THREAD;
+use links::seek;
 use schedule::Beginning;
 use schedule::Begun;
 use schedule::Ran;
@@ -15,6 +17,7 @@ use schedule::Report;
 use schedule::Run;
 use schedule::Turned;
 use schedule::Turning;
+use schedule::Worker;
 use schedule::statuses::ENDED;
 use soundness::begin_fault;
 use soundness::test;
@@ -32,6 +35,7 @@ ghost use Rattle.schedule.specs.Answers.{beginningValues, turningValues, report
 ghost use Rattle.schedule.specs.Values.{beginValues, turnValues, listValues, roundsValues};
 ghost use Rattle.schedule.specs.Begin.{begin as beginOf};
 ghost use Rattle.schedule.specs.Machine.{workerOf};
+ghost use Rattle.schedule.specs.Links.{seek as seekOf};
 ghost use Rattle.schedule.specs.Record.{stateOf};
 ghost use Rattle.schedule.specs.Sound.{Steady, countBelow};
 ghost use Rattle.schedule.specs.Turn.{turned as turnedOf};
@@ -40,10 +44,10 @@ ghost use Rattle.schedule.specs.Runs.{listRun, roundsRun};
 ghost use Rattle.lines.specs.Lines.{textsOf};
 ghost use Rattle.lines.specs.Puts.{Puts};
 ghost use Rattle.chart.specs.Turns.{chartTurns};
+ghost use Rattle.asyncdf.specs.Drives.{passedAlong};
 
 mod act;
 mod beginning;
-mod list;
 mod release;
 mod runs;
 mod step;
@@ -83,6 +87,21 @@ fn refused(number: u8, run: Run) -> Turned
     }
 }
 
+// How many threads stand left of the leftmost ready one, which a worker that holds nothing takes (N7: "The search .. also says"); 0 where it takes none.
+fn passed_over(worker: Worker, status: &[u8; 1024], right: &[u16; 1024], leftmost: u16) -> u16
+    ensures { λ r. ⌜ r ≡ passedAlong (worker .holds) (seekOf 1024 (now (status .entry)) (now (right .entry)) leftmost) ⌝ }
+{
+    if worker.holds {
+        return 0;
+    }
+    let found = seek(status, right, leftmost);
+    if found.thread < NO_THREAD {
+        found.passed
+    } else {
+        0
+    }
+}
+
 // A single turn of worker w: 32, 30, 31, or the reply, how many threads stood left of one that it took, and the record after.
 pub fn turn(run: Run, w: u8) -> Turned
     ensures { λ r. ⌜ r ≡ turnedOf run w ⌝ }
@@ -100,12 +119,15 @@ pub fn turn(run: Run, w: u8) -> Turned
         return refused(31, run);
     }
     let parents = tested.parents;
+    let workers = run.worker;
+    let right = run.right;
+    let passed = passed_over(workers[w as usize], &status, &right, run.leftmost);
     let order = [w];
     let driven = drive(run, &parents, &order, false, 1);
     let reply = driven.reply;
     let after = driven.run;
     Turned {
-        answer: Turning::Taken(reply, driven.passed),
+        answer: Turning::Taken(reply, passed),
         run: after,
     }
 }

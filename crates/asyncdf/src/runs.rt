@@ -1,6 +1,7 @@
 // Runs over a list of workers and in rounds. The record's arrays are copied once; the turns work on them in place.
 use crate::act::Totals;
 use crate::step::step;
+use links::fill_actives;
 use schedule::Reply;
 use schedule::Report;
 use schedule::Run;
@@ -10,6 +11,7 @@ use table::Refusal;
 use table::read::count;
 use table::read::threads;
 ghost use mathlib.Core.Path.{_≡_};
+ghost use mathlib.Core.List.{List};
 ghost use Prim.Native.Nat.{ℕ, _+_, _-_, _^_, _<_};
 ghost use Rattle.table.specs.Format.{tableOf};
 ghost use Rattle.table.specs.Pass.{refusal};
@@ -20,7 +22,7 @@ ghost use Rattle.schedule.specs.declared.Report.the-variants.{Refused};
 ghost use Rattle.schedule.specs.Record.{tableIn};
 ghost use Rattle.schedule.specs.Sound.{Steady};
 ghost use Rattle.soundness.specs.Checks.{Parents};
-ghost use Rattle.asyncdf.specs.Parts.{Sits};
+ghost use Rattle.asyncdf.specs.Parts.{arrays, Sits};
 ghost use Rattle.asyncdf.specs.Drives.{who, busyAfter, Sequence, Bit, Moving, Took, Stands, Driven, movedOf, packedOf};
 
 // What a loop of turns moves besides the arrays and the workers' records.
@@ -30,10 +32,9 @@ pub(crate) struct Moved {
     pub(crate) turns: u64,
 }
 
-// What a turn in a loop leaves, and how many threads it passed over.
+// What a turn in a loop leaves.
 pub(crate) struct Taken {
     pub(crate) reply: Reply,
-    pub(crate) passed: u16,
     pub(crate) worker: Worker,
     pub(crate) moved: Moved,
 }
@@ -46,14 +47,15 @@ pub(crate) fn root_end(table: &[u8]) -> usize
     count(table, 0) - 1
 }
 
-// A record's own.
-pub(crate) fn moved_in(run: Run) -> Moved
-    ensures { λ r. ⌜ r ≡ movedOf run ⌝ }
+// A record's own; the second list begins with the thread given.
+pub(crate) fn moved_in(run: Run, first: u16) -> Moved
+    ensures { λ r. ⌜ r ≡ movedOf run first ⌝ }
 {
     Moved {
         busy: run.busy,
         totals: Totals {
-            listed: run.listed as usize,
+            leftmost: run.leftmost,
+            first,
             held: run.held,
             highest: run.highest,
         },
@@ -91,19 +93,23 @@ pub(crate) fn take_turn(
     next: &mut [u16; 1024],
     status: &mut [u8; 1024],
     amounts: &mut [u64; 1024],
-    list: &mut [u16; 1024],
+    left: &mut [u16; 1024],
+    right: &mut [u16; 1024],
+    under: &mut [u16; 1024],
+    over: &mut [u16; 1024],
     moved: Moved,
     worker: Worker,
     w: usize,
 ) -> Taken
-    requires { ⌜ Sits (now table) n quota (now next) (now status) (now amounts) (now list) (moved .totals) worker ⌝ }
+    requires { ⌜ Sits (now table) n quota (arrays (now next) (now status) (now amounts) (now left) (now right) (now under) (now over)) (moved .totals) worker ⌝ }
     requires { ⌜ Parents (tableOf (now table)) (now parents) ⌝ }
     requires { ⌜ (Bit (moved .busy) (worker .holds) w) × (moved .turns < 2 ^ 64 - 1) ⌝ }
-    ensures { λ r. ⌜ Took (tableOf (now (table .entry))) quota w (now (next .entry)) (now (status .entry)) (now (amounts .entry)) (now (list .entry)) moved worker
-        (now (next .exit)) (now (status .exit)) (now (amounts .exit)) (now (list .exit)) r ⌝ }
+    ensures { λ r. ⌜ Took (tableOf (now (table .entry))) quota w
+        (arrays (now (next .entry)) (now (status .entry)) (now (amounts .entry)) (now (left .entry)) (now (right .entry)) (now (under .entry)) (now (over .entry))) moved worker
+        (arrays (now (next .exit)) (now (status .exit)) (now (amounts .exit)) (now (left .exit)) (now (right .exit)) (now (under .exit)) (now (over .exit))) r ⌝ }
 {
     let totals = moved.totals;
-    let s = step(
+    let stepped = step(
         table,
         n,
         parents,
@@ -111,17 +117,18 @@ pub(crate) fn take_turn(
         next,
         status,
         amounts,
-        list,
+        left,
+        right,
+        under,
+        over,
         totals,
         worker,
     );
-    let stepped = s.stepped;
     let reply = stepped.reply;
     let after = stepped.worker;
     let totals = stepped.totals;
     Taken {
         reply,
-        passed: s.passed,
         worker: after,
         moved: Moved {
             busy: busy_after(moved.busy, worker, after, w),
@@ -137,12 +144,12 @@ fn packed(
     next: [u16; 1024],
     status: [u8; 1024],
     amounts: [u64; 1024],
-    list: [u16; 1024],
+    left: [u16; 1024],
+    right: [u16; 1024],
     worker: [Worker; 16],
     moved: Moved,
 ) -> Run
-    requires { ⌜ moved .totals .listed < 65536 ⌝ }
-    ensures { λ r. ⌜ r ≡ packedOf run next status amounts list worker moved ⌝ }
+    ensures { λ r. ⌜ ((under over : List ℕ) → r ≡ packedOf run (arrays next status amounts left right under over) worker moved) ⌝ }
 {
     let table = run.table;
     Run {
@@ -153,8 +160,9 @@ fn packed(
         next,
         status,
         amounts,
-        list,
-        listed: moved.totals.listed as u16,
+        left,
+        right,
+        leftmost: moved.totals.leftmost,
         worker,
         busy: moved.busy,
         held: moved.totals.held,
@@ -170,11 +178,10 @@ pub(crate) fn stopped(number: u8, i: usize) -> Report
     Report::Refused(i as u64, Refusal { number, place: 0 })
 }
 
-// Where the turns of a run stopped: its report, the reply of its last turn and how many threads it passed over (idle and 0 where it took none), the workers and what was moved.
+// Where the turns of a run stopped: its report, the reply of its last turn (idle where it took none), the workers and what was moved.
 pub(crate) struct Stop {
     pub(crate) report: Report,
     pub(crate) reply: Reply,
-    pub(crate) passed: u16,
     pub(crate) workers: [Worker; 16],
     pub(crate) moved: Moved,
 }
@@ -190,25 +197,26 @@ fn take_turns(
     next: &mut [u16; 1024],
     status: &mut [u8; 1024],
     amounts: &mut [u64; 1024],
-    list: &mut [u16; 1024],
+    left: &mut [u16; 1024],
+    right: &mut [u16; 1024],
+    under: &mut [u16; 1024],
+    over: &mut [u16; 1024],
     start: [Worker; 16],
     from: Moved,
     order: &[u8],
     rounds: bool,
     limit: usize,
 ) -> Stop
-    requires { ⌜ Stands (now table) n last p quota (now parents) (now next) (now status) (now amounts) (now list) start from ⌝ }
+    requires { ⌜ Stands (now table) n last p quota (now parents) (arrays (now next) (now status) (now amounts) (now left) (now right) (now under) (now over)) start from ⌝ }
     requires { ⌜ ((i : ℕ) → i < limit → Sequence (now order) rounds p i) ⌝ }
     ensures { λ r. ⌜ ((run : RunRecord)
-        → Moving run (now (table .entry)) n last p quota (now (parents .entry)) (now (next .entry)) (now (status .entry)) (now (amounts .entry)) (now (list .entry)) start from
-        → Driven (who (now (order .entry)) rounds p) limit (packedOf run (now (next .entry)) (now (status .entry)) (now (amounts .entry)) (now (list .entry)) start from)
-        (r .report) (r .reply) (r .passed) (packedOf run (now (next .exit)) (now (status .exit)) (now (amounts .exit)) (now (list .exit)) (r .workers) (r .moved))) ⌝ }
-    ensures { λ r. ⌜ r .moved .totals .listed < 65536 ⌝ }
+        → Moving run (now (table .entry)) n last p quota (now (parents .entry)) (arrays (now (next .entry)) (now (status .entry)) (now (amounts .entry)) (now (left .entry)) (now (right .entry)) (now (under .entry)) (now (over .entry))) start from
+        → Driven (who (now (order .entry)) rounds p) limit (packedOf run (arrays (now (next .entry)) (now (status .entry)) (now (amounts .entry)) (now (left .entry)) (now (right .entry)) (now (under .entry)) (now (over .entry))) start from)
+        (r .report) (r .reply) (packedOf run (arrays (now (next .exit)) (now (status .exit)) (now (amounts .exit)) (now (left .exit)) (now (right .exit)) (now (under .exit)) (now (over .exit))) (r .workers) (r .moved))) ⌝ }
 {
     let mut workers = start;
     let mut moved = from;
     let mut reply = Reply::Idle;
-    let mut passed = 0;
     let mut i = 0;
     while i < limit {
         let w = worker_of(order, rounds, p, i);
@@ -217,7 +225,6 @@ fn take_turns(
             return Stop {
                 report,
                 reply,
-                passed,
                 workers,
                 moved,
             };
@@ -227,7 +234,6 @@ fn take_turns(
             return Stop {
                 report,
                 reply,
-                passed,
                 workers,
                 moved,
             };
@@ -241,7 +247,10 @@ fn take_turns(
             next,
             status,
             amounts,
-            list,
+            left,
+            right,
+            under,
+            over,
             moved,
             worker,
             w,
@@ -250,7 +259,6 @@ fn take_turns(
         workers[w] = after;
         moved = t.moved;
         reply = t.reply;
-        passed = t.passed;
         i += 1;
         let Reply::Done { thread: _, action } = reply else {
             continue;
@@ -260,7 +268,6 @@ fn take_turns(
             return Stop {
                 report,
                 reply,
-                passed,
                 workers,
                 moved,
             };
@@ -270,7 +277,6 @@ fn take_turns(
     Stop {
         report,
         reply,
-        passed,
         workers,
         moved,
     }
@@ -280,7 +286,6 @@ fn take_turns(
 pub(crate) struct Outcome {
     pub(crate) report: Report,
     pub(crate) reply: Reply,
-    pub(crate) passed: u16,
     pub(crate) run: Run,
 }
 
@@ -295,7 +300,7 @@ pub(crate) fn drive(
     requires { ⌜ Steady run ⌝ }
     requires { ⌜ Parents (tableIn run) (now parents) ⌝ }
     requires { ⌜ ((i : ℕ) → i < limit → Sequence (now order) rounds (run .workers) i) ⌝ }
-    ensures { λ r. ⌜ Driven (who (now (order .entry)) rounds (run .workers)) limit run (r .report) (r .reply) (r .passed) (r .run) ⌝ }
+    ensures { λ r. ⌜ Driven (who (now (order .entry)) rounds (run .workers)) limit run (r .report) (r .reply) (r .run) ⌝ }
 {
     let length = run.length as usize;
     let table = run.table;
@@ -303,12 +308,12 @@ pub(crate) fn drive(
     let mut next = run.next;
     let mut status = run.status;
     let mut amounts = run.amounts;
-    let mut list = run.list;
+    let mut left = run.left;
+    let mut right = run.right;
     if status[0] == ENDED {
         return Outcome {
             report: Report::Finished(0),
             reply: Reply::Idle,
-            passed: 0,
             run,
         };
     }
@@ -316,6 +321,9 @@ pub(crate) fn drive(
     let last = root_end(bytes);
     let p = run.workers as usize;
     let start = run.worker;
+    let mut under = [0u16; 1024];
+    let mut over = [0u16; 1024];
+    let first = fill_actives(&status, &right, run.leftmost, &mut under, &mut over);
     let stop = take_turns(
         bytes,
         n,
@@ -326,9 +334,12 @@ pub(crate) fn drive(
         &mut next,
         &mut status,
         &mut amounts,
-        &mut list,
+        &mut left,
+        &mut right,
+        &mut under,
+        &mut over,
         start,
-        moved_in(run),
+        moved_in(run, first),
         order,
         rounds,
         limit,
@@ -340,7 +351,6 @@ pub(crate) fn drive(
     Outcome {
         report,
         reply,
-        passed: stop.passed,
-        run: packed(run, next, status, amounts, list, workers, moved),
+        run: packed(run, next, status, amounts, left, right, workers, moved),
     }
 }

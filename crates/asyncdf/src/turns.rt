@@ -8,6 +8,7 @@ use chart::put_line;
 use lines::put_last;
 use lines::put_refused;
 use lines::put_turn;
+use links::fill_actives;
 use schedule::Reply;
 use schedule::Run;
 use schedule::Worker;
@@ -27,6 +28,7 @@ ghost use Rattle.lines.specs.Lines.{turnTexts};
 ghost use Rattle.lines.specs.Puts.{Puts};
 ghost use Rattle.chart.specs.Chart.{shownOf, mostTurns};
 ghost use Rattle.soundness.specs.Checks.{Parents};
+ghost use Rattle.asyncdf.specs.Parts.{arrays};
 ghost use Rattle.asyncdf.specs.Drives.{Moving, Stands, packedOf};
 ghost use Rattle.asyncdf.specs.Sheets.{turnsTexts, widest, afterTexts, afterSize, overTexts, hindered};
 
@@ -156,19 +158,22 @@ fn put_each(
     next: &mut [u16; 1024],
     status: &mut [u8; 1024],
     amounts: &mut [u64; 1024],
-    list: &mut [u16; 1024],
+    left: &mut [u16; 1024],
+    right: &mut [u16; 1024],
+    under: &mut [u16; 1024],
+    over: &mut [u16; 1024],
     start: [Worker; 16],
     from: Moved,
     order: &[u8],
     out: &mut [u8],
     at: usize,
 ) -> usize
-    requires { ⌜ Stands (now table) n last p quota (now parents) (now next) (now status) (now amounts) (now list) start from ⌝ }
+    requires { ⌜ Stands (now table) n last p quota (now parents) (arrays (now next) (now status) (now amounts) (now left) (now right) (now under) (now over)) start from ⌝ }
     requires { ⌜ (chart ≡ true → from .turns ≤ mostTurns) ⌝ }
     ensures { λ r. ⌜ ((run : RunRecord)
-        → Moving run (now (table .entry)) n last p quota (now (parents .entry)) (now (next .entry)) (now (status .entry)) (now (amounts .entry)) (now (list .entry)) start from
+        → Moving run (now (table .entry)) n last p quota (now (parents .entry)) (arrays (now (next .entry)) (now (status .entry)) (now (amounts .entry)) (now (left .entry)) (now (right .entry)) (now (under .entry)) (now (over .entry))) start from
         → Puts (now (out .entry)) at (now (out .exit)) r
-        (turnsTexts chart (packedOf run (now (next .entry)) (now (status .entry)) (now (amounts .entry)) (now (list .entry)) start from) (now (order .entry)))
+        (turnsTexts chart (packedOf run (arrays (now (next .entry)) (now (status .entry)) (now (amounts .entry)) (now (left .entry)) (now (right .entry)) (now (under .entry)) (now (over .entry))) start from) (now (order .entry)))
         (widest chart * (length (now (order .entry)) + 1))) ⌝ }
 {
     let mut workers = start;
@@ -191,7 +196,10 @@ fn put_each(
             next,
             status,
             amounts,
-            list,
+            left,
+            right,
+            under,
+            over,
             moved,
             worker,
             k,
@@ -254,7 +262,11 @@ pub(crate) fn put_turns(
     let bytes = &table[..length];
     let mut next = run.next;
     let mut amounts = run.amounts;
-    let mut list = run.list;
+    let mut left = run.left;
+    let mut right = run.right;
+    let mut under = [0u16; 1024];
+    let mut over = [0u16; 1024];
+    let first = fill_actives(&status, &right, run.leftmost, &mut under, &mut over);
     let start = run.worker;
     put_each(
         chart,
@@ -267,9 +279,12 @@ pub(crate) fn put_turns(
         &mut next,
         &mut status,
         &mut amounts,
-        &mut list,
+        &mut left,
+        &mut right,
+        &mut under,
+        &mut over,
         start,
-        moved_in(run),
+        moved_in(run, first),
         order,
         out,
         at,

@@ -60,7 +60,9 @@ fn turn_once(run: Run, total: u64) -> u64 {
     let turned = asyncdf::turn(run, w);
     let answer = turned.answer;
     match answer {
-        Turning::Taken(reply, _) => reply_value(reply),
+        Turning::Taken(reply, passed) => {
+            std::num::wrapping_add_u64(reply_value(reply), passed as u64)
+        }
         Turning::Refused(refusal) => refusal.number as u64,
     }
 }

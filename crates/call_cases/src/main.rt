@@ -118,9 +118,9 @@ fn mix_byte(sum: u64, x: u8) -> u64 {
     mix(sum, x as u64)
 }
 
-fn mix_thread(before: u64, next: u16, status: u8, amount: u64, listed: u16) -> u64 {
+fn mix_thread(before: u64, next: u16, status: u8, amount: u64, left: u16, right: u16) -> u64 {
     let sum = mix(mix(before, next as u64), status as u64);
-    mix(mix(sum, amount), listed as u64)
+    mix(mix(mix(sum, amount), left as u64), right as u64)
 }
 
 fn mix_table(before: u64, table: &[u8; 36868]) -> u64 {
@@ -138,12 +138,13 @@ fn mix_threads(
     next: &[u16; 1024],
     status: &[u8; 1024],
     amounts: &[u64; 1024],
-    list: &[u16; 1024],
+    left: &[u16; 1024],
+    right: &[u16; 1024],
 ) -> u64 {
     let mut sum = before;
     let mut t = 0;
     while t < 1024 {
-        sum = mix_thread(sum, next[t], status[t], amounts[t], list[t]);
+        sum = mix_thread(sum, next[t], status[t], amounts[t], left[t], right[t]);
         t += 1;
     }
     sum
@@ -170,13 +171,14 @@ fn mix_run(run: Run) -> u64 {
     let next = run.next;
     let status = run.status;
     let amounts = run.amounts;
-    let list = run.list;
+    let left = run.left;
+    let right = run.right;
     let workers = run.worker;
     let sum = mix_table(0, &table);
-    let sum = mix_threads(sum, &next, &status, &amounts, &list);
+    let sum = mix_threads(sum, &next, &status, &amounts, &left, &right);
     let sum = mix_workers(sum, workers);
     let sum = mix(mix(sum, run.length as u64), run.workers as u64);
-    let sum = mix(mix(sum, run.quota as u64), run.listed as u64);
+    let sum = mix(mix(sum, run.quota as u64), run.leftmost as u64);
     let sum = mix(mix(sum, run.busy as u64), run.held);
     mix(mix(sum, run.highest), run.turns)
 }
@@ -209,12 +211,12 @@ fn put_worker(run: Run, field: u8, w: usize, x: u64) -> Run {
     if w < 16 {
         let before = workers[w];
         workers[w] = match field {
-            13 => Worker {
+            14 => Worker {
                 holds: x != 0,
                 thread: before.thread,
                 quota: before.quota,
             },
-            14 => Worker {
+            15 => Worker {
                 holds: before.holds,
                 thread: word_of(x),
                 quota: before.quota,
@@ -234,20 +236,23 @@ fn put_thread(run: Run, field: u8, i: usize, x: u64) -> Run {
     let mut changed = run;
     let mut next = run.next;
     let mut status = run.status;
-    let mut list = run.list;
     let mut amounts = run.amounts;
+    let mut left = run.left;
+    let mut right = run.right;
     if i < 1024 {
         match field {
             9 => next[i] = word_of(x),
             10 => status[i] = byte_of(x),
-            11 => list[i] = word_of(x),
-            _ => amounts[i] = x,
+            11 => amounts[i] = x,
+            12 => left[i] = word_of(x),
+            _ => right[i] = word_of(x),
         }
     }
     changed.next = next;
     changed.status = status;
-    changed.list = list;
     changed.amounts = amounts;
+    changed.left = left;
+    changed.right = right;
     changed
 }
 
@@ -267,13 +272,13 @@ fn put(run: Run, field: u8, i: usize, x: u64) -> Run {
         0 => changed.length = word_of(x),
         1 => changed.workers = byte_of(x),
         2 => changed.quota = quota_of(x),
-        3 => changed.listed = word_of(x),
+        3 => changed.leftmost = word_of(x),
         4 => changed.busy = word_of(x),
         5 => changed.held = x,
         6 => changed.highest = x,
         7 => changed.turns = x,
         8 => return put_table(run, i, x),
-        9..=12 => return put_thread(run, field, i, x),
+        9..=13 => return put_thread(run, field, i, x),
         _ => return put_worker(run, field, i, x),
     }
     changed

@@ -10,7 +10,7 @@ use lib.ListN.{length, getD, set, drop, replicate, length-set}
 use lib.Seq.{drop-cons, drop-length, getD-set-same, getD-set-other, ext-getD}
 use borrow.Author.Tests.{eq-eqb, ne-eqb}
 use Rattle.table.specs.Sum.{pick}
-use Rattle.schedule.specs.Begin.{firsts}
+use Rattle.schedule.specs.Firsts.{firsts}
 use Rattle.schedule.specs.Links.{noThread, firstOf, rightIn, leftAfter, laid}
 use Rattle.schedule.proofs.Lists.{firsts-length, firsts-at}
 use Rattle.links.specs.Steps.{leftThere}

@@ -1,4 +1,5 @@
 pub mod Searching
+pub mod Filling
 pub mod Reading
 pub mod Laying
 pub mod Comparing

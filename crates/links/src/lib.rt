@@ -1,12 +1,14 @@
 // The list of threads as links, on lent arrays: read off, laid, compared, a thread put in and taken out, the leftmost ready thread sought. Every call is total: whatever the arrays
 // hold, it does what the definition says, and none needs the links to describe a list.
 use schedule::statuses::READY;
+use schedule::statuses::WAITING;
 ghost use mathlib.Core.Path.{_≡_};
 ghost use mathlib.Core.Bool.{_&&_};
 ghost use mathlib.Core.List.{_++_};
 ghost use Prim.Native.Nat.{_≤_};
 ghost use lib.ListN.{length, take, drop, getD, set, replicate};
-ghost use Rattle.schedule.specs.Links.{firstOf, laid, linkLeft, noThread, seek as seekOf, unlink as unlinkOf, walk};
+ghost use Rattle.schedule.specs.Links.{firstOf, laid, linkLast, linkLeft, noThread, seek as seekOf, unlink as unlinkOf, walk};
+ghost use Rattle.schedule.specs.Actives.{filledFrom, noLinks};
 ghost use Rattle.links.specs.Steps.{leftThere};
 ghost use Rattle.schedule.specs.Sound.{sameList};
 
@@ -45,9 +47,8 @@ pub fn link_left(
     c: u16,
     t: u16,
 ) -> u16
-    ensures { λ r. ⌜ now (left .exit) ≡ linkLeft c t (record { left = now (left .entry); right = now (right .entry); head = leftmost }) .left ⌝ }
-    ensures { λ r. ⌜ now (right .exit) ≡ linkLeft c t (record { left = now (left .entry); right = now (right .entry); head = leftmost }) .right ⌝ }
-    ensures { λ r. ⌜ r ≡ linkLeft c t (record { left = now (left .entry); right = now (right .entry); head = leftmost }) .head ⌝ }
+    ensures { λ r. ⌜ record { left = now (left .exit); right = now (right .exit); head = r }
+        ≡ linkLeft c t (record { left = now (left .entry); right = now (right .entry); head = leftmost }) ⌝ }
 {
     let x = neighbour(left, t);
     put(left, t, c);
@@ -59,9 +60,8 @@ pub fn link_left(
 
 // Takes t out. The leftmost thread then.
 pub fn unlink(left: &mut [u16; 1024], right: &mut [u16; 1024], leftmost: u16, t: u16) -> u16
-    ensures { λ r. ⌜ now (left .exit) ≡ unlinkOf t (record { left = now (left .entry); right = now (right .entry); head = leftmost }) .left ⌝ }
-    ensures { λ r. ⌜ now (right .exit) ≡ unlinkOf t (record { left = now (left .entry); right = now (right .entry); head = leftmost }) .right ⌝ }
-    ensures { λ r. ⌜ r ≡ unlinkOf t (record { left = now (left .entry); right = now (right .entry); head = leftmost }) .head ⌝ }
+    ensures { λ r. ⌜ record { left = now (left .exit); right = now (right .exit); head = r }
+        ≡ unlinkOf t (record { left = now (left .entry); right = now (right .entry); head = leftmost }) ⌝ }
 {
     let x = neighbour(left, t);
     let y = neighbour(right, t);
@@ -157,6 +157,48 @@ fn lay_threads(row: &[u16], left: &mut [u16; 1024], right: &mut [u16; 1024])
         put(right, t, x);
         put(left, t, thread_before(row, i));
     }
+}
+
+// Puts c at the right end, where y is the last thread. The leftmost thread then.
+fn link_last(left: &mut [u16; 1024], right: &mut [u16; 1024], leftmost: u16, c: u16, y: u16) -> u16
+    ensures { λ r. ⌜ record { left = now (left .exit); right = now (right .exit); head = r }
+        ≡ linkLast c y (record { left = now (left .entry); right = now (right .entry); head = leftmost }) ⌝ }
+{
+    put(left, c, y);
+    put(right, y, c);
+    put(right, c, NO_THREAD);
+    if y < NO_THREAD { leftmost } else { c }
+}
+
+// Fills the links of the second list, of the listed threads that do not wait, from the list's. Its leftmost thread.
+pub fn fill_actives(
+    status: &[u8; 1024],
+    right: &[u16; 1024],
+    leftmost: u16,
+    under: &mut [u16; 1024],
+    over: &mut [u16; 1024],
+) -> u16
+    ensures { λ r. ⌜ record { left = now (under .exit); right = now (over .exit); head = r }
+        ≡ filledFrom 1024 (now (status .entry)) (now (right .entry)) leftmost noThread noLinks ⌝ }
+{
+    clear(under);
+    clear(over);
+    let mut first = NO_THREAD;
+    let mut last = NO_THREAD;
+    let mut t = leftmost;
+    let mut passed: usize = 0;
+    while passed < 1024 {
+        if NO_THREAD <= t {
+            break;
+        }
+        if status[t as usize] != WAITING {
+            first = link_last(under, over, first, t, last);
+            last = t;
+        }
+        t = right[t as usize];
+        passed += 1;
+    }
+    first
 }
 
 // Lays the first len threads of a row into links. The leftmost thread.

@@ -16,7 +16,9 @@ use Rattle.table.specs.Cases.{E, twoAllocs, bytes16}
 use Rattle.text.specs.Text.{ascii, digitsOf, decimal, acceptedLine, refusedLine}
 use Rattle.schedule.specs.Machine.{leftOf, without, waitsFor, woken, actBy, act, leftmost, taken, turnFree, turnOf}
 use Rattle.schedule.specs.Record.{setOf}
-use Rattle.schedule.specs.Begin.{allocAbove, firsts, startState, startRun, begin}
+use Rattle.schedule.specs.Begin.{allocAbove, startState, startRun, begin}
+use Rattle.schedule.specs.Firsts.{firsts}
+use Rattle.schedule.specs.Links.{walk, rightIn}
 use Rattle.schedule.specs.Turn.{rootEnded, noWorker, stepRun}
 use Rattle.schedule.specs.Cases.{turnedSound, orderE, orderWait}
 use Rattle.lines.specs.Lines.{kindWord, toldTexts, turnTexts, lastTexts, linesThen}
@@ -151,7 +153,7 @@ abbrev pub Worked : (List ℕ → List ℕ) → List Case → Type 0
 Worked print l = map (λ (c : Case). print (c .input)) l ≡ map (λ (c : Case). c .text) l
 
 pub worked : Worked (listingBy turnedSound) cases × Worked (listingBy turnedSound) ownCases
-unfolding cases ownCases flatten inputWrong listedBy listingBy kindWord toldTexts turnTexts lastTexts linesThen acceptedLine refusedLine decimal digitsOf loaded factsOf sumTo sumOver greatest anyBelow codeOf kindOf is tableOf tryAt tryFrom tryPass firstFound entryWrong totalWrong ownerBelow kindUnknown argumentWrong endMisplaced forkedBelow forkedBefore openBefore joinNotLatest endWithOpen neverForked allocOf freeOf wholeWithin balance balanceBelow0 passes serialWithin fronts heldAfter peakOf S1 forkBelow forkOf beforeIt joinedEnd dependsOn levelWithin D leftOf without waitsFor woken actBy act leftmost taken turnFree turnOf setOf allocAbove firsts startState startRun begin rootEnded noWorker stepRun
+unfolding cases ownCases flatten inputWrong listedBy listingBy kindWord toldTexts turnTexts lastTexts linesThen acceptedLine refusedLine decimal digitsOf loaded factsOf sumTo sumOver greatest anyBelow codeOf kindOf is tableOf tryAt tryFrom tryPass firstFound entryWrong totalWrong ownerBelow kindUnknown argumentWrong endMisplaced forkedBelow forkedBefore openBefore joinNotLatest endWithOpen neverForked allocOf freeOf wholeWithin balance balanceBelow0 passes serialWithin fronts heldAfter peakOf S1 forkBelow forkOf beforeIt joinedEnd dependsOn levelWithin D leftOf without waitsFor woken actBy act leftmost taken turnFree turnOf setOf allocAbove firsts walk rightIn startState startRun begin rootEnded noWorker stepRun
 worked = (refl, refl)
 
 -- ---- the wall chart
@@ -203,5 +205,5 @@ abbrev pub always : Run → Charted
 always r = Written
 
 pub walls : Worked (wallBy always turnedSound) wallCases
-unfolding wallCases flatten inputWrong walledBy wallBy lineTexts cellsTexts cellTexts rightTexts cellsFrom refusedLine decimal digitsOf loaded factsOf sumTo sumOver greatest anyBelow codeOf kindOf is tableOf tryAt tryFrom tryPass firstFound entryWrong totalWrong ownerBelow kindUnknown argumentWrong endMisplaced forkedBelow forkedBefore openBefore joinNotLatest endWithOpen neverForked allocOf freeOf wholeWithin balance balanceBelow0 passes serialWithin fronts heldAfter peakOf S1 forkBelow forkOf beforeIt joinedEnd dependsOn levelWithin D leftOf without waitsFor woken actBy act leftmost taken turnFree turnOf setOf allocAbove firsts startState startRun begin rootEnded noWorker stepRun
+unfolding wallCases flatten inputWrong walledBy wallBy lineTexts cellsTexts cellTexts rightTexts cellsFrom refusedLine decimal digitsOf loaded factsOf sumTo sumOver greatest anyBelow codeOf kindOf is tableOf tryAt tryFrom tryPass firstFound entryWrong totalWrong ownerBelow kindUnknown argumentWrong endMisplaced forkedBelow forkedBefore openBefore joinNotLatest endWithOpen neverForked allocOf freeOf wholeWithin balance balanceBelow0 passes serialWithin fronts heldAfter peakOf S1 forkBelow forkOf beforeIt joinedEnd dependsOn levelWithin D leftOf without waitsFor woken actBy act leftmost taken turnFree turnOf setOf allocAbove firsts walk rightIn startState startRun begin rootEnded noWorker stepRun
 walls = refl

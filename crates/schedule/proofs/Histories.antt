@@ -26,20 +26,23 @@ use Rattle.schedule.specs.declared.Turning.the-variants.{Refused as refu
 use Rattle.schedule.specs.declared.Report.{Report}
 use Rattle.schedule.specs.declared.Report.the-variants.{Finished, Spent, Refused}
 use Rattle.schedule.specs.declared.Ran.{Ran}
-use Rattle.schedule.specs.Machine.{State, turnOf}
+use Rattle.schedule.specs.Machine.{State}
 use Rattle.schedule.specs.Record.{maxThreads, maxBytes, stateOf, tableIn, filled}
-use Rattle.schedule.specs.Begin.{begin, begunAs, beginPasses, firsts, startState, startRun}
+use Rattle.schedule.specs.Begin.{begin, begunAs, beginPasses, startState, startRun}
+use Rattle.schedule.specs.Firsts.{firsts}
+use Rattle.schedule.specs.Links.{walk, laid}
 use Rattle.schedule.specs.Sound.{SoundState, Steady, Sound}
 use Rattle.schedule.specs.Turn.{unsound, rootEnded, noWorker, turnChecks, stepRun, passedIn, turnedAs, turned}
 use Rattle.schedule.specs.Runs.{ran, moved, drive, listRun, roundsRun}
 use Rattle.schedule.specs.Calls.{Call, turn, overList, inRounds, turnsIn, turnRow, afterCall, afterCalls, rowOf, rowOfCalls}
 use Rattle.schedule.specs.Memory.{rowState}
+use Rattle.schedule.specs.RowList.{afterRow}
 use Rattle.schedule.proofs.Lawful.{Lawful, lawful}
-use Rattle.schedule.proofs.Facts.{sound-facts}
+use Rattle.schedule.proofs.Facts.{Facts, sound-facts}
 use Rattle.schedule.proofs.Starts.{start-facts}
 use Rattle.schedule.proofs.Rows.{rowState-append, front-workers}
 use Rattle.schedule.proofs.Lists.{filled-front, firsts-take}
-use Rattle.schedule.proofs.Stores.{Fits, begin-fits, stateOf-stored, moved-steady}
+use Rattle.schedule.proofs.Stores.{Fits, begin-fits, laid-back, moved-steady, moved-state}
 
 -- ---- what a beginning gives
 
@@ -82,16 +85,17 @@ unfolding startRun
 start-steady s p K h f =
     let T : Table = tableOf s in
     let q : take (length s) (filled maxBytes s) ≡ s = filled-front maxBytes s in
-    let d : SoundState T p K (startState T) = sound-facts T (lawful s h) p K (startState T) (start-facts T (lawful s h) p K) in
+    let g : Facts T p K (startState T) = start-facts T (lawful s h) p K in
+    let d : SoundState T p K (startState T) = sound-facts T (lawful s h) p K (startState T) g in
+    let back : walk maxThreads (laid (startState T .list) .right) (laid (startState T .list) .head) ≡ startState T .list = laid-back T (lawful s h) p K (startState T) g in
     record {
       table = rw q h;
       beginning = rw q f;
-      state = rw (q, filled-front maxThreads (startState T .list)) d;
+      state = rw (q, back) d;
       set = refl;
       table-length = ap length q;
-      list-length = ap length (filled-front maxThreads (startState T .list));
       table-rest = ap (filled maxBytes) (sym q);
-      list-rest = ap (filled maxThreads) (sym (filled-front maxThreads (startState T .list)));
+      links = ap laid (sym back);
     }
 
 start-turns : (s : List ℕ) (p K : ℕ) → startRun s p K .turns ≡ 0
@@ -111,25 +115,32 @@ pub record Left (r : Run) (row : List ℕ) (r' : Run) : Type 0 where
   pub same-workers : r' .workers ≡ r .workers
   pub same-quota : r' .quota ≡ r .quota
   pub state : stateOf r' ≡ rowState (tableIn r) (r .quota) (stateOf r) row
+  pub after : r' ≡ afterRow r row
 
 left-none : (r : Run) → Left r [] r
-unfolding rowState
-left-none r = record { workers-below = λ w m. absurd (List·Memᴰ·not-nil m); same-table = refl; same-workers = refl; same-quota = refl; state = refl }
+unfolding rowState afterRow
+left-none r = record { workers-below = λ w m. absurd (List·Memᴰ·not-nil m); same-table = refl; same-workers = refl; same-quota = refl; state = refl; after = refl }
 
-left-step : (r : Run) (w : ℕ) (row : List ℕ) (r' : Run) → w < r .workers → Left (moved r w) row r' → Left r (w ∷ row) r'
-unfolding rowState stepRun
-left-step r w row r' b l =
+left-step : (r : Run) (w : ℕ) (row : List ℕ) (r' : Run) → Steady r → w < r .workers → Left (moved r w) row r' → Left r (w ∷ row) r'
+unfolding rowState afterRow
+left-step r w row r' h b l =
     record {
       workers-below = λ v m. go v (List·Memᴰ·cases-cons m);
       same-table = l .same-table;
       same-workers = l .same-workers;
       same-quota = l .same-quota;
-      state = l .state ∙ ap (λ (x : State). rowState (tableIn r) (r .quota) x row) (stateOf-stored r (turnOf (tableIn r) (r .quota) w (stateOf r) .state));
+      state = l .state ∙ ap (λ (x : State). rowState (tableIn r) (r .quota) x row) (moved-state r h w b);
+      after = l .after;
     }
   where
     go : (v : ℕ) → (v ≡ w) ⊎ List·Memᴰ v row → v < r .workers
     go v (inl e) = omega arith
     go v (inr m) = l .workers-below v m
+
+afterRow-append : (r : Run) (row rest : List ℕ) → afterRow r (row ++ rest) ≡ afterRow (afterRow r row) rest
+unfolding afterRow
+afterRow-append r [] rest = refl
+afterRow-append r (w ∷ row) rest = afterRow-append (moved r w) row rest
 
 left-append : (r : Run) (row : List ℕ) (r' : Run) (rest : List ℕ) (r″ : Run) → Left r row r' → Left r' rest r″ → Left r (row ++ rest) r″
 left-append r row r' rest r″ l m =
@@ -139,6 +150,7 @@ left-append r row r' rest r″ l m =
       same-workers = m .same-workers ∙ l .same-workers;
       same-quota = m .same-quota ∙ l .same-quota;
       state = m .state ∙ rw (l .same-table, l .same-quota, l .state) (sym (rowState-append (tableIn r) (r .quota) (stateOf r) row rest));
+      after = m .after ∙ ap (λ (x : Run). afterRow x rest) (l .after) ∙ sym (afterRow-append r row rest);
     }
   where
     go : (w : ℕ) → List·Memᴰ w row ⊎ List·Memᴰ w rest → w < r .workers
@@ -167,15 +179,15 @@ stays who k i r x h e =
     record { low = omega arith; high = omega arith; goes = rw z (goes-none r h) }
 
 -- it takes a turn and goes on
-steps : (who : ℕ → ℕ) (k i : ℕ) (r : Run) (d : Ran) → who i < r .workers → Driven who k (suc i) (moved r (who i)) d → Driven who (suc k) i r d
+steps : (who : ℕ → ℕ) (k i : ℕ) (r : Run) (d : Ran) → Steady r → who i < r .workers → Driven who k (suc i) (moved r (who i)) d → Driven who (suc k) i r d
 unfolding firsts
-steps who k i r d b g =
+steps who k i r d h b g =
     let j : ℕ = turnsIn (d .report) in
     let z : j - i ≡ suc (j - suc i) = omega (arith, g .low) in
     record {
       low = omega (arith, g .low);
       high = omega (arith, g .high);
-      goes = rw z (record { left = left-step r (who i) (firsts who (suc i) (j - suc i)) (d .run) b (g .goes .left); steady = g .goes .steady });
+      goes = rw z (record { left = left-step r (who i) (firsts who (suc i) (j - suc i)) (d .run) h b (g .goes .left); steady = g .goes .steady });
     }
 
 worker-there : (r : Run) (w : ℕ) → noWorker r w ≡ false → w < r .workers
@@ -200,7 +212,7 @@ drive-goes who (suc k) i r h =
     go true c d e ih = stays who (suc k) i r (Finished i) h refl
     go false true d e ih = stays who (suc k) i r (Refused i (refusal 32 0)) h refl
     go false false true e ih = stays who (suc k) i r (Refused i (refusal 30 0)) h refl
-    go false false false e ih = steps who k i r rest (worker-there r (who i) e) (ih e)
+    go false false false e ih = steps who k i r rest h (worker-there r (who i) e) (ih e)
 
 -- a turn that is taken is of a worker below p
 turn-worker : (r : Run) (w : ℕ) → tryAt (turnChecks r w) 0 ≡ Nothing → w < r .workers
@@ -214,7 +226,7 @@ turn-goes r w h = go (tryAt (turnChecks r w) 0) refl
     go : (f : Found) → tryAt (turnChecks r w) 0 ≡ f → Goes r (turnRow (turnedAs f r (passedIn r w) (stepRun r w) .answer) w) (turnedAs f r (passedIn r w) (stepRun r w) .run)
     go Nothing e =
         let b : w < r .workers = turn-worker r w e in
-        record { left = left-step r w [] (moved r w) b (left-none (moved r w)); steady = moved-steady r h w b }
+        record { left = left-step r w [] (moved r w) h b (left-none (moved r w)); steady = moved-steady r h w b }
     go (At x) e = goes-none r h
 
 -- a run from its first turn on
@@ -305,7 +317,9 @@ pub start-state : (s : List ℕ) (p K : ℕ) (r : Run) → begin s p K ≡ recor
 unfolding startRun
 start-state s p K r e =
     let q : r ≡ startRun s p K = begin-accepted s p K r e .0 in
-    rw q (start-bytes s p K, refl, refl, rw (filled-front maxThreads (startState (tableOf s) .list)))
+    let T : Table = tableOf s in
+    let a : Rules s = begin-accepted s p K r e .1 in
+    rw q (start-bytes s p K, refl, refl, rw (laid-back T (lawful s a) p K (startState T) (start-facts T (lawful s a) p K)))
 
 -- of a beginning and a list of calls: the record left is the state after the row, and is sound but for its turns taken; the workers of every front part are below p
 pub record Traced (s : List ℕ) (p K : ℕ) (r : Run) (calls : List Call) : Type 0 where

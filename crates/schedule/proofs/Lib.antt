@@ -66,6 +66,7 @@ pub mod ActiveMoves
 pub mod Searches
 pub mod Fills
 pub mod LinkMoves
+pub mod RowList
 -- the worked cases
 pub mod CaseLaws
 pub mod Wrong

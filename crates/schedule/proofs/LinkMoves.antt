@@ -1,5 +1,5 @@
 -- An action moves the links as the machine moves its list: those of the list, and those of the second list.
-use mathlib.Core.Path.{_≡_, refl}
+use mathlib.Core.Path.{_≡_, refl, sym}
 use Prim.Native.Nat.{ℕ, _<_}
 use native.Mathlib.Omega.{arith}
 use native.Mathlib.Decide.{ℕ-discrete}
@@ -97,7 +97,7 @@ module _ (T : Table) (l : Lawful T) (p K : ℕ) (w t a : ℕ) (st : State) (f : 
     actives-wait-by = rw (moves-wait T l p K st f t (x .thread) runs) (unlink-linked k (actives (st .status) (st .list)) h once small t there)
 
     -- whether the parent waits is the same once t has ended
-    waits-same : (u : ℕ) → waitsFor T (withList (without t (st .list)) (released w t ended st)) u t ≡ waitsFor T st u t
+    waits-same : (u : ℕ) → waitsFor T (withStatus t ended st) u t ≡ waitsFor T st u t
     unfolding waitsFor
     waits-same u = go (ℕ-discrete u t)
       where
@@ -132,8 +132,8 @@ module _ (T : Table) (l : Lawful T) (p K : ℕ) (w t a : ℕ) (st : State) (f : 
     pub actives-by : (q : Kind) → kind T a ≡ q
         → LinkedAs (activesBy q T t (T .argument a) st k)
         (actives (actBy q T w t a (T .argument a) st .state .status) (actBy q T w t a (T .argument a) st .state .list))
-    unfolding activesBy actBy woken
-    actives-by end e = rw (waits-same (parentOf T t)) (actives-end-by (waitsFor T st (parentOf T t) t) refl)
+    unfolding activesBy actBy woken waitsFor
+    actives-by end e = actives-end-by (waitsFor T (withStatus t ended st) (parentOf T t) t) (sym (waits-same (parentOf T t)))
     actives-by work e = h
     actives-by alloc e =
         either (λ (s : Stepped). LinkedAs k (actives (s .state .status) (s .state .list))) (leb (T .argument a) (workerOf st w .quota)) _ _ (λ i. h)

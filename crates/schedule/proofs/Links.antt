@@ -11,7 +11,7 @@ use lib.Seq.{getD-set-same, getD-set-other, ext-getD}
 use borrow.Author.Tests.{eq-eqb, ne-eqb, lt-ltb, le-ltb}
 use Rattle.table.specs.Sum.{pick}
 use Rattle.schedule.specs.Machine.{ready, leftOf, without, leftmost}
-use Rattle.schedule.specs.Begin.{firsts}
+use Rattle.schedule.specs.Firsts.{firsts}
 use Rattle.schedule.specs.Links.{noThread, Links, walk, firstOf, rightIn, leftIn, laid, Linked, LinkedAs, linkLeft, unlink, Sought, firstReady, seek}
 use Rattle.schedule.proofs.Lists.{Below, firsts-length, firsts-at}
 use Rattle.schedule.proofs.Once.{Once, once-short}
@@ -111,17 +111,6 @@ module _ (k : Links) (l : List ℕ) (h : LinkedAs k l) (o : Once l) (b : Below n
       }
 
 -- ---- searching
-
--- the leftmost ready thread stands at its place
-pub firstReady-at : (status l : List ℕ) → firstReady status l ≡ getD l (leftmost status l) noThread
-unfolding firstReady leftmost
-firstReady-at status [] = refl
-firstReady-at status (t ∷ l) = go (eqb (getD status t 0) ready) (firstReady-at status l)
-  where
-    go : (q : Bool) → firstReady status l ≡ getD l (leftmost status l) noThread
-        → pick q t (firstReady status l) ≡ getD (t ∷ l) (pick q 0 (suc (leftmost status l))) noThread
-    go true ih = refl
-    go false ih = ih
 
 -- what a search of a list finds: the thread that `leftmost` gives, and as many passed
 abbrev pub soughtIn : List ℕ → List ℕ → Sought

@@ -24,10 +24,6 @@ pub rightIn-later : (u v : ℕ) (l : List ℕ) → (u ≡ v → ⊥) → rightIn
 unfolding rightIn
 rightIn-later u v l d = rw (ne-eqb u v d)
 
-pub leftAfter-here : (y u : ℕ) (l : List ℕ) → leftAfter y (u ∷ l) u ≡ y
-unfolding leftAfter
-leftAfter-here y u l = rw (eq-eqb u u refl)
-
 pub leftAfter-later : (y u v : ℕ) (l : List ℕ) → (u ≡ v → ⊥) → leftAfter y (u ∷ l) v ≡ leftAfter u l v
 unfolding leftAfter
 leftAfter-later y u v l d = rw (ne-eqb u v d)

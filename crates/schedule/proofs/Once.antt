@@ -59,9 +59,6 @@ once-without t (x ∷ l) o = go (eqb x t) (once-without t l (o .1))
     go true ih = o .1
     go false ih = ((λ m. o .0 (without-old t x l m)), ih)
 
-pub below-without : (n t : ℕ) (l : List ℕ) → Below n l → Below n (without t l)
-below-without n t l b u m = b u (without-old t u l m)
-
 pub once-gone : (t : ℕ) (l : List ℕ) → Once l → List·Memᴰ t (without t l) → ⊥
 unfolding Once without
 once-gone t [] o m = List·Memᴰ·not-nil m

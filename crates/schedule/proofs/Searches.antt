@@ -3,17 +3,16 @@ use mathlib.Core.Path.{_≡_, refl, sym, ap, _∙_}
 use Prim.Native.Nat.{ℕ, zero, suc, _≤_, _<_}
 use native.Mathlib.Omega.{arith}
 use mathlib.Core.List.{List, [], _∷_, List·Memᴰ, List·Memᴰ·head, List·Memᴰ·tail, List·Memᴰ·not-nil, List·Memᴰ·cases-cons, Memᴰ·cast}
-use mathlib.Core.Bool.{Bool, true, false}
+use mathlib.Core.Bool.{Bool, true, false, not}
 use mathlib.Core.Logic.{_⊎_, inl, inr, ⊎-elim}
-use lib.Dec.{eqb, eqb·zero-suc, eqb·suc-suc}
+use lib.Dec.{ltb, eqb, eqb·zero-suc, eqb·suc-suc}
 use lib.ListN.{length, getD, take}
 use lib.Seq.{length-take-le}
-use borrow.Author.Tests.{eqb-true, eqb-false, ne-eqb}
+use borrow.Author.Tests.{lt-ltb, eqb-true, eqb-false, ne-eqb}
 use Rattle.table.specs.Sum.{pick}
 use Rattle.table.specs.Format.{Table}
 use Rattle.table.proofs.Tests.{no-way}
-use Rattle.schedule.specs.declared.Reply.the-variants.{Idle}
-use Rattle.schedule.specs.Machine.{State, stepped, unborn, ready, held, waiting, ended, statusOf, workerOf, leftmost, taken, act, turnFree, passedBy}
+use Rattle.schedule.specs.Machine.{State, unborn, ready, held, waiting, ended, statusOf, workerOf, leftmost}
 use Rattle.schedule.specs.Links.{noThread, firstReady}
 use Rattle.schedule.specs.Actives.{actives}
 use Rattle.schedule.proofs.Lawful.{Lawful}
@@ -25,18 +24,7 @@ use Rattle.schedule.proofs.ActiveMoves.{list-once}
 
 -- ---- by thread
 
--- none is ready exactly where the thread is none
-pub ready-none : (status l : List ℕ) → Below noThread l → eqb (leftmost status l) (length l) ≡ eqb (firstReady status l) noThread
-unfolding leftmost firstReady
-ready-none status [] b = refl
-ready-none status (t ∷ l) b = go (eqb (getD status t 0) ready) (ready-none status l (λ u m. b u (List·Memᴰ·tail m)))
-  where
-    go : (q : Bool) → eqb (leftmost status l) (length l) ≡ eqb (firstReady status l) noThread
-        → eqb (pick q 0 (suc (leftmost status l))) (suc (length l)) ≡ eqb (pick q t (firstReady status l)) noThread
-    go true ih = eqb·zero-suc (length l) ∙ sym (ne-eqb t noThread (λ e. omega (arith, b t (List·Memᴰ·head refl))))
-    go false ih = eqb·suc-suc (leftmost status l) (length l) ∙ ih
-
--- and where one is, it is the thread at the place
+-- where one is ready, it is the thread at the place
 pub ready-there : (status l : List ℕ) → eqb (leftmost status l) (length l) ≡ false → getD l (leftmost status l) 0 ≡ firstReady status l
 unfolding leftmost firstReady
 ready-there status [] e = no-way (cc)
@@ -47,26 +35,16 @@ ready-there status (t ∷ l) e = go (eqb (getD status t 0) ready) (ready-there s
     go true ih e = refl
     go false ih e = ih (sym (eqb·suc-suc (leftmost status l) (length l)) ∙ e)
 
--- a free worker's turn, and the number that it passes over, by thread
-module _ (st : State) (small : Below noThread (st .list)) where
-  pub turnFree-thread : (T : Table) (K w : ℕ)
-      → turnFree T K w st
-      ≡ pick (eqb (firstReady (st .status) (st .list)) noThread) (stepped Idle st) (act T w (taken K w (firstReady (st .status) (st .list)) st))
-  unfolding turnFree
-  turnFree-thread T K w = rw (← ready-none (st .status) (st .list) small) (go (eqb i (length (st .list))) (ready-there (st .status) (st .list)))
-    where
-      i : ℕ
-      i = leftmost (st .status) (st .list)
-
-      go : (q : Bool) → (q ≡ false → getD (st .list) i 0 ≡ firstReady (st .status) (st .list))
-          → pick q (stepped Idle st) (act T w (taken K w (getD (st .list) i 0) st)) ≡ pick q (stepped Idle st) (act T w (taken K w (firstReady (st .status) (st .list)) st))
-      go true e = refl
-      go false e = rw (e refl)
-
-  pub passedBy-thread : (w : ℕ)
-      → passedBy w st ≡ pick (workerOf st w .holds) 0 (pick (eqb (firstReady (st .status) (st .list)) noThread) 0 (leftmost (st .status) (st .list)))
-  unfolding passedBy
-  passedBy-thread w = rw (ready-none (st .status) (st .list) small)
+-- a thread is found exactly where one is ready
+pub found-below : (status l : List ℕ) → Below noThread l → ltb (firstReady status l) noThread ≡ not (eqb (leftmost status l) (length l))
+unfolding leftmost firstReady
+found-below status [] b = refl
+found-below status (t ∷ l) b = go (eqb (getD status t 0) ready) (found-below status l (λ u m. b u (List·Memᴰ·tail m)))
+  where
+    go : (q : Bool) → ltb (firstReady status l) noThread ≡ not (eqb (leftmost status l) (length l))
+        → ltb (pick q t (firstReady status l)) noThread ≡ not (eqb (pick q 0 (suc (leftmost status l))) (suc (length l)))
+    go true ih = lt-ltb t noThread (b t (List·Memᴰ·head refl)) ∙ rw (eqb·zero-suc (length l))
+    go false ih = ih ∙ rw (eqb·suc-suc (leftmost status l) (length l))
 
 -- ---- in the second list
 

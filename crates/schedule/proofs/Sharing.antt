@@ -9,7 +9,7 @@ use lib.ListN.{length, getD}
 use lib.Seq.{ext-getD}
 use Rattle.table.specs.Format.{Table}
 use Rattle.schedule.specs.Record.{maxThreads}
-use Rattle.schedule.specs.Begin.{firsts}
+use Rattle.schedule.specs.Firsts.{firsts}
 use Rattle.schedule.specs.Sound.{shareIn, sharesIn}
 use Rattle.schedule.proofs.Lists.{filled-at, filled-length, firsts-length, firsts-at, firsts-past}
 

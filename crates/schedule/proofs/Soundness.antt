@@ -43,13 +43,6 @@ module _ (r : Run) (h : Steady r) where
   pub list-short : length (stateOf r .list) ≤ tableIn r .threads
   list-short = omega (arith, list-count, count-bound (λ t. member t (stateOf r .list)) (tableIn r .threads))
 
-  -- at a fork of a thread that is not yet in the list there is room for one more
-  pub list-room : (t : ℕ) → t < tableIn r .threads → statusOf (stateOf r) t ≡ 0 → length (stateOf r .list) < tableIn r .threads
-  list-room t i e =
-      let l : List ℕ = stateOf r .list in
-      let new : member t l ≡ false = never-true (member t l) (λ m. steady-facts r h .list-born t (member-exactly t l .0 m) e) in
-      omega (arith, list-count, member-more (tableIn r .threads) t l i new, count-bound (λ u. member u (t ∷ l)) (tableIn r .threads))
-
   -- "while the root has not ended the leftmost thread is ready or held"
   pub leftmost-goes : rootEnded r ≡ false → (t : ℕ) × (rest : List ℕ) × (stateOf r .list ≡ t ∷ rest) × ((statusOf (stateOf r) t ≡ ready) ⊎ (statusOf (stateOf r) t ≡ held))
   unfolding rootEnded

@@ -18,7 +18,8 @@ use Rattle.table.proofs.Nesting.{fork-exists, fork-found}
 use Rattle.schedule.specs.declared.Worker.{Worker}
 use Rattle.schedule.specs.Machine.{unborn, ready, ended, nextOf, statusOf, amountOf, workerOf, nobody}
 use Rattle.schedule.specs.Record.{maxThreads, maxWorkers}
-use Rattle.schedule.specs.Begin.{firsts, startState}
+use Rattle.schedule.specs.Begin.{startState}
+use Rattle.schedule.specs.Firsts.{firsts}
 use Rattle.schedule.specs.Sound.{numberOf, isDone, doneIn, sumDone, ofDone, progressIn, shareIn, progress, isJoined, share}
 use Rattle.schedule.proofs.Lawful.{Lawful}
 use Rattle.schedule.proofs.Sharing.{Shared}

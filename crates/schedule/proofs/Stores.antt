@@ -4,7 +4,6 @@ use Prim.Native.Nat.{ℕ, _≤_, _<_}
 use native.Mathlib.Omega.{arith}
 use mathlib.Core.List.{[], _∷_}
 use borrow.Author.Tests.{ltb-false}
-use lib.ListN.{length}
 use Rattle.table.specs.Format.{Table}
 use Rattle.table.specs.Pass.{firstFound}
 use Rattle.table.specs.Rules.{outside, allocOf}
@@ -13,7 +12,8 @@ use Rattle.table.proofs.Sizes.{inside}
 use Rattle.table.proofs.Passes.{tryPass-from-0, firstFound-nothing}
 use Rattle.schedule.specs.declared.Run.{Run}
 use Rattle.schedule.specs.Machine.{State, turnOf}
-use Rattle.schedule.specs.Record.{maxThreads, maxWorkers, filled, tableIn, bytesOf, stateOf, stored}
+use Rattle.schedule.specs.Links.{walk, laid}
+use Rattle.schedule.specs.Record.{maxThreads, maxWorkers, tableIn, bytesOf, stateOf, stored}
 use Rattle.schedule.specs.Begin.{maxQuota, allocAbove, beginPasses}
 use Rattle.schedule.specs.Sound.{Steady}
 use Rattle.schedule.specs.Turn.{stepRun}
@@ -21,7 +21,8 @@ use Rattle.schedule.specs.Runs.{moved}
 use Rattle.schedule.proofs.Lawful.{Lawful, Within, lawful}
 use Rattle.schedule.proofs.Facts.{Facts, facts, sound-facts}
 use Rattle.schedule.proofs.Turns.{turn-facts}
-use Rattle.schedule.proofs.Lists.{filled-front}
+use Rattle.schedule.proofs.ActiveMoves.{list-once, list-small}
+use Rattle.schedule.proofs.Links.{walk-laid}
 
 -- ---- the checks of a beginning
 
@@ -45,8 +46,13 @@ begin-fits T p K e =
 
 -- ---- the record with another state
 
-pub stateOf-stored : (r : Run) (st : State) → stateOf (stored r st) ≡ st
-stateOf-stored r st = rw (filled-front maxThreads (st .list))
+-- the list is read back from the links that it is laid into, since it has each thread once
+module _ (T : Table) (l : Lawful T) (p K : ℕ) (st : State) (f : Facts T p K st) where
+  pub laid-back : walk maxThreads (laid (st .list) .right) (laid (st .list) .head) ≡ st .list
+  laid-back = walk-laid (st .list) (list-once T l p K st f) (list-small T l p K st f)
+
+  pub stateOf-stored : (r : Run) → stateOf (stored r st) ≡ st
+  stateOf-stored r = rw laid-back
 
 module _ (r : Run) (h : Steady r) where
   pub steady-lawful : Lawful (tableIn r)
@@ -63,16 +69,22 @@ module _ (r : Run) (h : Steady r) where
       record {
         table = h .table;
         beginning = h .beginning;
-        state = rw (stateOf-stored r st) (sound-facts (tableIn r) steady-lawful (r .workers) (r .quota) st f);
+        state = rw (stateOf-stored (tableIn r) steady-lawful (r .workers) (r .quota) st f r) (sound-facts (tableIn r) steady-lawful (r .workers) (r .quota) st f);
         set = refl;
         table-length = h .table-length;
-        list-length = ap length (filled-front maxThreads (st .list));
         table-rest = h .table-rest;
-        list-rest = ap (filled maxThreads) (sym (filled-front maxThreads (st .list)));
+        links = ap laid (sym (laid-back (tableIn r) steady-lawful (r .workers) (r .quota) st f));
       }
 
-  pub moved-steady : (w : ℕ) → w < r .workers → Steady (moved r w)
-  unfolding stepRun
-  moved-steady w b =
-      stored-steady (turnOf (tableIn r) (r .quota) w (stateOf r) .state)
-      (turn-facts (tableIn r) steady-lawful (r .workers) (r .quota) (steady-fits .few-workers) w b (stateOf r) steady-facts)
+  module _ (w : ℕ) (b : w < r .workers) where
+    moved-facts : Facts (tableIn r) (r .workers) (r .quota) (turnOf (tableIn r) (r .quota) w (stateOf r) .state)
+    moved-facts = turn-facts (tableIn r) steady-lawful (r .workers) (r .quota) (steady-fits .few-workers) w b (stateOf r) steady-facts
+
+    pub moved-steady : Steady (moved r w)
+    unfolding stepRun
+    moved-steady = stored-steady (turnOf (tableIn r) (r .quota) w (stateOf r) .state) moved-facts
+
+    -- the state read off the record after a turn is the turn's
+    pub moved-state : stateOf (moved r w) ≡ turnOf (tableIn r) (r .quota) w (stateOf r) .state
+    unfolding stepRun
+    moved-state = stateOf-stored (tableIn r) steady-lawful (r .workers) (r .quota) (turnOf (tableIn r) (r .quota) w (stateOf r) .state) moved-facts r

@@ -1,5 +1,5 @@
 -- The executable tests are the records: `sound` is true exactly of the sound records, `isBlank` exactly of the blank one.
-use mathlib.Core.Path.{_≡_, refl, sym, _∙_}
+use mathlib.Core.Path.{_≡_, refl, sym, ap, _∙_}
 use mathlib.Core.Logic.{_↔_, Iff·rfl, Iff·trans, _⊎_, inl, inr}
 use mathlib.Core.Bool.{Bool, true, false, _||_}
 use mathlib.Core.List.{List}
@@ -16,9 +16,10 @@ use Rattle.table.proofs.Passes.{passes-rules}
 use Rattle.schedule.specs.declared.Worker.{Worker}
 use Rattle.schedule.specs.declared.Run.{Run}
 use Rattle.schedule.specs.Machine.{nobody}
+use Rattle.schedule.specs.Links.{Links}
 use Rattle.schedule.specs.Record.{blank, bytesOf}
 use Rattle.schedule.specs.Sound.{allBelow, nextInBody, inOrder, statusFollows, listFollows, waitsAtJoin, oneHolder, workerRight, unused, sharesIn}
-use Rattle.schedule.specs.Sound.{Common, Listed, Sound, common, listed, commonSound, sound}
+use Rattle.schedule.specs.Sound.{Common, Listed, Sound, common, listed, commonSound, sameLinks, sound}
 use Rattle.schedule.specs.Turn.{isNobody, isBlank}
 use Rattle.schedule.proofs.Words.{and-of, or-exactly, eqb-exactly, leb-exactly, ltb-exactly, allBelow-exactly, sameList-exactly, isNothing-exactly}
 use Rattle.schedule.proofs.Clauses.{nobody-exactly}
@@ -95,6 +96,14 @@ listed-exactly T next status list =
 
 -- ---- a sound record
 
+sameLinks-exactly : (k l : Links) → (sameLinks k l ≡ true) ↔ (k ≡ l)
+unfolding sameLinks
+sameLinks-exactly k l =
+    Iff·trans (and-of (sameList-exactly (k .left) (l .left)) (and-of (sameList-exactly (k .right) (l .right)) (eqb-exactly (k .head) (l .head)))) (
+      (λ (a, (b, c)). λ x. record { left = a x; right = b x; head = c x }),
+      (λ e. (ap (λ (x : Links). x .left) e, (ap (λ (x : Links). x .right) e, ap (λ (x : Links). x .head) e))),
+    )
+
 pub sound-exactly : (r : Run) → (sound r ≡ true) ↔ Sound r
 unfolding sound commonSound
 sound-exactly r =
@@ -104,11 +113,10 @@ sound-exactly r =
     (and-of (isNothing-exactly _) (and-of (common-exactly _ _ _ _ _ _ _ _ _) (eqb-exactly _ _))))
     (and-of (listed-exactly _ _ _ _)
     (and-of (eqb-exactly _ _)
-    (and-of (eqb-exactly _ _)
     (and-of (sameList-exactly _ _)
-    (and-of (sameList-exactly _ _)
-    (ltb-exactly _ _))))))) (
-      (λ ((a, (b, (c, d))), (l, (i, (j, (e, (f, g)))))).
+    (and-of (sameLinks-exactly _ _)
+    (ltb-exactly _ _)))))) (
+      (λ ((a, (b, (c, d))), (l, (i, (e, (f, g))))).
           record {
             steady =
                 record {
@@ -117,15 +125,14 @@ sound-exactly r =
                   state = record { common = c; listed = l };
                   set = d;
                   table-length = i;
-                  list-length = j;
                   table-rest = e;
-                  list-rest = f;
+                  links = f;
                 };
             turns = g;
           }),
       (λ s.
           let x = s .steady in
-          ((x .table, (x .beginning, (x .state .common, x .set))), (x .state .listed, (x .table-length, (x .list-length, (x .table-rest, (x .list-rest, s .turns))))))),
+          ((x .table, (x .beginning, (x .state .common, x .set))), (x .state .listed, (x .table-length, (x .table-rest, (x .links, s .turns)))))),
     )
 
 -- ---- the blank record
@@ -135,7 +142,7 @@ record Zeros (r : Run) : Type 0 where
   length : r .length ≡ 0
   workers : r .workers ≡ 0
   quota : r .quota ≡ 0
-  listed : r .listed ≡ 0
+  leftmost : r .leftmost ≡ 0
   busy : r .busy ≡ 0
   held : r .held ≡ 0
   highest : r .highest ≡ 0
@@ -143,7 +150,7 @@ record Zeros (r : Run) : Type 0 where
 
 blank-zeros : Zeros blank
 unfolding blank
-blank-zeros = record { length = refl; workers = refl; quota = refl; listed = refl; busy = refl; held = refl; highest = refl; turns = refl }
+blank-zeros = record { length = refl; workers = refl; quota = refl; leftmost = refl; busy = refl; held = refl; highest = refl; turns = refl }
 
 blank-workers : blank .worker ≡ replicate 16 nobody
 unfolding blank
@@ -175,15 +182,16 @@ blank-exactly r =
     (and-of (sameList-exactly (r .next) (blank .next))
     (and-of (sameList-exactly (r .status) (blank .status))
     (and-of (sameList-exactly (r .amounts) (blank .amounts))
-    (and-of (sameList-exactly (r .list) (blank .list))
-    (and-of (zero-of (r .listed) (blank .listed) (blank-zeros .listed))
+    (and-of (sameList-exactly (r .left) (blank .left))
+    (and-of (sameList-exactly (r .right) (blank .right))
+    (and-of (zero-of (r .leftmost) (blank .leftmost) (blank-zeros .leftmost))
     (and-of (eqb-exactly (length (r .worker)) 16)
     (and-of (allBelow-exactly (λ w. isNobody (getD (r .worker) w nobody)) 16)
     (and-of (zero-of (r .busy) (blank .busy) (blank-zeros .busy))
     (and-of (zero-of (r .held) (blank .held) (blank-zeros .held))
     (and-of (zero-of (r .highest) (blank .highest) (blank-zeros .highest))
-    (zero-of (r .turns) (blank .turns) (blank-zeros .turns)))))))))))))))) (
-      (λ (a, (b, (c, (d, (e, (f, (q, (g, (h, (i, (j, (k, (l, (m, n)))))))))))))).
+    (zero-of (r .turns) (blank .turns) (blank-zeros .turns))))))))))))))))) (
+      (λ (a, (b, (c, (d, (e, (f, (q, (g, (y, (h, (i, (j, (k, (l, (m, n))))))))))))))).
           let o : r .worker ≡ blank .worker = workers-exactly (r .worker) .0 (i, j) in
           λ x.
           record {
@@ -194,8 +202,9 @@ blank-exactly r =
             next = e x;
             status = f x;
             amounts = q x;
-            list = g x;
-            listed = h x;
+            left = g x;
+            right = y x;
+            leftmost = h x;
             worker = o x;
             busy = k x;
             held = l x;
@@ -204,5 +213,5 @@ blank-exactly r =
           }),
       (λ e.
           let o : (length (r .worker) ≡ 16) × ((w : ℕ) → w < 16 → isNobody (getD (r .worker) w nobody) ≡ true) = workers-exactly (r .worker) .1 cc in
-          (cc, (cc, (cc, (cc, (cc, (cc, (cc, (cc, (cc, (o .0, (o .1, (cc, (cc, (cc, cc))))))))))))))),
+          (cc, (cc, (cc, (cc, (cc, (cc, (cc, (cc, (cc, (cc, (o .0, (o .1, (cc, (cc, (cc, cc)))))))))))))))),
     )

@@ -3,7 +3,7 @@
 -- What it cites, in crates/schedule/specs: `begin` (Begin) answers with the record of an accepted beginning; `afterCalls` and `rowOfCalls` (Calls) are the record that a list of calls
 -- leaves and its row of turns; `listedAfter` (Threads) is how many threads the list has after a row; `Keeps` (Memory) is the rule with b; `threadLimit` (Threads) is
 -- N + b·(p − 1)·(D − 1), with N and D of crates/table/specs.
-use mathlib.Core.Path.{_≡_, sym, ap, _∙_}
+use mathlib.Core.Path.{_≡_, ap}
 use Prim.Native.Nat.{ℕ, _≤_}
 use mathlib.Core.List.{List, _++_}
 use lib.ListN.{length}
@@ -12,6 +12,7 @@ use Rattle.table.specs.Nested.{N}
 use Rattle.schedule.specs.declared.Run.{Run}
 use Rattle.schedule.specs.declared.Beginning.the-variants.{Begun as started}
 use Rattle.schedule.specs.Machine.{State}
+use Rattle.schedule.specs.Record.{listIn}
 use Rattle.schedule.specs.Begin.{begin}
 use Rattle.schedule.specs.Calls.{Call, afterCalls, rowOfCalls}
 use Rattle.schedule.specs.Memory.{Keeps}
@@ -22,7 +23,7 @@ use Rattle.schedule.proofs.Listed.{row-listed, row-listed-alone}
 -- of a record r and the row of turns that led to it
 pub record ThreadLimit (T : Table) (p K b : ℕ) (r : Run) (row : List ℕ) : Type 0 where
   -- the record's list has as many threads as the row leaves in it
-  pub listed : r .listed ≡ listedAfter T K row
+  pub listed : length (listIn r) ≡ listedAfter T K row
   -- after every front part that keeps the rule with b, they are within the limit
   pub bounded : (front rest : List ℕ) → row ≡ front ++ rest → Keeps b front → listedAfter T K front ≤ threadLimit T p b
   -- with one worker they are never more than N, whatever the row
@@ -37,7 +38,7 @@ thread-limit s p K r e b g calls =
     let t : Traced s p K r calls = calls-traced s p K r e calls in
     let i : Started s p K r = t .started in
     record {
-      listed = sym (t .steady .list-length) ∙ ap (λ (x : State). length (x .list)) (t .state);
+      listed = ap (λ (x : State). length (x .list)) (t .state);
       bounded = λ front rest d keeps. row-listed T (i .lawful) p K (i .some-worker) (i .few-workers) b front (t .below front rest d) keeps;
       alone = λ one front rest d. row-listed-alone T (i .lawful) p K (i .some-worker) (i .few-workers) one front (t .below front rest d);
     }

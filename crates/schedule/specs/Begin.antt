@@ -1,5 +1,5 @@
 -- Beginning a run: the table's own checks, then 20, 21 and 22; the record that it gives (document 01, "The run" and "Where each check stands").
-use Prim.Native.Nat.{ℕ, zero, suc}
+use Prim.Native.Nat.{ℕ}
 use mathlib.Core.List.{List, [], _∷_, _++_}
 use mathlib.Core.Bool.{Bool}
 use lib.ListN.{length, replicate, set}
@@ -13,6 +13,7 @@ use Rattle.schedule.specs.declared.Run.{Run}
 use Rattle.schedule.specs.declared.Begun.{Begun}
 use Rattle.schedule.specs.declared.Beginning.the-variants.{Begun as started, Refused}
 use Rattle.schedule.specs.Machine.{State, nobody, ready}
+use Rattle.schedule.specs.Firsts.{firsts}
 use Rattle.schedule.specs.Record.{maxThreads, maxWorkers, maxBytes, filled, blank, stored}
 
 abbrev pub maxQuota : ℕ
@@ -28,11 +29,6 @@ beginPasses T p K =
     record { from = 0; places = 1; checks = record { number = 20; applies = λ i. outside 1 maxWorkers p } ∷ record { number = 21; applies = λ i. outside 1 maxQuota K } ∷ [] }
     ∷ record { from = 0; places = T .actions; checks = record { number = 22; applies = allocAbove T K } ∷ [] }
     ∷ []
-
--- the values of a function at k numbers, from t on
-unfoldable pub firsts : (ℕ → ℕ) → ℕ → ℕ → List ℕ
-firsts first t zero = []
-firsts first t (suc k) = first t ∷ firsts first (suc t) k
 
 -- "An unborn thread's next action is its first", "Threads from n on are unborn with next action 0"; "at the start only thread 0, ready"; "all 0 at the start"
 unfoldable pub startState : Table → State
@@ -60,8 +56,9 @@ startRun s p K =
       next = [];
       status = [];
       amounts = [];
-      list = [];
-      listed = 0;
+      left = [];
+      right = [];
+      leftmost = 0;
       worker = [];
       busy = 0;
       held = 0;

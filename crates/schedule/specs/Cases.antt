@@ -19,7 +19,9 @@ use Rattle.schedule.specs.declared.Beginning.the-variants.{Refused as re
 use Rattle.schedule.specs.declared.Turned.{Turned}
 use Rattle.schedule.specs.Machine.{leftOf, without, waitsFor, woken, actBy, act, leftmost, taken, turnFree, turnOf}
 use Rattle.schedule.specs.Record.{setOf}
-use Rattle.schedule.specs.Begin.{allocAbove, firsts, startState, startRun, begin}
+use Rattle.schedule.specs.Begin.{allocAbove, startState, startRun, begin}
+use Rattle.schedule.specs.Firsts.{firsts}
+use Rattle.schedule.specs.Links.{walk, rightIn}
 use Rattle.schedule.specs.Turn.{rootEnded, noWorker, stepRun, passedIn, turnedAs}
 use Rattle.schedule.specs.Listing.{idle, did, quota, wait, Line, line, Last, done, notDone, refused, Listing, listing, turnsBy}
 
@@ -187,5 +189,5 @@ abbrev pub Worked : (Run → ℕ → Turned) → List Case → Type 0
 Worked turn l = map (λ (c : Case). ranBy never turn (c .bytes) (c .workers) (c .quota) (c .order)) l ≡ map (λ (c : Case). c .listing) l
 
 pub worked : Worked turnedSound cases × Worked turnedSound ownCases
-unfolding cases ownCases freed sumTo anyBelow codeOf kindOf is tableOf tryAt tryFrom tryPass firstFound entryWrong totalWrong ownerBelow kindUnknown argumentWrong endMisplaced forkedBelow forkedBefore openBefore joinNotLatest endWithOpen neverForked allocOf freeOf wholeWithin balance balanceBelow0 passes forkBelow leftOf without waitsFor woken actBy act leftmost taken turnFree turnOf setOf allocAbove firsts startState startRun begin rootEnded noWorker stepRun
+unfolding cases ownCases freed sumTo anyBelow codeOf kindOf is tableOf tryAt tryFrom tryPass firstFound entryWrong totalWrong ownerBelow kindUnknown argumentWrong endMisplaced forkedBelow forkedBefore openBefore joinNotLatest endWithOpen neverForked allocOf freeOf wholeWithin balance balanceBelow0 passes forkBelow leftOf without waitsFor woken actBy act leftmost taken turnFree turnOf setOf allocAbove firsts walk rightIn startState startRun begin rootEnded noWorker stepRun
 worked = (refl, refl)

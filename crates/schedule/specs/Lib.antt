@@ -1,4 +1,6 @@
 pub mod Machine
+pub mod Firsts
+pub mod Links
 pub mod Record
 pub mod Begin
 pub mod Sound
@@ -15,7 +17,7 @@ pub mod TurnCases
 pub mod ThreadCases
 pub mod AmountCases
 pub mod Rule
-pub mod Links
 pub mod Actives
 pub mod LinkMoves
 pub mod LinkCases
+pub mod RowList

@@ -3,9 +3,9 @@ use mathlib.Core.Path.{_≡_, refl}
 use mathlib.Core.List.{List, [], _∷_}
 use Prim.Native.Nat.{ℕ}
 use lib.ListN.{take}
-use Rattle.schedule.specs.Begin.{firsts}
-use Rattle.schedule.specs.Links.{noThread, Links, walk, rightIn, leftAfter, laid, linkLeft, unlink, seek}
-use Rattle.schedule.specs.Actives.{actives}
+use Rattle.schedule.specs.Firsts.{firsts}
+use Rattle.schedule.specs.Links.{noThread, Links, walk, rightIn, leftAfter, laid, linkLeft, unlink, linkLast, seek}
+use Rattle.schedule.specs.Actives.{actives, filledFrom}
 
 abbrev links : List ℕ → List ℕ → ℕ → Links
 links left right head = record { left = left; right = right; head = head }
@@ -73,3 +73,9 @@ blank-worked = refl
 range-worked : walk noThread (2000 ∷ []) 0 ≡ 0 ∷ []
 unfolding walk
 range-worked = refl
+
+-- thread 1 waits: the second list has 0 and 2
+filled-worked : (let k : Links = filledFrom 3 (1 ∷ 3 ∷ 2 ∷ []) (1 ∷ 2 ∷ noThread ∷ []) 0 noThread (links (9 ∷ 9 ∷ 9 ∷ []) (9 ∷ 9 ∷ 9 ∷ []) noThread) in
+    record { left = k .left; right = k .right; head = k .head }) ≡ links (noThread ∷ 9 ∷ 0 ∷ []) (2 ∷ 9 ∷ noThread ∷ []) 0
+unfolding filledFrom linkLast
+filled-worked = refl

@@ -3,7 +3,7 @@ use Prim.Native.Nat.{ℕ}
 use lib.Dec.{eqb}
 use Rattle.table.specs.Sum.{pick}
 use Rattle.table.specs.Format.{Kind, end, work, alloc, free, fork, join, unknown, Table}
-use Rattle.schedule.specs.Machine.{State, ended, statusOf, parentOf, waitsFor}
+use Rattle.schedule.specs.Machine.{State, ended, statusOf, withStatus, parentOf, waitsFor}
 use Rattle.schedule.specs.Links.{Links, linkLeft, unlink}
 
 -- the list: a forked child enters left of its thread, an ended thread leaves
@@ -18,7 +18,7 @@ linksBy unknown t x k = k
 
 -- the second list: a thread that begins to wait leaves too, and a parent that is woken enters left of the thread that ends
 unfoldable pub activesBy : Kind → Table → ℕ → ℕ → State → Links → Links
-activesBy end T t x st k = unlink t (pick (waitsFor T st (parentOf T t) t) (linkLeft (parentOf T t) t k) k)
+activesBy end T t x st k = unlink t (pick (waitsFor T (withStatus t ended st) (parentOf T t) t) (linkLeft (parentOf T t) t k) k)
 activesBy work T t x st k = k
 activesBy alloc T t x st k = k
 activesBy free T t x st k = k

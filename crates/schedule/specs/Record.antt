@@ -7,6 +7,7 @@ use Rattle.table.specs.Format.{Table, tableOf}
 use Rattle.schedule.specs.declared.Worker.{Worker}
 use Rattle.schedule.specs.declared.Run.{Run}
 use Rattle.schedule.specs.Machine.{State, nobody}
+use Rattle.schedule.specs.Links.{Links, walk, laid}
 
 -- the sizes of the record
 abbrev pub maxThreads : ℕ
@@ -18,7 +19,7 @@ maxWorkers = 16
 abbrev pub maxBytes : ℕ
 maxBytes = 36868
 
--- a list filled up with 0 to a size: "Table bytes past its length, unused list places .. are 0"
+-- a list filled up with 0 to a size: "Table bytes past its length .. are 0"
 abbrev pub filled : ℕ → List ℕ → List ℕ
 filled size l = l ++ replicate (size - length l) 0
 
@@ -33,13 +34,21 @@ bytesOf r = take (r .length) (r .table)
 abbrev pub tableIn : Run → Table
 tableIn r = tableOf (bytesOf r)
 
+-- "each thread's left and right neighbour and the leftmost thread in place of the row of numbers" (N10)
+abbrev pub linksIn : Run → Links
+linksIn r = record { left = r .left; right = r .right; head = r .leftmost }
+
+-- "Reading from the left gives the .. list"
+abbrev pub listIn : Run → List ℕ
+listIn r = walk maxThreads (r .right) (r .leftmost)
+
 abbrev pub stateOf : Run → State
 stateOf r =
     record {
       next = r .next;
       status = r .status;
       amounts = r .amounts;
-      list = take (r .listed) (r .list);
+      list = listIn r;
       workers = r .worker;
       held = r .held;
       highest = r .highest;
@@ -57,8 +66,9 @@ stored r st =
       next = st .next;
       status = st .status;
       amounts = st .amounts;
-      list = filled maxThreads (st .list);
-      listed = length (st .list);
+      left = laid (st .list) .left;
+      right = laid (st .list) .right;
+      leftmost = laid (st .list) .head;
       worker = st .workers;
       busy = setOf (st .workers);
       held = st .held;
@@ -66,7 +76,7 @@ stored r st =
       turns = st .turns;
     }
 
--- "the blank record: every number 0, every status unborn, the list empty"
+-- "the blank record: every number 0, every status unborn, the list empty"; of its links, "in the blank record all are 0" (N10)
 unfoldable pub blank : Run
 blank =
     record {
@@ -77,8 +87,9 @@ blank =
       next = replicate maxThreads 0;
       status = replicate maxThreads 0;
       amounts = replicate maxThreads 0;
-      list = replicate maxThreads 0;
-      listed = 0;
+      left = replicate maxThreads 0;
+      right = replicate maxThreads 0;
+      leftmost = 0;
       worker = replicate maxWorkers nobody;
       busy = 0;
       held = 0;

@@ -3,7 +3,7 @@ use mathlib.Core.Path.{_≡_}
 use Prim.Native.Nat.{ℕ, zero, suc, _+_, _-_, _^_, _<_, _≤_}
 use mathlib.Core.List.{List, [], _∷_}
 use mathlib.Core.Bool.{Bool, true, false, not, _&&_, _||_}
-use lib.ListN.{length, take, getD}
+use lib.ListN.{length, getD}
 use lib.Dec.{ltb, leb, eqb}
 use Rattle.table.specs.Sum.{pick, sumTo, anyBelow}
 use Rattle.table.specs.Format.{join, is, Table, kind, tableOf}
@@ -17,8 +17,10 @@ use Rattle.table.specs.declared.Found.the-variants.{Nothing, At}
 use Rattle.schedule.specs.declared.Worker.{Worker}
 use Rattle.schedule.specs.declared.Run.{Run}
 use Rattle.schedule.specs.Machine.{State, unborn, held, waiting, ended, nobody}
-use Rattle.schedule.specs.Record.{maxThreads, maxWorkers, maxBytes, filled, setOf, bytesOf, tableIn, stateOf}
-use Rattle.schedule.specs.Begin.{firsts, beginPasses}
+use Rattle.schedule.specs.Record.{maxThreads, maxWorkers, maxBytes, filled, setOf, bytesOf, tableIn, linksIn, listIn, stateOf}
+use Rattle.schedule.specs.Firsts.{firsts}
+use Rattle.schedule.specs.Links.{Links, laid}
+use Rattle.schedule.specs.Begin.{beginPasses}
 
 -- ---- words
 
@@ -219,11 +221,11 @@ pub record Steady (r : Run) : Type 0 where
   pub state : SoundState (tableIn r) (r .workers) (r .quota) (stateOf r)
   -- "and the set agrees"
   pub set : r .busy ≡ setOf (r .worker)
-  -- "unused parts are as fixed above", and the two lengths are those of the parts in use
+  -- "unused parts are as fixed above", and the table's length is that of the part in use
   pub table-length : length (bytesOf r) ≡ r .length
-  pub list-length : length (take (r .listed) (r .list)) ≡ r .listed
   pub table-rest : r .table ≡ filled maxBytes (bytesOf r)
-  pub list-rest : r .list ≡ filled maxThreads (take (r .listed) (r .list))
+  -- "Soundness requires that the links describe that list" (N10): they are those of the list that is read off them
+  pub links : linksIn r ≡ laid (listIn r)
 
 pub record Sound (r : Run) : Type 0 where
   pub steady : Steady r
@@ -270,12 +272,14 @@ commonSound s p K next status amounts workers set amount highest =
     && (common (tableOf s) p K next status amounts workers amount highest
     && eqb set (setOf workers)))
 
+unfoldable pub sameLinks : Links → Links → Bool
+sameLinks k l = sameList (k .left) (l .left) && (sameList (k .right) (l .right) && eqb (k .head) (l .head))
+
 unfoldable pub sound : Run → Bool
 sound r =
     commonSound (bytesOf r) (r .workers) (r .quota) (r .next) (r .status) (r .amounts) (r .worker) (r .busy) (r .held) (r .highest)
-    && (listed (tableIn r) (r .next) (r .status) (take (r .listed) (r .list))
+    && (listed (tableIn r) (r .next) (r .status) (listIn r)
     && (eqb (length (bytesOf r)) (r .length)
-    && (eqb (length (take (r .listed) (r .list))) (r .listed)
     && (sameList (r .table) (filled maxBytes (bytesOf r))
-    && (sameList (r .list) (filled maxThreads (take (r .listed) (r .list)))
-    && ltb (r .turns) (2 ^ 64 - 1))))))
+    && (sameLinks (linksIn r) (laid (listIn r))
+    && ltb (r .turns) (2 ^ 64 - 1)))))

@@ -29,14 +29,15 @@ isBlank r =
     && (sameList (r .next) (blank .next)
     && (sameList (r .status) (blank .status)
     && (sameList (r .amounts) (blank .amounts)
-    && (sameList (r .list) (blank .list)
-    && (eqb (r .listed) 0
+    && (sameList (r .left) (blank .left)
+    && (sameList (r .right) (blank .right)
+    && (eqb (r .leftmost) 0
     && (eqb (length (r .worker)) maxWorkers
     && (allBelow (λ w. isNobody (getD (r .worker) w nobody)) maxWorkers
     && (eqb (r .busy) 0
     && (eqb (r .held) 0
     && (eqb (r .highest) 0
-    && eqb (r .turns) 0)))))))))))))
+    && eqb (r .turns) 0))))))))))))))
 
 -- 32: "record not sound and not blank"
 unfoldable pub unsound : Run → Bool

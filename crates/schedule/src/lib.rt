@@ -24,9 +24,10 @@ pub struct Run {
     pub status: [u8; 1024],
     // what each thread holds: its balance so far, 0 once it is joined
     pub amounts: [u64; 1024],
-    // the threads that are forked and not ended, leftmost first, and how many they are
-    pub list: [u16; 1024],
-    pub listed: u16,
+    // the list of threads that are forked and not ended, as links: each thread's neighbours, and the leftmost; 1,024 is no thread
+    pub left: [u16; 1024],
+    pub right: [u16; 1024],
+    pub leftmost: u16,
     pub worker: [Worker; 16],
     // the workers that hold a thread, as a set of bits
     pub busy: u16,

@@ -19,12 +19,15 @@ use Rattle.schedule.proofs.Clauses.{unused-exactly, nobody-exactly}
 use Rattle.schedule.proofs.Tests.{blank-exactly}
 use Rattle.soundness.specs.Checks.{allZero}
 
--- the six tests
+-- the tests
 abbrev pub tableZero : Run → Bool
 tableZero r = sameList (r .table) (filled 36868 (take 0 (r .table)))
 
-abbrev pub listZero : Run → Bool
-listZero r = sameList (r .list) (filled 1024 (take 0 (r .list)))
+abbrev pub leftZero : Run → Bool
+leftZero r = sameList (r .left) (replicate 1024 0)
+
+abbrev pub rightZero : Run → Bool
+rightZero r = sameList (r .right) (replicate 1024 0)
 
 abbrev pub threadsZero : Run → Bool
 threadsZero r = allBelow (λ t. ltb t 0 || unused (r .next) (r .status) t) 1024
@@ -45,9 +48,13 @@ pub blank-table : tableZero blank ≡ true
 unfolding blank
 blank-table = sameList-exactly _ _ .1 refl
 
-pub blank-list : listZero blank ≡ true
+pub blank-left : leftZero blank ≡ true
 unfolding blank
-blank-list = sameList-exactly _ _ .1 refl
+blank-left = sameList-exactly _ _ .1 refl
+
+pub blank-right : rightZero blank ≡ true
+unfolding blank
+blank-right = sameList-exactly _ _ .1 refl
 
 pub blank-threads : threadsZero blank ≡ true
 unfolding blank
@@ -75,7 +82,7 @@ record Zeros (r : Run) : Type 0 where
   length : r .length ≡ 0
   workers : r .workers ≡ 0
   quota : r .quota ≡ 0
-  listed : r .listed ≡ 0
+  leftmost : r .leftmost ≡ 0
   busy : r .busy ≡ 0
   held : r .held ≡ 0
   highest : r .highest ≡ 0
@@ -84,13 +91,13 @@ record Zeros (r : Run) : Type 0 where
 zeros : (r : Run) → allZero r ≡ true → Zeros r
 unfolding allZero
 zeros r e =
-    let h = and-of (eqb-exactly (r .length) 0) (and-of (eqb-exactly (r .workers) 0) (and-of (eqb-exactly (r .quota) 0) (and-of (eqb-exactly (r .listed) 0)
+    let h = and-of (eqb-exactly (r .length) 0) (and-of (eqb-exactly (r .workers) 0) (and-of (eqb-exactly (r .quota) 0) (and-of (eqb-exactly (r .leftmost) 0)
     (and-of (eqb-exactly (r .busy) 0) (and-of (eqb-exactly (r .held) 0) (and-of (eqb-exactly (r .highest) 0) (eqb-exactly (r .turns) 0))))))) .0 e in
     record {
       length = h .0;
       workers = h .1 .0;
       quota = h .1 .1 .0;
-      listed = h .1 .1 .1 .0;
+      leftmost = h .1 .1 .1 .0;
       busy = h .1 .1 .1 .1 .0;
       held = h .1 .1 .1 .1 .1 .0;
       highest = h .1 .1 .1 .1 .1 .1 .0;
@@ -109,9 +116,10 @@ all-same : {A : Type 0} (d : A) (n : ℕ) (l : List A) → length l ≡ n → ((
 all-same d n l z h = ext-getD d l (replicate n d) (z ∙ sym (length-replicate n d)) (λ i k. let m : i < n = omega (arith, z) in h i m ∙ sym (getD-replicate n i d d m))
 
 pub is-blank : (r : Run) → length (r .next) ≡ 1024 → length (r .status) ≡ 1024
-    → allZero r ≡ true → tableZero r ≡ true → listZero r ≡ true → threadsZero r ≡ true → amountsZero r ≡ true → workersFree r ≡ true → isBlank r ≡ true
+    → allZero r ≡ true → tableZero r ≡ true → leftZero r ≡ true → rightZero r ≡ true → threadsZero r ≡ true → amountsZero r ≡ true → workersFree r ≡ true
+    → isBlank r ≡ true
 unfolding blank
-is-blank r zn zs a b c d m e = blank-exactly r .1 whole
+is-blank r zn zs a b c f d m e = blank-exactly r .1 whole
   where
     n : Zeros r
     n = zeros r a
@@ -119,8 +127,11 @@ is-blank r zn zs a b c d m e = blank-exactly r .1 whole
     t : r .table ≡ replicate 36868 0
     t = sameList-exactly _ _ .0 b
 
-    l : r .list ≡ replicate 1024 0
+    l : r .left ≡ replicate 1024 0
     l = sameList-exactly _ _ .0 c
+
+    g : r .right ≡ replicate 1024 0
+    g = sameList-exactly _ _ .0 f
 
     x : r .next ≡ replicate 1024 0
     x = all-same 0 1024 (r .next) zn (λ i h. thread-zero (r .next) (r .status) d i h .1)
@@ -147,8 +158,9 @@ is-blank r zn zs a b c d m e = blank-exactly r .1 whole
           next = x i;
           status = y i;
           amounts = z i;
-          list = l i;
-          listed = n .listed i;
+          left = l i;
+          right = g i;
+          leftmost = n .leftmost i;
           worker = v i;
           busy = n .busy i;
           held = n .held i;

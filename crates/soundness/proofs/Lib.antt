@@ -10,4 +10,5 @@ pub mod Spans
 pub mod Marks
 pub mod Chains
 pub mod Blank
+pub mod Reading
 pub mod Passed

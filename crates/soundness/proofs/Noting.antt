@@ -17,7 +17,7 @@ use Rattle.table.proofs.Bodies.{first-is, count-pos, owner-is, owner-below, for
 use Rattle.table.proofs.Nesting.{forks-true, fork-once, fork-found, fork-exists}
 use Rattle.schedule.specs.Machine.{parentOf}
 use Rattle.schedule.specs.Record.{filled}
-use Rattle.schedule.specs.Begin.{firsts}
+use Rattle.schedule.specs.Firsts.{firsts}
 use Rattle.schedule.proofs.Lists.{getD-alike, filled-at, filled-length, firsts-length, firsts-at, firsts-past}
 use Rattle.schedule.specs.Sound.{doneIn}
 use Rattle.schedule.proofs.Lawful.{Lawful}

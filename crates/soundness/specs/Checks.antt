@@ -4,7 +4,7 @@ use Prim.Native.Nat.{ℕ, _+_, _-_, _^_, _<_, _≤_}
 use mathlib.Core.List.{List}
 use mathlib.Core.Bool.{Bool, true, not, _&&_, _||_}
 use lib.Dec.{ltb, eqb}
-use lib.ListN.{length, take, getD}
+use lib.ListN.{length, getD}
 use Rattle.table.specs.Sum.{pick}
 use Rattle.table.specs.Format.{fork, join, is, Table, kind, tableOf}
 use Rattle.table.specs.Rules.{owner, endOf}
@@ -14,8 +14,9 @@ use Rattle.table.specs.Level.{forkBelow}
 use Rattle.schedule.specs.declared.Worker.{Worker}
 use Rattle.schedule.specs.declared.Run.{Run}
 use Rattle.schedule.specs.Machine.{held, ended, parentOf}
+use Rattle.schedule.specs.Links.{Links, walk, laid}
 use Rattle.schedule.specs.Record.{maxThreads, maxWorkers, maxBytes, filled, bytesOf}
-use Rattle.schedule.specs.Sound.{allBelow, doneIn, nextInBody, inOrder, statusFollows, waitsAtJoin, unused, oneHolder, workerRight, numberOf, sameList}
+use Rattle.schedule.specs.Sound.{allBelow, doneIn, nextInBody, inOrder, statusFollows, waitsAtJoin, unused, oneHolder, workerRight, numberOf, listed, sameLinks, sameList}
 
 -- the bytes are an accepted table of n threads
 pub record Accepted (s : List ℕ) (n : ℕ) : Type 0 where
@@ -93,14 +94,17 @@ holdersSound n p K status workers = allBelow (oneHolder status workers) n && all
 abbrev pub holdersWanted : ℕ → ℕ
 holdersWanted status = pick (eqb status held) 1 0
 
--- the clauses of a sound record on its lengths, its unused parts and its turns
+-- the clauses on the list that is read off links, and that they describe it (N10)
+abbrev pub linksSound : Table → List ℕ → List ℕ → Links → Bool
+linksSound T next status k =
+    listed T next status (walk maxThreads (k .right) (k .head)) && sameLinks k (laid (walk maxThreads (k .right) (k .head)))
+
+-- the clauses of a sound record on its table's length, the bytes past it and its turns
 abbrev pub restSound : Run → Bool
 restSound r =
     eqb (length (bytesOf r)) (r .length)
-    && (eqb (length (take (r .listed) (r .list))) (r .listed)
     && (sameList (r .table) (filled maxBytes (bytesOf r))
-    && (sameList (r .list) (filled maxThreads (take (r .listed) (r .list)))
-    && ltb (r .turns) (2 ^ 64 - 1))))
+    && ltb (r .turns) (2 ^ 64 - 1))
 
 -- the numbers of a record that stand outside its arrays are all 0
 unfoldable pub allZero : Run → Bool
@@ -108,7 +112,7 @@ allZero r =
     eqb (r .length) 0
     && (eqb (r .workers) 0
     && (eqb (r .quota) 0
-    && (eqb (r .listed) 0
+    && (eqb (r .leftmost) 0
     && (eqb (r .busy) 0
     && (eqb (r .held) 0
     && (eqb (r .highest) 0

@@ -11,7 +11,7 @@ use Rattle.schedule.specs.declared.Worker.{Worker}
 use Rattle.schedule.specs.declared.Run.{Run}
 use Rattle.schedule.specs.Machine.{parentOf}
 use Rattle.schedule.specs.Record.{maxThreads, filled, tableIn}
-use Rattle.schedule.specs.Begin.{firsts}
+use Rattle.schedule.specs.Firsts.{firsts}
 use Rattle.schedule.specs.Sound.{isNothing, commonSound, sound}
 use Rattle.schedule.specs.Turn.{unsound}
 use Rattle.soundness.specs.declared.Tested.{Tested}

@@ -1,13 +1,14 @@
-// The test of a record: the common part, the list's clauses, the lengths, the parts not in use, turns taken; and the blank record.
+// The test of a record: the common part, the list's clauses and its links, the table's length, the part not in use, turns taken; and the blank record.
 use crate::Tested;
 use crate::holders::workers_right;
 use crate::listed::list_follows;
 use crate::order::in_serial_order;
 use crate::shares::same_amounts;
 use crate::test_common;
-use crate::unused::list_rest;
 use crate::unused::table_rest;
 use crate::unused::unused_right;
+use crate::unused::zero_links;
+use links::NO_THREAD;
 use schedule::Run;
 use schedule::Worker;
 use table::read;
@@ -21,7 +22,7 @@ ghost use Rattle.schedule.specs.Machine.{nobody};
 ghost use Rattle.schedule.specs.Record.{tableIn};
 ghost use Rattle.schedule.specs.Sound.{allBelow, listed as listedOf, sound as soundOf};
 ghost use Rattle.schedule.specs.Turn.{isNobody, isBlank};
-ghost use Rattle.soundness.specs.Checks.{Accepted, Placed, restSound, allZero};
+ghost use Rattle.soundness.specs.Checks.{Accepted, Placed, linksSound, restSound, allZero};
 ghost use Rattle.soundness.specs.Tested.{parentsIn};
 
 // The clauses on the list.
@@ -44,28 +45,43 @@ fn list_sound(
     in_serial_order(table, n, next, list, len)
 }
 
-// The lengths, the parts not in use, turns taken.
-fn rest_sound(run: Run) -> bool
-    ensures { λ r. ⌜ r ≡ restSound run ⌝ }
-    ensures { λ r. ⌜ (r ≡ true → (run .length ≤ 36868) × (run .listed ≤ 1024)) ⌝ }
+// The list that is read off the links, "Reading from the left": its clauses, and "that the links describe that list" (N10).
+pub(crate) fn links_sound(
+    table: &[u8],
+    n: usize,
+    next: &[u16; 1024],
+    status: &[u8; 1024],
+    left: &[u16; 1024],
+    right: &[u16; 1024],
+    leftmost: u16,
+) -> bool
+    requires { ⌜ Accepted (now table) n ⌝ }
+    requires { ⌜ Placed (now table) n (now next) ⌝ }
+    ensures { λ r. ⌜ r ≡ linksSound (tableOf (now (table .entry))) (now (next .entry)) (now (status .entry)) (record { left = now (left .entry); right = now (right .entry); head = leftmost }) ⌝ }
 {
-    let length = run.length as usize;
-    let listed = run.listed as usize;
-    if 36868 < length {
+    let mut row = [0u16; 1024];
+    let len = links::read_row(right, leftmost, &mut row);
+    if !list_sound(table, n, next, status, &row, len) {
         return false;
     }
-    if 1024 < listed {
+    // A leftmost thread begins the row; where there is none, leftmost is 1,024.
+    leftmost <= NO_THREAD && links::describe(left, right, &row, len)
+}
+
+// The table's length, the bytes past it, turns taken.
+fn rest_sound(run: Run) -> bool
+    ensures { λ r. ⌜ r ≡ restSound run ⌝ }
+    ensures { λ r. ⌜ (r ≡ true → run .length ≤ 36868) ⌝ }
+{
+    let length = run.length as usize;
+    if 36868 < length {
         return false;
     }
     if run.turns == u64::MAX {
         return false;
     }
     let table = run.table;
-    if !table_rest(&table, length) {
-        return false;
-    }
-    let list = run.list;
-    list_rest(&list, listed)
+    table_rest(&table, length)
 }
 
 // "A record is sound if .."
@@ -100,16 +116,11 @@ pub(crate) fn sound(run: Run) -> Tested
     if !found.passed {
         return found;
     }
-    let list = run.list;
+    let n = read::threads(bytes);
+    let left = run.left;
+    let right = run.right;
+    let passed = links_sound(bytes, n, &next, &status, &left, &right, run.leftmost);
     let parents = found.parents;
-    let passed = list_sound(
-        bytes,
-        read::threads(bytes),
-        &next,
-        &status,
-        &list,
-        run.listed as usize,
-    );
     Tested { passed, parents }
 }
 
@@ -120,7 +131,7 @@ fn all_zero(run: Run) -> bool
     run.length == 0
         && (run.workers == 0
             && (run.quota == 0
-                && (run.listed == 0
+                && (run.leftmost == 0
                     && (run.busy == 0 && (run.held == 0 && (run.highest == 0 && run.turns == 0))))))
 }
 
@@ -142,8 +153,12 @@ pub(crate) fn is_blank(run: Run) -> bool
     if !table_rest(&table, 0) {
         return false;
     }
-    let list = run.list;
-    if !list_rest(&list, 0) {
+    let left = run.left;
+    if !zero_links(&left) {
+        return false;
+    }
+    let right = run.right;
+    if !zero_links(&right) {
         return false;
     }
     let next = run.next;

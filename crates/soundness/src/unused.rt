@@ -1,8 +1,8 @@
-// The parts of a record not in use: threads from n on, table bytes and list places past their lengths.
+// The parts of a record not in use: threads from n on, table bytes past the length, and the links of the blank record.
 use schedule::statuses::UNBORN;
 ghost use mathlib.Core.Path.{_≡_};
 ghost use mathlib.Core.Bool.{_||_};
-ghost use lib.ListN.{length, take};
+ghost use lib.ListN.{length, take, replicate};
 ghost use lib.Dec.{ltb};
 ghost use Rattle.schedule.specs.Record.{filled};
 ghost use Rattle.schedule.specs.Sound.{allBelow, unused, sameList};
@@ -39,17 +39,17 @@ pub(crate) fn table_rest(table: &[u8; 36868], used: usize) -> bool
     true
 }
 
-// "unused list places .. are 0"
-pub(crate) fn list_rest(list: &[u16; 1024], len: usize) -> bool
-    requires { ⌜ length (now list) ≡ 1024 ⌝ }
-    ensures { λ r. ⌜ r ≡ sameList (now (list .entry)) (filled 1024 (take len (now (list .entry)))) ⌝ }
+// Of the links: "in the blank record all are 0" (N10).
+pub(crate) fn zero_links(links: &[u16; 1024]) -> bool
+    requires { ⌜ length (now links) ≡ 1024 ⌝ }
+    ensures { λ r. ⌜ r ≡ sameList (now (links .entry)) (replicate 1024 0) ⌝ }
 {
-    let mut i = len;
-    while i < 1024 {
-        if list[i] != 0 {
+    let mut t = 0;
+    while t < 1024 {
+        if links[t] != 0 {
             return false;
         }
-        i += 1;
+        t += 1;
     }
     true
 }

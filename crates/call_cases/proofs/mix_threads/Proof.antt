@@ -6,10 +6,10 @@ use Rattle.call_cases.proofs.mix_threads.Statement.{statement}
 use Rattle.call_cases.proofs.mix_threads.Tie as tie
 
 abbrev Inv-loop : tie.InvT-loop
-Inv-loop before next status amounts list sum₀ t₀ sum t = t ≤ 1024
+Inv-loop before next status amounts left right sum₀ t₀ sum t = t ≤ 1024
 
 abbrev μ-loop : tie.MeasureT-loop
-μ-loop before next status amounts list sum₀ t₀ sum t = 1024 - t
+μ-loop before next status amounts left right sum₀ t₀ sum t = 1024 - t
 
 loop-holds : tie.Need-loop-holds Inv-loop μ-loop
 loop-holds c = omega arith
@@ -34,6 +34,12 @@ mul-mix-thread-3 c = search needs
 
 element-copy-out-mix-thread-4 : tie.Need-element-copy-out-mix-thread-4 Inv-loop μ-loop
 element-copy-out-mix-thread-4 c = search needs
+
+mul-mix-thread-4 : tie.Need-mul-mix-thread-4 Inv-loop μ-loop
+mul-mix-thread-4 c = search needs
+
+element-copy-out-mix-thread-5 : tie.Need-element-copy-out-mix-thread-5 Inv-loop μ-loop
+element-copy-out-mix-thread-5 c = search needs
 
 mix-thread-requires : tie.Need-mix-thread-requires Inv-loop μ-loop
 mix-thread-requires c κs = search needs
@@ -64,6 +70,8 @@ mix-threads-spec =
     element-copy-out-mix-thread-3
     mul-mix-thread-3
     element-copy-out-mix-thread-4
+    mul-mix-thread-4
+    element-copy-out-mix-thread-5
     mix-thread-requires
     add-t
     loop-less

@@ -1,5 +1,5 @@
 -- `links::link_left` meets its contract: its four writes are those of `linkLeft`.
-use mathlib.Core.Path.{_≡_, _∙_}
+use mathlib.Core.Path.{_≡_}
 use Prim.Native.Nat.{ℕ, _≤_, _<_}
 use mathlib.Core.List.{List}
 use lib.ListN.{getD, set}
@@ -15,15 +15,15 @@ module _ (left right : List ℕ) (leftmost c t x : ℕ) (left₁ left₂ right�
   given = record { left = left; right = right; head = leftmost }
 
   abbrev Linked : ℕ → Type 0
-  Linked r = (left₂ ≡ linkLeft c t given .left) × ((right₂ ≡ linkLeft c t given .right) × (r ≡ linkLeft c t given .head))
+  Linked r = _≡_ {A = Links} (record { left = left₂; right = right₂; head = r }) (linkLeft c t given)
 
   inner : x < noThread → Linked leftmost
   unfolding linkLeft
-  inner h = (d ∙ rw (b, a), (f ∙ rw (e, a), rw (← a, lt-ltb x noThread h)))
+  inner h = rw (d, b, f, e, ← a, lt-ltb x noThread h)
 
   first : noThread ≤ x → Linked c
   unfolding linkLeft
-  first h = (d ∙ rw (b, a), (f ∙ rw (e, a), rw (← a, le-ltb x noThread h)))
+  first h = rw (d, b, f, e, ← a, le-ltb x noThread h)
 
 neighbour-requires : tie.Need-neighbour-requires
 neighbour-requires c κs = search needs

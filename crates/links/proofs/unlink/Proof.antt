@@ -1,5 +1,5 @@
 -- `links::unlink` meets its contract: its four writes are those of the definition.
-use mathlib.Core.Path.{_≡_, _∙_}
+use mathlib.Core.Path.{_≡_}
 use Prim.Native.Nat.{ℕ, _≤_, _<_}
 use mathlib.Core.List.{List}
 use lib.ListN.{getD, set}
@@ -15,15 +15,15 @@ module _ (left right : List ℕ) (leftmost t x y : ℕ) (left₁ left₂ right�
   given = record { left = left; right = right; head = leftmost }
 
   abbrev Unlinked : ℕ → Type 0
-  Unlinked r = (left₂ ≡ unlink t given .left) × ((right₂ ≡ unlink t given .right) × (r ≡ unlink t given .head))
+  Unlinked r = _≡_ {A = Links} (record { left = left₂; right = right₂; head = r }) (unlink t given)
 
   inner : x < noThread → Unlinked leftmost
   unfolding unlink
-  inner h = (d ∙ rw (b, a, a′), (f ∙ rw (e, a, a′), rw (← a, lt-ltb x noThread h)))
+  inner h = rw (d, b, f, e, ← a, ← a′, lt-ltb x noThread h)
 
   first : noThread ≤ x → Unlinked y
   unfolding unlink
-  first h = (d ∙ rw (b, a, a′), (f ∙ rw (e, a, a′), rw (← a, le-ltb x noThread h) a′))
+  first h = rw (d, b, f, e, ← a, ← a′, le-ltb x noThread h)
 
 neighbour-requires : tie.Need-neighbour-requires
 neighbour-requires c κs = search needs

@@ -1,5 +1,5 @@
 -- `asyncdf::act::act_alloc` meets its contract: the parts that it leaves are those of the clause of `actBy` for alloc, beyond the quota and within it.
-use mathlib.Core.Path.{_≡_}
+use mathlib.Core.Path.{_≡_, refl}
 use Prim.Native.Nat.{ℕ, _+_, _-_, _≤_, _<_, max}
 use mathlib.Core.List.{List}
 use mathlib.Core.Bool.{true}
@@ -13,7 +13,7 @@ use Rattle.schedule.specs.declared.Reply.the-variants.{Done, Quota}
 use Rattle.schedule.specs.Machine.{ready, nobody, stepped, actBy}
 use Rattle.asyncdf.specs.Parts.{partState, At}
 use Rattle.asyncdf.specs.declared.act.Totals.{Totals}
-use Rattle.asyncdf.proofs.Rows.{next-done}
+use Rattle.asyncdf.proofs.Seats.{next-done}
 use Rattle.asyncdf.proofs.act.act_alloc.Statement.{statement}
 use Rattle.asyncdf.proofs.act.act_alloc.Tie as tie
 
@@ -27,7 +27,7 @@ module _ (next status amounts : List ℕ) (totals : Totals) (worker : Worker) (a
   within : (highest : ℕ) → At next worker a → x ≤ worker .quota → highest ≡ max (totals .highest) (totals .held + x)
       → stepped (Done (worker .thread) a)
       (partState (set next (worker .thread) (a + 1)) status (set amounts (worker .thread) (getD amounts (worker .thread) 0 + x)) list
-      (record { listed = totals .listed; held = totals .held + x; highest = highest })
+      (record { leftmost = totals .leftmost; first = totals .first; held = totals .held + x; highest = highest })
       (record { holds = true; thread = worker .thread; quota = worker .quota - x }))
       ≡ actBy alloc T 0 (worker .thread) a x (partState next status amounts list totals worker)
   unfolding actBy
@@ -40,11 +40,12 @@ put-back-requires : tie.Need-put-back-requires
 put-back-requires c κs = search needs
 
 returns : tie.Need-returns
-returns c T list =
+returns c =
     let t = c .before .before in
-    let d = t .before .before in
-    beyond (now (d .args .next)) (now (d .args .status)) (now (d .args .amounts)) (d .args .totals) (d .args .worker) (d .args .a) (d .args .x) T list _ _ (t .if1 .taken) (c .put-back .ensures .0)
-    (c .put-back .ensures .1)
+    let d = t .before .before in (
+      (λ T list. beyond (now (d .args .next)) (now (d .args .status)) (now (d .args .amounts)) (d .args .totals) (d .args .worker) (d .args .a) (d .args .x) T list _ _ (t .if1 .taken) (c .put-back .ensures .0) (c .put-back .ensures .1)),
+      record { leftmost = refl; first = refl },
+    )
 
 add-next : tie.Need-add-next
 add-next c = search needs
@@ -74,10 +75,12 @@ larger-requires : tie.Need-larger-requires
 larger-requires c κs = search needs
 
 returns-2 : tie.Need-returns-2
-returns-2 c T list =
+returns-2 c =
     let k = c .before .before .before .before in
-    let d = k .before .before in
-    within (now (d .args .next)) (now (d .args .status)) (now (d .args .amounts)) (d .args .totals) (d .args .worker) (d .args .a) (d .args .x) T list _ (d .pre .0) (k .if1 .left) (c .larger .ensures)
+    let d = k .before .before in (
+      (λ T list. within (now (d .args .next)) (now (d .args .status)) (now (d .args .amounts)) (d .args .totals) (d .args .worker) (d .args .a) (d .args .x) T list _ (d .pre .0) (k .if1 .left) (c .larger .ensures)),
+      record { leftmost = refl; first = refl },
+    )
 
 pub act-alloc-spec : {M : Type 1} → statement M
 act-alloc-spec =

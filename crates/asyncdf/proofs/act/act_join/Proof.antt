@@ -1,5 +1,5 @@
 -- `asyncdf::act::act_join` meets its contract: the parts that it leaves are those of the clause of `actBy` for join, for a child that has ended and for one that has not.
-use mathlib.Core.Path.{_≡_}
+use mathlib.Core.Path.{_≡_, refl}
 use Prim.Native.Nat.{ℕ, _+_}
 use mathlib.Core.List.{List}
 use borrow.Author.Needs.{needs}
@@ -12,7 +12,7 @@ use Rattle.schedule.specs.declared.Reply.the-variants.{Done, Wait}
 use Rattle.schedule.specs.Machine.{ended, waiting, nobody, stepped, actBy}
 use Rattle.asyncdf.specs.Parts.{partState, At}
 use Rattle.asyncdf.specs.declared.act.Totals.{Totals}
-use Rattle.asyncdf.proofs.Rows.{next-done}
+use Rattle.asyncdf.proofs.Seats.{next-done}
 use Rattle.asyncdf.proofs.act.act_join.Statement.{statement}
 use Rattle.asyncdf.proofs.act.act_join.Tie as tie
 
@@ -70,20 +70,27 @@ element-write-amounts-2 : tie.Need-element-write-amounts-2
 element-write-amounts-2 c = search needs
 
 returns : tie.Need-returns
-returns c T list =
+returns c =
     let t = c .before .before in
-    let d = t .before .before in
-    joined (now (d .args .next)) (now (d .args .status)) (now (d .args .amounts)) (d .args .totals) (d .args .worker) (d .args .a) (d .args .c) T list (d .pre .0) (t .if1 .taken)
+    let d = t .before .before in (
+      (λ T list. joined (now (d .args .next)) (now (d .args .status)) (now (d .args .amounts)) (d .args .totals) (d .args .worker) (d .args .a) (d .args .c) T list (d .pre .0) (t .if1 .taken)),
+      (refl, rw (eq-eqb _ ended (t .if1 .taken))),
+    )
 
 put-back-requires : tie.Need-put-back-requires
 put-back-requires c κs = search needs
 
+unlink-requires : tie.Need-unlink-requires
+unlink-requires c κs = search needs
+
 returns-2 : tie.Need-returns-2
-returns-2 c T list =
-    let e = c .before .before in
-    let d = e .before .before in
-    waits (now (d .args .next)) (now (d .args .status)) (now (d .args .amounts)) (d .args .totals) (d .args .worker) (d .args .a) (d .args .c) T list _ _ (e .if1 .left) (c .put-back .ensures .0)
-    (c .put-back .ensures .1)
+returns-2 c =
+    let b = c .before .before .before in
+    let e = b .before .before in
+    let d = e .before .before in (
+      (λ T list. waits (now (d .args .next)) (now (d .args .status)) (now (d .args .amounts)) (d .args .totals) (d .args .worker) (d .args .a) (d .args .c) T list _ _ (e .if1 .left) (b .put-back .ensures .0) (b .put-back .ensures .1)),
+      (refl, rw (ne-eqb _ ended (e .if1 .left)) (c .unlink .ensures)),
+    )
 
 pub act-join-spec : {M : Type 1} → statement M
 act-join-spec =
@@ -104,4 +111,5 @@ act-join-spec =
     element-write-amounts-2
     returns
     put-back-requires
+    unlink-requires
     returns-2)

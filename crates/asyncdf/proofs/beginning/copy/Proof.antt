@@ -6,7 +6,7 @@ use native.Mathlib.Omega.{arith}
 use lib.ListN.{length, getD, set, replicate}
 use lib.Seq.{take-length}
 use Rattle.schedule.specs.Record.{filled}
-use Rattle.schedule.specs.Begin.{firsts}
+use Rattle.schedule.specs.Firsts.{firsts}
 use Rattle.schedule.proofs.Lists.{firsts-take}
 use Rattle.asyncdf.proofs.Laying.{Laid, laid-more}
 use Rattle.asyncdf.proofs.beginning.copy.Statement.{statement}

@@ -8,7 +8,7 @@ use lib.ListN.{set, replicate}
 use Rattle.table.specs.Format.{actionsOf, tableOf}
 use Rattle.table.proofs.Sizes.{Sizes}
 use Rattle.schedule.specs.Record.{filled}
-use Rattle.schedule.specs.Begin.{firsts}
+use Rattle.schedule.specs.Firsts.{firsts}
 use Rattle.soundness.specs.Checks.{Accepted}
 use Rattle.asyncdf.proofs.Laying.{Laid, laid-more, accepted-sizes}
 use Rattle.asyncdf.proofs.beginning.fill_next.Statement.{statement}

@@ -1,7 +1,7 @@
 -- `asyncdf::runs::drive` meets its contract: a record whose root has ended is finished at once; of any other the turns are taken on copies of its arrays and packed.
 use mathlib.Core.Path.{_≡_, refl, sym, ap, _∙_}
 use Prim.Native.Nat.{ℕ, _^_, _≤_, _<_}
-use mathlib.Core.List.{List}
+use mathlib.Core.List.{List, []}
 use mathlib.Core.Bool.{false}
 use native.Mathlib.Omega.{arith}
 use borrow.Author.Needs.{needs}
@@ -21,28 +21,26 @@ use Rattle.asyncdf.proofs.Calls.{root-open}
 use Rattle.table.specs.Format.{threadsOf, tableOf}
 use Rattle.table.specs.Rules.{endOf}
 use Rattle.soundness.specs.Checks.{Parents}
+use Rattle.asyncdf.specs.Parts.{Arrays}
 use Rattle.asyncdf.specs.Drives.{Moving, Driven, movedOf, packedOf}
 use Rattle.asyncdf.specs.declared.runs.Moved.{Moved}
 use Rattle.asyncdf.proofs.Driving.{drive-over}
-use Rattle.asyncdf.proofs.Moving.{table-room, copied-moving}
+use Rattle.asyncdf.proofs.Moving.{arraysOf, table-room, first-moving}
 use Rattle.asyncdf.proofs.runs.drive.Statement.{statement}
 use Rattle.asyncdf.proofs.runs.drive.Tie as tie
 
-over : (f : ℕ → ℕ) (limit : ℕ) (run : Run) (reply : Reply) (passed : ℕ) → getD (run .status) 0 0 ≡ 4 → Driven f limit run (Finished 0) reply passed run
+over : (f : ℕ → ℕ) (limit : ℕ) (run : Run) (reply : Reply) → getD (run .status) 0 0 ≡ 4 → Driven f limit run (Finished 0) reply run
 unfolding rootEnded
-over f limit run reply passed e =
+over f limit run reply e =
     record {
       ran-as = sym (drive-over f 0 run limit (eq-eqb (getD (run .status) 0 0) ended e));
       said = λ one o. absurd (eqb-false (getD (run .status) 0 0) ended (o .unended) e);
     }
 
 -- the whole run, from the record itself and to the record packed
-driven : {who : ℕ → ℕ} {limit : ℕ} {run left left' : Run} {report : Report} {reply : Reply} {passed : ℕ} {m : Moved} → m ≡ movedOf run → left' ≡ left
-    → Driven who limit (packedOf run (run .next) (run .status) (run .amounts) (run .list) (run .worker) m) report reply passed left → Driven who limit run report reply passed left'
-driven e d x = rw d (rw e at x)
-
-list-size : (s : tie.Start) → length (s .args .run .list) ≡ 1024
-list-size s = search needs
+driven : {who : ℕ → ℕ} {limit : ℕ} {run left left' : Run} {report : Report} {reply : Reply} {first : ℕ} (under over : List ℕ) {m : Moved} → m ≡ movedOf run first → left' ≡ left
+    → Driven who limit (packedOf run (arraysOf run under over) (run .worker) m) report reply left → Driven who limit run report reply left'
+driven under over e d x = rw d (rw e at x)
 
 cast-length : tie.Need-cast-length
 cast-length c = search needs
@@ -57,7 +55,7 @@ array-read-if1 : tie.Need-array-read-if1
 array-read-if1 c = search needs
 
 returns : tie.Need-returns
-returns c = over _ _ _ _ _ (c .if1 .taken)
+returns c = over _ _ _ _ (c .if1 .taken)
 
 threads-requires : tie.Need-threads-requires
 threads-requires c κs = search needs
@@ -68,24 +66,36 @@ root-end-requires c κs = search needs
 cast-p : tie.Need-cast-p
 cast-p c = search needs
 
+fill-actives-requires : tie.Need-fill-actives-requires
+fill-actives-requires c κs = search needs
+
 moved-in-requires : tie.Need-moved-in-requires
 moved-in-requires c κs = search needs
 
+-- the second list filled, and before it the root's end and the threads read
+abbrev filled : tie.After-moved-in → tie.After-fill-actives
+filled c = c .before .before .before .before .before .before .before .before
+
+abbrev read : tie.After-moved-in → tie.After-root-end
+read c = filled c .before .before .before .before .before .before .before
+
 -- the record at the loop's start
 abbrev start : tie.After-moved-in → tie.Start
-start c = c .before .before .before .before .before .before .before .before .before .before .before .before .before .before .before .before .before .before
+start c = read c .before .before .before .before .before .before .before .before .before .before .before .before
 
 turns-fit : (s : tie.Start) → s .args .run .turns < 2 ^ 64
 turns-fit s = search needs
 
+abbrev second : tie.After-moved-in → Arrays
+second c = arraysOf (start c .args .run) (filled c .fill-actives .last .1 .1 .1 .0) (filled c .fill-actives .last .1 .1 .1 .1 .0)
+
 moving : (c : tie.After-moved-in)
-    → Moving (start c .args .run) (bytesOf (start c .args .run)) (c .before .before .before .before .before .before .before .before .threads .result)
-    (c .before .before .before .before .before .before .before .root-end .result) (start c .args .run .workers) (start c .args .run .quota) (now (start c .args .parents))
-    (start c .args .run .next) (start c .args .run .status) (start c .args .run .amounts) (start c .args .run .list) (start c .args .run .worker) (c .moved-in .result)
+    → Moving (start c .args .run) (bytesOf (start c .args .run)) (read c .before .threads .result) (read c .root-end .result) (start c .args .run .workers) (start c .args .run .quota)
+    (now (start c .args .parents)) (second c) (start c .args .run .worker) (c .moved-in .result)
 moving c =
-    let r = c .before .before .before .before .before .before .before in
     let s = start c in
-    copied-moving (s .pre .0) (root-open _ (r .before .before .if1 .left)) (r .before .threads .ensures .value) (r .root-end .ensures) (s .pre .1 .0) (list-size s) (turns-fit s) (c .moved-in .ensures)
+    first-moving (s .pre .0) (root-open _ (read c .before .before .if1 .left)) (read c .before .threads .ensures .value) (read c .root-end .ensures) (s .pre .1 .0)
+    (filled c .fill-actives .ensures) (turns-fit s) (c .moved-in .ensures)
 
 take-turns-requires : tie.Need-take-turns-requires
 take-turns-requires c κs = (record { run = start c .args .run; moving = moving c }, start c .pre .1 .1)
@@ -97,7 +107,7 @@ returns-2 : tie.Need-returns-2
 returns-2 c =
     let t = c .before .before .before in
     let m = t .before in
-    driven (m .moved-in .ensures) (c .packed .ensures) (t .take-turns .ensures .0 (start m .args .run) (moving m))
+    driven [] [] (m .moved-in .ensures) (c .packed .ensures [] []) (t .take-turns .ensures (start m .args .run) (moving m))
 
 pub drive-spec : {M : Type 1} → statement M
 drive-spec =
@@ -111,6 +121,7 @@ drive-spec =
     threads-requires
     root-end-requires
     cast-p
+    fill-actives-requires
     moved-in-requires
     take-turns-requires
     packed-requires

@@ -11,25 +11,26 @@ use Rattle.schedule.specs.declared.Worker.{Worker}
 use Rattle.schedule.specs.declared.Run.{Run}
 use Rattle.schedule.specs.declared.Reply.{Reply}
 use Rattle.asyncdf.specs.declared.runs.Moved.{Moved}
+use Rattle.asyncdf.specs.Parts.{Arrays, arrays}
 use Rattle.asyncdf.specs.Drives.{who, Sequence, Moving, Stands, packedOf}
-use Rattle.asyncdf.proofs.Moving.{not-done, other, listed-small, few, sits, bit}
+use Rattle.asyncdf.proofs.Moving.{not-done, other, few, sits, bit}
 use Rattle.asyncdf.proofs.Along.{Along, first-along, spent, full, none, again, finished}
 use Rattle.asyncdf.proofs.runs.take_turns.Statement.{statement}
 use Rattle.asyncdf.proofs.runs.take_turns.Tie as tie
 
-record Inv (s : List ℕ) (n last p K : ℕ) (parents next₀ status₀ amounts₀ list₀ : List ℕ) (workers₀ : List Worker) (m₀ : Moved) (order : List ℕ) (rounds : Bool) (limit : ℕ)
-    (next status amounts list : List ℕ) (workers : List Worker) (m : Moved) (reply : Reply) (passed i : ℕ) : Type 0 where
-  begun : Stands s n last p K parents next₀ status₀ amounts₀ list₀ workers₀ m₀
+record Inv (s : List ℕ) (n last p K : ℕ) (parents : List ℕ) (A₀ : Arrays) (workers₀ : List Worker) (m₀ : Moved) (order : List ℕ) (rounds : Bool) (limit : ℕ)
+    (A : Arrays) (workers : List Worker) (m : Moved) (reply : Reply) (i : ℕ) : Type 0 where
+  begun : Stands s n last p K parents A₀ workers₀ m₀
   sequence : (j : ℕ) → j < limit → Sequence order rounds p j
-  along : (run : Run) → Moving run s n last p K parents next₀ status₀ amounts₀ list₀ workers₀ m₀
-      → Along (who order rounds p) limit run (packedOf run next₀ status₀ amounts₀ list₀ workers₀ m₀) s n last p K parents next status amounts list workers m reply passed i
+  along : (run : Run) → Moving run s n last p K parents A₀ workers₀ m₀
+      → Along (who order rounds p) limit run (packedOf run A₀ workers₀ m₀) s n last p K parents A workers m reply i
 
 abbrev Inv-loop : tie.InvT-loop
-Inv-loop table n last p quota parents next₀ status₀ amounts₀ list₀ order rounds limit workers₀ moved₀ reply₀ passed₀ i₀ next status amounts list workers moved reply passed i =
-    Inv table n last p quota parents next₀ status₀ amounts₀ list₀ workers₀ moved₀ order rounds limit next status amounts list workers moved reply passed i
+Inv-loop table n last p quota parents next₀ status₀ amounts₀ left₀ right₀ under₀ over₀ order rounds limit workers₀ moved₀ reply₀ i₀ next status amounts left right under over workers moved reply i =
+    Inv table n last p quota parents (arrays next₀ status₀ amounts₀ left₀ right₀ under₀ over₀) workers₀ moved₀ order rounds limit (arrays next status amounts left right under over) workers moved reply i
 
 abbrev μ-loop : tie.MeasureT-loop
-μ-loop table n last p quota parents next₀ status₀ amounts₀ list₀ order rounds limit workers₀ moved₀ reply₀ passed₀ i₀ next status amounts list workers moved reply passed i = limit - i
+μ-loop table n last p quota parents next₀ status₀ amounts₀ left₀ right₀ under₀ over₀ order rounds limit workers₀ moved₀ reply₀ i₀ next status amounts left right under over workers moved reply i = limit - i
 
 -- ---- the loop's places
 
@@ -37,13 +38,13 @@ abbrev μ-loop : tie.MeasureT-loop
 moving : (c : tie.At-loop Inv-loop μ-loop)
     → Moving (c .loop .inv .begun .run) (now (c .before .before .before .args .table)) (c .before .before .before .args .n) (c .before .before .before .args .last)
     (c .before .before .before .args .p) (c .before .before .before .args .quota) (now (c .before .before .before .args .parents))
-    (c .loop .next) (c .loop .status) (c .loop .amounts) (c .loop .list) (c .loop .workers) (c .loop .moved)
+    (arrays (c .loop .next) (c .loop .status) (c .loop .amounts) (c .loop .left) (c .loop .right) (c .loop .under) (c .loop .over)) (c .loop .workers) (c .loop .moved)
 moving c = c .loop .inv .along (c .loop .inv .begun .run) (c .loop .inv .begun .moving) .moving
 
 loop-holds : tie.Need-loop-holds Inv-loop μ-loop
 loop-holds c =
     let s = c .before .before in
-    record { begun = s .pre .0; sequence = s .pre .1; along = λ run v. first-along _ _ v }
+    record { begun = s .pre .0; sequence = s .pre .1; along = λ run v. first-along _ v }
 
 worker-of-requires : tie.Need-worker-of-requires Inv-loop μ-loop
 worker-of-requires c κs = c .before .loop .inv .sequence (c .before .loop .i) (c .loop-test .taken)
@@ -63,24 +64,20 @@ few-workers c = few (moving (top (asked c))) (c .if2 .left)
 
 -- and the turn taken
 abbrev tests : tie.After-take-turn Inv-loop μ-loop → tie.Else2 Inv-loop μ-loop
-tests c = c .before .before .before .before .before .before
+tests c = c .before .before .before .before .before .before .before .before .before
 
 returns : tie.Need-returns Inv-loop μ-loop
 returns c =
-    let w = c .before .before .before in (
-      (λ run v. rw (c .stopped .ensures) (full (top w .loop .inv .along run v) (w .before .loop-test .taken) (c .before .if1 .taken))),
-      omega (arith, listed-small (moving (top w) .row)),
-    )
+    let w = c .before .before .before in
+    λ run v. rw (c .stopped .ensures) (full (top w .loop .inv .along run v) (w .before .loop-test .taken) (c .before .if1 .taken))
 
 stopped-requires-2 : tie.Need-stopped-requires-2 Inv-loop μ-loop
 stopped-requires-2 c κs = search needs
 
 returns-2 : tie.Need-returns-2 Inv-loop μ-loop
 returns-2 c =
-    let w = c .before .before .before .before in (
-      (λ run v. rw (c .stopped2 .ensures) (none (top w .loop .inv .along run v) (w .before .loop-test .taken) (c .before .before .if1 .left) (w .worker-of .ensures) (c .before .if2 .taken))),
-      omega (arith, listed-small (moving (top w) .row)),
-    )
+    let w = c .before .before .before .before in
+    λ run v. rw (c .stopped2 .ensures) (none (top w .loop .inv .along run v) (w .before .loop-test .taken) (c .before .before .if1 .left) (w .worker-of .ensures) (c .before .if2 .taken))
 
 mul-worker : tie.Need-mul-worker Inv-loop μ-loop
 mul-worker c = omega (arith, few-workers c)
@@ -90,7 +87,7 @@ array-copy-out-worker c = few-workers c
 
 take-turn-requires : tie.Need-take-turn-requires Inv-loop μ-loop
 take-turn-requires c κs =
-    let e = c .before .before .before .before .before in
+    let e = c .before .before .before .before .before .before .before .before in
     let v = moving (top (asked e)) in
     (sits v (e .if2 .left), (v .outline .parent, (bit v (e .if2 .left), omega (arith, v .turns-fit, e .before .if1 .left))))
 
@@ -129,11 +126,9 @@ returns-3 : tie.Need-returns-3 Inv-loop μ-loop
 returns-3 c =
     let t = c .before .before .before .before .before .before in
     let e = tests t in
-    let v = top (asked e) .loop .inv in (
-      (λ run m. finished (v .along run m) (asked e .before .loop-test .taken) (e .before .if1 .left) (asked e .worker-of .ensures) (e .if2 .left) (t .take-turn .ensures)
-          (c .before .before .reply .given .1) (c .if3 .taken)),
-      omega (arith, listed-small (t .take-turn .ensures .row)),
-    )
+    let v = top (asked e) .loop .inv in
+    λ run m. finished (v .along run m) (asked e .before .loop-test .taken) (e .before .if1 .left) (asked e .worker-of .ensures) (e .if2 .left) (t .take-turn .ensures)
+    (c .before .before .reply .given .1) (c .if3 .taken)
 
 loop-less-2 : tie.Need-loop-less-2 Inv-loop μ-loop
 loop-less-2 c = omega (arith, asked (tests (c .before .before .before .before .before .before)) .before .loop-test .taken)
@@ -150,8 +145,7 @@ loop-again-2 c =
     }
 
 returns-4 : tie.Need-returns-4 Inv-loop μ-loop
-returns-4 c =
-    ((λ run v. spent (c .before .loop .inv .along run v) (c .loop-test .left)), omega (arith, listed-small (moving (c .before) .row)))
+returns-4 c run v = spent (c .before .loop .inv .along run v) (c .loop-test .left)
 
 pub take-turns-spec : {M : Type 1} → statement M
 take-turns-spec =

@@ -1,102 +1,57 @@
--- `asyncdf::step::find` meets its contract: a worker that holds a thread keeps it, one that holds none takes the leftmost ready thread, if there is one.
-use mathlib.Core.Path.{_≡_, refl, _∙_}
+-- `asyncdf::step::find` meets its contract: a worker that holds a thread keeps it, one that holds none takes the thread found, if there is one.
+use mathlib.Core.Path.{_≡_, refl}
 use Prim.Native.Nat.{ℕ, _≤_, _<_}
 use mathlib.Core.List.{List}
 use mathlib.Core.Bool.{true, false}
-use native.Mathlib.Omega.{arith}
-use borrow.Author.Tests.{eq-eqb, ne-eqb}
+use borrow.Author.Needs.{needs}
+use borrow.Author.Tests.{lt-ltb, le-ltb}
 use denote.Ref.{now}
-use lib.ListN.{length, getD, set, take}
-use lib.Seq.{getD-take}
+use lib.ListN.{set}
 use Rattle.schedule.specs.declared.Worker.{Worker}
-use Rattle.schedule.specs.Machine.{held, leftmost}
-use Rattle.schedule.proofs.Replies.{leftmost-within}
-use Rattle.asyncdf.specs.Parts.{Rowed, Seat, seat, seatOf}
-use Rattle.asyncdf.proofs.Rows.{rowed-small}
+use Rattle.schedule.specs.Machine.{held}
+use Rattle.schedule.specs.Links.{noThread}
+use Rattle.asyncdf.specs.Parts.{seat, seatOf}
 use Rattle.asyncdf.proofs.step.find.Statement.{statement}
 use Rattle.asyncdf.proofs.step.find.Tie as tie
 
-module _ (K : ℕ) (status list : List ℕ) (len : ℕ) (worker : Worker) where
-  keeps : worker .holds ≡ true → seat status worker 0 ≡ seatOf K status (take len list) worker
+module _ (K : ℕ) (status : List ℕ) (worker : Worker) where
+  keeps : worker .holds ≡ true → (t : ℕ) → seat status worker ≡ seatOf K status t worker
   unfolding seatOf
-  keeps h = rw h
+  keeps h t = rw h
 
-  module _ (h : worker .holds ≡ false) (row : Rowed list len) {i : ℕ} (e : i ≡ leftmost status (take len list)) where
-    none : i ≡ len → seat status worker 0 ≡ seatOf K status (take len list) worker
+  module _ (h : worker .holds ≡ false) {t u : ℕ} (e : t ≡ u) where
+    none : noThread ≤ t → seat status worker ≡ seatOf K status u worker
     unfolding seatOf
-    none d = rw (h, ← e, row .front, eq-eqb i len d)
+    none b = rw (h, ← e, le-ltb t noThread b)
 
-    module _ (d : i ≡ len → ⊥) where
-      inside : i < len
-      inside = omega (arith, d, leftmost-within status (take len list), row .front)
-
-      takes : seat (set status (getD list i 0) held) (record { holds = true; thread = getD list i 0; quota = K }) i ≡ seatOf K status (take len list) worker
-      unfolding seatOf
-      takes = rw (h, ← e, row .front, ne-eqb i len d, getD-take len list i 0 inside)
-
-      thread-below : ((j : ℕ) → j < len → getD list j 0 < 1024) → getD list i 0 < 1024
-      thread-below b = b i inside
-
--- ---- the place found
-
-abbrev start : tie.After-leftmost → tie.Start
-start c = c .before .before .before
-
-free : (c : tie.After-leftmost) → start c .args .worker .holds ≡ false
-free c = c .before .before .if1 .left
+    takes : t < noThread → seat (set status t held) (record { holds = true; thread = t; quota = K }) ≡ seatOf K status u worker
+    unfolding seatOf
+    takes b = rw (h, ← e, lt-ltb t noThread b)
 
 returns : tie.Need-returns
-returns c =
-    let s = c .before in
-    keeps (s .args .quota) (now (s .args .status)) (now (s .args .list)) (s .args .len) (s .args .worker) (c .if1 .taken)
+returns c = keeps (c .before .args .quota) (now (c .before .args .status)) (c .before .args .worker) (c .if1 .taken) _
 
-leftmost-requires : tie.Need-leftmost-requires
-leftmost-requires c κs = c .before .before .pre
+seek-requires : tie.Need-seek-requires
+seek-requires c κs = search needs
 
 returns-2 : tie.Need-returns-2
 returns-2 c =
     let k = c .before in
-    none (start k .args .quota) _ _ _ _ (free k) (start k .pre .0) (k .leftmost .ensures) (c .if2 .taken)
+    let e = k .before .before in
+    none (e .before .args .quota) (now (e .before .args .status)) (e .before .args .worker) (e .if1 .left) (k .seek .ensures .0) (c .if2 .taken)
 
-in-row : (c : tie.Else2) → c .before .leftmost .result < 1024
-in-row c =
-    let k = c .before in
-    omega (arith, inside (start k .args .quota) _ _ _ (start k .args .worker) (free k) (start k .pre .0) (k .leftmost .ensures) (c .if2 .left), rowed-small _ _ (start k .pre .0))
-
-mul-thread : tie.Need-mul-thread
-mul-thread c = omega (arith, in-row c)
-
-element-copy-out-thread : tie.Need-element-copy-out-thread
-element-copy-out-thread c = in-row c
-
-cast-t : tie.Need-cast-t
-cast-t c =
-    let k = c .before .before in
-    omega (arith, thread-below (start k .args .quota) _ _ _ (start k .args .worker) (free k) (start k .pre .0) (k .leftmost .ensures) (c .before .if2 .left) (start k .pre .1))
+cast-status : tie.Need-cast-status
+cast-status c = search needs
 
 element-write-status : tie.Need-element-write-status
-element-write-status c =
-    let k = c .before .before in
-    thread-below (start k .args .quota) _ _ _ (start k .args .worker) (free k) (start k .pre .0) (k .leftmost .ensures) (c .before .if2 .left) (start k .pre .1)
-
-cast-t14 : tie.Need-cast-t14
-cast-t14 c = omega (arith, in-row (c .before))
+element-write-status c = search needs
 
 returns-3 : tie.Need-returns-3
 returns-3 c =
-    let k = c .before .before in
-    takes (start k .args .quota) _ _ _ _ (free k) (start k .pre .0) (k .leftmost .ensures) (c .before .if2 .left)
+    let k = c .before in
+    let e = k .before .before in
+    takes (e .before .args .quota) (now (e .before .args .status)) (e .before .args .worker) (e .if1 .left) (k .seek .ensures .0) (c .if2 .left)
 
 pub find-spec : {M : Type 1} → statement M
 find-spec =
-    tie.close
-    (tie.spec
-    returns
-    leftmost-requires
-    returns-2
-    mul-thread
-    element-copy-out-thread
-    cast-t
-    element-write-status
-    cast-t14
-    returns-3)
+    tie.close (tie.spec returns seek-requires returns-2 cast-status element-write-status returns-3)

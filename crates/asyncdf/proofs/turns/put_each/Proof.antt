@@ -17,7 +17,7 @@ use Rattle.schedule.specs.declared.Reply.the-variants.{Done}
 use Rattle.schedule.specs.declared.Turning.the-variants.{Taken as taken}
 use Rattle.schedule.specs.Machine.{nobody}
 use Rattle.schedule.specs.Sound.{Steady}
-use Rattle.schedule.specs.Turn.{unsound, turned}
+use Rattle.schedule.specs.Turn.{unsound, passedIn, turned}
 use Rattle.schedule.specs.Listing.{line, toldWith, actionIn, threadIn, lastWith}
 use Rattle.schedule.proofs.Stores.{moved-steady}
 use Rattle.table.specs.Format.{kind}
@@ -29,19 +29,20 @@ use Rattle.chart.proofs.Records.{wall-width, charted-written}
 use Rattle.chart.proofs.Records.{few as few-turns}
 use Rattle.asyncdf.specs.declared.runs.Moved.{Moved}
 use Rattle.asyncdf.specs.declared.runs.Taken.{Taken}
+use Rattle.asyncdf.specs.Parts.{Arrays, arrays}
 use Rattle.asyncdf.specs.Drives.{Outlined, Moving, Stands, Took, packedOf}
 use Rattle.asyncdf.specs.Sheets.{turnsTexts, widest, afterTexts, afterSize, overTexts, hindered}
 use Rattle.asyncdf.proofs.Calls.{steady-room, turned-taken}
-use Rattle.asyncdf.proofs.Moving.{not-done, other, few, sits, bit, moves, replies, passes, keeps, over}
+use Rattle.asyncdf.proofs.Moving.{not-done, other, few, sits, bit, moves, replies, keeps, over}
 use Rattle.asyncdf.proofs.Ordered.{Listed, start, ended, exhausted, refused, again}
 use Rattle.asyncdf.proofs.Hindrances.{Free, unhindered, hinders}
 use Rattle.asyncdf.proofs.turns.put_each.Statement.{statement}
 use Rattle.asyncdf.proofs.turns.put_each.Tie as tie
 
-record Tells (chart : Bool) (run run₀ : Run) (order out₀ : List ℕ) (at₀ : ℕ) (s : List ℕ) (n last p K : ℕ) (parents next status amounts list : List ℕ) (workers : List Worker) (m : Moved) (out : List ℕ)
+record Tells (chart : Bool) (run run₀ : Run) (order out₀ : List ℕ) (at₀ : ℕ) (s : List ℕ) (n last p K : ℕ) (parents : List ℕ) (A : Arrays) (workers : List Worker) (m : Moved) (out : List ℕ)
     (at i : ℕ) : Type 0 where
-  moving : Moving run s n last p K parents next status amounts list workers m
-  listed : Listed chart order out₀ at₀ run₀ out (packedOf run next status amounts list workers m) at i
+  moving : Moving run s n last p K parents A workers m
+  listed : Listed chart order out₀ at₀ run₀ out (packedOf run A workers m) at i
 
 -- a chart's line that has its width is as long as a line may be
 sized : (chart : Bool) (x : Shown) {s o : List ℕ} {at k : ℕ} {texts : List (List ℕ)} → (chart ≡ true → length (lineText x) ≡ 85) → Puts s at o k texts (afterSize chart x)
@@ -49,10 +50,10 @@ sized : (chart : Bool) (x : Shown) {s o : List ℕ} {at k : ℕ} {texts : List (
 sized true x h p = puts-within (omega (arith, h refl)) p
 sized false x h p = p
 
-module _ {chart : Bool} {run run₀ : Run} {order out₀ : List ℕ} {at₀ : ℕ} {s : List ℕ} {n last p K : ℕ} {parents next status amounts list : List ℕ} {workers : List Worker} {m : Moved} {out : List ℕ}
-    {at i : ℕ} (v : Tells chart run run₀ order out₀ at₀ s n last p K parents next status amounts list workers m out at i) where
+module _ {chart : Bool} {run run₀ : Run} {order out₀ : List ℕ} {at₀ : ℕ} {s : List ℕ} {n last p K : ℕ} {parents : List ℕ} {A : Arrays} {workers : List Worker} {m : Moved} {out : List ℕ}
+    {at i : ℕ} (v : Tells chart run run₀ order out₀ at₀ s n last p K parents A workers m out at i) where
   abbrev here : Run
-  here = packedOf run next status amounts list workers m
+  here = packedOf run A workers m
 
   spent : {o : List ℕ} {r : ℕ} → length order ≤ i → Puts out at o r (overTexts chart (lastWith false (m .turns) (m .totals .highest))) 64
       → Puts out₀ at₀ o r (turnsTexts chart run₀ order) (widest chart * (length order + 1))
@@ -63,21 +64,20 @@ module _ {chart : Bool} {run run₀ : Run} {order out₀ : List ℕ} {at₀ : �
         → Puts out at o r (refusedLine (refusal number 0) ∷ []) 64 → Puts out₀ at₀ o r (turnsTexts chart run₀ order) (widest chart * (length order + 1))
     stopped {number} room e z q = refused (v .listed) h (refusal number 0) (λ rest. rw e (hinders (v .moving) (getD order i 0) rest chart room (λ y. z (e ∙ y)))) q
 
-    module _ (f : Free chart p (getD order i 0) (m .turns)) {next' status' amounts' list' : List ℕ} {r : Taken}
-        (t : Took (tableOf s) K (getD order i 0) next status amounts list m (getD workers (getD order i 0) nobody) next' status' amounts' list' r) where
+    module _ (f : Free chart p (getD order i 0) (m .turns)) {B : Arrays} {r : Taken}
+        (t : Took (tableOf s) K (getD order i 0) A m (getD workers (getD order i 0) nobody) B r) where
       abbrev there : Run
-      there = packedOf run next' status' amounts' list' (set workers (getD order i 0) (r .worker)) (r .moved)
+      there = packedOf run B (set workers (getD order i 0) (r .worker)) (r .moved)
 
       own : getD order i 0 < run .workers
       own = omega (arith, f .below, v .moving .count)
 
-      takes : record { answer = taken (r .reply) (r .passed); run = there } ≡ turned here (getD order i 0)
+      takes : record { answer = taken (r .reply) (passedIn here (getD order i 0)); run = there } ≡ turned here (getD order i 0)
       takes =
           let a = sym (replies (v .moving) (f .below) t) in
-          let c = sym (passes (v .moving) (f .below) t) in
           let x : there ≡ _ = sym (moves (v .moving) (f .below) t) in
           let u : unsound here ≡ false = steady-room here (v .moving .steady) (v .moving .turns-fit) (f .room) in
-          (λ j. record { answer = taken (a j) (c j); run = x j }) ∙ turned-taken here (getD order i 0) u own (v .moving .unended)
+          (λ j. record { answer = taken (a j) (passedIn here (getD order i 0)); run = x j }) ∙ turned-taken here (getD order i 0) u own (v .moving .unended)
 
       -- the record after a turn of a chart has its line
       room-there : chart ≡ true → r .moved .turns ≤ mostTurns
@@ -94,7 +94,7 @@ module _ {chart : Bool} {run run₀ : Run} {order out₀ : List ℕ} {at₀ : �
       module _ {o : List ℕ} {k : ℕ} (l : length o ≡ length out)
           (q : Puts out at o k
           (afterTexts chart (shownOf (r .moved .turns) p (set workers (getD order i 0) (r .worker)) (r .moved .totals .held))
-          (line (r .moved .turns) (getD order i 0) (toldWith (r .reply) (kind (tableOf s) (actionIn (r .reply))) (getD next' (threadIn (r .reply)) 0)) (r .moved .totals .held)))
+          (line (r .moved .turns) (getD order i 0) (toldWith (r .reply) (kind (tableOf s) (actionIn (r .reply))) (getD (B .next) (threadIn (r .reply)) 0)) (r .moved .totals .held)))
           (afterSize chart (shownOf (r .moved .turns) p (set workers (getD order i 0) (r .worker)) (r .moved .totals .held)))) where
         next-listed : Listed chart order out₀ at₀ run₀ o there k (i + 1)
         next-listed =
@@ -102,32 +102,32 @@ module _ {chart : Bool} {run run₀ : Run} {order out₀ : List ℕ} {at₀ : �
             (sized chart (shown there) (λ c. wall-width there (sound-there c) (few-there c)) (rw (← (v .moving .bytes), ← (v .moving .count)) at q))
 
         goes-on : ((u : ℕ) → r .reply ≡ Done u last → ⊥)
-            → Tells chart run run₀ order out₀ at₀ s n last p K parents next' status' amounts' list' (set workers (getD order i 0) (r .worker)) (r .moved) o k (i + 1)
+            → Tells chart run run₀ order out₀ at₀ s n last p K parents B (set workers (getD order i 0) (r .worker)) (r .moved) o k (i + 1)
         goes-on d = record { moving = keeps (v .moving) (f .below) t (f .room) d; listed = next-listed }
 
         finished : {u a : ℕ} {z : List ℕ} {j : ℕ} → r .reply ≡ Done u a → a ≡ last → Puts o k z j (overTexts chart (lastWith true (r .moved .turns) (r .moved .totals .highest))) 64
             → Puts out₀ at₀ z j (turnsTexts chart run₀ order) (widest chart * (length order + 1))
         finished x e u = ended next-listed (over (v .moving) (f .below) t x e) u
 
-record Inv (chart : Bool) (s : List ℕ) (n last p K : ℕ) (parents next₀ status₀ amounts₀ list₀ : List ℕ) (workers₀ : List Worker) (m₀ : Moved) (order out₀ : List ℕ) (at₀ : ℕ)
-    (next status amounts list : List ℕ) (workers : List Worker) (m : Moved) (out : List ℕ) (at i : ℕ) : Type 0 where
-  begun : Stands s n last p K parents next₀ status₀ amounts₀ list₀ workers₀ m₀
+record Inv (chart : Bool) (s : List ℕ) (n last p K : ℕ) (parents : List ℕ) (A₀ : Arrays) (workers₀ : List Worker) (m₀ : Moved) (order out₀ : List ℕ) (at₀ : ℕ)
+    (A : Arrays) (workers : List Worker) (m : Moved) (out : List ℕ) (at i : ℕ) : Type 0 where
+  begun : Stands s n last p K parents A₀ workers₀ m₀
   within : i ≤ length order
   long : length out ≡ length out₀
   room : chart ≡ true → m .turns ≤ mostTurns
-  tells : (run : Run) → Moving run s n last p K parents next₀ status₀ amounts₀ list₀ workers₀ m₀
-      → Tells chart run (packedOf run next₀ status₀ amounts₀ list₀ workers₀ m₀) order out₀ at₀ s n last p K parents next status amounts list workers m out at i
+  tells : (run : Run) → Moving run s n last p K parents A₀ workers₀ m₀
+      → Tells chart run (packedOf run A₀ workers₀ m₀) order out₀ at₀ s n last p K parents A workers m out at i
 
 threads-in : (s : List ℕ) {n last : ℕ} {parents : List ℕ} → Outlined s n last parents → n ≡ threadsOf s
 unfolding tableOf
 threads-in s l = l .threads
 
 abbrev Inv-loop : tie.InvT-loop
-Inv-loop chart table n last p quota parents next₀ status₀ amounts₀ list₀ order out₀ at workers₀ moved₀ at₀ i₀ next status amounts list out workers moved at' i =
-    Inv chart table n last p quota parents next₀ status₀ amounts₀ list₀ workers₀ moved₀ order out₀ at₀ next status amounts list workers moved out at' i
+Inv-loop chart table n last p quota parents next₀ status₀ amounts₀ left₀ right₀ under₀ over₀ order out₀ at workers₀ moved₀ at₀ i₀ next status amounts left right under over out workers moved at' i =
+    Inv chart table n last p quota parents (arrays next₀ status₀ amounts₀ left₀ right₀ under₀ over₀) workers₀ moved₀ order out₀ at₀ (arrays next status amounts left right under over) workers moved out at' i
 
 abbrev μ-loop : tie.MeasureT-loop
-μ-loop chart table n last p quota parents next₀ status₀ amounts₀ list₀ order out₀ at workers₀ moved₀ at₀ i₀ next status amounts list out workers moved at' i = length order - i
+μ-loop chart table n last p quota parents next₀ status₀ amounts₀ left₀ right₀ under₀ over₀ order out₀ at workers₀ moved₀ at₀ i₀ next status amounts left right under over out workers moved at' i = length order - i
 
 -- ---- the loop's places
 
@@ -136,7 +136,7 @@ begin c = c .before .before .before .before
 
 moving : (c : tie.At-loop Inv-loop μ-loop)
     → Moving (c .loop .inv .begun .run) (now (begin c .args .table)) (begin c .args .n) (begin c .args .last) (begin c .args .p) (begin c .args .quota) (now (begin c .args .parents))
-    (c .loop .next) (c .loop .status) (c .loop .amounts) (c .loop .list) (c .loop .workers) (c .loop .moved)
+    (arrays (c .loop .next) (c .loop .status) (c .loop .amounts) (c .loop .left) (c .loop .right) (c .loop .under) (c .loop .over)) (c .loop .workers) (c .loop .moved)
 moving c = c .loop .inv .tells (c .loop .inv .begun .run) (c .loop .inv .begun .moving) .moving
 
 -- nothing hinders the turn
@@ -157,7 +157,7 @@ few-workers c = few (moving (top c)) (goes c .below)
 
 -- a turn is taken, and its line put
 abbrev tests : tie.After-take-turn Inv-loop μ-loop → tie.Else1 Inv-loop μ-loop
-tests c = c .before .before .before .before .before .before
+tests c = c .before .before .before .before .before .before .before .before .before
 
 abbrev turn-of : tie.After-slice-known3 Inv-loop μ-loop → tie.After-take-turn Inv-loop μ-loop
 turn-of c = c .before .before .before .before .before .before .before
@@ -197,7 +197,7 @@ array-copy-out-worker c = few-workers c
 
 take-turn-requires : tie.Need-take-turn-requires Inv-loop μ-loop
 take-turn-requires c κs =
-    let e = c .before .before .before .before .before in
+    let e = c .before .before .before .before .before .before .before .before in
     let v = moving (top e) in
     let f = goes e in
     (sits v (f .below), (v .outline .parent, (bit v (f .below), omega (arith, v .turns-fit, f .room))))

@@ -22,7 +22,7 @@ use Rattle.asyncdf.specs.declared.runs.Moved.{Moved}
 use Rattle.asyncdf.specs.Drives.{Moving, movedOf, packedOf}
 use Rattle.asyncdf.specs.Sheets.{turnsTexts, widest, overTexts}
 use Rattle.asyncdf.proofs.Calls.{turned-none, root-over, root-open}
-use Rattle.asyncdf.proofs.Moving.{table-room, copied-moving}
+use Rattle.asyncdf.proofs.Moving.{arraysOf, table-room, first-moving}
 use Rattle.asyncdf.proofs.Ordered.{texts-refused, start, ended, exhausted, refused}
 use Rattle.asyncdf.proofs.turns.put_turns.Statement.{statement}
 use Rattle.asyncdf.proofs.turns.put_turns.Tie as tie
@@ -47,12 +47,9 @@ module _ (chart : Bool) (run : Run) (order : List ℕ) {out o : List ℕ} {at r 
         (λ rest. texts-refused run (getD order 0 0) (root-open run n) (turned-none run (getD order 0 0) u (omega arith)) chart rest refl) p
 
   -- from the record itself
-  puts : {size : ℕ} {m : Moved} → m ≡ movedOf run → Puts out at o r (turnsTexts chart (packedOf run (run .next) (run .status) (run .amounts) (run .list) (run .worker) m) order) size
+  puts : {size first : ℕ} (under over : List ℕ) {m : Moved} → m ≡ movedOf run first → Puts out at o r (turnsTexts chart (packedOf run (arraysOf run under over) (run .worker) m) order) size
       → Puts out at o r (turnsTexts chart run order) size
-  puts e x = rw e at x
-
-list-size : (s : tie.Start) → length (s .args .run .list) ≡ 1024
-list-size s = search needs
+  puts under over e x = rw e at x
 
 turns-fit : (s : tie.Start) → s .args .run .turns < 2 ^ 64
 turns-fit s = search needs
@@ -68,24 +65,28 @@ going c = c .before .before .before
 steady : (c : tie.Else3) → Steady (entry (going c) .args .run)
 steady c = has-workers _ (entry (going c) .pre .0) (some (c .if3 .left)) .steady
 
+-- the second list filled, and after it the threads and the root's end read
+abbrev filled : tie.After-threads → tie.After-fill-actives
+filled c = c .before .before
+
 abbrev all-tests : tie.After-threads → tie.Else3
-all-tests c = c .before .before .before .before .before .before .before .before
+all-tests c = filled c .before .before .before .before .before .before .before .before .before .before .before .before
 
 abbrev read : tie.After-moved-in → tie.After-threads
-read c = c .before .before .before .before .before .before
+read c = c .before .before .before .before .before .before .before .before .before
 
 abbrev begun : tie.After-moved-in → tie.Start
 begun c = entry (going (all-tests (read c)))
 
 moving : (c : tie.After-moved-in)
-    → Moving (begun c .args .run) (bytesOf (begun c .args .run)) (read c .threads .result) (c .before .before .before .before .before .root-end .result)
+    → Moving (begun c .args .run) (bytesOf (begun c .args .run)) (read c .threads .result) (c .before .before .before .before .before .before .before .before .root-end .result)
     (begun c .args .run .workers) (begun c .args .run .quota) (now (begun c .args .parents))
-    (begun c .args .run .next) (begun c .args .run .status) (begun c .args .run .amounts) (begun c .args .run .list) (begun c .args .run .worker) (c .moved-in .result)
+    (arraysOf (begun c .args .run) (filled (read c) .fill-actives .last .1 .1 .1 .0) (filled (read c) .fill-actives .last .1 .1 .1 .1 .0)) (begun c .args .run .worker) (c .moved-in .result)
 moving c =
     let s = begun c in
     let e = all-tests (read c) in
-    copied-moving (steady e) (root-open _ (going e .if1 .left)) (read c .threads .ensures .value) (c .before .before .before .before .before .root-end .ensures) (s .pre .1 .0 (some (e .if3 .left)))
-    (list-size s) (turns-fit s) (c .moved-in .ensures)
+    first-moving (steady e) (root-open _ (going e .if1 .left)) (read c .threads .ensures .value) (c .before .before .before .before .before .before .before .before .root-end .ensures) (s .pre .1 .0 (some (e .if3 .left)))
+    (filled (read c) .fill-actives .ensures) (turns-fit s) (c .moved-in .ensures)
 
 array-read-if1 : tie.Need-array-read-if1
 array-read-if1 c = search needs
@@ -138,6 +139,9 @@ slice-aggregate-bytes c =
     let e = c .before .before .before in
     sym (length-take-le (entry (going e) .args .run .length) (entry (going e) .args .run .table) (table-room (steady e)))
 
+fill-actives-requires : tie.Need-fill-actives-requires
+fill-actives-requires c κs = search needs
+
 threads-requires : tie.Need-threads-requires
 threads-requires c κs = search needs
 
@@ -160,7 +164,7 @@ returns-4 c =
     let p = c .before .before in
     let m = p .before .before in
     let a = begun m .args in
-    puts (a .chart) (a .run) (now (a .order)) (m .moved-in .ensures) (p .put-each .ensures (a .run) (moving m))
+    puts (a .chart) (a .run) (now (a .order)) [] [] (m .moved-in .ensures) (p .put-each .ensures (a .run) (moving m))
 
 pub put-turns-spec : {M : Type 1} → statement M
 put-turns-spec =
@@ -179,6 +183,7 @@ put-turns-spec =
     cast-length
     array-share-prefix-table
     slice-aggregate-bytes
+    fill-actives-requires
     threads-requires
     root-end-requires
     moved-in-requires

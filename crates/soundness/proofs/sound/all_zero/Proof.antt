@@ -10,31 +10,31 @@ returns : tie.Need-returns
 unfolding allZero
 returns c =
     let r = c .before .before .before .before .before .before .before .before .before .before .before .before .before .before .before .args .run in
-    pass (eq-eqb (r .length) 0 (c .before .before .before .before .before .before .before .before .before .before .before .before .before .if1 .taken)) (pass (eq-eqb (r .workers) 0 (c .before .before .before .before .before .before .before .before .before .before .before .if2 .taken)) (pass (eq-eqb (r .quota) 0 (c .before .before .before .before .before .before .before .before .before .if3 .taken)) (pass (eq-eqb (r .listed) 0 (c .before .before .before .before .before .before .before .if4 .taken)) (pass (eq-eqb (r .busy) 0 (c .before .before .before .before .before .if5 .taken)) (pass (eq-eqb (r .held) 0 (c .before .before .before .if6 .taken)) (pass (eq-eqb (r .highest) 0 (c .before .if7 .taken)) refl))))))
+    pass (eq-eqb (r .length) 0 (c .before .before .before .before .before .before .before .before .before .before .before .before .before .if1 .taken)) (pass (eq-eqb (r .workers) 0 (c .before .before .before .before .before .before .before .before .before .before .before .if2 .taken)) (pass (eq-eqb (r .quota) 0 (c .before .before .before .before .before .before .before .before .before .if3 .taken)) (pass (eq-eqb (r .leftmost) 0 (c .before .before .before .before .before .before .before .if4 .taken)) (pass (eq-eqb (r .busy) 0 (c .before .before .before .before .before .if5 .taken)) (pass (eq-eqb (r .held) 0 (c .before .before .before .if6 .taken)) (pass (eq-eqb (r .highest) 0 (c .before .if7 .taken)) refl))))))
 
 returns-2 : tie.Need-returns-2
 unfolding allZero
 returns-2 c =
     let r = c .before .before .before .before .before .before .before .before .before .before .before .before .before .before .args .run in
-    pass (eq-eqb (r .length) 0 (c .before .before .before .before .before .before .before .before .before .before .before .before .if1 .taken)) (pass (eq-eqb (r .workers) 0 (c .before .before .before .before .before .before .before .before .before .before .if2 .taken)) (pass (eq-eqb (r .quota) 0 (c .before .before .before .before .before .before .before .before .if3 .taken)) (pass (eq-eqb (r .listed) 0 (c .before .before .before .before .before .before .if4 .taken)) (pass (eq-eqb (r .busy) 0 (c .before .before .before .before .if5 .taken)) (pass (eq-eqb (r .held) 0 (c .before .before .if6 .taken)) (stop _ _ (ne-eqb (r .highest) 0 (c .if7 .left))))))))
+    pass (eq-eqb (r .length) 0 (c .before .before .before .before .before .before .before .before .before .before .before .before .if1 .taken)) (pass (eq-eqb (r .workers) 0 (c .before .before .before .before .before .before .before .before .before .before .if2 .taken)) (pass (eq-eqb (r .quota) 0 (c .before .before .before .before .before .before .before .before .if3 .taken)) (pass (eq-eqb (r .leftmost) 0 (c .before .before .before .before .before .before .if4 .taken)) (pass (eq-eqb (r .busy) 0 (c .before .before .before .before .if5 .taken)) (pass (eq-eqb (r .held) 0 (c .before .before .if6 .taken)) (stop _ _ (ne-eqb (r .highest) 0 (c .if7 .left))))))))
 
 returns-3 : tie.Need-returns-3
 unfolding allZero
 returns-3 c =
     let r = c .before .before .before .before .before .before .before .before .before .before .before .before .args .run in
-    pass (eq-eqb (r .length) 0 (c .before .before .before .before .before .before .before .before .before .before .if1 .taken)) (pass (eq-eqb (r .workers) 0 (c .before .before .before .before .before .before .before .before .if2 .taken)) (pass (eq-eqb (r .quota) 0 (c .before .before .before .before .before .before .if3 .taken)) (pass (eq-eqb (r .listed) 0 (c .before .before .before .before .if4 .taken)) (pass (eq-eqb (r .busy) 0 (c .before .before .if5 .taken)) (stop _ _ (ne-eqb (r .held) 0 (c .if6 .left)))))))
+    pass (eq-eqb (r .length) 0 (c .before .before .before .before .before .before .before .before .before .before .if1 .taken)) (pass (eq-eqb (r .workers) 0 (c .before .before .before .before .before .before .before .before .if2 .taken)) (pass (eq-eqb (r .quota) 0 (c .before .before .before .before .before .before .if3 .taken)) (pass (eq-eqb (r .leftmost) 0 (c .before .before .before .before .if4 .taken)) (pass (eq-eqb (r .busy) 0 (c .before .before .if5 .taken)) (stop _ _ (ne-eqb (r .held) 0 (c .if6 .left)))))))
 
 returns-4 : tie.Need-returns-4
 unfolding allZero
 returns-4 c =
     let r = c .before .before .before .before .before .before .before .before .before .before .args .run in
-    pass (eq-eqb (r .length) 0 (c .before .before .before .before .before .before .before .before .if1 .taken)) (pass (eq-eqb (r .workers) 0 (c .before .before .before .before .before .before .if2 .taken)) (pass (eq-eqb (r .quota) 0 (c .before .before .before .before .if3 .taken)) (pass (eq-eqb (r .listed) 0 (c .before .before .if4 .taken)) (stop _ _ (ne-eqb (r .busy) 0 (c .if5 .left))))))
+    pass (eq-eqb (r .length) 0 (c .before .before .before .before .before .before .before .before .if1 .taken)) (pass (eq-eqb (r .workers) 0 (c .before .before .before .before .before .before .if2 .taken)) (pass (eq-eqb (r .quota) 0 (c .before .before .before .before .if3 .taken)) (pass (eq-eqb (r .leftmost) 0 (c .before .before .if4 .taken)) (stop _ _ (ne-eqb (r .busy) 0 (c .if5 .left))))))
 
 returns-5 : tie.Need-returns-5
 unfolding allZero
 returns-5 c =
     let r = c .before .before .before .before .before .before .before .before .args .run in
-    pass (eq-eqb (r .length) 0 (c .before .before .before .before .before .before .if1 .taken)) (pass (eq-eqb (r .workers) 0 (c .before .before .before .before .if2 .taken)) (pass (eq-eqb (r .quota) 0 (c .before .before .if3 .taken)) (stop _ _ (ne-eqb (r .listed) 0 (c .if4 .left)))))
+    pass (eq-eqb (r .length) 0 (c .before .before .before .before .before .before .if1 .taken)) (pass (eq-eqb (r .workers) 0 (c .before .before .before .before .if2 .taken)) (pass (eq-eqb (r .quota) 0 (c .before .before .if3 .taken)) (stop _ _ (ne-eqb (r .leftmost) 0 (c .if4 .left)))))
 
 returns-6 : tie.Need-returns-6
 unfolding allZero

@@ -1,12 +1,13 @@
--- `soundness::sound::sound` meets its contract: the lengths and the parts not in use come first, then the common part and the list.
-use mathlib.Core.Path.{_≡_, ap, sym, _∙_}
+-- `soundness::sound::sound` meets its contract: the length and the part not in use come first, then the common part, then the list and its links.
+use mathlib.Core.Path.{_≡_, refl, ap, sym, _∙_}
 use Prim.Native.Nat.{ℕ, _≤_}
-use mathlib.Core.Bool.{Bool, true, false}
+use mathlib.Core.Bool.{Bool, true, false, _&&_}
 use native.Mathlib.Omega.{arith}
 use borrow.Author.Needs.{needs}
 use borrow.Author.Tests.{not-true, not-false}
-use lib.ListN.{length, take}
+use lib.ListN.{length}
 use lib.Seq.{length-take-le}
+use lib.Dec.{ltb, eqb}
 use Rattle.table.specs.Format.{threadsOf, tableOf}
 use Rattle.table.specs.Pass.{firstFound}
 use Rattle.table.specs.Rules.{passes}
@@ -14,17 +15,25 @@ use Rattle.table.specs.Accepted.{Rules}
 use Rattle.table.specs.declared.Found.the-variants.{Nothing}
 use Rattle.table.proofs.Passes.{passes-rules}
 use Rattle.schedule.specs.declared.Run.{Run}
-use Rattle.schedule.specs.Record.{bytesOf, tableIn}
+use Rattle.schedule.specs.Links.{laid}
+use Rattle.schedule.specs.Record.{filled, bytesOf, tableIn, linksIn, listIn}
 use Rattle.schedule.specs.Begin.{beginPasses}
-use Rattle.schedule.specs.Sound.{Common, isNothing, nextInBody, commonSound, listed, sound}
+use Rattle.schedule.specs.Sound.{Common, isNothing, nextInBody, commonSound, listed, sameList, sameLinks, sound}
 use Rattle.schedule.proofs.Words.{allBelow-exactly, isNothing-exactly}
 use Rattle.schedule.proofs.Tests.{common-exactly}
 use Rattle.soundness.specs.declared.Tested.{Tested}
-use Rattle.soundness.specs.Checks.{Accepted, Placed, restSound}
+use Rattle.soundness.specs.Checks.{Accepted, Placed, linksSound, restSound}
 use Rattle.soundness.specs.Tested.{parentsIn, commonTested}
 use Rattle.soundness.proofs.Chains.{off, cut, skip, last, pass, first-of, second-of, never}
 use Rattle.soundness.proofs.sound.sound.Statement.{statement}
 use Rattle.soundness.proofs.sound.sound.Tie as tie
+
+regroup : (l b c s t : Bool) → (l && (b && (c && (s && t)))) ≡ ((l && s) && (b && (c && t)))
+regroup true b c true t = refl
+regroup true true true false t = refl
+regroup true true false false t = refl
+regroup true false c false t = refl
+regroup false b c s t = refl
 
 module _ (r : Run) where
   abbrev shared : Bool
@@ -33,20 +42,25 @@ module _ (r : Run) where
   abbrev found : Tested
   found = commonTested (bytesOf r) (r .workers) (r .quota) (r .next) (r .status) (r .amounts) (r .worker) (r .busy) (r .held) (r .highest)
 
-  abbrev in-list : Bool
-  in-list = listed (tableIn r) (r .next) (r .status) (take (r .listed) (r .list))
+  abbrev in-links : Bool
+  in-links = linksSound (tableIn r) (r .next) (r .status) (linksIn r)
+
+  -- the clauses as the code groups them
+  grouped : sound r ≡ (shared && (in-links && restSound r))
+  unfolding sound
+  grouped =
+      ap (λ (q : Bool). shared && q)
+      (regroup (listed (tableIn r) (r .next) (r .status) (listIn r)) (eqb (length (bytesOf r)) (r .length)) (sameList (r .table) (filled 36868 (bytesOf r)))
+      (sameLinks (linksIn r) (laid (listIn r))) (ltb (r .turns) 18446744073709551615))
 
   not-rest : restSound r ≡ false → false ≡ sound r
-  unfolding sound
-  not-rest e = skip shared (skip in-list (sym e))
+  not-rest e = skip shared (skip in-links (sym e)) ∙ sym grouped
 
   not-shared : shared ≡ false → false ≡ sound r
-  unfolding sound
-  not-shared e = cut _ e
+  not-shared e = cut (in-links && restSound r) e ∙ sym grouped
 
-  all-sound : {t : Bool} → shared ≡ true → t ≡ in-list → restSound r ≡ true → t ≡ sound r
-  unfolding sound
-  all-sound e h g = pass e (last in-list h g)
+  all-sound : {t : Bool} → shared ≡ true → t ≡ in-links → restSound r ≡ true → t ≡ sound r
+  all-sound e h g = pass e (last in-links h g) ∙ sym grouped
 
   passed-is : {x : Tested} → x ≡ found → x .passed ≡ shared
   unfolding commonTested
@@ -85,13 +99,10 @@ module _ (r : Run) where
 table-size : (c : tie.Start) → length (c .args .run .table) ≡ 36868
 table-size c = search needs
 
-list-size : (c : tie.Start) → length (c .args .run .list) ≡ 1024
-list-size c = search needs
-
-bounds : (c : tie.Else1) → (c .before .before .args .run .length ≤ 36868) × (c .before .before .args .run .listed ≤ 1024)
+bounds : (c : tie.Else1) → c .before .before .args .run .length ≤ 36868
 bounds c = c .before .rest-sound .ensures .1 (not-false _ (c .if1 .left))
 
--- the common part is tested after the lengths
+-- the common part is tested after the length
 abbrev first : tie.After-test-common → tie.Else1
 first c = c .before .before .before .before .before .before .before .before
 
@@ -114,7 +125,7 @@ cast-length : tie.Need-cast-length
 cast-length c = search needs
 
 array-share-prefix-table : tie.Need-array-share-prefix-table
-array-share-prefix-table c = omega (arith, bounds (c .before .before) .0, table-size (c .before .before .before .before))
+array-share-prefix-table c = omega (arith, bounds (c .before .before), table-size (c .before .before .before .before))
 
 slice-aggregate-bytes : tie.Need-slice-aggregate-bytes
 slice-aggregate-bytes c = sym (length-take-le _ _ (array-share-prefix-table (c .before)))
@@ -132,23 +143,19 @@ returns-2 c =
 threads-requires : tie.Need-threads-requires
 threads-requires c κs = search needs
 
-cast-list-sound : tie.Need-cast-list-sound
-cast-list-sound c = search needs
-
-list-sound-requires : tie.Need-list-sound-requires
-list-sound-requires c κs =
-    let w = c .before .before .before .before in
-    let d = w .before .before .before in
-    let s = start (d .before .before) in
-    let k = known (s .args .run) (shared-held d) (w .threads .ensures .value) in
-    (k .0, (k .1, (bounds (first (d .before .before)) .1, list-size s)))
+links-sound-requires : tie.Need-links-sound-requires
+links-sound-requires c κs =
+    let w = c .before .before .before .before .before .before in
+    let d = w .before in
+    known (start (d .before .before) .args .run) (shared-held d) (w .threads .ensures .value)
 
 returns-3 : tie.Need-returns-3
 returns-3 c =
-    let d = c .before .before .before .before .before .before .before .before in
+    let l = c .before in
+    let d = l .before .before .before .before .before .before .before .before in
     let t = d .before .before in
     let s = start t in
-    (all-sound (s .args .run) (shared-held d) (c .list-sound .ensures) (rest-held (first t)), λ h. parents-are (s .args .run) (shared-held d) (t .test-common .ensures))
+    (all-sound (s .args .run) (shared-held d) (l .links-sound .ensures) (rest-held (first t)), λ h. parents-are (s .args .run) (shared-held d) (t .test-common .ensures))
 
 pub sound-spec : {M : Type 1} → statement M
 sound-spec =
@@ -162,6 +169,5 @@ sound-spec =
     test-common-requires
     returns-2
     threads-requires
-    cast-list-sound
-    list-sound-requires
+    links-sound-requires
     returns-3)
