@@ -32,7 +32,7 @@ use Rattle.schedule.proofs.Searches.{found-below}
 use Rattle.schedule.proofs.ActiveMoves.{list-small}
 use Rattle.schedule.proofs.Stores.{steady-lawful, steady-fits, steady-facts}
 use Rattle.soundness.specs.declared.Tested.{Tested}
-use Rattle.soundness.specs.Checks.{Parents}
+use Rattle.schedule.specs.Parents.{Parents}
 use Rattle.soundness.specs.Tested.{tested}
 use Rattle.soundness.proofs.Passed.{blank-none, has-workers, no-workers}
 use Rattle.asyncdf.specs.Drives.{who, Sequence, Open, passedAlong, Driven}

@@ -26,7 +26,7 @@ use Rattle.schedule.proofs.Links.{laid-linked}
 use Rattle.schedule.proofs.ActiveMoves.{list-once, list-small}
 use Rattle.schedule.proofs.Fills.{fill-linked}
 use Rattle.schedule.proofs.Stores.{steady-lawful, steady-fits, steady-facts, moved-steady}
-use Rattle.soundness.specs.Checks.{Parents}
+use Rattle.schedule.specs.Parents.{Parents}
 use Rattle.asyncdf.specs.declared.runs.Moved.{Moved}
 use Rattle.asyncdf.specs.declared.runs.Taken.{Taken}
 use Rattle.asyncdf.specs.Parts.{Arrays, arrays, links, Sits}

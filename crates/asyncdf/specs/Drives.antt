@@ -18,7 +18,7 @@ use Rattle.schedule.specs.Record.{bytesOf}
 use Rattle.schedule.specs.Sound.{Steady}
 use Rattle.schedule.specs.Turn.{rootEnded, stepRun}
 use Rattle.schedule.specs.Runs.{ran, drive}
-use Rattle.soundness.specs.Checks.{Parents}
+use Rattle.schedule.specs.Parents.{Parents}
 use Rattle.asyncdf.specs.declared.act.Stepped.{Stepped as StepResult}
 use Rattle.asyncdf.specs.declared.runs.Moved.{Moved}
 use Rattle.asyncdf.specs.declared.runs.Taken.{Taken}

@@ -21,7 +21,7 @@ ghost use Rattle.schedule.specs.declared.Run.{Run as RunRecord};
 ghost use Rattle.schedule.specs.declared.Report.the-variants.{Refused};
 ghost use Rattle.schedule.specs.Record.{tableIn};
 ghost use Rattle.schedule.specs.Sound.{Steady};
-ghost use Rattle.soundness.specs.Checks.{Parents};
+ghost use Rattle.schedule.specs.Parents.{Parents};
 ghost use Rattle.asyncdf.specs.Parts.{arrays, Sits};
 ghost use Rattle.asyncdf.specs.Drives.{who, busyAfter, Sequence, Bit, Moving, Took, Stands, Driven, movedOf, packedOf};
 

@@ -27,7 +27,7 @@ ghost use Rattle.schedule.specs.Turn.{unsound};
 ghost use Rattle.lines.specs.Lines.{turnTexts};
 ghost use Rattle.lines.specs.Puts.{Puts};
 ghost use Rattle.chart.specs.Chart.{shownOf, mostTurns};
-ghost use Rattle.soundness.specs.Checks.{Parents};
+ghost use Rattle.schedule.specs.Parents.{Parents};
 ghost use Rattle.asyncdf.specs.Parts.{arrays};
 ghost use Rattle.asyncdf.specs.Drives.{Moving, Stands, packedOf};
 ghost use Rattle.asyncdf.specs.Sheets.{turnsTexts, widest, afterTexts, afterSize, overTexts, hindered};

@@ -20,7 +20,7 @@ use Rattle.schedule.specs.Turn.{rootEnded}
 use Rattle.asyncdf.proofs.Calls.{root-open}
 use Rattle.table.specs.Format.{threadsOf, tableOf}
 use Rattle.table.specs.Rules.{endOf}
-use Rattle.soundness.specs.Checks.{Parents}
+use Rattle.schedule.specs.Parents.{Parents}
 use Rattle.asyncdf.specs.Parts.{Arrays}
 use Rattle.asyncdf.specs.Drives.{Moving, Driven, movedOf, packedOf}
 use Rattle.asyncdf.specs.declared.runs.Moved.{Moved}

@@ -1,0 +1,4 @@
+pub mod Arrays
+pub mod Turn
+pub mod Parts
+pub mod Steps

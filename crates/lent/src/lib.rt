@@ -1,0 +1,132 @@
+// A turn of document 01's machine on lent arrays, whatever they hold: no call traps, and what a turn leaves equals a definition (specs/Turn).
+use crate::act::act;
+use crate::act::unfit;
+use links::NO_THREAD;
+use links::seek;
+use schedule::Reply;
+use schedule::Worker;
+use schedule::statuses::HELD;
+use schedule::statuses::READY;
+ghost use mathlib.Core.Path.{_≡_};
+ghost use mathlib.Core.Bool.{false};
+ghost use Prim.Native.Nat.{_<_};
+ghost use lib.ListN.{getD, set};
+ghost use Rattle.table.specs.Sum.{pick};
+ghost use Rattle.schedule.specs.Machine.{ready};
+ghost use Rattle.schedule.specs.Links.{seek as seekOf};
+ghost use Rattle.lent.specs.Arrays.{arrays, tableFrom};
+ghost use Rattle.lent.specs.Turn.{outcome, seat, seatOf, stepOn};
+
+mod act;
+mod release;
+
+// The amounts that a turn moves, and the leftmost threads of the list and of the second list.
+pub struct Totals {
+    pub leftmost: u16,
+    pub first: u16,
+    pub held: u64,
+    pub highest: u64,
+}
+
+// What a turn leaves besides the arrays: whether all fitted (if not, nothing was moved), the reply, the worker's record and the totals.
+pub struct Stepped {
+    pub fits: bool,
+    pub reply: Reply,
+    pub worker: Worker,
+    pub totals: Totals,
+}
+
+// The number at a position, 0 past the end.
+pub fn number_or_zero(numbers: &[u16], i: usize) -> u16
+    ensures { λ r. ⌜ r ≡ getD (now (numbers .entry)) i 0 ⌝ }
+{
+    if i < numbers.len() { numbers[i] } else { 0 }
+}
+
+// The worker with its thread: a worker that holds nothing takes the leftmost ready thread with the whole quota, if there is one. The search goes along the second list, past held threads alone.
+fn find(
+    quota: u32,
+    status: &mut [u8; 1024],
+    over: &[u16; 1024],
+    first: u16,
+    worker: Worker,
+) -> Worker
+    ensures { λ r. ⌜ seat (now (status .exit)) r
+        ≡ seatOf quota (now (status .entry)) (seekOf 1024 (now (status .entry)) (now (over .entry)) first .thread) worker ⌝ }
+{
+    if worker.holds {
+        return worker;
+    }
+    let found = seek(&*status, over, first);
+    let thread = found.thread;
+    if NO_THREAD <= thread {
+        return worker;
+    }
+    status[thread as usize] = HELD;
+    Worker {
+        holds: true,
+        thread,
+        quota,
+    }
+}
+
+// Gives back the thread that a worker took whose action does not fit.
+fn give_back(status: &mut [u8; 1024], worker: Worker, seated: Worker)
+    requires { ⌜ (worker .holds ≡ false → seated .thread < 1024) ⌝ }
+    ensures { λ _. ⌜ now (status .exit) ≡ pick (worker .holds) (now (status .entry)) (set (now (status .entry)) (seated .thread) ready) ⌝ }
+{
+    if worker.holds {
+        return;
+    }
+    status[seated.thread as usize] = READY;
+}
+
+// "If w holds nothing, it takes the leftmost ready thread with quota K; with none ready, the turn is idle." The table has n threads; `parents` has each thread's parent.
+pub fn step(
+    table: &[u8],
+    n: usize,
+    quota: u32,
+    parents: &[u16; 1024],
+    next: &mut [u16; 1024],
+    status: &mut [u8; 1024],
+    amounts: &mut [u64; 1024],
+    left: &mut [u16; 1024],
+    right: &mut [u16; 1024],
+    under: &mut [u16; 1024],
+    over: &mut [u16; 1024],
+    totals: Totals,
+    worker: Worker,
+) -> Stepped
+    ensures { λ r. ⌜ outcome r (arrays (now (next .exit)) (now (status .exit)) (now (amounts .exit)) (now (left .exit)) (now (right .exit)) (now (under .exit)) (now (over .exit)))
+        ≡ stepOn (tableFrom (now (table .entry)) n) quota (now (parents .entry))
+        (arrays (now (next .entry)) (now (status .entry)) (now (amounts .entry)) (now (left .entry)) (now (right .entry)) (now (under .entry)) (now (over .entry))) totals worker ⌝ }
+{
+    let seated = find(quota, status, &*over, totals.first, worker);
+    if !seated.holds {
+        return Stepped {
+            fits: true,
+            reply: Reply::Idle,
+            worker,
+            totals,
+        };
+    }
+    let stepped = act(
+        table,
+        n,
+        parents,
+        next,
+        status,
+        amounts,
+        left,
+        right,
+        under,
+        over,
+        totals,
+        seated,
+    );
+    if stepped.fits {
+        return stepped;
+    }
+    give_back(status, worker, seated);
+    unfit(totals, worker)
+}
