@@ -16,7 +16,7 @@ use Rattle.schedule.specs.Turn.{stepRun}
 use Rattle.schedule.specs.Runs.{ran, moved, drive}
 use Rattle.asyncdf.specs.declared.runs.Moved.{Moved}
 use Rattle.asyncdf.specs.declared.runs.Taken.{Taken}
-use Rattle.asyncdf.specs.Parts.{Arrays}
+use Rattle.lent.specs.Arrays.{Arrays}
 use Rattle.asyncdf.specs.Drives.{Open, Moving, Took, Driven, packedOf}
 use Rattle.asyncdf.proofs.Driving.{drive-over, drive-spent, drive-full, drive-none, drive-next}
 use Rattle.asyncdf.proofs.Moving.{moves, replies, keeps}

@@ -37,9 +37,11 @@ use Rattle.schedule.proofs.Tries.{Turned, idles, tries, turned}
 use Rattle.schedule.proofs.Stores.{steady-lawful, steady-fits, steady-facts}
 use Rattle.asyncdf.specs.declared.runs.Moved.{Moved}
 use Rattle.asyncdf.specs.declared.runs.Taken.{Taken}
-use Rattle.asyncdf.specs.Parts.{Arrays, stateIn}
+use Rattle.lent.specs.Arrays.{Arrays}
+use Rattle.lent.specs.Parts.{stateIn}
 use Rattle.asyncdf.specs.Drives.{Took, packedOf}
-use Rattle.asyncdf.proofs.Local.{putBack, turn-local, set-busy}
+use Rattle.lent.proofs.Local.{putBack, turn-local}
+use Rattle.asyncdf.proofs.Busy.{set-busy}
 
 -- ---- the root's end
 

@@ -20,7 +20,7 @@ use Rattle.schedule.proofs.CaseLaws.{turn-turns}
 use Rattle.chart.specs.Chart.{mostTurns}
 use Rattle.chart.proofs.Records.{many, charted-many}
 use Rattle.asyncdf.specs.declared.runs.Moved.{Moved}
-use Rattle.asyncdf.specs.Parts.{Arrays}
+use Rattle.lent.specs.Arrays.{Arrays}
 use Rattle.asyncdf.specs.Drives.{Moving, packedOf}
 use Rattle.asyncdf.specs.Sheets.{turnsTexts, hindered}
 use Rattle.asyncdf.proofs.Calls.{steady-full, steady-room, turned-unsound, turned-none, turned-taken}

@@ -29,10 +29,11 @@ use Rattle.schedule.proofs.Stores.{steady-lawful, steady-fits, steady-facts, mo
 use Rattle.schedule.specs.Parents.{Parents}
 use Rattle.asyncdf.specs.declared.runs.Moved.{Moved}
 use Rattle.asyncdf.specs.declared.runs.Taken.{Taken}
-use Rattle.asyncdf.specs.Parts.{Arrays, arrays, links, Sits}
+use Rattle.lent.specs.Arrays.{Arrays, arrays, links}
+use Rattle.lent.specs.Parts.{Sits}
 use Rattle.asyncdf.specs.Drives.{Bit, Outlined, Moving, Took, movedOf, packedOf}
-use Rattle.asyncdf.proofs.Local.{set-bit}
-use Rattle.asyncdf.proofs.Linking.{linked-as}
+use Rattle.asyncdf.proofs.Busy.{set-bit}
+use Rattle.lent.proofs.Linking.{linked-as}
 use Rattle.asyncdf.proofs.Driving.{finishes, goes-on, packed-reply, packed-moved}
 
 -- ---- the record's parts

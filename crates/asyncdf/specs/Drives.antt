@@ -19,10 +19,11 @@ use Rattle.schedule.specs.Sound.{Steady}
 use Rattle.schedule.specs.Turn.{rootEnded, stepRun}
 use Rattle.schedule.specs.Runs.{ran, drive}
 use Rattle.schedule.specs.Parents.{Parents}
-use Rattle.asyncdf.specs.declared.act.Stepped.{Stepped as StepResult}
 use Rattle.asyncdf.specs.declared.runs.Moved.{Moved}
 use Rattle.asyncdf.specs.declared.runs.Taken.{Taken}
-use Rattle.asyncdf.specs.Parts.{Arrays, secondOf, listOf, Went}
+use Rattle.lent.specs.Arrays.{Arrays, secondOf, listOf}
+use Rattle.lent.specs.Turn.{Outcome}
+use Rattle.lent.specs.Parts.{Went}
 
 -- the worker of turn i
 unfoldable pub who : List ℕ → Bool → ℕ → ℕ → ℕ
@@ -102,12 +103,12 @@ pub record Stands (s : List ℕ) (n last p K : ℕ) (parents : List ℕ) (A : Ar
   pub moving : Moving run s n last p K parents A workers m
 
 -- what a turn in a loop leaves, without the count and the set
-abbrev pub steppedIn : Taken → StepResult
-steppedIn r = record { reply = r .reply; worker = r .worker; totals = r .moved .totals }
+abbrev pub outcomeIn : Arrays → Taken → Outcome
+outcomeIn B r = record { fits = true; reply = r .reply; arrays = B; totals = r .moved .totals; worker = r .worker }
 
 -- what a turn of worker w in a loop leaves
 pub record Took (T : Table) (K w : ℕ) (A : Arrays) (m : Moved) (worker : Worker) (B : Arrays) (r : Taken) : Type 0 where
-  pub went : Went T K A (m .totals) worker B (steppedIn r)
+  pub went : Went T K A (m .totals) worker (outcomeIn B r)
   pub set : r .moved .busy ≡ busyAfter (m .busy) (worker .holds) (r .worker .holds) w
   pub count : r .moved .turns ≡ m .turns + 1
 

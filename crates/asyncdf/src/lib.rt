@@ -46,11 +46,8 @@ ghost use Rattle.lines.specs.Puts.{Puts};
 ghost use Rattle.chart.specs.Turns.{chartTurns};
 ghost use Rattle.asyncdf.specs.Drives.{passedAlong};
 
-mod act;
 mod beginning;
-mod release;
 mod runs;
-mod step;
 mod turns;
 
 // Beginning from a table's bytes, p and K: the table's own checks, then 20 to 22.

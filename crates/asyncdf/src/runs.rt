@@ -1,6 +1,6 @@
 // Runs over a list of workers and in rounds. The record's arrays are copied once; the turns work on them in place.
-use crate::act::Totals;
-use crate::step::step;
+use lent::Totals;
+use lent::step;
 use links::fill_actives;
 use schedule::Reply;
 use schedule::Report;
@@ -22,7 +22,8 @@ ghost use Rattle.schedule.specs.declared.Report.the-variants.{Refused};
 ghost use Rattle.schedule.specs.Record.{tableIn};
 ghost use Rattle.schedule.specs.Sound.{Steady};
 ghost use Rattle.schedule.specs.Parents.{Parents};
-ghost use Rattle.asyncdf.specs.Parts.{arrays, Sits};
+ghost use Rattle.lent.specs.Arrays.{arrays};
+ghost use Rattle.lent.specs.Parts.{Sits};
 ghost use Rattle.asyncdf.specs.Drives.{who, busyAfter, Sequence, Bit, Moving, Took, Stands, Driven, movedOf, packedOf};
 
 // What a loop of turns moves besides the arrays and the workers' records.
@@ -112,8 +113,8 @@ pub(crate) fn take_turn(
     let stepped = step(
         table,
         n,
-        parents,
         quota,
+        parents,
         next,
         status,
         amounts,

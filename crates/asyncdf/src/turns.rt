@@ -8,6 +8,7 @@ use chart::put_line;
 use lines::put_last;
 use lines::put_refused;
 use lines::put_turn;
+use lent::number_or_zero;
 use links::fill_actives;
 use schedule::Reply;
 use schedule::Run;
@@ -28,7 +29,7 @@ ghost use Rattle.lines.specs.Lines.{turnTexts};
 ghost use Rattle.lines.specs.Puts.{Puts};
 ghost use Rattle.chart.specs.Chart.{shownOf, mostTurns};
 ghost use Rattle.schedule.specs.Parents.{Parents};
-ghost use Rattle.asyncdf.specs.Parts.{arrays};
+ghost use Rattle.lent.specs.Arrays.{arrays};
 ghost use Rattle.asyncdf.specs.Drives.{Moving, Stands, packedOf};
 ghost use Rattle.asyncdf.specs.Sheets.{turnsTexts, widest, afterTexts, afterSize, overTexts, hindered};
 
@@ -60,13 +61,6 @@ fn thread_in(reply: Reply) -> u16
         Reply::Quota { thread, wanted: _ } => thread,
         Reply::Wait { thread, child: _ } => thread,
     }
-}
-
-// The number at a position, 0 past the end.
-fn number_or_zero(numbers: &[u16], i: usize) -> u16
-    ensures { λ r. ⌜ r ≡ getD (now (numbers .entry)) i 0 ⌝ }
-{
-    if i < numbers.len() { numbers[i] } else { 0 }
 }
 
 // The line of a turn of worker w that left the next actions and the amount held given.

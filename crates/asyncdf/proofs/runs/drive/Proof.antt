@@ -21,7 +21,7 @@ use Rattle.asyncdf.proofs.Calls.{root-open}
 use Rattle.table.specs.Format.{threadsOf, tableOf}
 use Rattle.table.specs.Rules.{endOf}
 use Rattle.schedule.specs.Parents.{Parents}
-use Rattle.asyncdf.specs.Parts.{Arrays}
+use Rattle.lent.specs.Arrays.{Arrays}
 use Rattle.asyncdf.specs.Drives.{Moving, Driven, movedOf, packedOf}
 use Rattle.asyncdf.specs.declared.runs.Moved.{Moved}
 use Rattle.asyncdf.proofs.Driving.{drive-over}

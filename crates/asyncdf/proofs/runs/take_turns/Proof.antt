@@ -11,7 +11,7 @@ use Rattle.schedule.specs.declared.Worker.{Worker}
 use Rattle.schedule.specs.declared.Run.{Run}
 use Rattle.schedule.specs.declared.Reply.{Reply}
 use Rattle.asyncdf.specs.declared.runs.Moved.{Moved}
-use Rattle.asyncdf.specs.Parts.{Arrays, arrays}
+use Rattle.lent.specs.Arrays.{Arrays, arrays}
 use Rattle.asyncdf.specs.Drives.{who, Sequence, Moving, Stands, packedOf}
 use Rattle.asyncdf.proofs.Moving.{not-done, other, few, sits, bit}
 use Rattle.asyncdf.proofs.Along.{Along, first-along, spent, full, none, again, finished}

@@ -29,7 +29,7 @@ use Rattle.chart.proofs.Records.{wall-width, charted-written}
 use Rattle.chart.proofs.Records.{few as few-turns}
 use Rattle.asyncdf.specs.declared.runs.Moved.{Moved}
 use Rattle.asyncdf.specs.declared.runs.Taken.{Taken}
-use Rattle.asyncdf.specs.Parts.{Arrays, arrays}
+use Rattle.lent.specs.Arrays.{Arrays, arrays}
 use Rattle.asyncdf.specs.Drives.{Outlined, Moving, Stands, Took, packedOf}
 use Rattle.asyncdf.specs.Sheets.{turnsTexts, widest, afterTexts, afterSize, overTexts, hindered}
 use Rattle.asyncdf.proofs.Calls.{steady-room, turned-taken}
