@@ -143,30 +143,6 @@ module _ (r : Run) (h : Steady r) (w : ℕ) (b : w < r .workers) where
       let (t, q) = root-replied (tableIn r) (steady-lawful r h) (r .workers) (r .quota) (steady-fits r h .few-workers) w b (stateOf r) (steady-facts r h) (eqb-false _ ended o) e in
       n t q)
 
--- what the code moved is the record after the turn
-module _ (run : Run) (A : Arrays) (workers : List Worker) (m : Moved) (w : ℕ) (B : Arrays) (r : Taken)
-    (h : Steady (packedOf run A workers m)) (b : w < run .workers)
-    (t : Took (tableIn run) (run .quota) w A m (getD workers w nobody) B r) where
-  abbrev before : Run
-  before = packedOf run A workers m
-
-  fits : w < length workers
-  fits = omega (arith, h .state .common .worker-size, steady-fits _ h .few-workers)
-
-  stepped-as : stepRun before w
-      ≡ stepped (r .reply) (counted (putBack w (stateOf before) (stepped (r .reply) (stateIn B (r .moved .totals) (r .worker))) .state))
-  unfolding stepRun
-  stepped-as = turn-local (tableIn run) (run .quota) w (stateOf before) fits ∙ rw (← (t .went .body))
-
-  pub packed-reply : stepRun before w .reply ≡ r .reply
-  packed-reply = ap (λ (x : Stepped). x .reply) stepped-as
-
-  pub packed-moved : moved before w ≡ packedOf run B (set workers w (r .worker)) (r .moved)
-  packed-moved =
-      let q : setOf (set workers w (r .worker)) ≡ r .moved .busy = set-busy workers w (r .worker) fits ∙ rw (t .set, h .set) in
-      let k = t .went .chained .list-links in
-      rw (stepped-as, q, ← ap (λ (x : Links). x .left) k, ← ap (λ (x : Links). x .right) k, ← ap (λ (x : Links). x .head) k, t .count, add-one)
-
 -- ---- the run
 
 module _ (who : ℕ → ℕ) (i : ℕ) (r : Run) where

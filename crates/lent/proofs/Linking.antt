@@ -22,7 +22,7 @@ use Rattle.schedule.proofs.Turns.{act-facts}
 use Rattle.lent.specs.declared.Totals.{Totals}
 use Rattle.lent.specs.Arrays.{Arrays, linksOf, secondOf, listOf, actionIn}
 use Rattle.lent.specs.Turn.{Outcome}
-use Rattle.lent.specs.Parts.{stateOver, stateIn, Chained, Sits}
+use Rattle.lent.proofs.Parts.{stateOver, stateIn, Chained, Sits}
 use Rattle.lent.proofs.Local.{partOf, putBack, goes-local}
 use Rattle.lent.proofs.Seats.{run, laws, known, fits, worker-few, holds}
 

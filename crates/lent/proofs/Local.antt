@@ -10,7 +10,7 @@ use Rattle.table.specs.Format.{Kind, end, work, alloc, free, fork, join, unknow
 use Rattle.schedule.specs.declared.Worker.{Worker}
 use Rattle.schedule.specs.Machine.{State, Stepped, stepped, withList, released, held, ended, nextOf, statusOf, workerOf, nobody, counted}
 use Rattle.schedule.specs.Machine.{without, waitsFor, parentOf, woken, actBy, act, leftmost, taken, turnFree, turnOf}
-use Rattle.lent.specs.Parts.{turnBody}
+use Rattle.lent.proofs.Parts.{turnBody}
 
 -- ---- the part of one worker
 

@@ -29,7 +29,7 @@ use Rattle.schedule.proofs.LinkMoves.{take-actives}
 use Rattle.lent.specs.declared.Totals.{Totals}
 use Rattle.lent.specs.Arrays.{Arrays, actionIn, withStatuses}
 use Rattle.lent.specs.Turn.{nextFits}
-use Rattle.lent.specs.Parts.{Sits}
+use Rattle.lent.proofs.Parts.{Sits}
 
 state-is : (st : State) (next status amounts list : List ℕ) (held highest : ℕ) → st .next ≡ next → st .status ≡ status → st .amounts ≡ amounts → st .list ≡ list → st .held ≡ held
     → st .highest ≡ highest

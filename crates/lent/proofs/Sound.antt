@@ -22,7 +22,7 @@ use Rattle.lent.specs.declared.Totals.{Totals}
 use Rattle.lent.specs.declared.Stepped.{Stepped as StepResult}
 use Rattle.lent.specs.Arrays.{Arrays, secondOf, listOf, actionIn, amountIn, withStatuses, tableFrom}
 use Rattle.lent.specs.Turn.{Outcome, outcome, unfit, nextFits, amountFits, waitsIn, actOn, actIn, Seat, seat, seatOf, seatIn, stepFrom, stepOn}
-use Rattle.lent.specs.Parts.{stateIn, turnBody, Went, Sits}
+use Rattle.lent.proofs.Parts.{stateIn, turnBody, Went, Sits}
 use Rattle.lent.proofs.Reading.{own-table}
 use Rattle.lent.proofs.Seats.{known, thread-below, thread-small, next-fits, alloc-room, own-room, free-room, own-free, child-room, fork-child, join-child, taken-sits}
 use Rattle.lent.proofs.Linking.{ActedBy, Acted, small, found, acted-body, acted-chained}

@@ -1,5 +1,5 @@
 -- An action that does not fit moves no array.
-use mathlib.Core.Path.{_≡_, refl}
+use mathlib.Core.Path.{_≡_, refl, sym, ap, _∙_}
 use Prim.Native.Nat.{ℕ, _+_}
 use mathlib.Core.List.{List}
 use mathlib.Core.Bool.{Bool, true, false, _&&_}
@@ -11,8 +11,8 @@ use Rattle.table.proofs.Tests.{no-way}
 use Rattle.schedule.specs.declared.Worker.{Worker}
 use Rattle.schedule.specs.Machine.{ended}
 use Rattle.lent.specs.declared.Totals.{Totals}
-use Rattle.lent.specs.Arrays.{Arrays, actionIn, amountIn}
-use Rattle.lent.specs.Turn.{Outcome, unfit, nextFits, amountFits, actOn, actIn}
+use Rattle.lent.specs.Arrays.{Arrays, actionIn, amountIn, withStatuses}
+use Rattle.lent.specs.Turn.{Outcome, unfit, nextFits, amountFits, actOn, actIn, Seat, seatIn, stepFrom, stepOn}
 
 -- if it does not fit, the arrays are these
 abbrev Kept : Arrays → Outcome → Type 0
@@ -47,3 +47,22 @@ unfit-kept T parents A totals worker =
     let t : ℕ = worker .thread in
     let a : ℕ = actionIn A t in
     either A (ltb t 1024) _ _ (by-kind T parents t a (T .argument a) A totals worker (kind T a)) (λ e. refl)
+
+-- nor does a turn
+step-kept : (T : Table) (K : ℕ) (parents : List ℕ) (A : Arrays) (totals : Totals) (worker : Worker) → Kept A (stepOn T K parents A totals worker)
+unfolding stepOn stepFrom
+step-kept T K parents A totals worker =
+    let y : Seat = seatIn K A totals worker in
+    either A (y .worker .holds) _ _ (chosen (actIn T parents (withStatuses (y .status) A) totals (y .worker))) (fitting _ A)
+  where
+    chosen : (o : Outcome) → Kept A (pick (o .fits) o (unfit A totals worker))
+    chosen o = go (o .fits) refl
+      where
+        go : (b : Bool) → o .fits ≡ b → Kept A (pick b o (unfit A totals worker))
+        go true e d = no-way (cc)
+        go false e d = refl
+
+pub step-unmoved : (T : Table) (K : ℕ) (parents : List ℕ) (A : Arrays) (totals : Totals) (worker : Worker) {o : Outcome} → o ≡ stepOn T K parents A totals worker → o .fits ≡ false
+    → o .arrays ≡ A
+step-unmoved T K parents A totals worker e d =
+    ap (λ (x : Outcome). x .arrays) e ∙ step-kept T K parents A totals worker (ap (λ (x : Outcome). x .fits) (sym e) ∙ d)

@@ -1,4 +1,5 @@
 pub mod Arrays
 pub mod Turn
-pub mod Parts
+pub mod Counted
+pub mod Packed
 pub mod Steps

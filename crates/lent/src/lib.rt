@@ -9,13 +9,15 @@ use schedule::statuses::HELD;
 use schedule::statuses::READY;
 ghost use mathlib.Core.Path.{_≡_};
 ghost use mathlib.Core.Bool.{false};
-ghost use Prim.Native.Nat.{_<_};
+ghost use Prim.Native.Nat.{_+_, _^_, _<_};
 ghost use lib.ListN.{getD, set};
 ghost use Rattle.table.specs.Sum.{pick};
 ghost use Rattle.schedule.specs.Machine.{ready};
 ghost use Rattle.schedule.specs.Links.{seek as seekOf};
 ghost use Rattle.lent.specs.Arrays.{arrays, tableFrom};
+ghost use Rattle.schedule.specs.declared.Reply.the-variants.{Idle};
 ghost use Rattle.lent.specs.Turn.{outcome, seat, seatOf, stepOn};
+ghost use Rattle.lent.specs.Counted.{busyAfter, roomFor, taken, turnOn};
 
 mod act;
 mod release;
@@ -34,6 +36,21 @@ pub struct Stepped {
     pub reply: Reply,
     pub worker: Worker,
     pub totals: Totals,
+}
+
+// What a turn moves besides the arrays and its worker's record.
+pub struct Moved {
+    pub busy: u16,
+    pub totals: Totals,
+    pub turns: u64,
+}
+
+// What a counted turn leaves besides the arrays; as in `Stepped`, nothing was moved where something did not fit.
+pub struct Taken {
+    pub fits: bool,
+    pub reply: Reply,
+    pub worker: Worker,
+    pub moved: Moved,
 }
 
 // The number at a position, 0 past the end.
@@ -81,7 +98,7 @@ fn give_back(status: &mut [u8; 1024], worker: Worker, seated: Worker)
     status[seated.thread as usize] = READY;
 }
 
-// "If w holds nothing, it takes the leftmost ready thread with quota K; with none ready, the turn is idle." The table has n threads; `parents` has each thread's parent.
+// "If w holds nothing, it takes the leftmost ready thread with quota K; with none ready, the turn is idle." Before it is counted. The table has n threads; `parents` has each thread's parent.
 pub fn step(
     table: &[u8],
     n: usize,
@@ -129,4 +146,95 @@ pub fn step(
     }
     give_back(status, worker, seated);
     unfit(totals, worker)
+}
+
+// The set of workers that hold a thread, after worker w's truth value went from one to the other.
+fn busy_after(busy: u16, held: bool, holds: bool, w: usize) -> u16
+    requires { ⌜ (w < 16) × (held ≡ false → busy + 2 ^ w < 65536) ⌝ }
+    ensures { λ r. ⌜ r ≡ busyAfter busy held holds w ⌝ }
+{
+    let bit: u16 = 1 << w;
+    if held {
+        if holds {
+            return busy;
+        }
+        if busy < bit { 0 } else { busy - bit }
+    } else {
+        if holds { busy + bit } else { busy }
+    }
+}
+
+// One turn more can be counted, and the set has room for worker w.
+fn room_for(turns: u64, busy: u16, holds: bool, w: usize) -> bool
+    ensures { λ r. ⌜ r ≡ roomFor turns busy holds w ⌝ }
+{
+    if turns == u64::MAX {
+        return false;
+    }
+    if 16 <= w {
+        return false;
+    }
+    if holds {
+        return true;
+    }
+    let bit: u16 = 1 << w;
+    busy <= u16::MAX - bit
+}
+
+// A turn of worker w, whose record is given.
+pub fn take_turn(
+    table: &[u8],
+    n: usize,
+    quota: u32,
+    parents: &[u16; 1024],
+    next: &mut [u16; 1024],
+    status: &mut [u8; 1024],
+    amounts: &mut [u64; 1024],
+    left: &mut [u16; 1024],
+    right: &mut [u16; 1024],
+    under: &mut [u16; 1024],
+    over: &mut [u16; 1024],
+    moved: Moved,
+    worker: Worker,
+    w: usize,
+) -> Taken
+    ensures { λ r. ⌜ taken r (arrays (now (next .exit)) (now (status .exit)) (now (amounts .exit)) (now (left .exit)) (now (right .exit)) (now (under .exit)) (now (over .exit)))
+        ≡ turnOn (tableFrom (now (table .entry)) n) quota (now (parents .entry)) w
+        (arrays (now (next .entry)) (now (status .entry)) (now (amounts .entry)) (now (left .entry)) (now (right .entry)) (now (under .entry)) (now (over .entry))) moved worker ⌝ }
+{
+    if !room_for(moved.turns, moved.busy, worker.holds, w) {
+        return unmoved(moved, worker);
+    }
+    let totals = moved.totals;
+    let stepped = step(
+        table, n, quota, parents, next, status, amounts, left, right, under, over, totals, worker,
+    );
+    if !stepped.fits {
+        return unmoved(moved, worker);
+    }
+    let reply = stepped.reply;
+    let after = stepped.worker;
+    let totals = stepped.totals;
+    Taken {
+        fits: true,
+        reply,
+        worker: after,
+        moved: Moved {
+            busy: busy_after(moved.busy, worker.holds, after.holds, w),
+            totals,
+            turns: moved.turns + 1,
+        },
+    }
+}
+
+// Nothing was moved.
+fn unmoved(moved: Moved, worker: Worker) -> Taken
+    ensures { λ r. ⌜ r ≡ record { fits = false; reply = Idle; worker = worker; moved = moved } ⌝ }
+{
+    Taken {
+        fits: false,
+        reply: Reply::Idle,
+        worker,
+        moved,
+    }
 }

@@ -10,7 +10,13 @@ use Rattle.table.specs.Sum.{pick}
 use Rattle.schedule.specs.declared.Worker.{Worker}
 use Rattle.schedule.specs.Machine.{nobody}
 use Rattle.schedule.specs.Record.{setOf}
-use Rattle.asyncdf.specs.Drives.{busyAfter, Bit}
+use Rattle.lent.specs.Counted.{busyAfter}
+
+-- bit w is in the set where the worker holds a thread, and there is room for it where not
+pub record Bit (busy : ℕ) (holds : Bool) (w : ℕ) : Type 0 where
+  pub below : w < 16
+  pub has : holds ≡ true → 2 ^ w ≤ busy
+  pub room : holds ≡ false → busy + 2 ^ w < 65536
 
 power-more : (w : ℕ) → 2 ^ suc w ≡ 2 * 2 ^ w
 power-more w = omega arith
