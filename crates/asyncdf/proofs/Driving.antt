@@ -1,12 +1,10 @@
--- A run goes turn by turn: what the code moves is the definition's turn, and the root ends exactly where the reply says that its end was done.
+-- A run goes turn by turn, and the root ends exactly where the reply says that its end was done.
 use mathlib.Core.Path.{_≡_, refl, sym, ap, _∙_}
 use Prim.Native.Nat.{ℕ, zero, suc, _+_, _-_, _^_, _≤_, _<_}
 use native.Mathlib.Omega.{arith}
 use native.Mathlib.Decide.{ℕ-discrete}
-use native.Mathlib.Numerals.{add-one}
-use mathlib.Core.List.{List}
 use mathlib.Core.Bool.{Bool, true, false}
-use lib.ListN.{length, getD, set}
+use lib.ListN.{length, getD}
 use lib.Dec.{leb, eqb}
 use borrow.Author.Tests.{eqb-false, eq-eqb, ne-eqb, lt-ltb, le-ltb}
 use Rattle.table.specs.Format.{Kind, end, work, alloc, free, fork, join, unknown, Table, kind}
@@ -14,14 +12,12 @@ use Rattle.table.specs.Pass.{refusal}
 use Rattle.table.specs.Rules.{owner, endOf}
 use Rattle.table.proofs.Tests.{no-way}
 use Rattle.table.proofs.Bodies.{owner-of-end, end-kind}
-use Rattle.schedule.specs.declared.Worker.{Worker}
 use Rattle.schedule.specs.declared.Run.{Run}
 use Rattle.schedule.specs.declared.Reply.the-variants.{Idle, Done, Quota, Wait}
 use Rattle.schedule.specs.declared.Report.the-variants.{Finished, Spent, Refused}
-use Rattle.schedule.specs.Machine.{State, Stepped, stepped, counted, ended, nextOf, statusOf, workerOf, nobody}
+use Rattle.schedule.specs.Machine.{State, ended, nextOf, statusOf, workerOf}
 use Rattle.schedule.specs.Machine.{actBy, act, leftmost, taken, turnFree, turnOf}
-use Rattle.schedule.specs.Links.{Links}
-use Rattle.schedule.specs.Record.{setOf, tableIn, stateOf}
+use Rattle.schedule.specs.Record.{tableIn, stateOf}
 use Rattle.schedule.specs.Sound.{isDone, Steady}
 use Rattle.schedule.specs.Turn.{rootEnded, noWorker, stepRun}
 use Rattle.schedule.specs.Runs.{ran, moved, drive}
@@ -35,13 +31,6 @@ use Rattle.schedule.proofs.Ends.{acting-ended}
 use Rattle.schedule.proofs.Turns.{leftmost-ready, taken-holds, turn-facts}
 use Rattle.schedule.proofs.Tries.{Turned, idles, tries, turned}
 use Rattle.schedule.proofs.Stores.{steady-lawful, steady-fits, steady-facts}
-use Rattle.asyncdf.specs.declared.runs.Moved.{Moved}
-use Rattle.asyncdf.specs.declared.runs.Taken.{Taken}
-use Rattle.lent.specs.Arrays.{Arrays}
-use Rattle.lent.specs.Parts.{stateIn}
-use Rattle.asyncdf.specs.Drives.{Took, packedOf}
-use Rattle.lent.proofs.Local.{putBack, turn-local}
-use Rattle.asyncdf.proofs.Busy.{set-busy}
 
 -- ---- the root's end
 

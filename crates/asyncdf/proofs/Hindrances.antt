@@ -19,9 +19,10 @@ use Rattle.schedule.proofs.Stores.{moved-steady}
 use Rattle.schedule.proofs.CaseLaws.{turn-turns}
 use Rattle.chart.specs.Chart.{mostTurns}
 use Rattle.chart.proofs.Records.{many, charted-many}
-use Rattle.asyncdf.specs.declared.runs.Moved.{Moved}
+use Rattle.lent.specs.declared.Moved.{Moved}
 use Rattle.lent.specs.Arrays.{Arrays}
-use Rattle.asyncdf.specs.Drives.{Moving, packedOf}
+use Rattle.lent.specs.Packed.{packedOf}
+use Rattle.asyncdf.specs.Drives.{Moving}
 use Rattle.asyncdf.specs.Sheets.{turnsTexts, hindered}
 use Rattle.asyncdf.proofs.Calls.{steady-full, steady-room, turned-unsound, turned-none, turned-taken}
 use Rattle.asyncdf.proofs.Ordered.{texts-refused, texts-many}

@@ -1,4 +1,3 @@
-pub mod Busy
 pub mod Laying
 pub mod Driving
 pub mod Moving

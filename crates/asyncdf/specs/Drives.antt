@@ -21,7 +21,7 @@ use Rattle.schedule.specs.Runs.{ran, drive}
 use Rattle.schedule.specs.Parents.{Parents}
 use Rattle.lent.specs.declared.Moved.{Moved}
 use Rattle.lent.specs.Arrays.{Arrays, secondOf, listOf}
-use Rattle.lent.specs.Parts.{packedOf}
+use Rattle.lent.specs.Packed.{packedOf}
 
 -- the worker of turn i
 unfoldable pub who : List ℕ → Bool → ℕ → ℕ → ℕ

@@ -1,14 +1,14 @@
 // The lines of an order's turns, of a listing or of a chart: the loop of a run, with a line put after each turn and no record at its end.
-use crate::runs::Moved;
 use crate::runs::moved_in;
 use crate::runs::root_end;
-use crate::runs::take_turn;
 use chart::MOST_TURNS;
 use chart::put_line;
 use lines::put_last;
 use lines::put_refused;
 use lines::put_turn;
+use lent::Moved;
 use lent::number_or_zero;
+use lent::take_turn;
 use links::fill_actives;
 use schedule::Reply;
 use schedule::Run;
@@ -30,7 +30,8 @@ ghost use Rattle.lines.specs.Puts.{Puts};
 ghost use Rattle.chart.specs.Chart.{shownOf, mostTurns};
 ghost use Rattle.schedule.specs.Parents.{Parents};
 ghost use Rattle.lent.specs.Arrays.{arrays};
-ghost use Rattle.asyncdf.specs.Drives.{Moving, Stands, packedOf};
+ghost use Rattle.lent.specs.Packed.{packedOf};
+ghost use Rattle.asyncdf.specs.Drives.{Moving, Stands};
 ghost use Rattle.asyncdf.specs.Sheets.{turnsTexts, widest, afterTexts, afterSize, overTexts, hindered};
 
 // The action that a reply says was done, 0 where none was.
@@ -185,8 +186,8 @@ fn put_each(
         let t = take_turn(
             table,
             n,
-            parents,
             quota,
+            parents,
             next,
             status,
             amounts,

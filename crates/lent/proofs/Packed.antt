@@ -44,6 +44,7 @@ pub record Goes (run : Run) (A : Arrays) (workers : List Worker) (m : Moved) (w 
   pub reply : stepRun (packedOf run A workers m) w .reply ≡ z .reply
   pub record-after : moved (packedOf run A workers m) w ≡ packedOf run (z .arrays) (set workers w (z .worker)) (z .moved)
   pub second : LinkedAs (secondOf (z .arrays) (z .moved .totals)) (actives (z .arrays .status) (listOf (z .arrays) (z .moved .totals)))
+  pub count : z .moved .turns ≡ m .turns + 1
 
 -- the test of room passes
 has-room : (turns busy w : ℕ) (holds : Bool) → turns < 2 ^ 64 - 1 → w < 16 → (holds ≡ false → busy + 2 ^ w < 65536) → roomFor turns busy holds w ≡ true
@@ -117,6 +118,7 @@ module _ {run : Run} {parents : List ℕ} {A : Arrays} {workers : List Worker} {
           reply = ap (λ (x : Stepped). x .reply) stepped-as;
           record-after = rw (stepped-as, q, ← ap (λ (x : Links). x .left) k, ← ap (λ (x : Links). x .right) k, ← ap (λ (x : Links). x .head) k);
           second = went .1 .chained .second-links;
+          count = omega arith;
         }
 
     counted-so : turnOn (tableFrom (bytesOf run) n) (run .quota) parents w A m own ≡ z

@@ -22,8 +22,9 @@ use Rattle.table.specs.Format.{threadsOf, tableOf}
 use Rattle.table.specs.Rules.{endOf}
 use Rattle.schedule.specs.Parents.{Parents}
 use Rattle.lent.specs.Arrays.{Arrays}
-use Rattle.asyncdf.specs.Drives.{Moving, Driven, movedOf, packedOf}
-use Rattle.asyncdf.specs.declared.runs.Moved.{Moved}
+use Rattle.lent.specs.Packed.{movedOf, packedOf}
+use Rattle.asyncdf.specs.Drives.{Moving, Driven}
+use Rattle.lent.specs.declared.Moved.{Moved}
 use Rattle.asyncdf.proofs.Driving.{drive-over}
 use Rattle.asyncdf.proofs.Moving.{arraysOf, table-room, first-moving}
 use Rattle.asyncdf.proofs.runs.drive.Statement.{statement}

@@ -18,8 +18,9 @@ use Rattle.schedule.specs.Turn.{unsound}
 use Rattle.schedule.specs.Listing.{lastWith}
 use Rattle.lines.specs.Puts.{Puts}
 use Rattle.soundness.proofs.Passed.{has-workers}
-use Rattle.asyncdf.specs.declared.runs.Moved.{Moved}
-use Rattle.asyncdf.specs.Drives.{Moving, movedOf, packedOf}
+use Rattle.lent.specs.declared.Moved.{Moved}
+use Rattle.lent.specs.Packed.{movedOf, packedOf}
+use Rattle.asyncdf.specs.Drives.{Moving}
 use Rattle.asyncdf.specs.Sheets.{turnsTexts, widest, overTexts}
 use Rattle.asyncdf.proofs.Calls.{turned-none, root-over, root-open}
 use Rattle.asyncdf.proofs.Moving.{arraysOf, table-room, first-moving}
