@@ -33,6 +33,11 @@ module _ (s : List ℕ) (n : ℕ) (e : n ≡ tableOf s .threads) where
   unfolding tableOf
   argument-from a = rw e
 
+  -- a thread's body among them
+  pub body-from : (t : ℕ) → drop (4 * tableOf s .first t) (bodiesFrom s n) ≡ bodyOf s t
+  unfolding tableOf
+  body-from t = rw e
+
 -- an action's code, read from the whole table
 pub code-in-table : (s : List ℕ) (n a : ℕ) → n ≡ threadsOf s → getD s (4 + 4 * n + 4 * a) 0 ≡ tableOf s .code a
 unfolding tableOf
@@ -43,11 +48,6 @@ pub body-room : {s : List ℕ} {n m t : ℕ} → Laid s n m → t < n → 4 + 4 
 unfolding tableOf
 body-room {s} {t = t} l h =
     omega (arith, l .headed .threads, l .headed .actions, sizes (l .headed), body-within (tableOf s) (l .contents) t (omega (arith, l .headed .threads)))
-
--- what taking it asks
-pub body-there : {s : List ℕ} {n m t : ℕ} → Laid s n m → t < n → (n ≡ threadsOf s) × (4 + 4 * n + 4 * tableOf s .first t ≤ length s)
-unfolding tableOf
-body-there l h = (l .headed .threads, omega (arith, body-room l h))
 
 pub code-part : (l : List ℕ) (f i : ℕ) → codeAt (drop (4 * f) l) i ≡ codeAt l (f + i)
 code-part l f i = simp (getD-drop, mul-add)

@@ -8,11 +8,10 @@ use crate::read::first;
 use crate::read::refuse;
 ghost use mathlib.Core.Path.{_≡_};
 ghost use Prim.Native.Nat.{_<_};
-ghost use lib.ListN.{length};
 ghost use Rattle.table.specs.Format.{kindOf, tableOf, join};
 ghost use Rattle.table.specs.Pass.{tryPass};
-ghost use Rattle.table.specs.Rules.{balancePass, whole, allocOf, freeOf};
-ghost use Rattle.table.specs.Steps.{Nested, Filled, WalkReady, ownAmount, childAmount, leastNext, balanceOf};
+ghost use Rattle.table.specs.Rules.{balancePass};
+ghost use Rattle.table.specs.Steps.{Nested, WalkReady, ownAmount, childAmount, leastNext, balanceOf};
 
 // What a body draws and gives back, and its first action after which it has given back more (its count of actions, if there is none).
 pub(crate) struct Balance {
@@ -22,7 +21,7 @@ pub(crate) struct Balance {
 }
 
 // The argument x where k is the kind counted, else 0.
-pub(crate) fn own_amount(own: u8, k: u8, x: usize) -> u64
+fn own_amount(own: u8, k: u8, x: usize) -> u64
     requires { ⌜ own < 6 ⌝ }
     ensures { λ r. ⌜ r ≡ ownAmount (kindOf own) (kindOf k) x ⌝ }
 {
@@ -30,7 +29,7 @@ pub(crate) fn own_amount(own: u8, k: u8, x: usize) -> u64
 }
 
 // The amount of child x where k is the kind at which children count, else 0.
-pub(crate) fn child_amount(at: u8, k: u8, x: usize, amounts: &[u64; 1024]) -> u64
+fn child_amount(at: u8, k: u8, x: usize, amounts: &[u64; 1024]) -> u64
     requires { ⌜ (at < 6) × (k ≡ at → x < 1024) ⌝ }
     ensures { λ r. ⌜ r ≡ childAmount (kindOf at) (kindOf k) x (now (amounts .entry)) ⌝ }
 {
@@ -67,20 +66,13 @@ fn balance_walk(body: &[u8], count: usize, rises: &[u64; 1024], falls: &[u64; 10
     Balance { rise, fall, below }
 }
 
-// Fills in every thread's rise and fall, the children before their parents: a child has the higher number.
-pub(crate) fn balances(
-    table: &[u8],
-    n: usize,
-    m: usize,
-    rises: &mut [u64; 1024],
-    falls: &mut [u64; 1024],
-) -> Found
+// The children before their parents: a child has the higher number.
+pub(crate) fn balances(table: &[u8], n: usize, m: usize) -> Found
     requires { ⌜ Nested (now table) n m ⌝ }
-    requires { ⌜ (length (now rises) ≡ 1024) × (length (now falls) ≡ 1024) ⌝ }
     ensures { λ r. ⌜ r ≡ tryPass (balancePass (tableOf (now (table .entry)))) ⌝ }
-    ensures { λ r. ⌜ Filled (tableOf (now (table .entry))) (whole (tableOf (now (table .entry))) (allocOf (tableOf (now (table .entry))))) (now (rises .exit)) 0 ⌝ }
-    ensures { λ r. ⌜ Filled (tableOf (now (table .entry))) (whole (tableOf (now (table .entry))) (freeOf (tableOf (now (table .entry))))) (now (falls .exit)) 0 ⌝ }
 {
+    let mut rises = [0u64; 1024];
+    let mut falls = [0u64; 1024];
     let mut lowest = m;
     let mut t = n;
     while 0 < t {
@@ -88,7 +80,7 @@ pub(crate) fn balances(
         let first = first(table, t);
         let count = count(table, t);
         let body = body_of(table, n, t);
-        let w = balance_walk(body, count, rises, falls);
+        let w = balance_walk(body, count, &rises, &falls);
         rises[t] = w.rise;
         falls[t] = w.fall;
         if w.below < count {
