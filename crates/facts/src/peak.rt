@@ -1,17 +1,17 @@
 // The serial peak S1: each thread's highest amount, counted from its start, from those of the children it forks.
-use table::kinds::ALLOC;
 use table::kinds::FORK;
-use table::kinds::FREE;
+use table::kinds::alloc_of;
+use table::kinds::free_of;
 use table::read::argument_in;
 use table::read::body_of;
 use table::read::code_in;
 use table::read::count;
 ghost use mathlib.Core.Path.{_≡_};
-ghost use Prim.Native.Nat.{_+_, _<_, max};
+ghost use Prim.Native.Nat.{_<_, max};
 ghost use Rattle.table.specs.Sum.{sumTo, greatestTo};
 ghost use Rattle.table.specs.Format.{tableOf, kindOf, alloc, free, fork};
 ghost use Rattle.table.specs.Serial.{S1};
-ghost use Rattle.table.specs.Steps.{Kept, WalkReady, PeaksReady, ownAmount, childAmount, amountAt, topOf};
+ghost use Rattle.table.specs.Steps.{Kept, WalkReady, PeaksReady, childAmount, amountAt, topOf};
 
 // What a body draws and gives back with the children it forks, and the highest that it holds, counted from its start.
 struct Amounts {
@@ -32,17 +32,6 @@ fn child_amount(k: u8, x: usize, amounts: &[u64; 1024]) -> u64
     ensures { λ r. ⌜ r ≡ childAmount fork (kindOf k) x (now (amounts .entry)) ⌝ }
 {
     if k == FORK { amounts[x] } else { 0 }
-}
-
-// The same with the action's own amount: the argument x where k is the kind counted.
-fn amount(own: u8, k: u8, x: usize, amounts: &[u64; 1024]) -> u64
-    requires { ⌜ (own < 4) × (k ≡ 4 → x < 1024) ⌝ }
-    ensures { λ r. ⌜ r ≡ ownAmount (kindOf own) (kindOf k) x + childAmount fork (kindOf k) x (now (amounts .entry)) ⌝ }
-{
-    if k == own {
-        return x as u64;
-    }
-    child_amount(k, x, amounts)
 }
 
 // Over one body: what is held before an action, and while a child forked there runs.
@@ -67,8 +56,8 @@ fn peak_walk(
         let k = code_in(body, i);
         let x = argument_in(body, i);
         peak = larger(peak, rise - fall + child_amount(k, x, peaks));
-        rise += amount(ALLOC, k, x, rises);
-        fall += amount(FREE, k, x, falls);
+        rise += alloc_of(k, x) + child_amount(k, x, rises);
+        fall += free_of(k, x) + child_amount(k, x, falls);
         i += 1;
     }
     Amounts { rise, fall, peak }

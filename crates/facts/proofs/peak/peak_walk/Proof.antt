@@ -61,27 +61,25 @@ child-index c e =
     let d = c .before .before in
     child-small (d .before .loop .inv .ready) (d .loop-test .taken) (c .before .code-in .ensures) (c .argument-in .ensures .value) (rw e)
 
-risen-next : (c : tie.After-amount Inv-loop μ-loop) →
-    let l = c .before .before .before .before .before .before in
-    let a = l .before .before .args in
-    Summed (amountAt alloc fork (now (a .body)) (now (a .rises))) (l .loop .i) (l .loop .rise + c .amount .result)
-unfolding kindOf
-risen-next c =
-    let a = c .before .before .before in
-    let d = a .before .before in
-    rw (c .amount .ensures)
-    (sum-next alloc fork _ _ (d .before .loop .inv .ready .rise-small) (d .loop-test .taken) (a .before .code-in .ensures) (a .argument-in .ensures .value) refl refl (d .before .loop .inv .risen))
-
-fallen-next : (c : tie.After-amount2 Inv-loop μ-loop) →
+risen-next : (c : tie.After-child-amount2 Inv-loop μ-loop) →
     let l = c .before .before .before .before .before .before .before in
     let a = l .before .before .args in
-    Summed (amountAt free fork (now (a .body)) (now (a .falls))) (l .loop .i) (l .loop .fall + c .amount2 .result)
-unfolding kindOf
-fallen-next c =
+    Summed (amountAt alloc fork (now (a .body)) (now (a .rises))) (l .loop .i) (l .loop .rise + (c .before .alloc-of .result + c .child-amount2 .result))
+risen-next c =
     let a = c .before .before .before .before in
     let d = a .before .before in
-    rw (c .amount2 .ensures)
-    (sum-next free fork _ _ (d .before .loop .inv .ready .fall-small) (d .loop-test .taken) (a .before .code-in .ensures) (a .argument-in .ensures .value) refl refl (d .before .loop .inv .fallen))
+    sum-next alloc fork _ _ (d .before .loop .inv .ready .rise-small) (d .loop-test .taken) (a .before .code-in .ensures) (a .argument-in .ensures .value)
+    (c .before .alloc-of .ensures) (c .child-amount2 .ensures) (d .before .loop .inv .risen)
+
+fallen-next : (c : tie.After-child-amount3 Inv-loop μ-loop) →
+    let l = c .before .before .before .before .before .before .before .before .before in
+    let a = l .before .before .args in
+    Summed (amountAt free fork (now (a .body)) (now (a .falls))) (l .loop .i) (l .loop .fall + (c .before .free-of .result + c .child-amount3 .result))
+fallen-next c =
+    let a = c .before .before .before .before .before .before in
+    let d = a .before .before in
+    sum-next free fork _ _ (d .before .loop .inv .ready .fall-small) (d .loop-test .taken) (a .before .code-in .ensures) (a .argument-in .ensures .value)
+    (c .before .free-of .ensures) (c .child-amount3 .ensures) (d .before .loop .inv .fallen)
 
 loop-holds : tie.Need-loop-holds Inv-loop μ-loop
 loop-holds c = start (c .before .pre .0) (c .before .pre .1)
@@ -106,17 +104,29 @@ add-larger c =
 larger-requires : tie.Need-larger-requires Inv-loop μ-loop
 larger-requires c κs = search needs
 
-amount-requires : tie.Need-amount-requires Inv-loop μ-loop
-amount-requires c κs = (omega arith, child-index (c .before .before))
+alloc-of-requires : tie.Need-alloc-of-requires Inv-loop μ-loop
+alloc-of-requires c κs = search needs
+
+child-amount-requires-2 : tie.Need-child-amount-requires-2 Inv-loop μ-loop
+child-amount-requires-2 c κs = child-index (c .before .before .before)
 
 add-rise : tie.Need-add-rise Inv-loop μ-loop
 add-rise c = omega (arith, risen-next c .small)
 
-amount-requires-2 : tie.Need-amount-requires-2 Inv-loop μ-loop
-amount-requires-2 c κs = (omega arith, child-index (c .before .before .before))
+add-rise-2 : tie.Need-add-rise-2 Inv-loop μ-loop
+add-rise-2 c = omega (arith, risen-next c .small)
+
+free-of-requires : tie.Need-free-of-requires Inv-loop μ-loop
+free-of-requires c κs = search needs
+
+child-amount-requires-3 : tie.Need-child-amount-requires-3 Inv-loop μ-loop
+child-amount-requires-3 c κs = child-index (c .before .before .before .before .before)
 
 add-fall : tie.Need-add-fall Inv-loop μ-loop
 add-fall c = omega (arith, fallen-next c .small)
+
+add-fall-2 : tie.Need-add-fall-2 Inv-loop μ-loop
+add-fall-2 c = omega (arith, fallen-next c .small)
 
 add-i : tie.Need-add-i Inv-loop μ-loop
 add-i c = omega arith
@@ -126,15 +136,15 @@ loop-less c = omega arith
 
 loop-again : tie.Need-loop-again Inv-loop μ-loop
 loop-again c =
-    let a = c .before .before .before .before in
+    let a = c .before .before .before .before .before .before in
     let v = a .before .before .before .loop .inv in
     record {
       ready = v .ready;
       low = v .low;
       within = omega arith;
-      risen = rw add-one (risen-next (c .before) .value);
+      risen = rw add-one (risen-next (c .before .before) .value);
       fallen = rw add-one (fallen-next c .value);
-      highest = top-next v (a .before .code-in .ensures) (a .argument-in .ensures .value) (c .before .before .before .child-amount .ensures) (c .before .before .larger .ensures);
+      highest = top-next v (a .before .code-in .ensures) (a .argument-in .ensures .value) (c .before .before .before .before .before .child-amount .ensures) (c .before .before .before .before .larger .ensures);
     }
 
 returns : tie.Need-returns Inv-loop μ-loop
@@ -156,10 +166,14 @@ peak-walk-spec =
     child-amount-requires
     add-larger
     larger-requires
-    amount-requires
+    alloc-of-requires
+    child-amount-requires-2
     add-rise
-    amount-requires-2
+    add-rise-2
+    free-of-requires
+    child-amount-requires-3
     add-fall
+    add-fall-2
     add-i
     loop-less
     loop-again
