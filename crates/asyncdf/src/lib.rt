@@ -22,7 +22,6 @@ use schedule::statuses::ENDED;
 use soundness::begin_fault;
 use soundness::test;
 use table::Found;
-use table::Loaded;
 use table::Refusal;
 use table::read::threads;
 ghost use mathlib.Core.Path.{_≡_};
@@ -55,8 +54,8 @@ pub fn begin(bytes: &[u8], p: u8, quota: u32) -> Begun
     ensures { λ r. ⌜ r ≡ beginOf (now (bytes .entry)) p quota ⌝ }
     ensures { λ r. ⌜ beginningValues (r .answer) ≡ beginValues (now (bytes .entry)) p quota ⌝ }
 {
-    let loaded = table::load(bytes);
-    if let Loaded::Refused(x) = loaded {
+    let found = table::check(bytes);
+    if let Found::At(x) = found {
         return Begun {
             answer: Beginning::Refused(x),
             run: blank(),

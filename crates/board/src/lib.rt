@@ -14,7 +14,7 @@ pub extern "C" fn wivakkol_check(table: &[u8], row: &mut [u64; 6]) -> u32
     ensures { λ r. ⌜ r ≡ tableValues (now (table .entry)) .number ⌝ }
     ensures { λ _. ⌜ now (row .exit) ≡ factsRow (tableValues (now (table .entry))) ⌝ }
 {
-    let loaded = table::load(table);
+    let loaded = facts::load(table);
     match loaded {
         Loaded::Accepted(f) => {
             *row = [

@@ -5,7 +5,7 @@ use crate::sound::is_blank;
 use crate::sound::sound;
 use schedule::Run;
 use schedule::Worker;
-use table::Loaded;
+use table::Found;
 use table::read;
 ghost use mathlib.Core.Path.{_≡_};
 ghost use Rattle.soundness.specs.Tested.{commonTested, tested};
@@ -45,8 +45,8 @@ pub fn test_common(
     ensures { λ r. ⌜ r ≡ commonTested (now (table .entry)) p quota next status amounts workers busy held highest ⌝ }
 {
     let mut parents = [0u16; 1024];
-    let loaded = table::load(table);
-    if let Loaded::Refused(_) = loaded {
+    let found = table::check(table);
+    if let Found::At(_) = found {
         return Tested {
             passed: false,
             parents,

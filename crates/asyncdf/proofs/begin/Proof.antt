@@ -1,5 +1,5 @@
 -- `asyncdf::begin` meets its contract: the table's own checks come first, and those of the beginning where they find nothing.
-use mathlib.Core.Path.{_≡_, ap, sym, _∙_}
+use mathlib.Core.Path.{_≡_, sym, _∙_}
 use Prim.Native.Nat.{ℕ, _≤_}
 use mathlib.Core.List.{List}
 use native.Mathlib.Omega.{arith}
@@ -11,12 +11,9 @@ use Rattle.table.specs.Format.{threadsOf, tableOf}
 use Rattle.table.specs.Pass.{firstFound}
 use Rattle.table.specs.Rules.{passes}
 use Rattle.table.specs.Accepted.{Rules}
-use Rattle.table.specs.Load.{loaded}
-use Rattle.table.specs.declared.Facts.{Facts}
 use Rattle.table.specs.declared.Refusal.{Refusal}
 use Rattle.table.specs.declared.Found.the-variants.{Nothing, At}
-use Rattle.table.specs.declared.Loaded.the-variants.{Accepted, Refused}
-use Rattle.table.proofs.Passes.{firstFound-append, found-exactly, passes-rules, accepted-exactly, accepted-facts, refused-exactly}
+use Rattle.table.proofs.Passes.{firstFound-append, passes-rules}
 use Rattle.schedule.specs.Record.{blank}
 use Rattle.schedule.specs.Begin.{begin, beginPasses, begunAs, startRun}
 use Rattle.schedule.specs.declared.Run.{Run}
@@ -28,14 +25,9 @@ use Rattle.asyncdf.proofs.Calls.{begun-answers}
 use Rattle.asyncdf.proofs.begin.Statement.{statement}
 use Rattle.asyncdf.proofs.begin.Tie as tie
 
-accepted-rules : (s : List ℕ) {f : Facts} → loaded s ≡ Accepted f → Rules s
-accepted-rules s {f} h = accepted-exactly s .0 (h ∙ ap Accepted (accepted-facts s f h))
-
-refused-table : (s : List ℕ) (p K : ℕ) {x : Refusal} {b : Run} → loaded s ≡ Refused x → b ≡ blank → record { answer = refusedBegin x; run = b } ≡ begin s p K
+refused-table : (s : List ℕ) (p K : ℕ) {x : Refusal} {b : Run} → firstFound (passes s) ≡ At x → b ≡ blank → record { answer = refusedBegin x; run = b } ≡ begin s p K
 unfolding begin
-refused-table s p K {x} h e =
-    let f : firstFound (passes s) ≡ At x = found-exactly (passes s) x .1 (refused-exactly s x .0 h) in
-    rw (firstFound-append (passes s), f, e)
+refused-table s p K h e = rw (firstFound-append (passes s), h, e)
 
 module _ {s : List ℕ} (r : Rules s) (p K : ℕ) where
   begin-is : begunAs (firstFound (beginPasses (tableOf s) p K)) (startRun s p K) ≡ begin s p K
@@ -51,13 +43,13 @@ module _ {s : List ℕ} (r : Rules s) (p K : ℕ) where
 
 -- the table is accepted
 passed : (c : tie.After-enum-told) → Rules (now (c .before .before .before .before .args .bytes))
-passed c = accepted-rules _ (sym (c .before .before .load .ensures .0) ∙ c .enum-told .given .1)
+passed c = passes-rules _ .0 (sym (c .before .before .check .ensures) ∙ c .enum-told .given .1)
 
-load-requires : tie.Need-load-requires
-load-requires c κs = search needs
+check-requires : tie.Need-check-requires
+check-requires c κs = search needs
 
-enum-known-loaded : tie.Need-enum-known-loaded
-enum-known-loaded c = search needs
+enum-known-found : tie.Need-enum-known-found
+enum-known-found c = search needs
 
 blank-requires : tie.Need-blank-requires
 blank-requires c κs = search needs
@@ -66,7 +58,7 @@ returns : tie.Need-returns
 returns c =
     let d = c .before .before .before .before in
     let a = d .before .before .args in
-    rw (← begin-values) (begun-answers (refused-table (now (a .bytes)) (a .p) (a .quota) (sym (d .load .ensures .0) ∙ c .before .before .loaded .given .1) (c .blank .ensures)))
+    rw (← begin-values) (begun-answers (refused-table (now (a .bytes)) (a .p) (a .quota) (sym (d .check .ensures) ∙ c .before .before .found .given .1) (c .blank .ensures)))
 
 enum-told : tie.Need-enum-told
 enum-told c = search needs
@@ -74,8 +66,8 @@ enum-told c = search needs
 begin-fault-requires : tie.Need-begin-fault-requires
 begin-fault-requires c κs = search needs
 
-enum-known-found : tie.Need-enum-known-found
-enum-known-found c = search needs
+enum-known-found-2 : tie.Need-enum-known-found-2
+enum-known-found-2 c = search needs
 
 blank-requires-2 : tie.Need-blank-requires-2
 blank-requires-2 c κs = search needs
@@ -84,7 +76,7 @@ returns-2 : tie.Need-returns-2
 returns-2 c =
     let d = c .before .before .before .before in
     let a = d .before .before .before .before .before .args in
-    rw (← begin-values) (begun-answers (refused-begin (passed (d .before)) (a .p) (a .quota) (sym (d .begin-fault .ensures) ∙ c .before .before .found .given .1) (c .blank2 .ensures)))
+    rw (← begin-values) (begun-answers (refused-begin (passed (d .before)) (a .p) (a .quota) (sym (d .begin-fault .ensures) ∙ c .before .before .found2 .given .1) (c .blank2 .ensures)))
 
 enum-told-2 : tie.Need-enum-told-2
 enum-told-2 c = search needs
@@ -109,13 +101,13 @@ pub begin-spec : {M : Type 1} → statement M
 begin-spec =
     tie.close
     (tie.spec
-    load-requires
-    enum-known-loaded
+    check-requires
+    enum-known-found
     blank-requires
     returns
     enum-told
     begin-fault-requires
-    enum-known-found
+    enum-known-found-2
     blank-requires-2
     returns-2
     enum-told-2
