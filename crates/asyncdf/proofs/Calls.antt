@@ -35,7 +35,8 @@ use Rattle.soundness.specs.declared.Tested.{Tested}
 use Rattle.schedule.specs.Parents.{Parents}
 use Rattle.soundness.specs.Tested.{tested}
 use Rattle.soundness.proofs.Passed.{blank-none, has-workers, no-workers}
-use Rattle.asyncdf.specs.Drives.{who, Sequence, Open, passedAlong, Driven}
+use Rattle.lent.specs.Counted.{passedAlong}
+use Rattle.asyncdf.specs.Drives.{who, Sequence, Open, Driven}
 use Rattle.asyncdf.proofs.Driving.{drive-next}
 
 -- ---- what stands behind check 32

@@ -1,4 +1,3 @@
-pub mod Laying
 pub mod Driving
 pub mod Moving
 pub mod Along

@@ -3,7 +3,6 @@ use mathlib.Core.Path.{_≡_}
 use Prim.Native.Nat.{ℕ, _+_, _-_, _%_, _^_, _≤_, _<_}
 use mathlib.Core.List.{List}
 use mathlib.Core.Bool.{Bool, true, false}
-use lib.Dec.{ltb}
 use lib.ListN.{length, getD}
 use Rattle.table.specs.Sum.{pick}
 use Rattle.table.specs.Format.{Table, tableOf}
@@ -12,7 +11,7 @@ use Rattle.schedule.specs.declared.Worker.{Worker}
 use Rattle.schedule.specs.declared.Run.{Run}
 use Rattle.schedule.specs.declared.Reply.{Reply}
 use Rattle.schedule.specs.declared.Report.{Report}
-use Rattle.schedule.specs.Links.{noThread, LinkedAs, Sought}
+use Rattle.schedule.specs.Links.{LinkedAs}
 use Rattle.schedule.specs.Actives.{actives}
 use Rattle.schedule.specs.Record.{bytesOf}
 use Rattle.schedule.specs.Sound.{Steady}
@@ -37,10 +36,6 @@ pub record Outlined (s : List ℕ) (n last : ℕ) (parents : List ℕ) : Type 0 
   pub threads : n ≡ tableOf s .threads
   pub last-action : last ≡ endOf (tableOf s) 0
   pub parent : Parents (tableOf s) parents
-
--- how many threads a worker passes over, from whether it holds one and what the search found
-unfoldable pub passedAlong : Bool → Sought → ℕ
-passedAlong holds found = pick holds 0 (pick (ltb (found .thread) noThread) (found .passed) 0)
 
 -- a turn of worker w may be taken: the root has not ended, and turns taken has room
 pub record Open (r : Run) (w : ℕ) : Type 0 where

@@ -8,6 +8,10 @@ ghost use Rattle.table.specs.Load.{tableValues};
 ghost use Rattle.quota.specs.Quota.{valuesFor};
 ghost use Rattle.board.specs.Rows.{factsRow, quotaRow};
 
+mod turn;
+
+pub use turn::wivakkol_turn_on;
+
 // A table's facts n, m, S1, D and N, or the check that refuses it.
 #[no_mangle]
 pub extern "C" fn wivakkol_check(table: &[u8], row: &mut [u64; 6]) -> u32

@@ -8,6 +8,7 @@ use Rattle.table.specs.Format.{Table}
 use Rattle.schedule.specs.declared.Worker.{Worker}
 use Rattle.schedule.specs.declared.Reply.{Reply}
 use Rattle.schedule.specs.declared.Reply.the-variants.{Idle}
+use Rattle.schedule.specs.Links.{noThread, Sought}
 use Rattle.schedule.specs.Record.{maxWorkers}
 use Rattle.lent.specs.declared.Moved.{Moved}
 use Rattle.lent.specs.declared.Taken.{Taken}
@@ -54,3 +55,7 @@ unfoldable pub turnOn : Table → ℕ → List ℕ → ℕ → Arrays → Moved 
 turnOn T K parents w A m worker =
     let o : Outcome = stepOn T K parents A (m .totals) worker in
     pick (roomFor (m .turns) (m .busy) (worker .holds) w && o .fits) (counting w m worker o) (unmoved A m worker)
+
+-- how many threads a worker passes over to take one (N7), from whether it holds one and what a search along the list found
+unfoldable pub passedAlong : Bool → Sought → ℕ
+passedAlong holds found = pick holds 0 (pick (ltb (found .thread) noThread) (found .passed) 0)

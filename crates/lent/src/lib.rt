@@ -17,7 +17,7 @@ ghost use Rattle.schedule.specs.Links.{seek as seekOf};
 ghost use Rattle.lent.specs.Arrays.{arrays, tableFrom};
 ghost use Rattle.schedule.specs.declared.Reply.the-variants.{Idle};
 ghost use Rattle.lent.specs.Turn.{outcome, seat, seatOf, stepOn};
-ghost use Rattle.lent.specs.Counted.{busyAfter, roomFor, taken, turnOn};
+ghost use Rattle.lent.specs.Counted.{busyAfter, passedAlong, roomFor, taken, turnOn};
 
 mod act;
 mod release;
@@ -58,6 +58,21 @@ pub fn number_or_zero(numbers: &[u16], i: usize) -> u16
     ensures { λ r. ⌜ r ≡ getD (now (numbers .entry)) i 0 ⌝ }
 {
     if i < numbers.len() { numbers[i] } else { 0 }
+}
+
+// How many threads stand left of the leftmost ready one, which a worker that holds nothing takes (N7: "The search .. also says"); 0 where it takes none.
+pub fn passed_over(worker: Worker, status: &[u8; 1024], right: &[u16; 1024], leftmost: u16) -> u16
+    ensures { λ r. ⌜ r ≡ passedAlong (worker .holds) (seekOf 1024 (now (status .entry)) (now (right .entry)) leftmost) ⌝ }
+{
+    if worker.holds {
+        return 0;
+    }
+    let found = seek(status, right, leftmost);
+    if found.thread < NO_THREAD {
+        found.passed
+    } else {
+        0
+    }
 }
 
 // The worker with its thread: a worker that holds nothing takes the leftmost ready thread with the whole quota, if there is one. The search goes along the second list, past held threads alone.

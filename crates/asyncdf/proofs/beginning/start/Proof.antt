@@ -1,5 +1,5 @@
 -- `asyncdf::beginning::start` meets its contract: the two filled arrays are the definition's, and the other fields compute.
-use mathlib.Core.Path.{_≡_, refl, ap, _∙_}
+use mathlib.Core.Path.{_≡_, refl, _∙_}
 use Prim.Native.Nat.{ℕ}
 use mathlib.Core.List.{List, [], _∷_}
 use lib.Dec.{eqb}
@@ -17,8 +17,6 @@ use Rattle.schedule.specs.Actives.{noLinks}
 use Rattle.schedule.proofs.Links.{linked-laid}
 use Rattle.schedule.proofs.Fills.{noLinks-linked}
 use Rattle.schedule.proofs.Turns.{either}
-use Rattle.soundness.specs.Checks.{Accepted}
-use Rattle.asyncdf.proofs.Laying.{accepted-sizes}
 use Rattle.asyncdf.proofs.beginning.start.Statement.{statement}
 use Rattle.asyncdf.proofs.beginning.start.Tie as tie
 
@@ -58,32 +56,26 @@ alone-linked =
       leftmost = refl;
     }
 
-is-start : {s table next : List ℕ} {n : ℕ} (p K : ℕ) → Accepted s n → table ≡ filled 36868 s → next ≡ filled 1024 (firsts (tableOf s .first) 0 n)
+is-start : {s table next : List ℕ} (p K : ℕ) → table ≡ filled 36868 s → next ≡ filled 1024 (firsts (tableOf s .first) 0 (tableOf s .threads))
     → begun s p K table next alone ≡ startRun s p K
 unfolding startRun startState setOf
-is-start {s} p K k e d =
-    let f = d ∙ ap (λ (t : ℕ). filled 1024 (firsts (tableOf s .first) 0 t)) (k .threads) in
+is-start {s} p K e d =
     let l = linked-laid alone (0 ∷ []) alone-linked in
-    λ i. begun s p K (e i) (f i) (l i)
+    λ i. begun s p K (e i) (d i) (l i)
 
 copy-requires : tie.Need-copy-requires
-copy-requires c κs = (omega (arith, accepted-sizes (c .before .before .pre)), refl)
-
-fill-next-requires : tie.Need-fill-next-requires
-fill-next-requires c κs = search needs
+copy-requires c κs = (c .before .before .pre .0, refl)
 
 array-write-status : tie.Need-array-write-status
 array-write-status c = search needs
 
 cast-t15 : tie.Need-cast-t15
-cast-t15 c = omega (arith, accepted-sizes (c .before .before .before .before .before .pre))
+cast-t15 c = omega (arith, c .before .before .before .pre .0)
 
 returns : tie.Need-returns
 returns c =
-    let d = c .before .before in
-    let a = d .before .before .before in
-    is-start (a .args .p) (a .args .quota) (a .pre) (d .copy .ensures) (c .fill-next .ensures)
+    let a = c .before .before .before in
+    is-start (a .args .p) (a .args .quota) (c .copy .ensures) (a .pre .1)
 
 pub start-spec : {M : Type 1} → statement M
-start-spec =
-    tie.close (tie.spec copy-requires fill-next-requires array-write-status cast-t15 returns)
+start-spec = tie.close (tie.spec copy-requires array-write-status cast-t15 returns)

@@ -1,13 +1,13 @@
--- `asyncdf::passed_over` meets its contract, case by case.
+-- `lent::passed_over` meets its contract, case by case.
 use mathlib.Core.Path.{_≡_}
 use Prim.Native.Nat.{ℕ, _≤_, _<_}
 use mathlib.Core.Bool.{Bool, true, false}
 use borrow.Author.Needs.{needs}
 use borrow.Author.Tests.{lt-ltb, le-ltb}
 use Rattle.schedule.specs.Links.{noThread, Sought}
-use Rattle.asyncdf.specs.Drives.{passedAlong}
-use Rattle.asyncdf.proofs.passed_over.Statement.{statement}
-use Rattle.asyncdf.proofs.passed_over.Tie as tie
+use Rattle.lent.specs.Counted.{passedAlong}
+use Rattle.lent.proofs.passed_over.Statement.{statement}
+use Rattle.lent.proofs.passed_over.Tie as tie
 
 module _ {holds : Bool} (found : Sought) where
   keeps : holds ≡ true → 0 ≡ passedAlong holds found

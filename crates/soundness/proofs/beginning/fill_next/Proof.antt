@@ -1,4 +1,4 @@
--- `asyncdf::beginning::fill_next` meets its contract. The invariant: the first t places have these threads' first actions, and the others 0.
+-- `soundness::beginning::fill_next` meets its contract. The invariant: the first t places have these threads' first actions, and the others 0.
 use mathlib.Core.Path.{_≡_, ap, _∙_}
 use Prim.Native.Nat.{ℕ, _+_, _-_, _≤_, _<_}
 use mathlib.Core.List.{List}
@@ -9,10 +9,10 @@ use Rattle.table.specs.Format.{actionsOf, tableOf}
 use Rattle.table.proofs.Sizes.{Sizes}
 use Rattle.schedule.specs.Record.{filled}
 use Rattle.schedule.specs.Firsts.{firsts}
 use Rattle.soundness.specs.Checks.{Accepted}
-use Rattle.asyncdf.proofs.Laying.{Laid, laid-more, accepted-sizes}
-use Rattle.asyncdf.proofs.beginning.fill_next.Statement.{statement}
-use Rattle.asyncdf.proofs.beginning.fill_next.Tie as tie
+use Rattle.soundness.proofs.Laying.{Laid, laid-more, accepted-sizes}
+use Rattle.soundness.proofs.beginning.fill_next.Statement.{statement}
+use Rattle.soundness.proofs.beginning.fill_next.Tie as tie
 
 record Inv (s : List ℕ) (n : ℕ) (next : List ℕ) (t : ℕ) : Type 0 where
   sizes : Sizes s n (actionsOf s)
