@@ -1,3 +1,5 @@
 -- What the proofs of the calls use.
 mod Answers
 mod Cases
+mod Begins
+mod Turns

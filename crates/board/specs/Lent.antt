@@ -1,19 +1,22 @@
 -- A run in memory that C lends: numbers in arrays, and a turn on them, whatever they hold.
 use Prim.Native.Nat.{ℕ, _-_, _^_}
 use mathlib.Core.List.{List, [], _∷_}
-use mathlib.Core.Bool.{not}
-use lib.ListN.{getD, set}
+use mathlib.Core.Bool.{true, not}
+use lib.ListN.{getD, set, replicate}
 use lib.Dec.{ltb, eqb}
 use Rattle.table.specs.Sum.{pick}
 use Rattle.table.specs.Format.{tableOf}
+use Rattle.table.specs.declared.Found.{Found}
+use Rattle.table.specs.declared.Found.the-variants.{Nothing, At}
 use Rattle.schedule.specs.declared.Worker.{Worker}
 use Rattle.schedule.specs.declared.Reply.{Reply}
-use Rattle.schedule.specs.Machine.{ended}
-use Rattle.schedule.specs.Links.{seek}
-use Rattle.schedule.specs.Record.{maxThreads}
+use Rattle.schedule.specs.Machine.{ready, ended}
+use Rattle.schedule.specs.Links.{noThread, seek}
+use Rattle.schedule.specs.Record.{maxThreads, maxWorkers}
 use Rattle.schedule.specs.Answers.{Said, nothing, idle, done, quota, wait, begun, finished, spent, replyValues}
+use Rattle.soundness.specs.Tested.{parentsIn, nextIf, beginFound}
 use Rattle.lent.specs.declared.Moved.{Moved}
-use Rattle.lent.specs.Arrays.{Arrays}
+use Rattle.lent.specs.Arrays.{Arrays, arrays}
 use Rattle.lent.specs.Counted.{Left, turnOn, passedAlong}
 
 -- p and K; each thread's parent; what turns move of the threads; of each worker whether it holds a thread, 0 if not, which, and its quota left; leftmost thread, that of the second list and
@@ -108,3 +111,29 @@ lentTurn s w M =
     let passed : ℕ = passedAlong (workerIn M w .holds) (seek maxThreads (M .arrays .status) (M .arrays .right) (movedIn M .totals .leftmost)) in
     let there : Answer = turnLeft M w passed (turnOn (tableOf s) (getD (M .settings) 1 0) (M .parents) w (M .arrays) (movedIn M) (workerIn M w)) in
     pick (eqb number 0) there (answer number noRow M)
+
+-- ---- a beginning
+
+abbrev pub nobodies : List ℕ
+nobodies = replicate maxWorkers 0
+
+-- "the blank record: every number 0, every status unborn, the list empty"
+abbrev pub blankMemory : Memory
+blankMemory =
+    let zeros : List ℕ = replicate maxThreads 0 in
+    memory (0 ∷ 0 ∷ []) zeros (arrays zeros zeros zeros zeros zeros zeros zeros) nobodies nobodies nobodies (0 ∷ 0 ∷ 0 ∷ []) (0 ∷ 0 ∷ 0 ∷ [])
+
+-- "at the start only thread 0, ready"; the second list has it too
+abbrev pub startMemory : List ℕ → ℕ → ℕ → Memory
+startMemory s p K =
+    let none : List ℕ = replicate maxThreads noThread in
+    memory (p ∷ K ∷ []) (parentsIn (tableOf s))
+    (arrays (nextIf true (tableOf s)) (set (replicate maxThreads 0) 0 ready) (replicate maxThreads 0) none none none none) nobodies nobodies nobodies (0 ∷ 0 ∷ 0 ∷ []) (0 ∷ 0 ∷ 0 ∷ [])
+
+abbrev pub begunAs : Found → Memory → Answer
+begunAs Nothing M = answer 0 (0 ∷ []) M
+begunAs (At x) M = answer (x .number) (x .place ∷ []) blankMemory
+
+-- "A refused beginning hands back the blank record"; of its answer the row has the place
+unfoldable pub lentBegin : List ℕ → ℕ → ℕ → Answer
+lentBegin s p K = begunAs (beginFound s p K) (startMemory s p K)

@@ -8,8 +8,10 @@ ghost use Rattle.table.specs.Load.{tableValues};
 ghost use Rattle.quota.specs.Quota.{valuesFor};
 ghost use Rattle.board.specs.Rows.{factsRow, quotaRow};
 
+mod begin;
 mod turn;
 
+pub use begin::wivakkol_begin_on;
 pub use turn::wivakkol_turn_on;
 
 // A table's facts n, m, S1, D and N, or the check that refuses it.
@@ -64,7 +66,7 @@ pub extern "C" fn wivakkol_quota(
 }
 
 // p in a byte. C would cut a number above 255 to its low byte, and 258 would be taken for 2: p is taken with 32 bits, and 17 stands for all that are too large.
-fn workers(p: u32) -> u8
+pub(crate) fn workers(p: u32) -> u8
     ensures { λ r. ⌜ r ≡ min p 17 ⌝ }
 {
     if p < 17 { p as u8 } else { 17 }

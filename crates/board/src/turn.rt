@@ -40,6 +40,13 @@ fn worker_at(holds: &[u8; 16], threads: &[u16; 16], quotas: &[u32; 16], k: usize
     }
 }
 
+// A truth value as a number.
+fn as_number(x: bool) -> u8
+    ensures { λ r. ⌜ r ≡ pick x 1 0 ⌝ }
+{
+    if x { 1 } else { 0 }
+}
+
 // The record of worker k is this.
 fn put_worker(
     holds: &mut [u8; 16],
@@ -53,7 +60,7 @@ fn put_worker(
     ensures { λ _. ⌜ now (threads .exit) ≡ set (now (threads .entry)) k (worker .thread) ⌝ }
     ensures { λ _. ⌜ now (quotas .exit) ≡ set (now (quotas .entry)) k (worker .quota) ⌝ }
 {
-    holds[k] = if worker.holds { 1 } else { 0 };
+    holds[k] = as_number(worker.holds);
     threads[k] = worker.thread;
     quotas[k] = worker.quota;
 }
@@ -149,8 +156,11 @@ pub extern "C" fn wivakkol_turn_on(
     if !taken.fits {
         return 32;
     }
-    put_worker(holds, threads, quotas, k, taken.worker);
-    put_moved(heads, totals, taken.moved);
-    put_reply(row, taken.reply, passed);
+    let reply = taken.reply;
+    let worker = taken.worker;
+    let moved = taken.moved;
+    put_worker(holds, threads, quotas, k, worker);
+    put_moved(heads, totals, moved);
+    put_reply(row, reply, passed);
     0
 }
