@@ -5,6 +5,7 @@ use mathlib.Core.List.{List, [], _∷_}
 use lib.Dec.{eqb}
 use native.Mathlib.Omega.{arith}
 use borrow.Author.Needs.{needs}
+use denote.Ref.{now}
 use lib.ListN.{length, replicate, set}
 use Rattle.table.specs.Format.{tableOf}
 use Rattle.schedule.specs.Machine.{nobody}
@@ -56,10 +57,10 @@ alone-linked =
       leftmost = refl;
     }
 
-is-start : {s table next : List ℕ} (p K : ℕ) → table ≡ filled 36868 s → next ≡ filled 1024 (firsts (tableOf s .first) 0 (tableOf s .threads))
+is-start : (s : List ℕ) (p K : ℕ) {table next : List ℕ} → table ≡ filled 36868 s → next ≡ filled 1024 (firsts (tableOf s .first) 0 (tableOf s .threads))
     → begun s p K table next alone ≡ startRun s p K
 unfolding startRun startState setOf
-is-start {s} p K e d =
+is-start s p K e d =
     let l = linked-laid alone (0 ∷ []) alone-linked in
     λ i. begun s p K (e i) (d i) (l i)
 
@@ -69,13 +70,13 @@ copy-requires c κs = (c .before .before .pre .0, refl)
 array-write-status : tie.Need-array-write-status
 array-write-status c = search needs
 
-cast-t15 : tie.Need-cast-t15
-cast-t15 c = omega (arith, c .before .before .before .pre .0)
+cast-t13 : tie.Need-cast-t13
+cast-t13 c = omega (arith, c .before .before .before .pre .0)
 
 returns : tie.Need-returns
 returns c =
     let a = c .before .before .before in
-    is-start (a .args .p) (a .args .quota) (c .copy .ensures) (a .pre .1)
+    is-start (now (a .args .bytes)) (a .args .p) (a .args .quota) (c .copy .ensures) (a .pre .1)
 
 pub start-spec : {M : Type 1} → statement M
-start-spec = tie.close (tie.spec copy-requires array-write-status cast-t15 returns)
+start-spec = tie.close (tie.spec copy-requires array-write-status cast-t13 returns)
