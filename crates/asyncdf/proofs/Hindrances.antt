@@ -24,7 +24,7 @@ use Rattle.lent.specs.Arrays.{Arrays}
 use Rattle.lent.specs.Packed.{packedOf}
 use Rattle.asyncdf.specs.Drives.{Moving}
 use Rattle.asyncdf.specs.Sheets.{turnsTexts, hindered}
-use Rattle.asyncdf.proofs.Calls.{steady-full, steady-room, turned-unsound, turned-none, turned-taken}
+use Rattle.lent.proofs.Answers.{steady-full, steady-room, turned-unsound, turned-none, turned-taken}
 use Rattle.asyncdf.proofs.Ordered.{texts-refused, texts-many}
 
 -- ---- none does

@@ -3,3 +3,4 @@ mod Answers
 mod Cases
 mod Begins
 mod Turns
+pub mod Refines

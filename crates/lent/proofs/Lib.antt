@@ -9,3 +9,4 @@ pub mod Linking
 pub mod Sound
 pub mod Busy
 pub mod Packed
+pub mod Answers

@@ -9,7 +9,8 @@ use Rattle.schedule.specs.Turn.{unsound}
 use Rattle.schedule.proofs.Stores.{steady-fits}
 use Rattle.schedule.proofs.Values.{turn-values}
 use Rattle.soundness.proofs.Passed.{test-fails, test-passes, test-parents, has-workers}
-use Rattle.asyncdf.proofs.Calls.{turned-answers, of-list, turned-unsound, turned-none, turned-over, root-over, root-open, turn-driven, passed-along}
+use Rattle.lent.proofs.Answers.{turned-unsound, turned-none, turned-over, root-over, root-open, passed-along}
+use Rattle.asyncdf.proofs.Calls.{turned-answers, of-list, turn-driven}
 use Rattle.asyncdf.proofs.turn.Statement.{statement}
 use Rattle.asyncdf.proofs.turn.Tie as tie
 

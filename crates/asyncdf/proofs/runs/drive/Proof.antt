@@ -17,7 +17,7 @@ use Rattle.schedule.specs.Machine.{ended}
 use Rattle.schedule.specs.Record.{bytesOf, tableIn}
 use Rattle.schedule.specs.Sound.{Steady}
 use Rattle.schedule.specs.Turn.{rootEnded}
-use Rattle.asyncdf.proofs.Calls.{root-open}
+use Rattle.lent.proofs.Answers.{root-open}
 use Rattle.table.specs.Format.{threadsOf, tableOf}
 use Rattle.table.specs.Rules.{endOf}
 use Rattle.schedule.specs.Parents.{Parents}

@@ -35,7 +35,7 @@ use Rattle.lent.specs.Counted.{taken as left-by}
 use Rattle.lent.specs.Packed.{packedOf}
 use Rattle.asyncdf.specs.Drives.{Outlined, Moving, Stands}
 use Rattle.asyncdf.specs.Sheets.{turnsTexts, widest, afterTexts, afterSize, overTexts, hindered}
-use Rattle.asyncdf.proofs.Calls.{steady-room, turned-taken}
+use Rattle.lent.proofs.Answers.{steady-room, turned-taken}
 use Rattle.asyncdf.proofs.Moving.{not-done, other, few, moves, replies, tally, keeps, over}
 use Rattle.asyncdf.proofs.Ordered.{Listed, start, ended, exhausted, refused, again}
 use Rattle.asyncdf.proofs.Hindrances.{Free, unhindered, hinders}

@@ -22,7 +22,7 @@ use Rattle.lent.specs.declared.Moved.{Moved}
 use Rattle.lent.specs.Packed.{movedOf, packedOf}
 use Rattle.asyncdf.specs.Drives.{Moving}
 use Rattle.asyncdf.specs.Sheets.{turnsTexts, widest, overTexts}
-use Rattle.asyncdf.proofs.Calls.{turned-none, root-over, root-open}
+use Rattle.lent.proofs.Answers.{turned-none, root-over, root-open}
 use Rattle.asyncdf.proofs.Moving.{arraysOf, table-room, first-moving}
 use Rattle.asyncdf.proofs.Ordered.{texts-refused, start, ended, exhausted, refused}
 use Rattle.asyncdf.proofs.turns.put_turns.Statement.{statement}
