@@ -4,3 +4,5 @@ mod Cases
 mod Begins
 mod Turns
 pub mod Refines
+pub mod LentLimit
+mod Numbered

@@ -10,3 +10,4 @@ pub mod Sound
 pub mod Busy
 pub mod Packed
 pub mod Answers
+pub mod Starts
