@@ -19,7 +19,7 @@ use Rattle.schedule.specs.Turn.{rootEnded, stepRun}
 use Rattle.schedule.specs.Runs.{ran, drive}
 use Rattle.schedule.specs.Parents.{Parents}
 use Rattle.lent.specs.declared.Moved.{Moved}
-use Rattle.lent.specs.Arrays.{Arrays, secondOf, listOf}
+use Rattle.lent.specs.Arrays.{Arrays, secondOf, listedIn}
 use Rattle.lent.specs.Packed.{packedOf}
 
 -- the worker of turn i
@@ -50,7 +50,7 @@ pub record Moving (run : Run) (s : List ℕ) (n last p K : ℕ) (parents : List 
   pub count : run .workers ≡ p
   pub quota : run .quota ≡ K
   pub outline : Outlined s n last parents
-  pub second : LinkedAs (secondOf A (m .totals)) (actives (A .status) (listOf A (m .totals)))
+  pub second : LinkedAs (secondOf A (m .totals)) (actives (A .status) (listedIn A (m .totals)))
   pub steady : Steady (packedOf run A workers m)
   pub unended : rootEnded (packedOf run A workers m) ≡ false
   pub turns-fit : m .turns < 2 ^ 64

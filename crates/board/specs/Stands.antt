@@ -12,7 +12,7 @@ use Rattle.schedule.specs.Record.{maxBytes, maxWorkers, filled}
 use Rattle.schedule.specs.Parents.{Parents}
 use Rattle.schedule.specs.Sound.{Steady}
 use Rattle.schedule.specs.Answers.{Values}
-use Rattle.lent.specs.Arrays.{secondOf, listOf}
+use Rattle.lent.specs.Arrays.{secondOf, listedIn}
 use Rattle.lent.specs.Packed.{packedOf}
 use Rattle.board.specs.Lent.{Memory, workerIn, movedIn, saidCode}
 
@@ -53,7 +53,7 @@ runIn s M = packedOf (settled s M) (M .arrays) (workersIn M) (movedIn M)
 pub record Stands (s : List ℕ) (M : Memory) : Type 0 where
   pub steady : Steady (runIn s M)
   pub parent : Parents (tableOf s) (M .parents)
-  pub second : LinkedAs (secondOf (M .arrays) (movedIn M .totals)) (actives (M .arrays .status) (listOf (M .arrays) (movedIn M .totals)))
+  pub second : LinkedAs (secondOf (M .arrays) (movedIn M .totals)) (actives (M .arrays .status) (listedIn (M .arrays) (movedIn M .totals)))
   pub holds-size : length (M .holds) ≡ maxWorkers
   pub threads-size : length (M .threads) ≡ maxWorkers
   pub quotas-size : length (M .quotas) ≡ maxWorkers

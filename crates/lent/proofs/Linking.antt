@@ -20,7 +20,7 @@ use Rattle.schedule.proofs.LinkMoves.{act-links, act-actives}
 use Rattle.schedule.proofs.Searches.{firstReady-actives}
 use Rattle.schedule.proofs.Turns.{act-facts}
 use Rattle.lent.specs.declared.Totals.{Totals}
-use Rattle.lent.specs.Arrays.{Arrays, linksOf, secondOf, listOf, actionIn}
+use Rattle.lent.specs.Arrays.{Arrays, linksOf, secondOf, listedIn, actionIn}
 use Rattle.lent.specs.Turn.{Outcome}
 use Rattle.lent.proofs.Parts.{stateOver, stateIn, Chained, Sits}
 use Rattle.lent.proofs.Local.{partOf, putBack, goes-local}
@@ -58,7 +58,7 @@ of-part unknown T t x w st l = refl
 
 module _ {s : List ℕ} {n K : ℕ} {A : Arrays} {totals : Totals} {worker : Worker} (q : Sits s n K A totals worker) where
   abbrev list : List ℕ
-  list = listOf A totals
+  list = listedIn A totals
 
   once : Once list
   once = list-once (tableOf s) (laws q) (q .p) K (stateOf (run q)) (known q)
@@ -119,7 +119,7 @@ module _ {s : List ℕ} {n K : ℕ} {A : Arrays} {totals : Totals} {worker : Wor
         (act-links (tableOf s) (laws q) (q .p) K (q .w) (worker-few q) whole (known q) (holds q h) (linksOf A totals)
         (linked-as _ _ list (q .chained .list-links) (laid-linked list))))
 
-    read-back : listOf (o .arrays) (o .totals) ≡ after .state .list
+    read-back : listedIn (o .arrays) (o .totals) ≡ after .state .list
     read-back = walk-linked (o .arrays .left) (o .arrays .right) (o .totals .leftmost) (after .state .list) linked once-after small-after
 
     second : LinkedAs (secondOf (o .arrays) (o .totals)) (actives (after .state .status) (after .state .list))

@@ -23,7 +23,7 @@ use Rattle.schedule.specs.Runs.{moved}
 use Rattle.schedule.proofs.Stores.{steady-fits}
 use Rattle.lent.specs.declared.Moved.{Moved}
 use Rattle.lent.specs.declared.Stepped.{Stepped as StepResult}
-use Rattle.lent.specs.Arrays.{Arrays, secondOf, listOf, tableFrom}
+use Rattle.lent.specs.Arrays.{Arrays, secondOf, listedIn, tableFrom}
 use Rattle.lent.specs.Turn.{Outcome, outcome, stepOn}
 use Rattle.lent.specs.Counted.{Left, unmoved, busyAfter, roomFor, counting, turnOn}
 use Rattle.lent.specs.Packed.{packedOf}
@@ -36,14 +36,14 @@ use Rattle.lent.proofs.Sound.{sound-went}
 pub record Carries (run : Run) (parents : List ℕ) (A : Arrays) (workers : List Worker) (m : Moved) : Type 0 where
   pub steady : Steady (packedOf run A workers m)
   pub parent : Parents (tableIn run) parents
-  pub second : LinkedAs (secondOf A (m .totals)) (actives (A .status) (listOf A (m .totals)))
+  pub second : LinkedAs (secondOf A (m .totals)) (actives (A .status) (listedIn A (m .totals)))
 
 -- what a turn of worker w leaves of it
 pub record Goes (run : Run) (A : Arrays) (workers : List Worker) (m : Moved) (w : ℕ) (z : Left) : Type 0 where
   pub fits : z .fits ≡ true
   pub reply : stepRun (packedOf run A workers m) w .reply ≡ z .reply
   pub record-after : moved (packedOf run A workers m) w ≡ packedOf run (z .arrays) (set workers w (z .worker)) (z .moved)
-  pub second : LinkedAs (secondOf (z .arrays) (z .moved .totals)) (actives (z .arrays .status) (listOf (z .arrays) (z .moved .totals)))
+  pub second : LinkedAs (secondOf (z .arrays) (z .moved .totals)) (actives (z .arrays .status) (listedIn (z .arrays) (z .moved .totals)))
   pub count : z .moved .turns ≡ m .turns + 1
 
 -- the test of room passes

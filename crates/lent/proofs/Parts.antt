@@ -14,7 +14,7 @@ use Rattle.schedule.specs.Actives.{actives}
 use Rattle.schedule.specs.Begin.{beginPasses}
 use Rattle.schedule.specs.Sound.{SoundState}
 use Rattle.lent.specs.declared.Totals.{Totals}
-use Rattle.lent.specs.Arrays.{Arrays, linksOf, secondOf, listOf}
+use Rattle.lent.specs.Arrays.{Arrays, linksOf, secondOf, listedIn}
 use Rattle.lent.specs.Turn.{Outcome}
 
 -- ---- as a state
@@ -35,7 +35,7 @@ stateOver A list totals worker =
 
 -- over the list that is read off the links
 abbrev pub stateIn : Arrays → Totals → Worker → State
-stateIn A totals worker = stateOver A (listOf A totals) totals worker
+stateIn A totals worker = stateOver A (listedIn A totals) totals worker
 
 -- a turn before it is counted
 unfoldable pub turnBody : Table → ℕ → ℕ → State → Stepped
@@ -45,8 +45,8 @@ turnBody T K w st = pick (workerOf st w .holds) (act T w st) (turnFree T K w st)
 
 -- both links describe their lists
 pub record Chained (A : Arrays) (totals : Totals) : Type 0 where
-  pub list-links : linksOf A totals ≡ laid (listOf A totals)
-  pub second-links : LinkedAs (secondOf A totals) (actives (A .status) (listOf A totals))
+  pub list-links : linksOf A totals ≡ laid (listedIn A totals)
+  pub second-links : LinkedAs (secondOf A totals) (actives (A .status) (listedIn A totals))
 
 -- what a turn leaves, before it is counted
 pub record Went (T : Table) (K : ℕ) (A : Arrays) (totals : Totals) (worker : Worker) (o : Outcome) : Type 0 where
@@ -66,7 +66,7 @@ pub record Sits (s : List ℕ) (n K : ℕ) (A : Arrays) (totals : Totals) (worke
   pub same-next : state .next ≡ A .next
   pub same-status : state .status ≡ A .status
   pub same-amounts : state .amounts ≡ A .amounts
-  pub same-list : state .list ≡ listOf A totals
+  pub same-list : state .list ≡ listedIn A totals
   pub same-held : state .held ≡ totals .held
   pub same-highest : state .highest ≡ totals .highest
   pub own : workerOf state w ≡ worker

@@ -20,7 +20,7 @@ use Rattle.schedule.proofs.Turns.{leftmost-ready}
 use Rattle.schedule.proofs.Searches.{ready-there, found-below}
 use Rattle.lent.specs.declared.Totals.{Totals}
 use Rattle.lent.specs.declared.Stepped.{Stepped as StepResult}
-use Rattle.lent.specs.Arrays.{Arrays, secondOf, listOf, actionIn, amountIn, withStatuses, tableFrom}
+use Rattle.lent.specs.Arrays.{Arrays, secondOf, listedIn, actionIn, amountIn, withStatuses, tableFrom}
 use Rattle.lent.specs.Turn.{Outcome, outcome, unfit, nextFits, amountFits, waitsIn, actOn, actIn, Seat, seat, seatOf, seatIn, stepFrom, stepOn}
 use Rattle.lent.proofs.Parts.{stateIn, turnBody, Went, Sits}
 use Rattle.lent.proofs.Reading.{own-table}
@@ -141,7 +141,7 @@ record Ready (s : List ℕ) (n K : ℕ) (A : Arrays) (totals : Totals) (worker :
 
 module _ {s : List ℕ} {n K : ℕ} {A : Arrays} {totals : Totals} {worker : Worker} (q : Sits s n K A totals worker) where
   abbrev list : List ℕ
-  list = listOf A totals
+  list = listedIn A totals
 
   abbrev i : ℕ
   i = leftmost (A .status) list

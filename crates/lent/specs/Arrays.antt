@@ -3,8 +3,7 @@ use Prim.Native.Nat.{ℕ, suc, max}
 use mathlib.Core.List.{List}
 use lib.ListN.{getD, set}
 use Rattle.table.specs.Format.{Table, actionsOf, firstOf, countOf, bodiesFrom, codeAt, argumentAt}
-use Rattle.schedule.specs.Links.{Links, walk}
-use Rattle.schedule.specs.Record.{maxThreads}
+use Rattle.schedule.specs.Links.{Links, listOf}
 use Rattle.lent.specs.declared.Totals.{Totals}
 
 -- of each thread its next action, its status, its amount, its neighbours in the list (left, right) and those in the second list (under, over)
@@ -31,9 +30,9 @@ linksOf A totals = links (A .left) (A .right) (totals .leftmost)
 abbrev pub secondOf : Arrays → Totals → Links
 secondOf A totals = links (A .under) (A .over) (totals .first)
 
--- "Reading from the left gives the .. list" (N10)
-abbrev pub listOf : Arrays → Totals → List ℕ
-listOf A totals = walk maxThreads (A .right) (totals .leftmost)
+-- the list that stands in them
+abbrev pub listedIn : Arrays → Totals → List ℕ
+listedIn A totals = listOf (linksOf A totals)
 
 -- the action at which thread t is, and the amount that it holds
 abbrev pub actionIn : Arrays → ℕ → ℕ

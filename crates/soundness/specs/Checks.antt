@@ -14,7 +14,7 @@ use Rattle.table.specs.Level.{forkBelow}
 use Rattle.schedule.specs.declared.Worker.{Worker}
 use Rattle.schedule.specs.declared.Run.{Run}
 use Rattle.schedule.specs.Machine.{held, ended}
-use Rattle.schedule.specs.Links.{Links, walk, laid}
+use Rattle.schedule.specs.Links.{Links, listOf, laid}
 use Rattle.schedule.specs.Record.{maxThreads, maxWorkers, maxBytes, filled, bytesOf}
 use Rattle.schedule.specs.Sound.{allBelow, doneIn, nextInBody, inOrder, statusFollows, waitsAtJoin, unused, oneHolder, workerRight, numberOf, listed, sameLinks, sameList}
 
@@ -93,7 +93,7 @@ holdersWanted status = pick (eqb status held) 1 0
 -- the clauses on the list that is read off links, and that they describe it (N10)
 abbrev pub linksSound : Table → List ℕ → List ℕ → Links → Bool
 linksSound T next status k =
-    listed T next status (walk maxThreads (k .right) (k .head)) && sameLinks k (laid (walk maxThreads (k .right) (k .head)))
+    listed T next status (listOf k) && sameLinks k (laid (listOf k))
 
 -- the clauses of a sound record on its table's length, the bytes past it and its turns
 abbrev pub restSound : Run → Bool
