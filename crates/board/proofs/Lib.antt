@@ -6,3 +6,4 @@ mod Turns
 pub mod Refines
 pub mod LentLimit
 mod Numbered
+pub mod LentPromised

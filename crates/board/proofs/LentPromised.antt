@@ -1,0 +1,157 @@
+-- The limits for the calls from C. A history is a beginning and turns, each on the memory that the last one left, of which nothing is known but what the two functions' own `ensures` say,
+-- as the check reads them (`Learnt`), of what was lent and of what stood there at the end. `lent-history-is`: the memory and the row of turns are those of the definitions.
+-- `lent-history-exists`: every list of turns has one. `lent-code-limit` and `lent-code-threads`: so both limits hold of them.
+use mathlib.Core.Path.{_≡_, refl, sym, ap, ap₂, subst, _∙_}
+use Prim.Native.Nat.{ℕ, _≤_}
+use mathlib.Core.List.{List, [], _∷_, _++_}
+use contract.Lifetimes.{Lfts}
+use denote.Ref.{RefT, now}
+use denote.Triple.Clauses.{AtExit}
+use borrow.Fn.Kinds.{endedOf}
+use mathlib.Core.Bool.{Bool, true, false}
+use lib.Dec.{eqb}
+use lib.ListN.{getD}
+use Rattle.table.specs.Sum.{pick}
+use Rattle.table.specs.Format.{tableOf}
+use Rattle.schedule.proofs.Limit.{MemoryLimit}
+use Rattle.schedule.proofs.ThreadLimit.{ThreadLimit}
+use Rattle.lent.specs.Arrays.{arrays}
+use Rattle.lent.specs.Counted.{Left, turnOn, passedAlong}
+use Rattle.schedule.specs.Links.{seek}
+use Rattle.board.specs.Lent.{Memory, memory, workerIn, movedIn, memoryAfter, turnRow, noRow, Answer, answer, lentBegin, hindrance, turnLeft, lentTurn}
+use Rattle.board.specs.Stands.{runIn}
+use Rattle.board.specs.LentCalls.{lentAfter, lentRow}
+use Rattle.board.proofs.LentLimit.{lent-limit, lent-threads}
+use Rattle.board.proofs.begin.wivakkol_begin_on.Kinds as begin-kinds
+use Rattle.board.proofs.begin.wivakkol_begin_on.Reads as begin-promise
+use Rattle.board.proofs.turn.wivakkol_turn_on.Kinds as turn-kinds
+use Rattle.board.proofs.turn.wivakkol_turn_on.Reads as turn-promise
+
+-- ---- what the promises say
+
+-- references to all that is lent
+pub record Refs : Type 0 where
+  pub table : RefT (List ℕ)
+  pub settings : RefT (List ℕ)
+  pub parents : RefT (List ℕ)
+  pub next : RefT (List ℕ)
+  pub status : RefT (List ℕ)
+  pub amounts : RefT (List ℕ)
+  pub left : RefT (List ℕ)
+  pub right : RefT (List ℕ)
+  pub under : RefT (List ℕ)
+  pub over : RefT (List ℕ)
+  pub holds : RefT (List ℕ)
+  pub threads : RefT (List ℕ)
+  pub quotas : RefT (List ℕ)
+  pub heads : RefT (List ℕ)
+  pub totals : RefT (List ℕ)
+  pub row : RefT (List ℕ)
+
+-- `wivakkol_turn_on`, lent a table s and a run M, answered a
+pub record TurnSays (s : List ℕ) (w : ℕ) (M : Memory) (a : Answer) : Type 0 where
+  pub lifetimes : Lfts 16
+  pub refs : Refs
+  pub exit : AtExit (endedOf 16 turn-kinds.ps turn-kinds.r) lifetimes
+  pub lent-table : now (refs .table) ≡ s
+  pub lent-run : memory (now (refs .settings)) (now (refs .parents)) (arrays (now (refs .next)) (now (refs .status)) (now (refs .amounts)) (now (refs .left)) (now (refs .right)) (now (refs .under)) (now (refs .over))) (now (refs .holds)) (now (refs .threads)) (now (refs .quotas)) (now (refs .heads)) (now (refs .totals)) ≡ M
+  pub left : answer (a .number) (now (exit .1 .1 .1 .1 .1 .1 .1 .1 .1 .1 .1 .1 .1 .1 .1 .1 .0)) (memory (now (refs .settings)) (now (refs .parents)) (arrays (now (exit .1 .1 .1 .1 .0)) (now (exit .1 .1 .1 .1 .1 .0)) (now (exit .1 .1 .1 .1 .1 .1 .0)) (now (exit .1 .1 .1 .1 .1 .1 .1 .0)) (now (exit .1 .1 .1 .1 .1 .1 .1 .1 .0)) (now (exit .1 .1 .1 .1 .1 .1 .1 .1 .1 .0)) (now (exit .1 .1 .1 .1 .1 .1 .1 .1 .1 .1 .0))) (now (exit .1 .1 .1 .1 .1 .1 .1 .1 .1 .1 .1 .0)) (now (exit .1 .1 .1 .1 .1 .1 .1 .1 .1 .1 .1 .1 .0)) (now (exit .1 .1 .1 .1 .1 .1 .1 .1 .1 .1 .1 .1 .1 .0)) (now (exit .1 .1 .1 .1 .1 .1 .1 .1 .1 .1 .1 .1 .1 .1 .0)) (now (exit .1 .1 .1 .1 .1 .1 .1 .1 .1 .1 .1 .1 .1 .1 .1 .0))) ≡ a
+  pub promised : turn-promise.Learnt lifetimes (refs .table, (w, (refs .settings, (refs .parents, (refs .next, (refs .status, (refs .amounts, (refs .left, (refs .right, (refs .under, (refs .over, (refs .holds, (refs .threads, (refs .quotas, (refs .heads, (refs .totals, (refs .row, tt))))))))))))))))) (a .number) exit
+
+-- `wivakkol_begin_on`, lent a table s, answered a
+pub record BeginSays (s : List ℕ) (p K : ℕ) (a : Answer) : Type 0 where
+  pub lifetimes : Lfts 16
+  pub refs : Refs
+  pub exit : AtExit (endedOf 16 begin-kinds.ps begin-kinds.r) lifetimes
+  pub lent-table : now (refs .table) ≡ s
+  pub left : answer (a .number) (now (exit .1 .1 .1 .1 .1 .1 .1 .1 .1 .1 .1 .1 .1 .1 .1 .1 .1 .0)) (memory (now (exit .1 .1 .1 .0)) (now (exit .1 .1 .1 .1 .0)) (arrays (now (exit .1 .1 .1 .1 .1 .0)) (now (exit .1 .1 .1 .1 .1 .1 .0)) (now (exit .1 .1 .1 .1 .1 .1 .1 .0)) (now (exit .1 .1 .1 .1 .1 .1 .1 .1 .0)) (now (exit .1 .1 .1 .1 .1 .1 .1 .1 .1 .0)) (now (exit .1 .1 .1 .1 .1 .1 .1 .1 .1 .1 .0)) (now (exit .1 .1 .1 .1 .1 .1 .1 .1 .1 .1 .1 .0))) (now (exit .1 .1 .1 .1 .1 .1 .1 .1 .1 .1 .1 .1 .0)) (now (exit .1 .1 .1 .1 .1 .1 .1 .1 .1 .1 .1 .1 .1 .0)) (now (exit .1 .1 .1 .1 .1 .1 .1 .1 .1 .1 .1 .1 .1 .1 .0)) (now (exit .1 .1 .1 .1 .1 .1 .1 .1 .1 .1 .1 .1 .1 .1 .1 .0)) (now (exit .1 .1 .1 .1 .1 .1 .1 .1 .1 .1 .1 .1 .1 .1 .1 .1 .0))) ≡ a
+  pub promised : begin-promise.Learnt lifetimes (refs .table, (p, (K, (refs .settings, (refs .parents, (refs .next, (refs .status, (refs .amounts, (refs .left, (refs .right, (refs .under, (refs .over, (refs .holds, (refs .threads, (refs .quotas, (refs .heads, (refs .totals, (refs .row, tt)))))))))))))))))) (a .number) exit
+
+turn-is : {s : List ℕ} {w : ℕ} {M : Memory} {a : Answer} → TurnSays s w M a → a ≡ lentTurn s w M
+turn-is {s} {w} {M} h = sym (h .left) ∙ h .promised ∙ ap₂ (λ (t : List ℕ) (x : Memory). lentTurn t w x) (h .lent-table) (h .lent-run)
+
+begin-is : {s : List ℕ} {p K : ℕ} {a : Answer} → BeginSays s p K a → a ≡ lentBegin s p K
+begin-is {s} {p} {K} h = sym (h .left) ∙ h .promised ∙ ap (λ (t : List ℕ). lentBegin t p K) (h .lent-table)
+
+-- ---- a history
+
+-- turns one after the other: the workers, those whose turns were taken, and the memory that they leave
+pub data LentHistory (s : List ℕ) : Memory → List ℕ → List ℕ → Memory → Type 0 where
+  none : {M : Memory} → LentHistory s M [] [] M
+  next : {M M' : Memory} {w : ℕ} {a : Answer} {l row : List ℕ} → TurnSays s w M a → LentHistory s (a .memory) l row M'
+      → LentHistory s M (w ∷ l) (pick (eqb (a .number) 0) (w ∷ []) [] ++ row) M'
+
+pub lent-history-is : {s : List ℕ} {M M' : Memory} {l row : List ℕ} → LentHistory s M l row M' → (M' ≡ lentAfter s l M) × (row ≡ lentRow s l M)
+unfolding lentAfter lentRow
+lent-history-is none = (refl, refl)
+lent-history-is {s} (next {M} {M'} {w} {a} {l} {row} h t) =
+    let e = turn-is h in
+    let d = lent-history-is t in
+    (
+      d .0 ∙ ap (λ (x : Answer). lentAfter s l (x .memory)) e,
+      ap₂ _++_ (ap (λ (x : Answer). pick (eqb (x .number) 0) (w ∷ []) []) e) (d .1 ∙ ap (λ (x : Answer). lentRow s l (x .memory)) e),
+    )
+
+-- ---- a history exists
+
+-- a reference at some place to a value
+abbrev lentOf : List ℕ → RefT (List ℕ)
+lentOf l = record { ptr = (0, 0); name = 0; now = l }
+
+abbrev refsOf : List ℕ → Memory → Refs
+refsOf s M = record { table = lentOf s; settings = lentOf (M .settings); parents = lentOf (M .parents); next = lentOf (M .arrays .next); status = lentOf (M .arrays .status); amounts = lentOf (M .arrays .amounts); left = lentOf (M .arrays .left); right = lentOf (M .arrays .right); under = lentOf (M .arrays .under); over = lentOf (M .arrays .over); holds = lentOf (M .holds); threads = lentOf (M .threads); quotas = lentOf (M .quotas); heads = lentOf (M .heads); totals = lentOf (M .totals); row = lentOf [] }
+
+-- what the definitions answer keeps the promises
+begin-says : (s : List ℕ) (p K : ℕ) → BeginSays s p K (lentBegin s p K)
+begin-says s p K =
+    let a : Answer = lentBegin s p K in
+    record { lifetimes = ([], ([], ([], ([], ([], ([], ([], ([], ([], ([], ([], ([], ([], ([], ([], ([], tt)))))))))))))))); refs = refsOf s (a .memory); exit = (lentOf s, (p, (K, (lentOf (a .memory .settings), (lentOf (a .memory .parents), (lentOf (a .memory .arrays .next), (lentOf (a .memory .arrays .status), (lentOf (a .memory .arrays .amounts), (lentOf (a .memory .arrays .left), (lentOf (a .memory .arrays .right), (lentOf (a .memory .arrays .under), (lentOf (a .memory .arrays .over), (lentOf (a .memory .holds), (lentOf (a .memory .threads), (lentOf (a .memory .quotas), (lentOf (a .memory .heads), (lentOf (a .memory .totals), (lentOf (a .row), tt)))))))))))))))))); lent-table = refl; left = refl; promised = refl }
+
+-- a turn leaves p, K and the parents as they are
+turn-keeps : (s : List ℕ) (w : ℕ) (M : Memory) → (M .settings ≡ lentTurn s w M .memory .settings) × (M .parents ≡ lentTurn s w M .memory .parents)
+unfolding lentTurn turnLeft
+turn-keeps s w M =
+    let number : ℕ = hindrance (movedIn M .turns) (getD (M .settings) 0 0) w (getD (M .arrays .status) 0 0) in
+    let passed : ℕ = passedAlong (workerIn M w .holds) (seek 1024 (M .arrays .status) (M .arrays .right) (movedIn M .totals .leftmost)) in
+    let z : Left = turnOn (tableOf s) (getD (M .settings) 1 0) (M .parents) w (M .arrays) (movedIn M) (workerIn M w) in
+    go (eqb number 0) (z .fits) number (turnRow (z .reply) passed) z noRow
+  where
+    go : (b c : Bool) (n : ℕ) (row : List ℕ) (z : Left) (zeros : List ℕ) → let a : Answer = pick b (pick c (answer 0 row (memoryAfter M w z)) (answer 32 zeros M)) (answer n zeros M) in
+        (M .settings ≡ a .memory .settings) × (M .parents ≡ a .memory .parents)
+    go true true n row z zeros = (refl, refl)
+    go true false n row z zeros = (refl, refl)
+    go false c n row z zeros = (refl, refl)
+
+turn-says : (s : List ℕ) (w : ℕ) (M : Memory) → TurnSays s w M (lentTurn s w M)
+turn-says s w M =
+    let a : Answer = lentTurn s w M in
+    let k = turn-keeps s w M in
+    let same : answer (a .number) (a .row) (memory (M .settings) (M .parents) (a .memory .arrays) (a .memory .holds) (a .memory .threads) (a .memory .quotas) (a .memory .heads) (a .memory .totals)) ≡ a =
+    λ i. answer (a .number) (a .row) (memory (k .0 i) (k .1 i) (a .memory .arrays) (a .memory .holds) (a .memory .threads) (a .memory .quotas) (a .memory .heads) (a .memory .totals)) in
+    record { lifetimes = ([], ([], ([], ([], ([], ([], ([], ([], ([], ([], ([], ([], ([], ([], ([], ([], tt)))))))))))))))); refs = refsOf s M; exit = (lentOf s, (w, (lentOf (a .memory .settings), (lentOf (a .memory .parents), (lentOf (a .memory .arrays .next), (lentOf (a .memory .arrays .status), (lentOf (a .memory .arrays .amounts), (lentOf (a .memory .arrays .left), (lentOf (a .memory .arrays .right), (lentOf (a .memory .arrays .under), (lentOf (a .memory .arrays .over), (lentOf (a .memory .holds), (lentOf (a .memory .threads), (lentOf (a .memory .quotas), (lentOf (a .memory .heads), (lentOf (a .memory .totals), (lentOf (a .row), tt))))))))))))))))); lent-table = refl; lent-run = refl; left = same; promised = same }
+
+pub lent-history-exists : (s : List ℕ) (M : Memory) (l : List ℕ) → LentHistory s M l (lentRow s l M) (lentAfter s l M)
+unfolding lentAfter lentRow
+lent-history-exists s M [] = none
+lent-history-exists s M (w ∷ l) = next (turn-says s w M) (lent-history-exists s (lentTurn s w M .memory) l)
+
+-- ---- the limits
+
+module _ {s : List ℕ} {p K : ℕ} {a : Answer} (h : BeginSays s p K a) (e : a .number ≡ 0) {l row : List ℕ} {M : Memory} (t : LentHistory s (a .memory) l row M) where
+  holds : (P : Memory → List ℕ → Type 0) → P (lentAfter s l (lentBegin s p K .memory)) (lentRow s l (lentBegin s p K .memory)) → P M row
+  holds P g =
+      let b = begin-is h in
+      let d = lent-history-is t in
+      subst (λ (x : Memory). P x row) (sym (d .0 ∙ ap (λ (x : Answer). lentAfter s l (x .memory)) b))
+      (subst (λ (x : List ℕ). P (lentAfter s l (lentBegin s p K .memory)) x) (sym (d .1 ∙ ap (λ (x : Answer). lentRow s l (x .memory)) b)) g)
+
+  begun : lentBegin s p K .number ≡ 0
+  begun = ap (λ (x : Answer). x .number) (sym (begin-is h)) ∙ e
+
+  -- Demand 3: `wivakkol_begin_on` answered 0, and the turns of any history followed. Of the record that stands in the memory left and of the row of turns taken the memory limit holds.
+  pub lent-code-limit : (most : ℕ) → 1 ≤ most → MemoryLimit (tableOf s) p K most (runIn s M) row
+  lent-code-limit most g = holds (λ (x : Memory) (y : List ℕ). MemoryLimit (tableOf s) p K most (runIn s x) y) (lent-limit s p K begun l most g)
+
+  -- N2's limit too
+  pub lent-code-threads : (most : ℕ) → 1 ≤ most → ThreadLimit (tableOf s) p K most (runIn s M) row
+  lent-code-threads most g = holds (λ (x : Memory) (y : List ℕ). ThreadLimit (tableOf s) p K most (runIn s x) y) (lent-threads s p K begun l most g)
