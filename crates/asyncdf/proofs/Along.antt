@@ -3,8 +3,7 @@ use mathlib.Core.Path.{_≡_, refl, sym, ap, _∙_}
 use Prim.Native.Nat.{ℕ, suc, _+_, _-_, _^_, _≤_, _<_}
 use mathlib.Core.List.{List}
 use native.Mathlib.Omega.{arith}
-use lib.ListN.{length, getD, set}
-use Rattle.table.specs.Format.{tableOf}
+use lib.ListN.{getD, set}
 use Rattle.table.specs.Pass.{refusal}
 use Rattle.schedule.specs.declared.Worker.{Worker}
 use Rattle.schedule.specs.declared.Run.{Run}
@@ -13,13 +12,13 @@ use Rattle.schedule.specs.declared.Reply.the-variants.{Done}
 use Rattle.schedule.specs.declared.Report.the-variants.{Finished, Spent, Refused}
 use Rattle.schedule.specs.Machine.{nobody}
 use Rattle.schedule.specs.Turn.{stepRun}
-use Rattle.schedule.specs.Runs.{ran, moved, drive}
+use Rattle.schedule.specs.Runs.{moved, drive}
 use Rattle.lent.specs.declared.Moved.{Moved}
 use Rattle.lent.specs.declared.Taken.{Taken}
 use Rattle.lent.specs.Arrays.{Arrays, tableFrom}
 use Rattle.lent.specs.Counted.{taken, turnOn}
 use Rattle.lent.specs.Packed.{packedOf}
-use Rattle.asyncdf.specs.Drives.{Open, Moving, Driven}
+use Rattle.asyncdf.specs.Drives.{Moving, Driven}
 use Rattle.asyncdf.proofs.Driving.{drive-over, drive-spent, drive-full, drive-none, drive-next}
 use Rattle.asyncdf.proofs.Moving.{moves, replies, keeps}
 use Rattle.asyncdf.proofs.Moving.{over as over-after}

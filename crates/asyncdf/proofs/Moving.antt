@@ -25,13 +25,13 @@ use Rattle.schedule.proofs.Reply.{the-type}
 use Rattle.schedule.proofs.Links.{laid-linked}
 use Rattle.schedule.proofs.ActiveMoves.{list-once, list-small}
 use Rattle.schedule.proofs.Fills.{fill-linked}
-use Rattle.schedule.proofs.Stores.{steady-lawful, steady-fits, steady-facts, moved-steady}
+use Rattle.schedule.proofs.Stores.{steady-lawful, steady-facts, moved-steady}
 use Rattle.schedule.specs.Parents.{Parents}
 use Rattle.lent.specs.declared.Moved.{Moved}
 use Rattle.lent.specs.declared.Taken.{Taken}
 use Rattle.lent.specs.Arrays.{Arrays, arrays, links, tableFrom}
 use Rattle.lent.specs.Packed.{movedOf, packedOf}
-use Rattle.asyncdf.specs.Drives.{Outlined, Moving}
+use Rattle.asyncdf.specs.Drives.{Moving}
 use Rattle.lent.specs.Counted.{taken, turnOn}
 use Rattle.lent.proofs.Linking.{linked-as}
 use Rattle.lent.proofs.Packed.{Carries, Goes, turn-goes}

@@ -1,11 +1,11 @@
 -- The workers of a run, in the order of a list or in rounds; what a loop of turns reads off its table and keeps.
 use mathlib.Core.Path.{_≡_}
-use Prim.Native.Nat.{ℕ, _+_, _-_, _%_, _^_, _≤_, _<_}
+use Prim.Native.Nat.{ℕ, _-_, _%_, _^_, _<_}
 use mathlib.Core.List.{List}
 use mathlib.Core.Bool.{Bool, true, false}
 use lib.ListN.{length, getD}
 use Rattle.table.specs.Sum.{pick}
-use Rattle.table.specs.Format.{Table, tableOf}
+use Rattle.table.specs.Format.{tableOf}
 use Rattle.table.specs.Rules.{endOf}
 use Rattle.schedule.specs.declared.Worker.{Worker}
 use Rattle.schedule.specs.declared.Run.{Run}

@@ -1,5 +1,5 @@
 -- What a beginning in lent memory leaves: more workers than there may be are refused as 17 are; and the memory of each case.
-use mathlib.Core.Path.{_≡_, refl, sym, ap, _∙_}
+use mathlib.Core.Path.{_≡_, sym, ap, _∙_}
 use Prim.Native.Nat.{ℕ, min, _≤_, _<_}
 use native.Mathlib.Decide.{decLt}
 use native.Mathlib.Nat.{min-eq-left, min-eq-right}
@@ -62,7 +62,7 @@ module _ (s : List ℕ) (p K : ℕ) {w : ℕ} (h : w ≡ min p 17) {f : Found} {
       let n' : next ≡ replicate 1024 0 = n ∙ rw e in
       let q' : parents ≡ replicate 1024 0 = q ∙ rw e in
       (λ i. answer (x .number) (x .place ∷ []) (memory (0 ∷ 0 ∷ []) (q' i) (arrays (n' i) (replicate 1024 0) (replicate 1024 0) (l .0 .0 i) (l .0 .1 i) (l .1 .0 i) (l .1 .1 i))
-          (z .0 .0 i) (z .0 .1 i) (z .0 .2 i) (z .1 .0 i) (z .1 .1 i)))
+      (z .0 .0 i) (z .0 .1 i) (z .0 .2 i) (z .1 .0 i) (z .1 .1 i)))
       ∙ rw g
 
   pub starts : {left right under over : List ℕ} → f ≡ Nothing → Linked noThread left right under over
@@ -74,5 +74,5 @@ module _ (s : List ℕ) (p K : ℕ) {w : ℕ} (h : w ≡ min p 17) {f : Found} {
       let n' = n ∙ ap (λ (y : Found). nextIf (isNothing y) (tableOf s)) e in
       let q' = q ∙ ap (λ (y : Found). parentsIf (isNothing y) (tableOf s)) e in
       (λ i. answer 0 (0 ∷ []) (memory (p ∷ K ∷ []) (q' i) (arrays (n' i) (set (replicate 1024 0) 0 ready) (replicate 1024 0) (l .0 .0 i) (l .0 .1 i) (l .1 .0 i) (l .1 .1 i))
-          (z .0 .0 i) (z .0 .1 i) (z .0 .2 i) (z .1 .0 i) (z .1 .1 i)))
+      (z .0 .0 i) (z .0 .1 i) (z .0 .2 i) (z .1 .0 i) (z .1 .1 i)))
       ∙ rw g

@@ -1,13 +1,12 @@
 -- A beginning in lent memory stands, every list of turns on it is that list on the record, and so the memory limit and the limit on the threads in the list hold of it.
 use mathlib.Core.Path.{_≡_, refl, sym, ap, ap₂, subst, _∙_}
-use Prim.Native.Nat.{ℕ, suc, _≤_, _<_}
+use Prim.Native.Nat.{ℕ, _≤_}
 use native.Mathlib.Omega.{arith}
 use mathlib.Core.List.{List, [], _∷_, _++_, List·Memᴰ, List·Memᴰ·cases-cons, List·Memᴰ·not-nil}
-use mathlib.Core.Bool.{true}
 use mathlib.Core.Logic.{⊎-elim}
 use borrow.Author.Tests.{ne-eqb}
 use lib.Dec.{eqb}
-use lib.ListN.{length, getD, replicate, set}
+use lib.ListN.{replicate, set}
 use Rattle.table.specs.Sum.{pick}
 use Rattle.table.specs.Format.{tableOf}
 use Rattle.table.proofs.Tests.{no-way}
@@ -15,18 +14,14 @@ use Rattle.table.specs.Pass.{tryAt}
 use Rattle.table.specs.declared.Found.{Found}
 use Rattle.table.specs.declared.Found.the-variants.{Nothing, At}
 use Rattle.schedule.specs.declared.Run.{Run}
-use Rattle.schedule.specs.declared.Turning.{Turning}
-use Rattle.schedule.specs.declared.Turning.the-variants.{Taken, Refused}
 use Rattle.schedule.specs.declared.Beginning.the-variants.{Begun as started}
 use Rattle.schedule.specs.Links.{noThread, walk, LinkedAs}
 use Rattle.schedule.specs.Actives.{actives}
-use Rattle.schedule.specs.Parents.{Parents}
 use Rattle.schedule.specs.Sound.{Steady}
 use Rattle.schedule.specs.Begin.{begin, startRun}
 use Rattle.schedule.specs.Machine.{Stepped}
 use Rattle.schedule.specs.Turn.{turnChecks, stepRun, passedIn, turnedAs, turned}
 use Rattle.schedule.specs.Calls.{afterCall, afterCalls, rowOf, rowOfCalls, turnRow}
-use Rattle.schedule.specs.Answers.{turningValues}
 use Rattle.schedule.specs.Values.{turnValues}
 use Rattle.schedule.proofs.Lists.{Below}
 use Rattle.schedule.proofs.Once.{Once}
@@ -34,10 +29,8 @@ use Rattle.schedule.proofs.Links.{walk-linked}
 use Rattle.schedule.proofs.Histories.{calls-traced}
 use Rattle.schedule.proofs.Limit.{MemoryLimit, memory-limit}
 use Rattle.schedule.proofs.ThreadLimit.{ThreadLimit, thread-limit}
-use Rattle.schedule.proofs.Values.{turn-values}
-use Rattle.soundness.specs.Tested.{parentsIn, nextIf, beginFound}
+use Rattle.soundness.specs.Tested.{beginFound}
 use Rattle.soundness.proofs.Noting.{parents-right}
-use Rattle.lent.proofs.Linking.{linked-as}
 use Rattle.lent.proofs.Starts.{alone, alone-linked, is-start}
 use Rattle.table.specs.Load.{foundNumber}
 use Rattle.board.specs.Lent.{Memory, startMemory, begunAs, lentBegin, lentTurn}

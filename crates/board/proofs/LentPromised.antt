@@ -86,8 +86,7 @@ unfolding lentAfter lentRow
 lent-history-is none = (refl, refl)
 lent-history-is {s} (next {M} {M'} {w} {a} {l} {row} h t) =
     let e = turn-is h in
-    let d = lent-history-is t in
-    (
+    let d = lent-history-is t in (
       d .0 ∙ ap (λ (x : Answer). lentAfter s l (x .memory)) e,
       ap₂ _++_ (ap (λ (x : Answer). pick (eqb (x .number) 0) (w ∷ []) []) e) (d .1 ∙ ap (λ (x : Answer). lentRow s l (x .memory)) e),
     )

@@ -1,9 +1,9 @@
 -- On memory in which a record stands, a turn is document 01's: number, row and record are those of the record's turn, and the record after it stands in the memory left.
 use mathlib.Core.Path.{_≡_, refl, sym, ap, subst, _∙_}
-use Prim.Native.Nat.{ℕ, zero, suc, _+_, _-_, _^_, _≤_, _<_}
+use Prim.Native.Nat.{ℕ, zero, suc, _+_, _-_, _^_, _<_}
 use native.Mathlib.Omega.{arith}
 use native.Mathlib.Decide.{ℕ-discrete}
-use mathlib.Core.List.{List, [], _∷_}
+use mathlib.Core.List.{List}
 use mathlib.Core.Bool.{Bool, true, false, not}
 use borrow.Author.Tests.{ltb-true, ltb-false, eqb-true, eqb-false, ne-eqb}
 use lib.Dec.{ltb, eqb}
@@ -11,7 +11,6 @@ use lib.ListN.{length, getD, set, length-set}
 use lib.Seq.{getD-set-same, getD-set-other, ext-getD}
 use Rattle.table.specs.Sum.{pick}
 use Rattle.table.specs.Format.{tableOf}
-use Rattle.table.specs.Pass.{refusal}
 use Rattle.schedule.specs.declared.Worker.{Worker}
 use Rattle.schedule.specs.declared.Run.{Run}
 use Rattle.schedule.specs.declared.Reply.{Reply}
@@ -19,18 +18,16 @@ use Rattle.schedule.specs.declared.Reply.the-variants.{Idle, Done, Quota, Wait}
 use Rattle.schedule.specs.declared.Turned.{Turned}
 use Rattle.schedule.specs.declared.Turning.the-variants.{Taken}
 use Rattle.schedule.specs.Machine.{ended, nobody}
-use Rattle.schedule.specs.Links.{LinkedAs, seek}
+use Rattle.schedule.specs.Links.{seek}
 use Rattle.schedule.specs.Record.{maxBytes, bytesOf, tableIn}
-use Rattle.schedule.specs.Parents.{Parents}
 use Rattle.schedule.specs.Sound.{Steady}
-use Rattle.schedule.specs.Turn.{rootEnded, stepRun, passedIn, turned}
+use Rattle.schedule.specs.Turn.{rootEnded, turned}
 use Rattle.schedule.specs.Runs.{moved}
 use Rattle.schedule.specs.Answers.{turningValues}
 use Rattle.schedule.specs.Values.{turnValues}
 use Rattle.schedule.proofs.Lists.{filled-front}
 use Rattle.schedule.proofs.Stores.{steady-fits, moved-steady}
 use Rattle.schedule.proofs.Values.{turn-values}
-use Rattle.lent.specs.Arrays.{tableFrom}
 use Rattle.lent.specs.Counted.{Left, turnOn, passedAlong}
 use Rattle.lent.specs.Packed.{packedOf}
 use Rattle.lent.proofs.Reading.{own-table}

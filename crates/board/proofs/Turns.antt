@@ -15,7 +15,7 @@ use Rattle.schedule.specs.Links.{seek}
 use Rattle.lent.specs.declared.Moved.{Moved}
 use Rattle.lent.specs.Arrays.{Arrays, tableFrom}
 use Rattle.lent.specs.Counted.{Left, counting, unmoved, roomFor, turnOn, passedAlong}
-use Rattle.lent.specs.Turn.{Outcome, stepOn}
+use Rattle.lent.specs.Turn.{stepOn}
 use Rattle.lent.proofs.Reading.{own-table}
 use Rattle.board.specs.Lent.{Memory, memory, workerIn, movedIn, headsOf, totalsOf, turnRow, noRow, answer, hindrance, turnLeft, lentTurn}
 

@@ -6,9 +6,7 @@ use soundness::accept;
 use table::Found;
 ghost use mathlib.Core.Path.{_≡_};
 ghost use mathlib.Core.List.{[], _∷_};
-ghost use lib.ListN.{replicate, set};
-ghost use Rattle.schedule.specs.Machine.{ready};
-ghost use Rattle.schedule.specs.Links.{noThread};
+ghost use lib.ListN.{replicate};
 ghost use Rattle.lent.specs.Arrays.{arrays};
 ghost use Rattle.board.specs.Lent.{memory, answer, lentBegin};
 

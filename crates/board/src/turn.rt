@@ -150,8 +150,20 @@ pub extern "C" fn wivakkol_turn_on(
     let passed = passed_over(worker, &*status, &*right, moved.totals.leftmost);
     let n = read::threads(table);
     let taken = take_turn(
-        table, n, settings[1], parents, next, status, amounts, left, right, under, over, moved,
-        worker, k,
+        table,
+        n,
+        settings[1],
+        parents,
+        next,
+        status,
+        amounts,
+        left,
+        right,
+        under,
+        over,
+        moved,
+        worker,
+        k,
     );
     if !taken.fits {
         return 32;

@@ -2,14 +2,11 @@
 use mathlib.Core.Path.{_≡_, refl, sym, ap, subst, _∙_}
 use Prim.Native.Nat.{ℕ, _+_, _-_, _^_, _<_}
 use mathlib.Core.List.{List}
-use mathlib.Core.Bool.{Bool, true, false, _&&_, _||_}
+use mathlib.Core.Bool.{Bool, true, false, _&&_}
 use native.Mathlib.Omega.{arith}
-use native.Mathlib.Numerals.{add-one}
 use borrow.Author.Tests.{lt-ltb}
-use lib.Dec.{ltb}
 use lib.ListN.{length, getD, set}
 use Rattle.table.specs.Sum.{pick}
-use Rattle.table.specs.Format.{Table, tableOf}
 use Rattle.schedule.specs.declared.Worker.{Worker}
 use Rattle.schedule.specs.declared.Run.{Run}
 use Rattle.schedule.specs.Machine.{Stepped, stepped, counted, nobody}
@@ -24,8 +21,8 @@ use Rattle.schedule.proofs.Stores.{steady-fits}
 use Rattle.lent.specs.declared.Moved.{Moved}
 use Rattle.lent.specs.declared.Stepped.{Stepped as StepResult}
 use Rattle.lent.specs.Arrays.{Arrays, secondOf, listedIn, tableFrom}
-use Rattle.lent.specs.Turn.{Outcome, outcome, stepOn}
-use Rattle.lent.specs.Counted.{Left, unmoved, busyAfter, roomFor, counting, turnOn}
+use Rattle.lent.specs.Turn.{Outcome, stepOn}
+use Rattle.lent.specs.Counted.{Left, busyAfter, roomFor, counting, turnOn}
 use Rattle.lent.specs.Packed.{packedOf}
 use Rattle.lent.proofs.Parts.{stateIn, Went, Sits}
 use Rattle.lent.proofs.Local.{putBack, turn-local}

@@ -1,27 +1,26 @@
 -- On the arrays of a sound run every number fits, and a turn on them is document 01's.
-use mathlib.Core.Path.{_≡_, refl, sym, ap, subst, _∙_}
+use mathlib.Core.Path.{_≡_, refl, sym, subst, _∙_}
 use Prim.Native.Nat.{ℕ, _+_, _^_, _<_}
 use mathlib.Core.List.{List}
 use mathlib.Core.Bool.{Bool, true, false}
 use native.Mathlib.Omega.{arith}
 use borrow.Author.Tests.{lt-ltb, le-leb, eqb-false}
 use lib.ListN.{length, getD, set}
-use lib.Dec.{eqb, leb, ltb}
+use lib.Dec.{eqb, leb}
 use Rattle.table.specs.Sum.{pick}
 use Rattle.table.specs.Format.{Kind, end, work, alloc, free, fork, join, unknown, Table, kind, tableOf}
 use Rattle.schedule.specs.declared.Worker.{Worker}
 use Rattle.schedule.specs.declared.Reply.the-variants.{Idle}
 use Rattle.schedule.specs.Machine.{State, held, ended, ready, leftmost, taken, turnFree, Stepped, stepped, parentOf, waitsFor, woken, withStatus, actBy, act}
-use Rattle.schedule.specs.Links.{noThread, LinkedAs, firstReady, seek}
-use Rattle.schedule.specs.Actives.{actives}
+use Rattle.schedule.specs.Links.{firstReady}
 use Rattle.schedule.specs.LinkMoves.{linksBy, activesBy}
 use Rattle.schedule.specs.Parents.{Parents}
 use Rattle.schedule.proofs.Turns.{leftmost-ready}
 use Rattle.schedule.proofs.Searches.{ready-there, found-below}
 use Rattle.lent.specs.declared.Totals.{Totals}
 use Rattle.lent.specs.declared.Stepped.{Stepped as StepResult}
-use Rattle.lent.specs.Arrays.{Arrays, secondOf, listedIn, actionIn, amountIn, withStatuses, tableFrom}
-use Rattle.lent.specs.Turn.{Outcome, outcome, unfit, nextFits, amountFits, waitsIn, actOn, actIn, Seat, seat, seatOf, seatIn, stepFrom, stepOn}
+use Rattle.lent.specs.Arrays.{Arrays, listedIn, actionIn, amountIn, withStatuses, tableFrom}
+use Rattle.lent.specs.Turn.{Outcome, outcome, waitsIn, actOn, actIn, Seat, seat, seatOf, seatIn, stepFrom, stepOn}
 use Rattle.lent.proofs.Parts.{stateIn, turnBody, Went, Sits}
 use Rattle.lent.proofs.Reading.{own-table}
 use Rattle.lent.proofs.Seats.{known, thread-below, thread-small, next-fits, alloc-room, own-room, free-room, own-free, child-room, fork-child, join-child, taken-sits}

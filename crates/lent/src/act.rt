@@ -19,8 +19,8 @@ use table::read::code;
 ghost use mathlib.Core.Path.{_≡_};
 ghost use mathlib.Core.List.{List};
 ghost use mathlib.Core.Bool.{true, false, _&&_};
-ghost use Prim.Native.Nat.{ℕ, _+_, _^_, _<_, max};
-ghost use lib.Dec.{eqb, leb, ltb};
+ghost use Prim.Native.Nat.{ℕ, _+_, _<_, max};
+ghost use lib.Dec.{leb, ltb};
 ghost use lib.ListN.{getD, set};
 ghost use Rattle.table.specs.Sum.{pick};
 ghost use Rattle.table.specs.Format.{Table, work, alloc, free, fork, join, end};
@@ -439,7 +439,18 @@ pub(crate) fn act(
     let x = argument(table, n, at);
     match code(table, n, at) {
         0 => act_end(
-            table, n, parents[t], a, next, status, left, right, under, over, totals, worker,
+            table,
+            n,
+            parents[t],
+            a,
+            next,
+            status,
+            left,
+            right,
+            under,
+            over,
+            totals,
+            worker,
         ),
         1 => act_work(a, next, totals, worker),
         2 => act_alloc(x as u32, a, next, status, amounts, totals, worker),

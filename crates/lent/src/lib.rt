@@ -222,7 +222,19 @@ pub fn take_turn(
     }
     let totals = moved.totals;
     let stepped = step(
-        table, n, quota, parents, next, status, amounts, left, right, under, over, totals, worker,
+        table,
+        n,
+        quota,
+        parents,
+        next,
+        status,
+        amounts,
+        left,
+        right,
+        under,
+        over,
+        totals,
+        worker,
     );
     if !stepped.fits {
         return unmoved(moved, worker);

@@ -18,7 +18,7 @@ use Rattle.table.proofs.Sizes.{Sizes, sizes}
 use Rattle.table.proofs.Tests.{no-way}
 use Rattle.schedule.specs.Firsts.{firsts}
 use Rattle.schedule.specs.Record.{blank, filled}
-use Rattle.schedule.specs.Begin.{begin, beginPasses, begunAs, startRun}
+use Rattle.schedule.specs.Begin.{begin, beginPasses, startRun}
 use Rattle.schedule.specs.Sound.{isNothing}
 use Rattle.schedule.specs.declared.Run.{Run}
 use Rattle.schedule.specs.declared.Beginning.the-variants.{Begun as started, Refused as refusedBegin}
@@ -77,8 +77,7 @@ enum-told c = search needs
 start-requires : tie.Need-start-requires
 start-requires c κs =
     let k = c .before .before in
-    let d = k .before .before .before .before in
-    (
+    let d = k .before .before .before .before in (
       fits (now (d .args .bytes)) (d .args .p) (d .args .quota) (k .accept .ensures .0) (c .enum-told .given .1),
       filled-next (now (d .args .bytes)) (d .args .p) (d .args .quota) (k .accept .ensures .0) (c .enum-told .given .1) (k .accept .ensures .1 .0),
     )

@@ -1,5 +1,5 @@
 -- `lent::find` meets its contract: a worker that holds a thread keeps it, one that holds none takes the thread found, if there is one.
-use mathlib.Core.Path.{_≡_, refl}
+use mathlib.Core.Path.{_≡_}
 use Prim.Native.Nat.{ℕ, _≤_, _<_}
 use mathlib.Core.List.{List}
 use mathlib.Core.Bool.{true, false}

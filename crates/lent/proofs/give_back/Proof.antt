@@ -1,5 +1,4 @@
 -- `lent::give_back` meets its contract: a worker that held a thread before took none.
-use mathlib.Core.Path.{refl}
 use borrow.Author.Needs.{needs}
 use Rattle.lent.proofs.give_back.Statement.{statement}
 use Rattle.lent.proofs.give_back.Tie as tie

@@ -6,7 +6,7 @@ use mathlib.Core.Bool.{Bool, true, false}
 use borrow.Author.Tests.{ltb-true, not-true, not-false}
 use denote.Ref.{now}
 use lib.Dec.{ltb}
-use lib.ListN.{getD, set}
+use lib.ListN.{set}
 use lib.Seq.{set-getD, set-set}
 use Rattle.table.specs.Sum.{pick}
 use Rattle.table.specs.Format.{Table}
@@ -17,9 +17,8 @@ use Rattle.schedule.specs.Machine.{held, ready}
 use Rattle.schedule.specs.Links.{noThread, seek}
 use Rattle.schedule.specs.Record.{maxThreads}
 use Rattle.lent.specs.declared.Totals.{Totals}
-use Rattle.lent.specs.declared.Stepped.{Stepped}
 use Rattle.lent.specs.Arrays.{Arrays, arrays, withStatuses, tableFrom}
-use Rattle.lent.specs.Turn.{Outcome, outcome, moved, unfit, actIn, Seat, seat, seatOf, seatIn, stepFrom, stepOn}
+use Rattle.lent.specs.Turn.{Outcome, moved, unfit, actIn, Seat, seat, seatOf, seatIn, stepFrom, stepOn}
 use Rattle.schedule.proofs.Searches.{seek-ready}
 use Rattle.lent.proofs.Unfit.{unfit-kept}
 use borrow.Author.Needs.{needs}

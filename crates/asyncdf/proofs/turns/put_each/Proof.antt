@@ -1,7 +1,7 @@
 -- `asyncdf::turns::put_each` meets its contract. The invariant: of every record that the locals belong to at the start, what every loop of turns keeps (Moving), and whoever puts the
 -- texts of the rest of the order puts those of the whole (Ordered); a chart's turns taken have room in a line.
 use mathlib.Core.Path.{_≡_, refl, sym, subst, _∙_}
-use Prim.Native.Nat.{ℕ, _+_, _-_, _*_, _^_, _≤_, _<_}
+use Prim.Native.Nat.{ℕ, _+_, _-_, _*_, _≤_, _<_}
 use mathlib.Core.List.{List, [], _∷_}
 use mathlib.Core.Bool.{Bool, true, false}
 use native.Mathlib.Omega.{arith}
@@ -23,8 +23,7 @@ use Rattle.schedule.proofs.Stores.{moved-steady}
 use Rattle.table.specs.Format.{kind}
 use Rattle.lines.specs.Puts.{Puts}
 use Rattle.lines.proofs.Putting.{puts-within}
-use Rattle.chart.specs.declared.Charted.the-variants.{Written}
-use Rattle.chart.specs.Chart.{Shown, shown, shownOf, lineText, lineOf, mostTurns, tooMany, charted}
+use Rattle.chart.specs.Chart.{Shown, shown, shownOf, lineText, mostTurns, tooMany}
 use Rattle.chart.proofs.Records.{wall-width, charted-written}
 use Rattle.chart.proofs.Records.{few as few-turns}
 use Rattle.lent.specs.declared.Moved.{Moved}

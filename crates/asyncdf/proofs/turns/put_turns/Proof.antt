@@ -1,6 +1,6 @@
 -- `asyncdf::turns::put_turns` meets its contract: nothing is put of a run that has ended or of an empty order but its end, the blank record's turns are refused with 30, and else the turns are
 -- taken on copies of the record's arrays.
-use mathlib.Core.Path.{_≡_, refl, sym, ap, _∙_}
+use mathlib.Core.Path.{_≡_, refl, sym, ap}
 use Prim.Native.Nat.{ℕ, _+_, _*_, _^_, _<_}
 use mathlib.Core.List.{List, [], _∷_}
 use mathlib.Core.Bool.{Bool, true, false}

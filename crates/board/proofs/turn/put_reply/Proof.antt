@@ -1,5 +1,4 @@
 -- `board::turn::put_reply` meets its contract, case by case.
-use mathlib.Core.Path.{_≡_, refl}
 use borrow.Author.Needs.{needs}
 use Rattle.board.proofs.turn.put_reply.Statement.{statement}
 use Rattle.board.proofs.turn.put_reply.Tie as tie

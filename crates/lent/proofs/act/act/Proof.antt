@@ -9,9 +9,8 @@ use Rattle.table.specs.Format.{Table, kindOf}
 use Rattle.schedule.specs.declared.Worker.{Worker}
 use Rattle.schedule.specs.declared.Reply.the-variants.{Idle}
 use Rattle.lent.specs.declared.Totals.{Totals}
-use Rattle.lent.specs.declared.Stepped.{Stepped}
 use Rattle.lent.specs.Arrays.{Arrays, arrays, actionIn, tableFrom}
-use Rattle.lent.specs.Turn.{Outcome, outcome, moved, unfit, actOn, actIn}
+use Rattle.lent.specs.Turn.{Outcome, moved, unfit, actOn, actIn}
 use Rattle.lent.proofs.Reading.{from-code, from-argument}
 use Rattle.lent.proofs.Leaves.{left-as, code-unknown}
 use borrow.Author.Needs.{needs}

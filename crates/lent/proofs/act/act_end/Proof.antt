@@ -1,5 +1,5 @@
 -- `lent::act::act_end` meets its contract: the statuses that `wake` leaves, the links that `unlink` and `leave` leave.
-use mathlib.Core.Path.{_≡_, ap, _∙_}
+use mathlib.Core.Path.{_≡_}
 use Prim.Native.Nat.{ℕ}
 use mathlib.Core.List.{List}
 use mathlib.Core.Bool.{Bool}
@@ -12,9 +12,8 @@ use Rattle.schedule.specs.declared.Reply.the-variants.{Done}
 use Rattle.schedule.specs.Machine.{ready, ended, nobody}
 use Rattle.schedule.specs.Links.{Links, linkLeft, unlink}
 use Rattle.lent.specs.declared.Totals.{Totals}
-use Rattle.lent.specs.declared.Stepped.{Stepped}
 use Rattle.lent.specs.Arrays.{Arrays, arrays, linksOf, secondOf, tableFrom}
-use Rattle.lent.specs.Turn.{outcome, moved, waitsIn, actOn}
+use Rattle.lent.specs.Turn.{moved, waitsIn, actOn}
 use borrow.Author.Needs.{needs}
 use Rattle.lent.proofs.Leaves.{left-as}
 use Rattle.lent.proofs.act.act_end.Statement.{statement}

@@ -1,25 +1,24 @@
 -- `lent::act::act_fork` meets its contract: both links are those that `link_left` leaves.
-use mathlib.Core.Path.{_≡_, refl, ap, _∙_}
-use Prim.Native.Nat.{ℕ, suc, _+_, _-_, _^_, _≤_, _<_, max}
+use mathlib.Core.Path.{_≡_}
+use Prim.Native.Nat.{ℕ, _+_, _-_, _<_}
 use mathlib.Core.List.{List}
 use mathlib.Core.Bool.{Bool, true, false, _&&_}
 use native.Mathlib.Omega.{arith}
 use borrow.Author.Tests.{not-true, not-false, ltb-true}
 use denote.Ref.{now}
-use lib.Dec.{leb, ltb, eqb}
-use lib.ListN.{getD, set}
+use lib.Dec.{ltb}
+use lib.ListN.{set}
 use Rattle.table.specs.Format.{Table, fork}
 use Rattle.schedule.specs.declared.Worker.{Worker}
 use Rattle.schedule.specs.declared.Reply.the-variants.{Done}
 use Rattle.schedule.specs.Machine.{ready, nobody}
 use Rattle.lent.specs.declared.Totals.{Totals}
-use Rattle.lent.specs.declared.Stepped.{Stepped}
-use Rattle.lent.specs.Arrays.{Arrays, arrays, actionIn, amountIn}
-use Rattle.lent.specs.Turn.{outcome, moved, unfit, nextFits, amountFits, actOn}
+use Rattle.lent.specs.Arrays.{Arrays, arrays}
+use Rattle.lent.specs.Turn.{moved, unfit, nextFits, actOn}
 use Rattle.lent.specs.Steps.{At}
-use Rattle.lent.proofs.Leaves.{left-as, fits16, fits64, next-done, fits-next, fits-and}
-use Rattle.schedule.specs.Links.{Links, linkLeft, unlink}
-use Rattle.lent.specs.Arrays.{links, linksOf, secondOf}
+use Rattle.lent.proofs.Leaves.{left-as, fits16, next-done, fits-and}
+use Rattle.schedule.specs.Links.{Links, linkLeft}
+use Rattle.lent.specs.Arrays.{linksOf, secondOf}
 use borrow.Author.Needs.{needs}
 use Rattle.lent.proofs.act.act_fork.Statement.{statement}
 use Rattle.lent.proofs.act.act_fork.Tie as tie

@@ -1,25 +1,20 @@
 -- `lent::act::act_join` meets its contract: a child that is none of the arrays', one that has ended, and one that has not.
-use mathlib.Core.Path.{_≡_, refl, ap, _∙_}
-use Prim.Native.Nat.{ℕ, suc, _+_, _-_, _^_, _≤_, _<_, max}
+use mathlib.Core.Path.{_≡_}
+use Prim.Native.Nat.{ℕ, _-_, _≤_, _<_}
 use mathlib.Core.List.{List}
-use mathlib.Core.Bool.{Bool, true, false, _&&_}
-use native.Mathlib.Omega.{arith}
-use borrow.Author.Tests.{not-true, not-false, lt-ltb, le-ltb, ne-eqb}
+use borrow.Author.Tests.{lt-ltb, le-ltb, ne-eqb}
 use denote.Ref.{now}
-use lib.Dec.{leb, ltb, eqb}
 use lib.ListN.{getD, set}
 use Rattle.table.specs.Format.{Table, join}
 use Rattle.schedule.specs.declared.Worker.{Worker}
 use Rattle.schedule.specs.declared.Reply.the-variants.{Wait}
 use Rattle.schedule.specs.Machine.{ended, waiting, nobody}
 use Rattle.lent.specs.declared.Totals.{Totals}
-use Rattle.lent.specs.declared.Stepped.{Stepped}
-use Rattle.lent.specs.Arrays.{Arrays, arrays, actionIn, amountIn}
-use Rattle.lent.specs.Turn.{outcome, moved, unfit, nextFits, amountFits, actOn}
-use Rattle.lent.specs.Steps.{At}
-use Rattle.lent.proofs.Leaves.{left-as, next-done, fits-next, fits-and}
-use Rattle.schedule.specs.Links.{Links, linkLeft, unlink}
-use Rattle.lent.specs.Arrays.{links, linksOf, secondOf}
+use Rattle.lent.specs.Arrays.{Arrays, arrays}
+use Rattle.lent.specs.Turn.{moved, unfit, actOn}
+use Rattle.lent.proofs.Leaves.{left-as}
+use Rattle.schedule.specs.Links.{Links, unlink}
+use Rattle.lent.specs.Arrays.{secondOf}
 use borrow.Author.Needs.{needs}
 use Rattle.lent.proofs.act.act_join.Statement.{statement}
 use Rattle.lent.proofs.act.act_join.Tie as tie

@@ -1,21 +1,17 @@
 -- `lent::act::act_work` meets its contract: the thread stands at the action after it, if that has a number.
-use mathlib.Core.Path.{_≡_, refl, ap, _∙_}
-use Prim.Native.Nat.{ℕ, suc, _+_, _-_, _^_, _≤_, _<_, max}
+use mathlib.Core.Path.{_≡_}
+use Prim.Native.Nat.{ℕ, _+_, _-_}
 use mathlib.Core.List.{List}
-use mathlib.Core.Bool.{Bool, true, false, _&&_}
-use native.Mathlib.Omega.{arith}
+use mathlib.Core.Bool.{Bool, true, false}
 use borrow.Author.Tests.{not-true, not-false}
 use denote.Ref.{now}
-use lib.Dec.{leb, ltb, eqb}
-use lib.ListN.{getD, set}
+use lib.ListN.{set}
 use Rattle.table.specs.Format.{Table, work}
 use Rattle.schedule.specs.declared.Worker.{Worker}
 use Rattle.schedule.specs.declared.Reply.the-variants.{Done}
-use Rattle.schedule.specs.Machine.{nobody}
 use Rattle.lent.specs.declared.Totals.{Totals}
-use Rattle.lent.specs.declared.Stepped.{Stepped}
-use Rattle.lent.specs.Arrays.{Arrays, arrays, actionIn, amountIn}
-use Rattle.lent.specs.Turn.{outcome, moved, unfit, nextFits, amountFits, actOn}
+use Rattle.lent.specs.Arrays.{Arrays, arrays}
+use Rattle.lent.specs.Turn.{moved, unfit, nextFits, actOn}
 use Rattle.lent.specs.Steps.{At}
 use Rattle.lent.proofs.Leaves.{left-as, fits16, next-done, fits-next}
 use borrow.Author.Needs.{needs}

@@ -1,5 +1,5 @@
 -- `lent::act::free_fits` meets its contract: the tests in their order.
-use mathlib.Core.Path.{_≡_, refl}
+use mathlib.Core.Path.{refl}
 use borrow.Author.Tests.{le-leb, lt-leb}
 use Rattle.links.proofs.Comparing.{both, neither}
 use borrow.Author.Needs.{needs}

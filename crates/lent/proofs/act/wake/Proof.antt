@@ -1,5 +1,5 @@
 -- `lent::act::wake` meets its contract: a parent that waits becomes ready.
-use mathlib.Core.Path.{_≡_, refl, sym, _∙_}
+use mathlib.Core.Path.{refl, sym, _∙_}
 use borrow.Author.Needs.{needs}
 use Rattle.lent.proofs.act.wake.Statement.{statement}
 use Rattle.lent.proofs.act.wake.Tie as tie
