@@ -16,9 +16,9 @@ use Rattle.table.specs.Format.{tableOf}
 use Rattle.schedule.proofs.Limit.{MemoryLimit}
 use Rattle.schedule.proofs.ThreadLimit.{ThreadLimit}
 use Rattle.lent.specs.Arrays.{arrays}
-use Rattle.lent.specs.Counted.{Left, turnOn, passedAlong}
-use Rattle.schedule.specs.Links.{seek}
-use Rattle.board.specs.Lent.{Memory, memory, workerIn, movedIn, memoryAfter, turnRow, noRow, Answer, answer, lentBegin, hindrance, turnLeft, lentTurn}
+use Rattle.schedule.specs.declared.Reply.the-variants.{Idle}
+use Rattle.lent.specs.Counted.{Left, turnOn}
+use Rattle.board.specs.Lent.{Memory, memory, workerIn, movedIn, memoryAfter, Answer, answer, lentBegin, hindrance, Told, told, turnLeft, turnIn, lentTurn}
 use Rattle.board.specs.Stands.{runIn}
 use Rattle.board.specs.LentCalls.{lentAfter, lentRow}
 use Rattle.board.proofs.LentLimit.{lent-limit, lent-threads}
@@ -108,18 +108,17 @@ begin-says s p K =
 
 -- a turn leaves p, K and the parents as they are
 turn-keeps : (s : List ℕ) (w : ℕ) (M : Memory) → (M .settings ≡ lentTurn s w M .memory .settings) × (M .parents ≡ lentTurn s w M .memory .parents)
-unfolding lentTurn turnLeft
+unfolding lentTurn turnIn turnLeft
 turn-keeps s w M =
     let number : ℕ = hindrance (movedIn M .turns) (getD (M .settings) 0 0) w (getD (M .arrays .status) 0 0) in
-    let passed : ℕ = passedAlong (workerIn M w .holds) (seek 1024 (M .arrays .status) (M .arrays .right) (movedIn M .totals .leftmost)) in
     let z : Left = turnOn (tableOf s) (getD (M .settings) 1 0) (M .parents) w (M .arrays) (movedIn M) (workerIn M w) in
-    go (eqb number 0) (z .fits) number (turnRow (z .reply) passed) z noRow
+    go (eqb number 0) (z .fits) number z
   where
-    go : (b c : Bool) (n : ℕ) (row : List ℕ) (z : Left) (zeros : List ℕ) → let a : Answer = pick b (pick c (answer 0 row (memoryAfter M w z)) (answer 32 zeros M)) (answer n zeros M) in
-        (M .settings ≡ a .memory .settings) × (M .parents ≡ a .memory .parents)
-    go true true n row z zeros = (refl, refl)
-    go true false n row z zeros = (refl, refl)
-    go false c n row z zeros = (refl, refl)
+    go : (b c : Bool) (n : ℕ) (z : Left) → let t : Told = pick b (pick c (told 0 (z .reply) (memoryAfter M w z)) (told 32 Idle M)) (told n Idle M) in
+        (M .settings ≡ t .memory .settings) × (M .parents ≡ t .memory .parents)
+    go true true n z = (refl, refl)
+    go true false n z = (refl, refl)
+    go false c n z = (refl, refl)
 
 turn-says : (s : List ℕ) (w : ℕ) (M : Memory) → TurnSays s w M (lentTurn s w M)
 turn-says s w M =

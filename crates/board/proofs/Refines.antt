@@ -33,7 +33,7 @@ use Rattle.lent.specs.Packed.{packedOf}
 use Rattle.lent.proofs.Reading.{own-table}
 use Rattle.lent.proofs.Packed.{Carries, Goes, turn-goes}
 use Rattle.lent.proofs.Answers.{steady-full, steady-room, refusedAs, turned-unsound, turned-none, turned-over, turned-taken, root-over, root-open, passed-along}
-use Rattle.board.specs.Lent.{Memory, workerIn, movedIn, memoryAfter, turnRow, noRow, Answer, answer, hindrance, turnLeft, lentTurn}
+use Rattle.board.specs.Lent.{Memory, workerIn, movedIn, memoryAfter, turnRow, noRow, Answer, answer, hindrance, turnLeft, turnIn, lentTurn}
 use Rattle.board.specs.Stands.{workersFrom, workersIn, settled, runIn, Stands, valuesRow}
 
 -- ---- the workers
@@ -178,12 +178,14 @@ module _ (s : List ℕ) (M : Memory) (h : Stands s M) (w : ℕ) where
 
     left-so : (eqb (movedIn M .turns) (2 ^ 64 - 1) ≡ false) → (ltb w (getD (M .settings) 0 0) ≡ true) → (eqb (getD (M .arrays .status) 0 0) ended ≡ false)
         → lentTurn s w M ≡ answer 0 (turnRow (z .reply) along) (memoryAfter M w z)
-    unfolding lentTurn turnLeft hindrance
+    unfolding lentTurn turnIn turnLeft hindrance
     left-so x y q = rw (x, y, q, goes .fits)
 
   hindered-so : (k : ℕ) → hindrance (movedIn M .turns) (getD (M .settings) 0 0) w (getD (M .arrays .status) 0 0) ≡ suc k → lentTurn s w M ≡ answer (suc k) noRow M
-  unfolding lentTurn
-  hindered-so k e = rw (e, ne-eqb (suc k) 0 (λ d. omega (arith, d)))
+  unfolding lentTurn turnIn
+  hindered-so k e =
+      let n : eqb (suc k) 0 ≡ false = ne-eqb (suc k) 0 (λ d. omega (arith, d)) in
+      rw (e, n, n)
 
   -- the law of refinement
   pub turn-refines : Turns s M w (lentTurn s w M)

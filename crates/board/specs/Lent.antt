@@ -1,8 +1,8 @@
 -- A run in memory that C lends: numbers in arrays, and a turn on them, whatever they hold.
-use Prim.Native.Nat.{ℕ, _-_, _^_}
+use Prim.Native.Nat.{ℕ, zero, suc, _-_, _^_, _%_}
 use mathlib.Core.List.{List, [], _∷_}
-use mathlib.Core.Bool.{true, not}
-use lib.ListN.{getD, set, replicate}
+use mathlib.Core.Bool.{Bool, true, not}
+use lib.ListN.{length, getD, set, replicate}
 use lib.Dec.{ltb, eqb}
 use Rattle.table.specs.Sum.{pick}
 use Rattle.table.specs.Format.{tableOf}
@@ -10,6 +10,7 @@ use Rattle.table.specs.declared.Found.{Found}
 use Rattle.table.specs.declared.Found.the-variants.{Nothing, At}
 use Rattle.schedule.specs.declared.Worker.{Worker}
 use Rattle.schedule.specs.declared.Reply.{Reply}
+use Rattle.schedule.specs.declared.Reply.the-variants.{Idle}
 use Rattle.schedule.specs.Machine.{ready, ended}
 use Rattle.schedule.specs.Links.{noThread, seek}
 use Rattle.schedule.specs.Record.{maxThreads, maxWorkers}
@@ -100,17 +101,64 @@ answer number row M = record { number = number; row = row; memory = M }
 unfoldable pub hindrance : ℕ → ℕ → ℕ → ℕ → ℕ
 hindrance turns p w root = pick (eqb turns (2 ^ 64 - 1)) 32 (pick (ltb w p) (pick (eqb root ended) 31 0) 30)
 
+-- number, reply and memory
+pub record Told : Type 0 where
+  pub number : ℕ
+  pub reply : Reply
+  pub memory : Memory
+
+abbrev pub told : ℕ → Reply → Memory → Told
+told number reply M = record { number = number; reply = reply; memory = M }
+
 -- a turn that is taken, or 32 where something does not fit
-unfoldable pub turnLeft : Memory → ℕ → ℕ → Left → Answer
-turnLeft M w passed z = pick (z .fits) (answer 0 (turnRow (z .reply) passed) (memoryAfter M w z)) (answer 32 noRow M)
+unfoldable pub turnLeft : Memory → ℕ → Left → Told
+turnLeft M w z = pick (z .fits) (told 0 (z .reply) (memoryAfter M w z)) (told 32 Idle M)
 
 -- "A turn of worker w." "A refused turn hands back its record untouched."
+unfoldable pub turnIn : List ℕ → ℕ → Memory → Told
+turnIn s w M =
+    let number : ℕ = hindrance (movedIn M .turns) (getD (M .settings) 0 0) w (getD (M .arrays .status) 0 0) in
+    let there : Told = turnLeft M w (turnOn (tableOf s) (getD (M .settings) 1 0) (M .parents) w (M .arrays) (movedIn M) (workerIn M w)) in
+    pick (eqb number 0) there (told number Idle M)
+
+-- how many threads stand left of the one that worker w takes (N7)
+abbrev pub passedOver : Memory → ℕ → ℕ
+passedOver M w = passedAlong (workerIn M w .holds) (seek maxThreads (M .arrays .status) (M .arrays .right) (movedIn M .totals .leftmost))
+
+-- the single turn's call
 unfoldable pub lentTurn : List ℕ → ℕ → Memory → Answer
 lentTurn s w M =
-    let number : ℕ = hindrance (movedIn M .turns) (getD (M .settings) 0 0) w (getD (M .arrays .status) 0 0) in
-    let passed : ℕ = passedAlong (workerIn M w .holds) (seek maxThreads (M .arrays .status) (M .arrays .right) (movedIn M .totals .leftmost)) in
-    let there : Answer = turnLeft M w passed (turnOn (tableOf s) (getD (M .settings) 1 0) (M .parents) w (M .arrays) (movedIn M) (workerIn M w)) in
-    pick (eqb number 0) there (answer number noRow M)
+    let t : Told = turnIn s w M in
+    answer (t .number) (pick (eqb (t .number) 0) (turnRow (t .reply) (passedOver M w)) noRow) (t .memory)
+
+-- ---- runs
+
+-- place, what is said, and the turns taken
+abbrev pub runRow : Said → ℕ → List ℕ
+runRow x turns = 0 ∷ saidCode x ∷ turns ∷ []
+
+-- the root has ended
+abbrev pub overIn : Memory → Bool
+overIn M = eqb (getD (M .arrays .status) 0 0) ended
+
+-- At most k turns more after i turns, the worker of turn i given by `who`: "a run stops at the root's end, a refusal or the list's end"
+unfoldable pub lentDrive : List ℕ → (ℕ → ℕ) → ℕ → ℕ → Memory → Answer
+lentDrive s who zero i M = answer 0 (runRow (pick (overIn M) finished spent) i) M
+lentDrive s who (suc k) i M =
+    let t : Told = turnIn s (who i) M in
+    let rest : Answer = lentDrive s who k (suc i) (t .memory) in
+    pick (overIn M) (answer 0 (runRow finished i) M) (pick (eqb (t .number) 0) rest (answer (t .number) (runRow nothing i) M))
+
+-- "Over a list of worker numbers"; 32 first where no turn can be counted
+unfoldable pub lentList : List ℕ → List ℕ → Memory → Answer
+lentList s l M = pick (eqb (movedIn M .turns) (2 ^ 64 - 1)) (answer 32 (runRow nothing 0) M) (lentDrive s (λ i. getD l i 0) (length l) 0 M)
+
+-- "In rounds (0 to p − 1, again and again, starting with worker 0)"; with no worker 30
+unfoldable pub lentRounds : List ℕ → ℕ → Memory → Answer
+lentRounds s limit M =
+    let p : ℕ = getD (M .settings) 0 0 in
+    let go : Answer = lentDrive s (λ i. i % p) limit 0 M in
+    pick (eqb (movedIn M .turns) (2 ^ 64 - 1)) (answer 32 (runRow nothing 0) M) (pick (eqb p 0) (answer 30 (runRow nothing 0) M) go)
 
 -- ---- a beginning
 

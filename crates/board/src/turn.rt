@@ -8,11 +8,16 @@ use schedule::Worker;
 use schedule::statuses::ENDED;
 use table::read;
 ghost use mathlib.Core.Path.{_≡_};
+ghost use mathlib.Core.Bool.{not};
 ghost use Prim.Native.Nat.{_<_};
-ghost use lib.ListN.{set};
+ghost use lib.Dec.{eqb};
+ghost use lib.ListN.{getD, set};
+ghost use Rattle.schedule.specs.declared.Reply.the-variants.{Idle};
+ghost use Rattle.schedule.specs.Links.{seek as seekOf};
+ghost use Rattle.lent.specs.Counted.{passedAlong};
 ghost use Rattle.table.specs.Sum.{pick};
 ghost use Rattle.lent.specs.Arrays.{arrays};
-ghost use Rattle.board.specs.Lent.{memory, workerFrom, movedFrom, headsOf, totalsOf, turnRow, answer, lentTurn};
+ghost use Rattle.board.specs.Lent.{memory, workerFrom, movedFrom, headsOf, totalsOf, turnRow, answer, told, turnIn, lentTurn};
 ghost use Rattle.board.specs.Lent.{hindrance as hindranceOf};
 
 // 32 where no turn can be counted, 30, 31; 0 where none applies.
@@ -108,7 +113,94 @@ fn put_reply(row: &mut [u64; 5], reply: Reply, passed: u16)
     }
 }
 
+// What a turn says: a refusal's number, or 0 and the reply.
+pub(crate) struct Spoken {
+    pub(crate) number: u32,
+    pub(crate) reply: Reply,
+}
+
+fn refused(number: u32) -> Spoken
+    ensures { λ r. ⌜ r ≡ record { number = number; reply = Idle } ⌝ }
+{
+    Spoken {
+        number,
+        reply: Reply::Idle,
+    }
+}
+
 // A turn of worker w, or 32, 30, 31; 32 again where a number that the turn would write does not fit. Where it refuses, no number of the run changes.
+pub(crate) fn turn_in(
+    table: &[u8],
+    w: u32,
+    settings: &[u32; 2],
+    parents: &[u16; 1024],
+    next: &mut [u16; 1024],
+    status: &mut [u8; 1024],
+    amounts: &mut [u64; 1024],
+    left: &mut [u16; 1024],
+    right: &mut [u16; 1024],
+    under: &mut [u16; 1024],
+    over: &mut [u16; 1024],
+    holds: &mut [u8; 16],
+    threads: &mut [u16; 16],
+    quotas: &mut [u32; 16],
+    heads: &mut [u16; 3],
+    totals: &mut [u64; 3],
+) -> Spoken
+    ensures { λ r. ⌜ told (r .number) (r .reply) (memory (now (settings .entry)) (now (parents .entry))
+        (arrays (now (next .exit)) (now (status .exit)) (now (amounts .exit)) (now (left .exit)) (now (right .exit)) (now (under .exit)) (now (over .exit)))
+        (now (holds .exit)) (now (threads .exit)) (now (quotas .exit)) (now (heads .exit)) (now (totals .exit)))
+        ≡ turnIn (now (table .entry)) w (memory (now (settings .entry)) (now (parents .entry))
+        (arrays (now (next .entry)) (now (status .entry)) (now (amounts .entry)) (now (left .entry)) (now (right .entry)) (now (under .entry)) (now (over .entry)))
+        (now (holds .entry)) (now (threads .entry)) (now (quotas .entry)) (now (heads .entry)) (now (totals .entry))) ⌝ }
+{
+    let number = hindrance(totals[2], settings[0], w, status[0]);
+    if number != 0 {
+        return refused(number);
+    }
+    if 16 <= w {
+        return refused(32);
+    }
+    let k = w as usize;
+    let worker = worker_at(&*holds, &*threads, &*quotas, k);
+    let moved = moved_at(&*heads, &*totals);
+    let n = read::threads(table);
+    let taken = take_turn(
+        table, n, settings[1], parents, next, status, amounts, left, right, under, over, moved, worker, k,
+    );
+    if !taken.fits {
+        return refused(32);
+    }
+    let reply = taken.reply;
+    let worker = taken.worker;
+    let moved = taken.moved;
+    put_worker(holds, threads, quotas, k, worker);
+    put_moved(heads, totals, moved);
+    Spoken { number: 0, reply }
+}
+
+// How many threads stand left of the one that worker w takes.
+fn passed_by(
+    holds: &[u8; 16],
+    status: &[u8; 1024],
+    right: &[u16; 1024],
+    leftmost: u16,
+    w: u32,
+) -> u16
+    ensures { λ r. ⌜ (w < 16 → r ≡ passedAlong (not (eqb (getD (now (holds .entry)) w 0) 0)) (seekOf 1024 (now (status .entry)) (now (right .entry)) leftmost)) ⌝ }
+{
+    if 16 <= w {
+        return 0;
+    }
+    let worker = Worker {
+        holds: holds[w as usize] != 0,
+        thread: 0,
+        quota: 0,
+    };
+    passed_over(worker, status, right, leftmost)
+}
+
+// A single turn, with how many threads stood left of one that it took.
 #[no_mangle]
 pub extern "C" fn wivakkol_turn_on(
     table: &[u8],
@@ -137,42 +229,14 @@ pub extern "C" fn wivakkol_turn_on(
         (now (holds .entry)) (now (threads .entry)) (now (quotas .entry)) (now (heads .entry)) (now (totals .entry))) ⌝ }
 {
     *row = [0; 5];
-    let number = hindrance(totals[2], settings[0], w, status[0]);
-    if number != 0 {
-        return number;
-    }
-    if 16 <= w {
-        return 32;
-    }
-    let k = w as usize;
-    let worker = worker_at(&*holds, &*threads, &*quotas, k);
-    let moved = moved_at(&*heads, &*totals);
-    let passed = passed_over(worker, &*status, &*right, moved.totals.leftmost);
-    let n = read::threads(table);
-    let taken = take_turn(
-        table,
-        n,
-        settings[1],
-        parents,
-        next,
-        status,
-        amounts,
-        left,
-        right,
-        under,
-        over,
-        moved,
-        worker,
-        k,
+    let passed = passed_by(&*holds, &*status, &*right, heads[0], w);
+    let spoken = turn_in(
+        table, w, settings, parents, next, status, amounts, left, right, under, over, holds, threads, quotas, heads, totals,
     );
-    if !taken.fits {
-        return 32;
+    if spoken.number != 0 {
+        return spoken.number;
     }
-    let reply = taken.reply;
-    let worker = taken.worker;
-    let moved = taken.moved;
-    put_worker(holds, threads, quotas, k, worker);
-    put_moved(heads, totals, moved);
+    let reply = spoken.reply;
     put_reply(row, reply, passed);
     0
 }
