@@ -7,3 +7,4 @@ pub mod Refines
 pub mod LentLimit
 mod Numbered
 pub mod LentPromised
+mod Drives

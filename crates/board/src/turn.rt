@@ -166,7 +166,20 @@ pub(crate) fn turn_in(
     let moved = moved_at(&*heads, &*totals);
     let n = read::threads(table);
     let taken = take_turn(
-        table, n, settings[1], parents, next, status, amounts, left, right, under, over, moved, worker, k,
+        table,
+        n,
+        settings[1],
+        parents,
+        next,
+        status,
+        amounts,
+        left,
+        right,
+        under,
+        over,
+        moved,
+        worker,
+        k,
     );
     if !taken.fits {
         return refused(32);
@@ -231,7 +244,22 @@ pub extern "C" fn wivakkol_turn_on(
     *row = [0; 5];
     let passed = passed_by(&*holds, &*status, &*right, heads[0], w);
     let spoken = turn_in(
-        table, w, settings, parents, next, status, amounts, left, right, under, over, holds, threads, quotas, heads, totals,
+        table,
+        w,
+        settings,
+        parents,
+        next,
+        status,
+        amounts,
+        left,
+        right,
+        under,
+        over,
+        holds,
+        threads,
+        quotas,
+        heads,
+        totals,
     );
     if spoken.number != 0 {
         return spoken.number;
