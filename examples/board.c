@@ -20,9 +20,11 @@ static int refused(uint32_t number, const uint64_t *row)
 /* A decimal number up to `most`; ends the program where the argument is none. */
 static uint64_t number(const char *text, uint64_t most)
 {
+    unsigned long long x;
     char *end;
-    unsigned long long x = (errno = 0, strtoull(text, &end, 10));
 
+    errno = 0;
+    x = strtoull(text, &end, 10);
     if (*text < '0' || '9' < *text || *end != '\0' || errno != 0 || most < x) {
         fprintf(stderr, "board: not a number up to %" PRIu64 ": %s\n", most, text);
         exit(2);
@@ -34,12 +36,13 @@ int main(int argc, char **argv)
 {
     uint64_t facts[WIVAKKOL_CHECK_ROW], quota[WIVAKKOL_QUOTA_ROW], begun[WIVAKKOL_BEGIN_ROW], turn[WIVAKKOL_TURN_ROW];
     uint32_t answer, p, w;
-    size_t length = fread(table, 1, sizeof table, stdin);
+    size_t length;
 
     if (argc != 1 && argc != 4) {
         fprintf(stderr, "usage: board [p b M] < TABLE\n");
         return 2;
     }
+    length = fread(table, 1, sizeof table, stdin);
     if ((answer = wivakkol_check(table, length, facts)) != 0)
         return refused(answer, facts);
     printf("table %" PRIu64 " %" PRIu64 " serial %" PRIu64 " depth %" PRIu64 " nested %" PRIu64 "\n", facts[WIVAKKOL_THREADS],
@@ -57,7 +60,7 @@ int main(int argc, char **argv)
     /* Where turn[WIVAKKOL_SAID] is WIVAKKOL_SAID_DONE, a board would now do action turn[WIVAKKOL_VALUE]. */
     for (w = 0; (answer = wivakkol_turn(&run, table, length, w, turn)) == 0; w = (w + 1) % p)
         ;
-    if (answer != 31)
+    if (answer != 31) /* the root has ended */
         return refused(answer, turn);
     printf("done %" PRIu64 " peak %" PRIu64 "\n", run.totals[WIVAKKOL_TURNS], run.totals[WIVAKKOL_HIGHEST]);
     return 0;
