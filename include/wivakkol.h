@@ -120,8 +120,8 @@ static inline uint32_t wivakkol_begin(wivakkol_run *run, const uint8_t *table, s
 }
 
 /* A turn of worker w. Returns 0, or the first of these that applies: 32, 2^64 - 1 turns are taken; 30, w is not below p; 31, the root has ended: the run is over; 32, a thread's number is
- * none of the arrays', w is none of the sixteen workers, or a number that the turn would write does not fit into its place. The last is met on damaged memory alone, never on what
- * wivakkol_begin and turns have left. Where a turn is refused, no byte of the run changes. */
+ * none of the arrays', w is none of the sixteen workers, or a number that the turn would write does not fit into its place; of a worker without a thread the bit in `heads` must fit even if
+ * it takes none. The last is met on damaged memory alone, never on what wivakkol_begin and turns have left. Where a turn is refused, no byte of the run changes. */
 static inline uint32_t wivakkol_turn(wivakkol_run *run, const uint8_t *table, size_t length, uint32_t w, uint64_t row[WIVAKKOL_TURN_ROW])
 {
     return wivakkol_turn_on(table, length, w, run->settings, run->parents, run->next, run->status, run->amounts, run->left, run->right,
