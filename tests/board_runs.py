@@ -73,17 +73,18 @@ def same_as_machine(memory, run):
     assert set(memory.holds) <= {0, 1}
 
 
-def sound_turn(play, machine_, w):
+def sound_turn(play, taking, w):
     """A turn of both models: reply, number passed over, the list, and the second list, which is the list without the threads that wait."""
-    run = machine_.run
+    run = taking.run
     number, row = play.turn(w)
-    if w >= run.p or machine_.ended():
+    if w >= run.p or taking.ended():
         assert number == (30 if w >= run.p else 31)
         return
-    passed = machine.passed_over(run, w)
-    reply = machine_.take(w)
+    places = [i for i, t in enumerate(taking.threads) if run.status[t] == machine.READY]
+    passed = places[0] if places and not run.worker[w].holds else 0
+    reply = taking.take(w)
     assert number == 0 and [lent.SAID[row[1]], *row[2:4], row[4]] == [*reply, *[0] * (3 - len(reply)), passed], (number, row, reply, passed)
-    threads = list(machine_.threads)
+    threads = list(taking.threads)
     assert play.run.list.threads() == threads
     assert play.run.second.threads() == [t for t in threads if run.status[t] != WAITING]
 
