@@ -8,3 +8,4 @@ pub mod LentLimit
 mod Numbered
 pub mod LentPromised
 mod Drives
+pub mod RunsRefine

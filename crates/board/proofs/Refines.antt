@@ -111,6 +111,12 @@ pub record Turns (s : List ℕ) (M : Memory) (w : ℕ) (a : Answer) : Type 0 whe
   pub record-after : runIn s (a .memory) ≡ turned (runIn s M) w .run
   pub stands : Stands s (a .memory)
 
+-- of a turn that is taken: the record after it stands
+pub record Moves (s : List ℕ) (M : Memory) (w : ℕ) : Type 0 where
+  pub number : turnIn s w M .number ≡ 0
+  pub record-after : runIn s (turnIn s w M .memory) ≡ moved (runIn s M) w
+  pub stands : Stands s (turnIn s w M .memory)
+
 module _ (s : List ℕ) (M : Memory) (h : Stands s M) (w : ℕ) where
   abbrev r : Run
   r = runIn s M
@@ -186,6 +192,20 @@ module _ (s : List ℕ) (M : Memory) (h : Stands s M) (w : ℕ) where
   hindered-so k e =
       let n : eqb (suc k) 0 ≡ false = ne-eqb (suc k) 0 (λ d. omega (arith, d)) in
       rw (e, n, n)
+
+  -- a turn that is taken, as a run takes it
+  pub taken-so : (eqb (movedIn M .turns) (2 ^ 64 - 1) ≡ false) → (ltb w (getD (M .settings) 0 0) ≡ true) → (eqb (getD (M .arrays .status) 0 0) ended ≡ false) → Moves s M w
+  unfolding lentTurn
+  taken-so x y q =
+      let room = eqb-false _ _ x in
+      let b = ltb-true _ _ y in
+      let o = root-open r (eqb-false _ _ q) in
+      let e = left-so room b o x y q in
+      record {
+        number = ap (λ (a : Answer). a .number) e;
+        record-after = ap (λ (a : Answer). runIn s (a .memory)) e ∙ after room b o;
+        stands = left room b o e .stands;
+      }
 
   -- the law of refinement
   pub turn-refines : Turns s M w (lentTurn s w M)
