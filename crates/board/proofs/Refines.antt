@@ -18,22 +18,27 @@ use Rattle.schedule.specs.declared.Reply.the-variants.{Idle, Done, Quota, Wait}
 use Rattle.schedule.specs.declared.Turned.{Turned}
 use Rattle.schedule.specs.declared.Turning.the-variants.{Taken}
 use Rattle.schedule.specs.Machine.{ended, nobody}
-use Rattle.schedule.specs.Links.{seek}
-use Rattle.schedule.specs.Record.{maxBytes, bytesOf, tableIn}
+use Rattle.schedule.specs.Links.{noThread, Sought, seek}
+use Rattle.schedule.specs.Actives.{actives}
+use Rattle.schedule.specs.Record.{maxBytes, bytesOf, tableIn, listIn, stateOf}
 use Rattle.schedule.specs.Sound.{Steady}
-use Rattle.schedule.specs.Turn.{rootEnded, turned}
+use Rattle.schedule.specs.Turn.{rootEnded, passedIn, turned}
 use Rattle.schedule.specs.Runs.{moved}
 use Rattle.schedule.specs.Answers.{turningValues}
 use Rattle.schedule.specs.Values.{turnValues}
 use Rattle.schedule.proofs.Lists.{filled-front}
-use Rattle.schedule.proofs.Stores.{steady-fits, moved-steady}
+use Rattle.schedule.proofs.ActiveMoves.{list-once, list-small}
+use Rattle.schedule.proofs.Actives.{once-actives, below-actives}
+use Rattle.schedule.proofs.Links.{seek-walk, seek-linked}
+use Rattle.schedule.proofs.Searches.{firstReady-actives}
+use Rattle.schedule.proofs.Stores.{steady-lawful, steady-fits, steady-facts, moved-steady}
 use Rattle.schedule.proofs.Values.{turn-values}
 use Rattle.lent.specs.Counted.{Left, turnOn, passedAlong}
 use Rattle.lent.specs.Packed.{packedOf}
 use Rattle.lent.proofs.Reading.{own-table}
 use Rattle.lent.proofs.Packed.{Carries, Goes, turn-goes}
 use Rattle.lent.proofs.Answers.{steady-full, steady-room, refusedAs, turned-unsound, turned-none, turned-over, turned-taken, root-over, root-open, passed-along}
-use Rattle.board.specs.Lent.{Memory, workerIn, movedIn, memoryAfter, turnRow, noRow, Answer, answer, hindrance, turnLeft, turnIn, lentTurn}
+use Rattle.board.specs.Lent.{Memory, workerIn, movedIn, memoryAfter, turnRow, noRow, Answer, answer, hindrance, turnLeft, turnIn, passedOver, lentTurn}
 use Rattle.board.specs.Stands.{workersFrom, workersIn, settled, runIn, Stands, valuesRow}
 
 -- ---- the workers
@@ -111,6 +116,29 @@ pub record Turns (s : List ℕ) (M : Memory) (w : ℕ) (a : Answer) : Type 0 whe
   pub record-after : runIn s (a .memory) ≡ turned (runIn s M) w .run
   pub stands : Stands s (a .memory)
 
+-- the searches along the two lists find the same thread
+searches-agree : (s : List ℕ) (M : Memory) → Stands s M
+    → seek 1024 (M .arrays .status) (M .arrays .over) (movedIn M .totals .first) .thread ≡ seek 1024 (M .arrays .status) (M .arrays .right) (movedIn M .totals .leftmost) .thread
+searches-agree s M h =
+    let r : Run = runIn s M in
+    let once = list-once (tableIn r) (steady-lawful r (h .steady)) (r .workers) (r .quota) (stateOf r) (steady-facts r (h .steady)) in
+    let small = list-small (tableIn r) (steady-lawful r (h .steady)) (r .workers) (r .quota) (stateOf r) (steady-facts r (h .steady)) in
+    ap (λ (x : Sought). x .thread)
+    (seek-linked (M .arrays .under) (M .arrays .over) (movedIn M .totals .first) (actives (M .arrays .status) (listIn r)) (M .arrays .status) (h .second)
+    (once-actives (M .arrays .status) (listIn r) once) (below-actives noThread (M .arrays .status) (listIn r) small))
+    ∙ firstReady-actives (M .arrays .status) (listIn r) ∙ sym (ap (λ (x : Sought). x .thread) (seek-walk 1024 (M .arrays .status) (M .arrays .right) (movedIn M .totals .leftmost)))
+
+-- so that where the first finds none, the second need not be made
+one-search : (holds : Bool) (y : Sought) (t : ℕ) → t ≡ y .thread → pick (ltb t noThread) (passedAlong holds y) 0 ≡ passedAlong holds y
+unfolding passedAlong
+one-search holds y t e = go holds (ltb (y .thread) noThread) refl
+  where
+    go : (b q : Bool) → ltb (y .thread) noThread ≡ q → pick (ltb t noThread) (pick b 0 (pick (ltb (y .thread) noThread) (y .passed) 0)) 0 ≡ pick b 0 (pick (ltb (y .thread) noThread) (y .passed) 0)
+    go true true f = rw (e, f)
+    go true false f = rw (e, f)
+    go false true f = rw (e, f)
+    go false false f = rw (e, f)
+
 -- of a turn that is taken: the record after it stands
 pub record Moves (s : List ℕ) (M : Memory) (w : ℕ) : Type 0 where
   pub number : turnIn s w M .number ≡ 0
@@ -145,7 +173,7 @@ module _ (s : List ℕ) (M : Memory) (h : Stands s M) (w : ℕ) where
     z = turnOn (tableOf s) (getD (M .settings) 1 0) (M .parents) w (M .arrays) (movedIn M) (workerIn M w)
 
     abbrev along : ℕ
-    along = passedAlong (workerIn M w .holds) (seek 1024 (M .arrays .status) (M .arrays .right) (movedIn M .totals .leftmost))
+    along = passedOver M w
 
     goes : Goes (settled s M) (M .arrays) (workersIn M) (movedIn M) w z
     goes =
@@ -161,7 +189,9 @@ module _ (s : List ℕ) (M : Memory) (h : Stands s M) (w : ℕ) where
         → Turns s M w (lentTurn s w M)
     left e =
         let u = steady-room r (h .steady) (h .turns-fit) room in
-        let p = passed-along r w (h .steady) (ap (λ (x : Worker). passedAlong (x .holds) (seek 1024 (M .arrays .status) (M .arrays .right) (movedIn M .totals .leftmost))) (sym (own-worker M w few))) in
+        let p : along ≡ passedIn r w =
+        one-search (workerIn M w .holds) (seek 1024 (M .arrays .status) (M .arrays .right) (movedIn M .totals .leftmost)) _ (searches-agree s M h)
+        ∙ passed-along r w (h .steady) (ap (λ (x : Worker). passedAlong (x .holds) (seek 1024 (M .arrays .status) (M .arrays .right) (movedIn M .totals .leftmost))) (sym (own-worker M w few))) in
         let t : record { answer = Taken (z .reply) along; run = runIn s (memoryAfter M w z) } ≡ turned r w =
         (λ i. record { answer = Taken (sym (goes .reply) i) (p i); run = after i }) ∙ turned-taken r w u b o in
         let v = turn-values r w in

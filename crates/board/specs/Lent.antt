@@ -121,9 +121,14 @@ turnIn s w M =
     let there : Told = turnLeft M w (turnOn (tableOf s) (getD (M .settings) 1 0) (M .parents) w (M .arrays) (movedIn M) (workerIn M w)) in
     pick (eqb number 0) there (told number Idle M)
 
--- how many threads stand left of the one that worker w takes (N7)
+-- how many threads stand left of the one that worker w takes (N7), from whether it holds one and the two lists: where none of the second list is ready, none is taken, and the list is not
+-- searched
+abbrev pub passedFrom : Bool → List ℕ → List ℕ → List ℕ → ℕ → ℕ → ℕ
+passedFrom holds status right over leftmost first =
+    pick (ltb (seek maxThreads status over first .thread) noThread) (passedAlong holds (seek maxThreads status right leftmost)) 0
+
 abbrev pub passedOver : Memory → ℕ → ℕ
-passedOver M w = passedAlong (workerIn M w .holds) (seek maxThreads (M .arrays .status) (M .arrays .right) (movedIn M .totals .leftmost))
+passedOver M w = passedFrom (workerIn M w .holds) (M .arrays .status) (M .arrays .right) (M .arrays .over) (movedIn M .totals .leftmost) (movedIn M .totals .first)
 
 -- the single turn's call
 unfoldable pub lentTurn : List ℕ → ℕ → Memory → Answer

@@ -3,6 +3,8 @@ use lent::Moved;
 use lent::Totals;
 use lent::passed_over;
 use lent::take_turn;
+use links::NO_THREAD;
+use links::seek;
 use schedule::Reply;
 use schedule::Worker;
 use schedule::statuses::ENDED;
@@ -13,11 +15,9 @@ ghost use Prim.Native.Nat.{_<_};
 ghost use lib.Dec.{eqb};
 ghost use lib.ListN.{getD, set};
 ghost use Rattle.schedule.specs.declared.Reply.the-variants.{Idle};
-ghost use Rattle.schedule.specs.Links.{seek as seekOf};
-ghost use Rattle.lent.specs.Counted.{passedAlong};
 ghost use Rattle.table.specs.Sum.{pick};
 ghost use Rattle.lent.specs.Arrays.{arrays};
-ghost use Rattle.board.specs.Lent.{memory, workerFrom, movedFrom, headsOf, totalsOf, turnRow, answer, told, turnIn, lentTurn};
+ghost use Rattle.board.specs.Lent.{memory, workerFrom, movedFrom, passedFrom, headsOf, totalsOf, turnRow, answer, told, turnIn, lentTurn};
 ghost use Rattle.board.specs.Lent.{hindrance as hindranceOf};
 
 // 32 where no turn can be counted, 30, 31; 0 where none applies.
@@ -197,20 +197,29 @@ fn passed_by(
     holds: &[u8; 16],
     status: &[u8; 1024],
     right: &[u16; 1024],
-    leftmost: u16,
+    over: &[u16; 1024],
+    heads: &[u16; 3],
     w: u32,
 ) -> u16
-    ensures { λ r. ⌜ (w < 16 → r ≡ passedAlong (not (eqb (getD (now (holds .entry)) w 0) 0)) (seekOf 1024 (now (status .entry)) (now (right .entry)) leftmost)) ⌝ }
+    ensures { λ r. ⌜ (w < 16 → r ≡ passedFrom (not (eqb (getD (now (holds .entry)) w 0) 0)) (now (status .entry)) (now (right .entry)) (now (over .entry)) (getD (now (heads .entry)) 0 0)
+        (getD (now (heads .entry)) 1 0)) ⌝ }
 {
     if 16 <= w {
         return 0;
     }
+    if holds[w as usize] != 0 {
+        return 0;
+    }
+    let found = seek(status, over, heads[1]);
+    if NO_THREAD <= found.thread {
+        return 0;
+    }
     let worker = Worker {
-        holds: holds[w as usize] != 0,
+        holds: false,
         thread: 0,
         quota: 0,
     };
-    passed_over(worker, status, right, leftmost)
+    passed_over(worker, status, right, heads[0])
 }
 
 // A single turn, with how many threads stood left of one that it took.
@@ -242,7 +251,7 @@ pub extern "C" fn wivakkol_turn_on(
         (now (holds .entry)) (now (threads .entry)) (now (quotas .entry)) (now (heads .entry)) (now (totals .entry))) ⌝ }
 {
     *row = [0; 5];
-    let passed = passed_by(&*holds, &*status, &*right, heads[0], w);
+    let passed = passed_by(&*holds, &*status, &*right, &*over, &*heads, w);
     let spoken = turn_in(
         table,
         w,

@@ -14,9 +14,6 @@ start d =
     (arrays (now (d .args .next)) (now (d .args .status)) (now (d .args .amounts)) (now (d .args .left)) (now (d .args .right)) (now (d .args .under)) (now (d .args .over)))
     (now (d .args .holds)) (now (d .args .threads)) (now (d .args .quotas)) (now (d .args .heads)) (now (d .args .totals))
 
-element-copy-out-passed-by : tie.Need-element-copy-out-passed-by
-element-copy-out-passed-by c = search needs
-
 passed-by-requires : tie.Need-passed-by-requires
 passed-by-requires c κs = search needs
 
@@ -27,7 +24,7 @@ returns : tie.Need-returns
 returns c =
     let t = c .before .before in
     let q = t .before .before .before .before .before .before .before .before .before .before .before .before .before in
-    let d = q .before .before .before .before .before .before .before in
+    let d = q .before .before .before .before .before .before .before .before in
     refuses (now (d .args .table)) (d .args .w) (start d) (t .turn-in .ensures) (c .if1 .taken)
 
 put-reply-requires : tie.Need-put-reply-requires
@@ -38,14 +35,13 @@ returns-2 c =
     let f = c .before .before in
     let t = f .before .before in
     let q = t .before .before .before .before .before .before .before .before .before .before .before .before .before in
-    let d = q .before .before .before .before .before .before .before in
+    let d = q .before .before .before .before .before .before .before .before in
     tells (now (d .args .table)) (d .args .w) (start d) (t .turn-in .ensures) (f .if1 .left) (q .passed-by .ensures) (c .put-reply .ensures)
 
 pub wivakkol-turn-on-spec : {M : Type 1} → statement M
 wivakkol-turn-on-spec =
     tie.close
     (tie.spec
-    element-copy-out-passed-by
     passed-by-requires
     turn-in-requires
     returns
