@@ -1,5 +1,5 @@
-"""Measures the calls from C, through include/wivakkol.h: processor time of wivakkol_begin and of a wivakkol_turn, in a run to its end in rounds, least of many runs. On the four tables of
-bench.py, with 2, 4 and 16 workers.
+"""Measures the calls from C, through include/wivakkol.h: processor time of wivakkol_begin, of a wivakkol_turn in a run to its end in rounds, and of a turn inside wivakkol_rounds, which is
+the whole run's divided by its turns; least of many runs. On the four tables of bench.py, with 2, 4 and 16 workers.
 
 usage: python3 bench/board.py [RUNS]    (from the repository's top, after `rt staticlib board`; default 200 runs each; needs a C compiler, `cc`)
 """
@@ -19,7 +19,7 @@ def main():
     for make in TABLES:
         for p in WORKERS:
             done = subprocess.run([PROGRAM, str(p), str(QUOTA), runs], input=make(), stdout=subprocess.PIPE, check=True)
-            print('%-5s %2d workers: %s turns, begin %s ns, turn %s ns' % (make.__name__, p, *done.stdout.decode().split()), flush=True)
+            print('%-5s %2d workers: %s turns, begin %s ns, turn %s ns, in rounds %s ns' % (make.__name__, p, *done.stdout.decode().split()), flush=True)
 
 
 if __name__ == '__main__':

@@ -34,8 +34,8 @@ static uint64_t number(const char *text, uint64_t most)
 
 int main(int argc, char **argv)
 {
-    uint64_t facts[WIVAKKOL_CHECK_ROW], quota[WIVAKKOL_QUOTA_ROW], begun[WIVAKKOL_BEGIN_ROW], turn[WIVAKKOL_TURN_ROW];
-    uint32_t answer, p, w;
+    uint64_t facts[WIVAKKOL_CHECK_ROW], quota[WIVAKKOL_QUOTA_ROW], begun[WIVAKKOL_BEGIN_ROW], end[WIVAKKOL_RUN_ROW];
+    uint32_t answer, p;
     size_t length;
 
     if (argc != 1 && argc != 4) {
@@ -57,11 +57,10 @@ int main(int argc, char **argv)
 
     if ((answer = wivakkol_begin(&run, table, length, p, (uint32_t)quota[WIVAKKOL_QUOTA], begun)) != 0)
         return refused(answer, begun);
-    /* Where turn[WIVAKKOL_SAID] is WIVAKKOL_SAID_DONE, a board would now do action turn[WIVAKKOL_VALUE]. */
-    for (w = 0; (answer = wivakkol_turn(&run, table, length, w, turn)) == 0; w = (w + 1) % p)
-        ;
-    if (answer != 31) /* the root has ended */
-        return refused(answer, turn);
-    printf("done %" PRIu64 " peak %" PRIu64 "\n", run.totals[WIVAKKOL_TURNS], run.totals[WIVAKKOL_HIGHEST]);
+    /* A board that does the actions takes single turns: where wivakkol_turn says done, its row has the action. */
+    if ((answer = wivakkol_rounds(&run, table, length, UINT32_MAX, end)) != 0)
+        return refused(answer, end);
+    printf("%s %" PRIu64 " peak %" PRIu64 "\n", end[WIVAKKOL_SAID] == WIVAKKOL_SAID_FINISHED ? "done" : "open", end[WIVAKKOL_TAKEN],
+           run.totals[WIVAKKOL_HIGHEST]);
     return 0;
 }

@@ -5,12 +5,12 @@
  * says the same as that source is not proved, but tested (tests/board.py).
  *
  * A call returns a number: 0, or the number of the check that refuses (docs/REFERENCE.md, "Refusals"). Into the row it puts the place of the refusal, 0 where there is none, and then its
- * values, all 0 where it refuses. Every entry of the row is written on every call, whatever was there before.
+ * values, all 0 where it refuses but for the turns taken by a run. Every entry of the row is written on every call, whatever was there before.
  *
  * What C must keep to, as the proofs take it for granted:
- * - `table` points to `length` bytes that may be read, all of them written before. It is never NULL, not even with a length of 0.
+ * - `table` points to `length` bytes that may be read, all of them written before. It is never NULL, not even with a length of 0. `order` likewise points to `turns` bytes.
  * - `row` points to an array of the full size named below, aligned as a uint64_t is. It is never NULL.
- * - The row does not overlap the table, and nobody else writes to the table or touches the row before the call returns.
+ * - The row overlaps neither the table nor the order, and nobody else writes to these two or touches the row before the call returns.
  * - There is stack enough: docs/REFERENCE.md, "From C", has what was measured.
  * Calls at the same time are fine as long as each has a row of its own, and a run of its own where it takes one.
  */
@@ -79,8 +79,8 @@ typedef struct wivakkol_run {
 } wivakkol_run;
 
 /* Besides what is said above, C must keep to this for a run:
- * - Before a turn all of its memory has been written. wivakkol_begin writes all of it, whatever was there, also where it refuses.
- * - It is aligned as a wivakkol_run is, and overlaps neither the table nor the row.
+ * - Before a turn or a run over turns all of its memory has been written. wivakkol_begin writes all of it, whatever was there, also where it refuses.
+ * - It is aligned as a wivakkol_run is, and overlaps neither the table nor the order nor the row.
  * - Every call on it is given the same table, unchanged: the run keeps none of its bytes. With another one a turn still answers as defined, but it is no turn of this run.
  * - There is one call at a time on it, and nobody else touches it before the call returns. */
 
@@ -100,7 +100,15 @@ typedef struct wivakkol_run {
 #define WIVAKKOL_SAID_QUOTA 3 /* an alloc was above the quota left: the worker gave its thread up */
 #define WIVAKKOL_SAID_WAIT 4  /* a join whose child has not ended: the thread waits, and the worker has none */
 
-/* The calls as they are exported, on each array by itself. Below are the two for a wivakkol_run. */
+/* The row of wivakkol_list and of wivakkol_rounds: the place, which is 0; WIVAKKOL_SAID, one of the two below, 0 where it refuses; and */
+#define WIVAKKOL_TAKEN 2 /* the turns that this call took, also where it refuses */
+#define WIVAKKOL_RUN_ROW 3
+
+/* What was said at the end of turns. */
+#define WIVAKKOL_SAID_FINISHED 6 /* the root has ended: the run is over */
+#define WIVAKKOL_SAID_SPENT 7    /* the order or the limit is at its end, and the root has not ended */
+
+/* The calls as they are exported, on each array by itself. Below are the four for a wivakkol_run. */
 uint32_t wivakkol_begin_on(const uint8_t *table, size_t length, uint32_t p, uint32_t quota, uint32_t settings[2], uint16_t parents[1024],
                            uint16_t next[1024], uint8_t status[1024], uint64_t amounts[1024], uint16_t left[1024], uint16_t right[1024],
                            uint16_t under[1024], uint16_t over[1024], uint8_t holds[16], uint16_t threads[16], uint32_t quotas[16],
@@ -109,6 +117,14 @@ uint32_t wivakkol_turn_on(const uint8_t *table, size_t length, uint32_t w, const
                           uint16_t next[1024], uint8_t status[1024], uint64_t amounts[1024], uint16_t left[1024], uint16_t right[1024],
                           uint16_t under[1024], uint16_t over[1024], uint8_t holds[16], uint16_t threads[16], uint32_t quotas[16],
                           uint16_t heads[3], uint64_t totals[3], uint64_t row[WIVAKKOL_TURN_ROW]);
+uint32_t wivakkol_list_on(const uint8_t *table, size_t length, const uint8_t *order, size_t turns, const uint32_t settings[2],
+                          const uint16_t parents[1024], uint16_t next[1024], uint8_t status[1024], uint64_t amounts[1024], uint16_t left[1024],
+                          uint16_t right[1024], uint16_t under[1024], uint16_t over[1024], uint8_t holds[16], uint16_t threads[16],
+                          uint32_t quotas[16], uint16_t heads[3], uint64_t totals[3], uint64_t row[WIVAKKOL_RUN_ROW]);
+uint32_t wivakkol_rounds_on(const uint8_t *table, size_t length, uint32_t limit, const uint32_t settings[2],
+                            const uint16_t parents[1024], uint16_t next[1024], uint8_t status[1024], uint64_t amounts[1024], uint16_t left[1024],
+                            uint16_t right[1024], uint16_t under[1024], uint16_t over[1024], uint8_t holds[16], uint16_t threads[16],
+                            uint32_t quotas[16], uint16_t heads[3], uint64_t totals[3], uint64_t row[WIVAKKOL_RUN_ROW]);
 
 /* Begins a run of p workers with quota K. Returns 0, or the first check that refuses: 1 to 11, the table's own; 20, p is not 1 to 16; 21, K is not 1 to 16,777,215; 22, an alloc is above
  * K. Where it refuses, the memory is all 0, and every turn on it is refused with 30. */
@@ -126,6 +142,23 @@ static inline uint32_t wivakkol_turn(wivakkol_run *run, const uint8_t *table, si
 {
     return wivakkol_turn_on(table, length, w, run->settings, run->parents, run->next, run->status, run->amounts, run->left, run->right,
                             run->under, run->over, run->holds, run->threads, run->quotas, run->heads, run->totals, row);
+}
+
+/* A turn of each worker of `order`, one byte each, up to the root's end: turns with a single row for all. Returns 0 with finished or spent, or the number with which a turn is refused, 30 or
+ * 32; it ends there, and the memory is as after the turns before. Before all else comes 32 where 2^64 - 1 turns are taken, also where the root has ended or the order is empty. */
+static inline uint32_t wivakkol_list(wivakkol_run *run, const uint8_t *table, size_t length, const uint8_t *order, size_t turns,
+                                     uint64_t row[WIVAKKOL_RUN_ROW])
+{
+    return wivakkol_list_on(table, length, order, turns, run->settings, run->parents, run->next, run->status, run->amounts, run->left,
+                            run->right, run->under, run->over, run->holds, run->threads, run->quotas, run->heads, run->totals, row);
+}
+
+/* The same for the workers 0 to p - 1 in rounds, at most `limit` turns. Every call starts with worker 0. Where p is 0, as after a beginning refused, it returns 30, whatever the limit, after
+ * 32 for 2^64 - 1 turns. */
+static inline uint32_t wivakkol_rounds(wivakkol_run *run, const uint8_t *table, size_t length, uint32_t limit, uint64_t row[WIVAKKOL_RUN_ROW])
+{
+    return wivakkol_rounds_on(table, length, limit, run->settings, run->parents, run->next, run->status, run->amounts, run->left,
+                              run->right, run->under, run->over, run->holds, run->threads, run->quotas, run->heads, run->totals, row);
 }
 
 #ifdef __cplusplus

@@ -6,10 +6,12 @@
  *   m AT LENGTH BYTES  these bytes stand in the run's memory
  *   b P K              wivakkol_begin
  *   w W                wivakkol_turn
- * with numbers of 4 bytes; each of the last two is answered by the number (4), the row and the whole of the run's memory. A case is read whole before its first step is done.
+ *   l LENGTH ORDER     wivakkol_list
+ *   r LIMIT            wivakkol_rounds
+ * with numbers of 4 bytes; each of the last four is answered by the number (4), the row and the whole of the run's memory. A case is read whole before its first step is done.
  *
- * A last line has the most stack that each call took, in bytes, from the C function that makes it on. The table ends where the readable memory ends, in pages that may not be written; each
- * row and the run stand between numbers that must stay, and a row holds anything before the call. */
+ * A last line has the most stack that each call took, in bytes, from the C function that makes it on. The table and the order each end where the readable memory ends, in pages that may not
+ * be written; each row and the run stand between numbers that must stay, and a row holds anything before the call. */
 #define _GNU_SOURCE
 #include <inttypes.h>
 #include <stdio.h>
@@ -20,7 +22,7 @@
 
 #include "wivakkol.h"
 
-#define ROOM (1 << 20) /* for a table, and for a case */
+#define ROOM (1 << 20) /* for a table, an order, and a case */
 #define STACK (1 << 18)
 #define PAGE 4096
 #define PAINT 0xa5
@@ -29,13 +31,13 @@
 #define FENCES 64
 #define MOST_ROW WIVAKKOL_CHECK_ROW
 
-static uint8_t *memory, *stack, *steps;
+static uint8_t *memory, *orders, *stack, *steps;
 static size_t touched = STACK; /* of the stack, from its upper end */
 static ucontext_t here, there;
 
 static struct {
-    const uint8_t *table;
-    uint32_t length, p, b, quota, w, number;
+    const uint8_t *table, *order;
+    uint32_t length, turns, p, b, quota, w, limit, number;
     uint64_t memory, row[MOST_ROW + 2];
 } call;
 
@@ -69,6 +71,16 @@ static void begin(void)
 static void turn(void)
 {
     call.number = wivakkol_turn(&lent.run, call.table, call.length, call.w, call.row + 1);
+}
+
+static void list(void)
+{
+    call.number = wivakkol_list(&lent.run, call.table, call.length, call.order, call.turns, call.row + 1);
+}
+
+static void rounds(void)
+{
+    call.number = wivakkol_rounds(&lent.run, call.table, call.length, call.limit, call.row + 1);
 }
 
 /* Makes a call on the painted stack; how much of it was touched. */
@@ -130,22 +142,39 @@ static int got(uint8_t *into, size_t bytes)
     return count == bytes;
 }
 
-/* Where a table of this length is to be put, and its pages closed again after that. */
-static uint8_t *place(uint32_t length)
+/* Opens the room for so many bytes at its end: where they are to be put, before it is closed again. */
+static uint8_t *place(uint8_t *room, uint32_t length)
 {
     if (length > ROOM)
-        fail("a table above the room for it");
-    if (mprotect(memory, ROOM, PROT_READ | PROT_WRITE) != 0)
+        fail("a table or an order above the room for it");
+    if (mprotect(room, ROOM, PROT_READ | PROT_WRITE) != 0)
         fail("no memory");
-    call.length = length;
-    call.table = memory + ROOM - length;
-    return memory + ROOM - length;
+    return room + ROOM - length;
 }
 
-static void close_table(void)
+static void close_room(uint8_t *room)
 {
-    if (mprotect(memory, ROOM, PROT_READ) != 0)
+    if (mprotect(room, ROOM, PROT_READ) != 0)
         fail("no memory");
+}
+
+static uint8_t *place_table(uint32_t length)
+{
+    uint8_t *at = place(memory, length);
+
+    call.table = at;
+    call.length = length;
+    return at;
+}
+
+/* Room behind which nothing may be read. */
+static uint8_t *room(void)
+{
+    uint8_t *made = mmap(NULL, ROOM + PAGE, PROT_READ | PROT_WRITE, MAP_PRIVATE | MAP_ANONYMOUS, -1, 0);
+
+    if (made == MAP_FAILED || mprotect(made + ROOM, PAGE, PROT_NONE) != 0)
+        fail("no memory");
+    return made;
 }
 
 static void print_row(size_t entries)
@@ -163,13 +192,13 @@ static void tables(void)
     size_t most[2] = {0, 0};
 
     while (got(front, sizeof front)) {
-        uint8_t *at = place((uint32_t)little(front, 4));
+        uint8_t *at = place_table((uint32_t)little(front, 4));
         call.p = (uint32_t)little(front + 4, 4);
         call.b = (uint32_t)little(front + 8, 4);
         call.memory = little(front + 12, 8);
         if (call.length != 0 && !got(at, call.length))
             fail("a case is cut off");
-        close_table();
+        close_room(memory);
         make(check, WIVAKKOL_CHECK_ROW, &most[0]);
         print_row(WIVAKKOL_CHECK_ROW);
         printf(" ");
@@ -191,11 +220,12 @@ static void answer(size_t entries)
 static size_t step(const uint8_t *s, size_t *most)
 {
     uint32_t x = (uint32_t)little(s + 1, 4), y;
+    uint8_t *at;
 
     switch (s[0]) {
     case 't':
-        memcpy(place(x), s + 5, x);
-        close_table();
+        memcpy(place_table(x), s + 5, x);
+        close_room(memory);
         return 5 + x;
     case 'm':
         y = (uint32_t)little(s + 5, 4);
@@ -213,6 +243,20 @@ static size_t step(const uint8_t *s, size_t *most)
         call.w = x;
         make(turn, WIVAKKOL_TURN_ROW, &most[1]);
         answer(WIVAKKOL_TURN_ROW);
+        return 5;
+    case 'l':
+        at = place(orders, x);
+        memcpy(at, s + 5, x);
+        close_room(orders);
+        call.order = at;
+        call.turns = x;
+        make(list, WIVAKKOL_RUN_ROW, &most[2]);
+        answer(WIVAKKOL_RUN_ROW);
+        return 5 + x;
+    case 'r':
+        call.limit = x;
+        make(rounds, WIVAKKOL_RUN_ROW, &most[3]);
+        answer(WIVAKKOL_RUN_ROW);
         return 5;
     }
     fail("no such step");
@@ -233,7 +277,7 @@ static void print_layout(void)
 static void runs(void)
 {
     uint8_t front[4];
-    size_t length, at, most[2] = {0, 0};
+    size_t length, at, most[4] = {0, 0, 0, 0};
 
     print_layout();
     while (got(front, sizeof front)) {
@@ -244,17 +288,18 @@ static void runs(void)
             ;
         fflush(stdout);
     }
-    printf("stack %zu %zu\n", most[0], most[1]);
+    printf("stack %zu %zu %zu %zu\n", most[0], most[1], most[2], most[3]);
 }
 
 int main(int argc, char **argv)
 {
     size_t i;
 
-    memory = mmap(NULL, ROOM + PAGE, PROT_READ | PROT_WRITE, MAP_PRIVATE | MAP_ANONYMOUS, -1, 0);
+    memory = room();
+    orders = room();
     stack = malloc(STACK);
     steps = malloc(ROOM);
-    if (memory == MAP_FAILED || stack == NULL || steps == NULL || mprotect(memory + ROOM, PAGE, PROT_NONE) != 0)
+    if (stack == NULL || steps == NULL)
         fail("no memory");
     for (i = 0; i < FENCES; i++)
         lent.below[i] = lent.above[i] = FENCE;

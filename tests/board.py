@@ -24,6 +24,8 @@ import stack
 
 ARCHIVE, OUT = 'target/staticlib/libboard.a', 'target/c'
 NUMBERS = {'wivakkol_check': set(range(12)), 'wivakkol_quota': set(range(12)) | {20, 41, 42}}  # what each call can return
+BYTES = {'table': 'length', 'order': 'turns'}  # the names of their numbers of bytes
+RUN_CALLS = ['begin', 'turn', 'list', 'rounds']  # the calls for a wivakkol_run
 Case = collections.namedtuple('Case', 'data p b memory')
 
 
@@ -41,7 +43,7 @@ def header_for_cpp():
 
 
 def exported():
-    """The exported functions of the source: of each its parameters as (name, C type, array size), where a slice is a pointer and a length."""
+    """The exported functions of the source: of each its parameters as (name, C type, array size), where a slice is a pointer and its number of bytes."""
     calls = {}
     for path in sorted(pathlib.Path('crates/board/src').glob('*.rt')):
         for name, text, result in re.findall(r'pub extern "C" fn (\w+)\(([^)]*)\) -> (\w+)', path.read_text()):
@@ -52,7 +54,7 @@ def exported():
                 const = 'const ' if lent == '&' else ''
                 if lent and size is None:
                     assert kind == '&[u8]', kind
-                    calls[name] += [(variable, const + c_type(inner), '*'), ('length', 'size_t', None)]
+                    calls[name] += [(variable, const + c_type(inner), '*'), (BYTES[variable], 'size_t', None)]
                 else:
                     calls[name].append((variable, const + c_type(inner), int(size) if lent else None))
     return calls
@@ -84,12 +86,16 @@ def header_is_source():
     assert prototypes == source, 'the header and the source differ: %s' % [(name, prototypes.get(name), source.get(name))
                                                                           for name in {*prototypes, *source} if prototypes.get(name) != source.get(name)]
     fields = [declared(field) for field in re.search(r'struct wivakkol_run \{(.*?)\}', text, flags=re.S).group(1).split(';')[:-1]]
-    lent = [[x for x in source[call] if isinstance(x[2], int) and x[0] != 'row'] for call in ('wivakkol_begin_on', 'wivakkol_turn_on')]
-    for arrays in lent:
-        assert sorted(fields) == sorted((name, kind.replace('const ', ''), size) for name, kind, size in arrays), 'the fields of wivakkol_run are not what is lent: %s, %s' % (fields, arrays)
-    for call, arrays in zip(('begin', 'turn'), lent):
-        given = re.search(r'wivakkol_%s_on\(([^;]*->[^;]*)\);' % call, text).group(1)
-        assert re.findall(r'run->(\w+)', given) == [name for name, _, _ in arrays], 'wivakkol_%s hands the fields over in another order' % call
+    names = {name for name, _, _ in fields}
+    for call in RUN_CALLS:
+        result, *parameters = source['wivakkol_%s_on' % call]
+        lent = [(name, kind.replace('const ', ''), size) for name, kind, size in parameters if name in names]
+        assert sorted(fields) == sorted(lent), 'the fields of wivakkol_run are not what is lent to wivakkol_%s_on: %s, %s' % (call, fields, lent)
+        kind, taken, given = re.search(r'static inline (\w+) wivakkol_%s\(wivakkol_run \*run, ([^)]*)\)\s*\{\s*return wivakkol_%s_on\(([^)]*)\);\s*\}' % (call, call), text).groups()
+        assert [('', kind, None), *map(declared, taken.split(','))] == [result] + [x for x in parameters if x[0] not in names], 'wivakkol_%s has other parameters' % call
+        wanted = [('run->' if name in names else '') + name for name, _, _ in parameters]
+        assert given.replace(',', ' ').split() == wanted, 'wivakkol_%s hands its parameters and the fields over in another order' % call
+    assert set(source) == {*NUMBERS, *('wivakkol_%s_on' % call for call in RUN_CALLS)}
     assert set(board_runs.FIELDS) == {(name, int(kind[4:-2]), size) for name, kind, size in fields}
 
 
@@ -186,11 +192,12 @@ def main():
     print('examples/board.c: %d of %d agree' % (len(some), len(some)))
     kinds, most = board_runs.compare(program, random.Random(21), [case.data for case in drawn[:3]], count // 2)
     for kind, counter in kinds.items():
-        print('%s memory: %d runs, %d turns agree (%s)' % (kind, counter['runs'], sum(counter['turn %d' % x] for x in board_runs.TURN_NUMBERS),
-                                                           ', '.join('%s: %d' % pair for pair in sorted(counter.items()) if pair[0] != 'runs')))
+        calls = [sum(counter['%s %d' % (call, x)] for x in numbers) for call, numbers in board_runs.NUMBERS.items()]
+        told = ', '.join('%s: %d' % pair for pair in sorted(counter.items()) if pair[0] != 'runs')
+        print('%s memory: %d runs agree, of %d beginnings, %d turns, %d lists and %d rounds (%s)' % (kind, counter['runs'], *calls, told))
     missing = [what for what in board_runs.WANTED if not any(counter[what] for counter in kinds.values())]
     assert not missing or count < 1000, 'no run reached %s' % ', '.join(missing)
-    print('most stack of check, quota, begin and turn, in bytes: %s' % ' '.join([*last.split()[1:], *map(str, most)]))
+    print('most stack of check, quota, begin, turn, list and rounds, in bytes: %s' % ' '.join([*last.split()[1:], *map(str, most)]))
 
 
 if __name__ == '__main__':

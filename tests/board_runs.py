@@ -12,6 +12,7 @@ from reference import Table
 from tables import damaged
 
 FAR = [WORKERS, WORKERS + 1, 255, 256, 257, 65536, 2**31, 2**32 - 1]  # workers and numbers of workers out of range; the low bytes of some are in it
+LIST_FAR = [WORKERS, WORKERS + 1, 128, 255]
 BITS = {name: bits for name, bits, _ in FIELDS}
 
 
@@ -49,12 +50,28 @@ class Play:
         number, row = self.answered('turn', *self.run.turn(w))
         if number == 0:
             self.reached[lent.SAID[row[1]]] += 1
-        elif number == 32:
-            self.reached[self.run.misfit if self.memory.totals[lent.TURNS] != machine.LAST_TURN else 'turns'] += 1
+        return number, row
+
+    def list(self, order):
+        self.add(b'l', word(len(order)), order)
+        return self.run_answered('list', *self.run.run_list(order))
+
+    def rounds(self, limit):
+        self.add(b'r', word(limit))
+        return self.run_answered('rounds', *self.run.run_rounds(limit))
+
+    def run_answered(self, call, number, row):
+        self.answered(call, number, row)
+        if number == 0:
+            self.reached['%s %s' % (call, lent.RUN_SAID[row[1]])] += 1
+        self.reached['%s %s' % (call, 'with turns' if row[2] else 'without')] += 1
         return number, row
 
     def answered(self, call, number, row):
         self.reached['%s %d' % (call, number)] += 1
+        if number == 32:
+            last = self.memory.totals[lent.TURNS] == machine.LAST_TURN
+            self.reached[('' if call == 'turn' else call + ' ') + ('turns' if last else self.run.misfit)] += 1
         self.answers.append(word(number) + b''.join(word(x, 8) for x in row) + bytes(self.memory.bytes))
         return number, row
 
@@ -110,6 +127,46 @@ def sound_run(rng, data, p, quota, workers):
         if after_end > 4:
             break
     same_as_machine(play.memory, taking.record())
+    return play
+
+
+def reported(report):
+    """The report of machine.py's runs as number and row."""
+    if report[0] == 'refused':
+        _, turns, number, place = report
+        return number, [place, 0, turns]
+    return 0, [0, {said: code for code, said in lent.RUN_SAID.items()}[report[0]], report[1]]
+
+
+def drawn_calls(rng):
+    """A beginning, and runs over a list and in rounds by turns, now and then when nearly all turns are taken; two of them at most after the root's end."""
+    data, most = run_table(rng)
+    p, front = beginning(rng, most)
+    quota = int.from_bytes(front[1:], 'little')
+    if rng.random() < 0.1:
+        data = damaged(rng, data)
+    play = Play(rng.randbytes(SIZE), data)
+    number, _ = play.begin(p, quota)
+    _, run = machine.begin(data, p, quota)
+    after_end = 0
+    for i in range(rng.randint(2, 6)):
+        after_end += number != 0 or run.status[0] == machine.ENDED
+        if after_end > 2:
+            break
+        if number == 0 and rng.random() < 0.06:
+            run.turns = play.memory.totals[lent.TURNS] = machine.LAST_TURN - rng.choice([0, 1, 2, rng.randint(0, 50)])
+            play.put('totals', lent.TURNS, run.turns)
+        if rng.random() < 0.5:
+            workers = bytes(mostly(rng, w, *LIST_FAR) if rng.random() < 0.1 else w for w in order(rng, p, Table(data).m if number == 0 else 3))
+            report, run = machine.run_list(run, workers)
+            given = play.list(workers)
+        else:
+            limit = rng.choice([0, 1, rng.randint(0, 40), 10000, 2**32 - 1 if i > 1 else 5])
+            report, run = machine.run_rounds(run, limit)
+            given = play.rounds(limit)
+        assert given == reported(report), (given, report)
+        if number == 0:
+            same_as_machine(play.memory, run)
     return play
 
 
@@ -192,8 +249,27 @@ def some_worker(rng, memory):
     return mostly(rng, rng.randrange(max(1, min(p, WORKERS))), *FAR, p % 2**32, rng.randrange(WORKERS))
 
 
+def call(rng, play, w):
+    """A turn of worker w, or a few over a list that starts with it, or in rounds."""
+    manner = rng.random()
+    if manner < 0.6:
+        play.turn(w)
+    elif manner < 0.8:
+        workers = [w, *(some_worker(rng, play.memory) for _ in range(rng.choice([0, 3, 20])))]
+        play.list(bytes(min(w, 255) for w in workers[:rng.choice([0, 1, 99, 99, 99])]))
+    else:
+        play.rounds(rng.choice([0, 1, 2, w % 256 + 1, w % 256 + 1, 40]))
+
+
+def sure_end(rng, play):
+    """Rounds that end however large the limit: at the turns' end, without workers, or at the seventeenth."""
+    name, i, x = rng.choice([('totals', lent.TURNS, machine.LAST_TURN - rng.randint(0, 30)), ('settings', lent.P, 0), ('settings', lent.P, rng.choice(FAR[1:]))])
+    play.put(name, i, x)
+    play.rounds(rng.choice([2**32 - 1, 2**31, 65536]))
+
+
 def damaged_run(rng):
-    """From somewhere in a run, or a table refused: damage and turns by turns; now and then another table, or a new beginning."""
+    """From somewhere in a run, or a table refused: damage and calls by turns; now and then another table, or a new beginning."""
     data, most = run_table(rng)
     play = Play(rng.randbytes(SIZE), data)
     p = rng.choice([1, 2, 3, 4, 16])
@@ -209,9 +285,10 @@ def damaged_run(rng):
         w = some_worker(rng, play.memory)
         for _ in range(rng.choice([1, 1, 1, 2, 4])):
             damage(rng, play, w % WORKERS)
-        play.turn(w)
-        for _ in range(rng.randint(0, 3)):
-            play.turn(some_worker(rng, play.memory))
+        for w in (w, *(some_worker(rng, play.memory) for _ in range(rng.randint(0, 3)))):
+            call(rng, play, w)
+    if rng.random() < 0.2:
+        sure_end(rng, play)
     return play
 
 
@@ -231,7 +308,7 @@ def likely(rng, play):
         for field in (memory.parents, memory.left, memory.right, memory.under, memory.over):
             field[i] = mostly(rng, rng.randrange(threads), NO_THREAD, 65535)
         memory.status[i] = rng.choice([0, 1, 2, 3, 3, 4, 7])
-        memory.next[i] = mostly(rng, rng.randrange(min(65536, len(play.data) // 4 + 1)), 65534, 65535)
+        memory.next[i] = mostly(rng, rng.randrange(min(65536, len(play.data) // 4 + 1)), 65534, 65535, *[65535] * 9)
     for w in range(WORKERS):
         memory.threads[w] = mostly(rng, rng.randrange(min(threads, THREADS)), NO_THREAD, 65535)
         memory.holds[w] = rng.choice([0, 0, 1, 2, 255])
@@ -264,8 +341,8 @@ def random_run(rng):
         play.add(b'm', word(0), word(SIZE), bytes(play.memory.bytes))
     if rng.random() < 0.9:
         play.put('settings', lent.P, rng.choice([1, 16, 16, 200]))
-    for _ in range(rng.randint(1, 30)):
-        play.turn(some_worker(rng, play.memory))
+    for _ in range(rng.randint(1, 20)):
+        call(rng, play, some_worker(rng, play.memory))
     return play
 
 
@@ -297,15 +374,16 @@ class Program:
         sys.exit('\n'.join(lines + (list(lent.differences(expected[front:], given[front:]))[:40] if len(given) == len(expected) else ['the program has stopped'])))
 
     def close(self):
-        """The last line: the most stack of a beginning and of a turn."""
+        """The last line: the most stack of each of the four calls."""
         self.process.stdin.close()
         last = self.process.stdout.read().decode().split()
         assert self.process.wait() == 0 and last[0] == 'stack'
         return list(map(int, last[1:]))
 
 
-BEGIN_NUMBERS, TURN_NUMBERS = [*range(12), 20, 21, 22], [0, 30, 31, 32]
-WANTED = ['begin %d' % x for x in BEGIN_NUMBERS] + ['turn %d' % x for x in TURN_NUMBERS] + [*lent.SAID.values(), 'turns', *MISFITS]
+NUMBERS = {'begin': [*range(12), 20, 21, 22], 'turn': [0, 30, 31, 32], 'list': [0, 30, 32], 'rounds': [0, 30, 32]}  # what each call can return
+WANTED = ['%s %d' % (call, x) for call, numbers in NUMBERS.items() for x in numbers] + [*lent.SAID.values(), 'turns', *MISFITS]
+WANTED += ['%s %s' % (call, what) for call in ('list', 'rounds') for what in (*lent.RUN_SAID.values(), 'with turns', 'without', 'turns', *MISFITS)]
 
 
 def compare(path, rng, whole, count):
@@ -314,6 +392,7 @@ def compare(path, rng, whole, count):
     for kind, plays in (
         ('sound', (sound_run(rng, data, WORKERS, LARGEST, [i % WORKERS for i in range(300)]) for data in whole)),
         ('sound', (drawn_run(rng) for _ in range(count))),
+        ('sound', (drawn_calls(rng) for _ in range(count))),
         ('damaged', (damaged_run(rng) for _ in range(count))),
         ('random', (random_run(rng) for _ in range(count // 2))),
     ):

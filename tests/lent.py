@@ -1,4 +1,4 @@
-"""A run in memory that C lends (include/wivakkol.h): beginning and a turn, written on their own from document 01, on whatever that memory holds.
+"""A run in memory that C lends (include/wivakkol.h): beginning, a turn and runs over turns, written on their own from document 01, on whatever that memory holds.
 
 The memory is a struct wivakkol_run, byte for byte. What document 01 leaves open, as its machine only ever meets sound records, is here: a read
 outside an array or the table gives 0, and a write there does nothing; a search looks at 1,024 threads at most. Where a thread's number is none
@@ -21,6 +21,8 @@ LEFTMOST, FIRST, BUSY = range(3)
 HELD_NOW, HIGHEST, TURNS = range(3)
 IDLE, DONE, QUOTA, WAIT = range(1, 5)
 SAID = {IDLE: 'idle', DONE: 'done', QUOTA: 'quota', WAIT: 'wait'}
+FINISHED, SPENT = 6, 7
+RUN_SAID = {FINISHED: 'finished', SPENT: 'spent'}
 NO_ROW = [0] * 5
 
 
@@ -249,6 +251,32 @@ class Lent:
             self.second.enter(u, t)
         self.second.leave(t)
         self.list.leave(t)
+
+    # ---- runs
+
+    def run_list(self, order):
+        """The number of the refusal, 0 if there is none, and the row: 0, what is said and the turns taken."""
+        return self.over(order)
+
+    def run_rounds(self, limit):
+        memory = self.memory
+        if memory.settings[P] == 0 and memory.totals[TURNS] != LAST_TURN:
+            return 30, [0, 0, 0]
+        return self.over(i % memory.settings[P] for i in range(limit))
+
+    def over(self, workers):
+        """Up to the root's end, a refusal or the end of the workers; asked first is whether any turn can be counted."""
+        memory, count = self.memory, 0
+        if memory.totals[TURNS] == LAST_TURN:
+            return 32, [0, 0, 0]
+        for w in workers:
+            if memory.status[0] == ENDED:
+                break
+            number, _ = self.turn(w)
+            if number != 0:
+                return number, [0, 0, count]
+            count += 1
+        return 0, [0, FINISHED if memory.status[0] == ENDED else SPENT, count]
 
 
 def differences(expected, given):
