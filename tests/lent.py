@@ -168,7 +168,7 @@ class Lent:
             raise Misfit('set')
         passed = 0
         if not held_one:
-            found = self.list.seek_ready(memory.status)
+            found = self.list.seek_ready(memory.status) if self.second.seek_ready(memory.status) else None
             passed = found[1] if found else 0
             self.take_thread(w)
         said = self.act(w) if memory.holds[w] else (IDLE, 0, 0)
