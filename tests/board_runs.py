@@ -387,12 +387,12 @@ WANTED += ['%s %s' % (call, what) for call in ('list', 'rounds') for what in (*l
 
 
 def compare(path, rng, whole, count):
-    """How often each thing was reached, by the kind of case, and the most stack: `whole` are tables to run in rounds of 16 workers, besides `count` runs of each kind."""
+    """How often each thing was reached, by the kind of case, and the most stack: `whole` are tables to run in rounds of 16 workers, besides `count` drawn ones of each kind, or half as many."""
     program, kinds = Program(path), {}
     for kind, plays in (
         ('sound', (sound_run(rng, data, WORKERS, LARGEST, [i % WORKERS for i in range(300)]) for data in whole)),
         ('sound', (drawn_run(rng) for _ in range(count))),
-        ('sound', (drawn_calls(rng) for _ in range(count))),
+        ('sound', (drawn_calls(rng) for _ in range(count // 2))),
         ('damaged', (damaged_run(rng) for _ in range(count))),
         ('random', (random_run(rng) for _ in range(count // 2))),
     ):
