@@ -183,7 +183,7 @@ def main():
     drawn = cases(random.Random(20), max(count, 6))
     program = build('tests/board.c', 'board_test')
     numbers, last = compare(program, drawn)
-    some = drawn[:200]
+    some = [drawn[0]._replace(p=2), *drawn[1:200]]  # with more workers the model's run of the nested table takes long
     compare_example(build('examples/board.c', 'board'), some)
     for name, counter in zip(NUMBERS, numbers):
         assert set(counter) == NUMBERS[name] or count < 1000, '%s: not every number was reached, %s' % (name, sorted(counter))

@@ -154,7 +154,7 @@ def drawn_calls(rng):
         if after_end > 2:
             break
         if number == 0 and rng.random() < 0.06:
-            run.turns = play.memory.totals[lent.TURNS] = machine.LAST_TURN - rng.choice([0, 1, 2, rng.randint(0, 50)])
+            run.turns = machine.LAST_TURN - rng.choice([0, 1, 2, rng.randint(0, 50)])
             play.put('totals', lent.TURNS, run.turns)
         if rng.random() < 0.5:
             workers = bytes(mostly(rng, w, *LIST_FAR) if rng.random() < 0.1 else w for w in order(rng, p, Table(data).m if number == 0 else 3))
@@ -266,6 +266,18 @@ def sure_end(rng, play):
     name, i, x = rng.choice([('totals', lent.TURNS, machine.LAST_TURN - rng.randint(0, 30)), ('settings', lent.P, 0), ('settings', lent.P, rng.choice(FAR[1:]))])
     play.put(name, i, x)
     play.rounds(rng.choice([2**32 - 1, 2**31, 65536]))
+
+
+def idle_run():
+    """More turns in one call than 16 bits count, all of them idle: no thread is in the lists."""
+    play = Play(bytes(SIZE), b'')
+    play.put('settings', lent.P, 3)
+    for head in (lent.LEFTMOST, lent.FIRST):
+        play.put('heads', head, NO_THREAD)
+    assert play.list(bytes(i % 3 for i in range(70000))) == (0, [0, lent.SPENT, 70000])
+    assert play.list(bytes(66000) + b'\3') == (30, [0, 0, 66000])
+    assert play.rounds(70000) == (0, [0, lent.SPENT, 70000])
+    return play
 
 
 def damaged_run(rng):
@@ -387,12 +399,13 @@ WANTED += ['%s %s' % (call, what) for call in ('list', 'rounds') for what in (*l
 
 
 def compare(path, rng, whole, count):
-    """How often each thing was reached, by the kind of case, and the most stack: `whole` are tables to run in rounds of 16 workers, besides `count` runs of each kind."""
+    """How often each thing was reached, by the kind of case, and the most stack: `whole` are tables to run in rounds of 16 workers, besides `count` drawn ones of each kind, or half as many."""
     program, kinds = Program(path), {}
     for kind, plays in (
         ('sound', (sound_run(rng, data, WORKERS, LARGEST, [i % WORKERS for i in range(300)]) for data in whole)),
         ('sound', (drawn_run(rng) for _ in range(count))),
-        ('sound', (drawn_calls(rng) for _ in range(count))),
+        ('sound', (drawn_calls(rng) for _ in range(count // 2))),
+        ('damaged', [idle_run()]),
         ('damaged', (damaged_run(rng) for _ in range(count))),
         ('random', (random_run(rng) for _ in range(count // 2))),
     ):
