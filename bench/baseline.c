@@ -162,17 +162,24 @@ static size_t nested_levels(const uint8_t *table, size_t n, size_t m) {
     return deepest;
 }
 
-static Loaded load(const uint8_t *table, size_t length) {
-    Loaded answer = { head(table, length), 0, 0, 0, 0, 0 };
-    if (answer.refusal.number) return answer;
+// The checks, and what check 10 adds up of each thread.
+static Refusal check(const uint8_t *table, size_t length, uint64_t *rises, uint64_t *falls) {
+    Refusal refusal = head(table, length);
+    if (refusal.number) return refusal;
     size_t n = word(table, 0), m = word(table, 2);
+    refusal = contents(table, n, m);
+    if (!refusal.number) refusal = first_pass(table, n, m);
+    if (!refusal.number) refusal = nesting(table, n, m);
+    if (!refusal.number) refusal = balances(table, n, m, rises, falls);
+    return refusal;
+}
+
+static Loaded load(const uint8_t *table, size_t length) {
     uint64_t rises[THREADS], falls[THREADS];
     uint16_t ends[THREADS];
-    answer.refusal = contents(table, n, m);
-    if (!answer.refusal.number) answer.refusal = first_pass(table, n, m);
-    if (!answer.refusal.number) answer.refusal = nesting(table, n, m);
-    if (!answer.refusal.number) answer.refusal = balances(table, n, m, rises, falls);
+    Loaded answer = { check(table, length, rises, falls), 0, 0, 0, 0, 0 };
     if (answer.refusal.number) return answer;
+    size_t n = word(table, 0), m = word(table, 2);
     answer.threads = (uint16_t)n;
     answer.actions = (uint16_t)m;
     answer.peak = serial_peak(table, n, rises, falls);
@@ -411,8 +418,8 @@ static bool status_follows(const Run *run, size_t t, const uint16_t *forks, cons
     return run->next[t] == end_of(run->table, t);
 }
 
-static bool done_sound(const Run *run, size_t n) {
-    uint16_t forks[THREADS], parents[THREADS];
+static bool done_sound(const Run *run, size_t n, uint16_t *parents) {
+    uint16_t forks[THREADS];
     for (size_t t = 0; t < n; t++)
         if (run->next[t] < first_of(run->table, t) || end_of(run->table, t) < run->next[t]) return false;
     fill_forks(run->table, n, forks, parents);
@@ -544,13 +551,14 @@ static bool rest_sound(const Run *run) {
     return true;
 }
 
-static bool sound(const Run *run) {
+// Also each thread's parent, which the turns after the test look up.
+static bool sound(const Run *run, uint16_t *parents) {
+    uint64_t rises[THREADS], falls[THREADS];
     if (!rest_sound(run)) return false;
-    Loaded loaded = load(run->table, run->length);
-    if (loaded.refusal.number) return false;
-    size_t n = loaded.threads, m = loaded.actions;
+    if (check(run->table, run->length, rises, falls).number) return false;
+    size_t n = word(run->table, 0), m = word(run->table, 2);
     if (begin_fault(run->table, n, m, run->workers, run->quota).number) return false;
-    if (!done_sound(run, n) || !list_right(run, n) || !waits_at_joins(run, n)) return false;
+    if (!done_sound(run, n, parents) || !list_right(run, n) || !waits_at_joins(run, n)) return false;
     if (!workers_right(run, n) || !held_right(run, n) || !amounts_right(run, n) || run->highest < run->held) return false;
     for (size_t t = n; t < THREADS; t++)
         if (run->status[t] != UNBORN || run->next[t] != 0) return false;
@@ -577,12 +585,6 @@ static Reply release(Worker *worker, What what, uint32_t value) {
 
 // What a run keeps beside its record.
 typedef struct { uint16_t parents[THREADS]; List active; } Beside;
-
-static void fill_beside(Beside *beside, const Run *run, size_t n) {
-    uint16_t forks[THREADS];
-    fill_forks(run->table, n, forks, beside->parents);
-    fill_active(&beside->active, &run->list, run->status);
-}
 
 static Reply act(Run *run, size_t n, Beside *beside, Worker *worker) {
     uint16_t t = worker->thread, a = run->next[t];
@@ -671,16 +673,15 @@ static void print_turn(const Run *run, size_t n, uint64_t turn, size_t w, Reply 
 }
 
 // At most `limit` turns: of the order, or in rounds where there is none.
-static Report drive(Run *run, const uint8_t *order, size_t limit, bool print) {
-    Beside beside;
+static Report drive(Run *run, Beside *beside, const uint8_t *order, size_t limit, bool print) {
     size_t n = word(run->table, 0), p = run->workers, last = count_of(run->table, 0) - 1;
     if (run->status[0] == ENDED) return (Report){ 0, true, 0 };
-    fill_beside(&beside, run, n);
+    fill_active(&beside->active, &run->list, run->status);
     for (size_t i = 0; i < limit; i++) {
         size_t w = order ? order[i] : i % p;
         if (run->turns == UINT64_MAX) return (Report){ 32, false, i };
         if (p <= w) return (Report){ 30, false, i };
-        Reply reply = step(run, n, &beside, w);
+        Reply reply = step(run, n, beside, w);
         if (print) print_turn(run, n, i + 1, w, reply);
         if (reply.what == DONE && reply.value == last) return (Report){ 0, true, i + 1 };
     }
@@ -688,15 +689,17 @@ static Report drive(Run *run, const uint8_t *order, size_t limit, bool print) {
 }
 
 static Report run_list(Run *run, const uint8_t *order, size_t length, bool print) {
+    Beside beside;
     if (is_blank(run)) return (Report){ length ? 30 : 0, false, 0 };
-    if (!sound(run)) return (Report){ 32, false, 0 };
-    return drive(run, order, length, print);
+    if (!sound(run, beside.parents)) return (Report){ 32, false, 0 };
+    return drive(run, &beside, order, length, print);
 }
 
 static Report run_rounds(Run *run, uint32_t limit) {
+    Beside beside;
     if (is_blank(run)) return (Report){ 30, false, 0 };
-    if (!sound(run)) return (Report){ 32, false, 0 };
-    return drive(run, NULL, limit, false);
+    if (!sound(run, beside.parents)) return (Report){ 32, false, 0 };
+    return drive(run, &beside, NULL, limit, false);
 }
 
 typedef struct { uint8_t number; Reply reply; uint16_t passed; } Turned;
@@ -704,12 +707,12 @@ typedef struct { uint8_t number; Reply reply; uint16_t passed; } Turned;
 static Turned turn(Run *run, uint8_t w) {
     Beside beside;
     Turned turned = { 0, { IDLE, 0, 0 }, 0 };
-    if (!is_blank(run) && !sound(run)) turned.number = 32;
+    if (!is_blank(run) && !sound(run, beside.parents)) turned.number = 32;
     else if (run->workers <= w) turned.number = 30;
     else if (run->status[0] == ENDED) turned.number = 31;
     else {
         size_t n = word(run->table, 0);
-        fill_beside(&beside, run, n);
+        fill_active(&beside.active, &run->list, run->status);
         if (!run->worker[w].holds) turned.passed = (uint16_t)passed_over(&run->list, run->status);
         turned.reply = step(run, n, &beside, w);
     }

@@ -1,5 +1,6 @@
-/* Reads a table on standard input and prints its facts, and with the arguments p, b and M the largest quota for a board with M units of memory; or the check that refuses.
- * README.md ("From C") has how to build it. */
+/* Reads a table on standard input and prints its facts; with the arguments p, b and M also the largest quota for a board with M units of memory, and a run with that quota to its end,
+ * p workers in rounds: its turns and the most memory held. Or the check that refuses. README.md ("From C") has how to build it. */
+#include <errno.h>
 #include <inttypes.h>
 #include <stdio.h>
 #include <stdlib.h>
@@ -8,6 +9,7 @@
 
 /* One byte more than the longest table, so that a longer input is refused for its length. */
 static uint8_t table[WIVAKKOL_TABLE_MOST + 1];
+static wivakkol_run run;
 
 static int refused(uint32_t number, const uint64_t *row)
 {
@@ -18,24 +20,22 @@ static int refused(uint32_t number, const uint64_t *row)
 /* A decimal number up to `most`; ends the program where the argument is none. */
 static uint64_t number(const char *text, uint64_t most)
 {
-    uint64_t x = 0;
-    const char *at = text;
+    unsigned long long x;
+    char *end;
 
-    do {
-        uint64_t digit = (uint64_t)(*at - '0');
-        if (*at < '0' || '9' < *at || (most - digit) / 10 < x) {
-            fprintf(stderr, "board: not a number up to %" PRIu64 ": %s\n", most, text);
-            exit(2);
-        }
-        x = 10 * x + digit;
-    } while (*++at != '\0');
+    errno = 0;
+    x = strtoull(text, &end, 10);
+    if (*text < '0' || '9' < *text || *end != '\0' || errno != 0 || most < x) {
+        fprintf(stderr, "board: not a number up to %" PRIu64 ": %s\n", most, text);
+        exit(2);
+    }
     return x;
 }
 
 int main(int argc, char **argv)
 {
-    uint64_t facts[WIVAKKOL_CHECK_ROW], quota[WIVAKKOL_QUOTA_ROW];
-    uint32_t answer;
+    uint64_t facts[WIVAKKOL_CHECK_ROW], quota[WIVAKKOL_QUOTA_ROW], begun[WIVAKKOL_BEGIN_ROW], end[WIVAKKOL_RUN_ROW];
+    uint32_t answer, p;
     size_t length;
 
     if (argc != 1 && argc != 4) {
@@ -43,17 +43,24 @@ int main(int argc, char **argv)
         return 2;
     }
     length = fread(table, 1, sizeof table, stdin);
-    answer = wivakkol_check(table, length, facts);
-    if (answer != 0)
+    if ((answer = wivakkol_check(table, length, facts)) != 0)
         return refused(answer, facts);
     printf("table %" PRIu64 " %" PRIu64 " serial %" PRIu64 " depth %" PRIu64 " nested %" PRIu64 "\n", facts[WIVAKKOL_THREADS],
            facts[WIVAKKOL_ACTIONS], facts[WIVAKKOL_PEAK], facts[WIVAKKOL_DEPTH], facts[WIVAKKOL_NESTED]);
     if (argc == 1)
         return 0;
-    answer = wivakkol_quota(table, length, (uint32_t)number(argv[1], UINT32_MAX), (uint32_t)number(argv[2], UINT32_MAX),
-                            number(argv[3], UINT64_MAX), quota);
+    p = (uint32_t)number(argv[1], UINT32_MAX);
+    answer = wivakkol_quota(table, length, p, (uint32_t)number(argv[2], UINT32_MAX), number(argv[3], UINT64_MAX), quota);
     if (answer != 0)
         return refused(answer, quota);
     printf("quota %" PRIu64 "\n", quota[WIVAKKOL_QUOTA]);
+
+    if ((answer = wivakkol_begin(&run, table, length, p, (uint32_t)quota[WIVAKKOL_QUOTA], begun)) != 0)
+        return refused(answer, begun);
+    /* A board that does the actions takes single turns: where wivakkol_turn says done, its row has the action. */
+    if ((answer = wivakkol_rounds(&run, table, length, UINT32_MAX, end)) != 0)
+        return refused(answer, end);
+    printf("%s %" PRIu64 " peak %" PRIu64 "\n", end[WIVAKKOL_SAID] == WIVAKKOL_SAID_FINISHED ? "done" : "open", end[WIVAKKOL_TAKEN],
+           run.totals[WIVAKKOL_HIGHEST]);
     return 0;
 }

@@ -1,18 +1,18 @@
 /* Wivakkol, called from C: the archive libboard.a (`rt staticlib board`), for x86-64.
  *
- * Every call answers every input: no table and no number is outside what it takes, and nothing is to be tested before it. It allocates nothing, keeps nothing from one call to the next
- * and writes to no memory but the row it is lent. Each answer is proved equal to its definition (crates/board/src/lib.rt has the promises); that this header says the same as that
- * source is not proved, but tested (tests/board.py).
+ * Every call answers every input: no table, no number and no content of a run's memory is outside what it takes, and nothing is to be tested before it. It allocates nothing, keeps
+ * nothing from one call to the next and writes to no memory but what it is lent. Each answer is proved equal to its definition (crates/board/src/ has the promises); that this header
+ * says the same as that source is not proved, but tested (tests/board.py).
  *
  * A call returns a number: 0, or the number of the check that refuses (docs/REFERENCE.md, "Refusals"). Into the row it puts the place of the refusal, 0 where there is none, and then its
- * values, all 0 where it refuses. Every entry of the row is written on every call, whatever was there before.
+ * values, all 0 where it refuses but for the turns taken by a run. Every entry of the row is written on every call, whatever was there before.
  *
  * What C must keep to, as the proofs take it for granted:
- * - `table` points to `length` bytes that may be read, all of them written before. It is never NULL, not even with a length of 0.
+ * - `table` points to `length` bytes that may be read, all of them written before. It is never NULL, not even with a length of 0. `order` likewise points to `turns` bytes.
  * - `row` points to an array of the full size named below, aligned as a uint64_t is. It is never NULL.
- * - The row does not overlap the table, and nobody else writes to the table or touches the row before the call returns.
+ * - The row overlaps neither the table nor the order, and nobody else writes to these two or touches the row before the call returns.
  * - There is stack enough: docs/REFERENCE.md, "From C", has what was measured.
- * Calls at the same time are fine as long as each has a row of its own; one call at a time is enough for everything here.
+ * Calls at the same time are fine as long as each has a row of its own, and a run of its own where it takes one.
  */
 #ifndef WIVAKKOL_H
 #define WIVAKKOL_H
@@ -49,6 +49,117 @@ uint32_t wivakkol_check(const uint8_t *table, size_t length, uint64_t row[WIVAKK
  * largest alloc (1 if it has none) up to 16,777,215, for which S1 + b*K*(p - 1)*(D - 1) is at most `memory`. Returns 0, or the first check that refuses: 1 to 11, the table's own; 20, p is
  * not 1 to 16; 41, b is not 1 to 65,535; 42, no such K. It checks the table itself: wivakkol_check need not come before it. */
 uint32_t wivakkol_quota(const uint8_t *table, size_t length, uint32_t p, uint32_t b, uint64_t memory, uint64_t row[WIVAKKOL_QUOTA_ROW]);
+
+/* ---- A run */
+
+#define WIVAKKOL_MOST_THREADS 1024
+#define WIVAKKOL_MOST_WORKERS 16
+
+/* Places in `totals`: memory held, its highest so far, turns taken. */
+#define WIVAKKOL_HELD 0
+#define WIVAKKOL_HIGHEST 1
+#define WIVAKKOL_TURNS 2
+
+/* The memory of a run, which C lends. C may read it between two calls, and has no need to write to it. "No thread" is 1,024. */
+typedef struct wivakkol_run {
+    uint64_t amounts[WIVAKKOL_MOST_THREADS]; /* of each thread, the memory that it holds */
+    uint64_t totals[3];
+    uint32_t settings[2];                    /* p, K */
+    uint32_t quotas[WIVAKKOL_MOST_WORKERS];  /* of each worker, its quota left */
+    uint16_t parents[WIVAKKOL_MOST_THREADS]; /* of each thread, the one that forks it */
+    uint16_t next[WIVAKKOL_MOST_THREADS];    /* its next action */
+    uint16_t left[WIVAKKOL_MOST_THREADS];    /* its neighbours in the list of threads */
+    uint16_t right[WIVAKKOL_MOST_THREADS];
+    uint16_t under[WIVAKKOL_MOST_THREADS];   /* its neighbours in the second list, of the threads that do not wait */
+    uint16_t over[WIVAKKOL_MOST_THREADS];
+    uint16_t threads[WIVAKKOL_MOST_WORKERS]; /* of each worker, the thread that it holds */
+    uint16_t heads[3];                       /* the leftmost thread of the list and of the second list; the workers that hold one, a bit for each */
+    uint8_t status[WIVAKKOL_MOST_THREADS];   /* 0 unborn, 1 ready, 2 held, 3 waiting, 4 ended */
+    uint8_t holds[WIVAKKOL_MOST_WORKERS];    /* of each worker, whether it holds a thread: 0 if not */
+} wivakkol_run;
+
+/* Besides what is said above, C must keep to this for a run:
+ * - Before a turn or a run over turns all of its memory has been written. wivakkol_begin writes all of it, whatever was there, also where it refuses.
+ * - It is aligned as a wivakkol_run is, and overlaps neither the table nor the order nor the row.
+ * - Every call on it is given the same table, unchanged: the run keeps none of its bytes. With another one a turn still answers as defined, but it is no turn of this run.
+ * - There is one call at a time on it, and nobody else touches it before the call returns. */
+
+/* The row of wivakkol_begin has the place alone. */
+#define WIVAKKOL_BEGIN_ROW 1
+
+/* The row of wivakkol_turn. */
+#define WIVAKKOL_SAID 1   /* one of the four below; 0 where the turn is refused */
+#define WIVAKKOL_THREAD 2 /* the thread that it was about */
+#define WIVAKKOL_VALUE 3  /* done: the action; quota: the amount wanted; wait: the child */
+#define WIVAKKOL_PASSED 4 /* how many threads stood left of one that was taken; 0 if none was */
+#define WIVAKKOL_TURN_ROW 5
+
+/* What a turn said. */
+#define WIVAKKOL_SAID_IDLE 1  /* no thread was ready; thread and value are 0 */
+#define WIVAKKOL_SAID_DONE 2  /* the action was done */
+#define WIVAKKOL_SAID_QUOTA 3 /* an alloc was above the quota left: the worker gave its thread up */
+#define WIVAKKOL_SAID_WAIT 4  /* a join whose child has not ended: the thread waits, and the worker has none */
+
+/* The row of wivakkol_list and of wivakkol_rounds: the place, which is 0; WIVAKKOL_SAID, one of the two below, 0 where it refuses; and */
+#define WIVAKKOL_TAKEN 2 /* the turns that this call took, also where it refuses */
+#define WIVAKKOL_RUN_ROW 3
+
+/* What was said at the end of turns. */
+#define WIVAKKOL_SAID_FINISHED 6 /* the root has ended: the run is over */
+#define WIVAKKOL_SAID_SPENT 7    /* the order or the limit is at its end, and the root has not ended */
+
+/* The calls as they are exported, on each array by itself. Below are the four for a wivakkol_run. */
+uint32_t wivakkol_begin_on(const uint8_t *table, size_t length, uint32_t p, uint32_t quota, uint32_t settings[2], uint16_t parents[1024],
+                           uint16_t next[1024], uint8_t status[1024], uint64_t amounts[1024], uint16_t left[1024], uint16_t right[1024],
+                           uint16_t under[1024], uint16_t over[1024], uint8_t holds[16], uint16_t threads[16], uint32_t quotas[16],
+                           uint16_t heads[3], uint64_t totals[3], uint64_t row[WIVAKKOL_BEGIN_ROW]);
+uint32_t wivakkol_turn_on(const uint8_t *table, size_t length, uint32_t w, const uint32_t settings[2], const uint16_t parents[1024],
+                          uint16_t next[1024], uint8_t status[1024], uint64_t amounts[1024], uint16_t left[1024], uint16_t right[1024],
+                          uint16_t under[1024], uint16_t over[1024], uint8_t holds[16], uint16_t threads[16], uint32_t quotas[16],
+                          uint16_t heads[3], uint64_t totals[3], uint64_t row[WIVAKKOL_TURN_ROW]);
+uint32_t wivakkol_list_on(const uint8_t *table, size_t length, const uint8_t *order, size_t turns, const uint32_t settings[2],
+                          const uint16_t parents[1024], uint16_t next[1024], uint8_t status[1024], uint64_t amounts[1024], uint16_t left[1024],
+                          uint16_t right[1024], uint16_t under[1024], uint16_t over[1024], uint8_t holds[16], uint16_t threads[16],
+                          uint32_t quotas[16], uint16_t heads[3], uint64_t totals[3], uint64_t row[WIVAKKOL_RUN_ROW]);
+uint32_t wivakkol_rounds_on(const uint8_t *table, size_t length, uint32_t limit, const uint32_t settings[2],
+                            const uint16_t parents[1024], uint16_t next[1024], uint8_t status[1024], uint64_t amounts[1024], uint16_t left[1024],
+                            uint16_t right[1024], uint16_t under[1024], uint16_t over[1024], uint8_t holds[16], uint16_t threads[16],
+                            uint32_t quotas[16], uint16_t heads[3], uint64_t totals[3], uint64_t row[WIVAKKOL_RUN_ROW]);
+
+/* Begins a run of p workers with quota K. Returns 0, or the first check that refuses: 1 to 11, the table's own; 20, p is not 1 to 16; 21, K is not 1 to 16,777,215; 22, an alloc is above
+ * K. Where it refuses, the memory is all 0, and every turn on it is refused with 30. */
+static inline uint32_t wivakkol_begin(wivakkol_run *run, const uint8_t *table, size_t length, uint32_t p, uint32_t quota,
+                                      uint64_t row[WIVAKKOL_BEGIN_ROW])
+{
+    return wivakkol_begin_on(table, length, p, quota, run->settings, run->parents, run->next, run->status, run->amounts, run->left,
+                             run->right, run->under, run->over, run->holds, run->threads, run->quotas, run->heads, run->totals, row);
+}
+
+/* A turn of worker w. Returns 0, or the first of these that applies: 32, 2^64 - 1 turns are taken; 30, w is not below p; 31, the root has ended: the run is over; 32, a thread's number is
+ * none of the arrays', w is none of the sixteen workers, or a number that the turn would write does not fit into its place; of a worker without a thread the bit in `heads` must fit even if
+ * it takes none. The last is met on damaged memory alone, never on what wivakkol_begin and turns have left. Where a turn is refused, no byte of the run changes. */
+static inline uint32_t wivakkol_turn(wivakkol_run *run, const uint8_t *table, size_t length, uint32_t w, uint64_t row[WIVAKKOL_TURN_ROW])
+{
+    return wivakkol_turn_on(table, length, w, run->settings, run->parents, run->next, run->status, run->amounts, run->left, run->right,
+                            run->under, run->over, run->holds, run->threads, run->quotas, run->heads, run->totals, row);
+}
+
+/* A turn of each worker of `order`, one byte each, up to the root's end: turns with a single row for all. Returns 0 with finished or spent, or the number with which a turn is refused, 30 or
+ * 32; it ends there, and the memory is as after the turns before. Before all else comes 32 where 2^64 - 1 turns are taken, also where the root has ended or the order is empty. */
+static inline uint32_t wivakkol_list(wivakkol_run *run, const uint8_t *table, size_t length, const uint8_t *order, size_t turns,
+                                     uint64_t row[WIVAKKOL_RUN_ROW])
+{
+    return wivakkol_list_on(table, length, order, turns, run->settings, run->parents, run->next, run->status, run->amounts, run->left,
+                            run->right, run->under, run->over, run->holds, run->threads, run->quotas, run->heads, run->totals, row);
+}
+
+/* The same for the workers 0 to p - 1 in rounds, at most `limit` turns. Every call starts with worker 0. Where p is 0, as after a beginning refused, it returns 30, whatever the limit, after
+ * 32 for 2^64 - 1 turns. */
+static inline uint32_t wivakkol_rounds(wivakkol_run *run, const uint8_t *table, size_t length, uint32_t limit, uint64_t row[WIVAKKOL_RUN_ROW])
+{
+    return wivakkol_rounds_on(table, length, limit, run->settings, run->parents, run->next, run->status, run->amounts, run->left,
+                              run->right, run->under, run->over, run->holds, run->threads, run->quotas, run->heads, run->totals, row);
+}
 
 #ifdef __cplusplus
 }

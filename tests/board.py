@@ -1,15 +1,19 @@
-"""Builds tests/board.c and examples/board.c on the archive for C, calls it on random and damaged tables, and compares with reference.py and quota.py, which were written on their own.
+"""Builds tests/board.c and examples/board.c on the archive for C, calls it on random and damaged tables and runs, and compares with reference.py, quota.py, machine.py and lent.py, which
+were written on their own. Holds the header against the source, since nothing else would say where they differ.
 
-usage: python3 tests/board.py [COUNT]    (from the repository's top, after `rt staticlib board`; COUNT tables, default 3,000; needs a C compiler, `cc`)
+usage: python3 tests/board.py [COUNT]    (from the repository's top, after `rt staticlib board`; COUNT tables and half as many runs of each kind, default 3,000; needs a C compiler, `cc`)
 """
 import collections
 import os
 import pathlib
 import random
 import re
+import shutil
 import subprocess
 import sys
 
+import board_runs
+import machine
 import quota
 from differential import LARGEST, mostly, run_table, tablecheck_input
 from reference import check, facts_line
@@ -20,6 +24,8 @@ import stack
 
 ARCHIVE, OUT = 'target/staticlib/libboard.a', 'target/c'
 NUMBERS = {'wivakkol_check': set(range(12)), 'wivakkol_quota': set(range(12)) | {20, 41, 42}}  # what each call can return
+BYTES = {'table': 'length', 'order': 'turns'}  # the names of their numbers of bytes
+RUN_CALLS = ['begin', 'turn', 'list', 'rounds']  # the calls for a wivakkol_run
 Case = collections.namedtuple('Case', 'data p b memory')
 
 
@@ -30,13 +36,67 @@ def build(source, name):
     return '%s/%s' % (OUT, name)
 
 
-def row_sizes():
-    """The sizes of the rows in the header are those of the source: nothing else would say so where a row is too small."""
-    source, header = open('crates/board/src/lib.rt').read(), open('include/wivakkol.h').read()
-    for call in ('check', 'quota'):
-        lent = re.search(r'fn wivakkol_%s\([^)]*row: &mut \[u64; (\d+)\]' % call, source).group(1)
-        named = re.search(r'#define WIVAKKOL_%s_ROW (\d+)' % call.upper(), header).group(1)
-        assert lent == named, 'the row of wivakkol_%s has %s numbers in the source and %s in the header' % (call, lent, named)
+def header_for_cpp():
+    """The header is C++ as well, where there is a compiler to ask."""
+    if shutil.which('c++'):
+        subprocess.run(['c++', '-x', 'c++', '-Wall', '-Wextra', '-Werror', '-pedantic', '-fsyntax-only', 'include/wivakkol.h'], check=True)
+
+
+def exported():
+    """The exported functions of the source: of each its parameters as (name, C type, array size), where a slice is a pointer and its number of bytes."""
+    calls = {}
+    for path in sorted(pathlib.Path('crates/board/src').glob('*.rt')):
+        for name, text, result in re.findall(r'pub extern "C" fn (\w+)\(([^)]*)\) -> (\w+)', path.read_text()):
+            calls[name] = [('', c_type(result), None)]
+            for parameter in filter(None, map(str.strip, text.split(','))):
+                variable, kind = parameter.split(': ')
+                lent, inner, size = re.fullmatch(r'(&mut |&)?\[?(\w+)(?:; (\d+))?\]?', kind).groups()
+                const = 'const ' if lent == '&' else ''
+                if lent and size is None:
+                    assert kind == '&[u8]', kind
+                    calls[name] += [(variable, const + c_type(inner), '*'), (BYTES[variable], 'size_t', None)]
+                else:
+                    calls[name].append((variable, const + c_type(inner), int(size) if lent else None))
+    return calls
+
+
+def c_type(rattle):
+    return 'uint%s_t' % re.fullmatch(r'u(8|16|32|64)', rattle).group(1)
+
+
+def header():
+    """The header without its comments, names for numbers put in."""
+    text = re.sub(r'/\*.*?\*/', '', open('include/wivakkol.h').read(), flags=re.S)
+    for name, value in re.findall(r'#define (\w+) (\d+)\n', text + '\n'):
+        text = re.sub(r'\b%s\b' % name, value, text)
+    return text
+
+
+def declared(text):
+    """A parameter or field of the header as (name, type, array size)."""
+    kind, star, name, size = re.fullmatch(r'((?:const )?\w+) (\*?)(\w+)(?:\[(\d+)\])?', ' '.join(text.split())).groups()
+    return name, kind, '*' if star else int(size) if size else None
+
+
+def header_is_source():
+    """Names, order, types, const and sizes of the exported calls and of the struct's fields are those of the source."""
+    source, text = exported(), header()
+    prototypes = {name: [('', result, None)] + list(map(declared, parameters.split(',')))
+                  for result, name, parameters in re.findall(r'^(\w+) (\w+)\(([^)]*)\);', text, flags=re.M)}
+    assert prototypes == source, 'the header and the source differ: %s' % [(name, prototypes.get(name), source.get(name))
+                                                                          for name in {*prototypes, *source} if prototypes.get(name) != source.get(name)]
+    fields = [declared(field) for field in re.search(r'struct wivakkol_run \{(.*?)\}', text, flags=re.S).group(1).split(';')[:-1]]
+    names = {name for name, _, _ in fields}
+    for call in RUN_CALLS:
+        result, *parameters = source['wivakkol_%s_on' % call]
+        lent = [(name, kind.replace('const ', ''), size) for name, kind, size in parameters if name in names]
+        assert sorted(fields) == sorted(lent), 'the fields of wivakkol_run are not what is lent to wivakkol_%s_on: %s, %s' % (call, fields, lent)
+        kind, taken, given = re.search(r'static inline (\w+) wivakkol_%s\(wivakkol_run \*run, ([^)]*)\)\s*\{\s*return wivakkol_%s_on\(([^)]*)\);\s*\}' % (call, call), text).groups()
+        assert [('', kind, None), *map(declared, taken.split(','))] == [result] + [x for x in parameters if x[0] not in names], 'wivakkol_%s has other parameters' % call
+        wanted = [('run->' if name in names else '') + name for name, _, _ in parameters]
+        assert given.replace(',', ' ').split() == wanted, 'wivakkol_%s hands its parameters and the fields over in another order' % call
+    assert set(source) == {*NUMBERS, *('wivakkol_%s_on' % call for call in RUN_CALLS)}
+    assert set(board_runs.FIELDS) == {(name, int(kind[4:-2]), size) for name, kind, size in fields}
 
 
 def drawn_case(rng):
@@ -94,11 +154,21 @@ def compare(program, drawn):
     return numbers, last
 
 
+def end_of_run(data, p, K):
+    """The turns of a run in rounds to its end, and the most memory held."""
+    taking = machine.Machine(machine.begin(data, p, K)[1])
+    while not taking.ended():
+        taking.take(taking.run.turns % p)
+    return 'done %d peak %d' % (taking.run.turns, taking.run.highest)
+
+
 def compare_example(program, drawn):
     """The example program on some of the cases; its arguments are p, b and M."""
     for case in drawn:
         answer, quoted = check(case.data), quota.largest(*case)
         wanted = [facts_line(answer)] + ([] if answer[0] == 'refused' else [' '.join(map(str, quoted))])
+        if quoted[0] != 'refused':
+            wanted.append(end_of_run(case.data, case.p, quoted[1]))
         done = subprocess.run([program, *map(str, case[1:])], input=case.data, stdout=subprocess.PIPE)
         assert done.stdout.decode().splitlines() == wanted, (done.stdout, wanted, case[1:])
         assert done.returncode == (1 if quoted[0] == 'refused' else 0)
@@ -108,17 +178,26 @@ def main():
     count = int(sys.argv[1]) if len(sys.argv) > 1 else 3000
     if not os.path.exists(ARCHIVE):
         sys.exit('%s is not there: run `rt staticlib board` first' % ARCHIVE)
-    row_sizes()
+    header_is_source()
+    header_for_cpp()
     drawn = cases(random.Random(20), max(count, 6))
-    numbers, last = compare(build('tests/board.c', 'board_test'), drawn)
-    some = drawn[:200]
+    program = build('tests/board.c', 'board_test')
+    numbers, last = compare(program, drawn)
+    some = [drawn[0]._replace(p=2), *drawn[1:200]]  # with more workers the model's run of the nested table takes long
     compare_example(build('examples/board.c', 'board'), some)
     for name, counter in zip(NUMBERS, numbers):
         assert set(counter) == NUMBERS[name] or count < 1000, '%s: not every number was reached, %s' % (name, sorted(counter))
         given = ', '.join('%d: %d' % pair for pair in sorted(counter.items()))
         print('%s: %d of %d agree (by number: %s)' % (name, sum(counter.values()), len(drawn), given))
     print('examples/board.c: %d of %d agree' % (len(some), len(some)))
-    print('most stack of either call, in bytes: %s' % ' '.join(last.split()[1:]))
+    kinds, most = board_runs.compare(program, random.Random(21), [case.data for case in drawn[:3]], count // 2)
+    for kind, counter in kinds.items():
+        calls = [sum(counter['%s %d' % (call, x)] for x in numbers) for call, numbers in board_runs.NUMBERS.items()]
+        told = ', '.join('%s: %d' % pair for pair in sorted(counter.items()) if pair[0] != 'runs')
+        print('%s memory: %d runs agree, of %d beginnings, %d turns, %d lists and %d rounds (%s)' % (kind, counter['runs'], *calls, told))
+    missing = [what for what in board_runs.WANTED if not any(counter[what] for counter in kinds.values())]
+    assert not missing or count < 1000, 'no run reached %s' % ', '.join(missing)
+    print('most stack of check, quota, begin, turn, list and rounds, in bytes: %s' % ' '.join([*last.split()[1:], *map(str, most)]))
 
 
 if __name__ == '__main__':

@@ -381,10 +381,10 @@ class Both(Machine):
         return run
 
 
-def passed_over(run, w):
+def passed_over(taking, w):
     """How many threads stand left of the one that worker w takes in its turn; 0 if it holds one, or takes none."""
-    places = [i for i, t in enumerate(Links(run)) if run.status[t] == READY]
-    return places[0] if places and not run.worker[w].holds else 0
+    places = [i for i, t in enumerate(taking.threads) if taking.run.status[t] == READY]
+    return places[0] if places and not taking.run.worker[w].holds else 0
 
 
 def turn(run, w):
@@ -396,8 +396,11 @@ def turn(run, w):
     if run.status[0] == ENDED:
         return ('refused', 31, 0), run
     machine = Both(run)
+    passed, before = passed_over(machine, w), passed_over(machine.old, w)
+    if passed != before:
+        raise SystemExit('passed over in links: %d; in a row: %d' % (passed, before))
     reply = machine.take(w)
-    return (*reply, 'passed', passed_over(run, w)), machine.record()
+    return (*reply, 'passed', passed), machine.record()
 
 
 def preview(run, w):

@@ -105,7 +105,7 @@ fn write_table(text: &[u8], n: usize, m: usize, out: &mut [u8]) -> Assembled
         );
     }
     let k = put_table(out, text, n, m);
-    let loaded = table::load(&out[..k]);
+    let loaded = facts::load(&out[..k]);
     match loaded {
         Loaded::Accepted(_) => Assembled::Written(k),
         Loaded::Refused(r) => Assembled::Refused(r, refused_at(text, r)),
@@ -118,7 +118,7 @@ pub fn disassemble(bytes: &[u8], out: &mut [u8; 135168]) -> Disassembled
     ensures { λ r. ⌜ r ≡ disassembled (now (bytes .entry)) ⌝ }
     ensures { λ r. ⌜ now (out .exit) ≡ disassembledIn (now (bytes .entry)) (now (out .entry)) ⌝ }
 {
-    let loaded = table::load(bytes);
+    let loaded = facts::load(bytes);
     match loaded {
         Loaded::Refused(r) => Disassembled::Refused(r),
         Loaded::Accepted(_) => Disassembled::Listed(put_threads(out, bytes, threads(bytes))),

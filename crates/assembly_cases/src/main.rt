@@ -44,7 +44,7 @@ fn label(buffer: &mut [u8]) {
 // The facts of an assembled table.
 fn facts(bytes: &[u8]) {
     let mut line = [0u8; 80];
-    let k = text::facts_line(table::load(bytes), &mut line);
+    let k = text::facts_line(facts::load(bytes), &mut line);
     io::write_all(STDOUT_FILENO, &line[..k]);
 }
 

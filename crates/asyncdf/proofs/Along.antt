@@ -3,8 +3,7 @@ use mathlib.Core.Path.{_≡_, refl, sym, ap, _∙_}
 use Prim.Native.Nat.{ℕ, suc, _+_, _-_, _^_, _≤_, _<_}
 use mathlib.Core.List.{List}
 use native.Mathlib.Omega.{arith}
-use lib.ListN.{length, getD, set}
-use Rattle.table.specs.Format.{tableOf}
+use lib.ListN.{getD, set}
 use Rattle.table.specs.Pass.{refusal}
 use Rattle.schedule.specs.declared.Worker.{Worker}
 use Rattle.schedule.specs.declared.Run.{Run}
@@ -13,11 +12,13 @@ use Rattle.schedule.specs.declared.Reply.the-variants.{Done}
 use Rattle.schedule.specs.declared.Report.the-variants.{Finished, Spent, Refused}
 use Rattle.schedule.specs.Machine.{nobody}
 use Rattle.schedule.specs.Turn.{stepRun}
-use Rattle.schedule.specs.Runs.{ran, moved, drive}
-use Rattle.asyncdf.specs.declared.runs.Moved.{Moved}
-use Rattle.asyncdf.specs.declared.runs.Taken.{Taken}
-use Rattle.asyncdf.specs.Parts.{Arrays}
-use Rattle.asyncdf.specs.Drives.{Open, Moving, Took, Driven, packedOf}
+use Rattle.schedule.specs.Runs.{moved, drive}
+use Rattle.lent.specs.declared.Moved.{Moved}
+use Rattle.lent.specs.declared.Taken.{Taken}
+use Rattle.lent.specs.Arrays.{Arrays, tableFrom}
+use Rattle.lent.specs.Counted.{taken, turnOn}
+use Rattle.lent.specs.Packed.{packedOf}
+use Rattle.asyncdf.specs.Drives.{Moving, Driven}
 use Rattle.asyncdf.proofs.Driving.{drive-over, drive-spent, drive-full, drive-none, drive-next}
 use Rattle.asyncdf.proofs.Moving.{moves, replies, keeps}
 use Rattle.asyncdf.proofs.Moving.{over as over-after}
@@ -78,14 +79,14 @@ module _ {who : ℕ → ℕ} {limit : ℕ} {run run₀ : Run} {s : List ℕ} {n 
             said = λ one o. absurd (omega (arith, o .below, ap (λ (r : Run). r .workers) (v .start (at-start one)), q, ap who (at-start one), b, v .moving .count));
           }
 
-      module _ (b : w < p) {B : Arrays} {r : Taken} (t : Took (tableOf s) K w A m (getD workers w nobody) B r) where
+      module _ (b : w < p) {B : Arrays} {r : Taken} (t : taken r B ≡ turnOn (tableFrom s n) K parents w A m (getD workers w nobody)) where
         abbrev there : Run
         there = packedOf run B (set workers w (r .worker)) (r .moved)
 
         rest : drive who (limit - (i + 1)) (i + 1) there ≡ drive who limit 0 run₀
         rest =
             let z : suc i ≡ i + 1 = omega arith in
-            let x : moved here (who i) ≡ there = ap (moved here) (sym q) ∙ moves (v .moving) b t in
+            let x : moved here (who i) ≡ there = ap (moved here) (sym q) ∙ moves (v .moving) b room t in
             ap (λ (k : ℕ). drive who (limit - (i + 1)) k there) (sym z)
             ∙ ap (drive who (limit - (i + 1)) (suc i)) (sym x)
             ∙ sym (drive-next who i here (v .moving .unended) (limit - (i + 1)) room (omega (arith, b, q, v .moving .count)))
@@ -93,7 +94,7 @@ module _ {who : ℕ → ℕ} {limit : ℕ} {run run₀ : Run} {s : List ℕ} {n 
 
         first-said : i ≡ 0 → r .reply ≡ stepRun run₀ (who 0) .reply
         first-said z =
-            sym (replies (v .moving) b t)
+            sym (replies (v .moving) b room t)
             ∙ ap (λ (x : Run). stepRun x w .reply) (v .start z)
             ∙ ap (λ (j : ℕ). stepRun run₀ j .reply) (q ∙ ap who z)
 
@@ -102,7 +103,7 @@ module _ {who : ℕ → ℕ} {limit : ℕ} {run run₀ : Run} {s : List ℕ} {n 
             → Along who limit run run₀ s n last p K parents B (set workers w (r .worker)) (r .moved) reply' (i + 1)
         again e d =
             record {
-              moving = keeps (v .moving) b t room d;
+              moving = keeps (v .moving) b room t d;
               within = omega (arith, h);
               remains = rest;
               start = λ z. absurd (omega (arith, z));
@@ -113,6 +114,6 @@ module _ {who : ℕ → ℕ} {limit : ℕ} {run run₀ : Run} {s : List ℕ} {n 
         pub finished : {u a : ℕ} → r .reply ≡ Done u a → a ≡ last → Driven who limit run₀ (Finished (i + 1)) (Done u a) there
         finished j f =
             record {
-              ran-as = sym (drive-over who (i + 1) there (limit - (i + 1)) (over-after (v .moving) b t j f)) ∙ rest;
+              ran-as = sym (drive-over who (i + 1) there (limit - (i + 1)) (over-after (v .moving) b room t j f)) ∙ rest;
               said = λ one o. sym j ∙ first-said (at-start one);
             }

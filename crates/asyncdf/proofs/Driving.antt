@@ -1,12 +1,10 @@
--- A run goes turn by turn: what the code moves is the definition's turn, and the root ends exactly where the reply says that its end was done.
+-- A run goes turn by turn, and the root ends exactly where the reply says that its end was done.
 use mathlib.Core.Path.{_≡_, refl, sym, ap, _∙_}
-use Prim.Native.Nat.{ℕ, zero, suc, _+_, _-_, _^_, _≤_, _<_}
+use Prim.Native.Nat.{ℕ, zero, suc, _-_, _^_, _≤_, _<_}
 use native.Mathlib.Omega.{arith}
 use native.Mathlib.Decide.{ℕ-discrete}
-use native.Mathlib.Numerals.{add-one}
-use mathlib.Core.List.{List}
 use mathlib.Core.Bool.{Bool, true, false}
-use lib.ListN.{length, getD, set}
+use lib.ListN.{length, getD}
 use lib.Dec.{leb, eqb}
 use borrow.Author.Tests.{eqb-false, eq-eqb, ne-eqb, lt-ltb, le-ltb}
 use Rattle.table.specs.Format.{Kind, end, work, alloc, free, fork, join, unknown, Table, kind}
@@ -14,14 +12,12 @@ use Rattle.table.specs.Pass.{refusal}
 use Rattle.table.specs.Rules.{owner, endOf}
 use Rattle.table.proofs.Tests.{no-way}
 use Rattle.table.proofs.Bodies.{owner-of-end, end-kind}
-use Rattle.schedule.specs.declared.Worker.{Worker}
 use Rattle.schedule.specs.declared.Run.{Run}
 use Rattle.schedule.specs.declared.Reply.the-variants.{Idle, Done, Quota, Wait}
 use Rattle.schedule.specs.declared.Report.the-variants.{Finished, Spent, Refused}
-use Rattle.schedule.specs.Machine.{State, Stepped, stepped, counted, ended, nextOf, statusOf, workerOf, nobody}
+use Rattle.schedule.specs.Machine.{State, ended, nextOf, statusOf, workerOf}
 use Rattle.schedule.specs.Machine.{actBy, act, leftmost, taken, turnFree, turnOf}
-use Rattle.schedule.specs.Links.{Links}
-use Rattle.schedule.specs.Record.{setOf, tableIn, stateOf}
+use Rattle.schedule.specs.Record.{tableIn, stateOf}
 use Rattle.schedule.specs.Sound.{isDone, Steady}
 use Rattle.schedule.specs.Turn.{rootEnded, noWorker, stepRun}
 use Rattle.schedule.specs.Runs.{ran, moved, drive}
@@ -35,11 +31,6 @@ use Rattle.schedule.proofs.Ends.{acting-ended}
 use Rattle.schedule.proofs.Turns.{leftmost-ready, taken-holds, turn-facts}
 use Rattle.schedule.proofs.Tries.{Turned, idles, tries, turned}
 use Rattle.schedule.proofs.Stores.{steady-lawful, steady-fits, steady-facts}
-use Rattle.asyncdf.specs.declared.runs.Moved.{Moved}
-use Rattle.asyncdf.specs.declared.runs.Taken.{Taken}
-use Rattle.asyncdf.specs.Parts.{Arrays, stateIn}
-use Rattle.asyncdf.specs.Drives.{Took, packedOf}
-use Rattle.asyncdf.proofs.Local.{putBack, turn-local, set-busy}
 
 -- ---- the root's end
 
@@ -140,30 +131,6 @@ module _ (r : Run) (h : Steady r) (w : ℕ) (b : w < r .workers) where
       ne-eqb _ ended (λ e.
       let (t, q) = root-replied (tableIn r) (steady-lawful r h) (r .workers) (r .quota) (steady-fits r h .few-workers) w b (stateOf r) (steady-facts r h) (eqb-false _ ended o) e in
       n t q)
-
--- what the code moved is the record after the turn
-module _ (run : Run) (A : Arrays) (workers : List Worker) (m : Moved) (w : ℕ) (B : Arrays) (r : Taken)
-    (h : Steady (packedOf run A workers m)) (b : w < run .workers)
-    (t : Took (tableIn run) (run .quota) w A m (getD workers w nobody) B r) where
-  abbrev before : Run
-  before = packedOf run A workers m
-
-  fits : w < length workers
-  fits = omega (arith, h .state .common .worker-size, steady-fits _ h .few-workers)
-
-  stepped-as : stepRun before w
-      ≡ stepped (r .reply) (counted (putBack w (stateOf before) (stepped (r .reply) (stateIn B (r .moved .totals) (r .worker))) .state))
-  unfolding stepRun
-  stepped-as = turn-local (tableIn run) (run .quota) w (stateOf before) fits ∙ rw (← (t .went .body))
-
-  pub packed-reply : stepRun before w .reply ≡ r .reply
-  packed-reply = ap (λ (x : Stepped). x .reply) stepped-as
-
-  pub packed-moved : moved before w ≡ packedOf run B (set workers w (r .worker)) (r .moved)
-  packed-moved =
-      let q : setOf (set workers w (r .worker)) ≡ r .moved .busy = set-busy workers w (r .worker) fits ∙ rw (t .set, h .set) in
-      let k = t .went .chained .list-links in
-      rw (stepped-as, q, ← ap (λ (x : Links). x .left) k, ← ap (λ (x : Links). x .right) k, ← ap (λ (x : Links). x .head) k, t .count, add-one)
 
 -- ---- the run
 

@@ -1,7 +1,7 @@
 -- What keeps a turn from being put (`hindered`): where a number does, its line is the last text, by the definitions; where none does, the turn may be taken.
 use Prim.Native.Nat.{ℕ, _+_, _-_, _^_, _≤_, _<_}
 use native.Mathlib.Omega.{arith}
-use mathlib.Core.Path.{_≡_, refl, sym, ap, _∙_}
+use mathlib.Core.Path.{_≡_, refl, sym}
 use mathlib.Core.List.{List, [], _∷_}
 use mathlib.Core.Bool.{Bool, true, false}
 use borrow.Author.Tests.{ltb-true, ltb-false, eqb-true, eqb-false}
@@ -11,19 +11,19 @@ use Rattle.table.specs.Pass.{refusal}
 use Rattle.text.specs.Text.{refusedLine}
 use Rattle.schedule.specs.declared.Worker.{Worker}
 use Rattle.schedule.specs.declared.Run.{Run}
-use Rattle.schedule.specs.Machine.{passedBy}
 use Rattle.schedule.specs.Record.{tableIn, stateOf}
-use Rattle.schedule.specs.Turn.{unsound, stepRun, passedIn}
+use Rattle.schedule.specs.Turn.{unsound, stepRun}
 use Rattle.schedule.specs.Runs.{moved}
 use Rattle.schedule.proofs.Stores.{moved-steady}
 use Rattle.schedule.proofs.CaseLaws.{turn-turns}
 use Rattle.chart.specs.Chart.{mostTurns}
 use Rattle.chart.proofs.Records.{many, charted-many}
-use Rattle.asyncdf.specs.declared.runs.Moved.{Moved}
-use Rattle.asyncdf.specs.Parts.{Arrays}
-use Rattle.asyncdf.specs.Drives.{Moving, packedOf}
+use Rattle.lent.specs.declared.Moved.{Moved}
+use Rattle.lent.specs.Arrays.{Arrays}
+use Rattle.lent.specs.Packed.{packedOf}
+use Rattle.asyncdf.specs.Drives.{Moving}
 use Rattle.asyncdf.specs.Sheets.{turnsTexts, hindered}
-use Rattle.asyncdf.proofs.Calls.{steady-full, steady-room, turned-unsound, turned-none, turned-taken}
+use Rattle.lent.proofs.Answers.{steady-full, steady-room, turned-unsound, turned-none, turned-taken}
 use Rattle.asyncdf.proofs.Ordered.{texts-refused, texts-many}
 
 -- ---- none does

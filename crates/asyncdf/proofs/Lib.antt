@@ -1,7 +1,3 @@
-pub mod Seats
-pub mod Laying
-pub mod Local
-pub mod Linking
 pub mod Driving
 pub mod Moving
 pub mod Along

@@ -25,15 +25,18 @@ use Rattle.schedule.proofs.Reply.{the-type}
 use Rattle.schedule.proofs.Links.{laid-linked}
 use Rattle.schedule.proofs.ActiveMoves.{list-once, list-small}
 use Rattle.schedule.proofs.Fills.{fill-linked}
-use Rattle.schedule.proofs.Stores.{steady-lawful, steady-fits, steady-facts, moved-steady}
-use Rattle.soundness.specs.Checks.{Parents}
-use Rattle.asyncdf.specs.declared.runs.Moved.{Moved}
-use Rattle.asyncdf.specs.declared.runs.Taken.{Taken}
-use Rattle.asyncdf.specs.Parts.{Arrays, arrays, links, Sits}
-use Rattle.asyncdf.specs.Drives.{Bit, Outlined, Moving, Took, movedOf, packedOf}
-use Rattle.asyncdf.proofs.Local.{set-bit}
-use Rattle.asyncdf.proofs.Linking.{linked-as}
-use Rattle.asyncdf.proofs.Driving.{finishes, goes-on, packed-reply, packed-moved}
+use Rattle.schedule.proofs.Stores.{steady-lawful, steady-facts, moved-steady}
+use Rattle.schedule.specs.Parents.{Parents}
+use Rattle.lent.specs.declared.Moved.{Moved}
+use Rattle.lent.specs.declared.Taken.{Taken}
+use Rattle.lent.specs.Arrays.{Arrays, arrays, links, tableFrom}
+use Rattle.lent.specs.Packed.{movedOf, packedOf}
+use Rattle.asyncdf.specs.Drives.{Moving}
+use Rattle.lent.specs.Counted.{taken, turnOn}
+use Rattle.lent.proofs.Linking.{linked-as}
+use Rattle.lent.proofs.Packed.{Carries, Goes, turn-goes}
+use Rattle.lent.proofs.Packed.{few as few-workers}
+use Rattle.asyncdf.proofs.Driving.{finishes, goes-on}
 
 -- ---- the record's parts
 
@@ -89,68 +92,50 @@ module _ {run : Run} {s : List ℕ} {n last p K : ℕ} {parents : List ℕ} {A :
   abbrev pub here : Run
   here = packedOf run A workers m
 
+  pub carries : Carries run parents A workers m
+  carries = record { steady = v .steady; parent = rw (v .bytes) (v .outline .parent); second = v .second }
+
   module _ {w : ℕ} (b : w < p) where
     own : w < run .workers
     own = omega (arith, b, v .count)
 
     pub few : w < 16
-    few = omega (arith, own, steady-fits here (v .steady) .few-workers)
+    few = few-workers carries own
 
-    pub sits : Sits s n K A (m .totals) (getD workers w nobody)
-    sits =
-        record {
-          rules = rw (v .bytes) at (v .steady .table);
-          threads = v .outline .threads;
-          p = p;
-          w = w;
-          below = b;
-          beginning = rw (v .bytes, v .count, v .quota) at (v .steady .beginning);
-          state = stateOf here;
-          sound = rw (v .bytes, v .count, v .quota) at (v .steady .state);
-          same-next = refl;
-          same-status = refl;
-          same-amounts = refl;
-          same-list = refl;
-          same-held = refl;
-          same-highest = refl;
-          own = refl;
-          chained = record { list-links = v .steady .links; second-links = v .second };
-        }
-
-    pub bit : Bit (m .busy) (getD workers w nobody .holds) w
-    bit = rw (v .steady .set) (set-bit workers w (v .steady .state .common .worker-size) few)
-
-    module _ {B : Arrays} {r : Taken} (t : Took (tableOf s) K w A m (getD workers w nobody) B r) where
+    module _ (room : m .turns ≡ 2 ^ 64 - 1 → ⊥) {B : Arrays} {r : Taken} (t : taken r B ≡ turnOn (tableFrom s n) K parents w A m (getD workers w nobody)) where
       abbrev pub there : Run
       there = packedOf run B (set workers w (r .worker)) (r .moved)
 
-      took : Took (tableIn run) (run .quota) w A m (getD workers w nobody) B r
-      took = rw (v .bytes, v .quota) t
+      gone : Goes run A workers m w (taken r B)
+      gone = turn-goes carries own n (rw (v .bytes) (v .outline .threads)) (omega (arith, v .turns-fit, room)) (rw (v .bytes, v .quota) t)
 
       pub moves : moved here w ≡ there
-      moves = packed-moved run A workers m w B r (v .steady) own took
+      moves = gone .record-after
 
       pub replies : stepRun here w .reply ≡ r .reply
-      replies = packed-reply run A workers m w B r (v .steady) own took
+      replies = gone .reply
+
+      pub tally : r .moved .turns ≡ m .turns + 1
+      tally = gone .count
 
       last-is : last ≡ endOf (tableIn run) 0
       last-is = rw (v .bytes) (v .outline .last-action)
 
       -- the root's end was not done: the loop goes on
-      pub keeps : (m .turns ≡ 2 ^ 64 - 1 → ⊥) → ((u : ℕ) → r .reply ≡ Done u last → ⊥)
+      pub keeps : ((u : ℕ) → r .reply ≡ Done u last → ⊥)
           → Moving run s n last p K parents B (set workers w (r .worker)) (r .moved)
-      keeps e d =
+      keeps d =
           record {
             bytes = v .bytes;
             count = v .count;
             quota = v .quota;
             outline = v .outline;
-            second = t .went .chained .second-links;
+            second = gone .second;
             steady = subst (λ (x : Run). Steady x) moves (moved-steady here (v .steady) w own);
             unended =
                 subst (λ (x : Run). rootEnded x ≡ false) moves
                 (goes-on here (v .steady) w own (v .unended) (λ u j. d u (sym replies ∙ j ∙ ap (Done u) (sym last-is))));
-            turns-fit = omega (arith, v .turns-fit, e, t .count);
+            turns-fit = omega (arith, v .turns-fit, room, gone .count);
           }
 
       -- it was

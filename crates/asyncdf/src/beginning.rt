@@ -2,7 +2,6 @@
 use links::NO_THREAD;
 use schedule::Run;
 use schedule::Worker;
-use table::read::first;
 ghost use mathlib.Core.Path.{_≡_};
 ghost use Prim.Native.Nat.{_≤_};
 ghost use lib.ListN.{length, replicate};
@@ -10,7 +9,6 @@ ghost use Rattle.table.specs.Format.{tableOf};
 ghost use Rattle.schedule.specs.Record.{blank as blankRun, filled};
 ghost use Rattle.schedule.specs.Begin.{startRun};
 ghost use Rattle.schedule.specs.Firsts.{firsts};
-ghost use Rattle.soundness.specs.Checks.{Accepted};
 
 const NOBODY: Worker = Worker {
     holds: false,
@@ -52,28 +50,14 @@ fn copy(bytes: &[u8], out: &mut [u8; 36868])
     }
 }
 
-// Each thread's first action as its next.
-fn fill_next(bytes: &[u8], n: usize, next: &mut [u16; 1024])
-    requires { ⌜ Accepted (now bytes) n ⌝ }
-    requires { ⌜ now next ≡ replicate 1024 0 ⌝ }
-    ensures { λ _. ⌜ now (next .exit) ≡ filled 1024 (firsts (tableOf (now (bytes .entry)) .first) 0 n) ⌝ }
-{
-    let mut t = 0;
-    while t < n {
-        next[t] = first(bytes, t) as u16;
-        t += 1;
-    }
-}
-
-// The record of an accepted beginning.
-pub(crate) fn start(bytes: &[u8], n: usize, p: u8, quota: u32) -> Run
-    requires { ⌜ Accepted (now bytes) n ⌝ }
+// The record of an accepted beginning, from the threads' next actions.
+pub(crate) fn start(bytes: &[u8], next: [u16; 1024], p: u8, quota: u32) -> Run
+    requires { ⌜ length (now bytes) ≤ 36868 ⌝ }
+    requires { ⌜ next ≡ filled 1024 (firsts (tableOf (now bytes) .first) 0 (tableOf (now bytes) .threads)) ⌝ }
     ensures { λ r. ⌜ r ≡ startRun (now (bytes .entry)) p quota ⌝ }
 {
     let mut table = [0u8; 36868];
     copy(bytes, &mut table);
-    let mut next = [0u16; 1024];
-    fill_next(bytes, n, &mut next);
     let mut status = [0u8; 1024];
     status[0] = 1;
     Run {

@@ -7,9 +7,8 @@ use crate::runs::stopped;
 use crate::turns::put_turns;
 use chart::MOST_TURNS;
 use chart::put_line;
+use lent::passed_over;
 use lines::put_refused;
-use links::NO_THREAD;
-use links::seek;
 use schedule::Beginning;
 use schedule::Begun;
 use schedule::Ran;
@@ -17,14 +16,11 @@ use schedule::Report;
 use schedule::Run;
 use schedule::Turned;
 use schedule::Turning;
-use schedule::Worker;
 use schedule::statuses::ENDED;
-use soundness::begin_fault;
+use soundness::accept;
 use soundness::test;
 use table::Found;
-use table::Loaded;
 use table::Refusal;
-use table::read::threads;
 ghost use mathlib.Core.Path.{_≡_};
 ghost use Prim.Native.Nat.{_+_, _*_};
 ghost use lib.Count.{ones};
@@ -35,7 +31,6 @@ ghost use Rattle.schedule.specs.Answers.{beginningValues, turningValues, report
 ghost use Rattle.schedule.specs.Values.{beginValues, turnValues, listValues, roundsValues};
 ghost use Rattle.schedule.specs.Begin.{begin as beginOf};
 ghost use Rattle.schedule.specs.Machine.{workerOf};
-ghost use Rattle.schedule.specs.Links.{seek as seekOf};
 ghost use Rattle.schedule.specs.Record.{stateOf};
 ghost use Rattle.schedule.specs.Sound.{Steady, countBelow};
 ghost use Rattle.schedule.specs.Turn.{turned as turnedOf};
@@ -44,13 +39,9 @@ ghost use Rattle.schedule.specs.Runs.{listRun, roundsRun};
 ghost use Rattle.lines.specs.Lines.{textsOf};
 ghost use Rattle.lines.specs.Puts.{Puts};
 ghost use Rattle.chart.specs.Turns.{chartTurns};
-ghost use Rattle.asyncdf.specs.Drives.{passedAlong};
 
-mod act;
 mod beginning;
-mod release;
 mod runs;
-mod step;
 mod turns;
 
 // Beginning from a table's bytes, p and K: the table's own checks, then 20 to 22.
@@ -58,14 +49,9 @@ pub fn begin(bytes: &[u8], p: u8, quota: u32) -> Begun
     ensures { λ r. ⌜ r ≡ beginOf (now (bytes .entry)) p quota ⌝ }
     ensures { λ r. ⌜ beginningValues (r .answer) ≡ beginValues (now (bytes .entry)) p quota ⌝ }
 {
-    let loaded = table::load(bytes);
-    if let Loaded::Refused(x) = loaded {
-        return Begun {
-            answer: Beginning::Refused(x),
-            run: blank(),
-        };
-    }
-    let found = begin_fault(bytes, p, quota);
+    let mut next = [0u16; 1024];
+    let mut parents = [0u16; 1024];
+    let found = accept(bytes, p, quota, &mut next, &mut parents);
     if let Found::At(x) = found {
         return Begun {
             answer: Beginning::Refused(x),
@@ -74,7 +60,7 @@ pub fn begin(bytes: &[u8], p: u8, quota: u32) -> Begun
     }
     Begun {
         answer: Beginning::Begun,
-        run: start(bytes, threads(bytes), p, quota),
+        run: start(bytes, next, p, quota),
     }
 }
 
@@ -84,21 +70,6 @@ fn refused(number: u8, run: Run) -> Turned
     Turned {
         answer: Turning::Refused(Refusal { number, place: 0 }),
         run,
-    }
-}
-
-// How many threads stand left of the leftmost ready one, which a worker that holds nothing takes (N7: "The search .. also says"); 0 where it takes none.
-fn passed_over(worker: Worker, status: &[u8; 1024], right: &[u16; 1024], leftmost: u16) -> u16
-    ensures { λ r. ⌜ r ≡ passedAlong (worker .holds) (seekOf 1024 (now (status .entry)) (now (right .entry)) leftmost) ⌝ }
-{
-    if worker.holds {
-        return 0;
-    }
-    let found = seek(status, right, leftmost);
-    if found.thread < NO_THREAD {
-        found.passed
-    } else {
-        0
     }
 }
 

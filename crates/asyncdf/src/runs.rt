@@ -1,6 +1,7 @@
 // Runs over a list of workers and in rounds. The record's arrays are copied once; the turns work on them in place.
-use crate::act::Totals;
-use crate::step::step;
+use lent::Moved;
+use lent::Totals;
+use lent::take_turn;
 use links::fill_actives;
 use schedule::Reply;
 use schedule::Report;
@@ -12,7 +13,7 @@ use table::read::count;
 use table::read::threads;
 ghost use mathlib.Core.Path.{_≡_};
 ghost use mathlib.Core.List.{List};
-ghost use Prim.Native.Nat.{ℕ, _+_, _-_, _^_, _<_};
+ghost use Prim.Native.Nat.{ℕ, _+_, _-_, _<_};
 ghost use Rattle.table.specs.Format.{tableOf};
 ghost use Rattle.table.specs.Pass.{refusal};
 ghost use Rattle.table.specs.Rules.{endOf};
@@ -21,23 +22,10 @@ ghost use Rattle.schedule.specs.declared.Run.{Run as RunRecord};
 ghost use Rattle.schedule.specs.declared.Report.the-variants.{Refused};
 ghost use Rattle.schedule.specs.Record.{tableIn};
 ghost use Rattle.schedule.specs.Sound.{Steady};
-ghost use Rattle.soundness.specs.Checks.{Parents};
-ghost use Rattle.asyncdf.specs.Parts.{arrays, Sits};
-ghost use Rattle.asyncdf.specs.Drives.{who, busyAfter, Sequence, Bit, Moving, Took, Stands, Driven, movedOf, packedOf};
-
-// What a loop of turns moves besides the arrays and the workers' records.
-pub(crate) struct Moved {
-    pub(crate) busy: u16,
-    pub(crate) totals: Totals,
-    pub(crate) turns: u64,
-}
-
-// What a turn in a loop leaves.
-pub(crate) struct Taken {
-    pub(crate) reply: Reply,
-    pub(crate) worker: Worker,
-    pub(crate) moved: Moved,
-}
+ghost use Rattle.schedule.specs.Parents.{Parents};
+ghost use Rattle.lent.specs.Arrays.{arrays};
+ghost use Rattle.lent.specs.Packed.{movedOf, packedOf};
+ghost use Rattle.asyncdf.specs.Drives.{who, Sequence, Moving, Stands, Driven};
 
 // The root's last action.
 pub(crate) fn root_end(table: &[u8]) -> usize
@@ -69,73 +57,6 @@ fn worker_of(order: &[u8], rounds: bool, p: usize, i: usize) -> usize
     ensures { λ r. ⌜ r ≡ who (now (order .entry)) rounds p i ⌝ }
 {
     if rounds { i % p } else { order[i] as usize }
-}
-
-// The set of workers that hold a thread, after worker w's record changed.
-fn busy_after(busy: u16, before: Worker, after: Worker, w: usize) -> u16
-    requires { ⌜ Bit busy (before .holds) w ⌝ }
-    ensures { λ r. ⌜ r ≡ busyAfter busy (before .holds) (after .holds) w ⌝ }
-{
-    let bit: u16 = 1 << w;
-    if before.holds {
-        if after.holds { busy } else { busy - bit }
-    } else {
-        if after.holds { busy + bit } else { busy }
-    }
-}
-
-// A turn of worker w, whose record is given, and what it moves.
-pub(crate) fn take_turn(
-    table: &[u8],
-    n: usize,
-    parents: &[u16; 1024],
-    quota: u32,
-    next: &mut [u16; 1024],
-    status: &mut [u8; 1024],
-    amounts: &mut [u64; 1024],
-    left: &mut [u16; 1024],
-    right: &mut [u16; 1024],
-    under: &mut [u16; 1024],
-    over: &mut [u16; 1024],
-    moved: Moved,
-    worker: Worker,
-    w: usize,
-) -> Taken
-    requires { ⌜ Sits (now table) n quota (arrays (now next) (now status) (now amounts) (now left) (now right) (now under) (now over)) (moved .totals) worker ⌝ }
-    requires { ⌜ Parents (tableOf (now table)) (now parents) ⌝ }
-    requires { ⌜ (Bit (moved .busy) (worker .holds) w) × (moved .turns < 2 ^ 64 - 1) ⌝ }
-    ensures { λ r. ⌜ Took (tableOf (now (table .entry))) quota w
-        (arrays (now (next .entry)) (now (status .entry)) (now (amounts .entry)) (now (left .entry)) (now (right .entry)) (now (under .entry)) (now (over .entry))) moved worker
-        (arrays (now (next .exit)) (now (status .exit)) (now (amounts .exit)) (now (left .exit)) (now (right .exit)) (now (under .exit)) (now (over .exit))) r ⌝ }
-{
-    let totals = moved.totals;
-    let stepped = step(
-        table,
-        n,
-        parents,
-        quota,
-        next,
-        status,
-        amounts,
-        left,
-        right,
-        under,
-        over,
-        totals,
-        worker,
-    );
-    let reply = stepped.reply;
-    let after = stepped.worker;
-    let totals = stepped.totals;
-    Taken {
-        reply,
-        worker: after,
-        moved: Moved {
-            busy: busy_after(moved.busy, worker, after, w),
-            totals,
-            turns: moved.turns + 1,
-        },
-    }
 }
 
 // The record with what the turns have moved.
@@ -242,8 +163,8 @@ fn take_turns(
         let t = take_turn(
             table,
             n,
-            parents,
             quota,
+            parents,
             next,
             status,
             amounts,

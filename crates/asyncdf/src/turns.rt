@@ -1,10 +1,11 @@
 // The lines of an order's turns, of a listing or of a chart: the loop of a run, with a line put after each turn and no record at its end.
-use crate::runs::Moved;
 use crate::runs::moved_in;
 use crate::runs::root_end;
-use crate::runs::take_turn;
 use chart::MOST_TURNS;
 use chart::put_line;
+use lent::Moved;
+use lent::number_or_zero;
+use lent::take_turn;
 use lines::put_last;
 use lines::put_refused;
 use lines::put_turn;
@@ -27,9 +28,10 @@ ghost use Rattle.schedule.specs.Turn.{unsound};
 ghost use Rattle.lines.specs.Lines.{turnTexts};
 ghost use Rattle.lines.specs.Puts.{Puts};
 ghost use Rattle.chart.specs.Chart.{shownOf, mostTurns};
-ghost use Rattle.soundness.specs.Checks.{Parents};
-ghost use Rattle.asyncdf.specs.Parts.{arrays};
-ghost use Rattle.asyncdf.specs.Drives.{Moving, Stands, packedOf};
+ghost use Rattle.schedule.specs.Parents.{Parents};
+ghost use Rattle.lent.specs.Arrays.{arrays};
+ghost use Rattle.lent.specs.Packed.{packedOf};
+ghost use Rattle.asyncdf.specs.Drives.{Moving, Stands};
 ghost use Rattle.asyncdf.specs.Sheets.{turnsTexts, widest, afterTexts, afterSize, overTexts, hindered};
 
 // The action that a reply says was done, 0 where none was.
@@ -60,13 +62,6 @@ fn thread_in(reply: Reply) -> u16
         Reply::Quota { thread, wanted: _ } => thread,
         Reply::Wait { thread, child: _ } => thread,
     }
-}
-
-// The number at a position, 0 past the end.
-fn number_or_zero(numbers: &[u16], i: usize) -> u16
-    ensures { λ r. ⌜ r ≡ getD (now (numbers .entry)) i 0 ⌝ }
-{
-    if i < numbers.len() { numbers[i] } else { 0 }
 }
 
 // The line of a turn of worker w that left the next actions and the amount held given.
@@ -191,8 +186,8 @@ fn put_each(
         let t = take_turn(
             table,
             n,
-            parents,
             quota,
+            parents,
             next,
             status,
             amounts,

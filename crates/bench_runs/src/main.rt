@@ -30,7 +30,7 @@ fn load_once(bytes: &[u8], total: u64) -> u64 {
     if total == u64::MAX {
         return 0;
     }
-    let loaded = table::load(bytes);
+    let loaded = facts::load(bytes);
     match loaded {
         Loaded::Accepted(facts) => facts.depth as u64 + facts.nested as u64,
         Loaded::Refused(refusal) => refusal.number as u64,

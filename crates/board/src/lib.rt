@@ -8,13 +8,22 @@ ghost use Rattle.table.specs.Load.{tableValues};
 ghost use Rattle.quota.specs.Quota.{valuesFor};
 ghost use Rattle.board.specs.Rows.{factsRow, quotaRow};
 
+mod begin;
+mod runs;
+mod turn;
+
+pub use begin::wivakkol_begin_on;
+pub use runs::wivakkol_list_on;
+pub use runs::wivakkol_rounds_on;
+pub use turn::wivakkol_turn_on;
+
 // A table's facts n, m, S1, D and N, or the check that refuses it.
 #[no_mangle]
 pub extern "C" fn wivakkol_check(table: &[u8], row: &mut [u64; 6]) -> u32
     ensures { λ r. ⌜ r ≡ tableValues (now (table .entry)) .number ⌝ }
     ensures { λ _. ⌜ now (row .exit) ≡ factsRow (tableValues (now (table .entry))) ⌝ }
 {
-    let loaded = table::load(table);
+    let loaded = facts::load(table);
     match loaded {
         Loaded::Accepted(f) => {
             *row = [
@@ -60,7 +69,7 @@ pub extern "C" fn wivakkol_quota(
 }
 
 // p in a byte. C would cut a number above 255 to its low byte, and 258 would be taken for 2: p is taken with 32 bits, and 17 stands for all that are too large.
-fn workers(p: u32) -> u8
+pub(crate) fn workers(p: u32) -> u8
     ensures { λ r. ⌜ r ≡ min p 17 ⌝ }
 {
     if p < 17 { p as u8 } else { 17 }

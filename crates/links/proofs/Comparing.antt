@@ -1,6 +1,6 @@
--- Comparing two rows, a place at a time: whether their rests are the same is whether they are.
+-- Two tests, one after the other; and comparing two rows, a place at a time: whether their rests are the same is whether they are.
 use mathlib.Core.Path.{_≡_, refl}
-use mathlib.Core.Bool.{true, false}
+use mathlib.Core.Bool.{Bool, true, false, _&&_}
 use Prim.Native.Nat.{ℕ, suc, _+_, _≤_, _<_}
 use native.Mathlib.Numerals.{add-one}
 use native.Mathlib.Omega.{arith}
@@ -8,7 +8,18 @@ use mathlib.Core.List.{List, [], _∷_}
 use lib.ListN.{length, getD, drop, drop-of-length-le}
 use lib.Seq.{drop-cons}
 use borrow.Author.Tests.{eq-eqb, ne-eqb}
+use Rattle.table.proofs.Tests.{no-way}
 use Rattle.schedule.specs.Sound.{sameList}
+
+-- the first test holds, and the second decides
+pub both : (s r a b : Bool) → s ≡ true → s ≡ a → r ≡ b → r ≡ (a && b)
+both s r true b e h k = k
+both s r false b e h k = no-way (cc)
+
+-- the first does not
+pub neither : (s a b : Bool) → s ≡ false → s ≡ a → s ≡ (a && b)
+neither s true b e h = no-way (cc)
+neither s false b e h = h
 
 -- the first i places are the same
 pub record SameTo (a b : List ℕ) (i : ℕ) : Type 0 where

@@ -13,7 +13,7 @@ ghost use Rattle.lines.specs.Puts.{Puts};
 pub(crate) fn put_listing(table: &[u8], p: u8, quota: u32, order: &[u8], out: &mut [u8]) -> usize
     ensures { λ r. ⌜ Puts (now (out .entry)) 0 (now (out .exit)) r (listedBy turnedOf (now (table .entry)) p quota (now (order .entry))) (64 * (length (now (order .entry)) + 2)) ⌝ }
 {
-    let loaded = table::load(table);
+    let loaded = facts::load(table);
     if let Loaded::Refused(_) = loaded {
         return put_answer(out, 0, loaded);
     }

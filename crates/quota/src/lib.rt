@@ -30,7 +30,7 @@ pub fn largest_quota(table: &[u8], p: u8, b: u32, memory: u64) -> Quoted
     ensures { λ r. ⌜ r ≡ quoted (now (table .entry)) p b memory ⌝ }
     ensures { λ r. ⌜ valuesOf r ≡ valuesFor (now (table .entry)) p b memory ⌝ }
 {
-    let loaded = table::load(table);
+    let loaded = facts::load(table);
     match loaded {
         Loaded::Refused(r) => Quoted::Refused(r),
         Loaded::Accepted(facts) => quota_for(table, facts, p, b, memory),

@@ -13,7 +13,7 @@ use Rattle.table.specs.Sum.{pick}
 use Rattle.table.specs.Format.{Table}
 use Rattle.table.proofs.Tests.{no-way}
 use Rattle.schedule.specs.Machine.{State, unborn, ready, held, waiting, ended, statusOf, workerOf, leftmost}
-use Rattle.schedule.specs.Links.{noThread, firstReady}
+use Rattle.schedule.specs.Links.{noThread, Sought, firstReady, seek}
 use Rattle.schedule.specs.Actives.{actives}
 use Rattle.schedule.proofs.Lawful.{Lawful}
 use Rattle.schedule.proofs.Facts.{Facts}
@@ -23,6 +23,23 @@ use Rattle.schedule.proofs.Actives.{actives-old, once-actives}
 use Rattle.schedule.proofs.ActiveMoves.{list-once}
 
 -- ---- by thread
+
+-- what a search finds at thread t, by the two tests of it, where the rest is known
+abbrev seekAt : ℕ → Sought → Bool → Bool → Sought
+seekAt t rest b d = pick b (pick d (record { thread = t; passed = 0 }) (record { thread = rest .thread; passed = suc (rest .passed) })) (record { thread = noThread; passed = 0 })
+
+-- what a search along links finds is ready, whatever they hold
+pub seek-ready : (k : ℕ) (status right : List ℕ) (t : ℕ) → seek k status right t .thread < noThread → getD status (seek k status right t .thread) 0 ≡ ready
+unfolding seek
+seek-ready zero status right t h = absurd (omega (arith, h))
+seek-ready (suc k) status right t h =
+    go (seek k status right (getD right t 0)) (seek-ready k status right (getD right t 0)) (ltb t noThread) (eqb (getD status t 0) ready) refl h
+  where
+    go : (rest : Sought) → (rest .thread < noThread → getD status (rest .thread) 0 ≡ ready) → (b d : Bool) → eqb (getD status t 0) ready ≡ d → seekAt t rest b d .thread < noThread
+        → getD status (seekAt t rest b d .thread) 0 ≡ ready
+    go rest r true true e h = eqb-true (getD status t 0) ready e
+    go rest r true false e h = r h
+    go rest r false d e h = absurd (omega (arith, h))
 
 -- where one is ready, it is the thread at the place
 pub ready-there : (status l : List ℕ) → eqb (leftmost status l) (length l) ≡ false → getD l (leftmost status l) 0 ≡ firstReady status l

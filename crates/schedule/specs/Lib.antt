@@ -18,6 +18,7 @@ pub mod ThreadCases
 pub mod AmountCases
 pub mod Rule
 pub mod Actives
+pub mod Parents
 pub mod LinkMoves
 pub mod LinkCases
 pub mod RowList

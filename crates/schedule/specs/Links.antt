@@ -20,12 +20,16 @@ pub record Links : Type 0 where
 
 -- ---- reading
 
--- "Reading from the left": the threads from t on along the right links, k at most
+-- the threads from t on along the right links, k at most
 unfoldable pub walk : ℕ → List ℕ → ℕ → List ℕ
 walk zero right t = []
 walk (suc k) right t =
     let there : List ℕ = t ∷ walk k right (getD right t 0) in
     pick (ltb t noThread) there []
+
+-- "Reading from the left gives the .. list" (N10): bounded, whatever the links hold
+abbrev pub listOf : Links → List ℕ
+listOf k = walk noThread (k .right) (k .head)
 
 -- ---- laying
 

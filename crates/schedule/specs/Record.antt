@@ -7,7 +7,7 @@ use Rattle.table.specs.Format.{Table, tableOf}
 use Rattle.schedule.specs.declared.Worker.{Worker}
 use Rattle.schedule.specs.declared.Run.{Run}
 use Rattle.schedule.specs.Machine.{State, nobody}
-use Rattle.schedule.specs.Links.{Links, walk, laid}
+use Rattle.schedule.specs.Links.{Links, listOf, laid}
 
 -- the sizes of the record
 abbrev pub maxThreads : ℕ
@@ -38,9 +38,8 @@ tableIn r = tableOf (bytesOf r)
 abbrev pub linksIn : Run → Links
 linksIn r = record { left = r .left; right = r .right; head = r .leftmost }
 
--- "Reading from the left gives the .. list"
 abbrev pub listIn : Run → List ℕ
-listIn r = walk maxThreads (r .right) (r .leftmost)
+listIn r = listOf (linksIn r)
 
 abbrev pub stateOf : Run → State
 stateOf r =

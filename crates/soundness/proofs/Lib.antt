@@ -12,3 +12,4 @@ pub mod Chains
 pub mod Blank
 pub mod Reading
 pub mod Passed
+pub mod Laying

@@ -11,7 +11,7 @@ use Rattle.schedule.specs.Turn.{isBlank, unsound}
 use Rattle.schedule.proofs.Tests.{sound-exactly, blank-exactly}
 use Rattle.schedule.proofs.Stores.{steady-fits}
 use Rattle.soundness.specs.declared.Tested.{Tested}
-use Rattle.soundness.specs.Checks.{Parents}
+use Rattle.schedule.specs.Parents.{Parents}
 use Rattle.soundness.specs.Tested.{tested}
 use Rattle.soundness.proofs.Noting.{parents-right}
 

@@ -13,8 +13,8 @@ use Rattle.table.specs.Serial.{serial}
 use Rattle.table.specs.Level.{forkBelow}
 use Rattle.schedule.specs.declared.Worker.{Worker}
 use Rattle.schedule.specs.declared.Run.{Run}
-use Rattle.schedule.specs.Machine.{held, ended, parentOf}
-use Rattle.schedule.specs.Links.{Links, walk, laid}
+use Rattle.schedule.specs.Machine.{held, ended}
+use Rattle.schedule.specs.Links.{Links, listOf, laid}
 use Rattle.schedule.specs.Record.{maxThreads, maxWorkers, maxBytes, filled, bytesOf}
 use Rattle.schedule.specs.Sound.{allBelow, doneIn, nextInBody, inOrder, statusFollows, waitsAtJoin, unused, oneHolder, workerRight, numberOf, listed, sameLinks, sameList}
 
@@ -31,10 +31,6 @@ Placed s n next = allBelow (nextInBody (tableOf s) next) n ≡ true
 pub record Forks (T : Table) (forks : List ℕ) : Type 0 where
   pub size : length forks ≡ 1024
   pub right : (t : ℕ) → 0 < t → t < T .threads → getD forks t 0 ≡ forkBelow T (T .actions) t
-
--- each thread's parent
-pub record Parents (T : Table) (parents : List ℕ) : Type 0 where
-  pub right : (t : ℕ) → t < T .threads → getD parents t 0 ≡ parentOf T t
 
 -- the forks below action a are noted: at the thread that it forks, each has its number and its own thread
 pub record Noted (T : Table) (forks parents : List ℕ) (a : ℕ) : Type 0 where
@@ -97,7 +93,7 @@ holdersWanted status = pick (eqb status held) 1 0
 -- the clauses on the list that is read off links, and that they describe it (N10)
 abbrev pub linksSound : Table → List ℕ → List ℕ → Links → Bool
 linksSound T next status k =
-    listed T next status (walk maxThreads (k .right) (k .head)) && sameLinks k (laid (walk maxThreads (k .right) (k .head)))
+    listed T next status (listOf k) && sameLinks k (laid (listOf k))
 
 -- the clauses of a sound record on its table's length, the bytes past it and its turns
 abbrev pub restSound : Run → Bool

@@ -1,14 +1,18 @@
-// The checks of a beginning, 20 to 22.
+// The checks of a beginning, 20 to 22, and the next actions that it begins with.
 use table::Found;
 use table::Refusal;
 use table::kinds::ALLOC;
 use table::read;
 ghost use mathlib.Core.Path.{_≡_};
 ghost use Prim.Native.Nat.{_<_};
+ghost use lib.ListN.{replicate};
 ghost use Rattle.table.specs.Format.{tableOf};
 ghost use Rattle.table.specs.Pass.{firstFound, refusal};
 ghost use Rattle.table.specs.Rules.{outside as isOutside};
 ghost use Rattle.schedule.specs.Begin.{allocAbove, beginPasses};
+ghost use Rattle.schedule.specs.Firsts.{firsts};
+ghost use Rattle.schedule.specs.Record.{filled};
+ghost use Rattle.soundness.specs.Checks.{Accepted};
 
 fn refuse(number: u8, place: usize) -> Found
     requires { ⌜ place < 65536 ⌝ }
@@ -55,4 +59,17 @@ pub fn begin_fault(table: &[u8], p: u8, quota: u32) -> Found
         a += 1;
     }
     Found::Nothing
+}
+
+// Each thread's first action as its next.
+pub(crate) fn fill_next(bytes: &[u8], n: usize, next: &mut [u16; 1024])
+    requires { ⌜ Accepted (now bytes) n ⌝ }
+    requires { ⌜ now next ≡ replicate 1024 0 ⌝ }
+    ensures { λ _. ⌜ now (next .exit) ≡ filled 1024 (firsts (tableOf (now (bytes .entry)) .first) 0 n) ⌝ }
+{
+    let mut t = 0;
+    while t < n {
+        next[t] = read::first(bytes, t) as u16;
+        t += 1;
+    }
 }

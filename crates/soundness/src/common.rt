@@ -17,7 +17,8 @@ ghost use Prim.Native.Nat.{_≤_};
 ghost use lib.ListN.{length};
 ghost use Rattle.table.specs.Format.{tableOf};
 ghost use Rattle.schedule.specs.Sound.{commonSound};
-ghost use Rattle.soundness.specs.Checks.{Accepted, Forks, Parents, threadsSound, holdersSound};
+ghost use Rattle.schedule.specs.Parents.{Parents};
+ghost use Rattle.soundness.specs.Checks.{Accepted, Forks, threadsSound, holdersSound};
 
 // Next actions, the order of what is done, statuses, waiting threads, threads not in use.
 pub(crate) fn threads_sound(

@@ -1,14 +1,17 @@
 // The test of a run's record, check 32, and the checks of a beginning. Every call is total, and what it answers equals a definition.
+use crate::beginning::fill_next;
 use crate::bodies::fill_forks;
 use crate::common::common_holds;
 use crate::sound::is_blank;
 use crate::sound::sound;
 use schedule::Run;
 use schedule::Worker;
-use table::Loaded;
+use table::Found;
 use table::read;
 ghost use mathlib.Core.Path.{_≡_};
-ghost use Rattle.soundness.specs.Tested.{commonTested, tested};
+ghost use Rattle.table.specs.Format.{tableOf};
+ghost use Rattle.schedule.specs.Sound.{isNothing};
+ghost use Rattle.soundness.specs.Tested.{beginFound, commonTested, nextIf, parentsIf, tested};
 
 mod amounts;
 mod beginning;
@@ -29,6 +32,35 @@ pub struct Tested {
     pub parents: [u16; 1024],
 }
 
+// The checks of a table and of a beginning with it. Where none applies, the next actions that the run begins with and each thread's parent; else zeros.
+pub fn accept(
+    table: &[u8],
+    p: u8,
+    quota: u32,
+    next: &mut [u16; 1024],
+    parents: &mut [u16; 1024],
+) -> Found
+    ensures { λ r. ⌜ r ≡ beginFound (now (table .entry)) p quota ⌝ }
+    ensures { λ r. ⌜ now (next .exit) ≡ nextIf (isNothing r) (tableOf (now (table .entry))) ⌝ }
+    ensures { λ r. ⌜ now (parents .exit) ≡ parentsIf (isNothing r) (tableOf (now (table .entry))) ⌝ }
+{
+    *next = [0; 1024];
+    *parents = [0; 1024];
+    let found = table::check(table);
+    if let Found::At(_) = found {
+        return found;
+    }
+    let found = begin_fault(table, p, quota);
+    if let Found::At(_) = found {
+        return found;
+    }
+    let n = read::threads(table);
+    let mut forks = [0u16; 1024];
+    fill_forks(table, n, &mut forks, parents);
+    fill_next(table, n, next);
+    Found::Nothing
+}
+
 // What any kind of run over a table keeps, with the table's own checks and the beginning's.
 pub fn test_common(
     table: &[u8],
@@ -45,8 +77,8 @@ pub fn test_common(
     ensures { λ r. ⌜ r ≡ commonTested (now (table .entry)) p quota next status amounts workers busy held highest ⌝ }
 {
     let mut parents = [0u16; 1024];
-    let loaded = table::load(table);
-    if let Loaded::Refused(_) = loaded {
+    let found = table::check(table);
+    if let Found::At(_) = found {
         return Tested {
             passed: false,
             parents,

@@ -13,7 +13,6 @@ pub mod Serial
 pub mod Rank
 pub mod Levels
 pub mod NestedThreads
-pub mod NestWalk
 pub mod Amounts
 pub mod Balances
 pub mod JobTables
@@ -22,5 +21,3 @@ pub mod Stack
 pub mod Words
 pub mod Parts
 pub mod Walks
-pub mod Tops
-pub mod EndLevels

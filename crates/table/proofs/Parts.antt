@@ -1,15 +1,14 @@
 -- A body is a part of the action list: that it is there, and what its action i is in the whole.
 use mathlib.Core.Path.{_≡_}
-use Prim.Native.Nat.{ℕ, _+_, _-_, _*_, _≤_, _<_}
+use Prim.Native.Nat.{ℕ, _+_, _-_, _*_}
 use mathlib.Core.List.{List}
 use native.Mathlib.Nat.{mul-add, add-assoc}
 use native.Mathlib.Omega.{arith}
 use lib.ListN.{length, getD, take, drop, length-drop}
 use lib.Seq.{getD-drop, take-all}
-use Rattle.table.specs.Format.{kindOf, kind, codeAt, argumentAt, threadsOf, firstOf, countOf, bodiesFrom, bodiesOf, bodyOf, tableOf}
-use Rattle.table.specs.Steps.{Headed, Laid}
+use Rattle.table.specs.Format.{kindOf, kind, codeAt, argumentAt, threadsOf, firstOf, bodiesFrom, bodiesOf, bodyOf, tableOf}
+use Rattle.table.specs.Steps.{Headed}
 use Rattle.table.proofs.Sizes.{sizes}
-use Rattle.table.proofs.Bodies.{body-within}
 
 -- the part from a place on is all that is left from there
 pub rest-part : (l : List ℕ) (k : ℕ) → take (length l - k) (drop k l) ≡ drop k l
@@ -33,21 +32,15 @@ module _ (s : List ℕ) (n : ℕ) (e : n ≡ tableOf s .threads) where
   unfolding tableOf
   argument-from a = rw e
 
+  -- a thread's body among them
+  pub body-from : (t : ℕ) → drop (4 * tableOf s .first t) (bodiesFrom s n) ≡ bodyOf s t
+  unfolding tableOf
+  body-from t = rw e
+
 -- an action's code, read from the whole table
 pub code-in-table : (s : List ℕ) (n a : ℕ) → n ≡ threadsOf s → getD s (4 + 4 * n + 4 * a) 0 ≡ tableOf s .code a
 unfolding tableOf
 code-in-table s n a e = simp (getD-drop, ← e)
-
--- a thread's body lies in the table
-pub body-room : {s : List ℕ} {n m t : ℕ} → Laid s n m → t < n → 4 + 4 * n + 4 * (firstOf s t + countOf s t) ≤ length s
-unfolding tableOf
-body-room {s} {t = t} l h =
-    omega (arith, l .headed .threads, l .headed .actions, sizes (l .headed), body-within (tableOf s) (l .contents) t (omega (arith, l .headed .threads)))
-
--- what taking it asks
-pub body-there : {s : List ℕ} {n m t : ℕ} → Laid s n m → t < n → (n ≡ threadsOf s) × (4 + 4 * n + 4 * tableOf s .first t ≤ length s)
-unfolding tableOf
-body-there l h = (l .headed .threads, omega (arith, body-room l h))
 
 pub code-part : (l : List ℕ) (f i : ℕ) → codeAt (drop (4 * f) l) i ≡ codeAt l (f + i)
 code-part l f i = simp (getD-drop, mul-add)

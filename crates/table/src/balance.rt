@@ -1,5 +1,8 @@
 // Check 10: no thread's balance falls below 0. A thread's rise and fall, its own and those of the children it joins, are kept for its parent.
 use crate::Found;
+use crate::kinds::JOIN;
+use crate::kinds::alloc_of;
+use crate::kinds::free_of;
 use crate::read::argument_at;
 use crate::read::body_of;
 use crate::read::code_at;
@@ -8,11 +11,10 @@ use crate::read::first;
 use crate::read::refuse;
 ghost use mathlib.Core.Path.{_≡_};
 ghost use Prim.Native.Nat.{_<_};
-ghost use lib.ListN.{length};
 ghost use Rattle.table.specs.Format.{kindOf, tableOf, join};
 ghost use Rattle.table.specs.Pass.{tryPass};
-ghost use Rattle.table.specs.Rules.{balancePass, whole, allocOf, freeOf};
-ghost use Rattle.table.specs.Steps.{Nested, Filled, WalkReady, ownAmount, childAmount, leastNext, balanceOf};
+ghost use Rattle.table.specs.Rules.{balancePass};
+ghost use Rattle.table.specs.Steps.{Nested, WalkReady, childAmount, leastNext, balanceOf};
 
 // What a body draws and gives back, and its first action after which it has given back more (its count of actions, if there is none).
 pub(crate) struct Balance {
@@ -21,20 +23,12 @@ pub(crate) struct Balance {
     pub(crate) below: usize,
 }
 
-// The argument x where k is the kind counted, else 0.
-pub(crate) fn own_amount(own: u8, k: u8, x: usize) -> u64
-    requires { ⌜ own < 6 ⌝ }
-    ensures { λ r. ⌜ r ≡ ownAmount (kindOf own) (kindOf k) x ⌝ }
+// The amount of the child x that an action of kind k joins, else 0.
+fn child_amount(k: u8, x: usize, amounts: &[u64; 1024]) -> u64
+    requires { ⌜ (k ≡ 5 → x < 1024) ⌝ }
+    ensures { λ r. ⌜ r ≡ childAmount join (kindOf k) x (now (amounts .entry)) ⌝ }
 {
-    if k == own { x as u64 } else { 0 }
-}
-
-// The amount of child x where k is the kind at which children count, else 0.
-pub(crate) fn child_amount(at: u8, k: u8, x: usize, amounts: &[u64; 1024]) -> u64
-    requires { ⌜ (at < 6) × (k ≡ at → x < 1024) ⌝ }
-    ensures { λ r. ⌜ r ≡ childAmount (kindOf at) (kindOf k) x (now (amounts .entry)) ⌝ }
-{
-    if k == at { amounts[x] } else { 0 }
+    if k == JOIN { amounts[x] } else { 0 }
 }
 
 // Of a walk that found nothing up to action i: one action further, if nothing is found there either.
@@ -59,28 +53,21 @@ fn balance_walk(body: &[u8], count: usize, rises: &[u64; 1024], falls: &[u64; 10
     while i < count {
         let k = code_at(body, i);
         let x = argument_at(body, i);
-        rise += own_amount(2, k, x) + child_amount(5, k, x, rises);
-        fall += own_amount(3, k, x) + child_amount(5, k, x, falls);
+        rise += alloc_of(k, x) + child_amount(k, x, rises);
+        fall += free_of(k, x) + child_amount(k, x, falls);
         below = least_next(rise < fall, i, below);
         i += 1;
     }
     Balance { rise, fall, below }
 }
 
-// Fills in every thread's rise and fall, the children before their parents: a child has the higher number.
-pub(crate) fn balances(
-    table: &[u8],
-    n: usize,
-    m: usize,
-    rises: &mut [u64; 1024],
-    falls: &mut [u64; 1024],
-) -> Found
+// The children before their parents: a child has the higher number.
+pub(crate) fn balances(table: &[u8], n: usize, m: usize) -> Found
     requires { ⌜ Nested (now table) n m ⌝ }
-    requires { ⌜ (length (now rises) ≡ 1024) × (length (now falls) ≡ 1024) ⌝ }
     ensures { λ r. ⌜ r ≡ tryPass (balancePass (tableOf (now (table .entry)))) ⌝ }
-    ensures { λ r. ⌜ Filled (tableOf (now (table .entry))) (whole (tableOf (now (table .entry))) (allocOf (tableOf (now (table .entry))))) (now (rises .exit)) 0 ⌝ }
-    ensures { λ r. ⌜ Filled (tableOf (now (table .entry))) (whole (tableOf (now (table .entry))) (freeOf (tableOf (now (table .entry))))) (now (falls .exit)) 0 ⌝ }
 {
+    let mut rises = [0u64; 1024];
+    let mut falls = [0u64; 1024];
     let mut lowest = m;
     let mut t = n;
     while 0 < t {
@@ -88,7 +75,7 @@ pub(crate) fn balances(
         let first = first(table, t);
         let count = count(table, t);
         let body = body_of(table, n, t);
-        let w = balance_walk(body, count, rises, falls);
+        let w = balance_walk(body, count, &rises, &falls);
         rises[t] = w.rise;
         falls[t] = w.fall;
         if w.below < count {

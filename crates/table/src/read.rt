@@ -2,9 +2,9 @@
 use crate::Found;
 use crate::Refusal;
 ghost use mathlib.Core.Path.{_≡_};
-ghost use Prim.Native.Nat.{_+_, _*_, _≤_, _<_};
-ghost use lib.ListN.{length, getD};
-ghost use Rattle.table.specs.Format.{u16At, threadsOf, actionsOf, bodiesFrom, bodyOf, codeAt, argumentAt, tableOf};
+ghost use Prim.Native.Nat.{_+_, _*_, _<_};
+ghost use lib.ListN.{length, getD, drop};
+ghost use Rattle.table.specs.Format.{u16At, threadsOf, actionsOf, bodiesFrom, codeAt, argumentAt, tableOf};
 ghost use Rattle.table.specs.Pass.{refusal};
 ghost use Rattle.table.specs.Steps.{Read, DoubleWord};
 
@@ -69,7 +69,7 @@ pub fn actions(table: &[u8]) -> usize
 }
 
 // What stands after the head and n entries: the actions of a table of n threads, and with n 0 its contents.
-pub(crate) fn bodies(table: &[u8], n: usize) -> &[u8]
+pub fn bodies(table: &[u8], n: usize) -> &[u8]
     ensures { λ r. ⌜ now r ≡ bodiesFrom (now (table .entry)) n ⌝ }
 {
     let end = table.len();
@@ -94,30 +94,48 @@ pub fn count(table: &[u8], t: usize) -> usize
     item(bodies(table, 0), t) / 65536
 }
 
-// The kind's code of action a, in a table of n threads.
-pub fn code(table: &[u8], n: usize, a: usize) -> u8
-    ensures { λ r. ⌜ r ≡ codeAt (bodiesFrom (now (table .entry)) n) a ⌝ }
+// The kind's code of action a, in a list of actions.
+pub fn code_in(l: &[u8], a: usize) -> u8
+    ensures { λ r. ⌜ r ≡ codeAt (now (l .entry)) a ⌝ }
 {
-    (item(bodies(table, n), a) % 256) as u8
+    (item(l, a) % 256) as u8
 }
 
 // Its argument, 24 bits.
+pub fn argument_in(l: &[u8], a: usize) -> usize
+    ensures { λ r. ⌜ Read (argumentAt (now (l .entry)) a) 16777216 r ⌝ }
+{
+    item(l, a) / 256
+}
+
+// The same of action a of a table of n threads.
+pub fn code(table: &[u8], n: usize, a: usize) -> u8
+    ensures { λ r. ⌜ r ≡ codeAt (bodiesFrom (now (table .entry)) n) a ⌝ }
+{
+    code_in(bodies(table, n), a)
+}
+
 pub fn argument(table: &[u8], n: usize, a: usize) -> usize
     ensures { λ r. ⌜ Read (argumentAt (bodiesFrom (now (table .entry)) n) a) 16777216 r ⌝ }
 {
-    item(bodies(table, n), a) / 256
+    argument_in(bodies(table, n), a)
 }
 
-// Thread t's body, with all that follows it.
-pub(crate) fn body_of(table: &[u8], n: usize, t: usize) -> &[u8]
-    requires { ⌜ (n ≡ threadsOf (now table)) × (4 + 4 * n + 4 * tableOf (now table) .first t ≤ length (now table)) ⌝ }
-    ensures { λ r. ⌜ now r ≡ bodyOf (now (table .entry)) t ⌝ }
+// Thread t's body in a table of n threads, with all that follows it.
+pub fn body_of(table: &[u8], n: usize, t: usize) -> &[u8]
+    ensures { λ r. ⌜ now r ≡ drop (4 * tableOf (now (table .entry)) .first t) (bodiesFrom (now (table .entry)) n) ⌝ }
 {
-    let start = 4 + 4 * n + 4 * first(table, t);
-    &table[start..]
+    let actions = bodies(table, n);
+    let first = first(table, t);
+    let end = actions.len();
+    if end / 4 < first {
+        return &actions[end..];
+    }
+    let start = 4 * first;
+    &actions[start..]
 }
 
-// The code and the argument of an action that is known to be there: the loader's walks have no test at each action.
+// The code and the argument of an action that is known to be there: the checks' walks have no test at each action.
 pub(crate) fn code_at(l: &[u8], a: usize) -> u8
     requires { ⌜ 4 * a + 3 < length (now l) ⌝ }
     ensures { λ r. ⌜ r ≡ codeAt (now (l .entry)) a ⌝ }

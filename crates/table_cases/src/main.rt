@@ -43,7 +43,7 @@ fn label(buffer: &mut [u8]) {
 fn table_answer(buffer: &mut [u8]) {
     let n = io::read_full(STDIN_FILENO, buffer);
     let mut line = [0u8; 80];
-    let k = text::facts_line(table::load(&buffer[..n]), &mut line);
+    let k = text::facts_line(facts::load(&buffer[..n]), &mut line);
     io::write_all(STDOUT_FILENO, &line[..k]);
 }
 

@@ -7,6 +7,6 @@ fn main() {
     let mut buffer = io::large_buffer();
     let n = io::read_full(STDIN_FILENO, &mut buffer);
     let mut line = [0u8; 80];
-    let k = text::facts_line(table::load(&buffer[..n]), &mut line);
+    let k = text::facts_line(facts::load(&buffer[..n]), &mut line);
     io::write_all(STDOUT_FILENO, &line[..k]);
 }

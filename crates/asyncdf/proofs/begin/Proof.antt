@@ -1,124 +1,94 @@
--- `asyncdf::begin` meets its contract: the table's own checks come first, and those of the beginning where they find nothing.
-use mathlib.Core.Path.{_≡_, ap, sym, _∙_}
+-- `asyncdf::begin` meets its contract: the blank record where a check applies, else that of the beginning.
+use mathlib.Core.Path.{_≡_, refl, sym, ap, _∙_}
 use Prim.Native.Nat.{ℕ, _≤_}
 use mathlib.Core.List.{List}
 use native.Mathlib.Omega.{arith}
 use borrow.Author.Needs.{needs}
-use borrow.Author.Tests.{ltb-false}
 use lib.ListN.{length}
 use denote.Ref.{now}
-use Rattle.table.specs.Format.{threadsOf, tableOf}
-use Rattle.table.specs.Pass.{firstFound}
+use Rattle.table.specs.Format.{threadsOf, actionsOf, tableOf}
+use Rattle.table.specs.Pass.{orElse, firstFound}
 use Rattle.table.specs.Rules.{passes}
 use Rattle.table.specs.Accepted.{Rules}
-use Rattle.table.specs.Load.{loaded}
-use Rattle.table.specs.declared.Facts.{Facts}
 use Rattle.table.specs.declared.Refusal.{Refusal}
+use Rattle.table.specs.declared.Found.{Found}
 use Rattle.table.specs.declared.Found.the-variants.{Nothing, At}
-use Rattle.table.specs.declared.Loaded.the-variants.{Accepted, Refused}
-use Rattle.table.proofs.Passes.{firstFound-append, found-exactly, passes-rules, accepted-exactly, accepted-facts, refused-exactly}
-use Rattle.schedule.specs.Record.{blank}
-use Rattle.schedule.specs.Begin.{begin, beginPasses, begunAs, startRun}
+use Rattle.table.proofs.Passes.{firstFound-append, passes-rules}
+use Rattle.table.proofs.Sizes.{Sizes, sizes}
+use Rattle.table.proofs.Tests.{no-way}
+use Rattle.schedule.specs.Firsts.{firsts}
+use Rattle.schedule.specs.Record.{blank, filled}
+use Rattle.schedule.specs.Begin.{begin, beginPasses, startRun}
+use Rattle.schedule.specs.Sound.{isNothing}
 use Rattle.schedule.specs.declared.Run.{Run}
 use Rattle.schedule.specs.declared.Beginning.the-variants.{Begun as started, Refused as refusedBegin}
-use Rattle.soundness.specs.Checks.{Accepted as Table}
-use Rattle.table.specs.Steps.{Read}
+use Rattle.soundness.specs.Tested.{nextIf, beginFound}
 use Rattle.schedule.proofs.Values.{begin-values}
 use Rattle.asyncdf.proofs.Calls.{begun-answers}
 use Rattle.asyncdf.proofs.begin.Statement.{statement}
 use Rattle.asyncdf.proofs.begin.Tie as tie
 
-accepted-rules : (s : List ℕ) {f : Facts} → loaded s ≡ Accepted f → Rules s
-accepted-rules s {f} h = accepted-exactly s .0 (h ∙ ap Accepted (accepted-facts s f h))
+-- the table's own checks found nothing
+first-nothing : (f g : Found) → orElse f g ≡ Nothing → f ≡ Nothing
+first-nothing Nothing g e = refl
+first-nothing (At x) g e = no-way (cc)
 
-refused-table : (s : List ℕ) (p K : ℕ) {x : Refusal} {b : Run} → loaded s ≡ Refused x → b ≡ blank → record { answer = refusedBegin x; run = b } ≡ begin s p K
-unfolding begin
-refused-table s p K {x} h e =
-    let f : firstFound (passes s) ≡ At x = found-exactly (passes s) x .1 (refused-exactly s x .0 h) in
-    rw (firstFound-append (passes s), f, e)
-
-module _ {s : List ℕ} (r : Rules s) (p K : ℕ) where
-  begin-is : begunAs (firstFound (beginPasses (tableOf s) p K)) (startRun s p K) ≡ begin s p K
+module _ (s : List ℕ) (p K : ℕ) {f : Found} (d : f ≡ beginFound s p K) where
+  refused : {x : Refusal} {b : Run} → f ≡ At x → b ≡ blank → record { answer = refusedBegin x; run = b } ≡ begin s p K
   unfolding begin
-  begin-is = rw (firstFound-append (passes s), passes-rules s .1 r)
+  refused e g = rw (← d, e, g)
 
-  refused-begin : {x : Refusal} {b : Run} → firstFound (beginPasses (tableOf s) p K) ≡ At x → b ≡ blank
-      → record { answer = refusedBegin x; run = b } ≡ begin s p K
-  refused-begin f e = rw (← begin-is, f, e)
+  begun : {b : Run} → f ≡ Nothing → b ≡ startRun s p K → record { answer = started; run = b } ≡ begin s p K
+  unfolding begin
+  begun e g = rw (← d, e, g)
 
-  begun : {b : Run} → firstFound (beginPasses (tableOf s) p K) ≡ Nothing → b ≡ startRun s p K → record { answer = started; run = b } ≡ begin s p K
-  begun f e = rw (← begin-is, f, e)
+  module _ (e : f ≡ Nothing) where
+    accepted : Rules s
+    accepted = passes-rules s .0 (first-nothing (firstFound (passes s)) (firstFound (beginPasses (tableOf s) p K)) (sym (firstFound-append (passes s) (beginPasses (tableOf s) p K)) ∙ sym d ∙ e))
 
--- the table is accepted
-passed : (c : tie.After-enum-told) → Rules (now (c .before .before .before .before .args .bytes))
-passed c = accepted-rules _ (sym (c .before .before .load .ensures .0) ∙ c .enum-told .given .1)
+    fits : length s ≤ 36868
+    fits =
+        let z : Sizes s (threadsOf s) (actionsOf s) = sizes (record { head = accepted .head; threads = refl; actions = refl }) in
+        omega (arith, z)
 
-load-requires : tie.Need-load-requires
-load-requires c κs = search needs
+    filled-next : {next : List ℕ} → next ≡ nextIf (isNothing f) (tableOf s) → next ≡ filled 1024 (firsts (tableOf s .first) 0 (tableOf s .threads))
+    filled-next n = n ∙ ap (λ (y : Found). nextIf (isNothing y) (tableOf s)) e
 
-enum-known-loaded : tie.Need-enum-known-loaded
-enum-known-loaded c = search needs
+accept-requires : tie.Need-accept-requires
+accept-requires c κs = search needs
+
+enum-known-found : tie.Need-enum-known-found
+enum-known-found c = search needs
 
 blank-requires : tie.Need-blank-requires
 blank-requires c κs = search needs
 
 returns : tie.Need-returns
 returns c =
-    let d = c .before .before .before .before in
-    let a = d .before .before .args in
-    rw (← begin-values) (begun-answers (refused-table (now (a .bytes)) (a .p) (a .quota) (sym (d .load .ensures .0) ∙ c .before .before .loaded .given .1) (c .blank .ensures)))
+    let f = c .before .before in
+    let k = f .before .before in
+    let d = k .before .before .before .before in
+    rw (← begin-values)
+    (begun-answers (refused (now (d .args .bytes)) (d .args .p) (d .args .quota) (k .accept .ensures .0) (f .found .given .1) (c .blank .ensures)))
 
 enum-told : tie.Need-enum-told
 enum-told c = search needs
 
-begin-fault-requires : tie.Need-begin-fault-requires
-begin-fault-requires c κs = search needs
-
-enum-known-found : tie.Need-enum-known-found
-enum-known-found c = search needs
-
-blank-requires-2 : tie.Need-blank-requires-2
-blank-requires-2 c κs = search needs
+start-requires : tie.Need-start-requires
+start-requires c κs =
+    let k = c .before .before in
+    let d = k .before .before .before .before in (
+      fits (now (d .args .bytes)) (d .args .p) (d .args .quota) (k .accept .ensures .0) (c .enum-told .given .1),
+      filled-next (now (d .args .bytes)) (d .args .p) (d .args .quota) (k .accept .ensures .0) (c .enum-told .given .1) (k .accept .ensures .1 .0),
+    )
 
 returns-2 : tie.Need-returns-2
 returns-2 c =
-    let d = c .before .before .before .before in
-    let a = d .before .before .before .before .before .args in
-    rw (← begin-values) (begun-answers (refused-begin (passed (d .before)) (a .p) (a .quota) (sym (d .begin-fault .ensures) ∙ c .before .before .found .given .1) (c .blank2 .ensures)))
-
-enum-told-2 : tie.Need-enum-told-2
-enum-told-2 c = search needs
-
-threads-requires : tie.Need-threads-requires
-threads-requires c κs = search needs
-
-accepted : {s : List ℕ} → Rules s → {n : ℕ} → Read (threadsOf s) 65536 n → Table s n
-unfolding tableOf
-accepted r e = record { rules = r; threads = e .value }
-
-start-requires : tie.Need-start-requires
-start-requires c κs = accepted (passed (c .before .before .before .before)) (c .threads .ensures)
-
-returns-3 : tie.Need-returns-3
-returns-3 c =
-    let d = c .before .before .before .before in
-    let a = d .before .before .before .before .before .args in
-    rw (← begin-values) (begun-answers (begun (passed (d .before)) (a .p) (a .quota) (sym (d .begin-fault .ensures) ∙ c .before .before .enum-told2 .given .1) (c .start .ensures)))
+    let e = c .before in
+    let k = e .before .before in
+    let d = k .before .before .before .before in
+    rw (← begin-values)
+    (begun-answers (begun (now (d .args .bytes)) (d .args .p) (d .args .quota) (k .accept .ensures .0) (e .enum-told .given .1) (c .start .ensures)))
 
 pub begin-spec : {M : Type 1} → statement M
-begin-spec =
-    tie.close
-    (tie.spec
-    load-requires
-    enum-known-loaded
-    blank-requires
-    returns
-    enum-told
-    begin-fault-requires
-    enum-known-found
-    blank-requires-2
-    returns-2
-    enum-told-2
-    threads-requires
-    start-requires
-    returns-3)
+begin-spec = tie.close (tie.spec accept-requires enum-known-found blank-requires returns enum-told start-requires returns-2)

@@ -1,5 +1,5 @@
 -- `asyncdf::chart_turns` meets its contract: the checks of a line, the record's line, and the turns as they are put.
-use mathlib.Core.Path.{_≡_, refl, sym, _∙_}
+use mathlib.Core.Path.{_≡_}
 use Prim.Native.Nat.{ℕ, _+_, _*_}
 use mathlib.Core.List.{List, [], _∷_}
 use mathlib.Core.Bool.{true, false}

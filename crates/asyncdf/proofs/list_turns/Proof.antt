@@ -1,5 +1,5 @@
 -- `asyncdf::list_turns` meets its contract: check 32, and on a record that passes it the turns as they are put.
-use mathlib.Core.Path.{_≡_, refl, sym, _∙_}
+use mathlib.Core.Path.{_≡_}
 use Prim.Native.Nat.{ℕ, _+_, _*_}
 use mathlib.Core.List.{List, [], _∷_}
 use mathlib.Core.Bool.{true, false}

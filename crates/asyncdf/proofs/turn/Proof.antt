@@ -1,5 +1,5 @@
 -- `asyncdf::turn` meets its contract, check by check; a turn that is taken is a run of one turn.
-use mathlib.Core.Path.{_≡_, sym, _∙_}
+use mathlib.Core.Path.{_≡_, _∙_}
 use mathlib.Core.Bool.{false}
 use Prim.Native.Nat.{ℕ, _-_, _<_}
 use native.Mathlib.Omega.{arith}
@@ -9,7 +9,8 @@ use Rattle.schedule.specs.Turn.{unsound}
 use Rattle.schedule.proofs.Stores.{steady-fits}
 use Rattle.schedule.proofs.Values.{turn-values}
 use Rattle.soundness.proofs.Passed.{test-fails, test-passes, test-parents, has-workers}
-use Rattle.asyncdf.proofs.Calls.{turned-answers, of-list, turned-unsound, turned-none, turned-over, root-over, root-open, turn-driven, passed-along}
+use Rattle.lent.proofs.Answers.{turned-unsound, turned-none, turned-over, root-over, root-open, passed-along}
+use Rattle.asyncdf.proofs.Calls.{turned-answers, of-list, turn-driven}
 use Rattle.asyncdf.proofs.turn.Statement.{statement}
 use Rattle.asyncdf.proofs.turn.Tie as tie
 

@@ -3,20 +3,12 @@ use mathlib.Core.Path.{_≡_, ap, sym, _∙_}
 use mathlib.Core.Bool.{Bool, true, false, _&&_}
 use lib.ListN.{length}
 use borrow.Author.Needs.{needs}
-use Rattle.table.proofs.Tests.{no-way}
 use Rattle.schedule.specs.Links.{noThread}
 use Rattle.schedule.specs.Sound.{sameList}
 use Rattle.schedule.proofs.Lists.{firsts-length}
+use Rattle.links.proofs.Comparing.{both, neither}
 use Rattle.links.proofs.describe.Statement.{statement}
 use Rattle.links.proofs.describe.Tie as tie
-
-both : (s r a b : Bool) → s ≡ true → s ≡ a → r ≡ b → r ≡ (a && b)
-both s r true b e h k = k
-both s r false b e h k = no-way (cc)
-
-neither : (s a b : Bool) → s ≡ false → s ≡ a → s ≡ (a && b)
-neither s true b e h = no-way (cc)
-neither s false b e h = h
 
 lefts-size : (c : tie.After-lay) → length (c .lay .last .1 .1 .0) ≡ 1024
 lefts-size c = ap length (c .lay .ensures .0) ∙ firsts-length _ 0 noThread

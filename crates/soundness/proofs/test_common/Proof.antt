@@ -1,5 +1,5 @@
 -- `soundness::test_common` meets its contract: the table's own checks come first, then each thread's parent is noted and the common part tested.
-use mathlib.Core.Path.{_≡_, refl, ap, sym, _∙_}
+use mathlib.Core.Path.{_≡_, refl, sym, _∙_}
 use Prim.Native.Nat.{ℕ}
 use mathlib.Core.List.{List}
 use mathlib.Core.Bool.{Bool, false}
@@ -10,12 +10,9 @@ use Rattle.table.specs.Format.{tableOf}
 use Rattle.table.specs.Pass.{firstFound}
 use Rattle.table.specs.Rules.{passes}
 use Rattle.table.specs.Accepted.{Rules}
-use Rattle.table.specs.Load.{loaded}
-use Rattle.table.specs.declared.Facts.{Facts}
 use Rattle.table.specs.declared.Refusal.{Refusal}
 use Rattle.table.specs.declared.Found.the-variants.{At}
-use Rattle.table.specs.declared.Loaded.the-variants.{Accepted as good, Refused}
-use Rattle.table.proofs.Passes.{found-exactly, passes-rules, accepted-exactly, accepted-facts, refused-exactly}
+use Rattle.table.proofs.Passes.{passes-rules}
 use Rattle.schedule.specs.declared.Worker.{Worker}
 use Rattle.schedule.specs.Sound.{commonSound}
 use Rattle.soundness.specs.Checks.{Accepted}
@@ -24,16 +21,11 @@ use Rattle.soundness.proofs.Noting.{parents-right}
 use Rattle.soundness.proofs.test_common.Statement.{statement}
 use Rattle.soundness.proofs.test_common.Tie as tie
 
-accepted-rules : (s : List ℕ) {f : Facts} → loaded s ≡ good f → Rules s
-accepted-rules s {f} h = accepted-exactly s .0 (h ∙ ap good (accepted-facts s f h))
-
 module _ (s : List ℕ) (p K : ℕ) (next status amounts : List ℕ) (workers : List Worker) (set amount highest : ℕ) where
-  refused : {x : Refusal} → loaded s ≡ Refused x
+  refused : {x : Refusal} → firstFound (passes s) ≡ At x
       → record { passed = false; parents = replicate 1024 0 } ≡ commonTested s p K next status amounts workers set amount highest
   unfolding commonTested commonSound
-  refused {x} h =
-      let f : firstFound (passes s) ≡ At x = found-exactly (passes s) x .1 (refused-exactly s x .0 h) in
-      rw f
+  refused h = rw h
 
   accepted : {q : Bool} {l : List ℕ} → Rules s → q ≡ commonSound s p K next status amounts workers set amount highest → l ≡ parentsIn (tableOf s)
       → record { passed = q; parents = l } ≡ commonTested s p K next status amounts workers set amount highest
@@ -49,20 +41,20 @@ status-size s = search needs
 amounts-size : (s : tie.Start) → length (s .args .t6) ≡ 1024
 amounts-size s = search needs
 
-load-requires : tie.Need-load-requires
-load-requires c κs = search needs
+check-requires : tie.Need-check-requires
+check-requires c κs = search needs
 
 enum-told : tie.Need-enum-told
 enum-told c = search needs
 
 returns : tie.Need-returns
-returns c = refused _ _ _ _ _ _ _ _ _ _ (sym (c .before .before .load .ensures .0) ∙ c .enum-told .given .1)
+returns c = refused _ _ _ _ _ _ _ _ _ _ (sym (c .before .before .check .ensures) ∙ c .enum-told .given .1)
 
 enum-told-2 : tie.Need-enum-told-2
 enum-told-2 c = search needs
 
 passed : (c : tie.After-enum-told2) → Rules (now (c .before .before .before .before .args .table))
-passed c = accepted-rules _ (sym (c .before .before .load .ensures .0) ∙ c .enum-told2 .given .1)
+passed c = passes-rules _ .0 (sym (c .before .before .check .ensures) ∙ c .enum-told2 .given .1)
 
 known : (c : tie.After-threads) → Accepted (now (c .before .before .before .before .before .args .table)) (c .threads .result)
 unfolding tableOf
@@ -89,7 +81,7 @@ pub test-common-spec : {M : Type 1} → statement M
 test-common-spec =
     tie.close
     (tie.spec
-    load-requires
+    check-requires
     enum-told
     returns
     enum-told-2

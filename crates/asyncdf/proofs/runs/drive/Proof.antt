@@ -1,29 +1,23 @@
 -- `asyncdf::runs::drive` meets its contract: a record whose root has ended is finished at once; of any other the turns are taken on copies of its arrays and packed.
-use mathlib.Core.Path.{_≡_, refl, sym, ap, _∙_}
-use Prim.Native.Nat.{ℕ, _^_, _≤_, _<_}
+use mathlib.Core.Path.{_≡_, sym}
+use Prim.Native.Nat.{ℕ, _^_, _<_}
 use mathlib.Core.List.{List, []}
-use mathlib.Core.Bool.{false}
-use native.Mathlib.Omega.{arith}
 use borrow.Author.Needs.{needs}
-use borrow.Author.Tests.{eq-eqb, ne-eqb, eqb-false}
+use borrow.Author.Tests.{eq-eqb, eqb-false}
 use denote.Ref.{now}
-use lib.ListN.{length, getD}
-use lib.Dec.{eqb}
+use lib.ListN.{getD}
 use Rattle.schedule.specs.declared.Run.{Run}
 use Rattle.schedule.specs.declared.Reply.{Reply}
 use Rattle.schedule.specs.declared.Report.{Report}
 use Rattle.schedule.specs.declared.Report.the-variants.{Finished}
 use Rattle.schedule.specs.Machine.{ended}
-use Rattle.schedule.specs.Record.{bytesOf, tableIn}
-use Rattle.schedule.specs.Sound.{Steady}
+use Rattle.schedule.specs.Record.{bytesOf}
 use Rattle.schedule.specs.Turn.{rootEnded}
-use Rattle.asyncdf.proofs.Calls.{root-open}
-use Rattle.table.specs.Format.{threadsOf, tableOf}
-use Rattle.table.specs.Rules.{endOf}
-use Rattle.soundness.specs.Checks.{Parents}
-use Rattle.asyncdf.specs.Parts.{Arrays}
-use Rattle.asyncdf.specs.Drives.{Moving, Driven, movedOf, packedOf}
-use Rattle.asyncdf.specs.declared.runs.Moved.{Moved}
+use Rattle.lent.proofs.Answers.{root-open}
+use Rattle.lent.specs.Arrays.{Arrays}
+use Rattle.lent.specs.Packed.{movedOf, packedOf}
+use Rattle.asyncdf.specs.Drives.{Moving, Driven}
+use Rattle.lent.specs.declared.Moved.{Moved}
 use Rattle.asyncdf.proofs.Driving.{drive-over}
 use Rattle.asyncdf.proofs.Moving.{arraysOf, table-room, first-moving}
 use Rattle.asyncdf.proofs.runs.drive.Statement.{statement}

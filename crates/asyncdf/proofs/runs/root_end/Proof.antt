@@ -1,5 +1,5 @@
 -- `asyncdf::runs::root_end` meets its contract: the root's actions come first, so that its last one follows from how many they are.
-use mathlib.Core.Path.{_≡_, refl}
+use mathlib.Core.Path.{_≡_}
 use Prim.Native.Nat.{ℕ, suc, _+_, _-_, _≤_, _<_}
 use mathlib.Core.List.{List}
 use native.Mathlib.Omega.{arith}

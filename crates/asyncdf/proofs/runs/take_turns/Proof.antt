@@ -1,19 +1,19 @@
 -- `asyncdf::runs::take_turns` meets its contract. The invariant: of every record that the locals belong to at the start, the run goes along (Along).
-use mathlib.Core.Path.{_≡_, refl, sym, _∙_}
-use Prim.Native.Nat.{ℕ, _+_, _-_, _^_, _≤_, _<_}
+use mathlib.Core.Path.{refl, sym}
+use Prim.Native.Nat.{ℕ, _-_, _<_}
 use mathlib.Core.List.{List}
 use mathlib.Core.Bool.{Bool}
 use native.Mathlib.Omega.{arith}
 use borrow.Author.Needs.{needs}
 use denote.Ref.{now}
-use lib.ListN.{length}
 use Rattle.schedule.specs.declared.Worker.{Worker}
 use Rattle.schedule.specs.declared.Run.{Run}
 use Rattle.schedule.specs.declared.Reply.{Reply}
-use Rattle.asyncdf.specs.declared.runs.Moved.{Moved}
-use Rattle.asyncdf.specs.Parts.{Arrays, arrays}
-use Rattle.asyncdf.specs.Drives.{who, Sequence, Moving, Stands, packedOf}
-use Rattle.asyncdf.proofs.Moving.{not-done, other, few, sits, bit}
+use Rattle.lent.specs.declared.Moved.{Moved}
+use Rattle.lent.specs.Arrays.{Arrays, arrays}
+use Rattle.lent.specs.Packed.{packedOf}
+use Rattle.asyncdf.specs.Drives.{who, Sequence, Moving, Stands}
+use Rattle.asyncdf.proofs.Moving.{not-done, other, few}
 use Rattle.asyncdf.proofs.Along.{Along, first-along, spent, full, none, again, finished}
 use Rattle.asyncdf.proofs.runs.take_turns.Statement.{statement}
 use Rattle.asyncdf.proofs.runs.take_turns.Tie as tie
@@ -86,10 +86,7 @@ array-copy-out-worker : tie.Need-array-copy-out-worker Inv-loop μ-loop
 array-copy-out-worker c = few-workers c
 
 take-turn-requires : tie.Need-take-turn-requires Inv-loop μ-loop
-take-turn-requires c κs =
-    let e = c .before .before .before .before .before .before .before .before in
-    let v = moving (top (asked e)) in
-    (sits v (e .if2 .left), (v .outline .parent, (bit v (e .if2 .left), omega (arith, v .turns-fit, e .before .if1 .left))))
+take-turn-requires c κs = search needs
 
 mul-workers : tie.Need-mul-workers Inv-loop μ-loop
 mul-workers c = omega (arith, few-workers (tests (c .before)))

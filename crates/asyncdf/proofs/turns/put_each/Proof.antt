@@ -1,7 +1,7 @@
 -- `asyncdf::turns::put_each` meets its contract. The invariant: of every record that the locals belong to at the start, what every loop of turns keeps (Moving), and whoever puts the
 -- texts of the rest of the order puts those of the whole (Ordered); a chart's turns taken have room in a line.
 use mathlib.Core.Path.{_≡_, refl, sym, subst, _∙_}
-use Prim.Native.Nat.{ℕ, _+_, _-_, _*_, _^_, _≤_, _<_}
+use Prim.Native.Nat.{ℕ, _+_, _-_, _*_, _≤_, _<_}
 use mathlib.Core.List.{List, [], _∷_}
 use mathlib.Core.Bool.{Bool, true, false}
 use native.Mathlib.Omega.{arith}
@@ -23,17 +23,19 @@ use Rattle.schedule.proofs.Stores.{moved-steady}
 use Rattle.table.specs.Format.{kind}
 use Rattle.lines.specs.Puts.{Puts}
 use Rattle.lines.proofs.Putting.{puts-within}
-use Rattle.chart.specs.declared.Charted.the-variants.{Written}
-use Rattle.chart.specs.Chart.{Shown, shown, shownOf, lineText, lineOf, mostTurns, tooMany, charted}
+use Rattle.chart.specs.Chart.{Shown, shown, shownOf, lineText, mostTurns, tooMany}
 use Rattle.chart.proofs.Records.{wall-width, charted-written}
 use Rattle.chart.proofs.Records.{few as few-turns}
-use Rattle.asyncdf.specs.declared.runs.Moved.{Moved}
-use Rattle.asyncdf.specs.declared.runs.Taken.{Taken}
-use Rattle.asyncdf.specs.Parts.{Arrays, arrays}
-use Rattle.asyncdf.specs.Drives.{Outlined, Moving, Stands, Took, packedOf}
+use Rattle.lent.specs.declared.Moved.{Moved}
+use Rattle.lent.specs.declared.Taken.{Taken}
+use Rattle.lent.specs.Arrays.{Arrays, arrays, tableFrom}
+use Rattle.lent.specs.Counted.{turnOn}
+use Rattle.lent.specs.Counted.{taken as left-by}
+use Rattle.lent.specs.Packed.{packedOf}
+use Rattle.asyncdf.specs.Drives.{Outlined, Moving, Stands}
 use Rattle.asyncdf.specs.Sheets.{turnsTexts, widest, afterTexts, afterSize, overTexts, hindered}
-use Rattle.asyncdf.proofs.Calls.{steady-room, turned-taken}
-use Rattle.asyncdf.proofs.Moving.{not-done, other, few, sits, bit, moves, replies, keeps, over}
+use Rattle.lent.proofs.Answers.{steady-room, turned-taken}
+use Rattle.asyncdf.proofs.Moving.{not-done, other, few, moves, replies, tally, keeps, over}
 use Rattle.asyncdf.proofs.Ordered.{Listed, start, ended, exhausted, refused, again}
 use Rattle.asyncdf.proofs.Hindrances.{Free, unhindered, hinders}
 use Rattle.asyncdf.proofs.turns.put_each.Statement.{statement}
@@ -65,7 +67,7 @@ module _ {chart : Bool} {run run₀ : Run} {order out₀ : List ℕ} {at₀ : �
     stopped {number} room e z q = refused (v .listed) h (refusal number 0) (λ rest. rw e (hinders (v .moving) (getD order i 0) rest chart room (λ y. z (e ∙ y)))) q
 
     module _ (f : Free chart p (getD order i 0) (m .turns)) {B : Arrays} {r : Taken}
-        (t : Took (tableOf s) K (getD order i 0) A m (getD workers (getD order i 0) nobody) B r) where
+        (t : left-by r B ≡ turnOn (tableFrom s n) K parents (getD order i 0) A m (getD workers (getD order i 0) nobody)) where
       abbrev there : Run
       there = packedOf run B (set workers (getD order i 0) (r .worker)) (r .moved)
 
@@ -74,18 +76,18 @@ module _ {chart : Bool} {run run₀ : Run} {order out₀ : List ℕ} {at₀ : �
 
       takes : record { answer = taken (r .reply) (passedIn here (getD order i 0)); run = there } ≡ turned here (getD order i 0)
       takes =
-          let a = sym (replies (v .moving) (f .below) t) in
-          let x : there ≡ _ = sym (moves (v .moving) (f .below) t) in
+          let a = sym (replies (v .moving) (f .below) (f .room) t) in
+          let x : there ≡ _ = sym (moves (v .moving) (f .below) (f .room) t) in
           let u : unsound here ≡ false = steady-room here (v .moving .steady) (v .moving .turns-fit) (f .room) in
           (λ j. record { answer = taken (a j) (passedIn here (getD order i 0)); run = x j }) ∙ turned-taken here (getD order i 0) u own (v .moving .unended)
 
       -- the record after a turn of a chart has its line
       room-there : chart ≡ true → r .moved .turns ≤ mostTurns
-      room-there c = omega (arith, f .few c, t .count)
+      room-there c = omega (arith, f .few c, tally (v .moving) (f .below) (f .room) t)
 
       sound-there : chart ≡ true → unsound there ≡ false
       sound-there c =
-          steady-room there (subst (λ (x : Run). Steady x) (moves (v .moving) (f .below) t) (moved-steady here (v .moving .steady) (getD order i 0) own))
+          steady-room there (subst (λ (x : Run). Steady x) (moves (v .moving) (f .below) (f .room) t) (moved-steady here (v .moving .steady) (getD order i 0) own))
           (omega (arith, room-there c)) (λ z. omega (arith, z, room-there c))
 
       few-there : chart ≡ true → tooMany there ≡ false
@@ -103,11 +105,11 @@ module _ {chart : Bool} {run run₀ : Run} {order out₀ : List ℕ} {at₀ : �
 
         goes-on : ((u : ℕ) → r .reply ≡ Done u last → ⊥)
             → Tells chart run run₀ order out₀ at₀ s n last p K parents B (set workers (getD order i 0) (r .worker)) (r .moved) o k (i + 1)
-        goes-on d = record { moving = keeps (v .moving) (f .below) t (f .room) d; listed = next-listed }
+        goes-on d = record { moving = keeps (v .moving) (f .below) (f .room) t d; listed = next-listed }
 
         finished : {u a : ℕ} {z : List ℕ} {j : ℕ} → r .reply ≡ Done u a → a ≡ last → Puts o k z j (overTexts chart (lastWith true (r .moved .turns) (r .moved .totals .highest))) 64
             → Puts out₀ at₀ z j (turnsTexts chart run₀ order) (widest chart * (length order + 1))
-        finished x e u = ended next-listed (over (v .moving) (f .below) t x e) u
+        finished x e u = ended next-listed (over (v .moving) (f .below) (f .room) t x e) u
 
 record Inv (chart : Bool) (s : List ℕ) (n last p K : ℕ) (parents : List ℕ) (A₀ : Arrays) (workers₀ : List Worker) (m₀ : Moved) (order out₀ : List ℕ) (at₀ : ℕ)
     (A : Arrays) (workers : List Worker) (m : Moved) (out : List ℕ) (at i : ℕ) : Type 0 where
@@ -196,11 +198,7 @@ array-copy-out-worker : tie.Need-array-copy-out-worker Inv-loop μ-loop
 array-copy-out-worker c = few-workers c
 
 take-turn-requires : tie.Need-take-turn-requires Inv-loop μ-loop
-take-turn-requires c κs =
-    let e = c .before .before .before .before .before .before .before .before in
-    let v = moving (top e) in
-    let f = goes e in
-    (sits v (f .below), (v .outline .parent, (bit v (f .below), omega (arith, v .turns-fit, f .room))))
+take-turn-requires c κs = search needs
 
 mul-workers : tie.Need-mul-workers Inv-loop μ-loop
 mul-workers c = omega (arith, few-workers (tests (c .before)))
@@ -231,7 +229,7 @@ loop-again c =
       begun = v .begun;
       within = omega (arith, inside e .loop-test .taken);
       long = omega (arith, p .before .out2 .given, v .long);
-      room = λ x. omega (arith, goes e .few x, turn-of p .take-turn .ensures .count);
+      room = λ x. omega (arith, goes e .few x, tally (moving (top e)) (goes e .below) (goes e .room) (turn-of p .take-turn .ensures));
       tells =
           λ run m.
           goes-on (v .tells run m) (inside e .loop-test .taken) (goes e) (turn-of p .take-turn .ensures) (omega (arith, p .before .out2 .given)) (p .before .before .put-after .ensures)
@@ -269,7 +267,7 @@ loop-again-2 c =
       begun = v .begun;
       within = omega (arith, inside e .loop-test .taken);
       long = omega (arith, p .before .out2 .given, v .long);
-      room = λ x. omega (arith, goes e .few x, turn-of p .take-turn .ensures .count);
+      room = λ x. omega (arith, goes e .few x, tally (moving (top e)) (goes e .below) (goes e .room) (turn-of p .take-turn .ensures));
       tells =
           λ run m.
           goes-on (v .tells run m) (inside e .loop-test .taken) (goes e) (turn-of p .take-turn .ensures) (omega (arith, p .before .out2 .given)) (p .before .before .put-after .ensures)

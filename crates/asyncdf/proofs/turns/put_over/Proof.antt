@@ -4,7 +4,6 @@ use Prim.Native.Nat.{ℕ}
 use mathlib.Core.List.{List}
 use mathlib.Core.Bool.{Bool, true, false}
 use borrow.Author.Needs.{needs}
-use denote.Ref.{now}
 use Rattle.schedule.specs.Listing.{Last, lastWith}
 use Rattle.lines.specs.Lines.{lastTexts}
 use Rattle.lines.specs.Puts.{Puts}

@@ -1,6 +1,6 @@
 -- `asyncdf::turns::put_turns` meets its contract: nothing is put of a run that has ended or of an empty order but its end, the blank record's turns are refused with 30, and else the turns are
 -- taken on copies of the record's arrays.
-use mathlib.Core.Path.{_≡_, refl, sym, ap, _∙_}
+use mathlib.Core.Path.{_≡_, refl, sym, ap}
 use Prim.Native.Nat.{ℕ, _+_, _*_, _^_, _<_}
 use mathlib.Core.List.{List, [], _∷_}
 use mathlib.Core.Bool.{Bool, true, false}
@@ -18,10 +18,11 @@ use Rattle.schedule.specs.Turn.{unsound}
 use Rattle.schedule.specs.Listing.{lastWith}
 use Rattle.lines.specs.Puts.{Puts}
 use Rattle.soundness.proofs.Passed.{has-workers}
-use Rattle.asyncdf.specs.declared.runs.Moved.{Moved}
-use Rattle.asyncdf.specs.Drives.{Moving, movedOf, packedOf}
+use Rattle.lent.specs.declared.Moved.{Moved}
+use Rattle.lent.specs.Packed.{movedOf, packedOf}
+use Rattle.asyncdf.specs.Drives.{Moving}
 use Rattle.asyncdf.specs.Sheets.{turnsTexts, widest, overTexts}
-use Rattle.asyncdf.proofs.Calls.{turned-none, root-over, root-open}
+use Rattle.lent.proofs.Answers.{turned-none, root-over, root-open}
 use Rattle.asyncdf.proofs.Moving.{arraysOf, table-room, first-moving}
 use Rattle.asyncdf.proofs.Ordered.{texts-refused, start, ended, exhausted, refused}
 use Rattle.asyncdf.proofs.turns.put_turns.Statement.{statement}

@@ -55,23 +55,21 @@ abbrev μ-loop : tie.MeasureT-loop
 risen : (c : tie.After-child-amount Inv-loop μ-loop) →
     let d = c .before .before .before .before .before in
     let s = d .before .before .args in
-    Summed (amountAt alloc join (now (s .body)) (now (s .rises))) (d .loop .i) (d .loop .rise + (c .before .own-amount .result + c .child-amount .result))
-unfolding kindOf
+    Summed (amountAt alloc join (now (s .body)) (now (s .rises))) (d .loop .i) (d .loop .rise + (c .before .alloc-of .result + c .child-amount .result))
 risen c =
     let d = c .before .before .before .before in
     sum-next alloc join _ _ (d .before .loop .inv .ready .rise-small) (d .loop-test .taken)
-    (c .before .before .before .code-at .ensures) (c .before .before .argument-at .ensures .value) (c .before .own-amount .ensures) (c .child-amount .ensures) (d .before .loop .inv .rise-is)
+    (c .before .before .before .code-at .ensures) (c .before .before .argument-at .ensures .value) (c .before .alloc-of .ensures) (c .child-amount .ensures) (d .before .loop .inv .rise-is)
 
 fallen : (c : tie.After-child-amount2 Inv-loop μ-loop) →
     let d = c .before .before .before .before .before .before .before in
     let s = d .before .before .args in
-    Summed (amountAt free join (now (s .body)) (now (s .falls))) (d .loop .i) (d .loop .fall + (c .before .own-amount2 .result + c .child-amount2 .result))
-unfolding kindOf
+    Summed (amountAt free join (now (s .body)) (now (s .falls))) (d .loop .i) (d .loop .fall + (c .before .free-of .result + c .child-amount2 .result))
 fallen c =
     let e = c .before .before in
     let d = e .before .before .before .before in
     sum-next free join _ _ (d .before .loop .inv .ready .fall-small) (d .loop-test .taken)
-    (e .before .before .before .code-at .ensures) (e .before .before .argument-at .ensures .value) (c .before .own-amount2 .ensures) (c .child-amount2 .ensures) (d .before .loop .inv .fall-is)
+    (e .before .before .before .code-at .ensures) (e .before .before .argument-at .ensures .value) (c .before .free-of .ensures) (c .child-amount2 .ensures) (d .before .loop .inv .fall-is)
 
 loop-holds : tie.Need-loop-holds Inv-loop μ-loop
 loop-holds c = start (c .before .pre)
@@ -82,17 +80,15 @@ code-at-requires c κs = search needs
 argument-at-requires : tie.Need-argument-at-requires Inv-loop μ-loop
 argument-at-requires c κs = search needs
 
-own-amount-requires : tie.Need-own-amount-requires Inv-loop μ-loop
-own-amount-requires c κs = search needs
+alloc-of-requires : tie.Need-alloc-of-requires Inv-loop μ-loop
+alloc-of-requires c κs = search needs
 
 child-amount-requires : tie.Need-child-amount-requires Inv-loop μ-loop
 unfolding kindOf
 child-amount-requires c κs =
-    let d = c .before .before .before in (
-      omega arith,
-      λ g. child-small (d .before .loop .inv .ready) (d .loop-test .taken)
-          (c .before .before .code-at .ensures) (c .before .argument-at .ensures .value) (ap kindOf g),
-    )
+    let d = c .before .before .before in
+    λ g. child-small (d .before .loop .inv .ready) (d .loop-test .taken)
+    (c .before .before .code-at .ensures) (c .before .argument-at .ensures .value) (ap kindOf g)
 
 add-rise : tie.Need-add-rise Inv-loop μ-loop
 add-rise c = omega (arith, risen c)
@@ -100,8 +96,8 @@ add-rise c = omega (arith, risen c)
 add-rise-2 : tie.Need-add-rise-2 Inv-loop μ-loop
 add-rise-2 c = omega (arith, risen c)
 
-own-amount-requires-2 : tie.Need-own-amount-requires-2 Inv-loop μ-loop
-own-amount-requires-2 c κs = search needs
+free-of-requires : tie.Need-free-of-requires Inv-loop μ-loop
+free-of-requires c κs = search needs
 
 child-amount-requires-2 : tie.Need-child-amount-requires-2 Inv-loop μ-loop
 child-amount-requires-2 c κs = child-amount-requires (c .before .before) κs
@@ -139,11 +135,11 @@ balance-walk-spec =
     loop-holds
     code-at-requires
     argument-at-requires
-    own-amount-requires
+    alloc-of-requires
     child-amount-requires
     add-rise
     add-rise-2
-    own-amount-requires-2
+    free-of-requires
     child-amount-requires-2
     add-fall
     add-fall-2

@@ -7,9 +7,9 @@ use borrow.Author.Needs.{needs}
 use borrow.Author.Tests.{lt-ltb, le-ltb}
 use denote.Ref.{now}
 use lib.Dec.{ltb}
-use lib.ListN.{length, getD, set}
+use lib.ListN.{length, getD, set, drop}
 use Rattle.table.specs.Sum.{pick, sumTo}
-use Rattle.table.specs.Format.{Kind, alloc, free, join, kind, bodyOf, tableOf, firstOf, countOf}
+use Rattle.table.specs.Format.{Kind, alloc, free, join, kind, bodiesFrom, bodyOf, tableOf, firstOf, countOf}
 use Rattle.table.specs.Pass.{tryFrom, tryPass, orElse, refusal}
 use Rattle.table.specs.Rules.{countsBelow, allocOf, freeOf, whole, partOf, balance, balanceBelow0, balancePass}
 use Rattle.table.specs.Accepted.{ContentRules, BodyRules}
@@ -23,7 +23,7 @@ use Rattle.table.proofs.Trying.{tryFrom-split, tryFrom-last, tryFrom-al
 use Rattle.table.proofs.Bodies.{names-join, first-is, counts-all, body-within, owner-at}
 use Rattle.table.proofs.Amounts.{whole-is, partOf-bound}
 use Rattle.table.proofs.Walks.{argument-small, children-above, own-small, sums-agree, walk-ready, filled-set, least-cong, least-found}
-use Rattle.table.proofs.Parts.{body-there}
+use Rattle.table.proofs.Parts.{body-from}
 use Rattle.table.proofs.balance.balances.Statement.{statement}
 use Rattle.table.proofs.balance.balances.Tie as tie
 
@@ -167,15 +167,17 @@ module _ {s : List ℕ} {n m : ℕ} {rises falls : List ℕ} {lowest t u first c
 
 -- after the loop all places are tried
 ends : {s : List ℕ} {n m : ℕ} {rises falls : List ℕ} {lowest t : ℕ} → Inv s n m rises falls lowest t → t ≤ 0
-    → {r : Found} → r ≡ pick (ltb lowest m) (At (refusal 10 lowest)) Nothing
-    → (r ≡ tryPass (balancePass (tableOf s)))
-    × (Filled (tableOf s) (whole (tableOf s) (allocOf (tableOf s))) rises 0 × Filled (tableOf s) (whole (tableOf s) (freeOf (tableOf s))) falls 0)
+    → {r : Found} → r ≡ pick (ltb lowest m) (At (refusal 10 lowest)) Nothing → r ≡ tryPass (balancePass (tableOf s))
 unfolding tryPass tableOf sumTo
 ends {s} {m = m} {t = t} v h d =
-    let e : t ≡ 0 = omega arith in (
-      d ∙ sym (ap (tryFrom (balancePass (tableOf s) .checks) 0) (sym (v .nested .formed .laid .headed .actions)) ∙ sym (tryFrom-all _ m) ∙ rw e at (v .found)),
-      (rw e at (v .rises-done), rw e at (v .falls-done)),
-    )
+    let e : t ≡ 0 = omega arith in
+    d ∙ sym (ap (tryFrom (balancePass (tableOf s) .checks) 0) (sym (v .nested .formed .laid .headed .actions)) ∙ sym (tryFrom-all _ m) ∙ rw e at (v .found))
+
+-- the body that is walked is the thread's
+body-is : {s : List ℕ} {n m : ℕ} {rises falls : List ℕ} {lowest t : ℕ} → Inv s n m rises falls lowest t
+    → (u : ℕ) {l : List ℕ} → l ≡ drop (4 * tableOf s .first u) (bodiesFrom s n) → l ≡ bodyOf s u
+unfolding tableOf
+body-is {s} {n} v u e = e ∙ body-from s n (v .nested .formed .laid .headed .threads) u
 
 abbrev Inv-loop : tie.InvT-loop
 Inv-loop table n m rises₀ falls₀ lowest₀ t₀ rises falls lowest t = Inv table n m rises falls lowest t
@@ -194,13 +196,12 @@ turn c =
       next = omega arith;
       first-at = c .before .before .first .ensures .value;
       count-at = c .before .count .ensures .value;
-      body-is = c .body-of .ensures;
+      body-is = body-is (c .before .before .before .before .loop .inv) _ (c .body-of .ensures);
     }
 
 loop-holds : tie.Need-loop-holds Inv-loop μ-loop
 loop-holds c =
-    let d = c .before in
-    start (d .pre .0) (λ i. omega (arith, c .shared-slice-known .given i)) (d .pre .1 .0) (d .pre .1 .1)
+    start (c .before .pre) (λ i. omega (arith, c .shared-slice-known .given i)) refl refl
 
 sub-t : tie.Need-sub-t Inv-loop μ-loop
 sub-t c = search needs
@@ -212,9 +213,7 @@ count-requires : tie.Need-count-requires Inv-loop μ-loop
 count-requires c κs = search needs
 
 body-of-requires : tie.Need-body-of-requires Inv-loop μ-loop
-body-of-requires c κs =
-    let v = c .before .before .before .loop .inv in
-    body-there (v .nested .formed .laid) (omega (arith, v .within))
+body-of-requires c κs = search needs
 
 balance-walk-requires : tie.Need-balance-walk-requires Inv-loop μ-loop
 balance-walk-requires c κs = ready (turn (c .before .before))
@@ -222,14 +221,14 @@ balance-walk-requires c κs = ready (turn (c .before .before))
 mul-rises : tie.Need-mul-rises Inv-loop μ-loop
 mul-rises c = search needs
 
-element-write-rises : tie.Need-element-write-rises Inv-loop μ-loop
-element-write-rises c = search needs
+array-write-rises : tie.Need-array-write-rises Inv-loop μ-loop
+array-write-rises c = search needs
 
 mul-falls : tie.Need-mul-falls Inv-loop μ-loop
 mul-falls c = search needs
 
-element-write-falls : tie.Need-element-write-falls Inv-loop μ-loop
-element-write-falls c = search needs
+array-write-falls : tie.Need-array-write-falls Inv-loop μ-loop
+array-write-falls c = search needs
 
 add-lowest : tie.Need-add-lowest Inv-loop μ-loop
 add-lowest c = omega (arith, within-m (turn (c .before .before .before .before .before .before)), c .before .if1 .taken)
@@ -278,9 +277,9 @@ balances-spec =
     body-of-requires
     balance-walk-requires
     mul-rises
-    element-write-rises
+    array-write-rises
     mul-falls
-    element-write-falls
+    array-write-falls
     add-lowest
     loop-less
     loop-again

@@ -1,0 +1,252 @@
+-- The limits for the calls from C. A history is a beginning and calls, each on the memory that the last one left, of which nothing is known but what the functions' own `ensures` say,
+-- as the check reads them (`Learnt`), of what was lent and of what stood there at the end. `lent-history-is`: the memory and the row of turns are those of the definitions.
+-- `lent-history-exists`: every list of calls has one. `lent-code-limit` and `lent-code-threads`: so both limits hold of them.
+use mathlib.Core.Path.{_≡_, refl, sym, ap, ap₂, subst, _∙_}
+use Prim.Native.Nat.{ℕ, zero, suc, _-_, _^_, _≤_}
+use mathlib.Core.List.{List, [], _∷_, _++_}
+use contract.Lifetimes.{Lfts}
+use denote.Ref.{RefT, now}
+use denote.Triple.Clauses.{AtExit}
+use borrow.Fn.Kinds.{endedOf}
+use mathlib.Core.Bool.{Bool, true, false}
+use lib.Dec.{eqb}
+use lib.ListN.{length, getD}
+use Rattle.table.specs.Sum.{pick}
+use Rattle.table.specs.Format.{tableOf}
+use Rattle.schedule.proofs.Limit.{MemoryLimit}
+use Rattle.schedule.proofs.ThreadLimit.{ThreadLimit}
+use Rattle.lent.specs.Arrays.{arrays}
+use Rattle.schedule.specs.declared.Reply.the-variants.{Idle}
+use Rattle.lent.specs.Counted.{Left, turnOn}
+use Rattle.board.specs.Lent.{Memory, memory, workerIn, movedIn, memoryAfter, Answer, answer, lentBegin, hindrance, Told, told, turnLeft, turnIn, lentTurn, runRow, overIn, whoIn, lentDrive, lentList, lentRounds}
+use Rattle.board.specs.Stands.{runIn}
+use Rattle.schedule.specs.Answers.{finished, nothing}
+use Rattle.schedule.specs.Calls.{Call, turn, overList, inRounds}
+use Rattle.board.specs.LentCalls.{lentCall, lentRowOf, lentAfter, lentRow}
+use Rattle.board.proofs.LentLimit.{lent-limit, lent-threads}
+use Rattle.board.proofs.begin.wivakkol_begin_on.Kinds as begin-kinds
+use Rattle.board.proofs.begin.wivakkol_begin_on.Reads as begin-promise
+use Rattle.board.proofs.runs.wivakkol_list_on.Kinds as list-kinds
+use Rattle.board.proofs.runs.wivakkol_list_on.Reads as list-promise
+use Rattle.board.proofs.runs.wivakkol_rounds_on.Kinds as rounds-kinds
+use Rattle.board.proofs.runs.wivakkol_rounds_on.Reads as rounds-promise
+use Rattle.board.proofs.turn.wivakkol_turn_on.Kinds as turn-kinds
+use Rattle.board.proofs.turn.wivakkol_turn_on.Reads as turn-promise
+
+-- ---- what the promises say
+
+-- references to all that is lent
+pub record Refs : Type 0 where
+  pub table : RefT (List ℕ)
+  pub settings : RefT (List ℕ)
+  pub parents : RefT (List ℕ)
+  pub next : RefT (List ℕ)
+  pub status : RefT (List ℕ)
+  pub amounts : RefT (List ℕ)
+  pub left : RefT (List ℕ)
+  pub right : RefT (List ℕ)
+  pub under : RefT (List ℕ)
+  pub over : RefT (List ℕ)
+  pub holds : RefT (List ℕ)
+  pub threads : RefT (List ℕ)
+  pub quotas : RefT (List ℕ)
+  pub heads : RefT (List ℕ)
+  pub totals : RefT (List ℕ)
+  pub row : RefT (List ℕ)
+
+-- `wivakkol_turn_on`, lent a table s and a run M, answered a
+pub record TurnSays (s : List ℕ) (w : ℕ) (M : Memory) (a : Answer) : Type 0 where
+  pub lifetimes : Lfts 16
+  pub refs : Refs
+  pub exit : AtExit (endedOf 16 turn-kinds.ps turn-kinds.r) lifetimes
+  pub lent-table : now (refs .table) ≡ s
+  pub lent-run : memory (now (refs .settings)) (now (refs .parents)) (arrays (now (refs .next)) (now (refs .status)) (now (refs .amounts)) (now (refs .left)) (now (refs .right)) (now (refs .under)) (now (refs .over))) (now (refs .holds)) (now (refs .threads)) (now (refs .quotas)) (now (refs .heads)) (now (refs .totals)) ≡ M
+  pub left : answer (a .number) (now (exit .1 .1 .1 .1 .1 .1 .1 .1 .1 .1 .1 .1 .1 .1 .1 .1 .0)) (memory (now (refs .settings)) (now (refs .parents)) (arrays (now (exit .1 .1 .1 .1 .0)) (now (exit .1 .1 .1 .1 .1 .0)) (now (exit .1 .1 .1 .1 .1 .1 .0)) (now (exit .1 .1 .1 .1 .1 .1 .1 .0)) (now (exit .1 .1 .1 .1 .1 .1 .1 .1 .0)) (now (exit .1 .1 .1 .1 .1 .1 .1 .1 .1 .0)) (now (exit .1 .1 .1 .1 .1 .1 .1 .1 .1 .1 .0))) (now (exit .1 .1 .1 .1 .1 .1 .1 .1 .1 .1 .1 .0)) (now (exit .1 .1 .1 .1 .1 .1 .1 .1 .1 .1 .1 .1 .0)) (now (exit .1 .1 .1 .1 .1 .1 .1 .1 .1 .1 .1 .1 .1 .0)) (now (exit .1 .1 .1 .1 .1 .1 .1 .1 .1 .1 .1 .1 .1 .1 .0)) (now (exit .1 .1 .1 .1 .1 .1 .1 .1 .1 .1 .1 .1 .1 .1 .1 .0))) ≡ a
+  pub promised : turn-promise.Learnt lifetimes (refs .table, (w, (refs .settings, (refs .parents, (refs .next, (refs .status, (refs .amounts, (refs .left, (refs .right, (refs .under, (refs .over, (refs .holds, (refs .threads, (refs .quotas, (refs .heads, (refs .totals, (refs .row, tt))))))))))))))))) (a .number) exit
+
+-- `wivakkol_list_on`, lent an order l too
+pub record ListSays (s : List ℕ) (l : List ℕ) (M : Memory) (a : Answer) : Type 0 where
+  pub lifetimes : Lfts 17
+  pub refs : Refs
+  pub order : RefT (List ℕ)
+  pub lent-order : now order ≡ l
+  pub exit : AtExit (endedOf 17 list-kinds.ps list-kinds.r) lifetimes
+  pub lent-table : now (refs .table) ≡ s
+  pub lent-run : memory (now (refs .settings)) (now (refs .parents)) (arrays (now (refs .next)) (now (refs .status)) (now (refs .amounts)) (now (refs .left)) (now (refs .right)) (now (refs .under)) (now (refs .over))) (now (refs .holds)) (now (refs .threads)) (now (refs .quotas)) (now (refs .heads)) (now (refs .totals)) ≡ M
+  pub left : answer (a .number) (now (exit .1 .1 .1 .1 .1 .1 .1 .1 .1 .1 .1 .1 .1 .1 .1 .1 .0)) (memory (now (refs .settings)) (now (refs .parents)) (arrays (now (exit .1 .1 .1 .1 .0)) (now (exit .1 .1 .1 .1 .1 .0)) (now (exit .1 .1 .1 .1 .1 .1 .0)) (now (exit .1 .1 .1 .1 .1 .1 .1 .0)) (now (exit .1 .1 .1 .1 .1 .1 .1 .1 .0)) (now (exit .1 .1 .1 .1 .1 .1 .1 .1 .1 .0)) (now (exit .1 .1 .1 .1 .1 .1 .1 .1 .1 .1 .0))) (now (exit .1 .1 .1 .1 .1 .1 .1 .1 .1 .1 .1 .0)) (now (exit .1 .1 .1 .1 .1 .1 .1 .1 .1 .1 .1 .1 .0)) (now (exit .1 .1 .1 .1 .1 .1 .1 .1 .1 .1 .1 .1 .1 .0)) (now (exit .1 .1 .1 .1 .1 .1 .1 .1 .1 .1 .1 .1 .1 .1 .0)) (now (exit .1 .1 .1 .1 .1 .1 .1 .1 .1 .1 .1 .1 .1 .1 .1 .0))) ≡ a
+  pub promised : list-promise.Learnt lifetimes (refs .table, (order, (refs .settings, (refs .parents, (refs .next, (refs .status, (refs .amounts, (refs .left, (refs .right, (refs .under, (refs .over, (refs .holds, (refs .threads, (refs .quotas, (refs .heads, (refs .totals, (refs .row, tt))))))))))))))))) (a .number) exit
+
+-- `wivakkol_rounds_on`
+pub record RoundsSays (s : List ℕ) (limit : ℕ) (M : Memory) (a : Answer) : Type 0 where
+  pub lifetimes : Lfts 16
+  pub refs : Refs
+  pub exit : AtExit (endedOf 16 rounds-kinds.ps rounds-kinds.r) lifetimes
+  pub lent-table : now (refs .table) ≡ s
+  pub lent-run : memory (now (refs .settings)) (now (refs .parents)) (arrays (now (refs .next)) (now (refs .status)) (now (refs .amounts)) (now (refs .left)) (now (refs .right)) (now (refs .under)) (now (refs .over))) (now (refs .holds)) (now (refs .threads)) (now (refs .quotas)) (now (refs .heads)) (now (refs .totals)) ≡ M
+  pub left : answer (a .number) (now (exit .1 .1 .1 .1 .1 .1 .1 .1 .1 .1 .1 .1 .1 .1 .1 .1 .0)) (memory (now (refs .settings)) (now (refs .parents)) (arrays (now (exit .1 .1 .1 .1 .0)) (now (exit .1 .1 .1 .1 .1 .0)) (now (exit .1 .1 .1 .1 .1 .1 .0)) (now (exit .1 .1 .1 .1 .1 .1 .1 .0)) (now (exit .1 .1 .1 .1 .1 .1 .1 .1 .0)) (now (exit .1 .1 .1 .1 .1 .1 .1 .1 .1 .0)) (now (exit .1 .1 .1 .1 .1 .1 .1 .1 .1 .1 .0))) (now (exit .1 .1 .1 .1 .1 .1 .1 .1 .1 .1 .1 .0)) (now (exit .1 .1 .1 .1 .1 .1 .1 .1 .1 .1 .1 .1 .0)) (now (exit .1 .1 .1 .1 .1 .1 .1 .1 .1 .1 .1 .1 .1 .0)) (now (exit .1 .1 .1 .1 .1 .1 .1 .1 .1 .1 .1 .1 .1 .1 .0)) (now (exit .1 .1 .1 .1 .1 .1 .1 .1 .1 .1 .1 .1 .1 .1 .1 .0))) ≡ a
+  pub promised : rounds-promise.Learnt lifetimes (refs .table, (limit, (refs .settings, (refs .parents, (refs .next, (refs .status, (refs .amounts, (refs .left, (refs .right, (refs .under, (refs .over, (refs .holds, (refs .threads, (refs .quotas, (refs .heads, (refs .totals, (refs .row, tt))))))))))))))))) (a .number) exit
+
+-- `wivakkol_begin_on`, lent a table s, answered a
+pub record BeginSays (s : List ℕ) (p K : ℕ) (a : Answer) : Type 0 where
+  pub lifetimes : Lfts 16
+  pub refs : Refs
+  pub exit : AtExit (endedOf 16 begin-kinds.ps begin-kinds.r) lifetimes
+  pub lent-table : now (refs .table) ≡ s
+  pub left : answer (a .number) (now (exit .1 .1 .1 .1 .1 .1 .1 .1 .1 .1 .1 .1 .1 .1 .1 .1 .1 .0)) (memory (now (exit .1 .1 .1 .0)) (now (exit .1 .1 .1 .1 .0)) (arrays (now (exit .1 .1 .1 .1 .1 .0)) (now (exit .1 .1 .1 .1 .1 .1 .0)) (now (exit .1 .1 .1 .1 .1 .1 .1 .0)) (now (exit .1 .1 .1 .1 .1 .1 .1 .1 .0)) (now (exit .1 .1 .1 .1 .1 .1 .1 .1 .1 .0)) (now (exit .1 .1 .1 .1 .1 .1 .1 .1 .1 .1 .0)) (now (exit .1 .1 .1 .1 .1 .1 .1 .1 .1 .1 .1 .0))) (now (exit .1 .1 .1 .1 .1 .1 .1 .1 .1 .1 .1 .1 .0)) (now (exit .1 .1 .1 .1 .1 .1 .1 .1 .1 .1 .1 .1 .1 .0)) (now (exit .1 .1 .1 .1 .1 .1 .1 .1 .1 .1 .1 .1 .1 .1 .0)) (now (exit .1 .1 .1 .1 .1 .1 .1 .1 .1 .1 .1 .1 .1 .1 .1 .0)) (now (exit .1 .1 .1 .1 .1 .1 .1 .1 .1 .1 .1 .1 .1 .1 .1 .1 .0))) ≡ a
+  pub promised : begin-promise.Learnt lifetimes (refs .table, (p, (K, (refs .settings, (refs .parents, (refs .next, (refs .status, (refs .amounts, (refs .left, (refs .right, (refs .under, (refs .over, (refs .holds, (refs .threads, (refs .quotas, (refs .heads, (refs .totals, (refs .row, tt)))))))))))))))))) (a .number) exit
+
+turn-is : {s : List ℕ} {w : ℕ} {M : Memory} {a : Answer} → TurnSays s w M a → a ≡ lentTurn s w M
+turn-is {s} {w} {M} h = sym (h .left) ∙ h .promised ∙ ap₂ (λ (t : List ℕ) (x : Memory). lentTurn t w x) (h .lent-table) (h .lent-run)
+
+list-is : {s l : List ℕ} {M : Memory} {a : Answer} → ListSays s l M a → a ≡ lentList s l M
+list-is {s} {l} {M} h = sym (h .left) ∙ h .promised ∙ (λ i. lentList (h .lent-table i) (h .lent-order i) (h .lent-run i))
+
+rounds-is : {s : List ℕ} {limit : ℕ} {M : Memory} {a : Answer} → RoundsSays s limit M a → a ≡ lentRounds s limit M
+rounds-is {s} {limit} {M} h = sym (h .left) ∙ h .promised ∙ ap₂ (λ (t : List ℕ) (x : Memory). lentRounds t limit x) (h .lent-table) (h .lent-run)
+
+begin-is : {s : List ℕ} {p K : ℕ} {a : Answer} → BeginSays s p K a → a ≡ lentBegin s p K
+begin-is {s} {p} {K} h = sym (h .left) ∙ h .promised ∙ ap (λ (t : List ℕ). lentBegin t p K) (h .lent-table)
+
+-- ---- a history
+
+-- one call on memory M, and what it answered
+pub data LentCalled (s : List ℕ) (M : Memory) : Call → Answer → Type 0 where
+  by-turn : {w : ℕ} {a : Answer} → TurnSays s w M a → LentCalled s M (turn w) a
+  by-list : {l : List ℕ} {a : Answer} → ListSays s l M a → LentCalled s M (overList l) a
+  by-rounds : {limit : ℕ} {a : Answer} → RoundsSays s limit M a → LentCalled s M (inRounds limit) a
+
+call-is : {s : List ℕ} {M : Memory} {c : Call} {a : Answer} → LentCalled s M c a → a ≡ lentCall s c M
+unfolding lentCall
+call-is (by-turn h) = turn-is h
+call-is (by-list h) = list-is h
+call-is (by-rounds h) = rounds-is h
+
+-- calls one after the other: the workers whose turns were taken, as the answers have it, and the memory that they leave
+pub data LentHistory (s : List ℕ) : Memory → List Call → List ℕ → Memory → Type 0 where
+  none : {M : Memory} → LentHistory s M [] [] M
+  next : {M M' : Memory} {c : Call} {a : Answer} {l : List Call} {row : List ℕ} → LentCalled s M c a → LentHistory s (a .memory) l row M'
+      → LentHistory s M (c ∷ l) (lentRowOf c M a ++ row) M'
+
+pub lent-history-is : {s : List ℕ} {M M' : Memory} {l : List Call} {row : List ℕ} → LentHistory s M l row M' → (M' ≡ lentAfter s l M) × (row ≡ lentRow s l M)
+unfolding lentAfter lentRow
+lent-history-is none = (refl, refl)
+lent-history-is {s} (next {M} {M'} {c} {a} {l} {row} h t) =
+    let e = call-is h in
+    let d = lent-history-is t in (
+      d .0 ∙ ap (λ (x : Answer). lentAfter s l (x .memory)) e,
+      ap₂ _++_ (ap (lentRowOf c M) e) (d .1 ∙ ap (λ (x : Answer). lentRow s l (x .memory)) e),
+    )
+
+-- ---- a history exists
+
+-- a reference at some place to a value
+abbrev lentOf : List ℕ → RefT (List ℕ)
+lentOf l = record { ptr = (0, 0); name = 0; now = l }
+
+abbrev refsOf : List ℕ → Memory → Refs
+refsOf s M = record { table = lentOf s; settings = lentOf (M .settings); parents = lentOf (M .parents); next = lentOf (M .arrays .next); status = lentOf (M .arrays .status); amounts = lentOf (M .arrays .amounts); left = lentOf (M .arrays .left); right = lentOf (M .arrays .right); under = lentOf (M .arrays .under); over = lentOf (M .arrays .over); holds = lentOf (M .holds); threads = lentOf (M .threads); quotas = lentOf (M .quotas); heads = lentOf (M .heads); totals = lentOf (M .totals); row = lentOf [] }
+
+-- what the definitions answer keeps the promises
+begin-says : (s : List ℕ) (p K : ℕ) → BeginSays s p K (lentBegin s p K)
+begin-says s p K =
+    let a : Answer = lentBegin s p K in
+    record { lifetimes = ([], ([], ([], ([], ([], ([], ([], ([], ([], ([], ([], ([], ([], ([], ([], ([], tt)))))))))))))))); refs = refsOf s (a .memory); exit = (lentOf s, (p, (K, (lentOf (a .memory .settings), (lentOf (a .memory .parents), (lentOf (a .memory .arrays .next), (lentOf (a .memory .arrays .status), (lentOf (a .memory .arrays .amounts), (lentOf (a .memory .arrays .left), (lentOf (a .memory .arrays .right), (lentOf (a .memory .arrays .under), (lentOf (a .memory .arrays .over), (lentOf (a .memory .holds), (lentOf (a .memory .threads), (lentOf (a .memory .quotas), (lentOf (a .memory .heads), (lentOf (a .memory .totals), (lentOf (a .row), tt)))))))))))))))))); lent-table = refl; left = refl; promised = refl }
+
+-- a call leaves p, K and the parents as they are
+abbrev Keeps : Memory → Memory → Type 0
+Keeps M N = (M .settings ≡ N .settings) × (M .parents ≡ N .parents)
+
+turn-keeps : (s : List ℕ) (w : ℕ) (M : Memory) → Keeps M (turnIn s w M .memory)
+unfolding turnIn turnLeft
+turn-keeps s w M =
+    let number : ℕ = hindrance (movedIn M .turns) (getD (M .settings) 0 0) w (getD (M .arrays .status) 0 0) in
+    let z : Left = turnOn (tableOf s) (getD (M .settings) 1 0) (M .parents) w (M .arrays) (movedIn M) (workerIn M w) in
+    go (eqb number 0) (z .fits) number z
+  where
+    go : (b c : Bool) (n : ℕ) (z : Left) → Keeps M (pick b (pick c (told 0 (z .reply) (memoryAfter M w z)) (told 32 Idle M)) (told n Idle M) .memory)
+    go true true n z = (refl, refl)
+    go true false n z = (refl, refl)
+    go false c n z = (refl, refl)
+
+drive-keeps : (s : List ℕ) (who : ℕ → ℕ) (k i : ℕ) (M : Memory) → Keeps M (lentDrive s who k i M .memory)
+unfolding lentDrive
+drive-keeps s who zero i M = (refl, refl)
+drive-keeps s who (suc k) i M = go (overIn M) (eqb (turnIn s (who i) M .number) 0) (turn-keeps s (who i) M) (drive-keeps s who k (suc i) (turnIn s (who i) M .memory))
+  where
+    go : (b c : Bool) → Keeps M (turnIn s (who i) M .memory) → Keeps (turnIn s (who i) M .memory) (lentDrive s who k (suc i) (turnIn s (who i) M .memory) .memory)
+        → Keeps M (pick b (answer 0 (runRow finished i) M)
+        (pick c (lentDrive s who k (suc i) (turnIn s (who i) M .memory)) (answer (turnIn s (who i) M .number) (runRow nothing i) M)) .memory)
+    go true c t r = (refl, refl)
+    go false true t r = (t .0 ∙ r .0, t .1 ∙ r .1)
+    go false false t r = (refl, refl)
+
+either : (M : Memory) (b : Bool) (x y : Answer) → Keeps M (x .memory) → Keeps M (y .memory) → Keeps M (pick b x y .memory)
+either M true x y h k = h
+either M false x y h k = k
+
+list-keeps : (s l : List ℕ) (M : Memory) → Keeps M (lentList s l M .memory)
+unfolding lentList
+list-keeps s l M = either M (eqb (movedIn M .turns) (2 ^ 64 - 1)) _ _ (refl, refl) (drive-keeps s (whoIn l false (getD (M .settings) 0 0)) (length l) 0 M)
+
+rounds-keeps : (s : List ℕ) (limit : ℕ) (M : Memory) → Keeps M (lentRounds s limit M .memory)
+unfolding lentRounds
+rounds-keeps s limit M =
+    either M (eqb (movedIn M .turns) (2 ^ 64 - 1)) _ _ (refl, refl)
+    (either M (eqb (getD (M .settings) 0 0) 0) _ _ (refl, refl) (drive-keeps s (whoIn [] true (getD (M .settings) 0 0)) limit 0 M))
+
+-- so an answer has the settings and parents that were lent
+with-lent : (M : Memory) (a : Answer) → Keeps M (a .memory)
+    → answer (a .number) (a .row) (memory (M .settings) (M .parents) (a .memory .arrays) (a .memory .holds) (a .memory .threads) (a .memory .quotas) (a .memory .heads) (a .memory .totals)) ≡ a
+with-lent M a k =
+    λ i. answer (a .number) (a .row) (memory (k .0 i) (k .1 i) (a .memory .arrays) (a .memory .holds) (a .memory .threads) (a .memory .quotas) (a .memory .heads) (a .memory .totals))
+
+turn-says : (s : List ℕ) (w : ℕ) (M : Memory) → TurnSays s w M (lentTurn s w M)
+unfolding lentTurn
+turn-says s w M =
+    let a : Answer = lentTurn s w M in
+    let e = with-lent M a (turn-keeps s w M) in
+    record { lifetimes = ([], ([], ([], ([], ([], ([], ([], ([], ([], ([], ([], ([], ([], ([], ([], ([], tt)))))))))))))))); refs = refsOf s M; exit = (lentOf s, (w, (lentOf (a .memory .settings), (lentOf (a .memory .parents), (lentOf (a .memory .arrays .next), (lentOf (a .memory .arrays .status), (lentOf (a .memory .arrays .amounts), (lentOf (a .memory .arrays .left), (lentOf (a .memory .arrays .right), (lentOf (a .memory .arrays .under), (lentOf (a .memory .arrays .over), (lentOf (a .memory .holds), (lentOf (a .memory .threads), (lentOf (a .memory .quotas), (lentOf (a .memory .heads), (lentOf (a .memory .totals), (lentOf (a .row), tt))))))))))))))))); lent-table = refl; lent-run = refl; left = e; promised = e }
+
+list-says : (s l : List ℕ) (M : Memory) → ListSays s l M (lentList s l M)
+list-says s l M =
+    let a : Answer = lentList s l M in
+    let e = with-lent M a (list-keeps s l M) in
+    record { lifetimes = ([], ([], ([], ([], ([], ([], ([], ([], ([], ([], ([], ([], ([], ([], ([], ([], ([], tt))))))))))))))))); refs = refsOf s M; order = lentOf l; lent-order = refl; exit = (lentOf s, (lentOf l, (lentOf (a .memory .settings), (lentOf (a .memory .parents), (lentOf (a .memory .arrays .next), (lentOf (a .memory .arrays .status), (lentOf (a .memory .arrays .amounts), (lentOf (a .memory .arrays .left), (lentOf (a .memory .arrays .right), (lentOf (a .memory .arrays .under), (lentOf (a .memory .arrays .over), (lentOf (a .memory .holds), (lentOf (a .memory .threads), (lentOf (a .memory .quotas), (lentOf (a .memory .heads), (lentOf (a .memory .totals), (lentOf (a .row), tt))))))))))))))))); lent-table = refl; lent-run = refl; left = e; promised = e }
+
+rounds-says : (s : List ℕ) (limit : ℕ) (M : Memory) → RoundsSays s limit M (lentRounds s limit M)
+rounds-says s limit M =
+    let a : Answer = lentRounds s limit M in
+    let e = with-lent M a (rounds-keeps s limit M) in
+    record { lifetimes = ([], ([], ([], ([], ([], ([], ([], ([], ([], ([], ([], ([], ([], ([], ([], ([], tt)))))))))))))))); refs = refsOf s M; exit = (lentOf s, (limit, (lentOf (a .memory .settings), (lentOf (a .memory .parents), (lentOf (a .memory .arrays .next), (lentOf (a .memory .arrays .status), (lentOf (a .memory .arrays .amounts), (lentOf (a .memory .arrays .left), (lentOf (a .memory .arrays .right), (lentOf (a .memory .arrays .under), (lentOf (a .memory .arrays .over), (lentOf (a .memory .holds), (lentOf (a .memory .threads), (lentOf (a .memory .quotas), (lentOf (a .memory .heads), (lentOf (a .memory .totals), (lentOf (a .row), tt))))))))))))))))); lent-table = refl; lent-run = refl; left = e; promised = e }
+
+called : (s : List ℕ) (M : Memory) (c : Call) → LentCalled s M c (lentCall s c M)
+unfolding lentCall
+called s M (turn w) = by-turn (turn-says s w M)
+called s M (overList l) = by-list (list-says s l M)
+called s M (inRounds limit) = by-rounds (rounds-says s limit M)
+
+pub lent-history-exists : (s : List ℕ) (M : Memory) (l : List Call) → LentHistory s M l (lentRow s l M) (lentAfter s l M)
+unfolding lentAfter lentRow
+lent-history-exists s M [] = none
+lent-history-exists s M (c ∷ l) = next (called s M c) (lent-history-exists s (lentCall s c M .memory) l)
+
+-- ---- the limits
+
+module _ {s : List ℕ} {p K : ℕ} {a : Answer} (h : BeginSays s p K a) (e : a .number ≡ 0) {l : List Call} {row : List ℕ} {M : Memory} (t : LentHistory s (a .memory) l row M) where
+  holds : (P : Memory → List ℕ → Type 0) → P (lentAfter s l (lentBegin s p K .memory)) (lentRow s l (lentBegin s p K .memory)) → P M row
+  holds P g =
+      let b = begin-is h in
+      let d = lent-history-is t in
+      subst (λ (x : Memory). P x row) (sym (d .0 ∙ ap (λ (x : Answer). lentAfter s l (x .memory)) b))
+      (subst (λ (x : List ℕ). P (lentAfter s l (lentBegin s p K .memory)) x) (sym (d .1 ∙ ap (λ (x : Answer). lentRow s l (x .memory)) b)) g)
+
+  begun : lentBegin s p K .number ≡ 0
+  begun = ap (λ (x : Answer). x .number) (sym (begin-is h)) ∙ e
+
+  -- Demand 3: `wivakkol_begin_on` answered 0, and the calls of any history followed. Of the record that stands in the memory left and of the row of turns taken the memory limit holds.
+  pub lent-code-limit : (most : ℕ) → 1 ≤ most → MemoryLimit (tableOf s) p K most (runIn s M) row
+  lent-code-limit most g = holds (λ (x : Memory) (y : List ℕ). MemoryLimit (tableOf s) p K most (runIn s x) y) (lent-limit s p K begun l most g)
+
+  -- N2's limit too
+  pub lent-code-threads : (most : ℕ) → 1 ≤ most → ThreadLimit (tableOf s) p K most (runIn s M) row
+  lent-code-threads most g = holds (λ (x : Memory) (y : List ℕ). ThreadLimit (tableOf s) p K most (runIn s x) y) (lent-threads s p K begun l most g)

@@ -1,0 +1,3 @@
+pub mod NestWalk
+pub mod Tops
+pub mod EndLevels

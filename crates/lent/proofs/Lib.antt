@@ -1,0 +1,13 @@
+pub mod Reading
+pub mod Leaves
+pub mod Bits
+pub mod Unfit
+pub mod Parts
+pub mod Seats
+pub mod Local
+pub mod Linking
+pub mod Sound
+pub mod Busy
+pub mod Packed
+pub mod Answers
+pub mod Starts

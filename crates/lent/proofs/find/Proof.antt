@@ -1,0 +1,57 @@
+-- `lent::find` meets its contract: a worker that holds a thread keeps it, one that holds none takes the thread found, if there is one.
+use mathlib.Core.Path.{_≡_}
+use Prim.Native.Nat.{ℕ, _≤_, _<_}
+use mathlib.Core.List.{List}
+use mathlib.Core.Bool.{true, false}
+use borrow.Author.Needs.{needs}
+use borrow.Author.Tests.{lt-ltb, le-ltb}
+use denote.Ref.{now}
+use lib.ListN.{set}
+use Rattle.schedule.specs.declared.Worker.{Worker}
+use Rattle.schedule.specs.Machine.{held}
+use Rattle.schedule.specs.Links.{noThread}
+use Rattle.lent.specs.Turn.{seat, seatOf}
+use Rattle.lent.proofs.find.Statement.{statement}
+use Rattle.lent.proofs.find.Tie as tie
+
+module _ (K : ℕ) (status : List ℕ) (worker : Worker) where
+  keeps : worker .holds ≡ true → (t : ℕ) → seat status worker ≡ seatOf K status t worker
+  unfolding seatOf
+  keeps h t = rw h
+
+  module _ (h : worker .holds ≡ false) {t u : ℕ} (e : t ≡ u) where
+    none : noThread ≤ t → seat status worker ≡ seatOf K status u worker
+    unfolding seatOf
+    none b = rw (h, ← e, le-ltb t noThread b)
+
+    takes : t < noThread → seat (set status t held) (record { holds = true; thread = t; quota = K }) ≡ seatOf K status u worker
+    unfolding seatOf
+    takes b = rw (h, ← e, lt-ltb t noThread b)
+
+returns : tie.Need-returns
+returns c = keeps (c .before .args .quota) (now (c .before .args .status)) (c .before .args .worker) (c .if1 .taken) _
+
+seek-requires : tie.Need-seek-requires
+seek-requires c κs = search needs
+
+returns-2 : tie.Need-returns-2
+returns-2 c =
+    let k = c .before in
+    let e = k .before .before in
+    none (e .before .args .quota) (now (e .before .args .status)) (e .before .args .worker) (e .if1 .left) (k .seek .ensures .0) (c .if2 .taken)
+
+cast-status : tie.Need-cast-status
+cast-status c = search needs
+
+element-write-status : tie.Need-element-write-status
+element-write-status c = search needs
+
+returns-3 : tie.Need-returns-3
+returns-3 c =
+    let k = c .before in
+    let e = k .before .before in
+    takes (e .before .args .quota) (now (e .before .args .status)) (e .before .args .worker) (e .if1 .left) (k .seek .ensures .0) (c .if2 .left)
+
+pub find-spec : {M : Type 1} → statement M
+find-spec =
+    tie.close (tie.spec returns seek-requires returns-2 cast-status element-write-status returns-3)
