@@ -2,6 +2,7 @@
 mod Answers
 mod Cases
 mod Begins
+mod Opens
 mod Turns
 pub mod Refines
 pub mod LentLimit

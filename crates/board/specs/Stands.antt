@@ -14,15 +14,15 @@ use Rattle.schedule.specs.Sound.{Steady}
 use Rattle.schedule.specs.Answers.{Values}
 use Rattle.lent.specs.Arrays.{secondOf, listedIn}
 use Rattle.lent.specs.Packed.{packedOf}
-use Rattle.board.specs.Lent.{Memory, workerIn, movedIn, saidCode}
+use Rattle.board.specs.Lent.{Memory, workerFrom, movedIn, saidCode}
 
 -- n workers from worker w on
-unfoldable pub workersFrom : Memory → ℕ → ℕ → List Worker
-workersFrom M w zero = []
-workersFrom M w (suc n) = workerIn M w ∷ workersFrom M (suc w) n
+unfoldable pub workersFrom : List ℕ → List ℕ → List ℕ → ℕ → ℕ → List Worker
+workersFrom holds threads quotas w zero = []
+workersFrom holds threads quotas w (suc n) = workerFrom holds threads quotas w ∷ workersFrom holds threads quotas (suc w) n
 
 abbrev pub workersIn : Memory → List Worker
-workersIn M = workersFrom M 0 maxWorkers
+workersIn M = workersFrom (M .holds) (M .threads) (M .quotas) 0 maxWorkers
 
 -- the table, p and K; the rest of the record is the memory's
 abbrev pub settled : List ℕ → Memory → Run
