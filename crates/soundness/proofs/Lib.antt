@@ -13,3 +13,4 @@ pub mod Blank
 pub mod Reading
 pub mod Passed
 pub mod Laying
+pub mod OnParts
