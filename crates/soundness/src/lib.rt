@@ -9,6 +9,7 @@ use schedule::Worker;
 use table::Found;
 use table::read;
 ghost use mathlib.Core.Path.{_≡_};
+ghost use lib.ListN.{replicate};
 ghost use Rattle.table.specs.Format.{tableOf};
 ghost use Rattle.schedule.specs.Sound.{isNothing};
 ghost use Rattle.soundness.specs.Tested.{beginFound, commonTested, nextIf, parentsIf, tested};
@@ -44,9 +45,29 @@ pub fn accept(
     ensures { λ r. ⌜ now (next .exit) ≡ nextIf (isNothing r) (tableOf (now (table .entry))) ⌝ }
     ensures { λ r. ⌜ now (parents .exit) ≡ parentsIf (isNothing r) (tableOf (now (table .entry))) ⌝ }
 {
+    let mut rises = [0u64; 1024];
+    let mut falls = [0u64; 1024];
+    accept_in(table, p, quota, next, parents, &mut rises, &mut falls)
+}
+
+// The same in lent working memory, which may hold anything and is left cleared.
+pub fn accept_in(
+    table: &[u8],
+    p: u8,
+    quota: u32,
+    next: &mut [u16; 1024],
+    parents: &mut [u16; 1024],
+    rises: &mut [u64; 1024],
+    falls: &mut [u64; 1024],
+) -> Found
+    ensures { λ r. ⌜ r ≡ beginFound (now (table .entry)) p quota ⌝ }
+    ensures { λ r. ⌜ now (next .exit) ≡ nextIf (isNothing r) (tableOf (now (table .entry))) ⌝ }
+    ensures { λ r. ⌜ now (parents .exit) ≡ parentsIf (isNothing r) (tableOf (now (table .entry))) ⌝ }
+    ensures { λ _. ⌜ (now (rises .exit) ≡ replicate 1024 0) × (now (falls .exit) ≡ replicate 1024 0) ⌝ }
+{
     *next = [0; 1024];
     *parents = [0; 1024];
-    let found = table::check(table);
+    let found = table::check_in(table, rises, falls);
     if let Found::At(_) = found {
         return found;
     }

@@ -1,4 +1,4 @@
--- `table::check` meets its contract: the head, the passes between and the balances, each the next where the one before found nothing.
+-- `table::checks` meets its contract: the head, the passes between and the balances, each the next where the one before found nothing.
 use mathlib.Core.Path.{_≡_, sym, _∙_}
 use Prim.Native.Nat.{ℕ}
 use mathlib.Core.List.{List}
@@ -13,8 +13,8 @@ use Rattle.table.specs.declared.Refusal.{Refusal}
 use Rattle.table.specs.declared.Found.the-variants.{Nothing, At}
 use Rattle.table.proofs.Trying.{orElse-last}
 use Rattle.table.proofs.Passes.{firstFound-nothing, firstFound-append, head-rules, content-rules, body-rules, nest-rules, fork-rules}
-use Rattle.table.proofs.check.Statement.{statement}
-use Rattle.table.proofs.check.Tie as tie
+use Rattle.table.proofs.checks.Statement.{statement}
+use Rattle.table.proofs.checks.Tie as tie
 
 in-head : (s : List ℕ) {r : Refusal} → tryPass (headPass s) ≡ At r → At r ≡ firstFound (passes s)
 unfolding passes firstFound
@@ -73,7 +73,7 @@ actions-requires : tie.Need-actions-requires
 actions-requires c κs = search needs
 
 shape-requires : tie.Need-shape-requires
-shape-requires c κs = reached c
+shape-requires c κs = reached (c .before)
 
 enum-told-3 : tie.Need-enum-told-3
 enum-told-3 c = search needs
@@ -81,23 +81,25 @@ enum-told-3 c = search needs
 returns-2 : tie.Need-returns-2
 returns-2 c =
     let d = c .before .before in
-    c .enum-told3 .given .1 ∙ in-shape (reached (d .before)) (sym (d .shape .ensures) ∙ c .enum-told3 .given .1)
+    c .enum-told3 .given .1 ∙ in-shape (reached (d .before .before)) (sym (d .shape .ensures) ∙ c .enum-told3 .given .1)
 
 enum-told-4 : tie.Need-enum-told-4
 enum-told-4 c = search needs
 
 balances-requires : tie.Need-balances-requires
 balances-requires c κs =
-    let d = c .before .before in
-    nested (reached (d .before)) (sym (d .shape .ensures) ∙ c .enum-told4 .given .1)
+    let e = c .before .before in
+    let d = e .before .before in
+    nested (reached (d .before .before)) (sym (d .shape .ensures) ∙ e .enum-told4 .given .1)
 
 returns-3 : tie.Need-returns-3
 returns-3 c =
-    let d = c .before .before .before in
-    c .balances .ensures ∙ in-balances (reached (d .before)) (sym (d .shape .ensures) ∙ c .before .enum-told4 .given .1)
+    let e = c .before .before .before in
+    let d = e .before .before in
+    c .balances .ensures ∙ in-balances (reached (d .before .before)) (sym (d .shape .ensures) ∙ e .enum-told4 .given .1)
 
-pub check-spec : {M : Type 1} → statement M
-check-spec =
+pub checks-spec : {M : Type 1} → statement M
+checks-spec =
     tie.close
     (tie.spec
     head-requires
