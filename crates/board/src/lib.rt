@@ -9,6 +9,7 @@ ghost use Rattle.quota.specs.Quota.{valuesFor};
 ghost use Rattle.board.specs.Rows.{factsRow, quotaRow};
 
 mod begin;
+mod open;
 mod runs;
 mod turn;
 
