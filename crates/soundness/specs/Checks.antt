@@ -1,10 +1,10 @@
 -- What the code's tests of soundness say: each is one clause of the definition, over the parts of the record that it looks at.
 use mathlib.Core.Path.{_≡_}
-use Prim.Native.Nat.{ℕ, _+_, _-_, _^_, _<_, _≤_}
+use Prim.Native.Nat.{ℕ, _+_, _<_, _≤_}
 use mathlib.Core.List.{List}
 use mathlib.Core.Bool.{Bool, true, not, _&&_, _||_}
 use lib.Dec.{ltb, eqb}
-use lib.ListN.{length, getD}
+use lib.ListN.{length, getD, replicate}
 use Rattle.table.specs.Sum.{pick}
 use Rattle.table.specs.Format.{fork, join, is, Table, kind, tableOf}
 use Rattle.table.specs.Rules.{owner, endOf}
@@ -95,21 +95,14 @@ abbrev pub linksSound : Table → List ℕ → List ℕ → Links → Bool
 linksSound T next status k =
     listed T next status (listOf k) && sameLinks k (laid (listOf k))
 
--- the clauses of a sound record on its table's length, the bytes past it and its turns
-abbrev pub restSound : Run → Bool
-restSound r =
-    eqb (length (bytesOf r)) (r .length)
-    && (sameList (r .table) (filled maxBytes (bytesOf r))
-    && ltb (r .turns) (2 ^ 64 - 1))
+-- the clauses of a sound record on the copy of the table in it: its length, and the bytes past it
+abbrev pub copySound : Run → Bool
+copySound r = eqb (length (bytesOf r)) (r .length) && sameList (r .table) (filled maxBytes (bytesOf r))
 
--- the numbers of a record that stand outside its arrays are all 0
-unfoldable pub allZero : Run → Bool
-allZero r =
-    eqb (r .length) 0
-    && (eqb (r .workers) 0
-    && (eqb (r .quota) 0
-    && (eqb (r .leftmost) 0
-    && (eqb (r .busy) 0
-    && (eqb (r .held) 0
-    && (eqb (r .highest) 0
-    && eqb (r .turns) 0))))))
+-- the numbers of the blank record's threads are all 0
+abbrev pub zeroArrays : List ℕ → List ℕ → List ℕ → List ℕ → List ℕ → Bool
+zeroArrays next status amounts left right =
+    sameList next (replicate maxThreads 0)
+    && (sameList status (replicate maxThreads 0)
+    && (sameList amounts (replicate maxThreads 0)
+    && (sameList left (replicate maxThreads 0) && sameList right (replicate maxThreads 0))))

@@ -16,7 +16,7 @@ use Rattle.schedule.specs.Links.{Links, listOf, laid}
 use Rattle.schedule.specs.Record.{maxThreads, maxWorkers, filled, tableIn}
 use Rattle.schedule.specs.Begin.{beginPasses}
 use Rattle.schedule.specs.Firsts.{firsts}
-use Rattle.schedule.specs.Sound.{allBelow, isNothing, sameList, commonSound, listed, sameLinks, sound}
+use Rattle.schedule.specs.Sound.{allBelow, sameList, commonSound, listed, sameLinks, sound}
 use Rattle.schedule.specs.Turn.{isNobody, unsound}
 use Rattle.soundness.specs.declared.Tested.{Tested}
 
@@ -35,14 +35,6 @@ nextIf q T = pick q (filled maxThreads (firsts (T .first) 0 (T .threads))) (repl
 -- what the checks of a beginning find: "the table's own, then 20, 21, 22"
 abbrev pub beginFound : List ℕ → ℕ → ℕ → Found
 beginFound s p K = firstFound (passes s ++ beginPasses (tableOf s) p K)
-
--- of the parts that any kind of run has: the parents wherever the bytes are a table
-unfoldable pub commonTested : List ℕ → ℕ → ℕ → List ℕ → List ℕ → List ℕ → List Worker → ℕ → ℕ → ℕ → Tested
-commonTested s p K next status amounts workers set amount highest =
-    record {
-      passed = commonSound s p K next status amounts workers set amount highest;
-      parents = parentsIf (isNothing (firstFound (passes s))) (tableOf s);
-    }
 
 -- of a record: 32, "record not sound and not blank"; the parents where it is sound
 unfoldable pub tested : Run → Tested

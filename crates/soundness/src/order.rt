@@ -163,21 +163,22 @@ fn rising(numbers: &[u16; 1024], list: &[u16; 1024], len: usize) -> bool
     true
 }
 
-// "the list in serial order"
+// "the list in serial order", the numbers kept in `numbers`, whatever it held.
 pub(crate) fn in_serial_order(
     table: &[u8],
     n: usize,
     next: &[u16; 1024],
     list: &[u16; 1024],
     len: usize,
+    numbers: &mut [u16; 1024],
 ) -> bool
     requires { ⌜ Accepted (now table) n ⌝ }
     requires { ⌜ Placed (now table) n (now next) ⌝ }
     requires { ⌜ (len ≤ 1024) × (length (now list) ≡ 1024) × (allIn (λ t. ltb t n) (take len (now list)) ≡ true) ⌝ }
     ensures { λ r. ⌜ r ≡ inSerialOrder (tableOf (now (table .entry))) (now (next .entry)) (take len (now (list .entry))) ⌝ }
 {
-    let mut numbers = [0u16; 1024];
-    fill_lengths(table, n, &mut numbers);
-    fill_numbers(table, n, next, &mut numbers);
-    rising(&numbers, list, len)
+    *numbers = [0; 1024];
+    fill_lengths(table, n, numbers);
+    fill_numbers(table, n, next, numbers);
+    rising(numbers, list, len)
 }

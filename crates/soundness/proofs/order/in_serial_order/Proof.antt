@@ -50,13 +50,13 @@ fill-numbers-requires c κs = search needs
 
 rising-requires : tie.Need-rising-requires
 rising-requires c κs =
-    let d = c .before .before .before .before .before .before in
+    let d = c .before .before .before .before .before .before .before in
     let (f, e, a) = d .pre .1 .1 in
     ((f, e), below (now (d .args .table)) _ (now (d .args .next)) (now (d .args .list)) _ (d .pre .0) a f e)
 
 returns : tie.Need-returns
 returns c =
-    let d = c .before .before .before .before .before .before .before in
+    let d = c .before .before .before .before .before .before .before .before in
     c .rising .ensures
     ∙ same (now (d .args .table)) _ (now (d .args .next)) (now (d .args .list)) (d .args .len) (d .pre .0) (d .pre .1 .1 .2) _ (c .before .before .fill-numbers .ensures)
 

@@ -1,4 +1,4 @@
--- `soundness::sound::all_free` meets its contract: of no workers and no threads, a worker that holds one is wrong.
+-- `soundness::blank::all_free` meets its contract: of no workers and no threads, a worker that holds one is wrong.
 use mathlib.Core.Path.{_≡_, refl, ap, _∙_}
 use mathlib.Core.Logic.{_↔_}
 use Prim.Native.Nat.{ℕ}
@@ -16,8 +16,8 @@ use Rattle.schedule.specs.Turn.{isNobody}
 use Rattle.schedule.proofs.Words.{not-both}
 use Rattle.schedule.proofs.Clauses.{nobody-exactly, workerRight-exactly}
 use Rattle.soundness.proofs.Every.{same-truth, all-cong}
-use Rattle.soundness.proofs.sound.all_free.Statement.{statement}
-use Rattle.soundness.proofs.sound.all_free.Tie as tie
+use Rattle.soundness.proofs.blank.all_free.Statement.{statement}
+use Rattle.soundness.proofs.blank.all_free.Tie as tie
 
 module _ (l : List Worker) (w : ℕ) where
   free-right : (workerRight 0 0 0 l w ≡ true) ↔ (isNobody (getD l w nobody) ≡ true)
