@@ -1,18 +1,26 @@
 -- Opening a run: the record that stands in the memory is as it was, and where it is sound, what is filled beside it is what the turns look up.
 use mathlib.Core.Path.{_≡_, refl, sym, ap, subst, _∙_}
-use Prim.Native.Nat.{ℕ, _-_, _^_, _<_}
+use Prim.Native.Nat.{ℕ, _-_, _^_, min, _≤_, _<_}
 use native.Mathlib.Omega.{arith}
+use native.Mathlib.Decide.{decLt}
+use native.Mathlib.Nat.{min-eq-left, min-eq-right}
+use mathlib.Core.Logic.{by-cases}
 use mathlib.Core.List.{List, [], _∷_}
 use mathlib.Core.Bool.{Bool, true, false, _&&_}
-use borrow.Author.Tests.{eq-eqb, eqb-true}
+use borrow.Author.Tests.{eq-eqb, eqb-true, ne-eqb}
 use lib.Dec.{eqb}
-use lib.ListN.{length, getD}
+use lib.ListN.{length, getD, replicate}
 use Rattle.table.specs.Sum.{pick}
-use Rattle.table.specs.Format.{tableOf}
+use Rattle.table.specs.Format.{Table, tableOf}
+use Rattle.table.specs.Pass.{firstFound}
+use Rattle.table.specs.Rules.{passes}
+use Rattle.schedule.specs.declared.Worker.{Worker}
 use Rattle.schedule.specs.declared.Run.{Run}
-use Rattle.schedule.specs.Links.{Links, LinkedAs, laid}
+use Rattle.schedule.specs.Links.{noThread, Links, LinkedAs, laid}
+use Rattle.schedule.specs.Actives.{noLinks, filledFrom}
 use Rattle.schedule.specs.Record.{maxBytes, maxWorkers, filled, bytesOf, tableIn, linksIn, listIn, stateOf}
-use Rattle.schedule.specs.Sound.{Steady, Sound, sameList, sound}
+use Rattle.schedule.specs.Begin.{beginPasses}
+use Rattle.schedule.specs.Sound.{Steady, Sound, isNothing, sameList, commonSound, sound}
 use Rattle.schedule.proofs.ActiveMoves.{list-once, list-small}
 use Rattle.schedule.proofs.Fills.{fill-linked}
 use Rattle.schedule.proofs.Links.{laid-linked}
@@ -20,13 +28,15 @@ use Rattle.schedule.proofs.Lists.{filled-front}
 use Rattle.schedule.proofs.Stores.{steady-lawful, steady-fits, steady-facts}
 use Rattle.schedule.proofs.Tests.{sound-exactly}
 use Rattle.schedule.proofs.Words.{sameList-exactly}
-use Rattle.soundness.specs.Tested.{blankOn}
+use Rattle.soundness.specs.Tested.{parentsIn, parentsIf, soundOn, blankOn}
 use Rattle.soundness.proofs.Chains.{first-of, second-of}
 use Rattle.soundness.proofs.Noting.{parents-right}
 use Rattle.soundness.proofs.OnParts.{sound-is}
+use Rattle.lent.specs.Arrays.{linksOf}
 use Rattle.board.specs.Lent.{Memory, movedIn, Answer, answer}
-use Rattle.board.specs.Stands.{runIn, Stands}
+use Rattle.board.specs.Stands.{workersIn, runIn, Stands}
 use Rattle.board.specs.Opened.{truths, soundIn, blankIn, beside, openedIn, blankedIn, lentOpen}
+use Rattle.board.proofs.Begins.{too-many}
 
 -- ---- the record
 
@@ -93,3 +103,70 @@ opens-stands s M h = go (soundIn s M) refl (blankIn M) refl
     -- a run has a worker, and the blank record has none
     go false e true f = absurd (omega (arith, steady-fits (runIn s M) (h .steady) .some-worker, eqb-true (getD (M .settings) 0 0) 0 (first-of _ _ f)))
     go false e false f = h
+
+-- ---- the test, as the code asks it: more workers than there may be are tested as 17 are
+
+refused-parts : (a b c d : Bool) → b ≡ false → ((a && (b && c)) && d) ≡ false
+refused-parts true b c d e = rw e
+refused-parts false b c d e = refl
+
+module _ (s : List ℕ) (K : ℕ) (next status amounts : List ℕ) (k : Links) (workers : List Worker) (set amount highest turns : ℕ) where
+  too-many-tested : (p : ℕ) → 17 ≤ p → soundOn s p K next status amounts k workers set amount highest turns ≡ false
+  unfolding soundOn commonSound
+  too-many-tested p h = refused-parts (isNothing (firstFound (passes s))) (isNothing (firstFound (beginPasses (tableOf s) p K))) _ _ (rw (too-many s K p h))
+
+  sound-handed : (p : ℕ) → soundOn s (min p 17) K next status amounts k workers set amount highest turns ≡ soundOn s p K next status amounts k workers set amount highest turns
+  sound-handed p =
+      by-cases (decLt p 17)
+      (λ (h : p < 17). let e : min p 17 ≡ p = min-eq-left (omega arith) in ap (λ (w : ℕ). soundOn s w K next status amounts k workers set amount highest turns) e)
+      (λ (h : p < 17 → ⊥). let l : 17 ≤ p = omega arith in rw (min-eq-right l) (too-many-tested 17 (omega arith) ∙ sym (too-many-tested p l)))
+
+  blank-handed : (p : ℕ) → blankOn (min p 17) K next status amounts k workers set amount highest turns ≡ blankOn p K next status amounts k workers set amount highest turns
+  unfolding blankOn
+  blank-handed p =
+      by-cases (decLt p 17)
+      (λ (h : p < 17). let e : min p 17 ≡ p = min-eq-left (omega arith) in rw e)
+      (λ (h : p < 17 → ⊥). let l : 17 ≤ p = omega arith in rw (min-eq-right l, ne-eqb p 0 (λ e. omega (arith, e, l))))
+
+module _ (s : List ℕ) (M : Memory) {p : ℕ} {workers : List Worker} (h : p ≡ min (getD (M .settings) 0 0) 17) (w : workers ≡ workersIn M) where
+  pub tests-sound : {r t : Bool}
+      → r ≡ soundOn s p (getD (M .settings) 1 0) (M .arrays .next) (M .arrays .status) (M .arrays .amounts) (linksOf (M .arrays) (movedIn M .totals)) workers (getD (M .heads) 2 0)
+      (getD (M .totals) 0 0) (getD (M .totals) 1 0) (getD (M .totals) 2 0)
+      → t ≡ truths (M .holds) → t ≡ true → r ≡ soundIn s M
+  unfolding soundIn
+  tests-sound e f g =
+      let t : truths (M .holds) ≡ true = sym f ∙ g in
+      rw t (e ∙ rw (h, w) (sound-handed s (getD (M .settings) 1 0) _ _ _ _ _ _ _ _ _ (getD (M .settings) 0 0)))
+
+  pub tests-truths : {t : Bool} → t ≡ truths (M .holds) → t ≡ false → false ≡ soundIn s M
+  unfolding soundIn
+  tests-truths f g = rw (sym f ∙ g)
+
+  pub tests-blank : {r : Bool}
+      → r ≡ blankOn p (getD (M .settings) 1 0) (M .arrays .next) (M .arrays .status) (M .arrays .amounts) (linksOf (M .arrays) (movedIn M .totals)) workers (getD (M .heads) 2 0)
+      (getD (M .totals) 0 0) (getD (M .totals) 1 0) (getD (M .totals) 2 0)
+      → r ≡ blankIn M
+  unfolding blankIn
+  tests-blank e = e ∙ rw (h, w) (blank-handed s (getD (M .settings) 1 0) _ _ _ _ _ _ _ _ _ (getD (M .settings) 0 0))
+
+-- ---- the call's three answers
+
+pub none-seen : (T : Table) {x : Bool} {parents : List ℕ} → parents ≡ parentsIf x T → x ≡ false → parents ≡ replicate 1024 0
+none-seen T e f = e ∙ ap (λ (b : Bool). parentsIf b T) f
+
+module _ (s : List ℕ) (M : Memory) {x : Bool} (e : x ≡ soundIn s M) where
+  pub opens-sound : x ≡ true → {parents : List ℕ} → parents ≡ parentsIf x (tableOf s) → {k : Links}
+      → k ≡ filledFrom 1024 (M .arrays .status) (M .arrays .right) (getD (M .heads) 0 0) noThread noLinks → answer 0 (0 ∷ []) (beside parents k M) ≡ lentOpen s M
+  unfolding lentOpen
+  opens-sound h {parents} p {k} q =
+      let here : soundIn s M ≡ true = sym e ∙ h in
+      let p' : parents ≡ parentsIn (tableOf s) = p ∙ ap (λ (b : Bool). parentsIf b (tableOf s)) h in
+      rw here (λ i. answer 0 (0 ∷ []) (beside (p' i) (q i) M))
+
+  pub opens-blank : x ≡ false → {y : Bool} → y ≡ blankIn M → y ≡ true → answer 0 (0 ∷ []) (blankedIn M) ≡ lentOpen s M
+  unfolding lentOpen
+  opens-blank h f g = rw (sym e ∙ h, sym f ∙ g)
+
+  pub opens-refused : x ≡ false → {y : Bool} → y ≡ blankIn M → y ≡ false → answer 32 (0 ∷ []) M ≡ lentOpen s M
+  unfolding lentOpen
+  opens-refused h f g = rw (sym e ∙ h, sym f ∙ g)

@@ -14,6 +14,7 @@ mod runs;
 mod turn;
 
 pub use begin::wivakkol_begin_on;
+pub use open::wivakkol_open_on;
 pub use runs::wivakkol_list_on;
 pub use runs::wivakkol_rounds_on;
 pub use turn::wivakkol_turn_on;

@@ -34,7 +34,12 @@ fn hindrance(turns: u64, p: u32, w: u32, root: u8) -> u32
 }
 
 // The record of worker k.
-pub(crate) fn worker_at(holds: &[u8; 16], threads: &[u16; 16], quotas: &[u32; 16], k: usize) -> Worker
+pub(crate) fn worker_at(
+    holds: &[u8; 16],
+    threads: &[u16; 16],
+    quotas: &[u32; 16],
+    k: usize,
+) -> Worker
     requires { ⌜ k < 16 ⌝ }
     ensures { λ r. ⌜ r ≡ workerFrom (now (holds .entry)) (now (threads .entry)) (now (quotas .entry)) k ⌝ }
 {

@@ -33,9 +33,11 @@ returns c =
     let a = f .before .before in
     let k = a .before .before .before .before .before in
     let n = k .before in
-    let d = n .before .before .before .before .before .before .before .before .before in
-    (refuses (now (d .args .table)) (d .args .p) (d .args .quota) (k .workers .ensures) (a .accept-in .ensures .0) (a .accept-in .ensures .1 .0) (a .accept-in .ensures .1 .1 .0) (n .put-nobody .ensures)
-    (f .found .given .1) (l .put-links .ensures), a .accept-in .ensures .1 .1 .1)
+    let d = n .before .before .before .before .before .before .before .before .before in (
+      refuses (now (d .args .table)) (d .args .p) (d .args .quota) (k .workers .ensures) (a .accept-in .ensures .0) (a .accept-in .ensures .1 .0) (a .accept-in .ensures .1 .1 .0) (n .put-nobody .ensures)
+          (f .found .given .1) (l .put-links .ensures),
+      a .accept-in .ensures .1 .1 .1,
+    )
 
 enum-told : tie.Need-enum-told
 enum-told c = search needs
@@ -53,9 +55,11 @@ returns-2 c =
     let a = e .before .before in
     let k = a .before .before .before .before .before in
     let n = k .before in
-    let d = n .before .before .before .before .before .before .before .before .before in
-    (starts (now (d .args .table)) (d .args .p) (d .args .quota) (k .workers .ensures) (a .accept-in .ensures .0) (a .accept-in .ensures .1 .0) (a .accept-in .ensures .1 .1 .0) (n .put-nobody .ensures)
-    (e .enum-told .given .1) (l .put-links2 .ensures), a .accept-in .ensures .1 .1 .1)
+    let d = n .before .before .before .before .before .before .before .before .before in (
+      starts (now (d .args .table)) (d .args .p) (d .args .quota) (k .workers .ensures) (a .accept-in .ensures .0) (a .accept-in .ensures .1 .0) (a .accept-in .ensures .1 .1 .0) (n .put-nobody .ensures)
+          (e .enum-told .given .1) (l .put-links2 .ensures),
+      a .accept-in .ensures .1 .1 .1,
+    )
 
 pub wivakkol-begin-on-spec : {M : Type 1} → statement M
 wivakkol-begin-on-spec =

@@ -46,11 +46,11 @@ loop-holds c = record { size = refl; right = λ i l. absurd (omega (arith, l)) }
 worker-at-requires : tie.Need-worker-at-requires Inv-loop μ-loop
 worker-at-requires c κs = search needs
 
-mul-workers : tie.Need-mul-workers Inv-loop μ-loop
-mul-workers c = search needs
+mul-records : tie.Need-mul-records Inv-loop μ-loop
+mul-records c = search needs
 
-array-set-from-workers : tie.Need-array-set-from-workers Inv-loop μ-loop
-array-set-from-workers c = search needs
+array-set-from-records : tie.Need-array-set-from-records Inv-loop μ-loop
+array-set-from-records c = search needs
 
 add-w : tie.Need-add-w Inv-loop μ-loop
 add-w c = search needs
@@ -72,8 +72,8 @@ workers-at-spec =
     μ-loop
     loop-holds
     worker-at-requires
-    mul-workers
-    array-set-from-workers
+    mul-records
+    array-set-from-records
     add-w
     loop-less
     loop-again
