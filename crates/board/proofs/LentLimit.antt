@@ -17,7 +17,7 @@ use Rattle.schedule.specs.declared.Run.{Run}
 use Rattle.schedule.specs.declared.Beginning.the-variants.{Begun as started}
 use Rattle.schedule.specs.Links.{noThread, walk, LinkedAs}
 use Rattle.schedule.specs.Actives.{actives}
-use Rattle.schedule.specs.Sound.{Steady}
+use Rattle.schedule.specs.Sound.{allBelow, Steady}
 use Rattle.schedule.specs.Begin.{begin, startRun}
 use Rattle.schedule.specs.Machine.{Stepped}
 use Rattle.schedule.specs.Turn.{turnChecks, stepRun, passedIn, turnedAs, turned}
@@ -39,7 +39,7 @@ use Rattle.soundness.proofs.Noting.{parents-right}
 use Rattle.lent.proofs.Starts.{alone, alone-linked, is-start}
 use Rattle.table.specs.Load.{foundNumber}
 use Rattle.board.specs.Lent.{Memory, startMemory, begunAs, lentBegin, lentTurn}
-use Rattle.board.specs.Stands.{workersFrom, runIn, Stands}
+use Rattle.board.specs.Stands.{truths, workersFrom, runIn, Stands}
 use Rattle.board.specs.Opened.{lentOpen}
 use Rattle.board.specs.LentCalls.{LentCall, moving, opening, lentMove, lentCall, lentRowOf, lentAfter, lentRow, movesOf}
 use Rattle.board.proofs.Opens.{open-record, opens-stands}
@@ -88,12 +88,13 @@ module _ (s : List ℕ) (p K : ℕ) where
     alone-list = walk-linked (alone .left) (alone .right) (alone .head) (0 ∷ []) alone-linked once-alone below-alone
 
     start-stands : Stands s (startMemory s p K)
-    unfolding actives
+    unfolding actives truths allBelow
     start-stands =
         record {
           steady = steady;
           parent = parents-right (tableOf s) refl;
           second = subst (λ (l : List ℕ). LinkedAs alone (actives (set (replicate 1024 0) 0 1) l)) (sym alone-list) alone-linked;
+          truth-values = refl;
           holds-size = refl;
           threads-size = refl;
           quotas-size = refl;

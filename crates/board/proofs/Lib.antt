@@ -3,6 +3,7 @@ mod Answers
 mod Cases
 mod Begins
 mod Opens
+mod WallLines
 mod Turns
 pub mod Refines
 pub mod LentLimit

@@ -34,8 +34,8 @@ use Rattle.soundness.proofs.Noting.{parents-right}
 use Rattle.soundness.proofs.OnParts.{sound-is}
 use Rattle.lent.specs.Arrays.{linksOf}
 use Rattle.board.specs.Lent.{Memory, movedIn, Answer, answer}
-use Rattle.board.specs.Stands.{workersIn, runIn, Stands}
-use Rattle.board.specs.Opened.{truths, soundIn, blankIn, beside, openedIn, blankedIn, lentOpen}
+use Rattle.board.specs.Stands.{truths, workersIn, runIn, Stands}
+use Rattle.board.specs.Opened.{soundIn, blankIn, beside, openedIn, blankedIn, lentOpen}
 use Rattle.board.proofs.Begins.{too-many}
 
 -- ---- the record
@@ -60,6 +60,10 @@ module _ (s : List ℕ) (M : Memory) where
 
   bytes : bytesOf (runIn s M) ≡ s
   bytes = filled-front maxBytes s
+
+  truths-in : soundIn s M ≡ true → truths (M .holds) ≡ true
+  unfolding soundIn
+  truths-in e = first-of (truths (M .holds)) _ e
 
   -- the test is that of the record
   pub sound-in : soundIn s M ≡ true → Sound (runIn s M)
@@ -86,6 +90,7 @@ module _ (s : List ℕ) (M : Memory) where
           steady = h;
           parent = parents-right (tableOf s) refl;
           second = fill-linked (r .left) (r .right) (r .leftmost) (listIn r) (r .status) linked once small;
+          truth-values = truths-in e;
           holds-size = holds-size;
           threads-size = threads-size;
           quotas-size = quotas-size;

@@ -27,6 +27,7 @@ use Rattle.schedule.specs.Runs.{moved}
 use Rattle.schedule.specs.Answers.{turningValues}
 use Rattle.schedule.specs.Values.{turnValues}
 use Rattle.schedule.proofs.Lists.{filled-front}
+use Rattle.schedule.proofs.Words.{allBelow-exactly}
 use Rattle.schedule.proofs.ActiveMoves.{list-once, list-small}
 use Rattle.schedule.proofs.Actives.{once-actives, below-actives}
 use Rattle.schedule.proofs.Links.{seek-walk, seek-linked}
@@ -39,7 +40,7 @@ use Rattle.lent.proofs.Reading.{own-table}
 use Rattle.lent.proofs.Packed.{Carries, Goes, turn-goes}
 use Rattle.lent.proofs.Answers.{steady-full, steady-room, refusedAs, turned-unsound, turned-none, turned-over, turned-taken, root-over, root-open, passed-along}
 use Rattle.board.specs.Lent.{Memory, workerFrom, workerIn, movedIn, memoryAfter, turnRow, noRow, Answer, answer, hindrance, turnLeft, turnIn, passedOver, lentTurn}
-use Rattle.board.specs.Stands.{workersFrom, workersIn, settled, runIn, Stands, valuesRow}
+use Rattle.board.specs.Stands.{truths, workersFrom, workersIn, settled, runIn, Stands, valuesRow}
 
 -- ---- the workers
 
@@ -64,6 +65,18 @@ own-worker M w h = let e : 0 + w ≡ w = omega arith in workers-at (M .holds) (M
 as-number : (b : Bool) → not (eqb (pick b 1 0) 0) ≡ b
 as-number true = refl
 as-number false = refl
+
+truth-small : (b : Bool) → ltb (pick b 1 0) 2 ≡ true
+truth-small true = refl
+truth-small false = refl
+
+truths-set : (holds : List ℕ) (w : ℕ) (b : Bool) → w < length holds → truths holds ≡ true → truths (set holds w (pick b 1 0)) ≡ true
+unfolding truths
+truths-set holds w b h e = allBelow-exactly _ 16 .1 (λ i l. go i l (ℕ-discrete i w))
+  where
+    go : (i : ℕ) → i < 16 → Dec (i ≡ w) → ltb (getD (set holds w (pick b 1 0)) i 0) 2 ≡ true
+    go i l (yes q) = rw (q, getD-set-same holds w (pick b 1 0) 0 h) (truth-small b)
+    go i l (no d) = rw (getD-set-other holds w i (pick b 1 0) 0 d) (allBelow-exactly (λ j. ltb (getD holds j 0) 2) 16 .0 e i l)
 
 module _ (M : Memory) (w : ℕ) (z : Left) (h : w < 16) (a : length (M .holds) ≡ 16) (b : length (M .threads) ≡ 16) (c : length (M .quotas) ≡ 16) where
   abbrev M' : Memory
@@ -209,6 +222,7 @@ module _ (s : List ℕ) (M : Memory) (h : Stands s M) (w : ℕ) where
                 steady = subst (λ (x : Run). Steady x) (sym after) (moved-steady r (h .steady) w b);
                 parent = h .parent;
                 second = goes .second;
+                truth-values = truths-set (M .holds) w (z .worker .holds) (omega (arith, few, h .holds-size)) (h .truth-values);
                 holds-size = length-set (M .holds) w (pick (z .worker .holds) 1 0) ∙ h .holds-size;
                 threads-size = length-set (M .threads) w (z .worker .thread) ∙ h .threads-size;
                 quotas-size = length-set (M .quotas) w (z .worker .quota) ∙ h .quotas-size;

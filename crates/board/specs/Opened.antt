@@ -8,17 +8,12 @@ use Rattle.table.specs.Sum.{pick}
 use Rattle.table.specs.Format.{tableOf}
 use Rattle.schedule.specs.Links.{noThread, Links}
 use Rattle.schedule.specs.Actives.{noLinks, filledFrom}
-use Rattle.schedule.specs.Record.{maxThreads, maxWorkers}
-use Rattle.schedule.specs.Sound.{allBelow}
+use Rattle.schedule.specs.Record.{maxThreads}
 use Rattle.soundness.specs.Tested.{parentsIn, soundOn, blankOn}
 use Rattle.chart.specs.Chart.{mostTurns, shownOf, lineText}
 use Rattle.lent.specs.Arrays.{arrays, linksOf}
 use Rattle.board.specs.Lent.{Memory, memory, movedIn, Answer, answer}
-use Rattle.board.specs.Stands.{workersIn}
-
--- a worker's truth value is written as 0 or 1
-unfoldable pub truths : List ℕ → Bool
-truths holds = allBelow (λ w. ltb (getD holds w 0) 2) maxWorkers
+use Rattle.board.specs.Stands.{truths, workersIn}
 
 -- "A record is sound if ..", of the record that stands in the memory
 unfoldable pub soundIn : List ℕ → Memory → Bool

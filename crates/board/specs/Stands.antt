@@ -2,7 +2,9 @@
 use mathlib.Core.Path.{_≡_}
 use Prim.Native.Nat.{ℕ, zero, suc, _^_, _<_}
 use mathlib.Core.List.{List, [], _∷_}
+use mathlib.Core.Bool.{Bool, true}
 use lib.ListN.{length, getD}
+use lib.Dec.{ltb}
 use Rattle.table.specs.Format.{tableOf}
 use Rattle.schedule.specs.declared.Worker.{Worker}
 use Rattle.schedule.specs.declared.Run.{Run}
@@ -10,7 +12,7 @@ use Rattle.schedule.specs.Links.{LinkedAs}
 use Rattle.schedule.specs.Actives.{actives}
 use Rattle.schedule.specs.Record.{maxBytes, maxWorkers, filled}
 use Rattle.schedule.specs.Parents.{Parents}
-use Rattle.schedule.specs.Sound.{Steady}
+use Rattle.schedule.specs.Sound.{allBelow, Steady}
 use Rattle.schedule.specs.Answers.{Values}
 use Rattle.lent.specs.Arrays.{secondOf, listedIn}
 use Rattle.lent.specs.Packed.{packedOf}
@@ -23,6 +25,10 @@ workersFrom holds threads quotas w (suc n) = workerFrom holds threads quotas w �
 
 abbrev pub workersIn : Memory → List Worker
 workersIn M = workersFrom (M .holds) (M .threads) (M .quotas) 0 maxWorkers
+
+-- a worker's truth value is written as 0 or 1
+unfoldable pub truths : List ℕ → Bool
+truths holds = allBelow (λ w. ltb (getD holds w 0) 2) maxWorkers
 
 -- the table, p and K; the rest of the record is the memory's
 abbrev pub settled : List ℕ → Memory → Run
@@ -54,6 +60,7 @@ pub record Stands (s : List ℕ) (M : Memory) : Type 0 where
   pub steady : Steady (runIn s M)
   pub parent : Parents (tableOf s) (M .parents)
   pub second : LinkedAs (secondOf (M .arrays) (movedIn M .totals)) (actives (M .arrays .status) (listedIn (M .arrays) (movedIn M .totals)))
+  pub truth-values : truths (M .holds) ≡ true
   pub holds-size : length (M .holds) ≡ maxWorkers
   pub threads-size : length (M .threads) ≡ maxWorkers
   pub quotas-size : length (M .quotas) ≡ maxWorkers

@@ -9,11 +9,13 @@ ghost use Rattle.quota.specs.Quota.{valuesFor};
 ghost use Rattle.board.specs.Rows.{factsRow, quotaRow};
 
 mod begin;
+mod line;
 mod open;
 mod runs;
 mod turn;
 
 pub use begin::wivakkol_begin_on;
+pub use line::wivakkol_chart_on;
 pub use open::wivakkol_open_on;
 pub use runs::wivakkol_list_on;
 pub use runs::wivakkol_rounds_on;

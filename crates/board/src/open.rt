@@ -13,8 +13,8 @@ ghost use Rattle.table.specs.Format.{tableOf};
 ghost use Rattle.soundness.specs.Tested.{parentsIf};
 ghost use Rattle.lent.specs.Arrays.{arrays};
 ghost use Rattle.board.specs.Lent.{memory, answer};
-ghost use Rattle.board.specs.Stands.{workersFrom};
-ghost use Rattle.board.specs.Opened.{truths, soundIn, blankIn, lentOpen};
+ghost use Rattle.board.specs.Stands.{truths, workersFrom};
+ghost use Rattle.board.specs.Opened.{soundIn, blankIn, lentOpen};
 
 // Every worker's truth value is 0 or 1.
 fn truths_right(holds: &[u8; 16]) -> bool

@@ -60,18 +60,20 @@ returns : tie.Need-returns
 returns c =
     let t = c .before .before in
     let k = t .before .before .before .before .before .before .before .before .before .before .before .before in
-    let e = t .test-in .ensures in
-    (λ parents under over. tests-sound _ _ (k .workers .ensures) (k .before .before .workers-at .ensures) (e .0) (c .before .truths-right .ensures) (c .if1 .taken),
-    e .1)
+    let e = t .test-in .ensures in (
+      λ parents under over. tests-sound _ _ (k .workers .ensures) (k .before .before .workers-at .ensures) (e .0) (c .before .truths-right .ensures) (c .if1 .taken),
+      e .1,
+    )
 
 -- src/open.rt:51:1
 returns-2 : tie.Need-returns-2
 returns-2 c =
     let f = c .before in
     let t = f .before .before in
-    let k = t .before .before .before .before .before .before .before .before .before .before .before .before in
-    (λ parents under over. tests-truths _ _ (k .workers .ensures) (k .before .before .workers-at .ensures) (f .before .truths-right .ensures) (f .if1 .left),
-    (refl, t .test-in .ensures .1 .1))
+    let k = t .before .before .before .before .before .before .before .before .before .before .before .before in (
+      λ parents under over. tests-truths _ _ (k .workers .ensures) (k .before .before .workers-at .ensures) (f .before .truths-right .ensures) (f .if1 .left),
+      (refl, t .test-in .ensures .1 .1),
+    )
 
 pub sound-lent-spec : {M : Type 1} → statement M
 sound-lent-spec =

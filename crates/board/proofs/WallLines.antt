@@ -1,0 +1,102 @@
+-- A run's line from the memory lent: the checks, the text that fills the lent line, and that on a run that stands both are the record's (N5).
+use mathlib.Core.Path.{_≡_, refl, sym, ap, _∙_}
+use Prim.Native.Nat.{ℕ, min, _≤_, _<_}
+use native.Mathlib.Omega.{arith}
+use native.Mathlib.Nat.{min-eq-left}
+use mathlib.Core.List.{List, []}
+use mathlib.Core.Bool.{Bool, true, false, not, _&&_}
+use borrow.Author.Tests.{eq-eqb, eqb-true, ne-eqb}
+use lib.Dec.{ltb, eqb}
+use lib.ListN.{length, getD, replicate}
+use Rattle.table.specs.Sum.{pick}
+use Rattle.table.proofs.Tests.{no-way}
+use Rattle.text.specs.Text.{bufferAt}
+use Rattle.lines.specs.Lines.{putAll}
+use Rattle.schedule.specs.declared.Worker.{Worker}
+use Rattle.schedule.specs.declared.Run.{Run}
+use Rattle.schedule.specs.Record.{maxBytes}
+use Rattle.schedule.specs.Sound.{sameList, sound}
+use Rattle.schedule.specs.Turn.{isBlank, unsound}
+use Rattle.schedule.proofs.Stores.{steady-fits}
+use Rattle.schedule.proofs.Tests.{sound-exactly}
+use Rattle.schedule.proofs.Words.{sameList-exactly}
+use Rattle.soundness.specs.Tested.{blankOn}
+use Rattle.soundness.proofs.Chains.{first-of}
+use Rattle.soundness.proofs.OnParts.{blank-is}
+use Rattle.chart.specs.Chart.{Shown, mostTurns, shownOf, shown, lineTexts, lineText, tooMany}
+use Rattle.chart.proofs.Records.{line-filled}
+use Rattle.board.specs.Lent.{Memory, movedIn}
+use Rattle.board.specs.Stands.{workersIn, runIn}
+use Rattle.board.specs.Opened.{soundIn, blankIn, lineFault, lineAfter}
+use Rattle.board.proofs.Opens.{sound-in}
+
+-- ---- the checks, as the code asks them
+
+module _ (s : List ℕ) (M : Memory) where
+  pub line-sound : {x : Bool} {n : ℕ} → x ≡ soundIn s M → x ≡ true → n ≡ pick (ltb mostTurns (getD (M .totals) 2 0)) 43 0 → n ≡ lineFault s M
+  unfolding lineFault
+  line-sound e h f = let d : soundIn s M ≡ true = sym e ∙ h in rw d f
+
+  pub line-blank : {x y : Bool} {n : ℕ} → x ≡ soundIn s M → x ≡ false → y ≡ blankIn M → y ≡ true → n ≡ pick (ltb mostTurns (getD (M .totals) 2 0)) 43 0 → n ≡ lineFault s M
+  unfolding lineFault
+  line-blank e h f g i =
+      let d : soundIn s M ≡ false = sym e ∙ h in
+      let b : blankIn M ≡ true = sym f ∙ g in
+      rw (d, b) i
+
+  pub line-refused : {x y : Bool} → x ≡ soundIn s M → x ≡ false → y ≡ blankIn M → y ≡ false → 32 ≡ lineFault s M
+  unfolding lineFault
+  line-refused e h f g = rw (sym e ∙ h, sym f ∙ g)
+
+-- ---- the text
+
+-- a record that passes both checks, with the memory's numbers
+record Shows (M : Memory) : Type 0 where
+  run : Run
+  same : shown run ≡ shownOf (movedIn M .turns) (getD (M .settings) 0 0) (workersIn M) (movedIn M .totals .held)
+  passes : unsound run ≡ false
+  few-turns : tooMany run ≡ false
+  few-workers : getD (M .settings) 0 0 ≤ 16
+
+module _ (s : List ℕ) (M : Memory) where
+  sound-shows : soundIn s M ≡ true → ltb mostTurns (movedIn M .turns) ≡ false → Shows M
+  unfolding unsound tooMany
+  sound-shows e f =
+      let r : Run = runIn s M in
+      record { run = r; same = refl; passes = rw (sound-exactly r .1 (sound-in s M e)); few-turns = f; few-workers = steady-fits r (sound-in s M e .steady) .few-workers }
+
+  -- the blank record has no table
+  blank-shows : blankIn M ≡ true → ltb mostTurns (movedIn M .turns) ≡ false → Shows M
+  unfolding unsound tooMany blankIn blankOn
+  blank-shows e f =
+      let r : Run = runIn [] M in
+      let b : isBlank r ≡ true = blank-is r ∙ rw (sameList-exactly (r .table) (replicate maxBytes 0) .1 refl) e in
+      record { run = r; same = refl; passes = go (sound r) b; few-turns = f; few-workers = omega (arith, eqb-true (getD (M .settings) 0 0) 0 (first-of _ _ e)) }
+    where
+      go : (b : Bool) → isBlank (runIn [] M) ≡ true → (not b && not (isBlank (runIn [] M))) ≡ false
+      go true h = refl
+      go false h = rw h
+
+  shows : lineFault s M ≡ 0 → Shows M
+  unfolding lineFault
+  shows h = go (soundIn s M) refl (blankIn M) refl (ltb mostTurns (movedIn M .turns)) refl h
+    where
+      go : (a : Bool) → soundIn s M ≡ a → (b : Bool) → blankIn M ≡ b → (t : Bool) → ltb mostTurns (movedIn M .turns) ≡ t → _≡_ {A = ℕ} (pick (not a && not b) 32 (pick t 43 0)) 0 → Shows M
+      go true e b f false g h = sound-shows e g
+      go false e true f false g h = blank-shows f g
+      go true e b f true g h = absurd (omega (arith, h))
+      go false e true f true g h = absurd (omega (arith, h))
+      go false e false f t g h = absurd (omega (arith, h))
+
+  pub line-written : {n : ℕ} → n ≡ lineFault s M → n ≡ 0 → {p : ℕ} → p ≡ min (getD (M .settings) 0 0) 17 → {workers : List Worker} → workers ≡ workersIn M → (line out : List ℕ) (k : ℕ) → length line ≡ 85
+      → bufferAt out k ≡ putAll (bufferAt line 0) (lineTexts (shownOf (getD (M .totals) 2 0) p workers (getD (M .totals) 0 0))) → out ≡ lineAfter 0 M line
+  unfolding lineAfter
+  line-written e z {p} h {workers} w line out k size put =
+      let g = shows (sym e ∙ z) in
+      let q : p ≡ getD (M .settings) 0 0 = h ∙ min-eq-left (omega (arith, g .few-workers)) in
+      let x : shownOf (getD (M .totals) 2 0) p workers (getD (M .totals) 0 0) ≡ shown (g .run) = (λ i. shownOf (getD (M .totals) 2 0) (q i) (w i) (getD (M .totals) 0 0)) ∙ sym (g .same) in
+      line-filled (g .run) line out k (g .passes) (g .few-turns) size (put ∙ ap (λ (y : Shown). putAll (bufferAt line 0) (lineTexts y)) x) ∙ ap lineText (g .same)
+
+pub line-kept : (M : Memory) {n : ℕ} → (n ≡ 0 → ⊥) → (line : List ℕ) → line ≡ lineAfter n M line
+unfolding lineAfter
+line-kept M {n} h line = rw (ne-eqb n 0 h)
