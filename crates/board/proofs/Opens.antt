@@ -35,7 +35,7 @@ use Rattle.soundness.proofs.OnParts.{sound-is}
 use Rattle.lent.specs.Arrays.{linksOf}
 use Rattle.board.specs.Lent.{Memory, movedIn, Answer, answer}
 use Rattle.board.specs.Stands.{truths, workersIn, runIn, Stands}
-use Rattle.board.specs.Opened.{soundIn, blankIn, beside, openedIn, blankedIn, lentOpen}
+use Rattle.board.specs.Opened.{soundIn, blankIn, beside, openedIn, blankedIn, openedAs, lentOpen}
 use Rattle.board.proofs.Begins.{too-many}
 
 -- ---- the record
@@ -53,7 +53,7 @@ module _ (s : List ℕ) (M : Memory) where
   unfolding lentOpen
   open-record = go (soundIn s M) (blankIn M)
     where
-      go : (a b : Bool) → runIn s (pick a (answer 0 (0 ∷ []) (openedIn s M)) (pick b (answer 0 (0 ∷ []) (blankedIn M)) (answer 32 (0 ∷ []) M)) .memory) ≡ runIn s M
+      go : (a b : Bool) → runIn s (openedAs a b s M .memory) ≡ runIn s M
       go true b = refl
       go false true = refl
       go false false = refl
@@ -103,7 +103,7 @@ unfolding lentOpen blankIn blankOn
 opens-stands s M h = go (soundIn s M) refl (blankIn M) refl
   where
     go : (a : Bool) → soundIn s M ≡ a → (b : Bool) → blankIn M ≡ b
-        → Stands s (pick a (answer 0 (0 ∷ []) (openedIn s M)) (pick b (answer 0 (0 ∷ []) (blankedIn M)) (answer 32 (0 ∷ []) M)) .memory)
+        → Stands s (openedAs a b s M .memory)
     go true e b f = open-stands s M (h .holds-size) (h .threads-size) (h .quotas-size) e
     -- a run has a worker, and the blank record has none
     go false e true f = absurd (omega (arith, steady-fits (runIn s M) (h .steady) .some-worker, eqb-true (getD (M .settings) 0 0) 0 (first-of _ _ f)))

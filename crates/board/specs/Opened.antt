@@ -45,9 +45,13 @@ zeroLinks = record { left = replicate maxThreads 0; right = replicate maxThreads
 abbrev pub blankedIn : Memory → Memory
 blankedIn M = beside (replicate maxThreads 0) zeroLinks M
 
--- the call: 32, "record not sound and not blank", with the memory untouched; else what speeds the turns up is filled
+-- 32, "record not sound and not blank", with the memory untouched; else what speeds the turns up is filled
+abbrev pub openedAs : Bool → Bool → List ℕ → Memory → Answer
+openedAs sound blank s M = pick sound (answer 0 (0 ∷ []) (openedIn s M)) (pick blank (answer 0 (0 ∷ []) (blankedIn M)) (answer 32 (0 ∷ []) M))
+
+-- the call
 unfoldable pub lentOpen : List ℕ → Memory → Answer
-lentOpen s M = pick (soundIn s M) (answer 0 (0 ∷ []) (openedIn s M)) (pick (blankIn M) (answer 0 (0 ∷ []) (blankedIn M)) (answer 32 (0 ∷ []) M))
+lentOpen s M = openedAs (soundIn s M) (blankIn M) s M
 
 -- ---- the wall chart (N5)
 
