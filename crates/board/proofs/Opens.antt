@@ -6,8 +6,8 @@ use native.Mathlib.Decide.{decLt}
 use native.Mathlib.Nat.{min-eq-left, min-eq-right}
 use mathlib.Core.Logic.{by-cases}
 use mathlib.Core.List.{List, [], _∷_}
-use mathlib.Core.Bool.{Bool, true, false, _&&_}
-use borrow.Author.Tests.{eq-eqb, eqb-true, ne-eqb}
+use mathlib.Core.Bool.{Bool, true, false, not, _&&_}
+use borrow.Author.Tests.{eq-eqb, ne-eqb}
 use lib.Dec.{eqb}
 use lib.ListN.{length, getD, replicate}
 use Rattle.table.specs.Sum.{pick}
@@ -21,6 +21,7 @@ use Rattle.schedule.specs.Actives.{noLinks, filledFrom}
 use Rattle.schedule.specs.Record.{maxBytes, maxWorkers, filled, bytesOf, tableIn, linksIn, listIn, stateOf}
 use Rattle.schedule.specs.Begin.{beginPasses}
 use Rattle.schedule.specs.Sound.{Steady, Sound, isNothing, sameList, commonSound, sound}
+use Rattle.schedule.specs.Turn.{isBlank, unsound}
 use Rattle.schedule.proofs.ActiveMoves.{list-once, list-small}
 use Rattle.schedule.proofs.Fills.{fill-linked}
 use Rattle.schedule.proofs.Links.{laid-linked}
@@ -29,9 +30,9 @@ use Rattle.schedule.proofs.Stores.{steady-lawful, steady-fits, steady-facts}
 use Rattle.schedule.proofs.Tests.{sound-exactly}
 use Rattle.schedule.proofs.Words.{sameList-exactly}
 use Rattle.soundness.specs.Tested.{parentsIn, parentsIf, soundOn, blankOn}
-use Rattle.soundness.proofs.Chains.{first-of, second-of}
+use Rattle.soundness.proofs.Chains.{last, first-of, never}
 use Rattle.soundness.proofs.Noting.{parents-right}
-use Rattle.soundness.proofs.OnParts.{sound-is}
+use Rattle.soundness.proofs.OnParts.{sound-is, blank-is}
 use Rattle.lent.specs.Arrays.{linksOf}
 use Rattle.board.specs.Lent.{Memory, movedIn, Answer, answer}
 use Rattle.board.specs.Stands.{truths, workersIn, runIn, Stands}
@@ -66,14 +67,18 @@ module _ (s : List ℕ) (M : Memory) where
   truths-in e = first-of (truths (M .holds)) _ e
 
   -- the test is that of the record
-  pub sound-in : soundIn s M ≡ true → Sound (runIn s M)
+  pub sound-same : truths (M .holds) ≡ true → soundIn s M ≡ sound (runIn s M)
   unfolding soundIn
-  sound-in e =
+  sound-same h =
       let r : Run = runIn s M in
-      let whole = rw (sym bytes) at (second-of (truths (M .holds)) _ e) in
       let size = eq-eqb (length (bytesOf r)) (r .length) (ap length bytes) in
       let rest = sameList-exactly (r .table) (filled maxBytes (bytesOf r)) .1 (ap (filled maxBytes) (sym bytes)) in
-      sound-exactly r .0 (sound-is r ∙ both whole (both size rest))
+      rw h
+      (ap (λ (t : List ℕ). soundOn t (r .workers) (r .quota) (r .next) (r .status) (r .amounts) (linksIn r) (r .worker) (r .busy) (r .held) (r .highest) (r .turns)) (sym bytes)
+      ∙ last _ refl (both size rest) ∙ sym (sound-is r))
+
+  pub sound-in : soundIn s M ≡ true → Sound (runIn s M)
+  sound-in e = sound-exactly (runIn s M) .0 (sym (sound-same (truths-in e)) ∙ e)
 
   -- ---- what is filled
 
@@ -97,16 +102,43 @@ module _ (s : List ℕ) (M : Memory) where
           turns-fit = omega (arith, sound-in e .turns);
         }
 
+-- a run that stands has a worker, and the blank record has none
+pub stands-worked : (s : List ℕ) (M : Memory) → Stands s M → blankIn M ≡ false
+unfolding blankIn blankOn
+stands-worked s M h = rw (ne-eqb (getD (M .settings) 0 0) 0 (λ e. omega (arith, e, steady-fits (runIn s M) (h .steady) .some-worker)))
+
+stands-unblank : (s : List ℕ) (M : Memory) → Stands s M → isBlank (runIn s M) ≡ false
+unfolding blankIn
+stands-unblank s M h = blank-is (runIn s M) ∙ off (sameList (runIn s M .table) (replicate maxBytes 0)) (eqb (length s) 0) (stands-worked s M h)
+  where
+    off : (a b : Bool) {c : Bool} → c ≡ false → (a && (b && c)) ≡ false
+    off true true e = e
+    off true false e = refl
+    off false b e = refl
+
+-- so check 32 of its memory is that of the record
+pub stands-unsound : (s : List ℕ) (M : Memory) → Stands s M → not (soundIn s M) ≡ unsound (runIn s M)
+unfolding unsound
+stands-unsound s M h = rw (stands-unblank s M h, sound-same s M (h .truth-values)) (last (not (sound (runIn s M))) refl refl)
+
+-- and opening it is refused exactly where the record is
+pub open-refines : (s : List ℕ) (M : Memory) → Stands s M → lentOpen s M .number ≡ pick (unsound (runIn s M)) 32 0
+unfolding lentOpen
+open-refines s M h = rw (← (stands-unsound s M h), stands-worked s M h) (go (soundIn s M))
+  where
+    go : (b : Bool) → openedAs b false s M .number ≡ pick (not b) 32 0
+    go true = refl
+    go false = refl
+
 -- a run that stands, opened anew: it stands, whatever the call answers
 pub opens-stands : (s : List ℕ) (M : Memory) → Stands s M → Stands s (lentOpen s M .memory)
-unfolding lentOpen blankIn blankOn
+unfolding lentOpen
 opens-stands s M h = go (soundIn s M) refl (blankIn M) refl
   where
     go : (a : Bool) → soundIn s M ≡ a → (b : Bool) → blankIn M ≡ b
         → Stands s (openedAs a b s M .memory)
     go true e b f = open-stands s M (h .holds-size) (h .threads-size) (h .quotas-size) e
-    -- a run has a worker, and the blank record has none
-    go false e true f = absurd (omega (arith, steady-fits (runIn s M) (h .steady) .some-worker, eqb-true (getD (M .settings) 0 0) 0 (first-of _ _ f)))
+    go false e true f = never (sym (stands-worked s M h) ∙ f)
     go false e false f = h
 
 -- ---- the test, as the code asks it: more workers than there may be are tested as 17 are

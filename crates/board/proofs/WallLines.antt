@@ -23,12 +23,13 @@ use Rattle.schedule.proofs.Words.{sameList-exactly}
 use Rattle.soundness.specs.Tested.{blankOn}
 use Rattle.soundness.proofs.Chains.{first-of}
 use Rattle.soundness.proofs.OnParts.{blank-is}
-use Rattle.chart.specs.Chart.{Shown, mostTurns, shownOf, shown, lineTexts, lineText, tooMany}
-use Rattle.chart.proofs.Records.{line-filled}
+use Rattle.chart.specs.declared.Charted.{Charted}
+use Rattle.chart.specs.Chart.{Shown, mostTurns, shownOf, shown, lineTexts, lineText, tooMany, charted, chartedIn, chartedValues, lineValues}
+use Rattle.chart.proofs.Records.{line-filled, charted-unsound, charted-many, charted-written, charted-values}
 use Rattle.board.specs.Lent.{Memory, movedIn}
-use Rattle.board.specs.Stands.{workersIn, runIn}
+use Rattle.board.specs.Stands.{workersIn, runIn, Stands}
 use Rattle.board.specs.Opened.{soundIn, blankIn, lineFault, lineAfter}
-use Rattle.board.proofs.Opens.{sound-in}
+use Rattle.board.proofs.Opens.{sound-in, stands-worked, stands-unsound}
 
 -- ---- the checks, as the code asks them
 
@@ -100,3 +101,30 @@ module _ (s : List ℕ) (M : Memory) where
 pub line-kept : (M : Memory) {n : ℕ} → (n ≡ 0 → ⊥) → (line : List ℕ) → line ≡ lineAfter n M line
 unfolding lineAfter
 line-kept M {n} h line = rw (ne-eqb n 0 h)
+
+-- ---- on a run that stands
+
+pub record Lines (s : List ℕ) (M : Memory) (n : ℕ) : Type 0 where
+  pub number : n ≡ lineValues (runIn s M) .number
+  pub line : (out : List ℕ) → lineAfter n M out ≡ chartedIn (charted (runIn s M)) (runIn s M) out
+
+as-charted : (s : List ℕ) (M : Memory) (n : ℕ) (x : Charted) → x ≡ charted (runIn s M) → n ≡ chartedValues x .number
+    → ((out : List ℕ) → lineAfter n M out ≡ chartedIn x (runIn s M) out) → Lines s M n
+as-charted s M n x e d f =
+    record {
+      number = d ∙ ap (λ (y : Charted). chartedValues y .number) e ∙ ap (λ y. y .number) (charted-values (runIn s M));
+      line = λ out. f out ∙ ap (λ (y : Charted). chartedIn y (runIn s M) out) e;
+    }
+
+-- number and line are those of the record
+pub line-refines : (s : List ℕ) (M : Memory) → Stands s M → Lines s M (lineFault s M)
+unfolding lineFault lineAfter tooMany
+line-refines s M h = rw (stands-unsound s M h, stands-worked s M h) (go (unsound r) refl (tooMany r) refl)
+  where
+    r : Run
+    r = runIn s M
+
+    go : (u : Bool) → unsound r ≡ u → (t : Bool) → tooMany r ≡ t → Lines s M (pick (u && not false) 32 (pick t 43 0))
+    go true e t f = as-charted s M 32 _ (charted-unsound r e) refl (λ out. refl)
+    go false e true f = as-charted s M 43 _ (charted-many r e f) refl (λ out. refl)
+    go false e false f = as-charted s M 0 _ (charted-written r e f) refl (λ out. refl)
