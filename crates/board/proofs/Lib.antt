@@ -3,7 +3,9 @@ mod Answers
 mod Cases
 mod Begins
 mod Turns
+mod Previews
 pub mod Refines
+pub mod PreviewRefines
 pub mod LentLimit
 mod Numbered
 pub mod LentPromised

@@ -54,7 +54,7 @@ workers-at M w zero i h = absurd (omega (arith, h))
 workers-at M w (suc n) zero h = let e : w + 0 ≡ w = omega arith in rw e
 workers-at M w (suc n) (suc i) h = let e : w + suc i ≡ suc w + i = omega arith in rw e (workers-at M (suc w) n i (omega (arith, h)))
 
-own-worker : (M : Memory) (w : ℕ) → w < 16 → getD (workersIn M) w nobody ≡ workerIn M w
+pub own-worker : (M : Memory) (w : ℕ) → w < 16 → getD (workersIn M) w nobody ≡ workerIn M w
 own-worker M w h = let e : 0 + w ≡ w = omega arith in workers-at M 0 16 w h ∙ ap (workerIn M) e
 
 as-number : (b : Bool) → not (eqb (pick b 1 0) 0) ≡ b
