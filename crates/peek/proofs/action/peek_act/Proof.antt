@@ -1,11 +1,20 @@
 -- `peek::action::peek_act` meets its contract: the action is the thread's next one.
 use mathlib.Core.Path.{refl, _∙_}
+use Prim.Native.Nat.{ℕ}
+use mathlib.Core.List.{List}
 use denote.Ref.{now}
-use Rattle.lent.specs.Arrays.{arrays, tableFrom}
+use Rattle.table.specs.Format.{Table}
+use Rattle.lent.specs.Arrays.{Arrays, arrays, tableFrom}
 use Rattle.peek.proofs.ByKind.{no-thread, of-thread}
 use borrow.Author.Needs.{needs}
 use Rattle.peek.proofs.action.peek_act.Statement.{statement}
 use Rattle.peek.proofs.action.peek_act.Tie as tie
+
+abbrev start : tie.Start → List ℕ → List ℕ → List ℕ → List ℕ → Arrays
+start d left right under over = arrays (now (d .args .next)) (now (d .args .status)) (now (d .args .amounts)) left right under over
+
+abbrev table-of : tie.Start → Table
+table-of d = tableFrom (now (d .args .table)) (d .args .n)
 
 shown-requires : tie.Need-shown-requires
 shown-requires c κs = search needs
@@ -15,7 +24,7 @@ returns c =
     let t = c .before in
     let d = t .before .before .before in
     λ parents left right under over.
-    c .shown .ensures ∙ no-thread (tableFrom (now (d .args .table)) (d .args .n)) parents (arrays (now (d .args .next)) (now (d .args .status)) (now (d .args .amounts)) left right under over) (d .args .totals) (d .args .worker) (t .if1 .taken)
+    c .shown .ensures ∙ no-thread (table-of d) parents (start d left right under over) (d .args .totals) (d .args .worker) (t .if1 .taken)
 
 cast-t : tie.Need-cast-t
 cast-t c = search needs
@@ -40,7 +49,7 @@ returns-2 c =
     let t = c .before .before .before .before in
     let d = t .before .before .before in
     λ parents left right under over.
-    of-thread (tableFrom (now (d .args .table)) (d .args .n)) parents (arrays (now (d .args .next)) (now (d .args .status)) (now (d .args .amounts)) left right under over) (d .args .totals) (d .args .worker) (t .if1 .left) refl (c .peek-action .ensures _ _ _ _ _ _ refl)
+    of-thread (table-of d) parents (start d left right under over) (d .args .totals) (d .args .worker) (t .if1 .left) refl (c .peek-action .ensures _ _ _ _ _ _ refl)
 
 pub peek-act-spec : {M : Type 1} → statement M
 peek-act-spec =

@@ -1,15 +1,19 @@
 -- `peek::action::peek_action` meets its contract: the code read is that of the action, and its kind's function shows what `actOn` leaves.
 use mathlib.Core.Path.{refl, _∙_}
-use Prim.Native.Nat.{_≤_}
+use Prim.Native.Nat.{ℕ, _≤_}
 use native.Mathlib.Omega.{arith}
+use mathlib.Core.List.{List}
 use denote.Ref.{now}
 use Rattle.table.specs.Format.{Table, kindOf}
-use Rattle.lent.specs.Arrays.{arrays, tableFrom}
+use Rattle.lent.specs.Arrays.{Arrays, arrays, tableFrom}
 use Rattle.lent.proofs.Reading.{from-code, from-argument}
 use Rattle.peek.proofs.ByKind.{unknown-idle, by-code}
 use borrow.Author.Needs.{needs}
 use Rattle.peek.proofs.action.peek_action.Statement.{statement}
 use Rattle.peek.proofs.action.peek_action.Tie as tie
+
+abbrev start : tie.Start → List ℕ → List ℕ → List ℕ → List ℕ → List ℕ → Arrays
+start d next left right under over = arrays next (now (d .args .status)) (now (d .args .amounts)) left right under over
 
 abbrev table-of : tie.Start → Table
 table-of d = tableFrom (now (d .args .table)) (d .args .n)
@@ -53,7 +57,7 @@ returns c =
     let k = c .before .before in
     let d = k .before .before .before in
     λ parents next left right under over o.
-    by-code (table-of d) parents (arrays next (now (d .args .status)) (now (d .args .amounts)) left right under over) (d .args .totals) (d .args .worker) (d .args .a) 0
+    by-code (table-of d) parents (start d next left right under over) (d .args .totals) (d .args .worker) (d .args .a) 0
     (from-code (now (d .args .table)) (d .args .n) _ (k .code .ensures)) (from-argument (now (d .args .table)) (d .args .n) _ (k .before .argument .ensures)) (c .before .match .keys1)
     (c .peek-end .ensures _ _ _ _)
 
@@ -63,7 +67,7 @@ returns-2 c =
     let k = c .before .before in
     let d = k .before .before .before in
     λ parents next left right under over o.
-    by-code (table-of d) parents (arrays next (now (d .args .status)) (now (d .args .amounts)) left right under over) (d .args .totals) (d .args .worker) (d .args .a) 1
+    by-code (table-of d) parents (start d next left right under over) (d .args .totals) (d .args .worker) (d .args .a) 1
     (from-code (now (d .args .table)) (d .args .n) _ (k .code .ensures)) (from-argument (now (d .args .table)) (d .args .n) _ (k .before .argument .ensures)) (c .before .match .keys2)
     (c .peek-work .ensures _ _ _ _)
 
@@ -73,7 +77,7 @@ returns-3 c =
     let k = c .before .before in
     let d = k .before .before .before in
     λ parents next left right under over o.
-    by-code (table-of d) parents (arrays next (now (d .args .status)) (now (d .args .amounts)) left right under over) (d .args .totals) (d .args .worker) (d .args .a) 2
+    by-code (table-of d) parents (start d next left right under over) (d .args .totals) (d .args .worker) (d .args .a) 2
     (from-code (now (d .args .table)) (d .args .n) _ (k .code .ensures)) (from-argument (now (d .args .table)) (d .args .n) _ (k .before .argument .ensures)) (c .before .match .keys3)
     (c .peek-alloc .ensures _ _ _ o)
 
@@ -83,7 +87,7 @@ returns-4 c =
     let k = c .before .before in
     let d = k .before .before .before in
     λ parents next left right under over o.
-    by-code (table-of d) parents (arrays next (now (d .args .status)) (now (d .args .amounts)) left right under over) (d .args .totals) (d .args .worker) (d .args .a) 3
+    by-code (table-of d) parents (start d next left right under over) (d .args .totals) (d .args .worker) (d .args .a) 3
     (from-code (now (d .args .table)) (d .args .n) _ (k .code .ensures)) (from-argument (now (d .args .table)) (d .args .n) _ (k .before .argument .ensures)) (c .before .match .keys4)
     (c .peek-free .ensures _ _ _ o)
 
@@ -93,7 +97,7 @@ returns-5 c =
     let k = c .before .before in
     let d = k .before .before .before in
     λ parents next left right under over o.
-    by-code (table-of d) parents (arrays next (now (d .args .status)) (now (d .args .amounts)) left right under over) (d .args .totals) (d .args .worker) (d .args .a) 4
+    by-code (table-of d) parents (start d next left right under over) (d .args .totals) (d .args .worker) (d .args .a) 4
     (from-code (now (d .args .table)) (d .args .n) _ (k .code .ensures)) (from-argument (now (d .args .table)) (d .args .n) _ (k .before .argument .ensures)) (c .before .match .keys5)
     (c .peek-fork .ensures _ _ _)
 
@@ -103,7 +107,7 @@ returns-6 c =
     let k = c .before .before in
     let d = k .before .before .before in
     λ parents next left right under over o.
-    by-code (table-of d) parents (arrays next (now (d .args .status)) (now (d .args .amounts)) left right under over) (d .args .totals) (d .args .worker) (d .args .a) 5
+    by-code (table-of d) parents (start d next left right under over) (d .args .totals) (d .args .worker) (d .args .a) 5
     (from-code (now (d .args .table)) (d .args .n) _ (k .code .ensures)) (from-argument (now (d .args .table)) (d .args .n) _ (k .before .argument .ensures)) (c .before .match .keys6)
     (c .peek-join .ensures _ _ _ _ _ _ _ o)
 
@@ -114,7 +118,7 @@ returns-7 c =
     let r = c .before .match .rest in
     let six : 6 ≤ k .code .result = omega (arith, r .1, r .0 .1, r .0 .0 .1, r .0 .0 .0 .1, r .0 .0 .0 .0 .1, r .0 .0 .0 .0 .0 .1) in
     λ parents next left right under over o.
-    by-code (table-of d) parents (arrays next (now (d .args .status)) (now (d .args .amounts)) left right under over) (d .args .totals) (d .args .worker) (d .args .a) _
+    by-code (table-of d) parents (start d next left right under over) (d .args .totals) (d .args .worker) (d .args .a) _
     (from-code (now (d .args .table)) (d .args .n) _ (k .code .ensures)) (from-argument (now (d .args .table)) (d .args .n) _ (k .before .argument .ensures)) refl
     (c .shown .ensures ∙ unknown-idle _ _ _ (d .args .totals) (d .args .worker) _ _ _ six)
 
