@@ -5,7 +5,9 @@ mod Begins
 mod Opens
 mod WallLines
 mod Turns
+mod Previews
 pub mod Refines
+pub mod PreviewRefines
 pub mod LentLimit
 mod Numbered
 pub mod LentPromised

@@ -59,7 +59,7 @@ module _ (holds threads quotas : List ℕ) where
 sixteen : (M : Memory) → length (workersIn M) ≡ 16
 sixteen M = workers-length (M .holds) (M .threads) (M .quotas) 0 16
 
-own-worker : (M : Memory) (w : ℕ) → w < 16 → getD (workersIn M) w nobody ≡ workerIn M w
+pub own-worker : (M : Memory) (w : ℕ) → w < 16 → getD (workersIn M) w nobody ≡ workerIn M w
 own-worker M w h = let e : 0 + w ≡ w = omega arith in workers-at (M .holds) (M .threads) (M .quotas) 0 16 w h ∙ ap (workerIn M) e
 
 as-number : (b : Bool) → not (eqb (pick b 1 0) 0) ≡ b

@@ -99,7 +99,7 @@ module _ (s : List ℕ) (w : ℕ) (M : Memory) where
   -- ---- the single turn's call
 
   -- a turn that is taken is one of sixteen workers'
-  few : turnIn s w M .number ≡ 0 → w < 16
+  pub few : turnIn s w M .number ≡ 0 → w < 16
   unfolding turnIn turnLeft
   few e = go (decLt w 16)
     where

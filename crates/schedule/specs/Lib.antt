@@ -11,6 +11,7 @@ pub mod Memory
 pub mod Threads
 pub mod Answers
 pub mod Values
+pub mod Shown
 pub mod Listing
 pub mod Cases
 pub mod TurnCases

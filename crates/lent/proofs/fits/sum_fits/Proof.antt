@@ -1,11 +1,11 @@
--- `lent::act::sum_fits` meets its contract: what is tested is the same without a sum.
+-- `lent::fits::sum_fits` meets its contract: what is tested is the same without a sum.
 use mathlib.Core.Path.{sym}
 use Prim.Native.Nat.{_+_, _^_}
 use native.Mathlib.Omega.{arith}
 use borrow.Author.Tests.{lt-ltb, le-ltb}
 use borrow.Author.Needs.{needs}
-use Rattle.lent.proofs.act.sum_fits.Statement.{statement}
-use Rattle.lent.proofs.act.sum_fits.Tie as tie
+use Rattle.lent.proofs.fits.sum_fits.Statement.{statement}
+use Rattle.lent.proofs.fits.sum_fits.Tie as tie
 
 sub-if1 : tie.Need-sub-if1
 sub-if1 c = search needs

@@ -1,10 +1,10 @@
--- `lent::act::free_fits` meets its contract: the tests in their order.
+-- `lent::fits::free_fits` meets its contract: the tests in their order.
 use mathlib.Core.Path.{refl}
 use borrow.Author.Tests.{le-leb, lt-leb}
 use Rattle.links.proofs.Comparing.{both, neither}
 use borrow.Author.Needs.{needs}
-use Rattle.lent.proofs.act.free_fits.Statement.{statement}
-use Rattle.lent.proofs.act.free_fits.Tie as tie
+use Rattle.lent.proofs.fits.free_fits.Statement.{statement}
+use Rattle.lent.proofs.fits.free_fits.Tie as tie
 
 next-fits-requires : tie.Need-next-fits-requires
 next-fits-requires c κs = search needs

@@ -1,10 +1,10 @@
--- `lent::act::next_fits` meets its contract: of the numbers of 16 bits one alone has none after it.
+-- `lent::fits::next_fits` meets its contract: of the numbers of 16 bits one alone has none after it.
 use mathlib.Core.Path.{sym}
 use Prim.Native.Nat.{_+_}
 use native.Mathlib.Omega.{arith}
 use borrow.Author.Tests.{lt-ltb, le-ltb}
-use Rattle.lent.proofs.act.next_fits.Statement.{statement}
-use Rattle.lent.proofs.act.next_fits.Tie as tie
+use Rattle.lent.proofs.fits.next_fits.Statement.{statement}
+use Rattle.lent.proofs.fits.next_fits.Tie as tie
 
 returns : tie.Need-returns
 returns c = sym (le-ltb (c .before .args .a + 1) 65536 (omega (arith, c .if1 .taken)))

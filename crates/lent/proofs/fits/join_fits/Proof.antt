@@ -1,8 +1,8 @@
--- `lent::act::join_fits` meets its contract: the tests in their order.
+-- `lent::fits::join_fits` meets its contract: the tests in their order.
 use Rattle.links.proofs.Comparing.{both, neither}
 use borrow.Author.Needs.{needs}
-use Rattle.lent.proofs.act.join_fits.Statement.{statement}
-use Rattle.lent.proofs.act.join_fits.Tie as tie
+use Rattle.lent.proofs.fits.join_fits.Statement.{statement}
+use Rattle.lent.proofs.fits.join_fits.Tie as tie
 
 next-fits-requires : tie.Need-next-fits-requires
 next-fits-requires c κs = search needs

@@ -1,9 +1,9 @@
--- `lent::act::fork_fits` meets its contract: the tests in their order.
+-- `lent::fits::fork_fits` meets its contract: the tests in their order.
 use mathlib.Core.Path.{refl}
 use Rattle.links.proofs.Comparing.{both, neither}
 use borrow.Author.Needs.{needs}
-use Rattle.lent.proofs.act.fork_fits.Statement.{statement}
-use Rattle.lent.proofs.act.fork_fits.Tie as tie
+use Rattle.lent.proofs.fits.fork_fits.Statement.{statement}
+use Rattle.lent.proofs.fits.fork_fits.Tie as tie
 
 next-fits-requires : tie.Need-next-fits-requires
 next-fits-requires c κs = search needs

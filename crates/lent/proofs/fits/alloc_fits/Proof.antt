@@ -1,8 +1,8 @@
--- `lent::act::alloc_fits` meets its contract: the tests in their order.
+-- `lent::fits::alloc_fits` meets its contract: the tests in their order.
 use Rattle.links.proofs.Comparing.{both, neither}
 use borrow.Author.Needs.{needs}
-use Rattle.lent.proofs.act.alloc_fits.Statement.{statement}
-use Rattle.lent.proofs.act.alloc_fits.Tie as tie
+use Rattle.lent.proofs.fits.alloc_fits.Statement.{statement}
+use Rattle.lent.proofs.fits.alloc_fits.Tie as tie
 
 next-fits-requires : tie.Need-next-fits-requires
 next-fits-requires c κs = search needs
