@@ -1,4 +1,4 @@
-//! Random tables, runs in rounds, over lists and turn by turn, compared with the model after every call.
+//! Random tables; single turns, runs over lists and runs in rounds, mixed, compared with the model after every call.
 use crate::model::{self, bytes, facts, Draw, Machine, Said, Table};
 use wivakkol::{check, Memory, Reply, Report, Run, Status};
 
@@ -86,7 +86,7 @@ fn turn_by_turn() {
 }
 
 #[test]
-fn in_rounds_and_over_lists() {
+fn all_calls_mixed() {
     let (mut draw, mut finished) = (Draw(21), 0);
     for _ in 0..300 {
         let (table, p, quota) = drawn(&mut draw);
@@ -97,6 +97,9 @@ fn in_rounds_and_over_lists() {
             let limit = draw.below(300) as u32;
             assert_eq!(run.rounds(limit), Ok(take(&mut machine, (0..p as usize).cycle().take(limit as usize))));
             same(&run, &machine, &firsts);
+            if !machine.ended() {
+                assert_eq!(run.turn(0).unwrap().reply, reply(machine.turn(0).0, &firsts));
+            }
             let order: Vec<u8> = (0..draw.below(50)).map(|_| draw.below(u64::from(p)) as u8).collect();
             assert_eq!(run.list(&order), Ok(take(&mut machine, order.iter().map(|w| usize::from(*w)))));
             same(&run, &machine, &firsts);
