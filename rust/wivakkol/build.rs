@@ -1,6 +1,6 @@
 //! Links the archive `libboard.a`, which `rt staticlib board` writes: from the folder that `WIVAKKOL_ARCHIVE` names, or else from the repository's own.
-use std::env;
 use std::path::{Path, PathBuf};
+use std::{env, process};
 
 fn main() {
     println!("cargo:rerun-if-env-changed=WIVAKKOL_ARCHIVE");
@@ -11,7 +11,8 @@ fn main() {
     };
     let archive = folder.join("libboard.a");
     let Ok(archive) = archive.canonicalize() else {
-        panic!("{} is not there: `rt staticlib board` writes it, and WIVAKKOL_ARCHIVE may name its folder", archive.display());
+        eprintln!("{} is not there: `rt staticlib board` writes it, and WIVAKKOL_ARCHIVE may name its folder", archive.display());
+        process::exit(1);
     };
     println!("cargo:rerun-if-changed={}", archive.display());
     println!("cargo:rustc-link-search=native={}", archive.parent().expect("it is in a folder").display());
