@@ -1,7 +1,7 @@
 """Measures the calls from C, through include/wivakkol.h, against plain C by the same algorithms (bench/baseline.c, as the calls of bench/plain.h) and against the calls by value: processor
 time of a turn in a run in rounds to its end, taken by wivakkol_turn and inside wivakkol_rounds, by plain C in the same two ways, and inside a run of the by-value program, as bench.py has
 it. On the four tables of bench.py, with 2, 4 and 16 workers. All take their turns to be measured one after the other, again and again, and each time is the least. A single turn counts the
-threads passed over (N7), from C and in plain C alike; a run counts none. In the last lines, which goals were met.
+threads passed over (N7), from C and in plain C alike; a run counts none. The last line says which goals were met.
 
 usage: python3 bench/board.py [--rounds N] [--compiler 'CC -O..']
     From the repository's top, after `rt staticlib board` and `rt check bench_runs`; needs a C compiler, by default that of bench.py with -O3. N rounds (default 10), of 20 runs each from
@@ -70,8 +70,10 @@ def report(cases):
     missed = {goal: ['%s %d %.2f' % (case.name, case.p, x) for case, x, most in held if x > most] for goal, held in goals.items()}
     print()
     for goal, where in missed.items():
-        print('%s: %s' % (goal, 'met' if not where else 'missed in %d of %d: %s' % (len(where), len(goals[goal]), ', '.join(where))))
-    print('goals met: %d of %d' % (list(missed.values()).count([]), len(goals)))
+        if where:
+            print('%s: missed in %d of %d: %s' % (goal, len(where), len(goals[goal]), ', '.join(where)))
+    by_end = [[goal for goal, where in missed.items() if bool(where) == wanted] for wanted in (False, True)]
+    print('goals met: %s; goals missed: %s' % tuple(', '.join(names) or 'none' for names in by_end))
 
 
 def main():
