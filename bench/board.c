@@ -1,6 +1,6 @@
 /* Runs a table on standard input to its end in rounds, N times each by wivakkol_turn and in one call of wivakkol_rounds, and in the same two ways by plain C (plain.h), one after the
- * other in every of the N: the turns of a run, and of all runs the least processor time of wivakkol_begin and then of a turn in each of the four ways, in nanoseconds. Before that it
- * compares the two, turn by turn. For bench/board.py; arguments p, K and N. */
+ * other in every of the N; then by wivakkol_preview and wivakkol_turn. Prints the turns of a run, and of all runs the least processor time of wivakkol_begin, of wivakkol_open in the middle
+ * of a run, and of a turn in each of the five ways, in nanoseconds. Before that it compares the two, turn by turn. For bench/board.py; arguments p, K and N. */
 #define _POSIX_C_SOURCE 199309L
 #include <inttypes.h>
 #include <stdio.h>
@@ -15,6 +15,7 @@ static uint8_t table[WIVAKKOL_TABLE_MOST];
 static size_t length;
 static uint32_t p, quota;
 static wivakkol_run run;
+static wivakkol_work work;
 static plain_run *plain;
 static uint64_t turns;
 
@@ -41,7 +42,7 @@ static void begin(void)
 {
     uint64_t row[WIVAKKOL_BEGIN_ROW];
 
-    if (wivakkol_begin(&run, table, length, p, quota, row) != 0)
+    if (wivakkol_begin(&run, &work, table, length, p, quota, row) != 0)
         fail("refused");
 }
 
@@ -49,6 +50,20 @@ static void begin_plain(void)
 {
     if (plain_begin(plain, table, length, p, quota) != 0)
         fail("refused by plain C");
+}
+
+/* Opening a run after half of its turns: its processor time. */
+static double open_run(void)
+{
+    uint64_t row[WIVAKKOL_RUN_ROW], opened[WIVAKKOL_OPEN_ROW];
+    double start;
+
+    if (wivakkol_rounds(&run, table, length, (uint32_t)(turns / 2), row) != 0)
+        fail("refused");
+    start = now();
+    if (wivakkol_open(&run, &work, table, length, opened) != 0)
+        fail("not opened");
+    return now() - start;
 }
 
 /* The same numbers and rows from both, to the end of the run; its turns. */
@@ -69,7 +84,7 @@ static void compare(void)
     turns = run.totals[WIVAKKOL_TURNS];
 }
 
-/* A whole run in each of the four ways: its processor time. */
+/* A whole run in each of the five ways: its processor time. */
 static double by_turns(void)
 {
     uint64_t row[WIVAKKOL_TURN_ROW];
@@ -112,9 +127,21 @@ static double in_plain_rounds(void)
     return now() - start;
 }
 
+static double by_previews(void)
+{
+    uint64_t row[WIVAKKOL_TURN_ROW], shown[WIVAKKOL_PREVIEW_ROW];
+    double start = now();
+    uint32_t w;
+
+    for (w = 0; wivakkol_preview(&run, table, length, w, shown) == 0; w = w + 1 == p ? 0 : w + 1)
+        if (wivakkol_turn(&run, table, length, w, row) != 0)
+            fail("a turn other than its preview");
+    return now() - start;
+}
+
 int main(int argc, char **argv)
 {
-    double of_begin = 1e18, start, of[4] = { 1e18, 1e18, 1e18, 1e18 };
+    double of_begin = 1e18, of_open = 1e18, start, of[5] = { 1e18, 1e18, 1e18, 1e18, 1e18 };
     int n, i;
 
     if (argc != 4)
@@ -136,9 +163,13 @@ int main(int argc, char **argv)
         least(&of[2], in_rounds());
         begin_plain();
         least(&of[3], in_plain_rounds());
+        begin();
+        least(&of[4], by_previews());
+        begin();
+        least(&of_open, open_run());
     }
-    printf("%" PRIu64 " %.0f", turns, of_begin);
-    for (i = 0; i < 4; i++)
+    printf("%" PRIu64 " %.0f %.0f", turns, of_begin, of_open);
+    for (i = 0; i < 5; i++)
         printf(" %.2f", of[i] / (double)turns);
     printf("\n");
     return 0;

@@ -1,7 +1,8 @@
 """Measures the calls from C, through include/wivakkol.h, against plain C by the same algorithms (bench/baseline.c, as the calls of bench/plain.h) and against the calls by value: processor
 time of a turn in a run in rounds to its end, taken by wivakkol_turn and inside wivakkol_rounds, by plain C in the same two ways, and inside a run of the by-value program, as bench.py has
 it. On the four tables of bench.py, with 2, 4 and 16 workers. All take their turns to be measured one after the other, again and again, and each time is the least. A single turn counts the
-threads passed over (N7), from C and in plain C alike; a run counts none. The last line says which goals were met.
+threads passed over (N7), from C and in plain C alike; a run counts none. A beginning, an opening in the middle of a run and a preview, by what it adds to a single turn, are measured too. The
+last line says which goals were met.
 
 usage: python3 bench/board.py [--rounds N] [--compiler 'CC -O..']
     From the repository's top, after `rt staticlib board` and `rt check bench_runs`; needs a C compiler, by default that of bench.py with -O3. N rounds (default 10), of 20 runs each from
@@ -19,16 +20,16 @@ from bench import QUOTA, RATTLE, TABLES, WORKERS
 ARCHIVE, OUT, RUNS = 'target/staticlib/libboard.a', 'target/c', '20'
 BY_VALUE = {RATTLE: ['target/bin/bench_runs']}
 MOST_RATIO, MOST_NS = 1.5, {'tree': 60}
-BEGIN, TURN, PLAIN_TURN, ROUNDS, PLAIN_ROUNDS = range(5)
+BEGIN, OPEN, TURN, PLAIN_TURN, ROUNDS, PLAIN_ROUNDS, PREVIEWED = range(7)
 
 
 class Case(bench.Case):
-    """A table and a number of workers, measured from C as well: the least time of a beginning and of a turn in each of the four ways."""
+    """A table and a number of workers, measured from C as well: the least time of a beginning, an opening and a turn in each of the five ways."""
 
     def __init__(self, make, p):
         super().__init__(make, p)
         self.calls = {call: self.calls[call] for call in ('test', 'run')}
-        self.least = [1e9] * 5
+        self.least = [1e9] * 7
 
     def measure_all(self, program):
         done = subprocess.run([program, str(self.p), str(QUOTA), RUNS], input=self.data, stdout=subprocess.PIPE, check=True)
@@ -57,10 +58,13 @@ def build(words):
 def report(cases):
     """A line for each case; of each goal whether it was met, and where it was not."""
     rows = [(case, case.least, case.by_value()) for case in cases]
-    print('\nns of a turn:\n\n| | workers | begin, µs | `wivakkol_turn` / plain C | | in `wivakkol_rounds` / plain C | | by value / plain C | |\n|---|---|---|---|---|---|---|---|---|')
+    print('\nns of a turn:\n\n| | workers | `wivakkol_turn` / plain C | | in `wivakkol_rounds` / plain C | | by value / plain C | |\n|---|---|---|---|---|---|---|---|')
     for case, t, value in rows:
         pairs = (t[TURN], t[PLAIN_TURN]), (t[ROUNDS], t[PLAIN_ROUNDS]), (value, t[PLAIN_ROUNDS])
-        print('| %s | %d | %.0f | %s |' % (case.name, case.p, t[BEGIN] / 1000, ' | '.join('%.1f / %.1f | %.2f ×' % (x, y, x / y) for x, y in pairs)))
+        print('| %s | %d | %s |' % (case.name, case.p, ' | '.join('%.1f / %.1f | %.2f ×' % (x, y, x / y) for x, y in pairs)))
+    print('\n| | workers | begin, µs | open, µs | preview, ns |\n|---|---|---|---|---|')
+    for case, t, _ in rows:
+        print('| %s | %d | %.0f | %.0f | %.1f |' % (case.name, case.p, t[BEGIN] / 1000, t[OPEN] / 1000, t[PREVIEWED] - t[TURN]))
     goals = {'a single turn from C at most %.1f × plain C' % MOST_RATIO: [(case, t[TURN] / t[PLAIN_TURN], MOST_RATIO) for case, t, _ in rows],
              'a turn inside rounds from C at most %.1f × plain C' % MOST_RATIO: [(case, t[ROUNDS] / t[PLAIN_ROUNDS], MOST_RATIO) for case, t, _ in rows]}
     for name, most in MOST_NS.items():

@@ -1,6 +1,6 @@
 //! A run of the table in a file to its end, turn by turn, workers in rounds: `cargo run --example run -- TABLE p K`.
 use std::{env, error::Error, fs};
-use wivakkol::{check, Memory, Reply, Run};
+use wivakkol::{check, Memory, Reply, Run, Work};
 
 fn main() -> Result<(), Box<dyn Error>> {
     let words: Vec<String> = env::args().collect();
@@ -11,8 +11,8 @@ fn main() -> Result<(), Box<dyn Error>> {
     let facts = check(&table)?;
     println!("table {} {} serial {} depth {}", facts.threads, facts.actions, facts.peak, facts.depth);
 
-    let mut memory = Memory::new();
-    let mut run = Run::begin(&table, &mut memory, p.parse()?, quota.parse()?)?;
+    let (mut memory, mut work) = (Memory::new(), Work::new());
+    let mut run = Run::begin(&table, &mut memory, &mut work, p.parse()?, quota.parse()?)?;
     while !run.ended() {
         let worker = (run.turns() % u64::from(run.workers())) as u32;
         match run.turn(worker)?.reply {

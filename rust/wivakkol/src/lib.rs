@@ -3,19 +3,19 @@
 //! table is, what a turn does and which bounds hold.
 //!
 //! ```
-//! use wivakkol::{Memory, Report, Run};
+//! use wivakkol::{Memory, Report, Run, Work};
 //!
 //! let table = include_bytes!("../../../examples/e.table");
-//! let mut memory = Memory::new();
+//! let (mut memory, mut work) = (Memory::new(), Work::new());
 //! let quota = wivakkol::largest_quota(table, 2, 1, 55)?;
-//! let mut run = Run::begin(table, &mut memory, 2, quota)?;
+//! let mut run = Run::begin(table, &mut memory, &mut work, 2, quota)?;
 //! assert_eq!(run.rounds(u32::MAX)?, Report::Finished { turns: 14 });
 //! assert_eq!(run.highest(), 12);
 //! # Ok::<(), Box<dyn std::error::Error>>(())
 //! ```
 //!
 //! What C has to keep to by itself is kept here by types: sizes, alignment, what overlaps what, one call at a time, and the same unchanged table for every call on a run. One thing is not: the
-//! stack. [`check`] and [`largest_quota`] took up to 139,584 bytes of it, [`Run::begin`] 16,776, the others under 500. That the declarations fit the archive is tested and not proved.
+//! stack. From C the calls behind [`check`] and [`largest_quota`] took up to 139,552 bytes of it, [`Run::begin`] 3,496, [`Run::open`] 6,168, [`Run::wall_line`] 6,440, the others under 500. That the declarations fit the archive is tested and not proved.
 #![no_std]
 #![deny(unsafe_op_in_unsafe_fn)]
 
@@ -27,9 +27,9 @@ mod raw;
 mod refusal;
 mod run;
 
-pub use memory::Memory;
+pub use memory::{Memory, Work};
 pub use refusal::{Place, Refusal};
-pub use run::{Reply, Report, Run, Status, Stopped, Turn};
+pub use run::{Preview, Reply, Report, Run, Status, Stopped, Turn};
 
 /// The longest table that is accepted, in bytes: 1,024 threads and 8,192 actions. A longer input may be handed over, and is refused.
 pub const TABLE_MOST: usize = 36868;

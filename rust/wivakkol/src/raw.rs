@@ -26,6 +26,33 @@ extern "C" {
         heads: &mut [u16; 3],
         totals: &mut [u64; 3],
         row: &mut [u64; 1],
+        rises: &mut [u64; 1024],
+        falls: &mut [u64; 1024],
+    ) -> u32;
+
+    pub fn wivakkol_open_on(
+        table: *const u8,
+        length: usize,
+        settings: &[u32; 2],
+        parents: &mut [u16; 1024],
+        next: &[u16; 1024],
+        status: &[u8; 1024],
+        amounts: &[u64; 1024],
+        left: &[u16; 1024],
+        right: &[u16; 1024],
+        under: &mut [u16; 1024],
+        over: &mut [u16; 1024],
+        holds: &[u8; 16],
+        threads: &[u16; 16],
+        quotas: &[u32; 16],
+        heads: &mut [u16; 3],
+        totals: &[u64; 3],
+        row: &mut [u64; 1],
+        rises: &mut [u64; 1024],
+        falls: &mut [u64; 1024],
+        forks: &mut [u16; 1024],
+        seen: &mut [u16; 1024],
+        list: &mut [u16; 1024],
     ) -> u32;
 
     pub fn wivakkol_turn_on(
@@ -90,5 +117,45 @@ extern "C" {
         heads: &mut [u16; 3],
         totals: &mut [u64; 3],
         row: &mut [u64; 3],
+    ) -> u32;
+
+    pub fn wivakkol_preview_on(
+        table: *const u8,
+        length: usize,
+        w: u32,
+        settings: &[u32; 2],
+        next: &[u16; 1024],
+        status: &[u8; 1024],
+        amounts: &[u64; 1024],
+        right: &[u16; 1024],
+        over: &[u16; 1024],
+        holds: &[u8; 16],
+        threads: &[u16; 16],
+        quotas: &[u32; 16],
+        heads: &[u16; 3],
+        totals: &[u64; 3],
+        row: &mut [u64; 8],
+    ) -> u32;
+
+    pub fn wivakkol_chart_on(
+        table: *const u8,
+        length: usize,
+        settings: &[u32; 2],
+        next: &[u16; 1024],
+        status: &[u8; 1024],
+        amounts: &[u64; 1024],
+        left: &[u16; 1024],
+        right: &[u16; 1024],
+        holds: &[u8; 16],
+        threads: &[u16; 16],
+        quotas: &[u32; 16],
+        heads: &[u16; 3],
+        totals: &[u64; 3],
+        line: &mut [u8; 85],
+        rises: &mut [u64; 1024],
+        falls: &mut [u64; 1024],
+        forks: &mut [u16; 1024],
+        seen: &mut [u16; 1024],
+        list: &mut [u16; 1024],
     ) -> u32;
 }

@@ -55,9 +55,10 @@ impl Refusal {
             22 => "an alloc above K",
             30 => "the worker is not below p",
             31 => "the root has ended",
-            32 => "2^64 − 1 turns are taken, or a number in the run's memory does not fit",
+            32 => "the memory has no sound record of the table, or 2^64 − 1 turns are taken",
             41 => "b not 1 to 65,535",
             42 => "no quota from the largest alloc on keeps the bound within M",
+            43 => "more than 999,999 turns are taken",
             _ => "no number of these calls",
         }
     }

@@ -1,5 +1,5 @@
 //! A run: a table and the memory that it stands in, tied to each other.
-use crate::{Memory, Refusal};
+use crate::{Memory, Refusal, Work};
 use core::fmt;
 
 /// No thread, in the links of the list.
@@ -24,6 +24,15 @@ pub enum Reply {
 pub struct Turn {
     pub reply: Reply,
     pub passed: u16,
+}
+
+/// A turn shown before it is taken: what it would say, and memory held, its highest and the worker's quota left after it, 0 if it then has no thread.
+#[derive(Clone, Copy, Debug, PartialEq, Eq, Hash)]
+pub struct Preview {
+    pub turn: Turn,
+    pub held: u64,
+    pub highest: u64,
+    pub quota: u32,
 }
 
 /// How turns over a list or in rounds ended, with the number of turns that the call took.
@@ -60,13 +69,13 @@ pub enum Status {
     Ended,
 }
 
-/// A run that was begun. It borrows its table, so that every call is given the same bytes and nobody changes them meanwhile, and its memory, so that nobody else touches that; both are
+/// A run that was begun or opened. It borrows its table, so that every call is given the same bytes and nobody changes them meanwhile, and its memory, so that nobody else touches that; both are
 /// free again when the run is dropped.
 ///
 /// ```compile_fail,E0506
-/// # use wivakkol::{Memory, Run};
+/// # use wivakkol::{Memory, Run, Work};
 /// let (mut table, mut memory) = ([1, 0, 1, 0, 0, 0, 1, 0, 0, 0, 0, 0], Memory::new());
-/// let mut run = Run::begin(&table, &mut memory, 1, 1)?;
+/// let mut run = Run::begin(&table, &mut memory, &mut Work::new(), 1, 1)?;
 /// table[8] = 1; // not while the run is there
 /// run.turn(0)?;
 /// # Ok::<(), wivakkol::Refusal>(())
@@ -78,8 +87,19 @@ pub struct Run<'t> {
 
 impl<'t> Run<'t> {
     /// Begins a run of `p` workers with quota `quota` in this memory, whatever it held. Refused with 1 to 11 (the table's own), 20, 21 or 22; the memory is then all 0.
-    pub fn begin(table: &'t [u8], memory: &'t mut Memory, p: u32, quota: u32) -> Result<Run<'t>, Refusal> {
-        let (number, [place]) = memory.begin(table, p, quota);
+    pub fn begin(table: &'t [u8], memory: &'t mut Memory, work: &mut Work, p: u32, quota: u32) -> Result<Run<'t>, Refusal> {
+        let (number, [place]) = memory.begin(work, table, p, quota);
+        Refusal::unless_zero(number, place)?;
+        Ok(Run { table, memory })
+    }
+
+    /// Goes on with a run that was put away, in the memory that it was brought back to. Refused with 32, and the memory left as it was, where that has neither a sound record of this table nor
+    /// the blank one, all 0: a run opened from the latter has no workers, and every turn of it is refused with 30.
+    ///
+    /// The limits on memory and on threads are promised where the run was begun from this table and the memory is as calls left it. A sound record that was made up may hold more than any run
+    /// would; its turns are document 01's all the same.
+    pub fn open(table: &'t [u8], memory: &'t mut Memory, work: &mut Work) -> Result<Run<'t>, Refusal> {
+        let (number, [place]) = memory.open(work, table);
         Refusal::unless_zero(number, place)?;
         Ok(Run { table, memory })
     }
@@ -88,15 +108,22 @@ impl<'t> Run<'t> {
     pub fn turn(&mut self, w: u32) -> Result<Turn, Refusal> {
         let (number, [place, said, thread, value, passed]) = self.memory.turn(self.table, w);
         Refusal::unless_zero(number, place)?;
-        let thread = thread as u16;
-        let reply = match said {
-            1 => Reply::Idle,
-            2 => Reply::Done { thread, action: value as u16 },
-            3 => Reply::Quota { thread, wanted: value as u32 },
-            4 => Reply::Wait { thread, child: value as u16 },
-            _ => unreachable!("a turn says 1 to 4"),
-        };
-        Ok(Turn { reply, passed: passed as u16 })
+        Ok(turn(said, thread, value, passed))
+    }
+
+    /// The turn of worker `w` that [`turn`](Run::turn) would take now, refused as it would be; nothing changes.
+    pub fn preview(&self, w: u32) -> Result<Preview, Refusal> {
+        let (number, [place, said, thread, value, passed, held, highest, quota]) = self.memory.preview(self.table, w);
+        Refusal::unless_zero(number, place)?;
+        Ok(Preview { turn: turn(said, thread, value, passed), held, highest, quota: quota as u32 })
+    }
+
+    /// The run's line of the wall chart, 84 characters and a newline (N5): turns taken, each worker's thread or a full stop, memory held. Refused with 32 if 2^64 − 1 turns are taken, with 43
+    /// if more than 999,999 are.
+    pub fn wall_line(&self, work: &mut Work) -> Result<[u8; 85], Refusal> {
+        let (number, line) = self.memory.chart(work, self.table);
+        Refusal::unless_zero(number, 0)?;
+        Ok(line)
     }
 
     /// A turn of each worker of `order`, up to the root's end. Stopped by a turn that is refused, with 30 or 32; those before it are taken.
@@ -147,7 +174,9 @@ impl<'t> Run<'t> {
     /// The list of the threads that are forked and not ended, leftmost first, which is serial order.
     pub fn threads(&self) -> impl Iterator<Item = u16> + '_ {
         let in_list = |t: u16| (t < NO_THREAD).then_some(t);
-        core::iter::successors(in_list(self.memory.heads[0]), move |t| in_list(self.memory.right[usize::from(*t)]))
+        // the blank record, which alone has no workers, has 0 for every neighbour and an empty list
+        let first = if self.workers() == 0 { NO_THREAD } else { self.memory.heads[0] };
+        core::iter::successors(in_list(first), move |t| in_list(self.memory.right[usize::from(*t)]))
     }
 
     /// Where a thread stands; `None` from 1,024 on. Threads that the table does not have are unborn.
@@ -177,6 +206,18 @@ impl<'t> Run<'t> {
         let holds = *self.memory.holds.get(w)? != 0;
         holds.then(|| (self.memory.threads[w], self.memory.quotas[w]))
     }
+}
+
+fn turn(said: u64, thread: u64, value: u64, passed: u64) -> Turn {
+    let thread = thread as u16;
+    let reply = match said {
+        1 => Reply::Idle,
+        2 => Reply::Done { thread, action: value as u16 },
+        3 => Reply::Quota { thread, wanted: value as u32 },
+        4 => Reply::Wait { thread, child: value as u16 },
+        _ => unreachable!("a turn says 1 to 4"),
+    };
+    Turn { reply, passed: passed as u16 }
 }
 
 fn report((number, [place, said, turns]): (u32, [u64; 3])) -> Result<Report, Stopped> {

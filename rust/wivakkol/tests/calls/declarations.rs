@@ -37,14 +37,15 @@ fn calls_are_of_the_source() {
         source.extend(functions(&text, "pub extern \"C\" fn "));
     }
     let declared = functions(include_str!("../../src/raw.rs"), "pub fn ");
-    assert_eq!(declared.len(), 6);
+    assert_eq!(declared.len(), source.len());
+    assert_eq!(declared.len(), 9);
     for (name, parameters) in declared {
         let exported = source.get(&name).unwrap_or_else(|| panic!("{name} is not exported"));
         assert_eq!(parameters, as_pointers(exported), "{name}");
     }
 }
 
-/// What is handed to a call by its name: fields of the memory and locals.
+/// What is handed to a call by its name: fields of the memory and of the working memory, and locals.
 fn handed(text: &str, call: &str) -> Vec<String> {
     let (_, rest) = text.split_once(&format!("raw::{call}(")).unwrap_or_else(|| panic!("{call} is not called"));
     let (arguments, _) = rest.split_once(") }").or_else(|| rest.split_once(")\n        }")).expect("the call ends its block");
@@ -53,7 +54,8 @@ fn handed(text: &str, call: &str) -> Vec<String> {
         "table.len()" => "length".to_string(),
         "order.as_ptr()" => "order".to_string(),
         "order.len()" => "turns".to_string(),
-        other => other.trim_start_matches("&mut ").trim_start_matches('&').trim_start_matches("self.").to_string(),
+        "&mut work.parents" => "seen".to_string(),
+        other => other.trim_start_matches("&mut ").trim_start_matches('&').trim_start_matches("self.").trim_start_matches("work.").to_string(),
     };
     arguments.split(',').map(name).filter(|x| !x.is_empty()).collect()
 }
@@ -84,10 +86,10 @@ fn header() -> String {
     words
 }
 
-#[test]
-fn memory_is_of_the_header() {
+/// The fields of a struct of the header, as Rust declares them, and those of the crate's.
+fn both_fields(in_header: &str, in_crate: &str) -> (Vec<String>, Vec<String>) {
     let header = header();
-    let (_, fields) = header.split_once("struct wivakkol_run {").unwrap();
+    let (_, fields) = header.split_once(&format!("struct {in_header} {{")).unwrap();
     let (fields, _) = fields.split_once('}').unwrap();
     let in_rust = |field: &str| {
         let (kind, rest) = field.trim().split_once(' ').unwrap();
@@ -96,9 +98,27 @@ fn memory_is_of_the_header() {
     };
     let wanted: Vec<String> = fields.split(';').filter(|x| !x.trim().is_empty()).map(in_rust).collect();
     let source = include_str!("../../src/memory.rs");
-    let (_, fields) = source.split_once("#[repr(C)]\npub struct Memory {").unwrap();
+    let (_, fields) = source.split_once(&format!("#[repr(C)]\npub struct {in_crate} {{")).unwrap();
     let (fields, _) = fields.split_once('}').unwrap();
-    let declared: Vec<String> = fields.lines().filter_map(|x| x.trim().strip_prefix("pub(crate) ")).map(|x| x.trim_end_matches(',').to_string()).collect();
-    assert_eq!(declared, wanted);
-    assert_eq!(declared.len(), 14);
+    let declared = fields.lines().filter_map(|x| x.trim().strip_prefix("pub(crate) ")).map(|x| x.trim_end_matches(',').to_string()).collect();
+    (wanted, declared)
+}
+
+#[test]
+fn memory_is_of_the_header() {
+    for (in_header, in_crate, count) in [("wivakkol_run", "Memory", 14), ("wivakkol_work", "Work", 5)] {
+        let (wanted, declared) = both_fields(in_header, in_crate);
+        assert_eq!(declared, wanted);
+        assert_eq!(declared.len(), count);
+    }
+}
+
+/// The bytes of a run put away are its fields in their order.
+#[test]
+fn bytes_are_in_the_header_s_order() {
+    let (wanted, _) = both_fields("wivakkol_run", "Memory");
+    let (_, fields) = include_str!("../../src/memory.rs").split_once("macro_rules! each_field {").unwrap();
+    let written: Vec<&str> = fields.lines().filter_map(|x| x.trim().strip_prefix("$on!($memory.")).filter_map(|x| x.split_once(')')).map(|(x, _)| x).collect();
+    let names: Vec<String> = wanted.iter().map(|x| x.replace(": [", ", ").split(';').next().unwrap().to_string()).collect();
+    assert_eq!(written, names);
 }

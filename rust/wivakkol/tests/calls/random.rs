@@ -1,6 +1,6 @@
 //! Random tables; single turns, runs over lists and runs in rounds, mixed, compared with the model after every call.
 use crate::model::{self, bytes, facts, Draw, Machine, Said, Table};
-use wivakkol::{check, Memory, Reply, Report, Run, Status};
+use wivakkol::{check, Memory, Reply, Report, Run, Status, Work};
 
 /// The first action of each thread.
 fn firsts(table: &Table) -> Vec<usize> {
@@ -70,16 +70,51 @@ fn turn_by_turn() {
     for _ in 0..60 {
         let (table, p, quota) = drawn(&mut draw);
         let (data, firsts, mut memory) = (bytes(&table), firsts(&table), Memory::new());
-        let mut run = Run::begin(&data, &mut memory, p, quota).unwrap();
+        let mut run = Run::begin(&data, &mut memory, &mut Work::new(), p, quota).unwrap();
         let mut machine = Machine::begin(&table, p as usize, quota);
         for _ in 0..200 {
             if machine.ended() {
                 break;
             }
             let w = draw.below(u64::from(p)) as u32;
+            let shown = run.preview(w).unwrap();
             let turn = run.turn(w).unwrap();
             let (said, passed) = machine.turn(w as usize);
             assert_eq!((turn.reply, usize::from(turn.passed)), (reply(said, &firsts), passed));
+            same(&run, &machine, &firsts);
+            let quota = machine.workers[w as usize].map_or(0, |worker| worker.quota);
+            assert_eq!((shown.turn, shown.held, shown.highest, shown.quota), (turn, machine.held, machine.highest, quota));
+        }
+    }
+}
+
+/// "turns taken right-aligned in 6, sixteen cells of 4, memory held right-aligned in 14"
+fn line(machine: &Machine) -> String {
+    let cell = |w: usize| match machine.workers.get(w) {
+        Some(Some(worker)) => format!("{:>4}", worker.thread),
+        Some(None) => "   .".to_string(),
+        None => "    ".to_string(),
+    };
+    format!("{:>6}{}{:>14}\n", machine.turns, (0..16).map(cell).collect::<String>(), machine.held)
+}
+
+/// A run put away and brought back between turns.
+#[test]
+fn in_parts() {
+    let (mut draw, mut work) = (Draw(23), Work::new());
+    for _ in 0..100 {
+        let (table, p, quota) = drawn(&mut draw);
+        let (data, firsts, mut memory) = (bytes(&table), firsts(&table), Memory::new());
+        Run::begin(&data, &mut memory, &mut work, p, quota).unwrap();
+        let mut machine = Machine::begin(&table, p as usize, quota);
+        for _ in 0..8 {
+            let kept = memory.to_bytes();
+            memory = Memory::from_bytes(&kept);
+            let mut run = Run::open(&data, &mut memory, &mut work).unwrap();
+            same(&run, &machine, &firsts);
+            assert_eq!(run.wall_line(&mut work).unwrap()[..], *line(&machine).as_bytes());
+            let limit = draw.below(60) as u32;
+            assert_eq!(run.rounds(limit), Ok(take(&mut machine, (0..p as usize).cycle().take(limit as usize))));
             same(&run, &machine, &firsts);
         }
     }
@@ -91,7 +126,7 @@ fn all_calls_mixed() {
     for _ in 0..300 {
         let (table, p, quota) = drawn(&mut draw);
         let (data, firsts, mut memory) = (bytes(&table), firsts(&table), Memory::new());
-        let mut run = Run::begin(&data, &mut memory, p, quota).unwrap();
+        let mut run = Run::begin(&data, &mut memory, &mut Work::new(), p, quota).unwrap();
         let mut machine = Machine::begin(&table, p as usize, quota);
         for _ in 0..4 {
             let limit = draw.below(300) as u32;
@@ -121,7 +156,7 @@ fn facts_and_bounds() {
         let got = check(&data).unwrap();
         let (peak, depth, nested) = facts(&table);
         assert_eq!((got.peak, got.depth, got.nested), (peak, depth, nested));
-        let mut run = Run::begin(&data, &mut memory, p, quota).unwrap();
+        let mut run = Run::begin(&data, &mut memory, &mut Work::new(), p, quota).unwrap();
         let premature = u64::from(p - 1) * u64::from(depth - 1);
         while !run.ended() {
             run.turn((run.turns() % u64::from(p)) as u32).unwrap();
