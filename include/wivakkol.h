@@ -117,7 +117,7 @@ typedef struct wivakkol_work {
 /* The row of wivakkol_preview: that of the turn, and after the turn */
 #define WIVAKKOL_AFTER_HELD 5    /* memory held */
 #define WIVAKKOL_AFTER_HIGHEST 6 /* its highest */
-#define WIVAKKOL_AFTER_QUOTA 7   /* the worker's quota left; 0 if it then has no thread */
+#define WIVAKKOL_AFTER_QUOTA 7   /* the worker's quota left; in a sound run 0 if it then has no thread */
 #define WIVAKKOL_PREVIEW_ROW 8
 
 /* The row of wivakkol_list and of wivakkol_rounds: the place, which is 0; WIVAKKOL_SAID, one of the two below, 0 where it refuses; and */
@@ -222,7 +222,7 @@ static inline uint32_t wivakkol_preview(const wivakkol_run *run, const uint8_t *
 
 /* The run's line of the wall chart: turns taken right-aligned in 6, sixteen cells of 4 with each worker's thread or a full stop, blank from worker p on, and memory held right-aligned in 14.
  * Returns 0, or the first of these that applies, with `line` as it was: 32, as wivakkol_open; 43, more than 999,999 turns are taken. It has no row: the place is 0. No byte of the run
- * changes. `line` has the full size and has been written before, whatever it holds. */
+ * changes. `line` has the full size, overlaps nothing else that the call is given and has been written before, whatever it holds. */
 static inline uint32_t wivakkol_chart(const wivakkol_run *run, wivakkol_work *work, const uint8_t *table, size_t length, uint8_t line[WIVAKKOL_LINE])
 {
     return wivakkol_chart_on(table, length, run->settings, run->next, run->status, run->amounts, run->left, run->right, run->holds,

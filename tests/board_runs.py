@@ -300,7 +300,8 @@ def blank_run(rng, data):
     play = Play(bytes(SIZE), data)
     for name, _, count in FIELDS:
         spoil(rng, play)
-        refused_beginning(rng, play) if play.open() == (0, [0]) else sys.exit('blank memory is refused')
+        assert play.open() == (0, [0])
+        refused_beginning(rng, play)
         i = lent.BUSY if name == 'heads' else rng.randrange(count)
         if name not in BESIDE:
             play.put(name, i, 1)
@@ -316,7 +317,8 @@ def restore(play, before):
 
 def quiet(rng, play, w):
     """One number that no turn tests becomes another: a truth value, an amount, a left neighbour, what an idle worker has left, the most held, a parent."""
-    memory, t = play.memory, some_thread(rng, play.memory, THREADS)
+    memory = play.memory
+    t = rng.choice([some_thread(rng, memory, THREADS), THREADS - 1])
     holders = [w for w in range(WORKERS) if memory.holds[w]] or [w]
     play.put(*rng.choice([('holds', rng.choice(holders), rng.choice([2, 255])), ('amounts', t, memory.amounts[t] + 1), ('left', t, rng.randrange(THREADS)), ('quotas', w, 1),
                           ('totals', lent.HIGHEST, rng.choice([0, 2**64 - 1])), ('parents', t, any_number(rng, memory, THREADS))]))
@@ -552,8 +554,13 @@ class Program:
         front = len(expected) - (SIZE if len(expected) > SIZE else 0)
         with open('target/c/different.run', 'wb') as f:
             f.write(play.steps)
-        lines = ['answer %d of the steps in %s differs: number and row' % (i, f.name), '  expected %s' % expected[:front].hex(' ', 4), '  given    %s' % given[:front].hex(' ', 4)]
-        sys.exit('\n'.join(lines + (list(lent.differences(expected[front:], given[front:]))[:40] if len(given) == len(expected) else ['the program has stopped'])))
+        lines = ['answer %d of the steps in %s differs: number, row or line, and what is left of working memory' % (i, f.name)]
+        lines += ['  expected %s' % expected[:front].hex(' ', 4), '  given    %s' % given[:front].hex(' ', 4)]
+        if len(given) != len(expected):
+            lines.append('the program has stopped')
+        elif front < len(expected):
+            lines += list(lent.differences(expected[front:], given[front:]))[:40]
+        sys.exit('\n'.join(lines))
 
     def close(self):
         """The last line: the most stack of each of the seven calls."""
