@@ -577,7 +577,7 @@ WANTED = ['%s %d' % (call, x) for call, numbers in NUMBERS.items() for x in numb
 WANTED += ['%s %s' % (call, what) for call in ('list', 'rounds') for what in (*lent.RUN_SAID.values(), 'with turns', 'without', 'turns', *MISFITS)]
 WANTED += ['preview %s' % what for what in ('turns', *MISFITS)]
 CLAUSES = ['length', 'table', 'beginning', *(clause.__name__ for clause in machine.CLAUSES), 'truth values', 'truth values alone']
-WANTED += ['open %s' % what for what in ('sound', 'blank', 'as it was', 'mended', *CLAUSES)] + ['chart 32', 'chart truth values']
+WANTED += ['open %s' % what for what in ('sound', 'blank', 'as it was', 'mended')] + ['%s %s' % (call, what) for call in ('open', 'chart') for what in CLAUSES]
 
 
 def compare(path, rng, whole, count):
