@@ -11,8 +11,9 @@
  * - `table` points to `length` bytes that may be read, all of them written before. It is never NULL, not even with a length of 0. `order` likewise points to `turns` bytes.
  * - `row` points to an array of the full size named below, aligned as a uint64_t is. It is never NULL.
  * - The row overlaps neither the table nor the order, and nobody else writes to these two or touches the row before the call returns.
+ * - A run, working memory and a line that a call takes are never NULL; what else is asked of them stands below.
  * - There is stack enough: docs/REFERENCE.md, "From C", has what was measured.
- * Calls at the same time are fine as long as each has a row of its own, and a run and working memory of its own where it takes them.
+ * Calls at the same time are fine as long as each has a row of its own, and a run, working memory and a line of its own where it takes them.
  */
 #ifndef WIVAKKOL_H
 #define WIVAKKOL_H
@@ -60,7 +61,7 @@ uint32_t wivakkol_quota(const uint8_t *table, size_t length, uint32_t p, uint32_
 #define WIVAKKOL_HIGHEST 1
 #define WIVAKKOL_TURNS 2
 
-/* The memory of a run, which C lends. C may read it between two calls, and has no need to write to it. "No thread" is 1,024. */
+/* The memory of a run, which C lends. C may read it between two calls, and has no need to write to it. Where there is no thread to name, 1,024 stands. */
 typedef struct wivakkol_run {
     uint64_t amounts[WIVAKKOL_MOST_THREADS]; /* of each thread, the memory that it holds */
     uint64_t totals[3];
@@ -105,11 +106,11 @@ typedef struct wivakkol_work {
 #define WIVAKKOL_SAID 1   /* one of the four below; 0 where the turn is refused */
 #define WIVAKKOL_THREAD 2 /* the thread that it was about */
 #define WIVAKKOL_VALUE 3  /* done: the action; quota: the amount wanted; wait: the child */
-#define WIVAKKOL_PASSED 4 /* how many threads stood left of one that was taken; 0 if none was */
+#define WIVAKKOL_PASSED 4 /* in a sound run, how many threads stood left of one that was taken; 0 if none was */
 #define WIVAKKOL_TURN_ROW 5
 
 /* What a turn said. */
-#define WIVAKKOL_SAID_IDLE 1  /* no thread was ready; thread and value are 0 */
+#define WIVAKKOL_SAID_IDLE 1  /* in a sound run, no thread was ready; thread and value are 0 */
 #define WIVAKKOL_SAID_DONE 2  /* the action was done */
 #define WIVAKKOL_SAID_QUOTA 3 /* an alloc was above the quota left: the worker gave its thread up */
 #define WIVAKKOL_SAID_WAIT 4  /* a join whose child has not ended: the thread waits, and the worker has none */
@@ -131,7 +132,8 @@ typedef struct wivakkol_work {
 /* A line of the wall chart: 84 characters and a newline, with no 0 after it. */
 #define WIVAKKOL_LINE 85
 
-/* The calls as they are exported, on each array by itself. Below are the seven for a wivakkol_run. */
+/* The calls as they are exported, on each array by itself. Below are the seven for a wivakkol_run, which keep to what these ask for: each array has its full size, is aligned for its numbers
+ * and never NULL, and overlaps no other array of the call; each was written before, those of the run in wivakkol_begin_on apart. */
 uint32_t wivakkol_begin_on(const uint8_t *table, size_t length, uint32_t p, uint32_t quota, uint32_t settings[2], uint16_t parents[1024],
                            uint16_t next[1024], uint8_t status[1024], uint64_t amounts[1024], uint16_t left[1024], uint16_t right[1024],
                            uint16_t under[1024], uint16_t over[1024], uint8_t holds[16], uint16_t threads[16], uint32_t quotas[16],
@@ -188,7 +190,7 @@ static inline uint32_t wivakkol_open(wivakkol_run *run, wivakkol_work *work, con
 
 /* A turn of worker w. Returns 0, or the first of these that applies: 32, 2^64 - 1 turns are taken; 30, w is not below p; 31, the root has ended: the run is over; 32, a thread's number is
  * none of the arrays', w is none of the sixteen workers, or a number that the turn would write does not fit into its place; of a worker without a thread the bit in `heads` must fit even if
- * it takes none. The last is met on damaged memory alone, never on what wivakkol_begin and turns have left. Where a turn is refused, no byte of the run changes. */
+ * it takes none. The last is met on damaged memory alone, never on what a beginning or an opening that returned 0 and turns have left. Where a turn is refused, no byte of the run changes. */
 static inline uint32_t wivakkol_turn(wivakkol_run *run, const uint8_t *table, size_t length, uint32_t w, uint64_t row[WIVAKKOL_TURN_ROW])
 {
     return wivakkol_turn_on(table, length, w, run->settings, run->parents, run->next, run->status, run->amounts, run->left, run->right,

@@ -6,7 +6,8 @@ use mathlib.Core.List.{List, [], _∷_, _++_, List·Memᴰ, List·Memᴰ·cases-
 use mathlib.Core.Logic.{⊎-elim}
 use borrow.Author.Tests.{ne-eqb}
 use lib.Dec.{eqb}
-use lib.ListN.{getD, take, replicate, set}
+use mathlib.Core.Bool.{Bool, true, false}
+use lib.ListN.{length, getD, take, replicate, set}
 use Rattle.table.specs.Sum.{pick}
 use Rattle.table.specs.Format.{tableOf}
 use Rattle.table.proofs.Tests.{no-way}
@@ -17,6 +18,7 @@ use Rattle.schedule.specs.declared.Run.{Run}
 use Rattle.schedule.specs.declared.Beginning.the-variants.{Begun as started}
 use Rattle.schedule.specs.Links.{noThread, walk, LinkedAs}
 use Rattle.schedule.specs.Actives.{actives}
+use Rattle.schedule.specs.Record.{maxWorkers}
 use Rattle.schedule.specs.Sound.{allBelow, Steady}
 use Rattle.schedule.specs.Begin.{begin, startRun}
 use Rattle.schedule.specs.Machine.{Stepped}
@@ -35,14 +37,15 @@ use Rattle.schedule.proofs.Histories.{calls-traced}
 use Rattle.schedule.proofs.Limit.{MemoryLimit, memory-limit}
 use Rattle.schedule.proofs.ThreadLimit.{ThreadLimit, thread-limit}
 use Rattle.soundness.specs.Tested.{beginFound}
+use Rattle.soundness.proofs.Chains.{never}
 use Rattle.soundness.proofs.Noting.{parents-right}
 use Rattle.lent.proofs.Starts.{alone, alone-linked, is-start}
 use Rattle.table.specs.Load.{foundNumber}
 use Rattle.board.specs.Lent.{Memory, startMemory, begunAs, lentBegin, lentTurn}
 use Rattle.board.specs.Stands.{truths, workersFrom, runIn, Stands}
-use Rattle.board.specs.Opened.{lentOpen}
+use Rattle.board.specs.Opened.{soundIn, blankIn, openedIn, openedAs, lentOpen}
 use Rattle.board.specs.LentCalls.{LentCall, moving, opening, lentMove, lentCall, lentRowOf, lentAfter, lentRow, movesOf}
-use Rattle.board.proofs.Opens.{open-record, opens-stands}
+use Rattle.board.proofs.Opens.{open-record, open-stands, opens-stands}
 use Rattle.board.proofs.Numbered.{Numbered, begin-numbered, turn-numbered}
 use Rattle.board.proofs.Refines.{Turns, turn-refines}
 use Rattle.board.proofs.RunsRefine.{valuesRun, list-refines, rounds-refines}
@@ -167,6 +170,18 @@ calls-refine s M h (opening ∷ l) =
       row = d .row ∙ ap (rowOfCalls (movesOf l)) (open-record s M);
       stands = d .stands;
     }
+
+-- From opening on, however the record came into the memory: where it answers 0 and the record is not the blank one, every list of calls is that list on the record as it stood, and the record
+-- after it stands.
+pub open-refine : (s : List ℕ) (M : Memory) → length (M .holds) ≡ maxWorkers → length (M .threads) ≡ maxWorkers → length (M .quotas) ≡ maxWorkers → lentOpen s M .number ≡ 0
+    → blankIn M ≡ false → (l : List LentCall) → Refines s (lentOpen s M .memory) l
+unfolding lentOpen
+open-refine s M a b c = go (soundIn s M) refl (blankIn M)
+  where
+    go : (x : Bool) → soundIn s M ≡ x → (y : Bool) → openedAs x y s M .number ≡ 0 → y ≡ false → (l : List LentCall) → Refines s (openedAs x y s M .memory) l
+    go true e y n f l = calls-refine s (openedIn s M) (open-stands s M a b c e) l
+    go false e true n f l = never (sym f)
+    go false e false n f l = absurd (omega (arith, n))
 
 -- ---- the limits
 

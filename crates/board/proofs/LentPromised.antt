@@ -18,13 +18,15 @@ use Rattle.schedule.proofs.ThreadLimit.{ThreadLimit}
 use Rattle.lent.specs.Arrays.{arrays}
 use Rattle.schedule.specs.declared.Reply.the-variants.{Idle}
 use Rattle.lent.specs.Counted.{Left, turnOn}
-use Rattle.board.specs.Lent.{Memory, memory, workerIn, movedIn, memoryAfter, Answer, answer, lentBegin, hindrance, Told, told, turnLeft, turnIn, lentTurn, runRow, overIn, whoIn, lentDrive, lentList, lentRounds}
+use Rattle.board.specs.Lent.{Memory, memory, workerIn, movedIn, memoryAfter, Answer, answer, lentBegin, hindrance, told, turnLeft, turnIn, lentTurn, runRow, overIn, whoIn, lentDrive, lentList, lentRounds}
 use Rattle.board.specs.Stands.{runIn}
 use Rattle.schedule.specs.Answers.{finished, nothing}
-use Rattle.schedule.specs.Calls.{turn, overList, inRounds}
+use Rattle.schedule.specs.Record.{maxWorkers}
+use Rattle.schedule.specs.Calls.{turn, overList, inRounds, afterCalls, rowOfCalls}
 use Rattle.board.specs.Opened.{soundIn, blankIn, openedAs, lentOpen}
-use Rattle.board.specs.LentCalls.{LentCall, moving, opening, lentMove, lentCall, lentRowOf, lentAfter, lentRow}
-use Rattle.board.proofs.LentLimit.{lent-limit, lent-threads}
+use Rattle.board.specs.LentCalls.{LentCall, moving, opening, lentMove, lentCall, lentRowOf, lentAfter, lentRow, movesOf}
+use Rattle.board.proofs.Opens.{open-record}
+use Rattle.board.proofs.LentLimit.{open-refine, lent-limit, lent-threads}
 use Rattle.board.proofs.begin.wivakkol_begin_on.Kinds as begin-kinds
 use Rattle.board.proofs.begin.wivakkol_begin_on.Reads as begin-promise
 use Rattle.board.proofs.open.wivakkol_open_on.Kinds as open-kinds
@@ -57,6 +59,13 @@ pub record Refs : Type 0 where
   pub totals : RefT (List ℕ)
   pub row : RefT (List ℕ)
 
+-- the run in them
+abbrev lentIn : Refs → Memory
+lentIn refs =
+    memory (now (refs .settings)) (now (refs .parents))
+    (arrays (now (refs .next)) (now (refs .status)) (now (refs .amounts)) (now (refs .left)) (now (refs .right)) (now (refs .under)) (now (refs .over))) (now (refs .holds)) (now (refs .threads))
+    (now (refs .quotas)) (now (refs .heads)) (now (refs .totals))
+
 -- to the working memory
 pub record Work : Type 0 where
   pub rises : RefT (List ℕ)
@@ -71,7 +80,7 @@ pub record TurnSays (s : List ℕ) (w : ℕ) (M : Memory) (a : Answer) : Type 0 
   pub refs : Refs
   pub exit : AtExit (endedOf 16 turn-kinds.ps turn-kinds.r) lifetimes
   pub lent-table : now (refs .table) ≡ s
-  pub lent-run : memory (now (refs .settings)) (now (refs .parents)) (arrays (now (refs .next)) (now (refs .status)) (now (refs .amounts)) (now (refs .left)) (now (refs .right)) (now (refs .under)) (now (refs .over))) (now (refs .holds)) (now (refs .threads)) (now (refs .quotas)) (now (refs .heads)) (now (refs .totals)) ≡ M
+  pub lent-run : lentIn refs ≡ M
   pub left : answer (a .number) (now (exit .1 .1 .1 .1 .1 .1 .1 .1 .1 .1 .1 .1 .1 .1 .1 .1 .0)) (memory (now (refs .settings)) (now (refs .parents)) (arrays (now (exit .1 .1 .1 .1 .0)) (now (exit .1 .1 .1 .1 .1 .0)) (now (exit .1 .1 .1 .1 .1 .1 .0)) (now (exit .1 .1 .1 .1 .1 .1 .1 .0)) (now (exit .1 .1 .1 .1 .1 .1 .1 .1 .0)) (now (exit .1 .1 .1 .1 .1 .1 .1 .1 .1 .0)) (now (exit .1 .1 .1 .1 .1 .1 .1 .1 .1 .1 .0))) (now (exit .1 .1 .1 .1 .1 .1 .1 .1 .1 .1 .1 .0)) (now (exit .1 .1 .1 .1 .1 .1 .1 .1 .1 .1 .1 .1 .0)) (now (exit .1 .1 .1 .1 .1 .1 .1 .1 .1 .1 .1 .1 .1 .0)) (now (exit .1 .1 .1 .1 .1 .1 .1 .1 .1 .1 .1 .1 .1 .1 .0)) (now (exit .1 .1 .1 .1 .1 .1 .1 .1 .1 .1 .1 .1 .1 .1 .1 .0))) ≡ a
   pub promised : turn-promise.Learnt lifetimes (refs .table, (w, (refs .settings, (refs .parents, (refs .next, (refs .status, (refs .amounts, (refs .left, (refs .right, (refs .under, (refs .over, (refs .holds, (refs .threads, (refs .quotas, (refs .heads, (refs .totals, (refs .row, tt))))))))))))))))) (a .number) exit
 
@@ -83,7 +92,7 @@ pub record ListSays (s : List ℕ) (l : List ℕ) (M : Memory) (a : Answer) : Ty
   pub lent-order : now order ≡ l
   pub exit : AtExit (endedOf 17 list-kinds.ps list-kinds.r) lifetimes
   pub lent-table : now (refs .table) ≡ s
-  pub lent-run : memory (now (refs .settings)) (now (refs .parents)) (arrays (now (refs .next)) (now (refs .status)) (now (refs .amounts)) (now (refs .left)) (now (refs .right)) (now (refs .under)) (now (refs .over))) (now (refs .holds)) (now (refs .threads)) (now (refs .quotas)) (now (refs .heads)) (now (refs .totals)) ≡ M
+  pub lent-run : lentIn refs ≡ M
   pub left : answer (a .number) (now (exit .1 .1 .1 .1 .1 .1 .1 .1 .1 .1 .1 .1 .1 .1 .1 .1 .0)) (memory (now (refs .settings)) (now (refs .parents)) (arrays (now (exit .1 .1 .1 .1 .0)) (now (exit .1 .1 .1 .1 .1 .0)) (now (exit .1 .1 .1 .1 .1 .1 .0)) (now (exit .1 .1 .1 .1 .1 .1 .1 .0)) (now (exit .1 .1 .1 .1 .1 .1 .1 .1 .0)) (now (exit .1 .1 .1 .1 .1 .1 .1 .1 .1 .0)) (now (exit .1 .1 .1 .1 .1 .1 .1 .1 .1 .1 .0))) (now (exit .1 .1 .1 .1 .1 .1 .1 .1 .1 .1 .1 .0)) (now (exit .1 .1 .1 .1 .1 .1 .1 .1 .1 .1 .1 .1 .0)) (now (exit .1 .1 .1 .1 .1 .1 .1 .1 .1 .1 .1 .1 .1 .0)) (now (exit .1 .1 .1 .1 .1 .1 .1 .1 .1 .1 .1 .1 .1 .1 .0)) (now (exit .1 .1 .1 .1 .1 .1 .1 .1 .1 .1 .1 .1 .1 .1 .1 .0))) ≡ a
   pub promised : list-promise.Learnt lifetimes (refs .table, (order, (refs .settings, (refs .parents, (refs .next, (refs .status, (refs .amounts, (refs .left, (refs .right, (refs .under, (refs .over, (refs .holds, (refs .threads, (refs .quotas, (refs .heads, (refs .totals, (refs .row, tt))))))))))))))))) (a .number) exit
 
@@ -93,7 +102,7 @@ pub record RoundsSays (s : List ℕ) (limit : ℕ) (M : Memory) (a : Answer) : T
   pub refs : Refs
   pub exit : AtExit (endedOf 16 rounds-kinds.ps rounds-kinds.r) lifetimes
   pub lent-table : now (refs .table) ≡ s
-  pub lent-run : memory (now (refs .settings)) (now (refs .parents)) (arrays (now (refs .next)) (now (refs .status)) (now (refs .amounts)) (now (refs .left)) (now (refs .right)) (now (refs .under)) (now (refs .over))) (now (refs .holds)) (now (refs .threads)) (now (refs .quotas)) (now (refs .heads)) (now (refs .totals)) ≡ M
+  pub lent-run : lentIn refs ≡ M
   pub left : answer (a .number) (now (exit .1 .1 .1 .1 .1 .1 .1 .1 .1 .1 .1 .1 .1 .1 .1 .1 .0)) (memory (now (refs .settings)) (now (refs .parents)) (arrays (now (exit .1 .1 .1 .1 .0)) (now (exit .1 .1 .1 .1 .1 .0)) (now (exit .1 .1 .1 .1 .1 .1 .0)) (now (exit .1 .1 .1 .1 .1 .1 .1 .0)) (now (exit .1 .1 .1 .1 .1 .1 .1 .1 .0)) (now (exit .1 .1 .1 .1 .1 .1 .1 .1 .1 .0)) (now (exit .1 .1 .1 .1 .1 .1 .1 .1 .1 .1 .0))) (now (exit .1 .1 .1 .1 .1 .1 .1 .1 .1 .1 .1 .0)) (now (exit .1 .1 .1 .1 .1 .1 .1 .1 .1 .1 .1 .1 .0)) (now (exit .1 .1 .1 .1 .1 .1 .1 .1 .1 .1 .1 .1 .1 .0)) (now (exit .1 .1 .1 .1 .1 .1 .1 .1 .1 .1 .1 .1 .1 .1 .0)) (now (exit .1 .1 .1 .1 .1 .1 .1 .1 .1 .1 .1 .1 .1 .1 .1 .0))) ≡ a
   pub promised : rounds-promise.Learnt lifetimes (refs .table, (limit, (refs .settings, (refs .parents, (refs .next, (refs .status, (refs .amounts, (refs .left, (refs .right, (refs .under, (refs .over, (refs .holds, (refs .threads, (refs .quotas, (refs .heads, (refs .totals, (refs .row, tt))))))))))))))))) (a .number) exit
 
@@ -114,7 +123,7 @@ pub record OpenSays (s : List ℕ) (M : Memory) (a : Answer) : Type 0 where
   pub work : Work
   pub exit : AtExit (endedOf 21 open-kinds.ps open-kinds.r) lifetimes
   pub lent-table : now (refs .table) ≡ s
-  pub lent-run : memory (now (refs .settings)) (now (refs .parents)) (arrays (now (refs .next)) (now (refs .status)) (now (refs .amounts)) (now (refs .left)) (now (refs .right)) (now (refs .under)) (now (refs .over))) (now (refs .holds)) (now (refs .threads)) (now (refs .quotas)) (now (refs .heads)) (now (refs .totals)) ≡ M
+  pub lent-run : lentIn refs ≡ M
   pub left : answer (a .number) (now (exit .1 .1 .1 .1 .1 .1 .1 .1 .1 .1 .1 .1 .1 .1 .1 .0)) (memory (now (refs .settings)) (now (exit .1 .1 .0)) (arrays (now (refs .next)) (now (refs .status)) (now (refs .amounts)) (now (refs .left)) (now (refs .right)) (now (exit .1 .1 .1 .1 .1 .1 .1 .1 .0)) (now (exit .1 .1 .1 .1 .1 .1 .1 .1 .1 .0))) (now (refs .holds)) (now (refs .threads)) (now (refs .quotas)) (now (exit .1 .1 .1 .1 .1 .1 .1 .1 .1 .1 .1 .1 .1 .0)) (now (refs .totals))) ≡ a
   pub promised : open-promise.Learnt lifetimes (refs .table, (refs .settings, (refs .parents, (refs .next, (refs .status, (refs .amounts, (refs .left, (refs .right, (refs .under, (refs .over, (refs .holds, (refs .threads, (refs .quotas, (refs .heads, (refs .totals, (refs .row, (work .rises, (work .falls, (work .forks, (work .seen, (work .list, tt))))))))))))))))))))) (a .number) exit
 
@@ -308,3 +317,20 @@ module _ {s : List ℕ} {p K : ℕ} {a : Answer} (h : BeginSays s p K a) (e : a 
   -- N2's limit too
   pub lent-code-threads : (most : ℕ) → 1 ≤ most → ThreadLimit (tableOf s) p K most (runIn s M) row
   lent-code-threads most g = holds (λ (x : Memory) (y : List ℕ). ThreadLimit (tableOf s) p K most (runIn s x) y) (lent-threads s p K begun l most g)
+
+-- ---- from opening on
+
+-- `wivakkol_open_on` answered 0 on memory that has not the blank record, and the calls of any history followed: the record left and the row of turns taken are those of the calls on the record
+-- as it stood, and so each turn is document 01's.
+module _ {s : List ℕ} {M : Memory} {a : Answer} (h : OpenSays s M a) (e : a .number ≡ 0) (f : blankIn M ≡ false) {l : List LentCall} {row : List ℕ} {N : Memory} (t : LentHistory s (a .memory) l row N)
+    (holds-size : length (M .holds) ≡ maxWorkers) (threads-size : length (M .threads) ≡ maxWorkers) (quotas-size : length (M .quotas) ≡ maxWorkers) where
+  pub opened-code-refines : (runIn s N ≡ afterCalls (movesOf l) (runIn s M)) × (row ≡ rowOfCalls (movesOf l) (runIn s M))
+  opened-code-refines =
+      let b = open-is h in
+      let d = lent-history-is t in
+      let n : lentOpen s M .number ≡ 0 = ap (λ (x : Answer). x .number) (sym b) ∙ e in
+      let r = open-refine s M holds-size threads-size quotas-size n f l in
+      let k = open-record s M in (
+        ap (runIn s) (d .0 ∙ ap (λ (x : Answer). lentAfter s l (x .memory)) b) ∙ r .record-after ∙ ap (afterCalls (movesOf l)) k,
+        d .1 ∙ ap (λ (x : Answer). lentRow s l (x .memory)) b ∙ r .row ∙ ap (rowOfCalls (movesOf l)) k,
+      )

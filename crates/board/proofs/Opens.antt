@@ -1,13 +1,13 @@
 -- Opening a run: the record that stands in the memory is as it was, and where it is sound, what is filled beside it is what the turns look up.
 use mathlib.Core.Path.{_≡_, refl, sym, ap, subst, _∙_}
-use Prim.Native.Nat.{ℕ, _-_, _^_, min, _≤_, _<_}
+use Prim.Native.Nat.{ℕ, _-_, min, _≤_, _<_}
 use native.Mathlib.Omega.{arith}
 use native.Mathlib.Decide.{decLt}
 use native.Mathlib.Nat.{min-eq-left, min-eq-right}
-use mathlib.Core.Logic.{by-cases}
+use mathlib.Core.Logic.{_↔_, _⊎_, inl, inr, ⊎-elim, by-cases}
 use mathlib.Core.List.{List, [], _∷_}
 use mathlib.Core.Bool.{Bool, true, false, not, _&&_}
-use borrow.Author.Tests.{eq-eqb, ne-eqb}
+use borrow.Author.Tests.{le-ltb, eq-eqb, ne-eqb, eqb-true}
 use lib.Dec.{eqb}
 use lib.ListN.{length, getD, replicate}
 use Rattle.table.specs.Sum.{pick}
@@ -16,11 +16,11 @@ use Rattle.table.specs.Pass.{firstFound}
 use Rattle.table.specs.Rules.{passes}
 use Rattle.schedule.specs.declared.Worker.{Worker}
 use Rattle.schedule.specs.declared.Run.{Run}
-use Rattle.schedule.specs.Links.{noThread, Links, LinkedAs, laid}
+use Rattle.schedule.specs.Links.{noThread, Links, LinkedAs}
 use Rattle.schedule.specs.Actives.{noLinks, filledFrom}
-use Rattle.schedule.specs.Record.{maxBytes, maxWorkers, filled, bytesOf, tableIn, linksIn, listIn, stateOf}
+use Rattle.schedule.specs.Record.{maxBytes, maxWorkers, blank, filled, bytesOf, tableIn, linksIn, listIn, stateOf}
 use Rattle.schedule.specs.Begin.{beginPasses}
-use Rattle.schedule.specs.Sound.{Steady, Sound, isNothing, sameList, commonSound, sound}
+use Rattle.schedule.specs.Sound.{allBelow, Steady, Sound, isNothing, sameList, commonSound, sound}
 use Rattle.schedule.specs.Turn.{isBlank, unsound}
 use Rattle.schedule.proofs.ActiveMoves.{list-once, list-small}
 use Rattle.schedule.proofs.Fills.{fill-linked}
@@ -32,10 +32,12 @@ use Rattle.schedule.proofs.Words.{sameList-exactly}
 use Rattle.soundness.specs.Tested.{parentsIn, parentsIf, soundOn, blankOn}
 use Rattle.soundness.proofs.Chains.{last, first-of, never}
 use Rattle.soundness.proofs.Noting.{parents-right}
+use Rattle.soundness.proofs.Passed.{no-workers as blank-of}
 use Rattle.soundness.proofs.OnParts.{sound-is, blank-is}
 use Rattle.lent.specs.Arrays.{linksOf}
-use Rattle.board.specs.Lent.{Memory, movedIn, Answer, answer}
-use Rattle.board.specs.Stands.{truths, workersIn, runIn, Stands}
+use Rattle.schedule.specs.Answers.{nothing}
+use Rattle.board.specs.Lent.{Memory, movedIn, noRow, answer, hindrance, turnIn, lentTurn, runRow, lentRounds, blankMemory}
+use Rattle.board.specs.Stands.{truths, workersFrom, workersIn, runIn, Stands}
 use Rattle.board.specs.Opened.{soundIn, blankIn, beside, openedIn, blankedIn, openedAs, lentOpen}
 use Rattle.board.proofs.Begins.{too-many}
 
@@ -129,6 +131,72 @@ open-refines s M h = rw (← (stands-unsound s M h), stands-worked s M h) (go (s
     go : (b : Bool) → openedAs b false s M .number ≡ pick (not b) 32 0
     go true = refl
     go false = refl
+
+-- what opening answers: 0 exactly where a sound record, its truth values written as 0 and 1, or the blank one stands in the memory
+pub open-exactly : (s : List ℕ) (M : Memory) → (lentOpen s M .number ≡ 0) ↔ (((truths (M .holds) ≡ true) × Sound (runIn s M)) ⊎ (blankIn M ≡ true))
+unfolding lentOpen
+open-exactly s M = go (soundIn s M) refl (blankIn M) refl
+  where
+    go : (a : Bool) → soundIn s M ≡ a → (b : Bool) → blankIn M ≡ b → (openedAs a b s M .number ≡ 0) ↔ (((truths (M .holds) ≡ true) × Sound (runIn s M)) ⊎ (b ≡ true))
+    go true e b f = ((λ z. inl (truths-in s M e, sound-in s M e)), (λ x. refl))
+    go false e true f = ((λ z. inr refl), (λ x. refl))
+    go false e false f = (
+      (λ z. absurd (omega (arith, z))),
+      (λ x.
+          ⊎-elim
+          (λ (h : (truths (M .holds) ≡ true) × Sound (runIn s M)). never (sym e ∙ sound-same s M (h .0) ∙ sound-exactly (runIn s M) .1 (h .1)))
+          (λ (h : false ≡ true). never h)
+          x),
+    )
+
+-- ---- the blank record
+
+-- the memory of a beginning that was refused has the blank record, with the zeros of a table of no bytes
+pub blank-record : runIn [] blankMemory ≡ blank
+unfolding blank workersFrom
+blank-record = refl
+
+pub blank-passes : blankIn blankMemory ≡ true
+unfolding blankIn blankOn workersFrom allBelow
+blank-passes = rw (sameList-exactly (replicate 1024 0) (replicate 1024 0) .1 refl)
+
+module _ (s : List ℕ) (M : Memory) (h : blankIn M ≡ true) where
+  pub no-workers : getD (M .settings) 0 0 ≡ 0
+  unfolding blankIn blankOn
+  no-workers = eqb-true (getD (M .settings) 0 0) 0 (first-of _ _ h)
+
+  pub blank-passed : unsound (runIn [] M) ≡ false
+  unfolding unsound blankIn
+  blank-passed = go (sound (runIn [] M)) (blank-is (runIn [] M) ∙ rw (sameList-exactly (replicate maxBytes 0) (replicate maxBytes 0) .1 refl) h)
+    where
+      go : (b : Bool) → isBlank (runIn [] M) ≡ true → (not b && not (isBlank (runIn [] M))) ≡ false
+      go true e = refl
+      go false e = rw e
+
+  no-turns : movedIn M .turns ≡ 0
+  unfolding blank
+  no-turns = ap (λ (r : Run). r .turns) (blank-of (runIn [] M) blank-passed no-workers)
+
+  blank-unsound : soundIn s M ≡ false
+  blank-unsound = go (soundIn s M) refl
+    where
+      go : (a : Bool) → soundIn s M ≡ a → a ≡ false
+      go true e = absurd (omega (arith, no-workers, steady-fits (runIn s M) (sound-in s M e .steady) .some-worker))
+      go false e = refl
+
+  -- it is opened with zeros beside it, whatever the table
+  pub open-blank : lentOpen s M ≡ answer 0 (0 ∷ []) (blankedIn M)
+  unfolding lentOpen
+  open-blank = rw (blank-unsound, h)
+
+  -- "any turn or run in rounds on it gets 30"
+  pub blank-turn : (w : ℕ) → lentTurn s w M ≡ answer 30 noRow M
+  unfolding lentTurn turnIn hindrance
+  blank-turn w = rw (no-turns, no-workers, le-ltb w 0 (omega arith))
+
+  pub blank-rounds : (limit : ℕ) → lentRounds s limit M ≡ answer 30 (runRow nothing 0) M
+  unfolding lentRounds
+  blank-rounds limit = rw (no-turns, no-workers)
 
 -- a run that stands, opened anew: it stands, whatever the call answers
 pub opens-stands : (s : List ℕ) (M : Memory) → Stands s M → Stands s (lentOpen s M .memory)

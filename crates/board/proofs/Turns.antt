@@ -14,10 +14,9 @@ use native.Mathlib.Omega.{arith}
 use native.Mathlib.Decide.{decLt}
 use Rattle.schedule.specs.declared.Worker.{Worker}
 use Rattle.schedule.specs.declared.Reply.the-variants.{Idle}
-use Rattle.schedule.specs.Links.{seek}
 use Rattle.lent.specs.declared.Moved.{Moved}
 use Rattle.lent.specs.Arrays.{Arrays, tableFrom}
-use Rattle.lent.specs.Counted.{Left, counting, unmoved, roomFor, turnOn, passedAlong}
+use Rattle.lent.specs.Counted.{Left, counting, unmoved, roomFor, turnOn}
 use Rattle.lent.specs.Turn.{stepOn}
 use Rattle.lent.proofs.Reading.{own-table}
 use Rattle.board.specs.Lent.{Memory, memory, workerIn, movedIn, headsOf, totalsOf, turnRow, noRow, answer, hindrance, Told, told, turnLeft, turnIn, passedOver, lentTurn}

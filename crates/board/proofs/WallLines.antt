@@ -1,35 +1,28 @@
 -- A run's line from the memory lent: the checks, the text that fills the lent line, and that on a run that stands both are the record's (N5).
 use mathlib.Core.Path.{_≡_, refl, sym, ap, _∙_}
-use Prim.Native.Nat.{ℕ, min, _≤_, _<_}
+use Prim.Native.Nat.{ℕ, min, _≤_}
 use native.Mathlib.Omega.{arith}
 use native.Mathlib.Nat.{min-eq-left}
 use mathlib.Core.List.{List, []}
 use mathlib.Core.Bool.{Bool, true, false, not, _&&_}
-use borrow.Author.Tests.{eq-eqb, eqb-true, ne-eqb}
-use lib.Dec.{ltb, eqb}
-use lib.ListN.{length, getD, replicate}
+use borrow.Author.Tests.{ne-eqb}
+use lib.Dec.{ltb}
+use lib.ListN.{length, getD}
 use Rattle.table.specs.Sum.{pick}
-use Rattle.table.proofs.Tests.{no-way}
 use Rattle.text.specs.Text.{bufferAt}
 use Rattle.lines.specs.Lines.{putAll}
 use Rattle.schedule.specs.declared.Worker.{Worker}
 use Rattle.schedule.specs.declared.Run.{Run}
-use Rattle.schedule.specs.Record.{maxBytes}
-use Rattle.schedule.specs.Sound.{sameList, sound}
-use Rattle.schedule.specs.Turn.{isBlank, unsound}
+use Rattle.schedule.specs.Turn.{unsound}
 use Rattle.schedule.proofs.Stores.{steady-fits}
 use Rattle.schedule.proofs.Tests.{sound-exactly}
-use Rattle.schedule.proofs.Words.{sameList-exactly}
-use Rattle.soundness.specs.Tested.{blankOn}
-use Rattle.soundness.proofs.Chains.{first-of}
-use Rattle.soundness.proofs.OnParts.{blank-is}
 use Rattle.chart.specs.declared.Charted.{Charted}
 use Rattle.chart.specs.Chart.{Shown, mostTurns, shownOf, shown, lineTexts, lineText, tooMany, charted, chartedIn, chartedValues, lineValues}
 use Rattle.chart.proofs.Records.{line-filled, charted-unsound, charted-many, charted-written, charted-values}
 use Rattle.board.specs.Lent.{Memory, movedIn}
 use Rattle.board.specs.Stands.{workersIn, runIn, Stands}
 use Rattle.board.specs.Opened.{soundIn, blankIn, lineFault, lineAfter}
-use Rattle.board.proofs.Opens.{sound-in, stands-worked, stands-unsound}
+use Rattle.board.proofs.Opens.{sound-in, no-workers, blank-passed, stands-worked, stands-unsound}
 
 -- ---- the checks, as the code asks them
 
@@ -68,15 +61,9 @@ module _ (s : List ℕ) (M : Memory) where
 
   -- the blank record has no table
   blank-shows : blankIn M ≡ true → ltb mostTurns (movedIn M .turns) ≡ false → Shows M
-  unfolding unsound tooMany blankIn blankOn
+  unfolding tooMany
   blank-shows e f =
-      let r : Run = runIn [] M in
-      let b : isBlank r ≡ true = blank-is r ∙ rw (sameList-exactly (r .table) (replicate maxBytes 0) .1 refl) e in
-      record { run = r; same = refl; passes = go (sound r) b; few-turns = f; few-workers = omega (arith, eqb-true (getD (M .settings) 0 0) 0 (first-of _ _ e)) }
-    where
-      go : (b : Bool) → isBlank (runIn [] M) ≡ true → (not b && not (isBlank (runIn [] M))) ≡ false
-      go true h = refl
-      go false h = rw h
+      record { run = runIn [] M; same = refl; passes = blank-passed s M e; few-turns = f; few-workers = omega (arith, no-workers s M e) }
 
   shows : lineFault s M ≡ 0 → Shows M
   unfolding lineFault

@@ -121,7 +121,7 @@ turnIn s w M =
     let there : Told = turnLeft M w (turnOn (tableOf s) (getD (M .settings) 1 0) (M .parents) w (M .arrays) (movedIn M) (workerIn M w)) in
     pick (eqb number 0) there (told number Idle M)
 
--- how many threads stand left of the one that worker w takes (N7), from whether it holds one and the two lists: where none of the second list is ready, none is taken, and the list is not
+-- how many threads stand left of the one that worker w takes (N7) where the two lists are those of a run, from whether it holds one and the lists: where none of the second list is ready, none is taken, and the list is not
 -- searched
 abbrev pub passedFrom : Bool → List ℕ → List ℕ → List ℕ → ℕ → ℕ → ℕ
 passedFrom holds status right over leftmost first =

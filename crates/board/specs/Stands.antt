@@ -55,7 +55,7 @@ settled s M =
 abbrev pub runIn : List ℕ → Memory → Run
 runIn s M = packedOf (settled s M) (M .arrays) (workersIn M) (movedIn M)
 
--- the record is sound but for its turns taken; what stands beside it, each thread's parent and the second list, is as a beginning or a turn leaves it
+-- the record is sound but for its turns taken; what stands beside it, each thread's parent and the second list, is as a beginning, an opening or a turn leaves it
 pub record Stands (s : List ℕ) (M : Memory) : Type 0 where
   pub steady : Steady (runIn s M)
   pub parent : Parents (tableOf s) (M .parents)

@@ -105,8 +105,8 @@ pub extern "C" fn wivakkol_preview_on(
     }
     let k = w as usize;
     // a slice's length is known to the proof, an array's is not
-    let workers = &quotas[..];
-    if workers.len() <= k {
+    let places = &quotas[..];
+    if places.len() <= k {
         return 32;
     }
     let peeked = peek_in(

@@ -1,6 +1,6 @@
 -- The line of every record that passes 32 and 43: each number fits its columns, so that the line has its width and is read back; and the call's answer, check by check.
-use mathlib.Core.Path.{_≡_, refl, sym, ap, subst, _∙_}
-use Prim.Native.Nat.{ℕ, zero, suc, _+_, _^_, _≤_, _<_}
+use mathlib.Core.Path.{_≡_, refl, sym, ap, _∙_}
+use Prim.Native.Nat.{ℕ, suc, _+_, _^_, _≤_, _<_}
 use native.Mathlib.Omega.{arith}
 use mathlib.Core.List.{List, [], _∷_, _++_, append-nil}
 use mathlib.Core.Bool.{Bool, true, false}
@@ -27,7 +27,7 @@ use Rattle.schedule.proofs.Stores.{steady-lawful, steady-facts}
 use Rattle.schedule.proofs.Soundness.{held-fits}
 use Rattle.soundness.proofs.Passed.{has-workers, no-workers}
 use Rattle.chart.specs.declared.Charted.the-variants.{Written, Refused}
-use Rattle.chart.specs.Chart.{Cell, thread, none, absent, cellsFrom, shown, lineTexts, lineOf, readBack, mostTurns, tooMany, chartChecks, chartedAs, charted, chartedValues, lineValues}
+use Rattle.chart.specs.Chart.{thread, none, absent, cellsFrom, shown, lineTexts, lineOf, readBack, mostTurns, tooMany, chartChecks, chartedAs, charted, chartedValues, lineValues}
 use Rattle.chart.proofs.Reading.{CellFits, CellsFit, Fits, line-width, line-newline, line-read}
 
 -- ---- the cells

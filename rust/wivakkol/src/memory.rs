@@ -336,17 +336,24 @@ impl Default for Memory {
     }
 }
 
-// The layout of the header's struct, each field where C has it.
+// The layout of the header's struct, each field of a run where C has it.
 const _: () = {
     assert!(core::mem::size_of::<Memory>() == 21656);
     assert!(core::mem::align_of::<Memory>() == 8);
+    assert!(core::mem::offset_of!(Memory, amounts) == 0);
     assert!(core::mem::offset_of!(Memory, totals) == 8192);
     assert!(core::mem::offset_of!(Memory, settings) == 8216);
     assert!(core::mem::offset_of!(Memory, quotas) == 8224);
     assert!(core::mem::offset_of!(Memory, parents) == 8288);
+    assert!(core::mem::offset_of!(Memory, next) == 10336);
+    assert!(core::mem::offset_of!(Memory, left) == 12384);
+    assert!(core::mem::offset_of!(Memory, right) == 14432);
+    assert!(core::mem::offset_of!(Memory, under) == 16480);
+    assert!(core::mem::offset_of!(Memory, over) == 18528);
     assert!(core::mem::offset_of!(Memory, threads) == 20576);
     assert!(core::mem::offset_of!(Memory, heads) == 20608);
     assert!(core::mem::offset_of!(Memory, status) == 20614);
     assert!(core::mem::offset_of!(Memory, holds) == 21638);
     assert!(core::mem::size_of::<Work>() == 22528);
+    assert!(core::mem::align_of::<Work>() == 8);
 };

@@ -1,5 +1,5 @@
-//! The exported functions as the archive has them, and the memory of a run. An array is a reference to one of its size, so that the types say what include/wivakkol.h asks of a row or a
-//! field: it is not NULL, aligned, of the full size and written before, and what is lent to be written overlaps nothing else. tests/declarations.rs holds both against the source.
+//! The exported functions as the archive has them. An array is a reference to one of its size, so that the types say what include/wivakkol.h asks of a row or a
+//! field: it is not NULL, aligned, of the full size and written before, and what is lent to be written overlaps nothing else. tests/calls/declarations.rs holds them against the source.
 
 extern "C" {
     pub fn wivakkol_check(table: *const u8, length: usize, row: &mut [u64; 6]) -> u32;

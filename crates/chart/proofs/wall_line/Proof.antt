@@ -1,7 +1,7 @@
 -- `chart::wall_line` meets its contract, check by check; the line fills the buffer.
 use Prim.Native.Nat.{ℕ}
 use native.Mathlib.Omega.{arith}
-use mathlib.Core.Path.{_≡_, refl, sym, ap, _∙_}
+use mathlib.Core.Path.{_≡_, refl, ap, _∙_}
 use mathlib.Core.List.{List}
 use mathlib.Core.Bool.{false}
 use denote.Ref.{now}
@@ -9,7 +9,6 @@ use Rattle.schedule.specs.declared.Run.{Run}
 use Rattle.schedule.specs.Turn.{unsound}
 use Rattle.soundness.proofs.Passed.{test-fails, test-passes}
 use Rattle.chart.specs.declared.Charted.{Charted}
-use Rattle.chart.specs.declared.Charted.the-variants.{Written}
 use Rattle.chart.specs.Chart.{charted, chartedIn, chartedValues, lineValues}
 use Rattle.chart.proofs.Records.{line-filled, many, few, charted-unsound, charted-many, charted-written, charted-values}
 use borrow.Author.Needs.{needs}

@@ -41,7 +41,7 @@ returns-2 c =
     let e = l .before in
     let h = e .before in
     let d = h .before .before .before .before .before .before in
-    let none : 16 ≤ d .args .w = omega (arith, c .if2 .taken, l .workers .given .0) in
+    let none : 16 ≤ d .args .w = omega (arith, c .if2 .taken, l .places .given .0) in
     λ parents left under. shows-no-place (now (d .args .table)) (d .args .w) (start d parents left under) (h .hindrance .ensures) (e .if1 .left) none
 
 peek-in-requires : tie.Need-peek-in-requires
@@ -71,7 +71,7 @@ returns-4 c =
     let e = l .before .before in
     let h = e .before in
     let d = h .before .before .before .before .before .before in
-    let small : d .args .w < 16 = omega (arith, l .if2 .left, l .before .workers .given .0) in
+    let small : d .args .w < 16 = omega (arith, l .if2 .left, l .before .places .given .0) in
     λ parents left under.
     shows-turn (now (d .args .table)) (d .args .w) (start d parents left under) (h .hindrance .ensures) (e .if1 .left) (p .peek-in .ensures parents left _ under) (not-false _ (f .if3 .left))
     (l .if2 .left) (q .passed-by .ensures small) (c .put-preview .ensures)
