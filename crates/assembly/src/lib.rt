@@ -25,7 +25,7 @@ ghost use Rattle.assembly.specs.Said.{saids};
 ghost use Rattle.assembly.specs.declared.check.Checked.the-variants.{WellFormed};
 ghost use Rattle.assembly.specs.Assembly.{assembled, assembledIn, answered, writtenIn, sizesOutside};
 ghost use Rattle.assembly.specs.Disassembly.{disassembled, disassembledIn};
-ghost use Rattle.assembly.specs.Steps.{Sized};
+ghost use Rattle.assembly.specs.Code.Steps.{Sized};
 
 // What should have stood on a line: a keyword, a number of at most 24 bits, the line's end, or the next thread by its number.
 pub enum Expected {

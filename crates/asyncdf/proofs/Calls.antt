@@ -20,7 +20,7 @@ use Rattle.schedule.specs.Record.{blank}
 use Rattle.schedule.specs.Turn.{unsound, rootEnded, noWorker, stepRun, passedIn, turned}
 use Rattle.schedule.specs.Runs.{ran, moved, drive, listRun, roundsRun}
 use Rattle.soundness.proofs.Passed.{has-workers, no-workers}
-use Rattle.asyncdf.specs.Drives.{who, Sequence, Open, Driven}
+use Rattle.asyncdf.specs.Code.Drives.{who, Sequence, Open, Driven}
 use Rattle.asyncdf.proofs.Driving.{drive-next}
 use Rattle.lent.proofs.Answers.{turned-taken}
 

@@ -24,8 +24,8 @@ ghost use Rattle.schedule.specs.Record.{tableIn};
 ghost use Rattle.schedule.specs.Sound.{Steady};
 ghost use Rattle.schedule.specs.Parents.{Parents};
 ghost use Rattle.lent.specs.Arrays.{arrays};
-ghost use Rattle.lent.specs.Packed.{movedOf, packedOf};
-ghost use Rattle.asyncdf.specs.Drives.{who, Sequence, Moving, Stands, Driven};
+ghost use Rattle.lent.specs.Code.Packed.{movedOf, packedOf};
+ghost use Rattle.asyncdf.specs.Code.Drives.{who, Sequence, Moving, Stands, Driven};
 
 // The root's last action.
 pub(crate) fn root_end(table: &[u8]) -> usize

@@ -8,7 +8,7 @@ use Rattle.schedule.specs.declared.Worker.{Worker}
 use Rattle.schedule.specs.Machine.{State, Stepped, stepped, waitsFor, actBy, act}
 use Rattle.schedule.specs.Links.{noThread, Links, LinkedAs, Sought, firstReady, seek}
 use Rattle.schedule.specs.Actives.{actives}
-use Rattle.schedule.specs.LinkMoves.{linksBy, activesBy}
+use Rattle.schedule.specs.Code.LinkMoves.{linksBy, activesBy}
 use Rattle.schedule.specs.Record.{stateOf}
 use Rattle.schedule.proofs.Facts.{Facts}
 use Rattle.schedule.proofs.Lists.{Below}

@@ -13,7 +13,7 @@ use Rattle.schedule.specs.declared.Worker.{Worker}
 use Rattle.schedule.specs.declared.Reply.the-variants.{Idle}
 use Rattle.schedule.specs.Machine.{State, held, ended, ready, leftmost, taken, turnFree, Stepped, stepped, parentOf, waitsFor, woken, withStatus, actBy, act}
 use Rattle.schedule.specs.Links.{firstReady}
-use Rattle.schedule.specs.LinkMoves.{linksBy, activesBy}
+use Rattle.schedule.specs.Code.LinkMoves.{linksBy, activesBy}
 use Rattle.schedule.specs.Parents.{Parents}
 use Rattle.schedule.proofs.Turns.{leftmost-ready}
 use Rattle.schedule.proofs.Searches.{ready-there, found-below}

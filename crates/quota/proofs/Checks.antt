@@ -26,7 +26,7 @@ use Rattle.schedule.proofs.Lawful.{Lawful, lawful}
 use Rattle.quota.specs.declared.Quoted.{Quoted}
 use Rattle.quota.specs.declared.Quoted.the-variants.{Given, Refused}
 use Rattle.quota.specs.Quota.{leastQuota, costOf, mostWithin, mostQuota, noQuota, maxGap, quotaPasses, answeredBy, quoted, valuesOf, valuesWith, valuesFor}
-use Rattle.quota.specs.Steps.{Accepted, ownAnswer}
+use Rattle.quota.specs.Code.Steps.{Accepted, ownAnswer}
 use Rattle.quota.proofs.Answers.{found-own}
 
 -- ---- check by check

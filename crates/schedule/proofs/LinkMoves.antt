@@ -16,7 +16,7 @@ use Rattle.table.proofs.Tests.{and-both}
 use Rattle.table.proofs.Bodies.{kind-known, fork-below}
 use Rattle.schedule.specs.Machine.{State, Stepped, unborn, ready, held, waiting, ended, nextOf, statusOf, workerOf, withStatus, withList, released, leftOf, without, parentOf, waitsFor, woken, taken, actBy, act}
 use Rattle.schedule.specs.Links.{noThread, Links, LinkedAs, linkLeft, unlink}
-use Rattle.schedule.specs.LinkMoves.{linksBy, activesBy}
+use Rattle.schedule.specs.Code.LinkMoves.{linksBy, activesBy}
 use Rattle.schedule.specs.Actives.{actives}
 use Rattle.schedule.proofs.Lawful.{Lawful}
 use Rattle.schedule.proofs.Facts.{Facts}

@@ -22,8 +22,8 @@ use Rattle.schedule.proofs.Words.{allBelow-exactly}
 use Rattle.schedule.proofs.Clauses.{nextInBody-exactly, inOrder-exactly, statusFollows-exactly}
 use Rattle.schedule.proofs.Joins.{join-depends}
 use Rattle.schedule.proofs.Balances.{balance-bound, balance-step, balance-free, balance-join}
-use Rattle.soundness.specs.Checks.{Accepted, doneTo, threadsSound}
-use Rattle.soundness.specs.Balancing.{Balances, Balancing, Balanced}
+use Rattle.soundness.specs.Code.Checks.{Accepted, doneTo, threadsSound}
+use Rattle.soundness.specs.Code.Balancing.{Balances, Balancing, Balanced}
 use Rattle.soundness.proofs.Lookups.{accepted-lawful, few-threads, thread-below, join-code, not-join}
 use Rattle.soundness.proofs.Chains.{first-of, second-of}
 use Rattle.soundness.proofs.Done.{in-body}

@@ -20,8 +20,8 @@ use Rattle.schedule.proofs.Lawful.{Lawful}
 use Rattle.schedule.proofs.Lists.{set-each}
 use Rattle.schedule.proofs.Words.{allBelow-exactly, eqb-exactly, sameList-exactly}
 use Rattle.schedule.proofs.Sharing.{shares-exactly}
-use Rattle.soundness.specs.Checks.{Accepted, doneTo, threadsSound}
-use Rattle.soundness.specs.Balancing.{Balances, joinedBelow, Cleared}
+use Rattle.soundness.specs.Code.Checks.{Accepted, doneTo, threadsSound}
+use Rattle.soundness.specs.Code.Balancing.{Balances, joinedBelow, Cleared}
 use Rattle.soundness.proofs.Lookups.{accepted-lawful, thread-below}
 use Rattle.soundness.proofs.Done.{in-body}
 use Rattle.soundness.proofs.Balancing.{stop-low, stop-high, below-stop}

@@ -20,7 +20,7 @@ use Rattle.schedule.specs.Machine.{ended}
 use Rattle.schedule.specs.Sound.{allBelow, allIn, doneIn, inOrder}
 use Rattle.schedule.proofs.Words.{allBelow-exactly, and-exactly}
 use Rattle.schedule.proofs.Lawful.{Lawful}
-use Rattle.soundness.specs.Checks.{doneAt, doneTo, unbornIn, joinDone, bodyInOrder}
+use Rattle.soundness.specs.Code.Checks.{doneAt, doneTo, unbornIn, joinDone, bodyInOrder}
 use Rattle.soundness.proofs.Every.{same-truth, all-fails}
 
 -- ---- what is done

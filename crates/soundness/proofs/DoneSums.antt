@@ -18,8 +18,8 @@ use Rattle.table.proofs.Bodies.{first-is, counts-all, after-end, owner-at}
 use Rattle.schedule.specs.Machine.{ended}
 use Rattle.schedule.specs.Sound.{doneIn, ofDoneIn, sumDoneIn}
 use Rattle.schedule.proofs.Totals.{sumTo-append, sumTo-front}
-use Rattle.soundness.specs.Checks.{doneTo}
-use Rattle.soundness.specs.Adding.{Added}
+use Rattle.soundness.specs.Code.Checks.{doneTo}
+use Rattle.soundness.specs.Code.Adding.{Added}
 use Rattle.soundness.proofs.Done.{before-stop}
 
 ltb-from : (f i x : ℕ) → ltb (f + i) x ≡ ltb i (x - f)

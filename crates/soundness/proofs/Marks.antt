@@ -17,8 +17,8 @@ use Rattle.table.proofs.Nesting.{fork-once, fork-exists}
 use Rattle.schedule.specs.Sound.{numberOf}
 use Rattle.schedule.proofs.Lawful.{Lawful}
 use Rattle.schedule.proofs.Numbers.{number-root, number-child, number-below}
-use Rattle.soundness.specs.Checks.{Lengths, Numbers}
-use Rattle.soundness.specs.Order.{Inside, Marked, Walked, Numbering}
+use Rattle.soundness.specs.Code.Checks.{Lengths, Numbers}
+use Rattle.soundness.specs.Code.Order.{Inside, Marked, Walked, Numbering}
 use Rattle.soundness.proofs.Spans.{inside-within, inside-fork, over-step, over-fork}
 
 -- ---- the marks of the threads from u on

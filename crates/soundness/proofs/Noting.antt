@@ -22,7 +22,7 @@ use Rattle.schedule.proofs.Lists.{getD-alike, filled-at, filled-length, firsts-
 use Rattle.schedule.specs.Sound.{doneIn}
 use Rattle.schedule.proofs.Lawful.{Lawful}
 use Rattle.schedule.specs.Parents.{Parents}
-use Rattle.soundness.specs.Checks.{doneAt, unbornIn, unbornAt, Forks, Noted}
+use Rattle.soundness.specs.Code.Checks.{doneAt, unbornIn, unbornAt, Forks, Noted}
 use Rattle.soundness.specs.Tested.{parentsIn}
 
 parents-at : (T : Table) (t : ℕ) → t < T .threads → getD (filled 1024 (firsts (parentOf T) 0 (T .threads))) t 0 ≡ parentOf T t

@@ -14,7 +14,7 @@ use Rattle.table.proofs.Rank.{rank-fork, no-end}
 use Rattle.schedule.specs.Sound.{numberOf}
 use Rattle.schedule.proofs.Lawful.{Lawful}
 use Rattle.schedule.proofs.Numbers.{number-rank, number-step}
-use Rattle.soundness.specs.Order.{Inside}
+use Rattle.soundness.specs.Code.Order.{Inside}
 
 -- ---- one action
 

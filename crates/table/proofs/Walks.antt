@@ -15,7 +15,7 @@ use Rattle.table.specs.Format.{Kind, alloc, free, codeOf, kindOf, is, co
 use Rattle.table.specs.Rules.{withChild, whole}
 use Rattle.table.specs.Accepted.{ContentRules, BodyRules}
 use Rattle.table.specs.Pass.{Check, orElse, refusal, tryAt, tryFrom}
-use Rattle.table.specs.Steps.{ownAmount, childAmount, amountAt, leastNext, leastThat, WalkReady, Filled, Headed, Formed}
+use Rattle.table.specs.Code.Steps.{ownAmount, childAmount, amountAt, leastNext, leastThat, WalkReady, Filled, Headed, Formed}
 use Rattle.table.specs.declared.Found.{Found}
 use Rattle.table.specs.declared.Found.the-variants.{Nothing, At}
 use Rattle.table.proofs.Tests.{pick-same}

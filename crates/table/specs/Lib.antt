@@ -8,9 +8,9 @@ pub mod JobTable
 pub mod Serial
 pub mod Level
 pub mod Nested
-pub mod Steps
 pub mod Load
 pub mod Cases
 pub mod JobCases
 pub mod NestedCases
 pub mod Wrong
+pub mod Code

@@ -17,7 +17,7 @@ use Rattle.schedule.specs.Begin.{beginPasses}
 use Rattle.schedule.specs.Firsts.{firsts}
 use Rattle.schedule.specs.Record.{filled}
 use Rattle.schedule.specs.Sound.{isNothing}
-use Rattle.soundness.specs.Checks.{Accepted}
+use Rattle.soundness.specs.Code.Checks.{Accepted}
 use Rattle.soundness.specs.Tested.{parentsIn, parentsIf, nextIf, beginFound}
 use Rattle.soundness.proofs.accept_in.Statement.{statement}
 use Rattle.soundness.proofs.accept_in.Tie as tie

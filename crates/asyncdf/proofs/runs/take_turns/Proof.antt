@@ -11,8 +11,8 @@ use Rattle.schedule.specs.declared.Run.{Run}
 use Rattle.schedule.specs.declared.Reply.{Reply}
 use Rattle.lent.specs.declared.Moved.{Moved}
 use Rattle.lent.specs.Arrays.{Arrays, arrays}
-use Rattle.lent.specs.Packed.{packedOf}
-use Rattle.asyncdf.specs.Drives.{who, Sequence, Moving, Stands}
+use Rattle.lent.specs.Code.Packed.{packedOf}
+use Rattle.asyncdf.specs.Code.Drives.{who, Sequence, Moving, Stands}
 use Rattle.asyncdf.proofs.Moving.{not-done, other, few}
 use Rattle.asyncdf.proofs.Along.{Along, first-along, spent, full, none, again, finished}
 use Rattle.asyncdf.proofs.runs.take_turns.Statement.{statement}

@@ -6,7 +6,7 @@ use mathlib.Core.Bool.{Bool, true, false}
 use native.Mathlib.Omega.{arith}
 use denote.Ref.{now}
 use lib.ListN.{getD}
-use Rattle.asyncdf.specs.Drives.{who}
+use Rattle.asyncdf.specs.Code.Drives.{who}
 use Rattle.asyncdf.proofs.runs.worker_of.Statement.{statement}
 use Rattle.asyncdf.proofs.runs.worker_of.Tie as tie
 

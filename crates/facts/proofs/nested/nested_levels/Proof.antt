@@ -11,7 +11,7 @@ use Rattle.table.specs.Sum.{pick}
 use Rattle.table.specs.Format.{end, fork, is, kindOf, Table, tableOf, kind, codeAt, argumentAt, bodiesOf, bodiesFrom}
 use Rattle.table.specs.Accepted.{ContentRules, BodyRules, NestRules, ForkRules}
 use Rattle.table.specs.Nested.{N}
-use Rattle.table.specs.Steps.{Nested}
+use Rattle.table.specs.Code.Steps.{Nested}
 use Rattle.table.proofs.Sizes.{Sizes, sizes}
 use Rattle.table.proofs.Bodies.{fork-below}
 use Rattle.table.proofs.NestedThreads.{nest-few}

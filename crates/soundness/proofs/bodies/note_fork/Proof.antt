@@ -10,7 +10,7 @@ use Rattle.table.specs.Format.{tableOf}
 use Rattle.table.specs.Rules.{owner}
 use Rattle.table.proofs.Bodies.{owner-below, fork-below}
 use Rattle.schedule.proofs.Lawful.{Lawful}
-use Rattle.soundness.specs.Checks.{Accepted, Noted}
+use Rattle.soundness.specs.Code.Checks.{Accepted, Noted}
 use Rattle.soundness.proofs.Lookups.{accepted-lawful, code-read, argument-read, fork-code, no-fork}
 use Rattle.soundness.proofs.Noting.{noted-other, noted-fork}
 use Rattle.soundness.proofs.bodies.note_fork.Statement.{statement}

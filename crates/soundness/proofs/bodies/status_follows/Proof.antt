@@ -16,7 +16,7 @@ use Rattle.schedule.specs.Machine.{unborn, ended}
 use Rattle.schedule.specs.Sound.{agree, statusFollows}
 use Rattle.schedule.proofs.Lawful.{lawful}
 use Rattle.schedule.specs.Parents.{Parents}
-use Rattle.soundness.specs.Checks.{Forks, unbornIn, unbornAt}
+use Rattle.soundness.specs.Code.Checks.{Forks, unbornIn, unbornAt}
 use Rattle.soundness.proofs.Lookups.{body}
 use Rattle.soundness.proofs.Every.{beq-agree}
 use Rattle.soundness.proofs.Noting.{few, unborn-noted}

@@ -15,7 +15,7 @@ use Rattle.table.specs.declared.Found.the-variants.{At}
 use Rattle.table.proofs.Passes.{passes-rules}
 use Rattle.schedule.specs.declared.Worker.{Worker}
 use Rattle.schedule.specs.Sound.{isNothing, commonSound}
-use Rattle.soundness.specs.Checks.{Accepted}
+use Rattle.soundness.specs.Code.Checks.{Accepted}
 use Rattle.soundness.specs.Tested.{parentsIn, parentsIf}
 use Rattle.soundness.proofs.Noting.{parents-right}
 use Rattle.soundness.proofs.common.common_parts.Statement.{statement}

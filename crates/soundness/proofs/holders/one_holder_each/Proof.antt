@@ -18,7 +18,7 @@ use Rattle.schedule.specs.Machine.{nobody}
 use Rattle.schedule.specs.Sound.{allBelow, countBelow, holdsThread, oneHolder}
 use Rattle.schedule.proofs.CountBelow.{count-bound}
 use Rattle.schedule.proofs.Lists.{getD-alike}
-use Rattle.soundness.specs.Checks.{holdersWanted}
+use Rattle.soundness.specs.Code.Checks.{holdersWanted}
 use Rattle.soundness.proofs.Every.{all-cong}
 use Rattle.soundness.proofs.holders.one_holder_each.Statement.{statement}
 use Rattle.soundness.proofs.holders.one_holder_each.Tie as tie

@@ -6,8 +6,8 @@ use native.Mathlib.Omega.{arith}
 use denote.Ref.{now}
 use Rattle.table.specs.Format.{tableOf}
 use Rattle.table.specs.Rules.{owner, endOf}
-use Rattle.soundness.specs.Checks.{Accepted}
-use Rattle.soundness.specs.Order.{Walked}
+use Rattle.soundness.specs.Code.Checks.{Accepted}
+use Rattle.soundness.specs.Code.Order.{Walked}
 use Rattle.soundness.proofs.Lookups.{accepted-lawful}
 use Rattle.soundness.proofs.Marks.{walked-owner, walked-here, walked-on}
 use Rattle.soundness.proofs.order.advance.Statement.{statement}

@@ -10,8 +10,8 @@ use Rattle.table.specs.Format.{fork, kind, tableOf}
 use Rattle.table.specs.Rules.{owner}
 use Rattle.table.specs.Serial.{serial}
 use Rattle.schedule.proofs.Lawful.{Lawful}
-use Rattle.soundness.specs.Checks.{Accepted, Lengths}
-use Rattle.soundness.specs.Order.{Inside}
+use Rattle.soundness.specs.Code.Checks.{Accepted, Lengths}
+use Rattle.soundness.specs.Code.Order.{Inside}
 use Rattle.soundness.proofs.Lookups.{accepted-lawful, code-read, argument-read, fork-code, not-fork}
 use Rattle.soundness.proofs.Spans.{inside-fork, span-step, span-fork, child-small}
 use Rattle.soundness.proofs.order.span.Statement.{statement}

@@ -18,7 +18,7 @@ use Rattle.schedule.specs.Begin.{beginPasses}
 use Rattle.schedule.specs.Sound.{Common, isNothing, nextInBody, commonSound, listed, sameLinks}
 use Rattle.schedule.proofs.Words.{allBelow-exactly, isNothing-exactly}
 use Rattle.schedule.proofs.Tests.{common-exactly}
-use Rattle.soundness.specs.Checks.{Accepted, Placed, linksSound}
+use Rattle.soundness.specs.Code.Checks.{Accepted, Placed, linksSound}
 use Rattle.soundness.specs.Tested.{parentsIn, parentsIf, soundOn}
 use Rattle.soundness.proofs.Chains.{off, on, cut, skip, last, pass, first-of, second-of, never}
 use Rattle.soundness.proofs.sound.sound_parts.Statement.{statement}

@@ -8,7 +8,7 @@ use lib.ListN.{length, getD}
 use Rattle.table.specs.Sum.{pick, anyBelow}
 use Rattle.table.specs.Format.{join, is, Table, kind, tableOf}
 use Rattle.schedule.specs.Sound.{doneIn, balanceTo, progressIn}
-use Rattle.soundness.specs.Checks.{Accepted}
+use Rattle.soundness.specs.Code.Checks.{Accepted}
 
 -- the threads from u on have their balances so far, and those from n on nothing
 pub record Balances (T : Table) (next status balances : List ℕ) (u : ℕ) : Type 0 where

@@ -20,7 +20,7 @@ use Rattle.schedule.specs.Runs.{ran, drive}
 use Rattle.schedule.specs.Parents.{Parents}
 use Rattle.lent.specs.declared.Moved.{Moved}
 use Rattle.lent.specs.Arrays.{Arrays, secondOf, listedIn}
-use Rattle.lent.specs.Packed.{packedOf}
+use Rattle.lent.specs.Code.Packed.{packedOf}
 
 -- the worker of turn i
 unfoldable pub who : List ℕ → Bool → ℕ → ℕ → ℕ

@@ -1,0 +1,3 @@
+-- promises between the parts of the code: a reader of the public calls needs none of them
+pub mod Packed
+pub mod Steps

@@ -1,0 +1,2 @@
+-- promises between the parts of the code: a reader of the public calls needs none of them but `Read`
+pub mod Steps
