@@ -20,7 +20,7 @@ use table::read::threads;
 ghost use mathlib.Core.Path.{_≡_};
 ghost use Prim.Native.Nat.{_≤_};
 ghost use lib.ListN.{length};
-ghost use Rattle.table.specs.Rules.{outside as isOutside};
+ghost use Rattle.table.specs.Checks.{outside as isOutside};
 ghost use Rattle.assembly.specs.Said.{saids};
 ghost use Rattle.assembly.specs.declared.check.Checked.the-variants.{WellFormed};
 ghost use Rattle.assembly.specs.Assembly.{assembled, assembledIn, answered, writtenIn, sizesOutside};

@@ -12,7 +12,7 @@ use Rattle.schedule.specs.declared.Run.{Run}
 use Rattle.schedule.specs.declared.Reply.{Reply}
 use Rattle.schedule.specs.declared.Reply.the-variants.{Done}
 use Rattle.table.specs.Format.{threadsOf, tableOf}
-use Rattle.table.specs.Rules.{endOf}
+use Rattle.table.specs.Checks.{endOf}
 use Rattle.schedule.specs.Machine.{nobody}
 use Rattle.schedule.specs.Memory.{ofReply}
 use Rattle.schedule.specs.Links.{noThread, LinkedAs}
@@ -22,9 +22,9 @@ use Rattle.schedule.specs.Sound.{Steady}
 use Rattle.schedule.specs.Turn.{rootEnded, stepRun}
 use Rattle.schedule.specs.Runs.{moved}
 use Rattle.schedule.proofs.Reply.{the-type}
-use Rattle.schedule.proofs.Links.{laid-linked}
-use Rattle.schedule.proofs.ActiveMoves.{list-once, list-small}
-use Rattle.schedule.proofs.Fills.{fill-linked}
+use Rattle.schedule.proofs.Linked.Links.{laid-linked}
+use Rattle.schedule.proofs.Linked.ActiveMoves.{list-once, list-small}
+use Rattle.schedule.proofs.Linked.Fills.{fill-linked}
 use Rattle.schedule.proofs.Stores.{steady-lawful, steady-facts, moved-steady}
 use Rattle.schedule.specs.Parents.{Parents}
 use Rattle.lent.specs.declared.Moved.{Moved}

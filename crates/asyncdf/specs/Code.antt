@@ -1,3 +1,3 @@
--- promises between the parts of the code: a reader of the public calls needs none of them
+-- promises between the parts of the code
 pub mod Drives
 pub mod Sheets

@@ -18,8 +18,8 @@ use Rattle.schedule.specs.Record.{maxBytes}
 use Rattle.schedule.specs.Sound.{sameList, sound}
 use Rattle.schedule.specs.Turn.{isBlank, unsound}
 use Rattle.schedule.proofs.Stores.{steady-fits}
-use Rattle.schedule.proofs.Tests.{sound-exactly}
-use Rattle.schedule.proofs.Words.{sameList-exactly}
+use Rattle.schedule.proofs.Sound.Tests.{sound-exactly}
+use Rattle.schedule.proofs.Sequences.Words.{sameList-exactly}
 use Rattle.soundness.specs.Tested.{blankOn}
 use Rattle.soundness.proofs.Chains.{first-of}
 use Rattle.soundness.proofs.OnParts.{blank-is}

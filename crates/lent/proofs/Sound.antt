@@ -15,8 +15,8 @@ use Rattle.schedule.specs.Machine.{State, held, ended, ready, leftmost, taken, 
 use Rattle.schedule.specs.Links.{firstReady}
 use Rattle.schedule.specs.Code.LinkMoves.{linksBy, activesBy}
 use Rattle.schedule.specs.Parents.{Parents}
-use Rattle.schedule.proofs.Turns.{leftmost-ready}
-use Rattle.schedule.proofs.Searches.{ready-there, found-below}
+use Rattle.schedule.proofs.Preservation.Turns.{leftmost-ready}
+use Rattle.schedule.proofs.Linked.Searches.{ready-there, found-below}
 use Rattle.lent.specs.declared.Totals.{Totals}
 use Rattle.lent.specs.declared.Stepped.{Stepped as StepResult}
 use Rattle.lent.specs.Arrays.{Arrays, listedIn, actionIn, amountIn, withStatuses, tableFrom}

@@ -1,3 +1,3 @@
--- promises between the parts of the code: a reader of the public calls needs none of them
+-- promises between the parts of the code; `packedOf` is what readers are told of arrays
 pub mod Packed
 pub mod Steps

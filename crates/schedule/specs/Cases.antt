@@ -7,8 +7,8 @@ use lib.ListN.{replicate}
 use Rattle.table.specs.Sum.{sumTo, anyBelow}
 use Rattle.table.specs.Format.{end, work, alloc, free, fork, join, codeOf, kindOf, is, tableOf}
 use Rattle.table.specs.Pass.{Check, tryAt, tryFrom, tryPass, firstFound}
-use Rattle.table.specs.Rules.{entryWrong, totalWrong, ownerBelow, kindUnknown, argumentWrong, endMisplaced, forkedBelow, forkedBefore}
-use Rattle.table.specs.Rules.{openBefore, joinNotLatest, endWithOpen, neverForked, allocOf, freeOf, wholeWithin, balance, balanceBelow0, passes}
+use Rattle.table.specs.Checks.{entryWrong, totalWrong, ownerBelow, kindUnknown, argumentWrong, endMisplaced, forkedBelow, forkedBefore}
+use Rattle.table.specs.Checks.{openBefore, joinNotLatest, endWithOpen, neverForked, allocOf, freeOf, wholeWithin, balance, balanceBelow0, passes}
 use Rattle.table.specs.Level.{forkBelow}
 use Rattle.table.specs.Cases.{written, E, least, twoAllocs}
 use Rattle.table.specs.Cases.{act as action}

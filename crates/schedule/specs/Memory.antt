@@ -5,7 +5,7 @@ use mathlib.Core.List.{List, [], _∷_, _++_, map}
 use lib.Dec.{eqb}
 use Rattle.table.specs.Sum.{pick, greatest}
 use Rattle.table.specs.Format.{Table}
-use Rattle.table.specs.Rules.{allocOf, freeOf}
+use Rattle.table.specs.Checks.{allocOf, freeOf}
 use Rattle.table.specs.Serial.{S1}
 use Rattle.table.specs.Level.{D}
 use Rattle.schedule.specs.declared.Reply.{Reply}

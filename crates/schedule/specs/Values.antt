@@ -7,7 +7,7 @@ use lib.Dec.{eqb}
 use Rattle.table.specs.Sum.{pick}
 use Rattle.table.specs.Format.{tableOf}
 use Rattle.table.specs.Pass.{Check, orElse, tryAt, firstFound}
-use Rattle.table.specs.Rules.{passes}
+use Rattle.table.specs.Checks.{passes}
 use Rattle.table.specs.Load.{foundNumber, foundPlace, ifFound}
 use Rattle.table.specs.declared.Found.{Found}
 use Rattle.table.specs.declared.Found.the-variants.{Nothing}

@@ -1,4 +1,4 @@
--- promises between the parts of the code: a reader of the public calls needs none of them
+-- promises between the parts of the code
 pub mod Checks
 pub mod Adding
 pub mod Balancing

@@ -6,7 +6,7 @@ use table::read;
 ghost use mathlib.Core.Path.{_≡_};
 ghost use Prim.Native.Nat.{_<_};
 ghost use Rattle.table.specs.Format.{kindOf, tableOf};
-ghost use Rattle.table.specs.Rules.{allocOf, freeOf};
+ghost use Rattle.table.specs.Checks.{allocOf, freeOf};
 ghost use Rattle.table.specs.Code.Steps.{ownAmount};
 ghost use Rattle.schedule.specs.Sound.{heldRight};
 ghost use Rattle.soundness.specs.Code.Checks.{Accepted, Placed};

@@ -8,7 +8,7 @@ ghost use Prim.Native.Nat.{ℕ, _+_, _≤_, _<_};
 ghost use lib.ListN.{length, getD, take};
 ghost use lib.Dec.{ltb};
 ghost use Rattle.table.specs.Format.{tableOf};
-ghost use Rattle.table.specs.Rules.{owner, endOf};
+ghost use Rattle.table.specs.Checks.{owner, endOf};
 ghost use Rattle.table.specs.Serial.{serial};
 ghost use Rattle.table.specs.Code.Steps.{Read};
 ghost use Rattle.schedule.specs.Sound.{allIn, inSerialOrder, rises};

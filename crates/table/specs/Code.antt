@@ -1,2 +1,2 @@
--- promises between the parts of the code: a reader of the public calls needs none of them but `Read`
+-- promises between the parts of the code; `Read` stands in promises to other crates too
 pub mod Steps

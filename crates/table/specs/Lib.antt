@@ -2,8 +2,8 @@ pub mod Sum
 pub mod Format
 pub mod Pass
 pub mod First
+pub mod Checks
 pub mod Rules
-pub mod Accepted
 pub mod JobTable
 pub mod Serial
 pub mod Level

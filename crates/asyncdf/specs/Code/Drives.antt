@@ -1,12 +1,11 @@
 -- The workers of a run, in the order of a list or in rounds; what a loop of turns reads off its table and keeps.
 use mathlib.Core.Path.{_≡_}
-use Prim.Native.Nat.{ℕ, _-_, _%_, _^_, _<_}
+use Prim.Native.Nat.{ℕ, _-_, _^_, _<_}
 use mathlib.Core.List.{List}
 use mathlib.Core.Bool.{Bool, true, false}
-use lib.ListN.{length, getD}
-use Rattle.table.specs.Sum.{pick}
+use lib.ListN.{length}
 use Rattle.table.specs.Format.{tableOf}
-use Rattle.table.specs.Rules.{endOf}
+use Rattle.table.specs.Checks.{endOf}
 use Rattle.schedule.specs.declared.Worker.{Worker}
 use Rattle.schedule.specs.declared.Run.{Run}
 use Rattle.schedule.specs.declared.Reply.{Reply}
@@ -22,11 +21,7 @@ use Rattle.lent.specs.declared.Moved.{Moved}
 use Rattle.lent.specs.Arrays.{Arrays, secondOf, listedIn}
 use Rattle.lent.specs.Code.Packed.{packedOf}
 
--- the worker of turn i
-unfoldable pub who : List ℕ → Bool → ℕ → ℕ → ℕ
-who order rounds p i = pick rounds (i % p) (getD order i 0)
-
--- there is one: the list is long enough, or the rounds have workers
+-- turn i has a worker: the list is long enough, or the rounds have workers
 pub record Sequence (order : List ℕ) (rounds : Bool) (p i : ℕ) : Type 0 where
   pub workers : rounds ≡ true → 0 < p
   pub within : rounds ≡ false → i < length order

@@ -4,7 +4,7 @@ use Prim.Native.Nat.{ℕ, _≤_}
 use mathlib.Core.List.{List}
 use Rattle.table.specs.Format.{tableOf}
 use Rattle.table.specs.Pass.{tryPass}
-use Rattle.table.specs.Accepted.{Rules}
+use Rattle.table.specs.Rules.{Rules}
 use Rattle.table.specs.Load.{factsOf}
 use Rattle.table.specs.declared.Facts.{Facts}
 use Rattle.quota.specs.declared.Quoted.{Quoted}

@@ -7,8 +7,8 @@ use lib.Dec.{ltb, eqb}
 use lib.ListN.{length, getD, replicate}
 use Rattle.table.specs.Sum.{pick}
 use Rattle.table.specs.Format.{fork, join, is, Table, kind, tableOf}
-use Rattle.table.specs.Rules.{owner, endOf}
-use Rattle.table.specs.Accepted.{Rules}
+use Rattle.table.specs.Checks.{owner, endOf}
+use Rattle.table.specs.Rules.{Rules}
 use Rattle.table.specs.Serial.{serial}
 use Rattle.table.specs.Level.{forkBelow}
 use Rattle.schedule.specs.declared.Worker.{Worker}

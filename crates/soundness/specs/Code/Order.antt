@@ -4,7 +4,7 @@ use Prim.Native.Nat.{ℕ, suc, _≤_, _<_}
 use mathlib.Core.List.{List}
 use lib.ListN.{length, getD}
 use Rattle.table.specs.Format.{fork, Table, kind}
-use Rattle.table.specs.Rules.{countsBelow, endOf}
+use Rattle.table.specs.Checks.{countsBelow, endOf}
 use Rattle.table.specs.Serial.{serial}
 use Rattle.schedule.specs.Sound.{numberOf}
 

@@ -8,8 +8,8 @@ use lib.Dec.{ltb, eqb}
 use Rattle.table.specs.Sum.{pick, sumTo}
 use Rattle.table.specs.Format.{Kind, end, work, alloc, free, fork, join, unknown, is, kindOf, u32At, codeAt, argumentAt, threadsOf, actionsOf, Table, tableOf}
 use Rattle.table.specs.Pass.{Check, refusal}
-use Rattle.table.specs.Rules.{argumentFits, differ, isLatest, isEmpty, tail, endOf}
-use Rattle.table.specs.Accepted.{HeadRules, ContentRules, BodyRules, NestRules, ForkRules, BalanceRules}
+use Rattle.table.specs.Checks.{argumentFits, differ, isLatest, isEmpty, tail, endOf}
+use Rattle.table.specs.Rules.{HeadRules, ContentRules, BodyRules, NestRules, ForkRules, BalanceRules}
 use Rattle.table.specs.Level.{level}
 use Rattle.table.specs.declared.balance.Balance.{Balance}
 use Rattle.table.specs.declared.Found.{Found}

@@ -9,8 +9,8 @@ use denote.Ref.{now}
 use lib.ListN.{getD}
 use lib.Dec.{eqb, leb}
 use Rattle.table.specs.Format.{tableOf}
-use Rattle.table.specs.Rules.{endOf, countsBelow, allocOf, freeOf}
-use Rattle.table.specs.Accepted.{ContentRules}
+use Rattle.table.specs.Checks.{endOf, countsBelow, allocOf, freeOf}
+use Rattle.table.specs.Rules.{ContentRules}
 use Rattle.table.proofs.Bodies.{first-is, body-within}
 use Rattle.schedule.specs.Sound.{sumDoneIn, heldRight}
 use Rattle.soundness.specs.Code.Checks.{Accepted, Placed, doneTo}

@@ -8,7 +8,7 @@ use borrow.Author.Needs.{needs}
 use denote.Ref.{now}
 use Rattle.table.specs.Sum.{sumTo}
 use Rattle.table.specs.Format.{Kind, kindOf, Table, kind, tableOf}
-use Rattle.table.specs.Rules.{allocOf, freeOf}
+use Rattle.table.specs.Checks.{allocOf, freeOf}
 use Rattle.table.specs.Code.Steps.{Read, ownAmount}
 use Rattle.table.proofs.Walks.{own-small}
 use Rattle.soundness.specs.Code.Checks.{Accepted}

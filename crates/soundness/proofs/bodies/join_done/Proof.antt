@@ -6,7 +6,7 @@ use mathlib.Core.Bool.{Bool, true}
 use borrow.Author.Needs.{needs}
 use denote.Ref.{now}
 use Rattle.table.specs.Format.{tableOf}
-use Rattle.table.specs.Rules.{owner, endOf}
+use Rattle.table.specs.Checks.{owner, endOf}
 use Rattle.table.proofs.Bodies.{owner-of-end, join-below}
 use Rattle.schedule.specs.Sound.{doneIn}
 use Rattle.soundness.specs.Code.Checks.{Accepted, doneAt, joinDone}

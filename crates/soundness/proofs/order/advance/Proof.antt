@@ -5,7 +5,7 @@ use mathlib.Core.List.{List}
 use native.Mathlib.Omega.{arith}
 use denote.Ref.{now}
 use Rattle.table.specs.Format.{tableOf}
-use Rattle.table.specs.Rules.{owner, endOf}
+use Rattle.table.specs.Checks.{owner, endOf}
 use Rattle.soundness.specs.Code.Checks.{Accepted}
 use Rattle.soundness.specs.Code.Order.{Walked}
 use Rattle.soundness.proofs.Lookups.{accepted-lawful}
