@@ -40,7 +40,7 @@ abbrev pub never : Run → Bool
 never r = false
 
 -- The checks of a turn on a sound record: 32 does not apply. To test at each turn the whole of a record, with its 36,868 bytes and 1,024 threads, takes seconds to compute. But a
--- beginning's record is sound and turns keep it so (`begin-sound` and `turn-steady`, proofs/Histories), hence `ranBy never turnedSound`, which the rows compute, is
+-- beginning's record is sound and turns keep it so (`begin-sound` and `turn-steady`, proofs/Runs/Histories), hence `ranBy never turnedSound`, which the rows compute, is
 -- `ranBy never turned` (`ran-turned`, proofs/CaseLaws).
 abbrev pub soundChecks : Run → ℕ → List Check
 soundChecks r w = record { number = 30; applies = λ i. noWorker r w } ∷ record { number = 31; applies = λ i. rootEnded r } ∷ []
