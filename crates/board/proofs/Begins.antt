@@ -10,7 +10,7 @@ use borrow.Author.Tests.{lt-ltb, le-ltb}
 use lib.ListN.{replicate, set}
 use Rattle.table.specs.Format.{tableOf}
 use Rattle.table.specs.Pass.{refusal, firstFound, tryAt, tryFrom, tryPass}
-use Rattle.table.specs.Rules.{passes}
+use Rattle.table.specs.Checks.{passes}
 use Rattle.table.specs.declared.Refusal.{Refusal}
 use Rattle.table.specs.declared.Found.{Found}
 use Rattle.table.specs.declared.Found.the-variants.{Nothing, At}

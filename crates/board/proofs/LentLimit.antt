@@ -30,10 +30,10 @@ use Rattle.schedule.specs.Runs.{listRun, roundsRun}
 use Rattle.schedule.specs.Firsts.{firsts}
 use Rattle.schedule.specs.Calls.{Call, turn, overList, inRounds, turnsIn, afterCall, afterCalls, rowOf, rowOfCalls, turnRow}
 use Rattle.schedule.specs.Values.{turnValues}
-use Rattle.schedule.proofs.Lists.{Below}
-use Rattle.schedule.proofs.Once.{Once}
-use Rattle.schedule.proofs.Links.{walk-linked}
-use Rattle.schedule.proofs.Histories.{calls-traced}
+use Rattle.schedule.proofs.Sequences.Lists.{Below}
+use Rattle.schedule.proofs.Linked.Once.{Once}
+use Rattle.schedule.proofs.Linked.Links.{walk-linked}
+use Rattle.schedule.proofs.Runs.Histories.{calls-traced}
 use Rattle.schedule.proofs.Limit.{MemoryLimit, memory-limit}
 use Rattle.schedule.proofs.ThreadLimit.{ThreadLimit, thread-limit}
 use Rattle.soundness.specs.Tested.{beginFound}

@@ -18,11 +18,12 @@ use Rattle.schedule.proofs.ThreadLimit.{ThreadLimit}
 use Rattle.lent.specs.Arrays.{arrays}
 use Rattle.schedule.specs.declared.Reply.the-variants.{Idle}
 use Rattle.lent.specs.Counted.{Left, turnOn}
-use Rattle.board.specs.Lent.{Memory, memory, workerIn, movedIn, memoryAfter, Answer, answer, lentBegin, hindrance, told, turnLeft, turnIn, lentTurn, runRow, overIn, whoIn, lentDrive, lentList, lentRounds}
+use Rattle.board.specs.Lent.{Memory, memory, workerIn, movedIn, memoryAfter, Answer, answer, lentBegin, hindrance, told, turnLeft, turnIn, lentTurn, runRow, overIn, lentDrive, lentList, lentRounds}
 use Rattle.board.specs.Stands.{runIn}
 use Rattle.schedule.specs.Answers.{finished, nothing}
 use Rattle.schedule.specs.Record.{maxWorkers}
 use Rattle.schedule.specs.Calls.{turn, overList, inRounds, afterCalls, rowOfCalls}
+use Rattle.schedule.specs.Runs.{workerAt}
 use Rattle.board.specs.Opened.{soundIn, blankIn, openedAs, lentOpen}
 use Rattle.board.specs.LentCalls.{LentCall, moving, opening, lentMove, lentCall, lentRowOf, lentAfter, lentRow, movesOf}
 use Rattle.board.proofs.Opens.{open-record}
@@ -230,13 +231,13 @@ either M false x y h k = k
 
 list-keeps : (s l : List ℕ) (M : Memory) → Keeps M (lentList s l M .memory)
 unfolding lentList
-list-keeps s l M = either M (eqb (movedIn M .turns) (2 ^ 64 - 1)) _ _ (refl, refl) (drive-keeps s (whoIn l false (getD (M .settings) 0 0)) (length l) 0 M)
+list-keeps s l M = either M (eqb (movedIn M .turns) (2 ^ 64 - 1)) _ _ (refl, refl) (drive-keeps s (workerAt l false (getD (M .settings) 0 0)) (length l) 0 M)
 
 rounds-keeps : (s : List ℕ) (limit : ℕ) (M : Memory) → Keeps M (lentRounds s limit M .memory)
 unfolding lentRounds
 rounds-keeps s limit M =
     either M (eqb (movedIn M .turns) (2 ^ 64 - 1)) _ _ (refl, refl)
-    (either M (eqb (getD (M .settings) 0 0) 0) _ _ (refl, refl) (drive-keeps s (whoIn [] true (getD (M .settings) 0 0)) limit 0 M))
+    (either M (eqb (getD (M .settings) 0 0) 0) _ _ (refl, refl) (drive-keeps s (workerAt [] true (getD (M .settings) 0 0)) limit 0 M))
 
 -- so an answer has the settings and parents that were lent
 with-lent : (M : Memory) (a : Answer) → Keeps M (a .memory)

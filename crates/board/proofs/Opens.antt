@@ -13,7 +13,7 @@ use lib.ListN.{length, getD, replicate}
 use Rattle.table.specs.Sum.{pick}
 use Rattle.table.specs.Format.{Table, tableOf}
 use Rattle.table.specs.Pass.{firstFound}
-use Rattle.table.specs.Rules.{passes}
+use Rattle.table.specs.Checks.{passes}
 use Rattle.schedule.specs.declared.Worker.{Worker}
 use Rattle.schedule.specs.declared.Run.{Run}
 use Rattle.schedule.specs.Links.{noThread, Links, LinkedAs}
@@ -22,13 +22,13 @@ use Rattle.schedule.specs.Record.{maxBytes, maxWorkers, blank, filled, bytesOf,
 use Rattle.schedule.specs.Begin.{beginPasses}
 use Rattle.schedule.specs.Sound.{allBelow, Steady, Sound, isNothing, sameList, commonSound, sound}
 use Rattle.schedule.specs.Turn.{isBlank, unsound}
-use Rattle.schedule.proofs.ActiveMoves.{list-once, list-small}
-use Rattle.schedule.proofs.Fills.{fill-linked}
-use Rattle.schedule.proofs.Links.{laid-linked}
-use Rattle.schedule.proofs.Lists.{filled-front}
+use Rattle.schedule.proofs.Linked.ActiveMoves.{list-once, list-small}
+use Rattle.schedule.proofs.Linked.Fills.{fill-linked}
+use Rattle.schedule.proofs.Linked.Links.{laid-linked}
+use Rattle.schedule.proofs.Sequences.Lists.{filled-front}
 use Rattle.schedule.proofs.Stores.{steady-lawful, steady-fits, steady-facts}
-use Rattle.schedule.proofs.Tests.{sound-exactly}
-use Rattle.schedule.proofs.Words.{sameList-exactly}
+use Rattle.schedule.proofs.Sound.Tests.{sound-exactly}
+use Rattle.schedule.proofs.Sequences.Words.{sameList-exactly}
 use Rattle.soundness.specs.Tested.{parentsIn, parentsIf, soundOn, blankOn}
 use Rattle.soundness.proofs.Chains.{last, first-of, never}
 use Rattle.soundness.proofs.Noting.{parents-right}

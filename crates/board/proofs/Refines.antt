@@ -26,16 +26,16 @@ use Rattle.schedule.specs.Turn.{rootEnded, passedIn, turned}
 use Rattle.schedule.specs.Runs.{moved}
 use Rattle.schedule.specs.Answers.{turningValues}
 use Rattle.schedule.specs.Values.{turnValues}
-use Rattle.schedule.proofs.Lists.{filled-front}
-use Rattle.schedule.proofs.Words.{allBelow-exactly}
-use Rattle.schedule.proofs.ActiveMoves.{list-once, list-small}
-use Rattle.schedule.proofs.Actives.{once-actives, below-actives}
-use Rattle.schedule.proofs.Links.{seek-walk, seek-linked}
-use Rattle.schedule.proofs.Searches.{firstReady-actives}
+use Rattle.schedule.proofs.Sequences.Lists.{filled-front}
+use Rattle.schedule.proofs.Sequences.Words.{allBelow-exactly}
+use Rattle.schedule.proofs.Linked.ActiveMoves.{list-once, list-small}
+use Rattle.schedule.proofs.Linked.Actives.{once-actives, below-actives}
+use Rattle.schedule.proofs.Linked.Links.{seek-walk, seek-linked}
+use Rattle.schedule.proofs.Linked.Searches.{firstReady-actives}
 use Rattle.schedule.proofs.Stores.{steady-lawful, steady-fits, steady-facts, moved-steady}
-use Rattle.schedule.proofs.Values.{turn-values}
+use Rattle.schedule.proofs.Runs.Values.{turn-values}
 use Rattle.lent.specs.Counted.{Left, turnOn, passedAlong}
-use Rattle.lent.specs.Packed.{packedOf}
+use Rattle.lent.specs.Code.Packed.{packedOf}
 use Rattle.lent.proofs.Reading.{own-table}
 use Rattle.lent.proofs.Packed.{Carries, Goes, turn-goes}
 use Rattle.lent.proofs.Answers.{steady-full, steady-room, refusedAs, turned-unsound, turned-none, turned-over, turned-taken, root-over, root-open, passed-along}

@@ -8,7 +8,7 @@ use lib.Dec.{ltb, eqb}
 use lib.ListN.{getD, set}
 use Rattle.table.specs.Sum.{pick}
 use Rattle.table.specs.Format.{Table, threadsOf, tableOf}
-use Rattle.table.specs.Steps.{Read}
+use Rattle.table.specs.Code.Steps.{Read}
 use Rattle.table.proofs.Tests.{no-way}
 use native.Mathlib.Omega.{arith}
 use native.Mathlib.Decide.{decLt}

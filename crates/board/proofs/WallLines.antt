@@ -15,7 +15,7 @@ use Rattle.schedule.specs.declared.Worker.{Worker}
 use Rattle.schedule.specs.declared.Run.{Run}
 use Rattle.schedule.specs.Turn.{unsound}
 use Rattle.schedule.proofs.Stores.{steady-fits}
-use Rattle.schedule.proofs.Tests.{sound-exactly}
+use Rattle.schedule.proofs.Sound.Tests.{sound-exactly}
 use Rattle.chart.specs.declared.Charted.{Charted}
 use Rattle.chart.specs.Chart.{Shown, mostTurns, shownOf, shown, lineTexts, lineText, tooMany, charted, chartedIn, chartedValues, lineValues}
 use Rattle.chart.proofs.Records.{line-filled, charted-unsound, charted-many, charted-written, charted-values}

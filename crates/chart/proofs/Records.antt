@@ -22,7 +22,7 @@ use Rattle.schedule.specs.Machine.{nobody}
 use Rattle.schedule.specs.Record.{blank}
 use Rattle.schedule.specs.Sound.{Steady}
 use Rattle.schedule.specs.Turn.{unsound}
-use Rattle.schedule.proofs.Tests.{sound-exactly}
+use Rattle.schedule.proofs.Sound.Tests.{sound-exactly}
 use Rattle.schedule.proofs.Stores.{steady-lawful, steady-facts}
 use Rattle.schedule.proofs.Soundness.{held-fits}
 use Rattle.soundness.proofs.Passed.{has-workers, no-workers}

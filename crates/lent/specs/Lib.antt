@@ -1,5 +1,4 @@
 pub mod Arrays
 pub mod Turn
 pub mod Counted
-pub mod Packed
-pub mod Steps
+pub mod Code

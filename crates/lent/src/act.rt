@@ -33,7 +33,7 @@ ghost use Rattle.schedule.specs.Machine.{nobody, ended, ready};
 ghost use Rattle.schedule.specs.Links.{linkLeft, unlink as unlinkOf};
 ghost use Rattle.lent.specs.Arrays.{arrays, links, tableFrom};
 ghost use Rattle.lent.specs.Turn.{outcome, waitsIn, actOn, actIn};
-ghost use Rattle.lent.specs.Steps.{At};
+ghost use Rattle.lent.specs.Code.Steps.{At};
 
 // The larger of two amounts.
 pub fn larger(a: u64, b: u64) -> u64

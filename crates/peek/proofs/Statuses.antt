@@ -12,7 +12,7 @@ use Rattle.schedule.specs.declared.Worker.{Worker}
 use Rattle.schedule.specs.Machine.{ready, held, ended}
 use Rattle.schedule.specs.Links.{noThread, seek}
 use Rattle.schedule.specs.Record.{maxThreads}
-use Rattle.schedule.proofs.Searches.{seek-ready}
+use Rattle.schedule.proofs.Linked.Searches.{seek-ready}
 use Rattle.lent.specs.declared.Totals.{Totals}
 use Rattle.lent.specs.Arrays.{Arrays, actionIn, amountIn, withStatuses}
 use Rattle.lent.specs.Turn.{Outcome, nextFits, amountFits, actOn, actIn, seatOf, seatIn}

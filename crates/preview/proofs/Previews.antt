@@ -18,7 +18,7 @@ use Rattle.schedule.specs.Turn.{turnChecks, stepRun, passedIn, turnedAs, turned
 use Rattle.schedule.specs.Answers.{Values, turningValues}
 use Rattle.schedule.specs.Values.{turnValues}
 use Rattle.schedule.specs.Shown.{previewValues}
-use Rattle.schedule.proofs.Values.{turn-values}
+use Rattle.schedule.proofs.Runs.Values.{turn-values}
 use Rattle.preview.specs.declared.Previewed.the-variants.{Would, Refused}
 use Rattle.preview.specs.Preview.{previewAs, previewOf, shownValues}
 

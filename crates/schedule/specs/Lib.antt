@@ -20,6 +20,6 @@ pub mod AmountCases
 pub mod Rule
 pub mod Actives
 pub mod Parents
-pub mod LinkMoves
 pub mod LinkCases
 pub mod RowList
+pub mod Code

@@ -12,7 +12,7 @@ use lib.Seq.{ext-getD, getD-take, getD-append-add, length-take-le}
 use borrow.Author.Tests.{lt-ltb, ltb-true, eqb-true, eq-eqb, ne-eqb}
 use Rattle.schedule.specs.Record.{filled}
 use Rattle.schedule.specs.Sound.{allBelow, sameList}
-use Rattle.schedule.proofs.Words.{allBelow-exactly, or-exactly, sameList-exactly}
+use Rattle.schedule.proofs.Sequences.Words.{allBelow-exactly, or-exactly, sameList-exactly}
 use Rattle.soundness.proofs.Every.{same-truth, fromOn, PassedFrom, from-more, from-fails, from-all}
 
 abbrev pub isZero : List ℕ → ℕ → Bool

@@ -8,7 +8,7 @@ use Rattle.schedule.specs.declared.Run.{Run}
 use Rattle.schedule.specs.Record.{blank, tableIn}
 use Rattle.schedule.specs.Sound.{Sound, sound}
 use Rattle.schedule.specs.Turn.{isBlank, unsound}
-use Rattle.schedule.proofs.Tests.{sound-exactly, blank-exactly}
+use Rattle.schedule.proofs.Sound.Tests.{sound-exactly, blank-exactly}
 use Rattle.schedule.proofs.Stores.{steady-fits}
 use Rattle.soundness.specs.declared.Tested.{Tested}
 use Rattle.schedule.specs.Parents.{Parents}

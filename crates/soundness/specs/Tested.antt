@@ -7,7 +7,7 @@ use lib.Dec.{ltb, eqb}
 use Rattle.table.specs.Sum.{pick}
 use Rattle.table.specs.Format.{Table, tableOf}
 use Rattle.table.specs.Pass.{firstFound}
-use Rattle.table.specs.Rules.{passes}
+use Rattle.table.specs.Checks.{passes}
 use Rattle.table.specs.declared.Found.{Found}
 use Rattle.schedule.specs.declared.Worker.{Worker}
 use Rattle.schedule.specs.declared.Run.{Run}
@@ -32,7 +32,7 @@ parentsIf q T = pick q (parentsIn T) (replicate maxThreads 0)
 abbrev pub nextIf : Bool → Table → List ℕ
 nextIf q T = pick q (filled maxThreads (firsts (T .first) 0 (T .threads))) (replicate maxThreads 0)
 
--- what the checks of a beginning find: "the table's own, then 20, 21, 22"
+-- what the checks of a beginning find: the table's own, then 20, 21, 22
 abbrev pub beginFound : List ℕ → ℕ → ℕ → Found
 beginFound s p K = firstFound (passes s ++ beginPasses (tableOf s) p K)
 

@@ -12,7 +12,7 @@ ghost use lib.ListN.{length, getD};
 ghost use Rattle.schedule.specs.Machine.{nobody};
 ghost use Rattle.schedule.specs.Sound.{allBelow};
 ghost use Rattle.schedule.specs.Turn.{isNobody, isBlank};
-ghost use Rattle.soundness.specs.Checks.{zeroArrays};
+ghost use Rattle.soundness.specs.Code.Checks.{zeroArrays};
 ghost use Rattle.soundness.specs.Tested.{blankOn};
 
 // The threads' numbers are all 0.

@@ -20,10 +20,10 @@ ghost use Prim.Native.Nat.{_≤_};
 ghost use lib.ListN.{length, replicate};
 ghost use Rattle.table.specs.Format.{tableOf};
 ghost use Rattle.table.specs.Pass.{firstFound};
-ghost use Rattle.table.specs.Rules.{passes};
+ghost use Rattle.table.specs.Checks.{passes};
 ghost use Rattle.schedule.specs.Sound.{isNothing, commonSound};
 ghost use Rattle.schedule.specs.Parents.{Parents};
-ghost use Rattle.soundness.specs.Checks.{Accepted, Forks, threadsSound, holdersSound};
+ghost use Rattle.soundness.specs.Code.Checks.{Accepted, Forks, threadsSound, holdersSound};
 ghost use Rattle.soundness.specs.Tested.{parentsIf};
 
 // Next actions, the order of what is done, statuses, waiting threads, threads not in use.

@@ -8,12 +8,12 @@ ghost use Prim.Native.Nat.{ℕ, _+_, _≤_, _<_};
 ghost use lib.ListN.{length, getD, take};
 ghost use lib.Dec.{ltb};
 ghost use Rattle.table.specs.Format.{tableOf};
-ghost use Rattle.table.specs.Rules.{owner, endOf};
+ghost use Rattle.table.specs.Checks.{owner, endOf};
 ghost use Rattle.table.specs.Serial.{serial};
-ghost use Rattle.table.specs.Steps.{Read};
+ghost use Rattle.table.specs.Code.Steps.{Read};
 ghost use Rattle.schedule.specs.Sound.{allIn, inSerialOrder, rises};
-ghost use Rattle.soundness.specs.Checks.{Accepted, Placed, Lengths, Numbers};
-ghost use Rattle.soundness.specs.Order.{Inside, Numbering, Walked};
+ghost use Rattle.soundness.specs.Code.Checks.{Accepted, Placed, Lengths, Numbers};
+ghost use Rattle.soundness.specs.Code.Order.{Inside, Numbering, Walked};
 
 // How many actions come with action a: itself, and those of the child that it forks.
 fn span(table: &[u8], n: usize, a: usize, lengths: &[u16; 1024]) -> usize

@@ -10,8 +10,8 @@ ghost use Prim.Native.Nat.{_+_, _<_};
 ghost use lib.ListN.{length, replicate};
 ghost use Rattle.table.specs.Format.{tableOf};
 ghost use Rattle.schedule.specs.Sound.{doneIn, sharesIn, sameList};
-ghost use Rattle.soundness.specs.Checks.{Accepted, threadsSound};
-ghost use Rattle.soundness.specs.Balancing.{Balances, Balancing, Balanced, Cleared};
+ghost use Rattle.soundness.specs.Code.Checks.{Accepted, threadsSound};
+ghost use Rattle.soundness.specs.Code.Balancing.{Balances, Balancing, Balanced, Cleared};
 
 // What thread t's actions come to past action a, from what those below it come to.
 fn balance_after(

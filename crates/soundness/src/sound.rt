@@ -15,7 +15,7 @@ ghost use lib.ListN.{length, take, replicate};
 ghost use Rattle.table.specs.Format.{tableOf};
 ghost use Rattle.schedule.specs.Record.{tableIn};
 ghost use Rattle.schedule.specs.Sound.{listed as listedOf, sound as soundOf};
-ghost use Rattle.soundness.specs.Checks.{Accepted, Placed, linksSound, copySound};
+ghost use Rattle.soundness.specs.Code.Checks.{Accepted, Placed, linksSound, copySound};
 ghost use Rattle.soundness.specs.Tested.{parentsIn, parentsIf, soundOn};
 
 // The clauses on the list; the numbers of next actions are kept in `numbers`.

@@ -13,8 +13,8 @@ ghost use mathlib.Core.Path.{_≡_};
 ghost use Prim.Native.Nat.{_<_};
 ghost use Rattle.table.specs.Format.{kindOf, tableOf, join};
 ghost use Rattle.table.specs.Pass.{tryPass};
-ghost use Rattle.table.specs.Rules.{balancePass};
-ghost use Rattle.table.specs.Steps.{Nested, WalkReady, childAmount, leastNext, balanceOf};
+ghost use Rattle.table.specs.Checks.{balancePass};
+ghost use Rattle.table.specs.Code.Steps.{Nested, WalkReady, childAmount, leastNext, balanceOf};
 
 // What a body draws and gives back, and its first action after which it has given back more (its count of actions, if there is none).
 pub(crate) struct Balance {

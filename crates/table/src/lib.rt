@@ -18,8 +18,8 @@ ghost use mathlib.Core.Path.{_≡_};
 ghost use lib.ListN.{replicate};
 ghost use Rattle.table.specs.Format.{tableOf};
 ghost use Rattle.table.specs.Pass.{firstFound};
-ghost use Rattle.table.specs.Rules.{passes, shapePasses};
-ghost use Rattle.table.specs.Steps.{Headed};
+ghost use Rattle.table.specs.Checks.{passes, shapePasses};
+ghost use Rattle.table.specs.Code.Steps.{Headed};
 
 // What an accepted table tells: threads n, actions m, serial peak S1, depth D and nested thread levels N.
 pub struct Facts {

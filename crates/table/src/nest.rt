@@ -11,8 +11,8 @@ ghost use mathlib.Core.Bool.{false};
 ghost use lib.ListN.{getD, replicate};
 ghost use Rattle.table.specs.Format.{kindOf, tableOf};
 ghost use Rattle.table.specs.Pass.{tryPass, tryFrom, orElse};
-ghost use Rattle.table.specs.Rules.{secondPass, forkedPass, forkedBelow};
-ghost use Rattle.table.specs.Steps.{Formed, NestReady, NestDone, unmarked};
+ghost use Rattle.table.specs.Checks.{secondPass, forkedPass, forkedBelow};
+ghost use Rattle.table.specs.Code.Steps.{Formed, NestReady, NestDone, unmarked};
 
 // The number of the check that an action breaks, 0 if none; and where the stack of open children then begins.
 struct Nest {

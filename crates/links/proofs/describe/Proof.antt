@@ -5,7 +5,7 @@ use lib.ListN.{length}
 use borrow.Author.Needs.{needs}
 use Rattle.schedule.specs.Links.{noThread}
 use Rattle.schedule.specs.Sound.{sameList}
-use Rattle.schedule.proofs.Lists.{firsts-length}
+use Rattle.schedule.proofs.Sequences.Lists.{firsts-length}
 use Rattle.links.proofs.Comparing.{both, neither}
 use Rattle.links.proofs.describe.Statement.{statement}
 use Rattle.links.proofs.describe.Tie as tie

@@ -7,8 +7,8 @@ use denote.Ref.{now}
 use lib.ListN.{replicate}
 use Rattle.table.specs.Format.{tableOf}
 use Rattle.table.specs.Pass.{firstFound}
-use Rattle.table.specs.Rules.{passes}
-use Rattle.table.specs.Accepted.{Rules}
+use Rattle.table.specs.Checks.{passes}
+use Rattle.table.specs.Rules.{Rules}
 use Rattle.table.specs.declared.Found.{Found}
 use Rattle.table.specs.declared.Found.the-variants.{Nothing, At}
 use Rattle.table.specs.declared.Refusal.{Refusal}
@@ -17,7 +17,7 @@ use Rattle.schedule.specs.Begin.{beginPasses}
 use Rattle.schedule.specs.Firsts.{firsts}
 use Rattle.schedule.specs.Record.{filled}
 use Rattle.schedule.specs.Sound.{isNothing}
-use Rattle.soundness.specs.Checks.{Accepted}
+use Rattle.soundness.specs.Code.Checks.{Accepted}
 use Rattle.soundness.specs.Tested.{parentsIn, parentsIf, nextIf, beginFound}
 use Rattle.soundness.proofs.accept_in.Statement.{statement}
 use Rattle.soundness.proofs.accept_in.Tie as tie

@@ -6,9 +6,9 @@ use borrow.Author.Needs.{needs}
 use denote.Ref.{now}
 use Rattle.table.specs.Format.{tableOf}
 use Rattle.table.specs.Pass.{tryPass, firstFound}
-use Rattle.table.specs.Rules.{headPass, balancePass, passes, shapePasses}
-use Rattle.table.specs.Accepted.{HeadRules}
-use Rattle.table.specs.Steps.{Headed, Nested}
+use Rattle.table.specs.Checks.{headPass, balancePass, passes, shapePasses}
+use Rattle.table.specs.Rules.{HeadRules}
+use Rattle.table.specs.Code.Steps.{Headed, Nested}
 use Rattle.table.specs.declared.Refusal.{Refusal}
 use Rattle.table.specs.declared.Found.the-variants.{Nothing, At}
 use Rattle.table.proofs.Trying.{orElse-last}

@@ -5,8 +5,8 @@ use mathlib.Core.List.{List}
 use borrow.Author.Needs.{needs}
 use Rattle.table.specs.Format.{Table, tableOf}
 use Rattle.table.specs.Pass.{tryPass, firstFound, orElse}
-use Rattle.table.specs.Rules.{entriesPass, totalPass, firstPass, secondPass, forkedPass, shapePasses}
-use Rattle.table.specs.Steps.{Headed, Laid, Formed}
+use Rattle.table.specs.Checks.{entriesPass, totalPass, firstPass, secondPass, forkedPass, shapePasses}
+use Rattle.table.specs.Code.Steps.{Headed, Laid, Formed}
 use Rattle.table.specs.declared.Refusal.{Refusal}
 use Rattle.table.specs.declared.Found.{Found}
 use Rattle.table.specs.declared.Found.the-variants.{Nothing, At}

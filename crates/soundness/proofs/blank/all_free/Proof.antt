@@ -13,8 +13,8 @@ use Rattle.schedule.specs.declared.Worker.{Worker}
 use Rattle.schedule.specs.Machine.{nobody}
 use Rattle.schedule.specs.Sound.{allBelow, workerRight}
 use Rattle.schedule.specs.Turn.{isNobody}
-use Rattle.schedule.proofs.Words.{not-both}
-use Rattle.schedule.proofs.Clauses.{nobody-exactly, workerRight-exactly}
+use Rattle.schedule.proofs.Sequences.Words.{not-both}
+use Rattle.schedule.proofs.Sound.Clauses.{nobody-exactly, workerRight-exactly}
 use Rattle.soundness.proofs.Every.{same-truth, all-cong}
 use Rattle.soundness.proofs.blank.all_free.Statement.{statement}
 use Rattle.soundness.proofs.blank.all_free.Tie as tie

@@ -12,7 +12,7 @@ use Rattle.schedule.specs.Machine.{nobody}
 use Rattle.schedule.specs.Links.{Links}
 use Rattle.schedule.specs.Sound.{allBelow, sameList}
 use Rattle.schedule.specs.Turn.{isNobody}
-use Rattle.soundness.specs.Checks.{zeroArrays}
+use Rattle.soundness.specs.Code.Checks.{zeroArrays}
 use Rattle.soundness.specs.Tested.{blankOn}
 use Rattle.soundness.proofs.Chains.{off, on, cut, pass}
 use Rattle.soundness.proofs.blank.blank_in.Statement.{statement}

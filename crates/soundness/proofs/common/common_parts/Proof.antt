@@ -8,14 +8,14 @@ use denote.Ref.{now}
 use lib.ListN.{replicate}
 use Rattle.table.specs.Format.{tableOf}
 use Rattle.table.specs.Pass.{firstFound}
-use Rattle.table.specs.Rules.{passes}
-use Rattle.table.specs.Accepted.{Rules}
+use Rattle.table.specs.Checks.{passes}
+use Rattle.table.specs.Rules.{Rules}
 use Rattle.table.specs.declared.Refusal.{Refusal}
 use Rattle.table.specs.declared.Found.the-variants.{At}
 use Rattle.table.proofs.Passes.{passes-rules}
 use Rattle.schedule.specs.declared.Worker.{Worker}
 use Rattle.schedule.specs.Sound.{isNothing, commonSound}
-use Rattle.soundness.specs.Checks.{Accepted}
+use Rattle.soundness.specs.Code.Checks.{Accepted}
 use Rattle.soundness.specs.Tested.{parentsIn, parentsIf}
 use Rattle.soundness.proofs.Noting.{parents-right}
 use Rattle.soundness.proofs.common.common_parts.Statement.{statement}

@@ -1,6 +1,6 @@
 -- `soundness::common::threads_sound` meets its contract: the tests are the clauses, in their order; where the last one is asked, the sizes are known.
 use denote.Ref.{now}
-use Rattle.soundness.specs.Checks.{Placed}
+use Rattle.soundness.specs.Code.Checks.{Placed}
 use Rattle.soundness.proofs.Chains.{off, on, cut, pass, never}
 use borrow.Author.Needs.{needs}
 use Rattle.soundness.proofs.common.threads_sound.Statement.{statement}

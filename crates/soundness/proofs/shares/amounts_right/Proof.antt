@@ -6,8 +6,8 @@ use denote.Ref.{now}
 use lib.ListN.{length}
 use Rattle.table.specs.Format.{tableOf}
 use Rattle.schedule.specs.Sound.{sharesIn, sameList}
-use Rattle.schedule.proofs.Sharing.{shares-size}
-use Rattle.soundness.specs.Checks.{Accepted}
+use Rattle.schedule.proofs.Sound.Sharing.{shares-size}
+use Rattle.soundness.specs.Code.Checks.{Accepted}
 use Rattle.soundness.proofs.Lookups.{accepted-lawful}
 use Rattle.soundness.proofs.shares.amounts_right.Statement.{statement}
 use Rattle.soundness.proofs.shares.amounts_right.Tie as tie

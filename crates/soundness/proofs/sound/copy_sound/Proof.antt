@@ -12,7 +12,7 @@ use lib.Dec.{eqb}
 use Rattle.schedule.specs.declared.Run.{Run}
 use Rattle.schedule.specs.Record.{filled, bytesOf}
 use Rattle.schedule.specs.Sound.{sameList}
-use Rattle.soundness.specs.Checks.{copySound}
+use Rattle.soundness.specs.Code.Checks.{copySound}
 use Rattle.soundness.proofs.Chains.{cut, pass, never}
 use borrow.Author.Needs.{needs}
 use Rattle.soundness.proofs.sound.copy_sound.Statement.{statement}

@@ -11,7 +11,7 @@ use lib.Dec.{leb, eqb}
 use Rattle.table.specs.Format.{Table, tableOf}
 use Rattle.schedule.specs.Links.{Links, walk, laid, firstOf}
 use Rattle.schedule.specs.Sound.{listed, sameLinks, sameList}
-use Rattle.soundness.specs.Checks.{linksSound}
+use Rattle.soundness.specs.Code.Checks.{linksSound}
 use Rattle.soundness.proofs.Chains.{off, on, cut, pass, skip, last}
 use Rattle.soundness.proofs.Reading.{row-fits, row-size, row-front, leftmost-right, leftmost-wrong}
 use Rattle.soundness.proofs.sound.links_sound.Statement.{statement}

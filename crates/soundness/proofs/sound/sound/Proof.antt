@@ -12,7 +12,7 @@ use Rattle.schedule.specs.declared.Run.{Run}
 use Rattle.schedule.specs.Record.{bytesOf, tableIn, linksIn}
 use Rattle.schedule.specs.Sound.{sound}
 use Rattle.soundness.specs.declared.Tested.{Tested}
-use Rattle.soundness.specs.Checks.{copySound}
+use Rattle.soundness.specs.Code.Checks.{copySound}
 use Rattle.soundness.specs.Tested.{parentsIf, soundOn}
 use Rattle.soundness.proofs.Chains.{off, on, skip, last}
 use Rattle.soundness.proofs.OnParts.{sound-is}

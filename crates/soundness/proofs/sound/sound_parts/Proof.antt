@@ -9,16 +9,16 @@ use borrow.Author.Tests.{lt-ltb, le-ltb}
 use lib.Dec.{ltb}
 use Rattle.table.specs.Format.{threadsOf, tableOf}
 use Rattle.table.specs.Pass.{firstFound}
-use Rattle.table.specs.Rules.{passes}
+use Rattle.table.specs.Checks.{passes}
 use Rattle.table.specs.declared.Found.the-variants.{Nothing}
 use Rattle.table.proofs.Passes.{passes-rules}
 use Rattle.schedule.specs.declared.Worker.{Worker}
 use Rattle.schedule.specs.Links.{Links, listOf, laid}
 use Rattle.schedule.specs.Begin.{beginPasses}
 use Rattle.schedule.specs.Sound.{Common, isNothing, nextInBody, commonSound, listed, sameLinks}
-use Rattle.schedule.proofs.Words.{allBelow-exactly, isNothing-exactly}
-use Rattle.schedule.proofs.Tests.{common-exactly}
-use Rattle.soundness.specs.Checks.{Accepted, Placed, linksSound}
+use Rattle.schedule.proofs.Sequences.Words.{allBelow-exactly, isNothing-exactly}
+use Rattle.schedule.proofs.Sound.Tests.{common-exactly}
+use Rattle.soundness.specs.Code.Checks.{Accepted, Placed, linksSound}
 use Rattle.soundness.specs.Tested.{parentsIn, parentsIf, soundOn}
 use Rattle.soundness.proofs.Chains.{off, on, cut, skip, last, pass, first-of, second-of, never}
 use Rattle.soundness.proofs.sound.sound_parts.Statement.{statement}

@@ -11,9 +11,9 @@ use lib.ListN.{length, getD, set, drop}
 use Rattle.table.specs.Sum.{pick, sumTo}
 use Rattle.table.specs.Format.{Kind, alloc, free, join, kind, bodiesFrom, bodyOf, tableOf, firstOf, countOf}
 use Rattle.table.specs.Pass.{tryFrom, tryPass, orElse, refusal}
-use Rattle.table.specs.Rules.{countsBelow, allocOf, freeOf, whole, partOf, balance, balanceBelow0, balancePass}
-use Rattle.table.specs.Accepted.{ContentRules, BodyRules}
-use Rattle.table.specs.Steps.{Nested, Filled, WalkReady, ownAmount, amountAt, overdrawn, balanceOf}
+use Rattle.table.specs.Checks.{countsBelow, allocOf, freeOf, whole, partOf, balance, balanceBelow0, balancePass}
+use Rattle.table.specs.Rules.{ContentRules, BodyRules}
+use Rattle.table.specs.Code.Steps.{Nested, Filled, WalkReady, ownAmount, amountAt, overdrawn, balanceOf}
 use Rattle.table.specs.declared.balance.Balance.{Balance}
 use Rattle.table.specs.declared.Found.{Found}
 use Rattle.table.specs.declared.Found.the-variants.{Nothing, At}

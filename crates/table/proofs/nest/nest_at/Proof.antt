@@ -10,7 +10,7 @@ use borrow.Author.Tests.{eq-eqb, ne-eqb}
 use lib.ListN.{length, getD, set, drop, length-set, drop-of-length-le}
 use lib.Seq.{drop-cons, drop-set-lt, getD-set-same}
 use Rattle.table.specs.Format.{Kind, kindOf}
-use Rattle.table.specs.Steps.{nest, nestAt, NestReady, NestDone}
+use Rattle.table.specs.Code.Steps.{nest, nestAt, NestReady, NestDone}
 use Rattle.table.proofs.nest.nest_at.Statement.{statement}
 use Rattle.table.proofs.nest.nest_at.Tie as tie
 

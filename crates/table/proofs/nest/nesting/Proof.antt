@@ -10,8 +10,8 @@ use denote.Ref.{now}
 use lib.ListN.{getD}
 use Rattle.table.specs.Format.{tableOf}
 use Rattle.table.specs.Pass.{tryFrom, tryPass, orElse}
-use Rattle.table.specs.Rules.{forkedBelow, neverForked, secondPass, forkedPass}
-use Rattle.table.specs.Steps.{Formed, unmarked}
+use Rattle.table.specs.Checks.{forkedBelow, neverForked, secondPass, forkedPass}
+use Rattle.table.specs.Code.Steps.{Formed, unmarked}
 use Rattle.table.specs.declared.Refusal.{Refusal}
 use Rattle.table.specs.declared.Found.the-variants.{Nothing, At}
 use Rattle.table.proofs.Sizes.{sizes}

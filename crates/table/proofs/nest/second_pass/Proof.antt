@@ -9,8 +9,8 @@ use borrow.Author.Needs.{needs}
 use lib.ListN.{length, getD, replicate, drop, length-drop, length-replicate, drop-of-length-le}
 use Rattle.table.specs.Format.{fork, kindOf, tableOf, kind, codeAt, argumentAt, actionsOf, bodiesFrom, bodiesOf}
 use Rattle.table.specs.Pass.{tryFrom, tryPass, refusal}
-use Rattle.table.specs.Rules.{secondPass, forkedBelow}
-use Rattle.table.specs.Steps.{Formed, nest, nestAt, NestReady, NestDone}
+use Rattle.table.specs.Checks.{secondPass, forkedBelow}
+use Rattle.table.specs.Code.Steps.{Formed, nest, nestAt, NestReady, NestDone}
 use Rattle.table.specs.declared.Found.{Found}
 use Rattle.table.specs.declared.Found.the-variants.{Nothing, At}
 use Rattle.table.proofs.Tests.{no-way}
