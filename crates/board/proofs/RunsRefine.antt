@@ -1,25 +1,22 @@
 -- On memory in which a record stands, the runs are document 01's: number, row and record are those of the record's run, and the record after it stands in the memory left.
-use mathlib.Core.Path.{_≡_, refl, sym, ap, subst, _∙_}
-use Prim.Native.Nat.{ℕ, zero, suc, _-_, _^_, _%_, _≤_, _<_}
+use mathlib.Core.Path.{_≡_, refl, subst}
+use Prim.Native.Nat.{ℕ, zero, suc, _-_, _^_, _%_}
 use native.Mathlib.Omega.{arith}
 use mathlib.Core.List.{List, [], _∷_}
 use mathlib.Core.Bool.{Bool, true, false}
-use borrow.Author.Tests.{ltb-true, ltb-false, eqb-true, eqb-false, eq-eqb, ne-eqb}
+use borrow.Author.Tests.{eqb-true, eqb-false, ne-eqb}
 use lib.Dec.{ltb, eqb}
 use lib.ListN.{length, getD}
 use Rattle.table.specs.Sum.{pick}
-use Rattle.table.specs.Pass.{refusal}
 use Rattle.schedule.specs.declared.Run.{Run}
 use Rattle.schedule.specs.declared.Ran.{Ran}
-use Rattle.schedule.specs.declared.Report.{Report}
-use Rattle.schedule.specs.declared.Report.the-variants.{Finished, Spent, Refused}
-use Rattle.schedule.specs.Machine.{ended}
+use Rattle.schedule.specs.declared.Report.the-variants.{Finished, Spent}
 use Rattle.schedule.specs.Turn.{unsound, rootEnded, noWorker}
-use Rattle.schedule.specs.Runs.{ran, moved, drive, listRun, roundsRun, workerAt}
-use Rattle.schedule.specs.Answers.{Values, reportValues, finished, spent, nothing}
+use Rattle.schedule.specs.Runs.{ran, drive, listRun, roundsRun, workerAt}
+use Rattle.schedule.specs.Answers.{Values, reportValues, finished, spent}
 use Rattle.schedule.proofs.Stores.{steady-fits}
-use Rattle.lent.proofs.Answers.{steady-full, steady-room, root-open}
-use Rattle.board.specs.Lent.{Memory, movedIn, saidCode, noRow, Answer, answer, hindrance, Told, turnIn, lentTurn, runRow, overIn, lentDrive, lentList, lentRounds}
+use Rattle.lent.proofs.Answers.{steady-full, steady-room}
+use Rattle.board.specs.Lent.{Memory, movedIn, saidCode, Answer, answer, hindrance, turnIn, runRow, overIn, lentDrive, lentList, lentRounds}
 use Rattle.board.specs.Stands.{runIn, Stands}
 use Rattle.board.proofs.Refines.{taken-so}
 

@@ -18,13 +18,12 @@ use Rattle.schedule.specs.Record.{stateOf, tableIn}
 use Rattle.schedule.specs.Sound.{Steady, member, countBelow, isDone, ofDone, share, numberOf}
 use Rattle.schedule.specs.Turn.{rootEnded}
 use Rattle.schedule.proofs.Sound.Facts.{Facts}
-use Rattle.schedule.proofs.Sequences.Words.{never-true, member-exactly}
 use Rattle.schedule.proofs.Sound.Done.{unborn-first as unborn-next}
 use Rattle.schedule.proofs.Sound.Shares.{held-shares, free-held}
 use Rattle.schedule.proofs.Stores.{steady-lawful, steady-fits, steady-facts}
 use Rattle.schedule.proofs.Sound.Leftmost.{leftmost-enabled}
 use Rattle.schedule.proofs.Sequences.Totals.{sumTo-bound}
-use Rattle.schedule.proofs.Sequences.CountBelow.{count-bound, member-more, ascending-count, set-ones}
+use Rattle.schedule.proofs.Sequences.CountBelow.{count-bound, ascending-count, set-ones}
 
 module _ (r : Run) (h : Steady r) where
   -- "An unborn thread's next action is its first; an ended one's remains its end."

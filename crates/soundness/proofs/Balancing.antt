@@ -1,21 +1,21 @@
 -- The balances so far, from the last thread to the first: what the clauses on the threads give, each action's step, and the array with one thread more.
 use mathlib.Core.Path.{_≡_, refl, sym, ap, _∙_}
-use Prim.Native.Nat.{ℕ, suc, _+_, _-_, _*_, _≤_, _<_}
+use Prim.Native.Nat.{ℕ, suc, _+_, _-_, _≤_, _<_}
 use mathlib.Core.List.{List}
 use mathlib.Core.Bool.{Bool, true, false}
 use native.Mathlib.Decide.{ℕ-discrete}
 use native.Mathlib.Omega.{arith}
 use borrow.Author.Tests.{eqb-true, ltb-true, lt-ltb, ne-eqb}
-use lib.Dec.{ltb, eqb}
-use lib.ListN.{length, getD, set, replicate, length-set}
+use lib.Dec.{eqb}
+use lib.ListN.{getD, set, replicate, length-set}
 use lib.Seq.{getD-set-same, getD-set-other}
 use Rattle.table.specs.Sum.{pick, sumTo}
 use Rattle.table.specs.Format.{alloc, free, join, codeOf, is, kindOf, Table, kind, tableOf}
 use Rattle.table.specs.Checks.{owner, endOf, allocOf, freeOf}
 use Rattle.table.proofs.Walks.{is-code}
-use Rattle.table.proofs.Bodies.{after-end, end-within, owner-is, join-above, join-below, body-within}
+use Rattle.table.proofs.Bodies.{after-end, owner-is, join-above, join-below, body-within}
 use Rattle.schedule.specs.Machine.{ended}
-use Rattle.schedule.specs.Sound.{allBelow, doneIn, nextInBody, inOrder, statusFollows, balanceTo, progressIn}
+use Rattle.schedule.specs.Sound.{allBelow, doneIn, nextInBody, inOrder, balanceTo, progressIn}
 use Rattle.schedule.proofs.Tables.Lawful.{Lawful}
 use Rattle.schedule.proofs.Sequences.Lists.{getD-alike}
 use Rattle.schedule.proofs.Sequences.Words.{allBelow-exactly}

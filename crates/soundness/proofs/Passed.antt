@@ -1,6 +1,6 @@
 -- What stands behind check 32, and what its test says of a record.
 use mathlib.Core.Path.{_≡_, refl, sym, ap, _∙_}
-use Prim.Native.Nat.{ℕ, _<_}
+use Prim.Native.Nat.{_<_}
 use native.Mathlib.Omega.{arith}
 use mathlib.Core.Bool.{Bool, true, false, not}
 use borrow.Author.Tests.{not-false}

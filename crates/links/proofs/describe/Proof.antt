@@ -1,6 +1,5 @@
 -- `links::describe` meets its contract: the links laid are those of the row, and 1,024 long as the given ones are.
 use mathlib.Core.Path.{_≡_, ap, sym, _∙_}
-use mathlib.Core.Bool.{Bool, true, false, _&&_}
 use lib.ListN.{length}
 use borrow.Author.Needs.{needs}
 use Rattle.schedule.specs.Links.{noThread}

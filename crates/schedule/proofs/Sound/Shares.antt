@@ -7,7 +7,7 @@ use lib.Dec.{ltb, eqb}
 use native.Mathlib.Omega.{arith}
 use native.Mathlib.Decide.{ℕ-discrete, decLt}
 use borrow.Author.Tests.{lt-ltb, le-ltb, eqb-true, eq-eqb, ne-eqb}
-use Rattle.table.specs.Sum.{pick, sumTo, anyBelow}
+use Rattle.table.specs.Sum.{pick, sumTo}
 use Rattle.table.specs.Format.{free, join, is, Table, kind}
 use Rattle.table.specs.Checks.{owner, endOf, countsBelow, allocOf, freeOf, withChild, whole, partOf}
 use Rattle.table.specs.Level.{dependsOn}
