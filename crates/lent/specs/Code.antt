@@ -1,3 +1,3 @@
--- promises between the parts of the code; `packedOf` is what readers are told of arrays
+-- promises between the parts of the code; laws for readers speak of `packedOf` too
 pub mod Packed
 pub mod Steps
