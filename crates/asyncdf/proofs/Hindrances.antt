@@ -20,7 +20,7 @@ use Rattle.chart.specs.Chart.{mostTurns}
 use Rattle.chart.proofs.Records.{many, charted-many}
 use Rattle.lent.specs.declared.Moved.{Moved}
 use Rattle.lent.specs.Arrays.{Arrays}
-use Rattle.lent.specs.Code.Packed.{packedOf}
+use Rattle.lent.specs.Packed.{packedOf}
 use Rattle.asyncdf.specs.Code.Drives.{Moving}
 use Rattle.asyncdf.specs.Code.Sheets.{turnsTexts, hindered}
 use Rattle.lent.proofs.Answers.{steady-full, steady-room, turned-unsound, turned-none, turned-taken}

@@ -30,7 +30,7 @@ use Rattle.schedule.specs.Parents.{Parents}
 use Rattle.lent.specs.declared.Moved.{Moved}
 use Rattle.lent.specs.declared.Taken.{Taken}
 use Rattle.lent.specs.Arrays.{Arrays, arrays, links, tableFrom}
-use Rattle.lent.specs.Code.Packed.{movedOf, packedOf}
+use Rattle.lent.specs.Packed.{movedOf, packedOf}
 use Rattle.asyncdf.specs.Code.Drives.{Moving}
 use Rattle.lent.specs.Counted.{taken, turnOn}
 use Rattle.lent.proofs.Linking.{linked-as}

@@ -25,7 +25,7 @@ ghost use Rattle.schedule.specs.Sound.{Steady};
 ghost use Rattle.schedule.specs.Parents.{Parents};
 ghost use Rattle.schedule.specs.Runs.{workerAt};
 ghost use Rattle.lent.specs.Arrays.{arrays};
-ghost use Rattle.lent.specs.Code.Packed.{movedOf, packedOf};
+ghost use Rattle.lent.specs.Packed.{movedOf, packedOf};
 ghost use Rattle.asyncdf.specs.Code.Drives.{Sequence, Moving, Stands, Driven};
 
 // The root's last action.

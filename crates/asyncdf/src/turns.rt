@@ -30,7 +30,7 @@ ghost use Rattle.lines.specs.Puts.{Puts};
 ghost use Rattle.chart.specs.Chart.{shownOf, mostTurns};
 ghost use Rattle.schedule.specs.Parents.{Parents};
 ghost use Rattle.lent.specs.Arrays.{arrays};
-ghost use Rattle.lent.specs.Code.Packed.{packedOf};
+ghost use Rattle.lent.specs.Packed.{packedOf};
 ghost use Rattle.asyncdf.specs.Code.Drives.{Moving, Stands};
 ghost use Rattle.asyncdf.specs.Code.Sheets.{turnsTexts, widest, afterTexts, afterSize, overTexts, hindered};
 

@@ -35,7 +35,7 @@ use Rattle.schedule.proofs.Linked.Searches.{firstReady-actives}
 use Rattle.schedule.proofs.Stores.{steady-lawful, steady-fits, steady-facts, moved-steady}
 use Rattle.schedule.proofs.Runs.Values.{turn-values}
 use Rattle.lent.specs.Counted.{Left, turnOn, passedAlong}
-use Rattle.lent.specs.Code.Packed.{packedOf}
+use Rattle.lent.specs.Packed.{packedOf}
 use Rattle.lent.proofs.Reading.{own-table}
 use Rattle.lent.proofs.Packed.{Carries, Goes, turn-goes}
 use Rattle.lent.proofs.Answers.{steady-full, steady-room, refusedAs, turned-unsound, turned-none, turned-over, turned-taken, root-over, root-open, passed-along}

@@ -15,7 +15,7 @@ use Rattle.schedule.specs.Parents.{Parents}
 use Rattle.schedule.specs.Sound.{allBelow, Steady}
 use Rattle.schedule.specs.Answers.{Values}
 use Rattle.lent.specs.Arrays.{secondOf, listedIn}
-use Rattle.lent.specs.Code.Packed.{packedOf}
+use Rattle.lent.specs.Packed.{packedOf}
 use Rattle.board.specs.Lent.{Memory, workerFrom, movedIn, saidCode}
 
 -- n workers from worker w on

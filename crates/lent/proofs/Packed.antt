@@ -23,7 +23,7 @@ use Rattle.lent.specs.declared.Stepped.{Stepped as StepResult}
 use Rattle.lent.specs.Arrays.{Arrays, secondOf, listedIn, tableFrom}
 use Rattle.lent.specs.Turn.{Outcome, stepOn}
 use Rattle.lent.specs.Counted.{Left, busyAfter, roomFor, counting, turnOn}
-use Rattle.lent.specs.Code.Packed.{packedOf}
+use Rattle.lent.specs.Packed.{packedOf}
 use Rattle.lent.proofs.Parts.{stateIn, Went, Sits}
 use Rattle.lent.proofs.Local.{putBack, turn-local}
 use Rattle.lent.proofs.Busy.{Bit, set-bit, set-busy}

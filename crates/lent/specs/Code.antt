@@ -1,3 +1,2 @@
--- promises between the parts of the code; laws for readers speak of `packedOf` too
-pub mod Packed
+-- promises between the parts of the code
 pub mod Steps

@@ -1,4 +1,5 @@
 pub mod Arrays
 pub mod Turn
 pub mod Counted
+pub mod Packed
 pub mod Code

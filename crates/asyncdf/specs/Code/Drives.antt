@@ -19,7 +19,7 @@ use Rattle.schedule.specs.Runs.{ran, drive}
 use Rattle.schedule.specs.Parents.{Parents}
 use Rattle.lent.specs.declared.Moved.{Moved}
 use Rattle.lent.specs.Arrays.{Arrays, secondOf, listedIn}
-use Rattle.lent.specs.Code.Packed.{packedOf}
+use Rattle.lent.specs.Packed.{packedOf}
 
 -- turn i has a worker: the list is long enough, or the rounds have workers
 pub record Sequence (order : List ℕ) (rounds : Bool) (p i : ℕ) : Type 0 where

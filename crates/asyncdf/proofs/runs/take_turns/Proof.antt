@@ -12,7 +12,7 @@ use Rattle.schedule.specs.declared.Reply.{Reply}
 use Rattle.schedule.specs.Runs.{workerAt}
 use Rattle.lent.specs.declared.Moved.{Moved}
 use Rattle.lent.specs.Arrays.{Arrays, arrays}
-use Rattle.lent.specs.Code.Packed.{packedOf}
+use Rattle.lent.specs.Packed.{packedOf}
 use Rattle.asyncdf.specs.Code.Drives.{Sequence, Moving, Stands}
 use Rattle.asyncdf.proofs.Moving.{not-done, other, few}
 use Rattle.asyncdf.proofs.Along.{Along, first-along, spent, full, none, again, finished}

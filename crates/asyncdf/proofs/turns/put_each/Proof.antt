@@ -31,7 +31,7 @@ use Rattle.lent.specs.declared.Taken.{Taken}
 use Rattle.lent.specs.Arrays.{Arrays, arrays, tableFrom}
 use Rattle.lent.specs.Counted.{turnOn}
 use Rattle.lent.specs.Counted.{taken as left-by}
-use Rattle.lent.specs.Code.Packed.{packedOf}
+use Rattle.lent.specs.Packed.{packedOf}
 use Rattle.asyncdf.specs.Code.Drives.{Outlined, Moving, Stands}
 use Rattle.asyncdf.specs.Code.Sheets.{turnsTexts, widest, afterTexts, afterSize, overTexts, hindered}
 use Rattle.lent.proofs.Answers.{steady-room, turned-taken}

@@ -19,7 +19,7 @@ use Rattle.schedule.specs.Listing.{lastWith}
 use Rattle.lines.specs.Puts.{Puts}
 use Rattle.soundness.proofs.Passed.{has-workers}
 use Rattle.lent.specs.declared.Moved.{Moved}
-use Rattle.lent.specs.Code.Packed.{movedOf, packedOf}
+use Rattle.lent.specs.Packed.{movedOf, packedOf}
 use Rattle.asyncdf.specs.Code.Drives.{Moving}
 use Rattle.asyncdf.specs.Code.Sheets.{turnsTexts, widest, overTexts}
 use Rattle.lent.proofs.Answers.{turned-none, root-over, root-open}
