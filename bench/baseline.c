@@ -3,6 +3,7 @@
 // would write first; or, with -DLINKS, by the same algorithms as the Rattle code. All else is by those algorithms in both.
 //
 // usage: baseline tablecheck | turnlist | runrounds | repeat   (input and lines as of the Rattle programs; repeat as bench_runs)
+// With -DCALLS it is no program but the calls of bench/plain.h, for bench/board.c.
 #include <stdbool.h>
 #include <stdint.h>
 #include <stdio.h>
@@ -637,24 +638,32 @@ static Reply act(Run *run, size_t n, Beside *beside, Worker *worker) {
     return (Reply){ DONE, t, a };
 }
 
-static Reply step(Run *run, size_t n, Beside *beside, size_t w) {
+// Where worker w holds nothing, the thread that it takes, THREADS if there is none; 0 where it holds one.
+static size_t found_for(const Run *run, const Beside *beside, size_t w) {
+    return run->worker[w].holds ? 0 : search(&run->list, &beside->active, run->status);
+}
+
+static Reply step_from(Run *run, size_t n, Beside *beside, size_t w, size_t found) {
     Worker *worker = &run->worker[w];
     bool held = worker->holds;
     if (!held) {
-        size_t t = search(&run->list, &beside->active, run->status);
-        if (t == THREADS) {
+        if (found == THREADS) {
             run->turns++;
             return (Reply){ IDLE, 0, 0 };
         }
         worker->holds = true;
-        worker->thread = (uint16_t)t;
+        worker->thread = (uint16_t)found;
         worker->quota = run->quota;
-        run->status[t] = HELD;
+        run->status[found] = HELD;
     }
     Reply reply = act(run, n, beside, worker);
     if (held != worker->holds) run->busy ^= (uint16_t)(1 << w);
     run->turns++;
     return reply;
+}
+
+static Reply step(Run *run, size_t n, Beside *beside, size_t w) {
+    return step_from(run, n, beside, w, found_for(run, beside, w));
 }
 
 // A run's answer: number 0 means finished or spent.
@@ -672,11 +681,10 @@ static void print_turn(const Run *run, size_t n, uint64_t turn, size_t w, Reply 
     printf("%llu\n", (unsigned long long)run->held);
 }
 
-// At most `limit` turns: of the order, or in rounds where there is none.
+// At most `limit` turns: of the order, or in rounds where there is none. What stands beside the record is filled in.
 static Report drive(Run *run, Beside *beside, const uint8_t *order, size_t limit, bool print) {
     size_t n = word(run->table, 0), p = run->workers, last = count_of(run->table, 0) - 1;
     if (run->status[0] == ENDED) return (Report){ 0, true, 0 };
-    fill_active(&beside->active, &run->list, run->status);
     for (size_t i = 0; i < limit; i++) {
         size_t w = order ? order[i] : i % p;
         if (run->turns == UINT64_MAX) return (Report){ 32, false, i };
@@ -692,6 +700,7 @@ static Report run_list(Run *run, const uint8_t *order, size_t length, bool print
     Beside beside;
     if (is_blank(run)) return (Report){ length ? 30 : 0, false, 0 };
     if (!sound(run, beside.parents)) return (Report){ 32, false, 0 };
+    fill_active(&beside.active, &run->list, run->status);
     return drive(run, &beside, order, length, print);
 }
 
@@ -699,6 +708,7 @@ static Report run_rounds(Run *run, uint32_t limit) {
     Beside beside;
     if (is_blank(run)) return (Report){ 30, false, 0 };
     if (!sound(run, beside.parents)) return (Report){ 32, false, 0 };
+    fill_active(&beside.active, &run->list, run->status);
     return drive(run, &beside, NULL, limit, false);
 }
 
@@ -718,6 +728,51 @@ static Turned turn(Run *run, uint8_t w) {
     }
     return turned;
 }
+
+// ---- the calls of plain.h
+
+#ifdef CALLS
+
+#include "plain.h"
+
+struct plain_run { Run run; Beside beside; };
+
+uint32_t plain_begin(plain_run *plain, const uint8_t *table, size_t length, uint32_t p, uint32_t quota) {
+    uint16_t forks[THREADS];
+    Loaded loaded = begin(&plain->run, table, length, p < 17 ? (uint8_t)p : 17, quota);
+    if (loaded.refusal.number) return loaded.refusal.number;
+    fill_forks(plain->run.table, loaded.threads, forks, plain->beside.parents);
+    fill_active(&plain->beside.active, &plain->run.list, plain->run.status);
+    return 0;
+}
+
+// Counts along the list what a take passes over, as wivakkol_turn does.
+uint32_t plain_turn(plain_run *plain, uint32_t w, uint64_t row[5]) {
+    Run *run = &plain->run;
+    memset(row, 0, 5 * sizeof row[0]);
+    if (run->turns == UINT64_MAX) return 32;
+    if (run->workers <= w) return 30;
+    if (run->status[0] == ENDED) return 31;
+    size_t found = found_for(run, &plain->beside, w);
+    if (!run->worker[w].holds && found < THREADS) row[4] = passed_over(&run->list, run->status);
+    Reply reply = step_from(run, word(run->table, 0), &plain->beside, w, found);
+    row[1] = 1 + (uint64_t)reply.what;
+    row[2] = reply.thread;
+    row[3] = reply.value;
+    return 0;
+}
+
+uint32_t plain_rounds(plain_run *plain, uint32_t limit, uint64_t row[3]) {
+    Report report = drive(&plain->run, &plain->beside, NULL, limit, false);
+    row[0] = 0;
+    row[1] = report.number ? 0 : report.finished ? 6 : 7;
+    row[2] = report.turns;
+    return report.number;
+}
+
+size_t plain_size(void) { return sizeof(plain_run); }
+
+#else
 
 // ---- the programs
 
@@ -827,3 +882,5 @@ int main(int argc, char **argv) {
     fprintf(stderr, "usage: baseline tablecheck | turnlist | runrounds | repeat\n");
     return 2;
 }
+
+#endif

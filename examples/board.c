@@ -10,6 +10,7 @@
 /* One byte more than the longest table, so that a longer input is refused for its length. */
 static uint8_t table[WIVAKKOL_TABLE_MOST + 1];
 static wivakkol_run run;
+static wivakkol_work work;
 
 static int refused(uint32_t number, const uint64_t *row)
 {
@@ -55,7 +56,7 @@ int main(int argc, char **argv)
         return refused(answer, quota);
     printf("quota %" PRIu64 "\n", quota[WIVAKKOL_QUOTA]);
 
-    if ((answer = wivakkol_begin(&run, table, length, p, (uint32_t)quota[WIVAKKOL_QUOTA], begun)) != 0)
+    if ((answer = wivakkol_begin(&run, &work, table, length, p, (uint32_t)quota[WIVAKKOL_QUOTA], begun)) != 0)
         return refused(answer, begun);
     /* A board that does the actions takes single turns: where wivakkol_turn says done, its row has the action. */
     if ((answer = wivakkol_rounds(&run, table, length, UINT32_MAX, end)) != 0)

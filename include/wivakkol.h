@@ -11,8 +11,9 @@
  * - `table` points to `length` bytes that may be read, all of them written before. It is never NULL, not even with a length of 0. `order` likewise points to `turns` bytes.
  * - `row` points to an array of the full size named below, aligned as a uint64_t is. It is never NULL.
  * - The row overlaps neither the table nor the order, and nobody else writes to these two or touches the row before the call returns.
+ * - A run, working memory and a line that a call takes are never NULL; what else is asked of them stands below.
  * - There is stack enough: docs/REFERENCE.md, "From C", has what was measured.
- * Calls at the same time are fine as long as each has a row of its own, and a run of its own where it takes one.
+ * Calls at the same time are fine as long as each has a row of its own, and a run, working memory and a line of its own where it takes them.
  */
 #ifndef WIVAKKOL_H
 #define WIVAKKOL_H
@@ -60,7 +61,7 @@ uint32_t wivakkol_quota(const uint8_t *table, size_t length, uint32_t p, uint32_
 #define WIVAKKOL_HIGHEST 1
 #define WIVAKKOL_TURNS 2
 
-/* The memory of a run, which C lends. C may read it between two calls, and has no need to write to it. "No thread" is 1,024. */
+/* The memory of a run, which C lends. C may read it between two calls, and has no need to write to it. Where there is no thread to name, 1,024 stands. */
 typedef struct wivakkol_run {
     uint64_t amounts[WIVAKKOL_MOST_THREADS]; /* of each thread, the memory that it holds */
     uint64_t totals[3];
@@ -79,26 +80,46 @@ typedef struct wivakkol_run {
 } wivakkol_run;
 
 /* Besides what is said above, C must keep to this for a run:
- * - Before a turn or a run over turns all of its memory has been written. wivakkol_begin writes all of it, whatever was there, also where it refuses.
- * - It is aligned as a wivakkol_run is, and overlaps neither the table nor the order nor the row.
+ * - Before any other call than wivakkol_begin all of its memory has been written. wivakkol_begin writes all of it, whatever was there, also where it refuses.
+ * - It is aligned as a wivakkol_run is, and overlaps nothing else that the call is given.
  * - Every call on it is given the same table, unchanged: the run keeps none of its bytes. With another one a turn still answers as defined, but it is no turn of this run.
  * - There is one call at a time on it, and nobody else touches it before the call returns. */
 
-/* The row of wivakkol_begin has the place alone. */
+/* Working memory of wivakkol_begin, wivakkol_open and wivakkol_chart, which C lends; it keeps nothing from one call to the next. wivakkol_begin uses `rises` and `falls` alone. What a call
+ * uses of it is all 0 afterwards, also where it refuses.
+ *
+ * C must keep to this: before its first use all of it has been written, whatever the numbers, as a static or zeroed object is; it is aligned as a wivakkol_work is and overlaps nothing else
+ * that the call is given. One may serve many runs, with one call at a time on it. */
+typedef struct wivakkol_work {
+    uint64_t rises[WIVAKKOL_MOST_THREADS];
+    uint64_t falls[WIVAKKOL_MOST_THREADS];
+    uint16_t forks[WIVAKKOL_MOST_THREADS];
+    uint16_t parents[WIVAKKOL_MOST_THREADS]; /* `seen` of the exported calls */
+    uint16_t list[WIVAKKOL_MOST_THREADS];
+} wivakkol_work;
+
+/* The rows of wivakkol_begin and wivakkol_open have the place alone. */
 #define WIVAKKOL_BEGIN_ROW 1
+#define WIVAKKOL_OPEN_ROW 1
 
 /* The row of wivakkol_turn. */
 #define WIVAKKOL_SAID 1   /* one of the four below; 0 where the turn is refused */
 #define WIVAKKOL_THREAD 2 /* the thread that it was about */
 #define WIVAKKOL_VALUE 3  /* done: the action; quota: the amount wanted; wait: the child */
-#define WIVAKKOL_PASSED 4 /* how many threads stood left of one that was taken; 0 if none was */
+#define WIVAKKOL_PASSED 4 /* in a sound run, how many threads stood left of one that was taken; 0 if none was */
 #define WIVAKKOL_TURN_ROW 5
 
 /* What a turn said. */
-#define WIVAKKOL_SAID_IDLE 1  /* no thread was ready; thread and value are 0 */
+#define WIVAKKOL_SAID_IDLE 1  /* in a sound run, no thread was ready; thread and value are 0 */
 #define WIVAKKOL_SAID_DONE 2  /* the action was done */
 #define WIVAKKOL_SAID_QUOTA 3 /* an alloc was above the quota left: the worker gave its thread up */
 #define WIVAKKOL_SAID_WAIT 4  /* a join whose child has not ended: the thread waits, and the worker has none */
+
+/* The row of wivakkol_preview: that of the turn, and after the turn */
+#define WIVAKKOL_AFTER_HELD 5    /* memory held */
+#define WIVAKKOL_AFTER_HIGHEST 6 /* its highest */
+#define WIVAKKOL_AFTER_QUOTA 7   /* the worker's quota left; in a sound run 0 if it then has no thread */
+#define WIVAKKOL_PREVIEW_ROW 8
 
 /* The row of wivakkol_list and of wivakkol_rounds: the place, which is 0; WIVAKKOL_SAID, one of the two below, 0 where it refuses; and */
 #define WIVAKKOL_TAKEN 2 /* the turns that this call took, also where it refuses */
@@ -108,11 +129,20 @@ typedef struct wivakkol_run {
 #define WIVAKKOL_SAID_FINISHED 6 /* the root has ended: the run is over */
 #define WIVAKKOL_SAID_SPENT 7    /* the order or the limit is at its end, and the root has not ended */
 
-/* The calls as they are exported, on each array by itself. Below are the four for a wivakkol_run. */
+/* A line of the wall chart: 84 characters and a newline, with no 0 after it. */
+#define WIVAKKOL_LINE 85
+
+/* The calls as they are exported, on each array by itself. Below are the seven for a wivakkol_run, which keep to what these ask for: each array has its full size, is aligned for its numbers
+ * and never NULL, and overlaps no other array of the call; each was written before, those of the run in wivakkol_begin_on apart. */
 uint32_t wivakkol_begin_on(const uint8_t *table, size_t length, uint32_t p, uint32_t quota, uint32_t settings[2], uint16_t parents[1024],
                            uint16_t next[1024], uint8_t status[1024], uint64_t amounts[1024], uint16_t left[1024], uint16_t right[1024],
                            uint16_t under[1024], uint16_t over[1024], uint8_t holds[16], uint16_t threads[16], uint32_t quotas[16],
-                           uint16_t heads[3], uint64_t totals[3], uint64_t row[WIVAKKOL_BEGIN_ROW]);
+                           uint16_t heads[3], uint64_t totals[3], uint64_t row[WIVAKKOL_BEGIN_ROW], uint64_t rises[1024], uint64_t falls[1024]);
+uint32_t wivakkol_open_on(const uint8_t *table, size_t length, const uint32_t settings[2], uint16_t parents[1024], const uint16_t next[1024],
+                          const uint8_t status[1024], const uint64_t amounts[1024], const uint16_t left[1024], const uint16_t right[1024],
+                          uint16_t under[1024], uint16_t over[1024], const uint8_t holds[16], const uint16_t threads[16],
+                          const uint32_t quotas[16], uint16_t heads[3], const uint64_t totals[3], uint64_t row[WIVAKKOL_OPEN_ROW],
+                          uint64_t rises[1024], uint64_t falls[1024], uint16_t forks[1024], uint16_t seen[1024], uint16_t list[1024]);
 uint32_t wivakkol_turn_on(const uint8_t *table, size_t length, uint32_t w, const uint32_t settings[2], const uint16_t parents[1024],
                           uint16_t next[1024], uint8_t status[1024], uint64_t amounts[1024], uint16_t left[1024], uint16_t right[1024],
                           uint16_t under[1024], uint16_t over[1024], uint8_t holds[16], uint16_t threads[16], uint32_t quotas[16],
@@ -125,19 +155,42 @@ uint32_t wivakkol_rounds_on(const uint8_t *table, size_t length, uint32_t limit,
                             const uint16_t parents[1024], uint16_t next[1024], uint8_t status[1024], uint64_t amounts[1024], uint16_t left[1024],
                             uint16_t right[1024], uint16_t under[1024], uint16_t over[1024], uint8_t holds[16], uint16_t threads[16],
                             uint32_t quotas[16], uint16_t heads[3], uint64_t totals[3], uint64_t row[WIVAKKOL_RUN_ROW]);
+uint32_t wivakkol_preview_on(const uint8_t *table, size_t length, uint32_t w, const uint32_t settings[2], const uint16_t next[1024],
+                             const uint8_t status[1024], const uint64_t amounts[1024], const uint16_t right[1024], const uint16_t over[1024],
+                             const uint8_t holds[16], const uint16_t threads[16], const uint32_t quotas[16], const uint16_t heads[3],
+                             const uint64_t totals[3], uint64_t row[WIVAKKOL_PREVIEW_ROW]);
+uint32_t wivakkol_chart_on(const uint8_t *table, size_t length, const uint32_t settings[2], const uint16_t next[1024], const uint8_t status[1024],
+                           const uint64_t amounts[1024], const uint16_t left[1024], const uint16_t right[1024], const uint8_t holds[16],
+                           const uint16_t threads[16], const uint32_t quotas[16], const uint16_t heads[3], const uint64_t totals[3],
+                           uint8_t line[WIVAKKOL_LINE], uint64_t rises[1024], uint64_t falls[1024], uint16_t forks[1024], uint16_t seen[1024],
+                           uint16_t list[1024]);
 
 /* Begins a run of p workers with quota K. Returns 0, or the first check that refuses: 1 to 11, the table's own; 20, p is not 1 to 16; 21, K is not 1 to 16,777,215; 22, an alloc is above
  * K. Where it refuses, the memory is all 0, and every turn on it is refused with 30. */
-static inline uint32_t wivakkol_begin(wivakkol_run *run, const uint8_t *table, size_t length, uint32_t p, uint32_t quota,
+static inline uint32_t wivakkol_begin(wivakkol_run *run, wivakkol_work *work, const uint8_t *table, size_t length, uint32_t p, uint32_t quota,
                                       uint64_t row[WIVAKKOL_BEGIN_ROW])
 {
     return wivakkol_begin_on(table, length, p, quota, run->settings, run->parents, run->next, run->status, run->amounts, run->left,
-                             run->right, run->under, run->over, run->holds, run->threads, run->quotas, run->heads, run->totals, row);
+                             run->right, run->under, run->over, run->holds, run->threads, run->quotas, run->heads, run->totals, row,
+                             work->rises, work->falls);
+}
+
+/* Opens a run that was put away and brought back, or whose memory someone else has written. Returns 0, or 32: the memory has neither a sound record of this table nor the blank one, all 0,
+ * which a beginning leaves where it refuses; a number above 1 in `holds` is not sound. It looks at all but `parents`, `under`, `over` and heads[1], and where it returns 0 writes these,
+ * whatever was there, as a beginning and turns leave them. Where it refuses, no byte of the run changes. A turn tests none of this: open once, then take turns.
+ *
+ * After a beginning that returned 0 the limits on memory and on threads hold through all turns, lists, rounds and openings of what these left, refused calls included. After the opening of a
+ * sound record that was made up by hand each turn is document 01's, and no limit is promised: such a record may hold more than any run would. */
+static inline uint32_t wivakkol_open(wivakkol_run *run, wivakkol_work *work, const uint8_t *table, size_t length, uint64_t row[WIVAKKOL_OPEN_ROW])
+{
+    return wivakkol_open_on(table, length, run->settings, run->parents, run->next, run->status, run->amounts, run->left, run->right,
+                            run->under, run->over, run->holds, run->threads, run->quotas, run->heads, run->totals, row, work->rises,
+                            work->falls, work->forks, work->parents, work->list);
 }
 
 /* A turn of worker w. Returns 0, or the first of these that applies: 32, 2^64 - 1 turns are taken; 30, w is not below p; 31, the root has ended: the run is over; 32, a thread's number is
  * none of the arrays', w is none of the sixteen workers, or a number that the turn would write does not fit into its place; of a worker without a thread the bit in `heads` must fit even if
- * it takes none. The last is met on damaged memory alone, never on what wivakkol_begin and turns have left. Where a turn is refused, no byte of the run changes. */
+ * it takes none. The last is met on damaged memory alone, never on what a beginning or an opening that returned 0 and turns have left. Where a turn is refused, no byte of the run changes. */
 static inline uint32_t wivakkol_turn(wivakkol_run *run, const uint8_t *table, size_t length, uint32_t w, uint64_t row[WIVAKKOL_TURN_ROW])
 {
     return wivakkol_turn_on(table, length, w, run->settings, run->parents, run->next, run->status, run->amounts, run->left, run->right,
@@ -159,6 +212,24 @@ static inline uint32_t wivakkol_rounds(wivakkol_run *run, const uint8_t *table, 
 {
     return wivakkol_rounds_on(table, length, limit, run->settings, run->parents, run->next, run->status, run->amounts, run->left,
                               run->right, run->under, run->over, run->holds, run->threads, run->quotas, run->heads, run->totals, row);
+}
+
+/* What a turn of worker w would say now, and memory held, its highest and the worker's quota left after it. Returns what wivakkol_turn would return, in the same order, whatever the memory
+ * holds; where that is a refusal, the row is all 0. No byte of the run changes. */
+static inline uint32_t wivakkol_preview(const wivakkol_run *run, const uint8_t *table, size_t length, uint32_t w, uint64_t row[WIVAKKOL_PREVIEW_ROW])
+{
+    return wivakkol_preview_on(table, length, w, run->settings, run->next, run->status, run->amounts, run->right, run->over, run->holds,
+                               run->threads, run->quotas, run->heads, run->totals, row);
+}
+
+/* The run's line of the wall chart: turns taken right-aligned in 6, sixteen cells of 4 with each worker's thread or a full stop, blank from worker p on, and memory held right-aligned in 14.
+ * Returns 0, or the first of these that applies, with `line` as it was: 32, as wivakkol_open; 43, more than 999,999 turns are taken. It has no row: the place is 0. No byte of the run
+ * changes. `line` has the full size, overlaps nothing else that the call is given and has been written before, whatever it holds. */
+static inline uint32_t wivakkol_chart(const wivakkol_run *run, wivakkol_work *work, const uint8_t *table, size_t length, uint8_t line[WIVAKKOL_LINE])
+{
+    return wivakkol_chart_on(table, length, run->settings, run->next, run->status, run->amounts, run->left, run->right, run->holds,
+                             run->threads, run->quotas, run->heads, run->totals, line, work->rises, work->falls, work->forks, work->parents,
+                             work->list);
 }
 
 #ifdef __cplusplus

@@ -5,13 +5,18 @@
  *   t LENGTH TABLE     the table from now on
  *   m AT LENGTH BYTES  these bytes stand in the run's memory
  *   b P K              wivakkol_begin
+ *   o                  wivakkol_open
  *   w W                wivakkol_turn
  *   l LENGTH ORDER     wivakkol_list
  *   r LIMIT            wivakkol_rounds
- * with numbers of 4 bytes; each of the last four is answered by the number (4), the row and the whole of the run's memory. A case is read whole before its first step is done.
+ *   v W                wivakkol_preview
+ *   c                  wivakkol_chart
+ * with numbers of 4 bytes; each of the last seven is answered by the number (4) and the row, or the line. Then come, of begin, open and chart, a byte for each field of the working memory,
+ * which holds noise before the call: 0, it is all 0; 1, it is as it was; 2, neither. Last comes the whole of the run's memory, of preview and chart such a byte for it. A case is read whole
+ * before its first step is done.
  *
  * A last line has the most stack that each call took, in bytes, from the C function that makes it on. The table and the order each end where the readable memory ends, in pages that may not
- * be written; each row and the run stand between numbers that must stay, and a row holds anything before the call. */
+ * be written; each row, the line, the run and the working memory stand between numbers that must stay, and a row holds anything before the call. */
 #define _GNU_SOURCE
 #include <inttypes.h>
 #include <stdio.h>
@@ -26,10 +31,9 @@
 #define STACK (1 << 18)
 #define PAGE 4096
 #define PAINT 0xa5
-#define PAINTS UINT64_C(0xa5a5a5a5a5a5a5a5)
 #define FENCE UINT64_C(0x0123456789abcdef)
 #define FENCES 64
-#define MOST_ROW WIVAKKOL_CHECK_ROW
+#define MOST_ROW WIVAKKOL_PREVIEW_ROW
 
 static uint8_t *memory, *orders, *stack, *steps;
 static size_t touched = STACK; /* of the stack, from its upper end */
@@ -39,13 +43,21 @@ static struct {
     const uint8_t *table, *order;
     uint32_t length, turns, p, b, quota, w, limit, number;
     uint64_t memory, row[MOST_ROW + 2];
+    uint8_t line[WIVAKKOL_LINE + 2];
 } call;
 
 static struct {
     uint64_t below[FENCES];
     wivakkol_run run;
+    uint64_t between[FENCES];
+    wivakkol_work work;
     uint64_t above[FENCES];
 } lent;
+
+static struct {
+    wivakkol_run run;
+    wivakkol_work work;
+} before;
 
 static void fail(const char *what)
 {
@@ -65,7 +77,12 @@ static void quota(void)
 
 static void begin(void)
 {
-    call.number = wivakkol_begin(&lent.run, call.table, call.length, call.p, call.quota, call.row + 1);
+    call.number = wivakkol_begin(&lent.run, &lent.work, call.table, call.length, call.p, call.quota, call.row + 1);
+}
+
+static void open_run(void)
+{
+    call.number = wivakkol_open(&lent.run, &lent.work, call.table, call.length, call.row + 1);
 }
 
 static void turn(void)
@@ -83,12 +100,23 @@ static void rounds(void)
     call.number = wivakkol_rounds(&lent.run, call.table, call.length, call.limit, call.row + 1);
 }
 
-/* Makes a call on the painted stack; how much of it was touched. */
+static void preview(void)
+{
+    call.number = wivakkol_preview(&lent.run, call.table, call.length, call.w, call.row + 1);
+}
+
+static void chart(void)
+{
+    call.number = wivakkol_chart(&lent.run, &lent.work, call.table, call.length, call.line + 1);
+}
+
+/* Makes a call on the painted stack; how much of it was touched, in whole words: a single byte may be written with the paint's own number. */
 static size_t on_stack(void (*f)(void))
 {
-    const uint64_t *words = (const uint64_t *)stack;
+    static uint8_t painted[PAGE];
     size_t low;
 
+    memset(painted, PAINT, PAGE);
     memset(stack + STACK - touched, PAINT, touched);
     if (getcontext(&there) != 0)
         fail("no context");
@@ -98,9 +126,9 @@ static size_t on_stack(void (*f)(void))
     makecontext(&there, f, 0);
     if (swapcontext(&here, &there) != 0)
         fail("no context");
-    for (low = 0; low < STACK / 8 && words[low] == PAINTS; low++)
+    for (low = 0; low < STACK && memcmp(stack + low, painted, PAGE) == 0; low += PAGE)
         ;
-    for (low *= 8; low < STACK && stack[low] == PAINT; low++)
+    for (; low < STACK && memcmp(stack + low, painted, 8) == 0; low += 8)
         ;
     if (low == 0)
         fail("the stack is too small");
@@ -114,6 +142,7 @@ static void make(void (*f)(void), size_t entries, size_t *most)
 
     for (i = 0; i < MOST_ROW + 2; i++)
         call.row[i] = FENCE;
+    memset(call.line, PAINT, sizeof call.line);
     touched = on_stack(f);
     if (*most < touched)
         *most = touched;
@@ -122,9 +151,39 @@ static void make(void (*f)(void), size_t entries, size_t *most)
     for (i = entries + 1; i < MOST_ROW + 2; i++)
         if (call.row[i] != FENCE)
             fail("written above the row");
+    if (call.line[0] != PAINT || call.line[WIVAKKOL_LINE + 1] != PAINT)
+        fail("written outside the line");
     for (i = 0; i < FENCES; i++)
-        if (lent.below[i] != FENCE || lent.above[i] != FENCE)
-            fail("written outside the run");
+        if (lent.below[i] != FENCE || lent.between[i] != FENCE || lent.above[i] != FENCE)
+            fail("written outside the run or the working memory");
+}
+
+/* Noise in the working memory: any numbers, small ones, or the largest. */
+static void stir(void)
+{
+    static const uint64_t masks[] = {UINT64_MAX, UINT64_C(0x0003000300030003), UINT64_C(0x03ff03ff03ff03ff)};
+    static uint64_t x = FENCE;
+    uint64_t word, manner;
+    size_t i;
+
+    x = x * UINT64_C(6364136223846793005) + 1;
+    manner = x >> 62;
+    for (i = 0; i < sizeof lent.work; i += sizeof word) {
+        x = x * UINT64_C(6364136223846793005) + 1;
+        word = manner == 3 ? UINT64_MAX : (x ^ x >> 32) & masks[manner];
+        memcpy((uint8_t *)&lent.work + i, &word, sizeof word);
+    }
+    before.work = lent.work;
+}
+
+/* What a call has left of such bytes: 0, zeros; 1, those from before; 2, neither. */
+static uint8_t left(const void *of, const void *was, size_t size)
+{
+    const uint8_t *bytes = of;
+
+    if (bytes[0] == 0 && memcmp(bytes, bytes + 1, size - 1) == 0)
+        return 0;
+    return memcmp(of, was, size) == 0 ? 1 : 2;
 }
 
 static uint64_t little(const uint8_t *s, int bytes)
@@ -209,40 +268,76 @@ static void tables(void)
     printf("stack %zu %zu\n", most[0], most[1]);
 }
 
-static void answer(size_t entries)
+static void put(const void *bytes, size_t size)
 {
-    if (fwrite(&call.number, sizeof call.number, 1, stdout) != 1 || fwrite(call.row + 1, sizeof call.row[0], entries, stdout) != entries
-        || fwrite(&lent.run, sizeof lent.run, 1, stdout) != 1)
+    if (fwrite(bytes, 1, size, stdout) != size)
         fail("no output");
 }
 
-/* One step; how many bytes it has. */
-static size_t step(const uint8_t *s, size_t *most)
+static void put_answer(size_t entries)
 {
-    uint32_t x = (uint32_t)little(s + 1, 4), y;
+    put(&call.number, sizeof call.number);
+    put(call.row + 1, entries * sizeof call.row[0]);
+}
+
+#define LEFT(field) left(lent.work.field, before.work.field, sizeof lent.work.field)
+
+static void put_work(void)
+{
+    uint8_t fields[] = {LEFT(rises), LEFT(falls), LEFT(forks), LEFT(parents), LEFT(list)};
+
+    put(fields, sizeof fields);
+}
+
+static void put_run(void)
+{
+    put(&lent.run, sizeof lent.run);
+}
+
+/* Of a call that reads the run alone. */
+static void put_kept(void)
+{
+    uint8_t kept = memcmp(&lent.run, &before.run, sizeof lent.run) == 0 ? 1 : 2;
+
+    put(&kept, 1);
+}
+
+/* A call that reads the run alone; how many bytes its step has. */
+static size_t read_step(const uint8_t *s, size_t *most)
+{
+    before.run = lent.run;
+    switch (s[0]) {
+    case 'v':
+        call.w = (uint32_t)little(s + 1, 4);
+        make(preview, WIVAKKOL_PREVIEW_ROW, &most[5]);
+        put_answer(WIVAKKOL_PREVIEW_ROW);
+        put_kept();
+        return 5;
+    case 'c':
+        stir();
+        make(chart, 0, &most[6]);
+        put_answer(0);
+        put(call.line + 1, WIVAKKOL_LINE);
+        put_work();
+        put_kept();
+        return 1;
+    }
+    fail("no such step");
+    return 0;
+}
+
+/* A call that moves a run; how many bytes its step has. */
+static size_t move_step(const uint8_t *s, size_t *most)
+{
+    uint32_t x = (uint32_t)little(s + 1, 4);
     uint8_t *at;
 
     switch (s[0]) {
-    case 't':
-        memcpy(place_table(x), s + 5, x);
-        close_room(memory);
-        return 5 + x;
-    case 'm':
-        y = (uint32_t)little(s + 5, 4);
-        if (x > sizeof lent.run || y > sizeof lent.run - x)
-            fail("not in the run's memory");
-        memcpy((uint8_t *)&lent.run + x, s + 9, y);
-        return 9 + y;
-    case 'b':
-        call.p = x;
-        call.quota = (uint32_t)little(s + 5, 4);
-        make(begin, WIVAKKOL_BEGIN_ROW, &most[0]);
-        answer(WIVAKKOL_BEGIN_ROW);
-        return 9;
     case 'w':
         call.w = x;
-        make(turn, WIVAKKOL_TURN_ROW, &most[1]);
-        answer(WIVAKKOL_TURN_ROW);
+        make(turn, WIVAKKOL_TURN_ROW, &most[2]);
+        put_answer(WIVAKKOL_TURN_ROW);
+        put_run();
         return 5;
     case 'l':
         at = place(orders, x);
@@ -250,17 +345,53 @@ static size_t step(const uint8_t *s, size_t *most)
         close_room(orders);
         call.order = at;
         call.turns = x;
-        make(list, WIVAKKOL_RUN_ROW, &most[2]);
-        answer(WIVAKKOL_RUN_ROW);
+        make(list, WIVAKKOL_RUN_ROW, &most[3]);
+        put_answer(WIVAKKOL_RUN_ROW);
+        put_run();
         return 5 + x;
     case 'r':
         call.limit = x;
-        make(rounds, WIVAKKOL_RUN_ROW, &most[3]);
-        answer(WIVAKKOL_RUN_ROW);
+        make(rounds, WIVAKKOL_RUN_ROW, &most[4]);
+        put_answer(WIVAKKOL_RUN_ROW);
+        put_run();
         return 5;
     }
-    fail("no such step");
-    return 0;
+    return read_step(s, most);
+}
+
+/* One step; how many bytes it has. */
+static size_t step(const uint8_t *s, size_t *most)
+{
+    uint32_t x = (uint32_t)little(s + 1, 4), y = (uint32_t)little(s + 5, 4);
+
+    switch (s[0]) {
+    case 't':
+        memcpy(place_table(x), s + 5, x);
+        close_room(memory);
+        return 5 + x;
+    case 'm':
+        if (x > sizeof lent.run || y > sizeof lent.run - x)
+            fail("not in the run's memory");
+        memcpy((uint8_t *)&lent.run + x, s + 9, y);
+        return 9 + y;
+    case 'b':
+        call.p = x;
+        call.quota = y;
+        stir();
+        make(begin, WIVAKKOL_BEGIN_ROW, &most[0]);
+        put_answer(WIVAKKOL_BEGIN_ROW);
+        put_work();
+        put_run();
+        return 9;
+    case 'o':
+        stir();
+        make(open_run, WIVAKKOL_OPEN_ROW, &most[1]);
+        put_answer(WIVAKKOL_OPEN_ROW);
+        put_work();
+        put_run();
+        return 1;
+    }
+    return move_step(s, most);
 }
 
 #define FIELD(name) printf(" " #name " %zu %zu %zu", offsetof(wivakkol_run, name), sizeof lent.run.name[0], sizeof lent.run.name / sizeof lent.run.name[0])
@@ -277,7 +408,7 @@ static void print_layout(void)
 static void runs(void)
 {
     uint8_t front[4];
-    size_t length, at, most[4] = {0, 0, 0, 0};
+    size_t length, at, most[7] = {0, 0, 0, 0, 0, 0, 0};
 
     print_layout();
     while (got(front, sizeof front)) {
@@ -288,7 +419,10 @@ static void runs(void)
             ;
         fflush(stdout);
     }
-    printf("stack %zu %zu %zu %zu\n", most[0], most[1], most[2], most[3]);
+    printf("stack");
+    for (at = 0; at < 7; at++)
+        printf(" %zu", most[at]);
+    printf("\n");
 }
 
 int main(int argc, char **argv)
@@ -298,11 +432,11 @@ int main(int argc, char **argv)
     memory = room();
     orders = room();
     stack = malloc(STACK);
-    steps = malloc(ROOM);
+    steps = malloc(ROOM + 9); /* the numbers of a step are read whether or not it has any */
     if (stack == NULL || steps == NULL)
         fail("no memory");
     for (i = 0; i < FENCES; i++)
-        lent.below[i] = lent.above[i] = FENCE;
+        lent.below[i] = lent.between[i] = lent.above[i] = FENCE;
     if (argc == 1)
         tables();
     else if (argc == 2 && strcmp(argv[1], "runs") == 0)

@@ -25,7 +25,8 @@ import stack
 ARCHIVE, OUT = 'target/staticlib/libboard.a', 'target/c'
 NUMBERS = {'wivakkol_check': set(range(12)), 'wivakkol_quota': set(range(12)) | {20, 41, 42}}  # what each call can return
 BYTES = {'table': 'length', 'order': 'turns'}  # the names of their numbers of bytes
-RUN_CALLS = ['begin', 'turn', 'list', 'rounds']  # the calls for a wivakkol_run
+RUN_CALLS = list(board_runs.NUMBERS)  # the calls for a wivakkol_run
+WORK_NAMES = {'parents': 'seen'}  # fields of a wivakkol_work that the exported calls name otherwise, since they have parents of their own
 Case = collections.namedtuple('Case', 'data p b memory')
 
 
@@ -85,18 +86,34 @@ def header_is_source():
                   for result, name, parameters in re.findall(r'^(\w+) (\w+)\(([^)]*)\);', text, flags=re.M)}
     assert prototypes == source, 'the header and the source differ: %s' % [(name, prototypes.get(name), source.get(name))
                                                                           for name in {*prototypes, *source} if prototypes.get(name) != source.get(name)]
-    fields = [declared(field) for field in re.search(r'struct wivakkol_run \{(.*?)\}', text, flags=re.S).group(1).split(';')[:-1]]
-    names = {name for name, _, _ in fields}
+    run, work = fields(text, 'run'), fields(text, 'work')
+    places = {name: 'run->' + name for name, _, _ in run}
+    work_places = {WORK_NAMES.get(name, name): 'work->' + name for name, _, _ in work}
+    assert not set(places) & set(work_places)
     for call in RUN_CALLS:
         result, *parameters = source['wivakkol_%s_on' % call]
-        lent = [(name, kind.replace('const ', ''), size) for name, kind, size in parameters if name in names]
-        assert sorted(fields) == sorted(lent), 'the fields of wivakkol_run are not what is lent to wivakkol_%s_on: %s, %s' % (call, fields, lent)
-        kind, taken, given = re.search(r'static inline (\w+) wivakkol_%s\(wivakkol_run \*run, ([^)]*)\)\s*\{\s*return wivakkol_%s_on\(([^)]*)\);\s*\}' % (call, call), text).groups()
-        assert [('', kind, None), *map(declared, taken.split(','))] == [result] + [x for x in parameters if x[0] not in names], 'wivakkol_%s has other parameters' % call
-        wanted = [('run->' if name in names else '') + name for name, _, _ in parameters]
-        assert given.replace(',', ' ').split() == wanted, 'wivakkol_%s hands its parameters and the fields over in another order' % call
+        lent = {name for name, _, _ in parameters}
+        assert set(places) <= lent or call in ('preview', 'chart'), 'wivakkol_%s_on is not lent all of a run' % call
+        for name, kind, size in [*run, *((WORK_NAMES.get(name, name), kind, size) for name, kind, size in work)]:
+            assert name not in lent or (name, kind, size) in [(x, y.replace('const ', ''), z) for x, y, z in parameters], 'wivakkol_%s_on: %s' % (call, name)
+        inline_hands_over(text, call, result, parameters, {**places, **work_places})
     assert set(source) == {*NUMBERS, *('wivakkol_%s_on' % call for call in RUN_CALLS)}
-    assert set(board_runs.FIELDS) == {(name, int(kind[4:-2]), size) for name, kind, size in fields}
+    assert set(board_runs.FIELDS) == {(name, int(kind[4:-2]), size) for name, kind, size in run}
+
+
+def fields(text, struct):
+    return [declared(field) for field in re.search(r'struct wivakkol_%s \{(.*?)\}' % struct, text, flags=re.S).group(1).split(';')[:-1]]
+
+
+def inline_hands_over(text, call, result, parameters, places):
+    """The call for a wivakkol_run has the exported one's parameters but for the fields, and hands both over in its order; the run is const where nothing of it is written."""
+    kind, const, work, taken, given = re.search(
+        r'static inline (\w+) wivakkol_%s\((const )?wivakkol_run \*run, (wivakkol_work \*work, )?([^)]*)\)\s*\{\s*return wivakkol_%s_on\(([^)]*)\);\s*\}' % (call, call), text).groups()
+    assert [('', kind, None), *map(declared, taken.split(','))] == [result] + [x for x in parameters if x[0] not in places], 'wivakkol_%s has other parameters' % call
+    wanted = [places.get(name, name) for name, _, _ in parameters]
+    assert given.replace(',', ' ').split() == wanted, 'wivakkol_%s hands its parameters and the fields over in another order' % call
+    written = {places[name].split('->')[0] for name, kind, _ in parameters if name in places and not kind.startswith('const ')}
+    assert (const is None, work is not None) == ('run' in written, 'work' in written), 'wivakkol_%s: what is written of the run and the working memory' % call
 
 
 def drawn_case(rng):
@@ -194,10 +211,10 @@ def main():
     for kind, counter in kinds.items():
         calls = [sum(counter['%s %d' % (call, x)] for x in numbers) for call, numbers in board_runs.NUMBERS.items()]
         told = ', '.join('%s: %d' % pair for pair in sorted(counter.items()) if pair[0] != 'runs')
-        print('%s memory: %d runs agree, of %d beginnings, %d turns, %d lists and %d rounds (%s)' % (kind, counter['runs'], *calls, told))
+        print('%s memory: %d runs agree, of %d beginnings, %d openings, %d turns, %d lists, %d rounds, %d previews and %d lines (%s)' % (kind, counter['runs'], *calls, told))
     missing = [what for what in board_runs.WANTED if not any(counter[what] for counter in kinds.values())]
     assert not missing or count < 1000, 'no run reached %s' % ', '.join(missing)
-    print('most stack of check, quota, begin, turn, list and rounds, in bytes: %s' % ' '.join([*last.split()[1:], *map(str, most)]))
+    print('most stack of %s, in bytes: %s' % (', '.join(['check', 'quota', *RUN_CALLS]), ' '.join([*last.split()[1:], *map(str, most)])))
 
 
 if __name__ == '__main__':

@@ -3,6 +3,7 @@ import collections
 import subprocess
 import sys
 
+import chart
 import lent
 import machine
 from differential import LARGEST, beginning, mostly, order, run_table, tablecheck_input
@@ -13,6 +14,8 @@ from tables import damaged
 
 FAR = [WORKERS, WORKERS + 1, 255, 256, 257, 65536, 2**31, 2**32 - 1]  # workers and numbers of workers out of range; the low bytes of some are in it
 LIST_FAR = [WORKERS, WORKERS + 1, 128, 255]
+BESIDE = ['parents', 'under', 'over']  # what stands beside a record, with the head of the second list
+PAINTED = b'\xa5' * (chart.WIDTH + 1)  # the lent line before a call
 BITS = {name: bits for name, bits, _ in FIELDS}
 
 
@@ -45,12 +48,31 @@ class Play:
         self.add(b'b', word(p), word(quota))
         return self.answered('begin', *self.run.begin(p, quota))
 
+    def open(self):
+        self.add(b'o')
+        before, answer = bytes(self.memory.bytes), self.run.open()
+        if answer[0] == 0:
+            self.reached['open ' + ('blank' if self.memory.settings[lent.P] == 0 else 'sound')] += 1
+            self.reached['open ' + ('as it was' if before == self.memory.bytes else 'mended')] += 1
+        return self.answered('open', *answer)
+
     def turn(self, w):
-        self.add(b'w', word(w))
-        number, row = self.answered('turn', *self.run.turn(w))
+        """A preview, which shows the turn, and the turn."""
+        self.add(b'v', word(w), b'w', word(w))
+        number, row = self.run.turn(w)
+        self.answered('preview', *self.run.shown(w, number, row))
+        self.answered('turn', number, row)
         if number == 0:
             self.reached[lent.SAID[row[1]]] += 1
         return number, row
+
+    def preview(self, w):
+        self.add(b'v', word(w))
+        return self.answered('preview', *self.run.preview(w))
+
+    def chart(self):
+        self.add(b'c')
+        return self.answered('chart', *self.run.chart(PAINTED))
 
     def list(self, order):
         self.add(b'l', word(len(order)), order)
@@ -67,13 +89,20 @@ class Play:
         self.reached['%s %s' % (call, 'with turns' if row[2] else 'without')] += 1
         return number, row
 
-    def answered(self, call, number, row):
+    def answered(self, call, number, given):
+        """The number, the row or the line, the working memory, and the run's memory, or that it is as it was."""
         self.reached['%s %d' % (call, number)] += 1
         if number == 32:
-            last = self.memory.totals[lent.TURNS] == machine.LAST_TURN
-            self.reached[('' if call == 'turn' else call + ' ') + ('turns' if last else self.run.misfit)] += 1
-        self.answers.append(word(number) + b''.join(word(x, 8) for x in row) + bytes(self.memory.bytes))
-        return number, row
+            self.reached.update(('' if call == 'turn' else call + ' ') + why for why in self.reasons(call))
+        line = given if call == 'chart' else b''.join(word(x, 8) for x in given)
+        left = bytes(name not in lent.CLEARED[call] for name in lent.WORK_FIELDS) if call in lent.CLEARED else b''
+        self.answers.append(word(number) + line + left + (b'\1' if call in ('preview', 'chart') else bytes(self.memory.bytes)))
+        return number, given
+
+    def reasons(self, call):
+        if call in ('open', 'chart'):
+            return self.run.broken + (['truth values alone'] if self.run.broken == ['truth values'] else [])
+        return ['turns' if self.memory.totals[lent.TURNS] == machine.LAST_TURN else self.run.misfit]
 
 
 # ---- sound runs, held against machine.py as well
@@ -106,28 +135,70 @@ def sound_turn(play, taking, w):
     assert play.run.second.threads() == [t for t in threads if run.status[t] != WAITING]
 
 
+def spoil(rng, play):
+    """Other numbers beside the record: some, or all."""
+    memory = play.memory
+    if rng.random() < 0.3:
+        for name in BESIDE:
+            size = getattr(memory, name).nbytes
+            noise = rng.randbytes(size)
+            play.add(b'm', word(OFFSETS[name]), word(size), noise)
+            memory.bytes[OFFSETS[name]:OFFSETS[name] + size] = noise
+    for _ in range(rng.randint(0, 4)):
+        play.put(rng.choice(BESIDE), rng.randrange(THREADS), any_number(rng, memory, THREADS))
+    if rng.random() < 0.5:
+        play.put('heads', lent.FIRST, any_number(rng, memory, THREADS))
+
+
+def look(rng, play, run):
+    """Opening in the middle of a sound run leaves its memory as it was, also where what stands beside the record was not; and the run's line."""
+    before = bytes(play.memory.bytes)
+    spoil(rng, play)
+    assert play.open() == (0, [0]) and play.memory.bytes == before
+    assert play.chart() == (0, (chart.text(run) + '\n').encode())
+
+
+def refused_beginning(rng, play):
+    """The memory is all 0, and every turn is refused. Opening makes it so again, and it has a line."""
+    assert not any(play.memory.bytes[:lent.USED])
+    look(rng, play, machine.Run())
+    for w in (0, 1, *FAR):
+        assert play.turn(w)[0] == 30
+    return play
+
+
 def sound_run(rng, data, p, quota, workers):
-    """From any bytes in memory: a beginning, and turns also of workers that are not there."""
+    """From any bytes in memory: a beginning, and turns also of workers that are not there; now and then it is opened."""
     play = Play(rng.randbytes(SIZE), data)
     number, row = play.begin(p, quota)
     answer, run = machine.begin(data, p, quota)
     assert (number, row) == ((0, [0]) if answer == 'begun' else (answer[1], [answer[2]]))
     if number != 0:
-        assert not any(play.memory.bytes[:lent.USED])
-        for w in (0, 1, *FAR):
-            assert play.turn(w)[0] == 30
-        return play
+        return refused_beginning(rng, play)
     assert machine.sound(run)
     taking = machine.Machine(run)
     same_as_machine(play.memory, taking.record())
     after_end = 0
     for w in workers:
+        if rng.random() < 0.005:
+            look(rng, play, taking.record())
         sound_turn(play, taking, w)
         after_end += taking.ended()
         if after_end > 4:
             break
     same_as_machine(play.memory, taking.record())
+    if rng.random() < 0.2:
+        look(rng, play, taking.record())
     return play
+
+
+def tested(play, run):
+    """Check 32 and the line are those of the record by value."""
+    line = chart.line(run)
+    number, text = (line[1], PAINTED) if line[0] == 'refused' else (0, (line + '\n').encode())
+    assert play.chart() == (number, text), (number, text)
+    before = bytes(play.memory.bytes)
+    assert play.open() == (32 if number == 32 else 0, [0]) and play.memory.bytes == before
 
 
 def reported(report):
@@ -156,6 +227,10 @@ def drawn_calls(rng):
         if number == 0 and rng.random() < 0.06:
             run.turns = machine.LAST_TURN - rng.choice([0, 1, 2, rng.randint(0, 50)])
             play.put('totals', lent.TURNS, run.turns)
+        if number == 0 and rng.random() < 0.03:
+            run.turns = chart.MOST_TURNS - rng.randint(0, 9)
+            play.put('totals', lent.TURNS, run.turns)
+            tested(play, run)
         if rng.random() < 0.5:
             workers = bytes(mostly(rng, w, *LIST_FAR) if rng.random() < 0.1 else w for w in order(rng, p, Table(data).m if number == 0 else 3))
             report, run = machine.run_list(run, workers)
@@ -167,6 +242,8 @@ def drawn_calls(rng):
         assert given == reported(report), (given, report)
         if number == 0:
             same_as_machine(play.memory, run)
+        if rng.random() < 0.05 or run.turns > chart.MOST_TURNS and rng.random() < 0.5:
+            tested(play, run)
     return play
 
 
@@ -179,6 +256,99 @@ def drawn_run(rng):
     if rng.random() < 0.15:
         data = rng.choice([tablecheck_input(rng), damaged(rng, data)])
     return sound_run(rng, data, p, quota, workers)
+
+
+# ---- records that opening tests
+
+def made_up():
+    """E with a record that no run of one worker has: it holds 12, and the limit is 6. Opening takes it, and the turns are document 01's."""
+    with open('examples/e.table', 'rb') as f:
+        data = f.read()
+    run = machine.begin(data, 1, 6)[1]
+    run.next[:3], run.status[:3] = [2, 6, 10], [machine.READY] * 3
+    run.left, run.right, run.leftmost = machine.described([1, 2, 0])
+    run.amounts[1] = run.amounts[2] = 6
+    run.held = run.highest = 12
+    play = Play(bytes(SIZE), data)
+    put_record(play, run)
+    assert machine.sound(run) and play.open() == (0, [0])
+    taking = machine.Machine(run)
+    while not taking.ended():
+        sound_turn(play, taking, 0)
+    assert play.memory.totals.tolist() == [0, 12, taking.run.turns]
+    return play
+
+
+def put_record(play, run):
+    """The record stands in the memory, with other numbers beside it."""
+    memory = play.memory
+    memory.fill(parents=7, under=2, over=NO_THREAD)
+    for name in ('next', 'status', 'amounts', 'left', 'right'):
+        for t, x in enumerate(getattr(run, name)):
+            getattr(memory, name)[t] = x
+    memory.settings[lent.P], memory.settings[lent.K] = run.p, run.quota
+    memory.heads[lent.LEFTMOST], memory.heads[lent.FIRST], memory.heads[lent.BUSY] = run.leftmost, 5, run.busy
+    for i, x in enumerate((run.held, run.highest, run.turns)):
+        memory.totals[i] = x
+    for w, worker in enumerate(run.worker):
+        memory.holds[w], memory.threads[w], memory.quotas[w] = worker.holds, worker.thread, worker.quota
+    play.add(b'm', word(0), word(SIZE), bytes(memory.bytes))
+
+
+def blank_run(rng, data):
+    """The blank record is opened whatever the table, and is no longer blank if one number of it is another."""
+    play = Play(bytes(SIZE), data)
+    for name, _, count in FIELDS:
+        spoil(rng, play)
+        assert play.open() == (0, [0])
+        refused_beginning(rng, play)
+        i = lent.BUSY if name == 'heads' else rng.randrange(count)
+        if name not in BESIDE:
+            play.put(name, i, 1)
+            assert play.open()[0] == play.chart()[0] == 32
+            play.put(name, i, 0)
+    return play
+
+
+def restore(play, before):
+    play.add(b'm', word(0), word(SIZE), before)
+    play.memory.bytes[:] = before
+
+
+def quiet(rng, play, w):
+    """One number that no turn tests becomes another: a truth value, an amount, a left neighbour, what an idle worker has left, the most held, a parent."""
+    memory = play.memory
+    t = rng.choice([some_thread(rng, memory, THREADS), THREADS - 1])
+    holders = [w for w in range(WORKERS) if memory.holds[w]] or [w]
+    play.put(*rng.choice([('holds', rng.choice(holders), rng.choice([2, 255])), ('amounts', t, memory.amounts[t] + 1), ('left', t, rng.randrange(THREADS)), ('quotas', w, 1),
+                          ('totals', lent.HIGHEST, rng.choice([0, 2**64 - 1])), ('parents', t, any_number(rng, memory, THREADS))]))
+
+
+def opened_run(rng):
+    """Somewhere in a run, one number at a time becomes another, mostly one that turns would not notice, and the run is opened. Where the record is still sound, its turns are machine.py's.
+    Then all is as before, is opened with another table too, and goes on."""
+    data, most = run_table(rng)
+    play, p = Play(rng.randbytes(SIZE), data), rng.choice([1, 2, 3, 4, 16])
+    quota = min(LARGEST, rng.choice([most, most + 1, LARGEST]))
+    play.begin(p, quota)
+    taking = machine.Machine(machine.begin(data, p, quota)[1])
+    for _ in range(rng.randint(1, 4)):
+        for _ in range(rng.randint(0, 20)):
+            sound_turn(play, taking, rng.randrange(p))
+        before = bytes(play.memory.bytes)
+        rng.choice([quiet, damage])(rng, play, rng.randrange(p + 1) % WORKERS)
+        if rng.choice([play.open, play.open, play.chart])()[0] == 0 and play.open()[0] == 0:
+            other = machine.Machine(play.run.record(data))
+            for _ in range(min(3, machine.LAST_TURN - other.run.turns)):
+                sound_turn(play, other, rng.randrange(other.run.p))
+        restore(play, before)
+        if rng.random() < 0.1:
+            play.change_table(rng.choice([damaged(rng, data), data + bytes(machine.BYTES)]))
+            play.open()
+            restore(play, before)
+            play.change_table(data)
+    assert play.open() == (0, [0]) and play.memory.bytes == before
+    return play
 
 
 # ---- damaged memory
@@ -250,9 +420,11 @@ def some_worker(rng, memory):
 
 
 def call(rng, play, w):
-    """A turn of worker w, or a few over a list that starts with it, or in rounds."""
+    """A turn of worker w, or a few over a list that starts with it, or in rounds; or a call that takes none."""
     manner = rng.random()
-    if manner < 0.6:
+    if manner < 0.07:
+        rng.choice([play.open, play.chart, lambda: play.preview(w)])()
+    elif manner < 0.6:
         play.turn(w)
     elif manner < 0.8:
         workers = [w, *(some_worker(rng, play.memory) for _ in range(rng.choice([0, 3, 20])))]
@@ -379,23 +551,33 @@ class Program:
                 self.tell(play, i, expected, given)
 
     def tell(self, play, i, expected, given):
-        front = len(expected) - SIZE
+        front = len(expected) - (SIZE if len(expected) > SIZE else 0)
         with open('target/c/different.run', 'wb') as f:
             f.write(play.steps)
-        lines = ['answer %d of the steps in %s differs: number and row' % (i, f.name), '  expected %s' % expected[:front].hex(' ', 4), '  given    %s' % given[:front].hex(' ', 4)]
-        sys.exit('\n'.join(lines + (list(lent.differences(expected[front:], given[front:]))[:40] if len(given) == len(expected) else ['the program has stopped'])))
+        lines = ['answer %d of the steps in %s differs: number, row or line, and what is left of working memory' % (i, f.name)]
+        lines += ['  expected %s' % expected[:front].hex(' ', 4), '  given    %s' % given[:front].hex(' ', 4)]
+        if len(given) != len(expected):
+            lines.append('the program has stopped')
+        elif front < len(expected):
+            lines += list(lent.differences(expected[front:], given[front:]))[:40]
+        sys.exit('\n'.join(lines))
 
     def close(self):
-        """The last line: the most stack of each of the four calls."""
+        """The last line: the most stack of each of the seven calls."""
         self.process.stdin.close()
         last = self.process.stdout.read().decode().split()
         assert self.process.wait() == 0 and last[0] == 'stack'
         return list(map(int, last[1:]))
 
 
-NUMBERS = {'begin': [*range(12), 20, 21, 22], 'turn': [0, 30, 31, 32], 'list': [0, 30, 32], 'rounds': [0, 30, 32]}  # what each call can return
+# what each call can return
+NUMBERS = {'begin': [*range(12), 20, 21, 22], 'open': [0, 32], 'turn': [0, 30, 31, 32], 'list': [0, 30, 32], 'rounds': [0, 30, 32], 'preview': [0, 30, 31, 32],
+           'chart': [0, 32, 43]}
 WANTED = ['%s %d' % (call, x) for call, numbers in NUMBERS.items() for x in numbers] + [*lent.SAID.values(), 'turns', *MISFITS]
 WANTED += ['%s %s' % (call, what) for call in ('list', 'rounds') for what in (*lent.RUN_SAID.values(), 'with turns', 'without', 'turns', *MISFITS)]
+WANTED += ['preview %s' % what for what in ('turns', *MISFITS)]
+CLAUSES = ['length', 'table', 'beginning', *(clause.__name__ for clause in machine.CLAUSES), 'truth values', 'truth values alone']
+WANTED += ['open %s' % what for what in ('sound', 'blank', 'as it was', 'mended')] + ['%s %s' % (call, what) for call in ('open', 'chart') for what in CLAUSES]
 
 
 def compare(path, rng, whole, count):
@@ -405,6 +587,9 @@ def compare(path, rng, whole, count):
         ('sound', (sound_run(rng, data, WORKERS, LARGEST, [i % WORKERS for i in range(300)]) for data in whole)),
         ('sound', (drawn_run(rng) for _ in range(count))),
         ('sound', (drawn_calls(rng) for _ in range(count // 2))),
+        ('sound', [made_up()]),
+        ('damaged', (blank_run(rng, data) for data in (*whole, b'', bytes(100000)))),
+        ('damaged', (opened_run(rng) for _ in range(count // 4))),
         ('damaged', [idle_run()]),
         ('damaged', (damaged_run(rng) for _ in range(count))),
         ('random', (random_run(rng) for _ in range(count // 2))),

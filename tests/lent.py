@@ -1,10 +1,15 @@
-"""A run in memory that C lends (include/wivakkol.h): beginning, a turn and runs over turns, written on their own from document 01, on whatever that memory holds.
+"""A run in memory that C lends (include/wivakkol.h): beginning, opening, a turn, its preview, runs over turns and the line of the wall chart, written on their own from document 01 and
+the change requests, on whatever that memory holds.
 
 The memory is a struct wivakkol_run, byte for byte. What document 01 leaves open, as its machine only ever meets sound records, is here: a read
 outside an array or the table gives 0, and a write there does nothing; a search looks at 1,024 threads at most. Where a thread's number is none
 of the arrays', or a number that a turn would write does not fit into its place, the turn is refused with 32 and nothing has moved.
+
+Soundness is machine.py's, of the record that stands in the memory beside its table; the blank record is the blank one whatever the table.
 """
-from machine import ENDED, HELD, LAST_TURN, NO_THREAD, READY, THREADS, WAITING, WORKERS, begin_fault
+import chart
+import machine
+from machine import ENDED, HELD, LAST_TURN, NO_THREAD, READY, THREADS, WAITING, WORKERS, begin_fault, described
 from reference import ALLOC, END, FORK, FREE, JOIN, WORK, Table, check, owners
 
 # the struct: name, number of bits and how many, in its order
@@ -14,6 +19,9 @@ FIELDS = [('amounts', 64, THREADS), ('totals', 64, 3), ('settings', 32, 2), ('qu
 OFFSETS = {name: sum(bits // 8 * count for _, bits, count in FIELDS[:i]) for i, (name, _, _) in enumerate(FIELDS)}
 USED = sum(bits // 8 * count for _, bits, count in FIELDS)
 SIZE = (USED + 7) // 8 * 8
+# the working memory: its fields, and those that a call leaves all 0; it does not touch the others
+WORK_FIELDS = ['rises', 'falls', 'forks', 'parents', 'list']
+CLEARED = {'begin': WORK_FIELDS[:2], 'open': WORK_FIELDS, 'chart': WORK_FIELDS}
 CODES = {64: 'Q', 32: 'I', 16: 'H', 8: 'B'}
 
 P, K = range(2)
@@ -24,6 +32,7 @@ SAID = {IDLE: 'idle', DONE: 'done', QUOTA: 'quota', WAIT: 'wait'}
 FINISHED, SPENT = 6, 7
 RUN_SAID = {FINISHED: 'finished', SPENT: 'spent'}
 NO_ROW = [0] * 5
+NO_PREVIEW = [0] * 8
 
 
 class Misfit(Exception):
@@ -114,7 +123,7 @@ class Lent:
     """A run in lent memory, and the bytes of its table."""
 
     def __init__(self, memory, data):
-        self.memory, self.data, self.misfit = memory, data, None
+        self.memory, self.data, self.misfit, self.broken = memory, data, None, None
         self.list = Chain(memory, memory.left, memory.right, LEFTMOST)
         self.second = Chain(memory, memory.under, memory.over, FIRST)
 
@@ -134,11 +143,66 @@ class Lent:
         memory.settings[P], memory.settings[K] = p, quota
         for t, (first, _) in enumerate(table.contents):
             memory.next[t] = first
-        for t, (kind, x) in zip(owners(table), table.actions):
-            if kind == FORK:
-                memory.parents[x] = t
+        self.put_parents()
         memory.status[0] = READY
         return 0, [0]
+
+    def put_parents(self):
+        """Of each thread the one that forks it; 0 for the root and from n on."""
+        table, parents = Table(self.data), self.memory.parents
+        parents[:] = memoryview(bytes(2 * THREADS)).cast('H')
+        for t, (kind, x) in zip(owners(table), table.actions):
+            if kind == FORK:
+                parents[x] = t
+
+    # ---- check 32
+
+    def record(self, data):
+        """The record that stands in the memory, with these bytes as its table."""
+        memory, run = self.memory, machine.Run()
+        run.table, run.length = data + bytes(max(0, machine.BYTES - len(data))), len(data)
+        run.p, run.quota = memory.settings
+        for name in ('next', 'status', 'amounts', 'left', 'right'):
+            setattr(run, name, getattr(memory, name).tolist())
+        for worker, *values in zip(run.worker, memory.holds, memory.threads, memory.quotas):
+            worker.holds, worker.thread, worker.quota = values[0] != 0, *values[1:]
+        run.leftmost, run.busy = memory.heads[LEFTMOST], memory.heads[BUSY]
+        run.held, run.highest, run.turns = memory.totals
+        return run
+
+    def tested(self):
+        """'sound', 'blank' or None, and the record; the clauses that it breaks, where it is neither, are kept."""
+        run = self.record(self.data)
+        self.broken = ['truth values'] * (max(self.memory.holds) > 1) + machine.broken(run)
+        if not self.broken:
+            return 'sound', run
+        run = self.record(b'')
+        return 'blank' if machine.is_blank(run) else None, run
+
+    def open(self):
+        """The number of the refusal, 0 if there is none, and the row. What stands beside a record, each thread's parent and the second list, is written; zeros beside the blank one."""
+        memory, (found, _) = self.memory, self.tested()
+        if found is None:
+            return 32, [0]
+        links = [[0] * THREADS, [0] * THREADS, 0]
+        if found == 'sound':
+            self.put_parents()
+            links = described([t for t in self.list.threads() if memory.status[t] != WAITING])
+        else:
+            memory.parents[:] = memoryview(bytes(2 * THREADS)).cast('H')
+        under, over, memory.heads[FIRST] = links
+        for t in range(THREADS):
+            memory.under[t], memory.over[t] = under[t], over[t]
+        return 0, [0]
+
+    def chart(self, line):
+        """The number of the refusal, 0 if there is none, and the bytes of the lent line, which held `line`."""
+        found, run = self.tested()
+        if found is None:
+            return 32, line
+        if run.turns > chart.MOST_TURNS:
+            return 43, line
+        return 0, (chart.text(run) + '\n').encode()
 
     # ---- a turn
 
@@ -158,6 +222,18 @@ class Lent:
             memory.bytes[:] = before
             self.misfit = str(misfit)
             return 32, NO_ROW
+
+    def preview(self, w):
+        """What a turn would say, "taking the turn on a copy"."""
+        copy = Lent(Memory(self.memory.bytes), self.data)
+        shown = copy.shown(w, *copy.turn(w))
+        self.misfit = copy.misfit
+        return shown
+
+    def shown(self, w, number, row):
+        """A turn's answer, with memory held, its highest and the worker's quota left after it, which are here now."""
+        memory = self.memory
+        return (number, NO_PREVIEW) if number else (0, [*row, memory.totals[HELD_NOW], memory.totals[HIGHEST], memory.quotas[w]])
 
     def taken(self, w):
         memory = self.memory

@@ -2,6 +2,7 @@
 
 check(bytes) answers ('table', n, m, S1, D, N) or ('refused', number, place).
 """
+import functools
 import sys
 
 sys.setrecursionlimit(100000)
@@ -148,6 +149,7 @@ def nested(table, owner):
     return max(levels(t) for t in range(len(table.contents)))
 
 
+@functools.lru_cache(maxsize=8)  # one table is asked about again and again
 def check(data):
     if len(data) < 4:
         return 'refused', 1, 0

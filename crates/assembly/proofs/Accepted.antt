@@ -5,7 +5,7 @@ use mathlib.Core.List.{List}
 use lib.ListN.{length}
 use Rattle.table.specs.Sum.{sumTo}
 use Rattle.table.specs.Format.{threadsOf, actionsOf, tableOf}
-use Rattle.table.specs.Accepted.{Rules}
+use Rattle.table.specs.Rules.{Rules}
 use Rattle.table.specs.Load.{loaded}
 use Rattle.table.specs.declared.Facts.{Facts}
 use Rattle.table.specs.declared.Loaded.the-variants.{Accepted}

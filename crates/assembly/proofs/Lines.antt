@@ -7,7 +7,7 @@ use lib.ListN.{length, take, drop, length-drop, drop-of-length-le}
 use lib.Seq.{drop-drop}
 use Rattle.assembly.specs.Words.{spanOf, inClass, isNewline}
 use Rattle.assembly.specs.Said.{lineSaid, saids}
-use Rattle.assembly.specs.Steps.{Reads}
+use Rattle.assembly.specs.Code.Steps.{Reads}
 use Rattle.assembly.specs.declared.Said.{Said}
 use Rattle.assembly.specs.declared.line.Line.{Line}
 use Rattle.assembly.specs.declared.scan.Class.the-variants.{Line as ToNewline}

@@ -7,7 +7,7 @@ use mathlib.Core.Bool.{Bool, true, false, not}
 use lib.ListN.{length, take, drop}
 use lib.Seq.{drop-drop}
 use Rattle.assembly.specs.Words.{spanOf, onto, parts, nonempty, isBlank, wordsIn}
-use Rattle.assembly.specs.Steps.{FirstWord}
+use Rattle.assembly.specs.Code.Steps.{FirstWord}
 
 -- ---- a span, a byte at a time
 

@@ -10,7 +10,7 @@ use lib.ListN.{length, take, drop, length-drop, length-append, take-append-drop}
 use lib.Seq.{drop-drop, take-add, take-all, getD-drop}
 use Rattle.table.specs.Sum.{sumTo}
 use Rattle.table.specs.Format.{Kind, end, work, alloc, free, fork, join, unknown, kindOf, kind, Table, u24At, threadsOf, actionsOf, tableOf}
-use Rattle.table.specs.Rules.{argumentFits, argumentWrong, owner}
+use Rattle.table.specs.Checks.{argumentFits, argumentWrong, owner}
 use Rattle.table.specs.Load.{loaded}
 use Rattle.table.specs.declared.Facts.{Facts}
 use Rattle.table.specs.declared.Loaded.the-variants.{Accepted}

@@ -5,7 +5,7 @@ use mathlib.Core.Path.{_≡_, refl, ap, _∙_}
 use mathlib.Core.List.{List, [], _∷_, _++_, flatten}
 use mathlib.Core.Bool.{false}
 use lib.ListN.{length, drop, length-append}
-use Rattle.table.specs.Rules.{outside, maxThreads, maxActions}
+use Rattle.table.specs.Checks.{outside, maxThreads, maxActions}
 use Rattle.table.proofs.Tests.{or-neither}
 use Rattle.table.proofs.Sizes.{inside}
 use Rattle.text.specs.Text.{bufferAt}

@@ -6,7 +6,7 @@ use lib.Dec.{eqb, ltb}
 use lib.ListN.{length, drop}
 use Rattle.table.specs.Sum.{pick}
 use Rattle.table.specs.Pass.{refusal}
-use Rattle.table.specs.Rules.{outside, maxThreads, maxActions}
+use Rattle.table.specs.Checks.{outside, maxThreads, maxActions}
 use Rattle.table.specs.Load.{loaded}
 use Rattle.table.specs.declared.Refusal.{Refusal}
 use Rattle.table.specs.declared.Loaded.{Loaded}

@@ -3,5 +3,5 @@ pub mod Said
 pub mod Assembly
 pub mod Disassembly
 pub mod Message
-pub mod Steps
 pub mod Cases
+pub mod Code

@@ -7,7 +7,7 @@ ghost use Prim.Native.Nat.{_≤_};
 ghost use lib.ListN.{length};
 ghost use Rattle.assembly.specs.Said.{saids};
 ghost use Rattle.assembly.specs.Assembly.{countedBy, longestText, checked as checkedOf};
-ghost use Rattle.assembly.specs.Steps.{Countable};
+ghost use Rattle.assembly.specs.Code.Steps.{Countable};
 
 // After a line: the threads and actions so far, or what should have stood there.
 pub(crate) enum Counting {

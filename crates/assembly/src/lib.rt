@@ -20,12 +20,12 @@ use table::read::threads;
 ghost use mathlib.Core.Path.{_≡_};
 ghost use Prim.Native.Nat.{_≤_};
 ghost use lib.ListN.{length};
-ghost use Rattle.table.specs.Rules.{outside as isOutside};
+ghost use Rattle.table.specs.Checks.{outside as isOutside};
 ghost use Rattle.assembly.specs.Said.{saids};
 ghost use Rattle.assembly.specs.declared.check.Checked.the-variants.{WellFormed};
 ghost use Rattle.assembly.specs.Assembly.{assembled, assembledIn, answered, writtenIn, sizesOutside};
 ghost use Rattle.assembly.specs.Disassembly.{disassembled, disassembledIn};
-ghost use Rattle.assembly.specs.Steps.{Sized};
+ghost use Rattle.assembly.specs.Code.Steps.{Sized};
 
 // What should have stood on a line: a keyword, a number of at most 24 bits, the line's end, or the next thread by its number.
 pub enum Expected {

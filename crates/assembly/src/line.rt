@@ -12,7 +12,7 @@ ghost use Prim.Native.Nat.{_<_};
 ghost use lib.ListN.{length};
 ghost use Rattle.assembly.specs.Words.{wordsIn};
 ghost use Rattle.assembly.specs.Said.{saidAfter, saidLast, lineSaid};
-ghost use Rattle.assembly.specs.Steps.{Reads, ofSort};
+ghost use Rattle.assembly.specs.Code.Steps.{Reads, ofSort};
 
 pub(crate) struct Line {
     pub(crate) said: Said,

@@ -11,7 +11,7 @@ ghost use Rattle.table.specs.Sum.{sumTo};
 ghost use Rattle.table.specs.Format.{threadsOf, tableOf, kindOf};
 ghost use Rattle.lines.specs.Puts.{Puts};
 ghost use Rattle.assembly.specs.Disassembly.{threadTexts, operandTexts, actionTexts, bodyTexts, threadsTexts};
-ghost use Rattle.assembly.specs.Steps.{Operand};
+ghost use Rattle.assembly.specs.Code.Steps.{Operand};
 
 // A word with a number, on a line.
 fn put_operand(out: &mut [u8], at: usize, word: &[u8], x: usize) -> usize

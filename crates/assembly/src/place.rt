@@ -9,7 +9,7 @@ ghost use lib.Dec.{eqb};
 ghost use lib.ListN.{length};
 ghost use Rattle.assembly.specs.Said.{saids};
 ghost use Rattle.assembly.specs.Assembly.{lineThat, leftAfter, namesThread, longestText, refusedAt as refusedOf};
-ghost use Rattle.assembly.specs.Steps.{ofSort};
+ghost use Rattle.assembly.specs.Code.Steps.{ofSort};
 
 // For 4 and 11 a refusal's place is a thread.
 fn names_thread(number: u8) -> bool

@@ -10,7 +10,7 @@ ghost use Rattle.text.specs.Text.{bufferAt, placed};
 ghost use Rattle.lines.specs.Lines.{putAll};
 ghost use Rattle.assembly.specs.Said.{saids};
 ghost use Rattle.assembly.specs.Assembly.{pairRow, actionRow, entryRows, actionsAfter, entriesFrom, actionRows, actionsIn, tableRows, longestText};
-ghost use Rattle.assembly.specs.Steps.{CountsBody};
+ghost use Rattle.assembly.specs.Code.Steps.{CountsBody};
 
 // Two numbers of 16 bits.
 fn put_pair(out: &mut [u8], at: usize, a: usize, b: usize) -> usize

@@ -18,7 +18,7 @@ use Rattle.lent.specs.declared.Taken.{Taken}
 use Rattle.lent.specs.Arrays.{Arrays, tableFrom}
 use Rattle.lent.specs.Counted.{taken, turnOn}
 use Rattle.lent.specs.Packed.{packedOf}
-use Rattle.asyncdf.specs.Drives.{Moving, Driven}
+use Rattle.asyncdf.specs.Code.Drives.{Moving, Driven}
 use Rattle.asyncdf.proofs.Driving.{drive-over, drive-spent, drive-full, drive-none, drive-next}
 use Rattle.asyncdf.proofs.Moving.{moves, replies, keeps}
 use Rattle.asyncdf.proofs.Moving.{over as over-after}

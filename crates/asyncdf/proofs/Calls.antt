@@ -18,9 +18,9 @@ use Rattle.schedule.specs.declared.Report.the-variants.{Spent, Refused}
 use Rattle.schedule.specs.Answers.{beginningValues, turningValues, reportValues}
 use Rattle.schedule.specs.Record.{blank}
 use Rattle.schedule.specs.Turn.{unsound, rootEnded, noWorker, stepRun, passedIn, turned}
-use Rattle.schedule.specs.Runs.{ran, moved, drive, listRun, roundsRun}
+use Rattle.schedule.specs.Runs.{ran, moved, drive, listRun, roundsRun, workerAt}
 use Rattle.soundness.proofs.Passed.{has-workers, no-workers}
-use Rattle.asyncdf.specs.Drives.{who, Sequence, Open, Driven}
+use Rattle.asyncdf.specs.Code.Drives.{Sequence, Open, Driven}
 use Rattle.asyncdf.proofs.Driving.{drive-next}
 use Rattle.lent.proofs.Answers.{turned-taken}
 
@@ -31,8 +31,8 @@ drive-one f r o = ap (λ (x : Ran). x .run) (drive-next f 0 r (o .unended) 0 (λ
 
 -- ---- runs
 
-pub one-worker : (w p : ℕ) → who (w ∷ []) false p 0 ≡ w
-unfolding who
+pub one-worker : (w p : ℕ) → workerAt (w ∷ []) false p 0 ≡ w
+unfolding workerAt
 one-worker w p = refl
 
 -- a list has a worker for each of its turns, and rounds of some workers have one for any
@@ -56,12 +56,12 @@ module _ (r : Run) where
   rounds-unsound limit e = rw e
 
   module _ (e : unsound r ≡ false) where
-    pub list-driven : (l : List ℕ) (p : ℕ) (d : Ran) → d ≡ drive (who l false p) (length l) 0 r → d ≡ listRun r l
-    unfolding listRun who
+    pub list-driven : (l : List ℕ) (p : ℕ) (d : Ran) → d ≡ drive (workerAt l false p) (length l) 0 r → d ≡ listRun r l
+    unfolding listRun workerAt
     list-driven l p d h = h ∙ rw e
 
-    pub rounds-driven : (limit : ℕ) (l : List ℕ) (d : Ran) → 0 < r .workers → d ≡ drive (who l true (r .workers)) limit 0 r → d ≡ roundsRun r limit
-    unfolding roundsRun who
+    pub rounds-driven : (limit : ℕ) (l : List ℕ) (d : Ran) → 0 < r .workers → d ≡ drive (workerAt l true (r .workers)) limit 0 r → d ≡ roundsRun r limit
+    unfolding roundsRun workerAt
     rounds-driven limit l d n h = h ∙ rw (e, ne-eqb (r .workers) 0 (λ z. omega (arith, n, z)))
 
     module _ (n : r .workers ≡ 0) where
@@ -89,10 +89,10 @@ module _ (r : Run) where
 
 module _ (r : Run) (w : ℕ) (e : unsound r ≡ false) (h : w < r .workers) (o : rootEnded r ≡ false) where
   abbrev order : ℕ → ℕ
-  order = who (w ∷ []) false (r .workers)
+  order = workerAt (w ∷ []) false (r .workers)
 
   may-turn : Open r (order 0)
-  unfolding who
+  unfolding workerAt
   may-turn = record { unended = o; room = has-workers r e (omega (arith, h)) .turns; below = h }
 
   pub turn-driven : (x : Report) (y : Reply) (k : ℕ) (s : Run) → Driven order 1 r x y s → k ≡ passedIn r w → record { answer = Taken y k; run = s } ≡ turned r w

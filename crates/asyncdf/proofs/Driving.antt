@@ -9,7 +9,7 @@ use lib.Dec.{leb, eqb}
 use borrow.Author.Tests.{eqb-false, eq-eqb, ne-eqb, lt-ltb, le-ltb}
 use Rattle.table.specs.Format.{Kind, end, work, alloc, free, fork, join, unknown, Table, kind}
 use Rattle.table.specs.Pass.{refusal}
-use Rattle.table.specs.Rules.{owner, endOf}
+use Rattle.table.specs.Checks.{owner, endOf}
 use Rattle.table.proofs.Tests.{no-way}
 use Rattle.table.proofs.Bodies.{owner-of-end, end-kind}
 use Rattle.schedule.specs.declared.Run.{Run}
@@ -22,14 +22,14 @@ use Rattle.schedule.specs.Sound.{isDone, Steady}
 use Rattle.schedule.specs.Turn.{rootEnded, noWorker, stepRun}
 use Rattle.schedule.specs.Runs.{ran, moved, drive}
 use Rattle.schedule.specs.Memory.{ofReply}
-use Rattle.schedule.proofs.Lawful.{Lawful}
-use Rattle.schedule.proofs.Facts.{Facts}
-use Rattle.schedule.proofs.Done.{done-last, undone}
-use Rattle.schedule.proofs.Moves.{taken-facts}
-use Rattle.schedule.proofs.Releases.{Acting, acting}
-use Rattle.schedule.proofs.Ends.{acting-ended}
-use Rattle.schedule.proofs.Turns.{leftmost-ready, taken-holds, turn-facts}
-use Rattle.schedule.proofs.Tries.{Turned, idles, tries, turned}
+use Rattle.schedule.proofs.Tables.Lawful.{Lawful}
+use Rattle.schedule.proofs.Sound.Facts.{Facts}
+use Rattle.schedule.proofs.Sound.Done.{done-last, undone}
+use Rattle.schedule.proofs.Preservation.Moves.{taken-facts}
+use Rattle.schedule.proofs.Preservation.Releases.{Acting, acting}
+use Rattle.schedule.proofs.Preservation.Ends.{acting-ended}
+use Rattle.schedule.proofs.Preservation.Turns.{leftmost-ready, taken-holds, turn-facts}
+use Rattle.schedule.proofs.Bounds.Tries.{Turned, idles, tries, turned}
 use Rattle.schedule.proofs.Stores.{steady-lawful, steady-fits, steady-facts}
 
 -- ---- the root's end

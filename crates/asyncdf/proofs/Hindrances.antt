@@ -21,8 +21,8 @@ use Rattle.chart.proofs.Records.{many, charted-many}
 use Rattle.lent.specs.declared.Moved.{Moved}
 use Rattle.lent.specs.Arrays.{Arrays}
 use Rattle.lent.specs.Packed.{packedOf}
-use Rattle.asyncdf.specs.Drives.{Moving}
-use Rattle.asyncdf.specs.Sheets.{turnsTexts, hindered}
+use Rattle.asyncdf.specs.Code.Drives.{Moving}
+use Rattle.asyncdf.specs.Code.Sheets.{turnsTexts, hindered}
 use Rattle.lent.proofs.Answers.{steady-full, steady-room, turned-unsound, turned-none, turned-taken}
 use Rattle.asyncdf.proofs.Ordered.{texts-refused, texts-many}
 

@@ -12,7 +12,7 @@ use Rattle.schedule.specs.declared.Run.{Run}
 use Rattle.schedule.specs.declared.Reply.{Reply}
 use Rattle.schedule.specs.declared.Reply.the-variants.{Done}
 use Rattle.table.specs.Format.{threadsOf, tableOf}
-use Rattle.table.specs.Rules.{endOf}
+use Rattle.table.specs.Checks.{endOf}
 use Rattle.schedule.specs.Machine.{nobody}
 use Rattle.schedule.specs.Memory.{ofReply}
 use Rattle.schedule.specs.Links.{noThread, LinkedAs}
@@ -22,16 +22,16 @@ use Rattle.schedule.specs.Sound.{Steady}
 use Rattle.schedule.specs.Turn.{rootEnded, stepRun}
 use Rattle.schedule.specs.Runs.{moved}
 use Rattle.schedule.proofs.Reply.{the-type}
-use Rattle.schedule.proofs.Links.{laid-linked}
-use Rattle.schedule.proofs.ActiveMoves.{list-once, list-small}
-use Rattle.schedule.proofs.Fills.{fill-linked}
+use Rattle.schedule.proofs.Linked.Links.{laid-linked}
+use Rattle.schedule.proofs.Linked.ActiveMoves.{list-once, list-small}
+use Rattle.schedule.proofs.Linked.Fills.{fill-linked}
 use Rattle.schedule.proofs.Stores.{steady-lawful, steady-facts, moved-steady}
 use Rattle.schedule.specs.Parents.{Parents}
 use Rattle.lent.specs.declared.Moved.{Moved}
 use Rattle.lent.specs.declared.Taken.{Taken}
 use Rattle.lent.specs.Arrays.{Arrays, arrays, links, tableFrom}
 use Rattle.lent.specs.Packed.{movedOf, packedOf}
-use Rattle.asyncdf.specs.Drives.{Moving}
+use Rattle.asyncdf.specs.Code.Drives.{Moving}
 use Rattle.lent.specs.Counted.{taken, turnOn}
 use Rattle.lent.proofs.Linking.{linked-as}
 use Rattle.lent.proofs.Packed.{Carries, Goes, turn-goes}

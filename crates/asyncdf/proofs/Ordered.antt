@@ -21,7 +21,7 @@ use Rattle.lines.proofs.Putting.{puts-within, puts-more}
 use Rattle.chart.specs.declared.Charted.the-variants.{Written}
 use Rattle.chart.specs.declared.Charted.the-variants.{Refused as refusedIt}
 use Rattle.chart.specs.Chart.{shown, charted}
-use Rattle.asyncdf.specs.Sheets.{turnsTexts, widest, afterTexts, overTexts}
+use Rattle.asyncdf.specs.Code.Sheets.{turnsTexts, widest, afterTexts, overTexts}
 
 -- ---- the texts
 

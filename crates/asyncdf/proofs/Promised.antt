@@ -25,7 +25,7 @@ use Rattle.schedule.specs.Runs.{listRun, roundsRun}
 use Rattle.schedule.specs.Calls.{Call, turn, overList, inRounds, turnsIn, turnRow, afterCall, afterCalls, rowOf, rowOfCalls}
 use Rattle.schedule.proofs.Limit.{MemoryLimit, memory-limit}
 use Rattle.schedule.proofs.ThreadLimit.{ThreadLimit, thread-limit}
-use Rattle.schedule.proofs.Values.{begin-values, turn-values, list-values, rounds-values}
+use Rattle.schedule.proofs.Runs.Values.{begin-values, turn-values, list-values, rounds-values}
 use Rattle.asyncdf.proofs.begin.Kinds as begin-kinds
 use Rattle.asyncdf.proofs.begin.Reads as begin-promise
 use Rattle.asyncdf.proofs.turn.Kinds as turn-kinds

@@ -1,2 +1,1 @@
-pub mod Drives
-pub mod Sheets
+pub mod Code

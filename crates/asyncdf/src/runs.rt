@@ -16,16 +16,17 @@ ghost use mathlib.Core.List.{List};
 ghost use Prim.Native.Nat.{ℕ, _+_, _-_, _<_};
 ghost use Rattle.table.specs.Format.{tableOf};
 ghost use Rattle.table.specs.Pass.{refusal};
-ghost use Rattle.table.specs.Rules.{endOf};
-ghost use Rattle.table.specs.Accepted.{Rules};
+ghost use Rattle.table.specs.Checks.{endOf};
+ghost use Rattle.table.specs.Rules.{Rules};
 ghost use Rattle.schedule.specs.declared.Run.{Run as RunRecord};
 ghost use Rattle.schedule.specs.declared.Report.the-variants.{Refused};
 ghost use Rattle.schedule.specs.Record.{tableIn};
 ghost use Rattle.schedule.specs.Sound.{Steady};
 ghost use Rattle.schedule.specs.Parents.{Parents};
+ghost use Rattle.schedule.specs.Runs.{workerAt};
 ghost use Rattle.lent.specs.Arrays.{arrays};
 ghost use Rattle.lent.specs.Packed.{movedOf, packedOf};
-ghost use Rattle.asyncdf.specs.Drives.{who, Sequence, Moving, Stands, Driven};
+ghost use Rattle.asyncdf.specs.Code.Drives.{Sequence, Moving, Stands, Driven};
 
 // The root's last action.
 pub(crate) fn root_end(table: &[u8]) -> usize
@@ -54,7 +55,7 @@ pub(crate) fn moved_in(run: Run, first: u16) -> Moved
 // The worker whose turn comes after i turns: from the order, or in rounds.
 fn worker_of(order: &[u8], rounds: bool, p: usize, i: usize) -> usize
     requires { ⌜ Sequence (now order) rounds p i ⌝ }
-    ensures { λ r. ⌜ r ≡ who (now (order .entry)) rounds p i ⌝ }
+    ensures { λ r. ⌜ r ≡ workerAt (now (order .entry)) rounds p i ⌝ }
 {
     if rounds { i % p } else { order[i] as usize }
 }
@@ -132,7 +133,7 @@ fn take_turns(
     requires { ⌜ ((i : ℕ) → i < limit → Sequence (now order) rounds p i) ⌝ }
     ensures { λ r. ⌜ ((run : RunRecord)
         → Moving run (now (table .entry)) n last p quota (now (parents .entry)) (arrays (now (next .entry)) (now (status .entry)) (now (amounts .entry)) (now (left .entry)) (now (right .entry)) (now (under .entry)) (now (over .entry))) start from
-        → Driven (who (now (order .entry)) rounds p) limit (packedOf run (arrays (now (next .entry)) (now (status .entry)) (now (amounts .entry)) (now (left .entry)) (now (right .entry)) (now (under .entry)) (now (over .entry))) start from)
+        → Driven (workerAt (now (order .entry)) rounds p) limit (packedOf run (arrays (now (next .entry)) (now (status .entry)) (now (amounts .entry)) (now (left .entry)) (now (right .entry)) (now (under .entry)) (now (over .entry))) start from)
         (r .report) (r .reply) (packedOf run (arrays (now (next .exit)) (now (status .exit)) (now (amounts .exit)) (now (left .exit)) (now (right .exit)) (now (under .exit)) (now (over .exit))) (r .workers) (r .moved))) ⌝ }
 {
     let mut workers = start;
@@ -221,7 +222,7 @@ pub(crate) fn drive(
     requires { ⌜ Steady run ⌝ }
     requires { ⌜ Parents (tableIn run) (now parents) ⌝ }
     requires { ⌜ ((i : ℕ) → i < limit → Sequence (now order) rounds (run .workers) i) ⌝ }
-    ensures { λ r. ⌜ Driven (who (now (order .entry)) rounds (run .workers)) limit run (r .report) (r .reply) (r .run) ⌝ }
+    ensures { λ r. ⌜ Driven (workerAt (now (order .entry)) rounds (run .workers)) limit run (r .report) (r .reply) (r .run) ⌝ }
 {
     let length = run.length as usize;
     let table = run.table;

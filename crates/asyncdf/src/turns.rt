@@ -31,8 +31,8 @@ ghost use Rattle.chart.specs.Chart.{shownOf, mostTurns};
 ghost use Rattle.schedule.specs.Parents.{Parents};
 ghost use Rattle.lent.specs.Arrays.{arrays};
 ghost use Rattle.lent.specs.Packed.{packedOf};
-ghost use Rattle.asyncdf.specs.Drives.{Moving, Stands};
-ghost use Rattle.asyncdf.specs.Sheets.{turnsTexts, widest, afterTexts, afterSize, overTexts, hindered};
+ghost use Rattle.asyncdf.specs.Code.Drives.{Moving, Stands};
+ghost use Rattle.asyncdf.specs.Code.Sheets.{turnsTexts, widest, afterTexts, afterSize, overTexts, hindered};
 
 // The action that a reply says was done, 0 where none was.
 fn action_in(reply: Reply) -> u16

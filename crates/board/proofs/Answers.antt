@@ -9,7 +9,7 @@ use mathlib.Core.List.{List, [], _∷_}
 use borrow.Author.Tests.{lt-ltb, le-ltb}
 use Rattle.table.specs.Format.{tableOf}
 use Rattle.table.specs.Pass.{orElse, refusal, firstFound, tryAt, tryFrom, tryPass}
-use Rattle.table.specs.Rules.{passes}
+use Rattle.table.specs.Checks.{passes}
 use Rattle.table.specs.Load.{tableValues, valuesOf}
 use Rattle.table.specs.declared.Facts.{Facts}
 use Rattle.table.specs.declared.Refusal.{Refusal}

@@ -10,7 +10,7 @@ use borrow.Author.Tests.{lt-ltb, le-ltb}
 use lib.ListN.{replicate, set}
 use Rattle.table.specs.Format.{tableOf}
 use Rattle.table.specs.Pass.{refusal, firstFound, tryAt, tryFrom, tryPass}
-use Rattle.table.specs.Rules.{passes}
+use Rattle.table.specs.Checks.{passes}
 use Rattle.table.specs.declared.Refusal.{Refusal}
 use Rattle.table.specs.declared.Found.{Found}
 use Rattle.table.specs.declared.Found.the-variants.{Nothing, At}
@@ -24,7 +24,7 @@ use Rattle.lent.specs.Arrays.{arrays}
 use Rattle.board.specs.Lent.{memory, answer, lentBegin}
 
 module _ (s : List ℕ) (K : ℕ) where
-  too-many : (p : ℕ) → 17 ≤ p → firstFound (beginPasses (tableOf s) p K) ≡ At (refusal 20 0)
+  pub too-many : (p : ℕ) → 17 ≤ p → firstFound (beginPasses (tableOf s) p K) ≡ At (refusal 20 0)
   unfolding firstFound tryPass tryFrom tryAt
   too-many p h = rw (le-ltb p 1 (omega arith), lt-ltb 16 p (omega arith))
 

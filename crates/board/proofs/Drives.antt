@@ -1,6 +1,6 @@
 -- A run in lent memory goes turn by turn.
 use mathlib.Core.Path.{_≡_, refl, sym, ap, _∙_}
-use Prim.Native.Nat.{ℕ, zero, suc, _+_, _-_, _≤_, _<_}
+use Prim.Native.Nat.{ℕ, suc, _+_, _-_, _≤_, _<_}
 use native.Mathlib.Omega.{arith}
 use mathlib.Core.List.{List, []}
 use mathlib.Core.Bool.{Bool, true, false}
@@ -12,8 +12,9 @@ use Rattle.schedule.specs.Machine.{ended}
 use Rattle.schedule.specs.Answers.{finished, spent, nothing}
 use Rattle.schedule.specs.declared.Reply.the-variants.{Idle}
 use Rattle.table.specs.Format.{tableOf}
+use Rattle.schedule.specs.Runs.{workerAt}
 use Rattle.lent.specs.Counted.{Left, turnOn}
-use Rattle.board.specs.Lent.{Memory, workerIn, movedIn, memoryAfter, Answer, answer, hindrance, Told, told, turnLeft, turnIn, runRow, overIn, whoIn, lentDrive, lentList, lentRounds}
+use Rattle.board.specs.Lent.{Memory, workerIn, movedIn, memoryAfter, Answer, answer, hindrance, Told, told, turnLeft, turnIn, runRow, overIn, lentDrive, lentList, lentRounds}
 
 -- a turn that is refused moves nothing
 refused-same : (s : List ℕ) (w : ℕ) (M : Memory) → (turnIn s w M .number ≡ 0 → ⊥) → turnIn s w M .memory ≡ M
@@ -90,7 +91,7 @@ module _ (s : List ℕ) (M : Memory) where
     full-rounds limit r = ap (λ (x : List ℕ). answer 32 x M) r ∙ rw (eq-eqb (movedIn M .turns) 18446744073709551615 h)
 
   module _ (h : movedIn M .turns ≡ 18446744073709551615 → ⊥) where
-    pub driven-list : (l : List ℕ) {a : Answer} → a ≡ lentDrive s (whoIn l false (getD (M .settings) 0 0)) (length l) 0 M → a ≡ lentList s l M
+    pub driven-list : (l : List ℕ) {a : Answer} → a ≡ lentDrive s (workerAt l false (getD (M .settings) 0 0)) (length l) 0 M → a ≡ lentList s l M
     unfolding lentList
     driven-list l e = e ∙ rw (ne-eqb (movedIn M .turns) 18446744073709551615 h)
 
@@ -98,6 +99,6 @@ module _ (s : List ℕ) (M : Memory) where
     unfolding lentRounds
     no-rounds limit d r = ap (λ (x : List ℕ). answer 30 x M) r ∙ rw (ne-eqb (movedIn M .turns) 18446744073709551615 h, eq-eqb (getD (M .settings) 0 0) 0 d)
 
-    pub driven-rounds : (limit : ℕ) {a : Answer} → (getD (M .settings) 0 0 ≡ 0 → ⊥) → a ≡ lentDrive s (whoIn [] true (getD (M .settings) 0 0)) limit 0 M → a ≡ lentRounds s limit M
+    pub driven-rounds : (limit : ℕ) {a : Answer} → (getD (M .settings) 0 0 ≡ 0 → ⊥) → a ≡ lentDrive s (workerAt [] true (getD (M .settings) 0 0)) limit 0 M → a ≡ lentRounds s limit M
     unfolding lentRounds
     driven-rounds limit d e = e ∙ rw (ne-eqb (movedIn M .turns) 18446744073709551615 h, ne-eqb (getD (M .settings) 0 0) 0 d)

@@ -10,7 +10,7 @@ use denote.Triple.Clauses.{AtExit}
 use borrow.Fn.Kinds.{endedOf}
 use mathlib.Core.Bool.{Bool, true, false}
 use lib.Dec.{eqb}
-use lib.ListN.{length, getD}
+use lib.ListN.{length, getD, replicate}
 use Rattle.table.specs.Sum.{pick}
 use Rattle.table.specs.Format.{tableOf}
 use Rattle.schedule.proofs.Limit.{MemoryLimit}
@@ -18,14 +18,20 @@ use Rattle.schedule.proofs.ThreadLimit.{ThreadLimit}
 use Rattle.lent.specs.Arrays.{arrays}
 use Rattle.schedule.specs.declared.Reply.the-variants.{Idle}
 use Rattle.lent.specs.Counted.{Left, turnOn}
-use Rattle.board.specs.Lent.{Memory, memory, workerIn, movedIn, memoryAfter, Answer, answer, lentBegin, hindrance, Told, told, turnLeft, turnIn, lentTurn, runRow, overIn, whoIn, lentDrive, lentList, lentRounds}
+use Rattle.board.specs.Lent.{Memory, memory, workerIn, movedIn, memoryAfter, Answer, answer, lentBegin, hindrance, told, turnLeft, turnIn, lentTurn, runRow, overIn, lentDrive, lentList, lentRounds}
 use Rattle.board.specs.Stands.{runIn}
 use Rattle.schedule.specs.Answers.{finished, nothing}
-use Rattle.schedule.specs.Calls.{Call, turn, overList, inRounds}
-use Rattle.board.specs.LentCalls.{lentCall, lentRowOf, lentAfter, lentRow}
-use Rattle.board.proofs.LentLimit.{lent-limit, lent-threads}
+use Rattle.schedule.specs.Record.{maxWorkers}
+use Rattle.schedule.specs.Calls.{turn, overList, inRounds, afterCalls, rowOfCalls}
+use Rattle.schedule.specs.Runs.{workerAt}
+use Rattle.board.specs.Opened.{soundIn, blankIn, openedAs, lentOpen}
+use Rattle.board.specs.LentCalls.{LentCall, moving, opening, lentMove, lentCall, lentRowOf, lentAfter, lentRow, movesOf}
+use Rattle.board.proofs.Opens.{open-record}
+use Rattle.board.proofs.LentLimit.{open-refine, lent-limit, lent-threads}
 use Rattle.board.proofs.begin.wivakkol_begin_on.Kinds as begin-kinds
 use Rattle.board.proofs.begin.wivakkol_begin_on.Reads as begin-promise
+use Rattle.board.proofs.open.wivakkol_open_on.Kinds as open-kinds
+use Rattle.board.proofs.open.wivakkol_open_on.Reads as open-promise
 use Rattle.board.proofs.runs.wivakkol_list_on.Kinds as list-kinds
 use Rattle.board.proofs.runs.wivakkol_list_on.Reads as list-promise
 use Rattle.board.proofs.runs.wivakkol_rounds_on.Kinds as rounds-kinds
@@ -54,13 +60,28 @@ pub record Refs : Type 0 where
   pub totals : RefT (List ℕ)
   pub row : RefT (List ℕ)
 
+-- the run in them
+abbrev lentIn : Refs → Memory
+lentIn refs =
+    memory (now (refs .settings)) (now (refs .parents))
+    (arrays (now (refs .next)) (now (refs .status)) (now (refs .amounts)) (now (refs .left)) (now (refs .right)) (now (refs .under)) (now (refs .over))) (now (refs .holds)) (now (refs .threads))
+    (now (refs .quotas)) (now (refs .heads)) (now (refs .totals))
+
+-- to the working memory
+pub record Work : Type 0 where
+  pub rises : RefT (List ℕ)
+  pub falls : RefT (List ℕ)
+  pub forks : RefT (List ℕ)
+  pub seen : RefT (List ℕ)
+  pub list : RefT (List ℕ)
+
 -- `wivakkol_turn_on`, lent a table s and a run M, answered a
 pub record TurnSays (s : List ℕ) (w : ℕ) (M : Memory) (a : Answer) : Type 0 where
   pub lifetimes : Lfts 16
   pub refs : Refs
   pub exit : AtExit (endedOf 16 turn-kinds.ps turn-kinds.r) lifetimes
   pub lent-table : now (refs .table) ≡ s
-  pub lent-run : memory (now (refs .settings)) (now (refs .parents)) (arrays (now (refs .next)) (now (refs .status)) (now (refs .amounts)) (now (refs .left)) (now (refs .right)) (now (refs .under)) (now (refs .over))) (now (refs .holds)) (now (refs .threads)) (now (refs .quotas)) (now (refs .heads)) (now (refs .totals)) ≡ M
+  pub lent-run : lentIn refs ≡ M
   pub left : answer (a .number) (now (exit .1 .1 .1 .1 .1 .1 .1 .1 .1 .1 .1 .1 .1 .1 .1 .1 .0)) (memory (now (refs .settings)) (now (refs .parents)) (arrays (now (exit .1 .1 .1 .1 .0)) (now (exit .1 .1 .1 .1 .1 .0)) (now (exit .1 .1 .1 .1 .1 .1 .0)) (now (exit .1 .1 .1 .1 .1 .1 .1 .0)) (now (exit .1 .1 .1 .1 .1 .1 .1 .1 .0)) (now (exit .1 .1 .1 .1 .1 .1 .1 .1 .1 .0)) (now (exit .1 .1 .1 .1 .1 .1 .1 .1 .1 .1 .0))) (now (exit .1 .1 .1 .1 .1 .1 .1 .1 .1 .1 .1 .0)) (now (exit .1 .1 .1 .1 .1 .1 .1 .1 .1 .1 .1 .1 .0)) (now (exit .1 .1 .1 .1 .1 .1 .1 .1 .1 .1 .1 .1 .1 .0)) (now (exit .1 .1 .1 .1 .1 .1 .1 .1 .1 .1 .1 .1 .1 .1 .0)) (now (exit .1 .1 .1 .1 .1 .1 .1 .1 .1 .1 .1 .1 .1 .1 .1 .0))) ≡ a
   pub promised : turn-promise.Learnt lifetimes (refs .table, (w, (refs .settings, (refs .parents, (refs .next, (refs .status, (refs .amounts, (refs .left, (refs .right, (refs .under, (refs .over, (refs .holds, (refs .threads, (refs .quotas, (refs .heads, (refs .totals, (refs .row, tt))))))))))))))))) (a .number) exit
 
@@ -72,7 +93,7 @@ pub record ListSays (s : List ℕ) (l : List ℕ) (M : Memory) (a : Answer) : Ty
   pub lent-order : now order ≡ l
   pub exit : AtExit (endedOf 17 list-kinds.ps list-kinds.r) lifetimes
   pub lent-table : now (refs .table) ≡ s
-  pub lent-run : memory (now (refs .settings)) (now (refs .parents)) (arrays (now (refs .next)) (now (refs .status)) (now (refs .amounts)) (now (refs .left)) (now (refs .right)) (now (refs .under)) (now (refs .over))) (now (refs .holds)) (now (refs .threads)) (now (refs .quotas)) (now (refs .heads)) (now (refs .totals)) ≡ M
+  pub lent-run : lentIn refs ≡ M
   pub left : answer (a .number) (now (exit .1 .1 .1 .1 .1 .1 .1 .1 .1 .1 .1 .1 .1 .1 .1 .1 .0)) (memory (now (refs .settings)) (now (refs .parents)) (arrays (now (exit .1 .1 .1 .1 .0)) (now (exit .1 .1 .1 .1 .1 .0)) (now (exit .1 .1 .1 .1 .1 .1 .0)) (now (exit .1 .1 .1 .1 .1 .1 .1 .0)) (now (exit .1 .1 .1 .1 .1 .1 .1 .1 .0)) (now (exit .1 .1 .1 .1 .1 .1 .1 .1 .1 .0)) (now (exit .1 .1 .1 .1 .1 .1 .1 .1 .1 .1 .0))) (now (exit .1 .1 .1 .1 .1 .1 .1 .1 .1 .1 .1 .0)) (now (exit .1 .1 .1 .1 .1 .1 .1 .1 .1 .1 .1 .1 .0)) (now (exit .1 .1 .1 .1 .1 .1 .1 .1 .1 .1 .1 .1 .1 .0)) (now (exit .1 .1 .1 .1 .1 .1 .1 .1 .1 .1 .1 .1 .1 .1 .0)) (now (exit .1 .1 .1 .1 .1 .1 .1 .1 .1 .1 .1 .1 .1 .1 .1 .0))) ≡ a
   pub promised : list-promise.Learnt lifetimes (refs .table, (order, (refs .settings, (refs .parents, (refs .next, (refs .status, (refs .amounts, (refs .left, (refs .right, (refs .under, (refs .over, (refs .holds, (refs .threads, (refs .quotas, (refs .heads, (refs .totals, (refs .row, tt))))))))))))))))) (a .number) exit
 
@@ -82,18 +103,30 @@ pub record RoundsSays (s : List ℕ) (limit : ℕ) (M : Memory) (a : Answer) : T
   pub refs : Refs
   pub exit : AtExit (endedOf 16 rounds-kinds.ps rounds-kinds.r) lifetimes
   pub lent-table : now (refs .table) ≡ s
-  pub lent-run : memory (now (refs .settings)) (now (refs .parents)) (arrays (now (refs .next)) (now (refs .status)) (now (refs .amounts)) (now (refs .left)) (now (refs .right)) (now (refs .under)) (now (refs .over))) (now (refs .holds)) (now (refs .threads)) (now (refs .quotas)) (now (refs .heads)) (now (refs .totals)) ≡ M
+  pub lent-run : lentIn refs ≡ M
   pub left : answer (a .number) (now (exit .1 .1 .1 .1 .1 .1 .1 .1 .1 .1 .1 .1 .1 .1 .1 .1 .0)) (memory (now (refs .settings)) (now (refs .parents)) (arrays (now (exit .1 .1 .1 .1 .0)) (now (exit .1 .1 .1 .1 .1 .0)) (now (exit .1 .1 .1 .1 .1 .1 .0)) (now (exit .1 .1 .1 .1 .1 .1 .1 .0)) (now (exit .1 .1 .1 .1 .1 .1 .1 .1 .0)) (now (exit .1 .1 .1 .1 .1 .1 .1 .1 .1 .0)) (now (exit .1 .1 .1 .1 .1 .1 .1 .1 .1 .1 .0))) (now (exit .1 .1 .1 .1 .1 .1 .1 .1 .1 .1 .1 .0)) (now (exit .1 .1 .1 .1 .1 .1 .1 .1 .1 .1 .1 .1 .0)) (now (exit .1 .1 .1 .1 .1 .1 .1 .1 .1 .1 .1 .1 .1 .0)) (now (exit .1 .1 .1 .1 .1 .1 .1 .1 .1 .1 .1 .1 .1 .1 .0)) (now (exit .1 .1 .1 .1 .1 .1 .1 .1 .1 .1 .1 .1 .1 .1 .1 .0))) ≡ a
   pub promised : rounds-promise.Learnt lifetimes (refs .table, (limit, (refs .settings, (refs .parents, (refs .next, (refs .status, (refs .amounts, (refs .left, (refs .right, (refs .under, (refs .over, (refs .holds, (refs .threads, (refs .quotas, (refs .heads, (refs .totals, (refs .row, tt))))))))))))))))) (a .number) exit
 
 -- `wivakkol_begin_on`, lent a table s, answered a
 pub record BeginSays (s : List ℕ) (p K : ℕ) (a : Answer) : Type 0 where
-  pub lifetimes : Lfts 16
+  pub lifetimes : Lfts 18
   pub refs : Refs
-  pub exit : AtExit (endedOf 16 begin-kinds.ps begin-kinds.r) lifetimes
+  pub work : Work
+  pub exit : AtExit (endedOf 18 begin-kinds.ps begin-kinds.r) lifetimes
   pub lent-table : now (refs .table) ≡ s
   pub left : answer (a .number) (now (exit .1 .1 .1 .1 .1 .1 .1 .1 .1 .1 .1 .1 .1 .1 .1 .1 .1 .0)) (memory (now (exit .1 .1 .1 .0)) (now (exit .1 .1 .1 .1 .0)) (arrays (now (exit .1 .1 .1 .1 .1 .0)) (now (exit .1 .1 .1 .1 .1 .1 .0)) (now (exit .1 .1 .1 .1 .1 .1 .1 .0)) (now (exit .1 .1 .1 .1 .1 .1 .1 .1 .0)) (now (exit .1 .1 .1 .1 .1 .1 .1 .1 .1 .0)) (now (exit .1 .1 .1 .1 .1 .1 .1 .1 .1 .1 .0)) (now (exit .1 .1 .1 .1 .1 .1 .1 .1 .1 .1 .1 .0))) (now (exit .1 .1 .1 .1 .1 .1 .1 .1 .1 .1 .1 .1 .0)) (now (exit .1 .1 .1 .1 .1 .1 .1 .1 .1 .1 .1 .1 .1 .0)) (now (exit .1 .1 .1 .1 .1 .1 .1 .1 .1 .1 .1 .1 .1 .1 .0)) (now (exit .1 .1 .1 .1 .1 .1 .1 .1 .1 .1 .1 .1 .1 .1 .1 .0)) (now (exit .1 .1 .1 .1 .1 .1 .1 .1 .1 .1 .1 .1 .1 .1 .1 .1 .0))) ≡ a
-  pub promised : begin-promise.Learnt lifetimes (refs .table, (p, (K, (refs .settings, (refs .parents, (refs .next, (refs .status, (refs .amounts, (refs .left, (refs .right, (refs .under, (refs .over, (refs .holds, (refs .threads, (refs .quotas, (refs .heads, (refs .totals, (refs .row, tt)))))))))))))))))) (a .number) exit
+  pub promised : begin-promise.Learnt lifetimes (refs .table, (p, (K, (refs .settings, (refs .parents, (refs .next, (refs .status, (refs .amounts, (refs .left, (refs .right, (refs .under, (refs .over, (refs .holds, (refs .threads, (refs .quotas, (refs .heads, (refs .totals, (refs .row, (work .rises, (work .falls, tt)))))))))))))))))))) (a .number) exit
+
+-- `wivakkol_open_on`, lent a table s and a run M, answered a
+pub record OpenSays (s : List ℕ) (M : Memory) (a : Answer) : Type 0 where
+  pub lifetimes : Lfts 21
+  pub refs : Refs
+  pub work : Work
+  pub exit : AtExit (endedOf 21 open-kinds.ps open-kinds.r) lifetimes
+  pub lent-table : now (refs .table) ≡ s
+  pub lent-run : lentIn refs ≡ M
+  pub left : answer (a .number) (now (exit .1 .1 .1 .1 .1 .1 .1 .1 .1 .1 .1 .1 .1 .1 .1 .0)) (memory (now (refs .settings)) (now (exit .1 .1 .0)) (arrays (now (refs .next)) (now (refs .status)) (now (refs .amounts)) (now (refs .left)) (now (refs .right)) (now (exit .1 .1 .1 .1 .1 .1 .1 .1 .0)) (now (exit .1 .1 .1 .1 .1 .1 .1 .1 .1 .0))) (now (refs .holds)) (now (refs .threads)) (now (refs .quotas)) (now (exit .1 .1 .1 .1 .1 .1 .1 .1 .1 .1 .1 .1 .1 .0)) (now (refs .totals))) ≡ a
+  pub promised : open-promise.Learnt lifetimes (refs .table, (refs .settings, (refs .parents, (refs .next, (refs .status, (refs .amounts, (refs .left, (refs .right, (refs .under, (refs .over, (refs .holds, (refs .threads, (refs .quotas, (refs .heads, (refs .totals, (refs .row, (work .rises, (work .falls, (work .forks, (work .seen, (work .list, tt))))))))))))))))))))) (a .number) exit
 
 turn-is : {s : List ℕ} {w : ℕ} {M : Memory} {a : Answer} → TurnSays s w M a → a ≡ lentTurn s w M
 turn-is {s} {w} {M} h = sym (h .left) ∙ h .promised ∙ ap₂ (λ (t : List ℕ) (x : Memory). lentTurn t w x) (h .lent-table) (h .lent-run)
@@ -105,29 +138,34 @@ rounds-is : {s : List ℕ} {limit : ℕ} {M : Memory} {a : Answer} → RoundsSay
 rounds-is {s} {limit} {M} h = sym (h .left) ∙ h .promised ∙ ap₂ (λ (t : List ℕ) (x : Memory). lentRounds t limit x) (h .lent-table) (h .lent-run)
 
 begin-is : {s : List ℕ} {p K : ℕ} {a : Answer} → BeginSays s p K a → a ≡ lentBegin s p K
-begin-is {s} {p} {K} h = sym (h .left) ∙ h .promised ∙ ap (λ (t : List ℕ). lentBegin t p K) (h .lent-table)
+begin-is {s} {p} {K} h = sym (h .left) ∙ h .promised .0 ∙ ap (λ (t : List ℕ). lentBegin t p K) (h .lent-table)
+
+open-is : {s : List ℕ} {M : Memory} {a : Answer} → OpenSays s M a → a ≡ lentOpen s M
+open-is {s} {M} h = sym (h .left) ∙ h .promised .0 ∙ ap₂ (λ (t : List ℕ) (x : Memory). lentOpen t x) (h .lent-table) (h .lent-run)
 
 -- ---- a history
 
 -- one call on memory M, and what it answered
-pub data LentCalled (s : List ℕ) (M : Memory) : Call → Answer → Type 0 where
-  by-turn : {w : ℕ} {a : Answer} → TurnSays s w M a → LentCalled s M (turn w) a
-  by-list : {l : List ℕ} {a : Answer} → ListSays s l M a → LentCalled s M (overList l) a
-  by-rounds : {limit : ℕ} {a : Answer} → RoundsSays s limit M a → LentCalled s M (inRounds limit) a
+pub data LentCalled (s : List ℕ) (M : Memory) : LentCall → Answer → Type 0 where
+  by-turn : {w : ℕ} {a : Answer} → TurnSays s w M a → LentCalled s M (moving (turn w)) a
+  by-list : {l : List ℕ} {a : Answer} → ListSays s l M a → LentCalled s M (moving (overList l)) a
+  by-rounds : {limit : ℕ} {a : Answer} → RoundsSays s limit M a → LentCalled s M (moving (inRounds limit)) a
+  by-open : {a : Answer} → OpenSays s M a → LentCalled s M opening a
 
-call-is : {s : List ℕ} {M : Memory} {c : Call} {a : Answer} → LentCalled s M c a → a ≡ lentCall s c M
-unfolding lentCall
+call-is : {s : List ℕ} {M : Memory} {c : LentCall} {a : Answer} → LentCalled s M c a → a ≡ lentCall s c M
+unfolding lentCall lentMove
 call-is (by-turn h) = turn-is h
 call-is (by-list h) = list-is h
 call-is (by-rounds h) = rounds-is h
+call-is (by-open h) = open-is h
 
 -- calls one after the other: the workers whose turns were taken, as the answers have it, and the memory that they leave
-pub data LentHistory (s : List ℕ) : Memory → List Call → List ℕ → Memory → Type 0 where
+pub data LentHistory (s : List ℕ) : Memory → List LentCall → List ℕ → Memory → Type 0 where
   none : {M : Memory} → LentHistory s M [] [] M
-  next : {M M' : Memory} {c : Call} {a : Answer} {l : List Call} {row : List ℕ} → LentCalled s M c a → LentHistory s (a .memory) l row M'
+  next : {M M' : Memory} {c : LentCall} {a : Answer} {l : List LentCall} {row : List ℕ} → LentCalled s M c a → LentHistory s (a .memory) l row M'
       → LentHistory s M (c ∷ l) (lentRowOf c M a ++ row) M'
 
-pub lent-history-is : {s : List ℕ} {M M' : Memory} {l : List Call} {row : List ℕ} → LentHistory s M l row M' → (M' ≡ lentAfter s l M) × (row ≡ lentRow s l M)
+pub lent-history-is : {s : List ℕ} {M M' : Memory} {l : List LentCall} {row : List ℕ} → LentHistory s M l row M' → (M' ≡ lentAfter s l M) × (row ≡ lentRow s l M)
 unfolding lentAfter lentRow
 lent-history-is none = (refl, refl)
 lent-history-is {s} (next {M} {M'} {c} {a} {l} {row} h t) =
@@ -146,11 +184,18 @@ lentOf l = record { ptr = (0, 0); name = 0; now = l }
 abbrev refsOf : List ℕ → Memory → Refs
 refsOf s M = record { table = lentOf s; settings = lentOf (M .settings); parents = lentOf (M .parents); next = lentOf (M .arrays .next); status = lentOf (M .arrays .status); amounts = lentOf (M .arrays .amounts); left = lentOf (M .arrays .left); right = lentOf (M .arrays .right); under = lentOf (M .arrays .under); over = lentOf (M .arrays .over); holds = lentOf (M .holds); threads = lentOf (M .threads); quotas = lentOf (M .quotas); heads = lentOf (M .heads); totals = lentOf (M .totals); row = lentOf [] }
 
+-- working memory as a call leaves it
+abbrev cleared : List ℕ
+cleared = replicate 1024 0
+
+abbrev workOf : Work
+workOf = record { rises = lentOf cleared; falls = lentOf cleared; forks = lentOf cleared; seen = lentOf cleared; list = lentOf cleared }
+
 -- what the definitions answer keeps the promises
 begin-says : (s : List ℕ) (p K : ℕ) → BeginSays s p K (lentBegin s p K)
 begin-says s p K =
     let a : Answer = lentBegin s p K in
-    record { lifetimes = ([], ([], ([], ([], ([], ([], ([], ([], ([], ([], ([], ([], ([], ([], ([], ([], tt)))))))))))))))); refs = refsOf s (a .memory); exit = (lentOf s, (p, (K, (lentOf (a .memory .settings), (lentOf (a .memory .parents), (lentOf (a .memory .arrays .next), (lentOf (a .memory .arrays .status), (lentOf (a .memory .arrays .amounts), (lentOf (a .memory .arrays .left), (lentOf (a .memory .arrays .right), (lentOf (a .memory .arrays .under), (lentOf (a .memory .arrays .over), (lentOf (a .memory .holds), (lentOf (a .memory .threads), (lentOf (a .memory .quotas), (lentOf (a .memory .heads), (lentOf (a .memory .totals), (lentOf (a .row), tt)))))))))))))))))); lent-table = refl; left = refl; promised = refl }
+    record { lifetimes = ([], ([], ([], ([], ([], ([], ([], ([], ([], ([], ([], ([], ([], ([], ([], ([], ([], ([], tt)))))))))))))))))); refs = refsOf s (a .memory); work = workOf; exit = (lentOf s, (p, (K, (lentOf (a .memory .settings), (lentOf (a .memory .parents), (lentOf (a .memory .arrays .next), (lentOf (a .memory .arrays .status), (lentOf (a .memory .arrays .amounts), (lentOf (a .memory .arrays .left), (lentOf (a .memory .arrays .right), (lentOf (a .memory .arrays .under), (lentOf (a .memory .arrays .over), (lentOf (a .memory .holds), (lentOf (a .memory .threads), (lentOf (a .memory .quotas), (lentOf (a .memory .heads), (lentOf (a .memory .totals), (lentOf (a .row), (lentOf cleared, (lentOf cleared, tt)))))))))))))))))))); lent-table = refl; left = refl; promised = (refl, (refl, refl)) }
 
 -- a call leaves p, K and the parents as they are
 abbrev Keeps : Memory → Memory → Type 0
@@ -186,13 +231,13 @@ either M false x y h k = k
 
 list-keeps : (s l : List ℕ) (M : Memory) → Keeps M (lentList s l M .memory)
 unfolding lentList
-list-keeps s l M = either M (eqb (movedIn M .turns) (2 ^ 64 - 1)) _ _ (refl, refl) (drive-keeps s (whoIn l false (getD (M .settings) 0 0)) (length l) 0 M)
+list-keeps s l M = either M (eqb (movedIn M .turns) (2 ^ 64 - 1)) _ _ (refl, refl) (drive-keeps s (workerAt l false (getD (M .settings) 0 0)) (length l) 0 M)
 
 rounds-keeps : (s : List ℕ) (limit : ℕ) (M : Memory) → Keeps M (lentRounds s limit M .memory)
 unfolding lentRounds
 rounds-keeps s limit M =
     either M (eqb (movedIn M .turns) (2 ^ 64 - 1)) _ _ (refl, refl)
-    (either M (eqb (getD (M .settings) 0 0) 0) _ _ (refl, refl) (drive-keeps s (whoIn [] true (getD (M .settings) 0 0)) limit 0 M))
+    (either M (eqb (getD (M .settings) 0 0) 0) _ _ (refl, refl) (drive-keeps s (workerAt [] true (getD (M .settings) 0 0)) limit 0 M))
 
 -- so an answer has the settings and parents that were lent
 with-lent : (M : Memory) (a : Answer) → Keeps M (a .memory)
@@ -219,20 +264,43 @@ rounds-says s limit M =
     let e = with-lent M a (rounds-keeps s limit M) in
     record { lifetimes = ([], ([], ([], ([], ([], ([], ([], ([], ([], ([], ([], ([], ([], ([], ([], ([], tt)))))))))))))))); refs = refsOf s M; exit = (lentOf s, (limit, (lentOf (a .memory .settings), (lentOf (a .memory .parents), (lentOf (a .memory .arrays .next), (lentOf (a .memory .arrays .status), (lentOf (a .memory .arrays .amounts), (lentOf (a .memory .arrays .left), (lentOf (a .memory .arrays .right), (lentOf (a .memory .arrays .under), (lentOf (a .memory .arrays .over), (lentOf (a .memory .holds), (lentOf (a .memory .threads), (lentOf (a .memory .quotas), (lentOf (a .memory .heads), (lentOf (a .memory .totals), (lentOf (a .row), tt))))))))))))))))); lent-table = refl; lent-run = refl; left = e; promised = e }
 
-called : (s : List ℕ) (M : Memory) (c : Call) → LentCalled s M c (lentCall s c M)
-unfolding lentCall
-called s M (turn w) = by-turn (turn-says s w M)
-called s M (overList l) = by-list (list-says s l M)
-called s M (inRounds limit) = by-rounds (rounds-says s limit M)
+-- what an opening leaves of what it is only lent to read
+open-parts : (s : List ℕ) (M : Memory)
+    → answer (lentOpen s M .number) (lentOpen s M .row) (memory (M .settings) (lentOpen s M .memory .parents)
+    (arrays (M .arrays .next) (M .arrays .status) (M .arrays .amounts) (M .arrays .left) (M .arrays .right) (lentOpen s M .memory .arrays .under) (lentOpen s M .memory .arrays .over))
+    (M .holds) (M .threads) (M .quotas) (lentOpen s M .memory .heads) (M .totals)) ≡ lentOpen s M
+unfolding lentOpen
+open-parts s M = go (soundIn s M) (blankIn M)
+  where
+    go : (a b : Bool)
+        → answer (openedAs a b s M .number) (openedAs a b s M .row) (memory (M .settings) (openedAs a b s M .memory .parents)
+        (arrays (M .arrays .next) (M .arrays .status) (M .arrays .amounts) (M .arrays .left) (M .arrays .right) (openedAs a b s M .memory .arrays .under) (openedAs a b s M .memory .arrays .over))
+        (M .holds) (M .threads) (M .quotas) (openedAs a b s M .memory .heads) (M .totals)) ≡ openedAs a b s M
+    go true b = refl
+    go false true = refl
+    go false false = refl
 
-pub lent-history-exists : (s : List ℕ) (M : Memory) (l : List Call) → LentHistory s M l (lentRow s l M) (lentAfter s l M)
+open-says : (s : List ℕ) (M : Memory) → OpenSays s M (lentOpen s M)
+open-says s M =
+    let a : Answer = lentOpen s M in
+    let e = open-parts s M in
+    record { lifetimes = ([], ([], ([], ([], ([], ([], ([], ([], ([], ([], ([], ([], ([], ([], ([], ([], ([], ([], ([], ([], ([], tt))))))))))))))))))))); refs = refsOf s M; work = workOf; exit = (lentOf s, (lentOf (M .settings), (lentOf (a .memory .parents), (lentOf (M .arrays .next), (lentOf (M .arrays .status), (lentOf (M .arrays .amounts), (lentOf (M .arrays .left), (lentOf (M .arrays .right), (lentOf (a .memory .arrays .under), (lentOf (a .memory .arrays .over), (lentOf (M .holds), (lentOf (M .threads), (lentOf (M .quotas), (lentOf (a .memory .heads), (lentOf (M .totals), (lentOf (a .row), (lentOf cleared, (lentOf cleared, (lentOf cleared, (lentOf cleared, (lentOf cleared, tt))))))))))))))))))))); lent-table = refl; lent-run = refl; left = e; promised = (e, ((refl, refl), (refl, refl, refl))) }
+
+called : (s : List ℕ) (M : Memory) (c : LentCall) → LentCalled s M c (lentCall s c M)
+unfolding lentCall lentMove
+called s M (moving (turn w)) = by-turn (turn-says s w M)
+called s M (moving (overList l)) = by-list (list-says s l M)
+called s M (moving (inRounds limit)) = by-rounds (rounds-says s limit M)
+called s M opening = by-open (open-says s M)
+
+pub lent-history-exists : (s : List ℕ) (M : Memory) (l : List LentCall) → LentHistory s M l (lentRow s l M) (lentAfter s l M)
 unfolding lentAfter lentRow
 lent-history-exists s M [] = none
 lent-history-exists s M (c ∷ l) = next (called s M c) (lent-history-exists s (lentCall s c M .memory) l)
 
 -- ---- the limits
 
-module _ {s : List ℕ} {p K : ℕ} {a : Answer} (h : BeginSays s p K a) (e : a .number ≡ 0) {l : List Call} {row : List ℕ} {M : Memory} (t : LentHistory s (a .memory) l row M) where
+module _ {s : List ℕ} {p K : ℕ} {a : Answer} (h : BeginSays s p K a) (e : a .number ≡ 0) {l : List LentCall} {row : List ℕ} {M : Memory} (t : LentHistory s (a .memory) l row M) where
   holds : (P : Memory → List ℕ → Type 0) → P (lentAfter s l (lentBegin s p K .memory)) (lentRow s l (lentBegin s p K .memory)) → P M row
   holds P g =
       let b = begin-is h in
@@ -250,3 +318,20 @@ module _ {s : List ℕ} {p K : ℕ} {a : Answer} (h : BeginSays s p K a) (e : a 
   -- N2's limit too
   pub lent-code-threads : (most : ℕ) → 1 ≤ most → ThreadLimit (tableOf s) p K most (runIn s M) row
   lent-code-threads most g = holds (λ (x : Memory) (y : List ℕ). ThreadLimit (tableOf s) p K most (runIn s x) y) (lent-threads s p K begun l most g)
+
+-- ---- from opening on
+
+-- `wivakkol_open_on` answered 0 on memory that has not the blank record, and the calls of any history followed: the record left and the row of turns taken are those of the calls on the record
+-- as it stood, and so each turn is document 01's.
+module _ {s : List ℕ} {M : Memory} {a : Answer} (h : OpenSays s M a) (e : a .number ≡ 0) (f : blankIn M ≡ false) {l : List LentCall} {row : List ℕ} {N : Memory} (t : LentHistory s (a .memory) l row N)
+    (holds-size : length (M .holds) ≡ maxWorkers) (threads-size : length (M .threads) ≡ maxWorkers) (quotas-size : length (M .quotas) ≡ maxWorkers) where
+  pub opened-code-refines : (runIn s N ≡ afterCalls (movesOf l) (runIn s M)) × (row ≡ rowOfCalls (movesOf l) (runIn s M))
+  opened-code-refines =
+      let b = open-is h in
+      let d = lent-history-is t in
+      let n : lentOpen s M .number ≡ 0 = ap (λ (x : Answer). x .number) (sym b) ∙ e in
+      let r = open-refine s M holds-size threads-size quotas-size n f l in
+      let k = open-record s M in (
+        ap (runIn s) (d .0 ∙ ap (λ (x : Answer). lentAfter s l (x .memory)) b) ∙ r .record-after ∙ ap (afterCalls (movesOf l)) k,
+        d .1 ∙ ap (λ (x : Answer). lentRow s l (x .memory)) b ∙ r .row ∙ ap (rowOfCalls (movesOf l)) k,
+      )

@@ -2,8 +2,12 @@
 mod Answers
 mod Cases
 mod Begins
+mod Opens
+mod WallLines
 mod Turns
+mod Previews
 pub mod Refines
+pub mod PreviewRefines
 pub mod LentLimit
 mod Numbered
 pub mod LentPromised

@@ -26,40 +26,57 @@ use Rattle.schedule.specs.Turn.{rootEnded, passedIn, turned}
 use Rattle.schedule.specs.Runs.{moved}
 use Rattle.schedule.specs.Answers.{turningValues}
 use Rattle.schedule.specs.Values.{turnValues}
-use Rattle.schedule.proofs.Lists.{filled-front}
-use Rattle.schedule.proofs.ActiveMoves.{list-once, list-small}
-use Rattle.schedule.proofs.Actives.{once-actives, below-actives}
-use Rattle.schedule.proofs.Links.{seek-walk, seek-linked}
-use Rattle.schedule.proofs.Searches.{firstReady-actives}
+use Rattle.schedule.proofs.Sequences.Lists.{filled-front}
+use Rattle.schedule.proofs.Sequences.Words.{allBelow-exactly}
+use Rattle.schedule.proofs.Linked.ActiveMoves.{list-once, list-small}
+use Rattle.schedule.proofs.Linked.Actives.{once-actives, below-actives}
+use Rattle.schedule.proofs.Linked.Links.{seek-walk, seek-linked}
+use Rattle.schedule.proofs.Linked.Searches.{firstReady-actives}
 use Rattle.schedule.proofs.Stores.{steady-lawful, steady-fits, steady-facts, moved-steady}
-use Rattle.schedule.proofs.Values.{turn-values}
+use Rattle.schedule.proofs.Runs.Values.{turn-values}
 use Rattle.lent.specs.Counted.{Left, turnOn, passedAlong}
 use Rattle.lent.specs.Packed.{packedOf}
 use Rattle.lent.proofs.Reading.{own-table}
 use Rattle.lent.proofs.Packed.{Carries, Goes, turn-goes}
 use Rattle.lent.proofs.Answers.{steady-full, steady-room, refusedAs, turned-unsound, turned-none, turned-over, turned-taken, root-over, root-open, passed-along}
-use Rattle.board.specs.Lent.{Memory, workerIn, movedIn, memoryAfter, turnRow, noRow, Answer, answer, hindrance, turnLeft, turnIn, passedOver, lentTurn}
-use Rattle.board.specs.Stands.{workersFrom, workersIn, settled, runIn, Stands, valuesRow}
+use Rattle.board.specs.Lent.{Memory, workerFrom, workerIn, movedIn, memoryAfter, turnRow, noRow, Answer, answer, hindrance, turnLeft, turnIn, passedOver, lentTurn}
+use Rattle.board.specs.Stands.{truths, workersFrom, workersIn, settled, runIn, Stands, valuesRow}
 
 -- ---- the workers
 
-workers-length : (M : Memory) (w n : ℕ) → length (workersFrom M w n) ≡ n
-unfolding workersFrom
-workers-length M w zero = refl
-workers-length M w (suc n) = ap suc (workers-length M (suc w) n)
+module _ (holds threads quotas : List ℕ) where
+  pub workers-length : (w n : ℕ) → length (workersFrom holds threads quotas w n) ≡ n
+  unfolding workersFrom
+  workers-length w zero = refl
+  workers-length w (suc n) = ap suc (workers-length (suc w) n)
 
-workers-at : (M : Memory) (w n i : ℕ) → i < n → getD (workersFrom M w n) i nobody ≡ workerIn M (w + i)
-unfolding workersFrom
-workers-at M w zero i h = absurd (omega (arith, h))
-workers-at M w (suc n) zero h = let e : w + 0 ≡ w = omega arith in rw e
-workers-at M w (suc n) (suc i) h = let e : w + suc i ≡ suc w + i = omega arith in rw e (workers-at M (suc w) n i (omega (arith, h)))
+  pub workers-at : (w n i : ℕ) → i < n → getD (workersFrom holds threads quotas w n) i nobody ≡ workerFrom holds threads quotas (w + i)
+  unfolding workersFrom
+  workers-at w zero i h = absurd (omega (arith, h))
+  workers-at w (suc n) zero h = let e : w + 0 ≡ w = omega arith in rw e
+  workers-at w (suc n) (suc i) h = let e : w + suc i ≡ suc w + i = omega arith in rw e (workers-at (suc w) n i (omega (arith, h)))
 
-own-worker : (M : Memory) (w : ℕ) → w < 16 → getD (workersIn M) w nobody ≡ workerIn M w
-own-worker M w h = let e : 0 + w ≡ w = omega arith in workers-at M 0 16 w h ∙ ap (workerIn M) e
+sixteen : (M : Memory) → length (workersIn M) ≡ 16
+sixteen M = workers-length (M .holds) (M .threads) (M .quotas) 0 16
+
+pub own-worker : (M : Memory) (w : ℕ) → w < 16 → getD (workersIn M) w nobody ≡ workerIn M w
+own-worker M w h = let e : 0 + w ≡ w = omega arith in workers-at (M .holds) (M .threads) (M .quotas) 0 16 w h ∙ ap (workerIn M) e
 
 as-number : (b : Bool) → not (eqb (pick b 1 0) 0) ≡ b
 as-number true = refl
 as-number false = refl
+
+truth-small : (b : Bool) → ltb (pick b 1 0) 2 ≡ true
+truth-small true = refl
+truth-small false = refl
+
+truths-set : (holds : List ℕ) (w : ℕ) (b : Bool) → w < length holds → truths holds ≡ true → truths (set holds w (pick b 1 0)) ≡ true
+unfolding truths
+truths-set holds w b h e = allBelow-exactly _ 16 .1 (λ i l. go i l (ℕ-discrete i w))
+  where
+    go : (i : ℕ) → i < 16 → Dec (i ≡ w) → ltb (getD (set holds w (pick b 1 0)) i 0) 2 ≡ true
+    go i l (yes q) = rw (q, getD-set-same holds w (pick b 1 0) 0 h) (truth-small b)
+    go i l (no d) = rw (getD-set-other holds w i (pick b 1 0) 0 d) (allBelow-exactly (λ j. ltb (getD holds j 0) 2) 16 .0 e i l)
 
 module _ (M : Memory) (w : ℕ) (z : Left) (h : w < 16) (a : length (M .holds) ≡ 16) (b : length (M .threads) ≡ 16) (c : length (M .quotas) ≡ 16) where
   abbrev M' : Memory
@@ -81,17 +98,17 @@ module _ (M : Memory) (w : ℕ) (z : Left) (h : w < 16) (a : length (M .holds) �
 
   workers-after : workersIn M' ≡ set (workersIn M) w (z .worker)
   workers-after =
-      ext-getD nobody (workersIn M') (set (workersIn M) w (z .worker)) (workers-length M' 0 16 ∙ sym (length-set (workersIn M) w (z .worker) ∙ workers-length M 0 16)) at
+      ext-getD nobody (workersIn M') (set (workersIn M) w (z .worker)) (sixteen M' ∙ sym (length-set (workersIn M) w (z .worker) ∙ sixteen M)) at
     where
       at : (i : ℕ) → i < length (workersIn M') → getD (workersIn M') i nobody ≡ getD (set (workersIn M) w (z .worker)) i nobody
       at i l = go (ℕ-discrete i w)
         where
           few : i < 16
-          few = omega (arith, l, workers-length M' 0 16)
+          few = omega (arith, l, sixteen M')
 
           go : Dec (i ≡ w) → getD (workersIn M') i nobody ≡ getD (set (workersIn M) w (z .worker)) i nobody
           go (yes e) =
-              rw e (own-worker M' w h ∙ new-worker ∙ sym (getD-set-same (workersIn M) w (z .worker) nobody (omega (arith, h, workers-length M 0 16))))
+              rw e (own-worker M' w h ∙ new-worker ∙ sym (getD-set-same (workersIn M) w (z .worker) nobody (omega (arith, h, sixteen M))))
           go (no d) = own-worker M' i few ∙ same-worker i d ∙ sym (own-worker M i few) ∙ sym (getD-set-other (workersIn M) w i (z .worker) nobody d)
 
 -- ---- the turn
@@ -205,6 +222,7 @@ module _ (s : List ℕ) (M : Memory) (h : Stands s M) (w : ℕ) where
                 steady = subst (λ (x : Run). Steady x) (sym after) (moved-steady r (h .steady) w b);
                 parent = h .parent;
                 second = goes .second;
+                truth-values = truths-set (M .holds) w (z .worker .holds) (omega (arith, few, h .holds-size)) (h .truth-values);
                 holds-size = length-set (M .holds) w (pick (z .worker .holds) 1 0) ∙ h .holds-size;
                 threads-size = length-set (M .threads) w (z .worker .thread) ∙ h .threads-size;
                 quotas-size = length-set (M .quotas) w (z .worker .quota) ∙ h .quotas-size;

@@ -1,25 +1,22 @@
 -- On memory in which a record stands, the runs are document 01's: number, row and record are those of the record's run, and the record after it stands in the memory left.
-use mathlib.Core.Path.{_≡_, refl, sym, ap, subst, _∙_}
-use Prim.Native.Nat.{ℕ, zero, suc, _-_, _^_, _%_, _≤_, _<_}
+use mathlib.Core.Path.{_≡_, refl, subst}
+use Prim.Native.Nat.{ℕ, zero, suc, _-_, _^_, _%_}
 use native.Mathlib.Omega.{arith}
 use mathlib.Core.List.{List, [], _∷_}
 use mathlib.Core.Bool.{Bool, true, false}
-use borrow.Author.Tests.{ltb-true, ltb-false, eqb-true, eqb-false, eq-eqb, ne-eqb}
+use borrow.Author.Tests.{eqb-true, eqb-false, ne-eqb}
 use lib.Dec.{ltb, eqb}
 use lib.ListN.{length, getD}
 use Rattle.table.specs.Sum.{pick}
-use Rattle.table.specs.Pass.{refusal}
 use Rattle.schedule.specs.declared.Run.{Run}
 use Rattle.schedule.specs.declared.Ran.{Ran}
-use Rattle.schedule.specs.declared.Report.{Report}
-use Rattle.schedule.specs.declared.Report.the-variants.{Finished, Spent, Refused}
-use Rattle.schedule.specs.Machine.{ended}
+use Rattle.schedule.specs.declared.Report.the-variants.{Finished, Spent}
 use Rattle.schedule.specs.Turn.{unsound, rootEnded, noWorker}
-use Rattle.schedule.specs.Runs.{ran, moved, drive, listRun, roundsRun}
-use Rattle.schedule.specs.Answers.{Values, reportValues, finished, spent, nothing}
+use Rattle.schedule.specs.Runs.{ran, drive, listRun, roundsRun, workerAt}
+use Rattle.schedule.specs.Answers.{Values, reportValues, finished, spent}
 use Rattle.schedule.proofs.Stores.{steady-fits}
-use Rattle.lent.proofs.Answers.{steady-full, steady-room, root-open}
-use Rattle.board.specs.Lent.{Memory, movedIn, saidCode, noRow, Answer, answer, hindrance, Told, turnIn, lentTurn, runRow, overIn, whoIn, lentDrive, lentList, lentRounds}
+use Rattle.lent.proofs.Answers.{steady-full, steady-room}
+use Rattle.board.specs.Lent.{Memory, movedIn, saidCode, Answer, answer, hindrance, turnIn, runRow, overIn, lentDrive, lentList, lentRounds}
 use Rattle.board.specs.Stands.{runIn, Stands}
 use Rattle.board.proofs.Refines.{taken-so}
 
@@ -28,12 +25,12 @@ abbrev pub valuesRun : Values → List ℕ
 valuesRun v = v .place ∷ saidCode (v .said) ∷ v .turns ∷ []
 
 -- the workers of a list and of rounds
-of-list : (l : List ℕ) (p : ℕ) → whoIn l false p ≡ (λ i. getD l i 0)
-unfolding whoIn
+of-list : (l : List ℕ) (p : ℕ) → workerAt l false p ≡ (λ i. getD l i 0)
+unfolding workerAt
 of-list l p = refl
 
-in-rounds : (p : ℕ) → whoIn [] true p ≡ (λ i. i % p)
-unfolding whoIn
+in-rounds : (p : ℕ) → workerAt [] true p ≡ (λ i. i % p)
+unfolding workerAt
 in-rounds p = refl
 
 -- what is said of an answer: it is the run d of the record
@@ -107,7 +104,7 @@ module _ (s : List ℕ) (M : Memory) (h : Stands s M) where
     where
       go : (x : Bool) → eqb (movedIn M .turns) (2 ^ 64 - 1) ≡ x → Runs s (lentList s l M) (listRun here l)
       go true x = rw (x, steady-full here (h .steady) (eqb-true _ _ x)) (record { number = refl; row = refl; record-after = refl; stands = h })
-      go false x = rw (x, room x) (subst (λ (f : ℕ → ℕ). Runs s (lentDrive s (whoIn l false (getD (M .settings) 0 0)) (length l) 0 M) (drive f (length l) 0 here)) (of-list l (getD (M .settings) 0 0)) (drive-refines s (whoIn l false (getD (M .settings) 0 0)) (length l) 0 M h))
+      go false x = rw (x, room x) (subst (λ (f : ℕ → ℕ). Runs s (lentDrive s (workerAt l false (getD (M .settings) 0 0)) (length l) 0 M) (drive f (length l) 0 here)) (of-list l (getD (M .settings) 0 0)) (drive-refines s (workerAt l false (getD (M .settings) 0 0)) (length l) 0 M h))
 
   -- a run in rounds
   pub rounds-refines : (limit : ℕ) → Runs s (lentRounds s limit M) (roundsRun here limit)
@@ -118,4 +115,4 @@ module _ (s : List ℕ) (M : Memory) (h : Stands s M) where
       go true x = rw (x, steady-full here (h .steady) (eqb-true _ _ x)) (record { number = refl; row = refl; record-after = refl; stands = h })
       go false x =
           rw (x, room x, ne-eqb (getD (M .settings) 0 0) 0 some-worker)
-          (subst (λ (f : ℕ → ℕ). Runs s (lentDrive s (whoIn [] true (getD (M .settings) 0 0)) limit 0 M) (drive f limit 0 here)) (in-rounds (getD (M .settings) 0 0)) (drive-refines s (whoIn [] true (getD (M .settings) 0 0)) limit 0 M h))
+          (subst (λ (f : ℕ → ℕ). Runs s (lentDrive s (workerAt [] true (getD (M .settings) 0 0)) limit 0 M) (drive f limit 0 here)) (in-rounds (getD (M .settings) 0 0)) (drive-refines s (workerAt [] true (getD (M .settings) 0 0)) limit 0 M h))

@@ -8,16 +8,15 @@ use lib.Dec.{ltb, eqb}
 use lib.ListN.{getD, set}
 use Rattle.table.specs.Sum.{pick}
 use Rattle.table.specs.Format.{Table, threadsOf, tableOf}
-use Rattle.table.specs.Steps.{Read}
+use Rattle.table.specs.Code.Steps.{Read}
 use Rattle.table.proofs.Tests.{no-way}
 use native.Mathlib.Omega.{arith}
 use native.Mathlib.Decide.{decLt}
 use Rattle.schedule.specs.declared.Worker.{Worker}
 use Rattle.schedule.specs.declared.Reply.the-variants.{Idle}
-use Rattle.schedule.specs.Links.{seek}
 use Rattle.lent.specs.declared.Moved.{Moved}
 use Rattle.lent.specs.Arrays.{Arrays, tableFrom}
-use Rattle.lent.specs.Counted.{Left, counting, unmoved, roomFor, turnOn, passedAlong}
+use Rattle.lent.specs.Counted.{Left, counting, unmoved, roomFor, turnOn}
 use Rattle.lent.specs.Turn.{stepOn}
 use Rattle.lent.proofs.Reading.{own-table}
 use Rattle.board.specs.Lent.{Memory, memory, workerIn, movedIn, headsOf, totalsOf, turnRow, noRow, answer, hindrance, Told, told, turnLeft, turnIn, passedOver, lentTurn}
@@ -99,7 +98,7 @@ module _ (s : List ℕ) (w : ℕ) (M : Memory) where
   -- ---- the single turn's call
 
   -- a turn that is taken is one of sixteen workers'
-  few : turnIn s w M .number ≡ 0 → w < 16
+  pub few : turnIn s w M .number ≡ 0 → w < 16
   unfolding turnIn turnLeft
   few e = go (decLt w 16)
     where

@@ -1,5 +1,5 @@
 -- A run in memory that C lends: numbers in arrays, and a turn on them, whatever they hold.
-use Prim.Native.Nat.{ℕ, zero, suc, _-_, _^_, _%_}
+use Prim.Native.Nat.{ℕ, zero, suc, _-_, _^_}
 use mathlib.Core.List.{List, [], _∷_}
 use mathlib.Core.Bool.{Bool, true, false, not}
 use lib.ListN.{length, getD, set, replicate}
@@ -15,6 +15,7 @@ use Rattle.schedule.specs.Machine.{ready, ended}
 use Rattle.schedule.specs.Links.{noThread, seek}
 use Rattle.schedule.specs.Record.{maxThreads, maxWorkers}
 use Rattle.schedule.specs.Answers.{Said, nothing, idle, done, quota, wait, begun, finished, spent, replyValues}
+use Rattle.schedule.specs.Runs.{workerAt}
 use Rattle.soundness.specs.Tested.{parentsIn, nextIf, beginFound}
 use Rattle.lent.specs.declared.Moved.{Moved}
 use Rattle.lent.specs.Arrays.{Arrays, arrays}
@@ -121,7 +122,7 @@ turnIn s w M =
     let there : Told = turnLeft M w (turnOn (tableOf s) (getD (M .settings) 1 0) (M .parents) w (M .arrays) (movedIn M) (workerIn M w)) in
     pick (eqb number 0) there (told number Idle M)
 
--- how many threads stand left of the one that worker w takes (N7), from whether it holds one and the two lists: where none of the second list is ready, none is taken, and the list is not
+-- how many threads stand left of the one that worker w takes (N7) where the two lists are those of a run, from whether it holds one and the lists: where none of the second list is ready, none is taken, and the list is not
 -- searched
 abbrev pub passedFrom : Bool → List ℕ → List ℕ → List ℕ → ℕ → ℕ → ℕ
 passedFrom holds status right over leftmost first =
@@ -146,10 +147,6 @@ runRow x turns = 0 ∷ saidCode x ∷ turns ∷ []
 abbrev pub overIn : Memory → Bool
 overIn M = eqb (getD (M .arrays .status) 0 0) ended
 
--- the worker of turn i, from a list or in rounds of p
-unfoldable pub whoIn : List ℕ → Bool → ℕ → ℕ → ℕ
-whoIn order rounds p i = pick rounds (i % p) (getD order i 0)
-
 -- At most k turns more after i turns, the worker of turn i given by `who`: "a run stops at the root's end, a refusal or the list's end"
 unfoldable pub lentDrive : List ℕ → (ℕ → ℕ) → ℕ → ℕ → Memory → Answer
 lentDrive s who zero i M = answer 0 (runRow (pick (overIn M) finished spent) i) M
@@ -161,14 +158,14 @@ lentDrive s who (suc k) i M =
 -- "Over a list of worker numbers"; 32 first where no turn can be counted
 unfoldable pub lentList : List ℕ → List ℕ → Memory → Answer
 lentList s l M =
-    let go : Answer = lentDrive s (whoIn l false (getD (M .settings) 0 0)) (length l) 0 M in
+    let go : Answer = lentDrive s (workerAt l false (getD (M .settings) 0 0)) (length l) 0 M in
     pick (eqb (movedIn M .turns) (2 ^ 64 - 1)) (answer 32 (runRow nothing 0) M) go
 
 -- "In rounds (0 to p − 1, again and again, starting with worker 0)"; with no worker 30
 unfoldable pub lentRounds : List ℕ → ℕ → Memory → Answer
 lentRounds s limit M =
     let p : ℕ = getD (M .settings) 0 0 in
-    let go : Answer = lentDrive s (whoIn [] true p) limit 0 M in
+    let go : Answer = lentDrive s (workerAt [] true p) limit 0 M in
     pick (eqb (movedIn M .turns) (2 ^ 64 - 1)) (answer 32 (runRow nothing 0) M) (pick (eqb p 0) (answer 30 (runRow nothing 0) M) go)
 
 -- ---- a beginning

@@ -2,7 +2,7 @@
 use crate::workers;
 use links::NO_THREAD;
 use schedule::statuses::READY;
-use soundness::accept;
+use soundness::accept_in;
 use table::Found;
 ghost use mathlib.Core.Path.{_≡_};
 ghost use mathlib.Core.List.{[], _∷_};
@@ -45,7 +45,7 @@ fn put_links(
     *over = [x; 1024];
 }
 
-// Begins a run, or gives the check that refuses; the memory is then that of the blank record.
+// Begins a run, or gives the check that refuses; the memory is then that of the blank record. The working memory, rises and falls, is left cleared.
 #[no_mangle]
 pub extern "C" fn wivakkol_begin_on(
     table: &[u8],
@@ -66,16 +66,19 @@ pub extern "C" fn wivakkol_begin_on(
     heads: &mut [u16; 3],
     totals: &mut [u64; 3],
     row: &mut [u64; 1],
+    rises: &mut [u64; 1024],
+    falls: &mut [u64; 1024],
 ) -> u32
     ensures { λ r. ⌜ answer r (now (row .exit)) (memory (now (settings .exit)) (now (parents .exit))
         (arrays (now (next .exit)) (now (status .exit)) (now (amounts .exit)) (now (left .exit)) (now (right .exit)) (now (under .exit)) (now (over .exit)))
         (now (holds .exit)) (now (threads .exit)) (now (quotas .exit)) (now (heads .exit)) (now (totals .exit)))
         ≡ lentBegin (now (table .entry)) p quota ⌝ }
+    ensures { λ _. ⌜ (now (rises .exit) ≡ replicate 1024 0) × (now (falls .exit) ≡ replicate 1024 0) ⌝ }
 {
     *amounts = [0; 1024];
     *status = [0; 1024];
     put_nobody(holds, threads, quotas, heads, totals);
-    let found = accept(table, workers(p), quota, next, parents);
+    let found = accept_in(table, workers(p), quota, next, parents, rises, falls);
     if let Found::At(x) = found {
         *settings = [0, 0];
         put_links(left, right, under, over, 0);

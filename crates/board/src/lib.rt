@@ -9,10 +9,16 @@ ghost use Rattle.quota.specs.Quota.{valuesFor};
 ghost use Rattle.board.specs.Rows.{factsRow, quotaRow};
 
 mod begin;
+mod line;
+mod open;
+mod preview;
 mod runs;
 mod turn;
 
 pub use begin::wivakkol_begin_on;
+pub use line::wivakkol_chart_on;
+pub use open::wivakkol_open_on;
+pub use preview::wivakkol_preview_on;
 pub use runs::wivakkol_list_on;
 pub use runs::wivakkol_rounds_on;
 pub use turn::wivakkol_turn_on;

@@ -4,18 +4,18 @@ use schedule::statuses::ENDED;
 use table::read::byte;
 ghost use mathlib.Core.Path.{_≡_};
 ghost use mathlib.Core.Bool.{true};
-ghost use mathlib.Core.List.{[], _∷_};
 ghost use Prim.Native.Nat.{_<_};
-ghost use lib.ListN.{length, getD};
+ghost use lib.ListN.{getD};
 ghost use Rattle.table.specs.Sum.{pick};
 ghost use Rattle.schedule.specs.Answers.{finished, spent, nothing};
+ghost use Rattle.schedule.specs.Runs.{workerAt};
 ghost use Rattle.lent.specs.Arrays.{arrays};
-ghost use Rattle.board.specs.Lent.{memory, answer, runRow, whoIn, lentDrive, lentList, lentRounds};
+ghost use Rattle.board.specs.Lent.{memory, answer, runRow, lentDrive, lentList, lentRounds};
 
 // The worker whose turn comes after i turns: from the order, or in rounds.
 fn worker_of(order: &[u8], rounds: bool, p: u32, i: usize) -> u32
     requires { ⌜ (rounds ≡ true → 0 < p) ⌝ }
-    ensures { λ r. ⌜ r ≡ whoIn (now (order .entry)) rounds p i ⌝ }
+    ensures { λ r. ⌜ r ≡ workerAt (now (order .entry)) rounds p i ⌝ }
 {
     if rounds {
         (i % (p as usize)) as u32
@@ -68,7 +68,7 @@ fn drive(
     ensures { λ r. ⌜ answer r (now (row .exit)) (memory (now (settings .entry)) (now (parents .entry))
         (arrays (now (next .exit)) (now (status .exit)) (now (amounts .exit)) (now (left .exit)) (now (right .exit)) (now (under .exit)) (now (over .exit)))
         (now (holds .exit)) (now (threads .exit)) (now (quotas .exit)) (now (heads .exit)) (now (totals .exit)))
-        ≡ lentDrive (now (table .entry)) (whoIn (now (order .entry)) rounds (getD (now (settings .entry)) 0 0)) limit 0 (memory (now (settings .entry)) (now (parents .entry))
+        ≡ lentDrive (now (table .entry)) (workerAt (now (order .entry)) rounds (getD (now (settings .entry)) 0 0)) limit 0 (memory (now (settings .entry)) (now (parents .entry))
         (arrays (now (next .entry)) (now (status .entry)) (now (amounts .entry)) (now (left .entry)) (now (right .entry)) (now (under .entry)) (now (over .entry)))
         (now (holds .entry)) (now (threads .entry)) (now (quotas .entry)) (now (heads .entry)) (now (totals .entry))) ⌝ }
 {

@@ -21,7 +21,7 @@ ghost use Rattle.board.specs.Lent.{memory, workerFrom, movedFrom, passed
 ghost use Rattle.board.specs.Lent.{hindrance as hindranceOf};
 
 // 32 where no turn can be counted, 30, 31; 0 where none applies.
-fn hindrance(turns: u64, p: u32, w: u32, root: u8) -> u32
+pub(crate) fn hindrance(turns: u64, p: u32, w: u32, root: u8) -> u32
     ensures { λ r. ⌜ r ≡ hindranceOf turns p w root ⌝ }
 {
     if turns == u64::MAX {
@@ -34,7 +34,12 @@ fn hindrance(turns: u64, p: u32, w: u32, root: u8) -> u32
 }
 
 // The record of worker k.
-fn worker_at(holds: &[u8; 16], threads: &[u16; 16], quotas: &[u32; 16], k: usize) -> Worker
+pub(crate) fn worker_at(
+    holds: &[u8; 16],
+    threads: &[u16; 16],
+    quotas: &[u32; 16],
+    k: usize,
+) -> Worker
     requires { ⌜ k < 16 ⌝ }
     ensures { λ r. ⌜ r ≡ workerFrom (now (holds .entry)) (now (threads .entry)) (now (quotas .entry)) k ⌝ }
 {
@@ -71,7 +76,7 @@ fn put_worker(
 }
 
 // What turns have moved besides the arrays and the workers.
-fn moved_at(heads: &[u16; 3], totals: &[u64; 3]) -> Moved
+pub(crate) fn moved_at(heads: &[u16; 3], totals: &[u64; 3]) -> Moved
     ensures { λ r. ⌜ r ≡ movedFrom (now (heads .entry)) (now (totals .entry)) ⌝ }
 {
     Moved {
@@ -94,7 +99,7 @@ fn put_moved(heads: &mut [u16; 3], totals: &mut [u64; 3], moved: Moved)
 }
 
 // What the turn said.
-fn put_reply(row: &mut [u64; 5], reply: Reply, passed: u16)
+pub(crate) fn put_reply(row: &mut [u64; 5], reply: Reply, passed: u16)
     ensures { λ _. ⌜ now (row .exit) ≡ turnRow reply passed ⌝ }
 {
     match reply {
@@ -193,7 +198,7 @@ pub(crate) fn turn_in(
 }
 
 // How many threads stand left of the one that worker w takes.
-fn passed_by(
+pub(crate) fn passed_by(
     holds: &[u8; 16],
     status: &[u8; 1024],
     right: &[u16; 1024],

@@ -1,29 +1,33 @@
 -- The line of every record that passes 32 and 43: each number fits its columns, so that the line has its width and is read back; and the call's answer, check by check.
-use mathlib.Core.Path.{_≡_, refl, sym, ap, subst, _∙_}
-use Prim.Native.Nat.{ℕ, zero, suc, _+_, _^_, _≤_, _<_}
+use mathlib.Core.Path.{_≡_, refl, sym, ap, _∙_}
+use Prim.Native.Nat.{ℕ, suc, _+_, _^_, _≤_, _<_}
 use native.Mathlib.Omega.{arith}
-use mathlib.Core.List.{List, [], _∷_}
+use mathlib.Core.List.{List, [], _∷_, _++_, append-nil}
 use mathlib.Core.Bool.{Bool, true, false}
 use borrow.Author.Tests.{lt-ltb, le-ltb, ltb-true, ltb-false}
 use lib.Dec.{ltb}
-use lib.ListN.{length, getD}
+use lib.ListN.{length, getD, drop-of-length-le}
 use Rattle.table.specs.Sum.{pick}
 use Rattle.table.specs.Pass.{refusal, tryAt}
 use Rattle.table.specs.Load.{foundNumber, foundPlace}
 use Rattle.table.specs.declared.Found.{Found}
 use Rattle.table.specs.declared.Found.the-variants.{Nothing, At}
+use Rattle.text.specs.Text.{bufferAt}
+use Rattle.lines.specs.Lines.{putAll}
+use Rattle.lines.specs.Puts.{Puts}
+use Rattle.lines.proofs.Putting.{puts-whole}
 use Rattle.schedule.specs.declared.Worker.{Worker}
 use Rattle.schedule.specs.declared.Run.{Run}
 use Rattle.schedule.specs.Machine.{nobody}
 use Rattle.schedule.specs.Record.{blank}
 use Rattle.schedule.specs.Sound.{Steady}
 use Rattle.schedule.specs.Turn.{unsound}
-use Rattle.schedule.proofs.Tests.{sound-exactly}
+use Rattle.schedule.proofs.Sound.Tests.{sound-exactly}
 use Rattle.schedule.proofs.Stores.{steady-lawful, steady-facts}
 use Rattle.schedule.proofs.Soundness.{held-fits}
 use Rattle.soundness.proofs.Passed.{has-workers, no-workers}
 use Rattle.chart.specs.declared.Charted.the-variants.{Written, Refused}
-use Rattle.chart.specs.Chart.{Cell, thread, none, absent, cellsFrom, shown, lineOf, readBack, mostTurns, tooMany, chartChecks, chartedAs, charted, chartedValues, lineValues}
+use Rattle.chart.specs.Chart.{thread, none, absent, cellsFrom, shown, lineTexts, lineOf, readBack, mostTurns, tooMany, chartChecks, chartedAs, charted, chartedValues, lineValues}
 use Rattle.chart.proofs.Reading.{CellFits, CellsFit, Fits, line-width, line-newline, line-read}
 
 -- ---- the cells
@@ -123,3 +127,12 @@ module _ (r : Run) where
 -- a record that is sound but for its turns taken, of which there are not too many, has its line
 pub steady-written : (r : Run) → Steady r → r .turns ≤ mostTurns → charted r ≡ Written
 steady-written r h t = let e = steady-passes r h t in sym (charted-written r e (few r e t))
+
+-- the line fills a buffer of its width
+pub line-filled : (r : Run) (s o : List ℕ) (k : ℕ)
+    → unsound r ≡ false → tooMany r ≡ false → length s ≡ 85 → bufferAt o k ≡ putAll (bufferAt s 0) (lineTexts (shown r)) → o ≡ lineOf r
+line-filled r s o k u t l e =
+    let w = wall-width r u t in
+    let p : Puts s 0 o k (lineTexts (shown r)) 85 = record { put = e; short = omega (arith, w) } in
+    let q = puts-whole (omega (arith, l)) p in
+    q .1 ∙ ap (λ (x : List ℕ). lineOf r ++ x) (drop-of-length-le s {i = k} (omega (arith, q .0, w, l))) ∙ append-nil (lineOf r)

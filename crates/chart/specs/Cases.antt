@@ -1,10 +1,10 @@
 -- Lines worked out: the blank record's, and one with a thread that fills its cell, a worker with none and no worker.
 use mathlib.Core.Path.{_≡_, refl}
-use mathlib.Core.List.{List, [], _∷_, flatten}
+use mathlib.Core.List.{[], _∷_, flatten}
 use Rattle.text.specs.Text.{ascii, decimal, digitsOf}
 use Rattle.schedule.specs.Record.{blank}
 use Rattle.chart.specs.Chart.{thread, none, absent, cellsFrom, rightTexts, cellTexts, cellsTexts, lineTexts, lineText, lineOf, readBack, cellsIn, cellIn, numberFrom}
-use Rattle.chart.specs.Chart.{Shown, shown}
+use Rattle.chart.specs.Chart.{shown}
 
 touching : lineText (record { turns = 999999; cells = thread 1023 ∷ none ∷ absent ∷ []; held = 12 }) ≡ ascii "9999991023   .                12\n"
 unfolding lineTexts cellsTexts cellTexts rightTexts flatten decimal digitsOf

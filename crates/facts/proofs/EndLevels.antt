@@ -11,10 +11,10 @@ use lib.ListN.{getD, set, length-set}
 use lib.Seq.{getD-set-same, getD-set-other}
 use Rattle.table.specs.Sum.{pick}
 use Rattle.table.specs.Format.{end, fork, join, is, Table, kind, tableOf}
-use Rattle.table.specs.Rules.{owner, endOf, openBefore}
-use Rattle.table.specs.Accepted.{ContentRules, BodyRules, NestRules, ForkRules}
+use Rattle.table.specs.Checks.{owner, endOf, openBefore}
+use Rattle.table.specs.Rules.{ContentRules, BodyRules, NestRules, ForkRules}
 use Rattle.table.specs.Level.{level}
-use Rattle.table.specs.Steps.{Nested, EndLevels, Walked, nextLevel}
+use Rattle.table.specs.Code.Steps.{Nested, EndLevels, Walked, nextLevel}
 use Rattle.table.proofs.Tests.{is-true, fork-no-end}
 use Rattle.table.proofs.Sizes.{sizes}
 use Rattle.table.proofs.Bodies.{first-within, end-within, count-pos, owner-at, owner-of-first, fork-below, join-below, next-within}

@@ -9,8 +9,8 @@ use lib.ListN.{length, getD, set, replicate, length-set, length-replicate}
 use lib.Seq.{getD-set-same, getD-set-other}
 use Rattle.table.specs.Sum.{pick, sumTo}
 use Rattle.table.specs.Format.{end, fork, is, Table, kind}
-use Rattle.table.specs.Rules.{owner}
-use Rattle.table.specs.Accepted.{ContentRules, BodyRules, NestRules, ForkRules}
+use Rattle.table.specs.Checks.{owner}
+use Rattle.table.specs.Rules.{ContentRules, BodyRules, NestRules, ForkRules}
 use Rattle.table.specs.Nested.{nest, N}
 use Rattle.table.proofs.Tests.{no-way, is-true, same-is}
 use Rattle.table.proofs.Bodies.{first-is, first-next, last-ends, after-end, owner-of-first, owner-below, owner-first, fork-above, fork-below, fork-later, next-owner, end-last}

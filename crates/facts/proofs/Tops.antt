@@ -6,9 +6,9 @@ use native.Mathlib.Omega.{arith}
 use lib.ListN.{getD}
 use Rattle.table.specs.Sum.{pick, sumTo, greatestTo}
 use Rattle.table.specs.Format.{Kind, alloc, free, fork, kindOf, is, Table, kind, tableOf, firstOf, bodyOf, codeAt, argumentAt}
-use Rattle.table.specs.Rules.{allocOf, freeOf, whole}
-use Rattle.table.specs.Accepted.{ContentRules, BodyRules}
-use Rattle.table.specs.Steps.{Kept, ownAmount, childAmount, amountAt, topOf, Filled, WalkReady, PeaksReady}
+use Rattle.table.specs.Checks.{allocOf, freeOf, whole}
+use Rattle.table.specs.Rules.{ContentRules, BodyRules}
+use Rattle.table.specs.Code.Steps.{Kept, ownAmount, childAmount, amountAt, topOf, Filled, WalkReady, PeaksReady}
 use Rattle.table.proofs.Tests.{pick-same}
 use Rattle.table.proofs.Sizes.{sizes}
 use Rattle.table.proofs.Bodies.{names-fork}

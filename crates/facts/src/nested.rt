@@ -10,7 +10,7 @@ ghost use lib.ListN.{set};
 ghost use Rattle.table.specs.Sum.{pick};
 ghost use Rattle.table.specs.Format.{kindOf, end, fork, is, tableOf};
 ghost use Rattle.table.specs.Nested.{N};
-ghost use Rattle.table.specs.Steps.{Nested};
+ghost use Rattle.table.specs.Code.Steps.{Nested};
 
 // One action of a thread: if it forks c, c is one level below the thread's. The deepest level so far.
 fn fork_level(k: u8, c: usize, level: usize, deepest: usize, levels: &mut [usize; 1024]) -> usize

@@ -11,7 +11,7 @@ ghost use Prim.Native.Nat.{_<_, max};
 ghost use Rattle.table.specs.Sum.{sumTo, greatestTo};
 ghost use Rattle.table.specs.Format.{tableOf, kindOf, alloc, free, fork};
 ghost use Rattle.table.specs.Serial.{S1};
-ghost use Rattle.table.specs.Steps.{Kept, WalkReady, PeaksReady, childAmount, amountAt, topOf};
+ghost use Rattle.table.specs.Code.Steps.{Kept, WalkReady, PeaksReady, childAmount, amountAt, topOf};
 
 // What a body draws and gives back with the children it forks, and the highest that it holds, counted from its start.
 struct Amounts {

@@ -4,7 +4,7 @@ use native.Mathlib.Omega.{arith}
 use mathlib.Core.Path.{_≡_, refl, ap}
 use mathlib.Core.List.{List}
 use Rattle.inputs.specs.Front.{Front, Step, goes, givenTo}
-use Rattle.inputs.specs.Steps.{Plainly, Stepping, frontIs, heldBy}
+use Rattle.inputs.specs.Code.Steps.{Plainly, Stepping, frontIs, heldBy}
 use Rattle.inputs.specs.declared.Wanted.{Wanted}
 use Rattle.inputs.specs.declared.number.Figure.{Figure}
 use Rattle.inputs.specs.declared.number.Figure.the-variants.{Given, Stopped}

@@ -2,5 +2,5 @@ pub mod Number
 pub mod Front
 pub mod Input
 pub mod Message
-pub mod Steps
 pub mod Cases
+pub mod Code

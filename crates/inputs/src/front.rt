@@ -12,7 +12,7 @@ ghost use lib.ListN.{take};
 ghost use Rattle.assembly.specs.Words.{wordsIn, wordsOf};
 ghost use Rattle.inputs.specs.Number.{figureOf};
 ghost use Rattle.inputs.specs.Front.{most8, most24, most32, most64, workers, quota, between, rounds, board, givenTo, orderFrom, orderedTo, stepWith, stepOf};
-ghost use Rattle.inputs.specs.Steps.{Room, Plainly, Stepping, frontIs, heldBy};
+ghost use Rattle.inputs.specs.Code.Steps.{Room, Plainly, Stepping, frontIs, heldBy};
 
 // p; p and K; p and b; then p, K and the count of an order, p, K and L, or p, b and M.
 pub(crate) enum Front {

@@ -15,7 +15,7 @@ use read::read_front;
 ghost use mathlib.Core.Path.{_≡_};
 ghost use Rattle.assembly.specs.Assembly.{assembled};
 ghost use Rattle.inputs.specs.Input.{made, madeIn, withTable, filledWith, later as laterLine};
-ghost use Rattle.inputs.specs.Steps.{Passed, Addable, frontIs};
+ghost use Rattle.inputs.specs.Code.Steps.{Passed, Addable, frontIs};
 
 // What should have stood on a line of the front: one of its keywords, a number of at most so much, the line's end, or an order of fewer workers.
 pub enum Wanted {

@@ -8,7 +8,7 @@ ghost use Prim.Native.Nat.{_+_, _-_, _*_};
 ghost use lib.Dec.{leb};
 ghost use Rattle.assembly.specs.Words.{isDigit, wordsIn};
 ghost use Rattle.inputs.specs.Number.{figureOf, figureLast};
-ghost use Rattle.inputs.specs.Steps.{Numbered};
+ghost use Rattle.inputs.specs.Code.Steps.{Numbered};
 
 pub(crate) enum Number {
     Value(u64),

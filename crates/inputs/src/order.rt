@@ -6,7 +6,7 @@ use assembly::word::first_word;
 ghost use lib.ListN.{take};
 ghost use Rattle.assembly.specs.Words.{wordsIn};
 ghost use Rattle.inputs.specs.Front.{added, orderFrom};
-ghost use Rattle.inputs.specs.Steps.{Room, Ordering};
+ghost use Rattle.inputs.specs.Code.Steps.{Room, Ordering};
 
 // So many workers, or what should have stood there.
 pub(crate) enum Ordered {

@@ -9,7 +9,7 @@ ghost use Rattle.text.specs.Text.{bufferAt, placed};
 ghost use Rattle.lines.specs.Puts.{Puts};
 ghost use Rattle.inputs.specs.Front.{turns, rounds, board};
 ghost use Rattle.inputs.specs.Input.{bytesOf, frontTexts};
-ghost use Rattle.inputs.specs.Steps.{Room, frontIs, heldBy};
+ghost use Rattle.inputs.specs.Code.Steps.{Room, frontIs, heldBy};
 
 // The lowest bytes of a number, so many.
 fn put_bytes(out: &mut [u8], at: usize, width: usize, x: u64) -> usize

@@ -8,7 +8,7 @@ use assembly::scan::span;
 ghost use mathlib.Core.Path.{_≡_};
 ghost use Prim.Native.Nat.{suc, min, _<_};
 ghost use lib.ListN.{length};
-ghost use Rattle.inputs.specs.Steps.{Readable, ReadsFront, Lined, Ending};
+ghost use Rattle.inputs.specs.Code.Steps.{Readable, ReadsFront, Lined, Ending};
 
 // The front, or what should have stood on a line.
 pub(crate) enum End {

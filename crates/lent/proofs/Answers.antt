@@ -18,11 +18,11 @@ use Rattle.schedule.specs.Record.{maxThreads, blank, tableIn, listIn, stateOf}
 use Rattle.schedule.specs.Sound.{Steady, sound}
 use Rattle.schedule.specs.Turn.{isBlank, unsound, rootEnded, noWorker, turnChecks, stepRun, passedIn, turned}
 use Rattle.schedule.specs.Runs.{moved}
-use Rattle.schedule.proofs.Tests.{sound-exactly, blank-exactly}
-use Rattle.schedule.proofs.Lists.{Below}
-use Rattle.schedule.proofs.Links.{seek-walk}
-use Rattle.schedule.proofs.Searches.{found-below}
-use Rattle.schedule.proofs.ActiveMoves.{list-small}
+use Rattle.schedule.proofs.Sound.Tests.{sound-exactly, blank-exactly}
+use Rattle.schedule.proofs.Sequences.Lists.{Below}
+use Rattle.schedule.proofs.Linked.Links.{seek-walk}
+use Rattle.schedule.proofs.Linked.Searches.{found-below}
+use Rattle.schedule.proofs.Linked.ActiveMoves.{list-small}
 use Rattle.schedule.proofs.Stores.{steady-lawful, steady-fits, steady-facts}
 use Rattle.lent.specs.Counted.{passedAlong}
 

@@ -15,7 +15,7 @@ use Rattle.schedule.specs.declared.Worker.{Worker}
 use Rattle.lent.specs.declared.Stepped.{Stepped}
 use Rattle.lent.specs.Arrays.{Arrays}
 use Rattle.lent.specs.Turn.{Outcome, outcome, nextFits}
-use Rattle.lent.specs.Steps.{At}
+use Rattle.lent.specs.Code.Steps.{At}
 
 -- what a function leaves, where its struct is known
 pub left-as : {r z : Stepped} {B : Arrays} {o : Outcome} → r ≡ z → outcome z B ≡ o → outcome r B ≡ o

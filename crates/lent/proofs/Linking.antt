@@ -8,17 +8,17 @@ use Rattle.schedule.specs.declared.Worker.{Worker}
 use Rattle.schedule.specs.Machine.{State, Stepped, stepped, waitsFor, actBy, act}
 use Rattle.schedule.specs.Links.{noThread, Links, LinkedAs, Sought, firstReady, seek}
 use Rattle.schedule.specs.Actives.{actives}
-use Rattle.schedule.specs.LinkMoves.{linksBy, activesBy}
+use Rattle.schedule.specs.Code.LinkMoves.{linksBy, activesBy}
 use Rattle.schedule.specs.Record.{stateOf}
-use Rattle.schedule.proofs.Facts.{Facts}
-use Rattle.schedule.proofs.Lists.{Below}
-use Rattle.schedule.proofs.Once.{Once}
-use Rattle.schedule.proofs.Links.{laid-linked, linked-laid, walk-linked, seek-linked}
-use Rattle.schedule.proofs.Actives.{once-actives, below-actives}
-use Rattle.schedule.proofs.ActiveMoves.{list-once, list-small}
-use Rattle.schedule.proofs.LinkMoves.{act-links, act-actives}
-use Rattle.schedule.proofs.Searches.{firstReady-actives}
-use Rattle.schedule.proofs.Turns.{act-facts}
+use Rattle.schedule.proofs.Sound.Facts.{Facts}
+use Rattle.schedule.proofs.Sequences.Lists.{Below}
+use Rattle.schedule.proofs.Linked.Once.{Once}
+use Rattle.schedule.proofs.Linked.Links.{laid-linked, linked-laid, walk-linked, seek-linked}
+use Rattle.schedule.proofs.Linked.Actives.{once-actives, below-actives}
+use Rattle.schedule.proofs.Linked.ActiveMoves.{list-once, list-small}
+use Rattle.schedule.proofs.Linked.LinkMoves.{act-links, act-actives}
+use Rattle.schedule.proofs.Linked.Searches.{firstReady-actives}
+use Rattle.schedule.proofs.Preservation.Turns.{act-facts}
 use Rattle.lent.specs.declared.Totals.{Totals}
 use Rattle.lent.specs.Arrays.{Arrays, linksOf, secondOf, listedIn, actionIn}
 use Rattle.lent.specs.Turn.{Outcome}

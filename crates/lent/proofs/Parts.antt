@@ -4,7 +4,7 @@ use Prim.Native.Nat.{ℕ, _<_}
 use mathlib.Core.List.{List, [], _∷_}
 use Rattle.table.specs.Sum.{pick}
 use Rattle.table.specs.Format.{Table, tableOf}
-use Rattle.table.specs.Accepted.{Rules}
+use Rattle.table.specs.Rules.{Rules}
 use Rattle.table.specs.Pass.{firstFound}
 use Rattle.table.specs.declared.Found.the-variants.{Nothing}
 use Rattle.schedule.specs.declared.Worker.{Worker}

@@ -8,7 +8,7 @@ use borrow.Author.Tests.{lt-ltb}
 use lib.ListN.{length, getD, set}
 use lib.Seq.{getD-set-same}
 use Rattle.table.specs.Format.{alloc, free, fork, join, codeOf, is, kind, threadsOf, actionsOf, tableOf}
-use Rattle.table.specs.Rules.{allocOf}
+use Rattle.table.specs.Checks.{allocOf}
 use Rattle.table.proofs.Sizes.{Sizes, sizes}
 use Rattle.table.proofs.Bodies.{fork-below, join-below}
 use Rattle.schedule.specs.declared.Worker.{Worker}
@@ -16,16 +16,16 @@ use Rattle.schedule.specs.declared.Run.{Run}
 use Rattle.schedule.specs.Machine.{State, ready, held, nobody, workerOf, taken}
 use Rattle.schedule.specs.Record.{maxBytes, filled, setOf, bytesOf, stateOf}
 use Rattle.schedule.specs.Sound.{SoundState, Steady}
-use Rattle.schedule.proofs.Lawful.{Lawful, lawful}
-use Rattle.schedule.proofs.Facts.{Facts, facts, sound-facts}
-use Rattle.schedule.proofs.Lists.{filled-front}
-use Rattle.schedule.proofs.Done.{next-below}
-use Rattle.schedule.proofs.Moves.{taken-facts}
-use Rattle.schedule.proofs.Shares.{free-held}
+use Rattle.schedule.proofs.Tables.Lawful.{Lawful, lawful}
+use Rattle.schedule.proofs.Sound.Facts.{Facts, facts, sound-facts}
+use Rattle.schedule.proofs.Sequences.Lists.{filled-front}
+use Rattle.schedule.proofs.Sound.Done.{next-below}
+use Rattle.schedule.proofs.Preservation.Moves.{taken-facts}
+use Rattle.schedule.proofs.Sound.Shares.{free-held}
 use Rattle.schedule.proofs.Stores.{Fits, begin-fits}
 use Rattle.schedule.proofs.ThreadMemory.{amount-held, free-amount}
 use Rattle.schedule.proofs.Soundness.{held-fits}
-use Rattle.schedule.proofs.LinkMoves.{take-actives}
+use Rattle.schedule.proofs.Linked.LinkMoves.{take-actives}
 use Rattle.lent.specs.declared.Totals.{Totals}
 use Rattle.lent.specs.Arrays.{Arrays, actionIn, withStatuses}
 use Rattle.lent.specs.Turn.{nextFits}

@@ -13,10 +13,10 @@ use Rattle.schedule.specs.declared.Worker.{Worker}
 use Rattle.schedule.specs.declared.Reply.the-variants.{Idle}
 use Rattle.schedule.specs.Machine.{State, held, ended, ready, leftmost, taken, turnFree, Stepped, stepped, parentOf, waitsFor, woken, withStatus, actBy, act}
 use Rattle.schedule.specs.Links.{firstReady}
-use Rattle.schedule.specs.LinkMoves.{linksBy, activesBy}
+use Rattle.schedule.specs.Code.LinkMoves.{linksBy, activesBy}
 use Rattle.schedule.specs.Parents.{Parents}
-use Rattle.schedule.proofs.Turns.{leftmost-ready}
-use Rattle.schedule.proofs.Searches.{ready-there, found-below}
+use Rattle.schedule.proofs.Preservation.Turns.{leftmost-ready}
+use Rattle.schedule.proofs.Linked.Searches.{ready-there, found-below}
 use Rattle.lent.specs.declared.Totals.{Totals}
 use Rattle.lent.specs.declared.Stepped.{Stepped as StepResult}
 use Rattle.lent.specs.Arrays.{Arrays, listedIn, actionIn, amountIn, withStatuses, tableFrom}

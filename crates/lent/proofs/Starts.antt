@@ -12,9 +12,9 @@ use Rattle.schedule.specs.Actives.{noLinks}
 use Rattle.schedule.specs.Record.{filled, setOf}
 use Rattle.schedule.specs.Begin.{startState, startRun}
 use Rattle.schedule.specs.Firsts.{firsts}
-use Rattle.schedule.proofs.Links.{linked-laid}
-use Rattle.schedule.proofs.Fills.{noLinks-linked}
-use Rattle.schedule.proofs.Turns.{either}
+use Rattle.schedule.proofs.Linked.Links.{linked-laid}
+use Rattle.schedule.proofs.Linked.Fills.{noLinks-linked}
+use Rattle.schedule.proofs.Preservation.Turns.{either}
 
 -- the record with these two arrays
 abbrev pub begun : List ℕ → ℕ → ℕ → List ℕ → List ℕ → Links → Run

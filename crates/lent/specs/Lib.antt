@@ -2,4 +2,4 @@ pub mod Arrays
 pub mod Turn
 pub mod Counted
 pub mod Packed
-pub mod Steps
+pub mod Code

@@ -2,6 +2,11 @@
 // the text to it: the steps stand in its order. Each function tests first whether what it would write fits.
 use crate::Stepped;
 use crate::Totals;
+use crate::fits::alloc_fits;
+use crate::fits::fork_fits;
+use crate::fits::free_fits;
+use crate::fits::join_fits;
+use crate::fits::next_fits;
 use crate::number_or_zero;
 use crate::release::release;
 use links::NO_THREAD;
@@ -18,9 +23,8 @@ use table::read::byte;
 use table::read::code;
 ghost use mathlib.Core.Path.{_≡_};
 ghost use mathlib.Core.List.{List};
-ghost use mathlib.Core.Bool.{true, false, _&&_};
-ghost use Prim.Native.Nat.{ℕ, _+_, _<_, max};
-ghost use lib.Dec.{leb, ltb};
+ghost use mathlib.Core.Bool.{true, false};
+ghost use Prim.Native.Nat.{ℕ, _<_, max};
 ghost use lib.ListN.{getD, set};
 ghost use Rattle.table.specs.Sum.{pick};
 ghost use Rattle.table.specs.Format.{Table, work, alloc, free, fork, join, end};
@@ -28,10 +32,11 @@ ghost use Rattle.schedule.specs.declared.Reply.the-variants.{Idle};
 ghost use Rattle.schedule.specs.Machine.{nobody, ended, ready};
 ghost use Rattle.schedule.specs.Links.{linkLeft, unlink as unlinkOf};
 ghost use Rattle.lent.specs.Arrays.{arrays, links, tableFrom};
-ghost use Rattle.lent.specs.Turn.{outcome, nextFits, amountFits, waitsIn, actOn, actIn};
-ghost use Rattle.lent.specs.Steps.{At};
+ghost use Rattle.lent.specs.Turn.{outcome, waitsIn, actOn, actIn};
+ghost use Rattle.lent.specs.Code.Steps.{At};
 
-fn larger(a: u64, b: u64) -> u64
+// The larger of two amounts.
+pub fn larger(a: u64, b: u64) -> u64
     ensures { λ r. ⌜ r ≡ max a b ⌝ }
 {
     if a < b { b } else { a }
@@ -61,20 +66,6 @@ fn moved(reply: Reply, totals: Totals, worker: Worker) -> Stepped
     }
 }
 
-// The sum of two amounts has 64 bits.
-fn sum_fits(a: u64, b: u64) -> bool
-    ensures { λ r. ⌜ r ≡ amountFits (a + b) ⌝ }
-{
-    if u64::MAX - b < a { false } else { true }
-}
-
-// The number after an action's has 16 bits.
-fn next_fits(a: u16) -> bool
-    ensures { λ r. ⌜ r ≡ nextFits a ⌝ }
-{
-    if a == u16::MAX { false } else { true }
-}
-
 // "insert T into R in its original position": the thread stands in its place with this status, and its worker is released.
 fn put_back(status: &mut [u8; 1024], as_status: u8, worker: Worker) -> Worker
     requires { ⌜ worker .thread < 1024 ⌝ }
@@ -97,13 +88,6 @@ fn act_work(a: u16, next: &mut [u16; 1024], totals: Totals, worker: Worker) -> S
     let thread = worker.thread;
     next[thread as usize] = a + 1;
     moved(Reply::Done { thread, action: a }, totals, worker)
-}
-
-// What an alloc within the quota writes has its room.
-fn alloc_fits(a: u16, held: u64, own: u64, x: u64) -> bool
-    ensures { λ r. ⌜ r ≡ (nextFits a && (amountFits (held + x) && amountFits (own + x))) ⌝ }
-{
-    next_fits(a) && (sum_fits(held, x) && sum_fits(own, x))
 }
 
 fn act_alloc(
@@ -148,13 +132,6 @@ fn act_alloc(
     moved(Reply::Done { thread, action: a }, totals, after)
 }
 
-// A free takes no more than is held.
-fn free_fits(a: u16, held: u64, own: u64, x: u64) -> bool
-    ensures { λ r. ⌜ r ≡ (nextFits a && (leb x held && leb x own)) ⌝ }
-{
-    next_fits(a) && (x <= held && x <= own)
-}
-
 fn act_free(
     x: u32,
     a: u16,
@@ -184,13 +161,6 @@ fn act_free(
         highest: larger(totals.highest, held),
     };
     moved(Reply::Done { thread, action: a }, totals, worker)
-}
-
-// The forked thread is one of the arrays'.
-fn fork_fits(a: u16, x: usize) -> bool
-    ensures { λ r. ⌜ r ≡ (nextFits a && ltb x 1024) ⌝ }
-{
-    next_fits(a) && x < 1024
 }
 
 fn act_fork(
@@ -229,13 +199,6 @@ fn act_fork(
         highest: totals.highest,
     };
     moved(Reply::Done { thread, action: a }, totals, freed)
-}
-
-// The sum that a join makes has its room.
-fn join_fits(a: u16, own: u64, child: u64) -> bool
-    ensures { λ r. ⌜ r ≡ (nextFits a && amountFits (own + child)) ⌝ }
-{
-    next_fits(a) && sum_fits(own, child)
 }
 
 // The child has ended.

@@ -20,7 +20,10 @@ ghost use Rattle.lent.specs.Turn.{outcome, seat, seatOf, stepOn};
 ghost use Rattle.lent.specs.Counted.{busyAfter, passedAlong, roomFor, taken, turnOn};
 
 mod act;
+pub mod fits;
 mod release;
+
+pub use act::larger;
 
 // The amounts that a turn moves, and the leftmost threads of the list and of the second list.
 pub struct Totals {
@@ -180,7 +183,7 @@ fn busy_after(busy: u16, held: bool, holds: bool, w: usize) -> u16
 }
 
 // One turn more can be counted, and the set has room for worker w.
-fn room_for(turns: u64, busy: u16, holds: bool, w: usize) -> bool
+pub fn room_for(turns: u64, busy: u16, holds: bool, w: usize) -> bool
     ensures { λ r. ⌜ r ≡ roomFor turns busy holds w ⌝ }
 {
     if turns == u64::MAX {

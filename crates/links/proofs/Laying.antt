@@ -12,8 +12,8 @@ use borrow.Author.Tests.{eq-eqb, ne-eqb}
 use Rattle.table.specs.Sum.{pick}
 use Rattle.schedule.specs.Firsts.{firsts}
 use Rattle.schedule.specs.Links.{noThread, firstOf, rightIn, leftAfter, laid}
-use Rattle.schedule.proofs.Lists.{firsts-length, firsts-at}
-use Rattle.links.specs.Steps.{leftThere}
+use Rattle.schedule.proofs.Sequences.Lists.{firsts-length, firsts-at}
+use Rattle.links.specs.Code.Steps.{leftThere}
 
 -- ---- rows of values
 

@@ -6,7 +6,7 @@ use mathlib.Core.List.{List}
 use lib.ListN.{getD}
 use Rattle.schedule.specs.Machine.{ready}
 use Rattle.schedule.specs.Links.{noThread, Sought, seek}
-use Rattle.schedule.proofs.Links.{seek-stop, seek-hit, seek-next}
+use Rattle.schedule.proofs.Linked.Links.{seek-stop, seek-hit, seek-next}
 
 -- no step is left
 seek-over : (status right : List ℕ) (t : ℕ) → seek 0 status right t ≡ record { thread = noThread; passed = 0 }

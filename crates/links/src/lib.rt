@@ -9,7 +9,7 @@ ghost use Prim.Native.Nat.{_≤_};
 ghost use lib.ListN.{length, take, drop, getD, set, replicate};
 ghost use Rattle.schedule.specs.Links.{firstOf, laid, linkLast, linkLeft, noThread, seek as seekOf, unlink as unlinkOf, walk};
 ghost use Rattle.schedule.specs.Actives.{filledFrom, noLinks};
-ghost use Rattle.links.specs.Steps.{leftThere};
+ghost use Rattle.links.specs.Code.Steps.{leftThere};
 ghost use Rattle.schedule.specs.Sound.{sameList};
 
 // "No neighbour is written as 1,024"

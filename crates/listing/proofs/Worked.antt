@@ -19,7 +19,7 @@ use Rattle.schedule.specs.Sound.{Steady}
 use Rattle.schedule.specs.Turn.{rootEnded, turned}
 use Rattle.schedule.specs.Listing.{Listing, turnsBy}
 use Rattle.schedule.specs.Cases.{turnedSound}
-use Rattle.schedule.proofs.Histories.{turn-steady}
+use Rattle.schedule.proofs.Runs.Histories.{turn-steady}
 use Rattle.schedule.proofs.CaseLaws.{turned-sound, turned-turns, begun-fresh, begun-turned}
 use Rattle.lines.specs.Lines.{textsOf}
 use Rattle.chart.specs.declared.Charted.the-variants.{Written}

@@ -7,8 +7,8 @@ use lib.ListN.{length}
 use Rattle.table.specs.Sum.{sumTo, sumOver, greatest, anyBelow}
 use Rattle.table.specs.Format.{codeOf, kindOf, is, tableOf}
 use Rattle.table.specs.Pass.{tryAt, tryFrom, tryPass, firstFound}
-use Rattle.table.specs.Rules.{entryWrong, totalWrong, ownerBelow, kindUnknown, argumentWrong, endMisplaced, forkedBelow, forkedBefore}
-use Rattle.table.specs.Rules.{openBefore, joinNotLatest, endWithOpen, neverForked, allocOf, freeOf, wholeWithin, balance, balanceBelow0, passes}
+use Rattle.table.specs.Checks.{entryWrong, totalWrong, ownerBelow, kindUnknown, argumentWrong, endMisplaced, forkedBelow, forkedBefore}
+use Rattle.table.specs.Checks.{openBefore, joinNotLatest, endWithOpen, neverForked, allocOf, freeOf, wholeWithin, balance, balanceBelow0, passes}
 use Rattle.table.specs.Serial.{serialWithin, fronts, heldAfter, peakOf, S1}
 use Rattle.table.specs.Level.{forkBelow, forkOf, beforeIt, joinedEnd, dependsOn, levelWithin, D}
 use Rattle.table.specs.Load.{loaded, factsOf}

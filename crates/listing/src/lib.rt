@@ -17,7 +17,7 @@ ghost use mathlib.Core.List.{_++_};
 ghost use lib.ListN.{length, drop};
 ghost use Rattle.io.specs.Counts.{Counts};
 ghost use Prim.Native.Nat.{_*_};
-ghost use Rattle.asyncdf.specs.Sheets.{widest};
+ghost use Rattle.asyncdf.specs.Code.Sheets.{widest};
 ghost use Rattle.lines.specs.Puts.{Puts};
 ghost use Rattle.listing.specs.Listing.{listingOf, wallOf, printedTexts, roundsOf};
 

@@ -1,8 +1,6 @@
 -- What a preview shows is what the turn then gives, number by number; its values are those of the checks and of the machine's step.
-use mathlib.Core.Path.{_≡_, refl, ap, sym, _∙_}
-use Prim.Native.Nat.{ℕ, _<_}
-use native.Mathlib.Omega.{arith}
-use mathlib.Core.Bool.{Bool, true, false}
+use mathlib.Core.Path.{_≡_, refl, ap, _∙_}
+use Prim.Native.Nat.{ℕ}
 use lib.ListN.{getD}
 use Rattle.table.specs.Pass.{tryAt}
 use Rattle.table.specs.Load.{ifFound}
@@ -19,10 +17,10 @@ use Rattle.schedule.specs.Machine.{nobody, workerOf}
 use Rattle.schedule.specs.Turn.{turnChecks, stepRun, passedIn, turnedAs, turned}
 use Rattle.schedule.specs.Answers.{Values, turningValues}
 use Rattle.schedule.specs.Values.{turnValues}
-use Rattle.schedule.proofs.Values.{turn-values}
-use Rattle.preview.specs.declared.Previewed.{Previewed}
+use Rattle.schedule.specs.Shown.{previewValues}
+use Rattle.schedule.proofs.Runs.Values.{turn-values}
 use Rattle.preview.specs.declared.Previewed.the-variants.{Would, Refused}
-use Rattle.preview.specs.Preview.{previewAs, previewOf, Shown, shownValues, previewValues}
+use Rattle.preview.specs.Preview.{previewAs, previewOf, shownValues}
 
 -- ---- taking the turn afterwards gives exactly what was shown
 

@@ -1,18 +1,16 @@
 -- A turn shown before it is taken (N4): "the reply that a turn would give and, after it, memory held, its highest and the worker's quota left".
 use Prim.Native.Nat.{ℕ}
 use lib.ListN.{getD}
-use Rattle.table.specs.Pass.{refusal, tryAt}
+use Rattle.table.specs.Pass.{refusal}
 use Rattle.table.specs.declared.Refusal.{Refusal}
-use Rattle.table.specs.Load.{ifFound}
-use Rattle.table.specs.declared.Found.{Found}
 use Rattle.schedule.specs.declared.Run.{Run}
 use Rattle.schedule.specs.declared.Turning.{Turning}
 use Rattle.schedule.specs.declared.Turning.the-variants.{Taken}
 use Rattle.schedule.specs.declared.Turning.the-variants.{Refused as refusedTurn}
-use Rattle.schedule.specs.Machine.{nobody, workerOf}
-use Rattle.schedule.specs.Turn.{turnChecks, stepRun, turned}
-use Rattle.schedule.specs.Answers.{Values, turningValues}
-use Rattle.schedule.specs.Values.{turnValues}
+use Rattle.schedule.specs.Machine.{nobody}
+use Rattle.schedule.specs.Turn.{turned}
+use Rattle.schedule.specs.Answers.{turningValues}
+use Rattle.schedule.specs.Shown.{Shown}
 use Rattle.preview.specs.declared.Previewed.{Previewed}
 use Rattle.preview.specs.declared.Previewed.the-variants.{Would, Refused}
 
@@ -30,26 +28,7 @@ abbrev pub refusalOf : Turning → Refusal
 refusalOf (Taken x k) = refusal 0 0
 refusalOf (refusedTurn x) = x
 
--- ---- the paper's numbers and values
-
--- those of the turn's answer, and the three amounts, 0 for a refusal
-pub record Shown : Type 0 where
-  pub said : Values
-  pub held : ℕ
-  pub highest : ℕ
-  pub quota : ℕ
-
+-- the paper's numbers and values
 abbrev pub shownValues : Previewed → Shown
 shownValues (Would x k h g q) = record { said = turningValues (Taken x k); held = h; highest = g; quota = q }
 shownValues (Refused x) = record { said = turningValues (refusedTurn x); held = 0; highest = 0; quota = 0 }
-
--- from the turn's checks and the machine's step alone
-unfoldable pub previewValues : Run → ℕ → Shown
-previewValues r w =
-    let found : Found = tryAt (turnChecks r w) 0 in
-    record {
-      said = turnValues r w;
-      held = ifFound found 0 (stepRun r w .state .held);
-      highest = ifFound found 0 (stepRun r w .state .highest);
-      quota = ifFound found 0 (workerOf (stepRun r w .state) w .quota);
-    }

@@ -7,7 +7,8 @@ use table::Refusal;
 ghost use mathlib.Core.Path.{_≡_};
 ghost use lib.ListN.{getD};
 ghost use Rattle.schedule.specs.Machine.{nobody};
-ghost use Rattle.preview.specs.Preview.{refusalOf, previewOf, shownValues, previewValues};
+ghost use Rattle.schedule.specs.Shown.{previewValues};
+ghost use Rattle.preview.specs.Preview.{refusalOf, previewOf, shownValues};
 
 // What a turn would say, how many threads it would pass over, and after it memory held, its highest and the worker's quota left; or its refusal.
 pub enum Previewed {

@@ -11,7 +11,7 @@ use Rattle.table.specs.Sum.{pick}
 use Rattle.table.specs.Format.{tableOf}
 use Rattle.table.specs.Pass.{Check, Pass, orElse, refusal, tryAt, tryFrom, tryPass, firstFound}
 use Rattle.table.specs.First.{Applies, FirstApplies}
-use Rattle.table.specs.Rules.{outside, passes}
+use Rattle.table.specs.Checks.{outside, passes}
 use Rattle.table.specs.declared.Refusal.{Refusal}
 use Rattle.table.specs.declared.Found.{Found}
 use Rattle.table.specs.declared.Found.the-variants.{Nothing, At}

@@ -6,7 +6,7 @@ use mathlib.Core.List.{List, [], _++_, append-nil}
 use borrow.Author.Tests.{le-ltb}
 use Rattle.table.specs.Format.{Table, tableOf}
 use Rattle.table.specs.Pass.{firstFound}
-use Rattle.table.specs.Rules.{allocOf, passes}
+use Rattle.table.specs.Checks.{allocOf, passes}
 use Rattle.table.specs.declared.Found.the-variants.{Nothing}
 use Rattle.table.proofs.Passes.{firstFound-append, firstFound-nothing, passes-rules, tryPass-from-0}
 use Rattle.schedule.specs.declared.Run.{Run}

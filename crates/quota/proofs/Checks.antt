@@ -7,8 +7,8 @@ use mathlib.Core.Bool.{true, false}
 use borrow.Author.Tests.{lt-ltb, le-ltb}
 use Rattle.table.specs.Format.{tableOf}
 use Rattle.table.specs.Pass.{refusal, firstFound, tryAt, tryFrom, tryPass}
-use Rattle.table.specs.Rules.{outside, endOf, passes}
-use Rattle.table.specs.Accepted.{Rules}
+use Rattle.table.specs.Checks.{outside, endOf, passes}
+use Rattle.table.specs.Rules.{Rules}
 use Rattle.table.specs.Serial.{S1}
 use Rattle.table.specs.Level.{D}
 use Rattle.table.specs.Load.{factsOf, loaded}
@@ -22,11 +22,11 @@ use Rattle.table.proofs.Bodies.{end-within}
 use Rattle.table.proofs.Levels.{level-is}
 use Rattle.table.proofs.Passes.{found-exactly, passes-rules, accepted-exactly, accepted-facts, refused-exactly}
 use Rattle.schedule.specs.Record.{maxWorkers}
-use Rattle.schedule.proofs.Lawful.{Lawful, lawful}
+use Rattle.schedule.proofs.Tables.Lawful.{Lawful, lawful}
 use Rattle.quota.specs.declared.Quoted.{Quoted}
 use Rattle.quota.specs.declared.Quoted.the-variants.{Given, Refused}
 use Rattle.quota.specs.Quota.{leastQuota, costOf, mostWithin, mostQuota, noQuota, maxGap, quotaPasses, answeredBy, quoted, valuesOf, valuesWith, valuesFor}
-use Rattle.quota.specs.Steps.{Accepted, ownAnswer}
+use Rattle.quota.specs.Code.Steps.{Accepted, ownAnswer}
 use Rattle.quota.proofs.Answers.{found-own}
 
 -- ---- check by check

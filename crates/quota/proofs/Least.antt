@@ -6,7 +6,7 @@ use native.Mathlib.Omega.{arith}
 use native.Mathlib.Decide.{ℕ-discrete}
 use Rattle.table.specs.Sum.{greatestTo}
 use Rattle.table.specs.Format.{Table}
-use Rattle.table.specs.Rules.{allocOf}
+use Rattle.table.specs.Checks.{allocOf}
 use Rattle.quota.specs.Quota.{leastQuota}
 
 -- the greatest of k values is at most K exactly if each of them is

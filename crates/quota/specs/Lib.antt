@@ -1,4 +1,4 @@
 pub mod Quota
-pub mod Steps
 pub mod Line
 pub mod Cases
+pub mod Code

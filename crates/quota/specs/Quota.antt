@@ -7,8 +7,8 @@ use lib.Dec.{ltb, eqb}
 use Rattle.table.specs.Sum.{pick, greatestTo}
 use Rattle.table.specs.Format.{Table, tableOf}
 use Rattle.table.specs.Pass.{Pass, firstFound}
-use Rattle.table.specs.Rules.{outside, allocOf, passes}
-use Rattle.table.specs.Accepted.{Rules}
+use Rattle.table.specs.Checks.{outside, allocOf, passes}
+use Rattle.table.specs.Rules.{Rules}
 use Rattle.table.specs.Serial.{S1}
 use Rattle.table.specs.Level.{D}
 use Rattle.table.specs.Load.{foundNumber, foundPlace, ifFound}

@@ -14,10 +14,10 @@ ghost use mathlib.Core.List.{_++_};
 ghost use lib.ListN.{length, drop};
 ghost use Rattle.io.specs.Counts.{Counts};
 ghost use Rattle.table.specs.Pass.{refusal};
-ghost use Rattle.table.specs.Rules.{outside as isOutside};
+ghost use Rattle.table.specs.Checks.{outside as isOutside};
 ghost use Rattle.quota.specs.Quota.{mostWithin, quoted, valuesOf, valuesFor};
 ghost use Rattle.quota.specs.Line.{answerTo, quotaLine};
-ghost use Rattle.quota.specs.Steps.{Ready, Accepted, ownAnswer};
+ghost use Rattle.quota.specs.Code.Steps.{Ready, Accepted, ownAnswer};
 
 // The largest quota that serves, or the check that applies.
 pub enum Quoted {

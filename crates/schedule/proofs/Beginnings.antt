@@ -9,8 +9,8 @@ use borrow.Author.Tests.{le-ltb}
 use Rattle.table.specs.Format.{Table, tableOf}
 use Rattle.table.specs.Pass.{firstFound}
 use Rattle.table.specs.First.{FirstApplies}
-use Rattle.table.specs.Rules.{outside, allocOf, passes}
-use Rattle.table.specs.Accepted.{Rules}
+use Rattle.table.specs.Checks.{outside, allocOf, passes}
+use Rattle.table.specs.Rules.{Rules}
 use Rattle.table.specs.declared.Refusal.{Refusal}
 use Rattle.table.specs.declared.Found.{Found}
 use Rattle.table.specs.declared.Found.the-variants.{Nothing, At}

@@ -16,10 +16,10 @@ use Rattle.schedule.specs.Turn.{stepRun, passedIn}
 use Rattle.schedule.specs.Runs.{moved}
 use Rattle.schedule.specs.Calls.{Call, afterCalls, rowOfCalls}
 use Rattle.schedule.specs.RowList.{Said, Old, readRow, kept, readOld, oldAfter, oldSaid, afterRow, saidRow}
-use Rattle.schedule.proofs.Lists.{filled-front}
+use Rattle.schedule.proofs.Sequences.Lists.{filled-front}
 use Rattle.schedule.proofs.Stores.{moved-steady, moved-state}
-use Rattle.schedule.proofs.Rows.{front-workers}
-use Rattle.schedule.proofs.Histories.{calls-left}
+use Rattle.schedule.proofs.Runs.Rows.{front-workers}
+use Rattle.schedule.proofs.Runs.Histories.{calls-left}
 
 -- a state is read back from its row
 kept-read : (st : State) → readOld (kept st) ≡ st

@@ -11,20 +11,19 @@ use lib.ListN.{length}
 use borrow.Author.Tests.{eqb-false}
 use Rattle.table.specs.Sum.{pick, sumTo}
 use Rattle.table.specs.Format.{free, kind}
-use Rattle.table.specs.Rules.{endOf, allocOf}
+use Rattle.table.specs.Checks.{endOf, allocOf}
 use Rattle.schedule.specs.declared.Run.{Run}
 use Rattle.schedule.specs.Machine.{unborn, ready, held, ended, nextOf, statusOf, workerOf}
 use Rattle.schedule.specs.Record.{stateOf, tableIn}
 use Rattle.schedule.specs.Sound.{Steady, member, countBelow, isDone, ofDone, share, numberOf}
 use Rattle.schedule.specs.Turn.{rootEnded}
-use Rattle.schedule.proofs.Facts.{Facts}
-use Rattle.schedule.proofs.Words.{never-true, member-exactly}
-use Rattle.schedule.proofs.Done.{unborn-first as unborn-next}
-use Rattle.schedule.proofs.Shares.{held-shares, free-held}
+use Rattle.schedule.proofs.Sound.Facts.{Facts}
+use Rattle.schedule.proofs.Sound.Done.{unborn-first as unborn-next}
+use Rattle.schedule.proofs.Sound.Shares.{held-shares, free-held}
 use Rattle.schedule.proofs.Stores.{steady-lawful, steady-fits, steady-facts}
-use Rattle.schedule.proofs.Leftmost.{leftmost-enabled}
-use Rattle.schedule.proofs.Totals.{sumTo-bound}
-use Rattle.schedule.proofs.CountBelow.{count-bound, member-more, ascending-count, set-ones}
+use Rattle.schedule.proofs.Sound.Leftmost.{leftmost-enabled}
+use Rattle.schedule.proofs.Sequences.Totals.{sumTo-bound}
+use Rattle.schedule.proofs.Sequences.CountBelow.{count-bound, ascending-count, set-ones}
 
 module _ (r : Run) (h : Steady r) where
   -- "An unborn thread's next action is its first; an ended one's remains its end."

@@ -6,7 +6,7 @@ use mathlib.Core.List.{[], _∷_}
 use borrow.Author.Tests.{ltb-false}
 use Rattle.table.specs.Format.{Table}
 use Rattle.table.specs.Pass.{firstFound}
-use Rattle.table.specs.Rules.{outside, allocOf}
+use Rattle.table.specs.Checks.{outside, allocOf}
 use Rattle.table.specs.declared.Found.the-variants.{Nothing}
 use Rattle.table.proofs.Sizes.{inside}
 use Rattle.table.proofs.Passes.{tryPass-from-0, firstFound-nothing}
@@ -18,11 +18,11 @@ use Rattle.schedule.specs.Begin.{maxQuota, allocAbove, beginPasses}
 use Rattle.schedule.specs.Sound.{Steady}
 use Rattle.schedule.specs.Turn.{stepRun}
 use Rattle.schedule.specs.Runs.{moved}
-use Rattle.schedule.proofs.Lawful.{Lawful, Within, lawful}
-use Rattle.schedule.proofs.Facts.{Facts, facts, sound-facts}
-use Rattle.schedule.proofs.Turns.{turn-facts}
-use Rattle.schedule.proofs.ActiveMoves.{list-once, list-small}
-use Rattle.schedule.proofs.Links.{walk-laid}
+use Rattle.schedule.proofs.Tables.Lawful.{Lawful, Within, lawful}
+use Rattle.schedule.proofs.Sound.Facts.{Facts, facts, sound-facts}
+use Rattle.schedule.proofs.Preservation.Turns.{turn-facts}
+use Rattle.schedule.proofs.Linked.ActiveMoves.{list-once, list-small}
+use Rattle.schedule.proofs.Linked.Links.{walk-laid}
 
 -- ---- the checks of a beginning
 

@@ -17,8 +17,8 @@ use Rattle.schedule.specs.Begin.{begin}
 use Rattle.schedule.specs.Calls.{Call, afterCalls, rowOfCalls}
 use Rattle.schedule.specs.Memory.{Keeps}
 use Rattle.schedule.specs.Threads.{listedAfter, threadLimit}
-use Rattle.schedule.proofs.Histories.{Started, Traced, calls-traced}
-use Rattle.schedule.proofs.Listed.{row-listed, row-listed-alone}
+use Rattle.schedule.proofs.Runs.Histories.{Started, Traced, calls-traced}
+use Rattle.schedule.proofs.Bounds.Listed.{row-listed, row-listed-alone}
 
 -- of a record r and the row of turns that led to it
 pub record ThreadLimit (T : Table) (p K b : ℕ) (r : Run) (row : List ℕ) : Type 0 where

@@ -11,7 +11,7 @@ use lib.IntN.{pos, subℕ}
 use borrow.Author.Tests.{lt-ltb, le-ltb, eqb-true}
 use Rattle.table.specs.Sum.{pick, sumTo}
 use Rattle.table.specs.Format.{free, join, is, Table, kind}
-use Rattle.table.specs.Rules.{allocOf, freeOf, whole, balance}
+use Rattle.table.specs.Checks.{allocOf, freeOf, whole, balance}
 use Rattle.table.proofs.Sums.{sumTo-cong}
 use Rattle.table.proofs.Tests.{and-both, is-true}
 use Rattle.table.proofs.Bodies.{owner-at, join-above}
@@ -24,14 +24,14 @@ use Rattle.schedule.specs.Record.{stateOf, tableIn}
 use Rattle.schedule.specs.Begin.{startState}
 use Rattle.schedule.specs.Sound.{Steady, joinedIn, shareIn, balanceTo, isDone, progress, isJoined, share}
 use Rattle.schedule.specs.Memory.{rowState, memoryOf}
-use Rattle.schedule.proofs.Lawful.{Lawful}
-use Rattle.schedule.proofs.Words.{never-true}
-use Rattle.schedule.proofs.Totals.{sumTo-front}
-use Rattle.schedule.proofs.Facts.{Facts}
-use Rattle.schedule.proofs.Starts.{start-facts}
-use Rattle.schedule.proofs.Done.{unborn-first}
-use Rattle.schedule.proofs.Shares.{progress-ended, progress-next, progress-within, joined-ended, held-shares, share-held, free-share}
-use Rattle.schedule.proofs.Rows.{row-facts, row-held}
+use Rattle.schedule.proofs.Tables.Lawful.{Lawful}
+use Rattle.schedule.proofs.Sequences.Words.{never-true}
+use Rattle.schedule.proofs.Sequences.Totals.{sumTo-front}
+use Rattle.schedule.proofs.Sound.Facts.{Facts}
+use Rattle.schedule.proofs.Preservation.Starts.{start-facts}
+use Rattle.schedule.proofs.Sound.Done.{unborn-first}
+use Rattle.schedule.proofs.Sound.Shares.{progress-ended, progress-next, progress-within, joined-ended, held-shares, share-held, free-share}
+use Rattle.schedule.proofs.Runs.Rows.{row-facts, row-held}
 use Rattle.schedule.proofs.Stores.{steady-lawful, steady-facts}
 
 -- a difference that does not stop at 0

@@ -9,8 +9,8 @@ use lib.Dec.{eqb}
 use Rattle.table.specs.Sum.{pick, sumTo, anyBelow}
 use Rattle.table.specs.Format.{codeOf, kindOf, is, tableOf}
 use Rattle.table.specs.Pass.{refusal, tryAt, tryFrom, tryPass, firstFound}
-use Rattle.table.specs.Rules.{entryWrong, totalWrong, ownerBelow, kindUnknown, argumentWrong, endMisplaced, forkedBelow, forkedBefore}
-use Rattle.table.specs.Rules.{openBefore, joinNotLatest, endWithOpen, neverForked, allocOf, freeOf, wholeWithin, balance, balanceBelow0, passes}
+use Rattle.table.specs.Checks.{entryWrong, totalWrong, ownerBelow, kindUnknown, argumentWrong, endMisplaced, forkedBelow, forkedBefore}
+use Rattle.table.specs.Checks.{openBefore, joinNotLatest, endWithOpen, neverForked, allocOf, freeOf, wholeWithin, balance, balanceBelow0, passes}
 use Rattle.table.specs.Level.{forkBelow}
 use Rattle.table.specs.Cases.{E}
 use Rattle.table.proofs.Tests.{no-way}
@@ -33,8 +33,8 @@ use Rattle.schedule.specs.Sound.{Steady, Sound}
 use Rattle.schedule.specs.Calls.{turnsIn}
 use Rattle.schedule.specs.Answers.{turningValues}
 use Rattle.schedule.specs.Cases.{turnedSound}
-use Rattle.schedule.proofs.Words.{not-both}
-use Rattle.schedule.proofs.Histories.{begin-sound, turn-steady}
+use Rattle.schedule.proofs.Sequences.Words.{not-both}
+use Rattle.schedule.proofs.Runs.Histories.{begin-sound, turn-steady}
 use Rattle.schedule.proofs.CaseLaws.{turned-sound, turn-turns}
 
 -- ---- "A run in rounds that says spent with turns left"

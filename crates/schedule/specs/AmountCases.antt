@@ -4,7 +4,7 @@ use Prim.Native.Nat.{ℕ}
 use mathlib.Core.List.{List, [], _∷_, map}
 use Rattle.table.specs.Sum.{sumTo, anyBelow}
 use Rattle.table.specs.Format.{end, work, alloc, free, fork, join, codeOf, kindOf, is, tableOf}
-use Rattle.table.specs.Rules.{ownerBelow, allocOf, freeOf, wholeWithin}
+use Rattle.table.specs.Checks.{ownerBelow, allocOf, freeOf, wholeWithin}
 use Rattle.table.specs.Level.{forkBelow}
 use Rattle.table.specs.Cases.{written}
 use Rattle.table.specs.Cases.{act as action}

@@ -6,7 +6,7 @@ use lib.ListN.{length, replicate, set}
 use lib.Dec.{ltb}
 use Rattle.table.specs.Format.{Table, tableOf}
 use Rattle.table.specs.Pass.{Pass, firstFound}
-use Rattle.table.specs.Rules.{outside, allocOf, passes}
+use Rattle.table.specs.Checks.{outside, allocOf, passes}
 use Rattle.table.specs.declared.Found.{Found}
 use Rattle.table.specs.declared.Found.the-variants.{Nothing, At}
 use Rattle.schedule.specs.declared.Run.{Run}
@@ -44,7 +44,7 @@ startState T =
       turns = 0;
     }
 
--- "Beginning fixes p and K"
+-- "Beginning fixes p .. and K .."
 unfoldable pub startRun : List ℕ → ℕ → ℕ → Run
 startRun s p K =
     stored

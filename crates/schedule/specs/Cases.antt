@@ -7,8 +7,8 @@ use lib.ListN.{replicate}
 use Rattle.table.specs.Sum.{sumTo, anyBelow}
 use Rattle.table.specs.Format.{end, work, alloc, free, fork, join, codeOf, kindOf, is, tableOf}
 use Rattle.table.specs.Pass.{Check, tryAt, tryFrom, tryPass, firstFound}
-use Rattle.table.specs.Rules.{entryWrong, totalWrong, ownerBelow, kindUnknown, argumentWrong, endMisplaced, forkedBelow, forkedBefore}
-use Rattle.table.specs.Rules.{openBefore, joinNotLatest, endWithOpen, neverForked, allocOf, freeOf, wholeWithin, balance, balanceBelow0, passes}
+use Rattle.table.specs.Checks.{entryWrong, totalWrong, ownerBelow, kindUnknown, argumentWrong, endMisplaced, forkedBelow, forkedBefore}
+use Rattle.table.specs.Checks.{openBefore, joinNotLatest, endWithOpen, neverForked, allocOf, freeOf, wholeWithin, balance, balanceBelow0, passes}
 use Rattle.table.specs.Level.{forkBelow}
 use Rattle.table.specs.Cases.{written, E, least, twoAllocs}
 use Rattle.table.specs.Cases.{act as action}
@@ -40,7 +40,7 @@ abbrev pub never : Run → Bool
 never r = false
 
 -- The checks of a turn on a sound record: 32 does not apply. To test at each turn the whole of a record, with its 36,868 bytes and 1,024 threads, takes seconds to compute. But a
--- beginning's record is sound and turns keep it so (`begin-sound` and `turn-steady`, proofs/Histories), hence `ranBy never turnedSound`, which the rows compute, is
+-- beginning's record is sound and turns keep it so (`begin-sound` and `turn-steady`, proofs/Runs/Histories), hence `ranBy never turnedSound`, which the rows compute, is
 -- `ranBy never turned` (`ran-turned`, proofs/CaseLaws).
 abbrev pub soundChecks : Run → ℕ → List Check
 soundChecks r w = record { number = 30; applies = λ i. noWorker r w } ∷ record { number = 31; applies = λ i. rootEnded r } ∷ []

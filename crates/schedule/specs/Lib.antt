@@ -11,6 +11,7 @@ pub mod Memory
 pub mod Threads
 pub mod Answers
 pub mod Values
+pub mod Shown
 pub mod Listing
 pub mod Cases
 pub mod TurnCases
@@ -19,6 +20,6 @@ pub mod AmountCases
 pub mod Rule
 pub mod Actives
 pub mod Parents
-pub mod LinkMoves
 pub mod LinkCases
 pub mod RowList
+pub mod Code

@@ -67,13 +67,13 @@ LinkedAs k l = Linked (k .left) (k .right) (k .head) l
 
 -- ---- writing
 
--- c enters directly left of t (`linkLeft-linked`, proofs/Links)
+-- c enters directly left of t (`linkLeft-linked`, proofs/Linked/Links)
 unfoldable pub linkLeft : ℕ → ℕ → Links → Links
 linkLeft c t k =
     let x : ℕ = getD (k .left) t 0 in
     record { left = set (set (k .left) t c) c x; right = set (set (k .right) x c) c t; head = pick (ltb x noThread) (k .head) c }
 
--- t leaves (`unlink-linked`, proofs/Links)
+-- t leaves (`unlink-linked`, proofs/Linked/Links)
 unfoldable pub unlink : ℕ → Links → Links
 unlink t k =
     let x : ℕ = getD (k .left) t 0 in
@@ -88,7 +88,7 @@ lastAfter y (t ∷ l) = lastAfter t l
 abbrev pub lastOf : List ℕ → ℕ
 lastOf l = lastAfter noThread l
 
--- c enters at the right end, where y is the last thread (`linkLast-linked`, proofs/Fills)
+-- c enters at the right end, where y is the last thread (`linkLast-linked`, proofs/Linked/Fills)
 unfoldable pub linkLast : ℕ → ℕ → Links → Links
 linkLast c y k = record { left = set (k .left) c y; right = set (set (k .right) y c) c noThread; head = pick (ltb y noThread) (k .head) c }
 

@@ -5,7 +5,7 @@ use mathlib.Core.List.{List, [], _∷_, _++_, map}
 use lib.Dec.{eqb}
 use Rattle.table.specs.Sum.{pick, greatest}
 use Rattle.table.specs.Format.{Table}
-use Rattle.table.specs.Rules.{allocOf, freeOf}
+use Rattle.table.specs.Checks.{allocOf, freeOf}
 use Rattle.table.specs.Serial.{S1}
 use Rattle.table.specs.Level.{D}
 use Rattle.schedule.specs.declared.Reply.{Reply}
@@ -41,7 +41,7 @@ abbrev pub doneIn : (Table → ℕ → ℕ) → Table → ℕ → List ℕ → �
 doneIn own T K row = sumReplies (own T) (replies T K (startState T) row)
 
 -- "memory held is the sum of the arguments of the allocs done, less that of the frees done". The difference never stops at 0: the frees done are at most the allocs done (`row-balanced`,
--- proofs/Rows, and the field `balanced` of the limit, proofs/Limit).
+-- proofs/Runs/Rows, and the field `balanced` of the limit, proofs/Limit).
 unfoldable pub memoryOf : Table → ℕ → List ℕ → ℕ
 memoryOf T K row =
     let l : List Reply = replies T K (startState T) row in

@@ -6,7 +6,7 @@ use Rattle.table.specs.Format.{Table}
 use Rattle.schedule.specs.declared.Run.{Run}
 use Rattle.schedule.specs.declared.Reply.{Reply}
 use Rattle.schedule.specs.Machine.{State, withList, turnOf, passedBy}
-use Rattle.schedule.specs.Record.{maxThreads, filled, listIn, stateOf}
+use Rattle.schedule.specs.Record.{maxThreads, filled}
 use Rattle.schedule.specs.Turn.{stepRun, passedIn}
 use Rattle.schedule.specs.Runs.{moved}
 

@@ -8,8 +8,8 @@ use lib.Dec.{leb, eqb}
 use Rattle.table.specs.Sum.{pick, sumTo, sumOver, greatest, anyBelow}
 use Rattle.table.specs.Format.{end, alloc, free, fork, join, codeOf, kindOf, is, tableOf}
 use Rattle.table.specs.Pass.{tryAt, tryFrom, tryPass, firstFound}
-use Rattle.table.specs.Rules.{entryWrong, totalWrong, ownerBelow, kindUnknown, argumentWrong, endMisplaced, forkedBelow, forkedBefore}
-use Rattle.table.specs.Rules.{openBefore, joinNotLatest, endWithOpen, neverForked, allocOf, freeOf, wholeWithin, balance, balanceBelow0, passes}
+use Rattle.table.specs.Checks.{entryWrong, totalWrong, ownerBelow, kindUnknown, argumentWrong, endMisplaced, forkedBelow, forkedBefore}
+use Rattle.table.specs.Checks.{openBefore, joinNotLatest, endWithOpen, neverForked, allocOf, freeOf, wholeWithin, balance, balanceBelow0, passes}
 use Rattle.table.specs.Serial.{serialWithin, fronts, heldAfter, peakOf, S1}
 use Rattle.table.specs.Level.{forkBelow, forkOf, beforeIt, joinedEnd, dependsOn, levelWithin, D}
 use Rattle.table.specs.Cases.{Action, written, E}
@@ -38,7 +38,7 @@ untilNext w (v ∷ l) = pick (eqb v w) [] (v ∷ untilNext w l)
 unfoldable pub atMost : ℕ → List ℕ → Bool
 atMost b stretch = allIn (λ v. leb (countIn v stretch) b) stretch
 
--- a row keeps the rule with b: exactly where `Keeps b row` (`keeps-exactly`, proofs/KeepsTest)
+-- a row keeps the rule with b: exactly where `Keeps b row` (`keeps-exactly`, proofs/Bounds/KeepsTest)
 unfoldable pub keeps : ℕ → List ℕ → Bool
 keeps b [] = true
 keeps b (w ∷ l) = atMost b (untilNext w l) && keeps b l

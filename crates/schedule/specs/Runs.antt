@@ -1,6 +1,7 @@
 -- Runs over a list of workers and in rounds, on any record whatever (document 01, "The run").
 use Prim.Native.Nat.{ℕ, zero, suc, _-_, _^_, _%_}
 use mathlib.Core.List.{List}
+use mathlib.Core.Bool.{Bool}
 use lib.ListN.{length, getD}
 use lib.Dec.{eqb}
 use Rattle.table.specs.Sum.{pick}
@@ -18,6 +19,10 @@ ran x r = record { report = x; run = r }
 -- the record after one turn more
 abbrev pub moved : Run → ℕ → Run
 moved r w = stored r (stepRun r w .state)
+
+-- the worker of turn i, from a list or in rounds of p
+unfoldable pub workerAt : List ℕ → Bool → ℕ → ℕ → ℕ
+workerAt order rounds p i = pick rounds (i % p) (getD order i 0)
 
 -- At most k turns more after i turns, the worker of turn i given by `who`: "a run stops at the root's end, a refusal or the list's end"; "a run that reaches [2^64 − 1 turns] before
 -- the root's end and has a turn to go stops with 32". "In a run, 31 isn't met: it finishes."

@@ -8,8 +8,8 @@ use lib.Dec.{ltb, leb, eqb}
 use Rattle.table.specs.Sum.{pick, sumTo, anyBelow}
 use Rattle.table.specs.Format.{join, is, Table, kind, tableOf}
 use Rattle.table.specs.Pass.{firstFound}
-use Rattle.table.specs.Rules.{owner, endOf, allocOf, freeOf, partOf, passes}
-use Rattle.table.specs.Accepted.{Rules}
+use Rattle.table.specs.Checks.{owner, endOf, allocOf, freeOf, partOf, passes}
+use Rattle.table.specs.Rules.{Rules}
 use Rattle.table.specs.Serial.{serialOrder}
 use Rattle.table.specs.Level.{forkBelow, dependsOn}
 use Rattle.table.specs.declared.Found.{Found}

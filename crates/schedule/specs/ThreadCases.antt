@@ -5,7 +5,7 @@ use mathlib.Core.List.{List, [], _∷_, map}
 use lib.ListN.{replicate}
 use Rattle.table.specs.Sum.{greatest, greatestTo}
 use Rattle.table.specs.Format.{codeOf, kindOf, is, tableOf}
-use Rattle.table.specs.Rules.{ownerBelow}
+use Rattle.table.specs.Checks.{ownerBelow}
 use Rattle.table.specs.Level.{forkBelow, forkOf, beforeIt, joinedEnd, dependsOn, levelWithin, D}
 use Rattle.table.specs.Nested.{nestWithin, N}
 use Rattle.table.specs.Cases.{E}

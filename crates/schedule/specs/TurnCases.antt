@@ -5,8 +5,8 @@ use mathlib.Core.List.{List, [], _∷_, map}
 use Rattle.table.specs.Sum.{sumTo, anyBelow}
 use Rattle.table.specs.Format.{codeOf, kindOf, is, tableOf}
 use Rattle.table.specs.Pass.{refusal, tryAt, tryFrom, tryPass, firstFound}
-use Rattle.table.specs.Rules.{entryWrong, totalWrong, ownerBelow, kindUnknown, argumentWrong, endMisplaced, forkedBelow, forkedBefore}
-use Rattle.table.specs.Rules.{openBefore, joinNotLatest, endWithOpen, neverForked, allocOf, freeOf, wholeWithin, balance, balanceBelow0, passes}
+use Rattle.table.specs.Checks.{entryWrong, totalWrong, ownerBelow, kindUnknown, argumentWrong, endMisplaced, forkedBelow, forkedBefore}
+use Rattle.table.specs.Checks.{openBefore, joinNotLatest, endWithOpen, neverForked, allocOf, freeOf, wholeWithin, balance, balanceBelow0, passes}
 use Rattle.table.specs.Level.{forkBelow}
 use Rattle.table.specs.Cases.{E, twoAllocs}
 use Rattle.schedule.specs.declared.Run.{Run}

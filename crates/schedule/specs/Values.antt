@@ -1,4 +1,4 @@
--- The paper's number and values of each call from its checks, its turns and their replies, with no answer between. The answers' values (Answers) are these: proofs/Values.
+-- The paper's number and values of each call from its checks, its turns and their replies, with no answer between. The answers' values (Answers) are these: proofs/Runs/Values.
 use Prim.Native.Nat.{ℕ, zero, suc, _-_, _^_, _%_}
 use mathlib.Core.List.{List, [], _∷_, _++_}
 use mathlib.Core.Bool.{Bool, true, false, _||_}
@@ -7,7 +7,7 @@ use lib.Dec.{eqb}
 use Rattle.table.specs.Sum.{pick}
 use Rattle.table.specs.Format.{tableOf}
 use Rattle.table.specs.Pass.{Check, orElse, tryAt, firstFound}
-use Rattle.table.specs.Rules.{passes}
+use Rattle.table.specs.Checks.{passes}
 use Rattle.table.specs.Load.{foundNumber, foundPlace, ifFound}
 use Rattle.table.specs.declared.Found.{Found}
 use Rattle.table.specs.declared.Found.the-variants.{Nothing}
@@ -58,7 +58,7 @@ runChecks r w = record { number = 32; applies = λ i. eqb (r .turns) (2 ^ 64 - 1
 unfoldable pub stops : Run → ℕ → Bool
 stops r w = rootEnded r || ifFound (tryAt (runChecks r w) 0) true false
 
--- the least number below k that passes, k where none does (`first-that`, proofs/Values)
+-- the least number below k that passes, k where none does (`first-that`, proofs/Runs/Values)
 unfoldable pub firstThat : (ℕ → Bool) → ℕ → ℕ
 firstThat f zero = 0
 firstThat f (suc k) = pick (f 0) 0 (suc (firstThat (λ n. f (suc n)) k))

@@ -12,16 +12,16 @@ use lib.ListN.{length, getD, set, length-set}
 use lib.Seq.{ext-getD}
 use Rattle.table.specs.Sum.{pick, sumTo, anyBelow}
 use Rattle.table.specs.Format.{join, is, Table, kind, tableOf}
-use Rattle.table.specs.Rules.{countsBelow}
+use Rattle.table.specs.Checks.{countsBelow}
 use Rattle.table.proofs.Tests.{same-is}
 use Rattle.table.proofs.Bodies.{join-below, first-is, counts-all, body-within}
 use Rattle.schedule.specs.Sound.{allBelow, sameList, doneIn, joinedIn, shareIn, sharesIn, balanceTo, progressIn}
-use Rattle.schedule.proofs.Lawful.{Lawful}
-use Rattle.schedule.proofs.Lists.{set-each}
-use Rattle.schedule.proofs.Words.{allBelow-exactly, eqb-exactly, sameList-exactly}
-use Rattle.schedule.proofs.Sharing.{shares-exactly}
-use Rattle.soundness.specs.Checks.{Accepted, doneTo, threadsSound}
-use Rattle.soundness.specs.Balancing.{Balances, joinedBelow, Cleared}
+use Rattle.schedule.proofs.Tables.Lawful.{Lawful}
+use Rattle.schedule.proofs.Sequences.Lists.{set-each}
+use Rattle.schedule.proofs.Sequences.Words.{allBelow-exactly, eqb-exactly, sameList-exactly}
+use Rattle.schedule.proofs.Sound.Sharing.{shares-exactly}
+use Rattle.soundness.specs.Code.Checks.{Accepted, doneTo, threadsSound}
+use Rattle.soundness.specs.Code.Balancing.{Balances, joinedBelow, Cleared}
 use Rattle.soundness.proofs.Lookups.{accepted-lawful, thread-below}
 use Rattle.soundness.proofs.Done.{in-body}
 use Rattle.soundness.proofs.Balancing.{stop-low, stop-high, below-stop}

@@ -10,7 +10,7 @@ use lib.ListN.{getD}
 use borrow.Author.Tests.{ltb-true, ltb-false, lt-ltb, le-ltb, leb-true, leb-false, eqb-true, eqb-false, ne-eqb, not-true, not-false}
 use Rattle.table.specs.Sum.{pick}
 use Rattle.table.specs.Format.{end, join, is, Table, kind}
-use Rattle.table.specs.Rules.{owner, endOf}
+use Rattle.table.specs.Checks.{owner, endOf}
 use Rattle.table.specs.Level.{forkBelow, dependsOn}
 use Rattle.table.proofs.Tests.{is-true}
 use Rattle.table.proofs.Bodies.{count-pos, body-within, after-end, owner-is, owner-below, owner-first, owner-end, end-is-last}
@@ -18,9 +18,9 @@ use Rattle.table.proofs.Nesting.{fork-found, fork-exists}
 use Rattle.table.proofs.Levels.{first-no-join, depends-root, depends-child, depends-step, depends-join}
 use Rattle.schedule.specs.Machine.{ended}
 use Rattle.schedule.specs.Sound.{allBelow, allIn, doneIn, inOrder}
-use Rattle.schedule.proofs.Words.{allBelow-exactly, and-exactly}
-use Rattle.schedule.proofs.Lawful.{Lawful}
-use Rattle.soundness.specs.Checks.{doneAt, doneTo, unbornIn, joinDone, bodyInOrder}
+use Rattle.schedule.proofs.Sequences.Words.{allBelow-exactly, and-exactly}
+use Rattle.schedule.proofs.Tables.Lawful.{Lawful}
+use Rattle.soundness.specs.Code.Checks.{doneAt, doneTo, unbornIn, joinDone, bodyInOrder}
 use Rattle.soundness.proofs.Every.{same-truth, all-fails}
 
 -- ---- what is done

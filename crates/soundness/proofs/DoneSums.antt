@@ -11,15 +11,15 @@ use lib.Dec.{ltb, eqb}
 use lib.ListN.{getD}
 use Rattle.table.specs.Sum.{pick, sumTo}
 use Rattle.table.specs.Format.{Table}
-use Rattle.table.specs.Rules.{endOf, countsBelow}
-use Rattle.table.specs.Accepted.{ContentRules}
+use Rattle.table.specs.Checks.{endOf, countsBelow}
+use Rattle.table.specs.Rules.{ContentRules}
 use Rattle.table.proofs.Sums.{sumTo-cong}
 use Rattle.table.proofs.Bodies.{first-is, counts-all, after-end, owner-at}
 use Rattle.schedule.specs.Machine.{ended}
 use Rattle.schedule.specs.Sound.{doneIn, ofDoneIn, sumDoneIn}
-use Rattle.schedule.proofs.Totals.{sumTo-append, sumTo-front}
-use Rattle.soundness.specs.Checks.{doneTo}
-use Rattle.soundness.specs.Adding.{Added}
+use Rattle.schedule.proofs.Sequences.Totals.{sumTo-append, sumTo-front}
+use Rattle.soundness.specs.Code.Checks.{doneTo}
+use Rattle.soundness.specs.Code.Adding.{Added}
 use Rattle.soundness.proofs.Done.{before-stop}
 
 ltb-from : (f i x : ℕ) → ltb (f + i) x ≡ ltb i (x - f)

@@ -1,5 +1,5 @@
 -- A list that is 0 from a place on is its front part filled up with 0.
-use mathlib.Core.Path.{_≡_, sym, ap, _∙_}
+use mathlib.Core.Path.{_≡_, refl, sym, ap, _∙_}
 use mathlib.Core.Logic.{inl, inr, ⊎-elim}
 use Prim.Native.Nat.{ℕ, _+_, _-_, _≤_, _<_}
 use mathlib.Core.List.{List}
@@ -12,7 +12,7 @@ use lib.Seq.{ext-getD, getD-take, getD-append-add, length-take-le}
 use borrow.Author.Tests.{lt-ltb, ltb-true, eqb-true, eq-eqb, ne-eqb}
 use Rattle.schedule.specs.Record.{filled}
 use Rattle.schedule.specs.Sound.{allBelow, sameList}
-use Rattle.schedule.proofs.Words.{allBelow-exactly, or-exactly, sameList-exactly}
+use Rattle.schedule.proofs.Sequences.Words.{allBelow-exactly, or-exactly, sameList-exactly}
 use Rattle.soundness.proofs.Every.{same-truth, fromOn, PassedFrom, from-more, from-fails, from-all}
 
 abbrev pub isZero : List ℕ → ℕ → Bool
@@ -65,3 +65,17 @@ module _ (l : List ℕ) (used size : ℕ) (s : length l ≡ size) where
 
 pub rest-more : (l : List ℕ) (used i : ℕ) → PassedFrom used (isZero l) i → getD l i 0 ≡ 0 → PassedFrom used (isZero l) (i + 1)
 rest-more l used i p e = from-more p (eq-eqb (getD l i 0) 0 e)
+
+-- nothing of a list, filled up, is all 0
+pub none-filled : (size : ℕ) (l : List ℕ) → filled size (take 0 l) ≡ replicate size 0
+none-filled size l =
+    let e : size - 0 ≡ size = omega arith in
+    rw e
+
+-- a loop that looks at each place
+module _ (l : List ℕ) (i : ℕ) (p : PassedFrom 0 (isZero l) i) where
+  pub zeros-fail : i < length l → (getD l i 0 ≡ 0 → ⊥) → false ≡ sameList l (replicate (length l) 0)
+  zeros-fail h e = rest-fails l 0 (length l) refl i p h e ∙ ap (sameList l) (none-filled (length l) l)
+
+  pub zeros-pass : length l ≤ i → true ≡ sameList l (replicate (length l) 0)
+  zeros-pass h = rest-pass l 0 (length l) refl i p h ∙ ap (sameList l) (none-filled (length l) l)

@@ -10,8 +10,8 @@ use Rattle.table.specs.Format.{actionsOf, tableOf}
 use Rattle.table.proofs.Sizes.{Sizes, sizes}
 use Rattle.schedule.specs.Record.{filled}
 use Rattle.schedule.specs.Firsts.{firsts}
-use Rattle.schedule.proofs.Lists.{firsts-length}
-use Rattle.soundness.specs.Checks.{Accepted}
+use Rattle.schedule.proofs.Sequences.Lists.{firsts-length}
+use Rattle.soundness.specs.Code.Checks.{Accepted}
 
 pub accepted-sizes : {s : List ℕ} {n : ℕ} → Accepted s n → Sizes s n (actionsOf s)
 unfolding tableOf

@@ -9,7 +9,7 @@ pub mod Noting
 pub mod Spans
 pub mod Marks
 pub mod Chains
-pub mod Blank
 pub mod Reading
 pub mod Passed
 pub mod Laying
+pub mod OnParts

@@ -7,16 +7,16 @@ use native.Mathlib.Omega.{arith}
 use borrow.Author.Tests.{ne-eqb}
 use lib.ListN.{getD}
 use Rattle.table.specs.Format.{fork, join, is, kindOf, codeAt, argumentAt, bodiesFrom, Table, tableOf}
-use Rattle.table.specs.Rules.{endOf}
-use Rattle.table.specs.Steps.{Read}
+use Rattle.table.specs.Checks.{endOf}
+use Rattle.table.specs.Code.Steps.{Read}
 use Rattle.table.proofs.Walks.{is-code}
 use Rattle.table.proofs.Tests.{same-is}
 use Rattle.table.proofs.Parts.{code-from, argument-from}
 use Rattle.table.proofs.Bodies.{count-pos, body-within, after-end}
-use Rattle.schedule.proofs.Lawful.{Lawful, lawful}
-use Rattle.schedule.proofs.Words.{not-both, allBelow-exactly}
-use Rattle.schedule.proofs.Clauses.{nextInBody-exactly}
-use Rattle.soundness.specs.Checks.{Accepted, Placed}
+use Rattle.schedule.proofs.Tables.Lawful.{Lawful, lawful}
+use Rattle.schedule.proofs.Sequences.Words.{not-both, allBelow-exactly}
+use Rattle.schedule.proofs.Sound.Clauses.{nextInBody-exactly}
+use Rattle.soundness.specs.Code.Checks.{Accepted, Placed}
 
 pub accepted-lawful : {s : List ℕ} {n : ℕ} → Accepted s n → Lawful (tableOf s)
 accepted-lawful {s} k = lawful s (k .rules)

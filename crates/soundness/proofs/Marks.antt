@@ -10,15 +10,15 @@ use lib.ListN.{getD, set, length-set}
 use lib.Seq.{getD-set-same, getD-set-other}
 use Rattle.table.specs.Sum.{sumTo}
 use Rattle.table.specs.Format.{fork, is, codeOf, Table, kind}
-use Rattle.table.specs.Rules.{owner, endOf}
+use Rattle.table.specs.Checks.{owner, endOf}
 use Rattle.table.proofs.Tests.{no-way, same-is}
 use Rattle.table.proofs.Bodies.{first-is, after-end, count-pos, end-kind, end-within, owner-is, fork-above, fork-below, fork-later}
 use Rattle.table.proofs.Nesting.{fork-once, fork-exists}
 use Rattle.schedule.specs.Sound.{numberOf}
-use Rattle.schedule.proofs.Lawful.{Lawful}
-use Rattle.schedule.proofs.Numbers.{number-root, number-child, number-below}
-use Rattle.soundness.specs.Checks.{Lengths, Numbers}
-use Rattle.soundness.specs.Order.{Inside, Marked, Walked, Numbering}
+use Rattle.schedule.proofs.Tables.Lawful.{Lawful}
+use Rattle.schedule.proofs.Tables.Numbers.{number-root, number-child, number-below}
+use Rattle.soundness.specs.Code.Checks.{Lengths, Numbers}
+use Rattle.soundness.specs.Code.Order.{Inside, Marked, Walked, Numbering}
 use Rattle.soundness.proofs.Spans.{inside-within, inside-fork, over-step, over-fork}
 
 -- ---- the marks of the threads from u on

@@ -11,18 +11,18 @@ use lib.Seq.{getD-set-same, getD-set-other, ext-getD}
 use borrow.Author.Tests.{ltb-true}
 use Rattle.table.specs.Sum.{pick, sumTo}
 use Rattle.table.specs.Format.{fork, Table, kind}
-use Rattle.table.specs.Rules.{owner, forks}
+use Rattle.table.specs.Checks.{owner, forks}
 use Rattle.table.specs.Level.{forkBelow}
 use Rattle.table.proofs.Bodies.{first-is, count-pos, owner-is, owner-below, fork-above, fork-below}
 use Rattle.table.proofs.Nesting.{forks-true, fork-once, fork-found, fork-exists}
 use Rattle.schedule.specs.Machine.{parentOf}
 use Rattle.schedule.specs.Record.{filled}
 use Rattle.schedule.specs.Firsts.{firsts}
-use Rattle.schedule.proofs.Lists.{getD-alike, filled-at, filled-length, firsts-length, firsts-at, firsts-past}
+use Rattle.schedule.proofs.Sequences.Lists.{getD-alike, filled-at, filled-length, firsts-length, firsts-at, firsts-past}
 use Rattle.schedule.specs.Sound.{doneIn}
-use Rattle.schedule.proofs.Lawful.{Lawful}
+use Rattle.schedule.proofs.Tables.Lawful.{Lawful}
 use Rattle.schedule.specs.Parents.{Parents}
-use Rattle.soundness.specs.Checks.{doneAt, unbornIn, unbornAt, Forks, Noted}
+use Rattle.soundness.specs.Code.Checks.{doneAt, unbornIn, unbornAt, Forks, Noted}
 use Rattle.soundness.specs.Tested.{parentsIn}
 
 parents-at : (T : Table) (t : ℕ) → t < T .threads → getD (filled 1024 (firsts (parentOf T) 0 (T .threads))) t 0 ≡ parentOf T t

@@ -6,15 +6,15 @@ use native.Mathlib.Numerals.{add-one}
 use native.Mathlib.Omega.{arith}
 use lib.ListN.{length, length-append}
 use Rattle.table.specs.Format.{end, fork, is, Table, kind}
-use Rattle.table.specs.Rules.{owner, endOf}
+use Rattle.table.specs.Checks.{owner, endOf}
 use Rattle.table.specs.Serial.{serial}
 use Rattle.table.proofs.Bodies.{after-end, first-within, end-within, end-kind, owner-is, owner-of-end, fork-above, fork-below, next-within}
 use Rattle.table.proofs.Serial.{serial-end, serial-fork, serial-step, serial-bound}
 use Rattle.table.proofs.Rank.{rank-fork, no-end}
 use Rattle.schedule.specs.Sound.{numberOf}
-use Rattle.schedule.proofs.Lawful.{Lawful}
-use Rattle.schedule.proofs.Numbers.{number-rank, number-step}
-use Rattle.soundness.specs.Order.{Inside}
+use Rattle.schedule.proofs.Tables.Lawful.{Lawful}
+use Rattle.schedule.proofs.Tables.Numbers.{number-rank, number-step}
+use Rattle.soundness.specs.Code.Order.{Inside}
 
 -- ---- one action
 

@@ -1,5 +1,2 @@
-pub mod Checks
-pub mod Adding
-pub mod Balancing
-pub mod Order
 pub mod Tested
+pub mod Code

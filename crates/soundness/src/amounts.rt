@@ -6,11 +6,11 @@ use table::read;
 ghost use mathlib.Core.Path.{_≡_};
 ghost use Prim.Native.Nat.{_<_};
 ghost use Rattle.table.specs.Format.{kindOf, tableOf};
-ghost use Rattle.table.specs.Rules.{allocOf, freeOf};
-ghost use Rattle.table.specs.Steps.{ownAmount};
+ghost use Rattle.table.specs.Checks.{allocOf, freeOf};
+ghost use Rattle.table.specs.Code.Steps.{ownAmount};
 ghost use Rattle.schedule.specs.Sound.{heldRight};
-ghost use Rattle.soundness.specs.Checks.{Accepted, Placed};
-ghost use Rattle.soundness.specs.Adding.{Adds, Added};
+ghost use Rattle.soundness.specs.Code.Checks.{Accepted, Placed};
+ghost use Rattle.soundness.specs.Code.Adding.{Adds, Added};
 
 pub(crate) struct Sums {
     pub(crate) allocs: u64,

@@ -8,11 +8,11 @@ ghost use Prim.Native.Nat.{_<_};
 ghost use lib.ListN.{replicate};
 ghost use Rattle.table.specs.Format.{tableOf};
 ghost use Rattle.table.specs.Pass.{firstFound, refusal};
-ghost use Rattle.table.specs.Rules.{outside as isOutside};
+ghost use Rattle.table.specs.Checks.{outside as isOutside};
 ghost use Rattle.schedule.specs.Begin.{allocAbove, beginPasses};
 ghost use Rattle.schedule.specs.Firsts.{firsts};
 ghost use Rattle.schedule.specs.Record.{filled};
-ghost use Rattle.soundness.specs.Checks.{Accepted};
+ghost use Rattle.soundness.specs.Code.Checks.{Accepted};
 
 fn refuse(number: u8, place: usize) -> Found
     requires { ⌜ place < 65536 ⌝ }

@@ -9,12 +9,12 @@ ghost use mathlib.Core.Path.{_≡_};
 ghost use Prim.Native.Nat.{_+_, _<_};
 ghost use lib.ListN.{getD, replicate};
 ghost use Rattle.table.specs.Format.{tableOf};
-ghost use Rattle.table.specs.Rules.{owner, endOf};
-ghost use Rattle.table.specs.Accepted.{Rules};
-ghost use Rattle.table.specs.Steps.{Read};
+ghost use Rattle.table.specs.Checks.{owner, endOf};
+ghost use Rattle.table.specs.Rules.{Rules};
+ghost use Rattle.table.specs.Code.Steps.{Read};
 ghost use Rattle.schedule.specs.Sound.{allBelow, nextInBody, inOrder, statusFollows, waitsAtJoin};
 ghost use Rattle.schedule.specs.Parents.{Parents};
-ghost use Rattle.soundness.specs.Checks.{Accepted, Placed, Forks, Noted, doneAt, doneTo, unbornAt, joinDone, bodyInOrder};
+ghost use Rattle.soundness.specs.Code.Checks.{Accepted, Placed, Forks, Noted, doneAt, doneTo, unbornAt, joinDone, bodyInOrder};
 ghost use Rattle.soundness.specs.Tested.{parentsIn};
 
 // A 16-bit number: that it is in its range is known of a parameter, not of an element.

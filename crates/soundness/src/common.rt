@@ -1,6 +1,7 @@
-// The clauses that any kind of run over a table keeps: on its threads, and on who holds them.
+// What any kind of run over a table keeps: the clauses on its threads, on who holds them and on amounts, with the table's own checks and the beginning's.
 use crate::amounts::held_right;
 use crate::beginning::begin_fault;
+use crate::bodies::fill_forks;
 use crate::bodies::in_order;
 use crate::bodies::next_in_bodies;
 use crate::bodies::statuses_follow;
@@ -12,16 +13,21 @@ use crate::shares::amounts_right;
 use crate::unused::unused_right;
 use schedule::Worker;
 use table::Found;
+use table::read;
 ghost use mathlib.Core.Path.{_≡_};
+ghost use mathlib.Core.Bool.{true};
 ghost use Prim.Native.Nat.{_≤_};
-ghost use lib.ListN.{length};
+ghost use lib.ListN.{length, replicate};
 ghost use Rattle.table.specs.Format.{tableOf};
-ghost use Rattle.schedule.specs.Sound.{commonSound};
+ghost use Rattle.table.specs.Pass.{firstFound};
+ghost use Rattle.table.specs.Checks.{passes};
+ghost use Rattle.schedule.specs.Sound.{isNothing, commonSound};
 ghost use Rattle.schedule.specs.Parents.{Parents};
-ghost use Rattle.soundness.specs.Checks.{Accepted, Forks, threadsSound, holdersSound};
+ghost use Rattle.soundness.specs.Code.Checks.{Accepted, Forks, threadsSound, holdersSound};
+ghost use Rattle.soundness.specs.Tested.{parentsIf};
 
 // Next actions, the order of what is done, statuses, waiting threads, threads not in use.
-pub(crate) fn threads_sound(
+fn threads_sound(
     table: &[u8],
     n: usize,
     forks: &[u16; 1024],
@@ -33,6 +39,7 @@ pub(crate) fn threads_sound(
     requires { ⌜ Forks (tableOf (now table)) (now forks) ⌝ }
     requires { ⌜ Parents (tableOf (now table)) (now parents) ⌝ }
     ensures { λ r. ⌜ r ≡ threadsSound (tableOf (now (table .entry))) n (now (next .entry)) (now (status .entry)) ⌝ }
+    ensures { λ r. ⌜ (r ≡ true → (length (now (next .entry)) ≡ 1024) × (length (now (status .entry)) ≡ 1024)) ⌝ }
 {
     if !next_in_bodies(table, n, next) {
         return false;
@@ -50,13 +57,7 @@ pub(crate) fn threads_sound(
 }
 
 // Held threads and their workers.
-pub(crate) fn holders_sound(
-    n: usize,
-    p: u8,
-    quota: u32,
-    status: &[u8; 1024],
-    workers: [Worker; 16],
-) -> bool
+fn holders_sound(n: usize, p: u8, quota: u32, status: &[u8; 1024], workers: [Worker; 16]) -> bool
     requires { ⌜ n ≤ 1024 ⌝ }
     ensures { λ r. ⌜ r ≡ holdersSound n p quota (now (status .entry)) workers ⌝ }
 {
@@ -66,8 +67,8 @@ pub(crate) fn holders_sound(
     workers_right(n, p, quota, workers)
 }
 
-// The common part over an accepted table, each thread's fork and parent given.
-pub(crate) fn common_holds(
+// The common part over an accepted table, each thread's fork and parent given; what the threads hold is kept in `shares`.
+fn common_holds(
     table: &[u8],
     n: usize,
     p: u8,
@@ -81,11 +82,11 @@ pub(crate) fn common_holds(
     busy: u16,
     held: u64,
     highest: u64,
+    shares: &mut [u64; 1024],
 ) -> bool
     requires { ⌜ Accepted (now table) n ⌝ }
     requires { ⌜ Forks (tableOf (now table)) (now forks) ⌝ }
     requires { ⌜ Parents (tableOf (now table)) (now parents) ⌝ }
-    requires { ⌜ (length (now next) ≡ 1024) × (length (now status) ≡ 1024) × (length (now amounts) ≡ 1024) ⌝ }
     ensures { λ r. ⌜ r ≡ commonSound (now (table .entry)) p quota (now (next .entry)) (now (status .entry)) (now (amounts .entry)) workers busy held highest ⌝ }
 {
     let found = begin_fault(table, p, quota);
@@ -101,8 +102,98 @@ pub(crate) fn common_holds(
     if !held_right(table, n, next, status, held) {
         return false;
     }
-    if !amounts_right(table, n, next, status, amounts) {
+    if !amounts_right(table, n, next, status, amounts, shares) {
         return false;
     }
     held <= highest && busy_right(busy, workers)
+}
+
+// The table's own checks and the common part, the working memory left as they used it.
+fn common_parts(
+    table: &[u8],
+    p: u8,
+    quota: u32,
+    next: &[u16; 1024],
+    status: &[u8; 1024],
+    amounts: &[u64; 1024],
+    workers: [Worker; 16],
+    busy: u16,
+    held: u64,
+    highest: u64,
+    rises: &mut [u64; 1024],
+    falls: &mut [u64; 1024],
+    forks: &mut [u16; 1024],
+    parents: &mut [u16; 1024],
+) -> bool
+    ensures { λ r. ⌜ r ≡ commonSound (now (table .entry)) p quota (now (next .entry)) (now (status .entry)) (now (amounts .entry)) workers busy held highest ⌝ }
+    ensures { λ _. ⌜ now (parents .exit) ≡ parentsIf (isNothing (firstFound (passes (now (table .entry))))) (tableOf (now (table .entry))) ⌝ }
+    ensures { λ _. ⌜ now (falls .exit) ≡ replicate 1024 0 ⌝ }
+{
+    *forks = [0; 1024];
+    *parents = [0; 1024];
+    let found = table::check_in(table, rises, falls);
+    if let Found::At(_) = found {
+        return false;
+    }
+    let n = read::threads(table);
+    fill_forks(table, n, forks, parents);
+    common_holds(
+        table,
+        n,
+        p,
+        quota,
+        forks,
+        parents,
+        next,
+        status,
+        amounts,
+        workers,
+        busy,
+        held,
+        highest,
+        rises,
+    )
+}
+
+// What any kind of run over a table keeps, with the table's own checks and the beginning's. Each thread's parent wherever the bytes are a table; the other working memory, which may hold
+// anything, is left cleared.
+pub fn test_common(
+    table: &[u8],
+    p: u8,
+    quota: u32,
+    next: &[u16; 1024],
+    status: &[u8; 1024],
+    amounts: &[u64; 1024],
+    workers: [Worker; 16],
+    busy: u16,
+    held: u64,
+    highest: u64,
+    rises: &mut [u64; 1024],
+    falls: &mut [u64; 1024],
+    forks: &mut [u16; 1024],
+    parents: &mut [u16; 1024],
+) -> bool
+    ensures { λ r. ⌜ r ≡ commonSound (now (table .entry)) p quota (now (next .entry)) (now (status .entry)) (now (amounts .entry)) workers busy held highest ⌝ }
+    ensures { λ _. ⌜ now (parents .exit) ≡ parentsIf (isNothing (firstFound (passes (now (table .entry))))) (tableOf (now (table .entry))) ⌝ }
+    ensures { λ _. ⌜ (now (rises .exit) ≡ replicate 1024 0) × (now (falls .exit) ≡ replicate 1024 0) × (now (forks .exit) ≡ replicate 1024 0) ⌝ }
+{
+    let passed = common_parts(
+        table,
+        p,
+        quota,
+        next,
+        status,
+        amounts,
+        workers,
+        busy,
+        held,
+        highest,
+        rises,
+        falls,
+        forks,
+        parents,
+    );
+    *rises = [0; 1024];
+    *forks = [0; 1024];
+    passed
 }

@@ -9,7 +9,7 @@ ghost use lib.Dec.{ltb, leb, eqb};
 ghost use Rattle.table.specs.Sum.{pick};
 ghost use Rattle.schedule.specs.Record.{setOf};
 ghost use Rattle.schedule.specs.Sound.{allBelow, oneHolder, workerRight};
-ghost use Rattle.soundness.specs.Checks.{holdersWanted};
+ghost use Rattle.soundness.specs.Code.Checks.{holdersWanted};
 
 fn holders_wanted(status: u8) -> u8
     ensures { λ r. ⌜ r ≡ holdersWanted status ⌝ }

@@ -1,20 +1,20 @@
 // The test of a run's record, check 32, and the checks of a beginning. Every call is total, and what it answers equals a definition.
 use crate::beginning::fill_next;
+use crate::blank::is_blank;
 use crate::bodies::fill_forks;
-use crate::common::common_holds;
-use crate::sound::is_blank;
 use crate::sound::sound;
 use schedule::Run;
-use schedule::Worker;
 use table::Found;
 use table::read;
 ghost use mathlib.Core.Path.{_≡_};
+ghost use lib.ListN.{replicate};
 ghost use Rattle.table.specs.Format.{tableOf};
 ghost use Rattle.schedule.specs.Sound.{isNothing};
-ghost use Rattle.soundness.specs.Tested.{beginFound, commonTested, nextIf, parentsIf, tested};
+ghost use Rattle.soundness.specs.Tested.{beginFound, nextIf, parentsIf, tested};
 
 mod amounts;
 mod beginning;
+mod blank;
 mod bodies;
 mod common;
 mod holders;
@@ -25,6 +25,9 @@ mod sound;
 mod unused;
 
 pub use beginning::begin_fault;
+pub use blank::blank_in;
+pub use common::test_common;
+pub use sound::test_in;
 
 // Whether a test passed, and each thread's parent, which the turns after it look up.
 pub struct Tested {
@@ -44,9 +47,29 @@ pub fn accept(
     ensures { λ r. ⌜ now (next .exit) ≡ nextIf (isNothing r) (tableOf (now (table .entry))) ⌝ }
     ensures { λ r. ⌜ now (parents .exit) ≡ parentsIf (isNothing r) (tableOf (now (table .entry))) ⌝ }
 {
+    let mut rises = [0u64; 1024];
+    let mut falls = [0u64; 1024];
+    accept_in(table, p, quota, next, parents, &mut rises, &mut falls)
+}
+
+// The same in lent working memory, which may hold anything and is left cleared.
+pub fn accept_in(
+    table: &[u8],
+    p: u8,
+    quota: u32,
+    next: &mut [u16; 1024],
+    parents: &mut [u16; 1024],
+    rises: &mut [u64; 1024],
+    falls: &mut [u64; 1024],
+) -> Found
+    ensures { λ r. ⌜ r ≡ beginFound (now (table .entry)) p quota ⌝ }
+    ensures { λ r. ⌜ now (next .exit) ≡ nextIf (isNothing r) (tableOf (now (table .entry))) ⌝ }
+    ensures { λ r. ⌜ now (parents .exit) ≡ parentsIf (isNothing r) (tableOf (now (table .entry))) ⌝ }
+    ensures { λ _. ⌜ (now (rises .exit) ≡ replicate 1024 0) × (now (falls .exit) ≡ replicate 1024 0) ⌝ }
+{
     *next = [0; 1024];
     *parents = [0; 1024];
-    let found = table::check(table);
+    let found = table::check_in(table, rises, falls);
     if let Found::At(_) = found {
         return found;
     }
@@ -59,50 +82,6 @@ pub fn accept(
     fill_forks(table, n, &mut forks, parents);
     fill_next(table, n, next);
     Found::Nothing
-}
-
-// What any kind of run over a table keeps, with the table's own checks and the beginning's.
-pub fn test_common(
-    table: &[u8],
-    p: u8,
-    quota: u32,
-    next: [u16; 1024],
-    status: [u8; 1024],
-    amounts: [u64; 1024],
-    workers: [Worker; 16],
-    busy: u16,
-    held: u64,
-    highest: u64,
-) -> Tested
-    ensures { λ r. ⌜ r ≡ commonTested (now (table .entry)) p quota next status amounts workers busy held highest ⌝ }
-{
-    let mut parents = [0u16; 1024];
-    let found = table::check(table);
-    if let Found::At(_) = found {
-        return Tested {
-            passed: false,
-            parents,
-        };
-    }
-    let n = read::threads(table);
-    let mut forks = [0u16; 1024];
-    fill_forks(table, n, &mut forks, &mut parents);
-    let passed = common_holds(
-        table,
-        n,
-        p,
-        quota,
-        &forks,
-        &parents,
-        &next,
-        &status,
-        &amounts,
-        workers,
-        busy,
-        held,
-        highest,
-    );
-    Tested { passed, parents }
 }
 
 // 32 does not apply: the record is sound, or blank.

@@ -8,12 +8,12 @@ ghost use Prim.Native.Nat.{ℕ, _+_, _≤_, _<_};
 ghost use lib.ListN.{length, getD, take};
 ghost use lib.Dec.{ltb};
 ghost use Rattle.table.specs.Format.{tableOf};
-ghost use Rattle.table.specs.Rules.{owner, endOf};
+ghost use Rattle.table.specs.Checks.{owner, endOf};
 ghost use Rattle.table.specs.Serial.{serial};
-ghost use Rattle.table.specs.Steps.{Read};
+ghost use Rattle.table.specs.Code.Steps.{Read};
 ghost use Rattle.schedule.specs.Sound.{allIn, inSerialOrder, rises};
-ghost use Rattle.soundness.specs.Checks.{Accepted, Placed, Lengths, Numbers};
-ghost use Rattle.soundness.specs.Order.{Inside, Numbering, Walked};
+ghost use Rattle.soundness.specs.Code.Checks.{Accepted, Placed, Lengths, Numbers};
+ghost use Rattle.soundness.specs.Code.Order.{Inside, Numbering, Walked};
 
 // How many actions come with action a: itself, and those of the child that it forks.
 fn span(table: &[u8], n: usize, a: usize, lengths: &[u16; 1024]) -> usize
@@ -163,21 +163,22 @@ fn rising(numbers: &[u16; 1024], list: &[u16; 1024], len: usize) -> bool
     true
 }
 
-// "the list in serial order"
+// "the list in serial order", the numbers kept in `numbers`, whatever it held.
 pub(crate) fn in_serial_order(
     table: &[u8],
     n: usize,
     next: &[u16; 1024],
     list: &[u16; 1024],
     len: usize,
+    numbers: &mut [u16; 1024],
 ) -> bool
     requires { ⌜ Accepted (now table) n ⌝ }
     requires { ⌜ Placed (now table) n (now next) ⌝ }
     requires { ⌜ (len ≤ 1024) × (length (now list) ≡ 1024) × (allIn (λ t. ltb t n) (take len (now list)) ≡ true) ⌝ }
     ensures { λ r. ⌜ r ≡ inSerialOrder (tableOf (now (table .entry))) (now (next .entry)) (take len (now (list .entry))) ⌝ }
 {
-    let mut numbers = [0u16; 1024];
-    fill_lengths(table, n, &mut numbers);
-    fill_numbers(table, n, next, &mut numbers);
-    rising(&numbers, list, len)
+    *numbers = [0; 1024];
+    fill_lengths(table, n, numbers);
+    fill_numbers(table, n, next, numbers);
+    rising(numbers, list, len)
 }

@@ -10,8 +10,8 @@ ghost use Prim.Native.Nat.{_+_, _<_};
 ghost use lib.ListN.{length, replicate};
 ghost use Rattle.table.specs.Format.{tableOf};
 ghost use Rattle.schedule.specs.Sound.{doneIn, sharesIn, sameList};
-ghost use Rattle.soundness.specs.Checks.{Accepted, threadsSound};
-ghost use Rattle.soundness.specs.Balancing.{Balances, Balancing, Balanced, Cleared};
+ghost use Rattle.soundness.specs.Code.Checks.{Accepted, threadsSound};
+ghost use Rattle.soundness.specs.Code.Balancing.{Balances, Balancing, Balanced, Cleared};
 
 // What thread t's actions come to past action a, from what those below it come to.
 fn balance_after(
@@ -123,7 +123,7 @@ fn clear_joined(
 }
 
 // The same amounts, thread by thread.
-pub(crate) fn same_amounts(amounts: &[u64; 1024], others: &[u64; 1024]) -> bool
+fn same_amounts(amounts: &[u64], others: &[u64; 1024]) -> bool
     requires { ⌜ (length (now amounts) ≡ 1024) × (length (now others) ≡ 1024) ⌝ }
     ensures { λ r. ⌜ r ≡ sameList (now (amounts .entry)) (now (others .entry)) ⌝ }
 {
@@ -137,21 +137,21 @@ pub(crate) fn same_amounts(amounts: &[u64; 1024], others: &[u64; 1024]) -> bool
     true
 }
 
-// "A record where an amount differs from the thread's balance so far, or from 0 once it is joined, is not sound"
+// "A record where an amount differs from the thread's balance so far, or from 0 once it is joined, is not sound". The shares are kept in `shares`, whatever it held.
 pub(crate) fn amounts_right(
     table: &[u8],
     n: usize,
     next: &[u16; 1024],
     status: &[u8; 1024],
     amounts: &[u64; 1024],
+    shares: &mut [u64; 1024],
 ) -> bool
     requires { ⌜ Accepted (now table) n ⌝ }
     requires { ⌜ threadsSound (tableOf (now table)) n (now next) (now status) ≡ true ⌝ }
-    requires { ⌜ length (now amounts) ≡ 1024 ⌝ }
     ensures { λ r. ⌜ r ≡ sameList (now (amounts .entry)) (sharesIn (tableOf (now (table .entry))) (now (next .entry)) (now (status .entry))) ⌝ }
 {
-    let mut shares = [0u64; 1024];
-    fill_balances(table, n, next, status, &mut shares);
-    clear_joined(table, n, next, status, &mut shares);
-    same_amounts(amounts, &shares)
+    *shares = [0; 1024];
+    fill_balances(table, n, next, status, shares);
+    clear_joined(table, n, next, status, shares);
+    same_amounts(amounts, shares)
 }

@@ -1,31 +1,24 @@
-// The test of a record: the common part, the list's clauses and its links, the table's length, the part not in use, turns taken; and the blank record.
+// The test of a record, on its parts in lent memory and by value: the common part, the list's clauses and its links, turns taken; by value also the table's length and the bytes past it.
 use crate::Tested;
-use crate::holders::workers_right;
+use crate::common::test_common;
 use crate::listed::list_follows;
 use crate::order::in_serial_order;
-use crate::shares::same_amounts;
-use crate::test_common;
-use crate::unused::table_rest;
-use crate::unused::unused_right;
-use crate::unused::zero_links;
+use crate::unused::bytes_rest;
 use links::NO_THREAD;
 use schedule::Run;
 use schedule::Worker;
 use table::read;
 ghost use mathlib.Core.Path.{_≡_};
-ghost use mathlib.Core.Bool.{true, _&&_};
+ghost use mathlib.Core.Bool.{true};
 ghost use Prim.Native.Nat.{_≤_};
-ghost use lib.Dec.{eqb};
-ghost use lib.ListN.{length, take, getD};
+ghost use lib.ListN.{length, take, replicate};
 ghost use Rattle.table.specs.Format.{tableOf};
-ghost use Rattle.schedule.specs.Machine.{nobody};
 ghost use Rattle.schedule.specs.Record.{tableIn};
-ghost use Rattle.schedule.specs.Sound.{allBelow, listed as listedOf, sound as soundOf};
-ghost use Rattle.schedule.specs.Turn.{isNobody, isBlank};
-ghost use Rattle.soundness.specs.Checks.{Accepted, Placed, linksSound, restSound, allZero};
-ghost use Rattle.soundness.specs.Tested.{parentsIn};
+ghost use Rattle.schedule.specs.Sound.{listed as listedOf, sound as soundOf};
+ghost use Rattle.soundness.specs.Code.Checks.{Accepted, Placed, linksSound, copySound};
+ghost use Rattle.soundness.specs.Tested.{parentsIn, parentsIf, soundOn};
 
-// The clauses on the list.
+// The clauses on the list; the numbers of next actions are kept in `numbers`.
 fn list_sound(
     table: &[u8],
     n: usize,
@@ -33,6 +26,7 @@ fn list_sound(
     status: &[u8; 1024],
     list: &[u16; 1024],
     len: usize,
+    numbers: &mut [u16; 1024],
 ) -> bool
     requires { ⌜ Accepted (now table) n ⌝ }
     requires { ⌜ Placed (now table) n (now next) ⌝ }
@@ -42,11 +36,11 @@ fn list_sound(
     if !list_follows(n, status, list, len) {
         return false;
     }
-    in_serial_order(table, n, next, list, len)
+    in_serial_order(table, n, next, list, len, numbers)
 }
 
-// The list that is read off the links, "Reading from the left": its clauses, and "that the links describe that list" (N10).
-pub(crate) fn links_sound(
+// The list that is read off the links, "Reading from the left", into `row`: its clauses, and "that the links describe that list" (N10).
+fn links_sound(
     table: &[u8],
     n: usize,
     next: &[u16; 1024],
@@ -54,44 +48,155 @@ pub(crate) fn links_sound(
     left: &[u16; 1024],
     right: &[u16; 1024],
     leftmost: u16,
+    numbers: &mut [u16; 1024],
+    row: &mut [u16; 1024],
 ) -> bool
     requires { ⌜ Accepted (now table) n ⌝ }
     requires { ⌜ Placed (now table) n (now next) ⌝ }
     ensures { λ r. ⌜ r ≡ linksSound (tableOf (now (table .entry))) (now (next .entry)) (now (status .entry)) (record { left = now (left .entry); right = now (right .entry); head = leftmost }) ⌝ }
 {
-    let mut row = [0u16; 1024];
-    let len = links::read_row(right, leftmost, &mut row);
-    if !list_sound(table, n, next, status, &row, len) {
+    *row = [0; 1024];
+    let len = links::read_row(right, leftmost, row);
+    if !list_sound(table, n, next, status, row, len, numbers) {
         return false;
     }
     // A leftmost thread begins the row; where there is none, leftmost is 1,024.
-    leftmost <= NO_THREAD && links::describe(left, right, &row, len)
+    leftmost <= NO_THREAD && links::describe(left, right, row, len)
 }
 
-// The table's length, the bytes past it, turns taken.
-fn rest_sound(run: Run) -> bool
-    ensures { λ r. ⌜ r ≡ restSound run ⌝ }
+// All clauses on the parts, `forks` and `row` left as they used them; the parents where all hold.
+fn sound_parts(
+    table: &[u8],
+    p: u8,
+    quota: u32,
+    next: &[u16; 1024],
+    status: &[u8; 1024],
+    amounts: &[u64; 1024],
+    left: &[u16; 1024],
+    right: &[u16; 1024],
+    leftmost: u16,
+    workers: [Worker; 16],
+    busy: u16,
+    held: u64,
+    highest: u64,
+    turns: u64,
+    rises: &mut [u64; 1024],
+    falls: &mut [u64; 1024],
+    forks: &mut [u16; 1024],
+    parents: &mut [u16; 1024],
+    row: &mut [u16; 1024],
+) -> bool
+    ensures { λ r. ⌜ r ≡ soundOn (now (table .entry)) p quota (now (next .entry)) (now (status .entry)) (now (amounts .entry))
+        (record { left = now (left .entry); right = now (right .entry); head = leftmost }) workers busy held highest turns ⌝ }
+    ensures { λ r. ⌜ (r ≡ true → now (parents .exit) ≡ parentsIn (tableOf (now (table .entry)))) ⌝ }
+    ensures { λ _. ⌜ (now (rises .exit) ≡ replicate 1024 0) × (now (falls .exit) ≡ replicate 1024 0) ⌝ }
+{
+    let common = test_common(
+        table,
+        p,
+        quota,
+        next,
+        status,
+        amounts,
+        workers,
+        busy,
+        held,
+        highest,
+        rises,
+        falls,
+        forks,
+        parents,
+    );
+    if !common {
+        return false;
+    }
+    if turns == u64::MAX {
+        return false;
+    }
+    let n = read::threads(table);
+    links_sound(table, n, next, status, left, right, leftmost, forks, row)
+}
+
+// "A record is sound if ..", on parts in lent memory; the table stands apart from them. Each thread's parent where they are sound, else 0; the other working memory, which may hold
+// anything, is left cleared.
+pub fn test_in(
+    table: &[u8],
+    p: u8,
+    quota: u32,
+    next: &[u16; 1024],
+    status: &[u8; 1024],
+    amounts: &[u64; 1024],
+    left: &[u16; 1024],
+    right: &[u16; 1024],
+    leftmost: u16,
+    workers: [Worker; 16],
+    busy: u16,
+    held: u64,
+    highest: u64,
+    turns: u64,
+    rises: &mut [u64; 1024],
+    falls: &mut [u64; 1024],
+    forks: &mut [u16; 1024],
+    parents: &mut [u16; 1024],
+    row: &mut [u16; 1024],
+) -> bool
+    ensures { λ r. ⌜ r ≡ soundOn (now (table .entry)) p quota (now (next .entry)) (now (status .entry)) (now (amounts .entry))
+        (record { left = now (left .entry); right = now (right .entry); head = leftmost }) workers busy held highest turns ⌝ }
+    ensures { λ r. ⌜ now (parents .exit) ≡ parentsIf r (tableOf (now (table .entry))) ⌝ }
+    ensures { λ _. ⌜ (now (rises .exit) ≡ replicate 1024 0) × (now (falls .exit) ≡ replicate 1024 0) ⌝ }
+    ensures { λ _. ⌜ (now (forks .exit) ≡ replicate 1024 0) × (now (row .exit) ≡ replicate 1024 0) ⌝ }
+{
+    let passed = sound_parts(
+        table,
+        p,
+        quota,
+        next,
+        status,
+        amounts,
+        left,
+        right,
+        leftmost,
+        workers,
+        busy,
+        held,
+        highest,
+        turns,
+        rises,
+        falls,
+        forks,
+        parents,
+        row,
+    );
+    *forks = [0; 1024];
+    *row = [0; 1024];
+    if !passed {
+        *parents = [0; 1024];
+    }
+    passed
+}
+
+// The table's length, and the bytes past it.
+fn copy_sound(run: Run) -> bool
+    ensures { λ r. ⌜ r ≡ copySound run ⌝ }
     ensures { λ r. ⌜ (r ≡ true → run .length ≤ 36868) ⌝ }
 {
     let length = run.length as usize;
     if 36868 < length {
         return false;
     }
-    if run.turns == u64::MAX {
-        return false;
-    }
     let table = run.table;
-    table_rest(&table, length)
+    bytes_rest(&table, length)
 }
 
-// "A record is sound if .."
+// The same of a record by value.
 pub(crate) fn sound(run: Run) -> Tested
-    ensures { λ r. ⌜ (r .passed ≡ soundOf run) × (r .passed ≡ true → r .parents ≡ parentsIn (tableIn run)) ⌝ }
+    ensures { λ r. ⌜ r ≡ record { passed = soundOf run; parents = parentsIf (soundOf run) (tableIn run) } ⌝ }
 {
-    if !rest_sound(run) {
+    let mut parents = [0u16; 1024];
+    if !copy_sound(run) {
         return Tested {
             passed: false,
-            parents: [0; 1024],
+            parents,
         };
     }
     let length = run.length as usize;
@@ -100,77 +205,33 @@ pub(crate) fn sound(run: Run) -> Tested
     let next = run.next;
     let status = run.status;
     let amounts = run.amounts;
+    let left = run.left;
+    let right = run.right;
     let workers = run.worker;
-    let found = test_common(
+    let mut rises = [0u64; 1024];
+    let mut falls = [0u64; 1024];
+    let mut forks = [0u16; 1024];
+    let mut row = [0u16; 1024];
+    let passed = test_in(
         bytes,
         run.workers,
         run.quota,
-        next,
-        status,
-        amounts,
+        &next,
+        &status,
+        &amounts,
+        &left,
+        &right,
+        run.leftmost,
         workers,
         run.busy,
         run.held,
         run.highest,
+        run.turns,
+        &mut rises,
+        &mut falls,
+        &mut forks,
+        &mut parents,
+        &mut row,
     );
-    if !found.passed {
-        return found;
-    }
-    let n = read::threads(bytes);
-    let left = run.left;
-    let right = run.right;
-    let passed = links_sound(bytes, n, &next, &status, &left, &right, run.leftmost);
-    let parents = found.parents;
     Tested { passed, parents }
-}
-
-// The numbers that stand outside the arrays are all 0.
-fn all_zero(run: Run) -> bool
-    ensures { λ r. ⌜ r ≡ allZero run ⌝ }
-{
-    run.length == 0
-        && (run.workers == 0
-            && (run.quota == 0
-                && (run.leftmost == 0
-                    && (run.busy == 0 && (run.held == 0 && (run.highest == 0 && run.turns == 0))))))
-}
-
-// No worker holds anything.
-fn all_free(workers: [Worker; 16]) -> bool
-    ensures { λ r. ⌜ r ≡ (eqb (length workers) 16 && allBelow (λ w. isNobody (getD workers w nobody)) 16) ⌝ }
-{
-    workers_right(0, 0, 0, workers)
-}
-
-// "the blank record: every number 0, every status unborn, the list empty"
-pub(crate) fn is_blank(run: Run) -> bool
-    ensures { λ r. ⌜ r ≡ isBlank run ⌝ }
-{
-    if !all_zero(run) {
-        return false;
-    }
-    let table = run.table;
-    if !table_rest(&table, 0) {
-        return false;
-    }
-    let left = run.left;
-    if !zero_links(&left) {
-        return false;
-    }
-    let right = run.right;
-    if !zero_links(&right) {
-        return false;
-    }
-    let next = run.next;
-    let status = run.status;
-    if !unused_right(0, &next, &status) {
-        return false;
-    }
-    let amounts = run.amounts;
-    let none = [0u64; 1024];
-    if !same_amounts(&amounts, &none) {
-        return false;
-    }
-    let workers = run.worker;
-    all_free(workers)
 }

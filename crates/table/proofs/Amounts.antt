@@ -7,8 +7,8 @@ use native.Mathlib.Omega.{arith}
 use native.Mathlib.Nat.{add-suc, add-zero, mul-le-mul-left}
 use Rattle.table.specs.Sum.{pick, sumTo, sumOver}
 use Rattle.table.specs.Format.{end, fork, join, codeOf, is, Table, kind}
-use Rattle.table.specs.Rules.{owner, endOf, openBefore, withChild, wholeWithin, whole, partOf}
-use Rattle.table.specs.Accepted.{ContentRules, BodyRules, NestRules}
+use Rattle.table.specs.Checks.{owner, endOf, openBefore, withChild, wholeWithin, whole, partOf}
+use Rattle.table.specs.Rules.{ContentRules, BodyRules, NestRules}
 use Rattle.table.specs.Serial.{serial}
 use Rattle.table.proofs.Sums.{sumTo-cong, sumTo-part, sumOver-append, sumOver-bound}
 use Rattle.table.proofs.Tests.{no-way, is-true, pick-same}

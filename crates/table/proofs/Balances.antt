@@ -1,4 +1,4 @@
--- The balance of specs/Rules is the one of document 01's sentence, and the only one; from action to action it changes by what the action moves. This holds of every table that passes
+-- The balance of specs/Checks is the one of document 01's sentence, and the only one; from action to action it changes by what the action moves. This holds of every table that passes
 -- checks 1 to 7, also where a balance falls below 0.
 use mathlib.Core.Path.{_≡_, refl, sym, _∙_, ap}
 use mathlib.Core.Logic.{_↔_}
@@ -10,8 +10,8 @@ use borrow.Author.Tests.{le-ltb}
 use lib.IntN.{ℤ, pos, negsuc, negℤ, subℕ, _+ℤ_, +ℤ-idl, +ℤ-assoc, +ℤ-comm, negℤ-+ℤ}
 use Rattle.table.specs.Sum.{pick, sumTo}
 use Rattle.table.specs.Format.{Kind, end, work, alloc, free, fork, join, unknown, codeOf, is, Table, kind}
-use Rattle.table.specs.Rules.{owner, endOf, allocOf, freeOf, withChild, whole, partOf, balance, negative, balanceBelow0}
-use Rattle.table.specs.Accepted.{ContentRules, BodyRules}
+use Rattle.table.specs.Checks.{owner, endOf, allocOf, freeOf, withChild, whole, partOf, balance, negative, balanceBelow0}
+use Rattle.table.specs.Rules.{ContentRules, BodyRules}
 use Rattle.table.specs.JobTable.{InBody, sumSigned, moves, movesAt, IsBalance}
 use Rattle.table.proofs.Tests.{no-way}
 use Rattle.table.proofs.Bodies.{count-pos, after-end, owner-at, owner-below, owner-first, owner-end, join-above, join-below}

@@ -8,8 +8,8 @@ use lib.Dec.{ltb, leb, eqb}
 use borrow.Author.Tests.{le-leb, lt-leb, eqb-true, eqb-false, eq-eqb, not-false}
 use Rattle.table.specs.Sum.{pick, sumTo}
 use Rattle.table.specs.Format.{Kind, end, fork, join, unknown, is, Table, kind}
-use Rattle.table.specs.Rules.{countsBelow, entryWrong, totalWrong, ownerBelow, owner, endOf, kindUnknown, argumentFits, argumentWrong, endMisplaced}
-use Rattle.table.specs.Accepted.{ContentRules, BodyRules}
+use Rattle.table.specs.Checks.{countsBelow, entryWrong, totalWrong, ownerBelow, owner, endOf, kindUnknown, argumentFits, argumentWrong, endMisplaced}
+use Rattle.table.specs.Rules.{ContentRules, BodyRules}
 use Rattle.table.proofs.Sums.{sumTo-part}
 use Rattle.table.proofs.Tests.{no-way, or-neither, between, not-differ, is-true, same-is}
 

@@ -4,8 +4,8 @@ use mathlib.Core.Logic.{_↔_}
 use Prim.Native.Nat.{ℕ, _<_}
 use mathlib.Core.List.{List}
 use Rattle.table.specs.Format.{fork, Table, tableOf}
-use Rattle.table.specs.Rules.{balance}
-use Rattle.table.specs.Accepted.{ContentRules, BodyRules, NestRules, ForkRules, BalanceRules, Rules}
+use Rattle.table.specs.Checks.{balance}
+use Rattle.table.specs.Rules.{ContentRules, BodyRules, NestRules, ForkRules, BalanceRules, Rules}
 use Rattle.table.specs.JobTable.{Sized, Names, Balanced, JobTable}
 use Rattle.table.specs.Load.{factsOf, loaded}
 use Rattle.table.specs.declared.Facts.{Facts}

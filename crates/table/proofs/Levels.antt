@@ -10,8 +10,8 @@ use mathlib.Core.Bool.{Bool, true, false}
 use borrow.Author.Tests.{eq-eqb, ne-eqb}
 use Rattle.table.specs.Sum.{greatest}
 use Rattle.table.specs.Format.{end, fork, join, is, Table, kind}
-use Rattle.table.specs.Rules.{owner, endOf}
-use Rattle.table.specs.Accepted.{ContentRules, BodyRules, NestRules, ForkRules}
+use Rattle.table.specs.Checks.{owner, endOf}
+use Rattle.table.specs.Rules.{ContentRules, BodyRules, NestRules, ForkRules}
 use Rattle.table.specs.Level.{forkOf, beforeIt, joinedEnd, dependsOn, levelWithin, level}
 use Rattle.table.proofs.Tests.{no-way, is-true}
 use Rattle.table.proofs.Bodies.{first-within, end-within, owner-is, owner-of-first, owner-below, owner-first, owner-end, fork-above, fork-below, join-below, next-within, next-owner}

@@ -7,8 +7,8 @@ use mathlib.Core.List.{List, [], _∷_, List·Memᴰ, List·Memᴰ·head, List·
 use lib.ListN.{length}
 use Rattle.table.specs.Sum.{greatestTo}
 use Rattle.table.specs.Format.{fork, Table, kind}
-use Rattle.table.specs.Rules.{owner}
-use Rattle.table.specs.Accepted.{ContentRules, BodyRules, NestRules, ForkRules}
+use Rattle.table.specs.Checks.{owner}
+use Rattle.table.specs.Rules.{ContentRules, BodyRules, NestRules, ForkRules}
 use Rattle.table.specs.Level.{forkBelow}
 use Rattle.table.specs.Nested.{nestWithin, nest, N}
 use Rattle.table.proofs.Bodies.{fork-above, fork-below}

@@ -10,8 +10,8 @@ use lib.Dec.{eqb}
 use borrow.Author.Tests.{eqb-true, eq-eqb, not-false}
 use Rattle.table.specs.Sum.{pick, sumTo, anyBelow}
 use Rattle.table.specs.Format.{Kind, end, work, alloc, free, fork, join, unknown, codeOf, is, Table, kind}
-use Rattle.table.specs.Rules.{owner, forks, forkedBelow, forkedBefore, tail, opened, openBefore, isLatest, isEmpty, joinNotLatest, endWithOpen, neverForked}
-use Rattle.table.specs.Accepted.{ContentRules, BodyRules, NestRules, ForkRules}
+use Rattle.table.specs.Checks.{owner, forks, forkedBelow, forkedBefore, tail, opened, openBefore, isLatest, isEmpty, joinNotLatest, endWithOpen, neverForked}
+use Rattle.table.specs.Rules.{ContentRules, BodyRules, NestRules, ForkRules}
 use Rattle.table.specs.Level.{forkBelow}
 use Rattle.table.proofs.Tests.{no-way, and-both, is-true, same-is}
 use Rattle.table.proofs.Bodies.{first-is, first-next, after-end, fork-below, next-owner, end-kind}

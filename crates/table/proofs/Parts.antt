@@ -7,7 +7,7 @@ use native.Mathlib.Omega.{arith}
 use lib.ListN.{length, getD, take, drop, length-drop}
 use lib.Seq.{getD-drop, take-all}
 use Rattle.table.specs.Format.{kindOf, kind, codeAt, argumentAt, threadsOf, firstOf, bodiesFrom, bodiesOf, bodyOf, tableOf}
-use Rattle.table.specs.Steps.{Headed}
+use Rattle.table.specs.Code.Steps.{Headed}
 use Rattle.table.proofs.Sizes.{sizes}
 
 -- the part from a place on is all that is left from there

@@ -11,8 +11,8 @@ use lib.ListN.{getElem?}
 use Rattle.table.specs.Format.{Table, tableOf}
 use Rattle.table.specs.Pass.{Check, Pass, orElse, refusal, tryAt, tryPass, firstFound}
 use Rattle.table.specs.First.{Standing, Applies, Earlier, by-pass, by-place, by-row, FirstApplies}
-use Rattle.table.specs.Rules.{totalWrong, headPass, entriesPass, totalPass, firstPass, secondPass, forkedPass, balancePass, passes}
-use Rattle.table.specs.Accepted.{HeadRules, ContentRules, BodyRules, NestRules, ForkRules, BalanceRules, Rules}
+use Rattle.table.specs.Checks.{totalWrong, headPass, entriesPass, totalPass, firstPass, secondPass, forkedPass, balancePass, passes}
+use Rattle.table.specs.Rules.{HeadRules, ContentRules, BodyRules, NestRules, ForkRules, BalanceRules, Rules}
 use Rattle.table.specs.Load.{answer, factsOf, loaded}
 use Rattle.table.specs.declared.Facts.{Facts}
 use Rattle.table.specs.declared.Refusal.{Refusal}

@@ -9,8 +9,8 @@ use native.Mathlib.Decide.{decLt}
 use borrow.Author.Tests.{ltb-false}
 use Rattle.table.specs.Sum.{pick, sumTo, sumOver, greatest, greatestTo}
 use Rattle.table.specs.Format.{Kind, end, alloc, free, fork, codeOf, is, Table, kind}
-use Rattle.table.specs.Rules.{openBefore, allocOf, freeOf, whole, partOf, balance, balanceBelow0}
-use Rattle.table.specs.Accepted.{ContentRules, BodyRules, NestRules, BalanceRules}
+use Rattle.table.specs.Checks.{openBefore, allocOf, freeOf, whole, partOf, balance, balanceBelow0}
+use Rattle.table.specs.Rules.{ContentRules, BodyRules, NestRules, BalanceRules}
 use Rattle.table.specs.Serial.{serial, heldAfter, fronts, peakOf}
 use Rattle.table.proofs.Tests.{negative-is}
 use Rattle.table.proofs.Bodies.{count-pos, owner-at, fork-below}

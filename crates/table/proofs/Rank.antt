@@ -6,8 +6,8 @@ use mathlib.Core.Bool.{Bool, true, false}
 use native.Mathlib.Omega.{arith}
 use lib.ListN.{length, length-append}
 use Rattle.table.specs.Format.{end, fork, join, is, Table, kind}
-use Rattle.table.specs.Rules.{owner, endOf, openBefore}
-use Rattle.table.specs.Accepted.{ContentRules, BodyRules, NestRules, ForkRules}
+use Rattle.table.specs.Checks.{owner, endOf, openBefore}
+use Rattle.table.specs.Rules.{ContentRules, BodyRules, NestRules, ForkRules}
 use Rattle.table.specs.Serial.{serial}
 use Rattle.table.specs.Level.{forkBelow}
 use Rattle.table.proofs.Tests.{is-true, fork-no-end}

@@ -11,8 +11,8 @@ use lib.Dec.{ltb, leb}
 use borrow.Author.Tests.{ltb-true, ltb-false, leb-true, leb-false, lt-ltb, le-ltb, le-leb, lt-leb}
 use Rattle.table.specs.Sum.{pick, sumTo}
 use Rattle.table.specs.Format.{Kind, end, work, alloc, free, fork, join, unknown, codeOf, is, Table, kind}
-use Rattle.table.specs.Rules.{owner, forks}
-use Rattle.table.specs.Accepted.{ContentRules, BodyRules, NestRules, ForkRules}
+use Rattle.table.specs.Checks.{owner, forks}
+use Rattle.table.specs.Rules.{ContentRules, BodyRules, NestRules, ForkRules}
 use Rattle.table.specs.Serial.{serialWithin, serial}
 use Rattle.table.specs.Level.{forkBelow}
 use Rattle.table.proofs.Sums.{sumTo-cong, sumTo-one, sumTo-zero}
@@ -273,7 +273,7 @@ module _ (T : Table) (c : ContentRules T) (b : BodyRules T) (n : NestRules T) wh
   serial-bound a h = omega (arith, counted a h)
 
 module _ (T : Table) (c : ContentRules T) (b : BodyRules T) (n : NestRules T) (f : ForkRules T) where
-  -- The serial order has as many actions as the table. That each stands in it, and at one place only, is `number-place` and `place-number` (crates/schedule/proofs/Numbers).
+  -- The serial order has as many actions as the table. That each stands in it, and at one place only, is `number-place` and `place-number` (crates/schedule/proofs/Tables/Numbers).
   pub serial-length : 0 < T .threads → length (serial T (T .first 0)) ≡ T .actions
   unfolding sumTo
   serial-length h = omega (arith, start, counted T c b n (T .first 0) (first-within T c 0 h), sumTo-zero (unrun T (T .first 0)) (T .threads) none)

@@ -8,8 +8,8 @@ use borrow.Author.Tests.{ltb-false, eqb-true, not-false}
 use lib.Dec.{ltb, eqb}
 use lib.ListN.{length}
 use Rattle.table.specs.Format.{threadsOf, actionsOf}
-use Rattle.table.specs.Rules.{outside}
-use Rattle.table.specs.Steps.{Headed}
+use Rattle.table.specs.Checks.{outside}
+use Rattle.table.specs.Code.Steps.{Headed}
 use Rattle.table.proofs.Tests.{or-neither}
 
 pub record Sizes (s : List ℕ) (n m : ℕ) : Type 0 where

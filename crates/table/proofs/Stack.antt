@@ -13,8 +13,8 @@ use lib.Dec.{eqb}
 use Rattle.table.specs.Sum.{pick, anyBelow}
 use Rattle.table.specs.Format.{Kind, end, work, alloc, free, fork, join, unknown, codeOf, is, Table, kind}
 use Rattle.table.specs.Pass.{tryAt, refusal}
-use Rattle.table.specs.Rules.{forks, forkedBelow, forkedBefore, opened, openBefore, isLatest, isEmpty, joinNotLatest, endWithOpen, secondPass}
-use Rattle.table.specs.Steps.{Nesting, nest, nestAt}
+use Rattle.table.specs.Checks.{forks, forkedBelow, forkedBefore, opened, openBefore, isLatest, isEmpty, joinNotLatest, endWithOpen, secondPass}
+use Rattle.table.specs.Code.Steps.{Nesting, nest, nestAt}
 use Rattle.table.specs.declared.Found.{Found}
 use Rattle.table.specs.declared.Found.the-variants.{Nothing, At}
 use Rattle.table.proofs.Tests.{same-is}

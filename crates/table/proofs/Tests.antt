@@ -8,7 +8,7 @@ use lib.IntN.{subℕ, pos, negsuc}
 use borrow.Author.Tests.{ltb-true, eqb-true, eq-eqb, not-false}
 use Rattle.table.specs.Sum.{pick}
 use Rattle.table.specs.Format.{Kind, end, work, alloc, free, fork, join, unknown, kindOf, codeOf, is}
-use Rattle.table.specs.Rules.{differ, negative}
+use Rattle.table.specs.Checks.{differ, negative}
 
 -- from a contradiction between numbers, as `cc` finds one, anything
 pub no-way {ℓ} : {A : Type ℓ} → _≡_ {A = ℕ} 0 1 → A

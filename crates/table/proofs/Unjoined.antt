@@ -7,8 +7,8 @@ use mathlib.Core.Bool.{false}
 use native.Mathlib.Decide.{ℕ-discrete}
 use native.Mathlib.Omega.{arith}
 use Rattle.table.specs.Format.{Kind, end, work, alloc, free, fork, join, unknown, codeOf, is, Table, kind}
-use Rattle.table.specs.Rules.{owner, opened, openBefore}
-use Rattle.table.specs.Accepted.{ContentRules, BodyRules, NestRules}
+use Rattle.table.specs.Checks.{owner, opened, openBefore}
+use Rattle.table.specs.Rules.{ContentRules, BodyRules, NestRules}
 use Rattle.table.specs.JobTable.{InBody, Names, Unjoined}
 use Rattle.table.proofs.Tests.{no-way}
 use Rattle.table.proofs.Bodies.{owner-is, owner-below, owner-first, owner-end, body-within, next-owner, end-last, after-end}

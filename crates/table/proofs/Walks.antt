@@ -12,10 +12,10 @@ use lib.ListN.{getD, set, length-drop, length-set}
 use lib.Seq.{getD-drop, getD-set-same, getD-set-other}
 use Rattle.table.specs.Sum.{pick, sumTo}
 use Rattle.table.specs.Format.{Kind, alloc, free, codeOf, kindOf, is, codeAt, argumentAt, threadsOf, actionsOf, firstOf, countOf, bodiesOf, bodyOf, Table, tableOf, kind}
-use Rattle.table.specs.Rules.{withChild, whole}
-use Rattle.table.specs.Accepted.{ContentRules, BodyRules}
+use Rattle.table.specs.Checks.{withChild, whole}
+use Rattle.table.specs.Rules.{ContentRules, BodyRules}
 use Rattle.table.specs.Pass.{Check, orElse, refusal, tryAt, tryFrom}
-use Rattle.table.specs.Steps.{ownAmount, childAmount, amountAt, leastNext, leastThat, WalkReady, Filled, Headed, Formed}
+use Rattle.table.specs.Code.Steps.{ownAmount, childAmount, amountAt, leastNext, leastThat, WalkReady, Filled, Headed, Formed}
 use Rattle.table.specs.declared.Found.{Found}
 use Rattle.table.specs.declared.Found.the-variants.{Nothing, At}
 use Rattle.table.proofs.Tests.{pick-same}

@@ -11,9 +11,9 @@ use lib.Dec.{ltb, eqb}
 use lib.ListN.{length}
 use Rattle.table.specs.Sum.{sumTo}
 use Rattle.table.specs.Format.{Kind, end, work, alloc, free, fork, join, unknown, codeOf, kindOf, is, Table, kind, threadsOf, actionsOf}
-use Rattle.table.specs.Rules.{outside, countsBelow, entryWrong, totalWrong, owner, endOf, kindUnknown, argumentFits, argumentWrong, differ, endMisplaced}
-use Rattle.table.specs.Accepted.{HeadRules, ContentRules, BodyRules}
-use Rattle.table.specs.Steps.{Headed}
+use Rattle.table.specs.Checks.{outside, countsBelow, entryWrong, totalWrong, owner, endOf, kindUnknown, argumentFits, argumentWrong, differ, endMisplaced}
+use Rattle.table.specs.Rules.{HeadRules, ContentRules, BodyRules}
+use Rattle.table.specs.Code.Steps.{Headed}
 use Rattle.table.specs.JobTable.{Sized, InBody, LaidOut, Argument, OneEnd, WellFormed}
 use Rattle.table.proofs.Tests.{no-way, and-both, is-true, same-is}
 use Rattle.table.proofs.Sizes.{Sizes, sizes}

@@ -9,8 +9,8 @@ use native.Mathlib.Omega.{arith}
 use borrow.Author.Tests.{eq-eqb}
 use Rattle.table.specs.Sum.{anyBelow}
 use Rattle.table.specs.Format.{Kind, end, fork, join, is, Table, kind}
-use Rattle.table.specs.Rules.{owner, forks, forkedBelow, forkedBefore, tail, openBefore, isLatest, joinNotLatest, endWithOpen, neverForked}
-use Rattle.table.specs.Accepted.{ContentRules, BodyRules, NestRules, ForkRules}
+use Rattle.table.specs.Checks.{owner, forks, forkedBelow, forkedBefore, tail, openBefore, isLatest, joinNotLatest, endWithOpen, neverForked}
+use Rattle.table.specs.Rules.{ContentRules, BodyRules, NestRules, ForkRules}
 use Rattle.table.specs.JobTable.{InBody, Names, ForkedOnce, Unjoined, Latest, WellNested}
 use Rattle.table.proofs.Tests.{no-way, is-true}
 use Rattle.table.proofs.Bodies.{fork-above, fork-below}

@@ -6,7 +6,7 @@ use native.Mathlib.Omega.{arith}
 use lib.ListN.{length, getD, List·getD-eq-default}
 use lib.Seq.{getD-drop}
 use Rattle.table.specs.Format.{u16At, u24At, bodiesFrom, tableOf}
-use Rattle.table.specs.Steps.{Read, DoubleWord}
+use Rattle.table.specs.Code.Steps.{Read, DoubleWord}
 
 -- past the end there are zeros
 pub past-end : (s : List ℕ) (i : ℕ) → length s ≤ i → getD s i 0 ≡ 0

@@ -6,7 +6,7 @@ use mathlib.Core.List.{List, [], _∷_, map}
 use lib.IntN.{pos, negsuc}
 use Rattle.table.specs.Sum.{sumTo}
 use Rattle.table.specs.Format.{Kind, end, free, fork, join, codeOf, kindOf, is, tableOf}
-use Rattle.table.specs.Rules.{ownerBelow, allocOf, freeOf, wholeWithin, balance}
+use Rattle.table.specs.Checks.{ownerBelow, allocOf, freeOf, wholeWithin, balance}
 use Rattle.table.specs.JobTable.{Names, Unjoined, Latest}
 use Rattle.table.specs.Cases.{act, written, E}
 

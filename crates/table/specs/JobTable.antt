@@ -6,7 +6,7 @@ use mathlib.Core.List.{List}
 use lib.ListN.{length}
 use lib.IntN.{ℤ, pos, negℤ, _+ℤ_}
 use Rattle.table.specs.Format.{Kind, end, work, alloc, free, fork, join, unknown, Table, kind, threadsOf, actionsOf, tableOf}
-use Rattle.table.specs.Rules.{endOf}
+use Rattle.table.specs.Checks.{endOf}
 
 -- ---- the bytes
 

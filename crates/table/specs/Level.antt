@@ -4,7 +4,7 @@ use mathlib.Core.List.{List, [], _∷_, _++_}
 use lib.Dec.{eqb}
 use Rattle.table.specs.Sum.{pick, greatest}
 use Rattle.table.specs.Format.{join, is, Table, kind}
-use Rattle.table.specs.Rules.{owner, endOf, forks}
+use Rattle.table.specs.Checks.{owner, endOf, forks}
 
 -- the action below a that forks thread c (the last, where there are several; 0 where there is none)
 unfoldable pub forkBelow : Table → ℕ → ℕ → ℕ

@@ -2,15 +2,15 @@ pub mod Sum
 pub mod Format
 pub mod Pass
 pub mod First
+pub mod Checks
 pub mod Rules
-pub mod Accepted
 pub mod JobTable
 pub mod Serial
 pub mod Level
 pub mod Nested
-pub mod Steps
 pub mod Load
 pub mod Cases
 pub mod JobCases
 pub mod NestedCases
 pub mod Wrong
+pub mod Code

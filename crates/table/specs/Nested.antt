@@ -2,7 +2,7 @@
 use Prim.Native.Nat.{ℕ, zero, suc}
 use Rattle.table.specs.Sum.{greatestTo}
 use Rattle.table.specs.Format.{Table}
-use Rattle.table.specs.Rules.{owner}
+use Rattle.table.specs.Checks.{owner}
 use Rattle.table.specs.Level.{forkBelow}
 
 -- "nested thread levels, the root being one": of any other thread it is 1 more than its parent's, the thread that forks it. A parent has the lower number, so the count of threads is

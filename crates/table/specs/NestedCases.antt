@@ -4,7 +4,7 @@ use Prim.Native.Nat.{ℕ}
 use mathlib.Core.List.{List, [], _∷_, map}
 use Rattle.table.specs.Sum.{greatestTo}
 use Rattle.table.specs.Format.{end, fork, join, codeOf, kindOf, is, tableOf}
-use Rattle.table.specs.Rules.{ownerBelow}
+use Rattle.table.specs.Checks.{ownerBelow}
 use Rattle.table.specs.Level.{forkBelow}
 use Rattle.table.specs.Nested.{nestWithin, N}
 use Rattle.table.specs.Cases.{Action, act, written, E, least}

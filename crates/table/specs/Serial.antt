@@ -3,7 +3,7 @@ use Prim.Native.Nat.{ℕ, zero, suc, _-_}
 use mathlib.Core.List.{List, [], _∷_, _++_, map}
 use Rattle.table.specs.Sum.{sumOver, greatest}
 use Rattle.table.specs.Format.{Kind, end, work, alloc, free, fork, join, unknown, Table, kind}
-use Rattle.table.specs.Rules.{allocOf, freeOf}
+use Rattle.table.specs.Checks.{allocOf, freeOf}
 
 -- The actions from an action of the kind given to its thread's end: "a forked child runs to its end, its own children included, before the thread
 -- that forked it goes on". Each step goes to a higher action, so the count of actions is fuel enough; the laws `serial-end`, `serial-fork` and

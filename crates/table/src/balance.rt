@@ -13,8 +13,8 @@ ghost use mathlib.Core.Path.{_≡_};
 ghost use Prim.Native.Nat.{_<_};
 ghost use Rattle.table.specs.Format.{kindOf, tableOf, join};
 ghost use Rattle.table.specs.Pass.{tryPass};
-ghost use Rattle.table.specs.Rules.{balancePass};
-ghost use Rattle.table.specs.Steps.{Nested, WalkReady, childAmount, leastNext, balanceOf};
+ghost use Rattle.table.specs.Checks.{balancePass};
+ghost use Rattle.table.specs.Code.Steps.{Nested, WalkReady, childAmount, leastNext, balanceOf};
 
 // What a body draws and gives back, and its first action after which it has given back more (its count of actions, if there is none).
 pub(crate) struct Balance {
@@ -61,13 +61,19 @@ fn balance_walk(body: &[u8], count: usize, rises: &[u64; 1024], falls: &[u64; 10
     Balance { rise, fall, below }
 }
 
-// The children before their parents: a child has the higher number.
-pub(crate) fn balances(table: &[u8], n: usize, m: usize) -> Found
+// The children before their parents: a child has the higher number. The sums are kept in the two arrays, whatever these held.
+pub(crate) fn balances(
+    table: &[u8],
+    n: usize,
+    m: usize,
+    rises: &mut [u64; 1024],
+    falls: &mut [u64; 1024],
+) -> Found
     requires { ⌜ Nested (now table) n m ⌝ }
     ensures { λ r. ⌜ r ≡ tryPass (balancePass (tableOf (now (table .entry)))) ⌝ }
 {
-    let mut rises = [0u64; 1024];
-    let mut falls = [0u64; 1024];
+    *rises = [0; 1024];
+    *falls = [0; 1024];
     let mut lowest = m;
     let mut t = n;
     while 0 < t {
@@ -75,7 +81,7 @@ pub(crate) fn balances(table: &[u8], n: usize, m: usize) -> Found
         let first = first(table, t);
         let count = count(table, t);
         let body = body_of(table, n, t);
-        let w = balance_walk(body, count, &rises, &falls);
+        let w = balance_walk(body, count, rises, falls);
         rises[t] = w.rise;
         falls[t] = w.fall;
         if w.below < count {

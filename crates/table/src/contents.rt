@@ -8,8 +8,8 @@ ghost use mathlib.Core.Bool.{not, _||_};
 ghost use lib.Dec.{eqb};
 ghost use Rattle.table.specs.Format.{tableOf};
 ghost use Rattle.table.specs.Pass.{tryPass, orElse};
-ghost use Rattle.table.specs.Rules.{entriesPass, totalPass};
-ghost use Rattle.table.specs.Steps.{Headed};
+ghost use Rattle.table.specs.Checks.{entriesPass, totalPass};
+ghost use Rattle.table.specs.Code.Steps.{Headed};
 
 // An entry that does not begin at the sum of the earlier counts, or has no action.
 fn entry_wrong(first: usize, count: usize, sum: usize) -> bool

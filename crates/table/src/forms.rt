@@ -11,8 +11,8 @@ ghost use lib.Dec.{ltb};
 ghost use Rattle.table.specs.Sum.{pick};
 ghost use Rattle.table.specs.Format.{kindOf, tableOf};
 ghost use Rattle.table.specs.Pass.{tryPass};
-ghost use Rattle.table.specs.Rules.{firstPass};
-ghost use Rattle.table.specs.Steps.{Laid, formAt, Reached, Holding};
+ghost use Rattle.table.specs.Checks.{firstPass};
+ghost use Rattle.table.specs.Code.Steps.{Laid, formAt, Reached, Holding};
 
 // An action that is no end: its argument fits, and it is not the last.
 fn inner(fits: bool, last: bool) -> u8

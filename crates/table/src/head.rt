@@ -6,7 +6,7 @@ use crate::read::threads;
 ghost use mathlib.Core.Path.{_≡_};
 ghost use mathlib.Core.Bool.{_||_};
 ghost use Rattle.table.specs.Pass.{tryPass};
-ghost use Rattle.table.specs.Rules.{headPass, outside as isOutside};
+ghost use Rattle.table.specs.Checks.{headPass, outside as isOutside};
 
 fn outside(low: usize, high: usize, x: usize) -> bool
     ensures { λ r. ⌜ r ≡ isOutside low high x ⌝ }

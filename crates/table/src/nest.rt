@@ -11,8 +11,8 @@ ghost use mathlib.Core.Bool.{false};
 ghost use lib.ListN.{getD, replicate};
 ghost use Rattle.table.specs.Format.{kindOf, tableOf};
 ghost use Rattle.table.specs.Pass.{tryPass, tryFrom, orElse};
-ghost use Rattle.table.specs.Rules.{secondPass, forkedPass, forkedBelow};
-ghost use Rattle.table.specs.Steps.{Formed, NestReady, NestDone, unmarked};
+ghost use Rattle.table.specs.Checks.{secondPass, forkedPass, forkedBelow};
+ghost use Rattle.table.specs.Code.Steps.{Formed, NestReady, NestDone, unmarked};
 
 // The number of the check that an action breaks, 0 if none; and where the stack of open children then begins.
 struct Nest {
@@ -21,13 +21,7 @@ struct Nest {
 }
 
 // One action. The open children stand in `stack` from `top` on, the latest first; `forked` marks the threads forked so far.
-fn nest_at(
-    k: u8,
-    x: usize,
-    top: usize,
-    stack: &mut [usize; 1024],
-    forked: &mut [bool; 1024],
-) -> Nest
+fn nest_at(k: u8, x: usize, top: usize, stack: &mut [u64; 1024], forked: &mut [bool; 1024]) -> Nest
     requires { ⌜ NestReady (kindOf k) x top (now stack) (now forked) ⌝ }
     ensures { λ r. ⌜ NestDone (kindOf k) x top (now (stack .entry)) (now (forked .entry)) (r .number) (r .top) (now (stack .exit)) (now (forked .exit)) ⌝ }
 {
@@ -43,7 +37,7 @@ fn nest_at(
                 return Nest { number: 8, top };
             }
             forked[x] = true;
-            stack[top - 1] = x;
+            stack[top - 1] = x as u64;
             Nest {
                 number: 0,
                 top: top - 1,
@@ -53,7 +47,7 @@ fn nest_at(
             if top == 1024 {
                 return Nest { number: 9, top };
             }
-            if stack[top] != x {
+            if stack[top] != x as u64 {
                 return Nest { number: 9, top };
             }
             Nest {
@@ -65,20 +59,26 @@ fn nest_at(
     }
 }
 
-fn second_pass(table: &[u8], n: usize, m: usize, forked: &mut [bool; 1024]) -> Found
+fn second_pass(
+    table: &[u8],
+    n: usize,
+    m: usize,
+    stack: &mut [u64; 1024],
+    forked: &mut [bool; 1024],
+) -> Found
     requires { ⌜ Formed (now table) n m ⌝ }
     requires { ⌜ now forked ≡ replicate 1024 false ⌝ }
     ensures { λ r. ⌜ r ≡ tryPass (secondPass (tableOf (now (table .entry)))) ⌝ }
     ensures { λ r. ⌜ (r ≡ Found.Nothing → (t : ℕ) → getD (now (forked .exit)) t false ≡ forkedBelow (tableOf (now (table .entry))) m t) ⌝ }
 {
     let actions = bodies(table, n);
-    let mut stack = [0usize; 1024];
+    *stack = [0; 1024];
     let mut top = 1024;
     let mut a = 0;
     while a < m {
         let k = code_at(actions, a);
         let x = argument_at(actions, a);
-        let next = nest_at(k, x, top, &mut stack, forked);
+        let next = nest_at(k, x, top, stack, forked);
         if next.number != 0 {
             return refuse(next.number, a);
         }
@@ -103,12 +103,13 @@ fn never_forked(n: usize, forked: &[bool; 1024]) -> Found
     Found::Nothing
 }
 
-pub(crate) fn nesting(table: &[u8], n: usize, m: usize) -> Found
+// The open children are kept in `stack`, whatever it held.
+pub(crate) fn nesting(table: &[u8], n: usize, m: usize, stack: &mut [u64; 1024]) -> Found
     requires { ⌜ Formed (now table) n m ⌝ }
     ensures { λ r. ⌜ r ≡ orElse (tryPass (secondPass (tableOf (now (table .entry))))) (tryPass (forkedPass (tableOf (now (table .entry))))) ⌝ }
 {
     let mut forked = [false; 1024];
-    let found = second_pass(table, n, m, &mut forked);
+    let found = second_pass(table, n, m, stack, &mut forked);
     if let Found::At(_) = found {
         return found;
     }

@@ -6,7 +6,7 @@ ghost use Prim.Native.Nat.{_+_, _*_, _<_};
 ghost use lib.ListN.{length, getD, drop};
 ghost use Rattle.table.specs.Format.{u16At, threadsOf, actionsOf, bodiesFrom, codeAt, argumentAt, tableOf};
 ghost use Rattle.table.specs.Pass.{refusal};
-ghost use Rattle.table.specs.Steps.{Read, DoubleWord};
+ghost use Rattle.table.specs.Code.Steps.{Read, DoubleWord};
 
 // The byte at a position.
 pub fn byte(s: &[u8], i: usize) -> u8

@@ -14,7 +14,7 @@ use Rattle.text.specs.Text.{bufferAt}
 use Rattle.lines.specs.Lines.{putAll}
 use Rattle.assembly.specs.Said.{saids}
 use Rattle.assembly.specs.Assembly.{tableRows, tableBytes, over, sizesOutside, refusedAt, judged, answered, writtenIn}
-use Rattle.assembly.specs.Steps.{Sized}
+use Rattle.assembly.specs.Code.Steps.{Sized}
 use Rattle.assembly.specs.declared.Assembled.{Assembled}
 use Rattle.assembly.specs.declared.Assembled.the-variants.{Written, Refused as Rejected}
 use Rattle.assembly.specs.declared.Said.{Said}

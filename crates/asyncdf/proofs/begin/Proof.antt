@@ -8,8 +8,8 @@ use lib.ListN.{length}
 use denote.Ref.{now}
 use Rattle.table.specs.Format.{threadsOf, actionsOf, tableOf}
 use Rattle.table.specs.Pass.{orElse, firstFound}
-use Rattle.table.specs.Rules.{passes}
-use Rattle.table.specs.Accepted.{Rules}
+use Rattle.table.specs.Checks.{passes}
+use Rattle.table.specs.Rules.{Rules}
 use Rattle.table.specs.declared.Refusal.{Refusal}
 use Rattle.table.specs.declared.Found.{Found}
 use Rattle.table.specs.declared.Found.the-variants.{Nothing, At}
@@ -23,7 +23,7 @@ use Rattle.schedule.specs.Sound.{isNothing}
 use Rattle.schedule.specs.declared.Run.{Run}
 use Rattle.schedule.specs.declared.Beginning.the-variants.{Begun as started, Refused as refusedBegin}
 use Rattle.soundness.specs.Tested.{nextIf, beginFound}
-use Rattle.schedule.proofs.Values.{begin-values}
+use Rattle.schedule.proofs.Runs.Values.{begin-values}
 use Rattle.asyncdf.proofs.Calls.{begun-answers}
 use Rattle.asyncdf.proofs.begin.Statement.{statement}
 use Rattle.asyncdf.proofs.begin.Tie as tie

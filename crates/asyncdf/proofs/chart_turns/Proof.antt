@@ -19,7 +19,7 @@ use Rattle.chart.specs.Chart.{shown, lineTexts, tooMany, charted}
 use Rattle.chart.specs.Turns.{chartTurns}
 use Rattle.chart.proofs.Records.{wall-width, many, few, charted-unsound, charted-many, charted-written}
 use Rattle.soundness.proofs.Passed.{test-fails, test-passes, test-parents, has-workers}
-use Rattle.asyncdf.specs.Sheets.{turnsTexts}
+use Rattle.asyncdf.specs.Code.Sheets.{turnsTexts}
 use Rattle.asyncdf.proofs.chart_turns.Statement.{statement}
 use Rattle.asyncdf.proofs.chart_turns.Tie as tie
 

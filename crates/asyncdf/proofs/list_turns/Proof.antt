@@ -16,7 +16,7 @@ use Rattle.lines.specs.Lines.{lastTexts, linesThen, textsOf}
 use Rattle.lines.specs.Puts.{Puts}
 use Rattle.lines.proofs.Putting.{puts-within}
 use Rattle.soundness.proofs.Passed.{test-fails, test-passes, test-parents, has-workers}
-use Rattle.asyncdf.specs.Sheets.{turnsTexts}
+use Rattle.asyncdf.specs.Code.Sheets.{turnsTexts}
 use Rattle.asyncdf.proofs.list_turns.Statement.{statement}
 use Rattle.asyncdf.proofs.list_turns.Tie as tie
 

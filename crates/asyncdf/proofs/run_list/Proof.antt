@@ -5,7 +5,7 @@ use Prim.Native.Nat.{ℕ, _<_}
 use native.Mathlib.Omega.{arith}
 use borrow.Author.Needs.{needs}
 use Rattle.schedule.specs.Turn.{unsound}
-use Rattle.schedule.proofs.Values.{list-values}
+use Rattle.schedule.proofs.Runs.Values.{list-values}
 use Rattle.soundness.proofs.Passed.{test-fails, test-passes, test-parents, has-workers}
 use Rattle.asyncdf.proofs.Calls.{ran-answers, of-list, list-unsound, list-driven, list-blank-none, list-blank}
 use Rattle.asyncdf.proofs.run_list.Statement.{statement}

@@ -1,22 +1,16 @@
 -- `chart::wall_line` meets its contract, check by check; the line fills the buffer.
-use Prim.Native.Nat.{ℕ, _≤_}
+use Prim.Native.Nat.{ℕ}
 use native.Mathlib.Omega.{arith}
-use mathlib.Core.Path.{_≡_, refl, sym, ap, _∙_}
-use mathlib.Core.List.{List, _++_, append-nil}
+use mathlib.Core.Path.{_≡_, refl, ap, _∙_}
+use mathlib.Core.List.{List}
 use mathlib.Core.Bool.{false}
 use denote.Ref.{now}
-use lib.ListN.{length, drop, drop-of-length-le}
-use Rattle.text.specs.Text.{bufferAt}
-use Rattle.lines.specs.Lines.{putAll}
-use Rattle.lines.specs.Puts.{Puts}
-use Rattle.lines.proofs.Putting.{puts-whole}
 use Rattle.schedule.specs.declared.Run.{Run}
 use Rattle.schedule.specs.Turn.{unsound}
 use Rattle.soundness.proofs.Passed.{test-fails, test-passes}
 use Rattle.chart.specs.declared.Charted.{Charted}
-use Rattle.chart.specs.declared.Charted.the-variants.{Written}
-use Rattle.chart.specs.Chart.{shown, lineTexts, lineOf, tooMany, charted, chartedIn, chartedValues, lineValues}
-use Rattle.chart.proofs.Records.{wall-width, many, few, charted-unsound, charted-many, charted-written, charted-values}
+use Rattle.chart.specs.Chart.{charted, chartedIn, chartedValues, lineValues}
+use Rattle.chart.proofs.Records.{line-filled, many, few, charted-unsound, charted-many, charted-written, charted-values}
 use borrow.Author.Needs.{needs}
 use Rattle.chart.proofs.wall_line.Statement.{statement}
 use Rattle.chart.proofs.wall_line.Tie as tie
@@ -25,13 +19,6 @@ use Rattle.chart.proofs.wall_line.Tie as tie
 answers : {x : Charted} (r : Run) (s o : List ℕ) → x ≡ charted r → o ≡ chartedIn x r s
     → (x ≡ charted r) × ((chartedValues x ≡ lineValues r) × (o ≡ chartedIn (charted r) r s))
 answers r s o e f = (e, (ap chartedValues e ∙ charted-values r, f ∙ ap (λ (y : Charted). chartedIn y r s) e))
-
-filled : (r : Run) (s o : List ℕ) (k : ℕ) → unsound r ≡ false → tooMany r ≡ false → length s ≡ 85 → bufferAt o k ≡ putAll (bufferAt s 0) (lineTexts (shown r)) → o ≡ lineOf r
-filled r s o k u t l e =
-    let w = wall-width r u t in
-    let p : Puts s 0 o k (lineTexts (shown r)) 85 = record { put = e; short = omega (arith, w) } in
-    let q = puts-whole (omega (arith, l)) p in
-    q .1 ∙ ap (λ (x : List ℕ). lineOf r ++ x) (drop-of-length-le s {i = k} (omega (arith, q .0, w, l))) ∙ append-nil (lineOf r)
 
 -- the record passed the test
 passed : (c : tie.Else1) → unsound (c .before .before .before .args .run) ≡ false
@@ -64,7 +51,7 @@ returns-3 c =
     let u = passed e in
     let t = few (a .run) u (n .if2 .left) in
     answers (a .run) (now (a .out)) _ (charted-written (a .run) u t)
-    (filled (a .run) (now (a .out)) _ _ u t (omega (arith, c .before .put-line-arg .given)) (c .put-line .ensures))
+    (line-filled (a .run) (now (a .out)) _ _ u t (omega (arith, c .before .put-line-arg .given)) (c .put-line .ensures))
 
 pub wall-line-spec : {M : Type 1} → statement M
 wall-line-spec = tie.close (tie.spec test-requires returns returns-2 put-line-requires returns-3)

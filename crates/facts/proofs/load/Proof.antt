@@ -7,13 +7,13 @@ use borrow.Author.Needs.{needs}
 use denote.Ref.{now}
 use Rattle.table.specs.Format.{threadsOf, actionsOf, tableOf}
 use Rattle.table.specs.Pass.{firstFound}
-use Rattle.table.specs.Rules.{passes}
-use Rattle.table.specs.Accepted.{Rules}
+use Rattle.table.specs.Checks.{passes}
+use Rattle.table.specs.Rules.{Rules}
 use Rattle.table.specs.Serial.{S1}
 use Rattle.table.specs.Level.{D}
 use Rattle.table.specs.Nested.{N}
 use Rattle.table.specs.Load.{factsOf, loaded, tableValues, valuesOf}
-use Rattle.table.specs.Steps.{Kept}
+use Rattle.table.specs.Code.Steps.{Kept}
 use Rattle.table.specs.declared.Refusal.{Refusal}
 use Rattle.table.specs.declared.Found.the-variants.{Nothing, At}
 use Rattle.table.specs.declared.Loaded.{Loaded}

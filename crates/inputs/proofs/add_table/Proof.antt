@@ -14,7 +14,7 @@ use Rattle.assembly.proofs.Within.{written-within}
 use Rattle.table.specs.declared.Refusal.{Refusal}
 use Rattle.inputs.specs.Front.{Front}
 use Rattle.inputs.specs.Input.{frontTexts, withTable, filledWith}
-use Rattle.inputs.specs.Steps.{Passed}
+use Rattle.inputs.specs.Code.Steps.{Passed}
 use Rattle.inputs.specs.declared.Made.{Made}
 use Rattle.inputs.specs.declared.Made.the-variants.{Written as Filled}
 use Rattle.inputs.proofs.Tables.{table-written, table-small, input-put}

@@ -11,7 +11,7 @@ use Rattle.assembly.specs.Assembly.{longestText, assembled}
 use Rattle.assembly.specs.declared.Assembled.the-variants.{TooLong}
 use Rattle.inputs.specs.Front.{whole, fault, frontOf, afterLines}
 use Rattle.inputs.specs.Input.{withTable, filledWith, made, madeIn}
-use Rattle.inputs.specs.Steps.{ReadsFront, Addable, frontIs}
+use Rattle.inputs.specs.Code.Steps.{ReadsFront, Addable, frontIs}
 use Rattle.inputs.specs.declared.Wanted.{Wanted}
 use Rattle.inputs.specs.declared.front.Front.{Front as Kept}
 use Rattle.inputs.specs.declared.read.End.the-variants.{Whole, Fault}

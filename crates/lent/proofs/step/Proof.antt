@@ -19,7 +19,7 @@ use Rattle.schedule.specs.Record.{maxThreads}
 use Rattle.lent.specs.declared.Totals.{Totals}
 use Rattle.lent.specs.Arrays.{Arrays, arrays, withStatuses, tableFrom}
 use Rattle.lent.specs.Turn.{Outcome, moved, unfit, actIn, Seat, seat, seatOf, seatIn, stepFrom, stepOn}
-use Rattle.schedule.proofs.Searches.{seek-ready}
+use Rattle.schedule.proofs.Linked.Searches.{seek-ready}
 use Rattle.lent.proofs.Unfit.{unfit-kept}
 use borrow.Author.Needs.{needs}
 use Rattle.lent.proofs.Leaves.{left-as}

@@ -1,11 +1,10 @@
 -- `links::describe` meets its contract: the links laid are those of the row, and 1,024 long as the given ones are.
 use mathlib.Core.Path.{_≡_, ap, sym, _∙_}
-use mathlib.Core.Bool.{Bool, true, false, _&&_}
 use lib.ListN.{length}
 use borrow.Author.Needs.{needs}
 use Rattle.schedule.specs.Links.{noThread}
 use Rattle.schedule.specs.Sound.{sameList}
-use Rattle.schedule.proofs.Lists.{firsts-length}
+use Rattle.schedule.proofs.Sequences.Lists.{firsts-length}
 use Rattle.links.proofs.Comparing.{both, neither}
 use Rattle.links.proofs.describe.Statement.{statement}
 use Rattle.links.proofs.describe.Tie as tie

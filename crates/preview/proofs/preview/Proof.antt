@@ -1,5 +1,5 @@
 -- `preview::preview` meets its contract: the turn's answer and record are the definition's.
-use mathlib.Core.Path.{_≡_, refl, sym, ap, _∙_}
+use mathlib.Core.Path.{_≡_, refl, ap, _∙_}
 use Prim.Native.Nat.{ℕ}
 use borrow.Author.Needs.{needs}
 use lib.ListN.{getD}
@@ -11,9 +11,10 @@ use Rattle.schedule.specs.declared.Turning.the-variants.{Taken}
 use Rattle.schedule.specs.declared.Turning.the-variants.{Refused as refusedTurn}
 use Rattle.schedule.specs.Machine.{nobody}
 use Rattle.schedule.specs.Turn.{turned}
+use Rattle.schedule.specs.Shown.{previewValues}
 use Rattle.preview.specs.declared.Previewed.{Previewed}
 use Rattle.preview.specs.declared.Previewed.the-variants.{Would, Refused}
-use Rattle.preview.specs.Preview.{refusalOf, previewAs, previewOf, Shown, shownValues, previewValues}
+use Rattle.preview.specs.Preview.{refusalOf, previewAs, previewOf, shownValues}
 use Rattle.preview.proofs.Previews.{preview-values}
 use Rattle.preview.proofs.preview.Statement.{statement}
 use Rattle.preview.proofs.preview.Tie as tie

@@ -1,5 +1,4 @@
 -- `preview::refusal_of` meets its contract, by cases on the answer.
-use mathlib.Core.Path.{_≡_}
 use borrow.Author.Needs.{needs}
 use Rattle.preview.proofs.refusal_of.Statement.{statement}
 use Rattle.preview.proofs.refusal_of.Tie as tie

@@ -6,7 +6,7 @@ use native.Mathlib.Omega.{arith}
 use borrow.Author.Needs.{needs}
 use denote.Ref.{now}
 use Rattle.table.specs.Format.{tableOf}
-use Rattle.table.specs.Rules.{outside}
+use Rattle.table.specs.Checks.{outside}
 use Rattle.table.specs.Serial.{S1}
 use Rattle.table.proofs.Sizes.{inside}
 use Rattle.quota.specs.declared.Quoted.the-variants.{Given}

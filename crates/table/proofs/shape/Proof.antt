@@ -5,8 +5,8 @@ use mathlib.Core.List.{List}
 use borrow.Author.Needs.{needs}
 use Rattle.table.specs.Format.{Table, tableOf}
 use Rattle.table.specs.Pass.{tryPass, firstFound, orElse}
-use Rattle.table.specs.Rules.{entriesPass, totalPass, firstPass, secondPass, forkedPass, shapePasses}
-use Rattle.table.specs.Steps.{Headed, Laid, Formed}
+use Rattle.table.specs.Checks.{entriesPass, totalPass, firstPass, secondPass, forkedPass, shapePasses}
+use Rattle.table.specs.Code.Steps.{Headed, Laid, Formed}
 use Rattle.table.specs.declared.Refusal.{Refusal}
 use Rattle.table.specs.declared.Found.{Found}
 use Rattle.table.specs.declared.Found.the-variants.{Nothing, At}
@@ -79,18 +79,20 @@ enum-told-4 c = search needs
 
 nesting-requires : tie.Need-nesting-requires
 nesting-requires c κs =
-    let f = c .before .before in
+    let e = c .before in
+    let f = e .before .before in
     let d = f .before .before .before in
     formed (d .before .before .pre) (sym (d .contents .ensures) ∙ f .before .enum-told2 .given .1)
-    (sym (f .first-pass .ensures) ∙ c .enum-told4 .given .1)
+    (sym (f .first-pass .ensures) ∙ e .enum-told4 .given .1)
 
 returns-3 : tie.Need-returns-3
 returns-3 c =
-    let f = c .before .before .before in
+    let e = c .before .before in
+    let f = e .before .before in
     let d = f .before .before .before in
     c .nesting .ensures
     ∙ in-nesting (d .before .before .pre) (sym (d .contents .ensures) ∙ f .before .enum-told2 .given .1)
-    (sym (f .first-pass .ensures) ∙ c .before .enum-told4 .given .1)
+    (sym (f .first-pass .ensures) ∙ e .enum-told4 .given .1)
 
 pub shape-spec : {M : Type 1} → statement M
 shape-spec =

@@ -7,7 +7,7 @@ use mathlib.Core.List.{List}
 use lib.ListN.{length, drop}
 use Rattle.assembly.specs.Said.{saids}
 use Rattle.assembly.specs.Assembly.{countedBy, checkedFrom, checked, longestText}
-use Rattle.assembly.specs.Steps.{Reads}
+use Rattle.assembly.specs.Code.Steps.{Reads}
 use Rattle.assembly.specs.declared.Expected.{Expected}
 use Rattle.assembly.specs.declared.line.Line.{Line}
 use Rattle.assembly.specs.declared.check.Counting.the-variants.{Counted, Stopped}

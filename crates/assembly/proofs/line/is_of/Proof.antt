@@ -2,7 +2,7 @@
 use mathlib.Core.Path.{_≡_, refl}
 use mathlib.Core.Bool.{Bool, true, false, not}
 use Prim.Native.Nat.{ℕ}
-use Rattle.assembly.specs.Steps.{ofSort}
+use Rattle.assembly.specs.Code.Steps.{ofSort}
 use Rattle.assembly.specs.declared.Expected.{Expected}
 use Rattle.assembly.specs.declared.Said.the-variants.{Nothing, Thread, Action, Expects}
 use borrow.Author.Needs.{needs}

@@ -10,7 +10,7 @@ use lib.Seq.{length-take-le}
 use Rattle.table.proofs.Parts.{rest-part}
 use Rattle.assembly.specs.Words.{inClass, wordsIn}
 use Rattle.assembly.specs.Said.{codeOfWord, saidAfter, saidBy, meaningOf, lineSaid, noCode}
-use Rattle.assembly.specs.Steps.{Spans, FirstWord}
+use Rattle.assembly.specs.Code.Steps.{Spans, FirstWord}
 use Rattle.assembly.specs.declared.scan.Class.the-variants.{Plain}
 use Rattle.assembly.specs.declared.Expected.the-variants.{Keyword}
 use Rattle.assembly.specs.declared.Said.the-variants.{Nothing, Expects}

@@ -9,7 +9,7 @@ use lib.Dec.{eqb}
 use lib.ListN.{length, drop}
 use Rattle.assembly.specs.Said.{saids}
 use Rattle.assembly.specs.Assembly.{leftAfter, lineThat, longestText}
-use Rattle.assembly.specs.Steps.{Reads, ofSort}
+use Rattle.assembly.specs.Code.Steps.{Reads, ofSort}
 use Rattle.assembly.specs.declared.Said.{Said}
 use Rattle.assembly.specs.declared.line.Line.{Line}
 use Rattle.assembly.proofs.Lines.{said-none}

@@ -6,7 +6,7 @@ use mathlib.Core.Bool.{Bool, true, false}
 use Rattle.table.specs.Sum.{pick}
 use Rattle.table.specs.declared.Refusal.{Refusal}
 use Rattle.assembly.specs.Assembly.{isThread, isAction, lineThat, namesThread, refusedAt}
-use Rattle.assembly.specs.Steps.{ofSort}
+use Rattle.assembly.specs.Code.Steps.{ofSort}
 use Rattle.assembly.specs.declared.Said.{Said}
 use borrow.Author.Needs.{needs}
 use Rattle.assembly.proofs.place.refused_at.Statement.{statement}

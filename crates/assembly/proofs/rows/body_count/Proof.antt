@@ -7,7 +7,7 @@ use mathlib.Core.Bool.{true, false}
 use lib.ListN.{length, drop}
 use Rattle.assembly.specs.Said.{saids}
 use Rattle.assembly.specs.Assembly.{isThread, isAction, bodyCount}
-use Rattle.assembly.specs.Steps.{Reads, CountsBody}
+use Rattle.assembly.specs.Code.Steps.{Reads, CountsBody}
 use Rattle.assembly.specs.declared.Said.{Said}
 use Rattle.assembly.specs.declared.line.Line.{Line}
 use Rattle.assembly.proofs.Lines.{said-none}

@@ -8,7 +8,7 @@ use Rattle.text.specs.Text.{Buffer, bufferAt, placedNext}
 use Rattle.lines.specs.Lines.{putAll}
 use Rattle.assembly.specs.Said.{saids}
 use Rattle.assembly.specs.Assembly.{actionRows, actionsIn}
-use Rattle.assembly.specs.Steps.{Reads}
+use Rattle.assembly.specs.Code.Steps.{Reads}
 use Rattle.assembly.specs.declared.Said.{Said}
 use Rattle.assembly.specs.declared.line.Line.{Line}
 use Rattle.assembly.proofs.Lines.{said-none}

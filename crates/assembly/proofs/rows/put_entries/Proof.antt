@@ -10,7 +10,7 @@ use Rattle.assembly.specs.Said.{saids}
 use mathlib.Core.Bool.{Bool, true, false}
 use Rattle.table.specs.Sum.{pick}
 use Rattle.assembly.specs.Assembly.{isAction, entryRows, actionsAfter, entriesFrom, longestText}
-use Rattle.assembly.specs.Steps.{Reads}
+use Rattle.assembly.specs.Code.Steps.{Reads}
 use Rattle.assembly.specs.declared.Said.{Said}
 use Rattle.assembly.specs.declared.line.Line.{Line}
 use Rattle.assembly.proofs.Lines.{said-none}

@@ -9,7 +9,7 @@ use lib.ListN.{length, getD, drop, drop-of-length-le}
 use lib.Seq.{drop-cons}
 use Rattle.table.specs.Sum.{pick}
 use Rattle.assembly.specs.Words.{noNumber, isDigit, nextValue, valueFrom, zeroLed, numberIn}
-use Rattle.assembly.specs.Steps.{Valued}
+use Rattle.assembly.specs.Code.Steps.{Valued}
 use borrow.Author.Needs.{needs}
 use Rattle.assembly.proofs.word.number.Statement.{statement}
 use Rattle.assembly.proofs.word.number.Tie as tie

@@ -7,7 +7,7 @@ use lib.ListN.{length, getD, set, replicate}
 use lib.Seq.{take-length}
 use Rattle.schedule.specs.Record.{filled}
 use Rattle.schedule.specs.Firsts.{firsts}
-use Rattle.schedule.proofs.Lists.{firsts-take}
+use Rattle.schedule.proofs.Sequences.Lists.{firsts-take}
 use Rattle.soundness.proofs.Laying.{Laid, laid-more}
 use Rattle.asyncdf.proofs.beginning.copy.Statement.{statement}
 use Rattle.asyncdf.proofs.beginning.copy.Tie as tie

@@ -16,7 +16,7 @@ use Rattle.schedule.specs.Turn.{rootEnded}
 use Rattle.lent.proofs.Answers.{root-open}
 use Rattle.lent.specs.Arrays.{Arrays}
 use Rattle.lent.specs.Packed.{movedOf, packedOf}
-use Rattle.asyncdf.specs.Drives.{Moving, Driven}
+use Rattle.asyncdf.specs.Code.Drives.{Moving, Driven}
 use Rattle.lent.specs.declared.Moved.{Moved}
 use Rattle.asyncdf.proofs.Driving.{drive-over}
 use Rattle.asyncdf.proofs.Moving.{arraysOf, table-room, first-moving}

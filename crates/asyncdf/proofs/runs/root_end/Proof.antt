@@ -6,10 +6,10 @@ use native.Mathlib.Omega.{arith}
 use borrow.Author.Needs.{needs}
 use Rattle.table.specs.Sum.{sumTo}
 use Rattle.table.specs.Format.{tableOf}
-use Rattle.table.specs.Rules.{endOf}
-use Rattle.table.specs.Accepted.{Rules}
+use Rattle.table.specs.Checks.{endOf}
+use Rattle.table.specs.Rules.{Rules}
 use Rattle.table.proofs.Bodies.{first-is, count-pos, after-end}
-use Rattle.schedule.proofs.Lawful.{Lawful, lawful}
+use Rattle.schedule.proofs.Tables.Lawful.{Lawful, lawful}
 use Rattle.asyncdf.proofs.runs.root_end.Statement.{statement}
 use Rattle.asyncdf.proofs.runs.root_end.Tie as tie
 

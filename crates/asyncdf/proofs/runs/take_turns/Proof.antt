@@ -9,10 +9,11 @@ use denote.Ref.{now}
 use Rattle.schedule.specs.declared.Worker.{Worker}
 use Rattle.schedule.specs.declared.Run.{Run}
 use Rattle.schedule.specs.declared.Reply.{Reply}
+use Rattle.schedule.specs.Runs.{workerAt}
 use Rattle.lent.specs.declared.Moved.{Moved}
 use Rattle.lent.specs.Arrays.{Arrays, arrays}
 use Rattle.lent.specs.Packed.{packedOf}
-use Rattle.asyncdf.specs.Drives.{who, Sequence, Moving, Stands}
+use Rattle.asyncdf.specs.Code.Drives.{Sequence, Moving, Stands}
 use Rattle.asyncdf.proofs.Moving.{not-done, other, few}
 use Rattle.asyncdf.proofs.Along.{Along, first-along, spent, full, none, again, finished}
 use Rattle.asyncdf.proofs.runs.take_turns.Statement.{statement}
@@ -23,7 +24,7 @@ record Inv (s : List ℕ) (n last p K : ℕ) (parents : List ℕ) (A₀ : Arrays
   begun : Stands s n last p K parents A₀ workers₀ m₀
   sequence : (j : ℕ) → j < limit → Sequence order rounds p j
   along : (run : Run) → Moving run s n last p K parents A₀ workers₀ m₀
-      → Along (who order rounds p) limit run (packedOf run A₀ workers₀ m₀) s n last p K parents A workers m reply i
+      → Along (workerAt order rounds p) limit run (packedOf run A₀ workers₀ m₀) s n last p K parents A workers m reply i
 
 abbrev Inv-loop : tie.InvT-loop
 Inv-loop table n last p quota parents next₀ status₀ amounts₀ left₀ right₀ under₀ over₀ order rounds limit workers₀ moved₀ reply₀ i₀ next status amounts left right under over workers moved reply i =

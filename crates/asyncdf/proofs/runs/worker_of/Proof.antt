@@ -1,4 +1,4 @@
--- `asyncdf::runs::worker_of` meets its contract: the two ways are the two cases of `who`.
+-- `asyncdf::runs::worker_of` meets its contract: the two ways are the two cases of `workerAt`.
 use mathlib.Core.Path.{_≡_}
 use Prim.Native.Nat.{ℕ, _%_}
 use mathlib.Core.List.{List}
@@ -6,16 +6,16 @@ use mathlib.Core.Bool.{Bool, true, false}
 use native.Mathlib.Omega.{arith}
 use denote.Ref.{now}
 use lib.ListN.{getD}
-use Rattle.asyncdf.specs.Drives.{who}
+use Rattle.schedule.specs.Runs.{workerAt}
 use Rattle.asyncdf.proofs.runs.worker_of.Statement.{statement}
 use Rattle.asyncdf.proofs.runs.worker_of.Tie as tie
 
-in-rounds : (order : List ℕ) {rounds : Bool} (p i : ℕ) → rounds ≡ true → i % p ≡ who order rounds p i
-unfolding who
+in-rounds : (order : List ℕ) {rounds : Bool} (p i : ℕ) → rounds ≡ true → i % p ≡ workerAt order rounds p i
+unfolding workerAt
 in-rounds order p i e = rw e
 
-in-order : (order : List ℕ) {rounds : Bool} (p i : ℕ) → rounds ≡ false → getD order i 0 ≡ who order rounds p i
-unfolding who
+in-order : (order : List ℕ) {rounds : Bool} (p i : ℕ) → rounds ≡ false → getD order i 0 ≡ workerAt order rounds p i
+unfolding workerAt
 in-order order p i e = rw e
 
 rem-result : tie.Need-rem-result

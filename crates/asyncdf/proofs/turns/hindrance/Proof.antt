@@ -4,7 +4,7 @@ use Prim.Native.Nat.{ℕ, _-_, _^_, _≤_, _<_}
 use mathlib.Core.Bool.{Bool, true, false}
 use borrow.Author.Tests.{lt-ltb, le-ltb, eq-eqb, ne-eqb}
 use Rattle.chart.specs.Chart.{mostTurns}
-use Rattle.asyncdf.specs.Sheets.{hindered}
+use Rattle.asyncdf.specs.Code.Sheets.{hindered}
 use Rattle.asyncdf.proofs.turns.hindrance.Statement.{statement}
 use Rattle.asyncdf.proofs.turns.hindrance.Tie as tie
 

@@ -13,7 +13,7 @@ use Rattle.schedule.specs.Listing.{Line, line, toldWith, actionIn, threadIn}
 use Rattle.lines.specs.Lines.{putAll, turnTexts}
 use Rattle.lines.specs.Puts.{Puts}
 use Rattle.chart.specs.Chart.{Shown, shownOf, lineTexts}
-use Rattle.asyncdf.specs.Sheets.{afterTexts, afterSize}
+use Rattle.asyncdf.specs.Code.Sheets.{afterTexts, afterSize}
 use Rattle.asyncdf.proofs.turns.put_after.Statement.{statement}
 use Rattle.asyncdf.proofs.turns.put_after.Tie as tie
 

@@ -32,8 +32,8 @@ use Rattle.lent.specs.Arrays.{Arrays, arrays, tableFrom}
 use Rattle.lent.specs.Counted.{turnOn}
 use Rattle.lent.specs.Counted.{taken as left-by}
 use Rattle.lent.specs.Packed.{packedOf}
-use Rattle.asyncdf.specs.Drives.{Outlined, Moving, Stands}
-use Rattle.asyncdf.specs.Sheets.{turnsTexts, widest, afterTexts, afterSize, overTexts, hindered}
+use Rattle.asyncdf.specs.Code.Drives.{Outlined, Moving, Stands}
+use Rattle.asyncdf.specs.Code.Sheets.{turnsTexts, widest, afterTexts, afterSize, overTexts, hindered}
 use Rattle.lent.proofs.Answers.{steady-room, turned-taken}
 use Rattle.asyncdf.proofs.Moving.{not-done, other, few, moves, replies, tally, keeps, over}
 use Rattle.asyncdf.proofs.Ordered.{Listed, start, ended, exhausted, refused, again}

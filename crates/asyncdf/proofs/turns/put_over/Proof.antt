@@ -8,7 +8,7 @@ use Rattle.schedule.specs.Listing.{Last, lastWith}
 use Rattle.lines.specs.Lines.{lastTexts}
 use Rattle.lines.specs.Puts.{Puts}
 use Rattle.lines.proofs.Putting.{puts-none}
-use Rattle.asyncdf.specs.Sheets.{overTexts}
+use Rattle.asyncdf.specs.Code.Sheets.{overTexts}
 use Rattle.asyncdf.proofs.turns.put_over.Statement.{statement}
 use Rattle.asyncdf.proofs.turns.put_over.Tie as tie
 

@@ -20,8 +20,8 @@ use Rattle.lines.specs.Puts.{Puts}
 use Rattle.soundness.proofs.Passed.{has-workers}
 use Rattle.lent.specs.declared.Moved.{Moved}
 use Rattle.lent.specs.Packed.{movedOf, packedOf}
-use Rattle.asyncdf.specs.Drives.{Moving}
-use Rattle.asyncdf.specs.Sheets.{turnsTexts, widest, overTexts}
+use Rattle.asyncdf.specs.Code.Drives.{Moving}
+use Rattle.asyncdf.specs.Code.Sheets.{turnsTexts, widest, overTexts}
 use Rattle.lent.proofs.Answers.{turned-none, root-over, root-open}
 use Rattle.asyncdf.proofs.Moving.{arraysOf, table-room, first-moving}
 use Rattle.asyncdf.proofs.Ordered.{texts-refused, start, ended, exhausted, refused}

@@ -11,8 +11,8 @@ put-nobody-requires c κs = search needs
 workers-requires : tie.Need-workers-requires
 workers-requires c κs = search needs
 
-accept-requires : tie.Need-accept-requires
-accept-requires c κs = search needs
+accept-in-requires : tie.Need-accept-in-requires
+accept-in-requires c κs = search needs
 
 enum-known-found : tie.Need-enum-known-found
 enum-known-found c = search needs
@@ -20,8 +20,8 @@ enum-known-found c = search needs
 put-links-requires : tie.Need-put-links-requires
 put-links-requires c κs = search needs
 
-cast-t35 : tie.Need-cast-t35
-cast-t35 c = search needs
+cast-t39 : tie.Need-cast-t39
+cast-t39 c = search needs
 
 cast-result : tie.Need-cast-result
 cast-result c = search needs
@@ -31,11 +31,13 @@ returns c =
     let l = c .before .before .before in
     let f = l .before .before .before .before .before .before .before in
     let a = f .before .before in
-    let k = a .before .before .before in
+    let k = a .before .before .before .before .before in
     let n = k .before in
-    let d = n .before .before .before .before .before .before .before .before .before in
-    refuses (now (d .args .table)) (d .args .p) (d .args .quota) (k .workers .ensures) (a .accept .ensures .0) (a .accept .ensures .1 .0) (a .accept .ensures .1 .1) (n .put-nobody .ensures)
-    (f .found .given .1) (l .put-links .ensures)
+    let d = n .before .before .before .before .before .before .before .before .before in (
+      refuses (now (d .args .table)) (d .args .p) (d .args .quota) (k .workers .ensures) (a .accept-in .ensures .0) (a .accept-in .ensures .1 .0) (a .accept-in .ensures .1 .1 .0) (n .put-nobody .ensures)
+          (f .found .given .1) (l .put-links .ensures),
+      a .accept-in .ensures .1 .1 .1,
+    )
 
 enum-told : tie.Need-enum-told
 enum-told c = search needs
@@ -51,11 +53,13 @@ returns-2 c =
     let l = c .before in
     let e = l .before .before .before .before .before .before in
     let a = e .before .before in
-    let k = a .before .before .before in
+    let k = a .before .before .before .before .before in
     let n = k .before in
-    let d = n .before .before .before .before .before .before .before .before .before in
-    starts (now (d .args .table)) (d .args .p) (d .args .quota) (k .workers .ensures) (a .accept .ensures .0) (a .accept .ensures .1 .0) (a .accept .ensures .1 .1) (n .put-nobody .ensures)
-    (e .enum-told .given .1) (l .put-links2 .ensures)
+    let d = n .before .before .before .before .before .before .before .before .before in (
+      starts (now (d .args .table)) (d .args .p) (d .args .quota) (k .workers .ensures) (a .accept-in .ensures .0) (a .accept-in .ensures .1 .0) (a .accept-in .ensures .1 .1 .0) (n .put-nobody .ensures)
+          (e .enum-told .given .1) (l .put-links2 .ensures),
+      a .accept-in .ensures .1 .1 .1,
+    )
 
 pub wivakkol-begin-on-spec : {M : Type 1} → statement M
 wivakkol-begin-on-spec =
@@ -63,10 +67,10 @@ wivakkol-begin-on-spec =
     (tie.spec
     put-nobody-requires
     workers-requires
-    accept-requires
+    accept-in-requires
     enum-known-found
     put-links-requires
-    cast-t35
+    cast-t39
     cast-result
     returns
     enum-told

@@ -7,8 +7,9 @@ use native.Mathlib.Omega.{arith}
 use borrow.Author.Needs.{needs}
 use denote.Ref.{now}
 use lib.ListN.{getD}
+use Rattle.schedule.specs.Runs.{workerAt}
 use Rattle.lent.specs.Arrays.{arrays}
-use Rattle.board.specs.Lent.{Memory, memory, whoIn}
+use Rattle.board.specs.Lent.{Memory, memory}
 use Rattle.board.proofs.Drives.{Along, first-along, over, ended-so, stopped, again}
 use Rattle.board.proofs.runs.drive.Statement.{statement}
 use Rattle.board.proofs.runs.drive.Tie as tie
@@ -16,10 +17,10 @@ use Rattle.board.proofs.runs.drive.Tie as tie
 record Inv (s order : List ℕ) (rounds : Bool) (limit : ℕ) (M₀ M : Memory) (p i : ℕ) : Type 0 where
   asked : rounds ≡ true → 0 < getD (M .settings) 0 0
   workers : p ≡ getD (M .settings) 0 0
-  along : Along s (whoIn order rounds (getD (M .settings) 0 0)) limit M₀ M i
+  along : Along s (workerAt order rounds (getD (M .settings) 0 0)) limit M₀ M i
 
-same-worker : (order : List ℕ) (rounds : Bool) (i : ℕ) {w p q : ℕ} → w ≡ whoIn order rounds p i → p ≡ q → w ≡ whoIn order rounds q i
-same-worker order rounds i e d = e ∙ ap (λ (x : ℕ). whoIn order rounds x i) d
+same-worker : (order : List ℕ) (rounds : Bool) (i : ℕ) {w p q : ℕ} → w ≡ workerAt order rounds p i → p ≡ q → w ≡ workerAt order rounds q i
+same-worker order rounds i e d = e ∙ ap (λ (x : ℕ). workerAt order rounds x i) d
 
 abbrev Inv-loop : tie.InvT-loop
 Inv-loop table order rounds limit settings parents next₀ status₀ amounts₀ left₀ right₀ under₀ over₀ holds₀ threads₀ quotas₀ heads₀ totals₀ row₀ p i₀ next status amounts left right under over holds threads quotas heads totals row i =

@@ -1,8 +1,4 @@
 -- `board::runs::wivakkol_list_on` meets its contract: 32 first, then the run.
-use mathlib.Core.Path.{_≡_}
-use Prim.Native.Nat.{ℕ, _<_}
-use mathlib.Core.Bool.{true, false}
-use native.Mathlib.Omega.{arith}
 use denote.Ref.{now}
 use Rattle.table.proofs.Tests.{no-way}
 use Rattle.lent.specs.Arrays.{arrays}

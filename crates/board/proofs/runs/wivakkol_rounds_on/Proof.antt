@@ -1,10 +1,8 @@
 -- `board::runs::wivakkol_rounds_on` meets its contract: 32 first, 30 with no worker, then the run.
 use mathlib.Core.Path.{_≡_}
 use Prim.Native.Nat.{ℕ, _<_}
-use mathlib.Core.Bool.{true, false}
 use native.Mathlib.Omega.{arith}
 use denote.Ref.{now}
-use Rattle.table.proofs.Tests.{no-way}
 use Rattle.lent.specs.Arrays.{arrays}
 use Rattle.board.specs.Lent.{Memory, memory}
 use Rattle.board.proofs.Drives.{full-rounds, no-rounds, driven-rounds}

@@ -1,23 +1,23 @@
 -- `board::runs::worker_of` meets its contract: rounds count through the workers, a list names them.
 use mathlib.Core.Path.{_≡_}
-use Prim.Native.Nat.{ℕ, _%_, _<_}
+use Prim.Native.Nat.{ℕ, _%_}
 use mathlib.Core.List.{List}
 use mathlib.Core.Bool.{Bool, true, false}
 use native.Mathlib.Nat.{mod-lt}
 use native.Mathlib.Omega.{arith}
 use borrow.Author.Needs.{needs}
 use lib.ListN.{getD}
-use Rattle.board.specs.Lent.{whoIn}
+use Rattle.schedule.specs.Runs.{workerAt}
 use Rattle.board.proofs.runs.worker_of.Statement.{statement}
 use Rattle.board.proofs.runs.worker_of.Tie as tie
 
 module _ (order : List ℕ) {rounds : Bool} (p i : ℕ) where
-  in-rounds : rounds ≡ true → i % p ≡ whoIn order rounds p i
-  unfolding whoIn
+  in-rounds : rounds ≡ true → i % p ≡ workerAt order rounds p i
+  unfolding workerAt
   in-rounds e = rw e
 
-  from-list : {x : ℕ} → rounds ≡ false → x ≡ getD order i 0 → x ≡ whoIn order rounds p i
-  unfolding whoIn
+  from-list : {x : ℕ} → rounds ≡ false → x ≡ getD order i 0 → x ≡ workerAt order rounds p i
+  unfolding workerAt
   from-list e d = rw e d
 
 rem-result : tie.Need-rem-result

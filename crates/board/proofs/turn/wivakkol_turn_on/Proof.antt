@@ -1,5 +1,4 @@
 -- `board::turn::wivakkol_turn_on` meets its contract: what the turn says is put into the row.
-use mathlib.Core.Path.{_≡_}
 use denote.Ref.{now}
 use Rattle.lent.specs.Arrays.{arrays}
 use Rattle.board.specs.Lent.{Memory, memory}

@@ -11,7 +11,7 @@ use Rattle.text.specs.Text.{Buffer, bufferAt, placedNext}
 use Rattle.lines.specs.Lines.{putAll}
 use Rattle.schedule.specs.declared.Worker.{Worker}
 use Rattle.schedule.specs.Machine.{nobody}
-use Rattle.chart.specs.Chart.{Cell, cellOf, cellsFrom, cellTexts, cellsTexts}
+use Rattle.chart.specs.Chart.{cellOf, cellsFrom, cellTexts, cellsTexts}
 use Rattle.chart.proofs.line.put_cells.Statement.{statement}
 use Rattle.chart.proofs.line.put_cells.Tie as tie
 

@@ -9,9 +9,9 @@ use borrow.Author.Needs.{needs}
 use lib.ListN.{getD, set, replicate}
 use Rattle.table.specs.Sum.{pick}
 use Rattle.table.specs.Format.{end, fork, is, kindOf, Table, tableOf, kind, codeAt, argumentAt, bodiesOf, bodiesFrom}
-use Rattle.table.specs.Accepted.{ContentRules, BodyRules, NestRules, ForkRules}
+use Rattle.table.specs.Rules.{ContentRules, BodyRules, NestRules, ForkRules}
 use Rattle.table.specs.Nested.{N}
-use Rattle.table.specs.Steps.{Nested}
+use Rattle.table.specs.Code.Steps.{Nested}
 use Rattle.table.proofs.Sizes.{Sizes, sizes}
 use Rattle.table.proofs.Bodies.{fork-below}
 use Rattle.table.proofs.NestedThreads.{nest-few}

@@ -10,7 +10,7 @@ use denote.Ref.{now}
 use lib.ListN.{getD}
 use Rattle.table.specs.Sum.{pick, sumTo, greatestTo}
 use Rattle.table.specs.Format.{alloc, free, fork, kindOf, is, codeAt, argumentAt}
-use Rattle.table.specs.Steps.{childAmount, amountAt, topOf, WalkReady, PeaksReady}
+use Rattle.table.specs.Code.Steps.{childAmount, amountAt, topOf, WalkReady, PeaksReady}
 use Rattle.table.proofs.Tests.{is-true}
 use Rattle.table.proofs.Sums.{sumTo-part}
 use Rattle.table.proofs.Walks.{Summed, sum-next, child-small}

@@ -8,10 +8,10 @@ use lib.ListN.{length, take, drop}
 use lib.Seq.{length-take-le}
 use Rattle.table.proofs.Parts.{rest-part}
 use Rattle.assembly.specs.Words.{inClass, wordsIn, wordsOf}
-use Rattle.assembly.specs.Steps.{Spans, FirstWord}
+use Rattle.assembly.specs.Code.Steps.{Spans, FirstWord}
 use Rattle.assembly.specs.declared.scan.Class.the-variants.{Plain}
 use Rattle.inputs.specs.Front.{Front, stepWith, stepOf}
-use Rattle.inputs.specs.Steps.{Stepping, frontIs, heldBy, Room}
+use Rattle.inputs.specs.Code.Steps.{Stepping, frontIs, heldBy, Room}
 use Rattle.inputs.specs.declared.front.Front.{Front as Kept}
 use Rattle.inputs.specs.declared.front.Step.the-variants.{Goes}
 use Rattle.inputs.proofs.Given.{stepping-as}

@@ -4,7 +4,7 @@ use Prim.Native.Nat.{ℕ}
 use mathlib.Core.Path.{_≡_, ap}
 use mathlib.Core.List.{List}
 use Rattle.inputs.specs.Front.{Order, orderedTo}
-use Rattle.inputs.specs.Steps.{Ordering, Stepping}
+use Rattle.inputs.specs.Code.Steps.{Ordering, Stepping}
 use Rattle.inputs.specs.declared.Wanted.{Wanted}
 use Rattle.inputs.specs.declared.order.Ordered.{Ordered}
 use Rattle.inputs.specs.declared.order.Ordered.the-variants.{Listed, Broken}

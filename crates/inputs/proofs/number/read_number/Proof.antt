@@ -12,7 +12,7 @@ use lib.ListN.{length, getD, drop, drop-of-length-le}
 use lib.Seq.{drop-cons}
 use Rattle.assembly.specs.Words.{isDigit, zeroLed}
 use Rattle.inputs.specs.Number.{nextValue, goesOn, valueFrom, numberIn}
-use Rattle.inputs.specs.Steps.{Numbered}
+use Rattle.inputs.specs.Code.Steps.{Numbered}
 use Rattle.inputs.specs.declared.number.Number.the-variants.{Value, NoNumber}
 use borrow.Author.Needs.{needs}
 use Rattle.inputs.proofs.number.read_number.Statement.{statement}

@@ -9,7 +9,7 @@ use lib.ListN.{length, take, set}
 use lib.Seq.{length-take-le, take-suc-set}
 use Rattle.inputs.specs.Number.{numberIn}
 use Rattle.inputs.specs.Front.{most8, maxOrder, added}
-use Rattle.inputs.specs.Steps.{Room, Ordering}
+use Rattle.inputs.specs.Code.Steps.{Room, Ordering}
 use Rattle.inputs.specs.declared.Wanted.the-variants.{Number as NumberTo, FewerWorkers}
 use Rattle.inputs.specs.declared.number.Number.the-variants.{Value, NoNumber}
 use Rattle.inputs.specs.declared.order.Ordered.the-variants.{Listed, Broken}

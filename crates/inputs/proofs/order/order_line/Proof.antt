@@ -7,9 +7,9 @@ use lib.ListN.{length, take, drop, length-drop, drop-of-length-le}
 use lib.Seq.{drop-drop}
 use Rattle.table.proofs.Parts.{rest-part}
 use Rattle.assembly.specs.Words.{parts, nonempty, wordsIn}
-use Rattle.assembly.specs.Steps.{FirstWord}
+use Rattle.assembly.specs.Code.Steps.{FirstWord}
 use Rattle.inputs.specs.Front.{Order, onwardOrder, added, orderFrom, maxOrder}
-use Rattle.inputs.specs.Steps.{Room, Ordering}
+use Rattle.inputs.specs.Code.Steps.{Room, Ordering}
 use Rattle.inputs.specs.declared.Wanted.{Wanted}
 use Rattle.inputs.specs.declared.order.Ordered.{Ordered}
 use Rattle.inputs.specs.declared.order.Ordered.the-variants.{Listed, Broken}

@@ -7,7 +7,7 @@ use lib.ListN.{length, take}
 use lib.Seq.{length-take-le}
 use Rattle.lines.proofs.Putting.{puts-none, puts-within}
 use Rattle.inputs.specs.Input.{frontTexts}
-use Rattle.inputs.specs.Steps.{Room, heldBy}
+use Rattle.inputs.specs.Code.Steps.{Room, heldBy}
 use Rattle.inputs.specs.declared.front.Front.{Front as Kept}
 use Rattle.inputs.specs.declared.front.Front.the-variants.{Turns}
 use borrow.Author.Needs.{needs}

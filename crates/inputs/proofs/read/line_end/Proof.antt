@@ -6,9 +6,9 @@ use denote.Ref.{now}
 use lib.ListN.{length, take, drop, length-drop}
 use Rattle.table.proofs.Parts.{rest-part}
 use Rattle.assembly.specs.Words.{inClass}
-use Rattle.assembly.specs.Steps.{Spans}
+use Rattle.assembly.specs.Code.Steps.{Spans}
 use Rattle.assembly.specs.declared.scan.Class.the-variants.{Line}
-use Rattle.inputs.specs.Steps.{Lined}
+use Rattle.inputs.specs.Code.Steps.{Lined}
 use borrow.Author.Needs.{needs}
 use Rattle.inputs.proofs.read.line_end.Statement.{statement}
 use Rattle.inputs.proofs.read.line_end.Tie as tie

@@ -15,7 +15,7 @@ use Rattle.schedule.specs.Machine.{ready, nobody}
 use Rattle.lent.specs.declared.Totals.{Totals}
 use Rattle.lent.specs.Arrays.{Arrays, arrays}
 use Rattle.lent.specs.Turn.{moved, unfit, nextFits, actOn}
-use Rattle.lent.specs.Steps.{At}
+use Rattle.lent.specs.Code.Steps.{At}
 use Rattle.lent.proofs.Leaves.{left-as, fits16, next-done, fits-and}
 use Rattle.schedule.specs.Links.{Links, linkLeft}
 use Rattle.lent.specs.Arrays.{linksOf, secondOf}

@@ -13,7 +13,7 @@ use Rattle.schedule.specs.Machine.{ended}
 use Rattle.lent.specs.declared.Totals.{Totals}
 use Rattle.lent.specs.Arrays.{Arrays, arrays, amountIn}
 use Rattle.lent.specs.Turn.{moved, unfit, nextFits, amountFits, actOn}
-use Rattle.lent.specs.Steps.{At}
+use Rattle.lent.specs.Code.Steps.{At}
 use Rattle.lent.proofs.Leaves.{left-as, fits16, fits64, next-done, fits-and}
 use borrow.Author.Needs.{needs}
 use Rattle.lent.proofs.act.act_joined.Statement.{statement}

@@ -12,7 +12,7 @@ use Rattle.schedule.specs.declared.Reply.the-variants.{Done}
 use Rattle.lent.specs.declared.Totals.{Totals}
 use Rattle.lent.specs.Arrays.{Arrays, arrays}
 use Rattle.lent.specs.Turn.{moved, unfit, nextFits, actOn}
-use Rattle.lent.specs.Steps.{At}
+use Rattle.lent.specs.Code.Steps.{At}
 use Rattle.lent.proofs.Leaves.{left-as, fits16, next-done, fits-next}
 use borrow.Author.Needs.{needs}
 use Rattle.lent.proofs.act.act_work.Statement.{statement}

@@ -9,8 +9,8 @@ use Rattle.schedule.specs.declared.Beginning.the-variants.{Begun as started}
 use Rattle.schedule.specs.Begin.{begin}
 use Rattle.schedule.specs.Turn.{unsound, rootEnded, turned}
 use Rattle.schedule.specs.Listing.{turnsBy, listTurns}
-use Rattle.schedule.proofs.Tests.{sound-exactly}
-use Rattle.schedule.proofs.Histories.{begin-sound}
+use Rattle.schedule.proofs.Sound.Tests.{sound-exactly}
+use Rattle.schedule.proofs.Runs.Histories.{begin-sound}
 use Rattle.listing.specs.Listing.{listedBy}
 use Rattle.lines.proofs.Putting.{puts-more, puts-within}
 use Rattle.listing.proofs.turns.put_listing.Statement.{statement}

@@ -7,7 +7,7 @@ use native.Mathlib.Omega.{arith}
 use borrow.Author.Needs.{needs}
 use Rattle.table.specs.Sum.{greatestTo}
 use Rattle.table.specs.Format.{threadsOf, actionsOf, tableOf}
-use Rattle.table.specs.Rules.{allocOf}
+use Rattle.table.specs.Checks.{allocOf}
 use Rattle.quota.specs.Quota.{leastQuota}
 use Rattle.quota.proofs.allocs.least_quota.Statement.{statement}
 use Rattle.quota.proofs.allocs.least_quota.Tie as tie

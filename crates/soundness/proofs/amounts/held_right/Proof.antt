@@ -9,12 +9,12 @@ use denote.Ref.{now}
 use lib.ListN.{getD}
 use lib.Dec.{eqb, leb}
 use Rattle.table.specs.Format.{tableOf}
-use Rattle.table.specs.Rules.{endOf, countsBelow, allocOf, freeOf}
-use Rattle.table.specs.Accepted.{ContentRules}
+use Rattle.table.specs.Checks.{endOf, countsBelow, allocOf, freeOf}
+use Rattle.table.specs.Rules.{ContentRules}
 use Rattle.table.proofs.Bodies.{first-is, body-within}
 use Rattle.schedule.specs.Sound.{sumDoneIn, heldRight}
-use Rattle.soundness.specs.Checks.{Accepted, Placed, doneTo}
-use Rattle.soundness.specs.Adding.{Adds, Added}
+use Rattle.soundness.specs.Code.Checks.{Accepted, Placed, doneTo}
+use Rattle.soundness.specs.Code.Adding.{Adds, Added}
 use Rattle.soundness.specs.declared.amounts.Sums.{Sums}
 use Rattle.soundness.proofs.Lookups.{thread-below, accepted-body, placed}
 use Rattle.soundness.proofs.DoneSums.{Undone, Counted, undone-low, undone-high, counted-first, counted-next, counted-last}

@@ -8,11 +8,11 @@ use borrow.Author.Needs.{needs}
 use denote.Ref.{now}
 use Rattle.table.specs.Sum.{sumTo}
 use Rattle.table.specs.Format.{Kind, kindOf, Table, kind, tableOf}
-use Rattle.table.specs.Rules.{allocOf, freeOf}
-use Rattle.table.specs.Steps.{Read, ownAmount}
+use Rattle.table.specs.Checks.{allocOf, freeOf}
+use Rattle.table.specs.Code.Steps.{Read, ownAmount}
 use Rattle.table.proofs.Walks.{own-small}
-use Rattle.soundness.specs.Checks.{Accepted}
-use Rattle.soundness.specs.Adding.{Adds, Added}
+use Rattle.soundness.specs.Code.Checks.{Accepted}
+use Rattle.soundness.specs.Code.Adding.{Adds, Added}
 use Rattle.soundness.specs.declared.amounts.Sums.{Sums}
 use Rattle.soundness.proofs.Lookups.{accepted-lawful, code-read, argument-read}
 use Rattle.soundness.proofs.amounts.thread_sums.Statement.{statement}

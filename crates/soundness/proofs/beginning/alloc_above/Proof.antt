@@ -7,7 +7,7 @@ use native.Mathlib.Omega.{arith}
 use denote.Ref.{now}
 use lib.Dec.{ltb, eqb}
 use Rattle.table.specs.Format.{kindOf, Table, tableOf}
-use Rattle.table.specs.Rules.{allocOf}
+use Rattle.table.specs.Checks.{allocOf}
 use Rattle.table.proofs.Walks.{is-code}
 use Rattle.table.proofs.Parts.{code-from, argument-from}
 use Rattle.schedule.specs.Begin.{allocAbove}

@@ -8,8 +8,8 @@ use borrow.Author.Needs.{needs}
 use denote.Ref.{now}
 use Rattle.table.specs.Format.{Table, threadsOf, actionsOf, tableOf}
 use Rattle.table.specs.Pass.{Check, orElse, refusal, tryAt, tryFrom, tryPass, firstFound}
-use Rattle.table.specs.Rules.{outside}
-use Rattle.table.specs.Steps.{Read}
+use Rattle.table.specs.Checks.{outside}
+use Rattle.table.specs.Code.Steps.{Read}
 use Rattle.table.specs.declared.Found.the-variants.{Nothing, At}
 use Rattle.table.proofs.Trying.{tryFrom-next, tryFrom-here, tryFrom-last, tryFrom-all}
 use Rattle.schedule.specs.Begin.{allocAbove, beginPasses}

@@ -9,10 +9,10 @@ use denote.Ref.{now}
 use lib.ListN.{replicate}
 use Rattle.table.specs.Sum.{sumTo}
 use Rattle.table.specs.Format.{tableOf}
-use Rattle.table.specs.Rules.{owner, countsBelow}
+use Rattle.table.specs.Checks.{owner, countsBelow}
 use Rattle.table.proofs.Bodies.{first-is, counts-all, owner-is}
 use Rattle.soundness.specs.Tested.{parentsIn}
-use Rattle.soundness.specs.Checks.{Accepted, Forks, Noted}
+use Rattle.soundness.specs.Code.Checks.{Accepted, Forks, Noted}
 use Rattle.soundness.proofs.Lookups.{Body, accepted-lawful, thread-below, accepted-body}
 use Rattle.soundness.proofs.Noting.{noted-none, noted-forks, noted-parents}
 use Rattle.soundness.proofs.bodies.fill_forks.Statement.{statement}

@@ -6,8 +6,8 @@ use native.Mathlib.Omega.{arith}
 use denote.Ref.{now}
 use Rattle.table.specs.Format.{tableOf}
 use Rattle.schedule.specs.Sound.{allBelow, inOrder}
-use Rattle.schedule.proofs.Lawful.{lawful}
-use Rattle.soundness.specs.Checks.{Accepted, bodyInOrder}
+use Rattle.schedule.proofs.Tables.Lawful.{lawful}
+use Rattle.soundness.specs.Code.Checks.{Accepted, bodyInOrder}
 use Rattle.soundness.proofs.Every.{Passed, passed-none, passed-next, passed-stop, passed-all}
 use Rattle.soundness.proofs.Done.{by-bodies}
 use Rattle.soundness.proofs.bodies.in_order.Statement.{statement}

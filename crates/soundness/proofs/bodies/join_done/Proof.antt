@@ -6,10 +6,10 @@ use mathlib.Core.Bool.{Bool, true}
 use borrow.Author.Needs.{needs}
 use denote.Ref.{now}
 use Rattle.table.specs.Format.{tableOf}
-use Rattle.table.specs.Rules.{owner, endOf}
+use Rattle.table.specs.Checks.{owner, endOf}
 use Rattle.table.proofs.Bodies.{owner-of-end, join-below}
 use Rattle.schedule.specs.Sound.{doneIn}
-use Rattle.soundness.specs.Checks.{Accepted, doneAt, joinDone}
+use Rattle.soundness.specs.Code.Checks.{Accepted, doneAt, joinDone}
 use Rattle.soundness.proofs.Lookups.{accepted-lawful, code-read, argument-read, body, join-code, is-join, not-join}
 use Rattle.soundness.proofs.bodies.join_done.Statement.{statement}
 use Rattle.soundness.proofs.bodies.join_done.Tie as tie

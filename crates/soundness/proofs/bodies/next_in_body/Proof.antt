@@ -9,9 +9,9 @@ use denote.Ref.{now}
 use lib.Dec.{leb}
 use lib.ListN.{getD}
 use Rattle.table.specs.Format.{tableOf}
-use Rattle.table.specs.Rules.{endOf}
+use Rattle.table.specs.Checks.{endOf}
 use Rattle.schedule.specs.Sound.{nextInBody}
-use Rattle.schedule.proofs.Lawful.{lawful}
+use Rattle.schedule.proofs.Tables.Lawful.{lawful}
 use Rattle.soundness.proofs.Lookups.{body}
 use Rattle.soundness.proofs.bodies.next_in_body.Statement.{statement}
 use Rattle.soundness.proofs.bodies.next_in_body.Tie as tie

@@ -10,13 +10,13 @@ use denote.Ref.{now}
 use lib.Dec.{leb, eqb}
 use lib.ListN.{getD}
 use Rattle.table.specs.Format.{tableOf}
-use Rattle.table.specs.Rules.{endOf}
-use Rattle.table.specs.Accepted.{Rules}
+use Rattle.table.specs.Checks.{endOf}
+use Rattle.table.specs.Rules.{Rules}
 use Rattle.schedule.specs.Machine.{unborn, ended}
 use Rattle.schedule.specs.Sound.{agree, statusFollows}
-use Rattle.schedule.proofs.Lawful.{lawful}
+use Rattle.schedule.proofs.Tables.Lawful.{lawful}
 use Rattle.schedule.specs.Parents.{Parents}
-use Rattle.soundness.specs.Checks.{Forks, unbornIn, unbornAt}
+use Rattle.soundness.specs.Code.Checks.{Forks, unbornIn, unbornAt}
 use Rattle.soundness.proofs.Lookups.{body}
 use Rattle.soundness.proofs.Every.{beq-agree}
 use Rattle.soundness.proofs.Noting.{few, unborn-noted}

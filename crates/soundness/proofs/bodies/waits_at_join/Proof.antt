@@ -13,7 +13,7 @@ use Rattle.table.specs.Format.{join, kind, tableOf}
 use Rattle.table.proofs.Bodies.{join-below}
 use Rattle.schedule.specs.Machine.{waiting, ended}
 use Rattle.schedule.specs.Sound.{waitsAtJoin}
-use Rattle.soundness.specs.Checks.{Accepted, Placed}
+use Rattle.soundness.specs.Code.Checks.{Accepted, Placed}
 use Rattle.soundness.proofs.Lookups.{Body, accepted-lawful, accepted-body, code-read, argument-read, join-code, is-join, not-join, placed}
 use Rattle.soundness.proofs.bodies.waits_at_join.Statement.{statement}
 use Rattle.soundness.proofs.bodies.waits_at_join.Tie as tie

@@ -3,7 +3,7 @@ use mathlib.Core.Path.{_≡_, refl, sym, _∙_}
 use Prim.Native.Nat.{ℕ}
 use mathlib.Core.List.{List}
 use mathlib.Core.Bool.{Bool, true, false, _&&_, _||_, and-assoc}
-use borrow.Author.Tests.{le-leb, lt-leb}
+use borrow.Author.Tests.{not-false, eq-eqb, le-leb, lt-leb}
 use denote.Ref.{now}
 use lib.ListN.{length}
 use lib.Dec.{ltb, leb, eqb}
@@ -16,16 +16,17 @@ use Rattle.schedule.specs.declared.Worker.{Worker}
 use Rattle.schedule.specs.Record.{setOf}
 use Rattle.schedule.specs.Begin.{beginPasses}
 use Rattle.schedule.specs.Sound.{allBelow, nextInBody, inOrder, statusFollows, waitsAtJoin, unused, oneHolder, workerRight, heldRight, sharesIn, sameList, common, commonSound}
-use Rattle.soundness.specs.Checks.{Accepted, threadsSound, holdersSound}
+use Rattle.soundness.specs.Code.Checks.{Accepted, threadsSound, holdersSound}
 use Rattle.soundness.proofs.Lookups.{few-threads}
-use Rattle.soundness.proofs.Chains.{off, on, cut, stop, pass, first-of}
+use Rattle.soundness.proofs.Chains.{off, on, cut, stop, pass, skip, first-of}
 use borrow.Author.Needs.{needs}
 use Rattle.soundness.proofs.common.common_holds.Statement.{statement}
 use Rattle.soundness.proofs.common.common_holds.Tie as tie
 
-regroup : (a b c d e f g h m i j : Bool)
-    → ((a && (b && (c && (d && e)))) && ((f && g) && (h && (m && (i && j))))) ≡ ((a && (b && (c && (d && (e && (f && (g && (h && (m && i))))))))) && j)
-regroup a b c d e f g h m i j = simp and-assoc
+regroup : (x y z a b c d e f g h m i j : Bool)
+    → (x && (y && (z && ((a && (b && (c && (d && e)))) && ((f && g) && (h && (m && (i && j))))))))
+    ≡ ((x && (y && (z && (a && (b && (c && (d && (e && (f && (g && (h && (m && i)))))))))))) && j)
+regroup x y z a b c d e f g h m i j = simp and-assoc
 
 module _ (s : List ℕ) (n p K : ℕ) (next status amounts : List ℕ) (workers : List Worker) (set amount highest : ℕ) (k : Accepted s n) where
   abbrev T : Table
@@ -42,20 +43,32 @@ module _ (s : List ℕ) (n p K : ℕ) (next status amounts : List ℕ) (workers 
   unfolding commonSound
   no-begin h = rw (passes-rules s .1 (k .rules), h) refl
 
-  in-parts : length next ≡ 1024 → length status ≡ 1024 → length workers ≡ 16 → n ≡ tableOf s .threads
-      → tests ≡ (common (tableOf s) p K next status amounts workers amount highest && eqb set (setOf workers))
+  -- and with the sizes
+  abbrev sizedTests : Bool
+  sizedTests = eqb (length next) 1024 && (eqb (length status) 1024 && (eqb (length workers) 16 && tests))
+
+  in-parts : n ≡ tableOf s .threads → sizedTests ≡ (common (tableOf s) p K next status amounts workers amount highest && eqb set (setOf workers))
   unfolding common
-  in-parts a b c d =
-      rw (a, b, c, d)
-      (regroup (allBelow (nextInBody T next) (T .threads)) (allBelow (inOrder T next status) (T .actions)) (allBelow (statusFollows T next status) (T .threads))
+  in-parts d =
+      rw d
+      (regroup (eqb (length next) 1024) (eqb (length status) 1024) (eqb (length workers) 16)
+      (allBelow (nextInBody T next) (T .threads)) (allBelow (inOrder T next status) (T .actions)) (allBelow (statusFollows T next status) (T .threads))
       (allBelow (waitsAtJoin T next status) (T .threads)) (allBelow (λ t. ltb t (T .threads) || unused next status t) 1024)
       (allBelow (oneHolder status workers) (T .threads)) (allBelow (workerRight (T .threads) p K workers) 16) (heldRight T next status amount) (sameList amounts (sharesIn T next status)) (leb amount highest)
       (eqb set (setOf workers)))
 
-  begins : length next ≡ 1024 → length status ≡ 1024 → length workers ≡ 16
-      → firstFound (beginPasses (tableOf s) p K) ≡ Nothing → {r : Bool} → r ≡ tests → r ≡ commonSound s p K next status amounts workers set amount highest
-  unfolding commonSound
-  begins a b c h e = rw (passes-rules s .1 (k .rules), h) (e ∙ in-parts a b c (k .threads))
+  module _ (h : firstFound (beginPasses (tableOf s) p K) ≡ Nothing) where
+    begins : sizedTests ≡ commonSound s p K next status amounts workers set amount highest
+    unfolding commonSound
+    begins = rw (passes-rules s .1 (k .rules), h) (in-parts (k .threads))
+
+    -- threads that are not sound are none of any size
+    no-threads : threadsSound (tableOf s) n next status ≡ false → false ≡ commonSound s p K next status amounts workers set amount highest
+    no-threads e = skip (eqb (length next) 1024) (skip (eqb (length status) 1024) (skip (eqb (length workers) 16) (cut _ e))) ∙ begins
+
+    sized : length next ≡ 1024 → length status ≡ 1024 → length workers ≡ 16
+        → {r : Bool} → r ≡ tests → r ≡ commonSound s p K next status amounts workers set amount highest
+    sized a b c e = pass (eq-eqb (length next) 1024 a) (pass (eq-eqb (length status) 1024 b) (pass (eq-eqb (length workers) 16 c) e)) ∙ begins
 
 -- ---- the tests that held, at the function's places
 
@@ -80,21 +93,19 @@ abbrev left1 : tie.Start → Bool
 left1 s = holdersSound (s .args .n) (s .args .p) (s .args .quota) (now (s .args .status)) (s .args .workers) && left2 s
 
 threads-held : (c : tie.Else1) → threadsSound (tableOf (now (start (c .before .before) .args .table))) (start (c .before .before) .args .n) (now (start (c .before .before) .args .next)) (now (start (c .before .before) .args .status)) ≡ true
-threads-held c = on (c .before .threads-sound .ensures) (c .if1 .left)
+threads-held c = on (c .before .threads-sound .ensures .0) (c .if1 .left)
 
 worker-size : (s : tie.Start) → length (s .args .workers) ≡ 16
 worker-size s = search needs
 
-begun : (c : tie.After-enum-told2) {r : Bool}
-    → r ≡ (threadsSound (tableOf (now (start c .args .table))) (start c .args .n) (now (start c .args .next)) (now (start c .args .status)) && left1 (start c))
-    → Goal (start c) r
-begun c h =
-    let s = start c in
-    begins _ _ _ _ _ _ _ _ _ _ _ (s .pre .0) (s .pre .1 .1 .1 .0) (s .pre .1 .1 .1 .1) (worker-size s)
-    (sym (c .before .before .begin-fault .ensures) ∙ c .enum-told2 .given .1) h
+begun : (c : tie.After-enum-told2) → firstFound (beginPasses (tableOf (now (start c .args .table))) (start c .args .p) (start c .args .quota)) ≡ Nothing
+begun c = sym (c .before .before .begin-fault .ensures) ∙ c .enum-told2 .given .1
 
 after1 : (c : tie.Else1) {r : Bool} → r ≡ left1 (start (c .before .before)) → Goal (start (c .before .before)) r
-after1 c h = begun (c .before .before) (pass (threads-held c) h)
+after1 c h =
+    let s = start (c .before .before) in
+    let z = c .before .threads-sound .ensures .1 (not-false _ (c .if1 .left)) in
+    sized _ _ _ _ _ _ _ _ _ _ _ (s .pre .0) (begun (c .before .before)) (z .0) (z .1) (worker-size s) (pass (threads-held c) h)
 
 after2 : (c : tie.Else2) {r : Bool} → r ≡ left2 (start (c .before .before .before .before)) → Goal (start (c .before .before .before .before)) r
 after2 c h = after1 (c .before .before) (pass (on (c .before .holders-sound .ensures) (c .if2 .left)) h)
@@ -102,8 +113,8 @@ after2 c h = after1 (c .before .before) (pass (on (c .before .holders-sound .ens
 after3 : (c : tie.Else3) {r : Bool} → r ≡ left3 (start (c .before .before .before .before .before .before)) → Goal (start (c .before .before .before .before .before .before)) r
 after3 c h = after2 (c .before .before) (pass (on (c .before .held-right .ensures) (c .if3 .left)) h)
 
-after4 : (c : tie.Else4) {r : Bool} → r ≡ left4 (start (c .before .before .before .before .before .before .before .before)) → Goal (start (c .before .before .before .before .before .before .before .before)) r
-after4 c h = after3 (c .before .before) (pass (on (c .before .amounts-right .ensures) (c .if4 .left)) h)
+after4 : (c : tie.Else4) {r : Bool} → r ≡ left4 (start (c .before .before .before .before .before .before .before .before .before)) → Goal (start (c .before .before .before .before .before .before .before .before .before)) r
+after4 c h = after3 (c .before .before .before) (pass (on (c .before .amounts-right .ensures) (c .if4 .left)) h)
 
 -- ---- the needs
 
@@ -125,7 +136,9 @@ threads-sound-requires : tie.Need-threads-sound-requires
 threads-sound-requires c κs = search needs
 
 returns-2 : tie.Need-returns-2
-returns-2 c = begun (c .before .before) (cut _ (off (c .before .threads-sound .ensures) (c .if1 .taken)))
+returns-2 c =
+    let d = c .before .before in
+    no-threads _ _ _ _ _ _ _ _ _ _ _ (start d .pre .0) (begun d) (off (c .before .threads-sound .ensures .0) (c .if1 .taken))
 
 holders-sound-requires : tie.Need-holders-sound-requires
 holders-sound-requires c κs = few-threads (start (c .before .before) .pre .0)
@@ -143,12 +156,11 @@ returns-4 c = after2 (c .before .before) (cut _ (off (c .before .held-right .ens
 
 amounts-right-requires : tie.Need-amounts-right-requires
 amounts-right-requires c κs =
-    let d = c .before .before .before .before in
-    let s = start (d .before .before) in
-    (s .pre .0, (threads-held d, s .pre .1 .1 .1 .2))
+    let d = c .before .before .before .before .before in
+    (start (d .before .before) .pre .0, threads-held d)
 
 returns-5 : tie.Need-returns-5
-returns-5 c = after3 (c .before .before) (cut _ (off (c .before .amounts-right .ensures) (c .if4 .taken)))
+returns-5 c = after3 (c .before .before .before) (cut _ (off (c .before .amounts-right .ensures) (c .if4 .taken)))
 
 busy-right-requires : tie.Need-busy-right-requires
 busy-right-requires c κs = search needs

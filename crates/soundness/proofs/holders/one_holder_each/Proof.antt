@@ -16,9 +16,9 @@ use Rattle.table.specs.Sum.{pick, sumTo}
 use Rattle.schedule.specs.declared.Worker.{Worker}
 use Rattle.schedule.specs.Machine.{nobody}
 use Rattle.schedule.specs.Sound.{allBelow, countBelow, holdsThread, oneHolder}
-use Rattle.schedule.proofs.CountBelow.{count-bound}
-use Rattle.schedule.proofs.Lists.{getD-alike}
-use Rattle.soundness.specs.Checks.{holdersWanted}
+use Rattle.schedule.proofs.Sequences.CountBelow.{count-bound}
+use Rattle.schedule.proofs.Sequences.Lists.{getD-alike}
+use Rattle.soundness.specs.Code.Checks.{holdersWanted}
 use Rattle.soundness.proofs.Every.{all-cong}
 use Rattle.soundness.proofs.holders.one_holder_each.Statement.{statement}
 use Rattle.soundness.proofs.holders.one_holder_each.Tie as tie

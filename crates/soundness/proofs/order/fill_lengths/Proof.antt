@@ -9,7 +9,7 @@ use lib.ListN.{length, getD, set, length-set}
 use lib.Seq.{getD-set-same, getD-set-other}
 use Rattle.table.specs.Format.{Table, tableOf}
 use Rattle.table.specs.Serial.{serial}
-use Rattle.soundness.specs.Checks.{Accepted, Lengths}
+use Rattle.soundness.specs.Code.Checks.{Accepted, Lengths}
 use Rattle.soundness.proofs.Lookups.{few-threads}
 use Rattle.soundness.proofs.order.fill_lengths.Statement.{statement}
 use Rattle.soundness.proofs.order.fill_lengths.Tie as tie

@@ -4,7 +4,7 @@ use native.Mathlib.Omega.{arith}
 use borrow.Author.Needs.{needs}
 use denote.Ref.{now}
 use Rattle.table.specs.Format.{tableOf}
-use Rattle.soundness.specs.Order.{Numbering}
+use Rattle.soundness.specs.Code.Order.{Numbering}
 use Rattle.soundness.proofs.Lookups.{accepted-lawful}
 use Rattle.soundness.proofs.Marks.{numbering-starts, numbering-ends}
 use Rattle.soundness.proofs.order.fill_numbers.Statement.{statement}

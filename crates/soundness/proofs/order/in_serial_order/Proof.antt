@@ -12,9 +12,9 @@ use lib.ListN.{length, getD, take}
 use lib.Seq.{getD-take, length-take-le}
 use Rattle.table.specs.Format.{tableOf}
 use Rattle.schedule.specs.Sound.{allIn, rises, inSerialOrder}
-use Rattle.schedule.proofs.Words.{allIn-exactly}
-use Rattle.schedule.proofs.Lists.{getD-member}
-use Rattle.soundness.specs.Checks.{Accepted, Numbers}
+use Rattle.schedule.proofs.Sequences.Words.{allIn-exactly}
+use Rattle.schedule.proofs.Sequences.Lists.{getD-member}
+use Rattle.soundness.specs.Code.Checks.{Accepted, Numbers}
 use Rattle.soundness.proofs.Lookups.{few-threads}
 use Rattle.soundness.proofs.order.in_serial_order.Statement.{statement}
 use Rattle.soundness.proofs.order.in_serial_order.Tie as tie
@@ -50,13 +50,13 @@ fill-numbers-requires c κs = search needs
 
 rising-requires : tie.Need-rising-requires
 rising-requires c κs =
-    let d = c .before .before .before .before .before .before in
+    let d = c .before .before .before .before .before .before .before in
     let (f, e, a) = d .pre .1 .1 in
     ((f, e), below (now (d .args .table)) _ (now (d .args .next)) (now (d .args .list)) _ (d .pre .0) a f e)
 
 returns : tie.Need-returns
 returns c =
-    let d = c .before .before .before .before .before .before .before in
+    let d = c .before .before .before .before .before .before .before .before in
     c .rising .ensures
     ∙ same (now (d .args .table)) _ (now (d .args .next)) (now (d .args .list)) (d .args .len) (d .pre .0) (d .pre .1 .1 .2) _ (c .before .before .fill-numbers .ensures)
 

@@ -7,10 +7,10 @@ use borrow.Author.Needs.{needs}
 use denote.Ref.{now}
 use lib.ListN.{getD, set}
 use Rattle.table.specs.Format.{tableOf}
-use Rattle.table.specs.Rules.{owner, endOf}
-use Rattle.schedule.proofs.Lawful.{Lawful}
-use Rattle.soundness.specs.Checks.{Accepted, Placed}
-use Rattle.soundness.specs.Order.{Walked, Numbering}
+use Rattle.table.specs.Checks.{owner, endOf}
+use Rattle.schedule.proofs.Tables.Lawful.{Lawful}
+use Rattle.soundness.specs.Code.Checks.{Accepted, Placed}
+use Rattle.soundness.specs.Code.Order.{Walked, Numbering}
 use Rattle.soundness.proofs.Lookups.{Body, accepted-lawful, thread-below, accepted-body, placed}
 use Rattle.soundness.proofs.Marks.{walked-owner, walked-small, walked-stored, numbering-first, numbering-walked, numbering-next}
 use Rattle.soundness.proofs.order.number_thread.Statement.{statement}

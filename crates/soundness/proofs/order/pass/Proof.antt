@@ -7,10 +7,10 @@ use borrow.Author.Needs.{needs}
 use denote.Ref.{now}
 use lib.ListN.{getD, set}
 use Rattle.table.specs.Format.{fork, kind, tableOf}
-use Rattle.table.specs.Rules.{owner, endOf}
-use Rattle.schedule.proofs.Lawful.{Lawful}
-use Rattle.soundness.specs.Checks.{Accepted}
-use Rattle.soundness.specs.Order.{Inside, Walked}
+use Rattle.table.specs.Checks.{owner, endOf}
+use Rattle.schedule.proofs.Tables.Lawful.{Lawful}
+use Rattle.soundness.specs.Code.Checks.{Accepted}
+use Rattle.soundness.specs.Code.Order.{Inside, Walked}
 use Rattle.soundness.proofs.Lookups.{accepted-lawful, code-read, argument-read, fork-code, not-fork}
 use Rattle.soundness.proofs.Spans.{inside-within, inside-fork, child-small}
 use Rattle.soundness.proofs.Marks.{walked-inside, walked-small, walked-step, walked-fork}

@@ -7,11 +7,11 @@ use borrow.Author.Needs.{needs}
 use denote.Ref.{now}
 use lib.ListN.{length, getD}
 use Rattle.table.specs.Format.{fork, kind, tableOf}
-use Rattle.table.specs.Rules.{owner}
+use Rattle.table.specs.Checks.{owner}
 use Rattle.table.specs.Serial.{serial}
-use Rattle.schedule.proofs.Lawful.{Lawful}
-use Rattle.soundness.specs.Checks.{Accepted, Lengths}
-use Rattle.soundness.specs.Order.{Inside}
+use Rattle.schedule.proofs.Tables.Lawful.{Lawful}
+use Rattle.soundness.specs.Code.Checks.{Accepted, Lengths}
+use Rattle.soundness.specs.Code.Order.{Inside}
 use Rattle.soundness.proofs.Lookups.{accepted-lawful, code-read, argument-read, fork-code, not-fork}
 use Rattle.soundness.proofs.Spans.{inside-fork, span-step, span-fork, child-small}
 use Rattle.soundness.proofs.order.span.Statement.{statement}

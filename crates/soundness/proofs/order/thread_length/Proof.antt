@@ -7,13 +7,13 @@ use borrow.Author.Needs.{needs}
 use denote.Ref.{now}
 use lib.ListN.{length}
 use Rattle.table.specs.Format.{tableOf}
-use Rattle.table.specs.Rules.{owner, endOf}
+use Rattle.table.specs.Checks.{owner, endOf}
 use Rattle.table.specs.Serial.{serial}
-use Rattle.table.specs.Steps.{Read}
+use Rattle.table.specs.Code.Steps.{Read}
 use Rattle.table.proofs.Bodies.{first-within}
-use Rattle.schedule.proofs.Lawful.{Lawful}
-use Rattle.soundness.specs.Checks.{Accepted, Lengths}
-use Rattle.soundness.specs.Order.{Inside}
+use Rattle.schedule.proofs.Tables.Lawful.{Lawful}
+use Rattle.soundness.specs.Code.Checks.{Accepted, Lengths}
+use Rattle.soundness.specs.Code.Order.{Inside}
 use Rattle.soundness.proofs.Lookups.{accepted-lawful, thread-below, accepted-body}
 use Rattle.soundness.proofs.Spans.{inside-owner, end-length, length-small}
 use Rattle.soundness.proofs.order.thread_length.Statement.{statement}

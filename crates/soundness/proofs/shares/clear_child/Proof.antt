@@ -10,9 +10,9 @@ use lib.ListN.{set}
 use Rattle.table.specs.Format.{tableOf}
 use Rattle.table.proofs.Bodies.{join-below}
 use Rattle.schedule.specs.Sound.{doneIn}
-use Rattle.schedule.proofs.Lawful.{Lawful}
-use Rattle.soundness.specs.Checks.{Accepted}
-use Rattle.soundness.specs.Balancing.{Cleared}
+use Rattle.schedule.proofs.Tables.Lawful.{Lawful}
+use Rattle.soundness.specs.Code.Checks.{Accepted}
+use Rattle.soundness.specs.Code.Balancing.{Cleared}
 use Rattle.soundness.proofs.Lookups.{accepted-lawful, code-read, argument-read, join-code, not-join}
 use Rattle.soundness.proofs.Clearing.{cleared-join, cleared-other}
 use Rattle.soundness.proofs.shares.clear_child.Statement.{statement}

@@ -4,13 +4,12 @@ use Prim.Native.Nat.{ℕ, _+_, _-_, _≤_, _<_}
 use mathlib.Core.List.{List}
 use mathlib.Core.Bool.{true}
 use native.Mathlib.Omega.{arith}
-use borrow.Author.Needs.{needs}
 use denote.Ref.{now}
 use lib.ListN.{getD, set, replicate}
 use Rattle.table.specs.Format.{tableOf}
 use Rattle.table.proofs.Walks.{argument-small}
-use Rattle.soundness.specs.Checks.{Accepted, doneTo, threadsSound}
-use Rattle.soundness.specs.Balancing.{Balances, Balancing, Balanced}
+use Rattle.soundness.specs.Code.Checks.{Accepted, doneTo, threadsSound}
+use Rattle.soundness.specs.Code.Balancing.{Balances, Balancing, Balanced}
 use Rattle.soundness.proofs.Lookups.{few-threads}
 use Rattle.soundness.proofs.Balancing.{balances-none, balancing, balances-next}
 use Rattle.soundness.proofs.shares.fill_balances.Statement.{statement}

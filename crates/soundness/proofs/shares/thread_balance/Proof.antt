@@ -4,7 +4,7 @@ use Prim.Native.Nat.{_-_}
 use native.Mathlib.Omega.{arith}
 use borrow.Author.Needs.{needs}
 use denote.Ref.{now}
-use Rattle.soundness.specs.Balancing.{Balancing, Balanced}
+use Rattle.soundness.specs.Code.Balancing.{Balancing, Balanced}
 use Rattle.soundness.proofs.Balancing.{balanced-none}
 use Rattle.soundness.proofs.shares.thread_balance.Statement.{statement}
 use Rattle.soundness.proofs.shares.thread_balance.Tie as tie

@@ -11,7 +11,7 @@ use lib.Dec.{leb, eqb}
 use Rattle.table.specs.Format.{Table, tableOf}
 use Rattle.schedule.specs.Links.{Links, walk, laid, firstOf}
 use Rattle.schedule.specs.Sound.{listed, sameLinks, sameList}
-use Rattle.soundness.specs.Checks.{linksSound}
+use Rattle.soundness.specs.Code.Checks.{linksSound}
 use Rattle.soundness.proofs.Chains.{off, on, cut, pass, skip, last}
 use Rattle.soundness.proofs.Reading.{row-fits, row-size, row-front, leftmost-right, leftmost-wrong}
 use Rattle.soundness.proofs.sound.links_sound.Statement.{statement}
@@ -59,8 +59,8 @@ read-row-requires c κs = search needs
 
 list-sound-requires : tie.Need-list-sound-requires
 list-sound-requires c κs =
-    let k = c .before in
-    let s = k .before .before .before in
+    let k = c .before .before in
+    let s = k .before .before .before .before in
     let right = now (s .args .right) in
     let t = s .args .leftmost in
     (s .pre .0, (s .pre .1, (row-fits right t (k .read-row .ensures .0) (k .read-row .ensures .1), row-size right t (k .read-row .ensures .0) (k .read-row .ensures .1))))
@@ -68,8 +68,8 @@ list-sound-requires c κs =
 returns : tie.Need-returns
 returns c =
     let l = c .before in
-    let k = l .before .before in
-    let s = k .before .before .before in
+    let k = l .before .before .before in
+    let s = k .before .before .before .before in
     not-listed _ _ _ (now (s .args .left)) (now (s .args .right)) (s .args .leftmost) (k .read-row .ensures .0) (k .read-row .ensures .1) (l .list-sound .ensures) (c .if1 .taken)
 
 describe-requires : tie.Need-describe-requires
@@ -79,14 +79,14 @@ returns-2 : tie.Need-returns-2
 returns-2 c =
     let m = c .before .before in
     let l = m .before .before in
-    let k = l .before .before in
-    let s = k .before .before .before in
+    let k = l .before .before .before in
+    let s = k .before .before .before .before in
     by-links _ _ _ (now (s .args .left)) (now (s .args .right)) (s .args .leftmost) (k .read-row .ensures .0) (k .read-row .ensures .1) (l .list-sound .ensures)
     (m .before .if1 .left) (m .if2 .taken) (c .describe .ensures)
 
 returns-3 : tie.Need-returns-3
 returns-3 c =
-    let s = c .before .before .before .before .before .before .before in
+    let s = c .before .before .before .before .before .before .before .before .before in
     not-leftmost (tableOf (now (s .args .table))) (now (s .args .next)) (now (s .args .status)) (now (s .args .left)) (now (s .args .right)) (s .args .leftmost) (c .if2 .left)
 
 pub links-sound-spec : {M : Type 1} → statement M

@@ -27,13 +27,15 @@ returns c = let s = c .before .before .before in both _ _ _ _ _ (s .pre .0 .thre
 
 in-serial-order-requires : tie.Need-in-serial-order-requires
 in-serial-order-requires c κs =
-    let s = c .before .before .before in
-    (s .pre .0, (s .pre .1 .0, (s .pre .1 .1 .0, s .pre .1 .1 .1, second-of (allBelow (listFollows (now (s .args .status)) (take (s .args .len) (now (s .args .list)))) (s .args .n)) _ (on (c .before .list-follows .ensures) (c .if1 .left)))))
+    let e = c .before in
+    let s = e .before .before .before in
+    (s .pre .0, (s .pre .1 .0, (s .pre .1 .1 .0, s .pre .1 .1 .1, second-of (allBelow (listFollows (now (s .args .status)) (take (s .args .len) (now (s .args .list)))) (s .args .n)) _ (on (e .before .list-follows .ensures) (e .if1 .left)))))
 
 returns-2 : tie.Need-returns-2
 returns-2 c =
-    let s = c .before .before .before .before in
-    both _ _ _ _ _ (s .pre .0 .threads) (pass (on (c .before .before .list-follows .ensures) (c .before .if1 .left)) (c .in-serial-order .ensures))
+    let e = c .before .before in
+    let s = e .before .before .before in
+    both _ _ _ _ _ (s .pre .0 .threads) (pass (on (e .before .list-follows .ensures) (e .if1 .left)) (c .in-serial-order .ensures))
 
 pub list-sound-spec : {M : Type 1} → statement M
 list-sound-spec =

@@ -9,7 +9,7 @@ use denote.Ref.{now}
 use lib.Dec.{ltb}
 use Rattle.table.specs.Sum.{sumTo}
 use Rattle.table.specs.Format.{alloc, free, join, kindOf}
-use Rattle.table.specs.Steps.{WalkReady, amountAt, leastThat, leastNext, overdrawn, balanceOf}
+use Rattle.table.specs.Code.Steps.{WalkReady, amountAt, leastThat, leastNext, overdrawn, balanceOf}
 use Rattle.table.proofs.Walks.{Summed, sum-next, child-small}
 use Rattle.table.proofs.balance.balance_walk.Statement.{statement}
 use Rattle.table.proofs.balance.balance_walk.Tie as tie

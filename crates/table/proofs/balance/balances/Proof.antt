@@ -11,9 +11,9 @@ use lib.ListN.{length, getD, set, drop}
 use Rattle.table.specs.Sum.{pick, sumTo}
 use Rattle.table.specs.Format.{Kind, alloc, free, join, kind, bodiesFrom, bodyOf, tableOf, firstOf, countOf}
 use Rattle.table.specs.Pass.{tryFrom, tryPass, orElse, refusal}
-use Rattle.table.specs.Rules.{countsBelow, allocOf, freeOf, whole, partOf, balance, balanceBelow0, balancePass}
-use Rattle.table.specs.Accepted.{ContentRules, BodyRules}
-use Rattle.table.specs.Steps.{Nested, Filled, WalkReady, ownAmount, amountAt, overdrawn, balanceOf}
+use Rattle.table.specs.Checks.{countsBelow, allocOf, freeOf, whole, partOf, balance, balanceBelow0, balancePass}
+use Rattle.table.specs.Rules.{ContentRules, BodyRules}
+use Rattle.table.specs.Code.Steps.{Nested, Filled, WalkReady, ownAmount, amountAt, overdrawn, balanceOf}
 use Rattle.table.specs.declared.balance.Balance.{Balance}
 use Rattle.table.specs.declared.Found.{Found}
 use Rattle.table.specs.declared.Found.the-variants.{Nothing, At}
@@ -187,7 +187,7 @@ abbrev μ-loop : tie.MeasureT-loop
 
 turn : (c : tie.After-body-of Inv-loop μ-loop) →
     let d = c .before .before .before .before in
-    let a = d .before .before .args in
+    let a = d .before .before .before .before .args in
     Turn (now (a .table)) (a .n) (a .m) (d .loop .rises) (d .loop .falls) (d .loop .lowest) (d .loop .t) (d .loop .t - 1) (c .before .before .first .result) (c .before .count .result)
     (now (c .body-of .result))
 turn c =
@@ -201,7 +201,8 @@ turn c =
 
 loop-holds : tie.Need-loop-holds Inv-loop μ-loop
 loop-holds c =
-    start (c .before .pre) (λ i. omega (arith, c .shared-slice-known .given i)) refl refl
+    let k = c .before .before in
+    start (k .before .pre) (λ i. omega (arith, k .shared-slice-known .given i)) refl refl
 
 sub-t : tie.Need-sub-t Inv-loop μ-loop
 sub-t c = search needs
@@ -221,14 +222,14 @@ balance-walk-requires c κs = ready (turn (c .before .before))
 mul-rises : tie.Need-mul-rises Inv-loop μ-loop
 mul-rises c = search needs
 
-array-write-rises : tie.Need-array-write-rises Inv-loop μ-loop
-array-write-rises c = search needs
+element-write-rises : tie.Need-element-write-rises Inv-loop μ-loop
+element-write-rises c = search needs
 
 mul-falls : tie.Need-mul-falls Inv-loop μ-loop
 mul-falls c = search needs
 
-array-write-falls : tie.Need-array-write-falls Inv-loop μ-loop
-array-write-falls c = search needs
+element-write-falls : tie.Need-element-write-falls Inv-loop μ-loop
+element-write-falls c = search needs
 
 add-lowest : tie.Need-add-lowest Inv-loop μ-loop
 add-lowest c = omega (arith, within-m (turn (c .before .before .before .before .before .before)), c .before .if1 .taken)
@@ -277,9 +278,9 @@ balances-spec =
     body-of-requires
     balance-walk-requires
     mul-rises
-    array-write-rises
+    element-write-rises
     mul-falls
-    array-write-falls
+    element-write-falls
     add-lowest
     loop-less
     loop-again

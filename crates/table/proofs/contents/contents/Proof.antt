@@ -11,8 +11,8 @@ use lib.Dec.{eqb}
 use Rattle.table.specs.Sum.{sumTo}
 use Rattle.table.specs.Format.{tableOf, threadsOf, actionsOf}
 use Rattle.table.specs.Pass.{tryAt, tryFrom, tryPass, orElse, refusal}
-use Rattle.table.specs.Rules.{countsBelow, entryWrong, totalWrong, entriesPass, totalPass}
-use Rattle.table.specs.Steps.{Headed}
+use Rattle.table.specs.Checks.{countsBelow, entryWrong, totalWrong, entriesPass, totalPass}
+use Rattle.table.specs.Code.Steps.{Headed}
 use Rattle.table.specs.declared.Found.the-variants.{Nothing, At}
 use Rattle.table.proofs.Sizes.{Sizes, sizes}
 use Rattle.table.proofs.Trying.{tryFrom-next, tryFrom-here, tryFrom-last, tryFrom-all}

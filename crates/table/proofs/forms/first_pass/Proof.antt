@@ -11,8 +11,8 @@ use lib.ListN.{length}
 use Rattle.table.specs.Sum.{pick, sumTo}
 use Rattle.table.specs.Format.{Kind, end, unknown, is, kind, kindOf, tableOf, threadsOf, bodiesFrom, bodiesOf, codeAt, argumentAt}
 use Rattle.table.specs.Pass.{tryAt, tryFrom, tryPass, refusal}
-use Rattle.table.specs.Rules.{firstPass, kindUnknown, argumentWrong, endMisplaced, argumentFits, differ, endOf, owner}
-use Rattle.table.specs.Steps.{Laid, Reached, Holding, formAt, foundAt}
+use Rattle.table.specs.Checks.{firstPass, kindUnknown, argumentWrong, endMisplaced, argumentFits, differ, endOf, owner}
+use Rattle.table.specs.Code.Steps.{Laid, Reached, Holding, formAt, foundAt}
 use Rattle.table.specs.declared.Found.the-variants.{Nothing, At}
 use Rattle.table.proofs.Sizes.{Sizes, sizes}
 use Rattle.table.proofs.Trying.{tryFrom-next, tryFrom-here, tryFrom-last, tryFrom-all}

@@ -8,7 +8,7 @@ use borrow.Author.Tests.{eq-eqb, ne-eqb}
 use lib.Dec.{ltb, leb, eqb}
 use Rattle.table.specs.Sum.{pick}
 use Rattle.table.specs.Format.{kindOf, codeOf, is}
-use Rattle.table.specs.Steps.{formAt}
+use Rattle.table.specs.Code.Steps.{formAt}
 use Rattle.table.proofs.forms.form_at.Statement.{statement}
 use Rattle.table.proofs.forms.form_at.Tie as tie
 

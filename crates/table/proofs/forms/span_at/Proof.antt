@@ -7,7 +7,7 @@ use native.Mathlib.Numerals.{add-one}
 use native.Mathlib.Omega.{arith}
 use borrow.Author.Needs.{needs}
 use Rattle.table.specs.Format.{tableOf}
-use Rattle.table.specs.Steps.{Laid, Reached, Holding}
+use Rattle.table.specs.Code.Steps.{Laid, Reached, Holding}
 use Rattle.table.proofs.Sizes.{Sizes, sizes}
 use Rattle.table.proofs.Bodies.{count-pos, first-next, body-within, last-ends}
 use Rattle.table.proofs.forms.span_at.Statement.{statement}

@@ -9,7 +9,7 @@ use denote.Ref.{now}
 use lib.ListN.{length}
 use Rattle.table.specs.Format.{threadsOf, actionsOf}
 use Rattle.table.specs.Pass.{tryAt, tryFrom, tryPass, refusal}
-use Rattle.table.specs.Rules.{headPass, outside}
+use Rattle.table.specs.Checks.{headPass, outside}
 use Rattle.table.specs.declared.Found.the-variants.{Nothing, At}
 use Rattle.table.proofs.head.head.Statement.{statement}
 use Rattle.table.proofs.head.head.Tie as tie

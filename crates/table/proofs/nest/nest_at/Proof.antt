@@ -10,7 +10,7 @@ use borrow.Author.Tests.{eq-eqb, ne-eqb}
 use lib.ListN.{length, getD, set, drop, length-set, drop-of-length-le}
 use lib.Seq.{drop-cons, drop-set-lt, getD-set-same}
 use Rattle.table.specs.Format.{Kind, kindOf}
-use Rattle.table.specs.Steps.{nest, nestAt, NestReady, NestDone}
+use Rattle.table.specs.Code.Steps.{nest, nestAt, NestReady, NestDone}
 use Rattle.table.proofs.nest.nest_at.Statement.{statement}
 use Rattle.table.proofs.nest.nest_at.Tie as tie
 
@@ -121,8 +121,8 @@ mul-stack c = search needs
 element-write-stack : tie.Need-element-write-stack
 element-write-stack c = search needs
 
-sub-t14 : tie.Need-sub-t14
-sub-t14 c = sub-stack c
+sub-t15 : tie.Need-sub-t15
+sub-t15 c = sub-stack c
 
 returns-3 : tie.Need-returns-3
 returns-3 c = join-none (c .before .before .pre) (c .before .match .keys3) (c .if3 .taken)
@@ -136,8 +136,8 @@ element-copy-out-if4 c = search needs
 returns-4 : tie.Need-returns-4
 returns-4 c = join-other (c .before .before .before .before .pre) (c .before .before .before .match .keys3) (c .before .before .if3 .left) (c .if4 .taken)
 
-add-t19 : tie.Need-add-t19
-add-t19 c = search needs
+add-t20 : tie.Need-add-t20
+add-t20 c = search needs
 
 returns-5 : tie.Need-returns-5
 returns-5 c = end-none (c .before .before .pre) (c .before .match .keys1) (c .if1 .left)
@@ -162,12 +162,12 @@ nest-at-spec =
     sub-stack
     mul-stack
     element-write-stack
-    sub-t14
+    sub-t15
     returns-3
     mul-if4
     element-copy-out-if4
     returns-4
-    add-t19
+    add-t20
     returns-5
     returns-6
     returns-7

@@ -10,8 +10,8 @@ use denote.Ref.{now}
 use lib.ListN.{getD}
 use Rattle.table.specs.Format.{tableOf}
 use Rattle.table.specs.Pass.{tryFrom, tryPass, orElse}
-use Rattle.table.specs.Rules.{forkedBelow, neverForked, secondPass, forkedPass}
-use Rattle.table.specs.Steps.{Formed, unmarked}
+use Rattle.table.specs.Checks.{forkedBelow, neverForked, secondPass, forkedPass}
+use Rattle.table.specs.Code.Steps.{Formed, unmarked}
 use Rattle.table.specs.declared.Refusal.{Refusal}
 use Rattle.table.specs.declared.Found.the-variants.{Nothing, At}
 use Rattle.table.proofs.Sizes.{sizes}
@@ -43,21 +43,21 @@ returns : tie.Need-returns
 returns c =
     let d = c .before .before in
     d .second-pass .ensures .0
-    ∙ refused (now (d .before .before .before .args .table)) _ (sym (d .second-pass .ensures .0) ∙ c .enum-told .given .1)
+    ∙ refused (now (d .before .before .before .before .args .table)) _ (sym (d .second-pass .ensures .0) ∙ c .enum-told .given .1)
 
 enum-told-2 : tie.Need-enum-told-2
 enum-told-2 c = search needs
 
 never-forked-requires : tie.Need-never-forked-requires
-never-forked-requires c κs = omega (arith, sizes (c .before .before .before .before .before .before .pre .laid .headed))
+never-forked-requires c κs = omega (arith, sizes (c .before .before .before .before .before .before .before .pre .laid .headed))
 
 returns-2 : tie.Need-returns-2
 returns-2 c =
     let d = c .before .before .before .before in
     let e = c .before .before .enum-told2 .given .1 in
     c .never-forked .ensures
-    ∙ passed (now (d .before .before .before .args .table)) _ _ (d .before .before .before .pre)
-    (d .second-pass .last .1 .1 .1 .0) (sym (d .second-pass .ensures .0) ∙ e) (d .second-pass .ensures .1 e)
+    ∙ passed (now (d .before .before .before .before .args .table)) _ _ (d .before .before .before .before .pre)
+    (d .second-pass .last .1 .1 .1 .1 .0) (sym (d .second-pass .ensures .0) ∙ e) (d .second-pass .ensures .1 e)
 
 pub nesting-spec : {M : Type 1} → statement M
 nesting-spec =

@@ -7,7 +7,7 @@ use native.Mathlib.Omega.{arith}
 use denote.Ref.{now}
 use lib.ListN.{getD}
 use Rattle.table.specs.Pass.{tryAt, tryFrom, refusal}
-use Rattle.table.specs.Steps.{unmarked}
+use Rattle.table.specs.Code.Steps.{unmarked}
 use Rattle.table.specs.declared.Found.the-variants.{Nothing, At}
 use Rattle.table.proofs.Trying.{tryFrom-next, tryFrom-here}
 use Rattle.table.proofs.nest.never_forked.Statement.{statement}

@@ -9,8 +9,8 @@ use borrow.Author.Needs.{needs}
 use lib.ListN.{length, getD, replicate, drop, length-drop, length-replicate, drop-of-length-le}
 use Rattle.table.specs.Format.{fork, kindOf, tableOf, kind, codeAt, argumentAt, actionsOf, bodiesFrom, bodiesOf}
 use Rattle.table.specs.Pass.{tryFrom, tryPass, refusal}
-use Rattle.table.specs.Rules.{secondPass, forkedBelow}
-use Rattle.table.specs.Steps.{Formed, nest, nestAt, NestReady, NestDone}
+use Rattle.table.specs.Checks.{secondPass, forkedBelow}
+use Rattle.table.specs.Code.Steps.{Formed, nest, nestAt, NestReady, NestDone}
 use Rattle.table.specs.declared.Found.{Found}
 use Rattle.table.specs.declared.Found.the-variants.{Nothing, At}
 use Rattle.table.proofs.Tests.{no-way}
@@ -114,18 +114,19 @@ refused : {f : Found} {number place : ℕ} {A : Type 0} → f ≡ At (refusal nu
 refused e z = no-way cc
 
 abbrev Inv-loop : tie.InvT-loop
-Inv-loop table n m forked₀ actions stack₀ top₀ a₀ forked stack top a = Inv table actions n m forked stack top a
+Inv-loop table n m stack₀ forked₀ actions top₀ a₀ stack forked top a = Inv table actions n m forked stack top a
 
 abbrev μ-loop : tie.MeasureT-loop
-μ-loop table n m forked₀ actions stack₀ top₀ a₀ forked stack top a = m - a
+μ-loop table n m stack₀ forked₀ actions top₀ a₀ stack forked top a = m - a
 
 bodies-requires : tie.Need-bodies-requires Inv-loop μ-loop
 bodies-requires c κs = search needs
 
 loop-holds : tie.Need-loop-holds Inv-loop μ-loop
 loop-holds c =
-    let d = c .before .before in
-    start (d .pre .0) (c .bodies .ensures) (d .pre .1)
+    let b = c .before in
+    let d = b .before .before in
+    start (d .pre .0) (b .bodies .ensures) (d .pre .1)
 
 code-at-requires : tie.Need-code-at-requires Inv-loop μ-loop
 code-at-requires c κs = omega arith

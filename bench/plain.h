@@ -1,0 +1,16 @@
+/* Plain C by the same algorithms as the calls of wivakkol.h on a run (bench/baseline.c with -DLINKS and -DCALLS), with their numbers and rows, for bench/board.c. Nothing of it is proved.
+ * The run has a copy of its table. It tests nothing that a turn on damaged memory would need: numbers in the run are taken as they are. */
+#ifndef PLAIN_H
+#define PLAIN_H
+
+#include <stddef.h>
+#include <stdint.h>
+
+typedef struct plain_run plain_run;
+
+size_t plain_size(void);
+uint32_t plain_begin(plain_run *run, const uint8_t *table, size_t length, uint32_t p, uint32_t quota);
+uint32_t plain_turn(plain_run *run, uint32_t w, uint64_t row[5]);
+uint32_t plain_rounds(plain_run *run, uint32_t limit, uint64_t row[3]);
+
+#endif

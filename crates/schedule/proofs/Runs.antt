@@ -1,0 +1,5 @@
+-- rows and calls
+pub mod Replies
+pub mod Rows
+pub mod Histories
+pub mod Values

@@ -1,0 +1,5 @@
+-- promises between the parts of the code
+pub mod Checks
+pub mod Adding
+pub mod Balancing
+pub mod Order

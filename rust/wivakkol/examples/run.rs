@@ -1,0 +1,28 @@
+//! A run of the table in a file to its end, turn by turn, workers in rounds: `cargo run --example run -- TABLE p K`.
+use std::{env, error::Error, fs};
+use wivakkol::{check, Memory, Reply, Run, Work};
+
+fn main() -> Result<(), Box<dyn Error>> {
+    let words: Vec<String> = env::args().collect();
+    let [_, file, p, quota] = &words[..] else {
+        return Err("usage: run TABLE p K".into());
+    };
+    let table = fs::read(file)?;
+    let facts = check(&table)?;
+    println!("table {} {} serial {} depth {}", facts.threads, facts.actions, facts.peak, facts.depth);
+
+    let (mut memory, mut work) = (Memory::new(), Work::new());
+    let mut run = Run::begin(&table, &mut memory, &mut work, p.parse()?, quota.parse()?)?;
+    while !run.ended() {
+        let worker = (run.turns() % u64::from(run.workers())) as u32;
+        match run.turn(worker)?.reply {
+            Reply::Idle => println!("{worker} idle"),
+            // Here a board would do the action.
+            Reply::Done { thread, action } => println!("{worker} thread {thread} action {action}, {} held", run.held()),
+            Reply::Quota { thread, wanted } => println!("{worker} thread {thread} given up: {wanted} is above the quota left"),
+            Reply::Wait { thread, child } => println!("{worker} thread {thread} waits for {child}"),
+        }
+    }
+    println!("done {} peak {}", run.turns(), run.highest());
+    Ok(())
+}

@@ -1,0 +1,71 @@
+//! AsyncDF for job tables: a scheduler whose memory is bounded beforehand, for every order in which its workers take their turns. The calls are proved; this crate calls them in the archive
+//! `libboard.a`, which `rt staticlib board` writes, and gives their numbers types. It has no heap, no state and no dependencies. docs/REFERENCE.md of the repository says what a
+//! table is, what a turn does and which bounds hold.
+//!
+//! ```
+//! use wivakkol::{Memory, Report, Run, Work};
+//!
+//! let table = include_bytes!("../../../examples/e.table");
+//! let (mut memory, mut work) = (Memory::new(), Work::new());
+//! let quota = wivakkol::largest_quota(table, 2, 1, 55)?;
+//! let mut run = Run::begin(table, &mut memory, &mut work, 2, quota)?;
+//! assert_eq!(run.rounds(u32::MAX)?, Report::Finished { turns: 14 });
+//! assert_eq!(run.highest(), 12);
+//! # Ok::<(), Box<dyn std::error::Error>>(())
+//! ```
+//!
+//! What C has to keep to by itself is kept here by types: sizes, alignment, what overlaps what, one call at a time, and the same unchanged table for every call on a run. One thing is not: the
+//! stack. From C the calls behind [`check`] and [`largest_quota`] took up to 139,552 bytes of it, [`Run::begin`] 3,496, [`Run::open`] 6,168, [`Run::wall_line`] 6,440, the others under 500. That the declarations fit the archive is tested and not proved.
+#![no_std]
+#![deny(unsafe_op_in_unsafe_fn)]
+
+#[cfg(not(target_arch = "x86_64"))]
+compile_error!("the archive is built for x86-64 alone");
+
+mod memory;
+mod raw;
+mod refusal;
+mod run;
+
+pub use memory::{Memory, Work};
+pub use refusal::{Place, Refusal};
+pub use run::{Preview, Reply, Report, Run, Status, Stopped, Turn};
+
+/// The longest table that is accepted, in bytes: 1,024 threads and 8,192 actions. A longer input may be handed over, and is refused.
+pub const TABLE_MOST: usize = 36868;
+
+/// A table's facts.
+#[derive(Clone, Copy, Debug, PartialEq, Eq, Hash)]
+pub struct Facts {
+    /// n, 1 to 1,024.
+    pub threads: u16,
+    /// m, 1 to 8,192.
+    pub actions: u16,
+    /// S1, the most memory that a serial run holds.
+    pub peak: u64,
+    /// D.
+    pub depth: u16,
+    /// N, the nested thread levels.
+    pub nested: u16,
+}
+
+/// Is this a job table, and what are its facts? Refused with 1 to 11.
+pub fn check(table: &[u8]) -> Result<Facts, Refusal> {
+    let mut row = [0; 6];
+    // SAFETY: "`table` points to `length` bytes that may be read", since both are of one slice, whose pointer is never NULL; the row is a local array of its full size.
+    let number = unsafe { raw::wivakkol_check(table.as_ptr(), table.len(), &mut row) };
+    let [place, threads, actions, peak, depth, nested] = row;
+    Refusal::unless_zero(number, place)?;
+    Ok(Facts { threads: threads as u16, actions: actions as u16, peak, depth: depth as u16, nested: nested as u16 })
+}
+
+/// The largest quota with which `p` workers hold no more than `memory` units of this table, as long as no worker has more than `b` turns between two of another. Refused with 1 to 11, 20,
+/// 41 or 42.
+pub fn largest_quota(table: &[u8], p: u32, b: u32, memory: u64) -> Result<u32, Refusal> {
+    let mut row = [0; 2];
+    // SAFETY: as in `check`.
+    let number = unsafe { raw::wivakkol_quota(table.as_ptr(), table.len(), p, b, memory, &mut row) };
+    let [place, quota] = row;
+    Refusal::unless_zero(number, place)?;
+    Ok(quota as u32)
+}

@@ -1,0 +1,230 @@
+//! A run: a table and the memory that it stands in, tied to each other.
+use crate::{Memory, Refusal, Work};
+use core::fmt;
+
+/// No thread, in the links of the list.
+const NO_THREAD: u16 = 1024;
+const ENDED: u8 = 4;
+
+/// What a turn said.
+#[derive(Clone, Copy, Debug, PartialEq, Eq, Hash)]
+pub enum Reply {
+    /// No thread was ready.
+    Idle,
+    /// The action was done.
+    Done { thread: u16, action: u16 },
+    /// An alloc was above the quota left: the worker gave its thread up.
+    Quota { thread: u16, wanted: u32 },
+    /// A join whose child has not ended: the thread waits, and the worker has none.
+    Wait { thread: u16, child: u16 },
+}
+
+/// A turn that was taken: what it said, and how many threads stood left of one that the worker took, 0 if it took none.
+#[derive(Clone, Copy, Debug, PartialEq, Eq, Hash)]
+pub struct Turn {
+    pub reply: Reply,
+    pub passed: u16,
+}
+
+/// A turn shown before it is taken: what it would say, and memory held, its highest and the worker's quota left after it, 0 if it then has no thread.
+#[derive(Clone, Copy, Debug, PartialEq, Eq, Hash)]
+pub struct Preview {
+    pub turn: Turn,
+    pub held: u64,
+    pub highest: u64,
+    pub quota: u32,
+}
+
+/// How turns over a list or in rounds ended, with the number of turns that the call took.
+#[derive(Clone, Copy, Debug, PartialEq, Eq, Hash)]
+pub enum Report {
+    /// The root has ended: the run is over.
+    Finished { turns: u64 },
+    /// The order or the limit is at its end, and the root has not ended.
+    Spent { turns: u64 },
+}
+
+/// A refusal that stopped turns over a list or in rounds, and how many were taken before it.
+#[derive(Clone, Copy, Debug, PartialEq, Eq, Hash)]
+pub struct Stopped {
+    pub refusal: Refusal,
+    pub turns: u64,
+}
+
+impl fmt::Display for Stopped {
+    fn fmt(&self, f: &mut fmt::Formatter<'_>) -> fmt::Result {
+        write!(f, "{} (after {} turns)", self.refusal, self.turns)
+    }
+}
+
+impl core::error::Error for Stopped {}
+
+/// Where a thread stands.
+#[derive(Clone, Copy, Debug, PartialEq, Eq, Hash)]
+pub enum Status {
+    Unborn,
+    Ready,
+    Held,
+    Waiting,
+    Ended,
+}
+
+/// A run that was begun or opened. It borrows its table, so that every call is given the same bytes and nobody changes them meanwhile, and its memory, so that nobody else touches that; both are
+/// free again when the run is dropped.
+///
+/// ```compile_fail,E0506
+/// # use wivakkol::{Memory, Run, Work};
+/// let (mut table, mut memory) = ([1, 0, 1, 0, 0, 0, 1, 0, 0, 0, 0, 0], Memory::new());
+/// let mut run = Run::begin(&table, &mut memory, &mut Work::new(), 1, 1)?;
+/// table[8] = 1; // not while the run is there
+/// run.turn(0)?;
+/// # Ok::<(), wivakkol::Refusal>(())
+/// ```
+pub struct Run<'t> {
+    table: &'t [u8],
+    memory: &'t mut Memory,
+}
+
+impl<'t> Run<'t> {
+    /// Begins a run of `p` workers with quota `quota` in this memory, whatever it held. Refused with 1 to 11 (the table's own), 20, 21 or 22; the memory is then all 0.
+    pub fn begin(table: &'t [u8], memory: &'t mut Memory, work: &mut Work, p: u32, quota: u32) -> Result<Run<'t>, Refusal> {
+        let (number, [place]) = memory.begin(work, table, p, quota);
+        Refusal::unless_zero(number, place)?;
+        Ok(Run { table, memory })
+    }
+
+    /// Goes on with a run that was put away, in the memory that it was brought back to. Refused with 32, and the memory left as it was, where that has neither a sound record of this table nor
+    /// the blank one, all 0: a run opened from the latter has no workers, and every turn of it is refused with 30.
+    ///
+    /// The limits on memory and on threads are promised where the run was begun from this table and the memory is as calls left it. A sound record that was made up may hold more than any run
+    /// would; its turns are document 01's all the same.
+    pub fn open(table: &'t [u8], memory: &'t mut Memory, work: &mut Work) -> Result<Run<'t>, Refusal> {
+        let (number, [place]) = memory.open(work, table);
+        Refusal::unless_zero(number, place)?;
+        Ok(Run { table, memory })
+    }
+
+    /// A turn of worker `w`. Refused, with nothing changed: 32 if 2^64 − 1 turns are taken, 30 if `w` is not below p, 31 if the root has ended.
+    pub fn turn(&mut self, w: u32) -> Result<Turn, Refusal> {
+        let (number, [place, said, thread, value, passed]) = self.memory.turn(self.table, w);
+        Refusal::unless_zero(number, place)?;
+        Ok(turn(said, thread, value, passed))
+    }
+
+    /// The turn of worker `w` that [`turn`](Run::turn) would take now, refused as it would be; nothing changes.
+    pub fn preview(&self, w: u32) -> Result<Preview, Refusal> {
+        let (number, [place, said, thread, value, passed, held, highest, quota]) = self.memory.preview(self.table, w);
+        Refusal::unless_zero(number, place)?;
+        Ok(Preview { turn: turn(said, thread, value, passed), held, highest, quota: quota as u32 })
+    }
+
+    /// The run's line of the wall chart, 84 characters and a newline (N5): turns taken, each worker's thread or a full stop, memory held. Refused with 32 if 2^64 − 1 turns are taken, with 43
+    /// if more than 999,999 are.
+    pub fn wall_line(&self, work: &mut Work) -> Result<[u8; 85], Refusal> {
+        let (number, line) = self.memory.chart(work, self.table);
+        Refusal::unless_zero(number, 0)?;
+        Ok(line)
+    }
+
+    /// A turn of each worker of `order`, up to the root's end. Stopped by a turn that is refused, with 30 or 32; those before it are taken.
+    pub fn list(&mut self, order: &[u8]) -> Result<Report, Stopped> {
+        report(self.memory.list(self.table, order))
+    }
+
+    /// Turns of the workers 0 to p − 1, again and again, up to the root's end, at most `limit` of them; every call starts with worker 0.
+    pub fn rounds(&mut self, limit: u32) -> Result<Report, Stopped> {
+        report(self.memory.rounds(self.table, limit))
+    }
+
+    /// The table's bytes.
+    pub fn table(&self) -> &'t [u8] {
+        self.table
+    }
+
+    /// The number of workers, p.
+    pub fn workers(&self) -> u32 {
+        self.memory.settings[0]
+    }
+
+    /// The quota, K.
+    pub fn quota(&self) -> u32 {
+        self.memory.settings[1]
+    }
+
+    /// Memory held now.
+    pub fn held(&self) -> u64 {
+        self.memory.totals[0]
+    }
+
+    /// The most memory held so far.
+    pub fn highest(&self) -> u64 {
+        self.memory.totals[1]
+    }
+
+    /// The turns taken so far.
+    pub fn turns(&self) -> u64 {
+        self.memory.totals[2]
+    }
+
+    /// Whether the root has ended: the run is over.
+    pub fn ended(&self) -> bool {
+        self.memory.status[0] == ENDED
+    }
+
+    /// The list of the threads that are forked and not ended, leftmost first, which is serial order.
+    pub fn threads(&self) -> impl Iterator<Item = u16> + '_ {
+        let in_list = |t: u16| (t < NO_THREAD).then_some(t);
+        // the blank record, which alone has no workers, has 0 for every neighbour and an empty list
+        let first = if self.workers() == 0 { NO_THREAD } else { self.memory.heads[0] };
+        core::iter::successors(in_list(first), move |t| in_list(self.memory.right[usize::from(*t)]))
+    }
+
+    /// Where a thread stands; `None` from 1,024 on. Threads that the table does not have are unborn.
+    pub fn status(&self, thread: u16) -> Option<Status> {
+        Some(match self.memory.status.get(usize::from(thread))? {
+            1 => Status::Ready,
+            2 => Status::Held,
+            3 => Status::Waiting,
+            4 => Status::Ended,
+            _ => Status::Unborn,
+        })
+    }
+
+    /// The memory that a thread holds; `None` from 1,024 on.
+    pub fn amount(&self, thread: u16) -> Option<u64> {
+        self.memory.amounts.get(usize::from(thread)).copied()
+    }
+
+    /// A thread's next action; `None` from 1,024 on.
+    pub fn next_action(&self, thread: u16) -> Option<u16> {
+        self.memory.next.get(usize::from(thread)).copied()
+    }
+
+    /// The thread that worker `w` holds and its quota left, if it holds one.
+    pub fn worker(&self, w: u32) -> Option<(u16, u32)> {
+        let w = usize::try_from(w).ok()?;
+        let holds = *self.memory.holds.get(w)? != 0;
+        holds.then(|| (self.memory.threads[w], self.memory.quotas[w]))
+    }
+}
+
+fn turn(said: u64, thread: u64, value: u64, passed: u64) -> Turn {
+    let thread = thread as u16;
+    let reply = match said {
+        1 => Reply::Idle,
+        2 => Reply::Done { thread, action: value as u16 },
+        3 => Reply::Quota { thread, wanted: value as u32 },
+        4 => Reply::Wait { thread, child: value as u16 },
+        _ => unreachable!("a turn says 1 to 4"),
+    };
+    Turn { reply, passed: passed as u16 }
+}
+
+fn report((number, [place, said, turns]): (u32, [u64; 3])) -> Result<Report, Stopped> {
+    Refusal::unless_zero(number, place).map_err(|refusal| Stopped { refusal, turns })?;
+    match said {
+        6 => Ok(Report::Finished { turns }),
+        7 => Ok(Report::Spent { turns }),
+        _ => unreachable!("a run says 6 or 7"),
+    }
+}

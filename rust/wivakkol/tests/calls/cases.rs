@@ -1,0 +1,314 @@
+//! Document 01's listing of E, its marked cases, and every refusal that these calls give.
+use crate::model::Action::{self, *};
+use crate::model::{bytes, Table};
+use std::sync::Mutex;
+use wivakkol::{check, largest_quota, Facts, Memory, Preview, Refusal, Reply, Report, Run, Status, Stopped, Turn, Work};
+
+const LISTING: &str = "\
+1 0 0 0 fork 0
+2 1 1 5 alloc 6
+3 0 0 1 fork 6
+4 1 1 6 work 6
+5 0 2 9 alloc 12
+6 1 1 7 free 6
+7 0 2 10 free 0
+8 1 1 8 end 0
+9 0 2 11 end 0
+10 1 0 2 join 0
+11 0 - - idle 0
+12 1 0 3 join 0
+13 0 - - idle 0
+14 1 0 4 end 0
+done 14 peak 12
+";
+
+fn e() -> Table {
+    vec![vec![Fork(1), Fork(2), Join(2), Join(1), End], vec![Alloc(6), Work, Free(6), End], vec![Alloc(6), Free(6), End]]
+}
+
+fn refused(number: u32, place: u64) -> Refusal {
+    Refusal { number, place }
+}
+
+/// Why a run of this table with p workers and quota K is not begun.
+fn fault(table: &[u8], p: u32, quota: u32) -> Option<Refusal> {
+    Run::begin(table, &mut Memory::new(), &mut Work::new(), p, quota).err()
+}
+
+/// A turn for each worker of the order, as lines of document 01's listing; the action of a turn that was not done is the thread's next.
+fn listing(run: &mut Run, actions: &[Action], order: &[u32]) -> String {
+    let mut lines = String::new();
+    for (i, w) in order.iter().enumerate() {
+        let reply = run.turn(*w).unwrap().reply;
+        let (thread, what) = match reply {
+            Reply::Idle => (None, "idle"),
+            Reply::Done { thread, action } => (Some((thread, action)), actions[usize::from(action)].name()),
+            Reply::Quota { thread, .. } => (Some((thread, run.next_action(thread).unwrap())), "quota"),
+            Reply::Wait { thread, .. } => (Some((thread, run.next_action(thread).unwrap())), "wait"),
+        };
+        let thread = thread.map_or("- -".to_string(), |(t, a)| format!("{t} {a}"));
+        lines += &format!("{} {w} {thread} {what} {}\n", i + 1, run.held());
+    }
+    let end = if run.ended() { "done" } else { "open" };
+    lines + &format!("{end} {} peak {}\n", run.turns(), run.highest())
+}
+
+#[test]
+fn listing_of_e() {
+    let (table, mut memory) = (bytes(&e()), Memory::new());
+    let mut run = Run::begin(&table, &mut memory, &mut Work::new(), 2, 6).unwrap();
+    let actions: Vec<Action> = e().concat();
+    let order: Vec<u32> = (0..14).map(|i| i % 2).collect();
+    assert_eq!(listing(&mut run, &actions, &order), LISTING);
+    assert_eq!(run.turn(0), Err(refused(31, 0)));
+    assert_eq!(table, std::fs::read("../../examples/e.table").unwrap());
+}
+
+#[test]
+fn marked_cases() {
+    let table = bytes(&e());
+    assert_eq!(check(&table), Ok(Facts { threads: 3, actions: 12, peak: 6, depth: 8, nested: 2 }));
+    assert_eq!(fault(&table, 2, 5), Some(refused(22, 5)));
+
+    let mut memory = Memory::new();
+    let mut run = Run::begin(&table, &mut memory, &mut Work::new(), 1, 6).unwrap();
+    assert_eq!(run.rounds(u32::MAX), Ok(Report::Finished { turns: 12 }));
+    assert_eq!(run.highest(), 6);
+
+    let mut one = vec![1, 0, 1, 0, 0, 0, 1, 0, 0, 0, 0, 0];
+    assert_eq!(check(&one).map(|facts| (facts.peak, facts.depth)), Ok((0, 1)));
+    let mut run = Run::begin(&one, &mut memory, &mut Work::new(), 1, 1).unwrap();
+    assert_eq!(run.turn(0).unwrap().reply, Reply::Done { thread: 0, action: 0 });
+    assert!(run.ended());
+    one.push(0);
+    assert_eq!(check(&one), Err(refused(3, 0)));
+    assert_eq!(check(&[]), Err(refused(1, 0)));
+
+    let twice = bytes(&vec![vec![Alloc(4), Alloc(4), End]]);
+    let mut run = Run::begin(&twice, &mut memory, &mut Work::new(), 1, 6).unwrap();
+    run.turn(0).unwrap();
+    assert_eq!(run.turn(0).unwrap().reply, Reply::Quota { thread: 0, wanted: 4 });
+    assert_eq!(run.rounds(u32::MAX), Ok(Report::Finished { turns: 2 }));
+    assert_eq!((run.turns(), run.held(), check(&twice).unwrap().peak), (4, 8, 8));
+    let mut run = Run::begin(&twice, &mut memory, &mut Work::new(), 1, 8).unwrap();
+    assert_eq!(run.rounds(u32::MAX), Ok(Report::Finished { turns: 3 }));
+
+    assert_eq!(check(&bytes(&vec![vec![Alloc(6), Free(7), End]])), Err(refused(10, 1)));
+    let mut swapped = e();
+    swapped[0].swap(2, 3);
+    assert_eq!(check(&bytes(&swapped)), Err(refused(9, 2)));
+
+    let mut run = Run::begin(&table, &mut memory, &mut Work::new(), 2, 6).unwrap();
+    assert_eq!(run.list(&[0, 1, 0, 1, 1, 1, 1]), Ok(Report::Spent { turns: 7 }));
+    assert_eq!(run.turn(2), Err(refused(30, 0)));
+    assert_eq!(run.list(&[2]), Err(Stopped { refusal: refused(30, 0), turns: 0 }));
+    assert_eq!(run.turn(0).unwrap().reply, Reply::Wait { thread: 0, child: 2 });
+}
+
+/// "ends thread 1 while thread 0 goes on waiting for thread 2"
+#[test]
+fn waits_for_another_child() {
+    let (table, mut memory) = (bytes(&e()), Memory::new());
+    let mut run = Run::begin(&table, &mut memory, &mut Work::new(), 3, 6).unwrap();
+    assert_eq!(run.list(&[0, 1, 0, 2, 0]), Ok(Report::Spent { turns: 5 }));
+    assert_eq!(run.status(0), Some(Status::Waiting));
+    assert_eq!(run.list(&[1, 1, 1]), Ok(Report::Spent { turns: 3 }));
+    assert_eq!((run.status(1), run.status(0)), (Some(Status::Ended), Some(Status::Waiting)));
+    assert_eq!(run.threads().collect::<Vec<_>>(), [2, 0]);
+}
+
+#[test]
+fn limits() {
+    let (table, mut memory) = (bytes(&e()), Memory::new());
+    let mut run = Run::begin(&table, &mut memory, &mut Work::new(), 2, 6).unwrap();
+    assert_eq!(run.rounds(0), Ok(Report::Spent { turns: 0 }));
+    assert_eq!(run.list(&[]), Ok(Report::Spent { turns: 0 }));
+    assert_eq!(run.list(&[0, 1, 7, 0]), Err(Stopped { refusal: refused(30, 0), turns: 2 }));
+    assert_eq!((run.turns(), run.held()), (2, 6));
+    assert_eq!(run.rounds(u32::MAX), Ok(Report::Finished { turns: 12 }));
+    assert_eq!(run.rounds(5), Ok(Report::Finished { turns: 0 }));
+    assert_eq!(run.threads().count(), 0);
+    let fan = |n: u16| bytes(&[vec![(1..n).map(Fork).chain((1..n).rev().map(Join)).chain([End]).collect()], vec![vec![End]; usize::from(n) - 1]].concat());
+    assert_eq!(check(&fan(1024)).unwrap().threads, 1024);
+    assert_eq!(check(&fan(1025)), Err(refused(2, 0)));
+    assert_eq!(check(&[0xff; 100_000]), Err(refused(2, 0)));
+}
+
+#[test]
+fn refusals_of_a_table() {
+    let with = |at: usize, x: u8| {
+        let mut table = bytes(&e());
+        table[at] = x;
+        check(&table).unwrap_err()
+    };
+    assert_eq!(check(&[1, 0, 1]), Err(refused(1, 0)));
+    assert_eq!(with(0, 0), refused(2, 0));
+    assert_eq!(with(0, 4), refused(3, 0));
+    assert_eq!(with(8, 6), refused(4, 1));
+    assert_eq!(with(14, 2), refused(4, 3));
+    assert_eq!(with(16, 6), refused(5, 0));
+    assert_eq!(with(17, 3), refused(6, 0));
+    assert_eq!(with(40, 0), refused(7, 6));
+    assert_eq!(with(21, 1), refused(8, 1));
+    assert_eq!(with(25, 1), refused(9, 2));
+    assert_eq!(with(45, 7), refused(10, 3));
+    assert_eq!(check(&bytes(&vec![vec![End], vec![End]])), Err(refused(11, 1)));
+}
+
+#[test]
+fn refusals_of_a_beginning_and_a_quota() {
+    let table = bytes(&e());
+    for p in [0, 17, 256, 258, u32::MAX] {
+        assert_eq!(fault(&table, p, 6), Some(refused(20, 0)));
+        assert_eq!(largest_quota(&table, p, 1, 55), Err(refused(20, 0)));
+    }
+    for quota in [0, 1 << 24, u32::MAX] {
+        assert_eq!(fault(&table, 2, quota), Some(refused(21, 0)));
+    }
+    assert_eq!(fault(&[], 0, 0), Some(refused(1, 0)));
+    assert_eq!(largest_quota(&table, 2, 1, 55), Ok(7));
+    assert_eq!(largest_quota(&table, 2, 1, 54), Ok(6));
+    assert_eq!(largest_quota(&table, 2, 1, 47), Err(refused(42, 0)));
+    for b in [0, 65536] {
+        assert_eq!(largest_quota(&table, 2, b, 55), Err(refused(41, 0)));
+    }
+}
+
+/// Where numbers stand in the bytes of a run.
+const TURNS: usize = 8208;
+const PARENTS: usize = 8288;
+const HOLDS: usize = 21638;
+
+/// E with two workers after seven turns, put away.
+fn put_away() -> (Vec<u8>, [u8; Memory::BYTES]) {
+    let (table, mut memory) = (bytes(&e()), Memory::new());
+    let mut run = Run::begin(&table, &mut memory, &mut Work::new(), 2, 6).unwrap();
+    assert_eq!(run.rounds(7), Ok(Report::Spent { turns: 7 }));
+    (table, memory.to_bytes())
+}
+
+/// What opening says of such bytes; where it is refused, they are as they were.
+fn opened(table: &[u8], kept: &[u8; Memory::BYTES]) -> Result<[u8; Memory::BYTES], Refusal> {
+    let mut memory = Memory::from_bytes(kept);
+    let answer = Run::open(table, &mut memory, &mut Work::new()).map(|_| ());
+    assert!(answer.is_ok() || memory.to_bytes() == *kept);
+    answer.map(|()| memory.to_bytes())
+}
+
+#[test]
+fn a_run_brought_back() {
+    let (table, kept) = put_away();
+    assert_eq!(opened(&table, &kept), Ok(kept));
+    let mut memory = Memory::from_bytes(&kept).clone();
+    let mut run = Run::open(&table, &mut memory, &mut Work::new()).unwrap();
+    assert_eq!((run.workers(), run.quota(), run.turns(), run.highest()), (2, 6, 7, 12));
+    assert_eq!(run.rounds(u32::MAX), Ok(Report::Finished { turns: 7 }));
+    assert_eq!(opened(&table, &memory.to_bytes()), Ok(memory.to_bytes()));
+}
+
+#[test]
+fn what_opening_tests() {
+    let (table, kept) = put_away();
+    let with = |at: usize, number: &[u8]| {
+        let mut kept = kept;
+        kept[at..at + number.len()].copy_from_slice(number);
+        kept
+    };
+    assert_eq!(opened(&bytes(&vec![vec![End]]), &kept), Err(refused(32, 0)));
+    assert_eq!(opened(&[], &kept), Err(refused(32, 0)));
+    assert_eq!(opened(&table, &with(8 * 700, &[1])), Err(refused(32, 0)));
+    let holder = (HOLDS..HOLDS + 2).find(|at| kept[*at] == 1).unwrap();
+    assert_eq!(opened(&table, &with(holder, &[2])), Err(refused(32, 0)));
+    assert_eq!(opened(&table, &with(TURNS, &[0xff; 8])), Err(refused(32, 0)));
+    assert_eq!(opened(&table, &with(PARENTS, &[9; 2048])), Ok(kept));
+}
+
+/// A sound record that no run of one worker comes to: it holds 12, and the limit is 6.
+#[test]
+fn a_record_made_up() {
+    let (table, mut memory) = (bytes(&e()), Memory::new());
+    let mut run = Run::begin(&table, &mut memory, &mut Work::new(), 2, 6).unwrap();
+    assert_eq!(run.list(&[0, 1, 0, 0]), Ok(Report::Spent { turns: 4 }));
+    assert_eq!((run.held(), run.worker(0), run.worker(1)), (12, Some((2, 0)), Some((1, 0))));
+    let mut kept = memory.to_bytes();
+    kept[8216] = 1; // p
+    assert_eq!(opened(&table, &kept), Err(refused(32, 0)));
+    kept[8224..8288].fill(0); // no worker holds a thread: quotas, threads, the set, truth values; threads 1 and 2 are ready
+    kept[20576..20608].fill(0);
+    kept[20612..20614].fill(0);
+    kept[20615..20617].fill(1);
+    kept[HOLDS..].fill(0);
+    let mut memory = Memory::from_bytes(&kept);
+    let mut run = Run::open(&table, &mut memory, &mut Work::new()).unwrap();
+    assert_eq!((run.workers(), run.held(), run.threads().collect::<Vec<_>>()), (1, 12, vec![1, 2, 0]));
+    assert_eq!(run.rounds(u32::MAX), Ok(Report::Finished { turns: 8 }));
+}
+
+#[test]
+fn the_blank_record() {
+    let (table, mut memory, mut work) = (bytes(&e()), Memory::new(), Work::new());
+    let mut run = Run::open(&table, &mut memory, &mut work).unwrap();
+    assert_eq!((run.workers(), run.threads().count(), run.turn(0)), (0, 0, Err(refused(30, 0))));
+    assert_eq!(run.preview(0), Err(refused(30, 0)));
+    assert_eq!(run.wall_line(&mut work).unwrap()[..], *format!("{:>6}{:64}{:>14}\n", 0, "", 0).as_bytes());
+}
+
+#[test]
+fn previews_and_lines() {
+    let (table, kept) = put_away();
+    let (mut memory, mut work) = (Memory::from_bytes(&kept), Work::new());
+    let mut run = Run::open(&table, &mut memory, &mut work).unwrap();
+    let turn = Turn { reply: Reply::Done { thread: 1, action: 8 }, passed: 0 };
+    assert_eq!(run.preview(1), Ok(Preview { turn, held: 0, highest: 12, quota: 0 }));
+    assert_eq!(run.preview(2), Err(refused(30, 0)));
+    assert_eq!(run.wall_line(&mut work).unwrap()[..], *format!("     7   2   1{:56}{:>14}\n", "", 0).as_bytes());
+    run.rounds(u32::MAX).unwrap();
+    assert_eq!(run.preview(0), Err(refused(31, 0)));
+
+    let line_after = |turns: u64| {
+        let mut kept = kept;
+        kept[TURNS..TURNS + 8].copy_from_slice(&turns.to_le_bytes());
+        let (mut memory, mut work) = (Memory::from_bytes(&kept), Work::new());
+        let mut run = Run::open(&table, &mut memory, &mut work).unwrap();
+        run.turn(0).unwrap();
+        assert_eq!(run.preview(0).is_ok(), turns < u64::MAX - 1);
+        run.wall_line(&mut work).map(|line| line[..6].to_vec())
+    };
+    assert_eq!(line_after(999_998), Ok(b"999999".to_vec()));
+    assert_eq!(line_after(999_999), Err(refused(43, 0)));
+    assert_eq!(line_after(u64::MAX - 2), Err(refused(43, 0)));
+    assert_eq!(line_after(u64::MAX - 1), Err(refused(32, 0)));
+}
+
+#[test]
+fn texts() {
+    assert_eq!(refused(22, 5).to_string(), "refused 22 at action 5: an alloc above K");
+    assert_eq!(refused(11, 1).to_string(), "refused 11 at thread 1: the thread, not the root, is forked nowhere");
+    assert_eq!(refused(30, 0).to_string(), "refused 30: the worker is not below p");
+    let stopped = Stopped { refusal: refused(30, 0), turns: 2 };
+    assert_eq!(stopped.to_string(), "refused 30: the worker is not below p (after 2 turns)");
+}
+
+/// The meanings are those of docs/REFERENCE.md, but for what 32 means in lent memory and for words about which action is given.
+#[test]
+fn texts_are_of_the_reference() {
+    let reference = std::fs::read_to_string("../../docs/REFERENCE.md").unwrap();
+    for number in [1, 2, 3, 4, 5, 6, 7, 8, 9, 10, 11, 20, 21, 22, 30, 31, 41, 42, 43] {
+        for part in refused(number, 0).meaning().split("; at entry n, ") {
+            let row = |line: &str| line.starts_with(&format!("| {number} |")) && line.contains(part);
+            assert!(reference.lines().any(row), "{number}: {part}");
+        }
+    }
+}
+
+/// A run's memory in a static, and a memory used again after a refusal.
+#[test]
+fn memory_in_a_static() {
+    static MEMORY: Mutex<Memory> = Mutex::new(Memory::new());
+    let table = bytes(&e());
+    let mut memory = MEMORY.lock().unwrap();
+    assert!(Run::begin(&table, &mut memory, &mut Work::new(), 2, 5).is_err());
+    let mut run = Run::begin(&table, &mut memory, &mut Work::new(), 2, 6).unwrap();
+    assert_eq!((run.workers(), run.quota()), (2, 6));
+    assert_eq!(run.rounds(u32::MAX), Ok(Report::Finished { turns: 14 }));
+}

@@ -1,0 +1,124 @@
+//! The declarations of src/raw.rs are those of the Rattle source, and the fields of `Memory` those of the header's struct: nothing else would say where they differ.
+use std::collections::BTreeMap;
+use std::fs;
+
+const HERE: &str = env!("CARGO_MANIFEST_DIR");
+
+/// Of each function that `start` introduces, its parameters and result; a slice of bytes is written as the pointer and the number that it is for C.
+fn functions(text: &str, start: &str) -> BTreeMap<String, Vec<String>> {
+    let said = |text: &str| text.split_whitespace().collect::<Vec<_>>().join(" ");
+    let mut found = BTreeMap::new();
+    for part in text.split(start).skip(1) {
+        let (name, rest) = part.split_once('(').expect("a function has parameters");
+        let (parameters, rest) = rest.split_once(')').expect("they come to an end");
+        let result = rest.trim_start().strip_prefix("-> ").expect("it has a result");
+        let mut words: Vec<String> = parameters.split(',').map(said).filter(|x| !x.is_empty()).collect();
+        words.push(result.chars().take_while(|x| x.is_alphanumeric()).collect());
+        found.insert(name.to_string(), words);
+    }
+    found
+}
+
+fn as_pointers(parameters: &[String]) -> Vec<String> {
+    let pair = |name: &str, length: &str| vec![format!("{name}: *const u8"), format!("{length}: usize")];
+    let as_pointer = |x: &String| match x.as_str() {
+        "table: &[u8]" => pair("table", "length"),
+        "order: &[u8]" => pair("order", "turns"),
+        _ => vec![x.clone()],
+    };
+    parameters.iter().flat_map(as_pointer).collect()
+}
+
+#[test]
+fn calls_are_of_the_source() {
+    let mut source = BTreeMap::new();
+    for entry in fs::read_dir(format!("{HERE}/../../crates/board/src")).unwrap() {
+        let text = fs::read_to_string(entry.unwrap().path()).unwrap();
+        source.extend(functions(&text, "pub extern \"C\" fn "));
+    }
+    let declared = functions(include_str!("../../src/raw.rs"), "pub fn ");
+    assert_eq!(declared.len(), source.len());
+    assert_eq!(declared.len(), 9);
+    for (name, parameters) in declared {
+        let exported = source.get(&name).unwrap_or_else(|| panic!("{name} is not exported"));
+        assert_eq!(parameters, as_pointers(exported), "{name}");
+    }
+}
+
+/// What is handed to a call by its name: fields of the memory and of the working memory, and locals.
+fn handed(text: &str, call: &str) -> Vec<String> {
+    let (_, rest) = text.split_once(&format!("raw::{call}(")).unwrap_or_else(|| panic!("{call} is not called"));
+    let (arguments, _) = rest.split_once(") }").or_else(|| rest.split_once(")\n        }")).expect("the call ends its block");
+    let name = |x: &str| match x.trim() {
+        "table.as_ptr()" => "table".to_string(),
+        "table.len()" => "length".to_string(),
+        "order.as_ptr()" => "order".to_string(),
+        "order.len()" => "turns".to_string(),
+        "&mut work.parents" => "seen".to_string(),
+        other => other.trim_start_matches("&mut ").trim_start_matches('&').trim_start_matches("self.").trim_start_matches("work.").to_string(),
+    };
+    arguments.split(',').map(name).filter(|x| !x.is_empty()).collect()
+}
+
+/// Every field is handed over where the call has a parameter of its name: neighbours of one type would change places unseen.
+#[test]
+fn fields_are_handed_by_name() {
+    let calling = concat!(include_str!("../../src/lib.rs"), include_str!("../../src/memory.rs"));
+    for (call, parameters) in functions(include_str!("../../src/raw.rs"), "pub fn ") {
+        let mut names: Vec<&str> = parameters.iter().filter_map(|x| x.split_once(": ")).map(|(name, _)| name).collect();
+        let given = handed(calling, &call);
+        assert_eq!(given, names, "{call}");
+        names.sort_unstable();
+        names.dedup();
+        assert_eq!(names.len(), given.len(), "{call}");
+    }
+}
+
+/// The header without its comments, names for numbers put in.
+fn header() -> String {
+    let text = fs::read_to_string(format!("{HERE}/../../include/wivakkol.h")).unwrap();
+    let bare: String = text.split("/*").map(|part| part.split_once("*/").map_or(part, |(_, after)| after)).collect();
+    let mut words = bare.clone();
+    for line in bare.lines().filter_map(|line| line.strip_prefix("#define WIVAKKOL_MOST_")) {
+        let (name, value) = line.split_once(' ').expect("a name and its number");
+        words = words.replace(&format!("WIVAKKOL_MOST_{name}"), value.trim());
+    }
+    words
+}
+
+/// The fields of a struct of the header, as Rust declares them, and those of the crate's.
+fn both_fields(in_header: &str, in_crate: &str) -> (Vec<String>, Vec<String>) {
+    let header = header();
+    let (_, fields) = header.split_once(&format!("struct {in_header} {{")).unwrap();
+    let (fields, _) = fields.split_once('}').unwrap();
+    let in_rust = |field: &str| {
+        let (kind, rest) = field.trim().split_once(' ').unwrap();
+        let (name, size) = rest.trim_end_matches(']').split_once('[').unwrap();
+        format!("{name}: [{}; {size}]", kind.replace("uint", "u").trim_end_matches("_t"))
+    };
+    let wanted: Vec<String> = fields.split(';').filter(|x| !x.trim().is_empty()).map(in_rust).collect();
+    let source = include_str!("../../src/memory.rs");
+    let (_, fields) = source.split_once(&format!("#[repr(C)]\npub struct {in_crate} {{")).unwrap();
+    let (fields, _) = fields.split_once('}').unwrap();
+    let declared = fields.lines().filter_map(|x| x.trim().strip_prefix("pub(crate) ")).map(|x| x.trim_end_matches(',').to_string()).collect();
+    (wanted, declared)
+}
+
+#[test]
+fn memory_is_of_the_header() {
+    for (in_header, in_crate, count) in [("wivakkol_run", "Memory", 14), ("wivakkol_work", "Work", 5)] {
+        let (wanted, declared) = both_fields(in_header, in_crate);
+        assert_eq!(declared, wanted);
+        assert_eq!(declared.len(), count);
+    }
+}
+
+/// The bytes of a run put away are its fields in their order.
+#[test]
+fn bytes_are_in_the_header_s_order() {
+    let (wanted, _) = both_fields("wivakkol_run", "Memory");
+    let (_, fields) = include_str!("../../src/memory.rs").split_once("macro_rules! each_field {").unwrap();
+    let written: Vec<&str> = fields.lines().filter_map(|x| x.trim().strip_prefix("$on!($memory.")).filter_map(|x| x.split_once(')')).map(|(x, _)| x).collect();
+    let names: Vec<String> = wanted.iter().map(|x| x.replace(": [", ", ").split(';').next().unwrap().to_string()).collect();
+    assert_eq!(written, names);
+}
