@@ -21,7 +21,7 @@ ghost use Rattle.lent.specs.Counted.{busyAfter, passedAlong, roomFor, ta
 
 mod act;
 pub mod fits;
-mod release;
+pub mod release;
 
 pub use act::larger;
 
