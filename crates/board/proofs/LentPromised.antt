@@ -18,8 +18,9 @@ use Rattle.schedule.proofs.ThreadLimit.{ThreadLimit}
 use Rattle.lent.specs.Arrays.{arrays}
 use Rattle.schedule.specs.declared.Reply.the-variants.{Idle}
 use Rattle.lent.specs.Counted.{Left, turnOn}
-use Rattle.board.specs.Lent.{Memory, memory, workerIn, movedIn, memoryAfter, Answer, answer, lentBegin, hindrance, told, turnLeft, turnIn, lentTurn, runRow, overIn, lentDrive, lentList, lentRounds}
-use Rattle.board.specs.Stands.{runIn}
+use Rattle.cells.specs.Memory.{Memory, memory, workerIn, movedIn, memoryAfter, Answer, answer, hindrance, told, turnLeft, turnIn, lentTurn}
+use Rattle.board.specs.Lent.{lentBegin, runRow, overIn, lentDrive, lentList, lentRounds}
+use Rattle.cells.specs.Stands.{runIn}
 use Rattle.schedule.specs.Answers.{finished, nothing}
 use Rattle.schedule.specs.Record.{maxWorkers}
 use Rattle.schedule.specs.Calls.{turn, overList, inRounds, afterCalls, rowOfCalls}

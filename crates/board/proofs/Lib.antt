@@ -6,7 +6,6 @@ mod Opens
 mod WallLines
 mod Turns
 mod Previews
-pub mod Refines
 pub mod PreviewRefines
 pub mod LentLimit
 mod Numbered

@@ -16,7 +16,7 @@ ghost use Rattle.table.specs.Format.{tableOf};
 ghost use Rattle.lent.specs.Arrays.{arrays};
 ghost use Rattle.lent.specs.Counted.{turnOn};
 ghost use Rattle.peek.specs.Peeked.{peekedOf};
-ghost use Rattle.board.specs.Lent.{memory, workerFrom, movedFrom, turnRow};
+ghost use Rattle.cells.specs.Memory.{memory, workerFrom, movedFrom, turnRow};
 ghost use Rattle.board.specs.Preview.{preview, lentPreview};
 
 // What the turn of worker k would say and leave.

@@ -10,7 +10,8 @@ ghost use Rattle.table.specs.Sum.{pick};
 ghost use Rattle.schedule.specs.Answers.{finished, spent, nothing};
 ghost use Rattle.schedule.specs.Runs.{workerAt};
 ghost use Rattle.lent.specs.Arrays.{arrays};
-ghost use Rattle.board.specs.Lent.{memory, answer, runRow, lentDrive, lentList, lentRounds};
+ghost use Rattle.cells.specs.Memory.{memory, answer};
+ghost use Rattle.board.specs.Lent.{runRow, lentDrive, lentList, lentRounds};
 
 // The worker whose turn comes after i turns: from the order, or in rounds.
 fn worker_of(order: &[u8], rounds: bool, p: u32, i: usize) -> u32

@@ -17,8 +17,8 @@ ghost use lib.ListN.{getD, set};
 ghost use Rattle.schedule.specs.declared.Reply.the-variants.{Idle};
 ghost use Rattle.table.specs.Sum.{pick};
 ghost use Rattle.lent.specs.Arrays.{arrays};
-ghost use Rattle.board.specs.Lent.{memory, workerFrom, movedFrom, passedFrom, headsOf, totalsOf, turnRow, answer, told, turnIn, lentTurn};
-ghost use Rattle.board.specs.Lent.{hindrance as hindranceOf};
+ghost use Rattle.cells.specs.Memory.{memory, workerFrom, movedFrom, passedFrom, headsOf, totalsOf, turnRow, answer, told, turnIn, lentTurn};
+ghost use Rattle.cells.specs.Memory.{hindrance as hindranceOf};
 
 // 32 where no turn can be counted, 30, 31; 0 where none applies.
 pub(crate) fn hindrance(turns: u64, p: u32, w: u32, root: u8) -> u32

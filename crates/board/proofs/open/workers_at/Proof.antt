@@ -8,9 +8,9 @@ use lib.ListN.{length, getD, set, length-set}
 use lib.Seq.{getD-set-same, getD-set-other, ext-getD}
 use Rattle.schedule.specs.declared.Worker.{Worker}
 use Rattle.schedule.specs.Machine.{nobody}
-use Rattle.board.specs.Lent.{workerFrom}
-use Rattle.board.specs.Stands.{workersFrom}
-use Rattle.board.proofs.Refines.{workers-length, workers-at}
+use Rattle.cells.specs.Memory.{workerFrom}
+use Rattle.cells.specs.Stands.{workersFrom}
+use Rattle.cells.proofs.Refines.{workers-length, workers-at}
 use borrow.Author.Needs.{needs}
 use Rattle.board.proofs.open.workers_at.Statement.{statement}
 use Rattle.board.proofs.open.workers_at.Tie as tie

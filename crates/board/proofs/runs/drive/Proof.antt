@@ -9,7 +9,7 @@ use denote.Ref.{now}
 use lib.ListN.{getD}
 use Rattle.schedule.specs.Runs.{workerAt}
 use Rattle.lent.specs.Arrays.{arrays}
-use Rattle.board.specs.Lent.{Memory, memory}
+use Rattle.cells.specs.Memory.{Memory, memory}
 use Rattle.board.proofs.Drives.{Along, first-along, over, ended-so, stopped, again}
 use Rattle.board.proofs.runs.drive.Statement.{statement}
 use Rattle.board.proofs.runs.drive.Tie as tie

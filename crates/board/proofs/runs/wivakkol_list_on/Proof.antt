@@ -2,7 +2,7 @@
 use denote.Ref.{now}
 use Rattle.table.proofs.Tests.{no-way}
 use Rattle.lent.specs.Arrays.{arrays}
-use Rattle.board.specs.Lent.{Memory, memory}
+use Rattle.cells.specs.Memory.{Memory, memory}
 use Rattle.board.proofs.Drives.{full-list, driven-list}
 use borrow.Author.Needs.{needs}
 use Rattle.board.proofs.runs.wivakkol_list_on.Statement.{statement}

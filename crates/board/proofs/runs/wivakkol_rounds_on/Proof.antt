@@ -4,7 +4,7 @@ use Prim.Native.Nat.{ℕ, _<_}
 use native.Mathlib.Omega.{arith}
 use denote.Ref.{now}
 use Rattle.lent.specs.Arrays.{arrays}
-use Rattle.board.specs.Lent.{Memory, memory}
+use Rattle.cells.specs.Memory.{Memory, memory}
 use Rattle.board.proofs.Drives.{full-rounds, no-rounds, driven-rounds}
 use borrow.Author.Needs.{needs}
 use Rattle.board.proofs.runs.wivakkol_rounds_on.Statement.{statement}

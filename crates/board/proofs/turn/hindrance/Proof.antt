@@ -3,7 +3,7 @@ use mathlib.Core.Path.{_≡_}
 use Prim.Native.Nat.{ℕ, _≤_, _<_}
 use borrow.Author.Tests.{lt-ltb, le-ltb, eq-eqb, ne-eqb}
 use Rattle.schedule.specs.Machine.{ended}
-use Rattle.board.specs.Lent.{hindrance}
+use Rattle.cells.specs.Memory.{hindrance}
 use Rattle.board.proofs.turn.hindrance.Statement.{statement}
 use Rattle.board.proofs.turn.hindrance.Tie as tie
 

@@ -12,7 +12,7 @@ use lib.ListN.{getD}
 use Rattle.table.specs.Sum.{pick}
 use Rattle.schedule.specs.Links.{noThread, seek}
 use Rattle.lent.specs.Counted.{passedAlong}
-use Rattle.board.specs.Lent.{passedFrom}
+use Rattle.cells.specs.Memory.{passedFrom}
 use Rattle.board.proofs.turn.passed_by.Statement.{statement}
 use Rattle.board.proofs.turn.passed_by.Tie as tie
 

@@ -6,7 +6,7 @@ use denote.Ref.{now}
 use Rattle.schedule.specs.declared.Reply.{Reply}
 use Rattle.lent.specs.Arrays.{arrays}
 use Rattle.board.specs.declared.turn.Spoken.{Spoken}
-use Rattle.board.specs.Lent.{Memory, memory, Told, told}
+use Rattle.cells.specs.Memory.{Memory, memory, Told, told}
 use Rattle.board.proofs.Turns.{turned-as, hindered, no-place, unfits, takes}
 use borrow.Author.Needs.{needs}
 use Rattle.board.proofs.turn.turn_in.Statement.{statement}

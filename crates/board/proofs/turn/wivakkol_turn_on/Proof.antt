@@ -1,7 +1,7 @@
 -- `board::turn::wivakkol_turn_on` meets its contract: what the turn says is put into the row.
 use denote.Ref.{now}
 use Rattle.lent.specs.Arrays.{arrays}
-use Rattle.board.specs.Lent.{Memory, memory}
+use Rattle.cells.specs.Memory.{Memory, memory}
 use Rattle.board.proofs.Turns.{refuses, tells}
 use borrow.Author.Needs.{needs}
 use Rattle.board.proofs.turn.wivakkol_turn_on.Statement.{statement}

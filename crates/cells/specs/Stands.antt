@@ -16,7 +16,7 @@ use Rattle.schedule.specs.Sound.{allBelow, Steady}
 use Rattle.schedule.specs.Answers.{Values}
 use Rattle.lent.specs.Arrays.{secondOf, listedIn}
 use Rattle.lent.specs.Packed.{packedOf}
-use Rattle.board.specs.Lent.{Memory, workerFrom, movedIn, saidCode}
+use Rattle.cells.specs.Memory.{Memory, workerFrom, movedIn, saidCode}
 
 -- n workers from worker w on
 unfoldable pub workersFrom : List ℕ → List ℕ → List ℕ → ℕ → ℕ → List Worker

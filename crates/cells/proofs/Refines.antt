@@ -39,8 +39,8 @@ use Rattle.lent.specs.Packed.{packedOf}
 use Rattle.lent.proofs.Reading.{own-table}
 use Rattle.lent.proofs.Packed.{Carries, Goes, turn-goes}
 use Rattle.lent.proofs.Answers.{steady-full, steady-room, refusedAs, turned-unsound, turned-none, turned-over, turned-taken, root-over, root-open, passed-along}
-use Rattle.board.specs.Lent.{Memory, workerFrom, workerIn, movedIn, memoryAfter, turnRow, noRow, Answer, answer, hindrance, turnLeft, turnIn, passedOver, lentTurn}
-use Rattle.board.specs.Stands.{truths, workersFrom, workersIn, settled, runIn, Stands, valuesRow}
+use Rattle.cells.specs.Memory.{Memory, workerFrom, workerIn, movedIn, memoryAfter, turnRow, noRow, Answer, answer, hindrance, turnLeft, turnIn, passedOver, lentTurn}
+use Rattle.cells.specs.Stands.{truths, workersFrom, workersIn, settled, runIn, Stands, valuesRow}
 
 -- ---- the workers
 
