@@ -36,6 +36,7 @@ ghost use Rattle.cells.specs.Memory.{hindrance as hindranceOf};
 ghost use Rattle.cells.specs.Blocks.{bytesIn, wordsIn, memoryOf};
 
 mod act;
+pub mod copies;
 mod list;
 pub mod places;
 

@@ -4,7 +4,7 @@ ghost use mathlib.Core.Bool.{not};
 ghost use lib.ListN.{length, getD};
 ghost use lib.Dec.{eqb};
 ghost use Rattle.cells.specs.Blocks.{bytesIn, wordsIn, numbersIn, sumsIn};
-ghost use Rattle.cells.specs.Code.Cells.{statused, holding, rowed, threaded, headAt, headed, settingAt, quotaed, amounted, totalAt, totalled};
+ghost use Rattle.cells.specs.Code.Cells.{statused, holding, rowed, threaded, headAt, headed, settingAt, setTo, quotaed, amounted, totalAt, totalled};
 
 // the rows of the words, a number for each thread
 pub const PARENTS: usize = 0;
@@ -118,6 +118,12 @@ pub fn setting_at(numbers: &[u32; 18], i: usize) -> u32
     if i < 2 { numbers[i] } else { 0 }
 }
 
+pub fn put_setting(numbers: &mut [u32; 18], i: usize, x: u32)
+    ensures { λ _. ⌜ numbersIn (now (numbers .exit)) ≡ setTo i x (numbersIn (now (numbers .entry))) ⌝ }
+{
+    put_setting_in(numbers, i, x);
+}
+
 pub fn quota_at(numbers: &[u32; 18], w: usize) -> u32
     ensures { λ r. ⌜ r ≡ getD (numbersIn (now (numbers .entry)) .quotas) w 0 ⌝ }
 {
@@ -165,6 +171,15 @@ fn put_head_in(words: &mut [u16], h: usize, x: u16)
 {
     if h < 3 {
         words[6160 + h] = x;
+    }
+}
+
+fn put_setting_in(numbers: &mut [u32], i: usize, x: u32)
+    requires { ⌜ length (now numbers) ≡ 18 ⌝ }
+    ensures { λ _. ⌜ numbersIn (now (numbers .exit)) ≡ setTo i x (numbersIn (now (numbers .entry))) ⌝ }
+{
+    if i < 2 {
+        numbers[i] = x;
     }
 }
 

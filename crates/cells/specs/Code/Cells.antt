@@ -1,6 +1,7 @@
 -- Writes of one number into a block, by what they do to what stands there. A write at a place outside its row does nothing.
 use Prim.Native.Nat.{ℕ, suc, max}
-use mathlib.Core.Bool.{Bool}
+use mathlib.Core.List.{List, [], _∷_}
+use mathlib.Core.Bool.{Bool, _&&_}
 use lib.ListN.{getD, set}
 use lib.Dec.{ltb, eqb}
 use Rattle.table.specs.Sum.{pick}
@@ -53,6 +54,9 @@ unlinked k h t W =
 abbrev pub settingAt : ℕ → Numbers → ℕ
 settingAt i N = pick (eqb i 0) (N .workers) (pick (eqb i 1) (N .quota) 0)
 
+abbrev pub setTo : ℕ → ℕ → Numbers → Numbers
+setTo i x N = record { workers = pick (eqb i 0) x (N .workers); quota = pick (eqb i 1) x (N .quota); quotas = N .quotas }
+
 abbrev pub quotaed : ℕ → ℕ → Numbers → Numbers
 quotaed w x N = record { workers = N .workers; quota = N .quota; quotas = set (N .quotas) w x }
 
@@ -82,3 +86,29 @@ settledNumbers w after N = quotaed w (after .quota) N
 -- memory held, and its highest so far
 abbrev pub heldSums : ℕ → Sums → Sums
 heldSums x S = record { amounts = S .amounts; held = x; highest = max (S .highest) x; turns = S .turns }
+
+-- ---- whole rows
+
+abbrev pub laidRow : ℕ → List ℕ → Words → Words
+laidRow k l W =
+    record { rows = λ j. pick (ltb k 6 && eqb j k) l (W .rows j); threads = W .threads; leftmost = W .leftmost; first = W .first; busy = W .busy }
+
+abbrev pub statuses : List ℕ → Bytes → Bytes
+statuses l B = record { status = l; holds = B .holds }
+
+abbrev pub amountsAre : List ℕ → Sums → Sums
+amountsAre l S = record { amounts = l; held = S .held; highest = S .highest; turns = S .turns }
+
+-- of each worker one number
+unfoldable pub ofWorkers : (Worker → ℕ) → List Worker → List ℕ
+ofWorkers f [] = []
+ofWorkers f (x ∷ l) = f x ∷ ofWorkers f l
+
+abbrev pub manned : List Worker → Bytes → Bytes
+manned l B = record { status = B .status; holds = ofWorkers (λ x. pick (x .holds) 1 0) l }
+
+abbrev pub mannedWords : List Worker → Words → Words
+mannedWords l W = record { rows = W .rows; threads = ofWorkers (λ x. x .thread) l; leftmost = W .leftmost; first = W .first; busy = W .busy }
+
+abbrev pub mannedNumbers : List Worker → Numbers → Numbers
+mannedNumbers l N = record { workers = N .workers; quota = N .quota; quotas = ofWorkers (λ x. x .quota) l }
