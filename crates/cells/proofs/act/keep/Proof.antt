@@ -39,8 +39,7 @@ returns c =
     let j = c .before .before .before .before in
     let d = j .before .before .before in
     let z = having (d .args .t) (d .args .quota) in
-    let same : _≡_ {A = Words} (wordsIn (now (d .args .words))) (wordsIn (now (d .args .words))) = refl in
-    (
+    let same : _≡_ {A = Words} (wordsIn (now (d .args .words))) (wordsIn (now (d .args .words))) = refl in (
       settled-as (d .args .w) z (seated j) (c .settle .ensures .0),
       (
         settled-words-as (d .args .w) z (seated j) same (c .settle .ensures .1 .0),

@@ -19,12 +19,11 @@ returns : tie.Need-returns
 returns c =
     let r = c .before in
     let d = r .before .before .before .before in
-    let w = d .args .w in
-    (
+    let w = d .args .w in (
       c .settle .ensures .0 ∙ ap (λ (z : Worker). settled w z (bytesIn (now (d .args .bytes)))) (r .release .ensures),
       (
         c .settle .ensures .1 .0
-        ∙ ap (λ (z : Worker). settledWords w (holdsIn w (bytesIn (now (d .args .bytes)))) z (wordsIn (now (d .args .words)))) (r .release .ensures),
+            ∙ ap (λ (z : Worker). settledWords w (holdsIn w (bytesIn (now (d .args .bytes)))) z (wordsIn (now (d .args .words)))) (r .release .ensures),
         c .settle .ensures .1 .1 ∙ ap (λ (z : Worker). settledNumbers w z (numbersIn (now (d .args .numbers)))) (r .release .ensures),
       ),
     )

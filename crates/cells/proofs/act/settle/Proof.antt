@@ -18,8 +18,7 @@ head-at-requires c κs = search needs
 
 busy-after-requires : tie.Need-busy-after-requires
 busy-after-requires c κs =
-    let d = c .before .before .before .before in
-    (
+    let d = c .before .before .before .before in (
       d .pre .0,
       λ e. subst (λ (x : ℕ). x + 2 ^ (d .args .w) < 65536) (sym (c .head-at .ensures)) (d .pre .1 (not-false _ (sym (c .before .before .holds-at .ensures) ∙ e))),
     )
@@ -48,15 +47,14 @@ returns c =
     let k = b .before .before .before in
     let d = k .before .before in
     let w = d .args .w in
-    let z = d .args .after in
-    (
+    let z = d .args .after in (
       h .put-holds .ensures ∙ ap (λ (x : ℕ). holding w x (bytesIn (now (d .args .bytes)))) (h .before .as-number .ensures),
       (
         p .put-thread .ensures
-        ∙ ap (λ (W : Words). threaded w (z .thread) W)
-        (u .put-head .ensures
-        ∙ ap (λ (x : ℕ). headed 2 x (wordsIn (now (d .args .words))))
-        (b .busy-after .ensures ∙ (λ i. busyAfter (b .before .head-at .ensures i) (k .holds-at .ensures i) (z .holds) w))),
+            ∙ ap (λ (W : Words). threaded w (z .thread) W)
+            (u .put-head .ensures
+            ∙ ap (λ (x : ℕ). headed 2 x (wordsIn (now (d .args .words))))
+            (b .busy-after .ensures ∙ (λ i. busyAfter (b .before .head-at .ensures i) (k .holds-at .ensures i) (z .holds) w))),
         c .put-quota .ensures,
       ),
     )
