@@ -1,1 +1,2 @@
+mod Acts
 mod Listing

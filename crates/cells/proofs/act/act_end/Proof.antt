@@ -11,26 +11,18 @@ use Rattle.schedule.specs.Machine.{ready, ended}
 use Rattle.lent.specs.Turn.{waitsIn}
 use Rattle.cells.specs.Blocks.{bytesIn, wordsIn, numbersIn, sumsIn, Bytes, Words}
 use Rattle.cells.specs.Code.Cells.{statused, linkedLeft, unlinked}
-use Rattle.cells.proofs.Listing.{let-go-as, settles, woken-holds, woken-busy, ended-as}
+use Rattle.cells.proofs.Acts.{room-in}
+use Rattle.cells.proofs.Listing.{let-go-as, woken-holds, woken-busy, end-done}
 use borrow.Author.Needs.{needs}
 use Rattle.cells.proofs.act.act_end.Statement.{statement}
 use Rattle.cells.proofs.act.act_end.Tie as tie
-use Rattle.cells.proofs.act.act_end.Reads as reads
-use Rattle.cells.proofs.act.act_end.Lts as lts
-use Rattle.cells.proofs.act.done.Reads as done-reads
-use Rattle.cells.proofs.act.let_go.Reads as let-go-reads
-use Rattle.cells.proofs.act.waits.Reads as waits-reads
-use Rattle.cells.proofs.list.link_left.Reads as link-left-reads
-use Rattle.cells.proofs.list.unlink.Reads as unlink-reads
-use Rattle.cells.proofs.places.put_status.Reads as put-status-reads
-use Rattle.cells.proofs.places.row_at.Reads as row-at-reads
 
--- the one of two that a test chose
+-- the one of two that a test chooses
 chosen : {A : Type 0} {r : Bool} (x y : A) → r ≡ true → pick r x y ≡ x
 chosen x y e = rw e
 
-left-over : {A : Type 0} {r : Bool} (x y : A) → r ≡ false → pick r x y ≡ y
-left-over x y e = rw e
+passed-by : {A : Type 0} {r : Bool} (x y : A) → r ≡ false → pick r x y ≡ y
+passed-by x y e = rw e
 
 -- whether the parent waits, from the records before the thread left the list and ended
 waits-then : (T : Table) (u t : ℕ) (W : Words) (B : Bytes) {r : Bool} {W₁ : Words} {B₁ : Bytes} → r ≡ waitsIn T (W₁ .rows 1) (B₁ .status) u t → W₁ ≡ unlinked 2 0 t W → B₁ ≡ statused t ended B
@@ -46,7 +38,7 @@ bytes-there c =
     let o = v .before .before .before .before .before in
     let s = o .before .before in
     ⊎-elim (λ z. ap bytesIn (z .5) ∙ (z .2 .ensures ∙ (ap (statused (o .row-at .result) ready) (s .put-status .ensures) ∙ sym (chosen _ _ (z .0 .taken)))))
-    (λ z. ap bytesIn (z .1) ∙ (s .put-status .ensures ∙ sym (left-over _ _ (z .0 .left)))) (c .if1 .came)
+    (λ z. ap bytesIn (z .1) ∙ (s .put-status .ensures ∙ sym (passed-by _ _ (z .0 .left)))) (c .if1 .came)
 
 words-there : (c : tie.Joined1) → let v = c .before in let o = v .before .before .before .before .before in let d = o .before .before .before .before .before in
     let W : Words = unlinked 2 0 (d .args .t) (wordsIn (now (d .args .words))) in
@@ -57,8 +49,7 @@ words-there c =
     let o = n .before .before in
     let d = o .before .before .before .before .before in
     ⊎-elim (λ z. ap wordsIn (z .6) ∙ (z .4 .ensures ∙ (ap (linkedLeft 4 1 (o .row-at .result) (d .args .t)) (n .unlink .ensures) ∙ sym (chosen _ _ (z .0 .taken)))))
-    (λ z. ap wordsIn (z .2) ∙ (n .unlink .ensures ∙ sym (left-over _ _ (z .0 .left)))) (c .if1 .came)
-
+    (λ z. ap wordsIn (z .2) ∙ (n .unlink .ensures ∙ sym (passed-by _ _ (z .0 .left)))) (c .if1 .came)
 
 put-status-requires : tie.Need-put-status-requires
 put-status-requires c κs = search needs
@@ -83,33 +74,40 @@ unlink-requires-2 c κs = search needs
 
 let-go-requires : tie.Need-let-go-requires
 let-go-requires c κs =
-    let k = c .before .before .before in
-    let j = k .before .before in
+    let l = c .before .before .before in
+    let j = l .before .before in
     let v = j .before in
     let o = v .before .before .before .before .before in
     let d = o .before .before .before .before .before in
-    settles (d .pre) (ap (λ (B : Bytes). B .holds) (bytes-there j) ∙ woken-holds (v .waits .result) (o .row-at .result) ready (statused (d .args .t) ended (bytesIn (now (d .args .bytes)))))
-    (ap (λ (W : Words). W .busy) (k .unlink2 .ensures) ∙ (ap (λ (W : Words). W .busy) (words-there j)
-    ∙ woken-busy (v .waits .result) (o .row-at .result) (d .args .t) (unlinked 2 0 (d .args .t) (wordsIn (now (d .args .words))))))
+    let t = d .args .t in
+    let u = o .row-at .result in
+    room-in (d .pre) (ap (λ (B : Bytes). B .holds) (bytes-there j) ∙ woken-holds (v .waits .result) u ready (statused t ended (bytesIn (now (d .args .bytes)))))
+    (ap (λ (W : Words). W .busy) (l .unlink2 .ensures)
+    ∙ (ap (λ (W : Words). W .busy) (words-there j) ∙ woken-busy (v .waits .result) u t (unlinked 2 0 t (wordsIn (now (d .args .words))))))
 
 done-requires : tie.Need-done-requires
 done-requires c κs = search needs
 
 returns : tie.Need-returns
 returns c =
-    let f = c .before in
-    let k = f .before .before .before .before in
-    let j = k .before .before in
+    let g = c .before in
+    let l = g .before .before .before .before in
+    let j = l .before .before in
     let v = j .before in
-    let n = v .before .before .before in
-    let o = n .before .before in
+    let k = v .before .before .before in
+    let o = k .before .before in
     let s = o .before .before in
     let d = s .before .before .before in
+    let B = bytesIn (now (d .args .bytes)) in
+    let W = wordsIn (now (d .args .words)) in
+    let N = numbersIn (now (d .args .numbers)) in
+    let S = sumsIn (now (d .args .sums)) in
+    let w = d .args .w in
+    let t = d .args .t in
+    let u = o .row-at .result in
     λ T x p q.
-    let-go-as (d .args .w) (numbersIn (now (d .args .numbers))) (c .done .ensures) (f .let-go .ensures .0) (f .let-go .ensures .1 .0) (f .let-go .ensures .1 .1) (bytes-there j)
-    (k .unlink2 .ensures ∙ ap (unlinked 4 1 (d .args .t)) (words-there j))
-    (ended-as (bytesIn (now (d .args .bytes))) (wordsIn (now (d .args .words))) (numbersIn (now (d .args .numbers))) (sumsIn (now (d .args .sums))) (d .args .w) (d .args .t) (d .args .a) T x
-    (o .row-at .result) (v .waits .result) (o .row-at .ensures) (waits-then T (o .row-at .result) (d .args .t) (wordsIn (now (d .args .words))) (bytesIn (now (d .args .bytes))) (v .waits .ensures T p q) (n .unlink .ensures) (s .put-status .ensures)))
+    let-go-as w N (c .done .ensures) (bytes-there j) (l .unlink2 .ensures ∙ ap (unlinked 4 1 t) (words-there j)) (g .let-go .ensures .0) (g .let-go .ensures .1 .0) (g .let-go .ensures .1 .1)
+    (end-done B W N S T w t (d .args .a) x u (v .waits .result) (o .row-at .ensures) (waits-then T u t W B (v .waits .ensures T p q) (k .unlink .ensures) (s .put-status .ensures)))
 
 pub act-end-spec : {M : Type 1} → statement M
 act-end-spec =

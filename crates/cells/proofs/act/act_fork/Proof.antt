@@ -1,5 +1,5 @@
 -- `cells::act::act_fork` meets its contract: the records after each write, one after the other, are those of a fork.
-use mathlib.Core.Path.{_≡_, refl, ap, _∙_}
+use mathlib.Core.Path.{_≡_, ap, _∙_}
 use Prim.Native.Nat.{ℕ, _+_, _<_}
 use mathlib.Core.Bool.{Bool, true, _&&_}
 use native.Mathlib.Omega.{arith}
@@ -9,21 +9,13 @@ use lib.Dec.{ltb}
 use Rattle.schedule.specs.Machine.{ready}
 use Rattle.lent.specs.Turn.{nextFits}
 use Rattle.lent.proofs.Leaves.{fits16, fits-and}
-use Rattle.cells.specs.Blocks.{bytesIn, wordsIn, numbersIn, sumsIn, Bytes, Words}
+use Rattle.cells.specs.Blocks.{Bytes, Words, bytesIn, wordsIn, numbersIn, sumsIn}
 use Rattle.cells.specs.Code.Cells.{statused, linkedLeft}
-use Rattle.cells.proofs.Listing.{unfit-as, let-go-as, settles, fork-unfit, forked}
+use Rattle.cells.proofs.Acts.{room-in}
+use Rattle.cells.proofs.Listing.{unfit-as, let-go-as, fork-unfit, fork-done}
 use borrow.Author.Needs.{needs}
 use Rattle.cells.proofs.act.act_fork.Statement.{statement}
 use Rattle.cells.proofs.act.act_fork.Tie as tie
-use Rattle.cells.proofs.act.act_fork.Reads as reads
-use Rattle.cells.proofs.act.act_fork.Lts as lts
-use Rattle.cells.proofs.act.done.Reads as done-reads
-use Rattle.cells.proofs.act.let_go.Reads as let-go-reads
-use Rattle.cells.proofs.act.unfit.Reads as unfit-reads
-use Rattle.cells.proofs.list.link_left.Reads as link-left-reads
-use Rattle.cells.proofs.places.put_row.Reads as put-row-reads
-use Rattle.cells.proofs.places.put_status.Reads as put-status-reads
-use Rattle.lent.proofs.fits.fork_fits.Reads as fork-fits-reads
 
 small : {x : ℕ} → x < 1024 → x < 65536
 small h = omega (arith, h)
@@ -40,7 +32,6 @@ passed c =
     let d = c .before .before in
     inside (d .args .a) (d .args .x) (not-false _ (c .if1 .left)) (c .before .fork-fits .ensures)
 
-
 fork-fits-requires : tie.Need-fork-fits-requires
 fork-fits-requires c κs = search needs
 
@@ -49,12 +40,13 @@ unfit-requires c κs = search needs
 
 returns : tie.Need-returns
 returns c =
-    let q = c .before in
-    let d = q .before .before in
-    λ T.
-    unfit-as (c .unfit .ensures)
-    (fork-unfit (bytesIn (now (d .args .bytes))) (wordsIn (now (d .args .words))) (numbersIn (now (d .args .numbers))) (sumsIn (now (d .args .sums))) (d .args .w) (d .args .t) (d .args .a) T (d .args .x)
-    (q .before .fork-fits .ensures) (not-true _ (q .if1 .taken)))
+    let i = c .before in
+    let d = i .before .before in
+    let B = bytesIn (now (d .args .bytes)) in
+    let W = wordsIn (now (d .args .words)) in
+    let N = numbersIn (now (d .args .numbers)) in
+    let S = sumsIn (now (d .args .sums)) in
+    λ T. unfit-as (c .unfit .ensures) (fork-unfit B W N S T (d .args .w) (d .args .t) (d .args .a) (d .args .x) (not-true _ (i .if1 .taken)) (i .before .fork-fits .ensures))
 
 cast-c : tie.Need-cast-c
 cast-c c = fits16 (small (passed c .1))
@@ -79,35 +71,42 @@ link-left-requires-2 c κs = search needs
 
 let-go-requires : tie.Need-let-go-requires
 let-go-requires c κs =
-    let k = c .before .before .before in
-    let j = k .before .before in
-    let v = j .before .before in
+    let l = c .before .before .before in
+    let k = l .before .before in
+    let v = k .before .before in
     let s = v .before .before in
     let p = s .before .before in
     let d = p .before .before .before .before in
-    settles (d .pre) (ap (λ (B : Bytes). B .holds) (v .put-status2 .ensures ∙ ap (statused (d .args .x) ready) (s .put-status .ensures)))
-    (ap (λ (W : Words). W .busy) (k .link-left2 .ensures ∙ ap (linkedLeft 4 1 (d .args .x) (d .args .t)) (j .link-left .ensures
-    ∙ ap (linkedLeft 2 0 (d .args .x) (d .args .t)) (p .put-row .ensures))))
+    let x = d .args .x in
+    let t = d .args .t in
+    room-in (d .pre) (ap (λ (B : Bytes). B .holds) (v .put-status2 .ensures ∙ ap (statused x ready) (s .put-status .ensures)))
+    (ap (λ (W : Words). W .busy) (l .link-left2 .ensures ∙ ap (linkedLeft 4 1 x t) (k .link-left .ensures ∙ ap (linkedLeft 2 0 x t) (p .put-row .ensures))))
 
 done-requires : tie.Need-done-requires
 done-requires c κs = search needs
 
 returns-2 : tie.Need-returns-2
 returns-2 c =
-    let f = c .before in
-    let k = f .before .before .before .before in
-    let j = k .before .before in
-    let v = j .before .before in
+    let g = c .before in
+    let l = g .before .before .before .before in
+    let k = l .before .before in
+    let v = k .before .before in
     let s = v .before .before in
     let p = s .before .before in
-    let e = p .before .before in
-    let d = e .before .before in
+    let i = p .before .before in
+    let d = i .before .before in
+    let B = bytesIn (now (d .args .bytes)) in
+    let W = wordsIn (now (d .args .words)) in
+    let N = numbersIn (now (d .args .numbers)) in
+    let S = sumsIn (now (d .args .sums)) in
+    let w = d .args .w in
+    let t = d .args .t in
+    let x = d .args .x in
     λ T.
-    let-go-as (d .args .w) (numbersIn (now (d .args .numbers))) (c .done .ensures) (f .let-go .ensures .0) (f .let-go .ensures .1 .0) (f .let-go .ensures .1 .1)
-    (v .put-status2 .ensures ∙ ap (statused (d .args .x) ready) (s .put-status .ensures))
-    (k .link-left2 .ensures ∙ ap (linkedLeft 4 1 (d .args .x) (d .args .t)) (j .link-left .ensures ∙ ap (linkedLeft 2 0 (d .args .x) (d .args .t)) (p .put-row .ensures)))
-    (forked (bytesIn (now (d .args .bytes))) (wordsIn (now (d .args .words))) (numbersIn (now (d .args .numbers))) (sumsIn (now (d .args .sums))) (d .args .w) (d .args .t) (d .args .a) T (d .args .x)
-    (e .before .fork-fits .ensures) (not-false _ (e .if1 .left)) (d .pre))
+    let-go-as w N (c .done .ensures) (v .put-status2 .ensures ∙ ap (statused x ready) (s .put-status .ensures))
+    (l .link-left2 .ensures ∙ ap (linkedLeft 4 1 x t) (k .link-left .ensures ∙ ap (linkedLeft 2 0 x t) (p .put-row .ensures)))
+    (g .let-go .ensures .0) (g .let-go .ensures .1 .0) (g .let-go .ensures .1 .1)
+    (fork-done B W N S T w t (d .args .a) x (d .pre) (not-false _ (i .if1 .left)) (i .before .fork-fits .ensures))
 
 pub act-fork-spec : {M : Type 1} → statement M
 act-fork-spec =

@@ -4,29 +4,15 @@ use Prim.Native.Nat.{ℕ, _+_, _^_, _<_}
 use mathlib.Core.Bool.{Bool, true, _&&_}
 use borrow.Author.Tests.{not-true, not-false, ltb-true}
 use denote.Ref.{now}
-use Rattle.schedule.specs.declared.Worker.{Worker}
 use Rattle.lent.specs.Turn.{nextFits, amountFits}
 use Rattle.lent.proofs.Leaves.{fits16, fits64, fits-and}
-use Rattle.cells.specs.Blocks.{bytesIn, wordsIn, numbersIn, sumsIn, Bytes, Words}
-use Rattle.cells.specs.Code.Cells.{amounted, settledWords}
-use Rattle.cells.proofs.Listing.{holdsIn, unfit-as, gone-as, settles, join-unfit, joined}
+use Rattle.cells.specs.Blocks.{Words, bytesIn, wordsIn, numbersIn, sumsIn}
+use Rattle.cells.specs.Code.Cells.{amounted}
+use Rattle.cells.proofs.Acts.{gone-as, having, kept-words-as, room-in}
+use Rattle.cells.proofs.Listing.{unfit-as, join-unfit, join-done}
 use borrow.Author.Needs.{needs}
 use Rattle.cells.proofs.act.act_joined.Statement.{statement}
 use Rattle.cells.proofs.act.act_joined.Tie as tie
-use Rattle.cells.proofs.act.act_joined.Reads as reads
-use Rattle.cells.proofs.act.act_joined.Lts as lts
-use Rattle.cells.proofs.act.done.Reads as done-reads
-use Rattle.cells.proofs.act.keep.Reads as keep-reads
-use Rattle.cells.proofs.act.quota_left.Reads as quota-left-reads
-use Rattle.cells.proofs.act.unfit.Reads as unfit-reads
-use Rattle.cells.proofs.places.amount_at.Reads as amount-at-reads
-use Rattle.cells.proofs.places.put_amount.Reads as put-amount-reads
-use Rattle.cells.proofs.places.put_row.Reads as put-row-reads
-use Rattle.lent.proofs.fits.join_fits.Reads as join-fits-reads
-
--- the words where the worker keeps its thread last
-keep-as : (w : ℕ) (b : Bool) (after : Worker) {W W₁ W₂ : Words} → W₂ ≡ settledWords w b after W₁ → W₁ ≡ W → W₂ ≡ settledWords w b after W
-keep-as w b after e p = e ∙ ap (settledWords w b after) p
 
 -- what the test says
 room : {f : Bool} (a s : ℕ) → f ≡ true → f ≡ (nextFits a && amountFits s) → (a + 1 < 65536) × (s < 2 ^ 64)
@@ -42,7 +28,6 @@ passed c =
     let o = j .before .before .before in
     room (o .before .before .args .a) (o .amount-at .result + j .before .amount-at2 .result) (not-false _ (c .if1 .left)) (j .join-fits .ensures)
 
-
 amount-at-requires : tie.Need-amount-at-requires
 amount-at-requires c κs = search needs
 
@@ -57,14 +42,18 @@ unfit-requires c κs = search needs
 
 returns : tie.Need-returns
 returns c =
-    let q = c .before in
-    let j = q .before in
+    let i = c .before in
+    let j = i .before in
     let o = j .before .before .before in
     let d = o .before .before in
+    let B = bytesIn (now (d .args .bytes)) in
+    let W = wordsIn (now (d .args .words)) in
+    let N = numbersIn (now (d .args .numbers)) in
+    let S = sumsIn (now (d .args .sums)) in
     λ T.
     unfit-as (c .unfit .ensures)
-    (join-unfit (bytesIn (now (d .args .bytes))) (wordsIn (now (d .args .words))) (numbersIn (now (d .args .numbers))) (sumsIn (now (d .args .sums))) (d .args .w) (d .args .t) (d .args .a) T (d .args .c)
-    (d .pre .1 .0) (d .pre .1 .1) (d .pre .0) (o .amount-at .ensures) (j .before .amount-at2 .ensures) (j .join-fits .ensures) (not-true _ (q .if1 .taken)))
+    (join-unfit B W N S T (d .args .w) (d .args .t) (d .args .a) (d .args .c) (d .pre .0) (d .pre .1 .0) (d .pre .1 .1) (o .amount-at .ensures) (j .before .amount-at2 .ensures)
+    (j .join-fits .ensures) (not-true _ (i .if1 .taken)))
 
 add-put-row : tie.Need-add-put-row
 add-put-row c = fits16 (passed (c .before) .0)
@@ -86,10 +75,10 @@ quota-left-requires c κs = search needs
 
 keep-requires : tie.Need-keep-requires
 keep-requires c κs =
-    let l = c .before .before .before in
-    let p = l .before .before .before .before .before .before .before in
+    let q = c .before .before .before in
+    let p = q .before .before .before .before .before .before .before in
     let d = p .before .before .before .before .before .before .before .before in
-    settles (d .pre .0) refl (ap (λ (W : Words). W .busy) (p .put-row .ensures))
+    room-in (d .pre .0) refl (ap (λ (W : Words). W .busy) (p .put-row .ensures))
 
 done-requires : tie.Need-done-requires
 done-requires c κs = search needs
@@ -97,19 +86,26 @@ done-requires c κs = search needs
 returns-2 : tie.Need-returns-2
 returns-2 c =
     let k = c .before in
-    let l = k .before .before .before .before in
-    let z = l .before .before .before in
+    let q = k .before .before .before .before in
+    let z = q .before .before .before in
     let y = z .before .before in
     let p = y .before .before in
-    let e = p .before .before in
-    let j = e .before in
+    let i = p .before .before in
+    let j = i .before in
     let o = j .before .before .before in
     let d = o .before .before in
+    let B = bytesIn (now (d .args .bytes)) in
+    let W = wordsIn (now (d .args .words)) in
+    let N = numbersIn (now (d .args .numbers)) in
+    let S = sumsIn (now (d .args .sums)) in
+    let w = d .args .w in
+    let t = d .args .t in
     λ T.
-    gone-as (c .done .ensures) (k .keep .ensures .0) (keep-as (d .args .w) (holdsIn (bytesIn (now (d .args .bytes))) (d .args .w)) (record { holds = true; thread = d .args .t; quota = l .quota-left .result }) (k .keep .ensures .1 .0) (p .put-row .ensures)) (k .keep .ensures .1 .1)
+    gone-as (k .keep .last .0) (k .keep .last .1 .0) (k .keep .last .1 .1 .0) (z .put-amount2 .last .0) (c .done .ensures) (k .keep .ensures .0)
+    (kept-words-as B w (having t (q .quota-left .result)) (p .put-row .ensures) (k .keep .ensures .1 .0)) (k .keep .ensures .1 .1)
     (z .put-amount2 .ensures ∙ ap (amounted (d .args .c) 0) (y .put-amount .ensures))
-    (joined (bytesIn (now (d .args .bytes))) (wordsIn (now (d .args .words))) (numbersIn (now (d .args .numbers))) (sumsIn (now (d .args .sums))) (d .args .w) (d .args .t) (d .args .a) T (d .args .c)
-    (d .pre .1 .0) (d .pre .1 .1) (d .pre .0) (o .amount-at .ensures) (j .before .amount-at2 .ensures) (j .join-fits .ensures) (not-false _ (e .if1 .left)) (l .quota-left .ensures))
+    (join-done B W N S T w t (d .args .a) (d .args .c) (d .pre .0) (d .pre .1 .0) (d .pre .1 .1) (o .amount-at .ensures) (j .before .amount-at2 .ensures) (j .join-fits .ensures)
+    (q .quota-left .ensures) (not-false _ (i .if1 .left)))
 
 pub act-joined-spec : {M : Type 1} → statement M
 act-joined-spec =

@@ -12,17 +12,6 @@ use Rattle.cells.specs.Code.Acts.{Gone, acted}
 use borrow.Author.Needs.{needs}
 use Rattle.cells.proofs.act.go_on.Statement.{statement}
 use Rattle.cells.proofs.act.go_on.Tie as tie
-use Rattle.cells.proofs.act.go_on.Reads as reads
-use Rattle.cells.proofs.act.go_on.Lts as lts
-use Rattle.cells.proofs.act.act_alloc.Reads as act-alloc-reads
-use Rattle.cells.proofs.act.act_end.Reads as act-end-reads
-use Rattle.cells.proofs.act.act_fork.Reads as act-fork-reads
-use Rattle.cells.proofs.act.act_free.Reads as act-free-reads
-use Rattle.cells.proofs.act.act_join.Reads as act-join-reads
-use Rattle.cells.proofs.act.act_unknown.Reads as act-unknown-reads
-use Rattle.cells.proofs.act.act_work.Reads as act-work-reads
-use Rattle.table.proofs.read.argument_in.Reads as argument-in-reads
-use Rattle.table.proofs.read.code_in.Reads as code-in-reads
 
 module _ (T : Table) (l : List ℕ) (p : T .code ≡ codeAt l) (q : T .argument ≡ argumentAt l) (w t a : ℕ) (M : Memory) where
   -- of an action whose code and argument have been read
@@ -35,7 +24,6 @@ module _ (T : Table) (l : List ℕ) (p : T .code ≡ codeAt l) (q : T .argument 
 -- a code that is none of the six
 idles : (T : Table) (w t a : ℕ) (M : Memory) (x : ℕ) {k : ℕ} {g : Gone} → 6 ≤ k → g ≡ acted unknown T w t a x M → g ≡ acted (kindOf k) T w t a x M
 idles T w t a M x {k} h d = rw (code-unknown k h) d
-
 
 argument-in-requires : tie.Need-argument-in-requires
 argument-in-requires c κs = search needs

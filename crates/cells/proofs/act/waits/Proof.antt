@@ -16,12 +16,6 @@ use Rattle.cells.specs.Blocks.{bytesIn, wordsIn}
 use borrow.Author.Needs.{needs}
 use Rattle.cells.proofs.act.waits.Statement.{statement}
 use Rattle.cells.proofs.act.waits.Tie as tie
-use Rattle.cells.proofs.act.waits.Reads as reads
-use Rattle.cells.proofs.act.waits.Lts as lts
-use Rattle.cells.proofs.places.row_at.Reads as row-at-reads
-use Rattle.cells.proofs.places.status_at.Reads as status-at-reads
-use Rattle.table.proofs.read.argument_in.Reads as argument-in-reads
-use Rattle.table.proofs.read.code_in.Reads as code-in-reads
 
 -- an action is a join by its code
 join-code : (T : Table) (a k : ℕ) → k ≡ T .code a → is join (kind T a) ≡ eqb k 5
@@ -46,7 +40,6 @@ module _ (T : Table) (next status : List ℕ) (u t : ℕ) {w : ℕ} (g : w ≡ g
     by-child {x} j i =
         let y : x ≡ T .argument (getD next u 0) = rw q (i ∙ ap (argumentAt l) f) in
         rw (← g, eq-eqb w waiting h, join-code T (getD next u 0) k code-here, eq-eqb k 5 j, ← y)
-
 
 status-at-requires : tie.Need-status-at-requires
 status-at-requires c κs = search needs
