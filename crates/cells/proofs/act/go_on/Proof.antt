@@ -1,5 +1,5 @@
 -- `cells::act::go_on` meets its contract: the code read is that of the thread's next action, and its kind's function leaves what `acted` says of the kind.
-use mathlib.Core.Path.{_≡_, refl, sym, ap, _∙_}
+use mathlib.Core.Path.{_≡_, refl, sym, _∙_}
 use Prim.Native.Nat.{ℕ, _≤_}
 use mathlib.Core.List.{List}
 use native.Mathlib.Omega.{arith}

@@ -1,6 +1,6 @@
 -- `cells::act::waits` meets its contract: each way out answers `waitsIn` where one more of the three tests has been made.
 use mathlib.Core.Path.{_≡_, ap, _∙_}
-use Prim.Native.Nat.{ℕ, _<_}
+use Prim.Native.Nat.{ℕ}
 use mathlib.Core.List.{List}
 use mathlib.Core.Bool.{false}
 use native.Mathlib.Omega.{arith}
