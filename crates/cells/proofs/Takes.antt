@@ -20,6 +20,7 @@ use Rattle.schedule.specs.Record.{maxThreads}
 use Rattle.lent.specs.Arrays.{withStatuses}
 use Rattle.lent.specs.Turn.{Outcome, moved, unfit, actOn, actIn, Seat, seat, seatOf, seatIn, stepFrom, stepOn}
 use Rattle.lent.specs.Counted.{Left, counting, unmoved, busyAfter, roomFor, turnOn, passedAlong}
+use Rattle.cells.specs.declared.Spoken.{Spoken}
 use Rattle.cells.specs.declared.act.Went.{Went}
 use Rattle.cells.specs.Memory.{Memory, memory, workerIn, movedIn, memoryAfter, Told, told, turnLeft, takenIn, passedOver}
 use Rattle.cells.specs.Code.Acts.{Gone, gone, wentTo, wentIn, seatedStatus, seatedQuota, seatedWorker, acted}
@@ -206,3 +207,10 @@ module _ (M : Memory) (w : ℕ) where
       go false h q =
           let m : ltb (second .thread) noThread ≡ true = ap (λ (x : ℕ). ltb x noThread) (sym q) ∙ lt-ltb t noThread l in
           rw (m, h)
+
+-- ---- as the code says it
+pub spoke : {r : Spoken} {n p : ℕ} {x : Reply} {M : Memory} {t : Told} → r ≡ record { number = n; reply = x; passed = p } → told n x M ≡ t → told (r .number) (r .reply) M ≡ t
+spoke {r} {n} {p} {x} {M} e d = ap (λ (y : Spoken). told (y .number) (y .reply) M) e ∙ d
+
+pub passing : {r : Spoken} {n p : ℕ} {x : Reply} (b : Bool) (z : ℕ) → r ≡ record { number = n; reply = x; passed = p } → p ≡ pick (b && eqb n 0) z 0 → r .passed ≡ pick (b && eqb (r .number) 0) z 0
+passing {r} {n} {p} {x} b z e d = ap (λ (y : Spoken). y .passed) e ∙ d ∙ ap (λ (y : Spoken). pick (b && eqb (y .number) 0) z 0) (sym e)

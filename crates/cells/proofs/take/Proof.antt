@@ -20,10 +20,10 @@ use Rattle.lent.proofs.Leaves.{fits64}
 use Rattle.cells.specs.declared.Spoken.{Spoken}
 use Rattle.cells.specs.declared.act.Went.{Went}
 use Rattle.cells.specs.Memory.{Memory, workerIn, movedIn, Told, told, passedOver}
-use Rattle.cells.specs.Blocks.{Bytes, Words, Numbers, Sums, bytesIn, wordsIn, numbersIn, sumsIn, gathered, memoryOf}
+use Rattle.cells.specs.Blocks.{bytesIn, wordsIn, numbersIn, sumsIn, gathered, memoryOf}
 use Rattle.cells.specs.Code.Cells.{totalled}
 use Rattle.cells.specs.Code.Acts.{Gone, acted, Seated}
-use Rattle.cells.proofs.Takes.{counted, headsOut, room, without-room, no-thread, idles, goes-unfit, goes, passes-none, passes-idle, passes}
+use Rattle.cells.proofs.Takes.{counted, headsOut, room, without-room, no-thread, idles, goes-unfit, goes, passes-none, passes-idle, passes, spoke, passing}
 use Rattle.cells.proofs.take.Statement.{statement}
 use Rattle.cells.proofs.take.Tie as tie
 
@@ -32,13 +32,6 @@ start d = memoryOf (now (d .args .bytes)) (now (d .args .words)) (now (d .args .
 
 abbrev table-of : tie.Start → List ℕ
 table-of d = now (d .args .table)
-
--- as the struct says it
-spoke : {r : Spoken} {n p : ℕ} {x : Reply} {M : Memory} {t : Told} → r ≡ record { number = n; reply = x; passed = p } → told n x M ≡ t → told (r .number) (r .reply) M ≡ t
-spoke {r} {n} {p} {x} {M} e d = ap (λ (y : Spoken). told (y .number) (y .reply) M) e ∙ d
-
-passing : {r : Spoken} {n p : ℕ} {x : Reply} (b : Bool) (z : ℕ) → r ≡ record { number = n; reply = x; passed = p } → p ≡ pick (b && eqb n 0) z 0 → r .passed ≡ pick (b && eqb (r .number) 0) z 0
-passing {r} {n} {p} {x} b z e d = ap (λ (y : Spoken). y .passed) e ∙ d ∙ ap (λ (y : Spoken). pick (b && eqb (y .number) 0) z 0) (sym e)
 
 -- the test for room, of what stands in the memory
 asked : {f h h' : Bool} {t t' b b' : ℕ} (w : ℕ) → t ≡ t' → b ≡ b' → h ≡ h' → f ≡ roomFor t b h w → f ≡ roomFor t' b' h' w
@@ -69,8 +62,9 @@ roomy c =
     (asked (d .args .w) (counting-turns r .total-at .ensures) (r .before .head-at .ensures) (holding r .holds-at .ensures) (r .room-for .ensures))
 
 -- the memory with one turn more
-one-more : (B : Bytes) (W : Words) (N : Numbers) (S : Sums) {S' : Sums} {x y : ℕ} → x ≡ y → S' ≡ totalled 2 (x + 1) S → gathered B W N S' ≡ counted (y + 1) (headsOut (gathered B W N S))
-one-more B W N S e d = ap (gathered B W N) d ∙ ap (λ (z : ℕ). gathered B W N (totalled 2 (z + 1) S)) e
+one-more : {b w n l k : List ℕ} {x y : ℕ} → x ≡ y → sumsIn k ≡ totalled 2 (x + 1) (sumsIn l) → memoryOf b w n k ≡ counted (y + 1) (headsOut (memoryOf b w n l))
+one-more {b} {w} {n} {l} e d =
+    ap (gathered (bytesIn b) (wordsIn w) (numbersIn n)) d ∙ ap (λ (z : ℕ). gathered (bytesIn b) (wordsIn w) (numbersIn n) (totalled 2 (z + 1) (sumsIn l))) e
 
 total-at-requires : tie.Need-total-at-requires
 total-at-requires c κs = search needs
@@ -146,7 +140,7 @@ returns-3 c =
     let d = from r in
     let l = sought _ (h .if3 .left) (holding r .holds-at .ensures) (f .thread-for .ensures) (t .if2 .taken) in
     (spoke (c .refused3 .ensures)
-    (ap (told 0 Idle) (one-more (bytesIn (now (d .args .bytes))) (wordsIn (now (d .args .words))) (numbersIn (now (d .args .numbers))) (sumsIn (now (d .args .sums))) (counting-turns r .total-at .ensures) (p .put-total .ensures))
+    (ap (told 0 Idle) (one-more (counting-turns r .total-at .ensures) (p .put-total .ensures))
     ∙ idles (table-of d) (d .args .w) (start d) (not-false _ (e .if1 .left))
     (asked (d .args .w) (counting-turns r .total-at .ensures) (r .before .head-at .ensures) (holding r .holds-at .ensures) (r .room-for .ensures))
     (sym (holding r .holds-at .ensures) ∙ h .if3 .left) l),
@@ -207,8 +201,8 @@ behind g = g .before .before .before .before .before .before .before
 abbrev found : tie.After-row-at → tie.After-thread-for
 found c = c .before .before .before .before .before .before
 
-passed-as : {h k b : Bool} {x : Sought} {p : ℕ} → h ≡ k → p ≡ pick b (passedAlong h x) 0 → p ≡ pick b (passedAlong k x) 0
-passed-as {h} {k} {b} {x} e d = d ∙ ap (λ (y : Bool). pick b (passedAlong y x) 0) e
+passed-as : {h k : Bool} (b : Bool) (x : Sought) {p : ℕ} → h ≡ k → p ≡ pick b (passedAlong h x) 0 → p ≡ pick b (passedAlong k x) 0
+passed-as b x e d = d ∙ ap (λ (y : Bool). pick b (passedAlong y x) 0) e
 
 refused-requires-4 : tie.Need-refused-requires-4
 refused-requires-4 c κs = search needs
@@ -256,11 +250,11 @@ returns-5 c =
     let n = y .threads .ensures .value in
     let q = at-action (tableOf s) (d .args .w) (f .thread-for .result) (start d) (x .row-at .ensures) (g .go-on .ensures (tableOf s) (codes s (b .bodies .ensures) n) (arguments s (b .bodies .ensures) n)) in
     let l = x .before .before .before .before .before .if2 .left in
-    (ap (told 0 _) (one-more _ _ _ _ (counting-turns r .total-at .ensures) (c .put-total2 .ensures))
+    (ap (told 0 _) (one-more (counting-turns r .total-at .ensures) (c .put-total2 .ensures))
     ∙ goes s (d .args .w) (start d) (not-false _ (e .if1 .left))
     (asked (d .args .w) (counting-turns r .total-at .ensures) (r .before .head-at .ensures) (holding r .holds-at .ensures) (r .room-for .ensures))
     (f .thread-for .result) (f .thread-for .ensures) l q (not-false _ (t .if4 .left)),
-    passed-as (holding r .holds-at .ensures) (x .before .before .passed-along .ensures) ∙ passes (start d) (d .args .w) (d .args .counting) (f .thread-for .result) (f .thread-for .ensures) l)
+    passed-as (d .args .counting) (seek 1024 (start d .arrays .status) (start d .arrays .right) (movedIn (start d) .totals .leftmost)) (holding r .holds-at .ensures) (x .before .before .passed-along .ensures) ∙ passes (start d) (d .args .w) (d .args .counting) (f .thread-for .result) (f .thread-for .ensures) l)
 
 pub take-spec : {M : Type 1} → statement M
 take-spec =

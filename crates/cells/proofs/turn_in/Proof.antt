@@ -1,46 +1,79 @@
+-- `cells::turn_in` meets its contract: hindered, or taken.
+use mathlib.Core.Path.{_≡_, refl, sym, ap, _∙_}
+use Prim.Native.Nat.{ℕ}
+use mathlib.Core.List.{List}
+use mathlib.Core.Bool.{Bool, _&&_}
 use borrow.Author.Needs.{needs}
+use borrow.Author.Tests.{eq-eqb, ne-eqb}
+use denote.Ref.{now}
+use lib.Dec.{eqb}
+use lib.ListN.{getD}
+use Rattle.table.specs.Sum.{pick}
+use Rattle.schedule.specs.declared.Reply.{Reply}
+use Rattle.schedule.specs.declared.Reply.the-variants.{Idle}
+use Rattle.cells.specs.declared.Spoken.{Spoken}
+use Rattle.cells.specs.Memory.{Memory, movedIn, hindrance, Told, told, takenIn, turnIn, passedOver}
+use Rattle.cells.specs.Blocks.{memoryOf}
+use Rattle.cells.proofs.Takes.{passes-none, spoke, passing}
 use Rattle.cells.proofs.turn_in.Statement.{statement}
 use Rattle.cells.proofs.turn_in.Tie as tie
-use Rattle.cells.proofs.turn_in.Reads as reads
-use Rattle.cells.proofs.turn_in.Lts as lts
-use Rattle.cells.proofs.hindrance.Reads as hindrance-reads
-use Rattle.cells.proofs.places.setting_at.Reads as setting-at-reads
-use Rattle.cells.proofs.places.status_at.Reads as status-at-reads
-use Rattle.cells.proofs.places.total_at.Reads as total-at-reads
-use Rattle.cells.proofs.refused.Reads as refused-reads
-use Rattle.cells.proofs.take.Reads as take-reads
 
--- src/lib.rt:159:9
+abbrev start : tie.Start → Memory
+start d = memoryOf (now (d .args .bytes)) (now (d .args .words)) (now (d .args .numbers)) (now (d .args .sums))
+
+module _ (s : List ℕ) (w : ℕ) (M : Memory) {n : ℕ} (e : n ≡ hindrance (movedIn M .turns) (getD (M .settings) 0 0) w (getD (M .arrays .status) 0 0)) where
+  hindered : (n ≡ 0 → ⊥) → told n Idle M ≡ turnIn s w M
+  unfolding turnIn
+  hindered h = rw (← e, ne-eqb n 0 h)
+
+  goes-on : n ≡ 0 → takenIn s w M ≡ turnIn s w M
+  unfolding turnIn
+  goes-on h = rw (← e, eq-eqb n 0 h)
+
+-- of what stands in the memory
+asked : {n t t' p p' r r' : ℕ} (w : ℕ) → t ≡ t' → p ≡ p' → r ≡ r' → n ≡ hindrance t p w r → n ≡ hindrance t' p' w r'
+asked w a b c e = rw (← a, ← b, ← c) e
+
+abbrev from : tie.After-hindrance → tie.Start
+from h = h .before .before .before .before .before .before .before .before
+
+tested : (h : tie.After-hindrance) → let d = from h in let M = start d in h .hindrance .result ≡ hindrance (movedIn M .turns) (getD (M .settings) 0 0) (d .args .w) (getD (M .arrays .status) 0 0)
+tested h =
+    let t = h .before .before .before in
+    asked (from h .args .w) (t .total-at .ensures) (h .before .setting-at .ensures) (t .before .before .status-at .ensures) (h .hindrance .ensures)
+
 status-at-requires : tie.Need-status-at-requires
 status-at-requires c κs = search needs
 
--- src/lib.rt:160:28
 total-at-requires : tie.Need-total-at-requires
 total-at-requires c κs = search needs
 
--- src/lib.rt:160:53
 setting-at-requires : tie.Need-setting-at-requires
 setting-at-requires c κs = search needs
 
--- src/lib.rt:160:9
 hindrance-requires : tie.Need-hindrance-requires
 hindrance-requires c κs = search needs
 
--- src/lib.rt:162:9
 refused-requires : tie.Need-refused-requires
 refused-requires c κs = search needs
 
--- src/lib.rt:162:9
 returns : tie.Need-returns
-returns c = ?
+returns c =
+    let t = c .before in
+    let h = t .before in
+    let d = from h in
+    (spoke (c .refused .ensures) (hindered (now (d .args .table)) (d .args .w) (start d) (tested h) (t .if1 .taken)),
+    passing (d .args .counting) (passedOver (start d) (d .args .w)) (c .refused .ensures) (passes-none (d .args .counting) (h .hindrance .result) _ (ne-eqb _ 0 (t .if1 .taken))))
 
--- src/lib.rt:164:5
 take-requires : tie.Need-take-requires
 take-requires c κs = search needs
 
--- src/lib.rt:146:1
 returns-2 : tie.Need-returns-2
-returns-2 c = ?
+returns-2 c =
+    let e = c .before .before .before .before .before in
+    let h = e .before in
+    let d = from h in
+    (c .take .ensures .0 ∙ goes-on (now (d .args .table)) (d .args .w) (start d) (tested h) (e .if1 .left), c .take .ensures .1)
 
 pub turn-in-spec : {M : Type 1} → statement M
 turn-in-spec =
