@@ -1,7 +1,7 @@
 -- A part of a block, and numbers that stand alone in it: what is read there, and what a write does inside and outside. All of it is for any list whatever.
 use mathlib.Core.Path.{_≡_, refl, sym, ap, _∙_}
 use Prim.Native.Nat.{ℕ, zero, suc, _+_, _-_, _≤_, _<_}
-use native.Mathlib.Nat.{add-sub-of-le, min-le-left, zero-add}
+use native.Mathlib.Nat.{min-le-left, zero-add}
 use native.Mathlib.Omega.{arith}
 use mathlib.Core.List.{List}
 use mathlib.Core.Bool.{Bool, true, false}
