@@ -7,3 +7,5 @@ mod Acts
 mod Listing
 mod Takes
 pub mod Refines
+pub mod Parts
+pub mod Copied

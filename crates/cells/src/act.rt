@@ -106,7 +106,7 @@ fn busy_after(busy: u16, held: bool, holds: bool, w: usize) -> u16
 }
 
 // A truth value as a number.
-fn as_number(x: bool) -> u8
+pub(crate) fn as_number(x: bool) -> u8
     ensures { λ r. ⌜ r ≡ pick x 1 0 ⌝ }
 {
     if x { 1 } else { 0 }
