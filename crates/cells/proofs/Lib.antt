@@ -2,10 +2,9 @@
 mod Parts
 mod Rows
 mod Numbers
+mod Copied
 mod Linking
 mod Acts
 mod Listing
 mod Takes
 pub mod Refines
-pub mod Parts
-pub mod Copied
