@@ -1,7 +1,7 @@
 /* The calls of wivakkol.h on cases from standard input, for tests/board.py; all numbers are little-endian.
  *
  * Without an argument a case is the table's length, p and b (4 bytes each), M (8) and the table. For each a line: the number and the row of wivakkol_check, the number and the row of
- * wivakkol_quota. With the argument `runs` the first line has the size of a wivakkol_run and where its fields stand. A case is then its length (4) and steps on one run's memory:
+ * wivakkol_quota. With the argument `runs` the first line has the size of a wivakkol_run and where its blocks stand. A case is then its length (4) and steps on one run's memory:
  *   t LENGTH TABLE     the table from now on
  *   m AT LENGTH BYTES  these bytes stand in the run's memory
  *   b P K              wivakkol_begin
@@ -394,13 +394,12 @@ static size_t step(const uint8_t *s, size_t *most)
     return move_step(s, most);
 }
 
-#define FIELD(name) printf(" " #name " %zu %zu %zu", offsetof(wivakkol_run, name), sizeof lent.run.name[0], sizeof lent.run.name / sizeof lent.run.name[0])
+#define BLOCK(name) printf(" " #name " %zu %zu %zu", offsetof(wivakkol_run, name), sizeof lent.run.name[0], sizeof lent.run.name / sizeof lent.run.name[0])
 
 static void print_layout(void)
 {
     printf("size %zu", sizeof(wivakkol_run));
-    FIELD(amounts), FIELD(totals), FIELD(settings), FIELD(quotas), FIELD(parents), FIELD(next), FIELD(left), FIELD(right), FIELD(under);
-    FIELD(over), FIELD(threads), FIELD(heads), FIELD(status), FIELD(holds);
+    BLOCK(sums), BLOCK(numbers), BLOCK(words), BLOCK(bytes);
     printf("\n");
     fflush(stdout);
 }
