@@ -24,13 +24,13 @@ kept f h i y q = go (eqb h i) refl
 pub head-kept : (h : ℕ) (W : Words) → W ≡ headed h (headAt h W) W
 head-kept h W =
     λ i.
-      record {
-        rows = W .rows;
-        threads = W .threads;
-        leftmost = kept (λ j. headAt j W) h 0 (W .leftmost) refl i;
-        first = kept (λ j. headAt j W) h 1 (W .first) refl i;
-        busy = kept (λ j. headAt j W) h 2 (W .busy) refl i;
-      }
+    record {
+      rows = W .rows;
+      threads = W .threads;
+      leftmost = kept (λ j. headAt j W) h 0 (W .leftmost) refl i;
+      first = kept (λ j. headAt j W) h 1 (W .first) refl i;
+      busy = kept (λ j. headAt j W) h 2 (W .busy) refl i;
+    }
 
 -- it is written only where x is no thread
 module _ (h x y : ℕ) (U : Words) where

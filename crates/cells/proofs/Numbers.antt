@@ -40,11 +40,11 @@ module _ (l : List ℕ) (w x : ℕ) where
   pub quota-set : w < 16 → numbersIn (set l (2 + w) x) ≡ quotaed w x (numbersIn l)
   quota-set h =
       λ i.
-        record {
-          workers = getD-set-other l (2 + w) 0 x 0 (λ e. omega arith) i;
-          quota = getD-set-other l (2 + w) 1 x 0 (λ e. omega arith) i;
-          quotas = part-set 2 16 l w x h i;
-        }
+      record {
+        workers = getD-set-other l (2 + w) 0 x 0 (λ e. omega arith) i;
+        quota = getD-set-other l (2 + w) 1 x 0 (λ e. omega arith) i;
+        quotas = part-set 2 16 l w x h i;
+      }
 
   pub quota-set-past : 16 ≤ w → numbersIn l ≡ quotaed w x (numbersIn l)
   quota-set-past h = λ i. record { workers = getD l 0 0; quota = getD l 1 0; quotas = sym (part-set-past 2 16 l w x h) i }
@@ -55,12 +55,12 @@ module _ (l : List ℕ) (t x : ℕ) where
   pub amount-set : t < 1024 → sumsIn (set l t x) ≡ amounted t x (sumsIn l)
   amount-set h =
       λ i.
-        record {
-          amounts = front-set 1024 l t x h i;
-          held = getD-set-other l t 1024 x 0 (λ e. omega arith) i;
-          highest = getD-set-other l t 1025 x 0 (λ e. omega arith) i;
-          turns = getD-set-other l t 1026 x 0 (λ e. omega arith) i;
-        }
+      record {
+        amounts = front-set 1024 l t x h i;
+        held = getD-set-other l t 1024 x 0 (λ e. omega arith) i;
+        highest = getD-set-other l t 1025 x 0 (λ e. omega arith) i;
+        turns = getD-set-other l t 1026 x 0 (λ e. omega arith) i;
+      }
 
   pub amount-set-past : 1024 ≤ t → sumsIn l ≡ amounted t x (sumsIn l)
   amount-set-past h = λ i. record { amounts = sym (part-set-past 0 1024 l t x h) i; held = getD l 1024 0; highest = getD l 1025 0; turns = getD l 1026 0 }
@@ -74,19 +74,19 @@ total-past S h b = sym (three-past (S .held) (S .highest) (S .turns) h b)
 pub total-set : (l : List ℕ) (h x : ℕ) → length l ≡ 1027 → h < 3 → sumsIn (set l (1024 + h) x) ≡ totalled h x (sumsIn l)
 total-set l h x n b =
     λ i.
-      record {
-        amounts = part-left 0 1024 l (1024 + h) x (omega arith) i;
-        held = cell-set l 1024 0 h x (omega arith) i;
-        highest = cell-set l 1024 1 h x (omega arith) i;
-        turns = cell-set l 1024 2 h x (omega arith) i;
-      }
+    record {
+      amounts = part-left 0 1024 l (1024 + h) x (omega arith) i;
+      held = cell-set l 1024 0 h x (omega arith) i;
+      highest = cell-set l 1024 1 h x (omega arith) i;
+      turns = cell-set l 1024 2 h x (omega arith) i;
+    }
 
 pub total-set-past : (S : Sums) (h x : ℕ) → 3 ≤ h → S ≡ totalled h x S
 total-set-past S h x b =
     λ i.
-      record {
-        amounts = S .amounts;
-        held = sym (other-kept x (S .held) h 0 b (omega arith)) i;
-        highest = sym (other-kept x (S .highest) h 1 b (omega arith)) i;
-        turns = sym (other-kept x (S .turns) h 2 b (omega arith)) i;
-      }
+    record {
+      amounts = S .amounts;
+      held = sym (other-kept x (S .held) h 0 b (omega arith)) i;
+      highest = sym (other-kept x (S .highest) h 1 b (omega arith)) i;
+      turns = sym (other-kept x (S .turns) h 2 b (omega arith)) i;
+    }

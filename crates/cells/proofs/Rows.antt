@@ -57,13 +57,13 @@ module _ (l : List ℕ) (k t x : ℕ) where
   pub row-set : k < 6 → t < 1024 → wordsIn (set l (1024 * k + t) x) ≡ rowed k t x (wordsIn l)
   row-set a b =
       λ i.
-        record {
-          rows = λ j. rows j (eqb j k) refl i;
-          threads = part-right 6144 16 l (1024 * k + t) x (omega arith) i;
-          leftmost = getD-set-other l (1024 * k + t) 6160 x 0 (λ e. omega arith) i;
-          first = getD-set-other l (1024 * k + t) 6161 x 0 (λ e. omega arith) i;
-          busy = getD-set-other l (1024 * k + t) 6162 x 0 (λ e. omega arith) i;
-        }
+      record {
+        rows = λ j. rows j (eqb j k) refl i;
+        threads = part-right 6144 16 l (1024 * k + t) x (omega arith) i;
+        leftmost = getD-set-other l (1024 * k + t) 6160 x 0 (λ e. omega arith) i;
+        first = getD-set-other l (1024 * k + t) 6161 x 0 (λ e. omega arith) i;
+        busy = getD-set-other l (1024 * k + t) 6162 x 0 (λ e. omega arith) i;
+      }
     where
       rows : (j : ℕ) (s : Bool) → eqb j k ≡ s → rowIn (set l (1024 * k + t) x) j ≡ pick s (set (rowIn l k) t x) (rowIn l j)
       rows j true e = rw (eqb-true j k e) (own-row a b)
@@ -110,13 +110,13 @@ module _ (l : List ℕ) (w x : ℕ) where
   pub thread-set : w < 16 → wordsIn (set l (6144 + w) x) ≡ threaded w x (wordsIn l)
   thread-set h =
       λ i.
-        record {
-          rows = λ j. rows-kept l (6144 + w) x (omega arith) j i;
-          threads = part-set 6144 16 l w x h i;
-          leftmost = getD-set-other l (6144 + w) 6160 x 0 (λ e. omega arith) i;
-          first = getD-set-other l (6144 + w) 6161 x 0 (λ e. omega arith) i;
-          busy = getD-set-other l (6144 + w) 6162 x 0 (λ e. omega arith) i;
-        }
+      record {
+        rows = λ j. rows-kept l (6144 + w) x (omega arith) j i;
+        threads = part-set 6144 16 l w x h i;
+        leftmost = getD-set-other l (6144 + w) 6160 x 0 (λ e. omega arith) i;
+        first = getD-set-other l (6144 + w) 6161 x 0 (λ e. omega arith) i;
+        busy = getD-set-other l (6144 + w) 6162 x 0 (λ e. omega arith) i;
+      }
 
   pub thread-set-past : 16 ≤ w → wordsIn l ≡ threaded w x (wordsIn l)
   thread-set-past h = λ i. record { rows = rowIn l; threads = sym (part-set-past 6144 16 l w x h) i; leftmost = getD l 6160 0; first = getD l 6161 0; busy = getD l 6162 0 }
@@ -132,21 +132,21 @@ head-past W h b = sym (three-past (W .leftmost) (W .first) (W .busy) h b)
 pub head-set : (l : List ℕ) (h x : ℕ) → length l ≡ 6163 → h < 3 → wordsIn (set l (6160 + h) x) ≡ headed h x (wordsIn l)
 head-set l h x n b =
     λ i.
-      record {
-        rows = λ j. rows-kept l (6160 + h) x (omega arith) j i;
-        threads = part-left 6144 16 l (6160 + h) x (omega arith) i;
-        leftmost = cell-set l 6160 0 h x (omega arith) i;
-        first = cell-set l 6160 1 h x (omega arith) i;
-        busy = cell-set l 6160 2 h x (omega arith) i;
-      }
+    record {
+      rows = λ j. rows-kept l (6160 + h) x (omega arith) j i;
+      threads = part-left 6144 16 l (6160 + h) x (omega arith) i;
+      leftmost = cell-set l 6160 0 h x (omega arith) i;
+      first = cell-set l 6160 1 h x (omega arith) i;
+      busy = cell-set l 6160 2 h x (omega arith) i;
+    }
 
 pub head-set-past : (W : Words) (h x : ℕ) → 3 ≤ h → W ≡ headed h x W
 head-set-past W h x b =
     λ i.
-      record {
-        rows = W .rows;
-        threads = W .threads;
-        leftmost = sym (other-kept x (W .leftmost) h 0 b (omega arith)) i;
-        first = sym (other-kept x (W .first) h 1 b (omega arith)) i;
-        busy = sym (other-kept x (W .busy) h 2 b (omega arith)) i;
-      }
+    record {
+      rows = W .rows;
+      threads = W .threads;
+      leftmost = sym (other-kept x (W .leftmost) h 0 b (omega arith)) i;
+      first = sym (other-kept x (W .first) h 1 b (omega arith)) i;
+      busy = sym (other-kept x (W .busy) h 2 b (omega arith)) i;
+    }

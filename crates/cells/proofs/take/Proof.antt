@@ -62,8 +62,8 @@ roomy c =
     (asked (d .args .w) (counting-turns r .total-at .ensures) (r .before .head-at .ensures) (holding r .holds-at .ensures) (r .room-for .ensures))
 
 -- the memory with one turn more
-one-more : {b w n l k : List ℕ} {x y : ℕ} → x ≡ y → sumsIn k ≡ totalled 2 (x + 1) (sumsIn l) → memoryOf b w n k ≡ counted (y + 1) (headsOut (memoryOf b w n l))
-one-more {b} {w} {n} {l} e d =
+one-more : (b w n l k : List ℕ) {x y : ℕ} → x ≡ y → sumsIn k ≡ totalled 2 (x + 1) (sumsIn l) → memoryOf b w n k ≡ counted (y + 1) (headsOut (memoryOf b w n l))
+one-more b w n l k e d =
     ap (gathered (bytesIn b) (wordsIn w) (numbersIn n)) d ∙ ap (λ (z : ℕ). gathered (bytesIn b) (wordsIn w) (numbersIn n) (totalled 2 (z + 1) (sumsIn l))) e
 
 total-at-requires : tie.Need-total-at-requires
@@ -85,11 +85,12 @@ returns : tie.Need-returns
 returns c =
     let t = c .before in
     let r = t .before in
-    let d = from r in
-    (spoke (c .refused .ensures)
-    (without-room (table-of d) (d .args .w) (start d) (not-true _ (t .if1 .taken))
-    (asked (d .args .w) (counting-turns r .total-at .ensures) (r .before .head-at .ensures) (holding r .holds-at .ensures) (r .room-for .ensures))),
-    passing (d .args .counting) (passedOver (start d) (d .args .w)) (c .refused .ensures) (passes-none (d .args .counting) 32 _ refl))
+    let d = from r in (
+      spoke (c .refused .ensures)
+          (without-room (table-of d) (d .args .w) (start d) (not-true _ (t .if1 .taken))
+          (asked (d .args .w) (counting-turns r .total-at .ensures) (r .before .head-at .ensures) (holding r .holds-at .ensures) (r .room-for .ensures))),
+      passing (d .args .counting) (passedOver (start d) (d .args .w)) (c .refused .ensures) (passes-none (d .args .counting) 32 _ refl),
+    )
 
 thread-for-requires : tie.Need-thread-for-requires
 thread-for-requires c κs = search needs
@@ -111,12 +112,13 @@ returns-2 c =
     let f = t .before in
     let e = f .before .before .before in
     let r = e .before in
-    let d = from r in
-    (spoke (c .refused2 .ensures)
-    (no-thread (table-of d) (d .args .w) (start d) (not-false _ (e .if1 .left))
-    (asked (d .args .w) (counting-turns r .total-at .ensures) (r .before .head-at .ensures) (holding r .holds-at .ensures) (r .room-for .ensures))
-    (sym (holding r .holds-at .ensures) ∙ h .if3 .taken) (own _ (h .if3 .taken) (holding r .holds-at .ensures) (f .thread-for .ensures) (t .if2 .taken))),
-    passing (d .args .counting) (passedOver (start d) (d .args .w)) (c .refused2 .ensures) (passes-none (d .args .counting) 32 _ refl))
+    let d = from r in (
+      spoke (c .refused2 .ensures)
+          (no-thread (table-of d) (d .args .w) (start d) (not-false _ (e .if1 .left))
+          (asked (d .args .w) (counting-turns r .total-at .ensures) (r .before .head-at .ensures) (holding r .holds-at .ensures) (r .room-for .ensures))
+          (sym (holding r .holds-at .ensures) ∙ h .if3 .taken) (own _ (h .if3 .taken) (holding r .holds-at .ensures) (f .thread-for .ensures) (t .if2 .taken))),
+      passing (d .args .counting) (passedOver (start d) (d .args .w)) (c .refused2 .ensures) (passes-none (d .args .counting) 32 _ refl),
+    )
 
 add-put-total : tie.Need-add-put-total
 add-put-total c =
@@ -138,13 +140,14 @@ returns-3 c =
     let e = f .before .before .before in
     let r = e .before in
     let d = from r in
-    let l = sought _ (h .if3 .left) (holding r .holds-at .ensures) (f .thread-for .ensures) (t .if2 .taken) in
-    (spoke (c .refused3 .ensures)
-    (ap (told 0 Idle) (one-more (counting-turns r .total-at .ensures) (p .put-total .ensures))
-    ∙ idles (table-of d) (d .args .w) (start d) (not-false _ (e .if1 .left))
-    (asked (d .args .w) (counting-turns r .total-at .ensures) (r .before .head-at .ensures) (holding r .holds-at .ensures) (r .room-for .ensures))
-    (sym (holding r .holds-at .ensures) ∙ h .if3 .left) l),
-    passing (d .args .counting) (passedOver (start d) (d .args .w)) (c .refused3 .ensures) (passes-idle (start d) (d .args .w) (d .args .counting) l))
+    let l = sought _ (h .if3 .left) (holding r .holds-at .ensures) (f .thread-for .ensures) (t .if2 .taken) in (
+      spoke (c .refused3 .ensures)
+          (ap (told 0 Idle) (one-more (now (d .args .bytes)) (now (d .args .words)) (now (d .args .numbers)) (now (d .args .sums)) (p .put-total .last .0) (counting-turns r .total-at .ensures) (p .put-total .ensures))
+          ∙ idles (table-of d) (d .args .w) (start d) (not-false _ (e .if1 .left))
+          (asked (d .args .w) (counting-turns r .total-at .ensures) (r .before .head-at .ensures) (holding r .holds-at .ensures) (r .room-for .ensures))
+          (sym (holding r .holds-at .ensures) ∙ h .if3 .left) l),
+      passing (d .args .counting) (passedOver (start d) (d .args .w)) (c .refused3 .ensures) (passes-idle (start d) (d .args .w) (d .args .counting) l),
+    )
 
 passed-along-requires : tie.Need-passed-along-requires
 passed-along-requires c κs = search needs
@@ -220,12 +223,13 @@ returns-4 c =
     let d = from r in
     let s = table-of d in
     let n = y .threads .ensures .value in
-    let q = at-action (tableOf s) (d .args .w) (f .thread-for .result) (start d) (x .row-at .ensures) (g .go-on .ensures (tableOf s) (codes s (b .bodies .ensures) n) (arguments s (b .bodies .ensures) n)) in
-    (spoke (c .refused4 .ensures)
-    (goes-unfit s (d .args .w) (start d) (not-false _ (e .if1 .left))
-    (asked (d .args .w) (counting-turns r .total-at .ensures) (r .before .head-at .ensures) (holding r .holds-at .ensures) (r .room-for .ensures))
-    (f .thread-for .result) (f .thread-for .ensures) (x .before .before .before .before .before .if2 .left) q (not-true _ (t .if4 .taken))),
-    passing (d .args .counting) (passedOver (start d) (d .args .w)) (c .refused4 .ensures) (passes-none (d .args .counting) 32 _ refl))
+    let q = at-action (tableOf s) (d .args .w) (f .thread-for .result) (start d) (x .row-at .ensures) (g .go-on .ensures (tableOf s) (codes s (b .bodies .ensures) n) (arguments s (b .bodies .ensures) n)) in (
+      spoke (c .refused4 .ensures)
+          (goes-unfit s (d .args .w) (start d) (not-false _ (e .if1 .left))
+          (asked (d .args .w) (counting-turns r .total-at .ensures) (r .before .head-at .ensures) (holding r .holds-at .ensures) (r .room-for .ensures))
+          (f .thread-for .result) (f .thread-for .ensures) (x .before .before .before .before .before .if2 .left) q (not-true _ (t .if4 .taken))),
+      passing (d .args .counting) (passedOver (start d) (d .args .w)) (c .refused4 .ensures) (passes-none (d .args .counting) 32 _ refl),
+    )
 
 add-put-total-2 : tie.Need-add-put-total-2
 add-put-total-2 c =
@@ -249,12 +253,14 @@ returns-5 c =
     let s = table-of d in
     let n = y .threads .ensures .value in
     let q = at-action (tableOf s) (d .args .w) (f .thread-for .result) (start d) (x .row-at .ensures) (g .go-on .ensures (tableOf s) (codes s (b .bodies .ensures) n) (arguments s (b .bodies .ensures) n)) in
-    let l = x .before .before .before .before .before .if2 .left in
-    (ap (told 0 _) (one-more (counting-turns r .total-at .ensures) (c .put-total2 .ensures))
-    ∙ goes s (d .args .w) (start d) (not-false _ (e .if1 .left))
-    (asked (d .args .w) (counting-turns r .total-at .ensures) (r .before .head-at .ensures) (holding r .holds-at .ensures) (r .room-for .ensures))
-    (f .thread-for .result) (f .thread-for .ensures) l q (not-false _ (t .if4 .left)),
-    passed-as (d .args .counting) (seek 1024 (start d .arrays .status) (start d .arrays .right) (movedIn (start d) .totals .leftmost)) (holding r .holds-at .ensures) (x .before .before .passed-along .ensures) ∙ passes (start d) (d .args .w) (d .args .counting) (f .thread-for .result) (f .thread-for .ensures) l)
+    let z = g .go-on .last .1 .1 .1 .1 in
+    let l = x .before .before .before .before .before .if2 .left in (
+      ap (told 0 _) (one-more (z .0) (z .1 .0) (z .1 .1 .0) (z .1 .1 .1 .0) (c .put-total2 .last .0) (counting-turns r .total-at .ensures) (c .put-total2 .ensures))
+          ∙ goes s (d .args .w) (start d) (not-false _ (e .if1 .left))
+          (asked (d .args .w) (counting-turns r .total-at .ensures) (r .before .head-at .ensures) (holding r .holds-at .ensures) (r .room-for .ensures))
+          (f .thread-for .result) (f .thread-for .ensures) l q (not-false _ (t .if4 .left)),
+      passed-as (d .args .counting) (seek 1024 (start d .arrays .status) (start d .arrays .right) (movedIn (start d) .totals .leftmost)) (holding r .holds-at .ensures) (x .before .before .passed-along .ensures) ∙ passes (start d) (d .args .w) (d .args .counting) (f .thread-for .result) (f .thread-for .ensures) l,
+    )
 
 pub take-spec : {M : Type 1} → statement M
 take-spec =

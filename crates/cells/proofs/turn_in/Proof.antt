@@ -61,9 +61,10 @@ returns : tie.Need-returns
 returns c =
     let t = c .before in
     let h = t .before in
-    let d = from h in
-    (spoke (c .refused .ensures) (hindered (now (d .args .table)) (d .args .w) (start d) (tested h) (t .if1 .taken)),
-    passing (d .args .counting) (passedOver (start d) (d .args .w)) (c .refused .ensures) (passes-none (d .args .counting) (h .hindrance .result) _ (ne-eqb _ 0 (t .if1 .taken))))
+    let d = from h in (
+      spoke (c .refused .ensures) (hindered (now (d .args .table)) (d .args .w) (start d) (tested h) (t .if1 .taken)),
+      passing (d .args .counting) (passedOver (start d) (d .args .w)) (c .refused .ensures) (passes-none (d .args .counting) (h .hindrance .result) _ (ne-eqb _ 0 (t .if1 .taken))),
+    )
 
 take-requires : tie.Need-take-requires
 take-requires c κs = search needs
