@@ -108,7 +108,7 @@ module _ (B : Bytes) (W : Words) (N : Numbers) (S : Sums) (T : Table) (w t a x :
       → (let C : Bytes = pick r (statused u ready (statused t ended B)) (statused t ended B) in
       gone (record { fits = true; reply = Done t a })
       (gathered (settled w nobody C)
-      (settledWords w (holdsIn w C) nobody (unlinked 4 1 t (pick r (linkedLeft 4 1 u t (unlinked 2 0 t W)) (unlinked 2 0 t W)))) (settledNumbers w nobody N) S))
+      (settledWords w (holdsIn w C) nobody (unlinked 4 1 t (unlinked 2 0 t (pick r (linkedLeft 4 1 u t W) W)))) (settledNumbers w nobody N) S))
       ≡ acted end T w t a x (gathered B W N S)
   unfolding wentIn actOn linkLeft unlink
   end-done u true p e = rw (set-seated (holdsIn w B) (B .status) t held ended, ← p, ← e)

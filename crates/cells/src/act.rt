@@ -401,13 +401,13 @@ fn act_end(
     // "insert T into R in its original position"; "if (T has terminated)"
     put_status(bytes, t, ENDED);
     let u = row_at(&*words, PARENTS, t);
-    // "delete T from R"
-    unlink(words, LEFT, LEFTMOST, t);
     // "the parent T' of T is suspended": "reactivate T'"; in the second list it comes in the place of t
     if waits(actions, &*bytes, &*words, u, t) {
         put_status(bytes, u, READY);
         link_left(words, UNDER, FIRST, u, t);
     }
+    // "delete T from R"
+    unlink(words, LEFT, LEFTMOST, t);
     unlink(words, UNDER, FIRST, t);
     let_go(bytes, words, numbers, w);
     done(t, a)
