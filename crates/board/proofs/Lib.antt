@@ -9,6 +9,5 @@ mod Previews
 pub mod PreviewRefines
 pub mod LentLimit
 mod Numbered
-pub mod LentPromised
 mod Drives
 pub mod RunsRefine
