@@ -19,7 +19,7 @@ use Rattle.lent.specs.Arrays.{Arrays, tableFrom}
 use Rattle.lent.specs.Counted.{Left, counting, unmoved, roomFor, turnOn}
 use Rattle.lent.specs.Turn.{stepOn}
 use Rattle.lent.proofs.Reading.{own-table}
-use Rattle.cells.specs.Memory.{Memory, memory, workerIn, movedIn, headsOf, totalsOf, turnRow, noRow, answer, hindrance, Told, told, turnLeft, turnIn, passedOver, lentTurn}
+use Rattle.cells.specs.Memory.{Memory, memory, workerIn, movedIn, headsOf, totalsOf, hindrance, told, turnLeft, turnIn}
 
 -- ---- a turn that does not fit
 
