@@ -91,7 +91,7 @@ module _ (s : List ℕ) (p K : ℕ) where
     alone-list : walk noThread (alone .right) (alone .head) ≡ 0 ∷ []
     alone-list = walk-linked (alone .left) (alone .right) (alone .head) (0 ∷ []) alone-linked once-alone below-alone
 
-    start-stands : Stands s (startMemory s p K)
+    pub start-stands : Stands s (startMemory s p K)
     unfolding actives truths allBelow
     start-stands =
         record {

@@ -1,5 +1,5 @@
 // Opening a run that stands in lent memory: check 32, once, and what speeds its turns up.
-use crate::turn::worker_at;
+use crate::reads::worker_at;
 use crate::workers;
 use links::fill_actives;
 use schedule::Worker;

@@ -1,9 +1,9 @@
 // A turn on a run that stands in lent memory, shown before it is taken (N4). All but the row is read alone: "the record itself is unaltered".
-use crate::turn::hindrance;
-use crate::turn::moved_at;
-use crate::turn::passed_by;
-use crate::turn::put_reply;
-use crate::turn::worker_at;
+use crate::reads::moved_at;
+use crate::reads::passed_by;
+use crate::reads::worker_at;
+use cells::hindrance;
+use cells::replies::put_reply;
 use peek::Peeked;
 use peek::peek_turn;
 use schedule::Reply;

@@ -1,7 +1,7 @@
--- `board::turn::put_reply` meets its contract, case by case.
+-- `cells::replies::put_reply` meets its contract, case by case.
 use borrow.Author.Needs.{needs}
-use Rattle.board.proofs.turn.put_reply.Statement.{statement}
-use Rattle.board.proofs.turn.put_reply.Tie as tie
+use Rattle.cells.proofs.replies.put_reply.Statement.{statement}
+use Rattle.cells.proofs.replies.put_reply.Tie as tie
 
 enum-told : tie.Need-enum-told
 enum-told c = search needs

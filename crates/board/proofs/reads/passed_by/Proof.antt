@@ -1,4 +1,4 @@
--- `board::turn::passed_by` meets its contract: of a worker that there is, 0 where it holds a thread or finds none ready, else what the search along the list counts.
+-- `board::reads::passed_by` meets its contract: of a worker that there is, 0 where it holds a thread or finds none ready, else what the search along the list counts.
 use mathlib.Core.Path.{_≡_, refl}
 use Prim.Native.Nat.{ℕ, _≤_, _<_}
 use mathlib.Core.List.{List}
@@ -13,8 +13,8 @@ use Rattle.table.specs.Sum.{pick}
 use Rattle.schedule.specs.Links.{noThread, seek}
 use Rattle.lent.specs.Counted.{passedAlong}
 use Rattle.cells.specs.Memory.{passedFrom}
-use Rattle.board.proofs.turn.passed_by.Statement.{statement}
-use Rattle.board.proofs.turn.passed_by.Tie as tie
+use Rattle.board.proofs.reads.passed_by.Statement.{statement}
+use Rattle.board.proofs.reads.passed_by.Tie as tie
 
 module _ (status right over : List ℕ) (leftmost first x : ℕ) where
   abbrev there : ℕ
