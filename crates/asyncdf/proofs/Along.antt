@@ -48,11 +48,13 @@ module _ {who : ℕ → ℕ} {limit : ℕ} {s : List ℕ} {last : ℕ} {M₀ M :
   -- nothing is left of the list or the limit
   pub spent : limit ≤ i → Stopped who limit s M₀ (Spent i) reply M
   spent h =
-      let z : limit - i ≡ 0 = omega (arith, h) in
-      (record {
-        ran-as = sym (drive-spent who i here (v .moving .unended)) ∙ rw z at (v .remains);
-        said = λ one o. v .said (omega (arith, one, h, v .within));
-      }, v .same)
+      let z : limit - i ≡ 0 = omega (arith, h) in (
+        record {
+          ran-as = sym (drive-spent who i here (v .moving .unended)) ∙ rw z at (v .remains);
+          said = λ one o. v .said (omega (arith, one, h, v .within));
+        },
+        v .same,
+      )
 
   module _ (h : i < limit) where
     goes : drive who (suc (limit - (i + 1))) i here ≡ drive who limit 0 run₀
@@ -154,8 +156,10 @@ module _ {who : ℕ → ℕ} {limit : ℕ} {s : List ℕ} {last : ℕ} {M₀ M :
 
           -- "a run stops at the root's end"
           pub finished : {u a : ℕ} → x .reply ≡ Done u a → a ≡ last → Stopped who limit s M₀ (Finished (i + 1)) (Done u a) (x .memory)
-          finished j f =
-              (record {
-                ran-as = sym (drive-over who (i + 1) there (limit - (i + 1)) (over-after (v .moving) room below t j f)) ∙ rest;
-                said = λ one o. sym j ∙ first-said (at-start one);
-              }, same-there)
+          finished j f = (
+            record {
+              ran-as = sym (drive-over who (i + 1) there (limit - (i + 1)) (over-after (v .moving) room below t j f)) ∙ rest;
+              said = λ one o. sym j ∙ first-said (at-start one);
+            },
+            same-there,
+          )

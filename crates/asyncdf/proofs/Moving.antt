@@ -4,7 +4,7 @@ use Prim.Native.Nat.{ℕ, _+_, _-_, _^_, _≤_, _<_}
 use mathlib.Core.List.{List, [], _∷_}
 use mathlib.Core.Bool.{Bool, true, false}
 use native.Mathlib.Omega.{arith}
-use borrow.Author.Tests.{eq-eqb, ne-eqb, lt-ltb, le-ltb, eqb-true, eqb-false, ltb-true, ltb-false}
+use borrow.Author.Tests.{ne-eqb, lt-ltb, eqb-true, eqb-false, ltb-true, ltb-false}
 use denote.Enum.Declared.{tagOf}
 use types.Run.{OneOf, miss}
 use lib.Dec.{ltb, eqb}
@@ -16,7 +16,7 @@ use Rattle.schedule.specs.declared.Run.{Run}
 use Rattle.schedule.specs.declared.Reply.{Reply}
 use Rattle.schedule.specs.declared.Reply.the-variants.{Idle, Done}
 use Rattle.schedule.specs.Memory.{ofReply}
-use Rattle.schedule.specs.Links.{Links, LinkedAs}
+use Rattle.schedule.specs.Links.{LinkedAs}
 use Rattle.schedule.specs.Actives.{actives}
 use Rattle.schedule.specs.Record.{maxBytes, bytesOf, tableIn, listIn, stateOf}
 use Rattle.schedule.specs.Sound.{Steady}

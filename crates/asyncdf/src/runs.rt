@@ -9,7 +9,7 @@ use schedule::statuses::ENDED;
 use table::Refusal;
 use table::read::count;
 ghost use mathlib.Core.Path.{_≡_};
-ghost use Prim.Native.Nat.{ℕ, _+_, _-_, _<_};
+ghost use Prim.Native.Nat.{ℕ, _<_};
 ghost use Rattle.table.specs.Format.{tableOf};
 ghost use Rattle.table.specs.Pass.{refusal};
 ghost use Rattle.table.specs.Checks.{endOf};

@@ -23,13 +23,13 @@ ghost use mathlib.Core.Path.{_≡_};
 ghost use mathlib.Core.Bool.{true, false};
 ghost use Prim.Native.Nat.{_+_, _*_, _≤_, _<_};
 ghost use lib.ListN.{length, getD};
-ghost use Rattle.table.specs.Format.{kind, tableOf};
-ghost use Rattle.schedule.specs.Listing.{actionIn, threadIn, line, toldWith, lastWith};
+ghost use Rattle.table.specs.Format.{tableOf};
+ghost use Rattle.schedule.specs.Listing.{actionIn, threadIn, lastWith};
 ghost use Rattle.schedule.specs.Record.{tableIn};
 ghost use Rattle.schedule.specs.Turn.{unsound};
 ghost use Rattle.lines.specs.Lines.{turnTexts};
 ghost use Rattle.lines.specs.Puts.{Puts};
-ghost use Rattle.chart.specs.Chart.{shownOf, mostTurns};
+ghost use Rattle.chart.specs.Chart.{mostTurns};
 ghost use Rattle.schedule.specs.Parents.{Parents};
 ghost use Rattle.cells.specs.Memory.{movedIn};
 ghost use Rattle.cells.specs.Stands.{runIn};
@@ -184,7 +184,17 @@ fn put_each(
         let reply = spoken.reply;
         i += 1;
         at = put_after(
-            chart, table, &*bytes, &*words, &*numbers, &*sums, out, at, p, w, reply,
+            chart,
+            table,
+            &*bytes,
+            &*words,
+            &*numbers,
+            &*sums,
+            out,
+            at,
+            p,
+            w,
+            reply,
         );
         let Reply::Done { thread: _, action } = reply else {
             continue;

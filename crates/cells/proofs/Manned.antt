@@ -1,6 +1,6 @@
 -- The workers' records taken apart, a row for each of their numbers, and put together again.
 use mathlib.Core.Path.{_≡_, refl, sym, ap, _∙_}
-use Prim.Native.Nat.{ℕ, zero, suc, _+_, _<_}
+use Prim.Native.Nat.{ℕ, zero, suc, _+_}
 use native.Mathlib.Omega.{arith}
 use mathlib.Core.List.{List, [], _∷_}
 use mathlib.Core.Bool.{Bool, true, false, not}
@@ -30,9 +30,6 @@ of-at f z (x ∷ l) zero = refl
 of-at f z (x ∷ l) (suc i) = of-at f z l i
 
 -- ---- the records
-
-abbrev pub truthOf : Worker → ℕ
-truthOf x = pick (x .holds) 1 0
 
 truth-back : (b : Bool) → not (eqb (pick b 1 0) 0) ≡ b
 truth-back true = refl

@@ -1,5 +1,4 @@
 -- `asyncdf::packing::unpack` meets its contract: each part is read where it stands.
-use mathlib.Core.Path.{_≡_}
 use borrow.Author.Needs.{needs}
 use Rattle.schedule.specs.declared.Run.{Run}
 use Rattle.asyncdf.proofs.packing.unpack.Statement.{statement}

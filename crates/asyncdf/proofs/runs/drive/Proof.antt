@@ -78,9 +78,10 @@ turns-fit s = search needs
 
 take-turns-requires : tie.Need-take-turns-requires
 take-turns-requires c κs =
-    let s = start c in
-    (first-moving (s .pre .0) (now (s .args .parents)) (copied c .pack .ensures) (root-open _ (going c .if1 .left)) (c .before .before .before .before .root-end .ensures) (s .pre .1 .0) (turns-fit s),
-    s .pre .1 .1)
+    let s = start c in (
+      first-moving (s .pre .0) (now (s .args .parents)) (copied c .pack .ensures) (root-open _ (going c .if1 .left)) (c .before .before .before .before .root-end .ensures) (s .pre .1 .0) (turns-fit s),
+      s .pre .1 .1,
+    )
 
 unpack-requires : tie.Need-unpack-requires
 unpack-requires c κs = search needs

@@ -137,11 +137,14 @@ put-each-requires : tie.Need-put-each-requires
 put-each-requires c κs =
     let s = begun c in
     let m = copied c .pack .ensures in
-    let e = tested (copied c) in
-    (first-moving (steady e) (now (s .args .parents)) m (root-open _ (going e .if1 .left)) (c .before .before .before .before .before .root-end .ensures) (s .pre .1 .0 (some (e .if3 .left)))
-    (turns-fit s),
-    (ap (λ (x : Memory). getD (x .settings) 0 0) (sym m),
-    λ x. omega (arith, ap (λ (y : Memory). movedIn y .turns) m, s .pre .1 .1 x)))
+    let e = tested (copied c) in (
+      first-moving (steady e) (now (s .args .parents)) m (root-open _ (going e .if1 .left)) (c .before .before .before .before .before .root-end .ensures) (s .pre .1 .0 (some (e .if3 .left)))
+          (turns-fit s),
+      (
+        ap (λ (x : Memory). getD (x .settings) 0 0) (sym m),
+        λ x. omega (arith, ap (λ (y : Memory). movedIn y .turns) m, s .pre .1 .1 x),
+      ),
+    )
 
 same-length-4 : tie.Need-same-length-4
 same-length-4 c = search needs
