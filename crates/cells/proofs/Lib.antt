@@ -8,3 +8,4 @@ mod Acts
 mod Listing
 mod Takes
 pub mod Refines
+pub mod Manned

@@ -22,7 +22,7 @@ use Rattle.schedule.specs.Links.{noThread, Sought, seek}
 use Rattle.schedule.specs.Actives.{actives}
 use Rattle.schedule.specs.Record.{maxBytes, bytesOf, tableIn, listIn, stateOf}
 use Rattle.schedule.specs.Sound.{Steady}
-use Rattle.schedule.specs.Turn.{rootEnded, passedIn, turned}
+use Rattle.schedule.specs.Turn.{rootEnded, stepRun, passedIn, turned}
 use Rattle.schedule.specs.Runs.{moved}
 use Rattle.schedule.specs.Answers.{turningValues}
 use Rattle.schedule.specs.Values.{turnValues}
@@ -39,7 +39,7 @@ use Rattle.lent.specs.Packed.{packedOf}
 use Rattle.lent.proofs.Reading.{own-table}
 use Rattle.lent.proofs.Packed.{Carries, Goes, turn-goes}
 use Rattle.lent.proofs.Answers.{steady-full, steady-room, refusedAs, turned-unsound, turned-none, turned-over, turned-taken, root-over, root-open, passed-along}
-use Rattle.cells.specs.Memory.{Memory, workerFrom, workerIn, movedIn, memoryAfter, turnRow, noRow, Answer, answer, hindrance, turnLeft, turnIn, passedOver, lentTurn}
+use Rattle.cells.specs.Memory.{Memory, workerFrom, workerIn, movedIn, memoryAfter, turnRow, noRow, Answer, answer, hindrance, Told, told, turnLeft, turnIn, passedOver, lentTurn}
 use Rattle.cells.specs.Stands.{truths, workersFrom, workersIn, settled, runIn, Stands, valuesRow}
 
 -- ---- the workers
@@ -159,8 +159,11 @@ one-search holds y t e = go holds (ltb (y .thread) noThread) refl
 -- of a turn that is taken: the record after it stands
 pub record Moves (s : List ℕ) (M : Memory) (w : ℕ) : Type 0 where
   pub number : turnIn s w M .number ≡ 0
+  pub reply : turnIn s w M .reply ≡ stepRun (runIn s M) w .reply
   pub record-after : runIn s (turnIn s w M .memory) ≡ moved (runIn s M) w
   pub stands : Stands s (turnIn s w M .memory)
+  pub settings : turnIn s w M .memory .settings ≡ M .settings
+  pub count : movedIn (turnIn s w M .memory) .turns ≡ movedIn M .turns + 1
 
 module _ (s : List ℕ) (M : Memory) (h : Stands s M) (w : ℕ) where
   abbrev r : Run
@@ -230,6 +233,11 @@ module _ (s : List ℕ) (M : Memory) (h : Stands s M) (w : ℕ) where
               };
         })
 
+    told-so : (eqb (movedIn M .turns) (2 ^ 64 - 1) ≡ false) → (ltb w (getD (M .settings) 0 0) ≡ true) → (eqb (getD (M .arrays .status) 0 0) ended ≡ false)
+        → turnIn s w M ≡ told 0 (z .reply) (memoryAfter M w z)
+    unfolding turnIn turnLeft hindrance
+    told-so x y q = rw (x, y, q, goes .fits)
+
     left-so : (eqb (movedIn M .turns) (2 ^ 64 - 1) ≡ false) → (ltb w (getD (M .settings) 0 0) ≡ true) → (eqb (getD (M .arrays .status) 0 0) ended ≡ false)
         → lentTurn s w M ≡ answer 0 (turnRow (z .reply) along) (memoryAfter M w z)
     unfolding lentTurn turnIn turnLeft hindrance
@@ -248,11 +256,14 @@ module _ (s : List ℕ) (M : Memory) (h : Stands s M) (w : ℕ) where
       let room = eqb-false _ _ x in
       let b = ltb-true _ _ y in
       let o = root-open r (eqb-false _ _ q) in
-      let e = left-so room b o x y q in
+      let e = told-so room b o x y q in
       record {
-        number = ap (λ (a : Answer). a .number) e;
-        record-after = ap (λ (a : Answer). runIn s (a .memory)) e ∙ after room b o;
-        stands = left room b o e .stands;
+        number = ap (λ (t : Told). t .number) e;
+        reply = ap (λ (t : Told). t .reply) e ∙ sym (goes room b o .reply);
+        record-after = ap (λ (t : Told). runIn s (t .memory)) e ∙ after room b o;
+        stands = left room b o (left-so room b o x y q) .stands;
+        settings = ap (λ (t : Told). t .memory .settings) e;
+        count = ap (λ (t : Told). movedIn (t .memory) .turns) e ∙ goes room b o .count;
       }
 
   -- the law of refinement

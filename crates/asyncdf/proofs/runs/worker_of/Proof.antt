@@ -3,6 +3,7 @@ use mathlib.Core.Path.{_≡_}
 use Prim.Native.Nat.{ℕ, _%_}
 use mathlib.Core.List.{List}
 use mathlib.Core.Bool.{Bool, true, false}
+use native.Mathlib.Nat.{mod-lt}
 use native.Mathlib.Omega.{arith}
 use denote.Ref.{now}
 use lib.ListN.{getD}
@@ -21,11 +22,13 @@ in-order order p i e = rw e
 rem-result : tie.Need-rem-result
 rem-result c = c .before .pre .workers (c .if1 .taken)
 
+cast-result : tie.Need-cast-result
+cast-result c =
+    let s = c .before in
+    omega (arith, mod-lt (s .args .i) (s .pre .workers (c .if1 .taken)), s .fits .p)
+
 shared-slice-read-result : tie.Need-shared-slice-read-result
 shared-slice-read-result c = c .before .before .pre .within (c .before .if1 .left)
-
-cast-result : tie.Need-cast-result
-cast-result c = omega (arith, c .shared-slice-known .given (c .before .before .args .i))
 
 returns : tie.Need-returns
 returns c = in-rounds (now (c .before .args .order)) (c .before .args .p) (c .before .args .i) (c .if1 .taken)
@@ -34,5 +37,4 @@ returns-2 : tie.Need-returns-2
 returns-2 c = in-order (now (c .before .before .args .order)) (c .before .before .args .p) (c .before .before .args .i) (c .before .if1 .left)
 
 pub worker-of-spec : {M : Type 1} → statement M
-worker-of-spec =
-    tie.close (tie.spec rem-result shared-slice-read-result cast-result returns returns-2)
+worker-of-spec = tie.close (tie.spec rem-result cast-result shared-slice-read-result returns returns-2)
