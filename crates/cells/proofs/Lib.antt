@@ -7,5 +7,5 @@ mod Linking
 mod Acts
 mod Listing
 mod Takes
-pub mod Refines
 pub mod Manned
+pub mod Refines
