@@ -7,5 +7,6 @@ mod Linking
 mod Acts
 mod Listing
 mod Takes
+pub mod Fixed
 pub mod Manned
 pub mod Refines

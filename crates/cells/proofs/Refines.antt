@@ -62,11 +62,11 @@ sixteen M = workers-length (M .holds) (M .threads) (M .quotas) 0 16
 pub own-worker : (M : Memory) (w : ℕ) → w < 16 → getD (workersIn M) w nobody ≡ workerIn M w
 own-worker M w h = let e : 0 + w ≡ w = omega arith in workers-at (M .holds) (M .threads) (M .quotas) 0 16 w h ∙ ap (workerIn M) e
 
-as-number : (b : Bool) → not (eqb (pick b 1 0) 0) ≡ b
+pub as-number : (b : Bool) → not (eqb (pick b 1 0) 0) ≡ b
 as-number true = refl
 as-number false = refl
 
-truth-small : (b : Bool) → ltb (pick b 1 0) 2 ≡ true
+pub truth-small : (b : Bool) → ltb (pick b 1 0) 2 ≡ true
 truth-small true = refl
 truth-small false = refl
 
