@@ -8,5 +8,6 @@ mod Acts
 mod Listing
 mod Takes
 pub mod Fixed
+pub mod Turning
 pub mod Manned
 pub mod Refines
