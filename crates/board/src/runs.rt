@@ -3,12 +3,14 @@ use cells::places::TURNS;
 use cells::places::setting_at;
 use cells::places::status_at;
 use cells::places::total_at;
+use cells::rounds::following;
 use cells::turn_in;
 use schedule::statuses::ENDED;
 use table::read::byte;
 ghost use mathlib.Core.Path.{_≡_};
 ghost use mathlib.Core.Bool.{true};
 ghost use Prim.Native.Nat.{_<_};
+ghost use lib.ListN.{getD};
 ghost use Rattle.table.specs.Sum.{pick};
 ghost use Rattle.schedule.specs.Answers.{finished, spent, nothing};
 ghost use Rattle.schedule.specs.Runs.{workerAt};
@@ -16,16 +18,11 @@ ghost use Rattle.cells.specs.Memory.{answer};
 ghost use Rattle.cells.specs.Blocks.{numbersIn, memoryOf};
 ghost use Rattle.board.specs.Lent.{runRow, lentDrive, lentList, lentRounds};
 
-// The worker whose turn comes after i turns: from the order, or in rounds.
-fn worker_of(order: &[u8], rounds: bool, p: u32, i: usize) -> u32
-    requires { ⌜ (rounds ≡ true → 0 < p) ⌝ }
-    ensures { λ r. ⌜ r ≡ workerAt (now (order .entry)) rounds p i ⌝ }
+// The worker whose turn comes after i turns: from the order, or in rounds the one that is next.
+fn worker_of(order: &[u8], rounds: bool, next: u32, i: usize) -> u32
+    ensures { λ r. ⌜ r ≡ pick rounds next (getD (now (order .entry)) i 0) ⌝ }
 {
-    if rounds {
-        (i % (p as usize)) as u32
-    } else {
-        byte(order, i) as u32
-    }
+    if rounds { next } else { byte(order, i) as u32 }
 }
 
 // What is said at a run's end.
@@ -64,12 +61,14 @@ fn drive(
 {
     let p = setting_at(&*numbers, 0);
     let mut i: usize = 0;
+    let mut next: u32 = 0;
     while i < limit {
         if status_at(&*bytes, 0) == ENDED {
             put_end(row, true, i);
             return 0;
         }
-        let w = worker_of(order, rounds, p, i);
+        let w = worker_of(order, rounds, next, i);
+        next = following(p, next);
         let spoken = turn_in(table, w, false, bytes, words, numbers, sums);
         if spoken.number != 0 {
             put_stop(row, i);
