@@ -1,6 +1,7 @@
 // Runs over a list of workers and in rounds. The record is copied into the four blocks once; the turns work on them in place.
 use crate::packing::pack;
 use crate::packing::unpack;
+use cells::rounds::following;
 use cells::turn_in;
 use schedule::Reply;
 use schedule::Report;
@@ -10,6 +11,9 @@ use table::Refusal;
 use table::read::count;
 ghost use mathlib.Core.Path.{_≡_};
 ghost use Prim.Native.Nat.{ℕ, _<_};
+ghost use mathlib.Core.Bool.{false};
+ghost use lib.ListN.{length, getD};
+ghost use Rattle.table.specs.Sum.{pick};
 ghost use Rattle.table.specs.Format.{tableOf};
 ghost use Rattle.table.specs.Pass.{refusal};
 ghost use Rattle.table.specs.Checks.{endOf};
@@ -31,16 +35,12 @@ pub(crate) fn root_end(table: &[u8]) -> usize
     count(table, 0) - 1
 }
 
-// The worker whose turn comes after i turns: from the order, or in rounds.
-fn worker_of(order: &[u8], rounds: bool, p: u8, i: usize) -> u8
-    requires { ⌜ Sequence (now order) rounds p i ⌝ }
-    ensures { λ r. ⌜ r ≡ workerAt (now (order .entry)) rounds p i ⌝ }
+// The worker of turn i: from the order, or the next one in rounds.
+fn worker_of(order: &[u8], rounds: bool, next: u32, i: usize) -> u32
+    requires { ⌜ (rounds ≡ false → i < length (now order)) ⌝ }
+    ensures { λ r. ⌜ r ≡ pick rounds next (getD (now (order .entry)) i 0) ⌝ }
 {
-    if rounds {
-        (i % (p as usize)) as u8
-    } else {
-        order[i]
-    }
+    if rounds { next } else { order[i] as u32 }
 }
 
 // A refusal after i turns.
@@ -78,9 +78,11 @@ fn take_turns(
 {
     let mut reply = Reply::Idle;
     let mut i = 0;
+    let mut next: u32 = 0;
     while i < limit {
-        let w = worker_of(order, rounds, p, i);
-        let spoken = turn_in(table, w as u32, false, bytes, words, numbers, sums);
+        let w = worker_of(order, rounds, next, i);
+        next = following(p as u32, next);
+        let spoken = turn_in(table, w, false, bytes, words, numbers, sums);
         if spoken.number != 0 {
             let report = stopped(spoken.number as u8, i);
             return Stop { report, reply };

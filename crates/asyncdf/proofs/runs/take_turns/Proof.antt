@@ -1,36 +1,55 @@
--- `asyncdf::runs::take_turns` meets its contract. The invariant: the run goes along (Along).
-use mathlib.Core.Path.{refl, sym}
-use Prim.Native.Nat.{ℕ, _-_, _<_}
+-- `asyncdf::runs::take_turns` meets its contract. The invariant: the run goes along (Along), and in rounds the next worker is that of turn i.
+use mathlib.Core.Path.{_≡_, refl, sym, _∙_}
+use Prim.Native.Nat.{ℕ, _+_, _-_, _%_, _<_}
 use mathlib.Core.List.{List}
-use mathlib.Core.Bool.{Bool}
+use mathlib.Core.Bool.{Bool, true, false}
+use native.Mathlib.Nat.{zero-mod}
 use native.Mathlib.Omega.{arith}
 use borrow.Author.Needs.{needs}
+use lib.ListN.{getD}
+use lib.Dec.{ltb}
+use Rattle.table.specs.Sum.{pick}
 use Rattle.schedule.specs.declared.Reply.{Reply}
 use Rattle.schedule.specs.Runs.{workerAt}
 use Rattle.cells.specs.Memory.{Memory}
 use Rattle.cells.specs.Blocks.{memoryOf}
+use Rattle.cells.proofs.Turning.{in-turn}
 use Rattle.asyncdf.specs.Code.Drives.{Sequence}
 use Rattle.asyncdf.proofs.Moving.{not-done, other}
 use Rattle.asyncdf.proofs.Along.{Along, first-along, spent, small, stops, again, finished}
 use Rattle.asyncdf.proofs.runs.take_turns.Statement.{statement}
 use Rattle.asyncdf.proofs.runs.take_turns.Tie as tie
 
-record Inv (s : List ℕ) (last : ℕ) (order : List ℕ) (rounds : Bool) (p limit : ℕ) (M₀ M : Memory) (reply : Reply) (i : ℕ) : Type 0 where
+record Inv (s : List ℕ) (last : ℕ) (order : List ℕ) (rounds : Bool) (p limit : ℕ) (M₀ M : Memory) (reply : Reply) (i next : ℕ) : Type 0 where
   sequence : (j : ℕ) → j < limit → Sequence order rounds p j
   along : Along (workerAt order rounds p) limit s last M₀ M reply i
+  in-step : rounds ≡ true → next ≡ i % p
+
+-- the worker asked for is the run's
+named : (order : List ℕ) (rounds : Bool) (p i : ℕ) {next w : ℕ} → (rounds ≡ true → next ≡ i % p) → w ≡ pick rounds next (getD order i 0) → w ≡ workerAt order rounds p i
+unfolding workerAt
+named order true p i h e = e ∙ h refl
+named order false p i h e = e
+
+-- and the one after it is the next turn's
+steps : {rounds : Bool} (p i : ℕ) {next w : ℕ} → (rounds ≡ true → 0 < p) → (rounds ≡ true → next ≡ i % p) → w ≡ pick (ltb (next + 1) p) (next + 1) 0 → rounds ≡ true → w ≡ (i + 1) % p
+steps p i some h e r = e ∙ in-turn p i (some r) (h r)
 
 abbrev Inv-loop : tie.InvT-loop
-Inv-loop table last order rounds p limit bytes₀ words₀ numbers₀ sums₀ reply₀ i₀ bytes words numbers sums reply i =
-    Inv table last order rounds p limit (memoryOf bytes₀ words₀ numbers₀ sums₀) (memoryOf bytes words numbers sums) reply i
+Inv-loop table last order rounds p limit bytes₀ words₀ numbers₀ sums₀ reply₀ i₀ next₀ bytes words numbers sums reply i next =
+    Inv table last order rounds p limit (memoryOf bytes₀ words₀ numbers₀ sums₀) (memoryOf bytes words numbers sums) reply i next
 
 abbrev μ-loop : tie.MeasureT-loop
-μ-loop table last order rounds p limit bytes₀ words₀ numbers₀ sums₀ reply₀ i₀ bytes words numbers sums reply i = limit - i
+μ-loop table last order rounds p limit bytes₀ words₀ numbers₀ sums₀ reply₀ i₀ next₀ bytes words numbers sums reply i next = limit - i
 
 -- ---- the loop's places
 
--- a turn was asked for, and what came of it is known
+-- a worker was asked for, then the one after it, then its turn, and what came of that is known
+abbrev followed : tie.After-struct-known Inv-loop μ-loop → tie.After-following Inv-loop μ-loop
+followed c = c .before .before .before .before .before .before
+
 abbrev asked : tie.After-struct-known Inv-loop μ-loop → tie.After-worker-of Inv-loop μ-loop
-asked c = c .before .before .before .before .before .before
+asked c = followed c .before
 
 abbrev top : tie.After-struct-known Inv-loop μ-loop → tie.At-loop Inv-loop μ-loop
 top c = asked c .before .before
@@ -38,13 +57,13 @@ top c = asked c .before .before
 loop-holds : tie.Need-loop-holds Inv-loop μ-loop
 loop-holds c =
     let s = c .before .before in
-    record { sequence = s .pre .1; along = first-along _ (s .pre .0) }
+    record { sequence = s .pre .1; along = first-along _ (s .pre .0); in-step = λ r. sym (zero-mod _) }
 
 worker-of-requires : tie.Need-worker-of-requires Inv-loop μ-loop
-worker-of-requires c κs = c .before .loop .inv .sequence (c .before .loop .i) (c .loop-test .taken)
+worker-of-requires c κs = c .before .loop .inv .sequence (c .before .loop .i) (c .loop-test .taken) .within
 
-cast-turn-in : tie.Need-cast-turn-in Inv-loop μ-loop
-cast-turn-in c = search needs
+following-requires : tie.Need-following-requires Inv-loop μ-loop
+following-requires c κs = search needs
 
 turn-in-requires : tie.Need-turn-in-requires Inv-loop μ-loop
 turn-in-requires c κs = search needs
@@ -52,7 +71,7 @@ turn-in-requires c κs = search needs
 cast-stopped : tie.Need-cast-stopped Inv-loop μ-loop
 cast-stopped c =
     let k = c .before .before in
-    omega (arith, small (top k .loop .inv .along) (asked k .before .loop-test .taken) (asked k .worker-of .ensures) (k .before .turn-in .ensures .0))
+    omega (arith, small (top k .loop .inv .along) (asked k .before .loop-test .taken) (named _ _ _ _ (top k .loop .inv .in-step) (asked k .worker-of .ensures)) (k .before .turn-in .ensures .0))
 
 stopped-requires : tie.Need-stopped-requires Inv-loop μ-loop
 stopped-requires c κs = search needs
@@ -62,7 +81,7 @@ returns c =
     let t = c .before .before in
     let k = t .before in
     rw (c .stopped .ensures)
-    (stops (top k .loop .inv .along) (asked k .before .loop-test .taken) (asked k .worker-of .ensures) (k .before .turn-in .ensures .0) (t .if1 .taken))
+    (stops (top k .loop .inv .along) (asked k .before .loop-test .taken) (named _ _ _ _ (top k .loop .inv .in-step) (asked k .worker-of .ensures)) (k .before .turn-in .ensures .0) (t .if1 .taken))
 
 add-i : tie.Need-add-i Inv-loop μ-loop
 add-i c = omega (arith, asked (c .before) .before .loop-test .taken, top (c .before) .before .before .before .fits .limit)
@@ -80,7 +99,8 @@ loop-again c =
     let v = top k .loop .inv in
     record {
       sequence = v .sequence;
-      along = again (v .along) (asked k .before .loop-test .taken) (asked k .worker-of .ensures) (k .before .turn-in .ensures .0) (e .if1 .left) refl (not-done (c .match .keys2) _);
+      along = again (v .along) (asked k .before .loop-test .taken) (named _ _ _ _ (top k .loop .inv .in-step) (asked k .worker-of .ensures)) (k .before .turn-in .ensures .0) (e .if1 .left) refl (not-done (c .match .keys2) _);
+      in-step = steps _ _ (v .sequence _ (asked k .before .loop-test .taken) .workers) (v .in-step) (followed k .following .ensures);
     }
 
 cast-if2 : tie.Need-cast-if2 Inv-loop μ-loop
@@ -91,7 +111,7 @@ returns-2 c =
     let r = c .before .before in
     let e = r .before .before in
     let k = e .before in
-    finished (top k .loop .inv .along) (asked k .before .loop-test .taken) (asked k .worker-of .ensures) (k .before .turn-in .ensures .0) (e .if1 .left) (r .reply .given .1) (c .if2 .taken)
+    finished (top k .loop .inv .along) (asked k .before .loop-test .taken) (named _ _ _ _ (top k .loop .inv .in-step) (asked k .worker-of .ensures)) (k .before .turn-in .ensures .0) (e .if1 .left) (r .reply .given .1) (c .if2 .taken)
 
 loop-less-2 : tie.Need-loop-less-2 Inv-loop μ-loop
 loop-less-2 c = omega (arith, asked (c .before .before .before .before .before) .before .loop-test .taken)
@@ -105,8 +125,9 @@ loop-again-2 c =
     record {
       sequence = v .sequence;
       along =
-          again (v .along) (asked k .before .loop-test .taken) (asked k .worker-of .ensures) (k .before .turn-in .ensures .0) (e .if1 .left) (sym (r .reply .given .1))
+          again (v .along) (asked k .before .loop-test .taken) (named _ _ _ _ (top k .loop .inv .in-step) (asked k .worker-of .ensures)) (k .before .turn-in .ensures .0) (e .if1 .left) (sym (r .reply .given .1))
           (other (r .reply .given .1) (c .if2 .left));
+      in-step = steps _ _ (v .sequence _ (asked k .before .loop-test .taken) .workers) (v .in-step) (followed k .following .ensures);
     }
 
 returns-3 : tie.Need-returns-3 Inv-loop μ-loop
@@ -120,7 +141,7 @@ take-turns-spec =
     μ-loop
     loop-holds
     worker-of-requires
-    cast-turn-in
+    following-requires
     turn-in-requires
     cast-stopped
     stopped-requires
