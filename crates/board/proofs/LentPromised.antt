@@ -25,7 +25,7 @@ use Rattle.board.specs.Opened.{soundIn, blankIn, openedAs, lentOpen}
 use Rattle.board.specs.LentCalls.{LentCall, moving, opening, lentMove, lentCall, lentRowOf, lentAfter, lentRow, movesOf}
 use Rattle.board.proofs.Opens.{open-record}
 use Rattle.board.proofs.LentLimit.{open-refine, lent-limit, lent-threads}
-use Rattle.board.proofs.Shaped.{Shaped, bytesOf, wordsOf, numbersOf, sumsOf, in-blocks}
+use Rattle.board.proofs.Shaped.{Shaped, bytesOf, wordsOf, numbersOf, sumsOf, in-blocks, blocks-shaped}
 use Rattle.board.proofs.Sizes.{begin-shaped, call-shaped}
 use Rattle.board.proofs.begin.wivakkol_begin_on.Kinds as begin-kinds
 use Rattle.board.proofs.begin.wivakkol_begin_on.Reads as begin-promise
@@ -299,6 +299,11 @@ lent-history-exists s M h [] = none
 lent-history-exists s M h (c ∷ l) =
     let k = call-shaped s c M h in
     next (called s M c h k) (lent-history-exists s (lentCall s c M .memory) k l)
+
+-- whatever stands in the four blocks that C lends
+pub blocks-history-exists : (s b w n k : List ℕ) → length b ≡ 1040 → length w ≡ 6163 → length n ≡ 18 → length k ≡ 1027 → (l : List LentCall)
+    → LentHistory s (memoryOf b w n k) l (lentRow s l (memoryOf b w n k)) (lentAfter s l (memoryOf b w n k))
+blocks-history-exists s b w n k p q r t = lent-history-exists s (memoryOf b w n k) (blocks-shaped b w n k p q r t)
 
 -- from any beginning on, refused or not
 pub begun-history-exists : (s : List ℕ) (p K : ℕ) (l : List LentCall)

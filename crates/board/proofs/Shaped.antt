@@ -1,9 +1,11 @@
 -- Memory whose rows have the lengths of the blocks' parts stands in four blocks: its rows one after the other.
 use mathlib.Core.Path.{_≡_, refl, sym, ap, subst, _∙_}
-use Prim.Native.Nat.{ℕ, zero, suc, _+_, _*_, _<_}
+use Prim.Native.Nat.{ℕ, zero, suc, _+_, _*_, _≤_, _<_, min}
+use native.Mathlib.Nat.{min-eq-left}
 use native.Mathlib.Omega.{arith}
 use mathlib.Core.List.{List, [], _∷_, _++_}
-use lib.ListN.{length, getD, take, drop, List·getD-append}
+use borrow.Author.Tests.{lt-ltb}
+use lib.ListN.{length, getD, take, drop, length-take, length-drop, List·getD-append}
 use lib.Seq.{drop-append-add, getD-append-add, getD-drop, take-all, take-at, drop-at}
 use Rattle.schedule.specs.Record.{maxThreads, maxWorkers}
 use Rattle.lent.specs.Arrays.{Arrays, arrays}
@@ -137,3 +139,36 @@ module _ (M : Memory) (h : Shaped M) where
       (part-last (M .arrays .status) (M .holds) 1024 16 (h .arrays .status) (h .holds) i) (threads-there i) (part-last (M .settings) (M .quotas) 2 16 (h .settings) (h .quotas) i)
       (head-there 0 i ∷ head-there 1 i ∷ head-there 2 i ∷ []) (total-there 0 i ∷ total-there 1 i ∷ total-there 2 i ∷ []))
       ∙ (λ i. memory (s i) (M .parents) (M .arrays) (M .holds) (M .threads) (M .quotas) (k i) (t i))
+
+-- ---- and memory that stands in blocks of their sizes has such rows
+
+part-full : (at n : ℕ) (l : List ℕ) → at + n ≤ length l → length (part at n l) ≡ n
+unfolding part
+part-full at n l h = length-take n (drop at l) ∙ ap (min n) (length-drop at l) ∙ min-eq-left (omega (arith, h))
+
+module _ (b w n s : List ℕ) (p : length b ≡ 1040) (q : length w ≡ 6163) (r : length n ≡ 18) (t : length s ≡ 1027) where
+  row-full : (k : ℕ) → k < 6 → Full (rowIn w k)
+  unfolding rowIn
+  row-full k h = rw (lt-ltb k 6 h) (part-full (1024 * k) 1024 w (omega (arith, q, h)))
+
+  pub blocks-shaped : Shaped (memoryOf b w n s)
+  blocks-shaped =
+      record {
+        settings = refl;
+        parents = row-full 0 (omega arith);
+        arrays =
+            record {
+              next = row-full 1 (omega arith);
+              status = part-full 0 1024 b (omega (arith, p));
+              amounts = part-full 0 1024 s (omega (arith, t));
+              left = row-full 2 (omega arith);
+              right = row-full 3 (omega arith);
+              under = row-full 4 (omega arith);
+              over = row-full 5 (omega arith);
+            };
+        holds = part-full 1024 16 b (omega (arith, p));
+        threads = part-full 6144 16 w (omega (arith, q));
+        quotas = part-full 2 16 n (omega (arith, r));
+        heads = refl;
+        totals = refl;
+      }

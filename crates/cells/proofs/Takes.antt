@@ -1,6 +1,6 @@
 -- A turn in lent memory, way by way: without room for it, with a thread that is none of the arrays', idle, and with a thread on which the worker goes on.
 use mathlib.Core.Path.{_≡_, refl, sym, ap, _∙_}
-use Prim.Native.Nat.{ℕ, suc, _+_, _^_, _≤_, _<_}
+use Prim.Native.Nat.{ℕ, _+_, _^_, _≤_, _<_}
 use native.Mathlib.Numerals.{add-one}
 use mathlib.Core.List.{List, [], _∷_}
 use mathlib.Core.Bool.{Bool, true, false, not, _&&_, _||_}
@@ -18,12 +18,12 @@ use Rattle.schedule.specs.Machine.{held}
 use Rattle.schedule.specs.Links.{noThread, Sought, seek}
 use Rattle.schedule.specs.Record.{maxThreads}
 use Rattle.lent.specs.Arrays.{withStatuses}
-use Rattle.lent.specs.Turn.{Outcome, moved, unfit, actOn, actIn, Seat, seat, seatOf, seatIn, stepFrom, stepOn}
-use Rattle.lent.specs.Counted.{Left, counting, unmoved, busyAfter, roomFor, turnOn, passedAlong}
+use Rattle.lent.specs.Turn.{Outcome, moved, unfit, actOn, actIn, seat, seatOf, seatIn, stepFrom, stepOn}
+use Rattle.lent.specs.Counted.{counting, busyAfter, roomFor, turnOn, passedAlong}
 use Rattle.cells.specs.declared.Spoken.{Spoken}
 use Rattle.cells.specs.declared.act.Went.{Went}
 use Rattle.cells.specs.Memory.{Memory, memory, workerIn, movedIn, memoryAfter, Told, told, turnLeft, takenIn, passedOver}
-use Rattle.cells.specs.Code.Acts.{Gone, gone, wentTo, wentIn, seatedStatus, seatedQuota, seatedWorker, acted}
+use Rattle.cells.specs.Code.Acts.{Gone, gone, wentTo, wentIn, seatedStatus, seatedWorker, acted}
 
 -- the memory with this number of turns taken
 abbrev pub counted : ℕ → Memory → Memory

@@ -26,6 +26,7 @@ use crate::places::quota_at;
 use crate::places::row_at;
 use crate::places::setting_at;
 use crate::places::status_at;
+use crate::places::thread_at;
 use crate::places::total_at;
 use lent::fits::alloc_fits;
 use lent::fits::fork_fits;
@@ -34,7 +35,6 @@ use lent::fits::join_fits;
 use lent::fits::next_fits;
 use lent::larger;
 use lent::release::release;
-use links::NO_THREAD;
 use schedule::Reply;
 use schedule::Worker;
 use schedule::statuses::ENDED;
@@ -141,9 +141,9 @@ fn let_go(bytes: &mut [u8; 1040], words: &mut [u16; 6163], numbers: &mut [u32; 1
     ensures { λ _. ⌜ numbersIn (now (numbers .exit)) ≡ settledNumbers w nobody (numbersIn (now (numbers .entry))) ⌝ }
 {
     let worker = Worker {
-        holds: true,
-        thread: 0,
-        quota: 0,
+        holds: holds_at(&*bytes, w),
+        thread: thread_at(&*words, w),
+        quota: quota_at(&*numbers, w),
     };
     settle(bytes, words, numbers, w, release(worker));
 }

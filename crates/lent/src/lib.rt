@@ -4,7 +4,6 @@ use links::seek;
 use schedule::Worker;
 ghost use mathlib.Core.Path.{_≡_};
 ghost use Prim.Native.Nat.{max};
-ghost use lib.ListN.{getD};
 ghost use Rattle.schedule.specs.Links.{seek as seekOf};
 ghost use Rattle.lent.specs.Counted.{passedAlong, roomFor};
 
@@ -24,13 +23,6 @@ pub struct Moved {
     pub busy: u16,
     pub totals: Totals,
     pub turns: u64,
-}
-
-// The number at a position, 0 past the end.
-pub fn number_or_zero(numbers: &[u16], i: usize) -> u16
-    ensures { λ r. ⌜ r ≡ getD (now (numbers .entry)) i 0 ⌝ }
-{
-    if i < numbers.len() { numbers[i] } else { 0 }
 }
 
 // How many threads stand left of the leftmost ready one, which a worker that holds nothing takes (N7: "The search .. also says"); 0 where it takes none.

@@ -2,11 +2,10 @@
 use mathlib.Core.Path.{_≡_, refl, sym, ap, subst, _∙_}
 use Prim.Native.Nat.{ℕ, _+_, _^_, _≤_, _<_}
 use mathlib.Core.List.{List}
-use mathlib.Core.Bool.{Bool, true, false, _&&_}
+use mathlib.Core.Bool.{Bool, true, false}
 use borrow.Author.Needs.{needs}
 use borrow.Author.Tests.{not-true, not-false}
 use denote.Ref.{now}
-use lib.Dec.{eqb}
 use lib.ListN.{getD}
 use Rattle.table.specs.Sum.{pick}
 use Rattle.table.specs.Format.{Table, threadsOf, bodiesFrom, codeAt, argumentAt, tableOf, kind}
@@ -17,9 +16,7 @@ use Rattle.schedule.specs.Links.{Sought, seek}
 use Rattle.schedule.proofs.Linked.Searches.{seek-ready}
 use Rattle.lent.specs.Counted.{roomFor, passedAlong}
 use Rattle.lent.proofs.Leaves.{fits64}
-use Rattle.cells.specs.declared.Spoken.{Spoken}
-use Rattle.cells.specs.declared.act.Went.{Went}
-use Rattle.cells.specs.Memory.{Memory, workerIn, movedIn, Told, told, passedOver}
+use Rattle.cells.specs.Memory.{Memory, workerIn, movedIn, told, passedOver}
 use Rattle.cells.specs.Blocks.{bytesIn, wordsIn, numbersIn, sumsIn, gathered, memoryOf}
 use Rattle.cells.specs.Code.Cells.{totalled}
 use Rattle.cells.specs.Code.Acts.{Gone, acted, Seated}

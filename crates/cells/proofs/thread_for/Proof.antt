@@ -1,5 +1,5 @@
 -- `cells::thread_for` meets its contract: the worker's own thread, or the one sought.
-use mathlib.Core.Path.{_≡_, _∙_}
+use mathlib.Core.Path.{_≡_}
 use Prim.Native.Nat.{ℕ}
 use mathlib.Core.Bool.{Bool, true, false}
 use Rattle.table.specs.Sum.{pick}

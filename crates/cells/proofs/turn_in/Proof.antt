@@ -1,18 +1,14 @@
 -- `cells::turn_in` meets its contract: hindered, or taken.
-use mathlib.Core.Path.{_≡_, refl, sym, ap, _∙_}
+use mathlib.Core.Path.{_≡_, _∙_}
 use Prim.Native.Nat.{ℕ}
 use mathlib.Core.List.{List}
-use mathlib.Core.Bool.{Bool, _&&_}
 use borrow.Author.Needs.{needs}
 use borrow.Author.Tests.{eq-eqb, ne-eqb}
 use denote.Ref.{now}
-use lib.Dec.{eqb}
 use lib.ListN.{getD}
-use Rattle.table.specs.Sum.{pick}
 use Rattle.schedule.specs.declared.Reply.{Reply}
 use Rattle.schedule.specs.declared.Reply.the-variants.{Idle}
-use Rattle.cells.specs.declared.Spoken.{Spoken}
-use Rattle.cells.specs.Memory.{Memory, movedIn, hindrance, Told, told, takenIn, turnIn, passedOver}
+use Rattle.cells.specs.Memory.{Memory, movedIn, hindrance, told, takenIn, turnIn, passedOver}
 use Rattle.cells.specs.Blocks.{memoryOf}
 use Rattle.cells.proofs.Takes.{passes-none, spoke, passing}
 use Rattle.cells.proofs.turn_in.Statement.{statement}

@@ -11,7 +11,7 @@ use Rattle.schedule.specs.declared.Reply.{Reply}
 use Rattle.schedule.specs.declared.Reply.the-variants.{Idle}
 use Rattle.schedule.specs.Machine.{ready, held}
 use Rattle.schedule.specs.Record.{maxThreads, maxWorkers}
-use Rattle.lent.specs.Arrays.{Arrays, withStatuses}
+use Rattle.lent.specs.Arrays.{withStatuses}
 use Rattle.lent.specs.Turn.{Outcome, actOn}
 use Rattle.lent.specs.Counted.{busyAfter}
 use Rattle.cells.specs.declared.act.Went.{Went}

@@ -1,6 +1,6 @@
 -- `board::open::workers_at` meets its contract. The invariant: the workers below w have their records.
-use mathlib.Core.Path.{_≡_, refl, sym, _∙_}
-use Prim.Native.Nat.{ℕ, _-_, _+_, _≤_, _<_}
+use mathlib.Core.Path.{refl}
+use Prim.Native.Nat.{_-_}
 use native.Mathlib.Omega.{arith}
 use Rattle.cells.proofs.Manned.{Upto, one-more, all-sixteen}
 use borrow.Author.Needs.{needs}

@@ -9,6 +9,15 @@ use borrow.Author.Needs.{needs}
 use Rattle.cells.proofs.act.let_go.Statement.{statement}
 use Rattle.cells.proofs.act.let_go.Tie as tie
 
+holds-at-requires : tie.Need-holds-at-requires
+holds-at-requires c κs = search needs
+
+thread-at-requires : tie.Need-thread-at-requires
+thread-at-requires c κs = search needs
+
+quota-at-requires : tie.Need-quota-at-requires
+quota-at-requires c κs = search needs
+
 release-requires : tie.Need-release-requires
 release-requires c κs = search needs
 
@@ -18,7 +27,7 @@ settle-requires c κs = search needs
 returns : tie.Need-returns
 returns c =
     let r = c .before in
-    let d = r .before .before .before .before in
+    let d = r .before .before .before .before .before .before .before .before .before .before in
     let w = d .args .w in (
       c .settle .ensures .0 ∙ ap (λ (z : Worker). settled w z (bytesIn (now (d .args .bytes)))) (r .release .ensures),
       (
@@ -29,4 +38,4 @@ returns c =
     )
 
 pub let-go-spec : {M : Type 1} → statement M
-let-go-spec = tie.close (tie.spec release-requires settle-requires returns)
+let-go-spec = tie.close (tie.spec holds-at-requires thread-at-requires quota-at-requires release-requires settle-requires returns)
