@@ -5,8 +5,8 @@ threads passed over (N7), from C and in plain C alike; a run counts none. A begi
 last line says which goals were met.
 
 usage: python3 bench/board.py [--rounds N] [--compiler 'CC -O..']
-    From the repository's top, after `rt staticlib board` and `rt check bench_runs`; needs a C compiler, by default that of bench.py with -O3. N rounds (default 10), of 20 runs each from
-    C and 3 measurements of the program by value for every table and number of workers.
+    From the repository's top, after `rt staticlib single`, `rt staticlib board` and `rt check bench_runs`; needs a C compiler, by default that of bench.py with -O3. N rounds (default 10),
+    of 20 runs each from C and 3 measurements of the program by value for every table and number of workers.
 """
 import argparse
 import os
@@ -17,7 +17,7 @@ import subprocess
 import bench
 from bench import QUOTA, RATTLE, TABLES, WORKERS
 
-ARCHIVE, OUT, RUNS = 'target/staticlib/libboard.a', 'target/c', '20'
+ARCHIVES, OUT, RUNS = ['target/staticlib/libsingle.a', 'target/staticlib/libboard.a'], 'target/c', '20'
 BY_VALUE = {RATTLE: ['target/bin/bench_runs']}
 MOST_RATIO, MOST_NS = 1.5, {'tree': 60}
 BEGIN, OPEN, TURN, PLAIN_TURN, ROUNDS, PLAIN_ROUNDS, PREVIEWED = range(7)
@@ -46,12 +46,12 @@ class Case(bench.Case):
 
 
 def build(words):
-    """The C program; plain C is compiled apart, so that its calls stay calls, as those into the archive are."""
+    """The C program; plain C is compiled apart, so that its calls stay calls, as those into the archives are."""
     program, plain = OUT + '/board_bench', OUT + '/plain.o'
     os.makedirs(OUT, exist_ok=True)
     warnings = ['-Wall', '-Wextra', '-Werror']
     subprocess.run([*words, *warnings, '-Wno-unused-function', '-DLINKS', '-DCALLS', '-c', '-o', plain, 'bench/baseline.c'], check=True)
-    subprocess.run([*words, '-std=c99', *warnings, '-Iinclude', '-o', program, 'bench/board.c', plain, ARCHIVE], check=True)
+    subprocess.run([*words, '-std=c99', *warnings, '-Iinclude', '-o', program, 'bench/board.c', plain, *ARCHIVES], check=True)
     return program
 
 

@@ -1,8 +1,9 @@
-/* Wivakkol, called from C: the archive libboard.a (`rt staticlib board`), for x86-64.
+/* Wivakkol, called from C, for x86-64: wivakkol_turn is linked from the archive libsingle.a (`rt staticlib single`), all other calls from libboard.a (`rt staticlib board`), in either order. A
+ * board that does the actions takes single turns, and a turn that is compiled by itself needs little stack (docs/REFERENCE.md, "From C"): so it has an archive of its own.
  *
  * Every call answers every input: no table, no number and no content of a run's memory is outside what it takes, and nothing is to be tested before it. It allocates nothing, keeps
- * nothing from one call to the next and writes to no memory but what it is lent. Each answer is proved equal to its definition (crates/board/src/ has the promises); that this header
- * says the same as that source is not proved, but tested (tests/board.py).
+ * nothing from one call to the next and writes to no memory but what it is lent. Each answer is proved equal to its definition (crates/single/src/ and crates/board/src/ have the promises);
+ * that this header says the same as that source is not proved, but tested (tests/board.py).
  *
  * A call returns a number: 0, or the number of the check that refuses (docs/REFERENCE.md, "Refusals"). Into the row it puts the place of the refusal, 0 where there is none, and then its
  * values, all 0 where it refuses but for the turns taken by a run. Every entry of the row is written on every call, whatever was there before.
@@ -56,27 +57,46 @@ uint32_t wivakkol_quota(const uint8_t *table, size_t length, uint32_t p, uint32_
 #define WIVAKKOL_MOST_THREADS 1024
 #define WIVAKKOL_MOST_WORKERS 16
 
-/* Places in `totals`: memory held, its highest so far, turns taken. */
-#define WIVAKKOL_HELD 0
-#define WIVAKKOL_HIGHEST 1
-#define WIVAKKOL_TURNS 2
+/* The memory of a run is four blocks, one for each width of its numbers, and a block has parts that begin at the places below. In a part with a number for each thread that of thread t stands
+ * at the part's place + t, and likewise for worker w: run.bytes[WIVAKKOL_STATUS + t] is the status of thread t. Where there is no thread to name, 1,024 stands. */
 
-/* The memory of a run, which C lends. C may read it between two calls, and has no need to write to it. Where there is no thread to name, 1,024 stands. */
+/* Places in `sums`. */
+#define WIVAKKOL_AMOUNTS 0    /* of each thread, the memory that it holds */
+#define WIVAKKOL_HELD 1024    /* memory held, by all of them */
+#define WIVAKKOL_HIGHEST 1025 /* its highest so far */
+#define WIVAKKOL_TURNS 1026   /* turns taken */
+#define WIVAKKOL_SUMS 1027
+
+/* Places in `numbers`. */
+#define WIVAKKOL_P 0      /* the number of workers */
+#define WIVAKKOL_K 1      /* the quota that a worker takes a thread with */
+#define WIVAKKOL_QUOTAS 2 /* of each worker, its quota left */
+#define WIVAKKOL_NUMBERS 18
+
+/* Places in `words`. */
+#define WIVAKKOL_PARENTS 0           /* of each thread, the one that forks it */
+#define WIVAKKOL_NEXT 1024           /* its next action */
+#define WIVAKKOL_LEFT 2048           /* its neighbours in the list of threads */
+#define WIVAKKOL_RIGHT 3072
+#define WIVAKKOL_UNDER 4096          /* its neighbours in the second list, of the threads that do not wait */
+#define WIVAKKOL_OVER 5120
+#define WIVAKKOL_WORKER_THREADS 6144 /* of each worker, the thread that it holds */
+#define WIVAKKOL_LEFTMOST 6160       /* the leftmost thread of the list */
+#define WIVAKKOL_FIRST 6161          /* the leftmost thread of the second list */
+#define WIVAKKOL_BUSY 6162           /* the workers that hold a thread, a bit for each */
+#define WIVAKKOL_WORDS 6163
+
+/* Places in `bytes`. */
+#define WIVAKKOL_STATUS 0   /* of each thread: 0 unborn, 1 ready, 2 held, 3 waiting, 4 ended */
+#define WIVAKKOL_HOLDS 1024 /* of each worker, whether it holds a thread: 0 if not */
+#define WIVAKKOL_BYTES 1040
+
+/* The memory of a run, which C lends. C may read it between two calls, and has no need to write to it. */
 typedef struct wivakkol_run {
-    uint64_t amounts[WIVAKKOL_MOST_THREADS]; /* of each thread, the memory that it holds */
-    uint64_t totals[3];
-    uint32_t settings[2];                    /* p, K */
-    uint32_t quotas[WIVAKKOL_MOST_WORKERS];  /* of each worker, its quota left */
-    uint16_t parents[WIVAKKOL_MOST_THREADS]; /* of each thread, the one that forks it */
-    uint16_t next[WIVAKKOL_MOST_THREADS];    /* its next action */
-    uint16_t left[WIVAKKOL_MOST_THREADS];    /* its neighbours in the list of threads */
-    uint16_t right[WIVAKKOL_MOST_THREADS];
-    uint16_t under[WIVAKKOL_MOST_THREADS];   /* its neighbours in the second list, of the threads that do not wait */
-    uint16_t over[WIVAKKOL_MOST_THREADS];
-    uint16_t threads[WIVAKKOL_MOST_WORKERS]; /* of each worker, the thread that it holds */
-    uint16_t heads[3];                       /* the leftmost thread of the list and of the second list; the workers that hold one, a bit for each */
-    uint8_t status[WIVAKKOL_MOST_THREADS];   /* 0 unborn, 1 ready, 2 held, 3 waiting, 4 ended */
-    uint8_t holds[WIVAKKOL_MOST_WORKERS];    /* of each worker, whether it holds a thread: 0 if not */
+    uint64_t sums[WIVAKKOL_SUMS];
+    uint32_t numbers[WIVAKKOL_NUMBERS];
+    uint16_t words[WIVAKKOL_WORDS];
+    uint8_t bytes[WIVAKKOL_BYTES];
 } wivakkol_run;
 
 /* Besides what is said above, C must keep to this for a run:
@@ -132,8 +152,9 @@ typedef struct wivakkol_work {
 /* A line of the wall chart: 84 characters and a newline, with no 0 after it. */
 #define WIVAKKOL_LINE 85
 
-/* The calls as they are exported, on each array by itself. Below are the seven for a wivakkol_run, which keep to what these ask for: each array has its full size, is aligned for its numbers
- * and never NULL, and overlaps no other array of the call; each was written before, those of the run in wivakkol_begin_on apart. */
+/* The calls as they are exported: a turn, a list and rounds on the four blocks, the others on each part by itself, where `settings` is p and K, `threads` that of each worker, `heads` the three
+ * from WIVAKKOL_LEFTMOST on and `totals` the three from WIVAKKOL_HELD on. Below are the seven for a wivakkol_run, which keep to what these ask for: each array has its full size, is aligned for
+ * its numbers and never NULL, and overlaps no other array of the call; each was written before, those of the run in wivakkol_begin_on apart. */
 uint32_t wivakkol_begin_on(const uint8_t *table, size_t length, uint32_t p, uint32_t quota, uint32_t settings[2], uint16_t parents[1024],
                            uint16_t next[1024], uint8_t status[1024], uint64_t amounts[1024], uint16_t left[1024], uint16_t right[1024],
                            uint16_t under[1024], uint16_t over[1024], uint8_t holds[16], uint16_t threads[16], uint32_t quotas[16],
@@ -143,18 +164,13 @@ uint32_t wivakkol_open_on(const uint8_t *table, size_t length, const uint32_t se
                           uint16_t under[1024], uint16_t over[1024], const uint8_t holds[16], const uint16_t threads[16],
                           const uint32_t quotas[16], uint16_t heads[3], const uint64_t totals[3], uint64_t row[WIVAKKOL_OPEN_ROW],
                           uint64_t rises[1024], uint64_t falls[1024], uint16_t forks[1024], uint16_t seen[1024], uint16_t list[1024]);
-uint32_t wivakkol_turn_on(const uint8_t *table, size_t length, uint32_t w, const uint32_t settings[2], const uint16_t parents[1024],
-                          uint16_t next[1024], uint8_t status[1024], uint64_t amounts[1024], uint16_t left[1024], uint16_t right[1024],
-                          uint16_t under[1024], uint16_t over[1024], uint8_t holds[16], uint16_t threads[16], uint32_t quotas[16],
-                          uint16_t heads[3], uint64_t totals[3], uint64_t row[WIVAKKOL_TURN_ROW]);
-uint32_t wivakkol_list_on(const uint8_t *table, size_t length, const uint8_t *order, size_t turns, const uint32_t settings[2],
-                          const uint16_t parents[1024], uint16_t next[1024], uint8_t status[1024], uint64_t amounts[1024], uint16_t left[1024],
-                          uint16_t right[1024], uint16_t under[1024], uint16_t over[1024], uint8_t holds[16], uint16_t threads[16],
-                          uint32_t quotas[16], uint16_t heads[3], uint64_t totals[3], uint64_t row[WIVAKKOL_RUN_ROW]);
-uint32_t wivakkol_rounds_on(const uint8_t *table, size_t length, uint32_t limit, const uint32_t settings[2],
-                            const uint16_t parents[1024], uint16_t next[1024], uint8_t status[1024], uint64_t amounts[1024], uint16_t left[1024],
-                            uint16_t right[1024], uint16_t under[1024], uint16_t over[1024], uint8_t holds[16], uint16_t threads[16],
-                            uint32_t quotas[16], uint16_t heads[3], uint64_t totals[3], uint64_t row[WIVAKKOL_RUN_ROW]);
+uint32_t wivakkol_turn_on(const uint8_t *table, size_t length, uint32_t w, uint8_t bytes[WIVAKKOL_BYTES], uint16_t words[WIVAKKOL_WORDS],
+                          uint32_t numbers[WIVAKKOL_NUMBERS], uint64_t sums[WIVAKKOL_SUMS], uint64_t row[WIVAKKOL_TURN_ROW]);
+uint32_t wivakkol_list_on(const uint8_t *table, size_t length, const uint8_t *order, size_t turns, uint8_t bytes[WIVAKKOL_BYTES],
+                          uint16_t words[WIVAKKOL_WORDS], uint32_t numbers[WIVAKKOL_NUMBERS], uint64_t sums[WIVAKKOL_SUMS],
+                          uint64_t row[WIVAKKOL_RUN_ROW]);
+uint32_t wivakkol_rounds_on(const uint8_t *table, size_t length, uint32_t limit, uint8_t bytes[WIVAKKOL_BYTES], uint16_t words[WIVAKKOL_WORDS],
+                            uint32_t numbers[WIVAKKOL_NUMBERS], uint64_t sums[WIVAKKOL_SUMS], uint64_t row[WIVAKKOL_RUN_ROW]);
 uint32_t wivakkol_preview_on(const uint8_t *table, size_t length, uint32_t w, const uint32_t settings[2], const uint16_t next[1024],
                              const uint8_t status[1024], const uint64_t amounts[1024], const uint16_t right[1024], const uint16_t over[1024],
                              const uint8_t holds[16], const uint16_t threads[16], const uint32_t quotas[16], const uint16_t heads[3],
@@ -170,31 +186,36 @@ uint32_t wivakkol_chart_on(const uint8_t *table, size_t length, const uint32_t s
 static inline uint32_t wivakkol_begin(wivakkol_run *run, wivakkol_work *work, const uint8_t *table, size_t length, uint32_t p, uint32_t quota,
                                       uint64_t row[WIVAKKOL_BEGIN_ROW])
 {
-    return wivakkol_begin_on(table, length, p, quota, run->settings, run->parents, run->next, run->status, run->amounts, run->left,
-                             run->right, run->under, run->over, run->holds, run->threads, run->quotas, run->heads, run->totals, row,
-                             work->rises, work->falls);
+    return wivakkol_begin_on(table, length, p, quota, run->numbers + WIVAKKOL_P, run->words + WIVAKKOL_PARENTS, run->words + WIVAKKOL_NEXT,
+                             run->bytes + WIVAKKOL_STATUS, run->sums + WIVAKKOL_AMOUNTS, run->words + WIVAKKOL_LEFT, run->words + WIVAKKOL_RIGHT,
+                             run->words + WIVAKKOL_UNDER, run->words + WIVAKKOL_OVER, run->bytes + WIVAKKOL_HOLDS,
+                             run->words + WIVAKKOL_WORKER_THREADS, run->numbers + WIVAKKOL_QUOTAS, run->words + WIVAKKOL_LEFTMOST,
+                             run->sums + WIVAKKOL_HELD, row, work->rises, work->falls);
 }
 
 /* Opens a run that was put away and brought back, or whose memory someone else has written. Returns 0, or 32: the memory has neither a sound record of this table nor the blank one, all 0,
- * which a beginning leaves where it refuses; a number above 1 in `holds` is not sound. It looks at all but `parents`, `under`, `over` and heads[1], and where it returns 0 writes these,
- * whatever was there, as a beginning and turns leave them. Where it refuses, no byte of the run changes. A turn tests none of this: open once, then take turns.
+ * which a beginning leaves where it refuses; a number above 1 that says whether a worker holds a thread is not sound. It looks at all but the parents and the second list
+ * (the parts WIVAKKOL_PARENTS, WIVAKKOL_UNDER and WIVAKKOL_OVER, and WIVAKKOL_FIRST), and where it returns 0 writes these, whatever was there, as a beginning and turns leave them. Where it
+ * refuses, no byte of the run changes. A turn tests none of this: open once, then take turns.
  *
  * After a beginning that returned 0 the limits on memory and on threads hold through all turns, lists, rounds and openings of what these left, refused calls included. After the opening of a
  * sound record that was made up by hand each turn is document 01's, and no limit is promised: such a record may hold more than any run would. */
 static inline uint32_t wivakkol_open(wivakkol_run *run, wivakkol_work *work, const uint8_t *table, size_t length, uint64_t row[WIVAKKOL_OPEN_ROW])
 {
-    return wivakkol_open_on(table, length, run->settings, run->parents, run->next, run->status, run->amounts, run->left, run->right,
-                            run->under, run->over, run->holds, run->threads, run->quotas, run->heads, run->totals, row, work->rises,
-                            work->falls, work->forks, work->parents, work->list);
+    return wivakkol_open_on(table, length, run->numbers + WIVAKKOL_P, run->words + WIVAKKOL_PARENTS, run->words + WIVAKKOL_NEXT,
+                            run->bytes + WIVAKKOL_STATUS, run->sums + WIVAKKOL_AMOUNTS, run->words + WIVAKKOL_LEFT, run->words + WIVAKKOL_RIGHT,
+                            run->words + WIVAKKOL_UNDER, run->words + WIVAKKOL_OVER, run->bytes + WIVAKKOL_HOLDS,
+                            run->words + WIVAKKOL_WORKER_THREADS, run->numbers + WIVAKKOL_QUOTAS, run->words + WIVAKKOL_LEFTMOST,
+                            run->sums + WIVAKKOL_HELD, row, work->rises, work->falls, work->forks, work->parents, work->list);
 }
 
 /* A turn of worker w. Returns 0, or the first of these that applies: 32, 2^64 - 1 turns are taken; 30, w is not below p; 31, the root has ended: the run is over; 32, a thread's number is
- * none of the arrays', w is none of the sixteen workers, or a number that the turn would write does not fit into its place; of a worker without a thread the bit in `heads` must fit even if
- * it takes none. The last is met on damaged memory alone, never on what a beginning or an opening that returned 0 and turns have left. Where a turn is refused, no byte of the run changes. */
+ * none of the 1,024, w is none of the sixteen workers, or a number that the turn would write does not fit into its place; of a worker without a thread the bit in WIVAKKOL_BUSY must fit
+ * even if it takes none. The last is met on damaged memory alone, never on what a beginning or an opening that returned 0 and turns have left. Where a turn is refused, no byte of the run
+ * changes. */
 static inline uint32_t wivakkol_turn(wivakkol_run *run, const uint8_t *table, size_t length, uint32_t w, uint64_t row[WIVAKKOL_TURN_ROW])
 {
-    return wivakkol_turn_on(table, length, w, run->settings, run->parents, run->next, run->status, run->amounts, run->left, run->right,
-                            run->under, run->over, run->holds, run->threads, run->quotas, run->heads, run->totals, row);
+    return wivakkol_turn_on(table, length, w, run->bytes, run->words, run->numbers, run->sums, row);
 }
 
 /* A turn of each worker of `order`, one byte each, up to the root's end: turns with a single row for all. Returns 0 with finished or spent, or the number with which a turn is refused, 30 or
@@ -202,24 +223,24 @@ static inline uint32_t wivakkol_turn(wivakkol_run *run, const uint8_t *table, si
 static inline uint32_t wivakkol_list(wivakkol_run *run, const uint8_t *table, size_t length, const uint8_t *order, size_t turns,
                                      uint64_t row[WIVAKKOL_RUN_ROW])
 {
-    return wivakkol_list_on(table, length, order, turns, run->settings, run->parents, run->next, run->status, run->amounts, run->left,
-                            run->right, run->under, run->over, run->holds, run->threads, run->quotas, run->heads, run->totals, row);
+    return wivakkol_list_on(table, length, order, turns, run->bytes, run->words, run->numbers, run->sums, row);
 }
 
 /* The same for the workers 0 to p - 1 in rounds, at most `limit` turns. Every call starts with worker 0. Where p is 0, as after a beginning refused, it returns 30, whatever the limit, after
  * 32 for 2^64 - 1 turns. */
 static inline uint32_t wivakkol_rounds(wivakkol_run *run, const uint8_t *table, size_t length, uint32_t limit, uint64_t row[WIVAKKOL_RUN_ROW])
 {
-    return wivakkol_rounds_on(table, length, limit, run->settings, run->parents, run->next, run->status, run->amounts, run->left,
-                              run->right, run->under, run->over, run->holds, run->threads, run->quotas, run->heads, run->totals, row);
+    return wivakkol_rounds_on(table, length, limit, run->bytes, run->words, run->numbers, run->sums, row);
 }
 
 /* What a turn of worker w would say now, and memory held, its highest and the worker's quota left after it. Returns what wivakkol_turn would return, in the same order, whatever the memory
  * holds; where that is a refusal, the row is all 0. No byte of the run changes. */
 static inline uint32_t wivakkol_preview(const wivakkol_run *run, const uint8_t *table, size_t length, uint32_t w, uint64_t row[WIVAKKOL_PREVIEW_ROW])
 {
-    return wivakkol_preview_on(table, length, w, run->settings, run->next, run->status, run->amounts, run->right, run->over, run->holds,
-                               run->threads, run->quotas, run->heads, run->totals, row);
+    return wivakkol_preview_on(table, length, w, run->numbers + WIVAKKOL_P, run->words + WIVAKKOL_NEXT, run->bytes + WIVAKKOL_STATUS,
+                               run->sums + WIVAKKOL_AMOUNTS, run->words + WIVAKKOL_RIGHT, run->words + WIVAKKOL_OVER, run->bytes + WIVAKKOL_HOLDS,
+                               run->words + WIVAKKOL_WORKER_THREADS, run->numbers + WIVAKKOL_QUOTAS, run->words + WIVAKKOL_LEFTMOST,
+                               run->sums + WIVAKKOL_HELD, row);
 }
 
 /* The run's line of the wall chart: turns taken right-aligned in 6, sixteen cells of 4 with each worker's thread or a full stop, blank from worker p on, and memory held right-aligned in 14.
@@ -227,9 +248,10 @@ static inline uint32_t wivakkol_preview(const wivakkol_run *run, const uint8_t *
  * changes. `line` has the full size, overlaps nothing else that the call is given and has been written before, whatever it holds. */
 static inline uint32_t wivakkol_chart(const wivakkol_run *run, wivakkol_work *work, const uint8_t *table, size_t length, uint8_t line[WIVAKKOL_LINE])
 {
-    return wivakkol_chart_on(table, length, run->settings, run->next, run->status, run->amounts, run->left, run->right, run->holds,
-                             run->threads, run->quotas, run->heads, run->totals, line, work->rises, work->falls, work->forks, work->parents,
-                             work->list);
+    return wivakkol_chart_on(table, length, run->numbers + WIVAKKOL_P, run->words + WIVAKKOL_NEXT, run->bytes + WIVAKKOL_STATUS,
+                             run->sums + WIVAKKOL_AMOUNTS, run->words + WIVAKKOL_LEFT, run->words + WIVAKKOL_RIGHT, run->bytes + WIVAKKOL_HOLDS,
+                             run->words + WIVAKKOL_WORKER_THREADS, run->numbers + WIVAKKOL_QUOTAS, run->words + WIVAKKOL_LEFTMOST,
+                             run->sums + WIVAKKOL_HELD, line, work->rises, work->falls, work->forks, work->parents, work->list);
 }
 
 #ifdef __cplusplus

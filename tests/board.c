@@ -1,7 +1,7 @@
 /* The calls of wivakkol.h on cases from standard input, for tests/board.py; all numbers are little-endian.
  *
  * Without an argument a case is the table's length, p and b (4 bytes each), M (8) and the table. For each a line: the number and the row of wivakkol_check, the number and the row of
- * wivakkol_quota. With the argument `runs` the first line has the size of a wivakkol_run and where its fields stand. A case is then its length (4) and steps on one run's memory:
+ * wivakkol_quota. With the argument `runs` the first line has the size of a wivakkol_run and where its blocks stand. A case is then its length (4) and steps on one run's memory:
  *   t LENGTH TABLE     the table from now on
  *   m AT LENGTH BYTES  these bytes stand in the run's memory
  *   b P K              wivakkol_begin
@@ -15,7 +15,7 @@
  * which holds noise before the call: 0, it is all 0; 1, it is as it was; 2, neither. Last comes the whole of the run's memory, of preview and chart such a byte for it. A case is read whole
  * before its first step is done.
  *
- * A last line has the most stack that each call took, in bytes, from the C function that makes it on. The table and the order each end where the readable memory ends, in pages that may not
+ * A last line has the most stack that each call took, in bytes, its arguments there and its return address included. The table and the order each end where the readable memory ends, in pages that may not
  * be written; each row, the line, the run and the working memory stand between numbers that must stay, and a row holds anything before the call. */
 #define _GNU_SOURCE
 #include <inttypes.h>
@@ -105,6 +105,20 @@ static void preview(void)
     call.number = wivakkol_preview(&lent.run, call.table, call.length, call.w, call.row + 1);
 }
 
+/* A function that does nothing, with the parameters of wivakkol_turn_on; called as that is, its address not known. */
+static uint32_t no_turn(const uint8_t *table, size_t length, uint32_t w, uint8_t *bytes, uint16_t *words, uint32_t *numbers, uint64_t *sums, uint64_t *row)
+{
+    (void)table, (void)length, (void)w, (void)bytes, (void)words, (void)numbers, (void)sums, (void)row;
+    return 0;
+}
+
+static uint32_t (*volatile empty)(const uint8_t *, size_t, uint32_t, uint8_t *, uint16_t *, uint32_t *, uint64_t *, uint64_t *) = no_turn;
+
+static void call_nothing(void)
+{
+    call.number = empty(call.table, call.length, call.w, lent.run.bytes, lent.run.words, lent.run.numbers, lent.run.sums, call.row + 1);
+}
+
 static void chart(void)
 {
     call.number = wivakkol_chart(&lent.run, &lent.work, call.table, call.length, call.line + 1);
@@ -133,6 +147,13 @@ static size_t on_stack(void (*f)(void))
     if (low == 0)
         fail("the stack is too small");
     return STACK - low;
+}
+
+/* What the C function that makes a call has on the stack: all that a call of nothing touches, but for its return address and its two arguments that no register takes. */
+static size_t around(void)
+{
+    touched = on_stack(call_nothing);
+    return touched - 3 * 8;
 }
 
 /* Makes a call, and looks at the fences and at the stack. */
@@ -265,7 +286,7 @@ static void tables(void)
         print_row(WIVAKKOL_QUOTA_ROW);
         printf("\n");
     }
-    printf("stack %zu %zu\n", most[0], most[1]);
+    printf("stack %zu %zu\n", most[0] - around(), most[1] - around());
 }
 
 static void put(const void *bytes, size_t size)
@@ -394,13 +415,12 @@ static size_t step(const uint8_t *s, size_t *most)
     return move_step(s, most);
 }
 
-#define FIELD(name) printf(" " #name " %zu %zu %zu", offsetof(wivakkol_run, name), sizeof lent.run.name[0], sizeof lent.run.name / sizeof lent.run.name[0])
+#define BLOCK(name) printf(" " #name " %zu %zu %zu", offsetof(wivakkol_run, name), sizeof lent.run.name[0], sizeof lent.run.name / sizeof lent.run.name[0])
 
 static void print_layout(void)
 {
     printf("size %zu", sizeof(wivakkol_run));
-    FIELD(amounts), FIELD(totals), FIELD(settings), FIELD(quotas), FIELD(parents), FIELD(next), FIELD(left), FIELD(right), FIELD(under);
-    FIELD(over), FIELD(threads), FIELD(heads), FIELD(status), FIELD(holds);
+    BLOCK(sums), BLOCK(numbers), BLOCK(words), BLOCK(bytes);
     printf("\n");
     fflush(stdout);
 }
@@ -421,7 +441,7 @@ static void runs(void)
     }
     printf("stack");
     for (at = 0; at < 7; at++)
-        printf(" %zu", most[at]);
+        printf(" %zu", most[at] - around());
     printf("\n");
 }
 

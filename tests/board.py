@@ -1,7 +1,8 @@
-"""Builds tests/board.c and examples/board.c on the archive for C, calls it on random and damaged tables and runs, and compares with reference.py, quota.py, machine.py and lent.py, which
+"""Builds tests/board.c and examples/board.c on the archives for C, calls them on random and damaged tables and runs, and compares with reference.py, quota.py, machine.py and lent.py, which
 were written on their own. Holds the header against the source, since nothing else would say where they differ.
 
-usage: python3 tests/board.py [COUNT]    (from the repository's top, after `rt staticlib board`; COUNT tables and half as many runs of each kind, default 3,000; needs a C compiler, `cc`)
+usage: python3 tests/board.py [COUNT]
+    From the repository's top, after `rt staticlib single` and `rt staticlib board`; COUNT tables and half as many runs of each kind, default 3,000; needs a C compiler, `cc`.
 """
 import collections
 import os
@@ -13,6 +14,7 @@ import subprocess
 import sys
 
 import board_runs
+import lent
 import machine
 import quota
 from differential import LARGEST, mostly, run_table, tablecheck_input
@@ -22,17 +24,22 @@ from tables import damaged
 sys.path.insert(0, str(pathlib.Path(__file__).parent.parent / 'bench'))
 import stack
 
-ARCHIVE, OUT = 'target/staticlib/libboard.a', 'target/c'
+CRATES, OUT = ['single', 'board'], 'target/c'
+ARCHIVES = ['target/staticlib/lib%s.a' % crate for crate in CRATES]
 NUMBERS = {'wivakkol_check': set(range(12)), 'wivakkol_quota': set(range(12)) | {20, 41, 42}}  # what each call can return
 BYTES = {'table': 'length', 'order': 'turns'}  # the names of their numbers of bytes
 RUN_CALLS = list(board_runs.NUMBERS)  # the calls for a wivakkol_run
 WORK_NAMES = {'parents': 'seen'}  # fields of a wivakkol_work that the exported calls name otherwise, since they have parents of their own
+# the places that the header names: of each the part of a block that it is in, and which number of that
+NAMED = {'HELD': ('totals', lent.HELD_NOW), 'HIGHEST': ('totals', lent.HIGHEST), 'TURNS': ('totals', lent.TURNS), 'P': ('settings', lent.P), 'K': ('settings', lent.K),
+         'WORKER_THREADS': ('threads', 0), 'LEFTMOST': ('heads', lent.LEFTMOST), 'FIRST': ('heads', lent.FIRST), 'BUSY': ('heads', lent.BUSY)}
+NAMED.update({name.upper(): (name, 0) for name in lent.PLACES if name not in ('totals', 'settings', 'threads', 'heads')})
 Case = collections.namedtuple('Case', 'data p b memory')
 
 
 def build(source, name):
     os.makedirs(OUT, exist_ok=True)
-    command = ['cc', '-std=c99', '-Wall', '-Wextra', '-Werror', '-pedantic', '-O2', '-Iinclude', '-o', '%s/%s' % (OUT, name), source, ARCHIVE]
+    command = ['cc', '-std=c99', '-Wall', '-Wextra', '-Werror', '-pedantic', '-O2', '-Iinclude', '-o', '%s/%s' % (OUT, name), source, *ARCHIVES]
     subprocess.run(command, check=True)
     return '%s/%s' % (OUT, name)
 
@@ -43,10 +50,10 @@ def header_for_cpp():
         subprocess.run(['c++', '-x', 'c++', '-Wall', '-Wextra', '-Werror', '-pedantic', '-fsyntax-only', 'include/wivakkol.h'], check=True)
 
 
-def exported():
-    """The exported functions of the source: of each its parameters as (name, C type, array size), where a slice is a pointer and its number of bytes."""
+def exported(crate):
+    """The exported functions of a crate's source: of each its parameters as (name, C type, array size), where a slice is a pointer and its number of bytes."""
     calls = {}
-    for path in sorted(pathlib.Path('crates/board/src').glob('*.rt')):
+    for path in sorted(pathlib.Path('crates/%s/src' % crate).glob('*.rt')):
         for name, text, result in re.findall(r'pub extern "C" fn (\w+)\(([^)]*)\) -> (\w+)', path.read_text()):
             calls[name] = [('', c_type(result), None)]
             for parameter in filter(None, map(str.strip, text.split(','))):
@@ -68,7 +75,7 @@ def c_type(rattle):
 def header():
     """The header without its comments, names for numbers put in."""
     text = re.sub(r'/\*.*?\*/', '', open('include/wivakkol.h').read(), flags=re.S)
-    for name, value in re.findall(r'#define (\w+) (\d+)\n', text + '\n'):
+    for name, value in re.findall(r'#define (\w+) (\d+) *\n', text):
         text = re.sub(r'\b%s\b' % name, value, text)
     return text
 
@@ -80,25 +87,37 @@ def declared(text):
 
 
 def header_is_source():
-    """Names, order, types, const and sizes of the exported calls and of the struct's fields are those of the source."""
-    source, text = exported(), header()
+    """Names, order, types, const and sizes of the exported calls are those of the source, and a turn is in a crate of its own; blocks and parts are lent as lent.py has them."""
+    (single, board), text = map(exported, CRATES), header()
+    assert list(single) == ['wivakkol_turn_on'] and not set(single) & set(board)
+    source = {**single, **board}
     prototypes = {name: [('', result, None)] + list(map(declared, parameters.split(',')))
                   for result, name, parameters in re.findall(r'^(\w+) (\w+)\(([^)]*)\);', text, flags=re.M)}
     assert prototypes == source, 'the header and the source differ: %s' % [(name, prototypes.get(name), source.get(name))
                                                                           for name in {*prototypes, *source} if prototypes.get(name) != source.get(name)]
-    run, work = fields(text, 'run'), fields(text, 'work')
-    places = {name: 'run->' + name for name, _, _ in run}
+    blocks, work = fields(text, 'run'), fields(text, 'work')
+    assert blocks == [(block, 'uint%d_t' % bits, lent.COUNTS[block]) for bits, block in lent.BLOCKS.items()], 'the struct is not that of lent.py'
+    parts = [(name, 'uint%d_t' % bits, count) for name, bits, count in lent.FIELDS]
+    places = {name: 'run->' + name for name, _, _ in blocks}
+    places.update((name, 'run->%s + %d' % (lent.BLOCKS[bits], lent.PLACES[name])) for name, bits, _ in lent.FIELDS)
     work_places = {WORK_NAMES.get(name, name): 'work->' + name for name, _, _ in work}
     assert not set(places) & set(work_places)
     for call in RUN_CALLS:
         result, *parameters = source['wivakkol_%s_on' % call]
-        lent = {name for name, _, _ in parameters}
-        assert set(places) <= lent or call in ('preview', 'chart'), 'wivakkol_%s_on is not lent all of a run' % call
-        for name, kind, size in [*run, *((WORK_NAMES.get(name, name), kind, size) for name, kind, size in work)]:
-            assert name not in lent or (name, kind, size) in [(x, y.replace('const ', ''), z) for x, y, z in parameters], 'wivakkol_%s_on: %s' % (call, name)
+        taken = {name: (kind.replace('const ', ''), size) for name, kind, size in parameters}
+        whole = blocks if call in ('turn', 'list', 'rounds') else parts
+        assert {name for name, _, _ in whole} <= set(taken) or call in ('preview', 'chart'), 'wivakkol_%s_on is not lent all of a run' % call
+        for name, kind, size in [*whole, *((WORK_NAMES.get(name, name), kind, size) for name, kind, size in work)]:
+            assert taken.get(name, (kind, size)) == (kind, size), 'wivakkol_%s_on: %s' % (call, name)
         inline_hands_over(text, call, result, parameters, {**places, **work_places})
     assert set(source) == {*NUMBERS, *('wivakkol_%s_on' % call for call in RUN_CALLS)}
-    assert set(board_runs.FIELDS) == {(name, int(kind[4:-2]), size) for name, kind, size in run}
+
+
+def places_are_named():
+    """Every part of a block stands where the header says, and so does each number of those that have no name of their own there."""
+    defined = dict(re.findall(r'#define WIVAKKOL_(\w+) (\d+)', open('include/wivakkol.h').read()))
+    for name, (part, i) in NAMED.items():
+        assert int(defined[name]) == lent.PLACES[part] + i, 'WIVAKKOL_%s is another place than in lent.py' % name
 
 
 def fields(text, struct):
@@ -106,12 +125,13 @@ def fields(text, struct):
 
 
 def inline_hands_over(text, call, result, parameters, places):
-    """The call for a wivakkol_run has the exported one's parameters but for the fields, and hands both over in its order; the run is const where nothing of it is written."""
+    """The call for a wivakkol_run has the exported one's parameters but for what stands in the run and the working memory, and hands both over in its order; the run is const where nothing of
+    it is written."""
     kind, const, work, taken, given = re.search(
         r'static inline (\w+) wivakkol_%s\((const )?wivakkol_run \*run, (wivakkol_work \*work, )?([^)]*)\)\s*\{\s*return wivakkol_%s_on\(([^)]*)\);\s*\}' % (call, call), text).groups()
     assert [('', kind, None), *map(declared, taken.split(','))] == [result] + [x for x in parameters if x[0] not in places], 'wivakkol_%s has other parameters' % call
     wanted = [places.get(name, name) for name, _, _ in parameters]
-    assert given.replace(',', ' ').split() == wanted, 'wivakkol_%s hands its parameters and the fields over in another order' % call
+    assert [' '.join(x.split()) for x in given.split(',')] == wanted, 'wivakkol_%s hands its parameters, blocks and parts over in another order' % call
     written = {places[name].split('->')[0] for name, kind, _ in parameters if name in places and not kind.startswith('const ')}
     assert (const is None, work is not None) == ('run' in written, 'work' in written), 'wivakkol_%s: what is written of the run and the working memory' % call
 
@@ -193,9 +213,11 @@ def compare_example(program, drawn):
 
 def main():
     count = int(sys.argv[1]) if len(sys.argv) > 1 else 3000
-    if not os.path.exists(ARCHIVE):
-        sys.exit('%s is not there: run `rt staticlib board` first' % ARCHIVE)
+    for crate, archive in zip(CRATES, ARCHIVES):
+        if not os.path.exists(archive):
+            sys.exit('%s is not there: run `rt staticlib %s` first' % (archive, crate))
     header_is_source()
+    places_are_named()
     header_for_cpp()
     drawn = cases(random.Random(20), max(count, 6))
     program = build('tests/board.c', 'board_test')

@@ -7,7 +7,7 @@ import chart
 import lent
 import machine
 from differential import LARGEST, beginning, mostly, order, run_table, tablecheck_input
-from lent import FIELDS, MISFITS, OFFSETS, SIZE
+from lent import BLOCKS, COUNTS, FIELDS, MISFITS, OFFSETS, SIZE
 from machine import NO_THREAD, THREADS, WAITING, WORKERS
 from reference import Table
 from tables import damaged
@@ -537,9 +537,10 @@ class Program:
 
     def __init__(self, path):
         self.process = subprocess.Popen([path, 'runs'], stdin=subprocess.PIPE, stdout=subprocess.PIPE)
-        _, size, *fields = self.process.stdout.readline().decode().split()
-        layout = [(name, OFFSETS[name], bits // 8, count) for name, bits, count in FIELDS]
-        told = [(name, *map(int, rest)) for name, *rest in zip(*[iter(fields)] * 4)]
+        _, size, *blocks = self.process.stdout.readline().decode().split()
+        begins = {bits: min(OFFSETS[name] for name, other, _ in FIELDS if other == bits) for bits in BLOCKS}
+        layout = [(block, begins[bits], bits // 8, COUNTS[block]) for bits, block in BLOCKS.items()]
+        told = [(name, *map(int, rest)) for name, *rest in zip(*[iter(blocks)] * 4)]
         assert (int(size), told) == (SIZE, layout), 'the struct of the header is not that of lent.py: %s %s' % (size, told)
 
     def compare(self, play):

@@ -12,11 +12,16 @@ import machine
 from machine import ENDED, HELD, LAST_TURN, NO_THREAD, READY, THREADS, WAITING, WORKERS, begin_fault, described
 from reference import ALLOC, END, FORK, FREE, JOIN, WORK, Table, check, owners
 
-# the struct: name, number of bits and how many, in its order
+# the struct: its blocks by the bits of their numbers, in its order
+BLOCKS = {64: 'sums', 32: 'numbers', 16: 'words', 8: 'bytes'}
+# the parts of the blocks: name, number of bits and how many, in their order
 FIELDS = [('amounts', 64, THREADS), ('totals', 64, 3), ('settings', 32, 2), ('quotas', 32, WORKERS), ('parents', 16, THREADS), ('next', 16, THREADS),
           ('left', 16, THREADS), ('right', 16, THREADS), ('under', 16, THREADS), ('over', 16, THREADS), ('threads', 16, WORKERS), ('heads', 16, 3),
           ('status', 8, THREADS), ('holds', 8, WORKERS)]
 OFFSETS = {name: sum(bits // 8 * count for _, bits, count in FIELDS[:i]) for i, (name, _, _) in enumerate(FIELDS)}
+# how many numbers a block has, and at which of them a part begins
+COUNTS = {block: sum(count for _, bits, count in FIELDS if BLOCKS[bits] == block) for block in BLOCKS.values()}
+PLACES = {name: sum(count for _, other, count in FIELDS[:i] if other == bits) for i, (name, bits, _) in enumerate(FIELDS)}
 USED = sum(bits // 8 * count for _, bits, count in FIELDS)
 SIZE = (USED + 7) // 8 * 8
 # the working memory: its fields, and those that a call leaves all 0; it does not touch the others
@@ -43,7 +48,7 @@ MISFITS = ['thread', 'worker', 'set', 'child', 'next', 'held above', 'held below
 
 
 class Memory:
-    """The struct; each field is a view of its bytes, in which a number that does not fit cannot be put."""
+    """The struct; each part of its blocks is a view of its bytes, in which a number that does not fit cannot be put."""
 
     def __init__(self, data):
         assert len(data) == SIZE
@@ -54,7 +59,7 @@ class Memory:
             setattr(self, name, whole[at:at + bits // 8 * count].cast(CODES[bits]))
 
     def fill(self, **values):
-        """Every number of the fields named is this; all others are 0."""
+        """Every number of the parts named is this; all others are 0."""
         for name, _, count in FIELDS:
             field, x = getattr(self, name), values.get(name, 0)
             for i in range(count):

@@ -1,4 +1,5 @@
-//! Links the archive `libboard.a`, which `rt staticlib board` writes: from the folder that `WIVAKKOL_ARCHIVE` names, or else from the repository's own.
+//! Links the archives `libsingle.a` and `libboard.a`, which `rt staticlib single` and `rt staticlib board` write: from the folder that `WIVAKKOL_ARCHIVE` names, or else from the
+//! repository's own.
 use std::path::{Path, PathBuf};
 use std::{env, process};
 
@@ -9,12 +10,14 @@ fn main() {
         Some(folder) => PathBuf::from(folder),
         None => Path::new(&here).join("../../target/staticlib"),
     };
-    let archive = folder.join("libboard.a");
-    let Ok(archive) = archive.canonicalize() else {
-        eprintln!("{} is not there: `rt staticlib board` writes it, and WIVAKKOL_ARCHIVE may name its folder", archive.display());
-        process::exit(1);
-    };
-    println!("cargo:rerun-if-changed={}", archive.display());
-    println!("cargo:rustc-link-search=native={}", archive.parent().expect("it is in a folder").display());
-    println!("cargo:rustc-link-lib=static=board");
+    for name in ["single", "board"] {
+        let archive = folder.join(format!("lib{name}.a"));
+        let Ok(archive) = archive.canonicalize() else {
+            eprintln!("{} is not there: `rt staticlib {name}` writes it, and WIVAKKOL_ARCHIVE may name its folder", archive.display());
+            process::exit(1);
+        };
+        println!("cargo:rerun-if-changed={}", archive.display());
+        println!("cargo:rustc-link-search=native={}", archive.parent().expect("it is in a folder").display());
+        println!("cargo:rustc-link-lib=static={name}");
+    }
 }

@@ -6,10 +6,10 @@ use mathlib.Core.List.{List, [], _∷_}
 use mathlib.Core.Bool.{Bool, true, false}
 use borrow.Author.Tests.{ltb-true, ltb-false, eqb-true, eqb-false}
 use lib.Dec.{ltb, eqb}
+use lib.ListN.{getD}
 use Rattle.table.specs.Sum.{pick}
 use Rattle.table.specs.Pass.{refusal}
 use Rattle.text.specs.Text.{refusedLine}
-use Rattle.schedule.specs.declared.Worker.{Worker}
 use Rattle.schedule.specs.declared.Run.{Run}
 use Rattle.schedule.specs.Record.{tableIn, stateOf}
 use Rattle.schedule.specs.Turn.{unsound, stepRun}
@@ -18,9 +18,8 @@ use Rattle.schedule.proofs.Stores.{moved-steady}
 use Rattle.schedule.proofs.CaseLaws.{turn-turns}
 use Rattle.chart.specs.Chart.{mostTurns}
 use Rattle.chart.proofs.Records.{many, charted-many}
-use Rattle.lent.specs.declared.Moved.{Moved}
-use Rattle.lent.specs.Arrays.{Arrays}
-use Rattle.lent.specs.Packed.{packedOf}
+use Rattle.cells.specs.Memory.{Memory, movedIn}
+use Rattle.cells.specs.Stands.{runIn}
 use Rattle.asyncdf.specs.Code.Drives.{Moving}
 use Rattle.asyncdf.specs.Code.Sheets.{turnsTexts, hindered}
 use Rattle.lent.proofs.Answers.{steady-full, steady-room, turned-unsound, turned-none, turned-taken}
@@ -54,48 +53,52 @@ moved-turns : (r : Run) (w : ℕ) → moved r w .turns ≡ r .turns + 1
 unfolding stepRun
 moved-turns r w = omega (arith, turn-turns (tableIn r) (r .quota) w (stateOf r))
 
-module _ {run : Run} {s : List ℕ} {n last p K : ℕ} {parents : List ℕ} {A : Arrays} {workers : List Worker} {m : Moved}
-    (v : Moving run s n last p K parents A workers m) (w : ℕ) (rest : List ℕ) where
+module _ {s : List ℕ} {last : ℕ} {M : Memory} (v : Moving s last M) (w : ℕ) (rest : List ℕ) where
   abbrev here : Run
-  here = packedOf run A workers m
+  here = runIn s M
+
+  abbrev p : ℕ
+  p = getD (M .settings) 0 0
+
+  abbrev turns : ℕ
+  turns = movedIn M .turns
 
   -- the last text is the line of this number
   abbrev Ends : Bool → ℕ → Type 0
   Ends chart number = turnsTexts chart here (w ∷ rest) ≡ refusedLine (refusal number 0) ∷ []
 
-  full : m .turns ≡ 2 ^ 64 - 1 → Ends false 32
-  full e = texts-refused here w (v .unended) (turned-unsound here w (steady-full here (v .steady) e)) false rest refl
+  full : turns ≡ 2 ^ 64 - 1 → Ends false 32
+  full e = texts-refused here w (v .unended) (turned-unsound here w (steady-full here (v .stands .steady) e)) false rest refl
 
-  module _ (e : m .turns ≡ 2 ^ 64 - 1 → ⊥) where
+  module _ (e : turns ≡ 2 ^ 64 - 1 → ⊥) where
     sound-here : unsound here ≡ false
-    sound-here = steady-room here (v .steady) (v .turns-fit) e
+    sound-here = steady-room here (v .stands .steady) (v .stands .turns-fit) e
 
     none : (chart : Bool) → p ≤ w → Ends chart 30
-    none chart b = texts-refused here w (v .unended) (turned-none here w sound-here (omega (arith, b, v .count))) chart rest refl
+    none chart b = texts-refused here w (v .unended) (turned-none here w sound-here b) chart rest refl
 
     -- the record after the turn has 1,000,000 turns taken
-    over : w < p → m .turns ≡ mostTurns → Ends true 43
+    over : w < p → turns ≡ mostTurns → Ends true 43
     over b f =
-        let own : w < run .workers = omega (arith, b, v .count) in
-        let k : moved here w .turns ≡ m .turns + 1 = moved-turns here w in
-        let u : unsound (moved here w) ≡ false = steady-room (moved here w) (moved-steady here (v .steady) w own) (omega (arith, k, f)) (λ z. omega (arith, z, k, f)) in
-        texts-many here w (v .unended) (turned-taken here w sound-here own (v .unended)) refl rest
+        let k : moved here w .turns ≡ turns + 1 = moved-turns here w in
+        let u : unsound (moved here w) ≡ false = steady-room (moved here w) (moved-steady here (v .stands .steady) w b) (omega (arith, k, f)) (λ z. omega (arith, z, k, f)) in
+        texts-many here w (v .unended) (turned-taken here w sound-here b (v .unended)) refl rest
         (sym (charted-many (moved here w) u (many (moved here w) u (omega (arith, k, f)))))
 
-  pub hinders : (chart : Bool) → (chart ≡ true → m .turns ≤ mostTurns) → (hindered chart p w (m .turns) ≡ 0 → ⊥) → Ends chart (hindered chart p w (m .turns))
+  pub hinders : (chart : Bool) → (chart ≡ true → turns ≤ mostTurns) → (hindered chart p w turns ≡ 0 → ⊥) → Ends chart (hindered chart p w turns)
   unfolding hindered
-  hinders true f = go (ltb w p) refl (ltb (m .turns) mostTurns) refl
+  hinders true f = go (ltb w p) refl (ltb turns mostTurns) refl
     where
-      room : m .turns ≡ 2 ^ 64 - 1 → ⊥
+      room : turns ≡ 2 ^ 64 - 1 → ⊥
       room z = omega (arith, z, f refl)
 
-      go : (a : Bool) → ltb w p ≡ a → (b : Bool) → ltb (m .turns) mostTurns ≡ b → (_≡_ {A = ℕ} (pick a (pick b 0 43) 30) 0 → ⊥) → Ends true (pick a (pick b 0 43) 30)
+      go : (a : Bool) → ltb w p ≡ a → (b : Bool) → ltb turns mostTurns ≡ b → (_≡_ {A = ℕ} (pick a (pick b 0 43) 30) 0 → ⊥) → Ends true (pick a (pick b 0 43) 30)
       go true x true y e = absurd (e refl)
-      go true x false y e = over room (ltb-true w p x) (omega (arith, f refl, ltb-false (m .turns) mostTurns y))
+      go true x false y e = over room (ltb-true w p x) (omega (arith, f refl, ltb-false turns mostTurns y))
       go false x b y e = none room true (ltb-false w p x)
-  hinders false f = go (eqb (m .turns) (2 ^ 64 - 1)) refl (ltb w p) refl
+  hinders false f = go (eqb turns (2 ^ 64 - 1)) refl (ltb w p) refl
     where
-      go : (a : Bool) → eqb (m .turns) (2 ^ 64 - 1) ≡ a → (b : Bool) → ltb w p ≡ b → (_≡_ {A = ℕ} (pick a 32 (pick b 0 30)) 0 → ⊥) → Ends false (pick a 32 (pick b 0 30))
-      go true x b y e = full (eqb-true (m .turns) (2 ^ 64 - 1) x)
+      go : (a : Bool) → eqb turns (2 ^ 64 - 1) ≡ a → (b : Bool) → ltb w p ≡ b → (_≡_ {A = ℕ} (pick a 32 (pick b 0 30)) 0 → ⊥) → Ends false (pick a 32 (pick b 0 30))
+      go true x b y e = full (eqb-true turns (2 ^ 64 - 1) x)
       go false x true y e = absurd (e refl)
-      go false x false y e = none (eqb-false (m .turns) (2 ^ 64 - 1) x) false (ltb-false w p y)
+      go false x false y e = none (eqb-false turns (2 ^ 64 - 1) x) false (ltb-false w p y)

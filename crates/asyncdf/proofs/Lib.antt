@@ -1,4 +1,5 @@
 pub mod Driving
+pub mod Laying
 pub mod Moving
 pub mod Along
 pub mod Calls

@@ -1,3 +1,4 @@
 -- promises between the parts of the code
+pub mod Packing
 pub mod Drives
 pub mod Sheets

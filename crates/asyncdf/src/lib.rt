@@ -41,6 +41,7 @@ ghost use Rattle.lines.specs.Puts.{Puts};
 ghost use Rattle.chart.specs.Turns.{chartTurns};
 
 mod beginning;
+mod packing;
 mod runs;
 mod turns;
 

@@ -1,18 +1,21 @@
 // The lines of an order's turns, of a listing or of a chart: the loop of a run, with a line put after each turn and no record at its end.
-use crate::runs::moved_in;
+use crate::packing::pack;
 use crate::runs::root_end;
+use cells::copies::workers_out;
+use cells::places::HELD;
+use cells::places::HIGHEST;
+use cells::places::NEXT;
+use cells::places::TURNS;
+use cells::places::row_at;
+use cells::places::total_at;
+use cells::turn_in;
 use chart::MOST_TURNS;
 use chart::put_line;
-use lent::Moved;
-use lent::number_or_zero;
-use lent::take_turn;
 use lines::put_last;
 use lines::put_refused;
 use lines::put_turn;
-use links::fill_actives;
 use schedule::Reply;
 use schedule::Run;
-use schedule::Worker;
 use schedule::statuses::ENDED;
 use table::read::code;
 use table::read::threads;
@@ -20,19 +23,19 @@ ghost use mathlib.Core.Path.{_≡_};
 ghost use mathlib.Core.Bool.{true, false};
 ghost use Prim.Native.Nat.{_+_, _*_, _≤_, _<_};
 ghost use lib.ListN.{length, getD};
-ghost use Rattle.table.specs.Format.{kind, threadsOf, tableOf};
-ghost use Rattle.schedule.specs.declared.Run.{Run as RunRecord};
-ghost use Rattle.schedule.specs.Listing.{actionIn, threadIn, line, toldWith, lastWith};
+ghost use Rattle.table.specs.Format.{tableOf};
+ghost use Rattle.schedule.specs.Listing.{actionIn, threadIn, lastWith};
 ghost use Rattle.schedule.specs.Record.{tableIn};
 ghost use Rattle.schedule.specs.Turn.{unsound};
 ghost use Rattle.lines.specs.Lines.{turnTexts};
 ghost use Rattle.lines.specs.Puts.{Puts};
-ghost use Rattle.chart.specs.Chart.{shownOf, mostTurns};
+ghost use Rattle.chart.specs.Chart.{mostTurns};
 ghost use Rattle.schedule.specs.Parents.{Parents};
-ghost use Rattle.lent.specs.Arrays.{arrays};
-ghost use Rattle.lent.specs.Packed.{packedOf};
-ghost use Rattle.asyncdf.specs.Code.Drives.{Moving, Stands};
-ghost use Rattle.asyncdf.specs.Code.Sheets.{turnsTexts, widest, afterTexts, afterSize, overTexts, hindered};
+ghost use Rattle.cells.specs.Memory.{movedIn};
+ghost use Rattle.cells.specs.Stands.{runIn};
+ghost use Rattle.cells.specs.Blocks.{wordsIn, sumsIn, memoryOf};
+ghost use Rattle.asyncdf.specs.Code.Drives.{Moving};
+ghost use Rattle.asyncdf.specs.Code.Sheets.{turnsTexts, widest, lineIn, shownIn, afterTexts, afterSize, overTexts, hindered};
 
 // The action that a reply says was done, 0 where none was.
 fn action_in(reply: Reply) -> u16
@@ -64,52 +67,50 @@ fn thread_in(reply: Reply) -> u16
     }
 }
 
-// The line of a turn of worker w that left the next actions and the amount held given.
+// The line of a turn of worker w that left these words and sums.
 fn put_step(
     table: &[u8],
-    n: usize,
-    next: &[u16; 1024],
+    words: &[u16; 6163],
+    sums: &[u64; 1027],
     out: &mut [u8],
     at: usize,
-    turns: u64,
     w: u8,
     reply: Reply,
-    held: u64,
 ) -> usize
-    requires { ⌜ n ≡ threadsOf (now table) ⌝ }
     ensures { λ r. ⌜ Puts (now (out .entry)) at (now (out .exit)) r
-        (turnTexts (line turns w (toldWith reply (kind (tableOf (now (table .entry))) (actionIn reply)) (getD (now (next .entry)) (threadIn reply) 0)) held)) 64 ⌝ }
+        (turnTexts (lineIn (tableOf (now (table .entry))) w reply (wordsIn (now (words .entry))) (sumsIn (now (sums .entry))))) 64 ⌝ }
 {
-    let code = code(table, n, action_in(reply) as usize);
-    let action = number_or_zero(next, thread_in(reply) as usize);
-    put_turn(out, at, turns, w, reply, code, action, held)
+    let code = code(table, threads(table), action_in(reply) as usize);
+    let action = row_at(words, NEXT, thread_in(reply));
+    let held = total_at(sums, HELD);
+    put_turn(out, at, total_at(sums, TURNS), w, reply, code, action, held)
 }
 
 // What is put after a turn: the chart's line of the record, or the turn's line.
 fn put_after(
     chart: bool,
     table: &[u8],
-    n: usize,
-    next: &[u16; 1024],
+    bytes: &[u8; 1040],
+    words: &[u16; 6163],
+    numbers: &[u32; 18],
+    sums: &[u64; 1027],
     out: &mut [u8],
     at: usize,
     p: u8,
-    workers: [Worker; 16],
     w: u8,
     reply: Reply,
-    turns: u64,
-    held: u64,
 ) -> usize
-    requires { ⌜ n ≡ threadsOf (now table) ⌝ }
     ensures { λ r. ⌜ Puts (now (out .entry)) at (now (out .exit)) r
-        (afterTexts chart (shownOf turns p workers held)
-        (line turns w (toldWith reply (kind (tableOf (now (table .entry))) (actionIn reply)) (getD (now (next .entry)) (threadIn reply) 0)) held))
-        (afterSize chart (shownOf turns p workers held)) ⌝ }
+        (afterTexts chart (shownIn p (memoryOf (now (bytes .entry)) (now (words .entry)) (now (numbers .entry)) (now (sums .entry))))
+        (lineIn (tableOf (now (table .entry))) w reply (wordsIn (now (words .entry))) (sumsIn (now (sums .entry)))))
+        (afterSize chart (shownIn p (memoryOf (now (bytes .entry)) (now (words .entry)) (now (numbers .entry)) (now (sums .entry))))) ⌝ }
 {
     if chart {
-        return put_line(out, at, turns, p, workers, held);
+        let workers = workers_out(bytes, words, numbers);
+        let held = total_at(sums, HELD);
+        return put_line(out, at, total_at(sums, TURNS), p, workers, held);
     }
-    put_step(table, n, next, out, at, turns, w, reply, held)
+    put_step(table, words, sums, out, at, w, reply)
 }
 
 // What is put at the root's end or the order's: the last line, and of a chart nothing.
@@ -120,6 +121,15 @@ fn put_over(chart: bool, out: &mut [u8], at: usize, ended: bool, turns: u64, pea
         return at;
     }
     put_last(out, at, ended, turns, peak)
+}
+
+// The same of a run in the blocks.
+fn put_end(chart: bool, out: &mut [u8], at: usize, ended: bool, sums: &[u64; 1027]) -> usize
+    ensures { λ r. ⌜ Puts (now (out .entry)) at (now (out .exit)) r
+        (overTexts chart (lastWith ended (sumsIn (now (sums .entry)) .turns) (sumsIn (now (sums .entry)) .highest))) 64 ⌝ }
+{
+    let highest = total_at(sums, HIGHEST);
+    put_over(chart, out, at, ended, total_at(sums, TURNS), highest)
 }
 
 // The number with which a turn of worker w is refused, or the chart's line after it; 0 where neither is.
@@ -145,87 +155,55 @@ fn hindrance(chart: bool, p: u8, w: u8, turns: u64) -> u8
 fn put_each(
     chart: bool,
     table: &[u8],
-    n: usize,
     last: usize,
     p: u8,
-    quota: u32,
-    parents: &[u16; 1024],
-    next: &mut [u16; 1024],
-    status: &mut [u8; 1024],
-    amounts: &mut [u64; 1024],
-    left: &mut [u16; 1024],
-    right: &mut [u16; 1024],
-    under: &mut [u16; 1024],
-    over: &mut [u16; 1024],
-    start: [Worker; 16],
-    from: Moved,
     order: &[u8],
+    bytes: &mut [u8; 1040],
+    words: &mut [u16; 6163],
+    numbers: &mut [u32; 18],
+    sums: &mut [u64; 1027],
     out: &mut [u8],
     at: usize,
 ) -> usize
-    requires { ⌜ Stands (now table) n last p quota (now parents) (arrays (now next) (now status) (now amounts) (now left) (now right) (now under) (now over)) start from ⌝ }
-    requires { ⌜ (chart ≡ true → from .turns ≤ mostTurns) ⌝ }
-    ensures { λ r. ⌜ ((run : RunRecord)
-        → Moving run (now (table .entry)) n last p quota (now (parents .entry)) (arrays (now (next .entry)) (now (status .entry)) (now (amounts .entry)) (now (left .entry)) (now (right .entry)) (now (under .entry)) (now (over .entry))) start from
-        → Puts (now (out .entry)) at (now (out .exit)) r
-        (turnsTexts chart (packedOf run (arrays (now (next .entry)) (now (status .entry)) (now (amounts .entry)) (now (left .entry)) (now (right .entry)) (now (under .entry)) (now (over .entry))) start from) (now (order .entry)))
-        (widest chart * (length (now (order .entry)) + 1))) ⌝ }
+    requires { ⌜ Moving (now table) last (memoryOf (now bytes) (now words) (now numbers) (now sums)) ⌝ }
+    requires { ⌜ p ≡ getD (memoryOf (now bytes) (now words) (now numbers) (now sums) .settings) 0 0 ⌝ }
+    requires { ⌜ (chart ≡ true → movedIn (memoryOf (now bytes) (now words) (now numbers) (now sums)) .turns ≤ mostTurns) ⌝ }
+    ensures { λ r. ⌜ Puts (now (out .entry)) at (now (out .exit)) r
+        (turnsTexts chart (runIn (now (table .entry)) (memoryOf (now (bytes .entry)) (now (words .entry)) (now (numbers .entry)) (now (sums .entry)))) (now (order .entry)))
+        (widest chart * (length (now (order .entry)) + 1)) ⌝ }
 {
-    let mut workers = start;
-    let mut moved = from;
     let mut at = at;
     let mut i = 0;
     while i < order.len() {
         let w = order[i];
-        let number = hindrance(chart, p, w, moved.turns);
+        let number = hindrance(chart, p, w, total_at(&*sums, TURNS));
         if number != 0 {
             return put_refused(out, at, number);
         }
-        let k = w as usize;
-        let worker = workers[k];
-        let t = take_turn(
-            table,
-            n,
-            quota,
-            parents,
-            next,
-            status,
-            amounts,
-            left,
-            right,
-            under,
-            over,
-            moved,
-            worker,
-            k,
-        );
-        let after = t.worker;
-        workers[k] = after;
-        moved = t.moved;
+        let spoken = turn_in(table, w as u32, false, bytes, words, numbers, sums);
+        let reply = spoken.reply;
         i += 1;
-        let reply = t.reply;
         at = put_after(
             chart,
             table,
-            n,
-            next,
+            &*bytes,
+            &*words,
+            &*numbers,
+            &*sums,
             out,
             at,
             p,
-            workers,
             w,
             reply,
-            moved.turns,
-            moved.totals.held,
         );
         let Reply::Done { thread: _, action } = reply else {
             continue;
         };
         if action as usize == last {
-            return put_over(chart, out, at, true, moved.turns, moved.totals.highest);
+            return put_end(chart, out, at, true, &*sums);
         }
     }
-    put_over(chart, out, at, false, moved.turns, moved.totals.highest)
+    put_end(chart, out, at, false, &*sums)
 }
 
 // The turns of an order, on a record that passed check 32.
@@ -242,7 +220,7 @@ pub(crate) fn put_turns(
     requires { ⌜ (chart ≡ true → run .turns ≤ mostTurns) ⌝ }
     ensures { λ r. ⌜ Puts (now (out .entry)) at (now (out .exit)) r (turnsTexts chart run (now (order .entry))) (widest chart * (length (now (order .entry)) + 1)) ⌝ }
 {
-    let mut status = run.status;
+    let status = run.status;
     if status[0] == ENDED {
         return put_over(chart, out, at, true, run.turns, run.highest);
     }
@@ -254,33 +232,29 @@ pub(crate) fn put_turns(
     }
     let length = run.length as usize;
     let table = run.table;
-    let bytes = &table[..length];
-    let mut next = run.next;
-    let mut amounts = run.amounts;
-    let mut left = run.left;
-    let mut right = run.right;
-    let mut under = [0u16; 1024];
-    let mut over = [0u16; 1024];
-    let first = fill_actives(&status, &right, run.leftmost, &mut under, &mut over);
-    let start = run.worker;
+    let table = &table[..length];
+    let mut bytes = [0u8; 1040];
+    let mut words = [0u16; 6163];
+    let mut numbers = [0u32; 18];
+    let mut sums = [0u64; 1027];
+    pack(
+        run,
+        parents,
+        &mut bytes,
+        &mut words,
+        &mut numbers,
+        &mut sums,
+    );
     put_each(
         chart,
-        bytes,
-        threads(bytes),
-        root_end(bytes),
+        table,
+        root_end(table),
         run.workers,
-        run.quota,
-        parents,
-        &mut next,
-        &mut status,
-        &mut amounts,
-        &mut left,
-        &mut right,
-        &mut under,
-        &mut over,
-        start,
-        moved_in(run, first),
         order,
+        &mut bytes,
+        &mut words,
+        &mut numbers,
+        &mut sums,
         out,
         at,
     )

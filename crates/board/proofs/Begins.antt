@@ -21,7 +21,8 @@ use Rattle.schedule.specs.Begin.{beginPasses}
 use Rattle.schedule.specs.Sound.{isNothing}
 use Rattle.soundness.specs.Tested.{parentsIf, nextIf, beginFound}
 use Rattle.lent.specs.Arrays.{arrays}
-use Rattle.board.specs.Lent.{memory, answer, lentBegin}
+use Rattle.cells.specs.Memory.{memory, answer}
+use Rattle.board.specs.Lent.{lentBegin}
 
 module _ (s : List ℕ) (K : ℕ) where
   pub too-many : (p : ℕ) → 17 ≤ p → firstFound (beginPasses (tableOf s) p K) ≡ At (refusal 20 0)

@@ -14,7 +14,8 @@ use Rattle.schedule.specs.declared.Reply.the-variants.{Idle}
 use Rattle.table.specs.Format.{tableOf}
 use Rattle.schedule.specs.Runs.{workerAt}
 use Rattle.lent.specs.Counted.{Left, turnOn}
-use Rattle.board.specs.Lent.{Memory, workerIn, movedIn, memoryAfter, Answer, answer, hindrance, Told, told, turnLeft, turnIn, runRow, overIn, lentDrive, lentList, lentRounds}
+use Rattle.cells.specs.Memory.{Memory, workerIn, movedIn, memoryAfter, Answer, answer, hindrance, Told, told, turnLeft, turnIn}
+use Rattle.board.specs.Lent.{runRow, overIn, lentDrive, lentList, lentRounds}
 
 -- a turn that is refused moves nothing
 refused-same : (s : List ℕ) (w : ℕ) (M : Memory) → (turnIn s w M .number ≡ 0 → ⊥) → turnIn s w M .memory ≡ M

@@ -41,13 +41,14 @@ use Rattle.soundness.proofs.Chains.{never}
 use Rattle.soundness.proofs.Noting.{parents-right}
 use Rattle.lent.proofs.Starts.{alone, alone-linked, is-start}
 use Rattle.table.specs.Load.{foundNumber}
-use Rattle.board.specs.Lent.{Memory, startMemory, begunAs, lentBegin, lentTurn}
-use Rattle.board.specs.Stands.{truths, workersFrom, runIn, Stands}
+use Rattle.cells.specs.Memory.{Memory, lentTurn}
+use Rattle.board.specs.Lent.{startMemory, begunAs, lentBegin}
+use Rattle.cells.specs.Stands.{truths, workersFrom, runIn, Stands}
 use Rattle.board.specs.Opened.{soundIn, blankIn, openedIn, openedAs, lentOpen}
 use Rattle.board.specs.LentCalls.{LentCall, moving, opening, lentMove, lentCall, lentRowOf, lentAfter, lentRow, movesOf}
 use Rattle.board.proofs.Opens.{open-record, open-stands, opens-stands}
 use Rattle.board.proofs.Numbered.{Numbered, begin-numbered, turn-numbered}
-use Rattle.board.proofs.Refines.{Turns, turn-refines}
+use Rattle.cells.proofs.Refines.{Turns, turn-refines}
 use Rattle.board.proofs.RunsRefine.{valuesRun, list-refines, rounds-refines}
 
 -- ---- a beginning
@@ -90,7 +91,7 @@ module _ (s : List ℕ) (p K : ℕ) where
     alone-list : walk noThread (alone .right) (alone .head) ≡ 0 ∷ []
     alone-list = walk-linked (alone .left) (alone .right) (alone .head) (0 ∷ []) alone-linked once-alone below-alone
 
-    start-stands : Stands s (startMemory s p K)
+    pub start-stands : Stands s (startMemory s p K)
     unfolding actives truths allBelow
     start-stands =
         record {

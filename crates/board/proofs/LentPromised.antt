@@ -1,33 +1,32 @@
 -- The limits for the calls from C. A history is a beginning and calls, each on the memory that the last one left, of which nothing is known but what the functions' own `ensures` say,
--- as the check reads them (`Learnt`), of what was lent and of what stood there at the end. `lent-history-is`: the memory and the row of turns are those of the definitions.
--- `lent-history-exists`: every list of calls has one. `lent-code-limit` and `lent-code-threads`: so both limits hold of them.
+-- as the check reads them (`Learnt`), of what was lent and of what stood there at the end. A turn and a run are lent four blocks, a beginning and an opening the parts of the blocks.
+-- `lent-history-is`: the memory and the row of turns are those of the definitions. `lent-history-exists`: every list of calls has one, on memory whose rows have the lengths of the parts;
+-- `begun-history-exists`: and so on the memory that any beginning left. `lent-code-limit` and `lent-code-threads`: so both limits hold of them.
 use mathlib.Core.Path.{_≡_, refl, sym, ap, ap₂, subst, _∙_}
-use Prim.Native.Nat.{ℕ, zero, suc, _-_, _^_, _≤_}
+use Prim.Native.Nat.{ℕ, _≤_}
 use mathlib.Core.List.{List, [], _∷_, _++_}
 use contract.Lifetimes.{Lfts}
 use denote.Ref.{RefT, now}
 use denote.Triple.Clauses.{AtExit}
 use borrow.Fn.Kinds.{endedOf}
 use mathlib.Core.Bool.{Bool, true, false}
-use lib.Dec.{eqb}
-use lib.ListN.{length, getD, replicate}
-use Rattle.table.specs.Sum.{pick}
+use lib.ListN.{length, replicate}
 use Rattle.table.specs.Format.{tableOf}
 use Rattle.schedule.proofs.Limit.{MemoryLimit}
 use Rattle.schedule.proofs.ThreadLimit.{ThreadLimit}
 use Rattle.lent.specs.Arrays.{arrays}
-use Rattle.schedule.specs.declared.Reply.the-variants.{Idle}
-use Rattle.lent.specs.Counted.{Left, turnOn}
-use Rattle.board.specs.Lent.{Memory, memory, workerIn, movedIn, memoryAfter, Answer, answer, lentBegin, hindrance, told, turnLeft, turnIn, lentTurn, runRow, overIn, lentDrive, lentList, lentRounds}
-use Rattle.board.specs.Stands.{runIn}
-use Rattle.schedule.specs.Answers.{finished, nothing}
+use Rattle.cells.specs.Memory.{Memory, memory, Answer, answer, lentTurn}
+use Rattle.cells.specs.Blocks.{memoryOf}
+use Rattle.cells.specs.Stands.{runIn}
+use Rattle.board.specs.Lent.{lentBegin, lentList, lentRounds}
 use Rattle.schedule.specs.Record.{maxWorkers}
 use Rattle.schedule.specs.Calls.{turn, overList, inRounds, afterCalls, rowOfCalls}
-use Rattle.schedule.specs.Runs.{workerAt}
 use Rattle.board.specs.Opened.{soundIn, blankIn, openedAs, lentOpen}
 use Rattle.board.specs.LentCalls.{LentCall, moving, opening, lentMove, lentCall, lentRowOf, lentAfter, lentRow, movesOf}
 use Rattle.board.proofs.Opens.{open-record}
 use Rattle.board.proofs.LentLimit.{open-refine, lent-limit, lent-threads}
+use Rattle.board.proofs.Shaped.{Shaped, bytesOf, wordsOf, numbersOf, sumsOf, in-blocks, blocks-shaped}
+use Rattle.board.proofs.Sizes.{begin-shaped, call-shaped}
 use Rattle.board.proofs.begin.wivakkol_begin_on.Kinds as begin-kinds
 use Rattle.board.proofs.begin.wivakkol_begin_on.Reads as begin-promise
 use Rattle.board.proofs.open.wivakkol_open_on.Kinds as open-kinds
@@ -36,12 +35,12 @@ use Rattle.board.proofs.runs.wivakkol_list_on.Kinds as list-kinds
 use Rattle.board.proofs.runs.wivakkol_list_on.Reads as list-promise
 use Rattle.board.proofs.runs.wivakkol_rounds_on.Kinds as rounds-kinds
 use Rattle.board.proofs.runs.wivakkol_rounds_on.Reads as rounds-promise
-use Rattle.board.proofs.turn.wivakkol_turn_on.Kinds as turn-kinds
-use Rattle.board.proofs.turn.wivakkol_turn_on.Reads as turn-promise
+use Rattle.single.proofs.wivakkol_turn_on.Kinds as turn-kinds
+use Rattle.single.proofs.wivakkol_turn_on.Reads as turn-promise
 
 -- ---- what the promises say
 
--- references to all that is lent
+-- references to all that is lent to a beginning and to an opening
 pub record Refs : Type 0 where
   pub table : RefT (List ℕ)
   pub settings : RefT (List ℕ)
@@ -75,37 +74,49 @@ pub record Work : Type 0 where
   pub seen : RefT (List ℕ)
   pub list : RefT (List ℕ)
 
+-- and to a turn and a run
+pub record Blocks : Type 0 where
+  pub table : RefT (List ℕ)
+  pub bytes : RefT (List ℕ)
+  pub words : RefT (List ℕ)
+  pub numbers : RefT (List ℕ)
+  pub sums : RefT (List ℕ)
+  pub row : RefT (List ℕ)
+
+abbrev blocksIn : Blocks → Memory
+blocksIn refs = memoryOf (now (refs .bytes)) (now (refs .words)) (now (refs .numbers)) (now (refs .sums))
+
 -- `wivakkol_turn_on`, lent a table s and a run M, answered a
 pub record TurnSays (s : List ℕ) (w : ℕ) (M : Memory) (a : Answer) : Type 0 where
-  pub lifetimes : Lfts 16
-  pub refs : Refs
-  pub exit : AtExit (endedOf 16 turn-kinds.ps turn-kinds.r) lifetimes
+  pub lifetimes : Lfts 6
+  pub refs : Blocks
+  pub exit : AtExit (endedOf 6 turn-kinds.ps turn-kinds.r) lifetimes
   pub lent-table : now (refs .table) ≡ s
-  pub lent-run : lentIn refs ≡ M
-  pub left : answer (a .number) (now (exit .1 .1 .1 .1 .1 .1 .1 .1 .1 .1 .1 .1 .1 .1 .1 .1 .0)) (memory (now (refs .settings)) (now (refs .parents)) (arrays (now (exit .1 .1 .1 .1 .0)) (now (exit .1 .1 .1 .1 .1 .0)) (now (exit .1 .1 .1 .1 .1 .1 .0)) (now (exit .1 .1 .1 .1 .1 .1 .1 .0)) (now (exit .1 .1 .1 .1 .1 .1 .1 .1 .0)) (now (exit .1 .1 .1 .1 .1 .1 .1 .1 .1 .0)) (now (exit .1 .1 .1 .1 .1 .1 .1 .1 .1 .1 .0))) (now (exit .1 .1 .1 .1 .1 .1 .1 .1 .1 .1 .1 .0)) (now (exit .1 .1 .1 .1 .1 .1 .1 .1 .1 .1 .1 .1 .0)) (now (exit .1 .1 .1 .1 .1 .1 .1 .1 .1 .1 .1 .1 .1 .0)) (now (exit .1 .1 .1 .1 .1 .1 .1 .1 .1 .1 .1 .1 .1 .1 .0)) (now (exit .1 .1 .1 .1 .1 .1 .1 .1 .1 .1 .1 .1 .1 .1 .1 .0))) ≡ a
-  pub promised : turn-promise.Learnt lifetimes (refs .table, (w, (refs .settings, (refs .parents, (refs .next, (refs .status, (refs .amounts, (refs .left, (refs .right, (refs .under, (refs .over, (refs .holds, (refs .threads, (refs .quotas, (refs .heads, (refs .totals, (refs .row, tt))))))))))))))))) (a .number) exit
+  pub lent-run : blocksIn refs ≡ M
+  pub left : answer (a .number) (now (exit .1 .1 .1 .1 .1 .1 .0)) (memoryOf (now (exit .1 .1 .0)) (now (exit .1 .1 .1 .0)) (now (exit .1 .1 .1 .1 .0)) (now (exit .1 .1 .1 .1 .1 .0))) ≡ a
+  pub promised : turn-promise.Learnt lifetimes (refs .table, (w, (refs .bytes, (refs .words, (refs .numbers, (refs .sums, (refs .row, tt))))))) (a .number) exit
 
 -- `wivakkol_list_on`, lent an order l too
 pub record ListSays (s : List ℕ) (l : List ℕ) (M : Memory) (a : Answer) : Type 0 where
-  pub lifetimes : Lfts 17
-  pub refs : Refs
+  pub lifetimes : Lfts 7
+  pub refs : Blocks
   pub order : RefT (List ℕ)
   pub lent-order : now order ≡ l
-  pub exit : AtExit (endedOf 17 list-kinds.ps list-kinds.r) lifetimes
+  pub exit : AtExit (endedOf 7 list-kinds.ps list-kinds.r) lifetimes
   pub lent-table : now (refs .table) ≡ s
-  pub lent-run : lentIn refs ≡ M
-  pub left : answer (a .number) (now (exit .1 .1 .1 .1 .1 .1 .1 .1 .1 .1 .1 .1 .1 .1 .1 .1 .0)) (memory (now (refs .settings)) (now (refs .parents)) (arrays (now (exit .1 .1 .1 .1 .0)) (now (exit .1 .1 .1 .1 .1 .0)) (now (exit .1 .1 .1 .1 .1 .1 .0)) (now (exit .1 .1 .1 .1 .1 .1 .1 .0)) (now (exit .1 .1 .1 .1 .1 .1 .1 .1 .0)) (now (exit .1 .1 .1 .1 .1 .1 .1 .1 .1 .0)) (now (exit .1 .1 .1 .1 .1 .1 .1 .1 .1 .1 .0))) (now (exit .1 .1 .1 .1 .1 .1 .1 .1 .1 .1 .1 .0)) (now (exit .1 .1 .1 .1 .1 .1 .1 .1 .1 .1 .1 .1 .0)) (now (exit .1 .1 .1 .1 .1 .1 .1 .1 .1 .1 .1 .1 .1 .0)) (now (exit .1 .1 .1 .1 .1 .1 .1 .1 .1 .1 .1 .1 .1 .1 .0)) (now (exit .1 .1 .1 .1 .1 .1 .1 .1 .1 .1 .1 .1 .1 .1 .1 .0))) ≡ a
-  pub promised : list-promise.Learnt lifetimes (refs .table, (order, (refs .settings, (refs .parents, (refs .next, (refs .status, (refs .amounts, (refs .left, (refs .right, (refs .under, (refs .over, (refs .holds, (refs .threads, (refs .quotas, (refs .heads, (refs .totals, (refs .row, tt))))))))))))))))) (a .number) exit
+  pub lent-run : blocksIn refs ≡ M
+  pub left : answer (a .number) (now (exit .1 .1 .1 .1 .1 .1 .0)) (memoryOf (now (exit .1 .1 .0)) (now (exit .1 .1 .1 .0)) (now (exit .1 .1 .1 .1 .0)) (now (exit .1 .1 .1 .1 .1 .0))) ≡ a
+  pub promised : list-promise.Learnt lifetimes (refs .table, (order, (refs .bytes, (refs .words, (refs .numbers, (refs .sums, (refs .row, tt))))))) (a .number) exit
 
 -- `wivakkol_rounds_on`
 pub record RoundsSays (s : List ℕ) (limit : ℕ) (M : Memory) (a : Answer) : Type 0 where
-  pub lifetimes : Lfts 16
-  pub refs : Refs
-  pub exit : AtExit (endedOf 16 rounds-kinds.ps rounds-kinds.r) lifetimes
+  pub lifetimes : Lfts 6
+  pub refs : Blocks
+  pub exit : AtExit (endedOf 6 rounds-kinds.ps rounds-kinds.r) lifetimes
   pub lent-table : now (refs .table) ≡ s
-  pub lent-run : lentIn refs ≡ M
-  pub left : answer (a .number) (now (exit .1 .1 .1 .1 .1 .1 .1 .1 .1 .1 .1 .1 .1 .1 .1 .1 .0)) (memory (now (refs .settings)) (now (refs .parents)) (arrays (now (exit .1 .1 .1 .1 .0)) (now (exit .1 .1 .1 .1 .1 .0)) (now (exit .1 .1 .1 .1 .1 .1 .0)) (now (exit .1 .1 .1 .1 .1 .1 .1 .0)) (now (exit .1 .1 .1 .1 .1 .1 .1 .1 .0)) (now (exit .1 .1 .1 .1 .1 .1 .1 .1 .1 .0)) (now (exit .1 .1 .1 .1 .1 .1 .1 .1 .1 .1 .0))) (now (exit .1 .1 .1 .1 .1 .1 .1 .1 .1 .1 .1 .0)) (now (exit .1 .1 .1 .1 .1 .1 .1 .1 .1 .1 .1 .1 .0)) (now (exit .1 .1 .1 .1 .1 .1 .1 .1 .1 .1 .1 .1 .1 .0)) (now (exit .1 .1 .1 .1 .1 .1 .1 .1 .1 .1 .1 .1 .1 .1 .0)) (now (exit .1 .1 .1 .1 .1 .1 .1 .1 .1 .1 .1 .1 .1 .1 .1 .0))) ≡ a
-  pub promised : rounds-promise.Learnt lifetimes (refs .table, (limit, (refs .settings, (refs .parents, (refs .next, (refs .status, (refs .amounts, (refs .left, (refs .right, (refs .under, (refs .over, (refs .holds, (refs .threads, (refs .quotas, (refs .heads, (refs .totals, (refs .row, tt))))))))))))))))) (a .number) exit
+  pub lent-run : blocksIn refs ≡ M
+  pub left : answer (a .number) (now (exit .1 .1 .1 .1 .1 .1 .0)) (memoryOf (now (exit .1 .1 .0)) (now (exit .1 .1 .1 .0)) (now (exit .1 .1 .1 .1 .0)) (now (exit .1 .1 .1 .1 .1 .0))) ≡ a
+  pub promised : rounds-promise.Learnt lifetimes (refs .table, (limit, (refs .bytes, (refs .words, (refs .numbers, (refs .sums, (refs .row, tt))))))) (a .number) exit
 
 -- `wivakkol_begin_on`, lent a table s, answered a
 pub record BeginSays (s : List ℕ) (p K : ℕ) (a : Answer) : Type 0 where
@@ -197,72 +208,61 @@ begin-says s p K =
     let a : Answer = lentBegin s p K in
     record { lifetimes = ([], ([], ([], ([], ([], ([], ([], ([], ([], ([], ([], ([], ([], ([], ([], ([], ([], ([], tt)))))))))))))))))); refs = refsOf s (a .memory); work = workOf; exit = (lentOf s, (p, (K, (lentOf (a .memory .settings), (lentOf (a .memory .parents), (lentOf (a .memory .arrays .next), (lentOf (a .memory .arrays .status), (lentOf (a .memory .arrays .amounts), (lentOf (a .memory .arrays .left), (lentOf (a .memory .arrays .right), (lentOf (a .memory .arrays .under), (lentOf (a .memory .arrays .over), (lentOf (a .memory .holds), (lentOf (a .memory .threads), (lentOf (a .memory .quotas), (lentOf (a .memory .heads), (lentOf (a .memory .totals), (lentOf (a .row), (lentOf cleared, (lentOf cleared, tt)))))))))))))))))))); lent-table = refl; left = refl; promised = (refl, (refl, refl)) }
 
--- a call leaves p, K and the parents as they are
-abbrev Keeps : Memory → Memory → Type 0
-Keeps M N = (M .settings ≡ N .settings) × (M .parents ≡ N .parents)
+-- the blocks of a memory
+abbrev blocksOf : List ℕ → Memory → Blocks
+blocksOf s M = record { table = lentOf s; bytes = lentOf (bytesOf M); words = lentOf (wordsOf M); numbers = lentOf (numbersOf M); sums = lentOf (sumsOf M); row = lentOf [] }
 
-turn-keeps : (s : List ℕ) (w : ℕ) (M : Memory) → Keeps M (turnIn s w M .memory)
-unfolding turnIn turnLeft
-turn-keeps s w M =
-    let number : ℕ = hindrance (movedIn M .turns) (getD (M .settings) 0 0) w (getD (M .arrays .status) 0 0) in
-    let z : Left = turnOn (tableOf s) (getD (M .settings) 1 0) (M .parents) w (M .arrays) (movedIn M) (workerIn M w) in
-    go (eqb number 0) (z .fits) number z
-  where
-    go : (b c : Bool) (n : ℕ) (z : Left) → Keeps M (pick b (pick c (told 0 (z .reply) (memoryAfter M w z)) (told 32 Idle M)) (told n Idle M) .memory)
-    go true true n z = (refl, refl)
-    go true false n z = (refl, refl)
-    go false c n z = (refl, refl)
+-- an answer is what stands in the blocks of its memory
+whole : (a : Answer) → Shaped (a .memory)
+    → answer (a .number) (a .row) (memoryOf (bytesOf (a .memory)) (wordsOf (a .memory)) (numbersOf (a .memory)) (sumsOf (a .memory))) ≡ a
+whole a h = ap (answer (a .number) (a .row)) (in-blocks (a .memory) h)
 
-drive-keeps : (s : List ℕ) (who : ℕ → ℕ) (k i : ℕ) (M : Memory) → Keeps M (lentDrive s who k i M .memory)
-unfolding lentDrive
-drive-keeps s who zero i M = (refl, refl)
-drive-keeps s who (suc k) i M = go (overIn M) (eqb (turnIn s (who i) M .number) 0) (turn-keeps s (who i) M) (drive-keeps s who k (suc i) (turnIn s (who i) M .memory))
-  where
-    go : (b c : Bool) → Keeps M (turnIn s (who i) M .memory) → Keeps (turnIn s (who i) M .memory) (lentDrive s who k (suc i) (turnIn s (who i) M .memory) .memory)
-        → Keeps M (pick b (answer 0 (runRow finished i) M)
-        (pick c (lentDrive s who k (suc i) (turnIn s (who i) M .memory)) (answer (turnIn s (who i) M .number) (runRow nothing i) M)) .memory)
-    go true c t r = (refl, refl)
-    go false true t r = (t .0 ∙ r .0, t .1 ∙ r .1)
-    go false false t r = (refl, refl)
-
-either : (M : Memory) (b : Bool) (x y : Answer) → Keeps M (x .memory) → Keeps M (y .memory) → Keeps M (pick b x y .memory)
-either M true x y h k = h
-either M false x y h k = k
-
-list-keeps : (s l : List ℕ) (M : Memory) → Keeps M (lentList s l M .memory)
-unfolding lentList
-list-keeps s l M = either M (eqb (movedIn M .turns) (2 ^ 64 - 1)) _ _ (refl, refl) (drive-keeps s (workerAt l false (getD (M .settings) 0 0)) (length l) 0 M)
-
-rounds-keeps : (s : List ℕ) (limit : ℕ) (M : Memory) → Keeps M (lentRounds s limit M .memory)
-unfolding lentRounds
-rounds-keeps s limit M =
-    either M (eqb (movedIn M .turns) (2 ^ 64 - 1)) _ _ (refl, refl)
-    (either M (eqb (getD (M .settings) 0 0) 0) _ _ (refl, refl) (drive-keeps s (workerAt [] true (getD (M .settings) 0 0)) limit 0 M))
-
--- so an answer has the settings and parents that were lent
-with-lent : (M : Memory) (a : Answer) → Keeps M (a .memory)
-    → answer (a .number) (a .row) (memory (M .settings) (M .parents) (a .memory .arrays) (a .memory .holds) (a .memory .threads) (a .memory .quotas) (a .memory .heads) (a .memory .totals)) ≡ a
-with-lent M a k =
-    λ i. answer (a .number) (a .row) (memory (k .0 i) (k .1 i) (a .memory .arrays) (a .memory .holds) (a .memory .threads) (a .memory .quotas) (a .memory .heads) (a .memory .totals))
-
-turn-says : (s : List ℕ) (w : ℕ) (M : Memory) → TurnSays s w M (lentTurn s w M)
-unfolding lentTurn
-turn-says s w M =
+turn-says : (s : List ℕ) (w : ℕ) (M : Memory) → Shaped M → Shaped (lentTurn s w M .memory) → TurnSays s w M (lentTurn s w M)
+turn-says s w M h k =
     let a : Answer = lentTurn s w M in
-    let e = with-lent M a (turn-keeps s w M) in
-    record { lifetimes = ([], ([], ([], ([], ([], ([], ([], ([], ([], ([], ([], ([], ([], ([], ([], ([], tt)))))))))))))))); refs = refsOf s M; exit = (lentOf s, (w, (lentOf (a .memory .settings), (lentOf (a .memory .parents), (lentOf (a .memory .arrays .next), (lentOf (a .memory .arrays .status), (lentOf (a .memory .arrays .amounts), (lentOf (a .memory .arrays .left), (lentOf (a .memory .arrays .right), (lentOf (a .memory .arrays .under), (lentOf (a .memory .arrays .over), (lentOf (a .memory .holds), (lentOf (a .memory .threads), (lentOf (a .memory .quotas), (lentOf (a .memory .heads), (lentOf (a .memory .totals), (lentOf (a .row), tt))))))))))))))))); lent-table = refl; lent-run = refl; left = e; promised = e }
+    let e = whole a k in
+    record {
+      lifetimes = ([], ([], ([], ([], ([], ([], tt))))));
+      refs = blocksOf s M;
+      exit =
+          (lentOf s, (w, (lentOf (bytesOf (a .memory)), (lentOf (wordsOf (a .memory)), (lentOf (numbersOf (a .memory)), (lentOf (sumsOf (a .memory)), (lentOf (a .row), tt)))))));
+      lent-table = refl;
+      lent-run = in-blocks M h;
+      left = e;
+      promised = e ∙ ap (lentTurn s w) (sym (in-blocks M h));
+    }
 
-list-says : (s l : List ℕ) (M : Memory) → ListSays s l M (lentList s l M)
-list-says s l M =
+list-says : (s : List ℕ) (l : List ℕ) (M : Memory) → Shaped M → Shaped (lentList s l M .memory) → ListSays s l M (lentList s l M)
+list-says s l M h k =
     let a : Answer = lentList s l M in
-    let e = with-lent M a (list-keeps s l M) in
-    record { lifetimes = ([], ([], ([], ([], ([], ([], ([], ([], ([], ([], ([], ([], ([], ([], ([], ([], ([], tt))))))))))))))))); refs = refsOf s M; order = lentOf l; lent-order = refl; exit = (lentOf s, (lentOf l, (lentOf (a .memory .settings), (lentOf (a .memory .parents), (lentOf (a .memory .arrays .next), (lentOf (a .memory .arrays .status), (lentOf (a .memory .arrays .amounts), (lentOf (a .memory .arrays .left), (lentOf (a .memory .arrays .right), (lentOf (a .memory .arrays .under), (lentOf (a .memory .arrays .over), (lentOf (a .memory .holds), (lentOf (a .memory .threads), (lentOf (a .memory .quotas), (lentOf (a .memory .heads), (lentOf (a .memory .totals), (lentOf (a .row), tt))))))))))))))))); lent-table = refl; lent-run = refl; left = e; promised = e }
+    let e = whole a k in
+    record {
+      lifetimes = ([], ([], ([], ([], ([], ([], ([], tt)))))));
+      refs = blocksOf s M;
+      order = lentOf l;
+      lent-order = refl;
+      exit =
+          (lentOf s, (lentOf l, (lentOf (bytesOf (a .memory)), (lentOf (wordsOf (a .memory)), (lentOf (numbersOf (a .memory)), (lentOf (sumsOf (a .memory)), (lentOf (a .row), tt)))))));
+      lent-table = refl;
+      lent-run = in-blocks M h;
+      left = e;
+      promised = e ∙ ap (lentList s l) (sym (in-blocks M h));
+    }
 
-rounds-says : (s : List ℕ) (limit : ℕ) (M : Memory) → RoundsSays s limit M (lentRounds s limit M)
-rounds-says s limit M =
+rounds-says : (s : List ℕ) (limit : ℕ) (M : Memory) → Shaped M → Shaped (lentRounds s limit M .memory) → RoundsSays s limit M (lentRounds s limit M)
+rounds-says s limit M h k =
     let a : Answer = lentRounds s limit M in
-    let e = with-lent M a (rounds-keeps s limit M) in
-    record { lifetimes = ([], ([], ([], ([], ([], ([], ([], ([], ([], ([], ([], ([], ([], ([], ([], ([], tt)))))))))))))))); refs = refsOf s M; exit = (lentOf s, (limit, (lentOf (a .memory .settings), (lentOf (a .memory .parents), (lentOf (a .memory .arrays .next), (lentOf (a .memory .arrays .status), (lentOf (a .memory .arrays .amounts), (lentOf (a .memory .arrays .left), (lentOf (a .memory .arrays .right), (lentOf (a .memory .arrays .under), (lentOf (a .memory .arrays .over), (lentOf (a .memory .holds), (lentOf (a .memory .threads), (lentOf (a .memory .quotas), (lentOf (a .memory .heads), (lentOf (a .memory .totals), (lentOf (a .row), tt))))))))))))))))); lent-table = refl; lent-run = refl; left = e; promised = e }
+    let e = whole a k in
+    record {
+      lifetimes = ([], ([], ([], ([], ([], ([], tt))))));
+      refs = blocksOf s M;
+      exit =
+          (lentOf s, (limit, (lentOf (bytesOf (a .memory)), (lentOf (wordsOf (a .memory)), (lentOf (numbersOf (a .memory)), (lentOf (sumsOf (a .memory)), (lentOf (a .row), tt)))))));
+      lent-table = refl;
+      lent-run = in-blocks M h;
+      left = e;
+      promised = e ∙ ap (lentRounds s limit) (sym (in-blocks M h));
+    }
 
 -- what an opening leaves of what it is only lent to read
 open-parts : (s : List ℕ) (M : Memory)
@@ -286,17 +286,29 @@ open-says s M =
     let e = open-parts s M in
     record { lifetimes = ([], ([], ([], ([], ([], ([], ([], ([], ([], ([], ([], ([], ([], ([], ([], ([], ([], ([], ([], ([], ([], tt))))))))))))))))))))); refs = refsOf s M; work = workOf; exit = (lentOf s, (lentOf (M .settings), (lentOf (a .memory .parents), (lentOf (M .arrays .next), (lentOf (M .arrays .status), (lentOf (M .arrays .amounts), (lentOf (M .arrays .left), (lentOf (M .arrays .right), (lentOf (a .memory .arrays .under), (lentOf (a .memory .arrays .over), (lentOf (M .holds), (lentOf (M .threads), (lentOf (M .quotas), (lentOf (a .memory .heads), (lentOf (M .totals), (lentOf (a .row), (lentOf cleared, (lentOf cleared, (lentOf cleared, (lentOf cleared, (lentOf cleared, tt))))))))))))))))))))); lent-table = refl; lent-run = refl; left = e; promised = (e, ((refl, refl), (refl, refl, refl))) }
 
-called : (s : List ℕ) (M : Memory) (c : LentCall) → LentCalled s M c (lentCall s c M)
+called : (s : List ℕ) (M : Memory) (c : LentCall) → Shaped M → Shaped (lentCall s c M .memory) → LentCalled s M c (lentCall s c M)
 unfolding lentCall lentMove
-called s M (moving (turn w)) = by-turn (turn-says s w M)
-called s M (moving (overList l)) = by-list (list-says s l M)
-called s M (moving (inRounds limit)) = by-rounds (rounds-says s limit M)
-called s M opening = by-open (open-says s M)
+called s M (moving (turn w)) h k = by-turn (turn-says s w M h k)
+called s M (moving (overList l)) h k = by-list (list-says s l M h k)
+called s M (moving (inRounds limit)) h k = by-rounds (rounds-says s limit M h k)
+called s M opening h k = by-open (open-says s M)
 
-pub lent-history-exists : (s : List ℕ) (M : Memory) (l : List LentCall) → LentHistory s M l (lentRow s l M) (lentAfter s l M)
+pub lent-history-exists : (s : List ℕ) (M : Memory) → Shaped M → (l : List LentCall) → LentHistory s M l (lentRow s l M) (lentAfter s l M)
 unfolding lentAfter lentRow
-lent-history-exists s M [] = none
-lent-history-exists s M (c ∷ l) = next (called s M c) (lent-history-exists s (lentCall s c M .memory) l)
+lent-history-exists s M h [] = none
+lent-history-exists s M h (c ∷ l) =
+    let k = call-shaped s c M h in
+    next (called s M c h k) (lent-history-exists s (lentCall s c M .memory) k l)
+
+-- whatever stands in the four blocks that C lends
+pub blocks-history-exists : (s b w n k : List ℕ) → length b ≡ 1040 → length w ≡ 6163 → length n ≡ 18 → length k ≡ 1027 → (l : List LentCall)
+    → LentHistory s (memoryOf b w n k) l (lentRow s l (memoryOf b w n k)) (lentAfter s l (memoryOf b w n k))
+blocks-history-exists s b w n k p q r t = lent-history-exists s (memoryOf b w n k) (blocks-shaped b w n k p q r t)
+
+-- from any beginning on, refused or not
+pub begun-history-exists : (s : List ℕ) (p K : ℕ) (l : List LentCall)
+    → BeginSays s p K (lentBegin s p K) × LentHistory s (lentBegin s p K .memory) l (lentRow s l (lentBegin s p K .memory)) (lentAfter s l (lentBegin s p K .memory))
+begun-history-exists s p K l = (begin-says s p K, lent-history-exists s (lentBegin s p K .memory) (begin-shaped s p K) l)
 
 -- ---- the limits
 

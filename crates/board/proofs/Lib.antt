@@ -2,14 +2,15 @@
 mod Answers
 mod Cases
 mod Begins
-mod Opens
-mod WallLines
+pub mod Opens
+pub mod WallLines
 mod Turns
 mod Previews
-pub mod Refines
 pub mod PreviewRefines
 pub mod LentLimit
 mod Numbered
+pub mod Shaped
+pub mod Sizes
 pub mod LentPromised
 mod Drives
 pub mod RunsRefine

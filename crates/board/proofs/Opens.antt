@@ -36,8 +36,9 @@ use Rattle.soundness.proofs.Passed.{no-workers as blank-of}
 use Rattle.soundness.proofs.OnParts.{sound-is, blank-is}
 use Rattle.lent.specs.Arrays.{linksOf}
 use Rattle.schedule.specs.Answers.{nothing}
-use Rattle.board.specs.Lent.{Memory, movedIn, noRow, answer, hindrance, turnIn, lentTurn, runRow, lentRounds, blankMemory}
-use Rattle.board.specs.Stands.{truths, workersFrom, workersIn, runIn, Stands}
+use Rattle.cells.specs.Memory.{Memory, movedIn, noRow, answer, hindrance, turnIn, lentTurn}
+use Rattle.board.specs.Lent.{runRow, lentRounds, blankMemory}
+use Rattle.cells.specs.Stands.{truths, workersFrom, workersIn, runIn, Stands}
 use Rattle.board.specs.Opened.{soundIn, blankIn, beside, openedIn, blankedIn, openedAs, lentOpen}
 use Rattle.board.proofs.Begins.{too-many}
 

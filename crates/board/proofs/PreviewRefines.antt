@@ -17,12 +17,12 @@ use Rattle.schedule.specs.Record.{stored}
 use Rattle.schedule.specs.Turn.{turnChecks, stepRun, turned}
 use Rattle.schedule.specs.Values.{turnValues}
 use Rattle.schedule.specs.Shown.{previewValues}
-use Rattle.board.specs.Lent.{Memory, workerIn, Answer, lentTurn}
-use Rattle.board.specs.Stands.{runIn, Stands}
+use Rattle.cells.specs.Memory.{Memory, workerIn, Answer, lentTurn}
+use Rattle.cells.specs.Stands.{runIn, Stands}
 use Rattle.board.specs.Preview.{preview, amountsIn, noAmounts, lentPreview, shownAs}
 use Rattle.board.proofs.Turns.{few}
 use Rattle.board.proofs.Numbered.{turn-numbered}
-use Rattle.board.proofs.Refines.{own-worker, Turns, turn-refines}
+use Rattle.cells.proofs.Refines.{own-worker, Turns, turn-refines}
 
 module _ (s : List ℕ) (M : Memory) (h : Stands s M) (w : ℕ) where
   abbrev r : Run

@@ -11,7 +11,7 @@ use Rattle.table.specs.Format.{tableOf}
 use Rattle.lent.specs.Counted.{Left, turnOn}
 use Rattle.peek.specs.declared.Peeked.{Peeked}
 use Rattle.peek.specs.Peeked.{peekedOf}
-use Rattle.board.specs.Lent.{Memory, workerIn, movedIn, memoryAfter, turnRow, noRow, hindrance, Told, told, turnIn, passedOver, lentTurn}
+use Rattle.cells.specs.Memory.{Memory, workerIn, movedIn, memoryAfter, turnRow, noRow, hindrance, Told, told, turnIn, passedOver, lentTurn}
 use Rattle.board.specs.Preview.{preview, noAmounts, lentPreview}
 use Rattle.board.proofs.Turns.{hindered, no-place, unfits, takes}
 

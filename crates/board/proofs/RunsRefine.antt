@@ -16,9 +16,10 @@ use Rattle.schedule.specs.Runs.{ran, drive, listRun, roundsRun, workerAt}
 use Rattle.schedule.specs.Answers.{Values, reportValues, finished, spent}
 use Rattle.schedule.proofs.Stores.{steady-fits}
 use Rattle.lent.proofs.Answers.{steady-full, steady-room}
-use Rattle.board.specs.Lent.{Memory, movedIn, saidCode, Answer, answer, hindrance, turnIn, runRow, overIn, lentDrive, lentList, lentRounds}
-use Rattle.board.specs.Stands.{runIn, Stands}
-use Rattle.board.proofs.Refines.{taken-so}
+use Rattle.cells.specs.Memory.{Memory, movedIn, saidCode, Answer, answer, hindrance, turnIn}
+use Rattle.board.specs.Lent.{runRow, overIn, lentDrive, lentList, lentRounds}
+use Rattle.cells.specs.Stands.{runIn, Stands}
+use Rattle.cells.proofs.Refines.{taken-so}
 
 -- the row of the paper's values of a run
 abbrev pub valuesRun : Values → List ℕ

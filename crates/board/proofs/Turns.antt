@@ -19,7 +19,7 @@ use Rattle.lent.specs.Arrays.{Arrays, tableFrom}
 use Rattle.lent.specs.Counted.{Left, counting, unmoved, roomFor, turnOn}
 use Rattle.lent.specs.Turn.{stepOn}
 use Rattle.lent.proofs.Reading.{own-table}
-use Rattle.board.specs.Lent.{Memory, memory, workerIn, movedIn, headsOf, totalsOf, turnRow, noRow, answer, hindrance, Told, told, turnLeft, turnIn, passedOver, lentTurn}
+use Rattle.cells.specs.Memory.{Memory, memory, workerIn, movedIn, headsOf, totalsOf, hindrance, told, turnLeft, turnIn}
 
 -- ---- a turn that does not fit
 
@@ -95,8 +95,6 @@ module _ (s : List ℕ) (w : ℕ) (M : Memory) where
       takes f a b =
           (λ i. told 0 (y .reply) (memory (M .settings) (M .parents) (y .arrays) (a .0 i) (a .1 .0 i) (a .1 .1 i) (b .0 i) (b .1 i))) ∙ rw (← e, o, ← g, f)
 
-  -- ---- the single turn's call
-
   -- a turn that is taken is one of sixteen workers'
   pub few : turnIn s w M .number ≡ 0 → w < 16
   unfolding turnIn turnLeft
@@ -109,13 +107,3 @@ module _ (s : List ℕ) (w : ℕ) (M : Memory) where
           stuck : (b : Bool) → eqb number 0 ≡ b → z .fits ≡ false → ⊥
           stuck true d f = let x : _≡_ {A = ℕ} 32 0 = rw (d, f) at e in omega (arith, x)
           stuck false d f = eqb-false number 0 d (rw d at e)
-
-  pub refuses : {y : Told} → y ≡ turnIn s w M → (y .number ≡ 0 → ⊥) → answer (y .number) noRow (y .memory) ≡ lentTurn s w M
-  unfolding lentTurn
-  refuses {y} e d = rw (← e, ne-eqb (y .number) 0 d)
-
-  pub tells : {y : Told} {p : ℕ} {row : List ℕ} → y ≡ turnIn s w M → y .number ≡ 0 → (w < 16 → p ≡ passedOver M w) → row ≡ turnRow (y .reply) p → answer 0 row (y .memory) ≡ lentTurn s w M
-  unfolding lentTurn
-  tells {y} {p} {row} e d q r =
-      let b : w < 16 = few (ap (λ (x : Told). x .number) (sym e) ∙ d) in
-      ap (λ (x : List ℕ). answer 0 x (y .memory)) (r ∙ ap (turnRow (y .reply)) (q b)) ∙ rw (← e, d)

@@ -19,8 +19,8 @@ use Rattle.schedule.proofs.Sound.Tests.{sound-exactly}
 use Rattle.chart.specs.declared.Charted.{Charted}
 use Rattle.chart.specs.Chart.{Shown, mostTurns, shownOf, shown, lineTexts, lineText, tooMany, charted, chartedIn, chartedValues, lineValues}
 use Rattle.chart.proofs.Records.{line-filled, charted-unsound, charted-many, charted-written, charted-values}
-use Rattle.board.specs.Lent.{Memory, movedIn}
-use Rattle.board.specs.Stands.{workersIn, runIn, Stands}
+use Rattle.cells.specs.Memory.{Memory, movedIn}
+use Rattle.cells.specs.Stands.{workersIn, runIn, Stands}
 use Rattle.board.specs.Opened.{soundIn, blankIn, lineFault, lineAfter}
 use Rattle.board.proofs.Opens.{sound-in, no-workers, blank-passed, stands-worked, stands-unsound}
 

@@ -6,7 +6,8 @@ use lib.ListN.{getD, take}
 use Rattle.table.specs.Sum.{pick}
 use Rattle.schedule.specs.Firsts.{firsts}
 use Rattle.schedule.specs.Calls.{Call, turn, overList, inRounds}
-use Rattle.board.specs.Lent.{Memory, Answer, lentTurn, lentList, lentRounds}
+use Rattle.cells.specs.Memory.{Memory, Answer, lentTurn}
+use Rattle.board.specs.Lent.{lentList, lentRounds}
 use Rattle.board.specs.Opened.{lentOpen}
 
 -- "Three calls move a run record on"; opening a run, as after a pause, takes no turn

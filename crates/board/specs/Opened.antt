@@ -12,8 +12,8 @@ use Rattle.schedule.specs.Record.{maxThreads}
 use Rattle.soundness.specs.Tested.{parentsIn, soundOn, blankOn}
 use Rattle.chart.specs.Chart.{mostTurns, shownOf, lineText}
 use Rattle.lent.specs.Arrays.{arrays, linksOf}
-use Rattle.board.specs.Lent.{Memory, memory, movedIn, Answer, answer}
-use Rattle.board.specs.Stands.{truths, workersIn}
+use Rattle.cells.specs.Memory.{Memory, memory, movedIn, Answer, answer}
+use Rattle.cells.specs.Stands.{truths, workersIn}
 
 -- "A record is sound if ..", of the record that stands in the memory
 unfoldable pub soundIn : List ℕ → Memory → Bool

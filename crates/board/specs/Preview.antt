@@ -5,8 +5,8 @@ use lib.Dec.{eqb}
 use lib.ListN.{getD}
 use Rattle.table.specs.Sum.{pick}
 use Rattle.schedule.specs.Shown.{Shown}
-use Rattle.board.specs.Lent.{Memory, Answer, lentTurn}
-use Rattle.board.specs.Stands.{valuesRow}
+use Rattle.cells.specs.Memory.{Memory, Answer, lentTurn}
+use Rattle.cells.specs.Stands.{valuesRow}
 
 -- the refusal's number, 0 where there is none, and the lent row; the memory is read alone: "the record itself is unaltered"
 pub record Preview : Type 0 where

@@ -8,7 +8,8 @@ ghost use mathlib.Core.Path.{_≡_};
 ghost use mathlib.Core.List.{[], _∷_};
 ghost use lib.ListN.{replicate};
 ghost use Rattle.lent.specs.Arrays.{arrays};
-ghost use Rattle.board.specs.Lent.{memory, answer, lentBegin};
+ghost use Rattle.cells.specs.Memory.{memory, answer};
+ghost use Rattle.board.specs.Lent.{lentBegin};
 
 // No worker holds a thread, and nothing is counted.
 fn put_nobody(

@@ -1,5 +1,5 @@
 // The calls that C links: on numbers and lent arrays alone, each answering any input whatever. A call returns the refusal's number, 0 where there is none, and puts the place and then
-// its values into the lent row; every number of the row is written, so that nothing of what was there before is left. include/wivakkol.h has the prototypes.
+// its values into the lent row; every number of the row is written, so that nothing of what was there before is left. The single turn is crate single's. include/wivakkol.h has the prototypes.
 use quota::Quoted;
 use table::Loaded;
 ghost use mathlib.Core.Path.{_≡_};
@@ -12,8 +12,8 @@ mod begin;
 mod line;
 mod open;
 mod preview;
+mod reads;
 mod runs;
-mod turn;
 
 pub use begin::wivakkol_begin_on;
 pub use line::wivakkol_chart_on;
@@ -21,7 +21,6 @@ pub use open::wivakkol_open_on;
 pub use preview::wivakkol_preview_on;
 pub use runs::wivakkol_list_on;
 pub use runs::wivakkol_rounds_on;
-pub use turn::wivakkol_turn_on;
 
 // A table's facts n, m, S1, D and N, or the check that refuses it.
 #[no_mangle]

@@ -13,7 +13,7 @@ ghost use lib.Dec.{ltb};
 ghost use Rattle.table.specs.Sum.{pick};
 ghost use Rattle.chart.specs.Chart.{mostTurns};
 ghost use Rattle.lent.specs.Arrays.{arrays};
-ghost use Rattle.board.specs.Lent.{memory};
+ghost use Rattle.cells.specs.Memory.{memory};
 ghost use Rattle.board.specs.Opened.{lineFault, lineAfter};
 
 // 43 where a line has no room for the turns taken.

@@ -1,5 +1,5 @@
 // Opening a run that stands in lent memory: check 32, once, and what speeds its turns up.
-use crate::turn::worker_at;
+use crate::reads::worker_at;
 use crate::workers;
 use links::fill_actives;
 use schedule::Worker;
@@ -12,8 +12,8 @@ ghost use lib.ListN.{replicate};
 ghost use Rattle.table.specs.Format.{tableOf};
 ghost use Rattle.soundness.specs.Tested.{parentsIf};
 ghost use Rattle.lent.specs.Arrays.{arrays};
-ghost use Rattle.board.specs.Lent.{memory, answer};
-ghost use Rattle.board.specs.Stands.{truths, workersFrom};
+ghost use Rattle.cells.specs.Memory.{memory, answer};
+ghost use Rattle.cells.specs.Stands.{truths, workersFrom};
 ghost use Rattle.board.specs.Opened.{soundIn, blankIn, lentOpen};
 
 // Every worker's truth value is 0 or 1.

@@ -1,9 +1,9 @@
 // A turn on a run that stands in lent memory, shown before it is taken (N4). All but the row is read alone: "the record itself is unaltered".
-use crate::turn::hindrance;
-use crate::turn::moved_at;
-use crate::turn::passed_by;
-use crate::turn::put_reply;
-use crate::turn::worker_at;
+use crate::reads::moved_at;
+use crate::reads::passed_by;
+use crate::reads::worker_at;
+use cells::hindrance;
+use cells::replies::put_reply;
 use peek::Peeked;
 use peek::peek_turn;
 use schedule::Reply;
@@ -16,7 +16,7 @@ ghost use Rattle.table.specs.Format.{tableOf};
 ghost use Rattle.lent.specs.Arrays.{arrays};
 ghost use Rattle.lent.specs.Counted.{turnOn};
 ghost use Rattle.peek.specs.Peeked.{peekedOf};
-ghost use Rattle.board.specs.Lent.{memory, workerFrom, movedFrom, turnRow};
+ghost use Rattle.cells.specs.Memory.{memory, workerFrom, movedFrom, turnRow};
 ghost use Rattle.board.specs.Preview.{preview, lentPreview};
 
 // What the turn of worker k would say and leave.

@@ -1,5 +1,10 @@
 // Runs over a list of workers and in rounds, on a run that stands in lent memory.
-use crate::turn::turn_in;
+use cells::places::TURNS;
+use cells::places::setting_at;
+use cells::places::status_at;
+use cells::places::total_at;
+use cells::rounds::following;
+use cells::turn_in;
 use schedule::statuses::ENDED;
 use table::read::byte;
 ghost use mathlib.Core.Path.{_≡_};
@@ -9,19 +14,15 @@ ghost use lib.ListN.{getD};
 ghost use Rattle.table.specs.Sum.{pick};
 ghost use Rattle.schedule.specs.Answers.{finished, spent, nothing};
 ghost use Rattle.schedule.specs.Runs.{workerAt};
-ghost use Rattle.lent.specs.Arrays.{arrays};
-ghost use Rattle.board.specs.Lent.{memory, answer, runRow, lentDrive, lentList, lentRounds};
+ghost use Rattle.cells.specs.Memory.{answer};
+ghost use Rattle.cells.specs.Blocks.{numbersIn, memoryOf};
+ghost use Rattle.board.specs.Lent.{runRow, lentDrive, lentList, lentRounds};
 
-// The worker whose turn comes after i turns: from the order, or in rounds.
-fn worker_of(order: &[u8], rounds: bool, p: u32, i: usize) -> u32
-    requires { ⌜ (rounds ≡ true → 0 < p) ⌝ }
-    ensures { λ r. ⌜ r ≡ workerAt (now (order .entry)) rounds p i ⌝ }
+// The worker whose turn comes after i turns: from the order, or in rounds the one that is next.
+fn worker_of(order: &[u8], rounds: bool, next: u32, i: usize) -> u32
+    ensures { λ r. ⌜ r ≡ pick rounds next (getD (now (order .entry)) i 0) ⌝ }
 {
-    if rounds {
-        (i % (p as usize)) as u32
-    } else {
-        byte(order, i) as u32
-    }
+    if rounds { next } else { byte(order, i) as u32 }
 }
 
 // What is said at a run's end.
@@ -48,63 +49,34 @@ fn drive(
     order: &[u8],
     rounds: bool,
     limit: usize,
-    settings: &[u32; 2],
-    parents: &[u16; 1024],
-    next: &mut [u16; 1024],
-    status: &mut [u8; 1024],
-    amounts: &mut [u64; 1024],
-    left: &mut [u16; 1024],
-    right: &mut [u16; 1024],
-    under: &mut [u16; 1024],
-    over: &mut [u16; 1024],
-    holds: &mut [u8; 16],
-    threads: &mut [u16; 16],
-    quotas: &mut [u32; 16],
-    heads: &mut [u16; 3],
-    totals: &mut [u64; 3],
+    bytes: &mut [u8; 1040],
+    words: &mut [u16; 6163],
+    numbers: &mut [u32; 18],
+    sums: &mut [u64; 1027],
     row: &mut [u64; 3],
 ) -> u32
-    requires { ⌜ (rounds ≡ true → 0 < getD (now settings) 0 0) ⌝ }
-    ensures { λ r. ⌜ answer r (now (row .exit)) (memory (now (settings .entry)) (now (parents .entry))
-        (arrays (now (next .exit)) (now (status .exit)) (now (amounts .exit)) (now (left .exit)) (now (right .exit)) (now (under .exit)) (now (over .exit)))
-        (now (holds .exit)) (now (threads .exit)) (now (quotas .exit)) (now (heads .exit)) (now (totals .exit)))
-        ≡ lentDrive (now (table .entry)) (workerAt (now (order .entry)) rounds (getD (now (settings .entry)) 0 0)) limit 0 (memory (now (settings .entry)) (now (parents .entry))
-        (arrays (now (next .entry)) (now (status .entry)) (now (amounts .entry)) (now (left .entry)) (now (right .entry)) (now (under .entry)) (now (over .entry)))
-        (now (holds .entry)) (now (threads .entry)) (now (quotas .entry)) (now (heads .entry)) (now (totals .entry))) ⌝ }
+    requires { ⌜ (rounds ≡ true → 0 < numbersIn (now numbers) .workers) ⌝ }
+    ensures { λ r. ⌜ answer r (now (row .exit)) (memoryOf (now (bytes .exit)) (now (words .exit)) (now (numbers .exit)) (now (sums .exit)))
+        ≡ lentDrive (now (table .entry)) (workerAt (now (order .entry)) rounds (numbersIn (now (numbers .entry)) .workers)) limit 0 (memoryOf (now (bytes .entry)) (now (words .entry)) (now (numbers .entry)) (now (sums .entry))) ⌝ }
 {
-    let p = settings[0];
+    let p = setting_at(&*numbers, 0);
     let mut i: usize = 0;
+    let mut next: u32 = 0;
     while i < limit {
-        if status[0] == ENDED {
+        if status_at(&*bytes, 0) == ENDED {
             put_end(row, true, i);
             return 0;
         }
-        let w = worker_of(order, rounds, p, i);
-        let spoken = turn_in(
-            table,
-            w,
-            settings,
-            parents,
-            next,
-            status,
-            amounts,
-            left,
-            right,
-            under,
-            over,
-            holds,
-            threads,
-            quotas,
-            heads,
-            totals,
-        );
+        let w = worker_of(order, rounds, next, i);
+        next = following(p, next);
+        let spoken = turn_in(table, w, false, bytes, words, numbers, sums);
         if spoken.number != 0 {
             put_stop(row, i);
             return spoken.number;
         }
         i += 1;
     }
-    let ended = status[0] == ENDED;
+    let ended = status_at(&*bytes, 0) == ENDED;
     put_end(row, ended, i);
     0
 }
@@ -114,30 +86,16 @@ fn drive(
 pub extern "C" fn wivakkol_list_on(
     table: &[u8],
     order: &[u8],
-    settings: &[u32; 2],
-    parents: &[u16; 1024],
-    next: &mut [u16; 1024],
-    status: &mut [u8; 1024],
-    amounts: &mut [u64; 1024],
-    left: &mut [u16; 1024],
-    right: &mut [u16; 1024],
-    under: &mut [u16; 1024],
-    over: &mut [u16; 1024],
-    holds: &mut [u8; 16],
-    threads: &mut [u16; 16],
-    quotas: &mut [u32; 16],
-    heads: &mut [u16; 3],
-    totals: &mut [u64; 3],
+    bytes: &mut [u8; 1040],
+    words: &mut [u16; 6163],
+    numbers: &mut [u32; 18],
+    sums: &mut [u64; 1027],
     row: &mut [u64; 3],
 ) -> u32
-    ensures { λ r. ⌜ answer r (now (row .exit)) (memory (now (settings .entry)) (now (parents .entry))
-        (arrays (now (next .exit)) (now (status .exit)) (now (amounts .exit)) (now (left .exit)) (now (right .exit)) (now (under .exit)) (now (over .exit)))
-        (now (holds .exit)) (now (threads .exit)) (now (quotas .exit)) (now (heads .exit)) (now (totals .exit)))
-        ≡ lentList (now (table .entry)) (now (order .entry)) (memory (now (settings .entry)) (now (parents .entry))
-        (arrays (now (next .entry)) (now (status .entry)) (now (amounts .entry)) (now (left .entry)) (now (right .entry)) (now (under .entry)) (now (over .entry)))
-        (now (holds .entry)) (now (threads .entry)) (now (quotas .entry)) (now (heads .entry)) (now (totals .entry))) ⌝ }
+    ensures { λ r. ⌜ answer r (now (row .exit)) (memoryOf (now (bytes .exit)) (now (words .exit)) (now (numbers .exit)) (now (sums .exit)))
+        ≡ lentList (now (table .entry)) (now (order .entry)) (memoryOf (now (bytes .entry)) (now (words .entry)) (now (numbers .entry)) (now (sums .entry))) ⌝ }
 {
-    if totals[2] == u64::MAX {
+    if total_at(&*sums, TURNS) == u64::MAX {
         put_stop(row, 0);
         return 32;
     }
@@ -146,20 +104,10 @@ pub extern "C" fn wivakkol_list_on(
         order,
         false,
         order.len(),
-        settings,
-        parents,
-        next,
-        status,
-        amounts,
-        left,
-        right,
-        under,
-        over,
-        holds,
-        threads,
-        quotas,
-        heads,
-        totals,
+        bytes,
+        words,
+        numbers,
+        sums,
         row,
     )
 }
@@ -169,34 +117,20 @@ pub extern "C" fn wivakkol_list_on(
 pub extern "C" fn wivakkol_rounds_on(
     table: &[u8],
     limit: u32,
-    settings: &[u32; 2],
-    parents: &[u16; 1024],
-    next: &mut [u16; 1024],
-    status: &mut [u8; 1024],
-    amounts: &mut [u64; 1024],
-    left: &mut [u16; 1024],
-    right: &mut [u16; 1024],
-    under: &mut [u16; 1024],
-    over: &mut [u16; 1024],
-    holds: &mut [u8; 16],
-    threads: &mut [u16; 16],
-    quotas: &mut [u32; 16],
-    heads: &mut [u16; 3],
-    totals: &mut [u64; 3],
+    bytes: &mut [u8; 1040],
+    words: &mut [u16; 6163],
+    numbers: &mut [u32; 18],
+    sums: &mut [u64; 1027],
     row: &mut [u64; 3],
 ) -> u32
-    ensures { λ r. ⌜ answer r (now (row .exit)) (memory (now (settings .entry)) (now (parents .entry))
-        (arrays (now (next .exit)) (now (status .exit)) (now (amounts .exit)) (now (left .exit)) (now (right .exit)) (now (under .exit)) (now (over .exit)))
-        (now (holds .exit)) (now (threads .exit)) (now (quotas .exit)) (now (heads .exit)) (now (totals .exit)))
-        ≡ lentRounds (now (table .entry)) limit (memory (now (settings .entry)) (now (parents .entry))
-        (arrays (now (next .entry)) (now (status .entry)) (now (amounts .entry)) (now (left .entry)) (now (right .entry)) (now (under .entry)) (now (over .entry)))
-        (now (holds .entry)) (now (threads .entry)) (now (quotas .entry)) (now (heads .entry)) (now (totals .entry))) ⌝ }
+    ensures { λ r. ⌜ answer r (now (row .exit)) (memoryOf (now (bytes .exit)) (now (words .exit)) (now (numbers .exit)) (now (sums .exit)))
+        ≡ lentRounds (now (table .entry)) limit (memoryOf (now (bytes .entry)) (now (words .entry)) (now (numbers .entry)) (now (sums .entry))) ⌝ }
 {
-    if totals[2] == u64::MAX {
+    if total_at(&*sums, TURNS) == u64::MAX {
         put_stop(row, 0);
         return 32;
     }
-    if settings[0] == 0 {
+    if setting_at(&*numbers, 0) == 0 {
         put_stop(row, 0);
         return 30;
     }
@@ -205,20 +139,10 @@ pub extern "C" fn wivakkol_rounds_on(
         b"",
         true,
         limit as usize,
-        settings,
-        parents,
-        next,
-        status,
-        amounts,
-        left,
-        right,
-        under,
-        over,
-        holds,
-        threads,
-        quotas,
-        heads,
-        totals,
+        bytes,
+        words,
+        numbers,
+        sums,
         row,
     )
 }

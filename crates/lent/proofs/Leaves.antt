@@ -1,36 +1,20 @@
--- What the functions of an action share: numbers that fit, and the number after the action's.
-use mathlib.Core.Path.{_≡_, sym, ap, _∙_}
+-- What the functions of an action share: numbers that fit, and codes that are no action's.
+use mathlib.Core.Path.{_≡_, sym, _∙_}
 use Prim.Native.Nat.{ℕ, suc, _+_, _-_, _^_, _≤_, _<_}
-use mathlib.Core.List.{List}
 use mathlib.Core.Bool.{Bool, true, _&&_}
-use native.Mathlib.Numerals.{add-one}
 use native.Mathlib.Omega.{arith}
 use mir.Syntax.{w16, w64}
 use mir.Val.{Fits}
 use borrow.Author.Tests.{ltb-true}
-use lib.ListN.{getD, set}
 use Rattle.table.specs.Format.{unknown, kindOf}
 use Rattle.table.proofs.Tests.{and-both}
-use Rattle.schedule.specs.declared.Worker.{Worker}
-use Rattle.lent.specs.declared.Stepped.{Stepped}
-use Rattle.lent.specs.Arrays.{Arrays}
-use Rattle.lent.specs.Turn.{Outcome, outcome, nextFits}
-use Rattle.lent.specs.Code.Steps.{At}
-
--- what a function leaves, where its struct is known
-pub left-as : {r z : Stepped} {B : Arrays} {o : Outcome} → r ≡ z → outcome z B ≡ o → outcome r B ≡ o
-left-as {r} {z} {B} e d = ap (λ (x : Stepped). outcome x B) e ∙ d
+use Rattle.lent.specs.Turn.{nextFits}
 
 pub fits16 : {x : ℕ} → x < 65536 → Fits w16 x
 fits16 h = omega (arith, h)
 
 pub fits64 : {x : ℕ} → x < 2 ^ 64 → Fits w64 x
 fits64 h = omega (arith, h)
-
--- the thread's next action is done
-pub next-done : (next : List ℕ) (worker : Worker) (a : ℕ) → At next worker a
-    → set next (worker .thread) (a + 1) ≡ set next (worker .thread) (suc (getD next (worker .thread) 0))
-next-done next worker a h = rw (h .action, add-one)
 
 -- a code that is none of the six
 pub code-unknown : (k : ℕ) → 6 ≤ k → kindOf k ≡ unknown

@@ -1,7 +1,6 @@
 pub mod Reading
 pub mod Leaves
 pub mod Bits
-pub mod Unfit
 pub mod Parts
 pub mod Seats
 pub mod Local

@@ -19,7 +19,6 @@ use Rattle.schedule.specs.Turn.{stepRun}
 use Rattle.schedule.specs.Runs.{moved}
 use Rattle.schedule.proofs.Stores.{steady-fits}
 use Rattle.lent.specs.declared.Moved.{Moved}
-use Rattle.lent.specs.declared.Stepped.{Stepped as StepResult}
 use Rattle.lent.specs.Arrays.{Arrays, secondOf, listedIn, tableFrom}
 use Rattle.lent.specs.Turn.{Outcome, stepOn}
 use Rattle.lent.specs.Counted.{Left, busyAfter, roomFor, counting, turnOn}
@@ -93,11 +92,8 @@ module _ {run : Run} {parents : List ℕ} {A : Arrays} {workers : List Worker} {
     abbrev o : Outcome
     o = stepOn (tableFrom (bytesOf run) n) (run .quota) parents A (m .totals) own
 
-    abbrev result : StepResult
-    result = record { fits = o .fits; reply = o .reply; worker = o .worker; totals = o .totals }
-
     went : (o .fits ≡ true) × Went (tableIn run) (run .quota) A (m .totals) own o
-    went = sound-went (sits n e) parents (v .parent) {r = result} {B = o .arrays} refl
+    went = sound-went (sits n e) parents (v .parent)
 
     abbrev z : Left
     z = counting w m own o

@@ -18,9 +18,8 @@ use Rattle.schedule.specs.Parents.{Parents}
 use Rattle.schedule.proofs.Preservation.Turns.{leftmost-ready}
 use Rattle.schedule.proofs.Linked.Searches.{ready-there, found-below}
 use Rattle.lent.specs.declared.Totals.{Totals}
-use Rattle.lent.specs.declared.Stepped.{Stepped as StepResult}
 use Rattle.lent.specs.Arrays.{Arrays, listedIn, actionIn, amountIn, withStatuses, tableFrom}
-use Rattle.lent.specs.Turn.{Outcome, outcome, waitsIn, actOn, actIn, Seat, seat, seatOf, seatIn, stepFrom, stepOn}
+use Rattle.lent.specs.Turn.{Outcome, waitsIn, actOn, actIn, Seat, seat, seatOf, seatIn, stepFrom, stepOn}
 use Rattle.lent.proofs.Parts.{stateIn, turnBody, Went, Sits}
 use Rattle.lent.proofs.Reading.{own-table}
 use Rattle.lent.proofs.Seats.{known, thread-below, thread-small, next-fits, alloc-room, own-room, free-room, own-free, child-room, fork-child, join-child, taken-sits}
@@ -200,9 +199,8 @@ module _ {s : List ℕ} {n K : ℕ} {A : Arrays} {totals : Totals} {worker : Wor
         subst (λ (z : Seat). z .worker .holds ≡ false → Ready s n K A totals worker z → Leaves z) (sym (r .same e)) idle-seat e r
 
     -- the machine's turn, before it is counted; and every number fits
-    pub sound-went : {r : StepResult} {B : Arrays} → outcome r B ≡ stepOn (tableFrom s n) K parents A totals worker
-        → (r .fits ≡ true) × Went (tableOf s) K A totals worker (outcome r B)
+    pub sound-went : let o : Outcome = stepOn (tableFrom s n) K parents A totals worker in (o .fits ≡ true) × Went (tableOf s) K A totals worker o
     unfolding stepOn
-    sound-went {r} {B} e =
-        subst (λ (o : Outcome). (o .fits ≡ true) × Went (tableOf s) K A totals worker o) (sym (e ∙ rw (own-table s n (q .threads))))
-        (from-seat (seatIn K A totals worker) at-seat (seatIn K A totals worker .worker .holds) refl)
+    sound-went =
+        let e : stepOn (tableFrom s n) K parents A totals worker ≡ stepOn (tableOf s) K parents A totals worker = rw (own-table s n (q .threads)) in
+        subst (λ (o : Outcome). (o .fits ≡ true) × Went (tableOf s) K A totals worker o) (sym e) (from-seat (seatIn K A totals worker) at-seat (seatIn K A totals worker .worker .holds) refl)

@@ -11,7 +11,6 @@ use Rattle.schedule.specs.declared.Reply.the-variants.{Idle}
 use Rattle.schedule.specs.Links.{noThread, Sought}
 use Rattle.schedule.specs.Record.{maxWorkers}
 use Rattle.lent.specs.declared.Moved.{Moved}
-use Rattle.lent.specs.declared.Taken.{Taken}
 use Rattle.lent.specs.Arrays.{Arrays}
 use Rattle.lent.specs.Turn.{Outcome, stepOn}
 
@@ -22,10 +21,6 @@ pub record Left : Type 0 where
   pub arrays : Arrays
   pub moved : Moved
   pub worker : Worker
-
--- as the code gives it
-abbrev pub taken : Taken → Arrays → Left
-taken r A = record { fits = r .fits; reply = r .reply; arrays = A; moved = r .moved; worker = r .worker }
 
 -- nothing moves
 abbrev pub unmoved : Arrays → Moved → Worker → Left

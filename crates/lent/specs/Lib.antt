@@ -2,4 +2,3 @@ pub mod Arrays
 pub mod Turn
 pub mod Counted
 pub mod Packed
-pub mod Code

@@ -14,7 +14,6 @@ use Rattle.schedule.specs.Machine.{ready, held, waiting, ended, nobody}
 use Rattle.schedule.specs.Links.{noThread, Links, linkLeft, unlink, seek}
 use Rattle.schedule.specs.Record.{maxThreads}
 use Rattle.lent.specs.declared.Totals.{Totals}
-use Rattle.lent.specs.declared.Stepped.{Stepped}
 use Rattle.lent.specs.Arrays.{Arrays, linksOf, secondOf, actionIn, amountIn, withStatuses, withAmounts, advancedIn, relinked, headed, holding}
 
 -- what a turn leaves
@@ -24,10 +23,6 @@ pub record Outcome : Type 0 where
   pub arrays : Arrays
   pub totals : Totals
   pub worker : Worker
-
--- as the code gives it
-abbrev pub outcome : Stepped → Arrays → Outcome
-outcome r A = record { fits = r .fits; reply = r .reply; arrays = A; totals = r .totals; worker = r .worker }
 
 abbrev pub moved : Reply → Arrays → Totals → Worker → Outcome
 moved reply A totals worker = record { fits = true; reply = reply; arrays = A; totals = totals; worker = worker }

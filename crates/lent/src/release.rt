@@ -18,7 +18,7 @@ fn release_lent(worker: &mut Worker)
 }
 
 // The same by value, for every caller: no other function makes a reference to a record.
-pub(crate) fn release(mut worker: Worker) -> Worker
+pub fn release(mut worker: Worker) -> Worker
     ensures { λ r. ⌜ r ≡ nobody ⌝ }
 {
     release_lent(&mut worker);

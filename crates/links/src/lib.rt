@@ -1,13 +1,13 @@
-// The list of threads as links, on lent arrays: read off, laid, compared, a thread put in and taken out, the leftmost ready thread sought. Every call is total: whatever the arrays
-// hold, it does what the definition says, and none needs the links to describe a list.
+// The list of threads as links, on lent arrays: read off, laid, compared, the second list filled from it, the leftmost ready thread sought. Every call is total: whatever the arrays hold, it
+// does what the definition says, and none needs the links to describe a list.
 use schedule::statuses::READY;
 use schedule::statuses::WAITING;
 ghost use mathlib.Core.Path.{_≡_};
 ghost use mathlib.Core.Bool.{_&&_};
 ghost use mathlib.Core.List.{_++_};
 ghost use Prim.Native.Nat.{_≤_};
-ghost use lib.ListN.{length, take, drop, getD, set, replicate};
-ghost use Rattle.schedule.specs.Links.{firstOf, laid, linkLast, linkLeft, noThread, seek as seekOf, unlink as unlinkOf, walk};
+ghost use lib.ListN.{length, take, drop, set, replicate};
+ghost use Rattle.schedule.specs.Links.{firstOf, laid, linkLast, noThread, seek as seekOf, walk};
 ghost use Rattle.schedule.specs.Actives.{filledFrom, noLinks};
 ghost use Rattle.links.specs.Code.Steps.{leftThere};
 ghost use Rattle.schedule.specs.Sound.{sameList};
@@ -21,14 +21,6 @@ pub struct Sought {
     pub passed: u16,
 }
 
-// The neighbour of thread t, 0 for a number that is no thread's.
-fn neighbour(links: &[u16], t: u16) -> u16
-    ensures { λ r. ⌜ r ≡ getD (now (links .entry)) t 0 ⌝ }
-{
-    let place = t as usize;
-    if place < links.len() { links[place] } else { 0 }
-}
-
 // Thread t has the neighbour x; nothing for a number that is no thread's.
 fn put(links: &mut [u16], t: u16, x: u16)
     ensures { λ _. ⌜ now (links .exit) ≡ set (now (links .entry)) t x ⌝ }
@@ -37,39 +29,6 @@ fn put(links: &mut [u16], t: u16, x: u16)
     if place < links.len() {
         links[place] = x;
     }
-}
-
-// Puts c directly left of t. The leftmost thread then.
-pub fn link_left(
-    left: &mut [u16; 1024],
-    right: &mut [u16; 1024],
-    leftmost: u16,
-    c: u16,
-    t: u16,
-) -> u16
-    ensures { λ r. ⌜ record { left = now (left .exit); right = now (right .exit); head = r }
-        ≡ linkLeft c t (record { left = now (left .entry); right = now (right .entry); head = leftmost }) ⌝ }
-{
-    let x = neighbour(left, t);
-    put(left, t, c);
-    put(left, c, x);
-    put(right, x, c);
-    put(right, c, t);
-    if x < NO_THREAD { leftmost } else { c }
-}
-
-// Takes t out. The leftmost thread then.
-pub fn unlink(left: &mut [u16; 1024], right: &mut [u16; 1024], leftmost: u16, t: u16) -> u16
-    ensures { λ r. ⌜ record { left = now (left .exit); right = now (right .exit); head = r }
-        ≡ unlinkOf t (record { left = now (left .entry); right = now (right .entry); head = leftmost }) ⌝ }
-{
-    let x = neighbour(left, t);
-    let y = neighbour(right, t);
-    put(left, y, x);
-    put(left, t, NO_THREAD);
-    put(right, x, y);
-    put(right, t, NO_THREAD);
-    if x < NO_THREAD { leftmost } else { y }
 }
 
 // The search along the right links, over 1,024 threads at most.

@@ -1,6 +1,6 @@
-//! AsyncDF for job tables: a scheduler whose memory is bounded beforehand, for every order in which its workers take their turns. The calls are proved; this crate calls them in the archive
-//! `libboard.a`, which `rt staticlib board` writes, and gives their numbers types. It has no heap, no state and no dependencies. docs/REFERENCE.md of the repository says what a
-//! table is, what a turn does and which bounds hold.
+//! AsyncDF for job tables: a scheduler whose memory is bounded beforehand, for every order in which its workers take their turns. The calls are proved; this crate calls them in the archives
+//! `libsingle.a` and `libboard.a`, which `rt staticlib single` and `rt staticlib board` write, and gives their numbers types. It has no heap, no state and no dependencies. docs/REFERENCE.md
+//! of the repository says what a table is, what a turn does and which bounds hold.
 //!
 //! ```
 //! use wivakkol::{Memory, Report, Run, Work};
@@ -15,7 +15,7 @@
 //! ```
 //!
 //! What C has to keep to by itself is kept here by types: sizes, alignment, what overlaps what, one call at a time, and the same unchanged table for every call on a run. One thing is not: the
-//! stack. From C the calls behind [`check`] and [`largest_quota`] took up to 139,552 bytes of it, [`Run::begin`] 3,496, [`Run::open`] 6,168, [`Run::wall_line`] 6,440, the others under 500. That the declarations fit the archive is tested and not proved.
+//! stack. From C the calls behind [`check`] and [`largest_quota`] took up to 139,520 bytes of it, [`Run::begin`] 3,464, [`Run::open`] 6,136, [`Run::wall_line`] 6,408, a single turn 104, the others under 300. That the declarations fit the archives is tested and not proved.
 #![no_std]
 #![deny(unsafe_op_in_unsafe_fn)]
 

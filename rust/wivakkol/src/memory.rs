@@ -6,67 +6,110 @@ use crate::raw;
 #[derive(Clone)]
 #[repr(C)]
 pub struct Memory {
-    pub(crate) amounts: [u64; 1024],
-    pub(crate) totals: [u64; 3],
-    pub(crate) settings: [u32; 2],
-    pub(crate) quotas: [u32; 16],
-    pub(crate) parents: [u16; 1024],
-    pub(crate) next: [u16; 1024],
-    pub(crate) left: [u16; 1024],
-    pub(crate) right: [u16; 1024],
-    pub(crate) under: [u16; 1024],
-    pub(crate) over: [u16; 1024],
-    pub(crate) threads: [u16; 16],
-    pub(crate) heads: [u16; 3],
-    pub(crate) status: [u8; 1024],
-    pub(crate) holds: [u8; 16],
+    pub(crate) sums: [u64; 1027],
+    pub(crate) numbers: [u32; 18],
+    pub(crate) words: [u16; 6163],
+    pub(crate) bytes: [u8; 1040],
+}
+
+/// The parts of the blocks, each with its place: one of them to be read, as an array of its own, and all of them to be written, cut from the blocks one behind the other.
+macro_rules! parts {
+    ($($block:ident { $($part:ident: [$number:ty; $size:literal] at $place:literal,)+ })+) => {
+        #[allow(dead_code)] // nothing here reads the parents and the second list's left neighbours
+        impl Memory {
+            $($(
+                pub(crate) fn $part(&self) -> &[$number; $size] {
+                    self.$block[$place..].first_chunk().expect("a part lies in its block")
+                }
+            )+)+
+        }
+
+        struct Parts<'m> {
+            $($($part: &'m mut [$number; $size],)+)+
+        }
+
+        impl Memory {
+            fn parts(&mut self) -> Parts<'_> {
+                $(
+                    let rest = &mut self.$block[..];
+                    $(let ($part, rest) = rest.split_first_chunk_mut().expect("a part lies in its block");)+
+                    debug_assert!(rest.is_empty());
+                )+
+                Parts { $($($part,)+)+ }
+            }
+        }
+
+        // each part begins where the one before it ends, and the last one ends with the block
+        const _: () = {
+            let memory = Memory::new();
+            $(
+                let end = 0;
+                $(
+                    assert!($place == end);
+                    let end = end + $size;
+                )+
+                assert!(end == memory.$block.len());
+            )+
+        };
+    };
+}
+
+parts! {
+    sums {
+        amounts: [u64; 1024] at 0,
+        totals: [u64; 3] at 1024,
+    }
+    numbers {
+        settings: [u32; 2] at 0,
+        quotas: [u32; 16] at 2,
+    }
+    words {
+        parents: [u16; 1024] at 0,
+        next: [u16; 1024] at 1024,
+        left: [u16; 1024] at 2048,
+        right: [u16; 1024] at 3072,
+        under: [u16; 1024] at 4096,
+        over: [u16; 1024] at 5120,
+        threads: [u16; 16] at 6144,
+        heads: [u16; 3] at 6160,
+    }
+    bytes {
+        status: [u8; 1024] at 0,
+        holds: [u8; 16] at 1024,
+    }
 }
 
 impl Memory {
     /// All 0, as after a beginning that was refused.
     pub const fn new() -> Memory {
-        Memory {
-            amounts: [0; 1024],
-            totals: [0; 3],
-            settings: [0; 2],
-            quotas: [0; 16],
-            parents: [0; 1024],
-            next: [0; 1024],
-            left: [0; 1024],
-            right: [0; 1024],
-            under: [0; 1024],
-            over: [0; 1024],
-            threads: [0; 16],
-            heads: [0; 3],
-            status: [0; 1024],
-            holds: [0; 16],
-        }
+        Memory { sums: [0; 1027], numbers: [0; 18], words: [0; 6163], bytes: [0; 1040] }
     }
 
     pub(crate) fn begin(&mut self, work: &mut Work, table: &[u8], p: u32, quota: u32) -> (u32, [u64; 1]) {
         let mut row = [0; 1];
-        // SAFETY: "`table` points to `length` bytes that may be read", since both are of one slice, whose pointer is never NULL; row and fields are references to arrays of their sizes,
-        // of a local, of one `&mut self` and of one `&mut Work`, so that nothing overlaps and nobody else touches them. The content of the memory does not matter.
+        let parts = self.parts();
+        // SAFETY: "`table` points to `length` bytes that may be read", since both are of one slice, whose pointer is never NULL; row and parts are references to arrays of their sizes,
+        // of a local, of one `&mut self`, cut without overlap, and of one `&mut Work`, so that nothing overlaps and nobody else touches them. The content of the memory does not matter.
         let number = unsafe {
             raw::wivakkol_begin_on(
                 table.as_ptr(),
                 table.len(),
                 p,
                 quota,
-                &mut self.settings,
-                &mut self.parents,
-                &mut self.next,
-                &mut self.status,
-                &mut self.amounts,
-                &mut self.left,
-                &mut self.right,
-                &mut self.under,
-                &mut self.over,
-                &mut self.holds,
-                &mut self.threads,
-                &mut self.quotas,
-                &mut self.heads,
-                &mut self.totals,
+                parts.settings,
+                parts.parents,
+                parts.next,
+                parts.status,
+                parts.amounts,
+                parts.left,
+                parts.right,
+                parts.under,
+                parts.over,
+                parts.holds,
+                parts.threads,
+                parts.quotas,
+                parts.heads,
+                parts.totals,
                 &mut row,
                 &mut work.rises,
                 &mut work.falls,
@@ -77,25 +120,26 @@ impl Memory {
 
     pub(crate) fn open(&mut self, work: &mut Work, table: &[u8]) -> (u32, [u64; 1]) {
         let mut row = [0; 1];
+        let parts = self.parts();
         // SAFETY: as in `begin`; "all of its memory has been written", as that of every Rust value.
         let number = unsafe {
             raw::wivakkol_open_on(
                 table.as_ptr(),
                 table.len(),
-                &self.settings,
-                &mut self.parents,
-                &self.next,
-                &self.status,
-                &self.amounts,
-                &self.left,
-                &self.right,
-                &mut self.under,
-                &mut self.over,
-                &self.holds,
-                &self.threads,
-                &self.quotas,
-                &mut self.heads,
-                &self.totals,
+                parts.settings,
+                parts.parents,
+                parts.next,
+                parts.status,
+                parts.amounts,
+                parts.left,
+                parts.right,
+                parts.under,
+                parts.over,
+                parts.holds,
+                parts.threads,
+                parts.quotas,
+                parts.heads,
+                parts.totals,
                 &mut row,
                 &mut work.rises,
                 &mut work.falls,
@@ -109,29 +153,9 @@ impl Memory {
 
     pub(crate) fn turn(&mut self, table: &[u8], w: u32) -> (u32, [u64; 5]) {
         let mut row = [0; 5];
-        // SAFETY: as in `open`; "one call at a time on it", by `&mut self`.
-        let number = unsafe {
-            raw::wivakkol_turn_on(
-                table.as_ptr(),
-                table.len(),
-                w,
-                &self.settings,
-                &self.parents,
-                &mut self.next,
-                &mut self.status,
-                &mut self.amounts,
-                &mut self.left,
-                &mut self.right,
-                &mut self.under,
-                &mut self.over,
-                &mut self.holds,
-                &mut self.threads,
-                &mut self.quotas,
-                &mut self.heads,
-                &mut self.totals,
-                &mut row,
-            )
-        };
+        // SAFETY: as in `open`, with blocks for their parts, which are fields of one `&mut self`; "one call at a time on it", by the same.
+        let number =
+            unsafe { raw::wivakkol_turn_on(table.as_ptr(), table.len(), w, &mut self.bytes, &mut self.words, &mut self.numbers, &mut self.sums, &mut row) };
         (number, row)
     }
 
@@ -144,20 +168,10 @@ impl Memory {
                 table.len(),
                 order.as_ptr(),
                 order.len(),
-                &self.settings,
-                &self.parents,
-                &mut self.next,
-                &mut self.status,
-                &mut self.amounts,
-                &mut self.left,
-                &mut self.right,
-                &mut self.under,
-                &mut self.over,
-                &mut self.holds,
-                &mut self.threads,
-                &mut self.quotas,
-                &mut self.heads,
-                &mut self.totals,
+                &mut self.bytes,
+                &mut self.words,
+                &mut self.numbers,
+                &mut self.sums,
                 &mut row,
             )
         };
@@ -168,26 +182,7 @@ impl Memory {
         let mut row = [0; 3];
         // SAFETY: as in `turn`.
         let number = unsafe {
-            raw::wivakkol_rounds_on(
-                table.as_ptr(),
-                table.len(),
-                limit,
-                &self.settings,
-                &self.parents,
-                &mut self.next,
-                &mut self.status,
-                &mut self.amounts,
-                &mut self.left,
-                &mut self.right,
-                &mut self.under,
-                &mut self.over,
-                &mut self.holds,
-                &mut self.threads,
-                &mut self.quotas,
-                &mut self.heads,
-                &mut self.totals,
-                &mut row,
-            )
+            raw::wivakkol_rounds_on(table.as_ptr(), table.len(), limit, &mut self.bytes, &mut self.words, &mut self.numbers, &mut self.sums, &mut row)
         };
         (number, row)
     }
@@ -196,23 +191,23 @@ impl Memory {
 impl Memory {
     pub(crate) fn preview(&self, table: &[u8], w: u32) -> (u32, [u64; 8]) {
         let mut row = [0; 8];
-        // SAFETY: as in `open`; all of the run is read alone, and while `&self` is there nobody writes to it.
+        // SAFETY: as in `open`; the parts of the run are read alone, and while `&self` is there nobody writes to them.
         let number = unsafe {
             raw::wivakkol_preview_on(
                 table.as_ptr(),
                 table.len(),
                 w,
-                &self.settings,
-                &self.next,
-                &self.status,
-                &self.amounts,
-                &self.right,
-                &self.over,
-                &self.holds,
-                &self.threads,
-                &self.quotas,
-                &self.heads,
-                &self.totals,
+                self.settings(),
+                self.next(),
+                self.status(),
+                self.amounts(),
+                self.right(),
+                self.over(),
+                self.holds(),
+                self.threads(),
+                self.quotas(),
+                self.heads(),
+                self.totals(),
                 &mut row,
             )
         };
@@ -226,17 +221,17 @@ impl Memory {
             raw::wivakkol_chart_on(
                 table.as_ptr(),
                 table.len(),
-                &self.settings,
-                &self.next,
-                &self.status,
-                &self.amounts,
-                &self.left,
-                &self.right,
-                &self.holds,
-                &self.threads,
-                &self.quotas,
-                &self.heads,
-                &self.totals,
+                self.settings(),
+                self.next(),
+                self.status(),
+                self.amounts(),
+                self.left(),
+                self.right(),
+                self.holds(),
+                self.threads(),
+                self.quotas(),
+                self.heads(),
+                self.totals(),
                 &mut line,
                 &mut work.rises,
                 &mut work.falls,
@@ -249,23 +244,13 @@ impl Memory {
     }
 }
 
-/// Something done for each field and its type, in their order.
-macro_rules! each_field {
+/// Something done for each block and the type of its numbers, in their order.
+macro_rules! each_block {
     ($memory:expr, $on:ident) => {
-        $on!($memory.amounts, u64);
-        $on!($memory.totals, u64);
-        $on!($memory.settings, u32);
-        $on!($memory.quotas, u32);
-        $on!($memory.parents, u16);
-        $on!($memory.next, u16);
-        $on!($memory.left, u16);
-        $on!($memory.right, u16);
-        $on!($memory.under, u16);
-        $on!($memory.over, u16);
-        $on!($memory.threads, u16);
-        $on!($memory.heads, u16);
-        $on!($memory.status, u8);
-        $on!($memory.holds, u8);
+        $on!($memory.sums, u64);
+        $on!($memory.numbers, u32);
+        $on!($memory.words, u16);
+        $on!($memory.bytes, u8);
     };
 }
 
@@ -277,15 +262,15 @@ impl Memory {
     pub fn to_bytes(&self) -> [u8; Memory::BYTES] {
         let (mut bytes, mut at) = ([0; Memory::BYTES], 0);
         macro_rules! put {
-            ($field:expr, $number:ty) => {
-                for x in &$field {
+            ($block:expr, $number:ty) => {
+                for x in &$block {
                     let x = x.to_le_bytes();
                     bytes[at..at + x.len()].copy_from_slice(&x);
                     at += x.len();
                 }
             };
         }
-        each_field!(self, put);
+        each_block!(self, put);
         debug_assert_eq!(at, Memory::BYTES);
         bytes
     }
@@ -294,15 +279,15 @@ impl Memory {
     pub fn from_bytes(bytes: &[u8; Memory::BYTES]) -> Memory {
         let (mut memory, mut rest) = (Memory::new(), &bytes[..]);
         macro_rules! take {
-            ($field:expr, $number:ty) => {
-                for x in &mut $field {
+            ($block:expr, $number:ty) => {
+                for x in &mut $block {
                     let (number, after) = rest.split_first_chunk().expect("there are as many bytes as the numbers have");
                     *x = <$number>::from_le_bytes(*number);
                     rest = after;
                 }
             };
         }
-        each_field!(memory, take);
+        each_block!(memory, take);
         memory
     }
 }
@@ -336,24 +321,14 @@ impl Default for Memory {
     }
 }
 
-// The layout of the header's struct, each field of a run where C has it.
+// The layout of the header's struct, each block of a run where C has it.
 const _: () = {
     assert!(core::mem::size_of::<Memory>() == 21656);
     assert!(core::mem::align_of::<Memory>() == 8);
-    assert!(core::mem::offset_of!(Memory, amounts) == 0);
-    assert!(core::mem::offset_of!(Memory, totals) == 8192);
-    assert!(core::mem::offset_of!(Memory, settings) == 8216);
-    assert!(core::mem::offset_of!(Memory, quotas) == 8224);
-    assert!(core::mem::offset_of!(Memory, parents) == 8288);
-    assert!(core::mem::offset_of!(Memory, next) == 10336);
-    assert!(core::mem::offset_of!(Memory, left) == 12384);
-    assert!(core::mem::offset_of!(Memory, right) == 14432);
-    assert!(core::mem::offset_of!(Memory, under) == 16480);
-    assert!(core::mem::offset_of!(Memory, over) == 18528);
-    assert!(core::mem::offset_of!(Memory, threads) == 20576);
-    assert!(core::mem::offset_of!(Memory, heads) == 20608);
-    assert!(core::mem::offset_of!(Memory, status) == 20614);
-    assert!(core::mem::offset_of!(Memory, holds) == 21638);
+    assert!(core::mem::offset_of!(Memory, sums) == 0);
+    assert!(core::mem::offset_of!(Memory, numbers) == 8216);
+    assert!(core::mem::offset_of!(Memory, words) == 8288);
+    assert!(core::mem::offset_of!(Memory, bytes) == 20614);
     assert!(core::mem::size_of::<Work>() == 22528);
     assert!(core::mem::align_of::<Work>() == 8);
 };

@@ -1,5 +1,5 @@
-//! The exported functions as the archive has them. An array is a reference to one of its size, so that the types say what include/wivakkol.h asks of a row or a
-//! field: it is not NULL, aligned, of the full size and written before, and what is lent to be written overlaps nothing else. tests/calls/declarations.rs holds them against the source.
+//! The exported functions as the archives have them. An array is a reference to one of its size, so that the types say what include/wivakkol.h asks of a row, a block
+//! or a part of one: it is not NULL, aligned, of the full size and written before, and what is lent to be written overlaps nothing else. tests/calls/declarations.rs holds them against the source.
 
 extern "C" {
     pub fn wivakkol_check(table: *const u8, length: usize, row: &mut [u64; 6]) -> u32;
@@ -59,20 +59,10 @@ extern "C" {
         table: *const u8,
         length: usize,
         w: u32,
-        settings: &[u32; 2],
-        parents: &[u16; 1024],
-        next: &mut [u16; 1024],
-        status: &mut [u8; 1024],
-        amounts: &mut [u64; 1024],
-        left: &mut [u16; 1024],
-        right: &mut [u16; 1024],
-        under: &mut [u16; 1024],
-        over: &mut [u16; 1024],
-        holds: &mut [u8; 16],
-        threads: &mut [u16; 16],
-        quotas: &mut [u32; 16],
-        heads: &mut [u16; 3],
-        totals: &mut [u64; 3],
+        bytes: &mut [u8; 1040],
+        words: &mut [u16; 6163],
+        numbers: &mut [u32; 18],
+        sums: &mut [u64; 1027],
         row: &mut [u64; 5],
     ) -> u32;
 
@@ -81,20 +71,10 @@ extern "C" {
         length: usize,
         order: *const u8,
         turns: usize,
-        settings: &[u32; 2],
-        parents: &[u16; 1024],
-        next: &mut [u16; 1024],
-        status: &mut [u8; 1024],
-        amounts: &mut [u64; 1024],
-        left: &mut [u16; 1024],
-        right: &mut [u16; 1024],
-        under: &mut [u16; 1024],
-        over: &mut [u16; 1024],
-        holds: &mut [u8; 16],
-        threads: &mut [u16; 16],
-        quotas: &mut [u32; 16],
-        heads: &mut [u16; 3],
-        totals: &mut [u64; 3],
+        bytes: &mut [u8; 1040],
+        words: &mut [u16; 6163],
+        numbers: &mut [u32; 18],
+        sums: &mut [u64; 1027],
         row: &mut [u64; 3],
     ) -> u32;
 
@@ -102,20 +82,10 @@ extern "C" {
         table: *const u8,
         length: usize,
         limit: u32,
-        settings: &[u32; 2],
-        parents: &[u16; 1024],
-        next: &mut [u16; 1024],
-        status: &mut [u8; 1024],
-        amounts: &mut [u64; 1024],
-        left: &mut [u16; 1024],
-        right: &mut [u16; 1024],
-        under: &mut [u16; 1024],
-        over: &mut [u16; 1024],
-        holds: &mut [u8; 16],
-        threads: &mut [u16; 16],
-        quotas: &mut [u32; 16],
-        heads: &mut [u16; 3],
-        totals: &mut [u64; 3],
+        bytes: &mut [u8; 1040],
+        words: &mut [u16; 6163],
+        numbers: &mut [u32; 18],
+        sums: &mut [u64; 1027],
         row: &mut [u64; 3],
     ) -> u32;
 

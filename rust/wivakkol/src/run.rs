@@ -143,45 +143,46 @@ impl<'t> Run<'t> {
 
     /// The number of workers, p.
     pub fn workers(&self) -> u32 {
-        self.memory.settings[0]
+        self.memory.settings()[0]
     }
 
     /// The quota, K.
     pub fn quota(&self) -> u32 {
-        self.memory.settings[1]
+        self.memory.settings()[1]
     }
 
     /// Memory held now.
     pub fn held(&self) -> u64 {
-        self.memory.totals[0]
+        self.memory.totals()[0]
     }
 
     /// The most memory held so far.
     pub fn highest(&self) -> u64 {
-        self.memory.totals[1]
+        self.memory.totals()[1]
     }
 
     /// The turns taken so far.
     pub fn turns(&self) -> u64 {
-        self.memory.totals[2]
+        self.memory.totals()[2]
     }
 
     /// Whether the root has ended: the run is over.
     pub fn ended(&self) -> bool {
-        self.memory.status[0] == ENDED
+        self.memory.status()[0] == ENDED
     }
 
     /// The list of the threads that are forked and not ended, leftmost first, which is serial order.
     pub fn threads(&self) -> impl Iterator<Item = u16> + '_ {
         let in_list = |t: u16| (t < NO_THREAD).then_some(t);
         // the blank record, which alone has no workers, has 0 for every neighbour and an empty list
-        let first = if self.workers() == 0 { NO_THREAD } else { self.memory.heads[0] };
-        core::iter::successors(in_list(first), move |t| in_list(self.memory.right[usize::from(*t)]))
+        let first = if self.workers() == 0 { NO_THREAD } else { self.memory.heads()[0] };
+        let right = self.memory.right();
+        core::iter::successors(in_list(first), move |t| in_list(right[usize::from(*t)]))
     }
 
     /// Where a thread stands; `None` from 1,024 on. Threads that the table does not have are unborn.
     pub fn status(&self, thread: u16) -> Option<Status> {
-        Some(match self.memory.status.get(usize::from(thread))? {
+        Some(match self.memory.status().get(usize::from(thread))? {
             1 => Status::Ready,
             2 => Status::Held,
             3 => Status::Waiting,
@@ -192,19 +193,19 @@ impl<'t> Run<'t> {
 
     /// The memory that a thread holds; `None` from 1,024 on.
     pub fn amount(&self, thread: u16) -> Option<u64> {
-        self.memory.amounts.get(usize::from(thread)).copied()
+        self.memory.amounts().get(usize::from(thread)).copied()
     }
 
     /// A thread's next action; `None` from 1,024 on.
     pub fn next_action(&self, thread: u16) -> Option<u16> {
-        self.memory.next.get(usize::from(thread)).copied()
+        self.memory.next().get(usize::from(thread)).copied()
     }
 
     /// The thread that worker `w` holds and its quota left, if it holds one.
     pub fn worker(&self, w: u32) -> Option<(u16, u32)> {
         let w = usize::try_from(w).ok()?;
-        let holds = *self.memory.holds.get(w)? != 0;
-        holds.then(|| (self.memory.threads[w], self.memory.quotas[w]))
+        let holds = *self.memory.holds().get(w)? != 0;
+        holds.then(|| (self.memory.threads()[w], self.memory.quotas()[w]))
     }
 }
 

@@ -2,15 +2,20 @@
 use Prim.Native.Nat.{ℕ, _-_, _^_}
 use mathlib.Core.List.{List, []}
 use mathlib.Core.Bool.{Bool}
-use lib.ListN.{length}
+use lib.ListN.{length, getD}
 use lib.Dec.{ltb, eqb}
 use Rattle.table.specs.Sum.{pick}
+use Rattle.table.specs.Format.{Table, kind}
 use Rattle.schedule.specs.declared.Run.{Run}
+use Rattle.schedule.specs.declared.Reply.{Reply}
 use Rattle.schedule.specs.Turn.{rootEnded, turned}
-use Rattle.schedule.specs.Listing.{Line, Last, turnsBy}
+use Rattle.schedule.specs.Listing.{Line, Last, line, toldWith, actionIn, threadIn, turnsBy}
 use Rattle.lines.specs.Lines.{turnTexts, lastTexts, textsOf}
-use Rattle.chart.specs.Chart.{Shown, lineTexts, lineText, mostTurns, charted}
+use Rattle.chart.specs.Chart.{Shown, shownOf, lineTexts, lineText, mostTurns, charted}
 use Rattle.chart.specs.Turns.{laterLines}
+use Rattle.cells.specs.Memory.{Memory, movedIn}
+use Rattle.cells.specs.Stands.{workersIn}
+use Rattle.cells.specs.Blocks.{Words, Sums}
 
 -- the texts of the turns; a chart's first line stands before them
 unfoldable pub turnsTexts : Bool → Run → List ℕ → List (List ℕ)
@@ -19,6 +24,13 @@ turnsTexts chart r order = pick chart (laterLines charted turned r order) (texts
 -- as long as a line may be
 abbrev pub widest : Bool → ℕ
 widest chart = pick chart 85 64
+
+-- the line of a turn of worker w that left these words and sums, and a chart's line of the memory
+abbrev pub lineIn : Table → ℕ → Reply → Words → Sums → Line
+lineIn T w reply W S = line (S .turns) w (toldWith reply (kind T (actionIn reply)) (getD (W .rows 1) (threadIn reply) 0)) (S .held)
+
+abbrev pub shownIn : ℕ → Memory → Shown
+shownIn p M = shownOf (movedIn M .turns) p (workersIn M) (movedIn M .totals .held)
 
 -- what is put after a turn, and as long as it may be by the types of its numbers: a chart's line is as long as it is
 abbrev pub afterTexts : Bool → Shown → Line → List (List ℕ)

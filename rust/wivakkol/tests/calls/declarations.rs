@@ -1,4 +1,4 @@
-//! The declarations of src/raw.rs are those of the Rattle source, and the fields of `Memory` those of the header's struct: nothing else would say where they differ.
+//! The declarations of src/raw.rs are those of the Rattle source, and the blocks of `Memory` and their parts those of the header: nothing else would say where they differ.
 use std::collections::BTreeMap;
 use std::fs;
 
@@ -32,9 +32,11 @@ fn as_pointers(parameters: &[String]) -> Vec<String> {
 #[test]
 fn calls_are_of_the_source() {
     let mut source = BTreeMap::new();
-    for entry in fs::read_dir(format!("{HERE}/../../crates/board/src")).unwrap() {
-        let text = fs::read_to_string(entry.unwrap().path()).unwrap();
-        source.extend(functions(&text, "pub extern \"C\" fn "));
+    for name in ["single", "board"] {
+        for entry in fs::read_dir(format!("{HERE}/../../crates/{name}/src")).unwrap() {
+            let text = fs::read_to_string(entry.unwrap().path()).unwrap();
+            source.extend(functions(&text, "pub extern \"C\" fn "));
+        }
     }
     let declared = functions(include_str!("../../src/raw.rs"), "pub fn ");
     assert_eq!(declared.len(), source.len());
@@ -45,24 +47,32 @@ fn calls_are_of_the_source() {
     }
 }
 
-/// What is handed to a call by its name: fields of the memory and of the working memory, and locals.
+/// What is handed to a call by its name: blocks of the memory, their parts, fields of the working memory, and locals.
 fn handed(text: &str, call: &str) -> Vec<String> {
     let (_, rest) = text.split_once(&format!("raw::{call}(")).unwrap_or_else(|| panic!("{call} is not called"));
-    let (arguments, _) = rest.split_once(") }").or_else(|| rest.split_once(")\n        }")).expect("the call ends its block");
+    let mut open = 1;
+    let end = rest.find(|x| {
+        open += i32::from(x == '(') - i32::from(x == ')');
+        open == 0
+    });
+    let arguments = &rest[..end.expect("the call ends")];
     let name = |x: &str| match x.trim() {
         "table.as_ptr()" => "table".to_string(),
         "table.len()" => "length".to_string(),
         "order.as_ptr()" => "order".to_string(),
         "order.len()" => "turns".to_string(),
         "&mut work.parents" => "seen".to_string(),
-        other => other.trim_start_matches("&mut ").trim_start_matches('&').trim_start_matches("self.").trim_start_matches("work.").to_string(),
+        other => {
+            let place = other.trim_start_matches("&mut ").trim_end_matches("()");
+            place.trim_start_matches("self.").trim_start_matches("parts.").trim_start_matches("work.").to_string()
+        }
     };
     arguments.split(',').map(name).filter(|x| !x.is_empty()).collect()
 }
 
-/// Every field is handed over where the call has a parameter of its name: neighbours of one type would change places unseen.
+/// Every block, part and field is handed over where the call has a parameter of its name: neighbours of one type would change places unseen.
 #[test]
-fn fields_are_handed_by_name() {
+fn memory_is_handed_by_name() {
     let calling = concat!(include_str!("../../src/lib.rs"), include_str!("../../src/memory.rs"));
     for (call, parameters) in functions(include_str!("../../src/raw.rs"), "pub fn ") {
         let mut names: Vec<&str> = parameters.iter().filter_map(|x| x.split_once(": ")).map(|(name, _)| name).collect();
@@ -74,27 +84,27 @@ fn fields_are_handed_by_name() {
     }
 }
 
-/// The header without its comments, names for numbers put in.
+/// The header without its comments.
 fn header() -> String {
     let text = fs::read_to_string(format!("{HERE}/../../include/wivakkol.h")).unwrap();
-    let bare: String = text.split("/*").map(|part| part.split_once("*/").map_or(part, |(_, after)| after)).collect();
-    let mut words = bare.clone();
-    for line in bare.lines().filter_map(|line| line.strip_prefix("#define WIVAKKOL_MOST_")) {
-        let (name, value) = line.split_once(' ').expect("a name and its number");
-        words = words.replace(&format!("WIVAKKOL_MOST_{name}"), value.trim());
-    }
-    words
+    text.split("/*").map(|part| part.split_once("*/").map_or(part, |(_, after)| after)).collect()
+}
+
+/// The numbers that it names.
+fn named(header: &str) -> BTreeMap<&str, &str> {
+    header.lines().filter_map(|line| line.strip_prefix("#define WIVAKKOL_")?.trim().split_once(' ')).collect()
 }
 
 /// The fields of a struct of the header, as Rust declares them, and those of the crate's.
 fn both_fields(in_header: &str, in_crate: &str) -> (Vec<String>, Vec<String>) {
     let header = header();
+    let named = named(&header);
     let (_, fields) = header.split_once(&format!("struct {in_header} {{")).unwrap();
     let (fields, _) = fields.split_once('}').unwrap();
     let in_rust = |field: &str| {
         let (kind, rest) = field.trim().split_once(' ').unwrap();
-        let (name, size) = rest.trim_end_matches(']').split_once('[').unwrap();
-        format!("{name}: [{}; {size}]", kind.replace("uint", "u").trim_end_matches("_t"))
+        let (name, size) = rest.trim_end_matches(']').split_once("[WIVAKKOL_").unwrap();
+        format!("{name}: [{}; {}]", kind.replace("uint", "u").trim_end_matches("_t"), named[size])
     };
     let wanted: Vec<String> = fields.split(';').filter(|x| !x.trim().is_empty()).map(in_rust).collect();
     let source = include_str!("../../src/memory.rs");
@@ -106,18 +116,40 @@ fn both_fields(in_header: &str, in_crate: &str) -> (Vec<String>, Vec<String>) {
 
 #[test]
 fn memory_is_of_the_header() {
-    for (in_header, in_crate, count) in [("wivakkol_run", "Memory", 14), ("wivakkol_work", "Work", 5)] {
+    for (in_header, in_crate, count) in [("wivakkol_run", "Memory", 4), ("wivakkol_work", "Work", 5)] {
         let (wanted, declared) = both_fields(in_header, in_crate);
         assert_eq!(declared, wanted);
         assert_eq!(declared.len(), count);
     }
 }
 
-/// The bytes of a run put away are its fields in their order.
+/// Every part is at the place that the header names.
+#[test]
+fn parts_are_at_the_header_s_places() {
+    let header = header();
+    let named = named(&header);
+    let (_, table) = include_str!("../../src/memory.rs").split_once("\nparts! {\n").unwrap();
+    let (table, _) = table.split_once("\n}").unwrap();
+    let parts: Vec<(&str, &str)> = table.lines().filter_map(|line| line.trim().trim_end_matches(',').split_once("] at ")).collect();
+    for (part, place) in &parts {
+        let (name, _) = part.split_once(": [").unwrap();
+        let in_header = match name {
+            "totals" => "HELD".to_string(),
+            "settings" => "P".to_string(),
+            "threads" => "WORKER_THREADS".to_string(),
+            "heads" => "LEFTMOST".to_string(),
+            other => other.to_uppercase(),
+        };
+        assert_eq!(named[in_header.as_str()], *place, "{name}");
+    }
+    assert_eq!(parts.len(), 14);
+}
+
+/// The bytes of a run put away are its blocks in their order.
 #[test]
 fn bytes_are_in_the_header_s_order() {
     let (wanted, _) = both_fields("wivakkol_run", "Memory");
-    let (_, fields) = include_str!("../../src/memory.rs").split_once("macro_rules! each_field {").unwrap();
+    let (_, fields) = include_str!("../../src/memory.rs").split_once("macro_rules! each_block {").unwrap();
     let written: Vec<&str> = fields.lines().filter_map(|x| x.trim().strip_prefix("$on!($memory.")).filter_map(|x| x.split_once(')')).map(|(x, _)| x).collect();
     let names: Vec<String> = wanted.iter().map(|x| x.replace(": [", ", ").split(';').next().unwrap().to_string()).collect();
     assert_eq!(written, names);

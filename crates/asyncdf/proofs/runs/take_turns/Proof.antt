@@ -1,149 +1,137 @@
--- `asyncdf::runs::take_turns` meets its contract. The invariant: of every record that the locals belong to at the start, the run goes along (Along).
-use mathlib.Core.Path.{refl, sym}
-use Prim.Native.Nat.{ℕ, _-_, _<_}
+-- `asyncdf::runs::take_turns` meets its contract. The invariant: the run goes along (Along), and in rounds the next worker is that of turn i.
+use mathlib.Core.Path.{_≡_, refl, sym, _∙_}
+use Prim.Native.Nat.{ℕ, _+_, _-_, _%_, _<_}
 use mathlib.Core.List.{List}
-use mathlib.Core.Bool.{Bool}
+use mathlib.Core.Bool.{Bool, true, false}
+use native.Mathlib.Nat.{zero-mod}
 use native.Mathlib.Omega.{arith}
 use borrow.Author.Needs.{needs}
-use denote.Ref.{now}
-use Rattle.schedule.specs.declared.Worker.{Worker}
-use Rattle.schedule.specs.declared.Run.{Run}
+use lib.ListN.{getD}
+use lib.Dec.{ltb}
+use Rattle.table.specs.Sum.{pick}
 use Rattle.schedule.specs.declared.Reply.{Reply}
 use Rattle.schedule.specs.Runs.{workerAt}
-use Rattle.lent.specs.declared.Moved.{Moved}
-use Rattle.lent.specs.Arrays.{Arrays, arrays}
-use Rattle.lent.specs.Packed.{packedOf}
-use Rattle.asyncdf.specs.Code.Drives.{Sequence, Moving, Stands}
-use Rattle.asyncdf.proofs.Moving.{not-done, other, few}
-use Rattle.asyncdf.proofs.Along.{Along, first-along, spent, full, none, again, finished}
+use Rattle.cells.specs.Memory.{Memory}
+use Rattle.cells.specs.Blocks.{memoryOf}
+use Rattle.cells.proofs.Turning.{in-turn}
+use Rattle.asyncdf.specs.Code.Drives.{Sequence}
+use Rattle.asyncdf.proofs.Moving.{not-done, other}
+use Rattle.asyncdf.proofs.Along.{Along, first-along, spent, small, stops, again, finished}
 use Rattle.asyncdf.proofs.runs.take_turns.Statement.{statement}
 use Rattle.asyncdf.proofs.runs.take_turns.Tie as tie
 
-record Inv (s : List ℕ) (n last p K : ℕ) (parents : List ℕ) (A₀ : Arrays) (workers₀ : List Worker) (m₀ : Moved) (order : List ℕ) (rounds : Bool) (limit : ℕ)
-    (A : Arrays) (workers : List Worker) (m : Moved) (reply : Reply) (i : ℕ) : Type 0 where
-  begun : Stands s n last p K parents A₀ workers₀ m₀
+record Inv (s : List ℕ) (last : ℕ) (order : List ℕ) (rounds : Bool) (p limit : ℕ) (M₀ M : Memory) (reply : Reply) (i next : ℕ) : Type 0 where
   sequence : (j : ℕ) → j < limit → Sequence order rounds p j
-  along : (run : Run) → Moving run s n last p K parents A₀ workers₀ m₀
-      → Along (workerAt order rounds p) limit run (packedOf run A₀ workers₀ m₀) s n last p K parents A workers m reply i
+  along : Along (workerAt order rounds p) limit s last M₀ M reply i
+  in-step : rounds ≡ true → next ≡ i % p
+
+-- the worker asked for is the run's
+named : (order : List ℕ) (rounds : Bool) (p i : ℕ) {next w : ℕ} → (rounds ≡ true → next ≡ i % p) → w ≡ pick rounds next (getD order i 0) → w ≡ workerAt order rounds p i
+unfolding workerAt
+named order true p i h e = e ∙ h refl
+named order false p i h e = e
+
+-- and the one after it is the next turn's
+steps : {rounds : Bool} (p i : ℕ) {next w : ℕ} → (rounds ≡ true → 0 < p) → (rounds ≡ true → next ≡ i % p) → w ≡ pick (ltb (next + 1) p) (next + 1) 0 → rounds ≡ true → w ≡ (i + 1) % p
+steps p i some h e r = e ∙ in-turn p i (some r) (h r)
 
 abbrev Inv-loop : tie.InvT-loop
-Inv-loop table n last p quota parents next₀ status₀ amounts₀ left₀ right₀ under₀ over₀ order rounds limit workers₀ moved₀ reply₀ i₀ next status amounts left right under over workers moved reply i =
-    Inv table n last p quota parents (arrays next₀ status₀ amounts₀ left₀ right₀ under₀ over₀) workers₀ moved₀ order rounds limit (arrays next status amounts left right under over) workers moved reply i
+Inv-loop table last order rounds p limit bytes₀ words₀ numbers₀ sums₀ reply₀ i₀ next₀ bytes words numbers sums reply i next =
+    Inv table last order rounds p limit (memoryOf bytes₀ words₀ numbers₀ sums₀) (memoryOf bytes words numbers sums) reply i next
 
 abbrev μ-loop : tie.MeasureT-loop
-μ-loop table n last p quota parents next₀ status₀ amounts₀ left₀ right₀ under₀ over₀ order rounds limit workers₀ moved₀ reply₀ i₀ next status amounts left right under over workers moved reply i = limit - i
+μ-loop table last order rounds p limit bytes₀ words₀ numbers₀ sums₀ reply₀ i₀ next₀ bytes words numbers sums reply i next = limit - i
 
 -- ---- the loop's places
 
--- the invariant of the record that stands behind the locals
-moving : (c : tie.At-loop Inv-loop μ-loop)
-    → Moving (c .loop .inv .begun .run) (now (c .before .before .before .args .table)) (c .before .before .before .args .n) (c .before .before .before .args .last)
-    (c .before .before .before .args .p) (c .before .before .before .args .quota) (now (c .before .before .before .args .parents))
-    (arrays (c .loop .next) (c .loop .status) (c .loop .amounts) (c .loop .left) (c .loop .right) (c .loop .under) (c .loop .over)) (c .loop .workers) (c .loop .moved)
-moving c = c .loop .inv .along (c .loop .inv .begun .run) (c .loop .inv .begun .moving) .moving
+-- a worker was asked for, then the one after it, then its turn, and what came of that is known
+abbrev followed : tie.After-struct-known Inv-loop μ-loop → tie.After-following Inv-loop μ-loop
+followed c = c .before .before .before .before .before .before
+
+abbrev asked : tie.After-struct-known Inv-loop μ-loop → tie.After-worker-of Inv-loop μ-loop
+asked c = followed c .before
+
+abbrev top : tie.After-struct-known Inv-loop μ-loop → tie.At-loop Inv-loop μ-loop
+top c = asked c .before .before
 
 loop-holds : tie.Need-loop-holds Inv-loop μ-loop
 loop-holds c =
     let s = c .before .before in
-    record { begun = s .pre .0; sequence = s .pre .1; along = λ run v. first-along _ v }
+    record { sequence = s .pre .1; along = first-along _ (s .pre .0); in-step = λ r. sym (zero-mod _) }
 
 worker-of-requires : tie.Need-worker-of-requires Inv-loop μ-loop
-worker-of-requires c κs = c .before .loop .inv .sequence (c .before .loop .i) (c .loop-test .taken)
+worker-of-requires c κs = c .before .loop .inv .sequence (c .before .loop .i) (c .loop-test .taken) .within
+
+following-requires : tie.Need-following-requires Inv-loop μ-loop
+following-requires c κs = search needs
+
+turn-in-requires : tie.Need-turn-in-requires Inv-loop μ-loop
+turn-in-requires c κs = search needs
+
+cast-stopped : tie.Need-cast-stopped Inv-loop μ-loop
+cast-stopped c =
+    let k = c .before .before in
+    omega (arith, small (top k .loop .inv .along) (asked k .before .loop-test .taken) (named _ _ _ _ (top k .loop .inv .in-step) (asked k .worker-of .ensures)) (k .before .turn-in .ensures .0))
 
 stopped-requires : tie.Need-stopped-requires Inv-loop μ-loop
 stopped-requires c κs = search needs
 
--- the places before a turn: the loop's test, the worker found, the tests of 32 and 30
-abbrev top : tie.After-worker-of Inv-loop μ-loop → tie.At-loop Inv-loop μ-loop
-top c = c .before .before
-
-abbrev asked : tie.Else2 Inv-loop μ-loop → tie.After-worker-of Inv-loop μ-loop
-asked c = c .before .before .before
-
-few-workers : (c : tie.Else2 Inv-loop μ-loop) → asked c .worker-of .result < 16
-few-workers c = few (moving (top (asked c))) (c .if2 .left)
-
--- and the turn taken
-abbrev tests : tie.After-take-turn Inv-loop μ-loop → tie.Else2 Inv-loop μ-loop
-tests c = c .before .before .before .before .before .before .before .before .before
-
 returns : tie.Need-returns Inv-loop μ-loop
 returns c =
-    let w = c .before .before .before in
-    λ run v. rw (c .stopped .ensures) (full (top w .loop .inv .along run v) (w .before .loop-test .taken) (c .before .if1 .taken))
-
-stopped-requires-2 : tie.Need-stopped-requires-2 Inv-loop μ-loop
-stopped-requires-2 c κs = search needs
-
-returns-2 : tie.Need-returns-2 Inv-loop μ-loop
-returns-2 c =
-    let w = c .before .before .before .before in
-    λ run v. rw (c .stopped2 .ensures) (none (top w .loop .inv .along run v) (w .before .loop-test .taken) (c .before .before .if1 .left) (w .worker-of .ensures) (c .before .if2 .taken))
-
-mul-worker : tie.Need-mul-worker Inv-loop μ-loop
-mul-worker c = omega (arith, few-workers c)
-
-array-copy-out-worker : tie.Need-array-copy-out-worker Inv-loop μ-loop
-array-copy-out-worker c = few-workers c
-
-take-turn-requires : tie.Need-take-turn-requires Inv-loop μ-loop
-take-turn-requires c κs = search needs
-
-mul-workers : tie.Need-mul-workers Inv-loop μ-loop
-mul-workers c = omega (arith, few-workers (tests (c .before)))
-
-array-set-from-workers : tie.Need-array-set-from-workers Inv-loop μ-loop
-array-set-from-workers c = few-workers (tests (c .before))
+    let t = c .before .before in
+    let k = t .before in
+    rw (c .stopped .ensures)
+    (stops (top k .loop .inv .along) (asked k .before .loop-test .taken) (named _ _ _ _ (top k .loop .inv .in-step) (asked k .worker-of .ensures)) (k .before .turn-in .ensures .0) (t .if1 .taken))
 
 add-i : tie.Need-add-i Inv-loop μ-loop
-add-i c =
-    let l = top (asked (tests (c .before .before))) in
-    omega (arith, asked (tests (c .before .before)) .before .loop-test .taken, l .before .before .before .fits .limit)
+add-i c = omega (arith, asked (c .before) .before .loop-test .taken, top (c .before) .before .before .before .fits .limit)
 
 enum-known-reply : tie.Need-enum-known-reply Inv-loop μ-loop
 enum-known-reply c = c .match .keys1
 
 loop-less : tie.Need-loop-less Inv-loop μ-loop
-loop-less c = omega (arith, asked (tests (c .before .before .before)) .before .loop-test .taken)
+loop-less c = omega (arith, asked (c .before .before) .before .loop-test .taken)
 
 loop-again : tie.Need-loop-again Inv-loop μ-loop
 loop-again c =
-    let t = c .before .before .before in
-    let e = tests t in
-    let v = top (asked e) .loop .inv in
+    let e = c .before in
+    let k = e .before in
+    let v = top k .loop .inv in
     record {
-      begun = v .begun;
       sequence = v .sequence;
-      along = λ run m. again (v .along run m) (asked e .before .loop-test .taken) (e .before .if1 .left) (asked e .worker-of .ensures) (e .if2 .left) (t .take-turn .ensures) refl (not-done (c .match .keys2) _);
+      along = again (v .along) (asked k .before .loop-test .taken) (named _ _ _ _ (top k .loop .inv .in-step) (asked k .worker-of .ensures)) (k .before .turn-in .ensures .0) (e .if1 .left) refl (not-done (c .match .keys2) _);
+      in-step = steps _ _ (v .sequence _ (asked k .before .loop-test .taken) .workers) (v .in-step) (followed k .following .ensures);
     }
 
-cast-if3 : tie.Need-cast-if3 Inv-loop μ-loop
-cast-if3 c = search needs
+cast-if2 : tie.Need-cast-if2 Inv-loop μ-loop
+cast-if2 c = search needs
 
-returns-3 : tie.Need-returns-3 Inv-loop μ-loop
-returns-3 c =
-    let t = c .before .before .before .before .before .before in
-    let e = tests t in
-    let v = top (asked e) .loop .inv in
-    λ run m. finished (v .along run m) (asked e .before .loop-test .taken) (e .before .if1 .left) (asked e .worker-of .ensures) (e .if2 .left) (t .take-turn .ensures)
-    (c .before .before .reply .given .1) (c .if3 .taken)
+returns-2 : tie.Need-returns-2 Inv-loop μ-loop
+returns-2 c =
+    let r = c .before .before in
+    let e = r .before .before in
+    let k = e .before in
+    finished (top k .loop .inv .along) (asked k .before .loop-test .taken) (named _ _ _ _ (top k .loop .inv .in-step) (asked k .worker-of .ensures)) (k .before .turn-in .ensures .0) (e .if1 .left) (r .reply .given .1) (c .if2 .taken)
 
 loop-less-2 : tie.Need-loop-less-2 Inv-loop μ-loop
-loop-less-2 c = omega (arith, asked (tests (c .before .before .before .before .before .before)) .before .loop-test .taken)
+loop-less-2 c = omega (arith, asked (c .before .before .before .before .before) .before .loop-test .taken)
 
 loop-again-2 : tie.Need-loop-again-2 Inv-loop μ-loop
 loop-again-2 c =
-    let t = c .before .before .before .before .before .before in
-    let e = tests t in
-    let v = top (asked e) .loop .inv in
+    let r = c .before .before in
+    let e = r .before .before in
+    let k = e .before in
+    let v = top k .loop .inv in
     record {
-      begun = v .begun;
       sequence = v .sequence;
-      along = λ run m. again (v .along run m) (asked e .before .loop-test .taken) (e .before .if1 .left) (asked e .worker-of .ensures) (e .if2 .left) (t .take-turn .ensures) (sym (c .before .before .reply .given .1)) (other (c .before .before .reply .given .1) (c .if3 .left));
+      along =
+          again (v .along) (asked k .before .loop-test .taken) (named _ _ _ _ (top k .loop .inv .in-step) (asked k .worker-of .ensures)) (k .before .turn-in .ensures .0) (e .if1 .left) (sym (r .reply .given .1))
+          (other (r .reply .given .1) (c .if2 .left));
+      in-step = steps _ _ (v .sequence _ (asked k .before .loop-test .taken) .workers) (v .in-step) (followed k .following .ensures);
     }
 
-returns-4 : tie.Need-returns-4 Inv-loop μ-loop
-returns-4 c run v = spent (c .before .loop .inv .along run v) (c .loop-test .left)
+returns-3 : tie.Need-returns-3 Inv-loop μ-loop
+returns-3 c = spent (c .before .loop .inv .along) (c .loop-test .left)
 
 pub take-turns-spec : {M : Type 1} → statement M
 take-turns-spec =
@@ -153,21 +141,17 @@ take-turns-spec =
     μ-loop
     loop-holds
     worker-of-requires
+    following-requires
+    turn-in-requires
+    cast-stopped
     stopped-requires
     returns
-    stopped-requires-2
-    returns-2
-    mul-worker
-    array-copy-out-worker
-    take-turn-requires
-    mul-workers
-    array-set-from-workers
     add-i
     enum-known-reply
     loop-less
     loop-again
-    cast-if3
-    returns-3
+    cast-if2
+    returns-2
     loop-less-2
     loop-again-2
-    returns-4)
+    returns-3)

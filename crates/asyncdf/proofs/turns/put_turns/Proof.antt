@@ -1,6 +1,6 @@
 -- `asyncdf::turns::put_turns` meets its contract: nothing is put of a run that has ended or of an empty order but its end, the blank record's turns are refused with 30, and else the turns are
--- taken on copies of the record's arrays.
-use mathlib.Core.Path.{_≡_, refl, sym, ap}
+-- taken on the blocks into which the record was copied.
+use mathlib.Core.Path.{_≡_, refl, sym, ap, subst}
 use Prim.Native.Nat.{ℕ, _+_, _*_, _^_, _<_}
 use mathlib.Core.List.{List, [], _∷_}
 use mathlib.Core.Bool.{Bool, true, false}
@@ -18,12 +18,12 @@ use Rattle.schedule.specs.Turn.{unsound}
 use Rattle.schedule.specs.Listing.{lastWith}
 use Rattle.lines.specs.Puts.{Puts}
 use Rattle.soundness.proofs.Passed.{has-workers}
-use Rattle.lent.specs.declared.Moved.{Moved}
-use Rattle.lent.specs.Packed.{movedOf, packedOf}
-use Rattle.asyncdf.specs.Code.Drives.{Moving}
+use Rattle.cells.specs.Memory.{Memory, movedIn}
+use Rattle.cells.specs.Stands.{runIn}
+use Rattle.asyncdf.specs.Code.Packing.{memoryFor}
 use Rattle.asyncdf.specs.Code.Sheets.{turnsTexts, widest, overTexts}
 use Rattle.lent.proofs.Answers.{turned-none, root-over, root-open}
-use Rattle.asyncdf.proofs.Moving.{arraysOf, table-room, first-moving}
+use Rattle.asyncdf.proofs.Moving.{table-room, first-is, first-moving}
 use Rattle.asyncdf.proofs.Ordered.{texts-refused, start, ended, exhausted, refused}
 use Rattle.asyncdf.proofs.turns.put_turns.Statement.{statement}
 use Rattle.asyncdf.proofs.turns.put_turns.Tie as tie
@@ -48,9 +48,9 @@ module _ (chart : Bool) (run : Run) (order : List ℕ) {out o : List ℕ} {at r 
         (λ rest. texts-refused run (getD order 0 0) (root-open run n) (turned-none run (getD order 0 0) u (omega arith)) chart rest refl) p
 
   -- from the record itself
-  puts : {size first : ℕ} (under over : List ℕ) {m : Moved} → m ≡ movedOf run first → Puts out at o r (turnsTexts chart (packedOf run (arraysOf run under over) (run .worker) m) order) size
+  puts : {size : ℕ} → Steady run → (parents : List ℕ) {M : Memory} → M ≡ memoryFor run parents → Puts out at o r (turnsTexts chart (runIn (bytesOf run) M) order) size
       → Puts out at o r (turnsTexts chart run order) size
-  puts under over e x = rw e at x
+  puts {size} h parents e x = subst (λ (y : Run). Puts out at o r (turnsTexts chart y order) size) (first-is h parents e) x
 
 turns-fit : (s : tie.Start) → s .args .run .turns < 2 ^ 64
 turns-fit s = search needs
@@ -66,28 +66,15 @@ going c = c .before .before .before
 steady : (c : tie.Else3) → Steady (entry (going c) .args .run)
 steady c = has-workers _ (entry (going c) .pre .0) (some (c .if3 .left)) .steady
 
--- the second list filled, and after it the threads and the root's end read
-abbrev filled : tie.After-threads → tie.After-fill-actives
-filled c = c .before .before
+-- the record was copied, and the root's end read
+abbrev tested : tie.After-pack → tie.Else3
+tested c = c .before .before .before .before .before .before .before .before
 
-abbrev all-tests : tie.After-threads → tie.Else3
-all-tests c = filled c .before .before .before .before .before .before .before .before .before .before .before .before
+abbrev copied : tie.After-put-each-arg → tie.After-pack
+copied c = c .before .before .before .before .before .before
 
-abbrev read : tie.After-moved-in → tie.After-threads
-read c = c .before .before .before .before .before .before .before .before .before
-
-abbrev begun : tie.After-moved-in → tie.Start
-begun c = entry (going (all-tests (read c)))
-
-moving : (c : tie.After-moved-in)
-    → Moving (begun c .args .run) (bytesOf (begun c .args .run)) (read c .threads .result) (c .before .before .before .before .before .before .before .before .root-end .result)
-    (begun c .args .run .workers) (begun c .args .run .quota) (now (begun c .args .parents))
-    (arraysOf (begun c .args .run) (filled (read c) .fill-actives .last .1 .1 .1 .0) (filled (read c) .fill-actives .last .1 .1 .1 .1 .0)) (begun c .args .run .worker) (c .moved-in .result)
-moving c =
-    let s = begun c in
-    let e = all-tests (read c) in
-    first-moving (steady e) (root-open _ (going e .if1 .left)) (read c .threads .ensures .value) (c .before .before .before .before .before .before .before .before .root-end .ensures) (s .pre .1 .0 (some (e .if3 .left)))
-    (filled (read c) .fill-actives .ensures) (turns-fit s) (c .moved-in .ensures)
+abbrev begun : tie.After-put-each-arg → tie.Start
+begun c = entry (going (tested (copied c)))
 
 array-read-if1 : tie.Need-array-read-if1
 array-read-if1 c = search needs
@@ -135,27 +122,29 @@ cast-length c = search needs
 array-share-prefix-table : tie.Need-array-share-prefix-table
 array-share-prefix-table c = table-room (steady (c .before .before))
 
-slice-aggregate-bytes : tie.Need-slice-aggregate-bytes
-slice-aggregate-bytes c =
+slice-aggregate-table : tie.Need-slice-aggregate-table
+slice-aggregate-table c =
     let e = c .before .before .before in
     sym (length-take-le (entry (going e) .args .run .length) (entry (going e) .args .run .table) (table-room (steady e)))
 
-fill-actives-requires : tie.Need-fill-actives-requires
-fill-actives-requires c κs = search needs
-
-threads-requires : tie.Need-threads-requires
-threads-requires c κs = search needs
+pack-requires : tie.Need-pack-requires
+pack-requires c κs = search needs
 
 root-end-requires : tie.Need-root-end-requires
-root-end-requires c κs = steady (all-tests c) .table
-
-moved-in-requires : tie.Need-moved-in-requires
-moved-in-requires c κs = search needs
+root-end-requires c κs = steady (tested c) .table
 
 put-each-requires : tie.Need-put-each-requires
 put-each-requires c κs =
-    let m = c .before in
-    (record { run = begun m .args .run; moving = moving m }, λ x. omega (arith, ap (λ (y : Moved). y .turns) (m .moved-in .ensures), begun m .pre .1 .1 x))
+    let s = begun c in
+    let m = copied c .pack .ensures in
+    let e = tested (copied c) in (
+      first-moving (steady e) (now (s .args .parents)) m (root-open _ (going e .if1 .left)) (c .before .before .before .before .before .root-end .ensures) (s .pre .1 .0 (some (e .if3 .left)))
+          (turns-fit s),
+      (
+        ap (λ (x : Memory). getD (x .settings) 0 0) (sym m),
+        λ x. omega (arith, ap (λ (y : Memory). movedIn y .turns) m, s .pre .1 .1 x),
+      ),
+    )
 
 same-length-4 : tie.Need-same-length-4
 same-length-4 c = search needs
@@ -163,9 +152,9 @@ same-length-4 c = search needs
 returns-4 : tie.Need-returns-4
 returns-4 c =
     let p = c .before .before in
-    let m = p .before .before in
-    let a = begun m .args in
-    puts (a .chart) (a .run) (now (a .order)) [] [] (m .moved-in .ensures) (p .put-each .ensures (a .run) (moving m))
+    let k = p .before in
+    let a = begun k .args in
+    puts (a .chart) (a .run) (now (a .order)) (steady (tested (copied k))) (now (a .parents)) (copied k .pack .ensures) (p .put-each .ensures)
 
 pub put-turns-spec : {M : Type 1} → statement M
 put-turns-spec =
@@ -183,11 +172,9 @@ put-turns-spec =
     returns-3
     cast-length
     array-share-prefix-table
-    slice-aggregate-bytes
-    fill-actives-requires
-    threads-requires
+    slice-aggregate-table
+    pack-requires
     root-end-requires
-    moved-in-requires
     put-each-requires
     same-length-4
     returns-4)

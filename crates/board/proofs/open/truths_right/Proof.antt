@@ -6,7 +6,7 @@ use denote.Ref.{now}
 use lib.Dec.{ltb}
 use lib.ListN.{getD}
 use Rattle.soundness.proofs.Every.{Passed, passed-none, passed-more, passed-fails, passed-all}
-use Rattle.board.specs.Stands.{truths}
+use Rattle.cells.specs.Stands.{truths}
 use Rattle.board.proofs.open.truths_right.Statement.{statement}
 use Rattle.board.proofs.open.truths_right.Tie as tie
 

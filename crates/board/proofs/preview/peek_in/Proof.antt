@@ -5,7 +5,7 @@ use mathlib.Core.List.{List}
 use denote.Ref.{now}
 use Rattle.lent.specs.Arrays.{arrays}
 use Rattle.peek.specs.Peeked.{peekedOf}
-use Rattle.board.specs.Lent.{Memory, memory}
+use Rattle.cells.specs.Memory.{Memory, memory}
 use Rattle.board.proofs.Turns.{turned-as}
 use borrow.Author.Needs.{needs}
 use Rattle.board.proofs.preview.peek_in.Statement.{statement}

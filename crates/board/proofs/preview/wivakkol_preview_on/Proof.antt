@@ -5,7 +5,7 @@ use native.Mathlib.Omega.{arith}
 use borrow.Author.Tests.{not-true, not-false}
 use denote.Ref.{now}
 use Rattle.lent.specs.Arrays.{arrays}
-use Rattle.board.specs.Lent.{Memory, memory}
+use Rattle.cells.specs.Memory.{Memory, memory}
 use Rattle.board.proofs.Previews.{shows-hindrance, shows-no-place, shows-unfit, shows-turn}
 use borrow.Author.Needs.{needs}
 use Rattle.board.proofs.preview.wivakkol_preview_on.Statement.{statement}

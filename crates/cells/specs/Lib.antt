@@ -1,0 +1,4 @@
+pub mod Memory
+pub mod Blocks
+pub mod Stands
+pub mod Code

@@ -1,2 +1,0 @@
--- promises between the parts of the code
-pub mod Steps
