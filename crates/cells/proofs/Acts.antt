@@ -18,7 +18,7 @@ use Rattle.lent.specs.Turn.{nextFits, amountFits, actOn}
 use Rattle.cells.specs.declared.act.Went.{Went}
 use Rattle.cells.specs.Memory.{Memory, movedIn}
 use Rattle.cells.specs.Blocks.{Bytes, Words, Numbers, Sums, bytesIn, wordsIn, numbersIn, sumsIn, gathered, memoryOf}
-use Rattle.cells.specs.Code.Cells.{statused, rowed, amounted, settled, settledWords, settledNumbers, heldSums}
+use Rattle.cells.specs.Code.Cells.{statused, rowed, amounted, settled, settledWords, settledNumbers, heldSums, holdsIn, having, seatedBytes}
 use Rattle.cells.specs.Code.Acts.{Gone, gone, wentIn, seatedQuota, acted, Seated}
 
 -- ---- for every action
@@ -39,17 +39,6 @@ set-again (v ∷ l) (suc t) x y = ap (λ (m : List ℕ). v ∷ m) (set-again l t
 pub set-seated : (b : Bool) (l : List ℕ) (t x y : ℕ) → set (pick b l (set l t x)) t y ≡ set l t y
 set-seated true l t x y = refl
 set-seated false l t x y = set-again l t x y
-
--- whether worker w holds a thread
-abbrev pub holdsIn : ℕ → Bytes → Bool
-holdsIn w B = not (eqb (getD (B .holds) w 0) 0)
-
-abbrev pub having : ℕ → ℕ → Worker
-having t quota = record { holds = true; thread = t; quota = quota }
-
--- the bytes once worker w has thread t, its own or one that it takes
-abbrev pub seatedBytes : ℕ → ℕ → Bytes → Bytes
-seatedBytes w t B = record { status = pick (holdsIn w B) (B .status) (set (B .status) t held); holds = B .holds }
 
 pub seated-own : {X : Bytes} (B : Bytes) (w t : ℕ) → holdsIn w B ≡ true → X ≡ B → X ≡ seatedBytes w t B
 seated-own B w t h e = e ∙ (rw h)

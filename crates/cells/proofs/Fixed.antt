@@ -4,11 +4,11 @@ use Prim.Native.Nat.{ℕ, _+_, _-_, _*_, _≤_, _<_}
 use native.Mathlib.Omega.{arith}
 use native.Mathlib.Decide.{decLt}
 use borrow.Author.Tests.{lt-ltb}
-use mathlib.Core.List.{List}
+use mathlib.Core.List.{List, []}
 use lib.ListN.{length, getD}
 use lib.Seq.{ext-getD}
 use Rattle.cells.specs.Memory.{Memory}
-use Rattle.cells.specs.Blocks.{part, rowIn, memoryOf}
+use Rattle.cells.specs.Blocks.{part, Bytes, Words, Numbers, Sums, rowIn, bytesIn, wordsIn, numbersIn, sumsIn, gathered, memoryOf}
 use Rattle.cells.proofs.Parts.{part-get}
 
 module _ (l k : List ℕ) where
@@ -92,3 +92,17 @@ module _ (b w n s b' w' n' s' : List ℕ) (e : memoryOf b w n s ≡ memoryOf b' 
           (λ c. below 4096 i (λ u. row 3 i (omega arith) (ap (λ (M : Memory). M .arrays .right) e) (omega arith) (omega arith))
           (λ d. below 5120 i (λ u. row 4 i (omega arith) (ap (λ (M : Memory). M .arrays .under) e) (omega arith) (omega arith))
           (λ f. below 6144 i (λ u. row 5 i (omega arith) (ap (λ (M : Memory). M .arrays .over) e) (omega arith) (omega arith)) (λ g. rest i g h))))))
+
+-- ---- so is a promise on what stands in one block: beside it any other three will do
+
+pub bytes-alone : (b b' : List ℕ) → bytesIn b ≡ bytesIn b' → length b ≡ 1040 → length b' ≡ 1040 → b ≡ b'
+bytes-alone b b' e = bytes-fixed b [] [] [] b' [] [] [] (ap (λ (B : Bytes). gathered B (wordsIn []) (numbersIn []) (sumsIn [])) e)
+
+pub words-alone : (w w' : List ℕ) → wordsIn w ≡ wordsIn w' → length w ≡ 6163 → length w' ≡ 6163 → w ≡ w'
+words-alone w w' e = words-fixed [] w [] [] [] w' [] [] (ap (λ (W : Words). gathered (bytesIn []) W (numbersIn []) (sumsIn [])) e)
+
+pub numbers-alone : (n n' : List ℕ) → numbersIn n ≡ numbersIn n' → length n ≡ 18 → length n' ≡ 18 → n ≡ n'
+numbers-alone n n' e = numbers-fixed [] [] n [] [] [] n' [] (ap (λ (N : Numbers). gathered (bytesIn []) (wordsIn []) N (sumsIn [])) e)
+
+pub sums-alone : (s s' : List ℕ) → sumsIn s ≡ sumsIn s' → length s ≡ 1027 → length s' ≡ 1027 → s ≡ s'
+sums-alone s s' e = sums-fixed [] [] [] s [] [] [] s' (ap (λ (S : Sums). gathered (bytesIn []) (wordsIn []) (numbersIn []) S) e)

@@ -5,7 +5,7 @@ mod Numbers
 mod Copied
 mod Linking
 mod Acts
-mod Listing
+mod ListActs
 mod Takes
 pub mod Fixed
 pub mod Turning

@@ -45,18 +45,17 @@ use table::kinds::JOIN;
 use table::read::argument_in;
 use table::read::code_in;
 ghost use mathlib.Core.Path.{_≡_};
-ghost use mathlib.Core.Bool.{true, false, not};
+ghost use mathlib.Core.Bool.{true, false};
 ghost use Prim.Native.Nat.{ℕ, _+_, _^_, _<_};
-ghost use lib.ListN.{getD, set};
-ghost use lib.Dec.{eqb};
+ghost use lib.ListN.{getD};
 ghost use Rattle.table.specs.Sum.{pick};
 ghost use Rattle.table.specs.Format.{Table, codeAt, argumentAt, kind, work, alloc, free, fork, join, end, unknown};
 ghost use Rattle.schedule.specs.declared.Reply.the-variants.{Idle, Done};
-ghost use Rattle.schedule.specs.Machine.{held, ended, nobody};
+ghost use Rattle.schedule.specs.Machine.{ended, nobody};
 ghost use Rattle.lent.specs.Turn.{waitsIn};
 ghost use Rattle.lent.specs.Counted.{busyAfter};
 ghost use Rattle.cells.specs.Blocks.{bytesIn, wordsIn, numbersIn, sumsIn, memoryOf};
-ghost use Rattle.cells.specs.Code.Cells.{settled, settledWords, settledNumbers, heldSums};
+ghost use Rattle.cells.specs.Code.Cells.{holdsIn, having, seatedBytes, Room, settled, settledWords, settledNumbers, heldSums};
 ghost use Rattle.cells.specs.Code.Acts.{gone, acted, Seated};
 
 // Whether all fitted, and the reply; if not, nothing was moved.
@@ -120,9 +119,9 @@ fn settle(
     w: usize,
     after: Worker,
 )
-    requires { ⌜ (w < 16) × (eqb (getD (bytesIn (now bytes) .holds) w 0) 0 ≡ true → wordsIn (now words) .busy + 2 ^ w < 65536) ⌝ }
+    requires { ⌜ Room w (bytesIn (now bytes)) (wordsIn (now words)) ⌝ }
     ensures { λ _. ⌜ bytesIn (now (bytes .exit)) ≡ settled w after (bytesIn (now (bytes .entry))) ⌝ }
-    ensures { λ _. ⌜ wordsIn (now (words .exit)) ≡ settledWords w (not (eqb (getD (bytesIn (now (bytes .entry)) .holds) w 0) 0)) after (wordsIn (now (words .entry))) ⌝ }
+    ensures { λ _. ⌜ wordsIn (now (words .exit)) ≡ settledWords w (holdsIn w (bytesIn (now (bytes .entry)))) after (wordsIn (now (words .entry))) ⌝ }
     ensures { λ _. ⌜ numbersIn (now (numbers .exit)) ≡ settledNumbers w after (numbersIn (now (numbers .entry))) ⌝ }
 {
     let before = holds_at(&*bytes, w);
@@ -135,9 +134,9 @@ fn settle(
 
 // "w is released"
 fn let_go(bytes: &mut [u8; 1040], words: &mut [u16; 6163], numbers: &mut [u32; 18], w: usize)
-    requires { ⌜ (w < 16) × (eqb (getD (bytesIn (now bytes) .holds) w 0) 0 ≡ true → wordsIn (now words) .busy + 2 ^ w < 65536) ⌝ }
+    requires { ⌜ Room w (bytesIn (now bytes)) (wordsIn (now words)) ⌝ }
     ensures { λ _. ⌜ bytesIn (now (bytes .exit)) ≡ settled w nobody (bytesIn (now (bytes .entry))) ⌝ }
-    ensures { λ _. ⌜ wordsIn (now (words .exit)) ≡ settledWords w (not (eqb (getD (bytesIn (now (bytes .entry)) .holds) w 0) 0)) nobody (wordsIn (now (words .entry))) ⌝ }
+    ensures { λ _. ⌜ wordsIn (now (words .exit)) ≡ settledWords w (holdsIn w (bytesIn (now (bytes .entry)))) nobody (wordsIn (now (words .entry))) ⌝ }
     ensures { λ _. ⌜ numbersIn (now (numbers .exit)) ≡ settledNumbers w nobody (numbersIn (now (numbers .entry))) ⌝ }
 {
     let worker = Worker {
@@ -150,7 +149,7 @@ fn let_go(bytes: &mut [u8; 1040], words: &mut [u16; 6163], numbers: &mut [u32; 1
 
 // The quota left to worker w: its own, or the whole quota where it takes a thread.
 fn quota_left(bytes: &[u8; 1040], numbers: &[u32; 18], w: usize) -> u32
-    ensures { λ r. ⌜ r ≡ pick (not (eqb (getD (bytesIn (now (bytes .entry)) .holds) w 0) 0)) (getD (numbersIn (now (numbers .entry)) .quotas) w 0) (numbersIn (now (numbers .entry)) .quota) ⌝ }
+    ensures { λ r. ⌜ r ≡ pick (holdsIn w (bytesIn (now (bytes .entry)))) (getD (numbersIn (now (numbers .entry)) .quotas) w 0) (numbersIn (now (numbers .entry)) .quota) ⌝ }
 {
     if holds_at(bytes, w) {
         quota_at(numbers, w)
@@ -168,11 +167,10 @@ fn keep(
     t: u16,
     quota: u32,
 )
-    requires { ⌜ (w < 16) × (eqb (getD (bytesIn (now bytes) .holds) w 0) 0 ≡ true → wordsIn (now words) .busy + 2 ^ w < 65536) ⌝ }
-    ensures { λ _. ⌜ bytesIn (now (bytes .exit)) ≡ settled w (record { holds = true; thread = t; quota = quota })
-        (record { status = pick (not (eqb (getD (bytesIn (now (bytes .entry)) .holds) w 0) 0)) (bytesIn (now (bytes .entry)) .status) (set (bytesIn (now (bytes .entry)) .status) t held); holds = bytesIn (now (bytes .entry)) .holds }) ⌝ }
-    ensures { λ _. ⌜ wordsIn (now (words .exit)) ≡ settledWords w (not (eqb (getD (bytesIn (now (bytes .entry)) .holds) w 0) 0)) (record { holds = true; thread = t; quota = quota }) (wordsIn (now (words .entry))) ⌝ }
-    ensures { λ _. ⌜ numbersIn (now (numbers .exit)) ≡ settledNumbers w (record { holds = true; thread = t; quota = quota }) (numbersIn (now (numbers .entry))) ⌝ }
+    requires { ⌜ Room w (bytesIn (now bytes)) (wordsIn (now words)) ⌝ }
+    ensures { λ _. ⌜ bytesIn (now (bytes .exit)) ≡ settled w (having t quota) (seatedBytes w t (bytesIn (now (bytes .entry)))) ⌝ }
+    ensures { λ _. ⌜ wordsIn (now (words .exit)) ≡ settledWords w (holdsIn w (bytesIn (now (bytes .entry)))) (having t quota) (wordsIn (now (words .entry))) ⌝ }
+    ensures { λ _. ⌜ numbersIn (now (numbers .exit)) ≡ settledNumbers w (having t quota) (numbersIn (now (numbers .entry))) ⌝ }
 {
     if !holds_at(&*bytes, w) {
         put_status(bytes, t, HELD);

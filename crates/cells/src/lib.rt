@@ -24,7 +24,7 @@ use schedule::statuses::ENDED;
 use table::read::bodies;
 use table::read::threads;
 ghost use mathlib.Core.Path.{_≡_};
-ghost use mathlib.Core.Bool.{not, _&&_};
+ghost use mathlib.Core.Bool.{_&&_};
 ghost use lib.ListN.{getD};
 ghost use lib.Dec.{eqb};
 ghost use Rattle.table.specs.Sum.{pick};
@@ -34,6 +34,7 @@ ghost use Rattle.lent.specs.Counted.{passedAlong};
 ghost use Rattle.cells.specs.Memory.{told, takenIn, turnIn, passedOver};
 ghost use Rattle.cells.specs.Memory.{hindrance as hindranceOf};
 ghost use Rattle.cells.specs.Blocks.{bytesIn, wordsIn, memoryOf};
+ghost use Rattle.cells.specs.Code.Cells.{holdsIn};
 
 mod act;
 pub mod copies;
@@ -74,7 +75,7 @@ pub fn hindrance(turns: u64, p: u32, w: u32, root: u8) -> u32
 
 // The thread with which worker w goes on: its own, or the leftmost ready one, which it takes; NO_THREAD where none is ready. The search goes along the second list, past held threads alone.
 fn thread_for(bytes: &[u8; 1040], words: &[u16; 6163], w: usize) -> u16
-    ensures { λ r. ⌜ r ≡ pick (not (eqb (getD (bytesIn (now (bytes .entry)) .holds) w 0) 0)) (getD (wordsIn (now (words .entry)) .threads) w 0)
+    ensures { λ r. ⌜ r ≡ pick (holdsIn w (bytesIn (now (bytes .entry)))) (getD (wordsIn (now (words .entry)) .threads) w 0)
         (seekOf 1024 (bytesIn (now (bytes .entry)) .status) (wordsIn (now (words .entry)) .rows 5) (wordsIn (now (words .entry)) .first) .thread) ⌝ }
 {
     if holds_at(bytes, w) {

@@ -1,10 +1,8 @@
 // The numbers of a run at their places in the four blocks (specs/Blocks): each read and each write of one, whatever stands there. A read outside a row gives 0, and a write there does nothing.
 ghost use mathlib.Core.Path.{_≡_};
-ghost use mathlib.Core.Bool.{not};
 ghost use lib.ListN.{length, getD};
-ghost use lib.Dec.{eqb};
 ghost use Rattle.cells.specs.Blocks.{bytesIn, wordsIn, numbersIn, sumsIn};
-ghost use Rattle.cells.specs.Code.Cells.{statused, holding, rowed, threaded, headAt, headed, settingAt, setTo, quotaed, amounted, totalAt, totalled};
+ghost use Rattle.cells.specs.Code.Cells.{holdsIn, statused, holding, rowed, threaded, headAt, headed, settingAt, setTo, quotaed, amounted, totalAt, totalled};
 
 // the rows of the words, a number for each thread
 pub const PARENTS: usize = 0;
@@ -98,7 +96,7 @@ pub fn put_status(bytes: &mut [u8; 1040], t: u16, x: u8)
 
 // Whether worker w holds a thread.
 pub fn holds_at(bytes: &[u8; 1040], w: usize) -> bool
-    ensures { λ r. ⌜ r ≡ not (eqb (getD (bytesIn (now (bytes .entry)) .holds) w 0) 0) ⌝ }
+    ensures { λ r. ⌜ r ≡ holdsIn w (bytesIn (now (bytes .entry))) ⌝ }
 {
     if w < 16 { bytes[1024 + w] != 0 } else { false }
 }

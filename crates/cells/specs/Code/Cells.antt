@@ -1,11 +1,13 @@
 -- Writes of one number into a block, by what they do to what stands there. A write at a place outside its row does nothing.
-use Prim.Native.Nat.{ℕ, suc, max}
+use mathlib.Core.Path.{_≡_}
+use Prim.Native.Nat.{ℕ, suc, _+_, _^_, _<_, max}
 use mathlib.Core.List.{List, [], _∷_}
-use mathlib.Core.Bool.{Bool, _&&_}
+use mathlib.Core.Bool.{Bool, true, not, _&&_}
 use lib.ListN.{getD, set}
 use lib.Dec.{ltb, eqb}
 use Rattle.table.specs.Sum.{pick}
 use Rattle.schedule.specs.declared.Worker.{Worker}
+use Rattle.schedule.specs.Machine.{held}
 use Rattle.schedule.specs.Links.{noThread}
 use Rattle.lent.specs.Counted.{busyAfter}
 use Rattle.cells.specs.Blocks.{Bytes, Words, Numbers, Sums}
@@ -73,6 +75,22 @@ abbrev pub totalled : ℕ → ℕ → Sums → Sums
 totalled i x S = record { amounts = S .amounts; held = pick (eqb i 0) x (S .held); highest = pick (eqb i 1) x (S .highest); turns = pick (eqb i 2) x (S .turns) }
 
 -- ---- a worker's record
+
+-- whether worker w holds a thread
+abbrev pub holdsIn : ℕ → Bytes → Bool
+holdsIn w B = not (eqb (getD (B .holds) w 0) 0)
+
+-- it holds thread t, with this quota left
+abbrev pub having : ℕ → ℕ → Worker
+having t quota = record { holds = true; thread = t; quota = quota }
+
+-- the bytes once worker w has thread t, its own or one that it takes
+abbrev pub seatedBytes : ℕ → ℕ → Bytes → Bytes
+seatedBytes w t B = record { status = pick (holdsIn w B) (B .status) (set (B .status) t held); holds = B .holds }
+
+-- w is one of sixteen, and the set has room for its bit where it holds nothing
+abbrev pub Room : ℕ → Bytes → Words → Type 0
+Room w B W = (w < 16) × (eqb (getD (B .holds) w 0) 0 ≡ true → W .busy + 2 ^ w < 65536)
 
 abbrev pub settled : ℕ → Worker → Bytes → Bytes
 settled w after B = holding w (pick (after .holds) 1 0) B

@@ -12,7 +12,7 @@ use Rattle.lent.specs.Turn.{waitsIn}
 use Rattle.cells.specs.Blocks.{bytesIn, wordsIn, numbersIn, sumsIn, Bytes, Words}
 use Rattle.cells.specs.Code.Cells.{statused, linkedLeft, unlinked}
 use Rattle.cells.proofs.Acts.{room-in}
-use Rattle.cells.proofs.Listing.{let-go-as, woken-holds, woken-busy, end-done}
+use Rattle.cells.proofs.ListActs.{let-go-as, woken-holds, woken-busy, end-done}
 use borrow.Author.Needs.{needs}
 use Rattle.cells.proofs.act.act_end.Statement.{statement}
 use Rattle.cells.proofs.act.act_end.Tie as tie

@@ -12,7 +12,7 @@ use Rattle.lent.proofs.Leaves.{fits16, fits-and}
 use Rattle.cells.specs.Blocks.{Bytes, Words, bytesIn, wordsIn, numbersIn, sumsIn}
 use Rattle.cells.specs.Code.Cells.{statused, linkedLeft}
 use Rattle.cells.proofs.Acts.{room-in}
-use Rattle.cells.proofs.Listing.{unfit-as, let-go-as, fork-unfit, fork-done}
+use Rattle.cells.proofs.ListActs.{unfit-as, let-go-as, fork-unfit, fork-done}
 use borrow.Author.Needs.{needs}
 use Rattle.cells.proofs.act.act_fork.Statement.{statement}
 use Rattle.cells.proofs.act.act_fork.Tie as tie

@@ -5,7 +5,7 @@ use denote.Ref.{now}
 use Rattle.schedule.specs.Machine.{ended}
 use Rattle.cells.specs.Blocks.{Bytes, Words, bytesIn, wordsIn, numbersIn, sumsIn}
 use Rattle.cells.proofs.Acts.{room-in}
-use Rattle.cells.proofs.Listing.{unfit-as, let-go-as, join-outside, join-waits}
+use Rattle.cells.proofs.ListActs.{unfit-as, let-go-as, join-outside, join-waits}
 use borrow.Author.Needs.{needs}
 use Rattle.cells.proofs.act.act_join.Statement.{statement}
 use Rattle.cells.proofs.act.act_join.Tie as tie

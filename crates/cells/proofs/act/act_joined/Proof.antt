@@ -7,9 +7,9 @@ use denote.Ref.{now}
 use Rattle.lent.specs.Turn.{nextFits, amountFits}
 use Rattle.lent.proofs.Leaves.{fits16, fits64, fits-and}
 use Rattle.cells.specs.Blocks.{Words, bytesIn, wordsIn, numbersIn, sumsIn}
-use Rattle.cells.specs.Code.Cells.{amounted}
-use Rattle.cells.proofs.Acts.{gone-as, having, kept-words-as, room-in}
-use Rattle.cells.proofs.Listing.{unfit-as, join-unfit, join-done}
+use Rattle.cells.specs.Code.Cells.{amounted, having}
+use Rattle.cells.proofs.Acts.{gone-as, kept-words-as, room-in}
+use Rattle.cells.proofs.ListActs.{unfit-as, join-unfit, join-done}
 use borrow.Author.Needs.{needs}
 use Rattle.cells.proofs.act.act_joined.Statement.{statement}
 use Rattle.cells.proofs.act.act_joined.Tie as tie
