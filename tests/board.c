@@ -441,7 +441,7 @@ static void runs(void)
     }
     printf("stack");
     for (at = 0; at < 7; at++)
-        printf(" %zu", most[at] - around());
+        printf(" %zu", most[at] > 0 ? most[at] - around() : 0); /* 0 of a call that was not made */
     printf("\n");
 }
 

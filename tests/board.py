@@ -229,7 +229,7 @@ def main():
         given = ', '.join('%d: %d' % pair for pair in sorted(counter.items()))
         print('%s: %d of %d agree (by number: %s)' % (name, sum(counter.values()), len(drawn), given))
     print('examples/board.c: %d of %d agree' % (len(some), len(some)))
-    kinds, most = board_runs.compare(program, random.Random(21), [case.data for case in drawn[:3]], count // 2)
+    kinds, most = board_runs.compare(program, 21, [case.data for case in drawn[:3]], count // 2)
     for kind, counter in kinds.items():
         calls = [sum(counter['%s %d' % (call, x)] for x in numbers) for call, numbers in board_runs.NUMBERS.items()]
         told = ', '.join('%s: %d' % pair for pair in sorted(counter.items()) if pair[0] != 'runs')

@@ -1,5 +1,8 @@
 """Runs in lent memory, for tests/board.py: steps drawn for tests/board.c, with what lent.py says that each call answers and leaves."""
 import collections
+import concurrent.futures
+import functools
+import random
 import subprocess
 import sys
 
@@ -581,23 +584,38 @@ CLAUSES = ['length', 'table', 'beginning', *(clause.__name__ for clause in machi
 WANTED += ['open %s' % what for what in ('sound', 'blank', 'as it was', 'mended')] + ['%s %s' % (call, what) for call in ('open', 'chart') for what in CLAUSES]
 
 
-def compare(path, rng, whole, count):
-    """How often each thing was reached, by the kind of case, and the most stack: `whole` are tables to run in rounds of 16 workers, besides `count` drawn ones of each kind, or half as many."""
-    program, kinds = Program(path), {}
-    for kind, plays in (
+def parts(rng, whole, count):
+    """Runs of each kind: `whole` are tables to run in rounds of 16 workers, besides `count` drawn ones of each kind, or half as many."""
+    return (
         ('sound', (sound_run(rng, data, WORKERS, LARGEST, [i % WORKERS for i in range(300)]) for data in whole)),
         ('sound', (drawn_run(rng) for _ in range(count))),
         ('sound', (drawn_calls(rng) for _ in range(count // 2))),
-        ('sound', [made_up()]),
+        ('sound', (make() for make in [made_up])),
         ('damaged', (blank_run(rng, data) for data in (*whole, b'', bytes(100000)))),
         ('damaged', (opened_run(rng) for _ in range(count // 4))),
-        ('damaged', [idle_run()]),
+        ('damaged', (make() for make in [idle_run])),
         ('damaged', (damaged_run(rng) for _ in range(count))),
         ('random', (random_run(rng) for _ in range(count // 2))),
-    ):
-        for play in plays:
-            program.compare(play)
-            reached = kinds.setdefault(kind, collections.Counter())
-            reached.update(play.reached)
-            reached['runs'] += 1
-    return kinds, program.close()
+    )
+
+
+def compare_part(path, seed, whole, count, i):
+    """The kind of the runs of part i, how often each thing was reached in them, and the most stack."""
+    program, reached = Program(path), collections.Counter()
+    kind, plays = parts(random.Random(seed + i), whole, count)[i]
+    for play in plays:
+        program.compare(play)
+        reached.update(play.reached)
+        reached['runs'] += 1
+    return kind, reached, program.close()
+
+
+def compare(path, seed, whole, count):
+    """How often each thing was reached, by the kind of case, and the most stack. The parts run beside each other."""
+    kinds, most = {}, []
+    with concurrent.futures.ProcessPoolExecutor() as pool:
+        told = pool.map(functools.partial(compare_part, path, seed, whole, count), range(len(parts(None, whole, count))))
+        for kind, reached, stacks in told:
+            kinds.setdefault(kind, collections.Counter()).update(reached)
+            most = list(map(max, stacks, most or stacks))
+    return kinds, most

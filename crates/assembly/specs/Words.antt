@@ -1,10 +1,10 @@
 -- A text's lines, a line's words, and a word as a number.
-use Prim.Native.Nat.{ℕ, suc, _+_, _-_, _*_, min}
+use Prim.Native.Nat.{ℕ, suc, _+_, _-_, _*_, _≤_, _<_, min}
 use mathlib.Core.Path.{_≡_, refl}
 use mathlib.Core.List.{List, [], _∷_}
 use mathlib.Core.Bool.{Bool, true, false, not, _&&_, _||_}
 use lib.Dec.{eqb, leb, ltb}
-use lib.ListN.{length, getD, take}
+use lib.ListN.{length, getD, take, drop}
 use Rattle.table.specs.Sum.{pick}
 use Rattle.text.specs.Text.{ascii}
 use Rattle.assembly.specs.declared.scan.Class.{Class}
@@ -116,3 +116,19 @@ lines-example = refl
 number-example : numberIn (ascii "16777215") ≡ 16777215
 unfolding numberIn valueFrom
 number-example = refl
+
+-- ---- what the readers of lines promise
+
+-- a front of a list whose bytes pass a test, the longest
+pub record Spans (p : ℕ → Bool) (s : List ℕ) (r : ℕ) : Type 0 where
+  pub value : r ≡ spanOf p s
+  pub within : r ≤ length s
+
+-- a line's first word, from start to end; none where these are the same
+pub record FirstWord (s : List ℕ) (start end : ℕ) : Type 0 where
+  pub order : start ≤ end
+  pub within : end ≤ length s
+  pub starts : start ≡ spanOf (inClass Blank) s
+  pub ends : end ≡ start + spanOf (inClass Word) (drop start s)
+  pub none : start ≡ end → wordsIn s ≡ []
+  pub some : start < end → wordsIn s ≡ take (end - start) (drop start s) ∷ wordsIn (drop end s)

@@ -1,7 +1,6 @@
 // A walk over bytes of one class.
 ghost use mathlib.Core.Path.{_≡_};
-ghost use Rattle.assembly.specs.Words.{inClass};
-ghost use Rattle.assembly.specs.Code.Steps.{Spans};
+ghost use Rattle.assembly.specs.Words.{inClass, Spans};
 
 // What a line goes on with, what stands before a comment, what is between words, what a word goes on with.
 pub enum Class {

@@ -3,9 +3,9 @@ use crate::scan::Class;
 use crate::scan::span;
 ghost use mathlib.Core.Path.{_≡_};
 ghost use Prim.Native.Nat.{_≤_};
-ghost use Rattle.assembly.specs.Words.{noNumber, nextValue, zeroLed, same as isSame};
+ghost use Rattle.assembly.specs.Words.{noNumber, nextValue, zeroLed, same as isSame, FirstWord};
 ghost use Rattle.assembly.specs.Said.{codeOfWord};
-ghost use Rattle.assembly.specs.Code.Steps.{FirstWord, Valued};
+ghost use Rattle.assembly.specs.Code.Steps.{Valued};
 
 // The first that has no 24 bits: no number of a text.
 pub(crate) const NO_NUMBER: usize = 16777216;

@@ -6,7 +6,7 @@ use Rattle.schedule.specs.declared.Run.{Run}
 use Rattle.schedule.specs.Links.{Links}
 use Rattle.lent.specs.Arrays.{links}
 use Rattle.cells.specs.Blocks.{Bytes, Words, Numbers, Sums, gathered}
-use Rattle.cells.specs.Code.Cells.{headed, setTo, totalled, laidRow, statuses, amountsAre, manned, mannedWords, mannedNumbers}
+use Rattle.cells.specs.Places.{headed, setTo, totalled, laidRow, statuses, amountsAre, manned, mannedWords, mannedNumbers}
 use Rattle.asyncdf.specs.Code.Packing.{secondFor, rowsLaid, laidWords, laidSums, memoryFor}
 
 module _ (run : Run) where

@@ -20,7 +20,7 @@ use Rattle.lines.specs.Puts.{Puts}
 use Rattle.lines.proofs.Putting.{puts-within, puts-more}
 use Rattle.chart.specs.declared.Charted.the-variants.{Written}
 use Rattle.chart.specs.declared.Charted.the-variants.{Refused as refusedIt}
-use Rattle.chart.specs.Chart.{shown, charted}
+use Rattle.chart.specs.Chart.{figures, charted}
 use Rattle.asyncdf.specs.Code.Sheets.{turnsTexts, widest, afterTexts, overTexts}
 
 -- ---- the texts
@@ -50,7 +50,7 @@ module _ (r : Run) (w : ℕ) {t : Turned} (going : rootEnded r ≡ false) (e : t
     texts-many order h = rw (going, ← e, q, h)
 
     texts-taken : (chart : Bool) (order : List ℕ) → (chart ≡ true → charted (t .run) ≡ Written)
-        → turnsTexts chart r (w ∷ order) ≡ afterTexts chart (shown (t .run)) (line (t .run .turns) w (toldBy x (t .run)) (t .run .held)) ++ turnsTexts chart (t .run) order
+        → turnsTexts chart r (w ∷ order) ≡ afterTexts chart (figures (t .run)) (line (t .run .turns) w (toldBy x (t .run)) (t .run .held)) ++ turnsTexts chart (t .run) order
     unfolding turnsTexts linesThen
     texts-taken true order h = rw (going, ← e, q, h refl)
     texts-taken false order h = rw (going, ← e, q)
@@ -104,7 +104,7 @@ module _ {chart : Bool} {order out₀ : List ℕ} {at₀ : ℕ} {run₀ : Run} {
     -- a turn
     pub again : {t : Turned} {o : List ℕ} {r : ℕ} {x : Reply} {k : ℕ} → rootEnded run ≡ false → t ≡ turned run (getD order i 0) → t .answer ≡ Taken x k
         → (chart ≡ true → charted (t .run) ≡ Written) → length o ≡ length out
-        → Puts out at o r (afterTexts chart (shown (t .run)) (line (t .run .turns) (getD order i 0) (toldBy x (t .run)) (t .run .held))) (widest chart)
+        → Puts out at o r (afterTexts chart (figures (t .run)) (line (t .run .turns) (getD order i 0) (toldBy x (t .run)) (t .run .held))) (widest chart)
         → Listed chart order out₀ at₀ run₀ o (t .run) r (i + 1)
     again going e q c l p =
         record {

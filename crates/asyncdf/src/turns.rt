@@ -35,10 +35,10 @@ ghost use Rattle.cells.specs.Memory.{movedIn};
 ghost use Rattle.cells.specs.Stands.{runIn};
 ghost use Rattle.cells.specs.Blocks.{wordsIn, sumsIn, memoryOf};
 ghost use Rattle.asyncdf.specs.Code.Drives.{Moving};
-ghost use Rattle.asyncdf.specs.Code.Sheets.{turnsTexts, widest, lineIn, shownIn, afterTexts, afterSize, overTexts, hindered};
+ghost use Rattle.asyncdf.specs.Code.Sheets.{turnsTexts, widest, lineIn, figuresIn, afterTexts, afterSize, overTexts, hindered};
 
 // The action that a reply says was done, 0 where none was.
-fn action_in(reply: Reply) -> u16
+fn action_done(reply: Reply) -> u16
     ensures { λ r. ⌜ r ≡ actionIn reply ⌝ }
 {
     match reply {
@@ -80,7 +80,7 @@ fn put_step(
     ensures { λ r. ⌜ Puts (now (out .entry)) at (now (out .exit)) r
         (turnTexts (lineIn (tableOf (now (table .entry))) w reply (wordsIn (now (words .entry))) (sumsIn (now (sums .entry))))) 64 ⌝ }
 {
-    let code = code(table, threads(table), action_in(reply) as usize);
+    let code = code(table, threads(table), action_done(reply) as usize);
     let action = row_at(words, NEXT, thread_in(reply));
     let held = total_at(sums, HELD);
     put_turn(out, at, total_at(sums, TURNS), w, reply, code, action, held)
@@ -101,9 +101,9 @@ fn put_after(
     reply: Reply,
 ) -> usize
     ensures { λ r. ⌜ Puts (now (out .entry)) at (now (out .exit)) r
-        (afterTexts chart (shownIn p (memoryOf (now (bytes .entry)) (now (words .entry)) (now (numbers .entry)) (now (sums .entry))))
+        (afterTexts chart (figuresIn p (memoryOf (now (bytes .entry)) (now (words .entry)) (now (numbers .entry)) (now (sums .entry))))
         (lineIn (tableOf (now (table .entry))) w reply (wordsIn (now (words .entry))) (sumsIn (now (sums .entry)))))
-        (afterSize chart (shownIn p (memoryOf (now (bytes .entry)) (now (words .entry)) (now (numbers .entry)) (now (sums .entry))))) ⌝ }
+        (afterSize chart (figuresIn p (memoryOf (now (bytes .entry)) (now (words .entry)) (now (numbers .entry)) (now (sums .entry))))) ⌝ }
 {
     if chart {
         let workers = workers_out(bytes, words, numbers);

@@ -7,10 +7,6 @@ pub mod WallLines
 mod Turns
 mod Previews
 pub mod PreviewRefines
-pub mod LentLimit
-mod Numbered
-pub mod Shaped
-pub mod Sizes
-pub mod LentPromised
+pub mod Numbered
 mod Drives
 pub mod RunsRefine

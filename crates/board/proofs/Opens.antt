@@ -40,6 +40,7 @@ use Rattle.cells.specs.Memory.{Memory, movedIn, noRow, answer, hindrance, turnI
 use Rattle.board.specs.Lent.{runRow, lentRounds, blankMemory}
 use Rattle.cells.specs.Stands.{truths, workersFrom, workersIn, runIn, Stands}
 use Rattle.board.specs.Opened.{soundIn, blankIn, beside, openedIn, blankedIn, openedAs, lentOpen}
+use Rattle.board.specs.Code.Standing.{standingOf, standing}
 use Rattle.board.proofs.Begins.{too-many}
 
 -- ---- the record
@@ -257,22 +258,72 @@ module _ (s : List ℕ) (M : Memory) {p : ℕ} {workers : List Worker} (h : p �
 
 -- ---- the call's three answers
 
-pub none-seen : (T : Table) {x : Bool} {parents : List ℕ} → parents ≡ parentsIf x T → x ≡ false → parents ≡ replicate 1024 0
-none-seen T e f = e ∙ ap (λ (b : Bool). parentsIf b T) f
+pub seen-as : (T : Table) {x y : Bool} {parents : List ℕ} → parents ≡ parentsIf x T → x ≡ y → parents ≡ parentsIf y T
+seen-as T e d = e ∙ ap (λ (b : Bool). parentsIf b T) d
+
+pub none-seen : (T : Table) {n : ℕ} {parents : List ℕ} → parents ≡ parentsIf (eqb n 1) T → (n ≡ 1 → ⊥) → parents ≡ replicate 1024 0
+none-seen T {n} e h = seen-as T e (ne-eqb n 1 h)
 
 module _ (s : List ℕ) (M : Memory) {x : Bool} (e : x ≡ soundIn s M) where
-  pub opens-sound : x ≡ true → {parents : List ℕ} → parents ≡ parentsIf x (tableOf s) → {k : Links}
+  pub finds-sound : x ≡ true → 1 ≡ standing s M
+  unfolding standing
+  finds-sound h = rw (sym e ∙ h)
+
+  pub finds-blank : x ≡ false → {y : Bool} → y ≡ blankIn M → y ≡ true → 2 ≡ standing s M
+  unfolding standing
+  finds-blank h f g = rw (sym e ∙ h, sym f ∙ g)
+
+  pub finds-neither : x ≡ false → {y : Bool} → y ≡ blankIn M → y ≡ false → 0 ≡ standing s M
+  unfolding standing
+  finds-neither h f g = rw (sym e ∙ h, sym f ∙ g)
+
+module _ (s : List ℕ) (M : Memory) {n : ℕ} (e : n ≡ standing s M) where
+  is-sound : n ≡ 1 → soundIn s M ≡ true
+  unfolding standing
+  is-sound h = go (soundIn s M) (blankIn M) (sym e ∙ h)
+    where
+      go : (a b : Bool) → standingOf a b ≡ 1 → a ≡ true
+      go true b h = refl
+      go false true h = absurd (omega (arith, h))
+      go false false h = absurd (omega (arith, h))
+
+  not-sound : (n ≡ 1 → ⊥) → soundIn s M ≡ false
+  unfolding standing
+  not-sound h = go (soundIn s M) (blankIn M) (λ q. h (e ∙ q))
+    where
+      go : (a b : Bool) → (standingOf a b ≡ 1 → ⊥) → a ≡ false
+      go true b h = absurd (h refl)
+      go false b h = refl
+
+  is-blank : n ≡ 2 → blankIn M ≡ true
+  unfolding standing
+  is-blank h = go (soundIn s M) (blankIn M) (sym e ∙ h)
+    where
+      go : (a b : Bool) → standingOf a b ≡ 2 → b ≡ true
+      go true b h = absurd (omega (arith, h))
+      go false true h = refl
+      go false false h = absurd (omega (arith, h))
+
+  not-blank : (n ≡ 1 → ⊥) → (n ≡ 2 → ⊥) → blankIn M ≡ false
+  unfolding standing
+  not-blank h k = go (soundIn s M) (blankIn M) (λ q. h (e ∙ q)) (λ q. k (e ∙ q))
+    where
+      go : (a b : Bool) → (standingOf a b ≡ 1 → ⊥) → (standingOf a b ≡ 2 → ⊥) → b ≡ false
+      go true b h k = absurd (h refl)
+      go false true h k = absurd (k refl)
+      go false false h k = refl
+
+  pub opens-sound : n ≡ 1 → {parents : List ℕ} → parents ≡ parentsIf (eqb n 1) (tableOf s) → {k : Links}
       → k ≡ filledFrom 1024 (M .arrays .status) (M .arrays .right) (getD (M .heads) 0 0) noThread noLinks → answer 0 (0 ∷ []) (beside parents k M) ≡ lentOpen s M
   unfolding lentOpen
   opens-sound h {parents} p {k} q =
-      let here : soundIn s M ≡ true = sym e ∙ h in
-      let p' : parents ≡ parentsIn (tableOf s) = p ∙ ap (λ (b : Bool). parentsIf b (tableOf s)) h in
-      rw here (λ i. answer 0 (0 ∷ []) (beside (p' i) (q i) M))
+      let p' : parents ≡ parentsIn (tableOf s) = p ∙ ap (λ (b : Bool). parentsIf b (tableOf s)) (eq-eqb n 1 h) in
+      rw (is-sound h) (λ i. answer 0 (0 ∷ []) (beside (p' i) (q i) M))
 
-  pub opens-blank : x ≡ false → {y : Bool} → y ≡ blankIn M → y ≡ true → answer 0 (0 ∷ []) (blankedIn M) ≡ lentOpen s M
+  pub opens-blank : (n ≡ 1 → ⊥) → n ≡ 2 → answer 0 (0 ∷ []) (blankedIn M) ≡ lentOpen s M
   unfolding lentOpen
-  opens-blank h f g = rw (sym e ∙ h, sym f ∙ g)
+  opens-blank h k = rw (not-sound h, is-blank k)
 
-  pub opens-refused : x ≡ false → {y : Bool} → y ≡ blankIn M → y ≡ false → answer 32 (0 ∷ []) M ≡ lentOpen s M
+  pub opens-refused : (n ≡ 1 → ⊥) → (n ≡ 2 → ⊥) → answer 32 (0 ∷ []) M ≡ lentOpen s M
   unfolding lentOpen
-  opens-refused h f g = rw (sym e ∙ h, sym f ∙ g)
+  opens-refused h k = rw (not-sound h, not-blank h k)

@@ -6,9 +6,8 @@ use mathlib.Core.Bool.{Bool, true, false, _&&_}
 use borrow.Author.Tests.{le-ltb, eqb-false, ne-eqb}
 use lib.Dec.{ltb, eqb}
 use lib.ListN.{getD, set}
-use Rattle.table.specs.Sum.{pick}
+use Rattle.table.specs.Sum.{pick, Read}
 use Rattle.table.specs.Format.{Table, threadsOf, tableOf}
-use Rattle.table.specs.Code.Steps.{Read}
 use Rattle.table.proofs.Tests.{no-way}
 use native.Mathlib.Omega.{arith}
 use native.Mathlib.Decide.{decLt}

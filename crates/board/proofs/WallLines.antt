@@ -1,11 +1,11 @@
 -- A run's line from the memory lent: the checks, the text that fills the lent line, and that on a run that stands both are the record's (N5).
 use mathlib.Core.Path.{_≡_, refl, sym, ap, _∙_}
-use Prim.Native.Nat.{ℕ, min, _≤_}
+use Prim.Native.Nat.{ℕ, min, _≤_, _<_}
 use native.Mathlib.Omega.{arith}
 use native.Mathlib.Nat.{min-eq-left}
 use mathlib.Core.List.{List, []}
 use mathlib.Core.Bool.{Bool, true, false, not, _&&_}
-use borrow.Author.Tests.{ne-eqb}
+use borrow.Author.Tests.{lt-ltb, le-ltb, ne-eqb}
 use lib.Dec.{ltb}
 use lib.ListN.{length, getD}
 use Rattle.table.specs.Sum.{pick}
@@ -17,37 +17,53 @@ use Rattle.schedule.specs.Turn.{unsound}
 use Rattle.schedule.proofs.Stores.{steady-fits}
 use Rattle.schedule.proofs.Sound.Tests.{sound-exactly}
 use Rattle.chart.specs.declared.Charted.{Charted}
-use Rattle.chart.specs.Chart.{Shown, mostTurns, shownOf, shown, lineTexts, lineText, tooMany, charted, chartedIn, chartedValues, lineValues}
+use Rattle.chart.specs.Chart.{Figures, mostTurns, figuresOf, figures, lineTexts, lineText, tooMany, charted, chartedIn, chartedValues, lineValues}
 use Rattle.chart.proofs.Records.{line-filled, charted-unsound, charted-many, charted-written, charted-values}
 use Rattle.cells.specs.Memory.{Memory, movedIn}
 use Rattle.cells.specs.Stands.{workersIn, runIn, Stands}
 use Rattle.board.specs.Opened.{soundIn, blankIn, lineFault, lineAfter}
+use Rattle.board.specs.Code.Standing.{standingOf, standing}
 use Rattle.board.proofs.Opens.{sound-in, no-workers, blank-passed, stands-worked, stands-unsound}
 
 -- ---- the checks, as the code asks them
 
-module _ (s : List ℕ) (M : Memory) where
-  pub line-sound : {x : Bool} {n : ℕ} → x ≡ soundIn s M → x ≡ true → n ≡ pick (ltb mostTurns (getD (M .totals) 2 0)) 43 0 → n ≡ lineFault s M
-  unfolding lineFault
-  line-sound e h f = let d : soundIn s M ≡ true = sym e ∙ h in rw d f
+module _ (s : List ℕ) (M : Memory) {n : ℕ} (e : n ≡ standing s M) where
+  neither : n ≡ 0 → (not (soundIn s M) && not (blankIn M)) ≡ true
+  unfolding standing
+  neither h = go (soundIn s M) (blankIn M) (sym e ∙ h)
+    where
+      go : (a b : Bool) → standingOf a b ≡ 0 → (not a && not b) ≡ true
+      go true b h = absurd (omega (arith, h))
+      go false true h = absurd (omega (arith, h))
+      go false false h = refl
 
-  pub line-blank : {x y : Bool} {n : ℕ} → x ≡ soundIn s M → x ≡ false → y ≡ blankIn M → y ≡ true → n ≡ pick (ltb mostTurns (getD (M .totals) 2 0)) 43 0 → n ≡ lineFault s M
-  unfolding lineFault
-  line-blank e h f g i =
-      let d : soundIn s M ≡ false = sym e ∙ h in
-      let b : blankIn M ≡ true = sym f ∙ g in
-      rw (d, b) i
+  either : (n ≡ 0 → ⊥) → (not (soundIn s M) && not (blankIn M)) ≡ false
+  unfolding standing
+  either h = go (soundIn s M) (blankIn M) (λ q. h (e ∙ q))
+    where
+      go : (a b : Bool) → (standingOf a b ≡ 0 → ⊥) → (not a && not b) ≡ false
+      go true b h = refl
+      go false true h = refl
+      go false false h = absurd (h refl)
 
-  pub line-refused : {x y : Bool} → x ≡ soundIn s M → x ≡ false → y ≡ blankIn M → y ≡ false → 32 ≡ lineFault s M
+  pub line-refused : n ≡ 0 → 32 ≡ lineFault s M
   unfolding lineFault
-  line-refused e h f g = rw (sym e ∙ h, sym f ∙ g)
+  line-refused h = rw (neither h)
+
+  pub line-long : (n ≡ 0 → ⊥) → mostTurns < getD (M .totals) 2 0 → 43 ≡ lineFault s M
+  unfolding lineFault
+  line-long h t = rw (either h, lt-ltb mostTurns (getD (M .totals) 2 0) t)
+
+  pub line-passes : (n ≡ 0 → ⊥) → getD (M .totals) 2 0 ≤ mostTurns → 0 ≡ lineFault s M
+  unfolding lineFault
+  line-passes h t = rw (either h, le-ltb mostTurns (getD (M .totals) 2 0) t)
 
 -- ---- the text
 
 -- a record that passes both checks, with the memory's numbers
 record Shows (M : Memory) : Type 0 where
   run : Run
-  same : shown run ≡ shownOf (movedIn M .turns) (getD (M .settings) 0 0) (workersIn M) (movedIn M .totals .held)
+  same : figures run ≡ figuresOf (movedIn M .turns) (getD (M .settings) 0 0) (workersIn M) (movedIn M .totals .held)
   passes : unsound run ≡ false
   few-turns : tooMany run ≡ false
   few-workers : getD (M .settings) 0 0 ≤ 16
@@ -77,13 +93,13 @@ module _ (s : List ℕ) (M : Memory) where
       go false e false f t g h = absurd (omega (arith, h))
 
   pub line-written : {n : ℕ} → n ≡ lineFault s M → n ≡ 0 → {p : ℕ} → p ≡ min (getD (M .settings) 0 0) 17 → {workers : List Worker} → workers ≡ workersIn M → (line out : List ℕ) (k : ℕ) → length line ≡ 85
-      → bufferAt out k ≡ putAll (bufferAt line 0) (lineTexts (shownOf (getD (M .totals) 2 0) p workers (getD (M .totals) 0 0))) → out ≡ lineAfter 0 M line
+      → bufferAt out k ≡ putAll (bufferAt line 0) (lineTexts (figuresOf (getD (M .totals) 2 0) p workers (getD (M .totals) 0 0))) → out ≡ lineAfter 0 M line
   unfolding lineAfter
   line-written e z {p} h {workers} w line out k size put =
       let g = shows (sym e ∙ z) in
       let q : p ≡ getD (M .settings) 0 0 = h ∙ min-eq-left (omega (arith, g .few-workers)) in
-      let x : shownOf (getD (M .totals) 2 0) p workers (getD (M .totals) 0 0) ≡ shown (g .run) = (λ i. shownOf (getD (M .totals) 2 0) (q i) (w i) (getD (M .totals) 0 0)) ∙ sym (g .same) in
-      line-filled (g .run) line out k (g .passes) (g .few-turns) size (put ∙ ap (λ (y : Shown). putAll (bufferAt line 0) (lineTexts y)) x) ∙ ap lineText (g .same)
+      let x : figuresOf (getD (M .totals) 2 0) p workers (getD (M .totals) 0 0) ≡ figures (g .run) = (λ i. figuresOf (getD (M .totals) 2 0) (q i) (w i) (getD (M .totals) 0 0)) ∙ sym (g .same) in
+      line-filled (g .run) line out k (g .passes) (g .few-turns) size (put ∙ ap (λ (y : Figures). putAll (bufferAt line 0) (lineTexts y)) x) ∙ ap lineText (g .same)
 
 pub line-kept : (M : Memory) {n : ℕ} → (n ≡ 0 → ⊥) → (line : List ℕ) → line ≡ lineAfter n M line
 unfolding lineAfter

@@ -10,7 +10,8 @@ use Rattle.table.specs.declared.Found.{Found}
 use Rattle.table.specs.declared.Found.the-variants.{Nothing, At}
 use Rattle.schedule.specs.Machine.{ready, ended}
 use Rattle.schedule.specs.Links.{noThread}
-use Rattle.schedule.specs.Record.{maxThreads, maxWorkers}
+use Rattle.table.specs.Checks.{maxThreads}
+use Rattle.schedule.specs.Record.{maxWorkers}
 use Rattle.schedule.specs.Answers.{Said, nothing, finished, spent}
 use Rattle.schedule.specs.Runs.{workerAt}
 use Rattle.soundness.specs.Tested.{parentsIn, nextIf, beginFound}

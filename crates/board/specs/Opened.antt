@@ -8,9 +8,9 @@ use Rattle.table.specs.Sum.{pick}
 use Rattle.table.specs.Format.{tableOf}
 use Rattle.schedule.specs.Links.{noThread, Links}
 use Rattle.schedule.specs.Actives.{noLinks, filledFrom}
-use Rattle.schedule.specs.Record.{maxThreads}
+use Rattle.table.specs.Checks.{maxThreads}
 use Rattle.soundness.specs.Tested.{parentsIn, soundOn, blankOn}
-use Rattle.chart.specs.Chart.{mostTurns, shownOf, lineText}
+use Rattle.chart.specs.Chart.{mostTurns, figuresOf, lineText}
 use Rattle.lent.specs.Arrays.{arrays, linksOf}
 use Rattle.cells.specs.Memory.{Memory, memory, movedIn, Answer, answer}
 use Rattle.cells.specs.Stands.{truths, workersIn}
@@ -62,4 +62,4 @@ lineFault s M = pick (not (soundIn s M) && not (blankIn M)) 32 (pick (ltb mostTu
 -- the lent line after the call: "with no line written" where it is refused
 unfoldable pub lineAfter : ℕ → Memory → List ℕ → List ℕ
 lineAfter number M line =
-    pick (eqb number 0) (lineText (shownOf (movedIn M .turns) (getD (M .settings) 0 0) (workersIn M) (movedIn M .totals .held))) line
+    pick (eqb number 0) (lineText (figuresOf (movedIn M .turns) (getD (M .settings) 0 0) (workersIn M) (movedIn M .totals .held))) line

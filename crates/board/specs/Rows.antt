@@ -2,11 +2,11 @@
 -- all 0 where the call is refused. Both are those of the paper's values (`tableValues` of table, `valuesFor` of quota).
 use Prim.Native.Nat.{ℕ}
 use mathlib.Core.List.{List, [], _∷_}
-use Rattle.table.specs.Load.{Values}
-use Rattle.quota.specs.Quota.{Values as QuotaValues}
+use Rattle.table.specs.Load.{TableValues}
+use Rattle.quota.specs.Quota.{QuotaValues}
 
 -- of a table: the place, n, m, S1, D and N
-abbrev pub factsRow : Values → List ℕ
+abbrev pub factsRow : TableValues → List ℕ
 factsRow v = v .place ∷ v .threads ∷ v .actions ∷ v .peak ∷ v .depth ∷ v .nested ∷ []
 
 -- of a quota: the place and K

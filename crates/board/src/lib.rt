@@ -8,19 +8,16 @@ ghost use Rattle.table.specs.Load.{tableValues};
 ghost use Rattle.quota.specs.Quota.{valuesFor};
 ghost use Rattle.board.specs.Rows.{factsRow, quotaRow};
 
-mod begin;
+// Those that begin, open and run are public, so that `limits` can name their promises.
+pub mod begin;
 mod line;
-mod open;
+pub mod open;
 mod preview;
 mod reads;
-mod runs;
+pub mod runs;
 
-pub use begin::wivakkol_begin_on;
 pub use line::wivakkol_chart_on;
-pub use open::wivakkol_open_on;
 pub use preview::wivakkol_preview_on;
-pub use runs::wivakkol_list_on;
-pub use runs::wivakkol_rounds_on;
 
 // A table's facts n, m, S1, D and N, or the check that refuses it.
 #[no_mangle]

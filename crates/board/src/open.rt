@@ -9,12 +9,21 @@ ghost use mathlib.Core.Path.{_≡_};
 ghost use mathlib.Core.List.{List};
 ghost use Prim.Native.Nat.{ℕ};
 ghost use lib.ListN.{replicate};
+ghost use lib.Dec.{eqb};
 ghost use Rattle.table.specs.Format.{tableOf};
 ghost use Rattle.soundness.specs.Tested.{parentsIf};
 ghost use Rattle.lent.specs.Arrays.{arrays};
 ghost use Rattle.cells.specs.Memory.{memory, answer};
 ghost use Rattle.cells.specs.Stands.{truths, workersFrom};
 ghost use Rattle.board.specs.Opened.{soundIn, blankIn, lentOpen};
+ghost use Rattle.board.specs.Code.Standing.{standing};
+
+// What stands in the memory: a sound record, the blank one, or neither.
+const SOUND: u8 = 1;
+
+const BLANK: u8 = 2;
+
+pub(crate) const NEITHER: u8 = 0;
 
 // Every worker's truth value is 0 or 1.
 fn truths_right(holds: &[u8; 16]) -> bool
@@ -48,7 +57,7 @@ pub(crate) fn workers_at(holds: &[u8; 16], threads: &[u16; 16], quotas: &[u32; 1
 }
 
 // Whether the record that stands in the memory is sound. Each thread's parent is then in `seen`, else 0; the other working memory is left cleared.
-pub(crate) fn sound_lent(
+fn sound_lent(
     table: &[u8],
     settings: &[u32; 2],
     next: &[u16; 1024],
@@ -104,7 +113,7 @@ pub(crate) fn sound_lent(
 }
 
 // Whether the blank record stands in the memory.
-pub(crate) fn blank_lent(
+fn blank_lent(
     settings: &[u32; 2],
     next: &[u16; 1024],
     status: &[u8; 1024],
@@ -137,6 +146,74 @@ pub(crate) fn blank_lent(
         totals[1],
         totals[2],
     )
+}
+
+// What stands in the memory. Each thread's parent is then in `seen` where that is a sound record, else 0; the other working memory is left cleared.
+pub(crate) fn standing_lent(
+    table: &[u8],
+    settings: &[u32; 2],
+    next: &[u16; 1024],
+    status: &[u8; 1024],
+    amounts: &[u64; 1024],
+    left: &[u16; 1024],
+    right: &[u16; 1024],
+    holds: &[u8; 16],
+    threads: &[u16; 16],
+    quotas: &[u32; 16],
+    heads: &[u16; 3],
+    totals: &[u64; 3],
+    rises: &mut [u64; 1024],
+    falls: &mut [u64; 1024],
+    forks: &mut [u16; 1024],
+    seen: &mut [u16; 1024],
+    list: &mut [u16; 1024],
+) -> u8
+    ensures { λ r. ⌜ ((parents under over : List ℕ) → r ≡ standing (now (table .entry)) (memory (now (settings .entry)) parents
+        (arrays (now (next .entry)) (now (status .entry)) (now (amounts .entry)) (now (left .entry)) (now (right .entry)) under over)
+        (now (holds .entry)) (now (threads .entry)) (now (quotas .entry)) (now (heads .entry)) (now (totals .entry)))) ⌝ }
+    ensures { λ r. ⌜ now (seen .exit) ≡ parentsIf (eqb r 1) (tableOf (now (table .entry))) ⌝ }
+    ensures { λ _. ⌜ (now (rises .exit) ≡ replicate 1024 0) × (now (falls .exit) ≡ replicate 1024 0) ⌝ }
+    ensures { λ _. ⌜ (now (forks .exit) ≡ replicate 1024 0) × (now (list .exit) ≡ replicate 1024 0) ⌝ }
+{
+    let sound = sound_lent(
+        table,
+        settings,
+        next,
+        status,
+        amounts,
+        left,
+        right,
+        holds,
+        threads,
+        quotas,
+        heads,
+        totals,
+        rises,
+        falls,
+        forks,
+        seen,
+        list,
+    );
+    if sound {
+        return SOUND;
+    }
+    let blank = blank_lent(
+        settings,
+        next,
+        status,
+        amounts,
+        left,
+        right,
+        holds,
+        threads,
+        quotas,
+        heads,
+        totals,
+    );
+    if blank {
+        return BLANK;
+    }
+    NEITHER
 }
 
 // Opens a run: 32 where no sound record and not the blank one stands in the memory, which is then as it was; else each thread's parent and the second list are filled. The working memory is
@@ -177,7 +254,7 @@ pub extern "C" fn wivakkol_open_on(
     *row = [0];
     let leftmost = heads[0];
     let busy = heads[2];
-    let sound = sound_lent(
+    let found = standing_lent(
         table,
         settings,
         next,
@@ -196,27 +273,14 @@ pub extern "C" fn wivakkol_open_on(
         seen,
         list,
     );
-    if sound {
+    if found == SOUND {
         *parents = *seen;
         *seen = [0; 1024];
         let first = fill_actives(status, right, leftmost, under, over);
         *heads = [leftmost, first, busy];
         return 0;
     }
-    let blank = blank_lent(
-        settings,
-        next,
-        status,
-        amounts,
-        left,
-        right,
-        holds,
-        threads,
-        quotas,
-        &*heads,
-        totals,
-    );
-    if blank {
+    if found == BLANK {
         *parents = [0; 1024];
         *under = [0; 1024];
         *over = [0; 1024];

@@ -127,7 +127,7 @@ pub extern "C" fn wivakkol_preview_on(
         return 32;
     }
     let reply = peeked.reply;
-    let passed = passed_by(holds, status, right, over, heads, w);
+    let passed = passed_by(holds, status, right, over, heads, k);
     put_preview(
         row,
         reply,

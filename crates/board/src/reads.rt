@@ -45,22 +45,20 @@ pub(crate) fn moved_at(heads: &[u16; 3], totals: &[u64; 3]) -> Moved
     }
 }
 
-// How many threads stand left of the one that worker w takes.
+// How many threads stand left of the one that worker k takes.
 pub(crate) fn passed_by(
     holds: &[u8; 16],
     status: &[u8; 1024],
     right: &[u16; 1024],
     over: &[u16; 1024],
     heads: &[u16; 3],
-    w: u32,
+    k: usize,
 ) -> u16
-    ensures { λ r. ⌜ (w < 16 → r ≡ passedFrom (not (eqb (getD (now (holds .entry)) w 0) 0)) (now (status .entry)) (now (right .entry)) (now (over .entry)) (getD (now (heads .entry)) 0 0)
-        (getD (now (heads .entry)) 1 0)) ⌝ }
+    requires { ⌜ k < 16 ⌝ }
+    ensures { λ r. ⌜ r ≡ passedFrom (not (eqb (getD (now (holds .entry)) k 0) 0)) (now (status .entry)) (now (right .entry)) (now (over .entry)) (getD (now (heads .entry)) 0 0)
+        (getD (now (heads .entry)) 1 0) ⌝ }
 {
-    if 16 <= w {
-        return 0;
-    }
-    if holds[w as usize] != 0 {
+    if holds[k] != 0 {
         return 0;
     }
     let found = seek(status, over, heads[1]);

@@ -15,7 +15,7 @@ use Rattle.table.specs.Sum.{pick}
 use Rattle.schedule.specs.declared.Worker.{Worker}
 use Rattle.schedule.specs.Machine.{nobody}
 use Rattle.cells.specs.Blocks.{part, rowIn, bytesIn, wordsIn, numbersIn, sumsIn}
-use Rattle.cells.specs.Code.Cells.{ofWorkers, laidRow, statuses, amountsAre, manned, mannedWords, mannedNumbers}
+use Rattle.cells.specs.Places.{ofWorkers, laidRow, statuses, amountsAre, manned, mannedWords, mannedNumbers}
 use Rattle.cells.proofs.Parts.{part-get, part-right, part-left}
 
 -- ---- a loop that copies s's first n into d from a place on, when i of them are copied

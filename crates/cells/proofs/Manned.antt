@@ -14,7 +14,7 @@ use Rattle.schedule.specs.Machine.{nobody}
 use Rattle.schedule.proofs.Sequences.Words.{allBelow-exactly}
 use Rattle.cells.specs.Memory.{workerFrom}
 use Rattle.cells.specs.Stands.{truths, workersFrom}
-use Rattle.cells.specs.Code.Cells.{ofWorkers}
+use Rattle.cells.specs.Places.{ofWorkers}
 use Rattle.cells.proofs.Refines.{workers-length, workers-at, as-number, truth-small}
 
 -- ---- one number of each

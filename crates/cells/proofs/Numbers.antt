@@ -7,7 +7,7 @@ use lib.ListN.{length, getD, set}
 use lib.Seq.{getD-set-other}
 use borrow.Author.Tests.{ne-eqb}
 use Rattle.cells.specs.Blocks.{part, bytesIn, Numbers, numbersIn, Sums, sumsIn}
-use Rattle.cells.specs.Code.Cells.{statused, holding, settingAt, quotaed, amounted, totalAt, totalled}
+use Rattle.cells.specs.Places.{statused, holding, settingAt, quotaed, amounted, totalAt, totalled}
 use Rattle.cells.proofs.Parts.{part-set, part-set-past, part-left, part-right, front-set, cell-set, three-get, three-past, other-kept}
 
 -- ---- bytes

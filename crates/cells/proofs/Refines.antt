@@ -19,7 +19,6 @@ use Rattle.schedule.specs.declared.Turned.{Turned}
 use Rattle.schedule.specs.declared.Turning.the-variants.{Taken}
 use Rattle.schedule.specs.Machine.{ended, nobody}
 use Rattle.schedule.specs.Links.{noThread, Sought, seek}
-use Rattle.schedule.specs.Actives.{actives}
 use Rattle.schedule.specs.Record.{maxBytes, bytesOf, tableIn, listIn, stateOf}
 use Rattle.schedule.specs.Sound.{Steady}
 use Rattle.schedule.specs.Turn.{rootEnded, stepRun, passedIn, turned}
@@ -29,9 +28,8 @@ use Rattle.schedule.specs.Values.{turnValues}
 use Rattle.schedule.proofs.Sequences.Lists.{filled-front}
 use Rattle.schedule.proofs.Sequences.Words.{allBelow-exactly}
 use Rattle.schedule.proofs.Linked.ActiveMoves.{list-once, list-small}
-use Rattle.schedule.proofs.Linked.Actives.{once-actives, below-actives}
-use Rattle.schedule.proofs.Linked.Links.{seek-walk, seek-linked}
-use Rattle.schedule.proofs.Linked.Searches.{firstReady-actives}
+use Rattle.schedule.proofs.Linked.Links.{seek-walk}
+use Rattle.schedule.proofs.Linked.Searches.{second-finds}
 use Rattle.schedule.proofs.Stores.{steady-lawful, steady-fits, steady-facts, moved-steady}
 use Rattle.schedule.proofs.Runs.Values.{turn-values}
 use Rattle.lent.specs.Counted.{Left, turnOn, passedAlong}
@@ -140,10 +138,8 @@ searches-agree s M h =
     let r : Run = runIn s M in
     let once = list-once (tableIn r) (steady-lawful r (h .steady)) (r .workers) (r .quota) (stateOf r) (steady-facts r (h .steady)) in
     let small = list-small (tableIn r) (steady-lawful r (h .steady)) (r .workers) (r .quota) (stateOf r) (steady-facts r (h .steady)) in
-    ap (λ (x : Sought). x .thread)
-    (seek-linked (M .arrays .under) (M .arrays .over) (movedIn M .totals .first) (actives (M .arrays .status) (listIn r)) (M .arrays .status) (h .second)
-    (once-actives (M .arrays .status) (listIn r) once) (below-actives noThread (M .arrays .status) (listIn r) small))
-    ∙ firstReady-actives (M .arrays .status) (listIn r) ∙ sym (ap (λ (x : Sought). x .thread) (seek-walk 1024 (M .arrays .status) (M .arrays .right) (movedIn M .totals .leftmost)))
+    second-finds (M .arrays .under) (M .arrays .over) (movedIn M .totals .first) (M .arrays .status) (listIn r) (h .second) once small
+    ∙ sym (ap (λ (x : Sought). x .thread) (seek-walk 1024 (M .arrays .status) (M .arrays .right) (movedIn M .totals .leftmost)))
 
 -- so that where the first finds none, the second need not be made
 one-search : (holds : Bool) (y : Sought) (t : ℕ) → t ≡ y .thread → pick (ltb t noThread) (passedAlong holds y) 0 ≡ passedAlong holds y

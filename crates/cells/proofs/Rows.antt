@@ -10,7 +10,7 @@ use lib.Dec.{ltb, eqb}
 use borrow.Author.Tests.{ltb-true, ltb-false, lt-ltb, le-ltb, eqb-true, eqb-false}
 use Rattle.table.specs.Sum.{pick}
 use Rattle.cells.specs.Blocks.{part, rowIn, Words, wordsIn}
-use Rattle.cells.specs.Code.Cells.{rowed, threaded, headAt, headed}
+use Rattle.cells.specs.Places.{rowed, threaded, headAt, headed}
 use Rattle.cells.proofs.Parts.{part-get, part-past, part-set, part-set-past, part-left, part-right, cell-set, three-get, three-past, other-kept}
 
 -- ---- reads

@@ -16,7 +16,7 @@ use Rattle.schedule.specs.declared.Reply.{Reply}
 use Rattle.schedule.specs.declared.Reply.the-variants.{Idle}
 use Rattle.schedule.specs.Machine.{held}
 use Rattle.schedule.specs.Links.{noThread, Sought, seek}
-use Rattle.schedule.specs.Record.{maxThreads}
+use Rattle.table.specs.Checks.{maxThreads}
 use Rattle.lent.specs.Arrays.{withStatuses}
 use Rattle.lent.specs.Turn.{Outcome, moved, unfit, actOn, actIn, seat, seatOf, seatIn, stepFrom, stepOn}
 use Rattle.lent.specs.Counted.{counting, busyAfter, roomFor, turnOn, passedAlong}

@@ -1,3 +1,2 @@
 -- promises between the parts of the code
-pub mod Cells
 pub mod Acts

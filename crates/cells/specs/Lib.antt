@@ -1,4 +1,5 @@
 pub mod Memory
 pub mod Blocks
+pub mod Places
 pub mod Stands
 pub mod Code

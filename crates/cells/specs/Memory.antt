@@ -11,7 +11,7 @@ use Rattle.schedule.specs.declared.Reply.{Reply}
 use Rattle.schedule.specs.declared.Reply.the-variants.{Idle}
 use Rattle.schedule.specs.Machine.{ended}
 use Rattle.schedule.specs.Links.{noThread, seek}
-use Rattle.schedule.specs.Record.{maxThreads}
+use Rattle.table.specs.Checks.{maxThreads}
 use Rattle.schedule.specs.Answers.{Said, nothing, idle, done, quota, wait, begun, finished, spent, replyValues}
 use Rattle.lent.specs.declared.Moved.{Moved}
 use Rattle.lent.specs.Arrays.{Arrays}

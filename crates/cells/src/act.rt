@@ -33,7 +33,6 @@ use lent::fits::fork_fits;
 use lent::fits::free_fits;
 use lent::fits::join_fits;
 use lent::fits::next_fits;
-use lent::larger;
 use lent::release::release;
 use schedule::Reply;
 use schedule::Worker;
@@ -42,6 +41,7 @@ use schedule::statuses::HELD;
 use schedule::statuses::READY;
 use schedule::statuses::WAITING;
 use table::kinds::JOIN;
+use table::larger;
 use table::read::argument_in;
 use table::read::code_in;
 ghost use mathlib.Core.Path.{_≡_};
@@ -55,7 +55,7 @@ ghost use Rattle.schedule.specs.Machine.{ended, nobody};
 ghost use Rattle.lent.specs.Turn.{waitsIn};
 ghost use Rattle.lent.specs.Counted.{busyAfter};
 ghost use Rattle.cells.specs.Blocks.{bytesIn, wordsIn, numbersIn, sumsIn, memoryOf};
-ghost use Rattle.cells.specs.Code.Cells.{holdsIn, having, seatedBytes, Room, settled, settledWords, settledNumbers, heldSums};
+ghost use Rattle.cells.specs.Places.{holdsIn, having, seatedBytes, Room, settled, settledWords, settledNumbers, heldSums};
 ghost use Rattle.cells.specs.Code.Acts.{gone, acted, Seated};
 
 // Whether all fitted, and the reply; if not, nothing was moved.

@@ -12,7 +12,7 @@ ghost use lib.Dec.{ltb};
 ghost use Rattle.table.specs.Sum.{pick};
 ghost use Rattle.cells.specs.Blocks.{bytesIn, wordsIn, numbersIn, sumsIn};
 ghost use Rattle.cells.specs.Stands.{workersFrom};
-ghost use Rattle.cells.specs.Code.Cells.{statuses, laidRow, manned, mannedWords, mannedNumbers, amountsAre, ofWorkers};
+ghost use Rattle.cells.specs.Places.{statuses, laidRow, manned, mannedWords, mannedNumbers, amountsAre, ofWorkers};
 
 // Row k of the words is this; nothing where there is no such row.
 pub fn copy_row(words: &mut [u16; 6163], k: usize, from: &[u16; 1024])

@@ -34,7 +34,7 @@ ghost use Rattle.lent.specs.Counted.{passedAlong};
 ghost use Rattle.cells.specs.Memory.{told, takenIn, turnIn, passedOver};
 ghost use Rattle.cells.specs.Memory.{hindrance as hindranceOf};
 ghost use Rattle.cells.specs.Blocks.{bytesIn, wordsIn, memoryOf};
-ghost use Rattle.cells.specs.Code.Cells.{holdsIn};
+ghost use Rattle.cells.specs.Places.{holdsIn};
 
 mod act;
 pub mod copies;

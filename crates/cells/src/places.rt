@@ -2,7 +2,7 @@
 ghost use mathlib.Core.Path.{_≡_};
 ghost use lib.ListN.{length, getD};
 ghost use Rattle.cells.specs.Blocks.{bytesIn, wordsIn, numbersIn, sumsIn};
-ghost use Rattle.cells.specs.Code.Cells.{holdsIn, statused, holding, rowed, threaded, headAt, headed, settingAt, setTo, quotaed, amounted, totalAt, totalled};
+ghost use Rattle.cells.specs.Places.{holdsIn, statused, holding, rowed, threaded, headAt, headed, settingAt, setTo, quotaed, amounted, totalAt, totalled};
 
 // the rows of the words, a number for each thread
 pub const PARENTS: usize = 0;

@@ -8,7 +8,7 @@ use lib.ListN.{length, getD, take, drop, length-append}
 use lib.Seq.{take-at, drop-at, drop-drop, getD-at}
 use Rattle.text.specs.Text.{newline}
 use Rattle.lines.proofs.Putting.{flatten-append}
-use Rattle.chart.specs.Chart.{Cell, thread, none, absent, Shown, rightTexts, cellTexts, cellsTexts, lineTexts, lineText, cellIn, cellsIn, readBack}
+use Rattle.chart.specs.Chart.{Cell, thread, none, absent, Figures, rightTexts, cellTexts, cellsTexts, lineTexts, lineText, cellIn, cellsIn, readBack}
 use Rattle.chart.specs.Chart.{numberIn}
 use Rattle.chart.proofs.Columns.{right, right-text, right-length, number-right, right-last}
 
@@ -23,7 +23,7 @@ abbrev pub CellsFit : List Cell → Type 0
 CellsFit [] = Unit {0}
 CellsFit (c ∷ cs) = CellFits c × CellsFit cs
 
-pub record Fits (x : Shown) : Type 0 where
+pub record Fits (x : Figures) : Type 0 where
   pub turns : x .turns < 10 ^ 6
   pub sixteen : length (x .cells) ≡ 16
   pub cells : CellsFit (x .cells)
@@ -71,14 +71,14 @@ cells-read (c ∷ cs) rest h =
 
 -- ---- a line
 
-pub line-text : (x : Shown) → lineText x ≡ right 6 (x .turns) ++ (cellsText (x .cells) ++ (right 14 (x .held) ++ newline))
+pub line-text : (x : Figures) → lineText x ≡ right 6 (x .turns) ++ (cellsText (x .cells) ++ (right 14 (x .held) ++ newline))
 unfolding lineTexts flatten
 line-text x =
     flatten-append (rightTexts 6 (x .turns)) (cellsTexts (x .cells) ++ (rightTexts 14 (x .held) ++ (newline ∷ [])))
     ∙ (λ i. right-text 6 (x .turns) i ++ flatten-append (cellsTexts (x .cells)) (rightTexts 14 (x .held) ++ (newline ∷ [])) i)
     ∙ ap (λ (l : List ℕ). right 6 (x .turns) ++ (cellsText (x .cells) ++ l)) (flatten-append (rightTexts 14 (x .held)) (newline ∷ []) ∙ ap (λ (l : List ℕ). l ++ newline) (right-text 14 (x .held)))
 
-module _ (x : Shown) (f : Fits x) where
+module _ (x : Figures) (f : Fits x) where
   six : length (right 6 (x .turns)) ≡ 6
   six = right-length 5 (x .turns) (f .turns)
 

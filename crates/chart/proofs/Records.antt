@@ -27,7 +27,7 @@ use Rattle.schedule.proofs.Stores.{steady-lawful, steady-facts}
 use Rattle.schedule.proofs.Soundness.{held-fits}
 use Rattle.soundness.proofs.Passed.{has-workers, no-workers}
 use Rattle.chart.specs.declared.Charted.the-variants.{Written, Refused}
-use Rattle.chart.specs.Chart.{thread, none, absent, cellsFrom, shown, lineTexts, lineOf, readBack, mostTurns, tooMany, chartChecks, chartedAs, charted, chartedValues, lineValues}
+use Rattle.chart.specs.Chart.{thread, none, absent, cellsFrom, figures, lineTexts, lineOf, readBack, mostTurns, tooMany, chartChecks, chartedAs, charted, chartedValues, lineValues}
 use Rattle.chart.proofs.Reading.{CellFits, CellsFit, Fits, line-width, line-newline, line-read}
 
 -- ---- the cells
@@ -50,8 +50,8 @@ cells-fit p w (x ∷ l) h = (cell-fits (ltb w p) (x .holds) (x .thread) (h 0 (om
 -- ---- the numbers
 
 -- of a record that is sound but for its turns taken
-pub steady-shown : (r : Run) → Steady r → r .turns ≤ mostTurns → Fits (shown r)
-steady-shown r h t =
+pub steady-figures : (r : Run) → Steady r → r .turns ≤ mostTurns → Fits (figures r)
+steady-figures r h t =
     let f = steady-facts r h .holding in
     record {
       turns = omega arith;
@@ -60,9 +60,9 @@ steady-shown r h t =
       held = omega (arith, held-fits r h);
     }
 
-blank-shown : Fits (shown blank)
+blank-figures : Fits (figures blank)
 unfolding blank cellsFrom
-blank-shown = record { turns = omega arith; sixteen = refl; cells = (tt, (tt, (tt, (tt, (tt, (tt, (tt, (tt, (tt, (tt, (tt, (tt, (tt, (tt, (tt, (tt, tt)))))))))))))))); held = omega arith }
+blank-figures = record { turns = omega arith; sixteen = refl; cells = (tt, (tt, (tt, (tt, (tt, (tt, (tt, (tt, (tt, (tt, (tt, (tt, (tt, (tt, (tt, (tt, tt)))))))))))))))); held = omega arith }
 
 pub steady-passes : (r : Run) → Steady r → r .turns ≤ mostTurns → unsound r ≡ false
 unfolding unsound
@@ -73,23 +73,23 @@ module _ (r : Run) (e : unsound r ≡ false) (t : tooMany r ≡ false) where
   unfolding tooMany
   few-turns = ltb-false mostTurns (r .turns) t
 
-  pub fits : Fits (shown r)
+  pub fits : Fits (figures r)
   fits = go (ltb 0 (r .workers)) refl
     where
-      go : (b : Bool) → ltb 0 (r .workers) ≡ b → Fits (shown r)
-      go true i = steady-shown r (has-workers r e (ltb-true 0 (r .workers) i) .steady) few-turns
-      go false i = rw (no-workers r e (omega (arith, ltb-false 0 (r .workers) i))) blank-shown
+      go : (b : Bool) → ltb 0 (r .workers) ≡ b → Fits (figures r)
+      go true i = steady-figures r (has-workers r e (ltb-true 0 (r .workers) i) .steady) few-turns
+      go false i = rw (no-workers r e (omega (arith, ltb-false 0 (r .workers) i))) blank-figures
 
   -- "Every line has exactly that width": 84 characters and a newline
   pub wall-width : length (lineOf r) ≡ 85
-  wall-width = line-width (shown r) fits
+  wall-width = line-width (figures r) fits
 
   pub wall-newline : getD (lineOf r) 84 0 ≡ 10
-  wall-newline = line-newline (shown r) fits
+  wall-newline = line-newline (figures r) fits
 
   -- "from a line each shown number can be read back"
-  pub wall-read : readBack (lineOf r) ≡ shown r
-  wall-read = line-read (shown r) fits
+  pub wall-read : readBack (lineOf r) ≡ figures r
+  wall-read = line-read (figures r) fits
 
 -- ---- the answer
 
@@ -130,9 +130,9 @@ steady-written r h t = let e = steady-passes r h t in sym (charted-written r e (
 
 -- the line fills a buffer of its width
 pub line-filled : (r : Run) (s o : List ℕ) (k : ℕ)
-    → unsound r ≡ false → tooMany r ≡ false → length s ≡ 85 → bufferAt o k ≡ putAll (bufferAt s 0) (lineTexts (shown r)) → o ≡ lineOf r
+    → unsound r ≡ false → tooMany r ≡ false → length s ≡ 85 → bufferAt o k ≡ putAll (bufferAt s 0) (lineTexts (figures r)) → o ≡ lineOf r
 line-filled r s o k u t l e =
     let w = wall-width r u t in
-    let p : Puts s 0 o k (lineTexts (shown r)) 85 = record { put = e; short = omega (arith, w) } in
+    let p : Puts s 0 o k (lineTexts (figures r)) 85 = record { put = e; short = omega (arith, w) } in
     let q = puts-whole (omega (arith, l)) p in
     q .1 ∙ ap (λ (x : List ℕ). lineOf r ++ x) (drop-of-length-le s {i = k} (omega (arith, q .0, w, l))) ∙ append-nil (lineOf r)

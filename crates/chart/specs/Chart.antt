@@ -23,7 +23,7 @@ pub data Cell : Type 0 where
   thread : ℕ → Cell
   none absent : Cell
 
-pub record Shown : Type 0 where
+pub record Figures : Type 0 where
   pub turns : ℕ
   pub cells : List Cell
   pub held : ℕ
@@ -37,11 +37,11 @@ unfoldable pub cellsFrom : ℕ → ℕ → List Worker → List Cell
 cellsFrom p w [] = []
 cellsFrom p w (x ∷ l) = cellOf p w x ∷ cellsFrom p (suc w) l
 
-abbrev pub shownOf : ℕ → ℕ → List Worker → ℕ → Shown
-shownOf turns p workers held = record { turns = turns; cells = cellsFrom p 0 workers; held = held }
+abbrev pub figuresOf : ℕ → ℕ → List Worker → ℕ → Figures
+figuresOf turns p workers held = record { turns = turns; cells = cellsFrom p 0 workers; held = held }
 
-abbrev pub shown : Run → Shown
-shown r = shownOf (r .turns) (r .workers) (r .worker) (r .held)
+abbrev pub figures : Run → Figures
+figures r = figuresOf (r .turns) (r .workers) (r .worker) (r .held)
 
 -- ---- the line
 
@@ -66,14 +66,14 @@ cellsTexts [] = []
 cellsTexts (c ∷ cs) = cellTexts c ++ cellsTexts cs
 
 -- "84 characters and a newline: turns taken right-aligned in 6, sixteen cells of 4, memory held right-aligned in 14"
-unfoldable pub lineTexts : Shown → List (List ℕ)
+unfoldable pub lineTexts : Figures → List (List ℕ)
 lineTexts x = rightTexts 6 (x .turns) ++ (cellsTexts (x .cells) ++ (rightTexts 14 (x .held) ++ (newline ∷ [])))
 
-abbrev pub lineText : Shown → List ℕ
+abbrev pub lineText : Figures → List ℕ
 lineText x = flatten (lineTexts x)
 
 abbrev pub lineOf : Run → List ℕ
-lineOf r = lineText (shown r)
+lineOf r = lineText (figures r)
 
 -- ---- reading a line back, by its columns
 
@@ -93,7 +93,7 @@ unfoldable pub cellsIn : ℕ → List ℕ → List Cell
 cellsIn zero s = []
 cellsIn (suc k) s = cellIn (take 4 s) ∷ cellsIn k (drop 4 s)
 
-unfoldable pub readBack : List ℕ → Shown
+unfoldable pub readBack : List ℕ → Figures
 readBack s = record { turns = numberIn (take 6 s); cells = cellsIn 16 (drop 6 s); held = numberIn (take 14 (drop 70 s)) }
 
 -- ---- the call
@@ -124,14 +124,14 @@ chartedIn (Refused x) r out = out
 -- ---- the paper's number and place
 
 -- of an answer: 0 and 0 where a line is written
-pub record Values : Type 0 where
+pub record LineValues : Type 0 where
   pub number : ℕ
   pub place : ℕ
 
-abbrev pub chartedValues : Charted → Values
+abbrev pub chartedValues : Charted → LineValues
 chartedValues Written = record { number = 0; place = 0 }
 chartedValues (Refused x) = record { number = x .number; place = x .place }
 
 -- from the checks alone
-unfoldable pub lineValues : Run → Values
+unfoldable pub lineValues : Run → LineValues
 lineValues r = record { number = foundNumber (tryAt (chartChecks r) 0); place = foundPlace (tryAt (chartChecks r) 0) }

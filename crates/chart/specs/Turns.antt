@@ -11,11 +11,11 @@ use Rattle.schedule.specs.declared.Turning.the-variants.{Refused as refusedTurn
 use Rattle.schedule.specs.Turn.{rootEnded, turned}
 use Rattle.chart.specs.declared.Charted.{Charted}
 use Rattle.chart.specs.declared.Charted.the-variants.{Written, Refused}
-use Rattle.chart.specs.Chart.{shown, lineTexts, charted}
+use Rattle.chart.specs.Chart.{figures, lineTexts, charted}
 
 -- a record's line, and what comes after it; its refusal is the last line
 abbrev pub lineThen : Charted → Run → List (List ℕ) → List (List ℕ)
-lineThen Written r rest = lineTexts (shown r) ++ rest
+lineThen Written r rest = lineTexts (figures r) ++ rest
 lineThen (Refused x) r rest = refusedLine x ∷ []
 
 -- what comes after a turn; its refusal is the last line

@@ -6,7 +6,7 @@ ghost use mathlib.Core.Path.{_≡_};
 ghost use Prim.Native.Nat.{_-_, _≤_};
 ghost use Rattle.text.specs.Text.{bufferAt};
 ghost use Rattle.lines.specs.Lines.{putAll};
-ghost use Rattle.chart.specs.Chart.{cellOf, cellsFrom, shownOf, rightTexts, cellTexts, cellsTexts, lineTexts};
+ghost use Rattle.chart.specs.Chart.{cellOf, cellsFrom, figuresOf, rightTexts, cellTexts, cellsTexts, lineTexts};
 
 // What k characters leave of a width.
 fn room(width: usize, k: usize) -> usize
@@ -64,7 +64,7 @@ pub fn put_line(
     workers: [Worker; 16],
     held: u64,
 ) -> usize
-    ensures { λ r. ⌜ bufferAt (now (out .exit)) r ≡ putAll (bufferAt (now (out .entry)) at) (lineTexts (shownOf turns p workers held)) ⌝ }
+    ensures { λ r. ⌜ bufferAt (now (out .exit)) r ≡ putAll (bufferAt (now (out .entry)) at) (lineTexts (figuresOf turns p workers held)) ⌝ }
 {
     let at = put_right(out, at, 6, turns);
     let at = put_cells(out, at, p as usize, workers);

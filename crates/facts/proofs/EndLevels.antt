@@ -14,7 +14,8 @@ use Rattle.table.specs.Format.{end, fork, join, is, Table, kind, tableOf}
 use Rattle.table.specs.Checks.{owner, endOf, openBefore}
 use Rattle.table.specs.Rules.{ContentRules, BodyRules, NestRules, ForkRules}
 use Rattle.table.specs.Level.{level}
-use Rattle.table.specs.Code.Steps.{Nested, EndLevels, Walked, nextLevel}
+use Rattle.table.specs.Code.Steps.{Nested}
+use Rattle.facts.specs.Code.Steps.{EndLevels, Walked, nextLevel}
 use Rattle.table.proofs.Tests.{is-true, fork-no-end}
 use Rattle.table.proofs.Sizes.{sizes}
 use Rattle.table.proofs.Bodies.{first-within, end-within, count-pos, owner-at, owner-of-first, fork-below, join-below, next-within}

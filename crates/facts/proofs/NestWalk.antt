@@ -18,7 +18,7 @@ use Rattle.table.proofs.Nesting.{fork-once, fork-exists}
 use Rattle.table.proofs.NestedThreads.{nest-root, nest-child, nest-greatest}
 
 -- the walk has come to action a, of thread t
-pub record Walked (T : Table) (levels : List ℕ) (deepest t a : ℕ) : Type 0 where
+pub record NestsTo (T : Table) (levels : List ℕ) (deepest t a : ℕ) : Type 0 where
   pub size : length levels ≡ 1024
   pub thread : a < T .actions → owner T a ≡ t
   pub root : getD levels 0 0 ≡ nest T 0
@@ -29,9 +29,9 @@ pub record Walked (T : Table) (levels : List ℕ) (deepest t a : ℕ) : Type 0 w
   pub forked-most : (x : ℕ) → x < a → kind T x ≡ fork → nest T (T .argument x) ≤ deepest
 
 module _ (T : Table) (c : ContentRules T) (b : BodyRules T) (n : NestRules T) (f : ForkRules T) (some : 0 < T .threads) (few : T .threads ≤ 1024) where
-  pub walked-first : Walked T (replicate 1024 1) 1 0 0
+  pub nests-first : NestsTo T (replicate 1024 1) 1 0 0
   unfolding sumTo
-  walked-first =
+  nests-first =
       let e : nest T 0 ≡ 1 = nest-root T c b n f some in
       record {
         size = length-replicate {A = ℕ} 1024 1;
@@ -43,18 +43,18 @@ module _ (T : Table) (c : ContentRules T) (b : BodyRules T) (n : NestRules T) (f
         forked-most = λ x l. absurd (omega arith);
       }
 
-  module _ {levels : List ℕ} {deepest t a : ℕ} (w : Walked T levels deepest t a) (h : a < T .actions) where
-    pub walked-below : t < T .threads
-    walked-below = rw (w .thread h) at (owner-below T c a h)
+  module _ {levels : List ℕ} {deepest t a : ℕ} (w : NestsTo T levels deepest t a) (h : a < T .actions) where
+    pub nests-below : t < T .threads
+    nests-below = rw (w .thread h) at (owner-below T c a h)
 
     -- the thread's own nesting is known: its fork comes before its body
-    pub walked-known : getD levels t 0 ≡ nest T t
-    walked-known = go t refl
+    pub nests-known : getD levels t 0 ≡ nest T t
+    nests-known = go t refl
       where
         go : (u : ℕ) → t ≡ u → getD levels u 0 ≡ nest T u
         go zero e = w .root
         go (suc u) e =
-            let x = fork-exists T c b n f (suc u) (omega arith) (rw e at walked-below) in
+            let x = fork-exists T c b n f (suc u) (omega arith) (rw e at nests-below) in
             let o : owner T a ≡ suc u = w .thread h ∙ e in
             let l : x .0 < a = omega (arith, rw (x .3) at (fork-later T c b (x .0) (x .1) (x .2)), rw o at (owner-first T c a h)) in
             rw (x .3) at (w .forked (x .0) l (x .2))
@@ -73,7 +73,7 @@ module _ (T : Table) (c : ContentRules T) (b : BodyRules T) (n : NestRules T) (f
         go : suc a ≡ T .first t + T .count t → Dec (suc t ≡ T .threads) → owner T (suc a) ≡ suc t
         go p (yes d) = absurd (omega (arith, last-ends T c t d))
         go p (no d) =
-            let i : suc t < T .threads = omega (arith, d, walked-below) in
+            let i : suc t < T .threads = omega (arith, d, nests-below) in
             let e : T .first (suc t) ≡ suc a = first-next T c t i ∙ sym p in
             rw e at (owner-of-first T c (suc t) i)
 
@@ -82,7 +82,7 @@ module _ (T : Table) (c : ContentRules T) (b : BodyRules T) (n : NestRules T) (f
     level = suc (getD levels t 0)
 
     child : kind T a ≡ fork → level ≡ nest T (T .argument a)
-    child k = rw (walked-known, nest-child T c b n f a h k, w .thread h)
+    child k = rw (nests-known, nest-child T c b n f a h k, w .thread h)
 
     forked-now : kind T a ≡ fork → (x : ℕ) → x < suc a → kind T x ≡ fork → getD (set levels (T .argument a) level) (T .argument x) 0 ≡ nest T (T .argument x)
     forked-now k x l j = go (ℕ-discrete x a)
@@ -110,9 +110,9 @@ module _ (T : Table) (c : ContentRules T) (b : BodyRules T) (n : NestRules T) (f
         go (no i) = (w .one .0, w .one .1, omega (arith, w .one .2))
 
     -- one action further
-    pub walked-next : (q : Bool) → is fork (kind T a) ≡ q
-        → Walked T (pick q (set levels (T .argument a) level) levels) (pick q (max deepest level) deepest) (pick (is end (kind T a)) (suc t) t) (suc a)
-    walked-next true e =
+    pub nests-next : (q : Bool) → is fork (kind T a) ≡ q
+        → NestsTo T (pick q (set levels (T .argument a) level) levels) (pick q (max deepest level) deepest) (pick (is end (kind T a)) (suc t) t) (suc a)
+    nests-next true e =
         let k : kind T a ≡ fork = is-true fork (kind T a) e in
         record {
           size = length-set levels (T .argument a) level ∙ w .size;
@@ -123,7 +123,7 @@ module _ (T : Table) (c : ContentRules T) (b : BodyRules T) (n : NestRules T) (f
           root-most = omega (arith, w .root-most);
           forked-most = forked-under k;
         }
-    walked-next false e =
+    nests-next false e =
         record {
           size = w .size;
           thread = goes-on (is end (kind T a)) refl;
@@ -140,8 +140,8 @@ module _ (T : Table) (c : ContentRules T) (b : BodyRules T) (n : NestRules T) (f
             omega (arith, n)
 
   -- past the last action all threads are known
-  pub walked-all : {levels : List ℕ} {deepest t a : ℕ} → Walked T levels deepest t a → T .actions ≤ a → deepest ≡ N T
-  walked-all {levels} {deepest} {t} {a} w h =
+  pub nests-all : {levels : List ℕ} {deepest t a : ℕ} → NestsTo T levels deepest t a → T .actions ≤ a → deepest ≡ N T
+  nests-all {levels} {deepest} {t} {a} w h =
       sym (nest-greatest T deepest (w .one .0) (w .one .1) (w .one .2) all)
     where
       all : (u : ℕ) → u < T .threads → nest T u ≤ deepest

@@ -5,10 +5,11 @@ use mathlib.Core.List.{List}
 use native.Mathlib.Omega.{arith}
 use lib.ListN.{getD}
 use Rattle.table.specs.Sum.{pick, sumTo, greatestTo}
-use Rattle.table.specs.Format.{Kind, alloc, free, fork, kindOf, is, Table, kind, tableOf, firstOf, bodyOf, codeAt, argumentAt}
+use Rattle.table.specs.Format.{Kind, alloc, free, fork, kindOf, is, Table, kind, tableOf, firstOf, bodyOf, codeAt, argumentAt, ownAmount}
 use Rattle.table.specs.Checks.{allocOf, freeOf, whole}
 use Rattle.table.specs.Rules.{ContentRules, BodyRules}
-use Rattle.table.specs.Code.Steps.{Kept, ownAmount, childAmount, amountAt, topOf, Filled, WalkReady, PeaksReady}
+use Rattle.table.specs.Code.Steps.{childAmount, amountAt, Filled, WalkReady}
+use Rattle.facts.specs.Code.Steps.{Kept, topOf, PeaksReady}
 use Rattle.table.proofs.Tests.{pick-same}
 use Rattle.table.proofs.Sizes.{sizes}
 use Rattle.table.proofs.Bodies.{names-fork}

@@ -9,7 +9,7 @@ ghost use Prim.Native.Nat.{_<_, _≤_};
 ghost use lib.ListN.{getD};
 ghost use Rattle.table.specs.Format.{kindOf, tableOf, bodyOf};
 ghost use Rattle.table.specs.Level.{D};
-ghost use Rattle.table.specs.Code.Steps.{Kept, Starts, EndLevels, Walked, nextLevel};
+ghost use Rattle.facts.specs.Code.Steps.{Kept, Starts, EndLevels, Walked, nextLevel};
 
 // A thread's end level, given the level of its first action. `ends` has the end levels found so far, 0 where none is.
 fn end_level(

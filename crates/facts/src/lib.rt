@@ -3,13 +3,13 @@ mod level;
 mod nested;
 mod peak;
 
+use checks::check;
 use level::depth;
 use nested::nested_levels;
 use peak::serial_peak;
 use table::Facts;
 use table::Found;
 use table::Loaded;
-use table::check;
 use table::read::actions;
 use table::read::threads;
 ghost use mathlib.Core.Path.{_≡_};

@@ -1,9 +1,8 @@
 // The number of nested thread levels N: a forked thread is one level below the thread that forks it.
 use table::kinds::END;
 use table::kinds::FORK;
-use table::read::argument_in;
+use table::read::action_in;
 use table::read::bodies;
-use table::read::code_in;
 ghost use mathlib.Core.Path.{_≡_};
 ghost use Prim.Native.Nat.{suc, max, _<_, _≤_};
 ghost use lib.ListN.{set};
@@ -45,8 +44,9 @@ pub(crate) fn nested_levels(table: &[u8], n: usize, m: usize) -> usize
     let mut t = 0;
     let mut a = 0;
     while a < m {
-        let k = code_in(actions, a);
-        let c = argument_in(actions, a);
+        let action = action_in(actions, a);
+        let k = action.code;
+        let c = action.argument;
         let level = levels[t];
         deepest = fork_level(k, c, level, deepest, &mut levels);
         t = next_thread(k, t);

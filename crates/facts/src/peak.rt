@@ -2,28 +2,23 @@
 use table::kinds::FORK;
 use table::kinds::alloc_of;
 use table::kinds::free_of;
-use table::read::argument_in;
+use table::larger;
+use table::read::action_in;
 use table::read::body_of;
-use table::read::code_in;
 use table::read::count;
 ghost use mathlib.Core.Path.{_≡_};
-ghost use Prim.Native.Nat.{_<_, max};
+ghost use Prim.Native.Nat.{_<_};
 ghost use Rattle.table.specs.Sum.{sumTo, greatestTo};
 ghost use Rattle.table.specs.Format.{tableOf, kindOf, alloc, free, fork};
 ghost use Rattle.table.specs.Serial.{S1};
-ghost use Rattle.table.specs.Code.Steps.{Kept, WalkReady, PeaksReady, childAmount, amountAt, topOf};
+ghost use Rattle.table.specs.Code.Steps.{WalkReady, childAmount, amountAt};
+ghost use Rattle.facts.specs.Code.Steps.{Kept, PeaksReady, topOf};
 
 // What a body draws and gives back with the children it forks, and the highest that it holds, counted from its start.
 struct Amounts {
     rise: u64,
     fall: u64,
     peak: u64,
-}
-
-fn larger(a: u64, b: u64) -> u64
-    ensures { λ r. ⌜ r ≡ max a b ⌝ }
-{
-    if a < b { b } else { a }
 }
 
 // The amount of the child x that an action of kind k forks, else 0.
@@ -53,8 +48,9 @@ fn peak_walk(
     let mut peak: u64 = 0;
     let mut i = 0;
     while i < count {
-        let k = code_in(body, i);
-        let x = argument_in(body, i);
+        let action = action_in(body, i);
+        let k = action.code;
+        let x = action.argument;
         peak = larger(peak, rise - fall + child_amount(k, x, peaks));
         rise += alloc_of(k, x) + child_amount(k, x, rises);
         fall += free_of(k, x) + child_amount(k, x, falls);

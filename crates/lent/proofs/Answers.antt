@@ -14,7 +14,8 @@ use Rattle.schedule.specs.declared.Turning.the-variants.{Taken}
 use Rattle.schedule.specs.declared.Turning.the-variants.{Refused as refusedTurn}
 use Rattle.schedule.specs.Machine.{workerOf, leftmost, passedBy}
 use Rattle.schedule.specs.Links.{noThread, seek}
-use Rattle.schedule.specs.Record.{maxThreads, blank, tableIn, listIn, stateOf}
+use Rattle.table.specs.Checks.{maxThreads}
+use Rattle.schedule.specs.Record.{blank, tableIn, listIn, stateOf}
 use Rattle.schedule.specs.Sound.{Steady, sound}
 use Rattle.schedule.specs.Turn.{isBlank, unsound, rootEnded, noWorker, turnChecks, stepRun, passedIn, turned}
 use Rattle.schedule.specs.Runs.{moved}

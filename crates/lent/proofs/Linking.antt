@@ -6,18 +6,17 @@ use mathlib.Core.Bool.{true}
 use Rattle.table.specs.Format.{Kind, end, work, alloc, free, fork, join, unknown, Table, kind, tableOf}
 use Rattle.schedule.specs.declared.Worker.{Worker}
 use Rattle.schedule.specs.Machine.{State, Stepped, stepped, waitsFor, actBy, act}
-use Rattle.schedule.specs.Links.{noThread, Links, LinkedAs, Sought, firstReady, seek}
+use Rattle.schedule.specs.Links.{noThread, Links, LinkedAs, firstReady, seek}
 use Rattle.schedule.specs.Actives.{actives}
 use Rattle.schedule.specs.Code.LinkMoves.{linksBy, activesBy}
 use Rattle.schedule.specs.Record.{stateOf}
 use Rattle.schedule.proofs.Sound.Facts.{Facts}
 use Rattle.schedule.proofs.Sequences.Lists.{Below}
 use Rattle.schedule.proofs.Linked.Once.{Once}
-use Rattle.schedule.proofs.Linked.Links.{laid-linked, linked-laid, walk-linked, seek-linked}
-use Rattle.schedule.proofs.Linked.Actives.{once-actives, below-actives}
+use Rattle.schedule.proofs.Linked.Links.{laid-linked, linked-laid, walk-linked}
 use Rattle.schedule.proofs.Linked.ActiveMoves.{list-once, list-small}
 use Rattle.schedule.proofs.Linked.LinkMoves.{act-links, act-actives}
-use Rattle.schedule.proofs.Linked.Searches.{firstReady-actives}
+use Rattle.schedule.proofs.Linked.Searches.{second-finds}
 use Rattle.schedule.proofs.Preservation.Turns.{act-facts}
 use Rattle.lent.specs.declared.Totals.{Totals}
 use Rattle.lent.specs.Arrays.{Arrays, linksOf, secondOf, listedIn, actionIn}
@@ -69,11 +68,7 @@ module _ {s : List ℕ} {n K : ℕ} {A : Arrays} {totals : Totals} {worker : Wor
   -- ---- a search
 
   pub found : seek noThread (A .status) (A .over) (totals .first) .thread ≡ firstReady (A .status) list
-  found =
-      ap (λ (x : Sought). x .thread)
-      (seek-linked (A .under) (A .over) (totals .first) (actives (A .status) list) (A .status) (q .chained .second-links) (once-actives (A .status) list once)
-      (below-actives noThread (A .status) list small))
-      ∙ firstReady-actives (A .status) list
+  found = second-finds (A .under) (A .over) (totals .first) (A .status) list (q .chained .second-links) once small
 
   -- ---- an action
 

@@ -3,7 +3,7 @@ use mathlib.Core.Path.{_≡_}
 use Prim.Native.Nat.{ℕ}
 use mathlib.Core.List.{List}
 use Rattle.table.specs.Format.{bodiesFrom, codeAt, argumentAt, tableOf}
-use Rattle.table.specs.Code.Steps.{Read}
+use Rattle.table.specs.Sum.{Read}
 use Rattle.lent.specs.Arrays.{tableFrom}
 
 pub own-table : (s : List ℕ) (n : ℕ) → n ≡ tableOf s .threads → tableFrom s n ≡ tableOf s

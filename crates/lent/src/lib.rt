@@ -3,7 +3,6 @@ use links::NO_THREAD;
 use links::seek;
 use schedule::Worker;
 ghost use mathlib.Core.Path.{_≡_};
-ghost use Prim.Native.Nat.{max};
 ghost use Rattle.schedule.specs.Links.{seek as seekOf};
 ghost use Rattle.lent.specs.Counted.{passedAlong, roomFor};
 
@@ -55,11 +54,4 @@ pub fn room_for(turns: u64, busy: u16, holds: bool, w: usize) -> bool
     }
     let bit: u16 = 1 << w;
     busy <= u16::MAX - bit
-}
-
-// The larger of two amounts.
-pub fn larger(a: u64, b: u64) -> u64
-    ensures { λ r. ⌜ r ≡ max a b ⌝ }
-{
-    if a < b { b } else { a }
 }

@@ -3,14 +3,13 @@
 use schedule::statuses::READY;
 use schedule::statuses::WAITING;
 ghost use mathlib.Core.Path.{_≡_};
-ghost use mathlib.Core.Bool.{_&&_};
 ghost use mathlib.Core.List.{_++_};
 ghost use Prim.Native.Nat.{_≤_};
 ghost use lib.ListN.{length, take, drop, set, replicate};
 ghost use Rattle.schedule.specs.Links.{firstOf, laid, linkLast, noThread, seek as seekOf, walk};
 ghost use Rattle.schedule.specs.Actives.{filledFrom, noLinks};
 ghost use Rattle.links.specs.Code.Steps.{leftThere};
-ghost use Rattle.schedule.specs.Sound.{sameList};
+ghost use Rattle.schedule.specs.Sound.{sameList, sameLinks};
 
 // "No neighbour is written as 1,024"
 pub const NO_THREAD: u16 = 1024;
@@ -161,7 +160,7 @@ pub fn fill_actives(
 }
 
 // Lays the first len threads of a row into links. The leftmost thread.
-pub fn lay(row: &[u16; 1024], len: usize, left: &mut [u16; 1024], right: &mut [u16; 1024]) -> u16
+fn lay(row: &[u16; 1024], len: usize, left: &mut [u16; 1024], right: &mut [u16; 1024]) -> u16
     ensures { λ r. ⌜ now (left .exit) ≡ laid (take len (now (row .entry))) .left ⌝ }
     ensures { λ r. ⌜ now (right .exit) ≡ laid (take len (now (row .entry))) .right ⌝ }
     ensures { λ r. ⌜ r ≡ laid (take len (now (row .entry))) .head ⌝ }
@@ -191,11 +190,23 @@ fn same(a: &[u16], b: &[u16]) -> bool
 }
 
 // Whether the links are those of the first len threads of a row.
-pub fn describe(left: &[u16; 1024], right: &[u16; 1024], row: &[u16; 1024], len: usize) -> bool
-    ensures { λ r. ⌜ r ≡ (sameList (now (left .entry)) (laid (take len (now (row .entry))) .left) && sameList (now (right .entry)) (laid (take len (now (row .entry))) .right)) ⌝ }
+pub fn describe(
+    left: &[u16; 1024],
+    right: &[u16; 1024],
+    leftmost: u16,
+    row: &[u16; 1024],
+    len: usize,
+) -> bool
+    ensures { λ r. ⌜ r ≡ sameLinks (record { left = now (left .entry); right = now (right .entry); head = leftmost }) (laid (take len (now (row .entry)))) ⌝ }
 {
     let mut lefts = [0u16; 1024];
     let mut rights = [0u16; 1024];
-    lay(row, len, &mut lefts, &mut rights);
-    same(left, &lefts) && same(right, &rights)
+    let first = lay(row, len, &mut lefts, &mut rights);
+    if !same(left, &lefts) {
+        return false;
+    }
+    if !same(right, &rights) {
+        return false;
+    }
+    leftmost == first
 }

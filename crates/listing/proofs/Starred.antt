@@ -3,10 +3,10 @@
 use mathlib.Core.Path.{_≡_, refl, sym, ap, ap₂, _∙_}
 use Prim.Native.Nat.{ℕ}
 use mathlib.Core.List.{List, [], _∷_, _++_, map, map-map}
-use Rattle.table.specs.Load.{Values, valuesOf, loaded}
+use Rattle.table.specs.Load.{TableValues, valuesOf, loaded}
 use Rattle.table.specs.Cases.{Case as TableCase}
 use Rattle.table.specs.Cases.{cases as tableCases, worked as tables-worked}
-use Rattle.schedule.specs.Answers.{Values as TurnValues}
+use Rattle.schedule.specs.Answers.{Values}
 use Rattle.schedule.specs.Turn.{turned}
 use Rattle.schedule.specs.Listing.{Listing}
 use Rattle.schedule.specs.Cases.{Case, never, ranBy}
@@ -21,9 +21,9 @@ use Rattle.listing.proofs.Worked.{listings-worked}
 
 -- what a case comes to: the values of a loaded table, the listing of a run, what a single turn says, a row's measures against the limit, or the bytes that `turnlist` prints
 pub data Outcome : Type 0 where
-  loads : Values → Outcome
+  loads : TableValues → Outcome
   lists : Listing → Outcome
-  says : TurnValues → Outcome
+  says : Values → Outcome
   measures : Measures → Outcome
   prints : List ℕ → Outcome
 

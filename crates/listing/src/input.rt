@@ -3,7 +3,7 @@ use lines::put_refused;
 use table::read::byte;
 use table::read::word;
 ghost use mathlib.Core.Path.{_≡_};
-ghost use Rattle.table.specs.Code.Steps.{Read};
+ghost use Rattle.table.specs.Sum.{Read};
 ghost use Rattle.listing.specs.Listing.{quotaIn, limitIn, inputWrong, wrongInput};
 ghost use Rattle.lines.specs.Puts.{Puts};
 

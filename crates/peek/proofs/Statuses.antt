@@ -11,7 +11,7 @@ use Rattle.table.specs.Format.{Kind, end, work, alloc, free, fork, join, unknow
 use Rattle.schedule.specs.declared.Worker.{Worker}
 use Rattle.schedule.specs.Machine.{ready, held, ended}
 use Rattle.schedule.specs.Links.{noThread, seek}
-use Rattle.schedule.specs.Record.{maxThreads}
+use Rattle.table.specs.Checks.{maxThreads}
 use Rattle.schedule.proofs.Linked.Searches.{seek-ready}
 use Rattle.lent.specs.declared.Totals.{Totals}
 use Rattle.lent.specs.Arrays.{Arrays, actionIn, amountIn, withStatuses}

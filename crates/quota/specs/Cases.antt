@@ -10,7 +10,7 @@ use Rattle.table.specs.Checks.{openBefore, joinNotLatest, endWithOpen, neverFor
 use Rattle.table.specs.Serial.{serialWithin, fronts, heldAfter, peakOf, S1}
 use Rattle.table.specs.Level.{forkBelow, forkOf, beforeIt, joinedEnd, dependsOn, levelWithin, D}
 use Rattle.table.specs.Cases.{E, least, overfreed}
-use Rattle.quota.specs.Quota.{leastQuota, costOf, mostWithin, mostQuota, noQuota, quoted, Values, valuesOf}
+use Rattle.quota.specs.Quota.{leastQuota, costOf, mostWithin, mostQuota, noQuota, quoted, QuotaValues, valuesOf}
 
 -- a table's bytes, p, b and M, and the answer's number, place and quota
 pub record Case : Type 0 where
@@ -18,7 +18,7 @@ pub record Case : Type 0 where
   pub workers : ℕ
   pub gap : ℕ
   pub memory : ℕ
-  pub values : Values
+  pub values : QuotaValues
 
 abbrev pub given : List ℕ → ℕ → ℕ → ℕ → ℕ → Case
 given s p b M K = record { bytes = s; workers = p; gap = b; memory = M; values = record { number = 0; place = 0; quota = K } }

@@ -102,18 +102,18 @@ pub record Asked (s : List ℕ) (p b : ℕ) : Type 0 where
 -- ---- the paper's number and values
 
 -- number and place of a refusal, 0 and 0 where there is none; K, 0 where there is none
-pub record Values : Type 0 where
+pub record QuotaValues : Type 0 where
   pub number : ℕ
   pub place : ℕ
   pub quota : ℕ
 
-abbrev pub valuesOf : Quoted → Values
+abbrev pub valuesOf : Quoted → QuotaValues
 valuesOf (Given K) = record { number = 0; place = 0; quota = K }
 valuesOf (Refused r) = record { number = r .number; place = r .place; quota = 0 }
 
 -- the same from the checks and the numbers alone
-abbrev pub valuesWith : Found → ℕ → Values
+abbrev pub valuesWith : Found → ℕ → QuotaValues
 valuesWith found K = record { number = foundNumber found; place = foundPlace found; quota = ifFound found 0 K }
 
-unfoldable pub valuesFor : List ℕ → ℕ → ℕ → ℕ → Values
+unfoldable pub valuesFor : List ℕ → ℕ → ℕ → ℕ → QuotaValues
 valuesFor s p b M = valuesWith (firstFound (quotaPasses s p b M)) (mostQuota (tableOf s) p b M)

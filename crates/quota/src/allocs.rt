@@ -8,7 +8,7 @@ ghost use mathlib.Core.Path.{_≡_};
 ghost use Prim.Native.Nat.{max};
 ghost use Rattle.table.specs.Format.{threadsOf, tableOf};
 ghost use Rattle.table.specs.Checks.{allocOf};
-ghost use Rattle.table.specs.Code.Steps.{Read};
+ghost use Rattle.table.specs.Sum.{Read};
 ghost use Rattle.quota.specs.Quota.{leastQuota};
 
 // Action a's alloc, 0 for any other kind.

@@ -12,7 +12,7 @@ ghost use Prim.Native.Nat.{_≤_, _<_};
 ghost use mathlib.Core.List.{_++_};
 ghost use lib.ListN.{length, drop};
 ghost use Rattle.table.specs.Format.{u32At};
-ghost use Rattle.table.specs.Code.Steps.{Read};
+ghost use Rattle.table.specs.Sum.{Read};
 ghost use Rattle.quota.specs.Line.{gapIn, memoryIn, answerTo, givenLine, quotaLine};
 
 // 32 bits, little-endian.

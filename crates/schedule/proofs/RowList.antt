@@ -10,12 +10,13 @@ use mathlib.Core.List.{List, [], _∷_, _++_, List·Memᴰ, List·Memᴰ·head, 
 use Rattle.table.specs.Format.{Table}
 use Rattle.schedule.specs.declared.Run.{Run}
 use Rattle.schedule.specs.Machine.{State, turnOf, passedBy}
-use Rattle.schedule.specs.Record.{maxThreads, tableIn, listIn, stateOf}
+use Rattle.table.specs.Checks.{maxThreads}
+use Rattle.schedule.specs.Record.{tableIn, listIn, stateOf}
 use Rattle.schedule.specs.Sound.{Steady}
 use Rattle.schedule.specs.Turn.{stepRun, passedIn}
 use Rattle.schedule.specs.Runs.{moved}
 use Rattle.schedule.specs.Calls.{Call, afterCalls, rowOfCalls}
-use Rattle.schedule.specs.RowList.{Said, Old, readRow, kept, readOld, oldAfter, oldSaid, afterRow, saidRow}
+use Rattle.schedule.specs.RowList.{TurnSaid, Old, readRow, kept, readOld, oldAfter, oldSaid, afterRow, saidRow}
 use Rattle.schedule.proofs.Sequences.Lists.{filled-front}
 use Rattle.schedule.proofs.Stores.{moved-steady, moved-state}
 use Rattle.schedule.proofs.Runs.Rows.{front-workers}
@@ -43,7 +44,7 @@ rows-same r h (w ∷ row) b o e =
     let (after, says) = rows-same (moved r w) (moved-steady r h w in-row) row (λ v m. b v (List·Memᴰ·tail m)) (kept (turnOf T (r .quota) w (readOld o) .state)) same in (
       after,
       ap (λ (x : State). record { reply = turnOf T (r .quota) w x .reply; passed = passedBy w x } ∷ saidRow (moved r w) row) (sym e)
-          ∙ ap (λ (l : List Said). record { reply = turnOf T (r .quota) w (readOld o) .reply; passed = passedBy w (readOld o) } ∷ l) says,
+          ∙ ap (λ (l : List TurnSaid). record { reply = turnOf T (r .quota) w (readOld o) .reply; passed = passedBy w (readOld o) } ∷ l) says,
     )
 
 -- every row of turns of a sound record

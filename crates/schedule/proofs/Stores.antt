@@ -6,14 +6,14 @@ use mathlib.Core.List.{[], _∷_}
 use borrow.Author.Tests.{ltb-false}
 use Rattle.table.specs.Format.{Table}
 use Rattle.table.specs.Pass.{firstFound}
-use Rattle.table.specs.Checks.{outside, allocOf}
+use Rattle.table.specs.Checks.{maxThreads, outside, allocOf}
 use Rattle.table.specs.declared.Found.the-variants.{Nothing}
 use Rattle.table.proofs.Sizes.{inside}
 use Rattle.table.proofs.Passes.{tryPass-from-0, firstFound-nothing}
 use Rattle.schedule.specs.declared.Run.{Run}
 use Rattle.schedule.specs.Machine.{State, turnOf}
 use Rattle.schedule.specs.Links.{walk, laid}
-use Rattle.schedule.specs.Record.{maxThreads, maxWorkers, tableIn, bytesOf, stateOf, stored}
+use Rattle.schedule.specs.Record.{maxWorkers, tableIn, bytesOf, stateOf, stored}
 use Rattle.schedule.specs.Begin.{maxQuota, allocAbove, beginPasses}
 use Rattle.schedule.specs.Sound.{Steady}
 use Rattle.schedule.specs.Turn.{stepRun}

@@ -6,7 +6,7 @@ use lib.ListN.{length, replicate, set}
 use lib.Dec.{ltb}
 use Rattle.table.specs.Format.{Table, tableOf}
 use Rattle.table.specs.Pass.{Pass, firstFound}
-use Rattle.table.specs.Checks.{outside, allocOf, passes}
+use Rattle.table.specs.Checks.{maxThreads, outside, allocOf, passes}
 use Rattle.table.specs.declared.Found.{Found}
 use Rattle.table.specs.declared.Found.the-variants.{Nothing, At}
 use Rattle.schedule.specs.declared.Run.{Run}
@@ -14,7 +14,7 @@ use Rattle.schedule.specs.declared.Begun.{Begun}
 use Rattle.schedule.specs.declared.Beginning.the-variants.{Begun as started, Refused}
 use Rattle.schedule.specs.Machine.{State, nobody, ready}
 use Rattle.schedule.specs.Firsts.{firsts}
-use Rattle.schedule.specs.Record.{maxThreads, maxWorkers, maxBytes, filled, blank, stored}
+use Rattle.schedule.specs.Record.{maxWorkers, maxBytes, filled, blank, stored}
 
 abbrev pub maxQuota : ℕ
 maxQuota = 16777215

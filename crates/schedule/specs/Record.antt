@@ -4,15 +4,13 @@ use mathlib.Core.List.{List, [], _∷_, _++_}
 use lib.ListN.{length, take, replicate}
 use Rattle.table.specs.Sum.{pick}
 use Rattle.table.specs.Format.{Table, tableOf}
+use Rattle.table.specs.Checks.{maxThreads}
 use Rattle.schedule.specs.declared.Worker.{Worker}
 use Rattle.schedule.specs.declared.Run.{Run}
 use Rattle.schedule.specs.Machine.{State, nobody}
 use Rattle.schedule.specs.Links.{Links, listOf, laid}
 
 -- the sizes of the record
-abbrev pub maxThreads : ℕ
-maxThreads = 1024
-
 abbrev pub maxWorkers : ℕ
 maxWorkers = 16
 

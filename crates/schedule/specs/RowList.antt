@@ -6,12 +6,13 @@ use Rattle.table.specs.Format.{Table}
 use Rattle.schedule.specs.declared.Run.{Run}
 use Rattle.schedule.specs.declared.Reply.{Reply}
 use Rattle.schedule.specs.Machine.{State, withList, turnOf, passedBy}
-use Rattle.schedule.specs.Record.{maxThreads, filled}
+use Rattle.table.specs.Checks.{maxThreads}
+use Rattle.schedule.specs.Record.{filled}
 use Rattle.schedule.specs.Turn.{stepRun, passedIn}
 use Rattle.schedule.specs.Runs.{moved}
 
 -- what a turn says: its reply, and how many threads it passed over (N7)
-pub record Said : Type 0 where
+pub record TurnSaid : Type 0 where
   pub reply : Reply
   pub passed : ℕ
 
@@ -44,7 +45,7 @@ unfoldable pub oldAfter : Table → ℕ → Old → List ℕ → Old
 oldAfter T K o [] = o
 oldAfter T K o (w ∷ l) = oldAfter T K (kept (turnOf T K w (readOld o) .state)) l
 
-unfoldable pub oldSaid : Table → ℕ → Old → List ℕ → List Said
+unfoldable pub oldSaid : Table → ℕ → Old → List ℕ → List TurnSaid
 oldSaid T K o [] = []
 oldSaid T K o (w ∷ l) = record { reply = turnOf T K w (readOld o) .reply; passed = passedBy w (readOld o) } ∷ oldSaid T K (kept (turnOf T K w (readOld o) .state)) l
 
@@ -55,6 +56,6 @@ unfoldable pub afterRow : Run → List ℕ → Run
 afterRow r [] = r
 afterRow r (w ∷ l) = afterRow (moved r w) l
 
-unfoldable pub saidRow : Run → List ℕ → List Said
+unfoldable pub saidRow : Run → List ℕ → List TurnSaid
 saidRow r [] = []
 saidRow r (w ∷ l) = record { reply = stepRun r w .reply; passed = passedIn r w } ∷ saidRow (moved r w) l

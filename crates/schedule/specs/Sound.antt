@@ -8,7 +8,7 @@ use lib.Dec.{ltb, leb, eqb}
 use Rattle.table.specs.Sum.{pick, sumTo, anyBelow}
 use Rattle.table.specs.Format.{join, is, Table, kind, tableOf}
 use Rattle.table.specs.Pass.{firstFound}
-use Rattle.table.specs.Checks.{owner, endOf, allocOf, freeOf, partOf, passes}
+use Rattle.table.specs.Checks.{maxThreads, owner, endOf, allocOf, freeOf, partOf, passes}
 use Rattle.table.specs.Rules.{Rules}
 use Rattle.table.specs.Serial.{serialOrder}
 use Rattle.table.specs.Level.{forkBelow, dependsOn}
@@ -17,7 +17,7 @@ use Rattle.table.specs.declared.Found.the-variants.{Nothing, At}
 use Rattle.schedule.specs.declared.Worker.{Worker}
 use Rattle.schedule.specs.declared.Run.{Run}
 use Rattle.schedule.specs.Machine.{State, unborn, held, waiting, ended, nobody}
-use Rattle.schedule.specs.Record.{maxThreads, maxWorkers, maxBytes, filled, setOf, bytesOf, tableIn, linksIn, listIn, stateOf}
+use Rattle.schedule.specs.Record.{maxWorkers, maxBytes, filled, setOf, bytesOf, tableIn, linksIn, listIn, stateOf}
 use Rattle.schedule.specs.Firsts.{firsts}
 use Rattle.schedule.specs.Links.{Links, laid}
 use Rattle.schedule.specs.Begin.{beginPasses}

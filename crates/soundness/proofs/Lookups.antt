@@ -8,7 +8,7 @@ use borrow.Author.Tests.{ne-eqb}
 use lib.ListN.{getD}
 use Rattle.table.specs.Format.{fork, join, is, kindOf, codeAt, argumentAt, bodiesFrom, Table, tableOf}
 use Rattle.table.specs.Checks.{endOf}
-use Rattle.table.specs.Code.Steps.{Read}
+use Rattle.table.specs.Sum.{Read}
 use Rattle.table.proofs.Walks.{is-code}
 use Rattle.table.proofs.Tests.{same-is}
 use Rattle.table.proofs.Parts.{code-from, argument-from}

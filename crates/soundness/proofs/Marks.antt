@@ -18,7 +18,7 @@ use Rattle.schedule.specs.Sound.{numberOf}
 use Rattle.schedule.proofs.Tables.Lawful.{Lawful}
 use Rattle.schedule.proofs.Tables.Numbers.{number-root, number-child, number-below}
 use Rattle.soundness.specs.Code.Checks.{Lengths, Numbers}
-use Rattle.soundness.specs.Code.Order.{Inside, Marked, Walked, Numbering}
+use Rattle.soundness.specs.Code.Order.{Inside, Marked, NumbersTo, Numbering}
 use Rattle.soundness.proofs.Spans.{inside-within, inside-fork, over-step, over-fork}
 
 -- ---- the marks of the threads from u on
@@ -75,29 +75,29 @@ module _ (T : Table) (u a : ℕ) (numbers : List ℕ) (m : Marked T u a numbers)
 
 -- ---- along a thread
 
-pub walked-inside : {T : Table} {t a number : ℕ} {before numbers : List ℕ} → Walked T t a number before numbers → a < endOf T t → Inside T t a
-walked-inside w h = record { thread = w .thread; from = w .from; upto = h }
+pub numbers-inside : {T : Table} {t a number : ℕ} {before numbers : List ℕ} → NumbersTo T t a number before numbers → a < endOf T t → Inside T t a
+numbers-inside w h = record { thread = w .thread; from = w .from; upto = h }
 
 -- a walk from here on, and two walks one after the other
-pub walked-here : {T : Table} {t a number : ℕ} {before numbers : List ℕ} → Walked T t a number before numbers → Walked T t a number numbers numbers
-walked-here w =
+pub numbers-here : {T : Table} {t a number : ℕ} {before numbers : List ℕ} → NumbersTo T t a number before numbers → NumbersTo T t a number numbers numbers
+numbers-here w =
     record { thread = w .thread; from = w .from; upto = w .upto; right = w .right; marked = w .marked; same = λ u h. refl }
 
-pub walked-on : {T : Table} {t a number b other : ℕ} {before numbers after : List ℕ}
-    → Walked T t a number before numbers → Walked T t b other numbers after → Walked T t b other before after
-walked-on w v =
+pub numbers-on : {T : Table} {t a number b other : ℕ} {before numbers after : List ℕ}
+    → NumbersTo T t a number before numbers → NumbersTo T t b other numbers after → NumbersTo T t b other before after
+numbers-on w v =
     record { thread = v .thread; from = v .from; upto = v .upto; right = v .right; marked = v .marked; same = λ u h. v .same u h ∙ w .same u h }
 
-module _ (T : Table) (l : Lawful T) (t a number : ℕ) (before numbers : List ℕ) (w : Walked T t a number before numbers) where
-  pub walked-owner : owner T a ≡ t
-  walked-owner = owner-is T (l .contents) t a (w .thread) (w .from) (omega (arith, w .upto, after-end T (l .contents) t (w .thread)))
+module _ (T : Table) (l : Lawful T) (t a number : ℕ) (before numbers : List ℕ) (w : NumbersTo T t a number before numbers) where
+  pub numbers-owner : owner T a ≡ t
+  numbers-owner = owner-is T (l .contents) t a (w .thread) (w .from) (omega (arith, w .upto, after-end T (l .contents) t (w .thread)))
 
-  pub walked-small : number < 8192
-  walked-small = omega (arith, w .right, number-below T l a (omega (arith, w .upto, end-within T (l .contents) t (w .thread))), l .few-actions)
+  pub numbers-small : number < 8192
+  numbers-small = omega (arith, w .right, number-below T l a (omega (arith, w .upto, end-within T (l .contents) t (w .thread))), l .few-actions)
 
   -- the number stored in the thread's own place
-  pub walked-stored : Walked T t a number (set numbers t number) (set numbers t number)
-  walked-stored =
+  pub numbers-stored : NumbersTo T t a number (set numbers t number) (set numbers t number)
+  numbers-stored =
       record {
         thread = w .thread;
         from = w .from;
@@ -109,10 +109,10 @@ module _ (T : Table) (l : Lawful T) (t a number : ℕ) (before numbers : List �
 
   module _ (h : a < endOf T t) where
     i : Inside T t a
-    i = walked-inside w h
+    i = numbers-inside w h
 
-    pub walked-step : is fork (kind T a) ≡ false → Walked T t (a + 1) (number + 1) before numbers
-    walked-step k =
+    pub numbers-step : is fork (kind T a) ≡ false → NumbersTo T t (a + 1) (number + 1) before numbers
+    numbers-step k =
         record {
           thread = w .thread;
           from = omega (arith, w .from);
@@ -122,9 +122,9 @@ module _ (T : Table) (l : Lawful T) (t a number : ℕ) (before numbers : List �
           same = w .same;
         }
 
-    pub walked-fork : kind T a ≡ fork
-        → Walked T t (a + 1) (number + 1 + getD numbers (T .argument a) 0) before (set numbers (T .argument a) (number + 1))
-    walked-fork k =
+    pub numbers-fork : kind T a ≡ fork
+        → NumbersTo T t (a + 1) (number + 1 + getD numbers (T .argument a) 0) before (set numbers (T .argument a) (number + 1))
+    numbers-fork k =
         let (p, q) = inside-fork T l t a i k in
         record {
           thread = w .thread;
@@ -174,8 +174,8 @@ module _ (T : Table) (l : Lawful T) (next numbers : List ℕ) where
             let b : x < T .first t = rw p at (fork-later T (l .contents) (l .bodies) x i k) in
             rw p at (g .marked .begun x (omega (arith, numbering-first)) k (omega arith))
 
-    pub numbering-walked : Walked T t a (getD numbers t 0) numbers numbers
-    numbering-walked =
+    pub numbering-numbered : NumbersTo T t a (getD numbers t 0) numbers numbers
+    numbering-numbered =
         record {
           thread = h;
           from = omega (arith, numbering-first);
@@ -185,8 +185,8 @@ module _ (T : Table) (l : Lawful T) (next numbers : List ℕ) where
           same = λ u j. refl;
         }
 
-    module _ (number other stop : ℕ) (middle after : List ℕ) (w : Walked T t (getD next t 0) number numbers middle)
-        (v : Walked T t (stop - 1) other (set middle t number) after) (e : stop ≡ a + T .count t) where
+    module _ (number other stop : ℕ) (middle after : List ℕ) (w : NumbersTo T t (getD next t 0) number numbers middle)
+        (v : NumbersTo T t (stop - 1) other (set middle t number) after) (e : stop ≡ a + T .count t) where
       -- the thread's own number stored, and its body passed
       pub numbering-next : Numbering T next (t + 1) stop after
       unfolding sumTo is codeOf

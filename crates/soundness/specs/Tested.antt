@@ -7,13 +7,13 @@ use lib.Dec.{ltb, eqb}
 use Rattle.table.specs.Sum.{pick}
 use Rattle.table.specs.Format.{Table, tableOf}
 use Rattle.table.specs.Pass.{firstFound}
-use Rattle.table.specs.Checks.{passes}
+use Rattle.table.specs.Checks.{maxThreads, passes}
 use Rattle.table.specs.declared.Found.{Found}
 use Rattle.schedule.specs.declared.Worker.{Worker}
 use Rattle.schedule.specs.declared.Run.{Run}
 use Rattle.schedule.specs.Machine.{parentOf, nobody}
 use Rattle.schedule.specs.Links.{Links, listOf, laid}
-use Rattle.schedule.specs.Record.{maxThreads, maxWorkers, filled, tableIn}
+use Rattle.schedule.specs.Record.{maxWorkers, filled, tableIn}
 use Rattle.schedule.specs.Begin.{beginPasses}
 use Rattle.schedule.specs.Firsts.{firsts}
 use Rattle.schedule.specs.Sound.{allBelow, sameList, commonSound, listed, sameLinks, sound}

@@ -1,13 +1,11 @@
 // Memory held by what is done.
 use crate::bodies::done_to;
-use table::kinds::ALLOC;
-use table::kinds::FREE;
+use table::kinds::alloc_of;
+use table::kinds::free_of;
 use table::read;
 ghost use mathlib.Core.Path.{_≡_};
-ghost use Prim.Native.Nat.{_<_};
-ghost use Rattle.table.specs.Format.{kindOf, tableOf};
+ghost use Rattle.table.specs.Format.{tableOf};
 ghost use Rattle.table.specs.Checks.{allocOf, freeOf};
-ghost use Rattle.table.specs.Code.Steps.{ownAmount};
 ghost use Rattle.schedule.specs.Sound.{heldRight};
 ghost use Rattle.soundness.specs.Code.Checks.{Accepted, Placed};
 ghost use Rattle.soundness.specs.Code.Adding.{Adds, Added};
@@ -15,14 +13,6 @@ ghost use Rattle.soundness.specs.Code.Adding.{Adds, Added};
 pub(crate) struct Sums {
     pub(crate) allocs: u64,
     pub(crate) frees: u64,
-}
-
-// The argument x where k is the kind counted, else 0.
-fn own_amount(own: u8, k: u8, x: usize) -> u64
-    requires { ⌜ own < 6 ⌝ }
-    ensures { λ r. ⌜ r ≡ ownAmount (kindOf own) (kindOf k) x ⌝ }
-{
-    if k == own { x as u64 } else { 0 }
 }
 
 // What the actions of thread t below stop drew and gave back, added to what came before.
@@ -37,8 +27,8 @@ fn thread_sums(table: &[u8], n: usize, t: usize, stop: usize, before: Sums) -> S
     while a < stop {
         let k = read::code(table, n, a);
         let x = read::argument(table, n, a);
-        allocs += own_amount(ALLOC, k, x);
-        frees += own_amount(FREE, k, x);
+        allocs += alloc_of(k, x);
+        frees += free_of(k, x);
         a += 1;
     }
     Sums { allocs, frees }

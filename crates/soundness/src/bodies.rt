@@ -11,7 +11,7 @@ ghost use lib.ListN.{getD, replicate};
 ghost use Rattle.table.specs.Format.{tableOf};
 ghost use Rattle.table.specs.Checks.{owner, endOf};
 ghost use Rattle.table.specs.Rules.{Rules};
-ghost use Rattle.table.specs.Code.Steps.{Read};
+ghost use Rattle.table.specs.Sum.{Read};
 ghost use Rattle.schedule.specs.Sound.{allBelow, nextInBody, inOrder, statusFollows, waitsAtJoin};
 ghost use Rattle.schedule.specs.Parents.{Parents};
 ghost use Rattle.soundness.specs.Code.Checks.{Accepted, Placed, Forks, Noted, doneAt, doneTo, unbornAt, joinDone, bodyInOrder};

@@ -10,10 +10,10 @@ ghost use lib.Dec.{ltb};
 ghost use Rattle.table.specs.Format.{tableOf};
 ghost use Rattle.table.specs.Checks.{owner, endOf};
 ghost use Rattle.table.specs.Serial.{serial};
-ghost use Rattle.table.specs.Code.Steps.{Read};
+ghost use Rattle.table.specs.Sum.{Read};
 ghost use Rattle.schedule.specs.Sound.{allIn, inSerialOrder, rises};
 ghost use Rattle.soundness.specs.Code.Checks.{Accepted, Placed, Lengths, Numbers};
-ghost use Rattle.soundness.specs.Code.Order.{Inside, Numbering, Walked};
+ghost use Rattle.soundness.specs.Code.Order.{Inside, Numbering, NumbersTo};
 
 // How many actions come with action a: itself, and those of the child that it forks.
 fn span(table: &[u8], n: usize, a: usize, lengths: &[u16; 1024]) -> usize
@@ -63,8 +63,8 @@ fn fill_lengths(table: &[u8], n: usize, lengths: &mut [u16; 1024])
 fn pass(table: &[u8], n: usize, a: usize, number: usize, numbers: &mut [u16; 1024]) -> usize
     requires { ⌜ Accepted (now table) n ⌝ }
     requires { ⌜ a < endOf (tableOf (now table)) (owner (tableOf (now table)) a) ⌝ }
-    requires { ⌜ Walked (tableOf (now table)) (owner (tableOf (now table)) a) a number (now numbers) (now numbers) ⌝ }
-    ensures { λ r. ⌜ Walked (tableOf (now (table .entry))) (owner (tableOf (now (table .entry))) a) (a + 1) r (now (numbers .entry)) (now (numbers .exit)) ⌝ }
+    requires { ⌜ NumbersTo (tableOf (now table)) (owner (tableOf (now table)) a) a number (now numbers) (now numbers) ⌝ }
+    ensures { λ r. ⌜ NumbersTo (tableOf (now (table .entry))) (owner (tableOf (now (table .entry))) a) (a + 1) r (now (numbers .entry)) (now (numbers .exit)) ⌝ }
 {
     let after = number + 1;
     if read::code(table, n, a) != FORK {
@@ -87,8 +87,8 @@ fn advance(
 ) -> usize
     requires { ⌜ Accepted (now table) n ⌝ }
     requires { ⌜ (from ≤ to) × (to ≤ endOf (tableOf (now table)) (owner (tableOf (now table)) from)) ⌝ }
-    requires { ⌜ Walked (tableOf (now table)) (owner (tableOf (now table)) from) from start (now numbers) (now numbers) ⌝ }
-    ensures { λ r. ⌜ Walked (tableOf (now (table .entry))) (owner (tableOf (now (table .entry))) from) to r (now (numbers .entry)) (now (numbers .exit)) ⌝ }
+    requires { ⌜ NumbersTo (tableOf (now table)) (owner (tableOf (now table)) from) from start (now numbers) (now numbers) ⌝ }
+    ensures { λ r. ⌜ NumbersTo (tableOf (now (table .entry))) (owner (tableOf (now (table .entry))) from) to r (now (numbers .entry)) (now (numbers .exit)) ⌝ }
 {
     let mut number = start;
     let mut a = from;

@@ -4,7 +4,6 @@ use crate::common::test_common;
 use crate::listed::list_follows;
 use crate::order::in_serial_order;
 use crate::unused::bytes_rest;
-use links::NO_THREAD;
 use schedule::Run;
 use schedule::Worker;
 use table::read;
@@ -60,8 +59,7 @@ fn links_sound(
     if !list_sound(table, n, next, status, row, len, numbers) {
         return false;
     }
-    // A leftmost thread begins the row; where there is none, leftmost is 1,024.
-    leftmost <= NO_THREAD && links::describe(left, right, row, len)
+    links::describe(left, right, leftmost, row, len)
 }
 
 // All clauses on the parts, `forks` and `row` left as they used them; the parents where all hold.

@@ -17,7 +17,6 @@ pub mod Amounts
 pub mod Balances
 pub mod JobTables
 pub mod Peaks
-pub mod Stack
 pub mod Words
 pub mod Parts
 pub mod Walks

@@ -1,27 +1,22 @@
--- What the walks over one body share: codes against kinds, arguments of 24 bits, the amounts of a body against those of its thread, the least place.
+-- What the walks over one body share: codes against kinds, arguments of 24 bits, the amounts of a body against those of its thread.
 use mathlib.Core.Path.{_≡_, refl, sym, ap, _∙_}
 use Prim.Native.Nat.{ℕ, zero, suc, _+_, _*_, _^_, _≤_, _<_, min}
-use mathlib.Core.List.{List, [], _∷_}
-use mathlib.Core.Bool.{Bool, true, false, not, _&&_}
+use mathlib.Core.List.{List}
+use mathlib.Core.Bool.{Bool, true, false}
 use native.Mathlib.Decide.{ℕ-discrete}
-use native.Mathlib.Numerals.{add-one}
 use native.Mathlib.Omega.{arith}
-use borrow.Author.Tests.{lt-ltb, le-ltb, eq-eqb, ne-eqb}
-use lib.Dec.{ltb, eqb}
+use borrow.Author.Tests.{eq-eqb, ne-eqb}
+use lib.Dec.{eqb}
 use lib.ListN.{getD, set, length-drop, length-set}
 use lib.Seq.{getD-drop, getD-set-same, getD-set-other}
 use Rattle.table.specs.Sum.{pick, sumTo}
-use Rattle.table.specs.Format.{Kind, alloc, free, codeOf, kindOf, is, codeAt, argumentAt, threadsOf, actionsOf, firstOf, countOf, bodiesOf, bodyOf, Table, tableOf, kind}
+use Rattle.table.specs.Format.{Kind, alloc, free, codeOf, kindOf, is, codeAt, argumentAt, threadsOf, actionsOf, firstOf, countOf, bodiesOf, bodyOf, Table, tableOf, kind, ownAmount}
 use Rattle.table.specs.Checks.{withChild, whole}
 use Rattle.table.specs.Rules.{ContentRules, BodyRules}
-use Rattle.table.specs.Pass.{Check, orElse, refusal, tryAt, tryFrom}
-use Rattle.table.specs.Code.Steps.{ownAmount, childAmount, amountAt, leastNext, leastThat, WalkReady, Filled, Headed, Formed}
-use Rattle.table.specs.declared.Found.{Found}
-use Rattle.table.specs.declared.Found.the-variants.{Nothing, At}
+use Rattle.table.specs.Code.Steps.{childAmount, amountAt, WalkReady, Filled, Headed, Formed}
 use Rattle.table.proofs.Tests.{pick-same}
 use Rattle.table.proofs.Sums.{sumTo-cong, sumTo-part}
 use Rattle.table.proofs.Sizes.{Sizes, sizes}
-use Rattle.table.proofs.Trying.{orElse-last, tryFrom-split}
 use Rattle.table.proofs.Bodies.{body-within, owner-at, NamesChild, child-between}
 use Rattle.table.proofs.Amounts.{action-within}
 use Rattle.table.proofs.Parts.{code-part, argument-part}
@@ -144,52 +139,3 @@ filled-set T amount amounts t v h e f =
     go : (u : ℕ) → t ≤ u → u < T .threads → Dec (u ≡ t) → getD (set amounts t v) u 0 ≡ amount u
     go u l k (yes d) = rw (d, getD-set-same amounts t v 0 (omega (arith, f .size))) e
     go u l k (no d) = getD-set-other amounts t u v 0 d ∙ f .right u (omega (arith, d)) k
-
--- ---- the least number that passes a test, against the least place at which a check applies
-
-least-le : (f : ℕ → Bool) (k : ℕ) → leastThat f k ≤ k
-unfolding leastThat
-least-le f zero = omega arith
-least-le f (suc k) = go (least-le f k) (eqb (leastThat f k) k && not (f k))
-  where
-    go : leastThat f k ≤ k → (t : Bool) → pick t (k + 1) (leastThat f k) ≤ suc k
-    go h true = omega arith
-    go h false = omega arith
-
-pub least-cong : (f g : ℕ → Bool) (k : ℕ) → ((i : ℕ) → i < k → f i ≡ g i) → leastThat f k ≡ leastThat g k
-unfolding leastThat
-least-cong f g zero h = refl
-least-cong f g (suc k) h = rw (least-cong f g k (λ i l. h i (omega arith)), h k (omega arith))
-
--- one place more
-place-more : (c : Check) (from k : ℕ)
-    → tryFrom (c ∷ []) from (suc k) ≡ orElse (tryFrom (c ∷ []) from k) (pick (c .applies (from + k)) (At (refusal (c .number) (from + k))) Nothing)
-unfolding tryFrom tryAt
-place-more c from k =
-    ap (tryFrom (c ∷ []) from) (sym (add-one k))
-    ∙ tryFrom-split (c ∷ []) from k 1
-    ∙ ap (orElse (tryFrom (c ∷ []) from k)) (orElse-last _)
-
-least-more : (number from k least : ℕ) (g : Found) (t : Bool) → least ≤ k → g ≡ pick (ltb least k) (At (refusal number (from + least))) Nothing
-    → orElse g (pick t (At (refusal number (from + k))) Nothing)
-    ≡ pick (ltb (leastNext t k least) (suc k)) (At (refusal number (from + leastNext t k least))) Nothing
-least-more number from k least g t h e = go t (ℕ-discrete least k)
-  where
-    go : (t : Bool) → Dec (least ≡ k)
-        → orElse g (pick t (At (refusal number (from + k))) Nothing)
-        ≡ pick (ltb (leastNext t k least) (suc k)) (At (refusal number (from + leastNext t k least))) Nothing
-    go true (yes d) = rw (e, d, le-ltb k k (omega arith), eq-eqb k k refl, lt-ltb k (suc k) (omega arith))
-    go false (yes d) = rw (e, d, le-ltb k k (omega arith), eq-eqb k k refl, le-ltb (k + 1) (suc k) (omega arith))
-    go t (no d) =
-        let l : least < k = omega (arith, d) in
-        rw (e, lt-ltb least k l, ne-eqb least k d, lt-ltb least (suc k) (omega arith))
-
--- what one check finds among k places is at the least that passes its test
-pub least-found : (c : Check) (from k : ℕ)
-    → tryFrom (c ∷ []) from k
-    ≡ pick (ltb (leastThat (λ i. c .applies (from + i)) k) k) (At (refusal (c .number) (from + leastThat (λ i. c .applies (from + i)) k))) Nothing
-unfolding leastThat tryFrom
-least-found c from zero = refl
-least-found c from (suc k) =
-    place-more c from k
-    ∙ least-more (c .number) from k (leastThat (λ i. c .applies (from + i)) k) (tryFrom (c ∷ []) from k) (c .applies (from + k)) (least-le _ k) (least-found c from k)

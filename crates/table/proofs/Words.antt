@@ -6,7 +6,8 @@ use native.Mathlib.Omega.{arith}
 use lib.ListN.{length, getD, List·getD-eq-default}
 use lib.Seq.{getD-drop}
 use Rattle.table.specs.Format.{u16At, u24At, bodiesFrom, tableOf}
-use Rattle.table.specs.Code.Steps.{Read, DoubleWord}
+use Rattle.table.specs.Sum.{Read}
+use Rattle.table.specs.Code.Steps.{DoubleWord}
 
 -- past the end there are zeros
 pub past-end : (s : List ℕ) (i : ℕ) → length s ≤ i → getD s i 0 ≡ 0

@@ -11,7 +11,7 @@ use Rattle.table.specs.Checks.{openBefore, joinNotLatest, endWithOpen, n
 use Rattle.table.specs.Serial.{serialWithin, fronts, heldAfter, peakOf, S1}
 use Rattle.table.specs.Level.{forkBelow, forkOf, beforeIt, joinedEnd, dependsOn, levelWithin, D}
 use Rattle.table.specs.Nested.{nestWithin, N}
-use Rattle.table.specs.Load.{Values, valuesOf, loaded, factsOf}
+use Rattle.table.specs.Load.{TableValues, valuesOf, loaded, factsOf}
 
 -- ---- writing a table as bytes
 
@@ -74,7 +74,7 @@ overfreed = written ((act alloc 6 ∷ act free 7 ∷ act end 0 ∷ []) ∷ [])
 
 pub record Case : Type 0 where
   pub bytes : List ℕ
-  pub values : Values
+  pub values : TableValues
 
 abbrev pub accepted : List ℕ → ℕ → ℕ → ℕ → ℕ → ℕ → Case
 accepted s n m peak depth nested =

@@ -1,2 +1,2 @@
--- promises between the parts of the code; `Read` stands in promises to other crates too
+-- promises between the parts of the code
 pub mod Steps

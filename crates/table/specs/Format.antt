@@ -4,6 +4,7 @@ use mathlib.Core.List.{List}
 use mathlib.Core.Bool.{Bool}
 use lib.ListN.{getD, drop}
 use lib.Dec.{eqb}
+use Rattle.table.specs.Sum.{pick}
 
 -- "Kinds: 0 end, 1 work; 2 alloc, 3 free; 4 fork, 5 join"
 pub data Kind : Type 0 where
@@ -31,6 +32,10 @@ codeOf unknown = 6
 unfoldable pub is : Kind → Kind → Bool
 unfolding codeOf
 is k j = eqb (codeOf k) (codeOf j)
+
+-- what an action of kind k counts for the kind own: its argument x where it is of that kind, else 0
+abbrev pub ownAmount : Kind → Kind → ℕ → ℕ
+ownAmount own k x = pick (is own k) x 0
 
 -- What a table says: threads n, actions m, "the thread's first action, its count of actions", "kind, argument".
 pub record Table : Type 0 where

@@ -26,7 +26,7 @@ unfoldable pub loaded : List ℕ → Loaded
 loaded s = answer (firstFound (passes s)) (factsOf (tableOf s))
 
 -- the paper's values of an answer: number and place, 0 and 0 for an accepted table; n, m, S1, D and N, 0 for a refused one
-pub record Values : Type 0 where
+pub record TableValues : Type 0 where
   pub number : ℕ
   pub place : ℕ
   pub threads : ℕ
@@ -35,7 +35,7 @@ pub record Values : Type 0 where
   pub depth : ℕ
   pub nested : ℕ
 
-abbrev pub valuesOf : Loaded → Values
+abbrev pub valuesOf : Loaded → TableValues
 valuesOf (Accepted f) =
     record { number = 0; place = 0; threads = f .threads; actions = f .actions; peak = f .peak; depth = f .depth; nested = f .nested }
 valuesOf (Refused r) =
@@ -58,7 +58,7 @@ ifFound Nothing x y = y
 ifFound (At r) x y = x
 
 -- of a table and what its checks have found: "A refused table gives n, m, S1 and D as 0"; N, "0 for a refused table"
-abbrev pub valuesWith : Found → Table → Values
+abbrev pub valuesWith : Found → Table → TableValues
 valuesWith found T =
     record {
       number = foundNumber found;
@@ -71,5 +71,5 @@ valuesWith found T =
     }
 
 -- "The first that applies wins". The values of loading's answer are these: `table-values` (proofs/Values).
-unfoldable pub tableValues : List ℕ → Values
+unfoldable pub tableValues : List ℕ → TableValues
 tableValues s = valuesWith (firstFound (passes s)) (tableOf s)

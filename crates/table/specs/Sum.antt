@@ -1,5 +1,6 @@
--- Sums, greatest elements and choices by a test: the few words of arithmetic that the other definitions are written in.
-use Prim.Native.Nat.{ℕ, zero, suc, _+_, max}
+-- Sums, greatest elements, choices by a test, and a number with its bound: the few words of arithmetic that the other definitions are written in.
+use mathlib.Core.Path.{_≡_}
+use Prim.Native.Nat.{ℕ, zero, suc, _+_, _<_, max}
 use mathlib.Core.List.{List, [], _∷_}
 use mathlib.Core.Bool.{Bool, true, false}
 
@@ -32,3 +33,8 @@ anyBelow f (suc k) = pick (f k) true (anyBelow f k)
 unfoldable pub greatestTo : (ℕ → ℕ) → ℕ → ℕ
 greatestTo f zero = 0
 greatestTo f (suc k) = max (greatestTo f k) (f k)
+
+-- a number r that is x, and below a bound
+pub record Read (x bound r : ℕ) : Type 0 where
+  pub value : r ≡ x
+  pub small : r < bound

@@ -1,12 +1,10 @@
 // Numbers, actions and bodies out of bytes. What other crates may call takes any bytes, and reads zeros past their end.
-use crate::Found;
-use crate::Refusal;
 ghost use mathlib.Core.Path.{_≡_};
 ghost use Prim.Native.Nat.{_+_, _*_, _<_};
 ghost use lib.ListN.{length, getD, drop};
 ghost use Rattle.table.specs.Format.{u16At, threadsOf, actionsOf, bodiesFrom, codeAt, argumentAt, tableOf};
-ghost use Rattle.table.specs.Pass.{refusal};
-ghost use Rattle.table.specs.Code.Steps.{Read, DoubleWord};
+ghost use Rattle.table.specs.Sum.{Read};
+ghost use Rattle.table.specs.Code.Steps.{DoubleWord};
 
 // The byte at a position.
 pub fn byte(s: &[u8], i: usize) -> u8
@@ -121,6 +119,25 @@ pub fn argument(table: &[u8], n: usize, a: usize) -> usize
     argument_in(bodies(table, n), a)
 }
 
+// An action's code and argument.
+pub struct Action {
+    pub code: u8,
+    pub argument: usize,
+}
+
+// Action a in a list of actions, both read at once.
+pub fn action_in(l: &[u8], a: usize) -> Action
+    ensures { λ r. ⌜ r .code ≡ codeAt (now (l .entry)) a ⌝ }
+    ensures { λ r. ⌜ Read (argumentAt (now (l .entry)) a) 16777216 (r .argument) ⌝ }
+{
+    let x = item(l, a);
+    let code = (x % 256) as u8;
+    Action {
+        code,
+        argument: x / 256,
+    }
+}
+
 // Thread t's body in a table of n threads, with all that follows it.
 pub fn body_of(table: &[u8], n: usize, t: usize) -> &[u8]
     ensures { λ r. ⌜ now r ≡ drop (4 * tableOf (now (table .entry)) .first t) (bodiesFrom (now (table .entry)) n) ⌝ }
@@ -133,29 +150,4 @@ pub fn body_of(table: &[u8], n: usize, t: usize) -> &[u8]
     }
     let start = 4 * first;
     &actions[start..]
-}
-
-// The code and the argument of an action that is known to be there: the checks' walks have no test at each action.
-pub(crate) fn code_at(l: &[u8], a: usize) -> u8
-    requires { ⌜ 4 * a + 3 < length (now l) ⌝ }
-    ensures { λ r. ⌜ r ≡ codeAt (now (l .entry)) a ⌝ }
-{
-    (double_word(l, 4 * a) % 256) as u8
-}
-
-pub(crate) fn argument_at(l: &[u8], a: usize) -> usize
-    requires { ⌜ 4 * a + 3 < length (now l) ⌝ }
-    ensures { λ r. ⌜ Read (argumentAt (now (l .entry)) a) 16777216 r ⌝ }
-{
-    double_word(l, 4 * a) / 256
-}
-
-pub(crate) fn refuse(number: u8, place: usize) -> Found
-    requires { ⌜ place < 65536 ⌝ }
-    ensures { λ r. ⌜ r ≡ Found.At (refusal number place) ⌝ }
-{
-    Found::At(Refusal {
-        number,
-        place: place as u16,
-    })
 }

@@ -1,30 +1,15 @@
 -- What the code's inner functions require and promise.
-use Prim.Native.Nat.{ℕ, _+_, _-_, _≤_, _<_}
+use Prim.Native.Nat.{ℕ, _≤_, _<_}
 use mathlib.Core.Path.{_≡_}
-use mathlib.Core.List.{List, [], _∷_}
+use mathlib.Core.List.{List, _∷_}
 use mathlib.Core.Bool.{Bool, true, false}
-use lib.ListN.{length, take, drop}
-use Rattle.assembly.specs.Words.{inClass, spanOf, wordsIn, noNumber, numberIn}
+use lib.ListN.{length, drop}
+use Rattle.assembly.specs.Words.{noNumber, numberIn}
 use Rattle.assembly.specs.Said.{saids}
 use Rattle.assembly.specs.Assembly.{isThread, isAction, bodyCount, longestText, checked}
 use Rattle.assembly.specs.declared.Said.{Said}
 use Rattle.assembly.specs.declared.check.Checked.the-variants.{WellFormed}
 use Rattle.assembly.specs.declared.line.Line.{Line}
-use Rattle.assembly.specs.declared.scan.Class.the-variants.{Blank, Word}
-
--- a front of a list whose bytes pass a test, the longest
-pub record Spans (p : ℕ → Bool) (s : List ℕ) (r : ℕ) : Type 0 where
-  pub value : r ≡ spanOf p s
-  pub within : r ≤ length s
-
--- a line's first word, from start to end; none where these are the same
-pub record FirstWord (s : List ℕ) (start end : ℕ) : Type 0 where
-  pub order : start ≤ end
-  pub within : end ≤ length s
-  pub starts : start ≡ spanOf (inClass Blank) s
-  pub ends : end ≡ start + spanOf (inClass Word) (drop start s)
-  pub none : start ≡ end → wordsIn s ≡ []
-  pub some : start < end → wordsIn s ≡ take (end - start) (drop start s) ∷ wordsIn (drop end s)
 
 pub record Valued (w : List ℕ) (r : ℕ) : Type 0 where
   pub value : r ≡ numberIn w

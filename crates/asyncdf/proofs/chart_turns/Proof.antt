@@ -15,7 +15,7 @@ use Rattle.lines.specs.Lines.{putAll}
 use Rattle.lines.specs.Puts.{Puts}
 use Rattle.lines.proofs.Putting.{puts-within, puts-more}
 use Rattle.chart.specs.declared.Charted.the-variants.{Refused}
-use Rattle.chart.specs.Chart.{shown, lineTexts, tooMany, charted}
+use Rattle.chart.specs.Chart.{figures, lineTexts, tooMany, charted}
 use Rattle.chart.specs.Turns.{chartTurns}
 use Rattle.chart.proofs.Records.{wall-width, many, few, charted-unsound, charted-many, charted-written}
 use Rattle.soundness.proofs.Passed.{test-fails, test-passes, test-parents, has-workers}
@@ -30,11 +30,11 @@ module _ (run : Run) (order : List ℕ) {out : List ℕ} {at : ℕ} {o : List �
   refused number e p = rw (← e) (puts-within (omega arith) p)
 
   -- the record's line, and those after each turn
-  lined : {o₁ : List ℕ} {r₁ : ℕ} (u : unsound run ≡ false) (t : tooMany run ≡ false) → bufferAt o₁ r₁ ≡ putAll (bufferAt out at) (lineTexts (shown run))
+  lined : {o₁ : List ℕ} {r₁ : ℕ} (u : unsound run ≡ false) (t : tooMany run ≡ false) → bufferAt o₁ r₁ ≡ putAll (bufferAt out at) (lineTexts (figures run))
       → Puts o₁ r₁ o r (turnsTexts true run order) (85 * (length order + 1)) → Puts out at o r (chartTurns run order) (85 * (length order + 2))
   unfolding chartTurns turnsTexts
   lined {o₁} {r₁} u t q p =
-      let first : Puts out at o₁ r₁ (lineTexts (shown run)) 85 = record { put = q; short = omega (arith, wall-width run u t) } in
+      let first : Puts out at o₁ r₁ (lineTexts (figures run)) 85 = record { put = q; short = omega (arith, wall-width run u t) } in
       rw (← charted-written run u t) (puts-within (omega arith) (puts-more first p))
 
 abbrev entry : tie.After-test → tie.Start

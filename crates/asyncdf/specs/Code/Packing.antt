@@ -5,13 +5,13 @@ use Rattle.table.specs.Sum.{pick}
 use Rattle.schedule.specs.declared.Run.{Run}
 use Rattle.schedule.specs.Links.{noThread, Links}
 use Rattle.schedule.specs.Actives.{noLinks, filledFrom}
-use Rattle.schedule.specs.Record.{maxThreads}
+use Rattle.table.specs.Checks.{maxThreads}
 use Rattle.lent.specs.Arrays.{arrays}
 use Rattle.lent.specs.Packed.{packedOf}
 use Rattle.cells.specs.Memory.{Memory, memory, movedIn}
 use Rattle.cells.specs.Stands.{workersIn}
 use Rattle.cells.specs.Blocks.{Words, Sums}
-use Rattle.cells.specs.Code.Cells.{headed, totalled, laidRow, amountsAre, ofWorkers}
+use Rattle.cells.specs.Places.{headed, totalled, laidRow, amountsAre, ofWorkers}
 
 -- the second list, which is in no record: the threads of the list that do not wait
 abbrev pub secondFor : Run → Links

@@ -11,7 +11,7 @@ use Rattle.schedule.specs.declared.Reply.{Reply}
 use Rattle.schedule.specs.Turn.{rootEnded, turned}
 use Rattle.schedule.specs.Listing.{Line, Last, line, toldWith, actionIn, threadIn, turnsBy}
 use Rattle.lines.specs.Lines.{turnTexts, lastTexts, textsOf}
-use Rattle.chart.specs.Chart.{Shown, shownOf, lineTexts, lineText, mostTurns, charted}
+use Rattle.chart.specs.Chart.{Figures, figuresOf, lineTexts, lineText, mostTurns, charted}
 use Rattle.chart.specs.Turns.{laterLines}
 use Rattle.cells.specs.Memory.{Memory, movedIn}
 use Rattle.cells.specs.Stands.{workersIn}
@@ -29,14 +29,14 @@ widest chart = pick chart 85 64
 abbrev pub lineIn : Table → ℕ → Reply → Words → Sums → Line
 lineIn T w reply W S = line (S .turns) w (toldWith reply (kind T (actionIn reply)) (getD (W .rows 1) (threadIn reply) 0)) (S .held)
 
-abbrev pub shownIn : ℕ → Memory → Shown
-shownIn p M = shownOf (movedIn M .turns) p (workersIn M) (movedIn M .totals .held)
+abbrev pub figuresIn : ℕ → Memory → Figures
+figuresIn p M = figuresOf (movedIn M .turns) p (workersIn M) (movedIn M .totals .held)
 
 -- what is put after a turn, and as long as it may be by the types of its numbers: a chart's line is as long as it is
-abbrev pub afterTexts : Bool → Shown → Line → List (List ℕ)
+abbrev pub afterTexts : Bool → Figures → Line → List (List ℕ)
 afterTexts chart x l = pick chart (lineTexts x) (turnTexts l)
 
-abbrev pub afterSize : Bool → Shown → ℕ
+abbrev pub afterSize : Bool → Figures → ℕ
 afterSize chart x = pick chart (length (lineText x)) 64
 
 -- the last line; a chart has none

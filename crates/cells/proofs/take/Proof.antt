@@ -9,7 +9,6 @@ use denote.Ref.{now}
 use lib.ListN.{getD}
 use Rattle.table.specs.Sum.{pick}
 use Rattle.table.specs.Format.{Table, threadsOf, bodiesFrom, codeAt, argumentAt, tableOf, kind}
-use Rattle.schedule.specs.declared.Reply.{Reply}
 use Rattle.schedule.specs.declared.Reply.the-variants.{Idle}
 use Rattle.schedule.specs.Machine.{ready}
 use Rattle.schedule.specs.Links.{Sought, seek}
@@ -18,7 +17,7 @@ use Rattle.lent.specs.Counted.{roomFor, passedAlong}
 use Rattle.lent.proofs.Leaves.{fits64}
 use Rattle.cells.specs.Memory.{Memory, workerIn, movedIn, told, passedOver}
 use Rattle.cells.specs.Blocks.{bytesIn, wordsIn, numbersIn, sumsIn, gathered, memoryOf}
-use Rattle.cells.specs.Code.Cells.{totalled}
+use Rattle.cells.specs.Places.{totalled}
 use Rattle.cells.specs.Code.Acts.{Gone, acted, Seated}
 use Rattle.cells.proofs.Takes.{counted, headsOut, room, without-room, no-thread, idles, goes-unfit, goes, passes-none, passes-idle, passes, spoke, passing}
 use Rattle.cells.proofs.take.Statement.{statement}

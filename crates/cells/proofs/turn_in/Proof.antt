@@ -6,7 +6,6 @@ use borrow.Author.Needs.{needs}
 use borrow.Author.Tests.{eq-eqb, ne-eqb}
 use denote.Ref.{now}
 use lib.ListN.{getD}
-use Rattle.schedule.specs.declared.Reply.{Reply}
 use Rattle.schedule.specs.declared.Reply.the-variants.{Idle}
 use Rattle.cells.specs.Memory.{Memory, movedIn, hindrance, told, takenIn, turnIn, passedOver}
 use Rattle.cells.specs.Blocks.{memoryOf}

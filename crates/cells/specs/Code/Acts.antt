@@ -10,7 +10,8 @@ use Rattle.schedule.specs.declared.Worker.{Worker}
 use Rattle.schedule.specs.declared.Reply.{Reply}
 use Rattle.schedule.specs.declared.Reply.the-variants.{Idle}
 use Rattle.schedule.specs.Machine.{ready, held}
-use Rattle.schedule.specs.Record.{maxThreads, maxWorkers}
+use Rattle.table.specs.Checks.{maxThreads}
+use Rattle.schedule.specs.Record.{maxWorkers}
 use Rattle.lent.specs.Arrays.{withStatuses}
 use Rattle.lent.specs.Turn.{Outcome, actOn}
 use Rattle.lent.specs.Counted.{busyAfter}

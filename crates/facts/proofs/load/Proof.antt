@@ -13,7 +13,7 @@ use Rattle.table.specs.Serial.{S1}
 use Rattle.table.specs.Level.{D}
 use Rattle.table.specs.Nested.{N}
 use Rattle.table.specs.Load.{factsOf, loaded, tableValues, valuesOf}
-use Rattle.table.specs.Code.Steps.{Kept}
+use Rattle.facts.specs.Code.Steps.{Kept}
 use Rattle.table.specs.declared.Refusal.{Refusal}
 use Rattle.table.specs.declared.Found.the-variants.{Nothing, At}
 use Rattle.table.specs.declared.Loaded.{Loaded}

@@ -13,13 +13,14 @@ use Rattle.table.specs.Sum.{pick}
 use Rattle.table.specs.Format.{Table}
 use Rattle.table.proofs.Tests.{no-way}
 use Rattle.schedule.specs.Machine.{State, unborn, ready, held, waiting, ended, statusOf, workerOf, leftmost}
-use Rattle.schedule.specs.Links.{noThread, Sought, firstReady, seek}
+use Rattle.schedule.specs.Links.{noThread, Linked, Sought, firstReady, seek}
 use Rattle.schedule.specs.Actives.{actives}
 use Rattle.schedule.proofs.Tables.Lawful.{Lawful}
 use Rattle.schedule.proofs.Sound.Facts.{Facts}
 use Rattle.schedule.proofs.Sequences.Lists.{Below}
 use Rattle.schedule.proofs.Linked.Once.{Once, once-short}
-use Rattle.schedule.proofs.Linked.Actives.{actives-old, once-actives}
+use Rattle.schedule.proofs.Linked.Actives.{actives-old, once-actives, below-actives}
+use Rattle.schedule.proofs.Linked.Links.{seek-linked}
 use Rattle.schedule.proofs.Linked.ActiveMoves.{list-once}
 
 -- ---- by thread
@@ -74,6 +75,12 @@ firstReady-actives status (t ∷ l) = go (eqb (getD status t 0) waiting) refl (f
         → firstReady status (pick w (actives status l) (t ∷ actives status l)) ≡ pick (eqb (getD status t 0) ready) t (firstReady status l)
     go true w ih = rw (ne-eqb (getD status t 0) ready (λ e. omega (arith, eqb-true (getD status t 0) waiting w))) ih
     go false w ih = rw ih
+
+-- so that a search along the second list's links finds the list's leftmost ready thread
+pub second-finds : (under over : List ℕ) (first : ℕ) (status l : List ℕ) → Linked under over first (actives status l) → Once l → Below noThread l
+    → seek noThread status over first .thread ≡ firstReady status l
+second-finds under over first status l h o b =
+    ap (λ (x : Sought). x .thread) (seek-linked under over first (actives status l) status h (once-actives status l o) (below-actives noThread status l b)) ∙ firstReady-actives status l
 
 -- ---- what a search passes
 

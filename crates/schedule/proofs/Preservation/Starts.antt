@@ -9,7 +9,7 @@ use lib.Dec.{ltb, eqb}
 use borrow.Author.Tests.{le-ltb, ne-eqb}
 use Rattle.table.specs.Sum.{pick, sumTo}
 use Rattle.table.specs.Format.{Table}
-use Rattle.table.specs.Checks.{owner, allocOf, freeOf}
+use Rattle.table.specs.Checks.{maxThreads, owner, allocOf, freeOf}
 use Rattle.table.specs.Level.{forkBelow}
 use Rattle.table.proofs.Tests.{no-way}
 use Rattle.table.proofs.Sums.{sumTo-zero}
@@ -17,7 +17,7 @@ use Rattle.table.proofs.Bodies.{count-pos, after-end, owner-below, owner-first}
 use Rattle.table.proofs.Nesting.{fork-exists, fork-found}
 use Rattle.schedule.specs.declared.Worker.{Worker}
 use Rattle.schedule.specs.Machine.{unborn, ready, ended, nextOf, statusOf, amountOf, workerOf, nobody}
-use Rattle.schedule.specs.Record.{maxThreads, maxWorkers}
+use Rattle.schedule.specs.Record.{maxWorkers}
 use Rattle.schedule.specs.Begin.{startState}
 use Rattle.schedule.specs.Firsts.{firsts}
 use Rattle.schedule.specs.Sound.{numberOf, isDone, doneIn, sumDone, ofDone, progressIn, shareIn, progress, isJoined, share}

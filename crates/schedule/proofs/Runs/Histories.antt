@@ -11,7 +11,7 @@ use borrow.Author.Tests.{ltb-true, not-false}
 use Rattle.table.specs.Sum.{pick}
 use Rattle.table.specs.Format.{Table, tableOf}
 use Rattle.table.specs.Pass.{refusal, firstFound, tryAt}
-use Rattle.table.specs.Checks.{passes}
+use Rattle.table.specs.Checks.{maxThreads, passes}
 use Rattle.table.specs.Rules.{Rules}
 use Rattle.table.specs.declared.Found.{Found}
 use Rattle.table.specs.declared.Found.the-variants.{Nothing, At}
@@ -27,7 +27,7 @@ use Rattle.schedule.specs.declared.Report.{Report}
 use Rattle.schedule.specs.declared.Report.the-variants.{Finished, Spent, Refused}
 use Rattle.schedule.specs.declared.Ran.{Ran}
 use Rattle.schedule.specs.Machine.{State}
-use Rattle.schedule.specs.Record.{maxThreads, maxBytes, stateOf, tableIn, filled}
+use Rattle.schedule.specs.Record.{maxBytes, stateOf, tableIn, filled}
 use Rattle.schedule.specs.Begin.{begin, begunAs, beginPasses, startState, startRun}
 use Rattle.schedule.specs.Firsts.{firsts}
 use Rattle.schedule.specs.Links.{walk, laid}

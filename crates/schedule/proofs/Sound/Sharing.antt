@@ -8,7 +8,7 @@ use mathlib.Core.List.{List}
 use lib.ListN.{length, getD}
 use lib.Seq.{ext-getD}
 use Rattle.table.specs.Format.{Table}
-use Rattle.schedule.specs.Record.{maxThreads}
+use Rattle.table.specs.Checks.{maxThreads}
 use Rattle.schedule.specs.Firsts.{firsts}
 use Rattle.schedule.specs.Sound.{shareIn, sharesIn}
 use Rattle.schedule.proofs.Sequences.Lists.{filled-at, filled-length, firsts-length, firsts-at, firsts-past}

@@ -7,7 +7,7 @@ use lib.Dec.{ltb, eqb}
 use lib.ListN.{length, getD, replicate}
 use Rattle.table.specs.Sum.{pick}
 use Rattle.table.specs.Format.{fork, join, is, Table, kind, tableOf}
-use Rattle.table.specs.Checks.{owner, endOf}
+use Rattle.table.specs.Checks.{maxThreads, owner, endOf}
 use Rattle.table.specs.Rules.{Rules}
 use Rattle.table.specs.Serial.{serial}
 use Rattle.table.specs.Level.{forkBelow}
@@ -15,7 +15,7 @@ use Rattle.schedule.specs.declared.Worker.{Worker}
 use Rattle.schedule.specs.declared.Run.{Run}
 use Rattle.schedule.specs.Machine.{held, ended}
 use Rattle.schedule.specs.Links.{Links, listOf, laid}
-use Rattle.schedule.specs.Record.{maxThreads, maxWorkers, maxBytes, filled, bytesOf}
+use Rattle.schedule.specs.Record.{maxWorkers, maxBytes, filled, bytesOf}
 use Rattle.schedule.specs.Sound.{allBelow, doneIn, nextInBody, inOrder, statusFollows, waitsAtJoin, unused, oneHolder, workerRight, numberOf, listed, sameLinks, sameList}
 
 -- the bytes are an accepted table of n threads

@@ -22,7 +22,7 @@ pub record Marked (T : Table) (u a : ℕ) (numbers : List ℕ) : Type 0 where
       → getD numbers (T .argument x) 0 ≡ length (serial T (T .first (T .argument x)))
 
 -- The walk along thread t has come to action a, which has this number; the threads up to t are as they were before.
-pub record Walked (T : Table) (t a number : ℕ) (before numbers : List ℕ) : Type 0 where
+pub record NumbersTo (T : Table) (t a number : ℕ) (before numbers : List ℕ) : Type 0 where
   pub thread : t < T .threads
   pub from : T .first t ≤ a
   pub upto : a ≤ endOf T t

@@ -6,8 +6,7 @@ use mathlib.Core.List.{List}
 use denote.Ref.{now}
 use lib.ListN.{length, take, drop, length-drop}
 use Rattle.table.proofs.Parts.{rest-part}
-use Rattle.assembly.specs.Words.{inClass, spanOf}
-use Rattle.assembly.specs.Code.Steps.{Spans}
+use Rattle.assembly.specs.Words.{inClass, spanOf, Spans}
 use Rattle.assembly.specs.declared.scan.Class.the-variants.{Line}
 use Rattle.assembly.proofs.Lines.{reads-line, reads-last}
 use borrow.Author.Needs.{needs}

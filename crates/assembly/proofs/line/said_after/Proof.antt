@@ -6,9 +6,9 @@ use mathlib.Core.List.{List}
 use borrow.Author.Tests.{eq-eqb, ne-eqb, lt-ltb, le-ltb}
 use lib.ListN.{length, take, drop}
 use Rattle.table.proofs.Parts.{rest-part}
-use Rattle.assembly.specs.Words.{wordsIn, noNumber, numberIn}
+use Rattle.assembly.specs.Words.{wordsIn, noNumber, numberIn, FirstWord}
 use Rattle.assembly.specs.Said.{saidAfter, saidLast}
-use Rattle.assembly.specs.Code.Steps.{FirstWord, Valued}
+use Rattle.assembly.specs.Code.Steps.{Valued}
 use Rattle.assembly.specs.declared.Expected.the-variants.{Number, LineEnd}
 use Rattle.assembly.specs.declared.Said.the-variants.{Action, Expects}
 use borrow.Author.Needs.{needs}

@@ -4,9 +4,8 @@ use native.Mathlib.Omega.{arith}
 use mathlib.Core.Path.{_≡_}
 use mathlib.Core.List.{List}
 use borrow.Author.Tests.{eq-eqb, ne-eqb}
-use Rattle.assembly.specs.Words.{wordsIn}
+use Rattle.assembly.specs.Words.{wordsIn, FirstWord}
 use Rattle.assembly.specs.Said.{saidLast}
-use Rattle.assembly.specs.Code.Steps.{FirstWord}
 use Rattle.assembly.specs.declared.Expected.the-variants.{LineEnd}
 use Rattle.assembly.specs.declared.Said.the-variants.{Thread, Action, Expects}
 use borrow.Author.Needs.{needs}

@@ -7,8 +7,7 @@ use mathlib.Core.List.{List}
 use mathlib.Core.Bool.{Bool, true, false}
 use lib.ListN.{length, getD, drop, drop-of-length-le}
 use lib.Seq.{drop-cons}
-use Rattle.assembly.specs.Words.{spanOf, inClass}
-use Rattle.assembly.specs.Code.Steps.{Spans}
+use Rattle.assembly.specs.Words.{spanOf, inClass, Spans}
 use Rattle.assembly.proofs.Parts.{span-here, span-stops}
 use borrow.Author.Needs.{needs}
 use Rattle.assembly.proofs.scan.span.Statement.{statement}

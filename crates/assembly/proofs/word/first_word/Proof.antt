@@ -5,8 +5,7 @@ use mathlib.Core.List.{List}
 use denote.Ref.{now}
 use lib.ListN.{length, take, drop, length-drop}
 use Rattle.table.proofs.Parts.{rest-part}
-use Rattle.assembly.specs.Words.{inClass}
-use Rattle.assembly.specs.Code.Steps.{Spans, FirstWord}
+use Rattle.assembly.specs.Words.{inClass, Spans, FirstWord}
 use Rattle.assembly.specs.declared.scan.Class.the-variants.{Blank, Word}
 use Rattle.assembly.proofs.Parts.{word-first}
 use borrow.Author.Needs.{needs}

@@ -11,21 +11,21 @@ use Rattle.table.specs.Format.{tableOf}
 use Rattle.schedule.specs.Listing.{Line}
 use Rattle.lines.specs.Lines.{putAll, turnTexts}
 use Rattle.lines.specs.Puts.{Puts}
-use Rattle.chart.specs.Chart.{Shown, shownOf, lineTexts}
+use Rattle.chart.specs.Chart.{Figures, figuresOf, lineTexts}
 use Rattle.cells.specs.Blocks.{wordsIn, sumsIn, memoryOf}
-use Rattle.asyncdf.specs.Code.Sheets.{lineIn, shownIn, afterTexts, afterSize}
+use Rattle.asyncdf.specs.Code.Sheets.{lineIn, figuresIn, afterTexts, afterSize}
 use Rattle.asyncdf.proofs.turns.put_after.Statement.{statement}
 use Rattle.asyncdf.proofs.turns.put_after.Tie as tie
 
-module _ {chart : Bool} (x : Shown) (l : Line) {s o : List ℕ} {at r : ℕ} where
-  of-chart : {y : Shown} → y ≡ x → chart ≡ true → bufferAt o r ≡ putAll (bufferAt s at) (lineTexts y) → Puts s at o r (afterTexts chart x l) (afterSize chart x)
-  of-chart d e p = rw e (record { put = p ∙ ap (λ (z : Shown). putAll (bufferAt s at) (lineTexts z)) d; short = omega arith })
+module _ {chart : Bool} (x : Figures) (l : Line) {s o : List ℕ} {at r : ℕ} where
+  of-chart : {y : Figures} → y ≡ x → chart ≡ true → bufferAt o r ≡ putAll (bufferAt s at) (lineTexts y) → Puts s at o r (afterTexts chart x l) (afterSize chart x)
+  of-chart d e p = rw e (record { put = p ∙ ap (λ (z : Figures). putAll (bufferAt s at) (lineTexts z)) d; short = omega arith })
 
   of-listing : chart ≡ false → Puts s at o r (turnTexts l) 64 → Puts s at o r (afterTexts chart x l) (afterSize chart x)
   of-listing e p = rw e p
 
-abbrev drawn : tie.Start → Shown
-drawn s = shownIn (s .args .p) (memoryOf (now (s .args .bytes)) (now (s .args .words)) (now (s .args .numbers)) (now (s .args .sums)))
+abbrev drawn : tie.Start → Figures
+drawn s = figuresIn (s .args .p) (memoryOf (now (s .args .bytes)) (now (s .args .words)) (now (s .args .numbers)) (now (s .args .sums)))
 
 abbrev told : tie.Start → Line
 told s = lineIn (tableOf (now (s .args .table))) (s .args .w) (s .args .reply) (wordsIn (now (s .args .words))) (sumsIn (now (s .args .sums)))
@@ -53,7 +53,7 @@ returns c =
     let w = h .before in
     let t = w .before in
     let s = t .before .before .before in
-    of-chart (drawn s) (told s) (λ i. shownOf ((n .total-at2 .ensures) i) (s .args .p) ((w .workers-out .ensures) i) ((h .total-at .ensures) i)) (t .if1 .taken) (p .put-line .ensures)
+    of-chart (drawn s) (told s) (λ i. figuresOf ((n .total-at2 .ensures) i) (s .args .p) ((w .workers-out .ensures) i) ((h .total-at .ensures) i)) (t .if1 .taken) (p .put-line .ensures)
 
 put-step-requires : tie.Need-put-step-requires
 put-step-requires c κs = search needs

@@ -20,7 +20,7 @@ use Rattle.schedule.specs.Listing.{line, toldWith, actionIn, threadIn, lastWith
 use Rattle.schedule.proofs.Sequences.Lists.{filled-front}
 use Rattle.lines.specs.Puts.{Puts}
 use Rattle.lines.proofs.Putting.{puts-within}
-use Rattle.chart.specs.Chart.{Shown, shown, lineText, mostTurns, tooMany}
+use Rattle.chart.specs.Chart.{Figures, figures, lineText, mostTurns, tooMany}
 use Rattle.chart.proofs.Records.{wall-width, charted-written}
 use Rattle.chart.proofs.Records.{few as few-turns}
 use Rattle.lent.proofs.Answers.{steady-room, turned-taken}
@@ -28,7 +28,7 @@ use Rattle.cells.specs.Memory.{Memory, movedIn, Told, turnIn}
 use Rattle.cells.specs.Stands.{runIn}
 use Rattle.cells.specs.Blocks.{memoryOf}
 use Rattle.asyncdf.specs.Code.Drives.{Moving}
-use Rattle.asyncdf.specs.Code.Sheets.{turnsTexts, widest, shownIn, afterTexts, afterSize, overTexts, hindered}
+use Rattle.asyncdf.specs.Code.Sheets.{turnsTexts, widest, figuresIn, afterTexts, afterSize, overTexts, hindered}
 use Rattle.asyncdf.proofs.Moving.{not-done, other, moves, replies, tally, settings, stands-there, keeps, over}
 use Rattle.asyncdf.proofs.Ordered.{Listed, start, ended, exhausted, refused, again}
 use Rattle.asyncdf.proofs.Hindrances.{Free, unhindered, hinders}
@@ -42,7 +42,7 @@ record Tells (chart : Bool) (s : List ℕ) (last p : ℕ) (order out₀ : List �
   listed : Listed chart order out₀ at₀ (runIn s M₀) out (runIn s M) at i
 
 -- a chart's line that has its width is as long as a line may be
-sized : (chart : Bool) (x : Shown) {s o : List ℕ} {at k : ℕ} {texts : List (List ℕ)} → (chart ≡ true → length (lineText x) ≡ 85) → Puts s at o k texts (afterSize chart x)
+sized : (chart : Bool) (x : Figures) {s o : List ℕ} {at k : ℕ} {texts : List (List ℕ)} → (chart ≡ true → length (lineText x) ≡ 85) → Puts s at o k texts (afterSize chart x)
     → Puts s at o k texts (widest chart)
 sized true x h p = puts-within (omega (arith, h refl)) p
 sized false x h p = p
@@ -101,9 +101,9 @@ module _ {chart : Bool} {s : List ℕ} {last p : ℕ} {order out₀ : List ℕ} 
       abbrev Put : List ℕ → ℕ → ℕ → List ℕ → Type 0
       Put o k p' s' =
           Puts out at o k
-          (afterTexts chart (shownIn p' (x .memory))
+          (afterTexts chart (figuresIn p' (x .memory))
           (line (movedIn (x .memory) .turns) w (toldWith (x .reply) (kind (tableOf s') (actionIn (x .reply))) (getD (x .memory .arrays .next) (threadIn (x .reply)) 0)) (movedIn (x .memory) .totals .held)))
-          (afterSize chart (shownIn p' (x .memory)))
+          (afterSize chart (figuresIn p' (x .memory)))
 
       module _ {o : List ℕ} {k : ℕ} (l : length o ≡ length out) (q : Put o k p s) where
         put-there : Put o k (there .workers) (bytesOf there)
@@ -112,7 +112,7 @@ module _ {chart : Bool} {s : List ℕ} {last p : ℕ} {order out₀ : List ℕ} 
         next-listed : Listed chart order out₀ at₀ (runIn s M₀) o there k (i + 1)
         next-listed =
             again (v .listed) h (v .moving .unended) takes refl (λ c. sym (charted-written there (sound-there c) (few-there c))) l
-            (sized chart (shown there) (λ c. wall-width there (sound-there c) (few-there c)) put-there)
+            (sized chart (figures there) (λ c. wall-width there (sound-there c) (few-there c)) put-there)
 
         goes-on : ((u : ℕ) → x .reply ≡ Done u last → ⊥) → Tells chart s last p order out₀ at₀ M₀ (x .memory) o k (i + 1)
         goes-on d = record { moving = keeps (v .moving) (f .room) own t d; count = count-there; room = room-there; listed = next-listed }

@@ -31,8 +31,8 @@ same-line {s = s} {o} {at} {r} e p = subst (λ (z : Line). Puts s at o r (turnTe
 threads-requires : tie.Need-threads-requires
 threads-requires c κs = search needs
 
-action-in-requires : tie.Need-action-in-requires
-action-in-requires c κs = search needs
+action-done-requires : tie.Need-action-done-requires
+action-done-requires c κs = search needs
 
 cast-code : tie.Need-cast-code
 cast-code c = search needs
@@ -69,7 +69,7 @@ returns c =
     let a = k .before in
     let n = a .before in
     let g = n .before .before .before .args in
-    let e = code-read (now (g .table)) (n .threads .ensures .value) (a .action-in .ensures) (k .code .ensures) in
+    let e = code-read (now (g .table)) (n .threads .ensures .value) (a .action-done .ensures) (k .code .ensures) in
     let d = next-read (wordsIn (now (g .words)) .rows 1) (x .thread-in .ensures) (r .row-at .ensures) in
     same-line (λ i. line ((t .total-at2 .ensures) i) (g .w) (toldWith (g .reply) (kindOf (e i)) (d i)) ((h .total-at .ensures) i)) (p .put-turn .ensures)
 
@@ -78,7 +78,7 @@ put-step-spec =
     tie.close
     (tie.spec
     threads-requires
-    action-in-requires
+    action-done-requires
     cast-code
     code-requires
     thread-in-requires

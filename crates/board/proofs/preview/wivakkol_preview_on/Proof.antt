@@ -1,5 +1,5 @@
 -- `board::preview::wivakkol_preview_on` meets its contract: each way out is one of the definition's.
-use Prim.Native.Nat.{ℕ, _≤_, _<_}
+use Prim.Native.Nat.{ℕ, _≤_}
 use mathlib.Core.List.{List}
 use native.Mathlib.Omega.{arith}
 use borrow.Author.Tests.{not-true, not-false}
@@ -71,10 +71,9 @@ returns-4 c =
     let e = l .before .before in
     let h = e .before in
     let d = h .before .before .before .before .before .before in
-    let small : d .args .w < 16 = omega (arith, l .if2 .left, l .before .places .given .0) in
     λ parents left under.
     shows-turn (now (d .args .table)) (d .args .w) (start d parents left under) (h .hindrance .ensures) (e .if1 .left) (p .peek-in .ensures parents left _ under) (not-false _ (f .if3 .left))
-    (l .if2 .left) (q .passed-by .ensures small) (c .put-preview .ensures)
+    (l .if2 .left) (q .passed-by .ensures) (c .put-preview .ensures)
 
 pub wivakkol-preview-on-spec : {M : Type 1} → statement M
 wivakkol-preview-on-spec =

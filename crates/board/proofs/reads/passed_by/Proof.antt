@@ -1,9 +1,8 @@
--- `board::reads::passed_by` meets its contract: of a worker that there is, 0 where it holds a thread or finds none ready, else what the search along the list counts.
+-- `board::reads::passed_by` meets its contract: 0 where it holds a thread or finds none ready, else what the search along the list counts.
 use mathlib.Core.Path.{_≡_, refl}
 use Prim.Native.Nat.{ℕ, _≤_, _<_}
 use mathlib.Core.List.{List}
 use mathlib.Core.Bool.{Bool, true, false, not}
-use native.Mathlib.Omega.{arith}
 use borrow.Author.Needs.{needs}
 use borrow.Author.Tests.{lt-ltb, le-ltb, eq-eqb, ne-eqb}
 use denote.Ref.{now}
@@ -35,16 +34,13 @@ module _ (status right over : List ℕ) (leftmost first x : ℕ) where
     takes : {k : ℕ} → x ≡ 0 → t < noThread → k ≡ passedAlong false (seek 1024 status right leftmost) → k ≡ there
     takes o h d = rw (← e, lt-ltb t noThread h, eq-eqb x 0 o) d
 
+element-copy-out-if1 : tie.Need-element-copy-out-if1
+element-copy-out-if1 c = search needs
+
 returns : tie.Need-returns
-returns c = λ h. absurd (omega (arith, h, c .if1 .taken))
-
-element-copy-out-if2 : tie.Need-element-copy-out-if2
-element-copy-out-if2 c = c .if1 .left
-
-returns-2 : tie.Need-returns-2
-returns-2 c =
-    let d = c .before .before .before in
-    λ h. holding (now (d .args .status)) (now (d .args .right)) (now (d .args .over)) (getD (now (d .args .heads)) 0 0) (getD (now (d .args .heads)) 1 0) (getD (now (d .args .holds)) (d .args .w) 0) (c .if2 .taken)
+returns c =
+    let d = c .before .before in
+    holding (now (d .args .status)) (now (d .args .right)) (now (d .args .over)) (getD (now (d .args .heads)) 0 0) (getD (now (d .args .heads)) 1 0) (getD (now (d .args .holds)) (d .args .k) 0) (c .if1 .taken)
 
 element-copy-out-seek : tie.Need-element-copy-out-seek
 element-copy-out-seek c = search needs
@@ -52,11 +48,11 @@ element-copy-out-seek c = search needs
 seek-requires : tie.Need-seek-requires
 seek-requires c κs = search needs
 
-returns-3 : tie.Need-returns-3
-returns-3 c =
+returns-2 : tie.Need-returns-2
+returns-2 c =
     let k = c .before .before in
-    let d = k .before .before .before .before .before in
-    λ h. none (now (d .args .status)) (now (d .args .right)) (now (d .args .over)) (getD (now (d .args .heads)) 0 0) (getD (now (d .args .heads)) 1 0) (getD (now (d .args .holds)) (d .args .w) 0) (k .seek .ensures .0) (c .if3 .taken)
+    let d = k .before .before .before .before in
+    none (now (d .args .status)) (now (d .args .right)) (now (d .args .over)) (getD (now (d .args .heads)) 0 0) (getD (now (d .args .heads)) 1 0) (getD (now (d .args .holds)) (d .args .k) 0) (k .seek .ensures .0) (c .if2 .taken)
 
 element-copy-out-passed-over : tie.Need-element-copy-out-passed-over
 element-copy-out-passed-over c = search needs
@@ -64,24 +60,23 @@ element-copy-out-passed-over c = search needs
 passed-over-requires : tie.Need-passed-over-requires
 passed-over-requires c κs = search needs
 
-returns-4 : tie.Need-returns-4
-returns-4 c =
+returns-3 : tie.Need-returns-3
+returns-3 c =
     let f = c .before .before in
     let k = f .before .before in
     let o = k .before .before in
-    let d = o .before .before .before in
-    λ h. takes (now (d .args .status)) (now (d .args .right)) (now (d .args .over)) (getD (now (d .args .heads)) 0 0) (getD (now (d .args .heads)) 1 0) (getD (now (d .args .holds)) (d .args .w) 0) (k .seek .ensures .0) (o .if2 .left) (f .if3 .left) (c .passed-over .ensures)
+    let d = o .before .before in
+    takes (now (d .args .status)) (now (d .args .right)) (now (d .args .over)) (getD (now (d .args .heads)) 0 0) (getD (now (d .args .heads)) 1 0) (getD (now (d .args .holds)) (d .args .k) 0) (k .seek .ensures .0) (o .if1 .left) (f .if2 .left) (c .passed-over .ensures)
 
 pub passed-by-spec : {M : Type 1} → statement M
 passed-by-spec =
     tie.close
     (tie.spec
+    element-copy-out-if1
     returns
-    element-copy-out-if2
-    returns-2
     element-copy-out-seek
     seek-requires
-    returns-3
+    returns-2
     element-copy-out-passed-over
     passed-over-requires
-    returns-4)
+    returns-3)

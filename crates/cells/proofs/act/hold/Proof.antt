@@ -1,7 +1,7 @@
 -- `cells::act::hold` meets its contract: the highest is that before, or the amount.
 use mathlib.Core.Path.{ap, _∙_}
 use Prim.Native.Nat.{ℕ, max}
-use Rattle.cells.specs.Code.Cells.{totalled}
+use Rattle.cells.specs.Places.{totalled}
 use borrow.Author.Needs.{needs}
 use Rattle.cells.proofs.act.hold.Statement.{statement}
 use Rattle.cells.proofs.act.hold.Tie as tie

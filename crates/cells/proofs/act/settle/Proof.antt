@@ -5,7 +5,7 @@ use borrow.Author.Tests.{not-false}
 use denote.Ref.{now}
 use Rattle.lent.specs.Counted.{busyAfter}
 use Rattle.cells.specs.Blocks.{Words, bytesIn, wordsIn}
-use Rattle.cells.specs.Code.Cells.{holding, threaded, headed}
+use Rattle.cells.specs.Places.{holding, threaded, headed}
 use borrow.Author.Needs.{needs}
 use Rattle.cells.proofs.act.settle.Statement.{statement}
 use Rattle.cells.proofs.act.settle.Tie as tie

@@ -8,7 +8,7 @@ use borrow.Author.Needs.{needs}
 use Rattle.table.specs.Sum.{pick}
 use Rattle.schedule.specs.declared.Worker.{Worker}
 use Rattle.schedule.specs.Machine.{nobody}
-use Rattle.cells.specs.Code.Cells.{ofWorkers}
+use Rattle.cells.specs.Places.{ofWorkers}
 use Rattle.cells.proofs.Copied.{Copying, copying-start, copying-size, copying-inside, copying-on, copying-over, of-workers-enough, of-workers-get}
 use Rattle.cells.proofs.copies.copy_workers_in.Statement.{statement}
 use Rattle.cells.proofs.copies.copy_workers_in.Tie as tie

@@ -6,7 +6,7 @@ use denote.Ref.{now}
 use borrow.Author.Needs.{needs}
 use Rattle.links.proofs.Searching.{SoFar, sought-start, sought-found, sought-out, sought-over, sought-on}
 use Rattle.cells.specs.Blocks.{bytesIn, wordsIn}
-use Rattle.cells.specs.Code.Cells.{headAt}
+use Rattle.cells.specs.Places.{headAt}
 use Rattle.cells.proofs.list.seek.Statement.{statement}
 use Rattle.cells.proofs.list.seek.Tie as tie
 

@@ -8,7 +8,7 @@ use lib.Seq.{getD-set-same, getD-set-other}
 use borrow.Author.Needs.{needs}
 use borrow.Author.Tests.{ne-eqb}
 use Rattle.cells.specs.Blocks.{numbersIn}
-use Rattle.cells.specs.Code.Cells.{setTo}
+use Rattle.cells.specs.Places.{setTo}
 use Rattle.cells.proofs.Parts.{part-right}
 use Rattle.cells.proofs.places.put_setting_in.Statement.{statement}
 use Rattle.cells.proofs.places.put_setting_in.Tie as tie

@@ -13,7 +13,8 @@ use denote.Ref.{now}
 use lib.ListN.{getD, set, drop}
 use Rattle.table.specs.Format.{fork, join, kindOf, is, kind, codeAt, argumentAt, bodiesFrom, bodyOf, tableOf}
 use Rattle.table.specs.Level.{level}
-use Rattle.table.specs.Code.Steps.{Nested, Starts, EndLevels, Walked, nextLevel}
+use Rattle.table.specs.Code.Steps.{Nested}
+use Rattle.facts.specs.Code.Steps.{Starts, EndLevels, Walked, nextLevel}
 use Rattle.table.proofs.Sizes.{Sizes, sizes}
 use Rattle.table.proofs.Bodies.{first-within, fork-below, join-below}
 use Rattle.table.proofs.Rank.{rest}

@@ -6,7 +6,8 @@ use native.Mathlib.Omega.{arith}
 use lib.ListN.{replicate, length-replicate, getD-replicate}
 use Rattle.table.specs.Format.{Table}
 use Rattle.table.specs.Level.{D}
-use Rattle.table.specs.Code.Steps.{Nested, Starts, EndLevels}
+use Rattle.table.specs.Code.Steps.{Nested}
+use Rattle.facts.specs.Code.Steps.{Starts, EndLevels}
 use Rattle.table.proofs.Sizes.{sizes}
 use Rattle.table.proofs.Levels.{level-root}
 use Rattle.facts.proofs.EndLevels.{by-rules, in-threads, few-threads}

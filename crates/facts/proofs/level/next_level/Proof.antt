@@ -8,7 +8,7 @@ use borrow.Author.Tests.{eq-eqb, ne-eqb}
 use denote.Ref.{now}
 use lib.ListN.{getD}
 use Rattle.table.specs.Format.{kindOf}
-use Rattle.table.specs.Code.Steps.{nextLevel}
+use Rattle.facts.specs.Code.Steps.{nextLevel}
 use Rattle.table.proofs.Walks.{is-code}
 use Rattle.facts.proofs.level.next_level.Statement.{statement}
 use Rattle.facts.proofs.level.next_level.Tie as tie

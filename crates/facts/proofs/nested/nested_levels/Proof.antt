@@ -15,7 +15,7 @@ use Rattle.table.specs.Code.Steps.{Nested}
 use Rattle.table.proofs.Sizes.{Sizes, sizes}
 use Rattle.table.proofs.Bodies.{fork-below}
 use Rattle.table.proofs.NestedThreads.{nest-few}
-use Rattle.facts.proofs.NestWalk.{Walked, walked-first, walked-below, walked-known, walked-next, walked-all}
+use Rattle.facts.proofs.NestWalk.{NestsTo, nests-first, nests-below, nests-known, nests-next, nests-all}
 use Rattle.table.proofs.Parts.{bodies-from}
 use Rattle.facts.proofs.nested.nested_levels.Statement.{statement}
 use Rattle.facts.proofs.nested.nested_levels.Tie as tie
@@ -25,7 +25,7 @@ record Inv (s actions : List ℕ) (n m : ℕ) (levels : List ℕ) (deepest t a :
   nested : Nested s n m
   part : actions ≡ bodiesOf s
   within : a ≤ m
-  walked : Walked (tableOf s) levels deepest t a
+  nests : NestsTo (tableOf s) levels deepest t a
 
 some-thread : {s : List ℕ} {n m : ℕ} → Nested s n m → 0 < tableOf s .threads
 unfolding tableOf
@@ -48,7 +48,7 @@ start {s} {actions} {n} h b =
       nested = h;
       part = p;
       within = omega arith;
-      walked = walked-first (tableOf s) (h .formed .laid .contents) (h .formed .bodies) (h .nesting) (h .forking) (some-thread h) (few-threads h);
+      nests = nests-first (tableOf s) (h .formed .laid .contents) (h .formed .bodies) (h .nesting) (h .forking) (some-thread h) (few-threads h);
     }
 
 module _ {s actions : List ℕ} {n m : ℕ} {levels : List ℕ} {deepest t a : ℕ} (i : Inv s actions n m levels deepest t a) where
@@ -64,13 +64,13 @@ module _ {s actions : List ℕ} {n m : ℕ} {levels : List ℕ} {deepest t a : �
 
     thread-below : t < 1024
     thread-below =
-        omega (arith, walked-below T (laws .0) (laws .1) (laws .2) (laws .3) (some-thread (i .nested)) (few-threads (i .nested)) (i .walked) inside, few-threads (i .nested))
+        omega (arith, nests-below T (laws .0) (laws .1) (laws .2) (laws .3) (some-thread (i .nested)) (few-threads (i .nested)) (i .nests) inside, few-threads (i .nested))
 
     level-small : getD levels t 0 ≤ 1024
     level-small =
         omega (
           arith,
-          walked-known T (laws .0) (laws .1) (laws .2) (laws .3) (some-thread (i .nested)) (few-threads (i .nested)) (i .walked) inside,
+          nests-known T (laws .0) (laws .1) (laws .2) (laws .3) (some-thread (i .nested)) (few-threads (i .nested)) (i .nests) inside,
           nest-few T t,
           few-threads (i .nested),
         )
@@ -99,13 +99,13 @@ module _ {s actions : List ℕ} {n m : ℕ} {levels : List ℕ} {deepest t a : �
             nested = i .nested;
             part = i .part;
             within = omega arith;
-            walked =
+            nests =
                 rw (p, q, r, kind-is, argument-is, add-one a)
-                (walked-next T (laws .0) (laws .1) (laws .2) (laws .3) (some-thread (i .nested)) (few-threads (i .nested)) (i .walked) inside (is fork (kind T a)) refl);
+                (nests-next T (laws .0) (laws .1) (laws .2) (laws .3) (some-thread (i .nested)) (few-threads (i .nested)) (i .nests) inside (is fork (kind T a)) refl);
           }
 
   found : m ≤ a → deepest ≡ N T
-  found h = walked-all T (laws .0) (laws .1) (laws .2) (laws .3) (some-thread (i .nested)) (few-threads (i .nested)) (i .walked) (omega (arith, actions-are (i .nested)))
+  found h = nests-all T (laws .0) (laws .1) (laws .2) (laws .3) (some-thread (i .nested)) (few-threads (i .nested)) (i .nests) (omega (arith, actions-are (i .nested)))
 
 abbrev Inv-loop : tie.InvT-loop
 Inv-loop table n m actions levels₀ deepest₀ t₀ a₀ levels deepest t a = Inv table actions n m levels deepest t a
@@ -119,26 +119,23 @@ bodies-requires c κs = search needs
 loop-holds : tie.Need-loop-holds Inv-loop μ-loop
 loop-holds c = start (c .before .before .pre) (c .bodies .ensures)
 
-code-in-requires : tie.Need-code-in-requires Inv-loop μ-loop
-code-in-requires c κs = search needs
-
-argument-in-requires : tie.Need-argument-in-requires Inv-loop μ-loop
-argument-in-requires c κs = search needs
+action-in-requires : tie.Need-action-in-requires Inv-loop μ-loop
+action-in-requires c κs = search needs
 
 mul-level : tie.Need-mul-level Inv-loop μ-loop
-mul-level c = omega (arith, thread-below (c .before .before .before .loop .inv) (c .before .before .loop-test .taken))
+mul-level c = omega (arith, thread-below (c .before .before .loop .inv) (c .before .loop-test .taken))
 
 array-read-level : tie.Need-array-read-level Inv-loop μ-loop
-array-read-level c = thread-below (c .before .before .before .loop .inv) (c .before .before .loop-test .taken)
+array-read-level c = thread-below (c .before .before .loop .inv) (c .before .loop-test .taken)
 
 fork-level-requires : tie.Need-fork-level-requires Inv-loop μ-loop
 fork-level-requires c κs =
-    let b = c .before .before .before in
-    (level-small (b .before .loop .inv) (b .loop-test .taken), child-below (b .before .loop .inv) (b .loop-test .taken) (c .before .before .code-in .ensures) (c .before .argument-in .ensures .value))
+    let b = c .before .before in
+    (level-small (b .before .loop .inv) (b .loop-test .taken), child-below (b .before .loop .inv) (b .loop-test .taken) (c .before .action-in .ensures .0) (c .before .action-in .ensures .1 .value))
 
 next-thread-requires : tie.Need-next-thread-requires Inv-loop μ-loop
 next-thread-requires c κs =
-    let b = c .before .before .before .before in
+    let b = c .before .before .before in
     thread-below (b .before .loop .inv) (b .loop-test .taken)
 
 add-a : tie.Need-add-a Inv-loop μ-loop
@@ -149,8 +146,8 @@ loop-less c = omega arith
 
 loop-again : tie.Need-loop-again Inv-loop μ-loop
 loop-again c =
-    let b = c .before .before .before .before .before in
-    again (b .before .loop .inv) (b .loop-test .taken) (c .before .before .before .before .code-in .ensures) (c .before .before .before .argument-in .ensures .value)
+    let b = c .before .before .before .before in
+    again (b .before .loop .inv) (b .loop-test .taken) (c .before .before .before .action-in .ensures .0) (c .before .before .before .action-in .ensures .1 .value)
     (c .before .fork-level .ensures .0) (c .before .fork-level .ensures .1) (c .next-thread .ensures)
 
 returns : tie.Need-returns Inv-loop μ-loop
@@ -164,8 +161,7 @@ nested-levels-spec =
     μ-loop
     bodies-requires
     loop-holds
-    code-in-requires
-    argument-in-requires
+    action-in-requires
     mul-level
     array-read-level
     fork-level-requires

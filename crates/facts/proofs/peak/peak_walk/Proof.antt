@@ -10,7 +10,8 @@ use denote.Ref.{now}
 use lib.ListN.{getD}
 use Rattle.table.specs.Sum.{pick, sumTo, greatestTo}
 use Rattle.table.specs.Format.{alloc, free, fork, kindOf, is, codeAt, argumentAt}
-use Rattle.table.specs.Code.Steps.{childAmount, amountAt, topOf, WalkReady, PeaksReady}
+use Rattle.table.specs.Code.Steps.{childAmount, amountAt, WalkReady}
+use Rattle.facts.specs.Code.Steps.{topOf, PeaksReady}
 use Rattle.table.proofs.Tests.{is-true}
 use Rattle.table.proofs.Sums.{sumTo-part}
 use Rattle.table.proofs.Walks.{Summed, sum-next, child-small}
@@ -55,51 +56,48 @@ abbrev μ-loop : tie.MeasureT-loop
 μ-loop body count rises falls peaks rise₀ fall₀ peak₀ i₀ rise fall peak i = count - i
 
 -- what the calls of an action give: a child's number, and the two sums after it
-child-index : (c : tie.After-argument-in Inv-loop μ-loop) → c .before .code-in .result ≡ 4 → c .argument-in .result < 1024
+child-index : (c : tie.After-action-in Inv-loop μ-loop) → c .action-in .result .code ≡ 4 → c .action-in .result .argument < 1024
 unfolding kindOf
 child-index c e =
-    let d = c .before .before in
-    child-small (d .before .loop .inv .ready) (d .loop-test .taken) (c .before .code-in .ensures) (c .argument-in .ensures .value) (rw e)
+    let d = c .before in
+    child-small (d .before .loop .inv .ready) (d .loop-test .taken) (c .action-in .ensures .0) (c .action-in .ensures .1 .value) (rw e)
 
 risen-next : (c : tie.After-child-amount2 Inv-loop μ-loop) →
-    let l = c .before .before .before .before .before .before .before in
+    let l = c .before .before .before .before .before .before in
     let a = l .before .before .args in
     Summed (amountAt alloc fork (now (a .body)) (now (a .rises))) (l .loop .i) (l .loop .rise + (c .before .alloc-of .result + c .child-amount2 .result))
 risen-next c =
     let a = c .before .before .before .before in
-    let d = a .before .before in
-    sum-next alloc fork _ _ (d .before .loop .inv .ready .rise-small) (d .loop-test .taken) (a .before .code-in .ensures) (a .argument-in .ensures .value)
+    let d = a .before in
+    sum-next alloc fork _ _ (d .before .loop .inv .ready .rise-small) (d .loop-test .taken) (a .action-in .ensures .0) (a .action-in .ensures .1 .value)
     (c .before .alloc-of .ensures) (c .child-amount2 .ensures) (d .before .loop .inv .risen)
 
 fallen-next : (c : tie.After-child-amount3 Inv-loop μ-loop) →
-    let l = c .before .before .before .before .before .before .before .before .before in
+    let l = c .before .before .before .before .before .before .before .before in
     let a = l .before .before .args in
     Summed (amountAt free fork (now (a .body)) (now (a .falls))) (l .loop .i) (l .loop .fall + (c .before .free-of .result + c .child-amount3 .result))
 fallen-next c =
     let a = c .before .before .before .before .before .before in
-    let d = a .before .before in
-    sum-next free fork _ _ (d .before .loop .inv .ready .fall-small) (d .loop-test .taken) (a .before .code-in .ensures) (a .argument-in .ensures .value)
+    let d = a .before in
+    sum-next free fork _ _ (d .before .loop .inv .ready .fall-small) (d .loop-test .taken) (a .action-in .ensures .0) (a .action-in .ensures .1 .value)
     (c .before .free-of .ensures) (c .child-amount3 .ensures) (d .before .loop .inv .fallen)
 
 loop-holds : tie.Need-loop-holds Inv-loop μ-loop
 loop-holds c = start (c .before .pre .0) (c .before .pre .1)
 
-code-in-requires : tie.Need-code-in-requires Inv-loop μ-loop
-code-in-requires c κs = search needs
-
-argument-in-requires : tie.Need-argument-in-requires Inv-loop μ-loop
-argument-in-requires c κs = search needs
+action-in-requires : tie.Need-action-in-requires Inv-loop μ-loop
+action-in-requires c κs = search needs
 
 sub-larger : tie.Need-sub-larger Inv-loop μ-loop
-sub-larger c = held (c .before .before .before .loop .inv)
+sub-larger c = held (c .before .before .loop .inv)
 
 child-amount-requires : tie.Need-child-amount-requires Inv-loop μ-loop
 child-amount-requires c κs = child-index c
 
 add-larger : tie.Need-add-larger Inv-loop μ-loop
 add-larger c =
-    let d = c .before .before .before in
-    record { fits = top-small (d .before .loop .inv) (d .loop-test .taken) (c .before .before .code-in .ensures) (c .before .argument-in .ensures .value) (c .child-amount .ensures) }
+    let d = c .before .before in
+    record { fits = top-small (d .before .loop .inv) (d .loop-test .taken) (c .before .action-in .ensures .0) (c .before .action-in .ensures .1 .value) (c .child-amount .ensures) }
 
 larger-requires : tie.Need-larger-requires Inv-loop μ-loop
 larger-requires c κs = search needs
@@ -137,14 +135,14 @@ loop-less c = omega arith
 loop-again : tie.Need-loop-again Inv-loop μ-loop
 loop-again c =
     let a = c .before .before .before .before .before .before in
-    let v = a .before .before .before .loop .inv in
+    let v = a .before .before .loop .inv in
     record {
       ready = v .ready;
       low = v .low;
       within = omega arith;
       risen = rw add-one (risen-next (c .before .before) .value);
       fallen = rw add-one (fallen-next c .value);
-      highest = top-next v (a .before .code-in .ensures) (a .argument-in .ensures .value) (c .before .before .before .before .before .child-amount .ensures) (c .before .before .before .before .larger .ensures);
+      highest = top-next v (a .action-in .ensures .0) (a .action-in .ensures .1 .value) (c .before .before .before .before .before .child-amount .ensures) (c .before .before .before .before .larger .ensures);
     }
 
 returns : tie.Need-returns Inv-loop μ-loop
@@ -160,8 +158,7 @@ peak-walk-spec =
     Inv-loop
     μ-loop
     loop-holds
-    code-in-requires
-    argument-in-requires
+    action-in-requires
     sub-larger
     child-amount-requires
     add-larger

@@ -9,7 +9,8 @@ use Rattle.table.specs.Sum.{sumTo, greatestTo}
 use Rattle.table.specs.Format.{alloc, free, fork, tableOf, bodyOf, bodiesFrom}
 use Rattle.table.specs.Checks.{allocOf, freeOf, whole}
 use Rattle.table.specs.Serial.{S1}
-use Rattle.table.specs.Code.Steps.{Headed, Kept, Filled, WalkReady, PeaksReady, amountAt, topOf}
+use Rattle.table.specs.Code.Steps.{Headed, Filled, WalkReady, amountAt}
+use Rattle.facts.specs.Code.Steps.{Kept, PeaksReady, topOf}
 use Rattle.table.proofs.Sizes.{Sizes, sizes}
 use Rattle.table.proofs.Walks.{filled-set}
 use Rattle.table.proofs.Peaks.{peakAt}

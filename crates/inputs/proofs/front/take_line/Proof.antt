@@ -7,8 +7,7 @@ use denote.Ref.{now}
 use lib.ListN.{length, take, drop}
 use lib.Seq.{length-take-le}
 use Rattle.table.proofs.Parts.{rest-part}
-use Rattle.assembly.specs.Words.{inClass, wordsIn, wordsOf}
-use Rattle.assembly.specs.Code.Steps.{Spans, FirstWord}
+use Rattle.assembly.specs.Words.{inClass, wordsIn, wordsOf, Spans, FirstWord}
 use Rattle.assembly.specs.declared.scan.Class.the-variants.{Plain}
 use Rattle.inputs.specs.Front.{Front, stepWith, stepOf}
 use Rattle.inputs.specs.Code.Steps.{Stepping, frontIs, heldBy, Room}

@@ -3,8 +3,7 @@ use native.Mathlib.Omega.{arith}
 use Prim.Native.Nat.{ℕ}
 use mathlib.Core.Path.{_≡_}
 use mathlib.Core.List.{List}
-use Rattle.assembly.specs.Words.{wordsIn}
-use Rattle.assembly.specs.Code.Steps.{FirstWord}
+use Rattle.assembly.specs.Words.{wordsIn, FirstWord}
 use Rattle.inputs.specs.Number.{figureLast}
 use Rattle.inputs.specs.declared.Wanted.the-variants.{LineEnd}
 use Rattle.inputs.specs.declared.number.Figure.the-variants.{Given, Stopped}

@@ -5,8 +5,7 @@ use mathlib.Core.Path.{_≡_, sym, _∙_}
 use mathlib.Core.List.{List}
 use lib.ListN.{length, take, drop}
 use Rattle.table.proofs.Parts.{rest-part}
-use Rattle.assembly.specs.Words.{wordsIn}
-use Rattle.assembly.specs.Code.Steps.{FirstWord}
+use Rattle.assembly.specs.Words.{wordsIn, FirstWord}
 use Rattle.inputs.specs.Number.{numberIn, figureLast, figureOf}
 use Rattle.inputs.specs.declared.Wanted.the-variants.{Number as NumberTo}
 use Rattle.inputs.specs.declared.number.Number.the-variants.{Value, NoNumber}

@@ -5,8 +5,7 @@ use mathlib.Core.List.{List}
 use denote.Ref.{now}
 use lib.ListN.{length, take, drop, length-drop}
 use Rattle.table.proofs.Parts.{rest-part}
-use Rattle.assembly.specs.Words.{inClass}
-use Rattle.assembly.specs.Code.Steps.{Spans}
+use Rattle.assembly.specs.Words.{inClass, Spans}
 use Rattle.assembly.specs.declared.scan.Class.the-variants.{Line}
 use Rattle.inputs.specs.Code.Steps.{Lined}
 use borrow.Author.Needs.{needs}

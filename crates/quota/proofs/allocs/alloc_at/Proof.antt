@@ -7,7 +7,7 @@ use borrow.Author.Needs.{needs}
 use borrow.Author.Tests.{ne-eqb}
 use Rattle.table.specs.Format.{kindOf, threadsOf, bodiesFrom, codeAt, argumentAt, tableOf}
 use Rattle.table.specs.Checks.{allocOf}
-use Rattle.table.specs.Code.Steps.{Read}
+use Rattle.table.specs.Sum.{Read}
 use Rattle.table.proofs.Walks.{is-code}
 use Rattle.quota.proofs.allocs.alloc_at.Statement.{statement}
 use Rattle.quota.proofs.allocs.alloc_at.Tie as tie

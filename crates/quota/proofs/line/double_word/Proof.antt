@@ -6,7 +6,7 @@ use native.Mathlib.Omega.{arith}
 use denote.Ref.{now}
 use lib.ListN.{getD}
 use Rattle.table.specs.Format.{u16At, u32At}
-use Rattle.table.specs.Code.Steps.{Read}
+use Rattle.table.specs.Sum.{Read}
 use borrow.Author.Needs.{needs}
 use Rattle.quota.proofs.line.double_word.Statement.{statement}
 use Rattle.quota.proofs.line.double_word.Tie as tie

@@ -6,10 +6,9 @@ use native.Mathlib.Numerals.{add-one}
 use native.Mathlib.Omega.{arith}
 use borrow.Author.Needs.{needs}
 use denote.Ref.{now}
-use Rattle.table.specs.Sum.{sumTo}
-use Rattle.table.specs.Format.{Kind, kindOf, Table, kind, tableOf}
+use Rattle.table.specs.Sum.{sumTo, Read}
+use Rattle.table.specs.Format.{Kind, alloc, free, kindOf, Table, kind, tableOf, ownAmount}
 use Rattle.table.specs.Checks.{allocOf, freeOf}
-use Rattle.table.specs.Code.Steps.{Read, ownAmount}
 use Rattle.table.proofs.Walks.{own-small}
 use Rattle.soundness.specs.Code.Checks.{Accepted}
 use Rattle.soundness.specs.Code.Adding.{Adds, Added}
@@ -48,24 +47,24 @@ module _ (T : Table) (own : ℕ → ℕ) (j : Kind) (own-is : (a : ℕ) → own 
         small = omega (arith, d .small, own-small j (kindOf k) x (f .small));
       }
 
-alloc-is : (T : Table) (a : ℕ) → allocOf T a ≡ ownAmount (kindOf 2) (kind T a) (T .argument a)
-unfolding allocOf kindOf
+alloc-is : (T : Table) (a : ℕ) → allocOf T a ≡ ownAmount alloc (kind T a) (T .argument a)
+unfolding allocOf
 alloc-is T a = refl
 
-free-is : (T : Table) (a : ℕ) → freeOf T a ≡ ownAmount (kindOf 3) (kind T a) (T .argument a)
-unfolding freeOf kindOf
+free-is : (T : Table) (a : ℕ) → freeOf T a ≡ ownAmount free (kind T a) (T .argument a)
+unfolding freeOf
 free-is T a = refl
 
 module _ (s : List ℕ) (n t stop allocs₀ frees₀ allocs frees a k x r q : ℕ) (i : Inv s n t stop allocs₀ frees₀ allocs frees a) (h : a < stop)
-    (e : k ≡ tableOf s .code a) (f : Read (tableOf s .argument a) 16777216 x) (g : r ≡ ownAmount (kindOf 2) (kindOf k) x) (d : q ≡ ownAmount (kindOf 3) (kindOf k) x) where
+    (e : k ≡ tableOf s .code a) (f : Read (tableOf s .argument a) 16777216 x) (g : r ≡ ownAmount alloc (kindOf k) x) (d : q ≡ ownAmount free (kindOf k) x) where
   again : Inv s n t stop allocs₀ frees₀ (allocs + r) (frees + q) (a + 1)
   again =
       record {
         accepted = i .accepted;
         few = i .few;
         upto = omega arith;
-        drawn = add (tableOf s) (allocOf (tableOf s)) (kindOf 2) (alloc-is (tableOf s)) _ _ _ _ _ _ _ (i .drawn) e f g;
-        given = add (tableOf s) (freeOf (tableOf s)) (kindOf 3) (free-is (tableOf s)) _ _ _ _ _ _ _ (i .given) e f d;
+        drawn = add (tableOf s) (allocOf (tableOf s)) alloc (alloc-is (tableOf s)) _ _ _ _ _ _ _ (i .drawn) e f g;
+        given = add (tableOf s) (freeOf (tableOf s)) free (free-is (tableOf s)) _ _ _ _ _ _ _ (i .given) e f d;
       }
 
 last : (s : List ℕ) (n t stop allocs₀ frees₀ allocs frees a : ℕ) → Inv s n t stop allocs₀ frees₀ allocs frees a → stop ≤ a
@@ -92,19 +91,19 @@ code-requires c κs = search needs
 argument-requires : tie.Need-argument-requires Inv-loop μ-loop
 argument-requires c κs = search needs
 
-own-amount-requires : tie.Need-own-amount-requires Inv-loop μ-loop
-own-amount-requires c κs = search needs
+alloc-of-requires : tie.Need-alloc-of-requires Inv-loop μ-loop
+alloc-of-requires c κs = search needs
 
 add-allocs : tie.Need-add-allocs Inv-loop μ-loop
-add-allocs c = omega (arith, own-small (kindOf 2) (kindOf (c .before .before .code .result)) (c .before .argument .result) (c .before .argument .ensures .small))
+add-allocs c = omega (arith, own-small alloc (kindOf (c .before .before .code .result)) (c .before .argument .result) (c .before .argument .ensures .small))
 
-own-amount-requires-2 : tie.Need-own-amount-requires-2 Inv-loop μ-loop
-own-amount-requires-2 c κs = search needs
+free-of-requires : tie.Need-free-of-requires Inv-loop μ-loop
+free-of-requires c κs = search needs
 
 add-frees : tie.Need-add-frees Inv-loop μ-loop
 add-frees c =
     let d = c .before .before in
-    omega (arith, own-small (kindOf 3) (kindOf (d .before .code .result)) (d .argument .result) (d .argument .ensures .small))
+    omega (arith, own-small free (kindOf (d .before .code .result)) (d .argument .result) (d .argument .ensures .small))
 
 add-a : tie.Need-add-a Inv-loop μ-loop
 add-a c = omega arith
@@ -117,7 +116,7 @@ loop-again c =
     let d = c .before .before in
     let b = d .before .before in
     again (now (b .before .before .before .before .args .table)) _ _ _ _ _ _ _ _ _ _ _ _ (b .before .loop .inv) (b .loop-test .taken)
-    (code-read (b .before .loop .inv .accepted) _ (d .before .code .ensures)) (argument-read (b .before .loop .inv .accepted) _ (d .argument .ensures)) (c .before .own-amount .ensures) (c .own-amount2 .ensures)
+    (code-read (b .before .loop .inv .accepted) _ (d .before .code .ensures)) (argument-read (b .before .loop .inv .accepted) _ (d .argument .ensures)) (c .before .alloc-of .ensures) (c .free-of .ensures)
 
 returns : tie.Need-returns Inv-loop μ-loop
 returns c = last (now (c .before .before .before .before .args .table)) _ _ _ _ _ _ _ _ (c .before .loop .inv) (c .loop-test .left)
@@ -132,9 +131,9 @@ thread-sums-spec =
     loop-holds
     code-requires
     argument-requires
-    own-amount-requires
+    alloc-of-requires
     add-allocs
-    own-amount-requires-2
+    free-of-requires
     add-frees
     add-a
     loop-less

@@ -9,7 +9,7 @@ use denote.Ref.{now}
 use Rattle.table.specs.Format.{Table, threadsOf, actionsOf, tableOf}
 use Rattle.table.specs.Pass.{Check, orElse, refusal, tryAt, tryFrom, tryPass, firstFound}
 use Rattle.table.specs.Checks.{outside}
-use Rattle.table.specs.Code.Steps.{Read}
+use Rattle.table.specs.Sum.{Read}
 use Rattle.table.specs.declared.Found.the-variants.{Nothing, At}
 use Rattle.table.proofs.Trying.{tryFrom-next, tryFrom-here, tryFrom-last, tryFrom-all}
 use Rattle.schedule.specs.Begin.{allocAbove, beginPasses}

@@ -7,33 +7,33 @@ use denote.Ref.{now}
 use Rattle.table.specs.Format.{tableOf}
 use Rattle.table.specs.Checks.{owner, endOf}
 use Rattle.soundness.specs.Code.Checks.{Accepted}
-use Rattle.soundness.specs.Code.Order.{Walked}
+use Rattle.soundness.specs.Code.Order.{NumbersTo}
 use Rattle.soundness.proofs.Lookups.{accepted-lawful}
-use Rattle.soundness.proofs.Marks.{walked-owner, walked-here, walked-on}
+use Rattle.soundness.proofs.Marks.{numbers-owner, numbers-here, numbers-on}
 use Rattle.soundness.proofs.order.advance.Statement.{statement}
 use Rattle.soundness.proofs.order.advance.Tie as tie
 
 record Inv (s : List ℕ) (t to a number : ℕ) (before numbers : List ℕ) : Type 0 where
   within : a ≤ to
-  walked : Walked (tableOf s) t a number before numbers
+  numbered : NumbersTo (tableOf s) t a number before numbers
 
 module _ (s : List ℕ) (n t to a number : ℕ) (before numbers : List ℕ) (k : Accepted s n) (i : Inv s t to a number before numbers) where
   own : owner (tableOf s) a ≡ t
-  own = walked-owner (tableOf s) (accepted-lawful k) t a number before numbers (i .walked)
+  own = numbers-owner (tableOf s) (accepted-lawful k) t a number before numbers (i .numbered)
 
   ready : a < to → to ≤ endOf (tableOf s) t
-      → (a < endOf (tableOf s) (owner (tableOf s) a)) × Walked (tableOf s) (owner (tableOf s) a) a number numbers numbers
-  ready h e = rw own (omega arith, walked-here (i .walked))
+      → (a < endOf (tableOf s) (owner (tableOf s) a)) × NumbersTo (tableOf s) (owner (tableOf s) a) a number numbers numbers
+  ready h e = rw own (omega arith, numbers-here (i .numbered))
 
-  again : a < to → (r : ℕ) (after : List ℕ) → Walked (tableOf s) (owner (tableOf s) a) (a + 1) r numbers after → Inv s t to (a + 1) r before after
+  again : a < to → (r : ℕ) (after : List ℕ) → NumbersTo (tableOf s) (owner (tableOf s) a) (a + 1) r numbers after → Inv s t to (a + 1) r before after
   again h r after w =
-      let v : Walked (tableOf s) t (a + 1) r numbers after = rw own at w in
-      record { within = omega arith; walked = walked-on (i .walked) v }
+      let v : NumbersTo (tableOf s) t (a + 1) r numbers after = rw own at w in
+      record { within = omega arith; numbered = numbers-on (i .numbered) v }
 
-  ended : to ≤ a → Walked (tableOf s) t to number before numbers
+  ended : to ≤ a → NumbersTo (tableOf s) t to number before numbers
   ended h =
       let e : a ≡ to = omega (arith, i .within) in
-      rw e at (i .walked)
+      rw e at (i .numbered)
 
 abbrev Inv-loop : tie.InvT-loop
 Inv-loop table n from to start numbers₀ number₀ a₀ numbers number a = Inv table (owner (tableOf table) from) to a number numbers₀ numbers
@@ -42,7 +42,7 @@ abbrev μ-loop : tie.MeasureT-loop
 μ-loop table n from to start numbers₀ number₀ a₀ numbers number a = to - a
 
 loop-holds : tie.Need-loop-holds Inv-loop μ-loop
-loop-holds c = record { within = c .before .pre .1 .0 .0; walked = c .before .pre .1 .1 }
+loop-holds c = record { within = c .before .pre .1 .0 .0; numbered = c .before .pre .1 .1 }
 
 pass-requires : tie.Need-pass-requires Inv-loop μ-loop
 pass-requires c κs =

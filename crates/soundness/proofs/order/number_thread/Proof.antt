@@ -10,9 +10,9 @@ use Rattle.table.specs.Format.{tableOf}
 use Rattle.table.specs.Checks.{owner, endOf}
 use Rattle.schedule.proofs.Tables.Lawful.{Lawful}
 use Rattle.soundness.specs.Code.Checks.{Accepted, Placed}
-use Rattle.soundness.specs.Code.Order.{Walked, Numbering}
+use Rattle.soundness.specs.Code.Order.{NumbersTo, Numbering}
 use Rattle.soundness.proofs.Lookups.{Body, accepted-lawful, thread-below, accepted-body, placed}
-use Rattle.soundness.proofs.Marks.{walked-owner, walked-small, walked-stored, numbering-first, numbering-walked, numbering-next}
+use Rattle.soundness.proofs.Marks.{numbers-owner, numbers-small, numbers-stored, numbering-first, numbering-numbered, numbering-next}
 use Rattle.soundness.proofs.order.number_thread.Statement.{statement}
 use Rattle.soundness.proofs.order.number_thread.Tie as tie
 
@@ -23,7 +23,7 @@ record Ready (s : List ℕ) (n t first : ℕ) (next numbers : List ℕ) : Type 0
   low : first ≤ getD next t 0
   high : getD next t 0 ≤ endOf (tableOf s) t
   small : getD numbers t 0 < 8192
-  walked : Walked (tableOf s) t first (getD numbers t 0) numbers numbers
+  numbered : NumbersTo (tableOf s) t first (getD numbers t 0) numbers numbers
 
 module _ (s : List ℕ) (n t first : ℕ) (next numbers : List ℕ)
     (p : Accepted s n × (Placed s n next × ((t < n) × Numbering (tableOf s) next t first numbers))) where
@@ -36,43 +36,43 @@ module _ (s : List ℕ) (n t first : ℕ) (next numbers : List ℕ)
   ready : Ready s n t first next numbers
   ready =
       let e : first ≡ tableOf s .first t = numbering-first (tableOf s) lawful next numbers t first (p .1 .1 .1) below in
-      let walked : Walked (tableOf s) t first (getD numbers t 0) numbers numbers = numbering-walked (tableOf s) lawful next numbers t first (p .1 .1 .1) below in
+      let numbered : NumbersTo (tableOf s) t first (getD numbers t 0) numbers numbers = numbering-numbered (tableOf s) lawful next numbers t first (p .1 .1 .1) below in
       let (low, high) = placed (p .0) (p .1 .1 .0) next (p .1 .0) in
       record {
         body = accepted-body (p .0) (p .1 .1 .0);
         begins = e;
         low = omega (arith, low);
         high = high;
-        small = walked-small (tableOf s) lawful t first _ numbers numbers walked;
-        walked = walked;
+        small = numbers-small (tableOf s) lawful t first _ numbers numbers numbered;
+        numbered = numbered;
       }
 
   -- a walk's own thread is t
-  own : {a number : ℕ} {before after : List ℕ} → Walked (tableOf s) t a number before after → owner (tableOf s) a ≡ t
-  own w = walked-owner (tableOf s) lawful t _ _ _ _ w
+  own : {a number : ℕ} {before after : List ℕ} → NumbersTo (tableOf s) t a number before after → owner (tableOf s) a ≡ t
+  own w = numbers-owner (tableOf s) lawful t _ _ _ _ w
 
   first-walk : ((first ≤ getD next t 0) × (getD next t 0 ≤ endOf (tableOf s) (owner (tableOf s) first)))
-      × Walked (tableOf s) (owner (tableOf s) first) first (getD numbers t 0) numbers numbers
-  first-walk = rw (own (ready .walked)) ((ready .low, ready .high), ready .walked)
+      × NumbersTo (tableOf s) (owner (tableOf s) first) first (getD numbers t 0) numbers numbers
+  first-walk = rw (own (ready .numbered)) ((ready .low, ready .high), ready .numbered)
 
-  module _ (number : ℕ) (middle : List ℕ) (given : Walked (tableOf s) (owner (tableOf s) first) (getD next t 0) number numbers middle) where
-    at-next : Walked (tableOf s) t (getD next t 0) number numbers middle
-    at-next = rw (own (ready .walked)) at given
+  module _ (number : ℕ) (middle : List ℕ) (given : NumbersTo (tableOf s) (owner (tableOf s) first) (getD next t 0) number numbers middle) where
+    at-next : NumbersTo (tableOf s) t (getD next t 0) number numbers middle
+    at-next = rw (own (ready .numbered)) at given
 
     fits : number < 8192
-    fits = walked-small (tableOf s) lawful t _ number numbers middle at-next
+    fits = numbers-small (tableOf s) lawful t _ number numbers middle at-next
 
     module _ (count : ℕ) (e : count ≡ tableOf s .count t) where
       second-walk : ((getD next t 0 ≤ first + count - 1) × (first + count - 1 ≤ endOf (tableOf s) (owner (tableOf s) (getD next t 0))))
-          × Walked (tableOf s) (owner (tableOf s) (getD next t 0)) (getD next t 0) number (set middle t number) (set middle t number)
+          × NumbersTo (tableOf s) (owner (tableOf s) (getD next t 0)) (getD next t 0) number (set middle t number) (set middle t number)
       second-walk =
           let r = ready in
-          rw (own at-next) ((omega (arith, r), omega (arith, r)), walked-stored (tableOf s) lawful t _ number numbers middle at-next)
+          rw (own at-next) ((omega (arith, r), omega (arith, r)), numbers-stored (tableOf s) lawful t _ number numbers middle at-next)
 
-      done : (other : ℕ) (after : List ℕ) → Walked (tableOf s) (owner (tableOf s) (getD next t 0)) (first + count - 1) other (set middle t number) after
+      done : (other : ℕ) (after : List ℕ) → NumbersTo (tableOf s) (owner (tableOf s) (getD next t 0)) (first + count - 1) other (set middle t number) after
           → Numbering (tableOf s) next (t + 1) (first + count) after
       done other after w =
-          let v : Walked (tableOf s) t (first + count - 1) other (set middle t number) after = rw (own at-next) at w in
+          let v : NumbersTo (tableOf s) t (first + count - 1) other (set middle t number) after = rw (own at-next) at w in
           numbering-next (tableOf s) lawful next numbers t first (p .1 .1 .1) below number other (first + count) middle after at-next v (rw e)
 
 at-start : (c : tie.Start) → Ready (now (c .args .table)) (c .args .n) (c .args .t) (c .args .first) (now (c .args .next)) (now (c .args .numbers))

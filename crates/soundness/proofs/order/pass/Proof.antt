@@ -10,10 +10,10 @@ use Rattle.table.specs.Format.{fork, kind, tableOf}
 use Rattle.table.specs.Checks.{owner, endOf}
 use Rattle.schedule.proofs.Tables.Lawful.{Lawful}
 use Rattle.soundness.specs.Code.Checks.{Accepted}
-use Rattle.soundness.specs.Code.Order.{Inside, Walked}
+use Rattle.soundness.specs.Code.Order.{Inside, NumbersTo}
 use Rattle.soundness.proofs.Lookups.{accepted-lawful, code-read, argument-read, fork-code, not-fork}
 use Rattle.soundness.proofs.Spans.{inside-within, inside-fork, child-small}
-use Rattle.soundness.proofs.Marks.{walked-inside, walked-small, walked-step, walked-fork}
+use Rattle.soundness.proofs.Marks.{numbers-inside, numbers-small, numbers-step, numbers-fork}
 use Rattle.soundness.proofs.order.pass.Statement.{statement}
 use Rattle.soundness.proofs.order.pass.Tie as tie
 
@@ -22,24 +22,24 @@ record Forked (s : List ℕ) (a number x : ℕ) (numbers : List ℕ) : Type 0 wh
   below : x < 1024
   small : number < 8192
   child : getD numbers x 0 ≤ 8192
-  over : Walked (tableOf s) (owner (tableOf s) a) (a + 1) (number + 1 + getD numbers x 0) numbers (set numbers x (number + 1))
+  over : NumbersTo (tableOf s) (owner (tableOf s) a) (a + 1) (number + 1 + getD numbers x 0) numbers (set numbers x (number + 1))
 
 module _ (s : List ℕ) (n a number : ℕ) (numbers : List ℕ)
-    (p : Accepted s n × ((a < endOf (tableOf s) (owner (tableOf s) a)) × Walked (tableOf s) (owner (tableOf s) a) a number numbers numbers)) where
+    (p : Accepted s n × ((a < endOf (tableOf s) (owner (tableOf s) a)) × NumbersTo (tableOf s) (owner (tableOf s) a) a number numbers numbers)) where
   lawful : Lawful (tableOf s)
   lawful = accepted-lawful (p .0)
 
   inside : Inside (tableOf s) (owner (tableOf s) a) a
-  inside = walked-inside (p .1 .1) (p .1 .0)
+  inside = numbers-inside (p .1 .1) (p .1 .0)
 
   within : a < tableOf s .actions
   within = inside-within (tableOf s) lawful _ a inside
 
   small : number < 8192
-  small = walked-small (tableOf s) lawful _ a number numbers numbers (p .1 .1)
+  small = numbers-small (tableOf s) lawful _ a number numbers numbers (p .1 .1)
 
-  step : (k : ℕ) → k ≡ tableOf s .code a → (k ≡ 4 → ⊥) → Walked (tableOf s) (owner (tableOf s) a) (a + 1) (number + 1) numbers numbers
-  step k e d = walked-step (tableOf s) lawful _ a number numbers numbers (p .1 .1) (p .1 .0) (rw e at (not-fork d))
+  step : (k : ℕ) → k ≡ tableOf s .code a → (k ≡ 4 → ⊥) → NumbersTo (tableOf s) (owner (tableOf s) a) (a + 1) (number + 1) numbers numbers
+  step k e d = numbers-step (tableOf s) lawful _ a number numbers numbers (p .1 .1) (p .1 .0) (rw e at (not-fork d))
 
   forked : (k x : ℕ) → k ≡ tableOf s .code a → k ≡ 4 → x ≡ tableOf s .argument a → Forked s a number x numbers
   forked k x e d r =
@@ -50,7 +50,7 @@ module _ (s : List ℕ) (n a number : ℕ) (numbers : List ℕ)
         below = omega (arith, lawful .few-threads);
         small = small;
         child = rw (p .1 .1 .marked .ahead a (omega arith) within forks above) (child-small (tableOf s) lawful _ a inside forks);
-        over = walked-fork (tableOf s) lawful _ a number numbers numbers (p .1 .1) (p .1 .0) forks;
+        over = numbers-fork (tableOf s) lawful _ a number numbers numbers (p .1 .1) (p .1 .0) forks;
       })
 
 add-after : tie.Need-add-after

@@ -9,7 +9,7 @@ use lib.ListN.{length}
 use Rattle.table.specs.Format.{tableOf}
 use Rattle.table.specs.Checks.{owner, endOf}
 use Rattle.table.specs.Serial.{serial}
-use Rattle.table.specs.Code.Steps.{Read}
+use Rattle.table.specs.Sum.{Read}
 use Rattle.table.proofs.Bodies.{first-within}
 use Rattle.schedule.proofs.Tables.Lawful.{Lawful}
 use Rattle.soundness.specs.Code.Checks.{Accepted, Lengths}

@@ -1,0 +1,2 @@
+mod Stack
+mod Least
