@@ -4,6 +4,7 @@ use table::Found;
 use table::kinds::JOIN;
 use table::kinds::alloc_of;
 use table::kinds::free_of;
+use table::lesser;
 use table::read::action_in;
 use table::read::body_of;
 use table::read::count;
@@ -46,11 +47,13 @@ fn balance_walk(body: &[u8], count: usize, rises: &[u64; 1024], falls: &[u64; 10
     requires { ⌜ WalkReady join (now body) count (now rises) (now falls) ⌝ }
     ensures { λ r. ⌜ r ≡ balanceOf (now (body .entry)) (now (rises .entry)) (now (falls .entry)) count ⌝ }
 {
+    // count, in a form by which the compiler knows that every action is there
+    let stop = lesser(count, body.len() / 4);
     let mut rise: u64 = 0;
     let mut fall: u64 = 0;
     let mut below = 0;
     let mut i = 0;
-    while i < count {
+    while i < stop {
         let action = action_in(body, i);
         let k = action.code;
         let x = action.argument;

@@ -84,12 +84,14 @@ pub(crate) fn first_pass(table: &[u8], n: usize, m: usize) -> Found
     ensures { λ r. ⌜ r ≡ tryPass (firstPass (tableOf (now (table .entry)))) ⌝ }
 {
     let actions = bodies(table, n);
+    // m, in a form by which the compiler knows that every action is there
+    let whole = actions.len() / 4;
     let mut span = Span {
         own: 0,
         stop: count(table, 0),
     };
     let mut a = 0;
-    while a < m {
+    while a < whole {
         span = span_at(table, n, m, span, a);
         let action = action_in(actions, a);
         let number = form_at(

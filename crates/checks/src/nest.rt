@@ -72,10 +72,12 @@ fn second_pass(
     ensures { λ r. ⌜ (r ≡ Found.Nothing → (t : ℕ) → getD (now (forked .exit)) t false ≡ forkedBelow (tableOf (now (table .entry))) m t) ⌝ }
 {
     let actions = bodies(table, n);
+    // m, in a form by which the compiler knows that every action is there
+    let whole = actions.len() / 4;
     *stack = [0; 1024];
     let mut top = 1024;
     let mut a = 0;
-    while a < m {
+    while a < whole {
         let action = action_in(actions, a);
         let next = nest_at(action.code, action.argument, top, stack, forked);
         if next.number != 0 {

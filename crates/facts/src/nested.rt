@@ -39,11 +39,13 @@ pub(crate) fn nested_levels(table: &[u8], n: usize, m: usize) -> usize
     ensures { λ r. ⌜ r ≡ N (tableOf (now (table .entry))) ⌝ }
 {
     let actions = bodies(table, n);
+    // m, in a form by which the compiler knows that every action is there
+    let whole = actions.len() / 4;
     let mut levels = [1usize; 1024];
     let mut deepest = 1;
     let mut t = 0;
     let mut a = 0;
-    while a < m {
+    while a < whole {
         let action = action_in(actions, a);
         let k = action.code;
         let c = action.argument;

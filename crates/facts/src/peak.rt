@@ -3,6 +3,7 @@ use table::kinds::FORK;
 use table::kinds::alloc_of;
 use table::kinds::free_of;
 use table::larger;
+use table::lesser;
 use table::read::action_in;
 use table::read::body_of;
 use table::read::count;
@@ -43,11 +44,13 @@ fn peak_walk(
     ensures { λ r. ⌜ r .fall ≡ sumTo (amountAt free fork (now (body .entry)) (now (falls .entry))) count ⌝ }
     ensures { λ r. ⌜ r .peak ≡ greatestTo (topOf (now (body .entry)) (now (rises .entry)) (now (falls .entry)) (now (peaks .entry))) count ⌝ }
 {
+    // count, in a form by which the compiler knows that every action is there
+    let stop = lesser(count, body.len() / 4);
     let mut rise: u64 = 0;
     let mut fall: u64 = 0;
     let mut peak: u64 = 0;
     let mut i = 0;
-    while i < count {
+    while i < stop {
         let action = action_in(body, i);
         let k = action.code;
         let x = action.argument;

@@ -1,9 +1,10 @@
 -- `checks::balance::balance_walk` meets its contract. The invariant: rise and fall are the sums up to action i, and below is the least action before i at which the body is overdrawn.
-use mathlib.Core.Path.{_≡_, refl, ap}
+use mathlib.Core.Path.{_≡_, refl, ap, _∙_}
 use Prim.Native.Nat.{ℕ, suc, _+_, _-_, _<_, _≤_}
 use mathlib.Core.List.{List}
 use native.Mathlib.Numerals.{add-one}
 use native.Mathlib.Omega.{arith}
+use native.Mathlib.Nat.{min-eq-left}
 use borrow.Author.Needs.{needs}
 use denote.Ref.{now}
 use lib.Dec.{ltb}
@@ -47,33 +48,40 @@ done {count = count} {i = i} v h =
     rw (v .rise-is, v .fall-is, v .below-is, e)
 
 abbrev Inv-loop : tie.InvT-loop
-Inv-loop body count rises falls rise₀ fall₀ below₀ i₀ rise fall below i = Inv body count rises falls rise fall below i
+Inv-loop body count rises falls stop rise₀ fall₀ below₀ i₀ rise fall below i = Inv body count rises falls rise fall below i × (stop ≡ count)
 
 abbrev μ-loop : tie.MeasureT-loop
-μ-loop body count rises falls rise₀ fall₀ below₀ i₀ rise fall below i = count - i
+μ-loop body count rises falls stop rise₀ fall₀ below₀ i₀ rise fall below i = count - i
 
 -- the sums after this action
 risen : (c : tie.After-child-amount Inv-loop μ-loop) →
     let d = c .before .before .before .before in
-    let s = d .before .before .args in
+    let s = d .before .before .before .args in
     Summed (amountAt alloc join (now (s .body)) (now (s .rises))) (d .loop .i) (d .loop .rise + (c .before .alloc-of .result + c .child-amount .result))
 risen c =
     let d = c .before .before .before in
-    sum-next alloc join _ _ (d .before .loop .inv .ready .rise-small) (d .loop-test .taken)
-    (c .before .before .action-in .ensures .0) (c .before .before .action-in .ensures .1 .value) (c .before .alloc-of .ensures) (c .child-amount .ensures) (d .before .loop .inv .rise-is)
+    let v = d .before .loop .inv in
+    sum-next alloc join _ _ (v .0 .ready .rise-small) (omega (arith, v .1, d .loop-test .taken))
+    (c .before .before .action-in .ensures .0) (c .before .before .action-in .ensures .1 .value) (c .before .alloc-of .ensures) (c .child-amount .ensures) (v .0 .rise-is)
 
 fallen : (c : tie.After-child-amount2 Inv-loop μ-loop) →
     let d = c .before .before .before .before .before .before in
-    let s = d .before .before .args in
+    let s = d .before .before .before .args in
     Summed (amountAt free join (now (s .body)) (now (s .falls))) (d .loop .i) (d .loop .fall + (c .before .free-of .result + c .child-amount2 .result))
 fallen c =
     let e = c .before .before in
     let d = e .before .before .before in
-    sum-next free join _ _ (d .before .loop .inv .ready .fall-small) (d .loop-test .taken)
-    (e .before .before .action-in .ensures .0) (e .before .before .action-in .ensures .1 .value) (c .before .free-of .ensures) (c .child-amount2 .ensures) (d .before .loop .inv .fall-is)
+    let v = d .before .loop .inv in
+    sum-next free join _ _ (v .0 .ready .fall-small) (omega (arith, v .1, d .loop-test .taken))
+    (e .before .before .action-in .ensures .0) (e .before .before .action-in .ensures .1 .value) (c .before .free-of .ensures) (c .child-amount2 .ensures) (v .0 .fall-is)
+
+lesser-requires : tie.Need-lesser-requires Inv-loop μ-loop
+lesser-requires c κs = search needs
 
 loop-holds : tie.Need-loop-holds Inv-loop μ-loop
-loop-holds c = start (c .before .pre)
+loop-holds c =
+    let r = c .before .before .pre in
+    (start r, c .lesser .ensures ∙ min-eq-left (omega (arith, r .room)))
 
 action-in-requires : tie.Need-action-in-requires Inv-loop μ-loop
 action-in-requires c κs = search needs
@@ -85,7 +93,7 @@ child-amount-requires : tie.Need-child-amount-requires Inv-loop μ-loop
 unfolding kindOf
 child-amount-requires c κs =
     let d = c .before .before in
-    λ g. child-small (d .before .loop .inv .ready) (d .loop-test .taken)
+    λ g. child-small (d .before .loop .inv .0 .ready) (omega (arith, d .before .loop .inv .1, d .loop-test .taken))
     (c .before .action-in .ensures .0) (c .before .action-in .ensures .1 .value) (ap kindOf g)
 
 add-rise : tie.Need-add-rise Inv-loop μ-loop
@@ -118,11 +126,11 @@ loop-less c = omega arith
 loop-again : tie.Need-loop-again Inv-loop μ-loop
 loop-again c =
     let d = c .before .before .before .before .before .before in
-    again (d .before .loop .inv) (d .loop-test .taken)
-    (risen (c .before .before .before) .value) (fallen (c .before) .value) (c .least-next .ensures)
+    let v = d .before .loop .inv in
+    (again (v .0) (omega (arith, v .1, d .loop-test .taken)) (risen (c .before .before .before) .value) (fallen (c .before) .value) (c .least-next .ensures), v .1)
 
 returns : tie.Need-returns Inv-loop μ-loop
-returns c = done (c .before .loop .inv) (c .loop-test .left)
+returns c = done (c .before .loop .inv .0) (omega (arith, c .before .loop .inv .1, c .loop-test .left))
 
 pub balance-walk-spec : {M : Type 1} → statement M
 balance-walk-spec =
@@ -130,6 +138,7 @@ balance-walk-spec =
     (tie.spec
     Inv-loop
     μ-loop
+    lesser-requires
     loop-holds
     action-in-requires
     alloc-of-requires

@@ -111,10 +111,10 @@ module _ {s actions : List ℕ} {n m own stop own' stop' a k x number : ℕ} (i 
       }
 
 abbrev Inv-loop : tie.InvT-loop
-Inv-loop table n m actions span₀ a₀ span a = Inv table actions n m (span .own) (span .stop) a
+Inv-loop table n m actions whole span₀ a₀ span a = Inv table actions n m (span .own) (span .stop) a × (whole ≡ m)
 
 abbrev μ-loop : tie.MeasureT-loop
-μ-loop table n m actions span₀ a₀ span a = m - a
+μ-loop table n m actions whole span₀ a₀ span a = m - a
 
 bodies-requires : tie.Need-bodies-requires Inv-loop μ-loop
 bodies-requires c κs = search needs
@@ -123,10 +123,14 @@ count-requires : tie.Need-count-requires Inv-loop μ-loop
 count-requires c κs = search needs
 
 loop-holds : tie.Need-loop-holds Inv-loop μ-loop
-loop-holds c = start (c .before .before .before .pre) (c .before .bodies .ensures) (c .count .ensures .value)
+loop-holds c =
+    let i = start (c .before .before .before .pre) (c .before .bodies .ensures) (c .count .ensures .value) in
+    (i, omega (arith, i .size))
 
 span-at-requires : tie.Need-span-at-requires Inv-loop μ-loop
-span-at-requires c κs = (c .before .loop .inv .laid, c .before .loop .inv .reached (c .loop-test .taken))
+span-at-requires c κs =
+    let i = c .before .loop .inv in
+    (i .0 .laid, i .0 .reached (omega (arith, i .1, c .loop-test .taken)))
 
 action-in-requires : tie.Need-action-in-requires Inv-loop μ-loop
 action-in-requires c κs = search needs
@@ -143,26 +147,31 @@ refuse-requires c κs = search needs
 returns : tie.Need-returns Inv-loop μ-loop
 returns c =
     let d = c .before .before in
+    let l = d .before .before .before .before in
     c .refuse .ensures
-    ∙ stops (d .before .before .before .before .before .loop .inv) (d .before .before .before .before .loop-test .taken) (d .before .before .before .span-at .ensures)
+    ∙ stops (l .before .loop .inv .0) (omega (arith, l .before .loop .inv .1, l .loop-test .taken)) (d .before .before .before .span-at .ensures)
     (d .before .before .action-in .ensures .0) (d .before .before .action-in .ensures .1 .value) (d .form-at .ensures) (c .before .if1 .taken)
 
 add-a : tie.Need-add-a Inv-loop μ-loop
 add-a c = omega arith
 
 loop-less : tie.Need-loop-less Inv-loop μ-loop
-loop-less c = omega arith
+loop-less c = omega (arith, c .before .before .before .before .before .before .loop .inv .1)
 
 loop-again : tie.Need-loop-again Inv-loop μ-loop
 loop-again c =
     let d = c .before in
-    again (d .before .before .before .before .before .loop .inv) (d .before .before .before .before .loop-test .taken) (d .before .before .before .span-at .ensures)
-    (d .before .before .action-in .ensures .0) (d .before .before .action-in .ensures .1 .value) (d .form-at .ensures) (c .if1 .left)
+    let l = d .before .before .before .before in
+    let i = l .before .loop .inv in (
+      again (i .0) (omega (arith, i .1, l .loop-test .taken)) (d .before .before .before .span-at .ensures) (d .before .before .action-in .ensures .0) (d .before .before .action-in .ensures .1 .value)
+          (d .form-at .ensures) (c .if1 .left),
+      i .1,
+    )
 
 returns-2 : tie.Need-returns-2 Inv-loop μ-loop
 returns-2 c =
     let i = c .before .loop .inv in
-    sym (tryFrom-last _ _ _ (omega (arith, i .within))) ∙ i .remains
+    sym (tryFrom-last _ _ _ (omega (arith, i .0 .within, i .1))) ∙ i .0 .remains
 
 pub first-pass-spec : {M : Type 1} → statement M
 first-pass-spec =

@@ -115,10 +115,10 @@ refused : {f : Found} {number place : ℕ} {A : Type 0} → f ≡ At (refusal nu
 refused e z = no-way cc
 
 abbrev Inv-loop : tie.InvT-loop
-Inv-loop table n m stack₀ forked₀ actions top₀ a₀ stack forked top a = Inv table actions n m forked stack top a
+Inv-loop table n m stack₀ forked₀ actions whole top₀ a₀ stack forked top a = Inv table actions n m forked stack top a × (whole ≡ m)
 
 abbrev μ-loop : tie.MeasureT-loop
-μ-loop table n m stack₀ forked₀ actions top₀ a₀ stack forked top a = m - a
+μ-loop table n m stack₀ forked₀ actions whole top₀ a₀ stack forked top a = m - a
 
 bodies-requires : tie.Need-bodies-requires Inv-loop μ-loop
 bodies-requires c κs = search needs
@@ -127,7 +127,8 @@ loop-holds : tie.Need-loop-holds Inv-loop μ-loop
 loop-holds c =
     let b = c .before in
     let d = b .before .before in
-    start (d .pre .0) (b .bodies .ensures) (d .pre .1)
+    let i = start (d .pre .0) (b .bodies .ensures) (d .pre .1) in
+    (i, omega (arith, i .size))
 
 action-in-requires : tie.Need-action-in-requires Inv-loop μ-loop
 action-in-requires c κs = search needs
@@ -135,38 +136,39 @@ action-in-requires c κs = search needs
 nest-at-requires : tie.Need-nest-at-requires Inv-loop μ-loop
 nest-at-requires c κs =
     let d = c .before .before in
-    ready (d .before .before .loop .inv) (d .before .loop-test .taken) (d .action-in .ensures .0) (d .action-in .ensures .1 .value)
+    let i = d .before .before .loop .inv in
+    ready (i .0) (omega (arith, i .1, d .before .loop-test .taken)) (d .action-in .ensures .0) (d .action-in .ensures .1 .value)
 
 refuse-requires : tie.Need-refuse-requires Inv-loop μ-loop
-refuse-requires c κs = omega (arith, c .before .before .before .before .before .before .before .loop .inv .sizes)
+refuse-requires c κs = omega (arith, c .before .before .before .before .before .before .before .loop .inv .0 .sizes)
 
 returns : tie.Need-returns Inv-loop μ-loop
 returns c =
     let d = c .before .before .before in
     let f = d .before .before .before in (
       c .refuse .ensures
-          ∙ stops (f .before .before .loop .inv) (f .before .loop-test .taken) (f .action-in .ensures .0) (f .action-in .ensures .1 .value)
+          ∙ stops (f .before .before .loop .inv .0) (omega (arith, f .before .before .loop .inv .1, f .before .loop-test .taken)) (f .action-in .ensures .0) (f .action-in .ensures .1 .value)
           (d .nest-at .ensures) (c .before .if1 .taken),
       refused (c .refuse .ensures),
     )
 
 add-a : tie.Need-add-a Inv-loop μ-loop
-add-a c = omega (arith, c .before .before .before .before .before .before .before .loop .inv .sizes)
+add-a c = omega (arith, c .before .before .before .before .before .before .before .loop .inv .0 .sizes)
 
 loop-less : tie.Need-loop-less Inv-loop μ-loop
-loop-less c = omega (arith, c .before .before .before .before .before .before .loop-test .taken)
+loop-less c = omega (arith, c .before .before .before .before .before .before .before .loop .inv .1, c .before .before .before .before .before .before .loop-test .taken)
 
 loop-again : tie.Need-loop-again Inv-loop μ-loop
 loop-again c =
     let d = c .before .before in
     let f = d .before .before .before in
-    again (f .before .before .loop .inv) (f .before .loop-test .taken) (f .action-in .ensures .0) (f .action-in .ensures .1 .value)
-    (d .nest-at .ensures) (c .if1 .left)
+    let i = f .before .before .loop .inv in
+    (again (i .0) (omega (arith, i .1, f .before .loop-test .taken)) (f .action-in .ensures .0) (f .action-in .ensures .1 .value) (d .nest-at .ensures) (c .if1 .left), i .1)
 
 returns-2 : tie.Need-returns-2 Inv-loop μ-loop
 returns-2 c =
     let i = c .before .loop .inv in
-    (none i (c .loop-test .left), λ e. marks i (c .loop-test .left))
+    (none (i .0) (omega (arith, i .1, c .loop-test .left)), λ e. marks (i .0) (omega (arith, i .1, c .loop-test .left)))
 
 pub second-pass-spec : {M : Type 1} → statement M
 second-pass-spec =

@@ -16,7 +16,7 @@ use Rattle.table.proofs.Sizes.{Sizes, sizes}
 use Rattle.table.proofs.Bodies.{fork-below}
 use Rattle.table.proofs.NestedThreads.{nest-few}
 use Rattle.facts.proofs.NestWalk.{NestsTo, nests-first, nests-below, nests-known, nests-next, nests-all}
-use Rattle.table.proofs.Parts.{bodies-from}
+use Rattle.table.proofs.Parts.{bodies-from, bodies-length}
 use Rattle.facts.proofs.nested.nested_levels.Statement.{statement}
 use Rattle.facts.proofs.nested.nested_levels.Tie as tie
 
@@ -108,50 +108,58 @@ module _ {s actions : List ℕ} {n m : ℕ} {levels : List ℕ} {deepest t a : �
   found h = nests-all T (laws .0) (laws .1) (laws .2) (laws .3) (some-thread (i .nested)) (few-threads (i .nested)) (i .nests) (omega (arith, actions-are (i .nested)))
 
 abbrev Inv-loop : tie.InvT-loop
-Inv-loop table n m actions levels₀ deepest₀ t₀ a₀ levels deepest t a = Inv table actions n m levels deepest t a
+Inv-loop table n m actions whole levels₀ deepest₀ t₀ a₀ levels deepest t a = Inv table actions n m levels deepest t a × (whole ≡ m)
 
 abbrev μ-loop : tie.MeasureT-loop
-μ-loop table n m actions levels₀ deepest₀ t₀ a₀ levels deepest t a = m - a
+μ-loop table n m actions whole levels₀ deepest₀ t₀ a₀ levels deepest t a = m - a
 
 bodies-requires : tie.Need-bodies-requires Inv-loop μ-loop
 bodies-requires c κs = search needs
 
 loop-holds : tie.Need-loop-holds Inv-loop μ-loop
-loop-holds c = start (c .before .before .pre) (c .bodies .ensures)
+loop-holds c =
+    let i = start (c .before .before .pre) (c .bodies .ensures) in
+    (i, omega (arith, rw (← (i .part)) at (bodies-length (i .nested .formed .laid .headed))))
 
 action-in-requires : tie.Need-action-in-requires Inv-loop μ-loop
 action-in-requires c κs = search needs
 
 mul-level : tie.Need-mul-level Inv-loop μ-loop
-mul-level c = omega (arith, thread-below (c .before .before .loop .inv) (c .before .loop-test .taken))
+mul-level c = omega (arith, thread-below (c .before .before .loop .inv .0) (omega (arith, c .before .before .loop .inv .1, c .before .loop-test .taken)))
 
 array-read-level : tie.Need-array-read-level Inv-loop μ-loop
-array-read-level c = thread-below (c .before .before .loop .inv) (c .before .loop-test .taken)
+array-read-level c = thread-below (c .before .before .loop .inv .0) (omega (arith, c .before .before .loop .inv .1, c .before .loop-test .taken))
 
 fork-level-requires : tie.Need-fork-level-requires Inv-loop μ-loop
 fork-level-requires c κs =
     let b = c .before .before in
-    (level-small (b .before .loop .inv) (b .loop-test .taken), child-below (b .before .loop .inv) (b .loop-test .taken) (c .before .action-in .ensures .0) (c .before .action-in .ensures .1 .value))
+    let v = b .before .loop .inv in (
+      level-small (v .0) (omega (arith, v .1, b .loop-test .taken)),
+      child-below (v .0) (omega (arith, v .1, b .loop-test .taken)) (c .before .action-in .ensures .0) (c .before .action-in .ensures .1 .value),
+    )
 
 next-thread-requires : tie.Need-next-thread-requires Inv-loop μ-loop
 next-thread-requires c κs =
     let b = c .before .before .before in
-    thread-below (b .before .loop .inv) (b .loop-test .taken)
+    thread-below (b .before .loop .inv .0) (omega (arith, b .before .loop .inv .1, b .loop-test .taken))
 
 add-a : tie.Need-add-a Inv-loop μ-loop
 add-a c = omega arith
 
 loop-less : tie.Need-loop-less Inv-loop μ-loop
-loop-less c = omega arith
+loop-less c = omega (arith, c .before .before .before .before .before .loop .inv .1)
 
 loop-again : tie.Need-loop-again Inv-loop μ-loop
 loop-again c =
     let b = c .before .before .before .before in
-    again (b .before .loop .inv) (b .loop-test .taken) (c .before .before .before .action-in .ensures .0) (c .before .before .before .action-in .ensures .1 .value)
-    (c .before .fork-level .ensures .0) (c .before .fork-level .ensures .1) (c .next-thread .ensures)
+    let v = b .before .loop .inv in (
+      again (v .0) (omega (arith, v .1, b .loop-test .taken)) (c .before .before .before .action-in .ensures .0) (c .before .before .before .action-in .ensures .1 .value)
+          (c .before .fork-level .ensures .0) (c .before .fork-level .ensures .1) (c .next-thread .ensures),
+      v .1,
+    )
 
 returns : tie.Need-returns Inv-loop μ-loop
-returns c = found (c .before .loop .inv) (c .loop-test .left)
+returns c = found (c .before .loop .inv .0) (omega (arith, c .before .loop .inv .1, c .loop-test .left))
 
 pub nested-levels-spec : {M : Type 1} → statement M
 nested-levels-spec =

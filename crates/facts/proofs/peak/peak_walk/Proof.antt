@@ -1,10 +1,11 @@
 -- `facts::peak::peak_walk` meets its contract. The invariant: the sums and the highest are those of the actions before i; what a sum is after an action is part of the whole sum, which is small.
-use mathlib.Core.Path.{_≡_, refl}
+use mathlib.Core.Path.{_≡_, refl, _∙_}
 use Prim.Native.Nat.{ℕ, _+_, _-_, _^_, _<_, _≤_, max}
 use mathlib.Core.List.{List}
 use mathlib.Core.Bool.{Bool, true, false}
 use native.Mathlib.Numerals.{add-one}
 use native.Mathlib.Omega.{arith}
+use native.Mathlib.Nat.{min-eq-left}
 use borrow.Author.Needs.{needs}
 use denote.Ref.{now}
 use lib.ListN.{getD}
@@ -50,46 +51,54 @@ module _ {l : List ℕ} {count : ℕ} {rises falls peaks : List ℕ} where
     top-next e f g q = rw add-one (cc)
 
 abbrev Inv-loop : tie.InvT-loop
-Inv-loop body count rises falls peaks rise₀ fall₀ peak₀ i₀ rise fall peak i = Inv body count rises falls peaks rise fall peak i
+Inv-loop body count rises falls peaks stop rise₀ fall₀ peak₀ i₀ rise fall peak i = Inv body count rises falls peaks rise fall peak i × (stop ≡ count)
 
 abbrev μ-loop : tie.MeasureT-loop
-μ-loop body count rises falls peaks rise₀ fall₀ peak₀ i₀ rise fall peak i = count - i
+μ-loop body count rises falls peaks stop rise₀ fall₀ peak₀ i₀ rise fall peak i = count - i
 
 -- what the calls of an action give: a child's number, and the two sums after it
 child-index : (c : tie.After-action-in Inv-loop μ-loop) → c .action-in .result .code ≡ 4 → c .action-in .result .argument < 1024
 unfolding kindOf
 child-index c e =
     let d = c .before in
-    child-small (d .before .loop .inv .ready) (d .loop-test .taken) (c .action-in .ensures .0) (c .action-in .ensures .1 .value) (rw e)
+    let v = d .before .loop .inv in
+    child-small (v .0 .ready) (omega (arith, v .1, d .loop-test .taken)) (c .action-in .ensures .0) (c .action-in .ensures .1 .value) (rw e)
 
 risen-next : (c : tie.After-child-amount2 Inv-loop μ-loop) →
     let l = c .before .before .before .before .before .before in
-    let a = l .before .before .args in
+    let a = l .before .before .before .args in
     Summed (amountAt alloc fork (now (a .body)) (now (a .rises))) (l .loop .i) (l .loop .rise + (c .before .alloc-of .result + c .child-amount2 .result))
 risen-next c =
     let a = c .before .before .before .before in
     let d = a .before in
-    sum-next alloc fork _ _ (d .before .loop .inv .ready .rise-small) (d .loop-test .taken) (a .action-in .ensures .0) (a .action-in .ensures .1 .value)
-    (c .before .alloc-of .ensures) (c .child-amount2 .ensures) (d .before .loop .inv .risen)
+    let v = d .before .loop .inv in
+    sum-next alloc fork _ _ (v .0 .ready .rise-small) (omega (arith, v .1, d .loop-test .taken)) (a .action-in .ensures .0) (a .action-in .ensures .1 .value)
+    (c .before .alloc-of .ensures) (c .child-amount2 .ensures) (v .0 .risen)
 
 fallen-next : (c : tie.After-child-amount3 Inv-loop μ-loop) →
     let l = c .before .before .before .before .before .before .before .before in
-    let a = l .before .before .args in
+    let a = l .before .before .before .args in
     Summed (amountAt free fork (now (a .body)) (now (a .falls))) (l .loop .i) (l .loop .fall + (c .before .free-of .result + c .child-amount3 .result))
 fallen-next c =
     let a = c .before .before .before .before .before .before in
     let d = a .before in
-    sum-next free fork _ _ (d .before .loop .inv .ready .fall-small) (d .loop-test .taken) (a .action-in .ensures .0) (a .action-in .ensures .1 .value)
-    (c .before .free-of .ensures) (c .child-amount3 .ensures) (d .before .loop .inv .fallen)
+    let v = d .before .loop .inv in
+    sum-next free fork _ _ (v .0 .ready .fall-small) (omega (arith, v .1, d .loop-test .taken)) (a .action-in .ensures .0) (a .action-in .ensures .1 .value)
+    (c .before .free-of .ensures) (c .child-amount3 .ensures) (v .0 .fallen)
+
+lesser-requires : tie.Need-lesser-requires Inv-loop μ-loop
+lesser-requires c κs = search needs
 
 loop-holds : tie.Need-loop-holds Inv-loop μ-loop
-loop-holds c = start (c .before .pre .0) (c .before .pre .1)
+loop-holds c =
+    let r = c .before .before .pre in
+    (start (r .0) (r .1), c .lesser .ensures ∙ min-eq-left (omega (arith, r .0 .room)))
 
 action-in-requires : tie.Need-action-in-requires Inv-loop μ-loop
 action-in-requires c κs = search needs
 
 sub-larger : tie.Need-sub-larger Inv-loop μ-loop
-sub-larger c = held (c .before .before .loop .inv)
+sub-larger c = held (c .before .before .loop .inv .0)
 
 child-amount-requires : tie.Need-child-amount-requires Inv-loop μ-loop
 child-amount-requires c κs = child-index c
@@ -97,7 +106,7 @@ child-amount-requires c κs = child-index c
 add-larger : tie.Need-add-larger Inv-loop μ-loop
 add-larger c =
     let d = c .before .before in
-    record { fits = top-small (d .before .loop .inv) (d .loop-test .taken) (c .before .action-in .ensures .0) (c .before .action-in .ensures .1 .value) (c .child-amount .ensures) }
+    record { fits = top-small (d .before .loop .inv .0) (omega (arith, d .before .loop .inv .1, d .loop-test .taken)) (c .before .action-in .ensures .0) (c .before .action-in .ensures .1 .value) (c .child-amount .ensures) }
 
 larger-requires : tie.Need-larger-requires Inv-loop μ-loop
 larger-requires c κs = search needs
@@ -135,20 +144,23 @@ loop-less c = omega arith
 loop-again : tie.Need-loop-again Inv-loop μ-loop
 loop-again c =
     let a = c .before .before .before .before .before .before in
-    let v = a .before .before .loop .inv in
-    record {
-      ready = v .ready;
-      low = v .low;
-      within = omega arith;
-      risen = rw add-one (risen-next (c .before .before) .value);
-      fallen = rw add-one (fallen-next c .value);
-      highest = top-next v (a .action-in .ensures .0) (a .action-in .ensures .1 .value) (c .before .before .before .before .before .child-amount .ensures) (c .before .before .before .before .larger .ensures);
-    }
+    let w = a .before .before .loop .inv in
+    let v = w .0 in (
+      record {
+        ready = v .ready;
+        low = v .low;
+        within = omega (arith, w .1, a .before .loop-test .taken);
+        risen = rw add-one (risen-next (c .before .before) .value);
+        fallen = rw add-one (fallen-next c .value);
+        highest = top-next v (a .action-in .ensures .0) (a .action-in .ensures .1 .value) (c .before .before .before .before .before .child-amount .ensures) (c .before .before .before .before .larger .ensures);
+      },
+      w .1,
+    )
 
 returns : tie.Need-returns Inv-loop μ-loop
 returns c =
-    let v = c .before .loop .inv in
-    let l : c .before .loop .i ≡ c .before .before .before .args .count = omega arith in
+    let v = c .before .loop .inv .0 in
+    let l : c .before .loop .i ≡ c .before .before .before .before .args .count = omega (arith, c .before .loop .inv .1) in
     (rw l at (v .risen), (rw l at (v .fallen), rw l at (v .highest)))
 
 pub peak-walk-spec : {M : Type 1} → statement M
@@ -157,6 +169,7 @@ peak-walk-spec =
     (tie.spec
     Inv-loop
     μ-loop
+    lesser-requires
     loop-holds
     action-in-requires
     sub-larger
