@@ -18,7 +18,8 @@ use Rattle.lent.specs.Turn.{nextFits, amountFits, actOn}
 use Rattle.cells.specs.declared.act.Went.{Went}
 use Rattle.cells.specs.Memory.{Memory, movedIn}
 use Rattle.cells.specs.Blocks.{Bytes, Words, Numbers, Sums, bytesIn, wordsIn, numbersIn, sumsIn, gathered, memoryOf}
-use Rattle.cells.specs.Places.{statused, rowed, amounted, settled, settledWords, settledNumbers, heldSums, holdsIn, having, seatedBytes}
+use Rattle.cells.specs.Places.{statused, rowed, amounted, holdsIn}
+use Rattle.cells.specs.Code.Writes.{settled, settledWords, settledNumbers, heldSums, having, seatedBytes}
 use Rattle.cells.specs.Code.Acts.{Gone, gone, wentIn, seatedQuota, acted, Seated}
 
 -- ---- for every action

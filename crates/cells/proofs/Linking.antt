@@ -9,7 +9,8 @@ use borrow.Author.Tests.{lt-ltb, le-ltb, eqb-true}
 use Rattle.table.specs.Sum.{pick}
 use Rattle.schedule.specs.Links.{noThread}
 use Rattle.cells.specs.Blocks.{Words}
-use Rattle.cells.specs.Places.{rowed, headAt, headed, linkedLeft, unlinked}
+use Rattle.cells.specs.Places.{rowed, headAt, headed}
+use Rattle.cells.specs.Code.Writes.{linkedLeft, unlinked}
 
 -- ---- the head
 

@@ -15,7 +15,8 @@ use Rattle.lent.specs.Turn.{nextFits, amountFits, waitsIn, actOn}
 use Rattle.cells.specs.declared.act.Went.{Went}
 use Rattle.cells.specs.Memory.{Memory}
 use Rattle.cells.specs.Blocks.{Bytes, Words, Numbers, Sums, gathered}
-use Rattle.cells.specs.Places.{statused, rowed, linkedLeft, unlinked, amounted, settled, settledWords, settledNumbers, holdsIn, having, seatedBytes}
+use Rattle.cells.specs.Places.{statused, rowed, amounted, holdsIn}
+use Rattle.cells.specs.Code.Writes.{linkedLeft, unlinked, settled, settledWords, settledNumbers, having, seatedBytes}
 use Rattle.cells.specs.Code.Acts.{Gone, gone, wentIn, seatedQuota, acted, Seated}
 use Rattle.cells.proofs.Acts.{set-seated, settled-as, settled-words-as, next-at}
 

@@ -55,7 +55,8 @@ ghost use Rattle.schedule.specs.Machine.{ended, nobody};
 ghost use Rattle.lent.specs.Turn.{waitsIn};
 ghost use Rattle.lent.specs.Counted.{busyAfter};
 ghost use Rattle.cells.specs.Blocks.{bytesIn, wordsIn, numbersIn, sumsIn, memoryOf};
-ghost use Rattle.cells.specs.Places.{holdsIn, having, seatedBytes, Room, settled, settledWords, settledNumbers, heldSums};
+ghost use Rattle.cells.specs.Places.{holdsIn};
+ghost use Rattle.cells.specs.Code.Writes.{having, seatedBytes, Room, settled, settledWords, settledNumbers, heldSums};
 ghost use Rattle.cells.specs.Code.Acts.{gone, acted, Seated};
 
 // Whether all fitted, and the reply; if not, nothing was moved.

@@ -11,7 +11,8 @@ ghost use mathlib.Core.Path.{_≡_};
 ghost use Prim.Native.Nat.{_<_};
 ghost use Rattle.schedule.specs.Links.{seek as seekOf};
 ghost use Rattle.cells.specs.Blocks.{bytesIn, wordsIn};
-ghost use Rattle.cells.specs.Places.{headAt, linkedLeft, unlinked};
+ghost use Rattle.cells.specs.Places.{headAt};
+ghost use Rattle.cells.specs.Code.Writes.{linkedLeft, unlinked};
 
 // Puts c directly left of t.
 pub(crate) fn link_left(words: &mut [u16; 6163], k: usize, h: usize, c: u16, t: u16)

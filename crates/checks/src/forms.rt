@@ -1,6 +1,7 @@
 // Checks 5 to 7: each action's kind, argument and place in its body.
 use crate::refuse;
 use table::Found;
+use table::lesser;
 use table::read::action_in;
 use table::read::bodies;
 use table::read::count;
@@ -85,13 +86,13 @@ pub(crate) fn first_pass(table: &[u8], n: usize, m: usize) -> Found
 {
     let actions = bodies(table, n);
     // m, in a form by which the compiler knows that every action is there
-    let whole = actions.len() / 4;
+    let stop = lesser(m, actions.len() / 4);
     let mut span = Span {
         own: 0,
         stop: count(table, 0),
     };
     let mut a = 0;
-    while a < whole {
+    while a < stop {
         span = span_at(table, n, m, span, a);
         let action = action_in(actions, a);
         let number = form_at(

@@ -1,6 +1,7 @@
 // Checks 8, 9 and 11: every thread but the root is forked once, and joins close forks, the latest first.
 use crate::refuse;
 use table::Found;
+use table::lesser;
 use table::read::action_in;
 use table::read::bodies;
 ghost use mathlib.Core.Path.{_≡_};
@@ -73,11 +74,11 @@ fn second_pass(
 {
     let actions = bodies(table, n);
     // m, in a form by which the compiler knows that every action is there
-    let whole = actions.len() / 4;
+    let stop = lesser(m, actions.len() / 4);
     *stack = [0; 1024];
     let mut top = 1024;
     let mut a = 0;
-    while a < whole {
+    while a < stop {
         let action = action_in(actions, a);
         let next = nest_at(action.code, action.argument, top, stack, forked);
         if next.number != 0 {

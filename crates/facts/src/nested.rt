@@ -1,6 +1,7 @@
 // The number of nested thread levels N: a forked thread is one level below the thread that forks it.
 use table::kinds::END;
 use table::kinds::FORK;
+use table::lesser;
 use table::read::action_in;
 use table::read::bodies;
 ghost use mathlib.Core.Path.{_≡_};
@@ -40,12 +41,12 @@ pub(crate) fn nested_levels(table: &[u8], n: usize, m: usize) -> usize
 {
     let actions = bodies(table, n);
     // m, in a form by which the compiler knows that every action is there
-    let whole = actions.len() / 4;
+    let stop = lesser(m, actions.len() / 4);
     let mut levels = [1usize; 1024];
     let mut deepest = 1;
     let mut t = 0;
     let mut a = 0;
-    while a < whole {
+    while a < stop {
         let action = action_in(actions, a);
         let k = action.code;
         let c = action.argument;

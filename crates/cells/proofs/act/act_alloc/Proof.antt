@@ -6,7 +6,7 @@ use denote.Ref.{now}
 use Rattle.schedule.specs.Machine.{nobody}
 use Rattle.lent.proofs.Leaves.{fits16, fits64}
 use Rattle.cells.specs.Blocks.{Bytes, Words, Sums, bytesIn, wordsIn, numbersIn, sumsIn}
-use Rattle.cells.specs.Places.{heldSums, having}
+use Rattle.cells.specs.Code.Writes.{heldSums, having}
 use Rattle.cells.proofs.Acts.{gone-as, settled-as, settled-words-as, kept-words-as, room-in, alloc-room, alloc-beyond, alloc-unfit, alloc-done}
 use borrow.Author.Needs.{needs}
 use Rattle.cells.proofs.act.act_alloc.Statement.{statement}

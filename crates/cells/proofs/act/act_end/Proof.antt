@@ -10,7 +10,8 @@ use Rattle.table.specs.Format.{Table}
 use Rattle.schedule.specs.Machine.{ready, ended}
 use Rattle.lent.specs.Turn.{waitsIn}
 use Rattle.cells.specs.Blocks.{bytesIn, wordsIn, numbersIn, sumsIn, Bytes, Words}
-use Rattle.cells.specs.Places.{statused, linkedLeft, unlinked}
+use Rattle.cells.specs.Places.{statused}
+use Rattle.cells.specs.Code.Writes.{linkedLeft, unlinked}
 use Rattle.cells.proofs.Acts.{room-in}
 use Rattle.cells.proofs.ListActs.{let-go-as, woken-holds, woken-busy, end-done}
 use borrow.Author.Needs.{needs}

@@ -10,7 +10,8 @@ use Rattle.schedule.specs.Machine.{ready}
 use Rattle.lent.specs.Turn.{nextFits}
 use Rattle.lent.proofs.Leaves.{fits16, fits-and}
 use Rattle.cells.specs.Blocks.{Bytes, Words, bytesIn, wordsIn, numbersIn, sumsIn}
-use Rattle.cells.specs.Places.{statused, linkedLeft}
+use Rattle.cells.specs.Places.{statused}
+use Rattle.cells.specs.Code.Writes.{linkedLeft}
 use Rattle.cells.proofs.Acts.{room-in}
 use Rattle.cells.proofs.ListActs.{unfit-as, let-go-as, fork-unfit, fork-done}
 use borrow.Author.Needs.{needs}

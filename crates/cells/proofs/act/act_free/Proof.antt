@@ -5,7 +5,7 @@ use borrow.Author.Tests.{not-true, not-false}
 use denote.Ref.{now}
 use Rattle.lent.proofs.Leaves.{fits16}
 use Rattle.cells.specs.Blocks.{Words, Sums, bytesIn, wordsIn, numbersIn, sumsIn}
-use Rattle.cells.specs.Places.{heldSums, having}
+use Rattle.cells.specs.Code.Writes.{heldSums, having}
 use Rattle.cells.proofs.Acts.{gone-as, kept-words-as, room-in, free-room, free-unfit, free-done}
 use borrow.Author.Needs.{needs}
 use Rattle.cells.proofs.act.act_free.Statement.{statement}

@@ -7,7 +7,8 @@ use denote.Ref.{now}
 use Rattle.lent.specs.Turn.{nextFits, amountFits}
 use Rattle.lent.proofs.Leaves.{fits16, fits64, fits-and}
 use Rattle.cells.specs.Blocks.{Words, bytesIn, wordsIn, numbersIn, sumsIn}
-use Rattle.cells.specs.Places.{amounted, having}
+use Rattle.cells.specs.Places.{amounted}
+use Rattle.cells.specs.Code.Writes.{having}
 use Rattle.cells.proofs.Acts.{gone-as, kept-words-as, room-in}
 use Rattle.cells.proofs.ListActs.{unfit-as, join-unfit, join-done}
 use borrow.Author.Needs.{needs}

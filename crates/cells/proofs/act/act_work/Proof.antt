@@ -3,7 +3,7 @@ use mathlib.Core.Path.{refl, ap}
 use borrow.Author.Tests.{not-true, not-false}
 use denote.Ref.{now}
 use Rattle.lent.proofs.Leaves.{fits16, fits-next}
-use Rattle.cells.specs.Places.{having}
+use Rattle.cells.specs.Code.Writes.{having}
 use Rattle.cells.specs.Blocks.{Words, bytesIn, wordsIn, numbersIn, sumsIn}
 use Rattle.cells.proofs.Acts.{gone-as, kept-words-as, room-in, work-unfit, work-done}
 use borrow.Author.Needs.{needs}

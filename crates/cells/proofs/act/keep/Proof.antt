@@ -5,7 +5,7 @@ use mathlib.Core.List.{List}
 use mathlib.Core.Logic.{⊎-elim}
 use borrow.Author.Tests.{not-true, not-false}
 use denote.Ref.{now}
-use Rattle.cells.specs.Places.{having, seatedBytes}
+use Rattle.cells.specs.Code.Writes.{having, seatedBytes}
 use Rattle.cells.specs.Blocks.{Bytes, Words, bytesIn, wordsIn}
 use Rattle.cells.proofs.Acts.{seated-own, seated-taken, settled-as, settled-words-as, room-still}
 use borrow.Author.Needs.{needs}

@@ -3,7 +3,8 @@ use mathlib.Core.Path.{ap, _∙_}
 use denote.Ref.{now}
 use Rattle.schedule.specs.declared.Worker.{Worker}
 use Rattle.cells.specs.Blocks.{bytesIn, wordsIn, numbersIn}
-use Rattle.cells.specs.Places.{settled, settledWords, settledNumbers, holdsIn}
+use Rattle.cells.specs.Places.{holdsIn}
+use Rattle.cells.specs.Code.Writes.{settled, settledWords, settledNumbers}
 use borrow.Author.Needs.{needs}
 use Rattle.cells.proofs.act.let_go.Statement.{statement}
 use Rattle.cells.proofs.act.let_go.Tie as tie

@@ -4,6 +4,7 @@ use Prim.Native.Nat.{ℕ, zero, suc, pred, _+_, _-_, _*_, _<_, _≤_}
 use mathlib.Core.List.{List}
 use mathlib.Core.Bool.{Bool, true, false, not}
 use native.Mathlib.Omega.{arith}
+use native.Mathlib.Nat.{min-eq-left}
 use borrow.Author.Needs.{needs}
 use borrow.Author.Tests.{eqb-true, eqb-false, eq-eqb, ne-eqb}
 use lib.Dec.{eqb}
@@ -111,10 +112,10 @@ module _ {s actions : List ℕ} {n m own stop own' stop' a k x number : ℕ} (i 
       }
 
 abbrev Inv-loop : tie.InvT-loop
-Inv-loop table n m actions whole span₀ a₀ span a = Inv table actions n m (span .own) (span .stop) a × (whole ≡ m)
+Inv-loop table n m actions stop span₀ a₀ span a = Inv table actions n m (span .own) (span .stop) a × (stop ≡ m)
 
 abbrev μ-loop : tie.MeasureT-loop
-μ-loop table n m actions whole span₀ a₀ span a = m - a
+μ-loop table n m actions stop span₀ a₀ span a = m - a
 
 bodies-requires : tie.Need-bodies-requires Inv-loop μ-loop
 bodies-requires c κs = search needs
@@ -122,10 +123,14 @@ bodies-requires c κs = search needs
 count-requires : tie.Need-count-requires Inv-loop μ-loop
 count-requires c κs = search needs
 
+lesser-requires : tie.Need-lesser-requires Inv-loop μ-loop
+lesser-requires c κs = search needs
+
 loop-holds : tie.Need-loop-holds Inv-loop μ-loop
 loop-holds c =
-    let i = start (c .before .before .before .pre) (c .before .bodies .ensures) (c .count .ensures .value) in
-    (i, omega (arith, i .size))
+    let l = c .before in
+    let i = start (l .before .before .before .pre) (l .before .bodies .ensures) (c .count .ensures .value) in
+    (i, l .lesser .ensures ∙ min-eq-left (omega (arith, i .size)))
 
 span-at-requires : tie.Need-span-at-requires Inv-loop μ-loop
 span-at-requires c κs =
@@ -180,6 +185,7 @@ first-pass-spec =
     Inv-loop
     μ-loop
     bodies-requires
+    lesser-requires
     count-requires
     loop-holds
     span-at-requires

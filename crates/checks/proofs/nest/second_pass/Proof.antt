@@ -5,6 +5,7 @@ use Prim.Native.Nat.{ℕ, _+_, _-_, _*_, _<_, _≤_}
 use mathlib.Core.List.{List}
 use mathlib.Core.Bool.{Bool, false}
 use native.Mathlib.Omega.{arith}
+use native.Mathlib.Nat.{min-eq-left}
 use borrow.Author.Needs.{needs}
 use lib.ListN.{length, getD, replicate, drop, length-drop, length-replicate, drop-of-length-le}
 use Rattle.table.specs.Format.{fork, kindOf, tableOf, kind, codeAt, argumentAt, actionsOf, bodiesFrom, bodiesOf}
@@ -115,20 +116,24 @@ refused : {f : Found} {number place : ℕ} {A : Type 0} → f ≡ At (refusal nu
 refused e z = no-way cc
 
 abbrev Inv-loop : tie.InvT-loop
-Inv-loop table n m stack₀ forked₀ actions whole top₀ a₀ stack forked top a = Inv table actions n m forked stack top a × (whole ≡ m)
+Inv-loop table n m stack₀ forked₀ actions stop top₀ a₀ stack forked top a = Inv table actions n m forked stack top a × (stop ≡ m)
 
 abbrev μ-loop : tie.MeasureT-loop
-μ-loop table n m stack₀ forked₀ actions whole top₀ a₀ stack forked top a = m - a
+μ-loop table n m stack₀ forked₀ actions stop top₀ a₀ stack forked top a = m - a
 
 bodies-requires : tie.Need-bodies-requires Inv-loop μ-loop
 bodies-requires c κs = search needs
 
+lesser-requires : tie.Need-lesser-requires Inv-loop μ-loop
+lesser-requires c κs = search needs
+
 loop-holds : tie.Need-loop-holds Inv-loop μ-loop
 loop-holds c =
-    let b = c .before in
+    let l = c .before in
+    let b = l .before in
     let d = b .before .before in
     let i = start (d .pre .0) (b .bodies .ensures) (d .pre .1) in
-    (i, omega (arith, i .size))
+    (i, l .lesser .ensures ∙ min-eq-left (omega (arith, i .size)))
 
 action-in-requires : tie.Need-action-in-requires Inv-loop μ-loop
 action-in-requires c κs = search needs
@@ -177,6 +182,7 @@ second-pass-spec =
     Inv-loop
     μ-loop
     bodies-requires
+    lesser-requires
     loop-holds
     action-in-requires
     nest-at-requires

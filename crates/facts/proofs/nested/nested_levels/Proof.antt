@@ -5,6 +5,7 @@ use Prim.Native.Nat.{ℕ, suc, _+_, _-_, _≤_, _<_, max}
 use mathlib.Core.List.{List}
 use native.Mathlib.Numerals.{add-one}
 use native.Mathlib.Omega.{arith}
+use native.Mathlib.Nat.{min-eq-left}
 use borrow.Author.Needs.{needs}
 use lib.ListN.{getD, set, replicate}
 use Rattle.table.specs.Sum.{pick}
@@ -108,18 +109,21 @@ module _ {s actions : List ℕ} {n m : ℕ} {levels : List ℕ} {deepest t a : �
   found h = nests-all T (laws .0) (laws .1) (laws .2) (laws .3) (some-thread (i .nested)) (few-threads (i .nested)) (i .nests) (omega (arith, actions-are (i .nested)))
 
 abbrev Inv-loop : tie.InvT-loop
-Inv-loop table n m actions whole levels₀ deepest₀ t₀ a₀ levels deepest t a = Inv table actions n m levels deepest t a × (whole ≡ m)
+Inv-loop table n m actions stop levels₀ deepest₀ t₀ a₀ levels deepest t a = Inv table actions n m levels deepest t a × (stop ≡ m)
 
 abbrev μ-loop : tie.MeasureT-loop
-μ-loop table n m actions whole levels₀ deepest₀ t₀ a₀ levels deepest t a = m - a
+μ-loop table n m actions stop levels₀ deepest₀ t₀ a₀ levels deepest t a = m - a
 
 bodies-requires : tie.Need-bodies-requires Inv-loop μ-loop
 bodies-requires c κs = search needs
 
+lesser-requires : tie.Need-lesser-requires Inv-loop μ-loop
+lesser-requires c κs = search needs
+
 loop-holds : tie.Need-loop-holds Inv-loop μ-loop
 loop-holds c =
-    let i = start (c .before .before .pre) (c .bodies .ensures) in
-    (i, omega (arith, rw (← (i .part)) at (bodies-length (i .nested .formed .laid .headed))))
+    let i = start (c .before .before .before .pre) (c .before .bodies .ensures) in
+    (i, c .lesser .ensures ∙ min-eq-left (omega (arith, rw (← (i .part)) at (bodies-length (i .nested .formed .laid .headed)))))
 
 action-in-requires : tie.Need-action-in-requires Inv-loop μ-loop
 action-in-requires c κs = search needs
@@ -168,6 +172,7 @@ nested-levels-spec =
     Inv-loop
     μ-loop
     bodies-requires
+    lesser-requires
     loop-holds
     action-in-requires
     mul-level
