@@ -9,6 +9,11 @@ pub mod Counting
 pub mod Batches
 pub mod Draws
 pub mod RowBounds
+pub mod Dummies
+pub mod Covers
+pub mod Potential
+pub mod Lowers
+pub mod Rounds
 pub mod Listed
 pub mod Bound
 pub mod FrontParts

@@ -19,6 +19,7 @@ pub mod ThreadMemory
 pub mod Beginnings
 pub mod Limit
 pub mod ThreadLimit
+pub mod Most
 pub mod RowList
 pub mod CaseLaws
 pub mod Wrong

@@ -9,6 +9,7 @@ pub mod Runs
 pub mod Calls
 pub mod Memory
 pub mod Threads
+pub mod Most
 pub mod Answers
 pub mod Values
 pub mod Shown
@@ -16,6 +17,7 @@ pub mod Listing
 pub mod Cases
 pub mod TurnCases
 pub mod ThreadCases
+pub mod MostCases
 pub mod AmountCases
 pub mod Rule
 pub mod Actives

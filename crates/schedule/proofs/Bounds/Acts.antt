@@ -55,6 +55,9 @@ pub record Acted (T : Table) (w t a q : ℕ) (st : State) (r : Reply) (st' : Sta
   pub keeps : workerOf st' w .holds ≡ true → (isDone T st' a ≡ true) × (workerOf st' w .thread ≡ t) × (numberOf T (nextOf st' t) ≡ suc (numberOf T a))
   -- the quota falls by an alloc's argument
   pub quota : (u d : ℕ) → r ≡ Done u d → workerOf st' w .quota + allocOf T d ≤ q
+  -- a reply that an action was done names a
+  pub does : (u d : ℕ) → r ≡ Done u d → isDone T st' a ≡ true
+  pub answers : (u d : ℕ) → r ≡ Done u d → d ≡ a
 
 module _ (T : Table) (l : Lawful T) (p K w t a : ℕ) (st : State) (f : Facts T p K st) (x : Acting T w t a st) where
   next-fits : t < length (st .next)
@@ -109,6 +112,8 @@ module _ (T : Table) (l : Lawful T) (p K w t a : ℕ) (st : State) (f : Facts T 
         replied = λ i. refl;
         next-others = next-beside st' n s;
         worker-others = λ u d. rw v;
+        answers = λ u d i. cc;
+        does = λ u d i. over st' n s .now;
         keeps = λ i. (over st' n s .now, rw v (x .holder), rw (next-over st' n s) (number-step T l a (x .action) e k));
         quota = λ u d i. let z : allocOf T d ≡ 0 = cc (no-alloc m) in rw v (omega arith);
       }
@@ -126,6 +131,8 @@ module _ (T : Table) (l : Lawful T) (p K w t a : ℕ) (st : State) (f : Facts T 
         replied = λ i. refl;
         next-others = next-beside st' n s;
         worker-others = λ u d. rw v (getD-set-other (st .workers) w u now nobody d);
+        answers = λ u d i. cc;
+        does = λ u d i. over st' n s .now;
         keeps = λ i. (over st' n s .now, rw here, rw (next-over st' n s) (number-step T l a (x .action) e k));
         quota = λ u d i.
             let z : d ≡ a = cc in
@@ -143,6 +150,8 @@ module _ (T : Table) (l : Lawful T) (p K w t a : ℕ) (st : State) (f : Facts T 
         next-others = next-beside st' n s;
         worker-others = released-others st' v;
         keeps = λ i. released-free st' v i;
+        answers = λ u d i. cc;
+        does = λ u d i. over st' n s .now;
         quota = λ u d i. let z : allocOf T d ≡ 0 = cc (no-alloc m) in rw (released-nobody st' v) (omega arith);
       }
 
@@ -156,6 +165,8 @@ module _ (T : Table) (l : Lawful T) (p K w t a : ℕ) (st : State) (f : Facts T 
         next-others = λ u d. next-same st' n u;
         worker-others = released-others st' v;
         keeps = λ i. released-free st' v i;
+        answers = λ u d i. absurd (g u d i);
+        does = λ u d i. absurd (g u d i);
         quota = λ u d i. absurd (g u d i);
       }
     where
@@ -171,6 +182,8 @@ module _ (T : Table) (l : Lawful T) (p K w t a : ℕ) (st : State) (f : Facts T 
         replied = λ i. refl;
         next-others = λ u d. v .next-same u;
         worker-others = v .lets-go .others;
+        answers = λ u d i. cc;
+        does = λ u d i. ended-does T l p K w t a st f x e st' v .now;
         keeps = λ i. no-way (cc (v .lets-go .gone));
         quota = λ u d i. let z : allocOf T d ≡ 0 = cc (no-alloc (rw e)) in rw (v .lets-go .gone) (omega arith);
       }

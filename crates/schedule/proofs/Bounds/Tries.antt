@@ -44,15 +44,15 @@ pub data Turned (T : Table) (K w : ℕ) (st : State) (s : Stepped) : Type 0 wher
 
 -- taking a thread that is ready does nothing, and changes no other worker
 module _ (T : Table) (K w t : ℕ) (st : State) (free : statusOf st t ≡ ready) where
-  taken-next : nextOf (taken K w t st) t ≡ nextOf st t
+  pub taken-next : nextOf (taken K w t st) t ≡ nextOf st t
   unfolding taken
   taken-next = refl
 
-  taken-worker : w < length (st .workers) → workerOf (taken K w t st) w ≡ record { holds = true; thread = t; quota = K }
+  pub taken-worker : w < length (st .workers) → workerOf (taken K w t st) w ≡ record { holds = true; thread = t; quota = K }
   unfolding taken
   taken-worker h = getD-set-same (st .workers) w (record { holds = true; thread = t; quota = K }) nobody h
 
-  taken-done : (d : ℕ) → isDone T (taken K w t st) d ≡ isDone T st d
+  pub taken-done : (d : ℕ) → isDone T (taken K w t st) d ≡ isDone T st d
   unfolding taken
   taken-done d = done-alike T st d (taken K w t st) refl (set-ended (st .status) t held refl (rw free) (owner T d))
 
@@ -66,6 +66,8 @@ module _ (T : Table) (K w t : ℕ) (st : State) (free : statusOf st t ≡ ready)
         worker-others = λ u n. x .worker-others u n ∙ getD-set-other (st .workers) w u (record { holds = true; thread = t; quota = K }) nobody n;
         keeps = x .keeps;
         quota = x .quota;
+        answers = x .answers;
+        does = x .does;
       }
 
 module _ (T : Table) (l : Lawful T) (p K : ℕ) (few : p ≤ 16) (w : ℕ) (below : w < p) where
@@ -135,6 +137,8 @@ counted-turned T K w st s (tries t a x) =
             worker-others = x .acted .worker-others;
             keeps = x .acted .keeps;
             quota = x .acted .quota;
+            answers = x .acted .answers;
+            does = x .acted .does;
           };
     })
 

@@ -116,7 +116,7 @@ module _ (T : Table) (l : Lawful T) where
 
 module _ (T : Table) (l : Lawful T) (p K : ℕ) (st : State) (f : Facts T p K st) where
   -- what a done join names has ended
-  joined-ended : (j : ℕ) → j < T .actions → kind T j ≡ join → Done T st j → statusOf st (T .argument j) ≡ ended
+  pub joined-ended : (j : ℕ) → j < T .actions → kind T j ≡ join → Done T st j → statusOf st (T .argument j) ≡ ended
   joined-ended j h k d =
       done-ended T l p K st f (T .argument j) (join-below T (l .contents) (l .bodies) j h k) (f .ordered j (endOf T (T .argument j)) h d (join-depends T j k))
 
@@ -148,7 +148,7 @@ module _ (T : Table) (l : Lawful T) (p K : ℕ) (st : State) (f : Facts T p K st
       (z, s, q, r, rw r at (fork-found T (l .contents) (l .bodies) (l .nesting) z s q), u, v)
 
   -- all that lies around the fork of an ended thread belongs to ended threads
-  around-ended : (y : ℕ) → y < T .actions → kind T y ≡ fork → statusOf st (T .argument y) ≡ ended
+  pub around-ended : (y : ℕ) → y < T .actions → kind T y ≡ fork → statusOf st (T .argument y) ≡ ended
       → (fuel d : ℕ) → numberOf T d ≤ fuel → d < T .actions → numberOf T y < numberOf T d → numberOf T d < numberOf T (suc y) → statusOf st (owner T d) ≡ ended
   around-ended y h k e zero d b i low high = absurd (omega arith)
   around-ended y h k e (suc fuel) d b i low high = go (around-ended y h k e fuel) (number-between T l y d h k i low high)

@@ -2,12 +2,12 @@
 use mathlib.Core.Path.{_≡_, refl, sym, _∙_}
 use Prim.Native.Nat.{ℕ, zero, suc, _≤_, _<_}
 use mathlib.Core.List.{List·Memᴰ, List·Memᴰ·head}
-use mathlib.Core.Bool.{Bool, true, false}
+use mathlib.Core.Bool.{Bool, true, false, _&&_}
 use mathlib.Core.Logic.{_⊎_, inl, inr}
 use native.Mathlib.Decide.{ℕ-discrete}
 use native.Mathlib.Omega.{arith}
 use lib.ListN.{length, set, length-set}
-use lib.Dec.{leb}
+use lib.Dec.{leb, eqb}
 use lib.Seq.{getD-set-same, getD-set-other}
 use borrow.Author.Tests.{eqb-true, eq-eqb, ne-eqb}
 use Rattle.table.specs.Sum.{pick}
@@ -38,6 +38,8 @@ pub record Ended (T : Table) (w t : ℕ) (st st' : State) : Type 0 where
   pub status-other : (u : ℕ) → (u ≡ t → ⊥) → (statusOf st' u ≡ statusOf st u) ⊎ ((statusOf st u ≡ waiting) × (statusOf st' u ≡ ready))
   pub parent : (u : ℕ) → parentOf T t ≡ u → (u ≡ t → ⊥) → statusOf st u ≡ waiting → kind T (nextOf st u) ≡ join → T .argument (nextOf st u) ≡ t → statusOf st' u ≡ ready
   pub list-is : st' .list ≡ without t (st .list)
+  -- a thread that waited goes on waiting, or waited for this one
+  pub wakes : (u : ℕ) → (u ≡ t → ⊥) → statusOf st u ≡ waiting → (statusOf st' u ≡ waiting) ⊎ (T .argument (nextOf st u) ≡ t)
 
 -- every action has an owner below the count of threads
 pub ownerBelow-less : (T : Table) (k a : ℕ) → 0 < k → ownerBelow T k a < k
@@ -53,6 +55,13 @@ ownerBelow-less T (suc (suc k)) a h = go (leb (T .first (suc k)) a) (ownerBelow-
     go : (q : Bool) → ownerBelow T (suc k) a < suc k → pick q (suc k) (ownerBelow T (suc k) a) < suc (suc k)
     go true i = omega arith
     go false i = omega arith
+
+waits-for : (T : Table) (st : State) (u t : ℕ) → waitsFor T st u t ≡ true → T .argument (nextOf st u) ≡ t
+unfolding waitsFor
+waits-for T st u t e =
+    eqb-true (T .argument (nextOf st u)) t
+    (and-both (is join (kind T (nextOf st u))) (eqb (T .argument (nextOf st u)) t)
+    (and-both (eqb (statusOf st u) waiting) (is join (kind T (nextOf st u)) && eqb (T .argument (nextOf st u)) t) e .1) .1)
 
 waits-true : (T : Table) (st : State) (u t : ℕ) → waitsFor T st u t ≡ true → statusOf st u ≡ waiting
 unfolding waitsFor
@@ -91,10 +100,15 @@ module _ (T : Table) (w t a c : ℕ) (st : State) where
             status-other = λ u o. at u o (ℕ-discrete u v);
             parent = λ u e o r y z. rw (← e) now;
             list-is = refl;
+            wakes = λ u o r. waked u o r (ℕ-discrete u v);
           }
         where
           was : (v ≡ t → ⊥) × (statusOf st v ≡ waiting)
           was = before v (waits-true T mid v t q)
+
+          waked : (u : ℕ) → (u ≡ t → ⊥) → statusOf st u ≡ waiting → Dec (u ≡ v) → (statusOf (withStatus v ready mid) u ≡ waiting) ⊎ (T .argument (nextOf st u) ≡ t)
+          waked u o r (yes e) = inr (rw e (waits-for T mid v t q))
+          waked u o r (no e) = inl (getD-set-other (set (st .status) t ended) v u ready 0 e ∙ getD-set-other (st .status) t u ended 0 o ∙ r)
 
           now : statusOf (withStatus v ready mid) v ≡ ready
           now = getD-set-same (set (st .status) t ended) v ready 0 (simp length-set (omega arith))
@@ -111,6 +125,7 @@ module _ (T : Table) (w t a c : ℕ) (st : State) where
             status-other = λ u o. inl (getD-set-other (st .status) t u ended 0 o);
             parent = λ u e o r y z. no-way (cc (true-waits T mid u t (getD-set-other (st .status) t u ended 0 o ∙ r) y z));
             list-is = refl;
+            wakes = λ u o r. inl (getD-set-other (st .status) t u ended 0 o ∙ r);
           }
 
 pub acting-ended : (T : Table) → Lawful T → (p K w t a : ℕ) (st : State) → Facts T p K st → Acting T w t a st → Ended T w t st (actBy end T w t a (T .argument a) st .state)
