@@ -26,7 +26,7 @@ use Rattle.schedule.specs.Answers.{Values, turningValues}
 use Rattle.schedule.specs.Cases.{never, beginThen, ranBy, soundChecks, turnedSound, Case, cases, ownCases, Worked, worked}
 use Rattle.schedule.specs.TurnCases.{TurnCase, saidAfter, beginSaying, saidBy, turnCases, ownTurns, Says, said-worked}
 use Rattle.schedule.specs.Rule.{RowCase, measuredBy, rowCases, ownRows, Measured, rows-worked}
-use Rattle.schedule.proofs.Sequences.Words.{and-exactly, ltb-exactly}
+use Rattle.order.proofs.Words.{and-exactly, ltb-exactly}
 use Rattle.schedule.proofs.Preservation.Turns.{either}
 use Rattle.schedule.proofs.Sound.Tests.{sound-exactly}
 use Rattle.schedule.proofs.Runs.Histories.{begin-sound, turn-steady, start-state}

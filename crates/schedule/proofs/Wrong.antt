@@ -24,7 +24,7 @@ use Rattle.schedule.specs.declared.Turning.the-variants.{Taken}
 use Rattle.schedule.specs.Machine.{leftOf, without, waitsFor, woken, actBy, act, leftmost, taken, turnFree, turnOf, passedBy}
 use Rattle.schedule.specs.Record.{setOf, tableIn, stateOf}
 use Rattle.schedule.specs.Begin.{allocAbove, startState, startRun, begin}
-use Rattle.schedule.specs.Firsts.{firsts}
+use Rattle.order.specs.Firsts.{firsts}
 use Rattle.schedule.specs.Links.{walk, rightIn}
 use Rattle.schedule.specs.Turn.{unsound, rootEnded, noWorker, stepRun, turned, passedIn}
 use Rattle.schedule.specs.Runs.{ran, moved, drive, listRun, roundsRun}
@@ -33,7 +33,7 @@ use Rattle.schedule.specs.Sound.{Steady, Sound}
 use Rattle.schedule.specs.Calls.{turnsIn}
 use Rattle.schedule.specs.Answers.{turningValues}
 use Rattle.schedule.specs.Cases.{turnedSound}
-use Rattle.schedule.proofs.Sequences.Words.{not-both}
+use Rattle.order.proofs.Words.{not-both}
 use Rattle.schedule.proofs.Runs.Histories.{begin-sound, turn-steady}
 use Rattle.schedule.proofs.CaseLaws.{turned-sound, turn-turns}
 

@@ -9,17 +9,16 @@ use Rattle.table.specs.Format.{Table}
 use Rattle.table.specs.Level.{level}
 use Rattle.table.proofs.Tests.{no-way}
 use Rattle.table.proofs.Levels.{level-root}
 use Rattle.schedule.specs.Machine.{State, ready, held, nextOf, statusOf, turnOf}
 use Rattle.schedule.specs.Begin.{startState}
 use Rattle.schedule.specs.Memory.{rowState, Keeps}
-use Rattle.schedule.proofs.Tables.Lawful.{Lawful}
+use Rattle.order.proofs.Lawful.{Lawful}
 use Rattle.schedule.proofs.Sound.Facts.{Facts}
 use Rattle.schedule.proofs.Preservation.Turns.{turn-facts}
 use Rattle.schedule.proofs.Preservation.Starts.{start-next, start-unborn, start-worker, start-facts}
-use Rattle.schedule.proofs.Bounds.Ages.{age, age-small, keeps-alone}
-use Rattle.schedule.proofs.Bounds.Counting.{begun, CountAlong, along-turn}
-unfoldable pub use Rattle.schedule.proofs.Bounds.Beyond.{startAction, begins, beginsBeyond, batches}
-pub use Rattle.schedule.proofs.Bounds.Beyond.{Enabled}
+use Rattle.bounds.proofs.Ages.{age, age-small, keeps-alone}
+use Rattle.bounds.proofs.Counting.{begun, CountAlong, along-turn}
+use Rattle.schedule.proofs.Bounds.Beyond.{batches, Enabled}
 
 module _ (T : Table) (l : Lawful T) (p K : ℕ) (some : 1 ≤ p) (few : p ≤ 16) where
   along-start : (B : ℕ) → CountAlong T B (λ v. 0) [] (startState T)

@@ -9,16 +9,16 @@ use mathlib.Core.List.{List, _++_}
 use lib.ListN.{length}
 use Rattle.table.specs.Format.{Table, tableOf}
 use Rattle.table.specs.Nested.{N}
 use Rattle.schedule.specs.declared.Run.{Run}
 use Rattle.schedule.specs.declared.Beginning.the-variants.{Begun as started}
 use Rattle.schedule.specs.Machine.{State}
 use Rattle.schedule.specs.Record.{listIn}
 use Rattle.schedule.specs.Begin.{begin}
 use Rattle.schedule.specs.Calls.{Call, afterCalls, rowOfCalls}
 use Rattle.schedule.specs.Memory.{Keeps}
 use Rattle.schedule.specs.Threads.{listedAfter, threadLimit}
 use Rattle.schedule.proofs.Runs.Histories.{Started, Traced, calls-traced}
-use Rattle.schedule.proofs.Bounds.Listed.{row-listed, row-listed-alone}
+use Rattle.bounds.proofs.Listed.{row-listed, row-listed-alone}
 
 -- of a record r and the row of turns that led to it
 pub record ThreadLimit (T : Table) (p K b : ℕ) (r : Run) (row : List ℕ) : Type 0 where

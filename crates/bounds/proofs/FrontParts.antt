@@ -5,10 +5,10 @@ use mathlib.Core.List.{List, _++_, append-assoc, List·Memᴰ}
 use Rattle.table.specs.Format.{Table}
 use Rattle.table.specs.Serial.{S1}
 use Rattle.table.proofs.Levels.{greatest-bound}
 use Rattle.schedule.specs.Memory.{memoryOf, frontRows, peakMemory, Keeps, limit}
-use Rattle.schedule.proofs.Tables.Lawful.{Lawful}
+use Rattle.order.proofs.Lawful.{Lawful}
 use Rattle.schedule.proofs.Runs.Rows.{front-rest, front-workers, row-held}
-use Rattle.schedule.proofs.Bounds.Bound.{row-bound, row-alone}
+use Rattle.bounds.proofs.Bound.{row-bound, row-alone}
 
 -- a front part of a row that keeps the rule keeps it
 keeps-front : (b : ℕ) (row front rest : List ℕ) → row ≡ front ++ rest → Keeps b row → Keeps b front

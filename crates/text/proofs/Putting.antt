@@ -4,11 +4,10 @@ use native.Mathlib.Omega.{arith}
 use mathlib.Core.Path.{_≡_, refl, sym, ap, _∙_}
 use mathlib.Core.List.{List, [], _∷_, _++_, append-nil, append-assoc, foldl, foldl-append, flatten}
 use lib.ListN.{length, drop, length-append}
 use Rattle.text.specs.Text.{decimal, Buffer, bufferAt, placed, placedNext}
 use Rattle.text.proofs.Decimal.{decimal-length}
 use Rattle.text.proofs.Placing.{placed-fits, line-put}
-use Rattle.lines.specs.Lines.{putAll}
-use Rattle.lines.specs.Puts.{Puts}
+use Rattle.text.specs.Puts.{putAll, Puts}
 
 pub flatten-append : (ts us : List (List ℕ)) → flatten (ts ++ us) ≡ flatten ts ++ flatten us
 unfolding flatten

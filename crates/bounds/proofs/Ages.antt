@@ -13,8 +13,8 @@ use lib.Dec.{eqb}
 use borrow.Author.Tests.{eq-eqb, ne-eqb}
 use Rattle.table.specs.Sum.{pick, sumTo}
 use Rattle.table.proofs.Sums.{sumTo-one}
-use Rattle.schedule.proofs.Sequences.Totals.{sumTo-bound}
+use Rattle.order.proofs.Totals.{sumTo-bound}
 use Rattle.schedule.specs.Memory.{countIn, Keeps}
 
 -- the number of turns since the latest turn of w, of a row with the latest turn first; where w has had none, of all of them
 unfoldable pub age : List ℕ → ℕ → ℕ

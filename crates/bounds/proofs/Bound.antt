@@ -15,21 +15,22 @@ use Rattle.table.specs.Checks.{allocOf, freeOf}
 use Rattle.table.specs.Serial.{serialOrder, heldAfter, fronts, peakOf, S1}
 use Rattle.table.specs.Level.{D}
 use Rattle.table.proofs.Sums.{sumTo-cong}
 use Rattle.schedule.specs.Machine.{State, ended, nextOf, statusOf}
 use Rattle.schedule.specs.Begin.{startState}
-use Rattle.schedule.specs.Sound.{numberOf, isDone, ofDone, sumDone}
+use Rattle.schedule.specs.Sound.{isDone, ofDone, sumDone}
+use Rattle.order.specs.Order.{numberOf}
 use Rattle.schedule.specs.Memory.{rowState, Keeps, limit}
-use Rattle.schedule.proofs.Tables.Lawful.{Lawful}
+use Rattle.order.proofs.Lawful.{Lawful}
 use Rattle.schedule.proofs.Sound.Facts.{Done, Facts}
-use Rattle.schedule.proofs.Tables.Numbers.{number-below, number-once}
+use Rattle.order.proofs.Numbers.{number-below, number-once}
 use Rattle.schedule.proofs.Sound.Done.{next-below}
-use Rattle.schedule.proofs.Tables.Depth.{greatest-member}
-use Rattle.schedule.proofs.Tables.SerialSums.{lower, front-sum}
-use Rattle.schedule.proofs.Sequences.Totals.{sumTo-add}
+use Rattle.order.proofs.Depth.{greatest-member}
+use Rattle.order.proofs.SerialSums.{lower, front-sum}
+use Rattle.order.proofs.Totals.{sumTo-add}
 use Rattle.schedule.proofs.Sound.Leftmost.{all-done, front-done, leftmost-undone}
-use Rattle.schedule.proofs.Bounds.Draws.{spentBeyond, draws-few}
-use Rattle.schedule.proofs.Sequences.Lists.{Below}
-use Rattle.schedule.proofs.Bounds.RowBounds.{Covered, row-within, row-serial}
+use Rattle.bounds.proofs.Draws.{spentBeyond, draws-few}
+use Rattle.order.proofs.Lists.{Below}
+use Rattle.bounds.proofs.RowBounds.{Covered, row-within, row-serial}
 
 -- the first k actions of serial order are a front part of it
 take-front : (k : ℕ) (l : List ℕ) → List·Memᴰ (take k l) (fronts l)

@@ -17,17 +17,17 @@ use Rattle.table.specs.Level.{dependsOn}
 use Rattle.table.proofs.Tests.{no-way, is-true, same-is, fork-no-end}
 use Rattle.table.proofs.Bodies.{kind-known, fork-below, end-last}
 use Rattle.table.proofs.Levels.{depends-step, depends-join, depends-child}
 use Rattle.schedule.specs.declared.Worker.{Worker}
 use Rattle.schedule.specs.Machine.{State, ready, held, waiting, ended, nextOf, statusOf, nobody, workerOf, Stepped, actBy, act}
-use Rattle.schedule.proofs.Tables.Lawful.{Lawful}
+use Rattle.order.proofs.Lawful.{Lawful}
 use Rattle.schedule.proofs.Sound.Facts.{Facts}
 use Rattle.schedule.proofs.Sound.Done.{undone-unborn, unborn-first}
 use Rattle.schedule.proofs.Preservation.Releases.{Acting, LetsGo}
 use Rattle.schedule.proofs.Preservation.Ends.{Ended, acting-ended}
 use Rattle.schedule.proofs.Preservation.Forks.{Forked, acting-forked}
 use Rattle.schedule.proofs.Preservation.Turns.{either}
-use Rattle.schedule.proofs.Tables.Joins.{join-depends}
+use Rattle.order.proofs.Joins.{join-depends}
 use Rattle.schedule.proofs.Bounds.Beyond.{Enabled}
 
 -- thread u is enabled after action a of thread t was tried, which led from st to st′
 pub data After (T : Table) (t a : ℕ) (st st′ : State) (u : ℕ) : Type 0 where

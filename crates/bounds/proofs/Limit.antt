@@ -9,15 +9,15 @@ use mathlib.Core.List.{List, [], _++_, append-nil, List·Memᴰ}
 use Rattle.table.specs.Format.{Table, tableOf}
 use Rattle.table.specs.Checks.{allocOf, freeOf}
 use Rattle.table.specs.Serial.{S1}
 use Rattle.schedule.specs.declared.Run.{Run}
 use Rattle.schedule.specs.declared.Beginning.the-variants.{Begun as started}
 use Rattle.schedule.specs.Machine.{State}
 use Rattle.schedule.specs.Begin.{begin}
 use Rattle.schedule.specs.Calls.{Call, afterCalls, rowOfCalls}
 use Rattle.schedule.specs.Memory.{doneIn, memoryOf, peakMemory, Keeps, limit}
 use Rattle.schedule.proofs.Runs.Rows.{row-balanced, row-held, row-highest}
 use Rattle.schedule.proofs.Runs.Histories.{Started, Traced, calls-traced}
-use Rattle.schedule.proofs.Bounds.FrontParts.{peak-within, front-bound, front-alone}
+use Rattle.bounds.proofs.FrontParts.{peak-within, front-bound, front-alone}
 
 -- of a record r and the row of turns that led to it
 pub record MemoryLimit (T : Table) (p K b : ℕ) (r : Run) (row : List ℕ) : Type 0 where

@@ -14,7 +14,7 @@ use Rattle.table.specs.declared.Found.{Found}
 use Rattle.table.specs.declared.Found.the-variants.{Nothing, At}
 use Rattle.table.proofs.Tests.{no-way}
 use Rattle.table.proofs.Sums.{sumTo-zero}
-use Rattle.schedule.specs.Sound.{allBelow, allIn, member, countBelow, agree, placeIn, risesFrom, rises, sameList, isNothing}
+use Rattle.order.specs.Words.{allBelow, allIn, member, countBelow, agree, placeIn, risesFrom, rises, sameList, isNothing}
 
 -- ---- tests and truth values
 

@@ -13,7 +13,7 @@ use Rattle.table.specs.Rules.{ContentRules, BodyRules, NestRules, ForkRules}
 use Rattle.table.proofs.Tests.{no-way, is-true, same-is, fork-no-end}
 use Rattle.table.proofs.Sums.{sumTo-zero, sumTo-one}
 use Rattle.table.proofs.Nesting.{open-end, open-fork, open-join, open-same, fork-once, fork-exists}
-use Rattle.schedule.proofs.Sequences.Totals.{one, sumTo-term}
+use Rattle.order.proofs.Totals.{one, sumTo-term}
 use mathlib.Core.List.{List·Memᴰ, List·Memᴰ·head, List·Memᴰ·tail, List·Memᴰ·not-nil, List·Memᴰ·cases-cons, Memᴰ·append-right}
 use mathlib.Core.Logic.{_⊎_, inl, inr}
 use Rattle.table.specs.Level.{beforeIt, joinedEnd, dependsOn}

@@ -19,10 +19,10 @@ use Rattle.table.proofs.Serial.{child-within, serial-end, serial-fork, serial-s
 use Rattle.table.proofs.Rank.{after-child}
 use Rattle.table.proofs.Rank.{rank, rank-root, rank-child, rank-fork, rank-step, rank-end, rank-rises, rank-bound}
 use Rattle.table.proofs.Levels.{by-place, depends-earlier}
-use Rattle.schedule.specs.Sound.{numberOf}
-use Rattle.schedule.proofs.Tables.Lawful.{Lawful}
-use Rattle.schedule.proofs.Sequences.Lists.{getD-member}
-use Rattle.schedule.proofs.Tables.Places.{place-of, Climbs, climbs-append, climbs-place, climbs-within, climbs-at}
+use Rattle.order.specs.Order.{numberOf}
+use Rattle.order.proofs.Lawful.{Lawful}
+use Rattle.order.proofs.Lists.{getD-member}
+use Rattle.order.proofs.Places.{place-of, Climbs, climbs-append, climbs-place, climbs-within, climbs-at}
 
 -- all elements of one list are in another
 abbrev Inside : List ℕ → List ℕ → Type 0

@@ -16,21 +16,21 @@ use Rattle.table.specs.Sum.{pick}
 use Rattle.table.specs.Format.{Table}
 use Rattle.table.specs.Level.{dependsOn, level}
 use Rattle.table.proofs.Tests.{no-way}
 use Rattle.schedule.specs.declared.Worker.{Worker}
 use Rattle.schedule.specs.Machine.{State, ready, held, ended, nextOf, statusOf, nobody, workerOf, counted, act, leftmost, taken, turnFree, turnOf}
-use Rattle.schedule.specs.Sound.{numberOf}
-use Rattle.schedule.proofs.Tables.Lawful.{Lawful}
-use Rattle.schedule.proofs.Tables.Numbers.{number-depends}
+use Rattle.order.specs.Order.{numberOf}
+use Rattle.order.proofs.Lawful.{Lawful}
+use Rattle.order.proofs.Numbers.{number-depends}
 use Rattle.schedule.proofs.Sound.Facts.{Facts}
 use Rattle.schedule.proofs.Preservation.Moves.{taken-facts}
-use Rattle.schedule.proofs.Sequences.Words.{Ascends}
+use Rattle.order.proofs.Words.{Ascends}
 use Rattle.schedule.proofs.Sound.Done.{next-below}
 use Rattle.schedule.proofs.Preservation.Releases.{Acting, acting}
 use Rattle.schedule.proofs.Preservation.Turns.{leftmost-ready, taken-holds, act-facts}
-use Rattle.schedule.proofs.Tables.Depth.{level-depends}
-use Rattle.schedule.proofs.Bounds.Ages.{age, age-other}
+use Rattle.order.proofs.Depth.{level-depends}
+use Rattle.bounds.proofs.Ages.{age, age-other}
 use Rattle.schedule.proofs.Bounds.Beyond.{startAction, begins, beginsBeyond, Enabled}
-use Rattle.schedule.proofs.Bounds.Enables.{After, same, fresh, kept, Leaves, act-after, act-leaves}
+use Rattle.bounds.proofs.Enables.{After, same, fresh, kept, Leaves, act-after, act-leaves}
 
 -- J v batches began beyond action v, and age w turns ago was worker w's latest turn
 pub record Count (T : Table) (B : ℕ) (J age : ℕ → ℕ) (st : State) : Type 0 where

@@ -15,19 +15,20 @@ use Rattle.table.specs.Format.{Table}
 use Rattle.table.specs.Checks.{allocOf}
 use Rattle.table.proofs.Tests.{no-way}
 use Rattle.table.proofs.Sums.{sumTo-cong, sumTo-one, sumTo-zero}
 use Rattle.schedule.specs.declared.Reply.the-variants.{Done}
 use Rattle.schedule.specs.Machine.{State, nextOf, workerOf, turnOf}
 use Rattle.schedule.specs.Begin.{startState}
-use Rattle.schedule.specs.Sound.{numberOf, isDone}
+use Rattle.schedule.specs.Sound.{isDone}
+use Rattle.order.specs.Order.{numberOf}
 use Rattle.schedule.specs.Memory.{rowState}
-use Rattle.schedule.proofs.Tables.Lawful.{Lawful}
+use Rattle.order.proofs.Lawful.{Lawful}
 use Rattle.schedule.proofs.Sound.Facts.{Facts}
-use Rattle.schedule.proofs.Tables.Numbers.{number-once}
+use Rattle.order.proofs.Numbers.{number-once}
 use Rattle.schedule.proofs.Preservation.Turns.{turn-facts}
 use Rattle.schedule.proofs.Preservation.Starts.{start-facts, start-undone, start-worker}
-use Rattle.schedule.proofs.Bounds.Batches.{startAction, begins, beginsBeyond, batches}
+use Rattle.schedule.proofs.Bounds.Beyond.{startAction, begins, beginsBeyond, batches}
 use Rattle.schedule.proofs.Sound.Done.{done-alike}
 use Rattle.schedule.proofs.Bounds.Tries.{Tries, Turned, idles, tries, turned, undone-before}
 
 -- what the actions done beyond action v cost
 unfoldable pub spentBeyond : Table → (ℕ → ℕ) → State → ℕ → ℕ

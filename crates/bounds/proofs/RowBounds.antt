@@ -9,20 +9,21 @@ use mathlib.Core.List.{List, [], _∷_, List·Memᴰ·head, List·Memᴰ·not-ni
 use mathlib.Core.Bool.{false}
 use Rattle.table.specs.Format.{Table}
 use Rattle.table.specs.Level.{level, D}
 use Rattle.schedule.specs.Machine.{State, ended, nextOf, statusOf}
 use Rattle.schedule.specs.Begin.{startState}
 use Rattle.schedule.specs.Sound.{isDone}
 use Rattle.schedule.specs.Memory.{rowState, Keeps}
-use Rattle.schedule.proofs.Tables.Lawful.{Lawful}
+use Rattle.order.proofs.Lawful.{Lawful}
 use Rattle.schedule.proofs.Sound.Facts.{Facts}
 use Rattle.schedule.proofs.Sound.Done.{next-below}
 use Rattle.schedule.proofs.Preservation.Starts.{start-facts}
 use Rattle.schedule.proofs.Runs.Rows.{row-facts}
-use Rattle.schedule.proofs.Bounds.Batches.{batches, Enabled, batches-few, batches-none}
-use Rattle.schedule.proofs.Tables.Depth.{level-depth}
+use Rattle.schedule.proofs.Bounds.Beyond.{batches, Enabled}
+use Rattle.bounds.proofs.Batches.{batches-few, batches-none}
+use Rattle.order.proofs.Depth.{level-depth}
 use Rattle.schedule.proofs.Sound.Leftmost.{leftmost-enabled, leftmost-undone}
-use Rattle.schedule.proofs.Bounds.Draws.{spentBeyond}
-use Rattle.schedule.proofs.Sequences.Lists.{Below}
+use Rattle.bounds.proofs.Draws.{spentBeyond}
+use Rattle.order.proofs.Lists.{Below}
 
 -- what n batches of a budget draw, with n + B ≤ B·v and v ≤ d
 draws-bound : (budget n B v d : ℕ) → n + B ≤ B * v → v ≤ d → budget * n ≤ budget * (B * (d - 1))

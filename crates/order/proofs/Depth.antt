@@ -14,7 +14,7 @@ use Rattle.table.proofs.Tests.{is-true}
 use Rattle.table.proofs.Bodies.{after-end, owner-below, owner-end, owner-of-end, end-within, next-owner}
 use Rattle.table.proofs.Rank.{no-end}
 use Rattle.table.proofs.Levels.{level-is, level-step, level-join}
-use Rattle.schedule.proofs.Tables.Joins.{join-depends, by-joins}
+use Rattle.order.proofs.Joins.{join-depends, by-joins}
 
 -- an element's value is at most the greatest
 pub greatest-member {ℓ} : {A : Type ℓ} (f : A → ℕ) (x : A) (l : List A) → List·Memᴰ x l → f x ≤ greatest f l

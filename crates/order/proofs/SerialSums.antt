@@ -11,10 +11,10 @@ use Rattle.table.specs.Format.{Table}
 use Rattle.table.specs.Serial.{serialOrder}
 use Rattle.table.proofs.Sums.{sumTo-zero, sumTo-one, sumOver-append}
 use Rattle.table.proofs.Serial.{serial-length}
-use Rattle.schedule.specs.Sound.{numberOf}
-use Rattle.schedule.proofs.Tables.Lawful.{Lawful}
-use Rattle.schedule.proofs.Sequences.Words.{ltb-next}
-use Rattle.schedule.proofs.Tables.Numbers.{number-place, place-number}
+use Rattle.order.specs.Order.{numberOf}
+use Rattle.order.proofs.Lawful.{Lawful}
+use Rattle.order.proofs.Words.{ltb-next}
+use Rattle.order.proofs.Numbers.{number-place, place-number}
 
 -- what an action comes to where its number is below k
 abbrev pub lower : Table → (ℕ → ℕ) → ℕ → ℕ → ℕ

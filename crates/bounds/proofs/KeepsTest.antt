@@ -10,11 +10,11 @@ use lib.Dec.{leb, eqb}
 use borrow.Author.Tests.{eqb-true}
 use Rattle.table.specs.Sum.{pick}
 use Rattle.table.proofs.Tests.{no-way}
-use Rattle.schedule.specs.Sound.{allIn}
+use Rattle.order.specs.Words.{allIn}
 use Rattle.schedule.specs.Memory.{countIn, Keeps}
 use Rattle.schedule.specs.Cases.{orderE}
 use Rattle.schedule.specs.Rule.{untilNext, atMost, keeps, orderGap}
-use Rattle.schedule.proofs.Sequences.Words.{and-exactly, leb-exactly, allIn-exactly}
+use Rattle.order.proofs.Words.{and-exactly, leb-exactly, allIn-exactly}
 
 -- ---- counting
 

@@ -6,8 +6,8 @@ use native.Mathlib.Omega.{arith}
 use mathlib.Core.List.{List, [], _∷_, _++_, List·Memᴰ, List·Memᴰ·head, List·Memᴰ·tail}
 use lib.ListN.{length, getD, set, take, replicate, length-append, length-replicate}
 use lib.Seq.{getD-set-same, getD-set-other, length-take-le, take-append-seam, getD-take, ext-getD}
-use Rattle.schedule.specs.Record.{filled}
-use Rattle.schedule.specs.Firsts.{firsts}
+use Rattle.order.specs.Words.{filled}
+use Rattle.order.specs.Firsts.{firsts}
 
 -- the numbers in a list are below n: threads of a table, workers of a row
 abbrev pub Below : ℕ → List ℕ → Type 0

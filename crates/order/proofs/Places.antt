@@ -9,7 +9,7 @@ use lib.ListN.{length, getD}
 use lib.Dec.{eqb}
 use borrow.Author.Tests.{eqb-true, eqb-false}
 use Rattle.table.specs.Sum.{pick}
-use Rattle.schedule.specs.Sound.{placeIn}
+use Rattle.order.specs.Words.{placeIn}
 
 -- ---- places
 

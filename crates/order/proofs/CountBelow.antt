@@ -1,22 +1,18 @@
--- Counting by a test: the numbers below n that pass, those that are in a list in which nothing stands twice, and the workers of a set.
-use mathlib.Core.Path.{_≡_, refl, sym, _∙_}
-use Prim.Native.Nat.{ℕ, suc, _+_, _*_, _^_, _≤_, _<_}
+-- Counting by a test: the numbers below n that pass, and those that are in a list in which nothing stands twice.
+use mathlib.Core.Path.{_≡_, refl}
+use Prim.Native.Nat.{ℕ, suc, _+_, _≤_, _<_}
 use native.Mathlib.Omega.{arith}
 use native.Mathlib.Decide.{decLt}
 use mathlib.Core.List.{List, [], _∷_, List·Memᴰ, List·Memᴰ·head, List·Memᴰ·tail}
 use mathlib.Core.Bool.{Bool, true, false, _||_}
-use lib.Count.{ones, ones-cat}
 use lib.Dec.{eqb}
-use lib.ListN.{length, getD}
+use lib.ListN.{length}
 use borrow.Author.Tests.{eq-eqb, ne-eqb}
 use Rattle.table.specs.Sum.{pick, sumTo}
 use Rattle.table.proofs.Sums.{sumTo-le, sumTo-zero, sumTo-one}
-use Rattle.schedule.proofs.Sequences.Totals.{one, sumTo-bound, sumTo-first, sumTo-add}
-use Rattle.schedule.specs.declared.Worker.{Worker}
-use Rattle.schedule.specs.Machine.{nobody}
-use Rattle.schedule.specs.Record.{setOf}
-use Rattle.schedule.specs.Sound.{member, countBelow}
-use Rattle.schedule.proofs.Sequences.Words.{never-true, member-exactly, Ascends}
+use Rattle.order.proofs.Totals.{one, sumTo-bound, sumTo-add}
+use Rattle.order.specs.Words.{member, countBelow}
+use Rattle.order.proofs.Words.{never-true, member-exactly, Ascends}
 
 pub count-bound : (f : ℕ → Bool) (k : ℕ) → countBelow f k ≤ k
 count-bound f k = omega (arith, sumTo-bound (λ i. pick (f i) 1 0) 1 k (λ i l. go (f i)))
@@ -69,21 +65,3 @@ member-few n (x ∷ l) =
     either : (a b : Bool) → pick (a || b) 1 0 ≤ pick a 1 0 + pick b 1 0
     either true b = omega arith
     either false b = omega arith
-
--- ---- the set of workers
-
--- a lowest bit in front of the others
-digit-ones : (t : Bool) (n : ℕ) → ones (pick t 1 0 + 2 * n) ≡ pick t 1 0 + ones n
-unfolding ones
-digit-ones true n =
-    let e : 1 + 2 * n ≡ n * 2 ^ 1 + 1 = omega arith in
-    rw e (omega (arith, ones-cat 1 n 1 (omega arith)))
-digit-ones false n =
-    let e : 0 + 2 * n ≡ n * 2 ^ 1 + 0 = omega arith in
-    rw e (omega (arith, ones-cat 1 n 0 (omega arith)))
-
--- the ones of the set are the workers that hold a thread
-pub set-ones : (l : List Worker) → ones (setOf l) ≡ countBelow (λ w. getD l w nobody .holds) (length l)
-unfolding setOf ones sumTo
-set-ones [] = refl
-set-ones (x ∷ l) = digit-ones (x .holds) (setOf l) ∙ omega (arith, set-ones l) ∙ sym (sumTo-first (λ w. pick (getD (x ∷ l) w nobody .holds) 1 0) (length l))

@@ -20,26 +20,28 @@ use Rattle.table.proofs.Sums.{sumTo-le}
 use Rattle.table.proofs.Bodies.{end-within, first-within, owner-below, owner-of-first, fork-above, fork-below}
 use Rattle.table.proofs.Nesting.{some-anyBelow, fork-found, fork-exists}
 use Rattle.table.proofs.NestedThreads.{line, nest-line, line-child, line-self, line-top, nest-most}
 use Rattle.schedule.specs.declared.Reply.the-variants.{Done}
 use Rattle.schedule.specs.Machine.{State, ended, nextOf, statusOf, workerOf, turnOf}
 use Rattle.schedule.specs.Begin.{startState}
-use Rattle.schedule.specs.Sound.{member, numberOf, isDone}
+use Rattle.schedule.specs.Sound.{isDone}
+use Rattle.order.specs.Words.{member}
+use Rattle.order.specs.Order.{numberOf}
 use Rattle.schedule.specs.Memory.{Keeps}
 use Rattle.schedule.specs.Threads.{listedAfter, threadLimit}
-use Rattle.schedule.proofs.Tables.Lawful.{Lawful}
+use Rattle.order.proofs.Lawful.{Lawful}
 use Rattle.schedule.proofs.Sound.Facts.{Facts}
-use Rattle.schedule.proofs.Sequences.Words.{never-true, member-exactly}
-use Rattle.schedule.proofs.Tables.Numbers.{number-once, number-child, number-past, number-between}
-use Rattle.schedule.proofs.Sequences.Totals.{sumTo-add, sum-targets}
-use Rattle.schedule.proofs.Sequences.CountBelow.{ascending-count, member-few}
-use Rattle.schedule.proofs.Tables.Joins.{forks-one}
+use Rattle.order.proofs.Words.{never-true, member-exactly}
+use Rattle.order.proofs.Numbers.{number-once, number-child, number-past, number-between}
+use Rattle.order.proofs.Totals.{sumTo-add, sum-targets}
+use Rattle.order.proofs.CountBelow.{ascending-count, member-few}
+use Rattle.order.proofs.Joins.{forks-one}
 use Rattle.schedule.proofs.Sound.Done.{next-below, owner-of-next, done-ended, born-forked}
 use Rattle.schedule.proofs.Sound.Leftmost.{all-done, front-done, leftmost-undone}
 use Rattle.schedule.proofs.Preservation.Turns.{turn-facts}
 use Rattle.schedule.proofs.Bounds.Tries.{Tries, Turned, idles, tries, turned}
-use Rattle.schedule.proofs.Bounds.Draws.{spentBeyond, Draw, draws-within}
-use Rattle.schedule.proofs.Sequences.Lists.{Below}
-use Rattle.schedule.proofs.Bounds.RowBounds.{Covered, Draws, row-within, row-serial}
+use Rattle.bounds.proofs.Draws.{spentBeyond, Draw, draws-within}
+use Rattle.order.proofs.Lists.{Below}
+use Rattle.bounds.proofs.RowBounds.{Covered, Draws, row-within, row-serial}
 
 -- a fork costs 1, any other action nothing
 abbrev forkCost : Table → ℕ → ℕ
