@@ -18,7 +18,7 @@ use Rattle.table.proofs.Parts.{code-in-table}
 use Rattle.table.proofs.Bodies.{first-is, body-within, kind-known}
 use Rattle.text.specs.Text.{ascii, decimal, newline}
 use Rattle.text.proofs.Decimal.{decimal-length}
-use Rattle.lines.proofs.Putting.{flatten-append}
+use Rattle.text.proofs.Putting.{flatten-append}
 use Rattle.assembly.specs.Words.{parts, noNumber}
 use Rattle.assembly.specs.Said.{saids}
 use Rattle.assembly.specs.Assembly.{checkedFrom, pairRow, actionRow, entriesFrom, actionsIn, tableBytes, over, longestText, assembled, assembledIn}

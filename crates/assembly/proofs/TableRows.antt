@@ -9,8 +9,8 @@ use Rattle.table.specs.Checks.{outside, maxThreads, maxActions}
 use Rattle.table.proofs.Tests.{or-neither}
 use Rattle.table.proofs.Sizes.{inside}
 use Rattle.text.specs.Text.{bufferAt}
-use Rattle.lines.specs.Lines.{putAll}
-use Rattle.lines.proofs.Putting.{flatten-append, puts-whole}
+use Rattle.text.specs.Puts.{putAll}
+use Rattle.text.proofs.Putting.{flatten-append, puts-whole}
 use Rattle.assembly.specs.Assembly.{isThread, isAction, howMany, entriesFrom, actionsIn, tableRows, tableBytes, over, sizesOutside}
 use Rattle.assembly.specs.declared.Said.{Said}
 use Rattle.assembly.specs.declared.Said.the-variants.{Nothing, Thread, Action, Expects}

@@ -9,7 +9,7 @@ use lib.Dec.{eqb}
 use lib.ListN.{length, take, drop}
 use lib.Seq.{take-at, drop-at}
 use Rattle.table.specs.Format.{threadsOf, tableOf}
-use Rattle.lines.proofs.Putting.{flatten-append}
+use Rattle.text.proofs.Putting.{flatten-append}
 use Rattle.assembly.specs.Words.{parts, isBlank, uncommented, noNumber, linesOf, wordsOf}
 use Rattle.assembly.specs.Said.{threadCode, meaningOf, lineSaid, saids, withWords, wordLines}
 use Rattle.assembly.specs.Assembly.{checkedFrom, isThread, isAction, howMany, bodyCount, entriesFrom, actionsIn, tableBytes, assembled}

@@ -9,7 +9,7 @@ ghost use lib.ListN.{length, drop};
 ghost use Rattle.io.specs.Counts.{Counts};
 ghost use Rattle.table.specs.Pass.{refusal};
 ghost use Rattle.text.specs.Text.{ascii, decimal};
-ghost use Rattle.lines.specs.Puts.{Puts};
+ghost use Rattle.text.specs.Puts.{Puts};
 ghost use Rattle.assembly.specs.declared.Assembled.the-variants.{Malformed, Refused};
 ghost use Rattle.assembly.specs.Message.{expectedTexts, lineTexts, messageTexts, messageOf};
 

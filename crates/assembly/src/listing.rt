@@ -9,7 +9,7 @@ ghost use mathlib.Core.Path.{_≡_};
 ghost use Prim.Native.Nat.{_+_, _*_, _≤_, _<_};
 ghost use Rattle.table.specs.Sum.{sumTo};
 ghost use Rattle.table.specs.Format.{threadsOf, tableOf, kindOf};
-ghost use Rattle.lines.specs.Puts.{Puts};
+ghost use Rattle.text.specs.Puts.{Puts};
 ghost use Rattle.assembly.specs.Disassembly.{threadTexts, operandTexts, actionTexts, bodyTexts, threadsTexts};
 ghost use Rattle.assembly.specs.Code.Steps.{Operand};
 

@@ -7,7 +7,7 @@ ghost use mathlib.Core.Path.{_≡_};
 ghost use Prim.Native.Nat.{_≤_};
 ghost use lib.ListN.{length, drop};
 ghost use Rattle.text.specs.Text.{bufferAt, placed};
-ghost use Rattle.lines.specs.Lines.{putAll};
+ghost use Rattle.text.specs.Puts.{putAll};
 ghost use Rattle.assembly.specs.Said.{saids};
 ghost use Rattle.assembly.specs.Assembly.{pairRow, actionRow, entryRows, actionsAfter, entriesFrom, actionRows, actionsIn, tableRows, longestText};
 ghost use Rattle.assembly.specs.Code.Steps.{CountsBody};

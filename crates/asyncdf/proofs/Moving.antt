@@ -24,7 +24,7 @@ use Rattle.schedule.specs.Parents.{Parents}
 use Rattle.schedule.specs.Turn.{rootEnded, stepRun}
 use Rattle.schedule.specs.Runs.{moved}
 use Rattle.schedule.proofs.Reply.{the-type}
-use Rattle.schedule.proofs.Sequences.Lists.{filled-front}
+use Rattle.order.proofs.Lists.{filled-front}
 use Rattle.schedule.proofs.Linked.Links.{laid-linked}
 use Rattle.schedule.proofs.Linked.ActiveMoves.{list-once, list-small}
 use Rattle.schedule.proofs.Linked.Fills.{fill-linked}

@@ -16,8 +16,8 @@ use Rattle.schedule.specs.declared.Turning.the-variants.{Taken, Refused}
 use Rattle.schedule.specs.Turn.{rootEnded, turned}
 use Rattle.schedule.specs.Listing.{line, toldBy, lastWith, lastOf}
 use Rattle.lines.specs.Lines.{lastTexts, linesThen}
-use Rattle.lines.specs.Puts.{Puts}
-use Rattle.lines.proofs.Putting.{puts-within, puts-more}
+use Rattle.text.specs.Puts.{Puts}
+use Rattle.text.proofs.Putting.{puts-within, puts-more}
 use Rattle.chart.specs.declared.Charted.the-variants.{Written}
 use Rattle.chart.specs.declared.Charted.the-variants.{Refused as refusedIt}
 use Rattle.chart.specs.Chart.{figures, charted}

@@ -19,12 +19,12 @@ use Rattle.schedule.specs.declared.Turning.{Turning}
 use Rattle.schedule.specs.declared.Ran.{Ran}
 use Rattle.schedule.specs.declared.Report.{Report}
 use Rattle.schedule.specs.Begin.{begin}
-use Rattle.schedule.specs.Firsts.{firsts}
+use Rattle.order.specs.Firsts.{firsts}
 use Rattle.schedule.specs.Turn.{turned}
 use Rattle.schedule.specs.Runs.{listRun, roundsRun}
 use Rattle.schedule.specs.Calls.{Call, turn, overList, inRounds, turnsIn, turnRow, afterCall, afterCalls, rowOf, rowOfCalls}
-use Rattle.schedule.proofs.Limit.{MemoryLimit, memory-limit}
-use Rattle.schedule.proofs.ThreadLimit.{ThreadLimit, thread-limit}
+use Rattle.bounds.proofs.Limit.{MemoryLimit, memory-limit}
+use Rattle.bounds.proofs.ThreadLimit.{ThreadLimit, thread-limit}
 use Rattle.schedule.proofs.Runs.Values.{begin-values, turn-values, list-values, rounds-values}
 use Rattle.asyncdf.proofs.begin.Kinds as begin-kinds
 use Rattle.asyncdf.proofs.begin.Reads as begin-promise

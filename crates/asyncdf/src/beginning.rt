@@ -6,9 +6,10 @@ ghost use mathlib.Core.Path.{_≡_};
 ghost use Prim.Native.Nat.{_≤_};
 ghost use lib.ListN.{length, replicate};
 ghost use Rattle.table.specs.Format.{tableOf};
-ghost use Rattle.schedule.specs.Record.{blank as blankRun, filled};
+ghost use Rattle.schedule.specs.Record.{blank as blankRun};
+ghost use Rattle.order.specs.Words.{filled};
 ghost use Rattle.schedule.specs.Begin.{startRun};
-ghost use Rattle.schedule.specs.Firsts.{firsts};
+ghost use Rattle.order.specs.Firsts.{firsts};
 
 const NOBODY: Worker = Worker {
     holds: false,

@@ -32,12 +32,13 @@ ghost use Rattle.schedule.specs.Values.{beginValues, turnValues, listValues, ro
 ghost use Rattle.schedule.specs.Begin.{begin as beginOf};
 ghost use Rattle.schedule.specs.Machine.{workerOf};
 ghost use Rattle.schedule.specs.Record.{stateOf};
-ghost use Rattle.schedule.specs.Sound.{Steady, countBelow};
+ghost use Rattle.schedule.specs.Sound.{Steady};
+ghost use Rattle.order.specs.Words.{countBelow};
 ghost use Rattle.schedule.specs.Turn.{turned as turnedOf};
 ghost use Rattle.schedule.specs.Listing.{listTurns};
 ghost use Rattle.schedule.specs.Runs.{listRun, roundsRun};
 ghost use Rattle.lines.specs.Lines.{textsOf};
-ghost use Rattle.lines.specs.Puts.{Puts};
+ghost use Rattle.text.specs.Puts.{Puts};
 ghost use Rattle.chart.specs.Turns.{chartTurns};
 
 mod beginning;

@@ -28,7 +28,7 @@ ghost use Rattle.schedule.specs.Listing.{actionIn, threadIn, lastWith};
 ghost use Rattle.schedule.specs.Record.{tableIn};
 ghost use Rattle.schedule.specs.Turn.{unsound};
 ghost use Rattle.lines.specs.Lines.{turnTexts};
-ghost use Rattle.lines.specs.Puts.{Puts};
+ghost use Rattle.text.specs.Puts.{Puts};
 ghost use Rattle.chart.specs.Chart.{mostTurns};
 ghost use Rattle.schedule.specs.Parents.{Parents};
 ghost use Rattle.cells.specs.Memory.{movedIn};

@@ -18,7 +18,7 @@ use Rattle.table.proofs.Passes.{firstFound-append}
 use Rattle.schedule.specs.Machine.{ready}
 use Rattle.schedule.specs.Links.{noThread}
 use Rattle.schedule.specs.Begin.{beginPasses}
-use Rattle.schedule.specs.Sound.{isNothing}
+use Rattle.order.specs.Words.{isNothing}
 use Rattle.soundness.specs.Tested.{parentsIf, nextIf, beginFound}
 use Rattle.lent.specs.Arrays.{arrays}
 use Rattle.cells.specs.Memory.{memory, answer}

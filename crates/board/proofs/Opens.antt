@@ -18,17 +18,18 @@ use Rattle.schedule.specs.declared.Worker.{Worker}
 use Rattle.schedule.specs.declared.Run.{Run}
 use Rattle.schedule.specs.Links.{noThread, Links, LinkedAs}
 use Rattle.schedule.specs.Actives.{noLinks, filledFrom}
-use Rattle.schedule.specs.Record.{maxBytes, maxWorkers, blank, filled, bytesOf, tableIn, linksIn, listIn, stateOf}
+use Rattle.schedule.specs.Record.{maxBytes, maxWorkers, blank, bytesOf, tableIn, linksIn, listIn, stateOf}
+use Rattle.order.specs.Words.{filled, allBelow, isNothing, sameList}
 use Rattle.schedule.specs.Begin.{beginPasses}
-use Rattle.schedule.specs.Sound.{allBelow, Steady, Sound, isNothing, sameList, commonSound, sound}
+use Rattle.schedule.specs.Sound.{Steady, Sound, commonSound, sound}
 use Rattle.schedule.specs.Turn.{isBlank, unsound}
 use Rattle.schedule.proofs.Linked.ActiveMoves.{list-once, list-small}
 use Rattle.schedule.proofs.Linked.Fills.{fill-linked}
 use Rattle.schedule.proofs.Linked.Links.{laid-linked}
-use Rattle.schedule.proofs.Sequences.Lists.{filled-front}
+use Rattle.order.proofs.Lists.{filled-front}
 use Rattle.schedule.proofs.Stores.{steady-lawful, steady-fits, steady-facts}
 use Rattle.schedule.proofs.Sound.Tests.{sound-exactly}
-use Rattle.schedule.proofs.Sequences.Words.{sameList-exactly}
+use Rattle.order.proofs.Words.{sameList-exactly}
 use Rattle.soundness.specs.Tested.{parentsIn, parentsIf, soundOn, blankOn}
 use Rattle.soundness.proofs.Chains.{last, first-of, never}
 use Rattle.soundness.proofs.Noting.{parents-right}

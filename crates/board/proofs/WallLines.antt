@@ -10,7 +10,7 @@ use lib.Dec.{ltb}
 use lib.ListN.{length, getD}
 use Rattle.table.specs.Sum.{pick}
 use Rattle.text.specs.Text.{bufferAt}
-use Rattle.lines.specs.Lines.{putAll}
+use Rattle.text.specs.Puts.{putAll}
 use Rattle.schedule.specs.declared.Worker.{Worker}
 use Rattle.schedule.specs.declared.Run.{Run}
 use Rattle.schedule.specs.Turn.{unsound}

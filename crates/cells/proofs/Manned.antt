@@ -11,7 +11,7 @@ use lib.Seq.{getD-set-same, getD-set-other, ext-getD}
 use Rattle.table.specs.Sum.{pick}
 use Rattle.schedule.specs.declared.Worker.{Worker}
 use Rattle.schedule.specs.Machine.{nobody}
-use Rattle.schedule.proofs.Sequences.Words.{allBelow-exactly}
+use Rattle.order.proofs.Words.{allBelow-exactly}
 use Rattle.cells.specs.Memory.{workerFrom}
 use Rattle.cells.specs.Stands.{truths, workersFrom}
 use Rattle.cells.specs.Places.{ofWorkers}

@@ -25,8 +25,8 @@ use Rattle.schedule.specs.Turn.{rootEnded, stepRun, passedIn, turned}
 use Rattle.schedule.specs.Runs.{moved}
 use Rattle.schedule.specs.Answers.{turningValues}
 use Rattle.schedule.specs.Values.{turnValues}
-use Rattle.schedule.proofs.Sequences.Lists.{filled-front}
-use Rattle.schedule.proofs.Sequences.Words.{allBelow-exactly}
+use Rattle.order.proofs.Lists.{filled-front}
+use Rattle.order.proofs.Words.{allBelow-exactly}
 use Rattle.schedule.proofs.Linked.ActiveMoves.{list-once, list-small}
 use Rattle.schedule.proofs.Linked.Links.{seek-walk}
 use Rattle.schedule.proofs.Linked.Searches.{second-finds}

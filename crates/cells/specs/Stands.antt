@@ -10,9 +10,10 @@ use Rattle.schedule.specs.declared.Worker.{Worker}
 use Rattle.schedule.specs.declared.Run.{Run}
 use Rattle.schedule.specs.Links.{LinkedAs}
 use Rattle.schedule.specs.Actives.{actives}
-use Rattle.schedule.specs.Record.{maxBytes, maxWorkers, filled}
+use Rattle.schedule.specs.Record.{maxBytes, maxWorkers}
+use Rattle.order.specs.Words.{filled, allBelow}
 use Rattle.schedule.specs.Parents.{Parents}
-use Rattle.schedule.specs.Sound.{allBelow, Steady}
+use Rattle.schedule.specs.Sound.{Steady}
 use Rattle.schedule.specs.Answers.{Values}
 use Rattle.lent.specs.Arrays.{secondOf, listedIn}
 use Rattle.lent.specs.Packed.{packedOf}

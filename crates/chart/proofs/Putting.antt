@@ -6,7 +6,7 @@ use mathlib.Core.List.{List, _++_, foldl-append}
 use lib.ListN.{take, replicate, length-replicate, replicate-append-replicate}
 use lib.Seq.{take-at}
 use Rattle.text.specs.Text.{Buffer, bufferAt, placedNext}
-use Rattle.lines.specs.Lines.{putAll}
+use Rattle.text.specs.Puts.{putAll}
 
 -- texts, and more of them after
 pub put-more : (b : Buffer) {o q : List ℕ} {r k : ℕ} (ts us : List (List ℕ)) → bufferAt o r ≡ putAll b ts → bufferAt q k ≡ putAll (bufferAt o r) us → bufferAt q k ≡ putAll b (ts ++ us)

@@ -7,7 +7,7 @@ use borrow.Author.Tests.{ne-eqb}
 use lib.ListN.{length, getD, take, drop, length-append}
 use lib.Seq.{take-at, drop-at, drop-drop, getD-at}
 use Rattle.text.specs.Text.{newline}
-use Rattle.lines.proofs.Putting.{flatten-append}
+use Rattle.text.proofs.Putting.{flatten-append}
 use Rattle.chart.specs.Chart.{Cell, thread, none, absent, Figures, rightTexts, cellTexts, cellsTexts, lineTexts, lineText, cellIn, cellsIn, readBack}
 use Rattle.chart.specs.Chart.{numberIn}
 use Rattle.chart.proofs.Columns.{right, right-text, right-length, number-right, right-last}

@@ -13,9 +13,8 @@ use Rattle.table.specs.Load.{foundNumber, foundPlace}
 use Rattle.table.specs.declared.Found.{Found}
 use Rattle.table.specs.declared.Found.the-variants.{Nothing, At}
 use Rattle.text.specs.Text.{bufferAt}
-use Rattle.lines.specs.Lines.{putAll}
-use Rattle.lines.specs.Puts.{Puts}
-use Rattle.lines.proofs.Putting.{puts-whole}
+use Rattle.text.specs.Puts.{putAll, Puts}
+use Rattle.text.proofs.Putting.{puts-whole}
 use Rattle.schedule.specs.declared.Worker.{Worker}
 use Rattle.schedule.specs.declared.Run.{Run}
 use Rattle.schedule.specs.Machine.{nobody}

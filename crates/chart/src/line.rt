@@ -5,7 +5,7 @@ use text::put_word;
 ghost use mathlib.Core.Path.{_≡_};
 ghost use Prim.Native.Nat.{_-_, _≤_};
 ghost use Rattle.text.specs.Text.{bufferAt};
-ghost use Rattle.lines.specs.Lines.{putAll};
+ghost use Rattle.text.specs.Puts.{putAll};
 ghost use Rattle.chart.specs.Chart.{cellOf, cellsFrom, figuresOf, rightTexts, cellTexts, cellsTexts, lineTexts};
 
 // What k characters leave of a width.

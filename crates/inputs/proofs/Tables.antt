@@ -6,8 +6,8 @@ use mathlib.Core.List.{List, [], _∷_, _++_, append-nil, flatten}
 use borrow.Author.Tests.{le-ltb}
 use lib.ListN.{length, take, drop}
 use lib.Seq.{take-at}
-use Rattle.lines.specs.Puts.{Puts}
-use Rattle.lines.proofs.Putting.{flatten-append, puts-whole}
+use Rattle.text.specs.Puts.{Puts}
+use Rattle.text.proofs.Putting.{flatten-append, puts-whole}
 use Rattle.assembly.specs.Said.{saids}
 use Rattle.assembly.specs.Assembly.{tableBytes, over, longestText, assembled, assembledIn}
 use Rattle.assembly.specs.declared.Assembled.the-variants.{Written}

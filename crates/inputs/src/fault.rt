@@ -8,7 +8,7 @@ ghost use mathlib.Core.List.{[], _∷_, _++_};
 ghost use lib.ListN.{length, drop};
 ghost use Rattle.io.specs.Counts.{Counts};
 ghost use Rattle.text.specs.Text.{ascii, decimal};
-ghost use Rattle.lines.specs.Puts.{Puts};
+ghost use Rattle.text.specs.Puts.{Puts};
 ghost use Rattle.inputs.specs.Message.{wantedTexts, malformedTexts, said};
 
 // A number by the most that it may be.

@@ -6,7 +6,7 @@ ghost use mathlib.Core.List.{[], _∷_, _++_};
 ghost use Prim.Native.Nat.{_+_, _≤_};
 ghost use lib.ListN.{length};
 ghost use Rattle.text.specs.Text.{bufferAt, placed};
-ghost use Rattle.lines.specs.Puts.{Puts};
+ghost use Rattle.text.specs.Puts.{Puts};
 ghost use Rattle.inputs.specs.Front.{turns, rounds, board};
 ghost use Rattle.inputs.specs.Input.{bytesOf, frontTexts};
 ghost use Rattle.inputs.specs.Code.Steps.{Room, frontIs, heldBy};

@@ -20,7 +20,7 @@ use Rattle.schedule.specs.Sound.{Steady, sound}
 use Rattle.schedule.specs.Turn.{isBlank, unsound, rootEnded, noWorker, turnChecks, stepRun, passedIn, turned}
 use Rattle.schedule.specs.Runs.{moved}
 use Rattle.schedule.proofs.Sound.Tests.{sound-exactly, blank-exactly}
-use Rattle.schedule.proofs.Sequences.Lists.{Below}
+use Rattle.order.proofs.Lists.{Below}
 use Rattle.schedule.proofs.Linked.Links.{seek-walk}
 use Rattle.schedule.proofs.Linked.Searches.{found-below}
 use Rattle.schedule.proofs.Linked.ActiveMoves.{list-small}

@@ -11,7 +11,7 @@ use Rattle.schedule.specs.Actives.{actives}
 use Rattle.schedule.specs.Code.LinkMoves.{linksBy, activesBy}
 use Rattle.schedule.specs.Record.{stateOf}
 use Rattle.schedule.proofs.Sound.Facts.{Facts}
-use Rattle.schedule.proofs.Sequences.Lists.{Below}
+use Rattle.order.proofs.Lists.{Below}
 use Rattle.schedule.proofs.Linked.Once.{Once}
 use Rattle.schedule.proofs.Linked.Links.{laid-linked, linked-laid, walk-linked}
 use Rattle.schedule.proofs.Linked.ActiveMoves.{list-once, list-small}

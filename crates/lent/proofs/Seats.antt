@@ -14,11 +14,12 @@ use Rattle.table.proofs.Bodies.{fork-below, join-below}
 use Rattle.schedule.specs.declared.Worker.{Worker}
 use Rattle.schedule.specs.declared.Run.{Run}
 use Rattle.schedule.specs.Machine.{State, ready, held, nobody, workerOf, taken}
-use Rattle.schedule.specs.Record.{maxBytes, filled, setOf, bytesOf, stateOf}
+use Rattle.schedule.specs.Record.{maxBytes, setOf, bytesOf, stateOf}
+use Rattle.order.specs.Words.{filled}
 use Rattle.schedule.specs.Sound.{SoundState, Steady}
-use Rattle.schedule.proofs.Tables.Lawful.{Lawful, lawful}
+use Rattle.order.proofs.Lawful.{Lawful, lawful}
 use Rattle.schedule.proofs.Sound.Facts.{Facts, facts, sound-facts}
-use Rattle.schedule.proofs.Sequences.Lists.{filled-front}
+use Rattle.order.proofs.Lists.{filled-front}
 use Rattle.schedule.proofs.Sound.Done.{next-below}
 use Rattle.schedule.proofs.Preservation.Moves.{taken-facts}
 use Rattle.schedule.proofs.Sound.Shares.{free-held}

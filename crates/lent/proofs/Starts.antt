@@ -9,9 +9,10 @@ use Rattle.schedule.specs.declared.Run.{Run}
 use Rattle.schedule.specs.Machine.{nobody}
 use Rattle.schedule.specs.Links.{noThread, Links, LinkedAs, rightIn, leftAfter}
 use Rattle.schedule.specs.Actives.{noLinks}
-use Rattle.schedule.specs.Record.{filled, setOf}
+use Rattle.schedule.specs.Record.{setOf}
+use Rattle.order.specs.Words.{filled}
 use Rattle.schedule.specs.Begin.{startState, startRun}
-use Rattle.schedule.specs.Firsts.{firsts}
+use Rattle.order.specs.Firsts.{firsts}
 use Rattle.schedule.proofs.Linked.Links.{linked-laid}
 use Rattle.schedule.proofs.Linked.Fills.{noLinks-linked}
 use Rattle.schedule.proofs.Preservation.Turns.{either}

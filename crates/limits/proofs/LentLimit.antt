@@ -19,7 +19,8 @@ use Rattle.schedule.specs.declared.Beginning.the-variants.{Begun as started}
 use Rattle.schedule.specs.Links.{noThread, walk, LinkedAs}
 use Rattle.schedule.specs.Actives.{actives}
 use Rattle.schedule.specs.Record.{maxWorkers}
-use Rattle.schedule.specs.Sound.{allBelow, Steady}
+use Rattle.schedule.specs.Sound.{Steady}
+use Rattle.order.specs.Words.{allBelow}
 use Rattle.schedule.specs.Begin.{begin, startRun}
 use Rattle.schedule.specs.Machine.{Stepped}
 use Rattle.schedule.specs.Turn.{turnChecks, stepRun, passedIn, turnedAs, turned}
@@ -27,15 +28,15 @@ use Rattle.schedule.specs.declared.Report.{Report}
 use Rattle.schedule.specs.declared.Report.the-variants.{Finished, Spent, Refused}
 use Rattle.schedule.specs.Answers.{reportValues}
 use Rattle.schedule.specs.Runs.{listRun, roundsRun}
-use Rattle.schedule.specs.Firsts.{firsts}
+use Rattle.order.specs.Firsts.{firsts}
 use Rattle.schedule.specs.Calls.{Call, turn, overList, inRounds, turnsIn, afterCall, afterCalls, rowOf, rowOfCalls, turnRow}
 use Rattle.schedule.specs.Values.{turnValues}
-use Rattle.schedule.proofs.Sequences.Lists.{Below}
+use Rattle.order.proofs.Lists.{Below}
 use Rattle.schedule.proofs.Linked.Once.{Once}
 use Rattle.schedule.proofs.Linked.Links.{walk-linked}
 use Rattle.schedule.proofs.Runs.Histories.{calls-traced}
-use Rattle.schedule.proofs.Limit.{MemoryLimit, memory-limit}
-use Rattle.schedule.proofs.ThreadLimit.{ThreadLimit, thread-limit}
+use Rattle.bounds.proofs.Limit.{MemoryLimit, memory-limit}
+use Rattle.bounds.proofs.ThreadLimit.{ThreadLimit, thread-limit}
 use Rattle.soundness.specs.Tested.{beginFound}
 use Rattle.soundness.proofs.Chains.{never}
 use Rattle.soundness.proofs.Noting.{parents-right}

@@ -12,8 +12,8 @@ use borrow.Fn.Kinds.{endedOf}
 use mathlib.Core.Bool.{Bool, true, false}
 use lib.ListN.{length, replicate}
 use Rattle.table.specs.Format.{tableOf}
-use Rattle.schedule.proofs.Limit.{MemoryLimit}
-use Rattle.schedule.proofs.ThreadLimit.{ThreadLimit}
+use Rattle.bounds.proofs.Limit.{MemoryLimit}
+use Rattle.bounds.proofs.ThreadLimit.{ThreadLimit}
 use Rattle.lent.specs.Arrays.{arrays}
 use Rattle.cells.specs.Memory.{Memory, memory, Answer, answer, lentTurn}
 use Rattle.cells.specs.Blocks.{memoryOf}

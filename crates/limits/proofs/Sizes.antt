@@ -13,15 +13,16 @@ use Rattle.table.specs.declared.Found.the-variants.{Nothing, At}
 use Rattle.schedule.specs.declared.Worker.{Worker}
 use Rattle.schedule.specs.declared.Reply.the-variants.{Idle, Done, Quota, Wait}
 use Rattle.schedule.specs.Machine.{parentOf, ready, held, waiting, ended, nobody}
-use Rattle.schedule.specs.Firsts.{firsts}
+use Rattle.order.specs.Firsts.{firsts}
 use Rattle.schedule.specs.Links.{noThread, Links, linkLeft, unlink, seek}
 use Rattle.table.specs.Checks.{maxThreads}
-use Rattle.schedule.specs.Record.{maxBytes, filled}
+use Rattle.schedule.specs.Record.{maxBytes}
+use Rattle.order.specs.Words.{filled}
 use Rattle.schedule.specs.Sound.{Steady}
 use Rattle.schedule.specs.Calls.{Call, turn, overList, inRounds}
 use Rattle.schedule.specs.Answers.{finished, nothing}
 use Rattle.schedule.specs.Runs.{workerAt}
-use Rattle.schedule.proofs.Sequences.Lists.{filled-front, filled-length, firsts-length}
+use Rattle.order.proofs.Lists.{filled-front, filled-length, firsts-length}
 use Rattle.schedule.proofs.Stores.{steady-lawful}
 use Rattle.soundness.specs.Tested.{parentsIn, beginFound}
 use Rattle.lent.specs.declared.Totals.{Totals}

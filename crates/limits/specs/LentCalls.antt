@@ -4,7 +4,7 @@ use mathlib.Core.List.{List, [], _∷_, _++_}
 use lib.Dec.{eqb}
 use lib.ListN.{getD, take}
 use Rattle.table.specs.Sum.{pick}
-use Rattle.schedule.specs.Firsts.{firsts}
+use Rattle.order.specs.Firsts.{firsts}
 use Rattle.schedule.specs.Calls.{Call, turn, overList, inRounds}
 use Rattle.cells.specs.Memory.{Memory, Answer, lentTurn}
 use Rattle.board.specs.Lent.{lentList, lentRounds}

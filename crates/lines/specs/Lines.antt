@@ -1,19 +1,15 @@
 -- The lines of the programs as text (document 01, "The turn listing"). A line is a row of texts, put one after another.
 use Prim.Native.Nat.{ℕ}
 use mathlib.Core.Path.{_≡_, refl}
-use mathlib.Core.List.{List, [], _∷_, _++_, foldl, flatten}
+use mathlib.Core.List.{List, [], _∷_, _++_, flatten}
 use Rattle.table.specs.Format.{Kind, end, work, alloc, free, fork, join, unknown}
 use Rattle.table.specs.Pass.{refusal}
-use Rattle.text.specs.Text.{ascii, digitsOf, decimal, space, newline, refusedLine, Buffer, placedNext}
+use Rattle.text.specs.Text.{ascii, digitsOf, decimal, space, newline, refusedLine}
 use Rattle.schedule.specs.declared.Run.{Run}
 use Rattle.schedule.specs.Record.{blank}
 use Rattle.schedule.specs.declared.Report.{Report}
 use Rattle.schedule.specs.declared.Report.the-variants.{Finished, Spent, Refused}
 use Rattle.schedule.specs.Listing.{Told, idle, did, quota, wait, Line, Last, done, notDone, refused, Listing}
-
--- texts put one after another
-abbrev pub putAll : Buffer → List (List ℕ) → Buffer
-putAll b texts = foldl placedNext b texts
 
 -- ---- a turn's line
 

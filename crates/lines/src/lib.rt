@@ -13,7 +13,7 @@ ghost use Rattle.table.specs.Pass.{refusal};
 ghost use Rattle.text.specs.Text.{lineOf, refusedLine};
 ghost use Rattle.schedule.specs.Listing.{line, toldWith, lastWith};
 ghost use Rattle.lines.specs.Lines.{kindWord, pairTexts, toldTexts, turnTexts, totalsTexts, lastTexts};
-ghost use Rattle.lines.specs.Puts.{Puts};
+ghost use Rattle.text.specs.Puts.{Puts};
 
 // The line of a table's answer: its facts, or a refusal.
 pub fn put_answer(out: &mut [u8], at: usize, answer: Loaded) -> usize

@@ -9,7 +9,7 @@ use lib.ListN.{length, getD, drop, drop-of-length-le}
 use lib.Seq.{drop-cons}
 use borrow.Author.Tests.{eq-eqb, ne-eqb}
 use Rattle.table.proofs.Tests.{no-way}
-use Rattle.schedule.specs.Sound.{sameList}
+use Rattle.order.specs.Words.{sameList}
 
 -- the first test holds, and the second decides
 pub both : (s r a b : Bool) → s ≡ true → s ≡ a → r ≡ b → r ≡ (a && b)

@@ -10,9 +10,9 @@ use lib.ListN.{length, getD, set, drop, replicate, length-set}
 use lib.Seq.{drop-cons, drop-length, getD-set-same, getD-set-other, ext-getD}
 use borrow.Author.Tests.{eq-eqb, ne-eqb}
 use Rattle.table.specs.Sum.{pick}
-use Rattle.schedule.specs.Firsts.{firsts}
+use Rattle.order.specs.Firsts.{firsts}
 use Rattle.schedule.specs.Links.{noThread, firstOf, rightIn, leftAfter, laid}
-use Rattle.schedule.proofs.Sequences.Lists.{firsts-length, firsts-at}
+use Rattle.order.proofs.Lists.{firsts-length, firsts-at}
 use Rattle.links.specs.Code.Steps.{leftThere}
 
 -- ---- rows of values

@@ -9,7 +9,8 @@ ghost use lib.ListN.{length, take, drop, set, replicate};
 ghost use Rattle.schedule.specs.Links.{firstOf, laid, linkLast, noThread, seek as seekOf, walk};
 ghost use Rattle.schedule.specs.Actives.{filledFrom, noLinks};
 ghost use Rattle.links.specs.Code.Steps.{leftThere};
-ghost use Rattle.schedule.specs.Sound.{sameList, sameLinks};
+ghost use Rattle.schedule.specs.Sound.{sameLinks};
+ghost use Rattle.order.specs.Words.{sameList};
 
 // "No neighbour is written as 1,024"
 pub const NO_THREAD: u16 = 1024;

@@ -7,7 +7,7 @@ use lib.ListN.{length, drop, length-append}
 use Rattle.io.specs.Counts.{Counts}
 use Rattle.text.specs.Text.{bufferAt, placed}
 use Rattle.text.proofs.Placing.{placed-fits, line-put, counts}
-use Rattle.lines.specs.Puts.{Puts}
+use Rattle.text.specs.Puts.{Puts}
 
 joined : (ts : List (List ℕ)) (t : List ℕ) → foldl _++_ t ts ≡ t ++ flatten ts
 unfolding flatten

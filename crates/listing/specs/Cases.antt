@@ -17,7 +17,7 @@ use Rattle.text.specs.Text.{ascii, digitsOf, decimal, acceptedLine, refusedLine
 use Rattle.schedule.specs.Machine.{leftOf, without, waitsFor, woken, actBy, act, leftmost, taken, turnFree, turnOf}
 use Rattle.schedule.specs.Record.{setOf}
 use Rattle.schedule.specs.Begin.{allocAbove, startState, startRun, begin}
-use Rattle.schedule.specs.Firsts.{firsts}
+use Rattle.order.specs.Firsts.{firsts}
 use Rattle.schedule.specs.Links.{walk, rightIn}
 use Rattle.schedule.specs.Turn.{rootEnded, noWorker, stepRun}
 use Rattle.schedule.specs.Cases.{turnedSound, orderE, orderWait}

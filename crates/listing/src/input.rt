@@ -5,7 +5,7 @@ use table::read::word;
 ghost use mathlib.Core.Path.{_≡_};
 ghost use Rattle.table.specs.Sum.{Read};
 ghost use Rattle.listing.specs.Listing.{quotaIn, limitIn, inputWrong, wrongInput};
-ghost use Rattle.lines.specs.Puts.{Puts};
+ghost use Rattle.text.specs.Puts.{Puts};
 
 fn wide(x: u8) -> usize
     ensures { λ r. ⌜ Read x 256 r ⌝ }

@@ -18,7 +18,7 @@ ghost use lib.ListN.{length, drop};
 ghost use Rattle.io.specs.Counts.{Counts};
 ghost use Prim.Native.Nat.{_*_};
 ghost use Rattle.asyncdf.specs.Code.Sheets.{widest};
-ghost use Rattle.lines.specs.Puts.{Puts};
+ghost use Rattle.text.specs.Puts.{Puts};
 ghost use Rattle.listing.specs.Listing.{listingOf, wallOf, printedTexts, roundsOf};
 
 // The text of an order and a table, a chart or a listing.

@@ -11,7 +11,7 @@ ghost use mathlib.Core.List.{[], _∷_};
 ghost use Rattle.text.specs.Text.{decimal, newline};
 ghost use Rattle.lines.specs.Lines.{heldWord, reportTexts};
 ghost use Rattle.listing.specs.Listing.{roundedTexts};
-ghost use Rattle.lines.specs.Puts.{Puts};
+ghost use Rattle.text.specs.Puts.{Puts};
 
 // Memory held, and the line's end.
 fn put_held(out: &mut [u8], at: usize, held: u64) -> usize

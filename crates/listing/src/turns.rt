@@ -7,7 +7,7 @@ ghost use lib.ListN.{length};
 ghost use Rattle.schedule.specs.Turn.{turned as turnedOf};
 ghost use Rattle.chart.specs.Chart.{charted};
 ghost use Rattle.listing.specs.Listing.{listedBy, walledBy};
-ghost use Rattle.lines.specs.Puts.{Puts};
+ghost use Rattle.text.specs.Puts.{Puts};
 
 // The table's checks, the beginning's, and the turns.
 pub(crate) fn put_listing(table: &[u8], p: u8, quota: u32, order: &[u8], out: &mut [u8]) -> usize

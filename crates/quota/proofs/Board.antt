@@ -15,7 +15,7 @@ use Rattle.schedule.specs.Record.{maxWorkers}
 use Rattle.schedule.specs.Begin.{maxQuota, allocAbove, beginPasses, begin, startRun}
 use Rattle.schedule.specs.Calls.{Call, afterCalls, rowOfCalls}
 use Rattle.schedule.specs.Memory.{memoryOf, peakMemory, Keeps}
-use Rattle.schedule.proofs.Limit.{memory-limit}
+use Rattle.bounds.proofs.Limit.{memory-limit}
 use Rattle.quota.specs.declared.Quoted.the-variants.{Given}
 use Rattle.quota.specs.Quota.{InRange, quoted}
 use Rattle.quota.proofs.Least.{least-exactly}

@@ -22,7 +22,7 @@ use Rattle.table.proofs.Bodies.{end-within}
 use Rattle.table.proofs.Levels.{level-is}
 use Rattle.table.proofs.Passes.{found-exactly, passes-rules, accepted-exactly, accepted-facts, refused-exactly}
 use Rattle.schedule.specs.Record.{maxWorkers}
-use Rattle.schedule.proofs.Tables.Lawful.{Lawful, lawful}
+use Rattle.order.proofs.Lawful.{Lawful, lawful}
 use Rattle.quota.specs.declared.Quoted.{Quoted}
 use Rattle.quota.specs.declared.Quoted.the-variants.{Given, Refused}
 use Rattle.quota.specs.Quota.{leastQuota, costOf, mostWithin, mostQuota, noQuota, maxGap, quotaPasses, answeredBy, quoted, valuesOf, valuesWith, valuesFor}

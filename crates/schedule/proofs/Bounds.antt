@@ -1,19 +1,4 @@
--- the limits: the rule with b, batches, what they draw
-pub mod Ages
-pub mod KeepsTest
+-- what a turn tries and does, and which actions lie beyond one
 pub mod Beyond
 pub mod Acts
 pub mod Tries
-pub mod Enables
-pub mod Counting
-pub mod Batches
-pub mod Draws
-pub mod RowBounds
-pub mod Dummies
-pub mod Covers
-pub mod Potential
-pub mod Lowers
-pub mod Rounds
-pub mod Listed
-pub mod Bound
-pub mod FrontParts

@@ -20,13 +20,14 @@ use Rattle.schedule.specs.Record.{tableIn, stateOf}
 use Rattle.schedule.specs.Begin.{startState, begin}
 use Rattle.schedule.specs.Sound.{Steady, Sound}
 use Rattle.schedule.specs.Turn.{unsound, turnChecks, stepRun, passedIn, turnedAs, turned}
+use Rattle.schedule.specs.Runs.{moved}
 use Rattle.schedule.specs.Listing.{Listing, turnsBy}
 use Rattle.schedule.specs.declared.Turned.{Turned}
 use Rattle.schedule.specs.Answers.{Values, turningValues}
 use Rattle.schedule.specs.Cases.{never, beginThen, ranBy, soundChecks, turnedSound, Case, cases, ownCases, Worked, worked}
 use Rattle.schedule.specs.TurnCases.{TurnCase, saidAfter, beginSaying, saidBy, turnCases, ownTurns, Says, said-worked}
 use Rattle.schedule.specs.Rule.{RowCase, measuredBy, rowCases, ownRows, Measured, rows-worked}
-use Rattle.schedule.proofs.Sequences.Words.{and-exactly, ltb-exactly}
+use Rattle.order.proofs.Words.{and-exactly, ltb-exactly}
 use Rattle.schedule.proofs.Preservation.Turns.{either}
 use Rattle.schedule.proofs.Sound.Tests.{sound-exactly}
 use Rattle.schedule.proofs.Runs.Histories.{begin-sound, turn-steady, start-state}
@@ -66,6 +67,10 @@ module _ (T : Table) where
   turn-turns K w st =
       ap suc (picked (λ (s : Stepped). s .state .turns) (st .turns) (workerOf st w .holds) _ _ (holder-turns w st)
       (picked (λ (s : Stepped). s .state .turns) (st .turns) (eqb (leftmost (st .status) (st .list)) (length (st .list))) _ _ refl (holder-turns w _)))
+
+pub moved-turns : (r : Run) (w : ℕ) → moved r w .turns ≡ suc (r .turns)
+unfolding stepRun
+moved-turns r w = turn-turns (tableIn r) (r .quota) w (stateOf r)
 
 pub turned-turns : (r : Run) (w : ℕ) → turned r w .run .turns ≤ suc (r .turns)
 unfolding turned stepRun

@@ -17,7 +17,7 @@ use Rattle.schedule.specs.Turn.{stepRun, passedIn}
 use Rattle.schedule.specs.Runs.{moved}
 use Rattle.schedule.specs.Calls.{Call, afterCalls, rowOfCalls}
 use Rattle.schedule.specs.RowList.{TurnSaid, Old, readRow, kept, readOld, oldAfter, oldSaid, afterRow, saidRow}
-use Rattle.schedule.proofs.Sequences.Lists.{filled-front}
+use Rattle.order.proofs.Lists.{filled-front}
 use Rattle.schedule.proofs.Stores.{moved-steady, moved-state}
 use Rattle.schedule.proofs.Runs.Rows.{front-workers}
 use Rattle.schedule.proofs.Runs.Histories.{calls-left}

@@ -7,3 +7,4 @@ pub mod Tests
 pub mod Done
 pub mod Shares
 pub mod Leftmost
+pub mod WorkerSet

@@ -15,15 +15,18 @@ use Rattle.table.specs.Checks.{endOf, allocOf}
 use Rattle.schedule.specs.declared.Run.{Run}
 use Rattle.schedule.specs.Machine.{unborn, ready, held, ended, nextOf, statusOf, workerOf}
 use Rattle.schedule.specs.Record.{stateOf, tableIn}
-use Rattle.schedule.specs.Sound.{Steady, member, countBelow, isDone, ofDone, share, numberOf}
+use Rattle.schedule.specs.Sound.{Steady, isDone, ofDone, share}
+use Rattle.order.specs.Words.{member, countBelow}
+use Rattle.order.specs.Order.{numberOf}
 use Rattle.schedule.specs.Turn.{rootEnded}
 use Rattle.schedule.proofs.Sound.Facts.{Facts}
 use Rattle.schedule.proofs.Sound.Done.{unborn-first as unborn-next}
 use Rattle.schedule.proofs.Sound.Shares.{held-shares, free-held}
 use Rattle.schedule.proofs.Stores.{steady-lawful, steady-fits, steady-facts}
 use Rattle.schedule.proofs.Sound.Leftmost.{leftmost-enabled}
-use Rattle.schedule.proofs.Sequences.Totals.{sumTo-bound}
-use Rattle.schedule.proofs.Sequences.CountBelow.{count-bound, ascending-count, set-ones}
+use Rattle.order.proofs.Totals.{sumTo-bound}
+use Rattle.schedule.proofs.Sound.WorkerSet.{set-ones}
+use Rattle.order.proofs.CountBelow.{count-bound, ascending-count}
 
 module _ (r : Run) (h : Steady r) where
   -- "An unborn thread's next action is its first; an ended one's remains its end."

@@ -18,7 +18,7 @@ use Rattle.schedule.specs.Begin.{maxQuota, allocAbove, beginPasses}
 use Rattle.schedule.specs.Sound.{Steady}
 use Rattle.schedule.specs.Turn.{stepRun}
 use Rattle.schedule.specs.Runs.{moved}
-use Rattle.schedule.proofs.Tables.Lawful.{Lawful, Within, lawful}
+use Rattle.order.proofs.Lawful.{Lawful, Within, lawful}
 use Rattle.schedule.proofs.Sound.Facts.{Facts, facts, sound-facts}
 use Rattle.schedule.proofs.Preservation.Turns.{turn-facts}
 use Rattle.schedule.proofs.Linked.ActiveMoves.{list-once, list-small}

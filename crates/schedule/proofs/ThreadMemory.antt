@@ -24,9 +24,9 @@ use Rattle.schedule.specs.Record.{stateOf, tableIn}
 use Rattle.schedule.specs.Begin.{startState}
 use Rattle.schedule.specs.Sound.{Steady, joinedIn, shareIn, balanceTo, isDone, progress, isJoined, share}
 use Rattle.schedule.specs.Memory.{rowState, memoryOf}
-use Rattle.schedule.proofs.Tables.Lawful.{Lawful}
-use Rattle.schedule.proofs.Sequences.Words.{never-true}
-use Rattle.schedule.proofs.Sequences.Totals.{sumTo-front}
+use Rattle.order.proofs.Lawful.{Lawful}
+use Rattle.order.proofs.Words.{never-true}
+use Rattle.order.proofs.Totals.{sumTo-front}
 use Rattle.schedule.proofs.Sound.Facts.{Facts}
 use Rattle.schedule.proofs.Preservation.Starts.{start-facts}
 use Rattle.schedule.proofs.Sound.Done.{unborn-first}

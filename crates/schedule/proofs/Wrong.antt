@@ -22,9 +22,9 @@ use Rattle.schedule.specs.declared.Turned.{Turned}
 use Rattle.schedule.specs.declared.Turning.{Turning}
 use Rattle.schedule.specs.declared.Turning.the-variants.{Taken}
 use Rattle.schedule.specs.Machine.{leftOf, without, waitsFor, woken, actBy, act, leftmost, taken, turnFree, turnOf, passedBy}
-use Rattle.schedule.specs.Record.{setOf, tableIn, stateOf}
+use Rattle.schedule.specs.Record.{setOf}
 use Rattle.schedule.specs.Begin.{allocAbove, startState, startRun, begin}
-use Rattle.schedule.specs.Firsts.{firsts}
+use Rattle.order.specs.Firsts.{firsts}
 use Rattle.schedule.specs.Links.{walk, rightIn}
 use Rattle.schedule.specs.Turn.{unsound, rootEnded, noWorker, stepRun, turned, passedIn}
 use Rattle.schedule.specs.Runs.{ran, moved, drive, listRun, roundsRun}
@@ -33,9 +33,9 @@ use Rattle.schedule.specs.Sound.{Steady, Sound}
 use Rattle.schedule.specs.Calls.{turnsIn}
 use Rattle.schedule.specs.Answers.{turningValues}
 use Rattle.schedule.specs.Cases.{turnedSound}
-use Rattle.schedule.proofs.Sequences.Words.{not-both}
+use Rattle.order.proofs.Words.{not-both}
 use Rattle.schedule.proofs.Runs.Histories.{begin-sound, turn-steady}
-use Rattle.schedule.proofs.CaseLaws.{turned-sound, turn-turns}
+use Rattle.schedule.proofs.CaseLaws.{turned-sound, moved-turns}
 
 -- ---- "A run in rounds that says spent with turns left"
 
@@ -83,10 +83,6 @@ list-spent-all r l j e = go (unsound r) e
     go false x = omega (arith, spends (λ i. getD l i 0) (length l) 0 r j x)
 
 -- ---- "one with invented turn numbers"
-
-moved-turns : (r : Run) (w : ℕ) → moved r w .turns ≡ suc (r .turns)
-unfolding stepRun passedBy passedIn
-moved-turns r w = turn-turns (tableIn r) (r .quota) w (stateOf r)
 
 -- the turns that a run reports are those by which the record's turns taken have grown
 counts : (who : ℕ → ℕ) (k i : ℕ) (r : Run) → i + drive who k i r .run .turns ≡ turnsIn (drive who k i r .report) + r .turns

@@ -10,7 +10,7 @@ use Rattle.table.specs.Cases.{written}
 use Rattle.table.specs.Cases.{act as action}
 use Rattle.schedule.specs.Machine.{State, amountOf, leftOf, without, waitsFor, woken, actBy, act, leftmost, taken, turnFree, turnOf}
 use Rattle.schedule.specs.Begin.{startState}
-use Rattle.schedule.specs.Firsts.{firsts}
+use Rattle.order.specs.Firsts.{firsts}
 use Rattle.schedule.specs.Sound.{doneIn, progressIn, joinedIn, shareIn, share}
 use Rattle.schedule.specs.Memory.{rowState}
 

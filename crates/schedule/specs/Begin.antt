@@ -13,8 +13,9 @@ use Rattle.schedule.specs.declared.Run.{Run}
 use Rattle.schedule.specs.declared.Begun.{Begun}
 use Rattle.schedule.specs.declared.Beginning.the-variants.{Begun as started, Refused}
 use Rattle.schedule.specs.Machine.{State, nobody, ready}
-use Rattle.schedule.specs.Firsts.{firsts}
-use Rattle.schedule.specs.Record.{maxWorkers, maxBytes, filled, blank, stored}
+use Rattle.order.specs.Firsts.{firsts}
+use Rattle.schedule.specs.Record.{maxWorkers, maxBytes, blank, stored}
+use Rattle.order.specs.Words.{filled}
 
 abbrev pub maxQuota : ℕ
 maxQuota = 16777215

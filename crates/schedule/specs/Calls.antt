@@ -8,7 +8,7 @@ use Rattle.schedule.specs.declared.Turning.the-variants.{Taken}
 use Rattle.schedule.specs.declared.Turning.the-variants.{Refused as refusedTurn}
 use Rattle.schedule.specs.declared.Report.{Report}
 use Rattle.schedule.specs.declared.Report.the-variants.{Finished, Spent, Refused}
-use Rattle.schedule.specs.Firsts.{firsts}
+use Rattle.order.specs.Firsts.{firsts}
 use Rattle.schedule.specs.Turn.{turned}
 use Rattle.schedule.specs.Runs.{listRun, roundsRun}
 

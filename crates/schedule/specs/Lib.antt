@@ -1,5 +1,4 @@
 pub mod Machine
-pub mod Firsts
 pub mod Links
 pub mod Record
 pub mod Begin

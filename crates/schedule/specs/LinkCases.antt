@@ -3,7 +3,7 @@ use mathlib.Core.Path.{_≡_, refl}
 use mathlib.Core.List.{List, [], _∷_}
 use Prim.Native.Nat.{ℕ}
 use lib.ListN.{take}
-use Rattle.schedule.specs.Firsts.{firsts}
+use Rattle.order.specs.Firsts.{firsts}
 use Rattle.schedule.specs.Links.{noThread, Links, walk, rightIn, leftAfter, laid, linkLeft, unlink, linkLast, seek}
 use Rattle.schedule.specs.Actives.{actives, filledFrom}
 

@@ -7,7 +7,7 @@ use lib.ListN.{length, getD, set}
 use lib.Dec.{ltb, eqb}
 use Rattle.table.specs.Sum.{pick}
 use Rattle.schedule.specs.Machine.{ready}
-use Rattle.schedule.specs.Firsts.{firsts}
+use Rattle.order.specs.Firsts.{firsts}
 
 -- "No neighbour is written as 1,024"
 abbrev pub noThread : ℕ

@@ -4,7 +4,7 @@ use mathlib.Core.List.{List, [], _∷_}
 use Rattle.table.specs.Format.{Kind, alloc, join, is, Table, kind}
 use Rattle.schedule.specs.declared.Reply.{Reply}
 use Rattle.schedule.specs.declared.Reply.the-variants.{Idle, Done, Quota, Wait}
-use Rattle.schedule.specs.Sound.{countBelow}
+use Rattle.order.specs.Words.{countBelow}
 
 -- 0 of an idle turn, 1 of any other
 abbrev pub unlessIdle : Reply → ℕ

@@ -3,14 +3,14 @@ use mathlib.Core.Path.{_≡_, refl}
 use Prim.Native.Nat.{ℕ, _%_}
 use mathlib.Core.List.{List, [], _∷_}
 use Rattle.table.specs.Sum.{sumTo, anyBelow}
-use Rattle.table.specs.Format.{end, work, fork, join, codeOf, kindOf, is, Table, tableOf}
+use Rattle.table.specs.Format.{end, work, fork, join, codeOf, kindOf, is, tableOf}
 use Rattle.table.specs.Checks.{ownerBelow}
 use Rattle.table.specs.Level.{forkBelow}
 use Rattle.table.specs.Cases.{act, written, E, twoAllocs}
 use Rattle.schedule.specs.Machine.{held, ended, statusOf, leftOf, without, waitsFor, woken, actBy, leftmost, taken, turnFree, turnOf}
 use Rattle.schedule.specs.Machine.{act as acts}
 use Rattle.schedule.specs.Begin.{startState}
-use Rattle.schedule.specs.Firsts.{firsts}
+use Rattle.order.specs.Firsts.{firsts}
 use Rattle.schedule.specs.Memory.{rowState, replies}
 use Rattle.schedule.specs.Most.{notIdle, turnsOf}
 

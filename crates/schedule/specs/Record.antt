@@ -1,6 +1,6 @@
 -- The run record and the state that turns move: one read off the other, and written back with the unused parts as document 01 fixes them.
-use Prim.Native.Nat.{ℕ, _+_, _-_, _*_}
-use mathlib.Core.List.{List, [], _∷_, _++_}
+use Prim.Native.Nat.{ℕ, _+_, _*_}
+use mathlib.Core.List.{List, [], _∷_}
 use lib.ListN.{length, take, replicate}
 use Rattle.table.specs.Sum.{pick}
 use Rattle.table.specs.Format.{Table, tableOf}
@@ -16,10 +16,6 @@ maxWorkers = 16
 
 abbrev pub maxBytes : ℕ
 maxBytes = 36868
-
--- a list filled up with 0 to a size: "Table bytes past its length .. are 0"
-abbrev pub filled : ℕ → List ℕ → List ℕ
-filled size l = l ++ replicate (size - length l) 0
 
 -- "the workers holding a thread, kept as one 16-bit set": worker 0 is the lowest bit
 unfoldable pub setOf : List Worker → ℕ

@@ -7,7 +7,7 @@ use Rattle.schedule.specs.declared.Run.{Run}
 use Rattle.schedule.specs.declared.Reply.{Reply}
 use Rattle.schedule.specs.Machine.{State, withList, turnOf, passedBy}
 use Rattle.table.specs.Checks.{maxThreads}
-use Rattle.schedule.specs.Record.{filled}
+use Rattle.order.specs.Words.{filled}
 use Rattle.schedule.specs.Turn.{stepRun, passedIn}
 use Rattle.schedule.specs.Runs.{moved}
 

@@ -17,9 +17,9 @@ use Rattle.table.specs.Cases.{act as action}
 use Rattle.schedule.specs.Machine.{leftOf, without, waitsFor, woken, actBy, act, leftmost, taken, turnFree, turnOf}
 use Rattle.schedule.specs.Record.{setOf}
 use Rattle.schedule.specs.Begin.{allocAbove, startState, startRun, begin}
-use Rattle.schedule.specs.Firsts.{firsts}
+use Rattle.order.specs.Firsts.{firsts}
 use Rattle.schedule.specs.Links.{walk, rightIn}
-use Rattle.schedule.specs.Sound.{allIn}
+use Rattle.order.specs.Words.{allIn}
 use Rattle.schedule.specs.Turn.{rootEnded, noWorker, stepRun}
 use Rattle.schedule.specs.Memory.{replies, sumReplies, memoryOf, frontRows, peakMemory, countIn, limit}
 use Rattle.schedule.specs.declared.Run.{Run}

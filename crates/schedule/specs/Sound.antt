@@ -1,8 +1,8 @@
 -- A sound record (document 01, "A record is sound if .."): each clause of the paragraph as a test, the record of all of them, and one executable test.
 use mathlib.Core.Path.{_≡_}
-use Prim.Native.Nat.{ℕ, zero, suc, _+_, _-_, _^_, _<_, _≤_}
-use mathlib.Core.List.{List, [], _∷_}
-use mathlib.Core.Bool.{Bool, true, false, not, _&&_, _||_}
+use Prim.Native.Nat.{ℕ, _+_, _-_, _^_, _<_, _≤_}
+use mathlib.Core.List.{List}
+use mathlib.Core.Bool.{Bool, true, not, _&&_, _||_}
 use lib.ListN.{length, getD}
 use lib.Dec.{ltb, leb, eqb}
 use Rattle.table.specs.Sum.{pick, sumTo, anyBelow}
@@ -10,60 +10,17 @@ use Rattle.table.specs.Format.{join, is, Table, kind, tableOf}
 use Rattle.table.specs.Pass.{firstFound}
 use Rattle.table.specs.Checks.{maxThreads, owner, endOf, allocOf, freeOf, partOf, passes}
 use Rattle.table.specs.Rules.{Rules}
-use Rattle.table.specs.Serial.{serialOrder}
 use Rattle.table.specs.Level.{forkBelow, dependsOn}
-use Rattle.table.specs.declared.Found.{Found}
-use Rattle.table.specs.declared.Found.the-variants.{Nothing, At}
+use Rattle.table.specs.declared.Found.the-variants.{Nothing}
 use Rattle.schedule.specs.declared.Worker.{Worker}
 use Rattle.schedule.specs.declared.Run.{Run}
 use Rattle.schedule.specs.Machine.{State, unborn, held, waiting, ended, nobody}
-use Rattle.schedule.specs.Record.{maxWorkers, maxBytes, filled, setOf, bytesOf, tableIn, linksIn, listIn, stateOf}
-use Rattle.schedule.specs.Firsts.{firsts}
+use Rattle.schedule.specs.Record.{maxWorkers, maxBytes, setOf, bytesOf, tableIn, linksIn, listIn, stateOf}
+use Rattle.order.specs.Words.{allBelow, allIn, member, countBelow, agree, rises, isNothing, sameList, filled}
+use Rattle.order.specs.Order.{numberOf}
+use Rattle.order.specs.Firsts.{firsts}
 use Rattle.schedule.specs.Links.{Links, laid}
 use Rattle.schedule.specs.Begin.{beginPasses}
-
--- ---- words
-
--- every number below k passes
-unfoldable pub allBelow : (ℕ → Bool) → ℕ → Bool
-allBelow f zero = true
-allBelow f (suc k) = allBelow f k && f k
-
--- every element passes
-unfoldable pub allIn : (ℕ → Bool) → List ℕ → Bool
-allIn f [] = true
-allIn f (x ∷ l) = f x && allIn f l
-
-unfoldable pub member : ℕ → List ℕ → Bool
-member x [] = false
-member x (y ∷ l) = eqb x y || member x l
-
--- how many numbers below k pass
-abbrev pub countBelow : (ℕ → Bool) → ℕ → ℕ
-countBelow f k = sumTo (λ i. pick (f i) 1 0) k
-
--- two truth values that are the same
-abbrev pub agree : Bool → Bool → Bool
-agree true b = b
-agree false b = not b
-
--- the place of an element in a list, the list's length where it is not there
-unfoldable pub placeIn : ℕ → List ℕ → ℕ
-placeIn x [] = 0
-placeIn x (y ∷ l) = pick (eqb x y) 0 (suc (placeIn x l))
-
--- the 1DF-number of an action: its place in serial order
-unfoldable pub numberOf : Table → ℕ → ℕ
-numberOf T a = placeIn a (serialOrder T)
-
--- f rises along a list
-abbrev pub risesFrom : (ℕ → ℕ) → ℕ → List ℕ → Bool
-risesFrom f x [] = true
-risesFrom f x (y ∷ l) = ltb (f x) (f y) && risesFrom f y l
-
-unfoldable pub rises : (ℕ → ℕ) → List ℕ → Bool
-rises f [] = true
-rises f (x ∷ l) = risesFrom f x l
 
 -- ---- what is done
 
@@ -233,16 +190,6 @@ pub record Sound (r : Run) : Type 0 where
   pub turns : r .turns < 2 ^ 64 - 1
 
 -- ---- the test
-
-abbrev pub isNothing : Found → Bool
-isNothing Nothing = true
-isNothing (At x) = false
-
-unfoldable pub sameList : List ℕ → List ℕ → Bool
-sameList [] [] = true
-sameList [] (y ∷ l) = false
-sameList (x ∷ k) [] = false
-sameList (x ∷ k) (y ∷ l) = eqb x y && sameList k l
 
 unfoldable pub common : Table → ℕ → ℕ → List ℕ → List ℕ → List ℕ → List Worker → ℕ → ℕ → Bool
 common T p K next status amounts workers amount highest =

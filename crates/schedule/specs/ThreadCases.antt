@@ -11,7 +11,7 @@ use Rattle.table.specs.Nested.{nestWithin, N}
 use Rattle.table.specs.Cases.{E}
 use Rattle.schedule.specs.Machine.{leftOf, without, waitsFor, woken, actBy, act, leftmost, taken, turnFree, turnOf}
 use Rattle.schedule.specs.Begin.{startState}
-use Rattle.schedule.specs.Firsts.{firsts}
+use Rattle.order.specs.Firsts.{firsts}
 use Rattle.schedule.specs.Memory.{rowState, frontRows}
 use Rattle.schedule.specs.Threads.{listedAfter, threadLimit}
 use Rattle.schedule.specs.Cases.{orderE}

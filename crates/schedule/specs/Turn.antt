@@ -13,7 +13,8 @@ use Rattle.schedule.specs.declared.Turning.the-variants.{Taken, Refused}
 use Rattle.schedule.specs.declared.Turned.{Turned}
 use Rattle.schedule.specs.Machine.{Stepped, ended, statusOf, nobody, turnOf, passedBy}
 use Rattle.schedule.specs.Record.{maxWorkers, tableIn, stateOf, stored, blank}
-use Rattle.schedule.specs.Sound.{sound, sameList, allBelow}
+use Rattle.schedule.specs.Sound.{sound}
+use Rattle.order.specs.Words.{sameList, allBelow}
 
 -- a worker's record with nothing in it
 abbrev pub isNobody : Worker → Bool

@@ -15,12 +15,13 @@ use Rattle.table.specs.Checks.{owner, endOf, allocOf, freeOf}
 use Rattle.table.proofs.Walks.{is-code}
 use Rattle.table.proofs.Bodies.{after-end, owner-is, join-above, join-below, body-within}
 use Rattle.schedule.specs.Machine.{ended}
-use Rattle.schedule.specs.Sound.{allBelow, doneIn, nextInBody, inOrder, balanceTo, progressIn}
-use Rattle.schedule.proofs.Tables.Lawful.{Lawful}
-use Rattle.schedule.proofs.Sequences.Lists.{getD-alike}
-use Rattle.schedule.proofs.Sequences.Words.{allBelow-exactly}
+use Rattle.schedule.specs.Sound.{doneIn, nextInBody, inOrder, balanceTo, progressIn}
+use Rattle.order.specs.Words.{allBelow}
+use Rattle.order.proofs.Lawful.{Lawful}
+use Rattle.order.proofs.Lists.{getD-alike}
+use Rattle.order.proofs.Words.{allBelow-exactly}
 use Rattle.schedule.proofs.Sound.Clauses.{nextInBody-exactly, inOrder-exactly, statusFollows-exactly}
-use Rattle.schedule.proofs.Tables.Joins.{join-depends}
+use Rattle.order.proofs.Joins.{join-depends}
 use Rattle.schedule.proofs.Sound.Balances.{balance-bound, balance-step, balance-free, balance-join}
 use Rattle.soundness.specs.Code.Checks.{Accepted, doneTo, threadsSound}
 use Rattle.soundness.specs.Code.Balancing.{Balances, Balancing, Balanced}

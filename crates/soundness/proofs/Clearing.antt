@@ -15,10 +15,11 @@ use Rattle.table.specs.Format.{join, is, Table, kind, tableOf}
 use Rattle.table.specs.Checks.{countsBelow}
 use Rattle.table.proofs.Tests.{same-is}
 use Rattle.table.proofs.Bodies.{join-below, first-is, counts-all, body-within}
-use Rattle.schedule.specs.Sound.{allBelow, sameList, doneIn, joinedIn, shareIn, sharesIn, balanceTo, progressIn}
-use Rattle.schedule.proofs.Tables.Lawful.{Lawful}
-use Rattle.schedule.proofs.Sequences.Lists.{set-each}
-use Rattle.schedule.proofs.Sequences.Words.{allBelow-exactly, eqb-exactly, sameList-exactly}
+use Rattle.schedule.specs.Sound.{doneIn, joinedIn, shareIn, sharesIn, balanceTo, progressIn}
+use Rattle.order.specs.Words.{allBelow, sameList}
+use Rattle.order.proofs.Lawful.{Lawful}
+use Rattle.order.proofs.Lists.{set-each}
+use Rattle.order.proofs.Words.{allBelow-exactly, eqb-exactly, sameList-exactly}
 use Rattle.schedule.proofs.Sound.Sharing.{shares-exactly}
 use Rattle.soundness.specs.Code.Checks.{Accepted, doneTo, threadsSound}
 use Rattle.soundness.specs.Code.Balancing.{Balances, joinedBelow, Cleared}

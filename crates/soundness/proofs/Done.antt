@@ -17,9 +17,10 @@ use Rattle.table.proofs.Bodies.{count-pos, body-within, after-end, owner-is, ow
 use Rattle.table.proofs.Nesting.{fork-found, fork-exists}
 use Rattle.table.proofs.Levels.{first-no-join, depends-root, depends-child, depends-step, depends-join}
 use Rattle.schedule.specs.Machine.{ended}
-use Rattle.schedule.specs.Sound.{allBelow, allIn, doneIn, inOrder}
-use Rattle.schedule.proofs.Sequences.Words.{allBelow-exactly, and-exactly}
-use Rattle.schedule.proofs.Tables.Lawful.{Lawful}
+use Rattle.schedule.specs.Sound.{doneIn, inOrder}
+use Rattle.order.specs.Words.{allBelow, allIn}
+use Rattle.order.proofs.Words.{allBelow-exactly, and-exactly}
+use Rattle.order.proofs.Lawful.{Lawful}
 use Rattle.soundness.specs.Code.Checks.{doneAt, doneTo, unbornIn, joinDone, bodyInOrder}
 use Rattle.soundness.proofs.Every.{same-truth, all-fails}
 

@@ -17,7 +17,7 @@ use Rattle.table.proofs.Sums.{sumTo-cong}
 use Rattle.table.proofs.Bodies.{first-is, counts-all, after-end, owner-at}
 use Rattle.schedule.specs.Machine.{ended}
 use Rattle.schedule.specs.Sound.{doneIn, ofDoneIn, sumDoneIn}
-use Rattle.schedule.proofs.Sequences.Totals.{sumTo-append, sumTo-front}
+use Rattle.order.proofs.Totals.{sumTo-append, sumTo-front}
 use Rattle.soundness.specs.Code.Checks.{doneTo}
 use Rattle.soundness.specs.Code.Adding.{Added}
 use Rattle.soundness.proofs.Done.{before-stop}

@@ -10,9 +10,8 @@ use lib.Dec.{ltb, eqb}
 use lib.ListN.{length, getD, take, replicate, length-take, length-append, length-replicate, getD-replicate, List·getD-append}
 use lib.Seq.{ext-getD, getD-take, getD-append-add, length-take-le}
 use borrow.Author.Tests.{lt-ltb, ltb-true, eqb-true, eq-eqb, ne-eqb}
-use Rattle.schedule.specs.Record.{filled}
-use Rattle.schedule.specs.Sound.{allBelow, sameList}
-use Rattle.schedule.proofs.Sequences.Words.{allBelow-exactly, or-exactly, sameList-exactly}
+use Rattle.order.specs.Words.{filled, allBelow, sameList}
+use Rattle.order.proofs.Words.{allBelow-exactly, or-exactly, sameList-exactly}
 use Rattle.soundness.proofs.Every.{same-truth, fromOn, PassedFrom, from-more, from-fails, from-all}
 
 abbrev pub isZero : List ℕ → ℕ → Bool

@@ -8,9 +8,9 @@ use lib.ListN.{length, set, replicate, length-append}
 use lib.Seq.{set-at, append-snoc}
 use Rattle.table.specs.Format.{actionsOf, tableOf}
 use Rattle.table.proofs.Sizes.{Sizes, sizes}
-use Rattle.schedule.specs.Record.{filled}
-use Rattle.schedule.specs.Firsts.{firsts}
-use Rattle.schedule.proofs.Sequences.Lists.{firsts-length}
+use Rattle.order.specs.Words.{filled}
+use Rattle.order.specs.Firsts.{firsts}
+use Rattle.order.proofs.Lists.{firsts-length}
 use Rattle.soundness.specs.Code.Checks.{Accepted}
 
 pub accepted-sizes : {s : List ℕ} {n : ℕ} → Accepted s n → Sizes s n (actionsOf s)

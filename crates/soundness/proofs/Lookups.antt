@@ -13,8 +13,8 @@ use Rattle.table.proofs.Walks.{is-code}
 use Rattle.table.proofs.Tests.{same-is}
 use Rattle.table.proofs.Parts.{code-from, argument-from}
 use Rattle.table.proofs.Bodies.{count-pos, body-within, after-end}
-use Rattle.schedule.proofs.Tables.Lawful.{Lawful, lawful}
-use Rattle.schedule.proofs.Sequences.Words.{not-both, allBelow-exactly}
+use Rattle.order.proofs.Lawful.{Lawful, lawful}
+use Rattle.order.proofs.Words.{not-both, allBelow-exactly}
 use Rattle.schedule.proofs.Sound.Clauses.{nextInBody-exactly}
 use Rattle.soundness.specs.Code.Checks.{Accepted, Placed}
 

@@ -14,9 +14,9 @@ use Rattle.table.specs.Checks.{owner, endOf}
 use Rattle.table.proofs.Tests.{no-way, same-is}
 use Rattle.table.proofs.Bodies.{first-is, after-end, count-pos, end-kind, end-within, owner-is, fork-above, fork-below, fork-later}
 use Rattle.table.proofs.Nesting.{fork-once, fork-exists}
-use Rattle.schedule.specs.Sound.{numberOf}
-use Rattle.schedule.proofs.Tables.Lawful.{Lawful}
-use Rattle.schedule.proofs.Tables.Numbers.{number-root, number-child, number-below}
+use Rattle.order.specs.Order.{numberOf}
+use Rattle.order.proofs.Lawful.{Lawful}
+use Rattle.order.proofs.Numbers.{number-root, number-child, number-below}
 use Rattle.soundness.specs.Code.Checks.{Lengths, Numbers}
 use Rattle.soundness.specs.Code.Order.{Inside, Marked, NumbersTo, Numbering}
 use Rattle.soundness.proofs.Spans.{inside-within, inside-fork, over-step, over-fork}

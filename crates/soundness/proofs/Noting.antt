@@ -16,11 +16,11 @@ use Rattle.table.specs.Level.{forkBelow}
 use Rattle.table.proofs.Bodies.{first-is, count-pos, owner-is, owner-below, fork-above, fork-below}
 use Rattle.table.proofs.Nesting.{forks-true, fork-once, fork-found, fork-exists}
 use Rattle.schedule.specs.Machine.{parentOf}
-use Rattle.schedule.specs.Record.{filled}
-use Rattle.schedule.specs.Firsts.{firsts}
-use Rattle.schedule.proofs.Sequences.Lists.{getD-alike, filled-at, filled-length, firsts-length, firsts-at, firsts-past}
+use Rattle.order.specs.Words.{filled}
+use Rattle.order.specs.Firsts.{firsts}
+use Rattle.order.proofs.Lists.{getD-alike, filled-at, filled-length, firsts-length, firsts-at, firsts-past}
 use Rattle.schedule.specs.Sound.{doneIn}
-use Rattle.schedule.proofs.Tables.Lawful.{Lawful}
+use Rattle.order.proofs.Lawful.{Lawful}
 use Rattle.schedule.specs.Parents.{Parents}
 use Rattle.soundness.specs.Code.Checks.{doneAt, unbornIn, unbornAt, Forks, Noted}
 use Rattle.soundness.specs.Tested.{parentsIn}

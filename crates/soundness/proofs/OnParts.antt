@@ -5,8 +5,9 @@ use lib.ListN.{length, replicate}
 use lib.Dec.{ltb, eqb}
 use Rattle.schedule.specs.declared.Run.{Run}
 use Rattle.schedule.specs.Links.{laid}
-use Rattle.schedule.specs.Record.{maxBytes, filled, bytesOf, tableIn, linksIn, listIn, blank}
-use Rattle.schedule.specs.Sound.{commonSound, listed, sameList, sameLinks, sound}
+use Rattle.schedule.specs.Record.{maxBytes, bytesOf, tableIn, linksIn, listIn, blank}
+use Rattle.order.specs.Words.{filled, sameList}
+use Rattle.schedule.specs.Sound.{commonSound, listed, sameLinks, sound}
 use Rattle.schedule.specs.Turn.{isBlank}
 use Rattle.soundness.specs.Tested.{soundOn, blankOn}
 use Rattle.soundness.proofs.Chains.{skip, last}

@@ -11,9 +11,9 @@ use Rattle.table.specs.Serial.{serial}
 use Rattle.table.proofs.Bodies.{after-end, first-within, end-within, end-kind, owner-is, owner-of-end, fork-above, fork-below, next-within}
 use Rattle.table.proofs.Serial.{serial-end, serial-fork, serial-step, serial-bound}
 use Rattle.table.proofs.Rank.{rank-fork, no-end}
-use Rattle.schedule.specs.Sound.{numberOf}
-use Rattle.schedule.proofs.Tables.Lawful.{Lawful}
-use Rattle.schedule.proofs.Tables.Numbers.{number-rank, number-step}
+use Rattle.order.specs.Order.{numberOf}
+use Rattle.order.proofs.Lawful.{Lawful}
+use Rattle.order.proofs.Numbers.{number-rank, number-step}
 use Rattle.soundness.specs.Code.Order.{Inside}
 
 -- ---- one action

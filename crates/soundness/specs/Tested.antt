@@ -13,10 +13,11 @@ use Rattle.schedule.specs.declared.Worker.{Worker}
 use Rattle.schedule.specs.declared.Run.{Run}
 use Rattle.schedule.specs.Machine.{parentOf, nobody}
 use Rattle.schedule.specs.Links.{Links, listOf, laid}
-use Rattle.schedule.specs.Record.{maxWorkers, filled, tableIn}
+use Rattle.schedule.specs.Record.{maxWorkers, tableIn}
+use Rattle.order.specs.Words.{filled, allBelow, sameList}
 use Rattle.schedule.specs.Begin.{beginPasses}
-use Rattle.schedule.specs.Firsts.{firsts}
-use Rattle.schedule.specs.Sound.{allBelow, sameList, commonSound, listed, sameLinks, sound}
+use Rattle.order.specs.Firsts.{firsts}
+use Rattle.schedule.specs.Sound.{commonSound, listed, sameLinks, sound}
 use Rattle.schedule.specs.Turn.{isNobody, unsound}
 use Rattle.soundness.specs.declared.Tested.{Tested}
 

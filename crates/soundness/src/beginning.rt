@@ -10,8 +10,8 @@ ghost use Rattle.table.specs.Format.{tableOf};
 ghost use Rattle.table.specs.Pass.{firstFound, refusal};
 ghost use Rattle.table.specs.Checks.{outside as isOutside};
 ghost use Rattle.schedule.specs.Begin.{allocAbove, beginPasses};
-ghost use Rattle.schedule.specs.Firsts.{firsts};
-ghost use Rattle.schedule.specs.Record.{filled};
+ghost use Rattle.order.specs.Firsts.{firsts};
+ghost use Rattle.order.specs.Words.{filled};
 ghost use Rattle.soundness.specs.Code.Checks.{Accepted};
 
 fn refuse(number: u8, place: usize) -> Found

@@ -10,7 +10,7 @@ ghost use mathlib.Core.Bool.{_&&_};
 ghost use lib.Dec.{eqb};
 ghost use lib.ListN.{length, getD};
 ghost use Rattle.schedule.specs.Machine.{nobody};
-ghost use Rattle.schedule.specs.Sound.{allBelow};
+ghost use Rattle.order.specs.Words.{allBelow};
 ghost use Rattle.schedule.specs.Turn.{isNobody, isBlank};
 ghost use Rattle.soundness.specs.Code.Checks.{zeroArrays};
 ghost use Rattle.soundness.specs.Tested.{blankOn};

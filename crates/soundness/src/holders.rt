@@ -8,7 +8,8 @@ ghost use lib.ListN.{getD};
 ghost use lib.Dec.{ltb, leb, eqb};
 ghost use Rattle.table.specs.Sum.{pick};
 ghost use Rattle.schedule.specs.Record.{setOf};
-ghost use Rattle.schedule.specs.Sound.{allBelow, oneHolder, workerRight};
+ghost use Rattle.schedule.specs.Sound.{oneHolder, workerRight};
+ghost use Rattle.order.specs.Words.{allBelow};
 ghost use Rattle.soundness.specs.Code.Checks.{holdersWanted};
 
 fn holders_wanted(status: u8) -> u8

@@ -9,7 +9,7 @@ use table::read;
 ghost use mathlib.Core.Path.{_≡_};
 ghost use lib.ListN.{replicate};
 ghost use Rattle.table.specs.Format.{tableOf};
-ghost use Rattle.schedule.specs.Sound.{isNothing};
+ghost use Rattle.order.specs.Words.{isNothing};
 ghost use Rattle.soundness.specs.Tested.{beginFound, nextIf, parentsIf, tested};
 
 mod amounts;

@@ -7,7 +7,8 @@ ghost use Prim.Native.Nat.{ℕ, _≤_};
 ghost use lib.ListN.{length, getD, take, replicate};
 ghost use lib.Dec.{ltb, eqb};
 ghost use Rattle.schedule.specs.Machine.{unborn, ended};
-ghost use Rattle.schedule.specs.Sound.{allBelow, allIn, member, agree, liveIn, listFollows};
+ghost use Rattle.schedule.specs.Sound.{liveIn, listFollows};
+ghost use Rattle.order.specs.Words.{allBelow, allIn, member, agree};
 
 // Marks the threads in the list, if all are below n.
 fn mark_listed(n: usize, list: &[u16; 1024], len: usize, marks: &mut [bool; 1024]) -> bool

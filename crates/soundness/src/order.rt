@@ -11,7 +11,8 @@ ghost use Rattle.table.specs.Format.{tableOf};
 ghost use Rattle.table.specs.Checks.{owner, endOf};
 ghost use Rattle.table.specs.Serial.{serial};
 ghost use Rattle.table.specs.Sum.{Read};
-ghost use Rattle.schedule.specs.Sound.{allIn, inSerialOrder, rises};
+ghost use Rattle.schedule.specs.Sound.{inSerialOrder};
+ghost use Rattle.order.specs.Words.{allIn, rises};
 ghost use Rattle.soundness.specs.Code.Checks.{Accepted, Placed, Lengths, Numbers};
 ghost use Rattle.soundness.specs.Code.Order.{Inside, Numbering, NumbersTo};
 

@@ -9,7 +9,8 @@ ghost use mathlib.Core.Bool.{true};
 ghost use Prim.Native.Nat.{_+_, _<_};
 ghost use lib.ListN.{length, replicate};
 ghost use Rattle.table.specs.Format.{tableOf};
-ghost use Rattle.schedule.specs.Sound.{doneIn, sharesIn, sameList};
+ghost use Rattle.schedule.specs.Sound.{doneIn, sharesIn};
+ghost use Rattle.order.specs.Words.{sameList};
 ghost use Rattle.soundness.specs.Code.Checks.{Accepted, threadsSound};
 ghost use Rattle.soundness.specs.Code.Balancing.{Balances, Balancing, Balanced, Cleared};
 

@@ -4,8 +4,8 @@ ghost use mathlib.Core.Path.{_≡_};
 ghost use mathlib.Core.Bool.{_||_};
 ghost use lib.ListN.{length, take, replicate};
 ghost use lib.Dec.{ltb};
-ghost use Rattle.schedule.specs.Record.{filled};
-ghost use Rattle.schedule.specs.Sound.{allBelow, unused, sameList};
+ghost use Rattle.order.specs.Words.{filled, allBelow, sameList};
+ghost use Rattle.schedule.specs.Sound.{unused};
 
 // "Threads from n on are unborn with next action 0"
 pub(crate) fn unused_right(n: usize, next: &[u16], status: &[u8]) -> bool

@@ -1,3 +1,4 @@
 pub mod Decimal
 pub mod Placing
 pub mod FactsText
+pub mod Putting

@@ -10,8 +10,8 @@ use Rattle.table.specs.Load.{loaded}
 use Rattle.table.specs.declared.Facts.{Facts}
 use Rattle.table.specs.declared.Loaded.{Loaded}
 use Rattle.table.specs.declared.Loaded.the-variants.{Accepted}
-use Rattle.lines.specs.Puts.{Puts}
-use Rattle.lines.proofs.Putting.{puts-whole}
+use Rattle.text.specs.Puts.{Puts}
+use Rattle.text.proofs.Putting.{puts-whole}
 use Rattle.assembly.specs.Assembly.{over}
 use Rattle.assembly.specs.Disassembly.{threadsTexts, textOf, listedAs, listedIn, disassembled, disassembledIn}
 use Rattle.assembly.specs.declared.Disassembled.{Disassembled}

@@ -11,7 +11,7 @@ use Rattle.table.specs.declared.Refusal.{Refusal}
 use Rattle.table.specs.declared.Loaded.{Loaded}
 use Rattle.table.specs.declared.Loaded.the-variants.{Refused}
 use Rattle.text.specs.Text.{bufferAt}
-use Rattle.lines.specs.Lines.{putAll}
+use Rattle.text.specs.Puts.{putAll}
 use Rattle.assembly.specs.Said.{saids}
 use Rattle.assembly.specs.Assembly.{tableRows, tableBytes, over, sizesOutside, refusedAt, judged, answered, writtenIn}
 use Rattle.assembly.specs.Code.Steps.{Sized}

@@ -16,10 +16,10 @@ use Rattle.table.specs.declared.Found.the-variants.{Nothing, At}
 use Rattle.table.proofs.Passes.{firstFound-append, passes-rules}
 use Rattle.table.proofs.Sizes.{Sizes, sizes}
 use Rattle.table.proofs.Tests.{no-way}
-use Rattle.schedule.specs.Firsts.{firsts}
-use Rattle.schedule.specs.Record.{blank, filled}
+use Rattle.order.specs.Firsts.{firsts}
+use Rattle.schedule.specs.Record.{blank}
+use Rattle.order.specs.Words.{filled, isNothing}
 use Rattle.schedule.specs.Begin.{begin, beginPasses, startRun}
-use Rattle.schedule.specs.Sound.{isNothing}
 use Rattle.schedule.specs.declared.Run.{Run}
 use Rattle.schedule.specs.declared.Beginning.the-variants.{Begun as started, Refused as refusedBegin}
 use Rattle.soundness.specs.Tested.{nextIf, beginFound}

@@ -11,9 +11,8 @@ use Rattle.table.specs.Pass.{refusal}
 use Rattle.text.specs.Text.{refusedLine, bufferAt}
 use Rattle.schedule.specs.declared.Run.{Run}
 use Rattle.schedule.specs.Turn.{unsound}
-use Rattle.lines.specs.Lines.{putAll}
-use Rattle.lines.specs.Puts.{Puts}
-use Rattle.lines.proofs.Putting.{puts-within, puts-more}
+use Rattle.text.specs.Puts.{putAll, Puts}
+use Rattle.text.proofs.Putting.{puts-within, puts-more}
 use Rattle.chart.specs.declared.Charted.the-variants.{Refused}
 use Rattle.chart.specs.Chart.{figures, lineTexts, tooMany, charted}
 use Rattle.chart.specs.Turns.{chartTurns}

@@ -13,8 +13,8 @@ use Rattle.schedule.specs.declared.Run.{Run}
 use Rattle.schedule.specs.Turn.{unsound}
 use Rattle.schedule.specs.Listing.{listTurns}
 use Rattle.lines.specs.Lines.{lastTexts, linesThen, textsOf}
-use Rattle.lines.specs.Puts.{Puts}
-use Rattle.lines.proofs.Putting.{puts-within}
+use Rattle.text.specs.Puts.{Puts}
+use Rattle.text.proofs.Putting.{puts-within}
 use Rattle.soundness.proofs.Passed.{test-fails, test-passes, test-parents, has-workers}
 use Rattle.asyncdf.specs.Code.Sheets.{turnsTexts}
 use Rattle.asyncdf.proofs.list_turns.Statement.{statement}

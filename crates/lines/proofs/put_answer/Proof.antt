@@ -5,7 +5,7 @@ use borrow.Author.Needs.{needs}
 use lib.ListN.{take}
 use lib.Seq.{take-at}
 use Rattle.text.specs.Text.{lineOf}
-use Rattle.lines.proofs.Putting.{puts-word, puts-within}
+use Rattle.text.proofs.Putting.{puts-word, puts-within}
 use Rattle.lines.proofs.put_answer.Statement.{statement}
 use Rattle.lines.proofs.put_answer.Tie as tie
 

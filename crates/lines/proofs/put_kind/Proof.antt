@@ -5,7 +5,7 @@ use native.Mathlib.Omega.{arith}
 use borrow.Author.Needs.{needs}
 use Rattle.table.specs.Format.{end, work, alloc, free, fork, join, unknown, kindOf}
 use Rattle.lines.specs.Lines.{kindWord}
-use Rattle.lines.proofs.Putting.{puts-word, puts-within}
+use Rattle.text.proofs.Putting.{puts-word, puts-within}
 use Rattle.lines.proofs.put_kind.Statement.{statement}
 use Rattle.lines.proofs.put_kind.Tie as tie
 

@@ -3,7 +3,7 @@ use native.Mathlib.Omega.{arith}
 use borrow.Author.Needs.{needs}
 use Rattle.text.specs.Text.{newline}
 use Rattle.lines.specs.Lines.{lastTexts}
-use Rattle.lines.proofs.Putting.{puts-word, puts-more, puts-within}
+use Rattle.text.proofs.Putting.{puts-word, puts-more, puts-within}
 use Rattle.lines.proofs.put_last.Statement.{statement}
 use Rattle.lines.proofs.put_last.Tie as tie
 

@@ -2,7 +2,7 @@
 use native.Mathlib.Omega.{arith}
 use borrow.Author.Needs.{needs}
 use Rattle.text.specs.Text.{space}
-use Rattle.lines.proofs.Putting.{puts-labelled, puts-more}
+use Rattle.text.proofs.Putting.{puts-labelled, puts-more}
 use Rattle.lines.proofs.put_pair.Statement.{statement}
 use Rattle.lines.proofs.put_pair.Tie as tie
 

@@ -2,7 +2,7 @@
 use native.Mathlib.Omega.{arith}
 use borrow.Author.Needs.{needs}
 use Rattle.lines.specs.Lines.{idleWord, quotaWord, waitWord, toldTexts}
-use Rattle.lines.proofs.Putting.{puts-word, puts-more, puts-within}
+use Rattle.text.proofs.Putting.{puts-word, puts-more, puts-within}
 use Rattle.lines.proofs.put_told.Statement.{statement}
 use Rattle.lines.proofs.put_told.Tie as tie
 

@@ -3,7 +3,7 @@ use native.Mathlib.Omega.{arith}
 use borrow.Author.Needs.{needs}
 use denote.Ref.{now}
 use Rattle.lines.specs.Lines.{peakWord}
-use Rattle.lines.proofs.Putting.{puts-labelled, puts-more, puts-within}
+use Rattle.text.proofs.Putting.{puts-labelled, puts-more, puts-within}
 use Rattle.lines.proofs.put_totals.Statement.{statement}
 use Rattle.lines.proofs.put_totals.Tie as tie
 

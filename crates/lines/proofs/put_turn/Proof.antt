@@ -3,7 +3,7 @@ use native.Mathlib.Omega.{arith}
 use borrow.Author.Needs.{needs}
 use Rattle.text.specs.Text.{space, newline}
 use Rattle.lines.specs.Lines.{turnTexts}
-use Rattle.lines.proofs.Putting.{puts-word, puts-number, puts-labelled, puts-more}
+use Rattle.text.proofs.Putting.{puts-word, puts-number, puts-labelled, puts-more}
 use Rattle.lines.proofs.put_turn.Statement.{statement}
 use Rattle.lines.proofs.put_turn.Tie as tie
 

@@ -8,8 +8,9 @@ use lib.Dec.{eqb}
 use borrow.Author.Needs.{needs}
 use borrow.Author.Tests.{not-true, not-false}
 use Rattle.schedule.specs.Links.{noThread, Links}
-use Rattle.schedule.specs.Sound.{sameList, sameLinks}
-use Rattle.schedule.proofs.Sequences.Lists.{firsts-length}
+use Rattle.schedule.specs.Sound.{sameLinks}
+use Rattle.order.specs.Words.{sameList}
+use Rattle.order.proofs.Lists.{firsts-length}
 use Rattle.links.proofs.describe.Statement.{statement}
 use Rattle.links.proofs.describe.Tie as tie
 

@@ -9,8 +9,8 @@ use denote.Ref.{now}
 use lib.ListN.{length, take, drop, length-take}
 use Rattle.table.proofs.Parts.{rest-part}
 use Rattle.schedule.specs.Turn.{turned}
-use Rattle.lines.specs.Puts.{Puts}
-use Rattle.lines.proofs.Putting.{puts-within}
+use Rattle.text.specs.Puts.{Puts}
+use Rattle.text.proofs.Putting.{puts-within}
 use Rattle.chart.specs.Chart.{charted}
 use Rattle.asyncdf.specs.Code.Sheets.{widest}
 use Rattle.listing.specs.Listing.{workersIn, quotaIn, orderLength, orderIn, tableAfter, inputWrong, listedBy, wrongInput, walledBy, printedTexts}

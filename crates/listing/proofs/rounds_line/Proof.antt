@@ -11,7 +11,7 @@ use lib.ListN.{length, take, drop}
 use lib.Dec.{ltb}
 use Rattle.table.proofs.Parts.{rest-part}
 use Rattle.listing.specs.Listing.{workersIn, quotaIn, limitIn, wrongInput, roundedTexts, roundsOf}
-use Rattle.lines.specs.Puts.{Puts}
+use Rattle.text.specs.Puts.{Puts}
 use Rattle.listing.proofs.Written.{Written, written}
 use Rattle.listing.proofs.rounds_line.Statement.{statement}
 use Rattle.listing.proofs.rounds_line.Tie as tie

@@ -17,10 +17,11 @@ use Rattle.schedule.specs.declared.Worker.{Worker}
 use Rattle.schedule.specs.declared.Reply.{Reply}
 use Rattle.schedule.specs.declared.Reply.the-variants.{Done, Quota, Wait}
 use Rattle.schedule.specs.Machine.{State, ready, waiting, ended, nextOf, statusOf, workerOf, nobody, actBy, act}
-use Rattle.schedule.specs.Sound.{numberOf, isDone}
-use Rattle.schedule.proofs.Tables.Lawful.{Lawful}
+use Rattle.schedule.specs.Sound.{isDone}
+use Rattle.order.specs.Order.{numberOf}
+use Rattle.order.proofs.Lawful.{Lawful}
 use Rattle.schedule.proofs.Sound.Facts.{Facts}
-use Rattle.schedule.proofs.Tables.Numbers.{number-step}
+use Rattle.order.proofs.Numbers.{number-step}
 use Rattle.schedule.proofs.Sound.Done.{done-alike, undone-unborn}
 use Rattle.schedule.proofs.Preservation.Does.{Does, over-does}
 use Rattle.schedule.proofs.Preservation.Releases.{Acting}

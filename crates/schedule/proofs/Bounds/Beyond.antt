@@ -10,7 +10,7 @@ use lib.Dec.{ltb, eqb}
 use Rattle.table.specs.Sum.{pick}
 use Rattle.table.specs.Format.{join, Table, kind}
 use Rattle.schedule.specs.Machine.{State, ready, held, ended, nextOf, statusOf, workerOf, leftmost, turnOf}
-use Rattle.schedule.specs.Sound.{numberOf}
+use Rattle.order.specs.Order.{numberOf}
 
 -- the action at which a free worker would begin a batch: the next one of the leftmost ready thread
 abbrev pub startAction : State → ℕ

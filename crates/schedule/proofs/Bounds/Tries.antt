@@ -17,13 +17,13 @@ use Rattle.schedule.specs.declared.Reply.{Reply}
 use Rattle.schedule.specs.declared.Reply.the-variants.{Idle}
 use Rattle.schedule.specs.Machine.{State, ready, held, nextOf, statusOf, workerOf, nobody, counted, Stepped, stepped, act, leftmost, taken, turnFree, turnOf}
 use Rattle.schedule.specs.Sound.{isDone, doneIn}
-use Rattle.schedule.proofs.Tables.Lawful.{Lawful}
+use Rattle.order.proofs.Lawful.{Lawful}
 use Rattle.schedule.proofs.Sound.Facts.{Facts}
 use Rattle.schedule.proofs.Sound.Done.{done-alike}
 use Rattle.schedule.proofs.Preservation.Moves.{taken-facts}
 use Rattle.schedule.proofs.Preservation.Releases.{Acting, acting, acting-alone}
 use Rattle.schedule.proofs.Preservation.Turns.{leftmost-ready}
-use Rattle.schedule.proofs.Bounds.Batches.{startAction, begins}
+use Rattle.schedule.proofs.Bounds.Beyond.{startAction, begins}
 use Rattle.schedule.proofs.Bounds.Acts.{Acted, acted, set-ended}
 
 -- The turn of w tries action a of thread t, with what is left of its quota or, at the beginning of a batch, with K.

@@ -9,12 +9,12 @@ use mathlib.Core.Logic.{_⊎_, inl, inr}
 use lib.ListN.{length, set}
 use Rattle.table.specs.Format.{Table}
 use Rattle.schedule.specs.Machine.{State, unborn, ready, waiting, ended, nextOf, statusOf, leftOf, without}
-use Rattle.schedule.specs.Sound.{numberOf}
+use Rattle.order.specs.Order.{numberOf}
 use Rattle.schedule.specs.Actives.{actives}
-use Rattle.schedule.proofs.Tables.Lawful.{Lawful}
-use Rattle.schedule.proofs.Sequences.Words.{Ascends}
+use Rattle.order.proofs.Lawful.{Lawful}
+use Rattle.order.proofs.Words.{Ascends}
 use Rattle.schedule.proofs.Sound.Facts.{Facts}
-use Rattle.schedule.proofs.Sequences.Lists.{Below}
+use Rattle.order.proofs.Lists.{Below}
 use Rattle.schedule.proofs.Linked.Once.{Once, ascends-once}
 use Rattle.schedule.proofs.Linked.Waiting.{awaited, child-listed, child-left, none-between}
 use Rattle.schedule.proofs.Linked.Actives.{actives-set, actives-fork, actives-wait, actives-end, actives-wake}

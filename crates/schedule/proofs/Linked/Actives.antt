@@ -14,7 +14,7 @@ use borrow.Author.Tests.{eqb-true, eqb-false, eq-eqb, ne-eqb}
 use Rattle.table.specs.Sum.{pick}
 use Rattle.schedule.specs.Machine.{ready, waiting, leftOf, without}
 use Rattle.schedule.specs.Actives.{actives}
-use Rattle.schedule.proofs.Sequences.Lists.{Below}
+use Rattle.order.proofs.Lists.{Below}
 use Rattle.schedule.proofs.Linked.Once.{Once, once-gone}
 
 -- thread t waits, by the statuses

@@ -13,7 +13,7 @@ use Rattle.table.proofs.Tests.{no-way}
 use Rattle.schedule.specs.Machine.{waiting}
 use Rattle.schedule.specs.Links.{noThread, Links, walk, firstOf, rightIn, leftAfter, lastAfter, lastOf, Linked, LinkedAs, linkLast}
 use Rattle.schedule.specs.Actives.{actives, noLinks, filledFrom}
-use Rattle.schedule.proofs.Sequences.Lists.{Below}
+use Rattle.order.proofs.Lists.{Below}
 use Rattle.schedule.proofs.Linked.Once.{Once}
 use Rattle.schedule.proofs.Linked.Neighbours.{rightIn-later, choose-last, choose-either, apart}
 use Rattle.schedule.proofs.Linked.Links.{set-seen, sets-seen, walk-linked}

@@ -18,14 +18,14 @@ use Rattle.schedule.specs.Machine.{State, Stepped, unborn, ready, held, 
 use Rattle.schedule.specs.Links.{noThread, Links, LinkedAs, linkLeft, unlink}
 use Rattle.schedule.specs.Code.LinkMoves.{linksBy, activesBy}
 use Rattle.schedule.specs.Actives.{actives}
-use Rattle.schedule.proofs.Tables.Lawful.{Lawful}
+use Rattle.order.proofs.Lawful.{Lawful}
 use Rattle.schedule.proofs.Sound.Facts.{Facts}
 use Rattle.schedule.proofs.Sound.Done.{undone-unborn}
 use Rattle.schedule.proofs.Preservation.Releases.{Acting, acting}
 use Rattle.schedule.proofs.Preservation.Ends.{ownerBelow-less, acting-ended}
 use Rattle.schedule.proofs.Preservation.ListMoves.{leftOf-old}
 use Rattle.schedule.proofs.Preservation.Turns.{either}
-use Rattle.schedule.proofs.Sequences.Lists.{Below}
+use Rattle.order.proofs.Lists.{Below}
 use Rattle.schedule.proofs.Linked.Once.{Once, once-leftOf, below-leftOf}
 use Rattle.schedule.proofs.Linked.Links.{linkLeft-linked, unlink-linked}
 use Rattle.schedule.proofs.Linked.Waiting.{awaited}

@@ -11,9 +11,9 @@ use lib.Seq.{getD-set-same, getD-set-other, ext-getD}
 use borrow.Author.Tests.{eq-eqb, ne-eqb, lt-ltb, le-ltb}
 use Rattle.table.specs.Sum.{pick}
 use Rattle.schedule.specs.Machine.{ready, leftOf, without, leftmost}
-use Rattle.schedule.specs.Firsts.{firsts}
+use Rattle.order.specs.Firsts.{firsts}
 use Rattle.schedule.specs.Links.{noThread, Links, walk, firstOf, rightIn, leftIn, laid, Linked, LinkedAs, linkLeft, unlink, Sought, firstReady, seek}
-use Rattle.schedule.proofs.Sequences.Lists.{Below, firsts-length, firsts-at}
+use Rattle.order.proofs.Lists.{Below, firsts-length, firsts-at}
 use Rattle.schedule.proofs.Linked.Once.{Once, once-short}
 use Rattle.schedule.proofs.Linked.Neighbours.{rightIn-here, rightIn-later, rightIn-leftOf, leftIn-leftOf, rightIn-without, leftIn-without, first-leftOf, first-without}
 

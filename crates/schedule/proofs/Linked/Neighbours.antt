@@ -11,7 +11,7 @@ use Rattle.table.specs.Sum.{pick}
 use Rattle.table.proofs.Tests.{no-way}
 use Rattle.schedule.specs.Machine.{leftOf, without}
 use Rattle.schedule.specs.Links.{noThread, firstOf, rightIn, leftAfter, leftIn}
-use Rattle.schedule.proofs.Sequences.Lists.{Below}
+use Rattle.order.proofs.Lists.{Below}
 use Rattle.schedule.proofs.Linked.Once.{Once}
 
 -- ---- neighbours, thread by thread

@@ -11,11 +11,11 @@ use borrow.Author.Tests.{eqb-true, eqb-false}
 use Rattle.table.specs.Sum.{pick}
 use Rattle.table.proofs.Sums.{sumTo-zero}
 use Rattle.schedule.specs.Machine.{leftOf, without}
-use Rattle.schedule.specs.Sound.{member, countBelow}
-use Rattle.schedule.proofs.Sequences.Words.{never-true, member-exactly, Ascends}
-use Rattle.schedule.proofs.Sequences.CountBelow.{count-bound, member-more}
+use Rattle.order.specs.Words.{member, countBelow}
+use Rattle.order.proofs.Words.{never-true, member-exactly, Ascends}
+use Rattle.order.proofs.CountBelow.{count-bound, member-more}
 use Rattle.schedule.proofs.Preservation.ListMoves.{leftOf-cases, without-old}
-use Rattle.schedule.proofs.Sequences.Lists.{Below}
+use Rattle.order.proofs.Lists.{Below}
 
 unfoldable pub Once : List ℕ → Type 0
 Once [] = Unit {0}

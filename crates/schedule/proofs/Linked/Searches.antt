@@ -15,9 +15,9 @@ use Rattle.table.proofs.Tests.{no-way}
 use Rattle.schedule.specs.Machine.{State, unborn, ready, held, waiting, ended, statusOf, workerOf, leftmost}
 use Rattle.schedule.specs.Links.{noThread, Linked, Sought, firstReady, seek}
 use Rattle.schedule.specs.Actives.{actives}
-use Rattle.schedule.proofs.Tables.Lawful.{Lawful}
+use Rattle.order.proofs.Lawful.{Lawful}
 use Rattle.schedule.proofs.Sound.Facts.{Facts}
-use Rattle.schedule.proofs.Sequences.Lists.{Below}
+use Rattle.order.proofs.Lists.{Below}
 use Rattle.schedule.proofs.Linked.Once.{Once, once-short}
 use Rattle.schedule.proofs.Linked.Actives.{actives-old, once-actives, below-actives}
 use Rattle.schedule.proofs.Linked.Links.{seek-linked}

@@ -17,11 +17,11 @@ use Rattle.table.proofs.Nesting.{open-join, open-forked, fork-once, fork-found,
 use Rattle.table.proofs.Unjoined.{in-body, body-owner}
 use Rattle.table.proofs.WellNested.{nested-exactly}
 use Rattle.schedule.specs.Machine.{State, unborn, waiting, ended, nextOf, statusOf}
-use Rattle.schedule.specs.Sound.{numberOf}
-use Rattle.schedule.proofs.Tables.Lawful.{Lawful}
-use Rattle.schedule.proofs.Tables.Numbers.{number-once, number-step, number-child, number-past, number-rises, number-between}
+use Rattle.order.specs.Order.{numberOf}
+use Rattle.order.proofs.Lawful.{Lawful}
+use Rattle.order.proofs.Numbers.{number-once, number-step, number-child, number-past, number-rises, number-between}
 use Rattle.schedule.proofs.Sound.Facts.{Done, Facts}
-use Rattle.schedule.proofs.Tables.Joins.{join-depends, join-exists}
+use Rattle.order.proofs.Joins.{join-depends, join-exists}
 use Rattle.schedule.proofs.Sound.Done.{done-low, undone, number-first, next-below, owner-of-next, done-ended, ended-all, undone-unborn, unborn-undone}
 
 -- a fork from action e on and before action j, of e's thread, around what is numbered at d

@@ -13,14 +13,15 @@ use Rattle.table.proofs.Tests.{no-way, same-is}
 use Rattle.table.proofs.Bodies.{end-kind, next-within, next-owner}
 use Rattle.schedule.specs.declared.Worker.{Worker}
 use Rattle.schedule.specs.Machine.{State, held, waiting, ended, nextOf, statusOf, amountOf, advanced}
-use Rattle.schedule.specs.Sound.{numberOf, isDone}
-use Rattle.schedule.proofs.Tables.Lawful.{Lawful}
-use Rattle.schedule.proofs.Sequences.Words.{Ascends}
+use Rattle.schedule.specs.Sound.{isDone}
+use Rattle.order.specs.Order.{numberOf}
+use Rattle.order.proofs.Lawful.{Lawful}
+use Rattle.order.proofs.Words.{Ascends}
 use Rattle.schedule.proofs.Sound.Facts.{Holding, Facts}
-use Rattle.schedule.proofs.Tables.Numbers.{number-once, number-step}
+use Rattle.order.proofs.Numbers.{number-once, number-step}
 use Rattle.schedule.proofs.Sound.Done.{next-below, owner-of-next, next-depends}
 use Rattle.schedule.proofs.Preservation.Does.{Does, over-does, does-ordered, does-amount, does-fork}
-use Rattle.schedule.proofs.Sequences.Lists.{set-each}
+use Rattle.order.proofs.Lists.{set-each}
 use Rattle.schedule.proofs.Sound.Sharing.{Shared}
 use Rattle.schedule.proofs.Preservation.ShareMoves.{Progressed, over-progressed, shared-same, shared-alloc, shared-free, shared-join}
 use Rattle.schedule.proofs.Preservation.ListMoves.{ascends-along}

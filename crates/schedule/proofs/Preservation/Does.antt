@@ -14,8 +14,8 @@ use Rattle.table.proofs.Sums.{sumTo-one}
 use Rattle.table.proofs.Nesting.{fork-found, fork-exists}
 use Rattle.schedule.specs.Machine.{State, ended, nextOf, statusOf}
 use Rattle.schedule.specs.Sound.{isDone, ofDone, sumDone}
-use Rattle.schedule.proofs.Tables.Lawful.{Lawful}
-use Rattle.schedule.proofs.Sequences.Words.{ltb-next}
+use Rattle.order.proofs.Lawful.{Lawful}
+use Rattle.order.proofs.Words.{ltb-next}
 use Rattle.schedule.proofs.Sound.Facts.{Done, Facts}
 use Rattle.schedule.proofs.Sound.Done.{undone, done-low, done-live, done-alike}
 

@@ -18,11 +18,12 @@ use Rattle.table.proofs.Tests.{no-way, and-both, same-is}
 use Rattle.table.proofs.Bodies.{end-last, after-end, count-pos}
 use Rattle.table.proofs.Nesting.{open-join, open-forked, fork-found}
 use Rattle.schedule.specs.Machine.{State, unborn, ready, held, waiting, ended, nextOf, statusOf, withStatus, withList, released, without, parentOf, waitsFor, woken, actBy}
-use Rattle.schedule.specs.Sound.{numberOf, isDone, progressIn}
-use Rattle.schedule.proofs.Tables.Lawful.{Lawful}
+use Rattle.schedule.specs.Sound.{isDone, progressIn}
+use Rattle.order.specs.Order.{numberOf}
+use Rattle.order.proofs.Lawful.{Lawful}
 use Rattle.schedule.proofs.Sound.Sharing.{Shared}
 use Rattle.schedule.proofs.Sound.Facts.{Done, Facts}
-use Rattle.schedule.proofs.Sequences.Words.{Ascends, eqb-same}
+use Rattle.order.proofs.Words.{Ascends, eqb-same}
 use Rattle.schedule.proofs.Preservation.ListMoves.{ascends-same, without-old, without-other, ascends-without, without-gone}
 use Rattle.schedule.proofs.Sound.Done.{done-last, done-ending, done-same, owner-of-next, next-below}
 use Rattle.schedule.proofs.Preservation.Does.{Does, does-ordered, does-amount, does-fork}

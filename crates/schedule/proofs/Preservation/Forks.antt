@@ -16,10 +16,11 @@ use Rattle.table.proofs.Tests.{no-way, fork-no-end}
 use Rattle.table.proofs.Bodies.{after-end, end-within, owner-end, fork-above, fork-below, next-within, next-owner, owner-of-end}
 use Rattle.table.proofs.Nesting.{fork-found}
 use Rattle.schedule.specs.Machine.{State, unborn, ready, held, waiting, ended, nextOf, statusOf, leftOf, actBy}
-use Rattle.schedule.specs.Sound.{numberOf, isDone}
-use Rattle.schedule.proofs.Tables.Lawful.{Lawful}
-use Rattle.schedule.proofs.Sequences.Words.{Ascends, eqb-same}
-use Rattle.schedule.proofs.Tables.Numbers.{number-once, number-child, number-past}
+use Rattle.schedule.specs.Sound.{isDone}
+use Rattle.order.specs.Order.{numberOf}
+use Rattle.order.proofs.Lawful.{Lawful}
+use Rattle.order.proofs.Words.{Ascends, eqb-same}
+use Rattle.order.proofs.Numbers.{number-once, number-child, number-past}
 use Rattle.schedule.proofs.Sound.Sharing.{Shared}
 use Rattle.schedule.proofs.Sound.Facts.{Done, Facts}
 use Rattle.schedule.proofs.Preservation.ListMoves.{leftOf-new, leftOf-old, leftOf-cases, ascends-leftOf}

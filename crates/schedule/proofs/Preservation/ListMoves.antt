@@ -11,7 +11,7 @@ use lib.Dec.{eqb}
 use borrow.Author.Tests.{eqb-true, eqb-false}
 use Rattle.table.specs.Sum.{pick}
 use Rattle.schedule.specs.Machine.{leftOf, without}
-use Rattle.schedule.proofs.Sequences.Words.{Ascends}
+use Rattle.order.proofs.Words.{Ascends}
 
 -- where g keeps the order of f, it ascends too
 pub ascends-along : (f g : ℕ → ℕ) (l : List ℕ) → ((x y : ℕ) → List·Memᴰ x l → List·Memᴰ y l → f x < f y → g x < g y) → Ascends f l → Ascends g l

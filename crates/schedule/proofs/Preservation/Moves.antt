@@ -14,9 +14,9 @@ use Rattle.table.proofs.Sums.{sumTo-cong}
 use Rattle.schedule.specs.declared.Worker.{Worker}
 use Rattle.schedule.specs.Machine.{State, unborn, ready, held, waiting, ended, nextOf, statusOf, workerOf, nobody, withStatus, withWorker, released, counted, taken}
 use Rattle.schedule.specs.Sound.{isDone, doneIn, ofDone, sumDone}
-use Rattle.schedule.proofs.Tables.Lawful.{Lawful}
+use Rattle.order.proofs.Lawful.{Lawful}
 use Rattle.schedule.proofs.Sound.Facts.{Holding, Facts}
-use Rattle.schedule.proofs.Sequences.Lists.{set-each}
+use Rattle.order.proofs.Lists.{set-each}
 use Rattle.schedule.proofs.Sound.Sharing.{shared-alike}
 use Rattle.schedule.proofs.Preservation.ShareMoves.{share-alike}
 use Rattle.schedule.proofs.Preservation.Holders.{rehung}

@@ -12,7 +12,7 @@ use Rattle.table.specs.Level.{dependsOn}
 use Rattle.table.proofs.Tests.{no-way}
 use Rattle.schedule.specs.Machine.{State, held, ended, nextOf, statusOf, workerOf, nobody}
 use Rattle.schedule.specs.Sound.{isDone}
-use Rattle.schedule.proofs.Tables.Lawful.{Lawful}
+use Rattle.order.proofs.Lawful.{Lawful}
 use Rattle.schedule.proofs.Sound.Facts.{Done, Holding, Facts}
 use Rattle.schedule.proofs.Preservation.Holders.{rehung}
 use Rattle.schedule.proofs.Sound.Done.{undone, next-below, owner-of-next, next-depends}

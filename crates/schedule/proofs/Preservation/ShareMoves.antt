@@ -16,10 +16,10 @@ use Rattle.table.proofs.Bodies.{after-end, join-above, join-below}
 use Rattle.table.proofs.Nesting.{some-anyBelow, anyBelow-true}
 use Rattle.schedule.specs.Machine.{State, ended, nextOf, statusOf, amountOf}
 use Rattle.schedule.specs.Sound.{progressIn, joinedIn, shareIn, balanceTo, isDone, progress, isJoined, share}
-use Rattle.schedule.proofs.Tables.Lawful.{Lawful}
-use Rattle.schedule.proofs.Sequences.Words.{never-true}
-use Rattle.schedule.proofs.Sequences.Lists.{set-each}
-use Rattle.schedule.proofs.Tables.Joins.{join-once}
+use Rattle.order.proofs.Lawful.{Lawful}
+use Rattle.order.proofs.Words.{never-true}
+use Rattle.order.proofs.Lists.{set-each}
+use Rattle.order.proofs.Joins.{join-once}
 use Rattle.schedule.proofs.Sound.Balances.{balance-step, balance-join}
 use Rattle.schedule.proofs.Sound.Sharing.{Shared, shared-alike}
 use Rattle.schedule.proofs.Sound.Facts.{Facts}

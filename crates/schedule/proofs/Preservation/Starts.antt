@@ -19,13 +19,14 @@ use Rattle.schedule.specs.declared.Worker.{Worker}
 use Rattle.schedule.specs.Machine.{unborn, ready, ended, nextOf, statusOf, amountOf, workerOf, nobody}
 use Rattle.schedule.specs.Record.{maxWorkers}
 use Rattle.schedule.specs.Begin.{startState}
-use Rattle.schedule.specs.Firsts.{firsts}
-use Rattle.schedule.specs.Sound.{numberOf, isDone, doneIn, sumDone, ofDone, progressIn, shareIn, progress, isJoined, share}
-use Rattle.schedule.proofs.Tables.Lawful.{Lawful}
+use Rattle.order.specs.Firsts.{firsts}
+use Rattle.schedule.specs.Sound.{isDone, doneIn, sumDone, ofDone, progressIn, shareIn, progress, isJoined, share}
+use Rattle.order.specs.Order.{numberOf}
+use Rattle.order.proofs.Lawful.{Lawful}
 use Rattle.schedule.proofs.Sound.Sharing.{Shared}
 use Rattle.schedule.proofs.Sound.Facts.{Facts}
-use Rattle.schedule.proofs.Sequences.Words.{Ascends}
-use Rattle.schedule.proofs.Sequences.Lists.{getD-alike, filled-at, filled-length, firsts-length, firsts-at}
+use Rattle.order.proofs.Words.{Ascends}
+use Rattle.order.proofs.Lists.{getD-alike, filled-at, filled-length, firsts-length, firsts-at}
 
 -- the statuses of a beginning, whatever the size
 first-status : (n t : ℕ) → 0 < t → getD (set (replicate n 0) 0 ready) t 0 ≡ unborn

@@ -16,7 +16,7 @@ use Rattle.table.proofs.Tests.{no-way}
 use Rattle.table.proofs.Bodies.{kind-known}
 use Rattle.schedule.specs.declared.Worker.{Worker}
 use Rattle.schedule.specs.Machine.{State, ready, waiting, ended, nextOf, statusOf, workerOf, nobody, withWorker, Stepped, actBy, act, leftmost, taken, turnFree, turnOf}
-use Rattle.schedule.proofs.Tables.Lawful.{Lawful}
+use Rattle.order.proofs.Lawful.{Lawful}
 use Rattle.schedule.proofs.Sound.Facts.{Holding, Facts}
 use Rattle.schedule.proofs.Sound.Shares.{free-held}
 use Rattle.schedule.proofs.Preservation.Holders.{rehung}

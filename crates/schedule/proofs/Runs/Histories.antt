@@ -27,9 +27,10 @@ use Rattle.schedule.specs.declared.Report.{Report}
 use Rattle.schedule.specs.declared.Report.the-variants.{Finished, Spent, Refused}
 use Rattle.schedule.specs.declared.Ran.{Ran}
 use Rattle.schedule.specs.Machine.{State}
-use Rattle.schedule.specs.Record.{maxBytes, stateOf, tableIn, filled}
+use Rattle.schedule.specs.Record.{maxBytes, stateOf, tableIn}
+use Rattle.order.specs.Words.{filled}
 use Rattle.schedule.specs.Begin.{begin, begunAs, beginPasses, startState, startRun}
-use Rattle.schedule.specs.Firsts.{firsts}
+use Rattle.order.specs.Firsts.{firsts}
 use Rattle.schedule.specs.Links.{walk, laid}
 use Rattle.schedule.specs.Sound.{SoundState, Steady, Sound}
 use Rattle.schedule.specs.Turn.{unsound, rootEnded, noWorker, turnChecks, stepRun, passedIn, turnedAs, turned}
@@ -37,11 +38,11 @@ use Rattle.schedule.specs.Runs.{ran, moved, drive, listRun, roundsRun}
 use Rattle.schedule.specs.Calls.{Call, turn, overList, inRounds, turnsIn, turnRow, afterCall, afterCalls, rowOf, rowOfCalls}
 use Rattle.schedule.specs.Memory.{rowState}
 use Rattle.schedule.specs.RowList.{afterRow}
-use Rattle.schedule.proofs.Tables.Lawful.{Lawful, lawful}
+use Rattle.order.proofs.Lawful.{Lawful, lawful}
 use Rattle.schedule.proofs.Sound.Facts.{Facts, sound-facts}
 use Rattle.schedule.proofs.Preservation.Starts.{start-facts}
 use Rattle.schedule.proofs.Runs.Rows.{rowState-append, front-workers}
-use Rattle.schedule.proofs.Sequences.Lists.{filled-front, firsts-take}
+use Rattle.order.proofs.Lists.{filled-front, firsts-take}
 use Rattle.schedule.proofs.Stores.{Fits, begin-fits, laid-back, moved-steady, moved-state}
 
 -- ---- what a beginning gives

@@ -15,8 +15,8 @@ use Rattle.schedule.specs.declared.Worker.{Worker}
 use Rattle.schedule.specs.Machine.{State, Stepped, withStatus, withList, released, ready, held, ended, nextOf, statusOf, workerOf, nobody}
 use Rattle.schedule.specs.Machine.{without, waitsFor, parentOf, woken, actBy, act, leftmost, taken, turnFree, turnOf}
 use Rattle.schedule.specs.Memory.{ofReply}
-use Rattle.schedule.proofs.Sequences.Lists.{getD-member}
-use Rattle.schedule.proofs.Tables.Lawful.{Lawful}
+use Rattle.order.proofs.Lists.{getD-member}
+use Rattle.order.proofs.Lawful.{Lawful}
 use Rattle.schedule.proofs.Sound.Facts.{Facts}
 use Rattle.schedule.proofs.Sound.Shares.{free-held}
 

@@ -12,7 +12,7 @@ use Rattle.table.proofs.Peaks.{greatest-map}
 use Rattle.schedule.specs.Machine.{State, turnOf}
 use Rattle.schedule.specs.Begin.{startState}
 use Rattle.schedule.specs.Memory.{rowState, replies, sumReplies, doneIn, memoryOf, frontRows, peakMemory}
-use Rattle.schedule.proofs.Tables.Lawful.{Lawful}
+use Rattle.order.proofs.Lawful.{Lawful}
 use Rattle.schedule.proofs.Sound.Facts.{Facts}
 use Rattle.schedule.proofs.Preservation.Turns.{turn-facts}
 use Rattle.schedule.proofs.Preservation.Starts.{start-facts, start-held}

@@ -10,7 +10,7 @@ use Rattle.table.proofs.Bodies.{join-below}
 use Rattle.table.proofs.Amounts.{action-within, whole-is, partOf-bound}
 use Rattle.table.proofs.Peaks.{part-held}
 use Rattle.schedule.specs.Sound.{balanceTo}
-use Rattle.schedule.proofs.Tables.Lawful.{Lawful}
+use Rattle.order.proofs.Lawful.{Lawful}
 
 module _ (T : Table) (l : Lawful T) (t : ℕ) (h : t < T .threads) where
   -- with no alloc above B, no balance is above B for each action of the table

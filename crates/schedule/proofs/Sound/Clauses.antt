@@ -14,11 +14,12 @@ use Rattle.table.specs.Level.{forkBelow, dependsOn}
 use Rattle.table.proofs.Tests.{is-true, same-is}
 use Rattle.schedule.specs.declared.Worker.{Worker}
 use Rattle.schedule.specs.Machine.{unborn, held, waiting, ended, nobody}
-use Rattle.schedule.specs.Sound.{numberOf, countBelow, doneIn, liveIn, sumDoneIn}
+use Rattle.schedule.specs.Sound.{doneIn, liveIn, sumDoneIn}
+use Rattle.order.specs.Words.{countBelow}
+use Rattle.order.specs.Order.{numberOf}
 use Rattle.schedule.specs.Sound.{nextInBody, inOrder, statusFollows, listFollows, inSerialOrder, waitsAtJoin, holdsThread, oneHolder, workerRight, heldRight, unused}
 use Rattle.schedule.specs.Turn.{isNobody}
-use Rattle.schedule.proofs.Sequences.Words.{not-exactly, leb-exactly, ltb-exactly, eqb-exactly, not-eqb-exactly, and-of, implies-of, agree-of, pick-of}
-use Rattle.schedule.proofs.Sequences.Words.{allIn-exactly, member-exactly, rises-exactly, Ascends, One, countBelow-one, countBelow-none}
+use Rattle.order.proofs.Words.{not-exactly, leb-exactly, ltb-exactly, eqb-exactly, not-eqb-exactly, and-of, implies-of, agree-of, pick-of, allIn-exactly, member-exactly, rises-exactly, Ascends, One, countBelow-one, countBelow-none}
 
 -- ---- the threads
 

@@ -17,10 +17,11 @@ use Rattle.table.proofs.Bodies.{after-end, owner-is, owner-of-end, owner-end, e
 use Rattle.table.proofs.Nesting.{fork-found, fork-exists}
 use Rattle.table.proofs.Levels.{depends-step, depends-join, depends-root, depends-child, by-place}
 use Rattle.schedule.specs.Machine.{State, unborn, ended, nextOf, statusOf}
-use Rattle.schedule.specs.Sound.{numberOf, isDone, doneIn}
-use Rattle.schedule.proofs.Tables.Lawful.{Lawful}
-use Rattle.schedule.proofs.Sequences.Words.{never-false, or-exactly, eqb-same}
-use Rattle.schedule.proofs.Tables.Numbers.{number-child, number-rises, number-between}
+use Rattle.schedule.specs.Sound.{isDone, doneIn}
+use Rattle.order.specs.Order.{numberOf}
+use Rattle.order.proofs.Lawful.{Lawful}
+use Rattle.order.proofs.Words.{never-false, or-exactly, eqb-same}
+use Rattle.order.proofs.Numbers.{number-child, number-rises, number-between}
 use Rattle.schedule.proofs.Sound.Facts.{Done, Facts}
 
 -- ---- done or not, by the thread's next action

@@ -14,10 +14,11 @@ use Rattle.table.specs.Checks.{endOf, allocOf, freeOf}
 use Rattle.table.specs.Level.{forkBelow, dependsOn}
 use Rattle.schedule.specs.declared.Worker.{Worker}
 use Rattle.schedule.specs.Machine.{State, unborn, held, waiting, ended, nextOf, statusOf, workerOf, nobody}
-use Rattle.schedule.specs.Sound.{numberOf, isDone, holdsThread, sumDone, SoundState}
-use Rattle.schedule.proofs.Tables.Lawful.{Lawful}
+use Rattle.schedule.specs.Sound.{isDone, holdsThread, sumDone, SoundState}
+use Rattle.order.specs.Order.{numberOf}
+use Rattle.order.proofs.Lawful.{Lawful}
 use Rattle.schedule.proofs.Sound.Sharing.{Shared, shares-exactly}
-use Rattle.schedule.proofs.Sequences.Words.{not-both, never-true, allIn-exactly, One, Ascends}
+use Rattle.order.proofs.Words.{not-both, never-true, allIn-exactly, One, Ascends}
 use Rattle.schedule.proofs.Sound.Clauses.{nextInBody-exactly, inOrder-exactly, statusFollows-exactly, listFollows-exactly, inSerialOrder-exactly, waitsAtJoin-exactly}
 use Rattle.schedule.proofs.Sound.Clauses.{heldRight-exactly, unused-exactly, holdsThread-exactly, oneHolder-exactly, workerRight-exactly}
 

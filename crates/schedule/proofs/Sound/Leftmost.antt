@@ -13,14 +13,15 @@ use Rattle.table.proofs.Tests.{no-way}
 use Rattle.table.proofs.Bodies.{owner-below, join-below}
 use Rattle.table.proofs.Nesting.{fork-found, fork-exists}
 use Rattle.schedule.specs.Machine.{State, unborn, ready, held, waiting, ended, nextOf, statusOf}
-use Rattle.schedule.specs.Sound.{numberOf, isDone}
-use Rattle.schedule.proofs.Tables.Lawful.{Lawful}
+use Rattle.schedule.specs.Sound.{isDone}
+use Rattle.order.specs.Order.{numberOf}
+use Rattle.order.proofs.Lawful.{Lawful}
 use Rattle.schedule.proofs.Sound.Facts.{Done, Facts}
-use Rattle.schedule.proofs.Tables.Numbers.{number-rises, number-child, number-depends}
-use Rattle.schedule.proofs.Sequences.Words.{Ascends}
+use Rattle.order.proofs.Numbers.{number-rises, number-child, number-depends}
+use Rattle.order.proofs.Words.{Ascends}
 use Rattle.schedule.proofs.Sound.Done.{done-low, undone, done-ended, ended-all, number-first, next-below, owner-of-next}
-use Rattle.schedule.proofs.Bounds.Batches.{Enabled}
-use Rattle.schedule.proofs.Tables.Joins.{join-depends, by-joins}
+use Rattle.schedule.proofs.Bounds.Beyond.{Enabled}
+use Rattle.order.proofs.Joins.{join-depends, by-joins}
 
 -- of the five statuses, neither unborn nor waiting nor ended
 ready-or-held : (s : ℕ) → s ≤ ended → (s ≡ unborn → ⊥) → (s ≡ waiting → ⊥) → (s ≡ ended → ⊥) → (s ≡ ready) ⊎ (s ≡ held)

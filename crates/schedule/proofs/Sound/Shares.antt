@@ -19,11 +19,11 @@ use Rattle.table.proofs.Amounts.{whole-is}
 use Rattle.table.proofs.Peaks.{part-held}
 use Rattle.schedule.specs.Machine.{State, ended, nextOf, statusOf}
 use Rattle.schedule.specs.Sound.{progressIn, joinedIn, shareIn, balanceTo, isDone, ofDone, sumDone, progress, isJoined, share}
-use Rattle.schedule.proofs.Tables.Lawful.{Lawful}
+use Rattle.order.proofs.Lawful.{Lawful}
 use Rattle.schedule.proofs.Sound.Facts.{Facts}
 use Rattle.schedule.proofs.Sound.Done.{done-low, undone, done-ended, ended-all}
-use Rattle.schedule.proofs.Sequences.Totals.{sumTo-term, sumTo-add, sumTo-append, sumTo-front, sum-targets}
-use Rattle.schedule.proofs.Tables.Joins.{joins-one, join-depends}
+use Rattle.order.proofs.Totals.{sumTo-term, sumTo-add, sumTo-append, sumTo-front, sum-targets}
+use Rattle.order.proofs.Joins.{joins-one, join-depends}
 use Rattle.schedule.proofs.Sound.Balances.{balance-free}
 
 pick-add : (s : Bool) (x y : ℕ) → pick s x 0 + pick s y 0 ≡ pick s (x + y) 0

@@ -9,9 +9,9 @@ use lib.ListN.{length, getD}
 use lib.Seq.{ext-getD}
 use Rattle.table.specs.Format.{Table}
 use Rattle.table.specs.Checks.{maxThreads}
-use Rattle.schedule.specs.Firsts.{firsts}
+use Rattle.order.specs.Firsts.{firsts}
 use Rattle.schedule.specs.Sound.{shareIn, sharesIn}
-use Rattle.schedule.proofs.Sequences.Lists.{filled-at, filled-length, firsts-length, firsts-at, firsts-past}
+use Rattle.order.proofs.Lists.{filled-at, filled-length, firsts-length, firsts-at, firsts-past}
 
 pub record Shared (T : Table) (next status amounts : List ℕ) : Type 0 where
   pub size : length amounts ≡ 1024

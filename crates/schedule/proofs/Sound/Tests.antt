@@ -18,10 +18,11 @@ use Rattle.schedule.specs.declared.Run.{Run}
 use Rattle.schedule.specs.Machine.{nobody}
 use Rattle.schedule.specs.Links.{Links}
 use Rattle.schedule.specs.Record.{blank, bytesOf}
-use Rattle.schedule.specs.Sound.{allBelow, nextInBody, inOrder, statusFollows, listFollows, waitsAtJoin, oneHolder, workerRight, unused, sharesIn}
+use Rattle.schedule.specs.Sound.{nextInBody, inOrder, statusFollows, listFollows, waitsAtJoin, oneHolder, workerRight, unused, sharesIn}
+use Rattle.order.specs.Words.{allBelow}
 use Rattle.schedule.specs.Sound.{Common, Listed, Sound, common, listed, commonSound, sameLinks, sound}
 use Rattle.schedule.specs.Turn.{isNobody, isBlank}
-use Rattle.schedule.proofs.Sequences.Words.{and-of, or-exactly, eqb-exactly, leb-exactly, ltb-exactly, allBelow-exactly, sameList-exactly, isNothing-exactly}
+use Rattle.order.proofs.Words.{and-of, or-exactly, eqb-exactly, leb-exactly, ltb-exactly, allBelow-exactly, sameList-exactly, isNothing-exactly}
 use Rattle.schedule.proofs.Sound.Clauses.{nobody-exactly}
 
 pair : {A B : Type 0} → A → B → A × B

@@ -14,9 +14,8 @@ use Rattle.table.specs.declared.Found.the-variants.{Nothing, At}
 use Rattle.table.specs.declared.Refusal.{Refusal}
 use Rattle.table.proofs.Passes.{firstFound-append, passes-rules}
 use Rattle.schedule.specs.Begin.{beginPasses}
-use Rattle.schedule.specs.Firsts.{firsts}
-use Rattle.schedule.specs.Record.{filled}
-use Rattle.schedule.specs.Sound.{isNothing}
+use Rattle.order.specs.Firsts.{firsts}
+use Rattle.order.specs.Words.{filled, isNothing}
 use Rattle.soundness.specs.Code.Checks.{Accepted}
 use Rattle.soundness.specs.Tested.{parentsIn, parentsIf, nextIf, beginFound}
 use Rattle.soundness.proofs.accept_in.Statement.{statement}

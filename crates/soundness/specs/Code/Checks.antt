@@ -15,8 +15,10 @@ use Rattle.schedule.specs.declared.Worker.{Worker}
 use Rattle.schedule.specs.declared.Run.{Run}
 use Rattle.schedule.specs.Machine.{held, ended}
 use Rattle.schedule.specs.Links.{Links, listOf, laid}
-use Rattle.schedule.specs.Record.{maxWorkers, maxBytes, filled, bytesOf}
-use Rattle.schedule.specs.Sound.{allBelow, doneIn, nextInBody, inOrder, statusFollows, waitsAtJoin, unused, oneHolder, workerRight, numberOf, listed, sameLinks, sameList}
+use Rattle.schedule.specs.Record.{maxWorkers, maxBytes, bytesOf}
+use Rattle.order.specs.Words.{filled, allBelow, sameList}
+use Rattle.schedule.specs.Sound.{doneIn, nextInBody, inOrder, statusFollows, waitsAtJoin, unused, oneHolder, workerRight, listed, sameLinks}
+use Rattle.order.specs.Order.{numberOf}
 
 -- the bytes are an accepted table of n threads
 pub record Accepted (s : List ℕ) (n : ℕ) : Type 0 where

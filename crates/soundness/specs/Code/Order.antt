@@ -6,7 +6,7 @@ use lib.ListN.{length, getD}
 use Rattle.table.specs.Format.{fork, Table, kind}
 use Rattle.table.specs.Checks.{countsBelow, endOf}
 use Rattle.table.specs.Serial.{serial}
-use Rattle.schedule.specs.Sound.{numberOf}
+use Rattle.order.specs.Order.{numberOf}
 
 -- an action of thread t that is not its end
 pub record Inside (T : Table) (t a : ℕ) : Type 0 where

@@ -6,8 +6,8 @@ use mathlib.Core.List.{List, _++_, flatten}
 use lib.ListN.{length, drop, length-append}
 use Rattle.io.specs.Counts.{Counts}
 use Rattle.text.proofs.Placing.{counts}
-use Rattle.lines.specs.Puts.{Puts}
-use Rattle.lines.proofs.Putting.{puts-whole}
+use Rattle.text.specs.Puts.{Puts}
+use Rattle.text.proofs.Putting.{puts-whole}
 use borrow.Author.Needs.{needs}
 use Rattle.assembly.proofs.fault.message.Statement.{statement}
 use Rattle.assembly.proofs.fault.message.Tie as tie

@@ -1,7 +1,7 @@
 -- `assembly::fault::put_expected` meets its contract, by what was expected.
 use native.Mathlib.Omega.{arith}
 use Rattle.text.specs.Text.{ascii}
-use Rattle.lines.proofs.Putting.{puts-word, puts-within}
+use Rattle.text.proofs.Putting.{puts-word, puts-within}
 use Rattle.assembly.specs.Message.{expectedTexts}
 use borrow.Author.Needs.{needs}
 use Rattle.assembly.proofs.fault.put_expected.Statement.{statement}

@@ -2,7 +2,7 @@
 use native.Mathlib.Omega.{arith}
 use borrow.Author.Tests.{eq-eqb, ne-eqb}
 use Rattle.text.specs.Text.{ascii}
-use Rattle.lines.proofs.Putting.{puts-none, puts-labelled, puts-within}
+use Rattle.text.proofs.Putting.{puts-none, puts-labelled, puts-within}
 use borrow.Author.Needs.{needs}
 use Rattle.assembly.proofs.fault.put_line.Statement.{statement}
 use Rattle.assembly.proofs.fault.put_line.Tie as tie

@@ -1,7 +1,7 @@
 -- `assembly::fault::put_malformed` meets its contract: the line, and what was expected there.
 use native.Mathlib.Omega.{arith}
 use Rattle.text.specs.Text.{ascii, newline}
-use Rattle.lines.proofs.Putting.{puts-word, puts-labelled, puts-more, puts-within}
+use Rattle.text.proofs.Putting.{puts-word, puts-labelled, puts-more, puts-within}
 use Rattle.assembly.specs.Message.{messageTexts}
 use borrow.Author.Needs.{needs}
 use Rattle.assembly.proofs.fault.put_malformed.Statement.{statement}

@@ -1,7 +1,7 @@
 -- `assembly::fault::put_message` meets its contract, by the answer.
 use native.Mathlib.Omega.{arith}
 use Rattle.text.specs.Text.{ascii}
-use Rattle.lines.proofs.Putting.{puts-none, puts-word, puts-within}
+use Rattle.text.proofs.Putting.{puts-none, puts-word, puts-within}
 use Rattle.assembly.specs.Message.{messageTexts}
 use borrow.Author.Needs.{needs}
 use Rattle.assembly.proofs.fault.put_message.Statement.{statement}

@@ -1,7 +1,7 @@
 -- `assembly::fault::put_next` meets its contract: a word and a number of at most 20 digits.
 use native.Mathlib.Omega.{arith}
 use Rattle.text.specs.Text.{ascii}
-use Rattle.lines.proofs.Putting.{puts-labelled, puts-within}
+use Rattle.text.proofs.Putting.{puts-labelled, puts-within}
 use borrow.Author.Needs.{needs}
 use Rattle.assembly.proofs.fault.put_next.Statement.{statement}
 use Rattle.assembly.proofs.fault.put_next.Tie as tie

@@ -4,7 +4,7 @@ use Prim.Native.Nat.{ℕ, zero, suc, _≤_}
 use native.Mathlib.Omega.{arith}
 use Rattle.table.specs.Format.{unknown, kindOf}
 use Rattle.text.specs.Text.{ascii}
-use Rattle.lines.proofs.Putting.{puts-none, puts-word, puts-within}
+use Rattle.text.proofs.Putting.{puts-none, puts-word, puts-within}
 use Rattle.assembly.specs.Disassembly.{actionTexts}
 use borrow.Author.Needs.{needs}
 use Rattle.assembly.proofs.listing.put_action.Statement.{statement}

@@ -7,8 +7,8 @@ use mathlib.Core.List.{List}
 use lib.ListN.{length}
 use Rattle.table.specs.Format.{threadsOf, tableOf, codeAt, argumentAt, bodiesFrom, kindOf}
 use Rattle.table.proofs.Parts.{code-from, argument-from}
-use Rattle.lines.specs.Puts.{Puts}
-use Rattle.lines.proofs.Putting.{puts-none, puts-more, puts-within}
+use Rattle.text.specs.Puts.{Puts}
+use Rattle.text.proofs.Putting.{puts-none, puts-more, puts-within}
 use Rattle.assembly.specs.Disassembly.{actionTexts, bodyTexts}
 use borrow.Author.Needs.{needs}
 use Rattle.assembly.proofs.listing.put_body.Statement.{statement}

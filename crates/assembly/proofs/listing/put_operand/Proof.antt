@@ -2,7 +2,7 @@
 use native.Mathlib.Omega.{arith}
 use denote.Ref.{now}
 use Rattle.text.specs.Text.{newline}
-use Rattle.lines.proofs.Putting.{puts-word, puts-labelled, puts-more, puts-within}
+use Rattle.text.proofs.Putting.{puts-word, puts-labelled, puts-more, puts-within}
 use borrow.Author.Needs.{needs}
 use Rattle.assembly.proofs.listing.put_operand.Statement.{statement}
 use Rattle.assembly.proofs.listing.put_operand.Tie as tie

@@ -1,7 +1,7 @@
 -- `assembly::listing::put_thread` meets its contract: a word, a number of at most 4 digits, a newline.
 use native.Mathlib.Omega.{arith}
 use Rattle.text.specs.Text.{ascii, newline}
-use Rattle.lines.proofs.Putting.{puts-word, puts-labelled, puts-more, puts-within}
+use Rattle.text.proofs.Putting.{puts-word, puts-labelled, puts-more, puts-within}
 use borrow.Author.Needs.{needs}
 use Rattle.assembly.proofs.listing.put_thread.Statement.{statement}
 use Rattle.assembly.proofs.listing.put_thread.Tie as tie

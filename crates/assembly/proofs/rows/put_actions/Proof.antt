@@ -5,7 +5,7 @@ use mathlib.Core.Path.{_≡_, refl, sym, ap, _∙_}
 use mathlib.Core.List.{List, foldl-append}
 use lib.ListN.{length, drop}
 use Rattle.text.specs.Text.{Buffer, bufferAt, placedNext}
-use Rattle.lines.specs.Lines.{putAll}
+use Rattle.text.specs.Puts.{putAll}
 use Rattle.assembly.specs.Said.{saids}
 use Rattle.assembly.specs.Assembly.{actionRows, actionsIn}
 use Rattle.assembly.specs.Code.Steps.{Reads}

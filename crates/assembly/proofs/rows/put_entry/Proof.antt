@@ -3,7 +3,7 @@ use Prim.Native.Nat.{ℕ}
 use mathlib.Core.Path.{_≡_, ap, _∙_}
 use mathlib.Core.List.{List}
 use Rattle.text.specs.Text.{bufferAt, placed}
-use Rattle.lines.specs.Lines.{putAll}
+use Rattle.text.specs.Puts.{putAll}
 use Rattle.assembly.specs.Assembly.{bodyCount, pairRow, entryRows}
 use Rattle.assembly.specs.declared.Said.{Said}
 use Rattle.assembly.specs.declared.Said.the-variants.{Thread}

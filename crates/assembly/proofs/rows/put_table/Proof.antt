@@ -3,7 +3,7 @@ use Prim.Native.Nat.{ℕ}
 use mathlib.Core.Path.{_≡_, sym, ap, _∙_}
 use mathlib.Core.List.{List, _∷_, _++_, foldl-append}
 use Rattle.text.specs.Text.{Buffer, bufferAt, placed, placedNext}
-use Rattle.lines.specs.Lines.{putAll}
+use Rattle.text.specs.Puts.{putAll}
 use denote.Ref.{now}
 use Rattle.assembly.specs.Said.{saids}
 use Rattle.assembly.specs.Assembly.{pairRow, entriesFrom, actionsIn}

@@ -5,9 +5,9 @@ use mathlib.Core.List.{List}
 use native.Mathlib.Omega.{arith}
 use lib.ListN.{length, getD, set, replicate}
 use lib.Seq.{take-length}
-use Rattle.schedule.specs.Record.{filled}
-use Rattle.schedule.specs.Firsts.{firsts}
-use Rattle.schedule.proofs.Sequences.Lists.{firsts-take}
+use Rattle.order.specs.Words.{filled}
+use Rattle.order.specs.Firsts.{firsts}
+use Rattle.order.proofs.Lists.{firsts-take}
 use Rattle.soundness.proofs.Laying.{Laid, laid-more}
 use Rattle.asyncdf.proofs.beginning.copy.Statement.{statement}
 use Rattle.asyncdf.proofs.beginning.copy.Tie as tie

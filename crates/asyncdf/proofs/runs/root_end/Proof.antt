@@ -9,7 +9,7 @@ use Rattle.table.specs.Format.{tableOf}
 use Rattle.table.specs.Checks.{endOf}
 use Rattle.table.specs.Rules.{Rules}
 use Rattle.table.proofs.Bodies.{first-is, count-pos, after-end}
-use Rattle.schedule.proofs.Tables.Lawful.{Lawful, lawful}
+use Rattle.order.proofs.Lawful.{Lawful, lawful}
 use Rattle.asyncdf.proofs.runs.root_end.Statement.{statement}
 use Rattle.asyncdf.proofs.runs.root_end.Tie as tie
 

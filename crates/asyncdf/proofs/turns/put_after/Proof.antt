@@ -9,8 +9,8 @@ use denote.Ref.{now}
 use Rattle.text.specs.Text.{bufferAt}
 use Rattle.table.specs.Format.{tableOf}
 use Rattle.schedule.specs.Listing.{Line}
-use Rattle.lines.specs.Lines.{putAll, turnTexts}
-use Rattle.lines.specs.Puts.{Puts}
+use Rattle.lines.specs.Lines.{turnTexts}
+use Rattle.text.specs.Puts.{putAll, Puts}
 use Rattle.chart.specs.Chart.{Figures, figuresOf, lineTexts}
 use Rattle.cells.specs.Blocks.{wordsIn, sumsIn, memoryOf}
 use Rattle.asyncdf.specs.Code.Sheets.{lineIn, figuresIn, afterTexts, afterSize}

@@ -17,9 +17,9 @@ use Rattle.schedule.specs.declared.Turning.the-variants.{Taken as taken}
 use Rattle.schedule.specs.Record.{maxBytes, bytesOf}
 use Rattle.schedule.specs.Turn.{unsound, passedIn, turned}
 use Rattle.schedule.specs.Listing.{line, toldWith, actionIn, threadIn, lastWith}
-use Rattle.schedule.proofs.Sequences.Lists.{filled-front}
-use Rattle.lines.specs.Puts.{Puts}
-use Rattle.lines.proofs.Putting.{puts-within}
+use Rattle.order.proofs.Lists.{filled-front}
+use Rattle.text.specs.Puts.{Puts}
+use Rattle.text.proofs.Putting.{puts-within}
 use Rattle.chart.specs.Chart.{Figures, figures, lineText, mostTurns, tooMany}
 use Rattle.chart.proofs.Records.{wall-width, charted-written}
 use Rattle.chart.proofs.Records.{few as few-turns}

@@ -5,7 +5,7 @@ use mathlib.Core.List.{List}
 use mathlib.Core.Bool.{Bool}
 use borrow.Author.Needs.{needs}
 use Rattle.schedule.specs.Listing.{Last, lastWith}
-use Rattle.lines.specs.Puts.{Puts}
+use Rattle.text.specs.Puts.{Puts}
 use Rattle.asyncdf.specs.Code.Sheets.{overTexts}
 use Rattle.asyncdf.proofs.turns.put_end.Statement.{statement}
 use Rattle.asyncdf.proofs.turns.put_end.Tie as tie

@@ -6,8 +6,8 @@ use mathlib.Core.Bool.{Bool, true, false}
 use borrow.Author.Needs.{needs}
 use Rattle.schedule.specs.Listing.{Last, lastWith}
 use Rattle.lines.specs.Lines.{lastTexts}
-use Rattle.lines.specs.Puts.{Puts}
-use Rattle.lines.proofs.Putting.{puts-none}
+use Rattle.text.specs.Puts.{Puts}
+use Rattle.text.proofs.Putting.{puts-none}
 use Rattle.asyncdf.specs.Code.Sheets.{overTexts}
 use Rattle.asyncdf.proofs.turns.put_over.Statement.{statement}
 use Rattle.asyncdf.proofs.turns.put_over.Tie as tie

@@ -9,7 +9,7 @@ use Rattle.table.specs.Format.{threadsOf, tableOf, kindOf, codeAt, bodiesFrom}
 use Rattle.table.proofs.Parts.{code-from}
 use Rattle.schedule.specs.Listing.{Line, line, toldWith}
 use Rattle.lines.specs.Lines.{turnTexts}
-use Rattle.lines.specs.Puts.{Puts}
+use Rattle.text.specs.Puts.{Puts}
 use Rattle.cells.specs.Blocks.{wordsIn}
 use Rattle.asyncdf.proofs.turns.put_step.Statement.{statement}
 use Rattle.asyncdf.proofs.turns.put_step.Tie as tie

@@ -16,7 +16,7 @@ use Rattle.schedule.specs.Record.{bytesOf}
 use Rattle.schedule.specs.Sound.{Steady}
 use Rattle.schedule.specs.Turn.{unsound}
 use Rattle.schedule.specs.Listing.{lastWith}
-use Rattle.lines.specs.Puts.{Puts}
+use Rattle.text.specs.Puts.{Puts}
 use Rattle.soundness.proofs.Passed.{has-workers}
 use Rattle.cells.specs.Memory.{Memory, movedIn}
 use Rattle.cells.specs.Stands.{runIn}

@@ -10,7 +10,7 @@ use lib.Seq.{take-at, length-take-le}
 use Rattle.text.specs.Text.{decimal, bufferAt, placed, placedNext}
 use Rattle.text.proofs.Decimal.{decimal-length}
 use Rattle.text.proofs.Placing.{line-put}
-use Rattle.lines.specs.Lines.{putAll}
+use Rattle.text.specs.Puts.{putAll}
 use Rattle.chart.specs.Chart.{rightTexts}
 use Rattle.chart.proofs.Putting.{blanks-take}
 use Rattle.chart.proofs.line.put_right.Statement.{statement}

@@ -2,7 +2,7 @@
 use native.Mathlib.Omega.{arith}
 use Rattle.text.specs.Text.{ascii, newline}
 use Rattle.inputs.specs.Message.{malformedTexts}
-use Rattle.lines.proofs.Putting.{puts-word, puts-labelled, puts-more, puts-within}
+use Rattle.text.proofs.Putting.{puts-word, puts-labelled, puts-more, puts-within}
 use borrow.Author.Needs.{needs}
 use Rattle.inputs.proofs.fault.put_malformed.Statement.{statement}
 use Rattle.inputs.proofs.fault.put_malformed.Tie as tie

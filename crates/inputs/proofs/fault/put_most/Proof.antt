@@ -1,7 +1,7 @@
 -- `inputs::fault::put_most` meets its contract: no number has more than 20 digits.
 use native.Mathlib.Omega.{arith}
 use Rattle.text.specs.Text.{ascii}
-use Rattle.lines.proofs.Putting.{puts-labelled, puts-within}
+use Rattle.text.proofs.Putting.{puts-labelled, puts-within}
 use borrow.Author.Needs.{needs}
 use Rattle.inputs.proofs.fault.put_most.Statement.{statement}
 use Rattle.inputs.proofs.fault.put_most.Tie as tie

@@ -2,7 +2,7 @@
 use native.Mathlib.Omega.{arith}
 use Rattle.text.specs.Text.{ascii}
 use Rattle.inputs.specs.Message.{wantedTexts}
-use Rattle.lines.proofs.Putting.{puts-word, puts-within}
+use Rattle.text.proofs.Putting.{puts-word, puts-within}
 use borrow.Author.Needs.{needs}
 use Rattle.inputs.proofs.fault.put_wanted.Statement.{statement}
 use Rattle.inputs.proofs.fault.put_wanted.Tie as tie

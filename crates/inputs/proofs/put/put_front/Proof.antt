@@ -5,7 +5,7 @@ use mathlib.Core.Path.{_≡_, sym}
 use mathlib.Core.List.{List}
 use lib.ListN.{length, take}
 use lib.Seq.{length-take-le}
-use Rattle.lines.proofs.Putting.{puts-none, puts-within}
+use Rattle.text.proofs.Putting.{puts-none, puts-within}
 use Rattle.inputs.specs.Input.{frontTexts}
 use Rattle.inputs.specs.Code.Steps.{Room, heldBy}
 use Rattle.inputs.specs.declared.front.Front.{Front as Kept}

@@ -1,7 +1,7 @@
 -- `inputs::put::put_input` meets its contract: the front, and the table after it.
 use native.Mathlib.Omega.{arith}
 use denote.Ref.{now}
-use Rattle.lines.proofs.Putting.{puts-word, puts-more, puts-within}
+use Rattle.text.proofs.Putting.{puts-word, puts-more, puts-within}
 use borrow.Author.Needs.{needs}
 use Rattle.inputs.proofs.put.put_input.Statement.{statement}
 use Rattle.inputs.proofs.put.put_input.Tie as tie

@@ -2,7 +2,7 @@
 use native.Mathlib.Omega.{arith}
 use denote.Ref.{now}
 use lib.ListN.{length}
-use Rattle.lines.proofs.Putting.{puts-word, puts-more, puts-within}
+use Rattle.text.proofs.Putting.{puts-word, puts-more, puts-within}
 use Rattle.inputs.specs.Input.{bytesOf, frontTexts}
 use borrow.Author.Needs.{needs}
 use Rattle.inputs.proofs.put.put_turns.Statement.{statement}

@@ -3,7 +3,7 @@ use native.Mathlib.Omega.{arith}
 use borrow.Author.Needs.{needs}
 use Rattle.text.specs.Text.{newline}
 use Rattle.lines.specs.Lines.{heldWord}
-use Rattle.lines.proofs.Putting.{puts-word, puts-labelled, puts-more}
+use Rattle.text.proofs.Putting.{puts-word, puts-labelled, puts-more}
 use Rattle.listing.proofs.rounds.put_held.Statement.{statement}
 use Rattle.listing.proofs.rounds.put_held.Tie as tie
 

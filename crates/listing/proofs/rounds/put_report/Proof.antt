@@ -2,7 +2,7 @@
 use native.Mathlib.Omega.{arith}
 use borrow.Author.Needs.{needs}
 use Rattle.lines.specs.Lines.{reportTexts}
-use Rattle.lines.proofs.Putting.{puts-more, puts-within}
+use Rattle.text.proofs.Putting.{puts-more, puts-within}
 use Rattle.listing.proofs.rounds.put_report.Statement.{statement}
 use Rattle.listing.proofs.rounds.put_report.Tie as tie
 

@@ -2,7 +2,7 @@
 use native.Mathlib.Omega.{arith}
 use borrow.Author.Needs.{needs}
 use Rattle.listing.specs.Listing.{roundedTexts}
-use Rattle.lines.proofs.Putting.{puts-within}
+use Rattle.text.proofs.Putting.{puts-within}
 use Rattle.listing.proofs.rounds.put_rounds.Statement.{statement}
 use Rattle.listing.proofs.rounds.put_rounds.Tie as tie
 

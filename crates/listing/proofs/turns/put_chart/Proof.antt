@@ -1,7 +1,7 @@
 -- `listing::turns::put_chart` meets its contract: the beginning's refusal, or the chart of the run.
 use native.Mathlib.Omega.{arith}
 use borrow.Author.Needs.{needs}
-use Rattle.lines.proofs.Putting.{puts-within}
+use Rattle.text.proofs.Putting.{puts-within}
 use Rattle.chart.specs.Turns.{chartTurns}
 use Rattle.listing.specs.Listing.{walledBy}
 use Rattle.listing.proofs.turns.put_chart.Statement.{statement}

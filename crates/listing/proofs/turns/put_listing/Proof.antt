@@ -12,7 +12,7 @@ use Rattle.schedule.specs.Listing.{turnsBy, listTurns}
 use Rattle.schedule.proofs.Sound.Tests.{sound-exactly}
 use Rattle.schedule.proofs.Runs.Histories.{begin-sound}
 use Rattle.listing.specs.Listing.{listedBy}
-use Rattle.lines.proofs.Putting.{puts-more, puts-within}
+use Rattle.text.proofs.Putting.{puts-more, puts-within}
 use Rattle.listing.proofs.turns.put_listing.Statement.{statement}
 use Rattle.listing.proofs.turns.put_listing.Tie as tie
 

@@ -7,8 +7,8 @@ use borrow.Author.Needs.{needs}
 use lib.ListN.{set, replicate}
 use Rattle.table.specs.Format.{actionsOf, tableOf}
 use Rattle.table.proofs.Sizes.{Sizes}
-use Rattle.schedule.specs.Record.{filled}
-use Rattle.schedule.specs.Firsts.{firsts}
+use Rattle.order.specs.Words.{filled}
+use Rattle.order.specs.Firsts.{firsts}
 use Rattle.soundness.specs.Code.Checks.{Accepted}
 use Rattle.soundness.proofs.Laying.{Laid, laid-more, accepted-sizes}
 use Rattle.soundness.proofs.beginning.fill_next.Statement.{statement}

@@ -11,9 +11,10 @@ use lib.ListN.{length, getD}
 use lib.Dec.{eqb}
 use Rattle.schedule.specs.declared.Worker.{Worker}
 use Rattle.schedule.specs.Machine.{nobody}
-use Rattle.schedule.specs.Sound.{allBelow, workerRight}
+use Rattle.schedule.specs.Sound.{workerRight}
+use Rattle.order.specs.Words.{allBelow}
 use Rattle.schedule.specs.Turn.{isNobody}
-use Rattle.schedule.proofs.Sequences.Words.{not-both}
+use Rattle.order.proofs.Words.{not-both}
 use Rattle.schedule.proofs.Sound.Clauses.{nobody-exactly, workerRight-exactly}
 use Rattle.soundness.proofs.Every.{same-truth, all-cong}
 use Rattle.soundness.proofs.blank.all_free.Statement.{statement}

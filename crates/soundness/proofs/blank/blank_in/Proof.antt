@@ -10,7 +10,7 @@ use lib.Dec.{eqb}
 use Rattle.schedule.specs.declared.Worker.{Worker}
 use Rattle.schedule.specs.Machine.{nobody}
 use Rattle.schedule.specs.Links.{Links}
-use Rattle.schedule.specs.Sound.{allBelow, sameList}
+use Rattle.order.specs.Words.{allBelow, sameList}
 use Rattle.schedule.specs.Turn.{isNobody}
 use Rattle.soundness.specs.Code.Checks.{zeroArrays}
 use Rattle.soundness.specs.Tested.{blankOn}

@@ -6,8 +6,8 @@ use borrow.Author.Needs.{needs}
 use borrow.Author.Tests.{eq-eqb, ne-eqb}
 use lib.ListN.{length, take, replicate}
 use Rattle.schedule.specs.declared.Run.{Run}
-use Rattle.schedule.specs.Record.{filled, linksIn}
-use Rattle.schedule.specs.Sound.{sameList}
+use Rattle.schedule.specs.Record.{linksIn}
+use Rattle.order.specs.Words.{filled, sameList}
 use Rattle.schedule.specs.Turn.{isBlank}
 use Rattle.soundness.specs.Tested.{blankOn}
 use Rattle.soundness.proofs.Chains.{off, on, cut, pass}

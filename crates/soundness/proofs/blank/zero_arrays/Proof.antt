@@ -6,8 +6,7 @@ use mathlib.Core.Bool.{Bool}
 use borrow.Author.Needs.{needs}
 use denote.Ref.{now}
 use lib.ListN.{length, take, replicate}
-use Rattle.schedule.specs.Record.{filled}
-use Rattle.schedule.specs.Sound.{sameList}
+use Rattle.order.specs.Words.{filled, sameList}
 use Rattle.soundness.proofs.Chains.{off, on, cut, pass}
 use Rattle.soundness.proofs.Filled.{none-filled}
 use Rattle.soundness.proofs.blank.zero_arrays.Statement.{statement}

@@ -3,7 +3,7 @@ use native.Mathlib.Omega.{arith}
 use borrow.Author.Needs.{needs}
 use denote.Ref.{now}
 use Rattle.table.specs.Format.{tableOf}
-use Rattle.schedule.proofs.Tables.Lawful.{lawful}
+use Rattle.order.proofs.Lawful.{lawful}
 use Rattle.soundness.proofs.Lookups.{Body, body}
 use Rattle.soundness.proofs.bodies.end_of.Statement.{statement}
 use Rattle.soundness.proofs.bodies.end_of.Tie as tie

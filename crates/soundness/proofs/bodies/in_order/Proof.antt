@@ -5,8 +5,9 @@ use mathlib.Core.List.{List}
 use native.Mathlib.Omega.{arith}
 use denote.Ref.{now}
 use Rattle.table.specs.Format.{tableOf}
-use Rattle.schedule.specs.Sound.{allBelow, inOrder}
-use Rattle.schedule.proofs.Tables.Lawful.{lawful}
+use Rattle.schedule.specs.Sound.{inOrder}
+use Rattle.order.specs.Words.{allBelow}
+use Rattle.order.proofs.Lawful.{lawful}
 use Rattle.soundness.specs.Code.Checks.{Accepted, bodyInOrder}
 use Rattle.soundness.proofs.Every.{Passed, passed-none, passed-next, passed-stop, passed-all}
 use Rattle.soundness.proofs.Done.{by-bodies}

@@ -11,7 +11,7 @@ use lib.ListN.{getD}
 use Rattle.table.specs.Format.{tableOf}
 use Rattle.table.specs.Checks.{endOf}
 use Rattle.schedule.specs.Sound.{nextInBody}
-use Rattle.schedule.proofs.Tables.Lawful.{lawful}
+use Rattle.order.proofs.Lawful.{lawful}
 use Rattle.soundness.proofs.Lookups.{body}
 use Rattle.soundness.proofs.bodies.next_in_body.Statement.{statement}
 use Rattle.soundness.proofs.bodies.next_in_body.Tie as tie

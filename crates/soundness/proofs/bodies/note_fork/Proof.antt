@@ -9,7 +9,7 @@ use lib.ListN.{set}
 use Rattle.table.specs.Format.{tableOf}
 use Rattle.table.specs.Checks.{owner}
 use Rattle.table.proofs.Bodies.{owner-below, fork-below}
-use Rattle.schedule.proofs.Tables.Lawful.{Lawful}
+use Rattle.order.proofs.Lawful.{Lawful}
 use Rattle.soundness.specs.Code.Checks.{Accepted, Noted}
 use Rattle.soundness.proofs.Lookups.{accepted-lawful, code-read, argument-read, fork-code, no-fork}
 use Rattle.soundness.proofs.Noting.{noted-other, noted-fork}

@@ -13,8 +13,9 @@ use Rattle.table.specs.Format.{tableOf}
 use Rattle.table.specs.Checks.{endOf}
 use Rattle.table.specs.Rules.{Rules}
 use Rattle.schedule.specs.Machine.{unborn, ended}
-use Rattle.schedule.specs.Sound.{agree, statusFollows}
-use Rattle.schedule.proofs.Tables.Lawful.{lawful}
+use Rattle.schedule.specs.Sound.{statusFollows}
+use Rattle.order.specs.Words.{agree}
+use Rattle.order.proofs.Lawful.{lawful}
 use Rattle.schedule.specs.Parents.{Parents}
 use Rattle.soundness.specs.Code.Checks.{Forks, unbornIn, unbornAt}
 use Rattle.soundness.proofs.Lookups.{body}

@@ -11,7 +11,7 @@ use denote.Ref.{now}
 use lib.Dec.{leb}
 use Rattle.table.specs.Format.{tableOf}
 use Rattle.schedule.specs.Sound.{inOrder}
-use Rattle.schedule.proofs.Tables.Lawful.{Lawful}
+use Rattle.order.proofs.Lawful.{Lawful}
 use Rattle.schedule.specs.Parents.{Parents}
 use Rattle.soundness.specs.Code.Checks.{Accepted, Placed, Forks, doneTo, unbornIn, unbornAt, joinDone, bodyInOrder}
 use Rattle.soundness.proofs.Lookups.{Body, accepted-lawful, thread-below, accepted-body, placed}

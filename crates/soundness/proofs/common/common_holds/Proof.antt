@@ -15,7 +15,8 @@ use Rattle.table.proofs.Passes.{passes-rules}
 use Rattle.schedule.specs.declared.Worker.{Worker}
 use Rattle.schedule.specs.Record.{setOf}
 use Rattle.schedule.specs.Begin.{beginPasses}
-use Rattle.schedule.specs.Sound.{allBelow, nextInBody, inOrder, statusFollows, waitsAtJoin, unused, oneHolder, workerRight, heldRight, sharesIn, sameList, common, commonSound}
+use Rattle.schedule.specs.Sound.{nextInBody, inOrder, statusFollows, waitsAtJoin, unused, oneHolder, workerRight, heldRight, sharesIn, common, commonSound}
+use Rattle.order.specs.Words.{allBelow, sameList}
 use Rattle.soundness.specs.Code.Checks.{Accepted, threadsSound, holdersSound}
 use Rattle.soundness.proofs.Lookups.{few-threads}
 use Rattle.soundness.proofs.Chains.{off, on, cut, stop, pass, skip, first-of}

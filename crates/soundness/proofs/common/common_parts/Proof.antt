@@ -14,7 +14,8 @@ use Rattle.table.specs.declared.Refusal.{Refusal}
 use Rattle.table.specs.declared.Found.the-variants.{At}
 use Rattle.table.proofs.Passes.{passes-rules}
 use Rattle.schedule.specs.declared.Worker.{Worker}
-use Rattle.schedule.specs.Sound.{isNothing, commonSound}
+use Rattle.schedule.specs.Sound.{commonSound}
+use Rattle.order.specs.Words.{isNothing}
 use Rattle.soundness.specs.Code.Checks.{Accepted}
 use Rattle.soundness.specs.Tested.{parentsIn, parentsIf}
 use Rattle.soundness.proofs.Noting.{parents-right}

@@ -15,9 +15,10 @@ use lib.Seq.{getD-set-same, getD-set-other}
 use Rattle.table.specs.Sum.{pick, sumTo}
 use Rattle.schedule.specs.declared.Worker.{Worker}
 use Rattle.schedule.specs.Machine.{nobody}
-use Rattle.schedule.specs.Sound.{allBelow, countBelow, holdsThread, oneHolder}
-use Rattle.schedule.proofs.Sequences.CountBelow.{count-bound}
-use Rattle.schedule.proofs.Sequences.Lists.{getD-alike}
+use Rattle.schedule.specs.Sound.{holdsThread, oneHolder}
+use Rattle.order.specs.Words.{allBelow, countBelow}
+use Rattle.order.proofs.CountBelow.{count-bound}
+use Rattle.order.proofs.Lists.{getD-alike}
 use Rattle.soundness.specs.Code.Checks.{holdersWanted}
 use Rattle.soundness.proofs.Every.{all-cong}
 use Rattle.soundness.proofs.holders.one_holder_each.Statement.{statement}

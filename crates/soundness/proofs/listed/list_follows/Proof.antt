@@ -8,7 +8,8 @@ use borrow.Author.Tests.{not-true, not-false}
 use denote.Ref.{now}
 use lib.Dec.{ltb}
 use lib.ListN.{getD, take}
-use Rattle.schedule.specs.Sound.{allBelow, allIn, member, agree, liveIn, listFollows}
+use Rattle.schedule.specs.Sound.{liveIn, listFollows}
+use Rattle.order.specs.Words.{allBelow, allIn, member, agree}
 use Rattle.soundness.proofs.Every.{all-cong}
 use Rattle.soundness.proofs.listed.list_follows.Statement.{statement}
 use Rattle.soundness.proofs.listed.list_follows.Tie as tie

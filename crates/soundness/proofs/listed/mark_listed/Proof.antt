@@ -12,9 +12,9 @@ use lib.Dec.{ltb, eqb}
 use lib.ListN.{length, getD, take, set, replicate, length-set, length-replicate, length-take}
 use lib.Seq.{take-suc, getD-take, getD-set-same, getD-set-other}
 use Rattle.table.proofs.Tests.{no-way}
-use Rattle.schedule.specs.Sound.{allIn, member}
-use Rattle.schedule.proofs.Sequences.Lists.{getD-alike, getD-member}
-use Rattle.schedule.proofs.Sequences.Words.{and-exactly, allIn-exactly, never-true, not-both}
+use Rattle.order.specs.Words.{allIn, member}
+use Rattle.order.proofs.Lists.{getD-alike, getD-member}
+use Rattle.order.proofs.Words.{and-exactly, allIn-exactly, never-true, not-both}
 use Rattle.soundness.proofs.listed.mark_listed.Statement.{statement}
 use Rattle.soundness.proofs.listed.mark_listed.Tie as tie
 

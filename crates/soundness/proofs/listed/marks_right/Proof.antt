@@ -9,7 +9,8 @@ use denote.Ref.{now}
 use lib.Dec.{eqb}
 use lib.ListN.{getD}
 use Rattle.schedule.specs.Machine.{unborn, ended}
-use Rattle.schedule.specs.Sound.{agree, liveIn}
+use Rattle.schedule.specs.Sound.{liveIn}
+use Rattle.order.specs.Words.{agree}
 use Rattle.soundness.proofs.Every.{Passed, passed-none, passed-next, passed-stop, passed-all, beq-agree}
 use Rattle.soundness.proofs.listed.marks_right.Statement.{statement}
 use Rattle.soundness.proofs.listed.marks_right.Tie as tie

@@ -11,9 +11,10 @@ use lib.Dec.{ltb}
 use lib.ListN.{length, getD, take}
 use lib.Seq.{getD-take, length-take-le}
 use Rattle.table.specs.Format.{tableOf}
-use Rattle.schedule.specs.Sound.{allIn, rises, inSerialOrder}
-use Rattle.schedule.proofs.Sequences.Words.{allIn-exactly}
-use Rattle.schedule.proofs.Sequences.Lists.{getD-member}
+use Rattle.schedule.specs.Sound.{inSerialOrder}
+use Rattle.order.specs.Words.{allIn, rises}
+use Rattle.order.proofs.Words.{allIn-exactly}
+use Rattle.order.proofs.Lists.{getD-member}
 use Rattle.soundness.specs.Code.Checks.{Accepted, Numbers}
 use Rattle.soundness.proofs.Lookups.{few-threads}
 use Rattle.soundness.proofs.order.in_serial_order.Statement.{statement}

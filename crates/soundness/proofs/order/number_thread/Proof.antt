@@ -8,7 +8,7 @@ use denote.Ref.{now}
 use lib.ListN.{getD, set}
 use Rattle.table.specs.Format.{tableOf}
 use Rattle.table.specs.Checks.{owner, endOf}
-use Rattle.schedule.proofs.Tables.Lawful.{Lawful}
+use Rattle.order.proofs.Lawful.{Lawful}
 use Rattle.soundness.specs.Code.Checks.{Accepted, Placed}
 use Rattle.soundness.specs.Code.Order.{NumbersTo, Numbering}
 use Rattle.soundness.proofs.Lookups.{Body, accepted-lawful, thread-below, accepted-body, placed}

@@ -8,7 +8,7 @@ use denote.Ref.{now}
 use lib.ListN.{getD, set}
 use Rattle.table.specs.Format.{fork, kind, tableOf}
 use Rattle.table.specs.Checks.{owner, endOf}
-use Rattle.schedule.proofs.Tables.Lawful.{Lawful}
+use Rattle.order.proofs.Lawful.{Lawful}
 use Rattle.soundness.specs.Code.Checks.{Accepted}
 use Rattle.soundness.specs.Code.Order.{Inside, NumbersTo}
 use Rattle.soundness.proofs.Lookups.{accepted-lawful, code-read, argument-read, fork-code, not-fork}

@@ -10,7 +10,7 @@ use denote.Ref.{now}
 use lib.Dec.{ltb}
 use lib.ListN.{length, getD, take, drop}
 use lib.Seq.{drop-cons, drop-nil, getD-take, length-take-le}
-use Rattle.schedule.specs.Sound.{rises}
+use Rattle.order.specs.Words.{rises}
 use Rattle.soundness.proofs.order.rising.Statement.{statement}
 use Rattle.soundness.proofs.order.rising.Tie as tie
 

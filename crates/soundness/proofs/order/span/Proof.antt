@@ -9,7 +9,7 @@ use lib.ListN.{length, getD}
 use Rattle.table.specs.Format.{fork, kind, tableOf}
 use Rattle.table.specs.Checks.{owner}
 use Rattle.table.specs.Serial.{serial}
-use Rattle.schedule.proofs.Tables.Lawful.{Lawful}
+use Rattle.order.proofs.Lawful.{Lawful}
 use Rattle.soundness.specs.Code.Checks.{Accepted, Lengths}
 use Rattle.soundness.specs.Code.Order.{Inside}
 use Rattle.soundness.proofs.Lookups.{accepted-lawful, code-read, argument-read, fork-code, not-fork}

@@ -11,7 +11,7 @@ use Rattle.table.specs.Checks.{owner, endOf}
 use Rattle.table.specs.Serial.{serial}
 use Rattle.table.specs.Sum.{Read}
 use Rattle.table.proofs.Bodies.{first-within}
-use Rattle.schedule.proofs.Tables.Lawful.{Lawful}
+use Rattle.order.proofs.Lawful.{Lawful}
 use Rattle.soundness.specs.Code.Checks.{Accepted, Lengths}
 use Rattle.soundness.specs.Code.Order.{Inside}
 use Rattle.soundness.proofs.Lookups.{accepted-lawful, thread-below, accepted-body}

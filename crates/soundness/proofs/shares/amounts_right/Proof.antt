@@ -5,7 +5,8 @@ use mathlib.Core.List.{List}
 use denote.Ref.{now}
 use lib.ListN.{length}
 use Rattle.table.specs.Format.{tableOf}
-use Rattle.schedule.specs.Sound.{sharesIn, sameList}
+use Rattle.schedule.specs.Sound.{sharesIn}
+use Rattle.order.specs.Words.{sameList}
 use Rattle.schedule.proofs.Sound.Sharing.{shares-size}
 use Rattle.soundness.specs.Code.Checks.{Accepted}
 use Rattle.soundness.proofs.Lookups.{accepted-lawful}

@@ -10,7 +10,7 @@ use lib.ListN.{set}
 use Rattle.table.specs.Format.{tableOf}
 use Rattle.table.proofs.Bodies.{join-below}
 use Rattle.schedule.specs.Sound.{doneIn}
-use Rattle.schedule.proofs.Tables.Lawful.{Lawful}
+use Rattle.order.proofs.Lawful.{Lawful}
 use Rattle.soundness.specs.Code.Checks.{Accepted}
 use Rattle.soundness.specs.Code.Balancing.{Cleared}
 use Rattle.soundness.proofs.Lookups.{accepted-lawful, code-read, argument-read, join-code, not-join}

@@ -10,8 +10,8 @@ use lib.ListN.{length, take, length-take}
 use lib.Seq.{length-take-le}
 use lib.Dec.{eqb}
 use Rattle.schedule.specs.declared.Run.{Run}
-use Rattle.schedule.specs.Record.{filled, bytesOf}
-use Rattle.schedule.specs.Sound.{sameList}
+use Rattle.schedule.specs.Record.{bytesOf}
+use Rattle.order.specs.Words.{filled, sameList}
 use Rattle.soundness.specs.Code.Checks.{copySound}
 use Rattle.soundness.proofs.Chains.{cut, pass, never}
 use borrow.Author.Needs.{needs}

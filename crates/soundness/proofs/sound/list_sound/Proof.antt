@@ -7,7 +7,8 @@ use denote.Ref.{now}
 use lib.ListN.{take}
 use lib.Dec.{ltb}
 use Rattle.table.specs.Format.{Table}
-use Rattle.schedule.specs.Sound.{allBelow, allIn, listFollows, inSerialOrder, listed}
+use Rattle.schedule.specs.Sound.{listFollows, inSerialOrder, listed}
+use Rattle.order.specs.Words.{allBelow, allIn}
 use Rattle.soundness.proofs.Lookups.{few-threads}
 use Rattle.soundness.proofs.Chains.{off, on, cut, pass, second-of}
 use Rattle.soundness.proofs.sound.list_sound.Statement.{statement}

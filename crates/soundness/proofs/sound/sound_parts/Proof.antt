@@ -15,8 +15,9 @@ use Rattle.table.proofs.Passes.{passes-rules}
 use Rattle.schedule.specs.declared.Worker.{Worker}
 use Rattle.schedule.specs.Links.{Links, listOf, laid}
 use Rattle.schedule.specs.Begin.{beginPasses}
-use Rattle.schedule.specs.Sound.{Common, isNothing, nextInBody, commonSound, listed, sameLinks}
-use Rattle.schedule.proofs.Sequences.Words.{allBelow-exactly, isNothing-exactly}
+use Rattle.schedule.specs.Sound.{Common, nextInBody, commonSound, listed, sameLinks}
+use Rattle.order.specs.Words.{isNothing}
+use Rattle.order.proofs.Words.{allBelow-exactly, isNothing-exactly}
 use Rattle.schedule.proofs.Sound.Tests.{common-exactly}
 use Rattle.soundness.specs.Code.Checks.{Accepted, Placed, linksSound}
 use Rattle.soundness.specs.Tested.{parentsIn, parentsIf, soundOn}

@@ -1,0 +1,22 @@
+-- the rule with b, batches, what they draw
+pub mod Ages
+pub mod KeepsTest
+pub mod Enables
+pub mod Counting
+pub mod Batches
+pub mod Draws
+pub mod RowBounds
+pub mod Listed
+pub mod Bound
+pub mod FrontParts
+-- a cost that covers the allocs of a filled-out table (N6): K at the first action of a dummy
+pub mod Dummies
+pub mod Covers
+-- how many turns at most (N8)
+pub mod Potential
+pub mod Lowers
+pub mod Finishing
+-- the statements that a reader is sent to
+pub mod Limit
+pub mod ThreadLimit
+pub mod Most
