@@ -19,7 +19,7 @@ mod bodies;
 mod common;
 mod holders;
 mod listed;
-mod order;
+mod numbers;
 mod shares;
 mod sound;
 mod unused;

@@ -2,7 +2,7 @@
 use crate::Tested;
 use crate::common::test_common;
 use crate::listed::list_follows;
-use crate::order::in_serial_order;
+use crate::numbers::in_serial_order;
 use crate::unused::bytes_rest;
 use schedule::Run;
 use schedule::Worker;

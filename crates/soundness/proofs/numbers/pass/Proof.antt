@@ -1,4 +1,4 @@
--- `soundness::order::pass` meets its contract: after an action that forks nothing the number is one more; a fork leaves a place for each action of the child.
+-- `soundness::numbers::pass` meets its contract: after an action that forks nothing the number is one more; a fork leaves a place for each action of the child.
 use mathlib.Core.Path.{_≡_}
 use Prim.Native.Nat.{ℕ, _+_, _≤_, _<_}
 use mathlib.Core.List.{List}
@@ -14,8 +14,8 @@ use Rattle.soundness.specs.Code.Order.{Inside, NumbersTo}
 use Rattle.soundness.proofs.Lookups.{accepted-lawful, code-read, argument-read, fork-code, not-fork}
 use Rattle.soundness.proofs.Spans.{inside-within, inside-fork, child-small}
 use Rattle.soundness.proofs.Marks.{numbers-inside, numbers-small, numbers-step, numbers-fork}
-use Rattle.soundness.proofs.order.pass.Statement.{statement}
-use Rattle.soundness.proofs.order.pass.Tie as tie
+use Rattle.soundness.proofs.numbers.pass.Statement.{statement}
+use Rattle.soundness.proofs.numbers.pass.Tie as tie
 
 -- what holds at a fork of thread x
 record Forked (s : List ℕ) (a number x : ℕ) (numbers : List ℕ) : Type 0 where

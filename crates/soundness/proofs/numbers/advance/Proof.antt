@@ -1,4 +1,4 @@
--- `soundness::order::advance` meets its contract. The invariant: the walk has come to action a, which is at most `to`.
+-- `soundness::numbers::advance` meets its contract. The invariant: the walk has come to action a, which is at most `to`.
 use Prim.Native.Nat.{ℕ, _+_, _-_, _≤_, _<_}
 use mathlib.Core.Path.{_≡_}
 use mathlib.Core.List.{List}
@@ -10,8 +10,8 @@ use Rattle.soundness.specs.Code.Checks.{Accepted}
 use Rattle.soundness.specs.Code.Order.{NumbersTo}
 use Rattle.soundness.proofs.Lookups.{accepted-lawful}
 use Rattle.soundness.proofs.Marks.{numbers-owner, numbers-here, numbers-on}
-use Rattle.soundness.proofs.order.advance.Statement.{statement}
-use Rattle.soundness.proofs.order.advance.Tie as tie
+use Rattle.soundness.proofs.numbers.advance.Statement.{statement}
+use Rattle.soundness.proofs.numbers.advance.Tie as tie
 
 record Inv (s : List ℕ) (t to a number : ℕ) (before numbers : List ℕ) : Type 0 where
   within : a ≤ to

@@ -1,4 +1,4 @@
--- `soundness::order::fill_numbers` meets its contract. The invariant: the walk has come to thread t, whose body begins at `first`.
+-- `soundness::numbers::fill_numbers` meets its contract. The invariant: the walk has come to thread t, whose body begins at `first`.
 use Prim.Native.Nat.{_-_}
 use native.Mathlib.Omega.{arith}
 use borrow.Author.Needs.{needs}
@@ -7,8 +7,8 @@ use Rattle.table.specs.Format.{tableOf}
 use Rattle.soundness.specs.Code.Order.{Numbering}
 use Rattle.soundness.proofs.Lookups.{accepted-lawful}
 use Rattle.soundness.proofs.Marks.{numbering-starts, numbering-ends}
-use Rattle.soundness.proofs.order.fill_numbers.Statement.{statement}
-use Rattle.soundness.proofs.order.fill_numbers.Tie as tie
+use Rattle.soundness.proofs.numbers.fill_numbers.Statement.{statement}
+use Rattle.soundness.proofs.numbers.fill_numbers.Tie as tie
 
 abbrev Inv-loop : tie.InvT-loop
 Inv-loop table n next numbers₀ first₀ t₀ numbers first t = Numbering (tableOf table) next t first numbers

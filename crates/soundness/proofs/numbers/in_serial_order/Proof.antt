@@ -1,4 +1,4 @@
--- `soundness::order::in_serial_order` meets its contract: along the list the array's numbers are those of the next actions, since all its threads are below n.
+-- `soundness::numbers::in_serial_order` meets its contract: along the list the array's numbers are those of the next actions, since all its threads are below n.
 use mathlib.Core.Path.{_≡_, refl, _∙_}
 use Prim.Native.Nat.{ℕ, _≤_, _<_}
 use mathlib.Core.List.{List, [], _∷_, List·Memᴰ, List·Memᴰ·head, List·Memᴰ·tail}
@@ -17,8 +17,8 @@ use Rattle.order.proofs.Words.{allIn-exactly}
 use Rattle.order.proofs.Lists.{getD-member}
 use Rattle.soundness.specs.Code.Checks.{Accepted, Numbers}
 use Rattle.soundness.proofs.Lookups.{few-threads}
-use Rattle.soundness.proofs.order.in_serial_order.Statement.{statement}
-use Rattle.soundness.proofs.order.in_serial_order.Tie as tie
+use Rattle.soundness.proofs.numbers.in_serial_order.Statement.{statement}
+use Rattle.soundness.proofs.numbers.in_serial_order.Tie as tie
 
 -- two functions that agree on a list rise alike along it
 rises-same : (f g : ℕ → ℕ) (l : List ℕ) → ((x : ℕ) → List·Memᴰ x l → f x ≡ g x) → rises f l ≡ rises g l

@@ -1,4 +1,4 @@
--- `soundness::order::rising` meets its contract. The invariant: the numbers rise along the whole list if they do from place i on.
+-- `soundness::numbers::rising` meets its contract. The invariant: the numbers rise along the whole list if they do from place i on.
 use mathlib.Core.Path.{_≡_, refl, sym, _∙_}
 use Prim.Native.Nat.{ℕ, zero, suc, _+_, _-_, _≤_, _<_}
 use mathlib.Core.List.{List, [], _∷_}
@@ -11,8 +11,8 @@ use lib.Dec.{ltb}
 use lib.ListN.{length, getD, take, drop}
 use lib.Seq.{drop-cons, drop-nil, getD-take, length-take-le}
 use Rattle.order.specs.Words.{rises}
-use Rattle.soundness.proofs.order.rising.Statement.{statement}
-use Rattle.soundness.proofs.order.rising.Tie as tie
+use Rattle.soundness.proofs.numbers.rising.Statement.{statement}
+use Rattle.soundness.proofs.numbers.rising.Tie as tie
 
 -- ---- rising from a place on
 

@@ -1,4 +1,4 @@
--- `soundness::order::span` meets its contract: an action comes alone, or with the child that it forks, whose thread is above its own.
+-- `soundness::numbers::span` meets its contract: an action comes alone, or with the child that it forks, whose thread is above its own.
 use mathlib.Core.Path.{_≡_}
 use Prim.Native.Nat.{ℕ, _+_, _≤_, _<_}
 use mathlib.Core.List.{List}
@@ -14,8 +14,8 @@ use Rattle.soundness.specs.Code.Checks.{Accepted, Lengths}
 use Rattle.soundness.specs.Code.Order.{Inside}
 use Rattle.soundness.proofs.Lookups.{accepted-lawful, code-read, argument-read, fork-code, not-fork}
 use Rattle.soundness.proofs.Spans.{inside-fork, span-step, span-fork, child-small}
-use Rattle.soundness.proofs.order.span.Statement.{statement}
-use Rattle.soundness.proofs.order.span.Tie as tie
+use Rattle.soundness.proofs.numbers.span.Statement.{statement}
+use Rattle.soundness.proofs.numbers.span.Tie as tie
 
 -- what holds at a fork of thread x
 record Forked (s : List ℕ) (a x : ℕ) (lengths : List ℕ) : Type 0 where

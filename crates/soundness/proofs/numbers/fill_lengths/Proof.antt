@@ -1,4 +1,4 @@
--- `soundness::order::fill_lengths` meets its contract. The invariant: the array has the lengths of the threads from t on.
+-- `soundness::numbers::fill_lengths` meets its contract. The invariant: the array has the lengths of the threads from t on.
 use mathlib.Core.Path.{_≡_, _∙_}
 use Prim.Native.Nat.{ℕ, _+_, _-_, _≤_, _<_}
 use mathlib.Core.List.{List}
@@ -11,8 +11,8 @@ use Rattle.table.specs.Format.{Table, tableOf}
 use Rattle.table.specs.Serial.{serial}
 use Rattle.soundness.specs.Code.Checks.{Accepted, Lengths}
 use Rattle.soundness.proofs.Lookups.{few-threads}
-use Rattle.soundness.proofs.order.fill_lengths.Statement.{statement}
-use Rattle.soundness.proofs.order.fill_lengths.Tie as tie
+use Rattle.soundness.proofs.numbers.fill_lengths.Statement.{statement}
+use Rattle.soundness.proofs.numbers.fill_lengths.Tie as tie
 
 record Inv (T : Table) (n : ℕ) (lengths : List ℕ) (t : ℕ) : Type 0 where
   few : n ≤ 1024

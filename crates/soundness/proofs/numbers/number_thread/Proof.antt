@@ -1,4 +1,4 @@
--- `soundness::order::number_thread` meets its contract: one walk from the thread's first action to its next one, and one from there to its end.
+-- `soundness::numbers::number_thread` meets its contract: one walk from the thread's first action to its next one, and one from there to its end.
 use mathlib.Core.Path.{_≡_}
 use Prim.Native.Nat.{ℕ, _+_, _-_, _≤_, _<_}
 use mathlib.Core.List.{List}
@@ -13,8 +13,8 @@ use Rattle.soundness.specs.Code.Checks.{Accepted, Placed}
 use Rattle.soundness.specs.Code.Order.{NumbersTo, Numbering}
 use Rattle.soundness.proofs.Lookups.{Body, accepted-lawful, thread-below, accepted-body, placed}
 use Rattle.soundness.proofs.Marks.{numbers-owner, numbers-small, numbers-stored, numbering-first, numbering-numbered, numbering-next}
-use Rattle.soundness.proofs.order.number_thread.Statement.{statement}
-use Rattle.soundness.proofs.order.number_thread.Tie as tie
+use Rattle.soundness.proofs.numbers.number_thread.Statement.{statement}
+use Rattle.soundness.proofs.numbers.number_thread.Tie as tie
 
 -- where the thread's body and its next action lie, and how its walk begins
 record Ready (s : List ℕ) (n t first : ℕ) (next numbers : List ℕ) : Type 0 where

@@ -1,4 +1,4 @@
--- `soundness::order::thread_length` meets its contract. The invariant: what is counted and what is left from action a on are one more than the whole thread.
+-- `soundness::numbers::thread_length` meets its contract. The invariant: what is counted and what is left from action a on are one more than the whole thread.
 use mathlib.Core.Path.{_≡_}
 use Prim.Native.Nat.{ℕ, _+_, _-_, _≤_, _<_}
 use mathlib.Core.List.{List}
@@ -16,8 +16,8 @@ use Rattle.soundness.specs.Code.Checks.{Accepted, Lengths}
 use Rattle.soundness.specs.Code.Order.{Inside}
 use Rattle.soundness.proofs.Lookups.{accepted-lawful, thread-below, accepted-body}
 use Rattle.soundness.proofs.Spans.{inside-owner, end-length, length-small}
-use Rattle.soundness.proofs.order.thread_length.Statement.{statement}
-use Rattle.soundness.proofs.order.thread_length.Tie as tie
+use Rattle.soundness.proofs.numbers.thread_length.Statement.{statement}
+use Rattle.soundness.proofs.numbers.thread_length.Tie as tie
 
 record Inv (s : List ℕ) (t last total a : ℕ) : Type 0 where
   below : t < tableOf s .threads
