@@ -1,6 +1,6 @@
 -- Assembling what was disassembled gives the table back, for every accepted table.
-use Prim.Native.Nat.{ℕ, zero, suc, _+_, _-_, _*_, _≤_, _<_}
-use native.Mathlib.Nat.{add-assoc}
+use Prim.Native.Nat.{ℕ, zero, suc, _+_, _-_, _*_, _%_, _≤_, _<_}
+use native.Mathlib.Nat.{add-assoc, mod-eq-of-lt}
 use native.Mathlib.Omega.{arith}
 use mathlib.Core.Path.{_≡_, refl, sym, ap, _∙_}
 use mathlib.Core.List.{List, [], _∷_, _++_, append-nil, flatten}
@@ -73,7 +73,13 @@ module _ (s : List ℕ) (bytes : Bytes s) (z : Shape s) where
   -- the table's fields by the bytes
   argument-in : (a : ℕ) → u24At s (4 + 4 * n + 4 * a + 1) ≡ T .argument a
   unfolding tableOf
-  argument-in a = simp (getD-drop, add-assoc)
+  argument-in a =
+      let i : ℕ = 4 + 4 * n + 4 * a + 1 in
+      let small : u24At s i < 16777216 = omega (arith, bytes i, bytes (i + 1), bytes (i + 2)) in
+      sym (mod-eq-of-lt small) ∙ cut a
+    where
+      cut : (a : ℕ) → u24At s (4 + 4 * n + 4 * a + 1) % 16777216 ≡ T .argument a
+      cut a = simp (getD-drop, add-assoc)
 
   argument-small : (a : ℕ) → T .argument a < noNumber
   argument-small a =

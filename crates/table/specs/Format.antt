@@ -1,5 +1,5 @@
 -- The byte format of a job table (document 01, "The job table"), read as functions of thread and action numbers.
-use Prim.Native.Nat.{ℕ, zero, suc, _+_, _*_}
+use Prim.Native.Nat.{ℕ, zero, suc, _+_, _*_, _%_}
 use mathlib.Core.List.{List}
 use mathlib.Core.Bool.{Bool}
 use lib.ListN.{getD, drop}
@@ -86,7 +86,7 @@ abbrev pub codeAt : List ℕ → ℕ → ℕ
 codeAt l a = getD l (4 * a) 0
 
 abbrev pub argumentAt : List ℕ → ℕ → ℕ
-argumentAt l a = u24At l (4 * a + 1)
+argumentAt l a = u24At l (4 * a + 1) % 16777216
 
 -- "A thread's body is handled as the part of the action list where it begins."
 abbrev pub bodyOf : List ℕ → ℕ → List ℕ
