@@ -5,4 +5,3 @@ pub mod Along
 pub mod Calls
 pub mod Ordered
 pub mod Hindrances
-pub mod Promised

@@ -1,6 +1,6 @@
--- The limits for the running code. A history is a list of calls, each on the record that the last one left, of which nothing is known but what the promises of the public functions say:
+-- The limits for the running code, by value. A history is a list of calls, each on the record that the last one left, of which nothing is known but what the promises of the public functions say:
 -- their own `ensures`, as the check reads it (`Learnt`), of the arguments and the answer. `history-is`: the record, the answers and the row of turns are those of the definitions.
--- `history-exists`: every list of calls has one. `code-limit` and `code-threads`: and so the memory limit and the limit on the threads in the list (crates/schedule/proofs, Limit and
+-- `history-exists`: every list of calls has one. `code-limit` and `code-threads`: and so the memory limit and the limit on the threads in the list (crates/bounds/proofs, Limit and
 -- ThreadLimit) hold of them.
 use mathlib.Core.Path.{_≡_, refl, sym, ap, ap₂, subst, _∙_}
 use Prim.Native.Nat.{ℕ, _%_, _≤_}
