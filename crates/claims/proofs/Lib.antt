@@ -1,8 +1,12 @@
--- What a visitor is sent to: by value (ByValue) and from C (FromC) both limits hold of every history of calls, from the functions' own promises; a quota that is given serves (Board).
+-- What a visitor is sent to, each from the functions' own promises: by value (ByValue) and from C (FromC, and from an opening on: Opened) a history of calls is document 01's, and both limits
+-- hold of it; a quota that is given serves (Board).
 pub mod ByValue
 pub mod FromC
+pub mod Opened
 pub mod Board
--- what FromC rests on: lists of calls on lent memory are those on the record (LentLimit), and what stands in blocks (Shaped, Sizes)
+-- what they rest on: what the promises from C say (LentSays), lists of calls on lent memory are those on the record (LentLimit, Blank), and what stands in blocks (Shaped, Sizes)
+pub mod LentSays
 pub mod LentLimit
+pub mod Blank
 pub mod Shaped
 pub mod Sizes
