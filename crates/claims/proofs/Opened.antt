@@ -11,17 +11,23 @@ use borrow.Author.Tests.{eqb-true}
 use lib.Dec.{eqb, ltb}
 use lib.ListN.{getD, replicate}
 use Rattle.table.specs.Sum.{pick}
-use Rattle.table.specs.Pass.{tryAt}
+use Rattle.table.specs.Pass.{refusal, tryAt}
 use Rattle.schedule.specs.declared.Run.{Run}
 use Rattle.schedule.specs.declared.Worker.{Worker}
+use Rattle.schedule.specs.declared.Turned.{Turned}
+use Rattle.schedule.specs.declared.Ran.{Ran}
+use Rattle.schedule.specs.declared.Report.the-variants.{Refused}
 use Rattle.schedule.specs.Machine.{nobody}
 use Rattle.schedule.specs.Record.{blank}
 use Rattle.schedule.specs.Turn.{unsound, rootEnded, noWorker, turnChecks}
 use Rattle.schedule.specs.Values.{turnValues}
 use Rattle.schedule.specs.Shown.{previewValues}
-use Rattle.schedule.specs.Calls.{afterCalls, rowOfCalls}
+use Rattle.schedule.specs.Runs.{ran, listRun, roundsRun}
+use Rattle.schedule.specs.Answers.{turningValues, reportValues}
+use Rattle.schedule.specs.Calls.{Call, turn, overList, inRounds, afterCall, afterCalls, rowOfCalls}
 use Rattle.order.proofs.Words.{allBelow-exactly}
 use Rattle.soundness.proofs.Chains.{never}
+use Rattle.array_machine.proofs.Answers.{turned-unsound}
 use Rattle.run_memory.specs.Memory.{Memory, Answer}
 use Rattle.run_memory.specs.Stands.{truths, runIn}
 use Rattle.run_memory.proofs.Refines.{own-worker}
@@ -30,7 +36,7 @@ use Rattle.wivakkol.specs.Preview.{lentPreview, shownAs}
 use Rattle.wivakkol.proofs.Opens.{tested-same, open-record, open-blank, stands-worked}
 use Rattle.wivakkol.proofs.PreviewRefines.{preview-refines}
 use Rattle.claims.specs.LentCalls.{LentCall, opening, Returned, lentCall, lentAfter, lentReturned, lentRow, movesOf}
-use Rattle.claims.specs.Answers.{returnedBy}
+use Rattle.claims.specs.Answers.{answerOf, inNumbers, returnedBy}
 use Rattle.claims.specs.Records.{recordIn}
 use Rattle.claims.proofs.Shaped.{Shaped}
 use Rattle.claims.proofs.Sizes.{call-shaped}
@@ -49,6 +55,8 @@ pub record OpenAnswers (s : List ℕ) (M : Memory) (number : ℕ) : Type 0 where
   pub tested : truths (M .holds) ≡ true → number ≡ pick (unsound (recordIn s M)) 32 0
   -- and so it is 32 exactly where document 01's turn on the record is refused with 32, whoever's turn it is
   pub as-a-turn : truths (M .holds) ≡ true → (w : ℕ) → (number ≡ 32) ↔ (turnValues (recordIn s M) w .number ≡ 32)
+  -- where it is 32, every call of document 01 on the record is refused with 32 and leaves it alone
+  pub as-a-call : truths (M .holds) ≡ true → number ≡ 32 → (c : Call) → (inNumbers (answerOf c (recordIn s M)) .number ≡ 32) × (afterCall c (recordIn s M) ≡ recordIn s M)
 
 -- a turn is refused with 32 exactly where check 32 applies
 pub turn-tested : (r : Run) (w : ℕ) → (_≡_ {A = ℕ} (pick (unsound r) 32 0) 32) ↔ (turnValues r w .number ≡ 32)
@@ -63,6 +71,28 @@ turn-tested r w = go (unsound r) refl (noWorker r w) refl (rootEnded r) refl
     go false e true f z g = rw (e, f) (neither (λ i. omega (arith, i)) (λ i. omega (arith, i)))
     go false e false f true g = rw (e, f, g) (neither (λ i. omega (arith, i)) (λ i. omega (arith, i)))
     go false e false f false g = rw (e, f, g) (neither (λ i. omega (arith, i)) (λ i. omega (arith, i)))
+
+check-applies : (x : Bool) → _≡_ {A = ℕ} (pick x 32 0) 32 → x ≡ true
+check-applies true e = refl
+check-applies false e = absurd (omega (arith, e))
+
+list-so : (r : Run) → unsound r ≡ true → (l : List ℕ) → listRun r l ≡ ran (Refused 0 (refusal 32 0)) r
+unfolding listRun
+list-so r e l = rw e
+
+rounds-so : (r : Run) → unsound r ≡ true → (limit : ℕ) → roundsRun r limit ≡ ran (Refused 0 (refusal 32 0)) r
+unfolding roundsRun
+rounds-so r e limit = rw e
+
+run-refused : {d : Ran} {r : Run} → d ≡ ran (Refused 0 (refusal 32 0)) r → (reportValues (d .report) .number ≡ 32) × (d .run ≡ r)
+run-refused k = (ap (λ (x : Ran). reportValues (x .report) .number) k, ap (λ (x : Ran). x .run) k)
+
+-- there every call is
+call-tested : (r : Run) → unsound r ≡ true → (c : Call) → (inNumbers (answerOf c r) .number ≡ 32) × (afterCall c r ≡ r)
+unfolding afterCall
+call-tested r e (turn w) = let d = turned-unsound r w e in (ap (λ (x : Turned). turningValues (x .answer) .number) (sym d), ap (λ (x : Turned). x .run) (sym d))
+call-tested r e (overList l) = run-refused (list-so r e l)
+call-tested r e (inRounds limit) = run-refused (rounds-so r e limit)
 
 module _ (s : List ℕ) (M : Memory) where
   -- the record that stands in the memory is the blank one, or the table's bytes and the memory's numbers
@@ -104,7 +134,7 @@ pub open-answers : (s : List ℕ) (M : Memory) → OpenAnswers s M (lentOpen s M
 unfolding lentOpen
 open-answers s M =
     let t : truths (M .holds) ≡ true → lentOpen s M .number ≡ pick (unsound (recordIn s M)) 32 0 = λ h. tested h (blankIn M) refl in
-    record { no-record = λ h. refused h (blankIn M) refl; tested = t; as-a-turn = λ h w. rw (t h) (turn-tested (recordIn s M) w) }
+    record { no-record = λ h. refused h (blankIn M) refl; tested = t; as-a-turn = λ h w. rw (t h) (turn-tested (recordIn s M) w); as-a-call = λ h n. call-tested (recordIn s M) (check-applies (unsound (recordIn s M)) (sym (t h) ∙ n)) }
   where
     refused : truths (M .holds) ≡ false → (y : Bool) → blankIn M ≡ y → openedAs (soundIn s M) y s M .number ≡ 32
     refused h true e = never (sym h ∙ blank-truths s M e)
