@@ -88,7 +88,7 @@ module _ (s : List ℕ) (M : Memory) where
   -- ---- what is filled
 
   module _ (holds-size : length (M .holds) ≡ maxWorkers) (threads-size : length (M .threads) ≡ maxWorkers) (quotas-size : length (M .quotas) ≡ maxWorkers) where
-    -- from a sound record on, however it came into the memory, each turn is document 01's (`turn-refines`, proofs/Refines)
+    -- from a sound record on, however it came into the memory, each turn is document 01's (`turn-refines`, crates/run_memory/proofs/Refines)
     pub open-stands : soundIn s M ≡ true → Stands s (openedIn s M)
     open-stands e =
         let r : Run = runIn s M in
