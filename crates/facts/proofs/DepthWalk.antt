@@ -1,25 +1,25 @@
 -- The walk from the highest thread down gives D: a child's depth is in the list when its parent is walked.
-use Prim.Native.Nat.{ℕ, zero, suc, pred, _+_, _-_, _≤_, _<_, max}
+use Prim.Native.Nat.{ℕ, zero, suc, _+_, _≤_, _<_, max}
+use native.Mathlib.Nat.{suc-pred-eq-of-pos}
 use native.Mathlib.Omega.{arith}
-use native.Mathlib.Decide.{decLt, ℕ-discrete}
-use mathlib.Core.Path.{_≡_, refl, sym, ap, _∙_}
-use mathlib.Core.List.{List, [], _∷_, List·Memᴰ, List·Memᴰ·head}
+use native.Mathlib.Decide.{ℕ-discrete}
+use mathlib.Core.Path.{_≡_, refl, ap, _∙_}
+use mathlib.Core.List.{List, List·Memᴰ, List·Memᴰ·head}
 use mathlib.Core.Bool.{Bool, true, false}
 use lib.ListN.{length, getD, set, length-set}
 use lib.Seq.{getD-set-same, getD-set-other}
 use Rattle.table.specs.Sum.{pick}
-use Rattle.table.specs.Format.{Kind, end, fork, join, is, codeOf, kindOf, Table, kind}
+use Rattle.table.specs.Format.{Kind, fork, join, is, kindOf, Table, kind}
 use Rattle.table.specs.Checks.{owner, endOf, openBefore}
+use Rattle.table.specs.Rules.{ContentRules, BodyRules, NestRules, ForkRules}
 use Rattle.table.specs.Level.{level, D}
-use Rattle.table.proofs.Tests.{no-way, is-true}
-use Rattle.table.proofs.Bodies.{count-pos, first-within, owner-at, owner-first, owner-end, after-end, end-within, body-before, fork-above, fork-below}
+use Rattle.table.proofs.Tests.{no-way, is-true, same-is}
+use Rattle.table.proofs.Bodies.{count-pos, first-within, owner-at, owner-first, after-end, end-within, fork-above, fork-below}
 use Rattle.table.proofs.Amounts.{action-within}
 use Rattle.table.proofs.Nesting.{fork-once, open-join, open-forked}
-use Rattle.table.proofs.Rank.{no-end}
-use Rattle.table.proofs.Levels.{level-is, level-root, level-child, level-step, level-join, level-bound, first-no-join}
-use Rattle.table.specs.Rules.{ContentRules, BodyRules, NestRules, ForkRules}
-use Rattle.facts.proofs.EndLevels.{levelBefore}
+use Rattle.table.proofs.Levels.{level-root, level-child, level-bound}
 use Rattle.facts.specs.Code.DepthWalk.{Reached, reached, lastAfter, stepDepth, bodyDepth, threadWalked, threadDepth, depthsDown, depthIn, cut16}
+use Rattle.facts.proofs.EndLevels.{levelBefore, level-pos, level-goes, level-joins}
 
 -- rules 4 to 9 and 11, and that there is a thread
 pub record WellNested (T : Table) : Type 0 where
@@ -74,56 +74,23 @@ abbrev pub Whole : (ℕ → ℕ) → Table → Type 0
 Whole cut T = (v : ℕ) → v ≤ T .actions → cut v ≡ v
 
 module _ (cut : ℕ → ℕ) (T : Table) (r : WellNested T) (whole : Whole cut T) (t : ℕ) (h : t < T .threads) where
-  abbrev L : ℕ
-  L = level T (T .first t)
+  some-level : (a : ℕ) → a < T .actions → 0 < level T a
+  some-level = level-pos T (r .contents) (r .bodies) (r .nesting) (r .forking)
 
-  level-some : (a : ℕ) → a < T .actions → 0 < level T a
-  level-some a l = omega (arith, level-is T (r .contents) (r .bodies) (r .nesting) (r .forking) a l)
-
-  abbrev before : ℕ → ℕ
-  before i = levelBefore T t i
-
-  before-first : suc (before 0) ≡ level T (T .first t)
+  before-first : suc (levelBefore T t 0) ≡ level T (T .first t)
   unfolding levelBefore
-  before-first =
-      let e : suc (pred (level T (T .first t))) ≡ level T (T .first t) = omega (arith, level-some (T .first t) (first-within T (r .contents) t h)) in
-      e
+  before-first = suc-pred-eq-of-pos (some-level (T .first t) (first-within T (r .contents) t h))
 
   here : (i : ℕ) → i < T .count t → T .first t + i < T .actions
   here i l = action-within T (r .contents) (r .bodies) t i h l
 
-  goes : (i : ℕ) → i < T .count t → is join (kind T (T .first t + i)) ≡ false → level T (T .first t + i) ≡ suc (before i)
-  unfolding levelBefore
-  goes zero l j =
-      let z : T .first t + 0 ≡ T .first t = omega arith in
-      rw z (sym before-first)
-  goes (suc i) l j =
-      let z : T .first t + suc i ≡ suc (T .first t + i) = omega arith in
-      let o : owner T (T .first t + i) ≡ owner T (T .first t + suc i) = owner-at T (r .contents) t i h (omega arith) ∙ sym (owner-at T (r .contents) t (suc i) h l) in
-      let e : is end (kind T (T .first t + i)) ≡ false = no-end T (r .contents) (r .bodies) (T .first t + i) (T .first t + suc i) (omega arith) (here (suc i) l) o in
-      rw z (level-step T (r .contents) (r .bodies) (r .nesting) (r .forking) (T .first t + i) (here i (omega arith)) e (rw z at j))
-
-  joins : (i : ℕ) → i < T .count t → kind T (T .first t + i) ≡ join → level T (T .first t + i) ≡ suc (max (before i) (level T (endOf T (T .argument (T .first t + i)))))
-  unfolding levelBefore is codeOf
-  joins zero l j =
-      let z : T .first t + 0 ≡ T .first t = omega arith in
-      no-way (cc (first-no-join T (r .contents) (r .bodies) (r .nesting) t h))
-  joins (suc i) l j =
-      let z : T .first t + suc i ≡ suc (T .first t + i) = omega arith in
-      let o : owner T (T .first t + i) ≡ owner T (T .first t + suc i) = owner-at T (r .contents) t i h (omega arith) ∙ sym (owner-at T (r .contents) t (suc i) h l) in
-      let e : is end (kind T (T .first t + i)) ≡ false = no-end T (r .contents) (r .bodies) (T .first t + i) (T .first t + suc i) (omega arith) (here (suc i) l) o in
-      rw z (level-join T (r .contents) (r .bodies) (r .nesting) (r .forking) (T .first t + i) (here i (omega arith)) e (rw z at j))
-
   -- one action
-  module _ (i : ℕ) (l : i < T .count t) (w : Reached) (p : Inside T t i w) (q : w .last + level T (T .first t) ≡ suc (before i)) where
-    abbrev x : ℕ
-    x = T .first t + i
-
+  module _ (i : ℕ) (l : i < T .count t) (w : Reached) (p : Inside T t i w) (q : w .last + level T (T .first t) ≡ suc (levelBefore T t i)) where
     own : owner T (T .first t + i) ≡ t
     own = owner-at T (r .contents) t i h l
 
     last-plain : is join (kind T (T .first t + i)) ≡ false → suc (w .last) + level T (T .first t) ≡ suc (level T (T .first t + i))
-    last-plain j = omega (arith, q, goes i l j)
+    last-plain j = omega (arith, q, level-goes T (r .contents) (r .bodies) (r .nesting) (r .forking) t h i l j)
 
     -- the child that is joined here was forked before, by this thread
     last-join : kind T (T .first t + i) ≡ join → suc (max (w .last) (getD (w .depths) (T .argument (T .first t + i)) 0)) + level T (T .first t) ≡ suc (level T (T .first t + i))
@@ -131,7 +98,7 @@ module _ (cut : ℕ → ℕ) (T : Table) (r : WellNested T) (whole : Whole cut T
         let m : List·Memᴰ (T .argument (T .first t + i)) (openBefore T (T .first t + i)) = rw (open-join T (r .contents) (r .bodies) (r .nesting) (T .first t + i) (here i l) j) (List·Memᴰ·head refl) in
         let (a, b, k, e, o) = open-forked T (r .contents) (r .bodies) (r .nesting) (T .first t + i) (T .argument (T .first t + i)) (here i l) m in
         let v : Half T t (w .depths) a = p .behind a (omega (arith, here i l)) k (o ∙ own) b in
-        omega (arith, q, joins i l j, rw e at v)
+        omega (arith, q, level-joins T (r .contents) (r .bodies) (r .nesting) (r .forking) t h i l j, rw e at v)
 
     last-right : lastAfter (kind T (T .first t + i)) (T .argument (T .first t + i)) w + level T (T .first t) ≡ suc (level T (T .first t + i))
     last-right = go (is join (kind T (T .first t + i))) refl
@@ -158,7 +125,7 @@ module _ (cut : ℕ → ℕ) (T : Table) (r : WellNested T) (whole : Whole cut T
           e,
           y,
           s,
-          level-some (T .first t) (first-within T (r .contents) t h),
+          some-level (T .first t) (first-within T (r .contents) t h),
           level-bound T (r .contents) (r .bodies) (r .nesting) (r .forking) (endOf T (T .argument (T .first t + i))) (end-within T (r .contents) (T .argument (T .first t + i)) b),
         ))
 
@@ -205,7 +172,7 @@ module _ (cut : ℕ → ℕ) (T : Table) (r : WellNested T) (whole : Whole cut T
         }
       where
         behind : (a : ℕ) → a < T .actions → kind T a ≡ fork → owner T a ≡ t → a < T .first t + suc i → Dec (a ≡ T .first t + i) → Half T t (w .depths) a
-        behind a k g o m (yes e) = no-way (cc (Rattle.table.proofs.Tests.same-is fork (kind T (T .first t + i)) (rw e at g)))
+        behind a k g o m (yes e) = no-way (cc (same-is fork (kind T (T .first t + i)) (rw e at g)))
         behind a k g o m (no d) = p .behind a k g o (omega (arith, d))
 
     after : Inside T t (suc i) (stepDepth cut (kind T (T .first t + i)) (T .argument (T .first t + i)) w)
@@ -227,13 +194,13 @@ module _ (cut : ℕ → ℕ) (T : Table) (r : WellNested T) (whole : Whole cut T
     pub all : Inside T t (T .count t) w
     pub depth : w .last + level T (T .first t) ≡ suc (level T (endOf T t))
 
-  walk-on : (k i : ℕ) (w : Reached) → i + k ≡ T .count t → Inside T t i w → w .last + level T (T .first t) ≡ suc (before i) → Finished (bodyDepth cut (T .code) (T .argument) (T .first t + i) k w)
+  walk-on : (k i : ℕ) (w : Reached) → i + k ≡ T .count t → Inside T t i w → w .last + level T (T .first t) ≡ suc (levelBefore T t i) → Finished (bodyDepth cut (T .code) (T .argument) (T .first t + i) k w)
   unfolding bodyDepth levelBefore
   walk-on zero i w e p q =
       let z : i ≡ T .count t = omega arith in
       record { all = rw z at p; depth = go i z q }
     where
-      go : (i : ℕ) → i ≡ T .count t → w .last + level T (T .first t) ≡ suc (before i) → w .last + level T (T .first t) ≡ suc (level T (endOf T t))
+      go : (i : ℕ) → i ≡ T .count t → w .last + level T (T .first t) ≡ suc (levelBefore T t i) → w .last + level T (T .first t) ≡ suc (level T (endOf T t))
       go zero z q = absurd (omega (arith, count-pos T (r .contents) t h))
       go (suc i) z q = let y : T .first t + i ≡ endOf T t = omega (arith, after-end T (r .contents) t h) in rw y at q
   walk-on (suc k) i w e p q =
@@ -263,7 +230,7 @@ module _ (cut : ℕ → ℕ) (T : Table) (r : WellNested T) (whole : Whole cut T
         (omega (
           arith,
           walk-end .depth,
-          level-some (T .first t) (first-within T (r .contents) t h),
+          some-level (T .first t) (first-within T (r .contents) t h),
           level-bound T (r .contents) (r .bodies) (r .nesting) (r .forking) (endOf T t) (end-within T (r .contents) t h),
         ))
 

@@ -1,11 +1,9 @@
--- `facts::depth::depth_at` meets its contract.
-use mathlib.Core.Path.{_≡_, sym}
-use Prim.Native.Nat.{ℕ, _≤_}
+-- `facts::depth::depth_at` meets its contract: past the end there is 0.
+use mathlib.Core.Path.{sym}
 use native.Mathlib.Omega.{arith}
 use denote.Ref.{now}
-use lib.ListN.{getD, length, List·getD-eq-default}
+use lib.ListN.{List·getD-eq-default}
 use borrow.Author.Needs.{needs}
-use Rattle.table.specs.Sum.{Read}
 use Rattle.facts.proofs.depth.depth_at.Statement.{statement}
 use Rattle.facts.proofs.depth.depth_at.Tie as tie
 

@@ -1,5 +1,5 @@
 -- `facts::depth::depth_in` meets its contract. The invariant: the walk over the threads that are left, from here, is the whole walk.
-use mathlib.Core.Path.{_≡_, refl, sym, ap, _∙_}
+use mathlib.Core.Path.{_≡_, refl, ap, _∙_}
 use Prim.Native.Nat.{ℕ, suc, _+_, _-_, _*_, _≤_}
 use mathlib.Core.List.{List}
 use native.Mathlib.Omega.{arith}

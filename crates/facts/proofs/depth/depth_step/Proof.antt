@@ -1,5 +1,5 @@
--- `facts::depth::depth_step` meets its contract.
-use mathlib.Core.Path.{_≡_, refl, sym, ap, _∙_}
+-- `facts::depth::depth_step` meets its contract: a fork is told by its code, 4.
+use mathlib.Core.Path.{_≡_}
 use Prim.Native.Nat.{ℕ, suc, _+_, _≤_, _<_, max}
 use mathlib.Core.List.{List}
 use mathlib.Core.Bool.{Bool, true, false}
@@ -11,8 +11,7 @@ use borrow.Author.Tests.{eq-eqb, ne-eqb}
 use Rattle.table.specs.Sum.{pick}
 use Rattle.table.specs.Format.{fork, join, is, kindOf}
 use Rattle.table.proofs.Walks.{is-code}
-use Rattle.facts.specs.Code.DepthWalk.{reached, cut16}
-use Rattle.facts.specs.Code.DepthWalk.{afterLast, Stepped}
+use Rattle.facts.specs.Code.DepthWalk.{reached, afterLast, cut16, Stepped}
 use Rattle.facts.proofs.depth.depth_step.Statement.{statement}
 use Rattle.facts.proofs.depth.depth_step.Tie as tie
 

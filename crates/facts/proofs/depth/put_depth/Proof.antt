@@ -1,6 +1,6 @@
--- `facts::depth::put_depth` meets its contract.
-use mathlib.Core.Path.{_≡_, sym}
-use Prim.Native.Nat.{ℕ, _≤_, _%_}
+-- `facts::depth::put_depth` meets its contract: past the end nothing is set.
+use mathlib.Core.Path.{sym}
+use Prim.Native.Nat.{_%_}
 use native.Mathlib.Omega.{arith}
 use denote.Ref.{now}
 use lib.Seq.{set-out}
