@@ -1,6 +1,6 @@
--- `facts::peak::serial_peak` meets its contract. The invariant: the arrays have the amounts and the peak of each thread from t on.
+-- `facts::peak::serial_amounts` meets its contract. The invariant: the arrays have the amounts and the peak of each thread from t on.
 use mathlib.Core.Path.{_≡_, refl, _∙_}
-use Prim.Native.Nat.{ℕ, suc, _*_, _<_, _≤_}
+use Prim.Native.Nat.{ℕ, suc, _-_, _*_, _<_, _≤_}
 use mathlib.Core.List.{List}
 use native.Mathlib.Omega.{arith}
 use borrow.Author.Needs.{needs}
@@ -10,14 +10,15 @@ use Rattle.table.specs.Format.{alloc, free, fork, tableOf, bodyOf, bodiesFrom}
 use Rattle.table.specs.Checks.{allocOf, freeOf, whole}
 use Rattle.table.specs.Serial.{S1}
 use Rattle.table.specs.Code.Steps.{Headed, Filled, WalkReady, amountAt}
+use Rattle.facts.specs.Weigh.{leftOf}
 use Rattle.facts.specs.Code.Steps.{Kept, PeaksReady, topOf}
 use Rattle.table.proofs.Sizes.{Sizes, sizes}
 use Rattle.table.proofs.Walks.{filled-set}
-use Rattle.table.proofs.Peaks.{peakAt}
+use Rattle.table.proofs.Peaks.{peakAt, whole-held}
 use Rattle.facts.proofs.Tops.{walk-ready, peaks-ready, peak-found, rise-found, fall-found}
 use Rattle.table.proofs.Parts.{body-from}
-use Rattle.facts.proofs.peak.serial_peak.Statement.{statement}
-use Rattle.facts.proofs.peak.serial_peak.Tie as tie
+use Rattle.facts.proofs.peak.serial_amounts.Statement.{statement}
+use Rattle.facts.proofs.peak.serial_amounts.Tie as tie
 
 record Inv (s : List ℕ) (n m : ℕ) (rises falls peaks : List ℕ) (t : ℕ) : Type 0 where
   kept : Kept s n m
@@ -87,9 +88,28 @@ module _ {s : List ℕ} {n m : ℕ} {rises falls peaks : List ℕ} {t u : ℕ} (
           peaking = filled-set (tableOf s) (peakAt (tableOf s)) peaks u k in-array highest peaking;
         }
 
-root : {s : List ℕ} {n m : ℕ} {rises falls peaks : List ℕ} {t : ℕ} → Inv s n m rises falls peaks t → t ≤ 0 → getD peaks 0 0 ≡ S1 (tableOf s)
-unfolding S1 tableOf
-root v l = v .peaking .right 0 (omega arith) (omega (arith, v .kept .nested .formed .laid .headed .threads, v .sized .threads-low))
+module _ {s : List ℕ} {n m : ℕ} {rises falls peaks : List ℕ} {t : ℕ} (v : Inv s n m rises falls peaks t) (l : t ≤ 0) where
+  some : 0 < tableOf s .threads
+  unfolding tableOf
+  some = omega (arith, v .kept .nested .formed .laid .headed .threads, v .sized .threads-low)
+
+  peak-is : getD peaks 0 0 ≡ S1 (tableOf s)
+  unfolding S1
+  peak-is = v .peaking .right 0 l some
+
+  rise-is : getD rises 0 0 ≡ whole (tableOf s) (allocOf (tableOf s)) 0
+  rise-is = v .rising .right 0 l some
+
+  fall-is : getD falls 0 0 ≡ whole (tableOf s) (freeOf (tableOf s)) 0
+  fall-is = v .falling .right 0 l some
+
+  held : getD falls 0 0 ≤ getD rises 0 0
+  held =
+      rw (rise-is, fall-is)
+      (whole-held (tableOf s) (v .kept .nested .formed .laid .contents) (v .kept .nested .formed .bodies) (v .kept .nested .nesting) (v .kept .balances) 0 some)
+
+  left-is : getD rises 0 0 - getD falls 0 0 ≡ leftOf (tableOf s)
+  left-is = rw (rise-is, fall-is)
 
 abbrev Inv-loop : tie.InvT-loop
 Inv-loop table n m rises₀ falls₀ peaks₀ t₀ rises falls peaks t = Inv table n m rises falls peaks t
@@ -98,7 +118,7 @@ abbrev μ-loop : tie.MeasureT-loop
 μ-loop table n m rises₀ falls₀ peaks₀ t₀ rises falls peaks t = t
 
 loop-holds : tie.Need-loop-holds Inv-loop μ-loop
-loop-holds c = start (c .before .pre) (λ i. omega (arith, c .shared-slice-known .given i)) refl refl refl
+loop-holds c = start (c .before .before .before .before .pre) (λ i. omega (arith, c .before .before .before .shared-slice-known .given i)) refl refl refl
 
 sub-t : tie.Need-sub-t Inv-loop μ-loop
 sub-t c = omega arith
@@ -120,20 +140,20 @@ peak-walk-requires c κs =
 mul-rises : tie.Need-mul-rises Inv-loop μ-loop
 mul-rises c = omega arith
 
-array-write-rises : tie.Need-array-write-rises Inv-loop μ-loop
-array-write-rises c = omega arith
+element-write-rises : tie.Need-element-write-rises Inv-loop μ-loop
+element-write-rises c = omega arith
 
 mul-falls : tie.Need-mul-falls Inv-loop μ-loop
 mul-falls c = omega arith
 
-array-write-falls : tie.Need-array-write-falls Inv-loop μ-loop
-array-write-falls c = omega arith
+element-write-falls : tie.Need-element-write-falls Inv-loop μ-loop
+element-write-falls c = omega arith
 
 mul-peaks : tie.Need-mul-peaks Inv-loop μ-loop
 mul-peaks c = omega arith
 
-array-write-peaks : tie.Need-array-write-peaks Inv-loop μ-loop
-array-write-peaks c = omega arith
+element-write-peaks : tie.Need-element-write-peaks Inv-loop μ-loop
+element-write-peaks c = omega arith
 
 loop-less : tie.Need-loop-less Inv-loop μ-loop
 loop-less c = omega arith
@@ -145,14 +165,25 @@ loop-again c =
     let e = c .peak-walk .ensures in
     again (a .loop .inv) (omega arith) (w .before .body-of .ensures) (w .count .ensures .value) (e .0) (e .1 .0) (e .1 .1)
 
-array-read-result : tie.Need-array-read-result Inv-loop μ-loop
-array-read-result c = omega arith
+element-copy-out-t24 : tie.Need-element-copy-out-t24 Inv-loop μ-loop
+element-copy-out-t24 c = omega arith
+
+element-copy-out-t27 : tie.Need-element-copy-out-t27 Inv-loop μ-loop
+element-copy-out-t27 c = omega arith
+
+element-copy-out-t30 : tie.Need-element-copy-out-t30 Inv-loop μ-loop
+element-copy-out-t30 c = omega arith
+
+sub-t31 : tie.Need-sub-t31 Inv-loop μ-loop
+sub-t31 c = held (c .before .before .before .before .loop .inv) (c .before .before .before .loop-test .left)
 
 returns : tie.Need-returns Inv-loop μ-loop
-returns c = root (c .before .loop .inv) (c .loop-test .left)
+returns c =
+    let b = c .before .before .before in
+    (peak-is (b .before .loop .inv) (b .loop-test .left), left-is (b .before .loop .inv) (b .loop-test .left))
 
-pub serial-peak-spec : {M : Type 1} → statement M
-serial-peak-spec =
+pub serial-amounts-spec : {M : Type 1} → statement M
+serial-amounts-spec =
     tie.close
     (tie.spec
     Inv-loop
@@ -163,12 +194,15 @@ serial-peak-spec =
     count-requires
     peak-walk-requires
     mul-rises
-    array-write-rises
+    element-write-rises
     mul-falls
-    array-write-falls
+    element-write-falls
     mul-peaks
-    array-write-peaks
+    element-write-peaks
     loop-less
     loop-again
-    array-read-result
+    element-copy-out-t24
+    element-copy-out-t27
+    element-copy-out-t30
+    sub-t31
     returns)
