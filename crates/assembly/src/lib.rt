@@ -6,11 +6,13 @@ mod listing;
 mod place;
 mod rows;
 pub mod scan;
+pub mod unseen;
 pub mod word;
 
 use check::Checked;
 use check::check;
 pub use fault::message;
+pub use fault::put_unseen;
 use listing::put_threads;
 use place::refused_at;
 use rows::put_table;
