@@ -3,11 +3,12 @@ use mathlib.Core.Path.{_≡_, refl, ap, _∙_}
 use Prim.Native.Nat.{ℕ, _≤_, _<_}
 use mathlib.Core.List.{List}
 use native.Mathlib.Omega.{arith}
+use Rattle.table.specs.Sum.{sumOver}
 use Rattle.table.specs.Format.{threadsOf, actionsOf, tableOf}
 use Rattle.table.specs.Pass.{firstFound}
-use Rattle.table.specs.Checks.{passes}
+use Rattle.table.specs.Checks.{allocOf, freeOf, whole, passes}
 use Rattle.table.specs.Rules.{Rules}
-use Rattle.table.specs.Serial.{S1}
+use Rattle.table.specs.Serial.{serialOrder, heldAfter, S1}
 use Rattle.table.specs.Level.{D}
 use Rattle.table.specs.Nested.{N}
 use Rattle.table.specs.Load.{factsOf, answer, loaded, tableValues, valuesOf}
@@ -19,6 +20,7 @@ use Rattle.table.specs.declared.Loaded.{Loaded}
 use Rattle.table.specs.declared.Loaded.the-variants.{Accepted, Refused}
 use Rattle.table.proofs.Sizes.{Sizes, sizes}
 use Rattle.table.proofs.Passes.{passes-rules}
+use Rattle.table.proofs.Amounts.{whole-serial}
 use Rattle.table.proofs.Bodies.{end-within}
 use Rattle.table.proofs.Levels.{level-bound}
 use Rattle.table.proofs.NestedThreads.{nested-few}
@@ -59,6 +61,15 @@ module _ {s : List ℕ} {n m : ℕ} (k : Kept s n m) where
 
   pub few-levels : N (tableOf s) ≤ 1024
   few-levels = omega (arith, nested-few (tableOf s), few-threads (k .nested))
+
+  -- the final balance is what the serial run holds at its end
+  pub left-serial : leftOf (tableOf s) ≡ heldAfter (tableOf s) (serialOrder (tableOf s))
+  unfolding heldAfter
+  left-serial =
+      let l : 0 < tableOf s .threads = in-threads (k .nested) (omega (arith, small)) in
+      let w : (own : ℕ → ℕ) → whole (tableOf s) own 0 ≡ sumOver own (serialOrder (tableOf s)) =
+      λ own. whole-serial (tableOf s) (k .nested .formed .laid .contents) (k .nested .formed .bodies) (k .nested .nesting) own 0 l in
+      rw (w (allocOf (tableOf s)), w (freeOf (tableOf s)))
 
   pub facts-are : {peak depth nested : ℕ} → peak ≡ S1 (tableOf s) → depth ≡ D (tableOf s) → nested ≡ N (tableOf s)
       → _≡_ {A = Facts} (record { threads = n; actions = m; peak = peak; depth = depth; nested = nested }) (factsOf (tableOf s))

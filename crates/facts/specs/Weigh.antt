@@ -11,7 +11,8 @@ use Rattle.facts.specs.declared.Weighed.{Weighed}
 use Rattle.facts.specs.declared.Weighing.{Weighing}
 use Rattle.facts.specs.declared.Weighing.the-variants.{Accepted, Refused}
 
--- the table's final balance: what its root draws less what it gives back, with all threads below it; never below 0 in a table that keeps the rules
+-- "the final balances" (N12): what the root draws less what it gives back, with all threads below it. In a table that keeps the rules it is what the serial run holds at its end
+-- (`left-serial`, proofs/Accepted), so never below 0.
 abbrev pub leftOf : Table → ℕ
 leftOf T = whole T (allocOf T) 0 - whole T (freeOf T) 0
 
