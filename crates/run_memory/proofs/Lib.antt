@@ -7,6 +7,8 @@ mod Linking
 mod Acts
 mod ListActs
 mod Takes
+mod Seeing
+mod Foreseeing
 pub mod Fixed
 pub mod Turning
 pub mod Manned

@@ -34,7 +34,7 @@ same-ended (x ∷ l) zero (suc c) e = refl
 same-ended (x ∷ l) (suc t) zero e = refl
 same-ended (x ∷ l) (suc t) (suc c) e = same-ended l t c e
 
-seated-ended : (b : Bool) (l : List ℕ) (t c : ℕ) → (b ≡ false → getD l t 0 ≡ ready) → eqb (getD (pick b l (set l t held)) c 0) ended ≡ eqb (getD l c 0) ended
+pub seated-ended : (b : Bool) (l : List ℕ) (t c : ℕ) → (b ≡ false → getD l t 0 ≡ ready) → eqb (getD (pick b l (set l t held)) c 0) ended ≡ eqb (getD l c 0) ended
 seated-ended true l t c h = refl
 seated-ended false l t c h = same-ended l t c (h refl)
 

@@ -1,5 +1,5 @@
 -- `run_memory::act::act_alloc` meets its contract: beyond the quota, where a number does not fit, and within both.
-use mathlib.Core.Path.{_≡_, refl, ap, _∙_}
+use mathlib.Core.Path.{refl, ap, _∙_}
 use Prim.Native.Nat.{_+_, _-_, _^_, _<_}
 use borrow.Author.Tests.{not-true, not-false}
 use denote.Ref.{now}
