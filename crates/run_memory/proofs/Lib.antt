@@ -7,7 +7,9 @@ mod Linking
 mod Acts
 mod ListActs
 mod Takes
+mod Laying
 pub mod Fixed
 pub mod Turning
 pub mod Manned
 pub mod Refines
+pub mod Packed

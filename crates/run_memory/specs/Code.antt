@@ -1,3 +1,4 @@
 -- promises between the parts of the code
 pub mod Writes
 pub mod Acts
+pub mod Laid

@@ -2,4 +2,5 @@ pub mod Memory
 pub mod Blocks
 pub mod Places
 pub mod Stands
+pub mod Packing
 pub mod Code
