@@ -9,7 +9,9 @@ mod ListActs
 mod Takes
 mod Seeing
 mod Foreseeing
+mod Laying
 pub mod Fixed
 pub mod Turning
 pub mod Manned
 pub mod Refines
+pub mod Packed

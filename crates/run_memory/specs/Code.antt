@@ -2,3 +2,4 @@
 pub mod Writes
 pub mod Acts
 pub mod Seen
+pub mod Laid

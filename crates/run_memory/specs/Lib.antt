@@ -3,4 +3,5 @@ pub mod Blocks
 pub mod Places
 pub mod Stands
 pub mod Preview
+pub mod Packing
 pub mod Code

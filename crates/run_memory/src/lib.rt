@@ -9,6 +9,7 @@ use crate::places::NEXT;
 use crate::places::OVER;
 use crate::places::RIGHT;
 use crate::places::TURNS;
+use crate::places::WORKERS;
 use crate::places::head_at;
 use crate::places::holds_at;
 use crate::places::put_total;
@@ -39,6 +40,7 @@ ghost use Rattle.run_memory.specs.Places.{holdsIn};
 mod act;
 pub mod copies;
 mod list;
+pub mod packing;
 pub mod places;
 pub mod preview;
 pub mod replies;
@@ -166,7 +168,12 @@ pub fn turn_in(
     ensures { λ r. ⌜ r .passed ≡ pick (counting && eqb (r .number) 0) (passedOver (memoryOf (now (bytes .entry)) (now (words .entry)) (now (numbers .entry)) (now (sums .entry))) w) 0 ⌝ }
 {
     let root = status_at(&*bytes, 0);
-    let number = hindrance(total_at(&*sums, TURNS), setting_at(&*numbers, 0), w, root);
+    let number = hindrance(
+        total_at(&*sums, TURNS),
+        setting_at(&*numbers, WORKERS),
+        w,
+        root,
+    );
     if number != 0 {
         return refused(number);
     }

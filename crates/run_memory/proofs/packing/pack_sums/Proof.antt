@@ -1,10 +1,10 @@
--- `asyncdf::packing::pack_sums` meets its contract: the copies are those of the record's sums.
+-- `run_memory::packing::pack_sums` meets its contract: the copies are those of the record's sums.
 use borrow.Author.Needs.{needs}
 use denote.Ref.{now}
 use Rattle.run_memory.specs.Blocks.{sumsIn}
-use Rattle.asyncdf.proofs.Laying.{sums-laid}
-use Rattle.asyncdf.proofs.packing.pack_sums.Statement.{statement}
-use Rattle.asyncdf.proofs.packing.pack_sums.Tie as tie
+use Rattle.run_memory.proofs.Laying.{sums-laid}
+use Rattle.run_memory.proofs.packing.pack_sums.Statement.{statement}
+use Rattle.run_memory.proofs.packing.pack_sums.Tie as tie
 
 copy-amounts-requires : tie.Need-copy-amounts-requires
 copy-amounts-requires c κs = search needs

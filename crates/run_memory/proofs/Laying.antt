@@ -5,9 +5,10 @@ use mathlib.Core.List.{List}
 use Rattle.schedule.specs.declared.Run.{Run}
 use Rattle.schedule.specs.Links.{Links}
 use Rattle.array_machine.specs.Arrays.{links}
 use Rattle.run_memory.specs.Blocks.{Bytes, Words, Numbers, Sums, gathered}
 use Rattle.run_memory.specs.Places.{headed, setTo, totalled, laidRow, statuses, amountsAre, manned, mannedWords, mannedNumbers}
-use Rattle.asyncdf.specs.Code.Packing.{secondFor, rowsLaid, laidWords, laidSums, memoryFor}
+use Rattle.run_memory.specs.Packing.{secondFor, memoryFor}
+use Rattle.run_memory.specs.Code.Laid.{rowsLaid, laidWords, laidSums}
 
 module _ (run : Run) where
   -- six rows, then three heads

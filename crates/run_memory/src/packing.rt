@@ -1,34 +1,37 @@
 // A run record's numbers, copied into the four blocks on which turns are taken, and read back. The second list, which is in no record, is filled from the list.
-use run_memory::copies::amounts_out;
-use run_memory::copies::copy_amounts;
-use run_memory::copies::copy_row;
-use run_memory::copies::copy_statuses;
-use run_memory::copies::copy_workers;
-use run_memory::copies::row_out;
-use run_memory::copies::statuses_out;
-use run_memory::copies::workers_out;
-use run_memory::places::BUSY;
-use run_memory::places::FIRST;
-use run_memory::places::HELD;
-use run_memory::places::HIGHEST;
-use run_memory::places::LEFT;
-use run_memory::places::LEFTMOST;
-use run_memory::places::NEXT;
-use run_memory::places::OVER;
-use run_memory::places::PARENTS;
-use run_memory::places::RIGHT;
-use run_memory::places::TURNS;
-use run_memory::places::UNDER;
-use run_memory::places::head_at;
-use run_memory::places::put_head;
-use run_memory::places::put_setting;
-use run_memory::places::put_total;
-use run_memory::places::total_at;
+use crate::copies::amounts_out;
+use crate::copies::copy_amounts;
+use crate::copies::copy_row;
+use crate::copies::copy_statuses;
+use crate::copies::copy_workers;
+use crate::copies::row_out;
+use crate::copies::statuses_out;
+use crate::copies::workers_out;
+use crate::places::BUSY;
+use crate::places::FIRST;
+use crate::places::HELD;
+use crate::places::HIGHEST;
+use crate::places::LEFT;
+use crate::places::LEFTMOST;
+use crate::places::NEXT;
+use crate::places::OVER;
+use crate::places::PARENTS;
+use crate::places::QUOTA;
+use crate::places::RIGHT;
+use crate::places::TURNS;
+use crate::places::UNDER;
+use crate::places::WORKERS;
+use crate::places::head_at;
+use crate::places::put_head;
+use crate::places::put_setting;
+use crate::places::put_total;
+use crate::places::total_at;
 use links::fill_actives;
 use schedule::Run;
 ghost use mathlib.Core.Path.{_≡_};
 ghost use Rattle.run_memory.specs.Blocks.{memoryOf, wordsIn, sumsIn};
-ghost use Rattle.asyncdf.specs.Code.Packing.{laidWords, laidSums, memoryFor, recordOf};
+ghost use Rattle.run_memory.specs.Packing.{memoryFor, recordOf};
+ghost use Rattle.run_memory.specs.Code.Laid.{laidWords, laidSums};
 
 fn pack_words(run: Run, parents: &[u16; 1024], words: &mut [u16; 6163])
     ensures { λ _. ⌜ wordsIn (now (words .exit)) ≡ laidWords run (now (parents .entry)) (wordsIn (now (words .entry))) ⌝ }
@@ -61,7 +64,7 @@ fn pack_sums(run: Run, sums: &mut [u64; 1027])
     put_total(sums, TURNS, run.turns);
 }
 
-pub(crate) fn pack(
+pub fn pack(
     run: Run,
     parents: &[u16; 1024],
     bytes: &mut [u8; 1040],
@@ -75,14 +78,14 @@ pub(crate) fn pack(
     pack_sums(run, sums);
     let status = run.status;
     copy_statuses(bytes, &status);
-    put_setting(numbers, 0, run.workers as u32);
-    put_setting(numbers, 1, run.quota);
+    put_setting(numbers, WORKERS, run.workers as u32);
+    put_setting(numbers, QUOTA, run.quota);
     let workers = run.worker;
     copy_workers(bytes, words, numbers, workers);
 }
 
 // The record with what the turns have moved.
-pub(crate) fn unpack(
+pub fn unpack(
     run: Run,
     bytes: &[u8; 1040],
     words: &[u16; 6163],

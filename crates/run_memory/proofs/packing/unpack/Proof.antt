@@ -1,8 +1,8 @@
--- `asyncdf::packing::unpack` meets its contract: each part is read where it stands.
+-- `run_memory::packing::unpack` meets its contract: each part is read where it stands.
 use borrow.Author.Needs.{needs}
 use Rattle.schedule.specs.declared.Run.{Run}
-use Rattle.asyncdf.proofs.packing.unpack.Statement.{statement}
-use Rattle.asyncdf.proofs.packing.unpack.Tie as tie
+use Rattle.run_memory.proofs.packing.unpack.Statement.{statement}
+use Rattle.run_memory.proofs.packing.unpack.Tie as tie
 
 row-out-requires : tie.Need-row-out-requires
 row-out-requires c κs = search needs

@@ -8,26 +8,13 @@ use Rattle.schedule.specs.Actives.{noLinks, filledFrom}
 use Rattle.table.specs.Checks.{maxThreads}
 use Rattle.array_machine.specs.Arrays.{arrays}
 use Rattle.array_machine.specs.Packed.{packedOf}
 use Rattle.run_memory.specs.Memory.{Memory, memory, movedIn}
 use Rattle.run_memory.specs.Stands.{workersIn}
-use Rattle.run_memory.specs.Blocks.{Words, Sums}
-use Rattle.run_memory.specs.Places.{headed, totalled, laidRow, amountsAre, ofWorkers}
+use Rattle.run_memory.specs.Places.{ofWorkers}
 
 -- the second list, which is in no record: the threads of the list that do not wait
 abbrev pub secondFor : Run → Links
 secondFor run = filledFrom maxThreads (run .status) (run .right) (run .leftmost) noThread noLinks
-
--- the words and the sums as they are written
-abbrev pub rowsLaid : Run → List ℕ → Links → Words → Words
-rowsLaid run parents second W =
-    headed 2 (run .busy) (headed 1 (second .head) (headed 0 (run .leftmost)
-    (laidRow 5 (second .right) (laidRow 4 (second .left) (laidRow 3 (run .right) (laidRow 2 (run .left) (laidRow 1 (run .next) (laidRow 0 parents W))))))))
-
-abbrev pub laidWords : Run → List ℕ → Words → Words
-laidWords run parents W = rowsLaid run parents (secondFor run) W
-
-abbrev pub laidSums : Run → Sums → Sums
-laidSums run S = totalled 2 (run .turns) (totalled 1 (run .highest) (totalled 0 (run .held) (amountsAre (run .amounts) S)))
 
 -- the memory
 abbrev pub memoryWith : Run → List ℕ → Links → Memory

@@ -1,10 +1,10 @@
--- `asyncdf::packing::pack` meets its contract: the copies lay the record's memory.
+-- `run_memory::packing::pack` meets its contract: the copies lay the record's memory.
 use borrow.Author.Needs.{needs}
 use denote.Ref.{now}
 use Rattle.run_memory.specs.Blocks.{bytesIn, wordsIn, numbersIn, sumsIn}
-use Rattle.asyncdf.proofs.Laying.{memory-laid}
-use Rattle.asyncdf.proofs.packing.pack.Statement.{statement}
-use Rattle.asyncdf.proofs.packing.pack.Tie as tie
+use Rattle.run_memory.proofs.Laying.{memory-laid}
+use Rattle.run_memory.proofs.packing.pack.Statement.{statement}
+use Rattle.run_memory.proofs.packing.pack.Tie as tie
 
 pack-words-requires : tie.Need-pack-words-requires
 pack-words-requires c κs = search needs
