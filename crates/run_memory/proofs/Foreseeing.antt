@@ -1,10 +1,12 @@
 -- A turn in lent memory as a preview shows it, way by way: refused, idle, and with a thread on which the worker goes on.
 use mathlib.Core.Path.{_≡_, refl, sym, ap, _∙_}
 use Prim.Native.Nat.{ℕ, _+_, _^_, _≤_, _<_}
+use native.Mathlib.Omega.{arith}
+use native.Mathlib.Decide.{decLt}
 use mathlib.Core.List.{List}
 use mathlib.Core.Bool.{Bool, true, false, _&&_}
-use borrow.Author.Tests.{le-ltb, ne-eqb}
-use lib.Dec.{ltb}
+use borrow.Author.Tests.{le-ltb, eqb-false, ne-eqb}
+use lib.Dec.{ltb, eqb}
 use lib.ListN.{length, getD}
 use lib.Seq.{getD-set-same}
 use Rattle.table.specs.Sum.{pick}
@@ -18,7 +20,7 @@ use Rattle.array_machine.specs.Counted.{roomFor}
 use Rattle.run_memory.specs.declared.preview.Foreseen.{Foreseen}
 use Rattle.run_memory.specs.declared.preview.Foreseen.the-variants.{Would, Refused}
 use Rattle.run_memory.specs.declared.preview.Seen.{Seen}
-use Rattle.run_memory.specs.Memory.{Memory, workerIn, movedIn, hindrance, Told, told, takenIn, passedOver}
+use Rattle.run_memory.specs.Memory.{Memory, workerIn, movedIn, hindrance, Told, told, takenIn, turnIn, passedOver}
 use Rattle.run_memory.specs.Preview.{foreseenAs, foreseenIn}
 use Rattle.run_memory.specs.Code.Acts.{seatedStatus, seatedQuota, seatedWorker}
 use Rattle.run_memory.specs.Code.Seen.{seeing, unseen, seenOf, seenIn}
@@ -52,13 +54,16 @@ module _ (s : List ℕ) (w : ℕ) (M : Memory) where
   abbrev shown : Foreseen
   shown = foreseenAs (takenIn s w M) (passedOver M w) w
 
+  abbrev number : ℕ
+  number = hindrance (movedIn M .turns) (getD (M .settings) 0 0) w (getD (M .arrays .status) 0 0)
+
   as-shown : {t : Told} → t ≡ takenIn s w M → foreseenAs t (passedOver M w) w ≡ shown
   as-shown e = ap (λ (t : Told). foreseenAs t (passedOver M w) w) e
 
   -- there is no worker from 16 on
-  pub no-worker : 16 ≤ w → Refused 32 ≡ shown
+  without-worker : 16 ≤ w → told 32 Idle M ≡ takenIn s w M
   unfolding roomFor
-  no-worker h = as-shown (without-room s w M refl (sym none))
+  without-worker h = without-room s w M refl (sym none)
     where
       and-false : (b : Bool) → (b && false) ≡ false
       and-false true = refl
@@ -66,6 +71,22 @@ module _ (s : List ℕ) (w : ℕ) (M : Memory) where
 
       none : has-room s w M ≡ false
       none = rw (le-ltb w 16 h) (and-false (ltb (movedIn M .turns + 1) (2 ^ 64)))
+
+  pub no-worker : 16 ≤ w → Refused 32 ≡ shown
+  no-worker h = as-shown (without-worker h)
+
+  -- so that a turn that is taken is one of sixteen workers'
+  pub few : turnIn s w M .number ≡ 0 → w < 16
+  unfolding turnIn
+  few e = go (decLt w 16)
+    where
+      go : Dec (w < 16) → w < 16
+      go (yes h) = h
+      go (no h) = absurd (stuck (eqb number 0) refl)
+        where
+          stuck : (b : Bool) → eqb number 0 ≡ b → ⊥
+          stuck true d = let x : _≡_ {A = ℕ} 32 0 = ap (λ (t : Told). t .number) (without-worker (omega arith)) ∙ (rw d at e) in omega (arith, x)
+          stuck false d = eqb-false number 0 d (rw d at e)
 
   pub refuses : told 32 Idle M ≡ takenIn s w M → Refused 32 ≡ shown
   refuses e = as-shown e
@@ -104,7 +125,7 @@ module _ (s : List ℕ) (w : ℕ) (M : Memory) where
 
   -- ---- before it is taken
 
-  module _ {k : ℕ} (e : k ≡ hindrance (movedIn M .turns) (getD (M .settings) 0 0) w (getD (M .arrays .status) 0 0)) where
+  module _ {k : ℕ} (e : k ≡ number) where
     pub is-hindered : (k ≡ 0 → ⊥) → Refused k ≡ foreseenIn s w M
     unfolding foreseenIn
     is-hindered h =

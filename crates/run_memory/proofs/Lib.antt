@@ -8,7 +8,7 @@ mod Acts
 mod ListActs
 mod Takes
 mod Seeing
-mod Foreseeing
+pub mod Foreseeing
 mod Laying
 pub mod Fixed
 pub mod Turning
