@@ -1,26 +1,26 @@
 -- A turn in lent memory as a preview shows it, way by way: refused, idle, and with a thread on which the worker goes on.
 use mathlib.Core.Path.{_≡_, refl, sym, ap, _∙_}
-use Prim.Native.Nat.{ℕ, _+_, _^_, _≤_, _<_}
+use Prim.Native.Nat.{ℕ, _+_, _-_, _^_, _≤_, _<_}
 use native.Mathlib.Omega.{arith}
 use native.Mathlib.Decide.{decLt}
 use mathlib.Core.List.{List}
 use mathlib.Core.Bool.{Bool, true, false, _&&_}
 use borrow.Author.Tests.{le-ltb, eqb-false, ne-eqb}
-use lib.Dec.{ltb, eqb}
+use lib.Dec.{ltb, eqb, lit<}
 use lib.ListN.{length, getD}
 use lib.Seq.{getD-set-same}
 use Rattle.table.specs.Sum.{pick}
 use Rattle.table.specs.Format.{Table, kind, tableOf}
 use Rattle.table.proofs.Tests.{no-way}
 use Rattle.schedule.specs.declared.Reply.the-variants.{Idle}
-use Rattle.schedule.specs.Machine.{ready}
+use Rattle.schedule.specs.Machine.{ready, ended}
 use Rattle.schedule.specs.Links.{noThread}
 use Rattle.array_machine.specs.Turn.{Outcome}
-use Rattle.array_machine.specs.Counted.{roomFor}
+use Rattle.array_machine.specs.Counted.{Left, roomFor, turnOn}
 use Rattle.run_memory.specs.declared.preview.Foreseen.{Foreseen}
 use Rattle.run_memory.specs.declared.preview.Foreseen.the-variants.{Would, Refused}
 use Rattle.run_memory.specs.declared.preview.Seen.{Seen}
-use Rattle.run_memory.specs.Memory.{Memory, workerIn, movedIn, hindrance, Told, told, takenIn, turnIn, passedOver}
+use Rattle.run_memory.specs.Memory.{Memory, workerIn, movedIn, hindrance, Told, told, turnLeft, takenIn, turnIn, passedOver}
 use Rattle.run_memory.specs.Preview.{foreseenAs, foreseenIn}
 use Rattle.run_memory.specs.Code.Acts.{seatedStatus, seatedQuota, seatedWorker}
 use Rattle.run_memory.specs.Code.Seen.{seeing, unseen, seenOf, seenIn}
@@ -56,6 +56,9 @@ module _ (s : List ℕ) (w : ℕ) (M : Memory) where
 
   abbrev number : ℕ
   number = hindrance (movedIn M .turns) (getD (M .settings) 0 0) w (getD (M .arrays .status) 0 0)
+
+  abbrev z : Left
+  z = turnOn (tableOf s) (getD (M .settings) 1 0) (M .parents) w (M .arrays) (movedIn M) (workerIn M w)
 
   as-shown : {t : Told} → t ≡ takenIn s w M → foreseenAs t (passedOver M w) w ≡ shown
   as-shown e = ap (λ (t : Told). foreseenAs t (passedOver M w) w) e
@@ -122,6 +125,21 @@ module _ (s : List ℕ) (w : ℕ) (M : Memory) where
           ∙ ap (λ (v : ℕ). Would (o .reply) v (o .totals .held) (o .totals .highest) (o .worker .quota)) p
           ∙ ap (λ (v : ℕ). Would (o .reply) (passedOver M w) (o .totals .held) (o .totals .highest) v) (sym (getD-set-same (M .quotas) w (o .worker .quota) 0 n))
           ∙ as-shown (goes-there s w M r d t e l (f .0))
+
+  -- ---- what refuses it
+
+  -- is a number of two digits
+  pub small-number : turnIn s w M .number < 100
+  unfolding turnIn turnLeft hindrance
+  small-number = go (eqb (movedIn M .turns) (2 ^ 64 - 1)) refl (ltb w (getD (M .settings) 0 0)) refl (eqb (getD (M .arrays .status) 0 0) ended) refl (z .fits) refl
+    where
+      go : (x : Bool) → eqb (movedIn M .turns) (2 ^ 64 - 1) ≡ x → (y : Bool) → ltb w (getD (M .settings) 0 0) ≡ y → (q : Bool) → eqb (getD (M .arrays .status) 0 0) ended ≡ q
+          → (f : Bool) → z .fits ≡ f → turnIn s w M .number < 100
+      go true a y b q c f d = rw a (lit< tt)
+      go false a false b q c f d = rw (a, b) (lit< tt)
+      go false a true b true c f d = rw (a, b, c) (lit< tt)
+      go false a true b false c true d = rw (a, b, c, d) (lit< tt)
+      go false a true b false c false d = rw (a, b, c, d) (lit< tt)
 
   -- ---- before it is taken
 
