@@ -42,7 +42,6 @@ ghost use Rattle.text.specs.Puts.{Puts};
 ghost use Rattle.chart.specs.Turns.{chartTurns};
 
 mod beginning;
-mod packing;
 mod runs;
 mod turns;
 

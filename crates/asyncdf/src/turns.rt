@@ -1,5 +1,4 @@
 // The lines of an order's turns, of a listing or of a chart: the loop of a run, with a line put after each turn and no record at its end.
-use crate::packing::pack;
 use crate::runs::root_end;
 use chart::MOST_TURNS;
 use chart::put_line;
@@ -7,6 +6,7 @@ use lines::put_last;
 use lines::put_refused;
 use lines::put_turn;
 use run_memory::copies::workers_out;
+use run_memory::packing::pack;
 use run_memory::places::HELD;
 use run_memory::places::HIGHEST;
 use run_memory::places::NEXT;

@@ -30,6 +30,11 @@ pub gone-as : (bytes words numbers sums : List ℕ) {r z : Went} {B : Bytes} {W 
     → gone z (gathered B W N S) ≡ o → gone r (memoryOf bytes words numbers sums) ≡ o
 gone-as bytes words numbers sums e b q n s d = (λ i. gone (e i) (gathered (b i) (q i) (n i) (s i))) ∙ d
 
+-- the same where the sums are as they were
+pub written-as : {r z : Went} {B X : Bytes} {W Y : Words} {N L : Numbers} {S : Sums} {o : Gone} → r ≡ z → X ≡ B → Y ≡ W → L ≡ N
+    → gone z (gathered B W N S) ≡ o → gone r (gathered X Y L S) ≡ o
+written-as {S} e b q n d = (λ i. gone (e i) (gathered (b i) (q i) (n i) S)) ∙ d
+
 -- a number is written twice at one place
 pub set-again : (l : List ℕ) (t x y : ℕ) → set (set l t x) t y ≡ set l t y
 set-again [] t x y = refl

@@ -1,13 +1,12 @@
 -- `run_memory::act::act_alloc` meets its contract: beyond the quota, where a number does not fit, and within both.
-use mathlib.Core.Path.{_≡_, refl, ap, _∙_}
+use mathlib.Core.Path.{refl, ap, _∙_}
 use Prim.Native.Nat.{_+_, _-_, _^_, _<_}
 use borrow.Author.Tests.{not-true, not-false}
 use denote.Ref.{now}
-use Rattle.schedule.specs.Machine.{nobody}
 use Rattle.array_machine.proofs.Leaves.{fits16, fits64}
-use Rattle.run_memory.specs.Blocks.{Bytes, Words, Sums, bytesIn, wordsIn, numbersIn, sumsIn}
+use Rattle.run_memory.specs.Blocks.{Words, Sums, bytesIn, wordsIn, numbersIn, sumsIn}
 use Rattle.run_memory.specs.Code.Writes.{heldSums, having}
-use Rattle.run_memory.proofs.Acts.{gone-as, settled-as, settled-words-as, kept-words-as, room-in, alloc-room, alloc-beyond, alloc-unfit, alloc-done}
+use Rattle.run_memory.proofs.Acts.{gone-as, written-as, kept-words-as, room-in, alloc-room, alloc-beyond, alloc-unfit, alloc-done}
 use borrow.Author.Needs.{needs}
 use Rattle.run_memory.proofs.act.act_alloc.Statement.{statement}
 use Rattle.run_memory.proofs.act.act_alloc.Tie as tie
@@ -24,13 +23,8 @@ passed c =
 quota-left-requires : tie.Need-quota-left-requires
 quota-left-requires c κs = search needs
 
-put-status-requires : tie.Need-put-status-requires
-put-status-requires c κs = search needs
-
-let-go-requires : tie.Need-let-go-requires
-let-go-requires c κs =
-    let s = c .before .before .before in
-    room-in (s .before .before .before .before .before .before .pre) (ap (λ (B : Bytes). B .holds) (s .put-status .ensures)) refl
+put-back-requires : tie.Need-put-back-requires
+put-back-requires c κs = room-in (c .before .before .before .before .before .before .before .pre) refl refl
 
 said-requires : tie.Need-said-requires
 said-requires c κs = search needs
@@ -38,8 +32,7 @@ said-requires c κs = search needs
 returns : tie.Need-returns
 returns c =
     let g = c .before in
-    let s = g .before .before .before .before in
-    let i = s .before .before in
+    let i = g .before .before .before .before in
     let q = i .before in
     let d = q .before .before .before in
     let B = bytesIn (now (d .args .bytes)) in
@@ -49,10 +42,8 @@ returns c =
     let w = d .args .w in
     let t = d .args .t in
     let a = d .args .a in
-    let same : _≡_ {A = Words} W W = refl in
     λ T.
-    gone-as (g .let-go .last .0) (g .let-go .last .1 .0) (g .let-go .last .1 .1 .0) (now (d .args .sums)) (c .said .ensures)
-    (settled-as w nobody (s .put-status .ensures) (g .let-go .ensures .0)) (settled-words-as w nobody (s .put-status .ensures) same (g .let-go .ensures .1 .0)) (g .let-go .ensures .1 .1) refl
+    written-as (c .said .ensures) (g .put-back .ensures .0) (g .put-back .ensures .1 .0) (g .put-back .ensures .1 .1)
     (alloc-beyond B W N S T w t a (d .args .x) (q .quota-left .ensures) (i .if1 .taken))
 
 amount-at-requires : tie.Need-amount-at-requires
@@ -145,8 +136,7 @@ act-alloc-spec =
     tie.close
     (tie.spec
     quota-left-requires
-    put-status-requires
-    let-go-requires
+    put-back-requires
     said-requires
     returns
     amount-at-requires
