@@ -8,8 +8,13 @@ mod Acts
 mod ListActs
 mod Takes
 mod Laying
+mod Drives
 pub mod Fixed
+pub mod Undone
 pub mod Turning
 pub mod Manned
 pub mod Refines
+pub mod RunsRefine
 pub mod Packed
+pub mod ByValue
+pub mod Refusals

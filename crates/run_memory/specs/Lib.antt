@@ -3,4 +3,5 @@ pub mod Blocks
 pub mod Places
 pub mod Stands
 pub mod Packing
+pub mod Runs
 pub mod Code
