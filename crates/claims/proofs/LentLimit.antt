@@ -50,7 +50,7 @@ use Rattle.claims.specs.LentCalls.{LentCall, moving, opening, lentMove, 
 use Rattle.wivakkol.proofs.Opens.{open-record, open-stands, opens-stands}
 use Rattle.wivakkol.proofs.Numbered.{Numbered, begin-numbered, turn-numbered}
 use Rattle.run_memory.proofs.Refines.{Turns, turn-refines}
-use Rattle.wivakkol.proofs.RunsRefine.{valuesRun, list-refines, rounds-refines}
+use Rattle.wivakkol.proofs.RunAnswers.{valuesRun, list-answers, rounds-answers}
 
 -- ---- a beginning
 
@@ -142,10 +142,10 @@ call-refines s M h (turn w) =
       stands = t .stands;
     }
 call-refines s M h (overList l) =
-    let t = list-refines s M h l in
+    let t = list-answers s M h l in
     record { record-after = t .record-after; row = ap (λ (n : ℕ). take n l) (row-turns (listRun (runIn s M) l .report) (t .row)); stands = t .stands }
 call-refines s M h (inRounds limit) =
-    let t = rounds-refines s M h limit in
+    let t = rounds-answers s M h limit in
     record { record-after = t .record-after; row = ap (firsts (λ i. i % (getD (M .settings) 0 0)) 0) (row-turns (roundsRun (runIn s M) limit .report) (t .row)); stands = t .stands }
 
 -- what a list of calls leaves: it is those of them that move the run, on the record, and the record after it stands

@@ -8,5 +8,4 @@ mod Turns
 mod Previews
 pub mod PreviewRefines
 pub mod Numbered
-mod Drives
-pub mod RunsRefine
+pub mod RunAnswers
