@@ -52,7 +52,7 @@ use Rattle.claims.specs.Answers.{answerOf, inNumbers, returnedBy}
 use Rattle.wivakkol.proofs.Opens.{open-record, open-refines, open-stands, opens-stands}
 use Rattle.wivakkol.proofs.Numbered.{Numbered, begin-numbered, turn-numbered}
 use Rattle.run_memory.proofs.Refines.{Turns, turn-refines}
-use Rattle.wivakkol.proofs.RunsRefine.{valuesRun, list-refines, rounds-refines}
+use Rattle.wivakkol.proofs.RunAnswers.{valuesRun, list-answers, rounds-answers}
 
 -- ---- a beginning
 
@@ -146,7 +146,7 @@ call-refines s M h (turn w) =
       stands = t .stands;
     }
 call-refines s M h (overList l) =
-    let t = list-refines s M h l in
+    let t = list-answers s M h l in
     record {
       record-after = t .record-after;
       answer = λ i. returned (t .number i) (t .row i);
@@ -154,7 +154,7 @@ call-refines s M h (overList l) =
       stands = t .stands;
     }
 call-refines s M h (inRounds limit) =
-    let t = rounds-refines s M h limit in
+    let t = rounds-answers s M h limit in
     record {
       record-after = t .record-after;
       answer = λ i. returned (t .number i) (t .row i);

@@ -20,7 +20,6 @@ use Rattle.schedule.specs.Record.{maxBytes}
 use Rattle.order.specs.Words.{filled}
 use Rattle.schedule.specs.Sound.{Steady}
 use Rattle.schedule.specs.Calls.{Call, turn, overList, inRounds}
-use Rattle.schedule.specs.Answers.{finished, nothing}
 use Rattle.schedule.specs.Runs.{workerAt}
 use Rattle.order.proofs.Lists.{filled-front, filled-length, firsts-length}
 use Rattle.schedule.proofs.Stores.{steady-lawful}
@@ -30,9 +29,10 @@ use Rattle.array_machine.specs.declared.Moved.{Moved}
 use Rattle.array_machine.specs.Arrays.{Arrays, linksOf, secondOf, actionIn, amountIn, withStatuses, withAmounts, advancedIn, relinked, headed, holding}
 use Rattle.array_machine.specs.Turn.{Outcome, moved, unfit, nextFits, amountFits, waitsIn, actOn, actIn, Seat, seat, seatOf, seatIn, stepFrom, stepOn}
 use Rattle.array_machine.specs.Counted.{Left, counting, unmoved, roomFor, turnOn}
-use Rattle.run_memory.specs.Memory.{Memory, workerIn, movedIn, memoryAfter, Answer, answer, hindrance, told, turnLeft, turnIn, lentTurn}
+use Rattle.run_memory.specs.Memory.{Memory, workerIn, movedIn, memoryAfter, hindrance, told, turnLeft, turnIn, lentTurn}
 use Rattle.run_memory.specs.Stands.{runIn}
-use Rattle.wivakkol.specs.Lent.{runRow, overIn, lentDrive, lentList, lentRounds, startMemory, blankMemory, begunAs, lentBegin}
+use Rattle.run_memory.specs.Runs.{Stopped, overIn, driveIn, listRunIn, roundsRunIn}
+use Rattle.wivakkol.specs.Lent.{lentList, lentRounds, startMemory, blankMemory, begunAs, lentBegin}
 use Rattle.wivakkol.specs.Opened.{soundIn, blankIn, openedIn, openedAs, lentOpen}
 use Rattle.claims.specs.LentCalls.{LentCall, moving, opening, lentMove, lentCall}
 use Rattle.wivakkol.proofs.Opens.{open-stands}
@@ -192,25 +192,19 @@ turn-shaped s w M h =
     go true false n z k = h
     go false c n z k = h
 
-drive-shaped : (s : List ℕ) (who : ℕ → ℕ) (k i : ℕ) (M : Memory) → Shaped M → Shaped (lentDrive s who k i M .memory)
-unfolding lentDrive
-drive-shaped s who zero i M h = h
-drive-shaped s who (suc k) i M h =
-    go (overIn M) (eqb (turnIn s (who i) M .number) 0) (drive-shaped s who k (suc i) (turnIn s (who i) M .memory) (turn-shaped s (who i) M h))
-  where
-    go : (b c : Bool) → Shaped (lentDrive s who k (suc i) (turnIn s (who i) M .memory) .memory)
-        → Shaped (pick b (answer 0 (runRow finished i) M)
-        (pick c (lentDrive s who k (suc i) (turnIn s (who i) M .memory)) (answer (turnIn s (who i) M .number) (runRow nothing i) M)) .memory)
-    go true c r = h
-    go false true r = r
-    go false false r = h
-
-either : (b : Bool) (x y : Answer) → Shaped (x .memory) → Shaped (y .memory) → Shaped (pick b x y .memory)
+either : (b : Bool) (x y : Stopped) → Shaped (x .memory) → Shaped (y .memory) → Shaped (pick b x y .memory)
 either true x y h k = h
 either false x y h k = k
 
+drive-shaped : (s : List ℕ) (who : ℕ → ℕ) (k i : ℕ) (M : Memory) → Shaped M → Shaped (driveIn s who k i M .memory)
+unfolding driveIn
+drive-shaped s who zero i M h = h
+drive-shaped s who (suc k) i M h =
+    either (overIn M) _ _ h
+    (either (eqb (turnIn s (who i) M .number) 0) _ _ (drive-shaped s who k (suc i) (turnIn s (who i) M .memory) (turn-shaped s (who i) M h)) h)
+
 move-shaped : (s : List ℕ) (c : Call) (M : Memory) → Shaped M → Shaped (lentMove s c M .memory)
-unfolding lentMove lentTurn lentList lentRounds
+unfolding lentMove lentTurn lentList lentRounds listRunIn roundsRunIn
 move-shaped s (turn w) M h = turn-shaped s w M h
 move-shaped s (overList l) M h = either (eqb (movedIn M .turns) (2 ^ 64 - 1)) _ _ h (drive-shaped s (workerAt l false (getD (M .settings) 0 0)) (length l) 0 M h)
 move-shaped s (inRounds limit) M h =

@@ -10,8 +10,13 @@ mod Takes
 mod Seeing
 pub mod Foreseeing
 mod Laying
+mod Drives
 pub mod Fixed
+pub mod Undone
 pub mod Turning
 pub mod Manned
 pub mod Refines
+pub mod RunsRefine
 pub mod Packed
+pub mod ByValue
+pub mod Refusals

@@ -17,6 +17,7 @@ use Rattle.schedule.specs.declared.Run.{Run}
 use Rattle.schedule.specs.declared.Reply.{Reply}
 use Rattle.schedule.specs.declared.Reply.the-variants.{Idle, Done, Quota, Wait}
 use Rattle.schedule.specs.declared.Turned.{Turned}
+use Rattle.schedule.specs.declared.Turning.{Turning}
 use Rattle.schedule.specs.declared.Turning.the-variants.{Taken}
 use Rattle.schedule.specs.declared.Turning.the-variants.{Refused as refusedTurn}
 use Rattle.schedule.specs.Machine.{ended, nobody}
@@ -126,16 +127,35 @@ taken-row (Done t a) k = refl
 taken-row (Quota t y) k = refl
 taken-row (Wait t c) k = refl
 
+-- what is told of a turn and of the threads that it passes over, read as a turn of the record
+abbrev pub turnedBy : List ℕ → Told → ℕ → Turned
+turnedBy s t passed = record { answer = pick (eqb (t .number) 0) (Taken (t .reply) passed) (refusedTurn (refusal (t .number) 0)); run = runIn s (t .memory) }
+
+-- its number and its row
+module _ (t : Told) (k : ℕ) where
+  abbrev answered : Bool → Turning
+  answered b = pick b (Taken (t .reply) k) (refusedTurn (refusal (t .number) 0))
+
+  said-number : t .number ≡ turningValues (answered (eqb (t .number) 0)) .number
+  said-number = go (eqb (t .number) 0) refl
+    where
+      go : (b : Bool) → eqb (t .number) 0 ≡ b → t .number ≡ turningValues (answered b) .number
+      go true e = eqb-true _ _ e ∙ taken-number (t .reply) k
+      go false e = refl
+
+  said-row : pick (eqb (t .number) 0) (turnRow (t .reply) k) noRow ≡ valuesRow (turningValues (answered (eqb (t .number) 0)))
+  said-row = go (eqb (t .number) 0)
+    where
+      go : (b : Bool) → pick b (turnRow (t .reply) k) noRow ≡ valuesRow (turningValues (answered b))
+      go true = taken-row (t .reply) k
+      go false = refl
+
 -- what is said of an answer: it is the turn of the record, and the record after it stands
 pub record Turns (s : List ℕ) (M : Memory) (w : ℕ) (a : Answer) : Type 0 where
   pub number : a .number ≡ turnValues (runIn s M) w .number
   pub row : a .row ≡ valuesRow (turnValues (runIn s M) w)
   pub record-after : runIn s (a .memory) ≡ turned (runIn s M) w .run
   pub stands : Stands s (a .memory)
-
--- what is told of a turn and of the threads that it passes over, read as a turn of the record
-abbrev pub turnedBy : List ℕ → Told → ℕ → Turned
-turnedBy s t passed = record { answer = pick (eqb (t .number) 0) (Taken (t .reply) passed) (refusedTurn (refusal (t .number) 0)); run = runIn s (t .memory) }
 
 -- the searches along the two lists find the same thread
 searches-agree : (s : List ℕ) (M : Memory) → Stands s M
@@ -171,16 +191,6 @@ module _ (s : List ℕ) (M : Memory) (h : Stands s M) (w : ℕ) where
   abbrev r : Run
   r = runIn s M
 
-  refused : (number : ℕ) → refusedAs number r ≡ turned r w → Turns s M w (answer number noRow M)
-  refused number e =
-      let v = turn-values r w in
-      record {
-        number = ap (λ (x : Turned). turningValues (x .answer) .number) e ∙ ap (λ x. x .number) v;
-        row = ap (λ (x : Turned). valuesRow (turningValues (x .answer))) e ∙ ap valuesRow v;
-        record-after = ap (λ (x : Turned). x .run) e;
-        stands = h;
-      }
-
   bytes : bytesOf (settled s M) ≡ s
   bytes = filled-front maxBytes s
 
@@ -215,48 +225,30 @@ module _ (s : List ℕ) (M : Memory) (h : Stands s M) (w : ℕ) where
         ∙ passed-along r w (h .steady) (ap (λ (x : Worker). passedAlong (x .holds) (seek 1024 (M .arrays .status) (M .arrays .right) (movedIn M .totals .leftmost))) (sym (own-worker M w few))) in
         (λ i. record { answer = Taken (sym (goes .reply) i) (p i); run = after i }) ∙ turned-taken r w u b o
 
-    left : lentTurn s w M ≡ answer 0 (turnRow (z .reply) along) (memoryAfter M w z)
-        → Turns s M w (lentTurn s w M)
-    left e =
-        let t = taken-turned in
-        let v = turn-values r w in
-        subst (λ (a : Answer). Turns s M w a) (sym e)
-        (record {
-          number = taken-number (z .reply) along ∙ ap (λ (x : Turned). turningValues (x .answer) .number) t ∙ ap (λ x. x .number) v;
-          row = taken-row (z .reply) along ∙ ap (λ (x : Turned). valuesRow (turningValues (x .answer))) t ∙ ap valuesRow v;
-          record-after = ap (λ (x : Turned). x .run) t;
-          stands =
-              record {
-                steady = subst (λ (x : Run). Steady x) (sym after) (moved-steady r (h .steady) w b);
-                parent = h .parent;
-                second = goes .second;
-                truth-values = truths-set (M .holds) w (z .worker .holds) (omega (arith, few, h .holds-size)) (h .truth-values);
-                holds-size = length-set (M .holds) w (pick (z .worker .holds) 1 0) ∙ h .holds-size;
-                threads-size = length-set (M .threads) w (z .worker .thread) ∙ h .threads-size;
-                quotas-size = length-set (M .quotas) w (z .worker .quota) ∙ h .quotas-size;
-                turns-fit = omega (arith, goes .count, h .turns-fit, room);
-              };
-        })
+    stands-so : Stands s (memoryAfter M w z)
+    stands-so =
+        record {
+          steady = subst (λ (x : Run). Steady x) (sym after) (moved-steady r (h .steady) w b);
+          parent = h .parent;
+          second = goes .second;
+          truth-values = truths-set (M .holds) w (z .worker .holds) (omega (arith, few, h .holds-size)) (h .truth-values);
+          holds-size = length-set (M .holds) w (pick (z .worker .holds) 1 0) ∙ h .holds-size;
+          threads-size = length-set (M .threads) w (z .worker .thread) ∙ h .threads-size;
+          quotas-size = length-set (M .quotas) w (z .worker .quota) ∙ h .quotas-size;
+          turns-fit = omega (arith, goes .count, h .turns-fit, room);
+        }
 
     told-so : (eqb (movedIn M .turns) (2 ^ 64 - 1) ≡ false) → (ltb w (getD (M .settings) 0 0) ≡ true) → (eqb (getD (M .arrays .status) 0 0) ended ≡ false)
         → turnIn s w M ≡ told 0 (z .reply) (memoryAfter M w z)
     unfolding turnIn turnLeft hindrance
     told-so x y q = rw (x, y, q, goes .fits)
 
-    left-so : (eqb (movedIn M .turns) (2 ^ 64 - 1) ≡ false) → (ltb w (getD (M .settings) 0 0) ≡ true) → (eqb (getD (M .arrays .status) 0 0) ended ≡ false)
-        → lentTurn s w M ≡ answer 0 (turnRow (z .reply) along) (memoryAfter M w z)
-    unfolding lentTurn turnIn turnLeft hindrance
-    left-so x y q = rw (x, y, q, goes .fits)
-
-  hindered-so : (k : ℕ) → hindrance (movedIn M .turns) (getD (M .settings) 0 0) w (getD (M .arrays .status) 0 0) ≡ suc k → lentTurn s w M ≡ answer (suc k) noRow M
-  unfolding lentTurn turnIn
-  hindered-so k e =
-      let n : eqb (suc k) 0 ≡ false = ne-eqb (suc k) 0 (λ d. omega (arith, d)) in
-      rw (e, n, n)
+  hindered-so : (k : ℕ) → hindrance (movedIn M .turns) (getD (M .settings) 0 0) w (getD (M .arrays .status) 0 0) ≡ suc k → turnIn s w M ≡ told (suc k) Idle M
+  unfolding turnIn
+  hindered-so k e = rw (e, ne-eqb (suc k) 0 (λ d. omega (arith, d)))
 
   -- a turn that is taken, as a run takes it
   pub taken-so : (eqb (movedIn M .turns) (2 ^ 64 - 1) ≡ false) → (ltb w (getD (M .settings) 0 0) ≡ true) → (eqb (getD (M .arrays .status) 0 0) ended ≡ false) → Moves s M w
-  unfolding lentTurn
   taken-so x y q =
       let room = eqb-false _ _ x in
       let b = ltb-true _ _ y in
@@ -266,21 +258,42 @@ module _ (s : List ℕ) (M : Memory) (h : Stands s M) (w : ℕ) where
         number = ap (λ (t : Told). t .number) e;
         reply = ap (λ (t : Told). t .reply) e ∙ sym (goes room b o .reply);
         record-after = ap (λ (t : Told). runIn s (t .memory)) e ∙ after room b o;
-        stands = left room b o (left-so room b o x y q) .stands;
+        stands = subst (λ (t : Told). Stands s (t .memory)) (sym e) (stands-so room b o);
         settings = ap (λ (t : Told). t .memory .settings) e;
         count = ap (λ (t : Told). movedIn (t .memory) .turns) e ∙ goes room b o .count;
       }
 
-  -- the law of refinement
-  pub turn-refines : Turns s M w (lentTurn s w M)
+  -- a turn that answers 0 is taken
+  pub moves-so : turnIn s w M .number ≡ 0 → Moves s M w
   unfolding hindrance
-  turn-refines = go (eqb (movedIn M .turns) (2 ^ 64 - 1)) refl (ltb w (getD (M .settings) 0 0)) refl (eqb (getD (M .arrays .status) 0 0) ended) refl
+  moves-so n = go (eqb (movedIn M .turns) (2 ^ 64 - 1)) refl (ltb w (getD (M .settings) 0 0)) refl (eqb (getD (M .arrays .status) 0 0) ended) refl
     where
-      stop : (k : ℕ) → hindrance (movedIn M .turns) (getD (M .settings) 0 0) w (getD (M .arrays .status) 0 0) ≡ suc k → refusedAs (suc k) r ≡ turned r w → Turns s M w (lentTurn s w M)
-      stop k e d = subst (λ (a : Answer). Turns s M w a) (sym (hindered-so k e)) (refused (suc k) d)
+      never : (k : ℕ) → hindrance (movedIn M .turns) (getD (M .settings) 0 0) w (getD (M .arrays .status) 0 0) ≡ suc k → Moves s M w
+      never k e = absurd (let d : suc k ≡ 0 = sym (ap (λ (t : Told). t .number) (hindered-so k e)) ∙ n in omega (arith, d))
+
+      go : (x : Bool) → eqb (movedIn M .turns) (2 ^ 64 - 1) ≡ x → (y : Bool) → ltb w (getD (M .settings) 0 0) ≡ y → (q : Bool) → eqb (getD (M .arrays .status) 0 0) ended ≡ q → Moves s M w
+      go true x y e q f = never 31 (rw x)
+      go false x false e q f = never 29 (rw (x, e))
+      go false x true e true f = never 30 (rw (x, e, f))
+      go false x true e false f = taken-so x e f
+
+  -- ---- the law of refinement
+
+  record Said (t : Told) : Type 0 where
+    as-turned : turnedBy s t (passedOver M w) ≡ turned r w
+    stands : Stands s (t .memory)
+
+  told-refines : Said (turnIn s w M)
+  unfolding hindrance
+  told-refines = go (eqb (movedIn M .turns) (2 ^ 64 - 1)) refl (ltb w (getD (M .settings) 0 0)) refl (eqb (getD (M .arrays .status) 0 0) ended) refl
+    where
+      stop : (k : ℕ) → hindrance (movedIn M .turns) (getD (M .settings) 0 0) w (getD (M .arrays .status) 0 0) ≡ suc k → refusedAs (suc k) r ≡ turned r w → Said (turnIn s w M)
+      stop k e d =
+          subst (λ (t : Told). Said t) (sym (hindered-so k e))
+          (record { as-turned = rw (ne-eqb (suc k) 0 (λ z. omega (arith, z))) d; stands = h })
 
       go : (x : Bool) → eqb (movedIn M .turns) (2 ^ 64 - 1) ≡ x → (y : Bool) → ltb w (getD (M .settings) 0 0) ≡ y → (q : Bool) → eqb (getD (M .arrays .status) 0 0) ended ≡ q
-          → Turns s M w (lentTurn s w M)
+          → Said (turnIn s w M)
       go true x y e q f = stop 31 (rw x) (turned-unsound r w (steady-full r (h .steady) (eqb-true _ _ x)))
       go false x false e q f = stop 29 (rw (x, e)) (turned-none r w (steady-room r (h .steady) (h .turns-fit) (eqb-false _ _ x)) (ltb-false _ _ e))
       go false x true e true f =
@@ -289,21 +302,22 @@ module _ (s : List ℕ) (M : Memory) (h : Stands s M) (w : ℕ) where
           let room = eqb-false _ _ x in
           let b = ltb-true _ _ e in
           let o = root-open r (eqb-false _ _ f) in
-          left room b o (left-so room b o x e f)
+          subst (λ (t : Told). Said t) (sym (told-so room b o x e f)) (record { as-turned = taken-turned room b o; stands = stands-so room b o })
 
-  -- and as a whole: what is told, read as a turn of the record
+  -- as a whole: what is told, read as a turn of the record
   pub turn-turned : turnedBy s (turnIn s w M) (passedOver M w) ≡ turned r w
-  unfolding hindrance turnIn
-  turn-turned = go (eqb (movedIn M .turns) (2 ^ 64 - 1)) refl (ltb w (getD (M .settings) 0 0)) refl (eqb (getD (M .arrays .status) 0 0) ended) refl
-    where
-      go : (x : Bool) → eqb (movedIn M .turns) (2 ^ 64 - 1) ≡ x → (y : Bool) → ltb w (getD (M .settings) 0 0) ≡ y → (q : Bool) → eqb (getD (M .arrays .status) 0 0) ended ≡ q
-          → turnedBy s (turnIn s w M) (passedOver M w) ≡ turned r w
-      go true x y e q f = rw x (turned-unsound r w (steady-full r (h .steady) (eqb-true _ _ x)))
-      go false x false e q f = rw (x, e) (turned-none r w (steady-room r (h .steady) (h .turns-fit) (eqb-false _ _ x)) (ltb-false _ _ e))
-      go false x true e true f =
-          rw (x, e, f) (turned-over r w (steady-room r (h .steady) (h .turns-fit) (eqb-false _ _ x)) (ltb-true _ _ e) (root-over r (eqb-true _ _ f)))
-      go false x true e false f =
-          let room = eqb-false _ _ x in
-          let b = ltb-true _ _ e in
-          let o = root-open r (eqb-false _ _ f) in
-          ap (λ (t : Told). turnedBy s t (passedOver M w)) (told-so room b o x e f) ∙ taken-turned room b o
+  turn-turned = told-refines .as-turned
+
+  -- and as C is answered
+  pub turn-refines : Turns s M w (lentTurn s w M)
+  unfolding lentTurn
+  turn-refines =
+      let t : Told = turnIn s w M in
+      let e = turn-turned in
+      let v = turn-values r w in
+      record {
+        number = said-number t (passedOver M w) ∙ ap (λ (x : Turned). turningValues (x .answer) .number) e ∙ ap (λ x. x .number) v;
+        row = said-row t (passedOver M w) ∙ ap (λ (x : Turned). valuesRow (turningValues (x .answer))) e ∙ ap valuesRow v;
+        record-after = ap (λ (x : Turned). x .run) e;
+        stands = told-refines .stands;
+      }

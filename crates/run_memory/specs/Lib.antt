@@ -4,4 +4,5 @@ pub mod Places
 pub mod Stands
 pub mod Preview
 pub mod Packing
+pub mod Runs
 pub mod Code

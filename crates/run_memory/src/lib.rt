@@ -45,6 +45,7 @@ pub mod places;
 pub mod preview;
 pub mod replies;
 pub mod rounds;
+pub mod runs;
 
 // What a turn says: a refusal's number, or 0 and the reply; and how many threads stood left of one that was taken, if that was asked for.
 pub struct Spoken {

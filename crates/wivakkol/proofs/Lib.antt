@@ -7,5 +7,4 @@ pub mod WallLines
 mod Previews
 pub mod PreviewRefines
 pub mod Numbered
-mod Drives
-pub mod RunsRefine
+pub mod RunAnswers

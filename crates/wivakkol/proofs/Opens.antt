@@ -38,6 +38,7 @@ use Rattle.soundness.proofs.OnParts.{sound-is, blank-is}
 use Rattle.array_machine.specs.Arrays.{linksOf}
 use Rattle.schedule.specs.Answers.{nothing}
 use Rattle.run_memory.specs.Memory.{Memory, movedIn, noRow, answer, hindrance, turnIn, lentTurn}
+use Rattle.run_memory.specs.Runs.{roundsRunIn}
 use Rattle.wivakkol.specs.Lent.{runRow, lentRounds, blankMemory}
 use Rattle.run_memory.specs.Stands.{truths, workersFrom, workersIn, runIn, Stands}
 use Rattle.wivakkol.specs.Opened.{soundIn, blankIn, beside, openedIn, blankedIn, openedAs, lentOpen}
@@ -202,7 +203,7 @@ module _ (s : List ℕ) (M : Memory) (h : blankIn M ≡ true) where
   blank-turn w = rw (no-turns, no-workers, le-ltb w 0 (omega arith))
 
   pub blank-rounds : (limit : ℕ) → lentRounds s limit M ≡ answer 30 (runRow nothing 0) M
-  unfolding lentRounds
+  unfolding lentRounds roundsRunIn
   blank-rounds limit = rw (no-turns, no-workers)
 
 -- a run that stands, opened anew: it stands, whatever the call answers

@@ -1,53 +1,43 @@
--- Runs over a list and in rounds, and beginnings, in memory that C lends; the turn itself is run_memory's (crates/run_memory/specs/Memory).
-use Prim.Native.Nat.{ℕ, zero, suc, _-_, _^_}
+-- What runs over a list and in rounds answer to C, and beginnings in memory that it lends; the turn and the runs themselves are run_memory's (crates/run_memory/specs, Memory and Runs).
+use Prim.Native.Nat.{ℕ}
 use mathlib.Core.List.{List, [], _∷_}
-use mathlib.Core.Bool.{Bool, true, false}
-use lib.ListN.{length, getD, set, replicate}
+use mathlib.Core.Bool.{Bool, true}
+use lib.ListN.{set, replicate}
 use lib.Dec.{eqb}
 use Rattle.table.specs.Sum.{pick}
 use Rattle.table.specs.Format.{tableOf}
 use Rattle.table.specs.declared.Found.{Found}
 use Rattle.table.specs.declared.Found.the-variants.{Nothing, At}
-use Rattle.schedule.specs.Machine.{ready, ended}
+use Rattle.schedule.specs.Machine.{ready}
 use Rattle.schedule.specs.Links.{noThread}
 use Rattle.table.specs.Checks.{maxThreads}
 use Rattle.schedule.specs.Record.{maxWorkers}
 use Rattle.schedule.specs.Answers.{Said, nothing, finished, spent}
-use Rattle.schedule.specs.Runs.{workerAt}
 use Rattle.soundness.specs.Tested.{parentsIn, nextIf, beginFound}
 use Rattle.array_machine.specs.Arrays.{arrays}
-use Rattle.run_memory.specs.Memory.{Memory, memory, movedIn, saidCode, Answer, answer, Told, turnIn}
+use Rattle.run_memory.specs.Memory.{Memory, memory, saidCode, Answer, answer}
+use Rattle.run_memory.specs.Runs.{Stopped, listRunIn, roundsRunIn}
 
 -- ---- runs
+
+-- what is said of where a run stopped
+abbrev pub saidOf : ℕ → Bool → Said
+saidOf number over = pick (eqb number 0) (pick over finished spent) nothing
 
 -- place, what is said, and the turns taken
 abbrev pub runRow : Said → ℕ → List ℕ
 runRow x turns = 0 ∷ saidCode x ∷ turns ∷ []
 
--- the root has ended
-abbrev pub overIn : Memory → Bool
-overIn M = eqb (getD (M .arrays .status) 0 0) ended
+abbrev pub stoppedAs : Stopped → Answer
+stoppedAs d = answer (d .number) (runRow (saidOf (d .number) (d .finished)) (d .turns)) (d .memory)
 
--- At most k turns more after i turns, the worker of turn i given by `who`: "a run stops at the root's end, a refusal or the list's end"
-unfoldable pub lentDrive : List ℕ → (ℕ → ℕ) → ℕ → ℕ → Memory → Answer
-lentDrive s who zero i M = answer 0 (runRow (pick (overIn M) finished spent) i) M
-lentDrive s who (suc k) i M =
-    let t : Told = turnIn s (who i) M in
-    let rest : Answer = lentDrive s who k (suc i) (t .memory) in
-    pick (overIn M) (answer 0 (runRow finished i) M) (pick (eqb (t .number) 0) rest (answer (t .number) (runRow nothing i) M))
-
--- "Over a list of worker numbers"; 32 first where no turn can be counted
+-- "Over a list of worker numbers"
 unfoldable pub lentList : List ℕ → List ℕ → Memory → Answer
-lentList s l M =
-    let go : Answer = lentDrive s (workerAt l false (getD (M .settings) 0 0)) (length l) 0 M in
-    pick (eqb (movedIn M .turns) (2 ^ 64 - 1)) (answer 32 (runRow nothing 0) M) go
+lentList s l M = stoppedAs (listRunIn s l M)
 
--- "In rounds (0 to p − 1, again and again, starting with worker 0)"; with no worker 30
+-- "In rounds (0 to p − 1, again and again, starting with worker 0)"
 unfoldable pub lentRounds : List ℕ → ℕ → Memory → Answer
-lentRounds s limit M =
-    let p : ℕ = getD (M .settings) 0 0 in
-    let go : Answer = lentDrive s (workerAt [] true p) limit 0 M in
-    pick (eqb (movedIn M .turns) (2 ^ 64 - 1)) (answer 32 (runRow nothing 0) M) (pick (eqb p 0) (answer 30 (runRow nothing 0) M) go)
+lentRounds s limit M = stoppedAs (roundsRunIn s limit M)
 
 -- ---- a beginning
 
