@@ -1,8 +1,8 @@
-/* Wivakkol, called from C, for x86-64: wivakkol_turn is linked from the archive libsingle.a (`rt staticlib single`), all other calls from libboard.a (`rt staticlib board`), in either order. A
+/* Wivakkol, called from C, for x86-64: wivakkol_turn is linked from the archive libwivakkol_turn.a (`rt staticlib wivakkol_turn`), all other calls from libwivakkol.a (`rt staticlib wivakkol`), in either order. A
  * board that does the actions takes single turns, and a turn that is compiled by itself needs little stack (docs/REFERENCE.md, "From C"): so it has an archive of its own.
  *
  * Every call answers every input: no table, no number and no content of a run's memory is outside what it takes, and nothing is to be tested before it. It allocates nothing, keeps
- * nothing from one call to the next and writes to no memory but what it is lent. Each answer is proved equal to its definition (crates/single/src/ and crates/board/src/ have the promises);
+ * nothing from one call to the next and writes to no memory but what it is lent. Each answer is proved equal to its definition (crates/wivakkol_turn/src/ and crates/wivakkol/src/ have the promises);
  * that this header says the same as that source is not proved, but tested (tests/board.py).
  *
  * A call returns a number: 0, or the number of the check that refuses (docs/REFERENCE.md, "Refusals"). Into the row it puts the place of the refusal, 0 where there is none, and then its

@@ -2,7 +2,7 @@
 were written on their own. Holds the header against the source, since nothing else would say where they differ.
 
 usage: python3 tests/board.py [COUNT]
-    From the repository's top, after `rt staticlib single` and `rt staticlib board`; COUNT tables and half as many runs of each kind, default 3,000; needs a C compiler, `cc`.
+    From the repository's top, after `rt staticlib wivakkol_turn` and `rt staticlib wivakkol`; COUNT tables and half as many runs of each kind, default 3,000; needs a C compiler, `cc`.
 """
 import collections
 import os
@@ -24,7 +24,7 @@ from tables import damaged
 sys.path.insert(0, str(pathlib.Path(__file__).parent.parent / 'bench'))
 import stack
 
-CRATES, OUT = ['single', 'board'], 'target/c'
+CRATES, OUT = ['wivakkol_turn', 'wivakkol'], 'target/c'
 ARCHIVES = ['target/staticlib/lib%s.a' % crate for crate in CRATES]
 NUMBERS = {'wivakkol_check': set(range(12)), 'wivakkol_quota': set(range(12)) | {20, 41, 42}}  # what each call can return
 BYTES = {'table': 'length', 'order': 'turns'}  # the names of their numbers of bytes

@@ -1,5 +1,5 @@
 //! AsyncDF for job tables: a scheduler whose memory is bounded beforehand, for every order in which its workers take their turns. The calls are proved; this crate calls them in the archives
-//! `libsingle.a` and `libboard.a`, which `rt staticlib single` and `rt staticlib board` write, and gives their numbers types. It has no heap, no state and no dependencies. docs/REFERENCE.md
+//! `libwivakkol_turn.a` and `libwivakkol.a`, which `rt staticlib wivakkol_turn` and `rt staticlib wivakkol` write, and gives their numbers types. It has no heap, no state and no dependencies. docs/REFERENCE.md
 //! of the repository says what a table is, what a turn does and which bounds hold.
 //!
 //! ```

@@ -32,7 +32,7 @@ fn as_pointers(parameters: &[String]) -> Vec<String> {
 #[test]
 fn calls_are_of_the_source() {
     let mut source = BTreeMap::new();
-    for name in ["single", "board"] {
+    for name in ["wivakkol_turn", "wivakkol"] {
         for entry in fs::read_dir(format!("{HERE}/../../crates/{name}/src")).unwrap() {
             let text = fs::read_to_string(entry.unwrap().path()).unwrap();
             source.extend(functions(&text, "pub extern \"C\" fn "));
