@@ -39,7 +39,7 @@ stateIn A totals worker = stateOver A (listedIn A totals) totals worker
 
 -- a turn before it is counted
 unfoldable pub turnBody : Table → ℕ → ℕ → State → Stepped
-turnBody T K w st = pick (workerOf st w .holds) (act T w st) (turnFree T K w st)
+turnBody T K w st = pick (workerOf st w .holds) (act T K w st) (turnFree T K w st)
 
 -- ---- of a sound run
 

@@ -7,10 +7,10 @@ use native.Mathlib.Omega.{arith}
 use borrow.Author.Tests.{lt-ltb}
 use lib.ListN.{length, getD, set}
 use lib.Seq.{getD-set-same}
-use Rattle.table.specs.Format.{alloc, free, fork, join, codeOf, is, kind, threadsOf, actionsOf, tableOf}
-use Rattle.table.specs.Checks.{allocOf}
+use Rattle.table.specs.Format.{free, fork, join, kind, threadsOf, actionsOf, tableOf}
 use Rattle.table.proofs.Sizes.{Sizes, sizes}
 use Rattle.table.proofs.Bodies.{fork-below, join-below}
+use Rattle.table.proofs.ReadBack.{argument-short}
 use Rattle.schedule.specs.declared.Worker.{Worker}
 use Rattle.schedule.specs.declared.Run.{Run}
 use Rattle.schedule.specs.Machine.{State, ready, held, nobody, workerOf, taken}
@@ -124,18 +124,15 @@ module _ {s : List ℕ} {n K : ℕ} {A : Arrays} {totals : Totals} {worker : Wor
     next-is-below : actionIn A (worker .thread) < tableOf s .actions
     next-is-below = next-below (tableOf s) laws (q .p) K (stateOf run) known (worker .thread) thread-below
 
-    pub alloc-room : kind (tableOf s) (actionIn A (worker .thread)) ≡ alloc → totals .held + tableOf s .argument (actionIn A (worker .thread)) < 2 ^ 64
-    unfolding allocOf is codeOf
-    alloc-room k =
-        let w : tableOf s .argument (actionIn A (worker .thread)) ≤ K = rw k at (fits .within (actionIn A (worker .thread)) next-is-below) in
-        omega (arith, held-fits run steady)
+    pub alloc-room : totals .held + tableOf s .argument (actionIn A (worker .thread)) < 2 ^ 64
+    alloc-room = omega (arith, argument-short s (actionIn A (worker .thread)), held-fits run steady)
 
     -- no thread holds more than is held
     pub amount-room : (t : ℕ) → getD (A .amounts) t 0 ≤ totals .held
     amount-room = amount-held (tableOf s) laws (q .p) K (stateOf run) known
 
-    pub own-room : kind (tableOf s) (actionIn A (worker .thread)) ≡ alloc → getD (A .amounts) (worker .thread) 0 + tableOf s .argument (actionIn A (worker .thread)) < 2 ^ 64
-    own-room k = omega (arith, alloc-room k, amount-room (worker .thread))
+    pub own-room : getD (A .amounts) (worker .thread) 0 + tableOf s .argument (actionIn A (worker .thread)) < 2 ^ 64
+    own-room = omega (arith, alloc-room, amount-room (worker .thread))
 
     pub child-room : (c : ℕ) → getD (A .amounts) (worker .thread) 0 + getD (A .amounts) c 0 < 2 ^ 64
     child-room c = omega (arith, amount-room (worker .thread), amount-room c, held-fits run steady)
