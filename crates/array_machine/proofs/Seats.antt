@@ -23,7 +23,7 @@ use Rattle.order.proofs.Lists.{filled-front}
 use Rattle.schedule.proofs.Sound.Done.{next-below}
 use Rattle.schedule.proofs.Preservation.Moves.{taken-facts}
 use Rattle.schedule.proofs.Sound.Shares.{free-held}
-use Rattle.schedule.proofs.Stores.{Fits, begin-fits}
+use Rattle.schedule.proofs.Stores.{Fits, setting-fits}
 use Rattle.schedule.proofs.ThreadMemory.{amount-held, free-amount}
 use Rattle.schedule.proofs.Soundness.{held-fits}
 use Rattle.schedule.proofs.Linked.LinkMoves.{take-actives}
@@ -69,7 +69,7 @@ module _ {s : List ℕ} {n K : ℕ} {A : Arrays} {totals : Totals} {worker : Wor
   steady =
       record {
         table = rw bytes (q .rules);
-        beginning = rw bytes (q .beginning);
+        settings = q .settings;
         state = rw bytes sound-part;
         set = refl;
         table-length = rw bytes;
@@ -83,8 +83,8 @@ module _ {s : List ℕ} {n K : ℕ} {A : Arrays} {totals : Totals} {worker : Wor
   pub known : Facts (tableOf s) (q .p) K (stateOf run)
   known = facts (tableOf s) laws (q .p) K (stateOf run) sound-part
 
-  pub fits : Fits (tableOf s) (q .p) K
-  fits = begin-fits (tableOf s) (q .p) K (q .beginning)
+  pub fits : Fits (q .p) K
+  fits = setting-fits (q .p) K (q .settings)
 
   pub few-threads : tableOf s .threads ≤ 1024
   few-threads = laws .few-threads
@@ -161,7 +161,7 @@ module _ {s : List ℕ} {n K : ℕ} {A : Arrays} {totals : Totals} {worker : Wor
         p = q .p;
         w = q .w;
         below = q .below;
-        beginning = q .beginning;
+        settings = q .settings;
         state = taken K (q .w) t (stateOf run);
         sound =
             sound-facts (tableOf s) laws (q .p) K (taken K (q .w) t (stateOf run))

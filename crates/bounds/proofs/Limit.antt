@@ -17,7 +17,7 @@ use Rattle.schedule.specs.Begin.{begin}
 use Rattle.schedule.specs.Calls.{Call, afterCalls, rowOfCalls}
 use Rattle.schedule.specs.Memory.{doneIn, memoryOf, peakMemory, Keeps, limit}
 use Rattle.schedule.proofs.Runs.Rows.{row-balanced, row-held, row-highest}
-use Rattle.schedule.proofs.Stores.{Fits}
+use Rattle.order.proofs.Lawful.{Within}
 use Rattle.schedule.proofs.Beginnings.{begun-exactly}
 use Rattle.schedule.proofs.Runs.Histories.{Started, begin-started, Traced, calls-traced}
 use Rattle.bounds.proofs.Delayed.{drawnCost, Delayed, small-delayed}
@@ -63,5 +63,5 @@ pub memory-limit : (s : List ℕ) (p K : ℕ) (r : Run) → begin s p K ≡ reco
     → MemoryLimit (tableOf s) p K b (afterCalls calls r) (rowOfCalls calls r)
 memory-limit s p K r e b g calls =
     let i : Started s p K r = begin-started s p K r e in
-    let f : Fits (tableOf s) p K = begun-exactly s p K .0 (ap (λ (x : Begun). x .answer) e) .1 in
-    delayed-limit s p K r (small-delayed (tableOf s) (i .lawful) K (f .within)) e b g calls
+    let within : Within (tableOf s) K = begun-exactly s p K .0 (ap (λ (x : Begun). x .answer) e) .1 .1 in
+    delayed-limit s p K r (small-delayed (tableOf s) (i .lawful) K within) e b g calls

@@ -54,8 +54,3 @@ rounds-few = refl
 pub rounds-enough : rootAfter E 3 6 18 ≡ ended
 unfolding sumTo anyBelow codeOf kindOf is tableOf ownerBelow forkBelow leftOf without waitsFor woken actBy acts leftmost taken turnFree turnOf firsts startState rowState
 rounds-enough = refl
-
--- N6: with K 3 both allocs of 4 are done at once, and draw nothing
-pub bigs-at-once : rootAfter twoAllocs 1 3 3 ≡ ended
-unfolding sumTo anyBelow codeOf kindOf is tableOf ownerBelow forkBelow leftOf without waitsFor woken actBy acts leftmost taken turnFree turnOf firsts startState rowState
-bigs-at-once = refl
