@@ -152,9 +152,9 @@ typedef struct wivakkol_work {
 /* A line of the wall chart: 84 characters and a newline, with no 0 after it. */
 #define WIVAKKOL_LINE 85
 
-/* The calls as they are exported: a turn, a list and rounds on the four blocks, the others on each part by itself, where `settings` is p and K, `threads` that of each worker, `heads` the three
- * from WIVAKKOL_LEFTMOST on and `totals` the three from WIVAKKOL_HELD on. Below are the seven for a wivakkol_run, which keep to what these ask for: each array has its full size, is aligned for
- * its numbers and never NULL, and overlaps no other array of the call; each was written before, those of the run in wivakkol_begin_on apart. */
+/* The calls as they are exported: a turn, its preview, a list and rounds on the four blocks, the others on each part by itself, where `settings` is p and K, `threads` that of each worker,
+ * `heads` the three from WIVAKKOL_LEFTMOST on and `totals` the three from WIVAKKOL_HELD on. Below are the seven for a wivakkol_run, which keep to what these ask for: each array has its full
+ * size, is aligned for its numbers and never NULL, and overlaps no other array of the call; each was written before, those of the run in wivakkol_begin_on apart. */
 uint32_t wivakkol_begin_on(const uint8_t *table, size_t length, uint32_t p, uint32_t quota, uint32_t settings[2], uint16_t parents[1024],
                            uint16_t next[1024], uint8_t status[1024], uint64_t amounts[1024], uint16_t left[1024], uint16_t right[1024],
                            uint16_t under[1024], uint16_t over[1024], uint8_t holds[16], uint16_t threads[16], uint32_t quotas[16],
@@ -171,10 +171,9 @@ uint32_t wivakkol_list_on(const uint8_t *table, size_t length, const uint8_t *or
                           uint64_t row[WIVAKKOL_RUN_ROW]);
 uint32_t wivakkol_rounds_on(const uint8_t *table, size_t length, uint32_t limit, uint8_t bytes[WIVAKKOL_BYTES], uint16_t words[WIVAKKOL_WORDS],
                             uint32_t numbers[WIVAKKOL_NUMBERS], uint64_t sums[WIVAKKOL_SUMS], uint64_t row[WIVAKKOL_RUN_ROW]);
-uint32_t wivakkol_preview_on(const uint8_t *table, size_t length, uint32_t w, const uint32_t settings[2], const uint16_t next[1024],
-                             const uint8_t status[1024], const uint64_t amounts[1024], const uint16_t right[1024], const uint16_t over[1024],
-                             const uint8_t holds[16], const uint16_t threads[16], const uint32_t quotas[16], const uint16_t heads[3],
-                             const uint64_t totals[3], uint64_t row[WIVAKKOL_PREVIEW_ROW]);
+uint32_t wivakkol_preview_on(const uint8_t *table, size_t length, uint32_t w, const uint8_t bytes[WIVAKKOL_BYTES],
+                             const uint16_t words[WIVAKKOL_WORDS], const uint32_t numbers[WIVAKKOL_NUMBERS], const uint64_t sums[WIVAKKOL_SUMS],
+                             uint64_t row[WIVAKKOL_PREVIEW_ROW]);
 uint32_t wivakkol_chart_on(const uint8_t *table, size_t length, const uint32_t settings[2], const uint16_t next[1024], const uint8_t status[1024],
                            const uint64_t amounts[1024], const uint16_t left[1024], const uint16_t right[1024], const uint8_t holds[16],
                            const uint16_t threads[16], const uint32_t quotas[16], const uint16_t heads[3], const uint64_t totals[3],
@@ -237,10 +236,7 @@ static inline uint32_t wivakkol_rounds(wivakkol_run *run, const uint8_t *table, 
  * holds; where that is a refusal, the row is all 0. No byte of the run changes. */
 static inline uint32_t wivakkol_preview(const wivakkol_run *run, const uint8_t *table, size_t length, uint32_t w, uint64_t row[WIVAKKOL_PREVIEW_ROW])
 {
-    return wivakkol_preview_on(table, length, w, run->numbers + WIVAKKOL_P, run->words + WIVAKKOL_NEXT, run->bytes + WIVAKKOL_STATUS,
-                               run->sums + WIVAKKOL_AMOUNTS, run->words + WIVAKKOL_RIGHT, run->words + WIVAKKOL_OVER, run->bytes + WIVAKKOL_HOLDS,
-                               run->words + WIVAKKOL_WORKER_THREADS, run->numbers + WIVAKKOL_QUOTAS, run->words + WIVAKKOL_LEFTMOST,
-                               run->sums + WIVAKKOL_HELD, row);
+    return wivakkol_preview_on(table, length, w, run->bytes, run->words, run->numbers, run->sums, row);
 }
 
 /* The run's line of the wall chart: turns taken right-aligned in 6, sixteen cells of 4 with each worker's thread or a full stop, blank from worker p on, and memory held right-aligned in 14.

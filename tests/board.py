@@ -105,8 +105,8 @@ def header_is_source():
     for call in RUN_CALLS:
         result, *parameters = source['wivakkol_%s_on' % call]
         taken = {name: (kind.replace('const ', ''), size) for name, kind, size in parameters}
-        whole = blocks if call in ('turn', 'list', 'rounds') else parts
-        assert {name for name, _, _ in whole} <= set(taken) or call in ('preview', 'chart'), 'wivakkol_%s_on is not lent all of a run' % call
+        whole = blocks if call in ('turn', 'list', 'rounds', 'preview') else parts
+        assert {name for name, _, _ in whole} <= set(taken) or call == 'chart', 'wivakkol_%s_on is not lent all of a run' % call
         for name, kind, size in [*whole, *((WORK_NAMES.get(name, name), kind, size) for name, kind, size in work)]:
             assert taken.get(name, (kind, size)) == (kind, size), 'wivakkol_%s_on: %s' % (call, name)
         inline_hands_over(text, call, result, parameters, {**places, **work_places})

@@ -1,4 +1,4 @@
-// The machine on arrays and links: its definitions and laws (specs/, proofs/), and the small functions that a turn (crates/run_memory) and a preview (crates/peek) share.
+// The machine on arrays and links: its definitions and laws (specs/, proofs/), and the small functions that a turn and its preview (crates/run_memory) share.
 use links::NO_THREAD;
 use links::seek;
 use schedule::Worker;

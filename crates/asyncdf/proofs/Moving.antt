@@ -8,41 +8,27 @@ use borrow.Author.Tests.{ne-eqb, lt-ltb, eqb-true, eqb-false, ltb-true, ltb-fals
 use denote.Enum.Declared.{tagOf}
 use types.Run.{OneOf, miss}
 use lib.Dec.{ltb, eqb}
-use lib.ListN.{length, getD, length-take}
+use lib.ListN.{getD}
 use Rattle.table.specs.Format.{tableOf}
 use Rattle.table.specs.Checks.{endOf}
-use Rattle.schedule.specs.declared.Worker.{Worker}
 use Rattle.schedule.specs.declared.Run.{Run}
 use Rattle.schedule.specs.declared.Reply.{Reply}
 use Rattle.schedule.specs.declared.Reply.the-variants.{Idle, Done}
 use Rattle.schedule.specs.Memory.{ofReply}
-use Rattle.schedule.specs.Links.{LinkedAs}
-use Rattle.schedule.specs.Actives.{actives}
-use Rattle.schedule.specs.Record.{maxBytes, bytesOf, tableIn, listIn, stateOf}
+use Rattle.schedule.specs.Record.{maxBytes, bytesOf, tableIn}
 use Rattle.schedule.specs.Sound.{Steady}
 use Rattle.schedule.specs.Parents.{Parents}
 use Rattle.schedule.specs.Turn.{rootEnded, stepRun}
 use Rattle.schedule.specs.Runs.{moved}
 use Rattle.schedule.proofs.Reply.{the-type}
 use Rattle.order.proofs.Lists.{filled-front}
-use Rattle.schedule.proofs.Linked.Links.{laid-linked}
-use Rattle.schedule.proofs.Linked.ActiveMoves.{list-once, list-small}
-use Rattle.schedule.proofs.Linked.Fills.{fill-linked}
-use Rattle.schedule.proofs.Stores.{steady-lawful, steady-facts}
-use Rattle.array_machine.specs.Packed.{packedOf}
-use Rattle.array_machine.proofs.Linking.{linked-as}
 use Rattle.run_memory.specs.Memory.{Memory, movedIn, hindrance, Told, told, turnIn}
-use Rattle.run_memory.specs.Stands.{workersIn, runIn, Stands}
+use Rattle.run_memory.specs.Stands.{runIn, Stands}
 use Rattle.run_memory.proofs.Refines.{Moves, taken-so}
-use Rattle.run_memory.proofs.Manned.{of-length, workers-back, truths-back}
-use Rattle.asyncdf.specs.Code.Packing.{secondFor, memoryFor, recordOf}
+use Rattle.run_memory.specs.Packing.{memoryFor}
+use Rattle.run_memory.proofs.Packed.{packed-record, packed-stands}
 use Rattle.asyncdf.specs.Code.Drives.{Moving}
 use Rattle.asyncdf.proofs.Driving.{finishes, goes-on}
-
--- ---- the record's parts
-
-pub table-room : {run : Run} → Steady run → run .length ≤ length (run .table)
-table-room {run} h = omega (arith, h .table-length, length-take (run .length) (run .table))
 
 -- ---- the reply that a loop goes on by
 
@@ -56,71 +42,11 @@ other {r} {t} {a} {last} e d u f = d (ap (ofReply (λ j. j)) (sym e ∙ f))
 
 -- ---- a record in memory
 
-module _ {run : Run} (h : Steady run) where
-  -- the record read back is the one that stands in the memory
-  pub read-back : (M : Memory) → M .settings ≡ run .workers ∷ run .quota ∷ [] → recordOf run M ≡ runIn (bytesOf run) M
-  read-back M e =
-      let n : run .length ≡ length (bytesOf run) = sym (h .table-length) in
-      let p : run .workers ≡ getD (M .settings) 0 0 = ap (λ (l : List ℕ). getD l 0 0) (sym e) in
-      let k : run .quota ≡ getD (M .settings) 1 0 = ap (λ (l : List ℕ). getD l 1 0) (sym e) in
-      λ i.
-      record {
-        table = h .table-rest i;
-        length = n i;
-        workers = p i;
-        quota = k i;
-        next = M .arrays .next;
-        status = M .arrays .status;
-        amounts = M .arrays .amounts;
-        left = M .arrays .left;
-        right = M .arrays .right;
-        leftmost = movedIn M .totals .leftmost;
-        worker = workersIn M;
-        busy = movedIn M .busy;
-        held = movedIn M .totals .held;
-        highest = movedIn M .totals .highest;
-        turns = movedIn M .turns;
-      }
-
-  sixteen : length (run .worker) ≡ 16
-  sixteen = h .state .common .worker-size
-
-  module _ (parents : List ℕ) where
-    abbrev M₀ : Memory
-    M₀ = memoryFor run parents
-
-    -- and before the first turn it is the record itself
-    first-record : runIn (bytesOf run) M₀ ≡ run
-    first-record = sym (read-back M₀ refl) ∙ ap (λ (l : List Worker). packedOf run (M₀ .arrays) l (movedIn M₀)) (workers-back (run .worker) sixteen)
-
-    pub first-is : {M : Memory} → M ≡ M₀ → runIn (bytesOf run) M ≡ run
-    first-is e = ap (λ (x : Memory). runIn (bytesOf run) x) e ∙ first-record
-
-    -- filled from the record's links, the second list is that of the record's list
-    filled-second : LinkedAs (secondFor run) (actives (run .status) (listIn run))
-    filled-second =
-        fill-linked (run .left) (run .right) (run .leftmost) (listIn run) (run .status) (linked-as _ _ (listIn run) (h .links) (laid-linked (listIn run)))
-        (list-once (tableIn run) (steady-lawful run h) (run .workers) (run .quota) (stateOf run) (steady-facts run h))
-        (list-small (tableIn run) (steady-lawful run h) (run .workers) (run .quota) (stateOf run) (steady-facts run h))
-
-    first-stands : Parents (tableIn run) parents → run .turns < 2 ^ 64 → Stands (bytesOf run) M₀
-    first-stands a g =
-        record {
-          steady = subst (λ (x : Run). Steady x) (sym first-record) h;
-          parent = a;
-          second = filled-second;
-          truth-values = truths-back (run .worker);
-          holds-size = of-length _ (run .worker) ∙ sixteen;
-          threads-size = of-length _ (run .worker) ∙ sixteen;
-          quotas-size = of-length _ (run .worker) ∙ sixteen;
-          turns-fit = g;
-        }
-
-    pub first-moving : {last : ℕ} {M : Memory} → M ≡ M₀ → rootEnded run ≡ false → last ≡ endOf (tableIn run) 0 → Parents (tableIn run) parents → run .turns < 2 ^ 64
-        → Moving (bytesOf run) last M
-    first-moving {last} e o f a g =
-        subst (λ (x : Memory). Moving (bytesOf run) last x) (sym e)
-        (record { stands = first-stands a g; last-action = f; unended = subst (λ (x : Run). rootEnded x ≡ false) (sym first-record) o })
+module _ {run : Run} (h : Steady run) (parents : List ℕ) where
+  pub first-moving : {last : ℕ} {M : Memory} → M ≡ memoryFor run parents → rootEnded run ≡ false → last ≡ endOf (tableIn run) 0 → Parents (tableIn run) parents → run .turns < 2 ^ 64
+      → Moving (bytesOf run) last M
+  first-moving e o f a g =
+      record { stands = packed-stands h parents e a g; last-action = f; unended = subst (λ (x : Run). rootEnded x ≡ false) (sym (packed-record h parents e)) o }
 
 -- ---- a turn
 

@@ -5,9 +5,9 @@ use crate::beginning::start;
 use crate::runs::drive;
 use crate::runs::stopped;
 use crate::turns::put_turns;
+use array_machine::passed_over;
 use chart::MOST_TURNS;
 use chart::put_line;
-use array_machine::passed_over;
 use lines::put_refused;
 use schedule::Beginning;
 use schedule::Begun;
@@ -42,7 +42,6 @@ ghost use Rattle.text.specs.Puts.{Puts};
 ghost use Rattle.chart.specs.Turns.{chartTurns};
 
 mod beginning;
-mod packing;
 mod runs;
 mod turns;
 

@@ -1,6 +1,6 @@
 // Runs over a list of workers and in rounds. The record is copied into the four blocks once; the turns work on them in place.
-use crate::packing::pack;
-use crate::packing::unpack;
+use run_memory::packing::pack;
+use run_memory::packing::unpack;
 use run_memory::rounds::following;
 use run_memory::turn_in;
 use schedule::Reply;

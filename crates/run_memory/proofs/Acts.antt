@@ -30,6 +30,11 @@ pub gone-as : (bytes words numbers sums : List ℕ) {r z : Went} {B : Bytes} {W 
     → gone z (gathered B W N S) ≡ o → gone r (memoryOf bytes words numbers sums) ≡ o
 gone-as bytes words numbers sums e b q n s d = (λ i. gone (e i) (gathered (b i) (q i) (n i) (s i))) ∙ d
 
+-- the same where the sums are as they were
+pub written-as : {r z : Went} {B X : Bytes} {W Y : Words} {N L : Numbers} {S : Sums} {o : Gone} → r ≡ z → X ≡ B → Y ≡ W → L ≡ N
+    → gone z (gathered B W N S) ≡ o → gone r (gathered X Y L S) ≡ o
+written-as {S} e b q n d = (λ i. gone (e i) (gathered (b i) (q i) (n i) S)) ∙ d
+
 -- a number is written twice at one place
 pub set-again : (l : List ℕ) (t x y : ℕ) → set (set l t x) t y ≡ set l t y
 set-again [] t x y = refl
@@ -70,6 +75,10 @@ room-in {M} {w} h p q = rw (p, q) (h .few, λ e. h .room (ap not e))
 -- the thread's next action is done
 pub next-at : (next : List ℕ) (t a : ℕ) → a ≡ getD next t 0 → set next t (a + 1) ≡ set next t (suc (getD next t 0))
 next-at next t a e = rw (e, add-one)
+
+-- what an alloc draws, of the setting read
+pub share : {K k : ℕ} (x : ℕ) {y : ℕ} → k ≡ K → y ≡ drawn k x → y ≡ drawn K x
+share x e h = h ∙ ap (λ (k : ℕ). drawn k x) e
 
 -- ---- what a test says that passed
 

@@ -7,7 +7,11 @@ mod Linking
 mod Acts
 mod ListActs
 mod Takes
+mod Seeing
+pub mod Foreseeing
+mod Laying
 pub mod Fixed
 pub mod Turning
 pub mod Manned
 pub mod Refines
+pub mod Packed

@@ -1,11 +1,11 @@
 -- A part of a block, and numbers that stand alone in it: what is read there, and what a write does inside and outside. All of it is for any list whatever.
 use mathlib.Core.Path.{_≡_, refl, sym, ap, _∙_}
 use Prim.Native.Nat.{ℕ, zero, suc, _+_, _-_, _≤_, _<_}
-use native.Mathlib.Nat.{min-le-left, zero-add}
+use native.Mathlib.Nat.{min-le-left, min-eq-left, zero-add}
 use native.Mathlib.Omega.{arith}
 use mathlib.Core.List.{List}
 use mathlib.Core.Bool.{Bool, true, false}
-use lib.ListN.{length, getD, set, take, drop, length-take, List·getD-eq-default}
+use lib.ListN.{length, getD, set, take, drop, length-take, length-drop, List·getD-eq-default}
 use lib.Seq.{getD-take, getD-drop, drop-set-add, drop-set-lt, take-set-lt, take-set-le, set-out, getD-set-same, getD-set-other}
 use lib.Dec.{eqb}
 use borrow.Author.Tests.{eqb-true, eqb-false, ne-eqb}
@@ -16,6 +16,11 @@ module _ (at n : ℕ) (l : List ℕ) where
   short : length (part at n l) ≤ n
   unfolding part
   short = rw length-take (min-le-left _ _)
+
+  -- where there is so much
+  pub part-length : at + n ≤ length l → length (part at n l) ≡ n
+  unfolding part
+  part-length h = rw (length-take, length-drop) (min-eq-left (omega (arith, h)))
 
   pub part-get : (i d : ℕ) → i < n → getD (part at n l) i d ≡ getD l (at + i) d
   unfolding part

@@ -10,6 +10,7 @@ use lib.Dec.{ltb, eqb}
 use lib.ListN.{length, getD, set, length-set}
 use lib.Seq.{getD-set-same, getD-set-other, ext-getD}
 use Rattle.table.specs.Sum.{pick}
+use Rattle.table.specs.Pass.{refusal}
 use Rattle.table.specs.Format.{tableOf}
 use Rattle.schedule.specs.declared.Worker.{Worker}
 use Rattle.schedule.specs.declared.Run.{Run}
@@ -17,6 +18,7 @@ use Rattle.schedule.specs.declared.Reply.{Reply}
 use Rattle.schedule.specs.declared.Reply.the-variants.{Idle, Done, Quota, Wait}
 use Rattle.schedule.specs.declared.Turned.{Turned}
 use Rattle.schedule.specs.declared.Turning.the-variants.{Taken}
+use Rattle.schedule.specs.declared.Turning.the-variants.{Refused as refusedTurn}
 use Rattle.schedule.specs.Machine.{ended, nobody}
 use Rattle.schedule.specs.Links.{noThread, Sought, seek}
 use Rattle.schedule.specs.Record.{maxBytes, bytesOf, tableIn, listIn, stateOf}
@@ -131,6 +133,10 @@ pub record Turns (s : List ℕ) (M : Memory) (w : ℕ) (a : Answer) : Type 0 whe
   pub record-after : runIn s (a .memory) ≡ turned (runIn s M) w .run
   pub stands : Stands s (a .memory)
 
+-- what is told of a turn and of the threads that it passes over, read as a turn of the record
+abbrev pub turnedBy : List ℕ → Told → ℕ → Turned
+turnedBy s t passed = record { answer = pick (eqb (t .number) 0) (Taken (t .reply) passed) (refusedTurn (refusal (t .number) 0)); run = runIn s (t .memory) }
+
 -- the searches along the two lists find the same thread
 searches-agree : (s : List ℕ) (M : Memory) → Stands s M
     → seek 1024 (M .arrays .status) (M .arrays .over) (movedIn M .totals .first) .thread ≡ seek 1024 (M .arrays .status) (M .arrays .right) (movedIn M .totals .leftmost) .thread
@@ -201,15 +207,18 @@ module _ (s : List ℕ) (M : Memory) (h : Stands s M) (w : ℕ) where
         ap (λ (l : List Worker). packedOf (settled s M) (z .arrays) l (z .moved)) (workers-after M w z few (h .holds-size) (h .threads-size) (h .quotas-size))
         ∙ sym (goes .record-after)
 
-    left : lentTurn s w M ≡ answer 0 (turnRow (z .reply) along) (memoryAfter M w z)
-        → Turns s M w (lentTurn s w M)
-    left e =
+    taken-turned : record { answer = Taken (z .reply) along; run = runIn s (memoryAfter M w z) } ≡ turned r w
+    taken-turned =
         let u = steady-room r (h .steady) (h .turns-fit) room in
         let p : along ≡ passedIn r w =
         one-search (workerIn M w .holds) (seek 1024 (M .arrays .status) (M .arrays .right) (movedIn M .totals .leftmost)) _ (searches-agree s M h)
         ∙ passed-along r w (h .steady) (ap (λ (x : Worker). passedAlong (x .holds) (seek 1024 (M .arrays .status) (M .arrays .right) (movedIn M .totals .leftmost))) (sym (own-worker M w few))) in
-        let t : record { answer = Taken (z .reply) along; run = runIn s (memoryAfter M w z) } ≡ turned r w =
-        (λ i. record { answer = Taken (sym (goes .reply) i) (p i); run = after i }) ∙ turned-taken r w u b o in
+        (λ i. record { answer = Taken (sym (goes .reply) i) (p i); run = after i }) ∙ turned-taken r w u b o
+
+    left : lentTurn s w M ≡ answer 0 (turnRow (z .reply) along) (memoryAfter M w z)
+        → Turns s M w (lentTurn s w M)
+    left e =
+        let t = taken-turned in
         let v = turn-values r w in
         subst (λ (a : Answer). Turns s M w a) (sym e)
         (record {
@@ -281,3 +290,20 @@ module _ (s : List ℕ) (M : Memory) (h : Stands s M) (w : ℕ) where
           let b = ltb-true _ _ e in
           let o = root-open r (eqb-false _ _ f) in
           left room b o (left-so room b o x e f)
+
+  -- and as a whole: what is told, read as a turn of the record
+  pub turn-turned : turnedBy s (turnIn s w M) (passedOver M w) ≡ turned r w
+  unfolding hindrance turnIn
+  turn-turned = go (eqb (movedIn M .turns) (2 ^ 64 - 1)) refl (ltb w (getD (M .settings) 0 0)) refl (eqb (getD (M .arrays .status) 0 0) ended) refl
+    where
+      go : (x : Bool) → eqb (movedIn M .turns) (2 ^ 64 - 1) ≡ x → (y : Bool) → ltb w (getD (M .settings) 0 0) ≡ y → (q : Bool) → eqb (getD (M .arrays .status) 0 0) ended ≡ q
+          → turnedBy s (turnIn s w M) (passedOver M w) ≡ turned r w
+      go true x y e q f = rw x (turned-unsound r w (steady-full r (h .steady) (eqb-true _ _ x)))
+      go false x false e q f = rw (x, e) (turned-none r w (steady-room r (h .steady) (h .turns-fit) (eqb-false _ _ x)) (ltb-false _ _ e))
+      go false x true e true f =
+          rw (x, e, f) (turned-over r w (steady-room r (h .steady) (h .turns-fit) (eqb-false _ _ x)) (ltb-true _ _ e) (root-over r (eqb-true _ _ f)))
+      go false x true e false f =
+          let room = eqb-false _ _ x in
+          let b = ltb-true _ _ e in
+          let o = root-open r (eqb-false _ _ f) in
+          ap (λ (t : Told). turnedBy s t (passedOver M w)) (told-so room b o x e f) ∙ taken-turned room b o

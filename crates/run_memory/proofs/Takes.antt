@@ -1,28 +1,29 @@
 -- A turn in lent memory, way by way: without room for it, with a thread that is none of the arrays', idle, and with a thread on which the worker goes on.
-use mathlib.Core.Path.{_≡_, refl, sym, ap, _∙_}
+use mathlib.Core.Path.{_≡_, refl, sym, ap, subst, _∙_}
 use Prim.Native.Nat.{ℕ, _+_, _^_, _≤_, _<_}
 use native.Mathlib.Numerals.{add-one}
 use mathlib.Core.List.{List, [], _∷_}
 use mathlib.Core.Bool.{Bool, true, false, not, _&&_, _||_}
-use borrow.Author.Tests.{lt-ltb, le-ltb, ltb-true, eqb-true}
+use borrow.Author.Tests.{lt-ltb, le-ltb, ltb-true, eqb-true, eq-eqb, ne-eqb}
 use lib.Dec.{ltb, eqb}
 use lib.ListN.{getD, set}
 use lib.Seq.{set-getD}
 use Rattle.table.specs.Sum.{pick}
-use Rattle.table.specs.Format.{Table, tableOf, kind}
+use Rattle.table.specs.Format.{Table, threadsOf, bodiesFrom, codeAt, argumentAt, tableOf, kind}
 use Rattle.table.proofs.Tests.{and-both, no-way}
 use Rattle.schedule.specs.declared.Worker.{Worker}
 use Rattle.schedule.specs.declared.Reply.{Reply}
 use Rattle.schedule.specs.declared.Reply.the-variants.{Idle}
-use Rattle.schedule.specs.Machine.{held}
+use Rattle.schedule.specs.Machine.{ready, held}
 use Rattle.schedule.specs.Links.{noThread, Sought, seek}
 use Rattle.table.specs.Checks.{maxThreads}
+use Rattle.schedule.proofs.Linked.Searches.{seek-ready}
 use Rattle.array_machine.specs.Arrays.{withStatuses}
 use Rattle.array_machine.specs.Turn.{Outcome, moved, unfit, actOn, actIn, seat, seatOf, seatIn, stepFrom, stepOn}
 use Rattle.array_machine.specs.Counted.{counting, busyAfter, roomFor, turnOn, passedAlong}
 use Rattle.run_memory.specs.declared.Spoken.{Spoken}
 use Rattle.run_memory.specs.declared.act.Went.{Went}
-use Rattle.run_memory.specs.Memory.{Memory, memory, workerIn, movedIn, memoryAfter, Told, told, turnLeft, takenIn, passedOver}
+use Rattle.run_memory.specs.Memory.{Memory, memory, workerIn, movedIn, memoryAfter, hindrance, Told, told, turnLeft, takenIn, turnIn, passedOver}
 use Rattle.run_memory.specs.Code.Acts.{Gone, gone, wentTo, wentIn, seatedStatus, seatedWorker, acted}
 
 -- the memory with this number of turns taken
@@ -61,13 +62,13 @@ module _ (s : List ℕ) (w : ℕ) (M : Memory) where
   abbrev worker : Worker
   worker = workerIn M w
 
-  abbrev found : ℕ
+  abbrev pub found : ℕ
   found = seek maxThreads (M .arrays .status) (M .arrays .over) (movedIn M .totals .first) .thread
 
   abbrev o : Outcome
   o = stepOn T K (M .parents) (M .arrays) (movedIn M .totals) worker
 
-  abbrev has-room : Bool
+  abbrev pub has-room : Bool
   has-room = roomFor (movedIn M .turns) (movedIn M .busy) (worker .holds) w
 
   pub without-room : {f : Bool} → f ≡ false → f ≡ has-room → told 32 Idle M ≡ takenIn s w M
@@ -119,7 +120,7 @@ module _ (s : List ℕ) (w : ℕ) (M : Memory) where
               let m : ltb found noThread ≡ true = ap (λ (x : ℕ). ltb x noThread) (sym q) ∙ lt-ltb t noThread l in
               rw (h, m, q)
 
-      abbrev there : Outcome
+      abbrev pub there : Outcome
       there = let a : ℕ = getD (M .arrays .next) t 0 in
           actOn (kind T a) T K (M .parents) t a (T .argument a) (withStatuses (seatedStatus M w t) (M .arrays)) (movedIn M .totals) (seatedWorker M w t)
 
@@ -137,6 +138,14 @@ module _ (s : List ℕ) (w : ℕ) (M : Memory) where
       abbrev step-as : Bool → Outcome
       step-as b = pick b there (unfit (M .arrays) (movedIn M .totals) worker)
 
+      pub stays-unfit : there .fits ≡ false → told 32 Idle M ≡ takenIn s w M
+      stays-unfit c = unfits (ap (λ (x : Outcome). x .fits) from-there ∙ ap (λ (x : Bool). step-as x .fits) c)
+
+      pub goes-there : there .fits ≡ true → told 0 (there .reply) (memoryAfter M w (counting w (movedIn M) worker there)) ≡ takenIn s w M
+      goes-there c =
+          let f : o ≡ there = from-there ∙ ap (λ (x : Bool). step-as x) c in
+          ap (λ (x : Outcome). told 0 (x .reply) (memoryAfter M w (counting w (movedIn M) worker x))) (sym f) ∙ counts (ap (λ (x : Outcome). x .fits) f ∙ c)
+
       module _ {g : Went} {M' : Memory} (q : gone g M' ≡ acted (kind T (getD (M .arrays .next) t 0)) T w t (getD (M .arrays .next) t 0) (T .argument (getD (M .arrays .next) t 0)) M) where
         pub goes-unfit : g .fits ≡ false → told 32 Idle M' ≡ takenIn s w M
         unfolding wentIn
@@ -148,7 +157,7 @@ module _ (s : List ℕ) (w : ℕ) (M : Memory) where
                 no-way (cc)
             go false c =
                 let k : M' ≡ M = ap (λ (x : Gone). x .memory) q ∙ ap (λ (x : Bool). gone-as x .memory) c in
-                ap (told 32 Idle) k ∙ unfits (ap (λ (x : Outcome). x .fits) from-there ∙ ap (λ (x : Bool). step-as x .fits) c)
+                ap (told 32 Idle) k ∙ stays-unfit c
 
         pub goes : g .fits ≡ true → told 0 (g .reply) (counted (movedIn M .turns + 1) M') ≡ takenIn s w M
         unfolding wentIn
@@ -164,9 +173,50 @@ module _ (s : List ℕ) (w : ℕ) (M : Memory) where
             go true c =
                 let k : gone g M' ≡ record { fits = true; reply = there .reply; memory = wentTo M w there } =
                 q ∙ ap (λ (x : Bool). gone-as x) c in
-                let f : o ≡ there = from-there ∙ ap (λ (x : Bool). step-as x) c in
-                ap (λ (x : Gone). told 0 (x .reply) (counted (movedIn M .turns + 1) (x .memory))) k ∙ ap (told 0 (there .reply)) after
-                ∙ ap (λ (x : Outcome). told 0 (x .reply) (memoryAfter M w (counting w (movedIn M) worker x))) (sym f) ∙ counts (ap (λ (x : Outcome). x .fits) f ∙ c)
+                ap (λ (x : Gone). told 0 (x .reply) (counted (movedIn M .turns + 1) (x .memory))) k ∙ ap (told 0 (there .reply)) after ∙ goes-there c
+
+-- ---- before it is taken
+
+module _ (s : List ℕ) (w : ℕ) (M : Memory) {n : ℕ} (e : n ≡ hindrance (movedIn M .turns) (getD (M .settings) 0 0) w (getD (M .arrays .status) 0 0)) where
+  pub hindered : (n ≡ 0 → ⊥) → told n Idle M ≡ turnIn s w M
+  unfolding turnIn
+  hindered h = rw (← e, ne-eqb n 0 h)
+
+  pub goes-on : n ≡ 0 → takenIn s w M ≡ turnIn s w M
+  unfolding turnIn
+  goes-on h = rw (← e, eq-eqb n 0 h)
+
+-- of what stands in the memory
+pub asked-hindrance : {n t t' p p' r r' : ℕ} (w : ℕ) → t ≡ t' → p ≡ p' → r ≡ r' → n ≡ hindrance t p w r → n ≡ hindrance t' p' w r'
+asked-hindrance w a b c e = rw (← a, ← b, ← c) e
+
+pub asked-room : {f h h' : Bool} {t t' b b' : ℕ} (w : ℕ) → t ≡ t' → b ≡ b' → h ≡ h' → f ≡ roomFor t b h w → f ≡ roomFor t' b' h' w
+asked-room w p q r e = rw (← p, ← q, ← r) e
+
+-- ---- the thread that was found
+
+-- for a worker with one, and for one without
+pub own-thread : {h k : Bool} {t x : ℕ} (y : ℕ) → h ≡ true → h ≡ k → t ≡ pick k x y → 1024 ≤ t → 1024 ≤ x
+own-thread {h} {k} {t} {x} y e d q l = subst (λ (z : ℕ). 1024 ≤ z) (q ∙ ap (λ (b : Bool). pick b x y) (sym d ∙ e)) l
+
+pub sought-thread : {h k : Bool} {t y : ℕ} (x : ℕ) → h ≡ false → h ≡ k → t ≡ pick k x y → 1024 ≤ t → 1024 ≤ y
+sought-thread {h} {k} {t} {y} x e d q l = subst (λ (z : ℕ). 1024 ≤ z) (q ∙ ap (λ (b : Bool). pick b x y) (sym d ∙ e)) l
+
+-- one that is taken is ready
+pub taken-ready : {k : Bool} {t : ℕ} (x : ℕ) (status right : List ℕ) (u : ℕ) → t ≡ pick k x (seek 1024 status right u .thread) → t < 1024 → k ≡ false → getD status t 0 ≡ ready
+taken-ready {k} {t} x status right u q l h =
+    let e : t ≡ seek 1024 status right u .thread = q ∙ ap (λ (b : Bool). pick b x (seek 1024 status right u .thread)) h in
+    ap (λ (y : ℕ). getD status y 0) e ∙ seek-ready 1024 status right u (subst (λ (y : ℕ). y < 1024) e l)
+
+-- the table's actions, as they are handed on
+module _ (s : List ℕ) {l : List ℕ} {n : ℕ} (e : l ≡ bodiesFrom s n) (d : n ≡ threadsOf s) where
+  pub codes : tableOf s .code ≡ codeAt l
+  unfolding tableOf
+  codes = rw (e, d)
+
+  pub arguments : tableOf s .argument ≡ argumentAt l
+  unfolding tableOf
+  arguments = rw (e, d)
 
 -- ---- how many threads are passed over
 
@@ -207,6 +257,9 @@ module _ (M : Memory) (w : ℕ) where
       go false h q =
           let m : ltb (second .thread) noThread ≡ true = ap (λ (x : ℕ). ltb x noThread) (sym q) ∙ lt-ltb t noThread l in
           rw (m, h)
+
+pub passed-as : {h k : Bool} (b : Bool) (x : Sought) {p : ℕ} → h ≡ k → p ≡ pick b (passedAlong h x) 0 → p ≡ pick b (passedAlong k x) 0
+passed-as b x e d = d ∙ ap (λ (y : Bool). pick b (passedAlong y x) 0) e
 
 -- ---- as the code says it
 pub spoke : {r : Spoken} {n p : ℕ} {x : Reply} {M : Memory} {t : Told} → r ≡ record { number = n; reply = x; passed = p } → told n x M ≡ t → told (r .number) (r .reply) M ≡ t

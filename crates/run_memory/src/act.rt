@@ -56,7 +56,7 @@ ghost use Rattle.schedule.specs.Machine.{ended, nobody};
 ghost use Rattle.array_machine.specs.Turn.{waitsIn};
 ghost use Rattle.array_machine.specs.Counted.{busyAfter};
 ghost use Rattle.run_memory.specs.Blocks.{bytesIn, wordsIn, numbersIn, sumsIn, memoryOf};
-ghost use Rattle.run_memory.specs.Places.{holdsIn};
+ghost use Rattle.run_memory.specs.Places.{holdsIn, statused};
 ghost use Rattle.run_memory.specs.Code.Writes.{having, seatedBytes, Room, settled, settledWords, settledNumbers, heldSums};
 ghost use Rattle.run_memory.specs.Code.Acts.{gone, acted, Seated};
 
@@ -149,8 +149,26 @@ fn let_go(bytes: &mut [u8; 1040], words: &mut [u16; 6163], numbers: &mut [u32; 1
     settle(bytes, words, numbers, w, release(worker));
 }
 
+// "insert T into R in its original position": the thread stands in its place with this status, and its worker is released.
+fn put_back(
+    bytes: &mut [u8; 1040],
+    words: &mut [u16; 6163],
+    numbers: &mut [u32; 18],
+    w: usize,
+    t: u16,
+    status: u8,
+)
+    requires { ⌜ Room w (bytesIn (now bytes)) (wordsIn (now words)) ⌝ }
+    ensures { λ _. ⌜ bytesIn (now (bytes .exit)) ≡ settled w nobody (statused t status (bytesIn (now (bytes .entry)))) ⌝ }
+    ensures { λ _. ⌜ wordsIn (now (words .exit)) ≡ settledWords w (holdsIn w (bytesIn (now (bytes .entry)))) nobody (wordsIn (now (words .entry))) ⌝ }
+    ensures { λ _. ⌜ numbersIn (now (numbers .exit)) ≡ settledNumbers w nobody (numbersIn (now (numbers .entry))) ⌝ }
+{
+    put_status(bytes, t, status);
+    let_go(bytes, words, numbers, w);
+}
+
 // The quota left to worker w: its own, or the whole quota where it takes a thread.
-fn quota_left(bytes: &[u8; 1040], numbers: &[u32; 18], w: usize) -> u32
+pub(crate) fn quota_left(bytes: &[u8; 1040], numbers: &[u32; 18], w: usize) -> u32
     ensures { λ r. ⌜ r ≡ pick (holdsIn w (bytesIn (now (bytes .entry)))) (getD (numbersIn (now (numbers .entry)) .quotas) w 0) (numbersIn (now (numbers .entry)) .quota) ⌝ }
 {
     if holds_at(bytes, w) {
@@ -234,8 +252,7 @@ fn act_alloc(
     let share = drawn(setting_at(&*numbers, 1), x);
     if quota < share {
         // preempted: the thread is returned "in the ready state"
-        put_status(bytes, t, READY);
-        let_go(bytes, words, numbers, w);
+        put_back(bytes, words, numbers, w, t, READY);
         return said(Reply::Quota {
             thread: t,
             wanted: x,
@@ -300,12 +317,11 @@ fn act_fork(
     let c = x as u16;
     // preempted at a fork: "insert T into R in its original position", in the ready state
     put_row(words, NEXT, t, a + 1);
-    put_status(bytes, t, READY);
+    put_back(bytes, words, numbers, w, t, READY);
     // "create child threads in place": "to the immediate left of their parent thread"
     put_status(bytes, c, READY);
     link_left(words, LEFT, LEFTMOST, c, t);
     link_left(words, UNDER, FIRST, c, t);
-    let_go(bytes, words, numbers, w);
     done(t, a)
 }
 
@@ -360,9 +376,8 @@ fn act_join(
         return act_joined(c, a, w, t, bytes, words, numbers, sums);
     }
     // suspends: "insert T into R in its original position", and no more; the second list has no thread that waits
-    put_status(bytes, t, WAITING);
+    put_back(bytes, words, numbers, w, t, WAITING);
     unlink(words, UNDER, FIRST, t);
-    let_go(bytes, words, numbers, w);
     said(Reply::Wait {
         thread: t,
         child: c,
@@ -400,7 +415,7 @@ fn act_end(
         ≡ acted end T w t a x (memoryOf (now (bytes .entry)) (now (words .entry)) (now (numbers .entry)) (now (sums .entry)))) ⌝ }
 {
     // "insert T into R in its original position"; "if (T has terminated)"
-    put_status(bytes, t, ENDED);
+    put_back(bytes, words, numbers, w, t, ENDED);
     let u = row_at(&*words, PARENTS, t);
     // "the parent T' of T is suspended": "reactivate T'"; in the second list it comes in the place of t
     if waits(actions, &*bytes, &*words, u, t) {
@@ -410,7 +425,6 @@ fn act_end(
     // "delete T from R"
     unlink(words, LEFT, LEFTMOST, t);
     unlink(words, UNDER, FIRST, t);
-    let_go(bytes, words, numbers, w);
     done(t, a)
 }
 

@@ -9,6 +9,7 @@ use crate::places::NEXT;
 use crate::places::OVER;
 use crate::places::RIGHT;
 use crate::places::TURNS;
+use crate::places::WORKERS;
 use crate::places::head_at;
 use crate::places::holds_at;
 use crate::places::put_total;
@@ -39,7 +40,9 @@ ghost use Rattle.run_memory.specs.Places.{holdsIn};
 mod act;
 pub mod copies;
 mod list;
+pub mod packing;
 pub mod places;
+pub mod preview;
 pub mod replies;
 pub mod rounds;
 
@@ -74,7 +77,7 @@ pub fn hindrance(turns: u64, p: u32, w: u32, root: u8) -> u32
 }
 
 // The thread with which worker w goes on: its own, or the leftmost ready one, which it takes; NO_THREAD where none is ready. The search goes along the second list, past held threads alone.
-fn thread_for(bytes: &[u8; 1040], words: &[u16; 6163], w: usize) -> u16
+pub(crate) fn thread_for(bytes: &[u8; 1040], words: &[u16; 6163], w: usize) -> u16
     ensures { λ r. ⌜ r ≡ pick (holdsIn w (bytesIn (now (bytes .entry)))) (getD (wordsIn (now (words .entry)) .threads) w 0)
         (seekOf 1024 (bytesIn (now (bytes .entry)) .status) (wordsIn (now (words .entry)) .rows 5) (wordsIn (now (words .entry)) .first) .thread) ⌝ }
 {
@@ -85,7 +88,12 @@ fn thread_for(bytes: &[u8; 1040], words: &[u16; 6163], w: usize) -> u16
 }
 
 // How many threads stand left of the leftmost ready one, if that is asked for.
-fn passed_along(bytes: &[u8; 1040], words: &[u16; 6163], holds: bool, counting: bool) -> u16
+pub(crate) fn passed_along(
+    bytes: &[u8; 1040],
+    words: &[u16; 6163],
+    holds: bool,
+    counting: bool,
+) -> u16
     ensures { λ r. ⌜ r ≡ pick counting (passedAlong holds (seekOf 1024 (bytesIn (now (bytes .entry)) .status) (wordsIn (now (words .entry)) .rows 3) (wordsIn (now (words .entry)) .leftmost))) 0 ⌝ }
 {
     if !counting {
@@ -160,7 +168,12 @@ pub fn turn_in(
     ensures { λ r. ⌜ r .passed ≡ pick (counting && eqb (r .number) 0) (passedOver (memoryOf (now (bytes .entry)) (now (words .entry)) (now (numbers .entry)) (now (sums .entry))) w) 0 ⌝ }
 {
     let root = status_at(&*bytes, 0);
-    let number = hindrance(total_at(&*sums, TURNS), setting_at(&*numbers, 0), w, root);
+    let number = hindrance(
+        total_at(&*sums, TURNS),
+        setting_at(&*numbers, WORKERS),
+        w,
+        root,
+    );
     if number != 0 {
         return refused(number);
     }

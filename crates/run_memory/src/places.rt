@@ -31,6 +31,11 @@ pub const HIGHEST: usize = 1;
 
 pub const TURNS: usize = 2;
 
+// the settings: p and K
+pub const WORKERS: usize = 0;
+
+pub const QUOTA: usize = 1;
+
 // Thread t's number in row k.
 pub fn row_at(words: &[u16; 6163], k: usize, t: u16) -> u16
     ensures { λ r. ⌜ r ≡ getD (wordsIn (now (words .entry)) .rows k) t 0 ⌝ }
@@ -109,7 +114,7 @@ pub fn put_holds(bytes: &mut [u8; 1040], w: usize, x: u8)
     }
 }
 
-// p and K.
+// A setting.
 pub fn setting_at(numbers: &[u32; 18], i: usize) -> u32
     ensures { λ r. ⌜ r ≡ settingAt i (numbersIn (now (numbers .entry))) ⌝ }
 {

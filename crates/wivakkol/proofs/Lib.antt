@@ -4,7 +4,6 @@ mod Cases
 mod Begins
 pub mod Opens
 pub mod WallLines
-mod Turns
 mod Previews
 pub mod PreviewRefines
 pub mod Numbered

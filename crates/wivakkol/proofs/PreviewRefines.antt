@@ -20,8 +20,8 @@ use Rattle.schedule.specs.Shown.{previewValues}
 use Rattle.run_memory.specs.Memory.{Memory, workerIn, Answer, lentTurn}
 use Rattle.run_memory.specs.Stands.{runIn, Stands}
 use Rattle.wivakkol.specs.Preview.{preview, amountsIn, noAmounts, lentPreview, shownAs}
-use Rattle.wivakkol.proofs.Turns.{few}
 use Rattle.wivakkol.proofs.Numbered.{turn-numbered}
+use Rattle.run_memory.proofs.Foreseeing.{few}
 use Rattle.run_memory.proofs.Refines.{own-worker, Turns, turn-refines}
 
 module _ (s : List ℕ) (M : Memory) (h : Stands s M) (w : ℕ) where

@@ -1,48 +1,47 @@
--- What a preview in lent memory shows, way by way.
+-- What is foreseen of a turn, as number and row: the preview of the call.
 use mathlib.Core.Path.{_≡_, refl, sym, ap, _∙_}
-use Prim.Native.Nat.{ℕ, _≤_, _<_}
-use native.Mathlib.Omega.{arith}
+use Prim.Native.Nat.{ℕ}
 use mathlib.Core.List.{List, [], _∷_, _++_}
 use mathlib.Core.Bool.{Bool, true, false}
-use borrow.Author.Tests.{ne-eqb}
-use lib.ListN.{length, getD}
-use lib.Seq.{getD-set-same}
-use Rattle.table.specs.Format.{tableOf}
-use Rattle.array_machine.specs.Counted.{Left, turnOn}
-use Rattle.peek.specs.declared.Peeked.{Peeked}
-use Rattle.peek.specs.Peeked.{peekedOf}
-use Rattle.run_memory.specs.Memory.{Memory, workerIn, movedIn, memoryAfter, turnRow, noRow, hindrance, Told, told, turnIn, passedOver, lentTurn}
-use Rattle.wivakkol.specs.Preview.{preview, noAmounts, lentPreview}
-use Rattle.wivakkol.proofs.Turns.{hindered, no-place, unfits, takes}
+use borrow.Author.Tests.{eqb-true}
+use lib.Dec.{eqb}
+use lib.ListN.{getD}
+use Rattle.table.specs.Sum.{pick}
+use Rattle.schedule.specs.declared.Reply.{Reply}
+use Rattle.run_memory.specs.declared.preview.Foreseen.{Foreseen}
+use Rattle.run_memory.specs.declared.preview.Foreseen.the-variants.{Would, Refused}
+use Rattle.run_memory.specs.Memory.{Memory, turnRow, noRow, Told, turnIn, passedOver, lentTurn}
+use Rattle.run_memory.specs.Preview.{foreseenIn}
+use Rattle.wivakkol.specs.Preview.{Preview, preview, amountsIn, noAmounts, lentPreview}
+
+abbrev rowOf : Foreseen → Preview
+rowOf (Would x k h g q) = preview 0 (turnRow x k ++ (h ∷ g ∷ q ∷ []))
+rowOf (Refused n) = preview n (noRow ++ noAmounts)
 
 module _ (s : List ℕ) (w : ℕ) (M : Memory) where
-  abbrev z : Left
-  z = turnOn (tableOf s) (getD (M .settings) 1 0) (M .parents) w (M .arrays) (movedIn M) (workerIn M w)
+  abbrev t : Told
+  t = turnIn s w M
 
-  abbrev number : ℕ
-  number = hindrance (movedIn M .turns) (getD (M .settings) 0 0) w (getD (M .arrays .status) 0 0)
+  -- a turn's answer, by whether it is refused
+  abbrev by-test : Bool → Preview
+  by-test b = preview (t .number) (pick b (turnRow (t .reply) (passedOver M w)) noRow ++ pick b (amountsIn (t .memory) w) noAmounts)
 
-  refuses : {t : Told} → t ≡ turnIn s w M → (t .number ≡ 0 → ⊥) → preview (t .number) (noRow ++ noAmounts) ≡ lentPreview s w M
-  unfolding lentPreview lentTurn
-  refuses {t} e d = rw (← e, ne-eqb (t .number) 0 d)
+  abbrev foreseen-by : Bool → Foreseen
+  foreseen-by b = pick b (Would (t .reply) (passedOver M w) (getD (t .memory .totals) 0 0) (getD (t .memory .totals) 1 0) (getD (t .memory .quotas) w 0)) (Refused (t .number))
 
-  pub shows-hindrance : {k : ℕ} → k ≡ number → (k ≡ 0 → ⊥) → preview k (noRow ++ noAmounts) ≡ lentPreview s w M
-  shows-hindrance e d = refuses (hindered s w M e d) d
+  row-foreseen : rowOf (foreseenIn s w M) ≡ lentPreview s w M
+  unfolding foreseenIn lentPreview lentTurn
+  row-foreseen = go (eqb (t .number) 0) refl
+    where
+      go : (b : Bool) → eqb (t .number) 0 ≡ b → rowOf (foreseen-by (eqb (t .number) 0)) ≡ by-test (eqb (t .number) 0)
+      go true d =
+          ap (λ (b : Bool). rowOf (foreseen-by b)) d
+          ∙ ap (λ (n : ℕ). preview n (turnRow (t .reply) (passedOver M w) ++ amountsIn (t .memory) w)) (sym (eqb-true (t .number) 0 d)) ∙ ap by-test (sym d)
+      go false d = ap (λ (b : Bool). rowOf (foreseen-by b)) d ∙ ap by-test (sym d)
 
-  module _ {k : ℕ} (e : k ≡ number) (o : k ≡ 0) where
-    pub shows-no-place : 16 ≤ w → preview 32 (noRow ++ noAmounts) ≡ lentPreview s w M
-    shows-no-place h = refuses (no-place s w M e o h) (λ d. omega (arith, d))
+  module _ {f : Foreseen} (e : f ≡ foreseenIn s w M) where
+    pub shows : {x : Reply} {k h g q : ℕ} {row : List ℕ} → f ≡ Would x k h g q → row ≡ turnRow x k ++ (h ∷ g ∷ q ∷ []) → preview 0 row ≡ lentPreview s w M
+    shows d r = ap (preview 0) r ∙ (ap rowOf (sym d ∙ e) ∙ row-foreseen)
 
-    module _ {p : Peeked} (g : p ≡ peekedOf z) where
-      abbrev fits-as : {b : Bool} → p .fits ≡ b → z .fits ≡ b
-      fits-as f = ap (λ (x : Peeked). x .fits) (sym g) ∙ f
-
-      pub shows-unfit : p .fits ≡ false → preview 32 (noRow ++ noAmounts) ≡ lentPreview s w M
-      shows-unfit f = refuses (unfits s w M e o {y = z} refl (fits-as f)) (λ d. omega (arith, d))
-
-      pub shows-turn : {passed : ℕ} {row : List ℕ} → p .fits ≡ true → w < length (M .quotas) → passed ≡ passedOver M w
-          → row ≡ turnRow (p .reply) passed ++ (p .held ∷ p .highest ∷ p .quota ∷ []) → preview 0 row ≡ lentPreview s w M
-      unfolding lentPreview lentTurn
-      shows-turn f h q r =
-          let t : told 0 (z .reply) (memoryAfter M w z) ≡ turnIn s w M = takes s w M e o {y = z} refl (fits-as f) (refl, (refl, refl)) (refl, refl) in
-          rw (r, q, g, ← t, getD-set-same (M .quotas) w (z .worker .quota) 0 h)
+    pub refuses : {n : ℕ} → f ≡ Refused n → preview n (noRow ++ noAmounts) ≡ lentPreview s w M
+    refuses d = ap rowOf (sym d ∙ e) ∙ row-foreseen

@@ -13,7 +13,6 @@ pub mod begin;
 mod line;
 pub mod open;
 mod preview;
-mod reads;
 pub mod runs;
 
 pub use line::wivakkol_chart_on;

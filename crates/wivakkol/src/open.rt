@@ -1,5 +1,4 @@
 // Opening a run that stands in lent memory: check 32, once, and what speeds its turns up.
-use crate::reads::worker_at;
 use crate::workers;
 use links::fill_actives;
 use schedule::Worker;
@@ -7,13 +6,13 @@ use soundness::blank_in;
 use soundness::test_in;
 ghost use mathlib.Core.Path.{_≡_};
 ghost use mathlib.Core.List.{List};
-ghost use Prim.Native.Nat.{ℕ};
+ghost use Prim.Native.Nat.{ℕ, _<_};
 ghost use lib.ListN.{replicate};
 ghost use lib.Dec.{eqb};
 ghost use Rattle.table.specs.Format.{tableOf};
 ghost use Rattle.soundness.specs.Tested.{parentsIf};
 ghost use Rattle.array_machine.specs.Arrays.{arrays};
-ghost use Rattle.run_memory.specs.Memory.{memory, answer};
+ghost use Rattle.run_memory.specs.Memory.{memory, workerFrom, answer};
 ghost use Rattle.run_memory.specs.Stands.{truths, workersFrom};
 ghost use Rattle.wivakkol.specs.Opened.{soundIn, blankIn, lentOpen};
 ghost use Rattle.wivakkol.specs.Code.Standing.{standing};
@@ -37,6 +36,18 @@ fn truths_right(holds: &[u8; 16]) -> bool
         w += 1;
     }
     true
+}
+
+// The record of worker k.
+fn worker_at(holds: &[u8; 16], threads: &[u16; 16], quotas: &[u32; 16], k: usize) -> Worker
+    requires { ⌜ k < 16 ⌝ }
+    ensures { λ r. ⌜ r ≡ workerFrom (now (holds .entry)) (now (threads .entry)) (now (quotas .entry)) k ⌝ }
+{
+    Worker {
+        holds: holds[k] != 0,
+        thread: threads[k],
+        quota: quotas[k],
+    }
 }
 
 // The workers' records.

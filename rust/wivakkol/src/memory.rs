@@ -191,26 +191,8 @@ impl Memory {
 impl Memory {
     pub(crate) fn preview(&self, table: &[u8], w: u32) -> (u32, [u64; 8]) {
         let mut row = [0; 8];
-        // SAFETY: as in `open`; the parts of the run are read alone, and while `&self` is there nobody writes to them.
-        let number = unsafe {
-            raw::wivakkol_preview_on(
-                table.as_ptr(),
-                table.len(),
-                w,
-                self.settings(),
-                self.next(),
-                self.status(),
-                self.amounts(),
-                self.right(),
-                self.over(),
-                self.holds(),
-                self.threads(),
-                self.quotas(),
-                self.heads(),
-                self.totals(),
-                &mut row,
-            )
-        };
+        // SAFETY: as in `turn`; the blocks are read alone, and while `&self` is there nobody writes to them.
+        let number = unsafe { raw::wivakkol_preview_on(table.as_ptr(), table.len(), w, &self.bytes, &self.words, &self.numbers, &self.sums, &mut row) };
         (number, row)
     }
 

@@ -1,33 +1,17 @@
 -- `run_memory::turn_in` meets its contract: hindered, or taken.
 use mathlib.Core.Path.{_≡_, _∙_}
-use Prim.Native.Nat.{ℕ}
-use mathlib.Core.List.{List}
 use borrow.Author.Needs.{needs}
-use borrow.Author.Tests.{eq-eqb, ne-eqb}
+use borrow.Author.Tests.{ne-eqb}
 use denote.Ref.{now}
 use lib.ListN.{getD}
-use Rattle.schedule.specs.declared.Reply.the-variants.{Idle}
-use Rattle.run_memory.specs.Memory.{Memory, movedIn, hindrance, told, takenIn, turnIn, passedOver}
+use Rattle.run_memory.specs.Memory.{Memory, movedIn, hindrance, passedOver}
 use Rattle.run_memory.specs.Blocks.{memoryOf}
-use Rattle.run_memory.proofs.Takes.{passes-none, spoke, passing}
+use Rattle.run_memory.proofs.Takes.{hindered, goes-on, asked-hindrance, passes-none, spoke, passing}
 use Rattle.run_memory.proofs.turn_in.Statement.{statement}
 use Rattle.run_memory.proofs.turn_in.Tie as tie
 
 abbrev start : tie.Start → Memory
 start d = memoryOf (now (d .args .bytes)) (now (d .args .words)) (now (d .args .numbers)) (now (d .args .sums))
-
-module _ (s : List ℕ) (w : ℕ) (M : Memory) {n : ℕ} (e : n ≡ hindrance (movedIn M .turns) (getD (M .settings) 0 0) w (getD (M .arrays .status) 0 0)) where
-  hindered : (n ≡ 0 → ⊥) → told n Idle M ≡ turnIn s w M
-  unfolding turnIn
-  hindered h = rw (← e, ne-eqb n 0 h)
-
-  goes-on : n ≡ 0 → takenIn s w M ≡ turnIn s w M
-  unfolding turnIn
-  goes-on h = rw (← e, eq-eqb n 0 h)
-
--- of what stands in the memory
-asked : {n t t' p p' r r' : ℕ} (w : ℕ) → t ≡ t' → p ≡ p' → r ≡ r' → n ≡ hindrance t p w r → n ≡ hindrance t' p' w r'
-asked w a b c e = rw (← a, ← b, ← c) e
 
 abbrev from : tie.After-hindrance → tie.Start
 from h = h .before .before .before .before .before .before .before .before
@@ -35,7 +19,7 @@ from h = h .before .before .before .before .before .before .before .before
 tested : (h : tie.After-hindrance) → let d = from h in let M = start d in h .hindrance .result ≡ hindrance (movedIn M .turns) (getD (M .settings) 0 0) (d .args .w) (getD (M .arrays .status) 0 0)
 tested h =
     let t = h .before .before .before in
-    asked (from h .args .w) (t .total-at .ensures) (h .before .setting-at .ensures) (t .before .before .status-at .ensures) (h .hindrance .ensures)
+    asked-hindrance (from h .args .w) (t .total-at .ensures) (h .before .setting-at .ensures) (t .before .before .status-at .ensures) (h .hindrance .ensures)
 
 status-at-requires : tie.Need-status-at-requires
 status-at-requires c κs = search needs

@@ -19,10 +19,11 @@ use Rattle.array_machine.proofs.Answers.{root-open}
 use Rattle.run_memory.specs.Memory.{Memory}
 use Rattle.run_memory.specs.Stands.{runIn}
 use Rattle.run_memory.specs.Blocks.{memoryOf}
-use Rattle.asyncdf.specs.Code.Packing.{memoryFor, recordOf}
+use Rattle.run_memory.specs.Packing.{memoryFor, recordOf}
 use Rattle.asyncdf.specs.Code.Drives.{Driven}
 use Rattle.asyncdf.proofs.Driving.{drive-over}
-use Rattle.asyncdf.proofs.Moving.{table-room, read-back, first-is, first-moving}
+use Rattle.run_memory.proofs.Packed.{table-room, read-back, packed-record}
+use Rattle.asyncdf.proofs.Moving.{first-moving}
 use Rattle.asyncdf.proofs.runs.drive.Statement.{statement}
 use Rattle.asyncdf.proofs.runs.drive.Tie as tie
 
@@ -39,7 +40,7 @@ driven : {who : ℕ → ℕ} {limit : ℕ} {run left : Run} {report : Report} {r
     → left ≡ recordOf run M' → (Driven who limit (runIn (bytesOf run) M) report reply (runIn (bytesOf run) M')) × (M' .settings ≡ M .settings) → Driven who limit run report reply left
 driven {who} {limit} {run} {left} {report} {reply} h parents {M} M' e f d =
     let a : left ≡ runIn (bytesOf run) M' = f ∙ read-back h M' (d .1 ∙ ap (λ (x : Memory). x .settings) e) in
-    subst (λ (r : Run). Driven who limit r report reply left) (first-is h parents e)
+    subst (λ (r : Run). Driven who limit r report reply left) (packed-record h parents e)
     (subst (λ (l : Run). Driven who limit (runIn (bytesOf run) M) report reply l) (sym a) (d .0))
 
 array-read-if1 : tie.Need-array-read-if1

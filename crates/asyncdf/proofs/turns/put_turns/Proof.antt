@@ -20,10 +20,11 @@ use Rattle.text.specs.Puts.{Puts}
 use Rattle.soundness.proofs.Passed.{has-workers}
 use Rattle.run_memory.specs.Memory.{Memory, movedIn}
 use Rattle.run_memory.specs.Stands.{runIn}
-use Rattle.asyncdf.specs.Code.Packing.{memoryFor}
+use Rattle.run_memory.specs.Packing.{memoryFor}
 use Rattle.asyncdf.specs.Code.Sheets.{turnsTexts, widest, overTexts}
 use Rattle.array_machine.proofs.Answers.{turned-none, root-over, root-open}
-use Rattle.asyncdf.proofs.Moving.{table-room, first-is, first-moving}
+use Rattle.run_memory.proofs.Packed.{table-room, packed-record}
+use Rattle.asyncdf.proofs.Moving.{first-moving}
 use Rattle.asyncdf.proofs.Ordered.{texts-refused, start, ended, exhausted, refused}
 use Rattle.asyncdf.proofs.turns.put_turns.Statement.{statement}
 use Rattle.asyncdf.proofs.turns.put_turns.Tie as tie
@@ -50,7 +51,7 @@ module _ (chart : Bool) (run : Run) (order : List ℕ) {out o : List ℕ} {at r 
   -- from the record itself
   puts : {size : ℕ} → Steady run → (parents : List ℕ) {M : Memory} → M ≡ memoryFor run parents → Puts out at o r (turnsTexts chart (runIn (bytesOf run) M) order) size
       → Puts out at o r (turnsTexts chart run order) size
-  puts {size} h parents e x = subst (λ (y : Run). Puts out at o r (turnsTexts chart y order) size) (first-is h parents e) x
+  puts {size} h parents e x = subst (λ (y : Run). Puts out at o r (turnsTexts chart y order) size) (packed-record h parents e) x
 
 turns-fit : (s : tie.Start) → s .args .run .turns < 2 ^ 64
 turns-fit s = search needs

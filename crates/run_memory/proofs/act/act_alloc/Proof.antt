@@ -1,20 +1,15 @@
 -- `run_memory::act::act_alloc` meets its contract: beyond the quota, where a number does not fit, and within both.
-use mathlib.Core.Path.{_≡_, refl, ap, _∙_}
-use Prim.Native.Nat.{ℕ, _+_, _-_, _^_, _<_}
+use mathlib.Core.Path.{refl, ap, _∙_}
+use Prim.Native.Nat.{_+_, _-_, _^_, _<_}
 use borrow.Author.Tests.{not-true, not-false}
 use denote.Ref.{now}
-use Rattle.schedule.specs.Machine.{drawn, nobody}
 use Rattle.array_machine.proofs.Leaves.{fits16, fits64}
-use Rattle.run_memory.specs.Blocks.{Bytes, Words, Sums, bytesIn, wordsIn, numbersIn, sumsIn}
+use Rattle.run_memory.specs.Blocks.{Words, Sums, bytesIn, wordsIn, numbersIn, sumsIn}
 use Rattle.run_memory.specs.Code.Writes.{heldSums, having}
-use Rattle.run_memory.proofs.Acts.{gone-as, settled-as, settled-words-as, kept-words-as, room-in, alloc-room, alloc-beyond, alloc-unfit, alloc-done}
+use Rattle.run_memory.proofs.Acts.{gone-as, written-as, kept-words-as, room-in, share, alloc-room, alloc-beyond, alloc-unfit, alloc-done}
 use borrow.Author.Needs.{needs}
 use Rattle.run_memory.proofs.act.act_alloc.Statement.{statement}
 use Rattle.run_memory.proofs.act.act_alloc.Tie as tie
-
--- what is drawn, of the setting read
-share : {K k : ℕ} (x : ℕ) {y : ℕ} → k ≡ K → y ≡ drawn k x → y ≡ drawn K x
-share x e h = h ∙ ap (λ (k : ℕ). drawn k x) e
 
 -- the test passed
 passed : (c : tie.Else2) → let l = c .before .before in let o = l .before .before in let d = o .before .before .before .before .before .before .before .before .before in
@@ -34,13 +29,8 @@ setting-at-requires c κs = search needs
 drawn-requires : tie.Need-drawn-requires
 drawn-requires c κs = search needs
 
-put-status-requires : tie.Need-put-status-requires
-put-status-requires c κs = search needs
-
-let-go-requires : tie.Need-let-go-requires
-let-go-requires c κs =
-    let s = c .before .before .before in
-    room-in (s .before .before .before .before .before .before .before .before .before .pre) (ap (λ (B : Bytes). B .holds) (s .put-status .ensures)) refl
+put-back-requires : tie.Need-put-back-requires
+put-back-requires c κs = room-in (c .before .before .before .before .before .before .before .before .before .before .pre) refl refl
 
 said-requires : tie.Need-said-requires
 said-requires c κs = search needs
@@ -48,8 +38,7 @@ said-requires c κs = search needs
 returns : tie.Need-returns
 returns c =
     let g = c .before in
-    let s = g .before .before .before .before in
-    let i = s .before .before in
+    let i = g .before .before .before .before in
     let z = i .before in
     let v = z .before in
     let q = v .before .before in
@@ -61,10 +50,8 @@ returns c =
     let w = d .args .w in
     let t = d .args .t in
     let a = d .args .a in
-    let same : _≡_ {A = Words} W W = refl in
     λ T.
-    gone-as (g .let-go .last .0) (g .let-go .last .1 .0) (g .let-go .last .1 .1 .0) (now (d .args .sums)) (c .said .ensures)
-    (settled-as w nobody (s .put-status .ensures) (g .let-go .ensures .0)) (settled-words-as w nobody (s .put-status .ensures) same (g .let-go .ensures .1 .0)) (g .let-go .ensures .1 .1) refl
+    written-as (c .said .ensures) (g .put-back .ensures .0) (g .put-back .ensures .1 .0) (g .put-back .ensures .1 .1)
     (alloc-beyond B W N S T w t a (d .args .x) (q .quota-left .ensures) (share (d .args .x) (v .setting-at .ensures) (z .drawn .ensures)) (i .if1 .taken))
 
 amount-at-requires : tie.Need-amount-at-requires
@@ -163,8 +150,7 @@ act-alloc-spec =
     quota-left-requires
     setting-at-requires
     drawn-requires
-    put-status-requires
-    let-go-requires
+    put-back-requires
     said-requires
     returns
     amount-at-requires

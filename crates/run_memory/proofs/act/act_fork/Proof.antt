@@ -1,19 +1,19 @@
 -- `run_memory::act::act_fork` meets its contract: the records after each write, one after the other, are those of a fork.
-use mathlib.Core.Path.{_≡_, ap, _∙_}
+use mathlib.Core.Path.{_≡_, refl, ap, _∙_}
 use Prim.Native.Nat.{ℕ, _+_, _<_}
 use mathlib.Core.Bool.{Bool, true, _&&_}
 use native.Mathlib.Omega.{arith}
 use borrow.Author.Tests.{not-true, not-false, ltb-true}
 use denote.Ref.{now}
 use lib.Dec.{ltb}
-use Rattle.schedule.specs.Machine.{ready}
+use Rattle.schedule.specs.Machine.{ready, nobody}
 use Rattle.array_machine.specs.Turn.{nextFits}
 use Rattle.array_machine.proofs.Leaves.{fits16, fits-and}
-use Rattle.run_memory.specs.Blocks.{Bytes, Words, bytesIn, wordsIn, numbersIn, sumsIn}
+use Rattle.run_memory.specs.Blocks.{Words, bytesIn, wordsIn, numbersIn, sumsIn}
 use Rattle.run_memory.specs.Places.{statused}
 use Rattle.run_memory.specs.Code.Writes.{linkedLeft}
-use Rattle.run_memory.proofs.Acts.{room-in}
-use Rattle.run_memory.proofs.ListActs.{unfit-as, let-go-as, fork-unfit, fork-done}
+use Rattle.run_memory.proofs.Acts.{written-as, kept-words-as, room-in}
+use Rattle.run_memory.proofs.ListActs.{unfit-as, fork-unfit, fork-done}
 use borrow.Author.Needs.{needs}
 use Rattle.run_memory.proofs.act.act_fork.Statement.{statement}
 use Rattle.run_memory.proofs.act.act_fork.Tie as tie
@@ -58,11 +58,13 @@ add-put-row c = fits16 (passed (c .before) .0)
 put-row-requires : tie.Need-put-row-requires
 put-row-requires c κs = search needs
 
+put-back-requires : tie.Need-put-back-requires
+put-back-requires c κs =
+    let p = c .before .before .before in
+    room-in (p .before .before .before .before .pre) refl (ap (λ (W : Words). W .busy) (p .put-row .ensures))
+
 put-status-requires : tie.Need-put-status-requires
 put-status-requires c κs = search needs
-
-put-status-requires-2 : tie.Need-put-status-requires-2
-put-status-requires-2 c κs = search needs
 
 link-left-requires : tie.Need-link-left-requires
 link-left-requires c κs = search needs
@@ -70,30 +72,16 @@ link-left-requires c κs = search needs
 link-left-requires-2 : tie.Need-link-left-requires-2
 link-left-requires-2 c κs = search needs
 
-let-go-requires : tie.Need-let-go-requires
-let-go-requires c κs =
-    let l = c .before .before .before in
-    let k = l .before .before in
-    let v = k .before .before in
-    let s = v .before .before in
-    let p = s .before .before in
-    let d = p .before .before .before .before in
-    let x = d .args .x in
-    let t = d .args .t in
-    room-in (d .pre) (ap (λ (B : Bytes). B .holds) (v .put-status2 .ensures ∙ ap (statused x ready) (s .put-status .ensures)))
-    (ap (λ (W : Words). W .busy) (l .link-left2 .ensures ∙ ap (linkedLeft 4 1 x t) (k .link-left .ensures ∙ ap (linkedLeft 2 0 x t) (p .put-row .ensures))))
-
 done-requires : tie.Need-done-requires
 done-requires c κs = search needs
 
 returns-2 : tie.Need-returns-2
 returns-2 c =
-    let g = c .before in
-    let l = g .before .before .before .before in
+    let l = c .before in
     let k = l .before .before in
     let v = k .before .before in
-    let s = v .before .before in
-    let p = s .before .before in
+    let b = v .before .before in
+    let p = b .before .before .before .before in
     let i = p .before .before in
     let d = i .before .before in
     let B = bytesIn (now (d .args .bytes)) in
@@ -103,10 +91,10 @@ returns-2 c =
     let w = d .args .w in
     let t = d .args .t in
     let x = d .args .x in
+    let q = kept-words-as B w nobody (p .put-row .ensures) (b .put-back .ensures .1 .0) in
     λ T.
-    let-go-as w N (c .done .ensures) (v .put-status2 .ensures ∙ ap (statused x ready) (s .put-status .ensures))
-    (l .link-left2 .ensures ∙ ap (linkedLeft 4 1 x t) (k .link-left .ensures ∙ ap (linkedLeft 2 0 x t) (p .put-row .ensures)))
-    (g .let-go .ensures .0) (g .let-go .ensures .1 .0) (g .let-go .ensures .1 .1)
+    written-as (c .done .ensures) (v .put-status .ensures ∙ ap (statused x ready) (b .put-back .ensures .0))
+    (l .link-left2 .ensures ∙ ap (linkedLeft 4 1 x t) (k .link-left .ensures ∙ ap (linkedLeft 2 0 x t) q)) (b .put-back .ensures .1 .1)
     (fork-done B W N S T w t (d .args .a) x (d .pre) (not-false _ (i .if1 .left)) (i .before .fork-fits .ensures))
 
 pub act-fork-spec : {M : Type 1} → statement M
@@ -119,10 +107,9 @@ act-fork-spec =
     cast-c
     add-put-row
     put-row-requires
+    put-back-requires
     put-status-requires
-    put-status-requires-2
     link-left-requires
     link-left-requires-2
-    let-go-requires
     done-requires
     returns-2)

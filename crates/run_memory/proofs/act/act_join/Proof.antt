@@ -1,11 +1,12 @@
 -- `run_memory::act::act_join` meets its contract: a child that is none of the arrays', one that has ended, and one that has not.
-use mathlib.Core.Path.{_≡_, ap, _∙_}
+use mathlib.Core.Path.{_≡_, refl, ap, _∙_}
 use Prim.Native.Nat.{ℕ}
 use denote.Ref.{now}
 use Rattle.schedule.specs.Machine.{ended}
-use Rattle.run_memory.specs.Blocks.{Bytes, Words, bytesIn, wordsIn, numbersIn, sumsIn}
-use Rattle.run_memory.proofs.Acts.{room-in}
-use Rattle.run_memory.proofs.ListActs.{unfit-as, let-go-as, join-outside, join-waits}
+use Rattle.run_memory.specs.Blocks.{bytesIn, wordsIn, numbersIn, sumsIn}
+use Rattle.run_memory.specs.Code.Writes.{unlinked}
+use Rattle.run_memory.proofs.Acts.{written-as, room-in}
+use Rattle.run_memory.proofs.ListActs.{unfit-as, join-outside, join-waits}
 use borrow.Author.Needs.{needs}
 use Rattle.run_memory.proofs.act.act_join.Statement.{statement}
 use Rattle.run_memory.proofs.act.act_join.Tie as tie
@@ -39,28 +40,20 @@ act-joined-requires c κs = search needs
 returns-2 : tie.Need-returns-2
 returns-2 c = search needs
 
-put-status-requires : tie.Need-put-status-requires
-put-status-requires c κs = search needs
+put-back-requires : tie.Need-put-back-requires
+put-back-requires c κs = room-in (c .before .before .before .before .before .before .before .pre) refl refl
 
 unlink-requires : tie.Need-unlink-requires
 unlink-requires c κs = search needs
-
-let-go-requires : tie.Need-let-go-requires
-let-go-requires c κs =
-    let k = c .before .before .before in
-    let s = k .before .before in
-    let d = s .before .before .before .before .before .before in
-    room-in (d .pre) (ap (λ (B : Bytes). B .holds) (s .put-status .ensures)) (ap (λ (W : Words). W .busy) (k .unlink .ensures))
 
 said-requires : tie.Need-said-requires
 said-requires c κs = search needs
 
 returns-3 : tie.Need-returns-3
 returns-3 c =
-    let g = c .before in
-    let k = g .before .before .before .before in
-    let s = k .before .before in
-    let j = s .before .before in
+    let k = c .before in
+    let b = k .before .before in
+    let j = b .before .before .before .before in
     let h = j .before in
     let i = h .before .before in
     let d = i .before in
@@ -69,9 +62,10 @@ returns-3 c =
     let N = numbersIn (now (d .args .numbers)) in
     let S = sumsIn (now (d .args .sums)) in
     let w = d .args .w in
+    let t = d .args .t in
     λ T.
-    let-go-as w N (c .said .ensures) (s .put-status .ensures) (k .unlink .ensures) (g .let-go .ensures .0) (g .let-go .ensures .1 .0) (g .let-go .ensures .1 .1)
-    (join-waits B W N S T w (d .args .t) (d .args .a) (d .args .x) (d .pre) (i .if1 .left) (not-ended (h .status-at .ensures) (j .if2 .left)))
+    written-as (c .said .ensures) (b .put-back .ensures .0) (k .unlink .ensures ∙ ap (unlinked 4 1 t) (b .put-back .ensures .1 .0)) (b .put-back .ensures .1 .1)
+    (join-waits B W N S T w t (d .args .a) (d .args .x) (d .pre) (i .if1 .left) (not-ended (h .status-at .ensures) (j .if2 .left)))
 
 pub act-join-spec : {M : Type 1} → statement M
 act-join-spec =
@@ -83,8 +77,7 @@ act-join-spec =
     status-at-requires
     act-joined-requires
     returns-2
-    put-status-requires
+    put-back-requires
     unlink-requires
-    let-go-requires
     said-requires
     returns-3)
