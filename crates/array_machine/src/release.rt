@@ -1,4 +1,5 @@
-// "w is released". The worker's own record is lent and altered in place.
+// "w is released". A turn reads the worker's record out of its cells and writes back the one that `release` returns (`let_go`, crates/run_memory/src/act.rt); what is lent here and altered is
+// that record's local.
 use schedule::Worker;
 ghost use mathlib.Core.Path.{_≡_};
 ghost use Rattle.schedule.specs.Machine.{nobody};
