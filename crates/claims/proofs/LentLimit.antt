@@ -1,4 +1,4 @@
--- A beginning in lent memory stands, every list of calls on it is that list on the record, and so the memory limit and the limit on the threads in the list hold of it.
+-- A beginning in lent memory stands, every list of calls on it is that list on the record, answers included, and so the memory limit and the limit on the threads in the list hold of it.
 use mathlib.Core.Path.{_≡_, refl, sym, ap, ap₂, subst, _∙_}
 use Prim.Native.Nat.{ℕ, _%_, _≤_}
 use native.Mathlib.Omega.{arith}
@@ -26,7 +26,7 @@ use Rattle.schedule.specs.Machine.{Stepped}
 use Rattle.schedule.specs.Turn.{turnChecks, stepRun, passedIn, turnedAs, turned}
 use Rattle.schedule.specs.declared.Report.{Report}
 use Rattle.schedule.specs.declared.Report.the-variants.{Finished, Spent, Refused}
-use Rattle.schedule.specs.Answers.{reportValues}
+use Rattle.schedule.specs.Answers.{Values, reportValues}
 use Rattle.schedule.specs.Runs.{listRun, roundsRun}
 use Rattle.order.specs.Firsts.{firsts}
 use Rattle.schedule.specs.Calls.{Call, turn, overList, inRounds, turnsIn, afterCall, afterCalls, rowOf, rowOfCalls, turnRow}
@@ -35,6 +35,7 @@ use Rattle.order.proofs.Lists.{Below}
 use Rattle.schedule.proofs.Linked.Once.{Once}
 use Rattle.schedule.proofs.Linked.Links.{walk-linked}
 use Rattle.schedule.proofs.Runs.Histories.{calls-traced}
+use Rattle.schedule.proofs.Runs.Values.{turn-values}
 use Rattle.bounds.proofs.Limit.{MemoryLimit, memory-limit}
 use Rattle.bounds.proofs.ThreadLimit.{ThreadLimit, thread-limit}
 use Rattle.soundness.specs.Tested.{beginFound}
@@ -44,10 +45,11 @@ use Rattle.array_machine.proofs.Starts.{alone, alone-linked, is-start}
 use Rattle.table.specs.Load.{foundNumber}
 use Rattle.run_memory.specs.Memory.{Memory, lentTurn}
 use Rattle.wivakkol.specs.Lent.{startMemory, begunAs, lentBegin}
-use Rattle.run_memory.specs.Stands.{truths, workersFrom, runIn, Stands}
+use Rattle.run_memory.specs.Stands.{truths, workersFrom, runIn, Stands, valuesRow}
 use Rattle.wivakkol.specs.Opened.{soundIn, blankIn, openedIn, openedAs, lentOpen}
-use Rattle.claims.specs.LentCalls.{LentCall, moving, opening, lentMove, lentCall, lentRowOf, lentAfter, lentRow, movesOf}
-use Rattle.wivakkol.proofs.Opens.{open-record, open-stands, opens-stands}
+use Rattle.claims.specs.LentCalls.{LentCall, moving, opening, returned, lentMove, lentCall, lentRowOf, lentAfter, lentReturned, lentRow, movesOf}
+use Rattle.claims.specs.Answers.{answerOf, inNumbers, returnedBy}
+use Rattle.wivakkol.proofs.Opens.{open-record, open-refines, open-stands, opens-stands}
 use Rattle.wivakkol.proofs.Numbered.{Numbered, begin-numbered, turn-numbered}
 use Rattle.run_memory.proofs.Refines.{Turns, turn-refines}
 use Rattle.wivakkol.proofs.RunsRefine.{valuesRun, list-refines, rounds-refines}
@@ -129,6 +131,7 @@ row-turns x e = ap (λ (l : List ℕ). getD l 2 0) e ∙ report-turns x
 -- a call is that call on the record, and the record after it stands
 record CallRefines (s : List ℕ) (M : Memory) (c : Call) : Type 0 where
   record-after : runIn s (lentMove s c M .memory) ≡ afterCall c (runIn s M)
+  answer : returned (lentMove s c M .number) (lentMove s c M .row) ≡ inNumbers (answerOf c (runIn s M))
   row : lentRowOf (moving c) M (lentMove s c M) ≡ rowOf c (runIn s M)
   stands : Stands s (lentMove s c M .memory)
 
@@ -138,30 +141,53 @@ call-refines s M h (turn w) =
     let t : Turns s M w (lentTurn s w M) = turn-refines s M h w in
     record {
       record-after = t .record-after;
+      answer = (λ i. returned (t .number i) (t .row i)) ∙ ap (λ (v : Values). returned (v .number) (valuesRow v)) (sym (turn-values (runIn s M) w));
       row = ap (λ (n : ℕ). pick (eqb n 0) (w ∷ []) []) (t .number) ∙ turned-row (runIn s M) w;
       stands = t .stands;
     }
 call-refines s M h (overList l) =
     let t = list-refines s M h l in
-    record { record-after = t .record-after; row = ap (λ (n : ℕ). take n l) (row-turns (listRun (runIn s M) l .report) (t .row)); stands = t .stands }
+    record {
+      record-after = t .record-after;
+      answer = λ i. returned (t .number i) (t .row i);
+      row = ap (λ (n : ℕ). take n l) (row-turns (listRun (runIn s M) l .report) (t .row));
+      stands = t .stands;
+    }
 call-refines s M h (inRounds limit) =
     let t = rounds-refines s M h limit in
-    record { record-after = t .record-after; row = ap (firsts (λ i. i % (getD (M .settings) 0 0)) 0) (row-turns (roundsRun (runIn s M) limit .report) (t .row)); stands = t .stands }
+    record {
+      record-after = t .record-after;
+      answer = λ i. returned (t .number i) (t .row i);
+      row = ap (firsts (λ i. i % (getD (M .settings) 0 0)) 0) (row-turns (roundsRun (runIn s M) limit .report) (t .row));
+      stands = t .stands;
+    }
 
--- what a list of calls leaves: it is those of them that move the run, on the record, and the record after it stands
+-- the row of an opening has the place of a refusal, which is 0
+pub open-row : (s : List ℕ) (M : Memory) → lentOpen s M .row ≡ 0 ∷ []
+unfolding lentOpen
+open-row s M = go (soundIn s M) (blankIn M)
+  where
+    go : (x y : Bool) → openedAs x y s M .row ≡ 0 ∷ []
+    go true y = refl
+    go false true = refl
+    go false false = refl
+
+-- what a list of calls leaves and returns: it is those of them that move the run, on the record, and the record after it stands
 pub record Refines (s : List ℕ) (M : Memory) (l : List LentCall) : Type 0 where
   pub record-after : runIn s (lentAfter s l M) ≡ afterCalls (movesOf l) (runIn s M)
+  pub answers : lentReturned s l M ≡ returnedBy l (runIn s M)
   pub row : lentRow s l M ≡ rowOfCalls (movesOf l) (runIn s M)
   pub stands : Stands s (lentAfter s l M)
 
 pub calls-refine : (s : List ℕ) (M : Memory) → Stands s M → (l : List LentCall) → Refines s M l
-unfolding lentAfter lentRow lentCall lentRowOf movesOf afterCalls rowOfCalls
-calls-refine s M h [] = record { record-after = refl; row = refl; stands = h }
+unfolding lentAfter lentReturned lentRow lentCall lentRowOf movesOf returnedBy afterCalls rowOfCalls
+calls-refine s M h [] = record { record-after = refl; answers = refl; row = refl; stands = h }
 calls-refine s M h (moving c ∷ l) =
     let t = call-refines s M h c in
     let d : Refines s (lentMove s c M .memory) l = calls-refine s (lentMove s c M .memory) (t .stands) l in
     record {
       record-after = d .record-after ∙ ap (afterCalls (movesOf l)) (t .record-after);
+      answers = ap₂ _∷_ (t .answer) (d .answers ∙ ap (returnedBy l) (t .record-after));
       row = ap₂ _++_ (t .row) (d .row ∙ ap (rowOfCalls (movesOf l)) (t .record-after));
       stands = d .stands;
     }
@@ -169,6 +195,7 @@ calls-refine s M h (opening ∷ l) =
     let d : Refines s (lentOpen s M .memory) l = calls-refine s (lentOpen s M .memory) (opens-stands s M h) l in
     record {
       record-after = d .record-after ∙ ap (afterCalls (movesOf l)) (open-record s M);
+      answers = ap₂ _∷_ (λ i. returned (open-refines s M h i) (open-row s M i)) (d .answers ∙ ap (returnedBy l) (open-record s M));
       row = d .row ∙ ap (rowOfCalls (movesOf l)) (open-record s M);
       stands = d .stands;
     }
@@ -185,31 +212,33 @@ open-refine s M a b c = go (soundIn s M) refl (blankIn M)
     go false e true n f l = never (sym f)
     go false e false n f l = absurd (omega (arith, n))
 
--- ---- the limits
+-- ---- from a beginning on
 
-module _ (s : List ℕ) (p K : ℕ) (e : lentBegin s p K .number ≡ 0) (l : List LentCall) where
-  abbrev left : Run
-  left = runIn s (lentAfter s l (lentBegin s p K .memory))
+module _ (s : List ℕ) (p K : ℕ) (e : lentBegin s p K .number ≡ 0) where
+  -- the record of document 01's beginning stands in its memory
+  pub begun-stands : Stands s (lentBegin s p K .memory)
+  begun-stands = subst (λ (M : Memory). Stands s M) (sym (memory-so s p K e)) (start-stands s p K e)
 
-  abbrev row : List ℕ
-  row = lentRow s l (lentBegin s p K .memory)
+  pub begun-there : begin s p K ≡ record { answer = started; run = runIn s (lentBegin s p K .memory) }
+  begun-there = begun-so s p K e ∙ ap (λ (M : Memory). record { answer = started; run = runIn s M }) (sym (memory-so s p K e))
 
-  begun : Stands s (lentBegin s p K .memory)
-  begun = subst (λ (M : Memory). Stands s M) (sym (memory-so s p K e)) (start-stands s p K e)
+  module _ (l : List LentCall) where
+    abbrev left : Run
+    left = runIn s (lentAfter s l (lentBegin s p K .memory))
 
-  here : begin s p K ≡ record { answer = started; run = runIn s (lentBegin s p K .memory) }
-  here = begun-so s p K e ∙ ap (λ (M : Memory). record { answer = started; run = runIn s M }) (sym (memory-so s p K e))
+    abbrev row : List ℕ
+    row = lentRow s l (lentBegin s p K .memory)
 
-  holds : (P : Run → List ℕ → Type 0)
-      → P (afterCalls (movesOf l) (runIn s (lentBegin s p K .memory))) (rowOfCalls (movesOf l) (runIn s (lentBegin s p K .memory))) → P left row
-  holds P g =
-      let c = calls-refine s (lentBegin s p K .memory) begun l in
-      subst (λ (x : Run). P x row) (sym (c .record-after)) (subst (λ (x : List ℕ). P (afterCalls (movesOf l) (runIn s (lentBegin s p K .memory))) x) (sym (c .row)) g)
+    holds : (P : Run → List ℕ → Type 0)
+        → P (afterCalls (movesOf l) (runIn s (lentBegin s p K .memory))) (rowOfCalls (movesOf l) (runIn s (lentBegin s p K .memory))) → P left row
+    holds P g =
+        let c = calls-refine s (lentBegin s p K .memory) begun-stands l in
+        subst (λ (x : Run). P x row) (sym (c .record-after)) (subst (λ (x : List ℕ). P (afterCalls (movesOf l) (runIn s (lentBegin s p K .memory))) x) (sym (c .row)) g)
 
-  -- Demand 3 in lent memory: a beginning answered 0, and any list of calls followed, refused ones included
-  pub lent-limit : (most : ℕ) → 1 ≤ most → MemoryLimit (tableOf s) p K most left row
-  lent-limit most g = holds (MemoryLimit (tableOf s) p K most) (memory-limit s p K _ here most g (movesOf l))
+    -- Demand 3 in lent memory: a beginning answered 0, and any list of calls followed, refused ones included
+    pub lent-limit : (most : ℕ) → 1 ≤ most → MemoryLimit (tableOf s) p K most left row
+    lent-limit most g = holds (MemoryLimit (tableOf s) p K most) (memory-limit s p K _ begun-there most g (movesOf l))
 
-  -- and N2's limit on the threads in the list
-  pub lent-threads : (most : ℕ) → 1 ≤ most → ThreadLimit (tableOf s) p K most left row
-  lent-threads most g = holds (ThreadLimit (tableOf s) p K most) (thread-limit s p K _ here most g (movesOf l))
+    -- and N2's limit on the threads in the list
+    pub lent-threads : (most : ℕ) → 1 ≤ most → ThreadLimit (tableOf s) p K most left row
+    lent-threads most g = holds (ThreadLimit (tableOf s) p K most) (thread-limit s p K _ begun-there most g (movesOf l))

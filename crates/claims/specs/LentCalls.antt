@@ -1,4 +1,4 @@
--- Lists of calls on a run in lent memory: the memory that they leave, and the row of the turns taken (document 01, "What demand 3 ranges over").
+-- Lists of calls on a run in lent memory: the memory that they leave, what they return, and the row of the turns taken (document 01, "What demand 3 ranges over").
 use Prim.Native.Nat.{ℕ, _%_}
 use mathlib.Core.List.{List, [], _∷_, _++_}
 use lib.Dec.{eqb}
@@ -25,6 +25,14 @@ unfoldable pub lentCall : List ℕ → LentCall → Memory → Answer
 lentCall s (moving c) M = lentMove s c M
 lentCall s opening M = lentOpen s M
 
+-- what C gets of it: the number returned, 0 where nothing is refused, and the row filled
+pub record Returned : Type 0 where
+  pub number : ℕ
+  pub row : List ℕ
+
+abbrev pub returned : ℕ → List ℕ → Returned
+returned number row = record { number = number; row = row }
+
 -- the workers whose turns it took: "of a single turn, its worker; of a run over a list, as many from the front as it reports; of a run in rounds, as many of 0 to p − 1, again and again, as it
 -- reports"
 unfoldable pub lentRowOf : LentCall → Memory → Answer → List ℕ
@@ -41,6 +49,10 @@ lentAfter s (c ∷ l) M = lentAfter s l (lentCall s c M .memory)
 unfoldable pub lentRow : List ℕ → List LentCall → Memory → List ℕ
 lentRow s [] M = []
 lentRow s (c ∷ l) M = lentRowOf c M (lentCall s c M) ++ lentRow s l (lentCall s c M .memory)
+
+unfoldable pub lentReturned : List ℕ → List LentCall → Memory → List Returned
+lentReturned s [] M = []
+lentReturned s (c ∷ l) M = returned (lentCall s c M .number) (lentCall s c M .row) ∷ lentReturned s l (lentCall s c M .memory)
 
 -- those that move the run
 unfoldable pub movesOf : List LentCall → List Call

@@ -1,1 +1,1 @@
-// Both limits over every list of calls on lent memory, from the promises of the calls of `board` and `single`: theorems alone (proofs/LentLimit, proofs/LentPromised), no code.
+// What is promised, for a visitor: theorems alone, from the functions' own promises (proofs/ByValue, FromC, Opened, Board, Rounds). No crate depends on this one.

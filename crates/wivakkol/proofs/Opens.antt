@@ -88,7 +88,7 @@ module _ (s : List ℕ) (M : Memory) where
   -- ---- what is filled
 
   module _ (holds-size : length (M .holds) ≡ maxWorkers) (threads-size : length (M .threads) ≡ maxWorkers) (quotas-size : length (M .quotas) ≡ maxWorkers) where
-    -- from a sound record on, however it came into the memory, each turn is document 01's (`turn-refines`, proofs/Refines)
+    -- from a sound record on, however it came into the memory, each turn is document 01's (`turn-refines`, crates/run_memory/proofs/Refines)
     pub open-stands : soundIn s M ≡ true → Stands s (openedIn s M)
     open-stands e =
         let r : Run = runIn s M in
@@ -112,19 +112,23 @@ pub stands-worked : (s : List ℕ) (M : Memory) → Stands s M → blankIn M ≡
 unfolding blankIn blankOn
 stands-worked s M h = rw (ne-eqb (getD (M .settings) 0 0) 0 (λ e. omega (arith, e, steady-fits (runIn s M) (h .steady) .some-worker)))
 
-stands-unblank : (s : List ℕ) (M : Memory) → Stands s M → isBlank (runIn s M) ≡ false
+-- where the memory has not the blank record, nor has it beside a table
+unblank : (s : List ℕ) (M : Memory) → blankIn M ≡ false → isBlank (runIn s M) ≡ false
 unfolding blankIn
-stands-unblank s M h = blank-is (runIn s M) ∙ off (sameList (runIn s M .table) (replicate maxBytes 0)) (eqb (length s) 0) (stands-worked s M h)
+unblank s M e = blank-is (runIn s M) ∙ off (sameList (runIn s M .table) (replicate maxBytes 0)) (eqb (length s) 0) e
   where
     off : (a b : Bool) {c : Bool} → c ≡ false → (a && (b && c)) ≡ false
     off true true e = e
     off true false e = refl
     off false b e = refl
 
--- so check 32 of its memory is that of the record
-pub stands-unsound : (s : List ℕ) (M : Memory) → Stands s M → not (soundIn s M) ≡ unsound (runIn s M)
+-- so check 32 of the memory is that of the record
+pub tested-same : (s : List ℕ) (M : Memory) → truths (M .holds) ≡ true → blankIn M ≡ false → not (soundIn s M) ≡ unsound (runIn s M)
 unfolding unsound
-stands-unsound s M h = rw (stands-unblank s M h, sound-same s M (h .truth-values)) (last (not (sound (runIn s M))) refl refl)
+tested-same s M h e = rw (unblank s M e, sound-same s M h) (last (not (sound (runIn s M))) refl refl)
+
+pub stands-unsound : (s : List ℕ) (M : Memory) → Stands s M → not (soundIn s M) ≡ unsound (runIn s M)
+stands-unsound s M h = tested-same s M (h .truth-values) (stands-worked s M h)
 
 -- and opening it is refused exactly where the record is
 pub open-refines : (s : List ℕ) (M : Memory) → Stands s M → lentOpen s M .number ≡ pick (unsound (runIn s M)) 32 0

@@ -1,6 +1,6 @@
--- The limits for the running code. A history is a list of calls, each on the record that the last one left, of which nothing is known but what the promises of the public functions say:
+-- The limits for the running code, by value. A history is a list of calls, each on the record that the last one left, of which nothing is known but what the promises of the public functions say:
 -- their own `ensures`, as the check reads it (`Learnt`), of the arguments and the answer. `history-is`: the record, the answers and the row of turns are those of the definitions.
--- `history-exists`: every list of calls has one. `code-limit` and `code-threads`: and so the memory limit and the limit on the threads in the list (crates/schedule/proofs, Limit and
+-- `history-exists`: every list of calls has one. `code-limit` and `code-threads`: and so the memory limit and the limit on the threads in the list (crates/bounds/proofs, Limit and
 -- ThreadLimit) hold of them.
 use mathlib.Core.Path.{_≡_, refl, sym, ap, ap₂, subst, _∙_}
 use Prim.Native.Nat.{ℕ, _%_, _≤_}
@@ -15,25 +15,24 @@ use Rattle.schedule.specs.declared.Run.{Run}
 use Rattle.schedule.specs.declared.Begun.{Begun}
 use Rattle.schedule.specs.declared.Beginning.the-variants.{Begun as started}
 use Rattle.schedule.specs.declared.Turned.{Turned}
-use Rattle.schedule.specs.declared.Turning.{Turning}
 use Rattle.schedule.specs.declared.Ran.{Ran}
-use Rattle.schedule.specs.declared.Report.{Report}
 use Rattle.schedule.specs.Begin.{begin}
 use Rattle.order.specs.Firsts.{firsts}
 use Rattle.schedule.specs.Turn.{turned}
 use Rattle.schedule.specs.Runs.{listRun, roundsRun}
 use Rattle.schedule.specs.Calls.{Call, turn, overList, inRounds, turnsIn, turnRow, afterCall, afterCalls, rowOf, rowOfCalls}
+use Rattle.claims.specs.Answers.{Answer, turning, report, answerOf, answersOf}
 use Rattle.bounds.proofs.Limit.{MemoryLimit, memory-limit}
 use Rattle.bounds.proofs.ThreadLimit.{ThreadLimit, thread-limit}
 use Rattle.schedule.proofs.Runs.Values.{begin-values, turn-values, list-values, rounds-values}
 use Rattle.asyncdf.proofs.begin.Kinds as begin-kinds
 use Rattle.asyncdf.proofs.begin.Reads as begin-promise
 use Rattle.asyncdf.proofs.turn.Kinds as turn-kinds
 use Rattle.asyncdf.proofs.turn.Reads as turn-promise
 use Rattle.asyncdf.proofs.run_list.Kinds as list-kinds
 use Rattle.asyncdf.proofs.run_list.Reads as list-promise
 use Rattle.asyncdf.proofs.run_rounds.Kinds as rounds-kinds
 use Rattle.asyncdf.proofs.run_rounds.Reads as rounds-promise
 
 -- ---- what the promises say
 
@@ -65,11 +64,6 @@ pub record RoundsSays (r : Run) (limit : ℕ) (d : Ran) : Type 0 where
 
 -- ---- a history of calls
 
--- what a call answers besides the record
-pub data Answer : Type 0 where
-  turning : Turning → Answer
-  report : Report → Answer
-
 -- one call on record r: its answer, the row of its turns as the answer has it, and the record after
 pub data Called (r : Run) : Call → Answer → List ℕ → Run → Type 0 where
   by-turn : (w : ℕ) (d : Turned) → TurnSays r w d → Called r (turn w) (turning (d .answer)) (turnRow (d .answer) w) (d .run)
@@ -82,16 +76,6 @@ pub data History : Run → List Call → List Answer → List ℕ → Run → Ty
   none : {r : Run} → History r [] [] [] r
   next : {r r' r'' : Run} {c : Call} {x : Answer} {row rest : List ℕ} {calls : List Call} {answers : List Answer}
       → Called r c x row r' → History r' calls answers rest r'' → History r (c ∷ calls) (x ∷ answers) (row ++ rest) r''
-
--- the answers of the definitions
-abbrev pub answerOf : Call → Run → Answer
-answerOf (turn w) r = turning (turned r w .answer)
-answerOf (overList l) r = report (listRun r l .report)
-answerOf (inRounds limit) r = report (roundsRun r limit .report)
-
-unfoldable pub answersOf : List Call → Run → List Answer
-answersOf [] r = []
-answersOf (c ∷ calls) r = answerOf c r ∷ answersOf calls (afterCall c r)
 
 -- ---- the history is the definitions'
 
@@ -106,7 +90,7 @@ turn-is s = s .promised .0
 list-is : {r : Run} {l : List ℕ} {d : Ran} → ListSays r l d → d ≡ listRun r l
 list-is {r} s = s .promised .0 ∙ ap (listRun r) (s .lent)
 
-rounds-is : {r : Run} {limit : ℕ} {d : Ran} → RoundsSays r limit d → d ≡ roundsRun r limit
+pub rounds-is : {r : Run} {limit : ℕ} {d : Ran} → RoundsSays r limit d → d ≡ roundsRun r limit
 rounds-is s = s .promised .0
 
 pub begin-is : {s : List ℕ} {p K : ℕ} {b : Begun} → BeginSays s p K b → b ≡ begin s p K
@@ -162,7 +146,7 @@ turn-says r w = record { exit = (r, (w, tt)); promised = (refl, turn-values r w)
 list-says : (r : Run) (l : List ℕ) → ListSays r l (listRun r l)
 list-says r l = record { lifetimes = ([], tt); order = lentOf l; lent = refl; exit = (r, (lentOf l, tt)); promised = (refl, list-values r l) }
 
-rounds-says : (r : Run) (limit : ℕ) → RoundsSays r limit (roundsRun r limit)
+pub rounds-says : (r : Run) (limit : ℕ) → RoundsSays r limit (roundsRun r limit)
 rounds-says r limit = record { exit = (r, (limit, tt)); promised = (refl, rounds-values r limit) }
 
 called : (r : Run) (c : Call) → Called r c (answerOf c r) (rowOf c r) (afterCall c r)
