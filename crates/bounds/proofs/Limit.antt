@@ -20,7 +20,7 @@ use Rattle.schedule.proofs.Runs.Rows.{row-balanced, row-held, row-highest}
 use Rattle.order.proofs.Lawful.{Within}
 use Rattle.schedule.proofs.Beginnings.{begun-exactly}
 use Rattle.schedule.proofs.Runs.Histories.{Started, begin-started, Traced, calls-traced}
-use Rattle.bounds.proofs.Delayed.{drawnCost, Delayed, small-delayed}
+use Rattle.bounds.proofs.Delayed.{Delayed, small-delayed}
 use Rattle.bounds.proofs.FrontParts.{peak-within, front-bound, front-alone}
 
 -- of a record r and the row of turns that led to it
@@ -36,7 +36,7 @@ pub record MemoryLimit (T : Table) (p K b : ℕ) (r : Run) (row : List ℕ) : Ty
   pub alone : p ≡ 1 → (memoryOf T K row ≤ S1 T) × (peakMemory T K row ≤ S1 T)
 
 -- from a table whose allocs above K are delayed
-pub delayed-limit : (s : List ℕ) (p K : ℕ) (r : Run) → Delayed (tableOf s) (drawnCost (tableOf s) K) → begin s p K ≡ record { answer = started; run = r } → (b : ℕ) → 1 ≤ b → (calls : List Call)
+pub delayed-limit : (s : List ℕ) (p K : ℕ) (r : Run) → Delayed (tableOf s) K → begin s p K ≡ record { answer = started; run = r } → (b : ℕ) → 1 ≤ b → (calls : List Call)
     → MemoryLimit (tableOf s) p K b (afterCalls calls r) (rowOfCalls calls r)
 delayed-limit s p K r delayed e b g calls =
     let T : Table = tableOf s in
