@@ -1,16 +1,16 @@
--- A table whose allocs above K are delayed: what is drawn beyond an action not done is covered by what the batches are charged.
+-- A table whose allocs above K are delayed: what the allocs done beyond an action not done come to is covered by what the actions done there cost.
 use mathlib.Core.Path.{_≡_, refl, sym, ap, _∙_}
 use Prim.Native.Nat.{ℕ, suc, _+_, _≤_, _<_}
 use native.Mathlib.Omega.{arith}
 use native.Mathlib.Decide.{ℕ-discrete, decLt}
-use mathlib.Core.List.{List, [], _∷_, _++_, List·Memᴰ, List·Memᴰ·head, List·Memᴰ·tail}
+use mathlib.Core.List.{List, [], _∷_, List·Memᴰ, List·Memᴰ·head, List·Memᴰ·tail}
 use mathlib.Core.Bool.{Bool, true, false, _&&_}
 use mathlib.Core.Logic.{_⊎_, inl, inr}
 use lib.Seq.{take-all}
 use lib.Dec.{ltb}
 use borrow.Author.Tests.{lt-ltb, ltb-true}
 use Rattle.table.specs.Sum.{pick, sumTo, sumOver}
-use Rattle.table.specs.Format.{fork, join, codeOf, is, Table, kind}
+use Rattle.table.specs.Format.{codeOf, is, Table}
 use Rattle.table.specs.Checks.{owner, allocOf}
 use Rattle.table.specs.Serial.{serialOrder}
 use Rattle.table.proofs.Tests.{no-way}
@@ -27,30 +27,7 @@ use Rattle.schedule.proofs.Sound.Facts.{Done, Facts}
 use Rattle.schedule.proofs.Sound.Done.{done-low, undone, ended-all}
 use Rattle.schedule.proofs.Linked.Waiting.{around-ended, joined-ended}
 use Rattle.bounds.proofs.Draws.{spentBeyond}
-use Rattle.bounds.proofs.Dummies.{dummyCost}
-
--- an alloc z with a fork y and its join in front, and the actions of the tree forked there
-pub record Delay (T : Table) (K y : ℕ) (g : List ℕ) : Type 0 where
-  pub inside : suc (suc y) < T .actions
-  pub forks : kind T y ≡ fork
-  pub joins : kind T (suc y) ≡ join
-  pub child : T .argument (suc y) ≡ T .argument y
-  pub members : (a : ℕ) → List·Memᴰ a g
-      → (a < T .actions) × ((a ≡ y) ⊎ (((numberOf T y < numberOf T a) × (numberOf T a < numberOf T (suc y))) ⊎ ((a ≡ suc y) ⊎ (a ≡ suc (suc y)))))
-  pub alone : (a : ℕ) → List·Memᴰ a g → (a ≡ suc (suc y) → ⊥) → allocOf T a ≡ 0
-  pub covered : sumOver (allocOf T) g ≤ sumOver (dummyCost T K) g
-
-pub data Group (T : Table) (K : ℕ) (g : List ℕ) : Type 0 where
-  plain : (a : ℕ) → g ≡ a ∷ [] → allocOf T a ≤ dummyCost T K a → Group T K g
-  delayed : (y : ℕ) → Delay T K y g → Group T K g
-
--- groups one after the other
-pub data Groups (T : Table) (K : ℕ) : List ℕ → Type 0 where
-  none : Groups T K []
-  group : (g l : List ℕ) → Group T K g → Groups T K l → Groups T K (g ++ l)
-
-abbrev pub Delayed : Table → ℕ → Type 0
-Delayed T K = Groups T K (serialOrder T)
+use Rattle.bounds.proofs.Delayed.{dummyCost, Delay, Group, plain, delayed, Groups, no-group, group, Delayed}
 
 -- ---- sums over lists
 
@@ -181,7 +158,7 @@ module _ (T : Table) (l : Lawful T) (p K : ℕ) (st : State) (f : Facts T p K st
 
   groups-cover : (k : List ℕ) → Groups T K k → sumOver (at (allocOf T)) k ≤ sumOver (at (dummyCost T K)) k
   unfolding sumOver
-  groups-cover _ none = omega arith
+  groups-cover _ no-group = omega arith
   groups-cover _ (group g k x r) =
       omega (arith, sumOver-append (at (allocOf T)) g k, sumOver-append (at (dummyCost T K)) g k, group-covers g x, groups-cover k r)
 

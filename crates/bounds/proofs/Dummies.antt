@@ -10,12 +10,12 @@ use lib.Dec.{eqb}
 use borrow.Author.Tests.{eqb-true, eq-eqb, ne-eqb}
 use Rattle.table.specs.Sum.{pick}
 use Rattle.table.specs.Format.{end, work, codeOf, is, Table, kind}
-use Rattle.table.specs.Checks.{owner, endOf, allocOf}
+use Rattle.table.specs.Checks.{endOf, allocOf}
 use Rattle.table.proofs.Tests.{no-way, and-both}
 use Rattle.table.proofs.Bodies.{owner-below, owner-first, owner-end, after-end, end-kind}
 use Rattle.schedule.specs.declared.Worker.{Worker}
 use Rattle.schedule.specs.declared.Reply.the-variants.{Done}
-use Rattle.schedule.specs.Machine.{State, nextOf, workerOf, turnOf}
+use Rattle.schedule.specs.Machine.{State, drawn, nextOf, workerOf, turnOf}
 use Rattle.schedule.specs.Begin.{startState}
 use Rattle.schedule.specs.Sound.{isDone}
 use Rattle.order.specs.Order.{numberOf}
@@ -26,16 +26,10 @@ use Rattle.schedule.proofs.Sound.Done.{number-first}
 use Rattle.schedule.proofs.Preservation.Turns.{turn-facts}
 use Rattle.schedule.proofs.Preservation.Starts.{start-worker}
 use Rattle.schedule.proofs.Bounds.Beyond.{startAction, begins, batches}
+use Rattle.schedule.proofs.Bounds.Acts.{drawn-none}
 use Rattle.schedule.proofs.Bounds.Tries.{Tries, Turned, idles, tries, turned}
+use Rattle.bounds.proofs.Delayed.{isLeaf, dummyCost}
 use Rattle.bounds.proofs.Draws.{spentBeyond, Draw, draws-within}
-
--- thread t has the body work, end
-unfoldable pub isLeaf : Table → ℕ → Bool
-isLeaf T t = eqb (T .count t) 2 && is work (kind T (T .first t))
-
--- what an action draws: its alloc, and at the work of such a body the whole quota
-unfoldable pub dummyCost : Table → ℕ → ℕ → ℕ
-dummyCost T K a = pick (isLeaf T (owner T a) && eqb a (T .first (owner T a))) K (allocOf T a)
 
 -- what is left of its batch to a worker
 unfoldable pub leftTo : Table → State → ℕ → ℕ
@@ -121,8 +115,8 @@ module _ (T : Table) (l : Lawful T) (p K : ℕ) (few : p ≤ 16) (w : ℕ) (belo
     unfolding dummyCost leftTo
     spends u d i = rw (y .acted .answers u d i, y .owned) (go (isLeaf T t) refl (ℕ-discrete a (T .first t)))
       where
-        drawn : workerOf after w .quota + allocOf T a ≤ pick (workerOf st w .holds) (workerOf st w .quota) K
-        drawn = rw (y .acted .answers u d i) at (y .acted .quota u d i)
+        draws : workerOf after w .quota + drawn K (allocOf T a) ≤ pick (workerOf st w .holds) (workerOf st w .quota) K
+        draws = rw (y .acted .answers u d i) at (y .acted .quota u d i)
 
         -- what w had left, where its thread is none such
         whole : isLeaf T t ≡ false → had ≡ pick (workerOf st w .holds) (workerOf st w .quota) K
@@ -133,10 +127,10 @@ module _ (T : Table) (l : Lawful T) (p K : ℕ) (few : p ≤ 16) (w : ℕ) (belo
             at (inl (h, j, k)) = rw (h, g .is w, j, e)
             at (inr (h, j, k)) = rw h
 
-        go : (q : Bool) → isLeaf T t ≡ q → Dec (a ≡ T .first t) → leftTo T after w + pick (q && eqb a (T .first t)) K (allocOf T a) ≤ had
+        go : (q : Bool) → isLeaf T t ≡ q → Dec (a ≡ T .first t) → leftTo T after w + pick (q && eqb a (T .first t)) K (drawn K (allocOf T a)) ≤ had
         go true e (yes b) = rw (eq-eqb a (T .first t) b, nothing-left e, first-begins b) (omega arith)
-        go true e (no b) = rw (ne-eqb a (T .first t) b, nothing-left e, leaf-end e b) (omega arith)
-        go false e b = omega (arith, left-most T after w, drawn, whole e)
+        go true e (no b) = rw (ne-eqb a (T .first t) b, nothing-left e, leaf-end e b, drawn-none K) (omega arith)
+        go false e b = omega (arith, left-most T after w, draws, whole e)
 
   pub dummy-step : (left' : ℕ → ℕ) × Ghost T after left' × Draw T K (dummyCost T K) K w st left left'
   unfolding leftTo
