@@ -580,7 +580,7 @@ NUMBERS = {'begin': [*range(12), 20, 21, 22], 'open': [0, 32], 'turn': [0, 30, 3
 WANTED = ['%s %d' % (call, x) for call, numbers in NUMBERS.items() for x in numbers] + [*lent.SAID.values(), 'turns', *MISFITS]
 WANTED += ['%s %s' % (call, what) for call in ('list', 'rounds') for what in (*lent.RUN_SAID.values(), 'with turns', 'without', 'turns', *MISFITS)]
 WANTED += ['preview %s' % what for what in ('turns', *MISFITS)]
-CLAUSES = ['length', 'table', 'beginning', *(clause.__name__ for clause in machine.CLAUSES), 'truth values', 'truth values alone']
+CLAUSES = ['length', 'table', 'settings', *(clause.__name__ for clause in machine.CLAUSES), 'truth values', 'truth values alone']
 WANTED += ['open %s' % what for what in ('sound', 'blank', 'as it was', 'mended')] + ['%s %s' % (call, what) for call in ('open', 'chart') for what in CLAUSES]
 
 

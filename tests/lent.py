@@ -286,7 +286,8 @@ class Lent:
             raise Misfit('thread')
         a = memory.next[t]
         kind, x = self.action(a)
-        if kind == ALLOC and x > memory.quotas[w]:
+        share = x if x <= memory.settings[K] else 0
+        if kind == ALLOC and share > memory.quotas[w]:
             self.release(w, READY)
             return QUOTA, t, x
         if kind in (FORK, JOIN) and x >= THREADS:
@@ -302,7 +303,7 @@ class Lent:
             return IDLE, 0, 0
         fit(memory.next, t, a + 1, 'next')
         if kind == ALLOC:
-            memory.quotas[w] -= x
+            memory.quotas[w] -= share
             self.hold(t, x)
         elif kind == FREE:
             self.hold(t, -x)

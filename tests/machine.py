@@ -115,11 +115,18 @@ def described(threads):
 
 # Beginning
 
-def begin_fault(table, p, quota):
+def settings_fault(p, quota):
     if not 1 <= p <= WORKERS:
         return 20, 0
     if not 1 <= quota <= LARGEST:
         return 21, 0
+    return None
+
+
+def begin_fault(table, p, quota):
+    fault = settings_fault(p, quota)
+    if fault:
+        return fault
     for a, (kind, x) in enumerate(table.actions):
         if kind == ALLOC and x > quota:
             return 22, a
@@ -280,8 +287,8 @@ def broken(run):
     if check(run.table[:run.length])[0] == 'refused':
         return ['table']
     v = View(run)
-    if begin_fault(v.table, run.p, run.quota):
-        return ['beginning']
+    if settings_fault(run.p, run.quota):
+        return ['settings']
     if not next_in_body(v):
         return ['next_in_body']
     return [clause.__name__ for clause in CLAUSES if not clause(v)]
@@ -324,14 +331,15 @@ class Machine:
         t = worker.thread
         a = run.next[t]
         kind, x = self.table.actions[a]
-        if kind == ALLOC and x > worker.quota:
+        share = x if x <= run.quota else 0
+        if kind == ALLOC and share > worker.quota:
             self.release(w, READY)
             return 'quota', t, x
         if kind == JOIN and run.status[x] != ENDED:
             self.release(w, WAITING)
             return 'wait', t, x
         if kind == ALLOC:
-            worker.quota -= x
+            worker.quota -= share
             run.held += x
             run.amounts[t] += x
         elif kind == FREE:

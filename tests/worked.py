@@ -104,6 +104,9 @@ def damages():
     _, good = turns(begun(table(*E), 3, 6), [0, 1, 0, 2, 0])
     expect('the record before', (good.status[:3], good.next[:3], list(Links(good)), good.held), ([WAITING, HELD, HELD], [2, 6, 10], [1, 2, 0], 12))
     expect('is sound', broken(good), [])
+    smaller = copied(good)
+    smaller.quota = 5
+    expect('is sound with an alloc above K', broken(smaller), [])
 
     def damage(what, clauses, change):
         run = copied(good)
@@ -126,9 +129,8 @@ def damages():
         return lambda run: vars(run.worker[w]).update(values)
 
     damage('a table that fails', ['table'], table_byte(16, 6))
-    damage('p 0', ['beginning'], let('p', 0))
-    damage('K 5', ['beginning'], let('quota', 5))
-    damage('K out of range', ['beginning'], let('quota', LARGEST + 1))
+    damage('p 0', ['settings'], let('p', 0))
+    damage('K out of range', ['settings'], let('quota', LARGEST + 1))
     damage('a next action in another body', ['next_in_body'], put('next', 1, 9))
     damage('a next action before its body', ['next_in_body'], put('next', 2, 8))
     damage('a join done before the child', ['in_order', 'waits_at_joins', 'amounts_right'], put('next', 0, 4))

@@ -4,6 +4,7 @@ use links::seek;
 use schedule::Worker;
 ghost use mathlib.Core.Path.{_≡_};
 ghost use Rattle.schedule.specs.Links.{seek as seekOf};
+ghost use Rattle.schedule.specs.Machine.{drawn as drawnOf};
 ghost use Rattle.array_machine.specs.Counted.{passedAlong, roomFor};
 
 pub mod fits;
@@ -54,4 +55,11 @@ pub fn room_for(turns: u64, busy: u16, holds: bool, w: usize) -> bool
     }
     let bit: u16 = 1 << w;
     busy <= u16::MAX - bit
+}
+
+// What an alloc of x draws from the quota: above K nothing (N6).
+pub fn drawn(quota: u32, x: u32) -> u32
+    ensures { λ r. ⌜ r ≡ drawnOf quota x ⌝ }
+{
+    if quota < x { 0 } else { x }
 }

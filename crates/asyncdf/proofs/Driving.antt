@@ -5,15 +5,15 @@ use native.Mathlib.Omega.{arith}
 use native.Mathlib.Decide.{ℕ-discrete}
 use mathlib.Core.Bool.{Bool, true, false}
 use lib.ListN.{length, getD}
-use lib.Dec.{leb, eqb}
+use lib.Dec.{eqb}
 use borrow.Author.Tests.{eqb-false, eq-eqb, ne-eqb, lt-ltb, le-ltb}
-use Rattle.table.specs.Format.{Kind, end, work, alloc, free, fork, join, unknown, Table, kind}
+use Rattle.table.specs.Format.{end, Table, kind}
 use Rattle.table.specs.Pass.{refusal}
 use Rattle.table.specs.Checks.{owner, endOf}
 use Rattle.table.proofs.Tests.{no-way}
 use Rattle.table.proofs.Bodies.{owner-of-end, end-kind}
 use Rattle.schedule.specs.declared.Run.{Run}
-use Rattle.schedule.specs.declared.Reply.the-variants.{Idle, Done, Quota, Wait}
+use Rattle.schedule.specs.declared.Reply.the-variants.{Idle, Done}
 use Rattle.schedule.specs.declared.Report.the-variants.{Finished, Spent, Refused}
 use Rattle.schedule.specs.Machine.{State, ended, nextOf, statusOf, workerOf}
 use Rattle.schedule.specs.Machine.{actBy, act, leftmost, taken, turnFree, turnOf}
@@ -21,7 +21,6 @@ use Rattle.schedule.specs.Record.{tableIn, stateOf}
 use Rattle.schedule.specs.Sound.{isDone, Steady}
 use Rattle.schedule.specs.Turn.{rootEnded, noWorker, stepRun}
 use Rattle.schedule.specs.Runs.{ran, moved, drive}
-use Rattle.schedule.specs.Memory.{ofReply}
 use Rattle.order.proofs.Lawful.{Lawful}
 use Rattle.schedule.proofs.Sound.Facts.{Facts}
 use Rattle.schedule.proofs.Sound.Done.{done-last, undone}
@@ -29,29 +28,11 @@ use Rattle.schedule.proofs.Preservation.Moves.{taken-facts}
 use Rattle.schedule.proofs.Preservation.Releases.{Acting, acting}
 use Rattle.schedule.proofs.Preservation.Ends.{acting-ended}
 use Rattle.schedule.proofs.Preservation.Turns.{leftmost-ready, taken-holds, turn-facts}
+use Rattle.schedule.proofs.Bounds.Acts.{acted}
 use Rattle.schedule.proofs.Bounds.Tries.{Turned, idles, tries, turned}
 use Rattle.schedule.proofs.Stores.{steady-lawful, steady-fits, steady-facts}
 
 -- ---- the root's end
-
--- a reply that says that an action was done names the one tried
-reply-action : (T : Table) (w : ℕ) (st : State) (k : Kind) (t a x u d : ℕ) → actBy k T w t a x st .reply ≡ Done u d → d ≡ a
-unfolding actBy
-reply-action T w st end t a x u d e = sym (ap (ofReply (λ i. i)) e)
-reply-action T w st work t a x u d e = sym (ap (ofReply (λ i. i)) e)
-reply-action T w st alloc t a x u d e = go (leb x (workerOf st w .quota)) refl
-  where
-    go : (q : Bool) → leb x (workerOf st w .quota) ≡ q → d ≡ a
-    go true i = sym (ap (ofReply (λ i. i)) (rw i at e))
-    go false i = let z : Quota t x ≡ Done u d = rw i at e in no-way cc
-reply-action T w st free t a x u d e = sym (ap (ofReply (λ i. i)) e)
-reply-action T w st fork t a x u d e = sym (ap (ofReply (λ i. i)) e)
-reply-action T w st join t a x u d e = go (eqb (statusOf st x) ended) refl
-  where
-    go : (q : Bool) → eqb (statusOf st x) ended ≡ q → d ≡ a
-    go true i = sym (ap (ofReply (λ i. i)) (rw i at e))
-    go false i = let z : Wait t x ≡ Done u d = rw i at e in no-way cc
-reply-action T w st unknown t a x u d e = no-way cc
 
 module _ (T : Table) (l : Lawful T) (p K : ℕ) (few : p ≤ 16) (w : ℕ) (below : w < p) (st : State) (f : Facts T p K st) where
   last-owner : owner T (endOf T 0) ≡ 0
@@ -82,17 +63,17 @@ module _ (T : Table) (l : Lawful T) (p K : ℕ) (few : p ≤ 16) (w : ℕ) (belo
           at (no q) = let z : true ≡ false = sym now-done ∙ x .acted .done-others (endOf T 0) q ∙ not-before in no-way cc
 
   module _ (u : ℕ) where
-    act-root : (v : State) → Facts T p K v → workerOf v w .holds ≡ true → act T w v .reply ≡ Done u (endOf T 0) → statusOf (act T w v .state) 0 ≡ ended
+    act-root : (v : State) → Facts T p K v → workerOf v w .holds ≡ true → act T K w v .reply ≡ Done u (endOf T 0) → statusOf (act T K w v .state) 0 ≡ ended
     unfolding act
     act-root v g h e =
         let t : ℕ = workerOf v w .thread in
         let a : ℕ = nextOf v t in
         let x : Acting T w t a v = acting T l p K w t a v g (omega arith) h refl refl in
-        let i : endOf T 0 ≡ a = reply-action T w v (kind T a) t a (T .argument a) u (endOf T 0) e in
+        let i : endOf T 0 ≡ a = acted T l p K w t a v g x .answers u (endOf T 0) e in
         let k : kind T a ≡ end = rw i at (end-kind T (l .contents) (l .bodies) 0 (l .some-thread)) in
         let o : t ≡ 0 = sym (x .owned) ∙ rw i at last-owner in
-        let s : statusOf (actBy end T w t a (T .argument a) v .state) t ≡ ended = acting-ended T l p K w t a v g x .status-here in
-        rw k (ap (λ (j : ℕ). statusOf (actBy end T w t a (T .argument a) v .state) j) (sym o) ∙ s)
+        let s : statusOf (actBy end T K w t a (T .argument a) v .state) t ≡ ended = acting-ended T l p K w t a v g x .status-here in
+        rw k (ap (λ (j : ℕ). statusOf (actBy end T K w t a (T .argument a) v .state) j) (sym o) ∙ s)
 
     free-root : workerOf st w .holds ≡ false → turnFree T K w st .reply ≡ Done u (endOf T 0) → statusOf (turnFree T K w st .state) 0 ≡ ended
     unfolding turnFree

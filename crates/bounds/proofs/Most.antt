@@ -23,7 +23,7 @@ use Rattle.schedule.specs.Runs.{roundsRun}
 use Rattle.schedule.specs.Calls.{Call, rowOfCalls}
 use Rattle.schedule.specs.Memory.{rowState, replies}
 use Rattle.schedule.specs.Most.{notIdle, turnsOf}
-use Rattle.order.proofs.Lawful.{Lawful, Within}
+use Rattle.order.proofs.Lawful.{Lawful}
 use Rattle.schedule.proofs.Sound.Facts.{Facts}
 use Rattle.order.proofs.Lists.{Below}
 use Rattle.order.proofs.Totals.{sumTo-bound}
@@ -81,7 +81,7 @@ module _ (T : Table) where
 
 -- ---- rows and lists of calls
 
-module _ (T : Table) (l : Lawful T) (p K : ℕ) (few : p ≤ 16) (within : Within T K) where
+module _ (T : Table) (l : Lawful T) (p K : ℕ) (few : p ≤ 16) where
   -- from any sound state, the turns of a row that aren't idle are at most what the potential falls by
   pub row-moves : (st : State) → Facts T p K st → (row : List ℕ) → Below p row → notIdle (replies T K st row) + potential T (rowState T K st row) ≤ potential T st
   unfolding notIdle replies rowState
@@ -90,7 +90,7 @@ module _ (T : Table) (l : Lawful T) (p K : ℕ) (few : p ≤ 16) (within : Withi
       let b : w < p = h w (List·Memᴰ·head refl) in
       omega (
         arith,
-        turn-sum T l p K few within w b st f,
+        turn-sum T l p K few w b st f,
         row-moves (turnOf T K w st .state) (turn-facts T l p K few w b st f) row (λ v m. h v (List·Memᴰ·tail m)),
       )
 
@@ -101,7 +101,7 @@ module _ (T : Table) (l : Lawful T) (p K : ℕ) (few : p ≤ 16) (within : Withi
 pub sound-turns : (r : Run) → Steady r → (calls : List Call) → notIdle (replies (tableIn r) (r .quota) (stateOf r) (rowOfCalls calls r)) ≤ turnsOf (tableIn r)
 sound-turns r h calls =
     let f = steady-fits r h in
-    row-most (tableIn r) (steady-lawful r h) (r .workers) (r .quota) (f .few-workers) (f .within) (stateOf r) (steady-facts r h) (rowOfCalls calls r)
+    row-most (tableIn r) (steady-lawful r h) (r .workers) (r .quota) (f .few-workers) (stateOf r) (steady-facts r h) (rowOfCalls calls r)
     (calls-left r h calls .workers-below)
 
 -- "in a run from its beginning the turns that aren't idle are at most m + A + J": for every accepted table, p and K and every list of calls from the record of the beginning

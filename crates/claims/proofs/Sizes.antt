@@ -12,7 +12,7 @@ use Rattle.table.specs.declared.Found.{Found}
 use Rattle.table.specs.declared.Found.the-variants.{Nothing, At}
 use Rattle.schedule.specs.declared.Worker.{Worker}
 use Rattle.schedule.specs.declared.Reply.the-variants.{Idle, Done, Quota, Wait}
-use Rattle.schedule.specs.Machine.{parentOf, ready, held, waiting, ended, nobody}
+use Rattle.schedule.specs.Machine.{drawn, parentOf, ready, held, waiting, ended, nobody}
 use Rattle.order.specs.Firsts.{firsts}
 use Rattle.schedule.specs.Links.{noThread, Links, linkLeft, unlink, seek}
 use Rattle.table.specs.Checks.{maxThreads}
@@ -80,14 +80,14 @@ chosen : (b : Bool) (x y : Outcome) → Sized (x .arrays) → Sized (y .arrays) 
 chosen true x y h k = h
 chosen false x y h k = k
 
-module _ (T : Table) (parents : List ℕ) (t a x : ℕ) (A : Arrays) (totals : Totals) (worker : Worker) (h : Sized A) where
+module _ (T : Table) (K : ℕ) (parents : List ℕ) (t a x : ℕ) (A : Arrays) (totals : Totals) (worker : Worker) (h : Sized A) where
   abbrev on : Arrays
   on = advancedIn t A
 
   abbrev stays : Outcome
   stays = unfit A totals worker
 
-  act-sized : (k : Kind) → Sized (actOn k T parents t a x A totals worker .arrays)
+  act-sized : (k : Kind) → Sized (actOn k T K parents t a x A totals worker .arrays)
   unfolding actOn
   act-sized end =
       let u : ℕ = getD parents t 0 in
@@ -103,9 +103,9 @@ module _ (T : Table) (parents : List ℕ) (t a x : ℕ) (A : Arrays) (totals : T
       let rises : List ℕ = set (A .amounts) t (amountIn A t + x) in
       let e : Full rises = simp length-set (h .amounts) in
       let f : Full (set (A .status) t ready) = simp length-set (h .status) in
-      let done : Outcome = moved (Done t a) (withAmounts rises on) (holding (totals .held + x) totals) (record { holds = true; thread = t; quota = worker .quota - x }) in
+      let done : Outcome = moved (Done t a) (withAmounts rises on) (holding (totals .held + x) totals) (record { holds = true; thread = t; quota = worker .quota - drawn K x }) in
       let fits : Bool = nextFits a && (amountFits (totals .held + x) && amountFits (amountIn A t + x)) in
-      chosen (leb x (worker .quota)) (pick fits done stays) (moved (Quota t x) (withStatuses (set (A .status) t ready) A) totals nobody)
+      chosen (leb (drawn K x) (worker .quota)) (pick fits done stays) (moved (Quota t x) (withStatuses (set (A .status) t ready) A) totals nobody)
       (chosen fits done stays (with-amounts (advances h t) e) h) (with-statuses h f)
   act-sized free =
       let falls : List ℕ = set (A .amounts) t (amountIn A t - x) in
@@ -152,12 +152,12 @@ module _ (T : Table) (K : ℕ) (parents : List ℕ) (A : Arrays) (h : Sized A) w
       let t : ℕ = y .worker .thread in
       let a : ℕ = actionIn B t in
       let seated : Sized B = with-statuses h (seat-full K (seek maxThreads (A .status) (A .over) (totals .first) .thread) (A .status) worker (h .status)) in
-      let acts : Outcome = actOn (kind T a) T parents t a (T .argument a) B totals (y .worker) in
+      let acts : Outcome = actOn (kind T a) T K parents t a (T .argument a) B totals (y .worker) in
       let there : Outcome = pick (ltb t maxThreads) acts (unfit B totals (y .worker)) in
       let none : Outcome = unfit A totals worker in
       chosen (y .worker .holds) (pick (there .fits) there none) (moved Idle A totals worker)
       (chosen (there .fits) there none
-      (chosen (ltb t maxThreads) acts (unfit B totals (y .worker)) (act-sized T parents t a (T .argument a) B totals (y .worker) seated (kind T a)) seated) h) h
+      (chosen (ltb t maxThreads) acts (unfit B totals (y .worker)) (act-sized T K parents t a (T .argument a) B totals (y .worker) seated (kind T a)) seated) h) h
 
   turn-sized : (w : ℕ) (m : Moved) (worker : Worker) → Sized (turnOn T K parents w A m worker .arrays)
   unfolding turnOn

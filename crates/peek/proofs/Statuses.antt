@@ -9,7 +9,7 @@ use lib.ListN.{getD, set}
 use Rattle.table.specs.Sum.{pick}
 use Rattle.table.specs.Format.{Kind, end, work, alloc, free, fork, join, unknown, Table, kind}
 use Rattle.schedule.specs.declared.Worker.{Worker}
-use Rattle.schedule.specs.Machine.{ready, held, ended}
+use Rattle.schedule.specs.Machine.{drawn, ready, held, ended}
 use Rattle.schedule.specs.Links.{noThread, seek}
 use Rattle.table.specs.Checks.{maxThreads}
 use Rattle.schedule.proofs.Linked.Searches.{seek-ready}
@@ -51,13 +51,13 @@ alike : (b : Bool) (o v p q : Outcome) → seenOf o ≡ seenOf p → seenOf v �
 alike true o v p q e d = e
 alike false o v p q e d = d
 
-module _ (T : Table) (parents : List ℕ) (A : Arrays) (totals : Totals) (worker : Worker) (status : List ℕ) (s : SameEnds status (A .status)) where
-  by-kind : (t a x : ℕ) (k : Kind) → seenOf (actOn k T parents t a x (withStatuses status A) totals worker) ≡ seenOf (actOn k T parents t a x A totals worker)
+module _ (T : Table) (K : ℕ) (parents : List ℕ) (A : Arrays) (totals : Totals) (worker : Worker) (status : List ℕ) (s : SameEnds status (A .status)) where
+  by-kind : (t a x : ℕ) (k : Kind) → seenOf (actOn k T K parents t a x (withStatuses status A) totals worker) ≡ seenOf (actOn k T K parents t a x A totals worker)
   unfolding actOn
   by-kind t a x end = refl
   by-kind t a x work = alike (nextFits a) _ _ _ _ refl refl
   by-kind t a x alloc =
-      alike (leb x (worker .quota)) _ _ _ _
+      alike (leb (drawn K x) (worker .quota)) _ _ _ _
       (alike (nextFits a && (amountFits (totals .held + x) && amountFits (amountIn A t + x))) _ _ _ _ refl refl) refl
   by-kind t a x free = alike (nextFits a && (leb x (totals .held) && leb x (amountIn A t))) _ _ _ _ refl refl
   by-kind t a x fork = alike (nextFits a && ltb x 1024) _ _ _ _ refl refl
@@ -67,7 +67,7 @@ module _ (T : Table) (parents : List ℕ) (A : Arrays) (totals : Totals) (worker
       (alike (eqb (getD (A .status) x 0) ended) _ _ _ _ (alike (nextFits a && amountFits (amountIn A t + amountIn A x)) _ _ _ _ refl refl) refl) refl)
   by-kind t a x unknown = refl
 
-  pub same-shown : seenOf (actIn T parents (withStatuses status A) totals worker) ≡ seenOf (actIn T parents A totals worker)
+  pub same-shown : seenOf (actIn T K parents (withStatuses status A) totals worker) ≡ seenOf (actIn T K parents A totals worker)
   unfolding actIn
   same-shown =
       let t : ℕ = worker .thread in

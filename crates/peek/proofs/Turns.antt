@@ -25,21 +25,21 @@ module _ (T : Table) (K : ℕ) (parents : List ℕ) (w : ℕ) (A : Arrays) (m : 
     y = seatIn K A (m .totals) worker
 
     abbrev there : Outcome
-    there = actIn T parents (withStatuses (y .status) A) (m .totals) (y .worker)
+    there = actIn T K parents (withStatuses (y .status) A) (m .totals) (y .worker)
 
     abbrev holds-as : {b : Bool} → z .holds ≡ b → y .worker .holds ≡ b
     holds-as h = ap (λ (v : Worker). v .holds) (sym i) ∙ h
 
     -- the thread is not taken, and the same is shown
-    from-there : {p : Peeked} → p ≡ seenOf (actIn T parents A (m .totals) z) → p ≡ seenOf there
+    from-there : {p : Peeked} → p ≡ seenOf (actIn T K parents A (m .totals) z) → p ≡ seenOf there
     from-there g =
-        g ∙ ap (λ (v : Worker). seenOf (actIn T parents A (m .totals) v)) i ∙ sym (same-shown T parents A (m .totals) (y .worker) (y .status) (same-seated K A (m .totals) worker))
+        g ∙ ap (λ (v : Worker). seenOf (actIn T K parents A (m .totals) v)) i ∙ sym (same-shown T K parents A (m .totals) (y .worker) (y .status) (same-seated K A (m .totals) worker))
 
     pub idles : z .holds ≡ false → does Idle (m .totals) (worker .quota) ≡ peekedOf (turnOn T K parents w A m worker)
     unfolding turnOn stepOn stepFrom
     idles h = rw (← d, e, holds-as h)
 
-    module _ (h : z .holds ≡ true) {p : Peeked} (g : p ≡ seenOf (actIn T parents A (m .totals) z)) where
+    module _ (h : z .holds ≡ true) {p : Peeked} (g : p ≡ seenOf (actIn T K parents A (m .totals) z)) where
       abbrev fits-as : {b : Bool} → p .fits ≡ b → there .fits ≡ b
       fits-as k = ap (λ (v : Peeked). v .fits) (sym (from-there g)) ∙ k
 

@@ -2,6 +2,7 @@
 use crate::Peeked;
 use crate::shown;
 use array_machine::Totals;
+use array_machine::drawn;
 use array_machine::fits::alloc_fits;
 use array_machine::fits::fork_fits;
 use array_machine::fits::free_fits;
@@ -27,7 +28,7 @@ ghost use Rattle.peek.specs.Peeked.{seenOf};
 const RELEASED: u32 = 0;
 
 fn peek_end(a: u16, totals: Totals, worker: Worker) -> Peeked
-    ensures { λ r. ⌜ ((T : Table) (parents : List ℕ) (x : ℕ) (A : Arrays) → r ≡ seenOf (actOn end T parents (worker .thread) a x A totals worker)) ⌝ }
+    ensures { λ r. ⌜ ((T : Table) (K : ℕ) (parents : List ℕ) (x : ℕ) (A : Arrays) → r ≡ seenOf (actOn end T K parents (worker .thread) a x A totals worker)) ⌝ }
 {
     let done = Reply::Done {
         thread: worker.thread,
@@ -37,7 +38,7 @@ fn peek_end(a: u16, totals: Totals, worker: Worker) -> Peeked
 }
 
 fn peek_work(a: u16, totals: Totals, worker: Worker) -> Peeked
-    ensures { λ r. ⌜ ((T : Table) (parents : List ℕ) (x : ℕ) (A : Arrays) → r ≡ seenOf (actOn work T parents (worker .thread) a x A totals worker)) ⌝ }
+    ensures { λ r. ⌜ ((T : Table) (K : ℕ) (parents : List ℕ) (x : ℕ) (A : Arrays) → r ≡ seenOf (actOn work T K parents (worker .thread) a x A totals worker)) ⌝ }
 {
     if !next_fits(a) {
         return shown(false, Reply::Idle, totals, worker.quota);
@@ -61,12 +62,13 @@ fn holding(held: u64, totals: Totals) -> Totals
     }
 }
 
-fn peek_alloc(x: u32, a: u16, own: u64, totals: Totals, worker: Worker) -> Peeked
+fn peek_alloc(x: u32, quota: u32, a: u16, own: u64, totals: Totals, worker: Worker) -> Peeked
     ensures { λ r. ⌜ ((T : Table) (parents : List ℕ) (A : Arrays) → amountIn A (worker .thread) ≡ own
-        → r ≡ seenOf (actOn alloc T parents (worker .thread) a x A totals worker)) ⌝ }
+        → r ≡ seenOf (actOn alloc T quota parents (worker .thread) a x A totals worker)) ⌝ }
 {
     let thread = worker.thread;
-    if worker.quota < x {
+    let share = drawn(quota, x);
+    if worker.quota < share {
         return shown(true, Reply::Quota { thread, wanted: x }, totals, RELEASED);
     }
     if !alloc_fits(a, totals.held, own, x as u64) {
@@ -77,13 +79,13 @@ fn peek_alloc(x: u32, a: u16, own: u64, totals: Totals, worker: Worker) -> Peeke
         true,
         Reply::Done { thread, action: a },
         after,
-        worker.quota - x,
+        worker.quota - share,
     )
 }
 
 fn peek_free(x: u32, a: u16, own: u64, totals: Totals, worker: Worker) -> Peeked
-    ensures { λ r. ⌜ ((T : Table) (parents : List ℕ) (A : Arrays) → amountIn A (worker .thread) ≡ own
-        → r ≡ seenOf (actOn free T parents (worker .thread) a x A totals worker)) ⌝ }
+    ensures { λ r. ⌜ ((T : Table) (K : ℕ) (parents : List ℕ) (A : Arrays) → amountIn A (worker .thread) ≡ own
+        → r ≡ seenOf (actOn free T K parents (worker .thread) a x A totals worker)) ⌝ }
 {
     if !free_fits(a, totals.held, own, x as u64) {
         return shown(false, Reply::Idle, totals, worker.quota);
@@ -97,7 +99,7 @@ fn peek_free(x: u32, a: u16, own: u64, totals: Totals, worker: Worker) -> Peeked
 }
 
 fn peek_fork(x: usize, a: u16, totals: Totals, worker: Worker) -> Peeked
-    ensures { λ r. ⌜ ((T : Table) (parents : List ℕ) (A : Arrays) → r ≡ seenOf (actOn fork T parents (worker .thread) a x A totals worker)) ⌝ }
+    ensures { λ r. ⌜ ((T : Table) (K : ℕ) (parents : List ℕ) (A : Arrays) → r ≡ seenOf (actOn fork T K parents (worker .thread) a x A totals worker)) ⌝ }
 {
     if !fork_fits(a, x) {
         return shown(false, Reply::Idle, totals, worker.quota);
@@ -118,8 +120,8 @@ fn peek_join(
     totals: Totals,
     worker: Worker,
 ) -> Peeked
-    ensures { λ r. ⌜ ((T : Table) (parents next left right under over : List ℕ) → getD (now (amounts .entry)) (worker .thread) 0 ≡ own
-        → r ≡ seenOf (actOn join T parents (worker .thread) a x (arrays next (now (status .entry)) (now (amounts .entry)) left right under over) totals worker)) ⌝ }
+    ensures { λ r. ⌜ ((T : Table) (K : ℕ) (parents next left right under over : List ℕ) → getD (now (amounts .entry)) (worker .thread) 0 ≡ own
+        → r ≡ seenOf (actOn join T K parents (worker .thread) a x (arrays next (now (status .entry)) (now (amounts .entry)) left right under over) totals worker)) ⌝ }
 {
     if 1024 <= x {
         return shown(false, Reply::Idle, totals, worker.quota);
@@ -147,6 +149,7 @@ fn peek_join(
 fn peek_action(
     table: &[u8],
     n: usize,
+    quota: u32,
     a: u16,
     own: u64,
     status: &[u8; 1024],
@@ -155,7 +158,7 @@ fn peek_action(
     worker: Worker,
 ) -> Peeked
     ensures { λ r. ⌜ ((parents next left right under over : List ℕ) → getD (now (amounts .entry)) (worker .thread) 0 ≡ own
-        → r ≡ seenOf (actOn (kind (tableFrom (now (table .entry)) n) a) (tableFrom (now (table .entry)) n) parents (worker .thread) a (tableFrom (now (table .entry)) n .argument a)
+        → r ≡ seenOf (actOn (kind (tableFrom (now (table .entry)) n) a) (tableFrom (now (table .entry)) n) quota parents (worker .thread) a (tableFrom (now (table .entry)) n .argument a)
         (arrays next (now (status .entry)) (now (amounts .entry)) left right under over) totals worker)) ⌝ }
 {
     let at = a as usize;
@@ -163,7 +166,7 @@ fn peek_action(
     match code(table, n, at) {
         0 => peek_end(a, totals, worker),
         1 => peek_work(a, totals, worker),
-        2 => peek_alloc(x as u32, a, own, totals, worker),
+        2 => peek_alloc(x as u32, quota, a, own, totals, worker),
         3 => peek_free(x as u32, a, own, totals, worker),
         4 => peek_fork(x, a, totals, worker),
         5 => peek_join(x, a, own, status, amounts, totals, worker),
@@ -175,6 +178,7 @@ fn peek_action(
 pub(crate) fn peek_act(
     table: &[u8],
     n: usize,
+    quota: u32,
     next: &[u16; 1024],
     status: &[u8; 1024],
     amounts: &[u64; 1024],
@@ -182,7 +186,7 @@ pub(crate) fn peek_act(
     worker: Worker,
 ) -> Peeked
     ensures { λ r. ⌜ ((parents left right under over : List ℕ)
-        → r ≡ seenOf (actIn (tableFrom (now (table .entry)) n) parents
+        → r ≡ seenOf (actIn (tableFrom (now (table .entry)) n) quota parents
         (arrays (now (next .entry)) (now (status .entry)) (now (amounts .entry)) left right under over) totals worker)) ⌝ }
 {
     if NO_THREAD <= worker.thread {
@@ -191,5 +195,5 @@ pub(crate) fn peek_act(
     let t = worker.thread as usize;
     let a = next[t];
     let own = amounts[t];
-    peek_action(table, n, a, own, status, amounts, totals, worker)
+    peek_action(table, n, quota, a, own, status, amounts, totals, worker)
 }

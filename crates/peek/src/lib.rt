@@ -84,7 +84,7 @@ pub fn peek_turn(
     if !holder.holds {
         return shown(true, Reply::Idle, totals, worker.quota);
     }
-    let there = peek_act(table, n, next, status, amounts, totals, holder);
+    let there = peek_act(table, n, quota, next, status, amounts, totals, holder);
     if there.fits {
         return there;
     }

@@ -3,9 +3,9 @@
 use mathlib.Core.Path.{_≡_, refl}
 use mathlib.Core.Logic.{_↔_, Iff·trans, Iff·and}
 use Prim.Native.Nat.{ℕ, _≤_}
-use mathlib.Core.List.{List, _++_}
+use mathlib.Core.List.{List, [], _∷_, _++_}
 use mathlib.Core.Bool.{false}
-use borrow.Author.Tests.{le-ltb}
+use borrow.Author.Tests.{ltb-false, le-ltb}
 use Rattle.table.specs.Format.{Table, tableOf}
 use Rattle.table.specs.Pass.{firstFound}
 use Rattle.table.specs.First.{FirstApplies}
@@ -20,25 +20,36 @@ use Rattle.table.proofs.Passes.{firstFound-append, firstFound-nothing, tryPass-
 use Rattle.schedule.specs.declared.Run.{Run}
 use Rattle.schedule.specs.declared.Beginning.the-variants.{Begun as started, Refused}
 use Rattle.schedule.specs.Record.{maxWorkers, blank}
-use Rattle.schedule.specs.Begin.{maxQuota, allocAbove, beginPasses, startRun, begunAs, begin}
-use Rattle.schedule.proofs.Stores.{Fits, begin-fits}
+use Rattle.schedule.specs.Begin.{maxQuota, allocAbove, settingPasses, allocPass, beginPasses, startRun, begunAs, begin}
+use Rattle.order.proofs.Lawful.{Within}
+use Rattle.schedule.proofs.Stores.{Fits, setting-fits}
 
 -- ---- 20, 21 and 22
 
 not-outside : (low high x : ℕ) → low ≤ x → x ≤ high → outside low high x ≡ false
 not-outside low high x h k = rw (le-ltb x low, le-ltb high x)
 
--- none of them applies exactly when 1 ≤ p ≤ 16, 1 ≤ K ≤ 16,777,215 and every alloc is at most K (`Fits`, proofs/Stores)
-pub fits-exactly : (T : Table) (p K : ℕ) → (firstFound (beginPasses T p K) ≡ Nothing) ↔ Fits T p K
-unfolding allocAbove
-fits-exactly T p K = (begin-fits T p K, none)
+-- neither 20 nor 21 applies exactly when 1 ≤ p ≤ 16 and 1 ≤ K ≤ 16,777,215 (`Fits`, proofs/Stores)
+pub settings-exactly : (p K : ℕ) → (firstFound (settingPasses p K) ≡ Nothing) ↔ Fits p K
+settings-exactly p K = (setting-fits p K, none)
   where
-    none : Fits T p K → firstFound (beginPasses T p K) ≡ Nothing
+    none : Fits p K → firstFound (settingPasses p K) ≡ Nothing
     none f =
-        firstFound-nothing (beginPasses T p K) .1 (
-          tryPass-from-0 1 _ .1 ((λ i l. not-outside 1 maxWorkers p (f .some-worker) (f .few-workers)), ((λ i l. not-outside 1 maxQuota K (f .some-quota) (f .few-quota)), tt)),
-          (tryPass-from-0 (T .actions) _ .1 ((λ a l. le-ltb K (allocOf T a) (f .within a l)), tt), tt),
-        )
+        firstFound-nothing (settingPasses p K) .1
+        (tryPass-from-0 1 _ .1 ((λ i l. not-outside 1 maxWorkers p (f .some-worker) (f .few-workers)), ((λ i l. not-outside 1 maxQuota K (f .some-quota) (f .few-quota)), tt)), tt)
+
+-- nor does 22 exactly when every alloc is at most K
+within-exactly : (T : Table) (K : ℕ) → (firstFound (allocPass T K ∷ []) ≡ Nothing) ↔ Within T K
+unfolding allocAbove
+within-exactly T K = (
+  (λ e. let h = firstFound-nothing (allocPass T K ∷ []) .0 e in λ a l. ltb-false K (allocOf T a) (tryPass-from-0 (T .actions) (allocPass T K .checks) .0 (h .0) .0 a l)),
+  (λ w. firstFound-nothing (allocPass T K ∷ []) .1 (tryPass-from-0 (T .actions) (allocPass T K .checks) .1 ((λ a l. le-ltb K (allocOf T a) (w a l)), tt), tt)),
+)
+
+pub fits-exactly : (T : Table) (p K : ℕ) → (firstFound (beginPasses T p K) ≡ Nothing) ↔ (Fits p K × Within T K)
+fits-exactly T p K =
+    rw (firstFound-append (settingPasses p K) (allocPass T K ∷ []))
+    (Iff·trans (orElse-nothing (firstFound (settingPasses p K)) (firstFound (allocPass T K ∷ []))) (Iff·and (settings-exactly p K) (within-exactly T K)))
 
 -- ---- begun, and refused
 
@@ -55,7 +66,7 @@ module _ (s : List ℕ) (p K : ℕ) where
   found = firstFound (passes s ++ beginPasses (tableOf s) p K)
 
   -- a run is begun exactly when the table keeps every rule, p is 1 to 16, K is 1 to 16,777,215 and every alloc is at most K
-  pub begun-exactly : (begin s p K .answer ≡ started) ↔ (Rules s × Fits (tableOf s) p K)
+  pub begun-exactly : (begin s p K .answer ≡ started) ↔ (Rules s × (Fits p K × Within (tableOf s) K))
   unfolding begin
   begun-exactly =
       rw (firstFound-append (passes s) (beginPasses (tableOf s) p K))

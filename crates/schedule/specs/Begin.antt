@@ -24,12 +24,17 @@ maxQuota = 16777215
 unfoldable pub allocAbove : Table → ℕ → ℕ → Bool
 allocAbove T K a = ltb K (allocOf T a)
 
--- 20: "p outside 1 to 16"; 21: "K outside its range", 1 to 16,777,215; 22: "an alloc above K", at the lowest action
+-- 20: "p outside 1 to 16"; 21: "K outside its range", 1 to 16,777,215
+abbrev pub settingPasses : ℕ → ℕ → List Pass
+settingPasses p K =
+    record { from = 0; places = 1; checks = record { number = 20; applies = λ i. outside 1 maxWorkers p } ∷ record { number = 21; applies = λ i. outside 1 maxQuota K } ∷ [] } ∷ []
+
+-- 22: "an alloc above K", at the lowest action
+abbrev pub allocPass : Table → ℕ → Pass
+allocPass T K = record { from = 0; places = T .actions; checks = record { number = 22; applies = allocAbove T K } ∷ [] }
+
 abbrev pub beginPasses : Table → ℕ → ℕ → List Pass
-beginPasses T p K =
-    record { from = 0; places = 1; checks = record { number = 20; applies = λ i. outside 1 maxWorkers p } ∷ record { number = 21; applies = λ i. outside 1 maxQuota K } ∷ [] }
-    ∷ record { from = 0; places = T .actions; checks = record { number = 22; applies = allocAbove T K } ∷ [] }
-    ∷ []
+beginPasses T p K = settingPasses p K ++ (allocPass T K ∷ [])
 
 -- "An unborn thread's next action is its first", "Threads from n on are unborn with next action 0"; "at the start only thread 0, ready"; "all 0 at the start"
 unfoldable pub startState : Table → State

@@ -3,7 +3,7 @@ use Prim.Native.Nat.{ℕ, suc, _+_, _-_, max}
 use mathlib.Core.List.{List, [], _∷_}
 use mathlib.Core.Bool.{Bool, true, false, _&&_}
 use lib.ListN.{length, getD, set}
-use lib.Dec.{leb, eqb}
+use lib.Dec.{leb, ltb, eqb}
 use Rattle.table.specs.Sum.{pick}
 use Rattle.table.specs.Format.{Kind, end, work, alloc, free, fork, join, unknown, is, Table, kind}
 use Rattle.table.specs.Checks.{owner}
@@ -130,33 +130,38 @@ pub record Stepped : Type 0 where
 abbrev pub stepped : Reply → State → Stepped
 stepped r st = record { reply = r; state = st }
 
+-- what an alloc of x draws from the quota: "The big alloc takes nothing from the quota and isn't put back for it" (N6), big being above K, whatever is left
+abbrev pub drawn : ℕ → ℕ → ℕ
+drawn K x = pick (ltb K x) 0 x
+
 -- "Then the thread's next action decides, by its kind": worker w holds thread t, whose next action a has the kind given and the argument x
-unfoldable pub actBy : Kind → Table → ℕ → ℕ → ℕ → ℕ → State → Stepped
+unfoldable pub actBy : Kind → Table → ℕ → ℕ → ℕ → ℕ → ℕ → State → Stepped
 -- "end: done; the thread leaves the list; w is released; if its parent waits for this child, the parent becomes ready"
-actBy end T w t a x st = stepped (Done t a) (woken T t (withList (without t (st .list)) (released w t ended st)))
+actBy end T K w t a x st = stepped (Done t a) (woken T t (withList (without t (st .list)) (released w t ended st)))
 -- "work: done"
-actBy work T w t a x st = stepped (Done t a) (advanced t st)
--- "alloc a: if a is within the quota left, done, and both amounts move by a; otherwise not done, the thread becomes ready in its place in the list and w is released"
-actBy alloc T w t a x st =
-    pick (leb x (workerOf st w .quota))
+actBy work T K w t a x st = stepped (Done t a) (advanced t st)
+-- "alloc a: if a is within the quota left, done, and both amounts move by a; otherwise not done, the thread becomes ready in its place in the list and w is released"; of the quota a big one
+-- draws nothing, and memory held moves by the whole of it
+actBy alloc T K w t a x st =
+    pick (leb (drawn K x) (workerOf st w .quota))
     (stepped (Done t a)
-    (withHeld (st .held + x) (withAmount t (amountOf st t + x) (withWorker w (record { holds = true; thread = t; quota = workerOf st w .quota - x }) (advanced t st)))))
+    (withHeld (st .held + x) (withAmount t (amountOf st t + x) (withWorker w (record { holds = true; thread = t; quota = workerOf st w .quota - drawn K x }) (advanced t st)))))
     (stepped (Quota t x) (released w t ready st))
 -- "free a: held falls by a, the quota doesn't rise"; of a sound record a free takes at most what its thread holds, and so what is held (`free-amount`, proofs/ThreadMemory; `free-within`, proofs/Soundness)
-actBy free T w t a x st = stepped (Done t a) (withHeld (st .held - x) (withAmount t (amountOf st t - x) (advanced t st)))
+actBy free T K w t a x st = stepped (Done t a) (withHeld (st .held - x) (withAmount t (amountOf st t - x) (advanced t st)))
 -- "fork c: done; c enters the list directly left of the thread, ready; the thread becomes ready; w is released"
-actBy fork T w t a x st = stepped (Done t a) (withStatus x ready (withList (leftOf x t (st .list)) (released w t ready (advanced t st))))
+actBy fork T K w t a x st = stepped (Done t a) (withStatus x ready (withList (leftOf x t (st .list)) (released w t ready (advanced t st))))
 -- "join c: done if c has ended; otherwise not done, the thread waits and w is released"
-actBy join T w t a x st =
+actBy join T K w t a x st =
     pick (eqb (statusOf st x) ended) (stepped (Done t a) (movedUp x t (advanced t st))) (stepped (Wait t x) (released w t waiting st))
-actBy unknown T w t a x st = stepped Idle st
+actBy unknown T K w t a x st = stepped Idle st
 
 -- worker w goes on with the thread that it holds
-unfoldable pub act : Table → ℕ → State → Stepped
-act T w st =
+unfoldable pub act : Table → ℕ → ℕ → State → Stepped
+act T K w st =
     let t : ℕ = workerOf st w .thread in
     let a : ℕ = nextOf st t in
-    actBy (kind T a) T w t a (T .argument a) st
+    actBy (kind T a) T K w t a (T .argument a) st
 
 -- the place of the leftmost ready thread in a list, the list's length where none is ready
 unfoldable pub leftmost : List ℕ → List ℕ → ℕ
@@ -171,13 +176,13 @@ taken K w t st = withWorker w (record { holds = true; thread = t; quota = K }) (
 unfoldable pub turnFree : Table → ℕ → ℕ → State → Stepped
 turnFree T K w st =
     let i : ℕ = leftmost (st .status) (st .list) in
-    let there : Stepped = act T w (taken K w (getD (st .list) i 0) st) in
+    let there : Stepped = act T K w (taken K w (getD (st .list) i 0) st) in
     pick (eqb i (length (st .list))) (stepped Idle st) there
 
 -- "A turn of worker w."
 unfoldable pub turnOf : Table → ℕ → ℕ → State → Stepped
 turnOf T K w st =
-    let r : Stepped = pick (workerOf st w .holds) (act T w st) (turnFree T K w st) in
+    let r : Stepped = pick (workerOf st w .holds) (act T K w st) (turnFree T K w st) in
     stepped (r .reply) (counted (r .state))
 
 -- how many threads "stand left of it in the list" (N7), of the thread that worker w takes in its turn, at the moment of taking; 0 for a worker that holds one and where none is ready

@@ -9,7 +9,7 @@ ghost use lib.ListN.{replicate};
 ghost use Rattle.table.specs.Format.{tableOf};
 ghost use Rattle.table.specs.Pass.{firstFound, refusal};
 ghost use Rattle.table.specs.Checks.{outside as isOutside};
-ghost use Rattle.schedule.specs.Begin.{allocAbove, beginPasses};
+ghost use Rattle.schedule.specs.Begin.{allocAbove, settingPasses, beginPasses};
 ghost use Rattle.order.specs.Firsts.{firsts};
 ghost use Rattle.order.specs.Words.{filled};
 ghost use Rattle.soundness.specs.Code.Checks.{Accepted};
@@ -38,15 +38,26 @@ fn alloc_above(table: &[u8], n: usize, quota: usize, a: usize) -> bool
     read::code(table, n, a) == ALLOC && quota < read::argument(table, n, a)
 }
 
-// 20: "p outside 1 to 16"; 21: "K outside its range"; 22: "an alloc above K", at the lowest action. Over any bytes.
-pub fn begin_fault(table: &[u8], p: u8, quota: u32) -> Found
-    ensures { λ r. ⌜ r ≡ firstFound (beginPasses (tableOf (now (table .entry))) p quota) ⌝ }
+// 20: "p outside 1 to 16"; 21: "K outside its range".
+pub fn settings_fault(p: u8, quota: u32) -> Found
+    ensures { λ r. ⌜ r ≡ firstFound (settingPasses p quota) ⌝ }
 {
     if outside(1, 16, p as u32) {
         return refuse(20, 0);
     }
     if outside(1, 16777215, quota) {
         return refuse(21, 0);
+    }
+    Found::Nothing
+}
+
+// 20, 21; then 22: "an alloc above K", at the lowest action. Over any bytes.
+pub fn begin_fault(table: &[u8], p: u8, quota: u32) -> Found
+    ensures { λ r. ⌜ r ≡ firstFound (beginPasses (tableOf (now (table .entry))) p quota) ⌝ }
+{
+    let found = settings_fault(p, quota);
+    if let Found::At(_) = found {
+        return found;
     }
     let n = read::threads(table);
     let m = read::actions(table);

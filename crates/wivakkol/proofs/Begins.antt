@@ -17,7 +17,7 @@ use Rattle.table.specs.declared.Found.the-variants.{Nothing, At}
 use Rattle.table.proofs.Passes.{firstFound-append}
 use Rattle.schedule.specs.Machine.{ready}
 use Rattle.schedule.specs.Links.{noThread}
-use Rattle.schedule.specs.Begin.{beginPasses}
+use Rattle.schedule.specs.Begin.{settingPasses, allocPass, beginPasses}
 use Rattle.order.specs.Words.{isNothing}
 use Rattle.soundness.specs.Tested.{parentsIf, nextIf, beginFound}
 use Rattle.array_machine.specs.Arrays.{arrays}
@@ -25,13 +25,16 @@ use Rattle.run_memory.specs.Memory.{memory, answer}
 use Rattle.wivakkol.specs.Lent.{lentBegin}
 
 module _ (s : List ℕ) (K : ℕ) where
-  pub too-many : (p : ℕ) → 17 ≤ p → firstFound (beginPasses (tableOf s) p K) ≡ At (refusal 20 0)
+  pub too-many : (p : ℕ) → 17 ≤ p → firstFound (settingPasses p K) ≡ At (refusal 20 0)
   unfolding firstFound tryPass tryFrom tryAt
   too-many p h = rw (le-ltb p 1 (omega arith), lt-ltb 16 p (omega arith))
 
+  too-many-begun : (p : ℕ) → 17 ≤ p → firstFound (beginPasses (tableOf s) p K) ≡ At (refusal 20 0)
+  too-many-begun p h = rw (firstFound-append (settingPasses p K) (allocPass (tableOf s) K ∷ []), too-many p h)
+
   as-17 : (p : ℕ) → 17 ≤ p → beginFound s 17 K ≡ beginFound s p K
   as-17 p h =
-      rw (firstFound-append (passes s) (beginPasses (tableOf s) p K), firstFound-append (passes s) (beginPasses (tableOf s) 17 K), too-many p h, too-many 17 (omega arith))
+      rw (firstFound-append (passes s) (beginPasses (tableOf s) p K), firstFound-append (passes s) (beginPasses (tableOf s) 17 K), too-many-begun p h, too-many-begun 17 (omega arith))
 
   -- what the call hands on in place of p
   as-handed : (p : ℕ) → beginFound s (min p 17) K ≡ beginFound s p K

@@ -29,7 +29,7 @@ use Rattle.schedule.specs.declared.Ran.{Ran}
 use Rattle.schedule.specs.Machine.{State}
 use Rattle.schedule.specs.Record.{maxBytes, stateOf, tableIn}
 use Rattle.order.specs.Words.{filled}
-use Rattle.schedule.specs.Begin.{begin, begunAs, beginPasses, startState, startRun}
+use Rattle.schedule.specs.Begin.{begin, begunAs, settingPasses, allocPass, beginPasses, startState, startRun}
 use Rattle.order.specs.Firsts.{firsts}
 use Rattle.schedule.specs.Links.{walk, laid}
 use Rattle.schedule.specs.Sound.{SoundState, Steady, Sound}
@@ -43,7 +43,7 @@ use Rattle.schedule.proofs.Sound.Facts.{Facts, sound-facts}
 use Rattle.schedule.proofs.Preservation.Starts.{start-facts}
 use Rattle.schedule.proofs.Runs.Rows.{rowState-append, front-workers}
 use Rattle.order.proofs.Lists.{filled-front, firsts-take}
-use Rattle.schedule.proofs.Stores.{Fits, begin-fits, laid-back, moved-steady, moved-state}
+use Rattle.schedule.proofs.Stores.{Fits, setting-fits, laid-back, moved-steady, moved-state}
 
 -- ---- what a beginning gives
 
@@ -55,21 +55,22 @@ pub record Started (s : List ℕ) (p K : ℕ) (r : Run) : Type 0 where
 
 -- no check applies, and the record is the start's
 begin-accepted : (s : List ℕ) (p K : ℕ) (r : Run) → begin s p K ≡ record { answer = started; run = r }
-    → (r ≡ startRun s p K) × Rules s × (firstFound (beginPasses (tableOf s) p K) ≡ Nothing)
+    → (r ≡ startRun s p K) × Rules s × (firstFound (settingPasses p K) ≡ Nothing)
 unfolding begin
 begin-accepted s p K r e = go (firstFound (passes s ++ beginPasses (tableOf s) p K)) refl e
   where
     go : (f : Found) → firstFound (passes s ++ beginPasses (tableOf s) p K) ≡ f → begunAs f (startRun s p K) ≡ record { answer = started; run = r }
-        → (r ≡ startRun s p K) × Rules s × (firstFound (beginPasses (tableOf s) p K) ≡ Nothing)
+        → (r ≡ startRun s p K) × Rules s × (firstFound (settingPasses p K) ≡ Nothing)
     go Nothing n q =
         let b = orElse-nothing (firstFound (passes s)) (firstFound (beginPasses (tableOf s) p K)) .0 (rw (firstFound-append (passes s) (beginPasses (tableOf s) p K)) at n) in
-        (sym (ap (λ (x : Begun). x .run) q), passes-rules s .0 (b .0), b .1)
+        let d = orElse-nothing (firstFound (settingPasses p K)) (firstFound (allocPass (tableOf s) K ∷ [])) .0 (rw (firstFound-append (settingPasses p K) (allocPass (tableOf s) K ∷ [])) at (b .1)) in
+        (sym (ap (λ (x : Begun). x .run) q), passes-rules s .0 (b .0), d .0)
     go (At x) n q = let z = ap (λ (y : Begun). y .answer) q in no-way (cc)
 
 pub begin-started : (s : List ℕ) (p K : ℕ) (r : Run) → begin s p K ≡ record { answer = started; run = r } → Started s p K r
 begin-started s p K r e =
     let b = begin-accepted s p K r e in
-    let f : Fits (tableOf s) p K = begin-fits (tableOf s) p K (b .2) in
+    let f : Fits p K = setting-fits p K (b .2) in
     record {
       is-start = b .0;
       lawful = lawful s (b .1);
@@ -81,7 +82,8 @@ start-bytes : (s : List ℕ) (p K : ℕ) → tableIn (startRun s p K) ≡ tableO
 unfolding startRun
 start-bytes s p K = ap tableOf (filled-front maxBytes s)
 
-start-steady : (s : List ℕ) (p K : ℕ) → Rules s → firstFound (beginPasses (tableOf s) p K) ≡ Nothing → Steady (startRun s p K)
+-- a record with the table given, whatever its allocs
+pub start-steady : (s : List ℕ) (p K : ℕ) → Rules s → firstFound (settingPasses p K) ≡ Nothing → Steady (startRun s p K)
 unfolding startRun
 start-steady s p K h f =
     let T : Table = tableOf s in
@@ -91,7 +93,7 @@ start-steady s p K h f =
     let back : walk maxThreads (laid (startState T .list) .right) (laid (startState T .list) .head) ≡ startState T .list = laid-back T (lawful s h) p K (startState T) g in
     record {
       table = rw q h;
-      beginning = rw q f;
+      settings = f;
       state = rw (q, back) d;
       set = refl;
       table-length = ap length q;

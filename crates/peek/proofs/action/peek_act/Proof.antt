@@ -24,7 +24,7 @@ returns c =
     let t = c .before in
     let d = t .before .before .before in
     λ parents left right under over.
-    c .shown .ensures ∙ no-thread (table-of d) parents (start d left right under over) (d .args .totals) (d .args .worker) (t .if1 .taken)
+    c .shown .ensures ∙ no-thread (table-of d) (d .args .quota) parents (start d left right under over) (d .args .totals) (d .args .worker) (t .if1 .taken)
 
 cast-t : tie.Need-cast-t
 cast-t c = search needs
@@ -49,7 +49,7 @@ returns-2 c =
     let t = c .before .before .before .before in
     let d = t .before .before .before in
     λ parents left right under over.
-    of-thread (table-of d) parents (start d left right under over) (d .args .totals) (d .args .worker) (t .if1 .left) refl (c .peek-action .ensures _ _ _ _ _ _ refl)
+    of-thread (table-of d) (d .args .quota) parents (start d left right under over) (d .args .totals) (d .args .worker) (t .if1 .left) refl (c .peek-action .ensures _ _ _ _ _ _ refl)
 
 pub peek-act-spec : {M : Type 1} → statement M
 peek-act-spec =

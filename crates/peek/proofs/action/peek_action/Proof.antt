@@ -57,9 +57,9 @@ returns c =
     let k = c .before .before in
     let d = k .before .before .before in
     λ parents next left right under over o.
-    by-code (table-of d) parents (start d next left right under over) (d .args .totals) (d .args .worker) (d .args .a) 0
+    by-code (table-of d) (d .args .quota) parents (start d next left right under over) (d .args .totals) (d .args .worker) (d .args .a) 0
     (from-code (now (d .args .table)) (d .args .n) _ (k .code .ensures)) (from-argument (now (d .args .table)) (d .args .n) _ (k .before .argument .ensures)) (c .before .match .keys1)
-    (c .peek-end .ensures _ _ _ _)
+    (c .peek-end .ensures _ _ _ _ _)
 
 returns-2 : tie.Need-returns-2
 unfolding kindOf
@@ -67,9 +67,9 @@ returns-2 c =
     let k = c .before .before in
     let d = k .before .before .before in
     λ parents next left right under over o.
-    by-code (table-of d) parents (start d next left right under over) (d .args .totals) (d .args .worker) (d .args .a) 1
+    by-code (table-of d) (d .args .quota) parents (start d next left right under over) (d .args .totals) (d .args .worker) (d .args .a) 1
     (from-code (now (d .args .table)) (d .args .n) _ (k .code .ensures)) (from-argument (now (d .args .table)) (d .args .n) _ (k .before .argument .ensures)) (c .before .match .keys2)
-    (c .peek-work .ensures _ _ _ _)
+    (c .peek-work .ensures _ _ _ _ _)
 
 returns-3 : tie.Need-returns-3
 unfolding kindOf
@@ -77,7 +77,7 @@ returns-3 c =
     let k = c .before .before in
     let d = k .before .before .before in
     λ parents next left right under over o.
-    by-code (table-of d) parents (start d next left right under over) (d .args .totals) (d .args .worker) (d .args .a) 2
+    by-code (table-of d) (d .args .quota) parents (start d next left right under over) (d .args .totals) (d .args .worker) (d .args .a) 2
     (from-code (now (d .args .table)) (d .args .n) _ (k .code .ensures)) (from-argument (now (d .args .table)) (d .args .n) _ (k .before .argument .ensures)) (c .before .match .keys3)
     (c .peek-alloc .ensures _ _ _ o)
 
@@ -87,9 +87,9 @@ returns-4 c =
     let k = c .before .before in
     let d = k .before .before .before in
     λ parents next left right under over o.
-    by-code (table-of d) parents (start d next left right under over) (d .args .totals) (d .args .worker) (d .args .a) 3
+    by-code (table-of d) (d .args .quota) parents (start d next left right under over) (d .args .totals) (d .args .worker) (d .args .a) 3
     (from-code (now (d .args .table)) (d .args .n) _ (k .code .ensures)) (from-argument (now (d .args .table)) (d .args .n) _ (k .before .argument .ensures)) (c .before .match .keys4)
-    (c .peek-free .ensures _ _ _ o)
+    (c .peek-free .ensures _ _ _ _ o)
 
 returns-5 : tie.Need-returns-5
 unfolding kindOf
@@ -97,9 +97,9 @@ returns-5 c =
     let k = c .before .before in
     let d = k .before .before .before in
     λ parents next left right under over o.
-    by-code (table-of d) parents (start d next left right under over) (d .args .totals) (d .args .worker) (d .args .a) 4
+    by-code (table-of d) (d .args .quota) parents (start d next left right under over) (d .args .totals) (d .args .worker) (d .args .a) 4
     (from-code (now (d .args .table)) (d .args .n) _ (k .code .ensures)) (from-argument (now (d .args .table)) (d .args .n) _ (k .before .argument .ensures)) (c .before .match .keys5)
-    (c .peek-fork .ensures _ _ _)
+    (c .peek-fork .ensures _ _ _ _)
 
 returns-6 : tie.Need-returns-6
 unfolding kindOf
@@ -107,9 +107,9 @@ returns-6 c =
     let k = c .before .before in
     let d = k .before .before .before in
     λ parents next left right under over o.
-    by-code (table-of d) parents (start d next left right under over) (d .args .totals) (d .args .worker) (d .args .a) 5
+    by-code (table-of d) (d .args .quota) parents (start d next left right under over) (d .args .totals) (d .args .worker) (d .args .a) 5
     (from-code (now (d .args .table)) (d .args .n) _ (k .code .ensures)) (from-argument (now (d .args .table)) (d .args .n) _ (k .before .argument .ensures)) (c .before .match .keys6)
-    (c .peek-join .ensures _ _ _ _ _ _ _ o)
+    (c .peek-join .ensures _ _ _ _ _ _ _ _ o)
 
 returns-7 : tie.Need-returns-7
 returns-7 c =
@@ -118,9 +118,9 @@ returns-7 c =
     let r = c .before .match .rest in
     let six : 6 ≤ k .code .result = omega (arith, r .1, r .0 .1, r .0 .0 .1, r .0 .0 .0 .1, r .0 .0 .0 .0 .1, r .0 .0 .0 .0 .0 .1) in
     λ parents next left right under over o.
-    by-code (table-of d) parents (start d next left right under over) (d .args .totals) (d .args .worker) (d .args .a) _
+    by-code (table-of d) (d .args .quota) parents (start d next left right under over) (d .args .totals) (d .args .worker) (d .args .a) _
     (from-code (now (d .args .table)) (d .args .n) _ (k .code .ensures)) (from-argument (now (d .args .table)) (d .args .n) _ (k .before .argument .ensures)) refl
-    (c .shown .ensures ∙ unknown-idle _ _ _ (d .args .totals) (d .args .worker) _ _ _ six)
+    (c .shown .ensures ∙ unknown-idle _ _ _ _ (d .args .totals) (d .args .worker) _ _ _ six)
 
 pub peek-action-spec : {M : Type 1} → statement M
 peek-action-spec =

@@ -11,14 +11,18 @@ use borrow.Author.Needs.{needs}
 use Rattle.peek.proofs.action.peek_alloc.Statement.{statement}
 use Rattle.peek.proofs.action.peek_alloc.Tie as tie
 
+drawn-requires : tie.Need-drawn-requires
+drawn-requires c κs = search needs
+
 shown-requires : tie.Need-shown-requires
 shown-requires c κs = search needs
 
 returns : tie.Need-returns
 returns c =
     let t = c .before in
-    let d = t .before .before in
-    λ T parents A o. c .shown .ensures ∙ alloc-beyond T parents A (d .args .totals) (d .args .worker) (d .args .a) (d .args .x) (t .if1 .taken)
+    let y = t .before .before in
+    let d = y .before in
+    λ T parents A o. c .shown .ensures ∙ alloc-beyond T (d .args .quota) parents A (d .args .totals) (d .args .worker) (d .args .a) (d .args .x) (y .drawn .ensures) (t .if1 .taken)
 
 alloc-fits-requires : tie.Need-alloc-fits-requires
 alloc-fits-requires c κs = search needs
@@ -30,13 +34,14 @@ returns-2 : tie.Need-returns-2
 returns-2 c =
     let t = c .before in
     let e = t .before .before in
-    let d = e .before .before in
-    λ T parents A o. c .shown2 .ensures ∙ alloc-unfit T parents A (d .args .totals) (d .args .worker) (d .args .a) (d .args .x) (e .if1 .left) (t .before .alloc-fits .ensures) o (not-true _ (t .if2 .taken))
+    let y = e .before .before in
+    let d = y .before in
+    λ T parents A o. c .shown2 .ensures ∙ alloc-unfit T (d .args .quota) parents A (d .args .totals) (d .args .worker) (d .args .a) (d .args .x) (y .drawn .ensures) (e .if1 .left) (t .before .alloc-fits .ensures) o (not-true _ (t .if2 .taken))
 
 add-holding : tie.Need-add-holding
 add-holding c =
     let t = c .before in
-    let d = t .before .before .before .before in
+    let d = t .before .before .before .before .before in
     let h = d .args .totals .held + d .args .x in
     let o = d .args .own + d .args .x in
     let p = fits-and (d .args .a) (amountFits h && amountFits o) (not-false _ (t .if2 .left)) (t .before .alloc-fits .ensures) in
@@ -52,13 +57,15 @@ returns-3 : tie.Need-returns-3
 returns-3 c =
     let t = c .before .before .before .before in
     let e = t .before .before in
-    let d = e .before .before in
-    λ T parents A o. c .shown3 .ensures ∙ alloc-done T parents A (d .args .totals) (d .args .worker) (d .args .a) (d .args .x) (e .if1 .left) (t .before .alloc-fits .ensures) o (not-false _ (t .if2 .left)) (c .before .before .holding .ensures)
+    let y = e .before .before in
+    let d = y .before in
+    λ T parents A o. c .shown3 .ensures ∙ alloc-done T (d .args .quota) parents A (d .args .totals) (d .args .worker) (d .args .a) (d .args .x) (y .drawn .ensures) (e .if1 .left) (t .before .alloc-fits .ensures) o (not-false _ (t .if2 .left)) (c .before .before .holding .ensures)
 
 pub peek-alloc-spec : {M : Type 1} → statement M
 peek-alloc-spec =
     tie.close
     (tie.spec
+    drawn-requires
     shown-requires
     returns
     alloc-fits-requires

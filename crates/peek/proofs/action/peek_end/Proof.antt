@@ -11,7 +11,7 @@ shown-requires c κs = search needs
 returns : tie.Need-returns
 returns c =
     let d = c .before in
-    λ T parents x A. c .shown .ensures ∙ end-done T parents A (d .args .totals) (d .args .worker) (d .args .a) x
+    λ T K parents x A. c .shown .ensures ∙ end-done T K parents A (d .args .totals) (d .args .worker) (d .args .a) x
 
 pub peek-end-spec : {M : Type 1} → statement M
 peek-end-spec = tie.close (tie.spec shown-requires returns)

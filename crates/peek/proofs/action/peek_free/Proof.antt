@@ -20,7 +20,7 @@ returns : tie.Need-returns
 returns c =
     let t = c .before in
     let d = t .before .before in
-    λ T parents A o. c .shown .ensures ∙ free-unfit T parents A (d .args .totals) (d .args .worker) (d .args .a) (d .args .x) (t .before .free-fits .ensures) o (not-true _ (t .if1 .taken))
+    λ T K parents A o. c .shown .ensures ∙ free-unfit T K parents A (d .args .totals) (d .args .worker) (d .args .a) (d .args .x) (t .before .free-fits .ensures) o (not-true _ (t .if1 .taken))
 
 sub-holding : tie.Need-sub-holding
 sub-holding c =
@@ -41,7 +41,7 @@ returns-2 : tie.Need-returns-2
 returns-2 c =
     let t = c .before .before .before in
     let d = t .before .before in
-    λ T parents A o. c .shown2 .ensures ∙ free-done T parents A (d .args .totals) (d .args .worker) (d .args .a) (d .args .x) (t .before .free-fits .ensures) o (not-false _ (t .if1 .left)) (c .before .holding .ensures)
+    λ T K parents A o. c .shown2 .ensures ∙ free-done T K parents A (d .args .totals) (d .args .worker) (d .args .a) (d .args .x) (t .before .free-fits .ensures) o (not-false _ (t .if1 .left)) (c .before .holding .ensures)
 
 pub peek-free-spec : {M : Type 1} → statement M
 peek-free-spec =

@@ -20,8 +20,8 @@ returns : tie.Need-returns
 returns c =
     let t = c .before in
     let d = t .before in
-    λ T parents next left right under over o. c .shown .ensures
-    ∙ join-none T parents (start d next left right under over) (d .args .totals) (d .args .worker) (d .args .a) (d .args .x) (t .if1 .taken)
+    λ T K parents next left right under over o. c .shown .ensures
+    ∙ join-none T K parents (start d next left right under over) (d .args .totals) (d .args .worker) (d .args .a) (d .args .x) (t .if1 .taken)
 
 element-copy-out-if2 : tie.Need-element-copy-out-if2
 element-copy-out-if2 c = search needs
@@ -37,8 +37,8 @@ returns-2 c =
     let t = c .before in
     let e = t .before .before in
     let d = e .before in
-    λ T parents next left right under over o. c .shown2 .ensures
-    ∙ join-waits T parents (start d next left right under over) (d .args .totals) (d .args .worker) (d .args .a) (d .args .x) (e .if1 .left) (t .if2 .taken)
+    λ T K parents next left right under over o. c .shown2 .ensures
+    ∙ join-waits T K parents (start d next left right under over) (d .args .totals) (d .args .worker) (d .args .a) (d .args .x) (e .if1 .left) (t .if2 .taken)
 
 mul-join-fits : tie.Need-mul-join-fits
 mul-join-fits c = search needs
@@ -58,8 +58,8 @@ returns-3 c =
     let i = t .before .before .before in
     let e = i .before .before in
     let d = e .before in
-    λ T parents next left right under over o. c .shown3 .ensures
-    ∙ join-unfit T parents (start d next left right under over) (d .args .totals) (d .args .worker) (d .args .a) (d .args .x) (e .if1 .left) (i .if2 .left) (t .before .join-fits .ensures) o (not-true _ (t .if3 .taken))
+    λ T K parents next left right under over o. c .shown3 .ensures
+    ∙ join-unfit T K parents (start d next left right under over) (d .args .totals) (d .args .worker) (d .args .a) (d .args .x) (e .if1 .left) (i .if2 .left) (t .before .join-fits .ensures) o (not-true _ (t .if3 .taken))
 
 shown-requires-4 : tie.Need-shown-requires-4
 shown-requires-4 c κs = search needs
@@ -70,8 +70,8 @@ returns-4 c =
     let i = t .before .before .before in
     let e = i .before .before in
     let d = e .before in
-    λ T parents next left right under over o. c .shown4 .ensures
-    ∙ join-done T parents (start d next left right under over) (d .args .totals) (d .args .worker) (d .args .a) (d .args .x) (e .if1 .left) (i .if2 .left) (t .before .join-fits .ensures) o (not-false _ (t .if3 .left))
+    λ T K parents next left right under over o. c .shown4 .ensures
+    ∙ join-done T K parents (start d next left right under over) (d .args .totals) (d .args .worker) (d .args .a) (d .args .x) (e .if1 .left) (i .if2 .left) (t .before .join-fits .ensures) o (not-false _ (t .if3 .left))
 
 pub peek-join-spec : {M : Type 1} → statement M
 peek-join-spec =

@@ -16,7 +16,7 @@ returns : tie.Need-returns
 returns c =
     let t = c .before in
     let d = t .before .before in
-    λ T parents x A. c .shown .ensures ∙ work-unfit T parents A (d .args .totals) (d .args .worker) (d .args .a) x (t .before .next-fits .ensures) (not-true _ (t .if1 .taken))
+    λ T K parents x A. c .shown .ensures ∙ work-unfit T K parents A (d .args .totals) (d .args .worker) (d .args .a) x (t .before .next-fits .ensures) (not-true _ (t .if1 .taken))
 
 shown-requires-2 : tie.Need-shown-requires-2
 shown-requires-2 c κs = search needs
@@ -25,7 +25,7 @@ returns-2 : tie.Need-returns-2
 returns-2 c =
     let t = c .before in
     let d = t .before .before in
-    λ T parents x A. c .shown2 .ensures ∙ work-done T parents A (d .args .totals) (d .args .worker) (d .args .a) x (t .before .next-fits .ensures) (not-false _ (t .if1 .left))
+    λ T K parents x A. c .shown2 .ensures ∙ work-done T K parents A (d .args .totals) (d .args .worker) (d .args .a) x (t .before .next-fits .ensures) (not-false _ (t .if1 .left))
 
 pub peek-work-spec : {M : Type 1} → statement M
 peek-work-spec =
