@@ -1,0 +1,17 @@
+pub mod Bodies
+pub mod Built
+pub mod ForkCounts
+pub mod Trees
+pub mod Roots
+pub mod Old
+pub mod Fills
+pub mod Expand
+pub mod Balances
+pub mod Filling
+pub mod Peak
+pub mod Seam
+pub mod Delays
+pub mod Before
+pub mod Sizes
+pub mod Turns
+pub mod Runs

@@ -1,0 +1,4 @@
+pub mod Filled
+pub mod Sizes
+pub mod Turns
+pub mod FilledCases
