@@ -26,7 +26,7 @@ use Rattle.table.proofs.ReadBack.{Reads, none}
 use Rattle.filling.proofs.Bodies.{kindIn}
 use Rattle.filling.proofs.Built.{kind-at, argument-at}
 use Rattle.filling.proofs.ForkCounts.{sumIn, sumIn-append, sumIn-to}
-use Rattle.filling.proofs.Old.{ownIn, filled-sum}
+use Rattle.filling.proofs.OldThreads.{ownIn, filled-sum}
 use Rattle.filling.proofs.Fills.{Fills, c, b, n, threads-are, old-below, body-old, count-old, root-in, quiet}
 
 -- ---- an amount that only one kind has

@@ -21,7 +21,7 @@ use Rattle.filling.proofs.Built.{At, at-of, contents, bodies, built-lat
 use Rattle.filling.proofs.ForkCounts.{built-once, built-forks}
 use Rattle.filling.proofs.Roots.{Stand, so-all, all-serial, roots, stand-back, trees-length, trees-stand, trees-quiet}
 use Rattle.filling.proofs.Trees.{Quiet}
-use Rattle.filling.proofs.Old.{old-length, old-at, filled-append, filled-threads, filled-forks, filled-good, root-between}
+use Rattle.filling.proofs.OldThreads.{old-length, old-at, filled-append, filled-threads, filled-forks, filled-good, root-between}
 
 pub record Fills (T : Table) (K : ℕ) (U : Table) : Type 0 where
   pub lawful : Lawful T

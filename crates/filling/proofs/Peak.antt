@@ -19,8 +19,8 @@ use Rattle.table.specs.Written.{written}
 use Rattle.filling.specs.Filled.{big, rootOf, inFront, filledBodies, filledOut}
 use Rattle.filling.proofs.Roots.{so-below}
 use Rattle.filling.proofs.Fills.{Fills, c, b, root-in, quiet, start, placed, placed-kind, placed-argument, front-fork, front-root, front-join, front-joined, front-two}
-use Rattle.filling.proofs.Expand.{startOf, placeOf, runs, expand, start-is, place-is, place-in, filled-order}
-use Rattle.filling.proofs.Filling.{Room, fills}
+use Rattle.filling.proofs.FilledOrder.{startOf, placeOf, runs, expand, start-is, place-is, place-in, filled-order}
+use Rattle.filling.proofs.FilledTable.{Fits, fills}
 
 -- ---- lists (as table/proofs/Peaks has it, not pub)
 
@@ -161,11 +161,11 @@ module _ (T : Table) (K : ℕ) (U : Table) (x : Fills T K U) where
       ∙ sym (peakOf-top T (serialOrder T))
 
 -- "S1 is the same as before filling"
-pub fill-peak : (s : List ℕ) (K : ℕ) (rules : Rules s) (some : 1 ≤ K) (short : (a : ℕ) → a < tableOf s .actions → tableOf s .argument a < 16777216) (room : ℕ) → Room (tableOf s) K room
+pub fill-peak : (s : List ℕ) (K : ℕ) (rules : Rules s) (some : 1 ≤ K) → Fits (tableOf s) K
     → S1 (tableOf (filledOut s K)) ≡ S1 (tableOf s)
 unfolding filledOut
-fill-peak s K rules some short room fits = go (anyBelow (big (tableOf s) K) (tableOf s .actions))
+fill-peak s K rules some fits = go (anyBelow (big (tableOf s) K) (tableOf s .actions))
   where
     go : (q : Bool) → S1 (tableOf (pick q (written (filledBodies (tableOf s) K)) s)) ≡ S1 (tableOf s)
-    go true = filled-peak (tableOf s) K (tableOf (written (filledBodies (tableOf s) K))) (fills s K rules some short room fits)
+    go true = filled-peak (tableOf s) K (tableOf (written (filledBodies (tableOf s) K))) (fills s K rules some fits)
     go false = refl

@@ -12,11 +12,11 @@ use Rattle.table.specs.Rules.{Rules}
 use Rattle.table.specs.Serial.{S1}
 use Rattle.table.proofs.Passes.{accepted-exactly}
 use Rattle.order.proofs.Lawful.{Lawful, lawful}
-use Rattle.filling.specs.Filled.{filledOut, fillPass, threadsTo, actionsTo}
-use Rattle.filling.specs.Turns.{turnsOf, newTurns}
-use Rattle.filling.proofs.Seam.{drawnCost, Delayed}
-use Rattle.filling.proofs.Delays.{fill-delayed}
-use Rattle.filling.proofs.Filling.{Room, room-exactly, fill-rules, fill-counts}
+use Rattle.filling.specs.Filled.{newTurns, filledOut, fillPass, threadsTo, actionsTo}
+use Rattle.order.specs.Turns.{turnsOf}
+use Rattle.filling.proofs.Delay.{Delayed}
+use Rattle.filling.proofs.Delayed.{fill-delayed}
+use Rattle.filling.proofs.FilledTable.{Fits, room-exactly, fill-rules, fill-counts}
 use Rattle.filling.proofs.Peak.{fill-peak}
 use Rattle.filling.proofs.Turns.{fill-turns}
 
@@ -27,20 +27,20 @@ pub record Runs (s : List ℕ) (K : ℕ) : Type 0 where
   pub actions : tableOf (filledOut s K) .actions ≡ actionsTo (tableOf s) K (tableOf s .actions)
   pub peak : S1 (tableOf (filledOut s K)) ≡ S1 (tableOf s)
   pub turns : turnsOf (tableOf (filledOut s K)) ≡ turnsOf (tableOf s) + sumTo (newTurns (tableOf s) K) (tableOf s .actions)
-  pub delayed : Delayed (tableOf (filledOut s K)) (drawnCost (tableOf (filledOut s K)) K)
+  pub delayed : Delayed (tableOf (filledOut s K)) K
 
-pub fill-runs : (s : List ℕ) (K room : ℕ) → Rules s → 1 ≤ K → ((a : ℕ) → a < tableOf s .actions → tableOf s .argument a < 16777216) → tryPass (fillPass (tableOf s) K room) ≡ Nothing → Runs s K
-fill-runs s K room r k short e =
+pub fill-runs : (s : List ℕ) (K : ℕ) → Rules s → 1 ≤ K → tryPass (fillPass (tableOf s) K) ≡ Nothing → Runs s K
+fill-runs s K r k e =
     let l : Lawful (tableOf s) = lawful s r in
-    let fits : Room (tableOf s) K room = room-exactly (tableOf s) K room (l .few-threads) (l .few-actions) .0 e in
-    let (n, m) = fill-counts s K r k short in
-    let f : Rules (filledOut s K) = fill-rules s K r k short room fits in
+    let fits : Fits (tableOf s) K = room-exactly (tableOf s) K (l .few-threads) (l .few-actions) .0 e in
+    let (n, m) = fill-counts s K r k in
+    let f : Rules (filledOut s K) = fill-rules s K r k fits in
     record {
       rules = f;
       accepted = accepted-exactly (filledOut s K) .1 f;
       threads = n;
       actions = m;
-      peak = fill-peak s K r k short room fits;
-      turns = fill-turns s K r k short room fits;
-      delayed = fill-delayed s K r k short room fits;
+      peak = fill-peak s K r k fits;
+      turns = fill-turns s K r k fits;
+      delayed = fill-delayed s K r k fits;
     }

@@ -13,17 +13,17 @@ use Rattle.table.proofs.Sums.{sumTo-zero}
 use Rattle.order.proofs.Lawful.{Lawful, lawful}
 use Rattle.order.proofs.Totals.{sumTo-add}
 use Rattle.table.specs.Written.{Action, actionAt, written}
-use Rattle.filling.specs.Filled.{act, big, dummies, newThreads, newActions, half, leaf, fork2, treeOf, rootOf, inFront, treeAt, treesAlong, oldBodies, filledBodies, filledOut}
-use Rattle.filling.specs.Turns.{countOf, turnsOf, newTurns}
+use Rattle.filling.specs.Filled.{act, big, dummies, newThreads, newActions, newTurns, half, leaf, fork2, treeOf, rootOf, inFront, treeAt, treesAlong, oldBodies, filledBodies, filledOut}
+use Rattle.order.specs.Turns.{ofKind, turnsOf}
 use Rattle.table.proofs.ReadBack.{Reads, none}
 use Rattle.filling.proofs.Bodies.{kindIn}
 use Rattle.filling.proofs.Built.{flatten-append}
 use Rattle.filling.proofs.ForkCounts.{sumIn, sumIn-append, sumIn-to}
 use Rattle.filling.proofs.Trees.{tree-induction, tree-one, tree-more, dummies-two, new-actions}
 use Rattle.filling.proofs.Roots.{all-serial}
-use Rattle.filling.proofs.Old.{ownIn, old-sum, filled-actions}
+use Rattle.filling.proofs.OldThreads.{ownIn, old-sum, filled-actions}
 use Rattle.filling.proofs.Fills.{Fills}
-use Rattle.filling.proofs.Filling.{Room, any-false, fills}
+use Rattle.filling.proofs.FilledTable.{Fits, any-false, fills}
 
 -- 1 at actions of a kind
 abbrev pub oneOf : Kind → Action → ℕ
@@ -92,15 +92,15 @@ module _ (T : Table) (K : ℕ) (some : 1 ≤ K) where
       go false e = rw e
 
   module _ (l : Lawful T) (U : Table) (x : Fills T K U) where
-    count-of : (k : Kind) (g : ℕ → ℕ) → ((c a : ℕ) → adds k c a ≡ g a) → countOf k U ≡ countOf k T + sumTo g (T .actions)
-    unfolding countOf filledBodies
+    count-of : (k : Kind) (g : ℕ → ℕ) → ((c a : ℕ) → adds k c a ≡ g a) → ofKind U k ≡ ofKind T k + sumTo g (T .actions)
+    unfolding filledBodies
     count-of k g h =
         let bs : List (List Action) = filledBodies T K in
         let old : List (List Action) = oldBodies T K 0 (T .threads) in
         let new : List (List Action) = treesAlong T K (T .threads) (serialOrder T) in
         let front : ℕ → ℕ = λ a. sumIn (oneOf k) (inFront T K a) in
         let own : ℕ → ℕ = λ a. pick (is k (kind T a)) 1 0 in
-        let all : countOf k U ≡ sumIn (oneOf k) (flatten bs) = rw (x .reads .actions) (sumIn-to (oneOf k) (flatten bs) (λ a. pick (is k (kind U a)) 1 0) (λ i p. rw (x .reads .codes i p))) in
+        let all : ofKind U k ≡ sumIn (oneOf k) (flatten bs) = rw (x .reads .actions) (sumIn-to (oneOf k) (flatten bs) (λ a. pick (is k (kind U a)) 1 0) (λ i p. rw (x .reads .codes i p))) in
         let parts : sumTo front (T .actions) + sumTo own (T .actions) ≡ sumTo (ownIn T K (oneOf k)) (T .actions) = sumTo-add front own (ownIn T K (oneOf k)) (T .actions) (λ a p. refl) in
         all ∙ rw (flatten-append old new)
         (omega (
@@ -126,10 +126,10 @@ module _ (T : Table) (K : ℕ) (some : 1 ≤ K) where
           sumTo-add (newActions T K) newJoins (newTurns T K) (T .actions) (λ a h. turns-parts a),
         )
 
-pub fill-turns : (s : List ℕ) (K : ℕ) (rules : Rules s) (some : 1 ≤ K) (short : (a : ℕ) → a < tableOf s .actions → tableOf s .argument a < 16777216) (room : ℕ) → Room (tableOf s) K room
+pub fill-turns : (s : List ℕ) (K : ℕ) (rules : Rules s) (some : 1 ≤ K) → Fits (tableOf s) K
     → turnsOf (tableOf (filledOut s K)) ≡ turnsOf (tableOf s) + sumTo (newTurns (tableOf s) K) (tableOf s .actions)
 unfolding filledOut newTurns
-fill-turns s K rules some short room fits = go (anyBelow (big T K) (T .actions)) refl
+fill-turns s K rules some fits = go (anyBelow (big T K) (T .actions)) refl
   where
     T : Table
     T = tableOf s
@@ -138,5 +138,5 @@ fill-turns s K rules some short room fits = go (anyBelow (big T K) (T .actions))
     none-new a e = rw e
 
     go : (q : Bool) → anyBelow (big T K) (T .actions) ≡ q → turnsOf (tableOf (pick q (written (filledBodies T K)) s)) ≡ turnsOf T + sumTo (newTurns T K) (T .actions)
-    go true e = filled-turns T K some (lawful s rules) (tableOf (written (filledBodies T K))) (fills s K rules some short room fits)
+    go true e = filled-turns T K some (lawful s rules) (tableOf (written (filledBodies T K))) (fills s K rules some fits)
     go false e = omega (arith, sumTo-zero (newTurns T K) (T .actions) (λ a h. none-new a (any-false (big T K) (T .actions) e a h)))

@@ -17,6 +17,10 @@ act k x = record { code = k; argument = x }
 unfoldable pub big : Table → ℕ → ℕ → Bool
 big T K a = ltb K (allocOf T a)
 
+-- what an alloc of x takes from the quota: "The big alloc takes nothing from the quota and isn't put back for it."
+abbrev pub drawn : ℕ → ℕ → ℕ
+drawn K x = pick (ltb K x) 0 x
+
 -- "d dummies, d being a / K rounded up"
 unfoldable pub dummies : Table → ℕ → ℕ → ℕ
 dummies T K a = (allocOf T a + K - 1) / K
@@ -26,6 +30,10 @@ newThreads T K a = pick (big T K a) (2 * dummies T K a - 1) 0
 
 unfoldable pub newActions : Table → ℕ → ℕ → ℕ
 newActions T K a = pick (big T K a) (7 * dummies T K a - 3) 0
+
+-- what it adds to m + A + J (N8): 7d - 3 actions, 2d - 1 of them joins
+unfoldable pub newTurns : Table → ℕ → ℕ → ℕ
+newTurns T K a = pick (big T K a) (9 * dummies T K a - 4) 0
 
 -- "the rounded-up half"
 abbrev pub half : ℕ → ℕ
@@ -93,15 +101,13 @@ threadsTo T K k = T .threads + sumTo (newThreads T K) k
 abbrev pub actionsTo : Table → ℕ → ℕ → ℕ
 actionsTo T K k = T .actions + sumTo (newActions T K) k
 
+-- the bytes of a table of n threads and m actions
 abbrev pub bytesOf : ℕ → ℕ → ℕ
 bytesOf n m = 4 + 4 * n + 4 * m
 
--- 44: "the filled-out table would pass 1,024 threads or 8,192 actions .. at the alloc that first does so, counted by rising action of the table as given";
--- the room that a caller lends for it is a third limit
-unfoldable pub overfull : Table → ℕ → ℕ → ℕ → Bool
-overfull T K room a =
-    big T K a
-    && (ltb maxThreads (threadsTo T K (suc a)) || (ltb maxActions (actionsTo T K (suc a)) || ltb room (bytesOf (threadsTo T K (suc a)) (actionsTo T K (suc a)))))
+-- 44: "the filled-out table would pass 1,024 threads or 8,192 actions .. at the alloc that first does so, counted by rising action of the table as given"
+unfoldable pub overfull : Table → ℕ → ℕ → Bool
+overfull T K a = big T K a && (ltb maxThreads (threadsTo T K (suc a)) || ltb maxActions (actionsTo T K (suc a)))
 
-abbrev pub fillPass : Table → ℕ → ℕ → Pass
-fillPass T K room = record { from = 0; places = T .actions; checks = record { number = 44; applies = overfull T K room } ∷ [] }
+abbrev pub fillPass : Table → ℕ → Pass
+fillPass T K = record { from = 0; places = T .actions; checks = record { number = 44; applies = overfull T K } ∷ [] }

@@ -14,7 +14,7 @@ use Rattle.table.specs.Nested.{nestWithin, N}
 use Rattle.table.specs.Load.{valuesOf, loaded, factsOf}
 use Rattle.table.specs.Cases.{E, accepted}
 use Rattle.table.specs.Written.{Action, entryRows, actionRows, tableRows, written}
-use Rattle.filling.specs.Turns.{countOf, turnsOf}
+use Rattle.order.specs.Turns.{turnsOf}
 use Rattle.filling.specs.Filled.{act, big, dummies, newThreads, treeOf, sumBefore, rootOf, filledFrom, oldBodies, treesAlong, filledBodies, filledOut, fork2, leaf, newActions, threadsTo, actionsTo, overfull, fillPass}
 
 -- "E with K 5 is accepted": its filled-out table
@@ -34,7 +34,7 @@ E-filled-values = refl
 
 -- m + A + J: 34 + 2 + 8, and 16 for E itself
 pub E-turns : (turnsOf (tableOf (filledOut E 5)) ≡ 44) × (turnsOf (tableOf E) ≡ 16)
-unfolding entryRows actionRows tableRows written flatten kindOf codeOf is tableOf serialWithin sumTo anyBelow allocOf big dummies newThreads treeOf sumBefore rootOf filledFrom oldBodies treesAlong filledBodies filledOut countOf turnsOf
+unfolding entryRows actionRows tableRows written flatten kindOf codeOf is tableOf serialWithin sumTo anyBelow allocOf big dummies newThreads treeOf sumBefore rootOf filledFrom oldBodies treesAlong filledBodies filledOut turnsOf
 E-turns = (refl, refl)
 
 -- with K 6 nothing is big
@@ -67,7 +67,7 @@ two9-filled = refl
 abbrev pub two400 : List ℕ
 two400 = written ((act 4 1 ∷ act 2 400 ∷ act 5 1 ∷ act 0 0 ∷ []) ∷ (act 2 400 ∷ act 3 400 ∷ act 0 0 ∷ []) ∷ [])
 
-pub two400-full : tryPass (fillPass (tableOf two400) 1 36868) ≡ At (refusal 44 4)
+pub two400-full : tryPass (fillPass (tableOf two400) 1) ≡ At (refusal 44 4)
 unfolding entryRows actionRows tableRows written flatten kindOf codeOf is tableOf sumTo allocOf big dummies newThreads newActions overfull tryPass tryFrom tryAt
 two400-full = refl
 
@@ -75,19 +75,14 @@ abbrev pub one : ℕ → List ℕ
 one x = written ((act 2 x ∷ act 0 0 ∷ []) ∷ [])
 
 -- "K 1: alloc 512, end: n 1,024, m 3,583; 513: 44 at 0"
-pub most-full : tryPass (fillPass (tableOf (one 513)) 1 36868) ≡ At (refusal 44 0)
+pub most-full : tryPass (fillPass (tableOf (one 513)) 1) ≡ At (refusal 44 0)
 unfolding entryRows actionRows tableRows written flatten kindOf codeOf is tableOf sumTo allocOf big dummies newThreads newActions overfull tryPass tryFrom tryAt
 most-full = refl
 
-pub most-fits : tryPass (fillPass (tableOf (one 512)) 1 36868) ≡ Nothing
+pub most-fits : tryPass (fillPass (tableOf (one 512)) 1) ≡ Nothing
 unfolding entryRows actionRows tableRows written flatten kindOf codeOf is tableOf sumTo allocOf big dummies newThreads newActions overfull tryPass tryFrom tryAt
 most-fits = refl
 
 pub most-counts : (threadsTo (tableOf (one 512)) 1 2 ≡ 1024) × (actionsTo (tableOf (one 512)) 1 2 ≡ 3583)
 unfolding entryRows actionRows tableRows written flatten kindOf codeOf is tableOf sumTo allocOf big dummies newThreads newActions
 most-counts = (refl, refl)
-
--- the room that is lent counts too: 4 + 4 * 6 + 4 * 20 bytes
-pub room-full : (tryPass (fillPass (tableOf one7) 3 107) ≡ At (refusal 44 0)) × (tryPass (fillPass (tableOf one7) 3 108) ≡ Nothing)
-unfolding entryRows actionRows tableRows written flatten kindOf codeOf is tableOf sumTo allocOf big dummies newThreads newActions overfull tryPass tryFrom tryAt
-room-full = (refl, refl)

@@ -1,4 +1,3 @@
 pub mod Filled
-pub mod Sizes
-pub mod Turns
+pub mod TreeSizes
 pub mod FilledCases

@@ -13,7 +13,7 @@ use Rattle.table.specs.Sum.{pick, sumOver}
 use Rattle.table.specs.Format.{Table}
 use Rattle.table.specs.Written.{Action}
 use Rattle.filling.specs.Filled.{big, dummies, newThreads, half, leaf, fork2, treeOf, rootOf, treeAt, treesAlong}
-use Rattle.filling.specs.Sizes.{sizesOf, treeBody, sizesAt, sizesAlong}
+use Rattle.filling.specs.TreeSizes.{sizesOf, treeBody, sizesAt, sizesAlong}
 use Rattle.filling.proofs.Trees.{tree-induction, tree-one, tree-more, tree-length, dummies-two, new-threads}
 use Rattle.filling.proofs.Roots.{Rooted, trees-length}
 

@@ -1,13 +1,12 @@
--- The filled-out table, as bytes: it passes every check (fill-rules), its counts (fill-counts), when 44 is silent (room-exactly), and that nothing big leaves the table as given (in-place).
+-- The filled-out table, as bytes: it passes every check (fill-rules), its counts (fill-counts) and size (fill-size, room-enough), when 44 is silent (room-exactly), and that nothing big leaves the table as given (in-place).
 use Prim.Native.Nat.{ℕ, zero, suc, pred, _+_, _-_, _*_, _≤_, _<_}
 use native.Mathlib.Omega.{arith}
-use native.Mathlib.Decide.{decLt}
 use mathlib.Core.Path.{_≡_, refl, sym, ap, _∙_}
 use mathlib.Core.List.{List, [], _∷_, _++_, flatten}
 use mathlib.Core.Bool.{Bool, true, false, not, _&&_, _||_}
 use mathlib.Core.Logic.{_↔_}
 use lib.Dec.{eqb, ltb}
-use borrow.Author.Tests.{ltb-true, ltb-false, lt-ltb, le-ltb, eq-eqb, not-false}
+use borrow.Author.Tests.{ltb-true, ltb-false, le-ltb, eq-eqb, eqb-true, not-false}
 use lib.ListN.{length, getD}
 use Rattle.table.specs.Sum.{pick, sumTo, sumOver, anyBelow}
 use Rattle.table.specs.Format.{Table, tableOf, threadsOf, actionsOf}
@@ -22,11 +21,11 @@ use Rattle.table.proofs.Passes.{tryPass-from-0}
 use Rattle.order.proofs.Lawful.{Lawful, lawful}
 use Rattle.table.specs.Written.{Action, written}
 use Rattle.filling.specs.Filled.{big, newThreads, newActions, filledBodies, filledOut, threadsTo, actionsTo, bytesOf, overfull, fillPass}
-use Rattle.table.proofs.ReadBack.{Reads, read-back, bytes-length, threads-back, actions-back}
+use Rattle.table.proofs.ReadBack.{Reads, read-back, bytes-length, threads-back, actions-back, argument-short}
 use Rattle.table.specs.Serial.{serialOrder}
 use Rattle.filling.proofs.Bodies.{short-at}
 use Rattle.filling.proofs.Roots.{all-serial}
-use Rattle.filling.proofs.Old.{filled-threads, filled-actions, filled-good}
+use Rattle.filling.proofs.OldThreads.{filled-threads, filled-actions, filled-good}
 use Rattle.filling.proofs.Fills.{Fills, c, b, n, f}
 use Rattle.filling.proofs.Balances.{filled-balances}
 
@@ -36,51 +35,40 @@ none-new : (T : Table) (K a : ℕ) → big T K a ≡ false → (newThreads T K a
 unfolding newThreads newActions
 none-new T K a e = (rw e, rw e)
 
--- the filled-out table is within the limits, and there is room
-pub record Room (T : Table) (K room : ℕ) : Type 0 where
+-- the filled-out table is within the limits
+pub record Fits (T : Table) (K : ℕ) : Type 0 where
   pub threads : threadsTo T K (T .actions) ≤ 1024
   pub actions : actionsTo T K (T .actions) ≤ 8192
-  pub bytes : (a : ℕ) → a < T .actions → big T K a ≡ true → bytesOf (threadsTo T K (T .actions)) (actionsTo T K (T .actions)) ≤ room
 
-module _ (T : Table) (K room : ℕ) where
+module _ (T : Table) (K : ℕ) where
   abbrev Fit : ℕ → Type 0
-  Fit k = (threadsTo T K k ≤ 1024) × (actionsTo T K k ≤ 8192) × ((a : ℕ) → a < k → big T K a ≡ true → bytesOf (threadsTo T K k) (actionsTo T K k) ≤ room)
+  Fit k = (threadsTo T K k ≤ 1024) × (actionsTo T K k ≤ 8192)
 
-  fits-at : (a : ℕ) → overfull T K room a ≡ false → big T K a ≡ true
-      → (threadsTo T K (suc a) ≤ 1024) × (actionsTo T K (suc a) ≤ 8192) × (bytesOf (threadsTo T K (suc a)) (actionsTo T K (suc a)) ≤ room)
+  fits-at : (a : ℕ) → overfull T K a ≡ false → big T K a ≡ true → Fit (suc a)
   unfolding overfull
   fits-at a o e =
       let n : ℕ = threadsTo T K (suc a) in
       let m : ℕ = actionsTo T K (suc a) in
-      let o′ : (ltb 1024 n || (ltb 8192 m || ltb room (bytesOf n m))) ≡ false = rw e at o in
-      let (p, q) = or-neither (ltb 1024 n) (ltb 8192 m || ltb room (bytesOf n m)) o′ in
-      let (q′, r) = or-neither (ltb 8192 m) (ltb room (bytesOf n m)) q in
-      (ltb-false 1024 n p, ltb-false 8192 m q′, ltb-false room (bytesOf n m) r)
+      let o′ : (ltb 1024 n || ltb 8192 m) ≡ false = rw e at o in
+      let (p, q) = or-neither (ltb 1024 n) (ltb 8192 m) o′ in
+      (ltb-false 1024 n p, ltb-false 8192 m q)
 
-  up-to : (k : ℕ) → T .threads ≤ 1024 → T .actions ≤ 8192 → ((a : ℕ) → a < k → overfull T K room a ≡ false) → Fit k
+  -- as long as 44 does not apply
+  pub fit-to : (k : ℕ) → T .threads ≤ 1024 → T .actions ≤ 8192 → ((a : ℕ) → a < k → overfull T K a ≡ false) → Fit k
   unfolding sumTo
-  up-to zero n m h = (omega arith, omega arith, (λ a i. absurd (omega arith)))
-  up-to (suc k) n m h = go (big T K k) refl (up-to k n m (λ a i. h a (omega arith)))
+  fit-to zero n m h = (omega arith, omega arith)
+  fit-to (suc k) n m h = go (big T K k) refl (fit-to k n m (λ a i. h a (omega arith)))
     where
       go : (q : Bool) → big T K k ≡ q → Fit k → Fit (suc k)
-      go true e ih = let (p, q, r) = fits-at k (h k (omega arith)) e in (p, q, (λ a i j. r))
-      go false e (p, q, r) =
-          let (y, z) = none-new T K k e in
-          (omega arith, omega arith, (λ a i j. omega (arith, r a (before a i j) j)))
-        where
-          before : (a : ℕ) → a < suc k → big T K a ≡ true → a < k
-          before a i j = by (decLt a k)
-            where
-              by : Dec (a < k) → a < k
-              by (yes s) = s
-              by (no s) = let w : a ≡ k = omega (arith, s) in no-way (cc)
+      go true e ih = fits-at k (h k (omega arith)) e
+      go false e (p, q) = let (y, z) = none-new T K k e in (omega arith, omega arith)
 
-  silent-room : T .threads ≤ 1024 → T .actions ≤ 8192 → ((a : ℕ) → a < T .actions → overfull T K room a ≡ false) → Room T K room
-  silent-room n m h = let (p, q, r) = up-to (T .actions) n m h in record { threads = p; actions = q; bytes = r }
+  silent-fits : T .threads ≤ 1024 → T .actions ≤ 8192 → ((a : ℕ) → a < T .actions → overfull T K a ≡ false) → Fits T K
+  silent-fits n m h = let (p, q) = fit-to (T .actions) n m h in record { threads = p; actions = q }
 
-  room-silent : Room T K room → (a : ℕ) → a < T .actions → overfull T K room a ≡ false
+  fits-silent : Fits T K → (a : ℕ) → a < T .actions → overfull T K a ≡ false
   unfolding overfull
-  room-silent r a h = go (big T K a) refl
+  fits-silent r a h = go (big T K a)
     where
       n : ℕ
       n = threadsTo T K (suc a)
@@ -94,31 +82,15 @@ module _ (T : Table) (K room : ℕ) where
       m-low : m ≤ actionsTo T K (T .actions)
       m-low = omega (arith, sumTo-part (newActions T K) (suc a) (T .actions) h)
 
-      go : (q : Bool) → big T K a ≡ q → (q && (ltb 1024 n || (ltb 8192 m || ltb room (bytesOf n m)))) ≡ false
-      go true e = rw (le-ltb 1024 n (omega (arith, n-low, r .threads)), le-ltb 8192 m (omega (arith, m-low, r .actions)), le-ltb room (bytesOf n m) (omega (arith, n-low, m-low, r .bytes a h e)))
-      go false e = refl
+      go : (q : Bool) → (q && (ltb 1024 n || ltb 8192 m)) ≡ false
+      go true = rw (le-ltb 1024 n (omega (arith, n-low, r .threads)), le-ltb 8192 m (omega (arith, m-low, r .actions)))
+      go false = refl
 
   -- 44 is silent exactly where the filled-out table is within the limits
-  pub room-exactly : T .threads ≤ 1024 → T .actions ≤ 8192 → (tryPass (fillPass T K room) ≡ Nothing) ↔ Room T K room
+  pub room-exactly : T .threads ≤ 1024 → T .actions ≤ 8192 → (tryPass (fillPass T K) ≡ Nothing) ↔ Fits T K
   room-exactly n m =
-      let z = tryPass-from-0 (T .actions) (fillPass T K room .checks) in
-      ((λ e. silent-room n m (z .0 e .0)), (λ r. z .1 (room-silent r, tt)))
-
--- with room for the largest table, 44 is document 02's
-pub room-enough : (T : Table) (K room a : ℕ) → 36868 ≤ room → overfull T K room a ≡ (big T K a && (ltb 1024 (threadsTo T K (suc a)) || ltb 8192 (actionsTo T K (suc a))))
-unfolding overfull
-room-enough T K room a h = ap (λ (q : Bool). big T K a && q) (go (decLt 1024 n) (decLt 8192 m))
-  where
-    n : ℕ
-    n = threadsTo T K (suc a)
-
-    m : ℕ
-    m = actionsTo T K (suc a)
-
-    go : Dec (1024 < n) → Dec (8192 < m) → (ltb 1024 n || (ltb 8192 m || ltb room (bytesOf n m))) ≡ (ltb 1024 n || ltb 8192 m)
-    go (yes p) q = rw (lt-ltb 1024 n p)
-    go (no p) (yes q) = rw (lt-ltb 8192 m q)
-    go (no p) (no q) = rw (le-ltb 8192 m (omega (arith, q)), le-ltb room (bytesOf n m) (omega (arith, p, q)))
+      let z = tryPass-from-0 (T .actions) (fillPass T K .checks) in
+      ((λ e. silent-fits n m (z .0 e .0)), (λ r. z .1 (fits-silent r, tt)))
 
 -- ---- the table
 
@@ -144,7 +116,7 @@ module _ (s : List ℕ) (K : ℕ) where
           absurd (omega (arith, ltb-true K (allocOf T a) p, h a w))
       go false e = refl
 
-  module _ (rules : Rules s) (some : 1 ≤ K) (short : (a : ℕ) → a < T .actions → T .argument a < 16777216) where
+  module _ (rules : Rules s) (some : 1 ≤ K) where
     l : Lawful T
     l = lawful s rules
 
@@ -164,7 +136,26 @@ module _ (s : List ℕ) (K : ℕ) where
           omega (arith, sumTo-zero (newActions T K) (T .actions) (λ a h. none-new T K a (any-false (big T K) (T .actions) e a h) .1)),
         )
 
-    module _ (room : ℕ) (fits : Room T K room) where
+    -- 4 bytes a head, a thread, an action, whether it is filled out or runs as it is
+    pub fill-size : length (filledOut s K) ≡ bytesOf (threadsTo T K (T .actions)) (actionsTo T K (T .actions))
+    unfolding filledOut tableOf
+    fill-size = go (anyBelow (big T K) (T .actions)) refl
+      where
+        go : (q : Bool) → anyBelow (big T K) (T .actions) ≡ q → length (pick q (written bs) s) ≡ bytesOf (threadsTo T K (T .actions)) (actionsTo T K (T .actions))
+        go true e = omega (arith, bytes-length bs, filled-threads T l K some, filled-actions T l K some)
+        go false e =
+            omega (
+              arith,
+              eqb-true (length s) (4 + 4 * threadsOf s + 4 * actionsOf s) (not-false (eqb (length s) (4 + 4 * threadsOf s + 4 * actionsOf s)) (rules .head .sized)),
+              sumTo-zero (newThreads T K) (T .actions) (λ a h. none-new T K a (any-false (big T K) (T .actions) e a h) .0),
+              sumTo-zero (newActions T K) (T .actions) (λ a h. none-new T K a (any-false (big T K) (T .actions) e a h) .1),
+            )
+
+    module _ (fits : Fits T K) where
+      -- room for the largest table is room enough
+      pub room-enough : length (filledOut s K) ≤ 36868
+      room-enough = omega (arith, fill-size, fits .threads, fits .actions)
+
       -- where something is big
       pub fills : Fills T K (tableOf (written bs))
       fills =
@@ -172,6 +163,7 @@ module _ (s : List ℕ) (K : ℕ) where
           let n : ℕ = length bs in
           let small : n ≤ 16777216 = omega (arith, e, fits .threads) in
           let room′ : T .threads + sumOver (newThreads T K) (serialOrder T) ≤ n = omega (arith, e, all-serial T l (newThreads T K)) in
+          let short : (a : ℕ) → a < T .actions → T .argument a < 16777216 = λ a h. argument-short s a in
           record { lawful = l; some = some; short = short; reads = read-back bs (short-at n bs (filled-good T l K some n short room′ small)); small = small }
 
       head : HeadRules (written bs)
@@ -213,7 +205,7 @@ module _ (s : List ℕ) (K : ℕ) where
             balances = filled-balances T K U fills;
           }
 
-      -- "The result passes every table check"
+      -- the filled-out table passes every check
       pub fill-rules : Rules (filledOut s K)
       unfolding filledOut
       fill-rules = go (anyBelow (big T K) (T .actions))

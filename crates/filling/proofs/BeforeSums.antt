@@ -24,7 +24,7 @@ use Rattle.order.proofs.Lawful.{Lawful}
 use Rattle.order.proofs.Words.{Ascends}
 use Rattle.filling.specs.Filled.{big, newThreads, sumBefore, rootOf}
 use Rattle.filling.proofs.Roots.{so-ascends}
-use Rattle.filling.proofs.Old.{big-alloc}
+use Rattle.filling.proofs.OldThreads.{big-alloc}
 
 before-split : (f h : ℕ → ℕ) (q : List ℕ) (a : ℕ) (r : List ℕ) → Ascends h (q ++ (a ∷ r)) → sumBefore f a (q ++ (a ∷ r)) ≡ sumOver f q
 unfolding sumBefore sumOver Ascends
