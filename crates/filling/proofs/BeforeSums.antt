@@ -168,7 +168,7 @@ module _ (T : Table) (l : Lawful T) where
   -- ---- roots
 
   module _ (K : ℕ) where
-    no-new : (a : ℕ) → kind T a ≡ fork → newThreads T K a ≡ 0
+    pub no-new : (a : ℕ) → kind T a ≡ fork → newThreads T K a ≡ 0
     unfolding newThreads
     no-new a k = go (big T K a) refl
       where

@@ -18,3 +18,4 @@ pub mod Runs
 -- what the code that fills out rests on
 pub mod BeforeSums
 pub mod TreeSizes
+pub mod Numbering

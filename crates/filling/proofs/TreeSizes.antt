@@ -15,7 +15,7 @@ use Rattle.table.specs.Written.{Action}
 use Rattle.filling.specs.Filled.{big, dummies, newThreads, half, leaf, fork2, treeOf, rootOf, treeAt, treesAlong}
 use Rattle.filling.specs.TreeSizes.{sizesOf, treeBody, sizesAt, sizesAlong}
 use Rattle.filling.proofs.Trees.{tree-induction, tree-one, tree-more, tree-length, dummies-two, new-threads}
-use Rattle.filling.proofs.Roots.{Rooted, trees-length}
+use Rattle.filling.proofs.Roots.{Rooted, rooted-bound, trees-length}
 
 sizes-one : (f d : ℕ) → d ≤ 1 → sizesOf (suc f) d ≡ d ∷ []
 unfolding sizesOf
@@ -315,3 +315,21 @@ module _ (T : Table) (K : ℕ) (some : 1 ≤ K) where
       go (yes q) true e ih = here e q (decLt 0 j)
       go (yes q) false e ih = let z : length s ≡ 0 = rw e in absurd (omega (arith, q, z))
       go (no q) b e ih = later (ih (j - length s) (omega (arith, q, length-append s t))) q
+
+  -- and at its root the tree of a big alloc has the alloc's dummies
+  pub root-size : (r : ℕ → ℕ) (l : List ℕ) (c a : ℕ) → Rooted (newThreads T K) r c l → List·Memᴰ a l → big T K a ≡ true → getD (sizesAlong T K l) (r a - c) 0 ≡ dummies T K a
+  unfolding sizesAlong Rooted
+  root-size r [] c a p m e = absurd (List·Memᴰ·not-nil m)
+  root-size r (x ∷ l) c a p m e = go (List·Memᴰ·cases-cons m) (λ i. root-size r l (c + newThreads T K x) a (p .1) i e)
+    where
+      go : (a ≡ x) ⊎ List·Memᴰ a l → (List·Memᴰ a l → getD (sizesAlong T K l) (r a - (c + newThreads T K x)) 0 ≡ dummies T K a)
+          → getD (sizesAt T K x ++ sizesAlong T K l) (r a - c) 0 ≡ dummies T K a
+      go (inl q) ih =
+          let two : 2 ≤ dummies T K a = dummies-two T K some a e in
+          let z : r a - c ≡ 0 = omega (arith, p .0, ap r q) in
+          let w : sizesAt T K x ≡ sizesOf (dummies T K a) (dummies T K a) = rw (← q, e) in
+          let n : 0 < length (sizesOf (dummies T K a) (dummies T K a)) = omega (arith, sizes-length (dummies T K a) (dummies T K a) (omega (arith, two)) (omega arith)) in
+          rw (z, w, getD-front (sizesOf (dummies T K a) (dummies T K a)) (sizesAlong T K l) 0 n) (sizes-root (dummies T K a) (dummies T K a) (omega (arith, two)) (omega arith))
+      go (inr i) ih =
+          let (lo, hi) = rooted-bound (newThreads T K) r l (c + newThreads T K x) a (p .1) i in
+          getD-back (sizesAt T K x) (sizesAlong T K l) (r a - c) (r a - (c + newThreads T K x)) (omega (arith, at-length x, lo)) ∙ ih i

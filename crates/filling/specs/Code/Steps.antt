@@ -1,14 +1,18 @@
 -- What the steps of the filling promise to each other.
 use mathlib.Core.Path.{_≡_}
-use Prim.Native.Nat.{ℕ, suc, _-_, _≤_, _<_}
-use mathlib.Core.List.{List}
+use Prim.Native.Nat.{ℕ, suc, _+_, _-_, _*_, _≤_, _<_}
+use mathlib.Core.List.{List, [], _∷_}
 use mathlib.Core.Bool.{Bool, true}
-use lib.ListN.{length, getD}
+use lib.ListN.{length, getD, set}
+use lib.Dec.{ltb, leb}
+use Rattle.table.specs.Sum.{pick}
 use Rattle.table.specs.Format.{fork, Table, tableOf, kind}
 use Rattle.table.specs.Checks.{owner, withChild, whole}
 use Rattle.table.specs.Rules.{Rules}
+use Rattle.table.specs.Code.Steps.{Filled}
 use Rattle.table.specs.Serial.{serialOrder}
-use Rattle.filling.specs.Filled.{big, newThreads, rootOf, threadsTo, actionsTo}
+use Rattle.filling.specs.Filled.{big, half, newThreads, rootOf, threadsTo, actionsTo}
+use Rattle.rows.specs.Rows.{cutAction}
 use Rattle.filling.specs.TreeSizes.{sizesAlong}
 
 -- an accepted table of n threads, and a quota with which its filled-out table is within the limits
@@ -32,10 +36,9 @@ rootStep T K a = withChild T fork (newThreads T K) (newOf T K) a
 abbrev pub sizeAt : Table → ℕ → ℕ → ℕ
 sizeAt T K c = getD (sizesAlong T K (serialOrder T)) (c - T .threads) 0
 
--- The array of sums: of the table's own threads the new threads, from n on the trees' sizes, as far as they are known.
-pub record Sums (T : Table) (K : ℕ) (sums : List ℕ) : Type 0 where
-  pub size : length sums ≡ 1024
-  pub right : (t : ℕ) → t < T .threads → getD sums t 0 ≡ newOf T K t
+-- The array of sums has the new threads of the table's own threads from u on; from n on it has the trees' sizes, as far as they are known.
+abbrev pub Sums : Table → ℕ → List ℕ → ℕ → Type 0
+Sums T K sums u = Filled T (newOf T K) sums u
 
 -- the sizes at the roots of the big allocs below a
 abbrev pub RootsTo : Table → ℕ → ℕ → List ℕ → Type 0
@@ -55,3 +58,11 @@ pub record Starts (T : Table) (K a : ℕ) (starts : List ℕ) : Type 0 where
 pub record At (T : Table) (K a thread root : ℕ) : Type 0 where
   pub owner-is : thread ≡ owner T a
   pub root-is : root ≡ rootOf T K a
+
+-- the sizes of the two trees that thread c of a tree of d forks
+abbrev pub splitAt : ℕ → ℕ → List ℕ → List ℕ
+splitAt c d l = pick (leb d 1) l (set (set l (suc c) (half d)) (c + 2 * half d) (d - half d))
+
+-- the fork and the join in front of an alloc of x, where it is big
+abbrev pub frontRows : ℕ → ℕ → ℕ → List (List ℕ)
+frontRows K x root = pick (ltb K x) (cutAction 4 root ∷ cutAction 5 root ∷ []) []
