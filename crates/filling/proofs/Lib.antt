@@ -18,4 +18,5 @@ pub mod Runs
 -- what the code that fills out rests on
 pub mod BeforeSums
 pub mod TreeSizes
+pub mod Reading
 pub mod Numbering

@@ -18,7 +18,7 @@ use Rattle.table.specs.Checks.{owner}
 use Rattle.table.specs.Serial.{serialOrder}
 use Rattle.table.specs.Code.Steps.{Filled}
 use Rattle.table.proofs.Tests.{no-way, Turn, ends, branches, goes, turn, same-is, is-true, fork-no-end}
-use Rattle.table.proofs.Bodies.{first-next, last-ends, after-end, owner-below, owner-first, owner-of-first, next-owner, end-last, fork-above, fork-below, fork-later}
+use Rattle.table.proofs.Bodies.{first-is, first-next, last-ends, after-end, owner-below, owner-first, owner-of-first, next-owner, end-last, fork-above, fork-below, fork-later}
 use Rattle.table.proofs.Nesting.{fork-exists}
 use Rattle.table.proofs.Sums.{sumTo-part}
 use Rattle.table.proofs.Amounts.{whole-bound}
@@ -136,7 +136,16 @@ module _ (s : List ℕ) (n K : ℕ) (r : Ready s n K) where
         go true k = let z : starts′ ≡ set starts (T .argument a) (rootOf T K a) = rw (k, e) at q in rw z (starts-fork (is-true fork (kind T a) k))
         go false k = let z : starts′ ≡ starts = rw k at q in rw z (starts-step k)
 
-  -- ---- the place after an action
+  -- ---- the place of the first action, and the place after an action
+
+  pub at-first : At T K 0 0 n
+  unfolding sumTo
+  at-first =
+      let z : T .first 0 ≡ 0 = first-is T (l .contents) 0 (l .some-thread) in
+      record {
+        owner-is = sym (rw z at (owner-of-first T (l .contents) 0 (l .some-thread)));
+        root-is = r .threads ∙ sym (rw z at (root-root T l K));
+      }
 
   module _ (a thread root : ℕ) (h : a < T .actions) (p : At T K a thread root) where
     pub at-next : (x : ℕ) → is end (kind T a) ≡ false → x ≡ rootStep T K a → At T K (a + 1) thread (root + x)
