@@ -20,3 +20,4 @@ pub mod BeforeSums
 pub mod TreeSizes
 pub mod Reading
 pub mod Numbering
+pub mod FilledRows
