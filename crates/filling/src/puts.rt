@@ -52,7 +52,12 @@ fn put_step(
     ensures { λ r. ⌜ bufferAt (now (out .exit)) r ≡ putAll (bufferAt (now (out .entry)) at) (actionRows (inFront (tableOf (now (table .entry))) quota a ++ (actionAt (tableOf (now (table .entry))) a ∷ []))) ⌝ }
 {
     let after = put_front(out, at, amount(table, n, a), quota, root);
-    put_action(out, after, read::code(table, n, a), read::argument(table, n, a))
+    put_action(
+        out,
+        after,
+        read::code(table, n, a),
+        read::argument(table, n, a),
+    )
 }
 
 // The bodies of the table's own threads.

@@ -79,7 +79,6 @@ module _ (s : List ℕ) (n K : ℕ) (sums starts : List ℕ) (m : ℕ) (out₀ :
   ends : m ≤ a → bufferAt out at ≡ putAll (bufferAt out₀ at₀) (actionRows (filledFrom (tableOf s) K 0 (tableOf s .actions)))
   ends h = rw (left-none s n K (i .ready) a (omega (arith, i .within, i .all))) at (i .left .same)
 
-
 abbrev Inv-loop : tie.InvT-loop
 Inv-loop out₀ at table n quota sums starts m at₀ place₀ a₀ out at' place a = Inv table n quota sums starts m out₀ at₀ out at' (place .thread) (place .root) a
 

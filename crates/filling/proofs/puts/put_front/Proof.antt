@@ -33,7 +33,6 @@ two : (K x root : ℕ) (s o q : List ℕ) (at r k : ℕ) → K < x → bufferAt 
     → bufferAt q k ≡ putAll (bufferAt s at) (frontRows K x root)
 two K x root s o q at r k h e f = rw (lt-ltb K x h) (f ∙ ap (λ (b : Buffer). placedNext b (cutAction 5 root)) e)
 
-
 returns : tie.Need-returns
 returns c = none _ _ _ _ (c .if1 .taken)
 

@@ -32,7 +32,6 @@ module _ (s : List ℕ) (n K a root : ℕ) (p : Ready s n K × ((a < tableOf s .
       → bufferAt q j ≡ putAll (bufferAt o at) (actionRows (inFront (tableOf s) K a ++ (actionAt (tableOf s) a ∷ [])))
   step x k y e f g o o′ q at r j u v = rw (step-rows s n K (p .0) a x root k y (p .1 .0) e (p .1 .1) f g) (put-rows o o′ q at r j (frontRows K x root) (cutAction k y ∷ []) u v)
 
-
 amount-requires : tie.Need-amount-requires
 amount-requires c κs = search needs
 

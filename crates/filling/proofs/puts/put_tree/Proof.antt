@@ -41,7 +41,6 @@ more c d h p o o1 o2 o3 o4 q at r1 r2 r3 r4 j e1 e2 e3 e4 e5 =
     (e4 ∙ ap (λ (b : Buffer). placedNext b (cutAction 5 (c + 1)))
     (e3 ∙ ap (λ (b : Buffer). placedNext b (cutAction 5 y)) (e2 ∙ ap (λ (b : Buffer). placedNext b (cutAction 4 y)) e1))))
 
-
 put-action-requires : tie.Need-put-action-requires
 put-action-requires c κs = search needs
 

@@ -78,7 +78,6 @@ module _ (s : List ℕ) (n K total : ℕ) (sums out₀ : List ℕ) (at₀ : ℕ)
   ends : total ≤ c → bufferAt out at ≡ putAll (bufferAt out₀ at₀) (actionRows (flatten (treesAlong (tableOf s) K (tableOf s .threads) (serialOrder (tableOf s)))))
   ends h = rw (trees-none s n K (i .ready) c (omega (arith, i .high, i .all))) at (i .left .same)
 
-
 abbrev Inv-loop : tie.InvT-loop
 Inv-loop out₀ at table n quota total sums at₀ c₀ out at' c = Inv table n quota total sums out₀ at₀ out at' c
 
