@@ -22,7 +22,8 @@ use Rattle.schedule.specs.Sound.{isDone, Steady, Sound}
 use Rattle.schedule.specs.Runs.{roundsRun}
 use Rattle.schedule.specs.Calls.{Call, rowOfCalls}
 use Rattle.schedule.specs.Memory.{rowState, replies}
-use Rattle.schedule.specs.Most.{notIdle, turnsOf}
+use Rattle.schedule.specs.Most.{notIdle}
+use Rattle.order.specs.Turns.{turnsOf}
 use Rattle.order.proofs.Lawful.{Lawful}
 use Rattle.schedule.proofs.Sound.Facts.{Facts}
 use Rattle.order.proofs.Lists.{Below}
