@@ -28,7 +28,7 @@ use Rattle.schedule.proofs.Preservation.Starts.{start-worker}
 use Rattle.schedule.proofs.Bounds.Beyond.{startAction, begins, batches}
 use Rattle.schedule.proofs.Bounds.Acts.{drawn-none}
 use Rattle.schedule.proofs.Bounds.Tries.{Tries, Turned, idles, tries, turned}
-use Rattle.bounds.proofs.Delayed.{isLeaf, dummyCost}
+use Rattle.filling.proofs.Delay.{isLeaf, drawnCost}
 use Rattle.bounds.proofs.Draws.{spentBeyond, Draw, draws-within}
 
 -- what is left of its batch to a worker
@@ -111,8 +111,8 @@ module _ (T : Table) (l : Lawful T) (p K : ℕ) (few : p ≤ 16) (w : ℕ) (belo
         go (inl (h, i, j)) = absurd (omega (arith, rw (i, j) at (g .past w (omega arith) h)))
         go (inr (h, i, j)) = rw h
 
-    spends : (u d : ℕ) → turnOf T K w st .reply ≡ Done u d → leftTo T after w + dummyCost T K d ≤ had
-    unfolding dummyCost leftTo
+    spends : (u d : ℕ) → turnOf T K w st .reply ≡ Done u d → leftTo T after w + drawnCost T K d ≤ had
+    unfolding drawnCost leftTo
     spends u d i = rw (y .acted .answers u d i, y .owned) (go (isLeaf T t) refl (ℕ-discrete a (T .first t)))
       where
         draws : workerOf after w .quota + drawn K (allocOf T a) ≤ pick (workerOf st w .holds) (workerOf st w .quota) K
@@ -132,7 +132,7 @@ module _ (T : Table) (l : Lawful T) (p K : ℕ) (few : p ≤ 16) (w : ℕ) (belo
         go true e (no b) = rw (ne-eqb a (T .first t) b, nothing-left e, leaf-end e b, drawn-none K) (omega arith)
         go false e b = omega (arith, left-most T after w, draws, whole e)
 
-  pub dummy-step : (left' : ℕ → ℕ) × Ghost T after left' × Draw T K (dummyCost T K) K w st left left'
+  pub dummy-step : (left' : ℕ → ℕ) × Ghost T after left' × Draw T K (drawnCost T K) K w st left left'
   unfolding leftTo
   dummy-step = (leftTo T after, ghost (turned T l p K few w below st f), draw (turned T l p K few w below st f))
     where
@@ -140,14 +140,14 @@ module _ (T : Table) (l : Lawful T) (p K : ℕ) (few : p ≤ 16) (w : ℕ) (belo
       ghost (idles e r n s q) = record { is = λ u. refl; past = λ u h i. rw (q, n) (g .past u h (rw q at i)) }
       ghost (tries t a y) = record { is = λ u. refl; past = λ u h i. past-after t a y u h (ℕ-discrete u w) i }
 
-      draw : Turned T K w st (turnOf T K w st) → Draw T K (dummyCost T K) K w st left (leftTo T after)
+      draw : Turned T K w st (turnOf T K w st) → Draw T K (drawnCost T K) K w st left (leftTo T after)
       draw (idles e r n s q) = record { others = λ u i d. rw (q, g .is u); spends = λ t a i. no-way (cc) }
       draw (tries t a y) = record { others = λ u i d. rw (y .acted .worker-others u d, g .is u); spends = spends t a y }
 
 -- the actions done beyond an action that is not done cost at most K for each batch begun beyond it
 pub dummies-few : (T : Table) (l : Lawful T) (p K : ℕ) (few : p ≤ 16) (row : List ℕ) → ((w : ℕ) → List·Memᴰ w row → w < p) → (v : ℕ) → v < T .actions
     → isDone T (rowState T K (startState T) row) v ≡ false
-    → spentBeyond T (dummyCost T K) (rowState T K (startState T) row) v ≤ K * batches T K (startState T) row v
+    → spentBeyond T (drawnCost T K) (rowState T K (startState T) row) v ≤ K * batches T K (startState T) row v
 dummies-few T l p K few row h v i n =
-    draws-within T l p K few (dummyCost T K) K (Ghost T) (λ w b st f left g. dummy-step T l p K few w b st f left g) (leftTo T (startState T))
+    draws-within T l p K few (drawnCost T K) K (Ghost T) (λ w b st f left g. dummy-step T l p K few w b st f left g) (leftTo T (startState T))
     (record { is = λ u. refl; past = λ u k e. no-way (cc (ap (λ (x : Worker). x .holds) (start-worker T l u))) }) row h v i n

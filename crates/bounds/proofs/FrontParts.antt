@@ -8,7 +8,7 @@ use Rattle.table.proofs.Levels.{greatest-bound}
 use Rattle.schedule.specs.Memory.{memoryOf, frontRows, peakMemory, Keeps, limit}
 use Rattle.order.proofs.Lawful.{Lawful}
 use Rattle.schedule.proofs.Runs.Rows.{front-rest, front-workers, row-held}
-use Rattle.bounds.proofs.Delayed.{Delayed}
+use Rattle.filling.proofs.Delay.{drawnCost, Delayed}
 use Rattle.bounds.proofs.Bound.{row-bound, row-alone}
 
 -- a front part of a row that keeps the rule keeps it
@@ -22,7 +22,7 @@ pub peak-within : (T : Table) (K B : ℕ) (row : List ℕ) → ((front rest : Li
 unfolding peakMemory
 peak-within T K B row h = greatest-bound (memoryOf T K) (frontRows row) B (λ front m. let r = front-rest row front m in h front (r .0) (r .1))
 
-module _ (T : Table) (l : Lawful T) (p K : ℕ) (some : 1 ≤ p) (few : p ≤ 16) (delayed : Delayed T K) (row : List ℕ) (h : (w : ℕ) → List·Memᴰ w row → w < p) where
+module _ (T : Table) (l : Lawful T) (p K : ℕ) (some : 1 ≤ p) (few : p ≤ 16) (delayed : Delayed T (drawnCost T K)) (row : List ℕ) (h : (w : ℕ) → List·Memᴰ w row → w < p) where
   front-below : (front rest : List ℕ) → row ≡ front ++ rest → (w : ℕ) → List·Memᴰ w front → w < p
   front-below front rest e = front-workers (λ w. w < p) row front rest e h
 
