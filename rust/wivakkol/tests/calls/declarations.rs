@@ -140,7 +140,7 @@ fn parts_are_at_the_header_s_places() {
             "heads" => "LEFTMOST".to_string(),
             other => other.to_uppercase(),
         };
-        assert_eq!(named[in_header.as_str()], *place, "{name}");
+        assert_eq!(named[format!("AT_{in_header}").as_str()], *place, "{name}");
     }
     assert_eq!(parts.len(), 14);
 }
