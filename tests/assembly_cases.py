@@ -11,6 +11,8 @@ from texts import LONGEST, assemble, assemble_input
 KEYWORD = 'expected thread, alloc, free, fork, join, work or end'
 NUMBER = 'expected a number up to 16777215'
 LINE_END = 'expected the end of the line'
+RETURN = 'a carriage return; lines end with a newline alone'
+MARK = 'a byte order mark; a text begins without one'
 LEAST = 'table 1 1 serial 0 depth 1 nested 1'
 E = b'''# the root
 thread 0
@@ -45,7 +47,15 @@ CASES = [
     ('unknown word', b'thread 0\nwait\nend\n', 'line 2: ' + KEYWORD),
     ('a word in capitals', b'Thread 0\nend\n', 'line 1: ' + KEYWORD),
     ('a word that goes on', b'thread 0\nends\n', 'line 2: ' + KEYWORD),
-    ('a carriage return', b'thread 0\nend\r\n', 'line 2: ' + KEYWORD),
+    ('a carriage return', b'thread 0\nend\r\n', 'line 2: ' + RETURN),
+    ('carriage returns throughout', E.replace(b'\n', b'\r\n'), 'line 2: ' + RETURN),
+    ('a carriage return in a number', b'thread 0\nalloc 6\r7\nend\n', 'line 2: ' + RETURN),
+    ('a carriage return in a comment', b'thread 0 # the root\r\nend # \r\n', LEAST),
+    ('a carriage return behind a fault', b'thread 0\nalloc # 6\r\nend\n', 'line 2: ' + NUMBER),
+    ('a carriage return on a later line', b'thread 0\nwait\nend\r\n', 'line 2: ' + KEYWORD),
+    ('a byte order mark', b'\xef\xbb\xbfthread 0\nend\n', 'line 1: ' + MARK),
+    ('a byte order mark and carriage returns', b'\xef\xbb\xbfthread 0\r\nend\r\n', 'line 1: ' + MARK),
+    ('two bytes of a mark', b'\xef\xbb', 'line 1: ' + KEYWORD),
     ('missing number', b'thread 0\nalloc # 6\nend\n', 'line 2: ' + NUMBER),
     ('no number', b'thread 0\nalloc six\nend\n', 'line 2: ' + NUMBER),
     ('a sign', b'thread 0\nalloc +6\nend\n', 'line 2: ' + NUMBER),
@@ -100,6 +110,9 @@ INPUTS = [
     ('no text at all', b'', 'line 1: expected workers'),
     ('a table without front', E, 'line 2: expected workers'),
     ('unknown word in front', b'workers 2\nlevels 6\n', 'line 2: expected quota or between'),
+    ('a carriage return in front', b'workers 2\r\nquota 6\r\nlimit 100\r\n' + TINY, 'line 1: ' + RETURN),
+    ('a byte order mark in front', b'\xef\xbb\xbf' + ROUNDS + TINY, 'line 1: ' + MARK),
+    ('a carriage return behind the front', ROUNDS + b'thread 0\nend\r\n', 'line 5: ' + RETURN),
     ('order before quota', b'workers 2\norder 0\n', 'line 2: expected quota or between'),
     ('neither order nor limit', b'workers 2\nquota 6\n' + TINY, 'line 3: expected order or limit'),
     ('no memory', b'workers 2\nbetween 1', 'line 3: expected memory'),

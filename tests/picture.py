@@ -3,7 +3,8 @@
 usage: python3 tests/picture.py [COUNT]    (from the repository's top; COUNT random runs beside E and the longest listing, default 60)
 
 A picture is read as a reader does: columns by the turns' numbers under them, rows by the workers' names, amounts by the axis; nothing is taken from
-the tool's code. Damaged pictures and traces must be found out, and damaged listings refused with their line.
+the tool's code. Damaged pictures and traces must be found out, and damaged listings refused with their line. A K other than the run's is refused at
+the line where the run with that K goes another way, as far as the listing has the amount that decides it.
 """
 import collections
 import json
@@ -339,7 +340,7 @@ def long_run():
 
 
 def random_run(rng):
-    """A listing, its p and K: few turns or many, in rounds or not."""
+    """A listing, its p and K, order and table: few turns or many, in rounds or not."""
     threads = rng.randint(1, rng.choice([3, 12, 60]))
     data = drawn(rng, threads, rng.randint(threads, 8 * threads + 20), rng.choice([[1], [2, 6], [9], [16777215]]))
     p, quota = rng.choice([1, 2, 3, rng.randint(1, 16), 16]), rng.choice([9, 12, 20, 16777215])
@@ -348,7 +349,55 @@ def random_run(rng):
     if order and rng.random() < 0.1:
         order = order[:-1] + b'\xff'
     text = listed(p, quota, order, data)
-    return (text, p, quota) if text.startswith('table') else random_run(rng)
+    return (text, p, quota, order, data) if text.startswith('table') else random_run(rng)
+
+
+# Other numbers than the run's
+
+def compare_rule(text, p, quota):
+    """The least b as text: the rule is kept with it and with none below."""
+    listing = Listing(text)
+    least = int(re.fullmatch(r'least b ([0-9]+)\n', made(text, '--rule'))[1])
+    expect('the least b', (listing.keeps(least), least == 1 or not listing.keeps(least - 1)), (True, True))
+    bound = listing.serial + least * quota * (p - 1) * (listing.depth - 1)
+    expect('the rule with p and K', made(text, '--rule', '-p', p, '-K', quota), 'least b %d bound %d peak %d\n' % (least, bound, listing.peak))
+
+
+def parting(text, p, other, order, data):
+    """The line at which the run with another K leaves this listing, 0 where it is the same, None where the listing does not have the amount."""
+    again = listed(p, other, order, data)
+    if again == text:
+        return 0
+    mine, rows = text.splitlines(), again.splitlines()
+    number = next((i for i, (a, b) in enumerate(zip(mine, rows)) if a != b), None) if again.startswith('table') else None
+    if number is None:  # an alloc above that K, which no turn has reached
+        return next((i for i, row in enumerate(mine) if row.split()[4:5] == ['alloc'] and too_much(mine, i, other)), None)
+    _, _, thread, action, name, _ = mine[number].split()
+    done = any(row.split()[2:5] == [thread, action, 'alloc'] for row in mine)
+    return number + 1 if name == 'alloc' or done else None
+
+
+def too_much(rows, i, quota):
+    """Whether the alloc of row i is above the quota by itself."""
+    before = int(rows[i - 1].split()[-1]) if i > 1 else 0
+    return int(rows[i].split()[-1]) - before > quota
+
+
+def other_quotas(rng, text, p, quota, order, data):
+    """How many other K the tool was asked with, and how many of these it refused."""
+    asked = refused = 0
+    for other in {quota - 1, quota + 1, rng.randint(1, 60)} - {0, quota, 16777216}:
+        line = parting(text, p, other, order, data)
+        status, out, said = run_tool(text, '-K', other, '--rule')
+        if line == 0:
+            expect('K %d, which the listing allows' % other, (status, said), (0, ''))
+        elif line is not None and listed(p, other, order, data).startswith('table'):
+            wanted = 1, '', 1, True
+            expect('K %d' % other, (status, out, said.count('\n'), said.startswith('picture: line %d of the listing contradicts K' % line)), wanted)
+        elif line is not None:
+            expect('K %d below an alloc' % other, (status, out, 'contradicts K' in said), (1, '', True))
+        asked, refused = asked + 1, refused + status
+    return asked, refused
 
 
 # What must be found out
@@ -429,15 +478,24 @@ def main():
     both(e, None, 2)
     both(e.replace('\n', '\r\n'), None, 2)
     both(*long_run())
+    compare_rule(e, 2, 6)
+    expect("E's rule", made(e, '--rule', '-p', 2, '-K', 6), 'least b 1 bound 48 peak 12\n')
+    compare_rule(*stopped_run()[:1], 2, 6)
     rng = random.Random(20261115)
-    shown = collections.Counter()
+    shown, asked, refused = collections.Counter(), 0, 0
     for _ in range(count):
-        text, p, quota = random_run(rng)
+        text, p, quota, order, data = random_run(rng)
+        compare_rule(text, p, quota)
+        more = other_quotas(rng, text, p, quota, order, data)
+        asked, refused = asked + more[0], refused + more[1]
         given = (p, quota, rng.choice([1, 1, 2, 5])) if rng.random() < 0.7 else None
         rows = p if given else max([int(row.split()[1]) + 1 for row in text.splitlines()[1:-1]], default=1)
         both(text, given, rows)
         shown.update(row.split()[-2] for row in text.splitlines()[1:-1])
     print('%d random runs, %d turns: %s' % (count, sum(shown.values()), ', '.join('%s %d' % pair for pair in sorted(shown.items()))))
+    if count >= 60:
+        expect('other K, refused and not', (refused > 0, asked > refused), (True, True))
+    print('%d other quotas asked with, %d contradicted' % (asked, refused))
     print('%d damages found out, %d listings refused' % (damages((e, (2, 6, 1), 2), stopped_run()), refusals(e)))
 
 

@@ -43,6 +43,15 @@ def said(words):
     return ('thread' if word == b'thread' else KINDS.index(word), number(rest[0]))
 
 
+def fault(place, raw, expected):
+    """What is said of a line: a byte that an editor may not show, or what was expected there."""
+    if raw.startswith(b'\xef\xbb\xbf'):
+        return 'line %d: a byte order mark; a text begins without one' % place
+    if b'\r' in raw.split(b'#')[0]:
+        return 'line %d: a carriage return; lines end with a newline alone' % place
+    return 'line %d: expected %s' % (place, expected)
+
+
 def assemble(text):
     if len(text) > LONGEST:
         return None, 'text above 262144 bytes'
@@ -52,14 +61,14 @@ def assemble(text):
         if what is None:
             continue
         if isinstance(what, str):
-            return None, 'line %d: expected %s' % (place, what)
+            return None, fault(place, raw, what)
         if what[0] == 'thread':
             if what[1] != len(bodies):
-                return None, 'line %d: expected thread %d' % (place, len(bodies))
+                return None, fault(place, raw, 'thread %d' % len(bodies))
             bodies.append([])
             threads.append(place)
         elif not bodies:
-            return None, 'line %d: expected thread 0' % place
+            return None, fault(place, raw, 'thread 0')
         else:
             bodies[-1].append(what)
             actions.append(place)
@@ -80,7 +89,7 @@ def disassemble(data):
     t, out = Table(data), []
     for i, (first, count) in enumerate(t.contents):
         out.append(b'thread %d' % i)
-        out += [KINDS[k] + (b' %d' % x if k > 1 else b'') for k, x in t.actions[first:first + count]]
+        out += [KINDS[k] + (b' %d' % x if k > 1 else b'') + b' # action %d' % (first + j) for j, (k, x) in enumerate(t.actions[first:first + count])]
     return b'\n'.join(out) + b'\n', None
 
 
@@ -131,7 +140,8 @@ def assemble_input(text):
         lines.pop()
     found = front(lines)
     if isinstance(found[1], str):
-        return None, 'line %d: expected %s' % found
+        place, expected = found
+        return None, fault(place, (lines + [b''])[place - 1], expected)
     # the front's lines are made blank, so that the table's keep their numbers
     out, passed = found
     table, message = assemble(b'\n' * passed + b'\n'.join(lines[passed:]))

@@ -1,9 +1,11 @@
 """A picture of a run: reads what `turnlist` prints and writes an SVG, with a row for each worker, a column for each turn, and memory held as a
 curve below. Or the same run as trace events (Chrome's JSON format), for a trace viewer.
 
-usage: python3 tools/picture.py [LISTING] [-p P] [-K K] [-b B] [--trace]     (the picture or the trace goes to standard output)
+usage: python3 tools/picture.py [LISTING] [-p P] [-K K] [-b B] [--trace | --rule]     (what it makes goes to standard output)
     LISTING: a file; without it, standard input. With all of p, K and b there is a line for the bound S1 + b·K·(p − 1)·(D − 1); with p alone, a
-    row for each of the p workers. A listing that is not understood: one line on standard error, naming the listing's line, and exit status 1.
+    row for each of the p workers. --rule writes one line of text in place of the picture: `least b 1`, the least b whose rule the turns keep,
+    and with p and K `least b 1 bound 48 peak 12`. A listing that is not understood, or that cannot be one of a run with this p and K: one line
+    on standard error, naming the listing's line, and exit status 1.
 
 The picture. A turn is a cell: filled where its action was done, hatched at a quota turn, hollow at a wait, a dash where the worker is idle. A pale
 bar from one cell to the next is a worker that holds its thread between two turns. The colour is the thread's number modulo 8; the number itself
@@ -32,6 +34,13 @@ class NotUnderstood(Exception):
     def __init__(self, number, expected, line=None):
         found = 'the listing ends' if line is None else 'found %s' % ascii(line[:60])
         super().__init__('line %d of the listing is not understood: expected %s, %s' % (number, expected, found))
+
+
+class Contradicts(Exception):
+    """A turn that no run with the p or K given has, and why."""
+
+    def __init__(self, turn, name, value, why):
+        super().__init__('line %d of the listing contradicts %s %d: %s, found %s' % (turn.number + 1, name, value, why, ascii(turn.line)))
 
 
 def pattern(text):
@@ -116,6 +125,39 @@ def read_listing(text):
     raise NotUnderstood(len(lines) + 1, 'a turn, or done, open or refused')
 
 
+def check_workers(run, p):
+    """That no turn is one of a worker from p on."""
+    for turn in run.turns:
+        if turn.worker >= p:
+            raise Contradicts(turn, 'p', p, 'workers are below p')
+
+
+def alloc_amounts(run):
+    """The amount of each alloc that was done, by its action."""
+    before, amounts = 0, {}
+    for turn in run.turns:
+        if turn.name == 'alloc':
+            amounts[turn.action] = turn.held - before
+        before = turn.held
+    return amounts
+
+
+def check_quota(run, quota):
+    """That a worker draws at most K on a thread that it holds, and that a quota turn wanted more than was left of K, where the amount is known: the
+    alloc is done later in the listing."""
+    amounts, drawn = alloc_amounts(run), {}
+    for turn in run.turns:
+        had = drawn.get(turn.worker, 0)
+        if turn.name == 'alloc':
+            had = drawn[turn.worker] = had + amounts[turn.action]
+            if had > quota:
+                raise Contradicts(turn, 'K', quota, 'worker %d has drawn %d on its thread' % (turn.worker, had))
+        if turn.name == 'quota' and turn.action in amounts and had + amounts[turn.action] <= quota:
+            raise Contradicts(turn, 'K', quota, '%d after %d is within it' % (amounts[turn.action], had))
+        if turn.name in LETS_GO:
+            drawn.pop(turn.worker, None)
+
+
 # What a run shows besides its lines
 
 def least_b(turns):
@@ -128,6 +170,14 @@ def least_b(turns):
                 most = max(most, counts[turn.worker])
         since[turn.worker] = collections.Counter()
     return most
+
+
+def rule(run, p, quota):
+    """The least b as a line of text; with p and K the bound that it gives, and the peak."""
+    least = least_b(run.turns)
+    if not (p and quota):
+        return 'least b %d\n' % least
+    return 'least b %d bound %d peak %d\n' % (least, Bound(run, p, quota, least).amount, max([turn.held for turn in run.turns], default=0))
 
 
 def stretches(turns):
@@ -502,8 +552,13 @@ def arguments():
     parser.add_argument('-p', type=in_range(1, WORKERS), help='workers')
     parser.add_argument('-K', type=in_range(1, LARGEST_QUOTA), help='quota')
     parser.add_argument('-b', type=in_range(1, 65535), help='turns that one worker may have between two of another')
-    parser.add_argument('--trace', action='store_true', help='trace events in place of the picture')
-    return parser.parse_args()
+    made = parser.add_mutually_exclusive_group()
+    made.add_argument('--trace', action='store_true', help='trace events in place of the picture')
+    made.add_argument('--rule', action='store_true', help='one line of text: the least b whose rule the turns keep')
+    given = parser.parse_args()
+    if given.rule and given.b:
+        parser.error('--rule finds b: it takes no -b')
+    return given
 
 
 def main():
@@ -511,12 +566,16 @@ def main():
     try:
         data = open(given.listing, 'rb').read() if given.listing else sys.stdin.buffer.read()
         run = read_listing(data.decode('ascii', 'replace'))
-        rows = max([turn.worker + 1 for turn in run.turns], default=1)
-        if given.p and given.p < rows:
-            raise NotUnderstood(1 + next(turn.number for turn in run.turns if turn.worker >= given.p), 'a worker below p, which is %d' % given.p,
-                                next(turn.line for turn in run.turns if turn.worker >= given.p))
-    except (NotUnderstood, OSError) as fault:
+        if given.p:
+            check_workers(run, given.p)
+        if given.K:
+            check_quota(run, given.K)
+    except (NotUnderstood, Contradicts, OSError) as fault:
         raise SystemExit('picture: %s' % fault)
+    if given.rule:
+        sys.stdout.write(rule(run, given.p, given.K))
+        return
+    rows = max([turn.worker + 1 for turn in run.turns], default=1)
     bound = Bound(run, given.p, given.K, given.b) if given.p and given.K and given.b else None
     made = trace if given.trace else picture
     sys.stdout.buffer.write(made(run, given.p or rows, bound).encode())

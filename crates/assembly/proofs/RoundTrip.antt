@@ -1,6 +1,6 @@
 -- Assembling what was disassembled gives the table back, for every accepted table.
-use Prim.Native.Nat.{ℕ, zero, suc, _+_, _-_, _*_, _≤_, _<_}
-use native.Mathlib.Nat.{add-assoc}
+use Prim.Native.Nat.{ℕ, zero, suc, _+_, _-_, _*_, _%_, _≤_, _<_}
+use native.Mathlib.Nat.{add-assoc, mod-eq-of-lt}
 use native.Mathlib.Omega.{arith}
 use mathlib.Core.Path.{_≡_, refl, sym, ap, _∙_}
 use mathlib.Core.List.{List, [], _∷_, _++_, append-nil, flatten}
@@ -22,7 +22,7 @@ use Rattle.text.proofs.Putting.{flatten-append}
 use Rattle.assembly.specs.Words.{parts, noNumber}
 use Rattle.assembly.specs.Said.{saids}
 use Rattle.assembly.specs.Assembly.{checkedFrom, pairRow, actionRow, entriesFrom, actionsIn, tableBytes, over, longestText, assembled, assembledIn}
-use Rattle.assembly.specs.Disassembly.{threadTexts, operandTexts, actionTexts, bodyTexts, threadsTexts, textOf}
+use Rattle.assembly.specs.Disassembly.{threadTexts, operandTexts, actionTexts, numberTexts, lineTexts, bodyTexts, threadsTexts, textOf}
 use Rattle.assembly.specs.declared.Assembled.the-variants.{Written}
 use Rattle.assembly.specs.declared.Said.the-variants.{Thread, Action}
 use Rattle.assembly.specs.declared.check.Checked.the-variants.{WellFormed}
@@ -43,12 +43,11 @@ bare-zero unknown own n x e = tt
 
 -- ---- how long the text is
 
-operand-length : (w : List ℕ) (x : ℕ) → length w ≤ 7 → x < noNumber → length (flatten (operandTexts w x)) ≤ 16
+operand-length : (w : List ℕ) (x : ℕ) → length w ≤ 6 → x < noNumber → length (flatten (operandTexts w x)) ≤ 14
 unfolding flatten
-operand-length w x h l =
-    omega (arith, length-append w (decimal x ++ (newline ++ [])), length-append (decimal x) (newline ++ []), decimal-length 7 x (omega arith))
+operand-length w x h l = omega (arith, length-append w (decimal x ++ []), length-append (decimal x) [], decimal-length 7 x (omega arith))
 
-action-length : (k : Kind) (x : ℕ) → x < noNumber → length (flatten (actionTexts k x)) ≤ 16
+action-length : (k : Kind) (x : ℕ) → x < noNumber → length (flatten (actionTexts k x)) ≤ 14
 unfolding actionTexts flatten
 action-length end x h = omega arith
 action-length work x h = omega arith
@@ -57,6 +56,11 @@ action-length free x h = operand-length (ascii "free ") x (omega arith) h
 action-length fork x h = operand-length (ascii "fork ") x (omega arith) h
 action-length join x h = operand-length (ascii "join ") x (omega arith) h
 action-length unknown x h = omega arith
+
+-- a word, a number of at most 4 digits, a newline
+numbered-length : (w : List ℕ) (x : ℕ) → x < 10000 → length (flatten (w ∷ decimal x ∷ newline ∷ [])) ≤ length w + 5
+unfolding flatten
+numbered-length w x h = omega (arith, length-append w (decimal x ++ (newline ++ [])), length-append (decimal x) (newline ++ []), decimal-length 3 x (omega arith))
 
 -- ---- an accepted table
 
@@ -73,7 +77,13 @@ module _ (s : List ℕ) (bytes : Bytes s) (z : Shape s) where
   -- the table's fields by the bytes
   argument-in : (a : ℕ) → u24At s (4 + 4 * n + 4 * a + 1) ≡ T .argument a
   unfolding tableOf
-  argument-in a = simp (getD-drop, add-assoc)
+  argument-in a =
+      let i : ℕ = 4 + 4 * n + 4 * a + 1 in
+      let small : u24At s i < 16777216 = omega (arith, bytes i, bytes (i + 1), bytes (i + 2)) in
+      sym (mod-eq-of-lt small) ∙ cut a
+    where
+      cut : (a : ℕ) → u24At s (4 + 4 * n + 4 * a + 1) % 16777216 ≡ T .argument a
+      cut a = simp (getD-drop, add-assoc)
 
   argument-small : (a : ℕ) → T .argument a < noNumber
   argument-small a =
@@ -93,10 +103,10 @@ module _ (s : List ℕ) (bytes : Bytes s) (z : Shape s) where
   unfolding bodyTexts bodySaids flatten
   body-says a zero h t = says-none t
   body-says a (suc k) h t =
-      rw (flatten-append (bodyTexts T a k) (actionTexts (kindOf (T .code (a + k))) (T .argument (a + k))))
-      (says-both (flatten (bodyTexts T a k)) (flatten (actionTexts (kindOf (T .code (a + k))) (T .argument (a + k)))) (bodySaids T a k) (Action (T .code (a + k)) (T .argument (a + k)) ∷ [])
+      rw (flatten-append (bodyTexts T a k) (lineTexts T (a + k)))
+      (says-both (flatten (bodyTexts T a k)) (flatten (lineTexts T (a + k))) (bodySaids T a k) (Action (T .code (a + k)) (T .argument (a + k)) ∷ [])
       (body-says a k (omega arith))
-      (action-says (T .code (a + k)) (T .argument (a + k)) (argument-small (a + k)) (known (a + k) (omega arith)) (bare (a + k) (omega arith)))
+      (action-says (T .code (a + k)) (T .argument (a + k)) (a + k) (argument-small (a + k)) (omega (arith, z .actions)) (known (a + k) (omega arith)) (bare (a + k) (omega arith)))
       t)
 
   within : (t : ℕ) → t < n → T .first t + T .count t ≤ m
@@ -120,14 +130,20 @@ module _ (s : List ℕ) (bytes : Bytes s) (z : Shape s) where
   text-says = ap saids (sym (append-nil (flatten (threadsTexts T n)))) ∙ table-says n (omega arith) [] ∙ append-nil (tableSaids T n)
 
   -- its length
-  body-length : (a k : ℕ) → length (flatten (bodyTexts T a k)) ≤ 16 * k
-  unfolding bodyTexts flatten
-  body-length a zero = omega arith
-  body-length a (suc k) =
-      rw (flatten-append (bodyTexts T a k) (actionTexts (kindOf (T .code (a + k))) (T .argument (a + k))), length-append (flatten (bodyTexts T a k)) (flatten (actionTexts (kindOf (T .code (a + k))) (T .argument (a + k)))))
-      (omega (arith, body-length a k, action-length (kindOf (T .code (a + k))) (T .argument (a + k)) (argument-small (a + k))))
+  line-length : (a : ℕ) → a < m → length (flatten (lineTexts T a)) ≤ 29
+  line-length a h =
+      let x : List (List ℕ) = actionTexts (kindOf (T .code a)) (T .argument a) in
+      rw (flatten-append x (numberTexts a), length-append (flatten x) (flatten (numberTexts a)))
+      (omega (arith, action-length (kindOf (T .code a)) (T .argument a) (argument-small a), numbered-length (ascii " # action ") a (omega (arith, z .actions))))
 
-  threads-length : (k : ℕ) → k ≤ n → length (flatten (threadsTexts T k)) ≤ 16 * k + 16 * sumTo (T .count) k
+  body-length : (a k : ℕ) → a + k ≤ m → length (flatten (bodyTexts T a k)) ≤ 29 * k
+  unfolding bodyTexts flatten
+  body-length a zero h = omega arith
+  body-length a (suc k) h =
+      rw (flatten-append (bodyTexts T a k) (lineTexts T (a + k)), length-append (flatten (bodyTexts T a k)) (flatten (lineTexts T (a + k))))
+      (omega (arith, body-length a k (omega arith), line-length (a + k) (omega arith)))
+
+  threads-length : (k : ℕ) → k ≤ n → length (flatten (threadsTexts T k)) ≤ 12 * k + 29 * sumTo (T .count) k
   unfolding threadsTexts flatten sumTo
   threads-length zero h = omega arith
   threads-length (suc k) h =
@@ -135,7 +151,7 @@ module _ (s : List ℕ) (bytes : Bytes s) (z : Shape s) where
       let y : List ℕ = flatten (threadTexts k) in
       let w : List ℕ = flatten (bodyTexts T (T .first k) (T .count k)) in
       rw (flatten-append (threadsTexts T k) (threadTexts k ++ bodyTexts T (T .first k) (T .count k)), flatten-append (threadTexts k) (bodyTexts T (T .first k) (T .count k)), length-append x (y ++ w), length-append y w)
-      (omega (arith, threads-length k (omega arith), operand-length (ascii "thread ") k (omega arith) (omega (arith, z .threads)), body-length (T .first k) (T .count k)))
+      (omega (arith, threads-length k (omega arith), numbered-length (ascii "thread ") k (omega (arith, z .threads)), body-length (T .first k) (T .count k) (within k (omega arith))))
 
   pub text-length : length (textOf T) ≤ longestText
   unfolding textOf tableOf

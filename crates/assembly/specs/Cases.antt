@@ -1,7 +1,7 @@
 -- Worked cases, computed on the definitions: table E as text and back, and a text with a thread left out.
 use mathlib.Core.Path.{_≡_, refl}
 use Prim.Native.Nat.{ℕ}
-use mathlib.Core.List.{List, flatten}
+use mathlib.Core.List.{List, _++_, flatten}
 use Rattle.table.specs.Format.{codeOf, kindOf, tableOf}
 use Rattle.table.specs.Cases.{E}
 use Rattle.text.specs.Text.{ascii, digitsOf, decimal}
@@ -20,7 +20,14 @@ e-bytes : tableBytes (saids textOfE) ≡ E
 unfolding spanOf parts nonempty valueFrom numberIn same codeOfWord saidBy meaningOf howMany bodyCount entriesFrom actionsIn tableBytes flatten codeOf
 e-bytes = refl
 
-e-text : textOf (tableOf E) ≡ textOfE
+-- as it is written out
+abbrev numberedTextOfE : List ℕ
+numberedTextOfE =
+    ascii "thread 0\nfork 1 # action 0\nfork 2 # action 1\njoin 2 # action 2\njoin 1 # action 3\nend # action 4\n"
+    ++ ascii "thread 1\nalloc 6 # action 5\nwork # action 6\nfree 6 # action 7\nend # action 8\n"
+    ++ ascii "thread 2\nalloc 6 # action 9\nfree 6 # action 10\nend # action 11\n"
+
+e-text : textOf (tableOf E) ≡ numberedTextOfE
 unfolding codeOf kindOf tableOf actionTexts bodyTexts threadsTexts textOf flatten decimal digitsOf
 e-text = refl
 

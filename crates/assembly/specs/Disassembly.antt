@@ -1,4 +1,4 @@
--- The text of a table: each thread's line, and its actions one to a line.
+-- The text of a table: each thread's line, and its actions one to a line, each with its number as a comment.
 use Prim.Native.Nat.{ℕ, zero, suc, _+_}
 use mathlib.Core.List.{List, [], _∷_, _++_, flatten}
 use lib.ListN.{length}
@@ -15,23 +15,32 @@ use Rattle.assembly.specs.declared.Disassembled.the-variants.{Listed, Re
 abbrev pub threadTexts : ℕ → List (List ℕ)
 threadTexts t = ascii "thread " ∷ decimal t ∷ newline ∷ []
 
+-- "alloc 6"
 abbrev pub operandTexts : List ℕ → ℕ → List (List ℕ)
-operandTexts word x = word ∷ decimal x ∷ newline ∷ []
+operandTexts word x = word ∷ decimal x ∷ []
 
--- "alloc 6"; `end` and `work` have no number, and no kind has no text
+-- an action's words: `end` and `work` have no number, and no kind has no text
 unfoldable pub actionTexts : Kind → ℕ → List (List ℕ)
-actionTexts end x = ascii "end\n" ∷ []
-actionTexts work x = ascii "work\n" ∷ []
+actionTexts end x = ascii "end" ∷ []
+actionTexts work x = ascii "work" ∷ []
 actionTexts alloc x = operandTexts (ascii "alloc ") x
 actionTexts free x = operandTexts (ascii "free ") x
 actionTexts fork x = operandTexts (ascii "fork ") x
 actionTexts join x = operandTexts (ascii "join ") x
 actionTexts unknown x = []
 
+-- a comment with the action's number, by which refusals and replies name it, and the line's end
+abbrev pub numberTexts : ℕ → List (List ℕ)
+numberTexts a = ascii " # action " ∷ decimal a ∷ newline ∷ []
+
+-- "alloc 6 # action 5"
+abbrev pub lineTexts : Table → ℕ → List (List ℕ)
+lineTexts T a = actionTexts (kindOf (T .code a)) (T .argument a) ++ numberTexts a
+
 -- k actions from a on
 unfoldable pub bodyTexts : Table → ℕ → ℕ → List (List ℕ)
 bodyTexts T a zero = []
-bodyTexts T a (suc k) = bodyTexts T a k ++ actionTexts (kindOf (T .code (a + k))) (T .argument (a + k))
+bodyTexts T a (suc k) = bodyTexts T a k ++ lineTexts T (a + k)
 
 -- a thread's line and its body
 abbrev pub wholeTexts : Table → ℕ → List (List ℕ)

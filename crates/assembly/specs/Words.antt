@@ -8,7 +8,7 @@ use lib.ListN.{length, getD, take, drop}
 use Rattle.table.specs.Sum.{pick}
 use Rattle.text.specs.Text.{ascii}
 use Rattle.assembly.specs.declared.scan.Class.{Class}
-use Rattle.assembly.specs.declared.scan.Class.the-variants.{Line, Plain, Blank, Word}
+use Rattle.assembly.specs.declared.scan.Class.the-variants.{Line, Plain, Blank, Word, Shown}
 
 -- ---- classes of bytes
 
@@ -23,12 +23,17 @@ isMark b = eqb b 35
 abbrev pub isBlank : ℕ → Bool
 isBlank b = eqb b 32 || eqb b 9
 
--- what a line goes on with, what stands before a comment, what is between words, what a word goes on with
+-- a carriage return
+abbrev pub isReturn : ℕ → Bool
+isReturn b = eqb b 13
+
+-- what a line goes on with, what stands before a comment, what is between words, what a word goes on with, what stands before a carriage return
 abbrev pub inClass : Class → ℕ → Bool
 inClass Line b = not (isNewline b)
 inClass Plain b = not (isMark b)
 inClass Blank b = isBlank b
 inClass Word b = not (isBlank b)
+inClass Shown b = not (isReturn b)
 
 -- how many bytes a list begins with that pass a test
 unfoldable pub spanOf : (ℕ → Bool) → List ℕ → ℕ

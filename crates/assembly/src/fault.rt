@@ -1,6 +1,8 @@
 // What is said of a text that gives no table, put into a lent buffer.
 use crate::Assembled;
 use crate::Expected;
+use crate::unseen::Unseen;
+use crate::unseen::unseen_at;
 use text::put_labelled;
 use text::put_word;
 ghost use mathlib.Core.Path.{_≡_};
@@ -10,8 +12,8 @@ ghost use Rattle.io.specs.Counts.{Counts};
 ghost use Rattle.table.specs.Pass.{refusal};
 ghost use Rattle.text.specs.Text.{ascii, decimal};
 ghost use Rattle.text.specs.Puts.{Puts};
-ghost use Rattle.assembly.specs.declared.Assembled.the-variants.{Malformed, Refused};
-ghost use Rattle.assembly.specs.Message.{expectedTexts, lineTexts, messageTexts, messageOf};
+ghost use Rattle.assembly.specs.Message.{expectedTexts, unseenTexts, reasonTexts, faultTexts, lineTexts, refusedTexts, messageTexts, messageOf};
+ghost use Rattle.assembly.specs.Unseen.{unseenAt};
 
 // The next thread by its number.
 fn put_next(out: &mut [u8], at: usize, t: usize) -> usize
@@ -31,12 +33,44 @@ fn put_expected(out: &mut [u8], at: usize, e: Expected) -> usize
     }
 }
 
-fn put_malformed(out: &mut [u8], line: usize, e: Expected) -> usize
-    ensures { λ r. ⌜ Puts (now (out .entry)) 0 (now (out .exit)) r (messageTexts (Malformed line e)) 96 ⌝ }
+// What an editor may not show.
+pub fn put_unseen(out: &mut [u8], at: usize, unseen: Unseen) -> usize
+    ensures { λ r. ⌜ Puts (now (out .entry)) at (now (out .exit)) r (unseenTexts unseen) 55 ⌝ }
+{
+    match unseen {
+        Unseen::Nothing => at,
+        Unseen::Return => put_word(
+            out,
+            at,
+            b": a carriage return; lines end with a newline alone",
+        ),
+        Unseen::Mark => put_word(out, at, b": a byte order mark; a text begins without one"),
+    }
+}
+
+// What was expected.
+fn put_plain(out: &mut [u8], at: usize, e: Expected) -> usize
+    ensures { λ r. ⌜ Puts (now (out .entry)) at (now (out .exit)) r ((ascii ": expected " ∷ []) ++ expectedTexts e) 55 ⌝ }
+{
+    let at = put_word(out, at, b": expected ");
+    put_expected(out, at, e)
+}
+
+fn put_reason(out: &mut [u8], at: usize, unseen: Unseen, e: Expected) -> usize
+    ensures { λ r. ⌜ Puts (now (out .entry)) at (now (out .exit)) r (reasonTexts unseen (expectedTexts e)) 55 ⌝ }
+{
+    match unseen {
+        Unseen::Nothing => put_plain(out, at, e),
+        Unseen::Return => put_unseen(out, at, unseen),
+        Unseen::Mark => put_unseen(out, at, unseen),
+    }
+}
+
+fn put_malformed(text: &[u8], out: &mut [u8], line: usize, e: Expected) -> usize
+    ensures { λ r. ⌜ Puts (now (out .entry)) 0 (now (out .exit)) r (faultTexts line (unseenAt (now (text .entry)) line) (expectedTexts e)) 96 ⌝ }
 {
     let at = put_labelled(out, 0, b"line ", line as u64);
-    let at = put_word(out, at, b": expected ");
-    let at = put_expected(out, at, e);
+    let at = put_reason(out, at, unseen_at(text, line), e);
     put_word(out, at, b"\n")
 }
 
@@ -52,7 +86,7 @@ fn put_line(out: &mut [u8], at: usize, line: usize) -> usize
 }
 
 fn put_refused(out: &mut [u8], number: u8, place: u16, line: usize) -> usize
-    ensures { λ r. ⌜ Puts (now (out .entry)) 0 (now (out .exit)) r (messageTexts (Refused (refusal number place) line)) 96 ⌝ }
+    ensures { λ r. ⌜ Puts (now (out .entry)) 0 (now (out .exit)) r (refusedTexts (refusal number place) line) 96 ⌝ }
 {
     let at = put_labelled(out, 0, b"refused ", number as u64);
     let at = put_labelled(out, at, b" ", place as u64);
@@ -60,22 +94,22 @@ fn put_refused(out: &mut [u8], number: u8, place: u16, line: usize) -> usize
     put_word(out, at, b"\n")
 }
 
-fn put_message(out: &mut [u8], answer: Assembled) -> usize
-    ensures { λ r. ⌜ Puts (now (out .entry)) 0 (now (out .exit)) r (messageTexts answer) 96 ⌝ }
+fn put_message(text: &[u8], out: &mut [u8], answer: Assembled) -> usize
+    ensures { λ r. ⌜ Puts (now (out .entry)) 0 (now (out .exit)) r (messageTexts (now (text .entry)) answer) 96 ⌝ }
 {
     match answer {
         Assembled::Written(_) => 0,
         Assembled::TooLong => put_word(out, 0, b"text above 262144 bytes\n"),
-        Assembled::Malformed(line, e) => put_malformed(out, line, e),
+        Assembled::Malformed(line, e) => put_malformed(text, out, line, e),
         Assembled::Refused(r, line) => put_refused(out, r.number, r.place, line),
     }
 }
 
-// The line, and its length; none where there is a table.
-pub fn message(answer: Assembled, out: &mut [u8; 96]) -> usize
-    ensures { λ r. ⌜ r ≡ length (messageOf answer) ⌝ }
-    ensures { λ r. ⌜ now (out .exit) ≡ messageOf answer ++ drop r (now (out .entry)) ⌝ }
+// The line that is said of a text with this answer, and its length; none where there is a table.
+pub fn message(text: &[u8], answer: Assembled, out: &mut [u8; 96]) -> usize
+    ensures { λ r. ⌜ r ≡ length (messageOf (now (text .entry)) answer) ⌝ }
+    ensures { λ r. ⌜ now (out .exit) ≡ messageOf (now (text .entry)) answer ++ drop r (now (out .entry)) ⌝ }
     ensures { λ r. ⌜ Counts r (now (out .exit)) ⌝ }
 {
-    put_message(out, answer)
+    put_message(text, out, answer)
 }

@@ -6,11 +6,13 @@ mod listing;
 mod place;
 mod rows;
 pub mod scan;
+pub mod unseen;
 pub mod word;
 
 use check::Checked;
 use check::check;
 pub use fault::message;
+pub use fault::put_unseen;
 use listing::put_threads;
 use place::refused_at;
 use rows::put_table;
@@ -113,8 +115,8 @@ fn write_table(text: &[u8], n: usize, m: usize, out: &mut [u8]) -> Assembled
 }
 
 // The text of a table, one action to a line, at the start of the buffer, which is as it was where the table is refused. No text is longer than the buffer: 12 bytes for each of 1,024
-// threads and 15 for each of 8,192 actions.
-pub fn disassemble(bytes: &[u8], out: &mut [u8; 135168]) -> Disassembled
+// threads and 31 for each of 8,192 actions.
+pub fn disassemble(bytes: &[u8], out: &mut [u8; 266240]) -> Disassembled
     ensures { λ r. ⌜ r ≡ disassembled (now (bytes .entry)) ⌝ }
     ensures { λ r. ⌜ now (out .exit) ≡ disassembledIn (now (bytes .entry)) (now (out .entry)) ⌝ }
 {

@@ -2,12 +2,13 @@
 ghost use mathlib.Core.Path.{_≡_};
 ghost use Rattle.assembly.specs.Words.{inClass, Spans};
 
-// What a line goes on with, what stands before a comment, what is between words, what a word goes on with.
+// What a line goes on with, what stands before a comment, what is between words, what a word goes on with, what stands before a carriage return.
 pub enum Class {
     Line,
     Plain,
     Blank,
     Word,
+    Shown,
 }
 
 fn in_class(class: Class, b: u8) -> bool
@@ -18,6 +19,7 @@ fn in_class(class: Class, b: u8) -> bool
         Class::Plain => b != b'#',
         Class::Blank => b == b' ' || b == b'\t',
         Class::Word => b != b' ' && b != b'\t',
+        Class::Shown => b != b'\r',
     }
 }
 

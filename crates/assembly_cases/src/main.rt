@@ -58,7 +58,7 @@ fn answer_table(buffer: &mut [u8]) {
         return;
     }
     let mut line = [0u8; 96];
-    let k = assembly::message(answer, &mut line);
+    let k = assembly::message(&buffer[..n], answer, &mut line);
     io::write_all(STDOUT_FILENO, &line[..k]);
 }
 
@@ -73,7 +73,7 @@ fn answer_input(buffer: &mut [u8]) {
         return;
     }
     let mut line = [0u8; 96];
-    let k = inputs::message(answer, &mut line);
+    let k = inputs::message(&buffer[..n], answer, &mut line);
     io::write_all(STDOUT_FILENO, &line[..k]);
 }
 

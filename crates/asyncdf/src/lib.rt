@@ -1,14 +1,13 @@
-// AsyncDF runs: beginning, a single turn, runs over a list of workers and in rounds, and the lines of a listing and of a chart. Every call is total, and what it answers equals a
-// definition of crates/schedule, or of crates/chart.
+// AsyncDF runs by value: beginning, a single turn, runs over a list of workers and in rounds. Every call is total, and what it answers equals a definition of crates/schedule. A turn and a run
+// pack the record into the blocks of crates/run_memory, take their turns there, and read it back.
 use crate::beginning::blank;
 use crate::beginning::start;
-use crate::runs::drive;
-use crate::runs::stopped;
-use crate::turns::put_turns;
-use chart::MOST_TURNS;
-use chart::put_line;
-use lent::passed_over;
-use lines::put_refused;
+use run_memory::packing::pack;
+use run_memory::packing::unpack;
+use run_memory::runs::Stop;
+use run_memory::runs::list_in;
+use run_memory::runs::rounds_in;
+use run_memory::turn_in;
 use schedule::Beginning;
 use schedule::Begun;
 use schedule::Ran;
@@ -16,17 +15,16 @@ use schedule::Report;
 use schedule::Run;
 use schedule::Turned;
 use schedule::Turning;
-use schedule::statuses::ENDED;
 use soundness::accept;
 use soundness::test;
 use table::Found;
 use table::Refusal;
 ghost use mathlib.Core.Path.{_≡_};
-ghost use Prim.Native.Nat.{_+_, _*_};
+ghost use Prim.Native.Nat.{_<_};
 ghost use lib.Count.{ones};
-ghost use lib.ListN.{length};
 ghost use Rattle.table.specs.Pass.{refusal};
 ghost use Rattle.schedule.specs.declared.Turning.the-variants.{Refused};
+ghost use Rattle.schedule.specs.declared.Report.the-variants.{Refused as Stopped};
 ghost use Rattle.schedule.specs.Answers.{beginningValues, turningValues, reportValues};
 ghost use Rattle.schedule.specs.Values.{beginValues, turnValues, listValues, roundsValues};
 ghost use Rattle.schedule.specs.Begin.{begin as beginOf};
@@ -35,16 +33,10 @@ ghost use Rattle.schedule.specs.Record.{stateOf};
 ghost use Rattle.schedule.specs.Sound.{Steady};
 ghost use Rattle.order.specs.Words.{countBelow};
 ghost use Rattle.schedule.specs.Turn.{turned as turnedOf};
-ghost use Rattle.schedule.specs.Listing.{listTurns};
-ghost use Rattle.schedule.specs.Runs.{listRun, roundsRun};
-ghost use Rattle.lines.specs.Lines.{textsOf};
-ghost use Rattle.text.specs.Puts.{Puts};
-ghost use Rattle.chart.specs.Turns.{chartTurns};
+ghost use Rattle.schedule.specs.Runs.{ran, listRun, roundsRun};
+ghost use Rattle.run_memory.specs.Runs.{reportOf};
 
 mod beginning;
-mod packing;
-mod runs;
-mod turns;
 
 // Beginning from a table's bytes, p and K: the table's own checks, then 20 to 22.
 pub fn begin(bytes: &[u8], p: u8, quota: u32) -> Begun
@@ -84,24 +76,71 @@ pub fn turn(run: Run, w: u8) -> Turned
     if !tested.passed {
         return refused(32, run);
     }
-    if run.workers <= w {
-        return refused(30, run);
-    }
-    let status = run.status;
-    if status[0] == ENDED {
-        return refused(31, run);
-    }
     let parents = tested.parents;
-    let workers = run.worker;
-    let right = run.right;
-    let passed = passed_over(workers[w as usize], &status, &right, run.leftmost);
-    let order = [w];
-    let driven = drive(run, &parents, &order, false, 1);
-    let reply = driven.reply;
-    let after = driven.run;
+    let length = run.length as usize;
+    let table = run.table;
+    let table = &table[..length];
+    let mut bytes = [0u8; 1040];
+    let mut words = [0u16; 6163];
+    let mut numbers = [0u32; 18];
+    let mut sums = [0u64; 1027];
+    pack(
+        run,
+        &parents,
+        &mut bytes,
+        &mut words,
+        &mut numbers,
+        &mut sums,
+    );
+    let spoken = turn_in(
+        table,
+        w as u32,
+        true,
+        &mut bytes,
+        &mut words,
+        &mut numbers,
+        &mut sums,
+    );
+    if spoken.number != 0 {
+        return refused(spoken.number as u8, run);
+    }
+    let after = unpack(run, &bytes, &words, &numbers, &sums);
+    let reply = spoken.reply;
     Turned {
-        answer: Turning::Taken(reply, passed),
+        answer: Turning::Taken(reply, spoken.passed),
         run: after,
+    }
+}
+
+// A run that check 32 refuses.
+fn unsound(run: Run) -> Ran
+    ensures { λ r. ⌜ r ≡ ran (Stopped 0 (refusal 32 0)) run ⌝ }
+{
+    Ran {
+        report: Report::Refused(
+            0,
+            Refusal {
+                number: 32,
+                place: 0,
+            },
+        ),
+        run,
+    }
+}
+
+// The report of a run that stopped.
+fn report_of(stop: Stop) -> Report
+    requires { ⌜ stop .number < 256 ⌝ }
+    ensures { λ r. ⌜ r ≡ reportOf (stop .number) (stop .finished) (stop .turns) ⌝ }
+{
+    if stop.number != 0 {
+        let number = stop.number as u8;
+        return Report::Refused(stop.turns, Refusal { number, place: 0 });
+    }
+    if stop.finished {
+        Report::Finished(stop.turns)
+    } else {
+        Report::Spent(stop.turns)
     }
 }
 
@@ -112,23 +151,34 @@ pub fn run_list(run: Run, order: &[u8]) -> Ran
 {
     let tested = test(run);
     if !tested.passed {
-        return Ran {
-            report: stopped(32, 0),
-            run,
-        };
-    }
-    if run.workers == 0 {
-        let report = if order.len() == 0 {
-            Report::Spent(0)
-        } else {
-            stopped(30, 0)
-        };
-        return Ran { report, run };
+        return unsound(run);
     }
     let parents = tested.parents;
-    let driven = drive(run, &parents, order, false, order.len());
-    let report = driven.report;
-    let after = driven.run;
+    let length = run.length as usize;
+    let table = run.table;
+    let table = &table[..length];
+    let mut bytes = [0u8; 1040];
+    let mut words = [0u16; 6163];
+    let mut numbers = [0u32; 18];
+    let mut sums = [0u64; 1027];
+    pack(
+        run,
+        &parents,
+        &mut bytes,
+        &mut words,
+        &mut numbers,
+        &mut sums,
+    );
+    let stop = list_in(
+        table,
+        order,
+        &mut bytes,
+        &mut words,
+        &mut numbers,
+        &mut sums,
+    );
+    let report = report_of(stop);
+    let after = unpack(run, &bytes, &words, &numbers, &sums);
     Ran { report, run: after }
 }
 
@@ -139,53 +189,35 @@ pub fn run_rounds(run: Run, limit: u32) -> Ran
 {
     let tested = test(run);
     if !tested.passed {
-        return Ran {
-            report: stopped(32, 0),
-            run,
-        };
-    }
-    if run.workers == 0 {
-        return Ran {
-            report: stopped(30, 0),
-            run,
-        };
+        return unsound(run);
     }
     let parents = tested.parents;
-    let driven = drive(run, &parents, b"", true, limit as usize);
-    let report = driven.report;
-    let after = driven.run;
+    let length = run.length as usize;
+    let table = run.table;
+    let table = &table[..length];
+    let mut bytes = [0u8; 1040];
+    let mut words = [0u16; 6163];
+    let mut numbers = [0u32; 18];
+    let mut sums = [0u64; 1027];
+    pack(
+        run,
+        &parents,
+        &mut bytes,
+        &mut words,
+        &mut numbers,
+        &mut sums,
+    );
+    let stop = rounds_in(
+        table,
+        limit,
+        &mut bytes,
+        &mut words,
+        &mut numbers,
+        &mut sums,
+    );
+    let report = report_of(stop);
+    let after = unpack(run, &bytes, &words, &numbers, &sums);
     Ran { report, run: after }
-}
-
-// The lines of the turns of an order's workers, up to the root's end, a refusal or the order's end, and the last line. A text that does not fit is left out; 64 bytes for each of the order
-// and 64 more are enough.
-pub fn list_turns(run: Run, order: &[u8], out: &mut [u8], at: usize) -> usize
-    ensures { λ r. ⌜ Puts (now (out .entry)) at (now (out .exit)) r (textsOf (listTurns run (now (order .entry)))) (64 * (length (now (order .entry)) + 1)) ⌝ }
-{
-    let tested = test(run);
-    if !tested.passed {
-        return put_refused(out, at, 32);
-    }
-    let parents = tested.parents;
-    put_turns(false, run, &parents, order, out, at)
-}
-
-// The chart's line of a record and those after each turn of an order's workers, up to the root's end, a refusal or the order's end. A text that does not fit is left out; 85 bytes for
-// each of the order and for two lines more are enough.
-pub fn chart_turns(run: Run, order: &[u8], out: &mut [u8], at: usize) -> usize
-    ensures { λ r. ⌜ Puts (now (out .entry)) at (now (out .exit)) r (chartTurns run (now (order .entry))) (85 * (length (now (order .entry)) + 2)) ⌝ }
-{
-    let tested = test(run);
-    if !tested.passed {
-        return put_refused(out, at, 32);
-    }
-    if MOST_TURNS < run.turns {
-        return put_refused(out, at, 43);
-    }
-    let workers = run.worker;
-    let at = put_line(out, at, run.turns, run.workers, workers, run.held);
-    let parents = tested.parents;
-    put_turns(true, run, &parents, order, out, at)
 }
 
 // The number busy: of a record that is sound, turns taken apart, the workers that hold a thread.

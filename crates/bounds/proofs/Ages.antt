@@ -31,11 +31,20 @@ age-other past v w d = rw (ne-eqb v w d)
 
 -- ---- the length of a stretch from its turns of each worker
 
-countIn-own : (w : ℕ) (l : List ℕ) → countIn w (w ∷ l) ≡ suc (countIn w l)
+pub countIn-nil : (v : ℕ) → countIn v [] ≡ 0
+unfolding countIn
+countIn-nil v = refl
+
+pub countIn-append : (v : ℕ) (a c : List ℕ) → countIn v (a ++ c) ≡ countIn v a + countIn v c
+unfolding countIn
+countIn-append v [] c = omega arith
+countIn-append v (w ∷ a) c = omega (arith, countIn-append v a c)
+
+pub countIn-own : (w : ℕ) (l : List ℕ) → countIn w (w ∷ l) ≡ suc (countIn w l)
 unfolding countIn
 countIn-own w l = rw (eq-eqb w w refl) (omega arith)
 
-countIn-other : (v w : ℕ) (l : List ℕ) → (w ≡ v → ⊥) → countIn v (w ∷ l) ≡ countIn v l
+pub countIn-other : (v w : ℕ) (l : List ℕ) → (w ≡ v → ⊥) → countIn v (w ∷ l) ≡ countIn v l
 unfolding countIn
 countIn-other v w l d = rw (ne-eqb w v d) (omega arith)
 

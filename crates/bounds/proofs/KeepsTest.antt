@@ -100,7 +100,7 @@ keeps-exactly b row = (keeps-rule b row, rule-keeps b row)
 
 -- ---- the two rows
 
--- "bound for b 1 is 6 + 6 × 7 = 48": the limit is worked out in specs/Rule
+-- "bound for b 1 is 6 + 6 × 7 = 48": the limit is worked out in crates/schedule/specs/Rule
 pub E-keeps : Keeps 1 orderE
 unfolding keeps untilNext atMost allIn countIn
 E-keeps = keeps-exactly 1 orderE .0 refl

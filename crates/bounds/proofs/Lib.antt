@@ -1,6 +1,7 @@
 -- the rule with b, batches, what they draw
 pub mod Ages
 pub mod KeepsTest
+pub mod Rounds
 pub mod Enables
 pub mod Counting
 pub mod Batches
@@ -19,4 +20,5 @@ pub mod Finishing
 -- the statements that a reader is sent to
 pub mod Limit
 pub mod ThreadLimit
+pub mod RoundsLimit
 pub mod Most

@@ -350,7 +350,7 @@ fn call_line(run: Run) -> Run {
 fn call_lines(run: Run, buffer: &mut [u8]) -> Run {
     let n = io::read_full(STDIN_FILENO, buffer);
     let mut text = [0u8; 21845];
-    let k = asyncdf::chart_turns(run, &buffer[..n], &mut text, 0);
+    let k = listing::chart_turns(run, &buffer[..n], &mut text, 0);
     say(b"chart\n");
     if 0 < k {
         say_front(&text, k - 1);

@@ -34,6 +34,6 @@ laterLines line turn r (w ∷ order) =
 abbrev pub chartBy : (Run → Charted) → (Run → ℕ → Turned) → Run → List ℕ → List (List ℕ)
 chartBy line turn r order = lineThen (line r) r (laterLines line turn r order)
 
--- on any record whatever: each line, or what stands for it, is what the call on that record gives (32, 43), each turn a single turn (30; "up to the root's end", so that 31 is not met)
+-- on any record whatever: each line, or what stands for it, is what the call on that record gives (32, 43), each turn a single turn (30; it stops at the root's end, so that 31 is not met)
 unfoldable pub chartTurns : Run → List ℕ → List (List ℕ)
 chartTurns r order = chartBy charted turned r order

@@ -15,6 +15,6 @@ fn main() {
         return;
     }
     let mut line = [0u8; 96];
-    let k = inputs::message(answer, &mut line);
+    let k = inputs::message(&text[..n], answer, &mut line);
     io::write_all(STDERR_FILENO, &line[..k]);
 }

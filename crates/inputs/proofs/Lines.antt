@@ -12,7 +12,7 @@ use lib.Seq.{drop-drop}
 use Rattle.assembly.specs.Words.{spanOf, parts, inClass, isNewline, linesOf}
 use Rattle.assembly.specs.declared.scan.Class.the-variants.{Line}
 use Rattle.assembly.proofs.Parts.{parts-first}
-use Rattle.inputs.specs.Front.{afterLine, afterLines}
+use Rattle.assembly.specs.Unseen.{afterLine, afterLines}
 
 pub lines-first : (s : List ℕ) → 0 < length s → linesOf s ≡ take (spanOf (inClass Line) s) s ∷ linesOf (afterLine s)
 lines-first [] h = absurd (omega arith)

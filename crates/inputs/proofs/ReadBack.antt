@@ -16,7 +16,8 @@ use Rattle.assembly.specs.Said.{saids}
 use Rattle.assembly.specs.Assembly.{tableBytes, over, assembled, assembledIn}
 use Rattle.assembly.specs.declared.Assembled.the-variants.{Written}
 use Rattle.inputs.specs.Number.{nextValue, valueFrom, numberIn, figureBy, figureOf}
-use Rattle.inputs.specs.Front.{Front, nothing, workers, quota, between, turns, rounds, board, Step, goes, stops, ends, Order, listed, broken, maxOrder, most8, most24, most32, most64, addedBy, added, onwardOrder, orderFrom, givenTo, orderedTo, stepWith, stepOf, Fronted, whole, fault, atEnd, onward, frontFrom, frontOf, afterLines}
+use Rattle.assembly.specs.Unseen.{afterLines}
+use Rattle.inputs.specs.Front.{Front, nothing, workers, quota, between, turns, rounds, board, Step, goes, stops, ends, Order, listed, broken, maxOrder, most8, most24, most32, most64, addedBy, added, onwardOrder, orderFrom, givenTo, orderedTo, stepWith, stepOf, Fronted, whole, fault, atEnd, onward, frontFrom, frontOf}
 use Rattle.inputs.specs.Input.{frontTexts, inputBytes, made, madeIn}
 use Rattle.inputs.specs.declared.Wanted.the-variants.{FewerWorkers}
 use Rattle.inputs.specs.declared.number.Number.{Number}

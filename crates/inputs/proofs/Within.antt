@@ -9,7 +9,8 @@ use lib.ListN.{length, drop, length-append}
 use Rattle.assembly.specs.Assembly.{over, longestText, assembled}
 use Rattle.assembly.specs.declared.Assembled.{Assembled}
 use Rattle.assembly.specs.declared.Assembled.the-variants.{Written, TooLong, Malformed, Refused}
-use Rattle.inputs.specs.Front.{Front, Fronted, whole, fault, frontOf, afterLines}
+use Rattle.assembly.specs.Unseen.{afterLines}
+use Rattle.inputs.specs.Front.{Front, Fronted, whole, fault, frontOf}
 use Rattle.inputs.specs.Input.{inputBytes, withTable, madeBy, made, madeIn}
 use Rattle.inputs.specs.declared.Made.the-variants.{Written as Filled, NoTable}
 

@@ -6,7 +6,8 @@ use Rattle.text.specs.Text.{ascii}
 use Rattle.assembly.specs.Words.{spanOf, parts, nonempty, same}
 use Rattle.assembly.specs.Cases.{textOfE}
 use Rattle.inputs.specs.Number.{valueFrom, numberIn, figureOf}
-use Rattle.inputs.specs.Front.{turns, rounds, board, added, orderFrom, stepWith, frontFrom, frontOf, whole, fault, afterLines}
+use Rattle.assembly.specs.Unseen.{afterLines}
+use Rattle.inputs.specs.Front.{turns, rounds, board, added, orderFrom, stepWith, frontFrom, frontOf, whole, fault}
 use Rattle.inputs.specs.Input.{frontTexts, frontBytes}
 use Rattle.inputs.specs.declared.Wanted.the-variants.{Workers, OrderOrLimit, Number as NumberTo}
 

@@ -1,12 +1,11 @@
 -- The lines in front of a table's text: workers, then quota and an order, quota and a limit, or between and memory.
-use Prim.Native.Nat.{ℕ, zero, suc}
+use Prim.Native.Nat.{ℕ, suc}
 use mathlib.Core.List.{List, [], _∷_, _++_}
 use lib.Dec.{ltb}
-use lib.ListN.{length, drop}
+use lib.ListN.{length}
 use Rattle.table.specs.Sum.{pick}
 use Rattle.text.specs.Text.{ascii}
-use Rattle.assembly.specs.Words.{spanOf, inClass, linesOf, wordsOf, same}
-use Rattle.assembly.specs.declared.scan.Class.the-variants.{Line}
+use Rattle.assembly.specs.Words.{linesOf, wordsOf, same}
 use Rattle.inputs.specs.Number.{numberIn, figureOf}
 use Rattle.inputs.specs.declared.Wanted.{Wanted}
 use Rattle.inputs.specs.declared.Wanted.the-variants.{Workers, QuotaOrBetween, OrderOrLimit, Memory, Number as NumberTo, FewerWorkers}
@@ -128,14 +127,3 @@ frontFrom f k (l ∷ ls) = onward (stepOf f (wordsOf l)) k (λ (g : Front). fron
 
 abbrev pub frontOf : List ℕ → Fronted
 frontOf s = frontFrom nothing 0 (linesOf s)
-
--- ---- the text after the front
-
--- after its first line
-abbrev pub afterLine : List ℕ → List ℕ
-afterLine s = drop (suc (spanOf (inClass Line) s)) s
-
--- after its first k lines
-unfoldable pub afterLines : ℕ → List ℕ → List ℕ
-afterLines zero s = s
-afterLines (suc k) s = afterLine (afterLines k s)

@@ -8,7 +8,8 @@ use Rattle.assembly.specs.Said.{saids}
 use Rattle.assembly.specs.Assembly.{tableBytes, over, longestText, assembled}
 use Rattle.assembly.specs.declared.Assembled.{Assembled}
 use Rattle.assembly.specs.declared.Assembled.the-variants.{Written, TooLong, Malformed, Refused}
-use Rattle.inputs.specs.Front.{Front, nothing, workers, quota, between, turns, rounds, board, Fronted, whole, fault, frontOf, afterLines}
+use Rattle.assembly.specs.Unseen.{afterLines}
+use Rattle.inputs.specs.Front.{Front, nothing, workers, quota, between, turns, rounds, board, Fronted, whole, fault, frontOf}
 use Rattle.inputs.specs.declared.Made.{Made}
 use Rattle.inputs.specs.declared.Made.the-variants.{Written as Filled, Malformed as WrongFront, NoTable}
 

@@ -1,9 +1,11 @@
 -- What is said of a text that gives no input, on one line.
 use Prim.Native.Nat.{ℕ}
 use mathlib.Core.Path.{_≡_, refl}
-use mathlib.Core.List.{List, [], _∷_, _++_, flatten}
-use Rattle.text.specs.Text.{ascii, digitsOf, decimal, newline}
-use Rattle.assembly.specs.Message.{messageOf}
+use mathlib.Core.List.{List, [], _∷_, flatten}
+use Rattle.text.specs.Text.{ascii, digitsOf, decimal}
+use Rattle.assembly.specs.Words.{spanOf, same}
+use Rattle.assembly.specs.Unseen.{afterLines, unseenIn, unseenAt}
+use Rattle.assembly.specs.Message.{unseenTexts, faultTexts, messageOf}
 use Rattle.inputs.specs.declared.Wanted.{Wanted}
 use Rattle.inputs.specs.declared.Wanted.the-variants.{Workers, QuotaOrBetween, OrderOrLimit, Memory, Number, LineEnd, FewerWorkers}
 use Rattle.inputs.specs.declared.Made.{Made}
@@ -18,15 +20,12 @@ wantedTexts (Number most) = ascii "a number up to " ∷ decimal most ∷ []
 wantedTexts LineEnd = ascii "the end of the line" ∷ []
 wantedTexts FewerWorkers = ascii "an order of at most 4096 workers" ∷ []
 
-unfoldable pub malformedTexts : ℕ → Wanted → List (List ℕ)
-malformedTexts line e = (ascii "line " ∷ decimal line ∷ []) ++ ((ascii ": expected " ∷ []) ++ (wantedTexts e ++ (newline ∷ [])))
+-- of a text s: the table's own message, and none where there is an input
+abbrev pub said : List ℕ → Made → List ℕ
+said s (Written k) = []
+said s (Malformed line e) = flatten (faultTexts line (unseenAt s line) (wantedTexts e))
+said s (NoTable a) = messageOf s a
 
--- the table's own message, and none where there is an input
-abbrev pub said : Made → List ℕ
-said (Written k) = []
-said (Malformed line e) = flatten (malformedTexts line e)
-said (NoTable a) = messageOf a
-
-number-example : said (Malformed 1 (Number 255)) ≡ ascii "line 1: expected a number up to 255\n"
-unfolding malformedTexts wantedTexts flatten decimal digitsOf
+number-example : said (ascii "workers x\n") (Malformed 1 (Number 255)) ≡ ascii "line 1: expected a number up to 255\n"
+unfolding wantedTexts faultTexts unseenTexts unseenIn afterLines spanOf same flatten decimal digitsOf
 number-example = refl

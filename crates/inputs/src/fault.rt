@@ -1,6 +1,9 @@
 // What is said of a text that gives no input, put into a lent buffer.
 use crate::Made;
 use crate::Wanted;
+use assembly::put_unseen;
+use assembly::unseen::Unseen;
+use assembly::unseen::unseen_at;
 use text::put_labelled;
 use text::put_word;
 ghost use mathlib.Core.Path.{_≡_};
@@ -9,7 +12,9 @@ ghost use lib.ListN.{length, drop};
 ghost use Rattle.io.specs.Counts.{Counts};
 ghost use Rattle.text.specs.Text.{ascii, decimal};
 ghost use Rattle.text.specs.Puts.{Puts};
-ghost use Rattle.inputs.specs.Message.{wantedTexts, malformedTexts, said};
+ghost use Rattle.assembly.specs.Unseen.{unseenAt};
+ghost use Rattle.assembly.specs.Message.{reasonTexts, faultTexts};
+ghost use Rattle.inputs.specs.Message.{wantedTexts, said};
 
 // A number by the most that it may be.
 fn put_most(out: &mut [u8], at: usize, most: u64) -> usize
@@ -32,24 +37,41 @@ fn put_wanted(out: &mut [u8], at: usize, e: Wanted) -> usize
     }
 }
 
-fn put_malformed(out: &mut [u8], line: usize, e: Wanted) -> usize
-    ensures { λ r. ⌜ Puts (now (out .entry)) 0 (now (out .exit)) r (malformedTexts line e) 96 ⌝ }
+// What was wanted.
+fn put_plain(out: &mut [u8], at: usize, e: Wanted) -> usize
+    ensures { λ r. ⌜ Puts (now (out .entry)) at (now (out .exit)) r ((ascii ": expected " ∷ []) ++ wantedTexts e) 55 ⌝ }
+{
+    let at = put_word(out, at, b": expected ");
+    put_wanted(out, at, e)
+}
+
+fn put_reason(out: &mut [u8], at: usize, unseen: Unseen, e: Wanted) -> usize
+    ensures { λ r. ⌜ Puts (now (out .entry)) at (now (out .exit)) r (reasonTexts unseen (wantedTexts e)) 55 ⌝ }
+{
+    match unseen {
+        Unseen::Nothing => put_plain(out, at, e),
+        Unseen::Return => put_unseen(out, at, unseen),
+        Unseen::Mark => put_unseen(out, at, unseen),
+    }
+}
+
+fn put_malformed(text: &[u8], out: &mut [u8], line: usize, e: Wanted) -> usize
+    ensures { λ r. ⌜ Puts (now (out .entry)) 0 (now (out .exit)) r (faultTexts line (unseenAt (now (text .entry)) line) (wantedTexts e)) 96 ⌝ }
 {
     let at = put_labelled(out, 0, b"line ", line as u64);
-    let at = put_word(out, at, b": expected ");
-    let at = put_wanted(out, at, e);
+    let at = put_reason(out, at, unseen_at(text, line), e);
     put_word(out, at, b"\n")
 }
 
-// The line, and its length; none where there is an input.
-pub fn message(answer: Made, out: &mut [u8; 96]) -> usize
-    ensures { λ r. ⌜ r ≡ length (said answer) ⌝ }
-    ensures { λ r. ⌜ now (out .exit) ≡ said answer ++ drop r (now (out .entry)) ⌝ }
+// The line that is said of a text with this answer, and its length; none where there is an input.
+pub fn message(text: &[u8], answer: Made, out: &mut [u8; 96]) -> usize
+    ensures { λ r. ⌜ r ≡ length (said (now (text .entry)) answer) ⌝ }
+    ensures { λ r. ⌜ now (out .exit) ≡ said (now (text .entry)) answer ++ drop r (now (out .entry)) ⌝ }
     ensures { λ r. ⌜ Counts r (now (out .exit)) ⌝ }
 {
     match answer {
         Made::Written(_) => 0,
-        Made::Malformed(line, e) => put_malformed(out, line, e),
-        Made::NoTable(a) => assembly::message(a, out),
+        Made::Malformed(line, e) => put_malformed(text, out, line, e),
+        Made::NoTable(a) => assembly::message(text, a, out),
     }
 }

@@ -1,3 +1,4 @@
+mod Ordered
 pub mod Inputs
 pub mod Written
 -- the worked cases

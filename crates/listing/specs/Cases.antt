@@ -190,7 +190,7 @@ wallCases =
     prints (inputOf 2 6 orderE E) (wallOfE ++ firstRows ++ laterRows)
     -- it stops at the root's end, whatever is left of the order
     ∷ prints (inputOf 2 6 (orderE ++ (9 ∷ [])) E) (wallOfE ++ firstRows ++ laterRows)
-    -- "a refusal, which is a line"
+    -- a refusal is a line
     ∷ prints (inputOf 2 6 (0 ∷ 1 ∷ 0 ∷ 2 ∷ 0 ∷ []) E) (wallOfE ++ firstRows ++ endsRefused)
     -- an empty order
     ∷ prints (inputOf 2 6 [] E) wallOfE

@@ -1,23 +1,33 @@
-// What `turnlist`, `wallchart` and `runrounds` print, from the bytes that they read to the bytes that they write.
+// What `turnlist`, `wallchart` and `runrounds` print, from the bytes that they read to the bytes that they write; the lines of a listing and of a chart of any record.
 mod input;
 mod rounds;
+mod sheets;
 mod turns;
 
+use chart::MOST_TURNS;
+use chart::put_line;
 use input::input_wrong;
 use input::limit_in;
 use input::put_wrong;
 use input::quota_in;
+use lines::put_refused;
 use rounds::put_rounds;
+use schedule::Run;
+use sheets::put_chart;
+use sheets::put_listing;
+use soundness::test;
 use table::read::byte;
 use table::read::word;
-use turns::put_chart;
-use turns::put_listing;
+use turns::put_turns;
 ghost use mathlib.Core.Path.{_≡_};
 ghost use mathlib.Core.List.{_++_};
 ghost use lib.ListN.{length, drop};
 ghost use Rattle.io.specs.Counts.{Counts};
-ghost use Prim.Native.Nat.{_*_};
-ghost use Rattle.asyncdf.specs.Code.Sheets.{widest};
+ghost use Prim.Native.Nat.{_+_, _*_};
+ghost use Rattle.schedule.specs.Listing.{listTurns};
+ghost use Rattle.lines.specs.Lines.{textsOf};
+ghost use Rattle.chart.specs.Turns.{chartTurns};
+ghost use Rattle.listing.specs.Sheets.{widest};
 ghost use Rattle.text.specs.Puts.{Puts};
 ghost use Rattle.listing.specs.Listing.{listingOf, wallOf, printedTexts, roundsOf};
 
@@ -73,4 +83,35 @@ pub fn rounds_line(input: &[u8], out: &mut [u8; 96]) -> usize
         limit_in(input),
         out,
     )
+}
+
+// The lines of the turns of an order's workers, up to the root's end, a refusal or the order's end, and the last line. A text that does not fit is left out; 64 bytes for each of the order
+// and 64 more are enough.
+pub fn list_turns(run: Run, order: &[u8], out: &mut [u8], at: usize) -> usize
+    ensures { λ r. ⌜ Puts (now (out .entry)) at (now (out .exit)) r (textsOf (listTurns run (now (order .entry)))) (64 * (length (now (order .entry)) + 1)) ⌝ }
+{
+    let tested = test(run);
+    if !tested.passed {
+        return put_refused(out, at, 32);
+    }
+    let parents = tested.parents;
+    put_turns(false, run, &parents, order, out, at)
+}
+
+// The chart's line of a record and those after each turn of an order's workers, up to the root's end, a refusal or the order's end. A text that does not fit is left out; 85 bytes for
+// each of the order and for two lines more are enough.
+pub fn chart_turns(run: Run, order: &[u8], out: &mut [u8], at: usize) -> usize
+    ensures { λ r. ⌜ Puts (now (out .entry)) at (now (out .exit)) r (chartTurns run (now (order .entry))) (85 * (length (now (order .entry)) + 2)) ⌝ }
+{
+    let tested = test(run);
+    if !tested.passed {
+        return put_refused(out, at, 32);
+    }
+    if MOST_TURNS < run.turns {
+        return put_refused(out, at, 43);
+    }
+    let workers = run.worker;
+    let at = put_line(out, at, run.turns, run.workers, workers, run.held);
+    let parents = tested.parents;
+    put_turns(true, run, &parents, order, out, at)
 }

@@ -11,6 +11,8 @@ use Rattle.schedule.specs.Machine.{nobody}
 use Rattle.schedule.specs.Turn.{turned}
 use Rattle.schedule.specs.Answers.{turningValues}
 use Rattle.schedule.specs.Shown.{Shown}
+use Rattle.run_memory.specs.declared.preview.Foreseen.{Foreseen}
+use Rattle.run_memory.specs.declared.preview.Foreseen.the-variants.{Would as would, Refused as refused}
 use Rattle.preview.specs.declared.Previewed.{Previewed}
 use Rattle.preview.specs.declared.Previewed.the-variants.{Would, Refused}
 
@@ -23,10 +25,10 @@ previewAs (refusedTurn x) r w = Refused x
 unfoldable pub previewOf : Run → ℕ → Previewed
 previewOf r w = previewAs (turned r w .answer) (turned r w .run) w
 
--- the refusal of a turn's answer; none, with no number, of a turn that is taken
-abbrev pub refusalOf : Turning → Refusal
-refusalOf (Taken x k) = refusal 0 0
-refusalOf (refusedTurn x) = x
+-- the refusal of a turn that is foreseen; none, with no number, of one that is taken
+abbrev pub refusalOf : Foreseen → Refusal
+refusalOf (would x k h g q) = refusal 0 0
+refusalOf (refused n) = refusal n 0
 
 -- the paper's numbers and values
 abbrev pub shownValues : Previewed → Shown

@@ -1,12 +1,18 @@
 // What a worker would do now: a turn shown before it is taken.
+use run_memory::packing::pack;
+use run_memory::preview::Foreseen;
+use run_memory::preview::preview_in;
 use schedule::Reply;
 use schedule::Run;
-use schedule::Turning;
-use schedule::Worker;
+use soundness::test;
 use table::Refusal;
 ghost use mathlib.Core.Path.{_≡_};
-ghost use lib.ListN.{getD};
-ghost use Rattle.schedule.specs.Machine.{nobody};
+ghost use Prim.Native.Nat.{ℕ, _<_};
+ghost use Rattle.run_memory.specs.declared.preview.Foreseen.the-variants.{Refused};
+ghost use Rattle.run_memory.specs.Packing.{memoryFor};
+ghost use Rattle.run_memory.specs.Preview.{foreseenIn};
+ghost use Rattle.schedule.specs.Record.{bytesOf};
+ghost use Rattle.schedule.specs.Sound.{Steady};
 ghost use Rattle.schedule.specs.Shown.{previewValues};
 ghost use Rattle.preview.specs.Preview.{refusalOf, previewOf, shownValues};
 
@@ -22,48 +28,82 @@ pub enum Previewed {
     Refused(Refusal),
 }
 
+fn refused(number: u8) -> Refusal
+    ensures { λ r. ⌜ r ≡ record { number = number; place = 0 } ⌝ }
+{
+    Refusal { number, place: 0 }
+}
+
 // The refusal of a turn that is not taken; of one that is, none, which has no number.
-fn refusal_of(answer: Turning) -> Refusal
-    ensures { λ r. ⌜ r ≡ refusalOf answer ⌝ }
+fn refusal_of(foreseen: Foreseen) -> Refusal
+    requires { ⌜ ((n : ℕ) → foreseen ≡ Refused n → n < 256) ⌝ }
+    ensures { λ r. ⌜ r ≡ refusalOf foreseen ⌝ }
 {
-    match answer {
-        Turning::Taken(_, _) => Refusal {
-            number: 0,
-            place: 0,
-        },
-        Turning::Refused(x) => x,
+    match foreseen {
+        Foreseen::Would {
+            reply: _,
+            passed: _,
+            held: _,
+            highest: _,
+            quota: _,
+        } => refused(0),
+        Foreseen::Refused(number) => refused(number as u8),
     }
 }
 
-// A worker's quota left, 0 for a number that is none of the sixteen.
-fn quota_left(workers: [Worker; 16], w: u8) -> u32
-    ensures { λ r. ⌜ r ≡ getD workers w nobody .quota ⌝ }
+// The turn of worker w on the blocks into which the record is copied: the record itself is unaltered.
+fn foresee(run: Run, parents: &[u16; 1024], w: u8) -> Foreseen
+    requires { ⌜ Steady run ⌝ }
+    ensures { λ r. ⌜ r ≡ foreseenIn (bytesOf run) w (memoryFor run (now (parents .entry))) ⌝ }
 {
-    let k = w as usize;
-    if k < 16 {
-        let worker = workers[k];
-        return worker.quota;
-    }
-    0
+    let all = run.table;
+    let length = run.length as usize;
+    let table = &all[..length];
+    let mut bytes = [0u8; 1040];
+    let mut words = [0u16; 6163];
+    let mut numbers = [0u32; 18];
+    let mut sums = [0u64; 1027];
+    pack(
+        run,
+        parents,
+        &mut bytes,
+        &mut words,
+        &mut numbers,
+        &mut sums,
+    );
+    preview_in(table, w as u32, &bytes, &words, &numbers, &sums)
 }
 
-// The turn of worker w, taken on a copy: the record itself is unaltered.
+// The turn of worker w, or its refusal.
 pub fn preview(run: Run, w: u8) -> Previewed
     ensures { λ r. ⌜ r ≡ previewOf run w ⌝ }
     ensures { λ r. ⌜ shownValues r ≡ previewValues run w ⌝ }
 {
-    let turned = asyncdf::turn(run, w);
-    let answer = turned.answer;
-    let after = turned.run;
-    let Turning::Taken(reply, passed) = answer else {
-        return Previewed::Refused(refusal_of(answer));
+    let tested = test(run);
+    if !tested.passed {
+        return Previewed::Refused(refused(32));
+    }
+    // the blank record
+    if run.workers == 0 {
+        return Previewed::Refused(refused(30));
+    }
+    let parents = tested.parents;
+    let foreseen = foresee(run, &parents, w);
+    let Foreseen::Would {
+        reply,
+        passed,
+        held,
+        highest,
+        quota,
+    } = foreseen
+    else {
+        return Previewed::Refused(refusal_of(foreseen));
     };
-    let workers = after.worker;
     Previewed::Would {
         reply,
         passed,
-        held: after.held,
-        highest: after.highest,
-        quota: quota_left(workers, w),
+        held,
+        highest,
+        quota,
     }
 }

@@ -1,5 +1,4 @@
 pub mod Largest
 pub mod Answers
 pub mod Least
-pub mod Board
 pub mod Checks

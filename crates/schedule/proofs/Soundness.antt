@@ -45,7 +45,7 @@ module _ (r : Run) (h : Steady r) where
   pub list-short : length (stateOf r .list) ≤ tableIn r .threads
   list-short = omega (arith, list-count, count-bound (λ t. member t (stateOf r .list)) (tableIn r .threads))
 
-  -- "while the root has not ended the leftmost thread is ready or held"
+  -- while the root has not ended, the leftmost thread is ready or held
   pub leftmost-goes : rootEnded r ≡ false → (t : ℕ) × (rest : List ℕ) × (stateOf r .list ≡ t ∷ rest) × ((statusOf (stateOf r) t ≡ ready) ⊎ (statusOf (stateOf r) t ≡ held))
   unfolding rootEnded
   leftmost-goes e = go (stateOf r .list) refl
@@ -58,15 +58,15 @@ module _ (r : Run) (h : Steady r) where
       go [] q = absurd (List·Memᴰ·not-nil (rw q at (f .live-listed 0 (steady-lawful r h .some-thread) (f .root-born) (eqb-false (statusOf (stateOf r) 0) ended e))))
       go (t ∷ rest) q = (t, rest, q, leftmost-enabled (tableIn r) (steady-lawful r h) (r .workers) (r .quota) (stateOf r) f t rest q .taken)
 
-  -- "held is the sum over the threads of the balance so far, 0 once joined"
+  -- memory held is the sum over the threads of their balances so far, 0 once joined
   pub held-by-thread : r .held ≡ sumTo (share (tableIn r) (stateOf r)) (tableIn r .threads)
   held-by-thread = held-shares (tableIn r) (steady-lawful r h) (r .workers) (r .quota) (stateOf r) (steady-facts r h)
 
-  -- "the count of ones of the busy set is the number of workers that hold a thread"
+  -- "the number busy is the count of ones": it is the number of workers that hold a thread
   pub busy-count : ones (r .busy) ≡ countBelow (λ w. workerOf (stateOf r) w .holds) 16
   busy-count = ap ones (h .set) ∙ set-ones (r .worker) ∙ ap (countBelow (λ w. workerOf (stateOf r) w .holds)) (steady-facts r h .holding .worker-size)
 
-  -- "a free never takes more than is held"
+  -- a free never takes more than is held
   pub free-within : (t : ℕ) → t < tableIn r .threads → (statusOf (stateOf r) t ≡ ended → ⊥) → kind (tableIn r) (nextOf (stateOf r) t) ≡ free
       → tableIn r .argument (nextOf (stateOf r) t) ≤ r .held
   free-within t i e k = free-held (tableIn r) (steady-lawful r h) (r .workers) (r .quota) (stateOf r) (steady-facts r h) t i e k

@@ -41,7 +41,7 @@ abbrev pub doneIn : (Table → ℕ → ℕ) → Table → ℕ → List ℕ → �
 doneIn own T K row = sumReplies (own T) (replies T K (startState T) row)
 
 -- "memory held is the sum of the arguments of the allocs done, less that of the frees done". The difference never stops at 0: the frees done are at most the allocs done (`row-balanced`,
--- proofs/Runs/Rows, and the field `balanced` of the limit, proofs/Limit).
+-- proofs/Runs/Rows, and the field `balanced` of the limit, crates/bounds/proofs/Limit).
 unfoldable pub memoryOf : Table → ℕ → List ℕ → ℕ
 memoryOf T K row =
     let l : List Reply = replies T K (startState T) row in

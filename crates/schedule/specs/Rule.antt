@@ -38,7 +38,7 @@ untilNext w (v ∷ l) = pick (eqb v w) [] (v ∷ untilNext w l)
 unfoldable pub atMost : ℕ → List ℕ → Bool
 atMost b stretch = allIn (λ v. leb (countIn v stretch) b) stretch
 
--- a row keeps the rule with b: exactly where `Keeps b row` (`keeps-exactly`, proofs/Bounds/KeepsTest)
+-- a row keeps the rule with b: exactly where `Keeps b row` (`keeps-exactly`, crates/bounds/proofs/KeepsTest)
 unfoldable pub keeps : ℕ → List ℕ → Bool
 keeps b [] = true
 keeps b (w ∷ l) = atMost b (untilNext w l) && keeps b l

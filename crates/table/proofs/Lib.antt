@@ -20,3 +20,4 @@ pub mod Peaks
 pub mod Words
 pub mod Parts
 pub mod Walks
+pub mod ReadBack

@@ -273,7 +273,7 @@ module _ (T : Table) (c : ContentRules T) (b : BodyRules T) (n : NestRules T) wh
   serial-bound a h = omega (arith, counted a h)
 
 module _ (T : Table) (c : ContentRules T) (b : BodyRules T) (n : NestRules T) (f : ForkRules T) where
-  -- The serial order has as many actions as the table. That each stands in it, and at one place only, is `number-place` and `place-number` (crates/schedule/proofs/Tables/Numbers).
+  -- The serial order has as many actions as the table. That each stands in it, and at one place only, is `number-place` and `place-number` (crates/order/proofs/Numbers).
   pub serial-length : 0 < T .threads → length (serial T (T .first 0)) ≡ T .actions
   unfolding sumTo
   serial-length h = omega (arith, start, counted T c b n (T .first 0) (first-within T c 0 h), sumTo-zero (unrun T (T .first 0)) (T .threads) none)

@@ -34,7 +34,7 @@ module _ {s : List ℕ} {i r : ℕ} (d : DoubleWord s i r) where
   pub low-byte : r % 256 ≡ getD s i 0
   low-byte = omega (arith, d .value)
 
-  pub high-bytes : Read (u24At s (i + 1)) 16777216 (r / 256)
+  pub high-bytes : Read (u24At s (i + 1) % 16777216) 16777216 (r / 256)
   high-bytes =
       let e : i + 1 + 1 ≡ i + 2 = omega arith in
       let f : i + 1 + 2 ≡ i + 3 = omega arith in

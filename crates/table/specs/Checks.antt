@@ -18,7 +18,7 @@ tooShort s = ltb (length s) 4
 abbrev pub outside : ℕ → ℕ → ℕ → Bool
 outside low high x = ltb x low || ltb high x
 
--- 2: "n or m outside its range": "threads n (1 to 1,024), actions m (1 to 8,192)"
+-- 2: "n or m outside its range": "threads n (16 bits, 1 to 1,024), actions m (16 bits, 1 to 8,192)"
 abbrev pub maxThreads : ℕ
 maxThreads = 1024
 
@@ -64,7 +64,7 @@ endOf T t = pred (T .first t + T .count t)
 unfoldable pub kindUnknown : Table → ℕ → Bool
 kindUnknown T a = is unknown (kind T a)
 
--- "end, work (both with argument 0); alloc, free (argument at least 1); fork, join (argument a thread number above the thread's own and below n)"
+-- "0 end, 1 work (both with argument 0); 2 alloc, 3 free (argument at least 1); 4 fork, 5 join (argument a thread number above the thread's own and below n)"
 abbrev pub argumentFits : Kind → ℕ → ℕ → ℕ → Bool
 argumentFits end own n x = eqb x 0
 argumentFits work own n x = eqb x 0

@@ -1,12 +1,12 @@
 -- The byte format of a job table (document 01, "The job table"), read as functions of thread and action numbers.
-use Prim.Native.Nat.{ℕ, zero, suc, _+_, _*_}
+use Prim.Native.Nat.{ℕ, zero, suc, _+_, _*_, _%_}
 use mathlib.Core.List.{List}
 use mathlib.Core.Bool.{Bool}
 use lib.ListN.{getD, drop}
 use lib.Dec.{eqb}
 use Rattle.table.specs.Sum.{pick}
 
--- "Kinds: 0 end, 1 work; 2 alloc, 3 free; 4 fork, 5 join"
+-- "Kinds: 0 end, 1 work ..; 2 alloc, 3 free ..; 4 fork, 5 join .."
 pub data Kind : Type 0 where
   end work alloc free fork join unknown : Kind
 
@@ -37,7 +37,7 @@ is k j = eqb (codeOf k) (codeOf j)
 abbrev pub ownAmount : Kind → Kind → ℕ → ℕ
 ownAmount own k x = pick (is own k) x 0
 
--- What a table says: threads n, actions m, "the thread's first action, its count of actions", "kind, argument".
+-- What a table says: threads n, actions m, "the thread's first action .., its count of actions ..", "kind .., argument ..".
 pub record Table : Type 0 where
   pub threads : ℕ
   pub actions : ℕ
@@ -60,7 +60,7 @@ u24At s i = getD s i 0 + 256 * getD s (i + 1) 0 + 65536 * getD s (i + 2) 0
 abbrev pub u32At : List ℕ → ℕ → ℕ
 u32At s i = getD s i 0 + 256 * getD s (i + 1) 0 + 65536 * getD s (i + 2) 0 + 16777216 * getD s (i + 3) 0
 
--- "Head, 4 bytes: threads n (16 bits), actions m (16 bits)"
+-- "Head, 4 bytes: threads n (16 bits, ..), actions m (16 bits, ..)"
 abbrev pub threadsOf : List ℕ → ℕ
 threadsOf s = u16At s 0
 
@@ -86,7 +86,7 @@ abbrev pub codeAt : List ℕ → ℕ → ℕ
 codeAt l a = getD l (4 * a) 0
 
 abbrev pub argumentAt : List ℕ → ℕ → ℕ
-argumentAt l a = u24At l (4 * a + 1)
+argumentAt l a = u24At l (4 * a + 1) % 16777216
 
 -- "A thread's body is handled as the part of the action list where it begins."
 abbrev pub bodyOf : List ℕ → ℕ → List ℕ

@@ -14,3 +14,4 @@ pub mod JobCases
 pub mod NestedCases
 pub mod Wrong
 pub mod Code
+pub mod Written

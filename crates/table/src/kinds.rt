@@ -1,4 +1,4 @@
-// "Kinds: 0 end, 1 work; 2 alloc, 3 free; 4 fork, 5 join", those that other crates ask for.
+// "Kinds: 0 end, 1 work ..; 2 alloc, 3 free ..; 4 fork, 5 join ..", those that other crates ask for.
 ghost use mathlib.Core.Path.{_≡_};
 ghost use Rattle.table.specs.Format.{kindOf, alloc, free, ownAmount};
 

@@ -9,7 +9,7 @@ fn main() {
     // More than the longest table: what lies beyond is refused for its length all the same.
     let mut buffer = io::large_buffer();
     let n = io::read_full(STDIN_FILENO, &mut buffer);
-    let mut listing = [0u8; 135168];
+    let mut listing = [0u8; 266240];
     let answer = assembly::disassemble(&buffer[..n], &mut listing);
     match answer {
         Disassembled::Listed(k) => {

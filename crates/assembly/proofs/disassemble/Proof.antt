@@ -25,12 +25,12 @@ answers : (s out : List ℕ) {x : Disassembled} {o : List ℕ} {y : Loaded} → 
 unfolding disassembled disassembledIn
 answers s out e a w = (a ∙ ap (λ (z : Loaded). listedAs z (tableOf s)) e, w ∙ ap (λ (z : Loaded). listedIn z (tableOf s) out) e)
 
-whole : (s out o : List ℕ) (n r : ℕ) (f : Facts) → loaded s ≡ Accepted f → n ≡ threadsOf s → 135168 ≤ length out
-    → Puts out 0 o r (threadsTexts (tableOf s) n) (12 * n + 15 * sumTo (tableOf s .count) n) → (r ≡ length (textOf (tableOf s))) × (o ≡ over (textOf (tableOf s)) out)
+whole : (s out o : List ℕ) (n r : ℕ) (f : Facts) → loaded s ≡ Accepted f → n ≡ threadsOf s → 266240 ≤ length out
+    → Puts out 0 o r (threadsTexts (tableOf s) n) (12 * n + 31 * sumTo (tableOf s .count) n) → (r ≡ length (textOf (tableOf s))) × (o ≡ over (textOf (tableOf s)) out)
 unfolding textOf tableOf
 whole s out o n r f a e l p =
     let h = shape s f a in
-    let p' : Puts out 0 o r (threadsTexts (tableOf s) (threadsOf s)) (12 * threadsOf s + 15 * sumTo (tableOf s .count) (threadsOf s)) = rw e at p in
+    let p' : Puts out 0 o r (threadsTexts (tableOf s) (threadsOf s)) (12 * threadsOf s + 31 * sumTo (tableOf s .count) (threadsOf s)) = rw e at p in
     let q = puts-whole (omega (arith, h .threads, h .actions, h .counts, l)) p' in
     (q .0, q .1 ∙ ap (λ (j : ℕ). textOf (tableOf s) ++ drop j out) (q .0))
 

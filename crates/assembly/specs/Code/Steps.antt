@@ -7,6 +7,7 @@ use lib.ListN.{length, drop}
 use Rattle.assembly.specs.Words.{noNumber, numberIn}
 use Rattle.assembly.specs.Said.{saids}
 use Rattle.assembly.specs.Assembly.{isThread, isAction, bodyCount, longestText, checked}
+use Rattle.assembly.specs.Unseen.{afterLines}
 use Rattle.assembly.specs.declared.Said.{Said}
 use Rattle.assembly.specs.declared.check.Checked.the-variants.{WellFormed}
 use Rattle.assembly.specs.declared.line.Line.{Line}
@@ -44,3 +45,8 @@ pub record Sized (s : List ℕ) (n m : ℕ) : Type 0 where
 pub record Operand (w : List ℕ) (x : ℕ) : Type 0 where
   pub short : length w ≤ 6
   pub small : x < noNumber
+
+-- where a text goes on after its first k lines
+pub record After (s : List ℕ) (k r : ℕ) : Type 0 where
+  pub rest : drop r s ≡ afterLines k s
+  pub within : r ≤ length s

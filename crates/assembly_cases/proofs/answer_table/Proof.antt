@@ -36,6 +36,12 @@ same-length c = search needs
 returns : tie.Need-returns
 returns c = search needs
 
+slice-reshare-prefix-message : tie.Need-slice-reshare-prefix-message
+slice-reshare-prefix-message c = search needs
+
+slice-aggregate-message : tie.Need-slice-aggregate-message
+slice-aggregate-message c = search needs
+
 message-requires : tie.Need-message-requires
 message-requires c κs = search needs
 
@@ -68,6 +74,8 @@ answer-table-spec =
     facts-requires
     same-length
     returns
+    slice-reshare-prefix-message
+    slice-aggregate-message
     message-requires
     array-share-prefix-line
     slice-aggregate-write-all

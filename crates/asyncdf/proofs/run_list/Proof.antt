@@ -1,50 +1,78 @@
--- `asyncdf::run_list` meets its contract, check by check.
-use mathlib.Core.Path.{_≡_}
+-- `asyncdf::run_list` meets its contract: check 32, and then the run in the blocks.
+use mathlib.Core.Path.{_≡_, sym}
 use mathlib.Core.Bool.{false}
-use Prim.Native.Nat.{ℕ, _<_}
-use native.Mathlib.Omega.{arith}
 use borrow.Author.Needs.{needs}
+use lib.Seq.{length-take-le}
 use Rattle.schedule.specs.Turn.{unsound}
 use Rattle.schedule.proofs.Runs.Values.{list-values}
-use Rattle.soundness.proofs.Passed.{test-fails, test-passes, test-parents, has-workers}
-use Rattle.asyncdf.proofs.Calls.{ran-answers, of-list, list-unsound, list-driven, list-blank-none, list-blank}
+use Rattle.soundness.proofs.Passed.{test-fails, test-passes, test-parents}
+use Rattle.asyncdf.proofs.Calls.{ran-answers, list-unsound, table-inside, list-taken, ran-as, list-small}
 use Rattle.asyncdf.proofs.run_list.Statement.{statement}
 use Rattle.asyncdf.proofs.run_list.Tie as tie
 
-some : {x : ℕ} → (x ≡ 0 → ⊥) → 0 < x
-some n = omega (arith, n)
+abbrev start : tie.Else1 → tie.Start
+start c = c .before .before .before .before
+
+-- the record passed the test
+passed : (c : tie.Else1) → unsound (start c .args .run) ≡ false
+passed c = test-passes _ (c .before .before .test .ensures) (c .if1 .left)
 
 test-requires : tie.Need-test-requires
 test-requires c κs = search needs
 
--- the record passed the test
-passed : (c : tie.Else1) → unsound (c .before .before .before .before .args .run) ≡ false
-passed c = test-passes _ (c .before .before .test .ensures) (c .if1 .left)
-
-stopped-requires : tie.Need-stopped-requires
-stopped-requires c κs = search needs
+unsound-requires : tie.Need-unsound-requires
+unsound-requires c κs = search needs
 
 returns : tie.Need-returns
-returns c = rw (← list-values) (ran-answers (rw (c .stopped .ensures) (list-unsound _ _ (test-fails _ (c .before .before .before .test .ensures) (c .before .if1 .taken)))))
+returns c =
+    let t = c .before in
+    rw (← list-values, c .unsound .ensures) (ran-answers (list-unsound _ _ (test-fails _ (t .before .before .test .ensures) (t .if1 .taken))))
+
+cast-length : tie.Need-cast-length
+cast-length c = search needs
+
+array-share-prefix-table : tie.Need-array-share-prefix-table
+array-share-prefix-table c = table-inside _ (passed (c .before .before .before))
+
+slice-aggregate-table : tie.Need-slice-aggregate-table
+slice-aggregate-table c =
+    let e = c .before .before .before .before in
+    sym (length-take-le (start e .args .run .length) (start e .args .run .table) (table-inside _ (passed e)))
+
+pack-requires : tie.Need-pack-requires
+pack-requires c κs = search needs
+
+list-in-requires : tie.Need-list-in-requires
+list-in-requires c κs = search needs
+
+report-of-requires : tie.Need-report-of-requires
+report-of-requires c κs = list-small _ _ _ (c .list-in .ensures)
+
+unpack-requires : tie.Need-unpack-requires
+unpack-requires c κs = search needs
 
 returns-2 : tie.Need-returns-2
-returns-2 c = rw (← list-values) (ran-answers (list-blank-none _ (passed (c .before .before .before)) (c .before .if2 .taken) _ (c .if3 .taken)))
-
-stopped-requires-2 : tie.Need-stopped-requires-2
-stopped-requires-2 c κs = search needs
-
-returns-3 : tie.Need-returns-3
-returns-3 c = rw (← list-values) (ran-answers (rw (c .stopped2 .ensures) (list-blank _ (passed (c .before .before .before .before)) (c .before .before .if2 .taken) _ (c .before .if3 .left))))
-
-drive-requires : tie.Need-drive-requires
-drive-requires c κs =
-    let n = c .before .before in
-    let e = n .before .before in
-    let h = has-workers _ (passed e) (some (n .if2 .left)) in
-    (h .steady, (test-parents _ (e .before .before .test .ensures) h, λ i l. of-list _ _ i l))
-
-returns-4 : tie.Need-returns-4
-returns-4 c = rw (← list-values) (ran-answers (list-driven _ (passed (c .before .before .before .before .before .before)) _ _ _ (c .before .drive .ensures .ran-as)))
+returns-2 c =
+    let x = c .before .before .before .before .before in
+    let t = x .before in
+    let k = t .before .before .before .before .before in
+    let e = k .before .before .before .before .before .before .before .before .before .before in
+    rw (← list-values)
+    (ran-answers (ran-as (x .report-of .ensures) (c .unpack .ensures)
+    (list-taken _ (passed e) _ (λ h. test-parents _ (e .before .before .test .ensures) h) (k .pack .ensures) _ (t .list-in .ensures))))
 
 pub run-list-spec : {M : Type 1} → statement M
-run-list-spec = tie.close (tie.spec test-requires stopped-requires returns stopped-requires-2 returns-2 returns-3 drive-requires returns-4)
+run-list-spec =
+    tie.close
+    (tie.spec
+    test-requires
+    unsound-requires
+    returns
+    cast-length
+    array-share-prefix-table
+    slice-aggregate-table
+    pack-requires
+    list-in-requires
+    report-of-requires
+    unpack-requires
+    returns-2)

@@ -9,7 +9,8 @@ use lib.ListN.{length, take, drop, length-drop}
 use Rattle.table.proofs.Parts.{rest-part}
 use Rattle.assembly.specs.Assembly.{longestText, assembled}
 use Rattle.assembly.specs.declared.Assembled.the-variants.{TooLong}
-use Rattle.inputs.specs.Front.{whole, fault, frontOf, afterLines}
+use Rattle.assembly.specs.Unseen.{afterLines}
+use Rattle.inputs.specs.Front.{whole, fault, frontOf}
 use Rattle.inputs.specs.Input.{withTable, filledWith, made, madeIn}
 use Rattle.inputs.specs.Code.Steps.{ReadsFront, Addable, frontIs}
 use Rattle.inputs.specs.declared.Wanted.{Wanted}

@@ -7,7 +7,8 @@ use Rattle.assembly.specs.Words.{spanOf, inClass}
 use Rattle.assembly.specs.Assembly.{longestText}
 use Rattle.assembly.specs.declared.scan.Class.the-variants.{Line}
 use Rattle.inputs.specs.Number.{numberIn}
-use Rattle.inputs.specs.Front.{Front, nothing, workers, quota, between, turns, rounds, board, Step, goes, stops, ends, Order, listed, broken, maxOrder, Fronted, whole, fault, atEnd, frontOf, afterLines}
+use Rattle.assembly.specs.Unseen.{afterLines}
+use Rattle.inputs.specs.Front.{Front, nothing, workers, quota, between, turns, rounds, board, Step, goes, stops, ends, Order, listed, broken, maxOrder, Fronted, whole, fault, atEnd, frontOf}
 use Rattle.inputs.specs.declared.number.Number.{Number}
 use Rattle.inputs.specs.declared.number.Number.the-variants.{Value}
 use Rattle.inputs.specs.declared.order.Ordered.{Ordered}

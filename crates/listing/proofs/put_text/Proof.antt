@@ -12,7 +12,7 @@ use Rattle.schedule.specs.Turn.{turned}
 use Rattle.text.specs.Puts.{Puts}
 use Rattle.text.proofs.Putting.{puts-within}
 use Rattle.chart.specs.Chart.{charted}
-use Rattle.asyncdf.specs.Code.Sheets.{widest}
+use Rattle.listing.specs.Sheets.{widest}
 use Rattle.listing.specs.Listing.{workersIn, quotaIn, orderLength, orderIn, tableAfter, inputWrong, listedBy, wrongInput, walledBy, printedTexts}
 use Rattle.listing.proofs.Inputs.{right}
 use Rattle.listing.proofs.put_text.Statement.{statement}

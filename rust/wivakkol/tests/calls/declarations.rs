@@ -32,7 +32,7 @@ fn as_pointers(parameters: &[String]) -> Vec<String> {
 #[test]
 fn calls_are_of_the_source() {
     let mut source = BTreeMap::new();
-    for name in ["single", "board"] {
+    for name in ["wivakkol_turn", "wivakkol"] {
         for entry in fs::read_dir(format!("{HERE}/../../crates/{name}/src")).unwrap() {
             let text = fs::read_to_string(entry.unwrap().path()).unwrap();
             source.extend(functions(&text, "pub extern \"C\" fn "));
@@ -63,7 +63,7 @@ fn handed(text: &str, call: &str) -> Vec<String> {
         "order.len()" => "turns".to_string(),
         "&mut work.parents" => "seen".to_string(),
         other => {
-            let place = other.trim_start_matches("&mut ").trim_end_matches("()");
+            let place = other.trim_start_matches("&mut ").trim_start_matches('&').trim_end_matches("()");
             place.trim_start_matches("self.").trim_start_matches("parts.").trim_start_matches("work.").to_string()
         }
     };
@@ -116,7 +116,7 @@ fn both_fields(in_header: &str, in_crate: &str) -> (Vec<String>, Vec<String>) {
 
 #[test]
 fn memory_is_of_the_header() {
-    for (in_header, in_crate, count) in [("wivakkol_run", "Memory", 4), ("wivakkol_work", "Work", 5)] {
+    for (in_header, in_crate, count) in [("wivakkol_run", "Memory", 4), ("wivakkol_work", "Work", 5), ("wivakkol_tables_work", "TablesWork", 6)] {
         let (wanted, declared) = both_fields(in_header, in_crate);
         assert_eq!(declared, wanted);
         assert_eq!(declared.len(), count);
@@ -140,7 +140,7 @@ fn parts_are_at_the_header_s_places() {
             "heads" => "LEFTMOST".to_string(),
             other => other.to_uppercase(),
         };
-        assert_eq!(named[in_header.as_str()], *place, "{name}");
+        assert_eq!(named[format!("AT_{in_header}").as_str()], *place, "{name}");
     }
     assert_eq!(parts.len(), 14);
 }

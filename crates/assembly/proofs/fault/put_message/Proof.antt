@@ -2,7 +2,7 @@
 use native.Mathlib.Omega.{arith}
 use Rattle.text.specs.Text.{ascii}
 use Rattle.text.proofs.Putting.{puts-none, puts-word, puts-within}
-use Rattle.assembly.specs.Message.{messageTexts}
+use Rattle.assembly.specs.Message.{faultTexts, refusedTexts, messageTexts}
 use borrow.Author.Needs.{needs}
 use Rattle.assembly.proofs.fault.put_message.Statement.{statement}
 use Rattle.assembly.proofs.fault.put_message.Tie as tie
@@ -46,12 +46,14 @@ same-length-2 : tie.Need-same-length-2
 same-length-2 c = search needs
 
 returns-3 : tie.Need-returns-3
+unfolding messageTexts faultTexts
 returns-3 c = rw (c .before .before .before .before .before .answer .given .1) (c .before .before .put-malformed .ensures)
 
 same-length-3 : tie.Need-same-length-3
 same-length-3 c = search needs
 
 returns-4 : tie.Need-returns-4
+unfolding messageTexts refusedTexts
 returns-4 c = rw (c .before .before .before .before .before .answer2 .given .1) (c .before .before .put-refused .ensures)
 
 pub put-message-spec : {M : Type 1} → statement M

@@ -2,7 +2,7 @@
 use native.Mathlib.Omega.{arith}
 use Rattle.text.specs.Text.{ascii, newline}
 use Rattle.text.proofs.Putting.{puts-word, puts-labelled, puts-more, puts-within}
-use Rattle.assembly.specs.Message.{messageTexts}
+use Rattle.assembly.specs.Message.{refusedTexts}
 use borrow.Author.Needs.{needs}
 use Rattle.assembly.proofs.fault.put_refused.Statement.{statement}
 use Rattle.assembly.proofs.fault.put_refused.Tie as tie
@@ -32,7 +32,7 @@ same-length : tie.Need-same-length
 same-length c = search needs
 
 returns : tie.Need-returns
-unfolding messageTexts
+unfolding refusedTexts
 returns c =
     puts-within (omega arith)
     (puts-more (puts-labelled (ascii "refused ") (c .before .before .before .before .before .before .before .before .before .before .before .before .before .before .before .before .before .before .before .before .args .number) 19 (omega (arith, c .before .before .before .before .before .before .before .before .before .before .before .before .before .before .before .before .before .before .before .before .good)) (c .before .before .before .before .before .before .before .before .before .before .before .before .before .before .before .before .put-labelled .ensures))

@@ -1,4 +1,4 @@
--- `assembly::listing::put_action` meets its contract: each kind has its line, a code above 5 has none.
+-- `assembly::listing::put_action` meets its contract: each kind has its words, a code above 5 has none.
 use mathlib.Core.Path.{_≡_, refl}
 use Prim.Native.Nat.{ℕ, zero, suc, _≤_}
 use native.Mathlib.Omega.{arith}
@@ -61,14 +61,14 @@ same-length c = search needs
 
 returns : tie.Need-returns
 unfolding actionTexts kindOf
-returns c = rw (c .before .before .before .before .before .match .keys1) (puts-within (omega arith) (puts-word (ascii "end\n") (c .before .before .put-word .ensures)))
+returns c = rw (c .before .before .before .before .before .match .keys1) (puts-within (omega arith) (puts-word (ascii "end") (c .before .before .put-word .ensures)))
 
 same-length-2 : tie.Need-same-length-2
 same-length-2 c = search needs
 
 returns-2 : tie.Need-returns-2
 unfolding actionTexts kindOf
-returns-2 c = rw (c .before .before .before .before .before .match .keys2) (puts-within (omega arith) (puts-word (ascii "work\n") (c .before .before .put-word2 .ensures)))
+returns-2 c = rw (c .before .before .before .before .before .match .keys2) (puts-within (omega arith) (puts-word (ascii "work") (c .before .before .put-word2 .ensures)))
 
 same-length-3 : tie.Need-same-length-3
 same-length-3 c = search needs
@@ -103,7 +103,7 @@ unfolding actionTexts kindOf
 returns-7 c =
     let d = c .match .rest in
     let k : 6 ≤ c .before .before .args .code = omega (arith, d .1, d .0 .1, d .0 .0 .1, d .0 .0 .0 .1, d .0 .0 .0 .0 .1, d .0 .0 .0 .0 .0 .1) in
-    rw (kind-unknown (c .before .before .args .code) k) (puts-none 15)
+    rw (kind-unknown (c .before .before .args .code) k) (puts-none 14)
 
 pub put-action-spec : {M : Type 1} → statement M
 put-action-spec =

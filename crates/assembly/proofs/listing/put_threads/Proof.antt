@@ -17,21 +17,21 @@ use Rattle.assembly.proofs.listing.put_threads.Tie as tie
 record Inv (out₀ table : List ℕ) (n : ℕ) (out : List ℕ) (at t : ℕ) : Type 0 where
   within : t ≤ n
   long : length out ≡ length out₀
-  put : Puts out₀ 0 out at (threadsTexts (tableOf table) t) (12 * t + 15 * sumTo (tableOf table .count) t)
+  put : Puts out₀ 0 out at (threadsTexts (tableOf table) t) (12 * t + 31 * sumTo (tableOf table .count) t)
 
 start : (out table : List ℕ) (n : ℕ) → Inv out table n out 0 0
 unfolding threadsTexts
-start out table n = record { within = omega arith; long = refl; put = puts-none (12 * 0 + 15 * sumTo (tableOf table .count) 0) }
+start out table n = record { within = omega arith; long = refl; put = puts-none (12 * 0 + 31 * sumTo (tableOf table .count) 0) }
 
 module _ (out₀ table : List ℕ) (n : ℕ) (out : List ℕ) (at t : ℕ) (v : Inv out₀ table n out at t) where
-  again : {f k r w : ℕ} {o q : List ℕ} → t < n → Puts out at o r (threadTexts t) 12 → f ≡ tableOf table .first t → k ≡ tableOf table .count t → Puts o r q w (bodyTexts (tableOf table) f k) (15 * k)
+  again : {f k r w : ℕ} {o q : List ℕ} → t < n → Puts out at o r (threadTexts t) 12 → f ≡ tableOf table .first t → k ≡ tableOf table .count t → Puts o r q w (bodyTexts (tableOf table) f k) (31 * k)
       → length o ≡ length out → length q ≡ length o → Inv out₀ table n q w (t + 1)
   unfolding threadsTexts sumTo
   again {f} {k} {r} {w} {o} {q} h a e d b l m =
-      let b' : Puts o r q w (bodyTexts (tableOf table) (tableOf table .first t) (tableOf table .count t)) (15 * tableOf table .count t) = rw (e, d) at b in
+      let b' : Puts o r q w (bodyTexts (tableOf table) (tableOf table .first t) (tableOf table .count t)) (31 * tableOf table .count t) = rw (e, d) at b in
       record { within = omega arith; long = m ∙ l ∙ v .long; put = rw add-one (puts-within (omega arith) (puts-more (v .put) (puts-more a b'))) }
 
-  ends : n ≤ t → Puts out₀ 0 out at (threadsTexts (tableOf table) n) (12 * n + 15 * sumTo (tableOf table .count) n)
+  ends : n ≤ t → Puts out₀ 0 out at (threadsTexts (tableOf table) n) (12 * n + 31 * sumTo (tableOf table .count) n)
   ends h =
       let e : t ≡ n = omega (arith, v .within) in
       rw e at (v .put)

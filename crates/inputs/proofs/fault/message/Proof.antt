@@ -37,7 +37,7 @@ message-requires : tie.Need-message-requires
 message-requires c κs = search needs
 
 returns : tie.Need-returns
-returns c = rw (c .enum-told .given .1) (refl, (refl, none (now (c .before .before .args .out))))
+returns c = rw (c .enum-told .given .1) (refl, (refl, none (now (c .before .before .before .args .out))))
 
 returns-2 : tie.Need-returns-2
 returns-2 c = rw (c .before .before .before .answer .given .1) (told _ _ _ _ (omega (arith, (c .before .put-malformed-arg .given))) (c .put-malformed .ensures))

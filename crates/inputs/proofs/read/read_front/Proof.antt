@@ -7,7 +7,8 @@ use mathlib.Core.List.{List}
 use lib.ListN.{length, take, drop}
 use Rattle.assembly.specs.Words.{linesOf, wordsOf}
 use Rattle.assembly.specs.Assembly.{longestText}
-use Rattle.inputs.specs.Front.{Front, Step, stepOf, Fronted, onward, frontFrom, frontOf, afterLines, maxOrder}
+use Rattle.assembly.specs.Unseen.{afterLines}
+use Rattle.inputs.specs.Front.{Front, Step, stepOf, Fronted, onward, frontFrom, frontOf, maxOrder}
 use Rattle.inputs.specs.Code.Steps.{Room, Stepping, Lined, Ending, ReadsFront, frontIs, stepIs, heldBy}
 use Rattle.inputs.specs.declared.Wanted.{Wanted}
 use Rattle.inputs.specs.declared.front.Front.{Front as Kept}

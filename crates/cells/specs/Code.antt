@@ -1,3 +1,0 @@
--- promises between the parts of the code
-pub mod Writes
-pub mod Acts

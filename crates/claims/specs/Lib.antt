@@ -1,0 +1,3 @@
+pub mod LentCalls
+pub mod Answers
+pub mod Records

@@ -1,3 +1,0 @@
-pub mod ByKind
-pub mod Statuses
-pub mod Turns

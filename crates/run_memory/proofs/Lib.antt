@@ -1,0 +1,23 @@
+-- What the proofs of the code use, and what its promises mean: on memory that is the record of a run a turn is document 01's (Refines).
+mod Parts
+mod Rows
+mod Numbers
+mod Copied
+mod Linking
+mod Searching
+mod Acts
+mod ListActs
+mod Takes
+mod Seeing
+pub mod Foreseeing
+mod Laying
+mod Drives
+pub mod Fixed
+pub mod Undone
+pub mod Turning
+pub mod Manned
+pub mod Refines
+pub mod RunsRefine
+pub mod Packed
+pub mod ByValue
+pub mod Refusals

@@ -1,0 +1,10 @@
+-- What the proofs of the calls use.
+mod Answers
+mod Cases
+mod Begins
+pub mod Opens
+pub mod WallLines
+mod Previews
+pub mod PreviewRefines
+pub mod Numbered
+pub mod RunAnswers

@@ -1,0 +1,66 @@
+-- What runs over a list and in rounds answer to C, and beginnings in memory that it lends; the turn and the runs themselves are run_memory's (crates/run_memory/specs, Memory and Runs).
+use Prim.Native.Nat.{ℕ}
+use mathlib.Core.List.{List, [], _∷_}
+use mathlib.Core.Bool.{Bool, true}
+use lib.ListN.{set, replicate}
+use lib.Dec.{eqb}
+use Rattle.table.specs.Sum.{pick}
+use Rattle.table.specs.Format.{tableOf}
+use Rattle.table.specs.declared.Found.{Found}
+use Rattle.table.specs.declared.Found.the-variants.{Nothing, At}
+use Rattle.schedule.specs.Machine.{ready}
+use Rattle.schedule.specs.Links.{noThread}
+use Rattle.table.specs.Checks.{maxThreads}
+use Rattle.schedule.specs.Record.{maxWorkers}
+use Rattle.schedule.specs.Answers.{Said, nothing, finished, spent}
+use Rattle.soundness.specs.Tested.{parentsIn, nextIf, beginFound}
+use Rattle.array_machine.specs.Arrays.{arrays}
+use Rattle.run_memory.specs.Memory.{Memory, memory, saidCode, Answer, answer}
+use Rattle.run_memory.specs.Runs.{Stopped, listRunIn, roundsRunIn}
+
+-- ---- runs
+
+-- what is said of where a run stopped
+abbrev pub saidOf : ℕ → Bool → Said
+saidOf number over = pick (eqb number 0) (pick over finished spent) nothing
+
+-- place, what is said, and the turns taken
+abbrev pub runRow : Said → ℕ → List ℕ
+runRow x turns = 0 ∷ saidCode x ∷ turns ∷ []
+
+abbrev pub stoppedAs : Stopped → Answer
+stoppedAs d = answer (d .number) (runRow (saidOf (d .number) (d .finished)) (d .turns)) (d .memory)
+
+-- "Over a list of worker numbers"
+unfoldable pub lentList : List ℕ → List ℕ → Memory → Answer
+lentList s l M = stoppedAs (listRunIn s l M)
+
+-- "In rounds (0 to p − 1, again and again, starting with worker 0)"
+unfoldable pub lentRounds : List ℕ → ℕ → Memory → Answer
+lentRounds s limit M = stoppedAs (roundsRunIn s limit M)
+
+-- ---- a beginning
+
+abbrev pub nobodies : List ℕ
+nobodies = replicate maxWorkers 0
+
+-- "the blank record: every number 0, every status unborn, the list empty"
+abbrev pub blankMemory : Memory
+blankMemory =
+    let zeros : List ℕ = replicate maxThreads 0 in
+    memory (0 ∷ 0 ∷ []) zeros (arrays zeros zeros zeros zeros zeros zeros zeros) nobodies nobodies nobodies (0 ∷ 0 ∷ 0 ∷ []) (0 ∷ 0 ∷ 0 ∷ [])
+
+-- "at the start only thread 0, ready"; the second list has it too
+abbrev pub startMemory : List ℕ → ℕ → ℕ → Memory
+startMemory s p K =
+    let none : List ℕ = replicate maxThreads noThread in
+    memory (p ∷ K ∷ []) (parentsIn (tableOf s))
+    (arrays (nextIf true (tableOf s)) (set (replicate maxThreads 0) 0 ready) (replicate maxThreads 0) none none none none) nobodies nobodies nobodies (0 ∷ 0 ∷ 0 ∷ []) (0 ∷ 0 ∷ 0 ∷ [])
+
+abbrev pub begunAs : Found → Memory → Answer
+begunAs Nothing M = answer 0 (0 ∷ []) M
+begunAs (At x) M = answer (x .number) (x .place ∷ []) blankMemory
+
+-- "A refused beginning hands back the blank record"; of its answer the row has the place
+unfoldable pub lentBegin : List ℕ → ℕ → ℕ → Answer
+lentBegin s p K = begunAs (beginFound s p K) (startMemory s p K)
