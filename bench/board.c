@@ -81,7 +81,7 @@ static void compare(void)
             fail("plain C says something else");
         w = w + 1 == p ? 0 : w + 1;
     } while (number == 0);
-    turns = run.sums[WIVAKKOL_TURNS];
+    turns = run.sums[WIVAKKOL_AT_TURNS];
 }
 
 /* A whole run in each of the five ways: its processor time. */

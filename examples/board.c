@@ -63,6 +63,6 @@ int main(int argc, char **argv)
     if ((answer = wivakkol_rounds(&run, table, length, UINT32_MAX, end)) != 0)
         return refused(answer, end);
     printf("%s %" PRIu64 " peak %" PRIu64 "\n", end[WIVAKKOL_SAID] == WIVAKKOL_SAID_FINISHED ? "done" : "open", end[WIVAKKOL_TAKEN],
-           run.sums[WIVAKKOL_HIGHEST]);
+           run.sums[WIVAKKOL_AT_HIGHEST]);
     return 0;
 }

@@ -1,7 +1,8 @@
 /* Wivakkol, called from C, for x86-64: wivakkol_turn is linked from the archive libwivakkol_turn.a (`rt staticlib wivakkol_turn`), all other calls from libwivakkol.a (`rt staticlib wivakkol`), in either order. A
- * board that does the actions takes single turns, and a turn that is compiled by itself needs little stack (docs/REFERENCE.md, "From C"): so it has an archive of its own.
+ * board that does the actions takes single turns, and a turn that is compiled by itself needs little stack (docs/C-AND-RUST.md): so it has an archive of its own.
  *
- * Every call answers every input: no table, no number and no content of a run's memory is outside what it takes, and nothing is to be tested before it. It allocates nothing, keeps
+ * Every call answers every input: no table, no number and no content of a run's memory is outside what it takes. A turn, a list, rounds and a
+ * preview do not test that a sound run stands in the memory: wivakkol_open does, once, after which each of them is document 01's call on that record. A call allocates nothing, keeps
  * nothing from one call to the next and writes to no memory but what it is lent. Each answer is proved equal to its definition (crates/wivakkol_turn/src/ and crates/wivakkol/src/ have the promises);
  * that this header says the same as that source is not proved, but tested (tests/board.py).
  *
@@ -13,7 +14,7 @@
  * - `row` points to an array of the full size named below, aligned as a uint64_t is. It is never NULL.
  * - The row overlaps neither the table nor the order, and nobody else writes to these two or touches the row before the call returns.
  * - A run, working memory and a line that a call takes are never NULL; what else is asked of them stands below.
- * - There is stack enough: docs/REFERENCE.md, "From C", has what was measured.
+ * - There is stack enough: docs/C-AND-RUST.md has what was measured.
  * Calls at the same time are fine as long as each has a row of its own, and a run, working memory and a line of its own where it takes them.
  */
 #ifndef WIVAKKOL_H
@@ -25,6 +26,31 @@
 #ifdef __cplusplus
 extern "C" {
 #endif
+
+/* The version of this header and of the archives that go with it. */
+#define WIVAKKOL_VERSION "0.1.0"
+
+/* What a call returns: 0, or one of these; docs/REFERENCE.md, "Refusals", has each in full. */
+#define WIVAKKOL_REFUSED_HEAD 1          /* the table has under 4 bytes */
+#define WIVAKKOL_REFUSED_COUNTS 2        /* n or m is outside its range */
+#define WIVAKKOL_REFUSED_LENGTH 3        /* the length is not 4 + 4n + 4m */
+#define WIVAKKOL_REFUSED_CONTENTS 4      /* an entry, or the sum of the counts */
+#define WIVAKKOL_REFUSED_KIND 5          /* a kind above 5 */
+#define WIVAKKOL_REFUSED_ARGUMENT 6      /* an argument against its kind's rule */
+#define WIVAKKOL_REFUSED_END 7           /* an end that is not last, or a last action that is no end */
+#define WIVAKKOL_REFUSED_FORKED_TWICE 8  /* a thread that an earlier action forks */
+#define WIVAKKOL_REFUSED_JOIN 9          /* a join not of the latest unjoined child, or an end with one unjoined */
+#define WIVAKKOL_REFUSED_BALANCE 10      /* a balance below 0 */
+#define WIVAKKOL_REFUSED_NEVER_FORKED 11 /* a thread other than 0 that nothing forks */
+#define WIVAKKOL_REFUSED_WORKERS 20      /* p is not 1 to 16 */
+#define WIVAKKOL_REFUSED_QUOTA 21        /* K is not 1 to 16,777,215 */
+#define WIVAKKOL_REFUSED_ALLOC 22        /* an alloc is above K */
+#define WIVAKKOL_REFUSED_WORKER 30       /* the worker is not below p */
+#define WIVAKKOL_REFUSED_ENDED 31        /* the root has ended: the run is over */
+#define WIVAKKOL_REFUSED_RECORD 32       /* the record is neither sound nor blank; of a turn, see there */
+#define WIVAKKOL_REFUSED_BETWEEN 41      /* b is not 1 to 65,535 */
+#define WIVAKKOL_REFUSED_NO_QUOTA 42     /* no quota is small enough for the memory */
+#define WIVAKKOL_REFUSED_TURNS 43        /* more than 999,999 turns are taken */
 
 /* The longest table that is accepted: 1,024 threads and 8,192 actions. A longer input may be handed over, and is refused. */
 #define WIVAKKOL_TABLE_MOST 36868
@@ -87,37 +113,38 @@ static inline uint32_t wivakkol_quota(wivakkol_tables_work *work, const uint8_t 
 #define WIVAKKOL_MOST_WORKERS 16
 
 /* The memory of a run is four blocks, one for each width of its numbers, and a block has parts that begin at the places below. In a part with a number for each thread that of thread t stands
- * at the part's place + t, and likewise for worker w: run.bytes[WIVAKKOL_STATUS + t] is the status of thread t. Where there is no thread to name, 1,024 stands. */
+ * at the part's place + t, and likewise for worker w: run.bytes[WIVAKKOL_AT_STATUS + t] is the status of thread t. Among neighbours
+ * and leftmost threads 1,024 stands where there is none to name; the parent of the root and of a thread that nothing forks is 0, and so is the thread of a worker that holds none. */
 
 /* Places in `sums`. */
-#define WIVAKKOL_AMOUNTS 0    /* of each thread, the memory that it holds */
-#define WIVAKKOL_HELD 1024    /* memory held, by all of them */
-#define WIVAKKOL_HIGHEST 1025 /* its highest so far */
-#define WIVAKKOL_TURNS 1026   /* turns taken */
+#define WIVAKKOL_AT_AMOUNTS 0    /* of each thread, the memory that it holds */
+#define WIVAKKOL_AT_HELD 1024    /* memory held, by all of them */
+#define WIVAKKOL_AT_HIGHEST 1025 /* its highest so far */
+#define WIVAKKOL_AT_TURNS 1026   /* turns taken */
 #define WIVAKKOL_SUMS 1027
 
 /* Places in `numbers`. */
-#define WIVAKKOL_P 0      /* the number of workers */
-#define WIVAKKOL_K 1      /* the quota that a worker takes a thread with */
-#define WIVAKKOL_QUOTAS 2 /* of each worker, its quota left */
+#define WIVAKKOL_AT_P 0      /* the number of workers */
+#define WIVAKKOL_AT_K 1      /* the quota that a worker takes a thread with */
+#define WIVAKKOL_AT_QUOTAS 2 /* of each worker, its quota left */
 #define WIVAKKOL_NUMBERS 18
 
 /* Places in `words`. */
-#define WIVAKKOL_PARENTS 0           /* of each thread, the one that forks it */
-#define WIVAKKOL_NEXT 1024           /* its next action */
-#define WIVAKKOL_LEFT 2048           /* its neighbours in the list of threads */
-#define WIVAKKOL_RIGHT 3072
-#define WIVAKKOL_UNDER 4096          /* its neighbours in the second list, of the threads that do not wait */
-#define WIVAKKOL_OVER 5120
-#define WIVAKKOL_WORKER_THREADS 6144 /* of each worker, the thread that it holds */
-#define WIVAKKOL_LEFTMOST 6160       /* the leftmost thread of the list */
-#define WIVAKKOL_FIRST 6161          /* the leftmost thread of the second list */
-#define WIVAKKOL_BUSY 6162           /* the workers that hold a thread, a bit for each */
+#define WIVAKKOL_AT_PARENTS 0           /* of each thread, the one that forks it */
+#define WIVAKKOL_AT_NEXT 1024           /* its next action */
+#define WIVAKKOL_AT_LEFT 2048           /* its neighbours in the list of threads */
+#define WIVAKKOL_AT_RIGHT 3072
+#define WIVAKKOL_AT_UNDER 4096          /* its neighbours in the second list, of the threads that do not wait */
+#define WIVAKKOL_AT_OVER 5120
+#define WIVAKKOL_AT_WORKER_THREADS 6144 /* of each worker, the thread that it holds */
+#define WIVAKKOL_AT_LEFTMOST 6160       /* the leftmost thread of the list */
+#define WIVAKKOL_AT_FIRST 6161          /* the leftmost thread of the second list */
+#define WIVAKKOL_AT_BUSY 6162           /* the workers that hold a thread, a bit for each */
 #define WIVAKKOL_WORDS 6163
 
 /* Places in `bytes`. */
-#define WIVAKKOL_STATUS 0   /* of each thread: 0 unborn, 1 ready, 2 held, 3 waiting, 4 ended */
-#define WIVAKKOL_HOLDS 1024 /* of each worker, whether it holds a thread: 0 if not */
+#define WIVAKKOL_AT_STATUS 0   /* of each thread: 0 unborn, 1 ready, 2 held, 3 waiting, 4 ended */
+#define WIVAKKOL_AT_HOLDS 1024 /* of each worker, whether it holds a thread: 0 if not */
 #define WIVAKKOL_BYTES 1040
 
 /* The memory of a run, which C lends. C may read it between two calls, and has no need to write to it. */
@@ -182,7 +209,7 @@ typedef struct wivakkol_work {
 #define WIVAKKOL_LINE 85
 
 /* The calls as they are exported: a turn, its preview, a list and rounds on the four blocks, the others on each part by itself, where `settings` is p and K, `threads` that of each worker,
- * `heads` the three from WIVAKKOL_LEFTMOST on and `totals` the three from WIVAKKOL_HELD on. Below are the seven for a wivakkol_run, which keep to what these ask for: each array has its full
+ * `heads` the three from WIVAKKOL_AT_LEFTMOST on and `totals` the three from WIVAKKOL_AT_HELD on. Below are the seven for a wivakkol_run, which keep to what these ask for: each array has its full
  * size, is aligned for its numbers and never NULL, and overlaps no other array of the call; each was written before, those of the run in wivakkol_begin_on apart. */
 uint32_t wivakkol_begin_on(const uint8_t *table, size_t length, uint32_t p, uint32_t quota, uint32_t settings[2], uint16_t parents[1024],
                            uint16_t next[1024], uint8_t status[1024], uint64_t amounts[1024], uint16_t left[1024], uint16_t right[1024],
@@ -214,31 +241,31 @@ uint32_t wivakkol_chart_on(const uint8_t *table, size_t length, const uint32_t s
 static inline uint32_t wivakkol_begin(wivakkol_run *run, wivakkol_work *work, const uint8_t *table, size_t length, uint32_t p, uint32_t quota,
                                       uint64_t row[WIVAKKOL_BEGIN_ROW])
 {
-    return wivakkol_begin_on(table, length, p, quota, run->numbers + WIVAKKOL_P, run->words + WIVAKKOL_PARENTS, run->words + WIVAKKOL_NEXT,
-                             run->bytes + WIVAKKOL_STATUS, run->sums + WIVAKKOL_AMOUNTS, run->words + WIVAKKOL_LEFT, run->words + WIVAKKOL_RIGHT,
-                             run->words + WIVAKKOL_UNDER, run->words + WIVAKKOL_OVER, run->bytes + WIVAKKOL_HOLDS,
-                             run->words + WIVAKKOL_WORKER_THREADS, run->numbers + WIVAKKOL_QUOTAS, run->words + WIVAKKOL_LEFTMOST,
-                             run->sums + WIVAKKOL_HELD, row, work->rises, work->falls);
+    return wivakkol_begin_on(table, length, p, quota, run->numbers + WIVAKKOL_AT_P, run->words + WIVAKKOL_AT_PARENTS, run->words + WIVAKKOL_AT_NEXT,
+                             run->bytes + WIVAKKOL_AT_STATUS, run->sums + WIVAKKOL_AT_AMOUNTS, run->words + WIVAKKOL_AT_LEFT, run->words + WIVAKKOL_AT_RIGHT,
+                             run->words + WIVAKKOL_AT_UNDER, run->words + WIVAKKOL_AT_OVER, run->bytes + WIVAKKOL_AT_HOLDS,
+                             run->words + WIVAKKOL_AT_WORKER_THREADS, run->numbers + WIVAKKOL_AT_QUOTAS, run->words + WIVAKKOL_AT_LEFTMOST,
+                             run->sums + WIVAKKOL_AT_HELD, row, work->rises, work->falls);
 }
 
 /* Opens a run that was put away and brought back, or whose memory someone else has written. Returns 0, or 32: the memory has neither a sound record of this table nor the blank one, all 0,
  * which a beginning leaves where it refuses; a number above 1 that says whether a worker holds a thread is not sound. It looks at all but the parents and the second list
- * (the parts WIVAKKOL_PARENTS, WIVAKKOL_UNDER and WIVAKKOL_OVER, and WIVAKKOL_FIRST), and where it returns 0 writes these, whatever was there, as a beginning and turns leave them. Where it
+ * (the parts WIVAKKOL_AT_PARENTS, WIVAKKOL_AT_UNDER and WIVAKKOL_AT_OVER, and WIVAKKOL_AT_FIRST), and where it returns 0 writes these, whatever was there, as a beginning and turns leave them. Where it
  * refuses, no byte of the run changes. A turn tests none of this: open once, then take turns.
  *
  * After a beginning that returned 0 the limits on memory and on threads hold through all turns, lists, rounds and openings of what these left, refused calls included. After the opening of a
  * sound record that was made up by hand each turn is document 01's, and no limit is promised: such a record may hold more than any run would. */
 static inline uint32_t wivakkol_open(wivakkol_run *run, wivakkol_work *work, const uint8_t *table, size_t length, uint64_t row[WIVAKKOL_OPEN_ROW])
 {
-    return wivakkol_open_on(table, length, run->numbers + WIVAKKOL_P, run->words + WIVAKKOL_PARENTS, run->words + WIVAKKOL_NEXT,
-                            run->bytes + WIVAKKOL_STATUS, run->sums + WIVAKKOL_AMOUNTS, run->words + WIVAKKOL_LEFT, run->words + WIVAKKOL_RIGHT,
-                            run->words + WIVAKKOL_UNDER, run->words + WIVAKKOL_OVER, run->bytes + WIVAKKOL_HOLDS,
-                            run->words + WIVAKKOL_WORKER_THREADS, run->numbers + WIVAKKOL_QUOTAS, run->words + WIVAKKOL_LEFTMOST,
-                            run->sums + WIVAKKOL_HELD, row, work->rises, work->falls, work->forks, work->parents, work->list);
+    return wivakkol_open_on(table, length, run->numbers + WIVAKKOL_AT_P, run->words + WIVAKKOL_AT_PARENTS, run->words + WIVAKKOL_AT_NEXT,
+                            run->bytes + WIVAKKOL_AT_STATUS, run->sums + WIVAKKOL_AT_AMOUNTS, run->words + WIVAKKOL_AT_LEFT, run->words + WIVAKKOL_AT_RIGHT,
+                            run->words + WIVAKKOL_AT_UNDER, run->words + WIVAKKOL_AT_OVER, run->bytes + WIVAKKOL_AT_HOLDS,
+                            run->words + WIVAKKOL_AT_WORKER_THREADS, run->numbers + WIVAKKOL_AT_QUOTAS, run->words + WIVAKKOL_AT_LEFTMOST,
+                            run->sums + WIVAKKOL_AT_HELD, row, work->rises, work->falls, work->forks, work->parents, work->list);
 }
 
 /* A turn of worker w. Returns 0, or the first of these that applies: 32, 2^64 - 1 turns are taken; 30, w is not below p; 31, the root has ended: the run is over; 32, a thread's number is
- * none of the 1,024, w is none of the sixteen workers, or a number that the turn would write does not fit into its place; of a worker without a thread the bit in WIVAKKOL_BUSY must fit
+ * none of the 1,024, w is none of the sixteen workers, or a number that the turn would write does not fit into its place; of a worker without a thread the bit in WIVAKKOL_AT_BUSY must fit
  * even if it takes none. The last is met on damaged memory alone, never on what a beginning or an opening that returned 0 and turns have left. Where a turn is refused, no byte of the run
  * changes. */
 static inline uint32_t wivakkol_turn(wivakkol_run *run, const uint8_t *table, size_t length, uint32_t w, uint64_t row[WIVAKKOL_TURN_ROW])
@@ -273,10 +300,10 @@ static inline uint32_t wivakkol_preview(const wivakkol_run *run, const uint8_t *
  * changes. `line` has the full size, overlaps nothing else that the call is given and has been written before, whatever it holds. */
 static inline uint32_t wivakkol_chart(const wivakkol_run *run, wivakkol_work *work, const uint8_t *table, size_t length, uint8_t line[WIVAKKOL_LINE])
 {
-    return wivakkol_chart_on(table, length, run->numbers + WIVAKKOL_P, run->words + WIVAKKOL_NEXT, run->bytes + WIVAKKOL_STATUS,
-                             run->sums + WIVAKKOL_AMOUNTS, run->words + WIVAKKOL_LEFT, run->words + WIVAKKOL_RIGHT, run->bytes + WIVAKKOL_HOLDS,
-                             run->words + WIVAKKOL_WORKER_THREADS, run->numbers + WIVAKKOL_QUOTAS, run->words + WIVAKKOL_LEFTMOST,
-                             run->sums + WIVAKKOL_HELD, line, work->rises, work->falls, work->forks, work->parents, work->list);
+    return wivakkol_chart_on(table, length, run->numbers + WIVAKKOL_AT_P, run->words + WIVAKKOL_AT_NEXT, run->bytes + WIVAKKOL_AT_STATUS,
+                             run->sums + WIVAKKOL_AT_AMOUNTS, run->words + WIVAKKOL_AT_LEFT, run->words + WIVAKKOL_AT_RIGHT, run->bytes + WIVAKKOL_AT_HOLDS,
+                             run->words + WIVAKKOL_AT_WORKER_THREADS, run->numbers + WIVAKKOL_AT_QUOTAS, run->words + WIVAKKOL_AT_LEFTMOST,
+                             run->sums + WIVAKKOL_AT_HELD, line, work->rises, work->falls, work->forks, work->parents, work->list);
 }
 
 #ifdef __cplusplus

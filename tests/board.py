@@ -125,7 +125,7 @@ def places_are_named():
     """Every part of a block stands where the header says, and so does each number of those that have no name of their own there."""
     defined = dict(re.findall(r'#define WIVAKKOL_(\w+) (\d+)', open('include/wivakkol.h').read()))
     for name, (part, i) in NAMED.items():
-        assert int(defined[name]) == lent.PLACES[part] + i, 'WIVAKKOL_%s is another place than in lent.py' % name
+        assert int(defined['AT_' + name]) == lent.PLACES[part] + i, 'WIVAKKOL_AT_%s is another place than in lent.py' % name
 
 
 def fields(text, struct):

@@ -1,11 +1,7 @@
 // The machine on arrays and links: its definitions and laws (specs/, proofs/), and the small functions that a turn and its preview (crates/run_memory) share.
-use links::NO_THREAD;
-use links::seek;
-use schedule::Worker;
 ghost use mathlib.Core.Path.{_≡_};
-ghost use Rattle.schedule.specs.Links.{seek as seekOf};
 ghost use Rattle.schedule.specs.Machine.{drawn as drawnOf};
-ghost use Rattle.array_machine.specs.Counted.{passedAlong, roomFor};
+ghost use Rattle.array_machine.specs.Counted.{roomFor};
 
 pub mod fits;
 pub mod release;
@@ -23,21 +19,6 @@ pub struct Moved {
     pub busy: u16,
     pub totals: Totals,
     pub turns: u64,
-}
-
-// How many threads stand left of the leftmost ready one, which a worker that holds nothing takes (N7: "The search .. also says"); 0 where it takes none.
-pub fn passed_over(worker: Worker, status: &[u8; 1024], right: &[u16; 1024], leftmost: u16) -> u16
-    ensures { λ r. ⌜ r ≡ passedAlong (worker .holds) (seekOf 1024 (now (status .entry)) (now (right .entry)) leftmost) ⌝ }
-{
-    if worker.holds {
-        return 0;
-    }
-    let found = seek(status, right, leftmost);
-    if found.thread < NO_THREAD {
-        found.passed
-    } else {
-        0
-    }
 }
 
 // One turn more can be counted, and the set has room for worker w.

@@ -26,7 +26,8 @@ use Rattle.soundness.proofs.Passed.{no-workers as blank-of}
 use Rattle.array_machine.proofs.Answers.{refusedAs, turned-none}
 use Rattle.run_memory.specs.Memory.{Memory, movedIn, Answer, answer, hindrance, turnIn}
 use Rattle.run_memory.specs.Stands.{runIn}
-use Rattle.wivakkol.specs.Lent.{runRow, overIn, lentDrive, lentList}
+use Rattle.run_memory.specs.Runs.{overIn, driveIn, listRunIn}
+use Rattle.wivakkol.specs.Lent.{runRow, lentList}
 use Rattle.wivakkol.specs.Opened.{blankIn, blankedIn, lentOpen}
 use Rattle.wivakkol.specs.Preview.{lentPreview, shownAs}
 use Rattle.wivakkol.proofs.Opens.{no-workers, blank-record, blank-passes, blank-passed, open-blank, blank-turn, blank-rounds}
@@ -73,11 +74,11 @@ module _ (s : List ℕ) (M : Memory) (h : blankIn M ≡ true) where
   no-turns = ap (λ (r : Run). r .turns) is-blank
 
   lent-none : lentList s [] M ≡ answer 0 (runRow spent 0) M
-  unfolding lentList lentDrive
+  unfolding lentList listRunIn driveIn
   lent-none = rw (no-turns, not-over)
 
   lent-some : (w : ℕ) (l : List ℕ) → lentList s (w ∷ l) M ≡ answer 30 (runRow nothing 0) M
-  unfolding lentList lentDrive workerAt turnIn hindrance
+  unfolding lentList listRunIn driveIn workerAt turnIn hindrance
   lent-some w l = rw (no-turns, not-over, no-workers s M h, le-ltb w 0 (omega arith))
 
   pub blank-preview : (w : ℕ) → lentPreview s w M ≡ shownAs (previewValues blank w)

@@ -1,4 +1,3 @@
-pub mod Searching
 pub mod Filling
 pub mod Reading
 pub mod Laying

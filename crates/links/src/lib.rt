@@ -1,12 +1,11 @@
-// The list of threads as links, on lent arrays: read off, laid, compared, the second list filled from it, the leftmost ready thread sought. Every call is total: whatever the arrays hold, it
+// The list of threads as links, on lent arrays: read off, laid, compared, the second list filled from it. Every call is total: whatever the arrays hold, it
 // does what the definition says, and none needs the links to describe a list.
-use schedule::statuses::READY;
 use schedule::statuses::WAITING;
 ghost use mathlib.Core.Path.{_≡_};
 ghost use mathlib.Core.List.{_++_};
 ghost use Prim.Native.Nat.{_≤_};
 ghost use lib.ListN.{length, take, drop, set, replicate};
-ghost use Rattle.schedule.specs.Links.{firstOf, laid, linkLast, noThread, seek as seekOf, walk};
+ghost use Rattle.schedule.specs.Links.{firstOf, laid, linkLast, noThread, walk};
 ghost use Rattle.schedule.specs.Actives.{filledFrom, noLinks};
 ghost use Rattle.links.specs.Code.Steps.{leftThere};
 ghost use Rattle.schedule.specs.Sound.{sameLinks};
@@ -15,12 +14,6 @@ ghost use Rattle.order.specs.Words.{sameList};
 // "No neighbour is written as 1,024"
 pub const NO_THREAD: u16 = 1024;
 
-// The leftmost ready thread, or NO_THREAD, and how many threads stand left of it.
-pub struct Sought {
-    pub thread: u16,
-    pub passed: u16,
-}
-
 // Thread t has the neighbour x; nothing for a number that is no thread's.
 fn put(links: &mut [u16], t: u16, x: u16)
     ensures { λ _. ⌜ now (links .exit) ≡ set (now (links .entry)) t x ⌝ }
@@ -28,29 +21,6 @@ fn put(links: &mut [u16], t: u16, x: u16)
     let place = t as usize;
     if place < links.len() {
         links[place] = x;
-    }
-}
-
-// The search along the right links, over 1,024 threads at most.
-pub fn seek(status: &[u8; 1024], right: &[u16; 1024], leftmost: u16) -> Sought
-    ensures { λ r. ⌜ r .thread ≡ seekOf 1024 (now (status .entry)) (now (right .entry)) leftmost .thread ⌝ }
-    ensures { λ r. ⌜ r .passed ≡ seekOf 1024 (now (status .entry)) (now (right .entry)) leftmost .passed ⌝ }
-{
-    let mut t = leftmost;
-    let mut passed = 0;
-    while passed < 1024 {
-        if NO_THREAD <= t {
-            break;
-        }
-        if status[t as usize] == READY {
-            return Sought { thread: t, passed };
-        }
-        t = right[t as usize];
-        passed += 1;
-    }
-    Sought {
-        thread: NO_THREAD,
-        passed,
     }
 }
 

@@ -4,6 +4,7 @@ mod Rows
 mod Numbers
 mod Copied
 mod Linking
+mod Searching
 mod Acts
 mod ListActs
 mod Takes

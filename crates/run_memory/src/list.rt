@@ -5,7 +5,6 @@ use crate::places::put_row;
 use crate::places::row_at;
 use crate::places::status_at;
 use links::NO_THREAD;
-use links::Sought;
 use schedule::statuses::READY;
 ghost use mathlib.Core.Path.{_≡_};
 ghost use Prim.Native.Nat.{_<_};
@@ -13,6 +12,12 @@ ghost use Rattle.schedule.specs.Links.{seek as seekOf};
 ghost use Rattle.run_memory.specs.Blocks.{bytesIn, wordsIn};
 ghost use Rattle.run_memory.specs.Places.{headAt};
 ghost use Rattle.run_memory.specs.Code.Writes.{linkedLeft, unlinked};
+
+// The leftmost ready thread, or NO_THREAD, and how many threads stand left of it.
+pub(crate) struct Sought {
+    pub(crate) thread: u16,
+    pub(crate) passed: u16,
+}
 
 // Puts c directly left of t.
 pub(crate) fn link_left(words: &mut [u16; 6163], k: usize, h: usize, c: u16, t: u16)

@@ -63,7 +63,7 @@ fn handed(text: &str, call: &str) -> Vec<String> {
         "order.len()" => "turns".to_string(),
         "&mut work.parents" => "seen".to_string(),
         other => {
-            let place = other.trim_start_matches("&mut ").trim_end_matches("()");
+            let place = other.trim_start_matches("&mut ").trim_start_matches('&').trim_end_matches("()");
             place.trim_start_matches("self.").trim_start_matches("parts.").trim_start_matches("work.").to_string()
         }
     };
@@ -140,7 +140,7 @@ fn parts_are_at_the_header_s_places() {
             "heads" => "LEFTMOST".to_string(),
             other => other.to_uppercase(),
         };
-        assert_eq!(named[in_header.as_str()], *place, "{name}");
+        assert_eq!(named[format!("AT_{in_header}").as_str()], *place, "{name}");
     }
     assert_eq!(parts.len(), 14);
 }

@@ -4,7 +4,7 @@ use Prim.Native.Nat.{ℕ, _-_}
 use mathlib.Core.List.{List}
 use denote.Ref.{now}
 use borrow.Author.Needs.{needs}
-use Rattle.links.proofs.Searching.{SoFar, sought-start, sought-found, sought-out, sought-over, sought-on}
+use Rattle.run_memory.proofs.Searching.{SoFar, sought-start, sought-found, sought-out, sought-over, sought-on}
 use Rattle.run_memory.specs.Blocks.{bytesIn, wordsIn}
 use Rattle.run_memory.specs.Places.{headAt}
 use Rattle.run_memory.proofs.list.seek.Statement.{statement}
