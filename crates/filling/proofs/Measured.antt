@@ -5,11 +5,11 @@ use native.Mathlib.Omega.{arith}
 use mathlib.Core.Path.{_≡_, refl, sym, ap, _∙_}
 use mathlib.Core.List.{List, [], _∷_, _++_, flatten}
 use mathlib.Core.Bool.{Bool, true, false, _&&_, _||_}
-use lib.ListN.{length, drop}
+use lib.ListN.{length, drop, length-append}
 use lib.Dec.{ltb, leb}
 use borrow.Author.Tests.{ltb-false, le-leb, lt-leb}
 use Rattle.table.specs.Sum.{pick, sumTo, anyBelow}
-use Rattle.table.specs.Format.{Table, tableOf}
+use Rattle.table.specs.Format.{Table, tableOf, u24At}
 use Rattle.table.specs.Checks.{outside, passes}
 use Rattle.table.specs.Pass.{orElse, refusal, tryAt, tryFrom, tryPass, firstFound}
 use Rattle.table.specs.Rules.{Rules}
@@ -30,9 +30,10 @@ use Rattle.text.proofs.Putting.{puts-whole}
 use Rattle.text.proofs.Placing.{placed-fits}
 use Rattle.filling.specs.declared.Total.{Total}
 use Rattle.filling.specs.declared.Filling.{Filling}
+use Rattle.filling.specs.declared.Answer.{Answer}
 use Rattle.filling.specs.declared.Answer.the-variants.{Filled, Refused}
 use Rattle.filling.specs.Filled.{big, newThreads, filledBodies, filledOut, threadsTo, actionsTo, fillPass}
-use Rattle.filling.specs.Filling.{totalAs, totalOf, quotaPass, fillFound, fillsOut, fillingOf, filledInto, answerOf, wholeInto}
+use Rattle.filling.specs.Filling.{totalAs, totalOf, quotaPass, fillFound, fillsOut, fillingOf, filledInto, answerOf, wholeInto, answerTo, answeredIn}
 use Rattle.filling.specs.Code.Steps.{Ready}
 use Rattle.filling.proofs.Trees.{dummies-two, new-threads}
 use Rattle.filling.proofs.FilledTable.{Fits, room-exactly, any-false, none-new, fill-size, room-enough}
@@ -267,3 +268,22 @@ module _ (s : List ℕ) (K : ℕ) (out o : List ℕ) (room : length out ≡ 3686
         let v : bufferAt o′ j ≡ placed out 0 s = rw z at u in
         let b : bufferAt o′ j ≡ bufferAt (s ++ drop (length s) out) (length s) = v ∙ placed-fits out 0 s (omega (arith, room)) ∙ simp zero-add in
         (rw (nothing, g) (ap (λ (x : Buffer). Filled (x .next)) b), rw (nothing, g) (ap (λ (x : Buffer). x .bytes) b))
+
+-- what the program writes lies within its buffer
+pub answer-within : (input out o : List ℕ) (r : Answer) (k : ℕ) → r ≡ answerTo input → r ≡ Filled k → o ≡ answeredIn input out → k ≤ length o
+answer-within input out o r k d e w = rw w (go (ltb (length input) 3) (fillFound s K) refl refl)
+  where
+    s : List ℕ
+    s = drop 3 input
+
+    K : ℕ
+    K = u24At input 0
+
+    go : (b : Bool) (f : Found) → ltb (length input) 3 ≡ b → fillFound s K ≡ f → k ≤ length (answeredIn input out)
+    go true f p q = let y : answerTo input ≡ Refused (refusal 33 0) = rw p in no-way (cc)
+    go false (At x) p q = let y : answerTo input ≡ Refused x = rw (p, q) in no-way (cc)
+    go false Nothing p q =
+        let y : answerTo input ≡ Filled (length (filledOut s K)) = rw (p, q) in
+        let z : Filled (length (filledOut s K)) ≡ Filled k = sym y ∙ sym d ∙ e in
+        let u : length (filledOut s K) ≡ k = cc in
+        rw (p, q) (omega (arith, u, length-append (filledOut s K) (drop (length (filledOut s K)) out)))
