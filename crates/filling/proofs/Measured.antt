@@ -271,6 +271,7 @@ module _ (s : List ℕ) (K : ℕ) (out o : List ℕ) (room : length out ≡ 3686
 
 -- what the program writes lies within its buffer
 pub answer-within : (input out o : List ℕ) (r : Answer) (k : ℕ) → r ≡ answerTo input → r ≡ Filled k → o ≡ answeredIn input out → k ≤ length o
+unfolding answerTo answeredIn
 answer-within input out o r k d e w = rw w (go (ltb (length input) 3) (fillFound s K) refl refl)
   where
     s : List ℕ

@@ -60,8 +60,8 @@ abbrev pub wholeInto : List ℕ → ℕ → List ℕ → List ℕ
 wholeInto s K out = pick (isNothing (fillFound s K)) (filledOut s K ++ drop (length (filledOut s K)) out) out
 
 -- the input of `filltable`: K (3 bytes) and a table; 33 where it is under 3 bytes
-abbrev pub answerTo : List ℕ → Answer
+unfoldable pub answerTo : List ℕ → Answer
 answerTo input = pick (ltb (length input) 3) (Refused (refusal 33 0)) (answerOf (drop 3 input) (u24At input 0))
 
-abbrev pub answeredIn : List ℕ → List ℕ → List ℕ
+unfoldable pub answeredIn : List ℕ → List ℕ → List ℕ
 answeredIn input out = pick (ltb (length input) 3) out (wholeInto (drop 3 input) (u24At input 0) out)

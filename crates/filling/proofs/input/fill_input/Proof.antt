@@ -16,10 +16,12 @@ use Rattle.filling.proofs.input.fill_input.Statement.{statement}
 use Rattle.filling.proofs.input.fill_input.Tie as tie
 
 short : (input out : List ℕ) → length input < 3 → (Refused (refusal 33 0) ≡ answerTo input) × (out ≡ answeredIn input out)
+unfolding answerTo answeredIn
 short input out h = let z = lt-ltb (length input) 3 h in (rw z, rw z)
 
 long : (input out o : List ℕ) (K : ℕ) (r : Answer) → 3 ≤ length input → K ≡ u24At input 0 → r ≡ answerOf (take (length input - 3) (drop 3 input)) K
     → o ≡ wholeInto (take (length input - 3) (drop 3 input)) K out → (r ≡ answerTo input) × (o ≡ answeredIn input out)
+unfolding answerTo answeredIn
 long input out o K r h e p q =
     let z = le-ltb (length input) 3 h in
     let w : take (length input - 3) (drop 3 input) ≡ drop 3 input = rest-part input 3 in
