@@ -1,10 +1,10 @@
 -- What is found before anything is built, and what then is known: the cases of `fillingOf` and of `filledInto`.
-use Prim.Native.Nat.{ℕ, zero, suc, _+_, _-_, _*_, _≤_, _<_}
+use Prim.Native.Nat.{ℕ, suc, _+_, _-_, _*_, _≤_, _<_}
 use native.Mathlib.Nat.{zero-add}
 use native.Mathlib.Omega.{arith}
 use mathlib.Core.Path.{_≡_, refl, sym, ap, _∙_}
 use mathlib.Core.List.{List, [], _∷_, _++_, flatten}
-use mathlib.Core.Bool.{Bool, true, false, _&&_, _||_}
+use mathlib.Core.Bool.{Bool, true, false, _&&_}
 use lib.ListN.{length, drop, length-append}
 use lib.Dec.{ltb, leb}
 use borrow.Author.Tests.{ltb-false, le-leb, lt-leb}

@@ -1,7 +1,7 @@
 -- What the calls of this crate answer.
 use Prim.Native.Nat.{ℕ}
 use mathlib.Core.List.{List, [], _∷_, _++_}
-use mathlib.Core.Bool.{Bool, true, false, _&&_}
+use mathlib.Core.Bool.{Bool, _&&_}
 use lib.Dec.{ltb, leb}
 use lib.ListN.{length, drop}
 use Rattle.table.specs.Sum.{pick, anyBelow}

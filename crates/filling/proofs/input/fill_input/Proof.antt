@@ -1,5 +1,5 @@
 -- `filling::input::fill_input` meets its contract.
-use mathlib.Core.Path.{_≡_, refl, _∙_}
+use mathlib.Core.Path.{_≡_}
 use Prim.Native.Nat.{ℕ, _-_, _≤_, _<_}
 use mathlib.Core.List.{List}
 use lib.ListN.{length, take, drop}
@@ -9,7 +9,7 @@ use Rattle.table.specs.Format.{u24At}
 use Rattle.table.specs.Pass.{refusal}
 use Rattle.table.proofs.Parts.{rest-part}
 use Rattle.filling.specs.declared.Answer.{Answer}
-use Rattle.filling.specs.declared.Answer.the-variants.{Filled, Refused}
+use Rattle.filling.specs.declared.Answer.the-variants.{Refused}
 use Rattle.filling.specs.Filling.{answerOf, wholeInto, answerTo, answeredIn}
 use borrow.Author.Needs.{needs}
 use Rattle.filling.proofs.input.fill_input.Statement.{statement}

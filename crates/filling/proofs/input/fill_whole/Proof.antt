@@ -1,5 +1,5 @@
 -- `filling::input::fill_whole` meets its contract.
-use mathlib.Core.Path.{_≡_, refl}
+use mathlib.Core.Path.{refl}
 use native.Mathlib.Omega.{arith}
 use denote.Ref.{now}
 use Rattle.filling.proofs.Measured.{whole-refused, whole-filled, whole-in-place}
