@@ -261,7 +261,7 @@ PROGRAMS = {
     'maxquota': (BOARDS, maxquota_input, lambda data: quota.maxquota(data) + '\n', quota_traits,
                  ['quota', 'the upper end', 'one worker', 'refused 20', 'refused 33', 'refused 41', 'refused 42'] + TABLE),
     'filltable': (FILLINGS, filltable_input, filling.answer, filling_traits,
-                  ['as it is', 'one tree', 'trees', 'not by rising action', 'above 1,000 threads', 'refused 21', 'refused 33', 'refused 44'] + TABLE),
+                  ['as it is', 'one tree', 'trees', 'not by rising action', 'above 1,000 threads', 'refused 3', 'refused 21', 'refused 33', 'refused 44']),
     'turnlist': (LISTINGS, turnlist_input, machine.turnlist, listing_traits,
                  ['done', 'open', 'quota', 'wait', 'idle', 'premature', 'order left at the end', 'order of 0', 'order of 4096', 'worker 255',
                   'refused 20', 'refused 21', 'refused 22', 'refused 30', 'refused 33']),
