@@ -17,10 +17,12 @@ use Rattle.schedule.specs.declared.Run.{Run}
 use Rattle.schedule.specs.declared.Begun.{Begun}
 use Rattle.schedule.specs.declared.Beginning.the-variants.{Begun as started}
 use Rattle.schedule.specs.Record.{maxWorkers}
-use Rattle.schedule.specs.Begin.{maxQuota, allocAbove, beginPasses, begin, startRun}
+use Rattle.filling.specs.Filled.{big, filledOut, overfull}
+use Rattle.filling.proofs.FilledTable.{in-place}
+use Rattle.schedule.specs.Begin.{maxQuota, beginPasses, begin, startRun}
 use Rattle.schedule.specs.Calls.{Call, afterCalls, rowOfCalls}
 use Rattle.schedule.specs.Memory.{memoryOf, peakMemory, Keeps}
-use Rattle.bounds.proofs.Limit.{memory-limit}
+use Rattle.bounds.proofs.Limit.{MemoryLimit, memory-limit}
 use Rattle.quota.specs.declared.Quoted.{Quoted}
 use Rattle.quota.specs.declared.Quoted.the-variants.{Given, Refused}
 use Rattle.quota.specs.Quota.{InRange, quoted, QuotaValues, valuesOf, valuesFor}
@@ -42,12 +44,12 @@ use Rattle.quota.proofs.Checks.{values-are}
 
 -- no check of a beginning applies to a quota in range
 begin-passed : (T : Table) (p K : ℕ) → 1 ≤ p → p ≤ maxWorkers → InRange T K → firstFound (beginPasses T p K) ≡ Nothing
-unfolding allocAbove
+unfolding big overfull
 begin-passed T p K low high r =
     let l = least-exactly T K .0 (r .low) in
     firstFound-nothing (beginPasses T p K) .1 (
       tryPass-from-0 1 _ .1 ((λ i h. in-outside 1 maxWorkers p low high), ((λ i h. in-outside 1 maxQuota K (l .0) (r .high)), tt)),
-      (tryPass-from-0 (T .actions) _ .1 ((λ a h. le-ltb K (allocOf T a) (l .1 a h)), tt), tt),
+      (tryPass-from-0 (T .actions) _ .1 ((λ a h. rw (le-ltb K (allocOf T a) (l .1 a h))), tt), tt),
     )
 
 given-found : (s : List ℕ) (p b M K : ℕ) → quoted s p b M ≡ Given K → firstFound (passes s ++ beginPasses (tableOf s) p K) ≡ Nothing
@@ -55,9 +57,13 @@ given-found s p b M K e =
     let g = given-exactly s p b M K .0 e in
     rw (firstFound-append (passes s) (beginPasses (tableOf s) p K), passes-rules s .1 (g .0 .rules), begin-passed (tableOf s) p K (g .0 .some-worker) (g .0 .few-workers) (g .1 .in-range))
 
+-- N1 looks at K from the largest alloc up: nothing is above such a K, and the table as given runs
+pub given-place : (s : List ℕ) (p b M K : ℕ) → quoted s p b M ≡ Given K → filledOut s K ≡ s
+given-place s p b M K e = let g = given-exactly s p b M K .0 e in in-place s K (least-exactly (tableOf s) K .0 (g .1 .in-range .low) .1)
+
 pub begin-given : (s : List ℕ) (p b M K : ℕ) → quoted s p b M ≡ Given K → begin s p K ≡ record { answer = started; run = startRun s p K }
 unfolding begin
-begin-given s p b M K e = rw (given-found s p b M K e)
+begin-given s p b M K e = rw (given-found s p b M K e, given-place s p b M K e)
 
 pub lent-begin-given : (s : List ℕ) (p b M K : ℕ) → quoted s p b M ≡ Given K → lentBegin s p K .number ≡ 0
 unfolding lentBegin
@@ -81,7 +87,7 @@ quota-serves s p b M K e =
     let begun = begin-given s p b M K e in (
       begun,
       λ calls.
-          let l = memory-limit s p K (startRun s p K) begun b (g .0 .some-gap) calls in
+          let l : MemoryLimit (tableOf s) p K b (afterCalls calls (startRun s p K)) (rowOfCalls calls (startRun s p K)) = rw (given-place s p b M K e) at (memory-limit s p K (startRun s p K) begun b (g .0 .some-gap) calls) in
           let fronts : (front rest : List ℕ) → rowOfCalls calls (startRun s p K) ≡ front ++ rest → Keeps b front → (memoryOf (tableOf s) K front ≤ M) × (peakMemory (tableOf s) K front ≤ M) =
           λ front rest d k. let w = l .bounded front rest d k in (omega (arith, w .0, g .1 .serves), omega (arith, w .1, g .1 .serves)) in
           record {
