@@ -31,7 +31,7 @@ use Rattle.filling.proofs.Balances.{filled-balances}
 
 -- ---- 44
 
-none-new : (T : Table) (K a : ℕ) → big T K a ≡ false → (newThreads T K a ≡ 0) × (newActions T K a ≡ 0)
+pub none-new : (T : Table) (K a : ℕ) → big T K a ≡ false → (newThreads T K a ≡ 0) × (newActions T K a ≡ 0)
 unfolding newThreads newActions
 none-new T K a e = (rw e, rw e)
 

@@ -21,3 +21,4 @@ pub mod TreeSizes
 pub mod Reading
 pub mod Numbering
 pub mod FilledRows
+pub mod Measured
