@@ -29,7 +29,7 @@ use Rattle.order.proofs.SerialSums.{lower, front-sum}
 use Rattle.order.proofs.Totals.{sumTo-add}
 use Rattle.schedule.proofs.Sound.Leftmost.{all-done, front-done, leftmost-undone}
 use Rattle.bounds.proofs.Draws.{spentBeyond}
-use Rattle.bounds.proofs.Delayed.{drawnCost, Delayed}
+use Rattle.filling.proofs.Delay.{drawnCost, Delayed}
 use Rattle.bounds.proofs.Dummies.{dummies-few}
 use Rattle.bounds.proofs.Covers.{covers}
 use Rattle.order.proofs.Lists.{Below}

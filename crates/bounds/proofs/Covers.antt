@@ -27,7 +27,7 @@ use Rattle.schedule.proofs.Sound.Facts.{Done, Facts}
 use Rattle.schedule.proofs.Sound.Done.{done-low, undone, ended-all}
 use Rattle.schedule.proofs.Linked.Waiting.{around-ended, joined-ended}
 use Rattle.bounds.proofs.Draws.{spentBeyond}
-use Rattle.bounds.proofs.Delayed.{Delay, Group, plain, delayed, Groups, no-group, group, Delayed}
+use Rattle.filling.proofs.Delay.{Delay, Group, plain, delayed, Groups, no-group, group, Delayed}
 
 -- ---- sums over lists
 

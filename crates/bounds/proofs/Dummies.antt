@@ -28,7 +28,7 @@ use Rattle.schedule.proofs.Preservation.Starts.{start-worker}
 use Rattle.schedule.proofs.Bounds.Beyond.{startAction, begins, batches}
 use Rattle.schedule.proofs.Bounds.Acts.{drawn-none}
 use Rattle.schedule.proofs.Bounds.Tries.{Tries, Turned, idles, tries, turned}
-use Rattle.bounds.proofs.Delayed.{isLeaf, drawnCost}
+use Rattle.filling.proofs.Delay.{isLeaf, drawnCost}
 use Rattle.bounds.proofs.Draws.{spentBeyond, Draw, draws-within}
 
 -- what is left of its batch to a worker

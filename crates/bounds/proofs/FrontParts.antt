@@ -8,7 +8,7 @@ use Rattle.table.proofs.Levels.{greatest-bound}
 use Rattle.schedule.specs.Memory.{memoryOf, frontRows, peakMemory, Keeps, limit}
 use Rattle.order.proofs.Lawful.{Lawful}
 use Rattle.schedule.proofs.Runs.Rows.{front-rest, front-workers, row-held}
-use Rattle.bounds.proofs.Delayed.{drawnCost, Delayed}
+use Rattle.filling.proofs.Delay.{drawnCost, Delayed}
 use Rattle.bounds.proofs.Bound.{row-bound, row-alone}
 
 -- a front part of a row that keeps the rule keeps it

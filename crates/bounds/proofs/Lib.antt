@@ -9,7 +9,6 @@ pub mod Draws
 pub mod RowBounds
 pub mod Listed
 -- a cost that covers the allocs of a table whose allocs above K are delayed (N6): K at the first action of a dummy
-pub mod Delayed
 pub mod Dummies
 pub mod Covers
 pub mod Bound

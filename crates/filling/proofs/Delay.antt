@@ -1,4 +1,4 @@
--- Delayed allocs, between the filled-out table and the memory limit: serial order is groups end to end, each an action that costs at least what it allocates, or an alloc with a fork and a join in front of threads whose actions cost as much.
+-- Delayed allocs, between the filled-out table and the memory limit: serial order is groups end to end, each an action that costs at least what it allocates, or an alloc with a fork and a join in front of threads whose actions cost as much. For any cost of an action; the memory limit uses `drawnCost`.
 use mathlib.Core.Path.{_≡_}
 use Prim.Native.Nat.{ℕ, suc, _≤_, _<_}
 use mathlib.Core.List.{List, [], _∷_, _++_, List·Memᴰ}
@@ -17,11 +17,11 @@ unfoldable pub isLeaf : Table → ℕ → Bool
 isLeaf T t = eqb (T .count t) 2 && is work (kind T (T .first t))
 
 -- what an action costs: at the work of such a body the whole quota, else what it draws
-unfoldable pub dummyCost : Table → ℕ → ℕ → ℕ
-dummyCost T K a = pick (isLeaf T (owner T a) && eqb a (T .first (owner T a))) K (drawn K (allocOf T a))
+unfoldable pub drawnCost : Table → ℕ → ℕ → ℕ
+drawnCost T K a = pick (isLeaf T (owner T a) && eqb a (T .first (owner T a))) K (drawn K (allocOf T a))
 
 -- an alloc with a fork y and its join in front, and the actions of the tree forked there
-pub record Delay (T : Table) (K y : ℕ) (g : List ℕ) : Type 0 where
+pub record Delay (T : Table) (cost : ℕ → ℕ) (y : ℕ) (g : List ℕ) : Type 0 where
   pub inside : suc (suc y) < T .actions
   pub forks : kind T y ≡ fork
   pub joins : kind T (suc y) ≡ join
@@ -29,16 +29,16 @@ pub record Delay (T : Table) (K y : ℕ) (g : List ℕ) : Type 0 where
   pub members : (a : ℕ) → List·Memᴰ a g
       → (a < T .actions) × ((a ≡ y) ⊎ (((numberOf T y < numberOf T a) × (numberOf T a < numberOf T (suc y))) ⊎ ((a ≡ suc y) ⊎ (a ≡ suc (suc y)))))
   pub alone : (a : ℕ) → List·Memᴰ a g → (a ≡ suc (suc y) → ⊥) → allocOf T a ≡ 0
-  pub covered : sumOver (allocOf T) g ≤ sumOver (dummyCost T K) g
+  pub covered : sumOver (allocOf T) g ≤ sumOver cost g
 
-pub data Group (T : Table) (K : ℕ) (g : List ℕ) : Type 0 where
-  plain : (a : ℕ) → g ≡ a ∷ [] → allocOf T a ≤ dummyCost T K a → Group T K g
-  delayed : (y : ℕ) → Delay T K y g → Group T K g
+pub data Group (T : Table) (cost : ℕ → ℕ) (g : List ℕ) : Type 0 where
+  plain : (a : ℕ) → g ≡ a ∷ [] → allocOf T a ≤ cost a → Group T cost g
+  delayed : (y : ℕ) → Delay T cost y g → Group T cost g
 
 -- groups one after the other
-pub data Groups (T : Table) (K : ℕ) : List ℕ → Type 0 where
-  no-group : Groups T K []
-  group : (g l : List ℕ) → Group T K g → Groups T K l → Groups T K (g ++ l)
+pub data Groups (T : Table) (cost : ℕ → ℕ) : List ℕ → Type 0 where
+  no-group : Groups T cost []
+  group : (g l : List ℕ) → Group T cost g → Groups T cost l → Groups T cost (g ++ l)
 
-abbrev pub Delayed : Table → ℕ → Type 0
-Delayed T K = Groups T K (serialOrder T)
+abbrev pub Delayed : Table → (ℕ → ℕ) → Type 0
+Delayed T cost = Groups T cost (serialOrder T)

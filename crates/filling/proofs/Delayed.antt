@@ -31,7 +31,7 @@ use Rattle.filling.proofs.Roots.{Stand, stand-front, stand-back, so-bel
 use Rattle.filling.proofs.Fills.{Fills, c, b, root-in, tree-there, threads-are}
 use Rattle.filling.proofs.FilledOrder.{startOf, placeOf, runs, expand, filled-order}
 use Rattle.filling.proofs.FilledTable.{Fits, any-false, fills, fill-rules}
-use Rattle.filling.proofs.Delay.{isLeaf, dummyCost, Delay, Group, plain, delayed, Groups, no-group, group, Delayed}
+use Rattle.filling.proofs.Delay.{isLeaf, drawnCost, Delay, Group, plain, delayed, Groups, no-group, group, Delayed}
 use Rattle.filling.proofs.Peak.{tree-quiet, Front, front-of, place-below, place-alloc, runs-quiet}
 
 -- ---- lists
@@ -53,8 +53,8 @@ sum-none f [] e = refl
 sum-none f (x ∷ l) e = omega (arith, e x (List·Memᴰ·head refl), sum-none f l (λ a m. e a (List·Memᴰ·tail m)))
 
 -- an alloc within K costs at least itself
-small-cost : (T : Table) (K a : ℕ) → allocOf T a ≤ K → allocOf T a ≤ dummyCost T K a
-unfolding dummyCost
+small-cost : (T : Table) (K a : ℕ) → allocOf T a ≤ K → allocOf T a ≤ drawnCost T K a
+unfolding drawnCost
 small-cost T K a h = rw (le-ltb K (allocOf T a) h) (go (isLeaf T (owner T a) && eqb a (T .first (owner T a))))
   where
     go : (q : Bool) → allocOf T a ≤ pick q K (allocOf T a)
@@ -62,7 +62,7 @@ small-cost T K a h = rw (le-ltb K (allocOf T a) h) (go (isLeaf T (owner T a) && 
     go false = omega arith
 
 -- a table without big allocs
-pub small-delayed : (T : Table) (K : ℕ) (l : List ℕ) → ((a : ℕ) → List·Memᴰ a l → allocOf T a ≤ K) → Groups T K l
+pub small-delayed : (T : Table) (K : ℕ) (l : List ℕ) → ((a : ℕ) → List·Memᴰ a l → allocOf T a ≤ K) → Groups T (drawnCost T K) l
 small-delayed T K [] h = no-group
 small-delayed T K (a ∷ l) h = group (a ∷ []) l (plain a refl (small-cost T K a (h a (List·Memᴰ·head refl)))) (small-delayed T K l (λ z m. h z (List·Memᴰ·tail m)))
 
@@ -71,7 +71,7 @@ module _ (T : Table) (K : ℕ) (U : Table) (x : Fills T K U) where
   bs = filledBodies T K
 
   cost : ℕ → ℕ
-  cost = dummyCost U K
+  cost = drawnCost U K
 
   first-kind : (t i : ℕ) (l : List Action) → t < U .threads → getD bs t [] ≡ l → i < length l → kind U (U .first t + i) ≡ kindIn (getD l i none)
   first-kind t i l h e k = rw e at (kind-at U bs (x .reads) t i (omega (arith, x .reads .threads)) (rw e k))
@@ -85,7 +85,7 @@ module _ (T : Table) (K : ℕ) (U : Table) (x : Fills T K U) where
   -- ---- the tree of d dummies costs d quotas
 
   leaf-cost : (t : ℕ) → t < U .threads → getD bs t [] ≡ leaf → K ≤ sumOver cost (serial U (U .first t))
-  unfolding sumOver cost dummyCost isLeaf is codeOf kindOf
+  unfolding sumOver cost drawnCost isLeaf is codeOf kindOf
   leaf-cost t h e =
       let z : U .first t + 0 ≡ U .first t = omega arith in
       let k : kind U (U .first t) ≡ work = rw z at (first-kind t 0 leaf h e (omega arith)) in
@@ -234,7 +234,7 @@ module _ (T : Table) (K : ℕ) (U : Table) (x : Fills T K U) where
             pays e,
           )
 
-      delay : Delay U K y g
+      delay : Delay U (drawnCost U K) y g
       unfolding cost
       delay =
           record {
@@ -247,18 +247,18 @@ module _ (T : Table) (K : ℕ) (U : Table) (x : Fills T K U) where
             covered = pays-all;
           }
 
-    plain-pays : big T K a ≡ false → allocOf U p ≤ dummyCost U K p
+    plain-pays : big T K a ≡ false → allocOf U p ≤ drawnCost U K p
     unfolding big
     plain-pays e = small-cost U K p (omega (arith, place-alloc T K U x a h, ltb-false K (allocOf T a) e))
 
-    group-of : (rest : List ℕ) → Ascends (numberOf U) (runs T K U x a ++ (p ∷ rest)) → Group U K (runs T K U x a ++ (p ∷ []))
+    group-of : (rest : List ℕ) → Ascends (numberOf U) (runs T K U x a ++ (p ∷ rest)) → Group U (drawnCost U K) (runs T K U x a ++ (p ∷ []))
     group-of rest up = go (big T K a) refl up
       where
-        go : (q : Bool) → big T K a ≡ q → Ascends (numberOf U) (pick q (y ∷ (S ++ (suc y ∷ []))) [] ++ (p ∷ rest)) → Group U K (pick q (y ∷ (S ++ (suc y ∷ []))) [] ++ (p ∷ []))
+        go : (q : Bool) → big T K a ≡ q → Ascends (numberOf U) (pick q (y ∷ (S ++ (suc y ∷ []))) [] ++ (p ∷ rest)) → Group U (drawnCost U K) (pick q (y ∷ (S ++ (suc y ∷ []))) [] ++ (p ∷ []))
         go true e up = delayed y (delay e rest up)
         go false e up = plain p refl (plain-pays e)
 
-  groups-along : (l : List ℕ) → ((a : ℕ) → List·Memᴰ a l → a < T .actions) → Ascends (numberOf U) (expand T K U x l) → Groups U K (expand T K U x l)
+  groups-along : (l : List ℕ) → ((a : ℕ) → List·Memᴰ a l → a < T .actions) → Ascends (numberOf U) (expand T K U x l) → Groups U (drawnCost U K) (expand T K U x l)
   unfolding expand
   groups-along [] h up = no-group
   groups-along (a ∷ l) h up =
@@ -270,21 +270,21 @@ module _ (T : Table) (K : ℕ) (U : Table) (x : Fills T K U) where
       rw (← append-assoc q (p ∷ []) r)
       (group (q ++ (p ∷ [])) r (group-of a w r up) (groups-along l (λ z m. h z (List·Memᴰ·tail m)) (ascends-back (numberOf U) (q ++ (p ∷ [])) r up′)))
 
-  pub filled-delayed : Lawful U → Delayed U K
+  pub filled-delayed : Lawful U → Delayed U (drawnCost U K)
   filled-delayed m =
       rw (filled-order T K U x)
       (groups-along (serialOrder T) (so-below T (x .lawful)) (rw (filled-order T K U x) at (so-ascends U m)))
 
 -- of the table that runs
 pub fill-delayed : (s : List ℕ) (K : ℕ) (rules : Rules s) (some : 1 ≤ K) → Fits (tableOf s) K
-    → Delayed (tableOf (filledOut s K)) K
+    → Delayed (tableOf (filledOut s K)) (drawnCost (tableOf (filledOut s K)) K)
 unfolding filledOut big
 fill-delayed s K rules some fits = go (anyBelow (big T K) (T .actions)) refl
   where
     T : Table
     T = tableOf s
 
-    go : (q : Bool) → anyBelow (big T K) (T .actions) ≡ q → Delayed (tableOf (pick q (written (filledBodies T K)) s)) K
+    go : (q : Bool) → anyBelow (big T K) (T .actions) ≡ q → Delayed (tableOf (pick q (written (filledBodies T K)) s)) (drawnCost (tableOf (pick q (written (filledBodies T K)) s)) K)
     go true e =
         let r : Rules (written (filledBodies T K)) = rw e at (fill-rules s K rules some fits) in
         filled-delayed T K (tableOf (written (filledBodies T K))) (fills s K rules some fits) (lawful (written (filledBodies T K)) r)

@@ -14,7 +14,7 @@ use Rattle.table.proofs.Passes.{accepted-exactly}
 use Rattle.order.proofs.Lawful.{Lawful, lawful}
 use Rattle.filling.specs.Filled.{newTurns, filledOut, fillPass, threadsTo, actionsTo}
 use Rattle.order.specs.Turns.{turnsOf}
-use Rattle.filling.proofs.Delay.{Delayed}
+use Rattle.filling.proofs.Delay.{drawnCost, Delayed}
 use Rattle.filling.proofs.Delayed.{fill-delayed}
 use Rattle.filling.proofs.FilledTable.{Fits, room-exactly, fill-rules, fill-counts}
 use Rattle.filling.proofs.Peak.{fill-peak}
@@ -27,7 +27,7 @@ pub record Runs (s : List ℕ) (K : ℕ) : Type 0 where
   pub actions : tableOf (filledOut s K) .actions ≡ actionsTo (tableOf s) K (tableOf s .actions)
   pub peak : S1 (tableOf (filledOut s K)) ≡ S1 (tableOf s)
   pub turns : turnsOf (tableOf (filledOut s K)) ≡ turnsOf (tableOf s) + sumTo (newTurns (tableOf s) K) (tableOf s .actions)
-  pub delayed : Delayed (tableOf (filledOut s K)) K
+  pub delayed : Delayed (tableOf (filledOut s K)) (drawnCost (tableOf (filledOut s K)) K)
 
 pub fill-runs : (s : List ℕ) (K : ℕ) → Rules s → 1 ≤ K → tryPass (fillPass (tableOf s) K) ≡ Nothing → Runs s K
 fill-runs s K r k e =

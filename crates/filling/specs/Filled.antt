@@ -17,7 +17,7 @@ act k x = record { code = k; argument = x }
 unfoldable pub big : Table → ℕ → ℕ → Bool
 big T K a = ltb K (allocOf T a)
 
--- what an alloc of x takes from the quota: "The big alloc takes nothing from the quota and isn't put back for it."
+-- what an alloc of x draws from the quota: "The big alloc takes nothing from the quota and isn't put back for it", big being above K, whatever is left
 abbrev pub drawn : ℕ → ℕ → ℕ
 drawn K x = pick (ltb K x) 0 x
 

@@ -25,7 +25,8 @@ use Rattle.schedule.specs.declared.Turning.{Turning}
 use Rattle.schedule.specs.declared.Turning.the-variants.{Taken}
 use Rattle.schedule.specs.Machine.{leftOf, without, waitsFor, woken, actBy, act, leftmost, taken, turnFree, turnOf, passedBy}
 use Rattle.schedule.specs.Record.{setOf}
-use Rattle.schedule.specs.Begin.{allocAbove, settingPasses, startState, startRun, begin}
+use Rattle.schedule.specs.Begin.{settingPasses, startState, startRun, begin}
+use Rattle.filling.specs.Filled.{big, filledOut, overfull}
 use Rattle.order.specs.Firsts.{firsts}
 use Rattle.schedule.specs.Links.{walk, rightIn}
 use Rattle.schedule.specs.Turn.{unsound, rootEnded, noWorker, stepRun, turned, passedIn}
@@ -176,11 +177,11 @@ record Seen (turn : Run → ℕ → Turned) : Type 0 where
   counted : turn begunE 0 .run .turns ≡ 1
 
 beginsE : (begin E 2 6 .answer ≡ started) × (begunE .turns ≡ 0)
-unfolding sumTo anyBelow codeOf kindOf is tableOf tryAt tryFrom tryPass firstFound entryWrong totalWrong ownerBelow kindUnknown argumentWrong endMisplaced forkedBelow forkedBefore openBefore joinNotLatest endWithOpen neverForked allocOf freeOf wholeWithin balance balanceBelow0 passes setOf allocAbove firsts walk rightIn startState startRun begin
+unfolding sumTo anyBelow codeOf kindOf is tableOf tryAt tryFrom tryPass firstFound entryWrong totalWrong ownerBelow kindUnknown argumentWrong endMisplaced forkedBelow forkedBefore openBefore joinNotLatest endWithOpen neverForked allocOf freeOf wholeWithin balance balanceBelow0 passes setOf big overfull filledOut firsts walk rightIn startState startRun begin
 beginsE = (refl, refl)
 
 seen : Seen turnedSound
-unfolding sumTo anyBelow codeOf kindOf is tableOf tryAt tryFrom tryPass firstFound entryWrong totalWrong ownerBelow kindUnknown argumentWrong endMisplaced forkedBelow forkedBefore openBefore joinNotLatest endWithOpen neverForked allocOf freeOf wholeWithin balance balanceBelow0 passes forkBelow leftOf without waitsFor woken actBy act leftmost taken turnFree turnOf setOf allocAbove firsts walk rightIn startState startRun begin rootEnded noWorker stepRun passedBy passedIn
+unfolding sumTo anyBelow codeOf kindOf is tableOf tryAt tryFrom tryPass firstFound entryWrong totalWrong ownerBelow kindUnknown argumentWrong endMisplaced forkedBelow forkedBefore openBefore joinNotLatest endWithOpen neverForked allocOf freeOf wholeWithin balance balanceBelow0 passes forkBelow leftOf without waitsFor woken actBy act leftmost taken turnFree turnOf setOf big overfull filledOut firsts walk rightIn startState startRun begin rootEnded noWorker stepRun passedBy passedIn
 seen = record { first = refl; second = refl; unended = refl; counted = refl }
 
 -- the same of the turns as they are defined

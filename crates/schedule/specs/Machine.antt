@@ -3,11 +3,12 @@ use Prim.Native.Nat.{ℕ, suc, _+_, _-_, max}
 use mathlib.Core.List.{List, [], _∷_}
 use mathlib.Core.Bool.{Bool, true, false, _&&_}
 use lib.ListN.{length, getD, set}
-use lib.Dec.{leb, ltb, eqb}
+use lib.Dec.{leb, eqb}
 use Rattle.table.specs.Sum.{pick}
 use Rattle.table.specs.Format.{Kind, end, work, alloc, free, fork, join, unknown, is, Table, kind}
 use Rattle.table.specs.Checks.{owner}
 use Rattle.table.specs.Level.{forkBelow}
+pub use Rattle.filling.specs.Filled.{drawn}
 use Rattle.schedule.specs.declared.Worker.{Worker}
 use Rattle.schedule.specs.declared.Reply.{Reply}
 use Rattle.schedule.specs.declared.Reply.the-variants.{Idle, Done, Quota, Wait}
@@ -129,10 +130,6 @@ pub record Stepped : Type 0 where
 
 abbrev pub stepped : Reply → State → Stepped
 stepped r st = record { reply = r; state = st }
-
--- what an alloc of x draws from the quota: "The big alloc takes nothing from the quota and isn't put back for it" (N6), big being above K, whatever is left
-abbrev pub drawn : ℕ → ℕ → ℕ
-drawn K x = pick (ltb K x) 0 x
 
 -- "Then the thread's next action decides, by its kind": worker w holds thread t, whose next action a has the kind given and the argument x
 unfoldable pub actBy : Kind → Table → ℕ → ℕ → ℕ → ℕ → ℕ → State → Stepped

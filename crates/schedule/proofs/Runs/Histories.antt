@@ -10,7 +10,7 @@ use lib.Dec.{eqb}
 use borrow.Author.Tests.{ltb-true, not-false}
 use Rattle.table.specs.Sum.{pick}
 use Rattle.table.specs.Format.{Table, tableOf}
-use Rattle.table.specs.Pass.{refusal, firstFound, tryAt}
+use Rattle.table.specs.Pass.{refusal, tryPass, firstFound, tryAt}
 use Rattle.table.specs.Checks.{maxThreads, passes}
 use Rattle.table.specs.Rules.{Rules}
 use Rattle.table.specs.declared.Found.{Found}
@@ -18,7 +18,7 @@ use Rattle.table.specs.declared.Found.the-variants.{Nothing, At}
 use Rattle.table.specs.declared.Refusal.{Refusal}
 use Rattle.table.proofs.Tests.{no-way}
 use Rattle.table.proofs.Trying.{orElse-nothing, tryAt-nothing}
-use Rattle.table.proofs.Passes.{firstFound-append, passes-rules}
+use Rattle.table.proofs.Passes.{firstFound-append, firstFound-nothing, passes-rules}
 use Rattle.schedule.specs.declared.Run.{Run}
 use Rattle.schedule.specs.declared.Begun.{Begun}
 use Rattle.schedule.specs.declared.Beginning.the-variants.{Begun as started}
@@ -29,7 +29,9 @@ use Rattle.schedule.specs.declared.Ran.{Ran}
 use Rattle.schedule.specs.Machine.{State}
 use Rattle.schedule.specs.Record.{maxBytes, stateOf, tableIn}
 use Rattle.order.specs.Words.{filled}
-use Rattle.schedule.specs.Begin.{begin, begunAs, settingPasses, allocPass, beginPasses, startState, startRun}
+use Rattle.schedule.specs.Begin.{begin, begunAs, settingPasses, beginPasses, startState, startRun}
+use Rattle.filling.specs.Filled.{filledOut, fillPass}
+use Rattle.filling.proofs.Runs.{Runs, fill-runs}
 use Rattle.order.specs.Firsts.{firsts}
 use Rattle.schedule.specs.Links.{walk, laid}
 use Rattle.schedule.specs.Sound.{SoundState, Steady, Sound}
@@ -48,23 +50,27 @@ use Rattle.schedule.proofs.Stores.{Fits, setting-fits, laid-back, moved
 -- ---- what a beginning gives
 
 pub record Started (s : List ℕ) (p K : ℕ) (r : Run) : Type 0 where
-  pub is-start : r ≡ startRun s p K
-  pub lawful : Lawful (tableOf s)
+  pub is-start : r ≡ startRun (filledOut s K) p K
+  -- what the requests say of the table that runs
+  pub filling : Runs s K
+  pub lawful : Lawful (tableOf (filledOut s K))
+  pub settings : Fits p K
   pub some-worker : 1 ≤ p
   pub few-workers : p ≤ 16
 
 -- no check applies, and the record is the start's
 begin-accepted : (s : List ℕ) (p K : ℕ) (r : Run) → begin s p K ≡ record { answer = started; run = r }
-    → (r ≡ startRun s p K) × Rules s × (firstFound (settingPasses p K) ≡ Nothing)
+    → (r ≡ startRun (filledOut s K) p K) × Runs s K × (firstFound (settingPasses p K) ≡ Nothing)
 unfolding begin
 begin-accepted s p K r e = go (firstFound (passes s ++ beginPasses (tableOf s) p K)) refl e
   where
-    go : (f : Found) → firstFound (passes s ++ beginPasses (tableOf s) p K) ≡ f → begunAs f (startRun s p K) ≡ record { answer = started; run = r }
-        → (r ≡ startRun s p K) × Rules s × (firstFound (settingPasses p K) ≡ Nothing)
+    go : (f : Found) → firstFound (passes s ++ beginPasses (tableOf s) p K) ≡ f → begunAs f (startRun (filledOut s K) p K) ≡ record { answer = started; run = r }
+        → (r ≡ startRun (filledOut s K) p K) × Runs s K × (firstFound (settingPasses p K) ≡ Nothing)
     go Nothing n q =
         let b = orElse-nothing (firstFound (passes s)) (firstFound (beginPasses (tableOf s) p K)) .0 (rw (firstFound-append (passes s) (beginPasses (tableOf s) p K)) at n) in
-        let d = orElse-nothing (firstFound (settingPasses p K)) (firstFound (allocPass (tableOf s) K ∷ [])) .0 (rw (firstFound-append (settingPasses p K) (allocPass (tableOf s) K ∷ [])) at (b .1)) in
-        (sym (ap (λ (x : Begun). x .run) q), passes-rules s .0 (b .0), d .0)
+        let d = orElse-nothing (firstFound (settingPasses p K)) (firstFound (fillPass (tableOf s) K ∷ [])) .0 (rw (firstFound-append (settingPasses p K) (fillPass (tableOf s) K ∷ [])) at (b .1)) in
+        let silent : tryPass (fillPass (tableOf s) K) ≡ Nothing = firstFound-nothing (fillPass (tableOf s) K ∷ []) .0 (d .1) .0 in
+        (sym (ap (λ (x : Begun). x .run) q), fill-runs s K (passes-rules s .0 (b .0)) (setting-fits p K (d .0) .some-quota) silent, d .0)
     go (At x) n q = let z = ap (λ (y : Begun). y .answer) q in no-way (cc)
 
 pub begin-started : (s : List ℕ) (p K : ℕ) (r : Run) → begin s p K ≡ record { answer = started; run = r } → Started s p K r
@@ -73,7 +79,9 @@ begin-started s p K r e =
     let f : Fits p K = setting-fits p K (b .2) in
     record {
       is-start = b .0;
-      lawful = lawful s (b .1);
+      filling = b .1;
+      lawful = lawful (filledOut s K) (b .1 .rules);
+      settings = f;
       some-worker = f .some-worker;
       few-workers = f .few-workers;
     }
@@ -108,7 +116,7 @@ start-turns s p K = refl
 pub begin-sound : (s : List ℕ) (p K : ℕ) (r : Run) → begin s p K ≡ record { answer = started; run = r } → Sound r
 begin-sound s p K r e =
     let b = begin-accepted s p K r e in
-    rw (b .0) (record { steady = start-steady s p K (b .1) (b .2); turns = omega (arith, start-turns s p K) })
+    rw (b .0) (record { steady = start-steady (filledOut s K) p K (b .1 .rules) (b .2); turns = omega (arith, start-turns (filledOut s K) p K) })
 
 -- ---- what a list of calls leaves
 
@@ -316,19 +324,18 @@ calls-steady r h (c ∷ calls) = calls-steady (afterCall c r) (call-goes r h c .
 
 -- and from a beginning
 pub start-state : (s : List ℕ) (p K : ℕ) (r : Run) → begin s p K ≡ record { answer = started; run = r }
-    → (tableIn r ≡ tableOf s) × (r .workers ≡ p) × (r .quota ≡ K) × (stateOf r ≡ startState (tableOf s))
+    → (tableIn r ≡ tableOf (filledOut s K)) × (r .workers ≡ p) × (r .quota ≡ K) × (stateOf r ≡ startState (tableOf (filledOut s K)))
 unfolding startRun
 start-state s p K r e =
-    let q : r ≡ startRun s p K = begin-accepted s p K r e .0 in
-    let T : Table = tableOf s in
-    let a : Rules s = begin-accepted s p K r e .1 in
-    rw q (start-bytes s p K, refl, refl, rw (laid-back T (lawful s a) p K (startState T) (start-facts T (lawful s a) p K)))
+    let i : Started s p K r = begin-started s p K r e in
+    let T : Table = tableOf (filledOut s K) in
+    rw (i .is-start) (start-bytes (filledOut s K) p K, refl, refl, rw (laid-back T (i .lawful) p K (startState T) (start-facts T (i .lawful) p K)))
 
 -- of a beginning and a list of calls: the record left is the state after the row, and is sound but for its turns taken; the workers of every front part are below p
 pub record Traced (s : List ℕ) (p K : ℕ) (r : Run) (calls : List Call) : Type 0 where
   pub started : Started s p K r
   pub steady : Steady (afterCalls calls r)
-  pub state : stateOf (afterCalls calls r) ≡ rowState (tableOf s) K (startState (tableOf s)) (rowOfCalls calls r)
+  pub state : stateOf (afterCalls calls r) ≡ rowState (tableOf (filledOut s K)) K (startState (tableOf (filledOut s K))) (rowOfCalls calls r)
   pub below : (front rest : List ℕ) → rowOfCalls calls r ≡ front ++ rest → (w : ℕ) → List·Memᴰ w front → w < p
 
 pub calls-traced : (s : List ℕ) (p K : ℕ) (r : Run) → begin s p K ≡ record { answer = started; run = r } → (calls : List Call) → Traced s p K r calls
