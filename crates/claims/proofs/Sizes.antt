@@ -23,7 +23,8 @@ use Rattle.schedule.specs.Calls.{Call, turn, overList, inRounds}
 use Rattle.schedule.specs.Runs.{workerAt}
 use Rattle.order.proofs.Lists.{filled-front, filled-length, firsts-length}
 use Rattle.schedule.proofs.Stores.{steady-lawful}
-use Rattle.soundness.specs.Tested.{parentsIn, beginFound}
+use Rattle.filling.specs.Filled.{filledOut}
+use Rattle.soundness.specs.Tested.{parentsIn, beginFilling}
 use Rattle.array_machine.specs.declared.Totals.{Totals}
 use Rattle.array_machine.specs.declared.Moved.{Moved}
 use Rattle.array_machine.specs.Arrays.{Arrays, linksOf, secondOf, actionIn, amountIn, withStatuses, withAmounts, advancedIn, relinked, headed, holding}
@@ -293,21 +294,23 @@ blank-shaped =
       totals = refl;
     }
 
-pub begin-shaped : (s : List ℕ) (p K : ℕ) → Shaped (lentBegin s p K .memory)
+pub begin-shaped : (s : List ℕ) (p K room : ℕ) → Shaped (lentBegin s p K room .memory)
 unfolding lentBegin
-begin-shaped s p K = go (beginFound s p K) refl
+begin-shaped s p K room = go (beginFilling s p K .found) refl (ltb room (beginFilling s p K .bytes)) refl
   where
-    go : (f : Found) → beginFound s p K ≡ f → Shaped (begunAs f (startMemory s p K) .memory)
-    go (At x) e = blank-shaped
-    go Nothing e =
-        let begun : lentBegin s p K .number ≡ 0 = rw e in
-        let few = few-so s (startMemory s p K) (start-stands s p K begun .steady) in
+    go : (f : Found) → beginFilling s p K .found ≡ f → (b : Bool) → ltb room (beginFilling s p K .bytes) ≡ b
+        → Shaped (begunAs f b (beginFilling s p K .bytes) (startMemory (filledOut s K) p K) .memory)
+    go (At x) e b c = blank-shaped
+    go Nothing e true c = blank-shaped
+    go Nothing e false c =
+        let begun : lentBegin s p K room .number ≡ 0 = rw (e, c) in
+        let few = few-so (filledOut s K) (startMemory (filledOut s K) p K) (start-stands s p K room begun .steady) in
         record {
           settings = refl;
-          parents = full-parents (tableOf s) few;
+          parents = full-parents (tableOf (filledOut s K)) few;
           arrays =
               record {
-                next = full-firsts (tableOf s .first) (tableOf s .threads) few;
+                next = full-firsts (tableOf (filledOut s K) .first) (tableOf (filledOut s K) .threads) few;
                 status = simp length-set (same 0);
                 amounts = same 0;
                 left = same 1024;
