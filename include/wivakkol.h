@@ -47,13 +47,14 @@ extern "C" {
 #define WIVAKKOL_REFUSED_NEVER_FORKED 11 /* a thread other than 0 that nothing forks */
 #define WIVAKKOL_REFUSED_WORKERS 20      /* p is not 1 to 16 */
 #define WIVAKKOL_REFUSED_QUOTA 21        /* K is not 1 to 16,777,215 */
-#define WIVAKKOL_REFUSED_ALLOC 22        /* an alloc is above K */
 #define WIVAKKOL_REFUSED_WORKER 30       /* the worker is not below p */
 #define WIVAKKOL_REFUSED_ENDED 31        /* the root has ended: the run is over */
 #define WIVAKKOL_REFUSED_RECORD 32       /* the record is neither sound nor blank; of a turn, see there */
 #define WIVAKKOL_REFUSED_BETWEEN 41      /* b is not 1 to 65,535 */
 #define WIVAKKOL_REFUSED_NO_QUOTA 42     /* no quota is small enough for the memory */
 #define WIVAKKOL_REFUSED_TURNS 43        /* more than 999,999 turns are taken */
+#define WIVAKKOL_REFUSED_FILLING 44      /* the filled-out table would pass 1,024 threads or 8,192 actions */
+#define WIVAKKOL_REFUSED_ROOM 61         /* the buffer lent for the filled-out table is too small */
 
 /* The longest table that is accepted: 1,024 threads and 8,192 actions. A longer input may be handed over, and is refused. */
 #define WIVAKKOL_TABLE_MOST 36868
