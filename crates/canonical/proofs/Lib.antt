@@ -1,0 +1,10 @@
+pub mod Renaming
+pub mod Order
+pub mod Form
+pub mod Exact
+pub mod ByteOrder
+pub mod Canonical
+pub mod Numbering
+pub mod NumberWalk
+pub mod NumbersOf
+pub mod FormRows

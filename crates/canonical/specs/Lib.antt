@@ -1,0 +1,4 @@
+pub mod Renames
+pub mod Canonical
+pub mod Order
+pub mod Code
