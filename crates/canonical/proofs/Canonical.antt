@@ -33,7 +33,7 @@ use Rattle.parts.proofs.CopyLaws.{copy-first, copy-end, copy-serial, copy-level
 use Rattle.parts.proofs.CopyRules.{copy-nest}
 use Rattle.parts.proofs.CopyAmounts.{copy-peak}
 use Rattle.table.proofs.NestedThreads.{nested-under}
-use Rattle.canonical.proofs.Form.{form, form-twice, form-reads, form-contents, form-bodies, form-nesting, form-forking, form-balances, form-threads, form-renames}
+use Rattle.canonical.proofs.FormRenames.{form, form-twice, form-reads, form-contents, form-bodies, form-nesting, form-forking, form-balances, form-threads, form-renames}
 use Rattle.canonical.proofs.Exact.{back-renames, forms-equal}
 use Rattle.canonical.proofs.ByteOrder.{Front, order-refl, order-equal, order-swap, order-trans, order-found, order-smaller}
 

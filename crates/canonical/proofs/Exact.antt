@@ -14,9 +14,9 @@ use Rattle.parts.proofs.Short.{Short}
 use Rattle.parts.specs.Copies.{renamed, Copies}
 use Rattle.canonical.specs.Renames.{Renames}
 use Rattle.canonical.specs.Canonical.{threadOrder, newNumber, canonicalBodies}
-use Rattle.canonical.proofs.Order.{new-back, new-at}
+use Rattle.canonical.proofs.Order.{new-back, new-at, thread-at}
 use Rattle.canonical.proofs.Renaming.{bodies-same}
-use Rattle.canonical.proofs.Form.{form, form-copies, form-threads, form-renames, order-in}
+use Rattle.canonical.proofs.FormRenames.{form, form-copies, form-threads, form-renames}
 
 -- ---- one renaming after another
 
@@ -82,7 +82,7 @@ module _ (T : Table) (l : Lawful T) (s : Short T) where
   inside u h = omega (arith, form-threads T l s)
 
   count-back : (u : ℕ) → u < C .threads → T .count (back u) ≡ C .count u
-  count-back u h = sym (y .counts (back u) (order-in T l s u (inside u h))) ∙ ap (C .count) (new-at T l u (inside u h))
+  count-back u h = sym (y .counts (back u) (thread-at T l u (inside u h))) ∙ ap (C .count) (new-at T l u (inside u h))
 
   pub back-renames : Renames C T
   back-renames =
@@ -92,7 +92,7 @@ module _ (T : Table) (l : Lawful T) (s : Short T) where
         threads = sym (form-threads T l s);
         copies =
             record {
-              within = λ u h. order-in T l s u (inside u h);
+              within = λ u h. thread-at T l u (inside u h);
               apart = λ u v h k e. sym (new-at T l u (inside u h)) ∙ ap (newNumber T) e ∙ new-at T l v (inside v k);
               counts = count-back;
               codes = λ u i h k. codes u i h k;
@@ -105,13 +105,13 @@ module _ (T : Table) (l : Lawful T) (s : Short T) where
 
       codes : (u i : ℕ) → u < C .threads → i < C .count u → T .code (T .first (back u) + i) ≡ C .code (C .first u + i)
       codes u i h k =
-          sym (y .codes (back u) i (order-in T l s u (inside u h)) (omega (arith, count-back u h)))
+          sym (y .codes (back u) i (thread-at T l u (inside u h)) (omega (arith, count-back u h)))
           ∙ ap (λ (v : ℕ). C .code (C .first v + i)) (new-at T l u (inside u h))
 
       arguments : (u i : ℕ) → u < C .threads → i < C .count u → T .argument (T .first (back u) + i) ≡ renamed back (kind C (C .first u + i)) (C .argument (C .first u + i))
       arguments u i h k =
           let t : ℕ = back u in
-          let w : t < T .threads = order-in T l s u (inside u h) in
+          let w : t < T .threads = thread-at T l u (inside u h) in
           let j : i < T .count t = omega (arith, count-back u h) in
           let e : C .first u + i ≡ C .first (newNumber T t) + i = ap (λ (v : ℕ). C .first v + i) (sym (new-at T l u (inside u h))) in
           let q : kind C (C .first (newNumber T t) + i) ≡ kind T (T .first t + i) = ap kindOf (y .codes t i w j) in

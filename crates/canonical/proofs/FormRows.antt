@@ -18,11 +18,11 @@ use Rattle.canonical.specs.Canonical.{threadOrder, newNumber, canonicalB
 use Rattle.canonical.specs.Code.Rows.{formRows}
 use Rattle.canonical.proofs.Renaming.{order-below}
 use Rattle.canonical.proofs.Order.{new-below}
-use Rattle.canonical.proofs.Form.{form, form-threads, form-renames, form-reads}
+use Rattle.canonical.proofs.FormRenames.{form, form-threads, form-renames, form-reads}
 use Rattle.canonical.proofs.Canonical.{lawful-keeps, form-keeps, renamed-actions}
 
 -- names that agree on threads put the same rows
-rows-same : (s : List ℕ) (f g : ℕ → ℕ) → ((x : ℕ) → x < tableOf s .threads → f x ≡ g x) → (l : Lawful (tableOf s)) (k a : ℕ) → a + k ≤ tableOf s .actions
+pub rows-same : (s : List ℕ) (f g : ℕ → ℕ) → ((x : ℕ) → x < tableOf s .threads → f x ≡ g x) → (l : Lawful (tableOf s)) (k a : ℕ) → a + k ≤ tableOf s .actions
     → renamedRows (bodiesOf s) f a k ≡ renamedRows (bodiesOf s) g a k
 unfolding renamedRows tableOf
 rows-same s f g e l zero a h = refl
@@ -65,10 +65,10 @@ module _ (s : List ℕ) (l : Lawful (tableOf s)) where
       (λ a p q. renamed-short (tableOf s) (l .contents) (l .bodies) (argument-short s) (newNumber (tableOf s)) (λ u i. omega (arith, new-below (tableOf s) l u i, l .few-threads)) a (omega (arith, b))) in
       rw (e, rows-are ts (λ u m. h u (List·Memᴰ·tail m))) (sym (rows-append (map (renamedAction (newNumber (tableOf s))) (bodyIn (tableOf s) t)) (flatten (bodies ts))))
 
-  form-size : length (canonicalBodies (tableOf s)) ≡ tableOf s .threads
+  pub form-size : length (canonicalBodies (tableOf s)) ≡ tableOf s .threads
   form-size = sym (form-reads (tableOf s) l (argument-short s) .threads) ∙ form-threads (tableOf s) l (argument-short s)
 
-  form-count : length (flatten (canonicalBodies (tableOf s))) ≡ tableOf s .actions
+  pub form-count : length (flatten (canonicalBodies (tableOf s))) ≡ tableOf s .actions
   form-count =
       sym (form-reads (tableOf s) l (argument-short s) .actions)
       ∙ renamed-actions (tableOf s) (form (tableOf s) l (argument-short s)) (lawful-keeps (tableOf s) l) (form-keeps (tableOf s) l (argument-short s)) (form-renames (tableOf s) l (argument-short s))

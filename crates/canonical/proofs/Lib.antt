@@ -1,6 +1,6 @@
 pub mod Renaming
 pub mod Order
-pub mod Form
+pub mod FormRenames
 pub mod Exact
 pub mod ByteOrder
 pub mod Canonical
@@ -8,3 +8,6 @@ pub mod Numbering
 pub mod NumberWalk
 pub mod NumbersOf
 pub mod FormRows
+pub mod Ordering
+pub mod FormPut
+pub mod Answers

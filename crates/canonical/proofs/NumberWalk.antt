@@ -230,3 +230,10 @@ sizes-length cut T zero d = refl
 sizes-length cut T (suc t) d =
     let v : ℕ = cut (suc (forkedSizes (T .code) (T .argument) d (T .first t) (T .count t))) in
     sizes-length cut T t (set d t (cut (suc (forkedSizes (T .code) (T .argument) d (T .first t) (T .count t))))) ∙ length-set d t (cut (suc (forkedSizes (T .code) (T .argument) d (T .first t) (T .count t))))
+
+pub numbers-length : (cut : ℕ → ℕ) (T : Table) (sizes : List ℕ) (k t : ℕ) (new : List ℕ) → length (numbersUp cut T sizes t k new) ≡ length new
+unfolding numbersUp
+numbers-length cut T sizes zero t new = refl
+numbers-length cut T sizes (suc k) t new =
+    numbers-length cut T sizes k (suc t) (numberThread cut T sizes t new)
+    ∙ body-new-length cut (T .code) (T .argument) sizes (T .count t) (T .first t) (numbered new (suc (getD new t 0)))

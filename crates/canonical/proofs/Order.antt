@@ -153,3 +153,6 @@ module _ (T : Table) (l : Lawful T) where
 
   pub new-at : (i : ℕ) → i < T .threads → newNumber T (getD (threadOrder T) i 0) ≡ i
   new-at i h = ascends-place begins (threadOrder T) i order-ascends (omega (arith, order-length))
+
+  pub thread-at : (i : ℕ) → i < T .threads → getD (threadOrder T) i 0 < T .threads
+  thread-at i h = order-below T (l .contents) (l .bodies) (l .some-thread) (getD (threadOrder T) i 0) (getD-member (threadOrder T) i 0 (omega (arith, order-length)))

@@ -1,4 +1,5 @@
 pub mod Renames
 pub mod Canonical
 pub mod Order
+pub mod Answers
 pub mod Code

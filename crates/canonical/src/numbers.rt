@@ -6,12 +6,12 @@ use table::read::count;
 use table::read::first;
 use table::read::threads;
 ghost use mathlib.Core.Path.{_≡_};
-ghost use Prim.Native.Nat.{_^_, _<_};
+ghost use Prim.Native.Nat.{_^_, _<_, _≤_};
 ghost use lib.ListN.{length, getD, set, replicate};
 ghost use Rattle.table.specs.Sum.{Read};
 ghost use Rattle.table.specs.Format.{kindOf, codeAt, argumentAt, tableOf};
 ghost use Rattle.canonical.specs.Code.NumberWalk.{cut16, forkSize, forkedSizes, sizesDown, numbered, numberBody};
-ghost use Rattle.canonical.specs.Code.NumbersOf.{numbersOf, Roomy, BodyIn, NumberStepped};
+ghost use Rattle.canonical.specs.Code.NumbersOf.{numbersOf, orderOf, Roomy, BodyIn, NumberStepped};
 
 fn wide(x: u16) -> usize
     ensures { λ r. ⌜ Read x 65536 r ⌝ }
@@ -124,6 +124,20 @@ pub(crate) fn numbers_in(table: &[u8], sizes: &mut [u16; 1024], new: &mut [u16; 
     while t < n {
         let start = 1 + number_at(new, t);
         number_walk(actions, first(table, t), count(table, t), start, sizes, new);
+        t += 1;
+    }
+}
+
+// The threads by their new numbers, of n threads that each have one below 1,024.
+pub(crate) fn order_in(names: &[u16; 1024], n: usize, order: &mut [u16; 1024])
+    requires { ⌜ (length (now names) ≡ 1024) × (n ≤ 1024) ⌝ }
+    ensures { λ _. ⌜ now (order .exit) ≡ orderOf (now (names .entry)) n ⌝ }
+{
+    *order = [0; 1024];
+    let mut t = 0;
+    while t < n {
+        let at = number_at(names, t);
+        put_number(order, at, t);
         t += 1;
     }
 }

@@ -1,9 +1,13 @@
 -- Rows of a table as code puts them: each number cut to the bytes that it has.
 use Prim.Native.Nat.{ℕ, zero, suc, _+_, _/_, _%_}
 use mathlib.Core.List.{List, [], _∷_, _++_}
-use lib.ListN.{getD}
+use lib.ListN.{getD, length, drop}
 use Rattle.table.specs.Format.{kindOf, codeAt, argumentAt, firstOf, countOf, bodiesOf}
 use Rattle.parts.specs.Copies.{renamed}
+
+-- what is put at the start of a buffer, and what stood there after it
+abbrev pub over : List ℕ → List ℕ → List ℕ
+over front out = front ++ drop (length front) out
 
 -- two numbers of 16 bits
 abbrev pub cutPair : ℕ → ℕ → List ℕ

@@ -1,9 +1,9 @@
 -- What the walks for the new numbers answer to any bytes.
-use Prim.Native.Nat.{ℕ, _+_, _≤_, _<_}
+use Prim.Native.Nat.{ℕ, zero, suc, _+_, _≤_, _<_}
 use mathlib.Core.Path.{_≡_}
 use mathlib.Core.List.{List}
 use lib.Dec.{ltb}
-use lib.ListN.{length, replicate}
+use lib.ListN.{length, getD, set, replicate}
 use Rattle.table.specs.Sum.{pick}
 use Rattle.table.specs.Format.{Kind, threadsOf, bodiesFrom, tableOf}
 use Rattle.canonical.specs.Code.NumberWalk.{cut16}
@@ -12,6 +12,11 @@ use Rattle.canonical.specs.Code.NumberWalk.{Numbered, stepNumber, number
 -- zeros where there are too many threads
 unfoldable pub numbersOf : List ℕ → List ℕ
 numbersOf s = pick (ltb 1024 (threadsOf s)) (replicate 1024 0) (numbersIn cut16 (tableOf s) (replicate 1024 0) (replicate 1024 0))
+
+-- the first n threads, each at its new number
+unfoldable pub orderOf : List ℕ → ℕ → List ℕ
+orderOf names zero = replicate 1024 0
+orderOf names (suc t) = set (orderOf names t) (getD names t 0) (cut16 t)
 
 -- a table's threads and actions, with room for a number of each thread
 pub record Roomy (s : List ℕ) (n : ℕ) (actions : List ℕ) : Type 0 where

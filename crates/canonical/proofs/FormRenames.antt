@@ -29,9 +29,8 @@ use Rattle.canonical.specs.Renames.{Renames}
 use Rattle.canonical.specs.Canonical.{threadOrder, newNumber, canonicalBodies}
 use Rattle.table.proofs.ReadBack.{Reads, read-back}
 use Rattle.parts.proofs.Built.{Placed, built-contents, placed-copies}
-use Rattle.canonical.proofs.Order.{begins, order-ascends, order-all, order-length, new-back, new-below, new-once, new-at}
+use Rattle.canonical.proofs.Order.{begins, order-ascends, order-all, order-length, new-back, new-below, new-once, new-at, thread-at}
 use Rattle.parts.proofs.Short.{Short, ShortActions, short-append, short-at, body-short}
-use Rattle.order.proofs.Lists.{getD-member}
 use Rattle.canonical.proofs.Renaming.{order-below, bodies-same}
 use Rattle.parts.proofs.WholeRules.{whole-bodies, whole-nesting, whole-forks, whole-balances}
 
@@ -109,19 +108,16 @@ module _ (T : Table) (l : Lawful T) (short : Short T) where
   pub form-threads : form .threads ≡ T .threads
   form-threads = form-reads .threads ∙ form-length
 
-  pub order-in : (i : ℕ) → i < T .threads → getD (threadOrder T) i 0 < T .threads
-  order-in i h = order-below T (l .contents) (l .bodies) (l .some-thread) (getD (threadOrder T) i 0) (getD-member (threadOrder T) i 0 (omega (arith, order-length T l)))
-
   pub form-contents : ContentRules form
   form-contents = built-contents form (canonicalBodies T) form-reads (λ i h.
       let k : i < T .threads = omega (arith, form-length) in
       let t : ℕ = getD (threadOrder T) i 0 in
-      rw (form-body i k, body-length (newNumber T) T (T .first t) (T .count t)) (count-pos T (l .contents) t (order-in i k)))
+      rw (form-body i k, body-length (newNumber T) T (T .first t) (T .count t)) (count-pos T (l .contents) t (thread-at T l i k)))
 
   onto : (u : ℕ) → u < form .threads → (t : ℕ) × (t < T .threads) × (newNumber T t ≡ u)
   onto u h =
       let k : u < T .threads = omega (arith, form-threads) in
-      (getD (threadOrder T) u 0, order-in u k, new-at T l u k)
+      (getD (threadOrder T) u 0, thread-at T l u k, new-at T l u k)
 
   -- children come after their parents
   rising-fork : (a : ℕ) → a < T .actions → kind T a ≡ fork → newNumber T (owner T a) < newNumber T (T .argument a)
