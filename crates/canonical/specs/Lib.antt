@@ -2,4 +2,5 @@ pub mod Renames
 pub mod Canonical
 pub mod Order
 pub mod Answers
+pub mod Cases
 pub mod Code
