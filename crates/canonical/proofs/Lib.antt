@@ -11,3 +11,4 @@ pub mod FormRows
 pub mod Ordering
 pub mod FormPut
 pub mod Answers
+pub mod CompareLine

@@ -32,11 +32,11 @@ unfolding entryRows actionRows tableRows written flatten
 G =
     written
     (
-      (action 4 1 ∷ action 4 2 ∷ action 5 2 ∷ action 5 1 ∷ action 0 0 ∷ [])
-      ∷ (action 4 3 ∷ action 5 3 ∷ action 0 0 ∷ [])
-      ∷ (action 1 0 ∷ action 0 0 ∷ [])
-      ∷ (action 2 1 ∷ action 0 0 ∷ [])
-      ∷ []
+    (action 4 1 ∷ action 4 2 ∷ action 5 2 ∷ action 5 1 ∷ action 0 0 ∷ [])
+    ∷ (action 4 3 ∷ action 5 3 ∷ action 0 0 ∷ [])
+    ∷ (action 1 0 ∷ action 0 0 ∷ [])
+    ∷ (action 2 1 ∷ action 0 0 ∷ [])
+    ∷ []
     )
 
 abbrev pub formOfG : List ℕ
@@ -44,11 +44,11 @@ unfolding entryRows actionRows tableRows written flatten
 formOfG =
     written
     (
-      (action 4 1 ∷ action 4 3 ∷ action 5 3 ∷ action 5 1 ∷ action 0 0 ∷ [])
-      ∷ (action 4 2 ∷ action 5 2 ∷ action 0 0 ∷ [])
-      ∷ (action 2 1 ∷ action 0 0 ∷ [])
-      ∷ (action 1 0 ∷ action 0 0 ∷ [])
-      ∷ []
+    (action 4 1 ∷ action 4 3 ∷ action 5 3 ∷ action 5 1 ∷ action 0 0 ∷ [])
+    ∷ (action 4 2 ∷ action 5 2 ∷ action 0 0 ∷ [])
+    ∷ (action 2 1 ∷ action 0 0 ∷ [])
+    ∷ (action 1 0 ∷ action 0 0 ∷ [])
+    ∷ []
     )
 
 -- E with the bodies of its two children exchanged, which no renaming makes of E

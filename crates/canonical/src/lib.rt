@@ -1,5 +1,9 @@
 // The same design under other numbers: a table's canonical form, and two tables compared by it.
 mod bytes;
+mod line;
+
+pub use line::compare_line;
+
 mod numbers;
 mod write;
 
