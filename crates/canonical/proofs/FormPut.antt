@@ -7,6 +7,10 @@ use lib.ListN.{length, getD, take, drop, length-append}
 use lib.Seq.{take-at}
 use Rattle.table.specs.Format.{threadsOf, bodiesOf, firstOf, countOf, tableOf}
 use Rattle.table.specs.Written.{tableRows, written}
+use Rattle.table.specs.Load.{ifFound}
+use Rattle.table.specs.declared.Found.{Found}
+use Rattle.table.specs.declared.Found.the-variants.{Nothing, At}
+use Rattle.table.proofs.Tests.{no-way}
 use Rattle.table.proofs.Bodies.{body-within}
 use Rattle.table.proofs.Passes.{passes-rules}
 use Rattle.table.proofs.ReadBack.{bytes-length}
@@ -16,6 +20,9 @@ use Rattle.text.proofs.Putting.{puts-whole}
 use Rattle.order.proofs.Lawful.{Lawful, lawful}
 use Rattle.rows.specs.Rows.{over, renamedRows, orderedRows, namedBy}
 use Rattle.canonical.specs.Canonical.{threadOrder, newNumber, canonicalBodies, canonical}
+use Rattle.canonical.specs.Answers.{foundIn, formedBy, formed, formedIn}
+use Rattle.canonical.specs.declared.Formed.{Formed}
+use Rattle.canonical.specs.declared.Formed.the-variants.{Written, Refused}
 use Rattle.canonical.specs.Code.NumbersOf.{numbersOf, orderOf}
 use Rattle.canonical.specs.Code.Rows.{Accepts, formRows}
 use Rattle.canonical.proofs.Renaming.{order-below}
@@ -72,3 +79,12 @@ over-within front out o k e p = omega (arith, ap length p, length-append front (
 
 pub over-front : (front out o : List ℕ) (k : ℕ) → k ≡ length front → o ≡ over front out → take k o ≡ front
 over-front front out o k e p = rw p (take-at front (drop (length front) out) k (sym e))
+
+-- a form that is written lies within its buffer
+pub formed-within : (s out o : List ℕ) (k : ℕ) → formed s ≡ Written k → o ≡ formedIn s out → k ≤ length o
+unfolding formed formedIn
+formed-within s out o k e p = go (foundIn s) e p
+  where
+    go : (f : Found) → formedBy f (length (canonical s)) ≡ Written k → o ≡ ifFound f out (over (canonical s) out) → k ≤ length o
+    go Nothing e p = let z : k ≡ length (canonical s) = cc in over-within (canonical s) out o k z p
+    go (At r) e p = absurd (no-way (cc))
