@@ -5,7 +5,7 @@ threads passed over (N7), from C and in plain C alike; a run counts none. A begi
 last line says which goals were met.
 
 usage: python3 bench/board.py [--rounds N] [--compiler 'CC -O..']
-    From the repository's top, after `rt staticlib single`, `rt staticlib board` and `rt check bench_runs`; needs a C compiler, by default that of bench.py with -O3. N rounds (default 10),
+    From the repository's top, after `rt staticlib wivakkol_turn`, `rt staticlib wivakkol` and `rt check bench_runs`; needs a C compiler, by default that of bench.py with -O3. N rounds (default 10),
     of 20 runs each from C and 3 measurements of the program by value for every table and number of workers.
 """
 import argparse
@@ -17,7 +17,7 @@ import subprocess
 import bench
 from bench import QUOTA, RATTLE, TABLES, WORKERS
 
-ARCHIVES, OUT, RUNS = ['target/staticlib/libsingle.a', 'target/staticlib/libboard.a'], 'target/c', '20'
+ARCHIVES, OUT, RUNS = ['target/staticlib/libwivakkol_turn.a', 'target/staticlib/libwivakkol.a'], 'target/c', '20'
 BY_VALUE = {RATTLE: ['target/bin/bench_runs']}
 MOST_RATIO, MOST_NS = 1.5, {'tree': 60}
 BEGIN, OPEN, TURN, PLAIN_TURN, ROUNDS, PLAIN_ROUNDS, PREVIEWED = range(7)

@@ -11,6 +11,7 @@
 static uint8_t table[WIVAKKOL_TABLE_MOST + 1];
 static wivakkol_run run;
 static wivakkol_work work;
+static wivakkol_tables_work tables_work;
 
 static int refused(uint32_t number, const uint64_t *row)
 {
@@ -44,14 +45,14 @@ int main(int argc, char **argv)
         return 2;
     }
     length = fread(table, 1, sizeof table, stdin);
-    if ((answer = wivakkol_check(table, length, facts)) != 0)
+    if ((answer = wivakkol_check(&tables_work, table, length, facts)) != 0)
         return refused(answer, facts);
     printf("table %" PRIu64 " %" PRIu64 " serial %" PRIu64 " depth %" PRIu64 " nested %" PRIu64 "\n", facts[WIVAKKOL_THREADS],
            facts[WIVAKKOL_ACTIONS], facts[WIVAKKOL_PEAK], facts[WIVAKKOL_DEPTH], facts[WIVAKKOL_NESTED]);
     if (argc == 1)
         return 0;
     p = (uint32_t)number(argv[1], UINT32_MAX);
-    answer = wivakkol_quota(table, length, p, (uint32_t)number(argv[2], UINT32_MAX), number(argv[3], UINT64_MAX), quota);
+    answer = wivakkol_quota(&tables_work, table, length, p, (uint32_t)number(argv[2], UINT32_MAX), number(argv[3], UINT64_MAX), quota);
     if (answer != 0)
         return refused(answer, quota);
     printf("quota %" PRIu64 "\n", quota[WIVAKKOL_QUOTA]);

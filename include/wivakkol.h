@@ -1,8 +1,8 @@
-/* Wivakkol, called from C, for x86-64: wivakkol_turn is linked from the archive libsingle.a (`rt staticlib single`), all other calls from libboard.a (`rt staticlib board`), in either order. A
+/* Wivakkol, called from C, for x86-64: wivakkol_turn is linked from the archive libwivakkol_turn.a (`rt staticlib wivakkol_turn`), all other calls from libwivakkol.a (`rt staticlib wivakkol`), in either order. A
  * board that does the actions takes single turns, and a turn that is compiled by itself needs little stack (docs/REFERENCE.md, "From C"): so it has an archive of its own.
  *
  * Every call answers every input: no table, no number and no content of a run's memory is outside what it takes, and nothing is to be tested before it. It allocates nothing, keeps
- * nothing from one call to the next and writes to no memory but what it is lent. Each answer is proved equal to its definition (crates/single/src/ and crates/board/src/ have the promises);
+ * nothing from one call to the next and writes to no memory but what it is lent. Each answer is proved equal to its definition (crates/wivakkol_turn/src/ and crates/wivakkol/src/ have the promises);
  * that this header says the same as that source is not proved, but tested (tests/board.py).
  *
  * A call returns a number: 0, or the number of the check that refuses (docs/REFERENCE.md, "Refusals"). Into the row it puts the place of the refusal, 0 where there is none, and then its
@@ -29,6 +29,8 @@ extern "C" {
 /* The longest table that is accepted: 1,024 threads and 8,192 actions. A longer input may be handed over, and is refused. */
 #define WIVAKKOL_TABLE_MOST 36868
 
+#define WIVAKKOL_MOST_THREADS 1024
+
 /* In every row: where the check that refuses applies, an action, a thread or an entry; 0 where nothing is refused. */
 #define WIVAKKOL_PLACE 0
 
@@ -40,21 +42,48 @@ extern "C" {
 #define WIVAKKOL_NESTED 5  /* N, the nested thread levels */
 #define WIVAKKOL_CHECK_ROW 6
 
-/* Is this a job table, and what are its facts? Returns 0, or 1 to 11: the first check that refuses it. */
-uint32_t wivakkol_check(const uint8_t *table, size_t length, uint64_t row[WIVAKKOL_CHECK_ROW]);
-
 /* The row of wivakkol_quota. */
 #define WIVAKKOL_QUOTA 1 /* K, 1 to 16,777,215 */
 #define WIVAKKOL_QUOTA_ROW 2
 
+/* Working memory of the calls on tables, which C lends; it keeps nothing from one call to the next. wivakkol_check and wivakkol_quota use `rises`, `falls`, `peaks` and `depths`; `names` and
+ * `order` are used by no call yet. What a call uses of it is all 0 afterwards, also where it refuses.
+ *
+ * C must keep to this: before its first use all of it has been written, whatever the numbers, as a static or zeroed object is; it is aligned as a wivakkol_tables_work is and overlaps nothing
+ * else that the call is given. One may serve many tables, with one call at a time on it. */
+typedef struct wivakkol_tables_work {
+    uint64_t rises[WIVAKKOL_MOST_THREADS];
+    uint64_t falls[WIVAKKOL_MOST_THREADS];
+    uint64_t peaks[WIVAKKOL_MOST_THREADS];
+    uint16_t depths[WIVAKKOL_MOST_THREADS];
+    uint16_t names[WIVAKKOL_MOST_THREADS];
+    uint16_t order[WIVAKKOL_MOST_THREADS];
+} wivakkol_tables_work;
+
+/* The calls as they are exported, on each array by itself. Below are those for a wivakkol_tables_work, which keep to what these ask for: each array has its full size, is aligned for its
+ * numbers and never NULL, overlaps no other array of the call and was written before. */
+uint32_t wivakkol_check_on(const uint8_t *table, size_t length, uint64_t row[WIVAKKOL_CHECK_ROW], uint64_t rises[1024], uint64_t falls[1024],
+                           uint64_t peaks[1024], uint16_t depths[1024]);
+uint32_t wivakkol_quota_on(const uint8_t *table, size_t length, uint32_t p, uint32_t b, uint64_t memory, uint64_t row[WIVAKKOL_QUOTA_ROW],
+                           uint64_t rises[1024], uint64_t falls[1024], uint64_t peaks[1024], uint16_t depths[1024]);
+
+/* Is this a job table, and what are its facts? Returns 0, or 1 to 11: the first check that refuses it. */
+static inline uint32_t wivakkol_check(wivakkol_tables_work *work, const uint8_t *table, size_t length, uint64_t row[WIVAKKOL_CHECK_ROW])
+{
+    return wivakkol_check_on(table, length, row, work->rises, work->falls, work->peaks, work->depths);
+}
+
 /* The largest quota with which p workers hold no more than `memory` units of this table, as long as no worker has more than b turns between two of another: the largest K, from the table's
  * largest alloc (1 if it has none) up to 16,777,215, for which S1 + b*K*(p - 1)*(D - 1) is at most `memory`. Returns 0, or the first check that refuses: 1 to 11, the table's own; 20, p is
  * not 1 to 16; 41, b is not 1 to 65,535; 42, no such K. It checks the table itself: wivakkol_check need not come before it. */
-uint32_t wivakkol_quota(const uint8_t *table, size_t length, uint32_t p, uint32_t b, uint64_t memory, uint64_t row[WIVAKKOL_QUOTA_ROW]);
+static inline uint32_t wivakkol_quota(wivakkol_tables_work *work, const uint8_t *table, size_t length, uint32_t p, uint32_t b, uint64_t memory,
+                                      uint64_t row[WIVAKKOL_QUOTA_ROW])
+{
+    return wivakkol_quota_on(table, length, p, b, memory, row, work->rises, work->falls, work->peaks, work->depths);
+}
 
 /* ---- A run */
 
-#define WIVAKKOL_MOST_THREADS 1024
 #define WIVAKKOL_MOST_WORKERS 16
 
 /* The memory of a run is four blocks, one for each width of its numbers, and a block has parts that begin at the places below. In a part with a number for each thread that of thread t stands

@@ -1,7 +1,7 @@
 /* The calls of wivakkol.h on cases from standard input, for tests/board.py; all numbers are little-endian.
  *
- * Without an argument a case is the table's length, p and b (4 bytes each), M (8) and the table. For each a line: the number and the row of wivakkol_check, the number and the row of
- * wivakkol_quota. With the argument `runs` the first line has the size of a wivakkol_run and where its blocks stand. A case is then its length (4) and steps on one run's memory:
+ * Without an argument a case is the table's length, p and b (4 bytes each), M (8) and the table. For each a line: of wivakkol_check, and then of wivakkol_quota, the number, the row and a
+ * number for each field of the working memory, as below. With the argument `runs` the first line has the size of a wivakkol_run and where its blocks stand. A case is then its length (4) and steps on one run's memory:
  *   t LENGTH TABLE     the table from now on
  *   m AT LENGTH BYTES  these bytes stand in the run's memory
  *   b P K              wivakkol_begin
@@ -52,11 +52,14 @@ static struct {
     uint64_t between[FENCES];
     wivakkol_work work;
     uint64_t above[FENCES];
+    wivakkol_tables_work tables;
+    uint64_t last[FENCES];
 } lent;
 
 static struct {
     wivakkol_run run;
     wivakkol_work work;
+    wivakkol_tables_work tables;
 } before;
 
 static void fail(const char *what)
@@ -67,12 +70,12 @@ static void fail(const char *what)
 
 static void check(void)
 {
-    call.number = wivakkol_check(call.table, call.length, call.row + 1);
+    call.number = wivakkol_check(&lent.tables, call.table, call.length, call.row + 1);
 }
 
 static void quota(void)
 {
-    call.number = wivakkol_quota(call.table, call.length, call.p, call.b, call.memory, call.row + 1);
+    call.number = wivakkol_quota(&lent.tables, call.table, call.length, call.p, call.b, call.memory, call.row + 1);
 }
 
 static void begin(void)
@@ -175,12 +178,12 @@ static void make(void (*f)(void), size_t entries, size_t *most)
     if (call.line[0] != PAINT || call.line[WIVAKKOL_LINE + 1] != PAINT)
         fail("written outside the line");
     for (i = 0; i < FENCES; i++)
-        if (lent.below[i] != FENCE || lent.between[i] != FENCE || lent.above[i] != FENCE)
+        if (lent.below[i] != FENCE || lent.between[i] != FENCE || lent.above[i] != FENCE || lent.last[i] != FENCE)
             fail("written outside the run or the working memory");
 }
 
-/* Noise in the working memory: any numbers, small ones, or the largest. */
-static void stir(void)
+/* Noise in working memory: any numbers, small ones, or the largest. */
+static void noise(void *into, size_t size)
 {
     static const uint64_t masks[] = {UINT64_MAX, UINT64_C(0x0003000300030003), UINT64_C(0x03ff03ff03ff03ff)};
     static uint64_t x = FENCE;
@@ -189,11 +192,16 @@ static void stir(void)
 
     x = x * UINT64_C(6364136223846793005) + 1;
     manner = x >> 62;
-    for (i = 0; i < sizeof lent.work; i += sizeof word) {
+    for (i = 0; i < size; i += sizeof word) {
         x = x * UINT64_C(6364136223846793005) + 1;
         word = manner == 3 ? UINT64_MAX : (x ^ x >> 32) & masks[manner];
-        memcpy((uint8_t *)&lent.work + i, &word, sizeof word);
+        memcpy((uint8_t *)into + i, &word, sizeof word);
     }
+}
+
+static void stir(void)
+{
+    noise(&lent.work, sizeof lent.work);
     before.work = lent.work;
 }
 
@@ -257,13 +265,20 @@ static uint8_t *room(void)
     return made;
 }
 
-static void print_row(size_t entries)
+#define PRINT_LEFT(field) printf(" %d", left(lent.tables.field, before.tables.field, sizeof lent.tables.field))
+
+/* A call on a table, with noise in its working memory: its number, its row and what it has left of that memory. */
+static void on_table(void (*f)(void), size_t entries, size_t *most)
 {
     size_t i;
 
+    noise(&lent.tables, sizeof lent.tables);
+    before.tables = lent.tables;
+    make(f, entries, most);
     printf("%" PRIu32, call.number);
     for (i = 1; i <= entries; i++)
         printf(" %" PRIu64, call.row[i]);
+    PRINT_LEFT(rises), PRINT_LEFT(falls), PRINT_LEFT(peaks), PRINT_LEFT(depths), PRINT_LEFT(names), PRINT_LEFT(order);
 }
 
 static void tables(void)
@@ -279,11 +294,9 @@ static void tables(void)
         if (call.length != 0 && !got(at, call.length))
             fail("a case is cut off");
         close_room(memory);
-        make(check, WIVAKKOL_CHECK_ROW, &most[0]);
-        print_row(WIVAKKOL_CHECK_ROW);
+        on_table(check, WIVAKKOL_CHECK_ROW, &most[0]);
         printf(" ");
-        make(quota, WIVAKKOL_QUOTA_ROW, &most[1]);
-        print_row(WIVAKKOL_QUOTA_ROW);
+        on_table(quota, WIVAKKOL_QUOTA_ROW, &most[1]);
         printf("\n");
     }
     printf("stack %zu %zu\n", most[0] - around(), most[1] - around());
@@ -456,7 +469,7 @@ int main(int argc, char **argv)
     if (stack == NULL || steps == NULL)
         fail("no memory");
     for (i = 0; i < FENCES; i++)
-        lent.below[i] = lent.between[i] = lent.above[i] = FENCE;
+        lent.below[i] = lent.between[i] = lent.above[i] = lent.last[i] = FENCE;
     if (argc == 1)
         tables();
     else if (argc == 2 && strcmp(argv[1], "runs") == 0)

@@ -2,7 +2,7 @@
 were written on their own. Holds the header against the source, since nothing else would say where they differ.
 
 usage: python3 tests/board.py [COUNT]
-    From the repository's top, after `rt staticlib single` and `rt staticlib board`; COUNT tables and half as many runs of each kind, default 3,000; needs a C compiler, `cc`.
+    From the repository's top, after `rt staticlib wivakkol_turn` and `rt staticlib wivakkol`; COUNT tables and half as many runs of each kind, default 3,000; needs a C compiler, `cc`.
 """
 import collections
 import os
@@ -24,9 +24,11 @@ from tables import damaged
 sys.path.insert(0, str(pathlib.Path(__file__).parent.parent / 'bench'))
 import stack
 
-CRATES, OUT = ['single', 'board'], 'target/c'
+CRATES, OUT = ['wivakkol_turn', 'wivakkol'], 'target/c'
 ARCHIVES = ['target/staticlib/lib%s.a' % crate for crate in CRATES]
 NUMBERS = {'wivakkol_check': set(range(12)), 'wivakkol_quota': set(range(12)) | {20, 41, 42}}  # what each call can return
+LEFT = [0, 0, 0, 0, 1, 1]  # what a call on a table leaves of its working memory, field by field: 0, all 0; 1, as it was
+STACK_MOST = 8192  # bytes that a call on a table may take of the stack
 BYTES = {'table': 'length', 'order': 'turns'}  # the names of their numbers of bytes
 RUN_CALLS = list(board_runs.NUMBERS)  # the calls for a wivakkol_run
 WORK_NAMES = {'parents': 'seen'}  # fields of a wivakkol_work that the exported calls name otherwise, since they have parents of their own
@@ -110,7 +112,13 @@ def header_is_source():
         for name, kind, size in [*whole, *((WORK_NAMES.get(name, name), kind, size) for name, kind, size in work)]:
             assert taken.get(name, (kind, size)) == (kind, size), 'wivakkol_%s_on: %s' % (call, name)
         inline_hands_over(text, call, result, parameters, {**places, **work_places})
-    assert set(source) == {*NUMBERS, *('wivakkol_%s_on' % call for call in RUN_CALLS)}
+    tables_work = fields(text, 'tables_work')
+    for call in NUMBERS:
+        result, *parameters = source[call + '_on']
+        taken = {name: (kind, size) for name, kind, size in parameters}
+        assert all(taken.get(name, (kind, size)) == (kind, size) for name, kind, size in tables_work), '%s_on: the working memory' % call
+        inline_on_table(text, call, result, parameters, {name: 'work->' + name for name, _, _ in tables_work})
+    assert set(source) == {*(call + '_on' for call in NUMBERS), *('wivakkol_%s_on' % call for call in RUN_CALLS)}
 
 
 def places_are_named():
@@ -129,11 +137,23 @@ def inline_hands_over(text, call, result, parameters, places):
     it is written."""
     kind, const, work, taken, given = re.search(
         r'static inline (\w+) wivakkol_%s\((const )?wivakkol_run \*run, (wivakkol_work \*work, )?([^)]*)\)\s*\{\s*return wivakkol_%s_on\(([^)]*)\);\s*\}' % (call, call), text).groups()
-    assert [('', kind, None), *map(declared, taken.split(','))] == [result] + [x for x in parameters if x[0] not in places], 'wivakkol_%s has other parameters' % call
-    wanted = [places.get(name, name) for name, _, _ in parameters]
-    assert [' '.join(x.split()) for x in given.split(',')] == wanted, 'wivakkol_%s hands its parameters, blocks and parts over in another order' % call
+    hands_over('wivakkol_' + call, (kind, taken, given), result, parameters, places)
     written = {places[name].split('->')[0] for name, kind, _ in parameters if name in places and not kind.startswith('const ')}
     assert (const is None, work is not None) == ('run' in written, 'work' in written), 'wivakkol_%s: what is written of the run and the working memory' % call
+
+
+def inline_on_table(text, call, result, parameters, places):
+    """Likewise the call for a wivakkol_tables_work."""
+    inline = re.search(r'static inline (\w+) %s\(wivakkol_tables_work \*work, ([^)]*)\)\s*\{\s*return %s_on\(([^)]*)\);\s*\}' % (call, call), text).groups()
+    hands_over(call, inline, result, parameters, places)
+
+
+def hands_over(call, inline, result, parameters, places):
+    """An inline call's result, parameters and what it gives the exported one, which has `result` and `parameters`."""
+    kind, taken, given = inline
+    assert [('', kind, None), *map(declared, taken.split(','))] == [result] + [x for x in parameters if x[0] not in places], '%s has other parameters' % call
+    wanted = [places.get(name, name) for name, _, _ in parameters]
+    assert [' '.join(x.split()) for x in given.split(',')] == wanted, '%s hands its parameters, blocks and parts over in another order' % call
 
 
 def drawn_case(rng):
@@ -165,7 +185,7 @@ def number_and_row(answer, values):
 
 def expected(case):
     checked, quoted = check(case.data), quota.largest(*case)
-    return number_and_row(checked, 5), number_and_row(quoted, 1)
+    return number_and_row(checked, 5) + LEFT, number_and_row(quoted, 1) + LEFT
 
 
 def packed(case):
@@ -222,6 +242,7 @@ def main():
     drawn = cases(random.Random(20), max(count, 6))
     program = build('tests/board.c', 'board_test')
     numbers, last = compare(program, drawn)
+    assert max(map(int, last.split()[1:])) < STACK_MOST, 'a call on a table took more stack than it may: %s' % last
     some = [drawn[0]._replace(p=2), *drawn[1:200]]  # with more workers the model's run of the nested table takes long
     compare_example(build('examples/board.c', 'board'), some)
     for name, counter in zip(NUMBERS, numbers):

@@ -1,4 +1,4 @@
-//! Links the archives `libsingle.a` and `libboard.a`, which `rt staticlib single` and `rt staticlib board` write: from the folder that `WIVAKKOL_ARCHIVE` names, or else from the
+//! Links the archives `libwivakkol_turn.a` and `libwivakkol.a`, which `rt staticlib wivakkol_turn` and `rt staticlib wivakkol` write: from the folder that `WIVAKKOL_ARCHIVE` names, or else from the
 //! repository's own.
 use std::path::{Path, PathBuf};
 use std::{env, process};
@@ -10,7 +10,7 @@ fn main() {
         Some(folder) => PathBuf::from(folder),
         None => Path::new(&here).join("../../target/staticlib"),
     };
-    for name in ["single", "board"] {
+    for name in ["wivakkol_turn", "wivakkol"] {
         let archive = folder.join(format!("lib{name}.a"));
         let Ok(archive) = archive.canonicalize() else {
             eprintln!("{} is not there: `rt staticlib {name}` writes it, and WIVAKKOL_ARCHIVE may name its folder", archive.display());

@@ -12,8 +12,8 @@ use Rattle.schedule.specs.declared.Report.{Report}
 use Rattle.schedule.specs.declared.Report.the-variants.{Finished, Spent, Refused}
 use Rattle.schedule.specs.Turn.{stepRun}
 use Rattle.schedule.specs.Runs.{moved, drive}
-use Rattle.cells.specs.Memory.{Memory, movedIn, Told, turnIn}
-use Rattle.cells.specs.Stands.{runIn}
+use Rattle.run_memory.specs.Memory.{Memory, movedIn, Told, turnIn}
+use Rattle.run_memory.specs.Stands.{runIn}
 use Rattle.asyncdf.specs.Code.Drives.{Moving, Driven}
 use Rattle.asyncdf.proofs.Driving.{drive-over, drive-spent, drive-full, drive-none, drive-next}
 use Rattle.asyncdf.proofs.Moving.{Course, course, moves, replies, keeps, settings}

@@ -22,7 +22,7 @@ use Rattle.schedule.specs.Runs.{ran, moved, drive, listRun, roundsRun, workerAt
 use Rattle.soundness.proofs.Passed.{has-workers, no-workers}
 use Rattle.asyncdf.specs.Code.Drives.{Sequence, Open, Driven}
 use Rattle.asyncdf.proofs.Driving.{drive-next}
-use Rattle.lent.proofs.Answers.{turned-taken}
+use Rattle.array_machine.proofs.Answers.{turned-taken}
 
 -- a run of one turn
 pub drive-one : (f : ℕ → ℕ) (r : Run) → Open r (f 0) → drive f 1 0 r .run ≡ moved r (f 0)

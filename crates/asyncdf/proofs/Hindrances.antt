@@ -18,11 +18,11 @@ use Rattle.schedule.proofs.Stores.{moved-steady}
 use Rattle.schedule.proofs.CaseLaws.{turn-turns}
 use Rattle.chart.specs.Chart.{mostTurns}
 use Rattle.chart.proofs.Records.{many, charted-many}
-use Rattle.cells.specs.Memory.{Memory, movedIn}
-use Rattle.cells.specs.Stands.{runIn}
+use Rattle.run_memory.specs.Memory.{Memory, movedIn}
+use Rattle.run_memory.specs.Stands.{runIn}
 use Rattle.asyncdf.specs.Code.Drives.{Moving}
 use Rattle.asyncdf.specs.Code.Sheets.{turnsTexts, hindered}
-use Rattle.lent.proofs.Answers.{steady-full, steady-room, turned-unsound, turned-none, turned-taken}
+use Rattle.array_machine.proofs.Answers.{steady-full, steady-room, turned-unsound, turned-none, turned-taken}
 use Rattle.asyncdf.proofs.Ordered.{texts-refused, texts-many}
 
 -- ---- none does

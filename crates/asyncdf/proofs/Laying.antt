@@ -4,9 +4,9 @@ use Prim.Native.Nat.{ℕ}
 use mathlib.Core.List.{List}
 use Rattle.schedule.specs.declared.Run.{Run}
 use Rattle.schedule.specs.Links.{Links}
-use Rattle.lent.specs.Arrays.{links}
-use Rattle.cells.specs.Blocks.{Bytes, Words, Numbers, Sums, gathered}
-use Rattle.cells.specs.Places.{headed, setTo, totalled, laidRow, statuses, amountsAre, manned, mannedWords, mannedNumbers}
+use Rattle.array_machine.specs.Arrays.{links}
+use Rattle.run_memory.specs.Blocks.{Bytes, Words, Numbers, Sums, gathered}
+use Rattle.run_memory.specs.Places.{headed, setTo, totalled, laidRow, statuses, amountsAre, manned, mannedWords, mannedNumbers}
 use Rattle.asyncdf.specs.Code.Packing.{secondFor, rowsLaid, laidWords, laidSums, memoryFor}
 
 module _ (run : Run) where

@@ -29,12 +29,12 @@ use Rattle.schedule.proofs.Linked.Links.{laid-linked}
 use Rattle.schedule.proofs.Linked.ActiveMoves.{list-once, list-small}
 use Rattle.schedule.proofs.Linked.Fills.{fill-linked}
 use Rattle.schedule.proofs.Stores.{steady-lawful, steady-facts}
-use Rattle.lent.specs.Packed.{packedOf}
-use Rattle.lent.proofs.Linking.{linked-as}
-use Rattle.cells.specs.Memory.{Memory, movedIn, hindrance, Told, told, turnIn}
-use Rattle.cells.specs.Stands.{workersIn, runIn, Stands}
-use Rattle.cells.proofs.Refines.{Moves, taken-so}
-use Rattle.cells.proofs.Manned.{of-length, workers-back, truths-back}
+use Rattle.array_machine.specs.Packed.{packedOf}
+use Rattle.array_machine.proofs.Linking.{linked-as}
+use Rattle.run_memory.specs.Memory.{Memory, movedIn, hindrance, Told, told, turnIn}
+use Rattle.run_memory.specs.Stands.{workersIn, runIn, Stands}
+use Rattle.run_memory.proofs.Refines.{Moves, taken-so}
+use Rattle.run_memory.proofs.Manned.{of-length, workers-back, truths-back}
 use Rattle.asyncdf.specs.Code.Packing.{secondFor, memoryFor, recordOf}
 use Rattle.asyncdf.specs.Code.Drives.{Moving}
 use Rattle.asyncdf.proofs.Driving.{finishes, goes-on}

@@ -7,7 +7,7 @@ use crate::runs::stopped;
 use crate::turns::put_turns;
 use chart::MOST_TURNS;
 use chart::put_line;
-use lent::passed_over;
+use array_machine::passed_over;
 use lines::put_refused;
 use schedule::Beginning;
 use schedule::Begun;

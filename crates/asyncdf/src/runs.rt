@@ -1,8 +1,8 @@
 // Runs over a list of workers and in rounds. The record is copied into the four blocks once; the turns work on them in place.
 use crate::packing::pack;
 use crate::packing::unpack;
-use cells::rounds::following;
-use cells::turn_in;
+use run_memory::rounds::following;
+use run_memory::turn_in;
 use schedule::Reply;
 use schedule::Report;
 use schedule::Run;
@@ -23,8 +23,8 @@ ghost use Rattle.schedule.specs.Record.{tableIn};
 ghost use Rattle.schedule.specs.Sound.{Steady};
 ghost use Rattle.schedule.specs.Parents.{Parents};
 ghost use Rattle.schedule.specs.Runs.{workerAt};
-ghost use Rattle.cells.specs.Stands.{runIn};
-ghost use Rattle.cells.specs.Blocks.{memoryOf};
+ghost use Rattle.run_memory.specs.Stands.{runIn};
+ghost use Rattle.run_memory.specs.Blocks.{memoryOf};
 ghost use Rattle.asyncdf.specs.Code.Drives.{Sequence, Moving, Driven};
 
 // The root's last action.

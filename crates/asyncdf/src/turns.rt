@@ -1,14 +1,14 @@
 // The lines of an order's turns, of a listing or of a chart: the loop of a run, with a line put after each turn and no record at its end.
 use crate::packing::pack;
 use crate::runs::root_end;
-use cells::copies::workers_out;
-use cells::places::HELD;
-use cells::places::HIGHEST;
-use cells::places::NEXT;
-use cells::places::TURNS;
-use cells::places::row_at;
-use cells::places::total_at;
-use cells::turn_in;
+use run_memory::copies::workers_out;
+use run_memory::places::HELD;
+use run_memory::places::HIGHEST;
+use run_memory::places::NEXT;
+use run_memory::places::TURNS;
+use run_memory::places::row_at;
+use run_memory::places::total_at;
+use run_memory::turn_in;
 use chart::MOST_TURNS;
 use chart::put_line;
 use lines::put_last;
@@ -31,9 +31,9 @@ ghost use Rattle.lines.specs.Lines.{turnTexts};
 ghost use Rattle.text.specs.Puts.{Puts};
 ghost use Rattle.chart.specs.Chart.{mostTurns};
 ghost use Rattle.schedule.specs.Parents.{Parents};
-ghost use Rattle.cells.specs.Memory.{movedIn};
-ghost use Rattle.cells.specs.Stands.{runIn};
-ghost use Rattle.cells.specs.Blocks.{wordsIn, sumsIn, memoryOf};
+ghost use Rattle.run_memory.specs.Memory.{movedIn};
+ghost use Rattle.run_memory.specs.Stands.{runIn};
+ghost use Rattle.run_memory.specs.Blocks.{wordsIn, sumsIn, memoryOf};
 ghost use Rattle.asyncdf.specs.Code.Drives.{Moving};
 ghost use Rattle.asyncdf.specs.Code.Sheets.{turnsTexts, widest, lineIn, figuresIn, afterTexts, afterSize, overTexts, hindered};
 

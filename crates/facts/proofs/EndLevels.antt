@@ -10,13 +10,13 @@ use mathlib.Core.Bool.{Bool, true, false}
 use lib.ListN.{getD, set, length-set}
 use lib.Seq.{getD-set-same, getD-set-other}
 use Rattle.table.specs.Sum.{pick}
-use Rattle.table.specs.Format.{end, fork, join, is, Table, kind, tableOf}
+use Rattle.table.specs.Format.{end, fork, join, is, codeOf, Table, kind, tableOf}
 use Rattle.table.specs.Checks.{owner, endOf, openBefore}
 use Rattle.table.specs.Rules.{ContentRules, BodyRules, NestRules, ForkRules}
 use Rattle.table.specs.Level.{level}
 use Rattle.table.specs.Code.Steps.{Nested}
 use Rattle.facts.specs.Code.Steps.{EndLevels, Walked, nextLevel}
-use Rattle.table.proofs.Tests.{is-true, fork-no-end}
+use Rattle.table.proofs.Tests.{no-way, is-true, fork-no-end}
 use Rattle.table.proofs.Sizes.{sizes}
 use Rattle.table.proofs.Bodies.{first-within, end-within, count-pos, owner-at, owner-of-first, fork-below, join-below, next-within}
 use Rattle.table.proofs.Nesting.{open-first, open-fork, open-join, open-same, open-below}
@@ -63,33 +63,44 @@ module _ (T : Table) (c : ContentRules T) (b : BodyRules T) (n : NestRules T) (f
 
   -- ---- a turn's level
 
-  level-next : (a : ℕ) → a < T .actions → is end (kind T a) ≡ false → (ends : List ℕ) → OpenEnds T ends (suc a)
-      → nextLevel (kind T (suc a)) (T .argument (suc a)) (level T a) ends ≡ level T (suc a)
-  level-next a h e ends o = go (is join (kind T (suc a))) refl
-    where
-      go : (j : Bool) → is join (kind T (suc a)) ≡ j → suc (pick j (max (level T a) (getD ends (T .argument (suc a)) 0)) (level T a)) ≡ level T (suc a)
-      go true j =
-          let k : kind T (suc a) ≡ join = is-true join (kind T (suc a)) j in
-          let m : List·Memᴰ (T .argument (suc a)) (openBefore T (suc a)) = rw (open-join T c b n (suc a) (next-within T c b a h e) k) (List·Memᴰ·head refl) in
-          rw (o (T .argument (suc a)) m, level-join T c b n f a h e k)
-      go false j = sym (level-step T c b n f a h e j)
-
   module _ (t : ℕ) (h : t < T .threads) where
-    goes-on : (i : ℕ) → suc i < T .count t → is end (kind T (T .first t + i)) ≡ false
+    pub goes-on : (i : ℕ) → suc i < T .count t → is end (kind T (T .first t + i)) ≡ false
     goes-on i k =
         let o : owner T (T .first t + i) ≡ owner T (T .first t + suc i) = owner-at T c t i h (omega arith) ∙ sym (owner-at T c t (suc i) h k) in
         no-end T c b (T .first t + i) (T .first t + suc i) (omega arith) (action-within T c b t (suc i) h k) o
 
+    -- any action but a join comes after the one before it
+    pub level-goes : (i : ℕ) → i < T .count t → is join (kind T (T .first t + i)) ≡ false → level T (T .first t + i) ≡ suc (levelBefore T t i)
+    unfolding levelBefore
+    level-goes zero k j =
+        let z : T .first t + 0 ≡ T .first t = omega arith in
+        rw z (sym (suc-pred-eq-of-pos (level-pos (T .first t) (first-within T c t h))))
+    level-goes (suc i) k j =
+        let z : T .first t + suc i ≡ suc (T .first t + i) = omega arith in
+        rw z (level-step T c b n f (T .first t + i) (action-within T c b t i h (omega arith)) (goes-on i k) (rw z at j))
+
+    -- a join comes after its child's end too
+    pub level-joins : (i : ℕ) → i < T .count t → kind T (T .first t + i) ≡ join
+        → level T (T .first t + i) ≡ suc (max (levelBefore T t i) (level T (endOf T (T .argument (T .first t + i)))))
+    unfolding levelBefore is codeOf
+    level-joins zero k j =
+        let z : T .first t + 0 ≡ T .first t = omega arith in
+        no-way (cc (first-no-join T c b n t h))
+    level-joins (suc i) k j =
+        let z : T .first t + suc i ≡ suc (T .first t + i) = omega arith in
+        rw z (level-join T c b n f (T .first t + i) (action-within T c b t i h (omega arith)) (goes-on i k) (rw z at j))
+
     level-turn : (i : ℕ) → i < T .count t → (ends : List ℕ) → OpenEnds T ends (T .first t + i)
         → nextLevel (kind T (T .first t + i)) (T .argument (T .first t + i)) (levelBefore T t i) ends ≡ level T (T .first t + i)
-    unfolding levelBefore
-    level-turn zero k ends o =
-        let z : T .first t + 0 ≡ T .first t = omega arith in
-        rw (z, first-no-join T c b n t h) (suc-pred-eq-of-pos (level-pos (T .first t) (first-within T c t h)))
-    level-turn (suc i) k ends o =
-        let z : T .first t + suc i ≡ suc (T .first t + i) = omega arith in
-        let o′ : OpenEnds T ends (suc (T .first t + i)) = rw z at o in
-        rw z (level-next (T .first t + i) (action-within T c b t i h (omega arith)) (goes-on i k) ends o′)
+    level-turn i k ends o = go (is join (kind T (T .first t + i))) refl
+      where
+        go : (j : Bool) → is join (kind T (T .first t + i)) ≡ j
+            → suc (pick j (max (levelBefore T t i) (getD ends (T .argument (T .first t + i)) 0)) (levelBefore T t i)) ≡ level T (T .first t + i)
+        go true j =
+            let e : kind T (T .first t + i) ≡ join = is-true join (kind T (T .first t + i)) j in
+            let m : List·Memᴰ (T .argument (T .first t + i)) (openBefore T (T .first t + i)) = rw (open-join T c b n (T .first t + i) (action-within T c b t i h k) e) (List·Memᴰ·head refl) in
+            rw (o (T .argument (T .first t + i)) m) (sym (level-joins i k e))
+        go false j = sym (level-goes i k j)
 
   -- ---- one end level more
 

@@ -1,3 +1,5 @@
 pub mod NestWalk
 pub mod Tops
 pub mod EndLevels
+pub mod DepthWalk
+pub mod Accepted

@@ -13,7 +13,7 @@ ghost use Rattle.table.specs.Nested.{N};
 ghost use Rattle.table.specs.Code.Steps.{Nested};
 
 // One action of a thread: if it forks c, c is one level below the thread's. The deepest level so far.
-fn fork_level(k: u8, c: usize, level: usize, deepest: usize, levels: &mut [usize; 1024]) -> usize
+fn fork_level(k: u8, c: usize, level: usize, deepest: usize, levels: &mut [u16; 1024]) -> usize
     requires { ⌜ (level ≤ 1024) × (k ≡ 4 → c < 1024) ⌝ }
     ensures { λ r. ⌜ r ≡ pick (is fork (kindOf k)) (max deepest (suc level)) deepest ⌝ }
     ensures { λ r. ⌜ now (levels .exit) ≡ pick (is fork (kindOf k)) (set (now (levels .entry)) c (suc level)) (now (levels .entry)) ⌝ }
@@ -22,7 +22,7 @@ fn fork_level(k: u8, c: usize, level: usize, deepest: usize, levels: &mut [usize
         return deepest;
     }
     let below = level + 1;
-    levels[c] = below;
+    levels[c] = below as u16;
     if deepest < below { below } else { deepest }
 }
 
@@ -34,15 +34,15 @@ fn next_thread(k: u8, t: usize) -> usize
     if k == END { t + 1 } else { t }
 }
 
-// A child's number is above its parent's, so a thread's level is known where its body begins.
-pub(crate) fn nested_levels(table: &[u8], n: usize, m: usize) -> usize
+// A child's number is above its parent's, so a thread's level is known where its body begins. What the memory held does not matter.
+pub(crate) fn nested_levels(table: &[u8], n: usize, m: usize, levels: &mut [u16; 1024]) -> usize
     requires { ⌜ Nested (now table) n m ⌝ }
     ensures { λ r. ⌜ r ≡ N (tableOf (now (table .entry))) ⌝ }
 {
     let actions = bodies(table, n);
     // m, in a form by which the compiler knows that every action is there
     let stop = lesser(m, actions.len() / 4);
-    let mut levels = [1usize; 1024];
+    *levels = [1; 1024];
     let mut deepest = 1;
     let mut t = 0;
     let mut a = 0;
@@ -50,8 +50,8 @@ pub(crate) fn nested_levels(table: &[u8], n: usize, m: usize) -> usize
         let action = action_in(actions, a);
         let k = action.code;
         let c = action.argument;
-        let level = levels[t];
-        deepest = fork_level(k, c, level, deepest, &mut levels);
+        let level = levels[t] as usize;
+        deepest = fork_level(k, c, level, deepest, levels);
         t = next_thread(k, t);
         a += 1;
     }

@@ -1,4 +1,4 @@
-// The serial peak S1: each thread's highest amount, counted from its start, from those of the children it forks.
+// The serial peak S1, and what is left: each thread's highest amount, counted from its start, from those of the children it forks.
 use table::kinds::FORK;
 use table::kinds::alloc_of;
 use table::kinds::free_of;
@@ -14,9 +14,10 @@ ghost use Rattle.table.specs.Format.{tableOf, kindOf, alloc, free, fork};
 ghost use Rattle.table.specs.Serial.{S1};
 ghost use Rattle.table.specs.Code.Steps.{WalkReady, childAmount, amountAt};
 ghost use Rattle.facts.specs.Code.Steps.{Kept, PeaksReady, topOf};
+ghost use Rattle.facts.specs.Weigh.{leftOf};
 
 // What a body draws and gives back with the children it forks, and the highest that it holds, counted from its start.
-struct Amounts {
+struct Walk {
     rise: u64,
     fall: u64,
     peak: u64,
@@ -37,7 +38,7 @@ fn peak_walk(
     rises: &[u64; 1024],
     falls: &[u64; 1024],
     peaks: &[u64; 1024],
-) -> Amounts
+) -> Walk
     requires { ⌜ WalkReady fork (now body) count (now rises) (now falls) ⌝ }
     requires { ⌜ PeaksReady (now body) count (now rises) (now falls) (now peaks) ⌝ }
     ensures { λ r. ⌜ r .rise ≡ sumTo (amountAt alloc fork (now (body .entry)) (now (rises .entry))) count ⌝ }
@@ -59,26 +60,43 @@ fn peak_walk(
         fall += free_of(k, x) + child_amount(k, x, falls);
         i += 1;
     }
-    Amounts { rise, fall, peak }
+    Walk { rise, fall, peak }
 }
 
-// The children before their parents: a child has the higher number.
-pub(crate) fn serial_peak(table: &[u8], n: usize, m: usize) -> u64
+// What the serial run holds at most and at its end.
+pub(crate) struct Amounts {
+    pub(crate) peak: u64,
+    pub(crate) left: u64,
+}
+
+// The children before their parents: a child has the higher number. What the memory held does not matter.
+pub(crate) fn serial_amounts(
+    table: &[u8],
+    n: usize,
+    m: usize,
+    rises: &mut [u64; 1024],
+    falls: &mut [u64; 1024],
+    peaks: &mut [u64; 1024],
+) -> Amounts
     requires { ⌜ Kept (now table) n m ⌝ }
-    ensures { λ r. ⌜ r ≡ S1 (tableOf (now (table .entry))) ⌝ }
+    ensures { λ r. ⌜ r .peak ≡ S1 (tableOf (now (table .entry))) ⌝ }
+    ensures { λ r. ⌜ r .left ≡ leftOf (tableOf (now (table .entry))) ⌝ }
 {
-    let mut rises = [0u64; 1024];
-    let mut falls = [0u64; 1024];
-    let mut peaks = [0u64; 1024];
+    *rises = [0; 1024];
+    *falls = [0; 1024];
+    *peaks = [0; 1024];
     let mut t = n;
     while 0 < t {
         t -= 1;
         let body = body_of(table, n, t);
         let count = count(table, t);
-        let w = peak_walk(body, count, &rises, &falls, &peaks);
+        let w = peak_walk(body, count, rises, falls, peaks);
         rises[t] = w.rise;
         falls[t] = w.fall;
         peaks[t] = w.peak;
     }
-    peaks[0]
+    Amounts {
+        peak: peaks[0],
+        left: rises[0] - falls[0],
+    }
 }

@@ -11,10 +11,10 @@ use Rattle.schedule.specs.declared.Worker.{Worker}
 use Rattle.schedule.specs.declared.Reply.{Reply}
 use Rattle.schedule.specs.declared.Reply.the-variants.{Idle, Done, Quota, Wait}
 use Rattle.schedule.specs.Machine.{ended}
-use Rattle.lent.specs.declared.Totals.{Totals}
-use Rattle.lent.specs.Arrays.{Arrays, actionIn, amountIn, holding}
-use Rattle.lent.specs.Turn.{nextFits, amountFits, actOn, actIn}
-use Rattle.lent.proofs.Leaves.{code-unknown}
+use Rattle.array_machine.specs.declared.Totals.{Totals}
+use Rattle.array_machine.specs.Arrays.{Arrays, actionIn, amountIn, holding}
+use Rattle.array_machine.specs.Turn.{nextFits, amountFits, actOn, actIn}
+use Rattle.array_machine.proofs.Leaves.{code-unknown}
 use Rattle.peek.specs.declared.Peeked.{Peeked}
 use Rattle.peek.specs.Peeked.{seenOf}
 

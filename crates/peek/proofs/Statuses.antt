@@ -13,9 +13,9 @@ use Rattle.schedule.specs.Machine.{ready, held, ended}
 use Rattle.schedule.specs.Links.{noThread, seek}
 use Rattle.table.specs.Checks.{maxThreads}
 use Rattle.schedule.proofs.Linked.Searches.{seek-ready}
-use Rattle.lent.specs.declared.Totals.{Totals}
-use Rattle.lent.specs.Arrays.{Arrays, actionIn, amountIn, withStatuses}
-use Rattle.lent.specs.Turn.{Outcome, nextFits, amountFits, actOn, actIn, seatOf, seatIn}
+use Rattle.array_machine.specs.declared.Totals.{Totals}
+use Rattle.array_machine.specs.Arrays.{Arrays, actionIn, amountIn, withStatuses}
+use Rattle.array_machine.specs.Turn.{Outcome, nextFits, amountFits, actOn, actIn, seatOf, seatIn}
 use Rattle.peek.specs.Peeked.{seenOf}
 
 -- the same threads have ended

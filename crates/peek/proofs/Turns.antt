@@ -6,10 +6,10 @@ use mathlib.Core.Bool.{Bool, true, false}
 use Rattle.table.specs.Format.{Table}
 use Rattle.schedule.specs.declared.Worker.{Worker}
 use Rattle.schedule.specs.declared.Reply.the-variants.{Idle}
-use Rattle.lent.specs.declared.Moved.{Moved}
-use Rattle.lent.specs.Arrays.{Arrays, withStatuses}
-use Rattle.lent.specs.Turn.{Outcome, actIn, Seat, seatIn, stepFrom, stepOn}
-use Rattle.lent.specs.Counted.{roomFor, turnOn}
+use Rattle.array_machine.specs.declared.Moved.{Moved}
+use Rattle.array_machine.specs.Arrays.{Arrays, withStatuses}
+use Rattle.array_machine.specs.Turn.{Outcome, actIn, Seat, seatIn, stepFrom, stepOn}
+use Rattle.array_machine.specs.Counted.{roomFor, turnOn}
 use Rattle.peek.specs.declared.Peeked.{Peeked}
 use Rattle.peek.specs.Peeked.{peekedOf, seenOf}
 use Rattle.peek.proofs.ByKind.{does, stays}

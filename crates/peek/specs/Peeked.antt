@@ -1,6 +1,6 @@
 -- What a preview shows of a turn on lent arrays (N4).
-use Rattle.lent.specs.Turn.{Outcome}
-use Rattle.lent.specs.Counted.{Left}
+use Rattle.array_machine.specs.Turn.{Outcome}
+use Rattle.array_machine.specs.Counted.{Left}
 use Rattle.peek.specs.declared.Peeked.{Peeked}
 
 -- "the reply that a turn would give and, after it, memory held, its highest and the worker's quota left"

@@ -1,12 +1,12 @@
 // What a worker's turn would do with the thread that it holds, by the kind of the thread's next action: nothing is written.
 use crate::Peeked;
 use crate::shown;
-use lent::Totals;
-use lent::fits::alloc_fits;
-use lent::fits::fork_fits;
-use lent::fits::free_fits;
-use lent::fits::join_fits;
-use lent::fits::next_fits;
+use array_machine::Totals;
+use array_machine::fits::alloc_fits;
+use array_machine::fits::fork_fits;
+use array_machine::fits::free_fits;
+use array_machine::fits::join_fits;
+use array_machine::fits::next_fits;
 use links::NO_THREAD;
 use schedule::Reply;
 use schedule::Worker;
@@ -19,8 +19,8 @@ ghost use mathlib.Core.List.{List};
 ghost use Prim.Native.Nat.{ℕ, _<_};
 ghost use Rattle.table.specs.Format.{Table, kind, work, alloc, free, fork, join, end};
 ghost use lib.ListN.{getD};
-ghost use Rattle.lent.specs.Arrays.{Arrays, arrays, amountIn, tableFrom, holding as holdingOf};
-ghost use Rattle.lent.specs.Turn.{actOn, actIn};
+ghost use Rattle.array_machine.specs.Arrays.{Arrays, arrays, amountIn, tableFrom, holding as holdingOf};
+ghost use Rattle.array_machine.specs.Turn.{actOn, actIn};
 ghost use Rattle.peek.specs.Peeked.{seenOf};
 
 // A worker that is released has no quota left.

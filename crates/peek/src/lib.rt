@@ -1,8 +1,8 @@
 // A turn shown before it is taken, from lent arrays that are only read (N4): "It equals taking the turn on a copy", and nothing is copied.
 use crate::action::peek_act;
-use lent::Moved;
-use lent::Totals;
-use lent::room_for;
+use array_machine::Moved;
+use array_machine::Totals;
+use array_machine::room_for;
 use links::NO_THREAD;
 use links::seek;
 use schedule::Reply;
@@ -11,9 +11,9 @@ ghost use mathlib.Core.Path.{_≡_};
 ghost use mathlib.Core.List.{List};
 ghost use Prim.Native.Nat.{ℕ};
 ghost use Rattle.schedule.specs.Links.{seek as seekOf};
-ghost use Rattle.lent.specs.Arrays.{arrays, tableFrom};
-ghost use Rattle.lent.specs.Turn.{seatOf};
-ghost use Rattle.lent.specs.Counted.{turnOn};
+ghost use Rattle.array_machine.specs.Arrays.{arrays, tableFrom};
+ghost use Rattle.array_machine.specs.Turn.{seatOf};
+ghost use Rattle.array_machine.specs.Counted.{turnOn};
 ghost use Rattle.peek.specs.Peeked.{peekedOf};
 
 mod action;

@@ -11,7 +11,7 @@ use table::Refusal;
 ghost use mathlib.Core.Path.{_≡_};
 ghost use Prim.Native.Nat.{_-_, _*_};
 ghost use mathlib.Core.List.{_++_};
-ghost use lib.ListN.{length, drop};
+ghost use lib.ListN.{length, drop, replicate};
 ghost use Rattle.io.specs.Counts.{Counts};
 ghost use Rattle.table.specs.Pass.{refusal};
 ghost use Rattle.table.specs.Checks.{outside as isOutside};
@@ -31,6 +31,28 @@ pub fn largest_quota(table: &[u8], p: u8, b: u32, memory: u64) -> Quoted
     ensures { λ r. ⌜ valuesOf r ≡ valuesFor (now (table .entry)) p b memory ⌝ }
 {
     let loaded = facts::load(table);
+    match loaded {
+        Loaded::Refused(r) => Quoted::Refused(r),
+        Loaded::Accepted(facts) => quota_for(table, facts, p, b, memory),
+    }
+}
+
+// The same without recursion, in lent working memory, which may hold anything and is left cleared.
+pub fn largest_quota_in(
+    table: &[u8],
+    p: u8,
+    b: u32,
+    memory: u64,
+    rises: &mut [u64; 1024],
+    falls: &mut [u64; 1024],
+    peaks: &mut [u64; 1024],
+    depths: &mut [u16; 1024],
+) -> Quoted
+    ensures { λ r. ⌜ r ≡ quoted (now (table .entry)) p b memory ⌝ }
+    ensures { λ r. ⌜ valuesOf r ≡ valuesFor (now (table .entry)) p b memory ⌝ }
+    ensures { λ _. ⌜ (now (rises .exit) ≡ replicate 1024 0) × (now (falls .exit) ≡ replicate 1024 0) × (now (peaks .exit) ≡ replicate 1024 0) × (now (depths .exit) ≡ replicate 1024 0) ⌝ }
+{
+    let loaded = facts::load_in(table, rises, falls, peaks, depths);
     match loaded {
         Loaded::Refused(r) => Quoted::Refused(r),
         Loaded::Accepted(facts) => quota_for(table, facts, p, b, memory),

@@ -1,6 +1,6 @@
 //! A run of the table in a file to its end, turn by turn, workers in rounds: `cargo run --example run -- TABLE p K`.
 use std::{env, error::Error, fs};
-use wivakkol::{check, Memory, Reply, Run, Work};
+use wivakkol::{check, Memory, Reply, Run, TablesWork, Work};
 
 fn main() -> Result<(), Box<dyn Error>> {
     let words: Vec<String> = env::args().collect();
@@ -8,7 +8,7 @@ fn main() -> Result<(), Box<dyn Error>> {
         return Err("usage: run TABLE p K".into());
     };
     let table = fs::read(file)?;
-    let facts = check(&table)?;
+    let facts = check(&mut TablesWork::new(), &table)?;
     println!("table {} {} serial {} depth {}", facts.threads, facts.actions, facts.peak, facts.depth);
 
     let (mut memory, mut work) = (Memory::new(), Work::new());

@@ -1,13 +1,13 @@
 //! AsyncDF for job tables: a scheduler whose memory is bounded beforehand, for every order in which its workers take their turns. The calls are proved; this crate calls them in the archives
-//! `libsingle.a` and `libboard.a`, which `rt staticlib single` and `rt staticlib board` write, and gives their numbers types. It has no heap, no state and no dependencies. docs/REFERENCE.md
+//! `libwivakkol_turn.a` and `libwivakkol.a`, which `rt staticlib wivakkol_turn` and `rt staticlib wivakkol` write, and gives their numbers types. It has no heap, no state and no dependencies. docs/REFERENCE.md
 //! of the repository says what a table is, what a turn does and which bounds hold.
 //!
 //! ```
-//! use wivakkol::{Memory, Report, Run, Work};
+//! use wivakkol::{Memory, Report, Run, TablesWork, Work};
 //!
 //! let table = include_bytes!("../../../examples/e.table");
 //! let (mut memory, mut work) = (Memory::new(), Work::new());
-//! let quota = wivakkol::largest_quota(table, 2, 1, 55)?;
+//! let quota = wivakkol::largest_quota(&mut TablesWork::new(), table, 2, 1, 55)?;
 //! let mut run = Run::begin(table, &mut memory, &mut work, 2, quota)?;
 //! assert_eq!(run.rounds(u32::MAX)?, Report::Finished { turns: 14 });
 //! assert_eq!(run.highest(), 12);
@@ -15,7 +15,7 @@
 //! ```
 //!
 //! What C has to keep to by itself is kept here by types: sizes, alignment, what overlaps what, one call at a time, and the same unchanged table for every call on a run. One thing is not: the
-//! stack. From C the calls behind [`check`] and [`largest_quota`] took up to 139,504 bytes of it, [`Run::begin`] 3,480, [`Run::open`] 6,136, [`Run::wall_line`] 6,440, a single turn 104, the others under 300. That the declarations fit the archives is tested and not proved.
+//! stack. From C the calls behind [`check`] and [`largest_quota`] took up to 1,512 bytes of it, [`Run::begin`] 3,480, [`Run::open`] 6,136, [`Run::wall_line`] 6,440, a single turn 104, the others under 300. That the declarations fit the archives is tested and not proved.
 #![no_std]
 #![deny(unsafe_op_in_unsafe_fn)]
 
@@ -27,7 +27,7 @@ mod raw;
 mod refusal;
 mod run;
 
-pub use memory::{Memory, Work};
+pub use memory::{Memory, TablesWork, Work};
 pub use refusal::{Place, Refusal};
 pub use run::{Preview, Reply, Report, Run, Status, Stopped, Turn};
 
@@ -50,10 +50,11 @@ pub struct Facts {
 }
 
 /// Is this a job table, and what are its facts? Refused with 1 to 11.
-pub fn check(table: &[u8]) -> Result<Facts, Refusal> {
+pub fn check(work: &mut TablesWork, table: &[u8]) -> Result<Facts, Refusal> {
     let mut row = [0; 6];
-    // SAFETY: "`table` points to `length` bytes that may be read", since both are of one slice, whose pointer is never NULL; the row is a local array of its full size.
-    let number = unsafe { raw::wivakkol_check(table.as_ptr(), table.len(), &mut row) };
+    // SAFETY: "`table` points to `length` bytes that may be read", since both are of one slice, whose pointer is never NULL; the row is a local array of its full size, and the working memory
+    // fields of one `&mut TablesWork`, so that nothing overlaps and nobody else touches them. Its content does not matter.
+    let number = unsafe { raw::wivakkol_check_on(table.as_ptr(), table.len(), &mut row, &mut work.rises, &mut work.falls, &mut work.peaks, &mut work.depths) };
     let [place, threads, actions, peak, depth, nested] = row;
     Refusal::unless_zero(number, place)?;
     Ok(Facts { threads: threads as u16, actions: actions as u16, peak, depth: depth as u16, nested: nested as u16 })
@@ -61,10 +62,12 @@ pub fn check(table: &[u8]) -> Result<Facts, Refusal> {
 
 /// The largest quota with which `p` workers hold no more than `memory` units of this table, as long as no worker has more than `b` turns between two of another. Refused with 1 to 11, 20,
 /// 41 or 42.
-pub fn largest_quota(table: &[u8], p: u32, b: u32, memory: u64) -> Result<u32, Refusal> {
+pub fn largest_quota(work: &mut TablesWork, table: &[u8], p: u32, b: u32, memory: u64) -> Result<u32, Refusal> {
     let mut row = [0; 2];
     // SAFETY: as in `check`.
-    let number = unsafe { raw::wivakkol_quota(table.as_ptr(), table.len(), p, b, memory, &mut row) };
+    let number = unsafe {
+        raw::wivakkol_quota_on(table.as_ptr(), table.len(), p, b, memory, &mut row, &mut work.rises, &mut work.falls, &mut work.peaks, &mut work.depths)
+    };
     let [place, quota] = row;
     Refusal::unless_zero(number, place)?;
     Ok(quota as u32)

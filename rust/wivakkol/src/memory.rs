@@ -315,6 +315,30 @@ impl Default for Work {
     }
 }
 
+/// Working memory of [`check`](crate::check) and [`largest_quota`](crate::largest_quota): 30,720 bytes, all 0 between two calls. One serves any number of tables, one call at a time.
+#[allow(dead_code)] // no call uses the last two fields yet
+#[repr(C)]
+pub struct TablesWork {
+    pub(crate) rises: [u64; 1024],
+    pub(crate) falls: [u64; 1024],
+    pub(crate) peaks: [u64; 1024],
+    pub(crate) depths: [u16; 1024],
+    pub(crate) names: [u16; 1024],
+    pub(crate) order: [u16; 1024],
+}
+
+impl TablesWork {
+    pub const fn new() -> TablesWork {
+        TablesWork { rises: [0; 1024], falls: [0; 1024], peaks: [0; 1024], depths: [0; 1024], names: [0; 1024], order: [0; 1024] }
+    }
+}
+
+impl Default for TablesWork {
+    fn default() -> TablesWork {
+        TablesWork::new()
+    }
+}
+
 impl Default for Memory {
     fn default() -> Memory {
         Memory::new()
@@ -331,4 +355,6 @@ const _: () = {
     assert!(core::mem::offset_of!(Memory, bytes) == 20614);
     assert!(core::mem::size_of::<Work>() == 22528);
     assert!(core::mem::align_of::<Work>() == 8);
+    assert!(core::mem::size_of::<TablesWork>() == 30720);
+    assert!(core::mem::align_of::<TablesWork>() == 8);
 };

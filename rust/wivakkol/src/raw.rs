@@ -2,9 +2,28 @@
 //! or a part of one: it is not NULL, aligned, of the full size and written before, and what is lent to be written overlaps nothing else. tests/calls/declarations.rs holds them against the source.
 
 extern "C" {
-    pub fn wivakkol_check(table: *const u8, length: usize, row: &mut [u64; 6]) -> u32;
+    pub fn wivakkol_check_on(
+        table: *const u8,
+        length: usize,
+        row: &mut [u64; 6],
+        rises: &mut [u64; 1024],
+        falls: &mut [u64; 1024],
+        peaks: &mut [u64; 1024],
+        depths: &mut [u16; 1024],
+    ) -> u32;
 
-    pub fn wivakkol_quota(table: *const u8, length: usize, p: u32, b: u32, memory: u64, row: &mut [u64; 2]) -> u32;
+    pub fn wivakkol_quota_on(
+        table: *const u8,
+        length: usize,
+        p: u32,
+        b: u32,
+        memory: u64,
+        row: &mut [u64; 2],
+        rises: &mut [u64; 1024],
+        falls: &mut [u64; 1024],
+        peaks: &mut [u64; 1024],
+        depths: &mut [u16; 1024],
+    ) -> u32;
 
     pub fn wivakkol_begin_on(
         table: *const u8,

@@ -9,7 +9,7 @@ use Rattle.schedule.specs.Turn.{unsound}
 use Rattle.schedule.proofs.Stores.{steady-fits}
 use Rattle.schedule.proofs.Runs.Values.{turn-values}
 use Rattle.soundness.proofs.Passed.{test-fails, test-passes, test-parents, has-workers}
-use Rattle.lent.proofs.Answers.{turned-unsound, turned-none, turned-over, root-over, root-open, passed-along}
+use Rattle.array_machine.proofs.Answers.{turned-unsound, turned-none, turned-over, root-over, root-open, passed-along}
 use Rattle.asyncdf.proofs.Calls.{turned-answers, of-list, turn-driven}
 use Rattle.asyncdf.proofs.turn.Statement.{statement}
 use Rattle.asyncdf.proofs.turn.Tie as tie

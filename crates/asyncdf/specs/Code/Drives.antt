@@ -11,8 +11,8 @@ use Rattle.schedule.specs.declared.Reply.{Reply}
 use Rattle.schedule.specs.declared.Report.{Report}
 use Rattle.schedule.specs.Turn.{rootEnded, stepRun}
 use Rattle.schedule.specs.Runs.{ran, drive}
-use Rattle.cells.specs.Memory.{Memory}
-use Rattle.cells.specs.Stands.{runIn, Stands}
+use Rattle.run_memory.specs.Memory.{Memory}
+use Rattle.run_memory.specs.Stands.{runIn, Stands}
 
 -- turn i has a worker: the list is long enough, or the rounds have workers
 pub record Sequence (order : List ℕ) (rounds : Bool) (p i : ℕ) : Type 0 where

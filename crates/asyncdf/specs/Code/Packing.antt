@@ -6,12 +6,12 @@ use Rattle.schedule.specs.declared.Run.{Run}
 use Rattle.schedule.specs.Links.{noThread, Links}
 use Rattle.schedule.specs.Actives.{noLinks, filledFrom}
 use Rattle.table.specs.Checks.{maxThreads}
-use Rattle.lent.specs.Arrays.{arrays}
-use Rattle.lent.specs.Packed.{packedOf}
-use Rattle.cells.specs.Memory.{Memory, memory, movedIn}
-use Rattle.cells.specs.Stands.{workersIn}
-use Rattle.cells.specs.Blocks.{Words, Sums}
-use Rattle.cells.specs.Places.{headed, totalled, laidRow, amountsAre, ofWorkers}
+use Rattle.array_machine.specs.Arrays.{arrays}
+use Rattle.array_machine.specs.Packed.{packedOf}
+use Rattle.run_memory.specs.Memory.{Memory, memory, movedIn}
+use Rattle.run_memory.specs.Stands.{workersIn}
+use Rattle.run_memory.specs.Blocks.{Words, Sums}
+use Rattle.run_memory.specs.Places.{headed, totalled, laidRow, amountsAre, ofWorkers}
 
 -- the second list, which is in no record: the threads of the list that do not wait
 abbrev pub secondFor : Run → Links

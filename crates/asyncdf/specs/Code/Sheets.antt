@@ -13,9 +13,9 @@ use Rattle.schedule.specs.Listing.{Line, Last, line, toldWith, actionIn, thread
 use Rattle.lines.specs.Lines.{turnTexts, lastTexts, textsOf}
 use Rattle.chart.specs.Chart.{Figures, figuresOf, lineTexts, lineText, mostTurns, charted}
 use Rattle.chart.specs.Turns.{laterLines}
-use Rattle.cells.specs.Memory.{Memory, movedIn}
-use Rattle.cells.specs.Stands.{workersIn}
-use Rattle.cells.specs.Blocks.{Words, Sums}
+use Rattle.run_memory.specs.Memory.{Memory, movedIn}
+use Rattle.run_memory.specs.Stands.{workersIn}
+use Rattle.run_memory.specs.Blocks.{Words, Sums}
 
 -- the texts of the turns; a chart's first line stands before them
 unfoldable pub turnsTexts : Bool → Run → List ℕ → List (List ℕ)

@@ -5,7 +5,7 @@ use Prim.Native.Nat.{ℕ}
 use mathlib.Core.List.{List}
 use denote.Ref.{now}
 use Rattle.table.specs.Format.{Table}
-use Rattle.lent.specs.Arrays.{Arrays, arrays, tableFrom}
+use Rattle.array_machine.specs.Arrays.{Arrays, arrays, tableFrom}
 use Rattle.peek.proofs.Turns.{without-room, idles, goes-on, unfits}
 use borrow.Author.Needs.{needs}
 use Rattle.peek.proofs.peek_turn.Statement.{statement}

@@ -7,7 +7,7 @@ use borrow.Author.Tests.{lt-ltb, le-ltb}
 use denote.Ref.{now}
 use Rattle.schedule.specs.declared.Worker.{Worker}
 use Rattle.schedule.specs.Links.{noThread}
-use Rattle.lent.specs.Turn.{seatOf}
+use Rattle.array_machine.specs.Turn.{seatOf}
 use borrow.Author.Needs.{needs}
 use Rattle.peek.proofs.seated.Statement.{statement}
 use Rattle.peek.proofs.seated.Tie as tie

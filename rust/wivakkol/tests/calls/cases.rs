@@ -2,7 +2,7 @@
 use crate::model::Action::{self, *};
 use crate::model::{bytes, Table};
 use std::sync::Mutex;
-use wivakkol::{check, largest_quota, Facts, Memory, Preview, Refusal, Reply, Report, Run, Status, Stopped, Turn, Work};
+use wivakkol::{Facts, Memory, Preview, Refusal, Reply, Report, Run, Status, Stopped, TablesWork, Turn, Work};
 
 const LISTING: &str = "\
 1 0 0 0 fork 0
@@ -28,6 +28,14 @@ fn e() -> Table {
 
 fn refused(number: u32, place: u64) -> Refusal {
     Refusal { number, place }
+}
+
+fn check(table: &[u8]) -> Result<Facts, Refusal> {
+    wivakkol::check(&mut TablesWork::new(), table)
+}
+
+fn largest_quota(table: &[u8], p: u32, b: u32, memory: u64) -> Result<u32, Refusal> {
+    wivakkol::largest_quota(&mut TablesWork::new(), table, p, b, memory)
 }
 
 /// Why a run of this table with p workers and quota K is not begun.
@@ -132,6 +140,17 @@ fn limits() {
     assert_eq!(check(&fan(1024)).unwrap().threads, 1024);
     assert_eq!(check(&fan(1025)), Err(refused(2, 0)));
     assert_eq!(check(&[0xff; 100_000]), Err(refused(2, 0)));
+}
+
+/// 1,024 threads, each forking the next: every action depends on the one before it in serial order, so D is their number.
+#[test]
+fn nested_threads() {
+    let nested = |n: u16| bytes(&(0..n).map(|t| if t + 1 < n { vec![Fork(t + 1), Join(t + 1), End] } else { vec![Alloc(9), End] }).collect());
+    let mut work = TablesWork::new();
+    let facts = Facts { threads: 1024, actions: 3071, peak: 9, depth: 3071, nested: 1024 };
+    assert_eq!(wivakkol::check(&mut work, &nested(1024)), Ok(facts));
+    assert_eq!(wivakkol::largest_quota(&mut work, &nested(1024), 16, 1, 9 + 15 * 3070 * 9), Ok(9));
+    assert_eq!(wivakkol::largest_quota(&mut work, &nested(1024), 16, 1, 8 + 15 * 3070 * 9), Err(refused(42, 0)));
 }
 
 #[test]

@@ -32,7 +32,7 @@ fn as_pointers(parameters: &[String]) -> Vec<String> {
 #[test]
 fn calls_are_of_the_source() {
     let mut source = BTreeMap::new();
-    for name in ["single", "board"] {
+    for name in ["wivakkol_turn", "wivakkol"] {
         for entry in fs::read_dir(format!("{HERE}/../../crates/{name}/src")).unwrap() {
             let text = fs::read_to_string(entry.unwrap().path()).unwrap();
             source.extend(functions(&text, "pub extern \"C\" fn "));
@@ -116,7 +116,7 @@ fn both_fields(in_header: &str, in_crate: &str) -> (Vec<String>, Vec<String>) {
 
 #[test]
 fn memory_is_of_the_header() {
-    for (in_header, in_crate, count) in [("wivakkol_run", "Memory", 4), ("wivakkol_work", "Work", 5)] {
+    for (in_header, in_crate, count) in [("wivakkol_run", "Memory", 4), ("wivakkol_work", "Work", 5), ("wivakkol_tables_work", "TablesWork", 6)] {
         let (wanted, declared) = both_fields(in_header, in_crate);
         assert_eq!(declared, wanted);
         assert_eq!(declared.len(), count);

@@ -1,6 +1,6 @@
 //! Random tables; single turns, runs over lists and runs in rounds, mixed, compared with the model after every call.
 use crate::model::{self, bytes, facts, Draw, Machine, Said, Table};
-use wivakkol::{check, Memory, Reply, Report, Run, Status, Work};
+use wivakkol::{check, Memory, Reply, Report, Run, Status, TablesWork, Work};
 
 /// The first action of each thread.
 fn firsts(table: &Table) -> Vec<usize> {
@@ -149,11 +149,11 @@ fn all_calls_mixed() {
 /// The facts are the model's, and a run in rounds keeps both bounds with b 1.
 #[test]
 fn facts_and_bounds() {
-    let mut draw = Draw(22);
+    let (mut draw, mut tables_work) = (Draw(22), TablesWork::new());
     for _ in 0..300 {
         let (table, p, quota) = drawn(&mut draw);
         let (data, mut memory) = (bytes(&table), Memory::new());
-        let got = check(&data).unwrap();
+        let got = check(&mut tables_work, &data).unwrap();
         let (peak, depth, nested) = facts(&table);
         assert_eq!((got.peak, got.depth, got.nested), (peak, depth, nested));
         let mut run = Run::begin(&data, &mut memory, &mut Work::new(), p, quota).unwrap();

@@ -3,7 +3,7 @@ use mathlib.Core.Path.{refl}
 use native.Mathlib.Omega.{arith}
 use borrow.Author.Needs.{needs}
 use denote.Ref.{now}
-use Rattle.lent.proofs.Starts.{is-start}
+use Rattle.array_machine.proofs.Starts.{is-start}
 use Rattle.asyncdf.proofs.beginning.start.Statement.{statement}
 use Rattle.asyncdf.proofs.beginning.start.Tie as tie
 

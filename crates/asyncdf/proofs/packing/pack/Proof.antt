@@ -1,7 +1,7 @@
 -- `asyncdf::packing::pack` meets its contract: the copies lay the record's memory.
 use borrow.Author.Needs.{needs}
 use denote.Ref.{now}
-use Rattle.cells.specs.Blocks.{bytesIn, wordsIn, numbersIn, sumsIn}
+use Rattle.run_memory.specs.Blocks.{bytesIn, wordsIn, numbersIn, sumsIn}
 use Rattle.asyncdf.proofs.Laying.{memory-laid}
 use Rattle.asyncdf.proofs.packing.pack.Statement.{statement}
 use Rattle.asyncdf.proofs.packing.pack.Tie as tie

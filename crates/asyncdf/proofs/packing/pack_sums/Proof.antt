@@ -1,7 +1,7 @@
 -- `asyncdf::packing::pack_sums` meets its contract: the copies are those of the record's sums.
 use borrow.Author.Needs.{needs}
 use denote.Ref.{now}
-use Rattle.cells.specs.Blocks.{sumsIn}
+use Rattle.run_memory.specs.Blocks.{sumsIn}
 use Rattle.asyncdf.proofs.Laying.{sums-laid}
 use Rattle.asyncdf.proofs.packing.pack_sums.Statement.{statement}
 use Rattle.asyncdf.proofs.packing.pack_sums.Tie as tie

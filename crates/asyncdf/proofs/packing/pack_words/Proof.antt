@@ -1,7 +1,7 @@
 -- `asyncdf::packing::pack_words` meets its contract: the copies are those of the record's rows and heads, and of the second list that was filled.
 use borrow.Author.Needs.{needs}
 use denote.Ref.{now}
-use Rattle.cells.specs.Blocks.{wordsIn}
+use Rattle.run_memory.specs.Blocks.{wordsIn}
 use Rattle.asyncdf.proofs.Laying.{words-laid}
 use Rattle.asyncdf.proofs.packing.pack_words.Statement.{statement}
 use Rattle.asyncdf.proofs.packing.pack_words.Tie as tie

@@ -15,10 +15,10 @@ use Rattle.schedule.specs.Machine.{ended}
 use Rattle.schedule.specs.Record.{bytesOf}
 use Rattle.schedule.specs.Sound.{Steady}
 use Rattle.schedule.specs.Turn.{rootEnded}
-use Rattle.lent.proofs.Answers.{root-open}
-use Rattle.cells.specs.Memory.{Memory}
-use Rattle.cells.specs.Stands.{runIn}
-use Rattle.cells.specs.Blocks.{memoryOf}
+use Rattle.array_machine.proofs.Answers.{root-open}
+use Rattle.run_memory.specs.Memory.{Memory}
+use Rattle.run_memory.specs.Stands.{runIn}
+use Rattle.run_memory.specs.Blocks.{memoryOf}
 use Rattle.asyncdf.specs.Code.Packing.{memoryFor, recordOf}
 use Rattle.asyncdf.specs.Code.Drives.{Driven}
 use Rattle.asyncdf.proofs.Driving.{drive-over}

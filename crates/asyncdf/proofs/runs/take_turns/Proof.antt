@@ -11,9 +11,9 @@ use lib.Dec.{ltb}
 use Rattle.table.specs.Sum.{pick}
 use Rattle.schedule.specs.declared.Reply.{Reply}
 use Rattle.schedule.specs.Runs.{workerAt}
-use Rattle.cells.specs.Memory.{Memory}
-use Rattle.cells.specs.Blocks.{memoryOf}
-use Rattle.cells.proofs.Turning.{in-turn}
+use Rattle.run_memory.specs.Memory.{Memory}
+use Rattle.run_memory.specs.Blocks.{memoryOf}
+use Rattle.run_memory.proofs.Turning.{in-turn}
 use Rattle.asyncdf.specs.Code.Drives.{Sequence}
 use Rattle.asyncdf.proofs.Moving.{not-done, other}
 use Rattle.asyncdf.proofs.Along.{Along, first-along, spent, small, stops, again, finished}

@@ -12,7 +12,7 @@ use Rattle.schedule.specs.Listing.{Line}
 use Rattle.lines.specs.Lines.{turnTexts}
 use Rattle.text.specs.Puts.{putAll, Puts}
 use Rattle.chart.specs.Chart.{Figures, figuresOf, lineTexts}
-use Rattle.cells.specs.Blocks.{wordsIn, sumsIn, memoryOf}
+use Rattle.run_memory.specs.Blocks.{wordsIn, sumsIn, memoryOf}
 use Rattle.asyncdf.specs.Code.Sheets.{lineIn, figuresIn, afterTexts, afterSize}
 use Rattle.asyncdf.proofs.turns.put_after.Statement.{statement}
 use Rattle.asyncdf.proofs.turns.put_after.Tie as tie

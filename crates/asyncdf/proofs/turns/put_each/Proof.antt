@@ -23,10 +23,10 @@ use Rattle.text.proofs.Putting.{puts-within}
 use Rattle.chart.specs.Chart.{Figures, figures, lineText, mostTurns, tooMany}
 use Rattle.chart.proofs.Records.{wall-width, charted-written}
 use Rattle.chart.proofs.Records.{few as few-turns}
-use Rattle.lent.proofs.Answers.{steady-room, turned-taken}
-use Rattle.cells.specs.Memory.{Memory, movedIn, Told, turnIn}
-use Rattle.cells.specs.Stands.{runIn}
-use Rattle.cells.specs.Blocks.{memoryOf}
+use Rattle.array_machine.proofs.Answers.{steady-room, turned-taken}
+use Rattle.run_memory.specs.Memory.{Memory, movedIn, Told, turnIn}
+use Rattle.run_memory.specs.Stands.{runIn}
+use Rattle.run_memory.specs.Blocks.{memoryOf}
 use Rattle.asyncdf.specs.Code.Drives.{Moving}
 use Rattle.asyncdf.specs.Code.Sheets.{turnsTexts, widest, figuresIn, afterTexts, afterSize, overTexts, hindered}
 use Rattle.asyncdf.proofs.Moving.{not-done, other, moves, replies, tally, settings, stands-there, keeps, over}

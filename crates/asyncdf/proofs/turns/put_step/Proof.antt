@@ -10,7 +10,7 @@ use Rattle.table.proofs.Parts.{code-from}
 use Rattle.schedule.specs.Listing.{Line, line, toldWith}
 use Rattle.lines.specs.Lines.{turnTexts}
 use Rattle.text.specs.Puts.{Puts}
-use Rattle.cells.specs.Blocks.{wordsIn}
+use Rattle.run_memory.specs.Blocks.{wordsIn}
 use Rattle.asyncdf.proofs.turns.put_step.Statement.{statement}
 use Rattle.asyncdf.proofs.turns.put_step.Tie as tie
 

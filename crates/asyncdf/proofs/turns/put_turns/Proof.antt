@@ -18,11 +18,11 @@ use Rattle.schedule.specs.Turn.{unsound}
 use Rattle.schedule.specs.Listing.{lastWith}
 use Rattle.text.specs.Puts.{Puts}
 use Rattle.soundness.proofs.Passed.{has-workers}
-use Rattle.cells.specs.Memory.{Memory, movedIn}
-use Rattle.cells.specs.Stands.{runIn}
+use Rattle.run_memory.specs.Memory.{Memory, movedIn}
+use Rattle.run_memory.specs.Stands.{runIn}
 use Rattle.asyncdf.specs.Code.Packing.{memoryFor}
 use Rattle.asyncdf.specs.Code.Sheets.{turnsTexts, widest, overTexts}
-use Rattle.lent.proofs.Answers.{turned-none, root-over, root-open}
+use Rattle.array_machine.proofs.Answers.{turned-none, root-over, root-open}
 use Rattle.asyncdf.proofs.Moving.{table-room, first-is, first-moving}
 use Rattle.asyncdf.proofs.Ordered.{texts-refused, start, ended, exhausted, refused}
 use Rattle.asyncdf.proofs.turns.put_turns.Statement.{statement}

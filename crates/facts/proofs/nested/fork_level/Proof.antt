@@ -34,6 +34,9 @@ returns c = no-fork _ (c .before .args .c) (c .before .args .level) _ (now (c .b
 add-below : tie.Need-add-below
 add-below c = search needs
 
+cast-levels : tie.Need-cast-levels
+cast-levels c = search needs
+
 mul-levels : tie.Need-mul-levels
 mul-levels c = omega (arith, c .before .pre .1 (c .if1 .left))
 
@@ -48,4 +51,4 @@ returns-3 c = forked _ _ (c .before .before .args .level) (c .before .before .ar
 
 pub fork-level-spec : {M : Type 1} → statement M
 fork-level-spec =
-    tie.close (tie.spec returns add-below mul-levels element-write-levels returns-2 returns-3)
+    tie.close (tie.spec returns add-below cast-levels mul-levels element-write-levels returns-2 returns-3)

@@ -109,10 +109,10 @@ module _ {s actions : List ℕ} {n m : ℕ} {levels : List ℕ} {deepest t a : �
   found h = nests-all T (laws .0) (laws .1) (laws .2) (laws .3) (some-thread (i .nested)) (few-threads (i .nested)) (i .nests) (omega (arith, actions-are (i .nested)))
 
 abbrev Inv-loop : tie.InvT-loop
-Inv-loop table n m actions stop levels₀ deepest₀ t₀ a₀ levels deepest t a = Inv table actions n m levels deepest t a × (stop ≡ m)
+Inv-loop table n m levels₀ actions stop deepest₀ t₀ a₀ levels deepest t a = Inv table actions n m levels deepest t a × (stop ≡ m)
 
 abbrev μ-loop : tie.MeasureT-loop
-μ-loop table n m actions stop levels₀ deepest₀ t₀ a₀ levels deepest t a = m - a
+μ-loop table n m levels₀ actions stop deepest₀ t₀ a₀ levels deepest t a = m - a
 
 bodies-requires : tie.Need-bodies-requires Inv-loop μ-loop
 bodies-requires c κs = search needs
@@ -122,8 +122,8 @@ lesser-requires c κs = search needs
 
 loop-holds : tie.Need-loop-holds Inv-loop μ-loop
 loop-holds c =
-    let i = start (c .before .before .before .pre) (c .before .bodies .ensures) in
-    (i, c .lesser .ensures ∙ min-eq-left (omega (arith, rw (← (i .part)) at (bodies-length (i .nested .formed .laid .headed)))))
+    let i = start (c .before .before .before .before .pre) (c .before .before .bodies .ensures) in
+    (i, c .before .lesser .ensures ∙ min-eq-left (omega (arith, rw (← (i .part)) at (bodies-length (i .nested .formed .laid .headed)))))
 
 action-in-requires : tie.Need-action-in-requires Inv-loop μ-loop
 action-in-requires c κs = search needs
@@ -131,33 +131,38 @@ action-in-requires c κs = search needs
 mul-level : tie.Need-mul-level Inv-loop μ-loop
 mul-level c = omega (arith, thread-below (c .before .before .loop .inv .0) (omega (arith, c .before .before .loop .inv .1, c .before .loop-test .taken)))
 
-array-read-level : tie.Need-array-read-level Inv-loop μ-loop
-array-read-level c = thread-below (c .before .before .loop .inv .0) (omega (arith, c .before .before .loop .inv .1, c .before .loop-test .taken))
+element-copy-out-level : tie.Need-element-copy-out-level Inv-loop μ-loop
+element-copy-out-level c = thread-below (c .before .before .loop .inv .0) (omega (arith, c .before .before .loop .inv .1, c .before .loop-test .taken))
+
+cast-level : tie.Need-cast-level Inv-loop μ-loop
+cast-level c =
+    let b = c .before .before in
+    omega (arith, level-small (b .before .loop .inv .0) (omega (arith, b .before .loop .inv .1, b .loop-test .taken)))
 
 fork-level-requires : tie.Need-fork-level-requires Inv-loop μ-loop
 fork-level-requires c κs =
-    let b = c .before .before in
+    let b = c .before .before .before in
     let v = b .before .loop .inv in (
       level-small (v .0) (omega (arith, v .1, b .loop-test .taken)),
-      child-below (v .0) (omega (arith, v .1, b .loop-test .taken)) (c .before .action-in .ensures .0) (c .before .action-in .ensures .1 .value),
+      child-below (v .0) (omega (arith, v .1, b .loop-test .taken)) (c .before .before .action-in .ensures .0) (c .before .before .action-in .ensures .1 .value),
     )
 
 next-thread-requires : tie.Need-next-thread-requires Inv-loop μ-loop
 next-thread-requires c κs =
-    let b = c .before .before .before in
+    let b = c .before .before .before .before in
     thread-below (b .before .loop .inv .0) (omega (arith, b .before .loop .inv .1, b .loop-test .taken))
 
 add-a : tie.Need-add-a Inv-loop μ-loop
 add-a c = omega arith
 
 loop-less : tie.Need-loop-less Inv-loop μ-loop
-loop-less c = omega (arith, c .before .before .before .before .before .loop .inv .1)
+loop-less c = omega (arith, c .before .before .before .before .before .before .loop .inv .1)
 
 loop-again : tie.Need-loop-again Inv-loop μ-loop
 loop-again c =
-    let b = c .before .before .before .before in
+    let b = c .before .before .before .before .before in
     let v = b .before .loop .inv in (
-      again (v .0) (omega (arith, v .1, b .loop-test .taken)) (c .before .before .before .action-in .ensures .0) (c .before .before .before .action-in .ensures .1 .value)
+      again (v .0) (omega (arith, v .1, b .loop-test .taken)) (c .before .before .before .before .action-in .ensures .0) (c .before .before .before .before .action-in .ensures .1 .value)
           (c .before .fork-level .ensures .0) (c .before .fork-level .ensures .1) (c .next-thread .ensures),
       v .1,
     )
@@ -176,7 +181,8 @@ nested-levels-spec =
     loop-holds
     action-in-requires
     mul-level
-    array-read-level
+    element-copy-out-level
+    cast-level
     fork-level-requires
     next-thread-requires
     add-a

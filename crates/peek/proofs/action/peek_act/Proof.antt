@@ -4,7 +4,7 @@ use Prim.Native.Nat.{ℕ}
 use mathlib.Core.List.{List}
 use denote.Ref.{now}
 use Rattle.table.specs.Format.{Table}
-use Rattle.lent.specs.Arrays.{Arrays, arrays, tableFrom}
+use Rattle.array_machine.specs.Arrays.{Arrays, arrays, tableFrom}
 use Rattle.peek.proofs.ByKind.{no-thread, of-thread}
 use borrow.Author.Needs.{needs}
 use Rattle.peek.proofs.action.peek_act.Statement.{statement}

@@ -5,8 +5,8 @@ use native.Mathlib.Omega.{arith}
 use mathlib.Core.List.{List}
 use denote.Ref.{now}
 use Rattle.table.specs.Format.{Table, kindOf}
-use Rattle.lent.specs.Arrays.{Arrays, arrays, tableFrom}
-use Rattle.lent.proofs.Reading.{from-code, from-argument}
+use Rattle.array_machine.specs.Arrays.{Arrays, arrays, tableFrom}
+use Rattle.array_machine.proofs.Reading.{from-code, from-argument}
 use Rattle.peek.proofs.ByKind.{unknown-idle, by-code}
 use borrow.Author.Needs.{needs}
 use Rattle.peek.proofs.action.peek_action.Statement.{statement}

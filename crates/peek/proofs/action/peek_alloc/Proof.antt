@@ -4,8 +4,8 @@ use Prim.Native.Nat.{_+_, _^_}
 use mathlib.Core.Bool.{_&&_}
 use borrow.Author.Tests.{not-true, not-false, ltb-true}
 use Rattle.table.proofs.Tests.{and-both}
-use Rattle.lent.specs.Turn.{amountFits}
-use Rattle.lent.proofs.Leaves.{fits64, fits-and}
+use Rattle.array_machine.specs.Turn.{amountFits}
+use Rattle.array_machine.proofs.Leaves.{fits64, fits-and}
 use Rattle.peek.proofs.ByKind.{alloc-beyond, alloc-unfit, alloc-done}
 use borrow.Author.Needs.{needs}
 use Rattle.peek.proofs.action.peek_alloc.Statement.{statement}

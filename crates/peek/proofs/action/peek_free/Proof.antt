@@ -4,7 +4,7 @@ use mathlib.Core.Bool.{_&&_}
 use borrow.Author.Tests.{not-true, not-false, leb-true}
 use lib.Dec.{leb}
 use Rattle.table.proofs.Tests.{and-both}
-use Rattle.lent.proofs.Leaves.{fits-and}
+use Rattle.array_machine.proofs.Leaves.{fits-and}
 use Rattle.peek.proofs.ByKind.{free-unfit, free-done}
 use borrow.Author.Needs.{needs}
 use Rattle.peek.proofs.action.peek_free.Statement.{statement}

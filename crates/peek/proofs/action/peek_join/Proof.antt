@@ -4,7 +4,7 @@ use borrow.Author.Tests.{not-true, not-false}
 use Prim.Native.Nat.{ℕ}
 use mathlib.Core.List.{List}
 use denote.Ref.{now}
-use Rattle.lent.specs.Arrays.{Arrays, arrays}
+use Rattle.array_machine.specs.Arrays.{Arrays, arrays}
 use Rattle.peek.proofs.ByKind.{join-none, join-waits, join-unfit, join-done}
 use borrow.Author.Needs.{needs}
 use Rattle.peek.proofs.action.peek_join.Statement.{statement}

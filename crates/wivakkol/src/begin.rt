@@ -1,0 +1,94 @@
+// Beginning a run in lent memory.
+use crate::workers;
+use links::NO_THREAD;
+use schedule::statuses::READY;
+use soundness::accept_in;
+use table::Found;
+ghost use mathlib.Core.Path.{_≡_};
+ghost use mathlib.Core.List.{[], _∷_};
+ghost use lib.ListN.{replicate};
+ghost use Rattle.array_machine.specs.Arrays.{arrays};
+ghost use Rattle.run_memory.specs.Memory.{memory, answer};
+ghost use Rattle.wivakkol.specs.Lent.{lentBegin};
+
+// No worker holds a thread, and nothing is counted.
+fn put_nobody(
+    holds: &mut [u8; 16],
+    threads: &mut [u16; 16],
+    quotas: &mut [u32; 16],
+    heads: &mut [u16; 3],
+    totals: &mut [u64; 3],
+)
+    ensures { λ _. ⌜ (now (holds .exit) ≡ replicate 16 0) × (now (threads .exit) ≡ replicate 16 0) × (now (quotas .exit) ≡ replicate 16 0) ⌝ }
+    ensures { λ _. ⌜ (now (heads .exit) ≡ 0 ∷ 0 ∷ 0 ∷ []) × (now (totals .exit) ≡ 0 ∷ 0 ∷ 0 ∷ []) ⌝ }
+{
+    *holds = [0; 16];
+    *threads = [0; 16];
+    *quotas = [0; 16];
+    *heads = [0, 0, 0];
+    *totals = [0, 0, 0];
+}
+
+// Every thread has these two neighbours, in the list and in the second list.
+fn put_links(
+    left: &mut [u16; 1024],
+    right: &mut [u16; 1024],
+    under: &mut [u16; 1024],
+    over: &mut [u16; 1024],
+    x: u16,
+)
+    ensures { λ _. ⌜ (now (left .exit) ≡ replicate 1024 x) × (now (right .exit) ≡ replicate 1024 x) ⌝ }
+    ensures { λ _. ⌜ (now (under .exit) ≡ replicate 1024 x) × (now (over .exit) ≡ replicate 1024 x) ⌝ }
+{
+    *left = [x; 1024];
+    *right = [x; 1024];
+    *under = [x; 1024];
+    *over = [x; 1024];
+}
+
+// Begins a run, or gives the check that refuses; the memory is then that of the blank record. The working memory, rises and falls, is left cleared.
+#[no_mangle]
+pub extern "C" fn wivakkol_begin_on(
+    table: &[u8],
+    p: u32,
+    quota: u32,
+    settings: &mut [u32; 2],
+    parents: &mut [u16; 1024],
+    next: &mut [u16; 1024],
+    status: &mut [u8; 1024],
+    amounts: &mut [u64; 1024],
+    left: &mut [u16; 1024],
+    right: &mut [u16; 1024],
+    under: &mut [u16; 1024],
+    over: &mut [u16; 1024],
+    holds: &mut [u8; 16],
+    threads: &mut [u16; 16],
+    quotas: &mut [u32; 16],
+    heads: &mut [u16; 3],
+    totals: &mut [u64; 3],
+    row: &mut [u64; 1],
+    rises: &mut [u64; 1024],
+    falls: &mut [u64; 1024],
+) -> u32
+    ensures { λ r. ⌜ answer r (now (row .exit)) (memory (now (settings .exit)) (now (parents .exit))
+        (arrays (now (next .exit)) (now (status .exit)) (now (amounts .exit)) (now (left .exit)) (now (right .exit)) (now (under .exit)) (now (over .exit)))
+        (now (holds .exit)) (now (threads .exit)) (now (quotas .exit)) (now (heads .exit)) (now (totals .exit)))
+        ≡ lentBegin (now (table .entry)) p quota ⌝ }
+    ensures { λ _. ⌜ (now (rises .exit) ≡ replicate 1024 0) × (now (falls .exit) ≡ replicate 1024 0) ⌝ }
+{
+    *amounts = [0; 1024];
+    *status = [0; 1024];
+    put_nobody(holds, threads, quotas, heads, totals);
+    let found = accept_in(table, workers(p), quota, next, parents, rises, falls);
+    if let Found::At(x) = found {
+        *settings = [0, 0];
+        put_links(left, right, under, over, 0);
+        *row = [x.place as u64];
+        return x.number as u32;
+    }
+    *settings = [p, quota];
+    put_links(left, right, under, over, NO_THREAD);
+    status[0] = READY;
+    *row = [0];
+    0
+}
