@@ -1,4 +1,5 @@
 // A run record's numbers, copied into the four blocks on which turns are taken, and read back. The second list, which is in no record, is filled from the list.
+use links::fill_actives;
 use run_memory::copies::amounts_out;
 use run_memory::copies::copy_amounts;
 use run_memory::copies::copy_row;
@@ -24,7 +25,6 @@ use run_memory::places::put_head;
 use run_memory::places::put_setting;
 use run_memory::places::put_total;
 use run_memory::places::total_at;
-use links::fill_actives;
 use schedule::Run;
 ghost use mathlib.Core.Path.{_≡_};
 ghost use Rattle.run_memory.specs.Blocks.{memoryOf, wordsIn, sumsIn};

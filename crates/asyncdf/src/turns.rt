@@ -1,6 +1,11 @@
 // The lines of an order's turns, of a listing or of a chart: the loop of a run, with a line put after each turn and no record at its end.
 use crate::packing::pack;
 use crate::runs::root_end;
+use chart::MOST_TURNS;
+use chart::put_line;
+use lines::put_last;
+use lines::put_refused;
+use lines::put_turn;
 use run_memory::copies::workers_out;
 use run_memory::places::HELD;
 use run_memory::places::HIGHEST;
@@ -9,11 +14,6 @@ use run_memory::places::TURNS;
 use run_memory::places::row_at;
 use run_memory::places::total_at;
 use run_memory::turn_in;
-use chart::MOST_TURNS;
-use chart::put_line;
-use lines::put_last;
-use lines::put_refused;
-use lines::put_turn;
 use schedule::Reply;
 use schedule::Run;
 use schedule::statuses::ENDED;

@@ -2,10 +2,10 @@
 use crate::reads::moved_at;
 use crate::reads::passed_by;
 use crate::reads::worker_at;
-use run_memory::hindrance;
-use run_memory::replies::put_reply;
 use peek::Peeked;
 use peek::peek_turn;
+use run_memory::hindrance;
+use run_memory::replies::put_reply;
 use schedule::Reply;
 use table::read;
 ghost use mathlib.Core.Path.{_≡_};

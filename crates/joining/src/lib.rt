@@ -1,0 +1,1 @@
+// Several designs as one table: a new root over the parts, and its facts from the parts alone.
