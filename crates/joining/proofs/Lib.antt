@@ -1,2 +1,2 @@
 pub mod JoinFacts
-pub mod Joined
+pub mod JoinedWhole
