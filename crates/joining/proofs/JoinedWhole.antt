@@ -42,10 +42,10 @@ accepted-keeps s f h =
     let l : Lawful (tableOf s) = lawful s (accepted-exactly s .0 (h ∙ ap Accepted (accepted-facts s f h))) in
     record { contents = l .contents; bodies = l .bodies; nesting = l .nesting; forking = l .forking; balances = l .balances; some = l .some-thread }
 
-abbrev bodiesOver : List (List ℕ) → List (List (List Action))
+abbrev pub bodiesOver : List (List ℕ) → List (List (List Action))
 bodiesOver ps = map (λ (s : List ℕ). bodiesIn (tableOf s)) ps
 
-over-length : (ps : List (List ℕ)) → length (bodiesOver ps) ≡ length ps
+pub over-length : (ps : List (List ℕ)) → length (bodiesOver ps) ≡ length ps
 over-length [] = refl
 over-length (s ∷ ps) = ap suc (over-length ps)
 

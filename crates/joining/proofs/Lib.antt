@@ -1,2 +1,3 @@
 pub mod JoinFacts
 pub mod JoinedWhole
+pub mod JoinRows

@@ -80,7 +80,7 @@ module _ (T : Table) (c : ContentRules T) where
       let z : 0 + T .threads ≡ T .threads = omega arith in
       bodies-flat (T .threads) 0 (T .actions) (omega arith) (rw z (omega (arith, counts-all T c)))
 
-flat-map : (g : Action → Action) (bs : List (List Action)) → flatten (map (map g) bs) ≡ map g (flatten bs)
+pub flat-map : (g : Action → Action) (bs : List (List Action)) → flatten (map (map g) bs) ≡ map g (flatten bs)
 unfolding flatten
 flat-map g [] = refl
 flat-map g (b ∷ bs) = rw (flat-map g bs) (sym (map-append g b (flatten bs)))
