@@ -1,3 +1,4 @@
 pub mod JoinFacts
 pub mod JoinedWhole
 pub mod JoinRows
+pub mod Splits
