@@ -37,10 +37,11 @@ use Rattle.parts.proofs.JoinBodies.{Bodied, actionsOver, joined-actions, joined
 
 -- ---- accepted parts
 
-pub accepted-keeps : (s : List ℕ) (f : Facts) → loaded s ≡ Accepted f → Keeps (tableOf s)
-accepted-keeps s f h =
-    let l : Lawful (tableOf s) = lawful s (accepted-exactly s .0 (h ∙ ap Accepted (accepted-facts s f h))) in
-    record { contents = l .contents; bodies = l .bodies; nesting = l .nesting; forking = l .forking; balances = l .balances; some = l .some-thread }
+pub lawful-keeps : (T : Table) → Lawful T → Keeps T
+lawful-keeps T l = record { contents = l .contents; bodies = l .bodies; nesting = l .nesting; forking = l .forking; balances = l .balances; some = l .some-thread }
+
+accepted-keeps : (s : List ℕ) (f : Facts) → loaded s ≡ Accepted f → Keeps (tableOf s)
+accepted-keeps s f h = lawful-keeps (tableOf s) (lawful s (accepted-exactly s .0 (h ∙ ap Accepted (accepted-facts s f h))))
 
 abbrev pub bodiesOver : List (List ℕ) → List (List (List Action))
 bodiesOver ps = map (λ (s : List ℕ). bodiesIn (tableOf s)) ps

@@ -2,3 +2,4 @@ pub mod JoinFacts
 pub mod JoinedWhole
 pub mod JoinRows
 pub mod Splits
+pub mod Weighs

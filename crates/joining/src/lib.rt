@@ -1,6 +1,7 @@
 // Several designs as one table: a new root over the parts, and its facts from the parts alone.
 mod split;
 mod weights;
+mod write;
 
 use table::Facts;
 use table::Refusal;

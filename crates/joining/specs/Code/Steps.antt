@@ -8,7 +8,8 @@ use Rattle.facts.specs.Weigh.{weighing}
 use Rattle.facts.specs.declared.Weighed.{Weighed}
 use Rattle.facts.specs.declared.Weighing.{Weighing}
 use Rattle.facts.specs.declared.Weighing.the-variants.{Accepted, Refused as Unweighed}
-use Rattle.joining.specs.Answers.{sumOf, joinedWith}
+use Rattle.joining.specs.Answers.{partsOf, sumOf, joinedWith}
+use Rattle.joining.specs.Code.Rows.{threadsOver, actionsOver}
 use Rattle.joining.specs.declared.Joined.{Joined}
 use Rattle.joining.specs.declared.Joined.the-variants.{Written, Refused, InPart}
 use Rattle.joining.specs.declared.weights.Totals.{Totals}
@@ -20,6 +21,12 @@ pub record Lent (ls s : List ℕ) : Type 0 where
   pub some : 0 < length ls
   pub few : length ls ≤ 16
   pub adds : sumOf ls ≡ length s
+
+-- and 48 does not
+pub record LentFew (ls s : List ℕ) : Type 0 where
+  pub lent : Lent ls s
+  pub threads : suc (threadsOver (partsOf ls s)) ≤ 1024
+  pub actions : suc (2 * length ls) + actionsOver (partsOf ls s) ≤ 8192
 
 -- ---- totals over the parts
 
