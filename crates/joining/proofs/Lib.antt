@@ -3,3 +3,4 @@ pub mod JoinedWhole
 pub mod JoinRows
 pub mod Splits
 pub mod Weighs
+pub mod OverParts

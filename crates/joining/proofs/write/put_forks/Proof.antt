@@ -1,56 +1,83 @@
+-- `joining::write::put_forks` meets its contract. The invariant is OverParts'.
+use mathlib.Core.Path.{_≡_, refl, sym, ap, _∙_}
+use Prim.Native.Nat.{ℕ, suc, _+_, _-_, _*_, _≤_, _<_}
+use mathlib.Core.List.{List, [], _∷_}
+use native.Mathlib.Omega.{arith}
+use denote.Ref.{now}
+use lib.ListN.{length, getD}
+use borrow.Author.Needs.{needs}
+use Rattle.joining.specs.Answers.{partsOf}
+use Rattle.joining.specs.Code.Steps.{LentFew}
+use Rattle.joining.specs.Code.Rows.{startsOver, entriesOver, movedOver, forkRows, threadsOver, actionsOver}
+use Rattle.joining.proofs.Splits.{parts-length}
+use Rattle.joining.proofs.OverParts.{Inv, start, runs, again, ends, over-forks}
 use Rattle.joining.proofs.write.put_forks.Statement.{statement}
 use Rattle.joining.proofs.write.put_forks.Tie as tie
-use Rattle.joining.proofs.write.put_forks.Reads as reads
-use Rattle.joining.proofs.write.put_forks.Lts as lts
-use Rattle.joining.proofs.split.part_at.Reads as part-at-reads
-use Rattle.rows.proofs.put_action.Reads as put-action-reads
-use Rattle.table.proofs.read.threads.Reads as threads-reads
 
 abbrev Inv-loop : tie.InvT-loop
-Inv-loop out₀ at tables lengths at₀ root₀ i₀ out at' root i = ?
+Inv-loop out₀ at tables lengths at₀ root₀ i₀ out at' root i = Inv (λ o ps. forkRows (startsOver o ps)) threadsOver out₀ at₀ 1 (partsOf lengths tables) out at' root i
 
 abbrev μ-loop : tie.MeasureT-loop
-μ-loop out₀ at tables lengths at₀ root₀ i₀ out at' root i = ?
+μ-loop out₀ at tables lengths at₀ root₀ i₀ out at' root i = length lengths - i
 
--- src/write.rt:61:5
 loop-holds : tie.Need-loop-holds Inv-loop μ-loop
-loop-holds c = ?
+loop-holds c =
+    let d = c .before .before .before .args in
+    start (λ o ps. forkRows (startsOver o ps)) threadsOver (now (d .out)) (d .at) 1 (partsOf (now (d .lengths)) (now (d .tables)))
 
--- src/write.rt:62:9
 put-action-requires : tie.Need-put-action-requires Inv-loop μ-loop
-put-action-requires c κs = ?
+put-action-requires c κs = search needs
 
--- src/write.rt:63:25
 part-at-requires : tie.Need-part-at-requires Inv-loop μ-loop
-part-at-requires c κs = ?
+part-at-requires c κs =
+    let h = c .before .before .before .before in
+    (h .before .before .before .before .before .pre .lent, h .loop-test .taken)
 
--- src/write.rt:63:17
 threads-requires : tie.Need-threads-requires Inv-loop μ-loop
-threads-requires c κs = ?
+threads-requires c κs = search needs
 
--- src/write.rt:63:9
+-- a part's root and its threads
+within : (c : tie.After-threads Inv-loop μ-loop) → c .before .before .before .before .before .before .before .loop .root + c .threads .result ≤ 1024
+within c =
+    let p = c .before in
+    let h = p .before .before .before .before .before in
+    let l = h .before in
+    let b = l .before .before .before .before in
+    omega (
+      arith,
+      runs over-forks (l .loop .inv) (omega (arith, h .loop-test .taken, parts-length (now (b .args .lengths)) (now (b .args .tables)))) _ (p .part-at .ensures),
+      b .pre .threads,
+      c .threads .ensures .value,
+    )
+
 add-root : tie.Need-add-root Inv-loop μ-loop
-add-root c = ?
+add-root c = omega (arith, within c)
 
--- src/write.rt:64:9
 add-i : tie.Need-add-i Inv-loop μ-loop
-add-i c = ?
+add-i c =
+    let h = c .before .before .before .before .before .before in
+    omega (arith, h .loop-test .taken, h .before .before .before .before .before .pre .lent .few)
 
--- src/write.rt:61:5
 loop-less : tie.Need-loop-less Inv-loop μ-loop
-loop-less c = ?
+loop-less c = omega (arith, c .before .before .before .before .before .before .loop-test .taken)
 
--- src/write.rt:61:5
 loop-again : tie.Need-loop-again Inv-loop μ-loop
-loop-again c = ?
+loop-again c =
+    let p = c .before in
+    let h = p .before .before .before .before .before in
+    let l = h .before in
+    let d = l .before .before .before .before .args in
+    again over-forks (l .loop .inv) (omega (arith, h .loop-test .taken, parts-length (now (d .lengths)) (now (d .tables)))) _ (p .part-at .ensures) (c .threads .result) (c .threads .ensures .value) _ _
+    (omega (arith, p .before .before .out .given)) (p .before .before .before .put-action .ensures)
 
--- src/write.rt:54:1
 same-length : tie.Need-same-length Inv-loop μ-loop
-same-length c = ?
+same-length c = omega (arith, c .before .loop .inv .left .long)
 
--- src/write.rt:54:1
 returns : tie.Need-returns Inv-loop μ-loop
-returns c = ?
+returns c =
+    let l = c .before in
+    let d = l .before .before .before .before .args in
+    ends over-forks (l .loop .inv) (omega (arith, c .loop-test .left, parts-length (now (d .lengths)) (now (d .tables))))
 
 pub put-forks-spec : {M : Type 1} → statement M
 put-forks-spec =
