@@ -112,10 +112,10 @@ actions-before (s ∷ ps) p =
 
 -- what code puts, row by row, are the rows of the joined table
 module _ (ps : List (List ℕ)) (fit : AllFit ps) (few : suc (threadsOver ps) ≤ 1024) (few-actions : suc (2 * length ps) + actionsOver ps ≤ 8192) where
-  joined-size : length (joinedBodies (bodiesOver ps)) ≡ suc (threadsOver ps)
+  pub joined-size : length (joinedBodies (bodiesOver ps)) ≡ suc (threadsOver ps)
   joined-size = joined-threads (bodiesOver ps) ∙ ap suc (threads-before ps)
 
-  joined-count : length (flatten (joinedBodies (bodiesOver ps))) ≡ suc (2 * length ps) + actionsOver ps
+  pub joined-count : length (flatten (joinedBodies (bodiesOver ps))) ≡ suc (2 * length ps) + actionsOver ps
   joined-count = omega (arith, joined-actions (bodiesOver ps), actions-before ps fit, over-length ps)
 
   root-size : length (rootBody (offsets 1 (bodiesOver ps))) ≡ suc (2 * length ps)

@@ -4,3 +4,4 @@ pub mod JoinRows
 pub mod Splits
 pub mod Weighs
 pub mod OverParts
+pub mod JoinAnswers

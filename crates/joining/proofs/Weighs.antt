@@ -82,12 +82,12 @@ add-small i t w a b =
     }
 
 module _ where
-  total-threads : (ws : List Weighed) (i : ℕ) (t : Totals) → totalsFrom i t ws .threads ≡ t .threads + threadsIn ws
+  pub total-threads : (ws : List Weighed) (i : ℕ) (t : Totals) → totalsFrom i t ws .threads ≡ t .threads + threadsIn ws
   unfolding totalsFrom threadsIn
   total-threads [] i t = omega arith
   total-threads (w ∷ ws) i t = omega (arith, total-threads ws (suc i) (addPart i t w))
 
-  total-actions : (ws : List Weighed) (i : ℕ) (t : Totals) → totalsFrom i t ws .actions ≡ t .actions + actionsIn ws
+  pub total-actions : (ws : List Weighed) (i : ℕ) (t : Totals) → totalsFrom i t ws .actions ≡ t .actions + actionsIn ws
   unfolding totalsFrom actionsIn
   total-actions [] i t = omega arith
   total-actions (w ∷ ws) i t = omega (arith, total-actions ws (suc i) (addPart i t w))
@@ -131,21 +131,25 @@ weights-answer (s ∷ ps) i k t = go (firstFound (passes s)) (weights-answer ps 
     go (At r) ih = refl
 
 -- parts that were all weighed are all accepted, and their totals small
-pub all-weighed : (ps : List (List ℕ)) (i : ℕ) (t u : Totals) → Small i t → weightsFrom i t ps ≡ All u → AllFit ps × Small (i + length ps) u
-unfolding weightsFrom AllFit weighing
+pub record Weighs (ps : List (List ℕ)) (i : ℕ) (t u : Totals) : Type 0 where
+  pub fit : AllFit ps
+  pub small : Small (i + length ps) u
+  pub total : u ≡ totalsFrom i t (map weighed ps)
+
+pub all-weighed : (ps : List (List ℕ)) (i : ℕ) (t u : Totals) → Small i t → weightsFrom i t ps ≡ All u → Weighs ps i t u
+unfolding weightsFrom AllFit weighing totalsFrom
 all-weighed [] i t u a e =
     let z : i + 0 ≡ i = omega arith in
     let q : t ≡ u = cc in
-    (tt, rw (z, ← q) a)
+    record { fit = tt; small = rw (z, ← q) a; total = sym q }
 all-weighed (s ∷ ps) i t u a e = go (firstFound (passes s)) refl e (λ b. all-weighed ps (suc i) (addPart i t (weighed s)) u b)
   where
     go : (f : Found) → firstFound (passes s) ≡ f → weightsBy (weighedBy f (weigh (tableOf s))) i t (λ (x : Totals). weightsFrom (suc i) x ps) ≡ All u
-        → (Small (suc i) (addPart i t (weighed s)) → weightsFrom (suc i) (addPart i t (weighed s)) ps ≡ All u → AllFit ps × Small (suc i + length ps) u)
-        → (Keeps (tableOf s) × AllFit ps) × Small (i + suc (length ps)) u
+        → (Small (suc i) (addPart i t (weighed s)) → weightsFrom (suc i) (addPart i t (weighed s)) ps ≡ All u → Weighs ps (suc i) (addPart i t (weighed s)) u) → Weighs (s ∷ ps) i t u
     go Nothing q d ih =
         let r = ih (add-small i t (weighed s) a (weigh-small s q)) d in
         let z : i + suc (length ps) ≡ suc i + length ps = omega arith in
-        ((lawful-keeps (tableOf s) (accepted-lawful s q), r .0), rw z (r .1))
+        record { fit = (lawful-keeps (tableOf s) (accepted-lawful s q), r .fit); small = rw z (r .small); total = r .total }
     go (At x) q d ih = absurd (no-way (cc))
 
 pub weighing-small : (s : List ℕ) (w : Weighed) → weighing s ≡ Accepted w → SmallPart w

@@ -76,8 +76,26 @@ abbrev pub refusedValues : Refusal → ℕ → JoinValues
 refusedValues r i =
     record { number = r .number; place = r .place; threads = 0; actions = 0; peak = 0; depth = 0; nested = 0; part = i }
 
-abbrev pub joinValuesOf : Joined → JoinValues
-joinValuesOf (Written f) =
+abbrev pub wholeValues : Facts → JoinValues
+wholeValues f =
     record { number = 0; place = 0; threads = f .threads; actions = f .actions; peak = f .peak; depth = f .depth; nested = f .nested; part = 0 }
+
+abbrev pub joinValuesOf : Joined → JoinValues
+joinValuesOf (Written f) = wholeValues f
 joinValuesOf (Refused r) = refusedValues r 0
 joinValuesOf (InPart i r) = refusedValues r i
+
+-- the same values without the answer: 47, the first part that is refused, 48, or the facts
+abbrev pub partValues : Found → ℕ → JoinValues → JoinValues
+partValues Nothing i rest = rest
+partValues (At r) i rest = refusedValues r i
+
+unfoldable pub firstValues : ℕ → List (List ℕ) → JoinValues → JoinValues
+firstValues i [] rest = rest
+firstValues i (s ∷ ps) rest = partValues (firstFound (passes s)) i (firstValues (suc i) ps rest)
+
+unfoldable pub joinValues : List ℕ → List ℕ → JoinValues
+joinValues ls s =
+    pick (partsWrong ls s) (refusedValues (refusal 47 0) 0)
+    (firstValues 0 (partsOf ls s)
+    (pick (tooLarge (joinedFacts (map weighed (partsOf ls s)))) (refusedValues (refusal 48 0) 0) (wholeValues (joinedFacts (map weighed (partsOf ls s))))))

@@ -85,3 +85,7 @@ pub record SmallPart (w : Weighed) : Type 0 where
   pub peak : w .facts .peak ≤ 137438953472
   pub depth : w .facts .depth ≤ 8192
   pub nested : w .facts .nested ≤ 1024
+
+-- the totals of parts that are all accepted
+pub record AllWeighed (ps : List (List ℕ)) (t : Totals) : Type 0 where
+  pub weighed : weightsFrom 0 noPart ps ≡ All t
