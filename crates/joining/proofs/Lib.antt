@@ -5,3 +5,4 @@ pub mod Splits
 pub mod Weighs
 pub mod OverParts
 pub mod JoinAnswers
+pub mod JoinedExactly
