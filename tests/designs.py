@@ -1,8 +1,8 @@
-"""Canonical forms by change request N14, written on its own: threads listed by walking the table in serial order, nothing taken from the Rattle code.
+"""Canonical forms and joined tables by change requests N14 and N12, written on their own: threads listed by walking the table in serial order, nothing taken from the Rattle code.
 
 form(bytes) answers ('form', bytes) or ('refused', number, place); compare(first, second) answers 'before', 'equal', 'after' or ('refused', number, place, table).
 """
-from reference import FORK, JOIN, Table, check
+from reference import END, FORK, JOIN, Table, check
 from tables import table
 
 
@@ -56,3 +56,30 @@ def compare_line(data):
     k, rest = int.from_bytes(data[:4], 'little'), data[4:]
     answer = compare(rest[:k], rest[k:])
     return answer if isinstance(answer, str) else 'refused %d %d table %d' % answer[1:]
+
+
+# ---- several tables as one (change request N12)
+
+
+def joined(tables, lengths):
+    """('table', bytes, facts as check has them), ('refused', number, place) or ('refused', number, place, part)."""
+    if not 1 <= len(lengths) <= 16 or sum(lengths) != len(tables):
+        return 'refused', 47, 0
+    parts, at = [], 0
+    for k in lengths:
+        parts.append(tables[at:at + k])
+        at += k
+    for i, part in enumerate(parts):
+        answer = check(part)
+        if answer[0] == 'refused':
+            return answer + (i,)
+    bodies, roots, root = [], [], 1
+    for part in map(bodies_of, parts):
+        roots.append(root)
+        bodies += renamed(part, {t: root + t for t in range(len(part))})
+        root += len(part)
+    bodies.insert(0, [(FORK, r) for r in roots] + [(JOIN, r) for r in reversed(roots)] + [(END, 0)])
+    if len(bodies) > 1024 or sum(map(len, bodies)) > 8192:
+        return 'refused', 48, 0
+    whole = table(*bodies)
+    return 'table', whole, check(whole)

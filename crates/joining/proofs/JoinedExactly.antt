@@ -5,9 +5,9 @@ use mathlib.Core.List.{List, [], _∷_, map}
 use mathlib.Core.Bool.{Bool, true, false, _||_}
 use mathlib.Core.Logic.{_↔_}
 use native.Mathlib.Omega.{arith}
-use lib.ListN.{length, getD}
+use lib.ListN.{length, getD, drop, length-append, length-drop}
 use Rattle.table.specs.Sum.{pick}
-use Rattle.table.specs.Format.{tableOf}
+use Rattle.table.specs.Format.{tableOf, threadsOf, actionsOf}
 use Rattle.table.specs.Pass.{firstFound, refusal}
 use Rattle.table.specs.Checks.{passes}
 use Rattle.table.specs.Load.{loaded, factsOf}
@@ -18,8 +18,10 @@ use Rattle.table.specs.declared.Found.the-variants.{Nothing, At}
 use Rattle.table.specs.declared.Loaded.{Loaded}
 use Rattle.table.specs.declared.Loaded.the-variants.{Accepted, Refused as Rejected}
 use Rattle.table.proofs.Tests.{no-way}
+use Rattle.table.proofs.Passes.{accepted-exactly, accepted-facts}
+use Rattle.table.proofs.Sizes.{Sizes, sizes}
 use Rattle.joining.specs.Joining.{joinedBytes, weighed, joinedFacts}
-use Rattle.joining.specs.Answers.{partsOf, partsWrong, inPart, firstRefused, tooLarge, joinedWith, joined}
+use Rattle.joining.specs.Answers.{partsOf, partsWrong, inPart, firstRefused, tooLarge, joinedWith, joined, joinedIn, leftBy}
 use Rattle.joining.specs.declared.Joined.{Joined}
 use Rattle.joining.specs.declared.Joined.the-variants.{Written, Refused, InPart}
 use Rattle.joining.proofs.JoinAnswers.{lent, few-of}
@@ -126,3 +128,27 @@ module _ (ls s : List ℕ) where
       let v = lent ls s (e .0) in
       let k = few-of _ _ (e .2) in
       joined-whole (partsOf ls s) (omega (arith, v .some, parts-length ls s)) (λ i l. (factsOf (tableOf (getD (partsOf ls s) i [])), e .1 i l)) (k .0) (k .1) ∙ ap Accepted (e .3)
+
+-- ---- the buffer keeps its length
+
+loaded-short : (s : List ℕ) (f : Facts) → loaded s ≡ Accepted f → length s ≤ 36868
+loaded-short s f h =
+    let r = accepted-exactly s .0 (h ∙ ap Accepted (accepted-facts s f h)) in
+    let z : Sizes s (threadsOf s) (actionsOf s) = sizes (record { head = r .head; threads = refl; actions = refl }) in
+    omega (arith, z .total, z .threads-high, z .actions-high)
+
+pub joined-length : (ls s out : List ℕ) → length out ≡ 36868 → length (joinedIn ls s out) ≡ 36868
+unfolding joinedIn
+joined-length ls s out n = go (joined ls s) refl
+  where
+    go : (x : Joined) → joined ls s ≡ x → length (leftBy x (joinedBytes (partsOf ls s)) out) ≡ 36868
+    go (Written f) e =
+        omega (
+          arith,
+          loaded-short (joinedBytes (partsOf ls s)) f (joined-passes ls s f e),
+          n,
+          length-append (joinedBytes (partsOf ls s)) (drop (length (joinedBytes (partsOf ls s))) out),
+          length-drop (length (joinedBytes (partsOf ls s))) out,
+        )
+    go (Refused r) e = n
+    go (InPart i r) e = n
