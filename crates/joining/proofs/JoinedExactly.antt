@@ -1,4 +1,4 @@
--- Exactly when each answer is given; what is written passes every table check with the facts of the answer.
+-- Exactly when a joined table is written; what is written passes every table check with the facts of the answer.
 use mathlib.Core.Path.{_≡_, refl, sym, ap, _∙_}
 use Prim.Native.Nat.{ℕ, zero, suc, _+_, _≤_, _<_}
 use mathlib.Core.List.{List, [], _∷_, map}
@@ -32,21 +32,11 @@ use Rattle.joining.proofs.Splits.{parts-length}
 abbrev pub AllAccepted : List (List ℕ) → Type 0
 AllAccepted ps = (i : ℕ) → i < length ps → loaded (getD ps i []) ≡ Accepted (factsOf (tableOf (getD ps i [])))
 
--- part i is the first that is refused
-pub record FirstRefused (ps : List (List ℕ)) (i : ℕ) (r : Refusal) : Type 0 where
-  pub inside : i < length ps
-  pub refused : loaded (getD ps i []) ≡ Rejected r
-  pub before : (j : ℕ) → j < i → loaded (getD ps j []) ≡ Accepted (factsOf (tableOf (getD ps j [])))
-
 -- ---- all parts
 
 found-accepted : (s : List ℕ) → firstFound (passes s) ≡ Nothing → loaded s ≡ Accepted (factsOf (tableOf s))
 unfolding loaded
 found-accepted s e = rw e
-
-found-refused : (s : List ℕ) (r : Refusal) → firstFound (passes s) ≡ At r → loaded s ≡ Rejected r
-unfolding loaded
-found-refused s r e = rw e
 
 module _ (s : List ℕ) where
   accepted-found : loaded s ≡ Accepted (factsOf (tableOf s)) → firstFound (passes s) ≡ Nothing
@@ -56,14 +46,6 @@ module _ (s : List ℕ) where
       go : (f : Found) → firstFound (passes s) ≡ f → Rattle.table.specs.Load.answer f (factsOf (tableOf s)) ≡ Accepted (factsOf (tableOf s)) → firstFound (passes s) ≡ Nothing
       go Nothing e d = e
       go (At r) e d = absurd (no-way (cc))
-
-  refused-found : (r : Refusal) → loaded s ≡ Rejected r → firstFound (passes s) ≡ At r
-  unfolding loaded
-  refused-found r h = go (firstFound (passes s)) refl h
-    where
-      go : (f : Found) → firstFound (passes s) ≡ f → Rattle.table.specs.Load.answer f (factsOf (tableOf s)) ≡ Rejected r → firstFound (passes s) ≡ At r
-      go Nothing e d = absurd (no-way (cc))
-      go (At q) e d = let z : q ≡ r = cc in e ∙ ap At z
 
 none-refused : (ps : List (List ℕ)) (k : ℕ) (x : Joined) → AllAccepted ps → firstRefused k ps x ≡ x
 unfolding firstRefused
@@ -94,12 +76,6 @@ with-written g f h = go (tooLarge g) refl h
     go false e d = (e, cc)
 
 module _ (ls s : List ℕ) where
-  abbrev ps : List (List ℕ)
-  ps = partsOf ls s
-
-  abbrev total : Facts
-  total = joinedFacts (map weighed (partsOf ls s))
-
   not-wrong : (x : Joined) → joined ls s ≡ x → ((r : Refusal) → x ≡ Refused r → ⊥) → (partsWrong ls s ≡ false) × (firstRefused 0 (partsOf ls s) (joinedWith (joinedFacts (map weighed (partsOf ls s)))) ≡ x)
   unfolding joined
   not-wrong x h n = go (partsWrong ls s) refl h
