@@ -134,3 +134,8 @@ nested-few T = greatest-under (nest T) (T .threads) (T .threads) (λ t h. nest-f
 pub nest-greatest : (T : Table) (B t : ℕ) → t < T .threads → nest T t ≡ B → ((u : ℕ) → u < T .threads → nest T u ≤ B) → N T ≡ B
 unfolding N
 nest-greatest T B t h e all = omega (arith, greatest-at (nest T) (T .threads) t h, greatest-under (nest T) (T .threads) B all)
+
+-- no thread's nesting is above a bound, so N is not
+pub nested-under : (T : Table) (B : ℕ) → ((t : ℕ) → t < T .threads → nest T t ≤ B) → N T ≤ B
+unfolding N
+nested-under T B h = greatest-under (nest T) (T .threads) B h
