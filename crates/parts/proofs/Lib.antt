@@ -6,3 +6,10 @@ pub mod CopyAmounts
 pub mod ThreadRules
 pub mod WholeRules
 pub mod Short
+-- several tables under a new root
+pub mod RootLevels
+pub mod PartsPlaced
+pub mod JoinShape
+pub mod JoinBodies
+pub mod BodiesIn
+pub mod JoinedShort

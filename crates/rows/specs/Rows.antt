@@ -1,9 +1,13 @@
 -- Rows of a table as code puts them: each number cut to the bytes that it has.
 use Prim.Native.Nat.{ℕ, zero, suc, _+_, _/_, _%_}
 use mathlib.Core.List.{List, [], _∷_, _++_}
-use lib.ListN.{getD}
+use lib.ListN.{getD, length, drop}
 use Rattle.table.specs.Format.{kindOf, codeAt, argumentAt, firstOf, countOf, bodiesOf}
 use Rattle.parts.specs.Copies.{renamed}
+
+-- what is put at the start of a buffer, and what stood there after it
+abbrev pub over : List ℕ → List ℕ → List ℕ
+over front out = front ++ drop (length front) out
 
 -- two numbers of 16 bits
 abbrev pub cutPair : ℕ → ℕ → List ℕ
@@ -33,3 +37,14 @@ orderedEntries s k (t ∷ ts) = cutPair k (countOf s t) ∷ orderedEntries s ((k
 unfoldable pub orderedRows : List ℕ → (ℕ → ℕ) → List ℕ → List (List ℕ)
 orderedRows s f [] = []
 orderedRows s f (t ∷ ts) = renamedRows (bodiesOf s) f (firstOf s t) (countOf s t) ++ orderedRows s f ts
+
+-- ---- a table's threads and actions moved up
+
+-- threads moved up by o
+abbrev pub movedBy : ℕ → ℕ → ℕ
+movedBy o x = o + x
+
+-- the entries of k threads of a table from t on, where o actions stand before the table's
+unfoldable pub shiftedEntries : List ℕ → ℕ → ℕ → ℕ → List (List ℕ)
+shiftedEntries s o t zero = []
+shiftedEntries s o t (suc k) = cutPair (o + firstOf s t) (countOf s t) ∷ shiftedEntries s o (suc t) k

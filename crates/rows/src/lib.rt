@@ -2,6 +2,7 @@
 use table::kinds::FORK;
 use table::kinds::JOIN;
 use table::read::action_in;
+use table::read::actions;
 use table::read::bodies;
 use table::read::count;
 use table::read::first;
@@ -10,11 +11,11 @@ use text::put_word;
 ghost use mathlib.Core.Path.{_≡_};
 ghost use Prim.Native.Nat.{_<_};
 ghost use Rattle.table.specs.Sum.{Read};
-ghost use Rattle.table.specs.Format.{kindOf, bodiesOf, firstOf, countOf};
+ghost use Rattle.table.specs.Format.{kindOf, bodiesOf, firstOf, countOf, threadsOf, actionsOf};
 ghost use Rattle.text.specs.Text.{bufferAt, placed};
 ghost use Rattle.text.specs.Puts.{putAll};
 ghost use Rattle.parts.specs.Copies.{renamed};
-ghost use Rattle.rows.specs.Rows.{cutPair, cutAction, renamedRows, namedBy, orderedEntries, orderedRows};
+ghost use Rattle.rows.specs.Rows.{cutPair, cutAction, renamedRows, namedBy, movedBy, shiftedEntries, orderedEntries, orderedRows};
 
 // Two numbers of 16 bits.
 pub fn put_pair(out: &mut [u8], at: usize, a: usize, b: usize) -> usize
@@ -123,6 +124,55 @@ pub fn put_bodies(out: &mut [u8], at: usize, table: &[u8], order: &[u16], names:
     while i < order.len() {
         at = put_named(out, at, table, wide(order[i]), names);
         i += 1;
+    }
+    at
+}
+
+// An argument where threads are moved up by o.
+fn moved(k: u8, x: usize, o: usize) -> usize
+    requires { ⌜ (x < 16777216) × (o < 65536) ⌝ }
+    ensures { λ r. ⌜ r ≡ renamed (movedBy o) (kindOf k) x ⌝ }
+{
+    if k == FORK {
+        return o + x;
+    }
+    if k == JOIN { o + x } else { x }
+}
+
+fn put_actions(out: &mut [u8], at: usize, actions: &[u8], count: usize, o: usize) -> usize
+    requires { ⌜ (count < 65536) × (o < 65536) ⌝ }
+    ensures { λ r. ⌜ bufferAt (now (out .exit)) r ≡ putAll (bufferAt (now (out .entry)) at) (renamedRows (now (actions .entry)) (movedBy o) 0 count) ⌝ }
+{
+    let mut at = at;
+    let mut i = 0;
+    while i < count {
+        let action = action_in(actions, i);
+        let x = moved(action.code, action.argument, o);
+        at = put_action(out, at, action.code, x);
+        i += 1;
+    }
+    at
+}
+
+// The actions of a table, its threads moved up by o.
+pub fn put_moved(out: &mut [u8], at: usize, table: &[u8], o: u16) -> usize
+    ensures { λ r. ⌜ bufferAt (now (out .exit)) r ≡ putAll (bufferAt (now (out .entry)) at) (renamedRows (bodiesOf (now (table .entry))) (movedBy o) 0 (actionsOf (now (table .entry)))) ⌝ }
+{
+    let list = bodies(table, threads(table));
+    put_actions(out, at, list, actions(table), wide(o))
+}
+
+// The entries of a table, where o actions stand before its own.
+pub fn put_entries(out: &mut [u8], at: usize, table: &[u8], o: u16) -> usize
+    ensures { λ r. ⌜ bufferAt (now (out .exit)) r ≡ putAll (bufferAt (now (out .entry)) at) (shiftedEntries (now (table .entry)) o 0 (threadsOf (now (table .entry)))) ⌝ }
+{
+    let n = threads(table);
+    let before = wide(o);
+    let mut at = at;
+    let mut t = 0;
+    while t < n {
+        at = put_pair(out, at, before + first(table, t), count(table, t));
+        t += 1;
     }
     at
 }

@@ -79,6 +79,10 @@ nestedLine f = factsText f ++ nestedWord ++ decimal (f .nested) ++ newline
 unfoldable pub refusedLine : Refusal → List ℕ
 refusedLine r = refusedWord ++ decimal (r .number) ++ space ++ decimal (r .place) ++ newline
 
+-- the line of a refusal of one of several, from 0: "refused NUMBER PLACE", a label and which one
+abbrev pub refusedOf : Refusal → List ℕ → ℕ → List (List ℕ)
+refusedOf r label i = refusedWord ∷ decimal (r .number) ∷ space ∷ decimal (r .place) ∷ label ∷ decimal i ∷ newline ∷ []
+
 -- the only line or the header of a listing
 abbrev pub lineOf : Loaded → List ℕ
 lineOf (Accepted f) = acceptedLine f

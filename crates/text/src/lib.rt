@@ -8,6 +8,8 @@ ghost use mathlib.Core.List.{_++_};
 ghost use lib.ListN.{length, drop};
 ghost use Rattle.io.specs.Counts.{Counts};
 ghost use Rattle.text.specs.Text.{decimal, lineOf, factsLineOf, factsText, acceptedLine, nestedLine, refusedLine, bufferAt, placed, placedNext};
+ghost use Rattle.text.specs.Puts.{putAll};
+ghost use Rattle.text.specs.Text.{refusedOf};
 
 // Puts a word at a position, and answers the position after it. A word that does not fit is not put.
 pub fn put_word(out: &mut [u8], at: usize, word: &[u8]) -> usize
@@ -104,5 +106,15 @@ fn refused_line(refusal: Refusal, out: &mut [u8; 80]) -> usize
 {
     let at = put_labelled(out, 0, b"refused ", refusal.number as u64);
     let at = put_labelled(out, at, b" ", refusal.place as u64);
+    put_word(out, at, b"\n")
+}
+
+// A refusal, and of how many things it is one of: "refused NUMBER PLACE", the label and its number.
+pub fn put_refused_of(out: &mut [u8], refusal: Refusal, label: &[u8], index: usize) -> usize
+    ensures { λ r. ⌜ bufferAt (now (out .exit)) r ≡ putAll (bufferAt (now (out .entry)) 0) (refusedOf refusal (now (label .entry)) index) ⌝ }
+{
+    let at = put_labelled(out, 0, b"refused ", refusal.number as u64);
+    let at = put_labelled(out, at, b" ", refusal.place as u64);
+    let at = put_labelled(out, at, label, index as u64);
     put_word(out, at, b"\n")
 }

@@ -1,0 +1,14 @@
+pub mod Renaming
+pub mod Order
+pub mod FormRenames
+pub mod Exact
+pub mod ByteOrder
+pub mod Canonical
+pub mod Numbering
+pub mod NumberWalk
+pub mod NumbersOf
+pub mod FormRows
+pub mod Ordering
+pub mod FormPut
+pub mod Answers
+pub mod CompareLine

@@ -1,0 +1,3 @@
+-- promises between the parts of the code
+pub mod Rows
+pub mod Steps

@@ -1,0 +1,4 @@
+pub mod Joining
+pub mod Answers
+pub mod Cases
+pub mod Code

@@ -1,0 +1,85 @@
+"""Canonical forms and joined tables by change requests N14 and N12, written on their own: threads listed by walking the table in serial order, nothing taken from the Rattle code.
+
+form(bytes) answers ('form', bytes) or ('refused', number, place); compare(first, second) answers 'before', 'equal', 'after' or ('refused', number, place, table).
+"""
+from reference import END, FORK, JOIN, Table, check
+from tables import table
+
+
+def bodies_of(data):
+    """The bodies of an accepted table, each a list of (kind, argument)."""
+    t = Table(data)
+    return [t.actions[first:first + count] for first, count in t.contents]
+
+
+def renamed(bodies, name):
+    return [[(k, name[x] if k in (FORK, JOIN) else x) for k, x in body] for body in bodies]
+
+
+def fork_order(bodies):
+    """The threads in the order of their forks where the table runs serially, children first."""
+    order, left = [0], [(0, 0)]
+    while left:
+        t, i = left.pop()
+        if i == len(bodies[t]):
+            continue
+        kind, x = bodies[t][i]
+        left.append((t, i + 1))
+        if kind == FORK:
+            order.append(x)
+            left.append((x, 0))
+    return order
+
+
+def form(data):
+    answer = check(data)
+    if answer[0] == 'refused':
+        return answer
+    bodies = bodies_of(data)
+    order = fork_order(bodies)
+    name = {t: i for i, t in enumerate(order)}
+    return 'form', table(*[renamed(bodies, name)[t] for t in order])
+
+
+def compare(first, second):
+    a, b = form(first), form(second)
+    for t, answer in enumerate((a, b)):
+        if answer[0] == 'refused':
+            return answer + (t,)
+    return 'equal' if a[1] == b[1] else 'before' if a[1] < b[1] else 'after'
+
+
+def compare_line(data):
+    """What cmptables prints of an input."""
+    if len(data) < 4:
+        return 'refused 33 0'
+    k, rest = int.from_bytes(data[:4], 'little'), data[4:]
+    answer = compare(rest[:k], rest[k:])
+    return answer if isinstance(answer, str) else 'refused %d %d table %d' % answer[1:]
+
+
+# ---- several tables as one (change request N12)
+
+
+def joined(tables, lengths):
+    """('table', bytes, facts as check has them), ('refused', number, place) or ('refused', number, place, part)."""
+    if not 1 <= len(lengths) <= 16 or sum(lengths) != len(tables):
+        return 'refused', 47, 0
+    parts, at = [], 0
+    for k in lengths:
+        parts.append(tables[at:at + k])
+        at += k
+    for i, part in enumerate(parts):
+        answer = check(part)
+        if answer[0] == 'refused':
+            return answer + (i,)
+    bodies, roots, root = [], [], 1
+    for part in map(bodies_of, parts):
+        roots.append(root)
+        bodies += renamed(part, {t: root + t for t in range(len(part))})
+        root += len(part)
+    bodies.insert(0, [(FORK, r) for r in roots] + [(JOIN, r) for r in reversed(roots)] + [(END, 0)])
+    if len(bodies) > 1024 or sum(map(len, bodies)) > 8192:
+        return 'refused', 48, 0
+    whole = table(*bodies)
+    return 'table', whole, check(whole)
