@@ -1,11 +1,10 @@
 -- Rule 10 for the filled-out table: the new threads neither draw nor give back, so a thread's balance is after each action what it was in the table as given.
-use Prim.Native.Nat.{ℕ, zero, suc, pred, _+_, _-_, _*_, _≤_, _<_}
+use Prim.Native.Nat.{ℕ, zero, suc, _+_, _-_, _≤_, _<_}
 use native.Mathlib.Omega.{arith}
 use native.Mathlib.Decide.{decLt}
-use mathlib.Core.Path.{_≡_, refl, sym, ap, _∙_}
+use mathlib.Core.Path.{_≡_, refl, sym, _∙_}
 use mathlib.Core.List.{List, [], _∷_, _++_}
 use mathlib.Core.Bool.{Bool, true, false}
-use lib.Dec.{ltb}
 use borrow.Author.Tests.{le-ltb}
 use lib.ListN.{length, getD, take}
 use lib.Seq.{getD-take, take-length, length-take-le}
@@ -19,15 +18,14 @@ use Rattle.table.proofs.Bodies.{owner-at, owner-below, owner-first, owner-end, 
 use Rattle.table.proofs.Serial.{downward}
 use Rattle.table.proofs.Amounts.{action-within, whole-is}
 use Rattle.table.proofs.Peaks.{part-held}
-use Rattle.order.proofs.Lawful.{Lawful}
 use Rattle.table.specs.Written.{Action, actionAt}
 use Rattle.filling.specs.Filled.{act, big, rootOf, inFront, filledFrom, filledBody, filledBodies}
-use Rattle.table.proofs.ReadBack.{Reads, none}
+use Rattle.table.proofs.ReadBack.{none}
 use Rattle.filling.proofs.Bodies.{kindIn}
 use Rattle.filling.proofs.Built.{kind-at, argument-at}
-use Rattle.filling.proofs.ForkCounts.{sumIn, sumIn-append, sumIn-to}
-use Rattle.filling.proofs.OldThreads.{ownIn, filled-sum}
-use Rattle.filling.proofs.Fills.{Fills, c, b, n, threads-are, old-below, body-old, count-old, root-in, quiet}
+use Rattle.filling.proofs.ForkCounts.{sumIn, sumIn-to}
+use Rattle.filling.proofs.OldThreads.{filled-sum}
+use Rattle.filling.proofs.Fills.{Fills, c, b, old-below, body-old, root-in, quiet}
 
 -- ---- an amount that only one kind has
 

@@ -1,23 +1,21 @@
--- What stands before an action in serial order, without serial order: along a thread it grows by `forkPart`, at a child's first action it is what it was at the fork. So roots are
--- found without recursion: the sums of whole threads downward (`forkPart-whole`, table/proofs/Amounts), then the starts upward. (N14 numbers threads by the same laws, with 1 at forks.)
-use Prim.Native.Nat.{ℕ, zero, suc, pred, _+_, _-_, _*_, _≤_, _<_}
-use native.Mathlib.Nat.{add-zero, add-suc}
+-- What stands before an action in serial order, without serial order: after an action it is more by that action and, at a fork, by the child's whole thread; at a child's first action it is
+-- what it was after the fork itself. So roots are found without recursion: the sums of whole threads downward, then upward where the roots of each thread begin.
+use Prim.Native.Nat.{ℕ, zero, suc, _+_, _-_, _<_}
 use native.Mathlib.Omega.{arith}
-use mathlib.Core.Path.{_≡_, refl, sym, ap, _∙_}
-use mathlib.Core.List.{List, [], _∷_, _++_, append-assoc, append-nil, List·Memᴰ, List·Memᴰ·head, Memᴰ·append-right}
+use mathlib.Core.Path.{_≡_, refl, ap, _∙_}
+use mathlib.Core.List.{List, [], _∷_, _++_, append-assoc, append-nil, List·Memᴰ·head, Memᴰ·append-right}
 use mathlib.Core.Bool.{Bool, true, false}
-use lib.Dec.{eqb}
 use borrow.Author.Tests.{eq-eqb, ne-eqb}
-use Rattle.table.specs.Sum.{pick, sumTo, sumOver}
-use Rattle.table.specs.Format.{Kind, end, alloc, fork, is, codeOf, Table, kind}
-use Rattle.table.specs.Checks.{owner, allocOf, whole}
-use Rattle.table.specs.Rules.{ContentRules, BodyRules, NestRules, ForkRules}
+use Rattle.table.specs.Sum.{sumOver}
+use Rattle.table.specs.Format.{end, fork, is, Table, kind}
+use Rattle.table.specs.Checks.{whole}
+use Rattle.table.specs.Rules.{ContentRules, BodyRules, NestRules}
 use Rattle.table.specs.Serial.{serial, serialOrder}
 use Rattle.table.proofs.Tests.{no-way, Turn, ends, branches, goes, turn, is-true, fork-no-end}
-use Rattle.table.proofs.Bodies.{first-within, fork-below, fork-later, next-within, count-pos}
+use Rattle.table.proofs.Bodies.{first-within, fork-below, fork-later, next-within}
 use Rattle.table.proofs.Sums.{sumOver-append}
 use Rattle.table.proofs.Serial.{child-within, serial-end, serial-fork, serial-step}
-use Rattle.table.proofs.Amounts.{action-within, action-last, forkPart, forkPart-fork, forkPart-step, whole-serial}
+use Rattle.table.proofs.Amounts.{whole-serial}
 use Rattle.table.proofs.Levels.{by-place}
 use Rattle.order.specs.Order.{numberOf}
 use Rattle.order.proofs.Lawful.{Lawful}
@@ -145,26 +143,6 @@ module _ (T : Table) (l : Lawful T) where
         let x : Around a = around a h in
         omega (arith, before-is f a h x, before-is f (suc a) (next-within T c b a h k) (around-step a h k j x), sumOver-append f (x .before) (a ∷ []))
 
-    -- along a thread
-    pub before-along : (t k : ℕ) → t < T .threads → k < T .count t → before (T .first t + k) ≡ before (T .first t) + forkPart T f t k
-    unfolding sumTo
-    before-along t zero h i = let z : T .first t + 0 ≡ T .first t = omega arith in rw z (omega arith)
-    before-along t (suc k) h i = go (turn (kind T a)) (before-along t k h (omega arith))
-      where
-        a : ℕ
-        a = T .first t + k
-
-        w : a < T .actions
-        w = action-within T c b t k h (omega arith)
-
-        z : T .first t + suc k ≡ suc a
-        z = omega arith
-
-        go : Turn (kind T a) → before a ≡ before (T .first t) + forkPart T f t k → before (T .first t + suc k) ≡ before (T .first t) + forkPart T f t (suc k)
-        go (ends e j) ih = absurd (omega (arith, action-last T c b t k h (omega arith) e))
-        go (branches e j) ih = rw z (omega (arith, before-fork a w e, forkPart-fork T f t k e))
-        go (goes e j) ih = rw z (omega (arith, before-step a w e j, forkPart-step T f t k j))
-
   -- ---- roots
 
   module _ (K : ℕ) where
@@ -183,7 +161,3 @@ module _ (T : Table) (l : Lawful T) where
     pub root-child : (a : ℕ) → a < T .actions → kind T a ≡ fork → rootOf T K (T .first (T .argument a)) ≡ rootOf T K a
     unfolding rootOf
     root-child a h k = omega (arith, before-child (newThreads T K) a h k, no-new a k)
-
-    pub root-along : (t k : ℕ) → t < T .threads → k < T .count t → rootOf T K (T .first t + k) ≡ rootOf T K (T .first t) + forkPart T (newThreads T K) t k
-    unfolding rootOf
-    root-along t k h i = omega (arith, before-along (newThreads T K) t k h i)

@@ -1,11 +1,10 @@
 -- Laws on bodies as lists of actions: forms, ends and nesting, each by one walk along the body.
-use Prim.Native.Nat.{ℕ, zero, suc, _+_, _≤_, _<_}
+use Prim.Native.Nat.{ℕ, zero, suc, _+_, _<_}
 use native.Mathlib.Omega.{arith}
-use mathlib.Core.Path.{_≡_, refl, sym, ap, _∙_}
+use mathlib.Core.Path.{_≡_, refl}
 use mathlib.Core.List.{List, [], _∷_, _++_, flatten}
-use mathlib.Core.Bool.{Bool, true, false, not, _&&_}
-use lib.Dec.{eqb}
-use lib.ListN.{length, getD, length-append}
+use mathlib.Core.Bool.{true, false, not, _&&_}
+use lib.ListN.{length, getD}
 use Rattle.table.specs.Format.{Kind, end, join, unknown, is, kindOf}
 use Rattle.table.specs.Checks.{argumentFits, isLatest, isEmpty, opened}
 use Rattle.table.specs.Written.{Action}

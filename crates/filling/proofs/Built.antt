@@ -1,17 +1,17 @@
 -- A table whose bodies keep the rules one by one keeps rules 4 to 7 and 9.
-use Prim.Native.Nat.{ℕ, zero, suc, pred, _+_, _-_, _≤_, _<_}
+use Prim.Native.Nat.{ℕ, zero, suc, _+_, _-_, _≤_, _<_}
 use native.Mathlib.Omega.{arith}
 use native.Mathlib.Decide.{decLt}
 use mathlib.Core.Path.{_≡_, refl, sym, ap, _∙_}
-use mathlib.Core.List.{List, [], _∷_, _++_, map, flatten, append-nil, append-assoc}
-use mathlib.Core.Bool.{Bool, true, false, not, _&&_}
+use mathlib.Core.List.{List, [], _∷_, _++_, flatten, append-nil, append-assoc}
+use mathlib.Core.Bool.{false}
 use lib.Dec.{eqb}
 use borrow.Author.Tests.{eq-eqb, ne-eqb}
-use lib.ListN.{length, getD, take, drop, length-append}
+use lib.ListN.{length, getD, take, length-append}
 use lib.Seq.{take-suc, take-length}
 use Rattle.table.specs.Sum.{sumTo}
-use Rattle.table.specs.Format.{Kind, end, join, unknown, is, Table, kind, kindOf}
-use Rattle.table.specs.Checks.{entryWrong, totalWrong, countsBelow, owner, endOf, kindUnknown, argumentFits, argumentWrong, differ, endMisplaced, opened, openBefore, isLatest, isEmpty, joinNotLatest, endWithOpen}
+use Rattle.table.specs.Format.{end, is, Table, kind}
+use Rattle.table.specs.Checks.{entryWrong, totalWrong, countsBelow, owner, endOf, kindUnknown, argumentWrong, differ, endMisplaced, openBefore, joinNotLatest, endWithOpen}
 use Rattle.table.specs.Rules.{ContentRules, BodyRules}
 use Rattle.table.proofs.Bodies.{first-is, first-next, after-end, end-kind, owner-at, owner-below, owner-first, owner-end}
 use Rattle.table.specs.Written.{Action}

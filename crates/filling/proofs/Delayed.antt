@@ -1,21 +1,20 @@
 -- In the filled-out table each big alloc is delayed by dummies that cost as much (fill-delayed): what the memory limit rests on.
-use Prim.Native.Nat.{ℕ, zero, suc, pred, _+_, _-_, _*_, _≤_, _<_}
+use Prim.Native.Nat.{ℕ, suc, _+_, _-_, _*_, _≤_, _<_}
 use native.Mathlib.Nat.{mul-add, mul-one}
 use native.Mathlib.Omega.{arith}
-use native.Mathlib.Decide.{ℕ-discrete}
 use mathlib.Core.Path.{_≡_, refl, sym, ap, _∙_}
 use mathlib.Core.List.{List, [], _∷_, _++_, append-assoc, List·Memᴰ, List·Memᴰ·head, List·Memᴰ·tail, List·Memᴰ·not-nil, List·Memᴰ·cases-cons, List·Memᴰ·append-cases, List·Memᴰ·eq-of-singleton, Memᴰ·append-left, Memᴰ·append-right}
 use mathlib.Core.Bool.{Bool, true, false, _&&_}
 use mathlib.Core.Logic.{_⊎_, inl, inr, ⊎-elim}
-use lib.Dec.{eqb, ltb}
+use lib.Dec.{eqb}
 use lib.ListN.{length, getD}
 use borrow.Author.Tests.{ltb-false, le-ltb, eq-eqb}
 use Rattle.table.specs.Sum.{pick, sumOver, anyBelow}
-use Rattle.table.specs.Format.{Kind, end, work, alloc, free, fork, join, is, codeOf, kindOf, Table, tableOf, kind}
+use Rattle.table.specs.Format.{work, fork, is, codeOf, kindOf, Table, tableOf, kind}
 use Rattle.table.specs.Checks.{owner, allocOf}
 use Rattle.table.specs.Rules.{Rules}
 use Rattle.table.specs.Serial.{serial, serialOrder}
-use Rattle.table.proofs.Bodies.{count-pos, owner-of-first, first-within, body-within}
+use Rattle.table.proofs.Bodies.{owner-of-first, first-within, body-within}
 use Rattle.table.proofs.Sums.{sumOver-append}
 use Rattle.table.proofs.Serial.{serial-fork, serial-step}
 use Rattle.order.specs.Order.{numberOf}
@@ -23,12 +22,12 @@ use Rattle.order.proofs.Lawful.{Lawful, lawful}
 use Rattle.order.proofs.Words.{Ascends}
 use Rattle.table.specs.Written.{Action, written}
 use Rattle.filling.specs.Filled.{big, dummies, newThreads, half, leaf, fork2, treeOf, rootOf, filledBodies, filledOut}
-use Rattle.table.proofs.ReadBack.{Reads, none}
+use Rattle.table.proofs.ReadBack.{none}
 use Rattle.filling.proofs.Bodies.{kindIn}
 use Rattle.filling.proofs.Built.{kind-at, argument-at}
 use Rattle.filling.proofs.Trees.{tree-induction, tree-one, tree-more, tree-length, dummies-two, dummies-cover, new-threads}
 use Rattle.filling.proofs.Roots.{Stand, stand-front, stand-back, so-below, so-all, so-ascends, rooted-bound, roots}
-use Rattle.filling.proofs.Fills.{Fills, c, b, root-in, tree-there, threads-are}
+use Rattle.filling.proofs.Fills.{Fills, c, b, tree-there, threads-are}
 use Rattle.filling.proofs.FilledOrder.{startOf, placeOf, runs, expand, filled-order}
 use Rattle.filling.proofs.FilledTable.{Fits, any-false, fills, fill-rules}
 use Rattle.filling.proofs.Delay.{isLeaf, drawnCost, Delay, Group, plain, delayed, Groups, no-group, group, Delayed}

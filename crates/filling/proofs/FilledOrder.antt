@@ -1,5 +1,5 @@
 -- The serial order of the filled-out table: that of the table as given, each big alloc with its fork, its tree and its join in front.
-use Prim.Native.Nat.{ℕ, zero, suc, pred, _+_, _-_, _*_, _≤_, _<_}
+use Prim.Native.Nat.{ℕ, suc, _+_, _-_, _<_}
 use native.Mathlib.Nat.{add-zero}
 use native.Mathlib.Omega.{arith}
 use mathlib.Core.Path.{_≡_, refl, sym, ap, _∙_}
@@ -7,15 +7,13 @@ use mathlib.Core.List.{List, [], _∷_, _++_, append-assoc}
 use mathlib.Core.Bool.{Bool, true, false}
 use lib.ListN.{length}
 use Rattle.table.specs.Sum.{pick}
-use Rattle.table.specs.Format.{Kind, end, fork, join, is, codeOf, Table, kind}
+use Rattle.table.specs.Format.{join, is, codeOf, Table, kind}
 use Rattle.table.specs.Checks.{owner}
 use Rattle.table.specs.Rules.{ContentRules, BodyRules}
 use Rattle.table.specs.Serial.{serial, serialOrder}
-use Rattle.table.proofs.Tests.{fork-no-end}
-use Rattle.table.proofs.Bodies.{owner-at, body-within, count-pos, fork-below}
+use Rattle.table.proofs.Bodies.{owner-at, body-within, count-pos}
 use Rattle.table.proofs.Serial.{serial-end, serial-fork, serial-step}
 use Rattle.table.proofs.Amounts.{action-within, along-serial}
-use Rattle.order.proofs.Lawful.{Lawful}
 use Rattle.filling.specs.Filled.{big, rootOf, inFront, filledFrom}
 use Rattle.filling.proofs.Fills.{Fills, c, b, old-below, start, placed, placed-kind, placed-argument, placed-within, placed-next, front-fork, front-root, front-join, front-two}
 

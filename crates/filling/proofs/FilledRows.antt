@@ -1,23 +1,21 @@
 -- The rows of the filled-out table, as the code puts them: each thread's body and its length, and the rows that are left from a thread or an action on.
-use Prim.Native.Nat.{ℕ, zero, suc, _+_, _-_, _*_, _/_, _%_, _≤_, _<_}
+use Prim.Native.Nat.{ℕ, zero, suc, _+_, _-_, _*_, _/_, _≤_, _<_}
 use native.Mathlib.Numerals.{add-one}
 use native.Mathlib.Omega.{arith}
-use native.Mathlib.Decide.{decLt}
 use mathlib.Core.Path.{_≡_, refl, sym, ap, _∙_}
-use mathlib.Core.List.{List, [], _∷_, _++_, append-assoc, append-nil, flatten, foldl-append}
+use mathlib.Core.List.{List, [], _∷_, _++_, append-assoc, flatten, foldl-append}
 use mathlib.Core.Bool.{Bool, true, false}
 use lib.ListN.{length, getD, drop, length-append, List·getD-append}
 use lib.Seq.{drop-cons, drop-length, getD-append-add}
 use lib.Dec.{ltb, leb}
 use borrow.Author.Tests.{le-leb, lt-leb}
-use Rattle.table.specs.Sum.{pick, sumTo}
+use Rattle.table.specs.Sum.{pick}
 use Rattle.table.specs.Format.{Table, tableOf}
 use Rattle.table.specs.Checks.{allocOf}
 use Rattle.table.specs.Serial.{serialOrder}
-use Rattle.table.specs.Written.{Action, actionAt, pairRow, actionRow, entryRows, actionRows, tableRows}
+use Rattle.table.specs.Written.{Action, actionAt, actionRow, entryRows, actionRows, tableRows}
 use Rattle.table.proofs.ReadBack.{argument-short}
-use Rattle.order.proofs.Lawful.{Lawful}
-use Rattle.text.specs.Text.{Buffer, bufferAt, placed, placedNext}
+use Rattle.text.specs.Text.{Buffer, bufferAt, placedNext}
 use Rattle.text.specs.Puts.{putAll}
 use Rattle.rows.specs.Rows.{cutPair, cutAction}
 use Rattle.rows.proofs.Whole.{pair-whole, action-whole, rows-append}
@@ -28,7 +26,7 @@ use Rattle.filling.proofs.Built.{flatten-append}
 use Rattle.filling.proofs.Roots.{all-serial, trees-length}
 use Rattle.filling.proofs.OldThreads.{old-length, old-at, old-all, filled-threads, filled-actions}
 use Rattle.filling.proofs.TreeSizes.{Sized, along-sized}
-use Rattle.filling.proofs.Numbering.{l, root-between, size-small}
+use Rattle.filling.proofs.Numbering.{l, root-between}
 
 -- ---- rows put after rows
 

@@ -1,18 +1,18 @@
 -- The filled-out table, as bytes: it passes every check (fill-rules), its counts (fill-counts) and size (fill-size, room-enough), when 44 is silent (room-exactly), and that nothing big leaves the table as given (in-place).
-use Prim.Native.Nat.{ℕ, zero, suc, pred, _+_, _-_, _*_, _≤_, _<_}
+use Prim.Native.Nat.{ℕ, zero, suc, _+_, _-_, _*_, _≤_, _<_}
 use native.Mathlib.Omega.{arith}
-use mathlib.Core.Path.{_≡_, refl, sym, ap, _∙_}
-use mathlib.Core.List.{List, [], _∷_, _++_, flatten}
-use mathlib.Core.Bool.{Bool, true, false, not, _&&_, _||_}
+use mathlib.Core.Path.{_≡_, refl, _∙_}
+use mathlib.Core.List.{List, flatten}
+use mathlib.Core.Bool.{Bool, true, false, _&&_, _||_}
 use mathlib.Core.Logic.{_↔_}
 use lib.Dec.{eqb, ltb}
 use borrow.Author.Tests.{ltb-true, ltb-false, le-ltb, eq-eqb, eqb-true, not-false}
-use lib.ListN.{length, getD}
+use lib.ListN.{length}
 use Rattle.table.specs.Sum.{pick, sumTo, sumOver, anyBelow}
 use Rattle.table.specs.Format.{Table, tableOf, threadsOf, actionsOf}
 use Rattle.table.specs.Pass.{tryPass}
 use Rattle.table.specs.declared.Found.the-variants.{Nothing}
-use Rattle.table.specs.Checks.{allocOf, tooShort, outOfRange, wrongLength}
+use Rattle.table.specs.Checks.{allocOf}
 use Rattle.table.specs.Rules.{HeadRules, Rules}
 use Rattle.table.proofs.Sums.{sumTo-zero, sumTo-part}
 use Rattle.table.proofs.Tests.{no-way, or-neither}
@@ -21,7 +21,7 @@ use Rattle.table.proofs.Passes.{tryPass-from-0}
 use Rattle.order.proofs.Lawful.{Lawful, lawful}
 use Rattle.table.specs.Written.{Action, written}
 use Rattle.filling.specs.Filled.{big, newThreads, newActions, filledBodies, filledOut, threadsTo, actionsTo, bytesOf, overfull, fillPass}
-use Rattle.table.proofs.ReadBack.{Reads, read-back, bytes-length, threads-back, actions-back, argument-short}
+use Rattle.table.proofs.ReadBack.{read-back, bytes-length, threads-back, actions-back, argument-short}
 use Rattle.table.specs.Serial.{serialOrder}
 use Rattle.filling.proofs.Bodies.{short-at}
 use Rattle.filling.proofs.Roots.{all-serial}

@@ -1,23 +1,22 @@
 -- A table U that has the bodies of T filled out with quota K: it keeps rules 4 to 9 and 11; and where T's actions stand in it.
-use Prim.Native.Nat.{ℕ, zero, suc, pred, _+_, _-_, _*_, _≤_, _<_}
+use Prim.Native.Nat.{ℕ, suc, _+_, _-_, _≤_, _<_}
 use native.Mathlib.Omega.{arith}
-use mathlib.Core.Path.{_≡_, refl, sym, ap, _∙_}
-use mathlib.Core.List.{List, [], _∷_, _++_, flatten}
-use mathlib.Core.Bool.{Bool, true, false}
+use mathlib.Core.Path.{_≡_, ap, _∙_}
+use mathlib.Core.List.{List, [], _∷_, _++_}
+use mathlib.Core.Bool.{true, false}
 use lib.ListN.{length, getD, length-append, List·getD-append}
 use lib.Seq.{getD-append-add}
-use Rattle.table.specs.Sum.{pick, sumTo, sumOver}
-use Rattle.table.specs.Format.{Kind, end, alloc, free, fork, join, is, codeOf, kindOf, Table, kind}
+use Rattle.table.specs.Sum.{sumOver}
+use Rattle.table.specs.Format.{alloc, free, fork, join, is, kindOf, Table, kind}
 use Rattle.table.specs.Checks.{owner, allocOf, freeOf}
 use Rattle.table.specs.Rules.{ContentRules, BodyRules, NestRules, ForkRules}
 use Rattle.table.specs.Serial.{serialOrder}
-use Rattle.table.proofs.Bodies.{owner-below, owner-first, owner-end, owner-at}
 use Rattle.order.proofs.Lawful.{Lawful}
 use Rattle.table.specs.Written.{Action, actionAt}
-use Rattle.filling.specs.Filled.{act, big, dummies, newThreads, rootOf, inFront, filledFrom, filledBody, oldBodies, treeOf, treeAt, treesAlong, filledBodies}
+use Rattle.filling.specs.Filled.{big, dummies, newThreads, rootOf, inFront, filledFrom, filledBody, oldBodies, treeOf, treesAlong, filledBodies}
 use Rattle.table.proofs.ReadBack.{Reads, none}
 use Rattle.filling.proofs.Bodies.{kindIn, each-at, EachBody, body-of, Good}
-use Rattle.filling.proofs.Built.{At, at-of, contents, bodies, built-latest, built-joined, code-at, kind-at, argument-at}
+use Rattle.filling.proofs.Built.{at-of, contents, bodies, built-latest, built-joined, kind-at, argument-at}
 use Rattle.filling.proofs.ForkCounts.{built-once, built-forks}
 use Rattle.filling.proofs.Roots.{Stand, so-all, all-serial, roots, stand-back, trees-length, trees-stand, trees-quiet}
 use Rattle.filling.proofs.Trees.{Quiet}

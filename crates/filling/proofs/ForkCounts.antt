@@ -1,16 +1,16 @@
 -- Sums along bodies, and how often a thread is forked: rules 8 and 11 by counting.
-use Prim.Native.Nat.{ℕ, zero, suc, pred, _+_, _-_, _*_, _≤_, _<_}
+use Prim.Native.Nat.{ℕ, zero, suc, _+_, _-_, _≤_, _<_}
 use native.Mathlib.Omega.{arith}
 use native.Mathlib.Decide.{decLt, ℕ-discrete}
-use mathlib.Core.Path.{_≡_, refl, sym, ap, _∙_}
+use mathlib.Core.Path.{_≡_, refl, sym, _∙_}
 use mathlib.Core.List.{List, [], _∷_, _++_, flatten}
 use mathlib.Core.Bool.{Bool, true, false, not, _&&_}
 use lib.Dec.{eqb, ltb}
-use borrow.Author.Tests.{eqb-true, eqb-false, eq-eqb, ne-eqb, lt-ltb, le-ltb}
+use borrow.Author.Tests.{eq-eqb, ne-eqb, lt-ltb, le-ltb}
 use lib.ListN.{length, getD}
 use Rattle.table.specs.Sum.{pick, sumTo, anyBelow}
-use Rattle.table.specs.Format.{Kind, fork, is, Table, kind}
-use Rattle.table.specs.Checks.{owner, forks, forkedBelow, forkedBefore, neverForked}
+use Rattle.table.specs.Format.{fork, is, Table, kind}
+use Rattle.table.specs.Checks.{forks, forkedBelow, forkedBefore, neverForked}
 use Rattle.table.specs.Rules.{ContentRules, BodyRules, NestRules, ForkRules}
 use Rattle.table.proofs.Sums.{sumTo-part, sumTo-zero}
 use Rattle.table.proofs.Tests.{no-way, is-true}

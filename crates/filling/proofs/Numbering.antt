@@ -5,22 +5,19 @@ use native.Mathlib.Nat.{mul-le-mul-left}
 use native.Mathlib.Omega.{arith}
 use native.Mathlib.Decide.{ℕ-discrete, decLt}
 use mathlib.Core.Path.{_≡_, refl, sym, ap, _∙_}
-use mathlib.Core.List.{List, []}
+use mathlib.Core.List.{List}
 use mathlib.Core.Bool.{Bool, true, false}
 use mathlib.Core.Logic.{_⊎_, inl, inr}
 use lib.ListN.{length, getD, set, length-set}
 use lib.Seq.{getD-set-same, getD-set-other}
-use lib.Dec.{leb}
 use borrow.Author.Tests.{le-leb, lt-leb}
-use Rattle.table.specs.Sum.{pick, sumTo, sumOver}
+use Rattle.table.specs.Sum.{pick, sumTo}
 use Rattle.table.specs.Format.{end, fork, is, codeOf, Table, tableOf, kind}
 use Rattle.table.specs.Checks.{owner}
 use Rattle.table.specs.Serial.{serialOrder}
-use Rattle.table.specs.Code.Steps.{Filled}
-use Rattle.table.proofs.Tests.{no-way, Turn, ends, branches, goes, turn, same-is, is-true, fork-no-end}
-use Rattle.table.proofs.Bodies.{first-is, first-next, last-ends, after-end, owner-below, owner-first, owner-of-first, next-owner, end-last, fork-above, fork-below, fork-later}
+use Rattle.table.proofs.Tests.{no-way, Turn, ends, branches, goes, turn, same-is, is-true}
+use Rattle.table.proofs.Bodies.{first-is, first-next, last-ends, after-end, owner-below, owner-of-first, next-owner, end-last, fork-above, fork-below, fork-later}
 use Rattle.table.proofs.Nesting.{fork-exists}
-use Rattle.table.proofs.Sums.{sumTo-part}
 use Rattle.table.proofs.Amounts.{whole-bound}
 use Rattle.order.proofs.Lawful.{Lawful, lawful}
 use Rattle.filling.specs.Filled.{big, dummies, half, newThreads, rootOf, treesAlong, threadsTo}

@@ -1,24 +1,24 @@
 -- The threads of the table as given, filled out: sums along them, and that their bodies keep the rules.
-use Prim.Native.Nat.{ℕ, zero, suc, pred, _+_, _-_, _*_, _≤_, _<_}
+use Prim.Native.Nat.{ℕ, zero, suc, _+_, _-_, _≤_, _<_}
 use native.Mathlib.Omega.{arith}
 use mathlib.Core.Path.{_≡_, refl, sym, ap, _∙_}
 use mathlib.Core.List.{List, [], _∷_, _++_, flatten, append-assoc}
-use mathlib.Core.Bool.{Bool, true, false, not, _&&_}
+use mathlib.Core.Bool.{Bool, true, false}
 use lib.Dec.{eqb, ltb}
 use borrow.Author.Tests.{ltb-true, eq-eqb, ne-eqb, lt-ltb, not-false}
 use lib.ListN.{length, getD, length-append}
 use Rattle.table.specs.Sum.{pick, sumTo, sumOver}
 use Rattle.table.specs.Format.{Kind, end, work, alloc, free, fork, join, unknown, is, codeOf, kindOf, Table, kind}
-use Rattle.table.specs.Checks.{owner, endOf, countsBelow, kindUnknown, argumentFits, argumentWrong, allocOf, openBefore, opened, joinNotLatest, endWithOpen}
+use Rattle.table.specs.Checks.{owner, endOf, countsBelow, kindUnknown, argumentFits, argumentWrong, allocOf, openBefore, joinNotLatest, endWithOpen}
 use Rattle.table.specs.Serial.{serialOrder}
 use Rattle.table.proofs.Sums.{sumTo-cong, sumTo-part}
 use Rattle.table.proofs.Tests.{no-way, is-true, and-both}
-use Rattle.table.proofs.Bodies.{first-is, count-pos, counts-all, owner-is, body-within, after-end, end-is-last, end-kind}
+use Rattle.table.proofs.Bodies.{first-is, count-pos, counts-all, owner-is, body-within, after-end, end-is-last}
 use Rattle.order.proofs.Lawful.{Lawful}
 use Rattle.order.proofs.Totals.{sumTo-add}
 use Rattle.table.specs.Written.{Action, actionAt}
 use Rattle.filling.specs.Filled.{act, big, newThreads, newActions, rootOf, inFront, filledFrom, filledBody, oldBodies, treesAlong, filledBodies}
-use Rattle.filling.proofs.Bodies.{kindIn, Each, EachBody, body-of, bodies-append, Fit, EndLast, end-cons, Nests, Good}
+use Rattle.filling.proofs.Bodies.{Each, EachBody, bodies-append, Fit, EndLast, end-cons, Nests, Good}
 use Rattle.filling.proofs.Built.{flatten-append, open-first}
 use Rattle.filling.proofs.ForkCounts.{sumIn, sumIn-append, sumIn-length, sumTo-front, up, forkOf, forkIn, forks-counted}
 use Rattle.filling.proofs.Trees.{fit-fork, fit-join}

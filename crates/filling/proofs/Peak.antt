@@ -1,24 +1,23 @@
 -- The serial peak of the filled-out table is that of the table as given: what runs in front of a big alloc neither draws nor gives back.
-use Prim.Native.Nat.{ℕ, zero, suc, pred, _+_, _-_, _*_, _≤_, _<_, max}
+use Prim.Native.Nat.{ℕ, suc, _+_, _-_, _≤_, _<_, max}
 use native.Mathlib.Omega.{arith}
 use mathlib.Core.Path.{_≡_, refl, sym, ap, subst, _∙_}
-use mathlib.Core.List.{List, [], _∷_, _++_, map, List·Memᴰ, List·Memᴰ·head, List·Memᴰ·tail, List·Memᴰ·not-nil, List·Memᴰ·cases-cons, List·Memᴰ·append-cases, List·Memᴰ·eq-of-singleton}
+use mathlib.Core.List.{List, [], _∷_, _++_, List·Memᴰ, List·Memᴰ·head, List·Memᴰ·tail, List·Memᴰ·not-nil, List·Memᴰ·cases-cons, List·Memᴰ·append-cases, List·Memᴰ·eq-of-singleton}
 use mathlib.Core.Bool.{Bool, true, false}
-use mathlib.Core.Logic.{_⊎_, inl, inr, ⊎-elim}
-use lib.ListN.{length}
+use mathlib.Core.Logic.{_⊎_, ⊎-elim}
 use Rattle.table.specs.Sum.{pick, sumOver, greatest, anyBelow}
-use Rattle.table.specs.Format.{Kind, end, alloc, free, fork, join, is, codeOf, Table, tableOf, kind}
+use Rattle.table.specs.Format.{Kind, alloc, free, fork, join, is, codeOf, Table, tableOf, kind}
 use Rattle.table.specs.Checks.{owner, allocOf, freeOf}
 use Rattle.table.specs.Rules.{Rules}
 use Rattle.table.specs.Serial.{serial, serialOrder, fronts, heldAfter, peakOf, S1}
 use Rattle.table.proofs.Tests.{fork-no-end}
 use Rattle.table.proofs.Bodies.{owner-below, owner-first, owner-end, owner-of-first, next-owner, fork-above, fork-below, first-within}
-use Rattle.table.proofs.Serial.{child-within, serial-end, serial-fork, serial-step, serial-induction, serial-below}
+use Rattle.table.proofs.Serial.{serial-end, serial-fork, serial-step, serial-induction, serial-below}
 use Rattle.table.proofs.Peaks.{greatest-map}
 use Rattle.table.specs.Written.{written}
-use Rattle.filling.specs.Filled.{big, rootOf, inFront, filledBodies, filledOut}
+use Rattle.filling.specs.Filled.{big, rootOf, filledBodies, filledOut}
 use Rattle.filling.proofs.Roots.{so-below}
-use Rattle.filling.proofs.Fills.{Fills, c, b, root-in, quiet, start, placed, placed-kind, placed-argument, front-fork, front-root, front-join, front-joined, front-two}
+use Rattle.filling.proofs.Fills.{Fills, c, b, root-in, quiet, placed-kind, placed-argument, front-fork, front-root, front-join, front-joined, front-two}
 use Rattle.filling.proofs.FilledOrder.{startOf, placeOf, runs, expand, start-is, place-is, place-in, filled-order}
 use Rattle.filling.proofs.FilledTable.{Fits, fills}
 

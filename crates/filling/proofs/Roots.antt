@@ -1,5 +1,5 @@
 -- The trees along serial order: where each begins, and what they come to together.
-use Prim.Native.Nat.{ℕ, zero, suc, _+_, _-_, _*_, _≤_, _<_}
+use Prim.Native.Nat.{ℕ, suc, _+_, _-_, _≤_, _<_}
 use native.Mathlib.Omega.{arith}
 use mathlib.Core.Path.{_≡_, refl, sym, ap, _∙_}
 use mathlib.Core.List.{List, [], _∷_, _++_, flatten, List·Memᴰ, List·Memᴰ·head, List·Memᴰ·tail, List·Memᴰ·not-nil, List·Memᴰ·cases-cons}
@@ -7,13 +7,12 @@ use mathlib.Core.Bool.{Bool, true, false}
 use mathlib.Core.Logic.{_⊎_, inl, inr}
 use lib.Dec.{eqb}
 use borrow.Author.Tests.{eq-eqb, ne-eqb, lt-ltb}
-use lib.ListN.{length, getD, take, length-append, List·getD-append}
+use lib.ListN.{length, getD, length-append, List·getD-append}
 use lib.Seq.{take-all, getD-append-add}
 use Rattle.table.specs.Sum.{pick, sumTo, sumOver}
 use Rattle.table.specs.Format.{Table}
 use Rattle.table.specs.Serial.{serialOrder}
 use Rattle.table.proofs.Sums.{sumTo-cong}
-use Rattle.table.proofs.Tests.{no-way}
 use Rattle.table.proofs.Bodies.{first-within}
 use Rattle.table.proofs.Serial.{serial-length, serial-below}
 use Rattle.order.specs.Order.{numberOf}
@@ -25,11 +24,11 @@ use Rattle.order.proofs.SerialSums.{lower, front-sum}
 use Rattle.order.proofs.Lists.{getD-member}
 use Rattle.order.proofs.Words.{Ascends, placeIn-below}
 use Rattle.table.specs.Written.{Action}
-use Rattle.filling.specs.Filled.{act, big, dummies, newThreads, newActions, treeOf, sumBefore, rootOf, inFront, treeAt, treesAlong}
+use Rattle.filling.specs.Filled.{big, dummies, newThreads, newActions, sumBefore, rootOf, inFront, treeAt, treesAlong}
 use Rattle.filling.proofs.Bodies.{EachBody, bodies-append, Good}
 use Rattle.filling.proofs.Built.{flatten-append}
 use Rattle.filling.proofs.ForkCounts.{sumIn, sumIn-append, up, up-one, forkOf}
-use Rattle.filling.proofs.Trees.{tree-length, tree-actions, tree-forks, tree-good, Quiet, tree-quiet, dummies-two, new-threads, new-actions}
+use Rattle.filling.proofs.Trees.{tree-length, tree-actions, tree-forks, tree-good, Quiet, tree-quiet, dummies-two, new-threads}
 
 -- ---- serial order as a list
 

@@ -1,5 +1,5 @@
 -- All that the requests say of the table that a beginning runs, where the table's own checks, 21 and 44 are silent.
-use Prim.Native.Nat.{ℕ, _+_, _≤_, _<_}
+use Prim.Native.Nat.{ℕ, _+_, _≤_}
 use mathlib.Core.Path.{_≡_}
 use mathlib.Core.List.{List}
 use Rattle.table.specs.Sum.{sumTo}

@@ -1,5 +1,5 @@
 -- The bodies of the new threads from their sizes, and how sizes come from sizes: what a loop upward over the new threads keeps.
-use Prim.Native.Nat.{ℕ, zero, suc, pred, _+_, _-_, _*_, _≤_, _<_}
+use Prim.Native.Nat.{ℕ, zero, suc, _+_, _-_, _*_, _≤_, _<_}
 use native.Mathlib.Omega.{arith}
 use native.Mathlib.Decide.{decLt}
 use mathlib.Core.Path.{_≡_, refl, sym, ap, _∙_}
@@ -9,13 +9,13 @@ use mathlib.Core.Logic.{_⊎_, inl, inr}
 use borrow.Author.Tests.{le-leb, lt-leb}
 use lib.ListN.{length, getD, length-append, List·getD-append}
 use lib.Seq.{getD-append-add}
-use Rattle.table.specs.Sum.{pick, sumOver}
+use Rattle.table.specs.Sum.{pick}
 use Rattle.table.specs.Format.{Table}
 use Rattle.table.specs.Written.{Action}
-use Rattle.filling.specs.Filled.{big, dummies, newThreads, half, leaf, fork2, treeOf, rootOf, treeAt, treesAlong}
+use Rattle.filling.specs.Filled.{big, dummies, newThreads, half, leaf, fork2, treeOf, treeAt, treesAlong}
 use Rattle.filling.specs.TreeSizes.{sizesOf, treeBody, sizesAt, sizesAlong}
-use Rattle.filling.proofs.Trees.{tree-induction, tree-one, tree-more, tree-length, dummies-two, new-threads}
-use Rattle.filling.proofs.Roots.{Rooted, rooted-bound, trees-length}
+use Rattle.filling.proofs.Trees.{tree-induction, tree-one, tree-more, tree-length, dummies-two}
+use Rattle.filling.proofs.Roots.{Rooted, rooted-bound}
 
 sizes-one : (f d : ℕ) → d ≤ 1 → sizesOf (suc f) d ≡ d ∷ []
 unfolding sizesOf

@@ -1,18 +1,18 @@
 -- Trees of dummies: how many threads and actions, which threads they fork, and that their bodies keep the rules.
-use Prim.Native.Nat.{ℕ, zero, suc, pred, _+_, _-_, _*_, _/_, _≤_, _<_}
+use Prim.Native.Nat.{ℕ, zero, suc, _+_, _-_, _*_, _/_, _≤_, _<_}
 use native.Mathlib.Omega.{arith}
 use native.Mathlib.Nat.{lt-mul-div-succ, le-div-iff-mul-le}
-use mathlib.Core.Path.{_≡_, refl, sym, ap, _∙_}
+use mathlib.Core.Path.{_≡_, refl, _∙_}
 use mathlib.Core.List.{List, [], _∷_, _++_, flatten}
-use mathlib.Core.Bool.{Bool, true, false, not, _&&_}
-use lib.Dec.{eqb, ltb, leb}
-use borrow.Author.Tests.{ltb-true, leb-true, leb-false, eq-eqb, lt-ltb}
-use lib.ListN.{length, getD, length-append}
-use Rattle.table.specs.Sum.{pick, sumTo}
-use Rattle.table.specs.Format.{Kind, alloc, free, fork, is, codeOf, kindOf, Table, kind}
+use mathlib.Core.Bool.{true, false}
+use lib.Dec.{eqb}
+use borrow.Author.Tests.{ltb-true, eq-eqb, lt-ltb}
+use lib.ListN.{length, length-append}
+use Rattle.table.specs.Sum.{pick}
+use Rattle.table.specs.Format.{alloc, free, is, codeOf, kindOf, Table}
 use Rattle.table.specs.Checks.{allocOf}
 use Rattle.table.specs.Written.{Action}
-use Rattle.filling.specs.Filled.{act, big, dummies, newThreads, newActions, half, leaf, fork2, treeOf, treeAt}
+use Rattle.filling.specs.Filled.{act, big, dummies, newThreads, newActions, half, leaf, fork2, treeOf}
 use Rattle.filling.proofs.Bodies.{kindIn, Each, EachBody, bodies-append, Fit, Good}
 use Rattle.filling.proofs.Built.{flatten-append}
 use Rattle.filling.proofs.ForkCounts.{sumIn, sumIn-append, up, up-one, forkOf}

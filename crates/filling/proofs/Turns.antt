@@ -1,25 +1,23 @@
 -- m + A + J of the filled-out table is that of the table as given and 9d - 4 for each big alloc (fill-turns): no table need be built to say how many turns a run takes at most.
-use Prim.Native.Nat.{ℕ, zero, suc, pred, _+_, _-_, _*_, _≤_, _<_}
+use Prim.Native.Nat.{ℕ, suc, _+_, _-_, _*_, _≤_}
 use native.Mathlib.Omega.{arith}
-use mathlib.Core.Path.{_≡_, refl, sym, ap, _∙_}
-use mathlib.Core.List.{List, [], _∷_, _++_, flatten}
+use mathlib.Core.Path.{_≡_, refl, _∙_}
+use mathlib.Core.List.{List, [], _∷_, flatten}
 use mathlib.Core.Bool.{Bool, true, false}
-use lib.ListN.{length, getD}
 use Rattle.table.specs.Sum.{pick, sumTo, sumOver, anyBelow}
-use Rattle.table.specs.Format.{Kind, end, work, alloc, free, fork, join, unknown, is, codeOf, kindOf, Table, tableOf, kind}
+use Rattle.table.specs.Format.{Kind, alloc, join, is, codeOf, kindOf, Table, tableOf, kind}
 use Rattle.table.specs.Rules.{Rules}
 use Rattle.table.specs.Serial.{serialOrder}
 use Rattle.table.proofs.Sums.{sumTo-zero}
 use Rattle.order.proofs.Lawful.{Lawful, lawful}
 use Rattle.order.proofs.Totals.{sumTo-add}
-use Rattle.table.specs.Written.{Action, actionAt, written}
-use Rattle.filling.specs.Filled.{act, big, dummies, newThreads, newActions, newTurns, half, leaf, fork2, treeOf, rootOf, inFront, treeAt, treesAlong, oldBodies, filledBodies, filledOut}
+use Rattle.table.specs.Written.{Action, written}
+use Rattle.filling.specs.Filled.{big, dummies, newThreads, newActions, newTurns, half, treeOf, inFront, treeAt, treesAlong, oldBodies, filledBodies, filledOut}
 use Rattle.order.specs.Turns.{ofKind, turnsOf}
-use Rattle.table.proofs.ReadBack.{Reads, none}
 use Rattle.filling.proofs.Bodies.{kindIn}
 use Rattle.filling.proofs.Built.{flatten-append}
 use Rattle.filling.proofs.ForkCounts.{sumIn, sumIn-append, sumIn-to}
-use Rattle.filling.proofs.Trees.{tree-induction, tree-one, tree-more, dummies-two, new-actions}
+use Rattle.filling.proofs.Trees.{tree-induction, tree-one, tree-more, dummies-two}
 use Rattle.filling.proofs.Roots.{all-serial}
 use Rattle.filling.proofs.OldThreads.{ownIn, old-sum, filled-actions}
 use Rattle.filling.proofs.Fills.{Fills}

@@ -1,9 +1,9 @@
 -- The filled-out table (change request N6): in front of an alloc above the quota K a fork and a join of a tree of dummy threads.
 use Prim.Native.Nat.{ℕ, zero, suc, _+_, _-_, _*_, _/_}
 use mathlib.Core.List.{List, [], _∷_, _++_}
-use mathlib.Core.Bool.{Bool, true, false, _&&_, _||_}
+use mathlib.Core.Bool.{Bool, _&&_, _||_}
 use lib.Dec.{eqb, ltb, leb}
-use Rattle.table.specs.Sum.{pick, sumTo, sumOver, anyBelow}
+use Rattle.table.specs.Sum.{pick, sumTo, anyBelow}
 use Rattle.table.specs.Format.{Table, tableOf}
 use Rattle.table.specs.Checks.{maxThreads, maxActions, allocOf}
 use Rattle.table.specs.Pass.{Pass}

@@ -1,8 +1,8 @@
 -- Filled-out tables, by computation.
 use mathlib.Core.Path.{_≡_, refl}
 use Prim.Native.Nat.{ℕ}
-use mathlib.Core.List.{List, [], _∷_, _++_, flatten}
-use Rattle.table.specs.Sum.{pick, sumTo, sumOver, greatest, anyBelow, greatestTo}
+use mathlib.Core.List.{List, [], _∷_, flatten}
+use Rattle.table.specs.Sum.{sumTo, sumOver, greatest, anyBelow, greatestTo}
 use Rattle.table.specs.Format.{is, codeOf, kindOf, tableOf}
 use Rattle.table.specs.Checks.{entryWrong, totalWrong, ownerBelow, kindUnknown, argumentWrong, endMisplaced, forkedBelow, forkedBefore}
 use Rattle.table.specs.Checks.{openBefore, joinNotLatest, endWithOpen, neverForked, allocOf, freeOf, wholeWithin, balance, balanceBelow0, passes}
@@ -13,7 +13,7 @@ use Rattle.table.specs.Level.{forkBelow, forkOf, beforeIt, joinedEnd, dependsOn
 use Rattle.table.specs.Nested.{nestWithin, N}
 use Rattle.table.specs.Load.{valuesOf, loaded, factsOf}
 use Rattle.table.specs.Cases.{E, accepted}
-use Rattle.table.specs.Written.{Action, entryRows, actionRows, tableRows, written}
+use Rattle.table.specs.Written.{entryRows, actionRows, tableRows, written}
 use Rattle.order.specs.Turns.{turnsOf}
 use Rattle.filling.specs.Filled.{act, big, dummies, newThreads, treeOf, sumBefore, rootOf, filledFrom, oldBodies, treesAlong, filledBodies, filledOut, fork2, leaf, newActions, threadsTo, actionsTo, overfull, fillPass}
 

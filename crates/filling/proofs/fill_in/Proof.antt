@@ -1,8 +1,7 @@
 -- `filling::fill_in` meets its contract: nothing is written where nothing is filled out or the room is too little, else the whole table.
-use mathlib.Core.Path.{_≡_, refl, _∙_}
+use mathlib.Core.Path.{_≡_, refl}
 use Prim.Native.Nat.{ℕ}
 use mathlib.Core.List.{List}
-use native.Mathlib.Omega.{arith}
 use denote.Ref.{now}
 use Rattle.table.specs.Format.{threadsOf, tableOf}
 use Rattle.filling.proofs.Measured.{untouched, too-little, build-ready, built}

@@ -1,6 +1,5 @@
 -- `filling::outside` meets its contract.
 use borrow.Author.Tests.{lt-ltb, le-ltb}
-use native.Mathlib.Omega.{arith}
 use Rattle.filling.proofs.outside.Statement.{statement}
 use Rattle.filling.proofs.outside.Tie as tie
 

@@ -1,5 +1,5 @@
 -- `filling::count::count` meets its contract. The invariant: threads and actions are those that the allocs below a make, and what is found from action a on is what is found in all.
-use mathlib.Core.Path.{_≡_, refl, sym, ap, _∙_}
+use mathlib.Core.Path.{_≡_, refl, sym, _∙_}
 use Prim.Native.Nat.{ℕ, suc, _+_, _-_, _*_, _/_, _≤_, _<_}
 use mathlib.Core.List.{List, [], _∷_}
 use mathlib.Core.Bool.{Bool, true, false, _&&_, _||_}
@@ -8,7 +8,6 @@ use native.Mathlib.Omega.{arith}
 use lib.Dec.{ltb}
 use borrow.Author.Needs.{needs}
 use borrow.Author.Tests.{ltb-false}
-use denote.Ref.{now}
 use Rattle.table.specs.Sum.{pick, sumTo, Read}
 use Rattle.table.specs.Format.{Table, threadsOf, actionsOf, tableOf}
 use Rattle.table.specs.Checks.{allocOf}
@@ -19,7 +18,7 @@ use Rattle.table.proofs.Tests.{or-neither}
 use Rattle.table.proofs.Trying.{tryFrom-next, tryFrom-here, tryFrom-last, tryFrom-all}
 use Rattle.filling.specs.declared.Total.{Total}
 use Rattle.filling.specs.Filled.{big, dummies, newThreads, newActions, threadsTo, actionsTo, overfull, fillPass}
-use Rattle.filling.specs.Filling.{totalAs, totalOf}
+use Rattle.filling.specs.Filling.{totalOf}
 use Rattle.filling.proofs.count.count.Statement.{statement}
 use Rattle.filling.proofs.count.count.Tie as tie
 

@@ -1,8 +1,8 @@
 -- `filling::numbers::fill_sizes` meets its contract. The invariant: the sizes of the children of the new threads below c are there, and with the roots' they are all that is needed.
 use Rattle.filling.proofs.numbers.fill_sizes.Statement.{statement}
 use Rattle.filling.proofs.numbers.fill_sizes.Tie as tie
-use mathlib.Core.Path.{_≡_, refl, sym, ap, _∙_}
-use Prim.Native.Nat.{ℕ, suc, _+_, _-_, _*_, _≤_, _<_}
+use mathlib.Core.Path.{_≡_}
+use Prim.Native.Nat.{ℕ, _+_, _-_, _*_, _≤_, _<_}
 use mathlib.Core.List.{List}
 use native.Mathlib.Omega.{arith}
 use denote.Ref.{now}

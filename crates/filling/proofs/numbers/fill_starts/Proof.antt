@@ -1,8 +1,8 @@
 -- `filling::numbers::fill_starts` meets its contract. The invariant: the starts of the threads forked below a, the sizes at the roots of the big allocs below a, and the place of a.
 use Rattle.filling.proofs.numbers.fill_starts.Statement.{statement}
 use Rattle.filling.proofs.numbers.fill_starts.Tie as tie
-use mathlib.Core.Path.{_≡_, refl, sym, ap, _∙_}
-use Prim.Native.Nat.{ℕ, zero, suc, _+_, _-_, _≤_, _<_}
+use mathlib.Core.Path.{_≡_}
+use Prim.Native.Nat.{ℕ, _+_, _-_, _≤_, _<_}
 use mathlib.Core.List.{List}
 use mathlib.Core.Bool.{true}
 use native.Mathlib.Omega.{arith}
@@ -11,12 +11,9 @@ use denote.Ref.{now}
 use lib.ListN.{length, set}
 use Rattle.table.specs.Sum.{pick, Read}
 use Rattle.table.specs.Format.{fork, is, Table, tableOf, actionsOf, kind}
-use Rattle.table.specs.Checks.{owner}
-use Rattle.table.proofs.Bodies.{first-is, owner-of-first}
-use Rattle.filling.specs.Filled.{big, dummies, rootOf}
+use Rattle.filling.specs.Filled.{big, dummies}
 use Rattle.filling.specs.Code.Steps.{Ready, Sums, RootsTo, Starts, At}
-use Rattle.filling.proofs.BeforeSums.{root-root}
-use Rattle.filling.proofs.Numbering.{l, starts-root, at-first, child-in, big-root, starts-next, sized-next}
+use Rattle.filling.proofs.Numbering.{starts-root, at-first, child-in, big-root, starts-next, sized-next}
 
 record Inv (s : List ℕ) (n K m : ℕ) (sums starts : List ℕ) (thread root a : ℕ) : Type 0 where
   ready : Ready s n K

@@ -1,12 +1,10 @@
 -- `filling::numbers::note_start` meets its contract.
-use mathlib.Core.Path.{_≡_, refl, sym, ap, _∙_}
-use Prim.Native.Nat.{ℕ, suc, _+_, _-_, _*_, _/_, _≤_, _<_}
+use mathlib.Core.Path.{_≡_}
+use Prim.Native.Nat.{ℕ, _-_, _<_}
 use mathlib.Core.List.{List}
-use mathlib.Core.Bool.{Bool, true, false}
-use native.Mathlib.Numerals.{add-one}
-use native.Mathlib.Omega.{arith}
+use mathlib.Core.Bool.{true, false}
 use denote.Ref.{now}
-use lib.ListN.{length, getD, set}
+use lib.ListN.{set}
 use Rattle.table.specs.Sum.{pick}
 use Rattle.table.specs.Format.{fork, is, Table, tableOf, kind}
 use Rattle.filling.proofs.Reading.{code-read, argument-read, fork-code, is-fork, not-fork}

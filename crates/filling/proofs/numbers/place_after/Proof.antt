@@ -1,15 +1,10 @@
 -- `filling::numbers::place_after` meets its contract. In the same thread the root goes on; after an end it is the next thread's start.
-use mathlib.Core.Path.{_≡_, refl, sym, ap, _∙_}
-use Prim.Native.Nat.{ℕ, suc, _+_, _-_, _*_, _/_, _≤_, _<_}
+use Prim.Native.Nat.{ℕ, _+_, _-_, _≤_, _<_}
 use mathlib.Core.List.{List}
-use mathlib.Core.Bool.{Bool, true, false}
-use native.Mathlib.Numerals.{add-one}
 use native.Mathlib.Omega.{arith}
 use denote.Ref.{now}
-use lib.ListN.{length, getD, set}
 use Rattle.table.specs.Format.{tableOf}
 use Rattle.table.specs.Checks.{owner}
-use Rattle.filling.specs.Filled.{rootOf}
 use Rattle.filling.specs.Code.Steps.{Ready, At, Sums, Starts}
 use Rattle.filling.proofs.Reading.{code-read, end-code, not-end}
 use Rattle.filling.proofs.Numbering.{sums-from, root-between, at-next, at-last, at-thread, l}

@@ -1,15 +1,13 @@
 -- `filling::numbers::step` meets its contract. At a fork the child's sum, else what an alloc adds.
-use mathlib.Core.Path.{_≡_, refl, sym, ap, _∙_}
-use Prim.Native.Nat.{ℕ, suc, _+_, _-_, _*_, _/_, _≤_, _<_}
+use mathlib.Core.Path.{_≡_, sym, _∙_}
+use Prim.Native.Nat.{ℕ, _+_, _-_, _*_, _/_, _<_}
 use mathlib.Core.List.{List}
-use mathlib.Core.Bool.{Bool, true, false}
-use native.Mathlib.Numerals.{add-one}
 use native.Mathlib.Omega.{arith}
 use denote.Ref.{now}
-use lib.ListN.{length, getD, set}
+use lib.ListN.{getD}
 use lib.Dec.{ltb}
 use Rattle.table.specs.Sum.{pick, Read}
-use Rattle.table.specs.Format.{fork, is, Table, tableOf, kind}
+use Rattle.table.specs.Format.{fork, Table, tableOf, kind}
 use Rattle.table.specs.Checks.{owner, allocOf}
 use Rattle.filling.specs.Filled.{big, dummies, newThreads}
 use Rattle.filling.specs.Code.Steps.{Ready, newOf, rootStep, Sums}

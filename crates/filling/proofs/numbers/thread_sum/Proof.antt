@@ -1,14 +1,14 @@
 -- `filling::numbers::thread_sum` meets its contract. The invariant: what is counted is what the actions before k lead to.
 use Rattle.filling.proofs.numbers.thread_sum.Statement.{statement}
 use Rattle.filling.proofs.numbers.thread_sum.Tie as tie
-use mathlib.Core.Path.{_≡_, refl, sym, ap, _∙_}
-use Prim.Native.Nat.{ℕ, suc, _+_, _-_, _≤_, _<_}
+use mathlib.Core.Path.{_≡_, refl, _∙_}
+use Prim.Native.Nat.{ℕ, _+_, _-_, _≤_, _<_}
 use mathlib.Core.List.{List}
 use native.Mathlib.Numerals.{add-one}
 use native.Mathlib.Omega.{arith}
 use borrow.Author.Needs.{needs}
 use denote.Ref.{now}
-use Rattle.table.specs.Sum.{sumTo, Read}
+use Rattle.table.specs.Sum.{sumTo}
 use Rattle.table.specs.Format.{Table, tableOf}
 use Rattle.table.specs.Checks.{owner}
 use Rattle.table.proofs.Bodies.{body-within, owner-is}
