@@ -129,7 +129,10 @@ def begin_fault(data, p, quota):
     answer = check(data)
     if answer[0] == 'refused':
         return answer[1:]
-    return settings_fault(p, quota) or too_large(data, quota)
+    if settings_fault(p, quota):
+        return settings_fault(p, quota)
+    place = too_large(data, quota)
+    return None if place is None else (44, place)
 
 
 def begin(data, p, quota):

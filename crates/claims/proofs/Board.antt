@@ -60,16 +60,16 @@ given-found s p b M K e =
     let g = given-exactly s p b M K .0 e in
     rw (firstFound-append (passes s) (beginPasses (tableOf s) p K), passes-rules s .1 (g .0 .rules), begin-passed (tableOf s) p K (g .0 .some-worker) (g .0 .few-workers) (g .1 .in-range))
 
--- no alloc is above it: the table as given runs
 given-small : (s : List ℕ) (p b M K : ℕ) → quoted s p b M ≡ Given K → (a : ℕ) → a < tableOf s .actions → allocOf (tableOf s) a ≤ K
 given-small s p b M K e = least-exactly (tableOf s) K .0 (given-exactly s p b M K .0 e .1 .in-range .low) .1
 
-pub given-in-place : (s : List ℕ) (p b M K : ℕ) → quoted s p b M ≡ Given K → filledOut s K ≡ s
-given-in-place s p b M K e = in-place s K (given-small s p b M K e)
+-- N1 looks at K from the largest alloc up: nothing is above such a K, and the table as given runs
+pub given-place : (s : List ℕ) (p b M K : ℕ) → quoted s p b M ≡ Given K → filledOut s K ≡ s
+given-place s p b M K e = in-place s K (given-small s p b M K e)
 
 pub begin-given : (s : List ℕ) (p b M K : ℕ) → quoted s p b M ≡ Given K → begin s p K ≡ record { answer = started; run = startRun s p K }
 unfolding begin
-begin-given s p b M K e = rw (given-found s p b M K e, given-in-place s p b M K e)
+begin-given s p b M K e = rw (given-found s p b M K e, given-place s p b M K e)
 
 given-filling : (s : List ℕ) (p b M K : ℕ) → quoted s p b M ≡ Given K → beginFilling s p K .found ≡ Nothing
 unfolding beginFilling
@@ -98,8 +98,7 @@ quota-serves s p b M K e =
     let begun = begin-given s p b M K e in (
       begun,
       λ calls.
-          let l = subst (λ (u : List ℕ). MemoryLimit (tableOf u) p K b (afterCalls calls (startRun s p K)) (rowOfCalls calls (startRun s p K))) (given-in-place s p b M K e)
-          (memory-limit s p K (startRun s p K) begun b (g .0 .some-gap) calls) in
+          let l : MemoryLimit (tableOf s) p K b (afterCalls calls (startRun s p K)) (rowOfCalls calls (startRun s p K)) = rw (given-place s p b M K e) at (memory-limit s p K (startRun s p K) begun b (g .0 .some-gap) calls) in
           let fronts : (front rest : List ℕ) → rowOfCalls calls (startRun s p K) ≡ front ++ rest → Keeps b front → (memoryOf (tableOf s) K front ≤ M) × (peakMemory (tableOf s) K front ≤ M) =
           λ front rest d k. let w = l .bounded front rest d k in (omega (arith, w .0, g .1 .serves), omega (arith, w .1, g .1 .serves)) in
           record {
@@ -156,7 +155,7 @@ pub lent-code-quota-serves : {s : List ℕ} {p b M K : ℕ} → quoted s p b M �
 lent-code-quota-serves {s} {p} {b} {M} {K} e {out} {filled} {a} h =
     let q = quota-serves s p b M K e in
     let n : a .number ≡ 0 = ap (λ (z : Left). z .number) (from-c.begin-is h) ∙ lent-begin-given s p b M K e (length out) in
-    let i : tableThatRuns s a filled ≡ s = runs-so h n ∙ given-in-place s p b M K e in
+    let i : tableThatRuns s a filled ≡ s = runs-so h n ∙ given-place s p b M K e in
     record {
       accepted = n;
       in-place = i;

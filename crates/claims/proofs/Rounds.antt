@@ -28,7 +28,7 @@ use Rattle.claims.proofs.ByValue as by-value
 use Rattle.claims.proofs.LentSays as from-c
 use Rattle.claims.proofs.LentLimit.{begun-record}
 use Rattle.claims.proofs.FromC.{none, next, by-rounds, runs-so, begun-code-refines}
-use Rattle.claims.proofs.Board.{given-in-place, begin-given, lent-begin-given, quota-serves}
+use Rattle.claims.proofs.Board.{given-place, begin-given, lent-begin-given, quota-serves}
 
 -- ---- the limits
 
@@ -106,7 +106,7 @@ pub record LentRoundsServed (s : List ℕ) (M : ℕ) (a : Answer) : Type 0 where
 pub lent-code-quota-serves-rounds : {s : List ℕ} {p M K : ℕ} → quoted s p 1 M ≡ Given K → {out filled : List ℕ} {a : Answer} → from-c.BeginSays s p K out a filled → LentRoundsServed s M a
 lent-code-quota-serves-rounds {s} {p} {M} {K} e {out} {filled} {a} h =
     let n : a .number ≡ 0 = ap (λ (x : Answer). x .number) (from-c.begin-is h) ∙ lent-begin-given s p 1 M K e (length out) in
-    let i : tableThatRuns s a filled ≡ s = runs-so h n ∙ given-in-place s p 1 M K e in
+    let i : tableThatRuns s a filled ≡ s = runs-so h n ∙ given-place s p 1 M K e in
     record {
       accepted = n;
       within = λ {turns} {d} k.
