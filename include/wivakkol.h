@@ -7,11 +7,14 @@
  * that this header says the same as that source is not proved, but tested (tests/board.py).
  *
  * A call returns a number: 0, or the number of the check that refuses (docs/REFERENCE.md, "Refusals"). Into the row it puts the place of the refusal, 0 where there is none, and then its
- * values, all 0 where it refuses but for the turns taken by a run. Every entry of the row is written on every call, whatever was there before.
+ * values, all 0 where it refuses but for the turns taken by a run and, with 61, the bytes that wivakkol_begin lacks room for. Every entry of the row is written on every call, whatever was
+ * there before.
  *
  * What C must keep to, as the proofs take it for granted:
  * - `table` points to `length` bytes that may be read, all of them written before. It is never NULL, not even with a length of 0. `order` likewise points to `turns` bytes.
  * - `row` points to an array of the full size named below, aligned as a uint64_t is. It is never NULL.
+ * - `filled` points to `room` bytes that may be written, all of them written before, whatever they hold. It is never NULL, not even with a room of 0, and overlaps nothing else that the call
+ *   is given.
  * - The row overlaps neither the table nor the order, and nobody else writes to these two or touches the row before the call returns.
  * - A run, working memory and a line that a call takes are never NULL; what else is asked of them stands below.
  * - There is stack enough: docs/C-AND-RUST.md has what was measured.
@@ -44,13 +47,14 @@ extern "C" {
 #define WIVAKKOL_REFUSED_NEVER_FORKED 11 /* a thread other than 0 that nothing forks */
 #define WIVAKKOL_REFUSED_WORKERS 20      /* p is not 1 to 16 */
 #define WIVAKKOL_REFUSED_QUOTA 21        /* K is not 1 to 16,777,215 */
-#define WIVAKKOL_REFUSED_ALLOC 22        /* an alloc is above K */
 #define WIVAKKOL_REFUSED_WORKER 30       /* the worker is not below p */
 #define WIVAKKOL_REFUSED_ENDED 31        /* the root has ended: the run is over */
 #define WIVAKKOL_REFUSED_RECORD 32       /* the record is neither sound nor blank; of a turn, see there */
 #define WIVAKKOL_REFUSED_BETWEEN 41      /* b is not 1 to 65,535 */
 #define WIVAKKOL_REFUSED_NO_QUOTA 42     /* no quota is small enough for the memory */
 #define WIVAKKOL_REFUSED_TURNS 43        /* more than 999,999 turns are taken */
+#define WIVAKKOL_REFUSED_FILLING 44      /* the filled-out table would pass 1,024 threads or 8,192 actions */
+#define WIVAKKOL_REFUSED_ROOM 61         /* the buffer lent for the filled-out table is too small */
 
 /* The longest table that is accepted: 1,024 threads and 8,192 actions. A longer input may be handed over, and is refused. */
 #define WIVAKKOL_TABLE_MOST 36868
@@ -158,7 +162,8 @@ typedef struct wivakkol_run {
 /* Besides what is said above, C must keep to this for a run:
  * - Before any other call than wivakkol_begin all of its memory has been written. wivakkol_begin writes all of it, whatever was there, also where it refuses.
  * - It is aligned as a wivakkol_run is, and overlaps nothing else that the call is given.
- * - Every call on it is given the same table, unchanged: the run keeps none of its bytes. With another one a turn still answers as defined, but it is no turn of this run.
+ * - Every call on it but wivakkol_begin is given the table that runs, unchanged: the run keeps none of its bytes. With another one a turn still answers as defined, but it is no turn of this
+ *   run.
  * - There is one call at a time on it, and nobody else touches it before the call returns. */
 
 /* Working memory of wivakkol_begin, wivakkol_open and wivakkol_chart, which C lends; it keeps nothing from one call to the next. wivakkol_begin uses `rises` and `falls` alone. What a call
@@ -174,8 +179,11 @@ typedef struct wivakkol_work {
     uint16_t list[WIVAKKOL_MOST_THREADS];
 } wivakkol_work;
 
-/* The rows of wivakkol_begin and wivakkol_open have the place alone. */
-#define WIVAKKOL_BEGIN_ROW 1
+/* The row of wivakkol_begin. */
+#define WIVAKKOL_FILLED 1 /* the bytes of the filled-out table, which then stands in `filled`; 0 where the table as given runs, and `filled` is as it was */
+#define WIVAKKOL_BEGIN_ROW 2
+
+/* The row of wivakkol_open has the place alone. */
 #define WIVAKKOL_OPEN_ROW 1
 
 /* The row of wivakkol_turn. */
@@ -214,7 +222,8 @@ typedef struct wivakkol_work {
 uint32_t wivakkol_begin_on(const uint8_t *table, size_t length, uint32_t p, uint32_t quota, uint32_t settings[2], uint16_t parents[1024],
                            uint16_t next[1024], uint8_t status[1024], uint64_t amounts[1024], uint16_t left[1024], uint16_t right[1024],
                            uint16_t under[1024], uint16_t over[1024], uint8_t holds[16], uint16_t threads[16], uint32_t quotas[16],
-                           uint16_t heads[3], uint64_t totals[3], uint64_t row[WIVAKKOL_BEGIN_ROW], uint64_t rises[1024], uint64_t falls[1024]);
+                           uint16_t heads[3], uint64_t totals[3], uint64_t row[WIVAKKOL_BEGIN_ROW], uint64_t rises[1024], uint64_t falls[1024],
+                           uint8_t *filled, size_t room);
 uint32_t wivakkol_open_on(const uint8_t *table, size_t length, const uint32_t settings[2], uint16_t parents[1024], const uint16_t next[1024],
                           const uint8_t status[1024], const uint64_t amounts[1024], const uint16_t left[1024], const uint16_t right[1024],
                           uint16_t under[1024], uint16_t over[1024], const uint8_t holds[16], const uint16_t threads[16],
@@ -236,16 +245,21 @@ uint32_t wivakkol_chart_on(const uint8_t *table, size_t length, const uint32_t s
                            uint8_t line[WIVAKKOL_LINE], uint64_t rises[1024], uint64_t falls[1024], uint16_t forks[1024], uint16_t seen[1024],
                            uint16_t list[1024]);
 
-/* Begins a run of p workers with quota K. Returns 0, or the first check that refuses: 1 to 11, the table's own; 20, p is not 1 to 16; 21, K is not 1 to 16,777,215; 22, an alloc is above
- * K. Where it refuses, the memory is all 0, and every turn on it is refused with 30. */
+/* Begins a run of p workers with quota K. Where an alloc of the table is above K, it is the filled-out table that runs (docs/REFERENCE.md, "Allocs above K"): it is put at the start of
+ * `filled`, the row says how many bytes it has, and every other call on the run is given these bytes for its table. Where none is, the table as given runs, `room` is not looked at, and nothing
+ * is written to `filled`; so it is with a K from wivakkol_quota.
+ *
+ * Returns 0, or the first check that refuses: 1 to 11, the table's own; 20, p is not 1 to 16; 21, K is not 1 to 16,777,215; 44, the filled-out table would pass 1,024 threads or 8,192 actions;
+ * 61, it has more bytes than `room`, and the row then says how many. With a room of WIVAKKOL_TABLE_MOST bytes 61 never comes. Where it refuses, `filled` is as it was, the memory is all 0, and
+ * every turn on it is refused with 30. */
 static inline uint32_t wivakkol_begin(wivakkol_run *run, wivakkol_work *work, const uint8_t *table, size_t length, uint32_t p, uint32_t quota,
-                                      uint64_t row[WIVAKKOL_BEGIN_ROW])
+                                      uint8_t *filled, size_t room, uint64_t row[WIVAKKOL_BEGIN_ROW])
 {
     return wivakkol_begin_on(table, length, p, quota, run->numbers + WIVAKKOL_AT_P, run->words + WIVAKKOL_AT_PARENTS, run->words + WIVAKKOL_AT_NEXT,
                              run->bytes + WIVAKKOL_AT_STATUS, run->sums + WIVAKKOL_AT_AMOUNTS, run->words + WIVAKKOL_AT_LEFT, run->words + WIVAKKOL_AT_RIGHT,
                              run->words + WIVAKKOL_AT_UNDER, run->words + WIVAKKOL_AT_OVER, run->bytes + WIVAKKOL_AT_HOLDS,
                              run->words + WIVAKKOL_AT_WORKER_THREADS, run->numbers + WIVAKKOL_AT_QUOTAS, run->words + WIVAKKOL_AT_LEFTMOST,
-                             run->sums + WIVAKKOL_AT_HELD, row, work->rises, work->falls);
+                             run->sums + WIVAKKOL_AT_HELD, row, work->rises, work->falls, filled, room);
 }
 
 /* Opens a run that was put away and brought back, or whose memory someone else has written. Returns 0, or 32: the memory has neither a sound record of this table nor the blank one, all 0,

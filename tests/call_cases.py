@@ -208,6 +208,17 @@ CASES = [
     ('a chart where the root ends', (1, 1, least), [put('turns', 999998), charted(0, 0), put('turns', 999999), charted(0), turn(0), charted(0), put('turns', 999999), charted(9)],
      ['changed', rows(row(999998, '   .', 0), row(999999, '   .', 0)), 'changed', rows(row(999999, '   .', 0), 'refused 43 0'), 'done 0 0', rows('refused 43 0'), 'changed',
       rows(row(999999, '   .', 0))]),
+    ('allocs above K draw nothing', (1, 4, table([alloc(2), alloc(4), alloc(1), alloc(1), end])), [put('quota', 3)] + [shown(0), turn(0)] * 6,
+     ['changed', 'would done 0 0 passed 0 held 2 highest 2 quota 1', 'done 0 0', 'would done 0 1 passed 0 held 6 highest 6 quota 1', 'done 0 1',
+      'would done 0 2 passed 0 held 7 highest 7 quota 0', 'done 0 2', 'would quota 0 1 passed 0 held 7 highest 7 quota 0', 'quota 0 1',
+      'would done 0 3 passed 0 held 8 highest 8 quota 2', 'done 0 3', 'would done 0 4 passed 0 held 8 highest 8 quota 0', 'done 0 4']),
+    ('E filled out, K 5', (2, 5, E), [shown(0), turn(0), order(*[1, 0] * 7), shown(1), turn(1), turn(0), shown(0), turn(0), rounds(99)],
+     ['would done 0 0 passed 0 held 0 highest 0 quota 0', 'done 0 0', 'spent 14', 'would done 2 11 passed 1 held 0 highest 0 quota 0', 'done 2 11 passed 1', 'done 1 7',
+      'would done 1 8 passed 0 held 6 highest 6 quota 5', 'done 1 8', 'finished 26']),
+    ('a record\'s table is not filled out, nor 44 tested', (1, 513, table([alloc(513), end])), [put('quota', 1), order(), shown(0), turn(0), turn(0), order()],
+     ['changed', 'spent 0', 'would done 0 0 passed 0 held 513 highest 513 quota 1', 'done 0 0', 'done 0 1', 'finished 0']),
+    ('44', (1, 1, table([alloc(513), end])), [turn(0), order(), rounds(0), lined()], ['refused 30 0', 'spent 0', 'refused 0 30 0', row(0, '', 0)]),
+    ('1,024 threads filled out', (1, 1, table([alloc(512), free(512), end])), [rounds(2), order(), rounds(9999), order()], ['spent 2', 'spent 0', 'finished 3582', 'finished 0']),
     ('L 0', (2, 6, E), [rounds(0), order(), rounds(99)], ['spent 0', 'spent 0', 'finished 14']),
     ('worker 255', (16, 6, E), [turn(255), order(0, 255, 0), turn(16), order(15)], ['refused 30 0', 'refused 1 30 0', 'refused 30 0', 'spent 1']),
     ('K above its range', (2, LARGEST + 1, E), [turn(0)], ['refused 30 0']),
@@ -230,7 +241,6 @@ CASES = [
     unsound('p below a worker that holds', put('p', 2)),
     unsound('K 0', put('quota', 0)),
     unsound('K out of range', put('quota', LARGEST + 1)),
-    unsound('an alloc above K', put('quota', 5)),
     unsound('a next action in another body', put('next', 9, 1)),
     unsound('a next action before its body', put('next', 8, 2)),
     unsound('a next action past all bodies', put('next', 65535, 0)),
@@ -373,6 +383,7 @@ CASES = [
     as_sound('that thread held', 0, 'wait 0 2', 'finished 13', put('status', HELD, 0), put('holds', 1, 0, True), put('busy', 7)),
     as_sound('a larger highest', 1, 'done 1 6', 'finished 13', put('highest', LAST_TURN)),
     as_sound('another quota left', 1, 'done 1 6', 'finished 13', put('quota', 6, 1, True)),
+    as_sound('an alloc above K', 1, 'done 1 6', 'finished 13', put('quota', 5)),
     as_sound('a larger K', 1, 'done 1 6', 'finished 13', put('quota', LARGEST)),
     as_sound('a larger p', 1, 'done 1 6', 'finished 52', put('p', 16)),
     ('sound: turns at 2^64 - 2', (3, 6, E), [FIVE, *NEARLY_LAST, turn(99), order(), turn(1)], ['spent 5', 'changed', 'refused 30 0', 'spent 0', 'done 1 6']),
@@ -408,7 +419,7 @@ def random_case(rng):
     """A run, some turns, a change or two, and a call of each sort."""
     threads = rng.randint(1, 6)
     data = drawn(rng, threads, rng.randint(threads, 4 * threads), [3, 9])
-    p, quota = rng.randint(1, 4), rng.randint(9, 14)
+    p, quota = rng.randint(1, 4), rng.choice([rng.randint(9, 14), rng.randint(2, 8)])
     run = machine.begin(data, p, quota)[1]
     calls = [order(*(rng.randrange(p) for _ in range(rng.randint(1, 40))))]
     run = called(run, calls[0])[1]

@@ -9,6 +9,7 @@ A refusal is ('refused', number, place). A turn's reply is ('idle',), ('done', t
 """
 import copy
 
+from filling import filled, too_large
 from reference import END, ALLOC, FREE, FORK, JOIN, Table, check, line, owners, serial_order, word
 
 UNBORN, READY, HELD, WAITING, ENDED = range(5)
@@ -115,27 +116,32 @@ def described(threads):
 
 # Beginning
 
-def begin_fault(table, p, quota):
+def settings_fault(p, quota):
     if not 1 <= p <= WORKERS:
         return 20, 0
     if not 1 <= quota <= LARGEST:
         return 21, 0
-    for a, (kind, x) in enumerate(table.actions):
-        if kind == ALLOC and x > quota:
-            return 22, a
     return None
 
 
-def begin(data, p, quota):
-    """The answer, 'begun' or a refusal, and the record: the blank one where it is refused."""
+def begin_fault(data, p, quota):
+    """The first check that refuses, and its place, or None: the table's own, 20, 21 and 44."""
     answer = check(data)
     if answer[0] == 'refused':
-        return answer, Run()
-    table = Table(data)
-    fault = begin_fault(table, p, quota)
+        return answer[1:]
+    if settings_fault(p, quota):
+        return settings_fault(p, quota)
+    place = too_large(data, quota)
+    return None if place is None else (44, place)
+
+
+def begin(data, p, quota):
+    """The answer, 'begun' or a refusal, and the record: of the filled-out table, or the blank one where it is refused."""
+    fault = begin_fault(data, p, quota)
     if fault:
         return ('refused', *fault), Run()
-    run = Run()
+    data = filled(data, quota)
+    table, run = Table(data), Run()
     run.table, run.length = data + bytes(BYTES - len(data)), len(data)
     run.p, run.quota = p, quota
     for t, (first, _) in enumerate(table.contents):
@@ -280,8 +286,8 @@ def broken(run):
     if check(run.table[:run.length])[0] == 'refused':
         return ['table']
     v = View(run)
-    if begin_fault(v.table, run.p, run.quota):
-        return ['beginning']
+    if settings_fault(run.p, run.quota):
+        return ['settings']
     if not next_in_body(v):
         return ['next_in_body']
     return [clause.__name__ for clause in CLAUSES if not clause(v)]
@@ -324,14 +330,15 @@ class Machine:
         t = worker.thread
         a = run.next[t]
         kind, x = self.table.actions[a]
-        if kind == ALLOC and x > worker.quota:
+        share = x if x <= run.quota else 0
+        if kind == ALLOC and share > worker.quota:
             self.release(w, READY)
             return 'quota', t, x
         if kind == JOIN and run.status[x] != ENDED:
             self.release(w, WAITING)
             return 'wait', t, x
         if kind == ALLOC:
-            worker.quota -= x
+            worker.quota -= share
             run.held += x
             run.amounts[t] += x
         elif kind == FREE:
@@ -460,7 +467,7 @@ def turnlist(data):
     answer, run = begin(table, data[0], int.from_bytes(data[1:4], 'little'))
     if answer != 'begun':
         return refused(*answer[1:])
-    lines = [line(check(table))]
+    lines = [line(check(run.table[:run.length]))]
 
     def seen(count, w, reply, machine):
         run = machine.run

@@ -26,19 +26,19 @@ use Rattle.array_machine.proofs.Local.{partOf, putBack, goes-local}
 use Rattle.array_machine.proofs.Seats.{run, laws, known, fits, worker-few, holds}
 
 -- what an action of kind k with argument x leaves: the state that the machine's leaves, over whatever list, and both links as the kind moves them
-pub record ActedBy (k : Kind) (T : Table) (x : ℕ) (A : Arrays) (totals : Totals) (worker : Worker) (o : Outcome) : Type 0 where
+pub record ActedBy (k : Kind) (T : Table) (K x : ℕ) (A : Arrays) (totals : Totals) (worker : Worker) (o : Outcome) : Type 0 where
   pub fits : o .fits ≡ true
   pub state : (list : List ℕ)
-      → stepped (o .reply) (stateOver (o .arrays) (actBy k T 0 (worker .thread) (actionIn A (worker .thread)) x (stateOver A list totals worker) .state .list) (o .totals) (o .worker))
-      ≡ actBy k T 0 (worker .thread) (actionIn A (worker .thread)) x (stateOver A list totals worker)
+      → stepped (o .reply) (stateOver (o .arrays) (actBy k T K 0 (worker .thread) (actionIn A (worker .thread)) x (stateOver A list totals worker) .state .list) (o .totals) (o .worker))
+      ≡ actBy k T K 0 (worker .thread) (actionIn A (worker .thread)) x (stateOver A list totals worker)
   pub list-links : linksOf (o .arrays) (o .totals) ≡ linksBy k (worker .thread) x (linksOf A totals)
   pub second-links : (list : List ℕ) → secondOf (o .arrays) (o .totals) ≡ activesBy k T (worker .thread) x (stateOver A list totals worker) (secondOf A totals)
 
 -- what the worker's action leaves
-abbrev pub Acted : Table → Arrays → Totals → Worker → Outcome → Type 0
-Acted T A totals worker o =
+abbrev pub Acted : Table → ℕ → Arrays → Totals → Worker → Outcome → Type 0
+Acted T K A totals worker o =
     let a : ℕ = actionIn A (worker .thread) in
-    ActedBy (kind T a) T (T .argument a) A totals worker o
+    ActedBy (kind T a) T K (T .argument a) A totals worker o
 
 -- equal links describe the same lists
 pub linked-as : (k k' : Links) (l : List ℕ) → k ≡ k' → LinkedAs k' l → LinkedAs k l
@@ -72,12 +72,12 @@ module _ {s : List ℕ} {n K : ℕ} {A : Arrays} {totals : Totals} {worker : Wor
 
   -- ---- an action
 
-  module _ (h : worker .holds ≡ true) {o : Outcome} (a : Acted (tableOf s) A totals worker o) where
+  module _ (h : worker .holds ≡ true) {o : Outcome} (a : Acted (tableOf s) K A totals worker o) where
     abbrev whole : State
     whole = stateOf (run q)
 
     abbrev after : Stepped
-    after = act (tableOf s) 0 (stateIn A totals worker)
+    after = act (tableOf s) K 0 (stateIn A totals worker)
 
     abbrev kind-here : Kind
     kind-here = kind (tableOf s) (actionIn A (worker .thread))
@@ -89,16 +89,16 @@ module _ {s : List ℕ} {n K : ℕ} {A : Arrays} {totals : Totals} {worker : Wor
     part-is = ap (λ (x : Worker). stateIn A totals x) (q .own)
 
     -- the machine's action on the whole state
-    whole-after : act (tableOf s) (q .w) whole ≡ putBack (q .w) whole after
-    whole-after = goes-local (tableOf s) (q .w) whole ∙ ap (λ (x : State). putBack (q .w) whole (act (tableOf s) 0 x)) part-is
+    whole-after : act (tableOf s) K (q .w) whole ≡ putBack (q .w) whole after
+    whole-after = goes-local (tableOf s) K (q .w) whole ∙ ap (λ (x : State). putBack (q .w) whole (act (tableOf s) K 0 x)) part-is
 
-    same-list : act (tableOf s) (q .w) whole .state .list ≡ after .state .list
+    same-list : act (tableOf s) K (q .w) whole .state .list ≡ after .state .list
     same-list = ap (λ (x : Stepped). x .state .list) whole-after
 
-    same-status : act (tableOf s) (q .w) whole .state .status ≡ after .state .status
+    same-status : act (tableOf s) K (q .w) whole .state .status ≡ after .state .status
     same-status = ap (λ (x : Stepped). x .state .status) whole-after
 
-    facts-after : Facts (tableOf s) (q .p) K (act (tableOf s) (q .w) whole .state)
+    facts-after : Facts (tableOf s) (q .p) K (act (tableOf s) K (q .w) whole .state)
     facts-after = act-facts (tableOf s) (laws q) (q .p) K (fits q .few-workers) (q .w) (q .below) whole (known q) (holds q h)
 
     once-after : Once (after .state .list)

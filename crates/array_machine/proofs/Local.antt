@@ -8,7 +8,7 @@ use lib.Seq.{getD-set-same, set-getD, set-set}
 use lib.Dec.{leb, eqb}
 use Rattle.table.specs.Format.{Kind, end, work, alloc, free, fork, join, unknown, Table, kind}
 use Rattle.schedule.specs.declared.Worker.{Worker}
-use Rattle.schedule.specs.Machine.{State, Stepped, stepped, withList, released, held, ended, nextOf, statusOf, workerOf, nobody, counted}
+use Rattle.schedule.specs.Machine.{State, Stepped, drawn, stepped, withList, released, held, ended, nextOf, statusOf, workerOf, nobody, counted}
 use Rattle.schedule.specs.Machine.{without, waitsFor, parentOf, woken, actBy, act, leftmost, taken, turnFree, turnOf}
 use Rattle.array_machine.proofs.Parts.{turnBody}
 
@@ -37,31 +37,31 @@ putBack w st s =
 same-workers : (w : ℕ) (st : State) → set (st .workers) w (workerOf st w) ≡ st .workers
 same-workers w st = set-getD (st .workers) w nobody
 
-module _ (T : Table) (w : ℕ) (st : State) where
-  act-local : (k : Kind) (t a x : ℕ) → actBy k T w t a x st ≡ putBack w st (actBy k T 0 t a x (partOf w st))
+module _ (T : Table) (K w : ℕ) (st : State) where
+  act-local : (k : Kind) (t a x : ℕ) → actBy k T K w t a x st ≡ putBack w st (actBy k T K 0 t a x (partOf w st))
   unfolding actBy woken waitsFor
   act-local end t a x = go (waitsFor T (withList (without t (st .list)) (released w t ended st)) (parentOf T t) t) refl
     where
       go : (q : Bool) → waitsFor T (withList (without t (st .list)) (released w t ended st)) (parentOf T t) t ≡ q
-          → actBy end T w t a x st ≡ putBack w st (actBy end T 0 t a x (partOf w st))
+          → actBy end T K w t a x st ≡ putBack w st (actBy end T K 0 t a x (partOf w st))
       go true e = rw e refl
       go false e = rw e refl
   act-local work t a x = rw (same-workers w st)
-  act-local alloc t a x = go (leb x (workerOf st w .quota)) refl
+  act-local alloc t a x = go (leb (drawn K x) (workerOf st w .quota)) refl
     where
-      go : (q : Bool) → leb x (workerOf st w .quota) ≡ q → actBy alloc T w t a x st ≡ putBack w st (actBy alloc T 0 t a x (partOf w st))
+      go : (q : Bool) → leb (drawn K x) (workerOf st w .quota) ≡ q → actBy alloc T K w t a x st ≡ putBack w st (actBy alloc T K 0 t a x (partOf w st))
       go true e = rw e refl
       go false e = rw e refl
   act-local free t a x = rw (same-workers w st)
   act-local fork t a x = refl
   act-local join t a x = go (eqb (statusOf st x) ended) refl
     where
-      go : (q : Bool) → eqb (statusOf st x) ended ≡ q → actBy join T w t a x st ≡ putBack w st (actBy join T 0 t a x (partOf w st))
+      go : (q : Bool) → eqb (statusOf st x) ended ≡ q → actBy join T K w t a x st ≡ putBack w st (actBy join T K 0 t a x (partOf w st))
       go true e = rw (e, same-workers w st)
       go false e = rw e refl
   act-local unknown t a x = rw (same-workers w st)
 
-  pub goes-local : act T w st ≡ putBack w st (act T 0 (partOf w st))
+  pub goes-local : act T K w st ≡ putBack w st (act T K 0 (partOf w st))
   unfolding act
   goes-local =
       let t : ℕ = workerOf st w .thread in
@@ -70,12 +70,12 @@ module _ (T : Table) (w : ℕ) (st : State) where
 
 module _ (T : Table) (K w : ℕ) (st : State) (h : w < length (st .workers)) where
   -- taking a thread is local too
-  taken-local : (t : ℕ) → act T w (taken K w t st) ≡ putBack w st (act T 0 (taken K 0 t (partOf w st)))
+  taken-local : (t : ℕ) → act T K w (taken K w t st) ≡ putBack w st (act T K 0 (taken K 0 t (partOf w st)))
   unfolding taken
   taken-local t =
       let v : Worker = record { holds = true; thread = t; quota = K } in
       let e : getD (set (st .workers) w v) w nobody ≡ v = getD-set-same (st .workers) w v nobody h in
-      goes-local T w (taken K w t st) ∙ rw (e, set-set (st .workers) w v)
+      goes-local T K w (taken K w t st) ∙ rw (e, set-set (st .workers) w v)
 
   free-local : turnFree T K w st ≡ putBack w st (turnFree T K 0 (partOf w st))
   unfolding turnFree
@@ -90,7 +90,7 @@ module _ (T : Table) (K w : ℕ) (st : State) (h : w < length (st .workers)) whe
   body-local = go (workerOf st w .holds) refl
     where
       go : (q : Bool) → workerOf st w .holds ≡ q → turnBody T K w st ≡ putBack w st (turnBody T K 0 (partOf w st))
-      go true e = rw e (goes-local T w st)
+      go true e = rw e (goes-local T K w st)
       go false e = rw e free-local
 
   pub turn-local : turnOf T K w st ≡ (let b : Stepped = putBack w st (turnBody T K 0 (partOf w st)) in stepped (b .reply) (counted (b .state)))

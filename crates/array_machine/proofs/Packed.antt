@@ -72,7 +72,7 @@ module _ {run : Run} {parents : List ℕ} {A : Arrays} {workers : List Worker} {
         p = run .workers;
         w = w;
         below = b;
-        beginning = v .steady .beginning;
+        settings = v .steady .settings;
         state = stateOf here;
         sound = v .steady .state;
         same-next = refl;

@@ -11,7 +11,7 @@ use Rattle.schedule.specs.declared.Worker.{Worker}
 use Rattle.schedule.specs.Machine.{State, Stepped, stepped, workerOf, act, turnFree}
 use Rattle.schedule.specs.Links.{laid, LinkedAs}
 use Rattle.schedule.specs.Actives.{actives}
-use Rattle.schedule.specs.Begin.{beginPasses}
+use Rattle.schedule.specs.Begin.{settingPasses}
 use Rattle.schedule.specs.Sound.{SoundState}
 use Rattle.array_machine.specs.declared.Totals.{Totals}
 use Rattle.array_machine.specs.Arrays.{Arrays, linksOf, secondOf, listedIn}
@@ -39,7 +39,7 @@ stateIn A totals worker = stateOver A (listedIn A totals) totals worker
 
 -- a turn before it is counted
 unfoldable pub turnBody : Table → ℕ → ℕ → State → Stepped
-turnBody T K w st = pick (workerOf st w .holds) (act T w st) (turnFree T K w st)
+turnBody T K w st = pick (workerOf st w .holds) (act T K w st) (turnFree T K w st)
 
 -- ---- of a sound run
 
@@ -60,7 +60,7 @@ pub record Sits (s : List ℕ) (n K : ℕ) (A : Arrays) (totals : Totals) (worke
   pub p : ℕ
   pub w : ℕ
   pub below : w < p
-  pub beginning : firstFound (beginPasses (tableOf s) p K) ≡ Nothing
+  pub settings : firstFound (settingPasses p K) ≡ Nothing
   pub state : State
   pub sound : SoundState (tableOf s) p K state
   pub same-next : state .next ≡ A .next

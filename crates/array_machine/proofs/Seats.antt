@@ -7,10 +7,10 @@ use native.Mathlib.Omega.{arith}
 use borrow.Author.Tests.{lt-ltb}
 use lib.ListN.{length, getD, set}
 use lib.Seq.{getD-set-same}
-use Rattle.table.specs.Format.{alloc, free, fork, join, codeOf, is, kind, threadsOf, actionsOf, tableOf}
-use Rattle.table.specs.Checks.{allocOf}
+use Rattle.table.specs.Format.{free, fork, join, kind, threadsOf, actionsOf, tableOf}
 use Rattle.table.proofs.Sizes.{Sizes, sizes}
 use Rattle.table.proofs.Bodies.{fork-below, join-below}
+use Rattle.table.proofs.ReadBack.{argument-short}
 use Rattle.schedule.specs.declared.Worker.{Worker}
 use Rattle.schedule.specs.declared.Run.{Run}
 use Rattle.schedule.specs.Machine.{State, ready, held, nobody, workerOf, taken}
@@ -23,7 +23,7 @@ use Rattle.order.proofs.Lists.{filled-front}
 use Rattle.schedule.proofs.Sound.Done.{next-below}
 use Rattle.schedule.proofs.Preservation.Moves.{taken-facts}
 use Rattle.schedule.proofs.Sound.Shares.{free-held}
-use Rattle.schedule.proofs.Stores.{Fits, begin-fits}
+use Rattle.schedule.proofs.Stores.{Fits, setting-fits}
 use Rattle.schedule.proofs.ThreadMemory.{amount-held, free-amount}
 use Rattle.schedule.proofs.Soundness.{held-fits}
 use Rattle.schedule.proofs.Linked.LinkMoves.{take-actives}
@@ -69,7 +69,7 @@ module _ {s : List ℕ} {n K : ℕ} {A : Arrays} {totals : Totals} {worker : Wor
   steady =
       record {
         table = rw bytes (q .rules);
-        beginning = rw bytes (q .beginning);
+        settings = q .settings;
         state = rw bytes sound-part;
         set = refl;
         table-length = rw bytes;
@@ -83,8 +83,8 @@ module _ {s : List ℕ} {n K : ℕ} {A : Arrays} {totals : Totals} {worker : Wor
   pub known : Facts (tableOf s) (q .p) K (stateOf run)
   known = facts (tableOf s) laws (q .p) K (stateOf run) sound-part
 
-  pub fits : Fits (tableOf s) (q .p) K
-  fits = begin-fits (tableOf s) (q .p) K (q .beginning)
+  pub fits : Fits (q .p) K
+  fits = setting-fits (q .p) K (q .settings)
 
   pub few-threads : tableOf s .threads ≤ 1024
   few-threads = laws .few-threads
@@ -124,18 +124,15 @@ module _ {s : List ℕ} {n K : ℕ} {A : Arrays} {totals : Totals} {worker : Wor
     next-is-below : actionIn A (worker .thread) < tableOf s .actions
     next-is-below = next-below (tableOf s) laws (q .p) K (stateOf run) known (worker .thread) thread-below
 
-    pub alloc-room : kind (tableOf s) (actionIn A (worker .thread)) ≡ alloc → totals .held + tableOf s .argument (actionIn A (worker .thread)) < 2 ^ 64
-    unfolding allocOf is codeOf
-    alloc-room k =
-        let w : tableOf s .argument (actionIn A (worker .thread)) ≤ K = rw k at (fits .within (actionIn A (worker .thread)) next-is-below) in
-        omega (arith, held-fits run steady)
+    pub alloc-room : totals .held + tableOf s .argument (actionIn A (worker .thread)) < 2 ^ 64
+    alloc-room = omega (arith, argument-short s (actionIn A (worker .thread)), held-fits run steady)
 
     -- no thread holds more than is held
     pub amount-room : (t : ℕ) → getD (A .amounts) t 0 ≤ totals .held
     amount-room = amount-held (tableOf s) laws (q .p) K (stateOf run) known
 
-    pub own-room : kind (tableOf s) (actionIn A (worker .thread)) ≡ alloc → getD (A .amounts) (worker .thread) 0 + tableOf s .argument (actionIn A (worker .thread)) < 2 ^ 64
-    own-room k = omega (arith, alloc-room k, amount-room (worker .thread))
+    pub own-room : getD (A .amounts) (worker .thread) 0 + tableOf s .argument (actionIn A (worker .thread)) < 2 ^ 64
+    own-room = omega (arith, alloc-room, amount-room (worker .thread))
 
     pub child-room : (c : ℕ) → getD (A .amounts) (worker .thread) 0 + getD (A .amounts) c 0 < 2 ^ 64
     child-room c = omega (arith, amount-room (worker .thread), amount-room c, held-fits run steady)
@@ -164,7 +161,7 @@ module _ {s : List ℕ} {n K : ℕ} {A : Arrays} {totals : Totals} {worker : Wor
         p = q .p;
         w = q .w;
         below = q .below;
-        beginning = q .beginning;
+        settings = q .settings;
         state = taken K (q .w) t (stateOf run);
         sound =
             sound-facts (tableOf s) laws (q .p) K (taken K (q .w) t (stateOf run))

@@ -11,7 +11,7 @@ use Rattle.table.specs.Sum.{pick}
 use Rattle.table.specs.Format.{Kind, end, work, alloc, free, fork, join, unknown, Table, kind, tableOf}
 use Rattle.schedule.specs.declared.Worker.{Worker}
 use Rattle.schedule.specs.declared.Reply.the-variants.{Idle}
-use Rattle.schedule.specs.Machine.{State, held, ended, ready, leftmost, taken, turnFree, Stepped, stepped, parentOf, waitsFor, woken, withStatus, actBy, act}
+use Rattle.schedule.specs.Machine.{State, drawn, held, ended, ready, leftmost, taken, turnFree, Stepped, stepped, parentOf, waitsFor, woken, withStatus, actBy, act}
 use Rattle.schedule.specs.Links.{firstReady}
 use Rattle.schedule.specs.Code.LinkMoves.{linksBy, activesBy}
 use Rattle.schedule.specs.Parents.{Parents}
@@ -58,46 +58,46 @@ module _ {s : List ℕ} {n K : ℕ} {A : Arrays} {totals : Totals} {worker : Wor
   x = T .argument a
 
   abbrev left-by : Kind → Outcome
-  left-by k = actOn k T parents t a x A totals worker
+  left-by k = actOn k T K parents t a x A totals worker
 
   parent-is : getD parents t 0 ≡ parentOf T t
   parent-is = p .right t (thread-below q h)
 
-  ends : ActedBy end T x A totals worker (left-by end)
+  ends : ActedBy end T K x A totals worker (left-by end)
   unfolding actOn actBy linksBy activesBy waitsFor waitsIn
   ends = record { fits = refl; state = λ list. rw (woken-status, parent-is); list-links = refl; second-links = λ list. rw parent-is }
 
-  works : ActedBy work T x A totals worker (left-by work)
+  works : ActedBy work T K x A totals worker (left-by work)
   unfolding actOn actBy linksBy activesBy
   works = rw (next-fits q h) (record { fits = refl; state = λ list. refl; list-links = refl; second-links = λ list. refl })
 
-  allocates : kind T a ≡ alloc → ActedBy alloc T x A totals worker (left-by alloc)
+  allocates : ActedBy alloc T K x A totals worker (left-by alloc)
   unfolding actOn actBy linksBy activesBy
-  allocates k = go (leb x (worker .quota)) refl
+  allocates = go (leb (drawn K x) (worker .quota)) refl
     where
-      go : (b : Bool) → leb x (worker .quota) ≡ b → ActedBy alloc T x A totals worker (left-by alloc)
+      go : (b : Bool) → leb (drawn K x) (worker .quota) ≡ b → ActedBy alloc T K x A totals worker (left-by alloc)
       go true e =
-          rw (e, next-fits q h, lt-ltb (totals .held + x) (2 ^ 64) (alloc-room q h k), lt-ltb (amountIn A t + x) (2 ^ 64) (own-room q h k))
+          rw (e, next-fits q h, lt-ltb (totals .held + x) (2 ^ 64) (alloc-room q h), lt-ltb (amountIn A t + x) (2 ^ 64) (own-room q h))
           (record { fits = refl; state = λ list. rw e; list-links = refl; second-links = λ list. refl })
       go false e = rw e (record { fits = refl; state = λ list. rw e; list-links = refl; second-links = λ list. refl })
 
-  frees : kind T a ≡ free → ActedBy free T x A totals worker (left-by free)
+  frees : kind T a ≡ free → ActedBy free T K x A totals worker (left-by free)
   unfolding actOn actBy linksBy activesBy
   frees k =
       rw (next-fits q h, le-leb x (totals .held) (free-room q h k), le-leb x (amountIn A t) (own-free q h k))
       (record { fits = refl; state = λ list. refl; list-links = refl; second-links = λ list. refl })
 
-  forks : kind T a ≡ fork → ActedBy fork T x A totals worker (left-by fork)
+  forks : kind T a ≡ fork → ActedBy fork T K x A totals worker (left-by fork)
   unfolding actOn actBy linksBy activesBy
   forks k =
       rw (next-fits q h, lt-ltb x 1024 (fork-child q h k))
       (record { fits = refl; state = λ list. refl; list-links = refl; second-links = λ list. refl })
 
-  joins : kind T a ≡ join → ActedBy join T x A totals worker (left-by join)
+  joins : kind T a ≡ join → ActedBy join T K x A totals worker (left-by join)
   unfolding actOn actBy linksBy activesBy
   joins k = go (eqb (getD (A .status) x 0) ended) refl
     where
-      go : (b : Bool) → eqb (getD (A .status) x 0) ended ≡ b → ActedBy join T x A totals worker (left-by join)
+      go : (b : Bool) → eqb (getD (A .status) x 0) ended ≡ b → ActedBy join T K x A totals worker (left-by join)
       go true e =
           rw (lt-ltb x 1024 (join-child q h k), e, next-fits q h, lt-ltb (amountIn A t + amountIn A x) (2 ^ 64) (child-room q h x))
           (record { fits = refl; state = λ list. rw e; list-links = refl; second-links = λ list. rw e })
@@ -105,20 +105,20 @@ module _ {s : List ℕ} {n K : ℕ} {A : Arrays} {totals : Totals} {worker : Wor
           rw (lt-ltb x 1024 (join-child q h k), e)
           (record { fits = refl; state = λ list. rw e; list-links = refl; second-links = λ list. rw e })
 
-  idles : ActedBy unknown T x A totals worker (left-by unknown)
+  idles : ActedBy unknown T K x A totals worker (left-by unknown)
   unfolding actOn actBy linksBy activesBy
   idles = record { fits = refl; state = λ list. refl; list-links = refl; second-links = λ list. refl }
 
-  by-kind : (k : Kind) → kind T a ≡ k → ActedBy k T x A totals worker (left-by k)
+  by-kind : (k : Kind) → kind T a ≡ k → ActedBy k T K x A totals worker (left-by k)
   by-kind end e = ends
   by-kind work e = works
-  by-kind alloc e = allocates e
+  by-kind alloc e = allocates
   by-kind free e = frees e
   by-kind fork e = forks e
   by-kind join e = joins e
   by-kind unknown e = idles
 
-  pub sound-acted : Acted T A totals worker (actIn T parents A totals worker)
+  pub sound-acted : Acted T K A totals worker (actIn T K parents A totals worker)
   unfolding actIn
   sound-acted = rw (lt-ltb t 1024 (thread-small q h)) (by-kind (kind T a) refl)
 
@@ -134,7 +134,7 @@ taken-of b o z e = rw e
 record Ready (s : List ℕ) (n K : ℕ) (A : Arrays) (totals : Totals) (worker : Worker) (y : Seat) : Type 0 where
   sits : y .worker .holds ≡ true → Sits s n K (withStatuses (y .status) A) totals (y .worker)
   same : y .worker .holds ≡ false → y ≡ seat (A .status) worker
-  body : pick (y .worker .holds) (act (tableOf s) 0 (stateIn (withStatuses (y .status) A) totals (y .worker))) (stepped Idle (stateIn (withStatuses (y .status) A) totals (y .worker)))
+  body : pick (y .worker .holds) (act (tableOf s) K 0 (stateIn (withStatuses (y .status) A) totals (y .worker))) (stepped Idle (stateIn (withStatuses (y .status) A) totals (y .worker)))
       ≡ turnBody (tableOf s) K 0 (stateIn A totals worker)
 
 module _ {s : List ℕ} {n K : ℕ} {A : Arrays} {totals : Totals} {worker : Worker} (q : Sits s n K A totals worker) where
@@ -182,7 +182,7 @@ module _ {s : List ℕ} {n K : ℕ} {A : Arrays} {totals : Totals} {worker : Wor
   module _ (parents : List ℕ) (p : Parents (tableOf s) parents) where
     -- the seat leaves the machine's turn, and all fits
     abbrev Leaves : Seat → Type 0
-    Leaves y = (stepFrom (tableOf s) parents A totals worker y .fits ≡ true) × Went (tableOf s) K A totals worker (stepFrom (tableOf s) parents A totals worker y)
+    Leaves y = (stepFrom (tableOf s) K parents A totals worker y .fits ≡ true) × Went (tableOf s) K A totals worker (stepFrom (tableOf s) K parents A totals worker y)
 
     idle-seat : worker .holds ≡ false → Ready s n K A totals worker (seat (A .status) worker) → Leaves (seat (A .status) worker)
     unfolding stepFrom
@@ -192,7 +192,7 @@ module _ {s : List ℕ} {n K : ℕ} {A : Arrays} {totals : Totals} {worker : Wor
     unfolding stepFrom
     from-seat y r true e =
         let there : Sits s n K (withStatuses (y .status) A) totals (y .worker) = r .sits e in
-        let acted : Acted (tableOf s) (withStatuses (y .status) A) totals (y .worker) (actIn (tableOf s) parents (withStatuses (y .status) A) totals (y .worker)) = sound-acted there e parents p in
+        let acted : Acted (tableOf s) K (withStatuses (y .status) A) totals (y .worker) (actIn (tableOf s) K parents (withStatuses (y .status) A) totals (y .worker)) = sound-acted there e parents p in
         subst (λ (o : Outcome). (o .fits ≡ true) × Went (tableOf s) K A totals worker o) (sym (first-of _ _ _ _ _ e (acted .fits)))
         (acted .fits, record { body = acted-body there e acted ∙ sym (taken-of _ _ _ e) ∙ r .body; chained = acted-chained there e acted })
     from-seat y r false e =

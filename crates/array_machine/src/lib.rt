@@ -1,5 +1,6 @@
 // The machine on arrays and links: its definitions and laws (specs/, proofs/), and the small functions that a turn and its preview (crates/run_memory) share.
 ghost use mathlib.Core.Path.{_≡_};
+ghost use Rattle.schedule.specs.Machine.{drawn as drawnOf};
 ghost use Rattle.array_machine.specs.Counted.{roomFor};
 
 pub mod fits;
@@ -35,4 +36,11 @@ pub fn room_for(turns: u64, busy: u16, holds: bool, w: usize) -> bool
     }
     let bit: u16 = 1 << w;
     busy <= u16::MAX - bit
+}
+
+// What an alloc of x draws from the quota: above K nothing (N6).
+pub fn drawn(quota: u32, x: u32) -> u32
+    ensures { λ r. ⌜ r ≡ drawnOf quota x ⌝ }
+{
+    if quota < x { 0 } else { x }
 }

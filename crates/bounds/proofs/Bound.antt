@@ -28,7 +28,10 @@ use Rattle.order.proofs.Depth.{greatest-member}
 use Rattle.order.proofs.SerialSums.{lower, front-sum}
 use Rattle.order.proofs.Totals.{sumTo-add}
 use Rattle.schedule.proofs.Sound.Leftmost.{all-done, front-done, leftmost-undone}
-use Rattle.bounds.proofs.Draws.{spentBeyond, draws-few}
+use Rattle.bounds.proofs.Draws.{spentBeyond}
+use Rattle.filling.proofs.Delay.{drawnCost, Delayed}
+use Rattle.bounds.proofs.Dummies.{dummies-few}
+use Rattle.bounds.proofs.Covers.{covers}
 use Rattle.order.proofs.Lists.{Below}
 use Rattle.bounds.proofs.RowBounds.{Covered, row-within, row-serial}
 
@@ -102,19 +105,29 @@ module _ (T : Table) (l : Lawful T) (p K : ℕ) (st : State) (f : Facts T p K st
         front-held T (numberOf T v),
       )
 
-module _ (T : Table) (l : Lawful T) (p K : ℕ) (some : 1 ≤ p) (few : p ≤ 16) where
+module _ (T : Table) (l : Lawful T) (p K : ℕ) (some : 1 ≤ p) (few : p ≤ 16) (delayed : Delayed T (drawnCost T K)) where
   -- memory held, from the serial peak on, is covered by what the allocs done beyond the first action not done drew
-  held-covered : Covered T p K (λ st. st .held) (S1 T) (allocOf T)
-  held-covered = record { at-end = held-ended T l p K; before = held-open T l p K }
+  held-covered : Covered T p K (λ st. st .held) (S1 T) (drawnCost T K)
+  held-covered =
+      record {
+        at-end = held-ended T l p K;
+        before = λ st f t others e h.
+            let v : ℕ = nextOf st t in
+            omega (
+              arith,
+              held-open T l p K st f t others e h,
+              covers T l p K (drawnCost T K) st f v (next-below T l p K st f t h) (leftmost-undone T l p K st f t others e) delayed,
+            );
+      }
 
   pub row-bound : (b : ℕ) → 1 ≤ b → (row : List ℕ) → Below p row → Keeps b row → rowState T K (startState T) row .held ≤ limit T p K b
   unfolding limit
   row-bound b g row h r =
       omega (
         arith,
-        row-within T l p K some few (λ st. st .held) (S1 T) (allocOf T) K held-covered (draws-few T l p K few) row h b r,
+        row-within T l p K some few (λ st. st .held) (S1 T) (drawnCost T K) K held-covered (dummies-few T l p K few) row h b r,
         quota-first b K (p - 1) (D T - 1),
       )
 
   pub row-alone : p ≡ 1 → (row : List ℕ) → Below p row → rowState T K (startState T) row .held ≤ S1 T
-  row-alone e row h = row-serial T l p K some few (λ st. st .held) (S1 T) (allocOf T) K held-covered (draws-few T l p K few) row h e
+  row-alone e row h = row-serial T l p K some few (λ st. st .held) (S1 T) (drawnCost T K) K held-covered (dummies-few T l p K few) row h e

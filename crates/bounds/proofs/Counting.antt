@@ -226,7 +226,7 @@ pub record CountAlong (T : Table) (B : ℕ) (J : ℕ → ℕ) (past : List ℕ) 
 abbrev placeOf : State → ℕ
 placeOf st = leftmost (st .status) (st .list)
 
-turn-goes : (T : Table) (K w : ℕ) (st : State) → workerOf st w .holds ≡ true → turnOf T K w st .state ≡ counted (act T w st .state)
+turn-goes : (T : Table) (K w : ℕ) (st : State) → workerOf st w .holds ≡ true → turnOf T K w st .state ≡ counted (act T K w st .state)
 unfolding turnOf
 turn-goes T K w st e = rw e
 
@@ -235,7 +235,7 @@ unfolding turnOf turnFree
 turn-rests T K w st e i = rw (e, i)
 
 turn-takes : (T : Table) (K w : ℕ) (st : State) → workerOf st w .holds ≡ false → eqb (placeOf st) (length (st .list)) ≡ false
-    → turnOf T K w st .state ≡ counted (act T w (taken K w (getD (st .list) (placeOf st) 0) st) .state)
+    → turnOf T K w st .state ≡ counted (act T K w (taken K w (getD (st .list) (placeOf st) 0) st) .state)
 unfolding turnOf turnFree
 turn-takes T K w st e i = rw (e, i)
 
@@ -256,11 +256,11 @@ module _ (T : Table) (l : Lawful T) (p K : ℕ) (few : p ≤ 16) (B : ℕ) (J : 
   -- the second half, from a state in which w holds its thread
   along-act : (st₁ : State) → Facts T p K st₁ → workerOf st₁ w .holds ≡ true → ((v : ℕ) → (v ≡ w → ⊥) → workerOf st₁ v ≡ workerOf st v)
       → Count T B (begun T w st J) (between B w past) st₁ → ((v : ℕ) → v < 16 → workerOf st v .holds ≡ true → List·Memᴰ v past)
-      → CountAlong T B (begun T w st J) (w ∷ past) (counted (act T w st₁ .state))
+      → CountAlong T B (begun T w st J) (w ∷ past) (counted (act T K w st₁ .state))
   along-act st₁ f holds others c h =
       record {
-        count = count-counted T B (begun T w st J) (age (w ∷ past)) (act T w st₁ .state)
-            (count-act T l B (begun T w st J) st₁ (age (w ∷ past)) (between B w past) c w t a x p K (act T w st₁ .state) (act-facts T l p K few w below st₁ f holds)
+        count = count-counted T B (begun T w st J) (age (w ∷ past)) (act T K w st₁ .state)
+            (count-act T l B (begun T w st J) st₁ (age (w ∷ past)) (between B w past) c w t a x p K (act T K w st₁ .state) (act-facts T l p K few w below st₁ f holds)
             (act-after T l p K st₁ f w t a x) left (between-own B w past w refl) (between-other B w past));
         turned = λ v i q. go v i q (ℕ-discrete v w);
       }
@@ -274,10 +274,10 @@ module _ (T : Table) (l : Lawful T) (p K : ℕ) (few : p ≤ 16) (B : ℕ) (J : 
       x : Acting T w t a st₁
       x = acting T l p K w t a st₁ f (omega arith) holds refl refl
 
-      left : Leaves w t st₁ (act T w st₁ .state)
+      left : Leaves w t st₁ (act T K w st₁ .state)
       left = act-leaves T l p K st₁ f w t a x
 
-      go : (v : ℕ) → v < 16 → workerOf (act T w st₁ .state) v .holds ≡ true → Dec (v ≡ w) → List·Memᴰ v (w ∷ past)
+      go : (v : ℕ) → v < 16 → workerOf (act T K w st₁ .state) v .holds ≡ true → Dec (v ≡ w) → List·Memᴰ v (w ∷ past)
       go v i q (yes d) = List·Memᴰ·head d
       go v i q (no d) = List·Memᴰ·tail (h v i (cc (left .others v d, others v d)))
 

@@ -1,16 +1,16 @@
--- A table whose allocs above K are delayed: what is drawn beyond an action not done is covered by what the batches are charged.
+-- A table whose allocs above K are delayed: what the allocs done beyond an action not done come to is covered by what the actions done there cost.
 use mathlib.Core.Path.{_≡_, refl, sym, ap, _∙_}
 use Prim.Native.Nat.{ℕ, suc, _+_, _≤_, _<_}
 use native.Mathlib.Omega.{arith}
 use native.Mathlib.Decide.{ℕ-discrete, decLt}
-use mathlib.Core.List.{List, [], _∷_, _++_, List·Memᴰ, List·Memᴰ·head, List·Memᴰ·tail}
+use mathlib.Core.List.{List, [], _∷_, List·Memᴰ, List·Memᴰ·head, List·Memᴰ·tail}
 use mathlib.Core.Bool.{Bool, true, false, _&&_}
 use mathlib.Core.Logic.{_⊎_, inl, inr}
 use lib.Seq.{take-all}
 use lib.Dec.{ltb}
 use borrow.Author.Tests.{lt-ltb, ltb-true}
 use Rattle.table.specs.Sum.{pick, sumTo, sumOver}
-use Rattle.table.specs.Format.{fork, join, codeOf, is, Table, kind}
+use Rattle.table.specs.Format.{codeOf, is, Table}
 use Rattle.table.specs.Checks.{owner, allocOf}
 use Rattle.table.specs.Serial.{serialOrder}
 use Rattle.table.proofs.Tests.{no-way}
@@ -27,30 +27,7 @@ use Rattle.schedule.proofs.Sound.Facts.{Done, Facts}
 use Rattle.schedule.proofs.Sound.Done.{done-low, undone, ended-all}
 use Rattle.schedule.proofs.Linked.Waiting.{around-ended, joined-ended}
 use Rattle.bounds.proofs.Draws.{spentBeyond}
-use Rattle.bounds.proofs.Dummies.{dummyCost}
-
--- an alloc z with a fork y and its join in front, and the actions of the tree forked there
-pub record Delay (T : Table) (K y : ℕ) (g : List ℕ) : Type 0 where
-  pub inside : suc (suc y) < T .actions
-  pub forks : kind T y ≡ fork
-  pub joins : kind T (suc y) ≡ join
-  pub child : T .argument (suc y) ≡ T .argument y
-  pub members : (a : ℕ) → List·Memᴰ a g
-      → (a < T .actions) × ((a ≡ y) ⊎ (((numberOf T y < numberOf T a) × (numberOf T a < numberOf T (suc y))) ⊎ ((a ≡ suc y) ⊎ (a ≡ suc (suc y)))))
-  pub alone : (a : ℕ) → List·Memᴰ a g → (a ≡ suc (suc y) → ⊥) → allocOf T a ≡ 0
-  pub covered : sumOver (allocOf T) g ≤ sumOver (dummyCost T K) g
-
-pub data Group (T : Table) (K : ℕ) (g : List ℕ) : Type 0 where
-  plain : (a : ℕ) → g ≡ a ∷ [] → allocOf T a ≤ dummyCost T K a → Group T K g
-  delayed : (y : ℕ) → Delay T K y g → Group T K g
-
--- groups one after the other
-pub data Groups (T : Table) (K : ℕ) : List ℕ → Type 0 where
-  none : Groups T K []
-  group : (g l : List ℕ) → Group T K g → Groups T K l → Groups T K (g ++ l)
-
-abbrev pub Delayed : Table → ℕ → Type 0
-Delayed T K = Groups T K (serialOrder T)
+use Rattle.filling.proofs.Delay.{Delay, Group, plain, delayed, Groups, no-group, group, Delayed}
 
 -- ---- sums over lists
 
@@ -64,7 +41,7 @@ unfolding sumOver
 sum-none f [] e = refl
 sum-none f (x ∷ l) e = omega (arith, e x (List·Memᴰ·head refl), sum-none f l (λ a m. e a (List·Memᴰ·tail m)))
 
-module _ (T : Table) (l : Lawful T) (p K : ℕ) (st : State) (f : Facts T p K st) (v : ℕ) (within : v < T .actions) (open-v : isDone T st v ≡ false) where
+module _ (T : Table) (l : Lawful T) (p K : ℕ) (cost : ℕ → ℕ) (st : State) (f : Facts T p K st) (v : ℕ) (within : v < T .actions) (open-v : isDone T st v ≡ false) where
   abbrev beyond : ℕ → Bool
   beyond a = isDone T st a && ltb (numberOf T v) (numberOf T a)
 
@@ -88,7 +65,7 @@ module _ (T : Table) (l : Lawful T) (p K : ℕ) (st : State) (f : Facts T p K st
       go (no q) (yes r) = done-low T st a (rw o (omega arith))
       go (no q) (no r) = no-way (cc (undone T st d (omega arith) (rw o at q)))
 
-  module _ (y : ℕ) (g : List ℕ) (x : Delay T K y g) where
+  module _ (y : ℕ) (g : List ℕ) (x : Delay T cost y g) where
     abbrev z : ℕ
     z = suc (suc y)
 
@@ -144,7 +121,7 @@ module _ (T : Table) (l : Lawful T) (p K : ℕ) (st : State) (f : Facts T p K st
           go h (inr (inr (inl e))) = rw (e, join-done) (lt-ltb (numberOf T v) (numberOf T (suc y)) (omega (arith, before-fork, rises)))
           go h (inr (inr (inr e))) = rw (e, d) (lt-ltb (numberOf T v) (numberOf T z) b)
 
-    delay-covers : sumOver (at (allocOf T)) g ≤ sumOver (at (dummyCost T K)) g
+    delay-covers : sumOver (at (allocOf T)) g ≤ sumOver (at cost) g
     delay-covers = go (isDone T st z) (ltb (numberOf T v) (numberOf T z)) refl refl
       where
         nothing : beyond z ≡ false → sumOver (at (allocOf T)) g ≡ 0
@@ -158,33 +135,33 @@ module _ (T : Table) (l : Lawful T) (p K : ℕ) (st : State) (f : Facts T p K st
             by a m (yes q) = rw (q, e)
             by a m (no q) = rw (x .alone a m q) (zero-pick (beyond a))
 
-        go : (s t : Bool) → isDone T st z ≡ s → ltb (numberOf T v) (numberOf T z) ≡ t → sumOver (at (allocOf T)) g ≤ sumOver (at (dummyCost T K)) g
+        go : (s t : Bool) → isDone T st z ≡ s → ltb (numberOf T v) (numberOf T z) ≡ t → sumOver (at (allocOf T)) g ≤ sumOver (at cost) g
         go true true i j =
             let k = all-beyond i (ltb-true (numberOf T v) (numberOf T z) j) in
             omega (
               arith,
               sum-equal (at (allocOf T)) (allocOf T) g (λ a m. rw (k a m)),
-              sum-equal (at (dummyCost T K)) (dummyCost T K) g (λ a m. rw (k a m)),
+              sum-equal (at cost) cost g (λ a m. rw (k a m)),
               x .covered,
             )
         go true false i j = omega (arith, nothing (rw (i, j)))
         go false t i j = omega (arith, nothing (rw i))
 
-  group-covers : (g : List ℕ) → Group T K g → sumOver (at (allocOf T)) g ≤ sumOver (at (dummyCost T K)) g
+  group-covers : (g : List ℕ) → Group T cost g → sumOver (at (allocOf T)) g ≤ sumOver (at cost) g
   unfolding sumOver
   group-covers g (plain a e h) = rw e (go (beyond a))
     where
-      go : (q : Bool) → pick q (allocOf T a) 0 + 0 ≤ pick q (dummyCost T K a) 0 + 0
+      go : (q : Bool) → pick q (allocOf T a) 0 + 0 ≤ pick q (cost a) 0 + 0
       go true = omega (arith, h)
       go false = omega arith
   group-covers g (delayed y x) = delay-covers y g x
 
-  groups-cover : (k : List ℕ) → Groups T K k → sumOver (at (allocOf T)) k ≤ sumOver (at (dummyCost T K)) k
+  groups-cover : (k : List ℕ) → Groups T cost k → sumOver (at (allocOf T)) k ≤ sumOver (at cost) k
   unfolding sumOver
-  groups-cover _ none = omega arith
+  groups-cover _ no-group = omega arith
   groups-cover _ (group g k x r) =
-      omega (arith, sumOver-append (at (allocOf T)) g k, sumOver-append (at (dummyCost T K)) g k, group-covers g x, groups-cover k r)
+      omega (arith, sumOver-append (at (allocOf T)) g k, sumOver-append (at cost) g k, group-covers g x, groups-cover k r)
 
-  pub covers : Delayed T K → spentBeyond T (allocOf T) st v ≤ spentBeyond T (dummyCost T K) st v
+  pub covers : Delayed T cost → spentBeyond T (allocOf T) st v ≤ spentBeyond T cost st v
   unfolding spentBeyond
-  covers d = omega (arith, all-serial (at (allocOf T)), all-serial (at (dummyCost T K)), groups-cover (serialOrder T) d)
+  covers d = omega (arith, all-serial (at (allocOf T)), all-serial (at cost), groups-cover (serialOrder T) d)

@@ -1,5 +1,4 @@
--- What the batches begun beyond an action may draw: stated over a cost of actions, a budget for each batch and what is left of it, of which the alloc's argument, the quota K and the
--- worker's quota left are one instance.
+-- What the batches begun beyond an action may draw: stated over a cost of actions, a budget for each batch and what is left of it.
 use mathlib.Core.Path.{_≡_, refl}
 use Prim.Native.Nat.{ℕ, suc, _+_, _*_, _≤_, _<_}
 use native.Mathlib.Omega.{arith}
@@ -12,7 +11,6 @@ use lib.Dec.{ltb}
 use borrow.Author.Tests.{ltb-false, le-ltb}
 use Rattle.table.specs.Sum.{pick, sumTo}
 use Rattle.table.specs.Format.{Table}
-use Rattle.table.specs.Checks.{allocOf}
 use Rattle.table.proofs.Tests.{no-way}
 use Rattle.table.proofs.Sums.{sumTo-cong, sumTo-one, sumTo-zero}
 use Rattle.schedule.specs.declared.Reply.the-variants.{Done}
@@ -214,20 +212,3 @@ module _ (T : Table) (l : Lawful T) (p K : ℕ) (few : p ≤ 16) where
           sumTo-zero (λ a. pick (isDone T (startState T) a && ltb (numberOf T v) (numberOf T a)) (cost a) 0) (T .actions) (λ a j. rw (start-undone T l a j)),
           sumTo-zero (λ w. pick (standsBeyond T (startState T) v w) (left w) 0) 16 (λ w j. rw (start-worker T l w)),
         )
-
-  -- ---- allocs, the quota K and the quota left
-
-  abbrev QuotaLeft : State → (ℕ → ℕ) → Type 0
-  QuotaLeft st left = (u : ℕ) → left u ≡ workerOf st u .quota
-
-  quota-draw : (w : ℕ) → w < p → (st : State) → Facts T p K st → (left : ℕ → ℕ) → QuotaLeft st left
-      → (left' : ℕ → ℕ) × QuotaLeft (turnOf T K w st .state) left' × Draw T K (allocOf T) K w st left left'
-  quota-draw w h st f left g = ((λ u. workerOf (turnOf T K w st .state) u .quota), (λ u. refl), go (turned T l p K few w h st f))
-    where
-      go : Turned T K w st (turnOf T K w st) → Draw T K (allocOf T) K w st left (λ u. workerOf (turnOf T K w st .state) u .quota)
-      go (idles e r n s q) = record { others = λ u i d. rw (q, g u); spends = λ t a i. no-way (cc) }
-      go (tries t a y) = record { others = λ u i d. rw (y .acted .worker-others u d, g u); spends = λ u d i. rw (g w) (y .acted .quota u d i) }
-
-  pub draws-few : (row : List ℕ) → ((w : ℕ) → List·Memᴰ w row → w < p) → (v : ℕ) → v < T .actions → isDone T (rowState T K (startState T) row) v ≡ false
-      → spentBeyond T (allocOf T) (rowState T K (startState T) row) v ≤ K * batches T K (startState T) row v
-  draws-few row h v i d = draws-within (allocOf T) K QuotaLeft quota-draw (λ u. workerOf (startState T) u .quota) (λ u. refl) row h v i d

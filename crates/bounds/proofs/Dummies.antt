@@ -10,12 +10,12 @@ use lib.Dec.{eqb}
 use borrow.Author.Tests.{eqb-true, eq-eqb, ne-eqb}
 use Rattle.table.specs.Sum.{pick}
 use Rattle.table.specs.Format.{end, work, codeOf, is, Table, kind}
-use Rattle.table.specs.Checks.{owner, endOf, allocOf}
+use Rattle.table.specs.Checks.{endOf, allocOf}
 use Rattle.table.proofs.Tests.{no-way, and-both}
 use Rattle.table.proofs.Bodies.{owner-below, owner-first, owner-end, after-end, end-kind}
 use Rattle.schedule.specs.declared.Worker.{Worker}
 use Rattle.schedule.specs.declared.Reply.the-variants.{Done}
-use Rattle.schedule.specs.Machine.{State, nextOf, workerOf, turnOf}
+use Rattle.schedule.specs.Machine.{State, drawn, nextOf, workerOf, turnOf}
 use Rattle.schedule.specs.Begin.{startState}
 use Rattle.schedule.specs.Sound.{isDone}
 use Rattle.order.specs.Order.{numberOf}
@@ -26,16 +26,10 @@ use Rattle.schedule.proofs.Sound.Done.{number-first}
 use Rattle.schedule.proofs.Preservation.Turns.{turn-facts}
 use Rattle.schedule.proofs.Preservation.Starts.{start-worker}
 use Rattle.schedule.proofs.Bounds.Beyond.{startAction, begins, batches}
+use Rattle.schedule.proofs.Bounds.Acts.{drawn-none}
 use Rattle.schedule.proofs.Bounds.Tries.{Tries, Turned, idles, tries, turned}
+use Rattle.filling.proofs.Delay.{isLeaf, drawnCost}
 use Rattle.bounds.proofs.Draws.{spentBeyond, Draw, draws-within}
-
--- thread t has the body work, end
-unfoldable pub isLeaf : Table → ℕ → Bool
-isLeaf T t = eqb (T .count t) 2 && is work (kind T (T .first t))
-
--- what an action draws: its alloc, and at the work of such a body the whole quota
-unfoldable pub dummyCost : Table → ℕ → ℕ → ℕ
-dummyCost T K a = pick (isLeaf T (owner T a) && eqb a (T .first (owner T a))) K (allocOf T a)
 
 -- what is left of its batch to a worker
 unfoldable pub leftTo : Table → State → ℕ → ℕ
@@ -117,12 +111,12 @@ module _ (T : Table) (l : Lawful T) (p K : ℕ) (few : p ≤ 16) (w : ℕ) (belo
         go (inl (h, i, j)) = absurd (omega (arith, rw (i, j) at (g .past w (omega arith) h)))
         go (inr (h, i, j)) = rw h
 
-    spends : (u d : ℕ) → turnOf T K w st .reply ≡ Done u d → leftTo T after w + dummyCost T K d ≤ had
-    unfolding dummyCost leftTo
+    spends : (u d : ℕ) → turnOf T K w st .reply ≡ Done u d → leftTo T after w + drawnCost T K d ≤ had
+    unfolding drawnCost leftTo
     spends u d i = rw (y .acted .answers u d i, y .owned) (go (isLeaf T t) refl (ℕ-discrete a (T .first t)))
       where
-        drawn : workerOf after w .quota + allocOf T a ≤ pick (workerOf st w .holds) (workerOf st w .quota) K
-        drawn = rw (y .acted .answers u d i) at (y .acted .quota u d i)
+        draws : workerOf after w .quota + drawn K (allocOf T a) ≤ pick (workerOf st w .holds) (workerOf st w .quota) K
+        draws = rw (y .acted .answers u d i) at (y .acted .quota u d i)
 
         -- what w had left, where its thread is none such
         whole : isLeaf T t ≡ false → had ≡ pick (workerOf st w .holds) (workerOf st w .quota) K
@@ -133,12 +127,12 @@ module _ (T : Table) (l : Lawful T) (p K : ℕ) (few : p ≤ 16) (w : ℕ) (belo
             at (inl (h, j, k)) = rw (h, g .is w, j, e)
             at (inr (h, j, k)) = rw h
 
-        go : (q : Bool) → isLeaf T t ≡ q → Dec (a ≡ T .first t) → leftTo T after w + pick (q && eqb a (T .first t)) K (allocOf T a) ≤ had
+        go : (q : Bool) → isLeaf T t ≡ q → Dec (a ≡ T .first t) → leftTo T after w + pick (q && eqb a (T .first t)) K (drawn K (allocOf T a)) ≤ had
         go true e (yes b) = rw (eq-eqb a (T .first t) b, nothing-left e, first-begins b) (omega arith)
-        go true e (no b) = rw (ne-eqb a (T .first t) b, nothing-left e, leaf-end e b) (omega arith)
-        go false e b = omega (arith, left-most T after w, drawn, whole e)
+        go true e (no b) = rw (ne-eqb a (T .first t) b, nothing-left e, leaf-end e b, drawn-none K) (omega arith)
+        go false e b = omega (arith, left-most T after w, draws, whole e)
 
-  pub dummy-step : (left' : ℕ → ℕ) × Ghost T after left' × Draw T K (dummyCost T K) K w st left left'
+  pub dummy-step : (left' : ℕ → ℕ) × Ghost T after left' × Draw T K (drawnCost T K) K w st left left'
   unfolding leftTo
   dummy-step = (leftTo T after, ghost (turned T l p K few w below st f), draw (turned T l p K few w below st f))
     where
@@ -146,14 +140,14 @@ module _ (T : Table) (l : Lawful T) (p K : ℕ) (few : p ≤ 16) (w : ℕ) (belo
       ghost (idles e r n s q) = record { is = λ u. refl; past = λ u h i. rw (q, n) (g .past u h (rw q at i)) }
       ghost (tries t a y) = record { is = λ u. refl; past = λ u h i. past-after t a y u h (ℕ-discrete u w) i }
 
-      draw : Turned T K w st (turnOf T K w st) → Draw T K (dummyCost T K) K w st left (leftTo T after)
+      draw : Turned T K w st (turnOf T K w st) → Draw T K (drawnCost T K) K w st left (leftTo T after)
       draw (idles e r n s q) = record { others = λ u i d. rw (q, g .is u); spends = λ t a i. no-way (cc) }
       draw (tries t a y) = record { others = λ u i d. rw (y .acted .worker-others u d, g .is u); spends = spends t a y }
 
 -- the actions done beyond an action that is not done cost at most K for each batch begun beyond it
 pub dummies-few : (T : Table) (l : Lawful T) (p K : ℕ) (few : p ≤ 16) (row : List ℕ) → ((w : ℕ) → List·Memᴰ w row → w < p) → (v : ℕ) → v < T .actions
     → isDone T (rowState T K (startState T) row) v ≡ false
-    → spentBeyond T (dummyCost T K) (rowState T K (startState T) row) v ≤ K * batches T K (startState T) row v
+    → spentBeyond T (drawnCost T K) (rowState T K (startState T) row) v ≤ K * batches T K (startState T) row v
 dummies-few T l p K few row h v i n =
-    draws-within T l p K few (dummyCost T K) K (Ghost T) (λ w b st f left g. dummy-step T l p K few w b st f left g) (leftTo T (startState T))
+    draws-within T l p K few (drawnCost T K) K (Ghost T) (λ w b st f left g. dummy-step T l p K few w b st f left g) (leftTo T (startState T))
     (record { is = λ u. refl; past = λ u k e. no-way (cc (ap (λ (x : Worker). x .holds) (start-worker T l u))) }) row h v i n

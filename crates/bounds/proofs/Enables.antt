@@ -18,7 +18,7 @@ use Rattle.table.proofs.Tests.{no-way, is-true, same-is, fork-no-end}
 use Rattle.table.proofs.Bodies.{kind-known, fork-below, end-last}
 use Rattle.table.proofs.Levels.{depends-step, depends-join, depends-child}
 use Rattle.schedule.specs.declared.Worker.{Worker}
-use Rattle.schedule.specs.Machine.{State, ready, held, waiting, ended, nextOf, statusOf, nobody, workerOf, Stepped, actBy, act}
+use Rattle.schedule.specs.Machine.{State, drawn, ready, held, waiting, ended, nextOf, statusOf, nobody, workerOf, Stepped, actBy, act}
 use Rattle.order.proofs.Lawful.{Lawful}
 use Rattle.schedule.proofs.Sound.Facts.{Facts}
 use Rattle.schedule.proofs.Sound.Done.{undone-unborn, unborn-first}
@@ -162,20 +162,20 @@ module _ (T : Table) (l : Lawful T) (p K : ℕ) (st : State) (f : Facts T p K st
   abbrev Acted : State → Type 0
   Acted st′ = Sorted st′ × Leaves w t st st′
 
-  act-by : (k : Kind) → kind T a ≡ k → Acted (actBy k T w t a (T .argument a) st .state)
+  act-by : (k : Kind) → kind T a ≡ k → Acted (actBy k T K w t a (T .argument a) st .state)
   unfolding actBy is codeOf
   act-by end k =
-      let m : Ended T w t st (actBy end T w t a (T .argument a) st .state) =
+      let m : Ended T w t st (actBy end T K w t a (T .argument a) st .state) =
       acting-ended T l p K w t a st f x in
       (goes-out k _ m, frees-worker _ (m .lets-go))
   act-by work k = (goes-on _ refl refl (rw k) (λ j. no-way (cc)), keeps-worker _ refl)
   act-by alloc k =
-      either (λ (s : Stepped). Acted (s .state)) (leb (T .argument a) (workerOf st w .quota)) _ _
+      either (λ (s : Stepped). Acted (s .state)) (leb (drawn K (T .argument a)) (workerOf st w .quota)) _ _
       (λ e. (goes-on _ refl refl (rw k) (λ j. no-way (cc)), sets-worker _ _ refl (λ h. refl)))
       (λ e. (goes-off _ ready refl refl (λ q. omega arith) (λ q. omega arith) (λ q j. no-way (cc)), sets-worker _ nobody refl (λ h. no-way (cc))))
   act-by free k = (goes-on _ refl refl (rw k) (λ j. no-way (cc)), keeps-worker _ refl)
   act-by fork k =
-      let m : Forked w t a (T .argument a) st (actBy fork T w t a (T .argument a) st .state) =
+      let m : Forked w t a (T .argument a) st (actBy fork T K w t a (T .argument a) st .state) =
       acting-forked T l p K w t a st f x k in
       (goes-apart k _ m, frees-worker _ (m .lets-go))
   act-by join k =
@@ -184,12 +184,12 @@ module _ (T : Table) (l : Lawful T) (p K : ℕ) (st : State) (f : Facts T p K st
       (λ e. (goes-off _ waiting refl refl (λ q. omega arith) (λ q. omega arith) (λ q j. omega arith), sets-worker _ nobody refl (λ h. no-way (cc))))
   act-by unknown k = absurd (kind-known T (l .contents) (l .bodies) a (x .action) k)
 
-  acted : Acted (act T w st .state)
+  acted : Acted (act T K w st .state)
   unfolding act
   acted = rw (x .holder, x .next) (act-by (kind T a) refl)
 
-  pub act-after : (u : ℕ) → Enabled T (act T w st .state) u → After T t a st (act T w st .state) u
+  pub act-after : (u : ℕ) → Enabled T (act T K w st .state) u → After T t a st (act T K w st .state) u
   act-after = acted .0
 
-  pub act-leaves : Leaves w t st (act T w st .state)
+  pub act-leaves : Leaves w t st (act T K w st .state)
   act-leaves = acted .1

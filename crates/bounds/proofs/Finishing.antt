@@ -100,7 +100,7 @@ module _ (r : Run) (h : Steady r) where
   left st = r .workers * potential T st
 
   lowers : (w : ℕ) → w < r .workers → Lowers T w (stateOf r) (counted (stateOf r)) (turnOf T (r .quota) w (stateOf r))
-  lowers w b = turn-lowers T (steady-lawful r h) (r .workers) (r .quota) (steady-fits r h .few-workers) (steady-fits r h .within) w b (stateOf r) (steady-facts r h)
+  lowers w b = turn-lowers T (steady-lawful r h) (r .workers) (r .quota) (steady-fits r h .few-workers) w b (stateOf r) (steady-facts r h)
 
   -- anew: within p turns of i
   pub due : (who : ℕ → ℕ) → Cycle who (r .workers) → (k i : ℕ) → left (stateOf r) ≤ k → rootEnded r ≡ false → Due who k i r

@@ -8,11 +8,11 @@ pub mod Batches
 pub mod Draws
 pub mod RowBounds
 pub mod Listed
-pub mod Bound
-pub mod FrontParts
--- a cost that covers the allocs of a filled-out table (N6): K at the first action of a dummy
+-- a cost that covers the allocs of a table whose allocs above K are delayed (N6): K at the first action of a dummy
 pub mod Dummies
 pub mod Covers
+pub mod Bound
+pub mod FrontParts
 -- how many turns at most (N8)
 pub mod Potential
 pub mod Lowers

@@ -4,11 +4,12 @@
 -- leaves and its row of turns; `memoryOf` and `peakMemory` (Memory) are what the row's turns hold, from the replies and the table alone; `doneIn` (Memory) sums the allocs
 -- or the frees done; `Keeps` (Memory) is the rule with b; `limit` (Memory) is S1 + b·K·(p − 1)·(D − 1), with S1 and D of crates/table/specs.
 use mathlib.Core.Path.{_≡_, sym, ap, _∙_}
-use Prim.Native.Nat.{ℕ, _≤_, _<_}
+use Prim.Native.Nat.{ℕ, _+_, _-_, _*_, _≤_, _<_}
 use mathlib.Core.List.{List, [], _++_, append-nil, List·Memᴰ}
 use Rattle.table.specs.Format.{Table, tableOf}
 use Rattle.table.specs.Checks.{allocOf, freeOf}
 use Rattle.table.specs.Serial.{S1}
+use Rattle.table.specs.Level.{D}
 use Rattle.schedule.specs.declared.Run.{Run}
 use Rattle.schedule.specs.declared.Beginning.the-variants.{Begun as started}
 use Rattle.schedule.specs.Machine.{State}
@@ -16,7 +17,9 @@ use Rattle.schedule.specs.Begin.{begin}
 use Rattle.schedule.specs.Calls.{Call, afterCalls, rowOfCalls}
 use Rattle.schedule.specs.Memory.{doneIn, memoryOf, peakMemory, Keeps, limit}
 use Rattle.schedule.proofs.Runs.Rows.{row-balanced, row-held, row-highest}
-use Rattle.schedule.proofs.Runs.Histories.{Started, Traced, calls-traced}
+use Rattle.filling.specs.Filled.{filledOut}
+use Rattle.schedule.proofs.Runs.Histories.{Started, begin-started, Traced, calls-traced}
+use Rattle.filling.proofs.Delay.{drawnCost, Delayed}
 use Rattle.bounds.proofs.FrontParts.{peak-within, front-bound, front-alone}
 
 -- of a record r and the row of turns that led to it
@@ -31,25 +34,33 @@ pub record MemoryLimit (T : Table) (p K b : ℕ) (r : Run) (row : List ℕ) : Ty
   -- one worker alone never holds more than the serial peak
   pub alone : p ≡ 1 → (memoryOf T K row ≤ S1 T) × (peakMemory T K row ≤ S1 T)
 
--- for every accepted table, p and K, every b at least 1 and every list of calls from the record of the beginning
+-- "users may rely on the memory and thread limits with D and N of the filled-out table" (N6), whose S1 is the given table's (`peak`): for every accepted table, p and K, every b at least 1
+-- and every list of calls from the record of the beginning
 pub memory-limit : (s : List ℕ) (p K : ℕ) (r : Run) → begin s p K ≡ record { answer = started; run = r } → (b : ℕ) → 1 ≤ b → (calls : List Call)
-    → MemoryLimit (tableOf s) p K b (afterCalls calls r) (rowOfCalls calls r)
+    → MemoryLimit (tableOf (filledOut s K)) p K b (afterCalls calls r) (rowOfCalls calls r)
 memory-limit s p K r e b g calls =
-    let T : Table = tableOf s in
+    let T : Table = tableOf (filledOut s K) in
     let t : Traced s p K r calls = calls-traced s p K r e calls in
     let i : Started s p K r = t .started in
+    let delayed : Delayed T (drawnCost T K) = i .filling .delayed in
     let row : List ℕ = rowOfCalls calls r in
     let whole : row ≡ row ++ [] = sym (append-nil row) in
     let h : (w : ℕ) → List·Memᴰ w row → w < p = t .below row [] whole in
     let alone : p ≡ 1 → (front rest : List ℕ) → row ≡ front ++ rest → memoryOf T K front ≤ S1 T =
-    front-alone T (i .lawful) p K (i .some-worker) (i .few-workers) row h in
+    front-alone T (i .lawful) p K (i .some-worker) (i .few-workers) delayed row h in
     record {
       held = ap (λ (x : State). x .held) (t .state) ∙ row-held T (i .lawful) p K (i .few-workers) row h;
       highest = ap (λ (x : State). x .highest) (t .state) ∙ row-highest T (i .lawful) p K (i .few-workers) row h;
       balanced = λ front rest d. row-balanced T (i .lawful) p K (i .few-workers) front (t .below front rest d);
       bounded = λ front rest d keeps.
           let within : (f z : List ℕ) → front ≡ f ++ z → memoryOf T K f ≤ limit T p K b =
-          front-bound T (i .lawful) p K (i .some-worker) (i .few-workers) front (t .below front rest d) b g keeps in
+          front-bound T (i .lawful) p K (i .some-worker) (i .few-workers) delayed front (t .below front rest d) b g keeps in
           (within front [] (sym (append-nil front)), peak-within T K (limit T p K b) front within);
       alone = λ one. (alone one row [] whole, peak-within T K (S1 T) row (alone one));
     }
+
+-- "S1 is the same as before filling": the limit with S1 of the table as given
+pub limit-given : (s : List ℕ) (p K : ℕ) (r : Run) → begin s p K ≡ record { answer = started; run = r } → (b : ℕ)
+    → limit (tableOf (filledOut s K)) p K b ≡ S1 (tableOf s) + b * K * (p - 1) * (D (tableOf (filledOut s K)) - 1)
+unfolding limit
+limit-given s p K r e b = rw (begin-started s p K r e .filling .peak)

@@ -17,13 +17,15 @@ use Rattle.schedule.specs.declared.Beginning.the-variants.{Begun as started}
 use Rattle.schedule.specs.declared.Report.the-variants.{Finished}
 use Rattle.schedule.specs.Machine.{State, ready, waiting, ended, statusOf, turnOf}
 use Rattle.schedule.specs.Record.{tableIn, stateOf}
+use Rattle.filling.specs.Filled.{filledOut}
 use Rattle.schedule.specs.Begin.{begin, startState}
 use Rattle.schedule.specs.Sound.{isDone, Steady, Sound}
 use Rattle.schedule.specs.Runs.{roundsRun}
 use Rattle.schedule.specs.Calls.{Call, rowOfCalls}
 use Rattle.schedule.specs.Memory.{rowState, replies}
-use Rattle.schedule.specs.Most.{notIdle, turnsOf}
-use Rattle.order.proofs.Lawful.{Lawful, Within}
+use Rattle.schedule.specs.Most.{notIdle}
+use Rattle.order.specs.Turns.{turnsOf}
+use Rattle.order.proofs.Lawful.{Lawful}
 use Rattle.schedule.proofs.Sound.Facts.{Facts}
 use Rattle.order.proofs.Lists.{Below}
 use Rattle.order.proofs.Totals.{sumTo-bound}
@@ -81,7 +83,7 @@ module _ (T : Table) where
 
 -- ---- rows and lists of calls
 
-module _ (T : Table) (l : Lawful T) (p K : ℕ) (few : p ≤ 16) (within : Within T K) where
+module _ (T : Table) (l : Lawful T) (p K : ℕ) (few : p ≤ 16) where
   -- from any sound state, the turns of a row that aren't idle are at most what the potential falls by
   pub row-moves : (st : State) → Facts T p K st → (row : List ℕ) → Below p row → notIdle (replies T K st row) + potential T (rowState T K st row) ≤ potential T st
   unfolding notIdle replies rowState
@@ -90,7 +92,7 @@ module _ (T : Table) (l : Lawful T) (p K : ℕ) (few : p ≤ 16) (within : Withi
       let b : w < p = h w (List·Memᴰ·head refl) in
       omega (
         arith,
-        turn-sum T l p K few within w b st f,
+        turn-sum T l p K few w b st f,
         row-moves (turnOf T K w st .state) (turn-facts T l p K few w b st f) row (λ v m. h v (List·Memᴰ·tail m)),
       )
 
@@ -101,16 +103,16 @@ module _ (T : Table) (l : Lawful T) (p K : ℕ) (few : p ≤ 16) (within : Withi
 pub sound-turns : (r : Run) → Steady r → (calls : List Call) → notIdle (replies (tableIn r) (r .quota) (stateOf r) (rowOfCalls calls r)) ≤ turnsOf (tableIn r)
 sound-turns r h calls =
     let f = steady-fits r h in
-    row-most (tableIn r) (steady-lawful r h) (r .workers) (r .quota) (f .few-workers) (f .within) (stateOf r) (steady-facts r h) (rowOfCalls calls r)
+    row-most (tableIn r) (steady-lawful r h) (r .workers) (r .quota) (f .few-workers) (stateOf r) (steady-facts r h) (rowOfCalls calls r)
     (calls-left r h calls .workers-below)
 
 -- "in a run from its beginning the turns that aren't idle are at most m + A + J": for every accepted table, p and K and every list of calls from the record of the beginning
 pub turns-most : (s : List ℕ) (p K : ℕ) (r : Run) → begin s p K ≡ record { answer = started; run = r } → (calls : List Call)
-    → notIdle (replies (tableOf s) K (startState (tableOf s)) (rowOfCalls calls r)) ≤ turnsOf (tableOf s)
+    → notIdle (replies (tableOf (filledOut s K)) K (startState (tableOf (filledOut s K))) (rowOfCalls calls r)) ≤ turnsOf (tableOf (filledOut s K))
 turns-most s p K r e calls =
     let (t, w, q, st) = start-state s p K r e in
     let row : List ℕ = rowOfCalls calls r in
-    let same : replies (tableIn r) (r .quota) (stateOf r) row ≡ replies (tableOf s) K (startState (tableOf s)) row = cc in
+    let same : replies (tableIn r) (r .quota) (stateOf r) row ≡ replies (tableOf (filledOut s K)) K (startState (tableOf (filledOut s K))) row = cc in
     omega (arith, sound-turns r (begin-sound s p K r e .steady) calls, ap notIdle same, ap turnsOf t)
 
 -- ---- runs in rounds
@@ -121,13 +123,13 @@ sound-rounds r h limit b few =
     sound-finishes r h limit few (omega (arith, b, mul-le-mul-left (r .workers) (potential-most (tableIn r) (stateOf r))))
 
 -- "from the beginning L = p × (m + A + J) turns in rounds always reply finished"
-pub rounds-finish : (s : List ℕ) (p K : ℕ) (r : Run) → begin s p K ≡ record { answer = started; run = r } → (k : ℕ) × (roundsRun r (p * turnsOf (tableOf s)) .report ≡ Finished k)
+pub rounds-finish : (s : List ℕ) (p K : ℕ) (r : Run) → begin s p K ≡ record { answer = started; run = r } → (k : ℕ) × (roundsRun r (p * turnsOf (tableOf (filledOut s K))) .report ≡ Finished k)
 unfolding startState
 rounds-finish s p K r e =
     let h : Sound r = begin-sound s p K r e in
     let (t, w, q, st) = start-state s p K r e in
-    let same : r .workers * turnsOf (tableIn r) ≡ p * turnsOf (tableOf s) = rw (t, w) in
+    let same : r .workers * turnsOf (tableIn r) ≡ p * turnsOf (tableOf (filledOut s K)) = rw (t, w) in
     let zero-turns : r .turns ≡ 0 = ap (λ (x : State). x .turns) st in
     let few : r .workers * turnsOf (tableIn r) ≤ 16 * 24576 =
     mul-le-mul (steady-fits r (h .steady) .few-workers) (turnsOf-few (tableIn r) (steady-lawful r (h .steady) .few-actions)) in
-    sound-rounds r h (p * turnsOf (tableOf s)) (omega arith) (omega arith)
+    sound-rounds r h (p * turnsOf (tableOf (filledOut s K))) (omega arith) (omega arith)

@@ -17,7 +17,7 @@ use Rattle.table.proofs.Tests.{no-way, and-both}
 use Rattle.table.proofs.Sums.{sumTo-le}
 use Rattle.table.proofs.Bodies.{kind-known}
 use Rattle.schedule.specs.declared.Reply.the-variants.{Done, Quota, Wait}
-use Rattle.schedule.specs.Machine.{State, unborn, ready, waiting, ended, nextOf, statusOf, workerOf, Stepped, actBy, act}
+use Rattle.schedule.specs.Machine.{State, drawn, unborn, ready, waiting, ended, nextOf, statusOf, workerOf, Stepped, actBy, act}
 use Rattle.schedule.specs.Sound.{isDone}
 use Rattle.order.proofs.Lawful.{Lawful}
 use Rattle.schedule.proofs.Sound.Facts.{Facts}
@@ -140,18 +140,18 @@ onward-lowers T t a st st' h o s = sum-falls (toGo T st') (toGo T st) a (T .acti
 -- ---- the action that is tried
 
 -- What becomes of it: it is done; put back, an alloc beyond the quota left; or its thread waits, at a join of a child not ended.
-pub data Outcome (T : Table) (w t a : ℕ) (st : State) (s : Stepped) : Type 0 where
-  does : s .reply ≡ Done t a → Outcome T w t a st s
-  back : kind T a ≡ alloc → workerOf st w .quota < T .argument a → s .reply ≡ Quota t (T .argument a) → s .state .next ≡ st .next → statusOf (s .state) t ≡ ready
-      → Outcome T w t a st s
+pub data Outcome (T : Table) (K w t a : ℕ) (st : State) (s : Stepped) : Type 0 where
+  does : s .reply ≡ Done t a → Outcome T K w t a st s
+  back : kind T a ≡ alloc → workerOf st w .quota < drawn K (T .argument a) → s .reply ≡ Quota t (T .argument a) → s .state .next ≡ st .next → statusOf (s .state) t ≡ ready
+      → Outcome T K w t a st s
   waits : kind T a ≡ join → eqb (statusOf st (T .argument a)) ended ≡ false → s .reply ≡ Wait t (T .argument a) → s .state .next ≡ st .next → statusOf (s .state) t ≡ waiting
-      → Outcome T w t a st s
+      → Outcome T K w t a st s
 
 -- Worker w acts at st; of the state b before its turn, at which it may yet have had to take the thread: what is put back was not ready before
-pub record Before (T : Table) (w t a : ℕ) (st b : State) : Type 0 where
+pub record Before (T : Table) (K w t a : ℕ) (st b : State) : Type 0 where
   pub undone : isDone T b a ≡ false
   pub no-wait : statusOf b t ≡ waiting → ⊥
-  pub no-back : kind T a ≡ alloc → workerOf st w .quota < T .argument a → statusOf b t ≡ ready → ⊥
+  pub no-back : kind T a ≡ alloc → workerOf st w .quota < drawn K (T .argument a) → statusOf b t ≡ ready → ⊥
   pub child : eqb (statusOf st (T .argument a)) ended ≡ false → eqb (statusOf b (T .argument a)) ended ≡ false
 
 module _ (T : Table) (t a : ℕ) (b st' : State) where
@@ -233,23 +233,23 @@ module _ (T : Table) (l : Lawful T) (p K : ℕ) (st : State) (f : Facts T p K st
   others-set : (y u : ℕ) → (u ≡ t → ⊥) → getD (set (st .status) t y) u 0 ≡ statusOf st u
   others-set y u n = getD-set-other (st .status) t u y 0 n
 
-  act-kept-by : (k : Kind) → kind T a ≡ k → Kept (actBy k T w t a (T .argument a) st .state)
+  act-kept-by : (k : Kind) → kind T a ≡ k → Kept (actBy k T K w t a (T .argument a) st .state)
   unfolding actBy
   act-kept-by end k = end-kept _ (acting-ended T l p K w t a st f x)
   act-kept-by work k = same-kept _ refl
   act-kept-by alloc k =
-      either (λ (s : Stepped). Kept (s .state)) (leb (T .argument a) (workerOf st w .quota)) _ _ (λ e. same-kept _ refl) (λ e. set-kept _ (others-set ready))
+      either (λ (s : Stepped). Kept (s .state)) (leb (drawn K (T .argument a)) (workerOf st w .quota)) _ _ (λ e. same-kept _ refl) (λ e. set-kept _ (others-set ready))
   act-kept-by free k = same-kept _ refl
   act-kept-by fork k = fork-kept _ k (acting-forked T l p K w t a st f x k)
   act-kept-by join k =
       either (λ (s : Stepped). Kept (s .state)) (eqb (statusOf st (T .argument a)) ended) _ _ (λ e. same-kept _ refl) (λ e. set-kept _ (others-set waiting))
   act-kept-by unknown k = absurd (kind-known T (l .contents) (l .bodies) a (x .action) k)
 
-  act-kept : Kept (act T w st .state)
+  act-kept : Kept (act T K w st .state)
   unfolding act
   act-kept = rw (x .holder, x .next) (act-kept-by (kind T a) refl)
 
-  pub act-onward : Onward T t a st (act T w st .state)
+  pub act-onward : Onward T t a st (act T K w st .state)
   act-onward =
       let c = acted T l p K w t a st f x in
       record { next-at = x .next; done-others = c .done-others; next-others = c .next-others; ready-kept = act-kept .ready-kept; wait-kept = act-kept .wait-kept; ended-kept = act-kept .ended-kept }
@@ -257,37 +257,37 @@ module _ (T : Table) (l : Lawful T) (p K : ℕ) (st : State) (f : Facts T p K st
   -- ---- the action that is tried
 
   abbrev acts : Kind → Stepped
-  acts k = actBy k T w t a (T .argument a) st
+  acts k = actBy k T K w t a (T .argument a) st
 
-  outcome-by : (k : Kind) → kind T a ≡ k → Outcome T w t a st (acts k)
+  outcome-by : (k : Kind) → kind T a ≡ k → Outcome T K w t a st (acts k)
   unfolding actBy
   outcome-by end k = does refl
   outcome-by work k = does refl
   outcome-by alloc k =
-      either (λ (s : Stepped). Outcome T w t a st s) (leb (T .argument a) (workerOf st w .quota)) _ _ (λ e. does refl)
-      (λ e. back k (leb-false (T .argument a) (workerOf st w .quota) e) refl refl (getD-set-same (st .status) t ready 0 fits))
+      either (λ (s : Stepped). Outcome T K w t a st s) (leb (drawn K (T .argument a)) (workerOf st w .quota)) _ _ (λ e. does refl)
+      (λ e. back k (leb-false (drawn K (T .argument a)) (workerOf st w .quota) e) refl refl (getD-set-same (st .status) t ready 0 fits))
   outcome-by free k = does refl
   outcome-by fork k = does refl
   outcome-by join k =
-      either (λ (s : Stepped). Outcome T w t a st s) (eqb (statusOf st (T .argument a)) ended) _ _ (λ e. does refl)
+      either (λ (s : Stepped). Outcome T K w t a st s) (eqb (statusOf st (T .argument a)) ended) _ _ (λ e. does refl)
       (λ e. waits k e refl refl (getD-set-same (st .status) t waiting 0 fits))
   outcome-by unknown k = absurd (kind-known T (l .contents) (l .bodies) a (x .action) k)
 
-  pub outcome : Outcome T w t a st (act T w st)
+  pub outcome : Outcome T K w t a st (act T K w st)
   unfolding act
   outcome = rw (x .holder, x .next) (outcome-by (kind T a) refl)
 
   abbrev after : State
-  after = act T w st .state
+  after = act T K w st .state
 
-  undone-after : ((u d : ℕ) → act T w st .reply ≡ Done u d → ⊥) → isDone T after a ≡ false
+  undone-after : ((u d : ℕ) → act T K w st .reply ≡ Done u d → ⊥) → isDone T after a ≡ false
   undone-after n = never-true (isDone T after a) (λ e. n t a (acted T l p K w t a st f x .replied e))
 
   -- b is the state before the turn: st itself, or the state in which the worker took its thread
-  pub tried-falls : (b : State) → Before T w t a st b → toGo T after a < toGo T b a
+  pub tried-falls : (b : State) → Before T K w t a st b → toGo T after a < toGo T b a
   tried-falls b y = go outcome
     where
-      go : Outcome T w t a st (act T w st) → toGo T after a < toGo T b a
+      go : Outcome T K w t a st (act T K w st) → toGo T after a < toGo T b a
       go (does r) = done-falls T a b after (y .undone) (acted T l p K w t a st f x .does t a r)
       go (back k n r i s) =
           back-falls T t a b after k (x .owned) (y .undone) (y .no-back k n) (undone-after (λ u d e. no-way (cc))) (ap (λ (z : List ℕ). getD z t 0) i ∙ x .next) s

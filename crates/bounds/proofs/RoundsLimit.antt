@@ -12,6 +12,7 @@ use Rattle.table.specs.Level.{D}
 use Rattle.schedule.specs.declared.Run.{Run}
 use Rattle.schedule.specs.declared.Beginning.the-variants.{Begun as started}
 use Rattle.schedule.specs.Record.{listIn}
+use Rattle.filling.specs.Filled.{filledOut}
 use Rattle.schedule.specs.Begin.{begin}
 use Rattle.schedule.specs.Runs.{roundsRun}
 use Rattle.schedule.specs.Calls.{Call, inRounds, turnsIn, afterCall, afterCalls, rowOf, rowOfCalls}
@@ -55,7 +56,7 @@ within-rounds {T} {p} {K} {r} {row} m t k =
     }
 
 -- for every accepted table, p and K, and one run in rounds of any length from the record of the beginning
-pub rounds-limit : (s : List ℕ) (p K : ℕ) (r : Run) → begin s p K ≡ record { answer = started; run = r } → (turns : ℕ) → RoundsLimit (tableOf s) p K (roundsRun r turns .run)
+pub rounds-limit : (s : List ℕ) (p K : ℕ) (r : Run) → begin s p K ≡ record { answer = started; run = r } → (turns : ℕ) → RoundsLimit (tableOf (filledOut s K)) p K (roundsRun r turns .run)
 unfolding afterCalls afterCall
 rounds-limit s p K r e turns =
     let workers : r .workers ≡ p = start-state s p K r e .1 in

@@ -13,6 +13,7 @@ use Rattle.schedule.specs.declared.Run.{Run}
 use Rattle.schedule.specs.declared.Beginning.the-variants.{Begun as started}
 use Rattle.schedule.specs.Machine.{State}
 use Rattle.schedule.specs.Record.{listIn}
+use Rattle.filling.specs.Filled.{filledOut}
 use Rattle.schedule.specs.Begin.{begin}
 use Rattle.schedule.specs.Calls.{Call, afterCalls, rowOfCalls}
 use Rattle.schedule.specs.Memory.{Keeps}
@@ -31,10 +32,10 @@ pub record ThreadLimit (T : Table) (p K b : ℕ) (r : Run) (row : List ℕ) : Ty
 
 -- for every accepted table, p and K, every b at least 1 and every list of calls from the record of the beginning
 pub thread-limit : (s : List ℕ) (p K : ℕ) (r : Run) → begin s p K ≡ record { answer = started; run = r } → (b : ℕ) → 1 ≤ b → (calls : List Call)
-    → ThreadLimit (tableOf s) p K b (afterCalls calls r) (rowOfCalls calls r)
+    → ThreadLimit (tableOf (filledOut s K)) p K b (afterCalls calls r) (rowOfCalls calls r)
 unfolding listedAfter
 thread-limit s p K r e b g calls =
-    let T : Table = tableOf s in
+    let T : Table = tableOf (filledOut s K) in
     let t : Traced s p K r calls = calls-traced s p K r e calls in
     let i : Started s p K r = t .started in
     record {

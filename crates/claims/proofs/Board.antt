@@ -1,9 +1,10 @@
 -- What a quota that is given is good for: a run with it is accepted, and no row of its turns that keeps the rule with b holds more than M.
 use mathlib.Core.Path.{_≡_, refl, sym, ap, subst, _∙_}
-use Prim.Native.Nat.{ℕ, _≤_}
+use Prim.Native.Nat.{ℕ, _≤_, _<_}
 use native.Mathlib.Omega.{arith}
 use mathlib.Core.List.{List, [], _++_, append-nil}
 use borrow.Author.Tests.{le-ltb}
+use lib.ListN.{length}
 use contract.Lifetimes.{Lfts}
 use denote.Ref.{RefT, now}
 use denote.Triple.Clauses.{AtExit}
@@ -17,23 +18,27 @@ use Rattle.schedule.specs.declared.Run.{Run}
 use Rattle.schedule.specs.declared.Begun.{Begun}
 use Rattle.schedule.specs.declared.Beginning.the-variants.{Begun as started}
 use Rattle.schedule.specs.Record.{maxWorkers}
-use Rattle.schedule.specs.Begin.{maxQuota, allocAbove, beginPasses, begin, startRun}
+use Rattle.filling.specs.Filled.{big, filledOut, overfull}
+use Rattle.filling.proofs.FilledTable.{in-place}
+use Rattle.schedule.specs.Begin.{maxQuota, beginPasses, begin, startRun}
 use Rattle.schedule.specs.Calls.{Call, afterCalls, rowOfCalls}
 use Rattle.schedule.specs.Memory.{memoryOf, peakMemory, Keeps}
-use Rattle.bounds.proofs.Limit.{memory-limit}
+use Rattle.bounds.proofs.Limit.{MemoryLimit, memory-limit}
 use Rattle.quota.specs.declared.Quoted.{Quoted}
 use Rattle.quota.specs.declared.Quoted.the-variants.{Given, Refused}
 use Rattle.quota.specs.Quota.{InRange, quoted, QuotaValues, valuesOf, valuesFor}
 use Rattle.run_memory.specs.Memory.{Memory}
 use Rattle.run_memory.specs.Memory.{Answer as Left}
 use Rattle.run_memory.specs.Stands.{runIn}
+use Rattle.soundness.specs.Tested.{beginFilling}
 use Rattle.wivakkol.specs.Lent.{lentBegin}
-use Rattle.claims.specs.LentCalls.{LentCall, Returned, movesOf}
+use Rattle.wivakkol.proofs.Rooms.{no-bytes}
+use Rattle.claims.specs.LentCalls.{LentCall, tableThatRuns, Returned, movesOf}
 use Rattle.claims.specs.Answers.{Answer}
 use Rattle.claims.proofs.ByValue.{History, history-is}
 use Rattle.claims.proofs.ByValue as by-value
 use Rattle.claims.proofs.LentSays as from-c
-use Rattle.claims.proofs.FromC.{LentHistory, begun-code-refines}
+use Rattle.claims.proofs.FromC.{LentHistory, CodeRefines, runs-so, begun-code-refines}
 use Rattle.quota.proofs.largest_quota.Kinds as quota-kinds
 use Rattle.quota.proofs.largest_quota.Reads as quota-promise
 use Rattle.quota.proofs.Least.{least-exactly}
@@ -42,12 +47,12 @@ use Rattle.quota.proofs.Checks.{values-are}
 
 -- no check of a beginning applies to a quota in range
 begin-passed : (T : Table) (p K : ℕ) → 1 ≤ p → p ≤ maxWorkers → InRange T K → firstFound (beginPasses T p K) ≡ Nothing
-unfolding allocAbove
+unfolding big overfull
 begin-passed T p K low high r =
     let l = least-exactly T K .0 (r .low) in
     firstFound-nothing (beginPasses T p K) .1 (
       tryPass-from-0 1 _ .1 ((λ i h. in-outside 1 maxWorkers p low high), ((λ i h. in-outside 1 maxQuota K (l .0) (r .high)), tt)),
-      (tryPass-from-0 (T .actions) _ .1 ((λ a h. le-ltb K (allocOf T a) (l .1 a h)), tt), tt),
+      (tryPass-from-0 (T .actions) _ .1 ((λ a h. rw (le-ltb K (allocOf T a) (l .1 a h))), tt), tt),
     )
 
 given-found : (s : List ℕ) (p b M K : ℕ) → quoted s p b M ≡ Given K → firstFound (passes s ++ beginPasses (tableOf s) p K) ≡ Nothing
@@ -55,13 +60,25 @@ given-found s p b M K e =
     let g = given-exactly s p b M K .0 e in
     rw (firstFound-append (passes s) (beginPasses (tableOf s) p K), passes-rules s .1 (g .0 .rules), begin-passed (tableOf s) p K (g .0 .some-worker) (g .0 .few-workers) (g .1 .in-range))
 
+given-small : (s : List ℕ) (p b M K : ℕ) → quoted s p b M ≡ Given K → (a : ℕ) → a < tableOf s .actions → allocOf (tableOf s) a ≤ K
+given-small s p b M K e = least-exactly (tableOf s) K .0 (given-exactly s p b M K .0 e .1 .in-range .low) .1
+
+-- N1 looks at K from the largest alloc up: nothing is above such a K, and the table as given runs
+pub given-place : (s : List ℕ) (p b M K : ℕ) → quoted s p b M ≡ Given K → filledOut s K ≡ s
+given-place s p b M K e = in-place s K (given-small s p b M K e)
+
 pub begin-given : (s : List ℕ) (p b M K : ℕ) → quoted s p b M ≡ Given K → begin s p K ≡ record { answer = started; run = startRun s p K }
 unfolding begin
-begin-given s p b M K e = rw (given-found s p b M K e)
+begin-given s p b M K e = rw (given-found s p b M K e, given-place s p b M K e)
 
-pub lent-begin-given : (s : List ℕ) (p b M K : ℕ) → quoted s p b M ≡ Given K → lentBegin s p K .number ≡ 0
+given-filling : (s : List ℕ) (p b M K : ℕ) → quoted s p b M ≡ Given K → beginFilling s p K .found ≡ Nothing
+unfolding beginFilling
+given-filling s p b M K e = given-found s p b M K e
+
+-- whatever the room
+pub lent-begin-given : (s : List ℕ) (p b M K : ℕ) → quoted s p b M ≡ Given K → (room : ℕ) → lentBegin s p K room .number ≡ 0
 unfolding lentBegin
-lent-begin-given s p b M K e = rw (given-found s p b M K e)
+lent-begin-given s p b M K e room = rw (given-filling s p b M K e, no-bytes s p K (given-small s p b M K e), le-ltb room 0 (omega arith))
 
 -- of a record r and the row of turns that led to it: after every front part that keeps the rule, memory held and its greatest so far are at most M, and so are the record's own if
 -- the whole row keeps it
@@ -81,7 +98,7 @@ quota-serves s p b M K e =
     let begun = begin-given s p b M K e in (
       begun,
       λ calls.
-          let l = memory-limit s p K (startRun s p K) begun b (g .0 .some-gap) calls in
+          let l : MemoryLimit (tableOf s) p K b (afterCalls calls (startRun s p K)) (rowOfCalls calls (startRun s p K)) = rw (given-place s p b M K e) at (memory-limit s p K (startRun s p K) begun b (g .0 .some-gap) calls) in
           let fronts : (front rest : List ℕ) → rowOfCalls calls (startRun s p K) ≡ front ++ rest → Keeps b front → (memoryOf (tableOf s) K front ≤ M) × (peakMemory (tableOf s) K front ≤ M) =
           λ front rest d k. let w = l .bounded front rest d k in (omega (arith, w .0, g .1 .serves), omega (arith, w .1, g .1 .serves)) in
           record {
@@ -128,19 +145,23 @@ code-quota-serves {s} {p} {b} {M} {K} e {x} h =
           same (tableOf s) K b M (d .record-is ∙ ap (afterCalls calls) f) (d .row-is ∙ ap (rowOfCalls calls) f) (q .1 calls);
     }
 
--- From C: the same of a beginning in lent memory, and of the record that stands in the memory left.
-pub record LentServed (s : List ℕ) (K b M : ℕ) (a : Left) : Type 0 where
+-- From C: the same of a beginning in lent memory, with any buffer, an empty one too, and of the record that stands in the memory left; the table as given runs.
+pub record LentServed (s : List ℕ) (K b M : ℕ) (a : Left) (filled : List ℕ) : Type 0 where
   pub accepted : a .number ≡ 0
+  pub in-place : tableThatRuns s a filled ≡ s
   pub within : {l : List LentCall} {answers : List Returned} {row : List ℕ} {N : Memory} → LentHistory s (a .memory) l answers row N → WithinBoard (tableOf s) K b M (runIn s N) row
 
-pub lent-code-quota-serves : {s : List ℕ} {p b M K : ℕ} → quoted s p b M ≡ Given K → {a : Left} → from-c.BeginSays s p K a → LentServed s K b M a
-lent-code-quota-serves {s} {p} {b} {M} {K} e {a} h =
+pub lent-code-quota-serves : {s : List ℕ} {p b M K : ℕ} → quoted s p b M ≡ Given K → {out filled : List ℕ} {a : Left} → from-c.BeginSays s p K out a filled → LentServed s K b M a filled
+lent-code-quota-serves {s} {p} {b} {M} {K} e {out} {filled} {a} h =
     let q = quota-serves s p b M K e in
-    let n : a .number ≡ 0 = ap (λ (z : Left). z .number) (from-c.begin-is h) ∙ lent-begin-given s p b M K e in
+    let n : a .number ≡ 0 = ap (λ (z : Left). z .number) (from-c.begin-is h) ∙ lent-begin-given s p b M K e (length out) in
+    let i : tableThatRuns s a filled ≡ s = runs-so h n ∙ given-place s p b M K e in
     record {
       accepted = n;
+      in-place = i;
       within = λ {l} {answers} {row} {N} t.
-          let c = begun-code-refines h n t in
+          let c = subst (λ (u : List ℕ). CodeRefines u (begin s p K .run) l answers row N) i
+          (begun-code-refines h n (subst (λ (u : List ℕ). LentHistory u (a .memory) l answers row N) (sym i) t)) in
           let f = ap (λ (z : Begun). z .run) (q .0) in
           same (tableOf s) K b M (c .record-after ∙ ap (afterCalls (movesOf l)) f) (c .row-is ∙ ap (rowOfCalls (movesOf l)) f) (q .1 (movesOf l));
     }

@@ -9,20 +9,26 @@ use lib.ListN.{length}
 use Rattle.table.specs.Format.{tableOf}
 use Rattle.schedule.specs.declared.Run.{Run}
 use Rattle.schedule.specs.declared.Begun.{Begun}
-use Rattle.schedule.specs.Begin.{begin}
+use Rattle.schedule.specs.Begin.{begin, startState}
 use Rattle.schedule.specs.Calls.{Call, turn, overList, inRounds, afterCall, afterCalls, rowOfCalls}
 use Rattle.bounds.proofs.Limit.{MemoryLimit}
 use Rattle.bounds.proofs.ThreadLimit.{ThreadLimit}
 use Rattle.run_memory.specs.Memory.{Memory, Answer}
 use Rattle.run_memory.specs.Blocks.{memoryOf}
 use Rattle.run_memory.specs.Stands.{runIn, Stands}
+use Rattle.order.specs.Turns.{turnsOf}
+use Rattle.filling.specs.Filled.{filledOut}
+use Rattle.schedule.specs.Memory.{replies}
+use Rattle.schedule.specs.Most.{notIdle}
+use Rattle.bounds.proofs.Most.{turns-most}
+use Rattle.soundness.specs.Tested.{begunInto}
 use Rattle.wivakkol.specs.Lent.{lentBegin}
-use Rattle.claims.specs.LentCalls.{LentCall, moving, opening, Returned, returned, lentMove, lentCall, lentRowOf, lentAfter, lentReturned, lentRow, movesOf}
+use Rattle.claims.specs.LentCalls.{LentCall, moving, opening, tableThatRuns, Returned, returned, lentMove, lentCall, lentRowOf, lentAfter, lentReturned, lentRow, movesOf}
 use Rattle.claims.specs.Answers.{answerOf, answersOf, inNumbers, returnedBy}
-use Rattle.claims.proofs.LentLimit.{Refines, calls-refine, begun-there, begun-stands, lent-limit, lent-threads}
+use Rattle.claims.proofs.LentLimit.{Refines, calls-refine, runs-filled, begun-there, begun-record, begun-stands, lent-limit, lent-threads}
 use Rattle.claims.proofs.Shaped.{Shaped, blocks-shaped}
 use Rattle.claims.proofs.Sizes.{begin-shaped, call-shaped}
-use Rattle.claims.proofs.LentSays.{TurnSays, ListSays, RoundsSays, BeginSays, OpenSays, turn-is, list-is, rounds-is, begin-is, open-is, begin-says, turn-says, list-says, rounds-says, open-says}
+use Rattle.claims.proofs.LentSays.{TurnSays, ListSays, RoundsSays, BeginSays, OpenSays, turn-is, list-is, rounds-is, begin-is, begin-into, open-is, begin-says, turn-says, list-says, rounds-says, open-says}
 
 -- ---- a history
 
@@ -88,9 +94,10 @@ lent-history-exists s M h (c ∷ l) =
 pub blocks-history-exists : (s b w n k : List ℕ) → length b ≡ 1040 → length w ≡ 6163 → length n ≡ 18 → length k ≡ 1027 → (l : List LentCall) → Defines s (memoryOf b w n k) l
 blocks-history-exists s b w n k p q r t = lent-history-exists s (memoryOf b w n k) (blocks-shaped b w n k p q r t)
 
--- from any beginning on, refused or not
-pub begun-history-exists : (s : List ℕ) (p K : ℕ) (l : List LentCall) → BeginSays s p K (lentBegin s p K) × Defines s (lentBegin s p K .memory) l
-begun-history-exists s p K l = (begin-says s p K, lent-history-exists s (lentBegin s p K .memory) (begin-shaped s p K) l)
+-- from any beginning on, refused or not, given any table
+pub begun-history-exists : (s : List ℕ) (p K : ℕ) (out u : List ℕ) (l : List LentCall)
+    → BeginSays s p K out (lentBegin s p K (length out)) (begunInto s p K out) × Defines u (lentBegin s p K (length out) .memory) l
+begun-history-exists s p K out u l = (begin-says s p K out, lent-history-exists u (lentBegin s p K (length out) .memory) (begin-shaped s p K (length out)) l)
 
 -- ---- on memory where a record stands
 
@@ -122,28 +129,55 @@ returned-answers (c ∷ calls) r = ap (inNumbers (answerOf c r) ∷_) (returned-
 
 -- ---- from a beginning on
 
-module _ {s : List ℕ} {p K : ℕ} {a : Answer} (h : BeginSays s p K a) (e : a .number ≡ 0) {l : List LentCall} {answers : List Returned} {row : List ℕ} {M : Memory} (t : LentHistory s (a .memory) l answers row M) where
-  begun : lentBegin s p K .number ≡ 0
+-- `wivakkol_begin_on` answered 0: the table that it says to run is the filled-out one.
+pub runs-so : {s : List ℕ} {p K : ℕ} {out filled : List ℕ} {a : Answer} → BeginSays s p K out a filled → a .number ≡ 0 → tableThatRuns s a filled ≡ filledOut s K
+runs-so {s} {p} {K} {out} h e =
+    ap₂ (tableThatRuns s) (begin-is h) (begin-into h) ∙ runs-filled s p K out (ap (λ (x : Answer). x .number) (sym (begin-is h)) ∙ e)
+
+-- It answered 0, and the calls of any history followed, given the table that runs.
+module _ {s : List ℕ} {p K : ℕ} {out filled : List ℕ} {a : Answer} (h : BeginSays s p K out a filled) (e : a .number ≡ 0) {l : List LentCall} {answers : List Returned} {row : List ℕ} {M : Memory}
+    (t : LentHistory (tableThatRuns s a filled) (a .memory) l answers row M) where
+  abbrev F : List ℕ
+  F = filledOut s K
+
+  begun : lentBegin s p K (length out) .number ≡ 0
   begun = ap (λ (x : Answer). x .number) (sym (begin-is h)) ∙ e
 
-  -- `wivakkol_begin_on` answered 0, and the calls of any history followed: they are those calls on the record of document 01's beginning.
-  pub begun-code-refines : CodeRefines s (begin s p K .run) l answers row M
-  begun-code-refines =
-      let there : Stands s (a .memory) = subst (λ (x : Answer). Stands s (x .memory)) (sym (begin-is h)) (begun-stands s p K begun) in
-      let r : runIn s (a .memory) ≡ begin s p K .run = ap (λ (x : Answer). runIn s (x .memory)) (begin-is h) ∙ ap (λ (x : Begun). x .run) (sym (begun-there s p K begun)) in
-      subst (λ (x : Run). CodeRefines s x l answers row M) r (stands-code-refines there t)
+  over-filled : LentHistory F (a .memory) l answers row M
+  over-filled = subst (λ (u : List ℕ). LentHistory u (a .memory) l answers row M) (runs-so h e) t
 
-  holds : (P : Memory → List ℕ → Type 0) → P (lentAfter s l (lentBegin s p K .memory)) (lentRow s l (lentBegin s p K .memory)) → P M row
+  as-run : (P : List ℕ → Type 0) → P F → P (tableThatRuns s a filled)
+  as-run P = subst P (sym (runs-so h e))
+
+  -- they are those calls on the record of document 01's beginning
+  pub begun-code-refines : CodeRefines (tableThatRuns s a filled) (begin s p K .run) l answers row M
+  begun-code-refines =
+      let there : Stands F (a .memory) = subst (λ (x : Answer). Stands F (x .memory)) (sym (begin-is h)) (begun-stands s p K (length out) begun) in
+      let r : runIn F (a .memory) ≡ begin s p K .run =
+      ap (λ (x : Answer). runIn F (x .memory)) (begin-is h) ∙ ap (λ (x : Begun). x .run) (sym (begun-there s p K (length out) begun)) in
+      as-run (λ (u : List ℕ). CodeRefines u (begin s p K .run) l answers row M) (subst (λ (x : Run). CodeRefines F x l answers row M) r (stands-code-refines there over-filled))
+
+  holds : (P : Memory → List ℕ → Type 0) → P (lentAfter F l (lentBegin s p K (length out) .memory)) (lentRow F l (lentBegin s p K (length out) .memory)) → P M row
   holds P g =
       let b = begin-is h in
-      let d = lent-history-is t in
-      subst (λ (x : Memory). P x row) (sym (d .memory-is ∙ ap (λ (x : Answer). lentAfter s l (x .memory)) b))
-      (subst (λ (x : List ℕ). P (lentAfter s l (lentBegin s p K .memory)) x) (sym (d .row-is ∙ ap (λ (x : Answer). lentRow s l (x .memory)) b)) g)
+      let d = lent-history-is over-filled in
+      subst (λ (x : Memory). P x row) (sym (d .memory-is ∙ ap (λ (x : Answer). lentAfter F l (x .memory)) b))
+      (subst (λ (x : List ℕ). P (lentAfter F l (lentBegin s p K (length out) .memory)) x) (sym (d .row-is ∙ ap (λ (x : Answer). lentRow F l (x .memory)) b)) g)
 
-  -- Demand 3: of the record that stands in the memory left and of the row of turns taken the memory limit holds, for every b at least 1.
-  pub lent-code-limit : (most : ℕ) → 1 ≤ most → MemoryLimit (tableOf s) p K most (runIn s M) row
-  lent-code-limit most g = holds (λ (x : Memory) (y : List ℕ). MemoryLimit (tableOf s) p K most (runIn s x) y) (lent-limit s p K begun l most g)
+  -- Demand 3: of the record that stands in the memory left and of the row of turns taken the memory limit holds, for every b at least 1; "with D and N of the filled-out table" (N6).
+  pub lent-code-limit : (most : ℕ) → 1 ≤ most → MemoryLimit (tableOf F) p K most (runIn (tableThatRuns s a filled) M) row
+  lent-code-limit most g =
+      as-run (λ (u : List ℕ). MemoryLimit (tableOf F) p K most (runIn u M) row)
+      (holds (λ (x : Memory) (y : List ℕ). MemoryLimit (tableOf F) p K most (runIn F x) y) (lent-limit s p K (length out) begun l most g))
 
   -- N2: and so does the limit on the threads in the list
-  pub lent-code-threads : (most : ℕ) → 1 ≤ most → ThreadLimit (tableOf s) p K most (runIn s M) row
-  lent-code-threads most g = holds (λ (x : Memory) (y : List ℕ). ThreadLimit (tableOf s) p K most (runIn s x) y) (lent-threads s p K begun l most g)
+  pub lent-code-threads : (most : ℕ) → 1 ≤ most → ThreadLimit (tableOf F) p K most (runIn (tableThatRuns s a filled) M) row
+  lent-code-threads most g =
+      as-run (λ (u : List ℕ). ThreadLimit (tableOf F) p K most (runIn u M) row)
+      (holds (λ (x : Memory) (y : List ℕ). ThreadLimit (tableOf F) p K most (runIn F x) y) (lent-threads s p K (length out) begun l most g))
+
+  -- N8: the turns of the row that aren't idle are at most m + A + J of the table as run
+  pub lent-code-turns : notIdle (replies (tableOf F) K (startState (tableOf F)) row) ≤ turnsOf (tableOf F)
+  lent-code-turns =
+      subst (λ (y : List ℕ). notIdle (replies (tableOf F) K (startState (tableOf F)) y) ≤ turnsOf (tableOf F)) (sym (begun-code-refines .row-is))
+      (turns-most s p K (begin s p K .run) (begun-record s p K (length out) begun) (movesOf l))

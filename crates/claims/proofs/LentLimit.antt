@@ -4,8 +4,8 @@ use Prim.Native.Nat.{ℕ, _%_, _≤_}
 use native.Mathlib.Omega.{arith}
 use mathlib.Core.List.{List, [], _∷_, _++_, List·Memᴰ, List·Memᴰ·cases-cons, List·Memᴰ·not-nil}
 use mathlib.Core.Logic.{⊎-elim}
-use borrow.Author.Tests.{ne-eqb}
-use lib.Dec.{eqb}
+use borrow.Author.Tests.{ne-eqb, eqb-true, eqb-false, ltb-false}
+use lib.Dec.{eqb, ltb}
 use mathlib.Core.Bool.{Bool, true, false}
 use lib.ListN.{length, getD, take, replicate, set}
 use Rattle.table.specs.Sum.{pick}
@@ -15,6 +15,7 @@ use Rattle.table.specs.Pass.{tryAt}
 use Rattle.table.specs.declared.Found.{Found}
 use Rattle.table.specs.declared.Found.the-variants.{Nothing, At}
 use Rattle.schedule.specs.declared.Run.{Run}
+use Rattle.schedule.specs.declared.Begun.{Begun}
 use Rattle.schedule.specs.declared.Beginning.the-variants.{Begun as started}
 use Rattle.schedule.specs.Links.{noThread, walk, LinkedAs}
 use Rattle.schedule.specs.Actives.{actives}
@@ -38,16 +39,20 @@ use Rattle.schedule.proofs.Runs.Histories.{calls-traced}
 use Rattle.schedule.proofs.Runs.Values.{turn-values}
 use Rattle.bounds.proofs.Limit.{MemoryLimit, memory-limit}
 use Rattle.bounds.proofs.ThreadLimit.{ThreadLimit, thread-limit}
-use Rattle.soundness.specs.Tested.{beginFound}
+use Rattle.filling.specs.declared.Filling.{Filling}
+use Rattle.filling.specs.Filled.{filledOut}
+use Rattle.filling.specs.Filling.{filledInto}
+use Rattle.soundness.specs.Tested.{beginFound, beginFilling, begunInto}
+use Rattle.soundness.proofs.Fillings.{given-runs, front-is}
 use Rattle.soundness.proofs.Chains.{never}
 use Rattle.soundness.proofs.Noting.{parents-right}
 use Rattle.array_machine.proofs.Starts.{alone, alone-linked, is-start}
 use Rattle.table.specs.Load.{foundNumber}
-use Rattle.run_memory.specs.Memory.{Memory, lentTurn}
+use Rattle.run_memory.specs.Memory.{Memory, Answer, answer, lentTurn}
 use Rattle.wivakkol.specs.Lent.{startMemory, begunAs, lentBegin}
 use Rattle.run_memory.specs.Stands.{truths, workersFrom, runIn, Stands, valuesRow}
 use Rattle.wivakkol.specs.Opened.{soundIn, blankIn, openedIn, openedAs, lentOpen}
-use Rattle.claims.specs.LentCalls.{LentCall, moving, opening, returned, lentMove, lentCall, lentRowOf, lentAfter, lentReturned, lentRow, movesOf}
+use Rattle.claims.specs.LentCalls.{LentCall, moving, opening, tableThatRuns, returned, lentMove, lentCall, lentRowOf, lentAfter, lentReturned, lentRow, movesOf}
 use Rattle.claims.specs.Answers.{answerOf, inNumbers, returnedBy}
 use Rattle.wivakkol.proofs.Opens.{open-record, open-refines, open-stands, opens-stands}
 use Rattle.wivakkol.proofs.Numbered.{Numbered, begin-numbered, turn-numbered}
@@ -63,43 +68,61 @@ once-alone = ((λ m. List·Memᴰ·not-nil m), tt)
 below-alone : Below noThread (0 ∷ [])
 below-alone x m = ⊎-elim (λ (e : x ≡ 0). omega (arith, e)) (λ (n : List·Memᴰ x []). absurd (List·Memᴰ·not-nil n)) (List·Memᴰ·cases-cons m)
 
-module _ (s : List ℕ) (p K : ℕ) where
-  -- the record that stands in the memory
-  start-run : runIn s (startMemory s p K) ≡ startRun s p K
-  unfolding workersFrom
-  start-run = is-start s p K refl refl
+-- the record that stands in the memory of a start
+start-run : (s : List ℕ) (p K : ℕ) → runIn s (startMemory s p K) ≡ startRun s p K
+unfolding workersFrom
+start-run s p K = is-start s p K refl refl
 
-  begun-number : (f : Found) (M : Memory) → begunAs f M .number ≡ foundNumber f
-  begun-number Nothing M = refl
-  begun-number (At x) M = refl
+-- no check has the number 0, and neither has too little room
+numbered : (f : Found) (short : Bool) (bytes : ℕ) (M : Memory) → Numbered f → begunAs f short bytes M .number ≡ 0 → (f ≡ Nothing) × (short ≡ false)
+numbered Nothing true bytes M h e = absurd (omega (arith, e))
+numbered Nothing false bytes M h e = (refl, refl)
+numbered (At x) short bytes M h e = let z : At x ≡ Nothing = h e in no-way (cc)
 
-  module _ (e : lentBegin s p K .number ≡ 0) where
+module _ (s : List ℕ) (p K room : ℕ) where
+  abbrev F : List ℕ
+  F = filledOut s K
+
+  module _ (e : lentBegin s p K room .number ≡ 0) where
+    abbrev r : Filling
+    r = beginFilling s p K
+
+    none : (r .found ≡ Nothing) × (ltb room (r .bytes) ≡ false)
+    unfolding lentBegin beginFilling
+    none = numbered (r .found) (ltb room (r .bytes)) (r .bytes) (startMemory F p K) (begin-numbered s p K) e
+
     found-none : beginFound s p K ≡ Nothing
-    unfolding lentBegin
-    found-none = begin-numbered s p K (sym (begun-number (beginFound s p K) (startMemory s p K)) ∙ e)
+    unfolding beginFilling
+    found-none = none .0
+
+    pub room-so : r .bytes ≤ room
+    room-so = ltb-false room (r .bytes) (none .1)
 
     -- the run is begun, and its memory is the start's
-    pub begun-so : begin s p K ≡ record { answer = started; run = runIn s (startMemory s p K) }
+    pub begun-so : begin s p K ≡ record { answer = started; run = runIn F (startMemory F p K) }
     unfolding begin
-    begun-so = rw (found-none, start-run)
+    begun-so = rw (found-none, start-run F p K)
 
-    pub memory-so : lentBegin s p K .memory ≡ startMemory s p K
+    pub answer-so : lentBegin s p K room ≡ answer 0 (0 ∷ r .bytes ∷ []) (startMemory F p K)
     unfolding lentBegin
-    memory-so = rw found-none
+    answer-so = rw (none .0, none .1)
 
-    steady : Steady (runIn s (startMemory s p K))
+    pub memory-so : lentBegin s p K room .memory ≡ startMemory F p K
+    memory-so = ap (λ (a : Answer). a .memory) answer-so
+
+    steady : Steady (runIn F (startMemory F p K))
     unfolding afterCalls
-    steady = calls-traced s p K (runIn s (startMemory s p K)) begun-so [] .steady
+    steady = calls-traced s p K (runIn F (startMemory F p K)) begun-so [] .steady
 
     alone-list : walk noThread (alone .right) (alone .head) ≡ 0 ∷ []
     alone-list = walk-linked (alone .left) (alone .right) (alone .head) (0 ∷ []) alone-linked once-alone below-alone
 
-    pub start-stands : Stands s (startMemory s p K)
+    pub start-stands : Stands F (startMemory F p K)
     unfolding actives truths allBelow
     start-stands =
         record {
           steady = steady;
-          parent = parents-right (tableOf s) refl;
+          parent = parents-right (tableOf F) refl;
           second = subst (λ (l : List ℕ). LinkedAs alone (actives (set (replicate 1024 0) 0 1) l)) (sym alone-list) alone-linked;
           truth-values = refl;
           holds-size = refl;
@@ -214,31 +237,46 @@ open-refine s M a b c = go (soundIn s M) refl (blankIn M)
 
 -- ---- from a beginning on
 
-module _ (s : List ℕ) (p K : ℕ) (e : lentBegin s p K .number ≡ 0) where
-  -- the record of document 01's beginning stands in its memory
-  pub begun-stands : Stands s (lentBegin s p K .memory)
-  begun-stands = subst (λ (M : Memory). Stands s M) (sym (memory-so s p K e)) (start-stands s p K e)
+-- The table that runs, after a beginning that answered 0 with the buffer it leaves, is the filled-out one.
+pub runs-filled : (s : List ℕ) (p K : ℕ) (out : List ℕ) → lentBegin s p K (length out) .number ≡ 0
+    → tableThatRuns s (lentBegin s p K (length out)) (begunInto s p K out) ≡ filledOut s K
+unfolding tableThatRuns
+runs-filled s p K out e = rw (answer-so s p K (length out) e) (go (eqb (beginFilling s p K .bytes) 0) refl)
+  where
+    go : (q : Bool) → eqb (beginFilling s p K .bytes) 0 ≡ q → pick q s (take (beginFilling s p K .bytes) (begunInto s p K out)) ≡ filledOut s K
+    go true d = sym (given-runs s p K out (beginFilling s p K) refl (none s p K (length out) e .0) (eqb-true (beginFilling s p K .bytes) 0 d))
+    go false d =
+        front-is s p K out (beginFilling s p K) refl (none s p K (length out) e .0) (eqb-false (beginFilling s p K .bytes) 0 d) (room-so s p K (length out) e) (begunInto s p K out)
+        (rw (found-none s p K (length out) e))
 
-  pub begun-there : begin s p K ≡ record { answer = started; run = runIn s (lentBegin s p K .memory) }
-  begun-there = begun-so s p K e ∙ ap (λ (M : Memory). record { answer = started; run = runIn s M }) (sym (memory-so s p K e))
+module _ (s : List ℕ) (p K room : ℕ) (e : lentBegin s p K room .number ≡ 0) where
+  -- the record of document 01's beginning stands in its memory, with the filled-out table
+  pub begun-stands : Stands (filledOut s K) (lentBegin s p K room .memory)
+  begun-stands = subst (λ (M : Memory). Stands (filledOut s K) M) (sym (memory-so s p K room e)) (start-stands s p K room e)
+
+  pub begun-there : begin s p K ≡ record { answer = started; run = runIn (filledOut s K) (lentBegin s p K room .memory) }
+  begun-there = begun-so s p K room e ∙ ap (λ (M : Memory). record { answer = started; run = runIn (filledOut s K) M }) (sym (memory-so s p K room e))
+
+  pub begun-record : begin s p K ≡ record { answer = started; run = begin s p K .run }
+  begun-record = begun-there ∙ (λ i. record { answer = started; run = sym (ap (λ (x : Begun). x .run) begun-there) i })
 
   module _ (l : List LentCall) where
     abbrev left : Run
-    left = runIn s (lentAfter s l (lentBegin s p K .memory))
+    left = runIn (filledOut s K) (lentAfter (filledOut s K) l (lentBegin s p K room .memory))
 
     abbrev row : List ℕ
-    row = lentRow s l (lentBegin s p K .memory)
+    row = lentRow (filledOut s K) l (lentBegin s p K room .memory)
 
     holds : (P : Run → List ℕ → Type 0)
-        → P (afterCalls (movesOf l) (runIn s (lentBegin s p K .memory))) (rowOfCalls (movesOf l) (runIn s (lentBegin s p K .memory))) → P left row
+        → P (afterCalls (movesOf l) (runIn (filledOut s K) (lentBegin s p K room .memory))) (rowOfCalls (movesOf l) (runIn (filledOut s K) (lentBegin s p K room .memory))) → P left row
     holds P g =
-        let c = calls-refine s (lentBegin s p K .memory) begun-stands l in
-        subst (λ (x : Run). P x row) (sym (c .record-after)) (subst (λ (x : List ℕ). P (afterCalls (movesOf l) (runIn s (lentBegin s p K .memory))) x) (sym (c .row)) g)
+        let c = calls-refine (filledOut s K) (lentBegin s p K room .memory) begun-stands l in
+        subst (λ (x : Run). P x row) (sym (c .record-after)) (subst (λ (x : List ℕ). P (afterCalls (movesOf l) (runIn (filledOut s K) (lentBegin s p K room .memory))) x) (sym (c .row)) g)
 
     -- Demand 3 in lent memory: a beginning answered 0, and any list of calls followed, refused ones included
-    pub lent-limit : (most : ℕ) → 1 ≤ most → MemoryLimit (tableOf s) p K most left row
-    lent-limit most g = holds (MemoryLimit (tableOf s) p K most) (memory-limit s p K _ begun-there most g (movesOf l))
+    pub lent-limit : (most : ℕ) → 1 ≤ most → MemoryLimit (tableOf (filledOut s K)) p K most left row
+    lent-limit most g = holds (MemoryLimit (tableOf (filledOut s K)) p K most) (memory-limit s p K _ begun-there most g (movesOf l))
 
     -- and N2's limit on the threads in the list
-    pub lent-threads : (most : ℕ) → 1 ≤ most → ThreadLimit (tableOf s) p K most left row
-    lent-threads most g = holds (ThreadLimit (tableOf s) p K most) (thread-limit s p K _ begun-there most g (movesOf l))
+    pub lent-threads : (most : ℕ) → 1 ≤ most → ThreadLimit (tableOf (filledOut s K)) p K most left row
+    lent-threads most g = holds (ThreadLimit (tableOf (filledOut s K)) p K most) (thread-limit s p K _ begun-there most g (movesOf l))

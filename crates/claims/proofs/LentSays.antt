@@ -9,10 +9,11 @@ use denote.Ref.{RefT, now}
 use denote.Triple.Clauses.{AtExit}
 use borrow.Fn.Kinds.{endedOf}
 use mathlib.Core.Bool.{Bool, true, false}
-use lib.ListN.{replicate}
+use lib.ListN.{length, replicate}
 use Rattle.array_machine.specs.Arrays.{arrays}
 use Rattle.run_memory.specs.Memory.{Memory, memory, Answer, answer, lentTurn}
 use Rattle.run_memory.specs.Blocks.{memoryOf}
+use Rattle.soundness.specs.Tested.{begunInto}
 use Rattle.wivakkol.specs.Lent.{lentBegin, lentList, lentRounds}
 use Rattle.wivakkol.specs.Opened.{soundIn, blankIn, openedAs, lentOpen}
 use Rattle.claims.proofs.Shaped.{Shaped, bytesOf, wordsOf, numbersOf, sumsOf, in-blocks}
@@ -107,15 +108,18 @@ pub record RoundsSays (s : List ℕ) (limit : ℕ) (M : Memory) (a : Answer) : T
   pub left : answer (a .number) (now (exit .1 .1 .1 .1 .1 .1 .0)) (memoryOf (now (exit .1 .1 .0)) (now (exit .1 .1 .1 .0)) (now (exit .1 .1 .1 .1 .0)) (now (exit .1 .1 .1 .1 .1 .0))) ≡ a
   pub promised : rounds-promise.Learnt lifetimes (refs .table, (limit, (refs .bytes, (refs .words, (refs .numbers, (refs .sums, (refs .row, tt))))))) (a .number) exit
 
--- `wivakkol_begin_on`, lent a table s, answered a
-pub record BeginSays (s : List ℕ) (p K : ℕ) (a : Answer) : Type 0 where
-  pub lifetimes : Lfts 18
+-- `wivakkol_begin_on`, lent a table s and a buffer that held `out`, answered a and left `filled` there
+pub record BeginSays (s : List ℕ) (p K : ℕ) (out : List ℕ) (a : Answer) (filled : List ℕ) : Type 0 where
+  pub lifetimes : Lfts 19
   pub refs : Refs
   pub work : Work
-  pub exit : AtExit (endedOf 18 begin-kinds.ps begin-kinds.r) lifetimes
+  pub buffer : RefT (List ℕ)
+  pub exit : AtExit (endedOf 19 begin-kinds.ps begin-kinds.r) lifetimes
   pub lent-table : now (refs .table) ≡ s
+  pub lent-buffer : now buffer ≡ out
+  pub left-buffer : now (exit .1 .1 .1 .1 .1 .1 .1 .1 .1 .1 .1 .1 .1 .1 .1 .1 .1 .1 .1 .1 .0) ≡ filled
   pub left : answer (a .number) (now (exit .1 .1 .1 .1 .1 .1 .1 .1 .1 .1 .1 .1 .1 .1 .1 .1 .1 .0)) (memory (now (exit .1 .1 .1 .0)) (now (exit .1 .1 .1 .1 .0)) (arrays (now (exit .1 .1 .1 .1 .1 .0)) (now (exit .1 .1 .1 .1 .1 .1 .0)) (now (exit .1 .1 .1 .1 .1 .1 .1 .0)) (now (exit .1 .1 .1 .1 .1 .1 .1 .1 .0)) (now (exit .1 .1 .1 .1 .1 .1 .1 .1 .1 .0)) (now (exit .1 .1 .1 .1 .1 .1 .1 .1 .1 .1 .0)) (now (exit .1 .1 .1 .1 .1 .1 .1 .1 .1 .1 .1 .0))) (now (exit .1 .1 .1 .1 .1 .1 .1 .1 .1 .1 .1 .1 .0)) (now (exit .1 .1 .1 .1 .1 .1 .1 .1 .1 .1 .1 .1 .1 .0)) (now (exit .1 .1 .1 .1 .1 .1 .1 .1 .1 .1 .1 .1 .1 .1 .0)) (now (exit .1 .1 .1 .1 .1 .1 .1 .1 .1 .1 .1 .1 .1 .1 .1 .0)) (now (exit .1 .1 .1 .1 .1 .1 .1 .1 .1 .1 .1 .1 .1 .1 .1 .1 .0))) ≡ a
-  pub promised : begin-promise.Learnt lifetimes (refs .table, (p, (K, (refs .settings, (refs .parents, (refs .next, (refs .status, (refs .amounts, (refs .left, (refs .right, (refs .under, (refs .over, (refs .holds, (refs .threads, (refs .quotas, (refs .heads, (refs .totals, (refs .row, (work .rises, (work .falls, tt)))))))))))))))))))) (a .number) exit
+  pub promised : begin-promise.Learnt lifetimes (refs .table, (p, (K, (refs .settings, (refs .parents, (refs .next, (refs .status, (refs .amounts, (refs .left, (refs .right, (refs .under, (refs .over, (refs .holds, (refs .threads, (refs .quotas, (refs .heads, (refs .totals, (refs .row, (work .rises, (work .falls, (buffer, tt))))))))))))))))))))) (a .number) exit
 
 -- `wivakkol_open_on`, lent a table s and a run M, answered a
 pub record OpenSays (s : List ℕ) (M : Memory) (a : Answer) : Type 0 where
@@ -137,8 +141,11 @@ list-is {s} {l} {M} h = sym (h .left) ∙ h .promised ∙ (λ i. lentList (h .le
 pub rounds-is : {s : List ℕ} {limit : ℕ} {M : Memory} {a : Answer} → RoundsSays s limit M a → a ≡ lentRounds s limit M
 rounds-is {s} {limit} {M} h = sym (h .left) ∙ h .promised ∙ ap₂ (λ (t : List ℕ) (x : Memory). lentRounds t limit x) (h .lent-table) (h .lent-run)
 
-pub begin-is : {s : List ℕ} {p K : ℕ} {a : Answer} → BeginSays s p K a → a ≡ lentBegin s p K
-begin-is {s} {p} {K} h = sym (h .left) ∙ h .promised .0 ∙ ap (λ (t : List ℕ). lentBegin t p K) (h .lent-table)
+pub begin-is : {s : List ℕ} {p K : ℕ} {out filled : List ℕ} {a : Answer} → BeginSays s p K out a filled → a ≡ lentBegin s p K (length out)
+begin-is {s} {p} {K} h = sym (h .left) ∙ h .promised .0 ∙ (λ i. lentBegin (h .lent-table i) p K (length (h .lent-buffer i)))
+
+pub begin-into : {s : List ℕ} {p K : ℕ} {out filled : List ℕ} {a : Answer} → BeginSays s p K out a filled → filled ≡ begunInto s p K out
+begin-into {s} {p} {K} h = sym (h .left-buffer) ∙ h .promised .1 .0 ∙ (λ i. begunInto (h .lent-table i) p K (h .lent-buffer i))
 
 pub open-is : {s : List ℕ} {M : Memory} {a : Answer} → OpenSays s M a → a ≡ lentOpen s M
 open-is {s} {M} h = sym (h .left) ∙ h .promised .0 ∙ ap₂ (λ (t : List ℕ) (x : Memory). lentOpen t x) (h .lent-table) (h .lent-run)
@@ -159,10 +166,10 @@ cleared = replicate 1024 0
 abbrev workOf : Work
 workOf = record { rises = lentOf cleared; falls = lentOf cleared; forks = lentOf cleared; seen = lentOf cleared; list = lentOf cleared }
 
-pub begin-says : (s : List ℕ) (p K : ℕ) → BeginSays s p K (lentBegin s p K)
-begin-says s p K =
-    let a : Answer = lentBegin s p K in
-    record { lifetimes = ([], ([], ([], ([], ([], ([], ([], ([], ([], ([], ([], ([], ([], ([], ([], ([], ([], ([], tt)))))))))))))))))); refs = refsOf s (a .memory); work = workOf; exit = (lentOf s, (p, (K, (lentOf (a .memory .settings), (lentOf (a .memory .parents), (lentOf (a .memory .arrays .next), (lentOf (a .memory .arrays .status), (lentOf (a .memory .arrays .amounts), (lentOf (a .memory .arrays .left), (lentOf (a .memory .arrays .right), (lentOf (a .memory .arrays .under), (lentOf (a .memory .arrays .over), (lentOf (a .memory .holds), (lentOf (a .memory .threads), (lentOf (a .memory .quotas), (lentOf (a .memory .heads), (lentOf (a .memory .totals), (lentOf (a .row), (lentOf cleared, (lentOf cleared, tt)))))))))))))))))))); lent-table = refl; left = refl; promised = (refl, (refl, refl)) }
+pub begin-says : (s : List ℕ) (p K : ℕ) (out : List ℕ) → BeginSays s p K out (lentBegin s p K (length out)) (begunInto s p K out)
+begin-says s p K out =
+    let a : Answer = lentBegin s p K (length out) in
+    record { lifetimes = ([], ([], ([], ([], ([], ([], ([], ([], ([], ([], ([], ([], ([], ([], ([], ([], ([], ([], ([], tt))))))))))))))))))); refs = refsOf s (a .memory); work = workOf; buffer = lentOf out; exit = (lentOf s, (p, (K, (lentOf (a .memory .settings), (lentOf (a .memory .parents), (lentOf (a .memory .arrays .next), (lentOf (a .memory .arrays .status), (lentOf (a .memory .arrays .amounts), (lentOf (a .memory .arrays .left), (lentOf (a .memory .arrays .right), (lentOf (a .memory .arrays .under), (lentOf (a .memory .arrays .over), (lentOf (a .memory .holds), (lentOf (a .memory .threads), (lentOf (a .memory .quotas), (lentOf (a .memory .heads), (lentOf (a .memory .totals), (lentOf (a .row), (lentOf cleared, (lentOf cleared, (lentOf (begunInto s p K out), tt))))))))))))))))))))); lent-table = refl; lent-buffer = refl; left-buffer = refl; left = refl; promised = (refl, (refl, (refl, refl))) }
 
 -- the blocks of a memory
 abbrev blocksOf : List ℕ → Memory → Blocks

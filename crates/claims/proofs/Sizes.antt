@@ -12,7 +12,7 @@ use Rattle.table.specs.declared.Found.{Found}
 use Rattle.table.specs.declared.Found.the-variants.{Nothing, At}
 use Rattle.schedule.specs.declared.Worker.{Worker}
 use Rattle.schedule.specs.declared.Reply.the-variants.{Idle, Done, Quota, Wait}
-use Rattle.schedule.specs.Machine.{parentOf, ready, held, waiting, ended, nobody}
+use Rattle.schedule.specs.Machine.{drawn, parentOf, ready, held, waiting, ended, nobody}
 use Rattle.order.specs.Firsts.{firsts}
 use Rattle.schedule.specs.Links.{noThread, Links, linkLeft, unlink, seek}
 use Rattle.table.specs.Checks.{maxThreads}
@@ -23,7 +23,8 @@ use Rattle.schedule.specs.Calls.{Call, turn, overList, inRounds}
 use Rattle.schedule.specs.Runs.{workerAt}
 use Rattle.order.proofs.Lists.{filled-front, filled-length, firsts-length}
 use Rattle.schedule.proofs.Stores.{steady-lawful}
-use Rattle.soundness.specs.Tested.{parentsIn, beginFound}
+use Rattle.filling.specs.Filled.{filledOut}
+use Rattle.soundness.specs.Tested.{parentsIn, beginFilling}
 use Rattle.array_machine.specs.declared.Totals.{Totals}
 use Rattle.array_machine.specs.declared.Moved.{Moved}
 use Rattle.array_machine.specs.Arrays.{Arrays, linksOf, secondOf, actionIn, amountIn, withStatuses, withAmounts, advancedIn, relinked, headed, holding}
@@ -80,14 +81,14 @@ chosen : (b : Bool) (x y : Outcome) → Sized (x .arrays) → Sized (y .arrays) 
 chosen true x y h k = h
 chosen false x y h k = k
 
-module _ (T : Table) (parents : List ℕ) (t a x : ℕ) (A : Arrays) (totals : Totals) (worker : Worker) (h : Sized A) where
+module _ (T : Table) (K : ℕ) (parents : List ℕ) (t a x : ℕ) (A : Arrays) (totals : Totals) (worker : Worker) (h : Sized A) where
   abbrev on : Arrays
   on = advancedIn t A
 
   abbrev stays : Outcome
   stays = unfit A totals worker
 
-  act-sized : (k : Kind) → Sized (actOn k T parents t a x A totals worker .arrays)
+  act-sized : (k : Kind) → Sized (actOn k T K parents t a x A totals worker .arrays)
   unfolding actOn
   act-sized end =
       let u : ℕ = getD parents t 0 in
@@ -103,9 +104,9 @@ module _ (T : Table) (parents : List ℕ) (t a x : ℕ) (A : Arrays) (totals : T
       let rises : List ℕ = set (A .amounts) t (amountIn A t + x) in
       let e : Full rises = simp length-set (h .amounts) in
       let f : Full (set (A .status) t ready) = simp length-set (h .status) in
-      let done : Outcome = moved (Done t a) (withAmounts rises on) (holding (totals .held + x) totals) (record { holds = true; thread = t; quota = worker .quota - x }) in
+      let done : Outcome = moved (Done t a) (withAmounts rises on) (holding (totals .held + x) totals) (record { holds = true; thread = t; quota = worker .quota - drawn K x }) in
       let fits : Bool = nextFits a && (amountFits (totals .held + x) && amountFits (amountIn A t + x)) in
-      chosen (leb x (worker .quota)) (pick fits done stays) (moved (Quota t x) (withStatuses (set (A .status) t ready) A) totals nobody)
+      chosen (leb (drawn K x) (worker .quota)) (pick fits done stays) (moved (Quota t x) (withStatuses (set (A .status) t ready) A) totals nobody)
       (chosen fits done stays (with-amounts (advances h t) e) h) (with-statuses h f)
   act-sized free =
       let falls : List ℕ = set (A .amounts) t (amountIn A t - x) in
@@ -152,12 +153,12 @@ module _ (T : Table) (K : ℕ) (parents : List ℕ) (A : Arrays) (h : Sized A) w
       let t : ℕ = y .worker .thread in
       let a : ℕ = actionIn B t in
       let seated : Sized B = with-statuses h (seat-full K (seek maxThreads (A .status) (A .over) (totals .first) .thread) (A .status) worker (h .status)) in
-      let acts : Outcome = actOn (kind T a) T parents t a (T .argument a) B totals (y .worker) in
+      let acts : Outcome = actOn (kind T a) T K parents t a (T .argument a) B totals (y .worker) in
       let there : Outcome = pick (ltb t maxThreads) acts (unfit B totals (y .worker)) in
       let none : Outcome = unfit A totals worker in
       chosen (y .worker .holds) (pick (there .fits) there none) (moved Idle A totals worker)
       (chosen (there .fits) there none
-      (chosen (ltb t maxThreads) acts (unfit B totals (y .worker)) (act-sized T parents t a (T .argument a) B totals (y .worker) seated (kind T a)) seated) h) h
+      (chosen (ltb t maxThreads) acts (unfit B totals (y .worker)) (act-sized T K parents t a (T .argument a) B totals (y .worker) seated (kind T a)) seated) h) h
 
   turn-sized : (w : ℕ) (m : Moved) (worker : Worker) → Sized (turnOn T K parents w A m worker .arrays)
   unfolding turnOn
@@ -293,21 +294,23 @@ blank-shaped =
       totals = refl;
     }
 
-pub begin-shaped : (s : List ℕ) (p K : ℕ) → Shaped (lentBegin s p K .memory)
+pub begin-shaped : (s : List ℕ) (p K room : ℕ) → Shaped (lentBegin s p K room .memory)
 unfolding lentBegin
-begin-shaped s p K = go (beginFound s p K) refl
+begin-shaped s p K room = go (beginFilling s p K .found) refl (ltb room (beginFilling s p K .bytes)) refl
   where
-    go : (f : Found) → beginFound s p K ≡ f → Shaped (begunAs f (startMemory s p K) .memory)
-    go (At x) e = blank-shaped
-    go Nothing e =
-        let begun : lentBegin s p K .number ≡ 0 = rw e in
-        let few = few-so s (startMemory s p K) (start-stands s p K begun .steady) in
+    go : (f : Found) → beginFilling s p K .found ≡ f → (b : Bool) → ltb room (beginFilling s p K .bytes) ≡ b
+        → Shaped (begunAs f b (beginFilling s p K .bytes) (startMemory (filledOut s K) p K) .memory)
+    go (At x) e b c = blank-shaped
+    go Nothing e true c = blank-shaped
+    go Nothing e false c =
+        let begun : lentBegin s p K room .number ≡ 0 = rw (e, c) in
+        let few = few-so (filledOut s K) (startMemory (filledOut s K) p K) (start-stands s p K room begun .steady) in
         record {
           settings = refl;
-          parents = full-parents (tableOf s) few;
+          parents = full-parents (tableOf (filledOut s K)) few;
           arrays =
               record {
-                next = full-firsts (tableOf s .first) (tableOf s .threads) few;
+                next = full-firsts (tableOf (filledOut s K) .first) (tableOf (filledOut s K) .threads) few;
                 status = simp length-set (same 0);
                 amounts = same 0;
                 left = same 1024;

@@ -25,6 +25,11 @@ unfoldable pub lentCall : List ℕ → LentCall → Memory → Answer
 lentCall s (moving c) M = lentMove s c M
 lentCall s opening M = lentOpen s M
 
+-- The table that every call after a beginning is given, from its answer and what the buffer then holds: as given where the row names no bytes, else so many from the buffer's front
+-- ("Replies, records .. name the filled-out table", N6).
+unfoldable pub tableThatRuns : List ℕ → Answer → List ℕ → List ℕ
+tableThatRuns s a filled = pick (eqb (getD (a .row) 1 0) 0) s (take (getD (a .row) 1 0) filled)
+
 -- what C gets of it: the number returned, 0 where nothing is refused, and the row filled
 pub record Returned : Type 0 where
   pub number : ℕ

@@ -6,10 +6,6 @@ use mathlib.Core.Bool.{Bool, true, false}
 use native.Mathlib.Omega.{arith}
 use lib.ListN.{length, drop, length-take}
 use Rattle.table.specs.Sum.{pick}
-use Rattle.table.specs.Load.{loaded}
-use Rattle.table.specs.declared.Loaded.{Loaded}
-use Rattle.table.specs.declared.Loaded.the-variants.{Accepted, Refused}
-use Rattle.text.specs.Text.{acceptedLine}
 use Rattle.schedule.specs.declared.Beginning.{Beginning}
 use Rattle.schedule.specs.declared.Beginning.the-variants.{Begun as started}
 use Rattle.schedule.specs.declared.Beginning.the-variants.{Refused as refusedBeginning}
@@ -26,20 +22,20 @@ use Rattle.chart.specs.declared.Charted.the-variants.{Written}
 use Rattle.chart.specs.Chart.{mostTurns, charted}
 use Rattle.chart.specs.Turns.{laterLines, chartBy}
 use Rattle.chart.proofs.Records.{steady-written}
-use Rattle.listing.specs.Listing.{workersIn, quotaIn, orderLength, orderIn, tableAfter, maxOrder, inputWrong, headed, listedBy, wrongInput, listingBy, listingOf}
+use Rattle.listing.specs.Listing.{workersIn, quotaIn, orderLength, orderIn, tableAfter, maxOrder, inputWrong, headerOf, listedBy, wrongInput, listingBy, listingOf}
 use Rattle.listing.specs.Listing.{begunThen, walledBy, wallBy, wallOf}
 use Rattle.listing.specs.Cases.{Case, cases, ownCases, Worked, worked, always, wallCases, walls}
 use Rattle.listing.proofs.Inputs.{right}
 
 listed-sound : (t : List ℕ) (p K : ℕ) (order : List ℕ) → length order < 2 ^ 64 → listedBy turned t p K order ≡ listedBy turnedSound t p K order
 unfolding listedBy
-listed-sound t p K order k = go (loaded t) (begin t p K .answer) refl
+listed-sound t p K order k = go (begin t p K .answer) refl
   where
-    go : (l : Loaded) (a : Beginning) → begin t p K .answer ≡ a
-        → headed l a (textsOf (turnsBy rootEnded turned (begin t p K .run) order)) ≡ headed l a (textsOf (turnsBy rootEnded turnedSound (begin t p K .run) order))
-    go (Accepted f) started e = ap (λ (x : Listing). acceptedLine f ∷ textsOf x) (begun-turned rootEnded t p K order k e)
-    go (Accepted f) (refusedBeginning x) e = refl
-    go (Refused x) a e = refl
+    go : (a : Beginning) → begin t p K .answer ≡ a
+        → begunThen a (headerOf (begin t p K .run) ∷ textsOf (turnsBy rootEnded turned (begin t p K .run) order))
+        ≡ begunThen a (headerOf (begin t p K .run) ∷ textsOf (turnsBy rootEnded turnedSound (begin t p K .run) order))
+    go started e = ap (λ (x : Listing). headerOf (begin t p K .run) ∷ textsOf x) (begun-turned rootEnded t p K order k e)
+    go (refusedBeginning x) e = refl
 
 pub listing-sound : (s : List ℕ) → listingOf s ≡ listingBy turnedSound s
 unfolding listingBy

@@ -16,11 +16,14 @@ use Rattle.table.specs.Cases.{E, twoAllocs, bytes16}
 use Rattle.text.specs.Text.{ascii, digitsOf, decimal, acceptedLine, refusedLine}
 use Rattle.schedule.specs.Machine.{leftOf, without, waitsFor, woken, actBy, act, leftmost, taken, turnFree, turnOf}
 use Rattle.schedule.specs.Record.{setOf}
-use Rattle.schedule.specs.Begin.{allocAbove, startState, startRun, begin}
+use Rattle.schedule.specs.Begin.{startState, startRun, begin}
+use Rattle.filling.specs.Filled.{big, dummies, newThreads, newActions, treeOf, sumBefore, rootOf, filledFrom, oldBodies, treesAlong, filledBodies, filledOut, overfull}
+use Rattle.table.specs.Written.{entryRows, actionRows, tableRows}
+use Rattle.table.specs.Written.{written as writtenTable}
 use Rattle.order.specs.Firsts.{firsts}
 use Rattle.schedule.specs.Links.{walk, rightIn}
 use Rattle.schedule.specs.Turn.{rootEnded, noWorker, stepRun}
-use Rattle.schedule.specs.Cases.{turnedSound, orderE, orderWait}
+use Rattle.schedule.specs.Cases.{turnedSound, orderE, orderFilled, orderWait}
 use Rattle.lines.specs.Lines.{kindWord, toldTexts, turnTexts, lastTexts, linesThen}
 use Rattle.schedule.specs.declared.Run.{Run}
 use Rattle.chart.specs.declared.Charted.{Charted}
@@ -107,8 +110,58 @@ notBegun =
     headerOfE
     ++ ascii "open 0 peak 0\n"
 
-abbrev pub refused22 : List ℕ
-refused22 = ascii "refused 22 5\n"
+-- E with p 2, K 5 and the order 0, 1: the header and the turns are of the filled-out table (N6)
+abbrev pub linesFilled : List ℕ
+linesFilled =
+    ascii "table 9 34 serial 6 depth 17\n"
+    ++ ascii "1 0 0 0 fork 0\n"
+    ++ ascii "2 1 1 5 fork 0\n"
+    ++ ascii "3 0 3 16 fork 0\n"
+    ++ ascii "4 1 4 21 work 0\n"
+    ++ ascii "5 0 3 17 fork 0\n"
+    ++ ascii "6 1 4 22 end 0\n"
+    ++ ascii "7 0 5 23 work 0\n"
+    ++ ascii "8 1 3 18 wait 0\n"
+    ++ ascii "9 0 5 24 end 0\n"
+    ++ ascii "10 1 3 18 join 0\n"
+    ++ ascii "11 0 1 6 wait 0\n"
+    ++ ascii "12 1 3 19 join 0\n"
+    ++ ascii "13 0 0 1 fork 0\n"
+    ++ ascii "14 1 3 20 end 0\n"
+    ++ ascii "15 0 1 6 join 0\n"
+    ++ ascii "16 1 2 11 fork 0\n"
+    ++ ascii "17 0 1 7 alloc 6\n"
+    ++ ascii "18 1 6 25 fork 6\n"
+    ++ ascii "19 0 1 8 work 6\n"
+    ++ ascii "20 1 7 30 work 6\n"
+    ++ ascii "21 0 1 9 free 0\n"
+    ++ ascii "22 1 7 31 end 0\n"
+    ++ ascii "23 0 1 10 end 0\n"
+    ++ ascii "24 1 6 26 fork 0\n"
+    ++ ascii "25 0 8 32 work 0\n"
+    ++ ascii "26 1 6 27 wait 0\n"
+    ++ ascii "27 0 8 33 end 0\n"
+    ++ ascii "28 1 6 27 join 0\n"
+    ++ ascii "29 0 2 12 wait 0\n"
+    ++ ascii "30 1 6 28 join 0\n"
+    ++ ascii "31 0 0 2 wait 0\n"
+    ++ ascii "32 1 6 29 end 0\n"
+    ++ ascii "33 0 2 12 join 0\n"
+    ++ ascii "34 1 - - idle 0\n"
+    ++ ascii "35 0 2 13 alloc 6\n"
+    ++ ascii "36 1 - - idle 6\n"
+    ++ ascii "37 0 2 14 free 0\n"
+    ++ ascii "38 1 - - idle 0\n"
+    ++ ascii "39 0 2 15 end 0\n"
+    ++ ascii "40 1 0 2 join 0\n"
+    ++ ascii "41 0 - - idle 0\n"
+    ++ ascii "42 1 0 3 join 0\n"
+    ++ ascii "43 0 - - idle 0\n"
+    ++ ascii "44 1 0 4 end 0\n"
+    ++ ascii "done 44 peak 6\n"
+
+abbrev pub refused21 : List ℕ
+refused21 = ascii "refused 21 0\n"
 
 abbrev pub refused1 : List ℕ
 refused1 = ascii "refused 1 0\n"
@@ -128,8 +181,8 @@ cases =
     ∷ prints (inputOf 1 6 (0 ∷ 0 ∷ []) twoAllocs) linesQuota
     -- "Worker 2 instead: 30"; "30 comes after the header and the turns before it"
     ∷ prints (inputOf 2 6 (orderWait ++ (2 ∷ [])) E) (linesBefore ++ endsRefused)
-    -- "With K 5: 22 at action 5"; "Refusals 1 to 22 and 33 are the only line"
-    ∷ prints (inputOf 2 5 orderE E) refused22
+    -- "With K 5: 22 at action 5"; since N6 "Number 22 no longer occurs, and E with K 5 is accepted"
+    ∷ prints (inputOf 2 5 orderFilled E) linesFilled
     ∷ []
 
 -- our own, with no star
@@ -140,6 +193,8 @@ ownCases =
     prints (inputOf 2 6 (orderE ++ (0 ∷ [])) E) linesOfE
     -- an empty order
     ∷ prints (inputOf 2 6 [] E) notBegun
+    -- "Refusals 1 to 22 and 33 are the only line"
+    ∷ prints (inputOf 2 0 orderE E) refused21
     -- "Order of checks: 33, table, beginning, turns.": the table before p and K
     ∷ prints (inputOf 0 0 [] []) refused1
     -- "input under 6 bytes, order above 4,096, or fewer bytes than the order"
@@ -153,7 +208,7 @@ abbrev pub Worked : (List ℕ → List ℕ) → List Case → Type 0
 Worked print l = map (λ (c : Case). print (c .input)) l ≡ map (λ (c : Case). c .text) l
 
 pub worked : Worked (listingBy turnedSound) cases × Worked (listingBy turnedSound) ownCases
-unfolding cases ownCases flatten inputWrong listedBy listingBy kindWord toldTexts turnTexts lastTexts linesThen acceptedLine refusedLine decimal digitsOf loaded factsOf sumTo sumOver greatest anyBelow codeOf kindOf is tableOf tryAt tryFrom tryPass firstFound entryWrong totalWrong ownerBelow kindUnknown argumentWrong endMisplaced forkedBelow forkedBefore openBefore joinNotLatest endWithOpen neverForked allocOf freeOf wholeWithin balance balanceBelow0 passes serialWithin fronts heldAfter peakOf S1 forkBelow forkOf beforeIt joinedEnd dependsOn levelWithin D leftOf without waitsFor woken actBy act leftmost taken turnFree turnOf setOf allocAbove firsts walk rightIn startState startRun begin rootEnded noWorker stepRun
+unfolding cases ownCases flatten inputWrong listedBy listingBy kindWord toldTexts turnTexts lastTexts linesThen acceptedLine refusedLine decimal digitsOf loaded factsOf sumTo sumOver greatest anyBelow codeOf kindOf is tableOf tryAt tryFrom tryPass firstFound entryWrong totalWrong ownerBelow kindUnknown argumentWrong endMisplaced forkedBelow forkedBefore openBefore joinNotLatest endWithOpen neverForked allocOf freeOf wholeWithin balance balanceBelow0 passes serialWithin fronts heldAfter peakOf S1 forkBelow forkOf beforeIt joinedEnd dependsOn levelWithin D leftOf without waitsFor woken actBy act leftmost taken turnFree turnOf setOf entryRows actionRows tableRows writtenTable big dummies newThreads newActions treeOf sumBefore rootOf filledFrom oldBodies treesAlong filledBodies filledOut overfull firsts walk rightIn startState startRun begin rootEnded noWorker stepRun
 worked = (refl, refl)
 
 -- ---- the wall chart
@@ -195,7 +250,7 @@ wallCases =
     -- an empty order
     ∷ prints (inputOf 2 6 [] E) wallOfE
     -- the checks of the listing
-    ∷ prints (inputOf 2 5 orderE E) refused22
+    ∷ prints (inputOf 2 0 orderE E) refused21
     ∷ prints (inputOf 0 0 [] []) refused1
     ∷ prints (2 ∷ 6 ∷ 0 ∷ 0 ∷ bytes16 1) refused33
     ∷ []
@@ -205,5 +260,5 @@ abbrev pub always : Run → Charted
 always r = Written
 
 pub walls : Worked (wallBy always turnedSound) wallCases
-unfolding wallCases flatten inputWrong walledBy wallBy lineTexts cellsTexts cellTexts rightTexts cellsFrom refusedLine decimal digitsOf loaded factsOf sumTo sumOver greatest anyBelow codeOf kindOf is tableOf tryAt tryFrom tryPass firstFound entryWrong totalWrong ownerBelow kindUnknown argumentWrong endMisplaced forkedBelow forkedBefore openBefore joinNotLatest endWithOpen neverForked allocOf freeOf wholeWithin balance balanceBelow0 passes serialWithin fronts heldAfter peakOf S1 forkBelow forkOf beforeIt joinedEnd dependsOn levelWithin D leftOf without waitsFor woken actBy act leftmost taken turnFree turnOf setOf allocAbove firsts walk rightIn startState startRun begin rootEnded noWorker stepRun
+unfolding wallCases flatten inputWrong walledBy wallBy lineTexts cellsTexts cellTexts rightTexts cellsFrom refusedLine decimal digitsOf loaded factsOf sumTo sumOver greatest anyBelow codeOf kindOf is tableOf tryAt tryFrom tryPass firstFound entryWrong totalWrong ownerBelow kindUnknown argumentWrong endMisplaced forkedBelow forkedBefore openBefore joinNotLatest endWithOpen neverForked allocOf freeOf wholeWithin balance balanceBelow0 passes serialWithin fronts heldAfter peakOf S1 forkBelow forkOf beforeIt joinedEnd dependsOn levelWithin D leftOf without waitsFor woken actBy act leftmost taken turnFree turnOf setOf entryRows actionRows tableRows writtenTable big dummies newThreads newActions treeOf sumBefore rootOf filledFrom oldBodies treesAlong filledBodies filledOut overfull firsts walk rightIn startState startRun begin rootEnded noWorker stepRun
 walls = refl

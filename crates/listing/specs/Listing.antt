@@ -8,15 +8,14 @@ use Rattle.table.specs.Sum.{pick}
 use Rattle.table.specs.Format.{u16At, u24At}
 use Rattle.table.specs.Pass.{refusal}
 use Rattle.table.specs.Load.{loaded}
-use Rattle.table.specs.declared.Loaded.{Loaded}
-use Rattle.table.specs.declared.Loaded.the-variants.{Accepted, Refused}
-use Rattle.text.specs.Text.{acceptedLine, refusedLine}
+use Rattle.text.specs.Text.{lineOf, refusedLine}
 use Rattle.schedule.specs.declared.Run.{Run}
 use Rattle.schedule.specs.declared.Turned.{Turned}
 use Rattle.schedule.specs.declared.Beginning.{Beginning}
 use Rattle.schedule.specs.declared.Beginning.the-variants.{Begun as started}
 use Rattle.schedule.specs.declared.Beginning.the-variants.{Refused as refusedBeginning}
 use Rattle.schedule.specs.declared.Ran.{Ran}
+use Rattle.schedule.specs.Record.{bytesOf}
 use Rattle.schedule.specs.Begin.{begin}
 use Rattle.schedule.specs.Turn.{rootEnded, turned}
 use Rattle.schedule.specs.Runs.{roundsRun}
@@ -51,15 +50,18 @@ maxOrder = 4096
 unfoldable pub inputWrong : List ℕ → Bool
 inputWrong s = ltb (length s) 6 || (ltb maxOrder (orderLength s) || ltb (length s) (6 + orderLength s))
 
--- "Refusals 1 to 22 and 33 are the only line": the table's answer first, then the beginning's; the header, "n, m, S1, D", where both accept
-abbrev pub headed : Loaded → Beginning → List (List ℕ) → List (List ℕ)
-headed (Accepted f) started rest = acceptedLine f ∷ rest
-headed (Accepted f) (refusedBeginning x) rest = refusedLine x ∷ []
-headed (Refused x) b rest = refusedLine x ∷ []
+-- "Refusals 1 to 22 and 33 are the only line": the beginning's, the table's among them
+abbrev pub begunThen : Beginning → List (List ℕ) → List (List ℕ)
+begunThen started rest = rest
+begunThen (refusedBeginning x) rest = refusedLine x ∷ []
+
+-- the header, "n, m, S1, D": "records and the listing's header name the filled-out table" (N6)
+abbrev pub headerOf : Run → List ℕ
+headerOf r = lineOf (loaded (bytesOf r))
 
 -- the table's bytes, p, K, and the order; the run stops at the root's end, whatever is left of the order
 unfoldable pub listedBy : (Run → ℕ → Turned) → List ℕ → ℕ → ℕ → List ℕ → List (List ℕ)
-listedBy turn t p K order = headed (loaded t) (begin t p K .answer) (textsOf (turnsBy rootEnded turn (begin t p K .run) order))
+listedBy turn t p K order = begunThen (begin t p K .answer) (headerOf (begin t p K .run) ∷ textsOf (turnsBy rootEnded turn (begin t p K .run) order))
 
 -- the only line of an input that the program itself refuses
 abbrev pub wrongInput : List (List ℕ)
@@ -73,11 +75,6 @@ abbrev pub listingOf : List ℕ → List ℕ
 listingOf = listingBy turned
 
 -- ---- the wall chart of a run over an order
-
--- the beginning's refusal, the table's among them, is the only line
-abbrev pub begunThen : Beginning → List (List ℕ) → List (List ℕ)
-begunThen started rest = rest
-begunThen (refusedBeginning x) rest = refusedLine x ∷ []
 
 -- a line for the record of the beginning and one after each turn
 unfoldable pub walledBy : (Run → Charted) → (Run → ℕ → Turned) → List ℕ → ℕ → ℕ → List ℕ → List (List ℕ)

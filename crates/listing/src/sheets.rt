@@ -3,29 +3,38 @@ use crate::chart_turns;
 use crate::list_turns;
 use lines::put_answer;
 use schedule::Beginning;
+use schedule::Run;
 use table::Loaded;
-ghost use Prim.Native.Nat.{_+_, _*_};
+ghost use Prim.Native.Nat.{_+_, _*_, _≤_};
+ghost use mathlib.Core.List.{[], _∷_};
 ghost use lib.ListN.{length};
 ghost use Rattle.schedule.specs.Turn.{turned as turnedOf};
 ghost use Rattle.chart.specs.Chart.{charted};
-ghost use Rattle.listing.specs.Listing.{listedBy, walledBy};
+ghost use Rattle.listing.specs.Listing.{headerOf, listedBy, walledBy};
 ghost use Rattle.text.specs.Puts.{Puts};
 
-// The table's checks, the beginning's, and the turns.
+// The header: the facts of the record's table.
+fn put_header(run: Run, out: &mut [u8]) -> usize
+    requires { ⌜ run .length ≤ 36868 ⌝ }
+    ensures { λ r. ⌜ Puts (now (out .entry)) 0 (now (out .exit)) r (headerOf run ∷ []) 64 ⌝ }
+{
+    let length = run.length as usize;
+    let table = run.table;
+    let loaded = facts::load(&table[..length]);
+    put_answer(out, 0, loaded)
+}
+
+// The checks of the beginning, the table's among them, and the turns.
 pub(crate) fn put_listing(table: &[u8], p: u8, quota: u32, order: &[u8], out: &mut [u8]) -> usize
     ensures { λ r. ⌜ Puts (now (out .entry)) 0 (now (out .exit)) r (listedBy turnedOf (now (table .entry)) p quota (now (order .entry))) (64 * (length (now (order .entry)) + 2)) ⌝ }
 {
-    let loaded = facts::load(table);
-    if let Loaded::Refused(_) = loaded {
-        return put_answer(out, 0, loaded);
-    }
     let begun = asyncdf::begin(table, p, quota);
     let answer = begun.answer;
     if let Beginning::Refused(refusal) = answer {
         return put_answer(out, 0, Loaded::Refused(refusal));
     }
     let run = begun.run;
-    let at = put_answer(out, 0, loaded);
+    let at = put_header(run, out);
     list_turns(run, order, out, at)
 }
 

@@ -1,3 +1,4 @@
 pub mod Words
 pub mod Firsts
 pub mod Order
+pub mod Turns

@@ -11,7 +11,7 @@ use Rattle.table.specs.Sum.{pick}
 use Rattle.table.specs.Format.{Table, work, alloc, free, unknown}
 use Rattle.schedule.specs.declared.Worker.{Worker}
 use Rattle.schedule.specs.declared.Reply.the-variants.{Idle, Done, Quota}
-use Rattle.schedule.specs.Machine.{ready, held, nobody}
+use Rattle.schedule.specs.Machine.{drawn, ready, held, nobody}
 use Rattle.table.proofs.Tests.{and-both}
 use Rattle.array_machine.proofs.Leaves.{fits-and}
 use Rattle.array_machine.specs.Turn.{nextFits, amountFits, actOn}
@@ -76,6 +76,10 @@ room-in {M} {w} h p q = rw (p, q) (h .few, λ e. h .room (ap not e))
 pub next-at : (next : List ℕ) (t a : ℕ) → a ≡ getD next t 0 → set next t (a + 1) ≡ set next t (suc (getD next t 0))
 next-at next t a e = rw (e, add-one)
 
+-- what an alloc draws, of the setting read
+pub share : {K k : ℕ} (x : ℕ) {y : ℕ} → k ≡ K → y ≡ drawn k x → y ≡ drawn K x
+share x e h = h ∙ ap (λ (k : ℕ). drawn k x) e
+
 -- ---- what a test says that passed
 
 pub alloc-room : {f : Bool} (a h o x : ℕ) → f ≡ true → f ≡ (nextFits a && (amountFits (h + x) && amountFits (o + x))) → (a + 1 < 65536) × ((h + x < 2 ^ 64) × (o + x < 2 ^ 64))
@@ -112,19 +116,19 @@ module _ (B : Bytes) (W : Words) (N : Numbers) (S : Sums) (T : Table) (w t a x :
   unknown-kept k = rw k
 
   -- beyond the quota the thread is ready, and the worker is released
-  pub alloc-beyond : {q : ℕ} → q ≡ seatedQuota (gathered B W N S) w → q < x
+  pub alloc-beyond : {q y : ℕ} → q ≡ seatedQuota (gathered B W N S) w → y ≡ drawn (N .quota) x → q < y
       → gone (record { fits = true; reply = Quota t x })
       (gathered (settled w nobody (statused t ready B)) (settledWords w (holdsIn w B) nobody W) (settledNumbers w nobody N) S)
       ≡ acted alloc T w t a x (gathered B W N S)
   unfolding wentIn actOn
-  alloc-beyond k h =
-      let d : seatedQuota (gathered B W N S) w < x = rw k at h in
-      rw (lt-leb x (seatedQuota (gathered B W N S) w) d, set-seated (holdsIn w B) (B .status) t held ready)
+  alloc-beyond k r h =
+      let d : seatedQuota (gathered B W N S) w < drawn (N .quota) x = rw (k, r) at h in
+      rw (lt-leb (drawn (N .quota) x) (seatedQuota (gathered B W N S) w) d, set-seated (holdsIn w B) (B .status) t held ready)
 
   module _ {f : Bool} {own all : ℕ} (o : own ≡ getD (S .amounts) t 0) (l : all ≡ S .held) where
-    module _ {q : ℕ} (k : q ≡ seatedQuota (gathered B W N S) w) (h : x ≤ q) (d : f ≡ (nextFits a && (amountFits (all + x) && amountFits (own + x)))) where
-      within : leb x (seatedQuota (gathered B W N S) w) ≡ true
-      within = let p : x ≤ seatedQuota (gathered B W N S) w = rw k at h in le-leb x (seatedQuota (gathered B W N S) w) p
+    module _ {q y : ℕ} (k : q ≡ seatedQuota (gathered B W N S) w) (r : y ≡ drawn (N .quota) x) (h : y ≤ q) (d : f ≡ (nextFits a && (amountFits (all + x) && amountFits (own + x)))) where
+      within : leb (drawn (N .quota) x) (seatedQuota (gathered B W N S) w) ≡ true
+      within = let p : drawn (N .quota) x ≤ seatedQuota (gathered B W N S) w = rw (k, r) at h in le-leb (drawn (N .quota) x) (seatedQuota (gathered B W N S) w) p
 
       fitting : f ≡ (nextFits a && (amountFits (S .held + x) && amountFits (getD (S .amounts) t 0 + x)))
       fitting = d ∙ (λ i. nextFits a && (amountFits (l i + x) && amountFits (o i + x)))
@@ -135,11 +139,11 @@ module _ (B : Bytes) (W : Words) (N : Numbers) (S : Sums) (T : Table) (w t a x :
 
       pub alloc-done : f ≡ true → Seated (gathered B W N S) w t a
           → gone (record { fits = true; reply = Done t a })
-          (gathered (settled w (having t (q - x)) (seatedBytes w t B)) (settledWords w (holdsIn w B) (having t (q - x)) (rowed 1 t (a + 1) W))
-          (settledNumbers w (having t (q - x)) N) (heldSums (all + x) (amounted t (own + x) S)))
+          (gathered (settled w (having t (q - y)) (seatedBytes w t B)) (settledWords w (holdsIn w B) (having t (q - y)) (rowed 1 t (a + 1) W))
+          (settledNumbers w (having t (q - y)) N) (heldSums (all + x) (amounted t (own + x) S)))
           ≡ acted alloc T w t a x (gathered B W N S)
       unfolding wentIn actOn
-      alloc-done e s = rw (k, o, l, within, ← fitting, e, next-at (W .rows 1) t a (s .action))
+      alloc-done e s = rw (k, r, o, l, within, ← fitting, e, next-at (W .rows 1) t a (s .action))
 
     module _ (d : f ≡ (nextFits a && (leb x all && leb x own))) where
       enough : f ≡ (nextFits a && (leb x (S .held) && leb x (getD (S .amounts) t 0)))

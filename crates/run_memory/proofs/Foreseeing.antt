@@ -111,7 +111,7 @@ module _ (s : List ℕ) (w : ℕ) (M : Memory) where
           let b : ℕ = getD (M .arrays .next) t 0 in
           let x : ℕ = T .argument b in
           g ∙ (λ j. seenIn (kind T (i j)) T t (i j) (T .argument (i j)) (q j) M)
-          ∙ sym (before-taken T (M .parents) (M .arrays) (movedIn M .totals) (seatedWorker M w t) (seatedStatus M w t) t b x
+          ∙ sym (before-taken T (getD (M .settings) 1 0) (M .parents) (M .arrays) (movedIn M .totals) (seatedWorker M w t) (seatedStatus M w t) t b x
           (seated-ended (workerIn M w .holds) (M .arrays .status) t x y) (kind T b))
 
       pub is-unfit : z .fits ≡ false → Refused 32 ≡ shown

@@ -10,7 +10,7 @@ use Rattle.table.specs.Sum.{pick}
 use Rattle.table.specs.Format.{Kind, end, work, alloc, free, fork, join, unknown, Table}
 use Rattle.schedule.specs.declared.Worker.{Worker}
 use Rattle.schedule.specs.declared.Reply.the-variants.{Idle, Done, Quota, Wait}
-use Rattle.schedule.specs.Machine.{ended}
+use Rattle.schedule.specs.Machine.{drawn, ended}
 use Rattle.array_machine.specs.declared.Totals.{Totals}
 use Rattle.array_machine.specs.Arrays.{Arrays, amountIn, withStatuses}
 use Rattle.array_machine.specs.Turn.{Outcome, unfit, nextFits, amountFits, actOn}
@@ -53,22 +53,27 @@ module _ (B : Bytes) (W : Words) (N : Numbers) (S : Sums) (T : Table) (t a x quo
   unfolding actOn
   fork-seen d = rw d (seen-if (nextFits a && ltb x 1024) _ _ _ _)
 
-  pub alloc-beyond : quota < x → seeing (Quota t x) (S .held) (S .highest) 0 ≡ seenIn alloc T t a x quota M
+  pub alloc-beyond : {y : ℕ} → y ≡ drawn (N .quota) x → quota < y → seeing (Quota t x) (S .held) (S .highest) 0 ≡ seenIn alloc T t a x quota M
   unfolding actOn
-  alloc-beyond h = rw (lt-leb x quota h)
+  alloc-beyond r h =
+      let d : quota < drawn (N .quota) x = rw r at h in
+      rw (lt-leb (drawn (N .quota) x) quota d)
 
   module _ {f : Bool} {own all : ℕ} (o : own ≡ getD (S .amounts) t 0) (l : all ≡ S .held) where
-    module _ (h : x ≤ quota) (d : f ≡ (nextFits a && (amountFits (all + x) && amountFits (own + x)))) where
+    module _ {y : ℕ} (r : y ≡ drawn (N .quota) x) (h : y ≤ quota) (d : f ≡ (nextFits a && (amountFits (all + x) && amountFits (own + x)))) where
+      within : leb (drawn (N .quota) x) quota ≡ true
+      within = let p : drawn (N .quota) x ≤ quota = rw r at h in le-leb (drawn (N .quota) x) quota p
+
       fitting : f ≡ (nextFits a && (amountFits (S .held + x) && amountFits (getD (S .amounts) t 0 + x)))
       fitting = d ∙ (λ i. nextFits a && (amountFits (l i + x) && amountFits (o i + x)))
 
       pub alloc-unfit : f ≡ false → unseen ≡ seenIn alloc T t a x quota M
       unfolding actOn
-      alloc-unfit e = rw (le-leb x quota h, ← fitting, e)
+      alloc-unfit e = rw (within, ← fitting, e)
 
-      pub alloc-done : f ≡ true → seeing (Done t a) (all + x) (max (S .highest) (all + x)) (quota - x) ≡ seenIn alloc T t a x quota M
+      pub alloc-done : f ≡ true → seeing (Done t a) (all + x) (max (S .highest) (all + x)) (quota - y) ≡ seenIn alloc T t a x quota M
       unfolding actOn
-      alloc-done e = rw (l, le-leb x quota h, ← fitting, e)
+      alloc-done e = rw (l, r, within, ← fitting, e)
 
     module _ (d : f ≡ (nextFits a && (leb x all && leb x own))) where
       enough : f ≡ (nextFits a && (leb x (S .held) && leb x (getD (S .amounts) t 0)))
@@ -103,14 +108,14 @@ alike : (b : Bool) (o v p q : Outcome) → seenOf o ≡ seenOf p → seenOf v �
 alike true o v p q e d = e
 alike false o v p q e d = d
 
-module _ (T : Table) (parents : List ℕ) (A : Arrays) (totals : Totals) (worker : Worker) (status : List ℕ) (t a x : ℕ)
+module _ (T : Table) (K : ℕ) (parents : List ℕ) (A : Arrays) (totals : Totals) (worker : Worker) (status : List ℕ) (t a x : ℕ)
     (s : eqb (getD status x 0) ended ≡ eqb (getD (A .status) x 0) ended) where
-  pub before-taken : (k : Kind) → seenOf (actOn k T parents t a x (withStatuses status A) totals worker) ≡ seenOf (actOn k T parents t a x A totals worker)
+  pub before-taken : (k : Kind) → seenOf (actOn k T K parents t a x (withStatuses status A) totals worker) ≡ seenOf (actOn k T K parents t a x A totals worker)
   unfolding actOn
   before-taken end = refl
   before-taken work = alike (nextFits a) _ _ _ _ refl refl
   before-taken alloc =
-      alike (leb x (worker .quota)) _ _ _ _
+      alike (leb (drawn K x) (worker .quota)) _ _ _ _
       (alike (nextFits a && (amountFits (totals .held + x) && amountFits (amountIn A t + x))) _ _ _ _ refl refl) refl
   before-taken free = alike (nextFits a && (leb x (totals .held) && leb x (amountIn A t))) _ _ _ _ refl refl
   before-taken fork = alike (nextFits a && ltb x 1024) _ _ _ _ refl refl

@@ -122,9 +122,9 @@ module _ (s : List ℕ) (w : ℕ) (M : Memory) where
 
       abbrev pub there : Outcome
       there = let a : ℕ = getD (M .arrays .next) t 0 in
-          actOn (kind T a) T (M .parents) t a (T .argument a) (withStatuses (seatedStatus M w t) (M .arrays)) (movedIn M .totals) (seatedWorker M w t)
+          actOn (kind T a) T K (M .parents) t a (T .argument a) (withStatuses (seatedStatus M w t) (M .arrays)) (movedIn M .totals) (seatedWorker M w t)
 
-      acts : actIn T (M .parents) (withStatuses (seatedStatus M w t) (M .arrays)) (movedIn M .totals) (seatedWorker M w t) ≡ there
+      acts : actIn T K (M .parents) (withStatuses (seatedStatus M w t) (M .arrays)) (movedIn M .totals) (seatedWorker M w t) ≡ there
       unfolding actIn
       acts = rw (lt-ltb t noThread l)
 

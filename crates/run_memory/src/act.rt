@@ -28,6 +28,7 @@ use crate::places::setting_at;
 use crate::places::status_at;
 use crate::places::thread_at;
 use crate::places::total_at;
+use array_machine::drawn;
 use array_machine::fits::alloc_fits;
 use array_machine::fits::fork_fits;
 use array_machine::fits::free_fits;
@@ -248,7 +249,8 @@ fn act_alloc(
         ≡ acted alloc T w t a x (memoryOf (now (bytes .entry)) (now (words .entry)) (now (numbers .entry)) (now (sums .entry)))) ⌝ }
 {
     let quota = quota_left(&*bytes, &*numbers, w);
-    if quota < x {
+    let share = drawn(setting_at(&*numbers, 1), x);
+    if quota < share {
         // preempted: the thread is returned "in the ready state"
         put_back(bytes, words, numbers, w, t, READY);
         return said(Reply::Quota {
@@ -264,7 +266,7 @@ fn act_alloc(
     put_row(words, NEXT, t, a + 1);
     put_amount(sums, t, own + x as u64);
     hold(sums, all + x as u64);
-    keep(bytes, words, numbers, w, t, quota - x);
+    keep(bytes, words, numbers, w, t, quota - share);
     done(t, a)
 }
 

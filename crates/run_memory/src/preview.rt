@@ -16,6 +16,7 @@ use crate::places::setting_at;
 use crate::places::status_at;
 use crate::places::total_at;
 use crate::thread_for;
+use array_machine::drawn;
 use array_machine::fits::alloc_fits;
 use array_machine::fits::fork_fits;
 use array_machine::fits::free_fits;
@@ -111,10 +112,11 @@ fn see_holding(reply: Reply, held: u64, sums: &[u64; 1027], quota: u32) -> Seen
     }
 }
 
-fn see_alloc(x: u32, a: u16, t: u16, quota: u32, sums: &[u64; 1027]) -> Seen
-    ensures { λ r. ⌜ ((T : Table) (B : Bytes) (W : Words) (N : Numbers) → r ≡ seenIn alloc T t a x quota (gathered B W N (sumsIn (now (sums .entry))))) ⌝ }
+fn see_alloc(x: u32, a: u16, t: u16, quota: u32, numbers: &[u32; 18], sums: &[u64; 1027]) -> Seen
+    ensures { λ r. ⌜ ((T : Table) (B : Bytes) (W : Words) → r ≡ seenIn alloc T t a x quota (gathered B W (numbersIn (now (numbers .entry))) (sumsIn (now (sums .entry))))) ⌝ }
 {
-    if quota < x {
+    let share = drawn(setting_at(numbers, 1), x);
+    if quota < share {
         let beyond = Reply::Quota {
             thread: t,
             wanted: x,
@@ -130,7 +132,7 @@ fn see_alloc(x: u32, a: u16, t: u16, quota: u32, sums: &[u64; 1027]) -> Seen
         thread: t,
         action: a,
     };
-    see_holding(done, all + x as u64, sums, quota - x)
+    see_holding(done, all + x as u64, sums, quota - share)
 }
 
 fn see_free(x: u32, a: u16, t: u16, quota: u32, sums: &[u64; 1027]) -> Seen
@@ -179,10 +181,11 @@ fn see_action(
     t: u16,
     quota: u32,
     bytes: &[u8; 1040],
+    numbers: &[u32; 18],
     sums: &[u64; 1027],
 ) -> Seen
-    ensures { λ r. ⌜ ((T : Table) (W : Words) (N : Numbers) → T .code ≡ codeAt (now (actions .entry)) → T .argument ≡ argumentAt (now (actions .entry))
-        → r ≡ seenIn (kind T a) T t a (T .argument a) quota (gathered (bytesIn (now (bytes .entry))) W N (sumsIn (now (sums .entry))))) ⌝ }
+    ensures { λ r. ⌜ ((T : Table) (W : Words) → T .code ≡ codeAt (now (actions .entry)) → T .argument ≡ argumentAt (now (actions .entry))
+        → r ≡ seenIn (kind T a) T t a (T .argument a) quota (gathered (bytesIn (now (bytes .entry))) W (numbersIn (now (numbers .entry))) (sumsIn (now (sums .entry))))) ⌝ }
 {
     let at = a as usize;
     let x = argument_in(actions, at);
@@ -193,7 +196,7 @@ fn see_action(
     match code_in(actions, at) {
         0 => see(true, done, sums, RELEASED),
         1 => see(next_fits(a), done, sums, quota),
-        2 => see_alloc(x as u32, a, t, quota, sums),
+        2 => see_alloc(x as u32, a, t, quota, numbers, sums),
         3 => see_free(x as u32, a, t, quota, sums),
         4 => see(fork_fits(a, x), done, sums, RELEASED),
         5 => see_join(x, a, t, quota, bytes, sums),
@@ -246,7 +249,7 @@ fn foresee(
     let quota = quota_left(bytes, numbers, w);
     let a = row_at(words, NEXT, t);
     let actions = bodies(table, threads(table));
-    let there = see_action(actions, a, t, quota, bytes, sums);
+    let there = see_action(actions, a, t, quota, bytes, numbers, sums);
     if !there.fits {
         return Foreseen::Refused(32);
     }

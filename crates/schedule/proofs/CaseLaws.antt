@@ -15,7 +15,7 @@ use Rattle.schedule.specs.declared.Run.{Run}
 use Rattle.schedule.specs.declared.Beginning.{Beginning}
 use Rattle.schedule.specs.declared.Beginning.the-variants.{Begun as started}
 use Rattle.schedule.specs.declared.Beginning.the-variants.{Refused as refusedBeginning}
-use Rattle.schedule.specs.Machine.{State, ended, statusOf, workerOf, parentOf, waitsFor, woken, Stepped, actBy, act, leftmost, taken, turnFree, turnOf}
+use Rattle.schedule.specs.Machine.{State, drawn, ended, statusOf, workerOf, parentOf, waitsFor, woken, Stepped, actBy, act, leftmost, taken, turnFree, turnOf}
 use Rattle.schedule.specs.Record.{tableIn, stateOf}
 use Rattle.schedule.specs.Begin.{startState, begin}
 use Rattle.schedule.specs.Sound.{Steady, Sound}
@@ -48,25 +48,25 @@ picked : {A : Type 0} (f : A → ℕ) (n : ℕ) (q : Bool) (x y : A) → f x ≡
 picked f n q x y g h = either (λ z. f z ≡ n) q x y (λ e. g) (λ e. h)
 
 module _ (T : Table) where
-  act-turns : (k : Kind) (w t a x : ℕ) (st : State) → actBy k T w t a x st .state .turns ≡ st .turns
+  act-turns : (k : Kind) (K w t a x : ℕ) (st : State) → actBy k T K w t a x st .state .turns ≡ st .turns
   unfolding actBy woken
-  act-turns end w t a x st = picked (λ (s : State). s .turns) (st .turns) (waitsFor T _ (parentOf T t) t) _ _ refl refl
-  act-turns work w t a x st = refl
-  act-turns alloc w t a x st = picked (λ (s : Stepped). s .state .turns) (st .turns) (leb x (workerOf st w .quota)) _ _ refl refl
-  act-turns free w t a x st = refl
-  act-turns fork w t a x st = refl
-  act-turns join w t a x st = picked (λ (s : Stepped). s .state .turns) (st .turns) (eqb (statusOf st x) ended) _ _ refl refl
-  act-turns unknown w t a x st = refl
+  act-turns end K w t a x st = picked (λ (s : State). s .turns) (st .turns) (waitsFor T _ (parentOf T t) t) _ _ refl refl
+  act-turns work K w t a x st = refl
+  act-turns alloc K w t a x st = picked (λ (s : Stepped). s .state .turns) (st .turns) (leb (drawn K x) (workerOf st w .quota)) _ _ refl refl
+  act-turns free K w t a x st = refl
+  act-turns fork K w t a x st = refl
+  act-turns join K w t a x st = picked (λ (s : Stepped). s .state .turns) (st .turns) (eqb (statusOf st x) ended) _ _ refl refl
+  act-turns unknown K w t a x st = refl
 
-  holder-turns : (w : ℕ) (st : State) → act T w st .state .turns ≡ st .turns
+  holder-turns : (K w : ℕ) (st : State) → act T K w st .state .turns ≡ st .turns
   unfolding act
-  holder-turns w st = act-turns _ w _ _ _ st
+  holder-turns K w st = act-turns _ K w _ _ _ st
 
   pub turn-turns : (K w : ℕ) (st : State) → turnOf T K w st .state .turns ≡ suc (st .turns)
   unfolding turnOf turnFree taken
   turn-turns K w st =
-      ap suc (picked (λ (s : Stepped). s .state .turns) (st .turns) (workerOf st w .holds) _ _ (holder-turns w st)
-      (picked (λ (s : Stepped). s .state .turns) (st .turns) (eqb (leftmost (st .status) (st .list)) (length (st .list))) _ _ refl (holder-turns w _)))
+      ap suc (picked (λ (s : Stepped). s .state .turns) (st .turns) (workerOf st w .holds) _ _ (holder-turns K w st)
+      (picked (λ (s : Stepped). s .state .turns) (st .turns) (eqb (leftmost (st .status) (st .list)) (length (st .list))) _ _ refl (holder-turns K w _)))
 
 pub moved-turns : (r : Run) (w : ℕ) → moved r w .turns ≡ suc (r .turns)
 unfolding stepRun

@@ -2,7 +2,6 @@
 use mathlib.Core.Path.{_≡_, refl, ap, _∙_}
 use Prim.Native.Nat.{ℕ, _+_, _*_, _^_, _≤_, _<_}
 use native.Mathlib.Omega.{arith}
-use native.Mathlib.Nat.{mul-le-mul-right}
 use mathlib.Core.List.{List, [], _∷_, List·Memᴰ·not-nil}
 use mathlib.Core.Bool.{Bool, true, false}
 use mathlib.Core.Logic.{_⊎_}
@@ -10,11 +9,12 @@ use lib.Count.{ones}
 use lib.ListN.{length}
 use borrow.Author.Tests.{eqb-false}
 use Rattle.table.specs.Sum.{pick, sumTo}
-use Rattle.table.specs.Format.{free, kind}
+use Rattle.table.specs.Format.{alloc, free, is, kind, tableOf}
 use Rattle.table.specs.Checks.{endOf, allocOf}
+use Rattle.table.proofs.ReadBack.{argument-short}
 use Rattle.schedule.specs.declared.Run.{Run}
 use Rattle.schedule.specs.Machine.{unborn, ready, held, ended, nextOf, statusOf, workerOf}
-use Rattle.schedule.specs.Record.{stateOf, tableIn}
+use Rattle.schedule.specs.Record.{bytesOf, stateOf, tableIn}
 use Rattle.schedule.specs.Sound.{Steady, isDone, ofDone, share}
 use Rattle.order.specs.Words.{member, countBelow}
 use Rattle.order.specs.Order.{numberOf}
@@ -22,11 +22,20 @@ use Rattle.schedule.specs.Turn.{rootEnded}
 use Rattle.schedule.proofs.Sound.Facts.{Facts}
 use Rattle.schedule.proofs.Sound.Done.{unborn-first as unborn-next}
 use Rattle.schedule.proofs.Sound.Shares.{held-shares, free-held}
-use Rattle.schedule.proofs.Stores.{steady-lawful, steady-fits, steady-facts}
+use Rattle.schedule.proofs.Stores.{steady-lawful, steady-facts}
 use Rattle.schedule.proofs.Sound.Leftmost.{leftmost-enabled}
 use Rattle.order.proofs.Totals.{sumTo-bound}
 use Rattle.schedule.proofs.Sound.WorkerSet.{set-ones}
 use Rattle.order.proofs.CountBelow.{count-bound, ascending-count}
+
+-- an argument is read as 24 bits, an alloc's among them
+alloc-short : (s : List ℕ) (a : ℕ) → allocOf (tableOf s) a ≤ 16777215
+unfolding allocOf
+alloc-short s a = go (is alloc (kind (tableOf s) a))
+  where
+    go : (q : Bool) → pick q (tableOf s .argument a) 0 ≤ 16777215
+    go true = omega (arith, argument-short s a)
+    go false = omega arith
 
 module _ (r : Run) (h : Steady r) where
   -- "An unborn thread's next action is its first; an ended one's remains its end."
@@ -71,19 +80,18 @@ module _ (r : Run) (h : Steady r) where
       → tableIn r .argument (nextOf (stateOf r) t) ≤ r .held
   free-within t i e k = free-held (tableIn r) (steady-lawful r h) (r .workers) (r .quota) (stateOf r) (steady-facts r h) t i e k
 
-  -- nothing overflows: held stays below 2^37, and with a whole quota on top below 2^38
-  pub held-small : r .held ≤ r .quota * tableIn r .actions
+  -- nothing overflows: held stays below 2^37, and with any alloc on top below 2^38
+  pub held-small : r .held ≤ 16777215 * tableIn r .actions
   held-small =
       omega (
         arith,
         steady-facts r h .amount,
-        sumTo-bound (ofDone (tableIn r) (stateOf r) (allocOf (tableIn r))) (r .quota) (tableIn r .actions) (λ a i. part (isDone (tableIn r) (stateOf r) a) _ (steady-fits r h .within a i)),
+        sumTo-bound (ofDone (tableIn r) (stateOf r) (allocOf (tableIn r))) 16777215 (tableIn r .actions) (λ a i. part (isDone (tableIn r) (stateOf r) a) _ (alloc-short (bytesOf r) a)),
       )
     where
-      part : (s : Bool) (x : ℕ) → x ≤ r .quota → pick s x 0 ≤ r .quota
+      part : (s : Bool) (x : ℕ) → x ≤ 16777215 → pick s x 0 ≤ 16777215
       part true x i = i
       part false x i = omega arith
 
-  pub held-fits : r .held + r .quota < 2 ^ 38
-  held-fits =
-      omega (arith, held-small, steady-fits r h .few-quota, mul-le-mul-right (tableIn r .actions) (steady-fits r h .few-quota), steady-lawful r h .few-actions)
+  pub held-fits : r .held + 16777215 < 2 ^ 38
+  held-fits = omega (arith, held-small, steady-lawful r h .few-actions)

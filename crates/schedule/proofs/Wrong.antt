@@ -13,7 +13,9 @@ use Rattle.table.specs.Checks.{entryWrong, totalWrong, ownerBelow, kindUnknown,
 use Rattle.table.specs.Checks.{openBefore, joinNotLatest, endWithOpen, neverForked, allocOf, freeOf, wholeWithin, balance, balanceBelow0, passes}
 use Rattle.table.specs.Level.{forkBelow}
 use Rattle.table.specs.Cases.{E}
+use Rattle.table.specs.declared.Found.the-variants.{Nothing}
 use Rattle.table.proofs.Tests.{no-way}
+use Rattle.table.proofs.Passes.{passes-rules}
 use Rattle.schedule.specs.declared.Run.{Run}
 use Rattle.schedule.specs.declared.Ran.{Ran}
 use Rattle.schedule.specs.declared.Report.the-variants.{Finished, Spent, Refused}
@@ -23,7 +25,8 @@ use Rattle.schedule.specs.declared.Turning.{Turning}
 use Rattle.schedule.specs.declared.Turning.the-variants.{Taken}
 use Rattle.schedule.specs.Machine.{leftOf, without, waitsFor, woken, actBy, act, leftmost, taken, turnFree, turnOf, passedBy}
 use Rattle.schedule.specs.Record.{setOf}
-use Rattle.schedule.specs.Begin.{allocAbove, startState, startRun, begin}
+use Rattle.schedule.specs.Begin.{settingPasses, startState, startRun, begin}
+use Rattle.filling.specs.Filled.{big, filledOut, overfull}
 use Rattle.order.specs.Firsts.{firsts}
 use Rattle.schedule.specs.Links.{walk, rightIn}
 use Rattle.schedule.specs.Turn.{unsound, rootEnded, noWorker, stepRun, turned, passedIn}
@@ -31,10 +34,14 @@ use Rattle.schedule.specs.Runs.{ran, moved, drive, listRun, roundsRun}
 use Rattle.schedule.specs.declared.Beginning.the-variants.{Begun as started}
 use Rattle.schedule.specs.Sound.{Steady, Sound}
 use Rattle.schedule.specs.Calls.{turnsIn}
+use Rattle.schedule.specs.Memory.{limit}
+use Rattle.schedule.specs.Rule.{keeps}
+use Rattle.schedule.specs.RowList.{afterRow}
+use Rattle.schedule.specs.BigCases.{wide, orderWide, wide-worked}
 use Rattle.schedule.specs.Answers.{turningValues}
 use Rattle.schedule.specs.Cases.{turnedSound}
 use Rattle.order.proofs.Words.{not-both}
-use Rattle.schedule.proofs.Runs.Histories.{begin-sound, turn-steady}
+use Rattle.schedule.proofs.Runs.Histories.{start-steady, begin-sound, turn-steady}
 use Rattle.schedule.proofs.CaseLaws.{turned-sound, moved-turns}
 
 -- ---- "A run in rounds that says spent with turns left"
@@ -135,6 +142,28 @@ list-counted r l = go (unsound r)
     go true = omega arith
     go false = omega (arith, counts (λ i. getD l i 0) (length l) 0 r)
 
+-- ---- the memory limit "for a sound record made up by hand" (N6)
+
+-- the record that a beginning would give if the table were run as it is: it is sound, and after five turns that keep the rule with b 1 it holds more than the limit
+abbrev handmade : Run
+handmade = startRun wide 2 1
+
+handmade-passes : (firstFound (passes wide) ≡ Nothing) × (firstFound (settingPasses 2 1) ≡ Nothing) × (handmade .turns ≡ 0)
+unfolding wide sumTo anyBelow codeOf kindOf is tableOf tryAt tryFrom tryPass firstFound entryWrong totalWrong ownerBelow kindUnknown argumentWrong endMisplaced forkedBelow forkedBefore openBefore joinNotLatest endWithOpen neverForked allocOf freeOf wholeWithin balance balanceBelow0 passes setOf firsts startState startRun
+handmade-passes = (refl, refl, refl)
+
+handmade-held : afterRow handmade orderWide .held ≡ 200
+unfolding wide sumTo anyBelow codeOf kindOf is tableOf ownerBelow forkBelow leftOf without waitsFor woken actBy act leftmost taken turnFree turnOf setOf firsts walk rightIn startState startRun stepRun afterRow
+handmade-held = refl
+
+pub by-hand-beyond : Sound handmade × (keeps 1 orderWide ≡ true) × (limit (tableOf wide) 2 1 1 < afterRow handmade orderWide .held)
+by-hand-beyond =
+    let (p, q, t) = handmade-passes in (
+      record { steady = start-steady wide 2 1 (passes-rules wide .0 p) q; turns = omega (arith, t) },
+      wide-worked .2,
+      omega (arith, wide-worked .1, handmade-held),
+    )
+
 -- ---- "finishes all jobs on turn one", "always idle", "repeating a reply", "leaving the record alone": not E's first two turns, with p 2 and K 6
 
 abbrev begunE : Run
@@ -148,11 +177,11 @@ record Seen (turn : Run → ℕ → Turned) : Type 0 where
   counted : turn begunE 0 .run .turns ≡ 1
 
 beginsE : (begin E 2 6 .answer ≡ started) × (begunE .turns ≡ 0)
-unfolding sumTo anyBelow codeOf kindOf is tableOf tryAt tryFrom tryPass firstFound entryWrong totalWrong ownerBelow kindUnknown argumentWrong endMisplaced forkedBelow forkedBefore openBefore joinNotLatest endWithOpen neverForked allocOf freeOf wholeWithin balance balanceBelow0 passes setOf allocAbove firsts walk rightIn startState startRun begin
+unfolding sumTo anyBelow codeOf kindOf is tableOf tryAt tryFrom tryPass firstFound entryWrong totalWrong ownerBelow kindUnknown argumentWrong endMisplaced forkedBelow forkedBefore openBefore joinNotLatest endWithOpen neverForked allocOf freeOf wholeWithin balance balanceBelow0 passes setOf big overfull filledOut firsts walk rightIn startState startRun begin
 beginsE = (refl, refl)
 
 seen : Seen turnedSound
-unfolding sumTo anyBelow codeOf kindOf is tableOf tryAt tryFrom tryPass firstFound entryWrong totalWrong ownerBelow kindUnknown argumentWrong endMisplaced forkedBelow forkedBefore openBefore joinNotLatest endWithOpen neverForked allocOf freeOf wholeWithin balance balanceBelow0 passes forkBelow leftOf without waitsFor woken actBy act leftmost taken turnFree turnOf setOf allocAbove firsts walk rightIn startState startRun begin rootEnded noWorker stepRun passedBy passedIn
+unfolding sumTo anyBelow codeOf kindOf is tableOf tryAt tryFrom tryPass firstFound entryWrong totalWrong ownerBelow kindUnknown argumentWrong endMisplaced forkedBelow forkedBefore openBefore joinNotLatest endWithOpen neverForked allocOf freeOf wholeWithin balance balanceBelow0 passes forkBelow leftOf without waitsFor woken actBy act leftmost taken turnFree turnOf setOf big overfull filledOut firsts walk rightIn startState startRun begin rootEnded noWorker stepRun passedBy passedIn
 seen = record { first = refl; second = refl; unended = refl; counted = refl }
 
 -- the same of the turns as they are defined

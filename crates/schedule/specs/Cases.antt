@@ -1,7 +1,7 @@
 -- Document 01's worked cases on runs that bear a star, and rows of our own, as two tables with one theorem over both, computed on the definitions.
 use mathlib.Core.Path.{_≡_, refl}
 use Prim.Native.Nat.{ℕ}
-use mathlib.Core.List.{List, [], _∷_, _++_, map}
+use mathlib.Core.List.{List, [], _∷_, _++_, map, flatten}
 use mathlib.Core.Bool.{Bool, false}
 use lib.ListN.{replicate}
 use Rattle.table.specs.Sum.{sumTo, anyBelow}
@@ -9,7 +9,10 @@ use Rattle.table.specs.Format.{end, work, alloc, free, fork, join, codeOf, kind
 use Rattle.table.specs.Pass.{Check, tryAt, tryFrom, tryPass, firstFound}
 use Rattle.table.specs.Checks.{entryWrong, totalWrong, ownerBelow, kindUnknown, argumentWrong, endMisplaced, forkedBelow, forkedBefore}
 use Rattle.table.specs.Checks.{openBefore, joinNotLatest, endWithOpen, neverForked, allocOf, freeOf, wholeWithin, balance, balanceBelow0, passes}
+use Rattle.table.specs.Serial.{serialWithin}
 use Rattle.table.specs.Level.{forkBelow}
+use Rattle.table.specs.Written.{entryRows, actionRows, tableRows}
+use Rattle.table.specs.Written.{written as writtenTable}
 use Rattle.table.specs.Cases.{written, E, least, twoAllocs}
 use Rattle.table.specs.Cases.{act as action}
 use Rattle.schedule.specs.declared.Run.{Run}
@@ -19,7 +22,8 @@ use Rattle.schedule.specs.declared.Beginning.the-variants.{Refused as re
 use Rattle.schedule.specs.declared.Turned.{Turned}
 use Rattle.schedule.specs.Machine.{leftOf, without, waitsFor, woken, actBy, act, leftmost, taken, turnFree, turnOf}
 use Rattle.schedule.specs.Record.{setOf}
-use Rattle.schedule.specs.Begin.{allocAbove, startState, startRun, begin}
+use Rattle.schedule.specs.Begin.{startState, startRun, begin}
+use Rattle.filling.specs.Filled.{big, dummies, newThreads, newActions, treeOf, sumBefore, rootOf, filledFrom, oldBodies, treesAlong, filledBodies, filledOut, overfull}
 use Rattle.order.specs.Firsts.{firsts}
 use Rattle.schedule.specs.Links.{walk, rightIn}
 use Rattle.schedule.specs.Turn.{rootEnded, noWorker, stepRun, passedIn, turnedAs}
@@ -81,6 +85,58 @@ linesE =
     ∷ line 12 1 (did 0 3 join) 0
     ∷ line 13 0 idle 0
     ∷ line 14 1 (did 0 4 end) 0
+    ∷ []
+
+-- "E with K 5 is accepted" (N6), p 2, the order 0, 1 until it is done: thread 3 forks 4 and 5 in front of the alloc of thread 1, thread 6 forks 7 and 8 in front of that of thread 2
+abbrev pub orderFilled : List ℕ
+orderFilled = orderE ++ orderE ++ orderE ++ (0 ∷ 1 ∷ [])
+
+abbrev pub linesFilled : List Line
+linesFilled =
+    line 1 0 (did 0 0 fork) 0
+    ∷ line 2 1 (did 1 5 fork) 0
+    ∷ line 3 0 (did 3 16 fork) 0
+    ∷ line 4 1 (did 4 21 work) 0
+    ∷ line 5 0 (did 3 17 fork) 0
+    ∷ line 6 1 (did 4 22 end) 0
+    ∷ line 7 0 (did 5 23 work) 0
+    ∷ line 8 1 (wait 3 18) 0
+    ∷ line 9 0 (did 5 24 end) 0
+    ∷ line 10 1 (did 3 18 join) 0
+    ∷ line 11 0 (wait 1 6) 0
+    ∷ line 12 1 (did 3 19 join) 0
+    ∷ line 13 0 (did 0 1 fork) 0
+    ∷ line 14 1 (did 3 20 end) 0
+    ∷ line 15 0 (did 1 6 join) 0
+    ∷ line 16 1 (did 2 11 fork) 0
+    ∷ line 17 0 (did 1 7 alloc) 6
+    ∷ line 18 1 (did 6 25 fork) 6
+    ∷ line 19 0 (did 1 8 work) 6
+    ∷ line 20 1 (did 7 30 work) 6
+    ∷ line 21 0 (did 1 9 free) 0
+    ∷ line 22 1 (did 7 31 end) 0
+    ∷ line 23 0 (did 1 10 end) 0
+    ∷ line 24 1 (did 6 26 fork) 0
+    ∷ line 25 0 (did 8 32 work) 0
+    ∷ line 26 1 (wait 6 27) 0
+    ∷ line 27 0 (did 8 33 end) 0
+    ∷ line 28 1 (did 6 27 join) 0
+    ∷ line 29 0 (wait 2 12) 0
+    ∷ line 30 1 (did 6 28 join) 0
+    ∷ line 31 0 (wait 0 2) 0
+    ∷ line 32 1 (did 6 29 end) 0
+    ∷ line 33 0 (did 2 12 join) 0
+    ∷ line 34 1 idle 0
+    ∷ line 35 0 (did 2 13 alloc) 6
+    ∷ line 36 1 idle 6
+    ∷ line 37 0 (did 2 14 free) 0
+    ∷ line 38 1 idle 0
+    ∷ line 39 0 (did 2 15 end) 0
+    ∷ line 40 1 (did 0 2 join) 0
+    ∷ line 41 0 idle 0
+    ∷ line 42 1 (did 0 3 join) 0
+    ∷ line 43 0 idle 0
+    ∷ line 44 1 (did 0 4 end) 0
     ∷ []
 
 -- "E with p 1, K 6"
@@ -158,8 +214,8 @@ cases =
     runs E 2 6 orderE linesE (done 14 12)
     -- "A turn after `done`: 31"
     ∷ runs E 2 6 (orderE ++ (0 ∷ [])) linesE (refused 31 0)
-    -- "With K 5: 22 at action 5"
-    ∷ runs E 2 5 orderE [] (refused 22 5)
+    -- "With K 5: 22 at action 5"; since N6 "Number 22 no longer occurs, and E with K 5 is accepted"
+    ∷ runs E 2 5 orderFilled linesFilled (done 44 6)
     ∷ runs E 1 6 (replicate 12 0) linesAlone (done 12 6)
     -- "Bytes 01 00 01 00 00 00 01 00 00 00 00 00: .. one turn"
     ∷ runs least 1 1 (0 ∷ []) (line 1 0 (did 0 0 end) 0 ∷ []) (done 1 0)
@@ -189,5 +245,5 @@ abbrev pub Worked : (Run → ℕ → Turned) → List Case → Type 0
 Worked turn l = map (λ (c : Case). ranBy never turn (c .bytes) (c .workers) (c .quota) (c .order)) l ≡ map (λ (c : Case). c .listing) l
 
 pub worked : Worked turnedSound cases × Worked turnedSound ownCases
-unfolding cases ownCases freed sumTo anyBelow codeOf kindOf is tableOf tryAt tryFrom tryPass firstFound entryWrong totalWrong ownerBelow kindUnknown argumentWrong endMisplaced forkedBelow forkedBefore openBefore joinNotLatest endWithOpen neverForked allocOf freeOf wholeWithin balance balanceBelow0 passes forkBelow leftOf without waitsFor woken actBy act leftmost taken turnFree turnOf setOf allocAbove firsts walk rightIn startState startRun begin rootEnded noWorker stepRun
+unfolding cases ownCases freed sumTo anyBelow codeOf kindOf is tableOf tryAt tryFrom tryPass firstFound entryWrong totalWrong ownerBelow kindUnknown argumentWrong endMisplaced forkedBelow forkedBefore openBefore joinNotLatest endWithOpen neverForked allocOf freeOf wholeWithin balance balanceBelow0 passes forkBelow leftOf without waitsFor woken actBy act leftmost taken turnFree turnOf setOf entryRows actionRows tableRows writtenTable flatten serialWithin big dummies newThreads newActions treeOf sumBefore rootOf filledFrom oldBodies treesAlong filledBodies filledOut overfull firsts walk rightIn startState startRun begin rootEnded noWorker stepRun
 worked = (refl, refl)

@@ -19,6 +19,7 @@ pub mod ThreadCases
 pub mod MostCases
 pub mod AmountCases
 pub mod Rule
+pub mod BigCases
 pub mod Actives
 pub mod Parents
 pub mod LinkCases

@@ -8,6 +8,7 @@ use Rattle.table.specs.Sum.{pick}
 use Rattle.table.specs.Format.{Kind, end, work, alloc, free, fork, join, unknown, is, Table, kind}
 use Rattle.table.specs.Checks.{owner}
 use Rattle.table.specs.Level.{forkBelow}
+pub use Rattle.filling.specs.Filled.{drawn}
 use Rattle.schedule.specs.declared.Worker.{Worker}
 use Rattle.schedule.specs.declared.Reply.{Reply}
 use Rattle.schedule.specs.declared.Reply.the-variants.{Idle, Done, Quota, Wait}
@@ -131,32 +132,33 @@ abbrev pub stepped : Reply → State → Stepped
 stepped r st = record { reply = r; state = st }
 
 -- "Then the thread's next action decides, by its kind": worker w holds thread t, whose next action a has the kind given and the argument x
-unfoldable pub actBy : Kind → Table → ℕ → ℕ → ℕ → ℕ → State → Stepped
+unfoldable pub actBy : Kind → Table → ℕ → ℕ → ℕ → ℕ → ℕ → State → Stepped
 -- "end: done; the thread leaves the list; w is released; if its parent waits for this child, the parent becomes ready"
-actBy end T w t a x st = stepped (Done t a) (woken T t (withList (without t (st .list)) (released w t ended st)))
+actBy end T K w t a x st = stepped (Done t a) (woken T t (withList (without t (st .list)) (released w t ended st)))
 -- "work: done"
-actBy work T w t a x st = stepped (Done t a) (advanced t st)
--- "alloc a: if a is within the quota left, done, and both amounts move by a; otherwise not done, the thread becomes ready in its place in the list and w is released"
-actBy alloc T w t a x st =
-    pick (leb x (workerOf st w .quota))
+actBy work T K w t a x st = stepped (Done t a) (advanced t st)
+-- "alloc a: if a is within the quota left, done, and both amounts move by a; otherwise not done, the thread becomes ready in its place in the list and w is released"; of the quota a big one
+-- draws nothing, and memory held moves by the whole of it
+actBy alloc T K w t a x st =
+    pick (leb (drawn K x) (workerOf st w .quota))
     (stepped (Done t a)
-    (withHeld (st .held + x) (withAmount t (amountOf st t + x) (withWorker w (record { holds = true; thread = t; quota = workerOf st w .quota - x }) (advanced t st)))))
+    (withHeld (st .held + x) (withAmount t (amountOf st t + x) (withWorker w (record { holds = true; thread = t; quota = workerOf st w .quota - drawn K x }) (advanced t st)))))
     (stepped (Quota t x) (released w t ready st))
 -- "free a: held falls by a, the quota doesn't rise"; of a sound record a free takes at most what its thread holds, and so what is held (`free-amount`, proofs/ThreadMemory; `free-within`, proofs/Soundness)
-actBy free T w t a x st = stepped (Done t a) (withHeld (st .held - x) (withAmount t (amountOf st t - x) (advanced t st)))
+actBy free T K w t a x st = stepped (Done t a) (withHeld (st .held - x) (withAmount t (amountOf st t - x) (advanced t st)))
 -- "fork c: done; c enters the list directly left of the thread, ready; the thread becomes ready; w is released"
-actBy fork T w t a x st = stepped (Done t a) (withStatus x ready (withList (leftOf x t (st .list)) (released w t ready (advanced t st))))
+actBy fork T K w t a x st = stepped (Done t a) (withStatus x ready (withList (leftOf x t (st .list)) (released w t ready (advanced t st))))
 -- "join c: done if c has ended; otherwise not done, the thread waits and w is released"
-actBy join T w t a x st =
+actBy join T K w t a x st =
     pick (eqb (statusOf st x) ended) (stepped (Done t a) (movedUp x t (advanced t st))) (stepped (Wait t x) (released w t waiting st))
-actBy unknown T w t a x st = stepped Idle st
+actBy unknown T K w t a x st = stepped Idle st
 
 -- worker w goes on with the thread that it holds
-unfoldable pub act : Table → ℕ → State → Stepped
-act T w st =
+unfoldable pub act : Table → ℕ → ℕ → State → Stepped
+act T K w st =
     let t : ℕ = workerOf st w .thread in
     let a : ℕ = nextOf st t in
-    actBy (kind T a) T w t a (T .argument a) st
+    actBy (kind T a) T K w t a (T .argument a) st
 
 -- the place of the leftmost ready thread in a list, the list's length where none is ready
 unfoldable pub leftmost : List ℕ → List ℕ → ℕ
@@ -171,13 +173,13 @@ taken K w t st = withWorker w (record { holds = true; thread = t; quota = K }) (
 unfoldable pub turnFree : Table → ℕ → ℕ → State → Stepped
 turnFree T K w st =
     let i : ℕ = leftmost (st .status) (st .list) in
-    let there : Stepped = act T w (taken K w (getD (st .list) i 0) st) in
+    let there : Stepped = act T K w (taken K w (getD (st .list) i 0) st) in
     pick (eqb i (length (st .list))) (stepped Idle st) there
 
 -- "A turn of worker w."
 unfoldable pub turnOf : Table → ℕ → ℕ → State → Stepped
 turnOf T K w st =
-    let r : Stepped = pick (workerOf st w .holds) (act T w st) (turnFree T K w st) in
+    let r : Stepped = pick (workerOf st w .holds) (act T K w st) (turnFree T K w st) in
     stepped (r .reply) (counted (r .state))
 
 -- how many threads "stand left of it in the list" (N7), of the thread that worker w takes in its turn, at the moment of taking; 0 for a worker that holds one and where none is ready

@@ -12,7 +12,8 @@ use Rattle.schedule.specs.Machine.{act as acts}
 use Rattle.schedule.specs.Begin.{startState}
 use Rattle.order.specs.Firsts.{firsts}
 use Rattle.schedule.specs.Memory.{rowState, replies}
-use Rattle.schedule.specs.Most.{notIdle, turnsOf}
+use Rattle.schedule.specs.Most.{notIdle}
+use Rattle.order.specs.Turns.{turnsOf}
 
 -- fork 1, join 1, end; work, end
 abbrev pub waiter : List ℕ

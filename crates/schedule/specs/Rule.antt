@@ -16,7 +16,8 @@ use Rattle.table.specs.Cases.{Action, written, E}
 use Rattle.table.specs.Cases.{act as action}
 use Rattle.schedule.specs.Machine.{leftOf, without, waitsFor, woken, actBy, act, leftmost, taken, turnFree, turnOf}
 use Rattle.schedule.specs.Record.{setOf}
-use Rattle.schedule.specs.Begin.{allocAbove, startState, startRun, begin}
+use Rattle.schedule.specs.Begin.{startState, startRun, begin}
+use Rattle.filling.specs.Filled.{big, filledOut, overfull}
 use Rattle.order.specs.Firsts.{firsts}
 use Rattle.schedule.specs.Links.{walk, rightIn}
 use Rattle.order.specs.Words.{allIn}
@@ -123,5 +124,5 @@ abbrev pub Measured : (Run → ℕ → Turned) → List RowCase → Type 0
 Measured turn l = map (measuredBy turn) l ≡ map (λ (c : RowCase). c .measures) l
 
 pub rows-worked : Measured turnedSound rowCases × Measured turnedSound ownRows
-unfolding rowCases ownRows twoPairs sumTo sumOver greatest anyBelow codeOf kindOf is tableOf tryAt tryFrom tryPass firstFound entryWrong totalWrong ownerBelow kindUnknown argumentWrong endMisplaced forkedBelow forkedBefore openBefore joinNotLatest endWithOpen neverForked allocOf freeOf wholeWithin balance balanceBelow0 passes serialWithin fronts heldAfter peakOf S1 forkBelow forkOf beforeIt joinedEnd dependsOn levelWithin D leftOf without waitsFor woken actBy act leftmost taken turnFree turnOf setOf allocAbove firsts walk rightIn startState startRun begin allIn rootEnded noWorker stepRun replies sumReplies memoryOf frontRows peakMemory countIn limit untilNext atMost keeps
+unfolding rowCases ownRows twoPairs sumTo sumOver greatest anyBelow codeOf kindOf is tableOf tryAt tryFrom tryPass firstFound entryWrong totalWrong ownerBelow kindUnknown argumentWrong endMisplaced forkedBelow forkedBefore openBefore joinNotLatest endWithOpen neverForked allocOf freeOf wholeWithin balance balanceBelow0 passes serialWithin fronts heldAfter peakOf S1 forkBelow forkOf beforeIt joinedEnd dependsOn levelWithin D leftOf without waitsFor woken actBy act leftmost taken turnFree turnOf setOf big overfull filledOut firsts walk rightIn startState startRun begin allIn rootEnded noWorker stepRun replies sumReplies memoryOf frontRows peakMemory countIn limit untilNext atMost keeps
 rows-worked = (refl, refl)

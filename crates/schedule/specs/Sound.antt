@@ -20,7 +20,7 @@ use Rattle.order.specs.Words.{allBelow, allIn, member, countBelow, agree, rises
 use Rattle.order.specs.Order.{numberOf}
 use Rattle.order.specs.Firsts.{firsts}
 use Rattle.schedule.specs.Links.{Links, laid}
-use Rattle.schedule.specs.Begin.{beginPasses}
+use Rattle.schedule.specs.Begin.{settingPasses}
 
 -- ---- what is done
 
@@ -172,9 +172,9 @@ pub record SoundState (T : Table) (p K : ℕ) (st : State) : Type 0 where
 
 -- all clauses but the one on turns taken
 pub record Steady (r : Run) : Type 0 where
-  -- "its table passes 1 to 11 and its p and K pass 20 to 22"
+  -- "its table passes 1 to 11 and its p and K pass 20 to 22", of which 22 "no longer occurs" (N6): a record's table counts as filled out already
   pub table : Rules (bytesOf r)
-  pub beginning : firstFound (beginPasses (tableIn r) (r .workers) (r .quota)) ≡ Nothing
+  pub settings : firstFound (settingPasses (r .workers) (r .quota)) ≡ Nothing
   pub state : SoundState (tableIn r) (r .workers) (r .quota) (stateOf r)
   -- "and the set agrees"
   pub set : r .busy ≡ setOf (r .worker)
@@ -211,11 +211,11 @@ unfoldable pub listed : Table → List ℕ → List ℕ → List ℕ → Bool
 listed T next status list =
     allBelow (listFollows status list) (T .threads) && (allIn (λ t. ltb t (T .threads)) list && inSerialOrder T next list)
 
--- the part that any kind of run over a table has in common, the table's own checks and the beginning's among it
+-- the part that any kind of run over a table has in common, the table's own checks, 20 and 21 among it
 unfoldable pub commonSound : List ℕ → ℕ → ℕ → List ℕ → List ℕ → List ℕ → List Worker → ℕ → ℕ → ℕ → Bool
 commonSound s p K next status amounts workers set amount highest =
     isNothing (firstFound (passes s))
-    && (isNothing (firstFound (beginPasses (tableOf s) p K))
+    && (isNothing (firstFound (settingPasses p K))
     && (common (tableOf s) p K next status amounts workers amount highest
     && eqb set (setOf workers)))
 

@@ -16,7 +16,8 @@ use Rattle.schedule.specs.declared.Beginning.the-variants.{Refused as re
 use Rattle.schedule.specs.declared.Turned.{Turned}
 use Rattle.schedule.specs.Machine.{leftOf, without, waitsFor, woken, actBy, act, leftmost, taken, turnFree, turnOf, passedBy}
 use Rattle.schedule.specs.Record.{setOf}
-use Rattle.schedule.specs.Begin.{allocAbove, startState, startRun, begin}
+use Rattle.schedule.specs.Begin.{startState, startRun, begin}
+use Rattle.filling.specs.Filled.{big, filledOut, overfull}
 use Rattle.order.specs.Firsts.{firsts}
 use Rattle.schedule.specs.Links.{walk, rightIn}
 use Rattle.schedule.specs.Turn.{rootEnded, noWorker, stepRun, passedIn}
@@ -75,5 +76,5 @@ abbrev pub Says : (Run → ℕ → Turned) → List TurnCase → Type 0
 Says turn l = map (saidBy turn) l ≡ map (λ (c : TurnCase). c .values) l
 
 pub said-worked : Says turnedSound turnCases × Says turnedSound ownTurns
-unfolding turnCases ownTurns sumTo anyBelow codeOf kindOf is tableOf tryAt tryFrom tryPass firstFound entryWrong totalWrong ownerBelow kindUnknown argumentWrong endMisplaced forkedBelow forkedBefore openBefore joinNotLatest endWithOpen neverForked allocOf freeOf wholeWithin balance balanceBelow0 passes forkBelow leftOf without waitsFor woken actBy act leftmost taken turnFree turnOf setOf allocAbove firsts walk rightIn startState startRun begin rootEnded noWorker stepRun passedBy passedIn
+unfolding turnCases ownTurns sumTo anyBelow codeOf kindOf is tableOf tryAt tryFrom tryPass firstFound entryWrong totalWrong ownerBelow kindUnknown argumentWrong endMisplaced forkedBelow forkedBefore openBefore joinNotLatest endWithOpen neverForked allocOf freeOf wholeWithin balance balanceBelow0 passes forkBelow leftOf without waitsFor woken actBy act leftmost taken turnFree turnOf setOf big overfull filledOut firsts walk rightIn startState startRun begin rootEnded noWorker stepRun passedBy passedIn
 said-worked = (refl, refl)

@@ -32,7 +32,7 @@ valuesWith found x thread value turns =
 
 -- ---- a beginning and a turn
 
--- the table's checks, then 20 to 22
+-- the table's checks, then 20, 21 and 44
 unfoldable pub beginValues : List ℕ → ℕ → ℕ → Values
 beginValues s p K = valuesWith (firstFound (passes s ++ beginPasses (tableOf s) p K)) begun 0 0 0
 

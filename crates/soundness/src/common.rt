@@ -1,6 +1,6 @@
-// What any kind of run over a table keeps: the clauses on its threads, on who holds them and on amounts, with the table's own checks and the beginning's.
+// What any kind of run over a table keeps: the clauses on its threads, on who holds them and on amounts, with the table's own checks, 20 and 21.
 use crate::amounts::held_right;
-use crate::beginning::begin_fault;
+use crate::beginning::settings_fault;
 use crate::bodies::fill_forks;
 use crate::bodies::in_order;
 use crate::bodies::next_in_bodies;
@@ -90,7 +90,7 @@ fn common_holds(
     requires { ⌜ Parents (tableOf (now table)) (now parents) ⌝ }
     ensures { λ r. ⌜ r ≡ commonSound (now (table .entry)) p quota (now (next .entry)) (now (status .entry)) (now (amounts .entry)) workers busy held highest ⌝ }
 {
-    let found = begin_fault(table, p, quota);
+    let found = settings_fault(p, quota);
     if let Found::At(_) = found {
         return false;
     }
@@ -156,7 +156,7 @@ fn common_parts(
     )
 }
 
-// What any kind of run over a table keeps, with the table's own checks and the beginning's. Each thread's parent wherever the bytes are a table; the other working memory, which may hold
+// What any kind of run over a table keeps, with the table's own checks, 20 and 21. Each thread's parent wherever the bytes are a table; the other working memory, which may hold
 // anything, is left cleared.
 pub fn test_common(
     table: &[u8],

@@ -20,7 +20,7 @@ use Rattle.schedule.specs.Links.{noThread, Links, LinkedAs}
 use Rattle.schedule.specs.Actives.{noLinks, filledFrom}
 use Rattle.schedule.specs.Record.{maxBytes, maxWorkers, blank, bytesOf, tableIn, linksIn, listIn, stateOf}
 use Rattle.order.specs.Words.{filled, allBelow, isNothing, sameList}
-use Rattle.schedule.specs.Begin.{beginPasses}
+use Rattle.schedule.specs.Begin.{settingPasses}
 use Rattle.schedule.specs.Sound.{Steady, Sound, commonSound, sound}
 use Rattle.schedule.specs.Turn.{isBlank, unsound}
 use Rattle.schedule.proofs.Linked.ActiveMoves.{list-once, list-small}
@@ -226,7 +226,7 @@ refused-parts false b c d e = refl
 module _ (s : List ℕ) (K : ℕ) (next status amounts : List ℕ) (k : Links) (workers : List Worker) (set amount highest turns : ℕ) where
   too-many-tested : (p : ℕ) → 17 ≤ p → soundOn s p K next status amounts k workers set amount highest turns ≡ false
   unfolding soundOn commonSound
-  too-many-tested p h = refused-parts (isNothing (firstFound (passes s))) (isNothing (firstFound (beginPasses (tableOf s) p K))) _ _ (rw (too-many s K p h))
+  too-many-tested p h = refused-parts (isNothing (firstFound (passes s))) (isNothing (firstFound (settingPasses p K))) _ _ (rw (too-many s K p h))
 
   sound-handed : (p : ℕ) → soundOn s (min p 17) K next status amounts k workers set amount highest turns ≡ soundOn s p K next status amounts k workers set amount highest turns
   sound-handed p =

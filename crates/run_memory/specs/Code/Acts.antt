@@ -49,7 +49,7 @@ seatedWorker M w t = record { holds = true; thread = t; quota = seatedQuota M w 
 
 -- it does action a of kind k with argument x
 abbrev pub acted : Kind → Table → ℕ → ℕ → ℕ → ℕ → Memory → Gone
-acted k T w t a x M = wentIn M w (actOn k T (M .parents) t a x (withStatuses (seatedStatus M w t) (M .arrays)) (movedIn M .totals) (seatedWorker M w t))
+acted k T w t a x M = wentIn M w (actOn k T (getD (M .settings) 1 0) (M .parents) t a x (withStatuses (seatedStatus M w t) (M .arrays)) (movedIn M .totals) (seatedWorker M w t))
 
 -- worker w has thread t or takes it, and the set has room for its bit; the thread is at action a
 pub record Seated (M : Memory) (w t a : ℕ) : Type 0 where

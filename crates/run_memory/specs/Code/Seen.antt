@@ -1,5 +1,6 @@
 -- What a preview shows of an action alone.
 use Prim.Native.Nat.{ℕ}
+use lib.ListN.{getD}
 use mathlib.Core.Bool.{true, false}
 use Rattle.table.specs.Sum.{pick}
 use Rattle.table.specs.Format.{Kind, Table}
@@ -22,4 +23,4 @@ seenOf o = pick (o .fits) (seeing (o .reply) (o .totals .held) (o .totals .highe
 
 -- of action a of kind k with argument x, of thread t, whose worker has this quota left
 abbrev pub seenIn : Kind → Table → ℕ → ℕ → ℕ → ℕ → Memory → Seen
-seenIn k T t a x quota M = seenOf (actOn k T (M .parents) t a x (M .arrays) (movedIn M .totals) (having t quota))
+seenIn k T t a x quota M = seenOf (actOn k T (getD (M .settings) 1 0) (M .parents) t a x (M .arrays) (movedIn M .totals) (having t quota))

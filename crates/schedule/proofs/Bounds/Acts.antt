@@ -8,7 +8,7 @@ use mathlib.Core.Bool.{Bool, true, false}
 use lib.ListN.{length, getD, set}
 use lib.Seq.{getD-set-same, getD-set-other, set-out}
 use lib.Dec.{leb, eqb}
-use borrow.Author.Tests.{eqb-false, leb-true}
+use borrow.Author.Tests.{eqb-false, leb-true, le-ltb}
 use Rattle.table.specs.Format.{Kind, end, work, alloc, free, fork, join, unknown, codeOf, is, Table, kind}
 use Rattle.table.specs.Checks.{owner, allocOf}
 use Rattle.table.proofs.Tests.{no-way}
@@ -16,7 +16,7 @@ use Rattle.table.proofs.Bodies.{kind-known}
 use Rattle.schedule.specs.declared.Worker.{Worker}
 use Rattle.schedule.specs.declared.Reply.{Reply}
 use Rattle.schedule.specs.declared.Reply.the-variants.{Done, Quota, Wait}
-use Rattle.schedule.specs.Machine.{State, ready, waiting, ended, nextOf, statusOf, workerOf, nobody, actBy, act}
+use Rattle.schedule.specs.Machine.{State, drawn, ready, waiting, ended, nextOf, statusOf, workerOf, nobody, actBy, act}
 use Rattle.schedule.specs.Sound.{isDone}
 use Rattle.order.specs.Order.{numberOf}
 use Rattle.order.proofs.Lawful.{Lawful}
@@ -44,8 +44,11 @@ set-ended xs i x e n u = go (decLt i (length xs)) (ℕ-discrete u i)
 
 -- ---- what an act changes
 
+pub drawn-none : (K : ℕ) → drawn K 0 ≡ 0
+drawn-none K = rw (le-ltb K 0 (omega arith))
+
 -- Worker w, with quota q, tries the next action a of thread t. The reply is r, and the state goes from st to st'.
-pub record Acted (T : Table) (w t a q : ℕ) (st : State) (r : Reply) (st' : State) : Type 0 where
+pub record Acted (T : Table) (K w t a q : ℕ) (st : State) (r : Reply) (st' : State) : Type 0 where
   -- a alone may be done by it
   pub done-others : (d : ℕ) → (d ≡ a → ⊥) → isDone T st' d ≡ isDone T st d
   pub replied : isDone T st' a ≡ true → r ≡ Done t a
@@ -54,8 +57,8 @@ pub record Acted (T : Table) (w t a q : ℕ) (st : State) (r : Reply) (st' : Sta
   pub worker-others : (u : ℕ) → (u ≡ w → ⊥) → workerOf st' u ≡ workerOf st u
   -- if w keeps a thread, it is t, and t stands at the action after a in serial order
   pub keeps : workerOf st' w .holds ≡ true → (isDone T st' a ≡ true) × (workerOf st' w .thread ≡ t) × (numberOf T (nextOf st' t) ≡ suc (numberOf T a))
-  -- the quota falls by an alloc's argument
-  pub quota : (u d : ℕ) → r ≡ Done u d → workerOf st' w .quota + allocOf T d ≤ q
+  -- the quota falls by what an alloc draws
+  pub quota : (u d : ℕ) → r ≡ Done u d → workerOf st' w .quota + drawn K (allocOf T d) ≤ q
   -- a reply that an action was done names a
   pub does : (u d : ℕ) → r ≡ Done u d → isDone T st' a ≡ true
   pub answers : (u d : ℕ) → r ≡ Done u d → d ≡ a
@@ -106,7 +109,7 @@ module _ (T : Table) (l : Lawful T) (p K w t a : ℕ) (st : State) (f : Facts T 
 
   -- done by a worker that goes on: work, free, join of an ended child
   goes-on : is end (kind T a) ≡ false → is fork (kind T a) ≡ false → is alloc (kind T a) ≡ false
-      → (st' : State) → st' .next ≡ set (st .next) t (suc (nextOf st t)) → SameEnded st st' → st' .workers ≡ st .workers → Acted T w t a quotaNow st (Done t a) st'
+      → (st' : State) → st' .next ≡ set (st .next) t (suc (nextOf st t)) → SameEnded st st' → st' .workers ≡ st .workers → Acted T K w t a quotaNow st (Done t a) st'
   goes-on e k m st' n s v =
       record {
         done-others = over st' n s .same;
@@ -116,16 +119,16 @@ module _ (T : Table) (l : Lawful T) (p K w t a : ℕ) (st : State) (f : Facts T 
         answers = λ u d i. cc;
         does = λ u d i. over st' n s .now;
         keeps = λ i. (over st' n s .now, rw v (x .holder), rw (next-over st' n s) (number-step T l a (x .action) e k));
-        quota = λ u d i. let z : allocOf T d ≡ 0 = cc (no-alloc m) in rw v (omega arith);
+        quota = λ u d i. let z : allocOf T d ≡ 0 = cc (no-alloc m) in let y : drawn K (allocOf T d) ≡ 0 = rw z (drawn-none K) in rw v (omega arith);
       }
 
   -- done by a worker with less of its quota left: an alloc within it
-  draws-on : kind T a ≡ alloc → is end (kind T a) ≡ false → is fork (kind T a) ≡ false → T .argument a ≤ quotaNow
+  draws-on : kind T a ≡ alloc → is end (kind T a) ≡ false → is fork (kind T a) ≡ false → drawn K (T .argument a) ≤ quotaNow
       → (st' : State) → st' .next ≡ set (st .next) t (suc (nextOf st t)) → SameEnded st st'
-      → st' .workers ≡ set (st .workers) w (record { holds = true; thread = t; quota = quotaNow - T .argument a }) → Acted T w t a quotaNow st (Done t a) st'
+      → st' .workers ≡ set (st .workers) w (record { holds = true; thread = t; quota = quotaNow - drawn K (T .argument a) }) → Acted T K w t a quotaNow st (Done t a) st'
   unfolding allocOf is codeOf
   draws-on m e k b st' n s v =
-      let now : Worker = record { holds = true; thread = t; quota = quotaNow - T .argument a } in
+      let now : Worker = record { holds = true; thread = t; quota = quotaNow - drawn K (T .argument a) } in
       let here : workerOf st' w ≡ now = rw (v, getD-set-same (st .workers) w now nobody worker-fits) in
       record {
         done-others = over st' n s .same;
@@ -137,13 +140,13 @@ module _ (T : Table) (l : Lawful T) (p K w t a : ℕ) (st : State) (f : Facts T 
         keeps = λ i. (over st' n s .now, rw here, rw (next-over st' n s) (number-step T l a (x .action) e k));
         quota = λ u d i.
             let z : d ≡ a = cc in
-            let y : allocOf T d ≡ T .argument a = rw (z, m) in
+            let y : drawn K (allocOf T d) ≡ drawn K (T .argument a) = rw (z, m) in
             rw here (omega arith);
       }
 
   -- done by a worker that is released: a fork
   forks-off : is alloc (kind T a) ≡ false
-      → (st' : State) → st' .next ≡ set (st .next) t (suc (nextOf st t)) → SameEnded st st' → st' .workers ≡ set (st .workers) w nobody → Acted T w t a quotaNow st (Done t a) st'
+      → (st' : State) → st' .next ≡ set (st .next) t (suc (nextOf st t)) → SameEnded st st' → st' .workers ≡ set (st .workers) w nobody → Acted T K w t a quotaNow st (Done t a) st'
   forks-off m st' n s v =
       record {
         done-others = over st' n s .same;
@@ -153,12 +156,12 @@ module _ (T : Table) (l : Lawful T) (p K w t a : ℕ) (st : State) (f : Facts T 
         keeps = λ i. released-free st' v i;
         answers = λ u d i. cc;
         does = λ u d i. over st' n s .now;
-        quota = λ u d i. let z : allocOf T d ≡ 0 = cc (no-alloc m) in rw (released-nobody st' v) (omega arith);
+        quota = λ u d i. let z : allocOf T d ≡ 0 = cc (no-alloc m) in let y : drawn K (allocOf T d) ≡ 0 = rw z (drawn-none K) in rw (released-nobody st' v) (omega arith);
       }
 
   -- not done, and the worker is released: an alloc beyond the quota, a join of a child not ended
   puts-back : (r : Reply) → ((u d : ℕ) → r ≡ Done u d → ⊥)
-      → (st' : State) → st' .next ≡ st .next → SameEnded st st' → st' .workers ≡ set (st .workers) w nobody → Acted T w t a quotaNow st r st'
+      → (st' : State) → st' .next ≡ st .next → SameEnded st st' → st' .workers ≡ set (st .workers) w nobody → Acted T K w t a quotaNow st r st'
   puts-back r g st' n s v =
       record {
         done-others = λ d i. same d;
@@ -175,7 +178,7 @@ module _ (T : Table) (l : Lawful T) (p K w t a : ℕ) (st : State) (f : Facts T 
       same d = done-alike T st d st' (next-same st' n (owner T d)) (s (owner T d))
 
   -- the thread ends
-  ends-off : kind T a ≡ end → (st' : State) → Ended T w t st st' → Acted T w t a quotaNow st (Done t a) st'
+  ends-off : kind T a ≡ end → (st' : State) → Ended T w t st st' → Acted T K w t a quotaNow st (Done t a) st'
   unfolding is codeOf
   ends-off e st' v =
       record {
@@ -186,7 +189,7 @@ module _ (T : Table) (l : Lawful T) (p K w t a : ℕ) (st : State) (f : Facts T 
         answers = λ u d i. cc;
         does = λ u d i. ended-does T l p K w t a st f x e st' v .now;
         keeps = λ i. no-way (cc (v .lets-go .gone));
-        quota = λ u d i. let z : allocOf T d ≡ 0 = cc (no-alloc (rw e)) in rw (v .lets-go .gone) (omega arith);
+        quota = λ u d i. let z : allocOf T d ≡ 0 = cc (no-alloc (rw e)) in let y : drawn K (allocOf T d) ≡ 0 = rw z (drawn-none K) in rw (v .lets-go .gone) (omega arith);
       }
 
   -- a status other than `ended` for the thread, and then for the child that it forks
@@ -197,16 +200,16 @@ module _ (T : Table) (l : Lawful T) (p K w t a : ℕ) (st : State) (f : Facts T 
   child-unended k = rw (undone-unborn T l p K st f a (x .action) k (x .undone))
 
   -- by the kind of the action
-  acted-by : (k : Kind) → kind T a ≡ k → Acted T w t a quotaNow st (actBy k T w t a (T .argument a) st .reply) (actBy k T w t a (T .argument a) st .state)
+  acted-by : (k : Kind) → kind T a ≡ k → Acted T K w t a quotaNow st (actBy k T K w t a (T .argument a) st .reply) (actBy k T K w t a (T .argument a) st .state)
   unfolding actBy is codeOf
   acted-by end e =
       ends-off e _ (acting-ended T l p K w t a st f x)
   acted-by work e = goes-on (rw e) (rw e) (rw e) _ refl (λ u. refl) refl
-  acted-by alloc e = go (leb (T .argument a) quotaNow) refl
+  acted-by alloc e = go (leb (drawn K (T .argument a)) quotaNow) refl
     where
-      go : (q : Bool) → leb (T .argument a) quotaNow ≡ q
-          → Acted T w t a quotaNow st (actBy alloc T w t a (T .argument a) st .reply) (actBy alloc T w t a (T .argument a) st .state)
-      go true i = rw i (draws-on e (rw e) (rw e) (leb-true (T .argument a) quotaNow i) _ refl (λ u. refl) refl)
+      go : (q : Bool) → leb (drawn K (T .argument a)) quotaNow ≡ q
+          → Acted T K w t a quotaNow st (actBy alloc T K w t a (T .argument a) st .reply) (actBy alloc T K w t a (T .argument a) st .state)
+      go true i = rw i (draws-on e (rw e) (rw e) (leb-true (drawn K (T .argument a)) quotaNow i) _ refl (λ u. refl) refl)
       go false i = rw i (puts-back (Quota t (T .argument a)) (λ u d j. no-way cc) _ refl (restated ready refl) refl)
   acted-by free e = goes-on (rw e) (rw e) (rw e) _ refl (λ u. refl) refl
   acted-by fork e =
@@ -215,11 +218,11 @@ module _ (T : Table) (l : Lawful T) (p K w t a : ℕ) (st : State) (f : Facts T 
   acted-by join e = go (eqb (statusOf st (T .argument a)) ended) refl
     where
       go : (q : Bool) → eqb (statusOf st (T .argument a)) ended ≡ q
-          → Acted T w t a quotaNow st (actBy join T w t a (T .argument a) st .reply) (actBy join T w t a (T .argument a) st .state)
+          → Acted T K w t a quotaNow st (actBy join T K w t a (T .argument a) st .reply) (actBy join T K w t a (T .argument a) st .state)
       go true i = rw i (goes-on (rw e) (rw e) (rw e) _ refl (λ u. refl) refl)
       go false i = rw i (puts-back (Wait t (T .argument a)) (λ u d j. no-way cc) _ refl (restated waiting refl) refl)
   acted-by unknown e = absurd (kind-known T (l .contents) (l .bodies) a (x .action) e)
 
-  pub acted : Acted T w t a quotaNow st (act T w st .reply) (act T w st .state)
+  pub acted : Acted T K w t a quotaNow st (act T K w st .reply) (act T K w st .state)
   unfolding act
   acted = rw (x .holder, x .next) (acted-by (kind T a) refl)

@@ -36,7 +36,7 @@ pub record Tries (T : Table) (K w : ℕ) (st : State) (t a : ℕ) (s : Stepped) 
   -- it holds the thread, or it begins a batch with it
   pub from : ((workerOf st w .holds ≡ true) × (workerOf st w .thread ≡ t) × (nextOf st t ≡ a))
       ⊎ ((workerOf st w .holds ≡ false) × (begins w st ≡ true) × (startAction st ≡ a))
-  pub acted : Acted T w t a (pick (workerOf st w .holds) (workerOf st w .quota) K) st (s .reply) (s .state)
+  pub acted : Acted T K w t a (pick (workerOf st w .holds) (workerOf st w .quota) K) st (s .reply) (s .state)
 
 pub data Turned (T : Table) (K w : ℕ) (st : State) (s : Stepped) : Type 0 where
   idles : workerOf st w .holds ≡ false → s .reply ≡ Idle → s .state .next ≡ st .next → s .state .status ≡ st .status → s .state .workers ≡ st .workers → Turned T K w st s
@@ -56,7 +56,7 @@ module _ (T : Table) (K w t : ℕ) (st : State) (free : statusOf st t ≡ ready)
   unfolding taken
   taken-done d = done-alike T st d (taken K w t st) refl (set-ended (st .status) t held refl (rw free) (owner T d))
 
-  taken-acted : (a : ℕ) (r : Reply) (st' : State) → Acted T w t a K (taken K w t st) r st' → Acted T w t a K st r st'
+  taken-acted : (a : ℕ) (r : Reply) (st' : State) → Acted T K w t a K (taken K w t st) r st' → Acted T K w t a K st r st'
   unfolding taken
   taken-acted a r st' x =
       record {
@@ -72,7 +72,7 @@ module _ (T : Table) (K w t : ℕ) (st : State) (free : statusOf st t ≡ ready)
 
 module _ (T : Table) (l : Lawful T) (p K : ℕ) (few : p ≤ 16) (w : ℕ) (below : w < p) where
   module _ (st : State) (f : Facts T p K st) where
-    goes-on : workerOf st w .holds ≡ true → Turned T K w st (act T w st)
+    goes-on : workerOf st w .holds ≡ true → Turned T K w st (act T K w st)
     goes-on e =
         let t : ℕ = workerOf st w .thread in
         let a : ℕ = nextOf st t in
@@ -88,7 +88,7 @@ module _ (T : Table) (l : Lawful T) (p K : ℕ) (few : p ≤ 16) (w : ℕ) (belo
         })
 
     begins-at : workerOf st w .holds ≡ false → (t : ℕ) → getD (st .list) (leftmost (st .status) (st .list)) 0 ≡ t → t < T .threads → statusOf st t ≡ ready → begins w st ≡ true
-        → Turned T K w st (act T w (taken K w t st))
+        → Turned T K w st (act T K w (taken K w t st))
     begins-at e t i h r b =
         let st' : State = taken K w t st in
         let f' : Facts T p K st' = taken-facts T l p K few w below st f e t h r in
@@ -111,7 +111,7 @@ module _ (T : Table) (l : Lawful T) (p K : ℕ) (few : p ≤ 16) (w : ℕ) (belo
     free-turn e = go (eqb (leftmost (st .status) (st .list)) (length (st .list))) refl
       where
         go : (q : Bool) → eqb (leftmost (st .status) (st .list)) (length (st .list)) ≡ q
-            → Turned T K w st (pick q (stepped Idle st) (act T w (taken K w (getD (st .list) (leftmost (st .status) (st .list)) 0) st)))
+            → Turned T K w st (pick q (stepped Idle st) (act T K w (taken K w (getD (st .list) (leftmost (st .status) (st .list)) 0) st)))
         go true i = idles e refl refl refl refl
         go false i =
             let (m, r) = leftmost-ready (st .status) (st .list) (eqb-false _ _ i) in
@@ -145,9 +145,9 @@ counted-turned T K w st s (tries t a x) =
 module _ (T : Table) (l : Lawful T) (p K : ℕ) (few : p ≤ 16) where
   pub turned : (w : ℕ) → w < p → (st : State) → Facts T p K st → Turned T K w st (turnOf T K w st)
   unfolding turnOf
-  turned w h st f = counted-turned T K w st (pick (workerOf st w .holds) (act T w st) (turnFree T K w st)) (go (workerOf st w .holds) refl)
+  turned w h st f = counted-turned T K w st (pick (workerOf st w .holds) (act T K w st) (turnFree T K w st)) (go (workerOf st w .holds) refl)
     where
-      go : (q : Bool) → workerOf st w .holds ≡ q → Turned T K w st (pick q (act T w st) (turnFree T K w st))
+      go : (q : Bool) → workerOf st w .holds ≡ q → Turned T K w st (pick q (act T K w st) (turnFree T K w st))
       go true e = goes-on T l p K few w h st f e
       go false e = free-turn T l p K few w h st f e
 

@@ -14,7 +14,7 @@ use Rattle.table.specs.Format.{Kind, end, work, alloc, free, fork, join, unknow
 use Rattle.table.specs.Level.{forkBelow}
 use Rattle.table.proofs.Tests.{and-both}
 use Rattle.table.proofs.Bodies.{kind-known, fork-below}
-use Rattle.schedule.specs.Machine.{State, Stepped, unborn, ready, held, waiting, ended, nextOf, statusOf, workerOf, withStatus, withList, released, leftOf, without, parentOf, waitsFor, woken, taken, actBy, act}
+use Rattle.schedule.specs.Machine.{State, drawn, Stepped, unborn, ready, held, waiting, ended, nextOf, statusOf, workerOf, withStatus, withList, released, leftOf, without, parentOf, waitsFor, woken, taken, actBy, act}
 use Rattle.schedule.specs.Links.{noThread, Links, LinkedAs, linkLeft, unlink}
 use Rattle.schedule.specs.Code.LinkMoves.{linksBy, activesBy}
 use Rattle.schedule.specs.Actives.{actives}
@@ -62,12 +62,12 @@ module _ (T : Table) (l : Lawful T) (p K : ℕ) (w t a : ℕ) (st : State) (f : 
 
   -- ---- the list
 
-  pub links-by : (k : Links) → LinkedAs k (st .list) → (q : Kind) → kind T a ≡ q → LinkedAs (linksBy q t (T .argument a) k) (actBy q T w t a (T .argument a) st .state .list)
+  pub links-by : (k : Links) → LinkedAs k (st .list) → (q : Kind) → kind T a ≡ q → LinkedAs (linksBy q t (T .argument a) k) (actBy q T K w t a (T .argument a) st .state .list)
   unfolding linksBy actBy
   links-by k h end e =
       rw (acting-ended T l p K w t a st f x .list-is) (unlink-linked k (st .list) h (list-once T l p K st f) (list-small T l p K st f) t listed)
   links-by k h work e = h
-  links-by k h alloc e = either (λ (s : Stepped). LinkedAs k (s .state .list)) (leb (T .argument a) (workerOf st w .quota)) _ _ (λ i. h) (λ i. h)
+  links-by k h alloc e = either (λ (s : Stepped). LinkedAs k (s .state .list)) (leb (drawn K (T .argument a)) (workerOf st w .quota)) _ _ (λ i. h) (λ i. h)
   links-by k h free e = h
   links-by k h fork e =
       linkLeft-linked k (st .list) h (list-once T l p K st f) (list-small T l p K st f) t listed (T .argument a) (omega (arith, child-below e, l .few-threads))
@@ -131,12 +131,12 @@ module _ (T : Table) (l : Lawful T) (p K : ℕ) (w t a : ℕ) (st : State) (f : 
 
     pub actives-by : (q : Kind) → kind T a ≡ q
         → LinkedAs (activesBy q T t (T .argument a) st k)
-        (actives (actBy q T w t a (T .argument a) st .state .status) (actBy q T w t a (T .argument a) st .state .list))
+        (actives (actBy q T K w t a (T .argument a) st .state .status) (actBy q T K w t a (T .argument a) st .state .list))
     unfolding activesBy actBy woken waitsFor
     actives-by end e = actives-end-by (waitsFor T (withStatus t ended st) (parentOf T t) t) (sym (waits-same (parentOf T t)))
     actives-by work e = h
     actives-by alloc e =
-        either (λ (s : Stepped). LinkedAs k (actives (s .state .status) (s .state .list))) (leb (T .argument a) (workerOf st w .quota)) _ _ (λ i. h)
+        either (λ (s : Stepped). LinkedAs k (actives (s .state .status) (s .state .list))) (leb (drawn K (T .argument a)) (workerOf st w .quota)) _ _ (λ i. h)
         (λ i. rw (moves-set T l p K st f t ready (x .thread) runs (λ r. omega arith)) h)
     actives-by free e = h
     actives-by fork e = actives-fork-by e
@@ -163,11 +163,11 @@ module _ (T : Table) (l : Lawful T) (p K w : ℕ) (inside : w < 16) (st : State)
   acts : Acting T w (workerOf st w .thread) (nextOf st (workerOf st w .thread)) st
   acts = acting T l p K w (workerOf st w .thread) (nextOf st (workerOf st w .thread)) st f inside holds refl refl
 
-  pub act-links : (k : Links) → LinkedAs k (st .list) → LinkedAs (linksBy (kind T action) thread (T .argument action) k) (act T w st .state .list)
+  pub act-links : (k : Links) → LinkedAs k (st .list) → LinkedAs (linksBy (kind T action) thread (T .argument action) k) (act T K w st .state .list)
   unfolding act
   act-links k h = links-by T l p K w thread action st f acts k h (kind T action) refl
 
   pub act-actives : (k : Links) → LinkedAs k (actives (st .status) (st .list))
-      → LinkedAs (activesBy (kind T action) T thread (T .argument action) st k) (actives (act T w st .state .status) (act T w st .state .list))
+      → LinkedAs (activesBy (kind T action) T thread (T .argument action) st k) (actives (act T K w st .state .status) (act T K w st .state .list))
   unfolding act
   act-actives k h = actives-by T l p K w thread action st f acts k h (kind T action) refl

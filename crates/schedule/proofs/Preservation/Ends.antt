@@ -73,9 +73,9 @@ unfolding waitsFor
 true-waits T st u t e k i =
     rw (eq-eqb (statusOf st u) waiting e, same-is join (kind T (nextOf st u)) k, eq-eqb (T .argument (nextOf st u)) t i)
 
-module _ (T : Table) (w t a c : ℕ) (st : State) where
+module _ (T : Table) (K w t a c : ℕ) (st : State) where
   ended-state : length (st .next) ≡ 1024 → length (st .status) ≡ 1024 → length (st .workers) ≡ 16 → w < 16 → t < 1024 → parentOf T t < 1024
-      → Ended T w t st (actBy end T w t a c st .state)
+      → Ended T w t st (actBy end T K w t a c st .state)
   unfolding actBy woken
   ended-state n s k i j h = go (waitsFor T mid v t) refl
     where
@@ -129,9 +129,9 @@ module _ (T : Table) (w t a c : ℕ) (st : State) where
             wakes = λ u o r. inl (getD-set-other (st .status) t u ended 0 o ∙ r);
           }
 
-pub acting-ended : (T : Table) → Lawful T → (p K w t a : ℕ) (st : State) → Facts T p K st → Acting T w t a st → Ended T w t st (actBy end T w t a (T .argument a) st .state)
+pub acting-ended : (T : Table) → Lawful T → (p K w t a : ℕ) (st : State) → Facts T p K st → Acting T w t a st → Ended T w t st (actBy end T K w t a (T .argument a) st .state)
 acting-ended T l p K w t a st f x =
-    ended-state T w t a (T .argument a) st (f .next-size) (f .status-size) (f .holding .worker-size) (x .worker) (omega (arith, x .thread, l .few-threads))
+    ended-state T K w t a (T .argument a) st (f .next-size) (f .status-size) (f .holding .worker-size) (x .worker) (omega (arith, x .thread, l .few-threads))
     (omega (arith, l .few-threads, ownerBelow-less T (T .threads) (forkBelow T (T .actions) t) (l .some-thread)))
 
 -- ---- what an end keeps
@@ -318,5 +318,5 @@ module _ (T : Table) (l : Lawful T) (p K : ℕ) (w t a : ℕ) (st : State) (f : 
       }
 
 pub end-facts : (T : Table) (l : Lawful T) (p K w t a : ℕ) (st : State) (f : Facts T p K st) → Acting T w t a st → kind T a ≡ end
-    → Facts T p K (actBy end T w t a (T .argument a) st .state)
-end-facts T l p K w t a st f x k = ended-facts T l p K w t a st f x k (actBy end T w t a (T .argument a) st .state) (acting-ended T l p K w t a st f x)
+    → Facts T p K (actBy end T K w t a (T .argument a) st .state)
+end-facts T l p K w t a st f x k = ended-facts T l p K w t a st f x k (actBy end T K w t a (T .argument a) st .state) (acting-ended T l p K w t a st f x)

@@ -40,13 +40,13 @@ pub record Forked (w t a c : ℕ) (st st' : State) : Type 0 where
   pub status-other : (u : ℕ) → (u ≡ t → ⊥) → (u ≡ c → ⊥) → statusOf st' u ≡ statusOf st u
   pub list-is : st' .list ≡ leftOf c t (st .list)
 
-module _ (T : Table) (w t a c : ℕ) (st : State) where
+module _ (T : Table) (K w t a c : ℕ) (st : State) where
   forked : length (st .next) ≡ 1024 → length (st .status) ≡ 1024 → length (st .workers) ≡ 16 → w < 16 → t < c → c < 1024 → nextOf st t ≡ a
-      → Forked w t a c st (actBy fork T w t a c st .state)
+      → Forked w t a c st (actBy fork T K w t a c st .state)
   unfolding actBy
   forked n s k i j h e =
       record {
-        lets-go = freed w st (actBy fork T w t a c st .state) i k refl (simp length-set) (simp length-set) refl refl refl;
+        lets-go = freed w st (actBy fork T K w t a c st .state) i k refl (simp length-set) (simp length-set) refl refl refl;
         next-here = getD-set-same (st .next) t (suc (nextOf st t)) 0 (omega arith) ∙ rw e;
         next-other = λ u o. getD-set-other (st .next) t u (suc (nextOf st t)) 0 o;
         status-here = getD-set-other (set (st .status) t ready) c t ready 0 (λ q. omega arith) ∙ getD-set-same (st .status) t ready 0 (omega arith);
@@ -56,9 +56,9 @@ module _ (T : Table) (w t a c : ℕ) (st : State) where
       }
 
 pub acting-forked : (T : Table) → Lawful T → (p K w t a : ℕ) (st : State) → Facts T p K st → Acting T w t a st → kind T a ≡ fork
-    → Forked w t a (T .argument a) st (actBy fork T w t a (T .argument a) st .state)
+    → Forked w t a (T .argument a) st (actBy fork T K w t a (T .argument a) st .state)
 acting-forked T l p K w t a st f x k =
-    forked T w t a (T .argument a) st (f .next-size) (f .status-size) (f .holding .worker-size) (x .worker)
+    forked T K w t a (T .argument a) st (f .next-size) (f .status-size) (f .holding .worker-size) (x .worker)
     (omega (arith, fork-above T (l .contents) (l .bodies) a (x .action) k, x .owned))
     (omega (arith, fork-below T (l .contents) (l .bodies) a (x .action) k, l .few-threads)) (x .next)
 
@@ -288,6 +288,6 @@ module _ (T : Table) (l : Lawful T) (p K : ℕ) (w t a c : ℕ) (st : State) (f 
       }
 
 pub fork-facts : (T : Table) (l : Lawful T) (p K w t a : ℕ) (st : State) (f : Facts T p K st) → Acting T w t a st → kind T a ≡ fork
-    → Facts T p K (actBy fork T w t a (T .argument a) st .state)
+    → Facts T p K (actBy fork T K w t a (T .argument a) st .state)
 fork-facts T l p K w t a st f x k =
-    forked-facts T l p K w t a (T .argument a) st f x k refl (actBy fork T w t a (T .argument a) st .state) (acting-forked T l p K w t a st f x k)
+    forked-facts T l p K w t a (T .argument a) st f x k refl (actBy fork T K w t a (T .argument a) st .state) (acting-forked T l p K w t a st f x k)

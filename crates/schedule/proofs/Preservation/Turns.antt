@@ -15,7 +15,7 @@ use Rattle.table.specs.Checks.{allocOf, freeOf}
 use Rattle.table.proofs.Tests.{no-way}
 use Rattle.table.proofs.Bodies.{kind-known}
 use Rattle.schedule.specs.declared.Worker.{Worker}
-use Rattle.schedule.specs.Machine.{State, ready, waiting, ended, nextOf, statusOf, workerOf, nobody, withWorker, Stepped, actBy, act, leftmost, taken, turnFree, turnOf}
+use Rattle.schedule.specs.Machine.{State, drawn, ready, waiting, ended, nextOf, statusOf, workerOf, nobody, withWorker, Stepped, actBy, act, leftmost, taken, turnFree, turnOf}
 use Rattle.order.proofs.Lawful.{Lawful}
 use Rattle.schedule.proofs.Sound.Facts.{Holding, Facts}
 use Rattle.schedule.proofs.Sound.Shares.{free-held}
@@ -65,13 +65,13 @@ module _ (T : Table) (l : Lawful T) (p K : ℕ) (w t a : ℕ) (below : w < p) (s
         joined = j;
       }
 
-  work-facts : kind T a ≡ work → Facts T p K (actBy work T w t a (T .argument a) st .state)
+  work-facts : kind T a ≡ work → Facts T p K (actBy work T K w t a (T .argument a) st .state)
   unfolding actBy is codeOf allocOf freeOf
   work-facts e =
       let o : Goes T st t a = goes (rw e) (rw e) (λ j. no-way cc) in
       gone-facts T l p K st f t a o (st .workers) (st .amounts) (st .held) (st .highest) (f .holding) (work-shared T l p K st f t a o (rw e) (rw e) (rw e)) (rw e) (f .above)
 
-  free-facts : kind T a ≡ free → Facts T p K (actBy free T w t a (T .argument a) st .state)
+  free-facts : kind T a ≡ free → Facts T p K (actBy free T K w t a (T .argument a) st .state)
   unfolding actBy is codeOf allocOf freeOf
   free-facts e =
       let h : ℕ = st .held - T .argument a in
@@ -100,19 +100,19 @@ module _ (T : Table) (l : Lawful T) (p K : ℕ) (w t a : ℕ) (below : w < p) (s
         none = λ i. no-way cc;
       })
 
-  alloc-facts : kind T a ≡ alloc → Facts T p K (actBy alloc T w t a (T .argument a) st .state)
+  alloc-facts : kind T a ≡ alloc → Facts T p K (actBy alloc T K w t a (T .argument a) st .state)
   unfolding actBy is codeOf allocOf freeOf
   alloc-facts e =
-      let q : ℕ = workerOf st w .quota - T .argument a in
+      let q : ℕ = workerOf st w .quota - drawn K (T .argument a) in
       let h : ℕ = st .held + T .argument a in
       let g : ℕ = max (st .highest) h in
       let b : workerOf st w .quota ≤ K = f .holding .holder-quota w (x .worker) (x .holds) in
       let o : Goes T st t a = goes (rw e) (rw e) (λ j. no-way cc) in
-      either (λ (s : Stepped). Facts T p K (s .state)) (leb (T .argument a) (workerOf st w .quota)) _ _
+      either (λ (s : Stepped). Facts T p K (s .state)) (leb (drawn K (T .argument a)) (workerOf st w .quota)) _ _
       (λ i. gone-facts T l p K st f t a o _ _ h g (spent q (omega arith)) (alloc-shared T l p K st f t a o e) (rw e (omega arith)) (le-max-right (st .highest) h))
       (λ i. released-facts T l p K w t a st f x ready (omega arith, omega arith) (λ r. no-way cc) (λ r. no-way cc))
 
-  join-facts : kind T a ≡ join → Facts T p K (actBy join T w t a (T .argument a) st .state)
+  join-facts : kind T a ≡ join → Facts T p K (actBy join T K w t a (T .argument a) st .state)
   unfolding actBy is codeOf allocOf freeOf
   join-facts e =
       either (λ (s : Stepped). Facts T p K (s .state)) (eqb (statusOf st (T .argument a)) ended) _ _
@@ -123,7 +123,7 @@ module _ (T : Table) (l : Lawful T) (p K : ℕ) (w t a : ℕ) (below : w < p) (s
       (λ r. rw (x .next) (e, eqb-false (statusOf st (T .argument a)) ended i)))
 
   -- by the kind of the thread's next action
-  act-by : (k : Kind) → kind T a ≡ k → Facts T p K (actBy k T w t a (T .argument a) st .state)
+  act-by : (k : Kind) → kind T a ≡ k → Facts T p K (actBy k T K w t a (T .argument a) st .state)
   act-by end e = end-facts T l p K w t a st f x e
   act-by work e = work-facts e
   act-by alloc e = alloc-facts e
@@ -135,7 +135,7 @@ module _ (T : Table) (l : Lawful T) (p K : ℕ) (w t a : ℕ) (below : w < p) (s
 -- ---- the turn
 
 module _ (T : Table) (l : Lawful T) (p K : ℕ) (few : p ≤ 16) (w : ℕ) (below : w < p) where
-  pub act-facts : (st : State) → Facts T p K st → workerOf st w .holds ≡ true → Facts T p K (act T w st .state)
+  pub act-facts : (st : State) → Facts T p K st → workerOf st w .holds ≡ true → Facts T p K (act T K w st .state)
   unfolding act
   act-facts st f e =
       let t : ℕ = workerOf st w .thread in

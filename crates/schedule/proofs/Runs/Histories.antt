@@ -17,8 +17,7 @@ use Rattle.table.specs.declared.Found.{Found}
 use Rattle.table.specs.declared.Found.the-variants.{Nothing, At}
 use Rattle.table.specs.declared.Refusal.{Refusal}
 use Rattle.table.proofs.Tests.{no-way}
-use Rattle.table.proofs.Trying.{orElse-nothing, tryAt-nothing}
-use Rattle.table.proofs.Passes.{firstFound-append, passes-rules}
+use Rattle.table.proofs.Trying.{tryAt-nothing}
 use Rattle.schedule.specs.declared.Run.{Run}
 use Rattle.schedule.specs.declared.Begun.{Begun}
 use Rattle.schedule.specs.declared.Beginning.the-variants.{Begun as started}
@@ -29,7 +28,9 @@ use Rattle.schedule.specs.declared.Ran.{Ran}
 use Rattle.schedule.specs.Machine.{State}
 use Rattle.schedule.specs.Record.{maxBytes, stateOf, tableIn}
 use Rattle.order.specs.Words.{filled}
-use Rattle.schedule.specs.Begin.{begin, begunAs, beginPasses, startState, startRun}
+use Rattle.schedule.specs.Begin.{begin, begunAs, settingPasses, beginPasses, startState, startRun}
+use Rattle.filling.specs.Filled.{filledOut}
+use Rattle.filling.proofs.Runs.{Runs}
 use Rattle.order.specs.Firsts.{firsts}
 use Rattle.schedule.specs.Links.{walk, laid}
 use Rattle.schedule.specs.Sound.{SoundState, Steady, Sound}
@@ -43,36 +44,40 @@ use Rattle.schedule.proofs.Sound.Facts.{Facts, sound-facts}
 use Rattle.schedule.proofs.Preservation.Starts.{start-facts}
 use Rattle.schedule.proofs.Runs.Rows.{rowState-append, front-workers}
 use Rattle.order.proofs.Lists.{filled-front, firsts-take}
-use Rattle.schedule.proofs.Stores.{Fits, begin-fits, laid-back, moved-steady, moved-state}
+use Rattle.schedule.proofs.Beginnings.{settings-exactly, silent-runs}
+use Rattle.schedule.proofs.Stores.{Fits, laid-back, moved-steady, moved-state}
 
 -- ---- what a beginning gives
 
 pub record Started (s : List ℕ) (p K : ℕ) (r : Run) : Type 0 where
-  pub is-start : r ≡ startRun s p K
-  pub lawful : Lawful (tableOf s)
+  pub is-start : r ≡ startRun (filledOut s K) p K
+  -- what the requests say of the table that runs
+  pub filling : Runs s K
+  pub lawful : Lawful (tableOf (filledOut s K))
+  pub settings : Fits p K
   pub some-worker : 1 ≤ p
   pub few-workers : p ≤ 16
 
 -- no check applies, and the record is the start's
 begin-accepted : (s : List ℕ) (p K : ℕ) (r : Run) → begin s p K ≡ record { answer = started; run = r }
-    → (r ≡ startRun s p K) × Rules s × (firstFound (beginPasses (tableOf s) p K) ≡ Nothing)
+    → (r ≡ startRun (filledOut s K) p K) × Runs s K × Fits p K
 unfolding begin
 begin-accepted s p K r e = go (firstFound (passes s ++ beginPasses (tableOf s) p K)) refl e
   where
-    go : (f : Found) → firstFound (passes s ++ beginPasses (tableOf s) p K) ≡ f → begunAs f (startRun s p K) ≡ record { answer = started; run = r }
-        → (r ≡ startRun s p K) × Rules s × (firstFound (beginPasses (tableOf s) p K) ≡ Nothing)
-    go Nothing n q =
-        let b = orElse-nothing (firstFound (passes s)) (firstFound (beginPasses (tableOf s) p K)) .0 (rw (firstFound-append (passes s) (beginPasses (tableOf s) p K)) at n) in
-        (sym (ap (λ (x : Begun). x .run) q), passes-rules s .0 (b .0), b .1)
+    go : (f : Found) → firstFound (passes s ++ beginPasses (tableOf s) p K) ≡ f → begunAs f (startRun (filledOut s K) p K) ≡ record { answer = started; run = r }
+        → (r ≡ startRun (filledOut s K) p K) × Runs s K × Fits p K
+    go Nothing n q = let (a, f, x) = silent-runs s p K n in (sym (ap (λ (x : Begun). x .run) q), x, f)
     go (At x) n q = let z = ap (λ (y : Begun). y .answer) q in no-way (cc)
 
 pub begin-started : (s : List ℕ) (p K : ℕ) (r : Run) → begin s p K ≡ record { answer = started; run = r } → Started s p K r
 begin-started s p K r e =
     let b = begin-accepted s p K r e in
-    let f : Fits (tableOf s) p K = begin-fits (tableOf s) p K (b .2) in
+    let f : Fits p K = b .2 in
     record {
       is-start = b .0;
-      lawful = lawful s (b .1);
+      filling = b .1;
+      lawful = lawful (filledOut s K) (b .1 .rules);
+      settings = f;
       some-worker = f .some-worker;
       few-workers = f .few-workers;
     }
@@ -81,7 +86,8 @@ start-bytes : (s : List ℕ) (p K : ℕ) → tableIn (startRun s p K) ≡ tableO
 unfolding startRun
 start-bytes s p K = ap tableOf (filled-front maxBytes s)
 
-start-steady : (s : List ℕ) (p K : ℕ) → Rules s → firstFound (beginPasses (tableOf s) p K) ≡ Nothing → Steady (startRun s p K)
+-- a record with the table given, whatever its allocs
+pub start-steady : (s : List ℕ) (p K : ℕ) → Rules s → firstFound (settingPasses p K) ≡ Nothing → Steady (startRun s p K)
 unfolding startRun
 start-steady s p K h f =
     let T : Table = tableOf s in
@@ -91,7 +97,7 @@ start-steady s p K h f =
     let back : walk maxThreads (laid (startState T .list) .right) (laid (startState T .list) .head) ≡ startState T .list = laid-back T (lawful s h) p K (startState T) g in
     record {
       table = rw q h;
-      beginning = rw q f;
+      settings = f;
       state = rw (q, back) d;
       set = refl;
       table-length = ap length q;
@@ -106,7 +112,7 @@ start-turns s p K = refl
 pub begin-sound : (s : List ℕ) (p K : ℕ) (r : Run) → begin s p K ≡ record { answer = started; run = r } → Sound r
 begin-sound s p K r e =
     let b = begin-accepted s p K r e in
-    rw (b .0) (record { steady = start-steady s p K (b .1) (b .2); turns = omega (arith, start-turns s p K) })
+    rw (b .0) (record { steady = start-steady (filledOut s K) p K (b .1 .rules) (settings-exactly p K .1 (b .2)); turns = omega (arith, start-turns (filledOut s K) p K) })
 
 -- ---- what a list of calls leaves
 
@@ -314,19 +320,18 @@ calls-steady r h (c ∷ calls) = calls-steady (afterCall c r) (call-goes r h c .
 
 -- and from a beginning
 pub start-state : (s : List ℕ) (p K : ℕ) (r : Run) → begin s p K ≡ record { answer = started; run = r }
-    → (tableIn r ≡ tableOf s) × (r .workers ≡ p) × (r .quota ≡ K) × (stateOf r ≡ startState (tableOf s))
+    → (tableIn r ≡ tableOf (filledOut s K)) × (r .workers ≡ p) × (r .quota ≡ K) × (stateOf r ≡ startState (tableOf (filledOut s K)))
 unfolding startRun
 start-state s p K r e =
-    let q : r ≡ startRun s p K = begin-accepted s p K r e .0 in
-    let T : Table = tableOf s in
-    let a : Rules s = begin-accepted s p K r e .1 in
-    rw q (start-bytes s p K, refl, refl, rw (laid-back T (lawful s a) p K (startState T) (start-facts T (lawful s a) p K)))
+    let i : Started s p K r = begin-started s p K r e in
+    let T : Table = tableOf (filledOut s K) in
+    rw (i .is-start) (start-bytes (filledOut s K) p K, refl, refl, rw (laid-back T (i .lawful) p K (startState T) (start-facts T (i .lawful) p K)))
 
 -- of a beginning and a list of calls: the record left is the state after the row, and is sound but for its turns taken; the workers of every front part are below p
 pub record Traced (s : List ℕ) (p K : ℕ) (r : Run) (calls : List Call) : Type 0 where
   pub started : Started s p K r
   pub steady : Steady (afterCalls calls r)
-  pub state : stateOf (afterCalls calls r) ≡ rowState (tableOf s) K (startState (tableOf s)) (rowOfCalls calls r)
+  pub state : stateOf (afterCalls calls r) ≡ rowState (tableOf (filledOut s K)) K (startState (tableOf (filledOut s K))) (rowOfCalls calls r)
   pub below : (front rest : List ℕ) → rowOfCalls calls r ≡ front ++ rest → (w : ℕ) → List·Memᴰ w front → w < p
 
 pub calls-traced : (s : List ℕ) (p K : ℕ) (r : Run) → begin s p K ≡ record { answer = started; run = r } → (calls : List Call) → Traced s p K r calls

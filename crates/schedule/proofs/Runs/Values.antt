@@ -21,6 +21,7 @@ use Rattle.schedule.specs.declared.Reply.the-variants.{Idle, Done, Quota
 use Rattle.schedule.specs.declared.Report.the-variants.{Finished, Spent, Refused}
 use Rattle.schedule.specs.Machine.{Stepped}
 use Rattle.schedule.specs.Begin.{beginPasses, startRun, begunAs, begin}
+use Rattle.filling.specs.Filled.{filledOut}
 use Rattle.schedule.specs.Turn.{unsound, rootEnded, noWorker, turnChecks, stepRun, passedIn, turnedAs, turned}
 use Rattle.schedule.specs.Runs.{ran, moved, drive, listRun, roundsRun}
 use Rattle.schedule.specs.Answers.{begun, finished, spent, Values, replyValues, passing, beginningValues, turningValues, reportValues}
@@ -32,7 +33,7 @@ pub begin-values : (s : List ℕ) (p K : ℕ) → beginningValues (begin s p K .
 unfolding begin beginValues
 begin-values s p K = go (firstFound (passes s ++ beginPasses (tableOf s) p K))
   where
-    go : (found : Found) → beginningValues (begunAs found (startRun s p K) .answer) ≡ valuesWith found begun 0 0 0
+    go : (found : Found) → beginningValues (begunAs found (startRun (filledOut s K) p K) .answer) ≡ valuesWith found begun 0 0 0
     go Nothing = refl
     go (At x) = refl
 

@@ -122,7 +122,7 @@ sound-exactly r =
             steady =
                 record {
                   table = a;
-                  beginning = b;
+                  settings = b;
                   state = record { common = c; listed = l };
                   set = d;
                   table-length = i;
@@ -133,7 +133,7 @@ sound-exactly r =
           }),
       (λ s.
           let x = s .steady in
-          ((x .table, (x .beginning, (x .state .common, x .set))), (x .state .listed, (x .table-length, (x .table-rest, (x .links, s .turns)))))),
+          ((x .table, (x .settings, (x .state .common, x .set))), (x .state .listed, (x .table-length, (x .table-rest, (x .links, s .turns)))))),
     )
 
 -- ---- the blank record

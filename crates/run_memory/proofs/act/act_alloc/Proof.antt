@@ -6,25 +6,31 @@ use denote.Ref.{now}
 use Rattle.array_machine.proofs.Leaves.{fits16, fits64}
 use Rattle.run_memory.specs.Blocks.{Words, Sums, bytesIn, wordsIn, numbersIn, sumsIn}
 use Rattle.run_memory.specs.Code.Writes.{heldSums, having}
-use Rattle.run_memory.proofs.Acts.{gone-as, written-as, kept-words-as, room-in, alloc-room, alloc-beyond, alloc-unfit, alloc-done}
+use Rattle.run_memory.proofs.Acts.{gone-as, written-as, kept-words-as, room-in, share, alloc-room, alloc-beyond, alloc-unfit, alloc-done}
 use borrow.Author.Needs.{needs}
 use Rattle.run_memory.proofs.act.act_alloc.Statement.{statement}
 use Rattle.run_memory.proofs.act.act_alloc.Tie as tie
 
 -- the test passed
-passed : (c : tie.Else2) → let l = c .before .before in let o = l .before .before in let d = o .before .before .before .before .before .before in
+passed : (c : tie.Else2) → let l = c .before .before in let o = l .before .before in let d = o .before .before .before .before .before .before .before .before .before in
     (d .args .a + 1 < 65536) × ((l .total-at .result + d .args .x < 2 ^ 64) × (o .amount-at .result + d .args .x < 2 ^ 64))
 passed c =
     let l = c .before .before in
     let o = l .before .before in
-    let d = o .before .before .before .before .before .before in
+    let d = o .before .before .before .before .before .before .before .before .before in
     alloc-room (d .args .a) (l .total-at .result) (o .amount-at .result) (d .args .x) (not-false _ (c .if2 .left)) (c .before .alloc-fits .ensures)
 
 quota-left-requires : tie.Need-quota-left-requires
 quota-left-requires c κs = search needs
 
+setting-at-requires : tie.Need-setting-at-requires
+setting-at-requires c κs = search needs
+
+drawn-requires : tie.Need-drawn-requires
+drawn-requires c κs = search needs
+
 put-back-requires : tie.Need-put-back-requires
-put-back-requires c κs = room-in (c .before .before .before .before .before .before .before .pre) refl refl
+put-back-requires c κs = room-in (c .before .before .before .before .before .before .before .before .before .before .pre) refl refl
 
 said-requires : tie.Need-said-requires
 said-requires c κs = search needs
@@ -33,7 +39,9 @@ returns : tie.Need-returns
 returns c =
     let g = c .before in
     let i = g .before .before .before .before in
-    let q = i .before in
+    let z = i .before in
+    let v = z .before in
+    let q = v .before .before in
     let d = q .before .before .before in
     let B = bytesIn (now (d .args .bytes)) in
     let W = wordsIn (now (d .args .words)) in
@@ -44,7 +52,7 @@ returns c =
     let a = d .args .a in
     λ T.
     written-as (c .said .ensures) (g .put-back .ensures .0) (g .put-back .ensures .1 .0) (g .put-back .ensures .1 .1)
-    (alloc-beyond B W N S T w t a (d .args .x) (q .quota-left .ensures) (i .if1 .taken))
+    (alloc-beyond B W N S T w t a (d .args .x) (q .quota-left .ensures) (share (d .args .x) (v .setting-at .ensures) (z .drawn .ensures)) (i .if1 .taken))
 
 amount-at-requires : tie.Need-amount-at-requires
 amount-at-requires c κs = search needs
@@ -64,7 +72,9 @@ returns-2 c =
     let l = i .before .before in
     let o = l .before .before in
     let e = o .before .before in
-    let q = e .before in
+    let z = e .before in
+    let v = z .before in
+    let q = v .before .before in
     let d = q .before .before .before in
     let B = bytesIn (now (d .args .bytes)) in
     let W = wordsIn (now (d .args .words)) in
@@ -75,7 +85,7 @@ returns-2 c =
     let a = d .args .a in
     λ T.
     gone-as (now (d .args .bytes)) (now (d .args .words)) (now (d .args .numbers)) (now (d .args .sums)) (c .unfit .ensures) refl refl refl refl
-    (alloc-unfit B W N S T w t a (d .args .x) (o .amount-at .ensures) (l .total-at .ensures) (q .quota-left .ensures) (e .if1 .left) (i .before .alloc-fits .ensures) (not-true _ (i .if2 .taken)))
+    (alloc-unfit B W N S T w t a (d .args .x) (o .amount-at .ensures) (l .total-at .ensures) (q .quota-left .ensures) (share (d .args .x) (v .setting-at .ensures) (z .drawn .ensures)) (e .if1 .left) (i .before .alloc-fits .ensures) (not-true _ (i .if2 .taken)))
 
 add-put-row : tie.Need-add-put-row
 add-put-row c = fits16 (passed (c .before) .0)
@@ -100,7 +110,7 @@ keep-requires c κs =
     let h = c .before .before .before in
     let p = h .before .before .before .before in
     let e = p .before .before .before .before .before .before .before .before in
-    room-in (e .before .before .before .before .pre) refl (ap (λ (W : Words). W .busy) (p .put-row .ensures))
+    room-in (e .before .before .before .before .before .before .before .pre) refl (ap (λ (W : Words). W .busy) (p .put-row .ensures))
 
 done-requires : tie.Need-done-requires
 done-requires c κs = search needs
@@ -115,7 +125,9 @@ returns-3 c =
     let l = i .before .before in
     let o = l .before .before in
     let e = o .before .before in
-    let q = e .before in
+    let z = e .before in
+    let v = z .before in
+    let q = v .before .before in
     let d = q .before .before .before in
     let B = bytesIn (now (d .args .bytes)) in
     let W = wordsIn (now (d .args .words)) in
@@ -127,15 +139,17 @@ returns-3 c =
     let x = d .args .x in
     λ T.
     gone-as (k .keep .last .0) (k .keep .last .1 .0) (k .keep .last .1 .1 .0) (h .hold .last .0) (c .done .ensures) (k .keep .ensures .0)
-    (kept-words-as B w (having t (q .quota-left .result - x)) (p .put-row .ensures) (k .keep .ensures .1 .0)) (k .keep .ensures .1 .1)
+    (kept-words-as B w (having t (q .quota-left .result - z .drawn .result)) (p .put-row .ensures) (k .keep .ensures .1 .0)) (k .keep .ensures .1 .1)
     (h .hold .ensures ∙ ap (λ (Y : Sums). heldSums (l .total-at .result + x) Y) (m .put-amount .ensures))
-    (alloc-done B W N S T w t a x (o .amount-at .ensures) (l .total-at .ensures) (q .quota-left .ensures) (e .if1 .left) (i .before .alloc-fits .ensures) (not-false _ (i .if2 .left)) (d .pre))
+    (alloc-done B W N S T w t a x (o .amount-at .ensures) (l .total-at .ensures) (q .quota-left .ensures) (share (d .args .x) (v .setting-at .ensures) (z .drawn .ensures)) (e .if1 .left) (i .before .alloc-fits .ensures) (not-false _ (i .if2 .left)) (d .pre))
 
 pub act-alloc-spec : {M : Type 1} → statement M
 act-alloc-spec =
     tie.close
     (tie.spec
     quota-left-requires
+    setting-at-requires
+    drawn-requires
     put-back-requires
     said-requires
     returns

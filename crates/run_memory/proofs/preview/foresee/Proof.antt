@@ -10,7 +10,7 @@ use lib.ListN.{length}
 use Rattle.table.specs.Format.{kind, tableOf}
 use Rattle.schedule.specs.Links.{seek}
 use Rattle.run_memory.specs.Memory.{Memory, movedIn}
-use Rattle.run_memory.specs.Blocks.{wordsIn, numbersIn, memoryOf, part}
+use Rattle.run_memory.specs.Blocks.{wordsIn, memoryOf, part}
 use Rattle.run_memory.specs.Code.Seen.{seenIn}
 use Rattle.run_memory.proofs.Parts.{part-length}
 use Rattle.run_memory.proofs.Takes.{has-room, asked-room, own-thread, sought-thread, taken-ready, codes, arguments, without-room, no-thread, passed-as, passes}
@@ -121,7 +121,7 @@ seen-of a =
     let d = from (found a .before .before) in
     let s = table-of d in
     let n = y .threads .ensures .value in
-    a .see-action .ensures (tableOf s) (wordsIn (now (d .args .words))) (numbersIn (now (d .args .numbers))) (codes s (b .bodies .ensures) n) (arguments s (b .bodies .ensures) n)
+    a .see-action .ensures (tableOf s) (wordsIn (now (d .args .words))) (codes s (b .bodies .ensures) n) (arguments s (b .bodies .ensures) n)
 
 returns-5 : tie.Need-returns-5
 returns-5 c =

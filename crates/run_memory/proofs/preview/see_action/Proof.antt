@@ -8,7 +8,7 @@ use Rattle.table.specs.Format.{Table, kind, kindOf, unknown, codeAt, argumentAt
 use Rattle.array_machine.proofs.Leaves.{code-unknown}
 use Rattle.run_memory.specs.declared.preview.Seen.{Seen}
 use Rattle.run_memory.specs.Memory.{Memory}
-use Rattle.run_memory.specs.Blocks.{bytesIn, sumsIn, gathered}
+use Rattle.run_memory.specs.Blocks.{bytesIn, numbersIn, sumsIn, gathered}
 use Rattle.run_memory.specs.Code.Seen.{seenIn}
 use Rattle.run_memory.proofs.Seeing.{end-seen, work-seen, fork-seen, unknown-seen}
 use borrow.Author.Needs.{needs}
@@ -73,8 +73,9 @@ returns c =
     let k = m .before in
     let d = k .before .before .before in
     let B = bytesIn (now (d .args .bytes)) in
+    let N = numbersIn (now (d .args .numbers)) in
     let S = sumsIn (now (d .args .sums)) in
-    λ T W N p q.
+    λ T W p q.
     by-code T (now (d .args .actions)) p q (d .args .t) (d .args .a) (d .args .quota) (gathered B W N S) 0 (k .code-in .ensures) (k .before .argument-in .ensures .value) (m .match .keys1)
     (c .see .ensures ∙ end-seen B W N S T (d .args .t) (d .args .a) (k .before .argument-in .result) (d .args .quota))
 
@@ -85,8 +86,9 @@ returns-2 c =
     let k = m .before in
     let d = k .before .before .before in
     let B = bytesIn (now (d .args .bytes)) in
+    let N = numbersIn (now (d .args .numbers)) in
     let S = sumsIn (now (d .args .sums)) in
-    λ T W N p q.
+    λ T W p q.
     by-code T (now (d .args .actions)) p q (d .args .t) (d .args .a) (d .args .quota) (gathered B W N S) 1 (k .code-in .ensures) (k .before .argument-in .ensures .value) (m .match .keys2)
     (c .see2 .ensures ∙ work-seen B W N S T (d .args .t) (d .args .a) (k .before .argument-in .result) (d .args .quota) (c .before .next-fits .ensures))
 
@@ -97,10 +99,11 @@ returns-3 c =
     let k = m .before in
     let d = k .before .before .before in
     let B = bytesIn (now (d .args .bytes)) in
+    let N = numbersIn (now (d .args .numbers)) in
     let S = sumsIn (now (d .args .sums)) in
-    λ T W N p q.
+    λ T W p q.
     by-code T (now (d .args .actions)) p q (d .args .t) (d .args .a) (d .args .quota) (gathered B W N S) 2 (k .code-in .ensures) (k .before .argument-in .ensures .value) (m .match .keys3)
-    (c .see-alloc .ensures T B W N)
+    (c .see-alloc .ensures T B W)
 
 returns-4 : tie.Need-returns-4
 unfolding kindOf
@@ -109,8 +112,9 @@ returns-4 c =
     let k = m .before in
     let d = k .before .before .before in
     let B = bytesIn (now (d .args .bytes)) in
+    let N = numbersIn (now (d .args .numbers)) in
     let S = sumsIn (now (d .args .sums)) in
-    λ T W N p q.
+    λ T W p q.
     by-code T (now (d .args .actions)) p q (d .args .t) (d .args .a) (d .args .quota) (gathered B W N S) 3 (k .code-in .ensures) (k .before .argument-in .ensures .value) (m .match .keys4)
     (c .see-free .ensures T B W N)
 
@@ -121,8 +125,9 @@ returns-5 c =
     let k = m .before in
     let d = k .before .before .before in
     let B = bytesIn (now (d .args .bytes)) in
+    let N = numbersIn (now (d .args .numbers)) in
     let S = sumsIn (now (d .args .sums)) in
-    λ T W N p q.
+    λ T W p q.
     by-code T (now (d .args .actions)) p q (d .args .t) (d .args .a) (d .args .quota) (gathered B W N S) 4 (k .code-in .ensures) (k .before .argument-in .ensures .value) (m .match .keys5)
     (c .see3 .ensures ∙ fork-seen B W N S T (d .args .t) (d .args .a) (k .before .argument-in .result) (d .args .quota) (c .before .fork-fits .ensures))
 
@@ -133,8 +138,9 @@ returns-6 c =
     let k = m .before in
     let d = k .before .before .before in
     let B = bytesIn (now (d .args .bytes)) in
+    let N = numbersIn (now (d .args .numbers)) in
     let S = sumsIn (now (d .args .sums)) in
-    λ T W N p q.
+    λ T W p q.
     by-code T (now (d .args .actions)) p q (d .args .t) (d .args .a) (d .args .quota) (gathered B W N S) 5 (k .code-in .ensures) (k .before .argument-in .ensures .value) (m .match .keys6)
     (c .see-join .ensures T W N)
 
@@ -146,8 +152,9 @@ returns-7 c =
     let r = m .match .rest in
     let six : 6 ≤ k .code-in .result = omega (arith, r .1, r .0 .1, r .0 .0 .1, r .0 .0 .0 .1, r .0 .0 .0 .0 .1, r .0 .0 .0 .0 .0 .1) in
     let B = bytesIn (now (d .args .bytes)) in
+    let N = numbersIn (now (d .args .numbers)) in
     let S = sumsIn (now (d .args .sums)) in
-    λ T W N p q.
+    λ T W p q.
     by-code T (now (d .args .actions)) p q (d .args .t) (d .args .a) (d .args .quota) (gathered B W N S) (k .code-in .result) (k .code-in .ensures) (k .before .argument-in .ensures .value) refl
     (idles T (d .args .t) (d .args .a) (d .args .quota) (gathered B W N S) (k .before .argument-in .result) six (c .see4 .ensures ∙ unknown-seen B W N S T (d .args .t) (d .args .a) (k .before .argument-in .result) (d .args .quota)))
 

@@ -14,7 +14,7 @@ use Rattle.table.specs.declared.Found.the-variants.{Nothing, At}
 use Rattle.table.proofs.Passes.{passes-rules}
 use Rattle.schedule.specs.declared.Worker.{Worker}
 use Rattle.schedule.specs.Record.{setOf}
-use Rattle.schedule.specs.Begin.{beginPasses}
+use Rattle.schedule.specs.Begin.{settingPasses}
 use Rattle.schedule.specs.Sound.{nextInBody, inOrder, statusFollows, waitsAtJoin, unused, oneHolder, workerRight, heldRight, sharesIn, common, commonSound}
 use Rattle.order.specs.Words.{allBelow, sameList}
 use Rattle.soundness.specs.Code.Checks.{Accepted, threadsSound, holdersSound}
@@ -33,16 +33,16 @@ module _ (s : List ℕ) (n p K : ℕ) (next status amounts : List ℕ) (workers 
   abbrev T : Table
   T = tableOf s
 
-  -- the tests past the beginning's
+  -- the tests past 20 and 21
   abbrev tests : Bool
   tests =
       threadsSound (tableOf s) n next status
       && (holdersSound n p K status workers
       && (heldRight (tableOf s) next status amount && (sameList amounts (sharesIn (tableOf s) next status) && (leb amount highest && eqb set (setOf workers)))))
 
-  no-begin : {x : Refusal} → firstFound (beginPasses (tableOf s) p K) ≡ At x → false ≡ commonSound s p K next status amounts workers set amount highest
+  no-settings : {x : Refusal} → firstFound (settingPasses p K) ≡ At x → false ≡ commonSound s p K next status amounts workers set amount highest
   unfolding commonSound
-  no-begin h = rw (passes-rules s .1 (k .rules), h) refl
+  no-settings h = rw (passes-rules s .1 (k .rules), h) refl
 
   -- and with the sizes
   abbrev sizedTests : Bool
@@ -58,7 +58,7 @@ module _ (s : List ℕ) (n p K : ℕ) (next status amounts : List ℕ) (workers 
       (allBelow (oneHolder status workers) (T .threads)) (allBelow (workerRight (T .threads) p K workers) 16) (heldRight T next status amount) (sameList amounts (sharesIn T next status)) (leb amount highest)
       (eqb set (setOf workers)))
 
-  module _ (h : firstFound (beginPasses (tableOf s) p K) ≡ Nothing) where
+  module _ (h : firstFound (settingPasses p K) ≡ Nothing) where
     begins : sizedTests ≡ commonSound s p K next status amounts workers set amount highest
     unfolding commonSound
     begins = rw (passes-rules s .1 (k .rules), h) (in-parts (k .threads))
@@ -99,8 +99,8 @@ threads-held c = on (c .before .threads-sound .ensures .0) (c .if1 .left)
 worker-size : (s : tie.Start) → length (s .args .workers) ≡ 16
 worker-size s = search needs
 
-begun : (c : tie.After-enum-told2) → firstFound (beginPasses (tableOf (now (start c .args .table))) (start c .args .p) (start c .args .quota)) ≡ Nothing
-begun c = sym (c .before .before .begin-fault .ensures) ∙ c .enum-told2 .given .1
+begun : (c : tie.After-enum-told2) → firstFound (settingPasses (start c .args .p) (start c .args .quota)) ≡ Nothing
+begun c = sym (c .before .before .settings-fault .ensures) ∙ c .enum-told2 .given .1
 
 after1 : (c : tie.Else1) {r : Bool} → r ≡ left1 (start (c .before .before)) → Goal (start (c .before .before)) r
 after1 c h =
@@ -119,8 +119,8 @@ after4 c h = after3 (c .before .before .before) (pass (on (c .before .amounts-ri
 
 -- ---- the needs
 
-begin-fault-requires : tie.Need-begin-fault-requires
-begin-fault-requires c κs = search needs
+settings-fault-requires : tie.Need-settings-fault-requires
+settings-fault-requires c κs = search needs
 
 enum-told : tie.Need-enum-told
 enum-told c = search needs
@@ -128,7 +128,7 @@ enum-told c = search needs
 returns : tie.Need-returns
 returns c =
     let s = c .before .before .before .before in
-    no-begin _ _ _ _ _ _ _ _ _ _ _ (s .pre .0) (sym (c .before .before .begin-fault .ensures) ∙ c .enum-told .given .1)
+    no-settings _ _ _ _ _ _ _ _ _ _ _ (s .pre .0) (sym (c .before .before .settings-fault .ensures) ∙ c .enum-told .given .1)
 
 enum-told-2 : tie.Need-enum-told-2
 enum-told-2 c = search needs
@@ -176,7 +176,7 @@ pub common-holds-spec : {M : Type 1} → statement M
 common-holds-spec =
     tie.close
     (tie.spec
-    begin-fault-requires
+    settings-fault-requires
     enum-told
     returns
     enum-told-2

@@ -14,7 +14,7 @@ use Rattle.table.specs.declared.Found.the-variants.{Nothing}
 use Rattle.table.proofs.Passes.{passes-rules}
 use Rattle.schedule.specs.declared.Worker.{Worker}
 use Rattle.schedule.specs.Links.{Links, listOf, laid}
-use Rattle.schedule.specs.Begin.{beginPasses}
+use Rattle.schedule.specs.Begin.{settingPasses}
 use Rattle.schedule.specs.Sound.{Common, nextInBody, commonSound, listed, sameLinks}
 use Rattle.order.specs.Words.{isNothing}
 use Rattle.order.proofs.Words.{allBelow-exactly, isNothing-exactly}
@@ -61,7 +61,7 @@ module _ (s : List ℕ) (p K : ℕ) (next status amounts : List ℕ) (workers : 
         let c : Common (tableOf s) p K next status amounts workers amount highest =
         common-exactly _ _ _ _ _ _ _ _ _ .0
         (first-of _ _
-        (second-of (isNothing (firstFound (beginPasses (tableOf s) p K))) _
+        (second-of (isNothing (firstFound (settingPasses p K))) _
         (second-of (isNothing (firstFound (passes s))) _ e))) in
         allBelow-exactly (nextInBody (tableOf s) next) (tableOf s .threads) .1 (c .placed)
 
