@@ -1,8 +1,8 @@
-"""Draws random and damaged inputs and compares the programs with reference.py and machine.py, which were written on their own.
+"""Draws random and damaged inputs and compares the programs with reference.py, machine.py and filling.py, which were written on their own.
 
 usage: python3 tests/differential.py [COUNT] [PROGRAM..] [--baseline]
-    COUNT inputs for each program (default 3,000); PROGRAM: tablecheck, maxquota, turnlist, wallchart, runrounds, call_cases (default: all).
-    From the repository's top, after `rt check tablecheck maxquota turnlist wallchart runrounds call_cases`; with --baseline it is the C
+    COUNT inputs for each program (default 3,000); PROGRAM: tablecheck, maxquota, filltable, turnlist, wallchart, runrounds, call_cases (default: all).
+    From the repository's top, after `rt check tablecheck maxquota filltable turnlist wallchart runrounds call_cases`; with --baseline it is the C
     of bench/ that is compared, in both layouts (tablecheck, turnlist and runrounds), after `cc -O3 -o target/baseline bench/baseline.c`
     and `cc -O3 -DLINKS -o target/baseline_links bench/baseline.c`.
 """
@@ -14,6 +14,7 @@ import sys
 
 import call_cases
 import chart
+import filling
 import machine
 import quota
 from reference import ALLOC, END, FORK, FREE, JOIN, WORK, Table, check, facts_line, serial_order
@@ -122,6 +123,24 @@ def maxquota_input(rng):
     return mostly_whole(rng, quota.board(p, b, memory, data), quota.board(p, b, memory, b''))
 
 
+def filltable_input(rng):
+    """K and a table: K mostly such that some allocs are above it, often about where the filled-out table passes a limit."""
+    threads = rng.choice([1, 2, rng.randint(1, 12), rng.randint(1, 40), rng.randint(1, 40)])
+    if rng.random() < 0.02:
+        threads = rng.randint(100, 1024)
+    sizes = rng.choice([[9], [2, 6, 40], [4, 100], [600], [4, 100, LARGEST]])
+    data = drawn(rng, threads, rng.randint(threads, min(8192, 6 * threads + 20)), sizes)
+    given = Table(data)
+    most = max([x for kind, x in given.actions if kind == ALLOC], default=1)
+    total = sum(x for kind, x in given.actions if kind == ALLOC)
+    near = total * 2 // max(1, 1024 - given.n) + rng.choice([-1, 0, 0, 1])  # about 1,024 threads
+    K = rng.choice([most - 1, most, (most + 1) // 2, most // 3, rng.randint(1, most), near, near + rng.randint(0, 9), 1])
+    K = mostly(rng, max(1, min(K, LARGEST)), 0, most + 1, LARGEST)
+    if rng.random() < 0.15:
+        data = damaged(rng, data)
+    return mostly_whole(rng, filling.quoted(K, data), filling.quoted(K, b''))
+
+
 def call_case(rng):
     return call_cases.record('case', *call_cases.random_case(rng))
 
@@ -201,6 +220,24 @@ def quota_traits(data, text):
             yield 'one worker'
 
 
+def filling_traits(data, answer):
+    """What was filled out: how many trees, and whether a child's tree comes before its parent's."""
+    out, refused = answer
+    if refused:
+        yield 'refused ' + refused.decode().split()[1]
+        return
+    if out == data[3:]:
+        yield 'as it is'
+        return
+    n, whole = Table(data[3:]).n, Table(out)
+    roots = [x for first, count in whole.contents[:n] for kind, x in whole.actions[first:first + count] if kind == FORK and x >= n]
+    yield 'one tree' if len(roots) == 1 else 'trees'
+    if roots != sorted(roots):
+        yield 'not by rising action'
+    if whole.n > 1000:
+        yield 'above 1,000 threads'
+
+
 # Inputs at the ends of what there is: the longest listing, the most memory, the most threads nested and side by side.
 MOST = table([(ALLOC, LARGEST)] * 8191 + [(END, 0)])
 CHAIN = table(*[[(FORK, t + 1), (JOIN, t + 1), (END, 0)] for t in range(1023)], [(END, 0)])
@@ -213,12 +250,18 @@ HOLDING = bytes([16]) + FULL + b'\x40\0' + bytes(i // 2 % 16 for i in range(64))
 BOARDS = [quota.board(p, b, M, data) for p in (1, 16) for b in (1, 65535) for M in (0, 2**64 - 1) for data in (MOST, CHAIN, FAN, MOST + b'\0', bytes(60000))]
 ROUNDS = [bytes([p]) + FULL + b'\xff' * 4 + data for p in (1, 2, 16) for data in (MOST, CHAIN, FAN, MOST + b'\0', bytes(60000))]
 
+WORKS = [(WORK, 0)] * 4608
+FILLINGS = [filling.quoted(K, data) for K in (0, 1, LARGEST) for data in (MOST, CHAIN, FAN, MOST + b'\0', bytes(60000))]
+FILLINGS += [filling.quoted(1, table(body + [(ALLOC, x), (END, 0)])) for body in ([], WORKS, WORKS + [(WORK, 0)], WORKS + [(WORK, 0)] * 2) for x in (511, 512, 513, LARGEST)]
+
 TABLE = ['refused %d' % i for i in range(1, 12)]
 
 PROGRAMS = {
     'tablecheck': ([MOST, CHAIN, FAN, bytes(70000)], tablecheck_input, lambda data: facts_line(check(data)) + '\n', table_traits, ['table'] + TABLE),
     'maxquota': (BOARDS, maxquota_input, lambda data: quota.maxquota(data) + '\n', quota_traits,
                  ['quota', 'the upper end', 'one worker', 'refused 20', 'refused 33', 'refused 41', 'refused 42'] + TABLE),
+    'filltable': (FILLINGS, filltable_input, filling.answer, filling_traits,
+                  ['as it is', 'one tree', 'trees', 'not by rising action', 'above 1,000 threads', 'refused 21', 'refused 33', 'refused 44'] + TABLE),
     'turnlist': (LISTINGS, turnlist_input, machine.turnlist, listing_traits,
                  ['done', 'open', 'quota', 'wait', 'idle', 'premature', 'order left at the end', 'order of 0', 'order of 4096', 'worker 255',
                   'refused 20', 'refused 21', 'refused 22', 'refused 30', 'refused 33']),
@@ -240,11 +283,12 @@ def compare(name, count, command):
     reached = collections.Counter()
     for i in range(count):
         data = ends[i] if i < len(ends) else draw(rng)
-        expected = model(data)
-        found = subprocess.run(command, input=data, capture_output=True).stdout.decode()
+        expected = model(data)  # a text on standard output, or the bytes on both
+        said = subprocess.run(command, input=data, capture_output=True)
+        found = (said.stdout, said.stderr) if isinstance(expected, tuple) else said.stdout.decode()
         if found != expected:
             open('target/differs', 'wb').write(data)
-            raise SystemExit('%s, input %d (target/differs): expected\n%sfound\n%s' % (name, i, expected, found))
+            raise SystemExit('%s, input %d (target/differs): expected\n%s\nfound\n%s' % (name, i, expected, found))
         reached.update(traits(data, expected))
     print('%s: %s' % (name, ', '.join('%s %d' % pair for pair in sorted(reached.items()))))
     missing = [trait for trait in wanted if not reached[trait]]
@@ -256,7 +300,7 @@ def main():
     baseline = '--baseline' in sys.argv
     words = [word for word in sys.argv[1:] if word != '--baseline']
     count = int(words.pop(0)) if words and words[0].isdigit() else 3000
-    names = words or [name for name in PROGRAMS if not baseline or name not in ('maxquota', 'wallchart', 'call_cases')]
+    names = words or [name for name in PROGRAMS if not baseline or name not in ('maxquota', 'filltable', 'wallchart', 'call_cases')]
     for name in names:
         for command in [['target/baseline', name], ['target/baseline_links', name]] if baseline else [['target/bin/' + name]]:
             compare(name, count, command)

@@ -1,14 +1,15 @@
 -- What is found before anything is built, and what then is known: the cases of `fillingOf` and of `filledInto`.
 use Prim.Native.Nat.{ℕ, zero, suc, _+_, _-_, _*_, _≤_, _<_}
+use native.Mathlib.Nat.{zero-add}
 use native.Mathlib.Omega.{arith}
 use mathlib.Core.Path.{_≡_, refl, sym, ap, _∙_}
 use mathlib.Core.List.{List, [], _∷_, _++_, flatten}
 use mathlib.Core.Bool.{Bool, true, false, _&&_, _||_}
-use lib.ListN.{length, drop}
+use lib.ListN.{length, drop, length-append}
 use lib.Dec.{ltb, leb}
 use borrow.Author.Tests.{ltb-false, le-leb, lt-leb}
 use Rattle.table.specs.Sum.{pick, sumTo, anyBelow}
-use Rattle.table.specs.Format.{Table, tableOf}
+use Rattle.table.specs.Format.{Table, tableOf, u24At}
 use Rattle.table.specs.Checks.{outside, passes}
 use Rattle.table.specs.Pass.{orElse, refusal, tryAt, tryFrom, tryPass, firstFound}
 use Rattle.table.specs.Rules.{Rules}
@@ -23,16 +24,19 @@ use Rattle.table.proofs.Nesting.{anyBelow-true}
 use Rattle.table.proofs.Sums.{sumTo-zero, sumTo-part}
 use Rattle.order.specs.Words.{isNothing}
 use Rattle.order.proofs.Lawful.{Lawful, lawful}
-use Rattle.text.specs.Text.{bufferAt}
+use Rattle.text.specs.Text.{Buffer, bufferAt, placed}
 use Rattle.text.specs.Puts.{putAll, Puts}
 use Rattle.text.proofs.Putting.{puts-whole}
+use Rattle.text.proofs.Placing.{placed-fits}
 use Rattle.filling.specs.declared.Total.{Total}
 use Rattle.filling.specs.declared.Filling.{Filling}
+use Rattle.filling.specs.declared.Answer.{Answer}
+use Rattle.filling.specs.declared.Answer.the-variants.{Filled, Refused}
 use Rattle.filling.specs.Filled.{big, newThreads, filledBodies, filledOut, threadsTo, actionsTo, fillPass}
-use Rattle.filling.specs.Filling.{totalAs, totalOf, quotaPass, fillFound, fillsOut, fillingOf, filledInto}
+use Rattle.filling.specs.Filling.{totalAs, totalOf, quotaPass, fillFound, fillsOut, fillingOf, filledInto, answerOf, wholeInto, answerTo, answeredIn}
 use Rattle.filling.specs.Code.Steps.{Ready}
 use Rattle.filling.proofs.Trees.{dummies-two, new-threads}
-use Rattle.filling.proofs.FilledTable.{Fits, room-exactly, any-false, none-new, fill-size}
+use Rattle.filling.proofs.FilledTable.{Fits, room-exactly, any-false, none-new, fill-size, room-enough}
 
 found-of : (T : Table) (K : ℕ) (f : Found) → totalAs T K f .found ≡ f
 found-of T K Nothing = refl
@@ -148,6 +152,18 @@ ready-total s n K r t e =
     let q : tryPass (fillPass (tableOf s) K) ≡ Nothing = room-exactly (tableOf s) K (l .few-threads) (l .few-actions) .1 (record { threads = r .few-threads; actions = r .few-actions }) in
     rw (e, q) (refl, refl)
 
+-- where nothing is found
+pub found-ready : (s : List ℕ) (K : ℕ) → fillFound s K ≡ Nothing → (n : ℕ) → n ≡ tableOf s .threads → Ready s n K
+found-ready s K z n h = go (firstFound (passes s)) refl (outside 1 16777215 K) refl (tryPass (fillPass (tableOf s) K)) refl
+  where
+    go : (f : Found) → firstFound (passes s) ≡ f → (b : Bool) → outside 1 16777215 K ≡ b → (g : Found) → tryPass (fillPass (tableOf s) K) ≡ g → Ready s n K
+    go (At x) p b o g q = let y : fillFound s K ≡ At x = found-is s K ∙ rw p in no-way (cc)
+    go Nothing p true o g q = let y : fillFound s K ≡ At (refusal 21 0) = found-is s K ∙ rw (p, quota-is s K, o) in no-way (cc)
+    go Nothing p false o (At x) q = let y : fillFound s K ≡ At x = found-fill s K p o ∙ q in no-way (cc)
+    go Nothing p false o Nothing q =
+        let y : totalOf (tableOf s) K .found ≡ Nothing = found-of (tableOf s) K (tryPass (fillPass (tableOf s) K)) ∙ q in
+        ready s K p o (totalOf (tableOf s) K) refl Nothing (sym y) refl n h
+
 -- ---- the buffer
 
 module _ (s : List ℕ) (K : ℕ) (out : List ℕ) (r : Filling) (e : r ≡ fillingOf s K) where
@@ -155,28 +171,14 @@ module _ (s : List ℕ) (K : ℕ) (out : List ℕ) (r : Filling) (e : r ≡ fill
   unfolding fillingOf
   bytes-is = ap (λ (x : Filling). x .bytes) e
 
-  -- where the table is filled out
-  record Known : Type 0 where
-    found : fillFound s K ≡ Nothing
-    some-big : anyBelow (big (tableOf s) K) (tableOf s .actions) ≡ true
-    ready : (n : ℕ) → n ≡ tableOf s .threads → Ready s n K
-
-  known : fillsOut s K ≡ true → Known
+  known : fillsOut s K ≡ true → (fillFound s K ≡ Nothing) × (anyBelow (big (tableOf s) K) (tableOf s .actions) ≡ true)
   known w =
       let (i, j) = and-both (isNothing (fillFound s K)) (anyBelow (big (tableOf s) K) (tableOf s .actions)) w in
-      record { found = nothing (fillFound s K) i; some-big = j; ready = from (nothing (fillFound s K) i) (firstFound (passes s)) refl (outside 1 16777215 K) refl (tryPass (fillPass (tableOf s) K)) refl }
+      (nothing (fillFound s K) i, j)
     where
       nothing : (f : Found) → isNothing f ≡ true → f ≡ Nothing
       nothing Nothing q = refl
       nothing (At x) q = no-way (cc)
-
-      from : fillFound s K ≡ Nothing → (f : Found) → firstFound (passes s) ≡ f → (b : Bool) → outside 1 16777215 K ≡ b → (g : Found) → tryPass (fillPass (tableOf s) K) ≡ g → (n : ℕ) → n ≡ tableOf s .threads → Ready s n K
-      from z (At x) p b o g q n h = let y : fillFound s K ≡ At x = found-is s K ∙ rw p in no-way (cc)
-      from z Nothing p true o g q n h = let y : fillFound s K ≡ At (refusal 21 0) = found-is s K ∙ rw (p, quota-is s K, o) in no-way (cc)
-      from z Nothing p false o (At x) q n h = let y : fillFound s K ≡ At x = found-fill s K p o ∙ q in no-way (cc)
-      from z Nothing p false o Nothing q n h =
-          let y : totalOf (tableOf s) K .found ≡ Nothing = found-of (tableOf s) K (tryPass (fillPass (tableOf s) K)) ∙ q in
-          ready s K p o (totalOf (tableOf s) K) refl Nothing (sym y) refl n h
 
   pub untouched : r .bytes ≡ 0 → out ≡ filledInto s K out
   unfolding filledInto
@@ -184,8 +186,7 @@ module _ (s : List ℕ) (K : ℕ) (out : List ℕ) (r : Filling) (e : r ≡ fill
     where
       go : (b : Bool) → fillsOut s K ≡ b → out ≡ pick (b && leb (length (filledOut s K)) (length out)) (filledOut s K ++ drop (length (filledOut s K)) out) out
       go true w =
-          let k : Known = known w in
-          let y : Ready s (tableOf s .threads) K = k .ready (tableOf s .threads) refl in
+          let y : Ready s (tableOf s .threads) K = found-ready s K (known w .0) (tableOf s .threads) refl in
           let v : r .bytes ≡ length (filledOut s K) = rw w at bytes-is in
           absurd (omega (arith, fill-size s K (y .rules) (y .some)))
       go false w = refl
@@ -199,7 +200,7 @@ module _ (s : List ℕ) (K : ℕ) (out : List ℕ) (r : Filling) (e : r ≡ fill
 
   module _ (h : r .bytes ≡ 0 → ⊥) where
     pub build-ready : (n : ℕ) → n ≡ tableOf s .threads → Ready s n K
-    build-ready = known (fills h) .ready
+    build-ready = found-ready s K (known (fills h) .0)
 
     size-is : r .bytes ≡ length (filledOut s K)
     size-is = rw (fills h) at bytes-is
@@ -211,7 +212,79 @@ module _ (s : List ℕ) (K : ℕ) (out : List ℕ) (r : Filling) (e : r ≡ fill
     pub built : (o : List ℕ) (j : ℕ) → r .bytes ≤ length out → bufferAt o j ≡ putAll (bufferAt out 0) (tableRows (filledBodies (tableOf s) K)) → o ≡ filledInto s K out
     unfolding filledInto filledOut written
     built o j i p =
-        let w : filledOut s K ≡ flatten (tableRows (filledBodies (tableOf s) K)) = rw (known (fills h) .some-big) in
+        let w : filledOut s K ≡ flatten (tableRows (filledBodies (tableOf s) K)) = rw (known (fills h) .1) in
         let u : Puts out 0 o j (tableRows (filledBodies (tableOf s) K)) (length (filledOut s K)) = record { put = p; short = rw w (omega arith) } in
         let (n, q) = puts-whole (omega (arith, size-is)) u in
         rw (fills h, le-leb (length (filledOut s K)) (length out) (omega (arith, size-is)), w) (rw n at q)
+
+-- ---- the whole table in a buffer of 36,868 bytes, in place or filled out
+
+module _ (s : List ℕ) (K : ℕ) (out o : List ℕ) (room : length out ≡ 36868) (r : Filling) (e : r ≡ fillingOf s K) (p : o ≡ filledInto s K out) where
+  found-of-filling : r .found ≡ fillFound s K
+  unfolding fillingOf
+  found-of-filling = ap (λ (x : Filling). x .found) e
+
+  pub whole-refused : (f : Found) (x : Refusal) → f ≡ r .found → f ≡ At x → (Refused x ≡ answerOf s K) × (o ≡ wholeInto s K out)
+  unfolding filledInto
+  whole-refused f x d q =
+      let z : fillFound s K ≡ At x = sym found-of-filling ∙ sym d ∙ q in
+      (rw z, p ∙ rw z)
+
+  module _ (f : Found) (d : f ≡ r .found) (q : f ≡ Nothing) where
+    nothing : fillFound s K ≡ Nothing
+    nothing = sym found-of-filling ∙ sym d ∙ q
+
+    y : Ready s (tableOf s .threads) K
+    y = found-ready s K nothing (tableOf s .threads) refl
+
+    fits : length (filledOut s K) ≤ 36868
+    fits = room-enough s K (y .rules) (y .some) (record { threads = y .few-threads; actions = y .few-actions })
+
+    pub whole-filled : (r .bytes ≡ 0 → ⊥) → (Filled (r .bytes) ≡ answerOf s K) × (o ≡ wholeInto s K out)
+    unfolding filledInto
+    whole-filled h =
+        let w : fillsOut s K ≡ true = fills s K out r e h in
+        let z : r .bytes ≡ length (filledOut s K) = size-is s K out r e h in
+        (rw (nothing, z), p ∙ rw (w, nothing, le-leb (length (filledOut s K)) (length out) (omega (arith, fits))))
+
+    none : r .bytes ≡ 0 → fillsOut s K ≡ false
+    none h = go (fillsOut s K) refl
+      where
+        go : (b : Bool) → fillsOut s K ≡ b → b ≡ false
+        go true w =
+            let v : r .bytes ≡ length (filledOut s K) = rw w at (bytes-is s K out r e) in
+            absurd (omega (arith, fill-size s K (y .rules) (y .some)))
+        go false w = refl
+
+    -- the table as given
+    pub whole-in-place : r .bytes ≡ 0 → (o′ : List ℕ) (j : ℕ) → bufferAt o′ j ≡ placed o 0 s → (Filled j ≡ answerOf s K) × (o′ ≡ wholeInto s K out)
+    unfolding filledInto filledOut
+    whole-in-place h o′ j u =
+        let w : fillsOut s K ≡ false = none h in
+        let g : anyBelow (big (tableOf s) K) (tableOf s .actions) ≡ false = rw nothing at w in
+        let same : filledOut s K ≡ s = rw g in
+        let k : length s ≤ 36868 = rw same at fits in
+        let z : o ≡ out = p ∙ rw w in
+        let v : bufferAt o′ j ≡ placed out 0 s = rw z at u in
+        let b : bufferAt o′ j ≡ bufferAt (s ++ drop (length s) out) (length s) = v ∙ placed-fits out 0 s (omega (arith, room)) ∙ simp zero-add in
+        (rw (nothing, g) (ap (λ (x : Buffer). Filled (x .next)) b), rw (nothing, g) (ap (λ (x : Buffer). x .bytes) b))
+
+-- what the program writes lies within its buffer
+pub answer-within : (input out o : List ℕ) (r : Answer) (k : ℕ) → r ≡ answerTo input → r ≡ Filled k → o ≡ answeredIn input out → k ≤ length o
+unfolding answerTo answeredIn
+answer-within input out o r k d e w = rw w (go (ltb (length input) 3) (fillFound s K) refl refl)
+  where
+    s : List ℕ
+    s = drop 3 input
+
+    K : ℕ
+    K = u24At input 0
+
+    go : (b : Bool) (f : Found) → ltb (length input) 3 ≡ b → fillFound s K ≡ f → k ≤ length (answeredIn input out)
+    go true f p q = let y : answerTo input ≡ Refused (refusal 33 0) = rw p in no-way (cc)
+    go false (At x) p q = let y : answerTo input ≡ Refused x = rw (p, q) in no-way (cc)
+    go false Nothing p q =
+        let y : answerTo input ≡ Filled (length (filledOut s K)) = rw (p, q) in
+        let z : Filled (length (filledOut s K)) ≡ Filled k = sym y ∙ sym d ∙ e in
+        let u : length (filledOut s K) ≡ k = cc in
+        rw (p, q) (omega (arith, u, length-append (filledOut s K) (drop (length (filledOut s K)) out)))

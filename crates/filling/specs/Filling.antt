@@ -2,17 +2,19 @@
 use Prim.Native.Nat.{ℕ}
 use mathlib.Core.List.{List, [], _∷_, _++_}
 use mathlib.Core.Bool.{Bool, true, false, _&&_}
-use lib.Dec.{leb}
+use lib.Dec.{ltb, leb}
 use lib.ListN.{length, drop}
 use Rattle.table.specs.Sum.{pick, anyBelow}
-use Rattle.table.specs.Format.{Table, tableOf}
+use Rattle.table.specs.Format.{Table, tableOf, u24At}
 use Rattle.table.specs.Checks.{outside, passes}
-use Rattle.table.specs.Pass.{Pass, tryPass, firstFound}
+use Rattle.table.specs.Pass.{Pass, refusal, tryPass, firstFound}
 use Rattle.table.specs.declared.Found.{Found}
 use Rattle.table.specs.declared.Found.the-variants.{Nothing, At}
 use Rattle.order.specs.Words.{isNothing}
 use Rattle.filling.specs.declared.Total.{Total}
 use Rattle.filling.specs.declared.Filling.{Filling}
+use Rattle.filling.specs.declared.Answer.{Answer}
+use Rattle.filling.specs.declared.Answer.the-variants.{Filled, Refused}
 use Rattle.filling.specs.Filled.{big, filledOut, threadsTo, actionsTo, fillPass}
 
 -- the threads and actions of the filled-out table; 44 and zeros where it would pass a limit
@@ -42,3 +44,24 @@ fillingOf s K = record { found = fillFound s K; bytes = pick (fillsOut s K) (len
 -- the lent buffer: the filled-out table at its start, the rest as it was; nothing is written where nothing is filled out or the room is too little
 unfoldable pub filledInto : List ℕ → ℕ → List ℕ → List ℕ
 filledInto s K out = pick (fillsOut s K && leb (length (filledOut s K)) (length out)) (filledOut s K ++ drop (length (filledOut s K)) out) out
+
+-- ---- the program
+
+-- the bytes of the table that runs, or what is found
+abbrev pub answerAs : Found → ℕ → Answer
+answerAs Nothing k = Filled k
+answerAs (At r) k = Refused r
+
+abbrev pub answerOf : List ℕ → ℕ → Answer
+answerOf s K = answerAs (fillFound s K) (length (filledOut s K))
+
+-- the table that runs, in place or filled out, at the start of a buffer; the buffer as it was where a check applies
+abbrev pub wholeInto : List ℕ → ℕ → List ℕ → List ℕ
+wholeInto s K out = pick (isNothing (fillFound s K)) (filledOut s K ++ drop (length (filledOut s K)) out) out
+
+-- the input of `filltable`: K (3 bytes) and a table; 33 where it is under 3 bytes
+unfoldable pub answerTo : List ℕ → Answer
+answerTo input = pick (ltb (length input) 3) (Refused (refusal 33 0)) (answerOf (drop 3 input) (u24At input 0))
+
+unfoldable pub answeredIn : List ℕ → List ℕ → List ℕ
+answeredIn input out = pick (ltb (length input) 3) out (wholeInto (drop 3 input) (u24At input 0) out)
