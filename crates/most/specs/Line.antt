@@ -1,11 +1,11 @@
 -- What `maxturns` prints, from the bytes that it reads, which are those of `runrounds`: p (1 byte), K (3 bytes), a limit of turns (4 bytes, not looked at) and the table; one line out.
 use mathlib.Core.Path.{_≡_, refl}
-use Prim.Native.Nat.{ℕ, _+_, _*_}
+use Prim.Native.Nat.{ℕ}
 use mathlib.Core.List.{List, _++_}
 use lib.ListN.{length, getD, drop}
 use lib.Dec.{ltb}
 use Rattle.table.specs.Sum.{pick}
-use Rattle.table.specs.Format.{u16At}
+use Rattle.table.specs.Format.{u24At}
 use Rattle.table.specs.Pass.{refusal}
 use Rattle.text.specs.Text.{ascii, digitsOf, decimal, newline, refusedLine}
 use Rattle.most.specs.declared.Most.{Most}
@@ -18,7 +18,7 @@ abbrev pub workersIn : List ℕ → ℕ
 workersIn s = getD s 0 0
 
 abbrev pub quotaIn : List ℕ → ℕ
-quotaIn s = u16At s 1 + 65536 * getD s 3 0
+quotaIn s = u24At s 1
 
 -- under 8 bytes: 33, as in `runrounds`; then the checks of a beginning
 unfoldable pub mostTo : List ℕ → Most
