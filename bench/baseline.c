@@ -354,25 +354,109 @@ typedef struct {
     uint64_t held, highest, turns;
 } Run;
 
-static Refusal begin_fault(const uint8_t *table, size_t n, size_t m, uint8_t p, uint32_t quota) {
+static Refusal settings_fault(uint8_t p, uint32_t quota) {
     if (p < 1 || WORKERS < p) return refuse(20, 0);
     if (quota < 1 || 16777215 < quota) return refuse(21, 0);
-    const uint8_t *actions = bodies(table, n);
-    for (size_t a = 0; a < m; a++)
-        if (code(actions, a) == ALLOC && quota < argument(actions, a)) return refuse(22, a);
     return NONE;
+}
+
+static bool is_big(const uint8_t *actions, size_t a, uint32_t quota) { return code(actions, a) == ALLOC && quota < argument(actions, a); }
+static size_t dummies(const uint8_t *actions, size_t a, uint32_t quota) { return (argument(actions, a) + quota - 1) / quota; }
+
+// 44; threads and actions become those of the filled-out table.
+static Refusal fill_fault(const uint8_t *table, uint32_t quota, size_t *threads, size_t *actions) {
+    size_t m = *actions;
+    const uint8_t *l = bodies(table, *threads);
+    for (size_t a = 0; a < m; a++)
+        if (is_big(l, a, quota)) {
+            *threads += 2 * dummies(l, a, quota) - 1;
+            *actions += 7 * dummies(l, a, quota) - 3;
+            if (THREADS < *threads || ACTIONS < *actions) return refuse(44, a);
+        }
+    return NONE;
+}
+
+// Along the serial order, the root of each big alloc's tree, and at the root the number of its dummies; then that of every smaller tree.
+static void fill_trees(const uint8_t *table, size_t n, uint32_t quota, size_t total, uint16_t *roots, uint16_t *sizes) {
+    const uint8_t *actions = bodies(table, n);
+    uint16_t stack[THREADS];
+    size_t top = 0, a = 0, root = n;
+    for (;;) {
+        uint8_t k = code(actions, a);
+        if (is_big(actions, a, quota)) {
+            roots[a] = (uint16_t)root;
+            sizes[root] = (uint16_t)dummies(actions, a, quota);
+            root += 2 * (size_t)sizes[root] - 1;
+        }
+        if (k == FORK) stack[top++] = (uint16_t)(a + 1);
+        if (k == END && top == 0) break;
+        a = k == FORK ? first_of(table, argument(actions, a)) : k == END ? stack[--top] : a + 1;
+    }
+    for (size_t c = n; c < total; c++)
+        if (1 < sizes[c]) {
+            size_t half = (sizes[c] + 1U) / 2;
+            sizes[c + 1] = (uint16_t)half;
+            sizes[c + 2 * half] = (uint16_t)(sizes[c] - half);
+        }
+}
+
+static uint8_t *put_pair(uint8_t *to, size_t x, size_t y) {
+    to[0] = (uint8_t)x, to[1] = (uint8_t)(x >> 8), to[2] = (uint8_t)y, to[3] = (uint8_t)(y >> 8);
+    return to + 4;
+}
+
+static uint8_t *put_action(uint8_t *to, uint8_t k, size_t x) {
+    to[0] = k, to[1] = (uint8_t)x, to[2] = (uint8_t)(x >> 8), to[3] = (uint8_t)(x >> 16);
+    return to + 4;
+}
+
+static uint8_t *put_tree(uint8_t *to, size_t c, size_t d) {
+    if (d <= 1) return put_action(put_action(to, WORK, 0), END, 0);
+    size_t other = c + 2 * ((d + 1) / 2);
+    to = put_action(put_action(to, FORK, c + 1), FORK, other);
+    to = put_action(put_action(to, JOIN, other), JOIN, c + 1);
+    return put_action(to, END, 0);
+}
+
+// The filled-out table of `threads` threads and `actions` actions; gives its length.
+static size_t fill_out(const uint8_t *table, uint32_t quota, size_t threads, size_t actions, uint8_t *out) {
+    size_t n = word(table, 0), m = word(table, 2), first = 0;
+    const uint8_t *l = bodies(table, n);
+    uint16_t roots[ACTIONS], sizes[THREADS];
+    fill_trees(table, n, quota, threads, roots, sizes);
+    uint8_t *to = put_pair(out, threads, actions);
+    for (size_t t = 0; t < threads; t++) {
+        size_t count = t < n ? count_of(table, t) : 1 < sizes[t] ? 5 : 2;
+        if (t < n)
+            for (size_t a = first_of(table, t), stop = a + count; a < stop; a++) count += is_big(l, a, quota) ? 2 : 0;
+        to = put_pair(to, first, count);
+        first += count;
+    }
+    for (size_t a = 0; a < m; a++) {
+        if (is_big(l, a, quota)) to = put_action(put_action(to, FORK, roots[a]), JOIN, roots[a]);
+        to = put_action(to, code(l, a), argument(l, a));
+    }
+    for (size_t c = n; c < threads; c++) to = put_tree(to, c, sizes[c]);
+    return (size_t)(to - out);
 }
 
 static Loaded begin(Run *run, const uint8_t *table, size_t length, uint8_t p, uint32_t quota) {
     memset(run, 0, sizeof *run);
     Loaded loaded = load(table, length);
-    if (!loaded.refusal.number) loaded.refusal = begin_fault(table, loaded.threads, loaded.actions, p, quota);
+    size_t threads = loaded.threads, actions = loaded.actions;
+    if (!loaded.refusal.number) loaded.refusal = settings_fault(p, quota);
+    if (!loaded.refusal.number) loaded.refusal = fill_fault(table, quota, &threads, &actions);
     if (loaded.refusal.number) return loaded;
-    memcpy(run->table, table, length);
+    if (threads == loaded.threads) {
+        memcpy(run->table, table, length);
+    } else {
+        length = fill_out(table, quota, threads, actions, run->table);
+        loaded = load(run->table, length);
+    }
     run->length = (uint16_t)length;
     run->workers = p;
     run->quota = quota;
-    for (size_t t = 0; t < loaded.threads; t++) run->next[t] = (uint16_t)first_of(table, t);
+    for (size_t t = 0; t < threads; t++) run->next[t] = (uint16_t)first_of(run->table, t);
     run->status[0] = READY;
     list_root(&run->list);
     return loaded;
@@ -557,8 +641,8 @@ static bool sound(const Run *run, uint16_t *parents) {
     uint64_t rises[THREADS], falls[THREADS];
     if (!rest_sound(run)) return false;
     if (check(run->table, run->length, rises, falls).number) return false;
-    size_t n = word(run->table, 0), m = word(run->table, 2);
-    if (begin_fault(run->table, n, m, run->workers, run->quota).number) return false;
+    size_t n = word(run->table, 0);
+    if (settings_fault(run->workers, run->quota).number) return false;
     if (!done_sound(run, n, parents) || !list_right(run, n) || !waits_at_joins(run, n)) return false;
     if (!workers_right(run, n) || !held_right(run, n) || !amounts_right(run, n) || run->highest < run->held) return false;
     for (size_t t = n; t < THREADS; t++)
@@ -603,16 +687,18 @@ static Reply act(Run *run, size_t n, Beside *beside, Worker *worker) {
         take_out_active(&beside->active, t);
         return release(worker, DONE, a);
     }
-    case ALLOC:
-        if (worker->quota < x) {
+    case ALLOC: {
+        uint32_t drawn = run->quota < x ? 0 : x;
+        if (worker->quota < drawn) {
             run->status[t] = READY;
             return release(worker, QUOTA, x);
         }
-        worker->quota -= x;
+        worker->quota -= drawn;
         run->amounts[t] += x;
         run->held += x;
         if (run->highest < run->held) run->highest = run->held;
         break;
+    }
     case FREE:
         run->amounts[t] -= x;
         run->held -= x;

@@ -11,7 +11,7 @@
 #include "plain.h"
 #include "wivakkol.h"
 
-static uint8_t table[WIVAKKOL_TABLE_MOST];
+static uint8_t table[WIVAKKOL_TABLE_MOST], filled[WIVAKKOL_TABLE_MOST];
 static size_t length;
 static uint32_t p, quota;
 static wivakkol_run run;
@@ -42,8 +42,8 @@ static void begin(void)
 {
     uint64_t row[WIVAKKOL_BEGIN_ROW];
 
-    if (wivakkol_begin(&run, &work, table, length, p, quota, row) != 0)
-        fail("refused");
+    if (wivakkol_begin(&run, &work, table, length, p, quota, filled, sizeof filled, row) != 0 || row[WIVAKKOL_FILLED] != 0)
+        fail("refused, or an alloc above K");
 }
 
 static void begin_plain(void)

@@ -9,6 +9,7 @@
 
 /* One byte more than the longest table, so that a longer input is refused for its length. */
 static uint8_t table[WIVAKKOL_TABLE_MOST + 1];
+static uint8_t filled[WIVAKKOL_TABLE_MOST];
 static wivakkol_run run;
 static wivakkol_work work;
 static wivakkol_tables_work tables_work;
@@ -37,6 +38,7 @@ static uint64_t number(const char *text, uint64_t most)
 int main(int argc, char **argv)
 {
     uint64_t facts[WIVAKKOL_CHECK_ROW], quota[WIVAKKOL_QUOTA_ROW], begun[WIVAKKOL_BEGIN_ROW], end[WIVAKKOL_RUN_ROW];
+    const uint8_t *running = table;
     uint32_t answer, p;
     size_t length;
 
@@ -57,10 +59,15 @@ int main(int argc, char **argv)
         return refused(answer, quota);
     printf("quota %" PRIu64 "\n", quota[WIVAKKOL_QUOTA]);
 
-    if ((answer = wivakkol_begin(&run, &work, table, length, p, (uint32_t)quota[WIVAKKOL_QUOTA], begun)) != 0)
+    if ((answer = wivakkol_begin(&run, &work, table, length, p, (uint32_t)quota[WIVAKKOL_QUOTA], filled, sizeof filled, begun)) != 0)
         return refused(answer, begun);
+    /* With a smaller quota than wivakkol_quota gives, the filled-out table may be the one that runs. */
+    if (begun[WIVAKKOL_FILLED] != 0) {
+        running = filled;
+        length = (size_t)begun[WIVAKKOL_FILLED];
+    }
     /* A board that does the actions takes single turns: where wivakkol_turn says done, its row has the action. */
-    if ((answer = wivakkol_rounds(&run, table, length, UINT32_MAX, end)) != 0)
+    if ((answer = wivakkol_rounds(&run, running, length, UINT32_MAX, end)) != 0)
         return refused(answer, end);
     printf("%s %" PRIu64 " peak %" PRIu64 "\n", end[WIVAKKOL_SAID] == WIVAKKOL_SAID_FINISHED ? "done" : "open", end[WIVAKKOL_TAKEN],
            run.sums[WIVAKKOL_HIGHEST]);

@@ -6,11 +6,14 @@
  * that this header says the same as that source is not proved, but tested (tests/board.py).
  *
  * A call returns a number: 0, or the number of the check that refuses (docs/REFERENCE.md, "Refusals"). Into the row it puts the place of the refusal, 0 where there is none, and then its
- * values, all 0 where it refuses but for the turns taken by a run. Every entry of the row is written on every call, whatever was there before.
+ * values, all 0 where it refuses but for the turns taken by a run and, with 61, the bytes that wivakkol_begin lacks room for. Every entry of the row is written on every call, whatever was
+ * there before.
  *
  * What C must keep to, as the proofs take it for granted:
  * - `table` points to `length` bytes that may be read, all of them written before. It is never NULL, not even with a length of 0. `order` likewise points to `turns` bytes.
  * - `row` points to an array of the full size named below, aligned as a uint64_t is. It is never NULL.
+ * - `filled` points to `room` bytes that may be written, all of them written before, whatever they hold. It is never NULL, not even with a room of 0, and overlaps nothing else that the call
+ *   is given.
  * - The row overlaps neither the table nor the order, and nobody else writes to these two or touches the row before the call returns.
  * - A run, working memory and a line that a call takes are never NULL; what else is asked of them stands below.
  * - There is stack enough: docs/REFERENCE.md, "From C", has what was measured.
@@ -131,7 +134,8 @@ typedef struct wivakkol_run {
 /* Besides what is said above, C must keep to this for a run:
  * - Before any other call than wivakkol_begin all of its memory has been written. wivakkol_begin writes all of it, whatever was there, also where it refuses.
  * - It is aligned as a wivakkol_run is, and overlaps nothing else that the call is given.
- * - Every call on it is given the same table, unchanged: the run keeps none of its bytes. With another one a turn still answers as defined, but it is no turn of this run.
+ * - Every call on it but wivakkol_begin is given the table that runs, unchanged: the run keeps none of its bytes. With another one a turn still answers as defined, but it is no turn of this
+ *   run.
  * - There is one call at a time on it, and nobody else touches it before the call returns. */
 
 /* Working memory of wivakkol_begin, wivakkol_open and wivakkol_chart, which C lends; it keeps nothing from one call to the next. wivakkol_begin uses `rises` and `falls` alone. What a call
@@ -147,8 +151,11 @@ typedef struct wivakkol_work {
     uint16_t list[WIVAKKOL_MOST_THREADS];
 } wivakkol_work;
 
-/* The rows of wivakkol_begin and wivakkol_open have the place alone. */
-#define WIVAKKOL_BEGIN_ROW 1
+/* The row of wivakkol_begin. */
+#define WIVAKKOL_FILLED 1 /* the bytes of the filled-out table, which then stands in `filled`; 0 where the table as given runs, and `filled` is as it was */
+#define WIVAKKOL_BEGIN_ROW 2
+
+/* The row of wivakkol_open has the place alone. */
 #define WIVAKKOL_OPEN_ROW 1
 
 /* The row of wivakkol_turn. */
@@ -187,7 +194,8 @@ typedef struct wivakkol_work {
 uint32_t wivakkol_begin_on(const uint8_t *table, size_t length, uint32_t p, uint32_t quota, uint32_t settings[2], uint16_t parents[1024],
                            uint16_t next[1024], uint8_t status[1024], uint64_t amounts[1024], uint16_t left[1024], uint16_t right[1024],
                            uint16_t under[1024], uint16_t over[1024], uint8_t holds[16], uint16_t threads[16], uint32_t quotas[16],
-                           uint16_t heads[3], uint64_t totals[3], uint64_t row[WIVAKKOL_BEGIN_ROW], uint64_t rises[1024], uint64_t falls[1024]);
+                           uint16_t heads[3], uint64_t totals[3], uint64_t row[WIVAKKOL_BEGIN_ROW], uint64_t rises[1024], uint64_t falls[1024],
+                           uint8_t *filled, size_t room);
 uint32_t wivakkol_open_on(const uint8_t *table, size_t length, const uint32_t settings[2], uint16_t parents[1024], const uint16_t next[1024],
                           const uint8_t status[1024], const uint64_t amounts[1024], const uint16_t left[1024], const uint16_t right[1024],
                           uint16_t under[1024], uint16_t over[1024], const uint8_t holds[16], const uint16_t threads[16],
@@ -210,16 +218,21 @@ uint32_t wivakkol_chart_on(const uint8_t *table, size_t length, const uint32_t s
                            uint8_t line[WIVAKKOL_LINE], uint64_t rises[1024], uint64_t falls[1024], uint16_t forks[1024], uint16_t seen[1024],
                            uint16_t list[1024]);
 
-/* Begins a run of p workers with quota K. Returns 0, or the first check that refuses: 1 to 11, the table's own; 20, p is not 1 to 16; 21, K is not 1 to 16,777,215; 22, an alloc is above
- * K. Where it refuses, the memory is all 0, and every turn on it is refused with 30. */
+/* Begins a run of p workers with quota K. Where an alloc of the table is above K, it is the filled-out table that runs (docs/REFERENCE.md, "Allocs above K"): it is put at the start of
+ * `filled`, the row says how many bytes it has, and every other call on the run is given these bytes for its table. Where none is, the table as given runs, `room` is not looked at, and nothing
+ * is written to `filled`; so it is with a K from wivakkol_quota.
+ *
+ * Returns 0, or the first check that refuses: 1 to 11, the table's own; 20, p is not 1 to 16; 21, K is not 1 to 16,777,215; 44, the filled-out table would pass 1,024 threads or 8,192 actions;
+ * 61, it has more bytes than `room`, and the row then says how many. With a room of WIVAKKOL_TABLE_MOST bytes 61 never comes. Where it refuses, `filled` is as it was, the memory is all 0, and
+ * every turn on it is refused with 30. */
 static inline uint32_t wivakkol_begin(wivakkol_run *run, wivakkol_work *work, const uint8_t *table, size_t length, uint32_t p, uint32_t quota,
-                                      uint64_t row[WIVAKKOL_BEGIN_ROW])
+                                      uint8_t *filled, size_t room, uint64_t row[WIVAKKOL_BEGIN_ROW])
 {
     return wivakkol_begin_on(table, length, p, quota, run->numbers + WIVAKKOL_P, run->words + WIVAKKOL_PARENTS, run->words + WIVAKKOL_NEXT,
                              run->bytes + WIVAKKOL_STATUS, run->sums + WIVAKKOL_AMOUNTS, run->words + WIVAKKOL_LEFT, run->words + WIVAKKOL_RIGHT,
                              run->words + WIVAKKOL_UNDER, run->words + WIVAKKOL_OVER, run->bytes + WIVAKKOL_HOLDS,
                              run->words + WIVAKKOL_WORKER_THREADS, run->numbers + WIVAKKOL_QUOTAS, run->words + WIVAKKOL_LEFTMOST,
-                             run->sums + WIVAKKOL_HELD, row, work->rises, work->falls);
+                             run->sums + WIVAKKOL_HELD, row, work->rises, work->falls, filled, room);
 }
 
 /* Opens a run that was put away and brought back, or whose memory someone else has written. Returns 0, or 32: the memory has neither a sound record of this table nor the blank one, all 0,

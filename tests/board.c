@@ -4,19 +4,19 @@
  * number for each field of the working memory, as below. With the argument `runs` the first line has the size of a wivakkol_run and where its blocks stand. A case is then its length (4) and steps on one run's memory:
  *   t LENGTH TABLE     the table from now on
  *   m AT LENGTH BYTES  these bytes stand in the run's memory
- *   b P K              wivakkol_begin
+ *   b P K ROOM         wivakkol_begin, with so much room for the filled-out table; where that is filled out, it is the table from now on
  *   o                  wivakkol_open
  *   w W                wivakkol_turn
  *   l LENGTH ORDER     wivakkol_list
  *   r LIMIT            wivakkol_rounds
  *   v W                wivakkol_preview
  *   c                  wivakkol_chart
- * with numbers of 4 bytes; each of the last seven is answered by the number (4) and the row, or the line. Then come, of begin, open and chart, a byte for each field of the working memory,
- * which holds noise before the call: 0, it is all 0; 1, it is as it was; 2, neither. Last comes the whole of the run's memory, of preview and chart such a byte for it. A case is read whole
- * before its first step is done.
+ * with numbers of 4 bytes; each of the last seven is answered by the number (4) and the row, or the line. Then come, of begin, the bytes of the room, which held the paint; of begin, open and
+ * chart, a byte for each field of the working memory, which holds noise before the call: 0, it is all 0; 1, it is as it was; 2, neither. Last comes the whole of the run's memory, of preview
+ * and chart such a byte for it. A case is read whole before its first step is done.
  *
- * A last line has the most stack that each call took, in bytes, its arguments there and its return address included. The table and the order each end where the readable memory ends, in pages that may not
- * be written; each row, the line, the run and the working memory stand between numbers that must stay, and a row holds anything before the call. */
+ * A last line has the most stack that each call took, in bytes, its arguments there and its return address included. The table, the order and the room for the filled-out table each end where the readable memory ends, the
+ * first two in pages that may not be written; each row, the line, the run and the working memory stand between numbers that must stay, and a row holds anything before the call. */
 #define _GNU_SOURCE
 #include <inttypes.h>
 #include <stdio.h>
@@ -35,13 +35,14 @@
 #define FENCES 64
 #define MOST_ROW WIVAKKOL_PREVIEW_ROW
 
-static uint8_t *memory, *orders, *stack, *steps;
+static uint8_t *memory, *orders, *fillings, *stack, *steps;
 static size_t touched = STACK; /* of the stack, from its upper end */
 static ucontext_t here, there;
 
 static struct {
     const uint8_t *table, *order;
-    uint32_t length, turns, p, b, quota, w, limit, number;
+    uint8_t *filled;
+    uint32_t length, turns, p, b, quota, w, limit, number, room;
     uint64_t memory, row[MOST_ROW + 2];
     uint8_t line[WIVAKKOL_LINE + 2];
 } call;
@@ -80,7 +81,7 @@ static void quota(void)
 
 static void begin(void)
 {
-    call.number = wivakkol_begin(&lent.run, &lent.work, call.table, call.length, call.p, call.quota, call.row + 1);
+    call.number = wivakkol_begin(&lent.run, &lent.work, call.table, call.length, call.p, call.quota, call.filled, call.room, call.row + 1);
 }
 
 static void open_run(void)
@@ -336,6 +337,33 @@ static void put_kept(void)
     put(&kept, 1);
 }
 
+/* A beginning in so much room. What is below the room stays as it was. */
+static void begin_step(uint32_t bytes, size_t *most)
+{
+    uint64_t size;
+    size_t i;
+
+    if (bytes > ROOM - FENCES)
+        fail("too much room");
+    call.filled = place(fillings, bytes);
+    call.room = bytes;
+    memset(fillings, PAINT, ROOM);
+    stir();
+    make(begin, WIVAKKOL_BEGIN_ROW, most);
+    for (i = 1; i <= FENCES; i++)
+        if (call.filled[-(ptrdiff_t)i] != PAINT)
+            fail("written below the room");
+    put_answer(WIVAKKOL_BEGIN_ROW);
+    put(call.filled, bytes);
+    put_work();
+    put_run();
+    size = call.row[1 + WIVAKKOL_FILLED];
+    if (call.number == 0 && size != 0) {
+        memcpy(place_table((uint32_t)size), call.filled, (size_t)size);
+        close_room(memory);
+    }
+}
+
 /* A call that reads the run alone; how many bytes its step has. */
 static size_t read_step(const uint8_t *s, size_t *most)
 {
@@ -411,12 +439,8 @@ static size_t step(const uint8_t *s, size_t *most)
     case 'b':
         call.p = x;
         call.quota = y;
-        stir();
-        make(begin, WIVAKKOL_BEGIN_ROW, &most[0]);
-        put_answer(WIVAKKOL_BEGIN_ROW);
-        put_work();
-        put_run();
-        return 9;
+        begin_step((uint32_t)little(s + 9, 4), &most[0]);
+        return 13;
     case 'o':
         stir();
         make(open_run, WIVAKKOL_OPEN_ROW, &most[1]);
@@ -464,8 +488,9 @@ int main(int argc, char **argv)
 
     memory = room();
     orders = room();
+    fillings = room();
     stack = malloc(STACK);
-    steps = malloc(ROOM + 9); /* the numbers of a step are read whether or not it has any */
+    steps = malloc(ROOM + 13); /* the numbers of a step are read whether or not it has any */
     if (stack == NULL || steps == NULL)
         fail("no memory");
     for (i = 0; i < FENCES; i++)

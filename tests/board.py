@@ -29,7 +29,7 @@ ARCHIVES = ['target/staticlib/lib%s.a' % crate for crate in CRATES]
 NUMBERS = {'wivakkol_check': set(range(12)), 'wivakkol_quota': set(range(12)) | {20, 41, 42}}  # what each call can return
 LEFT = [0, 0, 0, 0, 1, 1]  # what a call on a table leaves of its working memory, field by field: 0, all 0; 1, as it was
 STACK_MOST = 8192  # bytes that a call on a table may take of the stack
-BYTES = {'table': 'length', 'order': 'turns'}  # the names of their numbers of bytes
+BYTES = {'table': 'length', 'order': 'turns', 'filled': 'room'}  # the names of their numbers of bytes
 RUN_CALLS = list(board_runs.NUMBERS)  # the calls for a wivakkol_run
 WORK_NAMES = {'parents': 'seen'}  # fields of a wivakkol_work that the exported calls name otherwise, since they have parents of their own
 # the places that the header names: of each the part of a block that it is in, and which number of that
@@ -63,7 +63,7 @@ def exported(crate):
                 lent, inner, size = re.fullmatch(r'(&mut |&)?\[?(\w+)(?:; (\d+))?\]?', kind).groups()
                 const = 'const ' if lent == '&' else ''
                 if lent and size is None:
-                    assert kind == '&[u8]', kind
+                    assert kind in ('&[u8]', '&mut [u8]'), kind
                     calls[name] += [(variable, const + c_type(inner), '*'), (BYTES[variable], 'size_t', None)]
                 else:
                     calls[name].append((variable, const + c_type(inner), int(size) if lent else None))
@@ -149,9 +149,10 @@ def inline_on_table(text, call, result, parameters, places):
 
 
 def hands_over(call, inline, result, parameters, places):
-    """An inline call's result, parameters and what it gives the exported one, which has `result` and `parameters`."""
+    """An inline call's result, parameters, the row last, and what it gives the exported one, which has `result` and `parameters`."""
     kind, taken, given = inline
-    assert [('', kind, None), *map(declared, taken.split(','))] == [result] + [x for x in parameters if x[0] not in places], '%s has other parameters' % call
+    wanted = sorted((x for x in parameters if x[0] not in places), key=lambda x: x[0] == 'row')
+    assert [('', kind, None), *map(declared, taken.split(','))] == [result] + wanted, '%s has other parameters' % call
     wanted = [places.get(name, name) for name, _, _ in parameters]
     assert [' '.join(x.split()) for x in given.split(',')] == wanted, '%s hands its parameters, blocks and parts over in another order' % call
 

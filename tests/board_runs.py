@@ -18,7 +18,8 @@ from tables import damaged
 FAR = [WORKERS, WORKERS + 1, 255, 256, 257, 65536, 2**31, 2**32 - 1]  # workers and numbers of workers out of range; the low bytes of some are in it
 LIST_FAR = [WORKERS, WORKERS + 1, 128, 255]
 BESIDE = ['parents', 'under', 'over']  # what stands beside a record, with the head of the second list
-PAINTED = b'\xa5' * (chart.WIDTH + 1)  # the lent line before a call
+PAINT = b'\xa5'
+PAINTED = PAINT * (chart.WIDTH + 1)  # the lent line before a call
 BITS = {name: bits for name, bits, _ in FIELDS}
 
 
@@ -47,9 +48,17 @@ class Play:
         size = BITS[name] // 8
         self.add(b'm', word(OFFSETS[name] + i * size), word(size), word(x, size))
 
-    def begin(self, p, quota):
-        self.add(b'b', word(p), word(quota))
-        return self.answered('begin', *self.run.begin(p, quota))
+    def begin(self, p, quota, room=None):
+        """In the room that the filled-out table needs, if no other is named. Where the table is filled out, what follows is given the filled-out one."""
+        buffer = bytearray(PAINT * (machine.BYTES if room is None else room))
+        number, row = self.run.begin(p, quota, buffer)
+        self.data, room = self.run.data, row[1] if room is None else room
+        buffer = buffer[:room]
+        self.add(b'b', word(p), word(quota), word(room))
+        self.reached['begin ' + ('filled out' if row[1] else 'in place')] += number == 0
+        self.reached['begin filled out exactly'] += number == 0 and 0 < row[1] == room
+        self.answered('begin', number, row, bytes(buffer))
+        return number, row
 
     def open(self):
         self.add(b'o')
@@ -92,14 +101,14 @@ class Play:
         self.reached['%s %s' % (call, 'with turns' if row[2] else 'without')] += 1
         return number, row
 
-    def answered(self, call, number, given):
-        """The number, the row or the line, the working memory, and the run's memory, or that it is as it was."""
+    def answered(self, call, number, given, room=b''):
+        """The number, the row or the line, the room for a filled-out table, the working memory, and the run's memory, or that it is as it was."""
         self.reached['%s %d' % (call, number)] += 1
         if number == 32:
             self.reached.update(('' if call == 'turn' else call + ' ') + why for why in self.reasons(call))
         line = given if call == 'chart' else b''.join(word(x, 8) for x in given)
         left = bytes(name not in lent.CLEARED[call] for name in lent.WORK_FIELDS) if call in lent.CLEARED else b''
-        self.answers.append(word(number) + line + left + (b'\1' if call in ('preview', 'chart') else bytes(self.memory.bytes)))
+        self.answers.append(word(number) + line + room + left + (b'\1' if call in ('preview', 'chart') else bytes(self.memory.bytes)))
         return number, given
 
     def reasons(self, call):
@@ -173,9 +182,12 @@ def refused_beginning(rng, play):
 def sound_run(rng, data, p, quota, workers):
     """From any bytes in memory: a beginning, and turns also of workers that are not there; now and then it is opened."""
     play = Play(rng.randbytes(SIZE), data)
-    number, row = play.begin(p, quota)
     answer, run = machine.begin(data, p, quota)
-    assert (number, row) == ((0, [0]) if answer == 'begun' else (answer[1], [answer[2]]))
+    size = run.length if answer == 'begun' and run.length != len(data) else 0
+    room = max(0, rng.choice([size, size, size + 1, size + rng.randint(0, 99), size - 1, 0, machine.BYTES])) if size else rng.choice([0, 1, rng.randint(0, 99)])
+    number, row = play.begin(p, quota, room)
+    refusal = answer[1:] if answer != 'begun' else (lent.NO_ROOM, 0) if room < size else (0, 0)
+    assert (number, row) == (refusal[0], [refusal[1], size])
     if number != 0:
         return refused_beginning(rng, play)
     assert machine.sound(run)
@@ -332,9 +344,11 @@ def opened_run(rng):
     Then all is as before, is opened with another table too, and goes on."""
     data, most = run_table(rng)
     play, p = Play(rng.randbytes(SIZE), data), rng.choice([1, 2, 3, 4, 16])
-    quota = min(LARGEST, rng.choice([most, most + 1, LARGEST]))
-    play.begin(p, quota)
-    taking = machine.Machine(machine.begin(data, p, quota)[1])
+    quota = min(LARGEST, rng.choice([most, most + 1, LARGEST, max(1, most // 2)]))
+    if play.begin(p, quota)[0] != 0:
+        quota = most
+        play.begin(p, quota)
+    taking, data = machine.Machine(machine.begin(data, p, quota)[1]), play.data
     for _ in range(rng.randint(1, 4)):
         for _ in range(rng.randint(0, 20)):
             sound_turn(play, taking, rng.randrange(p))
@@ -575,11 +589,12 @@ class Program:
 
 
 # what each call can return
-NUMBERS = {'begin': [*range(12), 20, 21, 22], 'open': [0, 32], 'turn': [0, 30, 31, 32], 'list': [0, 30, 32], 'rounds': [0, 30, 32], 'preview': [0, 30, 31, 32],
+NUMBERS = {'begin': [*range(12), 20, 21, 44, lent.NO_ROOM], 'open': [0, 32], 'turn': [0, 30, 31, 32], 'list': [0, 30, 32], 'rounds': [0, 30, 32], 'preview': [0, 30, 31, 32],
            'chart': [0, 32, 43]}
 WANTED = ['%s %d' % (call, x) for call, numbers in NUMBERS.items() for x in numbers] + [*lent.SAID.values(), 'turns', *MISFITS]
 WANTED += ['%s %s' % (call, what) for call in ('list', 'rounds') for what in (*lent.RUN_SAID.values(), 'with turns', 'without', 'turns', *MISFITS)]
 WANTED += ['preview %s' % what for what in ('turns', *MISFITS)]
+WANTED += ['begin %s' % what for what in ('in place', 'filled out', 'filled out exactly')]
 CLAUSES = ['length', 'table', 'settings', *(clause.__name__ for clause in machine.CLAUSES), 'truth values', 'truth values alone']
 WANTED += ['open %s' % what for what in ('sound', 'blank', 'as it was', 'mended')] + ['%s %s' % (call, what) for call in ('open', 'chart') for what in CLAUSES]
 

@@ -212,6 +212,13 @@ CASES = [
      ['changed', 'would done 0 0 passed 0 held 2 highest 2 quota 1', 'done 0 0', 'would done 0 1 passed 0 held 6 highest 6 quota 1', 'done 0 1',
       'would done 0 2 passed 0 held 7 highest 7 quota 0', 'done 0 2', 'would quota 0 1 passed 0 held 7 highest 7 quota 0', 'quota 0 1',
       'would done 0 3 passed 0 held 8 highest 8 quota 2', 'done 0 3', 'would done 0 4 passed 0 held 8 highest 8 quota 0', 'done 0 4']),
+    ('E filled out, K 5', (2, 5, E), [shown(0), turn(0), order(*[1, 0] * 7), shown(1), turn(1), turn(0), shown(0), turn(0), rounds(99)],
+     ['would done 0 0 passed 0 held 0 highest 0 quota 0', 'done 0 0', 'spent 14', 'would done 2 11 passed 1 held 0 highest 0 quota 0', 'done 2 11 passed 1', 'done 1 7',
+      'would done 1 8 passed 0 held 6 highest 6 quota 5', 'done 1 8', 'finished 26']),
+    ('a record\'s table is not filled out, nor 44 tested', (1, 513, table([alloc(513), end])), [put('quota', 1), order(), shown(0), turn(0), turn(0), order()],
+     ['changed', 'spent 0', 'would done 0 0 passed 0 held 513 highest 513 quota 1', 'done 0 0', 'done 0 1', 'finished 0']),
+    ('44', (1, 1, table([alloc(513), end])), [turn(0), order(), rounds(0), lined()], ['refused 30 0', 'spent 0', 'refused 0 30 0', row(0, '', 0)]),
+    ('1,024 threads filled out', (1, 1, table([alloc(512), free(512), end])), [rounds(2), order(), rounds(9999), order()], ['spent 2', 'spent 0', 'finished 3582', 'finished 0']),
     ('L 0', (2, 6, E), [rounds(0), order(), rounds(99)], ['spent 0', 'spent 0', 'finished 14']),
     ('worker 255', (16, 6, E), [turn(255), order(0, 255, 0), turn(16), order(15)], ['refused 30 0', 'refused 1 30 0', 'refused 30 0', 'spent 1']),
     ('K above its range', (2, LARGEST + 1, E), [turn(0)], ['refused 30 0']),
@@ -412,7 +419,7 @@ def random_case(rng):
     """A run, some turns, a change or two, and a call of each sort."""
     threads = rng.randint(1, 6)
     data = drawn(rng, threads, rng.randint(threads, 4 * threads), [3, 9])
-    p, quota = rng.randint(1, 4), rng.randint(9, 14)
+    p, quota = rng.randint(1, 4), rng.choice([rng.randint(9, 14), rng.randint(2, 8)])
     run = machine.begin(data, p, quota)[1]
     calls = [order(*(rng.randrange(p) for _ in range(rng.randint(1, 40))))]
     run = called(run, calls[0])[1]

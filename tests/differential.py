@@ -29,7 +29,7 @@ def mostly(rng, usual, *others):
 
 
 def run_table(rng):
-    """A table to run, and the most that one alloc of it draws."""
+    """A table to run, and its largest alloc."""
     threads = rng.randint(1, rng.choice([3, 12, 40]))
     if rng.random() < 0.01:
         threads = rng.randint(100, 1024)
@@ -42,10 +42,10 @@ def run_table(rng):
 
 
 def beginning(rng, most):
-    """p and K: mostly in range, K often such that an alloc does not fit in what is left."""
+    """p and K: mostly in range, K often such that an alloc does not fit in what is left, or is above K."""
     p = mostly(rng, rng.choice([1, 2, 2, 3, 4, rng.randint(1, 16), 16]), 0, 17, 255)
-    quota = rng.choice([most, most, most + 1, most + rng.randint(0, most), LARGEST])
-    quota = mostly(rng, min(quota, LARGEST), 0, most - 1, LARGEST)
+    quota = rng.choice([most, most, most + 1, most + rng.randint(0, most), LARGEST, max(1, most // 2), max(1, most // rng.randint(1, 40))])
+    quota = mostly(rng, min(quota, LARGEST), 0, most - 1, 1, LARGEST)
     return p, bytes([p]) + quota.to_bytes(3, 'little')
 
 
@@ -161,9 +161,11 @@ def listing_traits(data, text):
         yield 'order left at the end'
     if length in (0, 4096):
         yield 'order of %d' % length
-    done = [int(row[3]) for row in turns if row[4] in machine.KINDS]
-    if done != serial_order(Table(data[6 + length:]))[:len(done)]:
+    done, run = [int(row[3]) for row in turns if row[4] in machine.KINDS], machine.begin(data[6 + length:], data[0], int.from_bytes(data[1:4], 'little'))[1]
+    if done != serial_order(Table(run.table))[:len(done)]:
         yield 'premature'
+    if run.length != len(data) - 6 - length:
+        yield 'filled out'
     if last[0] == 'refused' and data[6 + len(turns)] == 255:
         yield 'worker 255'
 
@@ -264,12 +266,12 @@ PROGRAMS = {
                   ['as it is', 'one tree', 'trees', 'not by rising action', 'above 1,000 threads', 'refused 21', 'refused 33', 'refused 44'] + TABLE),
     'turnlist': (LISTINGS, turnlist_input, machine.turnlist, listing_traits,
                  ['done', 'open', 'quota', 'wait', 'idle', 'premature', 'order left at the end', 'order of 0', 'order of 4096', 'worker 255',
-                  'refused 20', 'refused 21', 'refused 22', 'refused 30', 'refused 33']),
+                  'filled out', 'refused 20', 'refused 21', 'refused 30', 'refused 33', 'refused 44']),
     'wallchart': (LISTINGS + [HOLDING], turnlist_input, chart.wallchart, chart_traits,
                   ['a chart', 'all 4,097 lines', '16 workers all holding', 'a thread of four digits',
-                   'refused 20', 'refused 21', 'refused 22', 'refused 30', 'refused 33']),
+                   'refused 20', 'refused 21', 'refused 30', 'refused 33', 'refused 44']),
     'runrounds': (ROUNDS, runrounds_input, machine.runrounds, rounds_traits,
-                  ['finished', 'spent', 'L 0', 'L at the end', 'refused 20', 'refused 21', 'refused 22', 'refused 33']),
+                  ['finished', 'spent', 'L 0', 'L at the end', 'refused 20', 'refused 21', 'refused 33', 'refused 44']),
     'call_cases': ([], call_case, lambda data: call_cases.answers(data)[1], call_traits,
                    ['sound', 'refused 32', 'another left', 'another right', 'another leftmost']),
 }

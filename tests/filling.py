@@ -1,82 +1,82 @@
-"""The filled-out table (N6), written on its own: trees of dummies are built as objects, put in front of the big allocs, and numbered by walking the whole in serial order.
+"""The filled-out table (N6), written on its own from the request's sentences: what an alloc above K gets in front of it, the trees of dummy
+threads, their numbers, and 44.
 
-Nothing here sums or predicts numbers: a new thread gets the next number when the walk comes to its fork.
+usage: python3 tests/filling.py [COUNT]
+    Holds the filling to the request on tables with answers written by hand and on COUNT random ones (default 1,000).
 """
-import functools
+import itertools
+import random
+import sys
 
-from reference import ALLOC, END, FORK, JOIN, WORK, Table, check
-from tables import table
+from reference import ALLOC, END, FORK, FREE, JOIN, WORK, Table, bodies, check, owners, serial_order
+from tables import drawn, table
 
+MOST_THREADS, MOST_ACTIONS = 1024, 8192
 HIGHEST = 2**24 - 1
 
 
-class Dummy:
-    """A new thread, of a tree of d dummies: its body, and its number once the walk has come to its fork."""
-
-    def __init__(self, d):
-        self.number = None
-        if d == 1:
-            self.body = [(WORK, 0), (END, 0)]
-        else:
-            first, rest = Dummy((d + 1) // 2), Dummy(d - (d + 1) // 2)
-            self.body = [(FORK, first), (FORK, rest), (JOIN, rest), (JOIN, first), (END, 0)]
+def is_big(action, quota):
+    kind, x = action
+    return kind == ALLOC and x > quota
 
 
 def dummies(x, quota):
-    return -(-x // quota)
+    """a / K rounded up."""
+    return x // quota + (x % quota > 0)
 
 
-@functools.cache
-def tree_size(d):
-    """Threads and actions of a tree of d."""
-    if d == 1:
-        return 1, 2
-    (t, a), (u, b) = tree_size((d + 1) // 2), tree_size(d - (d + 1) // 2)
-    return 1 + t + u, 5 + a + b
+def tree(d, numbers, made):
+    """Puts the bodies of a tree of d dummies into `made`, by their numbers, and gives the number of its root. A thread has its number from its
+    fork on, and a child runs to its end before its parent goes on."""
+    root = next(numbers)
+    made[root] = [(WORK, 0), (END, 0)]
+    if d > 1:
+        rest = d // 2
+        one = tree(d - rest, numbers, made)
+        other = tree(rest, numbers, made)
+        made[root] = [(FORK, one), (FORK, other), (JOIN, other), (JOIN, one), (END, 0)]
+    return root
+
+
+def tree_counts(d):
+    """Threads and actions of a tree of d dummies: d - 1 threads of five actions that fork, and d of two."""
+    return 2 * d - 1, 5 * (d - 1) + 2 * d
 
 
 def too_large(data, quota):
-    """The place of 44, or None: counted by rising action of the table as given, before anything is built."""
+    """44: the lowest action with which a limit is passed, or None."""
     given = Table(data)
     threads, actions = given.n, given.m
-    for a, (kind, x) in enumerate(given.actions):
-        if kind == ALLOC and x > quota:
-            t, b = tree_size(dummies(x, quota))
-            threads, actions = threads + t, actions + b + 2
-            if threads > 1024 or actions > 8192:
-                return a
+    for a, action in enumerate(given.actions):
+        if is_big(action, quota):
+            more = tree_counts(dummies(action[1], quota))
+            threads, actions = threads + more[0], actions + more[1] + 2
+            if threads > MOST_THREADS or actions > MOST_ACTIONS:
+                return 44, a
     return None
 
 
 def filled(data, quota):
-    """The bytes of the filled-out table; the very bytes where nothing is big."""
+    """The filled-out table of one that passes its checks and 44; the bytes as given where nothing is above the quota."""
     given = Table(data)
-    if not any(kind == ALLOC and x > quota for kind, x in given.actions):
+    if not any(is_big(action, quota) for action in given.actions):
         return data
-    bodies = []
+    numbers, made, root = itertools.count(given.n), {}, {}
+    for a in serial_order(given):
+        if is_big(given.actions[a], quota):
+            root[a] = tree(dummies(given.actions[a][1], quota), numbers, made)
+    whole = []
     for first, count in given.contents:
         body = []
-        for kind, x in given.actions[first:first + count]:
-            if kind == ALLOC and x > quota:
-                tree = Dummy(dummies(x, quota))
-                body += [(FORK, tree), (JOIN, tree)]
-            body.append((kind, x))
-        bodies.append(body)
-    stack = [(bodies[0], 0)]  # what is left to walk, the innermost last
-    while stack:
-        body, i = stack.pop()
-        if i == len(body):
-            continue
-        stack.append((body, i + 1))
-        kind, x = body[i]
-        if kind == FORK and isinstance(x, Dummy):
-            x.number = len(bodies)
-            bodies.append(x.body)
-            stack.append((x.body, 0))
-        elif kind == FORK:
-            stack.append((bodies[x], 0))
-    return table(*[[(kind, x.number if isinstance(x, Dummy) else x) for kind, x in body] for body in bodies])
+        for a in range(first, first + count):
+            if a in root:
+                body += [(FORK, root[a]), (JOIN, root[a])]
+            body.append(given.actions[a])
+        whole.append(body)
+    return table(*whole, *(made[t] for t in sorted(made)))
 
+
+# The program filltable
 
 def answer(data):
     """What filltable writes on standard output and on standard error."""
@@ -85,15 +85,114 @@ def answer(data):
     quota, data = int.from_bytes(data[:3], 'little'), data[3:]
     found = check(data)
     if found[0] == 'refused':
-        return b'', b'refused %d %d\n' % (found[1], found[2])
+        return b'', b'refused %d %d\n' % found[1:]
     if not 1 <= quota <= HIGHEST:
         return b'', b'refused 21 0\n'
-    place = too_large(data, quota)
-    if place is not None:
-        return b'', b'refused 44 %d\n' % place
+    found = too_large(data, quota)
+    if found is not None:
+        return b'', b'refused %d %d\n' % found
     return filled(data, quota), b''
 
 
 def quoted(quota, data):
     """The input of filltable."""
     return quota.to_bytes(3, 'little') + data
+
+
+# What the request says, on any filled-out table
+
+def expect(what, found, wanted):
+    if found != wanted:
+        raise SystemExit('%s: expected %r, found %r' % (what, wanted, found))
+
+
+def holds(data, quota):
+    """The filled-out table passes every check, S1 is the same, the new threads are numbered from n on in serial order of their forks, and without what is new it is the table as given."""
+    before, after = check(data), check(filled(data, quota))
+    expect('refused', after[0], 'table')
+    expect('S1', after[3], before[3])
+    given, out = Table(data), Table(filled(data, quota))
+    big = [x for kind, x in given.actions if kind == ALLOC and x > quota]
+    counts = [tree_counts(dummies(x, quota)) for x in big]
+    expect('counts', (out.n - given.n, out.m - given.m), (sum(n for n, _ in counts), sum(m + 2 for _, m in counts)))
+    forks = [out.actions[a][1] for a in serial_order(out) if out.actions[a][0] == FORK and out.actions[a][1] >= given.n]
+    expect('numbers', forks, list(range(given.n, out.n)))
+    without = [[(kind, x) for kind, x in body if kind not in (FORK, JOIN) or x < given.n] for body in bodies(out)[:given.n]]
+    expect('the rest', without, bodies(given))
+    owner = owners(out)
+    for a, action in enumerate(out.actions):
+        if is_big(action, quota):
+            (fork, x), (join, y) = out.actions[a - 2:a]
+            expect('in front of %d' % a, (fork, join, x, owner[a - 2]), (FORK, JOIN, y, owner[a]))
+            expect('dummies of %d' % x, leaves(out, x), dummies(action[1], quota))
+
+
+def leaves(out, t):
+    """How many threads of the tree at t fork none."""
+    children = [x for kind, x in bodies(out)[t] if kind == FORK]
+    return sum(leaves(out, x) for x in children) if children else 1
+
+
+# By hand
+
+E = [[(FORK, 1), (FORK, 2), (JOIN, 2), (JOIN, 1), (END, 0)], [(ALLOC, 6), (WORK, 0), (FREE, 6), (END, 0)], [(ALLOC, 6), (FREE, 6), (END, 0)]]
+LEAF = [(WORK, 0), (END, 0)]
+
+
+def two(x, y):
+    return [(FORK, x), (FORK, y), (JOIN, y), (JOIN, x), (END, 0)]
+
+
+def of(x):
+    return [(FORK, x), (JOIN, x)]
+
+
+BY_HAND = [
+    ('E', E, 5, [E[0], of(3) + E[1], of(6) + E[2], two(4, 5), LEAF, LEAF, two(7, 8), LEAF, LEAF]),
+    ('E in place', E, 6, E),
+    ('7 / 3 rounded up', [[(ALLOC, 7), (END, 0)]], 3, [of(1) + [(ALLOC, 7), (END, 0)], two(2, 5), two(3, 4), LEAF, LEAF, LEAF]),
+    ('6 / 3', [[(ALLOC, 6), (END, 0)]], 3, [of(1) + [(ALLOC, 6), (END, 0)], two(2, 3), LEAF, LEAF]),
+    ('five', [[(ALLOC, 5), (END, 0)]], 1, [of(1) + [(ALLOC, 5), (END, 0)], two(2, 7), two(FREE, 6), two(4, 5), LEAF, LEAF, LEAF, two(8, 9), LEAF, LEAF]),
+    ('in serial order, not by rising action', [[(FORK, 1), (ALLOC, 9), (JOIN, 1), (END, 0)], [(ALLOC, 9), (FREE, 9), (END, 0)]], 5,
+     [[(FORK, 1), *of(5), (ALLOC, 9), (JOIN, 1), (END, 0)], [*of(2), (ALLOC, 9), (FREE, 9), (END, 0)], two(3, 4), LEAF, LEAF, two(6, 7), LEAF, LEAF]),
+    ('two in one thread', [[(ALLOC, 2), (ALLOC, 1), (ALLOC, 2), (END, 0)]], 1,
+     [[*of(1), (ALLOC, 2), (ALLOC, 1), *of(4), (ALLOC, 2), (END, 0)], two(2, 3), LEAF, LEAF, two(5, 6), LEAF, LEAF]),
+]
+TWO_400 = table([(FORK, 1), (ALLOC, 400), (JOIN, 1), (END, 0)], [(ALLOC, 400), (FREE, 400), (END, 0)])
+
+
+def one(x, before=0):
+    return table([(WORK, 0)] * before + [(ALLOC, x), (END, 0)])
+
+
+def by_hand():
+    for label, given, quota, wanted in BY_HAND:
+        expect(label, filled(table(*given), quota), table(*wanted))
+    expect('E, facts', check(filled(table(*E), 5)), ('table', 9, 34, 6, 17, 4))
+    expect('44 by rising action', (too_large(TWO_400, 1), too_large(TWO_400, 2)), ((44, 4), None))
+    expect('512', (too_large(one(512), 1), check(filled(one(512), 1))[1:3]), (None, (1024, 3583)))
+    expect('513', too_large(one(513), 1), (44, 0))
+    expect('4,609 works', (too_large(one(512, 4609), 1), check(filled(one(512, 4609), 1))[1:3]), (None, (1024, 8192)))
+    expect('4,610 works', too_large(one(512, 4610), 1), (44, 4610))
+    expect('the largest alloc', too_large(one(2**24 - 1), 1), (44, 0))
+    expect('most bytes', len(filled(one(512, 4609), 1)), 36868)
+
+
+def main():
+    count = int(sys.argv[1]) if len(sys.argv) > 1 else 1000
+    by_hand()
+    rng, fills = random.Random(6), 0
+    for _ in range(count):
+        threads = rng.randint(1, 20)
+        data = drawn(rng, threads, rng.randint(threads, 6 * threads + 20), rng.choice([[2, 6], [9], [4, 100], [1, 300]]))
+        quota = rng.randint(1, 40)
+        if too_large(data, quota) is None:
+            holds(data, quota)
+            fills += filled(data, quota) != data
+    if fills * 4 < count:
+        raise SystemExit('only %d of %d tables were filled out' % (fills, count))
+    print('%d tables by hand; %d random ones, %d of them filled out, hold' % (len(BY_HAND), count, fills))
+
+
+if __name__ == '__main__':
+    main()

@@ -9,8 +9,9 @@ Soundness is machine.py's, of the record that stands in the memory beside its ta
 """
 import chart
 import machine
+from filling import filled
 from machine import ENDED, HELD, LAST_TURN, NO_THREAD, READY, THREADS, WAITING, WORKERS, begin_fault, described
-from reference import ALLOC, END, FORK, FREE, JOIN, WORK, Table, check, owners
+from reference import ALLOC, END, FORK, FREE, JOIN, WORK, Table, owners
 
 # the struct: its blocks by the bits of their numbers, in its order
 BLOCKS = {64: 'sums', 32: 'numbers', 16: 'words', 8: 'bytes'}
@@ -35,6 +36,7 @@ HELD_NOW, HIGHEST, TURNS = range(3)
 IDLE, DONE, QUOTA, WAIT = range(1, 5)
 SAID = {IDLE: 'idle', DONE: 'done', QUOTA: 'quota', WAIT: 'wait'}
 FINISHED, SPENT = 6, 7
+NO_ROOM = 61  # too little room for the filled-out table: a number of the library's own, above the papers'
 RUN_SAID = {FINISHED: 'finished', SPENT: 'spent'}
 NO_ROW = [0] * 5
 NO_PREVIEW = [0] * 8
@@ -134,15 +136,19 @@ class Lent:
 
     # ---- beginning
 
-    def begin(self, p, quota):
-        """The number of the refusal, 0 if there is none, and its place; the memory is written all over."""
-        memory, answer = self.memory, check(self.data)
-        if answer[0] != 'refused':
-            fault = begin_fault(Table(self.data), p, quota)
-            answer = ('refused', *fault) if fault else answer
-        if answer[0] == 'refused':
+    def begin(self, p, quota, buffer=bytearray()):
+        """The number of the refusal, 0 if there is none, and the row: the place, and the bytes of the filled-out table, 0 where the table as given runs. The memory is written all over; the
+        buffer gets the filled-out table, which all that follows is given, and is otherwise as it was. Where it has too little room, the row has the bytes that it would need."""
+        memory, fault = self.memory, begin_fault(self.data, p, quota)
+        out = self.data if fault else filled(self.data, quota)
+        size = len(out) if out != self.data else 0
+        if not fault and size > len(buffer):
+            fault = NO_ROOM, 0
+        if fault:
             memory.fill()
-            return answer[1], [answer[2]]
+            return fault[0], [fault[1], size]
+        buffer[:size] = out[:size]
+        self.data = out
         table = Table(self.data)
         memory.fill(left=NO_THREAD, right=NO_THREAD, under=NO_THREAD, over=NO_THREAD)
         memory.settings[P], memory.settings[K] = p, quota
@@ -150,7 +156,7 @@ class Lent:
             memory.next[t] = first
         self.put_parents()
         memory.status[0] = READY
-        return 0, [0]
+        return 0, [0, size]
 
     def put_parents(self):
         """Of each thread the one that forks it; 0 for the root and from n on."""

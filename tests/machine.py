@@ -9,6 +9,7 @@ A refusal is ('refused', number, place). A turn's reply is ('idle',), ('done', t
 """
 import copy
 
+from filling import filled, too_large
 from reference import END, ALLOC, FREE, FORK, JOIN, Table, check, line, owners, serial_order, word
 
 UNBORN, READY, HELD, WAITING, ENDED = range(5)
@@ -123,26 +124,21 @@ def settings_fault(p, quota):
     return None
 
 
-def begin_fault(table, p, quota):
-    fault = settings_fault(p, quota)
-    if fault:
-        return fault
-    for a, (kind, x) in enumerate(table.actions):
-        if kind == ALLOC and x > quota:
-            return 22, a
-    return None
+def begin_fault(data, p, quota):
+    """The first check that refuses, and its place, or None: the table's own, 20, 21 and 44."""
+    answer = check(data)
+    if answer[0] == 'refused':
+        return answer[1:]
+    return settings_fault(p, quota) or too_large(data, quota)
 
 
 def begin(data, p, quota):
-    """The answer, 'begun' or a refusal, and the record: the blank one where it is refused."""
-    answer = check(data)
-    if answer[0] == 'refused':
-        return answer, Run()
-    table = Table(data)
-    fault = begin_fault(table, p, quota)
+    """The answer, 'begun' or a refusal, and the record: of the filled-out table, or the blank one where it is refused."""
+    fault = begin_fault(data, p, quota)
     if fault:
         return ('refused', *fault), Run()
-    run = Run()
+    data = filled(data, quota)
+    table, run = Table(data), Run()
     run.table, run.length = data + bytes(BYTES - len(data)), len(data)
     run.p, run.quota = p, quota
     for t, (first, _) in enumerate(table.contents):
@@ -468,7 +464,7 @@ def turnlist(data):
     answer, run = begin(table, data[0], int.from_bytes(data[1:4], 'little'))
     if answer != 'begun':
         return refused(*answer[1:])
-    lines = [line(check(table))]
+    lines = [line(check(run.table[:run.length]))]
 
     def seen(count, w, reply, machine):
         run = machine.run

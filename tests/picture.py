@@ -327,6 +327,12 @@ def listed(p, quota, order, data):
     return machine.turnlist(bytes([p]) + quota.to_bytes(3, 'little') + len(order).to_bytes(2, 'little') + bytes(order) + data)
 
 
+def filled_run():
+    """E with K 5, filled out: allocs above K, which draw nothing."""
+    with open('examples/e.table', 'rb') as f:
+        return listed(2, 5, [0, 1] * 30, f.read()), (2, 5, 1), 2
+
+
 def stopped_run():
     """Two workers in rounds: a thread that is stopped by its quota and then waits."""
     root = [(FORK, 1), (ALLOC, 4), (ALLOC, 4), (JOIN, 1), (FREE, 8), (END, 0)]
@@ -343,7 +349,7 @@ def random_run(rng):
     """A listing, its p and K, order and table: few turns or many, in rounds or not."""
     threads = rng.randint(1, rng.choice([3, 12, 60]))
     data = drawn(rng, threads, rng.randint(threads, 8 * threads + 20), rng.choice([[1], [2, 6], [9], [16777215]]))
-    p, quota = rng.choice([1, 2, 3, rng.randint(1, 16), 16]), rng.choice([9, 12, 20, 16777215])
+    p, quota = rng.choice([1, 2, 3, rng.randint(1, 16), 16]), rng.choice([4, 9, 12, 20, 16777215])
     length = rng.choice([0, 1, 14, 24, 25, 64, 65, 128, 129, 256, 257, rng.randint(0, 700)])
     order = bytes(i % p if length % 2 else rng.randrange(p) for i in range(length))
     if order and rng.random() < 0.1:
@@ -369,18 +375,19 @@ def parting(text, p, other, order, data):
     if again == text:
         return 0
     mine, rows = text.splitlines(), again.splitlines()
-    number = next((i for i, (a, b) in enumerate(zip(mine, rows)) if a != b), None) if again.startswith('table') else None
-    if number is None:  # an alloc above that K, which no turn has reached
+    if mine[0] != rows[0]:  # another table runs with that K, or none
         return next((i for i, row in enumerate(mine) if row.split()[4:5] == ['alloc'] and too_much(mine, i, other)), None)
+    number = next(i for i, (a, b) in enumerate(zip(mine, rows)) if a != b)
     _, _, thread, action, name, _ = mine[number].split()
     done = any(row.split()[2:5] == [thread, action, 'alloc'] for row in mine)
     return number + 1 if name == 'alloc' or done else None
 
 
 def too_much(rows, i, quota):
-    """Whether the alloc of row i is above the quota by itself."""
-    before = int(rows[i - 1].split()[-1]) if i > 1 else 0
-    return int(rows[i].split()[-1]) - before > quota
+    """Whether the alloc of row i is above the quota by itself, with no dummy threads forked and joined just before it."""
+    before, action = int(rows[i - 1].split()[-1]) if i > 1 else 0, int(rows[i].split()[3])
+    done = {tuple(row.split()[3:5]) for row in rows[1:i]}
+    return int(rows[i].split()[-1]) - before > quota and not {(str(action - 2), 'fork'), (str(action - 1), 'join')} <= done
 
 
 def other_quotas(rng, text, p, quota, order, data):
@@ -391,7 +398,7 @@ def other_quotas(rng, text, p, quota, order, data):
         status, out, said = run_tool(text, '-K', other, '--rule')
         if line == 0:
             expect('K %d, which the listing allows' % other, (status, said), (0, ''))
-        elif line is not None and listed(p, other, order, data).startswith('table'):
+        elif line is not None and listed(p, other, order, data).splitlines()[0] == text.splitlines()[0]:
             wanted = 1, '', 1, True
             expect('K %d' % other, (status, out, said.count('\n'), said.startswith('picture: line %d of the listing contradicts K' % line)), wanted)
         elif line is not None:
@@ -478,6 +485,8 @@ def main():
     both(e, None, 2)
     both(e.replace('\n', '\r\n'), None, 2)
     both(*long_run())
+    both(*filled_run())
+    compare_rule(filled_run()[0], 2, 5)
     compare_rule(e, 2, 6)
     expect("E's rule", made(e, '--rule', '-p', 2, '-K', 6), 'least b 1 bound 48 peak 12\n')
     compare_rule(*stopped_run()[:1], 2, 6)

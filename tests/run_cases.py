@@ -55,6 +55,15 @@ SEVEN = [
 OTHER_CHILD = [
     E, '1 0 0 0 fork 0', '2 1 1 5 alloc 6', '3 0 0 1 fork 6', '4 2 2 9 alloc 12', '5 0 0 2 wait 12', '6 1 1 6 work 12', '7 1 1 7 free 6',
     '8 1 1 8 end 6']
+# E with K 5: trees of two dummies each, forked by threads 1 and 2 in front of their allocs
+FILLED = 'table 9 34 serial 6 depth 17'
+FILLED_TURNS = (
+    '0 0 fork,1 5 fork,3 16 fork,4 21 work,3 17 fork,4 22 end,5 23 work,3 18 wait,5 24 end,3 18 join,1 6 wait,3 19 join,0 1 fork,3 20 end,1 6 join,2 11 fork,1 7 alloc 6,6 25 fork 6,'
+    '1 8 work 6,7 30 work 6,1 9 free,7 31 end,1 10 end,6 26 fork,8 32 work,6 27 wait,8 33 end,6 27 join,2 12 wait,6 28 join,0 2 wait,6 29 end,2 12 join,- - idle,2 13 alloc 6,- - idle 6,'
+    '2 14 free,- - idle,2 15 end,0 2 join,- - idle,0 3 join,- - idle,0 4 end')
+FILLED_LISTING = [FILLED] + ['%d %d %s' % (i + 1, i % 2, turn if turn[-2:] == ' 6' else turn + ' 0') for i, turn in enumerate(FILLED_TURNS.split(','))] + ['done 44 peak 6']
+two_400 = table([fork(1), alloc(400), join(1), end], [alloc(400), free(400), end])
+
 CHART = [
     row(0, '   .   .', 0), row(1, '   .   .', 0), row(2, '   .   1', 6), row(3, '   .   1', 6), row(4, '   .   1', 6), row(5, '   2   1', 12), row(6, '   2   1', 6), row(7, '   2   1', 0),
     row(8, '   2   .', 0), row(9, '   .   .', 0), row(10, '   .   0', 0), row(11, '   .   0', 0), row(12, '   .   0', 0), row(13, '   .   0', 0), row(14, '   .   .', 0)]
@@ -78,8 +87,14 @@ CASES = [
     ('E, p 1, L one less', r(1, 6, 11, e), ['spent 11 peak 6 held 0']),
     ('E, p 16 and worker 0 alone', t(16, 6, bytes(12), e), SERIAL),
     ('E, the largest K', t(1, LARGEST, bytes(12), e), SERIAL),
-    ('E, K 5', t(2, 5, both * 7, e), ['refused 22 5']),
-    ('E, K 5, in rounds', r(2, 5, 100, e), ['refused 22 5']),
+    ('E, K 5', t(2, 5, both * 30, e), FILLED_LISTING),
+    ('E, K 5, an empty order', t(2, 5, [], e), [FILLED, 'open 0 peak 0']),
+    ('E, K 5, in rounds', r(2, 5, 100, e), ['finished 44 peak 6 held 0']),
+    ('E, K 5, p 1', r(1, 5, 34, e), ['finished 34 peak 6 held 0']),
+    ('E, K 5, p 1, L one less', r(1, 5, 33, e), ['spent 33 peak 6 held 0']),
+    ('E, K 5, p 3', r(3, 5, 999, e), ['finished 50 peak 6 held 0']),
+    ('E, K 5, p 16', r(16, 5, 999, e), ['finished 145 peak 12 held 0']),
+    ('E, K 1', t(1, 1, [0], e), ['table 25 90 serial 6 depth 25', '1 0 0 0 fork 0', 'open 1 peak 0']),
     ('one end', t(1, 1, [0], least), ['table 1 1 serial 0 depth 1', '1 0 0 0 end 0', 'done 1 peak 0']),
     ('one end, worker 15', t(16, 1, [15], least), ['table 1 1 serial 0 depth 1', '1 15 0 0 end 0', 'done 1 peak 0']),
     ('one end in rounds', r(1, 1, 1, least), ['finished 1 peak 0 held 0']),
@@ -129,8 +144,27 @@ CASES = [
     ('K 0', t(2, 0, both, e), ['refused 21 0']),
     ('K 0, in rounds', r(16, 0, 9, e), ['refused 21 0']),
     ('K 0 with no alloc', t(1, 0, [0], least), ['refused 21 0']),
-    ('22 at the lowest action', t(1, 3, [0], table([alloc(3), alloc(5), alloc(9), end])), ['refused 22 1']),
-    ('22 in a later thread', r(1, 3, 9, table(parent(1), [work, alloc(4), end])), ['refused 22 4']),
+    ('two allocs above K', t(1, 3, [0], table([alloc(3), alloc(5), alloc(9), end])), ['table 9 33 serial 17 depth 25', '1 0 0 0 alloc 3', 'open 1 peak 3']),
+    ('an alloc above K in a later thread', r(1, 3, 99, table(parent(1), [work, alloc(4), end])), ['finished 17 peak 4 held 4']),
+    ('a big alloc draws nothing', t(1, 3, bytes(16), table([alloc(3), alloc(4), free(7), end])),
+     ['table 4 15 serial 7 depth 13', '1 0 0 0 alloc 3', '2 0 0 1 fork 3', '3 0 1 6 fork 3', '4 0 2 11 work 3', '5 0 2 12 end 3', '6 0 1 7 fork 3', '7 0 3 13 work 3', '8 0 3 14 end 3', '9 0 1 8 join 3',
+      '10 0 1 9 join 3', '11 0 1 10 end 3', '12 0 0 2 join 3', '13 0 0 3 alloc 7', '14 0 0 4 free 0', '15 0 0 5 end 0', 'done 15 peak 7']),
+    ('an alloc above the quota left is not big', r(1, 6, 99, twice), ['finished 4 peak 8 held 8']),
+    ('alloc 512, K 1', t(1, 1, [], table([alloc(512), end])), ['table 1024 3583 serial 512 depth 51', 'open 0 peak 0']),
+    ('alloc 512, K 1, in rounds', r(1, 1, 2**32 - 1, table([alloc(512), end])), ['finished 3583 peak 512 held 512']),
+    ('alloc 513, K 1', t(1, 1, [], table([alloc(513), end])), ['refused 44 0']),
+    ('alloc 513, K 2', r(1, 2, 2**32 - 1, table([alloc(513), end])), ['finished 1798 peak 513 held 513']),
+    ('4,609 works before alloc 512, K 1', t(1, 1, [], table([work] * 4609 + [alloc(512), end])), ['table 1024 8192 serial 512 depth 4660', 'open 0 peak 0']),
+    ('4,610 works before alloc 512, K 1', r(1, 1, 9, table([work] * 4610 + [alloc(512), end])), ['refused 44 4610']),
+    ('44 by rising action, not in serial order', t(1, 1, [0], two_400), ['refused 44 4']),
+    ('44 by rising action, in rounds', r(16, 1, 0, two_400), ['refused 44 4']),
+    ('alloc 400 twice, K 2', r(1, 2, 0, two_400), ['spent 0 peak 0 held 0']),
+    ('the largest alloc, K 1', t(1, 1, [0], table([work, alloc(LARGEST), end])), ['refused 44 1']),
+    ('the largest alloc, K one less', t(1, LARGEST - 1, [0], table([alloc(LARGEST), end])), ['table 4 13 serial 16777215 depth 11', '1 0 0 0 fork 0', 'open 1 peak 0']),
+    ('20 before 44', t(17, 1, [0], two_400), ['refused 20 0']),
+    ('21 before 44', t(1, 0, [0], two_400), ['refused 21 0']),
+    ('a bad table before 44', r(1, 1, 9, table([alloc(513), free(514), end])), ['refused 10 1']),
+    ('44 before 30', t(1, 1, [9], two_400), ['refused 44 4']),
     ('a free may be above K', r(1, 3, 99, table([alloc(3), alloc(3), free(6), end])), ['finished 5 peak 6 held 0']),
     ('a bad table before p 0', t(0, 0, [0], least[:-1]), ['refused 3 0']),
     ('a bad table before p 0, in rounds', r(0, 0, 0, b'\1'), ['refused 1 0']),
@@ -155,7 +189,9 @@ CASES = [
     ('the chart of one end', w(1, 1, [0, 0], least), [row(0, '   .', 0), row(1, '   .', 0)]),
     ('the chart, quota', w(2, 6, [0, 0, 1], twice), [row(0, '   .   .', 0), row(1, '   0   .', 4), row(2, '   .   .', 4), row(3, '   .   0', 8)]),
     ('the chart, sixteen workers', w(16, 6, [15, 9], e), [row(0, '   .' * 16, 0), row(1, '   .' * 16, 0), row(2, '   .' * 9 + '   1' + '   .' * 6, 6)]),
-    ('the chart, K 5', w(2, 5, both * 7, e), ['refused 22 5']),
+    ('the chart, K 5', w(2, 5, both * 4, e), [row(0, '   .   .', 0), row(1, '   .   .', 0), row(2, '   .   .', 0), row(3, '   .   .', 0), row(4, '   .   4', 0), row(5, '   .   4', 0),
+     row(6, '   .   .', 0), row(7, '   5   .', 0), row(8, '   5   .', 0)]),
+    ('the chart, 44', w(2, 1, both, two_400), ['refused 44 4']),
     ('the chart, p 17', w(17, 6, both * 7, e), ['refused 20 0']),
     ('the chart, no table', w(1, 1, [0], b''), ['refused 1 0']),
     ('the chart, an order of 4,097', w(2, 6, bytes(4097), e), ['refused 33 0']),

@@ -41,7 +41,12 @@ def turns(run, order):
 def worked():
     e = table(*E)
     expect('E', check(e), ('table', 3, 12, 6, 8, 2))
-    expect('E, K 5', begin(e, 2, 5)[0], ('refused', 22, 5))
+    run = begun(e, 2, 5)
+    expect('E, K 5', check(run.table[:run.length]), ('table', 9, 34, 6, 17, 4))
+    expect('is sound', broken(run), [])
+    for p, turned, peak in [(1, 34, 6), (2, 44, 6), (3, 50, 6), (16, 145, 12)]:
+        report, run = run_rounds(begun(e, p, 5), 10**6)
+        expect('E, K 5, %d workers' % p, (report, run.highest), (('finished', turned), peak))
     listing = [('done', 0, 0), ('done', 1, 5), ('done', 0, 1), ('done', 1, 6), ('done', 2, 9), ('done', 1, 7), ('done', 2, 10),
                ('done', 1, 8), ('done', 2, 11), ('done', 0, 2), ('idle',), ('done', 0, 3), ('idle',), ('done', 0, 4)]
     replies, run = turns(begun(e, 2, 6), [0, 1] * 7)
@@ -84,6 +89,7 @@ def worked():
         expect('p %d' % p, begin(e, p, 0)[0], ('refused', number, 0))
     for quota in (0, LARGEST + 1):
         expect('K %d' % quota, begin(e, 16, quota)[0], ('refused', 21, 0))
+    expect('44 after 20 and 21', [begin(table([(ALLOC, 513), end]), *pair)[0] for pair in [(0, 0), (1, 0), (1, 1)]], [('refused', 20, 0), ('refused', 21, 0), ('refused', 44, 0)])
 
 
 def blank():

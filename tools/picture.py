@@ -144,16 +144,21 @@ def alloc_amounts(run):
 
 def check_quota(run, quota):
     """That a worker draws at most K on a thread that it holds, and that a quota turn wanted more than was left of K, where the amount is known: the
-    alloc is done later in the listing."""
-    amounts, drawn = alloc_amounts(run), {}
+    alloc is done later in the listing. An alloc above K draws nothing, and comes after the fork and the join of its dummy threads."""
+    amounts, drawn, names = alloc_amounts(run), {}, {}
     for turn in run.turns:
-        had = drawn.get(turn.worker, 0)
+        had, amount = drawn.get(turn.worker, 0), amounts.get(turn.action)
+        share = 0 if amount is None or amount > quota else amount
         if turn.name == 'alloc':
-            had = drawn[turn.worker] = had + amounts[turn.action]
+            had = drawn[turn.worker] = had + share
             if had > quota:
                 raise Contradicts(turn, 'K', quota, 'worker %d has drawn %d on its thread' % (turn.worker, had))
-        if turn.name == 'quota' and turn.action in amounts and had + amounts[turn.action] <= quota:
-            raise Contradicts(turn, 'K', quota, '%d after %d is within it' % (amounts[turn.action], had))
+            if amount > quota and (names.get(turn.action - 2), names.get(turn.action - 1)) != ('fork', 'join'):
+                raise Contradicts(turn, 'K', quota, '%d is above it, and waits for no dummy threads' % amount)
+        if turn.name == 'quota' and amount is not None and had + share <= quota:
+            raise Contradicts(turn, 'K', quota, '%d after %d is within it' % (share, had))
+        if turn.name in KINDS:
+            names[turn.action] = turn.name
         if turn.name in LETS_GO:
             drawn.pop(turn.worker, None)
 

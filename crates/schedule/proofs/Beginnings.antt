@@ -25,6 +25,7 @@ use Rattle.order.proofs.Lawful.{Lawful, lawful}
 use Rattle.filling.specs.Filled.{filledOut, fillPass}
 use Rattle.filling.proofs.FilledTable.{room-exactly}
 use Rattle.filling.proofs.FilledTable.{Fits as Room}
+use Rattle.filling.proofs.Runs.{Runs, fill-runs}
 use Rattle.schedule.proofs.Stores.{Fits, setting-fits}
 
 -- ---- 20, 21 and 44
@@ -63,6 +64,16 @@ answer-refused (At y) r x = ((λ h. cc), (λ h. cc))
 module _ (s : List ℕ) (p K : ℕ) where
   abbrev found : Found
   found = firstFound (passes s ++ beginPasses (tableOf s) p K)
+
+  -- where none of the checks applies, the filled-out table is all that the requests say of it
+  pub silent-runs : found ≡ Nothing → Rules s × Fits p K × Runs s K
+  silent-runs e =
+      let T : Table = tableOf s in
+      let b = orElse-nothing (firstFound (passes s)) (firstFound (beginPasses T p K)) .0 (rw (firstFound-append (passes s) (beginPasses T p K)) at e) in
+      let d = orElse-nothing (firstFound (settingPasses p K)) (firstFound (fillPass T K ∷ [])) .0 (rw (firstFound-append (settingPasses p K) (fillPass T K ∷ [])) at (b .1)) in
+      let r : Rules s = passes-rules s .0 (b .0) in
+      let f : Fits p K = setting-fits p K (d .0) in
+      (r, f, fill-runs s K r (f .some-quota) (firstFound-nothing (fillPass T K ∷ []) .0 (d .1) .0))
 
   -- of a table that keeps every rule
   fits-so : Rules s → (firstFound (beginPasses (tableOf s) p K) ≡ Nothing) ↔ (Fits p K × Room (tableOf s) K)

@@ -13,3 +13,4 @@ pub mod Reading
 pub mod Passed
 pub mod Laying
 pub mod OnParts
+pub mod Fillings

@@ -3,8 +3,8 @@ use Prim.Native.Nat.{ℕ, _-_, _^_}
 use mathlib.Core.List.{List, _++_}
 use mathlib.Core.Bool.{Bool, not, _&&_}
 use lib.ListN.{length, getD, replicate}
-use lib.Dec.{ltb, eqb}
-use Rattle.table.specs.Sum.{pick}
+use lib.Dec.{ltb, leb, eqb}
+use Rattle.table.specs.Sum.{pick, anyBelow}
 use Rattle.table.specs.Format.{Table, tableOf}
 use Rattle.table.specs.Pass.{firstFound}
 use Rattle.table.specs.Checks.{maxThreads, passes}
@@ -14,7 +14,10 @@ use Rattle.schedule.specs.declared.Run.{Run}
 use Rattle.schedule.specs.Machine.{parentOf, nobody}
 use Rattle.schedule.specs.Links.{Links, listOf, laid}
 use Rattle.schedule.specs.Record.{maxWorkers, tableIn}
-use Rattle.order.specs.Words.{filled, allBelow, sameList}
+use Rattle.order.specs.Words.{filled, allBelow, isNothing, sameList}
+use Rattle.filling.specs.declared.Filling.{Filling}
+use Rattle.filling.specs.Filled.{big, filledOut}
+use Rattle.filling.specs.Filling.{filledInto}
 use Rattle.schedule.specs.Begin.{beginPasses}
 use Rattle.order.specs.Firsts.{firsts}
 use Rattle.schedule.specs.Sound.{commonSound, listed, sameLinks, sound}
@@ -33,9 +36,25 @@ parentsIf q T = pick q (parentsIn T) (replicate maxThreads 0)
 abbrev pub nextIf : Bool → Table → List ℕ
 nextIf q T = pick q (filled maxThreads (firsts (T .first) 0 (T .threads))) (replicate maxThreads 0)
 
--- what the checks of a beginning find: the table's own, then 20, 21, 22
+-- what the checks of a beginning find: the table's own, then 20, 21, 44
 abbrev pub beginFound : List ℕ → ℕ → ℕ → Found
 beginFound s p K = firstFound (passes s ++ beginPasses (tableOf s) p K)
+
+-- and how many bytes the filled-out table has, 0 where a check applies or nothing is above K: then the table as given runs
+unfoldable pub beginFilling : List ℕ → ℕ → ℕ → Filling
+beginFilling s p K =
+    record {
+      found = beginFound s p K;
+      bytes = pick (isNothing (beginFound s p K) && anyBelow (big (tableOf s) K) (tableOf s .actions)) (length (filledOut s K)) 0;
+    }
+
+-- no check applies, and what is to be filled out has room
+abbrev pub begins : List ℕ → ℕ → ℕ → ℕ → Bool
+begins s p K room = isNothing (beginFound s p K) && leb (beginFilling s p K .bytes) room
+
+-- the lent buffer: as it was where a check applies
+abbrev pub begunInto : List ℕ → ℕ → ℕ → List ℕ → List ℕ
+begunInto s p K out = pick (isNothing (beginFound s p K)) (filledInto s K out) out
 
 -- of a record: 32, "record not sound and not blank"; the parents where it is sound
 unfoldable pub tested : Run → Tested

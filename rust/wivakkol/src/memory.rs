@@ -85,11 +85,12 @@ impl Memory {
         Memory { sums: [0; 1027], numbers: [0; 18], words: [0; 6163], bytes: [0; 1040] }
     }
 
-    pub(crate) fn begin(&mut self, work: &mut Work, table: &[u8], p: u32, quota: u32) -> (u32, [u64; 1]) {
-        let mut row = [0; 1];
+    pub(crate) fn begin(&mut self, work: &mut Work, table: &[u8], filled: &mut [u8], p: u32, quota: u32) -> (u32, [u64; 2]) {
+        let mut row = [0; 2];
         let parts = self.parts();
-        // SAFETY: "`table` points to `length` bytes that may be read", since both are of one slice, whose pointer is never NULL; row and parts are references to arrays of their sizes,
-        // of a local, of one `&mut self`, cut without overlap, and of one `&mut Work`, so that nothing overlaps and nobody else touches them. The content of the memory does not matter.
+        // SAFETY: "`table` points to `length` bytes that may be read", since both are of one slice, whose pointer is never NULL; "`filled` points to `room` bytes that may be written", likewise;
+        // row and parts are references to arrays of their sizes, of a local, of one `&mut self`, cut without overlap, and of one `&mut Work`, so that nothing overlaps and nobody else touches
+        // them. The content of the memory does not matter.
         let number = unsafe {
             raw::wivakkol_begin_on(
                 table.as_ptr(),
@@ -113,6 +114,8 @@ impl Memory {
                 &mut row,
                 &mut work.rises,
                 &mut work.falls,
+                filled.as_mut_ptr(),
+                filled.len(),
             )
         };
         (number, row)

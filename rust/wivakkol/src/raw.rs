@@ -44,9 +44,11 @@ extern "C" {
         quotas: &mut [u32; 16],
         heads: &mut [u16; 3],
         totals: &mut [u64; 3],
-        row: &mut [u64; 1],
+        row: &mut [u64; 2],
         rises: &mut [u64; 1024],
         falls: &mut [u64; 1024],
+        filled: *mut u8,
+        room: usize,
     ) -> u32;
 
     pub fn wivakkol_open_on(

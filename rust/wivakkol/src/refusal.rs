@@ -30,7 +30,7 @@ impl Refusal {
     pub fn kind_of_place(&self) -> Place {
         match self.number {
             4 => Place::Entry,
-            5..=10 | 22 => Place::Action,
+            5..=10 | 44 => Place::Action,
             11 => Place::Thread,
             _ => Place::Nothing,
         }
@@ -52,13 +52,14 @@ impl Refusal {
             11 => "the thread, not the root, is forked nowhere",
             20 => "p not 1 to 16",
             21 => "K not 1 to 16,777,215",
-            22 => "an alloc above K",
             30 => "the worker is not below p",
             31 => "the root has ended",
             32 => "the memory has no sound record of the table, or 2^64 − 1 turns are taken",
             41 => "b not 1 to 65,535",
             42 => "no quota from the largest alloc on keeps the bound within M",
             43 => "more than 999,999 turns are taken",
+            44 => "the filled-out table would pass 1,024 threads or 8,192 actions",
+            61 => "too little room for the filled-out table",
             _ => "no number of these calls",
         }
     }

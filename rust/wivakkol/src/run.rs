@@ -86,14 +86,24 @@ pub struct Run<'t> {
 }
 
 impl<'t> Run<'t> {
-    /// Begins a run of `p` workers with quota `quota` in this memory, whatever it held. Refused with 1 to 11 (the table's own), 20, 21 or 22; the memory is then all 0.
+    /// Begins a run of `p` workers with quota `quota` in this memory, whatever it held. Refused with 1 to 11 (the table's own), 20, 21, 44, or 61 where an alloc is above the quota, for which
+    /// [`begin_filling`](Run::begin_filling) has room; the memory is then all 0.
     pub fn begin(table: &'t [u8], memory: &'t mut Memory, work: &mut Work, p: u32, quota: u32) -> Result<Run<'t>, Refusal> {
-        let (number, [place]) = memory.begin(work, table, p, quota);
+        Run::begin_filling(table, &mut [], memory, work, p, quota)
+    }
+
+    /// Begins a run whose table may have allocs above the quota: where it has, the filled-out table is put at the start of `filled`, and that is the one that runs ([`table`](Run::table)). Refused
+    /// with 1 to 11, 20, 21, 44 (the filled-out table would pass a limit) or 61 (`filled` is too short for it; never with [`TABLE_MOST`](crate::TABLE_MOST) bytes); `filled` is then as it was,
+    /// and the memory all 0. To go on with such a run later, keep the bytes of its table: [`open`](Run::open) is given them.
+    pub fn begin_filling(table: &'t [u8], filled: &'t mut [u8], memory: &'t mut Memory, work: &mut Work, p: u32, quota: u32) -> Result<Run<'t>, Refusal> {
+        let (number, [place, bytes]) = memory.begin(work, table, filled, p, quota);
         Refusal::unless_zero(number, place)?;
+        let filled: &'t [u8] = filled;
+        let table = if bytes == 0 { table } else { &filled[..bytes as usize] };
         Ok(Run { table, memory })
     }
 
-    /// Goes on with a run that was put away, in the memory that it was brought back to. Refused with 32, and the memory left as it was, where that has neither a sound record of this table nor
+    /// Goes on with a run that was put away, in the memory that it was brought back to, with the table that ran. Refused with 32, and the memory left as it was, where that has neither a sound record of this table nor
     /// the blank one, all 0: a run opened from the latter has no workers, and every turn of it is refused with 30.
     ///
     /// The limits on memory and on threads are promised where the run was begun from this table and the memory is as calls left it. A sound record that was made up may hold more than any run
@@ -136,7 +146,7 @@ impl<'t> Run<'t> {
         report(self.memory.rounds(self.table, limit))
     }
 
-    /// The table's bytes.
+    /// The bytes of the table that runs: those as given, or of the filled-out table.
     pub fn table(&self) -> &'t [u8] {
         self.table
     }

@@ -10,15 +10,14 @@ use lib.Dec.{eqb}
 use borrow.Author.Tests.{ltb-true, not-false}
 use Rattle.table.specs.Sum.{pick}
 use Rattle.table.specs.Format.{Table, tableOf}
-use Rattle.table.specs.Pass.{refusal, tryPass, firstFound, tryAt}
+use Rattle.table.specs.Pass.{refusal, firstFound, tryAt}
 use Rattle.table.specs.Checks.{maxThreads, passes}
 use Rattle.table.specs.Rules.{Rules}
 use Rattle.table.specs.declared.Found.{Found}
 use Rattle.table.specs.declared.Found.the-variants.{Nothing, At}
 use Rattle.table.specs.declared.Refusal.{Refusal}
 use Rattle.table.proofs.Tests.{no-way}
-use Rattle.table.proofs.Trying.{orElse-nothing, tryAt-nothing}
-use Rattle.table.proofs.Passes.{firstFound-append, firstFound-nothing, passes-rules}
+use Rattle.table.proofs.Trying.{tryAt-nothing}
 use Rattle.schedule.specs.declared.Run.{Run}
 use Rattle.schedule.specs.declared.Begun.{Begun}
 use Rattle.schedule.specs.declared.Beginning.the-variants.{Begun as started}
@@ -30,8 +29,8 @@ use Rattle.schedule.specs.Machine.{State}
 use Rattle.schedule.specs.Record.{maxBytes, stateOf, tableIn}
 use Rattle.order.specs.Words.{filled}
 use Rattle.schedule.specs.Begin.{begin, begunAs, settingPasses, beginPasses, startState, startRun}
-use Rattle.filling.specs.Filled.{filledOut, fillPass}
-use Rattle.filling.proofs.Runs.{Runs, fill-runs}
+use Rattle.filling.specs.Filled.{filledOut}
+use Rattle.filling.proofs.Runs.{Runs}
 use Rattle.order.specs.Firsts.{firsts}
 use Rattle.schedule.specs.Links.{walk, laid}
 use Rattle.schedule.specs.Sound.{SoundState, Steady, Sound}
@@ -45,7 +44,8 @@ use Rattle.schedule.proofs.Sound.Facts.{Facts, sound-facts}
 use Rattle.schedule.proofs.Preservation.Starts.{start-facts}
 use Rattle.schedule.proofs.Runs.Rows.{rowState-append, front-workers}
 use Rattle.order.proofs.Lists.{filled-front, firsts-take}
-use Rattle.schedule.proofs.Stores.{Fits, setting-fits, laid-back, moved-steady, moved-state}
+use Rattle.schedule.proofs.Beginnings.{settings-exactly, silent-runs}
+use Rattle.schedule.proofs.Stores.{Fits, laid-back, moved-steady, moved-state}
 
 -- ---- what a beginning gives
 
@@ -60,23 +60,19 @@ pub record Started (s : List ℕ) (p K : ℕ) (r : Run) : Type 0 where
 
 -- no check applies, and the record is the start's
 begin-accepted : (s : List ℕ) (p K : ℕ) (r : Run) → begin s p K ≡ record { answer = started; run = r }
-    → (r ≡ startRun (filledOut s K) p K) × Runs s K × (firstFound (settingPasses p K) ≡ Nothing)
+    → (r ≡ startRun (filledOut s K) p K) × Runs s K × Fits p K
 unfolding begin
 begin-accepted s p K r e = go (firstFound (passes s ++ beginPasses (tableOf s) p K)) refl e
   where
     go : (f : Found) → firstFound (passes s ++ beginPasses (tableOf s) p K) ≡ f → begunAs f (startRun (filledOut s K) p K) ≡ record { answer = started; run = r }
-        → (r ≡ startRun (filledOut s K) p K) × Runs s K × (firstFound (settingPasses p K) ≡ Nothing)
-    go Nothing n q =
-        let b = orElse-nothing (firstFound (passes s)) (firstFound (beginPasses (tableOf s) p K)) .0 (rw (firstFound-append (passes s) (beginPasses (tableOf s) p K)) at n) in
-        let d = orElse-nothing (firstFound (settingPasses p K)) (firstFound (fillPass (tableOf s) K ∷ [])) .0 (rw (firstFound-append (settingPasses p K) (fillPass (tableOf s) K ∷ [])) at (b .1)) in
-        let silent : tryPass (fillPass (tableOf s) K) ≡ Nothing = firstFound-nothing (fillPass (tableOf s) K ∷ []) .0 (d .1) .0 in
-        (sym (ap (λ (x : Begun). x .run) q), fill-runs s K (passes-rules s .0 (b .0)) (setting-fits p K (d .0) .some-quota) silent, d .0)
+        → (r ≡ startRun (filledOut s K) p K) × Runs s K × Fits p K
+    go Nothing n q = let (a, f, x) = silent-runs s p K n in (sym (ap (λ (x : Begun). x .run) q), x, f)
     go (At x) n q = let z = ap (λ (y : Begun). y .answer) q in no-way (cc)
 
 pub begin-started : (s : List ℕ) (p K : ℕ) (r : Run) → begin s p K ≡ record { answer = started; run = r } → Started s p K r
 begin-started s p K r e =
     let b = begin-accepted s p K r e in
-    let f : Fits p K = setting-fits p K (b .2) in
+    let f : Fits p K = b .2 in
     record {
       is-start = b .0;
       filling = b .1;
@@ -116,7 +112,7 @@ start-turns s p K = refl
 pub begin-sound : (s : List ℕ) (p K : ℕ) (r : Run) → begin s p K ≡ record { answer = started; run = r } → Sound r
 begin-sound s p K r e =
     let b = begin-accepted s p K r e in
-    rw (b .0) (record { steady = start-steady (filledOut s K) p K (b .1 .rules) (b .2); turns = omega (arith, start-turns (filledOut s K) p K) })
+    rw (b .0) (record { steady = start-steady (filledOut s K) p K (b .1 .rules) (settings-exactly p K .1 (b .2)); turns = omega (arith, start-turns (filledOut s K) p K) })
 
 -- ---- what a list of calls leaves
 

@@ -2,7 +2,7 @@
 use crate::model::Action::{self, *};
 use crate::model::{bytes, Table};
 use std::sync::Mutex;
-use wivakkol::{Facts, Memory, Preview, Refusal, Reply, Report, Run, Status, Stopped, TablesWork, Turn, Work};
+use wivakkol::{Facts, Memory, Preview, Refusal, Reply, Report, Run, Status, Stopped, TablesWork, Turn, Work, TABLE_MOST};
 
 const LISTING: &str = "\
 1 0 0 0 fork 0
@@ -72,11 +72,33 @@ fn listing_of_e() {
     assert_eq!(table, std::fs::read("../../examples/e.table").unwrap());
 }
 
+/// E with K 5: trees of two dummies in front of both allocs, 44 turns of two workers in rounds. The refused beginning in too short a buffer leaves it as it was.
+#[test]
+fn filled_out() {
+    let (table, mut memory, mut filled) = (bytes(&e()), Memory::new(), [0xa5; 176]);
+    let mut run = Run::begin_filling(&table, &mut filled, &mut memory, &mut Work::new(), 2, 5).unwrap();
+    let facts = check(run.table()).unwrap();
+    assert_eq!(facts, Facts { threads: 9, actions: 34, peak: 6, depth: 17, nested: 4 });
+    assert_eq!(run.rounds(u32::MAX), Ok(Report::Finished { turns: 44 }));
+    assert_eq!(run.highest(), 6);
+
+    let mut short = [0xa5; 175];
+    let refusal = Run::begin_filling(&table, &mut short, &mut memory, &mut Work::new(), 2, 5).err();
+    assert_eq!((refusal, short), (Some(refused(61, 0)), [0xa5; 175]));
+    assert_eq!(memory.to_bytes(), Memory::new().to_bytes());
+
+    let run = Run::begin_filling(&table, &mut filled, &mut memory, &mut Work::new(), 2, 6).unwrap();
+    assert_eq!(run.table(), table);
+    let mut most = [0; TABLE_MOST];
+    let largest = bytes(&vec![[vec![Work; 4609], vec![Alloc(512), End]].concat()]);
+    let run = Run::begin_filling(&largest, &mut most, &mut memory, &mut Work::new(), 1, 1).unwrap();
+    assert_eq!(run.table().len(), TABLE_MOST);
+}
+
 #[test]
 fn marked_cases() {
     let table = bytes(&e());
     assert_eq!(check(&table), Ok(Facts { threads: 3, actions: 12, peak: 6, depth: 8, nested: 2 }));
-    assert_eq!(fault(&table, 2, 5), Some(refused(22, 5)));
 
     let mut memory = Memory::new();
     let mut run = Run::begin(&table, &mut memory, &mut Work::new(), 1, 6).unwrap();
@@ -184,6 +206,8 @@ fn refusals_of_a_beginning_and_a_quota() {
     for quota in [0, 1 << 24, u32::MAX] {
         assert_eq!(fault(&table, 2, quota), Some(refused(21, 0)));
     }
+    assert_eq!(fault(&table, 2, 5), Some(refused(61, 0)));
+    assert_eq!(fault(&bytes(&vec![vec![Alloc(513), End]]), 1, 1), Some(refused(44, 0)));
     assert_eq!(fault(&[], 0, 0), Some(refused(1, 0)));
     assert_eq!(largest_quota(&table, 2, 1, 55), Ok(7));
     assert_eq!(largest_quota(&table, 2, 1, 54), Ok(6));
@@ -301,7 +325,7 @@ fn previews_and_lines() {
 
 #[test]
 fn texts() {
-    assert_eq!(refused(22, 5).to_string(), "refused 22 at action 5: an alloc above K");
+    assert_eq!(refused(44, 5).to_string(), "refused 44 at action 5: the filled-out table would pass 1,024 threads or 8,192 actions");
     assert_eq!(refused(11, 1).to_string(), "refused 11 at thread 1: the thread, not the root, is forked nowhere");
     assert_eq!(refused(30, 0).to_string(), "refused 30: the worker is not below p");
     let stopped = Stopped { refusal: refused(30, 0), turns: 2 };
@@ -312,7 +336,7 @@ fn texts() {
 #[test]
 fn texts_are_of_the_reference() {
     let reference = std::fs::read_to_string("../../docs/REFERENCE.md").unwrap();
-    for number in [1, 2, 3, 4, 5, 6, 7, 8, 9, 10, 11, 20, 21, 22, 30, 31, 41, 42, 43] {
+    for number in [1, 2, 3, 4, 5, 6, 7, 8, 9, 10, 11, 20, 21, 30, 31, 41, 42, 43, 44, 61] {
         for part in refused(number, 0).meaning().split("; at entry n, ") {
             let row = |line: &str| line.starts_with(&format!("| {number} |")) && line.contains(part);
             assert!(reference.lines().any(row), "{number}: {part}");

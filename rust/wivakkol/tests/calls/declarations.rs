@@ -20,10 +20,11 @@ fn functions(text: &str, start: &str) -> BTreeMap<String, Vec<String>> {
 }
 
 fn as_pointers(parameters: &[String]) -> Vec<String> {
-    let pair = |name: &str, length: &str| vec![format!("{name}: *const u8"), format!("{length}: usize")];
+    let pair = |pointer: &str, length: &str| vec![pointer.to_string(), format!("{length}: usize")];
     let as_pointer = |x: &String| match x.as_str() {
-        "table: &[u8]" => pair("table", "length"),
-        "order: &[u8]" => pair("order", "turns"),
+        "table: &[u8]" => pair("table: *const u8", "length"),
+        "order: &[u8]" => pair("order: *const u8", "turns"),
+        "filled: &mut [u8]" => pair("filled: *mut u8", "room"),
         _ => vec![x.clone()],
     };
     parameters.iter().flat_map(as_pointer).collect()
@@ -61,6 +62,8 @@ fn handed(text: &str, call: &str) -> Vec<String> {
         "table.len()" => "length".to_string(),
         "order.as_ptr()" => "order".to_string(),
         "order.len()" => "turns".to_string(),
+        "filled.as_mut_ptr()" => "filled".to_string(),
+        "filled.len()" => "room".to_string(),
         "&mut work.parents" => "seen".to_string(),
         other => {
             let place = other.trim_start_matches("&mut ").trim_end_matches("()");

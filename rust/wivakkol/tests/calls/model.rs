@@ -108,6 +108,42 @@ fn nested(table: &Table, t: u16) -> u16 {
     1 + children.map(|c| nested(table, c)).max().unwrap_or(0)
 }
 
+/// The filled-out table (N6).
+pub fn filled(table: &Table, quota: u32) -> Table {
+    let mut out = table.clone();
+    fill(table, 0, quota, &mut out);
+    out
+}
+
+/// "an alloc of a above K gets a fork and a join of a dummy tree in front of it", in serial order.
+fn fill(table: &Table, t: u16, quota: u32, out: &mut Table) {
+    let mut body = Vec::new();
+    for action in &table[usize::from(t)] {
+        match *action {
+            Fork(c) => fill(table, c, quota, out),
+            Alloc(x) if x > quota => {
+                let root = tree(x.div_ceil(quota), out);
+                body.extend([Fork(root), Join(root)]);
+            }
+            _ => {}
+        }
+        body.push(*action);
+    }
+    out[usize::from(t)] = body;
+}
+
+/// A tree of d dummies at the end of a table; its root.
+fn tree(d: u32, out: &mut Table) -> u16 {
+    let root = out.len();
+    out.push(vec![Work, End]);
+    if d > 1 {
+        let one = tree(d.div_ceil(2), out);
+        let other = tree(d / 2, out);
+        out[root] = vec![Fork(one), Fork(other), Join(other), Join(one), End];
+    }
+    root as u16
+}
+
 #[derive(Clone, Copy, Debug, PartialEq, Eq)]
 pub enum Status {
     Unborn,
@@ -159,6 +195,15 @@ impl<'a> Machine<'a> {
         self.status[0] == Status::Ended
     }
 
+    /// "The big alloc takes nothing from the quota" (N6).
+    fn drawn(&self, x: u32) -> u32 {
+        if x > self.quota {
+            0
+        } else {
+            x
+        }
+    }
+
     /// A turn of worker w, and how many threads stood left of one that it took.
     pub fn turn(&mut self, w: usize) -> (Said, usize) {
         self.turns += 1;
@@ -185,7 +230,7 @@ impl<'a> Machine<'a> {
         let done = Said::Done { thread, at };
         let mut kept = worker;
         match self.table[t][at] {
-            Alloc(x) if x > worker.quota => {
+            Alloc(x) if self.drawn(x) > worker.quota => {
                 self.status[t] = Status::Ready;
                 return Said::Quota { thread, wanted: x };
             }
@@ -206,7 +251,7 @@ impl<'a> Machine<'a> {
                 return done;
             }
             Alloc(x) => {
-                kept.quota -= x;
+                kept.quota -= self.drawn(x);
                 self.amounts[t] += u64::from(x);
                 self.held += u64::from(x);
                 self.highest = self.highest.max(self.held);

@@ -1,6 +1,6 @@
 //! Random tables; single turns, runs over lists and runs in rounds, mixed, compared with the model after every call.
-use crate::model::{self, bytes, facts, Draw, Machine, Said, Table};
-use wivakkol::{check, Memory, Reply, Report, Run, Status, TablesWork, Work};
+use crate::model::{self, bytes, facts, filled, Draw, Machine, Said, Table};
+use wivakkol::{check, Memory, Refusal, Reply, Report, Run, Status, TablesWork, Work, TABLE_MOST};
 
 /// The first action of each thread.
 fn firsts(table: &Table) -> Vec<usize> {
@@ -144,6 +144,44 @@ fn all_calls_mixed() {
         finished += u32::from(run.ended());
     }
     assert_eq!(finished, 300);
+}
+
+/// Quotas below the allocs: the filled-out table runs, in a buffer of just its size, and no smaller one; both bounds are kept with its facts.
+#[test]
+fn filled_out() {
+    let (mut draw, mut filled_out, mut too_large) = (Draw(24), 0, 0);
+    for _ in 0..200 {
+        let (table, p, _) = drawn(&mut draw);
+        let quota = 1 + draw.below(70) as u32;
+        let (data, out, mut memory, mut room) = (bytes(&table), filled(&table, quota), Memory::new(), [0; TABLE_MOST]);
+        let (wanted, size) = (bytes(&out), if out == table { 0 } else { bytes(&out).len() });
+        if out.len() > 1024 || out.concat().len() > 8192 {
+            let refusal = Run::begin_filling(&data, &mut room, &mut memory, &mut Work::new(), p, quota).err();
+            assert_eq!((refusal.map(|x| x.number), room), (Some(44), [0; TABLE_MOST]));
+            too_large += 1;
+            continue;
+        }
+        if size > 0 {
+            let refusal = Run::begin_filling(&data, &mut room[..size - 1], &mut memory, &mut Work::new(), p, quota).err();
+            assert_eq!((refusal, room), (Some(Refusal { number: 61, place: 0 }), [0; TABLE_MOST]));
+            filled_out += 1;
+        }
+        let mut run = Run::begin_filling(&data, &mut room[..size], &mut memory, &mut Work::new(), p, quota).unwrap();
+        assert_eq!(run.table(), wanted);
+        let (mut machine, firsts, (peak, depth, nested)) = (Machine::begin(&out, p as usize, quota), firsts(&out), facts(&out));
+        assert_eq!(peak, facts(&table).0);
+        let premature = u64::from(p - 1) * u64::from(depth - 1);
+        for i in 0..300 {
+            if machine.ended() {
+                break;
+            }
+            assert_eq!(run.turn(i % p).unwrap().reply, reply(machine.turn((i % p) as usize).0, &firsts));
+            same(&run, &machine, &firsts);
+            assert!(run.highest() <= peak + u64::from(quota) * premature);
+            assert!(run.threads().count() as u64 <= u64::from(nested) + premature);
+        }
+    }
+    assert!(filled_out > 50 && too_large > 5, "{filled_out} {too_large}");
 }
 
 /// The facts are the model's, and a run in rounds keeps both bounds with b 1.
