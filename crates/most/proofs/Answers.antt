@@ -1,11 +1,8 @@
 -- The answer, check by check, and that its values are those that the checks give.
 use mathlib.Core.Path.{_≡_, refl, sym, ap, _∙_}
-use Prim.Native.Nat.{ℕ, _+_, _-_, _*_, _≤_, _<_}
-use native.Mathlib.Nat.{mul-le-mul}
-use native.Mathlib.Omega.{arith}
-use mathlib.Core.List.{List, [], _∷_, _++_}
-use mathlib.Core.Bool.{Bool, true, false}
-use Rattle.table.specs.Sum.{pick}
+use Prim.Native.Nat.{ℕ, _+_, _-_, _*_, _≤_}
+use mathlib.Core.List.{List, [], _∷_}
+use mathlib.Core.Bool.{true, false}
 use Rattle.table.specs.Format.{Table, tableOf}
 use Rattle.table.specs.Checks.{outside, passes}
 use Rattle.table.specs.Pass.{orElse, refusal, tryAt, tryFrom, tryPass, firstFound}
@@ -14,9 +11,8 @@ use Rattle.table.specs.declared.Refusal.{Refusal}
 use Rattle.table.specs.declared.Found.{Found}
 use Rattle.table.specs.declared.Found.the-variants.{Nothing, At}
 use Rattle.table.proofs.Sizes.{inside}
-use Rattle.table.proofs.Tests.{no-way}
 use Rattle.table.proofs.Trying.{orElse-last}
-use Rattle.table.proofs.Passes.{firstFound-append, passes-rules}
+use Rattle.table.proofs.Passes.{firstFound-append}
 use Rattle.order.specs.Turns.{turnsOf}
 use Rattle.filling.specs.declared.Total.{Total}
 use Rattle.filling.specs.Filled.{filledOut, threadsTo, actionsTo, fillPass}

@@ -1,2 +1,3 @@
 pub mod TurnCounts
 pub mod Answers
+pub mod Serves

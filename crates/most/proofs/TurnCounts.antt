@@ -1,7 +1,6 @@
--- m + A + J of the table that runs, from the counts of its threads and actions; at most twice its actions.
-use mathlib.Core.Path.{_≡_, refl, ap, _∙_}
-use Prim.Native.Nat.{ℕ, zero, suc, _+_, _-_, _*_, _≤_, _<_}
-use native.Mathlib.Nat.{mul-le-mul}
+-- m + A + J action by action, at most twice the actions; of the table that runs, from the counts of its threads and actions.
+use mathlib.Core.Path.{_≡_, refl}
+use Prim.Native.Nat.{ℕ, zero, suc, _+_, _-_, _*_, _≤_}
 use native.Mathlib.Omega.{arith}
 use mathlib.Core.List.{List}
 use mathlib.Core.Bool.{Bool, true, false}
@@ -15,11 +14,11 @@ use Rattle.table.specs.declared.Found.the-variants.{Nothing}
 use Rattle.table.proofs.Walks.{is-code}
 use Rattle.order.specs.Turns.{turnsOf}
 use Rattle.order.proofs.Lawful.{Lawful, lawful}
-use Rattle.order.proofs.Totals.{sumTo-add, sumTo-bound}
+use Rattle.order.proofs.Totals.{sumTo-bound}
 use Rattle.filling.specs.Filled.{filledOut, threadsTo, actionsTo, fillPass}
 use Rattle.filling.proofs.FilledTable.{Fits, room-exactly}
 use Rattle.filling.proofs.Turns.{turns-counted}
-use Rattle.filling.proofs.Runs.{Runs, fill-runs}
+use Rattle.filling.proofs.Runs.{fill-runs}
 use Rattle.most.specs.Code.Steps.{turnsAt, Counted}
 
 -- ---- action by action
@@ -67,9 +66,6 @@ module _ (s : List ℕ) (K : ℕ) (rules : Rules s) (some : 1 ≤ K) (e : tryPas
   abbrev T : Table
   T = tableOf s
 
-  runs : Runs s K
-  runs = fill-runs s K rules some e
-
   pub counted : {n m : ℕ} → n ≡ threadsTo T K (T .actions) → m ≡ actionsTo T K (T .actions) → Counted T n m
   counted p q =
       let l : Lawful T = lawful s rules in
@@ -78,10 +74,4 @@ module _ (s : List ℕ) (K : ℕ) (rules : Rules s) (some : 1 ≤ K) (e : tryPas
 
   -- each new action counts 1, and each new thread is joined once
   pub turns-filled : {n m : ℕ} → n ≡ threadsTo T K (T .actions) → m ≡ actionsTo T K (T .actions) → turnsOf T + (n - T .threads) + (m - T .actions) ≡ turnsOf (tableOf (filledOut s K))
-  turns-filled p q = omega (arith, p, q, runs .turns, turns-counted T K some (T .actions))
-
-  pub filled-few : turnsOf (tableOf (filledOut s K)) ≤ 16384
-  filled-few =
-      let l : Lawful T = lawful s rules in
-      let f : Fits T K = room-exactly T K (l .few-threads) (l .few-actions) .0 e in
-      omega (arith, turns-few (tableOf (filledOut s K)), runs .actions, f .actions)
+  turns-filled p q = omega (arith, p, q, fill-runs s K rules some e .turns, turns-counted T K some (T .actions))
