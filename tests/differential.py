@@ -145,6 +145,8 @@ def filltable_input(rng):
 def maxturns_input(rng):
     """The K and table of filltable, with p in front and a limit that is not looked at between."""
     data = filltable_input(rng)
+    if rng.random() < 0.2:
+        data = data[:3] + damaged(rng, data[3:])
     p = mostly(rng, rng.randint(1, 16), 0, 17, 255)
     whole = bytes([p]) + data[:3] + rng.randbytes(4) + data[3:]
     return mostly_whole(rng, whole, whole[:8])
