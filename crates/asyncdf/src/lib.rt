@@ -46,23 +46,32 @@ mod packing;
 mod runs;
 mod turns;
 
-// Beginning from a table's bytes, p and K: the table's own checks, then 20 to 22.
+// Beginning from a table's bytes, p and K: the table's own checks, then 20, 21 and 44. The record is of the filled-out table, which is the table as given where nothing is above K.
 pub fn begin(bytes: &[u8], p: u8, quota: u32) -> Begun
     ensures { λ r. ⌜ r ≡ beginOf (now (bytes .entry)) p quota ⌝ }
     ensures { λ r. ⌜ beginningValues (r .answer) ≡ beginValues (now (bytes .entry)) p quota ⌝ }
 {
     let mut next = [0u16; 1024];
     let mut parents = [0u16; 1024];
-    let found = accept(bytes, p, quota, &mut next, &mut parents);
+    let mut filled = [0u8; 36868];
+    let filling = accept(bytes, p, quota, &mut filled[..], &mut next, &mut parents);
+    let found = filling.found;
     if let Found::At(x) = found {
         return Begun {
             answer: Beginning::Refused(x),
             run: blank(),
         };
     }
+    let k = filling.bytes;
+    if k == 0 {
+        return Begun {
+            answer: Beginning::Begun,
+            run: start(bytes, next, p, quota),
+        };
+    }
     Begun {
         answer: Beginning::Begun,
-        run: start(bytes, next, p, quota),
+        run: start(&filled[..k], next, p, quota),
     }
 }
 

@@ -1,9 +1,9 @@
 -- The limits for the running code, by value. A history is a list of calls, each on the record that the last one left, of which nothing is known but what the promises of the public functions say:
 -- their own `ensures`, as the check reads it (`Learnt`), of the arguments and the answer. `history-is`: the record, the answers and the row of turns are those of the definitions.
 -- `history-exists`: every list of calls has one. `code-limit` and `code-threads`: and so the memory limit and the limit on the threads in the list (crates/bounds/proofs, Limit and
--- ThreadLimit) hold of them.
+-- ThreadLimit) hold of them, with the filled-out table (N6); `code-turns` and `code-finishes`: and how many turns there are at most (N8, Most).
 use mathlib.Core.Path.{_≡_, refl, sym, ap, ap₂, subst, _∙_}
-use Prim.Native.Nat.{ℕ, _%_, _≤_}
+use Prim.Native.Nat.{ℕ, _*_, _%_, _≤_}
 use mathlib.Core.List.{List, [], _∷_, _++_}
 use lib.ListN.{take}
 use contract.Lifetimes.{Lfts}
@@ -16,7 +16,12 @@ use Rattle.schedule.specs.declared.Begun.{Begun}
 use Rattle.schedule.specs.declared.Beginning.the-variants.{Begun as started}
 use Rattle.schedule.specs.declared.Turned.{Turned}
 use Rattle.schedule.specs.declared.Ran.{Ran}
-use Rattle.schedule.specs.Begin.{begin}
+use Rattle.schedule.specs.declared.Report.the-variants.{Finished}
+use Rattle.filling.specs.Filled.{filledOut}
+use Rattle.schedule.specs.Begin.{begin, startState}
+use Rattle.schedule.specs.Memory.{replies}
+use Rattle.schedule.specs.Most.{notIdle}
+use Rattle.order.specs.Turns.{turnsOf}
 use Rattle.order.specs.Firsts.{firsts}
 use Rattle.schedule.specs.Turn.{turned}
 use Rattle.schedule.specs.Runs.{listRun, roundsRun}
@@ -24,6 +29,7 @@ use Rattle.schedule.specs.Calls.{Call, turn, overList, inRounds, turnsIn, turnR
 use Rattle.claims.specs.Answers.{Answer, turning, report, answerOf, answersOf}
 use Rattle.bounds.proofs.Limit.{MemoryLimit, memory-limit}
 use Rattle.bounds.proofs.ThreadLimit.{ThreadLimit, thread-limit}
+use Rattle.bounds.proofs.Most.{turns-most, rounds-finish}
 use Rattle.schedule.proofs.Runs.Values.{begin-values, turn-values, list-values, rounds-values}
 use Rattle.asyncdf.proofs.begin.Kinds as begin-kinds
 use Rattle.asyncdf.proofs.begin.Reads as begin-promise
@@ -176,11 +182,27 @@ history-holds {s} {p} {K} {b} h e {calls} {answers} {row} {r} t P given =
 -- least 1.
 pub code-limit : {s : List ℕ} {p K : ℕ} {b : Begun} → BeginSays s p K b → b .answer ≡ started
     → {calls : List Call} {answers : List Answer} {row : List ℕ} {r : Run} → History (b .run) calls answers row r
-    → (most : ℕ) → 1 ≤ most → MemoryLimit (tableOf s) p K most r row
-code-limit {s} {p} {K} {b} h e {calls} t most g = history-holds h e t (MemoryLimit (tableOf s) p K most) (λ f. memory-limit s p K (b .run) f most g calls)
+    → (most : ℕ) → 1 ≤ most → MemoryLimit (tableOf (filledOut s K)) p K most r row
+code-limit {s} {p} {K} {b} h e {calls} t most g = history-holds h e t (MemoryLimit (tableOf (filledOut s K)) p K most) (λ f. memory-limit s p K (b .run) f most g calls)
 
 -- N2: and so does the limit on the threads in the list
 pub code-threads : {s : List ℕ} {p K : ℕ} {b : Begun} → BeginSays s p K b → b .answer ≡ started
     → {calls : List Call} {answers : List Answer} {row : List ℕ} {r : Run} → History (b .run) calls answers row r
-    → (most : ℕ) → 1 ≤ most → ThreadLimit (tableOf s) p K most r row
-code-threads {s} {p} {K} {b} h e {calls} t most g = history-holds h e t (ThreadLimit (tableOf s) p K most) (λ f. thread-limit s p K (b .run) f most g calls)
+    → (most : ℕ) → 1 ≤ most → ThreadLimit (tableOf (filledOut s K)) p K most r row
+code-threads {s} {p} {K} {b} h e {calls} t most g = history-holds h e t (ThreadLimit (tableOf (filledOut s K)) p K most) (λ f. thread-limit s p K (b .run) f most g calls)
+
+-- N8: the turns of the row that aren't idle are at most m + A + J of the table as run
+pub code-turns : {s : List ℕ} {p K : ℕ} {b : Begun} → BeginSays s p K b → b .answer ≡ started
+    → {calls : List Call} {answers : List Answer} {row : List ℕ} {r : Run} → History (b .run) calls answers row r
+    → notIdle (replies (tableOf (filledOut s K)) K (startState (tableOf (filledOut s K))) row) ≤ turnsOf (tableOf (filledOut s K))
+code-turns {s} {p} {K} {b} h e {calls} t =
+    history-holds h e t (λ (r : Run) (row : List ℕ). notIdle (replies (tableOf (filledOut s K)) K (startState (tableOf (filledOut s K))) row) ≤ turnsOf (tableOf (filledOut s K)))
+    (λ f. turns-most s p K (b .run) f calls)
+
+-- and "from the beginning L = p × (m + A + J) turns in rounds always reply finished"
+pub code-finishes : {s : List ℕ} {p K : ℕ} {b : Begun} → BeginSays s p K b → b .answer ≡ started → {d : Ran} → RoundsSays (b .run) (p * turnsOf (tableOf (filledOut s K))) d
+    → (k : ℕ) × (d .report ≡ Finished k)
+code-finishes {s} {p} {K} {b} h e {d} k =
+    let f : begin s p K ≡ record { answer = started; run = b .run } = sym (begin-is h) ∙ (λ i. record { answer = e i; run = b .run }) in
+    let (n, q) = rounds-finish s p K (b .run) f in
+    (n, ap (λ (x : Ran). x .report) (rounds-is k) ∙ q)

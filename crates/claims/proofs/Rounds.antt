@@ -8,6 +8,7 @@ use Rattle.schedule.specs.declared.Run.{Run}
 use Rattle.schedule.specs.declared.Begun.{Begun}
 use Rattle.schedule.specs.declared.Beginning.the-variants.{Begun as started}
 use Rattle.schedule.specs.declared.Ran.{Ran}
+use Rattle.filling.specs.Filled.{filledOut}
 use Rattle.schedule.specs.Begin.{begin, startRun}
 use Rattle.schedule.specs.Runs.{roundsRun}
 use Rattle.schedule.specs.Calls.{Call, inRounds, afterCall, afterCalls}
@@ -27,12 +28,12 @@ use Rattle.claims.proofs.Board.{begin-given, lent-begin-given, quota-se
 -- ---- the limits
 
 -- By value: `asyncdf::begin` accepted, and `asyncdf::run_rounds` followed on its record, with any limit. Memory held and its highest are at most S1 + K·(p − 1)·(D − 1), and the threads in the
--- list at most N + (p − 1)·(D − 1).
+-- list at most N + (p − 1)·(D − 1), with D and N of the filled-out table.
 pub code-rounds-limit : {s : List ℕ} {p K : ℕ} {b : Begun} → by-value.BeginSays s p K b → b .answer ≡ started → {turns : ℕ} {d : Ran} → by-value.RoundsSays (b .run) turns d
-    → RoundsLimit (tableOf s) p K (d .run)
+    → RoundsLimit (tableOf (filledOut s K)) p K (d .run)
 code-rounds-limit {s} {p} {K} {b} h e {turns} {d} k =
     let f : begin s p K ≡ record { answer = started; run = b .run } = sym (by-value.begin-is h) ∙ (λ i. record { answer = e i; run = b .run }) in
-    subst (λ (x : Ran). RoundsLimit (tableOf s) p K (x .run)) (sym (by-value.rounds-is k)) (rounds-limit s p K (b .run) f turns)
+    subst (λ (x : Ran). RoundsLimit (tableOf (filledOut s K)) p K (x .run)) (sym (by-value.rounds-is k)) (rounds-limit s p K (b .run) f turns)
 
 -- the record that one run in rounds from C leaves is that of document 01's run
 lent-rounds-after : {s : List ℕ} {p K : ℕ} {a : Answer} → from-c.BeginSays s p K a → a .number ≡ 0 → {turns : ℕ} {d : Answer} → from-c.RoundsSays s turns (a .memory) d

@@ -1,4 +1,4 @@
--- What a beginning in lent memory leaves: more workers than there may be are refused as 17 are; and the memory of each case.
+-- What a beginning in lent memory leaves: more workers than there may be are refused as 17 are; the memory of each case; and when there is room.
 use mathlib.Core.Path.{_≡_, sym, ap, _∙_}
 use Prim.Native.Nat.{ℕ, min, _≤_, _<_}
 use native.Mathlib.Decide.{decLt}
@@ -6,9 +6,12 @@ use native.Mathlib.Nat.{min-eq-left, min-eq-right}
 use native.Mathlib.Omega.{arith}
 use mathlib.Core.Logic.{by-cases}
 use mathlib.Core.List.{List, [], _∷_}
-use borrow.Author.Tests.{lt-ltb, le-ltb}
+use mathlib.Core.Bool.{Bool, true, false, _&&_}
+use borrow.Author.Tests.{lt-ltb, le-ltb, le-leb, lt-leb}
 use lib.ListN.{replicate, set}
-use Rattle.table.specs.Format.{tableOf}
+use lib.Dec.{ltb, leb}
+use Rattle.table.specs.Sum.{pick}
+use Rattle.table.specs.Format.{Table, tableOf}
 use Rattle.table.specs.Pass.{refusal, firstFound, tryAt, tryFrom, tryPass}
 use Rattle.table.specs.Checks.{passes}
 use Rattle.table.specs.declared.Refusal.{Refusal}
@@ -17,12 +20,14 @@ use Rattle.table.specs.declared.Found.the-variants.{Nothing, At}
 use Rattle.table.proofs.Passes.{firstFound-append}
 use Rattle.schedule.specs.Machine.{ready}
 use Rattle.schedule.specs.Links.{noThread}
-use Rattle.schedule.specs.Begin.{settingPasses, allocPass, beginPasses}
+use Rattle.schedule.specs.Begin.{settingPasses, beginPasses}
+use Rattle.filling.specs.declared.Filling.{Filling}
+use Rattle.filling.specs.Filled.{filledOut, fillPass}
 use Rattle.order.specs.Words.{isNothing}
-use Rattle.soundness.specs.Tested.{parentsIf, nextIf, beginFound}
+use Rattle.soundness.specs.Tested.{parentsIf, nextIf, beginFound, beginFilling, begins, begunInto}
 use Rattle.array_machine.specs.Arrays.{arrays}
 use Rattle.run_memory.specs.Memory.{memory, answer}
-use Rattle.wivakkol.specs.Lent.{lentBegin}
+use Rattle.wivakkol.specs.Lent.{blankMemory, noRoom, lentBegin}
 
 module _ (s : List ℕ) (K : ℕ) where
   pub too-many : (p : ℕ) → 17 ≤ p → firstFound (settingPasses p K) ≡ At (refusal 20 0)
@@ -30,7 +35,7 @@ module _ (s : List ℕ) (K : ℕ) where
   too-many p h = rw (le-ltb p 1 (omega arith), lt-ltb 16 p (omega arith))
 
   too-many-begun : (p : ℕ) → 17 ≤ p → firstFound (beginPasses (tableOf s) p K) ≡ At (refusal 20 0)
-  too-many-begun p h = rw (firstFound-append (settingPasses p K) (allocPass (tableOf s) K ∷ []), too-many p h)
+  too-many-begun p h = rw (firstFound-append (settingPasses p K) (fillPass (tableOf s) K ∷ []), too-many p h)
 
   as-17 : (p : ℕ) → 17 ≤ p → beginFound s 17 K ≡ beginFound s p K
   as-17 p h =
@@ -52,31 +57,62 @@ Cleared holds threads quotas heads totals =
 abbrev Linked : ℕ → List ℕ → List ℕ → List ℕ → List ℕ → Type 0
 Linked x left right under over = ((left ≡ replicate 1024 x) × (right ≡ replicate 1024 x)) × ((under ≡ replicate 1024 x) × (over ≡ replicate 1024 x))
 
-asked : (s : List ℕ) (p K : ℕ) {w : ℕ} → w ≡ min p 17 → {f : Found} → f ≡ beginFound s w K → f ≡ beginFound s p K
-asked s p K h d = d ∙ ap (λ (v : ℕ). beginFound s v K) h ∙ as-handed s K p
+module _ (s : List ℕ) (p K : ℕ) {w : ℕ} (h : w ≡ min p 17) where
+  handed : beginFound s w K ≡ beginFound s p K
+  handed = ap (λ (v : ℕ). beginFound s v K) h ∙ as-handed s K p
 
-module _ (s : List ℕ) (p K : ℕ) {w : ℕ} (h : w ≡ min p 17) {f : Found} {next parents holds threads quotas heads totals : List ℕ} (d : f ≡ beginFound s w K)
-    (n : next ≡ nextIf (isNothing f) (tableOf s)) (q : parents ≡ parentsIf (isNothing f) (tableOf s)) (z : Cleared holds threads quotas heads totals) where
-  pub refuses : {x : Refusal} {left right under over : List ℕ} → f ≡ At x → Linked 0 left right under over
-      → answer (x .number) (x .place ∷ []) (memory (0 ∷ 0 ∷ []) parents (arrays next (replicate 1024 0) (replicate 1024 0) left right under over) holds threads quotas heads totals)
-      ≡ lentBegin s p K
-  unfolding lentBegin
-  refuses {x} e l =
-      let g : beginFound s p K ≡ At x = sym (asked s p K h d) ∙ e in
-      let n' : next ≡ replicate 1024 0 = n ∙ rw e in
-      let q' : parents ≡ replicate 1024 0 = q ∙ rw e in
-      (λ i. answer (x .number) (x .place ∷ []) (memory (0 ∷ 0 ∷ []) (q' i) (arrays (n' i) (replicate 1024 0) (replicate 1024 0) (l .0 .0 i) (l .0 .1 i) (l .1 .0 i) (l .1 .1 i))
-      (z .0 .0 i) (z .0 .1 i) (z .0 .2 i) (z .1 .0 i) (z .1 .1 i)))
-      ∙ rw g
+  handed-filling : beginFilling s w K ≡ beginFilling s p K
+  unfolding beginFilling
+  handed-filling = rw handed
 
-  pub starts : {left right under over : List ℕ} → f ≡ Nothing → Linked noThread left right under over
-      → answer 0 (0 ∷ []) (memory (p ∷ K ∷ []) parents (arrays next (set (replicate 1024 0) 0 ready) (replicate 1024 0) left right under over) holds threads quotas heads totals)
-      ≡ lentBegin s p K
-  unfolding lentBegin
-  starts e l =
-      let g : beginFound s p K ≡ Nothing = sym (asked s p K h d) ∙ e in
-      let n' = n ∙ ap (λ (y : Found). nextIf (isNothing y) (tableOf s)) e in
-      let q' = q ∙ ap (λ (y : Found). parentsIf (isNothing y) (tableOf s)) e in
-      (λ i. answer 0 (0 ∷ []) (memory (p ∷ K ∷ []) (q' i) (arrays (n' i) (set (replicate 1024 0) 0 ready) (replicate 1024 0) (l .0 .0 i) (l .0 .1 i) (l .1 .0 i) (l .1 .1 i))
-      (z .0 .0 i) (z .0 .1 i) (z .0 .2 i) (z .1 .0 i) (z .1 .1 i)))
-      ∙ rw g
+  pub handed-into : (out : List ℕ) → begunInto s w K out ≡ begunInto s p K out
+  handed-into out = rw handed
+
+  module _ (room : ℕ) {f : Filling} (d : f ≡ beginFilling s w K) where
+    pub found-is : f .found ≡ beginFound s p K
+    unfolding beginFilling
+    found-is = ap (λ (x : Filling). x .found) (d ∙ handed-filling)
+
+    bytes-are : f .bytes ≡ beginFilling s p K .bytes
+    bytes-are = ap (λ (x : Filling). x .bytes) (d ∙ handed-filling)
+
+    begins-is : begins s w K room ≡ isNothing (f .found) && leb (f .bytes) room
+    unfolding beginFilling
+    begins-is = rw d
+
+    module _ {next parents holds threads quotas heads totals : List ℕ}
+        (n : next ≡ nextIf (begins s w K room) (tableOf (filledOut s K))) (q : parents ≡ parentsIf (begins s w K room) (tableOf (filledOut s K))) (z : Cleared holds threads quotas heads totals) where
+      -- the memory of a refused beginning
+      nothing-there : {number : ℕ} {row left right under over : List ℕ} → begins s w K room ≡ false → Linked 0 left right under over
+          → answer number row (memory (0 ∷ 0 ∷ []) parents (arrays next (replicate 1024 0) (replicate 1024 0) left right under over) holds threads quotas heads totals) ≡ answer number row blankMemory
+      nothing-there {number} {row} b l =
+          let n' : next ≡ replicate 1024 0 = n ∙ ap (λ (x : Bool). nextIf x (tableOf (filledOut s K))) b in
+          let q' : parents ≡ replicate 1024 0 = q ∙ ap (λ (x : Bool). parentsIf x (tableOf (filledOut s K))) b in
+          λ i. answer number row (memory (0 ∷ 0 ∷ []) (q' i) (arrays (n' i) (replicate 1024 0) (replicate 1024 0) (l .0 .0 i) (l .0 .1 i) (l .1 .0 i) (l .1 .1 i))
+          (z .0 .0 i) (z .0 .1 i) (z .0 .2 i) (z .1 .0 i) (z .1 .1 i))
+
+      pub refuses : {x : Refusal} {left right under over : List ℕ} → f .found ≡ At x → Linked 0 left right under over
+          → answer (x .number) (x .place ∷ 0 ∷ []) (memory (0 ∷ 0 ∷ []) parents (arrays next (replicate 1024 0) (replicate 1024 0) left right under over) holds threads quotas heads totals)
+          ≡ lentBegin s p K room
+      unfolding lentBegin beginFilling
+      refuses {x} e l =
+          let g : beginFound s p K ≡ At x = sym found-is ∙ e in
+          nothing-there (begins-is ∙ rw e) l ∙ rw g
+
+      pub lacks : {left right under over : List ℕ} → f .found ≡ Nothing → room < f .bytes → Linked 0 left right under over
+          → answer noRoom (0 ∷ f .bytes ∷ []) (memory (0 ∷ 0 ∷ []) parents (arrays next (replicate 1024 0) (replicate 1024 0) left right under over) holds threads quotas heads totals)
+          ≡ lentBegin s p K room
+      unfolding lentBegin
+      lacks e m l = nothing-there (begins-is ∙ rw (e, lt-leb (f .bytes) room m)) l ∙ rw (sym (d ∙ handed-filling), e, lt-ltb room (f .bytes) m)
+
+      pub starts : {left right under over : List ℕ} → f .found ≡ Nothing → f .bytes ≤ room → Linked noThread left right under over
+          → answer 0 (0 ∷ f .bytes ∷ []) (memory (p ∷ K ∷ []) parents (arrays next (set (replicate 1024 0) 0 ready) (replicate 1024 0) left right under over) holds threads quotas heads totals)
+          ≡ lentBegin s p K room
+      unfolding lentBegin
+      starts e m l =
+          let b : begins s w K room ≡ true = begins-is ∙ rw (e, le-leb (f .bytes) room m) in
+          let n' = n ∙ ap (λ (x : Bool). nextIf x (tableOf (filledOut s K))) b in
+          let q' = q ∙ ap (λ (x : Bool). parentsIf x (tableOf (filledOut s K))) b in
+          (λ i. answer 0 (0 ∷ f .bytes ∷ []) (memory (p ∷ K ∷ []) (q' i) (arrays (n' i) (set (replicate 1024 0) 0 ready) (replicate 1024 0) (l .0 .0 i) (l .0 .1 i) (l .1 .0 i) (l .1 .1 i))
+          (z .0 .0 i) (z .0 .1 i) (z .0 .2 i) (z .1 .0 i) (z .1 .1 i)))
+          ∙ rw (sym (d ∙ handed-filling), e, le-ltb room (f .bytes) m)

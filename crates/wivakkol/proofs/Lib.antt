@@ -2,6 +2,7 @@
 mod Answers
 mod Cases
 mod Begins
+pub mod Rooms
 pub mod Opens
 pub mod WallLines
 mod Turns

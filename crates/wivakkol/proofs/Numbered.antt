@@ -68,7 +68,7 @@ begin-numbered s p K = all-passes (passes s ++ beginPasses (tableOf s) p K) give
         (then (one (number-is 10) none)
         (then (one (number-is 9) none)
         (then (one (number-is 19) (one (number-is 20) none))
-        (then (one (number-is 21) none) end))))))))
+        (then (one (number-is 43) none) end))))))))
 
 pub turn-numbered : (r : Run) (w : ℕ) → Numbered (tryAt (turnChecks r w) 0)
 unfolding turnChecks

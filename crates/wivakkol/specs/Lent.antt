@@ -3,7 +3,7 @@ use Prim.Native.Nat.{ℕ, zero, suc, _-_, _^_}
 use mathlib.Core.List.{List, [], _∷_}
 use mathlib.Core.Bool.{Bool, true, false}
 use lib.ListN.{length, getD, set, replicate}
-use lib.Dec.{eqb}
+use lib.Dec.{eqb, ltb}
 use Rattle.table.specs.Sum.{pick}
 use Rattle.table.specs.Format.{tableOf}
 use Rattle.table.specs.declared.Found.{Found}
@@ -14,7 +14,8 @@ use Rattle.table.specs.Checks.{maxThreads}
 use Rattle.schedule.specs.Record.{maxWorkers}
 use Rattle.schedule.specs.Answers.{Said, nothing, finished, spent}
 use Rattle.schedule.specs.Runs.{workerAt}
-use Rattle.soundness.specs.Tested.{parentsIn, nextIf, beginFound}
+use Rattle.filling.specs.Filled.{filledOut}
+use Rattle.soundness.specs.Tested.{parentsIn, nextIf, beginFilling}
 use Rattle.array_machine.specs.Arrays.{arrays}
 use Rattle.run_memory.specs.Memory.{Memory, memory, movedIn, saidCode, Answer, answer, Told, turnIn}
 
@@ -67,10 +68,17 @@ startMemory s p K =
     memory (p ∷ K ∷ []) (parentsIn (tableOf s))
     (arrays (nextIf true (tableOf s)) (set (replicate maxThreads 0) 0 ready) (replicate maxThreads 0) none none none none) nobodies nobodies nobodies (0 ∷ 0 ∷ 0 ∷ []) (0 ∷ 0 ∷ 0 ∷ [])
 
-abbrev pub begunAs : Found → Memory → Answer
-begunAs Nothing M = answer 0 (0 ∷ []) M
-begunAs (At x) M = answer (x .number) (x .place ∷ []) blankMemory
+-- too little room for the filled-out table: a number of the library's own, above the papers'
+abbrev pub noRoom : ℕ
+noRoom = 61
 
--- "A refused beginning hands back the blank record"; of its answer the row has the place
-unfoldable pub lentBegin : List ℕ → ℕ → ℕ → Answer
-lentBegin s p K = begunAs (beginFound s p K) (startMemory s p K)
+-- "A refused beginning hands back the blank record". The row has the place, and the bytes of the filled-out table, 0 where the table as given runs; of the Bool, there is too little room for them.
+abbrev pub begunAs : Found → Bool → ℕ → Memory → Answer
+begunAs (At x) short bytes M = answer (x .number) (x .place ∷ 0 ∷ []) blankMemory
+begunAs Nothing true bytes M = answer noRoom (0 ∷ bytes ∷ []) blankMemory
+begunAs Nothing false bytes M = answer 0 (0 ∷ bytes ∷ []) M
+
+-- The checks of a beginning, then 61; the run is of the filled-out table ("Replies, records .. name the filled-out table", N6), which the call puts into the buffer of `room` bytes (`begunInto`,
+-- crates/soundness/specs/Tested).
+unfoldable pub lentBegin : List ℕ → ℕ → ℕ → ℕ → Answer
+lentBegin s p K room = let f = beginFilling s p K in begunAs (f .found) (ltb room (f .bytes)) (f .bytes) (startMemory (filledOut s K) p K)

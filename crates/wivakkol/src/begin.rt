@@ -6,8 +6,9 @@ use soundness::accept_in;
 use table::Found;
 ghost use mathlib.Core.Path.{_≡_};
 ghost use mathlib.Core.List.{[], _∷_};
-ghost use lib.ListN.{replicate};
+ghost use lib.ListN.{length, replicate};
 ghost use Rattle.array_machine.specs.Arrays.{arrays};
+ghost use Rattle.soundness.specs.Tested.{begunInto};
 ghost use Rattle.run_memory.specs.Memory.{memory, answer};
 ghost use Rattle.wivakkol.specs.Lent.{lentBegin};
 
@@ -46,7 +47,11 @@ fn put_links(
     *over = [x; 1024];
 }
 
-// Begins a run, or gives the check that refuses; the memory is then that of the blank record. The working memory, rises and falls, is left cleared.
+// Too little room for the filled-out table.
+const NO_ROOM: u32 = 61;
+
+// Begins a run, or gives the check that refuses; the memory is then that of the blank record. Where an alloc is above the quota, the filled-out table is put into `filled`, and is the one that
+// runs; the row has its bytes. The working memory, rises and falls, is left cleared.
 #[no_mangle]
 pub extern "C" fn wivakkol_begin_on(
     table: &[u8],
@@ -66,29 +71,48 @@ pub extern "C" fn wivakkol_begin_on(
     quotas: &mut [u32; 16],
     heads: &mut [u16; 3],
     totals: &mut [u64; 3],
-    row: &mut [u64; 1],
+    row: &mut [u64; 2],
     rises: &mut [u64; 1024],
     falls: &mut [u64; 1024],
+    filled: &mut [u8],
 ) -> u32
     ensures { λ r. ⌜ answer r (now (row .exit)) (memory (now (settings .exit)) (now (parents .exit))
         (arrays (now (next .exit)) (now (status .exit)) (now (amounts .exit)) (now (left .exit)) (now (right .exit)) (now (under .exit)) (now (over .exit)))
         (now (holds .exit)) (now (threads .exit)) (now (quotas .exit)) (now (heads .exit)) (now (totals .exit)))
-        ≡ lentBegin (now (table .entry)) p quota ⌝ }
+        ≡ lentBegin (now (table .entry)) p quota (length (now (filled .entry))) ⌝ }
+    ensures { λ _. ⌜ now (filled .exit) ≡ begunInto (now (table .entry)) p quota (now (filled .entry)) ⌝ }
     ensures { λ _. ⌜ (now (rises .exit) ≡ replicate 1024 0) × (now (falls .exit) ≡ replicate 1024 0) ⌝ }
 {
     *amounts = [0; 1024];
     *status = [0; 1024];
     put_nobody(holds, threads, quotas, heads, totals);
-    let found = accept_in(table, workers(p), quota, next, parents, rises, falls);
+    let room = filled.len();
+    let filling = accept_in(
+        table,
+        workers(p),
+        quota,
+        filled,
+        next,
+        parents,
+        rises,
+        falls,
+    );
+    let found = filling.found;
     if let Found::At(x) = found {
         *settings = [0, 0];
         put_links(left, right, under, over, 0);
-        *row = [x.place as u64];
+        *row = [x.place as u64, 0];
         return x.number as u32;
+    }
+    if room < filling.bytes {
+        *settings = [0, 0];
+        put_links(left, right, under, over, 0);
+        *row = [0, filling.bytes as u64];
+        return NO_ROOM;
     }
     *settings = [p, quota];
     put_links(left, right, under, over, NO_THREAD);
     status[0] = READY;
-    *row = [0];
+    *row = [0, filling.bytes as u64];
     0
 }
