@@ -72,3 +72,14 @@ pub fn largest_quota(work: &mut TablesWork, table: &[u8], p: u32, b: u32, memory
     Refusal::unless_zero(number, place)?;
     Ok(quota as u32)
 }
+
+/// How many turns a run of `p` workers with this quota takes at most: `p * (m + A + J)`, with the actions, allocs and joins of the table that runs, filled out where an alloc is above the
+/// quota. [`Run::rounds`] with this limit always finishes. At most 262,144. Refused with 1 to 11, 20, 21 or 44, as a beginning is.
+pub fn most_turns(work: &mut TablesWork, table: &[u8], p: u32, quota: u32) -> Result<u32, Refusal> {
+    let mut row = [0; 2];
+    // SAFETY: as in `check`.
+    let number = unsafe { raw::wivakkol_most_on(table.as_ptr(), table.len(), p, quota, &mut row, &mut work.rises, &mut work.falls) };
+    let [place, limit] = row;
+    Refusal::unless_zero(number, place)?;
+    Ok(limit as u32)
+}

@@ -1,0 +1,3 @@
+pub mod TurnCounts
+pub mod Answers
+pub mod Serves
