@@ -1,3 +1,2 @@
 pub mod TurnCounts
 pub mod Answers
-pub mod Serves
