@@ -14,7 +14,7 @@ use Rattle.table.specs.Checks.{maxThreads}
 use Rattle.schedule.specs.declared.Worker.{Worker}
 use Rattle.schedule.specs.declared.Reply.{Reply}
 use Rattle.schedule.specs.declared.Reply.the-variants.{Idle, Done}
-use Rattle.schedule.specs.Machine.{ready, held, waiting, ended}
+use Rattle.schedule.specs.Machine.{ready, held, waiting, ended, drawn}
 use Rattle.schedule.specs.Links.{noThread, seek}
 use Rattle.schedule.proofs.Reply.{the-type}
 use Rattle.array_machine.specs.declared.Totals.{Totals}
@@ -73,22 +73,22 @@ module _ (u : ℕ) where
   set-to : (t v : ℕ) → (v ≡ ended → ⊥) → {A A' : Arrays} {totals : Totals} {worker : Worker} {r : Reply} → A' .status ≡ set (A .status) t v → Keeps u A (moved r A' totals worker)
   set-to t v n {A} e = record { keep = λ d h. rw e (kept (A .status) t v u n h) }
 
-  act-keeps : (T : Table) (parents : List ℕ) (t a x : ℕ) (A : Arrays) (totals : Totals) (worker : Worker) (k : Kind) → Keeps u A (actOn k T parents t a x A totals worker)
+  act-keeps : (T : Table) (K : ℕ) (parents : List ℕ) (t a x : ℕ) (A : Arrays) (totals : Totals) (worker : Worker) (k : Kind) → Keeps u A (actOn k T K parents t a x A totals worker)
   unfolding actOn
-  act-keeps T parents t a x A totals worker end = done
-  act-keeps T parents t a x A totals worker work = either (nextFits a) done same
-  act-keeps T parents t a x A totals worker alloc =
-      either (leb x (worker .quota)) (either (nextFits a && (amountFits (totals .held + x) && amountFits (amountIn A t + x))) done same) (set-to t ready not-ready refl)
-  act-keeps T parents t a x A totals worker free = either (nextFits a && (leb x (totals .held) && leb x (amountIn A t))) done same
-  act-keeps T parents t a x A totals worker fork = either (nextFits a && ltb x maxThreads) done same
-  act-keeps T parents t a x A totals worker join =
+  act-keeps T K parents t a x A totals worker end = done
+  act-keeps T K parents t a x A totals worker work = either (nextFits a) done same
+  act-keeps T K parents t a x A totals worker alloc =
+      either (leb (drawn K x) (worker .quota)) (either (nextFits a && (amountFits (totals .held + x) && amountFits (amountIn A t + x))) done same) (set-to t ready not-ready refl)
+  act-keeps T K parents t a x A totals worker free = either (nextFits a && (leb x (totals .held) && leb x (amountIn A t))) done same
+  act-keeps T K parents t a x A totals worker fork = either (nextFits a && ltb x maxThreads) done same
+  act-keeps T K parents t a x A totals worker join =
       either (ltb x maxThreads) (either (eqb (getD (A .status) x 0) ended) (either (nextFits a && amountFits (amountIn A t + amountIn A x)) done same) (set-to t waiting not-waiting refl)) same
-  act-keeps T parents t a x A totals worker unknown = same
+  act-keeps T K parents t a x A totals worker unknown = same
 
-  in-keeps : (T : Table) (parents : List ℕ) (A : Arrays) (totals : Totals) (worker : Worker) → Keeps u A (actIn T parents A totals worker)
+  in-keeps : (T : Table) (K : ℕ) (parents : List ℕ) (A : Arrays) (totals : Totals) (worker : Worker) → Keeps u A (actIn T K parents A totals worker)
   unfolding actIn
-  in-keeps T parents A totals worker =
-      either (ltb (worker .thread) maxThreads) (act-keeps T parents (worker .thread) (actionIn A (worker .thread)) (T .argument (actionIn A (worker .thread))) A totals worker (kind T (actionIn A (worker .thread)))) same
+  in-keeps T K parents A totals worker =
+      either (ltb (worker .thread) maxThreads) (act-keeps T K parents (worker .thread) (actionIn A (worker .thread)) (T .argument (actionIn A (worker .thread))) A totals worker (kind T (actionIn A (worker .thread)))) same
 
   seat-keeps : (K t : ℕ) (status : List ℕ) (worker : Worker) → Unended u status → Unended u (seatOf K status t worker .status)
   unfolding seatOf
@@ -104,8 +104,8 @@ module _ (u : ℕ) where
   step-keeps T K parents A totals worker =
       let y : Seat = seatIn K A totals worker in
       let seated = seat-keeps K (seek maxThreads (A .status) (A .over) (totals .first) .thread) (A .status) worker in
-      let o : Outcome = actIn T parents (withStatuses (y .status) A) totals (y .worker) in
-      let there : Keeps u A o = record { keep = λ d h. in-keeps T parents (withStatuses (y .status) A) totals (y .worker) .keep d (seated h) } in
+      let o : Outcome = actIn T K parents (withStatuses (y .status) A) totals (y .worker) in
+      let there : Keeps u A o = record { keep = λ d h. in-keeps T K parents (withStatuses (y .status) A) totals (y .worker) .keep d (seated h) } in
       either (y .worker .holds) (either (o .fits) there same) same
 
   turn-keeps : (T : Table) (K : ℕ) (parents : List ℕ) (w : ℕ) (A : Arrays) (m : Moved) (worker : Worker)

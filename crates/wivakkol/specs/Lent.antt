@@ -1,7 +1,7 @@
 -- What runs over a list and in rounds answer to C, and beginnings in memory that it lends; the turn and the runs themselves are run_memory's (crates/run_memory/specs, Memory and Runs).
 use Prim.Native.Nat.{ℕ}
 use mathlib.Core.List.{List, [], _∷_}
-use mathlib.Core.Bool.{Bool, true}
+use mathlib.Core.Bool.{Bool, true, false}
 use lib.ListN.{set, replicate}
 use lib.Dec.{eqb, ltb}
 use Rattle.table.specs.Sum.{pick}
