@@ -10,7 +10,7 @@ ghost use Rattle.table.specs.Load.{tableValues};
 ghost use Rattle.quota.specs.Quota.{valuesFor};
 ghost use Rattle.wivakkol.specs.Rows.{factsRow, quotaRow};
 
-// Those that begin, open and run are public, so that `limits` can name their promises.
+// Those that begin, open and run are public, so that `claims` can name their promises.
 pub mod begin;
 mod limit;
 mod line;
