@@ -76,8 +76,12 @@ extern "C" {
 #define WIVAKKOL_QUOTA 1 /* K, 1 to 16,777,215 */
 #define WIVAKKOL_QUOTA_ROW 2
 
-/* Working memory of the calls on tables, which C lends; it keeps nothing from one call to the next. wivakkol_check and wivakkol_quota use `rises`, `falls`, `peaks` and `depths`; `names` and
- * `order` are used by no call yet. What a call uses of it is all 0 afterwards, also where it refuses.
+/* The row of wivakkol_most. */
+#define WIVAKKOL_LIMIT 1 /* L, 1 to 262,144 */
+#define WIVAKKOL_MOST_ROW 2
+
+/* Working memory of the calls on tables, which C lends; it keeps nothing from one call to the next. wivakkol_check and wivakkol_quota use `rises`, `falls`, `peaks` and `depths`, wivakkol_most
+ * `rises` and `falls`; `names` and `order` are used by no call yet. What a call uses of it is all 0 afterwards, also where it refuses.
  *
  * C must keep to this: before its first use all of it has been written, whatever the numbers, as a static or zeroed object is; it is aligned as a wivakkol_tables_work is and overlaps nothing
  * else that the call is given. One may serve many tables, with one call at a time on it. */
@@ -96,6 +100,8 @@ uint32_t wivakkol_check_on(const uint8_t *table, size_t length, uint64_t row[WIV
                            uint64_t peaks[1024], uint16_t depths[1024]);
 uint32_t wivakkol_quota_on(const uint8_t *table, size_t length, uint32_t p, uint32_t b, uint64_t memory, uint64_t row[WIVAKKOL_QUOTA_ROW],
                            uint64_t rises[1024], uint64_t falls[1024], uint64_t peaks[1024], uint16_t depths[1024]);
+uint32_t wivakkol_most_on(const uint8_t *table, size_t length, uint32_t p, uint32_t quota, uint64_t row[WIVAKKOL_MOST_ROW], uint64_t rises[1024],
+                          uint64_t falls[1024]);
 
 /* Is this a job table, and what are its facts? Returns 0, or 1 to 11: the first check that refuses it. */
 static inline uint32_t wivakkol_check(wivakkol_tables_work *work, const uint8_t *table, size_t length, uint64_t row[WIVAKKOL_CHECK_ROW])
@@ -110,6 +116,15 @@ static inline uint32_t wivakkol_quota(wivakkol_tables_work *work, const uint8_t 
                                       uint64_t row[WIVAKKOL_QUOTA_ROW])
 {
     return wivakkol_quota_on(table, length, p, b, memory, row, work->rises, work->falls, work->peaks, work->depths);
+}
+
+/* How many turns a run of p workers with quota K takes at most: p*(m + A + J), with the actions m, allocs A and joins J of the table that runs, filled out where an alloc is above K. From a
+ * beginning with the same p and K, wivakkol_rounds with this limit always says finished. Returns 0, or what such a beginning returns, but never 61: 1 to 11, the table's own; 20, p is not 1
+ * to 16; 21, K is not 1 to 16,777,215; 44, the filled-out table would pass 1,024 threads or 8,192 actions. No table is filled out for it. */
+static inline uint32_t wivakkol_most(wivakkol_tables_work *work, const uint8_t *table, size_t length, uint32_t p, uint32_t quota,
+                                     uint64_t row[WIVAKKOL_MOST_ROW])
+{
+    return wivakkol_most_on(table, length, p, quota, row, work->rises, work->falls);
 }
 
 /* ---- A run */

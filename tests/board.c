@@ -1,7 +1,7 @@
 /* The calls of wivakkol.h on cases from standard input, for tests/board.py; all numbers are little-endian.
  *
- * Without an argument a case is the table's length, p and b (4 bytes each), M (8) and the table. For each a line: of wivakkol_check, and then of wivakkol_quota, the number, the row and a
- * number for each field of the working memory, as below. With the argument `runs` the first line has the size of a wivakkol_run and where its blocks stand. A case is then its length (4) and steps on one run's memory:
+ * Without an argument a case is the table's length, p and b (4 bytes each), M (8), K (4) and the table. For each a line: of wivakkol_check, wivakkol_quota and wivakkol_most the number, the
+ * row and a number for each field of the working memory, as below. With the argument `runs` the first line has the size of a wivakkol_run and where its blocks stand. A case is then its length (4) and steps on one run's memory:
  *   t LENGTH TABLE     the table from now on
  *   m AT LENGTH BYTES  these bytes stand in the run's memory
  *   b P K ROOM         wivakkol_begin, with so much room for the filled-out table; where that is filled out, it is the table from now on
@@ -77,6 +77,11 @@ static void check(void)
 static void quota(void)
 {
     call.number = wivakkol_quota(&lent.tables, call.table, call.length, call.p, call.b, call.memory, call.row + 1);
+}
+
+static void most_turns(void)
+{
+    call.number = wivakkol_most(&lent.tables, call.table, call.length, call.p, call.quota, call.row + 1);
 }
 
 static void begin(void)
@@ -284,23 +289,26 @@ static void on_table(void (*f)(void), size_t entries, size_t *most)
 
 static void tables(void)
 {
-    uint8_t front[20];
-    size_t most[2] = {0, 0};
+    uint8_t front[24];
+    size_t most[3] = {0, 0, 0};
 
     while (got(front, sizeof front)) {
         uint8_t *at = place_table((uint32_t)little(front, 4));
         call.p = (uint32_t)little(front + 4, 4);
         call.b = (uint32_t)little(front + 8, 4);
         call.memory = little(front + 12, 8);
+        call.quota = (uint32_t)little(front + 20, 4);
         if (call.length != 0 && !got(at, call.length))
             fail("a case is cut off");
         close_room(memory);
         on_table(check, WIVAKKOL_CHECK_ROW, &most[0]);
         printf(" ");
         on_table(quota, WIVAKKOL_QUOTA_ROW, &most[1]);
+        printf(" ");
+        on_table(most_turns, WIVAKKOL_MOST_ROW, &most[2]);
         printf("\n");
     }
-    printf("stack %zu %zu\n", most[0] - around(), most[1] - around());
+    printf("stack %zu %zu %zu\n", most[0] - around(), most[1] - around(), most[2] - around());
 }
 
 static void put(const void *bytes, size_t size)

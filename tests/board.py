@@ -1,4 +1,4 @@
-"""Builds tests/board.c and examples/board.c on the archives for C, calls them on random and damaged tables and runs, and compares with reference.py, quota.py, machine.py and lent.py, which
+"""Builds tests/board.c and examples/board.c on the archives for C, calls them on random and damaged tables and runs, and compares with reference.py, quota.py, most.py, machine.py and lent.py, which
 were written on their own. Holds the header against the source, since nothing else would say where they differ.
 
 usage: python3 tests/board.py [COUNT]
@@ -16,6 +16,7 @@ import sys
 import board_runs
 import lent
 import machine
+import most
 import quota
 from differential import LARGEST, mostly, run_table, tablecheck_input
 from reference import check, facts_line
@@ -26,8 +27,10 @@ import stack
 
 CRATES, OUT = ['wivakkol_turn', 'wivakkol'], 'target/c'
 ARCHIVES = ['target/staticlib/lib%s.a' % crate for crate in CRATES]
-NUMBERS = {'wivakkol_check': set(range(12)), 'wivakkol_quota': set(range(12)) | {20, 41, 42}}  # what each call can return
-LEFT = [0, 0, 0, 0, 1, 1]  # what a call on a table leaves of its working memory, field by field: 0, all 0; 1, as it was
+# what each call on a table can return
+NUMBERS = {'wivakkol_check': set(range(12)), 'wivakkol_quota': set(range(12)) | {20, 41, 42}, 'wivakkol_most': set(range(12)) | {20, 21, 44}}
+# what it leaves of its working memory, field by field: 0, all 0; 1, as it was
+LEFT = {'wivakkol_check': [0, 0, 0, 0, 1, 1], 'wivakkol_quota': [0, 0, 0, 0, 1, 1], 'wivakkol_most': [0, 0, 1, 1, 1, 1]}
 STACK_MOST = 8192  # bytes that a call on a table may take of the stack
 BYTES = {'table': 'length', 'order': 'turns', 'filled': 'room'}  # the names of their numbers of bytes
 RUN_CALLS = list(board_runs.NUMBERS)  # the calls for a wivakkol_run
@@ -36,7 +39,7 @@ WORK_NAMES = {'parents': 'seen'}  # fields of a wivakkol_work that the exported 
 NAMED = {'HELD': ('totals', lent.HELD_NOW), 'HIGHEST': ('totals', lent.HIGHEST), 'TURNS': ('totals', lent.TURNS), 'P': ('settings', lent.P), 'K': ('settings', lent.K),
          'WORKER_THREADS': ('threads', 0), 'LEFTMOST': ('heads', lent.LEFTMOST), 'FIRST': ('heads', lent.FIRST), 'BUSY': ('heads', lent.BUSY)}
 NAMED.update({name.upper(): (name, 0) for name in lent.PLACES if name not in ('totals', 'settings', 'threads', 'heads')})
-Case = collections.namedtuple('Case', 'data p b memory')
+Case = collections.namedtuple('Case', 'data p b memory quota')
 
 
 def build(source, name):
@@ -158,25 +161,27 @@ def hands_over(call, inline, result, parameters, places):
 
 
 def drawn_case(rng):
-    """A table, and p, b and M: M mostly about the bound of some K; p and b now and then far out of range, also such that their low bytes are in it."""
-    data, most = run_table(rng)
+    """A table, and p, b, M and K: M mostly about the bound of some quota, K often such that some allocs are above it; p, b and K now and then far out of range, also such that their low bytes
+    are in it."""
+    data, largest = run_table(rng)
     p = mostly(rng, rng.choice([1, 2, 3, rng.randint(1, 16), 16]), 0, 17, 255, 256, 258, 65537, 2**24 + 2, 2**32 - 1)
     b = mostly(rng, rng.choice([1, 1, 2, rng.randint(1, 65535), 65535]), 0, 65536, 65537, 2**32 - 1)
-    K = rng.choice([most, most + rng.randint(0, 9), rng.randint(most, LARGEST), LARGEST])
+    K = rng.choice([largest, largest + rng.randint(0, 9), rng.randint(largest, LARGEST), LARGEST])
     memory = quota.bound(check(data), max(p, 1), b, K) + rng.choice([-1, 0, 0, 1, rng.randint(0, 1000)])
     memory = mostly(rng, max(0, min(memory, 2**64 - 1)), 0, 1, 2**64 - 1)
+    K = mostly(rng, rng.choice([largest, largest + 1, max(1, largest - 1), rng.randint(1, largest), max(1, largest // rng.randint(2, 40)), 1]), 0, LARGEST, 2**24, 2**24 + 6, 2**32 - 1)
     if rng.random() < 0.3:
         data = tablecheck_input(rng)
     if rng.random() < 0.2:
         data = damaged(rng, data)
-    return Case(data, p, b, memory)
+    return Case(data, p, b, memory, K)
 
 
 def cases(rng, count):
     """The most deeply nested and the widest table, the example, no bytes at all and more than any table has, and drawn ones."""
     with open('examples/e.table', 'rb') as f:
         whole = [stack.nested(), stack.fan(), f.read(), b'', bytes(100000), b'\xff' * 100000]
-    return [Case(data, 16, 65535, 2**64 - 1) for data in whole] + [drawn_case(rng) for _ in range(count - len(whole))]
+    return [Case(data, 16, 65535, 2**64 - 1, 5) for data in whole] + [drawn_case(rng) for _ in range(count - len(whole))]
 
 
 def number_and_row(answer, values):
@@ -185,28 +190,29 @@ def number_and_row(answer, values):
 
 
 def expected(case):
-    checked, quoted = check(case.data), quota.largest(*case)
-    return number_and_row(checked, 5) + LEFT, number_and_row(quoted, 1) + LEFT
+    """Number, row and what is left of the working memory, of each call on a table."""
+    answers = [(check(case.data), 5), (quota.largest(*case[:4]), 1), (most.limit(case.data, case.p, case.quota), 1)]
+    return [number_and_row(*answer) + left for answer, left in zip(answers, LEFT.values())]
 
 
 def packed(case):
-    numbers = ((len(case.data), 4), (case.p, 4), (case.b, 4), (case.memory, 8))
+    numbers = ((len(case.data), 4), (case.p, 4), (case.b, 4), (case.memory, 8), (case.quota, 4))
     return b''.join(x.to_bytes(k, 'little') for x, k in numbers) + case.data
 
 
 def compare(program, drawn):
-    """How often each number was given by either call, and the most stack of each."""
+    """How often each number was given by each call, and the most stack of each."""
     done = subprocess.run([program], input=b''.join(map(packed, drawn)), stdout=subprocess.PIPE, check=True)
     *lines, last = done.stdout.decode().splitlines()
     assert len(lines) == len(drawn), '%d answers to %d cases' % (len(lines), len(drawn))
-    numbers = collections.Counter(), collections.Counter()
+    numbers = [collections.Counter() for _ in NUMBERS]
     for i, (line, case) in enumerate(zip(lines, drawn)):
         got = list(map(int, line.split()))
         wanted = expected(case)
-        if got != wanted[0] + wanted[1]:
+        if got != sum(wanted, []):
             path = '%s/different.table' % OUT
             pathlib.Path(path).write_bytes(case.data)
-            sys.exit('case %d differs, p %d b %d M %d and the table in %s\n  given    %s\n  expected %s' % (i, *case[1:], path, got, wanted[0] + wanted[1]))
+            sys.exit('case %d differs, p %d b %d M %d K %d and the table in %s\n  given    %s\n  expected %s' % (i, *case[1:], path, got, sum(wanted, [])))
         for counter, answer in zip(numbers, wanted):
             counter[answer[0]] += 1
     return numbers, last
@@ -223,12 +229,12 @@ def end_of_run(data, p, K):
 def compare_example(program, drawn):
     """The example program on some of the cases; its arguments are p, b and M."""
     for case in drawn:
-        answer, quoted = check(case.data), quota.largest(*case)
+        answer, quoted = check(case.data), quota.largest(*case[:4])
         wanted = [facts_line(answer)] + ([] if answer[0] == 'refused' else [' '.join(map(str, quoted))])
         if quoted[0] != 'refused':
             wanted.append(end_of_run(case.data, case.p, quoted[1]))
-        done = subprocess.run([program, *map(str, case[1:])], input=case.data, stdout=subprocess.PIPE)
-        assert done.stdout.decode().splitlines() == wanted, (done.stdout, wanted, case[1:])
+        done = subprocess.run([program, *map(str, case[1:4])], input=case.data, stdout=subprocess.PIPE)
+        assert done.stdout.decode().splitlines() == wanted, (done.stdout, wanted, case[1:4])
         assert done.returncode == (1 if quoted[0] == 'refused' else 0)
 
 
@@ -251,14 +257,14 @@ def main():
         given = ', '.join('%d: %d' % pair for pair in sorted(counter.items()))
         print('%s: %d of %d agree (by number: %s)' % (name, sum(counter.values()), len(drawn), given))
     print('examples/board.c: %d of %d agree' % (len(some), len(some)))
-    kinds, most = board_runs.compare(program, 21, [case.data for case in drawn[:3]], count // 2)
+    kinds, stacks = board_runs.compare(program, 21, [case.data for case in drawn[:3]], count // 2)
     for kind, counter in kinds.items():
         calls = [sum(counter['%s %d' % (call, x)] for x in numbers) for call, numbers in board_runs.NUMBERS.items()]
         told = ', '.join('%s: %d' % pair for pair in sorted(counter.items()) if pair[0] != 'runs')
         print('%s memory: %d runs agree, of %d beginnings, %d openings, %d turns, %d lists, %d rounds, %d previews and %d lines (%s)' % (kind, counter['runs'], *calls, told))
     missing = [what for what in board_runs.WANTED if not any(counter[what] for counter in kinds.values())]
     assert not missing or count < 1000, 'no run reached %s' % ', '.join(missing)
-    print('most stack of %s, in bytes: %s' % (', '.join(['check', 'quota', *RUN_CALLS]), ' '.join([*last.split()[1:], *map(str, most)])))
+    print('most stack of %s, in bytes: %s' % (', '.join(['check', 'quota', 'most', *RUN_CALLS]), ' '.join([*last.split()[1:], *map(str, stacks)])))
 
 
 if __name__ == '__main__':

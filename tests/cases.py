@@ -1,10 +1,11 @@
-"""Writes the stored input and output of crates/table_cases: inputs of tablecheck and maxquota with a label, and the answer expected of each.
+"""Writes the stored input and output of crates/table_cases: inputs of tablecheck, maxquota and maxturns with a label, and the answer expected of each.
 
-A record of the input is the label's length (1 byte), the label, 't' for tablecheck or 'q' for maxquota, the input's length (3 bytes), the input.
-Every expected answer is written down here by hand, and held against reference.py or quota.py as well.
+A record of the input is the label's length (1 byte), the label, 't' for tablecheck, 'q' for maxquota or 'l' for maxturns, the input's length (3 bytes), the input.
+Every expected answer is written down here by hand, and held against reference.py, quota.py or most.py as well.
 """
 import pathlib
 
+from most import asked, maxturns
 from quota import board, maxquota
 from reference import END, WORK, ALLOC, FREE, FORK, JOIN, check, facts_line
 from tables import table, word
@@ -136,6 +137,51 @@ QUOTAS = [
     ('most memory, one worker', board(1, 65535, 137422168065, most), 'quota 16777215'),
 ]
 
+waiter = table([fork(1), join(1), end], [work, end])
+serial = table([alloc(4), alloc(4), end])
+one = lambda x, before=0: table([work] * before + [alloc(x), end])
+two400 = table([fork(1), alloc(400), join(1), end], [alloc(400), free(400), end])
+full = table(parent(*range(1, 1024))[:-1] + [alloc(1)] * 5122 + [end], *[leaf] * 1023)
+
+# E has m 12, A 2 and J 2; with K 5 its filled-out table has m 34, A 2 and J 8. An alloc of x above K adds 9 d - 4, d being x / K rounded up.
+TURNS = [
+    ('7 bytes', asked(2, 6, b'')[:7], 'refused 33 0'),
+    ('8 bytes', asked(2, 6, b''), 'refused 1 0'),
+    ('no bytes, turns', b'', 'refused 33 0'),
+    ('E, K 6', asked(2, 6, E), 'limit 32'),
+    ('E, K 6, another L', asked(2, 6, E, 2**32 - 1), 'limit 32'),
+    ('E, one worker', asked(1, 6, E), 'limit 16'),
+    ('E, 3 workers', asked(3, 6, E), 'limit 48'),
+    ('E, 16 workers', asked(16, LARGEST, E), 'limit 256'),
+    ('E, K 5', asked(2, 5, E), 'limit 88'),
+    ('E, K 5, one worker', asked(1, 5, E), 'limit 44'),
+    ('E, K 1', asked(1, 1, E), 'limit 116'),
+    ('two allocs', asked(1, 6, serial), 'limit 5'),
+    ('two allocs, K 3', asked(1, 3, serial), 'limit 33'),
+    ('a join', asked(2, 6, waiter), 'limit 12'),
+    ('one end, turns', asked(16, 1, least), 'limit 16'),
+    ('7 / 3 rounded up', asked(1, 3, one(7)), 'limit 26'),
+    ('6 / 3', asked(1, 3, one(6)), 'limit 17'),
+    ('as much as K', asked(1, 7, one(7)), 'limit 3'),
+    ('1,024 threads', asked(1, 1, one(512)), 'limit 4607'),
+    ('1,025 threads and more', asked(16, 1, one(513)), 'refused 44 0'),
+    ('8,192 actions', asked(16, 1, one(512, 4609)), 'limit 147456'),
+    ('8,193 actions', asked(16, 1, one(512, 4610)), 'refused 44 4610'),
+    ('16 million dummies', asked(1, 1, one(LARGEST)), 'refused 44 0'),
+    ('44 by rising action', asked(2, 1, two400), 'refused 44 4'),
+    ('most allocs', asked(16, LARGEST, most), 'limit 262128'),
+    ('most allocs and joins', asked(16, 1, full), 'limit 229392'),
+    ('no worker, turns', asked(0, 6, E), 'refused 20 0'),
+    ('17 workers, turns', asked(17, 6, E), 'refused 20 0'),
+    ('255 workers, turns', asked(255, 6, E), 'refused 20 0'),
+    ('K 0', asked(2, 0, E), 'refused 21 0'),
+    ('the table before 20, turns', asked(0, 0, table([free(1), end])), 'refused 10 0'),
+    ('20 before 21', asked(17, 0, E), 'refused 20 0'),
+    ('20 before 44', asked(17, 1, one(513)), 'refused 20 0'),
+    ('21 before 44', asked(1, 0, one(513)), 'refused 21 0'),
+    ('a byte more, turns', asked(2, 6, E + b'\0'), 'refused 3 0'),
+]
+
 
 def answers():
     """Label, program, input, expected answer and the model's, of every case."""
@@ -143,6 +189,8 @@ def answers():
         yield label, b't', case, expected, facts_line(check(case))
     for label, case, expected in QUOTAS:
         yield label, b'q', case, expected, maxquota(case)
+    for label, case, expected in TURNS:
+        yield label, b'l', case, expected, maxturns(case)
 
 
 def main():
@@ -156,7 +204,7 @@ def main():
     folder = pathlib.Path(__file__).parent.parent / 'crates' / 'table_cases'
     (folder / 'stdin').write_bytes(data)
     (folder / 'stdout').write_text(text)
-    print('%d cases, %d bytes' % (len(CASES) + len(QUOTAS), len(data)))
+    print('%d cases, %d bytes' % (len(CASES) + len(QUOTAS) + len(TURNS), len(data)))
 
 
 if __name__ == '__main__':

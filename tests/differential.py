@@ -1,8 +1,8 @@
-"""Draws random and damaged inputs and compares the programs with reference.py, machine.py and filling.py, which were written on their own.
+"""Draws random and damaged inputs and compares the programs with reference.py, machine.py, filling.py and most.py, which were written on their own.
 
 usage: python3 tests/differential.py [COUNT] [PROGRAM..] [--baseline]
-    COUNT inputs for each program (default 3,000); PROGRAM: tablecheck, maxquota, filltable, turnlist, wallchart, runrounds, call_cases (default: all).
-    From the repository's top, after `rt check tablecheck maxquota filltable turnlist wallchart runrounds call_cases`; with --baseline it is the C
+    COUNT inputs for each program (default 3,000); PROGRAM: tablecheck, maxquota, maxturns, filltable, turnlist, wallchart, runrounds, call_cases (default: all).
+    From the repository's top, after `rt check tablecheck maxquota maxturns filltable turnlist wallchart runrounds call_cases`; with --baseline it is the C
     of bench/ that is compared, in both layouts (tablecheck, turnlist and runrounds), after `cc -O3 -o target/baseline bench/baseline.c`
     and `cc -O3 -DLINKS -o target/baseline_links bench/baseline.c`.
 """
@@ -16,6 +16,7 @@ import call_cases
 import chart
 import filling
 import machine
+import most
 import quota
 from reference import ALLOC, END, FORK, FREE, JOIN, WORK, Table, check, facts_line, serial_order
 from tables import damaged, drawn, table
@@ -141,6 +142,16 @@ def filltable_input(rng):
     return mostly_whole(rng, filling.quoted(K, data), filling.quoted(K, b''))
 
 
+def maxturns_input(rng):
+    """The K and table of filltable, with p in front and a limit that is not looked at between."""
+    data = filltable_input(rng)
+    if rng.random() < 0.2:
+        data = data[:3] + damaged(rng, data[3:])
+    p = mostly(rng, rng.randint(1, 16), 0, 17, 255)
+    whole = bytes([p]) + data[:3] + rng.randbytes(4) + data[3:]
+    return mostly_whole(rng, whole, whole[:8])
+
+
 def call_case(rng):
     return call_cases.record('case', *call_cases.random_case(rng))
 
@@ -222,6 +233,18 @@ def quota_traits(data, text):
             yield 'one worker'
 
 
+def turns_traits(data, text):
+    words = text.split()
+    if words[0] == 'refused':
+        yield 'refused ' + words[1]
+        return
+    given = Table(data[8:])
+    quota = int.from_bytes(data[1:4], 'little')
+    yield 'filled out' if any(kind == ALLOC and x > quota for kind, x in given.actions) else 'in place'
+    if int(words[1]) > 100000:
+        yield 'above 100,000'
+
+
 def filling_traits(data, answer):
     """What was filled out: how many trees, and whether a child's tree comes before its parent's."""
     out, refused = answer
@@ -255,6 +278,7 @@ ROUNDS = [bytes([p]) + FULL + b'\xff' * 4 + data for p in (1, 2, 16) for data in
 WORKS = [(WORK, 0)] * 4608
 FILLINGS = [filling.quoted(K, data) for K in (0, 1, LARGEST) for data in (MOST, CHAIN, FAN, MOST + b'\0', bytes(60000))]
 FILLINGS += [filling.quoted(1, table(body + [(ALLOC, x), (END, 0)])) for body in ([], WORKS, WORKS + [(WORK, 0)], WORKS + [(WORK, 0)] * 2) for x in (511, 512, 513, LARGEST)]
+TURNS = [bytes([p]) + data[:3] + b'\xff' * 4 + data[3:] for p in (1, 16) for data in FILLINGS]
 
 TABLE = ['refused %d' % i for i in range(1, 12)]
 
@@ -262,6 +286,8 @@ PROGRAMS = {
     'tablecheck': ([MOST, CHAIN, FAN, bytes(70000)], tablecheck_input, lambda data: facts_line(check(data)) + '\n', table_traits, ['table'] + TABLE),
     'maxquota': (BOARDS, maxquota_input, lambda data: quota.maxquota(data) + '\n', quota_traits,
                  ['quota', 'the upper end', 'one worker', 'refused 20', 'refused 33', 'refused 41', 'refused 42'] + TABLE),
+    'maxturns': (TURNS, maxturns_input, lambda data: most.maxturns(data) + '\n', turns_traits,
+                 ['in place', 'filled out', 'above 100,000', 'refused 20', 'refused 21', 'refused 33', 'refused 44'] + TABLE),
     'filltable': (FILLINGS, filltable_input, filling.answer, filling_traits,
                   ['as it is', 'one tree', 'trees', 'not by rising action', 'above 1,000 threads', 'refused 3', 'refused 21', 'refused 33', 'refused 44']),
     'turnlist': (LISTINGS, turnlist_input, machine.turnlist, listing_traits,
@@ -302,7 +328,7 @@ def main():
     baseline = '--baseline' in sys.argv
     words = [word for word in sys.argv[1:] if word != '--baseline']
     count = int(words.pop(0)) if words and words[0].isdigit() else 3000
-    names = words or [name for name in PROGRAMS if not baseline or name not in ('maxquota', 'filltable', 'wallchart', 'call_cases')]
+    names = words or [name for name in PROGRAMS if not baseline or name not in ('maxquota', 'maxturns', 'filltable', 'wallchart', 'call_cases')]
     for name in names:
         for command in [['target/baseline', name], ['target/baseline_links', name]] if baseline else [['target/bin/' + name]]:
             compare(name, count, command)

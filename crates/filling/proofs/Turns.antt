@@ -68,26 +68,28 @@ module _ (T : Table) (K : ℕ) (some : 1 ≤ K) where
       go true e = rw e (omega (arith, tree-allocs (dummies T K a) c (dummies T K a) (omega (arith, dummies-two T K some a e)) (omega arith)))
       go false e = rw e
 
-  abbrev newJoins : ℕ → ℕ
-  newJoins a = pick (big T K a) (2 * dummies T K a - 1) 0
-
-  adds-join : (c a : ℕ) → adds join c a ≡ newJoins a
-  unfolding flatten sumIn is codeOf kindOf
+  -- as many joins as threads
+  adds-join : (c a : ℕ) → adds join c a ≡ newThreads T K a
+  unfolding flatten sumIn is codeOf kindOf newThreads
   adds-join c a = go (big T K a) refl
     where
-      go : (q : Bool) → big T K a ≡ q → adds join c a ≡ newJoins a
+      go : (q : Bool) → big T K a ≡ q → adds join c a ≡ newThreads T K a
       go true e =
           let two : 2 ≤ dummies T K a = dummies-two T K some a e in
           rw e (omega (arith, tree-joins (dummies T K a) c (dummies T K a) (omega (arith, two)) (omega arith), two))
       go false e = rw e
 
-  turns-parts : (a : ℕ) → newActions T K a + newJoins a ≡ newTurns T K a
-  unfolding newActions newTurns
+  turns-parts : (a : ℕ) → newActions T K a + newThreads T K a ≡ newTurns T K a
+  unfolding newActions newThreads newTurns
   turns-parts a = go (big T K a) refl
     where
-      go : (q : Bool) → big T K a ≡ q → newActions T K a + newJoins a ≡ newTurns T K a
+      go : (q : Bool) → big T K a ≡ q → newActions T K a + newThreads T K a ≡ newTurns T K a
       go true e = rw e (omega (arith, dummies-two T K some a e))
       go false e = rw e
+
+  -- and so from the threads and actions of the filled-out table
+  pub turns-counted : (k : ℕ) → sumTo (newActions T K) k + sumTo (newThreads T K) k ≡ sumTo (newTurns T K) k
+  turns-counted k = sumTo-add (newActions T K) (newThreads T K) (newTurns T K) k (λ a h. turns-parts a)
 
   module _ (l : Lawful T) (U : Table) (x : Fills T K U) where
     count-of : (k : Kind) (g : ℕ → ℕ) → ((c a : ℕ) → adds k c a ≡ g a) → ofKind U k ≡ ofKind T k + sumTo g (T .actions)
@@ -120,8 +122,8 @@ module _ (T : Table) (K : ℕ) (some : 1 ≤ K) where
           filled-actions T l K some,
           count-of alloc (λ a. 0) adds-alloc,
           sumTo-zero (λ a. 0) (T .actions) (λ a h. refl),
-          count-of join newJoins adds-join,
-          sumTo-add (newActions T K) newJoins (newTurns T K) (T .actions) (λ a h. turns-parts a),
+          count-of join (newThreads T K) adds-join,
+          turns-counted (T .actions),
         )
 
 pub fill-turns : (s : List ℕ) (K : ℕ) (rules : Rules s) (some : 1 ≤ K) → Fits (tableOf s) K

@@ -1,5 +1,5 @@
-// Reads inputs of `tablecheck` and `maxquota` one after the other, each with a label, and prints the label and the answer of each. A record of the input is the label's length
-// (1 byte), the label, 't' for `tablecheck` or 'q' for `maxquota`, the input's length (3 bytes), the input.
+// Reads inputs of `tablecheck`, `maxquota` and `maxturns` one after the other, each with a label, and prints the label and the answer of each. A record of the input is the label's
+// length (1 byte), the label, 't' for `tablecheck`, 'q' for `maxquota` or 'l' for `maxturns`, the input's length (3 bytes), the input.
 use libc::STDIN_FILENO;
 use libc::STDOUT_FILENO;
 ghost use Prim.Native.Nat.{_<_};
@@ -55,6 +55,14 @@ fn quota_answer(buffer: &mut [u8]) {
     io::write_all(STDOUT_FILENO, &line[..k]);
 }
 
+// The same of an input of `maxturns`.
+fn turns_answer(buffer: &mut [u8]) {
+    let n = io::read_full(STDIN_FILENO, buffer);
+    let mut line = [0u8; 80];
+    let k = most::turns_line(&buffer[..n], &mut line);
+    io::write_all(STDOUT_FILENO, &line[..k]);
+}
+
 // One record, and whether there was one.
 fn one() -> bool {
     let length = wide(one_byte());
@@ -70,6 +78,8 @@ fn one() -> bool {
     let n = within(length, &bytes);
     if program == b'q' {
         quota_answer(&mut bytes[..n]);
+    } else if program == b'l' {
+        turns_answer(&mut bytes[..n]);
     } else {
         table_answer(&mut bytes[..n]);
     }

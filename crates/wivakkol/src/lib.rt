@@ -10,13 +10,15 @@ ghost use Rattle.table.specs.Load.{tableValues};
 ghost use Rattle.quota.specs.Quota.{valuesFor};
 ghost use Rattle.wivakkol.specs.Rows.{factsRow, quotaRow};
 
-// Those that begin, open and run are public, so that `limits` can name their promises.
+// Those that begin, open and run are public, so that `claims` can name their promises.
 pub mod begin;
+mod limit;
 mod line;
 pub mod open;
 mod preview;
 pub mod runs;
 
+pub use limit::wivakkol_most_on;
 pub use line::wivakkol_chart_on;
 pub use preview::wivakkol_preview_on;
 

@@ -15,7 +15,7 @@
 //! ```
 //!
 //! What C has to keep to by itself is kept here by types: sizes, alignment, what overlaps what, one call at a time, and the same unchanged table for every call on a run. One thing is not: the
-//! stack. From C the calls behind [`check`] and [`largest_quota`] took up to 1,512 bytes of it, [`Run::begin`] 3,480, [`Run::open`] 6,136, [`Run::wall_line`] 6,440, a single turn 104, the others under 300. That the declarations fit the archives is tested and not proved.
+//! stack. From C the calls behind [`check`], [`largest_quota`] and [`most_turns`] took up to 1,512 bytes of it, [`Run::begin`] 3,480, [`Run::open`] 6,136, [`Run::wall_line`] 6,440, a single turn 104, the others under 300. That the declarations fit the archives is tested and not proved.
 #![no_std]
 #![deny(unsafe_op_in_unsafe_fn)]
 
@@ -71,4 +71,15 @@ pub fn largest_quota(work: &mut TablesWork, table: &[u8], p: u32, b: u32, memory
     let [place, quota] = row;
     Refusal::unless_zero(number, place)?;
     Ok(quota as u32)
+}
+
+/// How many turns a run of `p` workers with this quota takes at most: `p * (m + A + J)`, with the actions, allocs and joins of the table that runs, filled out where an alloc is above the
+/// quota. [`Run::rounds`] with this limit always finishes. At most 262,144. Refused with 1 to 11, 20, 21 or 44, as a beginning is.
+pub fn most_turns(work: &mut TablesWork, table: &[u8], p: u32, quota: u32) -> Result<u32, Refusal> {
+    let mut row = [0; 2];
+    // SAFETY: as in `check`.
+    let number = unsafe { raw::wivakkol_most_on(table.as_ptr(), table.len(), p, quota, &mut row, &mut work.rises, &mut work.falls) };
+    let [place, limit] = row;
+    Refusal::unless_zero(number, place)?;
+    Ok(limit as u32)
 }

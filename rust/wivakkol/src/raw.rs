@@ -25,6 +25,16 @@ extern "C" {
         depths: &mut [u16; 1024],
     ) -> u32;
 
+    pub fn wivakkol_most_on(
+        table: *const u8,
+        length: usize,
+        p: u32,
+        quota: u32,
+        row: &mut [u64; 2],
+        rises: &mut [u64; 1024],
+        falls: &mut [u64; 1024],
+    ) -> u32;
+
     pub fn wivakkol_begin_on(
         table: *const u8,
         length: usize,

@@ -38,6 +38,10 @@ fn largest_quota(table: &[u8], p: u32, b: u32, memory: u64) -> Result<u32, Refus
     wivakkol::largest_quota(&mut TablesWork::new(), table, p, b, memory)
 }
 
+fn most_turns(table: &[u8], p: u32, quota: u32) -> Result<u32, Refusal> {
+    wivakkol::most_turns(&mut TablesWork::new(), table, p, quota)
+}
+
 /// Why a run of this table with p workers and quota K is not begun.
 fn fault(table: &[u8], p: u32, quota: u32) -> Option<Refusal> {
     Run::begin(table, &mut Memory::new(), &mut Work::new(), p, quota).err()
@@ -215,6 +219,33 @@ fn refusals_of_a_beginning_and_a_quota() {
     for b in [0, 65536] {
         assert_eq!(largest_quota(&table, 2, b, 55), Err(refused(41, 0)));
     }
+}
+
+/// N8: p × (m + A + J) turns in rounds always finish; refused as a beginning is.
+#[test]
+fn most_turns_of_a_run_in_rounds() {
+    let table = bytes(&e());
+    assert_eq!(most_turns(&table, 2, 6), Ok(32));
+    assert_eq!(most_turns(&table, 2, 5), Ok(88));
+    assert_eq!(most_turns(&table, 16, 5), Ok(704));
+    for p in 1..=16 {
+        let (mut memory, mut work) = (Memory::new(), Work::new());
+        let limit = most_turns(&table, p, 6).unwrap();
+        assert_eq!(limit, 16 * p);
+        let mut run = Run::begin(&table, &mut memory, &mut work, p, 6).unwrap();
+        assert!(matches!(run.rounds(limit), Ok(Report::Finished { .. })));
+    }
+    let mut work = TablesWork::new();
+    let large = bytes(&vec![vec![Alloc(513), End]]);
+    assert_eq!(wivakkol::most_turns(&mut work, &large, 1, 1), Err(refused(44, 0)));
+    assert_eq!(wivakkol::most_turns(&mut work, &large, 1, 2), Ok(3 + 9 * 257 - 4));
+    for p in [0, 17, 256, 258, u32::MAX] {
+        assert_eq!(most_turns(&large, p, 0), Err(refused(20, 0)));
+    }
+    for quota in [0, 1 << 24, u32::MAX] {
+        assert_eq!(most_turns(&large, 2, quota), Err(refused(21, 0)));
+    }
+    assert_eq!(most_turns(&[], 0, 0), Err(refused(1, 0)));
 }
 
 /// Where numbers stand in the bytes of a run.

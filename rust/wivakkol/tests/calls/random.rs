@@ -1,6 +1,7 @@
 //! Random tables; single turns, runs over lists and runs in rounds, mixed, compared with the model after every call.
+use crate::model::Action::{Alloc, Join};
 use crate::model::{self, bytes, facts, filled, Draw, Machine, Said, Table};
-use wivakkol::{check, Memory, Refusal, Reply, Report, Run, Status, TablesWork, Work, TABLE_MOST};
+use wivakkol::{check, most_turns, Memory, Refusal, Reply, Report, Run, Status, TablesWork, Work, TABLE_MOST};
 
 /// The first action of each thread.
 fn firsts(table: &Table) -> Vec<usize> {
@@ -146,10 +147,10 @@ fn all_calls_mixed() {
     assert_eq!(finished, 300);
 }
 
-/// Quotas below the allocs: the filled-out table runs, in a buffer of just its size, and no smaller one; both bounds are kept with its facts.
+/// Quotas below the allocs: the filled-out table runs, in a buffer of just its size, and no smaller one; both bounds are kept with its facts, and the limit of turns is of its counts.
 #[test]
 fn filled_out() {
-    let (mut draw, mut filled_out, mut too_large) = (Draw(24), 0, 0);
+    let (mut draw, mut tables_work, mut filled_out, mut too_large) = (Draw(24), TablesWork::new(), 0, 0);
     for _ in 0..200 {
         let (table, p, _) = drawn(&mut draw);
         let quota = 1 + draw.below(70) as u32;
@@ -158,6 +159,7 @@ fn filled_out() {
         if out.len() > 1024 || out.concat().len() > 8192 {
             let refusal = Run::begin_filling(&data, &mut room, &mut memory, &mut Work::new(), p, quota).err();
             assert_eq!((refusal.map(|x| x.number), room), (Some(44), [0; TABLE_MOST]));
+            assert_eq!(most_turns(&mut tables_work, &data, p, quota).err(), refusal);
             too_large += 1;
             continue;
         }
@@ -168,6 +170,8 @@ fn filled_out() {
         }
         let mut run = Run::begin_filling(&data, &mut room[..size], &mut memory, &mut Work::new(), p, quota).unwrap();
         assert_eq!(run.table(), wanted);
+        let again = out.concat().iter().filter(|x| matches!(x, Alloc(_) | Join(_))).count();
+        assert_eq!(most_turns(&mut tables_work, &data, p, quota), Ok(p * (out.concat().len() + again) as u32));
         let (mut machine, firsts, (peak, depth, nested)) = (Machine::begin(&out, p as usize, quota), firsts(&out), facts(&out));
         assert_eq!(peak, facts(&table).0);
         let premature = u64::from(p - 1) * u64::from(depth - 1);

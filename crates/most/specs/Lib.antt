@@ -1,0 +1,4 @@
+pub mod Most
+pub mod Line
+pub mod MostCases
+pub mod Code
