@@ -81,7 +81,7 @@ extern "C" {
 #define WIVAKKOL_MOST_ROW 2
 
 /* Working memory of the calls on tables, which C lends; it keeps nothing from one call to the next. wivakkol_check and wivakkol_quota use `rises`, `falls`, `peaks` and `depths`, wivakkol_most
- * `rises` and `falls`; `names` and `order` are used by no call yet. What a call uses of it is all 0 afterwards, also where it refuses.
+ * `rises` and `falls`; `names` and `order` are for wivakkol_tables.h. What a call uses of it is all 0 afterwards, also where it refuses.
  *
  * C must keep to this: before its first use all of it has been written, whatever the numbers, as a static or zeroed object is; it is aligned as a wivakkol_tables_work is and overlaps nothing
  * else that the call is given. One may serve many tables, with one call at a time on it. */
