@@ -1,6 +1,6 @@
 //! AsyncDF for job tables: a scheduler whose memory is bounded beforehand, for every order in which its workers take their turns. The calls are proved; this crate calls them in the archives
-//! `libwivakkol_turn.a` and `libwivakkol.a`, which `rt staticlib wivakkol_turn` and `rt staticlib wivakkol` write, and gives their numbers types. It has no heap, no state and no dependencies. docs/REFERENCE.md
-//! of the repository says what a table is, what a turn does and which bounds hold.
+//! `libwivakkol_turn.a`, `libwivakkol.a` and `libwivakkol_tables.a`, which `rt staticlib wivakkol_turn`, `rt staticlib wivakkol` and `rt staticlib wivakkol_tables` write, and gives their numbers types. It has no heap, no state and no dependencies. docs/REFERENCE.md
+//! of the repository says what a table is, what a turn does and which bounds hold. Without the feature `tables`, which is on by default, [`canonical`] and [`compare`] are left out, and the third archive is not needed.
 //!
 //! ```
 //! use wivakkol::{Memory, Report, Run, TablesWork, Work};
@@ -26,10 +26,14 @@ mod memory;
 mod raw;
 mod refusal;
 mod run;
+#[cfg(feature = "tables")]
+mod tables;
 
 pub use memory::{Memory, TablesWork, Work};
 pub use refusal::{Place, Refusal};
 pub use run::{Preview, Reply, Report, Run, Status, Stopped, Turn};
+#[cfg(feature = "tables")]
+pub use tables::{canonical, compare, RefusedTable};
 
 /// The longest table that is accepted, in bytes: 1,024 threads and 8,192 actions. A longer input may be handed over, and is refused.
 pub const TABLE_MOST: usize = 36868;
