@@ -17,7 +17,6 @@ from designs import shuffled
 
 ARCHIVE, OUT, CALLS = 'target/staticlib/libwivakkol_tables.a', 'target/c', '100'
 NAMES = ['`wivakkol_canonical`', '`wivakkol_compare`']
-MOST_RATIO = 1.5
 
 
 def build(words):
@@ -52,8 +51,6 @@ def main():
     print('\nmicroseconds, C\'s, × C:\n\n| | %s |\n|---|%s' % (' | '.join(NAMES), '---|' * len(NAMES)))
     for name, t in least.items():
         print('| %s | %s |' % (name, ' | '.join('%.1f, %.1f, %.2f' % (x / 1000, y / 1000, x / y) for x, y in zip(t[::2], t[1::2]))))
-    missed = ['%s %s' % (name, call) for name, t in least.items() for call, x, y in zip(NAMES, t[::2], t[1::2]) if x > MOST_RATIO * y]
-    print('\nat most %.1f × plain C: %s' % (MOST_RATIO, 'missed by ' + ', '.join(missed) if missed else 'met'))
 
 
 if __name__ == '__main__':
