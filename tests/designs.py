@@ -38,7 +38,25 @@ def form(data):
     bodies = bodies_of(data)
     order = fork_order(bodies)
     name = {t: i for i, t in enumerate(order)}
-    return 'form', table(*[renamed(bodies, name)[t] for t in order])
+    bodies = renamed(bodies, name)
+    return 'form', table(*[bodies[t] for t in order])
+
+
+def shuffled(rng, data):
+    """The same design under other numbers, drawn among those that keep each thread above the one that forks it."""
+    bodies = bodies_of(data)
+    order, ready = [], [0]
+    while ready:
+        order.append(ready.pop(rng.randrange(len(ready))))
+        ready += [x for kind, x in bodies[order[-1]] if kind == FORK]
+    bodies = renamed(bodies, {t: i for i, t in enumerate(order)})
+    return table(*[bodies[t] for t in order])
+
+
+def form_answer(data):
+    """What canontable writes to standard output and to standard error."""
+    answer = form(data)
+    return (answer[1], b'') if answer[0] == 'form' else (b'', b'refused %d %d\n' % answer[1:])
 
 
 def compare(first, second):
