@@ -34,7 +34,7 @@ use array_machine::fits::fork_fits;
 use array_machine::fits::free_fits;
 use array_machine::fits::join_fits;
 use array_machine::fits::next_fits;
-use array_machine::release::release;
+use array_machine::release::release_lent;
 use schedule::Reply;
 use schedule::Worker;
 use schedule::statuses::ENDED;
@@ -56,6 +56,7 @@ ghost use Rattle.schedule.specs.Machine.{ended, nobody};
 ghost use Rattle.array_machine.specs.Turn.{waitsIn};
 ghost use Rattle.array_machine.specs.Counted.{busyAfter};
 ghost use Rattle.run_memory.specs.Blocks.{bytesIn, wordsIn, numbersIn, sumsIn, memoryOf};
+ghost use Rattle.run_memory.specs.Memory.{workerFrom};
 ghost use Rattle.run_memory.specs.Places.{holdsIn, statused};
 ghost use Rattle.run_memory.specs.Code.Writes.{having, seatedBytes, Room, settled, settledWords, settledNumbers, heldSums};
 ghost use Rattle.run_memory.specs.Code.Acts.{gone, acted, Seated};
@@ -134,19 +135,27 @@ fn settle(
     put_quota(numbers, w, after.quota);
 }
 
-// "w is released"
+// Worker w's record, as it stands in its cells.
+fn worker_at(bytes: &[u8; 1040], words: &[u16; 6163], numbers: &[u32; 18], w: usize) -> Worker
+    ensures { λ r. ⌜ r ≡ workerFrom (bytesIn (now (bytes .entry)) .holds) (wordsIn (now (words .entry)) .threads) (numbersIn (now (numbers .entry)) .quotas) w ⌝ }
+{
+    Worker {
+        holds: holds_at(bytes, w),
+        thread: thread_at(words, w),
+        quota: quota_at(numbers, w),
+    }
+}
+
+// "w is released": its record is lent to the end of the turn, altered there, and goes back into its cells.
 fn let_go(bytes: &mut [u8; 1040], words: &mut [u16; 6163], numbers: &mut [u32; 18], w: usize)
     requires { ⌜ Room w (bytesIn (now bytes)) (wordsIn (now words)) ⌝ }
     ensures { λ _. ⌜ bytesIn (now (bytes .exit)) ≡ settled w nobody (bytesIn (now (bytes .entry))) ⌝ }
     ensures { λ _. ⌜ wordsIn (now (words .exit)) ≡ settledWords w (holdsIn w (bytesIn (now (bytes .entry)))) nobody (wordsIn (now (words .entry))) ⌝ }
     ensures { λ _. ⌜ numbersIn (now (numbers .exit)) ≡ settledNumbers w nobody (numbersIn (now (numbers .entry))) ⌝ }
 {
-    let worker = Worker {
-        holds: holds_at(&*bytes, w),
-        thread: thread_at(&*words, w),
-        quota: quota_at(&*numbers, w),
-    };
-    settle(bytes, words, numbers, w, release(worker));
+    let mut worker = worker_at(&*bytes, &*words, &*numbers, w);
+    release_lent(&mut worker);
+    settle(bytes, words, numbers, w, worker);
 }
 
 // "insert T into R in its original position": the thread stands in its place with this status, and its worker is released.
