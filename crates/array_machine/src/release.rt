@@ -1,5 +1,5 @@
-// "w is released". A turn reads the worker's record out of its cells and writes back the one that `release` returns (`let_go`, crates/run_memory/src/act.rt); what is lent here and altered is
-// that record's local.
+// "w is released": "A worker's own record may be lent to the end of its turn and altered there." A turn has the record in a local, read from the worker's cells; that local is what is lent
+// here, and it is written back into the cells as it stands at exit (`let_go`, crates/run_memory/src/act.rt).
 use schedule::Worker;
 ghost use mathlib.Core.Path.{_≡_};
 ghost use Rattle.schedule.specs.Machine.{nobody};

@@ -26,8 +26,8 @@ use crate::places::quota_at;
 use crate::places::row_at;
 use crate::places::setting_at;
 use crate::places::status_at;
-use crate::places::thread_at;
 use crate::places::total_at;
+use crate::places::worker_at;
 use array_machine::drawn;
 use array_machine::fits::alloc_fits;
 use array_machine::fits::fork_fits;
@@ -56,7 +56,6 @@ ghost use Rattle.schedule.specs.Machine.{ended, nobody};
 ghost use Rattle.array_machine.specs.Turn.{waitsIn};
 ghost use Rattle.array_machine.specs.Counted.{busyAfter};
 ghost use Rattle.run_memory.specs.Blocks.{bytesIn, wordsIn, numbersIn, sumsIn, memoryOf};
-ghost use Rattle.run_memory.specs.Memory.{workerFrom};
 ghost use Rattle.run_memory.specs.Places.{holdsIn, statused};
 ghost use Rattle.run_memory.specs.Code.Writes.{having, seatedBytes, Room, settled, settledWords, settledNumbers, heldSums};
 ghost use Rattle.run_memory.specs.Code.Acts.{gone, acted, Seated};
@@ -135,18 +134,7 @@ fn settle(
     put_quota(numbers, w, after.quota);
 }
 
-// Worker w's record, as it stands in its cells.
-fn worker_at(bytes: &[u8; 1040], words: &[u16; 6163], numbers: &[u32; 18], w: usize) -> Worker
-    ensures { λ r. ⌜ r ≡ workerFrom (bytesIn (now (bytes .entry)) .holds) (wordsIn (now (words .entry)) .threads) (numbersIn (now (numbers .entry)) .quotas) w ⌝ }
-{
-    Worker {
-        holds: holds_at(bytes, w),
-        thread: thread_at(words, w),
-        quota: quota_at(numbers, w),
-    }
-}
-
-// "w is released": its record is lent to the end of the turn, altered there, and goes back into its cells.
+// "w is released": its record, read into a local, is lent and altered there, and the local goes back into the cells.
 fn let_go(bytes: &mut [u8; 1040], words: &mut [u16; 6163], numbers: &mut [u32; 18], w: usize)
     requires { ⌜ Room w (bytesIn (now bytes)) (wordsIn (now words)) ⌝ }
     ensures { λ _. ⌜ bytesIn (now (bytes .exit)) ≡ settled w nobody (bytesIn (now (bytes .entry))) ⌝ }

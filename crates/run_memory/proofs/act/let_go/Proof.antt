@@ -1,5 +1,5 @@
--- `let_go` meets its contract: a walk of its MIR, by hand, since it makes a reference to a record. The three blocks are lent as `&` to `worker_at` and come back; the record that it returned, in its local, is lent to `release_lent`
--- for a lifetime that is made for the call, and comes back as what that promises; then the blocks go to `settle` for good, with the record, and its promise is `let_go`'s.
+-- `let_go` meets its contract: a walk of its MIR, by hand, since it makes a reference to a record. The three blocks are lent as `&` to `worker_at`, and come back. The local that has the record is lent to `release_lent`, for a
+-- lifetime that is made for the call, and comes back as what is promised of it. Then the blocks go to `settle` for good, with the record, and what it promises is what `let_go` promises.
 use mathlib.Core.Path.{_≡_, refl, sym, ap, subst}
 use Prim.Native.Nat.{ℕ, _<_, _^_}
 use mathlib.Core.List.{[], _∷_, List}
@@ -55,10 +55,10 @@ use Rattle.array_machine.proofs.release.release_lent as lent
 use Rattle.array_machine.proofs.release.release_lent.Symbol as lent-def
 use Rattle.array_machine.proofs.release.release_lent.Symbol.{name as #lent}
 use Rattle.array_machine.proofs.release.release_lent.Met as lent-thm
-use Rattle.run_memory.proofs.act.worker_at as worker-at
-use Rattle.run_memory.proofs.act.worker_at.Symbol as worker-at-def
-use Rattle.run_memory.proofs.act.worker_at.Symbol.{name as #worker-at}
-use Rattle.run_memory.proofs.act.worker_at.Met as worker-at-thm
+use Rattle.run_memory.proofs.places.worker_at as worker-at
+use Rattle.run_memory.proofs.places.worker_at.Symbol as worker-at-def
+use Rattle.run_memory.proofs.places.worker_at.Symbol.{name as #worker-at}
+use Rattle.run_memory.proofs.places.worker_at.Met as worker-at-thm
 use Rattle.run_memory.proofs.act.settle as settle
 use Rattle.run_memory.proofs.act.settle.Symbol as settle-def
 use Rattle.run_memory.proofs.act.settle.Symbol.{name as #settle}
@@ -92,11 +92,12 @@ vals = LL.vals T.the-type T′.the-laws
 made : Is T.the-row nobody (vals nobody)
 made = LL.owes T.the-type T′.the-laws nobody (refl, ((refl, lit< tt), ((refl, lit< tt), tt)))
 
--- a `&mut` is lent as `&` for a lifetime that is made for a call, and comes back
-module _ {M : Type 1} (𝓤 : URA M) (H : Heap 𝓤) (A : Atoms 𝓤) (W : Given 𝓤 H A) (R : RattleType) (ℓ : Lifetime) (κ : Lft) (q : Share) (x : RefT (R .Denot)) where
+-- ---- a `&mut` is lent as `&` for a lifetime that is made for a call, and comes back
+module _ (R : RattleType) (ℓ : Lifetime) (κ : Lft) (q : Share) (x : RefT (R .Denot)) where
   abbrev whole : Fml
   whole = MutRef ℓ κ R .own x (ptr-vals x)
 
+  -- the loan for the lifetime α and under the name δ, and what is kept meanwhile
   abbrev seen : GName → RefT (R .Denot)
   seen δ = record { ptr = x .ptr; name = δ; now = x .now }
 
@@ -106,18 +107,21 @@ module _ {M : Type 1} (𝓤 : URA M) (H : Heap 𝓤) (A : Atoms 𝓤) (W : Given
   abbrev kept : ℕ → Fml
   kept α = keptS R κ q (α ∷ []) (x .name) (x .now) (x .ptr .0) (x .ptr .1)
 
-  shares : ent 𝓤 (sep 𝓤 (sem 𝓤 H A whole) (A .lft κ q)) (H .⇛ (ex 𝓤 (λ (z : ℕ × GName). sep 𝓤 (A .lft (z .0 ∷ []) fullShare) (sep 𝓤 (sem 𝓤 H A (shared (z .0) (z .1))) (sem 𝓤 H A (kept (z .0)))))))
-  shares =
-      qed W (‵ whole ∷ ‵ (flft κ q) ∷ []) ∵ updating ! $ fsplit ! $ drop ! $ lft-new ! tt (λ α. move ! (1 ∷ 2 ∷ []) $
-      use2 W (later (some (λ (δ : GName). ‵ (ShrOwn ℓ (α ∷ []) R .own (seen δ)) ⊛ ‵ (kept α)))) (ref-reshare 𝓤 H A W R κ q (α ∷ []) (x .ptr .0) (x .ptr .1) (x .name) (x .now)) $ await ! tt $ pick ! (λ δ. split ! $
-      feqI ! (List Val) (ptr-vals x) (ptr-vals x) refl $ fjoin ! $ at-once ! $
-      show ! (λ (z : ℕ × GName). sep 𝓤 (A .lft (z .0 ∷ []) fullShare) (sep 𝓤 (sem 𝓤 H A (shared (z .0) (z .1))) (sem 𝓤 H A (kept (z .0))))) (α, δ) $ move ! (2 ∷ 0 ∷ []) $ done !))
+  abbrev loan : {M : Type 1} (𝓤 : URA M) → ℕ × GName → Item 𝓤
+  loan 𝓤 z = ‵ (flft (z .0 ∷ []) fullShare) ⊛ (‵ (shared (z .0) (z .1)) ⊛ ‵ (kept (z .0)))
 
-  back : (α : ℕ) → ent 𝓤 (sep 𝓤 (A .lft (α ∷ []) fullShare) (sem 𝓤 H A (kept α))) (H .⇛ (sep 𝓤 (sem 𝓤 H A whole) (A .lft κ q)))
-  back α =
-      qed W (‵ (flft (α ∷ []) fullShare) ∷ ‵ (kept α) ∷ []) ∵ updating ! $ lft-end ! tt $
-      use2 W (later (‵ (MutOwn ℓ κ R .own x) ⊛ ‵ (flft κ q))) (ref-reshare-back 𝓤 H A W R κ q (α ∷ []) (x .ptr .0) (x .ptr .1) (x .name) (x .now)) $ await ! tt $ split ! $
-      feqI ! (List Val) (ptr-vals x) (ptr-vals x) refl $ fjoin ! $ at-once ! $ done !
+  module _ {M : Type 1} (𝓤 : URA M) (H : Heap 𝓤) (A : Atoms 𝓤) (W : Given 𝓤 H A) where
+    shares : ent 𝓤 (sep 𝓤 (sem 𝓤 H A whole) (A .lft κ q)) (H .⇛ (ex 𝓤 (λ (z : ℕ × GName). mean 𝓤 H A (loan 𝓤 z))))
+    shares =
+        qed W (‵ whole ∷ ‵ (flft κ q) ∷ []) ∵ updating ! $ fsplit ! $ drop ! $ lft-new ! tt (λ α. move ! (1 ∷ 2 ∷ []) $
+        use2 W (later (some (λ (δ : GName). ‵ (ShrOwn ℓ (α ∷ []) R .own (seen δ)) ⊛ ‵ (kept α)))) (ref-reshare 𝓤 H A W R κ q (α ∷ []) (x .ptr .0) (x .ptr .1) (x .name) (x .now)) $ await ! tt $ pick ! (λ δ. split ! $
+        feqI ! (List Val) (ptr-vals x) (ptr-vals x) refl $ fjoin ! $ at-once ! $ show ! (λ (z : ℕ × GName). mean 𝓤 H A (loan 𝓤 z)) (α, δ) $ move ! (2 ∷ 0 ∷ []) $ done !))
+
+    back : (α : ℕ) → ent 𝓤 (sep 𝓤 (A .lft (α ∷ []) fullShare) (sem 𝓤 H A (kept α))) (H .⇛ (sep 𝓤 (sem 𝓤 H A whole) (A .lft κ q)))
+    back α =
+        qed W (‵ (flft (α ∷ []) fullShare) ∷ ‵ (kept α) ∷ []) ∵ updating ! $ lft-end ! tt $
+        use2 W (later (‵ (MutOwn ℓ κ R .own x) ⊛ ‵ (flft κ q))) (ref-reshare-back 𝓤 H A W R κ q (α ∷ []) (x .ptr .0) (x .ptr .1) (x .name) (x .now)) $ await ! tt $ split ! $
+        feqI ! (List Val) (ptr-vals x) (ptr-vals x) refl $ fjoin ! $ at-once ! $ done !
 
 module _ {M : Type 1} (𝓤 : URA M) (H : Heap 𝓤) (A : Atoms 𝓤) (at-mem : Memory → SProp 𝓤) (run : Routine → Fun 𝓤) where
   -- the contracts that the proof cites
@@ -167,13 +171,13 @@ module _ {M : Type 1} (𝓤 : URA M) (H : Heap 𝓤) (A : Atoms 𝓤) (W : Given
   tokens = ‵ (flft κ₀ q₀) ⊛ (‵ (flft κ₁ q₁) ⊛ (‵ (flft κ₂ q₂) ⊛ ‵ ftrue))
 
   abbrev whole₀ : Fml
-  whole₀ = whole 𝓤 H A W RB (named 0) κ₀ q₀ x₀
+  whole₀ = whole RB (named 0) κ₀ q₀ x₀
 
   abbrev whole₁ : Fml
-  whole₁ = whole 𝓤 H A W RW (named 1) κ₁ q₁ x₁
+  whole₁ = whole RW (named 1) κ₁ q₁ x₁
 
   abbrev whole₂ : Fml
-  whole₂ = whole 𝓤 H A W RN (named 2) κ₂ q₂ x₂
+  whole₂ = whole RN (named 2) κ₂ q₂ x₂
 
   -- the three blocks, each with its token
   abbrev blocks : Item 𝓤
@@ -189,26 +193,23 @@ module _ {M : Type 1} (𝓤 : URA M) (H : Heap 𝓤) (A : Atoms 𝓤) (W : Given
       (z .0 .0 ∷ [], (z .1 .0 .0 ∷ [], (z .1 .1 .0 ∷ [], tt))),
       (fullShare, (fullShare, (fullShare, tt))),
       tt,
-      (seen 𝓤 H A W RB (named 0) κ₀ q₀ x₀ (z .0 .1), (seen 𝓤 H A W RW (named 1) κ₁ q₁ x₁ (z .1 .0 .1), (seen 𝓤 H A W RN (named 2) κ₂ q₂ x₂ (z .1 .1 .1), (w, tt)))),
+      (seen RB (named 0) κ₀ q₀ x₀ (z .0 .1), (seen RW (named 1) κ₁ q₁ x₁ (z .1 .0 .1), (seen RN (named 2) κ₂ q₂ x₂ (z .1 .1 .1), (w, tt)))),
       (ptr-vals x₀, (ptr-vals x₁, (ptr-vals x₂, (vint w64 w ∷ [], tt)))),
     ),
     tt,
   )
 
   abbrev keeps : Names → Item 𝓤
-  keeps z = ‵ (kept 𝓤 H A W RB (named 0) κ₀ q₀ x₀ (z .0 .0)) ⊛ (‵ (kept 𝓤 H A W RW (named 1) κ₁ q₁ x₁ (z .1 .0 .0)) ⊛ ‵ (kept 𝓤 H A W RN (named 2) κ₂ q₂ x₂ (z .1 .1 .0)))
+  keeps z = ‵ (kept RB (named 0) κ₀ q₀ x₀ (z .0 .0)) ⊛ (‵ (kept RW (named 1) κ₁ q₁ x₁ (z .1 .0 .0)) ⊛ ‵ (kept RN (named 2) κ₂ q₂ x₂ (z .1 .1 .0)))
 
   goes-read : ent 𝓤 (onEntry 𝓤 H A let-go.signature (κ₀, (κ₁, (κ₂, tt))) (q₀, (q₁, (q₂, tt))) (x₀, (x₁, (x₂, (w, tt)))) (ptr-vals x₀, (ptr-vals x₁, (ptr-vals x₂, (vint w64 w ∷ [], tt)))))
       (H .⇛ (ex 𝓤 (λ (z : Names). sep 𝓤 (Read 𝓤 H A at-mem run .pre (to-read z)) (mean 𝓤 H A (keeps z)))))
   goes-read =
       qed W (tokens ∷ args ∷ []) ∵ updating ! $ split ! $ move ! (1 ∷ []) $ split ! $ move ! (1 ∷ []) $ split ! $ move ! (4 ∷ []) $ fsplit ! $ move ! (1 ∷ []) $ fsplit ! $ move ! (1 ∷ []) $ fsplit ! $
-      -- [words' end: numbers; the rest; words; bytes; their tokens, last first]
-      move ! (3 ∷ 7 ∷ []) $ use2 W (later (some (λ (z : ℕ × GName). ‵ (flft (z .0 ∷ []) fullShare) ⊛ (‵ (shared 𝓤 H A W RB (named 0) κ₀ q₀ x₀ (z .0) (z .1)) ⊛ ‵ (kept 𝓤 H A W RB (named 0) κ₀ q₀ x₀ (z .0))))))
-      (shares 𝓤 H A W RB (named 0) κ₀ q₀ x₀) $ await ! tt $ pick ! (λ z₀. split ! $
-      move ! (4 ∷ 7 ∷ []) $ use2 W (later (some (λ (z : ℕ × GName). ‵ (flft (z .0 ∷ []) fullShare) ⊛ (‵ (shared 𝓤 H A W RW (named 1) κ₁ q₁ x₁ (z .0) (z .1)) ⊛ ‵ (kept 𝓤 H A W RW (named 1) κ₁ q₁ x₁ (z .0))))))
-      (shares 𝓤 H A W RW (named 1) κ₁ q₁ x₁) $ await ! tt $ pick ! (λ z₁. split ! $
-      move ! (4 ∷ 6 ∷ []) $ use2 W (later (some (λ (z : ℕ × GName). ‵ (flft (z .0 ∷ []) fullShare) ⊛ (‵ (shared 𝓤 H A W RN (named 2) κ₂ q₂ x₂ (z .0) (z .1)) ⊛ ‵ (kept 𝓤 H A W RN (named 2) κ₂ q₂ x₂ (z .0))))))
-      (shares 𝓤 H A W RN (named 2) κ₂ q₂ x₂) $ await ! tt $ pick ! (λ z₂. split ! $
+      -- [the numbers; the rest of the parameters; the words; the bytes; the numbers' token; true; the words' token; the bytes' token]
+      move ! (3 ∷ 7 ∷ []) $ use2 W (later (some (loan RB (named 0) κ₀ q₀ x₀ 𝓤))) (shares RB (named 0) κ₀ q₀ x₀ 𝓤 H A W) $ await ! tt $ pick ! (λ z₀. split ! $
+      move ! (4 ∷ 7 ∷ []) $ use2 W (later (some (loan RW (named 1) κ₁ q₁ x₁ 𝓤))) (shares RW (named 1) κ₁ q₁ x₁ 𝓤 H A W) $ await ! tt $ pick ! (λ z₁. split ! $
+      move ! (4 ∷ 6 ∷ []) $ use2 W (later (some (loan RN (named 2) κ₂ q₂ x₂ 𝓤))) (shares RN (named 2) κ₂ q₂ x₂ 𝓤 H A W) $ await ! tt $ pick ! (λ z₂. split ! $
       move ! (1 ∷ []) $ split ! $ move ! (4 ∷ []) $ split ! $ move ! (7 ∷ []) $ split ! $ keep ! (8 ∷ 7 ∷ 6 ∷ 0 ∷ 2 ∷ 4 ∷ 1 ∷ 3 ∷ 5 ∷ []) $
       -- [the loans' tokens; the loans; what is kept of each]
       owned ! usize (Is usize) (uint-makes 𝓤 H A W w64) w _ (refl, fits) $ nothing ! $ move ! (1 ∷ 0 ∷ []) $ join ! $ move ! (6 ∷ 0 ∷ []) $ join ! $ move ! (5 ∷ 0 ∷ []) $ join ! $ move ! (4 ∷ 0 ∷ []) $ join ! $
@@ -223,9 +224,9 @@ module _ {M : Type 1} (𝓤 : URA M) (H : Heap 𝓤) (A : Atoms 𝓤) (W : Given
       ⊛ raw (ensured 𝓤 H A worker-at.ended (worker-at.clauses 𝓤 H A at-mem run) (to-read z .0 .0) (to-read z .0 .3) tt r)))) (id⊢ 𝓤 _) $ await ! tt $ pick ! (λ r. split ! $ move ! (1 ∷ []) $ drop ! $ split ! $ split ! $
       move ! (1 ∷ []) $ split ! $ move ! (1 ∷ []) $ split ! $ move ! (5 ∷ []) $ split ! $ move ! (1 ∷ []) $ split ! $
       -- [what is kept of the words; of the numbers; of the bytes; the numbers' token; true; the words' token; the bytes' token; the record]
-      move ! (6 ∷ 2 ∷ []) $ use2 W (later (‵ whole₀ ⊛ ‵ (flft κ₀ q₀))) (back 𝓤 H A W RB (named 0) κ₀ q₀ x₀ (z .0 .0)) $ await ! tt $ split ! $
-      move ! (6 ∷ 2 ∷ []) $ use2 W (later (‵ whole₁ ⊛ ‵ (flft κ₁ q₁))) (back 𝓤 H A W RW (named 1) κ₁ q₁ x₁ (z .1 .0 .0)) $ await ! tt $ split ! $
-      move ! (5 ∷ 4 ∷ []) $ use2 W (later (‵ whole₂ ⊛ ‵ (flft κ₂ q₂))) (back 𝓤 H A W RN (named 2) κ₂ q₂ x₂ (z .1 .1 .0)) $ await ! tt $ split ! $
+      move ! (6 ∷ 2 ∷ []) $ use2 W (later (‵ whole₀ ⊛ ‵ (flft κ₀ q₀))) (back RB (named 0) κ₀ q₀ x₀ 𝓤 H A W (z .0 .0)) $ await ! tt $ split ! $
+      move ! (6 ∷ 2 ∷ []) $ use2 W (later (‵ whole₁ ⊛ ‵ (flft κ₁ q₁))) (back RW (named 1) κ₁ q₁ x₁ 𝓤 H A W (z .1 .0 .0)) $ await ! tt $ split ! $
+      move ! (5 ∷ 4 ∷ []) $ use2 W (later (‵ whole₂ ⊛ ‵ (flft κ₂ q₂))) (back RN (named 2) κ₂ q₂ x₂ 𝓤 H A W (z .1 .1 .0)) $ await ! tt $ split ! $
       at-once ! $ show ! (λ (r′ : Worker). sep 𝓤 (sem 𝓤 H A (T.the-row .own r′ (v ∷ []))) (mean 𝓤 H A blocks)) r $ keep ! (7 ∷ 4 ∷ 5 ∷ 2 ∷ 3 ∷ 0 ∷ 1 ∷ []) $ done !)
 
   -- ---- the call of `release_lent`: the reference to the local at l, for the lifetime α and under the name δ
@@ -378,6 +379,6 @@ let-go-spec 𝓤 H 𝓜 𝓖 𝓡 =
     entered 𝓤 H (tripleOf 𝓤 H (𝓖 .A) let-go.signature (let-go.spec 𝓤 H (𝓖 .A) (𝓜 .mem) (𝓡 .run)))
     (tables 𝓤 H 𝓜 𝓡 code.env .C) (tables 𝓤 H 𝓜 𝓡 code.env .Λ) #let-go code.function (code.unfolded 𝓤 H 𝓜 𝓡)
     (meets 𝓤 H (𝓖 .A) (givenOf 𝓤 H 𝓜 𝓖) (𝓜 .mem) (𝓡 .run) (tablesOf 𝓤 H 𝓜 (tables 𝓤 H 𝓜 𝓡 code.env))
-    (cited 𝓤 H (Read 𝓤 H (𝓖 .A) (𝓜 .mem) (𝓡 .run)) 𝓜 𝓡 code.env #worker-at worker-at-def.routine code.calls-run-memory·act·worker-at (worker-at-thm.met 𝓤 H 𝓜 𝓖 𝓡))
+    (cited 𝓤 H (Read 𝓤 H (𝓖 .A) (𝓜 .mem) (𝓡 .run)) 𝓜 𝓡 code.env #worker-at worker-at-def.routine code.calls-run-memory·places·worker-at (worker-at-thm.met 𝓤 H 𝓜 𝓖 𝓡))
     (cited 𝓤 H (Lent 𝓤 H (𝓖 .A) (𝓜 .mem) (𝓡 .run)) 𝓜 𝓡 code.env #lent lent-def.routine code.calls-array-machine·release·release-lent (lent-thm.met 𝓤 H 𝓜 𝓖 𝓡))
     (cited 𝓤 H (Settle 𝓤 H (𝓖 .A) (𝓜 .mem) (𝓡 .run)) 𝓜 𝓡 code.env #settle settle-def.routine code.calls-run-memory·act·settle (settle-thm.met 𝓤 H 𝓜 𝓖 𝓡)))

@@ -1,7 +1,7 @@
--- `run_memory::act::worker_at` meets its contract: each field is what its cell holds.
+-- `run_memory::places::worker_at` meets its contract: each field is what its cell holds.
 use borrow.Author.Needs.{needs}
-use Rattle.run_memory.proofs.act.worker_at.Statement.{statement}
-use Rattle.run_memory.proofs.act.worker_at.Tie as tie
+use Rattle.run_memory.proofs.places.worker_at.Statement.{statement}
+use Rattle.run_memory.proofs.places.worker_at.Tie as tie
 
 holds-at-requires : tie.Need-holds-at-requires
 holds-at-requires c κs = search needs
