@@ -1,5 +1,5 @@
-// "w is released". A turn reads the worker's record out of its cells and writes back the one that `release` returns (`let_go`, crates/run_memory/src/act.rt); what is lent here and altered is
-// that record's local.
+// "w is released": "A worker's own record may be lent to the end of its turn and altered there." A turn has the record in a local, read from the worker's cells; that local is what is lent
+// here, and it is written back into the cells as it stands at exit (`let_go`, crates/run_memory/src/act.rt).
 use schedule::Worker;
 ghost use mathlib.Core.Path.{_≡_};
 ghost use Rattle.schedule.specs.Machine.{nobody};
@@ -10,18 +10,10 @@ const NO_THREAD: u16 = 0;
 const NO_QUOTA: u32 = 0;
 
 // The whole record that stands there at exit; nothing else is lent, so nothing else changes.
-fn release_lent(worker: &mut Worker)
+pub fn release_lent(worker: &mut Worker)
     ensures { λ _. ⌜ now (worker .exit) ≡ nobody ⌝ }
 {
     worker.holds = false;
     worker.thread = NO_THREAD;
     worker.quota = NO_QUOTA;
-}
-
-// The same by value, for every caller: no other function makes a reference to a record.
-pub fn release(mut worker: Worker) -> Worker
-    ensures { λ r. ⌜ r ≡ nobody ⌝ }
-{
-    release_lent(&mut worker);
-    worker
 }

@@ -26,15 +26,15 @@ use crate::places::quota_at;
 use crate::places::row_at;
 use crate::places::setting_at;
 use crate::places::status_at;
-use crate::places::thread_at;
 use crate::places::total_at;
+use crate::places::worker_at;
 use array_machine::drawn;
 use array_machine::fits::alloc_fits;
 use array_machine::fits::fork_fits;
 use array_machine::fits::free_fits;
 use array_machine::fits::join_fits;
 use array_machine::fits::next_fits;
-use array_machine::release::release;
+use array_machine::release::release_lent;
 use schedule::Reply;
 use schedule::Worker;
 use schedule::statuses::ENDED;
@@ -134,19 +134,16 @@ fn settle(
     put_quota(numbers, w, after.quota);
 }
 
-// "w is released"
+// "w is released": its record, read into a local, is lent and altered there, and the local goes back into the cells.
 fn let_go(bytes: &mut [u8; 1040], words: &mut [u16; 6163], numbers: &mut [u32; 18], w: usize)
     requires { ⌜ Room w (bytesIn (now bytes)) (wordsIn (now words)) ⌝ }
     ensures { λ _. ⌜ bytesIn (now (bytes .exit)) ≡ settled w nobody (bytesIn (now (bytes .entry))) ⌝ }
     ensures { λ _. ⌜ wordsIn (now (words .exit)) ≡ settledWords w (holdsIn w (bytesIn (now (bytes .entry)))) nobody (wordsIn (now (words .entry))) ⌝ }
     ensures { λ _. ⌜ numbersIn (now (numbers .exit)) ≡ settledNumbers w nobody (numbersIn (now (numbers .entry))) ⌝ }
 {
-    let worker = Worker {
-        holds: holds_at(&*bytes, w),
-        thread: thread_at(&*words, w),
-        quota: quota_at(&*numbers, w),
-    };
-    settle(bytes, words, numbers, w, release(worker));
+    let mut worker = worker_at(&*bytes, &*words, &*numbers, w);
+    release_lent(&mut worker);
+    settle(bytes, words, numbers, w, worker);
 }
 
 // "insert T into R in its original position": the thread stands in its place with this status, and its worker is released.

@@ -1,8 +1,6 @@
 // Whole rows copied into the four blocks and out of them, for a run record that goes by value.
 use crate::act::as_number;
-use crate::places::holds_at;
-use crate::places::quota_at;
-use crate::places::thread_at;
+use crate::places::worker_at;
 use schedule::Worker;
 ghost use mathlib.Core.Path.{_≡_};
 ghost use Prim.Native.Nat.{_+_, _≤_};
@@ -79,11 +77,7 @@ pub fn workers_out(bytes: &[u8; 1040], words: &[u16; 6163], numbers: &[u32; 18])
     }; 16];
     let mut w = 0;
     while w < 16 {
-        workers[w] = Worker {
-            holds: holds_at(bytes, w),
-            thread: thread_at(words, w),
-            quota: quota_at(numbers, w),
-        };
+        workers[w] = worker_at(bytes, words, numbers, w);
         w += 1;
     }
     workers

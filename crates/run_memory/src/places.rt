@@ -1,7 +1,9 @@
 // The numbers of a run at their places in the four blocks (specs/Blocks): each read and each write of one, whatever stands there. A read outside a row gives 0, and a write there does nothing.
+use schedule::Worker;
 ghost use mathlib.Core.Path.{_≡_};
 ghost use lib.ListN.{length, getD};
 ghost use Rattle.run_memory.specs.Blocks.{bytesIn, wordsIn, numbersIn, sumsIn};
+ghost use Rattle.run_memory.specs.Memory.{workerFrom};
 ghost use Rattle.run_memory.specs.Places.{holdsIn, statused, holding, rowed, threaded, headAt, headed, settingAt, setTo, quotaed, amounted, totalAt, totalled};
 
 // the rows of the words, a number for each thread
@@ -138,6 +140,17 @@ pub fn put_quota(numbers: &mut [u32; 18], w: usize, x: u32)
 {
     if w < 16 {
         numbers[2 + w] = x;
+    }
+}
+
+// Worker w's record, as it stands in its cells.
+pub fn worker_at(bytes: &[u8; 1040], words: &[u16; 6163], numbers: &[u32; 18], w: usize) -> Worker
+    ensures { λ r. ⌜ r ≡ workerFrom (bytesIn (now (bytes .entry)) .holds) (wordsIn (now (words .entry)) .threads) (numbersIn (now (numbers .entry)) .quotas) w ⌝ }
+{
+    Worker {
+        holds: holds_at(bytes, w),
+        thread: thread_at(words, w),
+        quota: quota_at(numbers, w),
     }
 }
 

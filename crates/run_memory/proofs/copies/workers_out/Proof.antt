@@ -17,14 +17,8 @@ abbrev μ-loop : tie.MeasureT-loop
 loop-holds : tie.Need-loop-holds Inv-loop μ-loop
 loop-holds c = record { size = refl; right = λ i l. absurd (omega (arith, l)) }
 
-holds-at-requires : tie.Need-holds-at-requires Inv-loop μ-loop
-holds-at-requires c κs = search needs
-
-thread-at-requires : tie.Need-thread-at-requires Inv-loop μ-loop
-thread-at-requires c κs = search needs
-
-quota-at-requires : tie.Need-quota-at-requires Inv-loop μ-loop
-quota-at-requires c κs = search needs
+worker-at-requires : tie.Need-worker-at-requires Inv-loop μ-loop
+worker-at-requires c κs = search needs
 
 mul-workers : tie.Need-mul-workers Inv-loop μ-loop
 mul-workers c = search needs
@@ -39,11 +33,7 @@ loop-less : tie.Need-loop-less Inv-loop μ-loop
 loop-less c = omega arith
 
 loop-again : tie.Need-loop-again Inv-loop μ-loop
-loop-again c =
-    let t = c .before in
-    let o = t .before in
-    one-more (o .before .before .loop .inv) (o .before .loop-test .taken) _
-    (λ i. record { holds = o .holds-at .ensures i; thread = t .thread-at .ensures i; quota = c .quota-at .ensures i })
+loop-again c = one-more (c .before .before .loop .inv) (c .before .loop-test .taken) _ (c .worker-at .ensures)
 
 returns : tie.Need-returns Inv-loop μ-loop
 returns c = all-sixteen (c .before .loop .inv) (c .loop-test .left)
@@ -55,9 +45,7 @@ workers-out-spec =
     Inv-loop
     μ-loop
     loop-holds
-    holds-at-requires
-    thread-at-requires
-    quota-at-requires
+    worker-at-requires
     mul-workers
     array-set-from-workers
     add-w
