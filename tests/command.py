@@ -5,11 +5,11 @@ usage: python3 tests/command.py            (from the repository's top, after `rt
        python3 tests/command.py --write    (puts the output seen into docs/COMMAND.md, and docs/pictures/repeats.svg: to be read before it is kept)
 """
 import functools
-import importlib.machinery
 import os
 import pathlib
 import pty
 import re
+import runpy
 import shutil
 import subprocess
 import sys
@@ -254,8 +254,8 @@ def options_refused():
     turns = b'table 3 12 serial 6 depth 8\n1 0 0 0 fork 0\nrefused 30 0\n'
     refuses(['list', '-p', 2, '-K', 6, '--order', 0, 2, e], '--order: ' + words(30), out=turns)
     refuses(['picture', '-p', 2, '-K', 6, '--order', 0, 2, e], '--order: ' + words(30))
-    refuses(['join'] + [e] * 17, '%s: %s' % (' '.join([e] * 17), words(47)))
-    refuses(['join'] + [many] * 5, '%s: %s' % (' '.join([many] * 5), words(48)))
+    refuses(['join'] + [e] * 17, '17 tables: ' + words(47))
+    refuses(['join'] + [many] * 5, '5 tables: ' + words(48))
     refuses(['join', e, 'examples/e.run'], 'examples/e.run: ' + words(2))
     refuses(['cmp', e, 'examples/e.run'], 'examples/e.run: ' + words(2))
     refuses(['cmp', '--numbers', e, 'examples/e.run'], 'refused 2 0 table 1')
@@ -263,9 +263,7 @@ def options_refused():
 
 def words_of_the_reference():
     """Each number in the tables of refusals has words, its meaning is that of its row, and `help` says them."""
-    sys.dont_write_bytecode = True
-    loader = importlib.machinery.SourceFileLoader('wivakkol', str(COMMAND))
-    refusals = loader.load_module().REFUSALS
+    refusals = runpy.run_path(str(COMMAND))['REFUSALS']
     rows = re.findall(r'^\| ([0-9]+) \| (?:0|n|entry|action|thread) \| ((?:[^|]*\|){2,3})$', (TOP / 'docs/REFERENCE.md').read_text(), re.M)
     expect('numbers without words', {int(number) for number, _ in rows} - set(refusals), set())
     for number, refusal in refusals.items():
