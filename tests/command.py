@@ -139,8 +139,7 @@ def on_the_examples(folder):
             answers(['quota', '-p', 2, '-M', 3000, given], program('maxquota', input_of('workers 2\nbetween 1\nmemory 3000\n', text)))
             answers(['quota', '-p3', '-b', 2, '-M', 2 ** 64 - 1, '--papers', given],
                     program('maxquota', input_of('workers 3\nbetween 2\nmemory %d\n' % (2 ** 64 - 1), text)))
-            for p, quota in ((2, 12), (3, 5)) if given == path else ((2, 12),):
-                runs_of(given, text, table, p, quota)
+            runs_of(given, text, table, *((3, 5) if given == path else (2, 12)))
 
 
 def runs_of(given, text, table, p, quota):
