@@ -22,6 +22,7 @@
 #[cfg(not(target_arch = "x86_64"))]
 compile_error!("the archive is built for x86-64 alone");
 
+mod builder;
 mod memory;
 mod raw;
 mod refusal;
@@ -29,6 +30,7 @@ mod run;
 #[cfg(feature = "tables")]
 mod tables;
 
+pub use builder::{Builder, NotBuilt, Thread};
 pub use memory::{Memory, TablesWork, Work};
 pub use refusal::{Place, Refusal};
 pub use run::{Preview, Reply, Report, Run, Status, Stopped, Turn};

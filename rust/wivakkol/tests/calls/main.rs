@@ -1,4 +1,5 @@
 //! The crate's calls, compared with document 01's cases and with a machine written on its own; and its declarations, held against the source.
+mod builder;
 mod cases;
 mod declarations;
 #[cfg(feature = "tables")]

@@ -1,0 +1,424 @@
+"""Runs tools/wivakkol on the examples and on what it must refuse: answers against the programs in target/bin with inputs that inputasm makes, messages and exit statuses against what is written
+here, the words of refusals against docs/REFERENCE.md, and every command of docs/COMMAND.md against the output that stands there.
+
+usage: python3 tests/command.py            (from the repository's top, after `rt check` of the programs)
+       python3 tests/command.py --write    (puts the output seen into docs/COMMAND.md, and docs/pictures/repeats.svg: to be read before it is kept)
+"""
+import functools
+import os
+import pathlib
+import pty
+import re
+import runpy
+import shutil
+import subprocess
+import sys
+import tempfile
+
+TOP = pathlib.Path.cwd()
+COMMAND, PAGE, PICTURE, BIN = TOP / 'tools/wivakkol', TOP / 'docs/COMMAND.md', TOP / 'docs/pictures/repeats.svg', TOP / 'target/bin'
+TEXTS = ['e', 'parts', 'stages', 'tree', 'repeats']
+E = (TOP / 'examples/e.table').read_bytes()
+count = 0
+
+
+def expect(what, found, wanted):
+    global count
+    count += 1
+    if found != wanted:
+        sys.exit('%s: expected\n%s\nfound\n%s' % (what, wanted, found))
+
+
+def call(*given, data=b'', command=COMMAND, **more):
+    """Standard output, standard error and exit status of a call."""
+    done = subprocess.run([str(command), *map(str, given)], input=data, stdout=subprocess.PIPE, stderr=subprocess.PIPE, **more)
+    return done.stdout, done.stderr.decode(), done.returncode
+
+
+def program(name, data):
+    """What a program writes by itself, to either output."""
+    done = subprocess.run([str(BIN / name)], input=data, stdout=subprocess.PIPE, stderr=subprocess.PIPE)
+    return done.stdout + done.stderr
+
+
+def answers(given, wanted, data=b''):
+    expect(' '.join(map(str, given)), call(*given, data=data), (wanted, '', 0))
+
+
+def refuses(given, line, data=b'', status=1, out=b''):
+    expect(' '.join(map(str, given)), call(*given, data=data), (out, line + '\n', status))
+
+
+# The page
+
+def blocks(text):
+    """The commands of a page, each with the lines of output below it: (start, end, [(command, output)]) for each block of lines."""
+    lines, found = text.split('\n'), []
+    starts = [i for i, line in enumerate(lines) if line.startswith('    $ ') and not lines[i - 1].startswith('    ')]
+    for start in starts:
+        end = next(i for i in range(start, len(lines)) if not lines[i].startswith('    '))
+        found.append((start, end, [line[6:] for line in lines[start:end] if line.startswith('    $ ')]))
+    return lines, found
+
+
+def seen(commands, folder, path):
+    """What each command prints, one after the other in one shell, in which $? is that of the command before."""
+    mark = '---- next ----'
+    script = ''.join('%s\ns=$?; echo "%s"; (exit $s)\n' % (command, mark) for command in commands)
+    done = subprocess.run(['bash'], input=script, cwd=folder, env={**os.environ, 'PATH': path}, stdout=subprocess.PIPE, stderr=subprocess.STDOUT, text=True)
+    return done.stdout.split(mark + '\n')[:-1]
+
+
+def page(write):
+    """The page as it would be with the output seen. `wivakkol` is found through a link, as its section on installing says."""
+    text = PAGE.read_text()
+    with tempfile.TemporaryDirectory() as folder:
+        os.symlink(TOP / 'examples', folder + '/examples')
+        os.mkdir(folder + '/bin')
+        link = re.search(r'^    (ln -s .*)$', text, re.M)[1]
+        subprocess.run(link.replace('~/.local/bin/', folder + '/bin/'), shell=True, check=True)
+        lines, found = blocks(text)
+        told = seen([command for block in found for command in block[2]], folder, '%s/bin:%s' % (folder, os.environ['PATH']))
+        for start, end, commands in reversed(found):
+            here, told = told[-len(commands):], told[:-len(commands)]
+            lines[start:end] = [line for command, out in zip(commands, here) for line in ['    $ ' + command] + ['    ' + row for row in out.splitlines()]]
+        drawn = pathlib.Path(folder, 'repeats.svg').read_bytes()
+    if write:
+        PAGE.write_text('\n'.join(lines))
+        PICTURE.write_bytes(drawn)
+        return
+    expect('docs/COMMAND.md', text, '\n'.join(lines))
+    expect('docs/pictures/repeats.svg', PICTURE.read_bytes(), drawn)
+
+
+def rows_of_page():
+    """The page's table of commands names each command with its program, and its table of options each option."""
+    text = PAGE.read_text()
+    rows = dict(re.findall(r'^\| `(\w+)[^|]*` \| `(\w+)`', text, re.M))
+    commands = re.findall(r'^  (\w+) ', call('help')[0].decode(), re.M)
+    expect('commands of the page', list(rows), commands)
+    for name in commands:
+        for option in re.findall(r'^  (-\S+)', call('help', name)[0].decode(), re.M):
+            expect('%s in the page' % option, option == '--help' or bool(re.search(r'`%s[ `]' % option, text)), True)
+    return rows
+
+
+def help_examples(rows):
+    """The example in each command's help prints the line below it, and is answered with the program that the page names."""
+    with tempfile.TemporaryDirectory() as folder:
+        os.symlink(TOP / 'examples', folder + '/examples')
+        os.symlink(COMMAND, folder + '/wivakkol')
+        for name in rows:
+            example = re.findall(r'^    (.*)$', call('help', name)[0].decode(), re.M)
+            told, = seen(example[:1], folder, '%s:%s' % (folder, os.environ['PATH']))
+            expect('help %s' % name, told.split('\n')[0], ''.join(example[1:]))
+            expect('%s --help' % name, call(name, '--help'), call('help', name))
+        expect('files of the examples', sorted(p.name for p in pathlib.Path(folder).glob('*.table')), ['both.table', 'e.table', 'e5.table', 'stages.table'])
+        expect('asm', pathlib.Path(folder, 'e.table').read_bytes(), E)
+
+
+# Answers
+
+def input_of(front, text):
+    return program('inputasm', front.encode() + text)
+
+
+def on_the_examples(folder):
+    """Each command on each example, as text and as bytes, against the program with the input that inputasm makes."""
+    for name in TEXTS:
+        text = (TOP / 'examples' / (name + '.text')).read_bytes()
+        table = program('tableasm', text)
+        path = folder / (name + '.table')
+        path.write_bytes(table)
+        for given in ('examples/%s.text' % name, path):
+            answers(['check', given], program('tablecheck', table))
+            answers(['asm', given], table)
+            answers(['dis', given], program('tabledis', table))
+            answers(['canon', given], program('canontable', table))
+            answers(['cmp', given, path], b'equal\n')
+            answers(['quota', '-p', 2, '-M', 3000, given], program('maxquota', input_of('workers 2\nbetween 1\nmemory 3000\n', text)))
+            answers(['quota', '-p3', '-b', 2, '-M', 2 ** 64 - 1, '--papers', given],
+                    program('maxquota', input_of('workers 3\nbetween 2\nmemory %d\n' % (2 ** 64 - 1), text)))
+            runs_of(given, text, table, *((3, 5) if given == path else (2, 12)))
+
+
+def runs_of(given, text, table, p, quota):
+    front = 'workers %d\nquota %d\n' % (p, quota)
+    limit = program('maxturns', input_of(front + 'limit 0\n', text))
+    order = [turn % p for turn in range(min(int(limit.split()[1]), 4096))]
+    whole = input_of(front + 'order %s\n' % ' '.join(map(str, order)), text)
+    some = input_of(front + 'order 1 0 1 1\norder 0 0\n', text)
+    options = ['-p', p, '-K', quota, given]
+    answers(['turns', *options], limit)
+    answers(['fill', '-K', quota, given], program('filltable', quota.to_bytes(3, 'little') + table))
+    answers(['run', *options], program('runrounds', input_of(front + 'limit %d\n' % int(limit.split()[1]), text)))
+    answers(['run', '--rounds', 7, *options], program('runrounds', input_of(front + 'limit 7\n', text)))
+    for name, shown in ('list', 'turnlist'), ('chart', 'wallchart'):
+        answers([name, *options], program(shown, whole))
+        answers([name, '--order', '1 0 1', '1', '0', '0', *options], program(shown, some))
+    drawn = subprocess.run([sys.executable, 'tools/picture.py', '-p', str(p), '-K', str(quota), '-b', '2'], input=program('turnlist', some), stdout=subprocess.PIPE)
+    answers(['picture', '-b', 2, '--order=1 0 1 1 0 0', *options], drawn.stdout)
+
+
+def ways_to_give(folder):
+    """Standard input, orders in files, values in the option's word, names that look like options; -o, also over a file that is read."""
+    order = folder / 'order'
+    order.write_text('0 1\r\n0\t1\n')
+    wanted = call('list', '-p', 2, '-K', 6, '--order', '0 1 0 1', 'examples/e.text')[0]
+    answers(['list', '-p2', '-K6', '--order', '@%s' % order, '-'], wanted, E)
+    answers(['list', '-p2', '-K6', '--order', '@-', 'examples/e.text'], wanted, b'0 1 0 1')
+    answers(['list', '-p2', '-K6', '--rounds=4', '-'], wanted, (TOP / 'examples/e.text').read_bytes())
+    answers(['list', '-p2', '-K6', '--rounds', 'examples/e.text'], call('list', '-p2', '-K6', 'examples/e.text')[0])
+    answers(['list', '-p2', '-K6', '--order', '', '--', 'examples/e.text'], b'table 3 12 serial 6 depth 8\nopen 0 peak 0\n')
+    expect('a name that looks like an option', call('check', '--', '-p', cwd=made(folder, '-p', E)), (b'table 3 12 serial 6 depth 8 nested 2\n', '', 0))
+    path = made(folder, 'over', (TOP / 'examples/e.text').read_bytes()) / 'over'
+    answers(['asm', path, '-o', path], b'')
+    expect('written over', path.read_bytes(), E)
+    answers(['dis', path, '-o', '-'], program('tabledis', E))
+    joined = program('jointables', bytes([2]) + 2 * len(E).to_bytes(4, 'little') + E + E)
+    answers(['join', 'examples/e.text', 'examples/e.table'], joined)
+    answers(['cmp', 'examples/e.text', 'examples/tree.text'], b'before\n')
+
+
+def made(folder, name, data):
+    (folder / name).write_bytes(data)
+    return folder
+
+
+# Refusals
+
+@functools.lru_cache(maxsize=None)
+def words(number):
+    return call('help', number)[0].decode().strip()
+
+
+def bytes_refused(folder):
+    """Damaged tables as bytes: file and place, and the bare line with --numbers. All numbers of the table's checks are met."""
+    damaged = [E[:at] + bytes([value]) + E[at + 1:] for at, value in [(4, 1), (8, 6), (12, 8), (16, 6), (17, 0), (21, 1), (25, 1), (45, 7), (48, 1)]]
+    unforked = bytes([2, 0, 2, 0, 0, 0, 1, 0, 1, 0, 1, 0]) + bytes(8)
+    met = set()
+    for data in damaged + [unforked, b'', b'\1', bytes(12), E + b'\0', E + E * 4000]:
+        line = program('tablecheck', data).decode().strip()
+        number, place = map(int, line.split()[1:])
+        path = made(folder, 'damaged.table', data) / 'damaged.table'
+        counted = {4: 'entry', 11: 'thread'}.get(number, 'action') if number > 3 else None
+        refuses(['check', path], '%s: %s' % ('%s: %s %d' % (path, counted, place) if counted else path, words(number)))
+        refuses(['dis', '--numbers', path], line)
+        met.add(number)
+    expect('numbers met', met, set(range(1, 12)))
+
+
+def texts_refused(folder):
+    """What tableasm says of a text, with file and line."""
+    head = b'# first\n\nthread 0\n'
+    for rest, line, number in [(b' fork 1\n end\nthread 1\nthread 2\n end\n', 6, 4), (b' work\n alloc 0\n end\n', 5, 6), (b' end\n work\n', 4, 7),
+                               (b' fork 1\n fork 1\n end\nthread 1\n end\n', 5, 8), (b' fork 1\n end\nthread 1\n end\n', 5, 9),
+                               (b' alloc 6\n\n # more\n free 7\n end\n', 7, 10), (b' end\nthread 1\n end\n', 5, 11)]:
+        refuses(['check', '-'], '<stdin>:%d: %s' % (line, words(number)), head + rest)
+        refuses(['asm', '--numbers', '-'], program('tableasm', head + rest).decode().strip(), head + rest)
+    refuses(['check', '-'], '<stdin>: %s' % words(2), b'   \n')
+    refuses(['check', '-'], '<stdin>:4: expected a number up to 16777215', head + b' alloc many\n')
+    refuses(['check', '--numbers', '-'], 'line 4: expected a number up to 16777215', head + b' alloc many\n')
+    refuses(['run', '-p', 2, '-K', 1, '-'], '<stdin>:2: a carriage return; lines end with a newline alone', head.replace(b'\n', b'\r\n') + b' end\r\n')
+    refuses(['check', '-'], '<stdin>:1: a byte order mark; a text begins without one', b'\xef\xbb\xbfthread 0\n end\n')
+    refuses(['check', '-'], '<stdin>: text above 262144 bytes', head + b'#' * 262144)
+
+
+def lines_of_actions(folder):
+    """44 at each alloc in turn, in a text with comments, blank lines and tabs: its line; and the action of the same table as bytes."""
+    lines = (TOP / 'examples/repeats.text').read_text().split('\n')
+    allocs = [i for i, line in enumerate(lines) if 'alloc' in line]
+    for i in allocs:
+        text = '\n'.join(lines[:i] + ['# thread 9', '', '\talloc\t1000 # alloc 1'] + lines[i + 1:]).replace('alloc 40', 'alloc 1').replace('alloc 10\n', 'alloc 1\n')
+        text = re.sub('free .*', 'work', text)
+        refuses(['fill', '-K', 1, '-'], '<stdin>:%d: %s' % (i + 3, words(44)), text.encode())
+    table = program('tableasm', text.encode())
+    action = program('filltable', b'\1\0\0' + table).decode().split()[2]
+    for given in ['turns', '-p', 2], ['run', '-p', 2], ['list', '-p', 2], ['chart', '-p', 2, '--order', 0], ['picture', '-p', 2, '--rounds', 3], ['fill']:
+        refuses([*given, '-K', 1, '-'], '<stdin>: action %s: %s' % (action, words(44)), table)
+
+
+def options_refused():
+    e, many = 'examples/e.text', 'examples/tree.text'
+    for name in ['turns'], ['run'], ['list'], ['chart', '--rounds', 3], ['picture']:
+        refuses([*name, '-p', 17, '-K', 6, e], '-p 17: ' + words(20))
+        refuses([*name, '-p', 0, '-K', 6, e], '-p 0: ' + words(20))
+        refuses([*name, '-p', 2, '-K', 0, e], '-K 0: ' + words(21))
+    refuses(['fill', '-K', 0, e], '-K 0: ' + words(21))
+    refuses(['quota', '-p', 17, '-M', 9, e], '-p 17: ' + words(20))
+    refuses(['quota', '-p', 2, '-b', 0, '-M', 9, e], '-b 0: ' + words(41))
+    refuses(['quota', '-p', 2, '-M', 47, e], '%s: %s' % (e, words(42)))
+    refuses(['quota', '-p', 2, '-M', 47, '--numbers', e], 'refused 42 0')
+    refuses(['list', '-p', 2, '-K', 6, '--rounds', 4097, e], '--rounds: ' + words(33))
+    turns = b'table 3 12 serial 6 depth 8\n1 0 0 0 fork 0\nrefused 30 0\n'
+    refuses(['list', '-p', 2, '-K', 6, '--order', 0, 2, e], '--order: ' + words(30), out=turns)
+    refuses(['picture', '-p', 2, '-K', 6, '--order', 0, 2, e], '--order: ' + words(30))
+    refuses(['join'] + [e] * 17, '17 tables: ' + words(47))
+    refuses(['join'] + [many] * 5, '5 tables: ' + words(48))
+    refuses(['join', e, 'examples/e.run'], 'examples/e.run: ' + words(2))
+    refuses(['cmp', e, 'examples/e.run'], 'examples/e.run: ' + words(2))
+    refuses(['cmp', '--numbers', e, 'examples/e.run'], 'refused 2 0 table 1')
+
+
+def words_of_the_reference():
+    """Each number in the tables of refusals has words, its meaning is that of its row, and `help` says them."""
+    refusals = runpy.run_path(str(COMMAND))['REFUSALS']
+    rows = re.findall(r'^\| ([0-9]+) \| (?:0|n|entry|action|thread) \| ((?:[^|]*\|){2,3})$', (TOP / 'docs/REFERENCE.md').read_text(), re.M)
+    expect('numbers without words', {int(number) for number, _ in rows} - set(refusals), set())
+    for number, refusal in refusals.items():
+        texts = [text for n, text in rows if int(n) == number]
+        for part in refusal.meaning.split('; at entry n, ') if texts else []:
+            expect('%d: %s' % (number, part), any(part in text for text in texts), True)
+        expect('help %d' % number, words(number), 'refused %d: %s; %s' % (number, refusal.meaning, refusal.advice))
+
+
+# Usage, reading, writing
+
+def wrong_usage():
+    e = 'examples/e.text'
+    for given, line in [
+            ([], 'which command? check, asm, dis, quota, turns, fill, run, list, chart, picture, join, canon, cmp (wivakkol help)'),
+            (['chekc', e], "no command is called 'chekc' (wivakkol help)"),
+            (['help', 'nothing'], "no command and no refusal is called 'nothing' (wivakkol help)"),
+            (['help', '22'], "no command and no refusal is called '22' (wivakkol help)"),
+            (['check'], 'check takes one table, found 0 (wivakkol help check)'),
+            (['check', e, e], 'check takes one table, found 2 (wivakkol help check)'),
+            (['cmp', e], 'cmp takes two tables, found 1 (wivakkol help cmp)'),
+            (['join', '-', '-'], 'standard input is read once (wivakkol help join)'),
+            (['list', '-p2', '-K2', '--order', '@-', '-'], 'standard input is read once (wivakkol help list)'),
+            (['check', '-p', '2', e], 'check takes no -p (wivakkol help check)'),
+            (['run', '-p', '2', e], 'run needs -K K (wivakkol help run)'),
+            (['quota', e], 'quota needs -p P and -M M (wivakkol help quota)'),
+            (['run', '-p', '2', '-p', '2', '-K', '6', e], '-p is given twice (wivakkol help run)'),
+            (['run', '-p', 'two', '-K', '6', e], "-p takes a number from 0 to 255, not 'two' (wivakkol help run)"),
+            (['run', '-p', '256', '-K', '6', e], "-p takes a number from 0 to 255, not '256' (wivakkol help run)"),
+            (['run', '-p', '2', '-K', '16777216', e], "-K takes a number from 0 to 16777215, not '16777216' (wivakkol help run)"),
+            (['run', '-p', '2', '-K', '-1', e], "-K takes a number from 0 to 16777215, not '-1' (wivakkol help run)"),
+            (['quota', '-p', '2', '-M', str(2 ** 64), e], "-M takes a number from 0 to %d, not '%d' (wivakkol help quota)" % (2 ** 64 - 1, 2 ** 64)),
+            (['run', e, '-p'], '-p needs a value, P (wivakkol help run)'),
+            (['check', '--numbers=1', e], '--numbers takes no value (wivakkol help check)'),
+            (['list', '-p', '2', '-K', '6', '--order', '0', '--rounds', '4', e], '--order or --rounds, not both (wivakkol help list)'),
+            (['list', '-p', '2', '-K', '6', '--order', '0 256', e], "--order takes a number from 0 to 255, not '256' (wivakkol help list)"),
+            (['list', '-p', '2', '-K', '6', '--rounds', '65536', e], 'an order of 65536 turns: it has at most 4096 (wivakkol help list)'),
+            (['picture', '-p', '2', '-K', '6', '-b', '1', '--rule', e], '--rule finds b: it takes no -b (wivakkol help picture)'),
+            (['check', 'nosuch.text'], 'nosuch.text: No such file or directory'), (['check', 'examples'], 'examples: Is a directory'),
+            (['list', '-p', '2', '-K', '6', '--order', '@nosuch', e], 'nosuch: No such file or directory'),
+            (['check', e, '-o', 'nosuch/file'], 'nosuch/file: No such file or directory')]:
+        refuses(given, 'wivakkol: ' + line, status=2)
+    expect('picture -b 0', call('picture', '-p', 2, '-K', 6, '-b', 0, e)[2], 2)
+    answers(['--version'], b'wivakkol %s\n' % re.search(r'^version = "(.*)"', (TOP / 'rust/wivakkol/Cargo.toml').read_text(), re.M)[1].encode())
+
+
+def writing_fails(folder):
+    full = '<stdout>: No space left on device'
+    for given in ['check', 'examples/e.text'], ['list', '-p', '2', '-K', '6', 'examples/tree.text'], ['help'], ['--version']:
+        with open('/dev/full', 'wb') as out:
+            done = subprocess.run([str(COMMAND), *given], stdout=out, stderr=subprocess.PIPE)
+        expect('%s > /dev/full' % given, (done.stderr.decode(), done.returncode), ('wivakkol: %s\n' % full, 2))
+    refuses(['asm', 'examples/e.text', '-o', '/dev/full'], 'wivakkol: /dev/full: No space left on device', status=2)
+    with open('/dev/full', 'wb') as out:
+        done = subprocess.run([str(COMMAND), 'check', 'nosuch'], stderr=out)
+    expect('standard error full', done.returncode, 2)
+    closed = subprocess.run(['bash', '-c', '"$0" check examples/e.text >&-', str(COMMAND)], stderr=subprocess.PIPE)
+    expect('standard output closed', (closed.stderr.decode(), closed.returncode), ('wivakkol: <stdout>: Bad file descriptor\n', 2))
+    closed = subprocess.run(['bash', '-c', '"$0" check - <&-', str(COMMAND)], stdout=subprocess.PIPE, stderr=subprocess.PIPE)
+    expect('standard input closed', (closed.stdout, closed.stderr.decode(), closed.returncode), (b'', 'wivakkol: <stdin>: closed\n', 2))
+    kept = made(folder, 'kept', b'as it was') / 'kept'
+    refuses(['asm', 'examples/e.run', '-o', kept], 'examples/e.run: ' + words(2))
+    expect('-o of a refusal', kept.read_bytes(), b'as it was')
+
+
+def reader_leaves():
+    """A pipe that is closed before anything is written: no words, status 2; nobody is told twice."""
+    for given in ['dis', '-'], ['list', '-p', '2', '-K', '6', '-'], ['picture', '-p', '2', '-K', '6', '-']:
+        started = subprocess.Popen([str(COMMAND), *given], stdin=subprocess.PIPE, stdout=subprocess.PIPE, stderr=subprocess.PIPE)
+        started.stdout.close()
+        started.stdin.write(E)
+        started.stdin.close()
+        expect('%s, closed' % given, (started.stderr.read(), started.wait()), (b'', 2))
+        started.stderr.close()
+
+
+def terminal(folder):
+    """Bytes are not written to a terminal, texts are."""
+    for given, status in (['asm', 'examples/e.text'], 2), (['check', 'examples/e.text'], 0):
+        here, there = pty.openpty()
+        done = subprocess.run([str(COMMAND), *given], stdout=there, stderr=subprocess.PIPE)
+        os.close(there)
+        os.close(here)
+        expect('%s on a terminal' % given, done.returncode, status)
+
+
+# Programs that are not built
+
+def tree_without_programs(folder, programs):
+    """A repository of the tools alone, with some of the programs."""
+    top = folder / 'top'
+    shutil.rmtree(top, ignore_errors=True)
+    (top / 'target/bin').mkdir(parents=True)
+    shutil.copytree(TOP / 'tools', top / 'tools', ignore=shutil.ignore_patterns('__pycache__'))
+    for name in programs:
+        os.symlink(BIN / name, top / 'target/bin' / name)
+    return top
+
+
+def not_built(folder):
+    top = tree_without_programs(folder, ['tableasm'])
+    how = "not built yet: %%s. In %s, `rt check %%s` builds it (from nothing some %%d minutes with two cores, less where a part is proved already); so does --build" % top
+    for given, names, minutes in [(['check', 'examples/e.text'], 'tablecheck', 2), (['run', '-p2', '-K6', 'examples/e.text'], 'maxturns runrounds', 11),
+                                  (['run', '-p2', '-K6', '--rounds', '7', 'examples/e.text'], 'runrounds', 11), (['asm', 'examples/e.table'], 'tabledis', 4),
+                                  (['picture', '-p2', '-K6', 'examples/e.text'], 'maxturns turnlist', 11)]:
+        line = how % (names.replace(' ', ', '), names, minutes)
+        expect(' '.join(given), call(*given, command=top / 'tools/wivakkol'), (b'', 'wivakkol: %s\n' % line, 2))
+    expect('asm needs tableasm alone', call('asm', 'examples/e.text', command=top / 'tools/wivakkol'), (E, '', 0))
+
+
+def builds(folder):
+    """--build runs rt, which is here a script that links the programs, shows what it writes, and goes on."""
+    top = tree_without_programs(folder, [])
+    tools = folder / 'rt-here'
+    tools.mkdir()
+    (tools / 'rt').write_text('#!/bin/sh\necho "rt: $*" in "$PWD"\n[ -e broken ] && exit 1\nshift\nfor name; do ln -s "%s/$name" target/bin/; done\n' % BIN)
+    (tools / 'rt').chmod(0o755)
+    environment = {**os.environ, 'PATH': '%s:%s' % (tools, os.environ['PATH'])}
+    told = 'wivakkol: rt check tableasm tablecheck (from nothing some 4 minutes with two cores, less where a part is proved already; it is silent for a minute or more)\n' \
+           'rt: check tableasm tablecheck in %s\n' % top
+    here = top / 'tools/wivakkol'
+    (top / 'broken').touch()
+    expect('rt fails', call('check', '--build', 'examples/e.text', command=here, env=environment), (b'', told + 'wivakkol: rt check tableasm tablecheck ended with status 1\n', 2))
+    (top / 'broken').unlink()
+    expect('rt builds', call('check', '--build', 'examples/e.text', command=here, env=environment), (b'table 3 12 serial 6 depth 8 nested 2\n', told, 0))
+    expect('built', call('check', '--build', 'examples/e.text', command=here, env=environment), (b'table 3 12 serial 6 depth 8 nested 2\n', '', 0))
+    without = {**os.environ, 'PATH': '/nowhere'}
+    out, line, status = call(here, 'dis', '--build', 'examples/e.text', command=sys.executable, env=without)
+    expect('no rt', (out, line.split('\n')[1], status), (b'', 'wivakkol: rt, which builds the programs, cannot be started: No such file or directory', 2))
+    (top / 'target/bin/tabledis').write_text('#!/bin/sh\nexit 3\n')
+    (top / 'target/bin/tabledis').chmod(0o755)
+    expect('a program fails', call('dis', 'examples/e.text', command=here), (b'', 'wivakkol: tabledis ended with status 3 and no answer\n', 2))
+
+
+def main():
+    if sys.argv[1:] == ['--write']:
+        return page(True)
+    page(False)
+    help_examples(rows_of_page())
+    with tempfile.TemporaryDirectory() as name:
+        folder = pathlib.Path(name)
+        on_the_examples(folder)
+        ways_to_give(folder)
+        bytes_refused(folder)
+        texts_refused(folder)
+        lines_of_actions(folder)
+        options_refused()
+        words_of_the_reference()
+        wrong_usage()
+        writing_fails(folder)
+        reader_leaves()
+        terminal(folder)
+        not_built(folder)
+        builds(folder)
+    print('%d answers, refusals and statuses as they should be' % count)
+
+
+if __name__ == '__main__':
+    main()
