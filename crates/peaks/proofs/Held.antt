@@ -1,13 +1,13 @@
 -- The peak theorem: a state that keeps what any kind of run keeps, and in which no entered unended thread has a load above r, holds at most the root's peak at load r.
-use mathlib.Core.Path.{_≡_, refl, sym, ap, _∙_}
-use Prim.Native.Nat.{ℕ, zero, suc, _+_, _-_, _≤_, _<_, max}
+use mathlib.Core.Path.{_≡_, refl}
+use Prim.Native.Nat.{ℕ, suc, _+_, _-_, _≤_, _<_, max}
 use native.Mathlib.Omega.{arith}
 use native.Mathlib.Nat.{add-zero}
 use native.Mathlib.Decide.{ℕ-discrete, decLt, decLe}
 use mathlib.Core.List.{List, [], _∷_}
 use mathlib.Core.Bool.{Bool, true, false}
 use lib.Dec.{eqb, ltb}
-use borrow.Author.Tests.{eq-eqb, ne-eqb, lt-ltb, le-ltb}
+use borrow.Author.Tests.{eq-eqb, ne-eqb, lt-ltb}
 use Rattle.table.specs.Sum.{pick, sumTo, sumOver, greatestTo}
 use Rattle.table.specs.Format.{end, Table, kind}
 use Rattle.table.specs.Checks.{openBefore, endOf, tail}
@@ -19,8 +19,8 @@ use Rattle.schedule.specs.Machine.{State, unborn, ended, nextOf, statusOf}
 use Rattle.schedule.specs.Sound.{Common, balanceTo, progress, isJoined}
 use Rattle.order.proofs.Lawful.{Lawful}
 use Rattle.schedule.proofs.Sound.Facts.{Facts}
-use Rattle.schedule.proofs.Sound.Shares.{progress-ended, progress-next, progress-within}
-use Rattle.peaks.specs.Peak.{unended, unendedIn, outer, fresh, past, load, Light, final, gain, oneMore, most, peakOn, peakAt}
+use Rattle.schedule.proofs.Sound.Shares.{progress-ended, progress-next}
+use Rattle.peaks.specs.Peak.{unended, unendedIn, outer, fresh, past, load, Light, final, gain, most, peakOn, peakAt}
 use Rattle.peaks.proofs.Opens.{reach, greatest-at, Forked, Stacked, stacked, open-over}
 use Rattle.peaks.proofs.Loads.{outer-root, outer-child}
 use Rattle.peaks.proofs.Peaks.{gain-ended, gain-unended, peak-at}

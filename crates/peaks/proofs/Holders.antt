@@ -1,26 +1,25 @@
 -- When a worker takes a thread, the load of that thread, whole, is at most the number of workers that hold a thread left of it: each branch counted in it is wholly left of the thread and has
 -- a held thread in it, since what it waits for is further down in it and nothing left of the thread is ready.
-use mathlib.Core.Path.{_≡_, refl, sym, ap, _∙_}
+use mathlib.Core.Path.{_≡_, refl, sym, _∙_}
 use Prim.Native.Nat.{ℕ, zero, suc, _+_, _-_, _≤_, _<_}
 use native.Mathlib.Omega.{arith}
-use native.Mathlib.Nat.{add-suc, add-zero}
+use native.Mathlib.Nat.{add-suc}
 use native.Mathlib.Decide.{ℕ-discrete}
 use mathlib.Core.List.{List, [], _∷_, List·Memᴰ, List·Memᴰ·head, List·Memᴰ·not-nil, List·Memᴰ·cases-cons}
 use mathlib.Core.Bool.{Bool, true, false, _&&_}
 use mathlib.Core.Logic.{_⊎_, inl, inr}
 use lib.ListN.{getD}
 use lib.Dec.{ltb, eqb}
-use borrow.Author.Tests.{lt-ltb, le-ltb, ltb-true, eqb-true, eqb-false, eq-eqb, ne-eqb}
+use borrow.Author.Tests.{lt-ltb, le-ltb, ltb-true, eqb-false, eq-eqb, ne-eqb}
 use Rattle.table.specs.Sum.{pick, sumTo, sumOver}
 use Rattle.table.specs.Format.{fork, join, Table, kind}
 use Rattle.table.specs.Checks.{owner, endOf, openBefore}
-use Rattle.table.specs.Level.{forkBelow}
 use Rattle.table.proofs.Tests.{no-way, fork-no-end}
 use Rattle.table.proofs.Sums.{sumTo-le}
-use Rattle.table.proofs.Bodies.{end-within, owner-at, owner-of-end, owner-first, owner-end, owner-below, owner-of-first, fork-above, fork-below, join-above, next-owner}
+use Rattle.table.proofs.Bodies.{end-within, owner-at, owner-of-end, owner-first, owner-end, owner-below, fork-above, fork-below, join-above, next-owner}
 use Rattle.table.proofs.Nesting.{open-first, open-join, open-forked, fork-found, fork-exists}
 use Rattle.table.proofs.Amounts.{action-within}
-use Rattle.schedule.specs.Machine.{State, unborn, ready, held, waiting, ended, nextOf, statusOf, workerOf, leftmost}
+use Rattle.schedule.specs.Machine.{State, unborn, ready, held, ended, nextOf, statusOf, workerOf, leftmost}
 use Rattle.order.specs.Order.{numberOf}
 use Rattle.order.specs.Words.{countBelow}
 use Rattle.schedule.specs.Sound.{isDone}

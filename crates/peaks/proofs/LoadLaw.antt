@@ -5,9 +5,9 @@ use Prim.Native.Nat.{ℕ, zero, suc, _+_, _-_, _≤_, _<_}
 use native.Mathlib.Omega.{arith}
 use native.Mathlib.Decide.{ℕ-discrete, decLt}
 use mathlib.Core.List.{List, [], _∷_, List·Memᴰ, List·Memᴰ·head, List·Memᴰ·tail}
-use mathlib.Core.Bool.{Bool, true, false, _&&_, not}
+use mathlib.Core.Bool.{Bool, true, false, not}
 use mathlib.Core.Logic.{_⊎_, inl, inr}
-use lib.ListN.{length, getD}
+use lib.ListN.{getD}
 use lib.Dec.{ltb, eqb}
 use borrow.Author.Tests.{lt-ltb, le-ltb, eq-eqb, ne-eqb, eqb-false}
 use Rattle.table.specs.Sum.{pick, sumOver}
@@ -16,8 +16,8 @@ use Rattle.table.specs.Checks.{owner, endOf, openBefore, opened, tail}
 use Rattle.table.specs.Level.{forkBelow}
 use Rattle.table.proofs.Tests.{no-way, is-true}
 use Rattle.table.proofs.Words.{past-end}
-use Rattle.table.proofs.Bodies.{after-end, end-within, owner-is, owner-of-end, owner-of-first, first-within, fork-below}
-use Rattle.schedule.specs.Machine.{State, unborn, ready, held, ended, nextOf, statusOf, workerOf, leftmost, turnOf}
+use Rattle.table.proofs.Bodies.{after-end, end-within, owner-is, owner-of-end, fork-below}
+use Rattle.schedule.specs.Machine.{State, held, ended, nextOf, statusOf, workerOf, leftmost, turnOf}
 use Rattle.schedule.specs.Begin.{startState}
 use Rattle.schedule.specs.Memory.{rowState}
 use Rattle.order.specs.Order.{numberOf}
@@ -26,12 +26,12 @@ use Rattle.order.proofs.Lawful.{Lawful}
 use Rattle.order.proofs.Numbers.{number-child, number-resume}
 use Rattle.order.proofs.Words.{and-exactly, not-exactly}
 use Rattle.schedule.proofs.Sound.Facts.{Facts}
-use Rattle.schedule.proofs.Sound.Done.{done-low, done-live, done-ended, ended-all, number-first, next-below, owner-of-next}
+use Rattle.schedule.proofs.Sound.Done.{done-live, done-ended, ended-all, number-first, owner-of-next}
 use Rattle.schedule.proofs.Preservation.Turns.{leftmost-ready, turn-facts}
 use Rattle.schedule.proofs.Preservation.Starts.{start-next, start-worker, start-facts}
 use Rattle.schedule.proofs.Bounds.Beyond.{startAction, begins}
 use Rattle.schedule.proofs.Bounds.Tries.{Tries, Turned, idles, tries, turned, undone-before}
-use Rattle.peaks.specs.Peak.{unended, unendedIn, elders, outerWithin, outer, fresh, past, load, Light}
+use Rattle.peaks.specs.Peak.{unended, unendedIn, outerWithin, outer, fresh, past, load, Light}
 use Rattle.peaks.proofs.Loads.{past-fewer}
 use Rattle.peaks.proofs.Holders.{taken-few}
 

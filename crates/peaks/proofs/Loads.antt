@@ -1,5 +1,5 @@
 -- Unended elders without fuel.
-use mathlib.Core.Path.{_≡_, refl, ap, _∙_, sym}
+use mathlib.Core.Path.{_≡_, refl, ap, _∙_}
 use Prim.Native.Nat.{ℕ, zero, suc, _+_, _≤_, _<_}
 use native.Mathlib.Omega.{arith}
 use mathlib.Core.List.{List, [], _∷_}
@@ -11,7 +11,7 @@ use Rattle.table.specs.Level.{forkBelow}
 use Rattle.table.proofs.Bodies.{fork-above, fork-below}
 use Rattle.table.proofs.Nesting.{fork-found, fork-exists}
 use Rattle.order.proofs.Lawful.{Lawful}
-use Rattle.peaks.specs.Peak.{unended, unendedIn, elders, outerWithin, outer, fresh, past}
+use Rattle.peaks.specs.Peak.{unendedIn, elders, outerWithin, outer, fresh, past}
 
 module _ (T : Table) (l : Lawful T) (status : List ℕ) where
   parent-lower : (t : ℕ) → 0 < t → t < T .threads → owner T (forkBelow T (T .actions) t) < t

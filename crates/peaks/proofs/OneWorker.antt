@@ -1,25 +1,25 @@
 -- At load 0 the peak is the serial one: the peak of one worker is S1.
-use mathlib.Core.Path.{_≡_, refl, sym, ap, _∙_}
+use mathlib.Core.Path.{_≡_, refl, sym, _∙_}
 use Prim.Native.Nat.{ℕ, zero, suc, _+_, _-_, _≤_, _<_, max}
 use native.Mathlib.Omega.{arith}
 use native.Mathlib.Nat.{add-suc, add-zero}
 use native.Mathlib.Decide.{decLt}
 use mathlib.Core.List.{List, [], _∷_, List·Memᴰ, List·Memᴰ·head, List·Memᴰ·tail}
 use mathlib.Core.Bool.{Bool, true, false}
-use Rattle.table.specs.Sum.{pick, sumTo, sumOver, greatestTo}
-use Rattle.table.specs.Format.{end, fork, join, codeOf, is, Table, kind}
-use Rattle.table.specs.Checks.{openBefore, allocOf, freeOf, whole, partOf, endOf}
+use Rattle.table.specs.Sum.{sumTo, sumOver, greatestTo}
+use Rattle.table.specs.Format.{end, fork, codeOf, is, Table, kind}
+use Rattle.table.specs.Checks.{openBefore, allocOf, freeOf, whole, endOf}
 use Rattle.table.specs.Serial.{S1}
 use Rattle.table.proofs.Tests.{is-true, fork-no-end}
 use Rattle.table.proofs.Bodies.{count-pos, after-end, end-kind, fork-above, fork-below}
-use Rattle.table.proofs.Nesting.{open-first, open-fork, open-end, open-below}
+use Rattle.table.proofs.Nesting.{open-first, open-fork, open-below}
 use Rattle.table.proofs.Amounts.{forkPart, forkPart-open, action-within, action-next, whole-is}
 use Rattle.table.proofs.Peaks.{topAt, part-held, peak-thread}
 use Rattle.table.proofs.Peaks.{peakAt as serialPeak}
 use Rattle.schedule.specs.Sound.{balanceTo}
 use Rattle.order.proofs.Lawful.{Lawful}
 use Rattle.schedule.proofs.Sound.Balances.{balance-step}
-use Rattle.peaks.specs.Peak.{fresh, final, gain, oneMore, most, peakThere, peakAt, workersPeak}
+use Rattle.peaks.specs.Peak.{fresh, final, gain, most, peakThere, peakAt, workersPeak}
 use Rattle.peaks.proofs.Opens.{greatest-at, greatest-under, open-over}
 use Rattle.peaks.proofs.Peaks.{peak-is, peak-at}
 

@@ -6,7 +6,7 @@ use native.Mathlib.Nat.{mul-suc, mul-le-mul-left}
 use mathlib.Core.List.{List, [], _∷_, List·Memᴰ, List·Memᴰ·head, List·Memᴰ·tail}
 use mathlib.Core.Bool.{Bool, true, false}
 use lib.ListN.{length}
-use Rattle.table.specs.Sum.{pick, sumTo, sumOver, greatestTo}
+use Rattle.table.specs.Sum.{pick, sumOver, greatestTo}
 use Rattle.table.specs.Format.{Kind, end, work, alloc, free, fork, join, unknown, Table, kind}
 use Rattle.table.specs.Checks.{openBefore, opened}
 use Rattle.table.proofs.Sums.{sumTo-zero}

@@ -5,14 +5,14 @@ use native.Mathlib.Omega.{arith}
 use native.Mathlib.Decide.{decLt}
 use mathlib.Core.List.{List, [], _∷_, List·Memᴰ, List·Memᴰ·head, List·Memᴰ·tail}
 use mathlib.Core.Bool.{Bool, true, false}
-use Rattle.table.specs.Sum.{pick, sumOver, greatestTo}
+use Rattle.table.specs.Sum.{pick, sumOver}
 use Rattle.table.specs.Format.{fork, Table}
 use Rattle.table.specs.Checks.{openBefore, allocOf, withChild, whole}
 use Rattle.table.proofs.Sums.{sumTo-part}
 use Rattle.table.proofs.Amounts.{forkPart-open, forkPart-whole, whole-is, whole-bound}
 use Rattle.schedule.specs.Sound.{balanceTo}
 use Rattle.order.proofs.Lawful.{Lawful}
-use Rattle.peaks.specs.Peak.{fresh, final, gain, oneMore, most, peakThere, peakOn, workersPeak}
+use Rattle.peaks.specs.Peak.{fresh, final, gain, oneMore, most, peakThere, peakOn}
 use Rattle.peaks.proofs.Opens.{greatest-under, open-child, open-over}
 use Rattle.peaks.proofs.Peaks.{peak-is}
 

@@ -1,5 +1,5 @@
 -- The peak without fuel; it rises with the load allowed.
-use mathlib.Core.Path.{_≡_, refl, sym, ap, _∙_}
+use mathlib.Core.Path.{_≡_, refl, ap}
 use Prim.Native.Nat.{ℕ, zero, suc, _+_, _-_, _≤_, _<_, max}
 use native.Mathlib.Omega.{arith}
 use mathlib.Core.List.{List, [], _∷_, List·Memᴰ, List·Memᴰ·head, List·Memᴰ·tail}
@@ -9,7 +9,7 @@ use Rattle.table.specs.Format.{Table}
 use Rattle.table.specs.Checks.{openBefore}
 use Rattle.schedule.specs.Sound.{balanceTo}
 use Rattle.order.proofs.Lawful.{Lawful}
-use Rattle.peaks.specs.Peak.{fresh, final, gain, oneMore, most, peakThere, peakWithin, peakOn, peakAt, workersPeak}
+use Rattle.peaks.specs.Peak.{fresh, final, gain, oneMore, most, peakThere, peakWithin, peakOn, workersPeak}
 use Rattle.peaks.proofs.Opens.{greatest-at, greatest-under, greatest-same, open-child}
 
 -- ---- peaks of the children that agree, or are below

@@ -1,19 +1,19 @@
 -- Resting places: where every live thread that nobody holds stands at one, held is within the peak over resting places and R for each worker.
-use mathlib.Core.Path.{_≡_, refl, sym, ap, _∙_}
+use mathlib.Core.Path.{_≡_, refl}
 use Prim.Native.Nat.{ℕ, zero, suc, _+_, _-_, _*_, _≤_, _<_}
 use native.Mathlib.Omega.{arith}
-use native.Mathlib.Nat.{add-suc, add-zero, mul-comm, mul-le-mul-left}
+use native.Mathlib.Nat.{add-suc, mul-comm, mul-le-mul-left}
 use native.Mathlib.Decide.{ℕ-discrete}
-use mathlib.Core.List.{List, [], _∷_}
+use mathlib.Core.List.{List}
 use mathlib.Core.Bool.{Bool, true, false}
 use lib.ListN.{getD}
 use lib.Dec.{eqb}
 use borrow.Author.Tests.{eqb-true, eq-eqb, ne-eqb}
-use Rattle.table.specs.Sum.{pick, sumTo, sumOver}
+use Rattle.table.specs.Sum.{pick, sumOver}
 use Rattle.table.specs.Format.{end, fork, join, is, Table, kind}
 use Rattle.table.specs.Checks.{openBefore, endOf}
 use Rattle.table.proofs.Tests.{is-true}
-use Rattle.table.proofs.Bodies.{after-end, owner-at, join-below}
+use Rattle.table.proofs.Bodies.{owner-at, join-below}
 use Rattle.table.proofs.Nesting.{open-join, open-same}
 use Rattle.table.proofs.Amounts.{action-within}
 use Rattle.schedule.specs.declared.Worker.{Worker}
@@ -26,14 +26,13 @@ use Rattle.order.proofs.CountBelow.{count-bound}
 use Rattle.schedule.proofs.Sound.Facts.{Facts}
 use Rattle.schedule.proofs.Sound.Done.{done-low, done-ended}
 use Rattle.schedule.proofs.Sound.Shares.{progress-next, progress-within}
-use Rattle.peaks.specs.Peak.{unended, unendedIn, fresh, past, Light, final, peakOn}
+use Rattle.peaks.specs.Peak.{unendedIn, fresh, past, Light, peakOn}
 use Rattle.peaks.specs.Rests.{rests, rested, rise, R}
-use Rattle.peaks.proofs.Opens.{reach}
 use Rattle.peaks.proofs.Loads.{past-fewer}
 use Rattle.peaks.proofs.Held.{Settled, peak-settled}
 use Rattle.peaks.proofs.LiveList.{withLive, common-facts}
 use Rattle.peaks.proofs.Calm.{Stands, rests-end}
-use Rattle.peaks.proofs.Rises.{rested-within, rested-last, rested-rests, rise-within, rests-not, reach-rested}
+use Rattle.peaks.proofs.Rises.{rested-within, rested-rests, rise-within, rests-not, reach-rested}
 use Rattle.peaks.proofs.Counts.{few-targets, count-times}
 
 module _ (T : Table) (l : Lawful T) (p K : ℕ) (st : State) (f : Facts T p K st) where

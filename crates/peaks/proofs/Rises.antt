@@ -9,7 +9,6 @@ use Rattle.table.specs.Sum.{pick, sumTo, sumOver, greatestTo}
 use Rattle.table.specs.Format.{end, fork, join, codeOf, is, Table, kind}
 use Rattle.table.specs.Checks.{allocOf, freeOf, openBefore}
 use Rattle.table.proofs.Tests.{is-true, no-way, or-neither}
-use Rattle.table.proofs.Bodies.{after-end, end-kind}
 use Rattle.table.proofs.Nesting.{open-join, open-same}
 use Rattle.table.proofs.Amounts.{action-within}
 use Rattle.schedule.specs.Sound.{balanceTo}

@@ -1,6 +1,5 @@
 -- Rows of turns from the beginning: what they hold is within the peak of p workers, and where K covers every stretch within the peak over resting places and R for each worker.
-use mathlib.Core.Path.{_≡_}
-use Prim.Native.Nat.{ℕ, _-_, _≤_, _<_}
+use Prim.Native.Nat.{ℕ, _-_, _≤_}
 use mathlib.Core.List.{List, List·Memᴰ}
 use Rattle.table.specs.Format.{Table}
 use Rattle.schedule.specs.declared.Reply.{Reply}
