@@ -85,9 +85,6 @@ open-step T status a e = rw e at (past-step T status a)
 
 -- ---- the invariant
 
-abbrev full : Table → State → ℕ → ℕ
-full T st t = outer T (st .status) t + unendedIn (st .status) (openBefore T (nextOf st t))
-
 pub record Loaded (T : Table) (p : ℕ) (st : State) : Type 0 where
   -- every entered unended thread has load at most p − 1
   pub light : Light T (st .next) (st .status) (p - 1)
@@ -104,9 +101,6 @@ module _ (T : Table) (l : Lawful T) (p K : ℕ) (few : p ≤ 16) where
       }
 
   module _ (w : ℕ) (below : w < p) (st : State) (f : Facts T p K st) (g : Loaded T p st) where
-    st' : State
-    st' = turnOf T K w st .state
-
     abbrev after : State
     after = turnOf T K w st .state
 

@@ -29,16 +29,6 @@ module _ (T : Table) (t : ℕ) where
       go true h = omega arith
       go false h = omega arith
 
-  pub rested-last : (k j : ℕ) → j ≤ k → rests T (T .first t + j) ≡ true → j ≤ rested T t k
-  unfolding rested
-  rested-last zero j h e = h
-  rested-last (suc k) j h e = go (rests T (T .first t + suc k)) refl (ℕ-discrete j (suc k)) (rested-last k j)
-    where
-      go : (q : Bool) → rests T (T .first t + suc k) ≡ q → Dec (j ≡ suc k) → (j ≤ k → rests T (T .first t + j) ≡ true → j ≤ rested T t k) → j ≤ pick q (suc k) (rested T t k)
-      go true i d ih = h
-      go false i (yes d) ih = no-way (let z : rests T (T .first t + suc k) ≡ true = rw (← d) e in cc)
-      go false i (no d) ih = ih (omega (arith, d)) e
-
   pub rested-rests : Lawful T → t < T .threads → (k : ℕ) → rests T (T .first t + rested T t k) ≡ true
   unfolding rested
   rested-rests l h zero = rw add-zero (rests-first T l t h)
