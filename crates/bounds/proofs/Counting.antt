@@ -2,7 +2,7 @@
 -- ready; where a worker holds it, what the worker's age leaves of B is still to come.
 use mathlib.Core.Path.{_≡_, refl, sym, ap}
 use Prim.Native.Nat.{ℕ, suc, _+_, _*_, _≤_, _<_}
-use mathlib.Core.List.{List, [], _∷_, List·Memᴰ, List·Memᴰ·head, List·Memᴰ·tail, List·Memᴰ·not-nil, List·Memᴰ·cases-cons}
+use mathlib.Core.List.{List, _∷_, List·Memᴰ, List·Memᴰ·head, List·Memᴰ·tail}
 use mathlib.Core.Bool.{Bool, true, false, _&&_}
 use mathlib.Core.Logic.{_⊎_, inl, inr}
 use native.Mathlib.Decide.{ℕ-discrete, decLt}
@@ -23,11 +23,11 @@ use Rattle.order.proofs.Lawful.{Lawful}
 use Rattle.order.proofs.Numbers.{number-depends}
 use Rattle.schedule.proofs.Sound.Facts.{Facts}
 use Rattle.schedule.proofs.Preservation.Moves.{taken-facts}
-use Rattle.order.proofs.Words.{Ascends}
 use Rattle.schedule.proofs.Sound.Done.{next-below}
 use Rattle.schedule.proofs.Preservation.Releases.{Acting, acting}
 use Rattle.schedule.proofs.Preservation.Turns.{leftmost-ready, taken-holds, act-facts}
 use Rattle.order.proofs.Depth.{level-depends}
+use Rattle.peaks.proofs.Holders.{leftmost-first}
 use Rattle.bounds.proofs.Ages.{age, age-other}
 use Rattle.schedule.proofs.Bounds.Beyond.{startAction, begins, beginsBeyond, Enabled}
 use Rattle.bounds.proofs.Enables.{After, same, fresh, kept, Leaves, act-after, act-leaves}
@@ -44,19 +44,6 @@ abbrev pub begun : Table → ℕ → State → (ℕ → ℕ) → ℕ → ℕ
 begun T w st J v = J v + beginsBeyond T w st v
 
 -- ---- a batch begun
-
--- no ready thread stands left of the leftmost
-leftmost-first : (f : ℕ → ℕ) (status l : List ℕ) → Ascends f l → (t : ℕ) → List·Memᴰ t l → getD status t 0 ≡ ready → f (getD l (leftmost status l) 0) ≤ f t
-unfolding leftmost Ascends
-leftmost-first f status [] r t m e = absurd (List·Memᴰ·not-nil m)
-leftmost-first f status (x ∷ l) r t m e = go (eqb (getD status x 0) ready) refl (List·Memᴰ·cases-cons m) (λ k. leftmost-first f status l (r .1) t k e)
-  where
-    go : (q : Bool) → eqb (getD status x 0) ready ≡ q → (t ≡ x) ⊎ List·Memᴰ t l → (List·Memᴰ t l → f (getD l (leftmost status l) 0) ≤ f t)
-        → f (getD (x ∷ l) (pick q 0 (suc (leftmost status l))) 0) ≤ f t
-    go true q (inl d) ih = rw d (omega arith)
-    go true q (inr k) ih = omega (arith, r .0 t k)
-    go false q (inl d) ih = no-way (cc (eq-eqb (getD status x 0) ready cc))
-    go false q (inr k) ih = ih k
 
 beyond-none : (T : Table) (w : ℕ) (st : State) (v : ℕ) → begins w st ≡ false → beginsBeyond T w st v ≡ 0
 unfolding beginsBeyond

@@ -12,7 +12,7 @@ use Rattle.filling.proofs.Delay.{drawnCost, Delayed}
 use Rattle.bounds.proofs.Bound.{row-bound, row-alone}
 
 -- a front part of a row that keeps the rule keeps it
-keeps-front : (b : ℕ) (row front rest : List ℕ) → row ≡ front ++ rest → Keeps b row → Keeps b front
+pub keeps-front : (b : ℕ) (row front rest : List ℕ) → row ≡ front ++ rest → Keeps b row → Keeps b front
 unfolding Keeps
 keeps-front b row front rest e k before stretch after w v d n =
     k before stretch (after ++ rest) w v (e ∙ rw d (simp append-assoc)) n

@@ -21,4 +21,5 @@ pub mod Finishing
 pub mod Limit
 pub mod ThreadLimit
 pub mod RoundsLimit
+pub mod PeakLimit
 pub mod Most

@@ -170,7 +170,7 @@ history-exists r (c ∷ calls) = next (called r c) (history-exists (afterCall c 
 -- ---- the limits
 
 -- what holds of the record and of the row that the definitions give, from the beginning on, holds of a history's
-history-holds : {s : List ℕ} {p K : ℕ} {b : Begun} → BeginSays s p K b → b .answer ≡ started
+pub history-holds : {s : List ℕ} {p K : ℕ} {b : Begun} → BeginSays s p K b → b .answer ≡ started
     → {calls : List Call} {answers : List Answer} {row : List ℕ} {r : Run} → History (b .run) calls answers row r
     → (P : Run → List ℕ → Type 0) → (begin s p K ≡ record { answer = started; run = b .run } → P (afterCalls calls (b .run)) (rowOfCalls calls (b .run))) → P r row
 history-holds {s} {p} {K} {b} h e {calls} {answers} {row} {r} t P given =

@@ -1,10 +1,11 @@
 -- What a visitor is sent to, each from the functions' own promises: by value (ByValue) and from C (FromC, and from an opening on: Opened) a history of calls is document 01's, and both limits
--- hold of it; a quota that is given serves (Board); one run in rounds needs no condition on its turns (Rounds); a limit of turns that is given serves (Turns).
+-- hold of it; a quota that is given serves (Board); one run in rounds needs no condition on its turns (Rounds); the peak of p workers needs none on any (Peaks); a limit of turns that is given serves (Turns).
 pub mod ByValue
 pub mod FromC
 pub mod Opened
 pub mod Board
 pub mod Rounds
+pub mod Peaks
 pub mod Turns
 -- what they rest on: what the promises from C say (LentSays), lists of calls on lent memory are those on the record (LentLimit, Blank), and what stands in blocks (Shaped, Sizes)
 pub mod LentSays

@@ -1,0 +1,25 @@
+-- counting, the children that stand open, and held memory against weights of threads
+pub mod Counts
+pub mod Opens
+pub mod Telescope
+pub mod LiveList
+-- loads and peaks; the peak theorem
+pub mod Loads
+pub mod Peaks
+pub mod Held
+-- the load law
+pub mod Holders
+pub mod LoadLaw
+-- resting places
+pub mod Calm
+pub mod Rises
+pub mod Resting
+-- one worker, the parallel peak, sizes
+pub mod OneWorker
+pub mod PeakSizes
+pub mod Parallel
+pub mod Useful
+-- how a program computes it
+pub mod Walks
+-- rows of turns from the beginning
+pub mod RowPeaks
