@@ -1,0 +1,10 @@
+pub mod Ghost
+pub mod Placed
+pub mod Kept
+pub mod DequeTurns
+pub mod Flat
+pub mod Bottoms
+pub mod Cut
+pub mod Counts
+pub mod Standing
+pub mod Read

@@ -1,0 +1,4 @@
+pub mod Deques
+pub mod Lines
+pub mod Partition
+pub mod DequeCases
