@@ -8,3 +8,5 @@ pub mod Cut
 pub mod Counts
 pub mod Standing
 pub mod Read
+pub mod DequeStores
+pub mod DequeTests

@@ -1,4 +1,10 @@
 pub mod Deques
 pub mod Lines
 pub mod Partition
+pub mod DequeRecord
+pub mod DequeSound
+pub mod DequeBegin
+pub mod DequeTurn
+pub mod DequeRuns
+pub mod DequeCalls
 pub mod DequeCases
