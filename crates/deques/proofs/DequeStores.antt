@@ -1,22 +1,26 @@
 -- The record and its deques: what is stored is read back, deques that are kept stored give a sound record, and a turn keeps it so.
-use mathlib.Core.Path.{_≡_, refl, sym, ap, subst, _∙_}
-use Prim.Native.Nat.{ℕ, _+_, _≤_, _<_}
+use mathlib.Core.Path.{_≡_, refl, sym, ap, subst}
+use Prim.Native.Nat.{ℕ, _+_, _<_}
 use native.Mathlib.Omega.{arith}
 use native.Mathlib.Decide.{ℕ-discrete}
 use mathlib.Core.List.{List, [], _∷_}
-use mathlib.Core.Bool.{Bool, true, false}
+use mathlib.Core.Bool.{Bool}
 use mathlib.Core.Logic.{inr}
-use lib.ListN.{getD}
+use lib.ListN.{length, getD}
 use lib.Dec.{leb, eqb}
 use borrow.Author.Tests.{ne-eqb}
 use Rattle.table.specs.Sum.{pick}
+use Rattle.table.specs.Rules.{Rules}
+use Rattle.table.specs.Pass.{firstFound}
+use Rattle.table.specs.declared.Found.the-variants.{Nothing}
 use Rattle.table.specs.Format.{Kind, end, work, alloc, free, fork, join, unknown, Table, kind}
 use Rattle.schedule.specs.declared.Run.{Run}
 use Rattle.schedule.specs.Memory.{countIn}
 use Rattle.schedule.specs.Machine.{State, ended, nextOf, statusOf, workerOf, parentOf, withList, without, leftOf, waitsFor, woken, released, Stepped, act, actBy, taken, drawn}
 use Rattle.schedule.specs.Links.{laid}
-use Rattle.schedule.specs.Record.{bytesOf, tableIn}
-use Rattle.schedule.specs.Begin.{startState}
+use Rattle.schedule.specs.Record.{maxBytes, bytesOf, tableIn}
+use Rattle.schedule.specs.Begin.{settingPasses, startState}
+use Rattle.order.specs.Words.{filled}
 use Rattle.order.proofs.Lawful.{Lawful, lawful}
 use Rattle.schedule.proofs.Sound.Facts.{sound-facts}
 use Rattle.schedule.proofs.Preservation.Starts.{start-facts, start-root, start-unborn, start-worker}
@@ -93,6 +97,26 @@ module _ (T : Table) (l : Lawful T) (p K : ℕ) (d : Deques) (k : Kept T p K d) 
 
 -- ---- a sound record
 
+-- deques that are kept, in a record with a table that keeps the rules
+module _ (r : Run) (rules : Rules (bytesOf r)) (settings : firstFound (settingPasses (r .workers) (r .quota)) ≡ Nothing) (size : length (bytesOf r) ≡ r .length)
+    (rest : r .table ≡ filled maxBytes (bytesOf r)) (d : Deques) (k : Kept (tableIn r) (r .workers) (r .quota) d) where
+  back : dequesIn (dequeStored r d) ≡ d .deques
+  back = stored-deques (tableIn r) (lawful (bytesOf r) rules) (r .workers) (r .quota) d k r
+
+  pub stored-steady : SteadyDeques (dequeStored r d)
+  stored-steady =
+      record {
+        table = rules;
+        settings = settings;
+        common = k .common;
+        set = refl;
+        table-length = size;
+        table-rest = rest;
+        placed = subst (λ (z : List Deque). PlacedDeques (tableIn r .threads) (d .state .status) (d .state .workers) z) (sym back) (k .placed);
+        lines = ap (λ (z : List Deque). laid (linesOf (threadOf (d .state .workers)) z)) (sym back);
+        bottoms = ap (λ (z : List Deque). laid (bottomsOf (threadOf (d .state .workers)) z)) (sym back);
+      }
+
 module _ (r : DequeRun) (h : SteadyDeques r) where
   pub steady-lawful : Lawful (tableIn (r .run))
   steady-lawful = lawful (bytesOf (r .run)) (h .table)
@@ -103,31 +127,13 @@ module _ (r : DequeRun) (h : SteadyDeques r) where
   pub steady-kept : Kept (tableIn (r .run)) (r .run .workers) (r .run .quota) (dequesOf r)
   steady-kept = record { common = h .common; placed = h .placed }
 
-  module _ (d : Deques) (k : Kept (tableIn (r .run)) (r .run .workers) (r .run .quota) d) where
-    back : dequesIn (dequeStored (r .run) d) ≡ d .deques
-    back = stored-deques (tableIn (r .run)) steady-lawful (r .run .workers) (r .run .quota) d k (r .run)
-
-    pub stored-steady : SteadyDeques (dequeStored (r .run) d)
-    stored-steady =
-        record {
-          table = h .table;
-          settings = h .settings;
-          common = k .common;
-          set = refl;
-          table-length = h .table-length;
-          table-rest = h .table-rest;
-          placed = subst (λ (z : List Deque). PlacedDeques (tableIn (r .run) .threads) (d .state .status) (d .state .workers) z) (sym back) (k .placed);
-          lines = ap (λ (z : List Deque). laid (linesOf (threadOf (d .state .workers)) z)) (sym back);
-          bottoms = ap (λ (z : List Deque). laid (bottomsOf (threadOf (d .state .workers)) z)) (sym back);
-        }
-
   module _ (g : Pair) (b : g .worker < r .run .workers) where
     moved-kept : Kept (tableIn (r .run)) (r .run .workers) (r .run .quota) (stepDeques r (g .worker) (g .choice) .after)
     unfolding stepDeques
     moved-kept = turn-kept (tableIn (r .run)) steady-lawful (r .run .workers) (r .run .quota) (steady-fits .few-workers) (g .worker) b (g .choice) (dequesOf r) steady-kept
 
     pub moved-steady : SteadyDeques (dequeMoved r g)
-    moved-steady = stored-steady (stepDeques r (g .worker) (g .choice) .after) moved-kept
+    moved-steady = stored-steady (r .run) (h .table) (h .settings) (h .table-length) (h .table-rest) (stepDeques r (g .worker) (g .choice) .after) moved-kept
 
     -- the deques read off the record after a turn are the turn's
     pub moved-deques : dequesOf (dequeMoved r g) ≡ stepDeques r (g .worker) (g .choice) .after

@@ -1,9 +1,9 @@
 -- The executable tests are the records: `dequeSound` is true exactly of the sound records, `isBlankDeques` exactly of the blank one.
-use mathlib.Core.Path.{_≡_, refl, sym, ap, _∙_}
+use mathlib.Core.Path.{_≡_, refl, ap}
 use mathlib.Core.Logic.{_↔_, Iff·trans, _⊎_, inl, inr}
-use mathlib.Core.Bool.{Bool, true, false, not, _&&_, _||_}
-use mathlib.Core.List.{List, [], _∷_, _++_, List·Memᴰ}
-use Prim.Native.Nat.{ℕ, _+_, _≤_, _<_}
+use mathlib.Core.Bool.{true, not, _&&_, _||_}
+use mathlib.Core.List.{List, [], _∷_, List·Memᴰ}
+use Prim.Native.Nat.{ℕ, _≤_, _<_}
 use native.Mathlib.Omega.{arith}
 use native.Mathlib.Decide.{decLt, decLe}
 use lib.Dec.{ltb, eqb}
@@ -14,16 +14,16 @@ use Rattle.table.proofs.Passes.{passes-rules}
 use Rattle.schedule.specs.declared.Worker.{Worker}
 use Rattle.schedule.specs.Links.{Links}
 use Rattle.schedule.specs.Memory.{countIn}
-use Rattle.schedule.specs.Record.{blank, bytesOf}
+use Rattle.schedule.specs.Record.{bytesOf}
 use Rattle.schedule.specs.Sound.{commonSound, sameLinks}
 use Rattle.schedule.proofs.Sound.Tests.{common-exactly, blank-exactly}
 use Rattle.order.specs.Words.{allBelow, allIn}
-use Rattle.order.proofs.Words.{and-of, or-exactly, and-exactly, not-exactly, eqb-exactly, ltb-exactly, allBelow-exactly, allIn-exactly, sameList-exactly, isNothing-exactly}
+use Rattle.order.proofs.Words.{and-of, or-exactly, not-exactly, eqb-exactly, ltb-exactly, allBelow-exactly, allIn-exactly, sameList-exactly, isNothing-exactly}
 use Rattle.deques.specs.declared.DequeRun.{DequeRun}
 use Rattle.deques.specs.Deques.{Deque, isEmpty}
 use Rattle.deques.specs.Partition.{occurs, ownedBy, Manned, AllManned, readyAt, holdsAt, PlacedDeques}
 use Rattle.deques.specs.DequeRecord.{blankDeques}
-use Rattle.deques.specs.DequeSound.{SteadyDeques, SoundDeques, threadsIn, allManned, placedDeques, dequeSound, isBlankDeques}
+use Rattle.deques.specs.DequeSound.{SoundDeques, threadsIn, allManned, placedDeques, dequeSound, isBlankDeques}
 use Rattle.deques.proofs.Counts.{counted-in, in-counted, count-append}
 
 -- ---- the clauses on the deques

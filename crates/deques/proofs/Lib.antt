@@ -10,3 +10,4 @@ pub mod Standing
 pub mod Read
 pub mod DequeStores
 pub mod DequeTests
+pub mod DequeHistories

@@ -1,10 +1,12 @@
 -- Lists of calls of DFDeques, the record that they leave and the row of pairs that they lay end to end.
 use Prim.Native.Nat.{ℕ, zero, suc, _+_}
 use mathlib.Core.List.{List, [], _∷_, _++_}
+use Rattle.table.specs.Format.{Table}
 use Rattle.schedule.specs.Calls.{turnsIn}
 use Rattle.deques.specs.declared.DequeRun.{DequeRun}
 use Rattle.deques.specs.declared.DequeTurning.{DequeTurning}
 use Rattle.deques.specs.declared.DequeTurning.the-variants.{Taken, Refused}
+use Rattle.deques.specs.Deques.{Deques, dequeTurn}
 use Rattle.deques.specs.DequeTurn.{dequeTurned}
 use Rattle.deques.specs.DequeRuns.{Pair, pair, pairAt, pairsRun}
 
@@ -40,3 +42,8 @@ afterDequeCalls (c ∷ cs) r = afterDequeCalls cs (afterDequeCall c r)
 unfoldable pub pairsOfCalls : List DequeCall → DequeRun → List Pair
 pairsOfCalls [] r = []
 pairsOfCalls (c ∷ cs) r = pairsOf c r ++ pairsOfCalls cs (afterDequeCall c r)
+
+-- the deques after the turns of a row, each as defined
+unfoldable pub rowDeques : Table → ℕ → Deques → List Pair → Deques
+rowDeques T K d [] = d
+rowDeques T K d (g ∷ row) = rowDeques T K (dequeTurn T K (g .worker) (g .choice) d .after) row
