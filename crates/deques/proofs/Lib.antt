@@ -11,3 +11,5 @@ pub mod Read
 pub mod DequeStores
 pub mod DequeTests
 pub mod DequeHistories
+pub mod DequeSoundness
+pub mod DequeAnswers

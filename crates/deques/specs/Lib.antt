@@ -7,4 +7,5 @@ pub mod DequeBegin
 pub mod DequeTurn
 pub mod DequeRuns
 pub mod DequeCalls
+pub mod DequeValues
 pub mod DequeCases
