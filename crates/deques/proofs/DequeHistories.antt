@@ -19,11 +19,13 @@ use Rattle.table.specs.declared.Refusal.{Refusal}
 use Rattle.table.proofs.Tests.{no-way}
 use Rattle.table.proofs.Trying.{tryAt-nothing}
 use Rattle.schedule.specs.declared.Beginning.the-variants.{Begun as started}
+use Rattle.schedule.specs.declared.Beginning.the-variants.{Refused as refusedBeginning}
 use Rattle.schedule.specs.declared.Report.{Report}
 use Rattle.schedule.specs.declared.Report.the-variants.{Finished, Spent, Refused}
 use Rattle.schedule.specs.declared.Run.{Run}
 use Rattle.schedule.specs.Record.{tableIn}
-use Rattle.schedule.specs.Begin.{settingPasses, beginPasses, startState, startRun}
+use Rattle.schedule.specs.Links.{laid}
+use Rattle.schedule.specs.Begin.{settingPasses, beginPasses, startState, startRun, begunAs, begin}
 use Rattle.schedule.specs.Sound.{Steady}
 use Rattle.schedule.specs.Turn.{rootEnded, noWorker}
 use Rattle.schedule.specs.Calls.{turnsIn}
@@ -38,8 +40,9 @@ use Rattle.deques.specs.declared.DequeRun.{DequeRun}
 use Rattle.deques.specs.declared.DequeBegun.{DequeBegun}
 use Rattle.deques.specs.declared.DequeTurning.the-variants.{Refused as refusedTurn}
 use Rattle.deques.specs.declared.DequeRan.{DequeRan}
-use Rattle.deques.specs.Deques.{Deques, startDeques, dequeTurn}
-use Rattle.deques.specs.DequeRecord.{dequesOf}
+use Rattle.deques.specs.Deques.{Deques, startDeques, bottom, dequeTurn}
+use Rattle.deques.specs.Lines.{linesOf, bottomsOf}
+use Rattle.deques.specs.DequeRecord.{dequesOf, blankDeques}
 use Rattle.deques.specs.DequeSound.{SteadyDeques, SoundDeques}
 use Rattle.deques.specs.DequeBegin.{startDequeRun, dequeBegunAs, dequeBegin}
 use Rattle.deques.specs.DequeTurn.{unsoundDeques, noChoice, dequeChecks, stepDeques, dequeTurnedAs, dequeTurned}
@@ -65,7 +68,30 @@ deque-begin-started s p K r e = go (firstFound (passes s ++ beginPasses (tableOf
         record { is-start = sym (ap (λ (x : DequeBegun). x .run) q); filling = x; lawful = lawful (filledOut s K) (x .rules); settings = f }
     go (At x) n q = let z = ap (λ (y : DequeBegun). y .answer) q in no-way (cc)
 
+-- the checks of a beginning are AsyncDF's
+pub deque-begin-answer : (s : List ℕ) (p K : ℕ) → dequeBegin s p K .answer ≡ begin s p K .answer
+unfolding dequeBegin begin
+deque-begin-answer s p K = go (firstFound (passes s ++ beginPasses (tableOf s) p K))
+  where
+    go : (f : Found) → dequeBegunAs f (startDequeRun (filledOut s K) p K) .answer ≡ begunAs f (startRun (filledOut s K) p K) .answer
+    go Nothing = refl
+    go (At x) = refl
+
+-- "A refused beginning hands back the blank record"
+pub deque-begin-refused-record : (s : List ℕ) (p K : ℕ) (x : Refusal) → dequeBegin s p K .answer ≡ refusedBeginning x → dequeBegin s p K .run ≡ blankDeques
+unfolding dequeBegin
+deque-begin-refused-record s p K x e = go (firstFound (passes s ++ beginPasses (tableOf s) p K)) e
+  where
+    go : (f : Found) → dequeBegunAs f (startDequeRun (filledOut s K) p K) .answer ≡ refusedBeginning x → dequeBegunAs f (startDequeRun (filledOut s K) p K) .run ≡ blankDeques
+    go Nothing q = no-way (cc)
+    go (At y) q = refl
+
 module _ (s : List ℕ) (p K : ℕ) where
+  -- the record of the start is AsyncDF's, with the root as the one bottom
+  pub start-record : startDequeRun s p K ≡ record { run = startRun s p K; under = laid (0 ∷ []) .left; over = laid (0 ∷ []) .right; first = 0 }
+  unfolding startDequeRun startRun startState linesOf bottomsOf bottom
+  start-record = refl
+
   start-table : tableIn (startRun s p K) ≡ tableOf s
   unfolding startRun
   start-table = ap tableOf (filled-front 36868 s)
@@ -268,6 +294,12 @@ call-goes : (r : DequeRun) → SteadyDeques r → (c : DequeCall) → Goes r (pa
 unfolding pairsOf afterDequeCall
 call-goes r h (turn w c) = turn-goes r w c h
 call-goes r h (overPairs l) = pairs-goes r l h
+
+pub deque-turn-steady : (r : DequeRun) (w c : ℕ) → SteadyDeques r → SteadyDeques (dequeTurned r w c .run)
+deque-turn-steady r w c h = turn-goes r w c h .steady
+
+pub pairs-steady : (r : DequeRun) (l : List ℕ) → SteadyDeques r → SteadyDeques (pairsRun r l .run)
+pairs-steady r l h = pairs-goes r l h .steady
 
 pub deque-calls-steady : (r : DequeRun) → SteadyDeques r → (calls : List DequeCall) → SteadyDeques (afterDequeCalls calls r)
 unfolding afterDequeCalls

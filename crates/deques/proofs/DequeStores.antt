@@ -1,6 +1,6 @@
 -- The record and its deques: what is stored is read back, deques that are kept stored give a sound record, and a turn keeps it so.
 use mathlib.Core.Path.{_≡_, refl, sym, ap, subst}
-use Prim.Native.Nat.{ℕ, _+_, _<_}
+use Prim.Native.Nat.{ℕ, suc, _+_, _<_}
 use native.Mathlib.Omega.{arith}
 use native.Mathlib.Decide.{ℕ-discrete}
 use mathlib.Core.List.{List, [], _∷_}
@@ -16,7 +16,7 @@ use Rattle.table.specs.declared.Found.the-variants.{Nothing}
 use Rattle.table.specs.Format.{Kind, end, work, alloc, free, fork, join, unknown, Table, kind}
 use Rattle.schedule.specs.declared.Run.{Run}
 use Rattle.schedule.specs.Memory.{countIn}
-use Rattle.schedule.specs.Machine.{State, ended, nextOf, statusOf, workerOf, parentOf, withList, without, leftOf, waitsFor, woken, released, Stepped, act, actBy, taken, drawn}
+use Rattle.schedule.specs.Machine.{State, ended, nextOf, statusOf, workerOf, parentOf, withList, without, leftOf, waitsFor, woken, released, Stepped, act, actBy, taken, counted, drawn}
 use Rattle.schedule.specs.Links.{laid}
 use Rattle.schedule.specs.Record.{maxBytes, bytesOf, tableIn}
 use Rattle.schedule.specs.Begin.{settingPasses, startState}
@@ -38,52 +38,71 @@ use Rattle.deques.specs.DequeRuns.{Pair, dequeMoved}
 use Rattle.deques.proofs.DequeTurns.{Kept, turn-kept}
 use Rattle.deques.proofs.Read.{deques-read}
 
--- ---- the list of the state stays empty
+-- ---- the list of the state stays empty, and a turn counts as one
 
-module _ (T : Table) (K w : ℕ) where
-  act-list : (k : Kind) (t a x : ℕ) (st : State) → st .list ≡ [] → actBy k T K w t a x st .state .list ≡ []
+record Still (n : ℕ) (st : State) : Type 0 where
+  list : st .list ≡ []
+  turns : st .turns ≡ n
+
+module _ (T : Table) (K w n : ℕ) where
+  act-still : (k : Kind) (t a x : ℕ) (st : State) → Still n st → Still n (actBy k T K w t a x st .state)
   unfolding actBy woken leftOf without
-  act-list end t a x st e =
-      either (λ (s : State). s .list ≡ []) (waitsFor T (withList (without t (st .list)) (released w t ended st)) (parentOf T t) t) _ _ (λ i. ap (without t) e) (λ i. ap (without t) e)
-  act-list work t a x st e = e
-  act-list alloc t a x st e = either (λ (s : Stepped). s .state .list ≡ []) (leb (drawn K x) (workerOf st w .quota)) _ _ (λ i. e) (λ i. e)
-  act-list free t a x st e = e
-  act-list fork t a x st e = ap (leftOf x t) e
-  act-list join t a x st e = either (λ (s : Stepped). s .state .list ≡ []) (eqb (statusOf st x) ended) _ _ (λ i. e) (λ i. e)
-  act-list unknown t a x st e = e
+  act-still end t a x st e =
+      either (Still n) (waitsFor T (withList (without t (st .list)) (released w t ended st)) (parentOf T t) t) _ _
+      (λ i. record { list = ap (without t) (e .list); turns = e .turns }) (λ i. record { list = ap (without t) (e .list); turns = e .turns })
+  act-still work t a x st e = record { list = e .list; turns = e .turns }
+  act-still alloc t a x st e =
+      either (λ (s : Stepped). Still n (s .state)) (leb (drawn K x) (workerOf st w .quota)) _ _ (λ i. record { list = e .list; turns = e .turns })
+      (λ i. record { list = e .list; turns = e .turns })
+  act-still free t a x st e = record { list = e .list; turns = e .turns }
+  act-still fork t a x st e = record { list = ap (leftOf x t) (e .list); turns = e .turns }
+  act-still join t a x st e =
+      either (λ (s : Stepped). Still n (s .state)) (eqb (statusOf st x) ended) _ _ (λ i. record { list = e .list; turns = e .turns })
+      (λ i. record { list = e .list; turns = e .turns })
+  act-still unknown t a x st e = e
 
-  goes-list : (q : ℕ) (st : State) (ds : List Deque) → st .list ≡ [] → goesOn q w st ds .state .list ≡ []
-  unfolding goesOn taken
-  goes-list q st ds e = go (getD ds (placeOf w ds) nothing .threads)
+  taken-still : (q t : ℕ) (st : State) → Still n st → Still n (taken q w t st)
+  unfolding taken
+  taken-still q t st e = record { list = e .list; turns = e .turns }
+
+  goes-still : (q : ℕ) (st : State) (ds : List Deque) → Still n st → Still n (goesOn q w st ds .state)
+  unfolding goesOn
+  goes-still q st ds e = go (getD ds (placeOf w ds) nothing .threads)
     where
-      go : (l : List ℕ) → goesTo q w st ds l .state .list ≡ []
+      go : (l : List ℕ) → Still n (goesTo q w st ds l .state)
       go [] = e
-      go (t ∷ l) = e
+      go (t ∷ l) = taken-still q t st e
 
-  lets-list : (k : Kind) (wakes : Bool) (q t x u : ℕ) (st : State) (ds : List Deque) → st .list ≡ [] → letGo k wakes q w t x u st ds .state .list ≡ []
-  unfolding letGo taken
-  lets-list fork wakes q t x u st ds e = e
-  lets-list end wakes q t x u st ds e = either (λ (d : Deques). d .state .list ≡ []) wakes _ _ (λ i. e) (λ i. goes-list q st ds e)
-  lets-list join wakes q t x u st ds e = goes-list q st ds e
-  lets-list alloc wakes q t x u st ds e = e
-  lets-list work wakes q t x u st ds e = e
-  lets-list free wakes q t x u st ds e = e
-  lets-list unknown wakes q t x u st ds e = e
+  lets-still : (k : Kind) (wakes : Bool) (q t x u : ℕ) (st : State) (ds : List Deque) → Still n st → Still n (letGo k wakes q w t x u st ds .state)
+  unfolding letGo
+  lets-still fork wakes q t x u st ds e = taken-still q x st e
+  lets-still end wakes q t x u st ds e = either (λ (d : Deques). Still n (d .state)) wakes _ _ (λ i. taken-still q u st e) (λ i. goes-still q st ds e)
+  lets-still join wakes q t x u st ds e = goes-still q st ds e
+  lets-still alloc wakes q t x u st ds e = e
+  lets-still work wakes q t x u st ds e = e
+  lets-still free wakes q t x u st ds e = e
+  lets-still unknown wakes q t x u st ds e = e
 
-  acts-list : (st : State) (ds : List Deque) → st .list ≡ [] → actDeques T K w st ds .after .state .list ≡ []
+  acts-still : (st : State) (ds : List Deque) → Still n st → Still n (actDeques T K w st ds .after .state)
   unfolding actDeques act
-  acts-list st ds e =
+  acts-still st ds e =
       let t : ℕ = workerOf st w .thread in
       let a : ℕ = nextOf st t in
-      let s : act T K w st .state .list ≡ [] = act-list (kind T a) t a (T .argument a) st e in
-      either (λ (d : Deques). d .state .list ≡ []) (workerOf (act T K w st .state) w .holds) _ _ (λ i. s)
-      (λ i. lets-list (kind T a) (waitsFor T st (parentOf T t) t) (workerOf st w .quota) t (T .argument a) (parentOf T t) (act T K w st .state) ds s)
+      let s : Still n (act T K w st .state) = act-still (kind T a) t a (T .argument a) st e in
+      either (λ (d : Deques). Still n (d .state)) (workerOf (act T K w st .state) w .holds) _ _ (λ i. s)
+      (λ i. lets-still (kind T a) (waitsFor T st (parentOf T t) t) (workerOf st w .quota) t (T .argument a) (parentOf T t) (act T K w st .state) ds s)
 
-  pub turn-list : (c : ℕ) (d : Deques) → d .state .list ≡ [] → dequeTurn T K w c d .after .state .list ≡ []
-  unfolding dequeTurn steal taken
-  turn-list c d e =
-      either (λ (s : DequeStep). s .after .state .list ≡ []) (workerOf (d .state) w .holds) _ _ (λ i. acts-list (d .state) (d .deques) e)
-      (λ i. either (λ (s : DequeStep). s .after .state .list ≡ []) (isEmpty (getD (d .deques) c nothing .threads)) _ _ (λ j. e) (λ j. acts-list _ _ e))
+  turn-still : (c : ℕ) (d : Deques) → Still n (d .state) → Still (suc n) (dequeTurn T K w c d .after .state)
+  unfolding dequeTurn steal
+  turn-still c d e = counts _ both
+    where
+      both : Still n (pick (workerOf (d .state) w .holds) (actDeques T K w (d .state) (d .deques)) (steal T K w c d) .after .state)
+      both =
+          either (λ (s : DequeStep). Still n (s .after .state)) (workerOf (d .state) w .holds) _ _ (λ i. acts-still (d .state) (d .deques) e)
+          (λ i. either (λ (s : DequeStep). Still n (s .after .state)) (isEmpty (getD (d .deques) c nothing .threads)) _ _ (λ j. e) (λ j. acts-still _ _ (taken-still K _ (d .state) e)))
+
+      counts : (st : State) → Still n st → Still (suc n) (counted st)
+      counts st x = record { list = x .list; turns = ap suc (x .turns) }
 
 -- ---- what is stored is read back
 
@@ -94,6 +113,16 @@ module _ (T : Table) (l : Lawful T) (p K : ℕ) (d : Deques) (k : Kept T p K d) 
 
   pub stored-back : d .state .list ≡ [] → dequesOf (dequeStored r d) ≡ d
   stored-back e = λ i. over (withList (sym e i) (d .state)) (stored-deques i)
+
+-- ---- a turn on a record
+
+still : (r : DequeRun) (g : Pair) → Still (suc (r .run .turns)) (stepDeques r (g .worker) (g .choice) .after .state)
+unfolding stepDeques
+still r g = turn-still (tableIn (r .run)) (r .run .quota) (g .worker) (r .run .turns) (g .choice) (dequesOf r) (record { list = refl; turns = refl })
+
+-- "Every turn counts as one."
+pub moved-turns : (r : DequeRun) (g : Pair) → dequeMoved r g .run .turns ≡ suc (r .run .turns)
+moved-turns r g = still r g .turns
 
 -- ---- a sound record
 
@@ -140,7 +169,7 @@ module _ (r : DequeRun) (h : SteadyDeques r) where
     unfolding stepDeques
     moved-deques =
         stored-back (tableIn (r .run)) steady-lawful (r .run .workers) (r .run .quota) (stepDeques r (g .worker) (g .choice) .after) moved-kept (r .run)
-        (turn-list (tableIn (r .run)) (r .run .quota) (g .worker) (g .choice) (dequesOf r) refl)
+        (still r g .list)
 
 -- ---- a beginning
 

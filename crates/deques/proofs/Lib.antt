@@ -13,3 +13,4 @@ pub mod DequeTests
 pub mod DequeHistories
 pub mod DequeSoundness
 pub mod DequeAnswers
+pub mod DequeCaseLaws

@@ -9,3 +9,4 @@ pub mod DequeRuns
 pub mod DequeCalls
 pub mod DequeValues
 pub mod DequeCases
+pub mod DequeTurnCases
