@@ -259,28 +259,26 @@ def turn(record, w, choice):
 
 def run_pairs(record, order, seen=None):
     """A run over two bytes a turn, worker and choice; an odd last byte isn't read. `seen` is told of each turn."""
-    if not is_blank(record) and not sound(record):
-        return ('refused', 0, 32, 0), record
-    taking = Machine(record)
     pairs = [(order[i], order[i + 1]) for i in range(0, len(order) - 1, 2)]
-    for count, (w, choice) in enumerate(pairs):
-        fault = None
+    if is_blank(record):
+        return ('refused', 0, 30, 0) if pairs else ('spent', 0), record
+    if not sound(record):
+        return ('refused', 0, 32, 0), record
+    taking, count = Machine(record), 0
+    for w, choice in pairs:
         if taking.ended():
             break
         if taking.run.turns == LAST_TURN:
-            fault = 32
-        elif w >= record.run.p:
-            fault = 30
-        elif choice >= record.run.p:
-            fault = 49
-        if fault:
-            return ('refused', count, fault, 0), record if count == 0 else taking.record()
+            return ('refused', count, 32, 0), taking.record()
+        if w >= record.run.p:
+            return ('refused', count, 30, 0), taking.record()
+        if choice >= record.run.p:
+            return ('refused', count, 49, 0), taking.record()
         reply = taking.take(w, choice)
+        count += 1
         if seen:
-            seen(count + 1, w, reply, taking)
-    else:
-        count = len(pairs)
-    return ('finished' if taking.ended() else 'spent', count), record if count == 0 else taking.record()
+            seen(count, w, reply, taking)
+    return ('finished' if taking.ended() else 'spent', count), taking.record()
 
 
 # The program's text

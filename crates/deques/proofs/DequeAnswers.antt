@@ -3,9 +3,11 @@ use mathlib.Core.Path.{_≡_, refl, sym, ap, _∙_, fun-ext}
 use Prim.Native.Nat.{ℕ, zero, suc, _+_, _-_, _/_, _^_}
 use native.Mathlib.Nat.{zero-add, suc-add, add-zero, add-suc}
 use mathlib.Core.List.{List, _++_}
-use mathlib.Core.Bool.{Bool, true, false, _||_}
+use mathlib.Core.Bool.{Bool, true, false, not, _&&_, _||_}
 use lib.ListN.{length}
-use lib.Dec.{eqb, eqb·zero-suc, eqb·suc-suc}
+use native.Mathlib.Omega.{arith}
+use borrow.Author.Tests.{lt-ltb, le-ltb, ne-eqb}
+use lib.Dec.{ltb, eqb, eqb·zero-suc, eqb·suc-suc}
 use Rattle.table.specs.Sum.{pick}
 use Rattle.table.specs.Format.{tableOf}
 use Rattle.table.specs.Pass.{refusal, tryAt, firstFound}
@@ -18,16 +20,21 @@ use Rattle.schedule.specs.declared.Reply.{Reply}
 use Rattle.schedule.specs.declared.Reply.the-variants.{Idle, Done, Quota, Wait}
 use Rattle.schedule.specs.declared.Report.the-variants.{Finished, Spent, Refused}
 use Rattle.schedule.specs.Begin.{beginPasses}
+use Rattle.schedule.specs.Record.{blank}
 use Rattle.schedule.specs.Turn.{rootEnded, noWorker}
 use Rattle.schedule.specs.Answers.{begun, finished, spent, Values, replyValues, beginningValues, reportValues}
 use Rattle.schedule.specs.Values.{valuesWith, beginValues, firstThat}
 use Rattle.deques.specs.declared.DequeRun.{DequeRun}
 use Rattle.deques.specs.declared.DequeRan.{DequeRan}
 use Rattle.deques.specs.Deques.{DequeStep}
+use Rattle.deques.specs.declared.DequeTurning.the-variants.{Refused as refusedTurn}
+use Rattle.deques.specs.DequeRecord.{blankDeques}
+use Rattle.deques.specs.DequeSound.{dequeSound}
 use Rattle.deques.specs.DequeBegin.{startDequeRun, dequeBegunAs, dequeBegin}
 use Rattle.deques.specs.DequeTurn.{unsoundDeques, noChoice, dequeChecks, stepDeques, dequeTurnedAs, dequeTurned}
 use Rattle.deques.specs.DequeRuns.{Pair, pairAt, dequeRan, dequeMoved, driveDeques, pairsRun}
 use Rattle.deques.specs.DequeValues.{dequeTurningValues, dequeTurnValues, afterPairs, pairChecks, stopsBefore, pairsTaken, pairsStoppedBy, drivenValues, pairsValues}
+use Rattle.deques.proofs.DequeTests.{blank-deques-exactly}
 
 -- ---- a beginning and a turn
 
@@ -159,3 +166,40 @@ pairs-values r l = go (unsoundDeques r) (run-values (pairAt l) (length l / 2) r)
         → reportValues (pick b (dequeRan (Refused 0 (refusal 32 0)) r) whole .report) ≡ values (pick b (At (refusal 32 0)) Nothing)
     go true e = refl
     go false e = e
+
+-- ---- the blank record
+
+blank-passes : unsoundDeques blankDeques ≡ false
+unfolding unsoundDeques
+blank-passes = rw (blank-deques-exactly blankDeques .1 refl) (none (not (dequeSound blankDeques)))
+  where
+    none : (q : Bool) → (q && false) ≡ false
+    none true = refl
+    none false = refl
+
+no-worker : (w : ℕ) → noWorker (blankDeques .run) w ≡ true
+unfolding noWorker blankDeques blank
+no-worker w = rw (le-ltb w 0 (omega arith))
+
+blank-open : rootEnded (blankDeques .run) ≡ false
+unfolding rootEnded blankDeques blank
+blank-open = refl
+
+blank-turns : eqb (blankDeques .run .turns) (2 ^ 64 - 1) ≡ false
+unfolding blankDeques blank
+blank-turns = ne-eqb 0 (2 ^ 64 - 1) (λ e. omega arith)
+
+-- "any turn .. on it gets 30"
+pub deque-blank-turn : (w c : ℕ) → dequeTurned blankDeques w c ≡ record { answer = refusedTurn (refusal 30 0); run = blankDeques }
+unfolding dequeTurned dequeChecks tryAt noWorker
+deque-blank-turn w c = rw (blank-passes, no-worker w)
+
+drive-blank : (who : ℕ → Pair) (k : ℕ) → driveDeques who k 0 blankDeques ≡ dequeRan (pick (ltb 0 k) (Refused 0 (refusal 30 0)) (Spent 0)) blankDeques
+unfolding driveDeques
+drive-blank who zero = rw blank-open
+drive-blank who (suc k) = rw (blank-open, blank-turns, no-worker (who 0 .worker), lt-ltb 0 (suc k) (omega arith))
+
+-- and a run with a turn to go, over two bytes or more; one over none or one byte is spent
+pub deque-blank-run : (l : List ℕ) → pairsRun blankDeques l ≡ dequeRan (pick (ltb 0 (length l / 2)) (Refused 0 (refusal 30 0)) (Spent 0)) blankDeques
+unfolding pairsRun
+deque-blank-run l = rw blank-passes (drive-blank (pairAt l) (length l / 2))
