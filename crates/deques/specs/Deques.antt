@@ -9,11 +9,12 @@ use Rattle.table.specs.Format.{Kind, end, work, alloc, free, fork, join, unknow
 use Rattle.schedule.specs.declared.Reply.{Reply}
 use Rattle.schedule.specs.declared.Reply.the-variants.{Idle}
 use Rattle.schedule.specs.Machine.{State, nextOf, workerOf, parentOf, waitsFor, withList, Stepped, act, taken, counted}
+use Rattle.schedule.specs.Record.{maxWorkers}
 use Rattle.schedule.specs.Begin.{startState}
 
--- no owner
+-- no owner: no worker has this number
 abbrev pub unowned : ℕ
-unowned = 16
+unowned = maxWorkers
 
 -- a deque: its owner, and its threads, top first
 pub record Deque : Type 0 where

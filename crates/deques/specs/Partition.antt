@@ -9,6 +9,7 @@ use lib.Dec.{eqb}
 use Rattle.table.specs.Sum.{pick}
 use Rattle.schedule.specs.declared.Worker.{Worker}
 use Rattle.schedule.specs.Machine.{ready, held, waiting, unborn, ended, nobody}
+use Rattle.schedule.specs.Record.{maxWorkers}
 use Rattle.schedule.specs.Memory.{countIn}
 use Rattle.deques.specs.Deques.{Deque, unowned, isEmpty}
 
@@ -48,7 +49,7 @@ pub record PlacedDeques (n : ℕ) (status : List ℕ) (workers : List Worker) (d
   pub once : (t : ℕ) → t < n → occurs t ds ≡ readyAt status t
   pub none : (t : ℕ) → n ≤ t → occurs t ds ≡ 0
   -- "A worker owns one deque while it holds a thread and otherwise none"
-  pub owned : (w : ℕ) → w < 16 → ownedBy w ds ≡ holdsAt workers w
+  pub owned : (w : ℕ) → w < maxWorkers → ownedBy w ds ≡ holdsAt workers w
   -- "a deque has .. an owner or a thread"
   pub manned : AllManned ds
 
