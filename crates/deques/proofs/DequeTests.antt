@@ -3,9 +3,10 @@ use mathlib.Core.Path.{_≡_, refl, ap}
 use mathlib.Core.Logic.{_↔_, Iff·trans, _⊎_, inl, inr}
 use mathlib.Core.Bool.{true, not, _&&_, _||_}
 use mathlib.Core.List.{List, [], _∷_, List·Memᴰ}
-use Prim.Native.Nat.{ℕ, _≤_, _<_}
+use Prim.Native.Nat.{ℕ, _-_, _^_, _≤_, _<_}
 use native.Mathlib.Omega.{arith}
 use native.Mathlib.Decide.{decLt, decLe}
+use lib.ListN.{length}
 use lib.Dec.{ltb, eqb}
 use borrow.Author.Tests.{eqb-true, eq-eqb, lt-ltb, ltb-true}
 use Rattle.table.specs.Pass.{firstFound}
@@ -14,16 +15,19 @@ use Rattle.table.proofs.Passes.{passes-rules}
 use Rattle.schedule.specs.declared.Worker.{Worker}
 use Rattle.schedule.specs.Links.{Links}
 use Rattle.schedule.specs.Memory.{countIn}
-use Rattle.schedule.specs.Record.{bytesOf}
-use Rattle.schedule.specs.Sound.{commonSound, sameLinks}
+use Rattle.table.specs.Rules.{Rules}
+use Rattle.table.specs.declared.Found.the-variants.{Nothing}
+use Rattle.schedule.specs.Record.{maxBytes, setOf, bytesOf, tableIn}
+use Rattle.schedule.specs.Begin.{settingPasses}
+use Rattle.schedule.specs.Sound.{Common, commonSound, sameLinks}
 use Rattle.schedule.proofs.Sound.Tests.{common-exactly, blank-exactly}
-use Rattle.order.specs.Words.{allBelow, allIn}
+use Rattle.order.specs.Words.{allBelow, allIn, filled}
 use Rattle.order.proofs.Words.{and-of, or-exactly, not-exactly, eqb-exactly, ltb-exactly, allBelow-exactly, allIn-exactly, sameList-exactly, isNothing-exactly}
 use Rattle.deques.specs.declared.DequeRun.{DequeRun}
 use Rattle.deques.specs.Deques.{Deque, isEmpty}
 use Rattle.deques.specs.Partition.{occurs, ownedBy, Manned, AllManned, readyAt, holdsAt, PlacedDeques}
 use Rattle.deques.specs.DequeRecord.{blankDeques}
-use Rattle.deques.specs.DequeSound.{SoundDeques, threadsIn, allManned, placedDeques, dequeSound, isBlankDeques}
+use Rattle.deques.specs.DequeSound.{SoundDeques, threadsIn, allManned, placedDeques, recordSound, dequeSound, isBlankDeques}
 use Rattle.deques.proofs.Counts.{counted-in, in-counted, count-append}
 
 -- ---- the clauses on the deques
@@ -89,7 +93,7 @@ placed-exactly n status workers ds =
 
 -- ---- a sound record
 
-sameLinks-exactly : (k l : Links) → (sameLinks k l ≡ true) ↔ (k ≡ l)
+pub sameLinks-exactly : (k l : Links) → (sameLinks k l ≡ true) ↔ (k ≡ l)
 unfolding sameLinks
 sameLinks-exactly k l =
     Iff·trans (and-of (sameList-exactly (k .left) (l .left)) (and-of (sameList-exactly (k .right) (l .right)) (eqb-exactly (k .head) (l .head)))) (
@@ -97,27 +101,33 @@ sameLinks-exactly k l =
       (λ e. (ap (λ (x : Links). x .left) e, (ap (λ (x : Links). x .right) e, ap (λ (x : Links). x .head) e))),
     )
 
-pub deque-sound-exactly : (r : DequeRun) → (dequeSound r ≡ true) ↔ SoundDeques r
-unfolding dequeSound commonSound
-deque-sound-exactly r =
-    Iff·trans
-    (and-of
+-- the clauses with no word of the deques
+pub record-exactly : (r : DequeRun)
+    → (recordSound r ≡ true)
+    ↔ ((Rules (bytesOf (r .run))
+    × ((firstFound (settingPasses (r .run .workers) (r .run .quota)) ≡ Nothing)
+    × (Common (tableIn (r .run)) (r .run .workers) (r .run .quota) (r .run .next) (r .run .status) (r .run .amounts) (r .run .worker) (r .run .held) (r .run .highest)
+    × (r .run .busy ≡ setOf (r .run .worker)))))
+    × ((length (bytesOf (r .run)) ≡ r .run .length) × ((r .run .table ≡ filled maxBytes (bytesOf (r .run))) × (r .run .turns < 2 ^ 64 - 1))))
+unfolding recordSound commonSound
+record-exactly r =
+    and-of
     (and-of (Iff·trans (isNothing-exactly (firstFound (passes (bytesOf (r .run))))) (passes-rules (bytesOf (r .run))))
     (and-of (isNothing-exactly _) (and-of (common-exactly _ _ _ _ _ _ _ _ _) (eqb-exactly _ _))))
-    (and-of (eqb-exactly _ _)
-    (and-of (sameList-exactly _ _)
-    (and-of (ltb-exactly _ _)
-    (and-of (placed-exactly _ _ _ _)
-    (and-of (sameLinks-exactly _ _)
-    (sameLinks-exactly _ _))))))) (
-      (λ ((a, (b, (c, d))), (e, (f, (g, (h, (i, j)))))).
+    (and-of (eqb-exactly _ _) (and-of (sameList-exactly _ _) (ltb-exactly _ _)))
+
+pub deque-sound-exactly : (r : DequeRun) → (dequeSound r ≡ true) ↔ SoundDeques r
+unfolding dequeSound
+deque-sound-exactly r =
+    Iff·trans (and-of (record-exactly r) (and-of (placed-exactly _ _ _ _) (and-of (sameLinks-exactly _ _) (sameLinks-exactly _ _)))) (
+      (λ (((a, (b, (c, d))), (e, (f, g))), (h, (i, j))).
           record {
             steady = record { table = a; settings = b; common = c; set = d; table-length = e; table-rest = f; placed = h; lines = i; bottoms = j };
             turns = g;
           }),
       (λ s.
           let x = s .steady in
-          ((x .table, (x .settings, (x .common, x .set))), (x .table-length, (x .table-rest, (s .turns, (x .placed, (x .lines, x .bottoms))))))),
+          (((x .table, (x .settings, (x .common, x .set))), (x .table-length, (x .table-rest, s .turns))), (x .placed, (x .lines, x .bottoms)))),
     )
 
 -- ---- the blank record

@@ -13,6 +13,8 @@ pub mod Read
 -- the record, its test, the calls and their answers
 pub mod DequeStores
 pub mod DequeTests
+pub mod Walks
+pub mod DequeWalks
 pub mod DequeHistories
 pub mod DequeAnswers
 -- the statements that a reader is sent to, and the worked cases

@@ -61,7 +61,7 @@ module _ (k : Links) (l : List ℕ) (h : LinkedAs k l) (b : Below noThread l) (t
       go [] n = ne-eqb noThread t (λ e. omega arith)
       go (x ∷ l) n = ne-eqb x t (λ e. n (List·Memᴰ·head (sym e)))
 
-holder-at : (t : ℕ) (l : List Worker) (w : ℕ) → w < length l → getD l w nobody .holds ≡ true → getD l w nobody .thread ≡ t
+pub holder-at : (t : ℕ) (l : List Worker) (w : ℕ) → w < length l → getD l w nobody .holds ≡ true → getD l w nobody .thread ≡ t
     → ((v : ℕ) → v < length l → getD l v nobody .holds ≡ true → getD l v nobody .thread ≡ t → v ≡ w) → holderOf t l ≡ w
 unfolding holderOf
 holder-at t [] w i h e o = absurd (omega arith)
@@ -171,12 +171,12 @@ module _ (T : Table) (l : Lawful T) (p K : ℕ) (first second : Links) (D : Dequ
     seen : Seen (linkedIn second) (isHeld (D .state .status)) (λ t. holderOf t workers) hold d
     seen = record { last = last-passes (linkedIn second) (line hold d) some passes others; owner = its-owner; top = its-top }
 
-  all-seen : (front rest : List Deque) → ds ≡ front ++ rest → AllSeen (linkedIn second) (isHeld (D .state .status)) (λ t. holderOf t workers) hold rest
+  pub all-seen : (front rest : List Deque) → ds ≡ front ++ rest → AllSeen (linkedIn second) (isHeld (D .state .status)) (λ t. holderOf t workers) hold rest
   unfolding AllSeen
   all-seen front [] e = tt
   all-seen front (d ∷ rest) e = (seen front d rest e, all-seen (front ++ d ∷ []) rest (e ∙ sym (append-assoc front (d ∷ []) rest)))
 
-  list-read : listOf first ≡ linesOf hold ds
+  pub list-read : listOf first ≡ linesOf hold ds
   list-read = walk-linked (first .left) (first .right) (first .head) (linesOf hold ds) (L .lines) once low
 
   pub deques-read : dequesFrom first second (D .state .status) (D .state .workers) ≡ D .deques

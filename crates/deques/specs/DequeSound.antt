@@ -58,15 +58,20 @@ placedDeques n status workers ds =
     && (allBelow (λ w. eqb (ownedBy w ds) (holdsAt workers w)) maxWorkers
     && allManned ds))
 
-unfoldable pub dequeSound : DequeRun → Bool
-dequeSound r =
+-- document 01's rules and N9's without those on the list: the part that any kind of run has in common, the copy of the table, turns taken
+unfoldable pub recordSound : DequeRun → Bool
+recordSound r =
     commonSound (bytesOf (r .run)) (r .run .workers) (r .run .quota) (r .run .next) (r .run .status) (r .run .amounts) (r .run .worker) (r .run .busy) (r .run .held) (r .run .highest)
     && (eqb (length (bytesOf (r .run))) (r .run .length)
     && (sameList (r .run .table) (filled maxBytes (bytesOf (r .run)))
-    && (ltb (r .run .turns) (2 ^ 64 - 1)
+    && ltb (r .run .turns) (2 ^ 64 - 1)))
+
+unfoldable pub dequeSound : DequeRun → Bool
+dequeSound r =
+    recordSound r
     && (placedDeques (tableIn (r .run) .threads) (r .run .status) (r .run .worker) (dequesIn r)
     && (sameLinks (linksIn (r .run)) (laid (linesFor (dequesOf r)))
-    && sameLinks (bottomsIn r) (laid (bottomsFor (dequesOf r))))))))
+    && sameLinks (bottomsIn r) (laid (bottomsFor (dequesOf r)))))
 
 unfoldable pub isBlankDeques : DequeRun → Bool
 isBlankDeques r =

@@ -3,6 +3,7 @@ pub mod Lines
 pub mod Partition
 pub mod DequeRecord
 pub mod DequeSound
+pub mod DequeWalk
 pub mod DequeBegin
 pub mod DequeTurn
 pub mod DequeRuns
