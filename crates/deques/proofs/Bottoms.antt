@@ -9,9 +9,9 @@ use borrow.Author.Tests.{eqb-false, ne-eqb, lt-ltb}
 use Rattle.table.specs.Sum.{pick}
 use Rattle.table.proofs.Tests.{no-way}
 use Rattle.schedule.specs.Machine.{leftOf, without}
-unfoldable pub use Rattle.deques.specs.Lines.{bottomsOf}
 use Rattle.deques.specs.Deques.{Deque, deque, isEmpty, bottom, above, kept, own, push, disown}
-use Rattle.deques.proofs.Placed.{ownedBy, line}
+use Rattle.deques.specs.Lines.{bottomsOf, line}
+use Rattle.deques.specs.Partition.{ownedBy}
 use Rattle.deques.proofs.Flat.{own-at, leftOf-at, without-at}
 
 bottoms-append : (held : ℕ → ℕ) (front ds : List Deque) → bottomsOf held (front ++ ds) ≡ bottomsOf held front ++ bottomsOf held ds

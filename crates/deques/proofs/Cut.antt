@@ -8,9 +8,9 @@ use native.Mathlib.Omega.{arith}
 use borrow.Author.Tests.{lt-ltb, le-ltb}
 use Rattle.table.proofs.Tests.{no-way}
 use Rattle.schedule.specs.Machine.{held}
-unfoldable pub use Rattle.deques.specs.Lines.{prepend, cutAfter, dequeOf}
 use Rattle.deques.specs.Deques.{Deque, deque}
-use Rattle.deques.proofs.Placed.{Manned, AllManned, line, linesOf}
+use Rattle.deques.specs.Lines.{prepend, cutAfter, dequeOf, line, linesOf}
+use Rattle.deques.specs.Partition.{Manned, AllManned}
 
 -- the last alone passes
 abbrev pub LastPasses : (ℕ → Bool) → List ℕ → Type 0

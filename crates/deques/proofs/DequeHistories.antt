@@ -41,13 +41,13 @@ use Rattle.deques.specs.declared.DequeBegun.{DequeBegun}
 use Rattle.deques.specs.declared.DequeTurning.the-variants.{Refused as refusedTurn}
 use Rattle.deques.specs.declared.DequeRan.{DequeRan}
 use Rattle.deques.specs.Deques.{Deques, startDeques, bottom, dequeTurn}
-use Rattle.deques.specs.Lines.{linesOf, bottomsOf}
 use Rattle.deques.specs.DequeRecord.{dequesOf, blankDeques}
 use Rattle.deques.specs.DequeSound.{SteadyDeques, SoundDeques}
 use Rattle.deques.specs.DequeBegin.{startDequeRun, dequeBegunAs, dequeBegin}
 use Rattle.deques.specs.DequeTurn.{unsoundDeques, noChoice, dequeChecks, stepDeques, dequeTurnedAs, dequeTurned}
 use Rattle.deques.specs.DequeRuns.{Pair, pair, pairAt, dequeRan, dequeMoved, driveDeques, pairsRun}
 use Rattle.deques.specs.DequeCalls.{DequeCall, turn, overPairs, dequeTurnRow, pairsFrom, afterDequeCall, pairsOf, afterDequeCalls, pairsOfCalls, rowDeques}
+use Rattle.deques.specs.Lines.{linesOf, bottomsOf}
 use Rattle.deques.proofs.DequeStores.{start-kept, stored-back, stored-steady, moved-steady, moved-deques}
 
 -- ---- what a beginning gives

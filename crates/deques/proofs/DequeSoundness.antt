@@ -16,9 +16,9 @@ use Rattle.schedule.proofs.Sound.Facts.{Facts}
 use Rattle.schedule.proofs.ThreadMemory.{amounts-total}
 use Rattle.deques.specs.declared.DequeRun.{DequeRun}
 use Rattle.deques.specs.Deques.{Deque}
-use Rattle.deques.specs.Partition.{occurs, ownedBy, Manned, AllManned, statusIs, readyAt, holdsAt, placesOf}
 use Rattle.deques.specs.DequeRecord.{dequesIn, dequesOf}
 use Rattle.deques.specs.DequeSound.{SteadyDeques}
+use Rattle.deques.specs.Partition.{occurs, ownedBy, Manned, AllManned, statusIs, readyAt, holdsAt, placesOf}
 use Rattle.deques.proofs.DequeTurns.{withSerial, serial-facts}
 use Rattle.deques.proofs.DequeStores.{steady-lawful}
 

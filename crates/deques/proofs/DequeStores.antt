@@ -29,12 +29,12 @@ use Rattle.schedule.proofs.Stores.{Fits, setting-fits}
 use Rattle.schedule.proofs.Linked.Links.{laid-linked}
 use Rattle.deques.specs.declared.DequeRun.{DequeRun}
 use Rattle.deques.specs.Deques.{Deque, isEmpty, nothing, placeOf, Deques, over, startDeques, goesTo, goesOn, letGo, DequeStep, actDeques, steal, dequeTurn}
-use Rattle.deques.specs.Lines.{linesOf, bottomsOf, threadOf}
-use Rattle.deques.specs.Partition.{occurs, ownedBy, AllManned, readyAt, holdsAt, PlacedDeques}
 use Rattle.deques.specs.DequeRecord.{dequesIn, dequesOf, linesFor, bottomsFor, dequeStored}
 use Rattle.deques.specs.DequeSound.{SteadyDeques}
 use Rattle.deques.specs.DequeTurn.{stepDeques}
 use Rattle.deques.specs.DequeRuns.{Pair, dequeMoved}
+use Rattle.deques.specs.Lines.{linesOf, bottomsOf, threadOf}
+use Rattle.deques.specs.Partition.{occurs, ownedBy, AllManned, readyAt, holdsAt, PlacedDeques}
 use Rattle.deques.proofs.DequeTurns.{Kept, turn-kept}
 use Rattle.deques.proofs.Read.{deques-read}
 

@@ -25,9 +25,9 @@ use Rattle.order.specs.Words.{allBelow, allIn, filled}
 use Rattle.order.proofs.Words.{and-of, or-exactly, not-exactly, eqb-exactly, ltb-exactly, allBelow-exactly, allIn-exactly, sameList-exactly, isNothing-exactly}
 use Rattle.deques.specs.declared.DequeRun.{DequeRun}
 use Rattle.deques.specs.Deques.{Deque, isEmpty}
-use Rattle.deques.specs.Partition.{occurs, ownedBy, Manned, AllManned, readyAt, holdsAt, PlacedDeques}
 use Rattle.deques.specs.DequeRecord.{blankDeques}
 use Rattle.deques.specs.DequeSound.{SoundDeques, threadsIn, allManned, placedDeques, recordSound, dequeSound, isBlankDeques}
+use Rattle.deques.specs.Partition.{occurs, ownedBy, Manned, AllManned, readyAt, holdsAt, PlacedDeques}
 use Rattle.deques.proofs.Counts.{counted-in, in-counted, count-append}
 
 -- ---- the clauses on the deques

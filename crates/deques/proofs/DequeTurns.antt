@@ -27,9 +27,10 @@ use Rattle.schedule.proofs.Preservation.Turns.{either}
 use Rattle.schedule.proofs.Preservation.Ends.{ownerBelow-less}
 use Rattle.order.proofs.Words.{and-exactly}
 use Rattle.deques.specs.Deques.{Deque, deque, nothing, isEmpty, bottom, placeOf, own, robbed, Deques, over, goesTo, goesOn, letGo, DequeStep, actDeques, steal, dequeTurn}
+use Rattle.deques.specs.Partition.{occurs, ownedBy, readyAt, holdsAt, PlacedDeques}
 use Rattle.deques.proofs.Ghost.{CommonIn, serialLive, listed-live, act-common}
-use Rattle.deques.proofs.Placed.{occurs, ownedBy, robbed-occurs, robbed-owned, robbed-manned}
-use Rattle.deques.proofs.Kept.{readyAt, holdsAt, ready-here, ready-there, holds-here, holds-there, one-is, none-is, pick-one, PlacedDeques, Loose, pop, leaves, stops, forks, wakes, top-ready}
+use Rattle.deques.proofs.Placed.{robbed-occurs, robbed-owned, robbed-manned}
+use Rattle.deques.proofs.Kept.{ready-here, ready-there, holds-here, holds-there, one-is, none-is, pick-one, Loose, pop, leaves, stops, forks, wakes, top-ready}
 
 -- ---- any kind of run: the list that it would have
 

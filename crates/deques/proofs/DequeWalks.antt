@@ -25,12 +25,12 @@ use Rattle.schedule.proofs.Sound.Facts.{Facts}
 use Rattle.schedule.proofs.Linked.Once.{Once}
 use Rattle.schedule.proofs.Linked.Links.{laid-linked}
 use Rattle.deques.specs.Deques.{Deque, bottom, Deques, over}
-use Rattle.deques.specs.Lines.{line, linesOf, bottomsOf, threadOf, cutAfter, dequeOf, holderOf, isHeld, linkedIn, dequesFrom}
-use Rattle.deques.specs.Partition.{occurs, owns, ownedBy, Manned, AllManned, readyAt, PlacedDeques}
 use Rattle.deques.specs.declared.DequeRun.{DequeRun}
 use Rattle.deques.specs.DequeRecord.{bottomsIn, dequesIn, dequesOf, linesFor, bottomsFor}
 use Rattle.deques.specs.DequeSound.{SoundDeques, dequeSound}
 use Rattle.deques.specs.DequeWalk.{isReady, inLines, bottomsAlong, dequesStand, dequeTested}
+use Rattle.deques.specs.Lines.{line, linesOf, bottomsOf, threadOf, cutAfter, dequeOf, holderOf, isHeld, linkedIn, dequesFrom}
+use Rattle.deques.specs.Partition.{occurs, owns, ownedBy, Manned, AllManned, readyAt, PlacedDeques}
 use Rattle.deques.proofs.Ghost.{CommonIn}
 use Rattle.deques.proofs.Cut.{LastPasses, AllSeen}
 use Rattle.deques.proofs.DequeTurns.{Kept, withSerial, serial-facts}

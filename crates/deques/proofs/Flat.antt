@@ -9,7 +9,9 @@ use borrow.Author.Tests.{eqb-true, ne-eqb, eq-eqb, lt-ltb}
 use Rattle.table.specs.Sum.{pick}
 use Rattle.schedule.specs.Machine.{leftOf, without}
 use Rattle.deques.specs.Deques.{Deque, deque, kept, own, push, disown}
-use Rattle.deques.proofs.Placed.{ownedBy, line, linesOf, lines-same}
+use Rattle.deques.specs.Lines.{line, linesOf}
+use Rattle.deques.specs.Partition.{ownedBy}
+use Rattle.deques.proofs.Placed.{lines-same}
 
 -- worker w's deque among the others
 pub record Mine (w : ℕ) (ds : List Deque) : Type 0 where

@@ -14,9 +14,9 @@ use Rattle.table.specs.Format.{free}
 use Rattle.schedule.specs.declared.Worker.{Worker}
 use Rattle.schedule.specs.Memory.{countIn}
 use Rattle.schedule.specs.Machine.{ready, held, nobody}
-pub use Rattle.deques.specs.Partition.{readyAt, holdsAt, PlacedDeques}
 use Rattle.deques.specs.Deques.{Deque, deque, nothing, placeOf, own, push, disown}
-use Rattle.deques.proofs.Placed.{occurs, ownedBy, owns, AllManned, own-occurs, own-owned, own-manned}
+use Rattle.deques.specs.Partition.{readyAt, holdsAt, PlacedDeques, occurs, ownedBy, owns, AllManned}
+use Rattle.deques.proofs.Placed.{own-occurs, own-owned, own-manned}
 
 -- ---- statuses and workers, place by place
 

@@ -12,9 +12,9 @@ use Rattle.table.specs.Sum.{pick}
 use Rattle.table.proofs.Tests.{no-way}
 use Rattle.schedule.specs.Memory.{countIn}
 use Rattle.order.proofs.Words.{and-exactly}
-unfoldable pub use Rattle.deques.specs.Partition.{occurs, owns, ownedBy, Manned, AllManned}
-unfoldable pub use Rattle.deques.specs.Lines.{line, linesOf}
 use Rattle.deques.specs.Deques.{Deque, deque, nothing, isEmpty, bottom, above, kept, placeOf, own, robbed}
+use Rattle.deques.specs.Lines.{line, linesOf}
+use Rattle.deques.specs.Partition.{occurs, owns, ownedBy, Manned, AllManned}
 
 -- ---- a deque that is kept or leaves
 

@@ -13,8 +13,8 @@ use Rattle.schedule.proofs.Linked.Once.{Once}
 use Rattle.order.specs.Words.{member}
 use Rattle.order.proofs.Words.{and-of, not-exactly, never-true, not-both, member-exactly}
 use Rattle.deques.specs.Deques.{bottom}
-use Rattle.deques.specs.Lines.{prepend, cutAfter, isHeld}
 use Rattle.deques.specs.DequeWalk.{isReady, onceIn, inLines, bottomsAlong}
+use Rattle.deques.specs.Lines.{prepend, cutAfter, isHeld}
 use Rattle.deques.proofs.Cut.{LastPasses}
 
 pub onceIn-exactly : (l : List ℕ) → (onceIn l ≡ true) ↔ Once l
