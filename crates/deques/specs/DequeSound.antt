@@ -22,13 +22,16 @@ use Rattle.deques.specs.DequeRecord.{bottomsIn, dequesIn, dequesOf, line
 
 -- all clauses but the one on turns taken
 pub record SteadyDeques (r : DequeRun) : Type 0 where
+  -- "its table passes 1 to 11 and its p and K pass 20" and 21; a record's table counts as filled out already (N6)
   pub table : Rules (bytesOf (r .run))
   pub settings : firstFound (settingPasses (r .run .workers) (r .run .quota)) ≡ Nothing
   pub common : Common (tableIn (r .run)) (r .run .workers) (r .run .quota) (r .run .next) (r .run .status) (r .run .amounts) (r .run .worker) (r .run .held) (r .run .highest)
+  -- "and the set agrees"
   pub set : r .run .busy ≡ setOf (r .run .worker)
+  -- "unused parts are as fixed above", and the table's length is that of the part in use
   pub table-length : length (bytesOf (r .run)) ≡ r .run .length
   pub table-rest : r .run .table ≡ filled maxBytes (bytesOf (r .run))
-  -- the partition of the threads, and who owns which deque
+  -- "every thread of the table is exactly one of these ..", "A worker owns one deque while it holds a thread and otherwise none; a deque has .. an owner or a thread"
   pub placed : PlacedDeques (tableIn (r .run) .threads) (r .run .status) (r .run .worker) (dequesIn r)
   -- the links describe the deques that are read off them
   pub lines : linksIn (r .run) ≡ laid (linesFor (dequesOf r))
@@ -46,7 +49,7 @@ unfoldable pub threadsIn : List Deque → List ℕ
 threadsIn [] = []
 threadsIn (d ∷ ds) = d .threads ++ threadsIn ds
 
--- "a deque has at most one owner, and an owner or a thread"
+-- "a deque has at most one owner", of which there is one number, "and an owner or a thread"
 unfoldable pub allManned : List Deque → Bool
 allManned [] = true
 allManned (d ∷ ds) = (ltb (d .owner) unowned || (eqb (d .owner) unowned && not (isEmpty (d .threads)))) && allManned ds
