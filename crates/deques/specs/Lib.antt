@@ -1,0 +1,13 @@
+pub mod Deques
+pub mod Lines
+pub mod Partition
+pub mod DequeRecord
+pub mod DequeSound
+pub mod DequeWalk
+pub mod DequeBegin
+pub mod DequeTurn
+pub mod DequeRuns
+pub mod DequeCalls
+pub mod DequeValues
+pub mod DequeCases
+pub mod DequeTurnCases
