@@ -15,7 +15,7 @@ use Rattle.table.specs.Pass.{refusal}
 use Rattle.table.specs.declared.Facts.{Facts}
 use Rattle.table.specs.declared.Refusal.{Refusal}
 use Rattle.table.proofs.Tests.{no-way}
-use Rattle.text.specs.Text.{decimal, refusedOf, bufferAt}
+use Rattle.text.specs.Text.{refusedOf, bufferAt}
 use Rattle.text.specs.Puts.{putAll}
 use Rattle.text.proofs.Decimal.{decimal-length}
 use Rattle.text.proofs.Placing.{counts}
@@ -107,10 +107,13 @@ module _ (input out : List ℕ) where
   given-table f h = let p = front f h in rw (p .1) (over-front table out (joinedSize (Written f)) (p .0) .0)
 
   -- which the buffer has
-  pub given-within : (x : Joined) → joinedGiven input ≡ x → joinedSize x ≤ length (givenIn input out)
-  given-within (Written f) h = let p = front f h in rw (p .1) (over-front table out (joinedSize (Written f)) (p .0) .1)
-  given-within (Refused r) h = omega arith
-  given-within (InPart i r) h = omega arith
+  pub given-within : (x : Joined) (o : List ℕ) (k : ℕ) → x ≡ joinedGiven input → o ≡ givenIn input out → k ≡ joinedSize x → Counts k o
+  given-within x o k h p e = counts o k (go x (sym h) e)
+    where
+      go : (y : Joined) → joinedGiven input ≡ y → k ≡ joinedSize y → k ≤ length o
+      go (Written f) g e = let w = front f g in rw (p ∙ w .1) (over-front table out k (e ∙ w .0) .1)
+      go (Refused r) g e = omega arith
+      go (InPart i r) g e = omega arith
 
 -- ---- the line
 

@@ -1,11 +1,11 @@
 -- Exactly when each answer is given; what is written passes every table check with the facts of the answer.
-use mathlib.Core.Path.{_≡_, refl, sym, ap, _∙_}
-use Prim.Native.Nat.{ℕ, zero, suc, _+_, _*_, _≤_, _<_}
+use mathlib.Core.Path.{_≡_, refl, ap, _∙_}
+use Prim.Native.Nat.{ℕ, zero, suc, _+_, _*_, _<_}
 use mathlib.Core.List.{List, [], _∷_, map}
-use mathlib.Core.Bool.{Bool, true, false, _||_}
+use mathlib.Core.Bool.{Bool, true, false}
 use mathlib.Core.Logic.{_↔_, Iff·symm, Iff·trans, _⊎_, inl, inr}
 use native.Mathlib.Omega.{arith}
-use lib.ListN.{length, getD, drop, length-append, length-drop}
+use lib.ListN.{length, getD}
 use Rattle.table.specs.Format.{tableOf, threadsOf, actionsOf}
 use Rattle.table.specs.Pass.{firstFound, refusal}
 use Rattle.table.specs.Checks.{passes}
@@ -14,18 +14,18 @@ use Rattle.table.specs.declared.Facts.{Facts}
 use Rattle.table.specs.declared.Refusal.{Refusal}
 use Rattle.table.specs.declared.Found.{Found}
 use Rattle.table.specs.declared.Found.the-variants.{Nothing, At}
-use Rattle.table.specs.declared.Loaded.{Loaded}
 use Rattle.table.specs.declared.Loaded.the-variants.{Accepted, Refused as Rejected}
 use Rattle.table.proofs.Passes.{found-exactly, passes-rules, accepted-exactly, accepted-facts, refused-exactly}
 use Rattle.table.proofs.Sizes.{Sizes, sizes}
 use Rattle.joining.specs.Joining.{joinedBytes, weighed, joinedFacts}
-use Rattle.joining.specs.Answers.{partsOf, partsWrong, inPart, firstRefused, tooLarge, joinedWith, joined, joinedIn, leftBy}
+use Rattle.joining.specs.Answers.{partsOf, partsWrong, firstRefused, tooLarge, joinedWith, joined}
 use Rattle.joining.specs.declared.Joined.{Joined}
 use Rattle.joining.specs.declared.Joined.the-variants.{Written, Refused, InPart}
 use Rattle.joining.proofs.JoinAnswers.{lent, few-of}
 use Rattle.joining.proofs.JoinedWhole.{joined-whole}
 use Rattle.joining.proofs.Splits.{parts-length}
 
+-- a table is accepted
 abbrev pub Accepts : List ℕ → Type 0
 Accepts s = loaded s ≡ Accepted (factsOf (tableOf s))
 
@@ -168,35 +168,13 @@ module _ (ls s : List ℕ) where
       let k = few-of _ _ (e .2) in
       joined-whole (partsOf ls s) (omega (arith, v .some, parts-length ls s)) (λ i l. (factsOf (tableOf (getD (partsOf ls s) i [])), e .1 i l)) (k .0) (k .1) ∙ ap Accepted (e .3)
 
--- ---- the joined table's bytes, and the buffer's
-
--- what is accepted has the bytes of its threads and actions
-loaded-sizes : (s : List ℕ) (f : Facts) → loaded s ≡ Accepted f → Sizes s (f .threads) (f .actions)
-unfolding factsOf tableOf
-loaded-sizes s f h =
-    let e = accepted-facts s f h in
-    let r = accepted-exactly s .0 (h ∙ ap Accepted e) in
-    rw e (sizes (record { head = r .head; threads = refl; actions = refl }))
-
-module _ (ls s : List ℕ) where
+  -- head, entries and actions
   pub joined-size : (f : Facts) → joined ls s ≡ Written f → length (joinedBytes (partsOf ls s)) ≡ 4 + 4 * f .threads + 4 * f .actions
-  joined-size f h = loaded-sizes (joinedBytes (partsOf ls s)) f (joined-passes ls s f h) .total
-
-  pub joined-length : (out : List ℕ) → length out ≡ 36868 → length (joinedIn ls s out) ≡ 36868
-  unfolding joinedIn
-  joined-length out n = go (joined ls s) refl
-    where
-      go : (x : Joined) → joined ls s ≡ x → length (leftBy x (joinedBytes (partsOf ls s)) out) ≡ 36868
-      go (Written f) e =
-          let z = loaded-sizes (joinedBytes (partsOf ls s)) f (joined-passes ls s f e) in
-          omega (
-            arith,
-            z .total,
-            z .threads-high,
-            z .actions-high,
-            n,
-            length-append (joinedBytes (partsOf ls s)) (drop (length (joinedBytes (partsOf ls s))) out),
-            length-drop (length (joinedBytes (partsOf ls s))) out,
-          )
-      go (Refused r) e = n
-      go (InPart i r) e = n
+  unfolding factsOf tableOf
+  joined-size f h =
+      let p = joined-passes f h in
+      let e = accepted-facts (joinedBytes (partsOf ls s)) f p in
+      let r = accepted-exactly (joinedBytes (partsOf ls s)) .0 (p ∙ ap Accepted e) in
+      let z : Sizes (joinedBytes (partsOf ls s)) (threadsOf (joinedBytes (partsOf ls s))) (actionsOf (joinedBytes (partsOf ls s))) =
+      sizes (record { head = r .head; threads = refl; actions = refl }) in
+      rw e (z .total)

@@ -1,12 +1,12 @@
 -- `joining::given::join_line` meets its contract: no line, or the refusal's.
-use mathlib.Core.Path.{_≡_, refl, sym, ap, _∙_}
-use Prim.Native.Nat.{ℕ, _≤_}
-use mathlib.Core.List.{List, _++_}
+use mathlib.Core.Path.{_≡_, refl}
+use Prim.Native.Nat.{ℕ}
+use mathlib.Core.List.{List}
 use native.Mathlib.Omega.{arith}
 use denote.Ref.{now}
-use lib.ListN.{length, drop}
+use lib.ListN.{length}
 use Rattle.io.specs.Counts.{Counts}
-use Rattle.text.specs.Text.{ascii, refusedLine}
+use Rattle.text.specs.Text.{ascii}
 use Rattle.rows.specs.Rows.{over}
 use Rattle.joining.specs.Given.{joinLine}
 use Rattle.joining.specs.declared.Joined.{Joined}
