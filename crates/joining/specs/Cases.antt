@@ -63,7 +63,7 @@ pub record GivenCase : Type 0 where
 abbrev given : List ℕ → JoinValues → GivenCase
 given s v = record { input = s; values = v }
 
--- the least table; E and a table that frees more than it has; no count; a length of two; a table of two
+-- the least table; E and a table that frees more than it has; no count; two parts with one length; two lengths with one table
 unfoldable pub givenCases : List GivenCase
 unfolding codeOf
 givenCases =
