@@ -14,6 +14,7 @@ uint32_t plain_begin(plain_run *run, const uint8_t *table, size_t length, uint32
 uint32_t plain_turn(plain_run *run, uint32_t w, uint64_t row[5]);
 uint32_t plain_rounds(plain_run *run, uint32_t limit, uint64_t row[3]);
 
+uint32_t plain_join(const uint8_t *tables, size_t length, const uint32_t *lengths, size_t parts, uint8_t *out, uint64_t row[7]);
 uint32_t plain_canonical(const uint8_t *table, size_t length, uint8_t *out, uint64_t row[2]);
 uint32_t plain_compare(const uint8_t *first, size_t first_length, const uint8_t *second, size_t second_length, uint8_t *a, uint8_t *b, uint64_t row[3]);
 

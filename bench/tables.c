@@ -1,6 +1,6 @@
-/* Finds the canonical form of the first table on standard input and compares it with the second, N times each by the calls of wivakkol_tables.h and by plain C (plain.h), one after the other.
- * Prints the least processor time of each of the four, in nanoseconds. Before that it compares what the two give, row and bytes. For bench/tables.py; the argument is N, and on standard
- * input the first table's length stands in 4 bytes before both. */
+/* Makes calls on the tables of an input of jointables, N times each by the calls of wivakkol_tables.h and by plain C (plain.h), one after the other: with the word `forms` the canonical form of
+ * the first and its comparison with the second, with the word `join` all of them joined. Prints the least processor time of each call and of plain C's, in nanoseconds. Before that it compares
+ * what the two give, row and bytes. For bench/tables.py; the arguments are N and the word. */
 #define _POSIX_C_SOURCE 199309L
 #include <stdio.h>
 #include <stdlib.h>
@@ -10,10 +10,15 @@
 #include "plain.h"
 #include "wivakkol_tables.h"
 
-static uint8_t input[4 + 2 * WIVAKKOL_TABLE_MOST], a[WIVAKKOL_TABLE_MOST], b[WIVAKKOL_TABLE_MOST], c[WIVAKKOL_TABLE_MOST], d[WIVAKKOL_TABLE_MOST];
+#define MOST_PARTS 16
+
+static uint8_t input[1 + MOST_PARTS * (4 + WIVAKKOL_TABLE_MOST)];
+static uint8_t a[WIVAKKOL_TABLE_MOST], b[WIVAKKOL_TABLE_MOST], c[WIVAKKOL_TABLE_MOST], d[WIVAKKOL_TABLE_MOST];
+static uint64_t row[WIVAKKOL_JOIN_ROW], plain_row[WIVAKKOL_JOIN_ROW];
 static wivakkol_tables_work work;
-static const uint8_t *first, *second;
-static size_t first_length, second_length;
+static const uint8_t *tables;
+static uint32_t lengths[MOST_PARTS];
+static size_t parts, length;
 
 static double now(void)
 {
@@ -31,73 +36,87 @@ static void fail(const char *what)
 
 static void canonical(void)
 {
-    uint64_t row[WIVAKKOL_FORM_ROW];
-
-    if (wivakkol_canonical(&work, first, first_length, a, row) != 0 || row[WIVAKKOL_FORM_LENGTH] != first_length)
-        fail("no form");
+    if (wivakkol_canonical(&work, tables, lengths[0], a, row) != 0)
+        fail("refused");
 }
 
 static void canonical_plain(void)
 {
-    uint64_t row[WIVAKKOL_FORM_ROW];
-
-    if (plain_canonical(first, first_length, c, row) != 0 || row[WIVAKKOL_FORM_LENGTH] != first_length)
-        fail("no form by plain C");
+    if (plain_canonical(tables, lengths[0], c, plain_row) != 0)
+        fail("refused by plain C");
 }
-
-static uint64_t said, plain_said;
 
 static void compare(void)
 {
-    uint64_t row[WIVAKKOL_COMPARE_ROW];
-
-    if (wivakkol_compare(&work, first, first_length, second, second_length, a, b, row) != 0)
+    if (wivakkol_compare(&work, tables, lengths[0], tables + lengths[0], lengths[1], a, b, row) != 0)
         fail("refused");
-    said = row[WIVAKKOL_SAID];
 }
 
 static void compare_plain(void)
 {
-    uint64_t row[WIVAKKOL_COMPARE_ROW];
-
-    if (plain_compare(first, first_length, second, second_length, c, d, row) != 0)
+    if (plain_compare(tables, lengths[0], tables + lengths[0], lengths[1], c, d, plain_row) != 0)
         fail("refused by plain C");
-    plain_said = row[WIVAKKOL_SAID];
 }
 
-static void (*const CALLS[])(void) = { canonical, canonical_plain, compare, compare_plain };
-enum { COUNT = sizeof CALLS / sizeof CALLS[0] };
+static void join(void)
+{
+    if (wivakkol_join(&work, tables, length, lengths, parts, a, row) != 0)
+        fail("refused");
+}
+
+static void join_plain(void)
+{
+    if (plain_join(tables, length, lengths, parts, c, plain_row) != 0)
+        fail("refused by plain C");
+}
+
+/* Each call with plain C's after it. */
+static void (*const FORMS[])(void) = { canonical, canonical_plain, compare, compare_plain };
+static void (*const JOIN[])(void) = { join, join_plain };
+
+static void read_input(void)
+{
+    size_t n = fread(input, 1, sizeof input, stdin), i;
+
+    parts = n > 0 ? input[0] : 0;
+    if (parts < 1 || MOST_PARTS < parts || n < 1 + 4 * parts)
+        fail("no tables");
+    for (i = 0; i < parts; i++)
+        lengths[i] = input[1 + 4 * i] | (uint32_t)input[2 + 4 * i] << 8 | (uint32_t)input[3 + 4 * i] << 16;
+    tables = input + 1 + 4 * parts;
+    length = n - 1 - 4 * parts;
+}
+
+static void agree(void (*call)(void), void (*plain)(void))
+{
+    call();
+    plain();
+    if (memcmp(row, plain_row, sizeof row) != 0 || memcmp(a, c, sizeof a) != 0 || memcmp(b, d, sizeof b) != 0)
+        fail("plain C says something else");
+}
 
 int main(int argc, char **argv)
 {
-    double least[COUNT];
-    size_t length;
-    int n, i;
+    int joins = argc == 3 && strcmp(argv[2], "join") == 0, count = joins ? 2 : 4, n, i;
+    void (*const *calls)(void) = joins ? JOIN : FORMS;
+    double least[4] = { 1e18, 1e18, 1e18, 1e18 };
 
-    if (argc != 2)
+    if (argc != 3)
         return 2;
-    length = fread(input, 1, sizeof input, stdin);
-    first_length = input[0] | (size_t)input[1] << 8 | (size_t)input[2] << 16;
-    if (length < 4 + first_length)
+    read_input();
+    if (!joins && parts != 2)
         fail("no two tables");
-    first = input + 4;
-    second = first + first_length;
-    second_length = length - 4 - first_length;
-    for (i = 0; i < COUNT; i++) {
-        CALLS[i]();
-        least[i] = 1e18;
-        if (i % 2 == 1 && (memcmp(a, c, sizeof a) != 0 || memcmp(b, d, sizeof b) != 0 || said != plain_said))
-            fail("plain C says something else");
-    }
+    for (i = 0; i < count; i += 2)
+        agree(calls[i], calls[i + 1]);
     for (n = atoi(argv[1]); n > 0; n--)
-        for (i = 0; i < COUNT; i++) {
+        for (i = 0; i < count; i++) {
             double start = now(), taken;
 
-            CALLS[i]();
+            calls[i]();
             taken = now() - start;
             least[i] = taken < least[i] ? taken : least[i];
         }
-    for (i = 0; i < COUNT; i++)
-        printf("%.0f%c", least[i], i + 1 < COUNT ? ' ' : '\n');
+    for (i = 0; i < count; i++)
+        printf("%.0f%c", least[i], i + 1 < count ? ' ' : '\n');
     return 0;
 }

@@ -11,6 +11,12 @@
 extern "C" {
 #endif
 
+/* What wivakkol_join returns besides the numbers of wivakkol.h; docs/REFERENCE.md, "Refusals", has both in full. */
+#define WIVAKKOL_REFUSED_PARTS 47  /* no part, above 16, or lengths that do not add up to the bytes lent */
+#define WIVAKKOL_REFUSED_JOINED 48 /* the joined table passes 1,024 threads or 8,192 actions */
+
+#define WIVAKKOL_MOST_PARTS 16
+
 /* The row of wivakkol_join: the place, n, m, S1, D and N as wivakkol_check has them (WIVAKKOL_THREADS and on), and the part that is refused, counted from 0. */
 #define WIVAKKOL_JOIN_PART 6
 #define WIVAKKOL_JOIN_ROW 7
@@ -34,8 +40,9 @@ uint32_t wivakkol_compare_on(const uint8_t *first, size_t first_length, const ui
                              uint8_t b[WIVAKKOL_TABLE_MOST], uint64_t row[WIVAKKOL_COMPARE_ROW], uint64_t rises[1024], uint64_t falls[1024],
                              uint16_t names[1024], uint16_t order[1024]);
 
-/* Up to sixteen tables, back to back, as one: a new thread 0 forks each part's root in the order given, joins them in reverse, and ends. Returns 0; 47, no part, above 16, or lengths that do not
- * add up to `length`; 1 to 11, a part's own refusal, its place inside the part; 48, the joined table passes 1,024 threads or 8,192 actions. */
+/* Up to sixteen tables, back to back, as one: a new thread 0 forks each part's root in the order given, joins them in reverse, and ends; the parts' threads follow part by part. `lengths` points
+ * to `parts` numbers and is never NULL, not even where there is none. The joined table stands at the start of `out` and has 4 + 4n + 4m bytes. Returns 0; 47, no part, above 16, or lengths that
+ * do not add up to `length`; 1 to 11, a part's own refusal, first part first, its place inside the part; 48, the joined table passes 1,024 threads or 8,192 actions. */
 static inline uint32_t wivakkol_join(wivakkol_tables_work *work, const uint8_t *tables, size_t length, const uint32_t *lengths, size_t parts,
                                      uint8_t out[WIVAKKOL_TABLE_MOST], uint64_t row[WIVAKKOL_JOIN_ROW])
 {

@@ -1,13 +1,17 @@
-"""Writes the stored input and output of crates/design_cases: inputs of canontable and cmptables with a label, and the answer expected of each.
+"""Writes the stored input and output of crates/design_cases: inputs of canontable, cmptables and jointables with a label, and the answer expected of each.
 
-A record of the input is the label's length (1 byte), the label, 'f' for canontable or 'c' for cmptables, the input's length (3 bytes), the input.
-Every expected answer is written down here by hand, forms too where the case is about their bytes; all is held against designs.py and reference.py as well.
+A record of the input is the label's length (1 byte), the label, 'f' for canontable, 'c' for cmptables or 'j' for jointables, the input's length (3 bytes), the input.
+Every expected answer is written down here by hand, forms and joined tables too where the case is about their bytes; all is held against designs.py and reference.py as well.
 """
 import pathlib
+import sys
 
-from designs import compare_line, form_answer
+from designs import compare_line, form_answer, join_answer
 from reference import END, WORK, ALLOC, FREE, FORK, JOIN, check, facts_line
 from tables import table
+
+sys.path.insert(0, str(pathlib.Path(__file__).parent.parent / 'tools'))
+from parts import packed
 
 end, work = (END, 0), (WORK, 0)
 fork, join, alloc, free = lambda x: (FORK, x), lambda x: (JOIN, x), lambda x: (ALLOC, x), lambda x: (FREE, x)
@@ -78,6 +82,36 @@ INPUTS = [
     ('a length one less', b'\x3f\0\0\0' + E + E, 'refused 3 0 table 0'),
 ]
 
+row = lambda m: table([work] * (m - 1) + [end])  # one thread of m actions
+number = lambda x: x.to_bytes(4, 'little')
+
+# label, input, the joined table where it is written down, its facts or the refusal
+JOINS = [
+    ('one part', packed([LEAST]), table(parent(1), leaf), 'table 2 4 serial 0 depth 4 nested 2'),
+    ('E and E', packed([E, E]), table(parent(1, 4), parent(2, 3), long, short, parent(5, 6), long, short), 'table 7 29 serial 6 depth 13 nested 3'),
+    ('two allocs and E: what is left counts', packed([TWO, E]), table(parent(1, 2), [alloc(4), alloc(4), end], parent(3, 4), long, short), 'table 5 20 serial 14 depth 13 nested 3'),
+    ('E and two allocs', packed([E, TWO]), table(parent(1, 4), parent(2, 3), long, short, [alloc(4), alloc(4), end]), 'table 5 20 serial 8 depth 11 nested 3'),
+    ('the deepest is not the last', packed([E, LEAST]), table(parent(1, 4), parent(2, 3), long, short, leaf), 'table 5 18 serial 6 depth 11 nested 3'),
+    ('sixteen parts', packed([LEAST] * 16), table(parent(*range(1, 17)), *[leaf] * 16), 'table 17 49 serial 0 depth 34 nested 2'),
+    ('seventeen parts', packed([LEAST] * 17), None, 'refused 47 0'),
+    ('no part', packed([]), None, 'refused 47 0'),
+    ('no count', b'', None, 'refused 47 0'),
+    ('a length of two', packed([LEAST, LEAST])[:8], None, 'refused 47 0'),
+    ('a byte missing', packed([E])[:-1], None, 'refused 47 0'),
+    ('a byte more than the parts', packed([E]) + b'\0', None, 'refused 47 0'),
+    ('E with length 63', b'\1' + number(63) + E, None, 'refused 47 0'),
+    ('lengths that add up in 32 bits', b'\2' + number(2**32 - 1) + number(65) + E, None, 'refused 47 0'),
+    ('lengths 0 and 64', packed([b'', E]), None, 'refused 1 0 part 0'),
+    ('the second part refused, and the third', packed([E, BAD, b'']), None, 'refused 10 1 part 1'),
+    ('the last part refused', packed([LEAST] * 15 + [E + b'\0']), None, 'refused 3 0 part 15'),
+    ('47 before a part', packed([BAD])[:-1], None, 'refused 47 0'),
+    ('a part before 48', packed([chain(1023), LEAST, BAD]), None, 'refused 10 1 part 2'),
+    ('1,024 threads', packed([chain(1023)]), None, 'table 1024 3070 serial 0 depth 3070 nested 1024'),
+    ('1,025 threads', packed([chain(1023), LEAST]), None, 'refused 48 0'),
+    ('8,192 actions', packed([row(8189)]), None, 'table 2 8192 serial 0 depth 8192 nested 2'),
+    ('8,193 actions', packed([row(8190)]), None, 'refused 48 0'),
+]
+
 
 def records():
     """Label, program, input and what is printed, of every case."""
@@ -89,6 +123,12 @@ def records():
     for label, data, said in [(label, len(x).to_bytes(4, 'little') + x + y, said) for label, x, y, said in PAIRS] + INPUTS:
         assert compare_line(data) == said, (label, compare_line(data))
         yield label, b'c', data, said.encode() + b'\n'
+    for label, data, wanted, said in JOINS:
+        out, refused = join_answer(data)
+        assert (refused.decode()[:-1] if refused else facts_line(check(out))) == said, (label, refused, facts_line(check(out)))
+        assert wanted is None or wanted == out, label
+        # the facts of a joined table twice, from its parts and its own
+        yield label, b'j', data, said.encode() + b'\n' + (said.encode() + b'\n' + (out + b'\n' if len(out) < 256 else b'') if out else b'')
 
 
 def main():

@@ -1,11 +1,11 @@
-// Reads inputs of `canontable` and `cmptables` one after the other, each with a label, and prints the label and the answer of each: the facts of the form, with its bytes where they are
-// under 256, how two tables compare, or the check that refuses. A record of the input is the label's length (1 byte), the label, 'f' for `canontable` or 'c' for `cmptables`, the input's
-// length (3 bytes), the input.
+// Reads inputs of `canontable`, `cmptables` and `jointables` one after the other, each with a label, and prints the label and the answer of each: the facts of the form, with its bytes where
+// they are under 256; how two tables compare; the facts of the joined table as they come from its parts, and then as those of a form; or the check that refuses. A record of the input is the
+// label's length (1 byte), the label, 'f' for `canontable`, 'c' for `cmptables` or 'j' for `jointables`, the input's length (3 bytes), the input.
 use canonical::Formed;
+use joining::Joined;
 use libc::STDIN_FILENO;
 use libc::STDOUT_FILENO;
 use table::Loaded;
-use table::Refusal;
 ghost use Prim.Native.Nat.{_<_};
 ghost use Rattle.io.specs.Counts.{Counts};
 
@@ -43,21 +43,20 @@ fn label(buffer: &mut [u8]) {
     io::write_all(STDOUT_FILENO, b": ");
 }
 
+// A table's facts, or its refusal.
+fn facts_answer(answer: Loaded) {
+    let mut line = [0u8; 80];
+    let k = text::facts_line(answer, &mut line);
+    io::write_all(STDOUT_FILENO, &line[..k]);
+}
+
 // The facts of a table, and its bytes where they are few.
 fn table_answer(table: &[u8]) {
-    let mut line = [0u8; 80];
-    let k = text::facts_line(facts::load(table), &mut line);
-    io::write_all(STDOUT_FILENO, &line[..k]);
+    facts_answer(facts::load(table));
     if table.len() < 256 {
         io::write_all(STDOUT_FILENO, table);
         io::write_all(STDOUT_FILENO, b"\n");
     }
-}
-
-fn refused(refusal: Refusal) {
-    let mut line = [0u8; 80];
-    let k = text::facts_line(Loaded::Refused(refusal), &mut line);
-    io::write_all(STDOUT_FILENO, &line[..k]);
 }
 
 // Reads a table that fills the buffer and prints the answer of its form.
@@ -67,7 +66,7 @@ fn form_answer(buffer: &mut [u8]) {
     let answer = canonical::form(&buffer[..n], &mut table);
     match answer {
         Formed::Written(k) => table_answer(&table[..k]),
-        Formed::Refused(refusal) => refused(refusal),
+        Formed::Refused(r) => facts_answer(Loaded::Refused(r)),
     }
 }
 
@@ -76,6 +75,21 @@ fn compare_answer(buffer: &mut [u8]) {
     let n = io::read_full(STDIN_FILENO, buffer);
     let mut line = [0u8; 80];
     let k = canonical::compare_line(&buffer[..n], &mut line);
+    io::write_all(STDOUT_FILENO, &line[..k]);
+}
+
+// Reads an input of `jointables` that fills the buffer and prints its answer.
+fn join_answer(buffer: &mut [u8]) {
+    let n = io::read_full(STDIN_FILENO, buffer);
+    let mut table = [0u8; 36868];
+    let answer = joining::join_given(&buffer[..n], &mut table);
+    let size = joining::joined_size(answer);
+    if let Joined::Written(facts) = answer {
+        facts_answer(Loaded::Accepted(facts));
+        table_answer(&table[..size]);
+    }
+    let mut line = [0u8; 80];
+    let k = joining::join_line(answer, &mut line);
     io::write_all(STDOUT_FILENO, &line[..k]);
 }
 
@@ -94,6 +108,8 @@ fn one() -> bool {
     let n = within(length, &bytes);
     if program == b'c' {
         compare_answer(&mut bytes[..n]);
+    } else if program == b'j' {
+        join_answer(&mut bytes[..n]);
     } else {
         form_answer(&mut bytes[..n]);
     }

@@ -148,6 +148,19 @@ extern "C" {
 
 #[cfg(feature = "tables")]
 extern "C" {
+    pub fn wivakkol_join_on(
+        tables: *const u8,
+        length: usize,
+        lengths: *const u32,
+        parts: usize,
+        out: &mut [u8; 36868],
+        row: &mut [u64; 7],
+        rises: &mut [u64; 1024],
+        falls: &mut [u64; 1024],
+        peaks: &mut [u64; 1024],
+        depths: &mut [u16; 1024],
+    ) -> u32;
+
     pub fn wivakkol_canonical_on(
         table: *const u8,
         length: usize,

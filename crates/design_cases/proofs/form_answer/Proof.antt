@@ -33,8 +33,8 @@ table-answer-requires c κs = search needs
 enum-known-answer-2 : tie.Need-enum-known-answer-2
 enum-known-answer-2 c = search needs
 
-refused-requires : tie.Need-refused-requires
-refused-requires c κs = search needs
+facts-answer-requires : tie.Need-facts-answer-requires
+facts-answer-requires c κs = search needs
 
 same-length : tie.Need-same-length
 same-length c = search needs
@@ -61,7 +61,7 @@ form-answer-spec =
     slice-aggregate-table-answer
     table-answer-requires
     enum-known-answer-2
-    refused-requires
+    facts-answer-requires
     same-length
     returns
     same-length-2

@@ -27,6 +27,8 @@ fn as_pointers(parameters: &[String]) -> Vec<String> {
         "filled: &mut [u8]" => pair("filled: *mut u8", "room"),
         "first: &[u8]" => pair("first: *const u8", "first_length"),
         "second: &[u8]" => pair("second: *const u8", "second_length"),
+        "tables: &[u8]" => pair("tables: *const u8", "length"),
+        "lengths: &[u32]" => pair("lengths: *const u32", "parts"),
         _ => vec![x.clone()],
     };
     parameters.iter().flat_map(as_pointer).collect()
@@ -41,10 +43,9 @@ fn calls_are_of_the_source() {
             source.extend(functions(&text, "pub extern \"C\" fn "));
         }
     }
-    source.remove("wivakkol_join_on"); // from C alone
     let declared = functions(include_str!("../../src/raw.rs"), "pub fn ");
     assert_eq!(declared.len(), source.len());
-    assert_eq!(declared.len(), 12);
+    assert_eq!(declared.len(), 13);
     for (name, parameters) in declared {
         let exported = source.get(&name).unwrap_or_else(|| panic!("{name} is not exported"));
         assert_eq!(parameters, as_pointers(exported), "{name}");
@@ -71,6 +72,10 @@ fn handed(text: &str, call: &str) -> Vec<String> {
         "first.len()" => "first_length".to_string(),
         "second.as_ptr()" => "second".to_string(),
         "second.len()" => "second_length".to_string(),
+        "tables.as_ptr()" => "tables".to_string(),
+        "tables.len()" => "length".to_string(),
+        "lengths.as_ptr()" => "lengths".to_string(),
+        "lengths.len()" => "parts".to_string(),
         "&mut work.parents" => "seen".to_string(),
         other => {
             let place = other.trim_start_matches("&mut ").trim_start_matches('&').trim_end_matches("()");

@@ -1,8 +1,9 @@
-//! Whole tables: the worked cases of canonical forms and comparisons, and random tables under other numbers, compared with forms that are made here in another way.
+//! Whole tables: the worked cases of canonical forms, comparisons and joined tables; random tables under other numbers, and joined, compared with forms and tables that are made here in another
+//! way.
 use crate::model::Action::*;
-use crate::model::{bytes, Action, Draw, Table};
+use crate::model::{bytes, facts, Action, Draw, Table};
 use std::cmp::Ordering::{self, Equal, Greater, Less};
-use wivakkol::{check, Refusal, RefusedTable, TablesWork, TABLE_MOST};
+use wivakkol::{check, Facts, Refusal, RefusedJoin, RefusedTable, TablesWork, TABLE_MOST};
 
 /// The same actions with other names for the threads.
 fn renamed(body: &[Action], name: impl Fn(u16) -> u16) -> Vec<Action> {
@@ -138,4 +139,98 @@ fn random_designs() {
         other = two;
     }
     assert!(kinds[0] > 20 && kinds[2] > 20, "{kinds:?}");
+}
+
+/// "a new thread 0 forks each part's root in the order given, joins them in reverse, and ends; the parts' threads follow part by part"
+fn joined(parts: &[Table]) -> Table {
+    let (mut whole, mut roots) = (vec![Vec::new()], Vec::new());
+    for part in parts {
+        let root = whole.len() as u16;
+        roots.push(root);
+        whole.extend(part.iter().map(|body| renamed(body, |t| root + t)));
+    }
+    whole[0] = parent(&roots);
+    whole
+}
+
+/// What the call gives for these bytes, the rest of the buffer being as it was.
+fn join(tables: &[u8], lengths: &[u32]) -> Result<(Vec<u8>, Facts), RefusedJoin> {
+    let mut out = [0xa5; TABLE_MOST];
+    let answer = wivakkol::join(&mut TablesWork::new(), tables, lengths, &mut out).map(|(table, facts)| (table.to_vec(), facts));
+    let written = answer.as_ref().map_or(0, |(table, _)| table.len());
+    assert!(out[written..].iter().all(|x| *x == 0xa5));
+    answer
+}
+
+fn join_tables(parts: &[Table]) -> Result<(Vec<u8>, Facts), RefusedJoin> {
+    let parts: Vec<Vec<u8>> = parts.iter().map(bytes).collect();
+    join(&parts.concat(), &parts.iter().map(|part| part.len() as u32).collect::<Vec<_>>())
+}
+
+fn refused(number: u32, place: u64, part: Option<usize>) -> RefusedJoin {
+    RefusedJoin { refusal: Refusal { number, place }, part }
+}
+
+/// n, m, S1, D and N of the joined parts, whose bytes are the model's.
+fn joined_facts(parts: &[Table]) -> Result<(u16, u16, u64, u16, u16), RefusedJoin> {
+    let (table, facts) = join_tables(parts)?;
+    assert_eq!(table, bytes(&joined(parts)));
+    assert_eq!(check(&mut TablesWork::new(), &table), Ok(facts));
+    Ok((facts.threads, facts.actions, facts.peak, facts.depth, facts.nested))
+}
+
+fn least() -> Table {
+    vec![vec![End]]
+}
+
+#[test]
+fn worked_joins() {
+    let two = vec![vec![Alloc(4), Alloc(4), End]];
+    assert_eq!(joined_facts(&[least()]), Ok((2, 4, 0, 4, 2)));
+    assert_eq!(joined_facts(&[e(), e()]), Ok((7, 29, 6, 13, 3)));
+    assert_eq!(joined_facts(&[two.clone(), e()]), Ok((5, 20, 14, 13, 3)));
+    assert_eq!(joined_facts(&[e(), two]), Ok((5, 20, 8, 11, 3)));
+    assert_eq!(joined_facts(&vec![least(); 16]), Ok((17, 49, 0, 34, 2)));
+    let chain: Table = (0..1023).map(|t| if t < 1022 { parent(&[t + 1]) } else { vec![End] }).collect();
+    assert_eq!(joined_facts(&[chain.clone()]), Ok((1024, 3070, 0, 3070, 1024)));
+    assert_eq!(joined_facts(&[chain, least()]), Err(refused(48, 0, None)));
+    let long = |m: usize| vec![[vec![Work; m - 1], vec![End]].concat()];
+    assert_eq!(joined_facts(&[long(8189)]), Ok((2, 8192, 0, 8192, 2)));
+    assert_eq!(joined_facts(&[long(8190)]), Err(refused(48, 0, None)));
+}
+
+#[test]
+fn refused_joins() {
+    let (e, bad) = (bytes(&e()), bytes(&vec![vec![Alloc(6), Free(7), End]]));
+    let least = bytes(&least());
+    assert_eq!(join(&[], &[]), Err(refused(47, 0, None)));
+    assert_eq!(join(&least.repeat(17), &[12; 17]), Err(refused(47, 0, None)));
+    assert_eq!(join(&e, &[63]), Err(refused(47, 0, None)));
+    assert_eq!(join(&e, &[65]), Err(refused(47, 0, None)));
+    assert_eq!(join(&e, &[u32::MAX, 65]), Err(refused(47, 0, None))); // 64 in 32 bits
+    assert_eq!(join(&e, &[0, 64]), Err(refused(1, 0, Some(0))));
+    assert_eq!(join(&[&e[..], &bad].concat(), &[64, bad.len() as u32, 0]), Err(refused(10, 1, Some(1))));
+    assert_eq!(join(&[&e[..], &bad].concat(), &[64, 0, bad.len() as u32]), Err(refused(1, 0, Some(1))));
+    assert_eq!(refused(10, 1, Some(1)).to_string(), "part 1: refused 10 at action 1: the thread's balance falls below 0");
+    assert_eq!(refused(48, 0, None).to_string(), "refused 48: the joined table passes 1,024 threads or 8,192 actions");
+}
+
+/// S1, D and N come from the parts alone, and are those of the whole.
+#[test]
+fn random_joins() {
+    let (mut draw, mut too_large) = (Draw(12), 0);
+    for _ in 0..150 {
+        let count = 1 + draw.below(16);
+        let most = [3, 20, 200][draw.below(3) as usize];
+        let parts: Vec<Table> = (0..count).map(|_| draw.table(most)).collect();
+        let whole = joined(&parts);
+        if whole.len() > 1024 || whole.concat().len() > 8192 {
+            assert_eq!(join_tables(&parts), Err(refused(48, 0, None)));
+            too_large += 1;
+            continue;
+        }
+        let (peak, depth, nested) = facts(&whole);
+        assert_eq!(joined_facts(&parts), Ok((whole.len() as u16, whole.concat().len() as u16, peak, depth, nested)));
+    }
+    assert!(too_large > 5 && too_large < 100, "{too_large}");
 }
