@@ -1,0 +1,2 @@
+pub mod Peaked
+pub mod Code

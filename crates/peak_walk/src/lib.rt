@@ -1,0 +1,1 @@
+// The peaks of a table's threads at loads up to 16, in lent working memory and without recursion.
