@@ -1,2 +1,3 @@
 pub mod OpenRows
+pub mod Steps
 pub mod Walked

@@ -19,6 +19,12 @@ slot d j = 17 * d + j
 abbrev pub cut : ℕ → ℕ
 cut x = x % 2 ^ 64
 
+-- the sizes with which no place of a number is too large
+pub record Small (r c d : ℕ) : Type 0 where
+  pub load : r ≤ 16
+  pub child : c < 16777216
+  pub depth : d ≤ 65536
+
 -- ---- the rows of open children
 
 -- number j of the row of child c on row d: c has ended, or it is unended with j − 1 unended elders
