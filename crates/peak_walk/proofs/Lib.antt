@@ -1,3 +1,4 @@
 pub mod OpenRows
 pub mod Steps
 pub mod Walked
+pub mod Filled

@@ -8,6 +8,7 @@ use lib.ListN.{length, getD}
 use lib.ListN.{set}
 use Rattle.table.specs.Sum.{pick, greatestTo}
 use Rattle.table.specs.Format.{Kind, end, alloc, free, fork, join, is, kindOf, Table, tableOf}
+use Rattle.table.specs.Rules.{Rules}
 use Rattle.peaks.specs.Peak.{final, peakOn}
 use Rattle.peak_walk.specs.Peaked.{standing}
 
@@ -94,6 +95,11 @@ walked code argument resting peaks finals r first rows (suc k) =
     stepped peaks finals r (mayAfter code resting (first + k)) (kindOf (code (first + k))) (argument (first + k)) (walked code argument resting peaks finals r first rows k)
 
 -- ---- all of them
+
+-- a table of n threads that keeps every rule
+pub record Accepted (s : List ℕ) (n : ℕ) : Type 0 where
+  pub rules : Rules s
+  pub threads : n ≡ tableOf s .threads
 
 -- The lists have the peaks of all threads at loads below r, of those from t on at load r, and the final balances of those from t on; row 0 is the row of no open child.
 pub record Right (T : Table) (resting : Bool) (peaks finals rows : List ℕ) (r t : ℕ) : Type 0 where
