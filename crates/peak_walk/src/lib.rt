@@ -65,5 +65,13 @@ fn answer(
     *peaks = [0; 17408];
     *rows = [0; 17408];
     let n = threads(table);
-    Peaked::Given(peak_of(table, n, load as usize, resting, &mut peaks[..], &mut rises[..], &mut rows[..]))
+    Peaked::Given(peak_of(
+        table,
+        n,
+        load as usize,
+        resting,
+        &mut peaks[..],
+        &mut rises[..],
+        &mut rows[..],
+    ))
 }

@@ -16,6 +16,7 @@ use Rattle.table.specs.Format.{Kind, end, work, alloc, free, fork, join, unknow
 use Rattle.table.specs.Checks.{endOf, allocOf}
 use Rattle.table.proofs.Tests.{no-way, same-is}
 use Rattle.table.proofs.Bodies.{kind-known, first-is, first-next, after-end, end-kind}
+use Rattle.table.proofs.NestedThreads.{greatest-at}
 use Rattle.schedule.specs.declared.Worker.{Worker}
 use Rattle.schedule.specs.declared.Reply.{Reply}
 use Rattle.schedule.specs.declared.Reply.the-variants.{Quota}
@@ -33,7 +34,6 @@ use Rattle.schedule.proofs.Preservation.Moves.{taken-facts}
 use Rattle.schedule.proofs.Preservation.Turns.{leftmost-ready, taken-holds, either, turn-facts}
 use Rattle.schedule.proofs.Preservation.Starts.{start-next, start-unborn, start-worker}
 use Rattle.peaks.specs.Rests.{stretchBegins, rests, drawnAt, drawnBefore, stretch}
-use Rattle.peaks.proofs.Opens.{greatest-at}
 
 -- ---- resting places and stretches
 

@@ -19,7 +19,5 @@ pub mod OneWorker
 pub mod PeakSizes
 pub mod Parallel
 pub mod Useful
--- how a program computes it
-pub mod Walks
 -- rows of turns from the beginning
 pub mod RowPeaks

@@ -10,10 +10,11 @@ use Rattle.table.specs.Format.{fork, Table}
 use Rattle.table.specs.Checks.{openBefore, allocOf, withChild, whole}
 use Rattle.table.proofs.Sums.{sumTo-part}
 use Rattle.table.proofs.Amounts.{forkPart-open, forkPart-whole, whole-is, whole-bound}
+use Rattle.table.proofs.NestedThreads.{greatest-under}
 use Rattle.schedule.specs.Sound.{balanceTo}
 use Rattle.order.proofs.Lawful.{Lawful}
 use Rattle.peaks.specs.Peak.{fresh, final, gain, oneMore, most, peakThere, peakOn}
-use Rattle.peaks.proofs.Opens.{greatest-under, open-child, open-over}
+use Rattle.peaks.proofs.Opens.{open-child, open-over}
 use Rattle.peaks.proofs.Peaks.{peak-is}
 
 module _ (T : Table) (peak : ℕ → ℕ → ℕ) (B : ℕ → ℕ) where

@@ -11,12 +11,13 @@ use Rattle.table.specs.Checks.{allocOf, freeOf, openBefore}
 use Rattle.table.proofs.Tests.{is-true, no-way, or-neither}
 use Rattle.table.proofs.Nesting.{open-join, open-same}
 use Rattle.table.proofs.Amounts.{action-within}
+use Rattle.table.proofs.NestedThreads.{greatest-at}
 use Rattle.schedule.specs.Sound.{balanceTo}
 use Rattle.order.proofs.Lawful.{Lawful}
 use Rattle.schedule.proofs.Sound.Balances.{balance-step, balance-join}
 use Rattle.peaks.specs.Peak.{final}
 use Rattle.peaks.specs.Rests.{stretchBegins, rests, ownTo, rested, rise, R}
-use Rattle.peaks.proofs.Opens.{reach, greatest-at}
+use Rattle.peaks.proofs.Opens.{reach}
 use Rattle.peaks.proofs.Calm.{rests-first}
 
 module _ (T : Table) (t : ℕ) where
