@@ -25,7 +25,7 @@ use Rattle.peaks.specs.Peak.{unended, unendedIn, outer, fresh, past, loa
 use Rattle.peaks.proofs.Opens.{reach, Forked, Stacked, stacked, open-over}
 use Rattle.peaks.proofs.Loads.{outer-root, outer-child}
 use Rattle.peaks.proofs.Peaks.{gain-ended, gain-unended, peak-at}
-use Rattle.peaks.proofs.Telescope.{within-weights}
+use Rattle.peaks.proofs.Weights.{within-weights}
 use Rattle.peaks.proofs.LiveList.{withLive, common-facts}
 
 -- Thread t's place, or an earlier one where it may stand, with no more unended children, and since which it and all below it hold at most `extra` more.

@@ -18,7 +18,7 @@ use Rattle.schedule.proofs.Sound.Balances.{balance-step, balance-join}
 use Rattle.peaks.specs.Peak.{final}
 use Rattle.peaks.specs.Rests.{stretchBegins, rests, ownTo, rested, rise, R}
 use Rattle.peaks.proofs.Opens.{reach}
-use Rattle.peaks.proofs.Calm.{rests-first}
+use Rattle.peaks.proofs.Unpreempted.{rests-first}
 
 module _ (T : Table) (t : ℕ) where
   pub rested-within : (k : ℕ) → rested T t k ≤ k
