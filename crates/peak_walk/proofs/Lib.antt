@@ -5,3 +5,6 @@ pub mod Walked
 -- all threads, and the answers
 pub mod Filled
 pub mod Answers
+-- what is read off the actions one by one
+pub mod RiseAlong
+pub mod Readings

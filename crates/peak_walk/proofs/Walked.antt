@@ -27,7 +27,7 @@ use Rattle.peak_walk.specs.Peaked.{standing}
 use Rattle.peak_walk.specs.Code.Walk.{slot, cut, rowValue, pushed, rowGreatest, balanceAfter, depthAfter, rowsAfter, extraAfter, Walked, walk, placeAfter, stepped, mayAfter, walked, Right}
 use Rattle.peak_walk.proofs.OpenRows.{cut-small, pushed-length, pushed-below, pushed-at, RowsOf, rows-kept, top-row, open-few}
 
-may-is : (T : Table) (resting : Bool) (a : ℕ) → mayAfter (T .code) resting a ≡ standing T resting (suc a)
+pub may-is : (T : Table) (resting : Bool) (a : ℕ) → mayAfter (T .code) resting a ≡ standing T resting (suc a)
 unfolding mayAfter rests stretchBegins
 may-is T true a = refl
 may-is T false a = refl

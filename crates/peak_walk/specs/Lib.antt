@@ -1,2 +1,3 @@
 pub mod Peaked
+pub mod Along
 pub mod Code

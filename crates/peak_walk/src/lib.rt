@@ -1,4 +1,5 @@
 // The peak of a table at a load of up to 16, in lent working memory and without recursion: S_p at load p - 1.
+pub mod along;
 mod fill;
 mod rows;
 mod walk;

@@ -22,7 +22,7 @@ pub(crate) struct Walk {
     pub(crate) depth: usize,
 }
 
-fn less(a: u64, b: u64) -> u64
+pub(crate) fn less(a: u64, b: u64) -> u64
     ensures { λ r. ⌜ r ≡ a - b ⌝ }
 {
     if b < a { a - b } else { 0 }
@@ -116,7 +116,7 @@ fn step(
 }
 
 // The place after action a counts: it is a resting place, or all do.
-fn may_after(table: &[u8], n: usize, resting: bool, a: usize) -> bool
+pub(crate) fn may_after(table: &[u8], n: usize, resting: bool, a: usize) -> bool
     requires { ⌜ a < 131072 ⌝ }
     ensures { λ q. ⌜ q ≡ mayAfter (codeAt (bodiesFrom (now (table .entry)) n)) resting a ⌝ }
 {
