@@ -1,6 +1,6 @@
 -- The rows of open children in a flat list: a row more is written past the others, and there is room for it, since fewer children stand open than there are threads.
-use mathlib.Core.Path.{_≡_, refl, sym, _∙_}
-use Prim.Native.Nat.{ℕ, zero, suc, _+_, _-_, _*_, _^_, _≤_, _<_, max}
+use mathlib.Core.Path.{_≡_, refl, _∙_}
+use Prim.Native.Nat.{ℕ, zero, suc, _+_, _-_, _^_, _≤_, _<_}
 use native.Mathlib.Omega.{arith}
 use native.Mathlib.Nat.{mod-eq-of-lt, zero-add}
 use native.Mathlib.Decide.{ℕ-discrete}
@@ -13,8 +13,8 @@ use Rattle.table.specs.Checks.{openBefore, owner}
 use Rattle.table.proofs.Nesting.{open-first, open-forked, fork-found}
 use Rattle.order.proofs.Lawful.{Lawful}
 use Rattle.schedule.proofs.Linked.Once.{Once, once-short}
-use Rattle.peaks.specs.Peak.{final, gain}
-use Rattle.peaks.proofs.Opens.{along, open-child, open-over}
+use Rattle.peaks.specs.Peak.{gain}
+use Rattle.peaks.proofs.Opens.{along, open-child}
 use Rattle.peak_walk.specs.Code.Walk.{slot, cut, rowValue, pushed}
 
 pub cut-small : (x : ℕ) → x < 2 ^ 64 → cut x ≡ x

@@ -1,7 +1,7 @@
 -- A walk over a thread's body on lists that are right above the thread comes to its peak and its final balance. The invariant: the balance is the thread's so far, the best that of the places
 -- so far, and the rows are those of the children that stand open.
 use mathlib.Core.Path.{_≡_, refl, sym, ap, _∙_}
-use Prim.Native.Nat.{ℕ, zero, suc, _+_, _-_, _*_, _^_, _≤_, _<_, max}
+use Prim.Native.Nat.{ℕ, zero, suc, _+_, _-_, _^_, _≤_, _<_, max}
 use native.Mathlib.Omega.{arith}
 use native.Mathlib.Nat.{add-suc, add-zero}
 use native.Mathlib.Decide.{ℕ-discrete}
@@ -9,7 +9,7 @@ use mathlib.Core.List.{List, [], _∷_}
 use mathlib.Core.Bool.{Bool, true, false}
 use lib.ListN.{length, getD}
 use Rattle.table.specs.Sum.{pick, sumTo, greatestTo}
-use Rattle.table.specs.Format.{Kind, end, work, alloc, free, fork, join, unknown, codeOf, is, kindOf, Table, kind}
+use Rattle.table.specs.Format.{Kind, end, work, alloc, free, fork, join, unknown, codeOf, is, Table, kind}
 use Rattle.table.specs.Checks.{owner, openBefore, opened, tail, allocOf, freeOf, whole}
 use Rattle.table.proofs.Bodies.{owner-at, fork-above, fork-below, join-above, join-below}
 use Rattle.table.proofs.Amounts.{action-within, action-next, whole-bound}
@@ -20,7 +20,7 @@ use Rattle.order.proofs.Lawful.{Lawful}
 use Rattle.schedule.proofs.Sound.Balances.{balance-step, balance-join, balance-free}
 use Rattle.peaks.specs.Peak.{fresh, final, gain, oneMore, most, peakThere, peakOn}
 use Rattle.peaks.specs.Rests.{stretchBegins, rests}
-use Rattle.peaks.proofs.Opens.{greatest-same, open-over}
+use Rattle.peaks.proofs.Opens.{greatest-same}
 use Rattle.peaks.proofs.Peaks.{peak-is}
 use Rattle.peaks.proofs.PeakSizes.{final-whole, peak-whole, reach-whole, place-whole, open-whole}
 use Rattle.peak_walk.specs.Peaked.{standing}

@@ -1,5 +1,5 @@
 -- Where K covers every stretch, from a beginning no turn replies quota and every live thread that nobody holds stands at a resting place.
-use mathlib.Core.Path.{_≡_, refl, sym, _∙_}
+use mathlib.Core.Path.{_≡_, refl}
 use Prim.Native.Nat.{ℕ, zero, suc, _+_, _-_, _≤_, _<_}
 use native.Mathlib.Omega.{arith}
 use native.Mathlib.Decide.{ℕ-discrete}
@@ -9,7 +9,7 @@ use mathlib.Core.Logic.{_⊎_, inl, inr, ⊎-elim}
 use lib.ListN.{length, getD, set}
 use lib.Seq.{getD-set-same, getD-set-other}
 use lib.Dec.{leb, eqb}
-use borrow.Author.Tests.{leb-false, eqb-false, eq-eqb}
+use borrow.Author.Tests.{leb-false, eqb-false}
 use Rattle.table.specs.Sum.{pick}
 use Rattle.table.specs.Format.{Kind, end, work, alloc, free, fork, join, unknown, codeOf, is, Table, kind}
 use Rattle.table.specs.Checks.{endOf, allocOf}

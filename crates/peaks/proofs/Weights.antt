@@ -1,5 +1,5 @@
 -- Held memory against weights of threads: each open thread's balance and its open children's weights within its own weight, and held is within the root's.
-use mathlib.Core.Path.{_≡_, refl, sym, ap, _∙_}
+use mathlib.Core.Path.{_≡_, refl, sym}
 use Prim.Native.Nat.{ℕ, zero, suc, _+_, _≤_, _<_}
 use native.Mathlib.Omega.{arith}
 use native.Mathlib.Nat.{add-zero}
@@ -9,16 +9,16 @@ use lib.Dec.{eqb}
 use borrow.Author.Tests.{eq-eqb, ne-eqb}
 use Rattle.table.specs.Sum.{pick, sumTo, sumOver, anyBelow}
 use Rattle.table.specs.Format.{Kind, fork, join, is, Table, kind}
-use Rattle.table.specs.Checks.{openBefore, countsBelow}
+use Rattle.table.specs.Checks.{openBefore}
 use Rattle.table.proofs.Tests.{is-true, same-is}
-use Rattle.table.proofs.Sums.{sumTo-cong, sumTo-le}
-use Rattle.table.proofs.Bodies.{first-is, counts-all, body-within, fork-below, join-below}
+use Rattle.table.proofs.Sums.{sumTo-le}
+use Rattle.table.proofs.Bodies.{body-within, fork-below, join-below}
 use Rattle.table.proofs.Nesting.{open-first, some-anyBelow, fork-exists}
 use Rattle.schedule.specs.Machine.{State, unborn, ended, statusOf}
-use Rattle.schedule.specs.Sound.{joinedIn, shareIn, balanceTo, isDone, ofDone, sumDone, progress, isJoined, share}
+use Rattle.schedule.specs.Sound.{joinedIn, shareIn, balanceTo, isDone, progress, isJoined, share}
 use Rattle.order.proofs.Lawful.{Lawful}
 use Rattle.order.proofs.Joins.{weightOf, forked-weight, forks-one, joins-one}
-use Rattle.order.proofs.Totals.{sumTo-add, sumTo-append, sumTo-front, sum-targets}
+use Rattle.order.proofs.Totals.{sumTo-add, sumTo-append, sum-targets}
 use Rattle.schedule.proofs.Sound.Facts.{Facts}
 use Rattle.schedule.proofs.Sound.Done.{unborn-first, born-forked}
 use Rattle.schedule.proofs.Sound.Shares.{progress-ended, progress-next, progress-within, joined-ended, done-sum, held-shares}

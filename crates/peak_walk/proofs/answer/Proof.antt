@@ -1,6 +1,5 @@
 -- `peak_walk::answer` meets its contract: the table's own checks, then the load's.
 use mathlib.Core.Path.{_≡_, sym, _∙_}
-use native.Mathlib.Omega.{arith}
 use denote.Ref.{now}
 use Rattle.table.specs.Pass.{firstFound}
 use Rattle.table.specs.Checks.{passes}

@@ -1,15 +1,13 @@
 -- `peak_walk::along::rise` meets its contract. The invariant: the greatest of the places before a, and what was drawn and given back since the last resting place.
 use Rattle.peak_walk.proofs.Readings.{up-fits, down-fits, alloc-read, free-read, rests-read, since-next, greatest-more, rise-whole}
-use mathlib.Core.Path.{_≡_, refl, ap, _∙_}
-use Prim.Native.Nat.{ℕ, suc, _+_, _-_, _*_, _≤_, _<_, max}
+use mathlib.Core.Path.{_≡_, refl, _∙_}
+use Prim.Native.Nat.{_-_, _≤_}
 use native.Mathlib.Omega.{arith}
-use native.Mathlib.Numerals.{add-one}
-use denote.Ref.{now}
 use borrow.Author.Needs.{needs}
-use Rattle.table.specs.Sum.{pick, greatestTo}
+use Rattle.table.specs.Sum.{greatestTo}
 use Rattle.table.specs.Format.{tableOf}
 use Rattle.table.specs.Checks.{allocOf, freeOf}
-use Rattle.peak_walk.specs.Along.{sinceRest, riseAlong}
+use Rattle.peak_walk.specs.Along.{sinceRest}
 use Rattle.peak_walk.proofs.along.rise.Statement.{statement}
 use Rattle.peak_walk.proofs.along.rise.Tie as tie
 

@@ -1,14 +1,13 @@
 -- `peak_walk::along::stretch` meets its contract. The invariant: the greatest of the actions before a, and what the stretch of a has drawn before a.
 use Rattle.peak_walk.proofs.Readings.{drawn-fits, kind-read, alloc-read, drawn-read, drawn-next, greatest-more, stretch-whole}
-use mathlib.Core.Path.{_≡_, refl, ap, _∙_}
-use Prim.Native.Nat.{ℕ, suc, _+_, _-_, _*_, _≤_, _<_, max}
+use mathlib.Core.Path.{_≡_, refl}
+use Prim.Native.Nat.{_+_, _-_, _≤_}
 use native.Mathlib.Omega.{arith}
-use native.Mathlib.Numerals.{add-one}
 use denote.Ref.{now}
 use borrow.Author.Needs.{needs}
-use Rattle.table.specs.Sum.{pick, greatestTo}
+use Rattle.table.specs.Sum.{greatestTo}
 use Rattle.table.specs.Format.{tableOf}
-use Rattle.peaks.specs.Rests.{stretchBegins, drawnAt, drawnBefore, stretch}
+use Rattle.peaks.specs.Rests.{drawnAt, drawnBefore, stretch}
 use Rattle.peak_walk.proofs.along.stretch.Statement.{statement}
 use Rattle.peak_walk.proofs.along.stretch.Tie as tie
 

@@ -1,6 +1,6 @@
 -- `peak_walk::walk::may_after` meets its contract: a kind is told by its code.
 use mathlib.Core.Path.{_≡_, refl}
-use Prim.Native.Nat.{ℕ, suc, _+_}
+use Prim.Native.Nat.{ℕ, _+_}
 use native.Mathlib.Numerals.{add-one}
 use mathlib.Core.Bool.{Bool, true, false, not}
 use lib.Dec.{eqb}
