@@ -6,7 +6,6 @@ use lib.Dec.{ltb, eqb}
 use Rattle.schedule.specs.Record.{maxBytes, bytesOf, tableIn, linksIn}
 use Rattle.order.specs.Words.{filled, sameList}
 use Rattle.schedule.specs.Sound.{commonSound}
-use Rattle.soundness.specs.Tested.{blankOn}
 use Rattle.soundness.proofs.Chains.{skip}
 use Rattle.soundness.proofs.OnParts.{blank-is}
 use Rattle.deques.specs.declared.DequeRun.{DequeRun}

@@ -7,7 +7,7 @@ use mathlib.Core.Bool.{Bool, true, false, not, _&&_, _||_}
 use native.Mathlib.Decide.{ℕ-discrete}
 use native.Mathlib.Numerals.{add-one}
 use native.Mathlib.Omega.{arith}
-use borrow.Author.Tests.{lt-ltb, ltb-true, eq-eqb, ne-eqb, not-true, not-false}
+use borrow.Author.Tests.{ltb-true, eq-eqb, ne-eqb, not-true, not-false}
 use lib.Dec.{ltb, eqb}
 use lib.ListN.{length, getD, take, drop, set, replicate, length-set, length-replicate, drop-of-length-le}
 use lib.Seq.{drop-cons, getD-take, take-suc-set, append-snoc, length-take-le, getD-set-same, getD-set-other}
@@ -15,9 +15,9 @@ use Rattle.table.specs.Sum.{pick}
 use Rattle.schedule.specs.Links.{noThread, walk}
 use Rattle.order.specs.Words.{allIn, member}
 use Rattle.order.proofs.Lists.{getD-alike, getD-member}
-use Rattle.order.proofs.Words.{and-exactly, allIn-exactly, never-true, not-both}
+use Rattle.order.proofs.Words.{allIn-exactly, never-true, not-both}
 use Rattle.soundness.proofs.Reading.{row-fits, row-size, row-front}
-use Rattle.soundness.proofs.Chains.{cut, first-of, second-of}
+use Rattle.soundness.proofs.Chains.{first-of, second-of}
 use Rattle.deques.specs.Lines.{isHeld}
 use Rattle.deques.specs.DequeWalk.{isReady, onceIn, inLines, bottomsAlong}
 use Rattle.dequetest.specs.Code.Standing.{Threads}

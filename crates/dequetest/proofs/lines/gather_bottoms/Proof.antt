@@ -3,7 +3,6 @@ use Prim.Native.Nat.{_-_, _<_}
 use native.Mathlib.Omega.{arith}
 use denote.Ref.{now}
 use lib.ListN.{getD}
-use borrow.Author.Needs.{needs}
 use Rattle.dequetest.specs.Code.Standing.{bottomAt}
 use Rattle.dequetest.proofs.Walking.{GatheredTo, gathered-start, gathered-past, gathered-with, gathered-all}
 use Rattle.dequetest.proofs.lines.gather_bottoms.Statement.{statement}
