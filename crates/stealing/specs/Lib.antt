@@ -1,0 +1,3 @@
+pub mod Stealing
+pub mod StealingMemory
+pub mod StealingCases
