@@ -4,3 +4,5 @@ pub mod Acts
 pub mod Robs
 pub mod Refines
 pub mod Fits
+pub mod InMemory
+pub mod PairsRefine
