@@ -6,3 +6,6 @@ pub mod Refines
 pub mod Fits
 pub mod InMemory
 pub mod PairsRefine
+mod Along
+mod Linking
+mod Leavings

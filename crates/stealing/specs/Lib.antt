@@ -1,3 +1,4 @@
 pub mod Stealing
 pub mod StealingMemory
 pub mod StealingCases
+pub mod Code
