@@ -9,3 +9,4 @@ pub mod PairsRefine
 mod Along
 mod Linking
 mod Leavings
+mod Goes

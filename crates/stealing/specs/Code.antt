@@ -1,6 +1,6 @@
 -- Promises between the parts of the code: the memory that a move leaves, the turn not yet counted.
 use mathlib.Core.Path.{_≡_}
-use Prim.Native.Nat.{ℕ, _<_}
+use Prim.Native.Nat.{ℕ, _+_, _^_, _<_}
 use mathlib.Core.List.{List}
 use mathlib.Core.Bool.{true}
 use lib.ListN.{getD, set}
@@ -11,7 +11,7 @@ use Rattle.schedule.specs.Machine.{ended}
 use Rattle.array_machine.specs.Turn.{Outcome, waitsIn}
 use Rattle.run_memory.specs.Blocks.{Bytes}
 use Rattle.run_memory.specs.Places.{holdsIn}
-use Rattle.run_memory.specs.Memory.{Memory, workerIn, movedIn}
+use Rattle.run_memory.specs.Memory.{Memory, workerIn, movedIn, hindrance}
 use Rattle.run_memory.specs.Code.Acts.{wentTo}
 use Rattle.stealing.specs.Stealing.{leavesOn, wakesOn, forksOn}
 
@@ -36,3 +36,10 @@ abbrev pub endedIn : Table → ℕ → ℕ → Memory → Memory
 endedIn T t w M =
     let u : ℕ = getD (M .parents) t 0 in
     pick (waitsIn T (M .arrays .next) (set (M .arrays .status) t ended) u t) (wokenUp t u w M) (leftBehind t ended w M)
+
+-- worker w holds a thread, and nothing hinders its turn before the action is looked at
+pub record Going (M : Memory) (w : ℕ) : Type 0 where
+  pub few : w < 16
+  pub holds : workerIn M w .holds ≡ true
+  pub room : movedIn M .turns + 1 < 2 ^ 64
+  pub free : hindrance (movedIn M .turns) (getD (M .settings) 0 0) w (getD (M .arrays .status) 0 0) ≡ 0
