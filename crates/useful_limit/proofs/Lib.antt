@@ -1,3 +1,4 @@
 pub mod InRange
 pub mod Fits
 pub mod Serves
+pub mod Steps
