@@ -2,3 +2,4 @@ pub mod InRange
 pub mod Fits
 pub mod Serves
 pub mod Steps
+pub mod FromParts

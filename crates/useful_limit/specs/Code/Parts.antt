@@ -1,5 +1,4 @@
 -- What `fitquota` answers, from a few numbers of a table.
-use mathlib.Core.Path.{_≡_}
 use Prim.Native.Nat.{ℕ, _+_, _-_, _*_, _≤_, _<_, min, max}
 use mathlib.Core.Bool.{Bool, _&&_, _||_}
 use lib.Dec.{leb, ltb, eqb}
@@ -15,15 +14,18 @@ use Rattle.useful_limit.specs.declared.Parts.{Parts}
 use Rattle.useful_limit.specs.declared.Fitted.{Fitted}
 use Rattle.useful_limit.specs.declared.Fitted.the-variants.{Fits, Short}
 
--- the numbers are those of a table
-pub record PartsOf (T : Table) (p b : ℕ) (x : Parts) : Type 0 where
-  pub serial-is : x .serial ≡ S1 T
-  pub cost-is : x .cost ≡ costOf T p b
-  pub free-is : x .free ≡ eqb b 0
-  pub peak-is : x .peak ≡ workersPeak T p
-  pub resting-is : x .resting ≡ restingPeak T p
-  pub stretch-is : x .stretch ≡ stretchOf T maxQuota
-  pub least-is : x .least ≡ leastQuota T
+-- of a table
+abbrev pub partsOf : Table → ℕ → ℕ → Parts
+partsOf T p b =
+    record {
+      serial = S1 T;
+      cost = costOf T p b;
+      free = eqb b 0;
+      peak = workersPeak T p;
+      resting = restingPeak T p;
+      stretch = stretchOf T maxQuota;
+      least = leastQuota T;
+    }
 
 -- no sum is too large
 pub record Sums (x : Parts) : Type 0 where
