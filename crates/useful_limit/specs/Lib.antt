@@ -1,0 +1,5 @@
+pub mod Limits
+pub mod Fit
+pub mod Line
+pub mod FitCases
+pub mod Code
