@@ -29,7 +29,7 @@ use Rattle.schedule.proofs.Sound.Tests.{sound-exactly}
 use Rattle.schedule.proofs.Runs.Histories.{turn-steady}
 use Rattle.order.proofs.Words.{and-exactly, ltb-exactly}
 use Rattle.order.proofs.Lists.{getD-alike}
-use Rattle.marks.specs.Marks.{Mark, unset, kept, maxMarks, Marked, marked, unmarked, markOf, badMark, badMarked, setChecks, backChecks, setValues, backValues, runAt, setAs, backAs, setLed, backLed, MarkCall, moving, setting, going, afterMark, Led, ledBy, nowhere}
+use Rattle.marks.specs.Marks.{Mark, unset, kept, maxMarks, Marked, marked, unmarked, markOf, badMark, badMarked, setChecks, backChecks, setValues, backValues, runAt, setAs, backAs, setLed, backLed, MarkCall, moving, setting, going, afterMark, Led, ledBy, nowhere, numberOf}
 use Rattle.marks.specs.MarkCases.{found, afterSound, ledSound, numberSound, Seen, seenBy, MarkCase, markCases, Worked, marks-worked}
 
 -- sound, with room for k turns more
@@ -104,12 +104,6 @@ single (moving (overList l)) = false
 single (moving (inRounds limit)) = false
 single (setting i) = true
 single (going i) = true
-
--- the number that a call on marks answers
-abbrev pub numberOf : MarkCall → Marked → ℕ
-numberOf (moving c) m = 0
-numberOf (setting i) m = setValues m i .number
-numberOf (going i) m = backValues m i .number
 
 record Same (k : ℕ) (c : MarkCall) (m : Marked) : Type 0 where
   after : afterMark c m ≡ afterSound c m

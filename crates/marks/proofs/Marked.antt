@@ -2,18 +2,19 @@
 use mathlib.Core.Path.{_≡_, refl, sym, ap, _∙_}
 use Prim.Native.Nat.{ℕ, zero, suc}
 use mathlib.Core.List.{List, [], _∷_, _++_}
-use mathlib.Core.Bool.{Bool, true, false, not}
+use mathlib.Core.Bool.{true}
 use native.Mathlib.Omega.{arith}
 use lib.ListN.{length, getD, set, replicate, length-set}
-use lib.Dec.{ltb}
 use Rattle.table.specs.Pass.{tryAt}
 use Rattle.table.specs.declared.Found.{Found}
 use Rattle.table.specs.declared.Found.the-variants.{Nothing, At}
+use borrow.Author.Tests.{not-false}
 use Rattle.table.proofs.Tests.{no-way}
+use Rattle.table.proofs.Trying.{tryAt-nothing}
 use Rattle.schedule.specs.declared.Run.{Run}
 use Rattle.schedule.specs.Calls.{Call, afterCall, afterCalls}
 use Rattle.order.proofs.Lists.{getD-alike}
-use Rattle.marks.specs.Marks.{Mark, unset, kept, Marked, unmarked, markOf, badMarked, setChecks, backChecks, isSet, setAs, backAs, setLed, backLed, runAt, MarkCall, moving, setting, going, afterMark, afterMarks, Led, ledBy, ledTo, nowhere}
+use Rattle.marks.specs.Marks.{Mark, unset, kept, Marked, unmarked, markOf, setChecks, backChecks, isSet, setAs, backAs, setLed, backLed, runAt, MarkCall, moving, setting, going, afterMark, afterMarks, Led, ledBy, ledTo, nowhere}
 
 append-calls : (xs : List Call) (c : Call) (r : Run) → afterCalls (xs ++ c ∷ []) r ≡ afterCall c (afterCalls xs r)
 unfolding afterCalls
@@ -59,35 +60,28 @@ module _ (r : Run) where
       at (kept q) h g = g
   back-follows (At x) i m l h f = f
 
-  step : (c : MarkCall) (m : Marked) (l : Led Call) → Follows r m l → Follows r (afterMark c m) (ledBy c m l)
-  unfolding afterMark ledBy tryAt
-  step (moving c) m l f = record { run = ap (afterCall c) (f .run) ∙ sym (append-calls (l .here) c r); marks = f .marks; size = f .size }
-  step (setting i) m l f = set-follows (tryAt (setChecks m i) 0) i m l f
-  step (going i) m l f = went (isSet (markOf m i)) refl
+  pub mark-follows : (c : MarkCall) (m : Marked) (l : Led Call) → Follows r m l → Follows r (afterMark c m) (ledBy c m l)
+  unfolding afterMark ledBy
+  mark-follows (moving c) m l f = record { run = ap (afterCall c) (f .run) ∙ sym (append-calls (l .here) c r); marks = f .marks; size = f .size }
+  mark-follows (setting i) m l f = set-follows (tryAt (setChecks m i) 0) i m l f
+  mark-follows (going i) m l f = went (tryAt (backChecks m i) 0) refl
     where
-      stays : (x : Found) → (x ≡ Nothing → ⊥) → Follows r (backAs x i m) (backLed x i l)
-      stays Nothing n = absurd (n refl)
-      stays (At y) n = f
+      went : (x : Found) → tryAt (backChecks m i) 0 ≡ x → Follows r (backAs x i m) (backLed x i l)
+      went Nothing e = back-follows Nothing i m l (not-false _ (tryAt-nothing (backChecks m i) 0 .0 e .1 .1 .0)) f
+      went (At y) e = f
 
-      refuses : (a b c : Bool) → c ≡ false
-          → tryAt (record { number = 32; applies = λ j. a } ∷ record { number = 45; applies = λ j. b } ∷ record { number = 46; applies = λ j. not c } ∷ []) 0 ≡ Nothing → ⊥
-      refuses true b c e = λ z. no-way cc
-      refuses false true c e = λ z. no-way cc
-      refuses false false true e = no-way cc
-      refuses false false false e = λ z. no-way cc
-
-      went : (q : Bool) → isSet (markOf m i) ≡ q → Follows r (backAs (tryAt (backChecks m i) 0) i m) (backLed (tryAt (backChecks m i) 0) i l)
-      went true e = back-follows (tryAt (backChecks m i) 0) i m l e f
-      went false e = stays (tryAt (backChecks m i) 0) (refuses (badMarked m) (not (ltb i 8)) (isSet (markOf m i)) e)
-
-  steps : (cs : List MarkCall) (m : Marked) (l : Led Call) → Follows r m l → Follows r (afterMarks cs m) (ledTo cs m l)
-  unfolding afterMarks ledTo
-  steps [] m l f = f
-  steps (c ∷ cs) m l f = steps cs (afterMark c m) (ledBy c m l) (step c m l f)
-
-  pub marked-follows : (cs : List MarkCall) → Follows r (afterMarks cs (unmarked r)) (ledTo cs (unmarked r) nowhere)
+  pub unmarked-follows : Follows r (unmarked r) nowhere
   unfolding afterCalls
-  marked-follows cs = steps cs (unmarked r) nowhere (record { run = refl; marks = λ i. none i; size = refl })
+  unmarked-follows = record { run = refl; marks = λ i. none i; size = refl }
     where
       none : (i : ℕ) → Right r (getD (replicate 8 unset) i unset) (getD (replicate 8 []) i [])
       none i = rw (getD-alike 8 i unset) tt
+
+  -- after calls with marks among them, from a run with no mark set
+  pub marked-follows : (cs : List MarkCall) → Follows r (afterMarks cs (unmarked r)) (ledTo cs (unmarked r) nowhere)
+  unfolding afterMarks ledTo
+  marked-follows cs = go cs (unmarked r) nowhere unmarked-follows
+    where
+      go : (cs : List MarkCall) (m : Marked) (l : Led Call) → Follows r m l → Follows r (afterMarks cs m) (ledTo cs m l)
+      go [] m l f = f
+      go (c ∷ cs) m l f = go cs (afterMark c m) (ledBy c m l) (mark-follows c m l f)

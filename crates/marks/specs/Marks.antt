@@ -3,15 +3,15 @@ use Prim.Native.Nat.{ℕ}
 use mathlib.Core.List.{List, [], _∷_, _++_}
 use mathlib.Core.Bool.{Bool, true, false, not, _||_}
 use lib.ListN.{getD, set, replicate}
-use lib.Dec.{ltb}
-use Rattle.table.specs.Sum.{anyBelow}
+use lib.Dec.{ltb, eqb}
+use Rattle.table.specs.Sum.{pick, anyBelow}
 use Rattle.table.specs.Pass.{Check, tryAt}
 use Rattle.table.specs.Load.{foundNumber, foundPlace}
 use Rattle.table.specs.declared.Found.{Found}
 use Rattle.table.specs.declared.Found.the-variants.{Nothing, At}
 use Rattle.schedule.specs.declared.Run.{Run}
 use Rattle.schedule.specs.Turn.{unsound}
-use Rattle.schedule.specs.Calls.{Call, afterCall}
+use Rattle.schedule.specs.Calls.{Call, afterCall, rowOf, rowOfCalls}
 
 -- a mark: not set, or the run as it was, the whole record. An unset one has nothing that could be damaged.
 pub data Mark : Type 0 where
@@ -140,3 +140,31 @@ ledTo (c ∷ cs) m l = ledTo cs (afterMark c m) (ledBy c m l)
 -- at the beginning
 abbrev pub nowhere : {A : Type 0} → Led A
 nowhere = led [] (replicate maxMarks [])
+
+-- the row of the turns that led to the run after a list of calls: "the turns that led to the mark and those since"
+unfoldable pub rowOfMarks : List MarkCall → Run → List ℕ
+rowOfMarks cs r = rowOfCalls (ledTo cs (unmarked r) nowhere .here) r
+
+-- ---- the same from what was answered
+
+-- the row of turns that a call lays
+abbrev pub rowBy : MarkCall → Marked → List ℕ
+rowBy (moving c) m = rowOf c (m .run)
+rowBy (setting i) m = []
+rowBy (going i) m = []
+
+-- the number that a call on marks answers; another call's is not looked at
+abbrev pub numberOf : MarkCall → Marked → ℕ
+numberOf (moving c) m = 0
+numberOf (setting i) m = setValues m i .number
+numberOf (going i) m = backValues m i .number
+
+-- the turns that led there, after a call that laid a row and answered a number: where it set a mark or went back to one, the number is 0
+abbrev pub turnsBy : MarkCall → List ℕ → ℕ → Led ℕ → Led ℕ
+turnsBy (moving c) row number w = led (w .here ++ row) (w .marks)
+turnsBy (setting i) row number w = pick (eqb number 0) (setLed Nothing i w) w
+turnsBy (going i) row number w = pick (eqb number 0) (backLed Nothing i w) w
+
+unfoldable pub turnsTo : List MarkCall → Marked → Led ℕ → Led ℕ
+turnsTo [] m w = w
+turnsTo (c ∷ cs) m w = turnsTo cs (afterMark c m) (turnsBy c (rowBy c m) (numberOf c m) w)
