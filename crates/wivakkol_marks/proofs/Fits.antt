@@ -34,7 +34,7 @@ pub record ReadOff (bytes words numbers sums : List ℕ) (p K head : ℕ) (ws : 
   pub turns : count ≡ totalAt 2 (sumsIn sums)
 
 module _ (s : List ℕ) {bytes words numbers sums next status amounts left right : List ℕ} (l : LaidOut bytes words sums next status amounts left right)
-  {p K head : ℕ} {ws : List Worker} {set amount peak count : ℕ} (o : ReadOff bytes words numbers sums p K head ws set amount peak count) where
+    {p K head : ℕ} {ws : List Worker} {set amount peak count : ℕ} (o : ReadOff bytes words numbers sums p K head ws set amount peak count) where
   abbrev M : Memory
   M = memoryOf bytes words numbers sums
 
@@ -87,8 +87,8 @@ module _ (s bytes words numbers sums : List ℕ) {n : ℕ} (e : n ≡ standing s
   reopens-sound h {parents} {under} {over} {first} q p l d f =
       besides q
       ∙ ap (λ (a : Answer). a .memory)
-          (opens-sound s (memoryOf bytes words numbers sums) e h p {k = record { left = under; right = over; head = first }}
-          (f ∙ (λ i. filledFrom 1024 (l .status i) (l .right i) (d i) noThread noLinks)))
+      (opens-sound s (memoryOf bytes words numbers sums) e h p {k = record { left = under; right = over; head = first }}
+      (f ∙ (λ i. filledFrom 1024 (l .status i) (l .right i) (d i) noThread noLinks)))
 
   pub reopens-blank : (n ≡ 1 → ⊥) → n ≡ 2 → {parents under over : List ℕ} {X : Words}
       → X ≡ headed 1 0 (laidRow 5 over (laidRow 4 under (laidRow 0 parents (wordsIn words)))) → parents ≡ parentsIf (eqb n 1) (tableOf s)

@@ -66,8 +66,21 @@ fn fit_mark(
         sums,
     );
     fit(
-        table, &*bytes, &*words, &*numbers, &*sums, next, status, amounts, left, right, rises,
-        falls, forks, seen, list,
+        table,
+        &*bytes,
+        &*words,
+        &*numbers,
+        &*sums,
+        next,
+        status,
+        amounts,
+        left,
+        right,
+        rises,
+        falls,
+        forks,
+        seen,
+        list,
     )
 }
 
@@ -158,11 +171,48 @@ fn fit_marked(
 ) -> bool
     ensures { λ r. ⌜ r ≡ fitMarked (now (table .entry)) (memoryOf (now (bytes .entry)) (now (words .entry)) (now (numbers .entry)) (now (sums .entry))) (marksOf (now (set .entry)) (now (markbytes .entry)) (now (markwords .entry)) (now (marknumbers .entry)) (now (marksums .entry))) ⌝ }
 {
-    let fits = fit(table, bytes, words, numbers, sums, next, status, amounts, left, right, rises, falls, forks, seen, list);
+    let fits = fit(
+        table,
+        bytes,
+        words,
+        numbers,
+        sums,
+        next,
+        status,
+        amounts,
+        left,
+        right,
+        rises,
+        falls,
+        forks,
+        seen,
+        list,
+    );
     if !fits {
         return false;
     }
-    fit_marks(table, set, markbytes, markwords, marknumbers, marksums, sparebytes, sparewords, sparenumbers, sparesums, next, status, amounts, left, right, rises, falls, forks, seen, list)
+    fit_marks(
+        table,
+        set,
+        markbytes,
+        markwords,
+        marknumbers,
+        marksums,
+        sparebytes,
+        sparewords,
+        sparenumbers,
+        sparesums,
+        next,
+        status,
+        amounts,
+        left,
+        right,
+        rises,
+        falls,
+        forks,
+        seen,
+        list,
+    )
 }
 
 // The working memory is cleared.
@@ -229,7 +279,32 @@ fn set_mark(
 ) -> u32
     ensures { λ r. ⌜ setting r (marksOf (now (set .exit)) (now (markbytes .exit)) (now (markwords .exit)) (now (marknumbers .exit)) (now (marksums .exit))) ≡ lentMark (now (table .entry)) i (memoryOf (now (bytes .entry)) (now (words .entry)) (now (numbers .entry)) (now (sums .entry))) (marksOf (now (set .entry)) (now (markbytes .entry)) (now (markwords .entry)) (now (marknumbers .entry)) (now (marksums .entry))) ⌝ }
 {
-    let fits = fit_marked(table, bytes, words, numbers, sums, &*set, &*markbytes, &*markwords, &*marknumbers, &*marksums, sparebytes, sparewords, sparenumbers, sparesums, next, status, amounts, left, right, rises, falls, forks, seen, list);
+    let fits = fit_marked(
+        table,
+        bytes,
+        words,
+        numbers,
+        sums,
+        &*set,
+        &*markbytes,
+        &*markwords,
+        &*marknumbers,
+        &*marksums,
+        sparebytes,
+        sparewords,
+        sparenumbers,
+        sparesums,
+        next,
+        status,
+        amounts,
+        left,
+        right,
+        rises,
+        falls,
+        forks,
+        seen,
+        list,
+    );
     if !fits {
         return UNSOUND;
     }
@@ -237,7 +312,17 @@ fn set_mark(
         return NO_MARK;
     }
     let at = i as usize;
-    store(at, bytes, words, numbers, sums, markbytes, markwords, marknumbers, marksums);
+    store(
+        at,
+        bytes,
+        words,
+        numbers,
+        sums,
+        markbytes,
+        markwords,
+        marknumbers,
+        marksums,
+    );
     set[at] = 1;
     0
 }
@@ -271,7 +356,32 @@ fn go_back(
 ) -> u32
     ensures { λ r. ⌜ going r (memoryOf (now (bytes .exit)) (now (words .exit)) (now (numbers .exit)) (now (sums .exit))) ≡ lentBack (now (table .entry)) i (memoryOf (now (bytes .entry)) (now (words .entry)) (now (numbers .entry)) (now (sums .entry))) (marksOf (now (set .entry)) (now (markbytes .entry)) (now (markwords .entry)) (now (marknumbers .entry)) (now (marksums .entry))) ⌝ }
 {
-    let fits = fit_marked(table, &*bytes, &*words, &*numbers, &*sums, set, markbytes, markwords, marknumbers, marksums, sparebytes, sparewords, sparenumbers, sparesums, next, status, amounts, left, right, rises, falls, forks, seen, list);
+    let fits = fit_marked(
+        table,
+        &*bytes,
+        &*words,
+        &*numbers,
+        &*sums,
+        set,
+        markbytes,
+        markwords,
+        marknumbers,
+        marksums,
+        sparebytes,
+        sparewords,
+        sparenumbers,
+        sparesums,
+        next,
+        status,
+        amounts,
+        left,
+        right,
+        rises,
+        falls,
+        forks,
+        seen,
+        list,
+    );
     if !fits {
         return UNSOUND;
     }
@@ -282,8 +392,34 @@ fn go_back(
     if set[at] == 0 {
         return NOT_SET;
     }
-    load(at, markbytes, markwords, marknumbers, marksums, bytes, words, numbers, sums);
-    reopen(table, &*bytes, words, &*numbers, &*sums, next, status, amounts, left, right, rises, falls, forks, seen, list);
+    load(
+        at,
+        markbytes,
+        markwords,
+        marknumbers,
+        marksums,
+        bytes,
+        words,
+        numbers,
+        sums,
+    );
+    reopen(
+        table,
+        &*bytes,
+        words,
+        &*numbers,
+        &*sums,
+        next,
+        status,
+        amounts,
+        left,
+        right,
+        rises,
+        falls,
+        forks,
+        seen,
+        list,
+    );
     0
 }
 
@@ -319,8 +455,49 @@ pub extern "C" fn wivakkol_mark_on(
     ensures { λ r. ⌜ setting r (marksOf (now (set .exit)) (now (markbytes .exit)) (now (markwords .exit)) (now (marknumbers .exit)) (now (marksums .exit))) ≡ lentMark (now (table .entry)) i (memoryOf (now (bytes .entry)) (now (words .entry)) (now (numbers .entry)) (now (sums .entry))) (marksOf (now (set .entry)) (now (markbytes .entry)) (now (markwords .entry)) (now (marknumbers .entry)) (now (marksums .entry))) ⌝ }
     ensures { λ _. ⌜ Cleared (now (sparebytes .exit)) (now (sparewords .exit)) (now (sparenumbers .exit)) (now (sparesums .exit)) (now (next .exit)) (now (status .exit)) (now (amounts .exit)) (now (left .exit)) (now (right .exit)) (now (rises .exit)) (now (falls .exit)) (now (forks .exit)) (now (seen .exit)) (now (list .exit)) ⌝ }
 {
-    let number = set_mark(table, i, bytes, words, numbers, sums, set, markbytes, markwords, marknumbers, marksums, sparebytes, sparewords, sparenumbers, sparesums, next, status, amounts, left, right, rises, falls, forks, seen, list);
-    clear(sparebytes, sparewords, sparenumbers, sparesums, next, status, amounts, left, right, rises, falls, forks, seen, list);
+    let number = set_mark(
+        table,
+        i,
+        bytes,
+        words,
+        numbers,
+        sums,
+        set,
+        markbytes,
+        markwords,
+        marknumbers,
+        marksums,
+        sparebytes,
+        sparewords,
+        sparenumbers,
+        sparesums,
+        next,
+        status,
+        amounts,
+        left,
+        right,
+        rises,
+        falls,
+        forks,
+        seen,
+        list,
+    );
+    clear(
+        sparebytes,
+        sparewords,
+        sparenumbers,
+        sparesums,
+        next,
+        status,
+        amounts,
+        left,
+        right,
+        rises,
+        falls,
+        forks,
+        seen,
+        list,
+    );
     number
 }
 
@@ -356,8 +533,49 @@ pub extern "C" fn wivakkol_back_on(
     ensures { λ r. ⌜ going r (memoryOf (now (bytes .exit)) (now (words .exit)) (now (numbers .exit)) (now (sums .exit))) ≡ lentBack (now (table .entry)) i (memoryOf (now (bytes .entry)) (now (words .entry)) (now (numbers .entry)) (now (sums .entry))) (marksOf (now (set .entry)) (now (markbytes .entry)) (now (markwords .entry)) (now (marknumbers .entry)) (now (marksums .entry))) ⌝ }
     ensures { λ _. ⌜ Cleared (now (sparebytes .exit)) (now (sparewords .exit)) (now (sparenumbers .exit)) (now (sparesums .exit)) (now (next .exit)) (now (status .exit)) (now (amounts .exit)) (now (left .exit)) (now (right .exit)) (now (rises .exit)) (now (falls .exit)) (now (forks .exit)) (now (seen .exit)) (now (list .exit)) ⌝ }
 {
-    let number = go_back(table, i, bytes, words, numbers, sums, set, markbytes, markwords, marknumbers, marksums, sparebytes, sparewords, sparenumbers, sparesums, next, status, amounts, left, right, rises, falls, forks, seen, list);
-    clear(sparebytes, sparewords, sparenumbers, sparesums, next, status, amounts, left, right, rises, falls, forks, seen, list);
+    let number = go_back(
+        table,
+        i,
+        bytes,
+        words,
+        numbers,
+        sums,
+        set,
+        markbytes,
+        markwords,
+        marknumbers,
+        marksums,
+        sparebytes,
+        sparewords,
+        sparenumbers,
+        sparesums,
+        next,
+        status,
+        amounts,
+        left,
+        right,
+        rises,
+        falls,
+        forks,
+        seen,
+        list,
+    );
+    clear(
+        sparebytes,
+        sparewords,
+        sparenumbers,
+        sparesums,
+        next,
+        status,
+        amounts,
+        left,
+        right,
+        rises,
+        falls,
+        forks,
+        seen,
+        list,
+    );
     number
 }
 

@@ -51,15 +51,15 @@ returns c =
     let s = w .before in
     blank-read [] (s .pre)
     (record {
-        workers = p .workers .ensures ∙ ap (λ (n : ℕ). min n 17) (x .setting-at .ensures);
-        quota = k .setting-at2 .ensures;
-        leftmost = l .head-at .ensures;
-        records = w .workers-out .ensures;
-        busy = d .head-at2 .ensures;
-        held = m .total-at .ensures;
-        highest = h .total-at2 .ensures;
-        turns = t .total-at3 .ensures;
-      })
+      workers = p .workers .ensures ∙ ap (λ (n : ℕ). min n 17) (x .setting-at .ensures);
+      quota = k .setting-at2 .ensures;
+      leftmost = l .head-at .ensures;
+      records = w .workers-out .ensures;
+      busy = d .head-at2 .ensures;
+      held = m .total-at .ensures;
+      highest = h .total-at2 .ensures;
+      turns = t .total-at3 .ensures;
+    })
     (c .blank-in .ensures)
 
 pub blank-on-spec : {M : Type 1} → statement M

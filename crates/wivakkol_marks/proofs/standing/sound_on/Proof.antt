@@ -55,17 +55,17 @@ returns c =
     let s = w .before .before in
     let e = u .test-in .ensures in (
       sound-read (now (s .args .table)) (s .pre)
-      (record {
-        workers = p .workers .ensures ∙ ap (λ (n : ℕ). min n 17) (x .setting-at .ensures);
-        quota = k .setting-at2 .ensures;
-        leftmost = l .head-at .ensures;
-        records = w .workers-out .ensures;
-        busy = d .head-at2 .ensures;
-        held = m .total-at .ensures;
-        highest = h .total-at2 .ensures;
-        turns = t .total-at3 .ensures;
-      })
-      (e .0) (c .before .truths-right .ensures) (c .if1 .taken),
+          (record {
+            workers = p .workers .ensures ∙ ap (λ (n : ℕ). min n 17) (x .setting-at .ensures);
+            quota = k .setting-at2 .ensures;
+            leftmost = l .head-at .ensures;
+            records = w .workers-out .ensures;
+            busy = d .head-at2 .ensures;
+            held = m .total-at .ensures;
+            highest = h .total-at2 .ensures;
+            turns = t .total-at3 .ensures;
+          })
+          (e .0) (c .before .truths-right .ensures) (c .if1 .taken),
       (e .1 .0, e .1 .1 .1),
     )
 
@@ -84,17 +84,17 @@ returns-2 c =
     let w = x .before in
     let s = w .before .before in (
       truths-read (now (s .args .table)) (s .pre)
-      (record {
-        workers = p .workers .ensures ∙ ap (λ (n : ℕ). min n 17) (x .setting-at .ensures);
-        quota = k .setting-at2 .ensures;
-        leftmost = l .head-at .ensures;
-        records = w .workers-out .ensures;
-        busy = d .head-at2 .ensures;
-        held = m .total-at .ensures;
-        highest = h .total-at2 .ensures;
-        turns = t .total-at3 .ensures;
-      })
-      (f .before .truths-right .ensures) (f .if1 .left),
+          (record {
+            workers = p .workers .ensures ∙ ap (λ (n : ℕ). min n 17) (x .setting-at .ensures);
+            quota = k .setting-at2 .ensures;
+            leftmost = l .head-at .ensures;
+            records = w .workers-out .ensures;
+            busy = d .head-at2 .ensures;
+            held = m .total-at .ensures;
+            highest = h .total-at2 .ensures;
+            turns = t .total-at3 .ensures;
+          })
+          (f .before .truths-right .ensures) (f .if1 .left),
       (refl, u .test-in .ensures .1 .1 .1),
     )
 
