@@ -3,7 +3,7 @@
 // would write first; or, with -DLINKS, by the same algorithms as the Rattle code. All else is by those algorithms in both.
 //
 // usage: baseline tablecheck | turnlist | runrounds | repeat   (input and lines as of the Rattle programs; repeat as bench_runs)
-// With -DCALLS it is no program but the calls of bench/plain.h, for bench/board.c.
+// With -DCALLS it is no program but the calls of bench/plain.h, for bench/board.c and bench/tables.c.
 #include <stdbool.h>
 #include <stdint.h>
 #include <stdio.h>
@@ -815,11 +815,158 @@ static Turned turn(Run *run, uint8_t w) {
     return turned;
 }
 
+// ---- whole tables
+
+// The threads' numbers by the serial order of their forks, and the threads in this order.
+static void number_threads(const uint8_t *table, size_t n, uint16_t *names, uint16_t *order) {
+    const uint8_t *actions = bodies(table, n);
+    uint16_t sizes[THREADS];
+    for (size_t t = n; t-- > 0;) {
+        size_t first = first_of(table, t), stop = first + count_of(table, t), size = 1;
+        for (size_t a = first; a < stop; a++)
+            if (code(actions, a) == FORK) size += sizes[argument(actions, a)];
+        sizes[t] = (uint16_t)size;
+    }
+    names[0] = 0;
+    for (size_t t = 0; t < n; t++) {
+        size_t first = first_of(table, t), stop = first + count_of(table, t), next = names[t] + 1u;
+        order[names[t]] = (uint16_t)t;
+        for (size_t a = first; a < stop; a++)
+            if (code(actions, a) == FORK) {
+                size_t x = argument(actions, a);
+                names[x] = (uint16_t)next;
+                next += sizes[x];
+            }
+    }
+}
+
+// The canonical form of an accepted table; gives its length.
+static size_t write_form(const uint8_t *table, uint8_t *out) {
+    size_t n = word(table, 0), m = word(table, 2), sum = 0;
+    const uint8_t *actions = bodies(table, n);
+    uint16_t names[THREADS], order[THREADS];
+    number_threads(table, n, names, order);
+    uint8_t *to = put_pair(out, n, m);
+    for (size_t i = 0; i < n; i++) {
+        to = put_pair(to, sum, count_of(table, order[i]));
+        sum += count_of(table, order[i]);
+    }
+    for (size_t i = 0; i < n; i++)
+        for (size_t a = first_of(table, order[i]), stop = a + count_of(table, order[i]); a < stop; a++) {
+            uint8_t k = code(actions, a);
+            size_t x = argument(actions, a);
+            to = put_action(to, k, k == FORK || k == JOIN ? names[x] : x);
+        }
+    return (size_t)(to - out);
+}
+
+// The depth, without recursion: each thread's own, the deepest of what it joins included.
+static size_t depth_of(const uint8_t *table, size_t n) {
+    const uint8_t *actions = bodies(table, n);
+    uint16_t depths[THREADS] = { 0 };
+    for (size_t t = n; t-- > 0;) {
+        size_t first = first_of(table, t), stop = first + count_of(table, t), last = 0;
+        for (size_t a = first; a < stop; a++) {
+            uint8_t k = code(actions, a);
+            size_t x = argument(actions, a);
+            if (k == JOIN && last < depths[x]) last = depths[x];
+            last++;
+            if (k == FORK) depths[x] = (uint16_t)(depths[x] + last);
+        }
+        depths[t] = (uint16_t)last;
+    }
+    return depths[0];
+}
+
+// Accepted parts as one table of n threads and m actions.
+static void write_joined(const uint8_t *tables, const uint32_t *lengths, size_t parts, size_t n, size_t m, uint8_t *out) {
+    uint8_t *to = put_pair(put_pair(out, n, m), 0, 2 * parts + 1);
+    size_t sum = 2 * parts + 1, root = 1;
+    const uint8_t *part = tables;
+    for (size_t i = 0; i < parts; part += lengths[i++]) {
+        for (size_t t = 0; t < word(part, 0); t++) to = put_pair(to, sum + first_of(part, t), count_of(part, t));
+        sum += word(part, 2);
+    }
+    part = tables;
+    for (size_t i = 0; i < parts; part += lengths[i++]) {
+        to = put_action(to, FORK, root);
+        root += word(part, 0);
+    }
+    for (size_t i = parts; i-- > 0;) {
+        part -= lengths[i];
+        root -= word(part, 0);
+        to = put_action(to, JOIN, root);
+    }
+    to = put_action(to, END, 0);
+    for (size_t i = 0; i < parts; part += lengths[i++]) {
+        const uint8_t *actions = bodies(part, word(part, 0));
+        for (size_t a = 0; a < word(part, 2); a++) {
+            uint8_t k = code(actions, a);
+            size_t x = argument(actions, a);
+            to = put_action(to, k, k == FORK || k == JOIN ? root + x : x);
+        }
+        root += word(part, 0);
+    }
+}
+
 // ---- the calls of plain.h
 
 #ifdef CALLS
 
 #include "plain.h"
+
+uint32_t plain_join(const uint8_t *tables, size_t length, const uint32_t *lengths, size_t parts, uint8_t *out, uint64_t row[7]) {
+    uint64_t rises[THREADS], falls[THREADS], sum = 0, threads = 1, actions = 2 * parts + 1, held = 0, peak = 0, depth = 0, nested = 0;
+    memset(row, 0, 7 * sizeof row[0]);
+    for (size_t i = 0; i < parts; i++) sum += lengths[i];
+    if (parts < 1 || 16 < parts || sum != length) return 47;
+    const uint8_t *part = tables;
+    for (size_t i = 0; i < parts; part += lengths[i++]) {
+        Refusal refusal = check(part, lengths[i], rises, falls);
+        if (refusal.number) {
+            row[0] = refusal.place;
+            row[6] = i;
+            return refusal.number;
+        }
+        size_t n = word(part, 0), m = word(part, 2);
+        uint64_t top = held + serial_peak(part, n, rises, falls), deep = 2 * (i + 1) + depth_of(part, n), levels = nested_levels(part, n, m);
+        peak = peak < top ? top : peak;
+        depth = depth < deep ? deep : depth;
+        nested = nested < levels ? levels : nested;
+        held += rises[0] - falls[0];
+        threads += n;
+        actions += m;
+    }
+    if (THREADS < threads || ACTIONS < actions) return 48;
+    write_joined(tables, lengths, parts, threads, actions, out);
+    memcpy(row, (uint64_t[7]){ 0, threads, actions, peak, 1 + depth, 1 + nested, 0 }, 7 * sizeof row[0]);
+    return 0;
+}
+
+uint32_t plain_canonical(const uint8_t *table, size_t length, uint8_t *out, uint64_t row[2]) {
+    uint64_t rises[THREADS], falls[THREADS];
+    Refusal refusal = check(table, length, rises, falls);
+    row[0] = refusal.place;
+    row[1] = refusal.number ? 0 : write_form(table, out);
+    return refusal.number;
+}
+
+uint32_t plain_compare(const uint8_t *first, size_t first_length, const uint8_t *second, size_t second_length, uint8_t *a, uint8_t *b, uint64_t row[3]) {
+    uint64_t rises[THREADS], falls[THREADS];
+    memset(row, 0, 3 * sizeof row[0]);
+    Refusal refusal = check(first, first_length, rises, falls);
+    if (!refusal.number) {
+        row[2] = 1;
+        refusal = check(second, second_length, rises, falls);
+    }
+    row[0] = refusal.place;
+    if (refusal.number) return refusal.number;
+    size_t k = write_form(first, a), l = write_form(second, b);
+    int order = memcmp(a, b, k < l ? k : l);
+    row[1] = order < 0 ? 1 : order > 0 ? 3 : k < l ? 1 : k > l ? 3 : 2;
+    row[2] = 0;
+    return 0;
+}
 
 struct plain_run { Run run; Beside beside; };
 

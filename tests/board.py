@@ -32,7 +32,8 @@ NUMBERS = {'wivakkol_check': set(range(12)), 'wivakkol_quota': set(range(12)) | 
 # what it leaves of its working memory, field by field: 0, all 0; 1, as it was
 LEFT = {'wivakkol_check': [0, 0, 0, 0, 1, 1], 'wivakkol_quota': [0, 0, 0, 0, 1, 1], 'wivakkol_most': [0, 0, 1, 1, 1, 1]}
 STACK_MOST = 8192  # bytes that a call on a table may take of the stack
-BYTES = {'table': 'length', 'order': 'turns', 'filled': 'room'}  # the names of their numbers of bytes
+# the names of their numbers of bytes, of lengths that of their count
+BYTES = {'table': 'length', 'order': 'turns', 'filled': 'room', 'first': 'first_length', 'second': 'second_length', 'tables': 'length', 'lengths': 'parts'}
 RUN_CALLS = list(board_runs.NUMBERS)  # the calls for a wivakkol_run
 WORK_NAMES = {'parents': 'seen'}  # fields of a wivakkol_work that the exported calls name otherwise, since they have parents of their own
 # the places that the header names: of each the part of a block that it is in, and which number of that
@@ -49,10 +50,10 @@ def build(source, name):
     return '%s/%s' % (OUT, name)
 
 
-def header_for_cpp():
+def header_for_cpp(name='wivakkol.h'):
     """The header is C++ as well, where there is a compiler to ask."""
     if shutil.which('c++'):
-        subprocess.run(['c++', '-x', 'c++', '-Wall', '-Wextra', '-Werror', '-pedantic', '-fsyntax-only', 'include/wivakkol.h'], check=True)
+        subprocess.run(['c++', '-x', 'c++', '-Wall', '-Wextra', '-Werror', '-pedantic', '-fsyntax-only', 'include/' + name], check=True)
 
 
 def exported(crate):
@@ -66,7 +67,7 @@ def exported(crate):
                 lent, inner, size = re.fullmatch(r'(&mut |&)?\[?(\w+)(?:; (\d+))?\]?', kind).groups()
                 const = 'const ' if lent == '&' else ''
                 if lent and size is None:
-                    assert kind in ('&[u8]', '&mut [u8]'), kind
+                    assert kind in ('&[u8]', '&mut [u8]', '&[u32]'), kind
                     calls[name] += [(variable, const + c_type(inner), '*'), (BYTES[variable], 'size_t', None)]
                 else:
                     calls[name].append((variable, const + c_type(inner), int(size) if lent else None))
@@ -77,9 +78,9 @@ def c_type(rattle):
     return 'uint%s_t' % re.fullmatch(r'u(8|16|32|64)', rattle).group(1)
 
 
-def header():
-    """The header without its comments, names for numbers put in."""
-    text = re.sub(r'/\*.*?\*/', '', open('include/wivakkol.h').read(), flags=re.S)
+def header(*names):
+    """The header without its comments, or several, names for numbers put in."""
+    text = re.sub(r'/\*.*?\*/', '', ''.join(open('include/' + name).read() for name in names or ['wivakkol.h']), flags=re.S)
     for name, value in re.findall(r'#define (\w+) (\d+) *\n', text):
         text = re.sub(r'\b%s\b' % name, value, text)
     return text
@@ -91,13 +92,16 @@ def declared(text):
     return name, kind, '*' if star else int(size) if size else None
 
 
+def prototypes_of(text):
+    return {name: [('', result, None)] + list(map(declared, parameters.split(',')))
+            for result, name, parameters in re.findall(r'^(\w+) (\w+)\(([^)]*)\);', text, flags=re.M)}
+
+
 def header_is_source():
     """Names, order, types, const and sizes of the exported calls are those of the source, and a turn is in a crate of its own; blocks and parts are lent as lent.py has them."""
     (single, board), text = map(exported, CRATES), header()
     assert list(single) == ['wivakkol_turn_on'] and not set(single) & set(board)
-    source = {**single, **board}
-    prototypes = {name: [('', result, None)] + list(map(declared, parameters.split(',')))
-                  for result, name, parameters in re.findall(r'^(\w+) (\w+)\(([^)]*)\);', text, flags=re.M)}
+    source, prototypes = {**single, **board}, prototypes_of(text)
     assert prototypes == source, 'the header and the source differ: %s' % [(name, prototypes.get(name), source.get(name))
                                                                           for name in {*prototypes, *source} if prototypes.get(name) != source.get(name)]
     blocks, work = fields(text, 'run'), fields(text, 'work')

@@ -1,6 +1,6 @@
 """Canonical forms and joined tables by change requests N14 and N12, written on their own: threads listed by walking the table in serial order, nothing taken from the Rattle code.
 
-form(bytes) answers ('form', bytes) or ('refused', number, place); compare(first, second) answers 'before', 'equal', 'after' or ('refused', number, place, table).
+form(bytes) answers ('form', bytes) or ('refused', number, place); compare(first, second) answers 'before', 'equal', 'after' or ('refused', number, place, table); joined(bytes, lengths) is below.
 """
 from reference import END, FORK, JOIN, Table, check
 from tables import table
@@ -38,7 +38,25 @@ def form(data):
     bodies = bodies_of(data)
     order = fork_order(bodies)
     name = {t: i for i, t in enumerate(order)}
-    return 'form', table(*[renamed(bodies, name)[t] for t in order])
+    bodies = renamed(bodies, name)
+    return 'form', table(*[bodies[t] for t in order])
+
+
+def shuffled(rng, data):
+    """The same design under other numbers, drawn among those that keep each thread above the one that forks it."""
+    bodies = bodies_of(data)
+    order, ready = [], [0]
+    while ready:
+        order.append(ready.pop(rng.randrange(len(ready))))
+        ready += [x for kind, x in bodies[order[-1]] if kind == FORK]
+    bodies = renamed(bodies, {t: i for i, t in enumerate(order)})
+    return table(*[bodies[t] for t in order])
+
+
+def form_answer(data):
+    """What canontable writes to standard output and to standard error."""
+    answer = form(data)
+    return (answer[1], b'') if answer[0] == 'form' else (b'', b'refused %d %d\n' % answer[1:])
 
 
 def compare(first, second):
@@ -83,3 +101,15 @@ def joined(tables, lengths):
         return 'refused', 48, 0
     whole = table(*bodies)
     return 'table', whole, check(whole)
+
+
+def join_answer(data):
+    """What jointables writes to standard output and to standard error: of its input a count, so many lengths in 4 bytes each, and the tables."""
+    count = data[0] if data else 0
+    lengths, rest = data[1:1 + 4 * count], data[1 + 4 * count:]
+    if len(lengths) < 4 * count:
+        return b'', b'refused 47 0\n'
+    answer = joined(rest, [int.from_bytes(lengths[i:i + 4], 'little') for i in range(0, len(lengths), 4)])
+    if answer[0] == 'table':
+        return answer[1], b''
+    return b'', b'refused %d %d\n' % answer[1:] if len(answer) == 3 else b'refused %d %d part %d\n' % answer[1:]

@@ -1,25 +1,30 @@
-"""Draws random and damaged inputs and compares the programs with reference.py, machine.py, filling.py and most.py, which were written on their own.
+"""Draws random and damaged inputs and compares the programs with reference.py, machine.py, filling.py, most.py and designs.py, which were written on their own.
 
 usage: python3 tests/differential.py [COUNT] [PROGRAM..] [--baseline]
-    COUNT inputs for each program (default 3,000); PROGRAM: tablecheck, maxquota, maxturns, filltable, turnlist, wallchart, runrounds, call_cases (default: all).
-    From the repository's top, after `rt check tablecheck maxquota maxturns filltable turnlist wallchart runrounds call_cases`; with --baseline it is the C
+    COUNT inputs for each program (default 3,000); PROGRAM: tablecheck, maxquota, maxturns, filltable, canontable, cmptables, jointables, turnlist, wallchart, runrounds, call_cases (default: all).
+    From the repository's top, after `rt check` of these programs; with --baseline it is the C
     of bench/ that is compared, in both layouts (tablecheck, turnlist and runrounds), after `cc -O3 -o target/baseline bench/baseline.c`
     and `cc -O3 -DLINKS -o target/baseline_links bench/baseline.c`.
 """
 import collections
 import os
+import pathlib
 import random
 import subprocess
 import sys
 
 import call_cases
 import chart
+import designs
 import filling
 import machine
 import most
 import quota
 from reference import ALLOC, END, FORK, FREE, JOIN, WORK, Table, check, facts_line, serial_order
 from tables import damaged, drawn, table
+
+sys.path.insert(0, str(pathlib.Path(__file__).parent.parent / 'tools'))
+import parts
 
 LARGEST = 2**24 - 1
 
@@ -152,6 +157,43 @@ def maxturns_input(rng):
     return mostly_whole(rng, whole, whole[:8])
 
 
+def canontable_input(rng):
+    return tablecheck_input(rng) if rng.random() < 0.5 else run_table(rng)[0]
+
+
+def cmptables_input(rng):
+    """The length of the first and two tables: often one design under two numberings, now and then a damaged table, or another length in front."""
+    first = run_table(rng)[0]
+    second = designs.shuffled(rng, first) if rng.random() < 0.6 else run_table(rng)[0]
+    kept = rng.random()
+    if kept < 0.2:
+        second = damaged(rng, second)
+    elif kept < 0.35:
+        first = damaged(rng, first)
+    length = mostly(rng, len(first), 0, len(first) - 4, len(first) + 1, len(first) + len(second) + 1, 2**32 - 1)
+    whole = max(0, length).to_bytes(4, 'little') + first + second
+    return mostly_whole(rng, whole, whole[:4])
+
+
+def jointables_input(rng):
+    """Parts packed with their lengths: mostly few threads in each, now and then a damaged part, as many as pass a limit, lengths that do not add up, or only in 32 bits, another count."""
+    count = mostly(rng, rng.randint(1, 6), 0, 16, 16, 17)
+    tables = [run_table(rng)[0] for _ in range(count)]
+    if tables and rng.random() < 0.25:
+        i = rng.randrange(count)
+        tables[i] = mostly(rng, damaged(rng, tables[i]), b'', CHAIN, MOST)
+    whole = bytearray(parts.packed(tables))
+    if tables and rng.random() < 0.1:
+        at = 1 + 4 * rng.randrange(count)
+        length = int.from_bytes(whole[at:at + 4], 'little')
+        whole[at:at + 4] = (max(0, length + rng.choice([-4, -1, 1, 4, 2**31]))).to_bytes(4, 'little')
+    if count > 1 and rng.random() < 0.05:  # they add up to 2^32 and the bytes
+        whole[1:9] = b'\xff\xff\xff\xff' + (len(tables[0] + tables[1]) + 1).to_bytes(4, 'little')
+    if rng.random() < 0.05:
+        whole[:1] = bytes([rng.choice([0, 17, 255, (count + 1) % 256])])
+    return mostly_whole(rng, bytes(whole), bytes(whole[:1 + 4 * count]))
+
+
 def call_case(rng):
     return call_cases.record('case', *call_cases.random_case(rng))
 
@@ -263,6 +305,40 @@ def filling_traits(data, answer):
         yield 'above 1,000 threads'
 
 
+def form_traits(data, answer):
+    out, refused = answer
+    if refused:
+        yield 'refused ' + refused.decode().split()[1]
+        return
+    yield 'its own form' if out == data else 'under other numbers'
+    if Table(out).n > 300:
+        yield 'above 300 threads'
+
+
+def compared_traits(data, text):
+    words = text.split()
+    if words[0] == 'refused':
+        yield ' '.join(words[:2] + words[3:])
+        return
+    k = int.from_bytes(data[:4], 'little')
+    yield words[0] if words[0] != 'equal' or data[4:4 + k] == data[4 + k:] else 'equal under other numbers'
+
+
+def joined_traits(data, answer):
+    out, refused = answer
+    words = refused.decode().split()
+    if words:
+        yield ' '.join(words[:2])
+        if len(words) > 3:
+            yield 'in the first part' if words[4] == '0' else 'in a later part'
+        return
+    yield 'one part' if data[0] == 1 else 'parts'
+    if Table(out).n > 300:
+        yield 'above 300 threads'
+    if data[0] == 16:
+        yield 'sixteen'
+
+
 # Inputs at the ends of what there is: the longest listing, the most memory, the most threads nested and side by side.
 MOST = table([(ALLOC, LARGEST)] * 8191 + [(END, 0)])
 CHAIN = table(*[[(FORK, t + 1), (JOIN, t + 1), (END, 0)] for t in range(1023)], [(END, 0)])
@@ -280,6 +356,13 @@ FILLINGS = [filling.quoted(K, data) for K in (0, 1, LARGEST) for data in (MOST, 
 FILLINGS += [filling.quoted(1, table(body + [(ALLOC, x), (END, 0)])) for body in ([], WORKS, WORKS + [(WORK, 0)], WORKS + [(WORK, 0)] * 2) for x in (511, 512, 513, LARGEST)]
 TURNS = [bytes([p]) + data[:3] + b'\xff' * 4 + data[3:] for p in (1, 16) for data in FILLINGS]
 
+PAIRS = [len(x).to_bytes(4, 'little') + x + y for x in (MOST, CHAIN, FAN, MOST + b'\0', bytes(60000)) for y in (MOST, CHAIN, FAN, b'', bytes(60000))]
+LEAST = table([(END, 0)])
+NEARLY = table(*[[(FORK, t + 1), (JOIN, t + 1), (END, 0)] for t in range(1022)], [(END, 0)])  # joined, it has 1,024 threads
+ROWS = [table([(WORK, 0)] * k + [(END, 0)]) for k in (8188, 8189)]  # joined, they have 8,192 and 8,193 actions
+JOINS = [parts.packed(tables) for tables in ([], [LEAST] * 16, [LEAST] * 17, [NEARLY], [NEARLY, LEAST], *([row] for row in ROWS), [FAN] * 16, [MOST] * 16, [MOST] * 15 + [MOST + b'\0'])]
+JOINS += [b'', parts.packed([MOST] * 16) + bytes(9), bytes(600000), b'\xff' * 600000]
+
 TABLE = ['refused %d' % i for i in range(1, 12)]
 
 PROGRAMS = {
@@ -290,6 +373,11 @@ PROGRAMS = {
                  ['in place', 'filled out', 'above 100,000', 'refused 20', 'refused 21', 'refused 33', 'refused 44'] + TABLE),
     'filltable': (FILLINGS, filltable_input, filling.answer, filling_traits,
                   ['as it is', 'one tree', 'trees', 'not by rising action', 'above 1,000 threads', 'refused 3', 'refused 21', 'refused 33', 'refused 44']),
+    'canontable': ([MOST, CHAIN, FAN, bytes(70000)], canontable_input, designs.form_answer, form_traits, ['its own form', 'under other numbers', 'above 300 threads'] + TABLE),
+    'cmptables': (PAIRS, cmptables_input, lambda data: designs.compare_line(data) + '\n', compared_traits,
+                  ['before', 'equal', 'equal under other numbers', 'after', 'refused 33', 'refused 1 table 0', 'refused 1 table 1', 'refused 3 table 0', 'refused 3 table 1']),
+    'jointables': (JOINS, jointables_input, designs.join_answer, joined_traits,
+                   ['one part', 'parts', 'sixteen', 'above 300 threads', 'in the first part', 'in a later part', 'refused 47', 'refused 48', 'refused 1', 'refused 3', 'refused 6']),
     'turnlist': (LISTINGS, turnlist_input, machine.turnlist, listing_traits,
                  ['done', 'open', 'quota', 'wait', 'idle', 'premature', 'order left at the end', 'order of 0', 'order of 4096', 'worker 255',
                   'filled out', 'refused 20', 'refused 21', 'refused 30', 'refused 33', 'refused 44']),
@@ -328,7 +416,7 @@ def main():
     baseline = '--baseline' in sys.argv
     words = [word for word in sys.argv[1:] if word != '--baseline']
     count = int(words.pop(0)) if words and words[0].isdigit() else 3000
-    names = words or [name for name in PROGRAMS if not baseline or name not in ('maxquota', 'maxturns', 'filltable', 'wallchart', 'call_cases')]
+    names = words or [name for name in PROGRAMS if not baseline or name in ('tablecheck', 'turnlist', 'runrounds')]
     for name in names:
         for command in [['target/baseline', name], ['target/baseline_links', name]] if baseline else [['target/bin/' + name]]:
             compare(name, count, command)

@@ -1,89 +1,121 @@
-"""Holds the calls of libwivakkol_tables.a against designs.py on random and damaged tables: answers, rows, buffers, cleared working memory, and the stack that a call uses (under 8 KB).
+"""Holds the calls of libwivakkol_tables.a against designs.py, which was written on its own, on random and damaged tables: answers, rows, buffers, cleared working memory, and the stack that each
+call takes (under 8 KB). Holds the header against the source as well.
 
-Usage: tables_calls.py [COUNT]; wants target/staticlib/libwivakkol_tables.a (rt staticlib wivakkol_tables).
+usage: python3 tests/tables_calls.py [COUNT]
+    From the repository's top, after `rt staticlib wivakkol_tables`; COUNT calls (default 2,000); needs a C compiler, `cc`.
 """
-import pathlib
+import collections
+import os
 import random
 import struct
 import subprocess
 import sys
-import tempfile
 
-from designs import compare, form, joined
-from reference import END, WORK, ALLOC, FREE, FORK, JOIN
-from tables import drawn, table
+import board
+import stack
+from designs import compare, form, joined, shuffled
+from reference import check
+from tables import damaged, drawn
 
-ROOT = pathlib.Path(__file__).resolve().parent.parent
-BYTES, WORKING = 36868, 3 * 8192 + 3 * 2048
+ARCHIVE, OUT = 'target/staticlib/libwivakkol_tables.a', 'target/c'
+CALLS = {0: 'wivakkol_join', 1: 'wivakkol_canonical', 2: 'wivakkol_compare'}
+BYTES, WORKING, PAINT = 36868, 3 * 8192 + 3 * 2048, b'\x77'
+SAID = {'before': 1, 'equal': 2, 'after': 3}
+TABLE = set(range(12))
+NUMBERS = {0: TABLE | {47, 48}, 1: TABLE, 2: TABLE}
+Case = collections.namedtuple('Case', 'call input number row a b used')
+
+
+def header_is_source():
+    """Names, order, types, const and sizes of the exported calls are those of the source; the inline ones hand the working memory over by name."""
+    board.header_for_cpp('wivakkol_tables.h')
+    source, text = board.exported('wivakkol_tables'), board.header('wivakkol.h', 'wivakkol_tables.h')
+    others = board.prototypes_of(board.header())
+    prototypes = {name: declared for name, declared in board.prototypes_of(text).items() if name not in others}
+    assert prototypes == source, 'the header and the source differ: %s' % [(name, prototypes.get(name), source.get(name))
+                                                                          for name in {*prototypes, *source} if prototypes.get(name) != source.get(name)]
+    assert set(source) == {call + '_on' for call in CALLS.values()}
+    work = board.fields(text, 'tables_work')
+    for call in CALLS.values():
+        result, *parameters = source[call + '_on']
+        taken = {name: (kind, size) for name, kind, size in parameters}
+        assert all(taken.get(name, (kind, size)) == (kind, size) for name, kind, size in work), '%s_on: the working memory' % call
+        board.inline_on_table(text, call, result, parameters, {name: 'work->' + name for name, _, _ in work})
 
 
 def number(x):
     return x.to_bytes(4, 'little')
 
 
-def damaged(rng, data):
-    data = bytearray(data)
-    for _ in range(rng.randint(1, 3)):
-        choice = rng.random()
-        if data and choice < 0.8:
-            data[rng.randrange(len(data))] = rng.choice([0, 1, 2, 3, 4, 5, 6, 255, rng.randrange(256)])
-        elif choice < 0.9:
-            data += b'\0'
-        else:
-            del data[-1:]
-    return bytes(data)
-
-
-def some_table(rng):
-    threads = rng.choice([1, 1, 2, 3, 5, 9, 40, 300, 1024])
-    data = drawn(rng, threads, rng.choice([threads, 3 * threads, 8000]))
-    return damaged(rng, data) if rng.random() < 0.25 else data
-
-
 def over(front):
-    return front + b'\x77' * (BYTES - len(front))
+    """A painted buffer with a table at its start."""
+    return front + PAINT * (BYTES - len(front))
 
 
-def join_case(rng):
-    parts = [some_table(rng) if rng.random() < 0.3 else drawn(rng, rng.randint(1, 60), 120) for _ in range(rng.choice([0, 1, 2, 3, 16, 17]))]
-    lengths, data = [len(p) for p in parts], b''.join(parts)
-    if lengths and rng.random() < 0.1:
-        lengths[rng.randrange(len(lengths))] += rng.choice([1, -1, 2 ** 32 - 200000]) 
-        lengths = [max(0, k) % 2 ** 32 for k in lengths]
+def join_case(parts, lengths=None):
+    data, lengths = b''.join(parts), [len(part) for part in parts] if lengths is None else lengths
     answer = joined(data, lengths)
     if answer[0] == 'table':
         n, row, out = 0, [0, *answer[2][1:], 0], over(answer[1])
     else:
         n, row, out = answer[1], [answer[2], 0, 0, 0, 0, 0, answer[3] if len(answer) > 3 else 0], over(b'')
-    return number(0) + number(len(data)) + data + number(len(lengths)) + b''.join(map(number, lengths)), n, row, out, over(b''), 'rfpd'
+    return Case(0, number(len(data)) + data + number(len(lengths)) + b''.join(map(number, lengths)), n, row, out, over(b''), 'rfpd')
 
 
-def form_case(rng):
-    data = some_table(rng)
+def form_case(data):
     answer = form(data)
-    if answer[0] == 'form':
-        n, row, out = 0, [0, len(answer[1])], over(answer[1])
-    else:
-        n, row, out = answer[1], [answer[2], 0], over(b'')
-    return number(1) + number(len(data)) + data, n, row, out, over(b''), 'rfno'
+    n, row, out = (0, [0, len(answer[1])], over(answer[1])) if answer[0] == 'form' else (answer[1], [answer[2], 0], over(b''))
+    return Case(1, number(len(data)) + data, n, row, out, over(b''), 'rfno')
 
 
-def shuffled(rng, data):
-    """The same design under other numbers: children keep above their parents."""
-    answer = form(data)
-    return data if answer[0] == 'refused' else answer[1]
-
-
-def compare_case(rng):
-    first = some_table(rng)
-    second = shuffled(rng, first) if rng.random() < 0.5 else some_table(rng)
+def compare_case(first, second):
     answer = compare(first, second)
     if isinstance(answer, str):
-        n, row = 0, [0, {'before': 1, 'equal': 2, 'after': 3}[answer], 0]
-        a, b = over(form(first)[1]), over(form(second)[1])
+        n, row, a, b = 0, [0, SAID[answer], 0], over(form(first)[1]), over(form(second)[1])
     else:
         n, row, a, b = answer[1], [answer[2], 0, answer[3]], over(b''), over(b'')
-    return number(2) + number(len(first)) + first + number(len(second)) + second, n, row, a, b, 'rfno'
+    return Case(2, number(len(first)) + first + number(len(second)) + second, n, row, a, b, 'rfno')
+
+
+def some_table(rng):
+    threads = rng.choice([40, 300, 1024]) if rng.random() < 0.03 else rng.choice([1, 2, 2, 3, 5, 9])
+    data = drawn(rng, threads, 8000 if rng.random() < 0.02 else 5 * threads)
+    return damaged(rng, data) if rng.random() < 0.4 else data
+
+
+def drawn_parts(rng):
+    """Parts and their lengths, which now and then do not add up, or only in 32 bits."""
+    parts = [some_table(rng) if rng.random() < 0.5 else drawn(rng, rng.randint(1, 60), 120) for _ in range(rng.choice([0, 1, 1, 2, 2, 3, 3, 16, 17]))]
+    lengths = [len(part) for part in parts]
+    if lengths and rng.random() < 0.1:
+        i = rng.randrange(len(lengths))
+        lengths[i] = max(0, lengths[i] + rng.choice([1, -1, 2**32 - 200000]))
+        if len(lengths) > 1 and rng.random() < 0.5:
+            lengths = [len(parts[0]) + 1, 2**32 - 1, *map(len, parts[2:])]
+    return parts, lengths
+
+
+def drawn_pair(rng):
+    first = some_table(rng)
+    if rng.random() < 0.5 and check(first)[0] != 'refused':
+        second = shuffled(rng, first)
+        return first, damaged(rng, second) if rng.random() < 0.2 else second
+    return first, some_table(rng)
+
+
+def drawn_case(rng):
+    call = rng.randrange(3)
+    if call == 0:
+        return join_case(*drawn_parts(rng))
+    return form_case(some_table(rng)) if call == 1 else compare_case(*drawn_pair(rng))
+
+
+def ends():
+    """The most deeply nested and the widest table, no bytes at all and more than any table has."""
+    nested, fan = stack.nested(), stack.fan()
+    yield from map(form_case, (nested, fan, b'', bytes(60000)))
+    yield from (compare_case(x, y) for x in (nested, fan) for y in (nested, fan, b''))
+    yield from map(join_case, ([nested], [fan] * 16, [b''], [], [nested, b'\xff' * 60000]))
 
 
 def cleared(work, used):
@@ -91,27 +123,50 @@ def cleared(work, used):
     return all(work[at:at + k] == (bytes(k) if name in used else b'\x5a' * k) for name, (at, k) in parts.items())
 
 
+def build():
+    os.makedirs(OUT, exist_ok=True)
+    program = OUT + '/tables_test'
+    subprocess.run(['cc', '-std=c99', '-Wall', '-Wextra', '-Werror', '-pedantic', '-O2', '-Iinclude', '-o', program, 'tests/tables_calls.c', ARCHIVE], check=True)
+    return program
+
+
+def differs(case, got):
+    """What a call left that is not expected of it, if anything; and the stack that it took."""
+    answer, deep = struct.unpack('<II', got[:8])
+    row = list(struct.unpack('<7Q', got[8:64]))
+    found = {'the number': (answer, case.number), 'the row': (row, case.row + [9] * (7 - len(case.row)))}
+    places = {'the first buffer': (64, case.a), 'the second buffer': (64 + BYTES, case.b)}
+    found.update((what, (got[at:at + BYTES] == wanted, True)) for what, (at, wanted) in places.items())
+    found['the working memory'] = cleared(got[64 + 2 * BYTES:], case.used), True
+    return [(what, *pair) for what, pair in found.items() if pair[0] != pair[1]], deep
+
+
 def main():
-    rng = random.Random(12)
-    count = int(sys.argv[1]) if len(sys.argv) > 1 else 300
-    cases = [rng.choice([join_case, form_case, compare_case])(rng) for _ in range(count)]
-    with tempfile.TemporaryDirectory() as folder:
-        program = folder + '/calls'
-        subprocess.run(['cc', '-O2', '-I', ROOT / 'include', ROOT / 'tests/tables_calls.c', ROOT / 'target/staticlib/libwivakkol_tables.a', '-o', program], check=True)
-        got = subprocess.run([program], input=b''.join(c[0] for c in cases), stdout=subprocess.PIPE, check=True).stdout
-    size, deepest, kinds = 8 + 56 + 2 * BYTES + WORKING, 0, {}
-    assert len(got) == size * count, (len(got), size * count)
-    for i, (_, n, row, a, b, used) in enumerate(cases):
-        one = got[size * i:size * (i + 1)]
-        answer, deep = struct.unpack('<II', one[:8])
-        there = list(struct.unpack('<7Q', one[8:64]))
-        assert answer == n, (i, answer, n)
-        assert there == row + [9] * (7 - len(row)), (i, there, row)
-        assert one[64:64 + BYTES] == a and one[64 + BYTES:64 + 2 * BYTES] == b, i
-        assert cleared(one[64 + 2 * BYTES:], used), i
-        deepest, kinds[n] = max(deepest, deep), kinds.get(n, 0) + 1
-    assert deepest < 8192, deepest
-    print('%d calls agree; answers %s; deepest stack %d bytes' % (count, dict(sorted(kinds.items())), deepest))
+    count = int(sys.argv[1]) if len(sys.argv) > 1 else 2000
+    if not os.path.exists(ARCHIVE):
+        sys.exit('%s is not there: run `rt staticlib wivakkol_tables` first' % ARCHIVE)
+    header_is_source()
+    rng, size = random.Random(12), 8 + 56 + 2 * BYTES + WORKING
+    cases = list(ends())
+    cases += [drawn_case(rng) for _ in range(count - len(cases))]
+    deepest, numbers = collections.Counter(), {call: collections.Counter() for call in CALLS}
+    with subprocess.Popen([build()], stdin=subprocess.PIPE, stdout=subprocess.PIPE) as running:
+        for i, case in enumerate(cases):
+            running.stdin.write(number(case.call) + case.input)
+            running.stdin.flush()
+            got = running.stdout.read(size)
+            assert len(got) == size, 'call %d: no answer' % i
+            different, deep = differs(case, got)
+            assert not different, ('call %d' % i, CALLS[case.call], different)
+            deepest[case.call] = max(deepest[case.call], deep)
+            numbers[case.call][case.number] += 1
+        running.stdin.close()
+    assert running.returncode == 0
+    for call, name in CALLS.items():
+        missing = NUMBERS[call] - set(numbers[call])
+        assert not missing or count < 2000, '%s: not every number was reached, %s' % (name, sorted(missing))
+        print('%s: %d calls agree (by number: %s), most stack %d bytes' % (name, sum(numbers[call].values()), dict(sorted(numbers[call].items())), deepest[call]))
+        assert deepest[call] < board.STACK_MOST, '%s takes more stack than it may' % name
 
 
 if __name__ == '__main__':

@@ -1,5 +1,5 @@
-//! Links the archives `libwivakkol_turn.a` and `libwivakkol.a`, which `rt staticlib wivakkol_turn` and `rt staticlib wivakkol` write: from the folder that `WIVAKKOL_ARCHIVE` names, or else from the
-//! repository's own.
+//! Links the archives `libwivakkol_turn.a` and `libwivakkol.a`, which `rt staticlib wivakkol_turn` and `rt staticlib wivakkol` write, and with the feature `tables` also `libwivakkol_tables.a`: from the
+//! folder that `WIVAKKOL_ARCHIVE` names, or else from the repository's own.
 use std::path::{Path, PathBuf};
 use std::{env, process};
 
@@ -10,7 +10,11 @@ fn main() {
         Some(folder) => PathBuf::from(folder),
         None => Path::new(&here).join("../../target/staticlib"),
     };
-    for name in ["wivakkol_turn", "wivakkol"] {
+    let mut names = vec!["wivakkol_turn", "wivakkol"];
+    if env::var_os("CARGO_FEATURE_TABLES").is_some() {
+        names.push("wivakkol_tables");
+    }
+    for name in names {
         let archive = folder.join(format!("lib{name}.a"));
         let Ok(archive) = archive.canonicalize() else {
             eprintln!("{} is not there: `rt staticlib {name}` writes it, and WIVAKKOL_ARCHIVE may name its folder", archive.display());

@@ -6,3 +6,4 @@ pub mod Weighs
 pub mod OverParts
 pub mod JoinAnswers
 pub mod JoinedExactly
+pub mod JoinGiven

@@ -17,6 +17,7 @@ use Rattle.table.specs.Cases.{E, least, twoAllocs, overfreed}
 use Rattle.parts.specs.Joined.{bodiesFrom, offsets, forks, joinsBack, partBodies, joinedBodies, deepest}
 use Rattle.joining.specs.Joining.{joinedBytes, threadsIn, actionsIn, peakFrom, joinedFacts}
 use Rattle.joining.specs.Answers.{partsOf, sumOf, partsWrong, firstRefused, joined, JoinValues, joinValuesOf, refusedValues}
+use Rattle.joining.specs.Given.{lengthsTo, joinedGiven}
 
 -- the least table under a new root
 pub joined-least : joinedBytes (least ∷ [])
@@ -52,3 +53,27 @@ cases =
 pub worked : map (λ (c : Case). joinValuesOf (joined (c .lengths) (c .bytes))) cases ≡ map (λ (c : Case). c .values) cases
 unfolding cases joined firstRefused partsOf sumOf partsWrong threadsIn actionsIn peakFrom joinedFacts deepest factsOf kindOf codeOf is tableOf serialWithin fronts heldAfter peakOf S1 forkBelow forkOf beforeIt joinedEnd dependsOn levelWithin D nestWithin N sumTo sumOver greatest anyBelow tryAt tryFrom tryPass firstFound entryWrong totalWrong ownerBelow kindUnknown argumentWrong endMisplaced forkedBelow forkedBefore openBefore joinNotLatest endWithOpen neverForked allocOf freeOf wholeWithin balance balanceBelow0 passes greatestTo
 worked = refl
+
+-- ---- the input of `jointables`: count, lengths and tables
+
+pub record GivenCase : Type 0 where
+  pub input : List ℕ
+  pub values : JoinValues
+
+abbrev given : List ℕ → JoinValues → GivenCase
+given s v = record { input = s; values = v }
+
+-- the least table; E and a table that frees more than it has; no count; two parts with one length; two lengths with one table
+unfoldable pub givenCases : List GivenCase
+unfolding codeOf
+givenCases =
+    given (1 ∷ 12 ∷ 0 ∷ 0 ∷ 0 ∷ least) (whole 2 4 0 4 2)
+    ∷ given (2 ∷ 64 ∷ 0 ∷ 0 ∷ 0 ∷ 20 ∷ 0 ∷ 0 ∷ 0 ∷ E ++ overfreed) (refusedValues (record { number = 10; place = 1 }) 1)
+    ∷ given [] (refusedValues (record { number = 47; place = 0 }) 0)
+    ∷ given (2 ∷ 12 ∷ 0 ∷ 0 ∷ 0 ∷ []) (refusedValues (record { number = 47; place = 0 }) 0)
+    ∷ given (2 ∷ 12 ∷ 0 ∷ 0 ∷ 0 ∷ 12 ∷ 0 ∷ 0 ∷ 0 ∷ least) (refusedValues (record { number = 47; place = 0 }) 0)
+    ∷ []
+
+pub given-worked : map (λ (c : GivenCase). joinValuesOf (joinedGiven (c .input))) givenCases ≡ map (λ (c : GivenCase). c .values) givenCases
+unfolding givenCases lengthsTo joinedGiven joined firstRefused partsOf sumOf partsWrong threadsIn actionsIn peakFrom joinedFacts deepest factsOf kindOf codeOf is tableOf serialWithin fronts heldAfter peakOf S1 forkBelow forkOf beforeIt joinedEnd dependsOn levelWithin D nestWithin N sumTo sumOver greatest anyBelow tryAt tryFrom tryPass firstFound entryWrong totalWrong ownerBelow kindUnknown argumentWrong endMisplaced forkedBelow forkedBefore openBefore joinNotLatest endWithOpen neverForked allocOf freeOf wholeWithin balance balanceBelow0 passes greatestTo
+given-worked = refl

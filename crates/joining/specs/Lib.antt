@@ -1,4 +1,5 @@
 pub mod Joining
 pub mod Answers
+pub mod Given
 pub mod Cases
 pub mod Code

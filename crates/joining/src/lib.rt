@@ -1,4 +1,10 @@
 // Several designs as one table: a new root over the parts, and its facts from the parts alone.
+mod given;
+
+pub use given::join_given;
+pub use given::join_line;
+pub use given::joined_size;
+
 mod split;
 mod weights;
 mod write;

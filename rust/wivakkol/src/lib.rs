@@ -1,6 +1,6 @@
 //! AsyncDF for job tables: a scheduler whose memory is bounded beforehand, for every order in which its workers take their turns. The calls are proved; this crate calls them in the archives
-//! `libwivakkol_turn.a` and `libwivakkol.a`, which `rt staticlib wivakkol_turn` and `rt staticlib wivakkol` write, and gives their numbers types. It has no heap, no state and no dependencies. docs/REFERENCE.md
-//! of the repository says what a table is, what a turn does and which bounds hold.
+//! `libwivakkol_turn.a`, `libwivakkol.a` and `libwivakkol_tables.a`, which `rt staticlib wivakkol_turn`, `rt staticlib wivakkol` and `rt staticlib wivakkol_tables` write, and gives their numbers types. It has no heap, no state and no dependencies. docs/REFERENCE.md
+//! of the repository says what a table is, what a turn does and which bounds hold. Without the feature `tables`, which is on by default, [`join`], [`canonical`] and [`compare`] are left out, and the third archive is not needed.
 //!
 //! ```
 //! use wivakkol::{Memory, Report, Run, TablesWork, Work};
@@ -15,7 +15,7 @@
 //! ```
 //!
 //! What C has to keep to by itself is kept here by types: sizes, alignment, what overlaps what, one call at a time, and the same unchanged table for every call on a run. One thing is not: the
-//! stack. From C the calls behind [`check`], [`largest_quota`] and [`most_turns`] took up to 1,512 bytes of it, [`Run::begin`] 3,480, [`Run::open`] 6,136, [`Run::wall_line`] 6,440, a single turn 104, the others under 300. That the declarations fit the archives is tested and not proved.
+//! stack. From C the calls behind [`check`], [`largest_quota`] and [`most_turns`] took up to 1,512 bytes of it, [`Run::begin`] 3,672, [`Run::open`] 6,136, [`Run::wall_line`] 6,440, a single turn 112, the others under 310; [`canonical`] and [`compare`] up to 1,368, [`join`] up to 1,544. That the declarations fit the archives is tested and not proved.
 #![no_std]
 #![deny(unsafe_op_in_unsafe_fn)]
 
@@ -26,10 +26,14 @@ mod memory;
 mod raw;
 mod refusal;
 mod run;
+#[cfg(feature = "tables")]
+mod tables;
 
 pub use memory::{Memory, TablesWork, Work};
 pub use refusal::{Place, Refusal};
 pub use run::{Preview, Reply, Report, Run, Status, Stopped, Turn};
+#[cfg(feature = "tables")]
+pub use tables::{canonical, compare, join, RefusedJoin, RefusedTable};
 
 /// The longest table that is accepted, in bytes: 1,024 threads and 8,192 actions. A longer input may be handed over, and is refused.
 pub const TABLE_MOST: usize = 36868;

@@ -300,8 +300,8 @@ impl Default for Work {
     }
 }
 
-/// Working memory of [`check`](crate::check) and [`largest_quota`](crate::largest_quota): 30,720 bytes, all 0 between two calls. One serves any number of tables, one call at a time.
-#[allow(dead_code)] // no call uses the last two fields yet
+/// Working memory of the calls on tables, [`check`](crate::check) and the others: 30,720 bytes, all 0 between two calls. One serves any number of tables, one call at a time.
+#[cfg_attr(not(feature = "tables"), allow(dead_code))] // the last two fields are for whole tables
 #[repr(C)]
 pub struct TablesWork {
     pub(crate) rises: [u64; 1024],

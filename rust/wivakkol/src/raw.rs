@@ -1,4 +1,4 @@
-//! The exported functions as the archives have them. An array is a reference to one of its size, so that the types say what include/wivakkol.h asks of a row, a block
+//! The exported functions as the archives have them. An array is a reference to one of its size, so that the types say what include/wivakkol.h and wivakkol_tables.h ask of a row, a block
 //! or a part of one: it is not NULL, aligned, of the full size and written before, and what is lent to be written overlaps nothing else. tests/calls/declarations.rs holds them against the source.
 
 extern "C" {
@@ -25,15 +25,7 @@ extern "C" {
         depths: &mut [u16; 1024],
     ) -> u32;
 
-    pub fn wivakkol_most_on(
-        table: *const u8,
-        length: usize,
-        p: u32,
-        quota: u32,
-        row: &mut [u64; 2],
-        rises: &mut [u64; 1024],
-        falls: &mut [u64; 1024],
-    ) -> u32;
+    pub fn wivakkol_most_on(table: *const u8, length: usize, p: u32, quota: u32, row: &mut [u64; 2], rises: &mut [u64; 1024], falls: &mut [u64; 1024]) -> u32;
 
     pub fn wivakkol_begin_on(
         table: *const u8,
@@ -151,5 +143,46 @@ extern "C" {
         forks: &mut [u16; 1024],
         seen: &mut [u16; 1024],
         list: &mut [u16; 1024],
+    ) -> u32;
+}
+
+#[cfg(feature = "tables")]
+extern "C" {
+    pub fn wivakkol_join_on(
+        tables: *const u8,
+        length: usize,
+        lengths: *const u32,
+        parts: usize,
+        out: &mut [u8; 36868],
+        row: &mut [u64; 7],
+        rises: &mut [u64; 1024],
+        falls: &mut [u64; 1024],
+        peaks: &mut [u64; 1024],
+        depths: &mut [u16; 1024],
+    ) -> u32;
+
+    pub fn wivakkol_canonical_on(
+        table: *const u8,
+        length: usize,
+        out: &mut [u8; 36868],
+        row: &mut [u64; 2],
+        rises: &mut [u64; 1024],
+        falls: &mut [u64; 1024],
+        names: &mut [u16; 1024],
+        order: &mut [u16; 1024],
+    ) -> u32;
+
+    pub fn wivakkol_compare_on(
+        first: *const u8,
+        first_length: usize,
+        second: *const u8,
+        second_length: usize,
+        a: &mut [u8; 36868],
+        b: &mut [u8; 36868],
+        row: &mut [u64; 3],
+        rises: &mut [u64; 1024],
+        falls: &mut [u64; 1024],
+        names: &mut [u16; 1024],
+        order: &mut [u16; 1024],
     ) -> u32;
 }

@@ -59,6 +59,8 @@ impl Refusal {
             42 => "no quota from the largest alloc on keeps the bound within M",
             43 => "more than 999,999 turns are taken",
             44 => "the filled-out table would pass 1,024 threads or 8,192 actions",
+            47 => "no part, above 16, or lengths that do not add up to the bytes lent",
+            48 => "the joined table passes 1,024 threads or 8,192 actions",
             61 => "too little room for the filled-out table",
             _ => "no number of these calls",
         }

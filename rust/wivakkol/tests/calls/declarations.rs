@@ -25,6 +25,10 @@ fn as_pointers(parameters: &[String]) -> Vec<String> {
         "table: &[u8]" => pair("table: *const u8", "length"),
         "order: &[u8]" => pair("order: *const u8", "turns"),
         "filled: &mut [u8]" => pair("filled: *mut u8", "room"),
+        "first: &[u8]" => pair("first: *const u8", "first_length"),
+        "second: &[u8]" => pair("second: *const u8", "second_length"),
+        "tables: &[u8]" => pair("tables: *const u8", "length"),
+        "lengths: &[u32]" => pair("lengths: *const u32", "parts"),
         _ => vec![x.clone()],
     };
     parameters.iter().flat_map(as_pointer).collect()
@@ -33,7 +37,7 @@ fn as_pointers(parameters: &[String]) -> Vec<String> {
 #[test]
 fn calls_are_of_the_source() {
     let mut source = BTreeMap::new();
-    for name in ["wivakkol_turn", "wivakkol"] {
+    for name in ["wivakkol_turn", "wivakkol", "wivakkol_tables"] {
         for entry in fs::read_dir(format!("{HERE}/../../crates/{name}/src")).unwrap() {
             let text = fs::read_to_string(entry.unwrap().path()).unwrap();
             source.extend(functions(&text, "pub extern \"C\" fn "));
@@ -41,7 +45,7 @@ fn calls_are_of_the_source() {
     }
     let declared = functions(include_str!("../../src/raw.rs"), "pub fn ");
     assert_eq!(declared.len(), source.len());
-    assert_eq!(declared.len(), 10);
+    assert_eq!(declared.len(), 13);
     for (name, parameters) in declared {
         let exported = source.get(&name).unwrap_or_else(|| panic!("{name} is not exported"));
         assert_eq!(parameters, as_pointers(exported), "{name}");
@@ -64,6 +68,14 @@ fn handed(text: &str, call: &str) -> Vec<String> {
         "order.len()" => "turns".to_string(),
         "filled.as_mut_ptr()" => "filled".to_string(),
         "filled.len()" => "room".to_string(),
+        "first.as_ptr()" => "first".to_string(),
+        "first.len()" => "first_length".to_string(),
+        "second.as_ptr()" => "second".to_string(),
+        "second.len()" => "second_length".to_string(),
+        "tables.as_ptr()" => "tables".to_string(),
+        "tables.len()" => "length".to_string(),
+        "lengths.as_ptr()" => "lengths".to_string(),
+        "lengths.len()" => "parts".to_string(),
         "&mut work.parents" => "seen".to_string(),
         other => {
             let place = other.trim_start_matches("&mut ").trim_start_matches('&').trim_end_matches("()");
@@ -76,7 +88,7 @@ fn handed(text: &str, call: &str) -> Vec<String> {
 /// Every block, part and field is handed over where the call has a parameter of its name: neighbours of one type would change places unseen.
 #[test]
 fn memory_is_handed_by_name() {
-    let calling = concat!(include_str!("../../src/lib.rs"), include_str!("../../src/memory.rs"));
+    let calling = concat!(include_str!("../../src/lib.rs"), include_str!("../../src/memory.rs"), include_str!("../../src/tables.rs"));
     for (call, parameters) in functions(include_str!("../../src/raw.rs"), "pub fn ") {
         let mut names: Vec<&str> = parameters.iter().filter_map(|x| x.split_once(": ")).map(|(name, _)| name).collect();
         let given = handed(calling, &call);

@@ -1,5 +1,7 @@
 //! The crate's calls, compared with document 01's cases and with a machine written on its own; and its declarations, held against the source.
 mod cases;
 mod declarations;
+#[cfg(feature = "tables")]
+mod designs;
 mod model;
 mod random;

@@ -1,10 +1,10 @@
--- `jointables::within` meets its contract: each way out is at most the buffer's length.
+-- `design_cases::within` meets its contract: each way out is at most the buffer's length.
 use native.Mathlib.Omega.{arith}
 use denote.Ref.{now}
 use lib.ListN.{length}
 use Rattle.text.proofs.Placing.{counts}
-use Rattle.jointables.proofs.within.Statement.{statement}
-use Rattle.jointables.proofs.within.Tie as tie
+use Rattle.design_cases.proofs.within.Statement.{statement}
+use Rattle.design_cases.proofs.within.Tie as tie
 
 returns : tie.Need-returns
 returns c = counts (now (c .before .args .buffer)) (c .before .args .k) (c .if1 .taken)
