@@ -1,6 +1,7 @@
 //! AsyncDF for job tables: a scheduler whose memory is bounded beforehand, for every order in which its workers take their turns. The calls are proved; this crate calls them in the archives
-//! `libwivakkol_turn.a`, `libwivakkol.a` and `libwivakkol_tables.a`, which `rt staticlib wivakkol_turn`, `rt staticlib wivakkol` and `rt staticlib wivakkol_tables` write, and gives their numbers types. It has no heap, no state and no dependencies. docs/REFERENCE.md
-//! of the repository says what a table is, what a turn does and which bounds hold. Without the feature `tables`, which is on by default, [`join`], [`canonical`] and [`compare`] are left out, and the third archive is not needed.
+//! `libwivakkol_turn.a`, `libwivakkol.a`, `libwivakkol_tables.a` and `libwivakkol_marks.a`, which `rt staticlib wivakkol_turn` and so on write, and gives their numbers types. It has no heap, no
+//! state and no dependencies. docs/REFERENCE.md of the repository says what a table is, what a turn does and which bounds hold. The features `tables` and `marks` are on by default: without the
+//! first, [`join`], [`canonical`] and [`compare`] are left out, and the third archive is not needed; without the second, [`Marks`] and the fourth.
 //!
 //! ```
 //! use wivakkol::{Memory, Report, Run, TablesWork, Work};
@@ -22,6 +23,8 @@
 #[cfg(not(target_arch = "x86_64"))]
 compile_error!("the archive is built for x86-64 alone");
 
+#[cfg(feature = "marks")]
+mod marks;
 mod memory;
 mod raw;
 mod refusal;
@@ -29,9 +32,11 @@ mod run;
 #[cfg(feature = "tables")]
 mod tables;
 
+#[cfg(feature = "marks")]
+pub use marks::{Marks, MarksWork};
 pub use memory::{Memory, TablesWork, Work};
 pub use refusal::{Place, Refusal};
-pub use run::{Preview, Reply, Report, Run, Status, Stopped, Turn};
+pub use run::{Preview, RefusedMemory, Reply, Report, Run, Status, Stopped, Turn};
 #[cfg(feature = "tables")]
 pub use tables::{canonical, compare, join, RefusedJoin, RefusedTable};
 
