@@ -73,7 +73,6 @@ pub enum Status {
 }
 
 /// Memory in which no run was opened, handed back as it was, and why.
-#[derive(Clone, Copy)]
 pub struct RefusedMemory<M> {
     pub refusal: Refusal,
     pub memory: M,

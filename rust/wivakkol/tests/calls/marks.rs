@@ -52,6 +52,10 @@ fn worked_case() {
         assert_eq!(run.list(&order), Ok(Report::Spent { turns: 2 }));
         assert_eq!(totals(&run), (12, 12, 5));
     }
+    run.back(&marks, &mut work, 2).unwrap(); // an order that holds less: thread 1 frees its memory before thread 2 draws
+    assert_eq!((run.list(&[1, 1, 0]), totals(&run)), (Ok(Report::Spent { turns: 3 }), (6, 6, 6)));
+    run.back(&marks, &mut work, 2).unwrap();
+    run.list(&[1, 0]).unwrap();
     run.mark(&mut marks, &mut work, 2).unwrap(); // replaced
     assert_eq!(run.rounds(u32::MAX), Ok(Report::Finished { turns: 9 }));
     run.mark(&mut marks, &mut work, 7).unwrap();
