@@ -2,7 +2,8 @@
 use crate::{raw, Memory, Refusal, Work};
 
 /// The eight marks of a run, 0 to 7: each is unset or keeps all of the run but its table. 173,240 bytes of plain numbers, laid out as C's `wivakkol_marks`, too many for the stack of a small
-/// thread: a static or a box holds them. They serve one run, with its table, by [`Run::mark`](crate::Run::mark) and [`Run::back`](crate::Run::back); the other calls do not take them.
+/// thread: a static or a box holds them. They serve one run, with its table, by [`Run::mark`](crate::Run::mark) and [`Run::back`](crate::Run::back); the other calls do not take them,
+/// so that with another run come new marks, or [`clear`](Marks::clear).
 ///
 /// ```
 /// use wivakkol::{Marks, MarksWork, Memory, Run};
