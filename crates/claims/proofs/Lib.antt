@@ -1,6 +1,7 @@
 -- What a visitor is sent to, each from the functions' own promises: by value (ByValue) and from C (FromC, and from an opening on: Opened) a history of calls is document 01's, and both limits
 -- hold of it; a quota that is given serves (Board); one run in rounds needs no condition on its turns (Rounds); a limit of turns that is given serves (Turns).
 pub mod ByValue
+pub mod Marks
 pub mod FromC
 pub mod Opened
 pub mod Board
