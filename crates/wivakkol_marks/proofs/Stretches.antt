@@ -1,0 +1,107 @@
+-- The stretches of a block, one for each mark: a copy into the i-th leaves the others as they were, and one out of it is that stretch.
+use mathlib.Core.Path.{_≡_, refl, sym, ap, _∙_}
+use mathlib.Core.Logic.{_⊎_, inl, inr, _≢_}
+use Prim.Native.Nat.{ℕ, zero, suc, _+_, _*_, _≤_, _<_}
+use native.Mathlib.Nat.{mul-suc, mul-le-mul-left}
+use native.Mathlib.Omega.{arith}
+use native.Mathlib.Decide.{decLt}
+use mathlib.Core.List.{List, [], _∷_}
+use mathlib.Core.Bool.{Bool, true, false}
+use lib.ListN.{length, set, drop}
+use lib.Seq.{paste, take-all}
+use lib.Dec.{eqb}
+use borrow.Author.Tests.{eqb-true, eqb-false, eq-eqb, ne-eqb}
+use Rattle.table.specs.Sum.{pick}
+use Rattle.schedule.specs.declared.Worker.{Worker}
+use Rattle.run_memory.specs.Memory.{Memory}
+use Rattle.run_memory.specs.Blocks.{part, Bytes, Words, Numbers, Sums, gathered, memoryOf}
+use Rattle.run_memory.specs.Places.{manned, mannedWords, mannedNumbers}
+use Rattle.run_memory.specs.Stands.{workersFrom}
+use Rattle.run_memory.proofs.Copied.{paste-whole, part-paste, part-apart}
+use Rattle.wivakkol_marks.specs.LentMarks.{memoryAt, memoriesFrom, mended}
+
+-- a stretch of n ends where the next begins, or before
+pub stretch-end : (n : ℕ) {i j : ℕ} → i < j → n * i + n ≤ n * j
+stretch-end n {i} {j} h = rw (← (mul-suc n i)) (mul-le-mul-left n h)
+
+-- out of the i-th
+pub stretch-out : (n i : ℕ) (d l : List ℕ) → length d ≡ n → paste d 0 (drop (n * i) l) n ≡ part (n * i) n l
+unfolding part
+stretch-out n i d l z = paste-whole d (drop (n * i) l) n z
+
+-- into the i-th of eight
+module _ (n i : ℕ) (l x : List ℕ) (h : i < 8) (z : n * 8 ≤ length l) (y : length x ≡ n) where
+  room : n * i + n ≤ length l
+  room = omega (arith, stretch-end n h, z)
+
+  enough : n ≤ length x
+  enough = omega (arith, y)
+
+  stretch-other : (j : ℕ) → j ≢ i → part (n * j) n (paste l (n * i) x n) ≡ part (n * j) n l
+  stretch-other j d = part-apart l (n * i) x (n * j) n n room enough (sides (decLt j i))
+    where
+      sides : Dec (j < i) → (n * j + n ≤ n * i) ⊎ (n * i + n ≤ n * j)
+      sides (yes q) = inl (stretch-end n q)
+      sides (no q) = inr (stretch-end n (omega (arith, q, d)))
+
+  pub stretch-in : (j : ℕ) → part (n * j) n (paste l (n * i) x n) ≡ pick (eqb j i) x (part (n * j) n l)
+  stretch-in j = go (eqb j i) refl
+    where
+      go : (t : Bool) → eqb j i ≡ t → part (n * j) n (paste l (n * i) x n) ≡ pick t x (part (n * j) n l)
+      go true e = rw (eqb-true j i e) (part-paste l (n * i) x n room enough ∙ take-all n x (omega (arith, y)))
+      go false e = stretch-other j (eqb-false j i e)
+
+-- ---- the marks' memories, one of them anew
+
+memories-same : (f g : ℕ → Memory) (k n : ℕ) → ((j : ℕ) → k ≤ j → g j ≡ f j) → memoriesFrom g k n ≡ memoriesFrom f k n
+unfolding memoriesFrom
+memories-same f g k zero h = refl
+memories-same f g k (suc n) h =
+    let e : g k ≡ f k = h k (omega arith) in
+    let r : memoriesFrom g (suc k) n ≡ memoriesFrom f (suc k) n = memories-same f g (suc k) n (λ j l. h j (omega (arith, l))) in
+    λ i. e i ∷ r i
+
+pub memories-set : (f g : ℕ → Memory) (x : Memory) (k n d : ℕ) → ((j : ℕ) → g j ≡ pick (eqb j (k + d)) x (f j)) → memoriesFrom g k n ≡ set (memoriesFrom f k n) d x
+unfolding memoriesFrom
+memories-set f g x k zero d h = refl
+memories-set f g x k (suc n) zero h =
+    let e : g k ≡ x = h k ∙ rw (eq-eqb k (k + 0) (omega arith)) in
+    let r : memoriesFrom g (suc k) n ≡ memoriesFrom f (suc k) n = memories-same f g (suc k) n (λ j l. h j ∙ rw (ne-eqb j (k + 0) (λ q. omega (arith, q, l)))) in
+    λ i. e i ∷ r i
+memories-set f g x k (suc n) (suc d) h =
+    let e : g k ≡ f k = h k ∙ rw (ne-eqb k (k + suc d) (λ q. omega (arith, q))) in
+    let p : k + suc d ≡ suc k + d = omega arith in
+    let r : memoriesFrom g (suc k) n ≡ set (memoriesFrom f (suc k) n) d x = memories-set f g x (suc k) n d (λ j. h j ∙ ap (λ (m : ℕ). pick (eqb j m) x (f j)) p) in
+    λ i. e i ∷ r i
+
+module _ (i : ℕ) (h : i < 8) {bytes words numbers sums b w n s : List ℕ} (yb : length bytes ≡ 1040) (yw : length words ≡ 6163) (yn : length numbers ≡ 18) (ys : length sums ≡ 1027)
+  (zb : length b ≡ 8320) (zw : length w ≡ 49304) (zn : length n ≡ 144) (zs : length s ≡ 8216) where
+  abbrev after : ℕ → Memory
+  after = memoryAt (paste b (1040 * i) bytes 1040) (paste w (6163 * i) words 6163) (paste n (18 * i) numbers 18) (paste s (1027 * i) sums 1027)
+
+  at : (j : ℕ) → after j ≡ pick (eqb j i) (memoryOf bytes words numbers sums) (memoryAt b w n s j)
+  at j =
+      let eb = stretch-in 1040 i b bytes h (omega (arith, zb)) yb j in
+      let ew = stretch-in 6163 i w words h (omega (arith, zw)) yw j in
+      let en = stretch-in 18 i n numbers h (omega (arith, zn)) yn j in
+      let es = stretch-in 1027 i s sums h (omega (arith, zs)) ys j in
+      (λ k. memoryOf (eb k) (ew k) (en k) (es k)) ∙ go (eqb j i)
+    where
+      go : (t : Bool)
+          → memoryOf (pick t bytes (part (1040 * j) 1040 b)) (pick t words (part (6163 * j) 6163 w)) (pick t numbers (part (18 * j) 18 n)) (pick t sums (part (1027 * j) 1027 s))
+          ≡ pick t (memoryOf bytes words numbers sums) (memoryAt b w n s j)
+      go true = refl
+      go false = refl
+
+  pub stored-in : memoriesFrom after 0 8 ≡ set (memoriesFrom (memoryAt b w n s) 0 8) i (memoryOf bytes words numbers sums)
+  stored-in =
+      let z : i ≡ 0 + i = omega arith in
+      memories-set (memoryAt b w n s) after (memoryOf bytes words numbers sums) 0 8 i
+      (λ j. at j ∙ ap (λ (m : ℕ). pick (eqb j m) (memoryOf bytes words numbers sums) (memoryAt b w n s j)) z)
+
+-- ---- the workers' records, written anew
+
+pub mends : (B : Bytes) (W : Words) (N : Numbers) (S : Sums) {ws : List Worker} {B' : Bytes} {W' : Words} {N' : Numbers} → ws ≡ workersFrom (B .holds) (W .threads) (N .quotas) 0 16
+    → B' ≡ manned ws B → W' ≡ mannedWords ws W → N' ≡ mannedNumbers ws N → gathered B' W' N' S ≡ mended (gathered B W N S)
+mends B W N S {ws} e b w n =
+    (λ i. gathered (b i) (w i) (n i) S) ∙ ap (λ (l : List Worker). gathered (manned l B) (mannedWords l W) (mannedNumbers l N) S) e

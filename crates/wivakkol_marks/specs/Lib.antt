@@ -1,0 +1,2 @@
+pub mod LentMarks
+pub mod Code
