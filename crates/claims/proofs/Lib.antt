@@ -10,6 +10,8 @@ pub mod Turns
 -- what they rest on: what the promises from C say (LentSays), lists of calls on lent memory are those on the record (LentLimit, Blank), and what stands in blocks (Shaped, Sizes)
 pub mod LentSays
 pub mod LentLimit
+pub mod LentMarks
+pub mod LentMarked
 pub mod Blank
 pub mod Shaped
 pub mod Sizes

@@ -2,3 +2,5 @@ pub mod LentCalls
 pub mod Answers
 pub mod Records
 pub mod MarkAnswers
+pub mod LentMarks
+pub mod LentMarkCalls

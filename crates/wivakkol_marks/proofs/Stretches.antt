@@ -75,7 +75,7 @@ memories-set f g x k (suc n) (suc d) h =
     λ i. e i ∷ r i
 
 module _ (i : ℕ) (h : i < 8) {bytes words numbers sums b w n s : List ℕ} (yb : length bytes ≡ 1040) (yw : length words ≡ 6163) (yn : length numbers ≡ 18) (ys : length sums ≡ 1027)
-  (zb : length b ≡ 8320) (zw : length w ≡ 49304) (zn : length n ≡ 144) (zs : length s ≡ 8216) where
+    (zb : length b ≡ 8320) (zw : length w ≡ 49304) (zn : length n ≡ 144) (zs : length s ≡ 8216) where
   abbrev after : ℕ → Memory
   after = memoryAt (paste b (1040 * i) bytes 1040) (paste w (6163 * i) words 6163) (paste n (18 * i) numbers 18) (paste s (1027 * i) sums 1027)
 

@@ -58,7 +58,12 @@ fn copy_sums(from: &[u64], start: usize, to: &mut [u64], at: usize, n: usize)
 }
 
 // The workers' records written as a call writes them.
-fn mend(bytes: &mut [u8; 1040], words: &mut [u16; 6163], numbers: &mut [u32; 18], sums: &[u64; 1027])
+fn mend(
+    bytes: &mut [u8; 1040],
+    words: &mut [u16; 6163],
+    numbers: &mut [u32; 18],
+    sums: &[u64; 1027],
+)
     ensures { λ _. ⌜ memoryOf (now (bytes .exit)) (now (words .exit)) (now (numbers .exit)) (now (sums .entry))
         ≡ mended (memoryOf (now (bytes .entry)) (now (words .entry)) (now (numbers .entry)) (now (sums .entry))) ⌝ }
 {

@@ -57,8 +57,21 @@ fn fit_mark(
         sums,
     );
     fit(
-        table, &*bytes, &*words, &*numbers, &*sums, next, status, amounts, left, right, rises,
-        falls, forks, seen, list,
+        table,
+        &*bytes,
+        &*words,
+        &*numbers,
+        &*sums,
+        next,
+        status,
+        amounts,
+        left,
+        right,
+        rises,
+        falls,
+        forks,
+        seen,
+        list,
     )
 }
 

@@ -197,14 +197,35 @@ fn standing_in(
 {
     lay_out(bytes, words, sums, next, status, amounts, left, right);
     let sound = sound_on(
-        table, bytes, words, numbers, sums, &*next, &*status, &*amounts, &*left, &*right, rises,
-        falls, forks, seen, list,
+        table,
+        bytes,
+        words,
+        numbers,
+        sums,
+        &*next,
+        &*status,
+        &*amounts,
+        &*left,
+        &*right,
+        rises,
+        falls,
+        forks,
+        seen,
+        list,
     );
     if sound {
         return SOUND;
     }
     let blank = blank_on(
-        bytes, words, numbers, sums, &*next, &*status, &*amounts, &*left, &*right,
+        bytes,
+        words,
+        numbers,
+        sums,
+        &*next,
+        &*status,
+        &*amounts,
+        &*left,
+        &*right,
     );
     if blank {
         return BLANK;
@@ -233,8 +254,21 @@ pub(crate) fn fit(
     ensures { λ r. ⌜ r ≡ fitIn (now (table .entry)) (memoryOf (now (bytes .entry)) (now (words .entry)) (now (numbers .entry)) (now (sums .entry))) ⌝ }
 {
     let found = standing_in(
-        table, bytes, words, numbers, sums, next, status, amounts, left, right, rises, falls,
-        forks, seen, list,
+        table,
+        bytes,
+        words,
+        numbers,
+        sums,
+        next,
+        status,
+        amounts,
+        left,
+        right,
+        rises,
+        falls,
+        forks,
+        seen,
+        list,
     );
     found != NEITHER
 }
@@ -277,8 +311,21 @@ pub(crate) fn reopen(
         ≡ lentOpen (now (table .entry)) (memoryOf (now (bytes .entry)) (now (words .entry)) (now (numbers .entry)) (now (sums .entry))) .memory ⌝ }
 {
     let found = standing_in(
-        table, bytes, &*words, numbers, sums, next, status, amounts, left, right, rises, falls,
-        forks, seen, list,
+        table,
+        bytes,
+        &*words,
+        numbers,
+        sums,
+        next,
+        status,
+        amounts,
+        left,
+        right,
+        rises,
+        falls,
+        forks,
+        seen,
+        list,
     );
     if found == SOUND {
         let leftmost = head_at(&*words, LEFTMOST);
