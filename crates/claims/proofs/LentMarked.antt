@@ -41,8 +41,8 @@ use Rattle.marks.specs.Marks.{setting as marking}
 use Rattle.marks.specs.Marks.{going as returning}
 use Rattle.marks.proofs.Marked.{Follows, mark-follows, unmarked-follows}
 use Rattle.marks.proofs.Turns.{turns-led-to}
-use Rattle.claims.specs.LentMarks.{Marks, isSetIn, markIn, fitIn, fitMarks, fitMarked, backFault, lentMark, lentBack, lentUnmark}
-use Rattle.claims.specs.LentMarks.{going as goingAs}
+use Rattle.wivakkol_marks.specs.LentMarks.{Marks, isSetIn, markIn, fitIn, fitMarks, fitMarked, backFault, lentMark, lentBack, lentUnmark}
+use Rattle.wivakkol_marks.specs.LentMarks.{going as goingAs}
 use Rattle.claims.specs.Records.{recordIn}
 use Rattle.claims.specs.LentCalls.{moving, opening, returned, lentMove, lentCall, lentRowOf}
 use Rattle.claims.specs.Answers.{answerOf, inNumbers}

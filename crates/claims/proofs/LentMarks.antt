@@ -25,9 +25,9 @@ use Rattle.wivakkol.specs.Lent.{blankMemory}
 use Rattle.wivakkol.specs.Opened.{soundIn, blankIn, openedAs, lentOpen}
 use Rattle.wivakkol.proofs.Opens.{tested-same, open-record}
 use Rattle.marks.specs.Marks.{Mark, unset, kept, Marked, marked, markOf, isSet, badMark, badMarked, setChecks, backChecks, setValues, backValues, runAt, setAs, backAs}
-use Rattle.claims.specs.LentMarks.{Marks, marks, mended, isSetIn, markIn, fitIn, fitMarks, fitMarked, markFault, backFault, lentMark, lentBack}
-use Rattle.claims.specs.LentMarks.{setting as settingAs}
-use Rattle.claims.specs.LentMarks.{going as goingAs}
+use Rattle.wivakkol_marks.specs.LentMarks.{Marks, marks, mended, isSetIn, markIn, fitIn, fitMarks, fitMarked, markFault, backFault, lentMark, lentBack}
+use Rattle.wivakkol_marks.specs.LentMarks.{setting as settingAs}
+use Rattle.wivakkol_marks.specs.LentMarks.{going as goingAs}
 use Rattle.claims.specs.Records.{recordIn}
 use Rattle.claims.specs.LentMarkCalls.{marksFrom, keptIn, marksIn, markedIn}
 use Rattle.claims.proofs.Blank.{blank-tested}

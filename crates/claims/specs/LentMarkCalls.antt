@@ -8,7 +8,7 @@ use Rattle.marks.specs.Marks.{Mark, unset, kept, maxMarks, Marked, marked, setV
 use Rattle.marks.specs.Marks.{moving as onRun}
 use Rattle.marks.specs.Marks.{setting as marking}
 use Rattle.marks.specs.Marks.{going as returning}
-use Rattle.claims.specs.LentMarks.{Marks, isSetIn, markIn, lentMark, lentBack}
+use Rattle.wivakkol_marks.specs.LentMarks.{Marks, isSetIn, markIn, lentMark, lentBack}
 use Rattle.claims.specs.Records.{recordIn}
 use Rattle.claims.specs.LentCalls.{LentCall, moving, opening, Returned, returned, lentCall, lentRowOf}
 use Rattle.claims.specs.Answers.{answerOf, inNumbers}

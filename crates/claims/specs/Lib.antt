@@ -2,5 +2,4 @@ pub mod LentCalls
 pub mod Answers
 pub mod Records
 pub mod MarkAnswers
-pub mod LentMarks
 pub mod LentMarkCalls

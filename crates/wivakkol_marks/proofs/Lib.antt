@@ -1,2 +1,4 @@
 -- What the proofs of the code use.
 mod Stretches
+mod Fits
+mod Marking

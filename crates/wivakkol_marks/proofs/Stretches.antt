@@ -74,7 +74,7 @@ memories-set f g x k (suc n) (suc d) h =
     let r : memoriesFrom g (suc k) n ≡ set (memoriesFrom f (suc k) n) d x = memories-set f g x (suc k) n d (λ j. h j ∙ ap (λ (m : ℕ). pick (eqb j m) x (f j)) p) in
     λ i. e i ∷ r i
 
-module _ (i : ℕ) (h : i < 8) {bytes words numbers sums b w n s : List ℕ} (yb : length bytes ≡ 1040) (yw : length words ≡ 6163) (yn : length numbers ≡ 18) (ys : length sums ≡ 1027)
+module _ (i : ℕ) (h : i < 8) (bytes words numbers sums b w n s : List ℕ) (yb : length bytes ≡ 1040) (yw : length words ≡ 6163) (yn : length numbers ≡ 18) (ys : length sums ≡ 1027)
     (zb : length b ≡ 8320) (zw : length w ≡ 49304) (zn : length n ≡ 144) (zs : length s ≡ 8216) where
   abbrev after : ℕ → Memory
   after = memoryAt (paste b (1040 * i) bytes 1040) (paste w (6163 * i) words 6163) (paste n (18 * i) numbers 18) (paste s (1027 * i) sums 1027)
@@ -98,6 +98,14 @@ module _ (i : ℕ) (h : i < 8) {bytes words numbers sums b w n s : List ℕ} (yb
       let z : i ≡ 0 + i = omega arith in
       memories-set (memoryAt b w n s) after (memoryOf bytes words numbers sums) 0 8 i
       (λ j. at j ∙ ap (λ (m : ℕ). pick (eqb j m) (memoryOf bytes words numbers sums) (memoryAt b w n s j)) z)
+
+  pub stores : {b' w' n' s' : List ℕ} → b' ≡ paste b (1040 * i) (drop 0 bytes) 1040 → w' ≡ paste w (6163 * i) (drop 0 words) 6163 → n' ≡ paste n (18 * i) (drop 0 numbers) 18
+      → s' ≡ paste s (1027 * i) (drop 0 sums) 1027 → memoriesFrom (memoryAt b' w' n' s') 0 8 ≡ set (memoriesFrom (memoryAt b w n s) 0 8) i (memoryOf bytes words numbers sums)
+  stores eb ew en es = (λ k. memoriesFrom (memoryAt (eb k) (ew k) (en k) (es k)) 0 8) ∙ stored-in
+
+pub loads : (i : ℕ) (b w n s : List ℕ) {b' w' n' s' : List ℕ} → b' ≡ part (1040 * i) 1040 b → w' ≡ part (6163 * i) 6163 w → n' ≡ part (18 * i) 18 n → s' ≡ part (1027 * i) 1027 s → {M : Memory}
+    → M ≡ mended (memoryOf b' w' n' s') → M ≡ mended (memoryAt b w n s i)
+loads i b w n s eb ew en es e = e ∙ (λ k. mended (memoryOf (eb k) (ew k) (en k) (es k)))
 
 -- ---- the workers' records, written anew
 

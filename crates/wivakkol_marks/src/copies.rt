@@ -74,10 +74,10 @@ fn mend(
 // Mark i as it is read, into the blocks of a run.
 pub(crate) fn load(
     i: usize,
-    mark_bytes: &[u8; 8320],
-    mark_words: &[u16; 49304],
-    mark_numbers: &[u32; 144],
-    mark_sums: &[u64; 8216],
+    markbytes: &[u8; 8320],
+    markwords: &[u16; 49304],
+    marknumbers: &[u32; 144],
+    marksums: &[u64; 8216],
     bytes: &mut [u8; 1040],
     words: &mut [u16; 6163],
     numbers: &mut [u32; 18],
@@ -85,12 +85,12 @@ pub(crate) fn load(
 )
     requires { ⌜ i < 8 ⌝ }
     ensures { λ _. ⌜ memoryOf (now (bytes .exit)) (now (words .exit)) (now (numbers .exit)) (now (sums .exit))
-        ≡ mended (memoryAt (now (mark_bytes .entry)) (now (mark_words .entry)) (now (mark_numbers .entry)) (now (mark_sums .entry)) i) ⌝ }
+        ≡ mended (memoryAt (now (markbytes .entry)) (now (markwords .entry)) (now (marknumbers .entry)) (now (marksums .entry)) i) ⌝ }
 {
-    copy_bytes(mark_bytes, 1040 * i, bytes, 0, 1040);
-    copy_words(mark_words, 6163 * i, words, 0, 6163);
-    copy_numbers(mark_numbers, 18 * i, numbers, 0, 18);
-    copy_sums(mark_sums, 1027 * i, sums, 0, 1027);
+    copy_bytes(markbytes, 1040 * i, bytes, 0, 1040);
+    copy_words(markwords, 6163 * i, words, 0, 6163);
+    copy_numbers(marknumbers, 18 * i, numbers, 0, 18);
+    copy_sums(marksums, 1027 * i, sums, 0, 1027);
     mend(bytes, words, numbers, &*sums);
 }
 
@@ -101,18 +101,18 @@ pub(crate) fn store(
     words: &[u16; 6163],
     numbers: &[u32; 18],
     sums: &[u64; 1027],
-    mark_bytes: &mut [u8; 8320],
-    mark_words: &mut [u16; 49304],
-    mark_numbers: &mut [u32; 144],
-    mark_sums: &mut [u64; 8216],
+    markbytes: &mut [u8; 8320],
+    markwords: &mut [u16; 49304],
+    marknumbers: &mut [u32; 144],
+    marksums: &mut [u64; 8216],
 )
     requires { ⌜ i < 8 ⌝ }
-    ensures { λ _. ⌜ memoriesFrom (memoryAt (now (mark_bytes .exit)) (now (mark_words .exit)) (now (mark_numbers .exit)) (now (mark_sums .exit))) 0 8
-        ≡ set (memoriesFrom (memoryAt (now (mark_bytes .entry)) (now (mark_words .entry)) (now (mark_numbers .entry)) (now (mark_sums .entry))) 0 8) i
+    ensures { λ _. ⌜ memoriesFrom (memoryAt (now (markbytes .exit)) (now (markwords .exit)) (now (marknumbers .exit)) (now (marksums .exit))) 0 8
+        ≡ set (memoriesFrom (memoryAt (now (markbytes .entry)) (now (markwords .entry)) (now (marknumbers .entry)) (now (marksums .entry))) 0 8) i
         (memoryOf (now (bytes .entry)) (now (words .entry)) (now (numbers .entry)) (now (sums .entry))) ⌝ }
 {
-    copy_bytes(bytes, 0, mark_bytes, 1040 * i, 1040);
-    copy_words(words, 0, mark_words, 6163 * i, 6163);
-    copy_numbers(numbers, 0, mark_numbers, 18 * i, 18);
-    copy_sums(sums, 0, mark_sums, 1027 * i, 1027);
+    copy_bytes(bytes, 0, markbytes, 1040 * i, 1040);
+    copy_words(words, 0, markwords, 6163 * i, 6163);
+    copy_numbers(numbers, 0, marknumbers, 18 * i, 18);
+    copy_sums(sums, 0, marksums, 1027 * i, 1027);
 }

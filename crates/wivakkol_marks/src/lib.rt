@@ -14,15 +14,24 @@ ghost use Rattle.wivakkol_marks.specs.LentMarks.{marksOf, isSetIn, markI
 mod copies;
 mod standing;
 
+// "record not sound and not blank", of the run or of a set mark
+const UNSOUND: u32 = 32;
+
+// a mark above 7
+const NO_MARK: u32 = 45;
+
+// a mark that is not set
+const NOT_SET: u32 = 46;
+
 // 32 does not apply to mark i, or it is not set.
 fn fit_mark(
     i: usize,
     table: &[u8],
     set: &[u8; 8],
-    mark_bytes: &[u8; 8320],
-    mark_words: &[u16; 49304],
-    mark_numbers: &[u32; 144],
-    mark_sums: &[u64; 8216],
+    markbytes: &[u8; 8320],
+    markwords: &[u16; 49304],
+    marknumbers: &[u32; 144],
+    marksums: &[u64; 8216],
     bytes: &mut [u8; 1040],
     words: &mut [u16; 6163],
     numbers: &mut [u32; 18],
@@ -39,18 +48,18 @@ fn fit_mark(
     list: &mut [u16; 1024],
 ) -> bool
     requires { ⌜ i < 8 ⌝ }
-    ensures { λ r. ⌜ r ≡ (not (isSetIn (marksOf (now (set .entry)) (now (mark_bytes .entry)) (now (mark_words .entry)) (now (mark_numbers .entry)) (now (mark_sums .entry))) i)
-        || fitIn (now (table .entry)) (markIn (marksOf (now (set .entry)) (now (mark_bytes .entry)) (now (mark_words .entry)) (now (mark_numbers .entry)) (now (mark_sums .entry))) i)) ⌝ }
+    ensures { λ r. ⌜ r ≡ (not (isSetIn (marksOf (now (set .entry)) (now (markbytes .entry)) (now (markwords .entry)) (now (marknumbers .entry)) (now (marksums .entry))) i)
+        || fitIn (now (table .entry)) (markIn (marksOf (now (set .entry)) (now (markbytes .entry)) (now (markwords .entry)) (now (marknumbers .entry)) (now (marksums .entry))) i)) ⌝ }
 {
     if set[i] == 0 {
         return true;
     }
     load(
         i,
-        mark_bytes,
-        mark_words,
-        mark_numbers,
-        mark_sums,
+        markbytes,
+        markwords,
+        marknumbers,
+        marksums,
         bytes,
         words,
         numbers,
@@ -79,10 +88,10 @@ fn fit_mark(
 fn fit_marks(
     table: &[u8],
     set: &[u8; 8],
-    mark_bytes: &[u8; 8320],
-    mark_words: &[u16; 49304],
-    mark_numbers: &[u32; 144],
-    mark_sums: &[u64; 8216],
+    markbytes: &[u8; 8320],
+    markwords: &[u16; 49304],
+    marknumbers: &[u32; 144],
+    marksums: &[u64; 8216],
     bytes: &mut [u8; 1040],
     words: &mut [u16; 6163],
     numbers: &mut [u32; 18],
@@ -98,7 +107,7 @@ fn fit_marks(
     seen: &mut [u16; 1024],
     list: &mut [u16; 1024],
 ) -> bool
-    ensures { λ r. ⌜ r ≡ fitMarks (now (table .entry)) (marksOf (now (set .entry)) (now (mark_bytes .entry)) (now (mark_words .entry)) (now (mark_numbers .entry)) (now (mark_sums .entry))) ⌝ }
+    ensures { λ r. ⌜ r ≡ fitMarks (now (table .entry)) (marksOf (now (set .entry)) (now (markbytes .entry)) (now (markwords .entry)) (now (marknumbers .entry)) (now (marksums .entry))) ⌝ }
 {
     let mut i = 0;
     while i < 8 {
@@ -106,10 +115,10 @@ fn fit_marks(
             i,
             table,
             set,
-            mark_bytes,
-            mark_words,
-            mark_numbers,
-            mark_sums,
+            markbytes,
+            markwords,
+            marknumbers,
+            marksums,
             bytes,
             words,
             numbers,
@@ -131,6 +140,443 @@ fn fit_marks(
         i += 1;
     }
     true
+}
+
+// 32 applies neither to the run nor to a set mark.
+fn fit_marked(
+    table: &[u8],
+    bytes: &[u8; 1040],
+    words: &[u16; 6163],
+    numbers: &[u32; 18],
+    sums: &[u64; 1027],
+    set: &[u8; 8],
+    markbytes: &[u8; 8320],
+    markwords: &[u16; 49304],
+    marknumbers: &[u32; 144],
+    marksums: &[u64; 8216],
+    sparebytes: &mut [u8; 1040],
+    sparewords: &mut [u16; 6163],
+    sparenumbers: &mut [u32; 18],
+    sparesums: &mut [u64; 1027],
+    next: &mut [u16; 1024],
+    status: &mut [u8; 1024],
+    amounts: &mut [u64; 1024],
+    left: &mut [u16; 1024],
+    right: &mut [u16; 1024],
+    rises: &mut [u64; 1024],
+    falls: &mut [u64; 1024],
+    forks: &mut [u16; 1024],
+    seen: &mut [u16; 1024],
+    list: &mut [u16; 1024],
+) -> bool
+    ensures { λ r. ⌜ r ≡ fitMarked (now (table .entry)) (memoryOf (now (bytes .entry)) (now (words .entry)) (now (numbers .entry)) (now (sums .entry))) (marksOf (now (set .entry)) (now (markbytes .entry)) (now (markwords .entry)) (now (marknumbers .entry)) (now (marksums .entry))) ⌝ }
+{
+    let fits = fit(
+        table,
+        bytes,
+        words,
+        numbers,
+        sums,
+        next,
+        status,
+        amounts,
+        left,
+        right,
+        rises,
+        falls,
+        forks,
+        seen,
+        list,
+    );
+    if !fits {
+        return false;
+    }
+    fit_marks(
+        table,
+        set,
+        markbytes,
+        markwords,
+        marknumbers,
+        marksums,
+        sparebytes,
+        sparewords,
+        sparenumbers,
+        sparesums,
+        next,
+        status,
+        amounts,
+        left,
+        right,
+        rises,
+        falls,
+        forks,
+        seen,
+        list,
+    )
+}
+
+// The working memory is cleared.
+fn clear(
+    sparebytes: &mut [u8; 1040],
+    sparewords: &mut [u16; 6163],
+    sparenumbers: &mut [u32; 18],
+    sparesums: &mut [u64; 1027],
+    next: &mut [u16; 1024],
+    status: &mut [u8; 1024],
+    amounts: &mut [u64; 1024],
+    left: &mut [u16; 1024],
+    right: &mut [u16; 1024],
+    rises: &mut [u64; 1024],
+    falls: &mut [u64; 1024],
+    forks: &mut [u16; 1024],
+    seen: &mut [u16; 1024],
+    list: &mut [u16; 1024],
+)
+    ensures { λ _. ⌜ Cleared (now (sparebytes .exit)) (now (sparewords .exit)) (now (sparenumbers .exit)) (now (sparesums .exit)) (now (next .exit)) (now (status .exit)) (now (amounts .exit)) (now (left .exit)) (now (right .exit)) (now (rises .exit)) (now (falls .exit)) (now (forks .exit)) (now (seen .exit)) (now (list .exit)) ⌝ }
+{
+    *sparebytes = [0; 1040];
+    *sparewords = [0; 6163];
+    *sparenumbers = [0; 18];
+    *sparesums = [0; 1027];
+    *next = [0; 1024];
+    *status = [0; 1024];
+    *amounts = [0; 1024];
+    *left = [0; 1024];
+    *right = [0; 1024];
+    *rises = [0; 1024];
+    *falls = [0; 1024];
+    *forks = [0; 1024];
+    *seen = [0; 1024];
+    *list = [0; 1024];
+}
+
+fn set_mark(
+    table: &[u8],
+    i: u32,
+    bytes: &[u8; 1040],
+    words: &[u16; 6163],
+    numbers: &[u32; 18],
+    sums: &[u64; 1027],
+    set: &mut [u8; 8],
+    markbytes: &mut [u8; 8320],
+    markwords: &mut [u16; 49304],
+    marknumbers: &mut [u32; 144],
+    marksums: &mut [u64; 8216],
+    sparebytes: &mut [u8; 1040],
+    sparewords: &mut [u16; 6163],
+    sparenumbers: &mut [u32; 18],
+    sparesums: &mut [u64; 1027],
+    next: &mut [u16; 1024],
+    status: &mut [u8; 1024],
+    amounts: &mut [u64; 1024],
+    left: &mut [u16; 1024],
+    right: &mut [u16; 1024],
+    rises: &mut [u64; 1024],
+    falls: &mut [u64; 1024],
+    forks: &mut [u16; 1024],
+    seen: &mut [u16; 1024],
+    list: &mut [u16; 1024],
+) -> u32
+    ensures { λ r. ⌜ setting r (marksOf (now (set .exit)) (now (markbytes .exit)) (now (markwords .exit)) (now (marknumbers .exit)) (now (marksums .exit))) ≡ lentMark (now (table .entry)) i (memoryOf (now (bytes .entry)) (now (words .entry)) (now (numbers .entry)) (now (sums .entry))) (marksOf (now (set .entry)) (now (markbytes .entry)) (now (markwords .entry)) (now (marknumbers .entry)) (now (marksums .entry))) ⌝ }
+{
+    let fits = fit_marked(
+        table,
+        bytes,
+        words,
+        numbers,
+        sums,
+        &*set,
+        &*markbytes,
+        &*markwords,
+        &*marknumbers,
+        &*marksums,
+        sparebytes,
+        sparewords,
+        sparenumbers,
+        sparesums,
+        next,
+        status,
+        amounts,
+        left,
+        right,
+        rises,
+        falls,
+        forks,
+        seen,
+        list,
+    );
+    if !fits {
+        return UNSOUND;
+    }
+    if 7 < i {
+        return NO_MARK;
+    }
+    let at = i as usize;
+    store(
+        at,
+        bytes,
+        words,
+        numbers,
+        sums,
+        markbytes,
+        markwords,
+        marknumbers,
+        marksums,
+    );
+    set[at] = 1;
+    0
+}
+
+fn go_back(
+    table: &[u8],
+    i: u32,
+    bytes: &mut [u8; 1040],
+    words: &mut [u16; 6163],
+    numbers: &mut [u32; 18],
+    sums: &mut [u64; 1027],
+    set: &[u8; 8],
+    markbytes: &[u8; 8320],
+    markwords: &[u16; 49304],
+    marknumbers: &[u32; 144],
+    marksums: &[u64; 8216],
+    sparebytes: &mut [u8; 1040],
+    sparewords: &mut [u16; 6163],
+    sparenumbers: &mut [u32; 18],
+    sparesums: &mut [u64; 1027],
+    next: &mut [u16; 1024],
+    status: &mut [u8; 1024],
+    amounts: &mut [u64; 1024],
+    left: &mut [u16; 1024],
+    right: &mut [u16; 1024],
+    rises: &mut [u64; 1024],
+    falls: &mut [u64; 1024],
+    forks: &mut [u16; 1024],
+    seen: &mut [u16; 1024],
+    list: &mut [u16; 1024],
+) -> u32
+    ensures { λ r. ⌜ going r (memoryOf (now (bytes .exit)) (now (words .exit)) (now (numbers .exit)) (now (sums .exit))) ≡ lentBack (now (table .entry)) i (memoryOf (now (bytes .entry)) (now (words .entry)) (now (numbers .entry)) (now (sums .entry))) (marksOf (now (set .entry)) (now (markbytes .entry)) (now (markwords .entry)) (now (marknumbers .entry)) (now (marksums .entry))) ⌝ }
+{
+    let fits = fit_marked(
+        table,
+        &*bytes,
+        &*words,
+        &*numbers,
+        &*sums,
+        set,
+        markbytes,
+        markwords,
+        marknumbers,
+        marksums,
+        sparebytes,
+        sparewords,
+        sparenumbers,
+        sparesums,
+        next,
+        status,
+        amounts,
+        left,
+        right,
+        rises,
+        falls,
+        forks,
+        seen,
+        list,
+    );
+    if !fits {
+        return UNSOUND;
+    }
+    if 7 < i {
+        return NO_MARK;
+    }
+    let at = i as usize;
+    if set[at] == 0 {
+        return NOT_SET;
+    }
+    load(
+        at,
+        markbytes,
+        markwords,
+        marknumbers,
+        marksums,
+        bytes,
+        words,
+        numbers,
+        sums,
+    );
+    reopen(
+        table,
+        &*bytes,
+        words,
+        &*numbers,
+        &*sums,
+        next,
+        status,
+        amounts,
+        left,
+        right,
+        rises,
+        falls,
+        forks,
+        seen,
+        list,
+    );
+    0
+}
+
+// Sets mark i to the run as it is, or gives the check that refuses; the marks are then as they were. The working memory is left cleared.
+#[no_mangle]
+pub extern "C" fn wivakkol_mark_on(
+    table: &[u8],
+    i: u32,
+    bytes: &[u8; 1040],
+    words: &[u16; 6163],
+    numbers: &[u32; 18],
+    sums: &[u64; 1027],
+    set: &mut [u8; 8],
+    markbytes: &mut [u8; 8320],
+    markwords: &mut [u16; 49304],
+    marknumbers: &mut [u32; 144],
+    marksums: &mut [u64; 8216],
+    sparebytes: &mut [u8; 1040],
+    sparewords: &mut [u16; 6163],
+    sparenumbers: &mut [u32; 18],
+    sparesums: &mut [u64; 1027],
+    next: &mut [u16; 1024],
+    status: &mut [u8; 1024],
+    amounts: &mut [u64; 1024],
+    left: &mut [u16; 1024],
+    right: &mut [u16; 1024],
+    rises: &mut [u64; 1024],
+    falls: &mut [u64; 1024],
+    forks: &mut [u16; 1024],
+    seen: &mut [u16; 1024],
+    list: &mut [u16; 1024],
+) -> u32
+    ensures { λ r. ⌜ setting r (marksOf (now (set .exit)) (now (markbytes .exit)) (now (markwords .exit)) (now (marknumbers .exit)) (now (marksums .exit))) ≡ lentMark (now (table .entry)) i (memoryOf (now (bytes .entry)) (now (words .entry)) (now (numbers .entry)) (now (sums .entry))) (marksOf (now (set .entry)) (now (markbytes .entry)) (now (markwords .entry)) (now (marknumbers .entry)) (now (marksums .entry))) ⌝ }
+    ensures { λ _. ⌜ Cleared (now (sparebytes .exit)) (now (sparewords .exit)) (now (sparenumbers .exit)) (now (sparesums .exit)) (now (next .exit)) (now (status .exit)) (now (amounts .exit)) (now (left .exit)) (now (right .exit)) (now (rises .exit)) (now (falls .exit)) (now (forks .exit)) (now (seen .exit)) (now (list .exit)) ⌝ }
+{
+    let number = set_mark(
+        table,
+        i,
+        bytes,
+        words,
+        numbers,
+        sums,
+        set,
+        markbytes,
+        markwords,
+        marknumbers,
+        marksums,
+        sparebytes,
+        sparewords,
+        sparenumbers,
+        sparesums,
+        next,
+        status,
+        amounts,
+        left,
+        right,
+        rises,
+        falls,
+        forks,
+        seen,
+        list,
+    );
+    clear(
+        sparebytes,
+        sparewords,
+        sparenumbers,
+        sparesums,
+        next,
+        status,
+        amounts,
+        left,
+        right,
+        rises,
+        falls,
+        forks,
+        seen,
+        list,
+    );
+    number
+}
+
+// Goes back to mark i, and opens the run that it keeps; or gives the check that refuses, and the run is then as it was. The working memory is left cleared.
+#[no_mangle]
+pub extern "C" fn wivakkol_back_on(
+    table: &[u8],
+    i: u32,
+    bytes: &mut [u8; 1040],
+    words: &mut [u16; 6163],
+    numbers: &mut [u32; 18],
+    sums: &mut [u64; 1027],
+    set: &[u8; 8],
+    markbytes: &[u8; 8320],
+    markwords: &[u16; 49304],
+    marknumbers: &[u32; 144],
+    marksums: &[u64; 8216],
+    sparebytes: &mut [u8; 1040],
+    sparewords: &mut [u16; 6163],
+    sparenumbers: &mut [u32; 18],
+    sparesums: &mut [u64; 1027],
+    next: &mut [u16; 1024],
+    status: &mut [u8; 1024],
+    amounts: &mut [u64; 1024],
+    left: &mut [u16; 1024],
+    right: &mut [u16; 1024],
+    rises: &mut [u64; 1024],
+    falls: &mut [u64; 1024],
+    forks: &mut [u16; 1024],
+    seen: &mut [u16; 1024],
+    list: &mut [u16; 1024],
+) -> u32
+    ensures { λ r. ⌜ going r (memoryOf (now (bytes .exit)) (now (words .exit)) (now (numbers .exit)) (now (sums .exit))) ≡ lentBack (now (table .entry)) i (memoryOf (now (bytes .entry)) (now (words .entry)) (now (numbers .entry)) (now (sums .entry))) (marksOf (now (set .entry)) (now (markbytes .entry)) (now (markwords .entry)) (now (marknumbers .entry)) (now (marksums .entry))) ⌝ }
+    ensures { λ _. ⌜ Cleared (now (sparebytes .exit)) (now (sparewords .exit)) (now (sparenumbers .exit)) (now (sparesums .exit)) (now (next .exit)) (now (status .exit)) (now (amounts .exit)) (now (left .exit)) (now (right .exit)) (now (rises .exit)) (now (falls .exit)) (now (forks .exit)) (now (seen .exit)) (now (list .exit)) ⌝ }
+{
+    let number = go_back(
+        table,
+        i,
+        bytes,
+        words,
+        numbers,
+        sums,
+        set,
+        markbytes,
+        markwords,
+        marknumbers,
+        marksums,
+        sparebytes,
+        sparewords,
+        sparenumbers,
+        sparesums,
+        next,
+        status,
+        amounts,
+        left,
+        right,
+        rises,
+        falls,
+        forks,
+        seen,
+        list,
+    );
+    clear(
+        sparebytes,
+        sparewords,
+        sparenumbers,
+        sparesums,
+        next,
+        status,
+        amounts,
+        left,
+        right,
+        rises,
+        falls,
+        forks,
+        seen,
+        list,
+    );
+    number
 }
 
 // Clears the marks: none is set.

@@ -22,17 +22,11 @@ loop-holds c = copying-start _ _ _ _ (c .pre .1) (rw (length-drop (c .args .star
 add-to : tie.Need-add-to Inv-loop μ-loop
 add-to c = search needs
 
-mul-to : tie.Need-mul-to Inv-loop μ-loop
-mul-to c = search needs
-
 shared-slice-read-to : tie.Need-shared-slice-read-to Inv-loop μ-loop
 shared-slice-read-to c = search needs
 
 add-to-2 : tie.Need-add-to-2 Inv-loop μ-loop
 add-to-2 c = search needs
-
-mul-to-2 : tie.Need-mul-to-2 Inv-loop μ-loop
-mul-to-2 c = search needs
 
 slice-write-to : tie.Need-slice-write-to Inv-loop μ-loop
 slice-write-to c = search (needs, copying-size (c .before .before .loop .inv))
@@ -63,10 +57,8 @@ copy-bytes-spec =
     μ-loop
     loop-holds
     add-to
-    mul-to
     shared-slice-read-to
     add-to-2
-    mul-to-2
     slice-write-to
     add-i
     loop-less
