@@ -3,12 +3,14 @@
 pub mod ByValue
 pub mod Marks
 pub mod FromC
+pub mod MarksFromC
 pub mod Opened
 pub mod Board
 pub mod Rounds
 pub mod Turns
 -- what they rest on: what the promises from C say (LentSays), lists of calls on lent memory are those on the record (LentLimit, Blank), and what stands in blocks (Shaped, Sizes)
 pub mod LentSays
+pub mod MarkSays
 pub mod LentLimit
 pub mod LentMarks
 pub mod LentMarked
