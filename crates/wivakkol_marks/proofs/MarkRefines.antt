@@ -33,7 +33,7 @@ use Rattle.run_memory.proofs.Manned.{of-length, workers-back, truths-back}
 use Rattle.wivakkol.specs.Lent.{blankMemory}
 use Rattle.wivakkol.specs.Opened.{soundIn, blankIn, openedIn, openedAs, lentOpen}
 use Rattle.wivakkol.proofs.Opens.{open-record, open-stands, tested-same, blank-record, blank-passes, blank-passed}
-use Rattle.wivakkol_marks.specs.LentMarks.{Marks, marks, rowFrom, mended, isSetIn, markIn, fitIn, fitMarks, fitMarked, markFault, backFault, setting, lentMark, going, lentBack, lentUnmark}
+use Rattle.wivakkol_marks.specs.LentMarks.{Marks, marks, rowFrom, marksOf, mended, isSetIn, markIn, fitIn, fitMarks, fitMarked, markFault, backFault, setting, lentMark, going, lentBack, lentUnmark}
 use Rattle.wivakkol_marks.specs.MarkedIn.{recordIn, markAt, marksIn, markedIn, numbered}
 use Rattle.wivakkol_marks.proofs.Stretches.{row-set, row-here}
 
@@ -240,12 +240,12 @@ module _ (s : List ℕ) (M : Memory) (K : Marks) where
 
     -- ---- a mark that is set
 
-    module _ (i : ℕ) (z : length (K .set) ≡ 8) (y : length (K .kept) ≡ 8) where
+    module _ (i : ℕ) (y : length (K .kept) ≡ 8) where
       abbrev after : Marks
       after = marks (set (K .set) i 1) (set (K .kept) i M)
 
-      same : i < 8 → markAt s after i ≡ kept (recordIn s M)
-      same l =
+      same : length (K .set) ≡ 8 → i < 8 → markAt s after i ≡ kept (recordIn s M)
+      same z l =
           let a : getD (set (K .set) i 1) i 0 ≡ 1 = getD-set-same (K .set) i 1 0 (omega (arith, l, z)) in
           let b : getD (set (K .kept) i M) i blankMemory ≡ M = getD-set-same (K .kept) i M blankMemory (omega (arith, l, y)) in
           (λ k. pick (not (eqb (a k) 0)) (kept (recordIn s (mended (b k)))) unset) ∙ ap kept (mended-record s M)
@@ -256,27 +256,32 @@ module _ (s : List ℕ) (M : Memory) (K : Marks) where
           let b : getD (set (K .kept) i M) j blankMemory ≡ getD (K .kept) j blankMemory = getD-set-other (K .kept) i j M blankMemory d in
           λ k. pick (not (eqb (a k) 0)) (kept (recordIn s (mended (b k)))) unset
 
-      laid : i < 8 → marksIn s after ≡ set (marksIn s K) i (kept (recordIn s M))
-      laid l = row-set (markAt s K) (markAt s after) (kept (recordIn s M)) 0 8 i (λ j. at j (ℕ-discrete j i))
+      laid : length (K .set) ≡ 8 → i < 8 → marksIn s after ≡ set (marksIn s K) i (kept (recordIn s M))
+      laid z l = row-set (markAt s K) (markAt s after) (kept (recordIn s M)) 0 8 i (λ j. at j (ℕ-discrete j i))
         where
           here : i ≡ 0 + i
           here = omega arith
 
           at : (j : ℕ) → Dec (j ≡ i) → markAt s after j ≡ pick (eqb j (0 + i)) (kept (recordIn s M)) (markAt s K j)
           at j (yes q) =
-              ap (markAt s after) q ∙ same l ∙ sym (ap (λ (b : Bool). pick b (kept (recordIn s M)) (markAt s K j)) (eq-eqb j (0 + i) (q ∙ here)))
+              ap (markAt s after) q ∙ same z l ∙ sym (ap (λ (b : Bool). pick b (kept (recordIn s M)) (markAt s K j)) (eq-eqb j (0 + i) (q ∙ here)))
           at j (no d) = other j d ∙ sym (ap (λ (b : Bool). pick b (kept (recordIn s M)) (markAt s K j)) (ne-eqb j (0 + i) (λ e. d (e ∙ sym here))))
 
       -- "Setting one stores the run as it is"; "Setting again replaces"
-      pub mark-refines : markedIn s M (lentMark s i M K .marks) ≡ setAs (tryAt (setChecks m i) 0) i m
+      pub mark-refines : (lentMark s i M K .number ≡ 0 → length (K .set) ≡ 8) → markedIn s M (lentMark s i M K .marks) ≡ setAs (tryAt (setChecks m i) 0) i m
       unfolding lentMark markFault
-      mark-refines = go (fitMarked s M K) (ltb i 8) refl ∙ ap (λ (f : Found). setAs f i m) (sym (set-found i))
+      mark-refines n = go (fitMarked s M K) (ltb i 8) refl n ∙ ap (λ (f : Found). setAs f i m) (sym (set-found i))
         where
-          go : (a b : Bool) → ltb i 8 ≡ b
-              → markedIn s M (pick (eqb (pick a (pick b 0 45) 32) 0) (setting 0 after) (setting (pick a (pick b 0 45) 32) K) .marks) ≡ setAs (setFound i a b) i m
-          go true true e = λ k. marked (recordIn s M) (laid (ltb-true i 8 e) k)
-          go true false e = refl
-          go false b e = refl
+          go : (a b : Bool) → ltb i 8 ≡ b → (pick (eqb (setNumber i a b) 0) (setting 0 after) (setting (setNumber i a b) K) .number ≡ 0 → length (K .set) ≡ 8)
+              → markedIn s M (pick (eqb (setNumber i a b) 0) (setting 0 after) (setting (setNumber i a b) K) .marks) ≡ setAs (setFound i a b) i m
+          go true true e n = λ k. marked (recordIn s M) (laid (n refl) (ltb-true i 8 e) k)
+          go true false e n = refl
+          go false b e n = refl
+
+-- the marks in lent blocks are eight
+pub kept-size : (flags bytes words numbers sums : List ℕ) → length (marksOf flags bytes words numbers sums .kept) ≡ 8
+unfolding rowFrom
+kept-size flags bytes words numbers sums = refl
 
 -- "none set at the beginning"
 pub unmark-refines : (s : List ℕ) (M : Memory) (K : Marks) → markedIn s M (lentUnmark K) ≡ unmarked (recordIn s M)

@@ -94,6 +94,14 @@ pub(crate) fn load(
     mend(bytes, words, numbers, &*sums);
 }
 
+// A mark is set.
+pub(crate) fn note(flags: &mut [u8], at: usize)
+    requires { ⌜ at < length (now flags) ⌝ }
+    ensures { λ _. ⌜ now (flags .exit) ≡ set (now (flags .entry)) at 1 ⌝ }
+{
+    flags[at] = 1;
+}
+
 // A run's blocks into mark i.
 pub(crate) fn store(
     i: usize,
