@@ -10,13 +10,10 @@ use schedule::Worker;
 use soundness::test;
 use table::Refusal;
 use wivakkol_marks::clear;
-use wivakkol_marks::wivakkol_back_on;
-use wivakkol_marks::wivakkol_mark_on;
 ghost use mathlib.Core.Path.{_≡_};
 ghost use mathlib.Core.Bool.{false};
 ghost use Prim.Native.Nat.{_<_};
-ghost use lib.Dec.{eqb};
-ghost use Rattle.table.specs.Sum.{pick};
+ghost use lib.ListN.{length};
 ghost use Rattle.table.specs.Pass.{tryAt};
 ghost use Rattle.schedule.specs.Record.{bytesOf};
 ghost use Rattle.schedule.specs.Record.{blank as blankRun};
@@ -133,7 +130,7 @@ fn set_packed(
 ) -> u32
     requires { ⌜ unsound run ≡ false ⌝ }
     ensures { λ r. ⌜ setting r (marksOf (now (set .exit)) (now (markbytes .exit)) (now (markwords .exit)) (now (marknumbers .exit)) (now (marksums .exit))) ≡ lentMark (bytesOf run) i (memoryFor run (now (parents .entry))) (marksOf (now (set .entry)) (now (markbytes .entry)) (now (markwords .entry)) (now (marknumbers .entry)) (now (marksums .entry))) ⌝ }
-    ensures { λ _. ⌜ Cleared (now (sparebytes .exit)) (now (sparewords .exit)) (now (sparenumbers .exit)) (now (sparesums .exit)) (now (next .exit)) (now (status .exit)) (now (amounts .exit)) (now (left .exit)) (now (right .exit)) (now (rises .exit)) (now (falls .exit)) (now (forks .exit)) (now (seen .exit)) (now (list .exit)) ⌝ }
+    ensures { λ r. ⌜ (r ≡ 0 → length (now (set .entry)) ≡ 8) ⌝ }
 {
     let all = run.table;
     let length = run.length as usize;
@@ -150,7 +147,7 @@ fn set_packed(
         &mut numbers,
         &mut sums,
     );
-    wivakkol_mark_on(
+    wivakkol_marks::set_mark(
         table,
         i as u32,
         &bytes,
@@ -206,7 +203,6 @@ fn back_packed(
     requires { ⌜ unsound run ≡ false ⌝ }
     ensures { λ r. ⌜ r .number ≡ lentBack (bytesOf run) i (memoryFor run (now (parents .entry))) (marksOf (now (set .entry)) (now (markbytes .entry)) (now (markwords .entry)) (now (marknumbers .entry)) (now (marksums .entry))) .number ⌝ }
     ensures { λ r. ⌜ r .run ≡ recordIn (bytesOf run) (lentBack (bytesOf run) i (memoryFor run (now (parents .entry))) (marksOf (now (set .entry)) (now (markbytes .entry)) (now (markwords .entry)) (now (marknumbers .entry)) (now (marksums .entry))) .memory) ⌝ }
-    ensures { λ _. ⌜ Cleared (now (sparebytes .exit)) (now (sparewords .exit)) (now (sparenumbers .exit)) (now (sparesums .exit)) (now (next .exit)) (now (status .exit)) (now (amounts .exit)) (now (left .exit)) (now (right .exit)) (now (rises .exit)) (now (falls .exit)) (now (forks .exit)) (now (seen .exit)) (now (list .exit)) ⌝ }
 {
     let all = run.table;
     let length = run.length as usize;
@@ -223,7 +219,7 @@ fn back_packed(
         &mut numbers,
         &mut sums,
     );
-    let number = wivakkol_back_on(
+    let number = wivakkol_marks::go_back(
         table,
         i as u32,
         &mut bytes,
@@ -330,6 +326,22 @@ pub fn set_mark(
         seen,
         list,
     );
+    clear(
+        sparebytes,
+        sparewords,
+        sparenumbers,
+        sparesums,
+        next,
+        status,
+        amounts,
+        left,
+        right,
+        rises,
+        falls,
+        forks,
+        seen,
+        list,
+    );
     answer_of(number)
 }
 
@@ -394,6 +406,22 @@ pub fn go_back(
         markwords,
         marknumbers,
         marksums,
+        sparebytes,
+        sparewords,
+        sparenumbers,
+        sparesums,
+        next,
+        status,
+        amounts,
+        left,
+        right,
+        rises,
+        falls,
+        forks,
+        seen,
+        list,
+    );
+    clear(
         sparebytes,
         sparewords,
         sparenumbers,

@@ -99,7 +99,7 @@ module _ (s : List ℕ) where
       let r : runIn s (mended M) ≡ runIn s M = ap (λ (l : List Worker). packedOf (settled s M) (M .arrays) l (movedIn M)) (mended-workers M) in
       λ i. pick (mended-blank M i) blank (r i)
 
-  opened-blank : (M : Memory) → blankIn (lentOpen s M .memory) ≡ blankIn M
+  pub opened-blank : (M : Memory) → blankIn (lentOpen s M .memory) ≡ blankIn M
   unfolding lentOpen blankIn
   opened-blank M = go (soundIn s M) (blankIn M)
     where
@@ -111,6 +111,15 @@ module _ (s : List ℕ) where
   pub opened-record : (M : Memory) → recordIn s (lentOpen s M .memory) ≡ recordIn s M
   unfolding recordIn
   opened-record M = λ i. pick (opened-blank M i) blank (open-record s M i)
+
+pub opened-settings : (s : List ℕ) (M : Memory) → lentOpen s M .memory .settings ≡ M .settings
+unfolding lentOpen
+opened-settings s M = go (soundIn s M) (blankIn M)
+  where
+    go : (a b : Bool) → openedAs a b s M .memory .settings ≡ M .settings
+    go true b = refl
+    go false true = refl
+    go false false = refl
 
 opened-holds : (s : List ℕ) (M : Memory) → lentOpen s M .memory .holds ≡ M .holds
 unfolding lentOpen
@@ -333,6 +342,16 @@ module _ (s : List ℕ) (i : ℕ) (M : Memory) (K : Marks) where
       go true p true q false r e = absurd (omega (arith, e))
       go true p false q c r e = absurd (omega (arith, e))
       go false p b q c r e = absurd (omega (arith, e))
+
+  -- refused: the run as it was
+  pub back-kept : (lentBack s i M K .number ≡ 0 → ⊥) → lentBack s i M K .memory ≡ M
+  unfolding lentBack
+  back-kept d = go (eqb (backFault s M K i) 0) d
+    where
+      go : (b : Bool) → (pick b (going 0 (lentOpen s (markIn K i) .memory)) (going (backFault s M K i) M) .number ≡ 0 → ⊥)
+          → pick b (going 0 (lentOpen s (markIn K i) .memory)) (going (backFault s M K i) M) .memory ≡ M
+      go true d = absurd (d refl)
+      go false d = refl
 
   abbrev mark : Memory
   mark = getD (K .kept) i blankMemory

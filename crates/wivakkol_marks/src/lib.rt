@@ -21,6 +21,8 @@ const UNSOUND: u32 = 32;
 // a mark above 7
 const NO_MARK: u32 = 45;
 
+const LAST_MARK: u32 = 7;
+
 // a mark that is not set
 const NOT_SET: u32 = 46;
 
@@ -311,7 +313,7 @@ pub fn set_mark(
     if !fits {
         return UNSOUND;
     }
-    if 7 < i {
+    if LAST_MARK < i {
         return NO_MARK;
     }
     let at = i as usize;
@@ -389,7 +391,7 @@ pub fn go_back(
     if !fits {
         return UNSOUND;
     }
-    if 7 < i {
+    if LAST_MARK < i {
         return NO_MARK;
     }
     let at = i as usize;
