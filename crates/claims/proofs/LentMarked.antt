@@ -4,51 +4,45 @@ use mathlib.Core.Path.{_≡_, refl, sym, ap, ap₂, subst, _∙_}
 use Prim.Native.Nat.{ℕ, _≤_}
 use native.Mathlib.Omega.{arith}
 use mathlib.Core.List.{List, [], _∷_, _++_, append-nil}
-use mathlib.Core.Bool.{Bool, true, false, not, _&&_, _||_}
-use lib.ListN.{length, getD}
-use lib.Dec.{ltb, eqb}
-use borrow.Author.Tests.{ltb-true, eqb-true}
+use mathlib.Core.Bool.{Bool, true, false}
+use lib.ListN.{length, set, length-set}
+use lib.Dec.{eqb}
 use Rattle.table.specs.Sum.{pick}
 use Rattle.table.specs.Format.{Table, tableOf}
 use Rattle.filling.specs.Filled.{filledOut}
 use Rattle.order.specs.Turns.{turnsOf}
-use Rattle.order.proofs.Words.{allBelow-exactly}
 use Rattle.schedule.specs.declared.Run.{Run}
-use Rattle.schedule.specs.declared.Worker.{Worker}
-use Rattle.schedule.specs.Turn.{unsound}
 use Rattle.schedule.specs.Record.{blank}
 use Rattle.schedule.specs.Begin.{startState}
 use Rattle.schedule.specs.Sound.{Steady}
+use Rattle.schedule.specs.Turn.{unsound}
 use Rattle.schedule.specs.Calls.{Call, afterCall, rowOf}
 use Rattle.schedule.specs.Memory.{replies}
 use Rattle.schedule.specs.Most.{notIdle}
 use Rattle.schedule.proofs.Stores.{steady-fits}
 use Rattle.schedule.proofs.Runs.Histories.{calls-steady}
-use Rattle.soundness.proofs.Chains.{never}
 use Rattle.run_memory.specs.Memory.{Memory}
-use Rattle.run_memory.specs.Stands.{workersIn, runIn, Stands}
-use Rattle.run_memory.specs.Places.{ofWorkers}
-use Rattle.run_memory.proofs.Refines.{workers-length}
-use Rattle.run_memory.proofs.Manned.{of-length}
-use Rattle.wivakkol.specs.Lent.{blankMemory, lentBegin}
-use Rattle.wivakkol.specs.Opened.{soundIn, blankIn, openedAs, lentOpen}
-use Rattle.wivakkol.proofs.Opens.{open-refines, open-stands, opens-stands, stands-worked}
+use Rattle.run_memory.specs.Stands.{runIn, Stands}
+use Rattle.wivakkol.specs.Lent.{lentBegin}
+use Rattle.wivakkol.specs.Opened.{blankIn, lentOpen}
+use Rattle.wivakkol.proofs.Opens.{open-refines, opens-stands, stands-worked}
 use Rattle.bounds.proofs.Limit.{MemoryLimit}
 use Rattle.bounds.proofs.ThreadLimit.{ThreadLimit}
-use Rattle.marks.specs.Marks.{Marked, marked, unmarked, MarkCall, afterMark, afterMarks, Led, led, ledBy, nowhere, rowOfMarks, turnsBy, turnsTo}
+use Rattle.marks.specs.Marks.{Marked, marked, unmarked, MarkValues, MarkCall, afterMark, afterMarks, Led, led, ledBy, nowhere, rowOfMarks, turnsBy, turnsTo}
 use Rattle.marks.specs.Marks.{moving as onRun}
 use Rattle.marks.specs.Marks.{setting as marking}
 use Rattle.marks.specs.Marks.{going as returning}
 use Rattle.marks.proofs.Marked.{Follows, mark-follows, unmarked-follows}
 use Rattle.marks.proofs.Turns.{turns-led-to}
-use Rattle.wivakkol_marks.specs.LentMarks.{Marks, isSetIn, markIn, fitIn, fitMarks, fitMarked, backFault, lentMark, lentBack, lentUnmark}
+use Rattle.wivakkol_marks.specs.LentMarks.{Marks, marks, markIn, markFault, backFault, lentMark, lentBack, lentUnmark}
+use Rattle.wivakkol_marks.specs.LentMarks.{setting as settingAs}
 use Rattle.wivakkol_marks.specs.LentMarks.{going as goingAs}
-use Rattle.claims.specs.Records.{recordIn}
+use Rattle.wivakkol_marks.specs.MarkedIn.{recordIn, marksIn, markedIn}
+use Rattle.wivakkol_marks.proofs.MarkRefines.{opened-record, mark-values, back-values, mark-refines, back-refines, back-stands, unmark-refines}
 use Rattle.claims.specs.LentCalls.{moving, opening, returned, lentMove, lentCall, lentRowOf}
 use Rattle.claims.specs.Answers.{answerOf, inNumbers}
-use Rattle.claims.specs.LentMarkCalls.{marksFrom, marksIn, markedIn, LentMarkCall, running, setting, going, Lent, lent, lentMarkAfter, lentMarksAfter, lentMarksReturned, lentTurnsTo, marksOfCalls, returnedWithMarks}
+use Rattle.claims.specs.LentMarkCalls.{LentMarkCall, running, setting, going, Lent, lent, lentMarkAfter, lentMarksAfter, lentMarksReturned, lentTurnsTo, marksOfCalls, returnedWithMarks}
 use Rattle.claims.proofs.LentLimit.{call-refines, open-row, begun-stands, begun-there}
-use Rattle.claims.proofs.LentMarks.{Eight, open-kept, mark-number, back-number, mark-refines, mark-eight, back-refines}
 use Rattle.claims.proofs.Marks.{marked-limit, marked-threads, marked-turns}
 
 -- ---- one call
@@ -63,46 +57,40 @@ module _ (s : List ℕ) (M : Memory) where
   unfolding recordIn
   stood h = rw (stands-worked s M h)
 
-  -- a record with workers that was sound or blank stands once it is opened
-  opens-fit : length (M .holds) ≡ 16 → length (M .threads) ≡ 16 → length (M .quotas) ≡ 16 → fitIn s M ≡ true → Steady (recordIn s M) → Stands s (lentOpen s M .memory)
-  unfolding fitIn lentOpen recordIn
-  opens-fit a b c f h = go (soundIn s M) refl (blankIn M) f h
-    where
-      go : (x : Bool) → soundIn s M ≡ x → (y : Bool) → (x || y) ≡ true → Steady (pick y blank (runIn s M)) → Stands s (openedAs x y s M .memory)
-      go true e y f h = open-stands s M a b c e
-      go false e true f h = absurd (blank-steady h)
-      go false e false f h = never f
-
--- going back that answers 0 tests the mark
-back-fits : (s : List ℕ) (i : ℕ) (M : Memory) (K : Marks) → backFault s M K i ≡ 0 → fitIn s (markIn K i) ≡ true
-unfolding backFault fitMarked fitMarks
-back-fits s i M K e = go (fitIn s M) (fitMarks s K) refl (ltb i 8) refl (isSetIn K i) refl e
-  where
-    go : (x y : Bool) → fitMarks s K ≡ y → (z : Bool) → ltb i 8 ≡ z → (q : Bool) → isSetIn K i ≡ q → _≡_ {A = ℕ} (pick (x && y) (pick z (pick q 0 46) 45) 32) 0 → fitIn s (markIn K i) ≡ true
-    go true true f true g true k n =
-        let all = allBelow-exactly (λ j. not (isSetIn K j) || fitIn s (markIn K j)) 8 .0 f i (ltb-true i 8 g) in
-        rw k at all
-    go true true f true g false k n = absurd (omega (arith, n))
-    go true true f false g q k n = absurd (omega (arith, n))
-    go true false f z g q k n = absurd (omega (arith, n))
-    go false y f z g q k n = absurd (omega (arith, n))
-
--- and then the run stands, if it has workers
-back-stands : (s : List ℕ) (i : ℕ) (M : Memory) (K : Marks) → Stands s M → Steady (recordIn s (lentBack s i M K .memory)) → Stands s (lentBack s i M K .memory)
-unfolding lentBack
-back-stands s i M K h = go (eqb (backFault s M K i) 0) refl
+-- going back to a record with workers leaves a run that stands
+back-steady : (s : List ℕ) (i : ℕ) (M : Memory) (K : Marks) → Stands s M → Steady (recordIn s (lentBack s i M K .memory)) → Stands s (lentBack s i M K .memory)
+unfolding lentBack recordIn
+back-steady s i M K h = go (blankIn (markIn K i)) refl
   where
     X : Memory
-    X = markIn K i
+    X = lentOpen s (markIn K i) .memory
 
-    size : (f : Worker → ℕ) → length (ofWorkers f (workersIn (getD (K .kept) i blankMemory))) ≡ 16
-    size f = of-length f _ ∙ workers-length _ _ _ 0 16
+    gone : Bool → Memory
+    gone x = pick x (goingAs 0 X) (goingAs (backFault s M K i) M) .memory
 
-    go : (x : Bool) → eqb (backFault s M K i) 0 ≡ x → Steady (recordIn s (pick x (goingAs 0 (lentOpen s X .memory)) (goingAs (backFault s M K i) M) .memory))
-        → Stands s (pick x (goingAs 0 (lentOpen s X .memory)) (goingAs (backFault s M K i) M) .memory)
-    go true e t =
-        opens-fit s X (size (λ x. pick (x .holds) 1 0)) (size (λ x. x .thread)) (size (λ x. x .quota)) (back-fits s i M K (eqb-true _ 0 e)) (subst Steady (open-kept s X) t)
-    go false e t = h
+    blank-there : blankIn (markIn K i) ≡ true → recordIn s X ≡ blank
+    blank-there e = opened-record s (markIn K i) ∙ rw e
+
+    at : (x : Bool) → blankIn (markIn K i) ≡ true → Steady (recordIn s (gone x)) → Stands s (gone x)
+    at true e t = absurd (blank-steady (subst Steady (blank-there e) t))
+    at false e t = h
+
+    go : (y : Bool) → blankIn (markIn K i) ≡ y → Steady (recordIn s (gone (eqb (backFault s M K i) 0))) → Stands s (gone (eqb (backFault s M K i) 0))
+    go true e t = at (eqb (backFault s M K i) 0) e t
+    go false e t = back-stands s i M K h e
+
+-- the marks' rows have a number and a memory for each of eight
+pub record Eight (K : Marks) : Type 0 where
+  pub set : length (K .set) ≡ 8
+  pub kept : length (K .kept) ≡ 8
+
+mark-eight : (s : List ℕ) (i : ℕ) (M : Memory) (K : Marks) → Eight K → Eight (lentMark s i M K .marks)
+unfolding lentMark
+mark-eight s i M K n = go (eqb (markFault s M K i) 0)
+  where
+    go : (x : Bool) → Eight (pick x (settingAs 0 (marks (set (K .set) i 1) (set (K .kept) i M))) (settingAs (markFault s M K i) K) .marks)
+    go true = record { set = length-set (K .set) i 1 ∙ n .set; kept = length-set (K .kept) i M ∙ n .kept }
+    go false = n
 
 -- ---- lists of calls
 
@@ -137,11 +125,11 @@ module _ (s : List ℕ) (r : Run) (steady : Steady r) where
 
     set-so : (i : ℕ) → markedIn s (x .memory) (lentMark s i (x .memory) (x .marks) .marks) ≡ afterMark (marking i) (markedIn s (x .memory) (x .marks))
     unfolding afterMark
-    set-so i = mark-refines s (x .marks) (h .eight) (x .memory) (h .stands .truth-values) i
+    set-so i = mark-refines s (x .memory) (x .marks) (h .stands .truth-values) i (h .eight .kept) (λ n. h .eight .set)
 
     back-so : (i : ℕ) → markedIn s (lentBack s i (x .memory) (x .marks) .memory) (x .marks) ≡ afterMark (returning i) (markedIn s (x .memory) (x .marks))
     unfolding afterMark
-    back-so i = back-refines s (x .marks) (x .memory) (h .stands .truth-values) i
+    back-so i = back-refines s (x .memory) (x .marks) (h .stands .truth-values) i
 
   -- an opening takes no turn
   no-row : (M : Memory) (w : Led ℕ) → led (w .here ++ lentRowOf opening M (lentOpen s M)) (w .marks) ≡ w
@@ -166,7 +154,7 @@ module _ (s : List ℕ) (r : Run) (steady : Steady r) where
       }
   refines-marks (running opening ∷ l) x d h =
       let M : Memory = x .memory in
-      let e : markedIn s (lentOpen s M .memory) (x .marks) ≡ markedIn s M (x .marks) = ap (λ (z : Run). marked z (marksIn s (x .marks))) (open-kept s M) in
+      let e : markedIn s (lentOpen s M .memory) (x .marks) ≡ markedIn s M (x .marks) = ap (λ (z : Run). marked z (marksIn s (x .marks))) (opened-record s M) in
       let x' : Lent = lent (lentOpen s M .memory) (x .marks) in
       let k : Standing s r x' d = record { stands = opens-stands s M (h .stands); eight = h .eight; follows = subst (λ (q : Marked). Follows r q d) (sym e) (h .follows) } in
       let b = refines-marks l x' d k in
@@ -182,8 +170,8 @@ module _ (s : List ℕ) (r : Run) (steady : Steady r) where
       let K : Marks = x .marks in
       let e = set-so x d h i in
       let x' : Lent = lent M (lentMark s i M K .marks) in
-      let b = refines-marks l x' _ (stands-on (marking i) x x' d h e (mark-eight s K (h .eight) M i) (λ y. h .stands)) in
-      let n = mark-number s K M (h .stands .truth-values) i in
+      let b = refines-marks l x' _ (stands-on (marking i) x x' d h e (mark-eight s i M K (h .eight)) (λ y. h .stands)) in
+      let n = ap (λ (v : MarkValues). v .number) (mark-values s M K (h .stands .truth-values) i) in
       record {
         left = b .left ∙ ap (afterMarks (marksOfCalls l)) e;
         answers = ap₂ _∷_ (ap (λ (k : ℕ). returned k []) n) (b .answers ∙ ap (returnedWithMarks l) e);
@@ -195,8 +183,8 @@ module _ (s : List ℕ) (r : Run) (steady : Steady r) where
       let K : Marks = x .marks in
       let e = back-so x d h i in
       let x' : Lent = lent (lentBack s i M K .memory) K in
-      let b = refines-marks l x' _ (stands-on (returning i) x x' d h e (h .eight) (back-stands s i M K (h .stands))) in
-      let n = back-number s K M (h .stands .truth-values) i in
+      let b = refines-marks l x' _ (stands-on (returning i) x x' d h e (h .eight) (back-steady s i M K (h .stands))) in
+      let n = ap (λ (v : MarkValues). v .number) (back-values s M K (h .stands .truth-values) i) in
       record {
         left = b .left ∙ ap (afterMarks (marksOfCalls l)) e;
         answers = ap₂ _∷_ (ap (λ (k : ℕ). returned k []) n) (b .answers ∙ ap (returnedWithMarks l) e);
@@ -208,19 +196,15 @@ module _ (s : List ℕ) (r : Run) (steady : Steady r) where
 
 -- a run that stands, beside marks that were cleared: "none set at the beginning"
 module _ (s : List ℕ) (M : Memory) (h : Stands s M) (K : Marks) (kept : length (K .kept) ≡ 8) where
-  cleared : marksIn s (lentUnmark K) ≡ unmarked blank .marks
-  unfolding marksIn marksFrom
-  cleared = refl
-
   pub unmarked-in : markedIn s M (lentUnmark K) ≡ unmarked (runIn s M)
-  unmarked-in = ap₂ marked (stood s M h) cleared
+  unmarked-in = unmark-refines s M K ∙ ap unmarked (stood s M h)
 
   pub unmarked-stands : Standing s (runIn s M) (lent M (lentUnmark K)) nowhere
   unmarked-stands =
       record { stands = h; eight = record { set = refl; kept = kept }; follows = subst (λ (q : Marked). Follows (runIn s M) q nowhere) (sym unmarked-in) (unmarked-follows (runIn s M)) }
 
 -- A beginning answered 0, the marks were cleared, and any list of calls followed, given the table that runs, refused ones included.
-module _ (s : List ℕ) (p K room : ℕ) (e : lentBegin s p K room .number ≡ 0) (marks : Marks) (kept : length (marks .kept) ≡ 8) (l : List LentMarkCall) where
+module _ (s : List ℕ) (p K room : ℕ) (e : lentBegin s p K room .number ≡ 0) (before : Marks) (kept : length (before .kept) ≡ 8) (l : List LentMarkCall) where
   abbrev F : List ℕ
   F = filledOut s K
 
@@ -228,19 +212,19 @@ module _ (s : List ℕ) (p K room : ℕ) (e : lentBegin s p K room .number ≡ 0
   T = tableOf F
 
   abbrev start : Lent
-  start = lent (lentBegin s p K room .memory) (lentUnmark marks)
+  start = lent (lentBegin s p K room .memory) (lentUnmark before)
 
   abbrev r : Run
   r = runIn F (lentBegin s p K room .memory)
 
   pub begun-refines : RefinesMarks F start l
-  begun-refines = let h = begun-stands s p K room e in refines-marks F r (h .steady) l start nowhere (unmarked-stands F (lentBegin s p K room .memory) h marks kept)
+  begun-refines = let h = begun-stands s p K room e in refines-marks F r (h .steady) l start nowhere (unmarked-stands F (lentBegin s p K room .memory) h before kept)
 
   holds : (P : Run → List ℕ → Type 0) → P (afterMarks (marksOfCalls l) (unmarked r) .run) (rowOfMarks (marksOfCalls l) r)
       → P (runIn F (lentMarksAfter F l start .memory)) (lentTurnsTo F l start nowhere .here)
   holds P g =
       let b = begun-refines in
-      let u = unmarked-in F (lentBegin s p K room .memory) (begun-stands s p K room e) marks kept in
+      let u = unmarked-in F (lentBegin s p K room .memory) (begun-stands s p K room e) before kept in
       let run : runIn F (lentMarksAfter F l start .memory) ≡ afterMarks (marksOfCalls l) (unmarked r) .run =
       sym (stood F (lentMarksAfter F l start .memory) (b .stands)) ∙ ap (λ (q : Marked). q .run) (b .left ∙ ap (afterMarks (marksOfCalls l)) u) in
       let row : lentTurnsTo F l start nowhere .here ≡ rowOfMarks (marksOfCalls l) r =

@@ -12,8 +12,8 @@ pub mod Turns
 pub mod LentSays
 pub mod MarkSays
 pub mod LentLimit
-pub mod LentMarks
 pub mod LentMarked
 pub mod Blank
 pub mod Shaped
 pub mod Sizes
+pub mod Bytes

@@ -19,15 +19,18 @@ use Rattle.bounds.proofs.ThreadLimit.{ThreadLimit}
 use Rattle.run_memory.specs.Memory.{Memory, Answer}
 use Rattle.run_memory.specs.Stands.{runIn}
 use Rattle.wivakkol.specs.Lent.{lentBegin}
-use Rattle.marks.specs.Marks.{unmarked, Led, nowhere, afterMarks, rowOfMarks}
-use Rattle.wivakkol_marks.specs.LentMarks.{Marks, memoriesFrom, marksOf, lentMark, lentBack, lentUnmark}
+use Rattle.marks.specs.Marks.{unmarked, afterMarks, Led, nowhere}
+use Rattle.wivakkol_marks.specs.LentMarks.{Marks, marksOf, lentUnmark}
 use Rattle.wivakkol_marks.specs.LentMarks.{Setting, Going}
-use Rattle.claims.specs.LentCalls.{LentCall, tableThatRuns, Returned, returned, lentCall, lentRowOf}
-use Rattle.claims.specs.LentMarkCalls.{markedIn, LentMarkCall, running, setting, going, Lent, lent, lentMarkAfter, lentMarkReturned, lentMarkRow, lentTurnsBy, lentMarksAfter, lentMarksReturned, lentTurnsTo, marksOfCalls, returnedWithMarks}
+use Rattle.wivakkol_marks.specs.MarkedIn.{markedIn}
+use Rattle.wivakkol_marks.proofs.MarkRefines.{kept-size}
+use Rattle.claims.specs.LentCalls.{LentCall, tableThatRuns, Returned, returned, lentRowOf}
+use Rattle.claims.specs.LentMarkCalls.{LentMarkCall, running, setting, going, Lent, lent, lentMarkAfter, lentMarkReturned, lentMarkRow, lentTurnsBy, lentMarksAfter, lentMarksReturned, lentTurnsTo, marksOfCalls, returnedWithMarks}
 use Rattle.claims.proofs.LentSays.{BeginSays, begin-is}
 use Rattle.claims.proofs.MarkSays.{MarkSays, BackSays, UnmarkSays, mark-is, back-is, unmark-is}
+use Rattle.claims.proofs.LentLimit.{begun-stands, begun-there}
 use Rattle.claims.proofs.FromC.{LentCalled, call-is, runs-so}
-use Rattle.claims.proofs.LentMarked.{RefinesMarks, begun-refines, lent-marked-limit, lent-marked-threads, lent-marked-turns}
+use Rattle.claims.proofs.LentMarked.{unmarked-in, begun-refines, lent-marked-limit, lent-marked-threads, lent-marked-turns}
 
 -- ---- a history
 
@@ -85,10 +88,10 @@ lent-mark-history-is {s} (next {x} {x'} {x''} {w} {w'} {c} {a} {row} {l} {answer
 
 -- ---- from a beginning on
 
--- eight memories stand in the marks' blocks
-eight : (set bytes words numbers sums : List ℕ) → length (marksOf set bytes words numbers sums .kept) ≡ 8
-unfolding memoriesFrom
-eight set bytes words numbers sums = refl
+-- A history from record r on, with no mark set: the run with its marks that stands in what is left, and what was returned to every call, are those of the calls on the record and its marks.
+pub record CodeRefinesMarks (s : List ℕ) (r : Run) (l : List LentMarkCall) (answers : List Returned) (x : Lent) : Type 0 where
+  pub left : markedIn s (x .memory) (x .marks) ≡ afterMarks (marksOfCalls l) (unmarked r)
+  pub answers-are : answers ≡ returnedWithMarks l (unmarked r)
 
 -- `wivakkol_begin_on` answered 0, the marks were cleared ("none set at the beginning"), and the calls of any history followed, given the table that runs.
 module _ {s : List ℕ} {p K : ℕ} {out filled : List ℕ} {a : Answer} (h : BeginSays s p K out a filled) (e : a .number ≡ 0) {marks : Marks} (u : UnmarkSays marks) {l : List LentMarkCall}
@@ -110,7 +113,7 @@ module _ {s : List ℕ} {p K : ℕ} {out filled : List ℕ} {a : Answer} (h : Be
   start = lent (lentBegin s p K (length out) .memory) (lentUnmark before)
 
   kept : length (before .kept) ≡ 8
-  kept = eight (now (u .set)) (u .bytes) (u .words) (u .numbers) (u .sums)
+  kept = kept-size (now (u .set)) (u .bytes) (u .words) (u .numbers) (u .sums)
 
   -- the history is the definitions', with the filled-out table
   is : LentMarkDefined F start nowhere l answers x w
@@ -121,6 +124,19 @@ module _ {s : List ℕ} {p K : ℕ} {out filled : List ℕ} {a : Answer} (h : Be
 
   as-run : (P : List ℕ → Type 0) → P F → P (tableThatRuns s a filled)
   as-run P = subst P (sym (runs-so h e))
+
+  -- it is those calls on the record of document 01's beginning
+  pub begun-marks-refine : CodeRefinesMarks (tableThatRuns s a filled) (begin s p K .run) l answers x
+  begun-marks-refine =
+      let b = begun-refines s p K (length out) begun before kept l in
+      let r : runIn F (start .memory) ≡ begin s p K .run = ap (λ (y : Begun). y .run) (sym (begun-there s p K (length out) begun)) in
+      let z : markedIn F (start .memory) (start .marks) ≡ unmarked (begin s p K .run) =
+      unmarked-in F (start .memory) (begun-stands s p K (length out) begun) before kept ∙ ap unmarked r in
+      as-run (λ (y : List ℕ). CodeRefinesMarks y (begin s p K .run) l answers x)
+      (record {
+        left = ap (λ (y : Lent). markedIn F (y .memory) (y .marks)) (is .left-is) ∙ b .left ∙ ap (afterMarks (marksOfCalls l)) z;
+        answers-are = is .answers-are ∙ b .answers ∙ ap (returnedWithMarks l) z;
+      })
 
   holds : (P : Run → List ℕ → Type 0) → P (runIn F (lentMarksAfter F l start .memory)) (lentTurnsTo F l start nowhere .here) → P (runIn (tableThatRuns s a filled) (x .memory)) (w .here)
   holds P g =

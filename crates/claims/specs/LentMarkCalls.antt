@@ -1,34 +1,16 @@
 -- Lists of calls on a run in lent memory with marks beside it (N11): what they leave and return, and the turns that led there.
-use Prim.Native.Nat.{ℕ, zero, suc}
+use Prim.Native.Nat.{ℕ}
 use mathlib.Core.List.{List, [], _∷_, _++_}
 use Rattle.table.specs.Sum.{pick}
 use Rattle.schedule.specs.Turn.{unsound}
 use Rattle.run_memory.specs.Memory.{Memory}
-use Rattle.marks.specs.Marks.{Mark, unset, kept, maxMarks, Marked, marked, setValues, backValues, MarkCall, afterMark, Led, led, turnsBy}
+use Rattle.marks.specs.Marks.{Marked, setValues, backValues, MarkCall, afterMark, Led, led, turnsBy}
 use Rattle.marks.specs.Marks.{moving as onRun}
 use Rattle.marks.specs.Marks.{setting as marking}
 use Rattle.marks.specs.Marks.{going as returning}
-use Rattle.wivakkol_marks.specs.LentMarks.{Marks, isSetIn, markIn, lentMark, lentBack}
-use Rattle.claims.specs.Records.{recordIn}
+use Rattle.wivakkol_marks.specs.LentMarks.{Marks, lentMark, lentBack}
 use Rattle.claims.specs.LentCalls.{LentCall, moving, opening, Returned, returned, lentCall, lentRowOf}
 use Rattle.claims.specs.Answers.{answerOf, inNumbers}
-
--- ---- the run with its marks that stands there
-
--- n marks from the i-th on
-unfoldable pub marksFrom : (ℕ → Mark) → ℕ → ℕ → List Mark
-marksFrom f i zero = []
-marksFrom f i (suc n) = f i ∷ marksFrom f (suc i) n
-
--- a mark that is set keeps the record that stands in its memory beside the run's table
-abbrev pub keptIn : List ℕ → Marks → ℕ → Mark
-keptIn s K i = pick (isSetIn K i) (kept (recordIn s (markIn K i))) unset
-
-unfoldable pub marksIn : List ℕ → Marks → List Mark
-marksIn s K = marksFrom (keptIn s K) 0 maxMarks
-
-abbrev pub markedIn : List ℕ → Memory → Marks → Marked
-markedIn s M K = marked (recordIn s M) (marksIn s K)
 
 -- ---- calls
 
