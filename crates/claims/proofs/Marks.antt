@@ -69,7 +69,7 @@ pub data MarkCalled (m : Marked) : MarkCall → MarkAnswer → List ℕ → Mark
   by-back : {i : ℕ} {v : MarkValues} {r : Run} → BackSays m i v r → MarkCalled m (going i) (values v) [] (marked r (m .marks))
 
 -- the number that it answered; of a call that moves the run none is looked at
-abbrev numberIn : MarkAnswer → ℕ
+abbrev pub numberIn : MarkAnswer → ℕ
 numberIn (moved x) = 0
 numberIn (values v) = v .number
 
@@ -85,13 +85,13 @@ pub record MarkDefined (m : Marked) (w : Led ℕ) (cs : List MarkCall) (xs : Lis
   pub answers-are : xs ≡ markAnswersOf cs m
   pub turns-are : w' ≡ turnsTo cs m w
 
-record DefinedCall (m : Marked) (c : MarkCall) (x : MarkAnswer) (row : List ℕ) (m' : Marked) : Type 0 where
-  left-is : m' ≡ afterMark c m
-  answer-is : x ≡ markAnswerOf c m
-  number-is : numberIn x ≡ numberOf c m
-  row-is : row ≡ rowBy c m
+pub record DefinedCall (m : Marked) (c : MarkCall) (x : MarkAnswer) (row : List ℕ) (m' : Marked) : Type 0 where
+  pub left-is : m' ≡ afterMark c m
+  pub answer-is : x ≡ markAnswerOf c m
+  pub number-is : numberIn x ≡ numberOf c m
+  pub row-is : row ≡ rowBy c m
 
-call-is : {m : Marked} {c : MarkCall} {x : MarkAnswer} {row : List ℕ} {m' : Marked} → MarkCalled m c x row m' → DefinedCall m c x row m'
+pub call-is : {m : Marked} {c : MarkCall} {x : MarkAnswer} {row : List ℕ} {m' : Marked} → MarkCalled m c x row m' → DefinedCall m c x row m'
 unfolding afterMark
 call-is {m} (by-call h) =
     let d = by-value.call-is h in
@@ -173,13 +173,13 @@ module _ {s : List ℕ} {p K : ℕ} {b : Begun} (h : BeginSays s p K b) (e : b .
       subst (λ (q : Marked). P (q .run) (w .here)) (sym (d .left-is))
       (subst (P (afterMarks cs (unmarked (b .run)) .run)) (sym (ap (λ (x : Led ℕ). x .here) (d .turns-are) ∙ turns-led-to (b .run) cs)) g)
 
-  pub code-marked-limit : (most : ℕ) → 1 ≤ most → MemoryLimit (tableOf (filledOut s K)) p K most (m .run) (w .here)
-  code-marked-limit most g = history-holds (MemoryLimit (tableOf (filledOut s K)) p K most) (marked-limit s p K (b .run) begun cs most g)
+  pub promised-limit : (most : ℕ) → 1 ≤ most → MemoryLimit (tableOf (filledOut s K)) p K most (m .run) (w .here)
+  promised-limit most g = history-holds (MemoryLimit (tableOf (filledOut s K)) p K most) (marked-limit s p K (b .run) begun cs most g)
 
-  pub code-marked-threads : (most : ℕ) → 1 ≤ most → ThreadLimit (tableOf (filledOut s K)) p K most (m .run) (w .here)
-  code-marked-threads most g = history-holds (ThreadLimit (tableOf (filledOut s K)) p K most) (marked-threads s p K (b .run) begun cs most g)
+  pub promised-threads : (most : ℕ) → 1 ≤ most → ThreadLimit (tableOf (filledOut s K)) p K most (m .run) (w .here)
+  promised-threads most g = history-holds (ThreadLimit (tableOf (filledOut s K)) p K most) (marked-threads s p K (b .run) begun cs most g)
 
-  pub code-marked-turns : notIdle (replies (tableOf (filledOut s K)) K (startState (tableOf (filledOut s K))) (w .here)) ≤ turnsOf (tableOf (filledOut s K))
-  code-marked-turns =
+  pub promised-turns : notIdle (replies (tableOf (filledOut s K)) K (startState (tableOf (filledOut s K))) (w .here)) ≤ turnsOf (tableOf (filledOut s K))
+  promised-turns =
       history-holds (λ (q : Run) (row : List ℕ). notIdle (replies (tableOf (filledOut s K)) K (startState (tableOf (filledOut s K))) row) ≤ turnsOf (tableOf (filledOut s K)))
       (marked-turns s p K (b .run) begun cs)
