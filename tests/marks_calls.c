@@ -68,12 +68,27 @@ static uint32_t on_stack(void)
     return (uint32_t)(sizeof stack - low);
 }
 
+static int zero(const void *from, size_t size)
+{
+    const uint8_t *byte = from;
+    while (size > 0 && *byte == 0) byte++, size--;
+    return size == 0;
+}
+
+/* Every array of the working memory. */
+#define ZERO(part) zero(part, sizeof(part))
+static uint8_t cleared(void)
+{
+    return ZERO(work.run.sums) && ZERO(work.run.numbers) && ZERO(work.run.words) && ZERO(work.run.bytes) && ZERO(work.amounts) && ZERO(work.next) &&
+           ZERO(work.left) && ZERO(work.right) && ZERO(work.status) && ZERO(work.work.rises) && ZERO(work.work.falls) && ZERO(work.work.forks) &&
+           ZERO(work.work.parents) && ZERO(work.work.list);
+}
+
 int main(void)
 {
     while ((call = getchar()) != EOF) {
         uint32_t deep;
-        size_t at;
-        uint8_t cleared = 1;
+        uint8_t clear;
         if (call == 'm') { change(&run); continue; }
         if (call == 'k') { change(&marks); continue; }
         if (call == 't') { n = bytes(table); continue; }
@@ -83,10 +98,10 @@ int main(void)
         answer = 0;
         memset(&work, 0x5a, sizeof work);
         deep = on_stack();
-        for (at = 0; at < sizeof work; at++) cleared = cleared && ((uint8_t *)&work)[at] == 0;
+        clear = cleared();
         put(&answer, 4);
         put(&deep, 4);
-        put(&cleared, 1);
+        put(&clear, 1);
         put(&run, sizeof run);
         put(&marks, sizeof marks);
     }

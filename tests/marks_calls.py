@@ -184,7 +184,7 @@ WANTED = ['mark 0', 'mark 32', 'mark 45', 'back 0', 'back 32', 'back 45', 'back 
 
 def main():
     rng = random.Random(11)
-    count = int(sys.argv[1]) if len(sys.argv) > 1 else 60
+    count = int(sys.argv[1]) if len(sys.argv) > 1 else 150
     plays = [worked(rng)] + [drawn_play(rng) for _ in range(count)]
     reached, deepest, calls = sum((play.reached for play in plays), collections.Counter()), 0, 0
     with tempfile.TemporaryDirectory() as folder:
@@ -206,7 +206,7 @@ def main():
                     deepest, calls = max(deepest, deep), calls + 1
     assert deepest < 8192, deepest
     missing = [name for name in WANTED if not reached[name]]
-    assert count < 60 or not missing, missing
+    assert count < 150 or not missing, missing
     print('%d calls on marks agree; %s; deepest stack %d bytes' % (calls, ', '.join('%s: %d' % (name, reached[name]) for name in WANTED), deepest))
 
 

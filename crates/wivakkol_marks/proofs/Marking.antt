@@ -10,24 +10,17 @@ use borrow.Author.Tests.{lt-ltb, le-ltb, eq-eqb, ne-eqb}
 use Rattle.run_memory.specs.Memory.{Memory}
 use Rattle.wivakkol.specs.Lent.{blankMemory}
 use Rattle.wivakkol.specs.Opened.{lentOpen}
-use Rattle.wivakkol_marks.specs.LentMarks.{Marks, marks, memoryAt, memoriesFrom, marksOf, mended, isSetIn, markIn, fitIn, fitMarks, fitMarked, markFault, backFault, setting, lentMark, going, lentBack}
+use Rattle.wivakkol_marks.proofs.Stretches.{row-here}
+use Rattle.wivakkol_marks.specs.LentMarks.{Marks, marks, memoryAt, marksOf, mended, isSetIn, markIn, fitIn, fitMarks, fitMarked, markFault, backFault, setting, lentMark, going, lentBack}
 
 -- ---- one mark
-
-memories-at : (f : ℕ → Memory) (d : Memory) (k n i : ℕ) → i < n → getD (memoriesFrom f k n) i d ≡ f (k + i)
-unfolding memoriesFrom
-memories-at f d k zero i h = absurd (omega (arith, h))
-memories-at f d k (suc n) zero h = let e : k ≡ k + 0 = omega arith in ap f e
-memories-at f d k (suc n) (suc i) h = let e : suc k + i ≡ k + suc i = omega arith in memories-at f d (suc k) n i (omega (arith, h)) ∙ ap f e
 
 module _ (set b w n z : List ℕ) (i : ℕ) (h : i < 8) where
   abbrev K : Marks
   K = marksOf set b w n z
 
   pub mark-at : {M : Memory} → M ≡ mended (memoryAt b w n z i) → M ≡ markIn K i
-  mark-at e =
-      let p : 0 + i ≡ i = omega arith in
-      e ∙ ap mended (sym (memories-at (memoryAt b w n z) blankMemory 0 8 i h ∙ ap (memoryAt b w n z) p))
+  mark-at e = e ∙ ap mended (sym (row-here (memoryAt b w n z) blankMemory 8 i h))
 
   pub mark-fits : (s : List ℕ) {M : Memory} {r : Bool} → (getD set i 0 ≡ 0 → ⊥) → M ≡ mended (memoryAt b w n z i) → r ≡ fitIn s M → r ≡ (not (isSetIn K i) || fitIn s (markIn K i))
   mark-fits s d e f = rw (ne-eqb (getD set i 0) 0 d) (f ∙ ap (fitIn s) (mark-at e))

@@ -7,7 +7,7 @@ use native.Mathlib.Omega.{arith}
 use native.Mathlib.Decide.{decLt}
 use mathlib.Core.List.{List, [], _∷_}
 use mathlib.Core.Bool.{Bool, true, false}
-use lib.ListN.{length, set, drop}
+use lib.ListN.{length, getD, set, drop}
 use lib.Seq.{paste, take-all}
 use lib.Dec.{eqb}
 use borrow.Author.Tests.{eqb-true, eqb-false, eq-eqb, ne-eqb}
@@ -18,7 +18,7 @@ use Rattle.run_memory.specs.Blocks.{part, Bytes, Words, Numbers, Sums, gathered
 use Rattle.run_memory.specs.Places.{manned, mannedWords, mannedNumbers}
 use Rattle.run_memory.specs.Stands.{workersFrom}
 use Rattle.run_memory.proofs.Copied.{paste-whole, part-paste, part-apart}
-use Rattle.wivakkol_marks.specs.LentMarks.{memoryAt, memoriesFrom, mended}
+use Rattle.wivakkol_marks.specs.LentMarks.{memoryAt, rowFrom, mended}
 
 -- a stretch of n ends where the next begins, or before
 pub stretch-end : (n : ℕ) {i j : ℕ} → i < j → n * i + n ≤ n * j
@@ -51,28 +51,39 @@ module _ (n i : ℕ) (l x : List ℕ) (h : i < 8) (z : n * 8 ≤ length l) (y : 
       go true e = rw (eqb-true j i e) (part-paste l (n * i) x n room enough ∙ take-all n x (omega (arith, y)))
       go false e = stretch-other j (eqb-false j i e)
 
--- ---- the marks' memories, one of them anew
+-- ---- a row, one of its values anew
 
-memories-same : (f g : ℕ → Memory) (k n : ℕ) → ((j : ℕ) → k ≤ j → g j ≡ f j) → memoriesFrom g k n ≡ memoriesFrom f k n
-unfolding memoriesFrom
-memories-same f g k zero h = refl
-memories-same f g k (suc n) h =
-    let e : g k ≡ f k = h k (omega arith) in
-    let r : memoriesFrom g (suc k) n ≡ memoriesFrom f (suc k) n = memories-same f g (suc k) n (λ j l. h j (omega (arith, l))) in
-    λ i. e i ∷ r i
+module _ {A : Type 0} where
+  row-same : (f g : ℕ → A) (k n : ℕ) → ((j : ℕ) → k ≤ j → g j ≡ f j) → rowFrom g k n ≡ rowFrom f k n
+  unfolding rowFrom
+  row-same f g k zero h = refl
+  row-same f g k (suc n) h =
+      let e : g k ≡ f k = h k (omega arith) in
+      let r : rowFrom g (suc k) n ≡ rowFrom f (suc k) n = row-same f g (suc k) n (λ j l. h j (omega (arith, l))) in
+      λ i. e i ∷ r i
 
-pub memories-set : (f g : ℕ → Memory) (x : Memory) (k n d : ℕ) → ((j : ℕ) → g j ≡ pick (eqb j (k + d)) x (f j)) → memoriesFrom g k n ≡ set (memoriesFrom f k n) d x
-unfolding memoriesFrom
-memories-set f g x k zero d h = refl
-memories-set f g x k (suc n) zero h =
-    let e : g k ≡ x = h k ∙ rw (eq-eqb k (k + 0) (omega arith)) in
-    let r : memoriesFrom g (suc k) n ≡ memoriesFrom f (suc k) n = memories-same f g (suc k) n (λ j l. h j ∙ rw (ne-eqb j (k + 0) (λ q. omega (arith, q, l)))) in
-    λ i. e i ∷ r i
-memories-set f g x k (suc n) (suc d) h =
-    let e : g k ≡ f k = h k ∙ rw (ne-eqb k (k + suc d) (λ q. omega (arith, q))) in
-    let p : k + suc d ≡ suc k + d = omega arith in
-    let r : memoriesFrom g (suc k) n ≡ set (memoriesFrom f (suc k) n) d x = memories-set f g x (suc k) n d (λ j. h j ∙ ap (λ (m : ℕ). pick (eqb j m) x (f j)) p) in
-    λ i. e i ∷ r i
+  pub row-set : (f g : ℕ → A) (x : A) (k n d : ℕ) → ((j : ℕ) → g j ≡ pick (eqb j (k + d)) x (f j)) → rowFrom g k n ≡ set (rowFrom f k n) d x
+  unfolding rowFrom
+  row-set f g x k zero d h = refl
+  row-set f g x k (suc n) zero h =
+      let e : g k ≡ x = h k ∙ rw (eq-eqb k (k + 0) (omega arith)) in
+      let r : rowFrom g (suc k) n ≡ rowFrom f (suc k) n = row-same f g (suc k) n (λ j l. h j ∙ rw (ne-eqb j (k + 0) (λ q. omega (arith, q, l)))) in
+      λ i. e i ∷ r i
+  row-set f g x k (suc n) (suc d) h =
+      let e : g k ≡ f k = h k ∙ rw (ne-eqb k (k + suc d) (λ q. omega (arith, q))) in
+      let p : k + suc d ≡ suc k + d = omega arith in
+      let r : rowFrom g (suc k) n ≡ set (rowFrom f (suc k) n) d x = row-set f g x (suc k) n d (λ j. h j ∙ ap (λ (m : ℕ). pick (eqb j m) x (f j)) p) in
+      λ i. e i ∷ r i
+
+  pub row-at : (f : ℕ → A) (d : A) (k n i : ℕ) → i < n → getD (rowFrom f k n) i d ≡ f (k + i)
+  unfolding rowFrom
+  row-at f d k zero i h = absurd (omega (arith, h))
+  row-at f d k (suc n) zero h = let e : k ≡ k + 0 = omega arith in ap f e
+  row-at f d k (suc n) (suc i) h = let e : suc k + i ≡ k + suc i = omega arith in row-at f d (suc k) n i (omega (arith, h)) ∙ ap f e
+
+  -- from 0 on
+  pub row-here : (f : ℕ → A) (d : A) (n i : ℕ) → i < n → getD (rowFrom f 0 n) i d ≡ f i
+  row-here f d n i h = let e : 0 + i ≡ i = omega arith in row-at f d 0 n i h ∙ ap f e
 
 module _ (i : ℕ) (h : i < 8) (bytes words numbers sums b w n s : List ℕ) (yb : length bytes ≡ 1040) (yw : length words ≡ 6163) (yn : length numbers ≡ 18) (ys : length sums ≡ 1027)
     (zb : length b ≡ 8320) (zw : length w ≡ 49304) (zn : length n ≡ 144) (zs : length s ≡ 8216) where
@@ -93,15 +104,15 @@ module _ (i : ℕ) (h : i < 8) (bytes words numbers sums b w n s : List ℕ) (yb
       go true = refl
       go false = refl
 
-  pub stored-in : memoriesFrom after 0 8 ≡ set (memoriesFrom (memoryAt b w n s) 0 8) i (memoryOf bytes words numbers sums)
+  pub stored-in : rowFrom after 0 8 ≡ set (rowFrom (memoryAt b w n s) 0 8) i (memoryOf bytes words numbers sums)
   stored-in =
       let z : i ≡ 0 + i = omega arith in
-      memories-set (memoryAt b w n s) after (memoryOf bytes words numbers sums) 0 8 i
+      row-set (memoryAt b w n s) after (memoryOf bytes words numbers sums) 0 8 i
       (λ j. at j ∙ ap (λ (m : ℕ). pick (eqb j m) (memoryOf bytes words numbers sums) (memoryAt b w n s j)) z)
 
   pub stores : {b' w' n' s' : List ℕ} → b' ≡ paste b (1040 * i) (drop 0 bytes) 1040 → w' ≡ paste w (6163 * i) (drop 0 words) 6163 → n' ≡ paste n (18 * i) (drop 0 numbers) 18
-      → s' ≡ paste s (1027 * i) (drop 0 sums) 1027 → memoriesFrom (memoryAt b' w' n' s') 0 8 ≡ set (memoriesFrom (memoryAt b w n s) 0 8) i (memoryOf bytes words numbers sums)
-  stores eb ew en es = (λ k. memoriesFrom (memoryAt (eb k) (ew k) (en k) (es k)) 0 8) ∙ stored-in
+      → s' ≡ paste s (1027 * i) (drop 0 sums) 1027 → rowFrom (memoryAt b' w' n' s') 0 8 ≡ set (rowFrom (memoryAt b w n s) 0 8) i (memoryOf bytes words numbers sums)
+  stores eb ew en es = (λ k. rowFrom (memoryAt (eb k) (ew k) (en k) (es k)) 0 8) ∙ stored-in
 
 pub loads : (i : ℕ) (b w n s : List ℕ) {b' w' n' s' : List ℕ} → b' ≡ part (1040 * i) 1040 b → w' ≡ part (6163 * i) 6163 w → n' ≡ part (18 * i) 18 n → s' ≡ part (1027 * i) 1027 s → {M : Memory}
     → M ≡ mended (memoryOf b' w' n' s') → M ≡ mended (memoryAt b w n s i)

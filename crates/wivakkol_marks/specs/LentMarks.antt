@@ -27,13 +27,13 @@ abbrev pub memoryAt : List ℕ → List ℕ → List ℕ → List ℕ → ℕ �
 memoryAt bytes words numbers sums i =
     memoryOf (part (1040 * i) 1040 bytes) (part (6163 * i) 6163 words) (part (18 * i) 18 numbers) (part (1027 * i) 1027 sums)
 
--- n memories from the i-th on
-unfoldable pub memoriesFrom : (ℕ → Memory) → ℕ → ℕ → List Memory
-memoriesFrom f i zero = []
-memoriesFrom f i (suc n) = f i ∷ memoriesFrom f (suc i) n
+-- n values of a function, from i on
+unfoldable pub rowFrom : {A : Type 0} → (ℕ → A) → ℕ → ℕ → List A
+rowFrom f i zero = []
+rowFrom f i (suc n) = f i ∷ rowFrom f (suc i) n
 
 abbrev pub marksOf : List ℕ → List ℕ → List ℕ → List ℕ → List ℕ → Marks
-marksOf set bytes words numbers sums = marks set (memoriesFrom (memoryAt bytes words numbers sums) 0 8)
+marksOf set bytes words numbers sums = marks set (rowFrom (memoryAt bytes words numbers sums) 0 8)
 
 -- a mark's memory as it is read: of a worker that holds a thread, the number that says so may be any but 0
 abbrev pub mended : Memory → Memory

@@ -6,7 +6,7 @@ ghost use Prim.Native.Nat.{_+_, _*_, _≤_, _<_};
 ghost use lib.ListN.{length, drop, set};
 ghost use lib.Seq.{paste};
 ghost use Rattle.run_memory.specs.Blocks.{part, memoryOf};
-ghost use Rattle.wivakkol_marks.specs.LentMarks.{memoryAt, memoriesFrom, mended};
+ghost use Rattle.wivakkol_marks.specs.LentMarks.{memoryAt, rowFrom, mended};
 
 // n numbers copied, of each width, from a place of one part to a place of another.
 fn copy_bytes(from: &[u8], start: usize, to: &mut [u8], at: usize, n: usize)
@@ -94,6 +94,14 @@ pub(crate) fn load(
     mend(bytes, words, numbers, &*sums);
 }
 
+// A mark is set.
+pub(crate) fn note(flags: &mut [u8], at: usize)
+    requires { ⌜ at < length (now flags) ⌝ }
+    ensures { λ _. ⌜ now (flags .exit) ≡ set (now (flags .entry)) at 1 ⌝ }
+{
+    flags[at] = 1;
+}
+
 // A run's blocks into mark i.
 pub(crate) fn store(
     i: usize,
@@ -107,8 +115,8 @@ pub(crate) fn store(
     marksums: &mut [u64; 8216],
 )
     requires { ⌜ i < 8 ⌝ }
-    ensures { λ _. ⌜ memoriesFrom (memoryAt (now (markbytes .exit)) (now (markwords .exit)) (now (marknumbers .exit)) (now (marksums .exit))) 0 8
-        ≡ set (memoriesFrom (memoryAt (now (markbytes .entry)) (now (markwords .entry)) (now (marknumbers .entry)) (now (marksums .entry))) 0 8) i
+    ensures { λ _. ⌜ rowFrom (memoryAt (now (markbytes .exit)) (now (markwords .exit)) (now (marknumbers .exit)) (now (marksums .exit))) 0 8
+        ≡ set (rowFrom (memoryAt (now (markbytes .entry)) (now (markwords .entry)) (now (marknumbers .entry)) (now (marksums .entry))) 0 8) i
         (memoryOf (now (bytes .entry)) (now (words .entry)) (now (numbers .entry)) (now (sums .entry))) ⌝ }
 {
     copy_bytes(bytes, 0, markbytes, 1040 * i, 1040);

@@ -1,13 +1,14 @@
 // Marks to come back to (N11), as C calls them: on numbers and lent memory alone, answering any input whatever. They stand in an archive of their own, so that a board without marks pays
 // nothing for them. include/wivakkol_marks.h has the prototypes.
 use crate::copies::load;
+use crate::copies::note;
 use crate::copies::store;
 use crate::standing::fit;
 use crate::standing::reopen;
 ghost use mathlib.Core.Path.{_≡_};
 ghost use mathlib.Core.Bool.{not, _||_};
 ghost use Prim.Native.Nat.{_<_};
-ghost use lib.ListN.{replicate};
+ghost use lib.ListN.{length, replicate};
 ghost use Rattle.run_memory.specs.Blocks.{memoryOf};
 ghost use Rattle.wivakkol_marks.specs.LentMarks.{marksOf, isSetIn, markIn, fitIn, fitMarks, fitMarked, setting, lentMark, going, lentBack, Cleared};
 
@@ -19,6 +20,8 @@ const UNSOUND: u32 = 32;
 
 // a mark above 7
 const NO_MARK: u32 = 45;
+
+const LAST_MARK: u32 = 7;
 
 // a mark that is not set
 const NOT_SET: u32 = 46;
@@ -216,7 +219,7 @@ fn fit_marked(
 }
 
 // The working memory is cleared.
-fn clear(
+pub fn clear(
     sparebytes: &mut [u8; 1040],
     sparewords: &mut [u16; 6163],
     sparenumbers: &mut [u32; 18],
@@ -250,7 +253,8 @@ fn clear(
     *list = [0; 1024];
 }
 
-fn set_mark(
+// Sets mark i to the run as it is: 32, of the run or of a set mark, 45. What is left in the working memory is not said.
+pub fn set_mark(
     table: &[u8],
     i: u32,
     bytes: &[u8; 1040],
@@ -278,6 +282,7 @@ fn set_mark(
     list: &mut [u16; 1024],
 ) -> u32
     ensures { λ r. ⌜ setting r (marksOf (now (set .exit)) (now (markbytes .exit)) (now (markwords .exit)) (now (marknumbers .exit)) (now (marksums .exit))) ≡ lentMark (now (table .entry)) i (memoryOf (now (bytes .entry)) (now (words .entry)) (now (numbers .entry)) (now (sums .entry))) (marksOf (now (set .entry)) (now (markbytes .entry)) (now (markwords .entry)) (now (marknumbers .entry)) (now (marksums .entry))) ⌝ }
+    ensures { λ r. ⌜ (r ≡ 0 → length (now (set .entry)) ≡ 8) ⌝ }
 {
     let fits = fit_marked(
         table,
@@ -308,7 +313,7 @@ fn set_mark(
     if !fits {
         return UNSOUND;
     }
-    if 7 < i {
+    if LAST_MARK < i {
         return NO_MARK;
     }
     let at = i as usize;
@@ -323,11 +328,12 @@ fn set_mark(
         marknumbers,
         marksums,
     );
-    set[at] = 1;
+    note(set, at);
     0
 }
 
-fn go_back(
+// Goes back to mark i: 32, 45, 46, or the run that it keeps, opened.
+pub fn go_back(
     table: &[u8],
     i: u32,
     bytes: &mut [u8; 1040],
@@ -385,7 +391,7 @@ fn go_back(
     if !fits {
         return UNSOUND;
     }
-    if 7 < i {
+    if LAST_MARK < i {
         return NO_MARK;
     }
     let at = i as usize;
