@@ -1,6 +1,6 @@
 -- What a visitor is sent to, each from the functions' own promises: by value (ByValue) and from C (FromC, and from an opening on: Opened) a history of calls is document 01's, and both limits
--- hold of it; a quota that is given serves (Board); one run in rounds needs no condition on its turns (Rounds); the peak of p workers needs none on any (Peaks); a limit of turns that is given serves (Turns).
--- hold of it; a quota that is given serves (Board); one run in rounds needs no condition on its turns (Rounds); a limit of turns that is given serves (Turns);
+-- hold of it; a quota that is given serves (Board); one run in rounds needs no condition on its turns (Rounds); the peak of p workers needs none on any (Peaks); a limit of turns that is given
+-- serves (Turns);
 -- with marks among the calls (N11) the limits hold too, on the definitions (Marks), by value (MarksByValue) and from C (MarksFromC).
 pub mod ByValue
 pub mod Marks
