@@ -27,7 +27,7 @@ use Rattle.schedule.proofs.Sound.Done.{next-below}
 use Rattle.schedule.proofs.Preservation.Releases.{Acting, acting}
 use Rattle.schedule.proofs.Preservation.Turns.{leftmost-ready, taken-holds, act-facts}
 use Rattle.order.proofs.Depth.{level-depends}
-use Rattle.peaks.proofs.Holders.{leftmost-first}
+use Rattle.peaks.proofs.Takes.{leftmost-first}
 use Rattle.bounds.proofs.Ages.{age, age-other}
 use Rattle.schedule.proofs.Bounds.Beyond.{startAction, begins, beginsBeyond, Enabled}
 use Rattle.bounds.proofs.Enables.{After, same, fresh, kept, Leaves, act-after, act-leaves}

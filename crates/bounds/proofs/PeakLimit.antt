@@ -27,7 +27,7 @@ use Rattle.filling.proofs.Delay.{drawnCost, Delayed}
 use Rattle.peaks.specs.Peak.{Light, workersPeak}
 use Rattle.peaks.specs.Rests.{stretch, covered, restingPeak, usefulLimit}
 use Rattle.peaks.proofs.LoadLaw.{row-light}
-use Rattle.peaks.proofs.Calm.{NoQuota}
+use Rattle.peaks.proofs.Unpreempted.{NoQuota}
 use Rattle.peaks.proofs.RowPeaks.{row-peak, row-rests, row-quiet}
 use Rattle.peaks.proofs.Useful.{useful-peak, useful-within}
 use Rattle.bounds.proofs.FrontParts.{keeps-front, peak-within, front-bound}
@@ -54,7 +54,7 @@ module _ (T : Table) (l : Lawful T) (p K : ℕ) (some : 1 ≤ p) (few : p ≤ 16
             front-bound T l p K some few delayed row h b g (ruled g) row [] (sym (append-nil row))
 
         by-K : (q : Bool) → leb (stretch T K) K ≡ q → memoryOf T K row ≤ pick q (restingPeak T p) (workersPeak T p)
-        by-K true e = row-rests T l p K few some (leb-true (stretch T K) K e) row h
+        by-K true e = row-rests T l p K few (leb-true (stretch T K) K e) row h
         by-K false e = row-peak T l p K few row h
 
     row-usefuls : (row : List ℕ) → Below p row → Ruled b row → peakMemory T K row ≤ usefulLimit T p K b
@@ -133,5 +133,5 @@ module _ (s : List ℕ) (p K : ℕ) (r : Run) (e : begin s p K ≡ record { answ
         within = λ ruled. let whole = bounded row [] (sym (append-nil row)) ruled in (rw held (whole .0), rw highest (whole .1));
         bounded = bounded;
         lower = (useful-peak T p K b, useful-within T p K b);
-        quiet = λ covers. row-quiet T (i .lawful) p K (i .few-workers) (i .some-worker) covers row below;
+        quiet = λ covers. row-quiet T (i .lawful) p K (i .few-workers) covers row below;
       }

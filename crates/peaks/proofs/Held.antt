@@ -14,6 +14,7 @@ use Rattle.table.specs.Checks.{openBefore, endOf, tail}
 use Rattle.table.proofs.Sums.{sumTo-zero}
 use Rattle.table.proofs.Bodies.{after-end, end-kind}
 use Rattle.table.proofs.Nesting.{open-first}
+use Rattle.table.proofs.NestedThreads.{greatest-at}
 use Rattle.schedule.specs.declared.Worker.{Worker}
 use Rattle.schedule.specs.Machine.{State, unborn, ended, nextOf, statusOf}
 use Rattle.schedule.specs.Sound.{Common, balanceTo, progress, isJoined}
@@ -21,10 +22,10 @@ use Rattle.order.proofs.Lawful.{Lawful}
 use Rattle.schedule.proofs.Sound.Facts.{Facts}
 use Rattle.schedule.proofs.Sound.Shares.{progress-ended, progress-next}
 use Rattle.peaks.specs.Peak.{unended, unendedIn, outer, fresh, past, load, Light, final, gain, most, peakOn, peakAt}
-use Rattle.peaks.proofs.Opens.{reach, greatest-at, Forked, Stacked, stacked, open-over}
+use Rattle.peaks.proofs.Opens.{reach, Forked, Stacked, stacked, open-over}
 use Rattle.peaks.proofs.Loads.{outer-root, outer-child}
 use Rattle.peaks.proofs.Peaks.{gain-ended, gain-unended, peak-at}
-use Rattle.peaks.proofs.Telescope.{within-weights}
+use Rattle.peaks.proofs.Weights.{within-weights}
 use Rattle.peaks.proofs.LiveList.{withLive, common-facts}
 
 -- Thread t's place, or an earlier one where it may stand, with no more unended children, and since which it and all below it hold at most `extra` more.

@@ -1,17 +1,17 @@
 -- counting, the children that stand open, and held memory against weights of threads
 pub mod Counts
 pub mod Opens
-pub mod Telescope
+pub mod Weights
 pub mod LiveList
 -- loads and peaks; the peak theorem
 pub mod Loads
 pub mod Peaks
 pub mod Held
 -- the load law
-pub mod Holders
+pub mod Takes
 pub mod LoadLaw
 -- resting places
-pub mod Calm
+pub mod Unpreempted
 pub mod Rises
 pub mod Resting
 -- one worker, the parallel peak, sizes
@@ -19,7 +19,5 @@ pub mod OneWorker
 pub mod PeakSizes
 pub mod Parallel
 pub mod Useful
--- how a program computes it
-pub mod Walks
 -- rows of turns from the beginning
 pub mod RowPeaks

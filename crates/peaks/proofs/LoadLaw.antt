@@ -1,5 +1,5 @@
 -- The load law: from a beginning, whatever the order of the turns of p workers, every entered unended thread has load at most p − 1. The load of a thread grows only when it is taken; and then
--- it is at most the number of the other workers (proofs/Holders).
+-- it is at most the number of the other workers (proofs/Takes).
 use mathlib.Core.Path.{_≡_, refl, sym, ap, _∙_}
 use Prim.Native.Nat.{ℕ, zero, suc, _+_, _-_, _≤_, _<_}
 use native.Mathlib.Omega.{arith}
@@ -33,7 +33,7 @@ use Rattle.schedule.proofs.Bounds.Beyond.{startAction, begins}
 use Rattle.schedule.proofs.Bounds.Tries.{Tries, Turned, idles, tries, turned, undone-before}
 use Rattle.peaks.specs.Peak.{unended, unendedIn, outerWithin, outer, fresh, past, load, Light}
 use Rattle.peaks.proofs.Loads.{past-fewer}
-use Rattle.peaks.proofs.Holders.{taken-few}
+use Rattle.peaks.proofs.Takes.{taken-few}
 
 -- ---- fewer unended threads
 

@@ -9,24 +9,19 @@ use Rattle.table.specs.Format.{fork, Table, kind}
 use Rattle.table.specs.Checks.{owner, openBefore, tail}
 use Rattle.table.specs.Level.{forkBelow}
 use Rattle.table.proofs.Bodies.{fork-above, fork-below}
-use Rattle.table.proofs.Nesting.{fork-found, fork-exists}
+use Rattle.table.proofs.Nesting.{fork-found}
+use Rattle.table.proofs.NestedThreads.{parent-lower}
 use Rattle.order.proofs.Lawful.{Lawful}
 use Rattle.peaks.specs.Peak.{unendedIn, elders, outerWithin, outer, fresh, past}
 
 module _ (T : Table) (l : Lawful T) (status : List ℕ) where
-  parent-lower : (t : ℕ) → 0 < t → t < T .threads → owner T (forkBelow T (T .actions) t) < t
-  parent-lower t h k =
-      let (x, i, f, e) = fork-exists T (l .contents) (l .bodies) (l .nesting) (l .forking) t h k in
-      let z : forkBelow T (T .actions) t ≡ x = rw e at (fork-found T (l .contents) (l .bodies) (l .nesting) x i f) in
-      rw z (omega (arith, fork-above T (l .contents) (l .bodies) x i f, e))
-
   outer-enough : (k j t : ℕ) → t < T .threads → t < k → t < j → outerWithin k T status t ≡ outerWithin j T status t
   unfolding outerWithin
   outer-enough zero j t h p q = absurd (omega arith)
   outer-enough (suc k) zero t h p q = absurd (omega arith)
   outer-enough (suc k) (suc j) zero h p q = refl
   outer-enough (suc k) (suc j) (suc t) h p q =
-      let i = parent-lower (suc t) (omega arith) h in
+      let i = parent-lower T (l .contents) (l .bodies) (l .nesting) (l .forking) (suc t) (omega arith) h in
       ap (elders T status (suc t) +_) (outer-enough k j (owner T (forkBelow T (T .actions) (suc t))) (omega arith) (omega arith) (omega arith))
 
   pub outer-root : outer T status 0 ≡ 0

@@ -16,11 +16,12 @@ use Rattle.table.proofs.Nesting.{open-first, open-fork, open-below}
 use Rattle.table.proofs.Amounts.{forkPart, forkPart-open, action-within, action-next, whole-is}
 use Rattle.table.proofs.Peaks.{topAt, part-held, peak-thread}
 use Rattle.table.proofs.Peaks.{peakAt as serialPeak}
+use Rattle.table.proofs.NestedThreads.{greatest-at, greatest-under}
 use Rattle.schedule.specs.Sound.{balanceTo}
 use Rattle.order.proofs.Lawful.{Lawful}
 use Rattle.schedule.proofs.Sound.Balances.{balance-step}
 use Rattle.peaks.specs.Peak.{fresh, final, gain, most, peakThere, peakAt, workersPeak}
-use Rattle.peaks.proofs.Opens.{greatest-at, greatest-under, open-over}
+use Rattle.peaks.proofs.Opens.{open-over}
 use Rattle.peaks.proofs.Peaks.{peak-is, peak-at}
 
 -- all open children ended

@@ -1,6 +1,6 @@
 -- The children that stand open: they have higher numbers, and each was forked when those below it in the list stood open.
 use mathlib.Core.Path.{_≡_, refl, _∙_}
-use Prim.Native.Nat.{ℕ, zero, suc, _+_, _≤_, _<_, max}
+use Prim.Native.Nat.{ℕ, zero, suc, _+_, _≤_, _<_}
 use native.Mathlib.Omega.{arith}
 use native.Mathlib.Nat.{add-suc, add-zero}
 use native.Mathlib.Decide.{decLt}
@@ -21,20 +21,6 @@ unfoldable pub reach : Table → (ℕ → ℕ) → ℕ → ℕ → ℕ
 reach T weight t k = balanceTo T t k + sumOver weight (openBefore T (T .first t + k))
 
 -- ---- greatest elements
-
-pub greatest-at : (f : ℕ → ℕ) (k i : ℕ) → i < k → f i ≤ greatestTo f k
-unfolding greatestTo
-greatest-at f zero i h = absurd (omega arith)
-greatest-at f (suc k) i h = go (greatest-at f k i) (decLt i k)
-  where
-    go : (i < k → f i ≤ greatestTo f k) → Dec (i < k) → f i ≤ max (greatestTo f k) (f k)
-    go ih (yes l) = omega (arith, ih l)
-    go ih (no l) = let e : i ≡ k = omega (arith, l) in rw e (omega arith)
-
-pub greatest-under : (f : ℕ → ℕ) (k B : ℕ) → ((i : ℕ) → i < k → f i ≤ B) → greatestTo f k ≤ B
-unfolding greatestTo
-greatest-under f zero B h = omega arith
-greatest-under f (suc k) B h = omega (arith, greatest-under f k B (λ i l. h i (omega arith)), h k (omega arith))
 
 pub greatest-same : (f g : ℕ → ℕ) (k : ℕ) → ((i : ℕ) → i < k → f i ≡ g i) → greatestTo f k ≡ greatestTo g k
 unfolding greatestTo

@@ -11,6 +11,7 @@ use Rattle.table.specs.Format.{Kind, end, work, alloc, free, fork, join, unknow
 use Rattle.table.specs.Checks.{openBefore, opened}
 use Rattle.table.proofs.Sums.{sumTo-zero}
 use Rattle.table.proofs.Bodies.{body-within}
+use Rattle.table.proofs.NestedThreads.{greatest-at, greatest-under}
 use Rattle.schedule.specs.declared.Run.{Run}
 use Rattle.schedule.specs.declared.Worker.{Worker}
 use Rattle.schedule.specs.Machine.{State}
@@ -22,8 +23,8 @@ use Rattle.schedule.proofs.Sound.Shares.{progress-within}
 use Rattle.schedule.proofs.Stores.{steady-lawful, steady-facts}
 use Rattle.peaks.specs.Peak.{fresh, final, gain, most, peakThere, peakOn, peakAt, workersPeak}
 use Rattle.peaks.specs.Rests.{bestWithin, best, parallelPeak}
-use Rattle.peaks.proofs.Opens.{reach, greatest-at, greatest-under, greatest-same, open-child, open-over}
-use Rattle.peaks.proofs.Telescope.{within-weights}
+use Rattle.peaks.proofs.Opens.{reach, greatest-same, open-child, open-over}
+use Rattle.peaks.proofs.Weights.{within-weights}
 use Rattle.peaks.proofs.LiveList.{withLive, common-facts}
 use Rattle.peaks.proofs.Peaks.{peak-is, peak-at}
 use Rattle.peaks.proofs.PeakSizes.{most-under}

@@ -10,10 +10,11 @@ use Rattle.table.specs.Format.{fork, Table}
 use Rattle.table.specs.Checks.{openBefore, allocOf, withChild, whole}
 use Rattle.table.proofs.Sums.{sumTo-part}
 use Rattle.table.proofs.Amounts.{forkPart-open, forkPart-whole, whole-is, whole-bound}
+use Rattle.table.proofs.NestedThreads.{greatest-under}
 use Rattle.schedule.specs.Sound.{balanceTo}
 use Rattle.order.proofs.Lawful.{Lawful}
 use Rattle.peaks.specs.Peak.{fresh, final, gain, oneMore, most, peakThere, peakOn}
-use Rattle.peaks.proofs.Opens.{greatest-under, open-child, open-over}
+use Rattle.peaks.proofs.Opens.{open-child, open-over}
 use Rattle.peaks.proofs.Peaks.{peak-is}
 
 module _ (T : Table) (peak : ℕ → ℕ → ℕ) (B : ℕ → ℕ) where
@@ -43,32 +44,37 @@ module _ (T : Table) (peak : ℕ → ℕ → ℕ) (B : ℕ → ℕ) where
       go true (c ∷ l) h = omega (arith, gain-under r l r (λ d m. h d (List·Memᴰ·tail m)), h c (List·Memᴰ·head refl) .1 0)
 
 module _ (T : Table) (l : Lawful T) where
-  final-whole : (t : ℕ) → t < T .threads → final T t ≤ whole T (allocOf T) t
+  pub final-whole : (t : ℕ) → t < T .threads → final T t ≤ whole T (allocOf T) t
   final-whole t h = omega (arith, whole-is T (l .contents) (l .bodies) (allocOf T) t h)
 
-  there-whole : (stop : ℕ → Bool) (t r k : ℕ) → t < T .threads → k ≤ T .count t → ((d s : ℕ) → t < d → d < T .threads → peakOn T stop d s ≤ whole T (allocOf T) d)
-      → peakThere T (peakOn T stop) t r k ≤ whole T (allocOf T) t
-  unfolding peakThere sumOver
-  there-whole stop t r k h i ih = go (decLt k (T .count t))
+  -- at any place of a thread
+  pub reach-whole : (t k : ℕ) → t < T .threads → k ≤ T .count t
+      → balanceTo T t k + sumOver (whole T (allocOf T)) (openBefore T (T .first t + k)) ≤ whole T (allocOf T) t
+  unfolding sumOver
+  reach-whole t k h i = go (decLt k (T .count t))
     where
-      open-ones : most T (peakOn T stop) r (fresh T (T .first t + k)) (openBefore T (T .first t + k)) ≤ sumOver (whole T (allocOf T)) (openBefore T (T .first t + k))
-      open-ones =
-          most-under T (peakOn T stop) (whole T (allocOf T)) r (fresh T (T .first t + k)) (openBefore T (T .first t + k))
-          (λ d m. let (a, b) = open-child T l t k d h i m in (final-whole d b, λ s. ih d s a b))
-
-      go : Dec (k < T .count t) → balanceTo T t k + most T (peakOn T stop) r (fresh T (T .first t + k)) (openBefore T (T .first t + k)) ≤ whole T (allocOf T) t
+      go : Dec (k < T .count t) → balanceTo T t k + sumOver (whole T (allocOf T)) (openBefore T (T .first t + k)) ≤ whole T (allocOf T) t
       go (yes j) =
           omega (
             arith,
-            open-ones,
             forkPart-open T (l .contents) (l .bodies) (l .nesting) (allocOf T) t k h j,
             sumTo-part (λ i. withChild T fork (allocOf T) (whole T (allocOf T)) (T .first t + i)) k (T .count t) i,
             forkPart-whole T (l .contents) (l .bodies) (l .nesting) (allocOf T) t h,
           )
       go (no j) =
           let e : k ≡ T .count t = omega (arith, i, j) in
-          let o : most T (peakOn T stop) r (fresh T (T .first t + T .count t)) [] ≤ 0 = rw (open-over T l t h) at (rw e at open-ones) in
-          rw (e, open-over T l t h) (omega (arith, o, final-whole t h))
+          rw (e, open-over T l t h) (omega (arith, final-whole t h))
+
+  there-whole : (stop : ℕ → Bool) (t r k : ℕ) → t < T .threads → k ≤ T .count t → ((d s : ℕ) → t < d → d < T .threads → peakOn T stop d s ≤ whole T (allocOf T) d)
+      → peakThere T (peakOn T stop) t r k ≤ whole T (allocOf T) t
+  unfolding peakThere
+  there-whole stop t r k h i ih =
+      omega (
+        arith,
+        reach-whole t k h i,
+        most-under T (peakOn T stop) (whole T (allocOf T)) r (fresh T (T .first t + k)) (openBefore T (T .first t + k))
+            (λ d m. let (a, b) = open-child T l t k d h i m in (final-whole d b, λ s. ih d s a b)),
+      )
 
   pub peak-whole : (stop : ℕ → Bool) (t r : ℕ) → t < T .threads → peakOn T stop t r ≤ whole T (allocOf T) t
   peak-whole stop t r h = go (T .threads) t r (omega arith) h
@@ -81,6 +87,18 @@ module _ (T : Table) (l : Lawful T) where
               → pick q (peakThere T (peakOn T stop) t r k) 0 ≤ whole T (allocOf T) t
           each k i true ih = there-whole stop t r k h i ih
           each k i false ih = omega arith
+
+  pub place-whole : (stop : ℕ → Bool) (t r k : ℕ) → t < T .threads → k ≤ T .count t → peakThere T (peakOn T stop) t r k ≤ whole T (allocOf T) t
+  place-whole stop t r k h i = there-whole stop t r k h i (λ d s a b. peak-whole stop d s b)
+
+  pub open-whole : (stop : ℕ → Bool) (t r k j : ℕ) → t < T .threads → k ≤ T .count t → gain T (peakOn T stop) r (openBefore T (T .first t + k)) j ≤ whole T (allocOf T) t
+  open-whole stop t r k j h i =
+      omega (
+        arith,
+        reach-whole t k h i,
+        gain-under T (peakOn T stop) (whole T (allocOf T)) r (openBefore T (T .first t + k)) j
+            (λ d m. let (a, b) = open-child T l t k d h i m in (final-whole d b, λ s. peak-whole stop d s b)),
+      )
 
   -- with no alloc above B, at most B for each action
   pub peak-bound : (B : ℕ) → ((a : ℕ) → a < T .actions → allocOf T a ≤ B) → (stop : ℕ → Bool) (t r : ℕ) → t < T .threads → peakOn T stop t r ≤ B * T .actions

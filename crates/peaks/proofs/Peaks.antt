@@ -7,10 +7,11 @@ use mathlib.Core.Bool.{Bool, true, false}
 use Rattle.table.specs.Sum.{pick, greatestTo}
 use Rattle.table.specs.Format.{Table}
 use Rattle.table.specs.Checks.{openBefore}
+use Rattle.table.proofs.NestedThreads.{greatest-at, greatest-under}
 use Rattle.schedule.specs.Sound.{balanceTo}
 use Rattle.order.proofs.Lawful.{Lawful}
 use Rattle.peaks.specs.Peak.{fresh, final, gain, oneMore, most, peakThere, peakWithin, peakOn, workersPeak}
-use Rattle.peaks.proofs.Opens.{greatest-at, greatest-under, greatest-same, open-child}
+use Rattle.peaks.proofs.Opens.{greatest-same, open-child}
 
 -- ---- peaks of the children that agree, or are below
 

@@ -3,21 +3,21 @@ use mathlib.Core.Path.{_≡_, refl}
 use Prim.Native.Nat.{ℕ, zero, suc, _+_, _≤_, _<_}
 use native.Mathlib.Omega.{arith}
 use native.Mathlib.Nat.{add-suc, add-zero}
-use native.Mathlib.Decide.{ℕ-discrete}
 use mathlib.Core.Bool.{Bool, true, false}
 use Rattle.table.specs.Sum.{pick, sumTo, sumOver, greatestTo}
 use Rattle.table.specs.Format.{end, fork, join, codeOf, is, Table, kind}
 use Rattle.table.specs.Checks.{allocOf, freeOf, openBefore}
-use Rattle.table.proofs.Tests.{is-true, no-way, or-neither}
+use Rattle.table.proofs.Tests.{is-true, or-neither}
 use Rattle.table.proofs.Nesting.{open-join, open-same}
 use Rattle.table.proofs.Amounts.{action-within}
+use Rattle.table.proofs.NestedThreads.{greatest-at}
 use Rattle.schedule.specs.Sound.{balanceTo}
 use Rattle.order.proofs.Lawful.{Lawful}
 use Rattle.schedule.proofs.Sound.Balances.{balance-step, balance-join}
 use Rattle.peaks.specs.Peak.{final}
 use Rattle.peaks.specs.Rests.{stretchBegins, rests, ownTo, rested, rise, R}
-use Rattle.peaks.proofs.Opens.{reach, greatest-at}
-use Rattle.peaks.proofs.Calm.{rests-first}
+use Rattle.peaks.proofs.Opens.{reach}
+use Rattle.peaks.proofs.Unpreempted.{rests-first}
 
 module _ (T : Table) (t : ℕ) where
   pub rested-within : (k : ℕ) → rested T t k ≤ k

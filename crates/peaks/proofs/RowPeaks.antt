@@ -13,7 +13,7 @@ use Rattle.peaks.specs.Peak.{workersPeak}
 use Rattle.peaks.specs.Rests.{stretch, restingPeak}
 use Rattle.peaks.proofs.Held.{peak-held}
 use Rattle.peaks.proofs.LoadLaw.{row-light}
-use Rattle.peaks.proofs.Calm.{NoQuota, calm-start, calm-row}
+use Rattle.peaks.proofs.Unpreempted.{NoQuota, unpreempted-start, unpreempted-row}
 use Rattle.peaks.proofs.Resting.{rest-held}
 
 module _ (T : Table) (l : Lawful T) (p K : ℕ) (few : p ≤ 16) where
@@ -23,15 +23,15 @@ module _ (T : Table) (l : Lawful T) (p K : ℕ) (few : p ≤ 16) where
       rw (row-held T l p K few row h)
       at (peak-held T l p K (rowState T K (startState T) row) (row-facts T l p K few (startState T) (start-facts T l p K) row h) _ (row-light T l p K few row h))
 
-  module _ (some : 1 ≤ p) (covers : stretch T K ≤ K) where
+  module _ (covers : stretch T K ≤ K) where
     pub row-rests : (row : List ℕ) → Below p row → memoryOf T K row ≤ restingPeak T p
     unfolding restingPeak
     row-rests row h =
         let f = start-facts T l p K in
         rw (row-held T l p K few row h)
         at (rest-held T l p K (rowState T K (startState T) row) (row-facts T l p K few (startState T) f row h) (p - 1) (row-light T l p K few row h)
-        (calm-row T l p K covers few row h (startState T) f (calm-start T l p K covers few some) .0 .placed))
+        (unpreempted-row T l p K covers few row h (startState T) f (unpreempted-start T l p K covers few) .0 .placed))
 
     -- no turn replies quota
     pub row-quiet : (row : List ℕ) → Below p row → (q : Reply) → List·Memᴰ q (replies T K (startState T) row) → NoQuota q
-    row-quiet row h = calm-row T l p K covers few row h (startState T) (start-facts T l p K) (calm-start T l p K covers few some) .1
+    row-quiet row h = unpreempted-row T l p K covers few row h (startState T) (start-facts T l p K) (unpreempted-start T l p K covers few) .1

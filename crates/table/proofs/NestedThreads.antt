@@ -46,7 +46,7 @@ nest-line T t = nest-length (T .threads) T t
 
 module _ (T : Table) (c : ContentRules T) (b : BodyRules T) (n : NestRules T) (f : ForkRules T) where
   -- a parent has the lower number
-  parent-lower : (t : ℕ) → 0 < t → t < T .threads → owner T (forkBelow T (T .actions) t) < t
+  pub parent-lower : (t : ℕ) → 0 < t → t < T .threads → owner T (forkBelow T (T .actions) t) < t
   parent-lower t h k =
       let x = fork-exists T c b n f t h k in
       let e : forkBelow T (T .actions) t ≡ x .0 = rw (x .3) at (fork-found T c b n (x .0) (x .1) (x .2)) in
@@ -106,7 +106,7 @@ module _ (T : Table) (c : ContentRules T) (b : BodyRules T) (n : NestRules T) (f
 
 -- ---- the greatest
 
-greatest-at : (f : ℕ → ℕ) (k i : ℕ) → i < k → f i ≤ greatestTo f k
+pub greatest-at : (f : ℕ → ℕ) (k i : ℕ) → i < k → f i ≤ greatestTo f k
 unfolding greatestTo
 greatest-at f zero i h = absurd (omega arith)
 greatest-at f (suc k) i h = go (greatest-at f k i) (decLt i k)
@@ -115,7 +115,7 @@ greatest-at f (suc k) i h = go (greatest-at f k i) (decLt i k)
     go ih (yes l) = omega (arith, ih l)
     go ih (no l) = let e : i ≡ k = omega (arith, l) in rw e (omega arith)
 
-greatest-under : (f : ℕ → ℕ) (k B : ℕ) → ((i : ℕ) → i < k → f i ≤ B) → greatestTo f k ≤ B
+pub greatest-under : (f : ℕ → ℕ) (k B : ℕ) → ((i : ℕ) → i < k → f i ≤ B) → greatestTo f k ≤ B
 unfolding greatestTo
 greatest-under f zero B h = omega arith
 greatest-under f (suc k) B h = omega (arith, greatest-under f k B (λ i l. h i (omega arith)), h k (omega arith))

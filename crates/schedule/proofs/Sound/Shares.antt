@@ -88,7 +88,7 @@ module _ (T : Table) (l : Lawful T) (p K : ℕ) (st : State) (f : Facts T p K st
   bodies-sum g (suc k) h = rw (sumTo-append g (countsBelow T k) (T .count k), first-is T (l .contents) k h) (omega (arith, bodies-sum g k (omega arith)))
 
   -- the amounts of the actions done, thread by thread
-  done-sum : (g : ℕ → ℕ) → sumTo (λ t. sumTo (λ i. g (T .first t + i)) (progress T st t)) (T .threads) ≡ sumDone T st g
+  pub done-sum : (g : ℕ → ℕ) → sumTo (λ t. sumTo (λ i. g (T .first t + i)) (progress T st t)) (T .threads) ≡ sumDone T st g
   done-sum g =
       sumTo-cong _ _ (T .threads) body ∙ bodies-sum (ofDone T st g) (T .threads) (omega arith) ∙ ap (λ k. sumTo (ofDone T st g) k) (counts-all T (l .contents))
     where

@@ -1,5 +1,5 @@
 -- Held memory against weights of threads: each open thread's balance and its open children's weights within its own weight, and held is within the root's.
-use mathlib.Core.Path.{_≡_, refl, sym, ap, _∙_}
+use mathlib.Core.Path.{_≡_, refl, sym}
 use Prim.Native.Nat.{ℕ, zero, suc, _+_, _≤_, _<_}
 use native.Mathlib.Omega.{arith}
 use native.Mathlib.Nat.{add-zero}
@@ -9,19 +9,19 @@ use lib.Dec.{eqb}
 use borrow.Author.Tests.{eq-eqb, ne-eqb}
 use Rattle.table.specs.Sum.{pick, sumTo, sumOver, anyBelow}
 use Rattle.table.specs.Format.{Kind, fork, join, is, Table, kind}
-use Rattle.table.specs.Checks.{openBefore, countsBelow}
+use Rattle.table.specs.Checks.{openBefore}
 use Rattle.table.proofs.Tests.{is-true, same-is}
-use Rattle.table.proofs.Sums.{sumTo-cong, sumTo-le}
-use Rattle.table.proofs.Bodies.{first-is, counts-all, body-within, fork-below, join-below}
+use Rattle.table.proofs.Sums.{sumTo-le}
+use Rattle.table.proofs.Bodies.{body-within, fork-below, join-below}
 use Rattle.table.proofs.Nesting.{open-first, some-anyBelow, fork-exists}
 use Rattle.schedule.specs.Machine.{State, unborn, ended, statusOf}
-use Rattle.schedule.specs.Sound.{joinedIn, shareIn, balanceTo, isDone, ofDone, sumDone, progress, isJoined, share}
+use Rattle.schedule.specs.Sound.{joinedIn, shareIn, balanceTo, isDone, progress, isJoined, share}
 use Rattle.order.proofs.Lawful.{Lawful}
 use Rattle.order.proofs.Joins.{weightOf, forked-weight, forks-one, joins-one}
-use Rattle.order.proofs.Totals.{sumTo-add, sumTo-append, sumTo-front, sum-targets}
+use Rattle.order.proofs.Totals.{sumTo-add, sumTo-append, sum-targets}
 use Rattle.schedule.proofs.Sound.Facts.{Facts}
 use Rattle.schedule.proofs.Sound.Done.{unborn-first, born-forked}
-use Rattle.schedule.proofs.Sound.Shares.{progress-ended, progress-next, progress-within, done-at, joined-ended, held-shares}
+use Rattle.schedule.proofs.Sound.Shares.{progress-ended, progress-next, progress-within, joined-ended, done-sum, held-shares}
 use Rattle.peaks.proofs.Opens.{reach, open-over}
 
 -- the weights of the children at the actions of kind k among the first n of thread t
@@ -57,21 +57,6 @@ module _ (T : Table) (l : Lawful T) (weight : ℕ → ℕ) where
       )
 
 module _ (T : Table) (l : Lawful T) (p K : ℕ) (st : State) (f : Facts T p K st) where
-  -- (as in Sound/Shares, where these two are private)
-  bodies-sum : (g : ℕ → ℕ) (k : ℕ) → k ≤ T .threads → sumTo (λ t. sumTo (λ i. g (T .first t + i)) (T .count t)) k ≡ sumTo g (countsBelow T k)
-  unfolding sumTo
-  bodies-sum g zero h = refl
-  bodies-sum g (suc k) h = rw (sumTo-append g (countsBelow T k) (T .count k), first-is T (l .contents) k h) (omega (arith, bodies-sum g k (omega arith)))
-
-  done-sum : (g : ℕ → ℕ) → sumTo (λ t. sumTo (λ i. g (T .first t + i)) (progress T st t)) (T .threads) ≡ sumDone T st g
-  done-sum g =
-      sumTo-cong _ _ (T .threads) body ∙ bodies-sum (ofDone T st g) (T .threads) (omega arith) ∙ ap (λ k. sumTo (ofDone T st g) k) (counts-all T (l .contents))
-    where
-      body : (t : ℕ) → t < T .threads → sumTo (λ i. g (T .first t + i)) (progress T st t) ≡ sumTo (λ i. ofDone T st g (T .first t + i)) (T .count t)
-      body t h =
-          sym (sumTo-front (λ i. g (T .first t + i)) (progress T st t) (T .count t) (progress-within T l p K st f t h))
-          ∙ sumTo-cong _ _ (T .count t) (λ i k. rw (done-at T l p K st f t i h k))
-
   -- the weights of the children that stand open in thread t
   abbrev pub openNow : (ℕ → ℕ) → ℕ → ℕ
   openNow weight t = sumOver weight (openBefore T (T .first t + progress T st t))
@@ -86,8 +71,8 @@ module _ (T : Table) (l : Lawful T) (p K : ℕ) (st : State) (f : Facts T p K st
         arith,
         sumTo-add (λ t. childrenTo T join weight t (progress T st t)) (openNow weight) (λ t. childrenTo T fork weight t (progress T st t)) (T .threads)
             (λ t h. sym (open-weight T l weight t (progress T st t) h (progress-within T l p K st f t h))),
-        done-sum (λ a. pick (is fork (kind T a)) (weight (T .argument a)) 0),
-        done-sum (λ a. pick (is join (kind T a)) (weight (T .argument a)) 0),
+        done-sum T l p K st f (λ a. pick (is fork (kind T a)) (weight (T .argument a)) 0),
+        done-sum T l p K st f (λ a. pick (is join (kind T a)) (weight (T .argument a)) 0),
         sum-targets (λ a. is fork (kind T a)) (isDone T st) (T .argument) weight (T .threads) (T .actions)
             (λ a h k. fork-below T (l .contents) (l .bodies) a h (is-true fork (kind T a) k))
             (λ c. forks-one T (l .contents) (l .bodies) (l .nesting) c (T .actions) (omega arith)),

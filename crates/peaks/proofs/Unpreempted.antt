@@ -1,6 +1,5 @@
--- Where K covers every stretch, from a beginning no turn replies quota and every live thread that nobody holds stands at a resting place; and the leftmost thread is
--- held, or some worker holds nothing.
-use mathlib.Core.Path.{_≡_, refl, sym, _∙_}
+-- Where K covers every stretch, from a beginning no turn replies quota and every live thread that nobody holds stands at a resting place.
+use mathlib.Core.Path.{_≡_, refl}
 use Prim.Native.Nat.{ℕ, zero, suc, _+_, _-_, _≤_, _<_}
 use native.Mathlib.Omega.{arith}
 use native.Mathlib.Decide.{ℕ-discrete}
@@ -10,12 +9,13 @@ use mathlib.Core.Logic.{_⊎_, inl, inr, ⊎-elim}
 use lib.ListN.{length, getD, set}
 use lib.Seq.{getD-set-same, getD-set-other}
 use lib.Dec.{leb, eqb}
-use borrow.Author.Tests.{leb-false, eqb-false, eq-eqb}
+use borrow.Author.Tests.{leb-false, eqb-false}
 use Rattle.table.specs.Sum.{pick}
 use Rattle.table.specs.Format.{Kind, end, work, alloc, free, fork, join, unknown, codeOf, is, Table, kind}
 use Rattle.table.specs.Checks.{endOf, allocOf}
 use Rattle.table.proofs.Tests.{no-way, same-is}
 use Rattle.table.proofs.Bodies.{kind-known, first-is, first-next, after-end, end-kind}
+use Rattle.table.proofs.NestedThreads.{greatest-at}
 use Rattle.schedule.specs.declared.Worker.{Worker}
 use Rattle.schedule.specs.declared.Reply.{Reply}
 use Rattle.schedule.specs.declared.Reply.the-variants.{Quota}
@@ -24,7 +24,6 @@ use Rattle.schedule.specs.Begin.{startState}
 use Rattle.schedule.specs.Memory.{rowState, replies}
 use Rattle.order.proofs.Lawful.{Lawful}
 use Rattle.schedule.proofs.Sound.Facts.{Facts}
-use Rattle.schedule.proofs.Sound.Leftmost.{leftmost-enabled}
 use Rattle.schedule.proofs.Sound.Done.{undone-unborn, unborn-first}
 use Rattle.schedule.proofs.Preservation.Releases.{Acting, acting, acting-alone}
 use Rattle.schedule.proofs.Preservation.Ends.{Ended, acting-ended}
@@ -33,7 +32,6 @@ use Rattle.schedule.proofs.Preservation.Moves.{taken-facts}
 use Rattle.schedule.proofs.Preservation.Turns.{leftmost-ready, taken-holds, either, turn-facts}
 use Rattle.schedule.proofs.Preservation.Starts.{start-next, start-unborn, start-worker}
 use Rattle.peaks.specs.Rests.{stretchBegins, rests, drawnAt, drawnBefore, stretch}
-use Rattle.peaks.proofs.Opens.{greatest-at}
 
 -- ---- resting places and stretches
 
@@ -75,19 +73,15 @@ stretch-covers T K a h = greatest-at (λ a. drawnBefore T K a + drawnAt T K a) (
 abbrev pub Stands : ℕ → Type 0
 Stands s = (s ≡ unborn → ⊥) × (s ≡ ended → ⊥) × (s ≡ held → ⊥)
 
-abbrev pub Free : ℕ → State → Type 0
-Free p st = (w : ℕ) × (w < p) × (workerOf st w .holds ≡ false)
-
-pub record Calm (T : Table) (p K : ℕ) (st : State) : Type 0 where
+pub record Unpreempted (T : Table) (K : ℕ) (st : State) : Type 0 where
   -- a worker has drawn no more of K than its thread's stretch has
   pub quota : (w : ℕ) → w < 16 → workerOf st w .holds ≡ true → K ≤ workerOf st w .quota + drawnBefore T K (nextOf st (workerOf st w .thread))
   pub placed : (t : ℕ) → t < T .threads → Stands (statusOf st t) → rests T (nextOf st t) ≡ true
-  pub led : (t : ℕ) (others : List ℕ) → st .list ≡ t ∷ others → (statusOf st t ≡ held) ⊎ Free p st
 
 abbrev pub NoQuota : Reply → Type 0
 NoQuota r = (t x : ℕ) → r ≡ Quota t x → ⊥
 
-module _ (T : Table) (l : Lawful T) (p K : ℕ) (covers : stretch T K ≤ K) (w t a : ℕ) (below : w < p) (st : State) (f : Facts T p K st) (x : Acting T w t a st) (c : Calm T p K st) where
+module _ (T : Table) (l : Lawful T) (p K : ℕ) (covers : stretch T K ≤ K) (w t a : ℕ) (st : State) (f : Facts T p K st) (x : Acting T w t a st) (c : Unpreempted T K st) where
   next-fits : t < length (st .next)
   next-fits = omega (arith, f .next-size, l .few-threads, x .thread)
 
@@ -100,13 +94,12 @@ module _ (T : Table) (l : Lawful T) (p K : ℕ) (covers : stretch T K ≤ K) (w 
 
   -- the worker goes on
   goes : (q : ℕ) (st' : State) → is end (kind T a) ≡ false → is fork (kind T a) ≡ false → st' .next ≡ set (st .next) t (suc (nextOf st t)) → st' .status ≡ st .status
-      → st' .list ≡ st .list → workerOf st' w ≡ record { holds = true; thread = t; quota = q } → ((u : ℕ) → (u ≡ w → ⊥) → workerOf st' u ≡ workerOf st u)
-      → workerOf st w .quota ≤ q + drawnAt T K a → Calm T p K st'
-  goes q st' e o n s i now others b =
+      → workerOf st' w ≡ record { holds = true; thread = t; quota = q } → ((u : ℕ) → (u ≡ w → ⊥) → workerOf st' u ≡ workerOf st u)
+      → workerOf st w .quota ≤ q + drawnAt T K a → Unpreempted T K st'
+  goes q st' e o n s now others b =
       record {
         quota = λ u g h. quotas u g h (ℕ-discrete u w);
         placed = λ u g h. places u g (rw s at h) (ℕ-discrete u t);
-        led = λ u rest d. rw s (leads u (c .led u rest (sym i ∙ d)));
       }
     where
       here : nextOf st' t ≡ suc a
@@ -126,18 +119,13 @@ module _ (T : Table) (l : Lawful T) (p K : ℕ) (covers : stretch T K ≤ K) (w 
       places u g h (yes d) = absurd (h .2 (rw d (x .taken)))
       places u g h (no d) = rw (beside u d) (c .placed u g h)
 
-      leads : (u : ℕ) → (statusOf st u ≡ held) ⊎ Free p st → (statusOf st u ≡ held) ⊎ Free p st'
-      leads u (inl h) = inl h
-      leads u (inr (v, g, h)) = inr (v, g, rw (others v (λ d. no-way (cc (x .holds)))) h)
-
   -- the worker is released
   frees : (st' : State) → workerOf st' w ≡ nobody → ((u : ℕ) → (u ≡ w → ⊥) → workerOf st' u ≡ workerOf st u) → ((u : ℕ) → (u ≡ t → ⊥) → nextOf st' u ≡ nextOf st u)
-      → ((u : ℕ) → u < T .threads → Stands (statusOf st' u) → (rests T (nextOf st' u) ≡ true) ⊎ ((u ≡ t → ⊥) × Stands (statusOf st u))) → Calm T p K st'
+      → ((u : ℕ) → u < T .threads → Stands (statusOf st' u) → (rests T (nextOf st' u) ≡ true) ⊎ ((u ≡ t → ⊥) × Stands (statusOf st u))) → Unpreempted T K st'
   frees st' now others beside stand =
       record {
         quota = λ u g h. quotas u g h (ℕ-discrete u w);
         placed = λ u g h. places u g (stand u g h);
-        led = λ u rest d. inr (w, below, rw now);
       }
     where
       quotas : (u : ℕ) → u < 16 → workerOf st' u .holds ≡ true → Dec (u ≡ w) → K ≤ workerOf st' u .quota + drawnBefore T K (nextOf st' (workerOf st' u .thread))
@@ -152,7 +140,7 @@ module _ (T : Table) (l : Lawful T) (p K : ℕ) (covers : stretch T K ≤ K) (w 
       places u g (inr (d, h)) = rw (beside u d) (c .placed u g h)
 
   abbrev Kept : Stepped → Type 0
-  Kept s = Calm T p K (s .state) × NoQuota (s .reply)
+  Kept s = Unpreempted T K (s .state) × NoQuota (s .reply)
 
   keeps-worker : workerOf st w ≡ record { holds = true; thread = t; quota = workerOf st w .quota }
   keeps-worker = λ i. record { holds = x .holds i; thread = x .holder i; quota = workerOf st w .quota }
@@ -193,7 +181,7 @@ module _ (T : Table) (l : Lawful T) (p K : ℕ) (covers : stretch T K ≤ K) (w 
   on-alloc k =
       either Kept (leb (drawn K (T .argument a)) (workerOf st w .quota)) _ _
       (λ i. (
-        goes (workerOf st w .quota - drawn K (T .argument a)) _ (rw k) (rw k) refl refl refl
+        goes (workerOf st w .quota - drawn K (T .argument a)) _ (rw k) (rw k) refl refl
             (getD-set-same (st .workers) w (record { holds = true; thread = t; quota = workerOf st w .quota - drawn K (T .argument a) }) nobody worker-fits)
             (λ u d. getD-set-other (st .workers) w u (record { holds = true; thread = t; quota = workerOf st w .quota - drawn K (T .argument a) }) nobody d)
             (rw k (omega arith)),
@@ -207,7 +195,7 @@ module _ (T : Table) (l : Lawful T) (p K : ℕ) (covers : stretch T K ≤ K) (w 
   unfolding actBy is codeOf allocOf
   on-join k =
       either Kept (eqb (statusOf st (T .argument a)) ended) _ _
-      (λ i. (goes (workerOf st w .quota) _ (rw k) (rw k) refl refl refl keeps-worker (λ u d. refl) (omega arith), λ u y e. no-way (cc)))
+      (λ i. (goes (workerOf st w .quota) _ (rw k) (rw k) refl refl keeps-worker (λ u d. refl) (omega arith), λ u y e. no-way (cc)))
       (λ i. (frees _ (getD-set-same (st .workers) w nobody nobody worker-fits) (λ u d. getD-set-other (st .workers) w u nobody nobody d) (λ u d. refl) (λ u g h. stand u h (ℕ-discrete u t)), λ u y e. no-way (cc)))
     where
       stand : (u : ℕ) → Stands (getD (set (st .status) t waiting) u 0) → Dec (u ≡ t) → (rests T (nextOf st u) ≡ true) ⊎ ((u ≡ t → ⊥) × Stands (statusOf st u))
@@ -217,9 +205,9 @@ module _ (T : Table) (l : Lawful T) (p K : ℕ) (covers : stretch T K ≤ K) (w 
   by-kind : (k : Kind) → kind T a ≡ k → Kept (actBy k T K w t a (T .argument a) st)
   unfolding actBy is codeOf allocOf
   by-kind end k = on-end k
-  by-kind work k = (goes (workerOf st w .quota) _ (rw k) (rw k) refl refl refl keeps-worker (λ u d. refl) (omega arith), λ u y e. no-way (cc))
+  by-kind work k = (goes (workerOf st w .quota) _ (rw k) (rw k) refl refl keeps-worker (λ u d. refl) (omega arith), λ u y e. no-way (cc))
   by-kind alloc k = on-alloc k
-  by-kind free k = (goes (workerOf st w .quota) _ (rw k) (rw k) refl refl refl keeps-worker (λ u d. refl) (omega arith), λ u y e. no-way (cc))
+  by-kind free k = (goes (workerOf st w .quota) _ (rw k) (rw k) refl refl keeps-worker (λ u d. refl) (omega arith), λ u y e. no-way (cc))
   by-kind fork k = on-fork k
   by-kind join k = on-join k
   by-kind unknown k = absurd (kind-known T (l .contents) (l .bodies) a (x .action) k)
@@ -228,23 +216,22 @@ module _ (T : Table) (l : Lawful T) (p K : ℕ) (covers : stretch T K ≤ K) (w 
 
 module _ (T : Table) (l : Lawful T) (p K : ℕ) (covers : stretch T K ≤ K) (few : p ≤ 16) where
   abbrev pub Keeps : Stepped → Type 0
-  Keeps s = Calm T p K (s .state) × NoQuota (s .reply)
+  Keeps s = Unpreempted T K (s .state) × NoQuota (s .reply)
 
-  calm-act : (w : ℕ) → w < p → (st : State) → Facts T p K st → Calm T p K st → workerOf st w .holds ≡ true → Keeps (act T K w st)
+  unpreempted-act : (w : ℕ) → w < p → (st : State) → Facts T p K st → Unpreempted T K st → workerOf st w .holds ≡ true → Keeps (act T K w st)
   unfolding act
-  calm-act w b st f c e =
+  unpreempted-act w b st f c e =
       let t : ℕ = workerOf st w .thread in
       let a : ℕ = nextOf st t in
-      by-kind T l p K covers w t a b st f (acting T l p K w t a st f (omega arith) e refl refl) c (kind T a) refl
+      by-kind T l p K covers w t a st f (acting T l p K w t a st f (omega arith) e refl refl) c (kind T a) refl
 
-  calm-taken : (w : ℕ) → w < p → (st : State) → Facts T p K st → Calm T p K st → (t : ℕ) → t ≡ getD (st .list) (leftmost (st .status) (st .list)) 0 → t < T .threads → statusOf st t ≡ ready
-      → Calm T p K (taken K w t st)
-  unfolding taken leftmost
-  calm-taken w b st f c t i h r =
+  unpreempted-taken : (w : ℕ) → w < p → (st : State) → Facts T p K st → Unpreempted T K st → (t : ℕ) → t < T .threads
+      → Unpreempted T K (taken K w t st)
+  unfolding taken
+  unpreempted-taken w b st f c t h =
       record {
         quota = λ u g e. quotas u g e (ℕ-discrete u w);
         placed = λ u g s. places u g s (ℕ-discrete u t);
-        led = λ u rest d. inl (leads u rest d (leftmost-enabled T l p K st f u rest d .taken));
       }
     where
       now : Worker
@@ -267,50 +254,43 @@ module _ (T : Table) (l : Lawful T) (p K : ℕ) (covers : stretch T K ≤ K) (fe
       places u g s (yes d) = absurd (s .2 (rw d (getD-set-same (st .status) t held 0 room)))
       places u g s (no d) = c .placed u g (rw (getD-set-other (st .status) t u held 0 d) at s)
 
-      leads : (u : ℕ) (rest : List ℕ) → st .list ≡ u ∷ rest → (statusOf st u ≡ ready) ⊎ (statusOf st u ≡ held) → getD (set (st .status) t held) u 0 ≡ held
-      leads u rest d (inl e) =
-          let y : t ≡ u = i ∙ rw (d, eq-eqb (statusOf st u) ready e) in
-          rw (← y) (getD-set-same (st .status) t held 0 room)
-      leads u rest d (inr e) = getD-set-other (st .status) t u held 0 (λ y. let z : statusOf st u ≡ ready = rw y r in omega arith) ∙ e
+  unpreempted-counted : (st : State) → Unpreempted T K st → Unpreempted T K (counted st)
+  unpreempted-counted st c = record { quota = c .quota; placed = c .placed }
 
-  calm-counted : (st : State) → Calm T p K st → Calm T p K (counted st)
-  calm-counted st c = record { quota = c .quota; placed = c .placed; led = c .led }
-
-  pub calm-turn : (w : ℕ) → w < p → (st : State) → Facts T p K st → Calm T p K st → Keeps (turnOf T K w st)
+  pub unpreempted-turn : (w : ℕ) → w < p → (st : State) → Facts T p K st → Unpreempted T K st → Keeps (turnOf T K w st)
   unfolding turnOf turnFree
-  calm-turn w b st f c =
+  unpreempted-turn w b st f c =
       let k : Keeps (pick (workerOf st w .holds) (act T K w st) (turnFree T K w st)) =
-      either Keeps (workerOf st w .holds) _ _ (calm-act w b st f c)
+      either Keeps (workerOf st w .holds) _ _ (unpreempted-act w b st f c)
       (λ e.
       let i : ℕ = leftmost (st .status) (st .list) in
       let t : ℕ = getD (st .list) i 0 in
       either Keeps (eqb i (length (st .list))) _ _ (λ q. (c, λ u y z. no-way (cc)))
       (λ q.
       let (m, r) = leftmost-ready (st .status) (st .list) (eqb-false i (length (st .list)) q) in
-      calm-act w b (taken K w t st) (taken-facts T l p K few w b st f e t (f .list-below t m) r)
-      (calm-taken w b st f c t refl (f .list-below t m) r) (taken-holds K w t st (omega (arith, f .holding .worker-size))))) in
-      (calm-counted _ (k .0), k .1)
+      unpreempted-act w b (taken K w t st) (taken-facts T l p K few w b st f e t (f .list-below t m) r)
+      (unpreempted-taken w b st f c t (f .list-below t m)) (taken-holds K w t st (omega (arith, f .holding .worker-size))))) in
+      (unpreempted-counted _ (k .0), k .1)
 
   -- ---- rows from the beginning
 
-  pub calm-start : 1 ≤ p → Calm T p K (startState T)
-  calm-start some =
+  pub unpreempted-start : Unpreempted T K (startState T)
+  unpreempted-start =
       record {
         quota = λ w g e. no-way (cc (start-worker T l w));
         placed = places;
-        led = λ t others d. inr (0, some, rw (start-worker T l 0));
       }
     where
       places : (t : ℕ) → t < T .threads → Stands (statusOf (startState T) t) → rests T (nextOf (startState T) t) ≡ true
       places zero h s = rw (start-next T l 0 h) (rests-first T l 0 h)
       places (suc t) h s = absurd (s .0 (start-unborn T l (suc t) (omega arith)))
 
-  pub calm-row : (row : List ℕ) → ((w : ℕ) → List·Memᴰ w row → w < p) → (st : State) → Facts T p K st → Calm T p K st
-      → Calm T p K (rowState T K st row) × ((r : Reply) → List·Memᴰ r (replies T K st row) → NoQuota r)
+  pub unpreempted-row : (row : List ℕ) → ((w : ℕ) → List·Memᴰ w row → w < p) → (st : State) → Facts T p K st → Unpreempted T K st
+      → Unpreempted T K (rowState T K st row) × ((r : Reply) → List·Memᴰ r (replies T K st row) → NoQuota r)
   unfolding rowState replies
-  calm-row [] h st f c = (c, λ r m. absurd (List·Memᴰ·not-nil m))
-  calm-row (w ∷ row) h st f c =
+  unpreempted-row [] h st f c = (c, λ r m. absurd (List·Memᴰ·not-nil m))
+  unpreempted-row (w ∷ row) h st f c =
       let b : w < p = h w (List·Memᴰ·head refl) in
-      let k : Keeps (turnOf T K w st) = calm-turn w b st f c in
-      let q = calm-row row (λ v m. h v (List·Memᴰ·tail m)) (turnOf T K w st .state) (turn-facts T l p K few w b st f) (k .0) in
+      let k : Keeps (turnOf T K w st) = unpreempted-turn w b st f c in
+      let q = unpreempted-row row (λ v m. h v (List·Memᴰ·tail m)) (turnOf T K w st .state) (turn-facts T l p K few w b st f) (k .0) in
       (q .0, λ r m. ⊎-elim (λ (e : r ≡ turnOf T K w st .reply). rw e (k .1)) (λ (n : List·Memᴰ r (replies T K (turnOf T K w st .state) row)). q .1 r n) (List·Memᴰ·cases-cons m))

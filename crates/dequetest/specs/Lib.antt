@@ -1,0 +1,2 @@
+pub mod DequeTested
+pub mod Code

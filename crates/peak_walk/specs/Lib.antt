@@ -1,0 +1,3 @@
+pub mod Peaked
+pub mod Along
+pub mod Code

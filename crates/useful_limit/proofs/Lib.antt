@@ -1,0 +1,3 @@
+pub mod InRange
+pub mod Fits
+pub mod Serves

@@ -1,0 +1,4 @@
+pub mod Limits
+pub mod Fit
+pub mod Line
+pub mod FitCases
