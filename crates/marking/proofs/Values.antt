@@ -3,20 +3,19 @@ use mathlib.Core.Path.{_≡_, refl, sym, ap, subst, _∙_}
 use Prim.Native.Nat.{ℕ, _≤_, _<_}
 use native.Mathlib.Omega.{arith}
 use native.Mathlib.Decide.{ℕ-discrete}
-use mathlib.Core.List.{List, [], _∷_}
-use mathlib.Core.Bool.{Bool, true, false, not, _||_}
+use mathlib.Core.List.{List}
+use mathlib.Core.Bool.{Bool, true, false, _||_}
 use borrow.Author.Tests.{eq-eqb, ne-eqb}
 use lib.Dec.{eqb}
-use lib.ListN.{length, getD, length-take}
+use lib.ListN.{length, getD, replicate, length-take}
 use Rattle.table.specs.Sum.{pick}
 use Rattle.table.specs.Pass.{refusal, tryAt}
-use Rattle.table.specs.declared.Found.{Found}
-use Rattle.table.specs.declared.Found.the-variants.{Nothing, At}
-use Rattle.order.specs.Words.{filled}
+use Rattle.table.specs.declared.Found.the-variants.{At}
+use Rattle.order.specs.Words.{filled, sameList}
 use Rattle.schedule.specs.declared.Worker.{Worker}
 use Rattle.schedule.specs.declared.Run.{Run}
 use Rattle.schedule.specs.Record.{maxBytes, blank, bytesOf, linksIn}
-use Rattle.schedule.specs.Turn.{isBlank, unsound}
+use Rattle.schedule.specs.Turn.{unsound}
 use Rattle.schedule.specs.Sound.{Steady}
 use Rattle.schedule.proofs.Stores.{steady-fits}
 use Rattle.schedule.proofs.Sound.Tests.{blank-exactly}
@@ -32,9 +31,9 @@ use Rattle.run_memory.proofs.Manned.{workers-back, truths-back}
 use Rattle.run_memory.proofs.Packed.{packed-record}
 use Rattle.wivakkol.specs.Opened.{soundIn, blankIn, lentOpen}
 use Rattle.wivakkol.proofs.Opens.{sound-in, no-workers as blank-settings}
-use Rattle.wivakkol_marks.specs.LentMarks.{Marks, markIn, fitIn, Setting, setting, lentMark, Going, lentBack}
-use Rattle.wivakkol_marks.specs.MarkedIn.{recordIn, marksIn, markedIn, numbered}
-use Rattle.wivakkol_marks.proofs.MarkRefines.{mark-values, mark-refines, back-values, back-refines, back-fits, back-kept, opened-blank, opened-settings}
+use Rattle.wivakkol_marks.specs.LentMarks.{Marks, markIn, fitIn, Setting, setting, lentMark, lentBack}
+use Rattle.wivakkol_marks.specs.MarkedIn.{recordIn, marksIn, numbered}
+use Rattle.wivakkol_marks.proofs.MarkRefines.{mark-values, mark-refines, back-values, back-refines, mark-small, back-small, back-fits, back-kept, opened-blank, opened-settings}
 use Rattle.marking.specs.Marking.{markedBy}
 use Rattle.marking.specs.Code.Restored.{Restored}
 
@@ -116,7 +115,7 @@ module _ (run : Run) (e : unsound run ≡ false) where
         let n : length (run .worker) ≡ 16 = ap (λ (r : Run). length (r .worker)) q ∙ blank-sixteen in
         ap (λ (l : List Worker). blankOn (run .workers) (run .quota) (run .next) (run .status) (run .amounts) (linksIn run) l (run .busy) (run .held) (run .highest) (run .turns))
         (workers-back (run .worker) n)
-        ∙ second-of _ _ (second-of _ _ (sym (blank-is run) ∙ blank-exactly run .1 q))
+        ∙ second-of (eqb (run .length) 0) _ (second-of (sameList (run .table) (replicate maxBytes 0)) _ (sym (blank-is run) ∙ blank-exactly run .1 q))
 
     -- what is packed is the record
     pub packed : recordIn (bytesOf run) M ≡ run
@@ -154,6 +153,12 @@ module _ (run : Run) (e : unsound run ≡ false) where
       back-run f =
           f ∙ ap (λ (x : Marked). x .run) (back-refines s M K packed-truths i)
           ∙ ap (λ (r : Run). backAs (tryAt (backChecks (marked r (marksIn s K)) i) 0) i (marked r (marksIn s K)) .run) packed
+
+      pub set-small : {n : ℕ} {K' : Marks} → setting n K' ≡ lentMark s i M K → n < 256
+      set-small f = subst (λ (n : ℕ). n < 256) (sym (ap (λ (x : Setting). x .number) f)) (mark-small s i M K)
+
+      pub back-few : {n : ℕ} → n ≡ lentBack s i M K .number → n < 256
+      back-few f = subst (λ (n : ℕ). n < 256) (sym f) (back-small s i M K)
 
       -- refused: the run as it was
       pub back-stays : (lentBack s i M K .number ≡ 0 → ⊥) → run ≡ recordIn s (lentBack s i M K .memory)
@@ -206,8 +211,8 @@ pub restored-run : {run : Run} {M : Memory} → Restored run M → (getD (M .set
     → K ≡ getD (M .settings) 1 0 → withSettings r p K ≡ recordIn (bytesOf run) M
 unfolding recordIn
 restored-run {run} {M} h d {r} {p} {K} e f g =
-    (λ i. withSettings (e i) (f i) (g i))
-    ∙ (λ i.
+    let read : _≡_ {A = Run} (withSettings (recordOf run M) (getD (M .settings) 0 0) (getD (M .settings) 1 0)) (runIn (bytesOf run) M) =
+    λ i.
     record {
       table = h .rest i;
       length = sym (h .size) i;
@@ -224,8 +229,8 @@ restored-run {run} {M} h d {r} {p} {K} e f g =
       held = movedIn M .totals .held;
       highest = movedIn M .totals .highest;
       turns = movedIn M .turns;
-    })
-    ∙ sym (ap (λ (b : Bool). pick b blank (runIn (bytesOf run) M)) (h .empty ∙ ne-eqb (getD (M .settings) 0 0) 0 d))
+    } in
+    (λ i. withSettings (e i) (f i) (g i)) ∙ read ∙ sym (ap (λ (b : Bool). pick b blank (runIn (bytesOf run) M)) (h .empty ∙ ne-eqb (getD (M .settings) 0 0) 0 d))
 
 -- ---- a record that does not
 

@@ -1,5 +1,4 @@
 -- What setting a mark and going back to one answer by value, with the marks in lent memory (N11).
-use Prim.Native.Nat.{ℕ}
 use Rattle.schedule.specs.declared.Run.{Run}
 use Rattle.schedule.specs.Record.{bytesOf}
 use Rattle.marks.specs.Marks.{Marked, marked, MarkValues}

@@ -18,12 +18,11 @@ use Rattle.table.specs.declared.Found.the-variants.{Nothing, At}
 use Rattle.order.specs.Words.{allBelow}
 use Rattle.order.proofs.Words.{allBelow-exactly}
 use Rattle.schedule.specs.declared.Worker.{Worker}
-use Rattle.schedule.specs.declared.Run.{Run}
 use Rattle.schedule.specs.Record.{blank}
 use Rattle.schedule.specs.Turn.{unsound}
 use Rattle.soundness.specs.Tested.{blankOn}
 use Rattle.soundness.proofs.Chains.{second-of}
-use Rattle.marks.specs.Marks.{Mark, unset, kept, maxMarks, Marked, marked, unmarked, markOf, isSet, badMark, badMarked, setChecks, backChecks, setValues, backValues, markValues, setAs, runAt, backAs}
+use Rattle.marks.specs.Marks.{Mark, unset, kept, Marked, marked, unmarked, markOf, isSet, badMark, badMarked, setChecks, backChecks, setValues, backValues, markValues, setAs, runAt, backAs}
 use Rattle.array_machine.specs.Arrays.{linksOf}
 use Rattle.array_machine.specs.Packed.{packedOf}
 use Rattle.run_memory.specs.Memory.{Memory, movedIn}
@@ -31,7 +30,7 @@ use Rattle.run_memory.specs.Stands.{truths, workersIn, settled, runIn, Stands}
 use Rattle.run_memory.proofs.Refines.{workers-length}
 use Rattle.run_memory.proofs.Manned.{of-length, workers-back, truths-back}
 use Rattle.wivakkol.specs.Lent.{blankMemory}
-use Rattle.wivakkol.specs.Opened.{soundIn, blankIn, openedIn, openedAs, lentOpen}
+use Rattle.wivakkol.specs.Opened.{soundIn, blankIn, openedAs, lentOpen}
 use Rattle.wivakkol.proofs.Opens.{open-record, open-stands, tested-same, blank-record, blank-passes, blank-passed}
 use Rattle.wivakkol_marks.specs.LentMarks.{Marks, marks, rowFrom, marksOf, mended, isSetIn, markIn, fitIn, fitMarks, fitMarked, markFault, backFault, setting, lentMark, going, lentBack, lentUnmark}
 use Rattle.wivakkol_marks.specs.MarkedIn.{recordIn, markAt, marksIn, markedIn, numbered}

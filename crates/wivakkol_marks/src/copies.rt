@@ -5,7 +5,7 @@ ghost use mathlib.Core.Path.{_≡_};
 ghost use Prim.Native.Nat.{_+_, _*_, _≤_, _<_};
 ghost use lib.ListN.{length, drop, set};
 ghost use lib.Seq.{paste};
-ghost use Rattle.run_memory.specs.Blocks.{part, memoryOf};
+ghost use Rattle.run_memory.specs.Blocks.{memoryOf};
 ghost use Rattle.wivakkol_marks.specs.LentMarks.{memoryAt, rowFrom, mended};
 
 // n numbers copied, of each width, from a place of one part to a place of another.

@@ -1,5 +1,5 @@
 -- `wivakkol_marks::copies::load` meets its contract: each block is the stretch of its width, and is mended.
-use mathlib.Core.Path.{_≡_, ap, _∙_}
+use mathlib.Core.Path.{_≡_, _∙_}
 use native.Mathlib.Omega.{arith}
 use lib.ListN.{length}
 use borrow.Author.Needs.{needs}

@@ -1,5 +1,5 @@
 -- `wivakkol_marks::copies::store` meets its contract: each block is laid over the stretch of its width.
-use mathlib.Core.Path.{_≡_, ap, _∙_}
+use mathlib.Core.Path.{_≡_}
 use native.Mathlib.Omega.{arith}
 use lib.ListN.{length}
 use borrow.Author.Needs.{needs}

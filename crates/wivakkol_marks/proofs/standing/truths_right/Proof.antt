@@ -1,5 +1,5 @@
 -- `wivakkol_marks::standing::truths_right` meets its contract. The invariant: the workers below w have 0 or 1.
-use mathlib.Core.Path.{_≡_, sym}
+use mathlib.Core.Path.{_≡_}
 use Prim.Native.Nat.{_+_, _-_, _<_, _≤_}
 use native.Mathlib.Omega.{arith}
 use borrow.Author.Tests.{lt-ltb, le-ltb}
