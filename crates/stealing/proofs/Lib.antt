@@ -1,0 +1,12 @@
+pub mod Words
+pub mod Room
+pub mod Acts
+pub mod Robs
+pub mod Refines
+pub mod Fits
+pub mod InMemory
+pub mod PairsRefine
+mod Along
+mod Linking
+mod Leavings
+mod Goes

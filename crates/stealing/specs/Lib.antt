@@ -1,0 +1,4 @@
+pub mod Stealing
+pub mod StealingMemory
+pub mod StealingCases
+pub mod Code
