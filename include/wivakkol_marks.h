@@ -2,7 +2,7 @@
  * asks of its callers holds here too.
  *
  * The other calls take no marks and leave them as they are. wivakkol_mark and wivakkol_back test the run and every set mark as wivakkol_open tests a run, also the mark that is to be replaced: so
- * they take up to nine times as long, 1 to 2 milliseconds for the longest tables. They have no row: the place is 0. */
+ * they take up to ten times as long as an opening (docs/C-AND-RUST.md has what was measured). They have no row: the place is 0. */
 #ifndef WIVAKKOL_MARKS_H
 #define WIVAKKOL_MARKS_H
 
