@@ -23,7 +23,7 @@ ghost use Rattle.run_memory.specs.Blocks.{memoryOf};
 ghost use Rattle.run_memory.specs.Packing.{memoryFor};
 ghost use Rattle.wivakkol_marks.specs.LentMarks.{marksOf, setting, lentMark, lentBack, Cleared};
 ghost use Rattle.wivakkol_marks.specs.MarkedIn.{recordIn, marksIn, numbered};
-ghost use Rattle.marking.specs.Marking.{markingValues, markedBy};
+ghost use Rattle.marking.specs.Marking.{markingValues, markedBy, marksAfter};
 ghost use Rattle.marking.specs.Code.Restored.{Restored};
 
 pub enum Marking {
@@ -280,6 +280,7 @@ pub fn set_mark(
     ensures { λ r. ⌜ markingValues r ≡ setValues (markedBy run (marksOf (now (set .entry)) (now (markbytes .entry)) (now (markwords .entry)) (now (marknumbers .entry)) (now (marksums .entry)))) i ⌝ }
     ensures { λ _. ⌜ marksIn (bytesOf run) (marksOf (now (set .exit)) (now (markbytes .exit)) (now (markwords .exit)) (now (marknumbers .exit)) (now (marksums .exit))) ≡ setAs (tryAt (setChecks (markedBy run (marksOf (now (set .entry)) (now (markbytes .entry)) (now (markwords .entry)) (now (marknumbers .entry)) (now (marksums .entry)))) i) 0) i (markedBy run (marksOf (now (set .entry)) (now (markbytes .entry)) (now (markwords .entry)) (now (marknumbers .entry)) (now (marksums .entry)))) .marks ⌝ }
     ensures { λ _. ⌜ Cleared (now (sparebytes .exit)) (now (sparewords .exit)) (now (sparenumbers .exit)) (now (sparesums .exit)) (now (next .exit)) (now (status .exit)) (now (amounts .exit)) (now (left .exit)) (now (right .exit)) (now (rises .exit)) (now (falls .exit)) (now (forks .exit)) (now (seen .exit)) (now (list .exit)) ⌝ }
+    ensures { λ _. ⌜ marksOf (now (set .exit)) (now (markbytes .exit)) (now (markwords .exit)) (now (marknumbers .exit)) (now (marksums .exit)) ≡ marksAfter run i (marksOf (now (set .entry)) (now (markbytes .entry)) (now (markwords .entry)) (now (marknumbers .entry)) (now (marksums .entry))) ⌝ }
 {
     let tested = test(run);
     if !tested.passed {
