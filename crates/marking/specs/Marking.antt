@@ -1,5 +1,6 @@
 -- What setting a mark and going back to one answer by value, with the marks in lent memory (N11).
 use Prim.Native.Nat.{ℕ}
+use mathlib.Core.Bool.{Bool, true, false}
 use Rattle.schedule.specs.declared.Run.{Run}
 use Rattle.table.specs.Sum.{pick}
 use Rattle.schedule.specs.Record.{bytesOf}
@@ -16,6 +17,11 @@ use Rattle.marking.specs.declared.Marking.the-variants.{Done, Refused}
 abbrev pub markingValues : Marking → MarkValues
 markingValues Done = record { number = 0; place = 0 }
 markingValues (Refused x) = record { number = x .number; place = x .place }
+
+-- .. and which of the two it is: done exactly where the number is 0
+abbrev pub isDone : Marking → Bool
+isDone Done = true
+isDone (Refused x) = false
 
 -- a run, and the marks that stand in the lent memory: each is read with the run's own table
 abbrev pub markedBy : Run → Marks → Marked

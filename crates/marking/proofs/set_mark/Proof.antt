@@ -25,7 +25,7 @@ returns c =
     let a = t .before .before .before .args in
     let h = test-fails _ (t .before .before .test .ensures) (t .if1 .taken) in
     let K = marksOf (now (a .set)) (now (a .markbytes)) (now (a .markwords)) (now (a .marknumbers)) (now (a .marksums)) in
-    (c .answer-of .ensures ∙ unsound-set (a .run) h K (a .i), (unsound-marks (a .run) h K (a .i), (c .before .clear .ensures, unsound-after (a .run) h K (a .i))))
+    (c .answer-of .ensures .0 ∙ unsound-set (a .run) h K (a .i), (unsound-marks (a .run) h K (a .i), (c .before .clear .ensures, (unsound-after (a .run) h K (a .i), c .answer-of .ensures .1))))
 
 set-packed-requires : tie.Need-set-packed-requires
 set-packed-requires c κs =
@@ -46,8 +46,8 @@ returns-2 c =
     let a = t .before .before .before .args in
     let h = test-passes _ (t .before .before .test .ensures) (t .if1 .left) in
     let f = c .before .before .before .before .before .before .before .before .before .before .before .before .before .before .before .before .set-packed .ensures in (
-      c .answer-of2 .ensures ∙ set-values _ h _ _ _ (f .0),
-      (set-marks _ h _ _ _ (f .0) (f .1) (kept-size (now (a .set)) (now (a .markbytes)) (now (a .markwords)) (now (a .marknumbers)) (now (a .marksums))), (c .before .clear2 .ensures, set-after _ h _ _ _ (f .0) (ap (λ (x : Tested). x .parents) (t .before .before .test .ensures)))),
+      c .answer-of2 .ensures .0 ∙ set-values _ h _ _ _ (f .0),
+      (set-marks _ h _ _ _ (f .0) (f .1) (kept-size (now (a .set)) (now (a .markbytes)) (now (a .markwords)) (now (a .marknumbers)) (now (a .marksums))), (c .before .clear2 .ensures, (set-after _ h _ _ _ (f .0) (ap (λ (x : Tested). x .parents) (t .before .before .test .ensures)), c .answer-of2 .ensures .1))),
     )
 
 pub set-mark-spec : {M : Type 1} → statement M
