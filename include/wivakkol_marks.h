@@ -2,7 +2,8 @@
  * asks of its callers holds here too.
  *
  * The other calls take no marks and leave them as they are. wivakkol_mark and wivakkol_back test the run and every set mark as wivakkol_open tests a run, also the mark that is to be replaced; in a
- * mark any number but 0 says that a worker holds a thread, and it comes back as 1. So they take up to nine times as long, 1 to 2 milliseconds for the longest tables. They have no row: the place is 0. */
+ * mark any number but 0 says that a worker holds a thread, and it comes back as 1. So they take up to ten times as long as an opening (docs/C-AND-RUST.md has what was measured). They have no row: the
+ * place is 0. */
 #ifndef WIVAKKOL_MARKS_H
 #define WIVAKKOL_MARKS_H
 

@@ -19,7 +19,7 @@ use Rattle.schedule.specs.Turn.{unsound}
 use Rattle.schedule.specs.Sound.{Steady}
 use Rattle.schedule.proofs.Stores.{steady-fits}
 use Rattle.schedule.proofs.Sound.Tests.{blank-exactly}
-use Rattle.soundness.specs.Tested.{blankOn}
+use Rattle.soundness.specs.Tested.{blankOn, tested}
 use Rattle.soundness.proofs.Passed.{has-workers, no-workers}
 use Rattle.soundness.proofs.Chains.{second-of, never}
 use Rattle.soundness.proofs.OnParts.{blank-is}
@@ -34,7 +34,7 @@ use Rattle.wivakkol.proofs.Opens.{sound-in, no-workers as blank-settings}
 use Rattle.wivakkol_marks.specs.LentMarks.{Marks, markIn, fitIn, Setting, setting, lentMark, lentBack}
 use Rattle.wivakkol_marks.specs.MarkedIn.{recordIn, marksIn, numbered}
 use Rattle.wivakkol_marks.proofs.MarkRefines.{mark-values, mark-refines, back-values, back-refines, mark-small, back-small, back-fits, back-kept, opened-blank, opened-settings}
-use Rattle.marking.specs.Marking.{markedBy}
+use Rattle.marking.specs.Marking.{markedBy, marksAfter}
 use Rattle.marking.specs.Code.Restored.{Restored}
 
 -- ---- what stands in a memory that passes check 32
@@ -146,6 +146,13 @@ module _ (run : Run) (e : unsound run ≡ false) where
           ∙ ap (λ (x : Marked). x .marks) (mark-refines s M K packed-truths i y (λ q. z (ap (λ (x : Setting). x .number) f ∙ q)))
           ∙ ap (λ (r : Run). setAs (tryAt (setChecks (marked r (marksIn s K)) i) 0) i (marked r (marksIn s K)) .marks) packed
 
+      pub set-after : {n : ℕ} {K' : Marks} → setting n K' ≡ lentMark s i M K → parents ≡ tested run .parents → K' ≡ marksAfter run i K
+      unfolding marksAfter
+      set-after f p =
+          ap (λ (x : Setting). x .marks) f
+          ∙ ap (λ (P : List ℕ). lentMark s i (memoryFor run P) K .marks) p
+          ∙ sym (ap (λ (b : Bool). pick b K (lentMark s i (memoryFor run (tested run .parents)) K .marks)) e)
+
       pub back-number : {n : ℕ} → n ≡ lentBack s i M K .number → numbered n ≡ backValues (markedBy run K) i
       back-number f = ap numbered f ∙ back-values s M K packed-truths i ∙ ap (λ (r : Run). backValues (marked r (marksIn s K)) i) packed
 
@@ -249,6 +256,10 @@ module _ (run : Run) (e : unsound run ≡ true) (K : Marks) (i : ℕ) where
 
   pub unsound-marks : marksIn (bytesOf run) K ≡ setAs (tryAt (setChecks (markedBy run K) i) 0) i (markedBy run K) .marks
   unsound-marks = rw set-found
+
+  pub unsound-after : K ≡ marksAfter run i K
+  unfolding marksAfter
+  unsound-after = sym (ap (λ (b : Bool). pick b K (lentMark (bytesOf run) i (memoryFor run (tested run .parents)) K .marks)) e)
 
   pub unsound-back : numbered 32 ≡ backValues (markedBy run K) i
   unfolding backValues

@@ -13,6 +13,7 @@ use wivakkol_marks::clear;
 ghost use mathlib.Core.Path.{_≡_};
 ghost use mathlib.Core.Bool.{false};
 ghost use Prim.Native.Nat.{_<_};
+ghost use lib.Dec.{eqb};
 ghost use lib.ListN.{length};
 ghost use Rattle.table.specs.Pass.{tryAt};
 ghost use Rattle.schedule.specs.Record.{bytesOf};
@@ -23,7 +24,7 @@ ghost use Rattle.run_memory.specs.Blocks.{memoryOf};
 ghost use Rattle.run_memory.specs.Packing.{memoryFor};
 ghost use Rattle.wivakkol_marks.specs.LentMarks.{marksOf, setting, lentMark, lentBack, Cleared};
 ghost use Rattle.wivakkol_marks.specs.MarkedIn.{recordIn, marksIn, numbered};
-ghost use Rattle.marking.specs.Marking.{markingValues, markedBy};
+ghost use Rattle.marking.specs.Marking.{markingValues, isDone, markedBy, marksAfter};
 ghost use Rattle.marking.specs.Code.Restored.{Restored};
 
 pub enum Marking {
@@ -46,6 +47,7 @@ struct Packed {
 fn answer_of(number: u32) -> Marking
     requires { ⌜ number < 256 ⌝ }
     ensures { λ r. ⌜ markingValues r ≡ numbered number ⌝ }
+    ensures { λ r. ⌜ isDone r ≡ eqb (markingValues r .number) 0 ⌝ }
 {
     if number == 0 {
         return Marking::Done;
@@ -280,6 +282,8 @@ pub fn set_mark(
     ensures { λ r. ⌜ markingValues r ≡ setValues (markedBy run (marksOf (now (set .entry)) (now (markbytes .entry)) (now (markwords .entry)) (now (marknumbers .entry)) (now (marksums .entry)))) i ⌝ }
     ensures { λ _. ⌜ marksIn (bytesOf run) (marksOf (now (set .exit)) (now (markbytes .exit)) (now (markwords .exit)) (now (marknumbers .exit)) (now (marksums .exit))) ≡ setAs (tryAt (setChecks (markedBy run (marksOf (now (set .entry)) (now (markbytes .entry)) (now (markwords .entry)) (now (marknumbers .entry)) (now (marksums .entry)))) i) 0) i (markedBy run (marksOf (now (set .entry)) (now (markbytes .entry)) (now (markwords .entry)) (now (marknumbers .entry)) (now (marksums .entry)))) .marks ⌝ }
     ensures { λ _. ⌜ Cleared (now (sparebytes .exit)) (now (sparewords .exit)) (now (sparenumbers .exit)) (now (sparesums .exit)) (now (next .exit)) (now (status .exit)) (now (amounts .exit)) (now (left .exit)) (now (right .exit)) (now (rises .exit)) (now (falls .exit)) (now (forks .exit)) (now (seen .exit)) (now (list .exit)) ⌝ }
+    ensures { λ _. ⌜ marksOf (now (set .exit)) (now (markbytes .exit)) (now (markwords .exit)) (now (marknumbers .exit)) (now (marksums .exit)) ≡ marksAfter run i (marksOf (now (set .entry)) (now (markbytes .entry)) (now (markwords .entry)) (now (marknumbers .entry)) (now (marksums .entry))) ⌝ }
+    ensures { λ r. ⌜ isDone r ≡ eqb (markingValues r .number) 0 ⌝ }
 {
     let tested = test(run);
     if !tested.passed {
@@ -372,6 +376,7 @@ pub fn go_back(
     ensures { λ r. ⌜ markingValues (r .answer) ≡ backValues (markedBy run (marksOf (now (set .entry)) (now (markbytes .entry)) (now (markwords .entry)) (now (marknumbers .entry)) (now (marksums .entry)))) i ⌝ }
     ensures { λ r. ⌜ r .run ≡ backAs (tryAt (backChecks (markedBy run (marksOf (now (set .entry)) (now (markbytes .entry)) (now (markwords .entry)) (now (marknumbers .entry)) (now (marksums .entry)))) i) 0) i (markedBy run (marksOf (now (set .entry)) (now (markbytes .entry)) (now (markwords .entry)) (now (marknumbers .entry)) (now (marksums .entry)))) .run ⌝ }
     ensures { λ _. ⌜ Cleared (now (sparebytes .exit)) (now (sparewords .exit)) (now (sparenumbers .exit)) (now (sparesums .exit)) (now (next .exit)) (now (status .exit)) (now (amounts .exit)) (now (left .exit)) (now (right .exit)) (now (rises .exit)) (now (falls .exit)) (now (forks .exit)) (now (seen .exit)) (now (list .exit)) ⌝ }
+    ensures { λ r. ⌜ isDone (r .answer) ≡ eqb (markingValues (r .answer) .number) 0 ⌝ }
 {
     let tested = test(run);
     if !tested.passed {

@@ -22,7 +22,7 @@ returns c =
     let t = c .before .before .before .before .before .before .before .before .before .before .before .before .before .before .before .before in
     let a = t .before .before .before .args in
     let h = test-fails _ (t .before .before .test .ensures) (t .if1 .taken) in
-    (c .answer-of .ensures ∙ unsound-back (a .run) h (marksOf (now (a .set)) (now (a .markbytes)) (now (a .markwords)) (now (a .marknumbers)) (now (a .marksums))) (a .i), (unsound-run (a .run) h (marksOf (now (a .set)) (now (a .markbytes)) (now (a .markwords)) (now (a .marknumbers)) (now (a .marksums))) (a .i), c .before .clear .ensures))
+    (c .answer-of .ensures .0 ∙ unsound-back (a .run) h (marksOf (now (a .set)) (now (a .markbytes)) (now (a .markwords)) (now (a .marknumbers)) (now (a .marksums))) (a .i), (unsound-run (a .run) h (marksOf (now (a .set)) (now (a .markbytes)) (now (a .markwords)) (now (a .marknumbers)) (now (a .marksums))) (a .i), (c .before .clear .ensures, c .answer-of .ensures .1)))
 
 back-packed-requires : tie.Need-back-packed-requires
 back-packed-requires c κs =
@@ -42,7 +42,7 @@ returns-2 c =
     let t = c .before .before .before .before .before .before .before .before .before .before .before .before .before .before .before .before .before .before .before .before .before .before .before .before .before .before .before .before .before .before .before .before .before .before in
     let h = test-passes _ (t .before .before .test .ensures) (t .if1 .left) in
     let f = c .before .before .before .before .before .before .before .before .before .before .before .before .before .before .before .before .before .back-packed .ensures in
-    (c .answer-of2 .ensures ∙ back-number _ h _ _ _ (f .0), (back-run _ h _ _ _ (f .1), c .before .before .clear2 .ensures))
+    (c .answer-of2 .ensures .0 ∙ back-number _ h _ _ _ (f .0), (back-run _ h _ _ _ (f .1), (c .before .before .clear2 .ensures, c .answer-of2 .ensures .1)))
 
 pub go-back-spec : {M : Type 1} → statement M
 go-back-spec =

@@ -1,11 +1,12 @@
 -- `marking::set_mark` meets its contract: check 32 of the run, and then the call on its memory.
-use mathlib.Core.Path.{_∙_}
+use mathlib.Core.Path.{ap, _∙_}
 use borrow.Author.Needs.{needs}
 use denote.Ref.{now}
+use Rattle.soundness.specs.declared.Tested.{Tested}
 use Rattle.soundness.proofs.Passed.{test-fails, test-passes}
 use Rattle.wivakkol_marks.specs.LentMarks.{marksOf}
 use Rattle.wivakkol_marks.proofs.MarkRefines.{kept-size}
-use Rattle.marking.proofs.Values.{set-values, set-marks, set-small, unsound-set, unsound-marks}
+use Rattle.marking.proofs.Values.{set-values, set-marks, set-after, set-small, unsound-set, unsound-marks, unsound-after}
 use Rattle.marking.proofs.set_mark.Statement.{statement}
 use Rattle.marking.proofs.set_mark.Tie as tie
 
@@ -23,7 +24,8 @@ returns c =
     let t = c .before .before .before .before .before .before .before .before .before .before .before .before .before .before .before .before in
     let a = t .before .before .before .args in
     let h = test-fails _ (t .before .before .test .ensures) (t .if1 .taken) in
-    (c .answer-of .ensures ∙ unsound-set (a .run) h (marksOf (now (a .set)) (now (a .markbytes)) (now (a .markwords)) (now (a .marknumbers)) (now (a .marksums))) (a .i), (unsound-marks (a .run) h (marksOf (now (a .set)) (now (a .markbytes)) (now (a .markwords)) (now (a .marknumbers)) (now (a .marksums))) (a .i), c .before .clear .ensures))
+    let K = marksOf (now (a .set)) (now (a .markbytes)) (now (a .markwords)) (now (a .marknumbers)) (now (a .marksums)) in
+    (c .answer-of .ensures .0 ∙ unsound-set (a .run) h K (a .i), (unsound-marks (a .run) h K (a .i), (c .before .clear .ensures, (unsound-after (a .run) h K (a .i), c .answer-of .ensures .1))))
 
 set-packed-requires : tie.Need-set-packed-requires
 set-packed-requires c κs =
@@ -44,8 +46,8 @@ returns-2 c =
     let a = t .before .before .before .args in
     let h = test-passes _ (t .before .before .test .ensures) (t .if1 .left) in
     let f = c .before .before .before .before .before .before .before .before .before .before .before .before .before .before .before .before .set-packed .ensures in (
-      c .answer-of2 .ensures ∙ set-values _ h _ _ _ (f .0),
-      (set-marks _ h _ _ _ (f .0) (f .1) (kept-size (now (a .set)) (now (a .markbytes)) (now (a .markwords)) (now (a .marknumbers)) (now (a .marksums))), c .before .clear2 .ensures),
+      c .answer-of2 .ensures .0 ∙ set-values _ h _ _ _ (f .0),
+      (set-marks _ h _ _ _ (f .0) (f .1) (kept-size (now (a .set)) (now (a .markbytes)) (now (a .markwords)) (now (a .marknumbers)) (now (a .marksums))), (c .before .clear2 .ensures, (set-after _ h _ _ _ (f .0) (ap (λ (x : Tested). x .parents) (t .before .before .test .ensures)), c .answer-of2 .ensures .1))),
     )
 
 pub set-mark-spec : {M : Type 1} → statement M
