@@ -4,13 +4,14 @@ use mathlib.Core.List.{List}
 use mathlib.Core.Bool.{Bool, _&&_}
 use lib.ListN.{replicate}
 use lib.Dec.{ltb, eqb}
-use Rattle.table.specs.Format.{tableOf}
+use Rattle.table.specs.Sum.{pick}
+use Rattle.table.specs.Format.{Table, tableOf}
 use Rattle.table.specs.Checks.{maxThreads}
 use Rattle.schedule.specs.declared.Worker.{Worker}
 use Rattle.schedule.specs.Links.{Links}
 use Rattle.schedule.specs.Sound.{commonSound}
 use Rattle.order.specs.Words.{sameList}
-use Rattle.soundness.specs.Tested.{blankOn}
+use Rattle.soundness.specs.Tested.{parentsIn, blankOn}
 use Rattle.deques.specs.DequeWalk.{dequesStand}
 
 -- what a sound record says of its parts, over the table's bytes: "01's rules and N9's, with these statements in place of those on the list", all clauses but those on the copy of the table in the
@@ -28,3 +29,11 @@ dequeBlankOn p K next status amounts lines bottoms workers set amount highest tu
     && (sameList (bottoms .left) (replicate maxThreads 0)
     && (sameList (bottoms .right) (replicate maxThreads 0)
     && eqb (bottoms .head) 0))
+
+-- opening a run in lent memory: 32, "record not sound and not blank", else 0
+unfoldable pub openNumber : Bool → Bool → ℕ
+openNumber sound blank = pick sound 0 (pick blank 0 32)
+
+-- the parents that then stand beside the record: the table's, those of the blank record, as they were
+unfoldable pub openParents : Bool → Bool → Table → List ℕ → List ℕ
+openParents sound blank T before = pick sound (parentsIn T) (pick blank (replicate maxThreads 0) before)

@@ -30,7 +30,7 @@ fn greater(x: usize, y: usize) -> usize
 }
 
 // The largest alloc, 1 if there is none.
-pub(crate) fn least_quota(table: &[u8]) -> usize
+pub fn least_quota(table: &[u8]) -> usize
     ensures { λ r. ⌜ r ≡ leastQuota (tableOf (now (table .entry))) ⌝ }
 {
     let n = threads(table);

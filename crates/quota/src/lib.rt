@@ -1,6 +1,6 @@
 // The largest quota for a board: from a table, p, b and the memory there is.
-mod allocs;
-mod line;
+pub mod allocs;
+pub mod line;
 
 use allocs::least_quota;
 use line::answer_line;
@@ -111,7 +111,7 @@ fn cost(p: u8, b: u32, depth: u16) -> u64
 }
 
 // How many units of a cost an amount pays for, up to the largest quota of all.
-fn most_within(cost: u64, spare: u64) -> u32
+pub fn most_within(cost: u64, spare: u64) -> u32
     ensures { λ r. ⌜ r ≡ mostWithin cost spare ⌝ }
 {
     if cost == 0 {

@@ -24,14 +24,14 @@ fn double_word(s: &[u8], i: usize) -> usize
 }
 
 // b, 32 bits.
-fn gap_in(input: &[u8]) -> u32
+pub fn gap_in(input: &[u8]) -> u32
     ensures { λ r. ⌜ r ≡ gapIn (now (input .entry)) ⌝ }
 {
     double_word(input, 1) as u32
 }
 
 // M, 64 bits.
-fn memory_in(input: &[u8]) -> u64
+pub fn memory_in(input: &[u8]) -> u64
     ensures { λ r. ⌜ r ≡ memoryIn (now (input .entry)) ⌝ }
 {
     (double_word(input, 5) + 4294967296 * double_word(input, 9)) as u64

@@ -99,7 +99,7 @@ unruled-least T p K k =
 
 -- ---- the least that any needs
 
-cover-low : (T : Table) → leastQuota T ≤ coverQuota T
+pub cover-low : (T : Table) → leastQuota T ≤ coverQuota T
 unfolding coverQuota
 cover-low T = omega arith
 

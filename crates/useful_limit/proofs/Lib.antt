@@ -1,3 +1,5 @@
 pub mod InRange
 pub mod Fits
 pub mod Serves
+pub mod Steps
+pub mod FromParts
