@@ -102,12 +102,12 @@ rounds-is s = s .promised .0
 pub begin-is : {s : List ℕ} {p K : ℕ} {b : Begun} → BeginSays s p K b → b ≡ begin s p K
 begin-is {s} {p} {K} h = h .promised .0 ∙ ap (λ (l : List ℕ). begin l p K) (h .lent)
 
-record DefinedCall (r : Run) (c : Call) (x : Answer) (row : List ℕ) (r' : Run) : Type 0 where
-  record-is : r' ≡ afterCall c r
-  answer-is : x ≡ answerOf c r
-  row-is : row ≡ rowOf c r
+pub record DefinedCall (r : Run) (c : Call) (x : Answer) (row : List ℕ) (r' : Run) : Type 0 where
+  pub record-is : r' ≡ afterCall c r
+  pub answer-is : x ≡ answerOf c r
+  pub row-is : row ≡ rowOf c r
 
-call-is : {r : Run} {c : Call} {x : Answer} {row : List ℕ} {r' : Run} → Called r c x row r' → DefinedCall r c x row r'
+pub call-is : {r : Run} {c : Call} {x : Answer} {row : List ℕ} {r' : Run} → Called r c x row r' → DefinedCall r c x row r'
 unfolding afterCall rowOf
 call-is (by-turn w d s) =
     let e = turn-is s in
@@ -155,7 +155,7 @@ list-says r l = record { lifetimes = ([], tt); order = lentOf l; lent = refl; ex
 pub rounds-says : (r : Run) (limit : ℕ) → RoundsSays r limit (roundsRun r limit)
 rounds-says r limit = record { exit = (r, (limit, tt)); promised = (refl, rounds-values r limit) }
 
-called : (r : Run) (c : Call) → Called r c (answerOf c r) (rowOf c r) (afterCall c r)
+pub called : (r : Run) (c : Call) → Called r c (answerOf c r) (rowOf c r) (afterCall c r)
 unfolding afterCall rowOf
 called r (turn w) = by-turn w (turned r w) (turn-says r w)
 called r (overList l) = by-list l (listRun r l) (list-says r l)

@@ -152,13 +152,13 @@ row-turns : {row : List ℕ} (x : Report) → row ≡ valuesRun (reportValues x)
 row-turns x e = ap (λ (l : List ℕ). getD l 2 0) e ∙ report-turns x
 
 -- a call is that call on the record, and the record after it stands
-record CallRefines (s : List ℕ) (M : Memory) (c : Call) : Type 0 where
-  record-after : runIn s (lentMove s c M .memory) ≡ afterCall c (runIn s M)
-  answer : returned (lentMove s c M .number) (lentMove s c M .row) ≡ inNumbers (answerOf c (runIn s M))
-  row : lentRowOf (moving c) M (lentMove s c M) ≡ rowOf c (runIn s M)
-  stands : Stands s (lentMove s c M .memory)
+pub record CallRefines (s : List ℕ) (M : Memory) (c : Call) : Type 0 where
+  pub record-after : runIn s (lentMove s c M .memory) ≡ afterCall c (runIn s M)
+  pub answer : returned (lentMove s c M .number) (lentMove s c M .row) ≡ inNumbers (answerOf c (runIn s M))
+  pub row : lentRowOf (moving c) M (lentMove s c M) ≡ rowOf c (runIn s M)
+  pub stands : Stands s (lentMove s c M .memory)
 
-call-refines : (s : List ℕ) (M : Memory) → Stands s M → (c : Call) → CallRefines s M c
+pub call-refines : (s : List ℕ) (M : Memory) → Stands s M → (c : Call) → CallRefines s M c
 unfolding lentMove lentRowOf afterCall rowOf
 call-refines s M h (turn w) =
     let t : Turns s M w (lentTurn s w M) = turn-refines s M h w in

@@ -37,7 +37,7 @@ use Rattle.wivakkol.proofs.Opens.{tested-same, open-record, open-blank, stands-
 use Rattle.wivakkol.proofs.PreviewRefines.{preview-refines}
 use Rattle.claims.specs.LentCalls.{LentCall, opening, Returned, lentCall, lentAfter, lentReturned, lentRow, movesOf}
 use Rattle.claims.specs.Answers.{answerOf, inNumbers, returnedBy}
-use Rattle.claims.specs.Records.{recordIn}
+use Rattle.wivakkol_marks.specs.MarkedIn.{recordIn}
 use Rattle.claims.proofs.Shaped.{Shaped}
 use Rattle.claims.proofs.Sizes.{call-shaped}
 use Rattle.claims.proofs.LentLimit.{open-refine}

@@ -1,8 +1,8 @@
 -- What the proofs of the code use, and what its promises mean: on memory that is the record of a run a turn is document 01's (Refines).
-mod Parts
+pub mod Parts
 mod Rows
 mod Numbers
-mod Copied
+pub mod Copied
 mod Linking
 mod Searching
 mod Acts

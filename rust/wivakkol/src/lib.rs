@@ -1,6 +1,7 @@
 //! AsyncDF for job tables: a scheduler whose memory is bounded beforehand, for every order in which its workers take their turns. The calls are proved; this crate calls them in the archives
-//! `libwivakkol_turn.a`, `libwivakkol.a` and `libwivakkol_tables.a`, which `rt staticlib wivakkol_turn`, `rt staticlib wivakkol` and `rt staticlib wivakkol_tables` write, and gives their numbers types. It has no heap, no state and no dependencies. docs/REFERENCE.md
-//! of the repository says what a table is, what a turn does and which bounds hold. Without the feature `tables`, which is on by default, [`join`], [`canonical`] and [`compare`] are left out, and the third archive is not needed.
+//! `libwivakkol_turn.a`, `libwivakkol.a`, `libwivakkol_tables.a` and `libwivakkol_marks.a`, which `rt staticlib wivakkol_turn` and so on write, and gives their numbers types. It has no heap, no
+//! state and no dependencies. docs/REFERENCE.md of the repository says what a table is, what a turn does and which bounds hold. The features `tables` and `marks` are on by default: without the
+//! first, [`join`], [`canonical`] and [`compare`] are left out, and the third archive is not needed; without the second, [`Marks`] and the fourth.
 //!
 //! ```
 //! use wivakkol::{Memory, Report, Run, TablesWork, Work};
@@ -15,7 +16,9 @@
 //! ```
 //!
 //! What C has to keep to by itself is kept here by types: sizes, alignment, what overlaps what, one call at a time, and the same unchanged table for every call on a run. One thing is not: the
-//! stack. From C the calls behind [`check`], [`largest_quota`] and [`most_turns`] took up to 1,512 bytes of it, [`Run::begin`] 3,672, [`Run::open`] 6,136, [`Run::wall_line`] 6,440, a single turn 112, the others under 310; [`canonical`] and [`compare`] up to 1,368, [`join`] up to 1,544. That the declarations fit the archives is tested and not proved.
+//! stack. From C the calls behind [`check`], [`largest_quota`] and [`most_turns`] took up to 1,512 bytes of it, [`Run::begin`] 3,672, [`Run::open`] 6,136, [`Run::wall_line`] 6,440, a single
+//! turn 112, the others under 310; [`canonical`] and [`compare`] up to 1,368, [`join`] up to 1,544; [`Run::mark`] and [`Run::back`] up to 5,432. That the declarations fit the archives is tested
+//! and not proved.
 #![no_std]
 #![deny(unsafe_op_in_unsafe_fn)]
 
@@ -23,6 +26,8 @@
 compile_error!("the archive is built for x86-64 alone");
 
 mod builder;
+#[cfg(feature = "marks")]
+mod marks;
 mod memory;
 mod raw;
 mod refusal;
@@ -31,9 +36,11 @@ mod run;
 mod tables;
 
 pub use builder::{Builder, NotBuilt, Thread};
+#[cfg(feature = "marks")]
+pub use marks::{Marks, MarksWork};
 pub use memory::{Memory, TablesWork, Work};
 pub use refusal::{Place, Refusal};
-pub use run::{Preview, Reply, Report, Run, Status, Stopped, Turn};
+pub use run::{Preview, RefusedMemory, Reply, Report, Run, Status, Stopped, Turn};
 #[cfg(feature = "tables")]
 pub use tables::{canonical, compare, join, RefusedJoin, RefusedTable};
 

@@ -1,5 +1,5 @@
-//! The exported functions as the archives have them. An array is a reference to one of its size, so that the types say what include/wivakkol.h and wivakkol_tables.h ask of a row, a block
-//! or a part of one: it is not NULL, aligned, of the full size and written before, and what is lent to be written overlaps nothing else. tests/calls/declarations.rs holds them against the source.
+//! The exported functions as the archives have them. An array is a reference to one of its size, so that the types say what include/wivakkol.h, wivakkol_tables.h and wivakkol_marks.h ask of a
+//! row, a block or a part of one: it is not NULL, aligned, of the full size and written before, and what is lent to be written overlaps nothing else. tests/calls/declarations.rs holds them against the source.
 
 extern "C" {
     pub fn wivakkol_check_on(
@@ -184,5 +184,68 @@ extern "C" {
         falls: &mut [u64; 1024],
         names: &mut [u16; 1024],
         order: &mut [u16; 1024],
+    ) -> u32;
+}
+
+#[cfg(feature = "marks")]
+extern "C" {
+    pub fn wivakkol_unmark_on(set: &mut [u8; 8]);
+
+    pub fn wivakkol_mark_on(
+        table: *const u8,
+        length: usize,
+        i: u32,
+        bytes: &[u8; 1040],
+        words: &[u16; 6163],
+        numbers: &[u32; 18],
+        sums: &[u64; 1027],
+        set: &mut [u8; 8],
+        markbytes: &mut [u8; 8320],
+        markwords: &mut [u16; 49304],
+        marknumbers: &mut [u32; 144],
+        marksums: &mut [u64; 8216],
+        sparebytes: &mut [u8; 1040],
+        sparewords: &mut [u16; 6163],
+        sparenumbers: &mut [u32; 18],
+        sparesums: &mut [u64; 1027],
+        next: &mut [u16; 1024],
+        status: &mut [u8; 1024],
+        amounts: &mut [u64; 1024],
+        left: &mut [u16; 1024],
+        right: &mut [u16; 1024],
+        rises: &mut [u64; 1024],
+        falls: &mut [u64; 1024],
+        forks: &mut [u16; 1024],
+        seen: &mut [u16; 1024],
+        list: &mut [u16; 1024],
+    ) -> u32;
+
+    pub fn wivakkol_back_on(
+        table: *const u8,
+        length: usize,
+        i: u32,
+        bytes: &mut [u8; 1040],
+        words: &mut [u16; 6163],
+        numbers: &mut [u32; 18],
+        sums: &mut [u64; 1027],
+        set: &[u8; 8],
+        markbytes: &[u8; 8320],
+        markwords: &[u16; 49304],
+        marknumbers: &[u32; 144],
+        marksums: &[u64; 8216],
+        sparebytes: &mut [u8; 1040],
+        sparewords: &mut [u16; 6163],
+        sparenumbers: &mut [u32; 18],
+        sparesums: &mut [u64; 1027],
+        next: &mut [u16; 1024],
+        status: &mut [u8; 1024],
+        amounts: &mut [u64; 1024],
+        left: &mut [u16; 1024],
+        right: &mut [u16; 1024],
+        rises: &mut [u64; 1024],
+        falls: &mut [u64; 1024],
+        forks: &mut [u16; 1024],
+        seen: &mut [u16; 1024],
+        list: &mut [u16; 1024],
     ) -> u32;
 }

@@ -1,6 +1,9 @@
 //! A run: a table and the memory that it stands in, tied to each other.
+#[cfg(feature = "marks")]
+use crate::{Marks, MarksWork};
 use crate::{Memory, Refusal, Work};
 use core::fmt;
+use core::ops::DerefMut;
 
 /// No thread, in the links of the list.
 const NO_THREAD: u16 = 1024;
@@ -69,8 +72,28 @@ pub enum Status {
     Ended,
 }
 
+/// Memory in which no run was opened, handed back as it was, and why.
+pub struct RefusedMemory<M> {
+    pub refusal: Refusal,
+    pub memory: M,
+}
+
+impl<M> fmt::Debug for RefusedMemory<M> {
+    fn fmt(&self, f: &mut fmt::Formatter<'_>) -> fmt::Result {
+        f.debug_struct("RefusedMemory").field("refusal", &self.refusal).finish_non_exhaustive()
+    }
+}
+
+impl<M> fmt::Display for RefusedMemory<M> {
+    fn fmt(&self, f: &mut fmt::Formatter<'_>) -> fmt::Result {
+        self.refusal.fmt(f)
+    }
+}
+
+impl<M> core::error::Error for RefusedMemory<M> {}
+
 /// A run that was begun or opened. It borrows its table, so that every call is given the same bytes and nobody changes them meanwhile, and its memory, so that nobody else touches that; both are
-/// free again when the run is dropped.
+/// free again when the run is dropped. Where `M` is a box or a lock's guard ([`open_in`](Run::open_in)), the run has that instead of a borrow, and [`into_memory`](Run::into_memory) hands it back.
 ///
 /// ```compile_fail,E0506
 /// # use wivakkol::{Memory, Run, Work};
@@ -80,9 +103,9 @@ pub enum Status {
 /// run.turn(0)?;
 /// # Ok::<(), wivakkol::Refusal>(())
 /// ```
-pub struct Run<'t> {
+pub struct Run<'t, M = &'t mut Memory> {
     table: &'t [u8],
-    memory: &'t mut Memory,
+    memory: M,
 }
 
 impl<'t> Run<'t> {
@@ -109,9 +132,42 @@ impl<'t> Run<'t> {
     /// The limits on memory and on threads are promised where the run was begun from this table and the memory is as calls left it. A sound record that was made up may hold more than any run
     /// would; its turns are document 01's all the same.
     pub fn open(table: &'t [u8], memory: &'t mut Memory, work: &mut Work) -> Result<Run<'t>, Refusal> {
+        Run::open_in(table, memory, work).map_err(|refused| refused.refusal)
+    }
+}
+
+impl<'t, M: DerefMut<Target = Memory>> Run<'t, M> {
+    /// [`open`](Run::open) for memory that the run is to have and not only to borrow, such as a `Box<Memory>`: the run may then be kept or returned where no memory stays behind to borrow from.
+    /// Where it is refused, with 32, the memory comes back as it was. `M` must give the same memory each time; one that does not gets answers about whatever it gives.
+    ///
+    /// ```
+    /// use wivakkol::{Memory, Run, Work};
+    ///
+    /// fn start(table: &[u8]) -> Result<Run<'_, Box<Memory>>, Box<dyn std::error::Error>> {
+    ///     let (mut memory, mut work) = (Box::new(Memory::new()), Work::new());
+    ///     Run::begin(table, &mut memory, &mut work, 2, 6)?;
+    ///     Ok(Run::open_in(table, memory, &mut work)?)
+    /// }
+    ///
+    /// let mut run = start(include_bytes!("../../../examples/e.table"))?;
+    /// run.list(&[0, 1, 0])?;
+    /// let (table, memory) = (run.table(), run.into_memory()); // put away: the box is ours
+    /// let run = Run::open_in(table, memory, &mut Work::new())?; // and taken up
+    /// assert_eq!(run.turns(), 3);
+    /// # Ok::<(), Box<dyn std::error::Error>>(())
+    /// ```
+    pub fn open_in(table: &'t [u8], mut memory: M, work: &mut Work) -> Result<Run<'t, M>, RefusedMemory<M>> {
         let (number, [place]) = memory.open(work, table);
-        Refusal::unless_zero(number, place)?;
-        Ok(Run { table, memory })
+        match Refusal::unless_zero(number, place) {
+            Ok(()) => Ok(Run { table, memory }),
+            Err(refusal) => Err(RefusedMemory { refusal, memory }),
+        }
+    }
+
+    /// Puts the run away: its memory, with the run in it, handed back as it was lent, a box as the box. [`open`](Run::open) or [`open_in`](Run::open_in) goes on with it, with the same
+    /// [`table`](Run::table).
+    pub fn into_memory(self) -> M {
+        self.memory
     }
 
     /// A turn of worker `w`. Refused, with nothing changed: 32 if 2^64 − 1 turns are taken, 30 if `w` is not below p, 31 if the root has ended.
@@ -144,6 +200,23 @@ impl<'t> Run<'t> {
     /// Turns of the workers 0 to p − 1, again and again, up to the root's end, at most `limit` of them; every call starts with worker 0.
     pub fn rounds(&mut self, limit: u32) -> Result<Report, Stopped> {
         report(self.memory.rounds(self.table, limit))
+    }
+
+    /// Sets mark `i` to the run as it is; a mark that was set is replaced. Refused, with the marks as they were: 32 if the run or a set mark, also the one to be replaced, is neither a sound record
+    /// of this table nor the blank one, then 45 if `i` is above 7.
+    #[cfg(feature = "marks")]
+    pub fn mark(&self, marks: &mut Marks, work: &mut MarksWork, i: u32) -> Result<(), Refusal> {
+        Refusal::unless_zero(self.memory.mark(marks, work, self.table, i), 0)
+    }
+
+    /// Goes back to mark `i`: the run is what it was when the mark was set, turns and highest memory too, and the marks stay as they are. Refused, with the run as it was: 32 and 45 as
+    /// [`mark`](Run::mark) is, then 46 if mark `i` is not set.
+    ///
+    /// The limits hold on, for the turns that led to the mark and those since, where they held for the run and the mark was set by it; of a mark that [`Marks::put`] made, what
+    /// [`open`](Run::open) says of a record made up is true.
+    #[cfg(feature = "marks")]
+    pub fn back(&mut self, marks: &Marks, work: &mut MarksWork, i: u32) -> Result<(), Refusal> {
+        Refusal::unless_zero(self.memory.back(marks, work, self.table, i), 0)
     }
 
     /// The bytes of the table that runs: those as given, or of the filled-out table.

@@ -22,11 +22,11 @@ const LISTING: &str = "\
 done 14 peak 12
 ";
 
-fn e() -> Table {
+pub fn e() -> Table {
     vec![vec![Fork(1), Fork(2), Join(2), Join(1), End], vec![Alloc(6), Work, Free(6), End], vec![Alloc(6), Free(6), End]]
 }
 
-fn refused(number: u32, place: u64) -> Refusal {
+pub fn refused(number: u32, place: u64) -> Refusal {
     Refusal { number, place }
 }
 
@@ -367,12 +367,48 @@ fn texts() {
 #[test]
 fn texts_are_of_the_reference() {
     let reference = std::fs::read_to_string("../../docs/REFERENCE.md").unwrap();
-    for number in [1, 2, 3, 4, 5, 6, 7, 8, 9, 10, 11, 20, 21, 30, 31, 41, 42, 43, 44, 47, 48, 61] {
+    for number in [1, 2, 3, 4, 5, 6, 7, 8, 9, 10, 11, 20, 21, 30, 31, 41, 42, 43, 44, 45, 46, 47, 48, 61] {
         for part in refused(number, 0).meaning().split("; at entry n, ") {
             let row = |line: &str| line.starts_with(&format!("| {number} |")) && line.contains(part);
             assert!(reference.lines().any(row), "{number}: {part}");
         }
     }
+}
+
+/// A run in a box is put away and taken up in it: the box is handed back, as it was where the opening is refused.
+#[test]
+fn memory_in_a_box() {
+    let (table, mut memory, mut work) = (bytes(&e()), Box::new(Memory::new()), Work::new());
+    let place: *const Memory = &*memory;
+    Run::begin(&table, &mut memory, &mut work, 2, 6).unwrap();
+    for turns in [0, 3, 6] {
+        let mut run = Run::open_in(&table, memory, &mut work).unwrap();
+        assert_eq!((run.turns(), run.rounds(3)), (turns, Ok(Report::Spent { turns: 3 })));
+        memory = run.into_memory();
+        assert!(std::ptr::eq(place, &*memory));
+    }
+    let kept = memory.to_bytes();
+    let refused_memory = Run::open_in(&[], memory, &mut work).err().unwrap();
+    assert_eq!((refused_memory.refusal, refused_memory.to_string()), (refused(32, 0), refused(32, 0).to_string()));
+    assert!(std::ptr::eq(place, &*refused_memory.memory) && refused_memory.memory.to_bytes() == kept);
+}
+
+/// Memory that was borrowed is handed back for as long as it was lent, beside the filled-out table that was lent with it; a lock's guard likewise.
+#[test]
+fn memory_handed_back() {
+    let (table, mut memory, mut filled, mut work) = (bytes(&e()), Memory::new(), [0; 176], Work::new());
+    let mut run = Run::begin_filling(&table, &mut filled, &mut memory, &mut work, 2, 5).unwrap();
+    assert_eq!(run.rounds(20), Ok(Report::Spent { turns: 20 }));
+    let (table, memory) = (run.table(), run.into_memory());
+    let mut run = Run::open(table, memory, &mut work).unwrap();
+    assert_eq!((run.rounds(u32::MAX), run.turns()), (Ok(Report::Finished { turns: 24 }), 44));
+
+    static MEMORY: Mutex<Memory> = Mutex::new(Memory::new());
+    let run = Run::open_in(table, MEMORY.lock().unwrap(), &mut work).unwrap();
+    assert_eq!(run.workers(), 0);
+    assert!(MEMORY.try_lock().is_err());
+    drop(run.into_memory());
+    assert!(MEMORY.try_lock().is_ok());
 }
 
 /// A run's memory in a static, and a memory used again after a refusal.

@@ -1,4 +1,4 @@
-//! The declarations of src/raw.rs are those of the Rattle source, and the blocks of `Memory` and their parts those of the header: nothing else would say where they differ.
+//! The declarations of src/raw.rs are those of the Rattle source, and the blocks of `Memory`, their parts and the other structs those of the headers: nothing else would say where they differ.
 use std::collections::BTreeMap;
 use std::fs;
 
@@ -11,7 +11,7 @@ fn functions(text: &str, start: &str) -> BTreeMap<String, Vec<String>> {
     for part in text.split(start).skip(1) {
         let (name, rest) = part.split_once('(').expect("a function has parameters");
         let (parameters, rest) = rest.split_once(')').expect("they come to an end");
-        let result = rest.trim_start().strip_prefix("-> ").expect("it has a result");
+        let result = rest.trim_start().strip_prefix("-> ").unwrap_or_default();
         let mut words: Vec<String> = parameters.split(',').map(said).filter(|x| !x.is_empty()).collect();
         words.push(result.chars().take_while(|x| x.is_alphanumeric()).collect());
         found.insert(name.to_string(), words);
@@ -37,7 +37,7 @@ fn as_pointers(parameters: &[String]) -> Vec<String> {
 #[test]
 fn calls_are_of_the_source() {
     let mut source = BTreeMap::new();
-    for name in ["wivakkol_turn", "wivakkol", "wivakkol_tables"] {
+    for name in ["wivakkol_turn", "wivakkol", "wivakkol_tables", "wivakkol_marks"] {
         for entry in fs::read_dir(format!("{HERE}/../../crates/{name}/src")).unwrap() {
             let text = fs::read_to_string(entry.unwrap().path()).unwrap();
             source.extend(functions(&text, "pub extern \"C\" fn "));
@@ -45,7 +45,7 @@ fn calls_are_of_the_source() {
     }
     let declared = functions(include_str!("../../src/raw.rs"), "pub fn ");
     assert_eq!(declared.len(), source.len());
-    assert_eq!(declared.len(), 13);
+    assert_eq!(declared.len(), 16);
     for (name, parameters) in declared {
         let exported = source.get(&name).unwrap_or_else(|| panic!("{name} is not exported"));
         assert_eq!(parameters, as_pointers(exported), "{name}");
@@ -76,9 +76,10 @@ fn handed(text: &str, call: &str) -> Vec<String> {
         "tables.len()" => "length".to_string(),
         "lengths.as_ptr()" => "lengths".to_string(),
         "lengths.len()" => "parts".to_string(),
-        "&mut work.parents" => "seen".to_string(),
+        "&mut work.parents" | "&mut work.work.parents" => "seen".to_string(),
         other => {
             let place = other.trim_start_matches("&mut ").trim_start_matches('&').trim_end_matches("()");
+            let place = place.replace("marks.set", "set").replace("marks.", "mark").replace("work.run.", "spare");
             place.trim_start_matches("self.").trim_start_matches("parts.").trim_start_matches("work.").to_string()
         }
     };
@@ -88,7 +89,8 @@ fn handed(text: &str, call: &str) -> Vec<String> {
 /// Every block, part and field is handed over where the call has a parameter of its name: neighbours of one type would change places unseen.
 #[test]
 fn memory_is_handed_by_name() {
-    let calling = concat!(include_str!("../../src/lib.rs"), include_str!("../../src/memory.rs"), include_str!("../../src/tables.rs"));
+    let calling =
+        concat!(include_str!("../../src/lib.rs"), include_str!("../../src/memory.rs"), include_str!("../../src/tables.rs"), include_str!("../../src/marks.rs"));
     for (call, parameters) in functions(include_str!("../../src/raw.rs"), "pub fn ") {
         let mut names: Vec<&str> = parameters.iter().filter_map(|x| x.split_once(": ")).map(|(name, _)| name).collect();
         let given = handed(calling, &call);
@@ -99,18 +101,19 @@ fn memory_is_handed_by_name() {
     }
 }
 
-/// The header without its comments.
+/// The headers without their comments.
 fn header() -> String {
-    let text = fs::read_to_string(format!("{HERE}/../../include/wivakkol.h")).unwrap();
+    let read = |name: &str| fs::read_to_string(format!("{HERE}/../../include/{name}")).unwrap();
+    let text = read("wivakkol.h") + &read("wivakkol_marks.h");
     text.split("/*").map(|part| part.split_once("*/").map_or(part, |(_, after)| after)).collect()
 }
 
-/// The numbers that it names.
+/// The numbers that they name.
 fn named(header: &str) -> BTreeMap<&str, &str> {
     header.lines().filter_map(|line| line.strip_prefix("#define WIVAKKOL_")?.trim().split_once(' ')).collect()
 }
 
-/// The fields of a struct of the header, as Rust declares them, and those of the crate's.
+/// The fields of a struct of the headers, as Rust declares them, and those of the crate's.
 fn both_fields(in_header: &str, in_crate: &str) -> (Vec<String>, Vec<String>) {
     let header = header();
     let named = named(&header);
@@ -118,20 +121,34 @@ fn both_fields(in_header: &str, in_crate: &str) -> (Vec<String>, Vec<String>) {
     let (fields, _) = fields.split_once('}').unwrap();
     let in_rust = |field: &str| {
         let (kind, rest) = field.trim().split_once(' ').unwrap();
-        let (name, size) = rest.trim_end_matches(']').split_once("[WIVAKKOL_").unwrap();
-        format!("{name}: [{}; {}]", kind.replace("uint", "u").trim_end_matches("_t"), named[size])
+        match kind {
+            "wivakkol_run" => format!("{rest}: Memory"),
+            "wivakkol_work" => format!("{rest}: Work"),
+            number => {
+                let (name, size) = rest.trim_end_matches(']').split_once("[WIVAKKOL_").unwrap();
+                let size: Vec<&str> = size.split(" * WIVAKKOL_").map(|factor| named[factor]).collect();
+                format!("{name}: [{}; {}]", number.replace("uint", "u").trim_end_matches("_t"), size.join(" * "))
+            }
+        }
     };
     let wanted: Vec<String> = fields.split(';').filter(|x| !x.trim().is_empty()).map(in_rust).collect();
-    let source = include_str!("../../src/memory.rs");
+    let source = concat!(include_str!("../../src/memory.rs"), include_str!("../../src/marks.rs"));
     let (_, fields) = source.split_once(&format!("#[repr(C)]\npub struct {in_crate} {{")).unwrap();
     let (fields, _) = fields.split_once('}').unwrap();
-    let declared = fields.lines().filter_map(|x| x.trim().strip_prefix("pub(crate) ")).map(|x| x.trim_end_matches(',').to_string()).collect();
+    let declared = fields.lines().map(|x| x.trim().trim_start_matches("pub(crate) ").trim_end_matches(',').to_string()).filter(|x| !x.is_empty()).collect();
     (wanted, declared)
 }
 
 #[test]
 fn memory_is_of_the_header() {
-    for (in_header, in_crate, count) in [("wivakkol_run", "Memory", 4), ("wivakkol_work", "Work", 5), ("wivakkol_tables_work", "TablesWork", 6)] {
+    let structs = [
+        ("wivakkol_run", "Memory", 4),
+        ("wivakkol_work", "Work", 5),
+        ("wivakkol_tables_work", "TablesWork", 6),
+        ("wivakkol_marks", "Marks", 5),
+        ("wivakkol_marks_work", "MarksWork", 7),
+    ];
+    for (in_header, in_crate, count) in structs {
         let (wanted, declared) = both_fields(in_header, in_crate);
         assert_eq!(declared, wanted);
         assert_eq!(declared.len(), count);

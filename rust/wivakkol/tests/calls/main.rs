@@ -4,5 +4,7 @@ mod cases;
 mod declarations;
 #[cfg(feature = "tables")]
 mod designs;
+#[cfg(feature = "marks")]
+mod marks;
 mod model;
 mod random;

@@ -169,6 +169,7 @@ pub struct Worker {
 }
 
 /// A run.
+#[derive(Clone)]
 pub struct Machine<'a> {
     pub table: &'a Table,
     quota: u32,

@@ -4,7 +4,7 @@ use crate::model::{self, bytes, facts, filled, Draw, Machine, Said, Table};
 use wivakkol::{check, most_turns, Memory, Refusal, Reply, Report, Run, Status, TablesWork, Work, TABLE_MOST};
 
 /// The first action of each thread.
-fn firsts(table: &Table) -> Vec<usize> {
+pub fn firsts(table: &Table) -> Vec<usize> {
     table.iter().scan(0, |sum, body| Some(std::mem::replace(sum, *sum + body.len()))).collect()
 }
 
@@ -28,7 +28,7 @@ fn status(status: model::Status) -> Status {
 }
 
 /// All that the run shows is the model's.
-fn same(run: &Run, machine: &Machine, firsts: &[usize]) {
+pub fn same(run: &Run, machine: &Machine, firsts: &[usize]) {
     assert_eq!((run.held(), run.highest(), run.turns(), run.ended()), (machine.held, machine.highest, machine.turns, machine.ended()));
     assert_eq!(run.threads().collect::<Vec<_>>(), machine.list);
     for (w, worker) in machine.workers.iter().enumerate() {
@@ -42,7 +42,7 @@ fn same(run: &Run, machine: &Machine, firsts: &[usize]) {
 }
 
 /// The model's turns for a row of workers, up to the root's end; how many.
-fn take(machine: &mut Machine, workers: impl Iterator<Item = usize>) -> Report {
+pub fn take(machine: &mut Machine, workers: impl Iterator<Item = usize>) -> Report {
     let before = machine.turns;
     for w in workers {
         if machine.ended() {
@@ -59,7 +59,7 @@ fn take(machine: &mut Machine, workers: impl Iterator<Item = usize>) -> Report {
 }
 
 /// A table, p from 1 to 16 and a quota that the table's allocs keep.
-fn drawn(draw: &mut Draw) -> (Table, u32, u32) {
+pub fn drawn(draw: &mut Draw) -> (Table, u32, u32) {
     let most = [3, 20, 200, 1024][draw.below(4) as usize];
     let table = draw.table(most);
     (table, 1 + draw.below(16) as u32, 64 + draw.below(100) as u32)

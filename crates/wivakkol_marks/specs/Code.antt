@@ -1,0 +1,2 @@
+-- promises between the parts of the code
+pub mod LaidOut

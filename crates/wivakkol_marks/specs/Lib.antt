@@ -1,0 +1,3 @@
+pub mod LentMarks
+pub mod MarkedIn
+pub mod Code
