@@ -24,7 +24,7 @@ use Rattle.useful_limit.specs.Fit.{IsLeast, unruled, coverQuota, leastNe
 
 -- ---- the range of a table that is read from bytes
 
-alloc-short : (s : List ℕ) (a : ℕ) → allocOf (tableOf s) a ≤ maxQuota
+pub alloc-short : (s : List ℕ) (a : ℕ) → allocOf (tableOf s) a ≤ maxQuota
 unfolding allocOf
 alloc-short s a = go (is alloc (kind (tableOf s) a))
   where

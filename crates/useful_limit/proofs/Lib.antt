@@ -3,3 +3,5 @@ pub mod Fits
 pub mod Serves
 pub mod Steps
 pub mod FromParts
+pub mod Gathered
+pub mod Answers

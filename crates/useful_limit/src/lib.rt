@@ -1,7 +1,25 @@
 // The useful limit of a table, and the quota that fits a board by it.
 mod fit;
+mod gather;
+mod line;
 
+use fit::fit;
+use gather::parts;
+use line::answer_line;
+use line::answer_to;
+use table::Facts;
+use table::Loaded;
 use table::Refusal;
+ghost use mathlib.Core.Path.{_≡_};
+ghost use mathlib.Core.List.{_++_};
+ghost use lib.ListN.{length, drop, replicate};
+ghost use Rattle.io.specs.Counts.{Counts};
+ghost use Rattle.table.specs.Pass.{refusal};
+ghost use Rattle.table.specs.Checks.{outside as isOutside};
+ghost use Rattle.quota.specs.Code.Steps.{Accepted};
+ghost use Rattle.useful_limit.specs.Fit.{fitted};
+ghost use Rattle.useful_limit.specs.Line.{fittedTo, fittedLine};
+ghost use Rattle.useful_limit.specs.Code.Parts.{ownAnswer};
 
 // What is said of the table that runs: the useful limit, S1, S_p, the parallel peak, and the most that a stretch draws under K.
 pub struct Numbers {
@@ -34,4 +52,109 @@ pub(crate) struct Parts {
     pub(crate) resting: u64,
     pub(crate) stretch: u64,
     pub(crate) least: u32,
+}
+
+// The largest quota in the range whose useful limit is at most the memory there is, and that limit. The working memory may hold anything and is left cleared.
+pub fn fit_in(
+    table: &[u8],
+    p: u8,
+    b: u32,
+    memory: u64,
+    rises: &mut [u64; 1024],
+    falls: &mut [u64; 1024],
+    serials: &mut [u64; 1024],
+    depths: &mut [u16; 1024],
+    peaks: &mut [u64; 17408],
+    rows: &mut [u64; 17408],
+) -> Fitted
+    ensures { λ r. ⌜ r ≡ fitted (now (table .entry)) p b memory ⌝ }
+    ensures { λ _. ⌜ (now (rises .exit) ≡ replicate 1024 0) × (now (falls .exit) ≡ replicate 1024 0) × (now (serials .exit) ≡ replicate 1024 0) × (now (depths .exit) ≡ replicate 1024 0)
+        × (now (peaks .exit) ≡ replicate 17408 0) × (now (rows .exit) ≡ replicate 17408 0) ⌝ }
+{
+    let answer = answer(
+        table,
+        p,
+        b,
+        memory,
+        rises,
+        falls,
+        serials,
+        depths,
+        peaks,
+        rows,
+    );
+    *rises = [0; 1024];
+    *falls = [0; 1024];
+    *serials = [0; 1024];
+    *depths = [0; 1024];
+    *peaks = [0; 17408];
+    *rows = [0; 17408];
+    answer
+}
+
+// The line that `fitquota` prints, from the bytes that it reads, and its length.
+pub fn fit_line(input: &[u8], out: &mut [u8; 80]) -> usize
+    ensures { λ r. ⌜ r ≡ length (fittedLine (fittedTo (now (input .entry)))) ⌝ }
+    ensures { λ r. ⌜ now (out .exit) ≡ fittedLine (fittedTo (now (input .entry))) ++ drop r (now (out .entry)) ⌝ }
+    ensures { λ r. ⌜ Counts r (now (out .exit)) ⌝ }
+{
+    answer_line(answer_to(input), out)
+}
+
+// The working memory is left as it was used.
+fn answer(
+    table: &[u8],
+    p: u8,
+    b: u32,
+    memory: u64,
+    rises: &mut [u64; 1024],
+    falls: &mut [u64; 1024],
+    serials: &mut [u64; 1024],
+    depths: &mut [u16; 1024],
+    peaks: &mut [u64; 17408],
+    rows: &mut [u64; 17408],
+) -> Fitted
+    ensures { λ r. ⌜ r ≡ fitted (now (table .entry)) p b memory ⌝ }
+{
+    let loaded = facts::load_in(table, rises, falls, serials, depths);
+    match loaded {
+        Loaded::Refused(r) => Fitted::Refused(r),
+        Loaded::Accepted(facts) => fit_for(table, facts, p, b, memory, rises, falls, peaks, rows),
+    }
+}
+
+// Checks 20 and 41 on an accepted table.
+fn fit_for(
+    table: &[u8],
+    facts: Facts,
+    p: u8,
+    b: u32,
+    memory: u64,
+    rises: &mut [u64; 1024],
+    falls: &mut [u64; 1024],
+    peaks: &mut [u64; 17408],
+    rows: &mut [u64; 17408],
+) -> Fitted
+    requires { ⌜ Accepted (now table) facts ⌝ }
+    ensures { λ r. ⌜ r ≡ ownAnswer (now (table .entry)) p b memory ⌝ }
+{
+    if outside(p) {
+        return refuse(20);
+    }
+    if 65535 < b {
+        return refuse(41);
+    }
+    fit(parts(table, facts, p, b, rises, falls, peaks, rows), memory)
+}
+
+fn outside(p: u8) -> bool
+    ensures { λ r. ⌜ r ≡ isOutside 1 16 p ⌝ }
+{
+    p < 1 || 16 < p
+}
+
+pub(crate) fn refuse(number: u8) -> Fitted
+    ensures { λ r. ⌜ r ≡ Fitted.Refused (refusal number 0) ⌝ }
+{
+    Fitted::Refused(Refusal { number, place: 0 })
 }

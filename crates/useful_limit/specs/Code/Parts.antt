@@ -1,9 +1,11 @@
 -- What `fitquota` answers, from a few numbers of a table.
 use Prim.Native.Nat.{ℕ, _+_, _-_, _*_, _≤_, _<_, min, max}
 use mathlib.Core.Bool.{Bool, _&&_, _||_}
+use mathlib.Core.List.{List, [], _∷_}
 use lib.Dec.{leb, ltb, eqb}
 use Rattle.table.specs.Sum.{pick}
-use Rattle.table.specs.Format.{Table}
+use Rattle.table.specs.Format.{Table, tableOf}
+use Rattle.table.specs.Pass.{tryPass}
 use Rattle.table.specs.Serial.{S1}
 use Rattle.schedule.specs.Begin.{maxQuota}
 use Rattle.peaks.specs.Peak.{workersPeak}
@@ -13,6 +15,8 @@ use Rattle.quota.specs.Quota.{leastQuota, costOf, mostWithin}
 use Rattle.useful_limit.specs.declared.Parts.{Parts}
 use Rattle.useful_limit.specs.declared.Fitted.{Fitted}
 use Rattle.useful_limit.specs.declared.Fitted.the-variants.{Fits, Short}
+use Rattle.useful_limit.specs.Limits.{workersCheck, gapCheck, settings}
+use Rattle.useful_limit.specs.Fit.{ownFit, fittedAs}
 
 -- of a table
 abbrev pub partsOf : Table → ℕ → ℕ → Parts
@@ -65,3 +69,7 @@ unfoldable pub fitWith : Parts → ℕ → Fitted
 fitWith x M =
     pick (leb (unruledWith x) M) (fitsAt x maxQuota)
     (pick (x .free || (ltb M (x .serial) || ltb (mostWith x M) (x .least))) (shortWith x) (fitsAt x (mostWith x M)))
+
+-- the answer where the table's own checks pass: 20, 41
+unfoldable pub ownAnswer : List ℕ → ℕ → ℕ → ℕ → Fitted
+ownAnswer s p b M = fittedAs (tryPass (settings (workersCheck p ∷ gapCheck b ∷ []))) (ownFit (tableOf s) p b M)
