@@ -1,5 +1,5 @@
-/* Marks to come back to, from C: up to eight runs kept beside a run, each of them that run as it once was. Archive libwivakkol_marks.a, which a board without marks needs none of. What wivakkol.h
- * asks of its callers holds here too.
+/* Marks to come back to, from C: up to eight runs kept beside a run, each of them that run as it once was. Archive libwivakkol_marks.a (rt staticlib wivakkol_marks), which a board without marks needs
+ * none of. What wivakkol.h asks of its callers holds here too. Its answers are proved as those of wivakkol.h are (crates/wivakkol_marks/src/ has the promises). A call takes under 8 KB of stack.
  *
  * The other calls take no marks and leave them as they are. wivakkol_mark and wivakkol_back test the run and every set mark as wivakkol_open tests a run, also the mark that is to be replaced; in a
  * mark any number but 0 says that a worker holds a thread, and it comes back as 1. So they take up to ten times as long as an opening (docs/C-AND-RUST.md has what was measured). They have no row: the
@@ -62,7 +62,7 @@ uint32_t wivakkol_back_on(const uint8_t *table, size_t length, uint32_t i, uint8
                           uint16_t next[1024], uint8_t status[1024], uint64_t amounts[1024], uint16_t left[1024], uint16_t right[1024],
                           uint64_t rises[1024], uint64_t falls[1024], uint16_t forks[1024], uint16_t seen[1024], uint16_t list[1024]);
 
-/* Clears the marks: none is set. */
+/* Clears the marks: none is set. A beginning is not lent the marks, so "none set at the beginning" is this call after wivakkol_begin; memory that was not cleared may hold set marks. */
 static inline void wivakkol_unmark(wivakkol_marks *marks)
 {
     wivakkol_unmark_on(marks->set);
@@ -80,7 +80,8 @@ static inline uint32_t wivakkol_mark(const wivakkol_run *run, wivakkol_marks *ma
 /* Goes back to mark i: the run is what it was when the mark was set, turns and peak too, and is opened, as wivakkol_open does it. Returns 0, or the first of these that applies, with the run as
  * it was: 32, as above; 45, i is above 7; 46, mark i is not set. No byte of the marks changes.
  *
- * After a beginning that returned 0 the limits on memory, threads and turns hold on, for the turns that led to the mark and those since. */
+ * After a beginning that returned 0 and a wivakkol_unmark the limits on memory, threads and turns hold on, for the turns that led to the mark and those since, as long as nobody else has written
+ * to the run or the marks. */
 static inline uint32_t wivakkol_back(wivakkol_run *run, const wivakkol_marks *marks, wivakkol_marks_work *work, const uint8_t *table, size_t length, uint32_t i)
 {
     return wivakkol_back_on(table, length, i, run->bytes, run->words, run->numbers, run->sums, marks->set, marks->bytes, marks->words, marks->numbers, marks->sums,

@@ -26,7 +26,10 @@ extern "C" {
 #define WIVAKKOL_FORM_ROW 2
 
 /* The row of wivakkol_compare. */
-#define WIVAKKOL_SAID 1           /* 1 before, 2 equal, 3 after */
+#define WIVAKKOL_SAID 1           /* WIVAKKOL_SAID_BEFORE, _EQUAL or _AFTER */
+#define WIVAKKOL_SAID_BEFORE 1
+#define WIVAKKOL_SAID_EQUAL 2
+#define WIVAKKOL_SAID_AFTER 3
 #define WIVAKKOL_COMPARED_TABLE 2 /* the table that is refused, 0 or 1 */
 #define WIVAKKOL_COMPARE_ROW 3
 
