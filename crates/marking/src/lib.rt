@@ -149,7 +149,7 @@ fn set_packed(
         &mut numbers,
         &mut sums,
     );
-    wivakkol_marks::set_mark(
+    wivakkol_marks::wivakkol_mark_on(
         table,
         i as u32,
         &bytes,
@@ -221,7 +221,7 @@ fn back_packed(
         &mut numbers,
         &mut sums,
     );
-    let number = wivakkol_marks::go_back(
+    let number = wivakkol_marks::wivakkol_back_on(
         table,
         i as u32,
         &mut bytes,

@@ -254,7 +254,7 @@ pub fn clear(
 }
 
 // Sets mark i to the run as it is: 32, of the run or of a set mark, 45. What is left in the working memory is not said.
-pub fn set_mark(
+fn set_mark(
     table: &[u8],
     i: u32,
     bytes: &[u8; 1040],
@@ -333,7 +333,7 @@ pub fn set_mark(
 }
 
 // Goes back to mark i: 32, 45, 46, or the run that it keeps, opened.
-pub fn go_back(
+fn go_back(
     table: &[u8],
     i: u32,
     bytes: &mut [u8; 1040],
@@ -460,6 +460,7 @@ pub extern "C" fn wivakkol_mark_on(
 ) -> u32
     ensures { λ r. ⌜ setting r (marksOf (now (set .exit)) (now (markbytes .exit)) (now (markwords .exit)) (now (marknumbers .exit)) (now (marksums .exit))) ≡ lentMark (now (table .entry)) i (memoryOf (now (bytes .entry)) (now (words .entry)) (now (numbers .entry)) (now (sums .entry))) (marksOf (now (set .entry)) (now (markbytes .entry)) (now (markwords .entry)) (now (marknumbers .entry)) (now (marksums .entry))) ⌝ }
     ensures { λ _. ⌜ Cleared (now (sparebytes .exit)) (now (sparewords .exit)) (now (sparenumbers .exit)) (now (sparesums .exit)) (now (next .exit)) (now (status .exit)) (now (amounts .exit)) (now (left .exit)) (now (right .exit)) (now (rises .exit)) (now (falls .exit)) (now (forks .exit)) (now (seen .exit)) (now (list .exit)) ⌝ }
+    ensures { λ r. ⌜ (r ≡ 0 → length (now (set .entry)) ≡ 8) ⌝ }
 {
     let number = set_mark(
         table,

@@ -26,8 +26,8 @@ slice-aggregate-table c =
 pack-requires : tie.Need-pack-requires
 pack-requires c κs = search needs
 
-go-back-requires : tie.Need-go-back-requires
-go-back-requires c κs = search needs
+wivakkol-back-on-requires : tie.Need-wivakkol-back-on-requires
+wivakkol-back-on-requires c κs = search needs
 
 returns : tie.Need-returns
 returns c =
@@ -35,7 +35,7 @@ returns c =
     let p = g .before .before .before .before .before .before .before .before .before .before .before .before .before .before .before .before .before .before .before in
     let s = p .before .before .before .before .before .before .before .before in
     let a = s .args in
-    let f = g .go-back .ensures ∙ ap (λ (M : Memory). lentBack (bytesOf (a .run)) (a .i) M (marksOf (now (a .set)) (now (a .markbytes)) (now (a .markwords)) (now (a .marknumbers)) (now (a .marksums)))) (p .pack .ensures) in
+    let f = g .wivakkol-back-on .ensures .0 ∙ ap (λ (M : Memory). lentBack (bytesOf (a .run)) (a .i) M (marksOf (now (a .set)) (now (a .markbytes)) (now (a .markwords)) (now (a .marknumbers)) (now (a .marksums)))) (p .pack .ensures) in
     let n = ap (λ (x : Going). x .number) f in
     (n, back-stays (a .run) (s .pre) (now (a .parents)) (marksOf (now (a .set)) (now (a .markbytes)) (now (a .markwords)) (now (a .marknumbers)) (now (a .marksums))) (a .i) (λ z. c .if1 .taken (n ∙ z)))
 
@@ -45,7 +45,7 @@ restored-requires c κs =
     let p = g .before .before .before .before .before .before .before .before .before .before .before .before .before .before .before .before .before .before .before in
     let s = p .before .before .before .before .before .before .before .before in
     let a = s .args in
-    let f = g .go-back .ensures ∙ ap (λ (M : Memory). lentBack (bytesOf (a .run)) (a .i) M (marksOf (now (a .set)) (now (a .markbytes)) (now (a .markwords)) (now (a .marknumbers)) (now (a .marksums)))) (p .pack .ensures) in
+    let f = g .wivakkol-back-on .ensures .0 ∙ ap (λ (M : Memory). lentBack (bytesOf (a .run)) (a .i) M (marksOf (now (a .set)) (now (a .markbytes)) (now (a .markwords)) (now (a .marknumbers)) (now (a .marksums)))) (p .pack .ensures) in
     let n = ap (λ (x : Going). x .number) f in
     subst (λ (N : Memory). Restored (a .run) N) (sym (ap (λ (x : Going). x .memory) f))
     (back-restored (a .run) (s .pre) (now (a .parents)) (marksOf (now (a .set)) (now (a .markbytes)) (now (a .markwords)) (now (a .marknumbers)) (now (a .marksums))) (a .i) (sym n ∙ c .before .before .before .before .if1 .left))
@@ -55,7 +55,7 @@ returns-2 c =
     let g = c .before .before .before .before .before .before in
     let p = g .before .before .before .before .before .before .before .before .before .before .before .before .before .before .before .before .before .before .before in
     let a = p .before .before .before .before .before .before .before .before .args in
-    let f = g .go-back .ensures ∙ ap (λ (M : Memory). lentBack (bytesOf (a .run)) (a .i) M (marksOf (now (a .set)) (now (a .markbytes)) (now (a .markwords)) (now (a .marknumbers)) (now (a .marksums)))) (p .pack .ensures) in
+    let f = g .wivakkol-back-on .ensures .0 ∙ ap (λ (M : Memory). lentBack (bytesOf (a .run)) (a .i) M (marksOf (now (a .set)) (now (a .markbytes)) (now (a .markwords)) (now (a .marknumbers)) (now (a .marksums)))) (p .pack .ensures) in
     let n = ap (λ (x : Going). x .number) f in
     (n, c .restored .ensures ∙ ap (λ (x : Going). recordIn (bytesOf (a .run)) (x .memory)) f)
 
@@ -67,7 +67,7 @@ back-packed-spec =
     array-share-prefix-all
     slice-aggregate-table
     pack-requires
-    go-back-requires
+    wivakkol-back-on-requires
     returns
     restored-requires
     returns-2)

@@ -24,15 +24,15 @@ slice-aggregate-table c =
 pack-requires : tie.Need-pack-requires
 pack-requires c κs = search needs
 
-set-mark-requires : tie.Need-set-mark-requires
-set-mark-requires c κs = search needs
+wivakkol-mark-on-requires : tie.Need-wivakkol-mark-on-requires
+wivakkol-mark-on-requires c κs = search needs
 
 returns : tie.Need-returns
 returns c =
     let p = c .before .before .before .before .before .before .before .before .before .before .before .before .before .before .before .before .before .before .before .before .before .before .before .before in
     let a = p .before .before .before .before .before .before .before .before .args in
-    let e = c .set-mark .ensures in
-    (e .0 ∙ ap (λ (M : Memory). lentMark (bytesOf (a .run)) (a .i) M (marksOf (now (a .set)) (now (a .markbytes)) (now (a .markwords)) (now (a .marknumbers)) (now (a .marksums)))) (p .pack .ensures), e .1)
+    let e = c .wivakkol-mark-on .ensures in
+    (e .0 ∙ ap (λ (M : Memory). lentMark (bytesOf (a .run)) (a .i) M (marksOf (now (a .set)) (now (a .markbytes)) (now (a .markwords)) (now (a .marknumbers)) (now (a .marksums)))) (p .pack .ensures), e .1 .1)
 
 pub set-packed-spec : {M : Type 1} → statement M
-set-packed-spec = tie.close (tie.spec cast-length array-share-prefix-all slice-aggregate-table pack-requires set-mark-requires returns)
+set-packed-spec = tie.close (tie.spec cast-length array-share-prefix-all slice-aggregate-table pack-requires wivakkol-mark-on-requires returns)

@@ -10,7 +10,9 @@ clear-requires : tie.Need-clear-requires
 clear-requires c κs = search needs
 
 returns : tie.Need-returns
-returns c = (c .before .before .before .before .before .before .before .before .before .before .before .before .before .before .before .set-mark .ensures .0, c .clear .ensures)
+returns c =
+    let s = c .before .before .before .before .before .before .before .before .before .before .before .before .before .before .before .set-mark .ensures in
+    (s .0, (c .clear .ensures, s .1))
 
 pub wivakkol-mark-on-spec : {M : Type 1} → statement M
 wivakkol-mark-on-spec = tie.close (tie.spec set-mark-requires clear-requires returns)
