@@ -39,6 +39,7 @@ ghost use Rattle.run_memory.specs.Places.{holdsIn};
 
 mod act;
 pub mod copies;
+pub mod lent;
 mod list;
 pub mod packing;
 pub mod places;
