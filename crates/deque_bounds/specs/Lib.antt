@@ -1,0 +1,3 @@
+pub mod DequeRows
+pub mod LimitCases
+pub mod DemandCase
