@@ -17,3 +17,6 @@ pub mod WeighsTurns
 pub mod LeapLimits
 pub mod Peaks
 pub mod Memory
+pub mod DequeActs
+pub mod DequeCounts
+pub mod DequePeaks

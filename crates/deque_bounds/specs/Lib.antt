@@ -1,3 +1,4 @@
 pub mod DequeRows
 pub mod LimitCases
 pub mod DemandCase
+pub mod Deepest
