@@ -370,7 +370,7 @@ module _ (T : Table) (l : Lawful T) (p K : ℕ) (few : p ≤ 16) where
         peak-common T l p K (after .next) (after .status) (after .amounts) (after .workers) (after .held) (after .highest) (from-start T l p K few row h .kept .common) c deque-light
 
 -- with choices below q, c is at most q: so p workers hold at most S_(p + 1), and with all choices 0 at most S_2
-deepest-under : (T : Table) (K q : ℕ) (row : List Pair) → ((g : Pair) → List·Memᴰ g row → g .choice < q) → (D : Deques) → deepest T K D row ≤ q
+pub deepest-under : (T : Table) (K q : ℕ) (row : List Pair) → ((g : Pair) → List·Memᴰ g row → g .choice < q) → (D : Deques) → deepest T K D row ≤ q
 unfolding deepest robbedAt
 deepest-under T K q [] h D = omega arith
 deepest-under T K q (g ∷ row) h D =

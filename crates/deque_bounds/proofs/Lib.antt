@@ -20,3 +20,5 @@ pub mod Memory
 pub mod DequeActs
 pub mod DequeCounts
 pub mod DequePeaks
+pub mod HeldLimits
+pub mod CallLimits

@@ -99,7 +99,7 @@ peak-near T l p K few small row h z =
     inside front rest e g m = subst (λ (k : List Pair). List·Memᴰ g k) e (Memᴰ·append-left rest m)
 
 -- M3 of the peak: a front part keeps the rule, and has no leap where the whole has none
-keeps-front : (b : ℕ) (front rest : List Pair) → Keeps b (workersOf (front ++ rest)) → Keeps b (workersOf front)
+pub keeps-front : (b : ℕ) (front rest : List Pair) → Keeps b (workersOf (front ++ rest)) → Keeps b (workersOf front)
 unfolding Keeps
 keeps-front b front rest k before stretch after w v e z =
     k before stretch (after ++ workersOf rest) w v (maps front rest ∙ rw e (simp append-assoc)) z
@@ -108,7 +108,7 @@ keeps-front b front rest k before stretch after w v e z =
     maps [] r = refl
     maps (g ∷ f) r = ap (g .worker ∷_) (maps f r)
 
-leaps-front : (T : Table) (K : ℕ) (front rest : List Pair) (D : Deques) → leaps T K D front ≤ leaps T K D (front ++ rest)
+pub leaps-front : (T : Table) (K : ℕ) (front rest : List Pair) (D : Deques) → leaps T K D front ≤ leaps T K D (front ++ rest)
 unfolding leaps
 leaps-front T K [] rest D = omega arith
 leaps-front T K (g ∷ front) rest D = omega (arith, leaps-front T K front rest (dequeTurn T K (g .worker) (g .choice) D .after))

@@ -2,3 +2,4 @@ pub mod DequeRows
 pub mod LimitCases
 pub mod DemandCase
 pub mod Deepest
+pub mod BigCase
