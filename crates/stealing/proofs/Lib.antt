@@ -7,7 +7,6 @@ pub mod Fits
 pub mod InMemory
 pub mod PairsRefine
 mod Along
-mod Linking
 mod Leavings
 mod Goes
 mod Steals

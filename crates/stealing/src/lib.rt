@@ -50,7 +50,6 @@ ghost use Rattle.stealing.specs.Code.{Going};
 
 mod actions;
 mod bottoms;
-mod list;
 mod moves;
 pub mod runs;
 

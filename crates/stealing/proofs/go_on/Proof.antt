@@ -11,7 +11,8 @@ use Rattle.table.specs.Format.{tableOf}
 use Rattle.array_machine.specs.Turn.{nextFits}
 use Rattle.array_machine.proofs.Leaves.{fits16, fits-and}
 use Rattle.run_memory.specs.Blocks.{bytesIn, wordsIn, numbersIn, sumsIn, memoryOf}
-use Rattle.stealing.proofs.Goes.{codes, arguments, spoke, counted-as, no-thread-read, ends-read, other-read, fork-unfit-read, fork-read, wait-read, join-read}
+use Rattle.run_memory.proofs.Takes.{codes, arguments}
+use Rattle.stealing.proofs.Goes.{spoke, counted-as, no-thread-read, ends-read, other-read, fork-unfit-read, fork-read, wait-read, join-read}
 use borrow.Author.Needs.{needs}
 use Rattle.stealing.proofs.go_on.Statement.{statement}
 use Rattle.stealing.proofs.go_on.Tie as tie

@@ -14,7 +14,8 @@ use Rattle.run_memory.specs.Blocks.{part, bytesIn, wordsIn, numbersIn, sumsIn, 
 use Rattle.run_memory.proofs.Parts.{part-length}
 use Rattle.stealing.specs.StealingMemory.{dequeTakenIn}
 use Rattle.stealing.specs.Code.{Going, stolenOn}
-use Rattle.stealing.proofs.Goes.{codes, arguments, spoke, counted-as}
+use Rattle.run_memory.proofs.Takes.{codes, arguments}
+use Rattle.stealing.proofs.Goes.{spoke, counted-as}
 use Rattle.stealing.proofs.Steals.{Roomy, roomy, asked-room, ready-read, without-room, too-far, idles, steal-unfit, steals, stolen-going}
 use borrow.Author.Needs.{needs}
 use Rattle.stealing.proofs.take.Statement.{statement}

@@ -3,26 +3,26 @@ use mathlib.Core.Path.{_≡_, refl, sym, subst, ap, _∙_}
 use Prim.Native.Nat.{ℕ, zero, suc, _+_, _≤_, _<_}
 use mathlib.Core.List.{List, [], _∷_, List·Memᴰ, List·Memᴰ·head, List·Memᴰ·tail, List·Memᴰ·not-nil, List·Memᴰ·cases-cons}
 use mathlib.Core.Bool.{Bool, true, false, _&&_}
-use mathlib.Core.Logic.{_⊎_, ⊎-elim, _↔_}
+use mathlib.Core.Logic.{⊎-elim, _↔_}
 use native.Mathlib.Omega.{arith}
 use native.Mathlib.Decide.{ℕ-discrete}
 use lib.ListN.{getD}
-use lib.Dec.{ltb, leb, eqb}
+use lib.Dec.{ltb, eqb}
 use borrow.Author.Tests.{eqb-true, eq-eqb, lt-ltb}
 use Rattle.table.specs.Sum.{pick}
-use Rattle.table.specs.Format.{Kind, end, work, alloc, free, fork, join, unknown, Table, kind}
+use Rattle.table.specs.Format.{Table}
 use Rattle.table.specs.Checks.{owner, endOf}
 use Rattle.table.specs.Serial.{serialOrder}
 use Rattle.table.proofs.Bodies.{end-within, owner-is, after-end, owner-below}
-use Rattle.schedule.specs.Machine.{State, ended, unborn, statusOf, workerOf, parentOf, nextOf, withList, withStatus, released, waitsFor, woken, Stepped, stepped, actBy, act, leftOf, without, drawn}
 use Rattle.order.specs.Order.{numberOf}
-use Rattle.schedule.specs.Sound.{liveIn, nextInBody, Common, Listed, SoundState}
+use Rattle.schedule.specs.declared.Worker.{Worker}
+use Rattle.schedule.specs.Machine.{State, unborn, ended}
+use Rattle.schedule.specs.Sound.{liveIn, nextInBody, Common, Listed}
 use Rattle.order.proofs.Lawful.{Lawful}
 use Rattle.order.proofs.Numbers.{number-below, number-place, place-number}
 use Rattle.order.proofs.Words.{and-exactly, allIn-exactly, Ascends, not-eqb-exactly, and-of}
+use Rattle.schedule.proofs.Sound.Facts.{Facts, facts}
 use Rattle.schedule.proofs.Sound.Clauses.{nextInBody-exactly, listFollows-exactly, inSerialOrder-exactly}
-use Rattle.schedule.proofs.Sound.Facts.{Facts, facts, sound-facts}
-use Rattle.schedule.proofs.Preservation.Turns.{act-facts}
 
 live-is : (status : List ℕ) (t : ℕ) → (liveIn status t ≡ true) ↔ ((getD status t 0 ≡ unborn → ⊥) × (getD status t 0 ≡ ended → ⊥))
 unfolding liveIn
@@ -151,53 +151,20 @@ module _ (T : Table) (next status : List ℕ) where
             serial = inSerialOrder-exactly T next serialLive .1 (ascending (T .actions) 0 (omega arith));
           }
 
--- ---- an action does to the rest of the state what it does whatever the list is
+-- so what is said of every state with a list is said of every state with what any kind of run keeps
+module _ (T : Table) (l : Lawful T) (next status amounts : List ℕ) (workers : List Worker) (amount highest : ℕ) where
+  abbrev pub withLive : State
+  withLive =
+      record {
+        next = next;
+        status = status;
+        amounts = amounts;
+        list = serialLive T next status l;
+        workers = workers;
+        held = amount;
+        highest = highest;
+        turns = 0;
+      }
 
-pub record Beside (T : Table) (K w : ℕ) (l : List ℕ) (st : State) : Type 0 where
-  pub list : List ℕ
-  pub same : act T K w (withList l st) ≡ stepped (act T K w st .reply) (withList list (act T K w st .state))
-
-picked : (q : Bool) (l : List ℕ) (y z y' z' : Stepped) → y ≡ stepped (y' .reply) (withList l (y' .state)) → z ≡ stepped (z' .reply) (withList l (z' .state))
-    → pick q y z ≡ stepped (pick q y' z' .reply) (withList l (pick q y' z' .state))
-picked true l y z y' z' e f = e
-picked false l y z y' z' e f = f
-
-module _ (T : Table) (K w t a x : ℕ) (l : List ℕ) (st : State) where
-  by-kind : (k : Kind) → (l' : List ℕ) × (actBy k T K w t a x (withList l st) ≡ stepped (actBy k T K w t a x st .reply) (withList l' (actBy k T K w t a x st .state)))
-  unfolding actBy woken waitsFor
-  by-kind end = (without t l, go (waitsFor T (released w t ended st) (parentOf T t) t))
-    where
-      go : (q : Bool)
-          → stepped {- -} (actBy end T K w t a x st .reply) (pick q (withStatus (parentOf T t) 1 (withList (without t l) (released w t ended st))) (withList (without t l) (released w t ended st)))
-          ≡ stepped (actBy end T K w t a x st .reply)
-          (withList (without t l) (pick q (withStatus (parentOf T t) 1 (withList (without t (st .list)) (released w t ended st))) (withList (without t (st .list)) (released w t ended st))))
-      go true = refl
-      go false = refl
-  by-kind work = (l, refl)
-  by-kind alloc = (l, picked (leb (drawn K x) (workerOf st w .quota)) l _ _ _ _ refl refl)
-  by-kind free = (l, refl)
-  by-kind fork = (leftOf x t l, refl)
-  by-kind join = (l, picked (eqb (statusOf st x) ended) l _ _ _ _ refl refl)
-  by-kind unknown = (l, refl)
-
-pub beside : (T : Table) (K w : ℕ) (l : List ℕ) (st : State) → Beside T K w l st
-unfolding act
-beside T K w l st =
-    let t : ℕ = workerOf st w .thread in
-    let a : ℕ = nextOf st t in
-    let (l', e) = by-kind T K w t a (T .argument a) l st (kind T a) in
-    record { list = l'; same = e }
-
--- ---- what any kind of run keeps, an action keeps
-
-abbrev pub CommonIn : Table → ℕ → ℕ → State → Type 0
-CommonIn T p K st = Common T p K (st .next) (st .status) (st .amounts) (st .workers) (st .held) (st .highest)
-
-pub act-common : (T : Table) → Lawful T → (p K : ℕ) → p ≤ 16 → (w : ℕ) → w < p → (st : State) → CommonIn T p K st → workerOf st w .holds ≡ true → CommonIn T p K (act T K w st .state)
-act-common T l p K few w b st c h =
-    let g : List ℕ = serialLive T (st .next) (st .status) l in
-    let s : SoundState T p K (withList g st) = record { common = c; listed = listed-live T (st .next) (st .status) l (c .placed) } in
-    let f : Facts T p K (act T K w (withList g st) .state) = act-facts T l p K few w b (withList g st) (facts T l p K (withList g st) s) h in
-    let y : Beside T K w g st = beside T K w g st in
-    let f' : Facts T p K (withList (y .list) (act T K w st .state)) = subst (λ (z : Stepped). Facts T p K (z .state)) (y .same) f in
-    sound-facts T l p K _ f' .common
+  pub common-facts : (p K : ℕ) → Common T p K next status amounts workers amount highest → Facts T p K withLive
+  common-facts p K c = facts T l p K withLive (record { common = c; listed = listed-live T next status l (c .placed) })
