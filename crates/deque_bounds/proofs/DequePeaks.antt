@@ -37,8 +37,9 @@ use Rattle.deques.specs.DequeRuns.{Pair}
 use Rattle.deques.specs.Deques.{startDeques}
 use Rattle.deques.specs.DequeCalls.{rowDeques}
 use Rattle.deque_bounds.specs.DequeRows.{robs, stealsBeyond, stealsFar, steals, far}
-use Rattle.deques.specs.Partition.{ownedBy, Manned, AllManned}
+use Rattle.deques.specs.Partition.{ownedBy, InUse, AllInUse}
 use Rattle.deques.specs.Lines.{line, linesOf}
+use Rattle.deques.proofs.Counts.{line-some}
 use Rattle.deques.proofs.Flat.{Mine, mine, lines-append}
 use Rattle.deques.proofs.DequeTurns.{Kept, withSerial, serial-facts, b-below, b-ready}
 use Rattle.deque_bounds.proofs.Lines.{Link, Chained}
@@ -80,14 +81,10 @@ asc-cross f (z ∷ L) B i x v m n = go (mathlib.Core.List.List·Memᴰ·cases-co
     go (inl e) ih = rw e (i .0 v (Memᴰ·append-right L n))
     go (inr j) ih = ih j
 
-manned-after : (A : List Deque) (d : Deque) (B : List Deque) → AllManned (A ++ d ∷ B) → AllManned B
-unfolding AllManned
-manned-after [] d B m = m .1
-manned-after (e ∷ A) d B m = manned-after A d B (m .1)
-
-line-full : (hold : ℕ → ℕ) (d : Deque) → Manned d → isEmpty (line hold d) ≡ false
-line-full hold d (inl h) = rw (lt-ltb (d .owner) 16 h)
-line-full hold d (inr (e, s)) = rw (le-ltb (d .owner) 16 (omega (arith, e))) s
+in-use-after : (A : List Deque) (d : Deque) (B : List Deque) → AllInUse (A ++ d ∷ B) → AllInUse B
+unfolding AllInUse
+in-use-after [] d B m = m .1
+in-use-after (e ∷ A) d B m = in-use-after A d B (m .1)
 
 full-line : (hold : ℕ → ℕ) (v : ℕ) (k : List ℕ) → List·Memᴰ v k → isEmpty k ≡ false
 full-line hold v [] m = absurd (List·Memᴰ·not-nil m)
@@ -100,11 +97,11 @@ line-bottom true h (x ∷ k) e = refl
 line-bottom false h k e = refl
 
 -- no line beyond has its lowest below M
-none-under : (num hold : ℕ → ℕ) (M : ℕ) (ds : List Deque) → AllManned ds → ((v : ℕ) → List·Memᴰ v (linesOf hold ds) → M ≤ num v) → under num hold M ds ≡ 0
-unfolding under AllManned linesOf
+none-under : (num hold : ℕ → ℕ) (M : ℕ) (ds : List Deque) → AllInUse ds → ((v : ℕ) → List·Memᴰ v (linesOf hold ds) → M ≤ num v) → under num hold M ds ≡ 0
+unfolding under AllInUse linesOf
 none-under num hold M [] m h = refl
 none-under num hold M (d ∷ ds) m h =
-    let b : M ≤ num (bottom (line hold d)) = h (bottom (line hold d)) (Memᴰ·append-left (linesOf hold ds) (bottom-in (line hold d) (line-full hold d (m .0)))) in
+    let b : M ≤ num (bottom (line hold d)) = h (bottom (line hold d)) (Memᴰ·append-left (linesOf hold ds) (bottom-in (line hold d) (line-some hold d (m .0)))) in
     rw (le-ltb (num (bottom (line hold d))) M b) (omega (arith, none-under num hold M ds (m .1) (λ v n. h v (Memᴰ·append-right (line hold d) n))))
 
 -- ---- a steal
@@ -191,7 +188,7 @@ module _ (T : Table) (l : Lawful T) (p K fa : ℕ) (J : ℕ → ℕ) (D : Deques
         let rising : Ascends num (line hold d ++ linesOf hold (P .after)) =
         asc-right num (linesOf hold (P .front)) _ (subst (Ascends num) (lines-are (P .front) d (P .after) (P .whole)) (I .order)) in
         let beyond : under num hold (num b) (P .after) ≡ 0 =
-        none-under num hold (num b) (P .after) (manned-after (P .front) d (P .after) (subst AllManned (P .whole) (I .kept .placed .manned)))
+        none-under num hold (num b) (P .after) (in-use-after (P .front) d (P .after) (subst AllInUse (P .whole) (I .kept .placed .in-use)))
         (λ v m. omega (arith, asc-cross num (line hold d) (linesOf hold (P .after)) rising b v b-in m)) in
         let here : under num hold (num b) (d ∷ P .after) ≡ 0 = rw (L-bottom, le-ltb (num b) (num b) (omega arith)) (omega (arith, beyond)) in
         let z : under num hold (num b) (P .front ++ d ∷ P .after) ≤ length (P .front) = under-few num hold (num b) (P .front) (d ∷ P .after) here in

@@ -24,7 +24,8 @@ use Rattle.deques.specs.DequeRuns.{Pair}
 use Rattle.deques.specs.Deques.{startDeques}
 use Rattle.deques.specs.DequeCalls.{rowDeques}
 use Rattle.deque_bounds.specs.DequeRows.{leaps, rowReplies, dequeMemory}
-use Rattle.deques.proofs.Ghost.{CommonIn, Beside, beside, serialLive}
+use Rattle.schedule.proofs.SerialLive.{serialLive}
+use Rattle.deques.proofs.ActCommon.{CommonIn, Beside, beside}
 use Rattle.deques.proofs.DequeTurns.{Kept, withSerial, serial-facts, turn-kept, taken-common, b-below, b-ready}
 use Rattle.deque_bounds.proofs.UprightTurns.{BelowAll, start-upright}
 use Rattle.deque_bounds.proofs.Peaks.{go-same}

@@ -363,7 +363,7 @@ module _ (T : Table) (l : Lawful T) (p K : ℕ) (few : p ≤ 16) (w : ℕ) (belo
         kept = steal-kept;
         falls = falls-more T l J J' (I .falls) start up flat st s same still ends;
         lines = lines-now;
-        order = subst (Ascends num) (sym (robbed-lines w w16 (heldBy st) (heldBy s) held-others c ds none-owned (I .kept .placed .manned) some held-here)) (I .order);
+        order = subst (Ascends num) (sym (robbed-lines w w16 (heldBy st) (heldBy s) held-others c ds none-owned (I .kept .placed .in-use) some held-here)) (I .order);
         waiters = λ u n e. waiting-more u n (wait-set (st .status) b held (omega (arith, f .status-size, l .few-threads, bb)) (λ z. omega (arith, z)) u e);
       }
     where

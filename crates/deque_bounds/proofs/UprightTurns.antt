@@ -18,7 +18,7 @@ use Rattle.schedule.specs.Machine.{State, waiting, statusOf, workerOf}
 use Rattle.order.proofs.Lawful.{Lawful}
 use Rattle.order.proofs.Words.{Ascends}
 use Rattle.deques.specs.Deques.{Deque, nothing, isEmpty, kept, bottom, robbed, Deques, over, actDeques}
-use Rattle.deques.specs.Partition.{occurs, ownedBy, AllManned}
+use Rattle.deques.specs.Partition.{occurs, ownedBy, AllInUse}
 use Rattle.deques.specs.Lines.{line, linesOf}
 use Rattle.deques.specs.Partition.{readyAt, holdsAt}
 use Rattle.deques.proofs.DequeTurns.{Kept}
@@ -132,7 +132,7 @@ module _ (T : Table) (l : Lawful T) (p K : ℕ) (few : p ≤ 16) where
   -- ---- the beginning
 
   start-kept : Kept T p K (startDeques T)
-  unfolding occurs ownedBy countIn AllManned
+  unfolding occurs ownedBy countIn AllInUse
   start-kept =
       record {
         common = sound-facts T l p K (startState T) (start-facts T l p K) .common;

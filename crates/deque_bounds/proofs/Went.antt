@@ -33,7 +33,8 @@ use Rattle.schedule.proofs.Preservation.Ends.{ownerBelow-less}
 use Rattle.schedule.proofs.Bounds.Acts.{Acted, acted, set-ended}
 use Rattle.schedule.proofs.Linked.Waiting.{awaited}
 use Rattle.deques.specs.Deques.{Deque, deque, nothing, kept, placeOf, own, push, disown, Deques, over, goesTo, goesOn, letGo, actDeques}
-use Rattle.deques.proofs.Ghost.{CommonIn, Beside, beside, serialLive}
+use Rattle.schedule.proofs.SerialLive.{serialLive}
+use Rattle.deques.proofs.ActCommon.{CommonIn, Beside, beside}
 use Rattle.deques.specs.Partition.{ownedBy}
 use Rattle.deques.proofs.DequeTurns.{withSerial, serial-facts, waits-status}
 use Rattle.deques.proofs.Flat.{own-at}
