@@ -71,11 +71,11 @@ module _ (r : DequeRun) (e : unsoundDeques r ≡ false) (n : r .run .workers ≡
   unfolding blankDeques blank
   first-turn h = omega (arith, h, ap (λ (x : DequeRun). x .run .turns) is-blank)
 
-  open-root : rootEnded (r .run) ≡ false
+  pub open-root : rootEnded (r .run) ≡ false
   unfolding rootEnded blankDeques blank
   open-root = ap (λ (x : DequeRun). rootEnded (x .run)) is-blank
 
-  turn-blank : (w c : ℕ) → dequeRefused 30 r ≡ dequeTurned r w c
+  pub turn-blank : (w c : ℕ) → dequeRefused 30 r ≡ dequeTurned r w c
   turn-blank w c = ap (dequeRefused 30) is-blank ∙ sym (deque-blank-turn w c) ∙ ap (λ (x : DequeRun). dequeTurned x w c) (sym is-blank)
 
   pairs-blank : (l : List ℕ) → dequeRan (pick (ltb 0 (length l / 2)) (Stops 0 (refusal 30 0)) (Spent 0)) r ≡ pairsRun r l
