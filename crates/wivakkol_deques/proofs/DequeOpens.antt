@@ -27,17 +27,16 @@ use Rattle.schedule.specs.Links.{Links}
 use Rattle.schedule.specs.Record.{maxBytes, maxWorkers, blank, bytesOf, linksIn}
 use Rattle.schedule.specs.Begin.{settingPasses}
 use Rattle.schedule.specs.Sound.{commonSound}
-use Rattle.schedule.specs.Answers.{nothing, spent}
 use Rattle.schedule.proofs.Stores.{setting-fits}
 use Rattle.soundness.specs.Tested.{parentsIn, blankOn}
 use Rattle.soundness.proofs.Chains.{last, first-of, never}
 use Rattle.soundness.proofs.Noting.{parents-right}
 use Rattle.array_machine.specs.Arrays.{linksOf, secondOf}
-use Rattle.run_memory.specs.Memory.{Memory, movedIn, noRow, Answer, answer}
+use Rattle.run_memory.specs.Memory.{Memory, movedIn, noRow, answer}
 use Rattle.run_memory.specs.Stands.{truths, workersFrom, workersIn, runIn}
-use Rattle.run_memory.specs.Runs.{Stopped, stopped, overIn}
+use Rattle.run_memory.specs.Runs.{stopped, overIn}
 use Rattle.run_memory.proofs.Refines.{own-worker}
-use Rattle.wivakkol.specs.Lent.{saidOf, runRow, stoppedAs, blankMemory}
+use Rattle.wivakkol.specs.Lent.{stoppedAs, blankMemory}
 use Rattle.deques.specs.declared.DequeRun.{DequeRun}
 use Rattle.deques.specs.DequeRecord.{bottomsIn, blankDeques}
 use Rattle.deques.specs.DequeSound.{SoundDeques, dequeSound, isBlankDeques}

@@ -1,14 +1,12 @@
 -- Beginning is AsyncDF's: the memory that it leaves has the record of DFDeques' start, and that record stands there.
-use mathlib.Core.Path.{_≡_, refl, sym, ap, subst, _∙_}
+use mathlib.Core.Path.{_≡_, refl, sym, _∙_}
 use Prim.Native.Nat.{ℕ}
 use native.Mathlib.Omega.{arith}
 use mathlib.Core.List.{List, [], _∷_}
 use Rattle.table.specs.Format.{tableOf}
 use Rattle.table.specs.declared.Found.the-variants.{Nothing}
 use Rattle.order.specs.Words.{allBelow}
-use Rattle.schedule.specs.declared.Run.{Run}
 use Rattle.schedule.specs.declared.Beginning.the-variants.{Begun as started}
-use Rattle.schedule.specs.Links.{Links}
 use Rattle.schedule.specs.Begin.{startRun}
 use Rattle.schedule.proofs.Linked.Links.{linked-laid}
 use Rattle.filling.specs.Filled.{filledOut}
@@ -17,10 +15,7 @@ use Rattle.soundness.proofs.Noting.{parents-right}
 use Rattle.array_machine.proofs.Starts.{alone, alone-linked, is-start}
 use Rattle.run_memory.specs.Stands.{truths, workersFrom, runIn}
 use Rattle.wivakkol.specs.Lent.{startMemory}
-use Rattle.deques.specs.declared.DequeRun.{DequeRun}
-use Rattle.deques.specs.declared.DequeBegun.{DequeBegun}
-use Rattle.deques.specs.DequeSound.{SteadyDeques}
-use Rattle.deques.specs.DequeBegin.{startDequeRun, dequeBegunAs, dequeBegin}
+use Rattle.deques.specs.DequeBegin.{startDequeRun, dequeBegin}
 use Rattle.deques.proofs.DequeHistories.{start-record, deque-begin-sound}
 use Rattle.stealing.specs.StealingMemory.{dequeRunIn, DequesStand}
 

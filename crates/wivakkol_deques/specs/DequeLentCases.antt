@@ -6,7 +6,7 @@ use Rattle.table.specs.Sum.{sumTo, anyBelow}
 use Rattle.table.specs.Format.{codeOf, kindOf, is, tableOf}
 use Rattle.table.specs.Cases.{E}
 use Rattle.schedule.specs.Links.{linkLeft, unlink}
-use Rattle.array_machine.specs.Arrays.{Arrays, arrays}
+use Rattle.array_machine.specs.Arrays.{arrays}
 use Rattle.array_machine.specs.Turn.{waitsIn, actOn}
 use Rattle.array_machine.specs.Counted.{busyAfter, roomFor}
 use Rattle.run_memory.specs.Memory.{Memory, memory, noRow, answer, turnLeft}
