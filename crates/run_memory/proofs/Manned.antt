@@ -4,14 +4,15 @@ use Prim.Native.Nat.{ℕ, zero, suc, _+_, _≤_, _<_}
 use native.Mathlib.Omega.{arith}
 use native.Mathlib.Decide.{ℕ-discrete}
 use mathlib.Core.List.{List, [], _∷_}
-use mathlib.Core.Bool.{true, not}
+use mathlib.Core.Bool.{true, false, not}
 use lib.Dec.{ltb, eqb}
 use lib.ListN.{length, getD, set, length-set}
 use lib.Seq.{getD-set-same, getD-set-other, ext-getD}
+use borrow.Author.Tests.{lt-ltb, le-ltb}
 use Rattle.table.specs.Sum.{pick}
 use Rattle.schedule.specs.declared.Worker.{Worker}
 use Rattle.schedule.specs.Machine.{nobody}
-use Rattle.order.proofs.Words.{allBelow-exactly}
+use Rattle.order.proofs.Words.{allBelow-exactly, never-true, not-both}
 use Rattle.run_memory.specs.Memory.{workerFrom}
 use Rattle.run_memory.specs.Stands.{truths, workersFrom}
 use Rattle.run_memory.specs.Places.{ofWorkers}
@@ -80,3 +81,23 @@ module _ {holds threads quotas : List ℕ} {workers : List Worker} {w : ℕ} (h 
   all-sixteen b =
       ext-getD nobody workers (workersFrom holds threads quotas 0 16) (h .size ∙ sym (workers-length holds threads quotas 0 16))
       (λ i l. let e : 0 + i ≡ i = omega arith in h .right i (omega (arith, l, h .size, b)) ∙ sym (workers-at holds threads quotas 0 16 i (omega (arith, l, h .size)) ∙ rw e))
+
+-- truth values tested one after the other: those below w are 0 or 1
+pub record TruthsBelow (holds : List ℕ) (w : ℕ) : Type 0 where
+  pub right : (i : ℕ) → i < w → getD holds i 0 < 2
+
+module _ {holds : List ℕ} {w : ℕ} (h : TruthsBelow holds w) where
+  pub truths-more : getD holds w 0 < 2 → TruthsBelow holds (w + 1)
+  truths-more b = record { right = λ i l. go i l (ℕ-discrete i w) }
+    where
+      go : (i : ℕ) → i < w + 1 → Dec (i ≡ w) → getD holds i 0 < 2
+      go i l (yes q) = rw q b
+      go i l (no d) = h .right i (omega (arith, l, d))
+
+  pub truths-fail : w < 16 → 2 ≤ getD holds w 0 → false ≡ truths holds
+  unfolding truths
+  truths-fail b l = sym (never-true _ (λ q. not-both (ltb (getD holds w 0) 2) (allBelow-exactly _ 16 .0 q w b) (le-ltb _ 2 l)))
+
+  pub truths-all : 16 ≤ w → true ≡ truths holds
+  unfolding truths
+  truths-all b = sym (allBelow-exactly _ 16 .1 (λ i l. lt-ltb _ 2 (h .right i (omega (arith, l, b)))))

@@ -2,9 +2,9 @@
 // its values into the lent row; every number of the row is written, so that nothing of what was there before is left. The single turn is crate single's. include/wivakkol.h has the prototypes.
 use quota::Quoted;
 use quota::largest_quota_in;
+use run_memory::lent::workers;
 use table::Loaded;
 ghost use mathlib.Core.Path.{_≡_};
-ghost use Prim.Native.Nat.{min};
 ghost use lib.ListN.{replicate};
 ghost use Rattle.table.specs.Load.{tableValues};
 ghost use Rattle.quota.specs.Quota.{valuesFor};
@@ -85,11 +85,4 @@ pub extern "C" fn wivakkol_quota_on(
             r.number as u32
         }
     }
-}
-
-// p in a byte. C would cut a number above 255 to its low byte, and 258 would be taken for 2: p is taken with 32 bits, and 17 stands for all that are too large.
-pub(crate) fn workers(p: u32) -> u8
-    ensures { λ r. ⌜ r ≡ min p 17 ⌝ }
-{
-    if p < 17 { p as u8 } else { 17 }
 }

@@ -1,13 +1,13 @@
--- `wivakkol::open::workers_at` meets its contract. The invariant: the workers below w have their records.
+-- `run_memory::lent::workers_at` meets its contract. The invariant: the workers below w have their records.
 use mathlib.Core.Path.{refl}
 use Prim.Native.Nat.{_-_}
 use native.Mathlib.Omega.{arith}
 use Rattle.run_memory.proofs.Manned.{Upto, one-more, all-sixteen}
 use borrow.Author.Needs.{needs}
-use Rattle.wivakkol.proofs.open.workers_at.Statement.{statement}
-use Rattle.wivakkol.proofs.open.workers_at.Tie as tie
-use Rattle.wivakkol.proofs.open.workers_at.Reads as reads
-use Rattle.wivakkol.proofs.open.workers_at.Lts as lts
+use Rattle.run_memory.proofs.lent.workers_at.Statement.{statement}
+use Rattle.run_memory.proofs.lent.workers_at.Tie as tie
+use Rattle.run_memory.proofs.lent.workers_at.Reads as reads
+use Rattle.run_memory.proofs.lent.workers_at.Lts as lts
 
 abbrev Inv-loop : tie.InvT-loop
 Inv-loop holds threads quotas workers₀ w₀ workers w = Upto holds threads quotas workers w
