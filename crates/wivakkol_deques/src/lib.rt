@@ -11,7 +11,6 @@ ghost use Rattle.wivakkol.specs.Lent.{saidOf, runRow};
 ghost use Rattle.wivakkol_deques.specs.DequeLent.{lentDequeTurn, lentDequeList};
 
 pub mod open;
-mod parts;
 
 // A turn of worker w with choice c. Every number of the row is written; the last, which AsyncDF has of N7, stays 0.
 #[no_mangle]

@@ -1,8 +1,8 @@
 // Opening a run of DFDeques that stands in lent memory: check 32, once.
-use crate::parts::truths_right;
-use crate::parts::workers;
-use crate::parts::workers_at;
 use dequetest::deque_open_in;
+use run_memory::lent::truths_right;
+use run_memory::lent::workers;
+use run_memory::lent::workers_at;
 ghost use mathlib.Core.Path.{_≡_};
 ghost use lib.ListN.{replicate};
 ghost use Rattle.array_machine.specs.Arrays.{arrays};
