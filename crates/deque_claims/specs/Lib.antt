@@ -1,1 +1,2 @@
 pub mod DequeAnswersOf
+pub mod LentDequeCalls
