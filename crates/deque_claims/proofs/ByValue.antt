@@ -1,7 +1,7 @@
 -- DFDeques for the running code, by value. A history is a list of calls, each on the record that the last one left, of which nothing is known but what the promises of the public functions say:
 -- their own `ensures`, as the check reads it (`Learnt`), of the arguments and the answer. `history-is`: the record, the answers and the row of pairs are those of the definitions.
 -- `history-exists`: every list of calls has one. `code-follows`: and so from an accepted beginning, refused calls included, the record is sound but for its turns taken, its
--- deques are those of the row, and every pair's worker and choice are below p; `code-once`, `code-owns` and `code-manned`: the partition and the ownership of N13.
+-- deques are those of the row, and every pair's worker and choice are below p; `code-once`, `code-owns` and `code-in-use`: the partition and the ownership of N13.
 use mathlib.Core.Path.{_≡_, refl, sym, ap, ap₂, subst, _∙_}
 use Prim.Native.Nat.{ℕ, _<_}
 use mathlib.Core.List.{List, [], _∷_, _++_, List·Memᴰ}
@@ -19,7 +19,7 @@ use Rattle.deques.specs.declared.DequeBegun.{DequeBegun}
 use Rattle.deques.specs.declared.DequeTurned.{DequeTurned}
 use Rattle.deques.specs.declared.DequeRan.{DequeRan}
 use Rattle.deques.specs.Deques.{Deque, startDeques}
-use Rattle.deques.specs.Partition.{ownedBy, holdsAt, placesOf, Manned}
+use Rattle.deques.specs.Partition.{ownedBy, holdsAt, placesOf, InUse}
 use Rattle.deques.specs.DequeRecord.{dequesIn, dequesOf}
 use Rattle.deques.specs.DequeSound.{SteadyDeques}
 use Rattle.deques.specs.DequeBegin.{dequeBegin}
@@ -183,5 +183,5 @@ module _ {s : List ℕ} {p K : ℕ} {b : DequeBegun} (h : BeginSays s p K b) (e 
   pub code-owns : (w : ℕ) → w < maxWorkers → ownedBy w (dequesIn r) ≡ holdsAt (r .run .worker) w
   code-owns = owns-one r (code-follows h e t .steady)
 
-  pub code-manned : (d : Deque) → List·Memᴰ d (dequesIn r) → Manned d
-  code-manned = owner-or-thread r (code-follows h e t .steady)
+  pub code-in-use : (d : Deque) → List·Memᴰ d (dequesIn r) → InUse d
+  code-in-use = owner-or-thread r (code-follows h e t .steady)

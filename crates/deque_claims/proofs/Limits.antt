@@ -13,14 +13,23 @@ use Rattle.deques.specs.declared.DequeRun.{DequeRun}
 use Rattle.deques.specs.declared.DequeBegun.{DequeBegun}
 use Rattle.deques.specs.DequeRuns.{Pair}
 use Rattle.deques.specs.DequeBegin.{dequeBegin}
-use Rattle.deques.specs.DequeCalls.{afterDequeCalls, pairsOfCalls}
+use Rattle.deques.specs.DequeCalls.{DequeCall, afterDequeCalls, pairsOfCalls}
 use Rattle.deque_bounds.proofs.CallLimits.{DequeLimit, deque-limit}
 use Rattle.stealing.specs.StealingMemory.{dequeRunIn}
 use Rattle.claims.specs.LentCalls.{tableThatRuns, Returned}
 use Rattle.claims.proofs.LentSays.{BeginSays, begin-is}
 use Rattle.deque_claims.specs.LentDequeCalls.{LentDequeCall, dequeMovesOf}
+use Rattle.deque_claims.specs.DequeAnswersOf.{DequeAnswer}
+use Rattle.deque_claims.proofs.ByValue as by-value
 use Rattle.deque_claims.proofs.DequesRefine.{begun-deques-there}
 use Rattle.deque_claims.proofs.FromC.{DequeHistory, begun-code-refines}
+
+-- ---- by value
+
+-- `dfdeques::deque_begin` accepted the bytes, p and K, and the calls of any history followed: the limits hold of the record that they left and of the pairs whose turns were taken
+pub code-deque-limit : {s : List ℕ} {p K : ℕ} {b : DequeBegun} → by-value.BeginSays s p K b → b .answer ≡ started
+    → {calls : List DequeCall} {answers : List DequeAnswer} {row : List Pair} {r : DequeRun} → by-value.History (b .run) calls answers row r → DequeLimit (tableOf (filledOut s K)) p K r row
+code-deque-limit {s} {p} {K} {b} h e {calls} t = by-value.history-holds h e t (DequeLimit (tableOf (filledOut s K)) p K) (λ f. deque-limit s p K (b .run) f calls)
 
 -- ---- from C
 
