@@ -10,8 +10,8 @@ import fitting
 import limits
 from peaks import example
 from quota import bound
-from reference import check
-from tables import damaged, drawn
+from reference import END, check
+from tables import damaged, drawn, table
 
 # what each call can return
 NUMBERS = {'wivakkol_limit': set(range(12)) | {20, 21, 41, 44, 61}, 'wivakkol_fit': set(range(12)) | {20, 41}}
@@ -35,7 +35,11 @@ def drawn_case(rng, given):
 
 def cases(rng, given, count):
     e, tree = example('e.text'), example('tree.text')
-    fixed = [(e, 2, 1, 55, 6, 0), (e, 2, 1, 11, 5, 36868), (e, 2, 1, 11, 5, 175), (e, 2, 1, 11, 5, 176), (tree, 4, 0, 440, 12, 0), (tree, 4, 0, 439, 12, 0)]
+    # a byte of E changed, so that each of the table's own checks applies
+    refused = [b'', *(e[:at] + bytes([x]) + e[at + 1:] for at, x in ((0, 0), (0, 4), (8, 6), (16, 6), (17, 3), (40, 0), (21, 1), (25, 1), (45, 7))), table([(END, 0)], [(END, 0)])]
+    fixed = [(data, 17, 65536, 0, 0, 0) for data in refused]
+    fixed += [(e, 17, 65536, 0, 0, 0), (e, 2, 65536, 0, 0, 0), (e, 2, 65535, 0, 0, 0)]
+    fixed += [(e, 2, 1, 55, 6, 0), (e, 2, 1, 11, 5, 36868), (e, 2, 1, 11, 5, 175), (e, 2, 1, 11, 5, 176), (tree, 4, 0, 440, 12, 0), (tree, 4, 0, 439, 12, 0)]
     return fixed + [drawn_case(rng, rng.choice(given)) for _ in range(count - len(fixed))]
 
 
@@ -43,11 +47,11 @@ def limit_row(data, p, b, quota, room):
     """Number, row, what is left of the working memory, and the checksum of the room."""
     said, buffer = limits.said(data, p, quota, b), PAINT * room
     if said[0] != 'refused':
-        table = filling.filled(data, quota)
-        if table != data and len(table) > room:
+        runs = filling.filled(data, quota)
+        if runs != data and len(runs) > room:
             said = 'refused', 61, 0
-        elif table != data:
-            buffer = table + buffer[len(table):]
+        elif runs != data:
+            buffer = runs + buffer[len(runs):]
     return ([said[1], said[2], 0, 0, 0, 0, 0] if said[0] == 'refused' else [0, 0, *said]) + CLEARED + [zlib.crc32(buffer)]
 
 
