@@ -26,6 +26,7 @@
 compile_error!("the archive is built for x86-64 alone");
 
 mod builder;
+mod limits;
 #[cfg(feature = "marks")]
 mod marks;
 mod memory;
@@ -36,9 +37,10 @@ mod run;
 mod tables;
 
 pub use builder::{Builder, NotBuilt, Thread};
+pub use limits::{fit, limit, Fit, Limits};
 #[cfg(feature = "marks")]
 pub use marks::{Marks, MarksWork};
-pub use memory::{Memory, TablesWork, Work};
+pub use memory::{LimitWork, Memory, TablesWork, Work};
 pub use refusal::{Place, Refusal};
 pub use run::{Preview, RefusedMemory, Reply, Report, Run, Status, Stopped, Turn};
 #[cfg(feature = "tables")]

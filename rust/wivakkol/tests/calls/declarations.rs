@@ -45,7 +45,7 @@ fn calls_are_of_the_source() {
     }
     let declared = functions(include_str!("../../src/raw.rs"), "pub fn ");
     assert_eq!(declared.len(), source.len());
-    assert_eq!(declared.len(), 16);
+    assert_eq!(declared.len(), 18);
     for (name, parameters) in declared {
         let exported = source.get(&name).unwrap_or_else(|| panic!("{name} is not exported"));
         assert_eq!(parameters, as_pointers(exported), "{name}");
@@ -89,8 +89,13 @@ fn handed(text: &str, call: &str) -> Vec<String> {
 /// Every block, part and field is handed over where the call has a parameter of its name: neighbours of one type would change places unseen.
 #[test]
 fn memory_is_handed_by_name() {
-    let calling =
-        concat!(include_str!("../../src/lib.rs"), include_str!("../../src/memory.rs"), include_str!("../../src/tables.rs"), include_str!("../../src/marks.rs"));
+    let calling = concat!(
+        include_str!("../../src/lib.rs"),
+        include_str!("../../src/limits.rs"),
+        include_str!("../../src/memory.rs"),
+        include_str!("../../src/tables.rs"),
+        include_str!("../../src/marks.rs")
+    );
     for (call, parameters) in functions(include_str!("../../src/raw.rs"), "pub fn ") {
         let mut names: Vec<&str> = parameters.iter().filter_map(|x| x.split_once(": ")).map(|(name, _)| name).collect();
         let given = handed(calling, &call);
@@ -145,6 +150,7 @@ fn memory_is_of_the_header() {
         ("wivakkol_run", "Memory", 4),
         ("wivakkol_work", "Work", 5),
         ("wivakkol_tables_work", "TablesWork", 6),
+        ("wivakkol_limit_work", "LimitWork", 6),
         ("wivakkol_marks", "Marks", 5),
         ("wivakkol_marks_work", "MarksWork", 7),
     ];
