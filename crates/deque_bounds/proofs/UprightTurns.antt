@@ -141,7 +141,7 @@ module _ (T : Table) (l : Lawful T) (p K : ℕ) (few : p ≤ 16) where
               once = λ t i. at t (ℕ-discrete t 0);
               none = λ t i. off t (λ e. omega (arith, e, i, l .some-thread));
               owned = λ w i. own-none w i;
-              manned = (inr (refl, refl), tt);
+              in-use = (inr (refl, refl), tt);
             };
       }
     where
