@@ -58,7 +58,9 @@ impl fmt::Display for NotAssembled {
     fn fmt(&self, f: &mut fmt::Formatter<'_>) -> fmt::Result {
         match self {
             NotAssembled::TooLong => write!(f, "text above {TEXT_LONGEST} bytes"),
-            NotAssembled::Line { line, unseen: Some(Unseen::CarriageReturn), .. } => write!(f, "line {line}: a carriage return; lines end with a newline alone"),
+            NotAssembled::Line { line, unseen: Some(Unseen::CarriageReturn), .. } => {
+                write!(f, "line {line}: a carriage return; lines end with a newline alone")
+            }
             NotAssembled::Line { line, unseen: Some(Unseen::ByteOrderMark), .. } => write!(f, "line {line}: a byte order mark; a text begins without one"),
             NotAssembled::Line { line, expected, unseen: None } => write!(f, "line {line}: expected {expected}"),
             NotAssembled::Short { bytes } => write!(f, "the table has {bytes} bytes, and the buffer fewer"),

@@ -95,8 +95,13 @@ fn handed(text: &str, call: &str) -> Vec<String> {
 /// Every block, part and field is handed over where the call has a parameter of its name: neighbours of one type would change places unseen.
 #[test]
 fn memory_is_handed_by_name() {
-    let calling =
-        concat!(include_str!("../../src/lib.rs"), include_str!("../../src/memory.rs"), include_str!("../../src/tables.rs"), include_str!("../../src/marks.rs"), include_str!("../../src/desk.rs"));
+    let calling = concat!(
+        include_str!("../../src/lib.rs"),
+        include_str!("../../src/memory.rs"),
+        include_str!("../../src/tables.rs"),
+        include_str!("../../src/marks.rs"),
+        include_str!("../../src/desk.rs")
+    );
     for (call, parameters) in functions(include_str!("../../src/raw.rs"), "pub fn ") {
         let mut names: Vec<&str> = parameters.iter().filter_map(|x| x.split_once(": ")).map(|(name, _)| name).collect();
         let given = handed(calling, &call);
