@@ -17,10 +17,13 @@ mod line;
 pub mod open;
 mod preview;
 pub mod runs;
+mod useful;
 
 pub use limit::wivakkol_most_on;
 pub use line::wivakkol_chart_on;
 pub use preview::wivakkol_preview_on;
+pub use useful::wivakkol_fit_on;
+pub use useful::wivakkol_limit_on;
 
 // A table's facts n, m, S1, D and N, or the check that refuses it. The working memory of these two calls may hold anything, and is left cleared.
 #[no_mangle]
