@@ -34,7 +34,7 @@ NUMBERS = {'wivakkol_check': set(range(12)), 'wivakkol_quota': set(range(12)) | 
 LEFT = {'wivakkol_check': [0, 0, 0, 0, 1, 1], 'wivakkol_quota': [0, 0, 0, 0, 1, 1], 'wivakkol_most': [0, 0, 1, 1, 1, 1]}
 STACK_MOST = 8192  # bytes that a call on a table may take of the stack
 # the names of their numbers of bytes, of lengths that of their count
-BYTES = {'table': 'length', 'order': 'turns', 'filled': 'room', 'first': 'first_length', 'second': 'second_length', 'tables': 'length', 'lengths': 'parts'}
+BYTES = {'table': 'length', 'text': 'length', 'out': 'room', 'order': 'turns', 'filled': 'room', 'first': 'first_length', 'second': 'second_length', 'tables': 'length', 'lengths': 'parts'}
 RUN_CALLS = list(board_runs.NUMBERS)  # the calls for a wivakkol_run
 WORK_NAMES = {'parents': 'seen'}  # fields of a wivakkol_work that the exported calls name otherwise, since they have parents of their own
 # the places that the header names: of each the part of a block that it is in, and which number of that

@@ -1,7 +1,8 @@
 //! AsyncDF for job tables: a scheduler whose memory is bounded beforehand, for every order in which its workers take their turns. The calls are proved; this crate calls them in the archives
-//! `libwivakkol_turn.a`, `libwivakkol.a`, `libwivakkol_tables.a` and `libwivakkol_marks.a`, which `rt staticlib wivakkol_turn` and so on write, and gives their numbers types. It has no heap, no
-//! state and no dependencies. docs/REFERENCE.md of the repository says what a table is, what a turn does and which bounds hold. The features `tables` and `marks` are on by default: without the
-//! first, [`join`], [`canonical`] and [`compare`] are left out, and the third archive is not needed; without the second, [`Marks`] and the fourth.
+//! `libwivakkol_turn.a`, `libwivakkol.a`, `libwivakkol_tables.a`, `libwivakkol_marks.a` and `libwivakkol_desk.a`, which `rt staticlib wivakkol_turn` and so on write, and gives their numbers types.
+//! It has no heap, no state and no dependencies. docs/REFERENCE.md of the repository says what a table is, what a turn does and which bounds hold. The features `tables`, `marks` and `desk` are on
+//! by default: without the first, [`join`], [`canonical`] and [`compare`] are left out, and the third archive is not needed; without the second, [`Marks`] and the fourth; without the third,
+//! [`assemble`] and [`disassemble`] and the fifth.
 //!
 //! ```
 //! use wivakkol::{Memory, Report, Run, TablesWork, Work};
@@ -17,8 +18,8 @@
 //!
 //! What C has to keep to by itself is kept here by types: sizes, alignment, what overlaps what, one call at a time, and the same unchanged table for every call on a run. One thing is not: the
 //! stack. From C the calls behind [`check`], [`largest_quota`] and [`most_turns`] took up to 1,512 bytes of it, [`Run::begin`] 3,672, [`Run::open`] 6,136, [`Run::wall_line`] 6,440, a single
-//! turn 112, the others under 310; [`canonical`] and [`compare`] up to 1,368, [`join`] up to 1,544; [`Run::mark`] and [`Run::back`] up to 5,432. That the declarations fit the archives is tested
-//! and not proved.
+//! turn 112, the others under 310; [`canonical`] and [`compare`] up to 1,368, [`join`] up to 1,544; [`Run::mark`] and [`Run::back`] up to 5,432; [`assemble`] up
+//! to 1,544, [`disassemble`] up to 3,464. That the declarations fit the archives is tested and not proved.
 #![no_std]
 #![deny(unsafe_op_in_unsafe_fn)]
 
@@ -26,6 +27,8 @@
 compile_error!("the archive is built for x86-64 alone");
 
 mod builder;
+#[cfg(feature = "desk")]
+mod desk;
 mod limits;
 #[cfg(feature = "marks")]
 mod marks;
@@ -37,6 +40,8 @@ mod run;
 mod tables;
 
 pub use builder::{Builder, NotBuilt, Thread};
+#[cfg(feature = "desk")]
+pub use desk::{assemble, disassemble, Expected, NotAssembled, NotListed, Unseen, TEXT_LONGEST, TEXT_MOST};
 pub use limits::{fit, limit, Fit, Limits};
 #[cfg(feature = "marks")]
 pub use marks::{Marks, MarksWork};

@@ -1,4 +1,4 @@
-//! The exported functions as the archives have them. An array is a reference to one of its size, so that the types say what include/wivakkol.h, wivakkol_tables.h and wivakkol_marks.h ask of a
+//! The exported functions as the archives have them. An array is a reference to one of its size, so that the types say what include/wivakkol.h, wivakkol_tables.h, wivakkol_marks.h and wivakkol_desk.h ask of a
 //! row, a block or a part of one: it is not NULL, aligned, of the full size and written before, and what is lent to be written overlaps nothing else. tests/calls/declarations.rs holds them against the source.
 
 extern "C" {
@@ -279,5 +279,32 @@ extern "C" {
         forks: &mut [u16; 1024],
         seen: &mut [u16; 1024],
         list: &mut [u16; 1024],
+    ) -> u32;
+}
+
+#[cfg(feature = "desk")]
+extern "C" {
+    pub fn wivakkol_assemble_on(
+        text: *const u8,
+        length: usize,
+        out: *mut u8,
+        room: usize,
+        row: &mut [u64; 6],
+        rises: &mut [u64; 1024],
+        falls: &mut [u64; 1024],
+        peaks: &mut [u64; 1024],
+        depths: &mut [u16; 1024],
+    ) -> u32;
+
+    pub fn wivakkol_disassemble_on(
+        table: *const u8,
+        length: usize,
+        out: *mut u8,
+        room: usize,
+        row: &mut [u64; 2],
+        rises: &mut [u64; 1024],
+        falls: &mut [u64; 1024],
+        peaks: &mut [u64; 1024],
+        depths: &mut [u16; 1024],
     ) -> u32;
 }

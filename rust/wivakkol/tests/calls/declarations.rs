@@ -28,6 +28,8 @@ fn as_pointers(parameters: &[String]) -> Vec<String> {
         "first: &[u8]" => pair("first: *const u8", "first_length"),
         "second: &[u8]" => pair("second: *const u8", "second_length"),
         "tables: &[u8]" => pair("tables: *const u8", "length"),
+        "text: &[u8]" => pair("text: *const u8", "length"),
+        "out: &mut [u8]" => pair("out: *mut u8", "room"),
         "lengths: &[u32]" => pair("lengths: *const u32", "parts"),
         _ => vec![x.clone()],
     };
@@ -37,7 +39,7 @@ fn as_pointers(parameters: &[String]) -> Vec<String> {
 #[test]
 fn calls_are_of_the_source() {
     let mut source = BTreeMap::new();
-    for name in ["wivakkol_turn", "wivakkol", "wivakkol_tables", "wivakkol_marks"] {
+    for name in ["wivakkol_turn", "wivakkol", "wivakkol_tables", "wivakkol_marks", "wivakkol_desk"] {
         for entry in fs::read_dir(format!("{HERE}/../../crates/{name}/src")).unwrap() {
             let text = fs::read_to_string(entry.unwrap().path()).unwrap();
             source.extend(functions(&text, "pub extern \"C\" fn "));
@@ -72,6 +74,10 @@ fn handed(text: &str, call: &str) -> Vec<String> {
         "first.len()" => "first_length".to_string(),
         "second.as_ptr()" => "second".to_string(),
         "second.len()" => "second_length".to_string(),
+        "text.as_ptr()" => "text".to_string(),
+        "text.len()" => "length".to_string(),
+        "out.as_mut_ptr()" => "out".to_string(),
+        "out.len()" => "room".to_string(),
         "tables.as_ptr()" => "tables".to_string(),
         "tables.len()" => "length".to_string(),
         "lengths.as_ptr()" => "lengths".to_string(),
@@ -94,7 +100,8 @@ fn memory_is_handed_by_name() {
         include_str!("../../src/limits.rs"),
         include_str!("../../src/memory.rs"),
         include_str!("../../src/tables.rs"),
-        include_str!("../../src/marks.rs")
+        include_str!("../../src/marks.rs"),
+        include_str!("../../src/desk.rs")
     );
     for (call, parameters) in functions(include_str!("../../src/raw.rs"), "pub fn ") {
         let mut names: Vec<&str> = parameters.iter().filter_map(|x| x.split_once(": ")).map(|(name, _)| name).collect();

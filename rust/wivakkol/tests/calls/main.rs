@@ -4,6 +4,8 @@ mod cases;
 mod declarations;
 #[cfg(feature = "tables")]
 mod designs;
+#[cfg(feature = "desk")]
+mod desk;
 #[cfg(feature = "marks")]
 mod marks;
 mod model;
