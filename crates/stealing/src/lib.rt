@@ -163,7 +163,6 @@ fn go_on(
                 child: x as u16,
             });
         }
-        return plain(table, w, bytes, words, numbers, sums);
     }
     plain(table, w, bytes, words, numbers, sums)
 }
@@ -200,23 +199,22 @@ fn take(
     if !room_for(turns, head_at(&*words, BUSY), holds, w as usize) {
         return refused(32);
     }
-    if holds {
-        return go_on(table, w, bytes, words, numbers, sums);
+    if !holds {
+        if 16 <= c {
+            return refused(32);
+        }
+        let b = bottom_at(&*words, c as usize);
+        if !is_ready(&*bytes, b) {
+            count(sums);
+            return refused(0);
+        }
+        let actions = bodies(table, threads(table));
+        if !action_fits(actions, b, &*bytes, &*words, &*sums) {
+            return refused(32);
+        }
+        lengths(&*bytes, &*words, &*numbers);
+        steal(b, w as usize, bytes, words, numbers);
     }
-    if 16 <= c {
-        return refused(32);
-    }
-    let b = bottom_at(&*words, c as usize);
-    if !is_ready(&*bytes, b) {
-        count(sums);
-        return refused(0);
-    }
-    let actions = bodies(table, threads(table));
-    if !action_fits(actions, b, &*bytes, &*words, &*sums) {
-        return refused(32);
-    }
-    lengths(&*bytes, &*words, &*numbers);
-    steal(b, w as usize, bytes, words, numbers);
     go_on(table, w, bytes, words, numbers, sums)
 }
 

@@ -4,6 +4,7 @@ use Prim.Native.Nat.{ℕ, _+_, _<_}
 use native.Mathlib.Omega.{arith}
 use mathlib.Core.List.{List}
 use mathlib.Core.Bool.{true, false}
+use mathlib.Core.Logic.{⊎-elim}
 use borrow.Author.Tests.{not-true, not-false}
 use denote.Ref.{now}
 use lib.ListN.{length}
@@ -43,8 +44,8 @@ room : (e : tie.Else1) → Roomy (start (from (e .before))) (from (e .before) .a
 room e = roomy (start (from (e .before))) (from (e .before) .args .w) (not-false _ (e .if1 .left)) (asked (e .before))
 
 -- the worker holds nothing
-empty : (o : tie.Else2) → let d = from (o .before .before) in workerIn (start d) (d .args .w) .holds ≡ false
-empty o = sym (holding (o .before .before) .holds-at .ensures) ∙ o .if2 .left
+empty : (o : tie.Then2) → let d = from (o .before .before) in workerIn (start d) (d .args .w) .holds ≡ false
+empty o = sym (holding (o .before .before) .holds-at .ensures) ∙ not-true _ (o .if2 .taken)
 
 -- the bottom was found ready, and its action looked at
 abbrev there : tie.After-action-fits → tie.After-is-ready
@@ -56,7 +57,7 @@ bottom f = there f .before .before
 abbrev placed : tie.After-action-fits → tie.Else3
 placed f = bottom f .before .before
 
-abbrev opened : tie.After-action-fits → tie.Else2
+abbrev opened : tie.After-action-fits → tie.Then2
 opened f = placed f .before
 
 is-there : (f : tie.After-action-fits) → there f .is-ready .result ≡ true
@@ -73,17 +74,8 @@ fits-as f =
 abbrev tested : tie.After-steal-arg3 → tie.After-action-fits
 tested x = x .before .before .before .before .before .before .before .before .before .before .before
 
-fitting : (x : tie.After-steal-arg3) → tested x .action-fits .result ≡ true
-fitting x = not-false _ (x .before .before .before .before .before .before .before .before .before .before .if5 .left)
-
 sixteen : (at : ℕ) (l : List ℕ) {n : ℕ} → length l ≡ n → at + 16 < n + 1 → length (part at 16 l) ≡ 16
 sixteen at l {n} e h = part-length at 16 l (omega (arith, e, h))
-
-long : (x : tie.After-steal-arg3) → let M = start (from (opened (tested x) .before .before)) in (length (M .holds) ≡ 16) × ((length (M .threads) ≡ 16) × (length (M .quotas) ≡ 16))
-long x =
-    let e = x .before .before .before .lengths .ensures in
-    let d = from (opened (tested x) .before .before) in
-    (sixteen 1024 (now (d .args .bytes)) (e .0) (omega arith), (sixteen 6144 (now (d .args .words)) (e .1 .0) (omega arith), sixteen 2 (now (d .args .numbers)) (e .1 .1) (omega arith)))
 
 total-at-requires : tie.Need-total-at-requires
 total-at-requires c κs = search needs
@@ -106,26 +98,11 @@ returns c =
     let d = from r in
     spoke (c .refused .ensures) (without-room (table-of d) (d .args .w) (d .args .c) (start d) (not-true _ (c .before .if1 .taken)) (asked r))
 
-go-on-requires : tie.Need-go-on-requires
-go-on-requires c κs =
-    let t = c .before .before .before .before in
-    let e = t .before in
-    let r = e .before in
-    record {
-      few = room e .few;
-      holds = sym (holding r .holds-at .ensures) ∙ t .if2 .taken;
-      room = room e .turns;
-      free = from r .pre;
-    }
-
-returns-2 : tie.Need-returns-2
-returns-2 c = c .go-on .ensures (from (c .before .before .before .before .before .before .before) .args .c)
-
 refused-requires-2 : tie.Need-refused-requires-2
 refused-requires-2 c κs = search needs
 
-returns-3 : tie.Need-returns-3
-returns-3 c =
+returns-2 : tie.Need-returns-2
+returns-2 c =
     let t = c .before in
     let o = t .before in
     let d = from (o .before .before) in
@@ -143,8 +120,8 @@ count-requires c κs = room (c .before .before .before .before .before .before .
 refused-requires-3 : tie.Need-refused-requires-3
 refused-requires-3 c κs = search needs
 
-returns-4 : tie.Need-returns-4
-returns-4 c =
+returns-3 : tie.Need-returns-3
+returns-3 c =
     let n = c .before in
     let t = n .before .before in
     let i = t .before in
@@ -173,8 +150,8 @@ action-fits-requires c κs =
 refused-requires-4 : tie.Need-refused-requires-4
 refused-requires-4 c κs = search needs
 
-returns-5 : tie.Need-returns-5
-returns-5 c =
+returns-4 : tie.Need-returns-4
+returns-4 c =
     let t = c .before in
     let f = t .before in
     let d = from (opened f .before .before) in
@@ -190,25 +167,48 @@ steal-requires c κs =
     let o = opened f in
     (room (o .before) .few, (empty o, room (o .before) .bit (empty o)))
 
-go-on-requires-2 : tie.Need-go-on-requires-2
-go-on-requires-2 c κs =
-    let z = c .before .before .before .before in
-    let x = z .before in
-    let f = tested x in
-    let d = from (opened f .before .before) in
-    subst (λ (X : Memory). Going X (d .args .w)) (sym (z .steal .ensures (sumsIn (now (d .args .sums)))))
-    (stolen-going (table-of d) (d .args .w) (d .args .c) (start d) (room (opened f .before)) (empty (opened f)) (placed f .if3 .left) (bottom f .bottom-at .ensures) (there f .is-ready .ensures) (is-there f) (fits-as f) (fitting x) (long x .0) (long x .1 .0)
-    (long x .1 .1) (d .pre))
+-- where the ways of a worker that came with a thread and of one that stole meet: the turn goes on as that of a holder, and comes to the same
+abbrev met : tie.Joined2 → Memory
+met m = memoryOf (m .if2 .bytes) (m .if2 .words) (m .if2 .numbers) (now (from (m .before .before) .args .sums))
 
-returns-6 : tie.Need-returns-6
-returns-6 c =
-    let z = c .before .before .before .before .before in
-    let x = z .before in
-    let f = tested x in
-    let d = from (opened f .before .before) in
-    c .go-on2 .ensures (d .args .c) ∙ ap (dequeTakenIn (table-of d) (d .args .w) (d .args .c)) (z .steal .ensures (sumsIn (now (d .args .sums))))
-    ∙ steals (table-of d) (d .args .w) (d .args .c) (start d) (room (opened f .before)) (empty (opened f)) (placed f .if3 .left) (bottom f .bottom-at .ensures) (there f .is-ready .ensures) (is-there f) (fits-as f) (fitting x) (long x .0) (long x .1 .0)
-    (long x .1 .1)
+seated : (m : tie.Joined2) → let d = from (m .before .before) in Going (met m) (d .args .w) × (dequeTakenIn (table-of d) (d .args .w) (d .args .c) (met m) ≡ dequeTakenIn (table-of d) (d .args .w) (d .args .c) (start d))
+seated m =
+    let e = m .before in
+    let r = e .before in
+    let d = from r in
+    let s = table-of d in
+    let w = d .args .w in
+    let v = d .args .c in
+    let S = now (d .args .sums) in
+    ⊎-elim
+    (λ z.
+    let none = sym (holding r .holds-at .ensures) ∙ not-true _ (z .0 .taken) in
+    let n = z .7 .ensures .value in
+    let fits = z .12 .ensures (tableOf s) (numbersIn (now (d .args .numbers))) (codes s (z .8 .ensures) n) (arguments s (z .8 .ensures) n) in
+    let l = z .20 .ensures in
+    let h1 = sixteen 1024 (now (d .args .bytes)) (l .0) (omega arith) in
+    let h2 = sixteen 6144 (now (d .args .words)) (l .1 .0) (omega arith) in
+    let h3 = sixteen 2 (now (d .args .numbers)) (l .1 .1) (omega arith) in
+    let left = (λ i. memoryOf (z .25 i) (z .26 i) (z .27 i) S) ∙ z .24 .ensures (sumsIn S) in (
+      subst (λ (X : Memory). Going X w) (sym left)
+          (stolen-going s w v (start d) (room e) none (z .1 .left) (z .3 .ensures) (z .5 .ensures) (not-false _ (z .6 .left)) fits (not-false _ (z .13 .left)) h1 h2 h3 (d .pre)),
+      ap (dequeTakenIn s w v) left ∙ steals s w v (start d) (room e) none (z .1 .left) (z .3 .ensures) (z .5 .ensures) (not-false _ (z .6 .left)) fits (not-false _ (z .13 .left)) h1 h2 h3,
+    ))
+    (λ z.
+    let same : met m ≡ start d = λ i. memoryOf (z .1 i) (z .2 i) (z .3 i) S in (
+      subst (λ (X : Memory). Going X w) (sym same)
+          (record { few = room e .few; holds = sym (holding r .holds-at .ensures) ∙ not-false _ (z .0 .left); room = room e .turns; free = d .pre }),
+      ap (dequeTakenIn s w v) same,
+    ))
+    (m .if2 .came)
+
+go-on-requires : tie.Need-go-on-requires
+go-on-requires c κs = seated (c .before .before .before .before) .0
+
+returns-5 : tie.Need-returns-5
+returns-5 c =
+    let m = c .before .before .before .before .before in
+    c .go-on .ensures (from (m .before .before) .args .c) ∙ seated m .1
 
 pub take-spec : {M : Type 1} → statement M
 take-spec =
@@ -220,21 +220,19 @@ take-spec =
     room-for-requires
     refused-requires
     returns
-    go-on-requires
-    returns-2
     refused-requires-2
-    returns-3
+    returns-2
     bottom-at-requires
     is-ready-requires
     count-requires
     refused-requires-3
-    returns-4
+    returns-3
     threads-requires
     bodies-requires
     action-fits-requires
     refused-requires-4
-    returns-5
+    returns-4
     lengths-requires
     steal-requires
-    go-on-requires-2
-    returns-6)
+    go-on-requires
+    returns-5)
