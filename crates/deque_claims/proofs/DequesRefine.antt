@@ -21,6 +21,7 @@ use Rattle.run_memory.specs.Memory.{Memory}
 use Rattle.wivakkol.specs.Lent.{lentBegin}
 use Rattle.wivakkol.proofs.RunAnswers.{valuesRun}
 use Rattle.deques.specs.declared.DequeRun.{DequeRun}
+use Rattle.deques.specs.declared.DequeBegun.{DequeBegun}
 use Rattle.deques.specs.declared.DequeTurning.{DequeTurning}
 use Rattle.deques.specs.DequeTurn.{unsoundDeques, noChoice, dequeChecks, stepDeques, dequeTurnedAs, dequeTurned}
 use Rattle.deques.specs.DequeRuns.{pair, pairAt, pairsRun}
@@ -46,6 +47,9 @@ module _ (s : List ℕ) (p K room : ℕ) (e : lentBegin s p K room .number ≡ 0
   pub begun-deques-there : dequeBegin s p K ≡ record { answer = started; run = dequeRunIn (filledOut s K) (lentBegin s p K room .memory) }
   begun-deques-there =
       deque-begun-so s p K (found-none s p K room e) ∙ ap (λ (M : Memory). record { answer = started; run = dequeRunIn (filledOut s K) M }) (sym (memory-so s p K room e))
+
+  pub begun-deques-record : dequeBegin s p K ≡ record { answer = started; run = dequeBegin s p K .run }
+  begun-deques-record = begun-deques-there ∙ (λ i. record { answer = started; run = sym (ap (λ (x : DequeBegun). x .run) begun-deques-there) i })
 
 -- ---- the row of turns
 

@@ -1,11 +1,14 @@
 -- The calls of DFDeques from C. A history is a list of calls, each on the memory that the last one left, of which nothing is known but what the functions' own promises say (DequeSays).
 -- `deque-history-is`: the memory, what was returned and the row of pairs are those of the definitions. `deque-history-exists`: every list of calls has one, on memory whose rows have the lengths
 -- of the parts; `begun-history-exists`: and so on the memory that any beginning left. `stands-code-refines`: on memory where a record stands it is those calls on the record, answers included;
--- `begun-code-refines`: and so from a beginning that answered 0. (From an opening on: Opened.)
+-- `begun-code-refines`: and so from a beginning that answered 0; `begun-code-deques`: its deques are those after the turns of the row; `begun-code-once`, `begun-code-owns` and
+-- `begun-code-manned`: the partition and the ownership of N13. (From an opening on: Opened.)
 use mathlib.Core.Path.{_≡_, refl, sym, ap, ap₂, subst, _∙_}
-use Prim.Native.Nat.{ℕ}
-use mathlib.Core.List.{List, [], _∷_, _++_}
+use Prim.Native.Nat.{ℕ, _<_}
+use mathlib.Core.List.{List, [], _∷_, _++_, List·Memᴰ}
 use lib.ListN.{length}
+use Rattle.table.specs.Format.{tableOf}
+use Rattle.schedule.specs.Record.{maxWorkers, tableIn}
 use Rattle.filling.specs.Filled.{filledOut}
 use Rattle.soundness.specs.Tested.{begunInto}
 use Rattle.run_memory.specs.Memory.{Memory, Answer}
@@ -13,9 +16,14 @@ use Rattle.run_memory.specs.Blocks.{memoryOf}
 use Rattle.wivakkol.specs.Lent.{lentBegin}
 use Rattle.deques.specs.declared.DequeRun.{DequeRun}
 use Rattle.deques.specs.declared.DequeBegun.{DequeBegun}
+use Rattle.deques.specs.Deques.{Deque, startDeques}
+use Rattle.deques.specs.Partition.{ownedBy, holdsAt, placesOf, Manned}
+use Rattle.deques.specs.DequeRecord.{dequesIn, dequesOf}
 use Rattle.deques.specs.DequeRuns.{Pair}
 use Rattle.deques.specs.DequeBegin.{dequeBegin}
-use Rattle.deques.specs.DequeCalls.{turn, overPairs, afterDequeCalls, pairsOfCalls}
+use Rattle.deques.specs.DequeCalls.{turn, overPairs, afterDequeCalls, pairsOfCalls, rowDeques}
+use Rattle.deques.proofs.DequeHistories.{deque-calls-traced}
+use Rattle.deques.proofs.DequeSoundness.{thread-once, owns-one, owner-or-thread}
 use Rattle.stealing.specs.StealingMemory.{dequeRunIn, DequesStand}
 use Rattle.claims.specs.LentCalls.{tableThatRuns, Returned, returned}
 use Rattle.claims.proofs.Shaped.{Shaped, blocks-shaped}
@@ -23,7 +31,7 @@ use Rattle.claims.proofs.Sizes.{begin-shaped}
 use Rattle.claims.proofs.LentSays.{BeginSays, begin-is, begin-says}
 use Rattle.claims.proofs.FromC.{runs-so}
 use Rattle.deque_claims.specs.LentDequeCalls.{LentDequeCall, moving, opening, lentDequeMove, lentDequeCall, lentPairsOf, lentDequesAfter, lentPairs, lentDequesReturned, dequeMovesOf, dequesReturnedBy}
-use Rattle.deque_claims.proofs.DequesRefine.{begun-deques-stand, begun-deques-there, deque-calls-refine}
+use Rattle.deque_claims.proofs.DequesRefine.{begun-deques-stand, begun-deques-there, begun-deques-record, deque-calls-refine}
 use Rattle.deque_claims.proofs.DequeSizes.{deque-call-shaped}
 use Rattle.deque_claims.proofs.DequeSays.{TurnSays, ListSays, OpenSays, turn-is, list-is, open-is, turn-says, list-says, open-says}
 
@@ -137,3 +145,24 @@ module _ {s : List ℕ} {p K : ℕ} {out filled : List ℕ} {a : Answer} (h : Be
       ap (λ (x : Answer). dequeRunIn F (x .memory)) (begin-is h) ∙ ap (λ (x : DequeBegun). x .run) (sym (begun-deques-there s p K (length out) begun)) in
       subst (λ (u : List ℕ). CodeRefines u (dequeBegin s p K .run) l answers row M) (sym (runs-so h e))
       (subst (λ (x : DequeRun). CodeRefines F x l answers row M) r (stands-code-refines there over-filled))
+
+  -- the record left
+  abbrev left : DequeRun
+  left = dequeRunIn (tableThatRuns s a filled) M
+
+  -- its deques are those after the turns of the row, each as defined
+  pub begun-code-deques : dequesOf left ≡ rowDeques (tableOf F) K (startDeques (tableOf F)) row
+  begun-code-deques =
+      ap dequesOf (begun-code-refines .record-after)
+      ∙ deque-calls-traced s p K (dequeBegin s p K .run) (begun-deques-record s p K (length out) begun) (dequeMovesOf l) .deques
+      ∙ ap (rowDeques (tableOf F) K (startDeques (tableOf F))) (sym (begun-code-refines .row-is))
+
+  -- the partition and the ownership of N13
+  pub begun-code-once : (u : ℕ) → u < tableIn (left .run) .threads → placesOf (left .run .status) (dequesIn left) u ≡ 1
+  begun-code-once = thread-once left (begun-code-refines .stands .steady)
+
+  pub begun-code-owns : (w : ℕ) → w < maxWorkers → ownedBy w (dequesIn left) ≡ holdsAt (left .run .worker) w
+  begun-code-owns = owns-one left (begun-code-refines .stands .steady)
+
+  pub begun-code-manned : (d : Deque) → List·Memᴰ d (dequesIn left) → Manned d
+  begun-code-manned = owner-or-thread left (begun-code-refines .stands .steady)
