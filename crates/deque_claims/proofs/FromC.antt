@@ -2,7 +2,7 @@
 -- `deque-history-is`: the memory, what was returned and the row of pairs are those of the definitions. `deque-history-exists`: every list of calls has one, on memory whose rows have the lengths
 -- of the parts; `begun-history-exists`: and so on the memory that any beginning left. `stands-code-refines`: on memory where a record stands it is those calls on the record, answers included;
 -- `begun-code-refines`: and so from a beginning that answered 0; `begun-code-deques`: its deques are those after the turns of the row; `begun-code-once`, `begun-code-owns` and
--- `begun-code-manned`: the partition and the ownership of N13. (From an opening on: Opened.)
+-- `begun-code-in-use`: the partition and the ownership of N13. (From an opening on: Opened.)
 use mathlib.Core.Path.{_≡_, refl, sym, ap, ap₂, subst, _∙_}
 use Prim.Native.Nat.{ℕ, _<_}
 use mathlib.Core.List.{List, [], _∷_, _++_, List·Memᴰ}
@@ -17,7 +17,7 @@ use Rattle.wivakkol.specs.Lent.{lentBegin}
 use Rattle.deques.specs.declared.DequeRun.{DequeRun}
 use Rattle.deques.specs.declared.DequeBegun.{DequeBegun}
 use Rattle.deques.specs.Deques.{Deque, startDeques}
-use Rattle.deques.specs.Partition.{ownedBy, holdsAt, placesOf, Manned}
+use Rattle.deques.specs.Partition.{ownedBy, holdsAt, placesOf, InUse}
 use Rattle.deques.specs.DequeRecord.{dequesIn, dequesOf}
 use Rattle.deques.specs.DequeRuns.{Pair}
 use Rattle.deques.specs.DequeBegin.{dequeBegin}
@@ -164,5 +164,5 @@ module _ {s : List ℕ} {p K : ℕ} {out filled : List ℕ} {a : Answer} (h : Be
   pub begun-code-owns : (w : ℕ) → w < maxWorkers → ownedBy w (dequesIn left) ≡ holdsAt (left .run .worker) w
   begun-code-owns = owns-one left (begun-code-refines .stands .steady)
 
-  pub begun-code-manned : (d : Deque) → List·Memᴰ d (dequesIn left) → Manned d
-  begun-code-manned = owner-or-thread left (begun-code-refines .stands .steady)
+  pub begun-code-in-use : (d : Deque) → List·Memᴰ d (dequesIn left) → InUse d
+  begun-code-in-use = owner-or-thread left (begun-code-refines .stands .steady)
