@@ -80,6 +80,20 @@ extern "C" {
 #define WIVAKKOL_LIMIT 1 /* L, 1 to 262,144 */
 #define WIVAKKOL_MOST_ROW 2
 
+/* The row of wivakkol_limit. */
+#define WIVAKKOL_LIMIT_MEMORY 1   /* the useful limit: no run with these p, K and b holds more */
+#define WIVAKKOL_LIMIT_SERIAL 2   /* S1 */
+#define WIVAKKOL_LIMIT_PEAK 3     /* S_p: no run of p workers holds more, whatever K and b */
+#define WIVAKKOL_LIMIT_PARALLEL 4 /* the parallel peak: no run holds more, whatever p */
+#define WIVAKKOL_LIMIT_STRETCH 5  /* the most that a stretch draws under K */
+#define WIVAKKOL_LIMIT_ROW 6
+
+/* The row of wivakkol_fit. */
+#define WIVAKKOL_FIT_FITS 1   /* 1, or 0 where no quota fits */
+#define WIVAKKOL_FIT_QUOTA 2  /* K, the largest that fits; or the least of those that need the least */
+#define WIVAKKOL_FIT_MEMORY 3 /* the useful limit with this K */
+#define WIVAKKOL_FIT_ROW 4
+
 /* Working memory of the calls on tables, which C lends; it keeps nothing from one call to the next. wivakkol_check and wivakkol_quota use `rises`, `falls`, `peaks` and `depths`, wivakkol_most
  * `rises` and `falls`; `names` and `order` are for wivakkol_tables.h. What a call uses of it is all 0 afterwards, also where it refuses.
  *
@@ -94,14 +108,33 @@ typedef struct wivakkol_tables_work {
     uint16_t order[WIVAKKOL_MOST_THREADS];
 } wivakkol_tables_work;
 
-/* The calls as they are exported, on each array by itself. Below are those for a wivakkol_tables_work, which keep to what these ask for: each array has its full size, is aligned for its
- * numbers and never NULL, overlaps no other array of the call and was written before. */
+/* Working memory of wivakkol_limit and wivakkol_fit, for which C must keep to the same. All of it is 0 afterwards, also where they refuse. `peaks` has 17 numbers for each thread, and `rows` 17
+ * for each open child. */
+#define WIVAKKOL_PEAKS 17408
+
+typedef struct wivakkol_limit_work {
+    uint64_t rises[WIVAKKOL_MOST_THREADS];
+    uint64_t falls[WIVAKKOL_MOST_THREADS];
+    uint64_t serials[WIVAKKOL_MOST_THREADS];
+    uint16_t depths[WIVAKKOL_MOST_THREADS];
+    uint64_t peaks[WIVAKKOL_PEAKS];
+    uint64_t rows[WIVAKKOL_PEAKS];
+} wivakkol_limit_work;
+
+/* The calls as they are exported, on each array by itself. Below are those for a wivakkol_tables_work or a wivakkol_limit_work, which keep to what these ask for: each array has its full size, is
+ * aligned for its numbers and never NULL, overlaps no other array of the call and was written before. */
 uint32_t wivakkol_check_on(const uint8_t *table, size_t length, uint64_t row[WIVAKKOL_CHECK_ROW], uint64_t rises[1024], uint64_t falls[1024],
                            uint64_t peaks[1024], uint16_t depths[1024]);
 uint32_t wivakkol_quota_on(const uint8_t *table, size_t length, uint32_t p, uint32_t b, uint64_t memory, uint64_t row[WIVAKKOL_QUOTA_ROW],
                            uint64_t rises[1024], uint64_t falls[1024], uint64_t peaks[1024], uint16_t depths[1024]);
 uint32_t wivakkol_most_on(const uint8_t *table, size_t length, uint32_t p, uint32_t quota, uint64_t row[WIVAKKOL_MOST_ROW], uint64_t rises[1024],
                           uint64_t falls[1024]);
+uint32_t wivakkol_limit_on(const uint8_t *table, size_t length, uint32_t p, uint32_t quota, uint32_t b, uint64_t row[WIVAKKOL_LIMIT_ROW],
+                           uint64_t rises[1024], uint64_t falls[1024], uint64_t serials[1024], uint16_t depths[1024], uint64_t peaks[17408],
+                           uint64_t rows[17408], uint8_t *filled, size_t room);
+uint32_t wivakkol_fit_on(const uint8_t *table, size_t length, uint32_t p, uint32_t b, uint64_t memory, uint64_t row[WIVAKKOL_FIT_ROW],
+                         uint64_t rises[1024], uint64_t falls[1024], uint64_t serials[1024], uint16_t depths[1024], uint64_t peaks[17408],
+                         uint64_t rows[17408]);
 
 /* Is this a job table, and what are its facts? Returns 0, or 1 to 11: the first check that refuses it. */
 static inline uint32_t wivakkol_check(wivakkol_tables_work *work, const uint8_t *table, size_t length, uint64_t row[WIVAKKOL_CHECK_ROW])
@@ -125,6 +158,26 @@ static inline uint32_t wivakkol_most(wivakkol_tables_work *work, const uint8_t *
                                      uint64_t row[WIVAKKOL_MOST_ROW])
 {
     return wivakkol_most_on(table, length, p, quota, row, work->rises, work->falls);
+}
+
+/* The useful limit of the table that runs with p workers and quota K, filled out where an alloc is above K: the least of S1 + b*K*(p - 1)*(D - 1) (for b 1 or more; b 0 says nothing of the
+ * turns between two of a worker), of S_p and, where K covers every stretch, of the peak over resting places (docs/REFERENCE.md). No run that begins with these p and K holds more, as long as no
+ * worker has more than b turns between two of another. The row has with it S1, S_p, the parallel peak and the largest draw of a stretch under K. `filled` is used as in wivakkol_begin.
+ *
+ * Returns 0, or the first check that refuses: 1 to 11, the table's own; 20, p is not 1 to 16; 41, b is above 65,535; 21, K is not 1 to 16,777,215; 44, the filled-out table would pass 1,024
+ * threads or 8,192 actions; 61, it has more bytes than `room`, which never comes with a room of WIVAKKOL_TABLE_MOST bytes. Where it refuses, `filled` is as it was. */
+static inline uint32_t wivakkol_limit(wivakkol_limit_work *work, const uint8_t *table, size_t length, uint32_t p, uint32_t quota, uint32_t b,
+                                      uint8_t *filled, size_t room, uint64_t row[WIVAKKOL_LIMIT_ROW])
+{
+    return wivakkol_limit_on(table, length, p, quota, b, row, work->rises, work->falls, work->serials, work->depths, work->peaks, work->rows, filled, room);
+}
+
+/* The largest quota, from the table's largest alloc (1 if it has none) up to 16,777,215, whose useful limit with p and b is at most `memory`, and that limit; where there is none, the least that
+ * any quota in that range needs, and the least such quota. Returns 0, or the first check that refuses: 1 to 11, the table's own; 20, p is not 1 to 16; 41, b is above 65,535. */
+static inline uint32_t wivakkol_fit(wivakkol_limit_work *work, const uint8_t *table, size_t length, uint32_t p, uint32_t b, uint64_t memory,
+                                    uint64_t row[WIVAKKOL_FIT_ROW])
+{
+    return wivakkol_fit_on(table, length, p, b, memory, row, work->rises, work->falls, work->serials, work->depths, work->peaks, work->rows);
 }
 
 /* ---- A run */

@@ -1,7 +1,8 @@
 /* The calls of wivakkol.h on cases from standard input, for tests/board.py; all numbers are little-endian.
  *
  * Without an argument a case is the table's length, p and b (4 bytes each), M (8), K (4) and the table. For each a line: of wivakkol_check, wivakkol_quota and wivakkol_most the number, the
- * row and a number for each field of the working memory, as below. With the argument `runs` the first line has the size of a wivakkol_run and where its blocks stand. A case is then its length (4) and steps on one run's memory:
+ * row and a number for each field of the working memory, as below. With the argument `limits` a case has the room for the filled-out table (4) after K, and its line wivakkol_limit, with a
+ * checksum of the room, which held the paint, and wivakkol_fit. With the argument `runs` the first line has the size of a wivakkol_run and where its blocks stand. A case is then its length (4) and steps on one run's memory:
  *   t LENGTH TABLE     the table from now on
  *   m AT LENGTH BYTES  these bytes stand in the run's memory
  *   b P K ROOM         wivakkol_begin, with so much room for the filled-out table; where that is filled out, it is the table from now on
@@ -55,12 +56,15 @@ static struct {
     uint64_t above[FENCES];
     wivakkol_tables_work tables;
     uint64_t last[FENCES];
+    wivakkol_limit_work limits;
+    uint64_t behind[FENCES];
 } lent;
 
 static struct {
     wivakkol_run run;
     wivakkol_work work;
     wivakkol_tables_work tables;
+    wivakkol_limit_work limits;
 } before;
 
 static void fail(const char *what)
@@ -82,6 +86,16 @@ static void quota(void)
 static void most_turns(void)
 {
     call.number = wivakkol_most(&lent.tables, call.table, call.length, call.p, call.quota, call.row + 1);
+}
+
+static void limit(void)
+{
+    call.number = wivakkol_limit(&lent.limits, call.table, call.length, call.p, call.quota, call.b, call.filled, call.room, call.row + 1);
+}
+
+static void fit(void)
+{
+    call.number = wivakkol_fit(&lent.limits, call.table, call.length, call.p, call.b, call.memory, call.row + 1);
 }
 
 static void begin(void)
@@ -184,7 +198,7 @@ static void make(void (*f)(void), size_t entries, size_t *most)
     if (call.line[0] != PAINT || call.line[WIVAKKOL_LINE + 1] != PAINT)
         fail("written outside the line");
     for (i = 0; i < FENCES; i++)
-        if (lent.below[i] != FENCE || lent.between[i] != FENCE || lent.above[i] != FENCE || lent.last[i] != FENCE)
+        if (lent.below[i] != FENCE || lent.between[i] != FENCE || lent.above[i] != FENCE || lent.last[i] != FENCE || lent.behind[i] != FENCE)
             fail("written outside the run or the working memory");
 }
 
@@ -309,6 +323,64 @@ static void tables(void)
         printf("\n");
     }
     printf("stack %zu %zu %zu\n", most[0] - around(), most[1] - around(), most[2] - around());
+}
+
+#define PRINT_LIMIT_LEFT(field) printf(" %d", left(lent.limits.field, before.limits.field, sizeof lent.limits.field))
+
+static void on_limits(void (*f)(void), size_t entries, size_t *most)
+{
+    size_t i;
+
+    noise(&lent.limits, sizeof lent.limits);
+    before.limits = lent.limits;
+    make(f, entries, most);
+    printf("%" PRIu32, call.number);
+    for (i = 1; i <= entries; i++)
+        printf(" %" PRIu64, call.row[i]);
+    PRINT_LIMIT_LEFT(rises), PRINT_LIMIT_LEFT(falls), PRINT_LIMIT_LEFT(serials), PRINT_LIMIT_LEFT(depths), PRINT_LIMIT_LEFT(peaks), PRINT_LIMIT_LEFT(rows);
+}
+
+/* CRC-32. */
+static uint32_t checksum(const uint8_t *bytes, size_t size)
+{
+    uint32_t sum = UINT32_MAX;
+    size_t i;
+    int bit;
+
+    for (i = 0; i < size; i++)
+        for (sum ^= bytes[i], bit = 0; bit < 8; bit++)
+            sum = sum >> 1 ^ (sum & 1 ? UINT32_C(0xedb88320) : 0);
+    return ~sum;
+}
+
+static void limits(void)
+{
+    uint8_t front[28];
+    size_t i, most[2] = {0, 0};
+
+    while (got(front, sizeof front)) {
+        uint8_t *at = place_table((uint32_t)little(front, 4));
+        call.p = (uint32_t)little(front + 4, 4);
+        call.b = (uint32_t)little(front + 8, 4);
+        call.memory = little(front + 12, 8);
+        call.quota = (uint32_t)little(front + 20, 4);
+        call.room = (uint32_t)little(front + 24, 4);
+        if (call.length != 0 && !got(at, call.length))
+            fail("a case is cut off");
+        if (call.room > ROOM - FENCES)
+            fail("too much room");
+        close_room(memory);
+        call.filled = place(fillings, call.room);
+        memset(fillings, PAINT, ROOM);
+        on_limits(limit, WIVAKKOL_LIMIT_ROW, &most[0]);
+        for (i = 1; i <= FENCES; i++)
+            if (call.filled[-(ptrdiff_t)i] != PAINT)
+                fail("written below the room");
+        printf(" %" PRIu32 " ", checksum(call.filled, call.room));
+        on_limits(fit, WIVAKKOL_FIT_ROW, &most[1]);
+        printf("\n");
+    }
+    printf("stack %zu %zu\n", most[0] - around(), most[1] - around());
 }
 
 static void put(const void *bytes, size_t size)
@@ -502,12 +574,14 @@ int main(int argc, char **argv)
     if (stack == NULL || steps == NULL)
         fail("no memory");
     for (i = 0; i < FENCES; i++)
-        lent.below[i] = lent.between[i] = lent.above[i] = lent.last[i] = FENCE;
+        lent.below[i] = lent.between[i] = lent.above[i] = lent.last[i] = lent.behind[i] = FENCE;
     if (argc == 1)
         tables();
     else if (argc == 2 && strcmp(argv[1], "runs") == 0)
         runs();
+    else if (argc == 2 && strcmp(argv[1], "limits") == 0)
+        limits();
     else
-        fail("the only argument there is: runs");
+        fail("the only arguments there are: limits, runs");
     return 0;
 }

@@ -1,4 +1,4 @@
-"""Builds tests/board.c and examples/board.c on the archives for C, calls them on random and damaged tables and runs, and compares with reference.py, quota.py, most.py, machine.py and lent.py, which
+"""Builds tests/board.c and examples/board.c on the archives for C, calls them on random and damaged tables and runs, and compares with reference.py, quota.py, most.py, limits.py, fitting.py, machine.py and lent.py, which
 were written on their own. Holds the header against the source, since nothing else would say where they differ.
 
 usage: python3 tests/board.py [COUNT]
@@ -13,6 +13,7 @@ import shutil
 import subprocess
 import sys
 
+import board_limits
 import board_runs
 import lent
 import machine
@@ -119,13 +120,14 @@ def header_is_source():
         for name, kind, size in [*whole, *((WORK_NAMES.get(name, name), kind, size) for name, kind, size in work)]:
             assert taken.get(name, (kind, size)) == (kind, size), 'wivakkol_%s_on: %s' % (call, name)
         inline_hands_over(text, call, result, parameters, {**places, **work_places})
-    tables_work = fields(text, 'tables_work')
-    for call in NUMBERS:
-        result, *parameters = source[call + '_on']
-        taken = {name: (kind, size) for name, kind, size in parameters}
-        assert all(taken.get(name, (kind, size)) == (kind, size) for name, kind, size in tables_work), '%s_on: the working memory' % call
-        inline_on_table(text, call, result, parameters, {name: 'work->' + name for name, _, _ in tables_work})
-    assert set(source) == {*(call + '_on' for call in NUMBERS), *('wivakkol_%s_on' % call for call in RUN_CALLS)}
+    for calls, struct in (NUMBERS, 'tables_work'), (board_limits.NUMBERS, 'limit_work'):
+        lent_work = fields(text, struct)
+        for call in calls:
+            result, *parameters = source[call + '_on']
+            taken = {name: (kind, size) for name, kind, size in parameters}
+            assert all(taken.get(name, (kind, size)) == (kind, size) for name, kind, size in lent_work), '%s_on: the working memory' % call
+            inline_on_table(text, call, struct, result, parameters, {name: 'work->' + name for name, _, _ in lent_work})
+    assert set(source) == {*(call + '_on' for call in [*NUMBERS, *board_limits.NUMBERS]), *('wivakkol_%s_on' % call for call in RUN_CALLS)}
 
 
 def places_are_named():
@@ -149,9 +151,9 @@ def inline_hands_over(text, call, result, parameters, places):
     assert (const is None, work is not None) == ('run' in written, 'work' in written), 'wivakkol_%s: what is written of the run and the working memory' % call
 
 
-def inline_on_table(text, call, result, parameters, places):
-    """Likewise the call for a wivakkol_tables_work."""
-    inline = re.search(r'static inline (\w+) %s\(wivakkol_tables_work \*work, ([^)]*)\)\s*\{\s*return %s_on\(([^)]*)\);\s*\}' % (call, call), text).groups()
+def inline_on_table(text, call, struct, result, parameters, places):
+    """Likewise the call for working memory alone."""
+    inline = re.search(r'static inline (\w+) %s\(wivakkol_%s \*work, ([^)]*)\)\s*\{\s*return %s_on\(([^)]*)\);\s*\}' % (call, struct, call), text).groups()
     hands_over(call, inline, result, parameters, places)
 
 
@@ -261,6 +263,8 @@ def main():
         given = ', '.join('%d: %d' % pair for pair in sorted(counter.items()))
         print('%s: %d of %d agree (by number: %s)' % (name, sum(counter.values()), len(drawn), given))
     print('examples/board.c: %d of %d agree' % (len(some), len(some)))
+    limit_stacks = board_limits.compare(program, drawn[3:], count)
+    assert max(limit_stacks) < STACK_MOST, 'a call on limits took more stack than it may: %s' % limit_stacks
     kinds, stacks = board_runs.compare(program, 21, [case.data for case in drawn[:3]], count // 2)
     for kind, counter in kinds.items():
         calls = [sum(counter['%s %d' % (call, x)] for x in numbers) for call, numbers in board_runs.NUMBERS.items()]
@@ -268,7 +272,7 @@ def main():
         print('%s memory: %d runs agree, of %d beginnings, %d openings, %d turns, %d lists, %d rounds, %d previews and %d lines (%s)' % (kind, counter['runs'], *calls, told))
     missing = [what for what in board_runs.WANTED if not any(counter[what] for counter in kinds.values())]
     assert not missing or count < 1000, 'no run reached %s' % ', '.join(missing)
-    print('most stack of %s, in bytes: %s' % (', '.join(['check', 'quota', 'most', *RUN_CALLS]), ' '.join([*last.split()[1:], *map(str, stacks)])))
+    print('most stack of %s, in bytes: %s' % (', '.join(['check', 'quota', 'most', 'limit', 'fit', *RUN_CALLS]), ' '.join([*last.split()[1:], *map(str, limit_stacks + stacks)])))
 
 
 if __name__ == '__main__':

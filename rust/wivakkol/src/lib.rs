@@ -17,8 +17,8 @@
 //! ```
 //!
 //! What C has to keep to by itself is kept here by types: sizes, alignment, what overlaps what, one call at a time, and the same unchanged table for every call on a run. One thing is not: the
-//! stack. From C the calls behind [`check`], [`largest_quota`] and [`most_turns`] took up to 1,512 bytes of it, [`Run::begin`] 3,672, [`Run::open`] 6,136, [`Run::wall_line`] 6,440, a single
-//! turn 112, the others under 310; [`canonical`] and [`compare`] up to 1,368, [`join`] up to 1,544; [`Run::mark`] and [`Run::back`] up to 5,432; [`assemble`] up
+//! stack. From C the calls behind [`check`], [`largest_quota`] and [`most_turns`] took up to 1,512 bytes of it, [`limit`] and [`fit`] 2,120, [`Run::begin`] 3,848, [`Run::open`] 6,136,
+//! [`Run::wall_line`] 6,440, a single turn 112, the others under 310; [`canonical`] and [`compare`] up to 1,368, [`join`] up to 1,544; [`Run::mark`] and [`Run::back`] up to 5,432; [`assemble`] up
 //! to 1,544, [`disassemble`] up to 3,464. That the declarations fit the archives is tested and not proved.
 #![no_std]
 #![deny(unsafe_op_in_unsafe_fn)]
@@ -29,6 +29,7 @@ compile_error!("the archive is built for x86-64 alone");
 mod builder;
 #[cfg(feature = "desk")]
 mod desk;
+mod limits;
 #[cfg(feature = "marks")]
 mod marks;
 mod memory;
@@ -41,9 +42,10 @@ mod tables;
 pub use builder::{Builder, NotBuilt, Thread};
 #[cfg(feature = "desk")]
 pub use desk::{assemble, disassemble, Expected, NotAssembled, NotListed, Unseen, TEXT_LONGEST, TEXT_MOST};
+pub use limits::{fit, limit, Fit, Limits};
 #[cfg(feature = "marks")]
 pub use marks::{Marks, MarksWork};
-pub use memory::{Memory, TablesWork, Work};
+pub use memory::{LimitWork, Memory, TablesWork, Work};
 pub use refusal::{Place, Refusal};
 pub use run::{Preview, RefusedMemory, Reply, Report, Run, Status, Stopped, Turn};
 #[cfg(feature = "tables")]

@@ -324,6 +324,29 @@ impl Default for TablesWork {
     }
 }
 
+/// Working memory of [`limit`](crate::limit) and [`fit`](crate::fit): 305,152 bytes, all 0 between two calls. One serves any number of tables, one call at a time.
+#[repr(C)]
+pub struct LimitWork {
+    pub(crate) rises: [u64; 1024],
+    pub(crate) falls: [u64; 1024],
+    pub(crate) serials: [u64; 1024],
+    pub(crate) depths: [u16; 1024],
+    pub(crate) peaks: [u64; 17408],
+    pub(crate) rows: [u64; 17408],
+}
+
+impl LimitWork {
+    pub const fn new() -> LimitWork {
+        LimitWork { rises: [0; 1024], falls: [0; 1024], serials: [0; 1024], depths: [0; 1024], peaks: [0; 17408], rows: [0; 17408] }
+    }
+}
+
+impl Default for LimitWork {
+    fn default() -> LimitWork {
+        LimitWork::new()
+    }
+}
+
 impl Default for Memory {
     fn default() -> Memory {
         Memory::new()
@@ -342,4 +365,6 @@ const _: () = {
     assert!(core::mem::align_of::<Work>() == 8);
     assert!(core::mem::size_of::<TablesWork>() == 30720);
     assert!(core::mem::align_of::<TablesWork>() == 8);
+    assert!(core::mem::size_of::<LimitWork>() == 305152);
+    assert!(core::mem::align_of::<LimitWork>() == 8);
 };

@@ -27,6 +27,38 @@ extern "C" {
 
     pub fn wivakkol_most_on(table: *const u8, length: usize, p: u32, quota: u32, row: &mut [u64; 2], rises: &mut [u64; 1024], falls: &mut [u64; 1024]) -> u32;
 
+    pub fn wivakkol_limit_on(
+        table: *const u8,
+        length: usize,
+        p: u32,
+        quota: u32,
+        b: u32,
+        row: &mut [u64; 6],
+        rises: &mut [u64; 1024],
+        falls: &mut [u64; 1024],
+        serials: &mut [u64; 1024],
+        depths: &mut [u16; 1024],
+        peaks: &mut [u64; 17408],
+        rows: &mut [u64; 17408],
+        filled: *mut u8,
+        room: usize,
+    ) -> u32;
+
+    pub fn wivakkol_fit_on(
+        table: *const u8,
+        length: usize,
+        p: u32,
+        b: u32,
+        memory: u64,
+        row: &mut [u64; 4],
+        rises: &mut [u64; 1024],
+        falls: &mut [u64; 1024],
+        serials: &mut [u64; 1024],
+        depths: &mut [u16; 1024],
+        peaks: &mut [u64; 17408],
+        rows: &mut [u64; 17408],
+    ) -> u32;
+
     pub fn wivakkol_begin_on(
         table: *const u8,
         length: usize,

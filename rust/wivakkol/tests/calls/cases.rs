@@ -2,7 +2,7 @@
 use crate::model::Action::{self, *};
 use crate::model::{bytes, Table};
 use std::sync::Mutex;
-use wivakkol::{Facts, Memory, Preview, Refusal, Reply, Report, Run, Status, Stopped, TablesWork, Turn, Work, TABLE_MOST};
+use wivakkol::{Facts, Fit, LimitWork, Limits, Memory, Preview, Refusal, Reply, Report, Run, Status, Stopped, TablesWork, Turn, Work, TABLE_MOST};
 
 const LISTING: &str = "\
 1 0 0 0 fork 0
@@ -219,6 +219,59 @@ fn refusals_of_a_beginning_and_a_quota() {
     for b in [0, 65536] {
         assert_eq!(largest_quota(&table, 2, b, 55), Err(refused(41, 0)));
     }
+}
+
+fn limit(table: &[u8], filled: &mut [u8], p: u32, quota: u32, b: u32) -> Result<Limits, Refusal> {
+    wivakkol::limit(&mut LimitWork::new(), table, filled, p, quota, b)
+}
+
+fn fit(table: &[u8], p: u32, b: u32, memory: u64) -> Result<Fit, Refusal> {
+    wivakkol::fit(&mut LimitWork::new(), table, p, b, memory)
+}
+
+/// 127 threads, each with the two below it, and 128 leaves: examples/tree.text.
+fn tree() -> Table {
+    fn grow(table: &mut Table, levels: u16) -> u16 {
+        let t = table.len();
+        table.push(vec![Alloc(8), Work, Alloc(4), Free(12), End]);
+        if levels > 0 {
+            let (a, b) = (grow(table, levels - 1), grow(table, levels - 1));
+            table[t] = vec![Alloc(4), Fork(a), Fork(b), Join(b), Join(a), Free(4), End];
+        }
+        t as u16
+    }
+    let mut table = Vec::new();
+    grow(&mut table, 7);
+    table
+}
+
+#[test]
+fn useful_limit_of_a_table() {
+    let (table, mut filled) = (bytes(&e()), [0; TABLE_MOST]);
+    let of_e = |stretch| Limits { memory: 12, serial: 6, peak: 12, parallel: 12, stretch };
+    assert_eq!(limit(&table, &mut [], 2, 6, 1), Ok(of_e(6)));
+    assert_eq!(limit(&table, &mut filled, 2, 5, 1), Ok(of_e(0)));
+    assert_eq!(check(&filled[..176]).map(|facts| facts.threads), Ok(9));
+    assert_eq!(limit(&table, &mut filled[..175], 2, 5, 1), Err(refused(61, 0)));
+    assert_eq!(limit(&table, &mut [], 2, 6, 65536), Err(refused(41, 0)));
+    assert_eq!(limit(&table, &mut [], 2, 0, 0), Err(refused(21, 0)));
+    assert_eq!(limit(&table, &mut [], 258, 0, 65536), Err(refused(20, 0)));
+    assert_eq!(limit(&[1, 0, 1], &mut [], 0, 0, 65536), Err(refused(1, 0)));
+    assert_eq!(limit(&bytes(&vec![vec![Alloc(513), End]]), &mut filled, 1, 1, 0), Err(refused(44, 0)));
+    assert_eq!(limit(&bytes(&tree()), &mut [], 4, 12, 0), Ok(Limits { memory: 440, serial: 40, peak: 1160, parallel: 2044, stretch: 12 }));
+}
+
+#[test]
+fn quota_that_fits() {
+    let (e, tree) = (bytes(&e()), bytes(&tree()));
+    assert_eq!(fit(&e, 2, 1, 55), Ok(Fit::Fits { quota: 16777215, memory: 12 }));
+    assert_eq!(fit(&e, 2, 1, 11), Ok(Fit::Short { quota: 6, memory: 12 }));
+    assert_eq!(fit(&tree, 4, 0, 440), Ok(Fit::Fits { quota: 16777215, memory: 440 }));
+    assert_eq!(fit(&tree, 4, 0, 439), Ok(Fit::Short { quota: 12, memory: 440 }));
+    assert_eq!(fit(&e, 0, 65536, 0), Err(refused(20, 0)));
+    assert_eq!(fit(&e, 258, 0, 0), Err(refused(20, 0)));
+    assert_eq!(fit(&e, 2, 65536, 0), Err(refused(41, 0)));
+    assert_eq!(fit(&[1, 0, 1], 2, 1, 55), Err(refused(1, 0)));
 }
 
 /// N8: p × (m + A + J) turns in rounds always finish; refused as a beginning is.

@@ -47,7 +47,7 @@ fn calls_are_of_the_source() {
     }
     let declared = functions(include_str!("../../src/raw.rs"), "pub fn ");
     assert_eq!(declared.len(), source.len());
-    assert_eq!(declared.len(), 18);
+    assert_eq!(declared.len(), 20);
     for (name, parameters) in declared {
         let exported = source.get(&name).unwrap_or_else(|| panic!("{name} is not exported"));
         assert_eq!(parameters, as_pointers(exported), "{name}");
@@ -97,6 +97,7 @@ fn handed(text: &str, call: &str) -> Vec<String> {
 fn memory_is_handed_by_name() {
     let calling = concat!(
         include_str!("../../src/lib.rs"),
+        include_str!("../../src/limits.rs"),
         include_str!("../../src/memory.rs"),
         include_str!("../../src/tables.rs"),
         include_str!("../../src/marks.rs"),
@@ -156,6 +157,7 @@ fn memory_is_of_the_header() {
         ("wivakkol_run", "Memory", 4),
         ("wivakkol_work", "Work", 5),
         ("wivakkol_tables_work", "TablesWork", 6),
+        ("wivakkol_limit_work", "LimitWork", 6),
         ("wivakkol_marks", "Marks", 5),
         ("wivakkol_marks_work", "MarksWork", 7),
     ];
