@@ -18,7 +18,7 @@ use core::ops::DerefMut;
 /// assert_eq!(run.turn(1, 0)?, Reply::Done { thread: 0, action: 1 }); // robs worker 0 of the root
 /// let deques: Vec<_> = run.deques().map(|deque| (deque.owner(), deque.threads().collect::<Vec<_>>())).collect();
 /// assert_eq!(deques, [(Some(0), vec![]), (Some(1), vec![0])]);
-/// assert_eq!(run.list(&[0, 0, 1, 0].repeat(5))?, Report::Finished { turns: 10 });
+/// assert_eq!(run.list(&[0, 0, 1, 0].repeat(6))?, Report::Finished { turns: 12 });
 /// assert_eq!(run.highest(), 12);
 /// # Ok::<(), Box<dyn std::error::Error>>(())
 /// ```
