@@ -10,3 +10,6 @@ mod Along
 mod Linking
 mod Leavings
 mod Goes
+mod Steals
+mod Stealable
+mod PairDrives

@@ -1,5 +1,6 @@
-// What a worker's turn writes where AsyncDF's action does not serve: a fork, and a thread that leaves its line at its end or to wait. In each the worker holds thread t before.
+// What a worker's turn writes where AsyncDF's action does not serve: a fork, a thread that leaves its line at its end or to wait, and a steal. But for a steal the worker holds thread t before.
 use crate::bottoms::is_bottom;
+use crate::bottoms::rob;
 use crate::list::link_left;
 use crate::list::replace;
 use crate::list::unlink;
@@ -10,6 +11,7 @@ use run_memory::places::LEFT;
 use run_memory::places::LEFTMOST;
 use run_memory::places::NEXT;
 use run_memory::places::PARENTS;
+use run_memory::places::QUOTA;
 use run_memory::places::RIGHT;
 use run_memory::places::UNDER;
 use run_memory::places::head_at;
@@ -20,6 +22,7 @@ use run_memory::places::put_row;
 use run_memory::places::put_status;
 use run_memory::places::put_thread;
 use run_memory::places::row_at;
+use run_memory::places::setting_at;
 use run_memory::places::status_at;
 use schedule::statuses::ENDED;
 use schedule::statuses::HELD;
@@ -30,7 +33,7 @@ use table::read::argument_in;
 use table::read::code_in;
 ghost use mathlib.Core.Path.{_≡_};
 ghost use mathlib.Core.Bool.{true, false, not, _||_};
-ghost use Prim.Native.Nat.{ℕ, _+_, _<_};
+ghost use Prim.Native.Nat.{_+_, _^_, _<_};
 ghost use lib.ListN.{getD};
 ghost use lib.Dec.{ltb};
 ghost use Rattle.table.specs.Format.{Table, codeAt, argumentAt};
@@ -39,9 +42,9 @@ ghost use Rattle.array_machine.specs.Arrays.{links};
 ghost use Rattle.array_machine.specs.Turn.{waitsIn};
 ghost use Rattle.array_machine.specs.Counted.{busyAfter};
 ghost use Rattle.run_memory.specs.Blocks.{Sums, bytesIn, wordsIn, numbersIn, gathered};
-ghost use Rattle.run_memory.specs.Places.{statused, holding, threaded, headed, quotaed};
+ghost use Rattle.run_memory.specs.Places.{statused, holding, holdsIn, threaded, headed, quotaed};
 ghost use Rattle.deques.specs.Lines.{linkedIn};
-ghost use Rattle.stealing.specs.Code.{Holder, leftBehind, wokenUp, forkedOff, endedIn};
+ghost use Rattle.stealing.specs.Code.{Holder, leftBehind, wokenUp, forkedOff, endedIn, stolenIn};
 
 // The worker goes on with thread u.
 fn hold(bytes: &mut [u8; 1040], words: &mut [u16; 6163], w: usize, u: u16)
@@ -187,4 +190,33 @@ pub(crate) fn end(
         return;
     }
     leave(t, ENDED, w, bytes, words, numbers);
+}
+
+// The set with worker w, which was not in it.
+fn including(busy: u16, w: usize) -> u16
+    requires { ⌜ (w < 16) × (busy + 2 ^ w < 65536) ⌝ }
+    ensures { λ r. ⌜ r ≡ busyAfter busy false true w ⌝ }
+{
+    let bit: u16 = 1 << w;
+    busy + bit
+}
+
+// "stolen from its bottom": worker w, which holds nothing, holds bottom b, with the whole quota.
+pub(crate) fn steal(
+    b: u16,
+    w: usize,
+    bytes: &mut [u8; 1040],
+    words: &mut [u16; 6163],
+    numbers: &mut [u32; 18],
+)
+    requires { ⌜ (w < 16) × ((holdsIn w (bytesIn (now bytes)) ≡ false) × (wordsIn (now words) .busy + 2 ^ w < 65536)) ⌝ }
+    ensures { λ _. ⌜ ((S : Sums) → gathered (bytesIn (now (bytes .exit))) (wordsIn (now (words .exit))) (numbersIn (now (numbers .exit))) S
+        ≡ stolenIn b w (gathered (bytesIn (now (bytes .entry))) (wordsIn (now (words .entry))) (numbersIn (now (numbers .entry))) S)) ⌝ }
+{
+    let busy = including(head_at(&*words, BUSY), w);
+    put_head(words, BUSY, busy);
+    rob(words, b);
+    hold(bytes, words, w, b);
+    let quota = setting_at(&*numbers, QUOTA);
+    put_quota(numbers, w, quota);
 }
