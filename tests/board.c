@@ -20,25 +20,13 @@
  * first two in pages that may not be written; each row, the line, the run and the working memory stand between numbers that must stay, and a row holds anything before the call. */
 #define _GNU_SOURCE
 #include <inttypes.h>
-#include <stdio.h>
-#include <stdlib.h>
-#include <string.h>
-#include <sys/mman.h>
-#include <ucontext.h>
 
+#include "calls.h"
 #include "wivakkol.h"
 
-#define ROOM (1 << 20) /* for a table, an order, and a case */
-#define STACK (1 << 18)
-#define PAGE 4096
-#define PAINT 0xa5
-#define FENCE UINT64_C(0x0123456789abcdef)
-#define FENCES 64
 #define MOST_ROW WIVAKKOL_PREVIEW_ROW
 
-static uint8_t *memory, *orders, *fillings, *stack, *steps;
-static size_t touched = STACK; /* of the stack, from its upper end */
-static ucontext_t here, there;
+static uint8_t *memory, *orders, *fillings, *steps;
 
 static struct {
     const uint8_t *table, *order;
@@ -66,12 +54,6 @@ static struct {
     wivakkol_tables_work tables;
     wivakkol_limit_work limits;
 } before;
-
-static void fail(const char *what)
-{
-    fprintf(stderr, "board: %s\n", what);
-    exit(1);
-}
 
 static void check(void)
 {
@@ -147,31 +129,6 @@ static void chart(void)
     call.number = wivakkol_chart(&lent.run, &lent.work, call.table, call.length, call.line + 1);
 }
 
-/* Makes a call on the painted stack; how much of it was touched, in whole words: a single byte may be written with the paint's own number. */
-static size_t on_stack(void (*f)(void))
-{
-    static uint8_t painted[PAGE];
-    size_t low;
-
-    memset(painted, PAINT, PAGE);
-    memset(stack + STACK - touched, PAINT, touched);
-    if (getcontext(&there) != 0)
-        fail("no context");
-    there.uc_stack.ss_sp = stack;
-    there.uc_stack.ss_size = STACK;
-    there.uc_link = &here;
-    makecontext(&there, f, 0);
-    if (swapcontext(&here, &there) != 0)
-        fail("no context");
-    for (low = 0; low < STACK && memcmp(stack + low, painted, PAGE) == 0; low += PAGE)
-        ;
-    for (; low < STACK && memcmp(stack + low, painted, 8) == 0; low += 8)
-        ;
-    if (low == 0)
-        fail("the stack is too small");
-    return STACK - low;
-}
-
 /* What the C function that makes a call has on the stack: all that a call of nothing touches, but for its return address and its two arguments that no register takes. */
 static size_t around(void)
 {
@@ -202,68 +159,10 @@ static void make(void (*f)(void), size_t entries, size_t *most)
             fail("written outside the run or the working memory");
 }
 
-/* Noise in working memory: any numbers, small ones, or the largest. */
-static void noise(void *into, size_t size)
-{
-    static const uint64_t masks[] = {UINT64_MAX, UINT64_C(0x0003000300030003), UINT64_C(0x03ff03ff03ff03ff)};
-    static uint64_t x = FENCE;
-    uint64_t word, manner;
-    size_t i;
-
-    x = x * UINT64_C(6364136223846793005) + 1;
-    manner = x >> 62;
-    for (i = 0; i < size; i += sizeof word) {
-        x = x * UINT64_C(6364136223846793005) + 1;
-        word = manner == 3 ? UINT64_MAX : (x ^ x >> 32) & masks[manner];
-        memcpy((uint8_t *)into + i, &word, sizeof word);
-    }
-}
-
 static void stir(void)
 {
     noise(&lent.work, sizeof lent.work);
     before.work = lent.work;
-}
-
-/* What a call has left of such bytes: 0, zeros; 1, those from before; 2, neither. */
-static uint8_t left(const void *of, const void *was, size_t size)
-{
-    const uint8_t *bytes = of;
-
-    if (bytes[0] == 0 && memcmp(bytes, bytes + 1, size - 1) == 0)
-        return 0;
-    return memcmp(of, was, size) == 0 ? 1 : 2;
-}
-
-static uint64_t little(const uint8_t *s, int bytes)
-{
-    return bytes == 0 ? 0 : s[0] + 256 * little(s + 1, bytes - 1);
-}
-
-/* Whole, or nothing at the input's end. */
-static int got(uint8_t *into, size_t bytes)
-{
-    size_t count = fread(into, 1, bytes, stdin);
-
-    if (count != 0 && count != bytes)
-        fail("a case is cut off");
-    return count == bytes;
-}
-
-/* Opens the room for so many bytes at its end: where they are to be put, before it is closed again. */
-static uint8_t *place(uint8_t *room, uint32_t length)
-{
-    if (length > ROOM)
-        fail("a table or an order above the room for it");
-    if (mprotect(room, ROOM, PROT_READ | PROT_WRITE) != 0)
-        fail("no memory");
-    return room + ROOM - length;
-}
-
-static void close_room(uint8_t *room)
-{
-    if (mprotect(room, ROOM, PROT_READ) != 0)
-        fail("no memory");
 }
 
 static uint8_t *place_table(uint32_t length)
@@ -273,16 +172,6 @@ static uint8_t *place_table(uint32_t length)
     call.table = at;
     call.length = length;
     return at;
-}
-
-/* Room behind which nothing may be read. */
-static uint8_t *room(void)
-{
-    uint8_t *made = mmap(NULL, ROOM + PAGE, PROT_READ | PROT_WRITE, MAP_PRIVATE | MAP_ANONYMOUS, -1, 0);
-
-    if (made == MAP_FAILED || mprotect(made + ROOM, PAGE, PROT_NONE) != 0)
-        fail("no memory");
-    return made;
 }
 
 #define PRINT_LEFT(field) printf(" %d", left(lent.tables.field, before.tables.field, sizeof lent.tables.field))
@@ -381,12 +270,6 @@ static void limits(void)
         printf("\n");
     }
     printf("stack %zu %zu\n", most[0] - around(), most[1] - around());
-}
-
-static void put(const void *bytes, size_t size)
-{
-    if (fwrite(bytes, 1, size, stdout) != size)
-        fail("no output");
 }
 
 static void put_answer(size_t entries)

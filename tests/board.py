@@ -44,9 +44,9 @@ NAMED.update({name.upper(): (name, 0) for name in lent.PLACES if name not in ('t
 Case = collections.namedtuple('Case', 'data p b memory quota')
 
 
-def build(source, name):
+def build(source, name, archives=ARCHIVES):
     os.makedirs(OUT, exist_ok=True)
-    command = ['cc', '-std=c99', '-Wall', '-Wextra', '-Werror', '-pedantic', '-O2', '-Iinclude', '-o', '%s/%s' % (OUT, name), source, *ARCHIVES]
+    command = ['cc', '-std=c99', '-Wall', '-Wextra', '-Werror', '-pedantic', '-O2', '-Iinclude', '-o', '%s/%s' % (OUT, name), source, *archives]
     subprocess.run(command, check=True)
     return '%s/%s' % (OUT, name)
 
@@ -57,8 +57,8 @@ def header_for_cpp(name='wivakkol.h'):
         subprocess.run(['c++', '-x', 'c++', '-Wall', '-Wextra', '-Werror', '-pedantic', '-fsyntax-only', 'include/' + name], check=True)
 
 
-def exported(crate):
-    """The exported functions of a crate's source: of each its parameters as (name, C type, array size), where a slice is a pointer and its number of bytes."""
+def exported(crate, numbers=BYTES):
+    """The exported functions of a crate's source: of each its parameters as (name, C type, array size), where a slice is a pointer and its number of bytes, whose name is in `numbers`."""
     calls = {}
     for path in sorted(pathlib.Path('crates/%s/src' % crate).glob('*.rt')):
         for name, text, result in re.findall(r'pub extern "C" fn (\w+)\(([^)]*)\) -> (\w+)', path.read_text()):
@@ -69,7 +69,7 @@ def exported(crate):
                 const = 'const ' if lent == '&' else ''
                 if lent and size is None:
                     assert kind in ('&[u8]', '&mut [u8]', '&[u32]'), kind
-                    calls[name] += [(variable, const + c_type(inner), '*'), (BYTES[variable], 'size_t', None)]
+                    calls[name] += [(variable, const + c_type(inner), '*'), (numbers[variable], 'size_t', None)]
                 else:
                     calls[name].append((variable, const + c_type(inner), int(size) if lent else None))
     return calls
@@ -102,24 +102,10 @@ def header_is_source():
     """Names, order, types, const and sizes of the exported calls are those of the source, and a turn is in a crate of its own; blocks and parts are lent as lent.py has them."""
     (single, board), text = map(exported, CRATES), header()
     assert list(single) == ['wivakkol_turn_on'] and not set(single) & set(board)
-    source, prototypes = {**single, **board}, prototypes_of(text)
-    assert prototypes == source, 'the header and the source differ: %s' % [(name, prototypes.get(name), source.get(name))
-                                                                          for name in {*prototypes, *source} if prototypes.get(name) != source.get(name)]
-    blocks, work = fields(text, 'run'), fields(text, 'work')
-    assert blocks == [(block, 'uint%d_t' % bits, lent.COUNTS[block]) for bits, block in lent.BLOCKS.items()], 'the struct is not that of lent.py'
-    parts = [(name, 'uint%d_t' % bits, count) for name, bits, count in lent.FIELDS]
-    places = {name: 'run->' + name for name, _, _ in blocks}
-    places.update((name, 'run->%s + %d' % (lent.BLOCKS[bits], lent.PLACES[name])) for name, bits, _ in lent.FIELDS)
-    work_places = {WORK_NAMES.get(name, name): 'work->' + name for name, _, _ in work}
-    assert not set(places) & set(work_places)
+    source = {**single, **board}
+    same_prototypes(prototypes_of(text), source)
     for call in RUN_CALLS:
-        result, *parameters = source['wivakkol_%s_on' % call]
-        taken = {name: (kind.replace('const ', ''), size) for name, kind, size in parameters}
-        whole = blocks if call in ('turn', 'list', 'rounds', 'preview') else parts
-        assert {name for name, _, _ in whole} <= set(taken) or call == 'chart', 'wivakkol_%s_on is not lent all of a run' % call
-        for name, kind, size in [*whole, *((WORK_NAMES.get(name, name), kind, size) for name, kind, size in work)]:
-            assert taken.get(name, (kind, size)) == (kind, size), 'wivakkol_%s_on: %s' % (call, name)
-        inline_hands_over(text, call, result, parameters, {**places, **work_places})
+        run_call_hands_over(text, call, source['wivakkol_%s_on' % call], call in ('turn', 'list', 'rounds', 'preview'))
     for calls, struct in (NUMBERS, 'tables_work'), (board_limits.NUMBERS, 'limit_work'):
         lent_work = fields(text, struct)
         for call in calls:
@@ -128,6 +114,29 @@ def header_is_source():
             assert all(taken.get(name, (kind, size)) == (kind, size) for name, kind, size in lent_work), '%s_on: the working memory' % call
             inline_on_table(text, call, struct, result, parameters, {name: 'work->' + name for name, _, _ in lent_work})
     assert set(source) == {*(call + '_on' for call in [*NUMBERS, *board_limits.NUMBERS]), *('wivakkol_%s_on' % call for call in RUN_CALLS)}
+
+
+def same_prototypes(prototypes, source):
+    differ = [(name, prototypes.get(name), source.get(name)) for name in {*prototypes, *source} if prototypes.get(name) != source.get(name)]
+    assert not differ, 'the header and the source differ: %s' % differ
+
+
+def run_call_hands_over(text, call, exported_as, on_blocks):
+    """A call for a wivakkol_run: it is lent all of a run, in blocks or in parts as lent.py has them, with fields of a wivakkol_work, and hands them over by their names."""
+    blocks, work = fields(text, 'run'), fields(text, 'work')
+    assert blocks == [(block, 'uint%d_t' % bits, lent.COUNTS[block]) for bits, block in lent.BLOCKS.items()], 'the struct is not that of lent.py'
+    parts = [(name, 'uint%d_t' % bits, count) for name, bits, count in lent.FIELDS]
+    places = {name: 'run->' + name for name, _, _ in blocks}
+    places.update((name, 'run->%s + %d' % (lent.BLOCKS[bits], lent.PLACES[name])) for name, bits, _ in lent.FIELDS)
+    work_places = {WORK_NAMES.get(name, name): 'work->' + name for name, _, _ in work}
+    assert not set(places) & set(work_places)
+    result, *parameters = exported_as
+    taken = {name: (kind.replace('const ', ''), size) for name, kind, size in parameters}
+    whole = blocks if on_blocks else parts
+    assert {name for name, _, _ in whole} <= set(taken) or call == 'chart', 'wivakkol_%s_on is not lent all of a run' % call
+    for name, kind, size in [*whole, *((WORK_NAMES.get(name, name), kind, size) for name, kind, size in work)]:
+        assert taken.get(name, (kind, size)) == (kind, size), 'wivakkol_%s_on: %s' % (call, name)
+    inline_hands_over(text, call, result, parameters, {**places, **work_places})
 
 
 def places_are_named():

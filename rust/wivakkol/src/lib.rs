@@ -1,8 +1,8 @@
-//! AsyncDF for job tables: a scheduler whose memory is bounded beforehand, for every order in which its workers take their turns. The calls are proved; this crate calls them in the archives
-//! `libwivakkol_turn.a`, `libwivakkol.a`, `libwivakkol_tables.a`, `libwivakkol_marks.a` and `libwivakkol_desk.a`, which `rt staticlib wivakkol_turn` and so on write, and gives their numbers types.
-//! It has no heap, no state and no dependencies. docs/REFERENCE.md of the repository says what a table is, what a turn does and which bounds hold. The features `tables`, `marks` and `desk` are on
-//! by default: without the first, [`join`], [`canonical`] and [`compare`] are left out, and the third archive is not needed; without the second, [`Marks`] and the fourth; without the third,
-//! [`assemble`] and [`disassemble`] and the fifth.
+//! AsyncDF for job tables: a scheduler whose memory is bounded beforehand, for every order in which its workers take their turns; and DFDeques, whose workers have deques of their own. The calls
+//! are proved; this crate calls them in the archives `libwivakkol_turn.a`, `libwivakkol.a`, `libwivakkol_tables.a`, `libwivakkol_marks.a`, `libwivakkol_deques.a` and `libwivakkol_desk.a`, which
+//! `rt staticlib wivakkol_turn` and so on write, and gives their numbers types. It has no heap, no state and no dependencies. docs/REFERENCE.md of the repository says what a table is, what a turn
+//! does and which bounds hold. The features `tables`, `marks`, `deques` and `desk` are on by default: without the first, [`join`], [`canonical`] and [`compare`] are left out, and the third archive
+//! is not needed; without the second, [`Marks`] and the fourth; without the third, [`DequeRun`] and the fifth; without the fourth, [`assemble`] and [`disassemble`] and the sixth.
 //!
 //! ```
 //! use wivakkol::{Memory, Report, Run, TablesWork, Work};
@@ -27,6 +27,8 @@
 compile_error!("the archive is built for x86-64 alone");
 
 mod builder;
+#[cfg(feature = "deques")]
+mod deques;
 #[cfg(feature = "desk")]
 mod desk;
 mod limits;
@@ -40,6 +42,8 @@ mod run;
 mod tables;
 
 pub use builder::{Builder, NotBuilt, Thread};
+#[cfg(feature = "deques")]
+pub use deques::{Deque, DequeRun};
 #[cfg(feature = "desk")]
 pub use desk::{assemble, disassemble, Expected, NotAssembled, NotListed, Unseen, TEXT_LONGEST, TEXT_MOST};
 pub use limits::{fit, limit, Fit, Limits};

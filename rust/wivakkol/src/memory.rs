@@ -2,7 +2,8 @@
 use crate::raw;
 
 /// The memory that a run stands in: 21,656 bytes of plain numbers, laid out as C's `wivakkol_run`. It may be a local, a field, a static or in a box; nothing here allocates. A run that is put
-/// away is a copy of it, or its bytes; [`Run::open`](crate::Run::open) goes on with it.
+/// away is a copy of it, or its bytes; [`Run::open`](crate::Run::open) goes on with it. It serves both kinds of run and does not say which stands in it: a run by DFDeques is opened as a
+/// `DequeRun`, by its feature `deques`, and as nothing else.
 #[derive(Clone)]
 #[repr(C)]
 pub struct Memory {
@@ -24,12 +25,12 @@ macro_rules! parts {
             )+)+
         }
 
-        struct Parts<'m> {
-            $($($part: &'m mut [$number; $size],)+)+
+        pub(crate) struct Parts<'m> {
+            $($(pub(crate) $part: &'m mut [$number; $size],)+)+
         }
 
         impl Memory {
-            fn parts(&mut self) -> Parts<'_> {
+            pub(crate) fn parts(&mut self) -> Parts<'_> {
                 $(
                     let rest = &mut self.$block[..];
                     $(let ($part, rest) = rest.split_first_chunk_mut().expect("a part lies in its block");)+

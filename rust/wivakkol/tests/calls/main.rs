@@ -2,6 +2,8 @@
 mod builder;
 mod cases;
 mod declarations;
+#[cfg(feature = "deques")]
+mod deques;
 #[cfg(feature = "tables")]
 mod designs;
 #[cfg(feature = "desk")]
