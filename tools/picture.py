@@ -1,5 +1,5 @@
-"""A picture of a run: reads what `turnlist` prints and writes an SVG, with a row for each worker, a column for each turn, and memory held as a
-curve below. Or the same run as trace events (Chrome's JSON format), for a trace viewer.
+"""A picture of a run: reads what `turnlist` prints, or `dequelist` (K and b are of `turnlist` alone), and writes an SVG, with a row for each worker,
+a column for each turn, and memory held as a curve below. Or the same run as trace events (Chrome's JSON format), for a trace viewer.
 
 usage: python3 tools/picture.py [LISTING] [-p P] [-K K] [-b B] [--trace | --rule]     (what it makes goes to standard output)
     LISTING: a file; without it, standard input. With all of p, K and b there is a line for the bound S1 + b·K·(p − 1)·(D − 1); with p alone, a
