@@ -166,6 +166,21 @@ def runs_of(given, text, table, p, quota):
         answers([name, '--order', '1 0 1', '1', '0', '0', *options], program(shown, some))
     drawn = subprocess.run([sys.executable, 'tools/picture.py', '-p', str(p), '-K', str(quota), '-b', '2'], input=program('turnlist', some), stdout=subprocess.PIPE)
     answers(['picture', '-b', 2, '--order=1 0 1 1 0 0', *options], drawn.stdout)
+    runs_of_deques(given, table, p, quota)
+
+
+def runs_of_deques(given, table, p, quota):
+    """Pairs in words, W alone as W:0, in a file; the picture of the listing."""
+    pairs = [(0, 0), (0, 0), (1, 0), (1, 1), (0, 1), (1, 0)]
+    order = ' '.join('%d:%d' % pair if pair[1] else str(pair[0]) for pair in pairs)
+    data = bytes([p]) + quota.to_bytes(3, 'little') + (2 * len(pairs)).to_bytes(2, 'little') + bytes(sum(pairs, ())) + table
+    listing = program('dequelist', data)
+    options = ['-p', p, '-K', quota, given]
+    answers(['deques', '--order', order, *options], listing)
+    answers(['deques', '--order', '@-', *options], listing, order.encode())
+    answers(['deques', *options, '--order', *('%d:%d' % pair for pair in pairs)], listing)
+    drawn = subprocess.run([sys.executable, 'tools/picture.py', '-p', str(p)], input=listing, stdout=subprocess.PIPE, check=True)
+    answers(['picture', '--deques', '--order', order, *options], drawn.stdout)
 
 
 def ways_to_give(folder):
@@ -242,13 +257,14 @@ def lines_of_actions(folder):
         refuses(['fill', '-K', 1, '-'], '<stdin>:%d: %s' % (i + 3, words(44)), text.encode())
     table = program('tableasm', text.encode())
     action = program('filltable', b'\1\0\0' + table).decode().split()[2]
-    for given in ['limit', '-p', 2], ['turns', '-p', 2], ['run', '-p', 2], ['list', '-p', 2], ['chart', '-p', 2, '--order', 0], ['picture', '-p', 2, '--rounds', 3], ['fill']:
+    for given in [['turns', '-p', 2], ['limit', '-p', 2], ['run', '-p', 2], ['list', '-p', 2], ['chart', '-p', 2, '--order', 0], ['picture', '-p', 2, '--rounds', 3], ['fill'],
+                  ['deques', '-p', 2, '--order', '0:0']]:
         refuses([*given, '-K', 1, '-'], '<stdin>: action %s: %s' % (action, words(44)), table)
 
 
 def options_refused():
     e, many = 'examples/e.text', 'examples/tree.text'
-    for name in ['limit'], ['turns'], ['run'], ['list'], ['chart', '--rounds', 3], ['picture']:
+    for name in ['limit'], ['turns'], ['run'], ['list'], ['chart', '--rounds', 3], ['picture'], ['deques', '--order', '0:0'], ['picture', '--deques', '--order', '0:0']:
         refuses([*name, '-p', 17, '-K', 6, e], '-p 17: ' + words(20))
         refuses([*name, '-p', 0, '-K', 6, e], '-p 0: ' + words(20))
         refuses([*name, '-p', 2, '-K', 0, e], '-K 0: ' + words(21))
@@ -264,6 +280,11 @@ def options_refused():
     turns = b'table 3 12 serial 6 depth 8\n1 0 0 0 fork 0\nrefused 30 0\n'
     refuses(['list', '-p', 2, '-K', 6, '--order', 0, 2, e], '--order: ' + words(30), out=turns)
     refuses(['picture', '-p', 2, '-K', 6, '--order', 0, 2, e], '--order: ' + words(30))
+    for number, pair in (30, '2:0'), (49, '1:2'):
+        begun = call('deques', '-p', 2, '-K', 6, '--order', '0:0', '1:0', e)[0].rsplit(b'open', 1)[0]
+        refuses(['deques', '-p', 2, '-K', 6, '--order', '0:0', '1:0', pair, e], '--order: ' + words(number), out=begun + b'refused %d 0\n' % number)
+        refuses(['picture', '--deques', '-p', 2, '-K', 6, '--order', '0:0', '1:0', pair, e], '--order: ' + words(number))
+    refuses(['deques', '-p', 2, '-K', 6, '--order', '0:0 ' * 2049, e], '--order: ' + words(33))
     refuses(['join'] + [e] * 17, '17 tables: ' + words(47))
     refuses(['join'] + [many] * 5, '5 tables: ' + words(48))
     refuses(['join', e, 'examples/e.run'], 'examples/e.run: ' + words(2))
@@ -288,7 +309,7 @@ def words_of_the_reference():
 def wrong_usage():
     e = 'examples/e.text'
     for given, line in [
-            ([], 'which command? check, asm, dis, quota, limit, turns, fill, run, list, chart, picture, join, canon, cmp (wivakkol help)'),
+            ([], 'which command? check, asm, dis, quota, limit, turns, fill, run, list, chart, deques, picture, join, canon, cmp (wivakkol help)'),
             (['chekc', e], "no command is called 'chekc' (wivakkol help)"),
             (['help', 'nothing'], "no command and no refusal is called 'nothing' (wivakkol help)"),
             (['help', '22'], "no command and no refusal is called '22' (wivakkol help)"),
@@ -311,6 +332,14 @@ def wrong_usage():
             (['list', '-p', '2', '-K', '6', '--order', '0', '--rounds', '4', e], '--order or --rounds, not both (wivakkol help list)'),
             (['list', '-p', '2', '-K', '6', '--order', '0 256', e], "--order takes a number from 0 to 255, not '256' (wivakkol help list)"),
             (['list', '-p', '2', '-K', '6', '--rounds', '65536', e], 'an order of 65536 turns: it has at most 4096 (wivakkol help list)'),
+            (['list', '-p', '2', '-K', '6', '--order', '0:1', e], "--order takes a number from 0 to 255, not '0:1' (wivakkol help list)"),
+            (['deques', '-p', '2', '-K', '6', e], 'deques needs --order WORDS (wivakkol help deques)'),
+            (['deques', '-p', '2', '-K', '6', '--order', '0:', e], "--order takes a number from 0 to 255, not '' (wivakkol help deques)"),
+            (['deques', '-p', '2', '-K', '6', '--order', '0:1:2', e], "--order takes a number from 0 to 255, not '1:2' (wivakkol help deques)"),
+            (['deques', '-p', '2', '-K', '6', '--order', '0 ' * 32768, e], 'an order of 32768 turns: it has at most 2048 (wivakkol help deques)'),
+            (['picture', '-p', '2', '-K', '6', '--deques', e], '--deques needs --order WORDS (wivakkol help picture)'),
+            (['picture', '-p', '2', '-K', '6', '--deques', '--order', '0', '-b', '1', e],
+             '--deques: DFDeques has no b, and takes no -b and no --rule (wivakkol help picture)'),
             (['picture', '-p', '2', '-K', '6', '-b', '1', '--rule', e], '--rule finds b: it takes no -b (wivakkol help picture)'),
             (['check', 'nosuch.text'], 'nosuch.text: No such file or directory'), (['check', 'examples'], 'examples: Is a directory'),
             (['list', '-p', '2', '-K', '6', '--order', '@nosuch', e], 'nosuch: No such file or directory'),
@@ -378,8 +407,8 @@ def not_built(folder):
     how = "not built yet: %%s. In %s, `rt check %%s` builds it (from nothing some %%d minutes with two cores, less where a part is proved already); so does --build" % top
     for given, names, minutes in [(['check', 'examples/e.text'], 'tablecheck', 2), (['run', '-p2', '-K6', 'examples/e.text'], 'maxturns runrounds', 11),
                                   (['run', '-p2', '-K6', '--rounds', '7', 'examples/e.text'], 'runrounds', 11), (['asm', 'examples/e.table'], 'tabledis', 4),
-                                  (['limit', '-p2', '-K6', 'examples/e.text'], 'memlimit', 10),
                                   (['quota', '-p2', '-M9', 'examples/e.text'], 'fitquota', 9), (['quota', '-p2', '-M9', '--papers', 'examples/e.text'], 'maxquota', 5),
+                                  (['picture', '-p2', '-K6', '--deques', '--order', '0', 'examples/e.text'], 'dequelist', 12), (['limit', '-p2', '-K6', 'examples/e.text'], 'memlimit', 10),
                                   (['picture', '-p2', '-K6', 'examples/e.text'], 'maxturns turnlist', 11)]:
         line = how % (names.replace(' ', ', '), names, minutes)
         expect(' '.join(given), call(*given, command=top / 'tools/wivakkol'), (b'', 'wivakkol: %s\n' % line, 2))
