@@ -8,10 +8,12 @@ import zlib
 import filling
 import fitting
 import limits
-from peaks import example
+from peaks import bench, example
 from quota import bound
 from reference import END, check
 from tables import damaged, drawn, table
+
+import stack  # of bench/, which peaks puts on the path
 
 # what each call can return
 NUMBERS = {'wivakkol_limit': set(range(12)) | {20, 21, 41, 44, 61}, 'wivakkol_fit': set(range(12)) | {20, 41}}
@@ -34,12 +36,14 @@ def drawn_case(rng, given):
 
 
 def cases(rng, given, count):
+    """Each number, too little room by one byte, the examples, the most deeply nested and the widest table, a tree of 1,024 threads, and drawn ones."""
     e, tree = example('e.text'), example('tree.text')
     # a byte of E changed, so that each of the table's own checks applies
     refused = [b'', *(e[:at] + bytes([x]) + e[at + 1:] for at, x in ((0, 0), (0, 4), (8, 6), (16, 6), (17, 3), (40, 0), (21, 1), (25, 1), (45, 7))), table([(END, 0)], [(END, 0)])]
     fixed = [(data, 17, 65536, 0, 0, 0) for data in refused]
     fixed += [(e, 17, 65536, 0, 0, 0), (e, 2, 65536, 0, 0, 0), (e, 2, 65535, 0, 0, 0)]
     fixed += [(e, 2, 1, 55, 6, 0), (e, 2, 1, 11, 5, 36868), (e, 2, 1, 11, 5, 175), (e, 2, 1, 11, 5, 176), (tree, 4, 0, 440, 12, 0), (tree, 4, 0, 439, 12, 0)]
+    fixed += [(stack.nested(), 16, 1, 10, 5, 0), (stack.fan(), 16, 1, 10, 5, 0), (bench.tree(), 16, 1, 27240, 218, 0)]
     return fixed + [drawn_case(rng, rng.choice(given)) for _ in range(count - len(fixed))]
 
 
