@@ -89,7 +89,17 @@ def case(call, data, room):
 # Calls
 
 def some_room(rng, exact, most):
-    return rng.choice([0, max(0, exact - 1), exact, exact + 1, rng.randrange(exact + 1), most if rng.random() < 0.05 else exact + 7])
+    return rng.choice([0, max(0, exact - 1), exact, exact + 1, exact + 4, rng.randrange(exact + 1), most if rng.random() < 0.05 else exact + 7])
+
+
+def rearranged(rng, text):
+    """A text with one line left out, given twice or put elsewhere: mostly still lines as they should be, of a table that is refused."""
+    lines = text.split(b'\n')
+    i = rng.randrange(len(lines))
+    taken = lines.pop(i) if rng.random() < 0.7 else lines[i]
+    if rng.random() < 0.6:
+        lines.insert(rng.randrange(len(lines) + 1), taken)
+    return b'\n'.join(lines)
 
 
 def drawn_case(rng):
@@ -98,12 +108,14 @@ def drawn_case(rng):
     if rng.random() < 0.5:
         exact = 12 * len(Table(data).contents) + 31 * len(Table(data).actions)
         return case(1, damaged(rng, data) if rng.random() < 0.4 else data, some_room(rng, exact, MOST))
-    text = texts.loosened(rng, texts.disassemble(data)[0])
+    text = texts.loosened(rng, texts.disassemble(data)[0] or b'')  # a drawn table may pass a limit
+    if rng.random() < 0.5:
+        text = rearranged(rng, text)
     if rng.random() < 0.15:
         text = text.replace(b'\n', b'\r\n')
     if rng.random() < 0.05:
         text = b'\xef\xbb\xbf' + text
-    for _ in range(rng.choice([0, 0, 1, 1, 2])):
+    for _ in range(rng.choice([0, 0, 0, 0, 1])):
         text = texts.damaged(rng, text)
     return case(0, text, some_room(rng, len(data), TABLE_MOST))
 
