@@ -31,4 +31,3 @@ pub extern "C" fn wivakkol_deque_turn_on(
     put_reply(row, reply, 0);
     0
 }
-
