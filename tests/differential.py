@@ -1,7 +1,7 @@
-"""Draws random and damaged inputs and compares the programs with reference.py, machine.py, deques.py, filling.py, most.py and designs.py, which were written on their own.
+"""Draws random and damaged inputs and compares the programs with reference.py, machine.py, filling.py, most.py and designs.py, which were written on their own.
 
 usage: python3 tests/differential.py [COUNT] [PROGRAM..] [--baseline]
-    COUNT inputs for each program (default 3,000); PROGRAM: tablecheck, maxquota, maxturns, filltable, canontable, cmptables, jointables, turnlist, dequelist, wallchart, runrounds, call_cases (default: all).
+    COUNT inputs for each program (default 3,000); PROGRAM: tablecheck, maxquota, maxturns, filltable, canontable, cmptables, jointables, turnlist, wallchart, runrounds, call_cases (default: all).
     From the repository's top, after `rt check` of these programs; with --baseline it is the C
     of bench/ that is compared, in both layouts (tablecheck, turnlist and runrounds), after `cc -O3 -o target/baseline bench/baseline.c`
     and `cc -O3 -DLINKS -o target/baseline_links bench/baseline.c`.
@@ -15,7 +15,6 @@ import sys
 
 import call_cases
 import chart
-import deques
 import designs
 import filling
 import machine
@@ -94,23 +93,6 @@ def turnlist_input(rng):
         length = rng.choice([length + 1, length + len(data), length + len(data) + 1, 4097, 65535])
         if rng.random() < 0.5 and len(row) < length:  # the bytes of too long an order are there
             row += bytes(length - len(row))
-    whole = front + length.to_bytes(2, 'little') + row + data
-    return mostly_whole(rng, whole, front + bytes(2))
-
-
-def dequelist_input(rng):
-    """As for turnlist, with two bytes a turn; choices are mostly low, where there are deques."""
-    data, most = run_table(rng)
-    p, front = beginning(rng, most)
-    workers = order(rng, p, Table(data).m)[:2048]
-    row = b''.join(bytes([w, rng.choice([0, 0, 1, rng.randrange(16)]) % max(1, min(p, 16))]) for w in workers)
-    if row and rng.random() < 0.15:
-        at = rng.randrange(len(row))
-        row = row[:at] + bytes([rng.choice([p % 256, 16, 255])]) + row[at + 1:]
-    row = (row + bytes([rng.choice([0, 255])]) * (rng.random() < 0.2))[:4096]
-    if rng.random() < 0.15:
-        data = damaged(rng, data)
-    length = rng.choice([len(row) + 1, 4097, 65535]) if rng.random() < 0.05 else len(row)
     whole = front + length.to_bytes(2, 'little') + row + data
     return mostly_whole(rng, whole, front + bytes(2))
 
@@ -239,21 +221,6 @@ def listing_traits(data, text):
         yield 'filled out'
     if last[0] == 'refused' and data[6 + len(turns)] == 255:
         yield 'worker 255'
-
-
-def deque_traits(data, text):
-    rows = text.splitlines()
-    yield ' '.join(rows[-1].split()[:2]) if rows[-1].startswith('refused') else rows[-1].split()[0]
-    if rows[0].startswith('refused'):
-        return
-    yield from {row.split()[4] for row in rows[1:-1]}
-    length = int.from_bytes(data[4:6], 'little')
-    yield 'an odd last byte' if length % 2 and len(rows) - 2 == length // 2 else 'pairs'
-    if len(rows) == 2050:
-        yield '2,048 turns'
-    quota = int.from_bytes(data[1:4], 'little')
-    if any(kind == ALLOC and x > quota for kind, x in Table(data[6 + length:]).actions):
-        yield 'filled out'
 
 
 def chart_traits(data, text):
@@ -414,9 +381,6 @@ PROGRAMS = {
     'turnlist': (LISTINGS, turnlist_input, machine.turnlist, listing_traits,
                  ['done', 'open', 'quota', 'wait', 'idle', 'premature', 'order left at the end', 'order of 0', 'order of 4096', 'worker 255',
                   'filled out', 'refused 20', 'refused 21', 'refused 30', 'refused 33', 'refused 44']),
-    'dequelist': (LISTINGS, dequelist_input, deques.dequelist, deque_traits,
-                  ['done', 'open', 'quota', 'wait', 'idle', 'fork', 'join', 'an odd last byte', 'pairs', '2,048 turns', 'filled out',
-                   'refused 20', 'refused 21', 'refused 30', 'refused 33', 'refused 44', 'refused 49']),
     'wallchart': (LISTINGS + [HOLDING], turnlist_input, chart.wallchart, chart_traits,
                   ['a chart', 'all 4,097 lines', '16 workers all holding', 'a thread of four digits',
                    'refused 20', 'refused 21', 'refused 30', 'refused 33', 'refused 44']),
