@@ -1,9 +1,9 @@
-"""Holds the calls of libwivakkol_deques.a against lent_deques.py, which was written on its own: on runs of DFDeques from a beginning, on records whose deques were laid by hand, and on damaged
+"""Holds the calls of libwivakkol_deque_turn.a and libwivakkol_deques.a against lent_deques.py, which was written on its own: on runs of DFDeques from a beginning, on records whose deques were laid by hand, and on damaged
 and random memory. Number, row and all of the memory after every call, cleared working memory, and the stack that a call uses; the header with the source. Sound runs are held against deques.py
 as well, turn by turn.
 
 usage: python3 tests/deques_calls.py [COUNT]
-    From the repository's top, after `rt staticlib wivakkol_deques` and `rt staticlib wivakkol`; COUNT runs of each kind, or half as many, default 1,000; needs a C compiler, `cc`.
+    From the repository's top, after `rt staticlib` of wivakkol_deque_turn, wivakkol_deques and wivakkol; COUNT runs of each kind, or half as many, default 1,000; needs a C compiler, `cc`.
 """
 import collections
 import concurrent.futures
@@ -26,9 +26,9 @@ from machine import ENDED, HELD, LAST_TURN, NO_THREAD, READY, THREADS, UNBORN, W
 from reference import ALLOC, END, FORK, FREE, JOIN, WORK, Table
 from tables import damaged, table
 
-CRATES = ['wivakkol_deques', 'wivakkol']
+CRATES = ['wivakkol_deque_turn', 'wivakkol_deques', 'wivakkol']
 ARCHIVES = ['target/staticlib/lib%s.a' % crate for crate in CRATES]
-TURN_STACK, STACK_MOST = 160, 8192  # bytes that a turn, and any other call, must stay below
+STACK_MOST = {'begin': 8192, 'open': 8192, 'turn': 320, 'list': 320}  # bytes that a call must stay below, as the header says
 E = table([(FORK, 1), (FORK, 2), (JOIN, 2), (JOIN, 1), (END, 0)], [(ALLOC, 6), (WORK, 0), (FREE, 6), (END, 0)], [(ALLOC, 6), (FREE, 6), (END, 0)])
 
 
@@ -415,7 +415,9 @@ def compare_part(path, seed, count, i):
 
 
 def header_is_source():
-    source = board.exported('wivakkol_deques', {**board.BYTES, 'order': 'order_length'})
+    single, others = (board.exported(crate, {**board.BYTES, 'order': 'order_length'}) for crate in CRATES[:2])
+    assert list(single) == ['wivakkol_deque_turn_on'] and not set(single) & set(others)
+    source = {**single, **others}
     text = board.header('wivakkol.h', 'wivakkol_deques.h')
     board.same_prototypes({name: said for name, said in board.prototypes_of(text).items() if name.startswith('wivakkol_deque_')}, source)
     for name in ('turn', 'list', 'open'):
@@ -431,7 +433,7 @@ def main():
     header_is_source()
     board.header_for_cpp('wivakkol_deques.h')
     path = board.build('tests/deques_calls.c', 'deques_test', ARCHIVES)
-    kinds, most = {}, [0] * 4
+    kinds, most = {}, [0] * len(STACK_MOST)
     with concurrent.futures.ProcessPoolExecutor() as pool:
         for kind, reached, stacks in pool.map(functools.partial(compare_part, path, 13, count), range(len(parts(None, count)))):
             kinds.setdefault(kind, collections.Counter()).update(reached)
@@ -444,8 +446,8 @@ def main():
         assert set(given) <= set(numbers), (name, given)
         print('%s: %d agree (by number: %s)' % (name, sum(given.values()), ', '.join('%d: %d' % pair for pair in given.items())))
     print('runs: %s; steals %d, turns with a choice that has no deque %d' % (', '.join('%s %d' % (kind, told['runs']) for kind, told in kinds.items()), reached['steal'], reached['no deque there']))
-    print('most stack of begin, open, turn, list: %s' % ', '.join(map(str, most)))
-    assert most[2] < TURN_STACK and max(most) < STACK_MOST, most
+    print('most stack: %s' % ', '.join('%s %d' % pair for pair in zip(STACK_MOST, most)))
+    assert all(x < limit for x, limit in zip(most, STACK_MOST.values())), 'a call took more stack than the header says'
 
 
 if __name__ == '__main__':

@@ -13,8 +13,8 @@ use Rattle.run_memory.specs.Blocks.{memoryOf}
 use Rattle.claims.proofs.Shaped.{Shaped, bytesOf, wordsOf, numbersOf, sumsOf, in-blocks}
 use Rattle.claims.proofs.LentSays.{Refs, lentIn, Work, Blocks, blocksIn, lentOf, refsOf, cleared, workOf, blocksOf, whole}
 use Rattle.wivakkol_deques.specs.DequeLent.{lentDequeTurn, lentDequeList, lentDequeOpen}
-use Rattle.wivakkol_deques.proofs.wivakkol_deque_turn_on.Kinds as turn-kinds
-use Rattle.wivakkol_deques.proofs.wivakkol_deque_turn_on.Reads as turn-promise
+use Rattle.wivakkol_deque_turn.proofs.wivakkol_deque_turn_on.Kinds as turn-kinds
+use Rattle.wivakkol_deque_turn.proofs.wivakkol_deque_turn_on.Reads as turn-promise
 use Rattle.wivakkol_deques.proofs.wivakkol_deque_list_on.Kinds as list-kinds
 use Rattle.wivakkol_deques.proofs.wivakkol_deque_list_on.Reads as list-promise
 use Rattle.wivakkol_deques.proofs.open.wivakkol_deque_open_on.Kinds as open-kinds

@@ -1,41 +1,14 @@
-// The calls of DFDeques (N13) that C links: on numbers and lent memory alone, each answering any input whatever. Beginning is AsyncDF's, `wivakkol_begin`: the memory of the start is the same
-// for both kinds of run. They stand in an archive of their own. include/wivakkol_deques.h has the prototypes.
-use run_memory::replies::put_reply;
+// The calls of DFDeques (N13) that C links, but for the turn, which has a crate of its own: on numbers and lent memory alone, each answering any input whatever. Beginning is AsyncDF's,
+// `wivakkol_begin`: the memory of the start is the same for both kinds of run. They stand in an archive of their own. include/wivakkol_deques.h has the prototypes.
 use run_memory::runs::Stop;
-use stealing::deque_turn_in;
 use stealing::runs::deque_list_in;
 ghost use mathlib.Core.Path.{_≡_};
 ghost use Rattle.run_memory.specs.Memory.{saidCode, answer};
 ghost use Rattle.run_memory.specs.Blocks.{memoryOf};
 ghost use Rattle.wivakkol.specs.Lent.{saidOf, runRow};
-ghost use Rattle.wivakkol_deques.specs.DequeLent.{lentDequeTurn, lentDequeList};
+ghost use Rattle.wivakkol_deques.specs.DequeLent.{lentDequeList};
 
 pub mod open;
-
-// A turn of worker w with choice c. Every number of the row is written; the last, which AsyncDF has of N7, stays 0.
-#[no_mangle]
-pub extern "C" fn wivakkol_deque_turn_on(
-    table: &[u8],
-    w: u32,
-    c: u32,
-    bytes: &mut [u8; 1040],
-    words: &mut [u16; 6163],
-    numbers: &mut [u32; 18],
-    sums: &mut [u64; 1027],
-    row: &mut [u64; 5],
-) -> u32
-    ensures { λ r. ⌜ answer r (now (row .exit)) (memoryOf (now (bytes .exit)) (now (words .exit)) (now (numbers .exit)) (now (sums .exit)))
-        ≡ lentDequeTurn (now (table .entry)) w c (memoryOf (now (bytes .entry)) (now (words .entry)) (now (numbers .entry)) (now (sums .entry))) ⌝ }
-{
-    let told = deque_turn_in(table, w, c, bytes, words, numbers, sums);
-    if told.number != 0 {
-        *row = [0; 5];
-        return told.number;
-    }
-    let reply = told.reply;
-    put_reply(row, reply, 0);
-    0
-}
 
 // what is said of a run, as a number
 const NOTHING: u64 = 0;

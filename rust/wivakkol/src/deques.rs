@@ -1,4 +1,4 @@
-//! Runs by DFDeques (N13), in the archive `libwivakkol_deques.a`: the feature `deques`.
+//! Runs by DFDeques (N13), in the archives `libwivakkol_deque_turn.a` and `libwivakkol_deques.a`: the feature `deques`.
 use crate::run::{readers, reply, report, NO_THREAD};
 use crate::{raw, Memory, Refusal, RefusedMemory, Reply, Report, Run, Status, Stopped, Work};
 use core::ops::DerefMut;

@@ -1,4 +1,4 @@
--- `wivakkol_deques::wivakkol_deque_turn_on` meets its contract: what the turn says is put into the row.
+-- `wivakkol_deque_turn::wivakkol_deque_turn_on` meets its contract: what the turn says is put into the row.
 use mathlib.Core.Path.{_≡_, ap, _∙_}
 use Prim.Native.Nat.{ℕ}
 use mathlib.Core.List.{List}
@@ -8,9 +8,9 @@ use denote.Ref.{now}
 use Rattle.run_memory.specs.Memory.{Memory, noRow, turnRow, answer, Told}
 use Rattle.run_memory.specs.Blocks.{memoryOf}
 use Rattle.stealing.specs.StealingMemory.{dequeTurnIn}
 use Rattle.wivakkol_deques.specs.DequeLent.{lentDequeTurn}
-use Rattle.wivakkol_deques.proofs.wivakkol_deque_turn_on.Statement.{statement}
-use Rattle.wivakkol_deques.proofs.wivakkol_deque_turn_on.Tie as tie
+use Rattle.wivakkol_deque_turn.proofs.wivakkol_deque_turn_on.Statement.{statement}
+use Rattle.wivakkol_deque_turn.proofs.wivakkol_deque_turn_on.Tie as tie
 
 module _ (s : List ℕ) (w c : ℕ) (M : Memory) {y : Told} (e : y ≡ dequeTurnIn s w c M) where
   refuses : (y .number ≡ 0 → ⊥) → answer (y .number) noRow (y .memory) ≡ lentDequeTurn s w c M
