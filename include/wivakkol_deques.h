@@ -4,7 +4,7 @@
  * wivakkol_deque_list take under 320 bytes of stack, wivakkol_deque_open under 8 KB, as measured (tests/deques_calls.py).
  *
  * A run is begun by wivakkol_begin, of libwivakkol.a: its memory is then the beginning of both kinds. The limits on memory, threads and turns, rounds, previews, wall charts and marks are
- * AsyncDF's; of a run by these calls none of them is promised.
+ * AsyncDF's; of a run by these calls none of them is promised. It has limits on memory of its own (docs/REFERENCE.md, DFDeques).
  *
  * Which kind a run is of is not stored: from its first turn on it is of the kind of that turn, and the calls of the two kinds must not be mixed on it. Nothing notices where they are. Each call then
  * still answers as it is defined for whatever the memory holds, and writes to nothing else, but it is no turn of either run; and wivakkol_open and wivakkol_back, where they return 0 on

@@ -179,7 +179,7 @@ def runs_of_deques(given, table, p, quota):
     answers(['deques', '--order', order, *options], listing)
     answers(['deques', '--order', '@-', *options], listing, order.encode())
     answers(['deques', *options, '--order', *('%d:%d' % pair for pair in pairs)], listing)
-    drawn = subprocess.run([sys.executable, 'tools/picture.py', '-p', str(p)], input=listing, stdout=subprocess.PIPE, check=True)
+    drawn = subprocess.run([sys.executable, 'tools/picture.py', '--deques', '-p', str(p), '-K', str(quota)], input=listing, stdout=subprocess.PIPE, check=True)
     answers(['picture', '--deques', '--order', order, *options], drawn.stdout)
 
 
