@@ -1,0 +1,2 @@
+-- What the proofs of the calls on an action use.
+mod Numbered
