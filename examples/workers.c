@@ -1,6 +1,6 @@
 /* Workers of one's own: p POSIX threads are the workers of one run and do its actions, with real malloc and free, a byte for each unit. docs/WORKERS.md explains it.
  *
- *     workers p K S < TABLE        S: the peak of p workers S_p of the table that runs, `target/bin/fitquota` says it
+ *     workers p K S < TABLE        S: the peak of p workers, S_p, of the table that runs, or another limit that needs no b, as fitquota gives it
  *
  * Prints p, K and the turns; the peak of real memory, the run's highest and S_p; the b that the turns kept, and demand 3's limit with it. Exits 1 where real memory passed the run's highest,
  * the highest S_p or that limit, or where other memory is left than the run holds; 2 for wrong arguments.

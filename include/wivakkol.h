@@ -6,7 +6,7 @@
  * nothing from one call to the next and writes to no memory but what it is lent. Each answer is proved equal to its definition (crates/wivakkol_turn/src/ and crates/wivakkol/src/ have the promises);
  * that this header says the same as that source is not proved, but tested (tests/board.py).
  *
- * A call returns a number: 0, or the number of the check that refuses (docs/REFERENCE.md, "Refusals"). Into the row it puts the place of the refusal, 0 where there is none, and then its
+ * A call returns a number: 0, or the number of the check that refuses (docs/REFERENCE.md, "Refusals"); wivakkol_kind and wivakkol_argument, which refuse nothing and have no row, are apart. Into the row it puts the place of the refusal, 0 where there is none, and then its
  * values, all 0 where it refuses but for the turns taken by a run and, with 61, the bytes that wivakkol_begin lacks room for. Every entry of the row is written on every call, whatever was
  * there before.
  *

@@ -18,6 +18,7 @@ import lent
 import machine
 import most
 import quota
+import reference
 from differential import LARGEST, mostly, run_table, tablecheck_input
 from reference import check, facts_line
 from tables import damaged
@@ -134,6 +135,17 @@ def places_are_named():
     defined = dict(re.findall(r'#define WIVAKKOL_(\w+) (\d+)', open('include/wivakkol.h').read()))
     for name, (part, i) in NAMED.items():
         assert int(defined['AT_' + name]) == lent.PLACES[part] + i, 'WIVAKKOL_AT_%s is another place than in lent.py' % name
+
+
+def numbers_are_named():
+    """The header's kinds and statuses are those of the models, and every refusal of the headers has words of its own."""
+    text = ''.join(open('include/' + name).read() for name in ('wivakkol.h', 'wivakkol_tables.h', 'wivakkol_marks.h'))
+    named = {name: int(x) for name, x in re.findall(r'#define WIVAKKOL_(\w+) (\d+)', text)}
+    for prefix, model, names in (('KIND_', reference, 'END WORK ALLOC FREE FORK JOIN'), ('STATUS_', machine, 'UNBORN READY HELD WAITING ENDED')):
+        assert {name: x for name, x in named.items() if name.startswith(prefix)} == {prefix + name: getattr(model, name) for name in names.split()}, prefix
+    words = re.findall(r'case (\d+): return "([^"]+)";', text)
+    assert sorted(int(number) for number, _ in words) == sorted([0, *(x for name, x in named.items() if name.startswith('REFUSED_'))]), 'refusals without words'
+    assert len({told for _, told in words}) == len(words), 'two refusals with the same words'
 
 
 def fields(text, struct):
@@ -262,6 +274,7 @@ def main():
             sys.exit('%s is not there: run `rt staticlib %s` first' % (archive, crate))
     header_is_source()
     places_are_named()
+    numbers_are_named()
     header_for_cpp()
     drawn = cases(random.Random(20), max(count, 6))
     program = build('tests/board.c', 'board_test')
