@@ -1,7 +1,7 @@
 //! A run: a table and the memory that it stands in, tied to each other.
+use crate::{Action, Memory, Refusal, Work};
 #[cfg(feature = "marks")]
 use crate::{Marks, MarksWork};
-use crate::{Memory, Refusal, Work};
 use core::fmt;
 use core::ops::DerefMut;
 
@@ -14,7 +14,7 @@ const ENDED: u8 = 4;
 pub enum Reply {
     /// No thread was ready.
     Idle,
-    /// The action was done.
+    /// The action was done; [`Run::action`] says what it is.
     Done { thread: u16, action: u16 },
     /// An alloc was above the quota left: the worker gave its thread up.
     Quota { thread: u16, wanted: u32 },
@@ -106,6 +106,20 @@ impl<M> core::error::Error for RefusedMemory<M> {}
 pub struct Run<'t, M = &'t mut Memory> {
     table: &'t [u8],
     memory: M,
+}
+
+/// The run's figures, without its memory and its table.
+impl<M: DerefMut<Target = Memory>> fmt::Debug for Run<'_, M> {
+    fn fmt(&self, f: &mut fmt::Formatter<'_>) -> fmt::Result {
+        f.debug_struct("Run")
+            .field("workers", &self.workers())
+            .field("quota", &self.quota())
+            .field("turns", &self.turns())
+            .field("held", &self.held())
+            .field("highest", &self.highest())
+            .field("ended", &self.ended())
+            .finish_non_exhaustive()
+    }
 }
 
 impl<'t> Run<'t> {
@@ -222,6 +236,11 @@ impl<'t, M: DerefMut<Target = Memory>> Run<'t, M> {
     /// The bytes of the table that runs: those as given, or of the filled-out table.
     pub fn table(&self) -> &'t [u8] {
         self.table
+    }
+
+    /// Action `action` of the table that runs, as [`Reply::Done`] names it; `None` where there is none.
+    pub fn action(&self, action: u16) -> Option<Action> {
+        crate::action(self.table, u64::from(action))
     }
 
     /// The number of workers, p.
