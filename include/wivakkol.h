@@ -1,14 +1,15 @@
-/* Wivakkol, called from C, for x86-64: wivakkol_turn, wivakkol_kind and wivakkol_argument are linked from the archive libwivakkol_turn.a (`rt staticlib wivakkol_turn`), all other calls from libwivakkol.a (`rt staticlib wivakkol`), in either order. A
- * board that does the actions takes single turns, and a turn that is compiled by itself needs little stack (docs/C-AND-RUST.md): so it has an archive of its own.
+/* Wivakkol, called from C, for x86-64: wivakkol_turn, wivakkol_kind and wivakkol_argument are linked from the archive libwivakkol_turn.a (`rt staticlib wivakkol_turn`), all other calls from
+ * libwivakkol.a (`rt staticlib wivakkol`), in either order. A board that does the actions takes single turns, and a turn that is compiled by itself needs little stack (docs/C-AND-RUST.md): so
+ * it has an archive of its own. docs/WORKERS.md has what threads that do the actions must keep to.
  *
  * Every call answers every input: no table, no number and no content of a run's memory is outside what it takes. A turn, a list, rounds and a
  * preview do not test that a sound run stands in the memory: wivakkol_open does, once, after which each of them is document 01's call on that record. A call allocates nothing, keeps
  * nothing from one call to the next and writes to no memory but what it is lent. Each answer is proved equal to its definition (crates/wivakkol_turn/src/ and crates/wivakkol/src/ have the promises);
  * that this header says the same as that source is not proved, but tested (tests/board.py).
  *
- * A call returns a number: 0, or the number of the check that refuses (docs/REFERENCE.md, "Refusals"); wivakkol_kind and wivakkol_argument, which refuse nothing and have no row, are apart. Into the row it puts the place of the refusal, 0 where there is none, and then its
+ * A call returns a number: 0, or the number of the check that refuses (docs/REFERENCE.md, "Refusals"). Into the row it puts the place of the refusal, 0 where there is none, and then its
  * values, all 0 where it refuses but for the turns taken by a run and, with 61, the bytes that wivakkol_begin lacks room for. Every entry of the row is written on every call, whatever was
- * there before.
+ * there before. wivakkol_kind and wivakkol_argument are apart: they return what they are asked for, refuse nothing and have no row.
  *
  * What C must keep to, as the proofs take it for granted:
  * - `table` points to `length` bytes that may be read, all of them written before. It is never NULL, not even with a length of 0. `order` likewise points to `turns` bytes.
