@@ -1,8 +1,9 @@
 /* The calls of wivakkol.h on cases from standard input, for tests/board.py; all numbers are little-endian.
  *
  * Without an argument a case is the table's length, p and b (4 bytes each), M (8), K (4) and the table. For each a line: of wivakkol_check, wivakkol_quota and wivakkol_most the number, the
- * row and a number for each field of the working memory, as below. With the argument `limits` a case has the room for the filled-out table (4) after K, and its line wivakkol_limit, with a
- * checksum of the room, which held the paint, and wivakkol_fit. With the argument `runs` the first line has the size of a wivakkol_run and where its blocks stand. A case is then its length (4) and steps on one run's memory:
+ * row and a number for each field of the working memory, as below; then wivakkol_kind and wivakkol_argument of the actions p, b, M, K and 0, and of the remainders of b by 64 and by 512. With the
+ * argument `limits` a case has the room for the filled-out table (4) after K, and its line wivakkol_limit, with a checksum of the room, which held the paint, and wivakkol_fit. With the argument
+ * `runs` the first line has the size of a wivakkol_run and where its blocks stand. A case is then its length (4) and steps on one run's memory:
  *   t LENGTH TABLE     the table from now on
  *   m AT LENGTH BYTES  these bytes stand in the run's memory
  *   b P K ROOM         wivakkol_begin, with so much room for the filled-out table; where that is filled out, it is the table from now on
@@ -190,6 +191,15 @@ static void on_table(void (*f)(void), size_t entries, size_t *most)
     PRINT_LEFT(rises), PRINT_LEFT(falls), PRINT_LEFT(peaks), PRINT_LEFT(depths), PRINT_LEFT(names), PRINT_LEFT(order);
 }
 
+static void actions(void)
+{
+    const uint64_t asked[] = {call.p, call.b, call.memory, call.quota, 0, call.b % 64, call.b % 512};
+    size_t i;
+
+    for (i = 0; i < sizeof asked / sizeof asked[0]; i++)
+        printf(" %" PRIu32 " %" PRIu32, wivakkol_kind(call.table, call.length, asked[i]), wivakkol_argument(call.table, call.length, asked[i]));
+}
+
 static void tables(void)
 {
     uint8_t front[24];
@@ -209,6 +219,7 @@ static void tables(void)
         on_table(quota, WIVAKKOL_QUOTA_ROW, &most[1]);
         printf(" ");
         on_table(most_turns, WIVAKKOL_MOST_ROW, &most[2]);
+        actions();
         printf("\n");
     }
     printf("stack %zu %zu %zu\n", most[0] - around(), most[1] - around(), most[2] - around());

@@ -59,6 +59,12 @@ pub use tables::{canonical, compare, join, RefusedJoin, RefusedTable};
 /// The longest table that is accepted, in bytes: 1,024 threads and 8,192 actions. A longer input may be handed over, and is refused.
 pub const TABLE_MOST: usize = 36868;
 
+/// The most threads of a table.
+pub const MOST_THREADS: usize = 1024;
+
+/// The most workers of a run.
+pub const MOST_WORKERS: usize = 16;
+
 /// A table's facts.
 #[derive(Clone, Copy, Debug, PartialEq, Eq, Hash)]
 pub struct Facts {
@@ -72,6 +78,40 @@ pub struct Facts {
     pub depth: u16,
     /// N, the nested thread levels.
     pub nested: u16,
+}
+
+/// What an action of a table is, with its argument.
+#[derive(Clone, Copy, Debug, PartialEq, Eq, Hash)]
+pub enum Action {
+    End,
+    Work,
+    Alloc { amount: u32 },
+    Free { amount: u32 },
+    Fork { child: u16 },
+    Join { child: u16 },
+}
+
+/// Action `a` of a table; `None` where it has no such action. In bytes that [`check`] refuses, what is none of the six kinds, or names a child above 16 bits, is no action either.
+///
+/// ```
+/// use wivakkol::{action, Action};
+///
+/// let table = include_bytes!("../../../examples/e.table");
+/// assert_eq!(action(table, 5), Some(Action::Alloc { amount: 6 }));
+/// assert_eq!(action(table, 12), None);
+/// ```
+pub fn action(table: &[u8], a: u64) -> Option<Action> {
+    // SAFETY: "`table` points to `length` bytes that may be read", since both are of one slice, whose pointer is never NULL; nothing is written.
+    let (kind, argument) = unsafe { (raw::wivakkol_kind(table.as_ptr(), table.len(), a), raw::wivakkol_argument(table.as_ptr(), table.len(), a)) };
+    Some(match kind {
+        0 => Action::End,
+        1 => Action::Work,
+        2 => Action::Alloc { amount: argument },
+        3 => Action::Free { amount: argument },
+        4 => Action::Fork { child: u16::try_from(argument).ok()? },
+        5 => Action::Join { child: u16::try_from(argument).ok()? },
+        _ => return None,
+    })
 }
 
 /// Is this a job table, and what are its facts? Refused with 1 to 11.

@@ -122,6 +122,10 @@ extern "C" {
         row: &mut [u64; 5],
     ) -> u32;
 
+    pub fn wivakkol_kind(table: *const u8, length: usize, a: u64) -> u32;
+
+    pub fn wivakkol_argument(table: *const u8, length: usize, a: u64) -> u32;
+
     pub fn wivakkol_list_on(
         table: *const u8,
         length: usize,

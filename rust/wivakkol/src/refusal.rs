@@ -1,8 +1,9 @@
 //! Refusals and their texts.
 use core::fmt;
 
-/// The first check that applies, and where: an entry of the contents, an action or a thread, 0 where the check has no place (docs/REFERENCE.md, "Refusals").
-#[derive(Clone, Copy, Debug, PartialEq, Eq, Hash)]
+/// The first check that applies, and where: an entry of the contents, an action or a thread, 0 where the check has no place (docs/REFERENCE.md, "Refusals"). Its `Debug` is its text too, since
+/// that is what a `main` prints that ends with `?`.
+#[derive(Clone, Copy, PartialEq, Eq, Hash)]
 pub struct Refusal {
     pub number: u32,
     pub place: u64,
@@ -80,6 +81,12 @@ impl fmt::Display for Refusal {
             Place::Thread => write!(f, " at thread {}", self.place)?,
         }
         write!(f, ": {}", self.meaning())
+    }
+}
+
+impl fmt::Debug for Refusal {
+    fn fmt(&self, f: &mut fmt::Formatter<'_>) -> fmt::Result {
+        fmt::Display::fmt(self, f)
     }
 }
 

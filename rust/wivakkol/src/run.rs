@@ -1,7 +1,7 @@
 //! A run: a table and the memory that it stands in, tied to each other.
+use crate::{Action, Memory, Refusal, Work};
 #[cfg(feature = "marks")]
 use crate::{Marks, MarksWork};
-use crate::{Memory, Refusal, Work};
 use core::fmt;
 use core::ops::DerefMut;
 
@@ -14,6 +14,11 @@ macro_rules! readers {
         /// The bytes of the table that runs: those as given, or of the filled-out table.
         pub fn table(&self) -> &'t [u8] {
             self.table
+        }
+
+        /// Action `action` of the table that runs, as [`Reply::Done`] names it; `None` where there is none.
+        pub fn action(&self, action: u16) -> Option<$crate::Action> {
+            $crate::action(self.table, u64::from(action))
         }
 
         /// The number of workers, p.
@@ -84,7 +89,7 @@ pub(crate) use readers;
 pub enum Reply {
     /// No thread was ready; by DFDeques, there was none to steal at the place chosen.
     Idle,
-    /// The action was done.
+    /// The action was done; [`Run::action`] says what it is.
     Done { thread: u16, action: u16 },
     /// An alloc was above the quota left: the worker gave its thread up; by DFDeques, with its deque.
     Quota { thread: u16, wanted: u32 },
@@ -176,6 +181,20 @@ impl<M> core::error::Error for RefusedMemory<M> {}
 pub struct Run<'t, M = &'t mut Memory> {
     pub(crate) table: &'t [u8],
     pub(crate) memory: M,
+}
+
+/// The run's figures, without its memory and its table.
+impl<M: DerefMut<Target = Memory>> fmt::Debug for Run<'_, M> {
+    fn fmt(&self, f: &mut fmt::Formatter<'_>) -> fmt::Result {
+        f.debug_struct("Run")
+            .field("workers", &self.workers())
+            .field("quota", &self.quota())
+            .field("turns", &self.turns())
+            .field("held", &self.held())
+            .field("highest", &self.highest())
+            .field("ended", &self.ended())
+            .finish_non_exhaustive()
+    }
 }
 
 impl<'t> Run<'t> {

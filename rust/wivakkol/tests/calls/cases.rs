@@ -2,7 +2,9 @@
 use crate::model::Action::{self, *};
 use crate::model::{bytes, Table};
 use std::sync::Mutex;
-use wivakkol::{Facts, Fit, LimitWork, Limits, Memory, Preview, Refusal, Reply, Report, Run, Status, Stopped, TablesWork, Turn, Work, TABLE_MOST};
+use wivakkol::{
+    action, Facts, Fit, LimitWork, Limits, Memory, Preview, Refusal, Reply, Report, Run, Status, Stopped, TablesWork, Turn, Work, MOST_THREADS, MOST_WORKERS, TABLE_MOST,
+};
 
 const LISTING: &str = "\
 1 0 0 0 fork 0
@@ -474,4 +476,54 @@ fn memory_in_a_static() {
     let mut run = Run::begin(&table, &mut memory, &mut Work::new(), 2, 6).unwrap();
     assert_eq!((run.workers(), run.quota()), (2, 6));
     assert_eq!(run.rounds(u32::MAX), Ok(Report::Finished { turns: 14 }));
+}
+
+/// Actions by number: all of E's, and what is none, also where the number would be cut to one of the table's; and bytes that are no table.
+#[test]
+fn actions_by_name() {
+    use wivakkol::Action as Named;
+    let named = |x: &Action| match *x {
+        End => Named::End,
+        Work => Named::Work,
+        Alloc(amount) => Named::Alloc { amount },
+        Free(amount) => Named::Free { amount },
+        Fork(child) => Named::Fork { child },
+        Join(child) => Named::Join { child },
+    };
+    let table = bytes(&e());
+    let found: Vec<_> = (0..12).map(|a| action(&table, a).unwrap()).collect();
+    assert_eq!(found, e().concat().iter().map(named).collect::<Vec<_>>());
+    assert_eq!([12, 65535, 65536, 1 << 32, u64::MAX].map(|a| action(&table, a)), [None; 5]);
+    assert_eq!(action(&[], 0), None);
+    let odd = |word: [u8; 4]| action(&[&[1, 0, 1, 0, 0, 0, 1, 0], &word[..]].concat(), 0);
+    assert_eq!([odd([6, 0, 0, 0]), odd([255, 0, 0, 0]), odd([4, 0, 0, 1]), odd([5, 0, 0, 255])], [None; 4]);
+    assert_eq!(odd([2, 255, 255, 255]), Some(Named::Alloc { amount: 16_777_215 }));
+
+    let mut memory = Memory::new();
+    let mut run = Run::begin(&table, &mut memory, &mut Work::new(), 2, 6).unwrap();
+    let Reply::Done { action, .. } = run.turn(0).unwrap().reply else { panic!("the first turn is done") };
+    assert_eq!((run.action(action), run.action(12)), (Some(Named::Fork { child: 1 }), None));
+}
+
+/// What is printed of a refusal where `main` ends with `?`, and of a run.
+#[test]
+fn printed() {
+    assert_eq!(format!("{:?}", refused(10, 3)), "refused 10 at action 3: the thread's balance falls below 0");
+    assert_eq!(format!("{:?}", refused(31, 0)), "refused 31: the root has ended");
+    let (table, mut memory) = (bytes(&e()), Memory::new());
+    let mut run = Run::begin(&table, &mut memory, &mut Work::new(), 2, 6).unwrap();
+    run.list(&[0, 1, 0, 1, 0]).unwrap();
+    assert_eq!(format!("{run:?}"), "Run { workers: 2, quota: 6, turns: 5, held: 12, highest: 12, ended: false, .. }");
+}
+
+/// The most workers and threads are those of the calls.
+#[test]
+fn most_of_each() {
+    let most = MOST_WORKERS as u32;
+    let table = bytes(&e());
+    assert_eq!((fault(&table, most, 6), fault(&table, most + 1, 6)), (None, Some(refused(20, 0))));
+    let mut memory = Memory::new();
+    let run = Run::begin(&table, &mut memory, &mut Work::new(), 2, 6).unwrap();
+    let last = MOST_THREADS as u16 - 1;
+    assert_eq!((run.status(last), run.status(last + 1)), (Some(Status::Unborn), None));
 }
