@@ -17,7 +17,7 @@ use Rattle.run_memory.specs.Memory.{Memory, movedIn, workerIn, memoryAfter, tol
 use Rattle.run_memory.specs.Runs.{stopped, overIn}
 use Rattle.wivakkol.specs.Opened.{soundIn, blankIn, openedAs, lentOpen}
 use Rattle.pace.specs.Pace.{may, took}
-use Rattle.wivakkol_pace.specs.Paced.{hindranceIn, heldBack, PacedTold, pacedTold, pacedIn, Kept, pacedTurn}
+use Rattle.wivakkol_pace.specs.Paced.{hindranceIn, heldBack, PacedTold, pacedTold, pacedIn, Kept, pacedTurnBy, pacedTurn}
 use Rattle.wivakkol_pace.specs.PacedRuns.{PacedStop, pacedStop, pacedWorker, pacedDrive, pacedRun, pacedList, pacedRounds}
 use Rattle.wivakkol_pace.proofs.PacedDrives.{paced-same}
 use Rattle.paced_claims.specs.PacedCalls.{PacedCall, byTurn, byList, byRounds, byOpening, pacedCall, workersOf, takenBy, Both, pacedAfter, pacedRow}
@@ -82,7 +82,7 @@ nothing {s} {M} {M'} {P} {P'} e f = subst (λ (x : Memory). Steps s M P [] x P')
 -- ---- a single turn
 
 turn-steps : (s : List ℕ) (w : ℕ) (M : Memory) (P : List ℕ) → Steps s M P (takenBy (byTurn w) P (pacedTurn s w M P .answer)) (pacedTurn s w M P .answer .memory) (pacedTurn s w M P .pace)
-unfolding takenBy pacedTurn
+unfolding takenBy pacedTurnBy
 turn-steps s w M P = go (eqb (pacedIn s w M P .told .number) 0) refl
   where
     go : (q : Bool) → eqb (pacedIn s w M P .told .number) 0 ≡ q → Steps s M P (pick q (w ∷ []) []) (pacedIn s w M P .told .memory) (pacedIn s w M P .pace)

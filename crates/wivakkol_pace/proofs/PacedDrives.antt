@@ -15,7 +15,7 @@ use Rattle.run_memory.specs.declared.runs.Stop.{Stop}
 use Rattle.run_memory.specs.Memory.{Memory, workerIn, movedIn, memoryAfter, Told, told, turnLeft, turnIn, answer}
 use Rattle.run_memory.specs.Runs.{Stopped, stopped, overIn}
 use Rattle.pace.specs.Pace.{took, nextIn}
-use Rattle.wivakkol_pace.specs.Paced.{hindranceIn, heldBack, PacedTold, pacedTold, pacedIn, Kept, kept}
+use Rattle.wivakkol_pace.specs.Paced.{hindranceIn, heldBack, PacedTold, pacedTold, pacedIn, Kept, kept, pacedTurnBy}
 use Rattle.wivakkol_pace.specs.PacedRuns.{PacedStop, pacedStop, pacedWorker, pacedDrive, pacedRun, stopRow, keptAs, pacedList, pacedRounds}
 
 -- a turn that is refused moves nothing
@@ -78,23 +78,38 @@ module _ {s : List ℕ} {who : ℕ → List ℕ → ℕ} {limit : ℕ} {M₀ : M
     unfolding pacedDrive
     root-stops e = rw e at here
 
-    module _ (g : overIn M ≡ false) {w : ℕ} (q : w ≡ who i P) {t : PacedTold} (e : t ≡ pacedIn s w M P) where
-      there : t ≡ pacedIn s (who i P) M P
-      there = e ∙ ap (λ (x : ℕ). pacedIn s x M P) q
+    module _ (g : overIn M ≡ false) {w : ℕ} (q : w ≡ who i P) {k : Kept} (e : k ≡ pacedTurnBy false s w M P) where
+      abbrev t : PacedTold
+      t = pacedIn s (who i P) M P
 
-      pub hindered : (t .told .number ≡ 0 → ⊥) → pacedStop (stopped (t .told .number) false i (t .told .memory)) (t .pace) ≡ whole
+      -- what the call answers of it
+      told-so : (k .answer .number ≡ t .told .number) × ((k .answer .memory ≡ t .told .memory) × (k .pace ≡ t .pace))
+      unfolding pacedTurnBy
+      told-so =
+          let there : k ≡ pacedTurnBy false s (who i P) M P = e ∙ ap (λ (x : ℕ). pacedTurnBy false s x M P) q in
+          (ap (λ (x : Kept). x .answer .number) there, (ap (λ (x : Kept). x .answer .memory) there, ap (λ (x : Kept). x .pace) there))
+
+      pub hindered : (k .answer .number ≡ 0 → ⊥) → pacedStop (stopped (k .answer .number) false i (k .answer .memory)) (k .pace) ≡ whole
       unfolding pacedDrive
       hindered d =
-          let m = paced-same s w M P (λ z. d (ap (λ (x : PacedTold). x .told .number) e ∙ z)) in
-          let a : t .told .memory ≡ M = ap (λ (x : PacedTold). x .told .memory) e ∙ m .0 in
-          let b : t .pace ≡ P = ap (λ (x : PacedTold). x .pace) e ∙ m .1 in
-          (λ j. pacedStop (stopped (t .told .number) false i (a j)) (b j)) ∙ (rw (g, ← there, ne-eqb (t .told .number) 0 d) at here)
+          let f : t .told .number ≡ 0 → ⊥ = λ z. d (told-so .0 ∙ z) in
+          let m = paced-same s (who i P) M P f in
+          let n : k .answer .number ≡ t .told .number = told-so .0 in
+          let a : k .answer .memory ≡ M = told-so .1 .0 ∙ m .0 in
+          let b : k .pace ≡ P = told-so .1 .1 ∙ m .1 in
+          (λ j. pacedStop (stopped (n j) false i (a j)) (b j)) ∙ (rw (g, ne-eqb (t .told .number) 0 f) at here)
 
-      pub again : t .told .number ≡ 0 → Along s who limit M₀ P₀ (t .told .memory) (t .pace) (i + 1)
+      pub again : k .answer .number ≡ 0 → Along s who limit M₀ P₀ (k .answer .memory) (k .pace) (i + 1)
       unfolding pacedDrive
       again d =
           let n : suc i ≡ i + 1 = omega arith in
-          record { within = omega (arith, h); remains = ap (λ (k : ℕ). pacedDrive s who (limit - (i + 1)) k (t .told .memory) (t .pace)) (sym n) ∙ (rw (g, ← there, d) at here) }
+          let z : t .told .number ≡ 0 = sym (told-so .0) ∙ d in
+          let a : k .answer .memory ≡ t .told .memory = told-so .1 .0 in
+          let b : k .pace ≡ t .pace = told-so .1 .1 in
+          record {
+            within = omega (arith, h);
+            remains = (λ j. pacedDrive s who (limit - (i + 1)) (sym n j) (a j) (b j)) ∙ (rw (g, z) at here);
+          }
 
 -- ---- the worker
 

@@ -7,25 +7,15 @@ use borrow.Author.Tests.{eq-eqb, ne-eqb}
 use lib.Dec.{eqb}
 use Rattle.table.specs.Sum.{pick}
 use Rattle.schedule.specs.declared.Reply.the-variants.{Idle}
-use Rattle.run_memory.specs.declared.Spoken.{Spoken}
 use Rattle.run_memory.specs.Memory.{Memory, hindrance, answer, noRow, turnRow, Told, told, turnIn, passedOver}
 use Rattle.pace.specs.Pace.{may, took}
-use Rattle.wivakkol_pace.specs.Paced.{stopped, hindranceIn, heldBack, PacedTold, pacedTold, pacedIn, kept, pacedTurn}
+use Rattle.wivakkol_pace.specs.Paced.{stopped, hindranceIn, heldBack, PacedTold, pacedTold, pacedIn, kept, pacedTurnBy}
 
 pub stopped-else : (n : ℕ) (P : List ℕ) (w : ℕ) → (n ≡ 0 → ⊥) → stopped n P w ≡ false
 stopped-else n P w d = rw (ne-eqb n 0 d)
 
 pub stopped-by : (n : ℕ) (P : List ℕ) (w : ℕ) → n ≡ 0 → stopped n P w ≡ not (may P w)
 stopped-by n P w e = rw (eq-eqb n 0 e)
-
--- a turn that is held back tells 60 and counts no threads
-pub held-told : {x : Spoken} {M : Memory} {P : List ℕ} {a : PacedTold} (counting : Bool) (n : ℕ) → x ≡ record { number = 60; reply = Idle; passed = 0 } → pacedTold (told 60 Idle M) P ≡ a
-    → (pacedTold (told (x .number) (x .reply) M) P ≡ a) × (x .passed ≡ pick (counting && eqb (x .number) 0) n 0)
-held-told {x} {M} {P} {a} counting n e h = rw e (h, go counting)
-  where
-    go : (c : Bool) → _≡_ {A = ℕ} 0 (pick (c && false) n 0)
-    go true = refl
-    go false = refl
 
 -- of what stands in the memory
 pub tested : {n t t' p p' r r' : ℕ} (w : ℕ) → t ≡ t' → p ≡ p' → r ≡ r' → n ≡ hindrance t p w r → n ≡ hindrance t' p' w r'
@@ -51,14 +41,18 @@ module _ (s : List ℕ) (w : ℕ) (M : Memory) (P : List ℕ) where
 
   -- ---- the call
 
-  module _ {t : PacedTold} (e : t ≡ pacedIn s w M P) where
-    pub tells-refusal : (t .told .number ≡ 0 → ⊥) → kept (answer (t .told .number) noRow (t .told .memory)) (t .pace) ≡ pacedTurn s w M P
-    unfolding pacedTurn
+  module _ (counting : Bool) {t : PacedTold} (e : t ≡ pacedIn s w M P) where
+    pub tells-refusal : (t .told .number ≡ 0 → ⊥) → kept (answer (t .told .number) noRow (t .told .memory)) (t .pace) ≡ pacedTurnBy counting s w M P
+    unfolding pacedTurnBy
     tells-refusal d = rw (← e, ne-eqb (t .told .number) 0 d)
 
-    pub tells : {p : ℕ} {row : List ℕ} → t .told .number ≡ 0 → p ≡ pick (eqb (t .told .number) 0) (passedOver M w) 0 → row ≡ turnRow (t .told .reply) p
-        → kept (answer 0 row (t .told .memory)) (t .pace) ≡ pacedTurn s w M P
-    unfolding pacedTurn
+    pub tells : {p : ℕ} {row : List ℕ} → t .told .number ≡ 0 → p ≡ pick (counting && eqb (t .told .number) 0) (passedOver M w) 0 → row ≡ turnRow (t .told .reply) p
+        → kept (answer 0 row (t .told .memory)) (t .pace) ≡ pacedTurnBy counting s w M P
+    unfolding pacedTurnBy
     tells {p} {row} d q r =
-        let here : p ≡ passedOver M w = rw d at q in
+        let here : p ≡ pick counting (passedOver M w) 0 = q ∙ counts counting (eqb (t .told .number) 0) (eq-eqb (t .told .number) 0 d) in
         ap (λ (x : List ℕ). kept (answer 0 x (t .told .memory)) (t .pace)) (r ∙ ap (turnRow (t .told .reply)) here) ∙ rw (← e, d)
+      where
+        counts : (c q : Bool) → q ≡ true → pick (c && q) (passedOver M w) 0 ≡ pick c (passedOver M w) 0
+        counts true q e = rw e
+        counts false q e = refl

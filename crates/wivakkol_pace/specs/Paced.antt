@@ -1,7 +1,7 @@
 -- The paced turn: a turn that would break the rule with b is refused, and one that is taken is counted.
 use Prim.Native.Nat.{ℕ}
 use mathlib.Core.List.{List}
-use mathlib.Core.Bool.{Bool, not, _&&_}
+use mathlib.Core.Bool.{Bool, true, not, _&&_}
 use lib.ListN.{getD}
 use lib.Dec.{eqb}
 use Rattle.table.specs.Sum.{pick}
@@ -46,8 +46,12 @@ pub record Kept : Type 0 where
 abbrev pub kept : Answer → List ℕ → Kept
 kept a P = record { answer = a; pace = P }
 
--- the paced turn's call
-unfoldable pub pacedTurn : List ℕ → ℕ → Memory → List ℕ → Kept
-pacedTurn s w M P =
+-- the paced turn as a call, whether it counts the threads that stood left of one taken or says 0 of them
+unfoldable pub pacedTurnBy : Bool → List ℕ → ℕ → Memory → List ℕ → Kept
+pacedTurnBy counting s w M P =
     let t : PacedTold = pacedIn s w M P in
-    kept (answer (t .told .number) (pick (eqb (t .told .number) 0) (turnRow (t .told .reply) (passedOver M w)) noRow) (t .told .memory)) (t .pace)
+    kept (answer (t .told .number) (pick (eqb (t .told .number) 0) (turnRow (t .told .reply) (pick counting (passedOver M w) 0)) noRow) (t .told .memory)) (t .pace)
+
+-- as C calls it
+abbrev pub pacedTurn : List ℕ → ℕ → Memory → List ℕ → Kept
+pacedTurn = pacedTurnBy true

@@ -2,7 +2,6 @@
 // its own, so that a board without a pace pays nothing for it. include/wivakkol_pace.h has the prototypes.
 use pace::may;
 use pace::took;
-use run_memory::Spoken;
 use run_memory::hindrance;
 use run_memory::places::TURNS;
 use run_memory::places::WORKERS;
@@ -11,16 +10,11 @@ use run_memory::places::status_at;
 use run_memory::places::total_at;
 use run_memory::replies::put_reply;
 use run_memory::turn_in;
-use schedule::Reply;
 ghost use mathlib.Core.Path.{_≡_};
-ghost use mathlib.Core.Bool.{_&&_};
-ghost use lib.Dec.{eqb};
-ghost use Rattle.table.specs.Sum.{pick};
-ghost use Rattle.schedule.specs.declared.Reply.the-variants.{Idle};
-ghost use Rattle.run_memory.specs.Memory.{answer, told, passedOver};
+ghost use Rattle.run_memory.specs.Memory.{answer};
 ghost use Rattle.run_memory.specs.Blocks.{memoryOf};
 ghost use Rattle.pace.specs.Pace.{paced, startPace, keptIn, mayNumber, tookNumber};
-ghost use Rattle.wivakkol_pace.specs.Paced.{stopped, pacedTold, pacedIn, kept, pacedTurn};
+ghost use Rattle.wivakkol_pace.specs.Paced.{stopped, kept, pacedTurnBy, pacedTurn};
 
 pub mod runs;
 
@@ -37,18 +31,8 @@ fn stops(number: u32, pace: &[u32; 260], w: u32) -> bool
     !may(pace, w)
 }
 
-fn held_back() -> Spoken
-    ensures { λ r. ⌜ r ≡ record { number = 60; reply = Idle; passed = 0 } ⌝ }
-{
-    Spoken {
-        number: WOULD_BREAK,
-        reply: Reply::Idle,
-        passed: 0,
-    }
-}
-
 // A turn of worker w of the run, counted; or 60 where it would break the rule, and then nothing of the run or the pace is written. A run that is over, or that has no such worker, says so first.
-// It is the archive's one place with the turn's code, so that the compiler puts the whole turn into one frame.
+// Every number of the row is written. It is the archive's one place with the turn's code, so that the compiler puts the whole turn into one frame.
 pub(crate) fn paced_in(
     table: &[u8],
     w: u32,
@@ -58,10 +42,10 @@ pub(crate) fn paced_in(
     numbers: &mut [u32; 18],
     sums: &mut [u64; 1027],
     pace: &mut [u32; 260],
-) -> Spoken
-    ensures { λ r. ⌜ pacedTold (told (r .number) (r .reply) (memoryOf (now (bytes .exit)) (now (words .exit)) (now (numbers .exit)) (now (sums .exit)))) (now (pace .exit))
-        ≡ pacedIn (now (table .entry)) w (memoryOf (now (bytes .entry)) (now (words .entry)) (now (numbers .entry)) (now (sums .entry))) (now (pace .entry)) ⌝ }
-    ensures { λ r. ⌜ r .passed ≡ pick (counting && eqb (r .number) 0) (passedOver (memoryOf (now (bytes .entry)) (now (words .entry)) (now (numbers .entry)) (now (sums .entry))) w) 0 ⌝ }
+    row: &mut [u64; 5],
+) -> u32
+    ensures { λ r. ⌜ kept (answer r (now (row .exit)) (memoryOf (now (bytes .exit)) (now (words .exit)) (now (numbers .exit)) (now (sums .exit)))) (now (pace .exit))
+        ≡ pacedTurnBy counting (now (table .entry)) w (memoryOf (now (bytes .entry)) (now (words .entry)) (now (numbers .entry)) (now (sums .entry))) (now (pace .entry)) ⌝ }
 {
     let root = status_at(&*bytes, 0);
     let number = hindrance(
@@ -71,16 +55,21 @@ pub(crate) fn paced_in(
         root,
     );
     if stops(number, &*pace, w) {
-        return held_back();
+        *row = [0; 5];
+        return WOULD_BREAK;
     }
     let spoken = turn_in(table, w, counting, bytes, words, numbers, sums);
-    if spoken.number == 0 {
-        took(pace, w);
+    if spoken.number != 0 {
+        *row = [0; 5];
+        return spoken.number;
     }
-    spoken
+    took(pace, w);
+    let reply = spoken.reply;
+    put_reply(row, reply, spoken.passed);
+    0
 }
 
-// The paced turn, with how many threads stood left of one that it took. Every number of the row is written.
+// The paced turn, with how many threads stood left of one that it took.
 #[no_mangle]
 pub extern "C" fn wivakkol_paced_turn_on(
     table: &[u8],
@@ -95,14 +84,7 @@ pub extern "C" fn wivakkol_paced_turn_on(
     ensures { λ r. ⌜ kept (answer r (now (row .exit)) (memoryOf (now (bytes .exit)) (now (words .exit)) (now (numbers .exit)) (now (sums .exit)))) (now (pace .exit))
         ≡ pacedTurn (now (table .entry)) w (memoryOf (now (bytes .entry)) (now (words .entry)) (now (numbers .entry)) (now (sums .entry))) (now (pace .entry)) ⌝ }
 {
-    let spoken = paced_in(table, w, true, bytes, words, numbers, sums, pace);
-    if spoken.number != 0 {
-        *row = [0; 5];
-        return spoken.number;
-    }
-    let reply = spoken.reply;
-    put_reply(row, reply, spoken.passed);
-    0
+    paced_in(table, w, true, bytes, words, numbers, sums, pace, row)
 }
 
 // ---- the pace alone

@@ -74,15 +74,16 @@ fn drive(
     ensures { λ r. ⌜ pacedStop (stopped (r .number) (r .finished) (r .turns) (memoryOf (now (bytes .exit)) (now (words .exit)) (now (numbers .exit)) (now (sums .exit)))) (now (pace .exit))
         ≡ pacedDrive (now (table .entry)) (pacedWorker (now (order .entry)) rounds) limit 0 (memoryOf (now (bytes .entry)) (now (words .entry)) (now (numbers .entry)) (now (sums .entry))) (now (pace .entry)) ⌝ }
 {
+    let mut row = [0; 5];
     let mut i: usize = 0;
     while i < limit {
         if root_ended(&*bytes) {
             return over(true, i);
         }
         let w = worker_of(order, rounds, &*pace, i);
-        let told = paced_in(table, w, false, bytes, words, numbers, sums, pace);
-        if told.number != 0 {
-            return refused(told.number, i);
+        let number = paced_in(table, w, false, bytes, words, numbers, sums, pace, &mut row);
+        if number != 0 {
+            return refused(number, i);
         }
         i += 1;
     }

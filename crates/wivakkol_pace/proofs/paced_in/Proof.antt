@@ -1,11 +1,12 @@
 -- `wivakkol_pace::paced_in` meets its contract: held back, refused or taken.
 use mathlib.Core.Path.{_≡_}
 use mathlib.Core.Bool.{Bool}
+use native.Mathlib.Omega.{arith}
 use denote.Ref.{now}
-use Rattle.run_memory.specs.Memory.{Memory, passedOver}
+use Rattle.run_memory.specs.Memory.{Memory}
 use Rattle.run_memory.specs.Blocks.{memoryOf}
 use Rattle.wivakkol_pace.specs.Paced.{heldBack}
-use Rattle.wivakkol_pace.proofs.PacedTurns.{tested, held-as, held-told, holds-back, refuses, takes}
+use Rattle.wivakkol_pace.proofs.PacedTurns.{tested, held-as, holds-back, refuses, takes, tells-refusal, tells}
 use borrow.Author.Needs.{needs}
 use Rattle.wivakkol_pace.proofs.paced_in.Statement.{statement}
 use Rattle.wivakkol_pace.proofs.paced_in.Tie as tie
@@ -40,38 +41,44 @@ hindrance-requires c κs = search needs
 stops-requires : tie.Need-stops-requires
 stops-requires c κs = search needs
 
-held-back-requires : tie.Need-held-back-requires
-held-back-requires c κs = search needs
-
 returns : tie.Need-returns
 returns c =
-    let n = c .before in
-    let k = n .before in
+    let k = c .before .before in
     let d = from k in
-    held-told (d .args .counting) (passedOver (start d) (d .args .w)) (c .held-back .ensures) (holds-back (now (d .args .table)) (d .args .w) (start d) (now (d .args .pace)) (back k (n .if1 .taken)))
+    tells-refusal (now (d .args .table)) (d .args .w) (start d) (now (d .args .pace)) (d .args .counting) (
+    holds-back (now (d .args .table)) (d .args .w) (start d) (now (d .args .pace)) (back k (c .before .if1 .taken))
+    ) (λ z. omega arith)
 
 turn-in-requires : tie.Need-turn-in-requires
 turn-in-requires c κs = search needs
 
+returns-2 : tie.Need-returns-2
+returns-2 c =
+    let t = c .before .before .before in
+    let e = t .before .before .before .before .before in
+    let k = e .before in
+    let d = from k in
+    tells-refusal (now (d .args .table)) (d .args .w) (start d) (now (d .args .pace)) (d .args .counting) (
+    refuses (now (d .args .table)) (d .args .w) (start d) (now (d .args .pace)) (back k (e .if1 .left)) (t .turn-in .ensures .0) (c .before .if2 .taken)
+    ) (c .before .if2 .taken)
+
 took-requires : tie.Need-took-requires
 took-requires c κs = search needs
 
-returns-2 : tie.Need-returns-2
-returns-2 c =
-    let n = c .before .before in
-    let t = n .before .before in
-    let e = t .before .before .before .before .before in
-    let k = e .before in
-    let d = from k in
-    (takes (now (d .args .table)) (d .args .w) (start d) (now (d .args .pace)) (back k (e .if1 .left)) (t .turn-in .ensures .0) (n .if2 .taken) (c .took .ensures), t .turn-in .ensures .1)
+put-reply-requires : tie.Need-put-reply-requires
+put-reply-requires c κs = search needs
 
 returns-3 : tie.Need-returns-3
 returns-3 c =
-    let t = c .before .before in
+    let o = c .before .before in
+    let f = o .before .before in
+    let t = f .before .before in
     let e = t .before .before .before .before .before in
     let k = e .before in
     let d = from k in
-    (refuses (now (d .args .table)) (d .args .w) (start d) (now (d .args .pace)) (back k (e .if1 .left)) (t .turn-in .ensures .0) (c .if2 .left), t .turn-in .ensures .1)
+    tells (now (d .args .table)) (d .args .w) (start d) (now (d .args .pace)) (d .args .counting) (
+    takes (now (d .args .table)) (d .args .w) (start d) (now (d .args .pace)) (back k (e .if1 .left)) (t .turn-in .ensures .0) (f .if2 .left) (o .took .ensures)
+    ) (f .if2 .left) (t .turn-in .ensures .1) (c .put-reply .ensures)
 
 pub paced-in-spec : {M : Type 1} → statement M
 paced-in-spec =
@@ -82,9 +89,9 @@ paced-in-spec =
     setting-at-requires
     hindrance-requires
     stops-requires
-    held-back-requires
     returns
     turn-in-requires
-    took-requires
     returns-2
+    took-requires
+    put-reply-requires
     returns-3)

@@ -12,11 +12,11 @@ use Rattle.wivakkol_pace.proofs.runs.drive.Statement.{statement}
 use Rattle.wivakkol_pace.proofs.runs.drive.Tie as tie
 
 abbrev Inv-loop : tie.InvT-loop
-Inv-loop table order rounds limit bytes₀ words₀ numbers₀ sums₀ pace₀ i₀ bytes words numbers sums pace i =
+Inv-loop table order rounds limit bytes₀ words₀ numbers₀ sums₀ pace₀ row₀ i₀ bytes words numbers sums pace row i =
     Along table (pacedWorker order rounds) limit (memoryOf bytes₀ words₀ numbers₀ sums₀) pace₀ (memoryOf bytes words numbers sums) pace i
 
 abbrev μ-loop : tie.MeasureT-loop
-μ-loop table order rounds limit bytes₀ words₀ numbers₀ sums₀ pace₀ i₀ bytes words numbers sums pace i = limit - i
+μ-loop table order rounds limit bytes₀ words₀ numbers₀ sums₀ pace₀ row₀ i₀ bytes words numbers sums pace row i = limit - i
 
 loop-holds : tie.Need-loop-holds Inv-loop μ-loop
 loop-holds c = first-along _ _ _ _ _
@@ -46,13 +46,13 @@ refused-requires c κs = search needs
 returns-2 : tie.Need-returns-2 Inv-loop μ-loop
 returns-2 c =
     let t = c .before in
-    let k = t .before .before in
-    let x = k .before .before .before .before .before .before in
+    let k = t .before in
+    let x = k .before .before .before .before .before .before .before in
     let o = x .before .before in
     let e = o .before in
     let i = e .before .before in
     stopped-as (c .refused .ensures)
-    (hindered (i .before .loop .inv) (i .loop-test .taken) (sym (e .root-ended .ensures) ∙ o .if1 .left) (x .worker-of .ensures) (k .paced-in .ensures .0) (t .if2 .taken))
+    (hindered (i .before .loop .inv) (i .loop-test .taken) (sym (e .root-ended .ensures) ∙ o .if1 .left) (x .worker-of .ensures) (k .paced-in .ensures) (t .if2 .taken))
 
 add-i : tie.Need-add-i Inv-loop μ-loop
 add-i c =
@@ -66,12 +66,12 @@ loop-less c =
 
 loop-again : tie.Need-loop-again Inv-loop μ-loop
 loop-again c =
-    let k = c .before .before in
-    let x = k .before .before .before .before .before .before in
+    let k = c .before in
+    let x = k .before .before .before .before .before .before .before in
     let o = x .before .before in
     let e = o .before in
     let i = e .before .before in
-    again (i .before .loop .inv) (i .loop-test .taken) (sym (e .root-ended .ensures) ∙ o .if1 .left) (x .worker-of .ensures) (k .paced-in .ensures .0) (c .if2 .left)
+    again (i .before .loop .inv) (i .loop-test .taken) (sym (e .root-ended .ensures) ∙ o .if1 .left) (x .worker-of .ensures) (k .paced-in .ensures) (c .if2 .left)
 
 root-ended-requires-2 : tie.Need-root-ended-requires-2 Inv-loop μ-loop
 root-ended-requires-2 c κs = search needs
