@@ -13,12 +13,12 @@ use lib.Dec.{ltb, eqb}
 use borrow.Author.Tests.{eq-eqb, ne-eqb, leb-true, le-leb, lt-ltb, le-ltb}
 use Rattle.table.specs.Sum.{pick}
 use Rattle.table.proofs.Tests.{no-way}
-use Rattle.schedule.specs.Memory.{Keeps}
+use Rattle.schedule.specs.Memory.{countIn, Keeps}
 use Rattle.order.proofs.Lists.{getD-alike}
 use Rattle.pace.specs.Since.{sinceLatest, askedOf, Asks}
 use Rattle.pace.specs.Pace.{oneMore, asked, may, mayNumber, took, blank, startPace, keptIn, Paced}
 use Rattle.pace.specs.Stands.{StandsFor}
-use Rattle.pace.proofs.Rows.{keeps-snoc, since-below, since-snoc, after-nil, after-snoc, never-stopped}
+use Rattle.pace.proofs.Rows.{keeps-snoc, since-below, since-new, since-snoc, after-nil, after-snoc, never-stopped}
 use Rattle.pace.proofs.Steps.{asked-in, start-20, start-41, start-0, one-more-counts}
 use Rattle.pace.proofs.Cells.{most-least, most-each, took-long, took-past-counters, took-kept, took-after, took-self, took-latest, took-counts, took-others}
 
@@ -65,6 +65,18 @@ module _ (l : List ℕ) (p b : ℕ) (row : List ℕ) (h : StandsFor l p b row) w
 
       back : w < p → may l w ≡ true → _≡_ {A = ℕ} (pick (ltb w (getD l 257 0)) (pick (may l w) 0 60) 30) 0
       back i f = rw (h .workers, lt-ltb w p i, f)
+
+  -- who has had no turn since each other's latest may go on, and so may anybody who has had none at all
+  pub waiting-may : (w : ℕ) → w < 16 → ((x : ℕ) → sinceLatest x w row ≤ 1) → may l w ≡ true
+  unfolding Asks askedOf
+  waiting-may w i none = may-asked w .1 (asked-exactly w i b .1 (λ x. go (eqb x w) (none x)))
+    where
+      go : {n : ℕ} (q : Bool) → n ≤ 1 → pick q 0 n ≤ b
+      go true k = omega arith
+      go false k = omega (arith, k, h .some-bound)
+
+  pub new-may : (w : ℕ) → w < 16 → countIn w row ≡ 0 → may l w ≡ true
+  new-may w i z = waiting-may w i (λ x. since-new x w row z)
 
   -- It never stops everybody.
   pub somebody-may : (w : ℕ) × ((w < p) × (may l w ≡ true))

@@ -1,5 +1,6 @@
 -- The memory limit with b and no hypothesis on the row: from an accepted beginning of a run and of a pace, over every list of paced turns, lists and rounds, refused ones included, and openings.
 use mathlib.Core.Path.{_≡_, refl, sym, ap, subst, _∙_}
+use mathlib.Core.Logic.{_↔_}
 use Prim.Native.Nat.{ℕ, _<_, _≤_}
 use native.Mathlib.Omega.{arith}
 use mathlib.Core.List.{List, [], _∷_, _++_, append-assoc, append-nil, map}
@@ -106,7 +107,8 @@ pub record PacedLimit (s : List ℕ) (p K b : ℕ) (row : List ℕ) (after : Bot
   -- N2's limit on the threads in the list too
   pub threads : ThreadLimit (tableOf s) p K b (runIn s (after .memory)) row
   pub listed : length (listIn (runIn s (after .memory))) ≤ threadLimit (tableOf s) p b
-  -- some worker may have the next turn
+  -- a worker may have the next turn exactly where the row with it keeps the rule, and some worker may
+  pub exact : (w : ℕ) → w < p → (may (after .pace) w ≡ true) ↔ Keeps b (row ++ w ∷ [])
   pub somebody : (w : ℕ) × ((w < p) × (may (after .pace) w ≡ true))
 
 -- for every accepted beginning of a run and of a pace, and every list of paced calls, refused ones included, and openings
@@ -133,6 +135,7 @@ paced-limit s p K room b l e f calls =
       highest = rw (m .highest) (within .1);
       threads = t;
       listed = rw (t .listed) (t .bounded row [] (sym (append-nil row)) (c .keeps));
+      exact = λ w i. may-exactly (pacedAfter F calls M P .pace) p b row (c .stands) (c .keeps) w (omega (arith, i, c .stands .few-workers));
       somebody = somebody-may (pacedAfter F calls M P .pace) p b row (c .stands);
     }
 
