@@ -1003,6 +1003,44 @@ uint32_t plain_rounds(plain_run *plain, uint32_t limit, uint64_t row[3]) {
     return report.number;
 }
 
+// A pace, as crates/pace/specs/Pace has it: 16 numbers for each worker, then b, p, the least b kept and one more than the worker of the latest turn.
+uint32_t plain_pace_begin(uint32_t *pace, uint32_t p, uint32_t b) {
+    if (p < 1 || 16 < p) return 20;
+    if (b < 1 || 65535 < b) return 41;
+    memset(pace, 0, 260 * sizeof pace[0]);
+    pace[256] = b;
+    pace[257] = p;
+    return 0;
+}
+
+static uint32_t asked(const uint32_t *pace, uint32_t w) {
+    uint32_t most = 0;
+    for (size_t x = 0; x < 16; x++)
+        if (most < pace[16 * w + x]) most = pace[16 * w + x];
+    return most;
+}
+
+static void took(uint32_t *pace, uint32_t w) {
+    uint32_t most = asked(pace, w);
+    if (pace[258] < most) pace[258] = most;
+    pace[259] = w + 1;
+    for (size_t x = 0; x < 16; x++)
+        if (pace[16 * w + x] != 0 && pace[16 * w + x] != UINT32_MAX) pace[16 * w + x]++;
+    for (size_t v = 0; v < 16; v++) pace[16 * v + w] = 1;
+    pace[17 * w] = 0;
+}
+
+uint32_t plain_paced_turn(plain_run *plain, uint32_t *pace, uint32_t w, uint64_t row[5]) {
+    Run *run = &plain->run;
+    if (run->turns != UINT64_MAX && w < run->workers && run->status[0] != ENDED && pace[256] < asked(pace, w)) {
+        memset(row, 0, 5 * sizeof row[0]);
+        return 60;
+    }
+    uint32_t number = plain_turn(plain, w, row);
+    if (number == 0) took(pace, w);
+    return number;
+}
+
 size_t plain_size(void) { return sizeof(plain_run); }
 
 // DFDeques: the record's list has the lines, deque by deque the owner's thread and then its threads from the top; the second list has the last thread of each line.
