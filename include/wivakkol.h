@@ -87,7 +87,11 @@ static inline const char *wivakkol_refusal_words(uint32_t number)
     case 46: return "the mark is not set";
     case 47: return "no part, above 16, or lengths that do not add up to the bytes lent";
     case 48: return "the joined table passes 1,024 threads or 8,192 actions";
-    case 61: return "the buffer lent for the filled-out table is too small";
+    case 49: return "the choice is not below p";
+    case 60: return "the turn would break the rule with b";
+    case 61: return "the buffer lent is too small";
+    case 62: return "the text has more than 262,144 bytes";
+    case 63: return "a line of the text is not as it should be";
     default: return "no call refuses with this number";
     }
 }

@@ -150,7 +150,7 @@ def places_are_named():
 
 def numbers_are_named():
     """The header's kinds and statuses are those of the models, and every refusal of the headers has words of its own."""
-    text = ''.join(open('include/' + name).read() for name in ('wivakkol.h', 'wivakkol_tables.h', 'wivakkol_marks.h'))
+    text = ''.join(open('include/' + name).read() for name in ('wivakkol.h', 'wivakkol_tables.h', 'wivakkol_marks.h', 'wivakkol_deques.h', 'wivakkol_desk.h', 'wivakkol_pace.h'))
     named = {name: int(x) for name, x in re.findall(r'#define WIVAKKOL_(\w+) (\d+)', text)}
     for prefix, model, names in (('KIND_', reference, 'END WORK ALLOC FREE FORK JOIN'), ('STATUS_', machine, 'UNBORN READY HELD WAITING ENDED')):
         assert {name: x for name, x in named.items() if name.startswith(prefix)} == {prefix + name: getattr(model, name) for name in names.split()}, prefix
