@@ -121,10 +121,10 @@ static inline const char *wivakkol_refusal_words(uint32_t number)
 #define WIVAKKOL_MOST_ROW 2
 
 /* The row of wivakkol_limit. */
-#define WIVAKKOL_LIMIT_MEMORY 1   /* the useful limit: no run with these p, K and b holds more */
+#define WIVAKKOL_LIMIT_MEMORY 1   /* the useful limit: no AsyncDF run with these p, K and b holds more */
 #define WIVAKKOL_LIMIT_SERIAL 2   /* S1 */
-#define WIVAKKOL_LIMIT_PEAK 3     /* S_p: no run of p workers holds more, whatever K and b */
-#define WIVAKKOL_LIMIT_PARALLEL 4 /* the parallel peak: no run holds more, whatever p */
+#define WIVAKKOL_LIMIT_PEAK 3     /* S_p: no AsyncDF run of p workers holds more, whatever K and b */
+#define WIVAKKOL_LIMIT_PARALLEL 4 /* the parallel peak: no run of either kind holds more, whatever p */
 #define WIVAKKOL_LIMIT_STRETCH 5  /* the most that a stretch draws under K */
 #define WIVAKKOL_LIMIT_ROW 6
 
@@ -201,8 +201,8 @@ static inline uint32_t wivakkol_most(wivakkol_tables_work *work, const uint8_t *
 }
 
 /* The useful limit of the table that runs with p workers and quota K, filled out where an alloc is above K: the least of S1 + b*K*(p - 1)*(D - 1) (for b 1 or more; b 0 says nothing of the
- * turns between two of a worker), of S_p and, where K covers every stretch, of the peak over resting places (docs/REFERENCE.md). No run that begins with these p and K holds more, as long as no
- * worker has more than b turns between two of another. The row has with it S1, S_p, the parallel peak and the largest draw of a stretch under K. `filled` is used as in wivakkol_begin.
+ * turns between two of a worker), of S_p and, where K covers every stretch, of the peak over resting places and what p workers draw from there (docs/REFERENCE.md). No AsyncDF run that begins with
+ * these p and K holds more: for b 1 or more as long as no worker has more than b turns between two of another, for b 0 in every order. The row has with it S1, S_p, the parallel peak and the largest draw of a stretch under K. `filled` is used as in wivakkol_begin.
  *
  * Returns 0, or the first check that refuses: 1 to 11, the table's own; 20, p is not 1 to 16; 41, b is above 65,535; 21, K is not 1 to 16,777,215; 44, the filled-out table would pass 1,024
  * threads or 8,192 actions; 61, it has more bytes than `room`, which never comes with a room of WIVAKKOL_TABLE_MOST bytes. Where it refuses, `filled` is as it was. */

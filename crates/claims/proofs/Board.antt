@@ -1,11 +1,11 @@
 -- What a quota that is given is good for, by N1 (`maxquota`) and by the useful limit (`fitquota`): a run with it is accepted, and after every row of its turns that keeps the rule with b no more
 -- than M is held; where b is 0 a quota that fits asks nothing of the turns.
-use mathlib.Core.Path.{_≡_, refl, sym, ap, subst, _∙_}
+use mathlib.Core.Path.{_≡_, refl, sym, ap, ap₂, subst, _∙_}
 use Prim.Native.Nat.{ℕ, _≤_}
 use native.Mathlib.Omega.{arith}
-use mathlib.Core.List.{List, [], _++_, append-nil}
+use mathlib.Core.List.{List, [], _∷_, _++_, append-nil}
 use borrow.Author.Tests.{le-ltb}
-use lib.ListN.{length}
+use lib.ListN.{length, getD}
 use contract.Lifetimes.{Lfts}
 use denote.Ref.{RefT, now}
 use denote.Triple.Clauses.{AtExit}
@@ -27,7 +27,7 @@ use Rattle.quota.specs.Quota.{quoted, QuotaValues, valuesOf, valuesFor}
 use Rattle.quota.proofs.Answers.{given-exactly}
 use Rattle.quota.proofs.Checks.{values-are}
 use Rattle.useful_limit.specs.declared.Fitted.{Fitted}
-use Rattle.useful_limit.specs.declared.Fitted.the-variants.{Fits}
+use Rattle.useful_limit.specs.declared.Fitted.the-variants.{Fits, Short, Refused as NoFit}
 use Rattle.useful_limit.specs.Fit.{fitted}
 use Rattle.useful_limit.proofs.Serves.{Begins, range-begins, fit-serves}
 use Rattle.run_memory.specs.Memory.{Memory}
@@ -35,6 +35,7 @@ use Rattle.run_memory.specs.Memory.{Answer as Left}
 use Rattle.run_memory.specs.Stands.{runIn}
 use Rattle.soundness.specs.Tested.{beginFilling}
 use Rattle.wivakkol.specs.Lent.{lentBegin}
+use Rattle.wivakkol.specs.Rows.{fitRow}
 use Rattle.wivakkol.proofs.Rooms.{no-bytes}
 use Rattle.claims.specs.LentCalls.{LentCall, tableThatRuns, Returned, movesOf}
 use Rattle.claims.specs.Answers.{Answer}
@@ -184,6 +185,15 @@ pub record FitSays (s : List ℕ) (p b M : ℕ) (x : Fitted) : Type 0 where
 
 pub fit-is : {s : List ℕ} {p b M : ℕ} {x : Fitted} → FitSays s p b M x → x ≡ fitted s p b M
 fit-is {s} {p} {b} {M} h = h .promised .0 ∙ ap (λ (l : List ℕ). fitted l p b M) (h .lent)
+
+-- `wivakkol_fit` puts 1 into its row where a quota fits, and after it the quota and the memory that it needs
+pub row-fits : (s : List ℕ) (p b M K X : ℕ) → fitRow (fitted s p b M) ≡ 0 ∷ 1 ∷ K ∷ X ∷ [] → fitted s p b M ≡ Fits K X
+row-fits s p b M K X e = go (fitted s p b M) e
+  where
+    go : (q : Fitted) → fitRow q ≡ 0 ∷ 1 ∷ K ∷ X ∷ [] → q ≡ Fits K X
+    go (Fits L Y) d = ap₂ Fits (ap (λ (l : List ℕ). getD l 2 0) d) (ap (λ (l : List ℕ). getD l 3 0) d)
+    go (Short L Y) d = absurd (let z : _≡_ {A = ℕ} 0 1 = ap (λ (l : List ℕ). getD l 1 0) d in omega (arith, z))
+    go (NoFit r) d = absurd (let z : _≡_ {A = ℕ} 0 1 = ap (λ (l : List ℕ). getD l 1 0) d in omega (arith, z))
 
 pub code-fit-serves : {s : List ℕ} {p : ℕ} (b : ℕ) {M K X : ℕ} → fitted s p b M ≡ Fits K X → {x : Begun} → by-value.BeginSays s p K x → Served (Ruled b) s K M x
 code-fit-serves {s} {p} b {M} {K} {X} e h = served s p K M (fit-serves s p b M K X e .0) (Ruled b) (fit-within s p b M K X e) h

@@ -1,5 +1,5 @@
 -- The limits of DFDeques over every list of calls from a beginning, refused ones included: on the table that runs (N6), whatever the order of the turns and the choices.
-use mathlib.Core.Path.{_≡_, sym, ap, subst}
+use mathlib.Core.Path.{_≡_, sym, subst}
 use Prim.Native.Nat.{ℕ, _+_, _*_, _≤_, _<_}
 use mathlib.Core.List.{List, [], _∷_, _++_, List·Memᴰ, Memᴰ·append-left}
 use mathlib.Core.Bool.{true, false}

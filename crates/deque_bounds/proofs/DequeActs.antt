@@ -1,21 +1,19 @@
 -- An action of DFDeques keeps a bound on loads.
-use mathlib.Core.Path.{_≡_, refl, sym, ap, subst, _∙_}
-use Prim.Native.Nat.{ℕ, zero, suc, _+_, _-_, _≤_, _<_}
+use mathlib.Core.Path.{_≡_, sym, ap, _∙_}
+use Prim.Native.Nat.{ℕ, suc, _+_, _-_, _≤_, _<_}
 use native.Mathlib.Omega.{arith}
 use native.Mathlib.Decide.{ℕ-discrete, decLt}
-use mathlib.Core.List.{List, [], _∷_, _++_, List·Memᴰ·head, List·Memᴰ·tail}
+use mathlib.Core.List.{List, [], _∷_, _++_}
 use mathlib.Core.Bool.{Bool, true, false}
 use mathlib.Core.Logic.{_⊎_, inl, inr}
-use lib.ListN.{length, getD}
-use lib.Dec.{eqb, ltb}
-use borrow.Author.Tests.{eq-eqb, ne-eqb, lt-ltb}
+use borrow.Author.Tests.{eq-eqb}
 use Rattle.table.specs.Sum.{pick, sumOver}
 use Rattle.table.specs.Format.{end, fork, join, is, Table, kind}
 use Rattle.table.specs.Checks.{owner, endOf, openBefore}
 use Rattle.table.proofs.Tests.{no-way, is-true, same-is}
 use Rattle.table.proofs.Bodies.{end-within, end-last, owner-of-end, owner-first, fork-above, fork-below}
 use Rattle.table.proofs.Nesting.{open-first, open-fork, open-join}
-use Rattle.schedule.specs.Machine.{State, unborn, ready, held, waiting, ended, nextOf, statusOf, workerOf}
+use Rattle.schedule.specs.Machine.{State, unborn, held, waiting, ended, nextOf, statusOf, workerOf}
 use Rattle.schedule.specs.Sound.{isDone}
 use Rattle.order.proofs.Lawful.{Lawful}
 use Rattle.order.proofs.Words.{never-true}
@@ -27,13 +25,10 @@ use Rattle.peaks.specs.Peak.{unended, unendedIn, outer, fresh, past, load, Ligh
 use Rattle.peaks.proofs.Loads.{outer-child, past-fewer}
 use Rattle.peaks.proofs.LoadLaw.{all-fewer, outer-fewer, past-step, open-step}
 use Rattle.table.proofs.Words.{past-end}
-use Rattle.deques.specs.Deques.{Deque, deque, Deques, over, actDeques}
-use Rattle.deques.specs.Partition.{ownedBy}
-use Rattle.deques.specs.Lines.{line}
-use Rattle.deques.proofs.DequeTurns.{Kept, withSerial, serial-facts}
-use Rattle.deque_bounds.proofs.Lines.{Live, Link, Chained, Moved}
+use Rattle.deques.specs.Deques.{Deque, Deques}
+use Rattle.deques.proofs.DequeTurns.{withSerial}
+use Rattle.deque_bounds.proofs.Lines.{Live, Link, Moved}
 use Rattle.deque_bounds.proofs.Went.{Went, stays, forks, pops, drops, leaves, wakes, stops}
-use Rattle.deque_bounds.proofs.Upright.{Upright, heldBy}
 
 -- every entered unended thread has load at most c; of a held one, a child forked directly before its next action counted too
 pub record LoadWithin (T : Table) (c : ℕ) (st : State) : Type 0 where

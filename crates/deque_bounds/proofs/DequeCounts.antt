@@ -1,15 +1,15 @@
 -- The load of the thread at the bottom of a deque is at most the number of deques left of it: each branch counted in it has a thread that is ready or held, and the lowest of that thread's
 -- line lies in the branch too.
-use mathlib.Core.Path.{_≡_, refl, sym, ap, subst, _∙_}
+use mathlib.Core.Path.{_≡_, refl, sym, ap, _∙_}
 use Prim.Native.Nat.{ℕ, zero, suc, _+_, _-_, _≤_, _<_}
 use native.Mathlib.Omega.{arith}
-use native.Mathlib.Nat.{add-suc, add-zero}
+use native.Mathlib.Nat.{add-suc}
 use native.Mathlib.Decide.{ℕ-discrete}
-use mathlib.Core.List.{List, [], _∷_, _++_, List·Memᴰ, List·Memᴰ·head, List·Memᴰ·tail, List·Memᴰ·not-nil, List·Memᴰ·cases-cons, Memᴰ·append-left, Memᴰ·append-right}
+use mathlib.Core.List.{List, [], _∷_, _++_, List·Memᴰ, List·Memᴰ·head, List·Memᴰ·not-nil, List·Memᴰ·cases-cons}
 use mathlib.Core.Bool.{Bool, true, false}
 use mathlib.Core.Logic.{_⊎_, inl, inr}
-use lib.ListN.{length, getD}
-use lib.Dec.{ltb, eqb}
+use lib.ListN.{length}
+use lib.Dec.{ltb}
 use borrow.Author.Tests.{lt-ltb, le-ltb, ltb-true, eq-eqb, ne-eqb}
 use Rattle.table.specs.Sum.{pick, sumOver}
 use Rattle.table.specs.Format.{fork, join, Table, kind}
@@ -19,12 +19,11 @@ use Rattle.table.proofs.Tests.{no-way, fork-no-end}
 use Rattle.table.proofs.Bodies.{end-within, end-kind, owner-at, owner-of-end, owner-of-first, first-within, owner-first, owner-end, owner-below, fork-above, fork-below, join-above, next-owner, next-within, after-end, owner-is}
 use Rattle.table.proofs.Nesting.{open-first, open-join, open-forked, fork-found, fork-exists, fork-once}
 use Rattle.table.proofs.Amounts.{action-within}
-use Rattle.schedule.specs.Machine.{State, unborn, ready, held, waiting, ended, nextOf, statusOf, workerOf}
+use Rattle.schedule.specs.Machine.{State, unborn, ready, held, ended, nextOf, statusOf}
 use Rattle.order.specs.Order.{numberOf}
 use Rattle.schedule.specs.Sound.{isDone}
 use Rattle.order.proofs.Lawful.{Lawful}
-use Rattle.order.proofs.Numbers.{number-child, number-past, number-resume, number-rises, number-between}
-use Rattle.order.proofs.Words.{Ascends}
+use Rattle.order.proofs.Numbers.{number-child, number-past, number-rises, number-between}
 use Rattle.schedule.proofs.Sound.Facts.{Facts}
 use Rattle.schedule.proofs.Sound.Done.{done-low, done-where, number-first, next-below, owner-of-next, born-forked, unborn-undone}
 use Rattle.schedule.proofs.Linked.Waiting.{awaited, child-listed}
@@ -32,9 +31,8 @@ use Rattle.peaks.specs.Peak.{unended, unendedIn, outer, past}
 use Rattle.peaks.proofs.Opens.{along}
 use Rattle.peaks.proofs.Loads.{outer-root, outer-child, past-fewer}
 use Rattle.peaks.proofs.LoadLaw.{past-step}
-use Rattle.peaks.proofs.Takes.{next-inside}
-use Rattle.deques.specs.Deques.{Deque, bottom, isEmpty}
-use Rattle.deques.specs.Lines.{line, linesOf}
+use Rattle.deques.specs.Deques.{Deque, bottom}
+use Rattle.deques.specs.Lines.{line}
 use Rattle.deque_bounds.proofs.Lines.{Link, Chained}
 use Rattle.deques.proofs.DequeTurns.{withSerial}
 

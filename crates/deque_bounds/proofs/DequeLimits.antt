@@ -1,4 +1,4 @@
--- The limits of rows of turns of DFDeques from the beginning: M1, M2 and M5 (dfdeques.md).
+-- The limits of rows of turns of DFDeques from the beginning: by the steals beyond an action, by the places robbed, and what the lines are.
 use mathlib.Core.Path.{_≡_, refl, sym, ap, subst, _∙_}
 use Prim.Native.Nat.{ℕ, zero, suc, _+_, _-_, _*_, _≤_, _<_}
 use mathlib.Core.List.{List, [], _∷_, _++_, List·Memᴰ, List·Memᴰ·head, List·Memᴰ·tail, List·Memᴰ·not-nil, List·Memᴰ·cases-cons, Memᴰ·append-left, Memᴰ·append-right}
@@ -266,7 +266,7 @@ module _ (T : Table) (l : Lawful T) (p K fa : ℕ) (J : ℕ → ℕ) (D : Deques
     line-below : (v : ℕ) → List·Memᴰ v (line hold d) → v < T .threads
     line-below v m = standing T l p K D (I .kept) v (subst (λ (k : List ℕ). List·Memᴰ v k) (sym lines-are) (Memᴰ·append-right (linesOf hold front) (Memᴰ·append-left (linesOf hold rest) m))) .0
 
-    -- M5: "each thread's parent stands below it, at the action right after its fork"
+    -- below each thread of a line stands its parent, at the action right after its fork
     pub line-links : (above : List ℕ) (x y : ℕ) (under : List ℕ) → line hold d ≡ above ++ x ∷ y ∷ under → Link T st x y × (parentOf T x ≡ y)
     line-links above x y under e =
         let L : Link T st x y = at 0 above (subst (Chained T J st 0) e (of-line .0)) in
@@ -280,7 +280,7 @@ module _ (T : Table) (l : Lawful T) (p K fa : ℕ) (J : ℕ → ℕ) (D : Deques
         at e (z ∷ []) c = at z [] (chain-tail T J st e z x (y ∷ under) c)
         at e (z ∷ z2 ∷ k) c = at z (z2 ∷ k) (chain-tail T J st e z z2 (k ++ x ∷ y ∷ under) c)
 
-    -- "length ≤ N"
+    -- a line has at most N threads
     pub line-short : length (line hold d) ≤ N T
     line-short = go (line hold d) refl
       where
@@ -295,7 +295,7 @@ module _ (T : Table) (l : Lawful T) (p K fa : ℕ) (J : ℕ → ℕ) (D : Deques
               nest-most T t (below t (List·Memᴰ·head refl)),
             )
 
-    -- M2's count, at any thread of a line
+    -- the steals beyond any thread of a line
     line-count : (v : ℕ) → List·Memᴰ v (line hold d) → suc (J (nextOf st v)) ≤ N T + fa
     line-count v m = go (line hold d) refl
       where
@@ -345,7 +345,7 @@ module _ (T : Table) (l : Lawful T) (p K : ℕ) (few : p ≤ 16) (small : Within
   g : Facts T p K (withSerial T l (after .state))
   g = serial-facts T l p K (after .state) (upright .kept .common)
 
-  -- M1: with v the first action not done
+  -- by the steals beyond v, the first action not done
   pub held-steals : (v : ℕ) → v < T .actions → isDone T (after .state) v ≡ false → ((a : ℕ) → a < T .actions → numberOf T a < numberOf T v → isDone T (after .state) a ≡ true)
       → after .state .held ≤ S1 T + K * begun v
   held-steals v i n before =
@@ -354,7 +354,7 @@ module _ (T : Table) (l : Lawful T) (p K : ℕ) (few : p ≤ 16) (small : Within
   pub held-at-end : statusOf (after .state) 0 ≡ ended → after .state .held ≤ S1 T
   held-at-end e = held-ended T l p K (withSerial T l (after .state)) g e
 
-  -- M2: from the table, and the steals at places from 1 on
+  -- by the places robbed: from the table, and the steals at places from 1 on
   pub held-far : after .state .held ≤ S1 T + K * (N T - 1 + farther)
   held-far = go (ℕ-discrete (statusOf (after .state) 0) ended)
     where
@@ -387,7 +387,7 @@ none-far T K (g ∷ row) h D =
     let z : stealsFar (g .worker) (g .choice) D ≡ 0 = zero-far (g .worker) (g .choice) D e in
     omega (arith, z, none-far T K row (λ y m. h y (List·Memᴰ·tail m)) (dequeTurn T K (g .worker) (g .choice) D .after))
 
--- M2: with all choices 0, in any order of turns, from the table alone
+-- so with all choices 0, in any order of turns, from the table alone
 pub held-near : (T : Table) (l : Lawful T) (p K : ℕ) → p ≤ 16 → Within T K → (row : List Pair) → BelowAll p row → ((g : Pair) → List·Memᴰ g row → g .choice ≡ 0)
     → rowDeques T K (startDeques T) row .state .held ≤ S1 T + K * (N T - 1)
 held-near T l p K few small row h z =
@@ -398,7 +398,7 @@ held-near T l p K few small row h z =
 pub held-alone : (T : Table) (l : Lawful T) (K : ℕ) → Within T K → (row : List Pair) → BelowAll 1 row → rowDeques T K (startDeques T) row .state .held ≤ S1 T + K * (N T - 1)
 held-alone T l K small row h = held-near T l 1 K (omega arith) small row h (λ g m. omega (arith, h g m .1))
 
--- M5: "waits and wakings find the deque empty", of any worker that holds a thread
+-- waits and wakings find the deque of a worker that holds a thread empty
 module _ (T : Table) (l : Lawful T) (p K : ℕ) (few : p ≤ 16) (fa : ℕ) (J : ℕ → ℕ) (D : Deques) (I : Upright T p K fa J D) (w : ℕ) (below : w < p) (h : workerOf (D .state) w .holds ≡ true) where
   abbrev mineOf : List ℕ
   mineOf = getD (D .deques) (placeOf w (D .deques)) nothing .threads

@@ -5,15 +5,15 @@ use Prim.Native.Nat.{ℕ, zero, suc, _+_, _-_, _≤_, _<_, max}
 use native.Mathlib.Omega.{arith}
 use native.Mathlib.Decide.{ℕ-discrete}
 use mathlib.Core.List.{List, [], _∷_, _++_, List·Memᴰ, List·Memᴰ·head, List·Memᴰ·tail, List·Memᴰ·not-nil, Memᴰ·append-left, Memᴰ·append-right}
-use mathlib.Core.Bool.{Bool, true, false, _&&_, not}
+use mathlib.Core.Bool.{Bool, true, false, _&&_}
 use mathlib.Core.Logic.{_⊎_, inl, inr}
 use lib.ListN.{length, getD, set}
 use lib.Seq.{getD-set-same, getD-set-other}
 use lib.Dec.{ltb, eqb}
 use borrow.Author.Tests.{lt-ltb, le-ltb}
 use Rattle.table.specs.Sum.{pick, sumOver}
-use Rattle.table.specs.Format.{fork, join, Table, kind}
-use Rattle.table.specs.Checks.{owner, endOf, openBefore, tail}
+use Rattle.table.specs.Format.{fork, Table, kind}
+use Rattle.table.specs.Checks.{owner, openBefore, tail}
 use Rattle.table.proofs.Tests.{no-way}
 use Rattle.table.proofs.Bodies.{fork-below}
 use Rattle.schedule.specs.declared.Worker.{Worker}
@@ -36,12 +36,12 @@ use Rattle.deques.specs.Deques.{Deque, deque, nothing, isEmpty, bottom, robbed,
 use Rattle.deques.specs.DequeRuns.{Pair}
 use Rattle.deques.specs.Deques.{startDeques}
 use Rattle.deques.specs.DequeCalls.{rowDeques}
-use Rattle.deque_bounds.specs.DequeRows.{robs, stealsBeyond, stealsFar, steals, far}
-use Rattle.deques.specs.Partition.{ownedBy, InUse, AllInUse}
+use Rattle.deque_bounds.specs.DequeRows.{robs, stealsBeyond, stealsFar, far}
+use Rattle.deques.specs.Partition.{AllInUse}
 use Rattle.deques.specs.Lines.{line, linesOf}
 use Rattle.deques.proofs.Counts.{line-some}
 use Rattle.deques.proofs.Flat.{Mine, mine, lines-append}
-use Rattle.deques.proofs.DequeTurns.{Kept, withSerial, serial-facts, b-below, b-ready}
+use Rattle.deques.proofs.DequeTurns.{withSerial, serial-facts, b-ready}
 use Rattle.deque_bounds.proofs.Lines.{Link, Chained}
 use Rattle.deque_bounds.proofs.Upright.{heldBy, Upright, AllLines, standing, standing-live, all-front, all-head}
 use Rattle.deque_bounds.proofs.UprightActs.{stepped, act-upright, wait-empty}

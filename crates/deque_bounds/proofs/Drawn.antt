@@ -1,4 +1,4 @@
--- What the steals begun beyond an action may draw (M1): a worker's next action after one is the next in serial order, or all between the two is done; so what it has left never passes an action not done.
+-- What the steals begun beyond an action may draw: a worker's next action after one is the next in serial order, or all between the two is done; so what it has left never passes an action not done.
 use mathlib.Core.Path.{_≡_, refl, sym, ap, subst, _∙_}
 use Prim.Native.Nat.{ℕ, suc, _+_, _≤_, _<_}
 use mathlib.Core.List.{List, [], _∷_, _++_}

@@ -1,4 +1,4 @@
--- M1: along a row from the beginning, what is done beyond an action that is not done drew at most K for each steal begun beyond it.
+-- Along a row from the beginning, what is done beyond an action that is not done drew at most K for each steal begun beyond it.
 use mathlib.Core.Path.{_≡_, refl, sym, subst, _∙_}
 use Prim.Native.Nat.{ℕ, _+_, _*_, _≤_, _<_}
 use mathlib.Core.List.{List, [], _∷_, _++_, List·Memᴰ·head, List·Memᴰ·tail}

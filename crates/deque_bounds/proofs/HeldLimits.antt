@@ -1,6 +1,6 @@
 -- Every limit on memory of a row of turns of DFDeques from the beginning, of what is held after it and of the highest so far.
-use mathlib.Core.Path.{_≡_, refl, sym, subst, _∙_}
-use Prim.Native.Nat.{ℕ, suc, _+_, _-_, _*_, _≤_, _<_, max}
+use mathlib.Core.Path.{_≡_, subst, _∙_}
+use Prim.Native.Nat.{ℕ, suc, _+_, _-_, _*_, _≤_, _<_}
 use native.Mathlib.Omega.{arith}
 use native.Mathlib.Nat.{mul-le-mul-left}
 use mathlib.Core.List.{List, [], _∷_, _++_, List·Memᴰ, Memᴰ·append-left}
@@ -19,7 +19,7 @@ use Rattle.deques.specs.Deques.{Deques, startDeques, dequeTurn}
 use Rattle.deques.specs.DequeRuns.{Pair}
 use Rattle.deques.specs.DequeCalls.{rowDeques}
 use Rattle.deque_bounds.specs.DequeRows.{far, leaps}
-use Rattle.deque_bounds.specs.Deepest.{robbedAt, deepest}
+use Rattle.deque_bounds.specs.Deepest.{deepest}
 use Rattle.deque_bounds.proofs.UprightTurns.{BelowAll}
 use Rattle.deque_bounds.proofs.WeighsTurns.{workersOf}
 use Rattle.deque_bounds.proofs.DequeLimits.{held-far, held-near}

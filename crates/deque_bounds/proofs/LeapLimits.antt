@@ -1,4 +1,4 @@
--- M3: rows that keep the rule with b hold demand 3's limit, and K more for each leap.
+-- Rows that keep the rule with b hold demand 3's limit, and K more for each leap.
 use mathlib.Core.Path.{_≡_, refl, sym, ap, subst, _∙_}
 use Prim.Native.Nat.{ℕ, zero, suc, _+_, _-_, _*_, _≤_, _<_}
 use mathlib.Core.List.{List, [], _∷_, _++_, List·Memᴰ, List·Memᴰ·head, List·Memᴰ·tail, List·Memᴰ·not-nil, List·Memᴰ·cases-cons}
@@ -202,7 +202,7 @@ module _ (T : Table) (l : Lawful T) (p K b : ℕ) (few : p ≤ 16) (small : With
   positive : 1 ≤ B
   positive = omega (arith, some, mul-le-mul-left b (let z : 1 ≤ p - 1 = omega (arith, two) in z), mul-one b)
 
-  -- M3: demand 3's limit, and K for each leap
+  -- demand 3's limit, and K for each leap
   pub held-leaps : after .state .held ≤ S1 T + K * (B * (D T - 1) + leaps T K (startDeques T) row)
   held-leaps = go (ℕ-discrete (statusOf (after .state) 0) ended)
     where

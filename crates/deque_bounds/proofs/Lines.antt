@@ -138,7 +138,7 @@ module _ (T : Table) (l : Lawful T) (J : ℕ → ℕ) (st : State) where
   pub link-nest : (x y : ℕ) → Link T st x y → nest T x ≡ suc (nest T y)
   link-nest x y k = rw (← (k .names), ← (k .owned)) (nest-child T (l .contents) (l .bodies) (l .nesting) (l .forking) (k .action) (k .within) (k .forks))
 
-  -- "length ≤ N": the first's nesting is that of the last and one more for each between
+  -- a line is short: the first's nesting is that of the last and one more for each between
   pub line-nest : (e t : ℕ) (k : List ℕ) → Chained T J st e (t ∷ k) → nest T t ≡ length k + nest T (bottom (t ∷ k))
   unfolding Chained bottom
   line-nest e t [] c = omega arith

@@ -93,7 +93,7 @@ module _ (T : Table) (l : Lawful T) (p K : ℕ) (few : p ≤ 16) where
   unfolding dequeMemory
   memory-held row h = omega (arith, row-moves row h (startDeques T) (start-upright T l p K few .kept), start-held T l .0)
 
--- M2 and M3 of memory held by a row
+-- the limits by places and by leaps, of memory held by a row
 pub memory-near : (T : Table) (l : Lawful T) (p K : ℕ) → p ≤ 16 → Within T K → (row : List Pair) → BelowAll p row → ((g : Pair) → List·Memᴰ g row → g .choice ≡ 0) → dequeMemory T K row ≤ S1 T + K * (N T - 1)
 memory-near T l p K few small row h z = subst (λ (y : ℕ). y ≤ S1 T + K * (N T - 1)) (memory-held T l p K few row h) (held-near T l p K few small row h z)
 

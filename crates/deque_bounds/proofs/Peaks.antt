@@ -88,7 +88,7 @@ peak-within T K most (g ∷ row) D h f =
 start-highest : (T : Table) (l : Lawful T) (most : ℕ) → startDeques T .state .highest ≤ most
 start-highest T l most = omega (arith, start-held T l .1)
 
--- M2 of the peak
+-- the limit by places, of the peak
 pub peak-near : (T : Table) (l : Lawful T) (p K : ℕ) → p ≤ 16 → Within T K → (row : List Pair) → BelowAll p row → ((g : Pair) → List·Memᴰ g row → g .choice ≡ 0)
     → rowDeques T K (startDeques T) row .state .highest ≤ S1 T + K * (N T - 1)
 peak-near T l p K few small row h z =
@@ -98,7 +98,7 @@ peak-near T l p K few small row h z =
     inside : (front rest : List Pair) → front ++ rest ≡ row → (g : Pair) → List·Memᴰ g front → List·Memᴰ g row
     inside front rest e g m = subst (λ (k : List Pair). List·Memᴰ g k) e (Memᴰ·append-left rest m)
 
--- M3 of the peak: a front part keeps the rule, and has no leap where the whole has none
+-- the limit by leaps, of the peak: a front part keeps the rule, and has no leap where the whole has none
 pub keeps-front : (b : ℕ) (front rest : List Pair) → Keeps b (workersOf (front ++ rest)) → Keeps b (workersOf front)
 unfolding Keeps
 keeps-front b front rest k before stretch after w v e z =

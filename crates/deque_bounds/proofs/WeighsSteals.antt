@@ -1,4 +1,4 @@
--- A steal keeps M3's count: past a deque that has a thread it leaps, in its own line the last thread's nesting rises, and past an empty deque it ages the owner.
+-- A steal keeps the count of the limit by leaps: past a deque that has a thread it leaps, in its own line the last thread's nesting rises, and past an empty deque it ages the owner.
 use mathlib.Core.Path.{_≡_, refl, sym, ap, subst, _∙_}
 use Prim.Native.Nat.{ℕ, suc, _+_, _≤_, _<_}
 use mathlib.Core.List.{List, [], _∷_, List·Memᴰ, List·Memᴰ·head, List·Memᴰ·tail, List·Memᴰ·not-nil, List·Memᴰ·cases-cons, Memᴰ·append-left, Memᴰ·append-right}

@@ -1,4 +1,4 @@
--- A turn, and a row of turns that keeps the rule with b, keeps M3's count with the ages of the row.
+-- A turn, and a row of turns that keeps the rule with b, keeps the count of the limit by leaps with the ages of the row.
 use mathlib.Core.Path.{_≡_, refl, sym, ap, subst, _∙_}
 use Prim.Native.Nat.{ℕ, _+_, _*_, _≤_, _<_}
 use mathlib.Core.List.{List, [], _∷_, _++_, List·Memᴰ, List·Memᴰ·head, List·Memᴰ·tail, List·Memᴰ·not-nil}

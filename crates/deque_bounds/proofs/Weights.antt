@@ -1,4 +1,4 @@
--- M3's count: at the next action of a thread in a line, J and twice B are within B times its level, the nesting of the line's last thread, the leaps and a slack: for the thread held, the
+-- The count of the limit by leaps: at the next action of a thread in a line, J and twice B are within B times its level, the nesting of the line's last thread, the leaps and a slack: for the thread held, the
 -- worker's age; for the top of a deque that nobody owns, B; for the others none.
 use mathlib.Core.Path.{_≡_, refl, sym, subst, _∙_}
 use Prim.Native.Nat.{ℕ, suc, _+_, _*_, _≤_, _<_}

@@ -1,4 +1,4 @@
--- With an alloc above K the limits by steals, by places and by leaps are false: the dummies that stand before it keep the deque, so that it draws no quota. One worker, choices 0, K 1.
+-- With an alloc above K the limits by steals and by places are false: the dummies that stand before it keep the deque, and it draws no quota. One worker, choices 0, K 1.
 use mathlib.Core.Path.{_≡_, refl}
 use Prim.Native.Nat.{ℕ, _+_, _-_, _*_}
 use mathlib.Core.List.{List, [], _∷_, flatten}
@@ -13,10 +13,13 @@ use Rattle.table.specs.Written.{entryRows, actionRows, tableRows, written}
 use Rattle.filling.specs.Filled.{act, big, dummies, newThreads, treeOf, sumBefore, rootOf, filledFrom, oldBodies, treesAlong, filledBodies, filledOut, fork2, leaf}
 use Rattle.schedule.specs.Machine.{leftOf, without, waitsFor, woken, actBy, act as acts, taken}
 use Rattle.order.specs.Firsts.{firsts}
+use Rattle.order.specs.Order.{numberOf}
+use Rattle.order.specs.Words.{placeIn}
 use Rattle.schedule.specs.Begin.{startState}
 use Rattle.deques.specs.Deques.{bottom, above, placeOf, own, robbed, goesOn, letGo, actDeques, steal, dequeTurn, startDeques}
 use Rattle.deques.specs.DequeRuns.{Pair, pair}
 use Rattle.deques.specs.DequeCalls.{rowDeques}
+use Rattle.deque_bounds.specs.DequeRows.{stealsBeyond, steals}
 
 abbrev pub sevenBytes : List ℕ
 sevenBytes = written ((act 4 1 ∷ act 2 7 ∷ act 3 7 ∷ act 5 1 ∷ act 0 0 ∷ []) ∷ (act 2 7 ∷ act 2 1 ∷ act 2 1 ∷ act 3 9 ∷ act 0 0 ∷ []) ∷ [])
@@ -50,3 +53,8 @@ seven-held = refl
 pub seven-limit : S1 seven + 1 * (N seven - 1) ≡ 14
 unfolding entryRows actionRows tableRows written flatten S1 peakOf heldAfter fronts serialWithin greatest sumOver allocOf freeOf N greatestTo nestWithin forkBelow ownerBelow kindOf codeOf is sumTo anyBelow tableOf
 seven-limit = refl
+
+-- and S1 and K for the one steal that begins beyond the first action of all, which no limit by steals is above, come to 10
+pub seven-stolen : (S1 seven ≡ 9) × (steals seven 1 (startDeques seven) sevenRow 0 ≡ 1)
+unfolding entryRows actionRows tableRows written flatten steals stealsBeyond rowDeques dequeTurn steal actDeques letGo goesOn robbed own placeOf above bottom acts actBy woken waitsFor taken leftOf without startState firsts S1 peakOf heldAfter fronts serialWithin greatest sumOver allocOf freeOf numberOf placeIn kindOf codeOf is forkBelow ownerBelow sumTo anyBelow tableOf
+seven-stolen = (refl, refl)

@@ -1,4 +1,4 @@
--- M2 is met with equality, and so is no memory peak of 01's for one worker: a row with one worker, whose peak is the serial peak and K more.
+-- S1 + K·(N − 1) is met: a row of one worker that holds K more than the serial peak, which 01 promises of one worker by AsyncDF.
 use mathlib.Core.Path.{_≡_, refl}
 use Prim.Native.Nat.{ℕ, _+_, _-_, _*_}
 use mathlib.Core.List.{List, [], _∷_}

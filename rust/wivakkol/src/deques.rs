@@ -5,7 +5,7 @@ use core::ops::DerefMut;
 
 /// A run by DFDeques, the second scheduler: each worker has a deque of its own, goes on with the child at a fork, and where it has no thread steals from the bottom of the deque that the turn
 /// chooses. It borrows its table and its memory as a [`Run`] does. It is a type of its own, since the calls of the two kinds must not be mixed: rounds, previews, wall lines and marks are those of
-/// a [`Run`] alone, and so are the limits on memory, threads and turns.
+/// a [`Run`] alone, and so are the limits on threads and turns; on memory it has limits of its own (docs/REFERENCE.md, DFDeques).
 ///
 /// ```
 /// use wivakkol::{DequeRun, Memory, Reply, Report, Work};

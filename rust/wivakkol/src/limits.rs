@@ -4,13 +4,13 @@ use crate::{raw, LimitWork, Refusal};
 /// What is said of the table that runs, with p, K and b.
 #[derive(Clone, Copy, Debug, PartialEq, Eq, Hash)]
 pub struct Limits {
-    /// The useful limit: no run with these p and K holds more, as long as no worker has more than b turns between two of another.
+    /// The useful limit: no [`Run`](crate::Run) with these p and K holds more: for b 1 or more as long as no worker has more than b turns between two of another, for b 0 in every order.
     pub memory: u64,
     /// S1, the most memory that a serial run holds.
     pub serial: u64,
-    /// S_p: no run of p workers holds more, whatever K and b.
+    /// S_p: no [`Run`](crate::Run) of p workers holds more, whatever K and b.
     pub peak: u64,
-    /// The parallel peak: no run holds more, whatever p.
+    /// The parallel peak: no run of either kind holds more, whatever p.
     pub parallel: u64,
     /// The most that a stretch draws under K.
     pub stretch: u64,
