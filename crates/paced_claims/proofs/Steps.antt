@@ -11,6 +11,7 @@ use Rattle.table.specs.Sum.{pick}
 use Rattle.table.specs.Format.{tableOf}
 use Rattle.table.proofs.Tests.{no-way}
 use Rattle.schedule.specs.declared.Reply.the-variants.{Idle}
+use Rattle.order.specs.Firsts.{firsts}
 use Rattle.schedule.specs.Machine.{ended}
 use Rattle.array_machine.specs.Counted.{Left, turnOn}
 use Rattle.run_memory.specs.Memory.{Memory, movedIn, workerIn, memoryAfter, told, takenIn, turnLeft, turnIn, hindrance}
@@ -133,6 +134,12 @@ module _ (s : List ℕ) (who : ℕ → List ℕ → ℕ) where
       go : (q : Bool) → let d : PacedStop = pick q (pacedStop (stopped 32 false 0 M) P) (pacedDrive s who limit 0 M P) in Steps s M P (workersOf who 0 (d .stop .turns) P) (d .stop .memory) (d .pace)
       go true = whole (pacedStop (stopped 32 false 0 M) P) (here 0 M P 32 false)
       go false = whole (pacedDrive s who limit 0 M P) (drive-steps limit 0 M P)
+
+-- the workers of a run over a list are the list's, from its front
+pub listed-front : (l : List ℕ) (n i : ℕ) (P : List ℕ) → workersOf (pacedWorker l false) i n P ≡ firsts (λ j. getD l j 0) i n
+unfolding workersOf pacedWorker firsts
+listed-front l zero i P = refl
+listed-front l (suc n) i P = ap (getD l i 0 ∷_) (listed-front l n (suc i) (took P (getD l i 0)))
 
 -- ---- lists of calls
 

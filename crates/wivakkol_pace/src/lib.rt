@@ -32,17 +32,18 @@ fn stops(number: u32, pace: &[u32; 260], w: u32) -> bool
 }
 
 // A turn of worker w of the run, counted; or 60 where it would break the rule, and then nothing of the run or the pace is written. A run that is over, or that has no such worker, says so first.
-// Every number of the row is written. It is the archive's one place with the turn's code, so that the compiler puts the whole turn into one frame.
+// Every number of the row is written. It is the archive's one place with the turn's code, so that the compiler puts the whole turn into one frame;
+// what C hands over on the stack comes first, so that it is read into registers.
 pub(crate) fn paced_in(
     table: &[u8],
     w: u32,
     counting: bool,
-    bytes: &mut [u8; 1040],
-    words: &mut [u16; 6163],
-    numbers: &mut [u32; 18],
     sums: &mut [u64; 1027],
     pace: &mut [u32; 260],
     row: &mut [u64; 5],
+    bytes: &mut [u8; 1040],
+    words: &mut [u16; 6163],
+    numbers: &mut [u32; 18],
 ) -> u32
     ensures { λ r. ⌜ kept (answer r (now (row .exit)) (memoryOf (now (bytes .exit)) (now (words .exit)) (now (numbers .exit)) (now (sums .exit)))) (now (pace .exit))
         ≡ pacedTurnBy counting (now (table .entry)) w (memoryOf (now (bytes .entry)) (now (words .entry)) (now (numbers .entry)) (now (sums .entry))) (now (pace .entry)) ⌝ }
@@ -84,7 +85,7 @@ pub extern "C" fn wivakkol_paced_turn_on(
     ensures { λ r. ⌜ kept (answer r (now (row .exit)) (memoryOf (now (bytes .exit)) (now (words .exit)) (now (numbers .exit)) (now (sums .exit)))) (now (pace .exit))
         ≡ pacedTurn (now (table .entry)) w (memoryOf (now (bytes .entry)) (now (words .entry)) (now (numbers .entry)) (now (sums .entry))) (now (pace .entry)) ⌝ }
 {
-    paced_in(table, w, true, bytes, words, numbers, sums, pace, row)
+    paced_in(table, w, true, sums, pace, row, bytes, words, numbers)
 }
 
 // ---- the pace alone

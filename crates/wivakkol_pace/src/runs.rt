@@ -81,7 +81,7 @@ fn drive(
             return over(true, i);
         }
         let w = worker_of(order, rounds, &*pace, i);
-        let number = paced_in(table, w, false, bytes, words, numbers, sums, pace, &mut row);
+        let number = paced_in(table, w, false, sums, pace, &mut row, bytes, words, numbers);
         if number != 0 {
             return refused(number, i);
         }
