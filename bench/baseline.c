@@ -3,7 +3,7 @@
 // would write first; or, with -DLINKS, by the same algorithms as the Rattle code. All else is by those algorithms in both.
 //
 // usage: baseline tablecheck | turnlist | runrounds | repeat   (input and lines as of the Rattle programs; repeat as bench_runs)
-// With -DCALLS it is no program but the calls of bench/plain.h, for bench/board.c and bench/tables.c.
+// With -DCALLS it is no program but the calls of bench/plain.h, for bench/board.c, bench/deques.c and bench/tables.c.
 #include <stdbool.h>
 #include <stdint.h>
 #include <stdio.h>
@@ -1003,7 +1003,165 @@ uint32_t plain_rounds(plain_run *plain, uint32_t limit, uint64_t row[3]) {
     return report.number;
 }
 
+// A pace, as crates/pace/specs/Pace has it: 16 numbers for each worker, then b, p, the least b kept and one more than the worker of the latest turn.
+uint32_t plain_pace_begin(uint32_t *pace, uint32_t p, uint32_t b) {
+    if (p < 1 || 16 < p) return 20;
+    if (b < 1 || 65535 < b) return 41;
+    memset(pace, 0, 260 * sizeof pace[0]);
+    pace[256] = b;
+    pace[257] = p;
+    return 0;
+}
+
+static uint32_t asked(const uint32_t *pace, uint32_t w) {
+    uint32_t most = 0;
+    for (size_t x = 0; x < 16; x++)
+        if (most < pace[16 * w + x]) most = pace[16 * w + x];
+    return most;
+}
+
+static void took(uint32_t *pace, uint32_t w) {
+    uint32_t most = asked(pace, w);
+    if (pace[258] < most) pace[258] = most;
+    pace[259] = w + 1;
+    for (size_t x = 0; x < 16; x++)
+        if (pace[16 * w + x] != 0 && pace[16 * w + x] != UINT32_MAX) pace[16 * w + x]++;
+    for (size_t v = 0; v < 16; v++) pace[16 * v + w] = 1;
+    pace[17 * w] = 0;
+}
+
+uint32_t plain_paced_turn(plain_run *plain, uint32_t *pace, uint32_t w, uint64_t row[5]) {
+    Run *run = &plain->run;
+    if (run->turns != UINT64_MAX && w < run->workers && run->status[0] != ENDED && pace[256] < asked(pace, w)) {
+        memset(row, 0, 5 * sizeof row[0]);
+        return 60;
+    }
+    uint32_t number = plain_turn(plain, w, row);
+    if (number == 0) took(pace, w);
+    return number;
+}
+
 size_t plain_size(void) { return sizeof(plain_run); }
+
+// DFDeques: the record's list has the lines, deque by deque the owner's thread and then its threads from the top; the second list has the last thread of each line.
+
+static bool is_bottom(const List *bottoms, uint16_t t) { return bottoms->left[t] < THREADS || bottoms->leftmost == t; }
+
+static void go_on_with(Run *run, Worker *worker, uint16_t t) {
+    run->status[t] = HELD;
+    worker->thread = t;
+}
+
+static void leave_line(Run *run, List *bottoms, Worker *worker, uint16_t t) {
+    uint16_t below = run->list.right[t];
+    bool last = is_bottom(bottoms, t);
+    take_out(&run->list, t);
+    if (last) {
+        take_out(bottoms, t);
+        memset(worker, 0, sizeof *worker);
+    } else {
+        go_on_with(run, worker, below);
+    }
+}
+
+static void wake(Run *run, List *bottoms, Worker *worker, uint16_t t, uint16_t u) {
+    if (is_bottom(bottoms, t)) {
+        insert(bottoms, u, t);
+        take_out(bottoms, t);
+    }
+    insert(&run->list, u, t);
+    take_out(&run->list, t);
+    go_on_with(run, worker, u);
+}
+
+static Reply deque_act(Run *run, size_t n, Beside *beside, Worker *worker) {
+    uint16_t t = worker->thread, a = run->next[t];
+    const uint8_t *actions = bodies(run->table, n);
+    uint16_t x = (uint16_t)argument(actions, a);
+    switch (code(actions, a)) {
+    case END: {
+        uint16_t u = beside->parents[t];
+        run->status[t] = ENDED;
+        if (run->status[u] == WAITING && code(actions, run->next[u]) == JOIN && argument(actions, run->next[u]) == t)
+            wake(run, &beside->active, worker, t, u);
+        else
+            leave_line(run, &beside->active, worker, t);
+        return (Reply){ DONE, t, a };
+    }
+    case FORK:
+        run->next[t] = (uint16_t)(a + 1);
+        run->status[t] = READY;
+        insert(&run->list, x, t);
+        go_on_with(run, worker, x);
+        return (Reply){ DONE, t, a };
+    case JOIN:
+        if (run->status[x] != ENDED) {
+            run->status[t] = WAITING;
+            leave_line(run, &beside->active, worker, t);
+            return (Reply){ WAIT, t, x };
+        }
+        break;
+    }
+    return act(run, n, beside, worker);
+}
+
+// False where there is no deque at place c, or nothing in it to steal.
+static bool steal(Run *run, List *bottoms, Worker *worker, uint32_t c) {
+    uint16_t b = bottoms->leftmost;
+    while (c-- > 0 && b < THREADS) b = bottoms->right[b];
+    if (b == THREADS || run->status[b] != READY) return false;
+    uint16_t above = run->list.left[b];
+    if (above < THREADS && !is_bottom(bottoms, above)) insert(bottoms, above, b);
+    worker->holds = true;
+    worker->quota = run->quota;
+    go_on_with(run, worker, b);
+    return true;
+}
+
+static Reply deque_step(Run *run, size_t n, Beside *beside, size_t w, uint32_t c) {
+    Worker *worker = &run->worker[w];
+    bool held = worker->holds;
+    run->turns++;
+    if (!held && !steal(run, &beside->active, worker, c)) return (Reply){ IDLE, 0, 0 };
+    Reply reply = deque_act(run, n, beside, worker);
+    if (held != worker->holds) run->busy ^= (uint16_t)(1 << w);
+    return reply;
+}
+
+static uint32_t deque_fault(const Run *run, uint32_t w, uint32_t c) {
+    if (run->turns == UINT64_MAX) return 32;
+    if (run->workers <= w) return 30;
+    if (run->status[0] == ENDED) return 31;
+    return run->workers <= c ? 49 : 0;
+}
+
+uint32_t plain_deque_turn(plain_run *plain, uint32_t w, uint32_t c, uint64_t row[5]) {
+    Run *run = &plain->run;
+    uint32_t number = deque_fault(run, w, c);
+    memset(row, 0, 5 * sizeof row[0]);
+    if (number) return number;
+    Reply reply = deque_step(run, word(run->table, 0), &plain->beside, w, c);
+    row[1] = 1 + (uint64_t)reply.what;
+    row[2] = reply.thread;
+    row[3] = reply.value;
+    return 0;
+}
+
+uint32_t plain_deque_list(plain_run *plain, const uint8_t *order, size_t length, uint64_t row[3]) {
+    Run *run = &plain->run;
+    size_t n = word(run->table, 0), i = 0;
+    memset(row, 0, 3 * sizeof row[0]);
+    if (run->turns == UINT64_MAX) return 32;
+    for (; i < length / 2 && run->status[0] != ENDED; i++) {
+        uint32_t number = deque_fault(run, order[2 * i], order[2 * i + 1]);
+        row[2] = i;
+        if (number) return number;
+        deque_step(run, n, &plain->beside, order[2 * i], order[2 * i + 1]);
+    }
+    row[1] = run->status[0] == ENDED ? 6 : 7;
+    row[2] = i;
+    return 0;
+}
 
 #else
 

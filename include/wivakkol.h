@@ -1,5 +1,6 @@
-/* Wivakkol, called from C, for x86-64: wivakkol_turn is linked from the archive libwivakkol_turn.a (`rt staticlib wivakkol_turn`), all other calls from libwivakkol.a (`rt staticlib wivakkol`), in either order. A
- * board that does the actions takes single turns, and a turn that is compiled by itself needs little stack (docs/C-AND-RUST.md): so it has an archive of its own.
+/* Wivakkol, called from C, for x86-64: wivakkol_turn, wivakkol_kind and wivakkol_argument are linked from the archive libwivakkol_turn.a (`rt staticlib wivakkol_turn`), all other calls from
+ * libwivakkol.a (`rt staticlib wivakkol`), in either order. A board that does the actions takes single turns, and a turn that is compiled by itself needs little stack (docs/C-AND-RUST.md): so
+ * it has an archive of its own. docs/WORKERS.md has what threads that do the actions must keep to.
  *
  * Every call answers every input: no table, no number and no content of a run's memory is outside what it takes. A turn, a list, rounds and a
  * preview do not test that a sound run stands in the memory: wivakkol_open does, once, after which each of them is document 01's call on that record. A call allocates nothing, keeps
@@ -8,7 +9,7 @@
  *
  * A call returns a number: 0, or the number of the check that refuses (docs/REFERENCE.md, "Refusals"). Into the row it puts the place of the refusal, 0 where there is none, and then its
  * values, all 0 where it refuses but for the turns taken by a run and, with 61, the bytes that wivakkol_begin lacks room for. Every entry of the row is written on every call, whatever was
- * there before.
+ * there before. wivakkol_kind and wivakkol_argument are apart: they return what they are asked for, refuse nothing and have no row.
  *
  * What C must keep to, as the proofs take it for granted:
  * - `table` points to `length` bytes that may be read, all of them written before. It is never NULL, not even with a length of 0. `order` likewise points to `turns` bytes.
@@ -56,6 +57,45 @@ extern "C" {
 #define WIVAKKOL_REFUSED_FILLING 44      /* the filled-out table would pass 1,024 threads or 8,192 actions */
 #define WIVAKKOL_REFUSED_ROOM 61         /* the buffer lent for the filled-out table is too small */
 
+/* A refusal in words, for whoever prints one: of every number that a call of the three headers returns, of 0 that nothing is refused. No two numbers have the same words; a number that no call
+ * returns has its own. */
+static inline const char *wivakkol_refusal_words(uint32_t number)
+{
+    switch (number) {
+    case 0: return "nothing is refused";
+    case 1: return "the table has under 4 bytes";
+    case 2: return "n is not 1 to 1,024, or m is not 1 to 8,192";
+    case 3: return "the length is not 4 + 4n + 4m";
+    case 4: return "an entry's first action or count is wrong, or the counts do not add up to m";
+    case 5: return "a kind is above 5";
+    case 6: return "an argument does not fit its kind";
+    case 7: return "an end is not the last of its body, or a last action is no end";
+    case 8: return "a thread is forked a second time";
+    case 9: return "a join is not of the latest unjoined child, or a thread ends with a child unjoined";
+    case 10: return "a thread's balance falls below 0";
+    case 11: return "a thread other than 0 is never forked";
+    case 20: return "p is not 1 to 16";
+    case 21: return "K is not 1 to 16,777,215";
+    case 30: return "the worker is not below p";
+    case 31: return "the root has ended: the run is over";
+    case 32: return "the record is neither sound nor blank, or has no room for another turn";
+    case 41: return "b is not 1 to 65,535";
+    case 42: return "no quota is small enough for the memory";
+    case 43: return "more than 999,999 turns are taken";
+    case 44: return "the filled-out table would pass 1,024 threads or 8,192 actions";
+    case 45: return "the mark is above 7";
+    case 46: return "the mark is not set";
+    case 47: return "no part, above 16, or lengths that do not add up to the bytes lent";
+    case 48: return "the joined table passes 1,024 threads or 8,192 actions";
+    case 49: return "the choice is not below p";
+    case 60: return "the turn would break the rule with b";
+    case 61: return "the buffer lent is too small";
+    case 62: return "the text has more than 262,144 bytes";
+    case 63: return "a line of the text is not as it should be";
+    default: return "no call refuses with this number";
+    }
+}
+
 /* The longest table that is accepted: 1,024 threads and 8,192 actions. A longer input may be handed over, and is refused. */
 #define WIVAKKOL_TABLE_MOST 36868
 
@@ -80,6 +120,20 @@ extern "C" {
 #define WIVAKKOL_LIMIT 1 /* L, 1 to 262,144 */
 #define WIVAKKOL_MOST_ROW 2
 
+/* The row of wivakkol_limit. */
+#define WIVAKKOL_LIMIT_MEMORY 1   /* the useful limit: no AsyncDF run with these p, K and b holds more */
+#define WIVAKKOL_LIMIT_SERIAL 2   /* S1 */
+#define WIVAKKOL_LIMIT_PEAK 3     /* S_p: no AsyncDF run of p workers holds more, whatever K and b */
+#define WIVAKKOL_LIMIT_PARALLEL 4 /* the parallel peak: no run of either kind holds more, whatever p */
+#define WIVAKKOL_LIMIT_STRETCH 5  /* the most that a stretch draws under K */
+#define WIVAKKOL_LIMIT_ROW 6
+
+/* The row of wivakkol_fit. */
+#define WIVAKKOL_FIT_FITS 1   /* 1, or 0 where no quota fits */
+#define WIVAKKOL_FIT_QUOTA 2  /* K, the largest that fits; or the least of those that need the least */
+#define WIVAKKOL_FIT_MEMORY 3 /* the useful limit with this K */
+#define WIVAKKOL_FIT_ROW 4
+
 /* Working memory of the calls on tables, which C lends; it keeps nothing from one call to the next. wivakkol_check and wivakkol_quota use `rises`, `falls`, `peaks` and `depths`, wivakkol_most
  * `rises` and `falls`; `names` and `order` are for wivakkol_tables.h. What a call uses of it is all 0 afterwards, also where it refuses.
  *
@@ -94,14 +148,33 @@ typedef struct wivakkol_tables_work {
     uint16_t order[WIVAKKOL_MOST_THREADS];
 } wivakkol_tables_work;
 
-/* The calls as they are exported, on each array by itself. Below are those for a wivakkol_tables_work, which keep to what these ask for: each array has its full size, is aligned for its
- * numbers and never NULL, overlaps no other array of the call and was written before. */
+/* Working memory of wivakkol_limit and wivakkol_fit, for which C must keep to the same. All of it is 0 afterwards, also where they refuse. `peaks` has 17 numbers for each thread, and `rows` 17
+ * for each open child. */
+#define WIVAKKOL_PEAKS 17408
+
+typedef struct wivakkol_limit_work {
+    uint64_t rises[WIVAKKOL_MOST_THREADS];
+    uint64_t falls[WIVAKKOL_MOST_THREADS];
+    uint64_t serials[WIVAKKOL_MOST_THREADS];
+    uint16_t depths[WIVAKKOL_MOST_THREADS];
+    uint64_t peaks[WIVAKKOL_PEAKS];
+    uint64_t rows[WIVAKKOL_PEAKS];
+} wivakkol_limit_work;
+
+/* The calls as they are exported, on each array by itself. Below are those for a wivakkol_tables_work or a wivakkol_limit_work, which keep to what these ask for: each array has its full size, is
+ * aligned for its numbers and never NULL, overlaps no other array of the call and was written before. */
 uint32_t wivakkol_check_on(const uint8_t *table, size_t length, uint64_t row[WIVAKKOL_CHECK_ROW], uint64_t rises[1024], uint64_t falls[1024],
                            uint64_t peaks[1024], uint16_t depths[1024]);
 uint32_t wivakkol_quota_on(const uint8_t *table, size_t length, uint32_t p, uint32_t b, uint64_t memory, uint64_t row[WIVAKKOL_QUOTA_ROW],
                            uint64_t rises[1024], uint64_t falls[1024], uint64_t peaks[1024], uint16_t depths[1024]);
 uint32_t wivakkol_most_on(const uint8_t *table, size_t length, uint32_t p, uint32_t quota, uint64_t row[WIVAKKOL_MOST_ROW], uint64_t rises[1024],
                           uint64_t falls[1024]);
+uint32_t wivakkol_limit_on(const uint8_t *table, size_t length, uint32_t p, uint32_t quota, uint32_t b, uint64_t row[WIVAKKOL_LIMIT_ROW],
+                           uint64_t rises[1024], uint64_t falls[1024], uint64_t serials[1024], uint16_t depths[1024], uint64_t peaks[17408],
+                           uint64_t rows[17408], uint8_t *filled, size_t room);
+uint32_t wivakkol_fit_on(const uint8_t *table, size_t length, uint32_t p, uint32_t b, uint64_t memory, uint64_t row[WIVAKKOL_FIT_ROW],
+                         uint64_t rises[1024], uint64_t falls[1024], uint64_t serials[1024], uint16_t depths[1024], uint64_t peaks[17408],
+                         uint64_t rows[17408]);
 
 /* Is this a job table, and what are its facts? Returns 0, or 1 to 11: the first check that refuses it. */
 static inline uint32_t wivakkol_check(wivakkol_tables_work *work, const uint8_t *table, size_t length, uint64_t row[WIVAKKOL_CHECK_ROW])
@@ -125,6 +198,26 @@ static inline uint32_t wivakkol_most(wivakkol_tables_work *work, const uint8_t *
                                      uint64_t row[WIVAKKOL_MOST_ROW])
 {
     return wivakkol_most_on(table, length, p, quota, row, work->rises, work->falls);
+}
+
+/* The useful limit of the table that runs with p workers and quota K, filled out where an alloc is above K: the least of S1 + b*K*(p - 1)*(D - 1) (for b 1 or more; b 0 says nothing of the
+ * turns between two of a worker), of S_p and, where K covers every stretch, of the peak over resting places and what p workers draw from there (docs/REFERENCE.md). No AsyncDF run that begins with
+ * these p and K holds more: for b 1 or more as long as no worker has more than b turns between two of another, for b 0 in every order. The row has with it S1, S_p, the parallel peak and the largest draw of a stretch under K. `filled` is used as in wivakkol_begin.
+ *
+ * Returns 0, or the first check that refuses: 1 to 11, the table's own; 20, p is not 1 to 16; 41, b is above 65,535; 21, K is not 1 to 16,777,215; 44, the filled-out table would pass 1,024
+ * threads or 8,192 actions; 61, it has more bytes than `room`, which never comes with a room of WIVAKKOL_TABLE_MOST bytes. Where it refuses, `filled` is as it was. */
+static inline uint32_t wivakkol_limit(wivakkol_limit_work *work, const uint8_t *table, size_t length, uint32_t p, uint32_t quota, uint32_t b,
+                                      uint8_t *filled, size_t room, uint64_t row[WIVAKKOL_LIMIT_ROW])
+{
+    return wivakkol_limit_on(table, length, p, quota, b, row, work->rises, work->falls, work->serials, work->depths, work->peaks, work->rows, filled, room);
+}
+
+/* The largest quota, from the table's largest alloc (1 if it has none) up to 16,777,215, whose useful limit with p and b is at most `memory`, and that limit; where there is none, the least that
+ * any quota in that range needs, and the least such quota. Returns 0, or the first check that refuses: 1 to 11, the table's own; 20, p is not 1 to 16; 41, b is above 65,535. */
+static inline uint32_t wivakkol_fit(wivakkol_limit_work *work, const uint8_t *table, size_t length, uint32_t p, uint32_t b, uint64_t memory,
+                                    uint64_t row[WIVAKKOL_FIT_ROW])
+{
+    return wivakkol_fit_on(table, length, p, b, memory, row, work->rises, work->falls, work->serials, work->depths, work->peaks, work->rows);
 }
 
 /* ---- A run */
@@ -162,9 +255,16 @@ static inline uint32_t wivakkol_most(wivakkol_tables_work *work, const uint8_t *
 #define WIVAKKOL_WORDS 6163
 
 /* Places in `bytes`. */
-#define WIVAKKOL_AT_STATUS 0   /* of each thread: 0 unborn, 1 ready, 2 held, 3 waiting, 4 ended */
+#define WIVAKKOL_AT_STATUS 0   /* of each thread, one of the five below */
 #define WIVAKKOL_AT_HOLDS 1024 /* of each worker, whether it holds a thread: 0 if not */
 #define WIVAKKOL_BYTES 1040
+
+/* The status of a thread. */
+#define WIVAKKOL_STATUS_UNBORN 0
+#define WIVAKKOL_STATUS_READY 1
+#define WIVAKKOL_STATUS_HELD 2
+#define WIVAKKOL_STATUS_WAITING 3
+#define WIVAKKOL_STATUS_ENDED 4
 
 /* The memory of a run, which C lends. C may read it between two calls, and has no need to write to it. */
 typedef struct wivakkol_run {
@@ -213,6 +313,15 @@ typedef struct wivakkol_work {
 #define WIVAKKOL_SAID_DONE 2  /* the action was done */
 #define WIVAKKOL_SAID_QUOTA 3 /* an alloc was above the quota left: the worker gave its thread up */
 #define WIVAKKOL_SAID_WAIT 4  /* a join whose child has not ended: the thread waits, and the worker has none */
+
+/* The kind of an action, and what its argument is. */
+#define WIVAKKOL_KIND_END 0   /* 0 */
+#define WIVAKKOL_KIND_WORK 1  /* 0 */
+#define WIVAKKOL_KIND_ALLOC 2 /* the amount */
+#define WIVAKKOL_KIND_FREE 3  /* the amount */
+#define WIVAKKOL_KIND_FORK 4  /* the child */
+#define WIVAKKOL_KIND_JOIN 5  /* the child */
+#define WIVAKKOL_NO_KIND 255  /* of what is no action of the table; its argument is 0 */
 
 /* The row of wivakkol_preview: that of the turn, and after the turn */
 #define WIVAKKOL_AFTER_HELD 5    /* memory held */
@@ -301,6 +410,12 @@ static inline uint32_t wivakkol_turn(wivakkol_run *run, const uint8_t *table, si
 {
     return wivakkol_turn_on(table, length, w, run->bytes, run->words, run->numbers, run->sums, row);
 }
+
+/* Kind and argument of action a of the table that runs; they take no run. Where a turn says done, row[WIVAKKOL_VALUE] is the action, and whoever does the actions asks what it is. Nothing is
+ * refused: where a is not below m, the kind is WIVAKKOL_NO_KIND and the argument 0. In an accepted table every action has one of the six kinds; of other bytes the kind is the byte that stands
+ * there, 0 behind their end, with m from their head. */
+uint32_t wivakkol_kind(const uint8_t *table, size_t length, uint64_t a);
+uint32_t wivakkol_argument(const uint8_t *table, size_t length, uint64_t a);
 
 /* A turn of each worker of `order`, one byte each, up to the root's end: turns with a single row for all. Returns 0 with finished or spent, or the number with which a turn is refused, 30 or
  * 32; it ends there, and the memory is as after the turns before. Before all else comes 32 where 2^64 - 1 turns are taken, also where the root has ended or the order is empty. */

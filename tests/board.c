@@ -1,7 +1,9 @@
 /* The calls of wivakkol.h on cases from standard input, for tests/board.py; all numbers are little-endian.
  *
  * Without an argument a case is the table's length, p and b (4 bytes each), M (8), K (4) and the table. For each a line: of wivakkol_check, wivakkol_quota and wivakkol_most the number, the
- * row and a number for each field of the working memory, as below. With the argument `runs` the first line has the size of a wivakkol_run and where its blocks stand. A case is then its length (4) and steps on one run's memory:
+ * row and a number for each field of the working memory, as below; then wivakkol_kind and wivakkol_argument of the actions p, b, M, K and 0, and of the remainders of b by 64 and by 512. With the
+ * argument `limits` a case has the room for the filled-out table (4) after K, and its line wivakkol_limit, with a checksum of the room, which held the paint, and wivakkol_fit. With the argument
+ * `runs` the first line has the size of a wivakkol_run and where its blocks stand. A case is then its length (4) and steps on one run's memory:
  *   t LENGTH TABLE     the table from now on
  *   m AT LENGTH BYTES  these bytes stand in the run's memory
  *   b P K ROOM         wivakkol_begin, with so much room for the filled-out table; where that is filled out, it is the table from now on
@@ -19,25 +21,13 @@
  * first two in pages that may not be written; each row, the line, the run and the working memory stand between numbers that must stay, and a row holds anything before the call. */
 #define _GNU_SOURCE
 #include <inttypes.h>
-#include <stdio.h>
-#include <stdlib.h>
-#include <string.h>
-#include <sys/mman.h>
-#include <ucontext.h>
 
+#include "calls.h"
 #include "wivakkol.h"
 
-#define ROOM (1 << 20) /* for a table, an order, and a case */
-#define STACK (1 << 18)
-#define PAGE 4096
-#define PAINT 0xa5
-#define FENCE UINT64_C(0x0123456789abcdef)
-#define FENCES 64
 #define MOST_ROW WIVAKKOL_PREVIEW_ROW
 
-static uint8_t *memory, *orders, *fillings, *stack, *steps;
-static size_t touched = STACK; /* of the stack, from its upper end */
-static ucontext_t here, there;
+static uint8_t *memory, *orders, *fillings, *steps;
 
 static struct {
     const uint8_t *table, *order;
@@ -55,19 +45,16 @@ static struct {
     uint64_t above[FENCES];
     wivakkol_tables_work tables;
     uint64_t last[FENCES];
+    wivakkol_limit_work limits;
+    uint64_t behind[FENCES];
 } lent;
 
 static struct {
     wivakkol_run run;
     wivakkol_work work;
     wivakkol_tables_work tables;
+    wivakkol_limit_work limits;
 } before;
-
-static void fail(const char *what)
-{
-    fprintf(stderr, "board: %s\n", what);
-    exit(1);
-}
 
 static void check(void)
 {
@@ -82,6 +69,16 @@ static void quota(void)
 static void most_turns(void)
 {
     call.number = wivakkol_most(&lent.tables, call.table, call.length, call.p, call.quota, call.row + 1);
+}
+
+static void limit(void)
+{
+    call.number = wivakkol_limit(&lent.limits, call.table, call.length, call.p, call.quota, call.b, call.filled, call.room, call.row + 1);
+}
+
+static void fit(void)
+{
+    call.number = wivakkol_fit(&lent.limits, call.table, call.length, call.p, call.b, call.memory, call.row + 1);
 }
 
 static void begin(void)
@@ -133,31 +130,6 @@ static void chart(void)
     call.number = wivakkol_chart(&lent.run, &lent.work, call.table, call.length, call.line + 1);
 }
 
-/* Makes a call on the painted stack; how much of it was touched, in whole words: a single byte may be written with the paint's own number. */
-static size_t on_stack(void (*f)(void))
-{
-    static uint8_t painted[PAGE];
-    size_t low;
-
-    memset(painted, PAINT, PAGE);
-    memset(stack + STACK - touched, PAINT, touched);
-    if (getcontext(&there) != 0)
-        fail("no context");
-    there.uc_stack.ss_sp = stack;
-    there.uc_stack.ss_size = STACK;
-    there.uc_link = &here;
-    makecontext(&there, f, 0);
-    if (swapcontext(&here, &there) != 0)
-        fail("no context");
-    for (low = 0; low < STACK && memcmp(stack + low, painted, PAGE) == 0; low += PAGE)
-        ;
-    for (; low < STACK && memcmp(stack + low, painted, 8) == 0; low += 8)
-        ;
-    if (low == 0)
-        fail("the stack is too small");
-    return STACK - low;
-}
-
 /* What the C function that makes a call has on the stack: all that a call of nothing touches, but for its return address and its two arguments that no register takes. */
 static size_t around(void)
 {
@@ -184,72 +156,14 @@ static void make(void (*f)(void), size_t entries, size_t *most)
     if (call.line[0] != PAINT || call.line[WIVAKKOL_LINE + 1] != PAINT)
         fail("written outside the line");
     for (i = 0; i < FENCES; i++)
-        if (lent.below[i] != FENCE || lent.between[i] != FENCE || lent.above[i] != FENCE || lent.last[i] != FENCE)
+        if (lent.below[i] != FENCE || lent.between[i] != FENCE || lent.above[i] != FENCE || lent.last[i] != FENCE || lent.behind[i] != FENCE)
             fail("written outside the run or the working memory");
-}
-
-/* Noise in working memory: any numbers, small ones, or the largest. */
-static void noise(void *into, size_t size)
-{
-    static const uint64_t masks[] = {UINT64_MAX, UINT64_C(0x0003000300030003), UINT64_C(0x03ff03ff03ff03ff)};
-    static uint64_t x = FENCE;
-    uint64_t word, manner;
-    size_t i;
-
-    x = x * UINT64_C(6364136223846793005) + 1;
-    manner = x >> 62;
-    for (i = 0; i < size; i += sizeof word) {
-        x = x * UINT64_C(6364136223846793005) + 1;
-        word = manner == 3 ? UINT64_MAX : (x ^ x >> 32) & masks[manner];
-        memcpy((uint8_t *)into + i, &word, sizeof word);
-    }
 }
 
 static void stir(void)
 {
     noise(&lent.work, sizeof lent.work);
     before.work = lent.work;
-}
-
-/* What a call has left of such bytes: 0, zeros; 1, those from before; 2, neither. */
-static uint8_t left(const void *of, const void *was, size_t size)
-{
-    const uint8_t *bytes = of;
-
-    if (bytes[0] == 0 && memcmp(bytes, bytes + 1, size - 1) == 0)
-        return 0;
-    return memcmp(of, was, size) == 0 ? 1 : 2;
-}
-
-static uint64_t little(const uint8_t *s, int bytes)
-{
-    return bytes == 0 ? 0 : s[0] + 256 * little(s + 1, bytes - 1);
-}
-
-/* Whole, or nothing at the input's end. */
-static int got(uint8_t *into, size_t bytes)
-{
-    size_t count = fread(into, 1, bytes, stdin);
-
-    if (count != 0 && count != bytes)
-        fail("a case is cut off");
-    return count == bytes;
-}
-
-/* Opens the room for so many bytes at its end: where they are to be put, before it is closed again. */
-static uint8_t *place(uint8_t *room, uint32_t length)
-{
-    if (length > ROOM)
-        fail("a table or an order above the room for it");
-    if (mprotect(room, ROOM, PROT_READ | PROT_WRITE) != 0)
-        fail("no memory");
-    return room + ROOM - length;
-}
-
-static void close_room(uint8_t *room)
-{
-    if (mprotect(room, ROOM, PROT_READ) != 0)
-        fail("no memory");
 }
 
 static uint8_t *place_table(uint32_t length)
@@ -259,16 +173,6 @@ static uint8_t *place_table(uint32_t length)
     call.table = at;
     call.length = length;
     return at;
-}
-
-/* Room behind which nothing may be read. */
-static uint8_t *room(void)
-{
-    uint8_t *made = mmap(NULL, ROOM + PAGE, PROT_READ | PROT_WRITE, MAP_PRIVATE | MAP_ANONYMOUS, -1, 0);
-
-    if (made == MAP_FAILED || mprotect(made + ROOM, PAGE, PROT_NONE) != 0)
-        fail("no memory");
-    return made;
 }
 
 #define PRINT_LEFT(field) printf(" %d", left(lent.tables.field, before.tables.field, sizeof lent.tables.field))
@@ -285,6 +189,15 @@ static void on_table(void (*f)(void), size_t entries, size_t *most)
     for (i = 1; i <= entries; i++)
         printf(" %" PRIu64, call.row[i]);
     PRINT_LEFT(rises), PRINT_LEFT(falls), PRINT_LEFT(peaks), PRINT_LEFT(depths), PRINT_LEFT(names), PRINT_LEFT(order);
+}
+
+static void actions(void)
+{
+    const uint64_t asked[] = {call.p, call.b, call.memory, call.quota, 0, call.b % 64, call.b % 512};
+    size_t i;
+
+    for (i = 0; i < sizeof asked / sizeof asked[0]; i++)
+        printf(" %" PRIu32 " %" PRIu32, wivakkol_kind(call.table, call.length, asked[i]), wivakkol_argument(call.table, call.length, asked[i]));
 }
 
 static void tables(void)
@@ -306,15 +219,68 @@ static void tables(void)
         on_table(quota, WIVAKKOL_QUOTA_ROW, &most[1]);
         printf(" ");
         on_table(most_turns, WIVAKKOL_MOST_ROW, &most[2]);
+        actions();
         printf("\n");
     }
     printf("stack %zu %zu %zu\n", most[0] - around(), most[1] - around(), most[2] - around());
 }
 
-static void put(const void *bytes, size_t size)
+#define PRINT_LIMIT_LEFT(field) printf(" %d", left(lent.limits.field, before.limits.field, sizeof lent.limits.field))
+
+static void on_limits(void (*f)(void), size_t entries, size_t *most)
 {
-    if (fwrite(bytes, 1, size, stdout) != size)
-        fail("no output");
+    size_t i;
+
+    noise(&lent.limits, sizeof lent.limits);
+    before.limits = lent.limits;
+    make(f, entries, most);
+    printf("%" PRIu32, call.number);
+    for (i = 1; i <= entries; i++)
+        printf(" %" PRIu64, call.row[i]);
+    PRINT_LIMIT_LEFT(rises), PRINT_LIMIT_LEFT(falls), PRINT_LIMIT_LEFT(serials), PRINT_LIMIT_LEFT(depths), PRINT_LIMIT_LEFT(peaks), PRINT_LIMIT_LEFT(rows);
+}
+
+/* CRC-32. */
+static uint32_t checksum(const uint8_t *bytes, size_t size)
+{
+    uint32_t sum = UINT32_MAX;
+    size_t i;
+    int bit;
+
+    for (i = 0; i < size; i++)
+        for (sum ^= bytes[i], bit = 0; bit < 8; bit++)
+            sum = sum >> 1 ^ (sum & 1 ? UINT32_C(0xedb88320) : 0);
+    return ~sum;
+}
+
+static void limits(void)
+{
+    uint8_t front[28];
+    size_t i, most[2] = {0, 0};
+
+    while (got(front, sizeof front)) {
+        uint8_t *at = place_table((uint32_t)little(front, 4));
+        call.p = (uint32_t)little(front + 4, 4);
+        call.b = (uint32_t)little(front + 8, 4);
+        call.memory = little(front + 12, 8);
+        call.quota = (uint32_t)little(front + 20, 4);
+        call.room = (uint32_t)little(front + 24, 4);
+        if (call.length != 0 && !got(at, call.length))
+            fail("a case is cut off");
+        if (call.room > ROOM - FENCES)
+            fail("too much room");
+        close_room(memory);
+        call.filled = place(fillings, call.room);
+        memset(fillings, PAINT, ROOM);
+        on_limits(limit, WIVAKKOL_LIMIT_ROW, &most[0]);
+        for (i = 1; i <= FENCES; i++)
+            if (call.filled[-(ptrdiff_t)i] != PAINT)
+                fail("written below the room");
+        printf(" %" PRIu32 " ", checksum(call.filled, call.room));
+        on_limits(fit, WIVAKKOL_FIT_ROW, &most[1]);
+        printf("\n");
+    }
+    printf("stack %zu %zu\n", most[0] - around(), most[1] - around());
 }
 
 static void put_answer(size_t entries)
@@ -502,12 +468,14 @@ int main(int argc, char **argv)
     if (stack == NULL || steps == NULL)
         fail("no memory");
     for (i = 0; i < FENCES; i++)
-        lent.below[i] = lent.between[i] = lent.above[i] = lent.last[i] = FENCE;
+        lent.below[i] = lent.between[i] = lent.above[i] = lent.last[i] = lent.behind[i] = FENCE;
     if (argc == 1)
         tables();
     else if (argc == 2 && strcmp(argv[1], "runs") == 0)
         runs();
+    else if (argc == 2 && strcmp(argv[1], "limits") == 0)
+        limits();
     else
-        fail("the only argument there is: runs");
+        fail("the only arguments there are: limits, runs");
     return 0;
 }

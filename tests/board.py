@@ -1,4 +1,4 @@
-"""Builds tests/board.c and examples/board.c on the archives for C, calls them on random and damaged tables and runs, and compares with reference.py, quota.py, most.py, machine.py and lent.py, which
+"""Builds tests/board.c and examples/board.c on the archives for C, calls them on random and damaged tables and runs, and compares with reference.py, quota.py, most.py, limits.py, fitting.py, machine.py and lent.py, which
 were written on their own. Holds the header against the source, since nothing else would say where they differ.
 
 usage: python3 tests/board.py [COUNT]
@@ -13,11 +13,13 @@ import shutil
 import subprocess
 import sys
 
+import board_limits
 import board_runs
 import lent
 import machine
 import most
 import quota
+import reference
 from differential import LARGEST, mostly, run_table, tablecheck_input
 from reference import check, facts_line
 from tables import damaged
@@ -33,8 +35,9 @@ NUMBERS = {'wivakkol_check': set(range(12)), 'wivakkol_quota': set(range(12)) | 
 LEFT = {'wivakkol_check': [0, 0, 0, 0, 1, 1], 'wivakkol_quota': [0, 0, 0, 0, 1, 1], 'wivakkol_most': [0, 0, 1, 1, 1, 1]}
 STACK_MOST = 8192  # bytes that a call on a table may take of the stack
 # the names of their numbers of bytes, of lengths that of their count
-BYTES = {'table': 'length', 'order': 'turns', 'filled': 'room', 'first': 'first_length', 'second': 'second_length', 'tables': 'length', 'lengths': 'parts'}
+BYTES = {'table': 'length', 'text': 'length', 'out': 'room', 'order': 'turns', 'filled': 'room', 'first': 'first_length', 'second': 'second_length', 'tables': 'length', 'lengths': 'parts'}
 RUN_CALLS = list(board_runs.NUMBERS)  # the calls for a wivakkol_run
+ACTION_CALLS = ['wivakkol_kind', 'wivakkol_argument']
 WORK_NAMES = {'parents': 'seen'}  # fields of a wivakkol_work that the exported calls name otherwise, since they have parents of their own
 # the places that the header names: of each the part of a block that it is in, and which number of that
 NAMED = {'HELD': ('totals', lent.HELD_NOW), 'HIGHEST': ('totals', lent.HIGHEST), 'TURNS': ('totals', lent.TURNS), 'P': ('settings', lent.P), 'K': ('settings', lent.K),
@@ -43,9 +46,9 @@ NAMED.update({name.upper(): (name, 0) for name in lent.PLACES if name not in ('t
 Case = collections.namedtuple('Case', 'data p b memory quota')
 
 
-def build(source, name):
+def build(source, name, archives=ARCHIVES):
     os.makedirs(OUT, exist_ok=True)
-    command = ['cc', '-std=c99', '-Wall', '-Wextra', '-Werror', '-pedantic', '-O2', '-Iinclude', '-o', '%s/%s' % (OUT, name), source, *ARCHIVES]
+    command = ['cc', '-std=c99', '-Wall', '-Wextra', '-Werror', '-pedantic', '-O2', '-Iinclude', '-o', '%s/%s' % (OUT, name), source, *archives]
     subprocess.run(command, check=True)
     return '%s/%s' % (OUT, name)
 
@@ -56,8 +59,8 @@ def header_for_cpp(name='wivakkol.h'):
         subprocess.run(['c++', '-x', 'c++', '-Wall', '-Wextra', '-Werror', '-pedantic', '-fsyntax-only', 'include/' + name], check=True)
 
 
-def exported(crate):
-    """The exported functions of a crate's source: of each its parameters as (name, C type, array size), where a slice is a pointer and its number of bytes."""
+def exported(crate, numbers=BYTES):
+    """The exported functions of a crate's source: of each its parameters as (name, C type, array size), where a slice is a pointer and its number of bytes, whose name is in `numbers`."""
     calls = {}
     for path in sorted(pathlib.Path('crates/%s/src' % crate).glob('*.rt')):
         for name, text, result in re.findall(r'pub extern "C" fn (\w+)\(([^)]*)\) -> (\w+)', path.read_text()):
@@ -68,7 +71,7 @@ def exported(crate):
                 const = 'const ' if lent == '&' else ''
                 if lent and size is None:
                     assert kind in ('&[u8]', '&mut [u8]', '&[u32]'), kind
-                    calls[name] += [(variable, const + c_type(inner), '*'), (BYTES[variable], 'size_t', None)]
+                    calls[name] += [(variable, const + c_type(inner), '*'), (numbers[variable], 'size_t', None)]
                 else:
                     calls[name].append((variable, const + c_type(inner), int(size) if lent else None))
     return calls
@@ -98,12 +101,30 @@ def prototypes_of(text):
 
 
 def header_is_source():
-    """Names, order, types, const and sizes of the exported calls are those of the source, and a turn is in a crate of its own; blocks and parts are lent as lent.py has them."""
+    """Names, order, types, const and sizes of the exported calls are those of the source, and a turn is in a crate of its own, with what asks for its action; blocks and parts are lent as lent.py has them."""
     (single, board), text = map(exported, CRATES), header()
-    assert list(single) == ['wivakkol_turn_on'] and not set(single) & set(board)
-    source, prototypes = {**single, **board}, prototypes_of(text)
-    assert prototypes == source, 'the header and the source differ: %s' % [(name, prototypes.get(name), source.get(name))
-                                                                          for name in {*prototypes, *source} if prototypes.get(name) != source.get(name)]
+    assert set(single) == {'wivakkol_turn_on', *ACTION_CALLS} and not set(single) & set(board)
+    source = {**single, **board}
+    same_prototypes(prototypes_of(text), source)
+    for call in RUN_CALLS:
+        run_call_hands_over(text, call, source['wivakkol_%s_on' % call], call in ('turn', 'list', 'rounds', 'preview'))
+    for calls, struct in (NUMBERS, 'tables_work'), (board_limits.NUMBERS, 'limit_work'):
+        lent_work = fields(text, struct)
+        for call in calls:
+            result, *parameters = source[call + '_on']
+            taken = {name: (kind, size) for name, kind, size in parameters}
+            assert all(taken.get(name, (kind, size)) == (kind, size) for name, kind, size in lent_work), '%s_on: the working memory' % call
+            inline_on_table(text, call, struct, result, parameters, {name: 'work->' + name for name, _, _ in lent_work})
+    assert set(source) == {*ACTION_CALLS, *(call + '_on' for call in [*NUMBERS, *board_limits.NUMBERS]), *('wivakkol_%s_on' % call for call in RUN_CALLS)}
+
+
+def same_prototypes(prototypes, source):
+    differ = [(name, prototypes.get(name), source.get(name)) for name in {*prototypes, *source} if prototypes.get(name) != source.get(name)]
+    assert not differ, 'the header and the source differ: %s' % differ
+
+
+def run_call_hands_over(text, call, exported_as, on_blocks):
+    """A call for a wivakkol_run: it is lent all of a run, in blocks or in parts as lent.py has them, with fields of a wivakkol_work, and hands them over by their names."""
     blocks, work = fields(text, 'run'), fields(text, 'work')
     assert blocks == [(block, 'uint%d_t' % bits, lent.COUNTS[block]) for bits, block in lent.BLOCKS.items()], 'the struct is not that of lent.py'
     parts = [(name, 'uint%d_t' % bits, count) for name, bits, count in lent.FIELDS]
@@ -111,21 +132,13 @@ def header_is_source():
     places.update((name, 'run->%s + %d' % (lent.BLOCKS[bits], lent.PLACES[name])) for name, bits, _ in lent.FIELDS)
     work_places = {WORK_NAMES.get(name, name): 'work->' + name for name, _, _ in work}
     assert not set(places) & set(work_places)
-    for call in RUN_CALLS:
-        result, *parameters = source['wivakkol_%s_on' % call]
-        taken = {name: (kind.replace('const ', ''), size) for name, kind, size in parameters}
-        whole = blocks if call in ('turn', 'list', 'rounds', 'preview') else parts
-        assert {name for name, _, _ in whole} <= set(taken) or call == 'chart', 'wivakkol_%s_on is not lent all of a run' % call
-        for name, kind, size in [*whole, *((WORK_NAMES.get(name, name), kind, size) for name, kind, size in work)]:
-            assert taken.get(name, (kind, size)) == (kind, size), 'wivakkol_%s_on: %s' % (call, name)
-        inline_hands_over(text, call, result, parameters, {**places, **work_places})
-    tables_work = fields(text, 'tables_work')
-    for call in NUMBERS:
-        result, *parameters = source[call + '_on']
-        taken = {name: (kind, size) for name, kind, size in parameters}
-        assert all(taken.get(name, (kind, size)) == (kind, size) for name, kind, size in tables_work), '%s_on: the working memory' % call
-        inline_on_table(text, call, result, parameters, {name: 'work->' + name for name, _, _ in tables_work})
-    assert set(source) == {*(call + '_on' for call in NUMBERS), *('wivakkol_%s_on' % call for call in RUN_CALLS)}
+    result, *parameters = exported_as
+    taken = {name: (kind.replace('const ', ''), size) for name, kind, size in parameters}
+    whole = blocks if on_blocks else parts
+    assert {name for name, _, _ in whole} <= set(taken) or call == 'chart', 'wivakkol_%s_on is not lent all of a run' % call
+    for name, kind, size in [*whole, *((WORK_NAMES.get(name, name), kind, size) for name, kind, size in work)]:
+        assert taken.get(name, (kind, size)) == (kind, size), 'wivakkol_%s_on: %s' % (call, name)
+    inline_hands_over(text, call, result, parameters, {**places, **work_places})
 
 
 def places_are_named():
@@ -133,6 +146,17 @@ def places_are_named():
     defined = dict(re.findall(r'#define WIVAKKOL_(\w+) (\d+)', open('include/wivakkol.h').read()))
     for name, (part, i) in NAMED.items():
         assert int(defined['AT_' + name]) == lent.PLACES[part] + i, 'WIVAKKOL_AT_%s is another place than in lent.py' % name
+
+
+def numbers_are_named():
+    """The header's kinds and statuses are those of the models, and every refusal of the headers has words of its own."""
+    text = ''.join(open('include/' + name).read() for name in ('wivakkol.h', 'wivakkol_tables.h', 'wivakkol_marks.h', 'wivakkol_deques.h', 'wivakkol_desk.h', 'wivakkol_pace.h'))
+    named = {name: int(x) for name, x in re.findall(r'#define WIVAKKOL_(\w+) (\d+)', text)}
+    for prefix, model, names in (('KIND_', reference, 'END WORK ALLOC FREE FORK JOIN'), ('STATUS_', machine, 'UNBORN READY HELD WAITING ENDED')):
+        assert {name: x for name, x in named.items() if name.startswith(prefix)} == {prefix + name: getattr(model, name) for name in names.split()}, prefix
+    words = re.findall(r'case (\d+): return "([^"]+)";', text)
+    assert sorted(int(number) for number, _ in words) == sorted([0, *(x for name, x in named.items() if name.startswith('REFUSED_'))]), 'refusals without words'
+    assert len({told for _, told in words}) == len(words), 'two refusals with the same words'
 
 
 def fields(text, struct):
@@ -149,9 +173,9 @@ def inline_hands_over(text, call, result, parameters, places):
     assert (const is None, work is not None) == ('run' in written, 'work' in written), 'wivakkol_%s: what is written of the run and the working memory' % call
 
 
-def inline_on_table(text, call, result, parameters, places):
-    """Likewise the call for a wivakkol_tables_work."""
-    inline = re.search(r'static inline (\w+) %s\(wivakkol_tables_work \*work, ([^)]*)\)\s*\{\s*return %s_on\(([^)]*)\);\s*\}' % (call, call), text).groups()
+def inline_on_table(text, call, struct, result, parameters, places):
+    """Likewise the call for working memory alone."""
+    inline = re.search(r'static inline (\w+) %s\(wivakkol_%s \*work, ([^)]*)\)\s*\{\s*return %s_on\(([^)]*)\);\s*\}' % (call, struct, call), text).groups()
     hands_over(call, inline, result, parameters, places)
 
 
@@ -193,6 +217,17 @@ def number_and_row(answer, values):
     return [answer[1], answer[2]] + [0] * values if answer[0] == 'refused' else [0, 0, *answer[1:]]
 
 
+def action(data, a):
+    """Kind and argument of action a, by the bytes that stand there, 0 behind their end; 255 and 0 where a is not below the head's m."""
+    n, m = int.from_bytes(data[:2], 'little'), int.from_bytes(data[2:4], 'little')
+    word = int.from_bytes(data[4 + 4 * (n + a):][:4], 'little')
+    return [word % 256, word // 256] if a < m else [255, 0]
+
+
+def actions(case):
+    return [action(case.data, a) for a in (case.p, case.b, case.memory, case.quota, 0, case.b % 64, case.b % 512)]
+
+
 def expected(case):
     """Number, row and what is left of the working memory, of each call on a table."""
     answers = [(check(case.data), 5), (quota.largest(*case[:4]), 1), (most.limit(case.data, case.p, case.quota), 1)]
@@ -205,21 +240,22 @@ def packed(case):
 
 
 def compare(program, drawn):
-    """How often each number was given by each call, and the most stack of each."""
+    """How often each number was given by each call on a table, and each kind of an action; and the most stack of the first."""
     done = subprocess.run([program], input=b''.join(map(packed, drawn)), stdout=subprocess.PIPE, check=True)
     *lines, last = done.stdout.decode().splitlines()
     assert len(lines) == len(drawn), '%d answers to %d cases' % (len(lines), len(drawn))
-    numbers = [collections.Counter() for _ in NUMBERS]
+    numbers, kinds = [collections.Counter() for _ in NUMBERS], collections.Counter()
     for i, (line, case) in enumerate(zip(lines, drawn)):
         got = list(map(int, line.split()))
-        wanted = expected(case)
-        if got != sum(wanted, []):
+        wanted, asked = expected(case), actions(case)
+        kinds.update(kind for kind, _ in asked)
+        if got != sum(wanted + asked, []):
             path = '%s/different.table' % OUT
             pathlib.Path(path).write_bytes(case.data)
-            sys.exit('case %d differs, p %d b %d M %d K %d and the table in %s\n  given    %s\n  expected %s' % (i, *case[1:], path, got, sum(wanted, [])))
+            sys.exit('case %d differs, p %d b %d M %d K %d and the table in %s\n  given    %s\n  expected %s' % (i, *case[1:], path, got, sum(wanted + asked, [])))
         for counter, answer in zip(numbers, wanted):
             counter[answer[0]] += 1
-    return numbers, last
+    return numbers, kinds, last
 
 
 def end_of_run(data, p, K):
@@ -249,10 +285,11 @@ def main():
             sys.exit('%s is not there: run `rt staticlib %s` first' % (archive, crate))
     header_is_source()
     places_are_named()
+    numbers_are_named()
     header_for_cpp()
     drawn = cases(random.Random(20), max(count, 6))
     program = build('tests/board.c', 'board_test')
-    numbers, last = compare(program, drawn)
+    numbers, kinds, last = compare(program, drawn)
     assert max(map(int, last.split()[1:])) < STACK_MOST, 'a call on a table took more stack than it may: %s' % last
     some = [drawn[0]._replace(p=2), *drawn[1:200]]  # with more workers the model's run of the nested table takes long
     compare_example(build('examples/board.c', 'board'), some)
@@ -260,7 +297,11 @@ def main():
         assert set(counter) == NUMBERS[name] or count < 1000, '%s: not every number was reached, %s' % (name, sorted(counter))
         given = ', '.join('%d: %d' % pair for pair in sorted(counter.items()))
         print('%s: %d of %d agree (by number: %s)' % (name, sum(counter.values()), len(drawn), given))
+    assert {*range(6), 255} <= set(kinds) or count < 1000, 'not every kind was reached, %s' % sorted(kinds)
+    print('wivakkol_kind and wivakkol_argument: %d of %d agree, %d of them of no action' % (sum(kinds.values()), sum(kinds.values()), kinds[255]))
     print('examples/board.c: %d of %d agree' % (len(some), len(some)))
+    limit_stacks = board_limits.compare(program, drawn[3:], count)
+    assert max(limit_stacks) < STACK_MOST, 'a call on limits took more stack than it may: %s' % limit_stacks
     kinds, stacks = board_runs.compare(program, 21, [case.data for case in drawn[:3]], count // 2)
     for kind, counter in kinds.items():
         calls = [sum(counter['%s %d' % (call, x)] for x in numbers) for call, numbers in board_runs.NUMBERS.items()]
@@ -268,7 +309,7 @@ def main():
         print('%s memory: %d runs agree, of %d beginnings, %d openings, %d turns, %d lists, %d rounds, %d previews and %d lines (%s)' % (kind, counter['runs'], *calls, told))
     missing = [what for what in board_runs.WANTED if not any(counter[what] for counter in kinds.values())]
     assert not missing or count < 1000, 'no run reached %s' % ', '.join(missing)
-    print('most stack of %s, in bytes: %s' % (', '.join(['check', 'quota', 'most', *RUN_CALLS]), ' '.join([*last.split()[1:], *map(str, stacks)])))
+    print('most stack of %s, in bytes: %s' % (', '.join(['check', 'quota', 'most', 'limit', 'fit', *RUN_CALLS]), ' '.join([*last.split()[1:], *map(str, limit_stacks + stacks)])))
 
 
 if __name__ == '__main__':

@@ -29,6 +29,7 @@ def word(x, size=4):
 
 class Play:
     """Steps on a run's memory for the test program, taken by the model at once, and the answers expected."""
+    model = lent.Lent
 
     def __init__(self, memory, data):
         self.steps, self.answers, self.reached = bytearray(), [], collections.Counter()
@@ -40,7 +41,7 @@ class Play:
         self.steps += b''.join(parts)
 
     def change_table(self, data):
-        self.data, self.run = data, lent.Lent(self.memory, data)
+        self.data, self.run = data, self.model(self.memory, data)
         self.add(b't', word(len(data)), data)
 
     def put(self, name, i, x):
@@ -550,10 +551,10 @@ def random_run(rng):
 # ---- the test program
 
 class Program:
-    """tests/board.c in its manner `runs`."""
+    """tests/board.c in its manner `runs`, or a program with such steps."""
 
-    def __init__(self, path):
-        self.process = subprocess.Popen([path, 'runs'], stdin=subprocess.PIPE, stdout=subprocess.PIPE)
+    def __init__(self, *command):
+        self.process = subprocess.Popen(command, stdin=subprocess.PIPE, stdout=subprocess.PIPE)
         _, size, *blocks = self.process.stdout.readline().decode().split()
         begins = {bits: min(OFFSETS[name] for name, other, _ in FIELDS if other == bits) for bits in BLOCKS}
         layout = [(block, begins[bits], bits // 8, COUNTS[block]) for bits, block in BLOCKS.items()]
@@ -581,7 +582,7 @@ class Program:
         sys.exit('\n'.join(lines))
 
     def close(self):
-        """The last line: the most stack of each of the seven calls."""
+        """The last line: the most stack of each of the calls."""
         self.process.stdin.close()
         last = self.process.stdout.read().decode().split()
         assert self.process.wait() == 0 and last[0] == 'stack'
@@ -616,7 +617,7 @@ def parts(rng, whole, count):
 
 def compare_part(path, seed, whole, count, i):
     """The kind of the runs of part i, how often each thing was reached in them, and the most stack."""
-    program, reached = Program(path), collections.Counter()
+    program, reached = Program(path, 'runs'), collections.Counter()
     kind, plays = parts(random.Random(seed + i), whole, count)[i]
     for play in plays:
         program.compare(play)

@@ -1,10 +1,12 @@
-"""Writes the stored input and output of crates/table_cases: inputs of tablecheck, maxquota and maxturns with a label, and the answer expected of each.
+"""Writes the stored input and output of crates/table_cases: inputs of tablecheck, maxquota, maxturns, memlimit and fitquota with a label, and the answer expected of each.
 
-A record of the input is the label's length (1 byte), the label, 't' for tablecheck, 'q' for maxquota or 'l' for maxturns, the input's length (3 bytes), the input.
-Every expected answer is written down here by hand, and held against reference.py, quota.py or most.py as well.
+A record of the input is the label's length (1 byte), the label, 't' for tablecheck, 'q' for maxquota, 'l' for maxturns, 'm' for memlimit or 'f' for fitquota, the input's length (3 bytes), the
+input. Every expected answer is written down here by hand, and held against reference.py, quota.py, most.py, limits.py or fitting.py as well.
 """
 import pathlib
 
+from fitting import fitquota
+from limits import memlimit
 from most import asked, maxturns
 from quota import board, maxquota
 from reference import END, WORK, ALLOC, FREE, FORK, JOIN, check, facts_line
@@ -182,6 +184,44 @@ TURNS = [
     ('a byte more, turns', asked(2, 6, E + b'\0'), 'refused 3 0'),
 ]
 
+# five numbers of the table that runs: with K 5 E is filled out, and its allocs of 6 draw nothing
+three = table(parent(1, 2, 3), *[[alloc(5), free(5), end]] * 3)
+LIMITS = [
+    ('7 bytes, limit', asked(2, 6, b'')[:7], 'refused 33 0'),
+    ('8 bytes, limit', asked(2, 6, b''), 'refused 1 0'),
+    ('E, K 6, b 1', asked(2, 6, E, 1), 'memory 12 serial 6 peak 12 parallel 12 stretch 6'),
+    ('E, K 5, b 1', asked(2, 5, E, 1), 'memory 12 serial 6 peak 12 parallel 12 stretch 0'),
+    ('E, one worker, b 0', asked(1, 6, E), 'memory 6 serial 6 peak 6 parallel 12 stretch 6'),
+    ('E, 16 workers, b 65,535', asked(16, LARGEST, E, 65535), 'memory 12 serial 6 peak 12 parallel 12 stretch 6'),
+    ('a fan of three, p 2', asked(2, 5, three), 'memory 10 serial 5 peak 10 parallel 15 stretch 5'),
+    ('a fan of three, p 3', asked(3, 5, three), 'memory 15 serial 5 peak 15 parallel 15 stretch 5'),
+    ('one end, limit', asked(16, 1, least, 65535), 'memory 0 serial 0 peak 0 parallel 0 stretch 0'),
+    ('E, no worker, limit', asked(0, 6, E), 'refused 20 0'),
+    ('E, 17 workers, limit', asked(17, 6, E), 'refused 20 0'),
+    ('E, b 65,536, limit', asked(2, 6, E, 65536), 'refused 41 0'),
+    ('E, K 0, limit', asked(2, 0, E), 'refused 21 0'),
+    ('the table before 20, limit', asked(0, 0, table([free(1), end]), 65536), 'refused 10 0'),
+    ('20 before 41, limit', asked(17, 0, E, 65536), 'refused 20 0'),
+    ('41 before 21', asked(2, 0, E, 65536), 'refused 41 0'),
+    ('21 before 44, limit', asked(1, 0, one(513)), 'refused 21 0'),
+    ('44, limit', asked(1, 1, one(513, 2)), 'refused 44 2'),
+    ('a byte more, limit', asked(2, 6, E + b'\0'), 'refused 3 0'),
+]
+
+FITS = [
+    ('12 bytes, fit', board(2, 1, 55, b'')[:12], 'refused 33 0'),
+    ('E, fit, M 55', board(2, 1, 55, E), 'quota 16777215 memory 12'),
+    ('E, fit, M 12', board(2, 1, 12, E), 'quota 16777215 memory 12'),
+    ('E, fit, M 11', board(2, 1, 11, E), 'none memory 12 quota 6'),
+    ('E, fit, b 0', board(2, 0, 12, E), 'quota 16777215 memory 12'),
+    ('E, fit, one worker', board(1, 0, 6, E), 'quota 16777215 memory 6'),
+    ('E, fit, one worker, M 5', board(1, 1, 5, E), 'none memory 6 quota 6'),
+    ('one end, fit', board(16, 65535, 0, least), 'quota 16777215 memory 0'),
+    ('the table before 20, fit', board(0, 65536, 0, table([free(1), end])), 'refused 10 0'),
+    ('20 before 41, fit', board(17, 65536, 0, E), 'refused 20 0'),
+    ('41, fit', board(2, 65536, 0, E), 'refused 41 0'),
+]
+
 
 def answers():
     """Label, program, input, expected answer and the model's, of every case."""
@@ -191,6 +231,10 @@ def answers():
         yield label, b'q', case, expected, maxquota(case)
     for label, case, expected in TURNS:
         yield label, b'l', case, expected, maxturns(case)
+    for label, case, expected in LIMITS:
+        yield label, b'm', case, expected, memlimit(case)
+    for label, case, expected in FITS:
+        yield label, b'f', case, expected, fitquota(case)
 
 
 def main():
@@ -204,7 +248,7 @@ def main():
     folder = pathlib.Path(__file__).parent.parent / 'crates' / 'table_cases'
     (folder / 'stdin').write_bytes(data)
     (folder / 'stdout').write_text(text)
-    print('%d cases, %d bytes' % (len(CASES) + len(QUOTAS) + len(TURNS), len(data)))
+    print('%d cases, %d bytes' % (sum(map(len, (CASES, QUOTAS, TURNS, LIMITS, FITS))), len(data)))
 
 
 if __name__ == '__main__':

@@ -136,10 +136,16 @@ def on_the_examples(folder):
             answers(['dis', given], program('tabledis', table))
             answers(['canon', given], program('canontable', table))
             answers(['cmp', given, path], b'equal\n')
-            answers(['quota', '-p', 2, '-M', 3000, given], program('maxquota', input_of('workers 2\nbetween 1\nmemory 3000\n', text)))
-            answers(['quota', '-p3', '-b', 2, '-M', 2 ** 64 - 1, '--papers', given],
-                    program('maxquota', input_of('workers 3\nbetween 2\nmemory %d\n' % (2 ** 64 - 1), text)))
+            quotas_of(given, text)
             runs_of(given, text, table, *((3, 5) if given == path else (2, 12)))
+
+
+def quotas_of(given, text):
+    """By the useful limit with b 0 and by the papers' limit with b 1, where b is left out; none that fits is an answer too."""
+    for options, asked, p, b, memory in [((), 'fitquota', 2, 0, 3000), ((), 'fitquota', 16, 0, 1), (('-b', 2), 'fitquota', 3, 2, 200),
+                                         (('--papers',), 'maxquota', 2, 1, 3000), (('--papers', '-b', 2), 'maxquota', 3, 2, 2 ** 64 - 1)]:
+        wanted = program(asked, input_of('workers %d\nbetween %d\nmemory %d\n' % (p, b, memory), text))
+        answers(['quota', '-p', p, '-M', memory, *options, given], wanted)
 
 
 def runs_of(given, text, table, p, quota):
@@ -150,6 +156,8 @@ def runs_of(given, text, table, p, quota):
     some = input_of(front + 'order 1 0 1 1\norder 0 0\n', text)
     options = ['-p', p, '-K', quota, given]
     answers(['turns', *options], limit)
+    for b, between in (0, ()), (2, ('-b', 2)):
+        answers(['limit', *options, *between], program('memlimit', input_of(front + 'limit %d\n' % b, text)))
     answers(['fill', '-K', quota, given], program('filltable', quota.to_bytes(3, 'little') + table))
     answers(['run', *options], program('runrounds', input_of(front + 'limit %d\n' % int(limit.split()[1]), text)))
     answers(['run', '--rounds', 7, *options], program('runrounds', input_of(front + 'limit 7\n', text)))
@@ -158,6 +166,21 @@ def runs_of(given, text, table, p, quota):
         answers([name, '--order', '1 0 1', '1', '0', '0', *options], program(shown, some))
     drawn = subprocess.run([sys.executable, 'tools/picture.py', '-p', str(p), '-K', str(quota), '-b', '2'], input=program('turnlist', some), stdout=subprocess.PIPE)
     answers(['picture', '-b', 2, '--order=1 0 1 1 0 0', *options], drawn.stdout)
+    runs_of_deques(given, table, p, quota)
+
+
+def runs_of_deques(given, table, p, quota):
+    """Pairs in words, W alone as W:0, in a file; the picture of the listing."""
+    pairs = [(0, 0), (0, 0), (1, 0), (1, 1), (0, 1), (1, 0)]
+    order = ' '.join('%d:%d' % pair if pair[1] else str(pair[0]) for pair in pairs)
+    data = bytes([p]) + quota.to_bytes(3, 'little') + (2 * len(pairs)).to_bytes(2, 'little') + bytes(sum(pairs, ())) + table
+    listing = program('dequelist', data)
+    options = ['-p', p, '-K', quota, given]
+    answers(['deques', '--order', order, *options], listing)
+    answers(['deques', '--order', '@-', *options], listing, order.encode())
+    answers(['deques', *options, '--order', *('%d:%d' % pair for pair in pairs)], listing)
+    drawn = subprocess.run([sys.executable, 'tools/picture.py', '--deques', '-p', str(p), '-K', str(quota)], input=listing, stdout=subprocess.PIPE, check=True)
+    answers(['picture', '--deques', '--order', order, *options], drawn.stdout)
 
 
 def ways_to_give(folder):
@@ -234,25 +257,34 @@ def lines_of_actions(folder):
         refuses(['fill', '-K', 1, '-'], '<stdin>:%d: %s' % (i + 3, words(44)), text.encode())
     table = program('tableasm', text.encode())
     action = program('filltable', b'\1\0\0' + table).decode().split()[2]
-    for given in ['turns', '-p', 2], ['run', '-p', 2], ['list', '-p', 2], ['chart', '-p', 2, '--order', 0], ['picture', '-p', 2, '--rounds', 3], ['fill']:
+    for given in [['turns', '-p', 2], ['limit', '-p', 2], ['run', '-p', 2], ['list', '-p', 2], ['chart', '-p', 2, '--order', 0], ['picture', '-p', 2, '--rounds', 3], ['fill'],
+                  ['deques', '-p', 2, '--order', '0:0']]:
         refuses([*given, '-K', 1, '-'], '<stdin>: action %s: %s' % (action, words(44)), table)
 
 
 def options_refused():
     e, many = 'examples/e.text', 'examples/tree.text'
-    for name in ['turns'], ['run'], ['list'], ['chart', '--rounds', 3], ['picture']:
+    for name in ['limit'], ['turns'], ['run'], ['list'], ['chart', '--rounds', 3], ['picture'], ['deques', '--order', '0:0'], ['picture', '--deques', '--order', '0:0']:
         refuses([*name, '-p', 17, '-K', 6, e], '-p 17: ' + words(20))
         refuses([*name, '-p', 0, '-K', 6, e], '-p 0: ' + words(20))
         refuses([*name, '-p', 2, '-K', 0, e], '-K 0: ' + words(21))
     refuses(['fill', '-K', 0, e], '-K 0: ' + words(21))
-    refuses(['quota', '-p', 17, '-M', 9, e], '-p 17: ' + words(20))
-    refuses(['quota', '-p', 2, '-b', 0, '-M', 9, e], '-b 0: ' + words(41))
-    refuses(['quota', '-p', 2, '-M', 47, e], '%s: %s' % (e, words(42)))
-    refuses(['quota', '-p', 2, '-M', 47, '--numbers', e], 'refused 42 0')
+    refuses(['limit', '-p', 2, '-K', 6, '-b', 65536, e], '-b 65536: ' + words(41))
+    for papers in (), ('--papers',):
+        refuses(['quota', '-p', 17, '-M', 9, *papers, e], '-p 17: ' + words(20))
+        refuses(['quota', '-p', 2, '-b', 65536, '-M', 9, *papers, e], '-b 65536: ' + words(41))
+    refuses(['quota', '-p', 2, '-b', 0, '-M', 9, '--papers', e], '-b 0: ' + words(41))
+    refuses(['quota', '-p', 2, '-M', 47, '--papers', e], '%s: %s' % (e, words(42)))
+    refuses(['quota', '-p', 2, '-M', 47, '--papers', '--numbers', e], 'refused 42 0')
     refuses(['list', '-p', 2, '-K', 6, '--rounds', 4097, e], '--rounds: ' + words(33))
     turns = b'table 3 12 serial 6 depth 8\n1 0 0 0 fork 0\nrefused 30 0\n'
     refuses(['list', '-p', 2, '-K', 6, '--order', 0, 2, e], '--order: ' + words(30), out=turns)
     refuses(['picture', '-p', 2, '-K', 6, '--order', 0, 2, e], '--order: ' + words(30))
+    for number, pair in (30, '2:0'), (49, '1:2'):
+        begun = call('deques', '-p', 2, '-K', 6, '--order', '0:0', '1:0', e)[0].rsplit(b'open', 1)[0]
+        refuses(['deques', '-p', 2, '-K', 6, '--order', '0:0', '1:0', pair, e], '--order: ' + words(number), out=begun + b'refused %d 0\n' % number)
+        refuses(['picture', '--deques', '-p', 2, '-K', 6, '--order', '0:0', '1:0', pair, e], '--order: ' + words(number))
+    refuses(['deques', '-p', 2, '-K', 6, '--order', '0:0 ' * 2049, e], '--order: ' + words(33))
     refuses(['join'] + [e] * 17, '17 tables: ' + words(47))
     refuses(['join'] + [many] * 5, '5 tables: ' + words(48))
     refuses(['join', e, 'examples/e.run'], 'examples/e.run: ' + words(2))
@@ -277,7 +309,7 @@ def words_of_the_reference():
 def wrong_usage():
     e = 'examples/e.text'
     for given, line in [
-            ([], 'which command? check, asm, dis, quota, turns, fill, run, list, chart, picture, join, canon, cmp (wivakkol help)'),
+            ([], 'which command? check, asm, dis, quota, limit, turns, fill, run, list, chart, deques, picture, join, canon, cmp (wivakkol help)'),
             (['chekc', e], "no command is called 'chekc' (wivakkol help)"),
             (['help', 'nothing'], "no command and no refusal is called 'nothing' (wivakkol help)"),
             (['help', '22'], "no command and no refusal is called '22' (wivakkol help)"),
@@ -300,6 +332,14 @@ def wrong_usage():
             (['list', '-p', '2', '-K', '6', '--order', '0', '--rounds', '4', e], '--order or --rounds, not both (wivakkol help list)'),
             (['list', '-p', '2', '-K', '6', '--order', '0 256', e], "--order takes a number from 0 to 255, not '256' (wivakkol help list)"),
             (['list', '-p', '2', '-K', '6', '--rounds', '65536', e], 'an order of 65536 turns: it has at most 4096 (wivakkol help list)'),
+            (['list', '-p', '2', '-K', '6', '--order', '0:1', e], "--order takes a number from 0 to 255, not '0:1' (wivakkol help list)"),
+            (['deques', '-p', '2', '-K', '6', e], 'deques needs --order WORDS (wivakkol help deques)'),
+            (['deques', '-p', '2', '-K', '6', '--order', '0:', e], "--order takes a number from 0 to 255, not '' (wivakkol help deques)"),
+            (['deques', '-p', '2', '-K', '6', '--order', '0:1:2', e], "--order takes a number from 0 to 255, not '1:2' (wivakkol help deques)"),
+            (['deques', '-p', '2', '-K', '6', '--order', '0 ' * 32768, e], 'an order of 32768 turns: it has at most 2048 (wivakkol help deques)'),
+            (['picture', '-p', '2', '-K', '6', '--deques', e], '--deques needs --order WORDS (wivakkol help picture)'),
+            (['picture', '-p', '2', '-K', '6', '--deques', '--order', '0', '-b', '1', e],
+             '--deques: DFDeques has no b, and takes no -b and no --rule (wivakkol help picture)'),
             (['picture', '-p', '2', '-K', '6', '-b', '1', '--rule', e], '--rule finds b: it takes no -b (wivakkol help picture)'),
             (['check', 'nosuch.text'], 'nosuch.text: No such file or directory'), (['check', 'examples'], 'examples: Is a directory'),
             (['list', '-p', '2', '-K', '6', '--order', '@nosuch', e], 'nosuch: No such file or directory'),
@@ -367,6 +407,8 @@ def not_built(folder):
     how = "not built yet: %%s. In %s, `rt check %%s` builds it (from nothing some %%d minutes with two cores, less where a part is proved already); so does --build" % top
     for given, names, minutes in [(['check', 'examples/e.text'], 'tablecheck', 2), (['run', '-p2', '-K6', 'examples/e.text'], 'maxturns runrounds', 11),
                                   (['run', '-p2', '-K6', '--rounds', '7', 'examples/e.text'], 'runrounds', 11), (['asm', 'examples/e.table'], 'tabledis', 4),
+                                  (['quota', '-p2', '-M9', 'examples/e.text'], 'fitquota', 9), (['quota', '-p2', '-M9', '--papers', 'examples/e.text'], 'maxquota', 5),
+                                  (['picture', '-p2', '-K6', '--deques', '--order', '0', 'examples/e.text'], 'dequelist', 12), (['limit', '-p2', '-K6', 'examples/e.text'], 'memlimit', 10),
                                   (['picture', '-p2', '-K6', 'examples/e.text'], 'maxturns turnlist', 11)]:
         line = how % (names.replace(' ', ', '), names, minutes)
         expect(' '.join(given), call(*given, command=top / 'tools/wivakkol'), (b'', 'wivakkol: %s\n' % line, 2))

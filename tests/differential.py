@@ -1,7 +1,7 @@
-"""Draws random and damaged inputs and compares the programs with reference.py, machine.py, filling.py, most.py and designs.py, which were written on their own.
+"""Draws random and damaged inputs and compares the programs with reference.py, machine.py, deques.py, filling.py, most.py and designs.py, which were written on their own.
 
 usage: python3 tests/differential.py [COUNT] [PROGRAM..] [--baseline]
-    COUNT inputs for each program (default 3,000); PROGRAM: tablecheck, maxquota, maxturns, filltable, canontable, cmptables, jointables, turnlist, wallchart, runrounds, call_cases (default: all).
+    COUNT inputs for each program (default 3,000); PROGRAM: tablecheck, maxquota, maxturns, filltable, canontable, cmptables, jointables, turnlist, wallchart, runrounds, dequelist, call_cases (default: all).
     From the repository's top, after `rt check` of these programs; with --baseline it is the C
     of bench/ that is compared, in both layouts (tablecheck, turnlist and runrounds), after `cc -O3 -o target/baseline bench/baseline.c`
     and `cc -O3 -DLINKS -o target/baseline_links bench/baseline.c`.
@@ -15,6 +15,7 @@ import sys
 
 import call_cases
 import chart
+import deques
 import designs
 import filling
 import machine
@@ -77,15 +78,25 @@ def order(rng, p, actions):
     return bytes(row)
 
 
+def pairs(rng, p, actions):
+    """Workers and choices for a run over pairs: the choices all 0, of every place or mostly of the first, now and then an odd last byte."""
+    row, places, manner = order(rng, p, actions)[:2048], max(1, min(p, 16)), rng.randrange(3)
+    choices = [0 if manner == 0 or manner == 2 and rng.random() < 0.7 else rng.randrange(places) for _ in row]
+    if choices and rng.random() < 0.1:
+        choices[rng.randrange(len(choices))] = rng.choice([places, places, 16, 255])
+    whole = bytes(x for pair in zip(row, choices) for x in pair)
+    return whole + b'\xff' if len(whole) < 4096 and rng.random() < 0.1 else whole
+
+
 def mostly_whole(rng, whole, front):
     """Now and then only the front, or a few bytes."""
     return rng.choice([front, whole[:rng.randint(0, 8)]]) if rng.random() < 0.03 else whole
 
 
-def turnlist_input(rng):
+def turnlist_input(rng, draw=order):
     data, most = run_table(rng)
     p, front = beginning(rng, most)
-    row = order(rng, p, Table(data).m)
+    row = draw(rng, p, Table(data).m)
     if rng.random() < 0.15:
         data = damaged(rng, data)
     length = len(row)
@@ -95,6 +106,10 @@ def turnlist_input(rng):
             row += bytes(length - len(row))
     whole = front + length.to_bytes(2, 'little') + row + data
     return mostly_whole(rng, whole, front + bytes(2))
+
+
+def dequelist_input(rng):
+    return turnlist_input(rng, pairs)
 
 
 def runrounds_input(rng):
@@ -221,6 +236,27 @@ def listing_traits(data, text):
         yield 'filled out'
     if last[0] == 'refused' and data[6 + len(turns)] == 255:
         yield 'worker 255'
+
+
+def pairs_traits(data, text):
+    """What a listing of DFDeques shows."""
+    rows = [row.split() for row in text.splitlines()]
+    last = rows[-1]
+    yield last[0] if last[0] != 'refused' else 'refused ' + last[1]
+    if rows[0][0] == 'refused':
+        return
+    turns, length = rows[1:-1], data[4] | data[5] << 8
+    for name in ('quota', 'wait', 'idle'):
+        if any(row[4] == name for row in turns):
+            yield name
+    if last[0] == 'done' and len(turns) < length // 2:
+        yield 'order left at the end'
+    if last[0] == 'open' and length % 2:
+        yield 'an odd last byte'
+    if length in (0, 4096):
+        yield 'order of %d' % length
+    if deques.begin(data[6 + length:], data[0], int.from_bytes(data[1:4], 'little'))[1].run.length != len(data) - 6 - length:
+        yield 'filled out'
 
 
 def chart_traits(data, text):
@@ -386,6 +422,9 @@ PROGRAMS = {
                    'refused 20', 'refused 21', 'refused 30', 'refused 33', 'refused 44']),
     'runrounds': (ROUNDS, runrounds_input, machine.runrounds, rounds_traits,
                   ['finished', 'spent', 'L 0', 'L at the end', 'refused 20', 'refused 21', 'refused 33', 'refused 44']),
+    'dequelist': (LISTINGS, dequelist_input, deques.dequelist, pairs_traits,
+                  ['done', 'open', 'quota', 'wait', 'idle', 'order left at the end', 'an odd last byte', 'order of 0', 'order of 4096', 'filled out',
+                   'refused 20', 'refused 21', 'refused 30', 'refused 33', 'refused 44', 'refused 49']),
     'call_cases': ([], call_case, lambda data: call_cases.answers(data)[1], call_traits,
                    ['sound', 'refused 32', 'another left', 'another right', 'another leftmost']),
 }

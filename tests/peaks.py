@@ -2,7 +2,7 @@
 
 usage: python3 tests/peaks.py [COUNT]
     Holds it to the figures written down here; on COUNT random tables (default 200) to runs of machine.py in random, round and starving orders, none of which may hold more;
-    and on half as many small tables to every order of turns there is, of which it says how often one reaches the peak.
+    and on half as many small tables, whose peak of 2 or 3 workers is below the parallel one, to every order of turns there is, of which it says how often one reaches the peak.
 """
 import collections
 import functools
@@ -203,7 +203,7 @@ def runs(rng, count):
 # Every order
 
 def successors(peaks, parent, state):
-    """A state: each thread's actions done, or None before its fork; the live threads in serial order; each worker's thread; the threads that wait."""
+    """A state: each thread's actions done, or None before its fork; the live threads in serial order; the workers' threads, in any order, as workers are alike; the threads that wait."""
     done, live, held, waits = state
     for w in range(len(held)):
         t = held[w]
@@ -229,7 +229,7 @@ def successors(peaks, parent, state):
                 u = parent.get(t)
                 if u in wait and peaks.body[u][now[u]] == (JOIN, t):
                     wait.remove(u)
-        yield tuple(now), tuple(alive), tuple(holds), frozenset(wait)
+        yield tuple(now), tuple(alive), tuple(sorted(holds, key=lambda u: -1 if u is None else u)), frozenset(wait)
 
 
 def worst(peaks, p, most_states):
@@ -251,22 +251,37 @@ def worst(peaks, p, most_states):
     return highest
 
 
-def every_order(rng, count):
-    tried = equal = 0
-    while tried < count:
+def searched(rng, p):
+    """A small table whose peak of p workers is below the parallel one, as Peaks, and the most held in any order."""
+    while True:
         threads = rng.randint(3, 7)
         data = drawn(rng, threads, rng.randint(2 * threads, 3 * threads + 6), [6])
-        peaks, p = Peaks(data), rng.choice([2, 2, 2, 3])
-        if peaks.workers(p) == peaks.best(0):
-            continue
-        found = worst(peaks, p, 30000)
-        if found is None:
-            continue
+        peaks = Peaks(data)
+        found = worst(peaks, p, 30000) if peaks.workers(p) < peaks.best(0) else None
+        if found is not None:
+            return peaks, found
+
+
+def every_order(rng, count):
+    """One table in four with 3 workers, the others with 2."""
+    tried, equal, above = collections.Counter(), collections.Counter(), 1
+    for i in range(count):
+        p = 3 if i % 4 == 3 else 2
+        peaks, found = searched(rng, p)
         if found > peaks.workers(p):
             raise SystemExit('%d workers hold %d, above their peak %d' % (p, found, peaks.workers(p)))
-        tried += 1
-        equal += found == peaks.workers(p)
-    print('%d small tables, every order: never above the peak, equal to it on %d' % (tried, equal))
+        tried[p] += 1
+        equal[p] += found == peaks.workers(p)
+        above = max(above, peaks.workers(p) / found)
+    reached = ', '.join('on %d of %d with %d workers' % (equal[p], tried[p], p) for p in sorted(tried))
+    print('%d small tables, every order: never above the peak, equal to it %s; the peak is at most %.2f times the worst' % (count, reached, above))
+
+
+def not_reached():
+    """Of the six repeats two workers cannot be inside three helpers, which their peak of 110 counts."""
+    found = worst(Peaks(repeats()), 2, 100000)
+    if found != 100:
+        raise SystemExit('repeats, two workers, every order: %s, expected 100' % found)
 
 
 def main():
@@ -274,6 +289,7 @@ def main():
     figures()
     runs(random.Random(38), count)
     every_order(random.Random(38), count // 2)
+    not_reached()
 
 
 if __name__ == '__main__':

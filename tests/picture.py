@@ -1,4 +1,5 @@
-"""Compares the pictures and traces of tools/picture.py with the listings that they are made from: E and random runs, listed by machine.py.
+"""Compares the pictures and traces of tools/picture.py with the listings that they are made from: E and random runs, listed by machine.py, and by
+deques.py for runs by DFDeques, of which the model says who holds which thread.
 
 usage: python3 tests/picture.py [COUNT]    (from the repository's top; COUNT random runs beside E and the longest listing, default 60)
 
@@ -14,6 +15,7 @@ import subprocess
 import sys
 import xml.etree.ElementTree as xml
 
+import deques
 import machine
 from reference import ALLOC, END, FORK, FREE, JOIN, WORK
 from tables import drawn, table
@@ -41,7 +43,10 @@ def near(what, found, wanted, far=NEAR):
 # What a listing says
 
 class Listing:
-    def __init__(self, text):
+    """`held`: what workers hold while others have their turns, where the listing alone does not say it."""
+
+    def __init__(self, text, held=None):
+        self.held = held
         rows = [row.split() for row in text.splitlines()]
         self.serial, self.depth = int(rows[0][4]), int(rows[0][6])
         self.last = text.splitlines()[-1]
@@ -50,6 +55,8 @@ class Listing:
 
     def holding(self):
         """(worker, turn, thread): the worker holds the thread while another has this turn."""
+        if self.held is not None:
+            return self.held
         holds, out = {}, set()
         for t in self.turns:
             out.update((w, t.turn, thread) for w, thread in holds.items() if w != t.worker)
@@ -268,8 +275,8 @@ def compare_peak(listing, shown):
         near('height of the peak', y, base - (base - top) * t.held / amount)
 
 
-def compare_picture(text, svg, rows, given):
-    listing, shown = Listing(text), Shown(svg)
+def compare_picture(text, svg, rows, given, held=None):
+    listing, shown = Listing(text, held), Shown(svg)
     bands = max(1, -(-len(listing.turns) // 256))
     expect('rows', [row[:2] for row in shown.rows], [(band, worker) for band in range(bands) for worker in range(rows)])
     expect('head', listing.last in shown.words('head')[0][2], True)
@@ -282,9 +289,9 @@ def compare_picture(text, svg, rows, given):
     compare_peak(listing, shown)
 
 
-def compare_trace(text, trace, rows, given):
+def compare_trace(text, trace, rows, given, held=None):
     """A slice for each turn inside one of its thread, and memory held as a counter."""
-    listing, events = Listing(text), json.loads(trace)['traceEvents']
+    listing, events = Listing(text, held), json.loads(trace)['traceEvents']
     turns = {e['args']['turn']: e for e in events if e.get('cat') == 'turn'}
     found = {i: (e['tid'], e['args'].get('thread'), e['name'], e['args']['held'], e['ts'], e['dur']) for i, e in turns.items()}
     expect('slices', found, {t.turn: (t.worker, t.thread, t.name, t.held, (t.turn - 1) * 1000, 1000) for t in listing.turns})
@@ -356,6 +363,63 @@ def random_run(rng):
         order = order[:-1] + b'\xff'
     text = listed(p, quota, order, data)
     return (text, p, quota, order, data) if text.startswith('table') else random_run(rng)
+
+
+# Runs by DFDeques
+
+def deque_listed(p, quota, order, data):
+    """A listing, and by the model (worker, turn, thread) for each worker that holds a thread while another has this turn. A thread forked last and without a
+    turn has no number in a listing."""
+    text = deques.dequelist(bytes([p]) + quota.to_bytes(3, 'little') + len(order).to_bytes(2, 'little') + bytes(order) + data)
+    holds, held = {}, set()
+
+    def seen(count, w, reply, taking):
+        held.update((other, count, t) for other, t in holds.items() if other != w)
+        holds.clear()
+        holds.update((other, worker.thread) for other, worker in enumerate(taking.run.worker) if worker.holds)
+
+    if text.startswith('table'):
+        deques.run_pairs(deques.begin(data, p, quota)[1], order, seen)
+    named = {t.thread for t in Listing(text).turns} if text.startswith('table') else set()
+    return text, {place for place in held if place[2] in named}
+
+
+def both_of_deques(text, held, p, quota):
+    svg, trace = made(text, '--deques', '-p', p, '-K', quota), made(text, '--deques', '--trace', '-p', p)
+    compare_picture(text, svg, p, None, held)
+    compare_trace(text, trace, p, None, held)
+    expect('the kind of run', ['DFDeques' in content for _, _, content in Shown(svg).words('head')], [True])
+
+
+def pairs(text):
+    return [int(x) for x in text.replace(' ', '')]
+
+
+def random_deques(rng):
+    threads = rng.randint(1, rng.choice([3, 12, 60]))
+    data = drawn(rng, threads, rng.randint(threads, 8 * threads + 20), rng.choice([[1], [2, 6], [9], [16777215]]))
+    p, quota = rng.choice([1, 2, 3, rng.randint(1, 16)]), rng.choice([4, 9, 12, 20, 16777215])
+    order = [x for _ in range(rng.choice([0, 1, 24, 65, 129, 257, rng.randint(0, 700)])) for x in (rng.randrange(p), rng.choice([0, rng.randrange(p)]))]
+    text, held = deque_listed(p, quota, order, data)
+    return (text, held, p, quota) if text.startswith('table') else random_deques(rng)
+
+
+def deque_runs(e, e_data, count, rng):
+    """E's two listings, random ones, and what --deques refuses."""
+    stopped = deque_listed(2, 6, pairs('00 11 00 00 00 00 10 00 00 10 10 00 10 10 10 10 10'), e_data)
+    both_of_deques(*stopped, 2, 6)
+    both_of_deques(*deque_listed(2, 6, pairs('00 10 00 10 00 10 00 10 00 10 10 10'), e_data), 2, 6)
+    both_of_deques(*deque_listed(2, 5, pairs('00 10 ' * 16 + '10 10'), e_data), 2, 5)
+    for _ in range(count):
+        both_of_deques(*random_deques(rng))
+    text = stopped[0]
+    for words, line, why in ([], 3, e), (['-K', 12], 10, text), (['-K', 5], 4, text), ([], 10, text.replace('9 0 2 9', '9 0 1 9')), \
+            ([], 3, text.replace('2 1 - - idle', '2 1 1 5 work')), ([], 5, text.replace('4 0 1 6 work', '4 0 - - idle')), \
+            ([], 4, text.replace('3 0 1 5 alloc 6', '3 0 0 5 alloc 6')), ([], 5, text.replace('4 0 1 6 work', '4 0 1 6 join')):
+        status, out, said = run_tool(why, '--deques', *words)
+        expect('refused at line %d' % line, (status, out, said.count('\n'), said.startswith('picture: line %d of' % line)), (1, '', 1, True))
+    for words in ['-b', 1], ['--rule']:
+        expect('--deques with %s' % words, run_tool(text, '--deques', *words)[:2], (2, ''))
 
 
 # Other numbers than the run's
@@ -506,6 +570,9 @@ def main():
         expect('other K, refused and not', (refused > 0, asked > refused), (True, True))
     print('%d other quotas asked with, %d contradicted' % (asked, refused))
     print('%d damages found out, %d listings refused' % (damages((e, (2, 6, 1), 2), stopped_run()), refusals(e)))
+    with open('examples/e.table', 'rb') as f:
+        deque_runs(e, f.read(), count // 2, rng)
+    print('%d random runs by DFDeques' % (count // 2))
 
 
 if __name__ == '__main__':

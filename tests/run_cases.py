@@ -1,7 +1,7 @@
-"""Writes the stored input and output of crates/run_cases: inputs of turnlist, runrounds and wallchart with a label, and the answer expected of each.
+"""Writes the stored input and output of crates/run_cases: inputs of turnlist, runrounds, wallchart and dequelist with a label, and the answer expected of each.
 
-A record is its sort ('t' turnlist, 'r' runrounds, 'w' wallchart), the label's length (1 byte), the label, the input's length (3 bytes), the
-input. The answers of the named cases are written down here by hand, and held against machine.py and chart.py as well; those of the random
+A record is its sort ('t' turnlist, 'r' runrounds, 'w' wallchart, 'd' dequelist), the label's length (1 byte), the label, the input's length (3 bytes), the
+input. The answers of the named cases are written down here by hand, and held against machine.py, chart.py and deques.py as well; those of the random
 sample are theirs.
 """
 import pathlib
@@ -9,12 +9,13 @@ import random
 
 import cases
 import chart
+import deques
 import differential
 import machine
 from cases import LARGEST, alloc, chain, end, fan, fork, free, join, least, parent, work
 from tables import table
 
-MODEL = {'t': machine.turnlist, 'r': machine.runrounds, 'w': chart.wallchart}
+MODEL = {'t': machine.turnlist, 'r': machine.runrounds, 'w': chart.wallchart, 'd': deques.dequelist}
 first = [alloc(6), work, free(6), end]
 second = [alloc(6), free(6), end]
 e = table(parent(1, 2), first, second)
@@ -35,6 +36,10 @@ def r(p, quota, limit, data):
 
 def w(*args):
     return 'w', t(*args)[1]
+
+
+def d(*args):
+    return 'd', t(*args)[1]
 
 
 def row(turns, cells, held):
@@ -67,6 +72,16 @@ two_400 = table([fork(1), alloc(400), join(1), end], [alloc(400), free(400), end
 CHART = [
     row(0, '   .   .', 0), row(1, '   .   .', 0), row(2, '   .   1', 6), row(3, '   .   1', 6), row(4, '   .   1', 6), row(5, '   2   1', 12), row(6, '   2   1', 6), row(7, '   2   1', 0),
     row(8, '   2   .', 0), row(9, '   .   .', 0), row(10, '   .   0', 0), row(11, '   .   0', 0), row(12, '   .   0', 0), row(13, '   .   0', 0), row(14, '   .   .', 0)]
+
+# DFDeques on E, p 2, K 6: a stop at the quota, a thief that waits, places at which nothing is to be stolen; an owned deque robbed
+STOPPING = bytes.fromhex('0000 0101 0000 0000 0000 0000 0100 0000 0000 0100 0100 0000 0100 0100 0100 0100 0100')
+STOPS = [
+    E, '1 0 0 0 fork 0', '2 1 - - idle 0', '3 0 1 5 alloc 6', '4 0 1 6 work 6', '5 0 1 7 free 0', '6 0 1 8 end 0', '7 1 - - idle 0', '8 0 0 1 fork 0', '9 0 2 9 quota 0',
+    '10 1 0 2 wait 0', '11 1 2 9 alloc 6', '12 0 - - idle 6', '13 1 2 10 free 0', '14 1 2 11 end 0', '15 1 0 2 join 0', '16 1 0 3 join 0', '17 1 0 4 end 0', 'done 17 peak 6']
+ROBBING = bytes.fromhex('0000 0100 0000 0100 0000 0100 0000 0100 0000 0100 0100 0100')
+ROBS = [
+    E, '1 0 0 0 fork 0', '2 1 0 1 fork 0', '3 0 1 5 alloc 6', '4 1 2 9 alloc 12', '5 0 1 6 work 12', '6 1 2 10 free 6', '7 0 1 7 free 0', '8 1 2 11 end 0', '9 0 1 8 end 0',
+    '10 1 0 2 join 0', '11 1 0 3 join 0', '12 1 0 4 end 0', 'done 12 peak 12']
 
 CASES = [
     ('the listing', t(2, 6, both * 7, e), LISTING),
@@ -199,6 +214,25 @@ CASES = [
     ('the chart, an order of 4,096', w(2, 1, [0] + [1] * 4095, table([work, work, end])), [row(0, '   .   .', 0)] + [row(i, '   0   .', 0) for i in range(1, 4097)]),
     ('an order of 4,096', t(2, 1, [0] + [1] * 4095, table([work, work, end])),
      ['table 1 3 serial 0 depth 3', '1 0 0 0 work 0'] + ['%d 1 - - idle 0' % i for i in range(2, 4097)] + ['open 4096 peak 0']),
+    ('deques, a stop at the quota', d(2, 6, STOPPING, e), STOPS),
+    ('deques, an owned one robbed', d(2, 6, ROBBING, e), ROBS),
+    ('deques, an order that goes on', d(2, 6, ROBBING + b'\xff\xff', e), ROBS),
+    ('deques, an order one turn shorter', d(2, 6, ROBBING[:22], e), ROBS[:12] + ['open 11 peak 12']),
+    ('deques, an odd last byte', d(2, 6, ROBBING[:23], e), ROBS[:12] + ['open 11 peak 12']),
+    ('deques, worker 2', d(2, 6, [0, 0, 2, 0], e), ROBS[:2] + ['refused 30 0']),
+    ('deques, choice 2', d(2, 6, [0, 0, 1, 2], e), ROBS[:2] + ['refused 49 0']),
+    ('deques, choice 2 of a worker that holds', d(2, 6, [0, 0, 0, 2], e), ROBS[:2] + ['refused 49 0']),
+    ('deques, worker 2 and choice 2', d(2, 6, [0, 0, 2, 2], e), ROBS[:2] + ['refused 30 0']),
+    ('deques, an empty order', d(2, 6, [], e), [E, 'open 0 peak 0']),
+    ('deques, one byte', d(2, 6, [255], e), [E, 'open 0 peak 0']),
+    ('deques, 44', d(2, 1, [0, 0], two_400), ['refused 44 4']),
+    ('deques, p 17', d(17, 6, [0, 0], e), ['refused 20 0']),
+    ('deques, K 0', d(2, 0, [0, 0], e), ['refused 21 0']),
+    ('deques, no table', d(1, 1, [0, 0], b''), ['refused 1 0']),
+    ('deques, five bytes', ('d', bytes(5)), ['refused 33 0']),
+    ('deques, an order of 4,097', d(2, 6, bytes(4097), e), ['refused 33 0']),
+    ('deques, an order of 4,096', d(2, 1, [0, 0] + [1, 1] * 2047, table([work, work, end])),
+     ['table 1 3 serial 0 depth 3', '1 0 0 0 work 0'] + ['%d 1 - - idle 0' % i for i in range(2, 2049)] + ['open 2048 peak 0']),
     ('most memory', r(1, LARGEST, 2**32 - 1, table([alloc(LARGEST)] * 8191 + [end])), ['finished 16382 peak 137422168065 held 137422168065']),
     ('deepest nesting', r(1, 1, 3070, table(*chain)), ['finished 3070 peak 0 held 0']),
     ('widest fan', r(1, 1, 3069, table(*fan)), ['spent 3069 peak 0 held 0']),
@@ -226,7 +260,7 @@ def sample(rng, sort, draw, count):
 def main():
     rng = random.Random(1)
     named = CASES + list(refused_tables())
-    drawn = list(sample(rng, 't', differential.turnlist_input, 80)) + list(sample(rng, 'r', differential.runrounds_input, 60)) + list(sample(rng, 'w', differential.turnlist_input, 20))
+    drawn = list(sample(rng, 't', differential.turnlist_input, 80)) + list(sample(rng, 'r', differential.runrounds_input, 60)) + list(sample(rng, 'w', differential.turnlist_input, 20)) + list(sample(rng, 'd', differential.dequelist_input, 60))
     data, text = b'', ''
     for label, (sort, case), expected in named + drawn:
         expected = '\n'.join(expected) + '\n'

@@ -40,7 +40,7 @@ def header_is_source():
         result, *parameters = source[call + '_on']
         taken = {name: (kind, size) for name, kind, size in parameters}
         assert all(taken.get(name, (kind, size)) == (kind, size) for name, kind, size in work), '%s_on: the working memory' % call
-        board.inline_on_table(text, call, result, parameters, {name: 'work->' + name for name, _, _ in work})
+        board.inline_on_table(text, call, 'tables_work', result, parameters, {name: 'work->' + name for name, _, _ in work})
 
 
 def number(x):

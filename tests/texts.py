@@ -52,27 +52,40 @@ def fault(place, raw, expected):
     return 'line %d: expected %s' % (place, expected)
 
 
-def assemble(text):
-    if len(text) > LONGEST:
-        return None, 'text above 262144 bytes'
+def read(text):
+    """('bodies', the threads' bodies, the lines of threads, those of actions), or ('fault', line by number, the line, what was expected)."""
     bodies, threads, actions = [], [], []
     for place, raw in enumerate(text.split(b'\n'), 1):
         what = said(words_of(raw))
         if what is None:
             continue
         if isinstance(what, str):
-            return None, fault(place, raw, what)
+            return 'fault', place, raw, what
         if what[0] == 'thread':
             if what[1] != len(bodies):
-                return None, fault(place, raw, 'thread %d' % len(bodies))
+                return 'fault', place, raw, 'thread %d' % len(bodies)
             bodies.append([])
             threads.append(place)
         elif not bodies:
-            return None, fault(place, raw, 'thread 0')
+            return 'fault', place, raw, 'thread 0'
         else:
             bodies[-1].append(what)
             actions.append(place)
-    if not (1 <= len(bodies) <= 1024 and 1 <= len(actions) <= 8192):
+    return 'bodies', bodies, threads, actions
+
+
+def sizes_outside(bodies, actions):
+    return not (1 <= len(bodies) <= 1024 and 1 <= len(actions) <= 8192)
+
+
+def assemble(text):
+    if len(text) > LONGEST:
+        return None, 'text above 262144 bytes'
+    found = read(text)
+    if found[0] == 'fault':
+        return None, fault(*found[1:])
+    bodies, threads, actions = found[1:]
+    if sizes_outside(bodies, actions):
         return None, 'refused 2 0'
     data = table(*bodies)
     answer = check(data)

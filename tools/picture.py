@@ -1,11 +1,14 @@
-"""A picture of a run: reads what `turnlist` prints and writes an SVG, with a row for each worker, a column for each turn, and memory held as a
-curve below. Or the same run as trace events (Chrome's JSON format), for a trace viewer.
+"""A picture of a run: reads what `turnlist` or `dequelist` prints and writes an SVG, with a row for each worker, a column for each turn, and memory
+held as a curve below. Or the same run as trace events (Chrome's JSON format), for a trace viewer.
 
 usage: python3 tools/picture.py [LISTING] [-p P] [-K K] [-b B] [--trace | --rule]     (what it makes goes to standard output)
+       python3 tools/picture.py --deques [LISTING] [-p P] [-K K] [--trace]
     LISTING: a file; without it, standard input. With all of p, K and b there is a line for the bound S1 + b·K·(p − 1)·(D − 1); with p alone, a
     row for each of the p workers. --rule writes one line of text in place of the picture: `least b 1`, the least b whose rule the turns keep,
     and with p and K `least b 1 bound 48 peak 12`. A listing that is not understood, or that cannot be one of a run with this p and K: one line
-    on standard error, naming the listing's line, and exit status 1.
+    on standard error, naming the listing's line, and exit status 1. --deques: the listing is one of `dequelist`, which does not say so itself. The
+    bound is AsyncDF's, so that there is no b. Which thread a worker holds after a fork, a wait or an end is found by keeping the deques along the
+    listing, and a listing whose turns do not fit them is not understood.
 
 The picture. A turn is a cell: filled where its action was done, hatched at a quota turn, hollow at a wait, a dash where the worker is idle. A pale
 bar from one cell to the next is a worker that holds its thread between two turns. The colour is the thread's number modulo 8; the number itself
@@ -20,7 +23,10 @@ import re
 import sys
 
 Turn = collections.namedtuple('Turn', 'number worker thread action name held line')
-Run = collections.namedtuple('Run', 'threads actions serial depth turns last')
+# `held`: its stretches; `taken`: the turns in which a worker takes a thread with the whole quota
+Run = collections.namedtuple('Run', 'threads actions serial depth turns last deques held taken')
+# a worker on one thread that it holds all the while: its turns, and the first and the last turn during which it holds it
+Stretch = collections.namedtuple('Stretch', 'worker thread since turns until')
 KINDS = ('end', 'work', 'alloc', 'free', 'fork', 'join')
 LETS_GO = ('end', 'fork', 'quota', 'wait', 'idle')  # after such a turn its worker holds nothing
 WORKERS, LARGEST_QUOTA = 16, 16777215
@@ -102,7 +108,7 @@ def check_last(found, turns, number, line):
         raise NotUnderstood(number, '%d turns and peak %d' % wanted, line)
 
 
-def read_listing(text):
+def read_listing(text, deques=False):
     lines = [line.rstrip('\r') for line in text.split('\n')]
     if lines[-1] == '':
         lines.pop()
@@ -115,7 +121,8 @@ def read_listing(text):
                 check_last(totals, turns, number, line)
             if number < len(lines):
                 raise NotUnderstood(number + 1, 'nothing after the last line', lines[number])
-            return Run(threads, actions, serial, depth, turns, line)
+            held, taken = Deques().follow(turns) if deques else stretches(turns)
+            return Run(threads, actions, serial, depth, turns, line, deques, held, taken)
         turn = turn_in(line)
         if not turn:
             raise NotUnderstood(number, 'a turn, or done, open or refused', line)
@@ -143,10 +150,13 @@ def alloc_amounts(run):
 
 
 def check_quota(run, quota):
-    """That a worker draws at most K on a thread that it holds, and that a quota turn wanted more than was left of K, where the amount is known: the
-    alloc is done later in the listing. An alloc above K draws nothing, and comes after the fork and the join of its dummy threads."""
+    """That a worker draws at most K from taking a thread to giving it up, of DFDeques from one steal to the next, and that a quota turn wanted more
+    than was left of K, where the amount is known: the alloc is done later in the listing. An alloc above K draws nothing, and comes after the fork and
+    the join of its dummy threads."""
     amounts, drawn, names = alloc_amounts(run), {}, {}
     for turn in run.turns:
+        if turn.number in run.taken:
+            drawn[turn.worker] = 0
         had, amount = drawn.get(turn.worker, 0), amounts.get(turn.action)
         share = 0 if amount is None or amount > quota else amount
         if turn.name == 'alloc':
@@ -159,8 +169,6 @@ def check_quota(run, quota):
             raise Contradicts(turn, 'K', quota, '%d after %d is within it' % (share, had))
         if turn.name in KINDS:
             names[turn.action] = turn.name
-        if turn.name in LETS_GO:
-            drawn.pop(turn.worker, None)
 
 
 # What a run shows besides its lines
@@ -186,7 +194,7 @@ def rule(run, p, quota):
 
 
 def stretches(turns):
-    """Turns of one worker on one thread that it holds all the while: (turns, turn number up to which it holds the thread)."""
+    """What each worker holds, and the turns in which one takes a thread."""
     mine, done = {}, []
     for turn in turns:
         if turn.name == 'idle':
@@ -194,7 +202,102 @@ def stretches(turns):
         mine.setdefault(turn.worker, []).append(turn)
         if turn.name in LETS_GO:
             done.append((mine.pop(turn.worker), turn.number))
-    return done + [(row, len(turns)) for row in mine.values()]
+    done += [(row, len(turns)) for row in mine.values()]
+    held = [Stretch(row[0].worker, row[0].thread, row[0].number, row, until) for row, until in done]
+    return held, {stretch.since for stretch in held}
+
+
+class Thread:
+    """A thread of a run by DFDeques; its number is known once it has a turn."""
+
+    def __init__(self, number, parent):
+        self.number, self.parent, self.children, self.awaited = number, parent, [], None
+
+
+class Deques:
+    """The deques of a run by DFDeques, kept along its listing: each is [owner, threads], the top first."""
+
+    def __init__(self):
+        self.deques, self.numbers = [[None, [Thread(0, None)]]], {0}
+        self.holds, self.done, self.taken = {}, [], set()  # a worker's thread, the first turn during which it holds it, and its turns on it
+
+    def follow(self, turns):
+        for turn in turns:
+            self.take(turn)
+            self.deques = [deque for deque in self.deques if deque[0] is not None or deque[1]]
+        for worker in list(self.holds):
+            self.give_up(worker, len(turns))
+        return [Stretch(worker, thread.number, *rest) for worker, thread, *rest in self.done if thread.number is not None], self.taken
+
+    def own(self, worker):
+        return next(deque for deque in self.deques if deque[0] == worker)
+
+    def hold(self, worker, thread, since):
+        self.holds[worker] = thread, since, []
+
+    def give_up(self, worker, until):
+        thread, since, mine = self.holds.pop(worker)
+        if since <= until:
+            self.done.append((worker, thread, since, mine, until))
+        return thread
+
+    def go_on(self, worker, number):
+        """With its deque's top thread; with none there, its deque leaves the list."""
+        own = self.own(worker)
+        if own[1]:
+            self.hold(worker, own[1].pop(0), number + 1)
+        else:
+            own[0] = None
+
+    def take(self, turn):
+        worker, number = turn.worker, turn.number
+        if worker not in self.holds:
+            if turn.name == 'idle':
+                return
+            self.steal(turn)
+        thread, _, mine = self.holds[worker]
+        if thread.number is None and turn.thread not in self.numbers and turn.thread is not None:
+            thread.number = turn.thread
+            self.numbers.add(turn.thread)
+        if turn.thread is None or thread.number != turn.thread:
+            wanted = 'a thread that has had no turn' if thread.number is None else 'thread %d' % thread.number
+            raise NotUnderstood(number + 1, '%s, which worker %d holds' % (wanted, worker), turn.line)
+        mine.append(turn)
+        self.act(turn, thread)
+
+    def steal(self, turn):
+        """From the bottom of the deque that has the thread there."""
+        robbed = next((deque for deque in self.deques if deque[1] and deque[1][-1].number == turn.thread), None)
+        if robbed is None:
+            raise NotUnderstood(turn.number + 1, 'a thread at the bottom of a deque', turn.line)
+        self.hold(turn.worker, robbed[1].pop(), turn.number)
+        self.deques.append([turn.worker, []])
+        self.taken.add(turn.number)
+
+    def act(self, turn, thread):
+        """What the turn does to the deques."""
+        worker, number = turn.worker, turn.number
+        if turn.name in ('join', 'wait') and not thread.children:
+            raise NotUnderstood(number + 1, 'a child to join', turn.line)
+        if turn.name == 'join':
+            thread.children.pop()
+        if turn.name not in LETS_GO:
+            return
+        self.give_up(worker, number)
+        if turn.name == 'fork':
+            self.own(worker)[1].insert(0, thread)
+            thread.children.append(Thread(None, thread))
+            self.hold(worker, thread.children[-1], number + 1)
+        elif turn.name == 'quota':
+            own = self.own(worker)
+            own[0] = None
+            own[1].insert(0, thread)
+        elif turn.name == 'end' and thread.parent and thread.parent.awaited is thread:
+            thread.parent.awaited = None
+            self.hold(worker, thread.parent, number + 1)
+        else:
+            thread.awaited = thread.children[-1] if turn.name == 'wait' else None
+            self.go_on(worker, number)
 
 
 class Bound:
@@ -343,21 +446,21 @@ def pieces(first, last):
         first = end + 1
 
 
-def held_between(row, until):
+def held_between(stretch):
     """The columns in which a stretch's worker holds its thread and has no turn, cut where a band ends."""
-    numbers = [turn.number for turn in row]
-    for here, following in zip(numbers, numbers[1:] + [until + 1]):
+    numbers = [stretch.since - 1, *(turn.number for turn in stretch.turns), stretch.until + 1]
+    for here, following in zip(numbers, numbers[1:]):
         yield from pieces(here + 1, following - 1)
 
 
 def bars(layout, run):
     """A bar for each stretch, where its worker holds the thread between its turns."""
     out = []
-    for row, until in stretches(run.turns):
-        boxes = [box(layout.x(first), layout.y(first, row[0].worker) + 1, (last - first + 1) * layout.cell, layout.row - 2)
-                 for first, last in held_between(row, until)]
+    for stretch in run.held:
+        boxes = [box(layout.x(first), layout.y(first, stretch.worker) + 1, (last - first + 1) * layout.cell, layout.row - 2)
+                 for first, last in held_between(stretch)]
         if boxes:
-            out.append(path('hold t%d' % (row[0].thread % 8), ''.join(boxes)))
+            out.append(path('hold t%d' % (stretch.thread % 8), ''.join(boxes)))
     return out
 
 
@@ -373,15 +476,15 @@ def filled_rows(row):
 def names(layout, run):
     """In narrow columns: each stretch's thread, once in a band, in the first bar or row of filled cells that has room for it."""
     out = []
-    for row, until in stretches(run.turns):
-        thread, done = row[0].thread, set()
-        places = [(place, 'thread small') for place in held_between(row, until)]
-        places += [(place, 'thread small on%d' % (thread % 8)) for place in filled_rows(row)]
+    for stretch in run.held:
+        thread, done = stretch.thread, set()
+        places = [(place, 'thread small') for place in held_between(stretch)]
+        places += [(place, 'thread small on%d' % (thread % 8)) for place in filled_rows(stretch.turns)]
         for (first, last), kind in sorted(places):
             band = (first - 1) // BAND
             if band not in done and (last - first + 1) * layout.cell >= 6 * len(str(thread)) + 3:
                 done.add(band)
-                out.append(words(layout.x(first) + 2, layout.y(first, row[0].worker) + layout.row - 4, thread, kind))
+                out.append(words(layout.x(first) + 2, layout.y(first, stretch.worker) + layout.row - 4, thread, kind))
     return out
 
 
@@ -463,13 +566,12 @@ def peak(layout, run):
     return [dot, words(x - 6 if late else x + 6, y - 4, 'peak %d' % highest.held, 'peak-text', 'end' if late else 'start')]
 
 
-LEGEND = (('work', 'done'), ('hold', 'thread held, no turn'), ('quota', 'quota: alloc not done'), ('wait', 'wait: join not done'),
-          ('idle', 'idle: none ready'))
+LEGEND = (('work', 'done'), ('hold', 'thread held, no turn'), ('quota', 'quota: alloc not done'), ('wait', 'wait: join not done'))
 
 
-def legend():
+def legend(run):
     out, x = [], LEFT
-    for name, content in LEGEND:
+    for name, content in (*LEGEND, ('idle', 'idle: nothing stolen' if run.deques else 'idle: none ready')):
         kind, d = ('hold t0', box(x, 60, 22, 13)) if name == 'hold' else mark(name, 0, x, 60, 22, 13)
         out += [path('key ' + kind, d), words(x + 27, 71, content, 'key')]
         x += 44 + 6 * len(content)
@@ -477,7 +579,8 @@ def legend():
 
 
 def head_line(run):
-    return 'Run of %d threads and %d actions: S1 %d, D %d; %s' % (run.threads, run.actions, run.serial, run.depth, run.last)
+    kind = 'Run by DFDeques' if run.deques else 'Run'
+    return '%s of %d threads and %d actions: S1 %d, D %d; %s' % (kind, run.threads, run.actions, run.serial, run.depth, run.last)
 
 
 def caption(run, bound):
@@ -491,7 +594,7 @@ def picture(run, rows, bound=None):
     out = ['<svg xmlns="http://www.w3.org/2000/svg" width="%d" height="%d" viewBox="0 0 %d %d" role="img">' % (size + size),
            '<title>%s</title>' % head_line(run), style(), hatches(),
            '<rect width="%d" height="%d" fill="#fff"/>' % size]
-    out += caption(run, bound) + legend()
+    out += caption(run, bound) + legend(run)
     for band in range(layout.bands):
         out += frame(layout, run, band)
     out += bars(layout, run)
@@ -511,10 +614,9 @@ TICK = 1000  # a turn's length in the trace, in microseconds
 
 def slices(run):
     """A slice for each stretch of a worker on a thread, and inside it one for each turn."""
-    for row, until in stretches(run.turns):
-        first = row[0]
-        yield {'ph': 'X', 'pid': 1, 'tid': first.worker, 'ts': (first.number - 1) * TICK, 'dur': (until - first.number + 1) * TICK,
-               'name': 'thread %d' % first.thread, 'cat': 'thread'}
+    for stretch in run.held:
+        yield {'ph': 'X', 'pid': 1, 'tid': stretch.worker, 'ts': (stretch.since - 1) * TICK, 'dur': (stretch.until - stretch.since + 1) * TICK,
+               'name': 'thread %d' % stretch.thread, 'cat': 'thread'}
     for turn in run.turns:
         told = {} if turn.thread is None else {'thread': turn.thread, 'action': turn.action}
         yield {'ph': 'X', 'pid': 1, 'tid': turn.worker, 'ts': (turn.number - 1) * TICK, 'dur': TICK, 'name': turn.name, 'cat': 'turn',
@@ -552,17 +654,20 @@ def in_range(low, high):
 
 
 def arguments():
-    parser = argparse.ArgumentParser(description='A picture of a run, from what turnlist prints.')
+    parser = argparse.ArgumentParser(description='A picture of a run, from what turnlist or dequelist prints.')
     parser.add_argument('listing', nargs='?', help='a file; without it, standard input')
     parser.add_argument('-p', type=in_range(1, WORKERS), help='workers')
     parser.add_argument('-K', type=in_range(1, LARGEST_QUOTA), help='quota')
     parser.add_argument('-b', type=in_range(1, 65535), help='turns that one worker may have between two of another')
+    parser.add_argument('--deques', action='store_true', help='the listing is one of dequelist')
     made = parser.add_mutually_exclusive_group()
     made.add_argument('--trace', action='store_true', help='trace events in place of the picture')
     made.add_argument('--rule', action='store_true', help='one line of text: the least b whose rule the turns keep')
     given = parser.parse_args()
     if given.rule and given.b:
         parser.error('--rule finds b: it takes no -b')
+    if given.deques and (given.rule or given.b):
+        parser.error("the rule with b and its bound are AsyncDF's: --deques takes neither -b nor --rule")
     return given
 
 
@@ -570,7 +675,7 @@ def main():
     given = arguments()
     try:
         data = open(given.listing, 'rb').read() if given.listing else sys.stdin.buffer.read()
-        run = read_listing(data.decode('ascii', 'replace'))
+        run = read_listing(data.decode('ascii', 'replace'), given.deques)
         if given.p:
             check_workers(run, given.p)
         if given.K:

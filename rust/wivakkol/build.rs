@@ -1,5 +1,6 @@
-//! Links the archives `libwivakkol_turn.a` and `libwivakkol.a`, which `rt staticlib wivakkol_turn` and `rt staticlib wivakkol` write, with the feature `tables` also `libwivakkol_tables.a`, and
-//! with `marks` also `libwivakkol_marks.a`: from the folder that `WIVAKKOL_ARCHIVE` names, or else from the repository's own.
+//! Links the archives `libwivakkol_turn.a` and `libwivakkol.a`, which `rt staticlib wivakkol_turn` and `rt staticlib wivakkol` write, with the feature `tables` also `libwivakkol_tables.a`, with
+//! `marks` also `libwivakkol_marks.a`, with `deques` also `libwivakkol_deque_turn.a` and `libwivakkol_deques.a`, and with `desk` also `libwivakkol_desk.a`: from the folder that `WIVAKKOL_ARCHIVE`
+//! names, or else from the repository's own.
 use std::path::{Path, PathBuf};
 use std::{env, process};
 
@@ -16,6 +17,12 @@ fn main() {
     }
     if env::var_os("CARGO_FEATURE_MARKS").is_some() {
         names.push("wivakkol_marks");
+    }
+    if env::var_os("CARGO_FEATURE_DEQUES").is_some() {
+        names.extend(["wivakkol_deque_turn", "wivakkol_deques"]);
+    }
+    if env::var_os("CARGO_FEATURE_DESK").is_some() {
+        names.push("wivakkol_desk");
     }
     for name in names {
         let archive = folder.join(format!("lib{name}.a"));

@@ -43,12 +43,12 @@ pub record Goes (run : Run) (A : Arrays) (workers : List Worker) (m : Moved) (w 
   pub count : z .moved .turns ≡ m .turns + 1
 
 -- the test of room passes
-has-room : (turns busy w : ℕ) (holds : Bool) → turns < 2 ^ 64 - 1 → w < 16 → (holds ≡ false → busy + 2 ^ w < 65536) → roomFor turns busy holds w ≡ true
+pub has-room : (turns busy w : ℕ) (holds : Bool) → turns < 2 ^ 64 - 1 → w < 16 → (holds ≡ false → busy + 2 ^ w < 65536) → roomFor turns busy holds w ≡ true
 unfolding roomFor
 has-room turns busy w true t h b = rw (lt-ltb (turns + 1) (2 ^ 64) (omega arith), lt-ltb w 16 h)
 has-room turns busy w false t h b = rw (lt-ltb (turns + 1) (2 ^ 64) (omega arith), lt-ltb w 16 h, lt-ltb (busy + 2 ^ w) 65536 (b refl))
 
-first-of : (b f : Bool) (z v : Left) → b ≡ true → f ≡ true → pick (b && f) z v ≡ z
+pub first-of : (b f : Bool) (z v : Left) → b ≡ true → f ≡ true → pick (b && f) z v ≡ z
 first-of b f z v e g = rw (e, g)
 
 module _ {run : Run} {parents : List ℕ} {A : Arrays} {workers : List Worker} {m : Moved} (v : Carries run parents A workers m) {w : ℕ} (b : w < run .workers) where

@@ -3,6 +3,7 @@ pub mod Lines
 pub mod Counts
 pub mod TableRows
 pub mod Accepted
+pub mod Rooms
 pub mod Numbers
 pub mod Says
 pub mod Back

@@ -1,5 +1,5 @@
 -- What a text assembles to: the first line that says what it should not, or the table's bytes and what loading them answers.
-use Prim.Native.Nat.{ℕ, suc, _+_, _-_, _/_, _%_}
+use Prim.Native.Nat.{ℕ, suc, _+_, _-_, _*_, _/_, _%_}
 use mathlib.Core.List.{List, [], _∷_, _++_, flatten}
 use mathlib.Core.Bool.{Bool, true, false, _&&_, _||_}
 use lib.Dec.{eqb, ltb}
@@ -21,6 +21,8 @@ use Rattle.assembly.specs.declared.check.Checked.{Checked}
 use Rattle.assembly.specs.declared.check.Checked.the-variants.{WellFormed, Fault}
 use Rattle.assembly.specs.declared.Assembled.{Assembled}
 use Rattle.assembly.specs.declared.Assembled.the-variants.{Written, TooLong, Malformed, Refused as Rejected}
+use Rattle.assembly.specs.declared.Assembling.{Assembling}
+use Rattle.assembly.specs.declared.Assembling.the-variants.{Answered, Short}
 
 -- ---- well-formed texts
 
@@ -153,3 +155,27 @@ writtenIn (WellFormed n m) l out = pick (sizesOutside n m) out (over (tableBytes
 
 unfoldable pub assembledIn : List ℕ → List ℕ → List ℕ
 assembledIn s out = pick (ltb longestText (length s)) out (writtenIn (checked (saids s)) (saids s) out)
+
+-- ---- in a buffer of some length
+
+-- the bytes of the table that is written, "4 + 4n + 4m"; none where the text gives none
+abbrev pub bytesBy : Checked → ℕ
+bytesBy (Fault line e) = 0
+bytesBy (WellFormed n m) = pick (sizesOutside n m) 0 (4 + 4 * n + 4 * m)
+
+unfoldable pub bytesOf : List ℕ → ℕ
+bytesOf s = pick (ltb longestText (length s)) 0 (bytesBy (checked (saids s)))
+
+-- an answer for which a buffer of `room` bytes needs k of them
+abbrev pub orShort : ℕ → ℕ → Assembled → Assembling
+orShort room k a = pick (ltb room k) (Short k) (Answered a)
+
+unfoldable pub assembling : ℕ → List ℕ → Assembling
+assembling room s = orShort room (bytesOf s) (assembled s)
+
+-- the buffer afterwards, as it was where it has fewer than k bytes
+abbrev pub keptIfShort : ℕ → List ℕ → List ℕ → List ℕ
+keptIfShort k out after = pick (ltb (length out) k) out after
+
+unfoldable pub assemblingIn : List ℕ → List ℕ → List ℕ
+assemblingIn s out = keptIfShort (bytesOf s) out (assembledIn s out)

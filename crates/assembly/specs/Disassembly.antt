@@ -1,15 +1,19 @@
 -- The text of a table: each thread's line, and its actions one to a line, each with its number as a comment.
-use Prim.Native.Nat.{ℕ, zero, suc, _+_}
+use Prim.Native.Nat.{ℕ, zero, suc, _+_, _*_}
 use mathlib.Core.List.{List, [], _∷_, _++_, flatten}
+use lib.Dec.{ltb}
 use lib.ListN.{length}
+use Rattle.table.specs.Sum.{pick}
 use Rattle.table.specs.Format.{Table, tableOf, Kind, end, work, alloc, free, fork, join, unknown, kindOf}
 use Rattle.table.specs.Load.{loaded}
 use Rattle.table.specs.declared.Loaded.{Loaded}
 use Rattle.table.specs.declared.Loaded.the-variants.{Accepted, Refused}
 use Rattle.text.specs.Text.{ascii, decimal, newline}
-use Rattle.assembly.specs.Assembly.{over}
+use Rattle.assembly.specs.Assembly.{over, keptIfShort}
 use Rattle.assembly.specs.declared.Disassembled.{Disassembled}
 use Rattle.assembly.specs.declared.Disassembled.the-variants.{Listed, Refused as Rejected}
+use Rattle.assembly.specs.declared.Disassembling.{Disassembling}
+use Rattle.assembly.specs.declared.Disassembling.the-variants.{Answered, Short}
 
 -- "thread 0"
 abbrev pub threadTexts : ℕ → List (List ℕ)
@@ -68,3 +72,23 @@ listedIn (Refused r) T out = out
 
 unfoldable pub disassembledIn : List ℕ → List ℕ → List ℕ
 disassembledIn s out = listedIn (loaded s) (tableOf s) out
+
+-- ---- in a buffer of some length
+
+-- bytes that the text of every table of as many threads and actions fits
+abbrev pub mostText : Table → ℕ
+mostText T = 12 * T .threads + 31 * T .actions
+
+-- none where the table is refused
+abbrev pub mostOf : Loaded → Table → ℕ
+mostOf (Accepted f) T = mostText T
+mostOf (Refused r) T = 0
+
+abbrev pub orShortText : ℕ → ℕ → Disassembled → Disassembling
+orShortText room k a = pick (ltb room k) (Short k) (Answered a)
+
+unfoldable pub disassembling : ℕ → List ℕ → Disassembling
+disassembling room s = orShortText room (mostOf (loaded s) (tableOf s)) (disassembled s)
+
+unfoldable pub disassemblingIn : List ℕ → List ℕ → List ℕ
+disassemblingIn s out = keptIfShort (mostOf (loaded s) (tableOf s)) out (disassembledIn s out)

@@ -91,7 +91,7 @@ module _ (s : List ℕ) (p K room : ℕ) where
     unfolding lentBegin beginFilling
     none = numbered (r .found) (ltb room (r .bytes)) (r .bytes) (startMemory F p K) (begin-numbered s p K) e
 
-    found-none : beginFound s p K ≡ Nothing
+    pub found-none : beginFound s p K ≡ Nothing
     unfolding beginFilling
     found-none = none .0
 

@@ -50,7 +50,7 @@ pub record Refs : Type 0 where
   pub row : RefT (List ℕ)
 
 -- the run in them
-abbrev lentIn : Refs → Memory
+abbrev pub lentIn : Refs → Memory
 lentIn refs =
     memory (now (refs .settings)) (now (refs .parents))
     (arrays (now (refs .next)) (now (refs .status)) (now (refs .amounts)) (now (refs .left)) (now (refs .right)) (now (refs .under)) (now (refs .over))) (now (refs .holds)) (now (refs .threads))
@@ -73,7 +73,7 @@ pub record Blocks : Type 0 where
   pub sums : RefT (List ℕ)
   pub row : RefT (List ℕ)
 
-abbrev blocksIn : Blocks → Memory
+abbrev pub blocksIn : Blocks → Memory
 blocksIn refs = memoryOf (now (refs .bytes)) (now (refs .words)) (now (refs .numbers)) (now (refs .sums))
 
 -- `wivakkol_turn_on`, lent a table s and a run M, answered a
@@ -153,17 +153,17 @@ open-is {s} {M} h = sym (h .left) ∙ h .promised .0 ∙ ap₂ (λ (t : List ℕ
 -- ---- what the definitions answer keeps them
 
 -- a reference at some place to a value
-abbrev lentOf : List ℕ → RefT (List ℕ)
+abbrev pub lentOf : List ℕ → RefT (List ℕ)
 lentOf l = record { ptr = (0, 0); name = 0; now = l }
 
-abbrev refsOf : List ℕ → Memory → Refs
+abbrev pub refsOf : List ℕ → Memory → Refs
 refsOf s M = record { table = lentOf s; settings = lentOf (M .settings); parents = lentOf (M .parents); next = lentOf (M .arrays .next); status = lentOf (M .arrays .status); amounts = lentOf (M .arrays .amounts); left = lentOf (M .arrays .left); right = lentOf (M .arrays .right); under = lentOf (M .arrays .under); over = lentOf (M .arrays .over); holds = lentOf (M .holds); threads = lentOf (M .threads); quotas = lentOf (M .quotas); heads = lentOf (M .heads); totals = lentOf (M .totals); row = lentOf [] }
 
 -- working memory as a call leaves it
-abbrev cleared : List ℕ
+abbrev pub cleared : List ℕ
 cleared = replicate 1024 0
 
-abbrev workOf : Work
+abbrev pub workOf : Work
 workOf = record { rises = lentOf cleared; falls = lentOf cleared; forks = lentOf cleared; seen = lentOf cleared; list = lentOf cleared }
 
 pub begin-says : (s : List ℕ) (p K : ℕ) (out : List ℕ) → BeginSays s p K out (lentBegin s p K (length out)) (begunInto s p K out)
@@ -172,11 +172,11 @@ begin-says s p K out =
     record { lifetimes = ([], ([], ([], ([], ([], ([], ([], ([], ([], ([], ([], ([], ([], ([], ([], ([], ([], ([], ([], tt))))))))))))))))))); refs = refsOf s (a .memory); work = workOf; buffer = lentOf out; exit = (lentOf s, (p, (K, (lentOf (a .memory .settings), (lentOf (a .memory .parents), (lentOf (a .memory .arrays .next), (lentOf (a .memory .arrays .status), (lentOf (a .memory .arrays .amounts), (lentOf (a .memory .arrays .left), (lentOf (a .memory .arrays .right), (lentOf (a .memory .arrays .under), (lentOf (a .memory .arrays .over), (lentOf (a .memory .holds), (lentOf (a .memory .threads), (lentOf (a .memory .quotas), (lentOf (a .memory .heads), (lentOf (a .memory .totals), (lentOf (a .row), (lentOf cleared, (lentOf cleared, (lentOf (begunInto s p K out), tt))))))))))))))))))))); lent-table = refl; lent-buffer = refl; left-buffer = refl; left = refl; promised = (refl, (refl, (refl, refl))) }
 
 -- the blocks of a memory
-abbrev blocksOf : List ℕ → Memory → Blocks
+abbrev pub blocksOf : List ℕ → Memory → Blocks
 blocksOf s M = record { table = lentOf s; bytes = lentOf (bytesOf M); words = lentOf (wordsOf M); numbers = lentOf (numbersOf M); sums = lentOf (sumsOf M); row = lentOf [] }
 
 -- an answer is what stands in the blocks of its memory
-whole : (a : Answer) → Shaped (a .memory)
+pub whole : (a : Answer) → Shaped (a .memory)
     → answer (a .number) (a .row) (memoryOf (bytesOf (a .memory)) (wordsOf (a .memory)) (numbersOf (a .memory)) (sumsOf (a .memory))) ≡ a
 whole a h = ap (answer (a .number) (a .row)) (in-blocks (a .memory) h)
 

@@ -18,6 +18,7 @@ use Rattle.schedule.specs.Most.{notIdle}
 use Rattle.bounds.proofs.Limit.{MemoryLimit, memory-limit}
 use Rattle.bounds.proofs.ThreadLimit.{ThreadLimit, thread-limit}
 use Rattle.bounds.proofs.Most.{turns-most}
+use Rattle.bounds.proofs.PeakLimit.{PeakLimit, UsefulLimit, peak-limit, useful-limit}
 use Rattle.marks.specs.Marks.{Mark, Marked, marked, unmarked, setChecks, backChecks, MarkValues, setValues, backValues, setAs, backAs, MarkCall, moving, setting, going, afterMark, afterMarks, Led, ledTo, nowhere, rowOfMarks, rowBy, numberOf, turnsBy, turnsTo}
 use Rattle.marks.proofs.Marked.{marked-follows}
 use Rattle.marks.proofs.Turns.{turns-led-to}
@@ -48,6 +49,13 @@ module _ (s : List ℕ) (p K : ℕ) (r : Run) (e : begin s p K ≡ record { answ
 
   pub marked-turns : notIdle (replies T K (startState T) (rowOfMarks cs r)) ≤ turnsOf T
   marked-turns = holds (λ (q : Run) (row : List ℕ). notIdle (replies T K (startState T) row) ≤ turnsOf T) (turns-most s p K r e)
+
+  -- and so do the peak of p workers and the useful limit
+  pub marked-peak : PeakLimit T p K (afterMarks cs (unmarked r) .run) (rowOfMarks cs r)
+  marked-peak = holds (PeakLimit T p K) (peak-limit s p K r e)
+
+  pub marked-useful : (b : ℕ) → UsefulLimit T p K b (afterMarks cs (unmarked r) .run) (rowOfMarks cs r)
+  marked-useful b = holds (UsefulLimit T p K b) (λ calls. useful-limit s p K r e calls b)
 
 -- ---- by value, from what the functions promise
 
@@ -183,3 +191,9 @@ module _ {s : List ℕ} {p K : ℕ} {b : Begun} (h : BeginSays s p K b) (e : b .
   promised-turns =
       history-holds (λ (q : Run) (row : List ℕ). notIdle (replies (tableOf (filledOut s K)) K (startState (tableOf (filledOut s K))) row) ≤ turnsOf (tableOf (filledOut s K)))
       (marked-turns s p K (b .run) begun cs)
+
+  pub promised-peak : PeakLimit (tableOf (filledOut s K)) p K (m .run) (w .here)
+  promised-peak = history-holds (PeakLimit (tableOf (filledOut s K)) p K) (marked-peak s p K (b .run) begun cs)
+
+  pub promised-useful : (most : ℕ) → UsefulLimit (tableOf (filledOut s K)) p K most (m .run) (w .here)
+  promised-useful most = history-holds (UsefulLimit (tableOf (filledOut s K)) p K most) (marked-useful s p K (b .run) begun cs most)

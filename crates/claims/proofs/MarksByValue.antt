@@ -21,6 +21,7 @@ use Rattle.schedule.specs.Most.{notIdle}
 use Rattle.schedule.specs.Calls.{Call}
 use Rattle.bounds.proofs.Limit.{MemoryLimit}
 use Rattle.bounds.proofs.ThreadLimit.{ThreadLimit}
+use Rattle.bounds.proofs.PeakLimit.{PeakLimit, UsefulLimit}
 use Rattle.marks.specs.Marks.{Marked, marked, unmarked, setChecks, backChecks, MarkValues, setValues, backValues, setAs, backAs, MarkCall, moving, setting, going, Led, ledBy, nowhere, turnsBy}
 use Rattle.marks.proofs.Marked.{Follows, mark-follows, unmarked-follows}
 use Rattle.wivakkol_marks.specs.LentMarks.{Marks, marksOf}
@@ -181,3 +182,9 @@ module _ {s : List ℕ} {p K : ℕ} {b : Begun} (h : BeginSays s p K b) (e : b .
 
   pub code-marked-turns : notIdle (replies T K (startState T) (w .here)) ≤ turnsOf T
   code-marked-turns = promised.promised-turns h e history
+
+  pub code-marked-peak : PeakLimit T p K r (w .here)
+  code-marked-peak = promised.promised-peak h e history
+
+  pub code-marked-useful : (most : ℕ) → UsefulLimit T p K most r (w .here)
+  code-marked-useful most = promised.promised-useful h e history most

@@ -28,7 +28,7 @@ use Rattle.claims.proofs.ByValue as by-value
 use Rattle.claims.proofs.LentSays as from-c
 use Rattle.claims.proofs.LentLimit.{begun-record}
 use Rattle.claims.proofs.FromC.{none, next, by-rounds, runs-so, begun-code-refines}
-use Rattle.claims.proofs.Board.{given-place, begin-given, lent-begin-given, quota-serves}
+use Rattle.claims.proofs.Board.{quota-begins, lent-begins, quota-serves}
 
 -- ---- the limits
 
@@ -80,7 +80,7 @@ pub record WithinMemory (M : ℕ) (r : Run) : Type 0 where
 pub quota-serves-rounds : (s : List ℕ) (p M K : ℕ) → quoted s p 1 M ≡ Given K → (turns : ℕ) → WithinMemory M (roundsRun (startRun s p K) turns .run)
 unfolding afterCalls afterCall startRun
 quota-serves-rounds s p M K e turns =
-    let i = begin-started s p K (startRun s p K) (begin-given s p 1 M K e) in
+    let i = begin-started s p K (startRun s p K) (quota-begins s p 1 M K e .begun) in
     let w = quota-serves s p 1 M K e .1 (inRounds turns ∷ []) .recorded (rounds-row-keeps (startRun s p K) (i .some-worker) turns) in
     record { held = w .0; highest = w .1 }
 
@@ -91,7 +91,7 @@ pub record RoundsServed (M : ℕ) (b : Begun) : Type 0 where
 
 pub code-quota-serves-rounds : {s : List ℕ} {p M K : ℕ} → quoted s p 1 M ≡ Given K → {b : Begun} → by-value.BeginSays s p K b → RoundsServed M b
 code-quota-serves-rounds {s} {p} {M} {K} e {b} h =
-    let a : b ≡ record { answer = started; run = startRun s p K } = by-value.begin-is h ∙ begin-given s p 1 M K e in
+    let a : b ≡ record { answer = started; run = startRun s p K } = by-value.begin-is h ∙ quota-begins s p 1 M K e .begun in
     record {
       accepted = ap (λ (x : Begun). x .answer) a;
       within = λ {turns} {d} k.
@@ -105,11 +105,11 @@ pub record LentRoundsServed (s : List ℕ) (M : ℕ) (a : Answer) : Type 0 where
 
 pub lent-code-quota-serves-rounds : {s : List ℕ} {p M K : ℕ} → quoted s p 1 M ≡ Given K → {out filled : List ℕ} {a : Answer} → from-c.BeginSays s p K out a filled → LentRoundsServed s M a
 lent-code-quota-serves-rounds {s} {p} {M} {K} e {out} {filled} {a} h =
-    let n : a .number ≡ 0 = ap (λ (x : Answer). x .number) (from-c.begin-is h) ∙ lent-begin-given s p 1 M K e (length out) in
-    let i : tableThatRuns s a filled ≡ s = runs-so h n ∙ given-place s p 1 M K e in
+    let n : a .number ≡ 0 = ap (λ (x : Answer). x .number) (from-c.begin-is h) ∙ lent-begins s p K (quota-begins s p 1 M K e) (length out) in
+    let i : tableThatRuns s a filled ≡ s = runs-so h n ∙ quota-begins s p 1 M K e .in-place in
     record {
       accepted = n;
       within = λ {turns} {d} k.
-          let r = ap (λ (u : List ℕ). runIn u (d .memory)) (sym i) ∙ lent-rounds-after h n (subst (λ (u : List ℕ). from-c.RoundsSays u turns (a .memory) d) (sym i) k) ∙ ap (λ (x : Begun). roundsRun (x .run) turns .run) (begin-given s p 1 M K e) in
+          let r = ap (λ (u : List ℕ). runIn u (d .memory)) (sym i) ∙ lent-rounds-after h n (subst (λ (u : List ℕ). from-c.RoundsSays u turns (a .memory) d) (sym i) k) ∙ ap (λ (x : Begun). roundsRun (x .run) turns .run) (quota-begins s p 1 M K e .begun) in
           subst (WithinMemory M) (sym r) (quota-serves-rounds s p M K e turns);
     }

@@ -30,7 +30,7 @@ use Rattle.array_machine.specs.declared.Moved.{Moved}
 use Rattle.array_machine.specs.Arrays.{Arrays, linksOf, secondOf, actionIn, amountIn, withStatuses, withAmounts, advancedIn, relinked, headed, holding}
 use Rattle.array_machine.specs.Turn.{Outcome, moved, unfit, nextFits, amountFits, waitsIn, actOn, actIn, Seat, seat, seatOf, seatIn, stepFrom, stepOn}
 use Rattle.array_machine.specs.Counted.{Left, counting, unmoved, roomFor, turnOn}
-use Rattle.run_memory.specs.Memory.{Memory, workerIn, movedIn, memoryAfter, hindrance, told, turnLeft, turnIn, lentTurn}
+use Rattle.run_memory.specs.Memory.{Memory, workerIn, movedIn, memoryAfter, hindrance, Told, told, turnLeft, turnIn, lentTurn}
 use Rattle.run_memory.specs.Stands.{runIn}
 use Rattle.run_memory.specs.Runs.{Stopped, overIn, driveIn, listRunIn, roundsRunIn}
 use Rattle.wivakkol.specs.Lent.{lentList, lentRounds, startMemory, blankMemory, begunAs, lentBegin}
@@ -46,38 +46,38 @@ full-pick false l m h k = k
 
 -- ---- links
 
-abbrev Long : Links → Type 0
+abbrev pub Long : Links → Type 0
 Long k = Full (k .left) × Full (k .right)
 
-enters-long : (c t : ℕ) (k : Links) → Long k → Long (linkLeft c t k)
+pub enters-long : (c t : ℕ) (k : Links) → Long k → Long (linkLeft c t k)
 unfolding linkLeft
 enters-long c t k h = (simp length-set (h .0), simp length-set (h .1))
 
-leaves-long : (t : ℕ) (k : Links) → Long k → Long (unlink t k)
+pub leaves-long : (t : ℕ) (k : Links) → Long k → Long (unlink t k)
 unfolding unlink
 leaves-long t k h = (simp length-set (h .0), simp length-set (h .1))
 
-pick-long : (b : Bool) (k m : Links) → Long k → Long m → Long (pick b k m)
+pub pick-long : (b : Bool) (k m : Links) → Long k → Long m → Long (pick b k m)
 pick-long true k m h j = h
 pick-long false k m h j = j
 
 -- ---- a turn
 
 module _ {A : Arrays} (h : Sized A) where
-  with-statuses : {l : List ℕ} → Full l → Sized (withStatuses l A)
+  pub with-statuses : {l : List ℕ} → Full l → Sized (withStatuses l A)
   with-statuses e = record { next = h .next; status = e; amounts = h .amounts; left = h .left; right = h .right; under = h .under; over = h .over }
 
   with-amounts : {l : List ℕ} → Full l → Sized (withAmounts l A)
   with-amounts e = record { next = h .next; status = h .status; amounts = e; left = h .left; right = h .right; under = h .under; over = h .over }
 
-  advances : (t : ℕ) → Sized (advancedIn t A)
+  pub advances : (t : ℕ) → Sized (advancedIn t A)
   advances t =
       record { next = simp length-set (h .next); status = h .status; amounts = h .amounts; left = h .left; right = h .right; under = h .under; over = h .over }
 
-  with-links : (list second : Links) → Long list → Long second → Sized (relinked list second A)
+  pub with-links : (list second : Links) → Long list → Long second → Sized (relinked list second A)
   with-links list second e d = record { next = h .next; status = h .status; amounts = h .amounts; left = e .0; right = e .1; under = d .0; over = d .1 }
 
-chosen : (b : Bool) (x y : Outcome) → Sized (x .arrays) → Sized (y .arrays) → Sized (pick b x y .arrays)
+pub chosen : (b : Bool) (x y : Outcome) → Sized (x .arrays) → Sized (y .arrays) → Sized (pick b x y .arrays)
 chosen true x y h k = h
 chosen false x y h k = k
 
@@ -88,7 +88,7 @@ module _ (T : Table) (K : ℕ) (parents : List ℕ) (t a x : ℕ) (A : Arrays) (
   abbrev stays : Outcome
   stays = unfit A totals worker
 
-  act-sized : (k : Kind) → Sized (actOn k T K parents t a x A totals worker .arrays)
+  pub act-sized : (k : Kind) → Sized (actOn k T K parents t a x A totals worker .arrays)
   unfolding actOn
   act-sized end =
       let u : ℕ = getD parents t 0 in
@@ -170,16 +170,13 @@ module _ (T : Table) (K : ℕ) (parents : List ℕ) (A : Arrays) (h : Sized A) w
 
 -- ---- the calls
 
-turn-shaped : (s : List ℕ) (w : ℕ) (M : Memory) → Shaped M → Shaped (turnIn s w M .memory)
-unfolding turnIn turnLeft
-turn-shaped s w M h =
-    let z : Left = turnOn (tableOf s) (getD (M .settings) 1 0) (M .parents) w (M .arrays) (movedIn M) (workerIn M w) in
-    let number : ℕ = hindrance (movedIn M .turns) (getD (M .settings) 0 0) w (getD (M .arrays .status) 0 0) in
-    go (eqb number 0) (z .fits) number z
-    (turn-sized (tableOf s) (getD (M .settings) 1 0) (M .parents) (M .arrays) (h .arrays) w (movedIn M) (workerIn M w))
+-- what is left of a turn, whatever its kind
+pub left-shaped : (M : Memory) (w : ℕ) → Shaped M → (z : Left) → Sized (z .arrays) → Shaped (turnLeft M w z .memory)
+unfolding turnLeft
+left-shaped M w h z k = go (z .fits)
   where
-    go : (b c : Bool) (n : ℕ) (z : Left) → Sized (z .arrays) → Shaped (pick b (pick c (told 0 (z .reply) (memoryAfter M w z)) (told 32 Idle M)) (told n Idle M) .memory)
-    go true true n z k =
+    go : (b : Bool) → Shaped (pick b (told 0 (z .reply) (memoryAfter M w z)) (told 32 Idle M) .memory)
+    go true =
         record {
           settings = h .settings;
           parents = h .parents;
@@ -190,10 +187,19 @@ turn-shaped s w M h =
           heads = refl;
           totals = refl;
         }
-    go true false n z k = h
-    go false c n z k = h
+    go false = h
 
-either : (b : Bool) (x y : Stopped) → Shaped (x .memory) → Shaped (y .memory) → Shaped (pick b x y .memory)
+pub told-shaped : (b : Bool) (x y : Told) → Shaped (x .memory) → Shaped (y .memory) → Shaped (pick b x y .memory)
+told-shaped true x y h k = h
+told-shaped false x y h k = k
+
+turn-shaped : (s : List ℕ) (w : ℕ) (M : Memory) → Shaped M → Shaped (turnIn s w M .memory)
+unfolding turnIn
+turn-shaped s w M h =
+    told-shaped (eqb (hindrance (movedIn M .turns) (getD (M .settings) 0 0) w (getD (M .arrays .status) 0 0)) 0) _ _
+    (left-shaped M w h _ (turn-sized (tableOf s) (getD (M .settings) 1 0) (M .parents) (M .arrays) (h .arrays) w (movedIn M) (workerIn M w))) h
+
+pub either : (b : Bool) (x y : Stopped) → Shaped (x .memory) → Shaped (y .memory) → Shaped (pick b x y .memory)
 either true x y h k = h
 either false x y h k = k
 
@@ -221,11 +227,11 @@ few-so s M h = subst (λ (x : List ℕ). tableOf x .threads ≤ 1024) (filled-fr
 full-firsts : (f : ℕ → ℕ) (n : ℕ) → n ≤ 1024 → Full (filled maxThreads (firsts f 0 n))
 full-firsts f n h = filled-length maxThreads (firsts f 0 n) (omega (arith, h, firsts-length f 0 n))
 
-full-parents : (T : Table) → T .threads ≤ 1024 → Full (parentsIn T)
+pub full-parents : (T : Table) → T .threads ≤ 1024 → Full (parentsIn T)
 unfolding parentsIn
 full-parents T h = full-firsts (parentOf T) (T .threads) h
 
-same : (x : ℕ) → Full (replicate 1024 x)
+pub same : (x : ℕ) → Full (replicate 1024 x)
 same x = length-replicate {A = ℕ} 1024 x
 
 open-shaped : (s : List ℕ) (M : Memory) → Shaped M → Shaped (lentOpen s M .memory)

@@ -13,7 +13,7 @@ use Rattle.schedule.specs.Memory.{countIn}
 use Rattle.schedule.proofs.Linked.Once.{Once}
 use Rattle.deques.specs.Deques.{Deque, isEmpty}
 use Rattle.deques.specs.Lines.{line, linesOf, bottomsOf}
-use Rattle.deques.specs.Partition.{occurs, owns, ownedBy, Manned, AllManned}
+use Rattle.deques.specs.Partition.{occurs, owns, ownedBy, InUse, AllInUse}
 use Rattle.deques.proofs.Placed.{bottom-counts}
 
 -- ---- in a list
@@ -78,15 +78,15 @@ unfolding ownedBy
 owned-append v [] B = omega arith
 owned-append v (d ∷ A) B = omega (arith, owned-append v A B)
 
-pub manned-front : (front rest : List Deque) → AllManned (front ++ rest) → AllManned front
-unfolding AllManned
-manned-front [] rest m = tt
-manned-front (d ∷ front) rest m = (m .0, manned-front front rest (m .1))
+pub in-use-front : (front rest : List Deque) → AllInUse (front ++ rest) → AllInUse front
+unfolding AllInUse
+in-use-front [] rest m = tt
+in-use-front (d ∷ front) rest m = (m .0, in-use-front front rest (m .1))
 
-pub manned-rest : (front rest : List Deque) → AllManned (front ++ rest) → AllManned rest
-unfolding AllManned
-manned-rest [] rest m = m
-manned-rest (d ∷ front) rest m = manned-rest front rest (m .1)
+pub in-use-rest : (front rest : List Deque) → AllInUse (front ++ rest) → AllInUse rest
+unfolding AllInUse
+in-use-rest [] rest m = m
+in-use-rest (d ∷ front) rest m = in-use-rest front rest (m .1)
 
 -- ---- in the lines
 
@@ -167,12 +167,12 @@ module _ (hold : ℕ → ℕ) (t : ℕ) where
 
 -- ---- among the bottoms
 
-pub line-some : (hold : ℕ → ℕ) (d : Deque) → Manned d → isEmpty (line hold d) ≡ false
+pub line-some : (hold : ℕ → ℕ) (d : Deque) → InUse d → isEmpty (line hold d) ≡ false
 line-some hold d (inl h) = rw (lt-ltb (d .owner) 16 h)
 line-some hold d (inr (e, n)) = rw (le-ltb (d .owner) 16 (omega (arith, e))) n
 
-pub bottoms-count : (hold : ℕ → ℕ) (t : ℕ) (ds : List Deque) → AllManned ds → countIn t (bottomsOf hold ds) ≤ countIn t (linesOf hold ds)
-unfolding bottomsOf linesOf AllManned countIn
+pub bottoms-count : (hold : ℕ → ℕ) (t : ℕ) (ds : List Deque) → AllInUse ds → countIn t (bottomsOf hold ds) ≤ countIn t (linesOf hold ds)
+unfolding bottomsOf linesOf AllInUse countIn
 bottoms-count hold t [] m = omega arith
 bottoms-count hold t (d ∷ ds) m =
     omega (arith, bottoms-count hold t ds (m .1), count-append t (line hold d) (linesOf hold ds), bottom-counts t (line hold d) (line-some hold d (m .0)))

@@ -10,7 +10,7 @@ use Rattle.table.proofs.Tests.{no-way}
 use Rattle.schedule.specs.Machine.{held}
 use Rattle.deques.specs.Deques.{Deque, deque}
 use Rattle.deques.specs.Lines.{prepend, cutAfter, dequeOf, line, linesOf}
-use Rattle.deques.specs.Partition.{Manned, AllManned}
+use Rattle.deques.specs.Partition.{InUse, AllInUse}
 
 -- the last alone passes
 abbrev pub LastPasses : (ℕ → Bool) → List ℕ → Type 0
@@ -35,7 +35,7 @@ AllSeen f isHeld holder held [] = Unit {0}
 AllSeen f isHeld holder held (d ∷ ds) = Seen f isHeld holder held d × AllSeen f isHeld holder held ds
 
 module _ (f isHeld : ℕ → Bool) (holder held : ℕ → ℕ) where
-  line-back : (d : Deque) → Manned d → Seen f isHeld holder held d → dequeOf isHeld holder (line held d) ≡ d
+  line-back : (d : Deque) → InUse d → Seen f isHeld holder held d → dequeOf isHeld holder (line held d) ≡ d
   line-back d (inl h) s = rw (lt-ltb (d .owner) 16 h, s .owner h .0) (ap (λ (o : ℕ). deque o (d .threads)) (s .owner h .1))
   line-back d (inr (e, n)) s = rw (le-ltb (d .owner) 16 (omega (arith, e))) (go (d .threads) refl)
     where
@@ -43,8 +43,8 @@ module _ (f isHeld : ℕ → Bool) (holder held : ℕ → ℕ) where
       go [] i = no-way (cc)
       go (t ∷ k) i = rw (s .top t k i) (ap₂ deque (sym e) (sym i))
 
-  pub deques-back : (ds : List Deque) → AllManned ds → AllSeen f isHeld holder held ds → map (dequeOf isHeld holder) (cutAfter f (linesOf held ds)) ≡ ds
-  unfolding linesOf AllManned AllSeen cutAfter
+  pub deques-back : (ds : List Deque) → AllInUse ds → AllSeen f isHeld holder held ds → map (dequeOf isHeld holder) (cutAfter f (linesOf held ds)) ≡ ds
+  unfolding linesOf AllInUse AllSeen cutAfter
   deques-back [] m s = refl
   deques-back (d ∷ ds) m s =
       ap (map (dequeOf isHeld holder)) (cut-line f (line held d) (linesOf held ds) (s .0 .last)) ∙ ap₂ _∷_ (line-back d (m .0) (s .0)) (deques-back ds (m .1) (s .1))

@@ -18,7 +18,7 @@ use Rattle.deques.specs.declared.DequeRun.{DequeRun}
 use Rattle.deques.specs.Deques.{Deque}
 use Rattle.deques.specs.DequeRecord.{dequesIn, dequesOf}
 use Rattle.deques.specs.DequeSound.{SteadyDeques}
-use Rattle.deques.specs.Partition.{occurs, ownedBy, Manned, AllManned, statusIs, readyAt, holdsAt, placesOf}
+use Rattle.deques.specs.Partition.{occurs, ownedBy, InUse, AllInUse, statusIs, readyAt, holdsAt, placesOf}
 use Rattle.deques.proofs.DequeTurns.{withSerial, serial-facts}
 use Rattle.deques.proofs.DequeStores.{steady-lawful}
 
@@ -38,12 +38,12 @@ once-exactly status ds t h =
     let o = one-status (getD status t 0) h in
     ((λ e. omega (arith, e, o)), (λ e. omega (arith, e, o)))
 
-manned-each : (ds : List Deque) → AllManned ds → (d : Deque) → List·Memᴰ d ds → Manned d
-unfolding AllManned
-manned-each [] m d i = absurd (List·Memᴰ·not-nil i)
-manned-each (x ∷ ds) m d i = go (List·Memᴰ·cases-cons i) (manned-each ds (m .1) d)
+in-use-each : (ds : List Deque) → AllInUse ds → (d : Deque) → List·Memᴰ d ds → InUse d
+unfolding AllInUse
+in-use-each [] m d i = absurd (List·Memᴰ·not-nil i)
+in-use-each (x ∷ ds) m d i = go (List·Memᴰ·cases-cons i) (in-use-each ds (m .1) d)
   where
-    go : (d ≡ x) ⊎ List·Memᴰ d ds → (List·Memᴰ d ds → Manned d) → Manned d
+    go : (d ≡ x) ⊎ List·Memᴰ d ds → (List·Memᴰ d ds → InUse d) → InUse d
     go (inl e) ih = rw e (m .0)
     go (inr j) ih = ih j
 
@@ -65,8 +65,8 @@ module _ (r : DequeRun) (h : SteadyDeques r) where
   owns-one w i = h .placed .owned w i
 
   -- "a deque has at most one owner", of which there is one number, "and an owner or a thread"
-  pub owner-or-thread : (d : Deque) → List·Memᴰ d (dequesIn r) → Manned d
-  owner-or-thread = manned-each (dequesIn r) (h .placed .manned)
+  pub owner-or-thread : (d : Deque) → List·Memᴰ d (dequesIn r) → InUse d
+  owner-or-thread = in-use-each (dequesIn r) (h .placed .in-use)
 
   -- "The total over all threads equals the memory held" (N9)
   pub total-held : sumTo (λ t. getD (r .run .amounts) t 0) 1024 ≡ r .run .held

@@ -34,7 +34,7 @@ use Rattle.deques.specs.DequeSound.{SteadyDeques}
 use Rattle.deques.specs.DequeTurn.{stepDeques}
 use Rattle.deques.specs.DequeRuns.{Pair, dequeMoved}
 use Rattle.deques.specs.Lines.{linesOf, bottomsOf, threadOf}
-use Rattle.deques.specs.Partition.{occurs, ownedBy, AllManned, readyAt, holdsAt, PlacedDeques}
+use Rattle.deques.specs.Partition.{occurs, ownedBy, AllInUse, readyAt, holdsAt, PlacedDeques}
 use Rattle.deques.proofs.DequeTurns.{Kept, turn-kept}
 use Rattle.deques.proofs.Read.{deques-read}
 
@@ -175,7 +175,7 @@ module _ (r : DequeRun) (h : SteadyDeques r) where
 
 module _ (T : Table) (l : Lawful T) (p K : ℕ) where
   pub start-kept : Kept T p K (startDeques T)
-  unfolding occurs countIn ownedBy AllManned
+  unfolding occurs countIn ownedBy AllInUse
   start-kept =
       record {
         common = sound-facts T l p K (startState T) (start-facts T l p K) .common;
@@ -184,7 +184,7 @@ module _ (T : Table) (l : Lawful T) (p K : ℕ) where
               once = λ t h. at t (ℕ-discrete t 0);
               none = λ t h. off t (λ e. omega (arith, e, h, l .some-thread));
               owned = own-none;
-              manned = (inr (refl, refl), tt);
+              in-use = (inr (refl, refl), tt);
             };
       }
     where

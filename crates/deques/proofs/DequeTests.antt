@@ -27,7 +27,7 @@ use Rattle.deques.specs.declared.DequeRun.{DequeRun}
 use Rattle.deques.specs.Deques.{Deque, isEmpty}
 use Rattle.deques.specs.DequeRecord.{blankDeques}
 use Rattle.deques.specs.DequeSound.{SoundDeques, threadsIn, allManned, placedDeques, recordSound, dequeSound, isBlankDeques}
-use Rattle.deques.specs.Partition.{occurs, ownedBy, Manned, AllManned, readyAt, holdsAt, PlacedDeques}
+use Rattle.deques.specs.Partition.{occurs, ownedBy, InUse, AllInUse, readyAt, holdsAt, PlacedDeques}
 use Rattle.deques.proofs.Counts.{counted-in, in-counted, count-append}
 
 -- ---- the clauses on the deques
@@ -59,25 +59,25 @@ threads-below n ds =
     low t m h (yes i) = i
     low t m h (no i) = absurd (omega (arith, h t (omega (arith, i)), occurs-in t ds, counted-in t (threadsIn ds) m))
 
-manned-exactly : (d : Deque) → ((ltb (d .owner) 16 || (eqb (d .owner) 16 && not (isEmpty (d .threads)))) ≡ true) ↔ Manned d
-manned-exactly d =
+in-use-exactly : (d : Deque) → ((ltb (d .owner) 16 || (eqb (d .owner) 16 && not (isEmpty (d .threads)))) ≡ true) ↔ InUse d
+in-use-exactly d =
     Iff·trans (or-exactly (ltb (d .owner) 16) (eqb (d .owner) 16 && not (isEmpty (d .threads)))) (
       (λ h. there h),
       (λ h. back h),
     )
   where
-    there : (ltb (d .owner) 16 ≡ true) ⊎ ((eqb (d .owner) 16 && not (isEmpty (d .threads))) ≡ true) → Manned d
+    there : (ltb (d .owner) 16 ≡ true) ⊎ ((eqb (d .owner) 16 && not (isEmpty (d .threads))) ≡ true) → InUse d
     there (inl e) = inl (ltb-true (d .owner) 16 e)
     there (inr e) = let b = and-of (eqb-exactly (d .owner) 16) (not-exactly (isEmpty (d .threads))) .0 e in inr (b .0, b .1)
 
-    back : Manned d → (ltb (d .owner) 16 ≡ true) ⊎ ((eqb (d .owner) 16 && not (isEmpty (d .threads))) ≡ true)
+    back : InUse d → (ltb (d .owner) 16 ≡ true) ⊎ ((eqb (d .owner) 16 && not (isEmpty (d .threads))) ≡ true)
     back (inl i) = inl (lt-ltb (d .owner) 16 i)
     back (inr b) = inr (and-of (eqb-exactly (d .owner) 16) (not-exactly (isEmpty (d .threads))) .1 b)
 
-allManned-exactly : (ds : List Deque) → (allManned ds ≡ true) ↔ AllManned ds
-unfolding allManned AllManned
+allManned-exactly : (ds : List Deque) → (allManned ds ≡ true) ↔ AllInUse ds
+unfolding allManned AllInUse
 allManned-exactly [] = ((λ e. tt), (λ e. refl))
-allManned-exactly (d ∷ ds) = and-of (manned-exactly d) (allManned-exactly ds)
+allManned-exactly (d ∷ ds) = and-of (in-use-exactly d) (allManned-exactly ds)
 
 pub placed-exactly : (n : ℕ) (status : List ℕ) (workers : List Worker) (ds : List Deque) → (placedDeques n status workers ds ≡ true) ↔ PlacedDeques n status workers ds
 unfolding placedDeques
@@ -87,8 +87,8 @@ placed-exactly n status workers ds =
     (and-of (threads-below n ds)
     (and-of (same-below (λ w. ownedBy w ds) (holdsAt workers) 16)
     (allManned-exactly ds)))) (
-      (λ (a, (b, (c, d))). record { once = a; none = b; owned = c; manned = d }),
-      (λ x. (x .once, (x .none, (x .owned, x .manned)))),
+      (λ (a, (b, (c, d))). record { once = a; none = b; owned = c; in-use = d }),
+      (λ x. (x .once, (x .none, (x .owned, x .in-use)))),
     )
 
 -- ---- a sound record

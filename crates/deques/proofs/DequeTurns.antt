@@ -28,9 +28,10 @@ use Rattle.schedule.proofs.Preservation.Ends.{ownerBelow-less}
 use Rattle.order.proofs.Words.{and-exactly}
 use Rattle.deques.specs.Deques.{Deque, deque, nothing, isEmpty, bottom, placeOf, own, robbed, Deques, over, goesTo, goesOn, letGo, DequeStep, actDeques, steal, dequeTurn}
 use Rattle.deques.specs.Partition.{occurs, ownedBy, readyAt, holdsAt, PlacedDeques}
-use Rattle.deques.proofs.Ghost.{CommonIn, serialLive, listed-live, act-common}
-use Rattle.deques.proofs.Placed.{robbed-occurs, robbed-owned, robbed-manned}
-use Rattle.deques.proofs.Kept.{ready-here, ready-there, holds-here, holds-there, one-is, none-is, pick-one, Loose, pop, leaves, stops, forks, wakes, top-ready}
+use Rattle.schedule.proofs.SerialLive.{serialLive, listed-live}
+use Rattle.deques.proofs.ActCommon.{CommonIn, act-common}
+use Rattle.deques.proofs.Placed.{robbed-occurs, robbed-owned, robbed-in-use}
+use Rattle.deques.proofs.Kept.{ready-here, ready-there, holds-here, holds-there, one-is, none-is, pick-one, Releasing, pop, leaves, stops, forks, wakes, top-ready}
 
 -- ---- any kind of run: the list that it would have
 
@@ -119,16 +120,16 @@ module _ (T : Table) (l : Lawful T) (p K : ℕ) (few : p ≤ 16) (w : ℕ) (belo
   Both D = Kept T p K D
 
   -- its thread has another status, and it is released
-  loose : (y : ℕ) (e : ℕ → ℕ) → e t ≡ pick (eqb y ready) 1 0 → ((v : ℕ) → (v ≡ t → ⊥) → e v ≡ 0)
-      → Loose (T .threads) e w (set (st .status) t y) (set (st .workers) w nobody) ds
-  loose y e here there =
+  releasing : (y : ℕ) (e : ℕ → ℕ) → e t ≡ pick (eqb y ready) 1 0 → ((v : ℕ) → (v ≡ t → ⊥) → e v ≡ 0)
+      → Releasing (T .threads) e w (set (st .status) t y) (set (st .workers) w nobody) ds
+  releasing y e here there =
       record {
         once = λ v i. at v i (ℕ-discrete v t);
         none = P .none;
         mine = mine;
         free = holds-here (st .workers) w nobody wide;
         others = λ v i n. P .owned v i ∙ sym (holds-there (st .workers) w nobody v n);
-        manned = P .manned;
+        in-use = P .in-use;
       }
     where
       at : (v : ℕ) → v < T .threads → Dec (v ≡ t) → occurs v ds + e v ≡ readyAt (set (st .status) t y) v
@@ -139,9 +140,9 @@ module _ (T : Table) (l : Lawful T) (p K : ℕ) (few : p ≤ 16) (w : ℕ) (belo
 
   -- a thread more is ready, and in no deque
   more : (status : List ℕ) (workers : List Worker) (e : ℕ → ℕ) (z : ℕ) → T .threads ≤ length status → z < T .threads → readyAt status z ≡ 0
-      → Loose (T .threads) e w status workers ds → Loose (T .threads) (λ v. e v + pick (eqb z v) 1 0) w (set status z ready) workers ds
+      → Releasing (T .threads) e w status workers ds → Releasing (T .threads) (λ v. e v + pick (eqb z v) 1 0) w (set status z ready) workers ds
   more status workers e z s i r o =
-      record { once = λ v j. at v j (ℕ-discrete v z); none = o .none; mine = o .mine; free = o .free; others = o .others; manned = o .manned }
+      record { once = λ v j. at v j (ℕ-discrete v z); none = o .none; mine = o .mine; free = o .free; others = o .others; in-use = o .in-use }
     where
       at : (v : ℕ) → v < T .threads → Dec (v ≡ z) → occurs v ds + (e v + pick (eqb z v) 1 0) ≡ readyAt (set status z ready) v
       at v j (yes k) = rw (k, ready-here status z ready (omega (arith, s, i))) (omega (arith, o .once z i, r, one-is z))
@@ -149,7 +150,7 @@ module _ (T : Table) (l : Lawful T) (p K : ℕ) (few : p ≤ 16) (w : ℕ) (belo
 
   -- ---- the deque's top thread, or none
   goes : (s : State) → CommonIn T p K s → workerOf s w .holds ≡ false → T .threads ≤ length (s .status) → w < length (s .workers)
-      → Loose (T .threads) (λ v. 0) w (s .status) (s .workers) ds → Both (goesOn q w s ds)
+      → Releasing (T .threads) (λ v. 0) w (s .status) (s .workers) ds → Both (goesOn q w s ds)
   unfolding goesOn taken
   goes s d n i j o = go (getD ds (placeOf w ds) nothing .threads) refl
     where
@@ -182,7 +183,7 @@ module _ (T : Table) (l : Lawful T) (p K : ℕ) (few : p ≤ 16) (w : ℕ) (belo
 
   -- the worker goes on with its thread, another quota left
   stays : (y : Worker) → y .holds ≡ true → PlacedDeques (T .threads) (st .status) (set (st .workers) w y) ds
-  stays y i = record { once = P .once; none = P .none; owned = λ v j. who v j (ℕ-discrete v w); manned = P .manned }
+  stays y i = record { once = P .once; none = P .none; owned = λ v j. who v j (ℕ-discrete v w); in-use = P .in-use }
     where
       who : (v : ℕ) → v < 16 → Dec (v ≡ w) → ownedBy v ds ≡ holdsAt (set (st .workers) w y) v
       who v j (yes e) = rw (e, holds-here (st .workers) w y wide, i) mine
@@ -207,7 +208,7 @@ module _ (T : Table) (l : Lawful T) (p K : ℕ) (few : p ≤ 16) (w : ℕ) (belo
         common = d;
         placed =
             stops (T .threads) w (omega arith) (set (st .status) t ready) (set (st .workers) w nobody) ds (small-set ready) wide-set t (X .thread)
-            (loose ready (λ v. pick (eqb t v) 1 0) (one-is t) (λ v n. none-is t v (λ z. n (sym z))));
+            (releasing ready (λ v. pick (eqb t v) 1 0) (one-is t) (λ v n. none-is t v (λ z. n (sym z))));
       }))
       (acted-common alloc e)
 
@@ -216,7 +217,7 @@ module _ (T : Table) (l : Lawful T) (p K : ℕ) (few : p ≤ 16) (w : ℕ) (belo
   by-join e =
       either (λ (s : Stepped). CommonIn T p K (s .state) → Both (afterOf join s)) (eqb (statusOf st x) ended) _ _
       (λ i d. rw h (record { common = d; placed = P }))
-      (λ i d. rw gone (goes (released w t waiting st) d (rw gone) (small-set waiting) wide-set (loose waiting (λ v. 0) refl (λ v n. refl))))
+      (λ i d. rw gone (goes (released w t waiting st) d (rw gone) (small-set waiting) wide-set (releasing waiting (λ v. 0) refl (λ v n. refl))))
       (acted-common join e)
 
   by-fork : kind T a ≡ fork → Both (afterOf fork (actBy fork T K w t a x st))
@@ -229,7 +230,7 @@ module _ (T : Table) (l : Lawful T) (p K : ℕ) (few : p ≤ 16) (w : ℕ) (belo
             forks (T .threads) w (omega arith) (set (set (st .status) t ready) x ready) (set (st .workers) w nobody) ds (rw (length-set (set (st .status) t ready) x ready) (small-set ready)) wide-set
             t x (record { holds = true; thread = x; quota = q }) refl (X .thread) child (λ z. omega (arith, above-it, z))
             (more (set (st .status) t ready) (set (st .workers) w nobody) (λ v. pick (eqb t v) 1 0) x (small-set ready) child unready
-            (loose ready (λ v. pick (eqb t v) 1 0) (one-is t) (λ v n. none-is t v (λ z. n (sym z)))));
+            (releasing ready (λ v. pick (eqb t v) 1 0) (one-is t) (λ v n. none-is t v (λ z. n (sym z)))));
       })
     where
       above-it : t < x
@@ -269,11 +270,11 @@ module _ (T : Table) (l : Lawful T) (p K : ℕ) (few : p ≤ 16) (w : ℕ) (belo
         placed =
             wakes (T .threads) w (omega arith) (set (set (st .status) t ended) u ready) (set (st .workers) w nobody) ds
             (rw (length-set (set (st .status) t ended) u ready) (small-set ended)) wide-set u (record { holds = true; thread = u; quota = q }) refl parent
-            (more (set (st .status) t ended) (set (st .workers) w nobody) (λ v. 0) u (small-set ended) parent (unready j) (loose ended (λ v. 0) refl (λ v n. refl)));
+            (more (set (st .status) t ended) (set (st .workers) w nobody) (λ v. 0) u (small-set ended) parent (unready j) (releasing ended (λ v. 0) refl (λ v n. refl)));
       }))
       (λ i d.
       let j : waitsFor T st u t ≡ false = sym waits-same ∙ i in
-      rw (gone, j) (goes mid d (rw gone) (small-set ended) wide-set (loose ended (λ v. 0) refl (λ v n. refl))))
+      rw (gone, j) (goes mid d (rw gone) (small-set ended) wide-set (releasing ended (λ v. 0) refl (λ v n. refl))))
       (acted-common end e)
     where
       mid : State
@@ -343,7 +344,7 @@ module _ (T : Table) (l : Lawful T) (p K : ℕ) (few : p ≤ 16) (w : ℕ) (belo
           once = λ u i. at u i (ℕ-discrete u b);
           none = λ u i. omega (arith, robbed-occurs w u c ds some, x .placed .none u i);
           owned = λ v i. who v i (ℕ-discrete v w);
-          manned = robbed-manned w (omega arith) c ds (x .placed .manned);
+          in-use = robbed-in-use w (omega arith) c ds (x .placed .in-use);
         }
       where
         at : (u : ℕ) → u < T .threads → Dec (u ≡ b) → occurs u (robbed w c ds) ≡ readyAt (set (st .status) b held) u

@@ -30,8 +30,8 @@ use Rattle.deques.specs.DequeRecord.{bottomsIn, dequesIn, dequesOf, line
 use Rattle.deques.specs.DequeSound.{SoundDeques, dequeSound}
 use Rattle.deques.specs.DequeWalk.{isReady, inLines, bottomsAlong, dequesStand, dequeTested}
 use Rattle.deques.specs.Lines.{line, linesOf, bottomsOf, threadOf, cutAfter, dequeOf, holderOf, isHeld, linkedIn, dequesFrom}
-use Rattle.deques.specs.Partition.{occurs, owns, ownedBy, Manned, AllManned, readyAt, PlacedDeques}
-use Rattle.deques.proofs.Ghost.{CommonIn}
+use Rattle.deques.specs.Partition.{occurs, owns, ownedBy, InUse, AllInUse, readyAt, PlacedDeques}
+use Rattle.deques.proofs.ActCommon.{CommonIn}
 use Rattle.deques.proofs.Cut.{LastPasses, AllSeen}
 use Rattle.deques.proofs.DequeTurns.{Kept, withSerial, serial-facts}
 use Rattle.deques.proofs.Counts.{counted-in, count-append, in-counted, once-counts, lines-count, heldAmong}
@@ -103,10 +103,10 @@ module _ (T : Table) (l : Lawful T) (p K : ℕ) (st : State) (c : CommonIn T p K
         rw (eq-eqb (getD (st .status) t 0) held e, lt-ltb (holderOf t (st .workers)) 16 (h .few)) (ap (_∷ k) (h .thread))
     line-back (t ∷ k) (inr e, g) = rw (unready t e)
 
-    line-manned : (k : List ℕ) → Line k → Manned (dq k)
-    line-manned [] g = absurd g
-    line-manned (t ∷ k) (inl e, g) = rw (eq-eqb (getD (st .status) t 0) held e) (inl (held-by t e .few))
-    line-manned (t ∷ k) (inr e, g) = rw (unready t e) (inr (refl, refl))
+    line-in-use : (k : List ℕ) → Line k → InUse (dq k)
+    line-in-use [] g = absurd g
+    line-in-use (t ∷ k) (inl e, g) = rw (eq-eqb (getD (st .status) t 0) held e) (inl (held-by t e .few))
+    line-in-use (t ∷ k) (inr e, g) = rw (unready t e) (inr (refl, refl))
 
     ready-none : (t : ℕ) (k : List ℕ) → AllReady f (st .status) k → (getD (st .status) t 0 ≡ ready → ⊥) → countIn t k ≡ 0
     ready-none t k a n = go (decLe 1 (countIn t k))
@@ -160,10 +160,10 @@ module _ (T : Table) (l : Lawful T) (p K : ℕ) (st : State) (c : CommonIn T p K
     bottoms-back [] g = refl
     bottoms-back (k ∷ ks) g = ap₂ _∷_ (ap bottom (line-back k (g .0))) (bottoms-back ks (g .1))
 
-    all-manned : (ks : List (List ℕ)) → Lines ks → AllManned (map dq ks)
-    unfolding AllManned Good
-    all-manned [] g = tt
-    all-manned (k ∷ ks) g = (line-manned k (g .0), all-manned ks (g .1))
+    all-in-use : (ks : List (List ℕ)) → Lines ks → AllInUse (map dq ks)
+    unfolding AllInUse Good
+    all-in-use [] g = tt
+    all-in-use (k ∷ ks) g = (line-in-use k (g .0), all-in-use ks (g .1))
 
     all-count : (t : ℕ) → (getD (st .status) t 0 ≡ held → ⊥) → (ks : List (List ℕ)) → Lines ks → occurs t (map dq ks) ≡ countIn t (flatten ks)
     unfolding occurs flatten Good countIn
@@ -225,7 +225,7 @@ module _ (T : Table) (l : Lawful T) (p K : ℕ) (st : State) (c : CommonIn T p K
                 all-count t (λ e. omega (arith, i, stands-low t (inl e))) (cutAfter f row) good ∙ count-row t
                 ∙ none-in t (λ m. omega (arith, i, stands-low t (in-row t m)));
             owned = λ w i. who w i (getD (st .workers) w nobody .holds) refl;
-            manned = all-manned (cutAfter f row) good;
+            in-use = all-in-use (cutAfter f row) good;
           }
         where
           at : (t : ℕ) → t < T .threads → Dec (getD (st .status) t 0 ≡ held) → Dec (getD (st .status) t 0 ≡ ready) → occurs t (map dq (cutAfter f row)) ≡ readyAt (st .status) t
@@ -270,16 +270,16 @@ module _ (T : Table) (l : Lawful T) (p K : ℕ) (st : State) (c : CommonIn T p K
     all-ready [] h = tt
     all-ready (t ∷ k) h = (h t (List·Memᴰ·head refl), all-ready k (λ u m. h u (List·Memᴰ·tail m)))
 
-    good-lines : (es : List Deque) → AllManned es → AllSeen f2 (isHeld (st .status)) (λ t. holderOf t (st .workers)) hold es
+    good-lines : (es : List Deque) → AllInUse es → AllSeen f2 (isHeld (st .status)) (λ t. holderOf t (st .workers)) hold es
         → ((t : ℕ) → 1 ≤ occurs t es → getD (st .status) t 0 ≡ ready) → Good f2 (st .status) (map (line hold) es)
-    unfolding AllManned AllSeen Good occurs
+    unfolding AllInUse AllSeen Good occurs
     good-lines [] m s h = tt
     good-lines (d ∷ es) m s h = (good (m .0), good-lines es (m .1) (s .1) (λ t i. h t (omega (arith, i))))
       where
         readies : (t : ℕ) → List·Memᴰ t (d .threads) → getD (st .status) t 0 ≡ ready
         readies t n = h t (omega (arith, counted-in t (d .threads) n))
 
-        good : Manned d → GoodLine f2 (st .status) (line hold d)
+        good : InUse d → GoodLine f2 (st .status) (line hold d)
         good (inl i) = owned (s .0 .last)
           where
             owned : LastPasses f2 (line hold d) → GoodLine f2 (st .status) (line hold d)
@@ -296,7 +296,7 @@ module _ (T : Table) (l : Lawful T) (p K : ℕ) (st : State) (c : CommonIn T p K
                 )
 
     lines-good : Good f2 (st .status) (map (line hold) ds)
-    lines-good = good-lines ds (P .manned) (all-seen T l p K first second D X L [] ds refl) (λ t i. in-deque T l p K D X t i .1)
+    lines-good = good-lines ds (P .in-use) (all-seen T l p K first second D X L [] ds refl) (λ t i. in-deque T l p K D X t i .1)
 
     flat : (es : List Deque) → flatten (map (line hold) es) ≡ linesOf hold es
     unfolding flatten linesOf

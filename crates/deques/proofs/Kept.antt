@@ -15,8 +15,8 @@ use Rattle.schedule.specs.declared.Worker.{Worker}
 use Rattle.schedule.specs.Memory.{countIn}
 use Rattle.schedule.specs.Machine.{ready, held, nobody}
 use Rattle.deques.specs.Deques.{Deque, deque, nothing, placeOf, own, push, disown}
-use Rattle.deques.specs.Partition.{readyAt, holdsAt, PlacedDeques, occurs, ownedBy, owns, AllManned}
-use Rattle.deques.proofs.Placed.{own-occurs, own-owned, own-manned}
+use Rattle.deques.specs.Partition.{readyAt, holdsAt, PlacedDeques, occurs, ownedBy, owns, AllInUse}
+use Rattle.deques.proofs.Placed.{own-occurs, own-owned, own-in-use}
 
 -- ---- statuses and workers, place by place
 
@@ -35,13 +35,13 @@ holds-there workers w y v n = rw (getD-set-other workers w v y nobody n)
 -- ---- what the deques of a run keep
 
 -- where worker w is released and its deque not yet: the threads of e are ready and in no deque
-pub record Loose (n : ℕ) (e : ℕ → ℕ) (w : ℕ) (status : List ℕ) (workers : List Worker) (ds : List Deque) : Type 0 where
+pub record Releasing (n : ℕ) (e : ℕ → ℕ) (w : ℕ) (status : List ℕ) (workers : List Worker) (ds : List Deque) : Type 0 where
   pub once : (t : ℕ) → t < n → occurs t ds + e t ≡ readyAt status t
   pub none : (t : ℕ) → n ≤ t → occurs t ds ≡ 0
   pub mine : ownedBy w ds ≡ 1
   pub free : holdsAt workers w ≡ 0
   pub others : (v : ℕ) → v < 16 → (v ≡ w → ⊥) → ownedBy v ds ≡ holdsAt workers v
-  pub manned : AllManned ds
+  pub in-use : AllInUse ds
 
 mine-owner : (w : ℕ) (ds : List Deque) → (ownedBy w ds ≡ 0 → ⊥) → getD ds (placeOf w ds) nothing .owner ≡ w
 unfolding placeOf ownedBy
@@ -76,7 +76,7 @@ module _ (n w : ℕ) (few : w < 16) (status : List ℕ) (workers : List Worker) 
       subst (λ (k : ℕ). ownedBy v (own w f ds) + pick (eqb w v) 1 0 ≡ pick (eqb k v) 1 0 + ownedBy v ds) e b
 
   -- it keeps its owner, which holds a thread
-  keeps : (f : Deque → Deque) (y : Worker) → f mineOf .owner ≡ w → y .holds ≡ true → (e : ℕ → ℕ) → Loose n e w status workers ds
+  keeps : (f : Deque → Deque) (y : Worker) → f mineOf .owner ≡ w → y .holds ≡ true → (e : ℕ → ℕ) → Releasing n e w status workers ds
       → (v : ℕ) → v < 16 → ownedBy v (own w f ds) ≡ holdsAt (set workers w y) v
   keeps f y o h e x v i = go (ℕ-discrete v w)
     where
@@ -85,7 +85,7 @@ module _ (n w : ℕ) (few : w < 16) (status : List ℕ) (workers : List Worker) 
       go (no z) = rw (holds-there workers w y v z) (omega (arith, owners f w v i o (x .mine), none-is w v (λ q. z (sym q)), x .others v i z))
 
   -- it is given up or leaves
-  gives : (f : Deque → Deque) → f mineOf .owner ≡ 16 → (e : ℕ → ℕ) → Loose n e w status workers ds → (v : ℕ) → v < 16 → ownedBy v (own w f ds) ≡ holdsAt workers v
+  gives : (f : Deque → Deque) → f mineOf .owner ≡ 16 → (e : ℕ → ℕ) → Releasing n e w status workers ds → (v : ℕ) → v < 16 → ownedBy v (own w f ds) ≡ holdsAt workers v
   gives f o e x v i = go (ℕ-discrete v w)
     where
       go : Dec (v ≡ w) → ownedBy v (own w f ds) ≡ holdsAt workers v
@@ -93,7 +93,7 @@ module _ (n w : ℕ) (few : w < 16) (status : List ℕ) (workers : List Worker) 
       go (no z) = omega (arith, owners f 16 v i o (x .mine), none-is w v (λ q. z (sym q)), none-is 16 v (λ q. omega arith), x .others v i z)
 
   -- the deque's top thread is held
-  pub pop : (t2 : ℕ) (l : List ℕ) (y : Worker) → y .holds ≡ true → mineOf .threads ≡ t2 ∷ l → Loose n (λ u. 0) w status workers ds
+  pub pop : (t2 : ℕ) (l : List ℕ) (y : Worker) → y .holds ≡ true → mineOf .threads ≡ t2 ∷ l → Releasing n (λ u. 0) w status workers ds
       → PlacedDeques n (set status t2 held) (set workers w y) (own w (λ d. deque w l) ds)
   unfolding countIn
   pop t2 l y h m x =
@@ -101,7 +101,7 @@ module _ (n w : ℕ) (few : w < 16) (status : List ℕ) (workers : List Worker) 
         once = λ u i. at u i (ℕ-discrete u t2);
         none = λ u i. omega (arith, count u, x .none u i);
         owned = keeps (λ d. deque w l) y refl h (λ u. 0) x;
-        manned = own-manned w (λ d. deque w l) (λ d i. omega arith) ds (x .manned);
+        in-use = own-in-use w (λ d. deque w l) (λ d i. omega arith) ds (x .in-use);
       }
     where
       some : ownedBy w ds ≡ 0 → ⊥
@@ -126,13 +126,13 @@ module _ (n w : ℕ) (few : w < 16) (status : List ℕ) (workers : List Worker) 
       at u i (no e) = rw (ready-there status t2 held u e) (omega (arith, count u, none-is t2 u (λ z. e (sym z)), x .once u i))
 
   -- "with none there, its deque leaves the list"
-  pub leaves : mineOf .threads ≡ [] → Loose n (λ u. 0) w status workers ds → PlacedDeques n status workers (own w disown ds)
+  pub leaves : mineOf .threads ≡ [] → Releasing n (λ u. 0) w status workers ds → PlacedDeques n status workers (own w disown ds)
   leaves m x =
       record {
         once = λ u i. omega (arith, count u, x .once u i);
         none = λ u i. omega (arith, count u, x .none u i);
         owned = gives disown refl (λ u. 0) x;
-        manned = own-manned w disown (λ d i. omega arith) ds (x .manned);
+        in-use = own-in-use w disown (λ d i. omega arith) ds (x .in-use);
       }
     where
       count : (u : ℕ) → occurs u (own w disown ds) ≡ occurs u ds
@@ -147,24 +147,24 @@ module _ (n w : ℕ) (few : w < 16) (status : List ℕ) (workers : List Worker) 
       omega (arith, a)
 
   -- a quota stop
-  pub stops : (t : ℕ) → t < n → Loose n (λ u. pick (eqb t u) 1 0) w status workers ds → PlacedDeques n status workers (own w (λ d. disown (push t d)) ds)
+  pub stops : (t : ℕ) → t < n → Releasing n (λ u. pick (eqb t u) 1 0) w status workers ds → PlacedDeques n status workers (own w (λ d. disown (push t d)) ds)
   stops t b x =
       record {
         once = λ u i. omega (arith, pushes (λ d. disown (push t d)) t u refl (x .mine), x .once u i);
         none = λ u i. omega (arith, pushes (λ d. disown (push t d)) t u refl (x .mine), x .none u i, none-is t u (λ q. omega arith));
         owned = gives (λ d. disown (push t d)) refl (λ u. pick (eqb t u) 1 0) x;
-        manned = own-manned w (λ d. disown (push t d)) (λ d i. omega arith) ds (x .manned);
+        in-use = own-in-use w (λ d. disown (push t d)) (λ d i. omega arith) ds (x .in-use);
       }
 
   -- a fork: t on top, c held
-  pub forks : (t c : ℕ) (y : Worker) → y .holds ≡ true → t < n → c < n → (t ≡ c → ⊥) → Loose n (λ u. pick (eqb t u) 1 0 + pick (eqb c u) 1 0) w status workers ds
+  pub forks : (t c : ℕ) (y : Worker) → y .holds ≡ true → t < n → c < n → (t ≡ c → ⊥) → Releasing n (λ u. pick (eqb t u) 1 0 + pick (eqb c u) 1 0) w status workers ds
       → PlacedDeques n (set status c held) (set workers w y) (own w (push t) ds)
   forks t c y h b k o x =
       record {
         once = λ u i. at u i (ℕ-discrete u c);
         none = λ u i. omega (arith, pushes (push t) t u refl (x .mine), x .none u i, none-is t u (λ q. omega arith));
         owned = keeps (push t) y (mine-owner w ds (λ z. omega (arith, z, x .mine))) h (λ u. pick (eqb t u) 1 0 + pick (eqb c u) 1 0) x;
-        manned = own-manned w (push t) (λ d i. i) ds (x .manned);
+        in-use = own-in-use w (push t) (λ d i. i) ds (x .in-use);
       }
     where
       at : (u : ℕ) → u < n → Dec (u ≡ c) → occurs u (own w (push t) ds) ≡ readyAt (set status c held) u
@@ -175,13 +175,13 @@ module _ (n w : ℕ) (few : w < 16) (status : List ℕ) (workers : List Worker) 
           rw (ready-there status c held u e) (omega (arith, pushes (push t) t u refl (x .mine), x .once u i, none-is c u (λ z. e (sym z))))
 
   -- the parent that it woke is held
-  pub wakes : (u : ℕ) (y : Worker) → y .holds ≡ true → u < n → Loose n (λ v. 0 + pick (eqb u v) 1 0) w status workers ds → PlacedDeques n (set status u held) (set workers w y) ds
+  pub wakes : (u : ℕ) (y : Worker) → y .holds ≡ true → u < n → Releasing n (λ v. 0 + pick (eqb u v) 1 0) w status workers ds → PlacedDeques n (set status u held) (set workers w y) ds
   wakes u y h b x =
       record {
         once = λ v i. at v i (ℕ-discrete v u);
         none = x .none;
         owned = λ v i. who v i (ℕ-discrete v w);
-        manned = x .manned;
+        in-use = x .in-use;
       }
     where
       at : (v : ℕ) → v < n → Dec (v ≡ u) → occurs v ds ≡ readyAt (set status u held) v
@@ -193,7 +193,7 @@ module _ (n w : ℕ) (few : w < 16) (status : List ℕ) (workers : List Worker) 
       who v i (no e) = rw (holds-there workers w y v e) (x .others v i e)
 
   -- the top thread is ready
-  pub top-ready : (t2 : ℕ) (l : List ℕ) → mineOf .threads ≡ t2 ∷ l → Loose n (λ u. 0) w status workers ds → (t2 < n) × (getD status t2 0 ≡ ready)
+  pub top-ready : (t2 : ℕ) (l : List ℕ) → mineOf .threads ≡ t2 ∷ l → Releasing n (λ u. 0) w status workers ds → (t2 < n) × (getD status t2 0 ≡ ready)
   unfolding countIn
   top-ready t2 l m x = (below, is-ready (eqb (getD status t2 0) ready) refl)
     where

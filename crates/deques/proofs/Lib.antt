@@ -1,5 +1,5 @@
 -- a turn keeps what any kind of run keeps, and the deques' own statements
-pub mod Ghost
+pub mod ActCommon
 pub mod Placed
 pub mod Kept
 pub mod DequeTurns

@@ -14,7 +14,7 @@ use Rattle.schedule.specs.Memory.{countIn}
 use Rattle.order.proofs.Words.{and-exactly}
 use Rattle.deques.specs.Deques.{Deque, deque, nothing, isEmpty, bottom, above, kept, placeOf, own, robbed}
 use Rattle.deques.specs.Lines.{line, linesOf}
-use Rattle.deques.specs.Partition.{occurs, owns, ownedBy, Manned, AllManned}
+use Rattle.deques.specs.Partition.{occurs, owns, ownedBy, InUse, AllInUse}
 
 -- ---- a deque that is kept or leaves
 
@@ -41,11 +41,11 @@ module _ (d : Deque) (ds : List Deque) where
           rw (ne-eqb (d .owner) w (λ z. omega arith)) (omega arith)
       go false e = refl
 
-  kept-manned : d .owner ≤ 16 → AllManned ds → AllManned (kept d ds)
-  unfolding AllManned
-  kept-manned h m = go (eqb (d .owner) 16) (isEmpty (d .threads)) refl refl
+  kept-in-use : d .owner ≤ 16 → AllInUse ds → AllInUse (kept d ds)
+  unfolding AllInUse
+  kept-in-use h m = go (eqb (d .owner) 16) (isEmpty (d .threads)) refl refl
     where
-      go : (p q : Bool) → eqb (d .owner) 16 ≡ p → isEmpty (d .threads) ≡ q → AllManned (pick (p && q) ds (d ∷ ds))
+      go : (p q : Bool) → eqb (d .owner) 16 ≡ p → isEmpty (d .threads) ≡ q → AllInUse (pick (p && q) ds (d ∷ ds))
       go true true e f = m
       go true false e f = (inr (eqb-true (d .owner) 16 e, f), m)
       go false q e f = (inl (omega (arith, eqb-false (d .owner) 16 e)), m)
@@ -79,17 +79,17 @@ module _ (w : ℕ) (f : Deque → Deque) where
       go true e ih = omega (arith, kept-owned (f d) ds v h)
       go false e ih = omega (arith, ih (λ z. n (rw (e, z))))
 
-  pub own-manned : ((d : Deque) → d .owner ≤ 16 → f d .owner ≤ 16) → (ds : List Deque) → AllManned ds → AllManned (own w f ds)
-  unfolding own AllManned
-  own-manned g [] m = tt
-  own-manned g (d ∷ ds) m = go (eqb (d .owner) w) (own-manned g ds (m .1))
+  pub own-in-use : ((d : Deque) → d .owner ≤ 16 → f d .owner ≤ 16) → (ds : List Deque) → AllInUse ds → AllInUse (own w f ds)
+  unfolding own AllInUse
+  own-in-use g [] m = tt
+  own-in-use g (d ∷ ds) m = go (eqb (d .owner) w) (own-in-use g ds (m .1))
     where
-      few : Manned d → d .owner ≤ 16
+      few : InUse d → d .owner ≤ 16
       few (inl a) = omega arith
       few (inr a) = omega (arith, a .0)
 
-      go : (q : Bool) → AllManned (own w f ds) → AllManned (pick q (kept (f d) ds) (d ∷ own w f ds))
-      go true ih = kept-manned (f d) ds (g d (few (m .0))) (m .1)
+      go : (q : Bool) → AllInUse (own w f ds) → AllInUse (pick q (kept (f d) ds) (d ∷ own w f ds))
+      go true ih = kept-in-use (f d) ds (g d (few (m .0))) (m .1)
       go false ih = (m .0, ih)
 
 -- ---- a steal
@@ -123,15 +123,15 @@ module _ (w : ℕ) where
   robbed-owned v h zero (d ∷ ds) e = omega (arith, kept-owned (deque (d .owner) (above (d .threads))) (deque w [] ∷ ds) v h)
   robbed-owned v h (suc c) (d ∷ ds) e = omega (arith, robbed-owned v h c ds e)
 
-  pub robbed-manned : w < 16 → (c : ℕ) (ds : List Deque) → AllManned ds → AllManned (robbed w c ds)
-  unfolding robbed AllManned
-  robbed-manned h c [] m = tt
-  robbed-manned h zero (d ∷ ds) m = kept-manned (deque (d .owner) (above (d .threads))) (deque w [] ∷ ds) (few (m .0)) (inl h, m .1)
+  pub robbed-in-use : w < 16 → (c : ℕ) (ds : List Deque) → AllInUse ds → AllInUse (robbed w c ds)
+  unfolding robbed AllInUse
+  robbed-in-use h c [] m = tt
+  robbed-in-use h zero (d ∷ ds) m = kept-in-use (deque (d .owner) (above (d .threads))) (deque w [] ∷ ds) (few (m .0)) (inl h, m .1)
     where
-      few : Manned d → d .owner ≤ 16
+      few : InUse d → d .owner ≤ 16
       few (inl a) = omega arith
       few (inr a) = omega (arith, a .0)
-  robbed-manned h (suc c) (d ∷ ds) m = (m .0, robbed-manned h c ds (m .1))
+  robbed-in-use h (suc c) (d ∷ ds) m = (m .0, robbed-in-use h c ds (m .1))
 
 -- a steal leaves the lines as they are
 module _ (w : ℕ) (few : w < 16) (held held' : ℕ → ℕ) (same : (v : ℕ) → (v ≡ w → ⊥) → held' v ≡ held v) where
@@ -147,9 +147,9 @@ module _ (w : ℕ) (few : w < 16) (held held' : ℕ → ℕ) (same : (v : ℕ) �
       go true e ih = absurd (let z : 1 + ownedBy w ds ≡ 0 = rw e at n in omega (arith, z))
       go false e ih = ap₂ _++_ (line-same d e) (ih (let z : 0 + ownedBy w ds ≡ 0 = rw e at n in omega (arith, z)))
 
-  pub robbed-lines : (c : ℕ) (ds : List Deque) → ownedBy w ds ≡ 0 → AllManned ds → isEmpty (getD ds c nothing .threads) ≡ false → held' w ≡ bottom (getD ds c nothing .threads)
+  pub robbed-lines : (c : ℕ) (ds : List Deque) → ownedBy w ds ≡ 0 → AllInUse ds → isEmpty (getD ds c nothing .threads) ≡ false → held' w ≡ bottom (getD ds c nothing .threads)
       → linesOf held' (robbed w c ds) ≡ linesOf held ds
-  unfolding robbed linesOf ownedBy AllManned
+  unfolding robbed linesOf ownedBy AllInUse
   robbed-lines c [] n m e g = no-way cc
   robbed-lines zero (d ∷ ds) n m e g = go (eqb (d .owner) w) refl
     where
@@ -184,7 +184,7 @@ module _ (w : ℕ) (few : w < 16) (held held' : ℕ → ℕ) (same : (v : ℕ) �
   robbed-lines (suc c) (d ∷ ds) n m e g = go (eqb (d .owner) w) refl (robbed-lines c ds)
     where
       go : (q : Bool) → eqb (d .owner) w ≡ q
-          → (ownedBy w ds ≡ 0 → AllManned ds → isEmpty (getD ds c nothing .threads) ≡ false → held' w ≡ bottom (getD ds c nothing .threads) → linesOf held' (robbed w c ds) ≡ linesOf held ds)
+          → (ownedBy w ds ≡ 0 → AllInUse ds → isEmpty (getD ds c nothing .threads) ≡ false → held' w ≡ bottom (getD ds c nothing .threads) → linesOf held' (robbed w c ds) ≡ linesOf held ds)
           → line held' d ++ linesOf held' (robbed w c ds) ≡ line held d ++ linesOf held ds
       go true o ih = absurd (let z : 1 + ownedBy w ds ≡ 0 = rw o at n in omega (arith, z))
       go false o ih = ap₂ _++_ (line-same d o) (ih (let z : 0 + ownedBy w ds ≡ 0 = rw o at n in omega (arith, z)) (m .1) e g)

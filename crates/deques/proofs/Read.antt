@@ -23,12 +23,12 @@ use Rattle.schedule.proofs.Linked.Neighbours.{leftAfter-out, leftAfter-in}
 use Rattle.schedule.proofs.Linked.Links.{walk-linked}
 use Rattle.deques.specs.Deques.{Deque, isEmpty, bottom, above, Deques}
 use Rattle.deques.specs.Lines.{line, linesOf, bottomsOf, threadOf, cutAfter, dequeOf, holderOf, isHeld, linkedIn, dequesFrom}
-use Rattle.deques.specs.Partition.{occurs, ownedBy, Manned, AllManned}
+use Rattle.deques.specs.Partition.{occurs, ownedBy, InUse, AllInUse}
 use Rattle.deques.proofs.Placed.{bottom-counts}
 use Rattle.deques.proofs.Flat.{lines-append}
 use Rattle.deques.proofs.Cut.{LastPasses, Seen, AllSeen, deques-back}
 use Rattle.deques.proofs.DequeTurns.{Kept, withSerial, serial-facts}
-use Rattle.deques.proofs.Counts.{counted-in, occurs-append, owned-append, count-append, count-self, in-counted, once-counts, line-some, bottoms-count, manned-front, manned-rest}
+use Rattle.deques.proofs.Counts.{counted-in, occurs-append, owned-append, count-append, count-self, in-counted, once-counts, line-some, bottoms-count, in-use-front, in-use-rest}
 use Rattle.deques.proofs.Standing.{in-deque, is-owner, lines-once, lines-small, bottoms-small}
 
 -- both links describe their lists
@@ -108,15 +108,15 @@ module _ (T : Table) (l : Lawful T) (p K : ℕ) (first second : Links) (D : Dequ
 
   -- a deque among the others
   module _ (front : List Deque) (d : Deque) (rest : List Deque) (whole : ds ≡ front ++ d ∷ rest) where
-    manned : Manned d × AllManned rest
-    unfolding AllManned
-    manned = manned-rest front (d ∷ rest) (subst (λ (z : List Deque). AllManned z) whole (X .placed .manned))
+    in-use : InUse d × AllInUse rest
+    unfolding AllInUse
+    in-use = in-use-rest front (d ∷ rest) (subst (λ (z : List Deque). AllInUse z) whole (X .placed .in-use))
 
-    in-front : AllManned front
-    in-front = manned-front front (d ∷ rest) (subst (λ (z : List Deque). AllManned z) whole (X .placed .manned))
+    in-front : AllInUse front
+    in-front = in-use-front front (d ∷ rest) (subst (λ (z : List Deque). AllInUse z) whole (X .placed .in-use))
 
     some : isEmpty (line hold d) ≡ false
-    some = line-some hold d (manned .0)
+    some = line-some hold d (in-use .0)
 
     count-lines : (v : ℕ) → countIn v (linesOf hold ds) ≡ countIn v (linesOf hold front) + (countIn v (line hold d) + countIn v (linesOf hold rest))
     unfolding linesOf
@@ -136,7 +136,7 @@ module _ (T : Table) (l : Lawful T) (p K : ℕ) (first second : Links) (D : Dequ
     unfolding countIn
     count-bottoms v =
         let e : countIn v (bottomsOf hold ds) ≡ countIn v (bottomsOf hold front ++ (bottom (line hold d) ∷ bottomsOf hold rest)) = ap (countIn v) bottoms-are in
-        omega (arith, e, count-append v (bottomsOf hold front) (bottom (line hold d) ∷ bottomsOf hold rest), bottoms-count hold v front in-front, bottoms-count hold v rest (manned .1))
+        omega (arith, e, count-append v (bottomsOf hold front) (bottom (line hold d) ∷ bottomsOf hold rest), bottoms-count hold v front in-front, bottoms-count hold v rest (in-use .1))
 
     passes : linkedIn second (bottom (line hold d)) ≡ true
     passes =
@@ -183,4 +183,4 @@ module _ (T : Table) (l : Lawful T) (p K : ℕ) (first second : Links) (D : Dequ
   unfolding dequesFrom
   deques-read =
       ap (λ (z : List ℕ). map (dequeOf (isHeld (D .state .status)) (λ t. holderOf t workers)) (cutAfter (linkedIn second) z)) list-read
-      ∙ deques-back (linkedIn second) (isHeld (D .state .status)) (λ t. holderOf t workers) hold ds (X .placed .manned) (all-seen [] ds refl)
+      ∙ deques-back (linkedIn second) (isHeld (D .state .status)) (λ t. holderOf t workers) hold ds (X .placed .in-use) (all-seen [] ds refl)

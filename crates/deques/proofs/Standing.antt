@@ -105,13 +105,13 @@ module _ (T : Table) (l : Lawful T) (p K : ℕ) (D : Deques) (k : Kept T p K D) 
       go (inr e) = b e
 
   bottoms-few : (t : ℕ) → countIn t (bottomsOf hold ds) ≤ 1
-  bottoms-few t = omega (arith, lines-few t, bottoms-count hold t ds (k .placed .manned))
+  bottoms-few t = omega (arith, lines-few t, bottoms-count hold t ds (k .placed .in-use))
 
   pub bottoms-once : Once (bottomsOf hold ds)
   bottoms-once = counts-once (bottomsOf hold ds) bottoms-few
 
   pub bottom-in : (t : ℕ) → List·Memᴰ t (bottomsOf hold ds) → List·Memᴰ t (linesOf hold ds)
-  bottom-in t m = in-counted t (linesOf hold ds) (omega (arith, counted-in t (bottomsOf hold ds) m, bottoms-count hold t ds (k .placed .manned)))
+  bottom-in t m = in-counted t (linesOf hold ds) (omega (arith, counted-in t (bottomsOf hold ds) m, bottoms-count hold t ds (k .placed .in-use)))
 
   pub bottoms-small : Below 1024 (bottomsOf hold ds)
   bottoms-small t m = lines-small t (bottom-in t m)

@@ -27,12 +27,12 @@ ownedBy w [] = 0
 ownedBy w (d ∷ ds) = owns w d + ownedBy w ds
 
 -- "a deque has .. an owner or a thread"
-abbrev pub Manned : Deque → Type 0
-Manned d = (d .owner < unowned) ⊎ ((d .owner ≡ unowned) × (isEmpty (d .threads) ≡ false))
+abbrev pub InUse : Deque → Type 0
+InUse d = (d .owner < unowned) ⊎ ((d .owner ≡ unowned) × (isEmpty (d .threads) ≡ false))
 
-unfoldable pub AllManned : List Deque → Type 0
-AllManned [] = Unit {0}
-AllManned (d ∷ ds) = Manned d × AllManned ds
+unfoldable pub AllInUse : List Deque → Type 0
+AllInUse [] = Unit {0}
+AllInUse (d ∷ ds) = InUse d × AllInUse ds
 
 -- 1 where the thread has the status
 abbrev pub statusIs : ℕ → List ℕ → ℕ → ℕ
@@ -51,7 +51,7 @@ pub record PlacedDeques (n : ℕ) (status : List ℕ) (workers : List Worker) (d
   -- "A worker owns one deque while it holds a thread and otherwise none"
   pub owned : (w : ℕ) → w < maxWorkers → ownedBy w ds ≡ holdsAt workers w
   -- "a deque has .. an owner or a thread"
-  pub manned : AllManned ds
+  pub in-use : AllInUse ds
 
 -- "every thread of the table is exactly one of these: in one deque, held, waiting, unborn, ended": how often it stands in the deques, and 1 for each of the others that it is
 unfoldable pub placesOf : List ℕ → List Deque → ℕ → ℕ

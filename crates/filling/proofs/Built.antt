@@ -3,38 +3,20 @@ use Prim.Native.Nat.{ℕ, zero, suc, _+_, _-_, _≤_, _<_}
 use native.Mathlib.Omega.{arith}
 use native.Mathlib.Decide.{decLt}
 use mathlib.Core.Path.{_≡_, refl, sym, ap, _∙_}
-use mathlib.Core.List.{List, [], _∷_, _++_, flatten, append-nil, append-assoc}
+use mathlib.Core.List.{List, [], flatten}
 use mathlib.Core.Bool.{false}
 use lib.Dec.{eqb}
 use borrow.Author.Tests.{eq-eqb, ne-eqb}
-use lib.ListN.{length, getD, take, length-append}
-use lib.Seq.{take-suc, take-length}
+use lib.ListN.{length, getD}
 use Rattle.table.specs.Sum.{sumTo}
 use Rattle.table.specs.Format.{end, is, Table, kind}
-use Rattle.table.specs.Checks.{entryWrong, totalWrong, countsBelow, owner, endOf, kindUnknown, argumentWrong, differ, endMisplaced, openBefore, joinNotLatest, endWithOpen}
+use Rattle.table.specs.Checks.{owner, endOf, kindUnknown, argumentWrong, differ, endMisplaced, openBefore, joinNotLatest, endWithOpen}
 use Rattle.table.specs.Rules.{ContentRules, BodyRules}
 use Rattle.table.proofs.Bodies.{first-is, first-next, after-end, end-kind, owner-at, owner-below, owner-first, owner-end}
 use Rattle.table.specs.Written.{Action}
 use Rattle.table.proofs.ReadBack.{Reads, none, body-at}
+use Rattle.parts.proofs.Built.{body-inside, built-contents}
 use Rattle.filling.proofs.Bodies.{kindIn, each-at, EachBody, body-of, Fit, end-some, end-before, end-there, openAt, open-next, nests-at, Good}
-
-pub flatten-append : (l r : List (List Action)) → flatten (l ++ r) ≡ flatten l ++ flatten r
-unfolding flatten
-flatten-append [] r = refl
-flatten-append (b ∷ l) r = rw (flatten-append l r) (sym (append-assoc b (flatten l) (flatten r)))
-
--- the actions before thread t + 1 are those before thread t and its own
-before-next : (bs : List (List Action)) (t : ℕ) → t < length bs → length (flatten (take (suc t) bs)) ≡ length (flatten (take t bs)) + length (getD bs t [])
-unfolding flatten
-before-next bs t h =
-    rw (take-suc bs t [] h, flatten-append (take t bs) (getD bs t [] ∷ []), append-nil (getD bs t []), length-append (flatten (take t bs)) (getD bs t []))
-
-body-inside : (bs : List (List Action)) (t i : ℕ) → t < length bs → i < length (getD bs t []) → length (flatten (take t bs)) + i < length (flatten bs)
-unfolding flatten
-body-inside [] t i h k = absurd (omega arith)
-body-inside (b ∷ bs) zero i h k = omega (arith, length-append b (flatten bs))
-body-inside (b ∷ bs) (suc t) i h k =
-    omega (arith, length-append b (flatten (take t bs)), length-append b (flatten bs), body-inside bs t i (omega arith) k)
 
 pub open-first : (T : Table) → ContentRules T → BodyRules T → (t : ℕ) → t < T .threads → openBefore T (T .first t) ≡ []
 unfolding openBefore sumTo
@@ -44,25 +26,6 @@ open-first T c b (suc t) h =
     rw (first-next T c t h, ← after-end T c t l, openBefore, end-kind T c b t l)
 
 module _ (U : Table) (bs : List (List Action)) (r : Reads U bs) where
-  counts-are : (t : ℕ) → t ≤ length bs → countsBelow U t ≡ length (flatten (take t bs))
-  unfolding sumTo flatten
-  counts-are zero h = refl
-  counts-are (suc t) h = omega (arith, counts-are t (omega arith), r .counts t (omega arith), before-next bs t (omega arith))
-
-  pub built-contents : ((t : ℕ) → t < length bs → 0 < length (getD bs t [])) → ContentRules U
-  unfolding entryWrong totalWrong
-  built-contents some =
-      record {
-        entries = λ t h.
-            let l : t < length bs = omega (arith, r .threads) in
-            let e : U .first t ≡ countsBelow U t = omega (arith, r .firsts t l, counts-are t (omega arith)) in
-            let z : U .count t ≡ 0 → ⊥ = λ q. absurd (omega (arith, r .counts t l, some t l)) in
-            rw (eq-eqb (U .first t) (countsBelow U t) e, ne-eqb (U .count t) 0 z);
-        total =
-            let a : countsBelow U (U .threads) ≡ U .actions = rw (r .threads) (counts-are (length bs) (omega arith) ∙ rw (take-length bs) (sym (r .actions))) in
-            rw (eq-eqb (countsBelow U (U .threads)) (U .actions) a);
-      }
-
   -- action i of body t
   there : (t i : ℕ) → t < length bs → i < length (getD bs t []) → getD (flatten bs) (U .first t + i) none ≡ getD (getD bs t []) i none
   there t i h k = rw (r .firsts t h) (body-at bs t i h k)
@@ -84,7 +47,7 @@ module _ (U : Table) (bs : List (List Action)) (r : Reads U bs) where
     good t h = let z : 0 + t ≡ t = omega arith in rw z at (body-of (Good (length bs)) bs 0 t g h)
 
     pub contents : ContentRules U
-    contents = built-contents (λ t h. end-some (getD bs t []) (good t h .ends))
+    contents = built-contents U bs r (λ t h. end-some (getD bs t []) (good t h .ends))
 
     -- an action by its thread and its place in the body
     pub record At (a : ℕ) : Type 0 where

@@ -22,7 +22,7 @@ use Rattle.rows.proofs.Whole.{pair-whole, action-whole, rows-append}
 use Rattle.filling.specs.Filled.{act, big, half, leaf, fork2, rootOf, inFront, filledFrom, filledBody, oldBodies, treesAlong, filledBodies, threadsTo, actionsTo}
 use Rattle.filling.specs.TreeSizes.{sizesAlong, treeBody}
 use Rattle.filling.specs.Code.Steps.{Ready, sizeAt, frontRows}
-use Rattle.filling.proofs.Built.{flatten-append}
+use Rattle.parts.proofs.Built.{flatten-append}
 use Rattle.filling.proofs.Roots.{all-serial, trees-length}
 use Rattle.filling.proofs.OldThreads.{old-length, old-at, old-all, filled-threads, filled-actions}
 use Rattle.filling.proofs.TreeSizes.{Sized, along-sized}

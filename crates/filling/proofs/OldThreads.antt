@@ -19,7 +19,8 @@ use Rattle.order.proofs.Totals.{sumTo-add}
 use Rattle.table.specs.Written.{Action, actionAt}
 use Rattle.filling.specs.Filled.{act, big, newThreads, newActions, rootOf, inFront, filledFrom, filledBody, oldBodies, treesAlong, filledBodies}
 use Rattle.filling.proofs.Bodies.{Each, EachBody, bodies-append, Fit, EndLast, end-cons, Nests, Good}
-use Rattle.filling.proofs.Built.{flatten-append, open-first}
+use Rattle.parts.proofs.Built.{flatten-append}
+use Rattle.filling.proofs.Built.{open-first}
 use Rattle.filling.proofs.ForkCounts.{sumIn, sumIn-append, sumIn-length, sumTo-front, up, forkOf, forkIn, forks-counted}
 use Rattle.filling.proofs.Trees.{fit-fork, fit-join}
 use Rattle.filling.proofs.Roots.{so-all, all-serial, rooted-bound, roots, trees-length, trees-actions, trees-forks, trees-good, rootIs}

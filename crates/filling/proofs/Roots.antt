@@ -26,7 +26,7 @@ use Rattle.order.proofs.Words.{Ascends, placeIn-below}
 use Rattle.table.specs.Written.{Action}
 use Rattle.filling.specs.Filled.{big, dummies, newThreads, newActions, sumBefore, rootOf, inFront, treeAt, treesAlong}
 use Rattle.filling.proofs.Bodies.{EachBody, bodies-append, Good}
-use Rattle.filling.proofs.Built.{flatten-append}
+use Rattle.parts.proofs.Built.{flatten-append}
 use Rattle.filling.proofs.ForkCounts.{sumIn, sumIn-append, up, up-one, forkOf}
 use Rattle.filling.proofs.Trees.{tree-length, tree-actions, tree-forks, tree-good, Quiet, tree-quiet, dummies-two, new-threads}
 

@@ -14,7 +14,7 @@ use Rattle.table.specs.Checks.{allocOf}
 use Rattle.table.specs.Written.{Action}
 use Rattle.filling.specs.Filled.{act, big, dummies, newThreads, newActions, half, leaf, fork2, treeOf}
 use Rattle.filling.proofs.Bodies.{kindIn, Each, EachBody, bodies-append, Fit, Good}
-use Rattle.filling.proofs.Built.{flatten-append}
+use Rattle.parts.proofs.Built.{flatten-append}
 use Rattle.filling.proofs.ForkCounts.{sumIn, sumIn-append, up, up-one, forkOf}
 
 -- ---- by cases: a tree of one, and a larger one

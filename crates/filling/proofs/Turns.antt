@@ -15,7 +15,7 @@ use Rattle.table.specs.Written.{Action, written}
 use Rattle.filling.specs.Filled.{big, dummies, newThreads, newActions, newTurns, half, treeOf, inFront, treeAt, treesAlong, oldBodies, filledBodies, filledOut}
 use Rattle.order.specs.Turns.{ofKind, turnsOf}
 use Rattle.filling.proofs.Bodies.{kindIn}
-use Rattle.filling.proofs.Built.{flatten-append}
+use Rattle.parts.proofs.Built.{flatten-append}
 use Rattle.filling.proofs.ForkCounts.{sumIn, sumIn-append, sumIn-to}
 use Rattle.filling.proofs.Trees.{tree-induction, tree-one, tree-more, dummies-two}
 use Rattle.filling.proofs.Roots.{all-serial}

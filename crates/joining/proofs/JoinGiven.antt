@@ -1,7 +1,7 @@
 -- The input of `jointables` taken apart, and what is written for it.
 use mathlib.Core.Path.{_≡_, refl, sym, ap, _∙_}
-use Prim.Native.Nat.{ℕ, zero, suc, _+_, _*_, _^_, _≤_, _<_}
-use mathlib.Core.List.{List, [], _∷_, _++_, flatten}
+use Prim.Native.Nat.{ℕ, zero, suc, _+_, _*_, _≤_, _<_}
+use mathlib.Core.List.{List, [], _∷_}
 use mathlib.Core.Bool.{Bool, true, false}
 use native.Mathlib.Omega.{arith}
 use native.Mathlib.Decide.{decLt}
@@ -13,13 +13,8 @@ use Rattle.table.specs.Sum.{pick}
 use Rattle.table.specs.Format.{u16At}
 use Rattle.table.specs.Pass.{refusal}
 use Rattle.table.specs.declared.Facts.{Facts}
-use Rattle.table.specs.declared.Refusal.{Refusal}
 use Rattle.table.proofs.Tests.{no-way}
-use Rattle.text.specs.Text.{refusedOf, bufferAt}
-use Rattle.text.specs.Puts.{putAll}
-use Rattle.text.proofs.Decimal.{decimal-length}
 use Rattle.text.proofs.Placing.{counts}
-use Rattle.text.proofs.Putting.{puts-whole}
 use Rattle.rows.specs.Rows.{over}
 use Rattle.joining.specs.Joining.{joinedBytes}
 use Rattle.joining.specs.Answers.{partsOf, partsWrong, joined, joinedIn, leftBy, joinValues, joinValuesOf}
@@ -114,23 +109,3 @@ module _ (input out : List ℕ) where
       go (Written f) g e = let w = front f g in rw (p ∙ w .1) (over-front table out k (e ∙ w .0) .1)
       go (Refused r) g e = omega arith
       go (InPart i r) g e = omega arith
-
--- ---- the line
-
-module _ (s : List ℕ) (long : length s ≡ 80) (q : Refusal) (number : q .number < 2 ^ 8) (place : q .place < 2 ^ 16) (label : List ℕ) (short : length label ≤ 30) (t : ℕ) (small : t < 2 ^ 64) where
-  abbrev line : List ℕ
-  line = flatten (refusedOf q label t)
-
-  fits : length line ≤ 80
-  unfolding flatten
-  fits = simp length-append (omega (arith, decimal-length 2 (q .number) (omega arith), decimal-length 4 (q .place) (omega arith), decimal-length 19 t (omega arith)))
-
-  -- the line of a refusal of one of several
-  pub refused-told : (o : List ℕ) (r : ℕ) → bufferAt o r ≡ putAll (bufferAt s 0) (refusedOf q label t) → (r ≡ length line) × (o ≡ over line s)
-  refused-told o r e =
-      let z = puts-whole {s = s} {o = o} {r = r} {ts = refusedOf q label t} {m = 80} (omega arith) (record { put = e; short = fits }) in
-      (z .0, z .1 ∙ ap (λ (k : ℕ). line ++ drop k s) (z .0))
-
--- a line lies within its buffer
-pub told-within : (line s o : List ℕ) (r : ℕ) → r ≡ length line → o ≡ over line s → Counts r o
-told-within line s o r e p = counts o r (omega (arith, e, ap length p, length-append line (drop (length line) s)))

@@ -14,7 +14,7 @@ fn wide(x: u8) -> usize
 }
 
 // K, 24 bits.
-pub(crate) fn quota_in(input: &[u8]) -> u32
+pub fn quota_in(input: &[u8]) -> u32
     ensures { λ r. ⌜ r ≡ quotaIn (now (input .entry)) ⌝ }
 {
     (word(input, 1) + 65536 * wide(byte(input, 3))) as u32
@@ -28,7 +28,7 @@ pub(crate) fn limit_in(input: &[u8]) -> u32
 }
 
 // Check 33.
-pub(crate) fn input_wrong(input: &[u8]) -> bool
+pub fn input_wrong(input: &[u8]) -> bool
     ensures { λ r. ⌜ r ≡ inputWrong (now (input .entry)) ⌝ }
 {
     if input.len() < 6 {
@@ -42,7 +42,7 @@ pub(crate) fn input_wrong(input: &[u8]) -> bool
 }
 
 // Its line, the only one.
-pub(crate) fn put_wrong(out: &mut [u8]) -> usize
+pub fn put_wrong(out: &mut [u8]) -> usize
     ensures { λ r. ⌜ Puts (now (out .entry)) 0 (now (out .exit)) r wrongInput 64 ⌝ }
 {
     put_refused(out, 0, 33)

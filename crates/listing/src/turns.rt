@@ -67,7 +67,7 @@ fn thread_in(reply: Reply) -> u16
 }
 
 // The line of a turn of worker w that left these words and sums.
-fn put_step(
+pub fn put_step(
     table: &[u8],
     words: &[u16; 6163],
     sums: &[u64; 1027],
@@ -123,7 +123,7 @@ fn put_over(chart: bool, out: &mut [u8], at: usize, ended: bool, turns: u64, pea
 }
 
 // The same of a run in the blocks.
-fn put_end(chart: bool, out: &mut [u8], at: usize, ended: bool, sums: &[u64; 1027]) -> usize
+pub fn put_end(chart: bool, out: &mut [u8], at: usize, ended: bool, sums: &[u64; 1027]) -> usize
     ensures { λ r. ⌜ Puts (now (out .entry)) at (now (out .exit)) r
         (overTexts chart (lastWith ended (sumsIn (now (sums .entry)) .turns) (sumsIn (now (sums .entry)) .highest))) 64 ⌝ }
 {

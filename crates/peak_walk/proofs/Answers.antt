@@ -14,7 +14,8 @@ use Rattle.table.specs.declared.Found.the-variants.{Nothing, At}
 use Rattle.table.proofs.Passes.{passes-rules}
 use Rattle.peaks.specs.Peak.{peakOn, workersPeak}
 use Rattle.peak_walk.specs.declared.Peaked.the-variants.{Given, Refused}
-use Rattle.peak_walk.specs.Peaked.{standing, peaked}
+use Rattle.peaks.specs.Rests.{parallelPeak}
+use Rattle.peak_walk.specs.Peaked.{standing, peaked, paralleled}
 use Rattle.peak_walk.specs.Code.Walk.{Accepted, Right}
 
 module _ (s : List ℕ) (load : ℕ) (resting : Bool) where
@@ -29,6 +30,16 @@ module _ (s : List ℕ) (load : ℕ) (resting : Bool) where
   pub given : firstFound (passes s) ≡ Nothing → load ≤ 16 → {x : ℕ} → x ≡ peakOn (tableOf s) (standing (tableOf s) resting) 0 load → Given x ≡ peaked s load resting
   unfolding peaked
   given e h p = rw (e, le-ltb 16 load h, p)
+
+-- the parallel peak
+module _ (s : List ℕ) where
+  pub parallel-refused : {r : Refusal} → firstFound (passes s) ≡ At r → Refused r ≡ paralleled s
+  unfolding paralleled
+  parallel-refused e = rw e
+
+  pub parallel-given : firstFound (passes s) ≡ Nothing → {x : ℕ} → x ≡ parallelPeak (tableOf s) → Given x ≡ paralleled s
+  unfolding paralleled
+  parallel-given e p = rw (e, p)
 
 -- S_p
 pub peaked-workers : (s : List ℕ) (p : ℕ) → firstFound (passes s) ≡ Nothing → p ≤ 17 → peaked s (p - 1) false ≡ Given (workersPeak (tableOf s) p)

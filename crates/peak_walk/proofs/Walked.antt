@@ -10,22 +10,21 @@ use mathlib.Core.Bool.{Bool, true, false}
 use lib.ListN.{length, getD}
 use Rattle.table.specs.Sum.{pick, sumTo, greatestTo}
 use Rattle.table.specs.Format.{Kind, end, work, alloc, free, fork, join, unknown, codeOf, is, Table, kind}
-use Rattle.table.specs.Checks.{owner, openBefore, opened, tail, allocOf, freeOf, whole}
-use Rattle.table.proofs.Bodies.{owner-at, fork-above, fork-below, join-above, join-below}
-use Rattle.table.proofs.Amounts.{action-within, action-next, whole-bound}
+use Rattle.table.specs.Checks.{openBefore, opened, tail}
+use Rattle.table.proofs.Amounts.{action-next}
 use Rattle.table.proofs.Nesting.{open-first, open-end, open-fork}
 use Rattle.table.proofs.Tests.{fork-no-end}
 use Rattle.schedule.specs.Sound.{balanceTo}
 use Rattle.order.proofs.Lawful.{Lawful}
-use Rattle.schedule.proofs.Sound.Balances.{balance-step, balance-join, balance-free}
 use Rattle.peaks.specs.Peak.{fresh, final, gain, oneMore, most, peakThere, peakOn}
 use Rattle.peaks.specs.Rests.{stretchBegins, rests}
 use Rattle.peaks.proofs.Opens.{greatest-same}
 use Rattle.peaks.proofs.Peaks.{peak-is}
-use Rattle.peaks.proofs.PeakSizes.{final-whole, peak-whole, reach-whole, place-whole, open-whole}
+use Rattle.peaks.proofs.PeakSizes.{final-whole, peak-whole, place-whole, open-whole}
 use Rattle.peak_walk.specs.Peaked.{standing}
 use Rattle.peak_walk.specs.Code.Walk.{slot, cut, rowValue, pushed, rowGreatest, balanceAfter, depthAfter, rowsAfter, extraAfter, Walked, walk, placeAfter, stepped, mayAfter, walked, Right}
 use Rattle.peak_walk.proofs.OpenRows.{cut-small, pushed-length, pushed-below, pushed-at, RowsOf, rows-kept, top-row, open-few}
+use Rattle.peak_walk.proofs.BalanceAlong.{thread-small, inside, child-fork, balance-next}
 
 pub may-is : (T : Table) (resting : Bool) (a : ℕ) → mayAfter (T .code) resting a ≡ standing T resting (suc a)
 unfolding mayAfter rests stretchBegins
@@ -36,7 +35,7 @@ tail-length : (l : List ℕ) → length (tail l) ≡ length l - 1
 tail-length [] = refl
 tail-length (c ∷ l) = omega arith
 
-greatest-next : (f : ℕ → ℕ) (k : ℕ) → greatestTo f (suc k) ≡ max (greatestTo f k) (f k)
+pub greatest-next : (f : ℕ → ℕ) (k : ℕ) → greatestTo f (suc k) ≡ max (greatestTo f k) (f k)
 unfolding greatestTo
 greatest-next f k = refl
 
@@ -64,26 +63,14 @@ module _ (T : Table) (l : Lawful T) (small : (a : ℕ) → T .argument a < 16777
       go (no n) = right .lower d s b (omega (arith, c, n))
 
   -- no number is too large
-  thread-small : (d : ℕ) → d < T .threads → whole T (allocOf T) d < 2 ^ 40
-  unfolding allocOf
-  thread-small d i =
-      omega (arith, whole-bound T (l .contents) (l .bodies) (l .nesting) (allocOf T) 16777215 (λ a w. own a (is alloc (kind T a))) d i, l .few-actions)
-    where
-      own : (a : ℕ) (q : Bool) → pick q (T .argument a) 0 ≤ 16777215
-      own a true = omega (arith, small a)
-      own a false = omega arith
-
   final-small : (d : ℕ) → d < T .threads → final T d < 2 ^ 40
-  final-small d i = omega (arith, final-whole T l d i, thread-small d i)
+  final-small d i = omega (arith, final-whole T l d i, thread-small T l small d i)
 
   peak-small : (d s : ℕ) → d < T .threads → peakOn T (standing T resting) d s < 2 ^ 40
-  peak-small d s i = omega (arith, peak-whole T l (standing T resting) d s i, thread-small d i)
+  peak-small d s i = omega (arith, peak-whole T l (standing T resting) d s i, thread-small T l small d i)
 
   gain-small : (k j : ℕ) → k ≤ T .count t → gain T (peakOn T (standing T resting)) r (openBefore T (T .first t + k)) j < 2 ^ 40
-  gain-small k j i = omega (arith, open-whole T l (standing T resting) t r k j h i, thread-small t h)
-
-  balance-small : (k : ℕ) → k ≤ T .count t → balanceTo T t k < 2 ^ 40
-  balance-small k i = omega (arith, reach-whole T l t k h i, thread-small t h)
+  gain-small k j i = omega (arith, open-whole T l (standing T resting) t r k j h i, thread-small T l small t h)
 
   pub record Holds (k : ℕ) (w : Walked) : Type 0 where
     pub balance : w .balance ≡ balanceTo T t k
@@ -148,19 +135,6 @@ module _ (T : Table) (l : Lawful T) (small : (a : ℕ) → T .argument a < 16777
     abbrev cs : List ℕ
     cs = openBefore T a
 
-    inside : T .first t + k < T .actions
-    inside = action-within T (l .contents) (l .bodies) t k h i
-
-    own : owner T (T .first t + k) ≡ t
-    own = owner-at T (l .contents) t k h i
-
-    -- a child that is forked or joined
-    child-fork : kind T (T .first t + k) ≡ fork → (t < T .argument (T .first t + k)) × (T .argument (T .first t + k) < T .threads)
-    child-fork e = (rw own at (fork-above T (l .contents) (l .bodies) a inside e), fork-below T (l .contents) (l .bodies) a inside e)
-
-    child-join : kind T (T .first t + k) ≡ join → (t < T .argument (T .first t + k)) × (T .argument (T .first t + k) < T .threads)
-    child-join e = (rw own at (join-above T (l .contents) (l .bodies) a inside e), join-below T (l .contents) (l .bodies) a inside e)
-
     top : (j : ℕ) → j ≤ r → getD (w .rows) (slot (w .depth) j) 0 ≡ gain T (peakOn T (standing T resting)) r (openBefore T (T .first t + k)) j
     top j b = rw (v .depth) (top-row T P r (w .rows) cs low (v .none) (v .open-rows) j b)
 
@@ -170,23 +144,8 @@ module _ (T : Table) (l : Lawful T) (small : (a : ℕ) → T .argument a < 16777
         let b : suc k < T .count t = action-next T (l .contents) (l .bodies) t k h i (fork-no-end e) in
         rw (add-suc (T .first t) k, open-fork T (l .contents) (l .bodies) (l .nesting) a e) at (open-few T l t h (suc k) b)
 
-    -- ---- the balance
-
-    balance-next : (K : Kind) → kind T (T .first t + k) ≡ K → balanceAfter finals K (T .argument (T .first t + k)) (w .balance) ≡ balanceTo T t (suc k)
-    unfolding balanceAfter allocOf freeOf is codeOf
-    balance-next end e = let z = rw e at (balance-step T l t h k i (rw e)) in omega (arith, z, v .balance)
-    balance-next work e = let z = rw e at (balance-step T l t h k i (rw e)) in omega (arith, z, v .balance)
-    balance-next alloc e =
-        let z = rw e at (balance-step T l t h k i (rw e)) in
-        cut-small (w .balance + x) (omega (arith, z, v .balance, balance-small (suc k) i)) ∙ omega (arith, z, v .balance)
-    balance-next free e = let z = rw e at (balance-step T l t h k i (rw e)) in omega (arith, z, v .balance, balance-free T l t h k i e)
-    balance-next fork e = let z = rw e at (balance-step T l t h k i (rw e)) in omega (arith, z, v .balance)
-    balance-next join e =
-        let (p, q) = child-join e in
-        let z : getD finals x 0 ≡ final T x = right .balances x p q in
-        let s = balance-join T l t h k i e in
-        cut-small (w .balance + getD finals x 0) (omega (arith, z, s, v .balance, balance-small (suc k) i)) ∙ omega (arith, z, s, v .balance)
-    balance-next unknown e = let z = rw e at (balance-step T l t h k i (rw e)) in omega (arith, z, v .balance)
+    balance-is : (K : Kind) → kind T (T .first t + k) ≡ K → balanceAfter finals K (T .argument (T .first t + k)) (w .balance) ≡ balanceTo T t (suc k)
+    balance-is = balance-next T l t h k i small finals (right .balances) (w .balance) (v .balance)
 
     -- ---- the rows
 
@@ -195,12 +154,12 @@ module _ (T : Table) (l : Lawful T) (small : (a : ℕ) → T .argument a < 16777
         ≡ gain T (peakOn T (standing T resting)) r (T .argument (T .first t + k) ∷ openBefore T (T .first t + k)) j
     unfolding rowValue gain
     value-is e zero b =
-        let (p, q) = child-fork e in
+        let (p, q) = child-fork T l t h k i e in
         let f : getD finals x 0 ≡ final T x = right .balances x p q in
         let g = top 0 b in
         cut-small _ (omega (arith, f, g, final-small x q, gain-small k 0 (omega arith))) ∙ omega (arith, f, g)
     value-is e (suc j) b =
-        let (p, q) = child-fork e in
+        let (p, q) = child-fork T l t h k i e in
         let f : getD finals x 0 ≡ final T x = right .balances x p q in
         let g = top (suc j) b in
         let g' = top j (omega arith) in
@@ -221,7 +180,7 @@ module _ (T : Table) (l : Lawful T) (small : (a : ℕ) → T .argument a < 16777
         → Rows K (opened K (T .argument (T .first t + k)) (openBefore T (T .first t + k))) (rowsAfter peaks finals r K (T .argument (T .first t + k)) (w .depth) (w .rows))
     unfolding depthAfter rowsAfter is codeOf
     rows-next end e =
-        let z : length cs ≡ 0 = rw (open-end T (l .contents) (l .bodies) (l .nesting) a inside e) in
+        let z : length cs ≡ 0 = rw (open-end T (l .contents) (l .bodies) (l .nesting) a (inside T l t h k i) e) in
         record { depth = omega (arith, v .depth, z); open-rows = no-row (w .rows); none = v .none; size = v .size }
     rows-next work e = record { depth = v .depth; open-rows = v .open-rows; none = v .none; size = v .size }
     rows-next alloc e = record { depth = v .depth; open-rows = v .open-rows; none = v .none; size = v .size }
@@ -259,7 +218,7 @@ module _ (T : Table) (l : Lawful T) (small : (a : ℕ) → T .argument a < 16777
     extra-next join e = refl
     extra-next unknown e = refl
     extra-next fork e =
-        let (p, q) = child-fork e in
+        let (p, q) = child-fork T l t h k i e in
         let g = top r (omega arith) in
         let y : getD peaks (slot x 0) 0 ≡ P x 0 = peak-right x 0 p q (omega arith) in
         cut-small _ (omega (arith, y, g, peak-small x 0 q, gain-small k r (omega arith))) ∙ omega (arith, y, g)
@@ -272,15 +231,15 @@ module _ (T : Table) (l : Lawful T) (small : (a : ℕ) → T .argument a < 16777
         let e : balanceAfter finals (kind T a) x (w .balance)
         + max (rowGreatest (rowsAfter peaks finals r (kind T a) x (w .depth) (w .rows)) (depthAfter (kind T a) (w .depth)) r) (extraAfter peaks r (kind T a) x (w .depth) (w .rows))
         ≡ peakThere T P t r (suc k) =
-        omega (arith, balance-next (kind T a) refl, tops, extra-next (kind T a) refl, there-is k) in
-        cut-small _ (omega (arith, e, place-whole T l (standing T resting) t r (suc k) h i, thread-small t h)) ∙ e
+        omega (arith, balance-is (kind T a) refl, tops, extra-next (kind T a) refl, there-is k) in
+        cut-small _ (omega (arith, e, place-whole T l (standing T resting) t r (suc k) h i, thread-small T l small t h)) ∙ e
 
     step : Holds (suc k) (stepped peaks finals r (mayAfter (T .code) resting (T .first t + k)) (kind T (T .first t + k)) (T .argument (T .first t + k)) w)
     unfolding stepped openBefore
     step =
         let n : Rows (kind T a) (opened (kind T a) x cs) (rowsAfter peaks finals r (kind T a) x (w .depth) (w .rows)) = rows-next (kind T a) refl in
         record {
-          balance = balance-next (kind T a) refl;
+          balance = balance-is (kind T a) refl;
           best = best-next (mayAfter (T .code) resting a) (may-is T resting a);
           depth = rw (add-suc (T .first t) k) (n .depth);
           open-rows = rw (add-suc (T .first t) k) (n .open-rows);

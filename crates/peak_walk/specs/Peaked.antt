@@ -1,4 +1,4 @@
--- The peak of a table at a load from 0 to 16, over all places or over resting places alone: what the code answers to any bytes.
+-- The peak of a table at a load from 0 to 16, over all places or over resting places alone, and its parallel peak: what the code answers to any bytes.
 use Prim.Native.Nat.{ℕ}
 use mathlib.Core.List.{List}
 use mathlib.Core.Bool.{Bool, true}
@@ -10,7 +10,7 @@ use Rattle.table.specs.Checks.{passes}
 use Rattle.table.specs.declared.Found.{Found}
 use Rattle.table.specs.declared.Found.the-variants.{Nothing, At}
 use Rattle.peaks.specs.Peak.{peakOn}
-use Rattle.peaks.specs.Rests.{rests}
+use Rattle.peaks.specs.Rests.{rests, parallelPeak}
 use Rattle.peak_walk.specs.declared.Peaked.{Peaked}
 use Rattle.peak_walk.specs.declared.Peaked.the-variants.{Given, Refused}
 
@@ -28,3 +28,7 @@ peakedBy (At r) x = Refused r
 
 unfoldable pub peaked : List ℕ → ℕ → Bool → Peaked
 peaked s load resting = peakedBy (firstFound (passes s)) (ownPeak (tableOf s) load resting)
+
+-- every open child at its best
+unfoldable pub paralleled : List ℕ → Peaked
+paralleled s = peakedBy (firstFound (passes s)) (Given (parallelPeak (tableOf s)))

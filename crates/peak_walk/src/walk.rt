@@ -28,7 +28,7 @@ pub(crate) fn less(a: u64, b: u64) -> u64
     if b < a { a - b } else { 0 }
 }
 
-fn balance_after(finals: &[u64], k: u8, x: usize, balance: u64) -> u64
+pub(crate) fn balance_after(finals: &[u64], k: u8, x: usize, balance: u64) -> u64
     requires { ⌜ x < 16777216 ⌝ }
     ensures { λ r. ⌜ r ≡ balanceAfter (now (finals .entry)) (kindOf k) x balance ⌝ }
 {

@@ -26,7 +26,7 @@ use Rattle.peaks.proofs.Opens.{reach, Forked, Stacked, stacked, open-ov
 use Rattle.peaks.proofs.Loads.{outer-root, outer-child}
 use Rattle.peaks.proofs.Peaks.{gain-ended, gain-unended, peak-at}
 use Rattle.peaks.proofs.Weights.{within-weights}
-use Rattle.peaks.proofs.LiveList.{withLive, common-facts}
+use Rattle.schedule.proofs.SerialLive.{withLive, common-facts}
 
 -- Thread t's place, or an earlier one where it may stand, with no more unended children, and since which it and all below it hold at most `extra` more.
 pub record Settled (T : Table) (stop : ℕ → Bool) (st : State) (t extra : ℕ) : Type 0 where

@@ -2,7 +2,6 @@
 pub mod Counts
 pub mod Opens
 pub mod Weights
-pub mod LiveList
 -- loads and peaks; the peak theorem
 pub mod Loads
 pub mod Peaks

@@ -25,7 +25,7 @@ use Rattle.peaks.specs.Peak.{fresh, final, gain, most, peakThere, peakOn
 use Rattle.peaks.specs.Rests.{bestWithin, best, parallelPeak}
 use Rattle.peaks.proofs.Opens.{reach, greatest-same, open-child, open-over}
 use Rattle.peaks.proofs.Weights.{within-weights}
-use Rattle.peaks.proofs.LiveList.{withLive, common-facts}
+use Rattle.schedule.proofs.SerialLive.{withLive, common-facts}
 use Rattle.peaks.proofs.Peaks.{peak-is, peak-at}
 use Rattle.peaks.proofs.PeakSizes.{most-under}
 

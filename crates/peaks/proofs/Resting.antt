@@ -30,7 +30,7 @@ use Rattle.peaks.specs.Peak.{unendedIn, fresh, past, Light, peakOn}
 use Rattle.peaks.specs.Rests.{rests, rested, rise, R}
 use Rattle.peaks.proofs.Loads.{past-fewer}
 use Rattle.peaks.proofs.Held.{Settled, peak-settled}
-use Rattle.peaks.proofs.LiveList.{withLive, common-facts}
+use Rattle.schedule.proofs.SerialLive.{withLive, common-facts}
 use Rattle.peaks.proofs.Unpreempted.{Stands, rests-end}
 use Rattle.peaks.proofs.Rises.{rested-within, rested-rests, rise-within, rests-not, reach-rested}
 use Rattle.peaks.proofs.Counts.{few-targets, count-times}

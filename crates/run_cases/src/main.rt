@@ -1,5 +1,5 @@
-// Reads inputs of turnlist, runrounds and wallchart one after the other, each with a label, and prints the label and the answer of each. A record of the input
-// is its sort ('t', 'r' or 'w', 1 byte), the label's length (1 byte), the label, the input's length (3 bytes), the input.
+// Reads inputs of turnlist, runrounds, wallchart and dequelist one after the other, each with a label, and prints the label and the answer of each. A record of the input
+// is its sort ('t', 'r', 'w' or 'd', 1 byte), the label's length (1 byte), the label, the input's length (3 bytes), the input.
 use libc::STDIN_FILENO;
 use libc::STDOUT_FILENO;
 ghost use Prim.Native.Nat.{_<_};
@@ -60,6 +60,13 @@ fn rounds(input: &[u8]) {
     io::write_all(STDOUT_FILENO, &text[..k]);
 }
 
+// Prints what dequelist answers.
+fn pairs(input: &[u8]) {
+    let mut text = [0u8; 131200];
+    let k = deque_listing::deque_listing(input, &mut text);
+    io::write_all(STDOUT_FILENO, &text[..k]);
+}
+
 // Reads an input that fills the buffer and prints its answer.
 fn answer(sort: u8, buffer: &mut [u8]) {
     let n = io::read_full(STDIN_FILENO, buffer);
@@ -67,6 +74,8 @@ fn answer(sort: u8, buffer: &mut [u8]) {
         turns(&buffer[..n]);
     } else if sort == b'w' {
         chart(&buffer[..n]);
+    } else if sort == b'd' {
+        pairs(&buffer[..n]);
     } else {
         rounds(&buffer[..n]);
     }

@@ -7,7 +7,7 @@ mod Linking
 mod Searching
 mod Acts
 mod ListActs
-mod Takes
+pub mod Takes
 mod Seeing
 pub mod Foreseeing
 mod Laying

@@ -54,6 +54,14 @@ weaves k t₁ x₁ t₂ x₂ t₃ x₃ t₄ x₄ W W₁ W₂ W₃ W₄ e₁ e₂
     ∙ ap (λ (U : Words). rowed (k + 1) t₄ x₄ U) (e₃ ∙ ap (λ (U : Words). rowed (k + 1) t₃ x₃ U) (e₂ ∙ ap (λ (U : Words). rowed k t₂ x₂ U) e₁))
     ∙ ap (λ (n : ℕ). rowed n t₄ x₄ (rowed n t₃ x₃ (rowed k t₂ x₂ (rowed k t₁ x₁ W)))) (add-one k)
 
+-- a list has the rows k and k + 1, and without them nothing is written
+module _ {k : ℕ} (Z W : Words) where
+  pub no-list : 5 ≤ k → W ≡ pick (ltb k 5) Z W
+  no-list h = rw (le-ltb k 5 h)
+
+  pub its-list : {U : Words} → k < 5 → U ≡ Z → U ≡ pick (ltb k 5) Z W
+  its-list h e = rw (lt-ltb k 5 h) e
+
 -- ---- both
 
 module _ (k h c t x : ℕ) (W W₁ W₂ W₃ W₄ : Words) (a : x ≡ getD (W .rows k) t 0) (e₁ : W₁ ≡ rowed k t c W) (e₂ : W₂ ≡ rowed k c x W₁) (e₃ : W₃ ≡ rowed (k + 1) x c W₂)

@@ -57,7 +57,7 @@ module _ (holds threads quotas : List ℕ) where
   workers-at w (suc n) zero h = let e : w + 0 ≡ w = omega arith in rw e
   workers-at w (suc n) (suc i) h = let e : w + suc i ≡ suc w + i = omega arith in rw e (workers-at (suc w) n i (omega (arith, h)))
 
-sixteen : (M : Memory) → length (workersIn M) ≡ 16
+pub sixteen : (M : Memory) → length (workersIn M) ≡ 16
 sixteen M = workers-length (M .holds) (M .threads) (M .quotas) 0 16
 
 pub own-worker : (M : Memory) (w : ℕ) → w < 16 → getD (workersIn M) w nobody ≡ workerIn M w
@@ -71,7 +71,7 @@ pub truth-small : (b : Bool) → ltb (pick b 1 0) 2 ≡ true
 truth-small true = refl
 truth-small false = refl
 
-truths-set : (holds : List ℕ) (w : ℕ) (b : Bool) → w < length holds → truths holds ≡ true → truths (set holds w (pick b 1 0)) ≡ true
+pub truths-set : (holds : List ℕ) (w : ℕ) (b : Bool) → w < length holds → truths holds ≡ true → truths (set holds w (pick b 1 0)) ≡ true
 unfolding truths
 truths-set holds w b h e = allBelow-exactly _ 16 .1 (λ i l. go i l (ℕ-discrete i w))
   where
@@ -97,7 +97,7 @@ module _ (M : Memory) (w : ℕ) (z : Left) (h : w < 16) (a : length (M .holds) �
       let q : getD (M' .quotas) v 0 ≡ getD (M .quotas) v 0 = getD-set-other (M .quotas) w v (z .worker .quota) 0 d in
       λ i. record { holds = not (eqb (e i) 0); thread = t i; quota = q i }
 
-  workers-after : workersIn M' ≡ set (workersIn M) w (z .worker)
+  pub workers-after : workersIn (memoryAfter M w z) ≡ set (workersIn M) w (z .worker)
   workers-after =
       ext-getD nobody (workersIn M') (set (workersIn M) w (z .worker)) (sixteen M' ∙ sym (length-set (workersIn M) w (z .worker) ∙ sixteen M)) at
     where

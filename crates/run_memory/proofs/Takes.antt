@@ -220,7 +220,7 @@ module _ (s : List ℕ) {l : List ℕ} {n : ℕ} (e : l ≡ bodiesFrom s n) (d :
 
 -- ---- how many threads are passed over
 
-and-none : (b : Bool) → (b && false) ≡ false
+pub and-none : (b : Bool) → (b && false) ≡ false
 and-none true = refl
 and-none false = refl
 

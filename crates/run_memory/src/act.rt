@@ -95,15 +95,25 @@ fn busy_after(busy: u16, held: bool, holds: bool, w: usize) -> u16
     requires { ⌜ (w < 16) × (held ≡ false → busy + 2 ^ w < 65536) ⌝ }
     ensures { λ r. ⌜ r ≡ busyAfter busy held holds w ⌝ }
 {
-    let bit: u16 = 1 << w;
     if held {
         if holds {
             return busy;
         }
-        if busy < bit { 0 } else { busy - bit }
-    } else {
-        if holds { busy + bit } else { busy }
+        return without(busy, w);
     }
+    let bit: u16 = 1 << w;
+    if holds { busy + bit } else { busy }
+}
+
+// The set of workers that hold a thread, without worker w.
+pub fn without(busy: u16, w: usize) -> u16
+    ensures { λ r. ⌜ r ≡ busyAfter busy true false w ⌝ }
+{
+    if 16 <= w {
+        return 0;
+    }
+    let bit: u16 = 1 << w;
+    if busy < bit { 0 } else { busy - bit }
 }
 
 // A truth value as a number.
@@ -382,7 +392,7 @@ fn act_join(
 }
 
 // Whether the parent u waits for child t.
-fn waits(actions: &[u8], bytes: &[u8; 1040], words: &[u16; 6163], u: u16, t: u16) -> bool
+pub fn waits(actions: &[u8], bytes: &[u8; 1040], words: &[u16; 6163], u: u16, t: u16) -> bool
     ensures { λ r. ⌜ ((T : Table) → T .code ≡ codeAt (now (actions .entry)) → T .argument ≡ argumentAt (now (actions .entry))
         → r ≡ waitsIn T (wordsIn (now (words .entry)) .rows 1) (bytesIn (now (bytes .entry)) .status) u t) ⌝ }
 {

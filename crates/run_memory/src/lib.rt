@@ -37,9 +37,10 @@ ghost use Rattle.run_memory.specs.Memory.{hindrance as hindranceOf};
 ghost use Rattle.run_memory.specs.Blocks.{bytesIn, wordsIn, memoryOf};
 ghost use Rattle.run_memory.specs.Places.{holdsIn};
 
-mod act;
+pub mod act;
 pub mod copies;
-mod list;
+pub mod lent;
+pub mod list;
 pub mod packing;
 pub mod places;
 pub mod preview;

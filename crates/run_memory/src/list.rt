@@ -1,4 +1,4 @@
-// A thread put into and taken out of a list of the words: its left links are row k, its right links row k + 1, its leftmost thread head h.
+// A thread put into and taken out of a list of the words: its left links are row k, its right links row k + 1, its leftmost thread head h. Nothing is written where there are no such rows.
 use crate::places::head_at;
 use crate::places::put_head;
 use crate::places::put_row;
@@ -7,7 +7,8 @@ use crate::places::status_at;
 use links::NO_THREAD;
 use schedule::statuses::READY;
 ghost use mathlib.Core.Path.{_≡_};
-ghost use Prim.Native.Nat.{_<_};
+ghost use lib.Dec.{ltb};
+ghost use Rattle.table.specs.Sum.{pick};
 ghost use Rattle.schedule.specs.Links.{seek as seekOf};
 ghost use Rattle.run_memory.specs.Blocks.{bytesIn, wordsIn};
 ghost use Rattle.run_memory.specs.Places.{headAt};
@@ -20,10 +21,12 @@ pub(crate) struct Sought {
 }
 
 // Puts c directly left of t.
-pub(crate) fn link_left(words: &mut [u16; 6163], k: usize, h: usize, c: u16, t: u16)
-    requires { ⌜ k < 5 ⌝ }
-    ensures { λ _. ⌜ wordsIn (now (words .exit)) ≡ linkedLeft k h c t (wordsIn (now (words .entry))) ⌝ }
+pub fn link_left(words: &mut [u16; 6163], k: usize, h: usize, c: u16, t: u16)
+    ensures { λ _. ⌜ wordsIn (now (words .exit)) ≡ pick (ltb k 5) (linkedLeft k h c t (wordsIn (now (words .entry)))) (wordsIn (now (words .entry))) ⌝ }
 {
+    if 5 <= k {
+        return;
+    }
     let x = row_at(&*words, k, t);
     put_row(words, k, t, c);
     put_row(words, k, c, x);
@@ -35,10 +38,12 @@ pub(crate) fn link_left(words: &mut [u16; 6163], k: usize, h: usize, c: u16, t: 
 }
 
 // Takes t out.
-pub(crate) fn unlink(words: &mut [u16; 6163], k: usize, h: usize, t: u16)
-    requires { ⌜ k < 5 ⌝ }
-    ensures { λ _. ⌜ wordsIn (now (words .exit)) ≡ unlinked k h t (wordsIn (now (words .entry))) ⌝ }
+pub fn unlink(words: &mut [u16; 6163], k: usize, h: usize, t: u16)
+    ensures { λ _. ⌜ wordsIn (now (words .exit)) ≡ pick (ltb k 5) (unlinked k h t (wordsIn (now (words .entry)))) (wordsIn (now (words .entry))) ⌝ }
 {
+    if 5 <= k {
+        return;
+    }
     let x = row_at(&*words, k, t);
     let y = row_at(&*words, k + 1, t);
     put_row(words, k, y, x);

@@ -26,7 +26,7 @@ use Rattle.soundness.specs.Code.Balancing.{Balances, joinedBelow, Cleare
 use Rattle.soundness.proofs.Lookups.{accepted-lawful, thread-below}
 use Rattle.soundness.proofs.Done.{in-body}
 use Rattle.soundness.proofs.Balancing.{stop-low, stop-high, below-stop}
-use Rattle.soundness.proofs.Every.{same-truth}
+use Rattle.order.proofs.Every.{same-truth}
 
 any-skip : (f : ℕ → Bool) (a b : ℕ) → a ≤ b → ((d : ℕ) → a ≤ d → d < b → f d ≡ false) → anyBelow f b ≡ anyBelow f a
 unfolding anyBelow

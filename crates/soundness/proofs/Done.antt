@@ -22,7 +22,7 @@ use Rattle.order.specs.Words.{allBelow, allIn}
 use Rattle.order.proofs.Words.{allBelow-exactly, and-exactly}
 use Rattle.order.proofs.Lawful.{Lawful}
 use Rattle.soundness.specs.Code.Checks.{doneAt, doneTo, unbornIn, joinDone, bodyInOrder}
-use Rattle.soundness.proofs.Every.{same-truth, all-fails}
+use Rattle.order.proofs.Every.{same-truth, all-fails}
 
 -- ---- what is done
 

@@ -12,7 +12,7 @@ use lib.Seq.{ext-getD, getD-take, getD-append-add, length-take-le}
 use borrow.Author.Tests.{lt-ltb, ltb-true, eqb-true, eq-eqb, ne-eqb}
 use Rattle.order.specs.Words.{filled, allBelow, sameList}
 use Rattle.order.proofs.Words.{allBelow-exactly, or-exactly, sameList-exactly}
-use Rattle.soundness.proofs.Every.{same-truth, fromOn, PassedFrom, from-more, from-fails, from-all}
+use Rattle.order.proofs.Every.{same-truth, fromOn, PassedFrom, from-more, from-fails, from-all}
 
 abbrev pub isZero : List ℕ → ℕ → Bool
 isZero l i = eqb (getD l i 0) 0

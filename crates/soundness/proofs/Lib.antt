@@ -1,7 +1,6 @@
 pub mod DoneSums
 pub mod Filled
 pub mod Lookups
-pub mod Every
 pub mod Done
 pub mod Balancing
 pub mod Clearing

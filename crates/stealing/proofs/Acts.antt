@@ -41,13 +41,13 @@ use Rattle.array_machine.specs.Turn.{Outcome, waitsIn, actOn}
 use Rattle.array_machine.proofs.Parts.{Sits}
 use Rattle.array_machine.proofs.Seats.{next-fits, alloc-room, own-room, free-room, own-free, child-room, fork-child, join-child}
 use Rattle.deques.specs.Deques.{Deque, deque, nothing, placeOf, bottom, over, goesTo, goesOn, letGo, DequeStep, steps, actDeques}
-use Rattle.deques.specs.Partition.{ownedBy, AllManned}
+use Rattle.deques.specs.Partition.{ownedBy, AllInUse}
 use Rattle.deques.specs.Lines.{linesOf, bottomsOf, threadOf, linkedIn}
 use Rattle.deques.proofs.Placed.{bottom-counts}
 use Rattle.deques.proofs.Flat.{Mine, mine, lines-are, fork-lines, pop-lines, leave-lines, wake-lines, stop-lines}
 use Rattle.deques.proofs.Bottoms.{bottoms-are, fork-bottoms, pop-bottoms, leave-bottoms, wake-bottoms, wake-above, stop-bottoms}
 use Rattle.deques.proofs.DequeTurns.{Kept, withSerial, serial-facts, waits-status}
-use Rattle.deques.proofs.Counts.{counted-in, count-append, count-self, once-counts, bottoms-count, manned-front, manned-rest}
+use Rattle.deques.proofs.Counts.{counted-in, count-append, count-self, once-counts, bottoms-count, in-use-front, in-use-rest}
 use Rattle.deques.proofs.Standing.{lines-once, lines-small, lines-out, bottoms-once, bottoms-small, bottom-in}
 use Rattle.deques.proofs.Read.{LaidDeques, linked-in, linked-out}
 use Rattle.stealing.specs.Stealing.{goingOn, leavesOn, wakesOn, forksOn, dequeBy, dequeIn}
@@ -202,15 +202,15 @@ module _ (s : List ℕ) (rules : Rules s) (p K : ℕ) (begins : firstFound (sett
   once-front : List·Memᴰ t Af → ⊥
   once-front m = omega (arith, counts, counted-in t Af m)
 
-  front-manned : AllManned front
-  front-manned = manned-front front (deque w k ∷ rest) (X .placed .manned)
+  front-in-use : AllInUse front
+  front-in-use = in-use-front front (deque w k ∷ rest) (X .placed .in-use)
 
-  rest-manned : AllManned rest
-  unfolding AllManned
-  rest-manned = manned-rest front (deque w k ∷ rest) (X .placed .manned) .1
+  rest-in-use : AllInUse rest
+  unfolding AllInUse
+  rest-in-use = in-use-rest front (deque w k ∷ rest) (X .placed .in-use) .1
 
   b-front : List·Memᴰ t (bottomsOf hold front) → ⊥
-  b-front m = omega (arith, counts, counted-in t (bottomsOf hold front) m, bottoms-count hold t front front-manned)
+  b-front m = omega (arith, counts, counted-in t (bottomsOf hold front) m, bottoms-count hold t front front-in-use)
 
   -- it is a bottom where it stands alone in its line
   b-here : k ≡ [] → List·Memᴰ t (bottomsOf hold ds)
@@ -229,7 +229,7 @@ module _ (s : List ℕ) (rules : Rules s) (p K : ℕ) (begins : firstFound (sett
           let z : countIn t (bottomsOf hold ds) ≡ countIn t (bottomsOf hold front ++ (bottom (t2 ∷ j) ∷ bottomsOf hold rest)) =
           ap (countIn t) (bottoms-here ∙ ap (λ (i : List ℕ). bottomsOf hold front ++ (bottom (t ∷ i) ∷ bottomsOf hold rest)) e) in
           let c : countIn t k ≡ countIn t (t2 ∷ j) = ap (countIn t) e in
-          omega (arith, z, c, counts, counted-in t (bottomsOf hold ds) m, count-append t (bottomsOf hold front) (bottom (t2 ∷ j) ∷ bottomsOf hold rest), bottoms-count hold t front front-manned, bottoms-count hold t rest rest-manned, bottom-counts t (t2 ∷ j) refl)
+          omega (arith, z, c, counts, counted-in t (bottomsOf hold ds) m, count-append t (bottomsOf hold front) (bottom (t2 ∷ j) ∷ bottomsOf hold rest), bottoms-count hold t front front-in-use, bottoms-count hold t rest rest-in-use, bottom-counts t (t2 ∷ j) refl)
 
   right-is : (t2 : ℕ) (j : List ℕ) → k ≡ t2 ∷ j → getD (A .right) t 0 ≡ t2
   right-is t2 j e =

@@ -8,7 +8,7 @@ use borrow.Author.Tests.{lt-ltb, le-ltb, not-true}
 use lib.Dec.{ltb, eqb}
 use lib.ListN.{getD, set}
 use Rattle.table.specs.Sum.{pick}
-use Rattle.table.specs.Format.{Kind, end, fork, join, Table, kindOf, kind, threadsOf, bodiesFrom, codeAt, argumentAt, tableOf}
+use Rattle.table.specs.Format.{Kind, end, fork, join, Table, kindOf, kind, tableOf}
 use Rattle.table.proofs.Tests.{and-both, no-way}
 use Rattle.schedule.specs.declared.Worker.{Worker}
 use Rattle.schedule.specs.declared.Reply.{Reply}
@@ -20,6 +20,7 @@ use Rattle.run_memory.specs.Memory.{Memory, memory, workerIn, movedIn, memoryAf
 use Rattle.run_memory.specs.Blocks.{Bytes, Words, Numbers, Sums, gathered}
 use Rattle.run_memory.specs.Places.{totalled}
 use Rattle.run_memory.specs.Code.Acts.{wentTo}
+use Rattle.run_memory.proofs.Takes.{and-none}
 use Rattle.stealing.specs.declared.DequeTold.{DequeTold}
 use Rattle.deques.specs.Lines.{linkedIn}
 use Rattle.array_machine.specs.Arrays.{secondOf}
@@ -32,22 +33,8 @@ abbrev pub counted : ℕ → Memory → Memory
 counted x M =
     memory (M .settings) (M .parents) (M .arrays) (M .holds) (M .threads) (M .quotas) (M .heads) (getD (M .totals) 0 0 ∷ getD (M .totals) 1 0 ∷ x ∷ [])
 
--- the table's actions, as they are handed on
-module _ (s : List ℕ) {l : List ℕ} {n : ℕ} (e : l ≡ bodiesFrom s n) (d : n ≡ threadsOf s) where
-  pub codes : tableOf s .code ≡ codeAt l
-  unfolding tableOf
-  codes = rw (e, d)
-
-  pub arguments : tableOf s .argument ≡ argumentAt l
-  unfolding tableOf
-  arguments = rw (e, d)
-
 differ : false ≡ true → ⊥
 differ e = no-way (cc)
-
-and-none : (b : Bool) → (b && false) ≡ false
-and-none true = refl
-and-none false = refl
 
 module _ (s : List ℕ) (w c : ℕ) (M : Memory) (g : Going M w) where
   abbrev T : Table

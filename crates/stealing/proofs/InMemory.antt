@@ -2,13 +2,11 @@
 use mathlib.Core.Path.{_≡_, refl, sym, ap, subst, _∙_}
 use Prim.Native.Nat.{ℕ, suc, _+_, _-_, _^_, _≤_, _<_}
 use native.Mathlib.Omega.{arith}
-use native.Mathlib.Decide.{ℕ-discrete}
 use mathlib.Core.List.{List}
 use mathlib.Core.Bool.{Bool, true, false, not, _&&_}
 use borrow.Author.Tests.{ltb-true, ltb-false, lt-ltb, le-ltb, eqb-true, eqb-false, eq-eqb, ne-eqb}
 use lib.Dec.{ltb, eqb}
 use lib.ListN.{length, getD, set, length-set}
-use lib.Seq.{getD-set-same, getD-set-other, ext-getD}
 use Rattle.table.specs.Sum.{pick}
 use Rattle.table.specs.Format.{tableOf}
 use Rattle.table.specs.Rules.{Rules}
@@ -19,17 +17,17 @@ use Rattle.schedule.specs.Machine.{State, ended, nobody}
 use Rattle.schedule.specs.Links.{Links, LinkedAs, laid}
 use Rattle.schedule.specs.Record.{maxBytes, bytesOf, setOf, blank}
 use Rattle.schedule.specs.Turn.{rootEnded, noWorker}
-use Rattle.order.proofs.Words.{allBelow-exactly}
 use Rattle.order.proofs.Lists.{filled-front}
 use Rattle.schedule.proofs.Linked.Links.{laid-linked, linked-laid}
 use Rattle.array_machine.specs.Arrays.{arrays, linksOf, secondOf}
 use Rattle.array_machine.specs.Turn.{Outcome}
-use Rattle.array_machine.specs.Counted.{Left, busyAfter, roomFor, counting}
+use Rattle.array_machine.specs.Counted.{Left, busyAfter, counting}
 use Rattle.array_machine.specs.Packed.{packedOf}
+use Rattle.array_machine.proofs.Packed.{has-room, first-of}
 use Rattle.array_machine.proofs.Busy.{Bit, set-bit, set-busy}
 use Rattle.run_memory.specs.Memory.{Memory, workerIn, movedIn, memoryAfter, Told, told, turnLeft}
-use Rattle.run_memory.specs.Stands.{truths, workersIn, settled, runIn}
-use Rattle.run_memory.proofs.Refines.{workers-length, own-worker, as-number, truth-small}
+use Rattle.run_memory.specs.Stands.{workersIn, settled, runIn}
+use Rattle.run_memory.proofs.Refines.{sixteen, own-worker, truths-set, workers-after}
 use Rattle.deques.specs.declared.DequeRun.{DequeRun}
 use Rattle.deques.specs.declared.DequeTurned.{DequeTurned}
 use Rattle.deques.specs.declared.DequeTurning.the-variants.{Taken, Refused}
@@ -48,52 +46,6 @@ use Rattle.stealing.proofs.Room.{stateAt}
 use Rattle.stealing.proofs.Acts.{LaidOut, Follows}
 use Rattle.stealing.proofs.Refines.{turn-follows}
 
--- ---- the workers
-
-sixteen : (M : Memory) → length (workersIn M) ≡ 16
-sixteen M = workers-length (M .holds) (M .threads) (M .quotas) 0 16
-
-truths-set : (holds : List ℕ) (w : ℕ) (b : Bool) → w < length holds → truths holds ≡ true → truths (set holds w (pick b 1 0)) ≡ true
-unfolding truths
-truths-set holds w b h e = allBelow-exactly _ 16 .1 (λ i l. go i l (ℕ-discrete i w))
-  where
-    go : (i : ℕ) → i < 16 → Dec (i ≡ w) → ltb (getD (set holds w (pick b 1 0)) i 0) 2 ≡ true
-    go i l (yes q) = rw (q, getD-set-same holds w (pick b 1 0) 0 h) (truth-small b)
-    go i l (no d) = rw (getD-set-other holds w i (pick b 1 0) 0 d) (allBelow-exactly (λ j. ltb (getD holds j 0) 2) 16 .0 e i l)
-
-module _ (M : Memory) (w : ℕ) (z : Left) (h : w < 16) (a : length (M .holds) ≡ 16) (b : length (M .threads) ≡ 16) (c : length (M .quotas) ≡ 16) where
-  abbrev M' : Memory
-  M' = memoryAfter M w z
-
-  new-worker : workerIn M' w ≡ z .worker
-  new-worker =
-      let e : not (eqb (getD (M' .holds) w 0) 0) ≡ z .worker .holds = rw (getD-set-same (M .holds) w (pick (z .worker .holds) 1 0) 0 (omega (arith, h, a))) (as-number (z .worker .holds)) in
-      let t : getD (M' .threads) w 0 ≡ z .worker .thread = getD-set-same (M .threads) w (z .worker .thread) 0 (omega (arith, h, b)) in
-      let q : getD (M' .quotas) w 0 ≡ z .worker .quota = getD-set-same (M .quotas) w (z .worker .quota) 0 (omega (arith, h, c)) in
-      λ i. record { holds = e i; thread = t i; quota = q i }
-
-  same-worker : (v : ℕ) → (v ≡ w → ⊥) → workerIn M' v ≡ workerIn M v
-  same-worker v d =
-      let e : getD (M' .holds) v 0 ≡ getD (M .holds) v 0 = getD-set-other (M .holds) w v (pick (z .worker .holds) 1 0) 0 d in
-      let t : getD (M' .threads) v 0 ≡ getD (M .threads) v 0 = getD-set-other (M .threads) w v (z .worker .thread) 0 d in
-      let q : getD (M' .quotas) v 0 ≡ getD (M .quotas) v 0 = getD-set-other (M .quotas) w v (z .worker .quota) 0 d in
-      λ i. record { holds = not (eqb (e i) 0); thread = t i; quota = q i }
-
-  workers-after : workersIn M' ≡ set (workersIn M) w (z .worker)
-  workers-after =
-      ext-getD nobody (workersIn M') (set (workersIn M) w (z .worker)) (sixteen M' ∙ sym (length-set (workersIn M) w (z .worker) ∙ sixteen M)) at
-    where
-      at : (i : ℕ) → i < length (workersIn M') → getD (workersIn M') i nobody ≡ getD (set (workersIn M) w (z .worker)) i nobody
-      at i l = go (ℕ-discrete i w)
-        where
-          few : i < 16
-          few = omega (arith, l, sixteen M')
-
-          go : Dec (i ≡ w) → getD (workersIn M') i nobody ≡ getD (set (workersIn M) w (z .worker)) i nobody
-          go (yes e) =
-              rw e (own-worker M' w h ∙ new-worker ∙ sym (getD-set-same (workersIn M) w (z .worker) nobody (omega (arith, h, sixteen M))))
-          go (no d) = own-worker M' i few ∙ same-worker i d ∙ sym (own-worker M i few) ∙ sym (getD-set-other (workersIn M) w i (z .worker) nobody d)
-
 -- ---- 32 on a record that is sound but for its turns
 
 pub deques-full : (r : DequeRun) → SteadyDeques r → r .run .turns ≡ 2 ^ 64 - 1 → unsoundDeques r ≡ true
@@ -111,16 +63,6 @@ deques-full r h e = go (dequeSound r) refl (isBlankDeques r) refl
 pub deques-room : (r : DequeRun) → SteadyDeques r → r .run .turns < 2 ^ 64 → (r .run .turns ≡ 2 ^ 64 - 1 → ⊥) → unsoundDeques r ≡ false
 unfolding unsoundDeques
 deques-room r h k e = rw (deque-sound-exactly r .1 (record { steady = h; turns = omega (arith, k, e) }))
-
--- ---- room for a turn
-
-has-room : (turns busy w : ℕ) (holds : Bool) → turns < 2 ^ 64 - 1 → w < 16 → (holds ≡ false → busy + 2 ^ w < 65536) → roomFor turns busy holds w ≡ true
-unfolding roomFor
-has-room turns busy w true t h b = rw (lt-ltb (turns + 1) (2 ^ 64) (omega arith), lt-ltb w 16 h)
-has-room turns busy w false t h b = rw (lt-ltb (turns + 1) (2 ^ 64) (omega arith), lt-ltb w 16 h, lt-ltb (busy + 2 ^ w) 65536 (b refl))
-
-first-of : (b f : Bool) (z v : Left) → b ≡ true → f ≡ true → pick (b && f) z v ≡ z
-first-of b f z v e g = rw (e, g)
 
 -- ---- a turn
 

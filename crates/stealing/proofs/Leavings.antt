@@ -1,26 +1,31 @@
 -- What the moves of the code leave in the records that stand in the four blocks, against the definitions of these moves.
-use mathlib.Core.Path.{_≡_, refl, ap, _∙_}
+use mathlib.Core.Path.{_≡_, _∙_}
 use Prim.Native.Nat.{ℕ, suc, _+_, _<_}
 use native.Mathlib.Numerals.{add-one}
-use mathlib.Core.List.{List}
-use mathlib.Core.Bool.{Bool, true, false, not, _||_}
+use mathlib.Core.Bool.{Bool, true, false, not, _&&_, _||_}
 use borrow.Author.Tests.{lt-ltb}
 use lib.ListN.{getD, set}
 use lib.Seq.{set-getD, set-set}
 use lib.Dec.{ltb}
+use Rattle.table.specs.Sum.{pick}
 use Rattle.table.specs.Format.{Table}
+use Rattle.schedule.specs.declared.Reply.the-variants.{Idle}
 use Rattle.schedule.specs.Machine.{ready, held, ended}
-use Rattle.schedule.specs.Links.{linkLeft, unlink}
-use Rattle.array_machine.specs.Arrays.{links}
+use Rattle.schedule.specs.Links.{Links, linkLeft, unlink}
+use Rattle.array_machine.specs.Arrays.{links, linksOf, withStatuses, relinked}
+use Rattle.array_machine.specs.Arrays.{headed as headedTotals}
+use Rattle.array_machine.specs.Turn.{moved}
 use Rattle.array_machine.specs.Turn.{waitsIn}
 use Rattle.array_machine.specs.Counted.{busyAfter}
-use Rattle.run_memory.specs.Memory.{Memory}
+use Rattle.run_memory.specs.Memory.{Memory, movedIn}
 use Rattle.run_memory.specs.Blocks.{Bytes, Words, Numbers, Sums, gathered}
 use Rattle.run_memory.specs.Places.{statused, holding, rowed, threaded, headed, quotaed, holdsIn}
 use Rattle.run_memory.specs.Code.Writes.{linkedLeft, unlinked}
+use Rattle.run_memory.specs.Code.Acts.{wentTo}
 use Rattle.deques.specs.Lines.{linkedIn}
-use Rattle.stealing.specs.Stealing.{leavesOn, wakesOn, forksOn}
-use Rattle.stealing.specs.Code.{leftBehind, wokenUp, forkedOff, endedIn}
+use Rattle.stealing.specs.Stealing.{leavesOn, wakesOn, forksOn, robbedLinks}
+use Rattle.stealing.specs.StealingMemory.{robbedWords}
+use Rattle.stealing.specs.Code.{leftBehind, wokenUp, forkedOff, endedIn, thief, stolenIn}
 
 -- what stands in the blocks, where it is known
 pub gathered-as : {X B : Bytes} {Y W : Words} {Z N : Numbers} (S : Sums) {M : Memory} → X ≡ B → Y ≡ W → Z ≡ N → gathered B W N S ≡ M → gathered X Y Z S ≡ M
@@ -72,3 +77,33 @@ module _ (B : Bytes) (W : Words) (N : Numbers) (S : Sums) (w t : ℕ) (h : holds
     pub ends-left : q ≡ false → leftBehind t ended w (gathered (statused t ended B) W N S) ≡ endedIn T t w M
     unfolding leavesOn
     ends-left f = rw (← p, ← e, f, set-set (B .status) t ended ended)
+
+-- a steal, of a worker that holds nothing
+module _ (B : Bytes) (W : Words) (N : Numbers) (S : Sums) (w b : ℕ) (h : holdsIn w B ≡ false) where
+  abbrev M₁ : Memory
+  M₁ = gathered B W N S
+
+  abbrev x : ℕ
+  x = getD (W .rows 2) b 0
+
+  abbrev second : Links
+  second = links (W .rows 4) (W .rows 5) (W .first)
+
+  abbrev including : Words
+  including = headed 2 (busyAfter (W .busy) false true w) W
+
+  abbrev written : Words → Memory
+  written X = gathered (holding w 1 (statused b held B)) (threaded w b X) (quotaed w (N .quota) N) S
+
+  abbrev linked : Links → Memory
+  linked L =
+      wentTo M₁ w
+      (moved Idle (relinked (linksOf (M₁ .arrays) (movedIn M₁ .totals)) L (withStatuses (set (B .status) b held) (M₁ .arrays))) (headedTotals (linksOf (M₁ .arrays) (movedIn M₁ .totals)) L (movedIn M₁ .totals)) (thief b M₁))
+
+  pub stolen : written (robbedWords b including) ≡ stolenIn b w M₁
+  unfolding robbedWords robbedLinks linkLeft
+  stolen = go (ltb x 1024 && not (linkedIn second x))
+    where
+      go : (q : Bool) → written (pick q (linkedLeft 4 1 x b including) including) ≡ linked (pick q (linkLeft x b second) second)
+      go true = rw h
+      go false = rw h

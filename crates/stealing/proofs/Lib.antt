@@ -7,6 +7,8 @@ pub mod Fits
 pub mod InMemory
 pub mod PairsRefine
 mod Along
-mod Linking
 mod Leavings
 mod Goes
+mod Steals
+mod Stealable
+mod PairDrives

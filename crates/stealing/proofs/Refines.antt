@@ -30,10 +30,10 @@ use Rattle.array_machine.specs.declared.Totals.{Totals}
 use Rattle.array_machine.specs.Arrays.{Arrays, secondOf}
 use Rattle.array_machine.specs.Turn.{Outcome, moved}
 use Rattle.deques.specs.Deques.{Deque, deque, nothing, isEmpty, bottom, robbed, over, DequeStep, steps, actDeques, steal, dequeTurn}
-use Rattle.deques.specs.Partition.{ownedBy, Manned, AllManned}
+use Rattle.deques.specs.Partition.{ownedBy, InUse, AllInUse}
 use Rattle.deques.specs.Lines.{line, linesOf, bottomsOf, threadOf}
 use Rattle.deques.proofs.Placed.{robbed-lines}
-use Rattle.deques.proofs.Counts.{owned-append, manned-rest}
+use Rattle.deques.proofs.Counts.{owned-append, in-use-rest}
 use Rattle.deques.proofs.DequeTurns.{Kept, withSerial, serial-facts, taken-common, b-below, b-ready, stolen}
 use Rattle.deques.proofs.Standing.{is-owner, lines-once, lines-small, bottoms-once, bottoms-small}
 use Rattle.stealing.specs.Stealing.{alongBy, robbedLinks, robbedArrays, robbedTotals, dequeIn, stealOn, dequeOn}
@@ -129,9 +129,9 @@ module _ (s : List ℕ) (rules : Rules s) (p K : ℕ) (begins : firstFound (sett
     abbrev l : List ℕ
     l = g .threads
 
-    here : Manned (deque (g .owner) (g .threads))
-    unfolding AllManned
-    here = manned-rest (g .front) (deque (g .owner) (g .threads) ∷ g .rest) (subst (λ (z : List Deque). AllManned z) (g .whole) (X .placed .manned)) .0
+    here : InUse (deque (g .owner) (g .threads))
+    unfolding AllInUse
+    here = in-use-rest (g .front) (deque (g .owner) (g .threads) ∷ g .rest) (subst (λ (z : List Deque). AllInUse z) (g .whole) (X .placed .in-use)) .0
 
     owns-it : (v : ℕ) → ownedBy v ds ≡ ownedBy v (g .front) + (pick (eqb (g .owner) v) 1 0 + ownedBy v (g .rest))
     unfolding ownedBy
@@ -142,7 +142,7 @@ module _ (s : List ℕ) (rules : Rules s) (p K : ℕ) (begins : firstFound (sett
     unfolding bottom
     empty e = go here (g .threads) refl e
       where
-        go : Manned (deque (g .owner) (g .threads)) → (k : List ℕ) → g .threads ≡ k → isEmpty k ≡ true
+        go : InUse (deque (g .owner) (g .threads)) → (k : List ℕ) → g .threads ≡ k → isEmpty k ≡ true
             → Follows w workers turns (stealOn (tableOf s) K parents c A totals worker) (steal (tableOf s) K w c (over st ds))
         go m (x ∷ k) i z = no-way cc
         go (inr (q, n)) [] i z = no-way (cc)
@@ -199,7 +199,7 @@ module _ (s : List ℕ) (rules : Rules s) (p K : ℕ) (begins : firstFound (sett
       few-owners : g .owner ≤ 16
       few-owners = go here
         where
-          go : Manned (deque (g .owner) (g .threads)) → g .owner ≤ 16
+          go : InUse (deque (g .owner) (g .threads)) → g .owner ≤ 16
           go (inl q) = omega (arith, q)
           go (inr (q, n)) = omega (arith, q)
 
@@ -208,14 +208,14 @@ module _ (s : List ℕ) (rules : Rules s) (p K : ℕ) (begins : firstFound (sett
           subst (λ (z : ℕ). LinkedAs (robbedLinks z A totals) (bottomsOf (threadOf workers') (robbed w c ds))) b-is
           (linked-by _ _ _ (ap (bottomsOf (threadOf workers')) (g .robbing))
           (robbed-bottoms w w16 hold (threadOf workers') same (g .front) (g .rest) (g .owner) (g .threads) (omega (arith, own0, owns-it w)) (omega (arith, own0, owns-it w)) other few-owners some (holds-b ∙ sym b-is)
-          (subst (λ (z : List Deque). AllManned z) (g .whole) (X .placed .manned)) A totals (subst (λ (z : List Deque). LaidOut A totals hold z) (g .whole) L)
+          (subst (λ (z : List Deque). AllInUse z) (g .whole) (X .placed .in-use)) A totals (subst (λ (z : List Deque). LaidOut A totals hold z) (g .whole) L)
           (subst (λ (z : List Deque). Once (linesOf hold z)) (g .whole) once) (subst (λ (z : List Deque). Below 1024 (linesOf hold z)) (g .whole) low)
           (subst (λ (z : List Deque). Once (bottomsOf hold z)) (g .whole) b-once) (subst (λ (z : List Deque). Below 1024 (bottomsOf hold z)) (g .whole) b-low)))
 
       laid-after : LaidOut (robbedArrays b A totals) (robbedTotals b A totals) (threadOf workers') (robbed w c ds)
       laid-after =
           record {
-            lines = linked-by _ _ _ (robbed-lines w w16 hold (threadOf workers') same c ds own0 (X .placed .manned) some-there holds-b) (L .lines);
+            lines = linked-by _ _ _ (robbed-lines w w16 hold (threadOf workers') same c ds own0 (X .placed .in-use) some-there holds-b) (L .lines);
             bottoms = bottoms-after;
           }
 

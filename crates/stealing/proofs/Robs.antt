@@ -20,13 +20,13 @@ use Rattle.schedule.proofs.Linked.Links.{linkLeft-linked}
 use Rattle.array_machine.specs.declared.Totals.{Totals}
 use Rattle.array_machine.specs.Arrays.{Arrays, secondOf}
 use Rattle.deques.specs.Deques.{Deque, deque, nothing, isEmpty, bottom, above, kept, robbed}
-use Rattle.deques.specs.Partition.{ownedBy, AllManned}
+use Rattle.deques.specs.Partition.{ownedBy, AllInUse}
 use Rattle.deques.specs.Lines.{line, linesOf, bottomsOf, linkedIn}
 use Rattle.deques.proofs.Placed.{empty-is, bottom-counts, above-bottom}
 use Rattle.deques.proofs.Flat.{lines-append}
 use Rattle.deques.proofs.Bottoms.{robbed-whole, last-bottoms, steal-bottoms}
 use Rattle.deques.proofs.Kept.{one-is}
-use Rattle.deques.proofs.Counts.{counted-in, count-append, once-counts, in-counted, line-some, bottoms-count, manned-front, manned-rest}
+use Rattle.deques.proofs.Counts.{counted-in, count-append, once-counts, in-counted, line-some, bottoms-count, in-use-front, in-use-rest}
 use Rattle.deques.proofs.Read.{linked-in, linked-out}
 use Rattle.stealing.specs.Stealing.{robbedLinks}
 use Rattle.stealing.proofs.Words.{left-at}
@@ -81,8 +81,8 @@ last-bottom y [] e = no-way cc
 last-bottom y (x ∷ []) e = refl
 last-bottom y (x ∷ z ∷ l) e = last-bottom x (z ∷ l) refl
 
-last-line : (hold : ℕ → ℕ) (y : ℕ) (ds : List Deque) → AllManned ds → (lastAfter y (linesOf hold ds) ≡ y) ⊎ List·Memᴰ (lastAfter y (linesOf hold ds)) (bottomsOf hold ds)
-unfolding linesOf bottomsOf AllManned lastAfter
+last-line : (hold : ℕ → ℕ) (y : ℕ) (ds : List Deque) → AllInUse ds → (lastAfter y (linesOf hold ds) ≡ y) ⊎ List·Memᴰ (lastAfter y (linesOf hold ds)) (bottomsOf hold ds)
+unfolding linesOf bottomsOf AllInUse lastAfter
 last-line hold y [] m = inl refl
 last-line hold y (d ∷ ds) m = go (last-line hold (bottom (line hold d)) ds (m .1))
   where
@@ -106,7 +106,7 @@ line-split hold o l e = go (ltb o 16)
 
 module _ (w : ℕ) (few : w < 16) (hold hold' : ℕ → ℕ) (same : (v : ℕ) → (v ≡ w → ⊥) → hold' v ≡ hold v) (front rest : List Deque) (o : ℕ) (l : List ℕ)
     (clear : ownedBy w front ≡ 0) (alone : ownedBy w rest ≡ 0) (other : o ≡ w → ⊥) (small : o ≤ 16) (some : isEmpty l ≡ false) (robs : hold' w ≡ bottom l)
-    (manned : AllManned (front ++ deque o l ∷ rest)) (A : Arrays) (totals : Totals) (L : LaidOut A totals hold (front ++ deque o l ∷ rest))
+    (in-use : AllInUse (front ++ deque o l ∷ rest)) (A : Arrays) (totals : Totals) (L : LaidOut A totals hold (front ++ deque o l ∷ rest))
     (once : Once (linesOf hold (front ++ deque o l ∷ rest))) (low : Below 1024 (linesOf hold (front ++ deque o l ∷ rest)))
     (b-once : Once (bottomsOf hold (front ++ deque o l ∷ rest))) (b-low : Below 1024 (bottomsOf hold (front ++ deque o l ∷ rest))) where
   abbrev ds : List Deque
@@ -135,12 +135,12 @@ module _ (w : ℕ) (few : w < 16) (hold hold' : ℕ → ℕ) (same : (v : ℕ) �
   bottoms-split : bottomsOf hold ds ≡ bottomsOf hold front ++ (b ∷ bottomsOf hold rest)
   bottoms-split = robbed-whole w few hold hold' same front rest o l clear alone other small some robs
 
-  front-manned : AllManned front
-  front-manned = manned-front front (deque o l ∷ rest) manned
+  front-in-use : AllInUse front
+  front-in-use = in-use-front front (deque o l ∷ rest) in-use
 
-  rest-manned : AllManned rest
-  unfolding AllManned
-  rest-manned = manned-rest front (deque o l ∷ rest) manned .1
+  rest-in-use : AllInUse rest
+  unfolding AllInUse
+  rest-in-use = in-use-rest front (deque o l ∷ rest) in-use .1
 
   -- in the lines, and so among the bottoms
   count-lines : (v : ℕ) → countIn v (linesOf hold ds) ≡ countIn v F + countIn v up + (pick (eqb b v) 1 0 + countIn v R)
@@ -153,13 +153,13 @@ module _ (w : ℕ) (few : w < 16) (hold hold' : ℕ → ℕ) (same : (v : ℕ) �
   unfolding countIn
   count-bottoms v =
       let e : countIn v (bottomsOf hold ds) ≡ countIn v (bottomsOf hold front ++ (b ∷ bottomsOf hold rest)) = ap (countIn v) bottoms-split in
-      omega (arith, e, count-append v (bottomsOf hold front) (b ∷ bottomsOf hold rest), bottoms-count hold v front front-manned, bottoms-count hold v rest rest-manned)
+      omega (arith, e, count-append v (bottomsOf hold front) (b ∷ bottomsOf hold rest), bottoms-count hold v front front-in-use, bottoms-count hold v rest rest-in-use)
 
   alone-b : List·Memᴰ b (F ++ up) → ⊥
   alone-b m = omega (arith, counted-in b (F ++ up) m, count-append b F up, count-lines b, one-is b, once-counts (linesOf hold ds) once b)
 
   b-front : List·Memᴰ b (bottomsOf hold front) → ⊥
-  b-front m = omega (arith, counted-in b (bottomsOf hold front) m, bottoms-count hold b front front-manned, count-lines b, one-is b, once-counts (linesOf hold ds) once b)
+  b-front m = omega (arith, counted-in b (bottomsOf hold front) m, bottoms-count hold b front front-in-use, count-lines b, one-is b, once-counts (linesOf hold ds) once b)
 
   b-there : List·Memᴰ b (bottomsOf hold ds)
   b-there = subst (λ (z : List ℕ). List·Memᴰ b z) (sym bottoms-split) (Memᴰ·append-right (bottomsOf hold front) (List·Memᴰ·head refl))
@@ -220,7 +220,7 @@ module _ (w : ℕ) (few : w < 16) (hold hold' : ℕ → ℕ) (same : (v : ℕ) �
         none k e = rw e refl
 
     no-new : (ltb (getD (A .left) b 0) noThread && not (linkedIn (secondOf A totals) (getD (A .left) b 0))) ≡ false
-    no-new = rw x-last (go (last-line hold noThread front front-manned))
+    no-new = rw x-last (go (last-line hold noThread front front-in-use))
       where
         v : ℕ
         v = lastAfter noThread F

@@ -19,7 +19,8 @@ use Rattle.schedule.proofs.Linked.ActiveMoves.{list-once, list-small}
 use Rattle.array_machine.specs.declared.Totals.{Totals}
 use Rattle.array_machine.specs.Arrays.{Arrays, listedIn, relinked, headed}
 use Rattle.array_machine.proofs.Parts.{Sits}
-use Rattle.deques.proofs.Ghost.{CommonIn, serialLive, listed-live}
+use Rattle.schedule.proofs.SerialLive.{serialLive, listed-live}
+use Rattle.deques.proofs.ActCommon.{CommonIn}
 use Rattle.deques.proofs.DequeTurns.{withSerial, serial-facts}
 
 -- the arrays, the totals and the workers as a state; its list stays empty

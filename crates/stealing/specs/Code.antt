@@ -1,19 +1,19 @@
 -- Promises between the parts of the code: the memory that a move leaves, the turn not yet counted.
 use mathlib.Core.Path.{_≡_}
 use Prim.Native.Nat.{ℕ, _+_, _^_, _<_}
-use mathlib.Core.List.{List}
 use mathlib.Core.Bool.{true}
 use lib.ListN.{getD, set}
 use Rattle.table.specs.Sum.{pick}
 use Rattle.table.specs.Format.{Table}
+use Rattle.schedule.specs.declared.Worker.{Worker}
 use Rattle.schedule.specs.declared.Reply.the-variants.{Idle}
 use Rattle.schedule.specs.Machine.{ended}
-use Rattle.array_machine.specs.Turn.{Outcome, waitsIn}
+use Rattle.array_machine.specs.Turn.{Outcome, moved, waitsIn}
 use Rattle.run_memory.specs.Blocks.{Bytes}
 use Rattle.run_memory.specs.Places.{holdsIn}
 use Rattle.run_memory.specs.Memory.{Memory, workerIn, movedIn, hindrance}
 use Rattle.run_memory.specs.Code.Acts.{wentTo}
-use Rattle.stealing.specs.Stealing.{leavesOn, wakesOn, forksOn}
+use Rattle.stealing.specs.Stealing.{leavesOn, wakesOn, forksOn, dequeIn, robbedArrays, robbedTotals}
 
 -- w is one of sixteen workers and holds a thread
 abbrev pub Holder : ℕ → Bytes → Type 0
@@ -43,3 +43,17 @@ pub record Going (M : Memory) (w : ℕ) : Type 0 where
   pub holds : workerIn M w .holds ≡ true
   pub room : movedIn M .turns + 1 < 2 ^ 64
   pub free : hindrance (movedIn M .turns) (getD (M .settings) 0 0) w (getD (M .arrays .status) 0 0) ≡ 0
+
+-- ---- a steal
+
+-- a worker that has stolen thread b: "The quota K is refilled only by a steal"
+abbrev pub thief : ℕ → Memory → Worker
+thief b M = record { holds = true; thread = b; quota = getD (M .settings) 1 0 }
+
+-- the stolen thread's first action
+abbrev pub stolenOn : Table → ℕ → Memory → Outcome
+stolenOn T b M = dequeIn T (getD (M .settings) 1 0) (M .parents) (robbedArrays b (M .arrays) (movedIn M .totals)) (robbedTotals b (M .arrays) (movedIn M .totals)) (thief b M)
+
+-- worker w has stolen thread b and not yet done its action
+abbrev pub stolenIn : ℕ → ℕ → Memory → Memory
+stolenIn b w M = wentTo M w (moved Idle (robbedArrays b (M .arrays) (movedIn M .totals)) (robbedTotals b (M .arrays) (movedIn M .totals)) (thief b M))

@@ -1,6 +1,6 @@
 // The bottoms in the words of the memory: the one at a place, whether a thread is one, and what a steal writes of them. All are total, whatever the memory holds.
-use crate::list::link_left;
 use links::NO_THREAD;
+use run_memory::list::link_left;
 use run_memory::places::FIRST;
 use run_memory::places::LEFT;
 use run_memory::places::OVER;

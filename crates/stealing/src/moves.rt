@@ -1,15 +1,18 @@
-// What a worker's turn writes where AsyncDF's action does not serve: a fork, and a thread that leaves its line at its end or to wait. In each the worker holds thread t before.
+// What a worker's turn writes where AsyncDF's action does not serve: a fork, a thread that leaves its line at its end or to wait, and a steal. But for a steal the worker holds thread t before.
 use crate::bottoms::is_bottom;
-use crate::list::link_left;
-use crate::list::replace;
-use crate::list::unlink;
+use crate::bottoms::rob;
 use links::NO_THREAD;
+use run_memory::act::waits;
+use run_memory::act::without;
+use run_memory::list::link_left;
+use run_memory::list::unlink;
 use run_memory::places::BUSY;
 use run_memory::places::FIRST;
 use run_memory::places::LEFT;
 use run_memory::places::LEFTMOST;
 use run_memory::places::NEXT;
 use run_memory::places::PARENTS;
+use run_memory::places::QUOTA;
 use run_memory::places::RIGHT;
 use run_memory::places::UNDER;
 use run_memory::places::head_at;
@@ -20,28 +23,25 @@ use run_memory::places::put_row;
 use run_memory::places::put_status;
 use run_memory::places::put_thread;
 use run_memory::places::row_at;
-use run_memory::places::status_at;
+use run_memory::places::setting_at;
 use schedule::statuses::ENDED;
 use schedule::statuses::HELD;
 use schedule::statuses::READY;
-use schedule::statuses::WAITING;
-use table::kinds::JOIN;
-use table::read::argument_in;
-use table::read::code_in;
 ghost use mathlib.Core.Path.{_≡_};
 ghost use mathlib.Core.Bool.{true, false, not, _||_};
-ghost use Prim.Native.Nat.{ℕ, _+_, _<_};
+ghost use Prim.Native.Nat.{_+_, _^_, _<_};
 ghost use lib.ListN.{getD};
 ghost use lib.Dec.{ltb};
+ghost use Rattle.table.specs.Sum.{pick};
 ghost use Rattle.table.specs.Format.{Table, codeAt, argumentAt};
 ghost use Rattle.schedule.specs.Machine.{held};
 ghost use Rattle.array_machine.specs.Arrays.{links};
-ghost use Rattle.array_machine.specs.Turn.{waitsIn};
 ghost use Rattle.array_machine.specs.Counted.{busyAfter};
 ghost use Rattle.run_memory.specs.Blocks.{Sums, bytesIn, wordsIn, numbersIn, gathered};
-ghost use Rattle.run_memory.specs.Places.{statused, holding, threaded, headed, quotaed};
+ghost use Rattle.run_memory.specs.Places.{statused, holding, holdsIn, threaded, headed, quotaed};
+ghost use Rattle.run_memory.specs.Code.Writes.{linkedLeft, unlinked};
 ghost use Rattle.deques.specs.Lines.{linkedIn};
-ghost use Rattle.stealing.specs.Code.{Holder, leftBehind, wokenUp, forkedOff, endedIn};
+ghost use Rattle.stealing.specs.Code.{Holder, leftBehind, wokenUp, forkedOff, endedIn, stolenIn};
 
 // The worker goes on with thread u.
 fn hold(bytes: &mut [u8; 1040], words: &mut [u16; 6163], w: usize, u: u16)
@@ -53,18 +53,8 @@ fn hold(bytes: &mut [u8; 1040], words: &mut [u16; 6163], w: usize, u: u16)
     put_thread(words, w, u);
 }
 
-// The set without worker w.
-fn without(busy: u16, w: usize) -> u16
-    requires { ⌜ w < 16 ⌝ }
-    ensures { λ r. ⌜ r ≡ busyAfter busy true false w ⌝ }
-{
-    let bit: u16 = 1 << w;
-    if busy < bit { 0 } else { busy - bit }
-}
-
 // "w is released"
 fn let_go(bytes: &mut [u8; 1040], words: &mut [u16; 6163], numbers: &mut [u32; 18], w: usize)
-    requires { ⌜ w < 16 ⌝ }
     ensures { λ _. ⌜ bytesIn (now (bytes .exit)) ≡ holding w 0 (bytesIn (now (bytes .entry))) ⌝ }
     ensures { λ _. ⌜ wordsIn (now (words .exit)) ≡ threaded w 0 (headed 2 (busyAfter (wordsIn (now (words .entry)) .busy) true false w) (wordsIn (now (words .entry)))) ⌝ }
     ensures { λ _. ⌜ numbersIn (now (numbers .exit)) ≡ quotaed w 0 (numbersIn (now (numbers .entry))) ⌝ }
@@ -106,6 +96,14 @@ pub(crate) fn leave(
         return;
     }
     hold(bytes, words, w, next);
+}
+
+// Puts u into the place of t in the list of rows k and k + 1 and head h.
+fn replace(words: &mut [u16; 6163], k: usize, h: usize, u: u16, t: u16)
+    ensures { λ _. ⌜ wordsIn (now (words .exit)) ≡ pick (ltb k 5) (unlinked k h t (linkedLeft k h u t (wordsIn (now (words .entry))))) (wordsIn (now (words .entry))) ⌝ }
+{
+    link_left(words, k, h, u, t);
+    unlink(words, k, h, t);
 }
 
 // "At an end it goes on with the parent it woke": u comes in the place of t.
@@ -151,21 +149,6 @@ pub(crate) fn fork(
     hold(bytes, words, w, c);
 }
 
-// Whether the parent u waits for child t.
-fn waits(actions: &[u8], bytes: &[u8; 1040], words: &[u16; 6163], u: u16, t: u16) -> bool
-    ensures { λ r. ⌜ ((T : Table) → T .code ≡ codeAt (now (actions .entry)) → T .argument ≡ argumentAt (now (actions .entry))
-        → r ≡ waitsIn T (wordsIn (now (words .entry)) .rows 1) (bytesIn (now (bytes .entry)) .status) u t) ⌝ }
-{
-    if status_at(bytes, u) != WAITING {
-        return false;
-    }
-    let a = row_at(words, NEXT, u) as usize;
-    if code_in(actions, a) != JOIN {
-        return false;
-    }
-    argument_in(actions, a) == t as usize
-}
-
 // An end: the thread leaves the lines, or the parent that it woke comes in its place.
 pub(crate) fn end(
     actions: &[u8],
@@ -187,4 +170,33 @@ pub(crate) fn end(
         return;
     }
     leave(t, ENDED, w, bytes, words, numbers);
+}
+
+// The set with worker w, which was not in it.
+fn including(busy: u16, w: usize) -> u16
+    requires { ⌜ (w < 16) × (busy + 2 ^ w < 65536) ⌝ }
+    ensures { λ r. ⌜ r ≡ busyAfter busy false true w ⌝ }
+{
+    let bit: u16 = 1 << w;
+    busy + bit
+}
+
+// "stolen from its bottom": worker w, which holds nothing, holds bottom b, with the whole quota.
+pub(crate) fn steal(
+    b: u16,
+    w: usize,
+    bytes: &mut [u8; 1040],
+    words: &mut [u16; 6163],
+    numbers: &mut [u32; 18],
+)
+    requires { ⌜ (w < 16) × ((holdsIn w (bytesIn (now bytes)) ≡ false) × (wordsIn (now words) .busy + 2 ^ w < 65536)) ⌝ }
+    ensures { λ _. ⌜ ((S : Sums) → gathered (bytesIn (now (bytes .exit))) (wordsIn (now (words .exit))) (numbersIn (now (numbers .exit))) S
+        ≡ stolenIn b w (gathered (bytesIn (now (bytes .entry))) (wordsIn (now (words .entry))) (numbersIn (now (numbers .entry))) S)) ⌝ }
+{
+    let busy = including(head_at(&*words, BUSY), w);
+    put_head(words, BUSY, busy);
+    rob(words, b);
+    hold(bytes, words, w, b);
+    let quota = setting_at(&*numbers, QUOTA);
+    put_quota(numbers, w, quota);
 }

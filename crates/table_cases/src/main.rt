@@ -1,5 +1,5 @@
-// Reads inputs of `tablecheck`, `maxquota` and `maxturns` one after the other, each with a label, and prints the label and the answer of each. A record of the input is the label's
-// length (1 byte), the label, 't' for `tablecheck`, 'q' for `maxquota` or 'l' for `maxturns`, the input's length (3 bytes), the input.
+// Reads inputs of `tablecheck`, `maxquota`, `maxturns`, `memlimit` and `fitquota` one after the other, each with a label, and prints the label and the answer of each. A record of the input is
+// the label's length (1 byte), the label, 't' for `tablecheck`, 'q' for `maxquota`, 'l' for `maxturns`, 'm' for `memlimit` or 'f' for `fitquota`, the input's length (3 bytes), the input.
 use libc::STDIN_FILENO;
 use libc::STDOUT_FILENO;
 ghost use Prim.Native.Nat.{_<_};
@@ -63,6 +63,22 @@ fn turns_answer(buffer: &mut [u8]) {
     io::write_all(STDOUT_FILENO, &line[..k]);
 }
 
+// The same of an input of `memlimit`.
+fn limit_answer(buffer: &mut [u8]) {
+    let n = io::read_full(STDIN_FILENO, buffer);
+    let mut line = [0u8; 160];
+    let k = useful_limit::limit_line(&buffer[..n], &mut line);
+    io::write_all(STDOUT_FILENO, &line[..k]);
+}
+
+// The same of an input of `fitquota`.
+fn fit_answer(buffer: &mut [u8]) {
+    let n = io::read_full(STDIN_FILENO, buffer);
+    let mut line = [0u8; 80];
+    let k = useful_limit::fit_line(&buffer[..n], &mut line);
+    io::write_all(STDOUT_FILENO, &line[..k]);
+}
+
 // One record, and whether there was one.
 fn one() -> bool {
     let length = wide(one_byte());
@@ -80,6 +96,10 @@ fn one() -> bool {
         quota_answer(&mut bytes[..n]);
     } else if program == b'l' {
         turns_answer(&mut bytes[..n]);
+    } else if program == b'm' {
+        limit_answer(&mut bytes[..n]);
+    } else if program == b'f' {
+        fit_answer(&mut bytes[..n]);
     } else {
         table_answer(&mut bytes[..n]);
     }

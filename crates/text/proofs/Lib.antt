@@ -2,3 +2,4 @@ pub mod Decimal
 pub mod Placing
 pub mod FactsText
 pub mod Putting
+pub mod Told

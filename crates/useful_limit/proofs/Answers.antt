@@ -16,6 +16,7 @@ use Rattle.table.specs.declared.Loaded.the-variants.{Refused as refused}
 use Rattle.table.proofs.Trying.{orElse-last}
 use Rattle.table.proofs.Passes.{firstFound-append, found-exactly, passes-rules, refused-exactly}
 use Rattle.schedule.specs.Record.{maxWorkers}
+use Rattle.schedule.specs.Begin.{maxQuota}
 use Rattle.quota.specs.Quota.{maxGap}
 use Rattle.useful_limit.specs.declared.Parts.{Parts}
 use Rattle.useful_limit.specs.declared.Fitted.{Fitted}
@@ -36,7 +37,7 @@ module _ (s : List ℕ) (p b M : ℕ) where
     unfolding ownAnswer tryPass tryFrom tryAt
     wide-gap g = rw (h, lt-ltb maxGap b g)
 
-    pub own-fit : b ≤ maxGap → {x : Parts} {y : Fitted} → x ≡ partsOf (tableOf s) p b → y ≡ fitWith x M → y ≡ ownAnswer s p b M
+    pub own-fit : b ≤ maxGap → {x : Parts} {y : Fitted} → x ≡ partsOf (tableOf s) p b maxQuota → y ≡ fitWith x M → y ≡ ownAnswer s p b M
     unfolding ownAnswer tryPass tryFrom tryAt
     own-fit g e d = rw (h, le-ltb maxGap b g, ← fit-of (tableOf s) p b M (least-in-range s), ← e) d
 

@@ -26,13 +26,13 @@ use Rattle.useful_limit.proofs.InRange.{top-in-range, stretch-same, cov
 
 module _ (T : Table) (p b M : ℕ) (r : InRange T (leastQuota T)) where
   abbrev x : Parts
-  x = partsOf T p b
+  x = partsOf T p b maxQuota
 
-  need-of : (K : ℕ) → InRange T K → needWith (partsOf T p b) K ≡ usefulLimit T p K b
+  need-of : (K : ℕ) → InRange T K → needWith (partsOf T p b maxQuota) K ≡ usefulLimit T p K b
   unfolding needWith usefulLimit covered
   need-of K k = rw (stretch-same T K maxQuota k (top-in-range T (leastQuota T) r), limit-cost T p K b)
 
-  unruled-of : unruledWith (partsOf T p b) ≡ unruled T p
+  unruled-of : unruledWith (partsOf T p b maxQuota) ≡ unruled T p
   unfolding unruledWith usefulLimit covered
   unruled-of = omega arith
 
@@ -40,7 +40,7 @@ module _ (T : Table) (p b M : ℕ) (r : InRange T (leastQuota T)) where
   pick-short true K L = refl
   pick-short false K L = refl
 
-  short-of : shortWith (partsOf T p b) ≡ shortOf T p b (leastNeed T p b)
+  short-of : shortWith (partsOf T p b maxQuota) ≡ shortOf T p b (leastNeed T p b)
   unfolding shortWith leastNeed coverQuota
   short-of = rw (need-of (leastQuota T) r) (go (leb (max (leastQuota T) (stretchOf T maxQuota)) maxQuota) refl)
     where
@@ -48,14 +48,14 @@ module _ (T : Table) (p b M : ℕ) (r : InRange T (leastQuota T)) where
       c = max (leastQuota T) (stretchOf T maxQuota)
 
       go : (q : Bool) → leb c maxQuota ≡ q
-          → pick (q && ltb (needWith (partsOf T p b) c) (usefulLimit T p (leastQuota T) b)) (shortAt (partsOf T p b) c) (shortOf T p b (leastQuota T))
+          → pick (q && ltb (needWith (partsOf T p b maxQuota) c) (usefulLimit T p (leastQuota T) b)) (shortAt (partsOf T p b maxQuota) c) (shortOf T p b (leastQuota T))
           ≡ shortOf T p b (pick (q && ltb (usefulLimit T p c b) (usefulLimit T p (leastQuota T) b)) c (leastQuota T))
       go false e = refl
       go true e =
           rw (need-of c (record { low = omega arith; high = leb-true c maxQuota e }))
           (pick-short (ltb (usefulLimit T p c b) (usefulLimit T p (leastQuota T) b)) c (leastQuota T))
 
-  pub fit-of : fitWith (partsOf T p b) M ≡ ownFit T p b M
+  pub fit-of : fitWith (partsOf T p b maxQuota) M ≡ ownFit T p b M
   unfolding fitWith ownFit noFit largestFit noQuota mostQuota
   fit-of = rw (unruled-of, short-of) (go (leb (unruled T p) M) refl (eqb b 0) refl (ltb M (S1 T)) refl (ltb k (leastQuota T)) refl)
     where
@@ -70,7 +70,7 @@ module _ (T : Table) (p b M : ℕ) (r : InRange T (leastQuota T)) where
       test false e = lt-ltb M (unruled T p) (leb-false (unruled T p) M e)
 
       go : (q : Bool) → leb (unruled T p) M ≡ q → (f : Bool) → eqb b 0 ≡ f → (g : Bool) → ltb M (S1 T) ≡ g → (h : Bool) → ltb k (leastQuota T) ≡ h
-          → pick q (fitsAt (partsOf T p b) maxQuota) (pick (f || (g || h)) (shortOf T p b (leastNeed T p b)) (fitsAt (partsOf T p b) k))
+          → pick q (fitsAt (partsOf T p b maxQuota) maxQuota) (pick (f || (g || h)) (shortOf T p b (leastNeed T p b)) (fitsAt (partsOf T p b maxQuota) k))
           ≡ pick (ltb M (unruled T p) && (f || (g || h))) (shortOf T p b (leastNeed T p b)) (fitsWith T p b (pick q maxQuota k))
       go true e f ef g eg h eh = rw (test true e, need-of maxQuota (top-in-range T (leastQuota T) r))
       go false e true ef g eg h eh = rw (test false e)

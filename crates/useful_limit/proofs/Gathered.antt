@@ -22,12 +22,12 @@ use Rattle.facts.proofs.Accepted.{kept, shallow}
 use Rattle.order.proofs.Lawful.{Lawful, lawful}
 use Rattle.schedule.specs.Begin.{maxQuota}
 use Rattle.peaks.specs.Peak.{peakOn, workersPeak}
-use Rattle.peaks.specs.Rests.{restingPeak}
+use Rattle.peaks.specs.Rests.{restingPeak, parallelPeak}
 use Rattle.peaks.specs.Rests.{stretch as stretchOf}
 use Rattle.peaks.proofs.PeakSizes.{peak-bound}
 use Rattle.peaks.proofs.OneWorker.{one-worker}
 use Rattle.peak_walk.specs.declared.Peaked.the-variants.{Given, Refused}
-use Rattle.peak_walk.specs.Peaked.{standing, peaked}
+use Rattle.peak_walk.specs.Peaked.{standing, peaked, paralleled}
 use Rattle.peak_walk.specs.Along.{sinceRest, riseAlong}
 use Rattle.peak_walk.proofs.RiseAlong.{since-small, rise-along}
 use Rattle.quota.specs.Quota.{leastQuota, costOf, maxGap}
@@ -72,6 +72,18 @@ module _ (s : List ℕ) (rules : Rules s) where
       let d : Refused x ≡ Given (peakOn T (standing T resting) 0 load) = rw (passes-rules s .1 rules, le-ltb 16 load h) at e in
       no-way (cc)
 
+  pub parallel-given : {v : ℕ} → Given v ≡ paralleled s → v ≡ parallelPeak (tableOf s)
+  unfolding paralleled
+  parallel-given {v} e =
+      let d : Given v ≡ Given (parallelPeak T) = rw (passes-rules s .1 rules) at e in
+      cc
+
+  pub parallel-refused : {x : Refusal} → Refused x ≡ paralleled s → ⊥
+  unfolding paralleled
+  parallel-refused {x} e =
+      let d : Refused x ≡ Given (parallelPeak T) = rw (passes-rules s .1 rules) at e in
+      no-way (cc)
+
   pub resting-is : (p : ℕ) {x y : ℕ} → x ≡ peakOn (tableOf s) (standing (tableOf s) true) 0 (p - 1) → y ≡ riseAlong (tableOf s) → x + p * y ≡ restingPeak (tableOf s) p
   unfolding restingPeak
   resting-is p e d = rw (e, d, rise-along T l)
@@ -82,9 +94,9 @@ module _ (s : List ℕ) (rules : Rules s) where
       let m : p * y ≤ 16 * 137438945280 = mul-le-mul h u in
       (omega (arith, m), omega (arith, m, e, peak-small (standing T true) (p - 1)))
 
-  pub sums-of : (p b : ℕ) → p ≤ 16 → b ≤ maxGap → Sums (partsOf (tableOf s) p b)
+  pub sums-of : (p b K : ℕ) → p ≤ 16 → b ≤ maxGap → Sums (partsOf (tableOf s) p b K)
   unfolding costOf
-  sums-of p b h g =
+  sums-of p b K h g =
       let few : p - 1 ≤ 15 = omega arith in
       let deep : D T - 1 ≤ 8191 = omega (arith, shallow (kept s (passes-rules s .1 rules) refl refl)) in
       record {
@@ -92,17 +104,17 @@ module _ (s : List ℕ) (rules : Rules s) where
         low = least-in-range s .high;
       }
 
-module _ {s : List ℕ} {f : Facts} (a : Accepted s f) (p b : ℕ) where
+module _ {s : List ℕ} {f : Facts} (a : Accepted s f) (p b K : ℕ) where
   -- put together
   pub parts-are : {cost peak resting stretch least : ℕ}
       → cost ≡ b * (p - 1) * (f .depth - 1)
       → peak ≡ peakOn (tableOf s) (standing (tableOf s) false) 0 (p - 1)
       → resting ≡ restingPeak (tableOf s) p
-      → stretch ≡ stretchOf (tableOf s) maxQuota
+      → stretch ≡ stretchOf (tableOf s) K
       → least ≡ leastQuota (tableOf s)
-      → record { serial = f .peak; cost = cost; free = eqb b 0; peak = peak; resting = resting; stretch = stretch; least = least } ≡ partsOf (tableOf s) p b
+      → record { serial = f .peak; cost = cost; free = eqb b 0; peak = peak; resting = resting; stretch = stretch; least = least } ≡ partsOf (tableOf s) p b K
   unfolding costOf workersPeak
   parts-are e₁ e₂ e₃ e₄ e₅ = rw (e₁, e₂, e₃, e₄, e₅, peak-is a, depth-is a)
 
-  pub both : {x : Parts} → p ≤ 16 → b ≤ maxGap → x ≡ partsOf (tableOf s) p b → (x ≡ partsOf (tableOf s) p b) × Sums x
-  both h g e = (e, rw e (sums-of s (a .rules) p b h g))
+  pub both : {x : Parts} → p ≤ 16 → b ≤ maxGap → x ≡ partsOf (tableOf s) p b K → (x ≡ partsOf (tableOf s) p b K) × Sums x
+  both h g e = (e, rw e (sums-of s (a .rules) p b K h g))

@@ -5,3 +5,4 @@ pub mod Steps
 pub mod FromParts
 pub mod Gathered
 pub mod Answers
+pub mod LimitAnswers

@@ -1,16 +1,21 @@
 -- What `memlimit` says of any bytes, p, K and b: five numbers of the table that runs.
 use Prim.Native.Nat.{ℕ}
 use mathlib.Core.List.{List, [], _∷_, _++_}
+use mathlib.Core.Bool.{_&&_}
+use lib.ListN.{length}
 use lib.Dec.{ltb}
+use Rattle.table.specs.Sum.{pick, anyBelow}
 use Rattle.table.specs.Format.{Table, tableOf}
-use Rattle.table.specs.Pass.{Check, Pass, firstFound}
+use Rattle.table.specs.Pass.{Check, Pass, refusal, firstFound}
 use Rattle.table.specs.Checks.{outside, passes}
 use Rattle.table.specs.Serial.{S1}
 use Rattle.table.specs.declared.Found.{Found}
 use Rattle.table.specs.declared.Found.the-variants.{Nothing, At}
 use Rattle.schedule.specs.Record.{maxWorkers}
 use Rattle.schedule.specs.Begin.{maxQuota}
-use Rattle.filling.specs.Filled.{filledOut, fillPass}
+use Rattle.order.specs.Words.{isNothing}
+use Rattle.filling.specs.Filled.{big, filledOut, fillPass}
+use Rattle.filling.specs.Filling.{filledInto}
 use Rattle.peaks.specs.Peak.{workersPeak}
 use Rattle.peaks.specs.Rests.{stretch as stretchOf, usefulLimit, parallelPeak}
 use Rattle.quota.specs.Quota.{maxGap}
@@ -49,3 +54,17 @@ limitsAs (At r) x = Refused r
 -- "of the table that runs": filled out for K
 unfoldable pub limits : List ℕ → ℕ → ℕ → ℕ → Limits
 limits s p K b = limitsAs (firstFound (limitPasses s p K b)) (numbersOf (tableOf (filledOut s K)) p K b)
+
+-- ---- in lent memory
+
+-- how many bytes the filled-out table takes, 0 where the table as given runs
+abbrev pub roomFor : List ℕ → ℕ → ℕ
+roomFor s K = pick (anyBelow (big (tableOf s) K) (tableOf s .actions)) (length (filledOut s K)) 0
+
+-- 61, after 44: too little room is lent for the filled-out table
+unfoldable pub limitsIn : List ℕ → ℕ → ℕ → ℕ → ℕ → Limits
+limitsIn s p K b room = pick (isNothing (firstFound (limitPasses s p K b)) && ltb room (roomFor s K)) (Refused (refusal 61 0)) (limits s p K b)
+
+-- the lent buffer after it: as it was where a check applies
+abbrev pub limitsInto : List ℕ → ℕ → ℕ → ℕ → List ℕ → List ℕ
+limitsInto s p K b out = pick (isNothing (firstFound (limitPasses s p K b))) (filledInto s K out) out

@@ -36,7 +36,7 @@ fn rested_need(x: Parts, quota: u32) -> u64
 }
 
 // The useful limit with a quota in the range.
-fn need(x: Parts, quota: u32) -> u64
+pub(crate) fn need(x: Parts, quota: u32) -> u64
     requires { ⌜ Sums x × (quota ≤ 16777215) ⌝ }
     ensures { λ r. ⌜ r ≡ needWith x quota ⌝ }
 {

@@ -1,19 +1,28 @@
-// The line of `fitquota`: its input taken apart, and its answer put as text.
+// The lines of `fitquota` and `memlimit`: their input taken apart, and their answer put as text.
 use crate::Fitted;
+use crate::Limits;
+use crate::Numbers;
 use crate::fit_in;
+use crate::limit_in;
 use crate::refuse;
+use lines::put_answer;
 use quota::line::gap_in;
 use quota::line::memory_in;
 use table::Loaded;
+use table::Refusal;
 use table::read::byte;
+use table::read::word;
 use text::put_labelled;
 use text::put_word;
 ghost use mathlib.Core.Path.{_≡_};
 ghost use Prim.Native.Nat.{_≤_};
 ghost use mathlib.Core.List.{_++_};
 ghost use lib.ListN.{length, drop};
+ghost use Rattle.table.specs.Format.{u24At, u32At};
+ghost use Rattle.table.specs.Sum.{Read};
+ghost use Rattle.useful_limit.specs.Limits.{limits};
 ghost use Rattle.useful_limit.specs.Fit.{fitted};
-ghost use Rattle.useful_limit.specs.Line.{fittedTo, fitsLine, shortLine, fittedLine};
+ghost use Rattle.useful_limit.specs.Line.{limitsTo, numbersLine, limitsLine, fittedTo, fitsLine, shortLine, fittedLine};
 
 // In working memory of its own.
 fn fit_whole(table: &[u8], p: u8, b: u32, memory: u64) -> Fitted
@@ -84,5 +93,96 @@ pub(crate) fn answer_line(answer: Fitted, out: &mut [u8; 80]) -> usize
         Fitted::Fits { quota, memory } => fits_line(quota, memory, out),
         Fitted::Short { quota, memory } => short_line(quota, memory, out),
         Fitted::Refused(refusal) => text::table_line(Loaded::Refused(refusal), out),
+    }
+}
+
+// ---- memlimit
+
+// In working memory of its own.
+fn limit_whole(table: &[u8], p: u8, quota: u32, b: u32) -> Limits
+    ensures { λ r. ⌜ r ≡ limits (now (table .entry)) p quota b ⌝ }
+{
+    let mut filled = [0u8; 36868];
+    let mut rises = [0u64; 1024];
+    let mut falls = [0u64; 1024];
+    let mut serials = [0u64; 1024];
+    let mut depths = [0u16; 1024];
+    let mut peaks = [0u64; 17408];
+    let mut rows = [0u64; 17408];
+    limit_in(
+        table,
+        p,
+        quota,
+        b,
+        &mut filled,
+        &mut rises,
+        &mut falls,
+        &mut serials,
+        &mut depths,
+        &mut peaks,
+        &mut rows,
+    )
+}
+
+fn wide(x: u8) -> usize
+    ensures { λ r. ⌜ Read x 256 r ⌝ }
+{
+    x as usize
+}
+
+// K, 24 bits.
+fn limit_quota_in(input: &[u8]) -> u32
+    ensures { λ r. ⌜ r ≡ u24At (now (input .entry)) 1 ⌝ }
+{
+    (word(input, 1) + 65536 * wide(byte(input, 3))) as u32
+}
+
+// b, 32 bits.
+fn limit_gap_in(input: &[u8]) -> u32
+    ensures { λ r. ⌜ r ≡ u32At (now (input .entry)) 4 ⌝ }
+{
+    (word(input, 4) + 65536 * word(input, 6)) as u32
+}
+
+// Check 33, and the answer where it does not apply.
+pub(crate) fn limit_to(input: &[u8]) -> Limits
+    ensures { λ r. ⌜ r ≡ limitsTo (now (input .entry)) ⌝ }
+{
+    if input.len() < 8 {
+        return Limits::Refused(Refusal {
+            number: 33,
+            place: 0,
+        });
+    }
+    limit_whole(
+        &input[8..],
+        byte(input, 0),
+        limit_quota_in(input),
+        limit_gap_in(input),
+    )
+}
+
+fn numbers_line(x: Numbers, out: &mut [u8; 160]) -> usize
+    ensures { λ r. ⌜ r ≡ length (numbersLine x) ⌝ }
+    ensures { λ r. ⌜ now (out .exit) ≡ numbersLine x ++ drop r (now (out .entry)) ⌝ }
+    ensures { λ r. ⌜ r ≤ 160 ⌝ }
+{
+    let at = put_labelled(out, 0, b"memory ", x.memory);
+    let at = put_labelled(out, at, b" serial ", x.serial);
+    let at = put_labelled(out, at, b" peak ", x.peak);
+    let at = put_labelled(out, at, b" parallel ", x.parallel);
+    let at = put_labelled(out, at, b" stretch ", x.stretch);
+    put_word(out, at, b"\n")
+}
+
+// The line of an answer, and its length.
+pub(crate) fn limits_line(answer: Limits, out: &mut [u8; 160]) -> usize
+    ensures { λ r. ⌜ r ≡ length (limitsLine answer) ⌝ }
+    ensures { λ r. ⌜ now (out .exit) ≡ limitsLine answer ++ drop r (now (out .entry)) ⌝ }
+    ensures { λ r. ⌜ r ≤ 160 ⌝ }
+{
+    match answer {
+        Limits::Given(x) => numbers_line(x, out),
+        Limits::Refused(refusal) => put_answer(out, 0, Loaded::Refused(refusal)),
     }
 }

@@ -50,7 +50,7 @@ unread g h Nothing r x y = h r x y
 unread g h (At q) r x y = h q x y
 
 -- what a call hands on in place of p
-as-handed : {A : Type 0} (v : ℕ → A) → ((p : ℕ) → 17 ≤ p → v 17 ≡ v p) → (p : ℕ) → v (min p 17) ≡ v p
+pub as-handed : {A : Type 0} (v : ℕ → A) → ((p : ℕ) → 17 ≤ p → v 17 ≡ v p) → (p : ℕ) → v (min p 17) ≡ v p
 as-handed v as-17 p =
     by-cases (decLt p 17)
     (λ (h : p < 17). ap v (min-eq-left (omega arith)))

@@ -1,5 +1,6 @@
 -- What the proofs of the calls use.
 mod Answers
+mod UsefulRows
 mod Cases
 mod Begins
 pub mod Rooms

@@ -5,6 +5,11 @@ use mathlib.Core.List.{List, [], _∷_}
 use Rattle.table.specs.Load.{TableValues}
 use Rattle.quota.specs.Quota.{QuotaValues}
 use Rattle.most.specs.Most.{MostValues}
+use Rattle.useful_limit.specs.declared.Limits.{Limits}
+use Rattle.useful_limit.specs.declared.Limits.the-variants.{Given}
+use Rattle.useful_limit.specs.declared.Limits.the-variants.{Refused as NoLimits}
+use Rattle.useful_limit.specs.declared.Fitted.{Fitted}
+use Rattle.useful_limit.specs.declared.Fitted.the-variants.{Fits, Short, Refused}
 
 -- of a table: the place, n, m, S1, D and N
 abbrev pub factsRow : TableValues → List ℕ
@@ -17,3 +22,23 @@ quotaRow v = v .place ∷ v .quota ∷ []
 -- of a limit of turns: the place and L
 abbrev pub mostRow : MostValues → List ℕ
 mostRow v = v .place ∷ v .limit ∷ []
+
+-- of the useful limit: the place, the limit, S1, S_p, the parallel peak and the largest draw of a stretch
+abbrev pub limitNumber : Limits → ℕ
+limitNumber (Given x) = 0
+limitNumber (NoLimits r) = r .number
+
+abbrev pub limitRow : Limits → List ℕ
+limitRow (Given x) = 0 ∷ x .memory ∷ x .serial ∷ x .peak ∷ x .parallel ∷ x .stretch ∷ []
+limitRow (NoLimits r) = r .place ∷ 0 ∷ 0 ∷ 0 ∷ 0 ∷ 0 ∷ []
+
+-- of the quota that fits: the place, 1 if one fits, the quota and the memory that it needs
+abbrev pub fitNumber : Fitted → ℕ
+fitNumber (Fits K X) = 0
+fitNumber (Short K X) = 0
+fitNumber (Refused r) = r .number
+
+abbrev pub fitRow : Fitted → List ℕ
+fitRow (Fits K X) = 0 ∷ 1 ∷ K ∷ X ∷ []
+fitRow (Short K X) = 0 ∷ 0 ∷ K ∷ X ∷ []
+fitRow (Refused r) = r .place ∷ 0 ∷ 0 ∷ 0 ∷ []

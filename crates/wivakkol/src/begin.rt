@@ -1,6 +1,6 @@
 // Beginning a run in lent memory.
-use crate::workers;
 use links::NO_THREAD;
+use run_memory::lent::workers;
 use schedule::statuses::READY;
 use soundness::accept_in;
 use table::Found;

@@ -2,9 +2,9 @@
 // its values into the lent row; every number of the row is written, so that nothing of what was there before is left. The single turn is crate single's. include/wivakkol.h has the prototypes.
 use quota::Quoted;
 use quota::largest_quota_in;
+use run_memory::lent::workers;
 use table::Loaded;
 ghost use mathlib.Core.Path.{_≡_};
-ghost use Prim.Native.Nat.{min};
 ghost use lib.ListN.{replicate};
 ghost use Rattle.table.specs.Load.{tableValues};
 ghost use Rattle.quota.specs.Quota.{valuesFor};
@@ -17,10 +17,13 @@ mod line;
 pub mod open;
 mod preview;
 pub mod runs;
+mod useful;
 
 pub use limit::wivakkol_most_on;
 pub use line::wivakkol_chart_on;
 pub use preview::wivakkol_preview_on;
+pub use useful::wivakkol_fit_on;
+pub use useful::wivakkol_limit_on;
 
 // A table's facts n, m, S1, D and N, or the check that refuses it. The working memory of these two calls may hold anything, and is left cleared.
 #[no_mangle]
@@ -85,11 +88,4 @@ pub extern "C" fn wivakkol_quota_on(
             r.number as u32
         }
     }
-}
-
-// p in a byte. C would cut a number above 255 to its low byte, and 258 would be taken for 2: p is taken with 32 bits, and 17 stands for all that are too large.
-pub(crate) fn workers(p: u32) -> u8
-    ensures { λ r. ⌜ r ≡ min p 17 ⌝ }
-{
-    if p < 17 { p as u8 } else { 17 }
 }

@@ -1,7 +1,7 @@
 // The limit of turns for a run in rounds (N8).
-use crate::workers;
 use most::Most;
 use most::most_turns_in;
+use run_memory::lent::workers;
 ghost use mathlib.Core.Path.{_≡_};
 ghost use lib.ListN.{replicate};
 ghost use Rattle.most.specs.Most.{mostValuesFor};

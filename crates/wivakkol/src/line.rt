@@ -1,10 +1,10 @@
 // A run's line of the wall chart, from the memory lent.
 use crate::open::NEITHER;
 use crate::open::standing_lent;
-use crate::open::workers_at;
-use crate::workers;
 use chart::MOST_TURNS;
 use chart::put_line;
+use run_memory::lent::workers;
+use run_memory::lent::workers_at;
 ghost use mathlib.Core.Path.{_≡_};
 ghost use mathlib.Core.List.{List};
 ghost use Prim.Native.Nat.{ℕ};

@@ -1,19 +1,19 @@
 // Opening a run that stands in lent memory: check 32, once, and what speeds its turns up.
-use crate::workers;
 use links::fill_actives;
-use schedule::Worker;
+use run_memory::lent::truths_right;
+use run_memory::lent::workers;
+use run_memory::lent::workers_at;
 use soundness::blank_in;
 use soundness::test_in;
 ghost use mathlib.Core.Path.{_≡_};
 ghost use mathlib.Core.List.{List};
-ghost use Prim.Native.Nat.{ℕ, _<_};
+ghost use Prim.Native.Nat.{ℕ};
 ghost use lib.ListN.{replicate};
 ghost use lib.Dec.{eqb};
 ghost use Rattle.table.specs.Format.{tableOf};
 ghost use Rattle.soundness.specs.Tested.{parentsIf};
 ghost use Rattle.array_machine.specs.Arrays.{arrays};
-ghost use Rattle.run_memory.specs.Memory.{memory, workerFrom, answer};
-ghost use Rattle.run_memory.specs.Stands.{truths, workersFrom};
+ghost use Rattle.run_memory.specs.Memory.{memory, answer};
 ghost use Rattle.wivakkol.specs.Opened.{soundIn, blankIn, lentOpen};
 ghost use Rattle.wivakkol.specs.Code.Standing.{standing};
 
@@ -23,49 +23,6 @@ const SOUND: u8 = 1;
 const BLANK: u8 = 2;
 
 pub(crate) const NEITHER: u8 = 0;
-
-// Every worker's truth value is 0 or 1.
-fn truths_right(holds: &[u8; 16]) -> bool
-    ensures { λ r. ⌜ r ≡ truths (now (holds .entry)) ⌝ }
-{
-    let mut w = 0;
-    while w < 16 {
-        if 1 < holds[w] {
-            return false;
-        }
-        w += 1;
-    }
-    true
-}
-
-// The record of worker k.
-fn worker_at(holds: &[u8; 16], threads: &[u16; 16], quotas: &[u32; 16], k: usize) -> Worker
-    requires { ⌜ k < 16 ⌝ }
-    ensures { λ r. ⌜ r ≡ workerFrom (now (holds .entry)) (now (threads .entry)) (now (quotas .entry)) k ⌝ }
-{
-    Worker {
-        holds: holds[k] != 0,
-        thread: threads[k],
-        quota: quotas[k],
-    }
-}
-
-// The workers' records.
-pub(crate) fn workers_at(holds: &[u8; 16], threads: &[u16; 16], quotas: &[u32; 16]) -> [Worker; 16]
-    ensures { λ r. ⌜ r ≡ workersFrom (now (holds .entry)) (now (threads .entry)) (now (quotas .entry)) 0 16 ⌝ }
-{
-    let mut records = [Worker {
-        holds: false,
-        thread: 0,
-        quota: 0,
-    }; 16];
-    let mut w = 0;
-    while w < 16 {
-        records[w] = worker_at(holds, threads, quotas, w);
-        w += 1;
-    }
-    records
-}
 
 // Whether the record that stands in the memory is sound. Each thread's parent is then in `seen`, else 0; the other working memory is left cleared.
 fn sound_lent(

@@ -5,6 +5,7 @@ use run_memory::copies::copy_row;
 use run_memory::copies::row_out;
 use run_memory::copies::statuses_out;
 use run_memory::copies::workers_out;
+use run_memory::lent::workers;
 use run_memory::places::BUSY;
 use run_memory::places::FIRST;
 use run_memory::places::HELD;
@@ -26,7 +27,6 @@ use run_memory::places::total_at;
 use soundness::blank_in;
 use soundness::test_in;
 ghost use mathlib.Core.Path.{_≡_};
-ghost use Prim.Native.Nat.{min};
 ghost use lib.Dec.{eqb};
 ghost use lib.ListN.{replicate};
 ghost use Rattle.table.specs.Format.{tableOf};
@@ -45,13 +45,6 @@ const SOUND: u8 = 1;
 const BLANK: u8 = 2;
 
 const NEITHER: u8 = 0;
-
-// p in a byte: 17 stands for all that are too large.
-fn workers(p: u32) -> u8
-    ensures { λ r. ⌜ r ≡ min p 17 ⌝ }
-{
-    if p < 17 { p as u8 } else { 17 }
-}
 
 // Every worker's truth value is 0 or 1.
 fn truths_right(bytes: &[u8; 1040]) -> bool

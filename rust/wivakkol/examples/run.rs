@@ -18,7 +18,10 @@ fn main() -> Result<(), Box<dyn Error>> {
         match run.turn(worker)?.reply {
             Reply::Idle => println!("{worker} idle"),
             // Here a board would do the action.
-            Reply::Done { thread, action } => println!("{worker} thread {thread} action {action}, {} held", run.held()),
+            Reply::Done { thread, action } => {
+                let what = run.action(action).expect("a turn names an action of its table");
+                println!("{worker} thread {thread} action {action}, {what:?}, {} held", run.held());
+            }
             Reply::Quota { thread, wanted } => println!("{worker} thread {thread} given up: {wanted} is above the quota left"),
             Reply::Wait { thread, child } => println!("{worker} thread {thread} waits for {child}"),
         }

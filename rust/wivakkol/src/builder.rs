@@ -2,7 +2,7 @@
 use crate::{check, Facts, Place, Refusal, TablesWork, TABLE_MOST};
 use core::fmt;
 
-const THREADS: usize = 1024;
+const THREADS: usize = crate::MOST_THREADS;
 const ACTIONS: usize = 8192;
 const AMOUNT_MOST: u32 = 0xff_ffff;
 /// No child, since it is no thread's number.

@@ -1,7 +1,9 @@
-//! AsyncDF for job tables: a scheduler whose memory is bounded beforehand, for every order in which its workers take their turns. The calls are proved; this crate calls them in the archives
-//! `libwivakkol_turn.a`, `libwivakkol.a`, `libwivakkol_tables.a` and `libwivakkol_marks.a`, which `rt staticlib wivakkol_turn` and so on write, and gives their numbers types. It has no heap, no
-//! state and no dependencies. docs/REFERENCE.md of the repository says what a table is, what a turn does and which bounds hold. The features `tables` and `marks` are on by default: without the
-//! first, [`join`], [`canonical`] and [`compare`] are left out, and the third archive is not needed; without the second, [`Marks`] and the fourth.
+//! AsyncDF for job tables: a scheduler whose memory is bounded beforehand, for every order in which its workers take their turns; and DFDeques, whose workers have deques of their own. The calls
+//! are proved; this crate calls them in the archives `libwivakkol_turn.a`, `libwivakkol.a`, `libwivakkol_tables.a`, `libwivakkol_marks.a`, `libwivakkol_deque_turn.a`, `libwivakkol_deques.a` and
+//! `libwivakkol_desk.a`, which `rt staticlib wivakkol_turn` and so on write, and gives their numbers types. It has no heap, no state and no dependencies. docs/REFERENCE.md of the repository says
+//! what a table is, what a turn does and which bounds hold. The features `tables`, `marks`, `deques` and `desk` are on by default: without the first, [`join`], [`canonical`] and [`compare`] are left
+//! out, and the third archive is not needed; without the second, [`Marks`] and the fourth; without the third, [`DequeRun`] and the next two; without the fourth, [`assemble`] and [`disassemble`] and
+//! the last.
 //!
 //! ```
 //! use wivakkol::{Memory, Report, Run, TablesWork, Work};
@@ -16,9 +18,9 @@
 //! ```
 //!
 //! What C has to keep to by itself is kept here by types: sizes, alignment, what overlaps what, one call at a time, and the same unchanged table for every call on a run. One thing is not: the
-//! stack. From C the calls behind [`check`], [`largest_quota`] and [`most_turns`] took up to 1,512 bytes of it, [`Run::begin`] 3,672, [`Run::open`] 6,136, [`Run::wall_line`] 6,440, a single
-//! turn 112, the others under 310; [`canonical`] and [`compare`] up to 1,368, [`join`] up to 1,544; [`Run::mark`] and [`Run::back`] up to 5,432. That the declarations fit the archives is tested
-//! and not proved.
+//! stack. From C the calls behind [`check`], [`largest_quota`] and [`most_turns`] took up to 1,512 bytes of it, [`limit`] and [`fit`] 2,120, [`Run::begin`] 3,848, [`Run::open`] 6,136,
+//! [`Run::wall_line`] 6,440, a single turn 112, the others under 310; [`canonical`] and [`compare`] up to 1,368, [`join`] up to 1,544; [`Run::mark`] and [`Run::back`] up to 5,432;
+//! [`DequeRun::turn`] 160, [`DequeRun::list`] 192, [`DequeRun::open`] 8,144; [`assemble`] up to 1,544, [`disassemble`] up to 3,464. That the declarations fit the archives is tested and not proved.
 #![no_std]
 #![deny(unsafe_op_in_unsafe_fn)]
 
@@ -26,6 +28,11 @@
 compile_error!("the archive is built for x86-64 alone");
 
 mod builder;
+#[cfg(feature = "deques")]
+mod deques;
+#[cfg(feature = "desk")]
+mod desk;
+mod limits;
 #[cfg(feature = "marks")]
 mod marks;
 mod memory;
@@ -36,9 +43,14 @@ mod run;
 mod tables;
 
 pub use builder::{Builder, NotBuilt, Thread};
+#[cfg(feature = "deques")]
+pub use deques::{Deque, DequeRun};
+#[cfg(feature = "desk")]
+pub use desk::{assemble, disassemble, Expected, NotAssembled, NotListed, Unseen, TEXT_LONGEST, TEXT_MOST};
+pub use limits::{fit, limit, Fit, Limits};
 #[cfg(feature = "marks")]
 pub use marks::{Marks, MarksWork};
-pub use memory::{Memory, TablesWork, Work};
+pub use memory::{LimitWork, Memory, TablesWork, Work};
 pub use refusal::{Place, Refusal};
 pub use run::{Preview, RefusedMemory, Reply, Report, Run, Status, Stopped, Turn};
 #[cfg(feature = "tables")]
@@ -46,6 +58,12 @@ pub use tables::{canonical, compare, join, RefusedJoin, RefusedTable};
 
 /// The longest table that is accepted, in bytes: 1,024 threads and 8,192 actions. A longer input may be handed over, and is refused.
 pub const TABLE_MOST: usize = 36868;
+
+/// The most threads of a table.
+pub const MOST_THREADS: usize = 1024;
+
+/// The most workers of a run.
+pub const MOST_WORKERS: usize = 16;
 
 /// A table's facts.
 #[derive(Clone, Copy, Debug, PartialEq, Eq, Hash)]
@@ -60,6 +78,40 @@ pub struct Facts {
     pub depth: u16,
     /// N, the nested thread levels.
     pub nested: u16,
+}
+
+/// What an action of a table is, with its argument.
+#[derive(Clone, Copy, Debug, PartialEq, Eq, Hash)]
+pub enum Action {
+    End,
+    Work,
+    Alloc { amount: u32 },
+    Free { amount: u32 },
+    Fork { child: u16 },
+    Join { child: u16 },
+}
+
+/// Action `a` of a table; `None` where it has no such action. In bytes that [`check`] refuses, what is none of the six kinds, or names a child above 16 bits, is no action either.
+///
+/// ```
+/// use wivakkol::{action, Action};
+///
+/// let table = include_bytes!("../../../examples/e.table");
+/// assert_eq!(action(table, 5), Some(Action::Alloc { amount: 6 }));
+/// assert_eq!(action(table, 12), None);
+/// ```
+pub fn action(table: &[u8], a: u64) -> Option<Action> {
+    // SAFETY: "`table` points to `length` bytes that may be read", since both are of one slice, whose pointer is never NULL; nothing is written.
+    let (kind, argument) = unsafe { (raw::wivakkol_kind(table.as_ptr(), table.len(), a), raw::wivakkol_argument(table.as_ptr(), table.len(), a)) };
+    Some(match kind {
+        0 => Action::End,
+        1 => Action::Work,
+        2 => Action::Alloc { amount: argument },
+        3 => Action::Free { amount: argument },
+        4 => Action::Fork { child: u16::try_from(argument).ok()? },
+        5 => Action::Join { child: u16::try_from(argument).ok()? },
+        _ => return None,
+    })
 }
 
 /// Is this a job table, and what are its facts? Refused with 1 to 11.

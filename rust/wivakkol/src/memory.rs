@@ -2,7 +2,8 @@
 use crate::raw;
 
 /// The memory that a run stands in: 21,656 bytes of plain numbers, laid out as C's `wivakkol_run`. It may be a local, a field, a static or in a box; nothing here allocates. A run that is put
-/// away is a copy of it, or its bytes; [`Run::open`](crate::Run::open) goes on with it.
+/// away is a copy of it, or its bytes; [`Run::open`](crate::Run::open) goes on with it. It serves both kinds of run and does not say which stands in it: a run by DFDeques is opened as a
+/// `DequeRun`, by its feature `deques`, and as nothing else.
 #[derive(Clone)]
 #[repr(C)]
 pub struct Memory {
@@ -24,12 +25,12 @@ macro_rules! parts {
             )+)+
         }
 
-        struct Parts<'m> {
-            $($($part: &'m mut [$number; $size],)+)+
+        pub(crate) struct Parts<'m> {
+            $($(pub(crate) $part: &'m mut [$number; $size],)+)+
         }
 
         impl Memory {
-            fn parts(&mut self) -> Parts<'_> {
+            pub(crate) fn parts(&mut self) -> Parts<'_> {
                 $(
                     let rest = &mut self.$block[..];
                     $(let ($part, rest) = rest.split_first_chunk_mut().expect("a part lies in its block");)+
@@ -324,6 +325,29 @@ impl Default for TablesWork {
     }
 }
 
+/// Working memory of [`limit`](crate::limit) and [`fit`](crate::fit): 305,152 bytes, all 0 between two calls. One serves any number of tables, one call at a time.
+#[repr(C)]
+pub struct LimitWork {
+    pub(crate) rises: [u64; 1024],
+    pub(crate) falls: [u64; 1024],
+    pub(crate) serials: [u64; 1024],
+    pub(crate) depths: [u16; 1024],
+    pub(crate) peaks: [u64; 17408],
+    pub(crate) rows: [u64; 17408],
+}
+
+impl LimitWork {
+    pub const fn new() -> LimitWork {
+        LimitWork { rises: [0; 1024], falls: [0; 1024], serials: [0; 1024], depths: [0; 1024], peaks: [0; 17408], rows: [0; 17408] }
+    }
+}
+
+impl Default for LimitWork {
+    fn default() -> LimitWork {
+        LimitWork::new()
+    }
+}
+
 impl Default for Memory {
     fn default() -> Memory {
         Memory::new()
@@ -342,4 +366,6 @@ const _: () = {
     assert!(core::mem::align_of::<Work>() == 8);
     assert!(core::mem::size_of::<TablesWork>() == 30720);
     assert!(core::mem::align_of::<TablesWork>() == 8);
+    assert!(core::mem::size_of::<LimitWork>() == 305152);
+    assert!(core::mem::align_of::<LimitWork>() == 8);
 };

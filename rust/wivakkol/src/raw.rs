@@ -1,5 +1,6 @@
-//! The exported functions as the archives have them. An array is a reference to one of its size, so that the types say what include/wivakkol.h, wivakkol_tables.h and wivakkol_marks.h ask of a
-//! row, a block or a part of one: it is not NULL, aligned, of the full size and written before, and what is lent to be written overlaps nothing else. tests/calls/declarations.rs holds them against the source.
+//! The exported functions as the archives have them. An array is a reference to one of its size, so that the types say what include/wivakkol.h, wivakkol_tables.h, wivakkol_marks.h, wivakkol_deques.h and
+//! wivakkol_desk.h ask of a row, a block or a part of one: it is not NULL, aligned, of the full size and written before, and what is lent to be written overlaps nothing else. tests/calls/declarations.rs
+//! holds them against the source.
 
 extern "C" {
     pub fn wivakkol_check_on(
@@ -26,6 +27,38 @@ extern "C" {
     ) -> u32;
 
     pub fn wivakkol_most_on(table: *const u8, length: usize, p: u32, quota: u32, row: &mut [u64; 2], rises: &mut [u64; 1024], falls: &mut [u64; 1024]) -> u32;
+
+    pub fn wivakkol_limit_on(
+        table: *const u8,
+        length: usize,
+        p: u32,
+        quota: u32,
+        b: u32,
+        row: &mut [u64; 6],
+        rises: &mut [u64; 1024],
+        falls: &mut [u64; 1024],
+        serials: &mut [u64; 1024],
+        depths: &mut [u16; 1024],
+        peaks: &mut [u64; 17408],
+        rows: &mut [u64; 17408],
+        filled: *mut u8,
+        room: usize,
+    ) -> u32;
+
+    pub fn wivakkol_fit_on(
+        table: *const u8,
+        length: usize,
+        p: u32,
+        b: u32,
+        memory: u64,
+        row: &mut [u64; 4],
+        rises: &mut [u64; 1024],
+        falls: &mut [u64; 1024],
+        serials: &mut [u64; 1024],
+        depths: &mut [u16; 1024],
+        peaks: &mut [u64; 17408],
+        rows: &mut [u64; 17408],
+    ) -> u32;
 
     pub fn wivakkol_begin_on(
         table: *const u8,
@@ -88,6 +121,10 @@ extern "C" {
         sums: &mut [u64; 1027],
         row: &mut [u64; 5],
     ) -> u32;
+
+    pub fn wivakkol_kind(table: *const u8, length: usize, a: u64) -> u32;
+
+    pub fn wivakkol_argument(table: *const u8, length: usize, a: u64) -> u32;
 
     pub fn wivakkol_list_on(
         table: *const u8,
@@ -247,5 +284,84 @@ extern "C" {
         forks: &mut [u16; 1024],
         seen: &mut [u16; 1024],
         list: &mut [u16; 1024],
+    ) -> u32;
+}
+
+#[cfg(feature = "deques")]
+extern "C" {
+    pub fn wivakkol_deque_turn_on(
+        table: *const u8,
+        length: usize,
+        w: u32,
+        c: u32,
+        bytes: &mut [u8; 1040],
+        words: &mut [u16; 6163],
+        numbers: &mut [u32; 18],
+        sums: &mut [u64; 1027],
+        row: &mut [u64; 5],
+    ) -> u32;
+
+    pub fn wivakkol_deque_list_on(
+        table: *const u8,
+        length: usize,
+        order: *const u8,
+        order_length: usize,
+        bytes: &mut [u8; 1040],
+        words: &mut [u16; 6163],
+        numbers: &mut [u32; 18],
+        sums: &mut [u64; 1027],
+        row: &mut [u64; 3],
+    ) -> u32;
+
+    pub fn wivakkol_deque_open_on(
+        table: *const u8,
+        length: usize,
+        settings: &[u32; 2],
+        parents: &mut [u16; 1024],
+        next: &[u16; 1024],
+        status: &[u8; 1024],
+        amounts: &[u64; 1024],
+        left: &[u16; 1024],
+        right: &[u16; 1024],
+        under: &[u16; 1024],
+        over: &[u16; 1024],
+        holds: &[u8; 16],
+        threads: &[u16; 16],
+        quotas: &[u32; 16],
+        heads: &[u16; 3],
+        totals: &[u64; 3],
+        row: &mut [u64; 1],
+        rises: &mut [u64; 1024],
+        falls: &mut [u64; 1024],
+        forks: &mut [u16; 1024],
+        seen: &mut [u16; 1024],
+        list: &mut [u16; 1024],
+    ) -> u32;
+}
+
+#[cfg(feature = "desk")]
+extern "C" {
+    pub fn wivakkol_assemble_on(
+        text: *const u8,
+        length: usize,
+        out: *mut u8,
+        room: usize,
+        row: &mut [u64; 6],
+        rises: &mut [u64; 1024],
+        falls: &mut [u64; 1024],
+        peaks: &mut [u64; 1024],
+        depths: &mut [u16; 1024],
+    ) -> u32;
+
+    pub fn wivakkol_disassemble_on(
+        table: *const u8,
+        length: usize,
+        out: *mut u8,
+        room: usize,
+        row: &mut [u64; 2],
+        rises: &mut [u64; 1024],
+        falls: &mut [u64; 1024],
+        peaks: &mut [u64; 1024],
+        depths: &mut [u16; 1024],
     ) -> u32;
 }

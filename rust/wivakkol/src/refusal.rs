@@ -1,8 +1,9 @@
 //! Refusals and their texts.
 use core::fmt;
 
-/// The first check that applies, and where: an entry of the contents, an action or a thread, 0 where the check has no place (docs/REFERENCE.md, "Refusals").
-#[derive(Clone, Copy, Debug, PartialEq, Eq, Hash)]
+/// The first check that applies, and where: an entry of the contents, an action or a thread, 0 where the check has no place (docs/REFERENCE.md, "Refusals"). Its `Debug` is its text too, since
+/// that is what a `main` prints that ends with `?`.
+#[derive(Clone, Copy, PartialEq, Eq, Hash)]
 pub struct Refusal {
     pub number: u32,
     pub place: u64,
@@ -63,6 +64,7 @@ impl Refusal {
             46 => "the mark is not set",
             47 => "no part, above 16, or lengths that do not add up to the bytes lent",
             48 => "the joined table passes 1,024 threads or 8,192 actions",
+            49 => "the choice is not below p",
             61 => "too little room for the filled-out table",
             _ => "no number of these calls",
         }
@@ -79,6 +81,12 @@ impl fmt::Display for Refusal {
             Place::Thread => write!(f, " at thread {}", self.place)?,
         }
         write!(f, ": {}", self.meaning())
+    }
+}
+
+impl fmt::Debug for Refusal {
+    fn fmt(&self, f: &mut fmt::Formatter<'_>) -> fmt::Result {
+        fmt::Display::fmt(self, f)
     }
 }
 

@@ -1,24 +1,99 @@
 //! A run: a table and the memory that it stands in, tied to each other.
+use crate::{Action, Memory, Refusal, Work};
 #[cfg(feature = "marks")]
 use crate::{Marks, MarksWork};
-use crate::{Memory, Refusal, Work};
 use core::fmt;
 use core::ops::DerefMut;
 
-/// No thread, in the links of the list.
-const NO_THREAD: u16 = 1024;
-const ENDED: u8 = 4;
+/// No thread, in the links of a list.
+pub(crate) const NO_THREAD: u16 = 1024;
+
+/// What both kinds of run show of the memory that they stand in.
+macro_rules! readers {
+    () => {
+        /// The bytes of the table that runs: those as given, or of the filled-out table.
+        pub fn table(&self) -> &'t [u8] {
+            self.table
+        }
+
+        /// Action `action` of the table that runs, as [`Reply::Done`] names it; `None` where there is none.
+        pub fn action(&self, action: u16) -> Option<$crate::Action> {
+            $crate::action(self.table, u64::from(action))
+        }
+
+        /// The number of workers, p.
+        pub fn workers(&self) -> u32 {
+            self.memory.settings()[0]
+        }
+
+        /// The quota, K.
+        pub fn quota(&self) -> u32 {
+            self.memory.settings()[1]
+        }
+
+        /// Memory held now.
+        pub fn held(&self) -> u64 {
+            self.memory.totals()[0]
+        }
+
+        /// The most memory held so far.
+        pub fn highest(&self) -> u64 {
+            self.memory.totals()[1]
+        }
+
+        /// The turns taken so far.
+        pub fn turns(&self) -> u64 {
+            self.memory.totals()[2]
+        }
+
+        /// Whether the root has ended: the run is over.
+        pub fn ended(&self) -> bool {
+            self.memory.status()[0] == 4
+        }
+
+        /// Where a thread stands; `None` from 1,024 on. Threads that the table does not have are unborn.
+        pub fn status(&self, thread: u16) -> Option<Status> {
+            Some(match self.memory.status().get(usize::from(thread))? {
+                1 => Status::Ready,
+                2 => Status::Held,
+                3 => Status::Waiting,
+                4 => Status::Ended,
+                _ => Status::Unborn,
+            })
+        }
+
+        /// The memory that a thread holds; `None` from 1,024 on.
+        pub fn amount(&self, thread: u16) -> Option<u64> {
+            self.memory.amounts().get(usize::from(thread)).copied()
+        }
+
+        /// A thread's next action; `None` from 1,024 on.
+        pub fn next_action(&self, thread: u16) -> Option<u16> {
+            self.memory.next().get(usize::from(thread)).copied()
+        }
+
+        /// The thread that worker `w` holds and its quota left, if it holds one.
+        pub fn worker(&self, w: u32) -> Option<(u16, u32)> {
+            let w = usize::try_from(w).ok()?;
+            let holds = *self.memory.holds().get(w)? != 0;
+            holds.then(|| (self.memory.threads()[w], self.memory.quotas()[w]))
+        }
+    };
+}
+
+#[cfg(feature = "deques")]
+pub(crate) use readers;
 
 /// What a turn said.
 #[derive(Clone, Copy, Debug, PartialEq, Eq, Hash)]
 pub enum Reply {
-    /// No thread was ready.
+    /// No thread was ready; by DFDeques, there was none to steal at the place chosen.
     Idle,
-    /// The action was done.
+    /// The action was done; [`Run::action`] says what it is.
     Done { thread: u16, action: u16 },
-    /// An alloc was above the quota left: the worker gave its thread up.
+    /// An alloc was above the quota left: the worker gave its thread up; by DFDeques, with its deque.
     Quota { thread: u16, wanted: u32 },
-    /// A join whose child has not ended: the thread waits, and the worker has none.
+    /// A join whose child has not ended: the thread waits, and the worker has none; by DFDeques, it goes on with the top of its deque.
     Wait { thread: u16, child: u16 },
 }
 
@@ -104,8 +179,22 @@ impl<M> core::error::Error for RefusedMemory<M> {}
 /// # Ok::<(), wivakkol::Refusal>(())
 /// ```
 pub struct Run<'t, M = &'t mut Memory> {
-    table: &'t [u8],
-    memory: M,
+    pub(crate) table: &'t [u8],
+    pub(crate) memory: M,
+}
+
+/// The run's figures, without its memory and its table.
+impl<M: DerefMut<Target = Memory>> fmt::Debug for Run<'_, M> {
+    fn fmt(&self, f: &mut fmt::Formatter<'_>) -> fmt::Result {
+        f.debug_struct("Run")
+            .field("workers", &self.workers())
+            .field("quota", &self.quota())
+            .field("turns", &self.turns())
+            .field("held", &self.held())
+            .field("highest", &self.highest())
+            .field("ended", &self.ended())
+            .finish_non_exhaustive()
+    }
 }
 
 impl<'t> Run<'t> {
@@ -174,14 +263,14 @@ impl<'t, M: DerefMut<Target = Memory>> Run<'t, M> {
     pub fn turn(&mut self, w: u32) -> Result<Turn, Refusal> {
         let (number, [place, said, thread, value, passed]) = self.memory.turn(self.table, w);
         Refusal::unless_zero(number, place)?;
-        Ok(turn(said, thread, value, passed))
+        Ok(Turn { reply: reply(said, thread, value), passed: passed as u16 })
     }
 
     /// The turn of worker `w` that [`turn`](Run::turn) would take now, refused as it would be; nothing changes.
     pub fn preview(&self, w: u32) -> Result<Preview, Refusal> {
         let (number, [place, said, thread, value, passed, held, highest, quota]) = self.memory.preview(self.table, w);
         Refusal::unless_zero(number, place)?;
-        Ok(Preview { turn: turn(said, thread, value, passed), held, highest, quota: quota as u32 })
+        Ok(Preview { turn: Turn { reply: reply(said, thread, value), passed: passed as u16 }, held, highest, quota: quota as u32 })
     }
 
     /// The run's line of the wall chart, 84 characters and a newline (N5): turns taken, each worker's thread or a full stop, memory held. Refused with 32 if 2^64 − 1 turns are taken, with 43
@@ -219,40 +308,7 @@ impl<'t, M: DerefMut<Target = Memory>> Run<'t, M> {
         Refusal::unless_zero(self.memory.back(marks, work, self.table, i), 0)
     }
 
-    /// The bytes of the table that runs: those as given, or of the filled-out table.
-    pub fn table(&self) -> &'t [u8] {
-        self.table
-    }
-
-    /// The number of workers, p.
-    pub fn workers(&self) -> u32 {
-        self.memory.settings()[0]
-    }
-
-    /// The quota, K.
-    pub fn quota(&self) -> u32 {
-        self.memory.settings()[1]
-    }
-
-    /// Memory held now.
-    pub fn held(&self) -> u64 {
-        self.memory.totals()[0]
-    }
-
-    /// The most memory held so far.
-    pub fn highest(&self) -> u64 {
-        self.memory.totals()[1]
-    }
-
-    /// The turns taken so far.
-    pub fn turns(&self) -> u64 {
-        self.memory.totals()[2]
-    }
-
-    /// Whether the root has ended: the run is over.
-    pub fn ended(&self) -> bool {
-        self.memory.status()[0] == ENDED
-    }
+    readers!();
 
     /// The list of the threads that are forked and not ended, leftmost first, which is serial order.
     pub fn threads(&self) -> impl Iterator<Item = u16> + '_ {
@@ -262,49 +318,20 @@ impl<'t, M: DerefMut<Target = Memory>> Run<'t, M> {
         let right = self.memory.right();
         core::iter::successors(in_list(first), move |t| in_list(right[usize::from(*t)]))
     }
-
-    /// Where a thread stands; `None` from 1,024 on. Threads that the table does not have are unborn.
-    pub fn status(&self, thread: u16) -> Option<Status> {
-        Some(match self.memory.status().get(usize::from(thread))? {
-            1 => Status::Ready,
-            2 => Status::Held,
-            3 => Status::Waiting,
-            4 => Status::Ended,
-            _ => Status::Unborn,
-        })
-    }
-
-    /// The memory that a thread holds; `None` from 1,024 on.
-    pub fn amount(&self, thread: u16) -> Option<u64> {
-        self.memory.amounts().get(usize::from(thread)).copied()
-    }
-
-    /// A thread's next action; `None` from 1,024 on.
-    pub fn next_action(&self, thread: u16) -> Option<u16> {
-        self.memory.next().get(usize::from(thread)).copied()
-    }
-
-    /// The thread that worker `w` holds and its quota left, if it holds one.
-    pub fn worker(&self, w: u32) -> Option<(u16, u32)> {
-        let w = usize::try_from(w).ok()?;
-        let holds = *self.memory.holds().get(w)? != 0;
-        holds.then(|| (self.memory.threads()[w], self.memory.quotas()[w]))
-    }
 }
 
-fn turn(said: u64, thread: u64, value: u64, passed: u64) -> Turn {
+pub(crate) fn reply(said: u64, thread: u64, value: u64) -> Reply {
     let thread = thread as u16;
-    let reply = match said {
+    match said {
         1 => Reply::Idle,
         2 => Reply::Done { thread, action: value as u16 },
         3 => Reply::Quota { thread, wanted: value as u32 },
         4 => Reply::Wait { thread, child: value as u16 },
         _ => unreachable!("a turn says 1 to 4"),
-    };
-    Turn { reply, passed: passed as u16 }
+    }
 }
 
-fn report((number, [place, said, turns]): (u32, [u64; 3])) -> Result<Report, Stopped> {
+pub(crate) fn report((number, [place, said, turns]): (u32, [u64; 3])) -> Result<Report, Stopped> {
     Refusal::unless_zero(number, place).map_err(|refusal| Stopped { refusal, turns })?;
     match said {
         6 => Ok(Report::Finished { turns }),

@@ -4,6 +4,8 @@ use mathlib.Core.Path.{_≡_}
 use mathlib.Core.List.{List, _∷_}
 use mathlib.Core.Bool.{Bool, true, false}
 use lib.ListN.{length, drop}
+use Rattle.table.specs.Sum.{sumTo}
+use Rattle.table.specs.Format.{threadsOf, actionsOf, tableOf}
 use Rattle.assembly.specs.Words.{noNumber, numberIn}
 use Rattle.assembly.specs.Said.{saids}
 use Rattle.assembly.specs.Assembly.{isThread, isAction, bodyCount, longestText, checked}
@@ -50,3 +52,9 @@ pub record Operand (w : List ℕ) (x : ℕ) : Type 0 where
 pub record After (s : List ℕ) (k r : ℕ) : Type 0 where
   pub rest : drop r s ≡ afterLines k s
   pub within : r ≤ length s
+
+-- the sizes of an accepted table
+pub record Listable (s : List ℕ) : Type 0 where
+  pub threads : threadsOf s ≤ 1024
+  pub actions : actionsOf s ≤ 8192
+  pub counts : sumTo (tableOf s .count) (threadsOf s) ≡ actionsOf s

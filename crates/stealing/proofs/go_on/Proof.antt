@@ -2,6 +2,7 @@
 use mathlib.Core.Path.{_≡_, refl, sym, ap, _∙_}
 use Prim.Native.Nat.{ℕ, _+_, _<_}
 use mathlib.Core.Bool.{Bool, true, _&&_}
+use mathlib.Core.Logic.{⊎-elim}
 use Rattle.table.proofs.Tests.{and-both}
 use native.Mathlib.Omega.{arith}
 use borrow.Author.Tests.{not-true, not-false, ltb-true}
@@ -11,7 +12,8 @@ use Rattle.table.specs.Format.{tableOf}
 use Rattle.array_machine.specs.Turn.{nextFits}
 use Rattle.array_machine.proofs.Leaves.{fits16, fits-and}
 use Rattle.run_memory.specs.Blocks.{bytesIn, wordsIn, numbersIn, sumsIn, memoryOf}
-use Rattle.stealing.proofs.Goes.{codes, arguments, spoke, counted-as, no-thread-read, ends-read, other-read, fork-unfit-read, fork-read, wait-read, join-read}
+use Rattle.run_memory.proofs.Takes.{codes, arguments}
+use Rattle.stealing.proofs.Goes.{spoke, counted-as, no-thread-read, ends-read, other-read, fork-unfit-read, fork-read, wait-read, join-read}
 use borrow.Author.Needs.{needs}
 use Rattle.stealing.proofs.go_on.Statement.{statement}
 use Rattle.stealing.proofs.go_on.Tie as tie
@@ -249,11 +251,8 @@ plain-requires c κs = search needs
 
 returns-6 : tie.Need-returns-6
 returns-6 c =
-    let h = c .before .before .before .before .before in
-    let F = h .before in
-    let A = F .before .before in
-    let g = A .before in
-    let o2 = g .before in
+    let m = c .before .before .before .before .before in
+    let o2 = m .before in
     let o = o2 .before in
     let k = o .before in
     let b = k .before in
@@ -271,33 +270,10 @@ returns-6 c =
     let i = k .code-in .ensures ∙ (λ j. sym C j a) in
     λ v.
     c .plain .ensures
-    ∙ join-read s w v M (d .pre) (x1 .thread-at .ensures) (x2 .row-at .ensures) (e1 .if1 .left) i (A .argument-in2 .ensures .value ∙ (λ j. sym G j a)) (g .if5 .taken) (F .runs-on .ensures) (h .if6 .left)
-
-plain-requires-2 : tie.Need-plain-requires-2
-plain-requires-2 c κs = search needs
-
-returns-7 : tie.Need-returns-7
-returns-7 c =
-    let o3 = c .before .before .before .before .before in
-    let o2 = o3 .before in
-    let o = o2 .before in
-    let k = o .before in
-    let b = k .before in
-    let n = b .before in
-    let x2 = n .before in
-    let e1 = x2 .before .before in
-    let x1 = e1 .before in
-    let d = x1 .before .before .before in
-    let s = now (d .args .table) in
-    let w = d .args .w in
-    let M = memoryOf (now (d .args .bytes)) (now (d .args .words)) (now (d .args .numbers)) (now (d .args .sums)) in
-    let C = codes s (b .bodies .ensures) (n .threads .ensures .value) in
-    let G = arguments s (b .bodies .ensures) (n .threads .ensures .value) in
-    let a = x2 .row-at .result in
-    let i = k .code-in .ensures ∙ (λ j. sym C j a) in
-    λ v.
-    c .plain2 .ensures
-    ∙ other-read s w v M (d .pre) (x1 .thread-at .ensures) (x2 .row-at .ensures) (e1 .if1 .left) i (o .if2 .left) (o2 .if3 .left) (o3 .if5 .left)
+    ∙ ⊎-elim
+    (λ z. join-read s w v M (d .pre) (x1 .thread-at .ensures) (x2 .row-at .ensures) (e1 .if1 .left) i (z .1 .ensures .value ∙ (λ j. sym G j a)) (z .0 .taken) (z .3 .ensures) (z .4 .left))
+    (λ z. other-read s w v M (d .pre) (x1 .thread-at .ensures) (x2 .row-at .ensures) (e1 .if1 .left) i (o .if2 .left) (o2 .if3 .left) (z .left))
+    (m .if5 .came)
 
 pub go-on-spec : {M : Type 1} → statement M
 go-on-spec =
@@ -334,6 +310,4 @@ go-on-spec =
     said-requires-3
     returns-5
     plain-requires
-    returns-6
-    plain-requires-2
-    returns-7)
+    returns-6)

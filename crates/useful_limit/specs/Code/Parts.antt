@@ -1,33 +1,36 @@
--- What `fitquota` answers, from a few numbers of a table.
+-- What `fitquota` and `memlimit` answer, from a few numbers of a table.
 use Prim.Native.Nat.{ℕ, _+_, _-_, _*_, _≤_, _<_, min, max}
 use mathlib.Core.Bool.{Bool, _&&_, _||_}
 use mathlib.Core.List.{List, [], _∷_}
 use lib.Dec.{leb, ltb, eqb}
 use Rattle.table.specs.Sum.{pick}
 use Rattle.table.specs.Format.{Table, tableOf}
-use Rattle.table.specs.Pass.{tryPass}
+use Rattle.table.specs.Pass.{refusal, tryPass}
 use Rattle.table.specs.Serial.{S1}
+use Rattle.table.specs.declared.Refusal.{Refusal}
+use Rattle.table.specs.declared.Found.{Found}
+use Rattle.table.specs.declared.Found.the-variants.{Nothing, At}
 use Rattle.schedule.specs.Begin.{maxQuota}
 use Rattle.peaks.specs.Peak.{workersPeak}
 use Rattle.peaks.specs.Rests.{restingPeak}
 use Rattle.peaks.specs.Rests.{stretch as stretchOf}
-use Rattle.quota.specs.Quota.{leastQuota, costOf, mostWithin}
+use Rattle.quota.specs.Quota.{leastQuota, costOf, mostWithin, maxGap}
 use Rattle.useful_limit.specs.declared.Parts.{Parts}
 use Rattle.useful_limit.specs.declared.Fitted.{Fitted}
 use Rattle.useful_limit.specs.declared.Fitted.the-variants.{Fits, Short}
 use Rattle.useful_limit.specs.Limits.{workersCheck, gapCheck, settings}
 use Rattle.useful_limit.specs.Fit.{ownFit, fittedAs}
 
--- of a table
-abbrev pub partsOf : Table → ℕ → ℕ → Parts
-partsOf T p b =
+-- of a table; the stretches draw under K
+abbrev pub partsOf : Table → ℕ → ℕ → ℕ → Parts
+partsOf T p b K =
     record {
       serial = S1 T;
       cost = costOf T p b;
       free = eqb b 0;
       peak = workersPeak T p;
       resting = restingPeak T p;
-      stretch = stretchOf T maxQuota;
+      stretch = stretchOf T K;
       least = leastQuota T;
     }
 
@@ -73,3 +76,17 @@ fitWith x M =
 -- the answer where the table's own checks pass: 20, 41
 unfoldable pub ownAnswer : List ℕ → ℕ → ℕ → ℕ → Fitted
 ownAnswer s p b M = fittedAs (tryPass (settings (workersCheck p ∷ gapCheck b ∷ []))) (ownFit (tableOf s) p b M)
+
+-- ---- memlimit
+
+-- p, K and b in range
+pub record Asked (p K b : ℕ) : Type 0 where
+  pub some-worker : 1 ≤ p
+  pub few-workers : p ≤ 16
+  pub few-quota : K ≤ 16777215
+  pub small-gap : b ≤ maxGap
+
+-- where b is too large: the table's own check, or 20 or 41
+abbrev pub wideFault : Found → Bool → Refusal
+wideFault (At r) q = r
+wideFault Nothing q = refusal (pick q 20 41) 0

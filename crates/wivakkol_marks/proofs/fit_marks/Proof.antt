@@ -2,7 +2,7 @@
 use Prim.Native.Nat.{_-_}
 use mathlib.Core.Bool.{not, _||_}
 use native.Mathlib.Omega.{arith}
-use Rattle.soundness.proofs.Every.{Passed, passed-none, passed-next, passed-stop, passed-all}
+use Rattle.order.proofs.Every.{Passed, passed-none, passed-next, passed-stop, passed-all}
 use Rattle.wivakkol_marks.specs.LentMarks.{marksOf, isSetIn, markIn, fitIn, fitMarks}
 use Rattle.wivakkol_marks.proofs.fit_marks.Statement.{statement}
 use Rattle.wivakkol_marks.proofs.fit_marks.Tie as tie

@@ -2,7 +2,9 @@
 use crate::model::Action::{self, *};
 use crate::model::{bytes, Table};
 use std::sync::Mutex;
-use wivakkol::{Facts, Memory, Preview, Refusal, Reply, Report, Run, Status, Stopped, TablesWork, Turn, Work, TABLE_MOST};
+use wivakkol::{
+    action, Facts, Fit, LimitWork, Limits, Memory, Preview, Refusal, Reply, Report, Run, Status, Stopped, TablesWork, Turn, Work, MOST_THREADS, MOST_WORKERS, TABLE_MOST,
+};
 
 const LISTING: &str = "\
 1 0 0 0 fork 0
@@ -221,6 +223,59 @@ fn refusals_of_a_beginning_and_a_quota() {
     }
 }
 
+fn limit(table: &[u8], filled: &mut [u8], p: u32, quota: u32, b: u32) -> Result<Limits, Refusal> {
+    wivakkol::limit(&mut LimitWork::new(), table, filled, p, quota, b)
+}
+
+fn fit(table: &[u8], p: u32, b: u32, memory: u64) -> Result<Fit, Refusal> {
+    wivakkol::fit(&mut LimitWork::new(), table, p, b, memory)
+}
+
+/// 127 threads, each with the two below it, and 128 leaves: examples/tree.text.
+fn tree() -> Table {
+    fn grow(table: &mut Table, levels: u16) -> u16 {
+        let t = table.len();
+        table.push(vec![Alloc(8), Work, Alloc(4), Free(12), End]);
+        if levels > 0 {
+            let (a, b) = (grow(table, levels - 1), grow(table, levels - 1));
+            table[t] = vec![Alloc(4), Fork(a), Fork(b), Join(b), Join(a), Free(4), End];
+        }
+        t as u16
+    }
+    let mut table = Vec::new();
+    grow(&mut table, 7);
+    table
+}
+
+#[test]
+fn useful_limit_of_a_table() {
+    let (table, mut filled) = (bytes(&e()), [0; TABLE_MOST]);
+    let of_e = |stretch| Limits { memory: 12, serial: 6, peak: 12, parallel: 12, stretch };
+    assert_eq!(limit(&table, &mut [], 2, 6, 1), Ok(of_e(6)));
+    assert_eq!(limit(&table, &mut filled, 2, 5, 1), Ok(of_e(0)));
+    assert_eq!(check(&filled[..176]).map(|facts| facts.threads), Ok(9));
+    assert_eq!(limit(&table, &mut filled[..175], 2, 5, 1), Err(refused(61, 0)));
+    assert_eq!(limit(&table, &mut [], 2, 6, 65536), Err(refused(41, 0)));
+    assert_eq!(limit(&table, &mut [], 2, 0, 0), Err(refused(21, 0)));
+    assert_eq!(limit(&table, &mut [], 258, 0, 65536), Err(refused(20, 0)));
+    assert_eq!(limit(&[1, 0, 1], &mut [], 0, 0, 65536), Err(refused(1, 0)));
+    assert_eq!(limit(&bytes(&vec![vec![Alloc(513), End]]), &mut filled, 1, 1, 0), Err(refused(44, 0)));
+    assert_eq!(limit(&bytes(&tree()), &mut [], 4, 12, 0), Ok(Limits { memory: 440, serial: 40, peak: 1160, parallel: 2044, stretch: 12 }));
+}
+
+#[test]
+fn quota_that_fits() {
+    let (e, tree) = (bytes(&e()), bytes(&tree()));
+    assert_eq!(fit(&e, 2, 1, 55), Ok(Fit::Fits { quota: 16777215, memory: 12 }));
+    assert_eq!(fit(&e, 2, 1, 11), Ok(Fit::Short { quota: 6, memory: 12 }));
+    assert_eq!(fit(&tree, 4, 0, 440), Ok(Fit::Fits { quota: 16777215, memory: 440 }));
+    assert_eq!(fit(&tree, 4, 0, 439), Ok(Fit::Short { quota: 12, memory: 440 }));
+    assert_eq!(fit(&e, 0, 65536, 0), Err(refused(20, 0)));
+    assert_eq!(fit(&e, 258, 0, 0), Err(refused(20, 0)));
+    assert_eq!(fit(&e, 2, 65536, 0), Err(refused(41, 0)));
+    assert_eq!(fit(&[1, 0, 1], 2, 1, 55), Err(refused(1, 0)));
+}
+
 /// N8: p × (m + A + J) turns in rounds always finish; refused as a beginning is.
 #[test]
 fn most_turns_of_a_run_in_rounds() {
@@ -367,7 +422,7 @@ fn texts() {
 #[test]
 fn texts_are_of_the_reference() {
     let reference = std::fs::read_to_string("../../docs/REFERENCE.md").unwrap();
-    for number in [1, 2, 3, 4, 5, 6, 7, 8, 9, 10, 11, 20, 21, 30, 31, 41, 42, 43, 44, 45, 46, 47, 48, 61] {
+    for number in [1, 2, 3, 4, 5, 6, 7, 8, 9, 10, 11, 20, 21, 30, 31, 41, 42, 43, 44, 45, 46, 47, 48, 49, 61] {
         for part in refused(number, 0).meaning().split("; at entry n, ") {
             let row = |line: &str| line.starts_with(&format!("| {number} |")) && line.contains(part);
             assert!(reference.lines().any(row), "{number}: {part}");
@@ -421,4 +476,54 @@ fn memory_in_a_static() {
     let mut run = Run::begin(&table, &mut memory, &mut Work::new(), 2, 6).unwrap();
     assert_eq!((run.workers(), run.quota()), (2, 6));
     assert_eq!(run.rounds(u32::MAX), Ok(Report::Finished { turns: 14 }));
+}
+
+/// Actions by number: all of E's, and what is none, also where the number would be cut to one of the table's; and bytes that are no table.
+#[test]
+fn actions_by_name() {
+    use wivakkol::Action as Named;
+    let named = |x: &Action| match *x {
+        End => Named::End,
+        Work => Named::Work,
+        Alloc(amount) => Named::Alloc { amount },
+        Free(amount) => Named::Free { amount },
+        Fork(child) => Named::Fork { child },
+        Join(child) => Named::Join { child },
+    };
+    let table = bytes(&e());
+    let found: Vec<_> = (0..12).map(|a| action(&table, a).unwrap()).collect();
+    assert_eq!(found, e().concat().iter().map(named).collect::<Vec<_>>());
+    assert_eq!([12, 65535, 65536, 1 << 32, u64::MAX].map(|a| action(&table, a)), [None; 5]);
+    assert_eq!(action(&[], 0), None);
+    let odd = |word: [u8; 4]| action(&[&[1, 0, 1, 0, 0, 0, 1, 0], &word[..]].concat(), 0);
+    assert_eq!([odd([6, 0, 0, 0]), odd([255, 0, 0, 0]), odd([4, 0, 0, 1]), odd([5, 0, 0, 255])], [None; 4]);
+    assert_eq!(odd([2, 255, 255, 255]), Some(Named::Alloc { amount: 16_777_215 }));
+
+    let mut memory = Memory::new();
+    let mut run = Run::begin(&table, &mut memory, &mut Work::new(), 2, 6).unwrap();
+    let Reply::Done { action, .. } = run.turn(0).unwrap().reply else { panic!("the first turn is done") };
+    assert_eq!((run.action(action), run.action(12)), (Some(Named::Fork { child: 1 }), None));
+}
+
+/// What is printed of a refusal where `main` ends with `?`, and of a run.
+#[test]
+fn printed() {
+    assert_eq!(format!("{:?}", refused(10, 3)), "refused 10 at action 3: the thread's balance falls below 0");
+    assert_eq!(format!("{:?}", refused(31, 0)), "refused 31: the root has ended");
+    let (table, mut memory) = (bytes(&e()), Memory::new());
+    let mut run = Run::begin(&table, &mut memory, &mut Work::new(), 2, 6).unwrap();
+    run.list(&[0, 1, 0, 1, 0]).unwrap();
+    assert_eq!(format!("{run:?}"), "Run { workers: 2, quota: 6, turns: 5, held: 12, highest: 12, ended: false, .. }");
+}
+
+/// The most workers and threads are those of the calls.
+#[test]
+fn most_of_each() {
+    let most = MOST_WORKERS as u32;
+    let table = bytes(&e());
+    assert_eq!((fault(&table, most, 6), fault(&table, most + 1, 6)), (None, Some(refused(20, 0))));
+    let mut memory = Memory::new();
+    let run = Run::begin(&table, &mut memory, &mut Work::new(), 2, 6).unwrap();
+    let last = MOST_THREADS as u16 - 1;
+    assert_eq!((run.status(last), run.status(last + 1)), (Some(Status::Unborn), None));
 }

@@ -19,15 +19,26 @@ fn functions(text: &str, start: &str) -> BTreeMap<String, Vec<String>> {
     found
 }
 
-fn as_pointers(parameters: &[String]) -> Vec<String> {
+/// What the number of an order's bytes is called: turns, but where a turn has two of them.
+fn length_of_order(call: &str) -> &'static str {
+    if call == "wivakkol_deque_list_on" {
+        "order_length"
+    } else {
+        "turns"
+    }
+}
+
+fn as_pointers(call: &str, parameters: &[String]) -> Vec<String> {
     let pair = |pointer: &str, length: &str| vec![pointer.to_string(), format!("{length}: usize")];
     let as_pointer = |x: &String| match x.as_str() {
         "table: &[u8]" => pair("table: *const u8", "length"),
-        "order: &[u8]" => pair("order: *const u8", "turns"),
+        "order: &[u8]" => pair("order: *const u8", length_of_order(call)),
         "filled: &mut [u8]" => pair("filled: *mut u8", "room"),
         "first: &[u8]" => pair("first: *const u8", "first_length"),
         "second: &[u8]" => pair("second: *const u8", "second_length"),
         "tables: &[u8]" => pair("tables: *const u8", "length"),
+        "text: &[u8]" => pair("text: *const u8", "length"),
+        "out: &mut [u8]" => pair("out: *mut u8", "room"),
         "lengths: &[u32]" => pair("lengths: *const u32", "parts"),
         _ => vec![x.clone()],
     };
@@ -37,7 +48,7 @@ fn as_pointers(parameters: &[String]) -> Vec<String> {
 #[test]
 fn calls_are_of_the_source() {
     let mut source = BTreeMap::new();
-    for name in ["wivakkol_turn", "wivakkol", "wivakkol_tables", "wivakkol_marks"] {
+    for name in ["wivakkol_turn", "wivakkol", "wivakkol_tables", "wivakkol_marks", "wivakkol_deque_turn", "wivakkol_deques", "wivakkol_desk"] {
         for entry in fs::read_dir(format!("{HERE}/../../crates/{name}/src")).unwrap() {
             let text = fs::read_to_string(entry.unwrap().path()).unwrap();
             source.extend(functions(&text, "pub extern \"C\" fn "));
@@ -45,10 +56,10 @@ fn calls_are_of_the_source() {
     }
     let declared = functions(include_str!("../../src/raw.rs"), "pub fn ");
     assert_eq!(declared.len(), source.len());
-    assert_eq!(declared.len(), 16);
+    assert_eq!(declared.len(), 25);
     for (name, parameters) in declared {
         let exported = source.get(&name).unwrap_or_else(|| panic!("{name} is not exported"));
-        assert_eq!(parameters, as_pointers(exported), "{name}");
+        assert_eq!(parameters, as_pointers(&name, exported), "{name}");
     }
 }
 
@@ -65,13 +76,17 @@ fn handed(text: &str, call: &str) -> Vec<String> {
         "table.as_ptr()" => "table".to_string(),
         "table.len()" => "length".to_string(),
         "order.as_ptr()" => "order".to_string(),
-        "order.len()" => "turns".to_string(),
+        "order.len()" => length_of_order(call).to_string(),
         "filled.as_mut_ptr()" => "filled".to_string(),
         "filled.len()" => "room".to_string(),
         "first.as_ptr()" => "first".to_string(),
         "first.len()" => "first_length".to_string(),
         "second.as_ptr()" => "second".to_string(),
         "second.len()" => "second_length".to_string(),
+        "text.as_ptr()" => "text".to_string(),
+        "text.len()" => "length".to_string(),
+        "out.as_mut_ptr()" => "out".to_string(),
+        "out.len()" => "room".to_string(),
         "tables.as_ptr()" => "tables".to_string(),
         "tables.len()" => "length".to_string(),
         "lengths.as_ptr()" => "lengths".to_string(),
@@ -89,8 +104,15 @@ fn handed(text: &str, call: &str) -> Vec<String> {
 /// Every block, part and field is handed over where the call has a parameter of its name: neighbours of one type would change places unseen.
 #[test]
 fn memory_is_handed_by_name() {
-    let calling =
-        concat!(include_str!("../../src/lib.rs"), include_str!("../../src/memory.rs"), include_str!("../../src/tables.rs"), include_str!("../../src/marks.rs"));
+    let calling = concat!(
+        include_str!("../../src/lib.rs"),
+        include_str!("../../src/limits.rs"),
+        include_str!("../../src/memory.rs"),
+        include_str!("../../src/tables.rs"),
+        include_str!("../../src/marks.rs"),
+        include_str!("../../src/deques.rs"),
+        include_str!("../../src/desk.rs")
+    );
     for (call, parameters) in functions(include_str!("../../src/raw.rs"), "pub fn ") {
         let mut names: Vec<&str> = parameters.iter().filter_map(|x| x.split_once(": ")).map(|(name, _)| name).collect();
         let given = handed(calling, &call);
@@ -145,6 +167,7 @@ fn memory_is_of_the_header() {
         ("wivakkol_run", "Memory", 4),
         ("wivakkol_work", "Work", 5),
         ("wivakkol_tables_work", "TablesWork", 6),
+        ("wivakkol_limit_work", "LimitWork", 6),
         ("wivakkol_marks", "Marks", 5),
         ("wivakkol_marks_work", "MarksWork", 7),
     ];

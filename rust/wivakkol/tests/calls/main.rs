@@ -2,8 +2,12 @@
 mod builder;
 mod cases;
 mod declarations;
+#[cfg(feature = "deques")]
+mod deques;
 #[cfg(feature = "tables")]
 mod designs;
+#[cfg(feature = "desk")]
+mod desk;
 #[cfg(feature = "marks")]
 mod marks;
 mod model;

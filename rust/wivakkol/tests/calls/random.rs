@@ -8,7 +8,7 @@ pub fn firsts(table: &Table) -> Vec<usize> {
     table.iter().scan(0, |sum, body| Some(std::mem::replace(sum, *sum + body.len()))).collect()
 }
 
-fn reply(said: Said, firsts: &[usize]) -> Reply {
+pub fn reply(said: Said, firsts: &[usize]) -> Reply {
     match said {
         Said::Idle => Reply::Idle,
         Said::Done { thread, at } => Reply::Done { thread, action: (firsts[usize::from(thread)] + at) as u16 },
@@ -17,7 +17,7 @@ fn reply(said: Said, firsts: &[usize]) -> Reply {
     }
 }
 
-fn status(status: model::Status) -> Status {
+pub fn status(status: model::Status) -> Status {
     match status {
         model::Status::Unborn => Status::Unborn,
         model::Status::Ready => Status::Ready,

@@ -9,7 +9,8 @@ use lib.Seq.{length-take-le, take-all}
 use Rattle.table.specs.Format.{u32At}
 use Rattle.canonical.specs.Answers.{compared}
 use Rattle.canonical.specs.Lines.{compareLine, firstTable, secondTable}
-use Rattle.canonical.proofs.CompareLine.{take-what-is, drop-what-is, short-told, tables-told, told-within}
+use Rattle.text.proofs.Told.{told-within}
+use Rattle.canonical.proofs.CompareLine.{take-what-is, drop-what-is, short-told, tables-told}
 use borrow.Author.Needs.{needs}
 use Rattle.canonical.proofs.line.compare_line.Statement.{statement}
 use Rattle.canonical.proofs.line.compare_line.Tie as tie

@@ -9,7 +9,8 @@ use Rattle.text.specs.Text.{ascii}
 use Rattle.rows.specs.Rows.{over}
 use Rattle.canonical.specs.Lines.{comparedLine}
 use Rattle.canonical.specs.declared.Compared.{Compared}
-use Rattle.canonical.proofs.CompareLine.{word-told, refused-told}
+use Rattle.text.proofs.Told.{refused-told}
+use Rattle.canonical.proofs.CompareLine.{word-told}
 use borrow.Author.Needs.{needs}
 use Rattle.canonical.proofs.line.compared_line.Statement.{statement}
 use Rattle.canonical.proofs.line.compared_line.Tie as tie
@@ -75,11 +76,12 @@ returns-3 c =
     line-of _ _ (now (d .out)) _ _ (e .enum-told3 .given .1) (word-told (now (d .out)) (omega (arith, c .before .before .put-word-arg5 .given)) _ (omega arith) _ _ (c .put-word3 .ensures))
 
 returns-4 : tie.Need-returns-4
+unfolding comparedLine
 returns-4 c =
     let e = c .before .before .before .before in
     let d = e .before .before .args in
     line-of _ _ (now (d .out)) _ _ (e .answer .given .1)
-    (refused-told (now (d .out)) (omega (arith, c .before .before .put-refused-of-arg .given)) _ _ (omega (arith, c .before .before .before .known-told .given)) (omega (arith, c .before .before .before .known-told .given)) (omega (arith, c .before .before .before .known-told .given)) _ _ (c .put-refused-of .ensures))
+    (refused-told (now (d .out)) (omega (arith, c .before .before .put-refused-of-arg .given)) _ (omega (arith, c .before .before .before .known-told .given)) (omega (arith, c .before .before .before .known-told .given)) (ascii " table ") (omega arith) _ (omega (arith, c .before .before .before .known-told .given)) _ _ (c .put-refused-of .ensures))
 
 pub compared-line-spec : {M : Type 1} → statement M
 compared-line-spec =

@@ -12,7 +12,7 @@ use Rattle.schedule.specs.Machine.{ready, held}
 use Rattle.order.specs.Words.{agree}
 use Rattle.deques.specs.Lines.{isHeld}
 use Rattle.deques.specs.DequeWalk.{isReady}
-use Rattle.soundness.proofs.Every.{Passed, passed-none, passed-next, passed-stop, passed-all, beq-agree}
+use Rattle.order.proofs.Every.{Passed, passed-none, passed-next, passed-stop, passed-all, beq-agree}
 use Rattle.dequetest.proofs.lines.marks_right.Statement.{statement}
 use Rattle.dequetest.proofs.lines.marks_right.Tie as tie
 

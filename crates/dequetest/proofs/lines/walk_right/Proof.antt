@@ -9,7 +9,7 @@ use denote.Ref.{now}
 use lib.ListN.{getD, take}
 use Rattle.order.specs.Words.{allBelow, member, agree}
 use Rattle.soundness.proofs.Chains.{off, on, cut, pass}
-use Rattle.soundness.proofs.Every.{all-cong}
+use Rattle.order.proofs.Every.{all-cong}
 use Rattle.deques.specs.Lines.{isHeld}
 use Rattle.deques.specs.DequeWalk.{isReady}
 use Rattle.dequetest.proofs.lines.walk_right.Statement.{statement}

@@ -10,7 +10,7 @@ use Rattle.text.specs.Text.{ascii}
 use Rattle.rows.specs.Rows.{over}
 use Rattle.joining.specs.Given.{joinLine}
 use Rattle.joining.specs.declared.Joined.{Joined}
-use Rattle.joining.proofs.JoinGiven.{refused-told, told-within}
+use Rattle.text.proofs.Told.{refused-told, told-within}
 use borrow.Author.Needs.{needs}
 use Rattle.joining.proofs.given.join_line.Statement.{statement}
 use Rattle.joining.proofs.given.join_line.Tie as tie

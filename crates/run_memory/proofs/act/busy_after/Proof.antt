@@ -19,17 +19,23 @@ module _ (busy : ℕ) {w : ℕ} (h : w < 16) {held holds : Bool} where
   keeps true e f = rw (e, f)
   keeps false e f = rw (e, f)
 
-  gone : held ≡ true → holds ≡ false → busy < (1 * 2 ^ w) % 65536 → 0 ≡ busyAfter busy held holds w
-  unfolding busyAfter
-  gone e f d = rw (e, f) (omega (arith, bit-is w h))
-
-  lost : held ≡ true → holds ≡ false → busy - (1 * 2 ^ w) % 65536 ≡ busyAfter busy held holds w
-  unfolding busyAfter
-  lost e f = rw (e, f, bit-is w h)
+  lost : {x : ℕ} → held ≡ true → holds ≡ false → x ≡ busyAfter busy true false w → x ≡ busyAfter busy held holds w
+  lost e f q = rw (e, f) q
 
   got : held ≡ false → holds ≡ true → busy + (1 * 2 ^ w) % 65536 ≡ busyAfter busy held holds w
   unfolding busyAfter
   got e f = rw (e, f, bit-is w h)
+
+returns : tie.Need-returns
+returns c = keeps _ (c .before .before .pre .0) true (c .before .if1 .taken) (c .if2 .taken)
+
+without-requires : tie.Need-without-requires
+without-requires c κs = search needs
+
+returns-2 : tie.Need-returns-2
+returns-2 c =
+    let d = c .before in
+    lost _ (d .before .before .pre .0) (d .before .if1 .taken) (d .if2 .left) (c .without .ensures)
 
 cast-bit : tie.Need-cast-bit
 cast-bit c = search needs
@@ -37,23 +43,14 @@ cast-bit c = search needs
 shl-bit : tie.Need-shl-bit
 shl-bit c = search needs
 
-returns : tie.Need-returns
-returns c = keeps _ (c .before .before .pre .0) true (c .before .if1 .taken) (c .if2 .taken)
-
 add-result : tie.Need-add-result
 add-result c = fits16 (room _ (c .before .before .pre .0) (c .before .before .pre .1 (c .before .if1 .left)))
 
-returns-2 : tie.Need-returns-2
-returns-2 c = gone _ (c .before .before .before .pre .0) (c .before .before .if1 .taken) (c .before .if2 .left) (c .if3 .taken)
-
 returns-3 : tie.Need-returns-3
-returns-3 c = lost _ (c .before .before .before .pre .0) (c .before .before .if1 .taken) (c .before .if2 .left)
+returns-3 c = got _ (c .before .before .pre .0) (c .before .if1 .left) (c .if3 .taken)
 
 returns-4 : tie.Need-returns-4
-returns-4 c = got _ (c .before .before .pre .0) (c .before .if1 .left) (c .if4 .taken)
-
-returns-5 : tie.Need-returns-5
-returns-5 c = keeps _ (c .before .before .pre .0) false (c .before .if1 .left) (c .if4 .left)
+returns-4 c = keeps _ (c .before .before .pre .0) false (c .before .if1 .left) (c .if3 .left)
 
 pub busy-after-spec : {M : Type 1} → statement M
-busy-after-spec = tie.close (tie.spec cast-bit shl-bit returns add-result returns-2 returns-3 returns-4 returns-5)
+busy-after-spec = tie.close (tie.spec returns without-requires returns-2 cast-bit shl-bit add-result returns-3 returns-4)

@@ -16,7 +16,7 @@ use Rattle.order.specs.Words.{allBelow}
 use Rattle.schedule.specs.Turn.{isNobody}
 use Rattle.order.proofs.Words.{not-both}
 use Rattle.schedule.proofs.Sound.Clauses.{nobody-exactly, workerRight-exactly}
-use Rattle.soundness.proofs.Every.{same-truth, all-cong}
+use Rattle.order.proofs.Every.{same-truth, all-cong}
 use Rattle.soundness.proofs.blank.all_free.Statement.{statement}
 use Rattle.soundness.proofs.blank.all_free.Tie as tie
 

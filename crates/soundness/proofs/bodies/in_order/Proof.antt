@@ -9,7 +9,7 @@ use Rattle.schedule.specs.Sound.{inOrder}
 use Rattle.order.specs.Words.{allBelow}
 use Rattle.order.proofs.Lawful.{lawful}
 use Rattle.soundness.specs.Code.Checks.{Accepted, bodyInOrder}
-use Rattle.soundness.proofs.Every.{Passed, passed-none, passed-next, passed-stop, passed-all}
+use Rattle.order.proofs.Every.{Passed, passed-none, passed-next, passed-stop, passed-all}
 use Rattle.soundness.proofs.Done.{by-bodies}
 use Rattle.soundness.proofs.bodies.in_order.Statement.{statement}
 use Rattle.soundness.proofs.bodies.in_order.Tie as tie

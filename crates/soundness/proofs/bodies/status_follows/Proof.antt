@@ -19,7 +19,7 @@ use Rattle.order.proofs.Lawful.{lawful}
 use Rattle.schedule.specs.Parents.{Parents}
 use Rattle.soundness.specs.Code.Checks.{Forks, unbornIn, unbornAt}
 use Rattle.soundness.proofs.Lookups.{body}
-use Rattle.soundness.proofs.Every.{beq-agree}
+use Rattle.order.proofs.Every.{beq-agree}
 use Rattle.soundness.proofs.Noting.{few, unborn-noted}
 use Rattle.soundness.proofs.bodies.status_follows.Statement.{statement}
 use Rattle.soundness.proofs.bodies.status_follows.Tie as tie

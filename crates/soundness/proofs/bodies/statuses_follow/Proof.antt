@@ -4,7 +4,7 @@ use native.Mathlib.Omega.{arith}
 use Rattle.table.specs.Format.{tableOf}
 use Rattle.schedule.specs.Sound.{statusFollows}
 use Rattle.soundness.proofs.Lookups.{thread-below}
-use Rattle.soundness.proofs.Every.{Passed, passed-none, passed-next, passed-stop, passed-all}
+use Rattle.order.proofs.Every.{Passed, passed-none, passed-next, passed-stop, passed-all}
 use Rattle.soundness.proofs.bodies.statuses_follow.Statement.{statement}
 use Rattle.soundness.proofs.bodies.statuses_follow.Tie as tie
 

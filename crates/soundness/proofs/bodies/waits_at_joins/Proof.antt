@@ -3,7 +3,7 @@ use Prim.Native.Nat.{_-_}
 use native.Mathlib.Omega.{arith}
 use Rattle.table.specs.Format.{tableOf}
 use Rattle.schedule.specs.Sound.{waitsAtJoin}
-use Rattle.soundness.proofs.Every.{Passed, passed-none, passed-next, passed-stop, passed-all}
+use Rattle.order.proofs.Every.{Passed, passed-none, passed-next, passed-stop, passed-all}
 use Rattle.soundness.proofs.bodies.waits_at_joins.Statement.{statement}
 use Rattle.soundness.proofs.bodies.waits_at_joins.Tie as tie
 

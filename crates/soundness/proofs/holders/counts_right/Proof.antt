@@ -10,7 +10,7 @@ use denote.Ref.{now}
 use lib.Dec.{eqb}
 use lib.ListN.{getD}
 use Rattle.soundness.specs.Code.Checks.{holdersWanted}
-use Rattle.soundness.proofs.Every.{Passed, passed-none, passed-more, passed-fails, passed-all}
+use Rattle.order.proofs.Every.{Passed, passed-none, passed-more, passed-fails, passed-all}
 use Rattle.soundness.proofs.holders.counts_right.Statement.{statement}
 use Rattle.soundness.proofs.holders.counts_right.Tie as tie
 

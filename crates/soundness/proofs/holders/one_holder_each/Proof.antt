@@ -20,7 +20,7 @@ use Rattle.order.specs.Words.{allBelow, countBelow}
 use Rattle.order.proofs.CountBelow.{count-bound}
 use Rattle.order.proofs.Lists.{getD-alike}
 use Rattle.soundness.specs.Code.Checks.{holdersWanted}
-use Rattle.soundness.proofs.Every.{all-cong}
+use Rattle.order.proofs.Every.{all-cong}
 use Rattle.soundness.proofs.holders.one_holder_each.Statement.{statement}
 use Rattle.soundness.proofs.holders.one_holder_each.Tie as tie
 

@@ -3,7 +3,7 @@ use Prim.Native.Nat.{_-_}
 use native.Mathlib.Omega.{arith}
 use borrow.Author.Needs.{needs}
 use Rattle.schedule.specs.Sound.{workerRight}
-use Rattle.soundness.proofs.Every.{Passed, passed-none, passed-next, passed-stop, passed-all}
+use Rattle.order.proofs.Every.{Passed, passed-none, passed-next, passed-stop, passed-all}
 use Rattle.soundness.proofs.holders.workers_right.Statement.{statement}
 use Rattle.soundness.proofs.holders.workers_right.Tie as tie
 

@@ -10,7 +10,7 @@ use lib.Dec.{ltb}
 use lib.ListN.{getD, take}
 use Rattle.schedule.specs.Sound.{liveIn, listFollows}
 use Rattle.order.specs.Words.{allBelow, allIn, member, agree}
-use Rattle.soundness.proofs.Every.{all-cong}
+use Rattle.order.proofs.Every.{all-cong}
 use Rattle.soundness.proofs.listed.list_follows.Statement.{statement}
 use Rattle.soundness.proofs.listed.list_follows.Tie as tie
 

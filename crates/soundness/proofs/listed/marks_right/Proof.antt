@@ -11,7 +11,7 @@ use lib.ListN.{getD}
 use Rattle.schedule.specs.Machine.{unborn, ended}
 use Rattle.schedule.specs.Sound.{liveIn}
 use Rattle.order.specs.Words.{agree}
-use Rattle.soundness.proofs.Every.{Passed, passed-none, passed-next, passed-stop, passed-all, beq-agree}
+use Rattle.order.proofs.Every.{Passed, passed-none, passed-next, passed-stop, passed-all, beq-agree}
 use Rattle.soundness.proofs.listed.marks_right.Statement.{statement}
 use Rattle.soundness.proofs.listed.marks_right.Tie as tie
 

@@ -5,7 +5,7 @@ use native.Mathlib.Omega.{arith}
 use borrow.Author.Needs.{needs}
 use borrow.Author.Tests.{eq-eqb, ne-eqb}
 use denote.Ref.{now}
-use Rattle.soundness.proofs.Every.{Passed, passed-none, passed-more, passed-fails, passed-all}
+use Rattle.order.proofs.Every.{Passed, passed-none, passed-more, passed-fails, passed-all}
 use Rattle.soundness.proofs.Clearing.{sameAt, same-places}
 use Rattle.soundness.proofs.shares.same_amounts.Statement.{statement}
 use Rattle.soundness.proofs.shares.same_amounts.Tie as tie

@@ -5,7 +5,7 @@ use native.Mathlib.Omega.{arith}
 use borrow.Author.Needs.{needs}
 use denote.Ref.{now}
 use lib.ListN.{length}
-use Rattle.soundness.proofs.Every.{PassedFrom, from-none}
+use Rattle.order.proofs.Every.{PassedFrom, from-none}
 use Rattle.soundness.proofs.Filled.{isZero, rest-more, rest-fails, rest-pass}
 use Rattle.soundness.proofs.unused.bytes_rest.Statement.{statement}
 use Rattle.soundness.proofs.unused.bytes_rest.Tie as tie

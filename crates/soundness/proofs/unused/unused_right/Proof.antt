@@ -10,7 +10,7 @@ use denote.Ref.{now}
 use lib.ListN.{getD}
 use Rattle.schedule.specs.Sound.{unused}
 use Rattle.order.specs.Words.{allBelow}
-use Rattle.soundness.proofs.Every.{fromOn, PassedFrom, from-none, from-more, from-fails, from-all}
+use Rattle.order.proofs.Every.{fromOn, PassedFrom, from-none, from-more, from-fails, from-all}
 use Rattle.soundness.proofs.unused.unused_right.Statement.{statement}
 use Rattle.soundness.proofs.unused.unused_right.Tie as tie
 

@@ -32,8 +32,8 @@ returns : tie.Need-returns
 returns c =
     let o = c .before .before .before .before .before .before .before .before .before .before .before .before .before .before in
     let r = o .pre .1 in
-    both (o .pre .0) _ _ (r .few-workers) (r .small-gap)
-    (parts-are (o .pre .0) _ _ (c .before .before .cost .ensures) (c .before .before .before .before .before .before .before .before .peak-at .ensures) (c .before .before .before .resting-peak .ensures) (c .before .stretch .ensures) (c .least-quota .ensures))
+    both (o .pre .0) _ _ _ (r .few-workers) (r .small-gap)
+    (parts-are (o .pre .0) _ _ _ (c .before .before .cost .ensures) (c .before .before .before .before .before .before .before .before .peak-at .ensures) (c .before .before .before .resting-peak .ensures) (c .before .stretch .ensures) (c .least-quota .ensures))
 
 pub parts-spec : {M : Type 1} → statement M
 parts-spec =

@@ -6,8 +6,8 @@ use Rattle.wivakkol.proofs.open.blank_lent.Statement.{statement}
 use Rattle.wivakkol.proofs.open.blank_lent.Tie as tie
 use Rattle.wivakkol.proofs.open.blank_lent.Reads as reads
 use Rattle.wivakkol.proofs.open.blank_lent.Lts as lts
-use Rattle.wivakkol.proofs.open.workers_at.Reads as workers-at-reads
-use Rattle.wivakkol.proofs.workers.Reads as workers-reads
+use Rattle.run_memory.proofs.lent.workers_at.Reads as workers-at-reads
+use Rattle.run_memory.proofs.lent.workers.Reads as workers-reads
 use Rattle.soundness.proofs.blank_in.Reads as blank-in-reads
 
 -- src/open.rt:124:9

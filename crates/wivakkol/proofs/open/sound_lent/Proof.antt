@@ -6,9 +6,9 @@ use Rattle.wivakkol.proofs.open.sound_lent.Statement.{statement}
 use Rattle.wivakkol.proofs.open.sound_lent.Tie as tie
 use Rattle.wivakkol.proofs.open.sound_lent.Reads as reads
 use Rattle.wivakkol.proofs.open.sound_lent.Lts as lts
-use Rattle.wivakkol.proofs.open.truths_right.Reads as truths-right-reads
-use Rattle.wivakkol.proofs.open.workers_at.Reads as workers-at-reads
-use Rattle.wivakkol.proofs.workers.Reads as workers-reads
+use Rattle.run_memory.proofs.lent.truths_right.Reads as truths-right-reads
+use Rattle.run_memory.proofs.lent.workers_at.Reads as workers-at-reads
+use Rattle.run_memory.proofs.lent.workers.Reads as workers-reads
 use Rattle.soundness.proofs.test_in.Reads as test-in-reads
 
 -- src/open.rt:77:9

@@ -6,7 +6,7 @@ use borrow.Author.Tests.{lt-ltb, le-ltb}
 use denote.Ref.{now}
 use lib.Dec.{ltb}
 use lib.ListN.{getD}
-use Rattle.soundness.proofs.Every.{Passed, passed-none, passed-more, passed-fails, passed-all}
+use Rattle.order.proofs.Every.{Passed, passed-none, passed-more, passed-fails, passed-all}
 use Rattle.run_memory.specs.Blocks.{part, bytesIn}
 use Rattle.run_memory.specs.Stands.{truths}
 use Rattle.run_memory.proofs.Parts.{part-get}

@@ -1,0 +1,5 @@
+pub mod DequeRows
+pub mod LimitCases
+pub mod DemandCase
+pub mod Deepest
+pub mod BigCase

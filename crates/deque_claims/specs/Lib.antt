@@ -1,0 +1,2 @@
+pub mod DequeAnswersOf
+pub mod LentDequeCalls

@@ -1,0 +1,3 @@
+mod PairLines
+-- the worked cases
+pub mod DequeWorked

@@ -1,0 +1,2 @@
+pub mod DequeListing
+pub mod DequeListingCases

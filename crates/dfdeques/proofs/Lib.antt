@@ -1,0 +1,4 @@
+pub mod DequesPassed
+pub mod DequePacked
+pub mod DequeKeeps
+pub mod DequeByValue

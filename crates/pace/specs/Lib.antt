@@ -1,0 +1,4 @@
+pub mod Since
+pub mod Pace
+pub mod Stands
+pub mod Worked

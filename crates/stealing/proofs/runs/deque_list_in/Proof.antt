@@ -1,0 +1,38 @@
+-- `stealing::runs::deque_list_in` meets its contract: 32 first, then the run.
+use mathlib.Core.Path.{sym, _∙_}
+use denote.Ref.{now}
+use Rattle.run_memory.specs.Memory.{Memory}
+use Rattle.run_memory.specs.Blocks.{memoryOf}
+use Rattle.stealing.proofs.PairDrives.{stopped-as, full-list, driven-list}
+use borrow.Author.Needs.{needs}
+use Rattle.stealing.proofs.runs.deque_list_in.Statement.{statement}
+use Rattle.stealing.proofs.runs.deque_list_in.Tie as tie
+
+abbrev start : tie.Start → Memory
+start d = memoryOf (now (d .args .bytes)) (now (d .args .words)) (now (d .args .numbers)) (now (d .args .sums))
+
+total-at-requires : tie.Need-total-at-requires
+total-at-requires c κs = search needs
+
+refused-requires : tie.Need-refused-requires
+refused-requires c κs = search needs
+
+returns : tie.Need-returns
+returns c =
+    let t = c .before in
+    let z = t .before in
+    let d = z .before .before .before .before in
+    stopped-as (c .refused .ensures) (full-list (now (d .args .table)) (now (d .args .order)) (start d) (sym (z .total-at .ensures) ∙ t .if1 .taken))
+
+drive-requires : tie.Need-drive-requires
+drive-requires c κs = search needs
+
+returns-2 : tie.Need-returns-2
+returns-2 c =
+    let e = c .before .before .before .before .before in
+    let z = e .before in
+    let d = z .before .before .before .before in
+    driven-list (now (d .args .table)) (now (d .args .order)) (start d) (λ x. e .if1 .left (z .total-at .ensures ∙ x)) (c .drive .ensures)
+
+pub deque-list-in-spec : {M : Type 1} → statement M
+deque-list-in-spec = tie.close (tie.spec total-at-requires refused-requires returns drive-requires returns-2)

@@ -1,0 +1,2 @@
+pub mod DequeLent
+pub mod DequeLentCases

@@ -1,0 +1,2 @@
+pub mod PacedTurns
+pub mod PacedDrives

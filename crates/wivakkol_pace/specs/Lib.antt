@@ -1,0 +1,2 @@
+pub mod Paced
+pub mod PacedRuns

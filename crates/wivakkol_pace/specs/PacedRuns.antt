@@ -1,0 +1,57 @@
+-- Paced runs over a list of workers and in rounds: the paced turn again and again, up to the first refusal, 60 included, and its turns before that stay taken.
+use Prim.Native.Nat.{ℕ, zero, suc, _-_, _^_}
+use mathlib.Core.List.{List, [], _∷_}
+use mathlib.Core.Bool.{Bool, true, false}
+use lib.ListN.{length, getD}
+use lib.Dec.{eqb}
+use Rattle.table.specs.Sum.{pick}
+use Rattle.schedule.specs.Answers.{nothing, finished, spent}
+use Rattle.run_memory.specs.Memory.{Memory, movedIn, saidCode, answer}
+use Rattle.run_memory.specs.Runs.{Stopped, stopped, overIn}
+use Rattle.pace.specs.Pace.{nextIn}
+use Rattle.wivakkol_pace.specs.Paced.{PacedTold, pacedIn, Kept, kept}
+
+-- where a run stopped, and the pace
+pub record PacedStop : Type 0 where
+  pub stop : Stopped
+  pub pace : List ℕ
+
+abbrev pub pacedStop : Stopped → List ℕ → PacedStop
+pacedStop d P = record { stop = d; pace = P }
+
+-- the worker of turn i: the list's, or in rounds the one after that of the latest turn
+unfoldable pub pacedWorker : List ℕ → Bool → ℕ → List ℕ → ℕ
+pacedWorker l rounds i P = pick rounds (nextIn P) (getD l i 0)
+
+-- at most k turns more after i turns: "a run stops at the root's end, a refusal or the list's end"
+unfoldable pub pacedDrive : List ℕ → (ℕ → List ℕ → ℕ) → ℕ → ℕ → Memory → List ℕ → PacedStop
+pacedDrive s who zero i M P = pacedStop (stopped 0 (overIn M) i M) P
+pacedDrive s who (suc k) i M P =
+    let t : PacedTold = pacedIn s (who i P) M P in
+    let rest : PacedStop = pacedDrive s who k (suc i) (t .told .memory) (t .pace) in
+    pick (overIn M) (pacedStop (stopped 0 true i M) P) (pick (eqb (t .told .number) 0) rest (pacedStop (stopped (t .told .number) false i M) P))
+
+-- 32 first where no turn can be counted
+unfoldable pub pacedRun : List ℕ → (ℕ → List ℕ → ℕ) → ℕ → Memory → List ℕ → PacedStop
+pacedRun s who limit M P = pick (eqb (movedIn M .turns) (2 ^ 64 - 1)) (pacedStop (stopped 32 false 0 M) P) (pacedDrive s who limit 0 M P)
+
+-- ---- the calls
+
+-- what is said of where a run stopped, as of a run without a pace
+abbrev pub saidCodeOf : ℕ → Bool → ℕ
+saidCodeOf number over = saidCode (pick (eqb number 0) (pick over finished spent) nothing)
+
+-- place, what is said, and the turns taken
+abbrev pub stopRow : ℕ → Bool → ℕ → List ℕ
+stopRow number over turns = 0 ∷ saidCodeOf number over ∷ turns ∷ []
+
+abbrev pub keptAs : PacedStop → Kept
+keptAs d = kept (answer (d .stop .number) (stopRow (d .stop .number) (d .stop .finished) (d .stop .turns)) (d .stop .memory)) (d .pace)
+
+-- over a list of workers
+unfoldable pub pacedList : List ℕ → List ℕ → Memory → List ℕ → Kept
+pacedList s l M P = keptAs (pacedRun s (pacedWorker l false) (length l) M P)
+
+-- in rounds, on from the worker after that of the latest turn, whoever took it
+unfoldable pub pacedRounds : List ℕ → ℕ → Memory → List ℕ → Kept
+pacedRounds s limit M P = keptAs (pacedRun s (pacedWorker [] true) limit M P)

@@ -1,0 +1,205 @@
+// Paced runs over a list of workers and in rounds, from C, whatever the memory holds: a run stops at the first turn that would break the rule as at any refusal (specs/PacedRuns).
+use crate::paced_in;
+use pace::next;
+use run_memory::places::TURNS;
+use run_memory::places::status_at;
+use run_memory::places::total_at;
+use run_memory::runs::Stop;
+use schedule::statuses::ENDED;
+use table::read::byte;
+ghost use mathlib.Core.Path.{_≡_};
+ghost use mathlib.Core.Bool.{false};
+ghost use lib.ListN.{getD};
+ghost use lib.Dec.{eqb};
+ghost use Rattle.table.specs.Sum.{pick};
+ghost use Rattle.schedule.specs.Machine.{ended};
+ghost use Rattle.run_memory.specs.Memory.{answer};
+ghost use Rattle.run_memory.specs.Blocks.{bytesIn, memoryOf};
+ghost use Rattle.run_memory.specs.Runs.{stopped};
+ghost use Rattle.wivakkol_pace.specs.Paced.{kept};
+ghost use Rattle.wivakkol_pace.specs.PacedRuns.{saidCodeOf, stopRow, pacedStop, pacedWorker, pacedDrive, pacedRun, pacedList, pacedRounds};
+
+// A refusal after i turns.
+fn refused(number: u32, i: usize) -> Stop
+    ensures { λ r. ⌜ r ≡ record { number = number; finished = false; turns = i } ⌝ }
+{
+    Stop {
+        number,
+        finished: false,
+        turns: i as u64,
+    }
+}
+
+// The run is over after i turns, at the root's end or not.
+fn over(finished: bool, i: usize) -> Stop
+    ensures { λ r. ⌜ r ≡ record { number = 0; finished = finished; turns = i } ⌝ }
+{
+    Stop {
+        number: 0,
+        finished,
+        turns: i as u64,
+    }
+}
+
+// The root has ended.
+fn root_ended(bytes: &[u8; 1040]) -> bool
+    ensures { λ r. ⌜ r ≡ eqb (getD (bytesIn (now (bytes .entry)) .status) 0 0) ended ⌝ }
+{
+    status_at(bytes, 0) == ENDED
+}
+
+// The worker whose turn comes after i turns: from the order, or in rounds the one after that of the latest turn.
+fn worker_of(order: &[u8], rounds: bool, pace: &[u32; 260], i: usize) -> u32
+    ensures { λ r. ⌜ r ≡ pacedWorker (now (order .entry)) rounds i (now (pace .entry)) ⌝ }
+{
+    if rounds {
+        next(pace)
+    } else {
+        byte(order, i) as u32
+    }
+}
+
+// At most `limit` turns.
+fn drive(
+    table: &[u8],
+    order: &[u8],
+    rounds: bool,
+    limit: usize,
+    bytes: &mut [u8; 1040],
+    words: &mut [u16; 6163],
+    numbers: &mut [u32; 18],
+    sums: &mut [u64; 1027],
+    pace: &mut [u32; 260],
+) -> Stop
+    ensures { λ r. ⌜ pacedStop (stopped (r .number) (r .finished) (r .turns) (memoryOf (now (bytes .exit)) (now (words .exit)) (now (numbers .exit)) (now (sums .exit)))) (now (pace .exit))
+        ≡ pacedDrive (now (table .entry)) (pacedWorker (now (order .entry)) rounds) limit 0 (memoryOf (now (bytes .entry)) (now (words .entry)) (now (numbers .entry)) (now (sums .entry))) (now (pace .entry)) ⌝ }
+{
+    let mut row = [0; 5];
+    let mut i: usize = 0;
+    while i < limit {
+        if root_ended(&*bytes) {
+            return over(true, i);
+        }
+        let w = worker_of(order, rounds, &*pace, i);
+        let number = paced_in(table, w, false, sums, pace, &mut row, bytes, words, numbers);
+        if number != 0 {
+            return refused(number, i);
+        }
+        i += 1;
+    }
+    over(root_ended(&*bytes), i)
+}
+
+// 32 first where no turn can be counted; then the run.
+fn run(
+    table: &[u8],
+    order: &[u8],
+    rounds: bool,
+    limit: usize,
+    bytes: &mut [u8; 1040],
+    words: &mut [u16; 6163],
+    numbers: &mut [u32; 18],
+    sums: &mut [u64; 1027],
+    pace: &mut [u32; 260],
+) -> Stop
+    ensures { λ r. ⌜ pacedStop (stopped (r .number) (r .finished) (r .turns) (memoryOf (now (bytes .exit)) (now (words .exit)) (now (numbers .exit)) (now (sums .exit)))) (now (pace .exit))
+        ≡ pacedRun (now (table .entry)) (pacedWorker (now (order .entry)) rounds) limit (memoryOf (now (bytes .entry)) (now (words .entry)) (now (numbers .entry)) (now (sums .entry))) (now (pace .entry)) ⌝ }
+{
+    if total_at(&*sums, TURNS) == u64::MAX {
+        return refused(32, 0);
+    }
+    drive(
+        table,
+        order,
+        rounds,
+        limit,
+        bytes,
+        words,
+        numbers,
+        sums,
+        pace,
+    )
+}
+
+// what is said of a run, as a number
+const NOTHING: u64 = 0;
+
+const FINISHED: u64 = 6;
+
+const SPENT: u64 = 7;
+
+fn said(number: u32, finished: bool) -> u64
+    ensures { λ r. ⌜ r ≡ saidCodeOf number finished ⌝ }
+{
+    if number != 0 {
+        return NOTHING;
+    }
+    if finished { FINISHED } else { SPENT }
+}
+
+// Puts what is said of a run into the row, and answers the refusal's number.
+fn put_run(row: &mut [u64; 3], stop: Stop) -> u32
+    ensures { λ r. ⌜ r ≡ stop .number ⌝ }
+    ensures { λ _. ⌜ now (row .exit) ≡ stopRow (stop .number) (stop .finished) (stop .turns) ⌝ }
+{
+    *row = [0, said(stop.number, stop.finished), stop.turns];
+    stop.number
+}
+
+// A paced run over a list of workers.
+#[no_mangle]
+pub extern "C" fn wivakkol_paced_list_on(
+    table: &[u8],
+    order: &[u8],
+    bytes: &mut [u8; 1040],
+    words: &mut [u16; 6163],
+    numbers: &mut [u32; 18],
+    sums: &mut [u64; 1027],
+    pace: &mut [u32; 260],
+    row: &mut [u64; 3],
+) -> u32
+    ensures { λ r. ⌜ kept (answer r (now (row .exit)) (memoryOf (now (bytes .exit)) (now (words .exit)) (now (numbers .exit)) (now (sums .exit)))) (now (pace .exit))
+        ≡ pacedList (now (table .entry)) (now (order .entry)) (memoryOf (now (bytes .entry)) (now (words .entry)) (now (numbers .entry)) (now (sums .entry))) (now (pace .entry)) ⌝ }
+{
+    let stop = run(
+        table,
+        order,
+        false,
+        order.len(),
+        bytes,
+        words,
+        numbers,
+        sums,
+        pace,
+    );
+    put_run(row, stop)
+}
+
+// A paced run in rounds, of at most `limit` turns, that goes on after the worker of the latest turn.
+#[no_mangle]
+pub extern "C" fn wivakkol_paced_rounds_on(
+    table: &[u8],
+    limit: u32,
+    bytes: &mut [u8; 1040],
+    words: &mut [u16; 6163],
+    numbers: &mut [u32; 18],
+    sums: &mut [u64; 1027],
+    pace: &mut [u32; 260],
+    row: &mut [u64; 3],
+) -> u32
+    ensures { λ r. ⌜ kept (answer r (now (row .exit)) (memoryOf (now (bytes .exit)) (now (words .exit)) (now (numbers .exit)) (now (sums .exit)))) (now (pace .exit))
+        ≡ pacedRounds (now (table .entry)) limit (memoryOf (now (bytes .entry)) (now (words .entry)) (now (numbers .entry)) (now (sums .entry))) (now (pace .entry)) ⌝ }
+{
+    let stop = run(
+        table,
+        b"",
+        true,
+        limit as usize,
+        bytes,
+        words,
+        numbers,
+        sums,
+        pace,
+    );
+    put_run(row, stop)
+}
