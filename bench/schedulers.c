@@ -386,7 +386,7 @@ int main(int argc, char **argv)
     if (argc < 3)
         fail("arguments: p SEEDS K..");
     p = (uint32_t)strtoul(argv[1], NULL, 10);
-    seeds = (unsigned)strtoul(argv[2], NULL, 10);
+    seeds = p == 1 ? 1 : (unsigned)strtoul(argv[2], NULL, 10); /* one worker has nothing to choose */
     given_length = fread(given, 1, sizeof given, stdin);
     for (i = 3; i < argc; i++) {
         uint32_t quota = (uint32_t)strtoul(argv[i], NULL, 10), refusal = begin(quota);

@@ -6,7 +6,7 @@ usage: python3 bench/schedulers.py [--write | --check]
     the pictures in their places, --check compares, and prints no table.
 
 A run above one of its limits is an error. The limits are worked out here from the facts of wivakkol_check and the peaks of tests/peaks.py, and `memlimit` must say the same of these. Of random
-choices and random victims there are 32 runs each, with fixed seeds.
+choices and random victims there are 32 runs each, with fixed seeds, and one where there is but one worker.
 """
 import argparse
 import collections
@@ -67,6 +67,8 @@ class Case:
             name, quota, *rest = line.split()
             if name == 'runs':
                 self.facts[int(quota)] = Facts(*map(int, rest))
+            elif name == 'refused' and rest != ['44']:
+                raise SystemExit('%s, %d workers: %s' % (self.name, p, line))
             elif name != 'refused':
                 self.runs[name, p, int(quota)].append(Run(*map(int, rest[1:])))
 
@@ -255,7 +257,7 @@ def least_limit(case, name, p, quota):
 
 
 def drawn_of(case, kind, p, quota):
-    """What a curve of the kind shows, or None. Up to the largest alloc the two DFDeques are one."""
+    """What a curve of the kind shows, or None. From the largest alloc on the two DFDeques are one."""
     if quota not in case.facts or kind == 'given' and quota > case.largest:
         return None
     if kind == 'given':
