@@ -1,9 +1,9 @@
 //! AsyncDF for job tables: a scheduler whose memory is bounded beforehand, for every order in which its workers take their turns; and DFDeques, whose workers have deques of their own. The calls
-//! are proved; this crate calls them in the archives `libwivakkol_turn.a`, `libwivakkol.a`, `libwivakkol_tables.a`, `libwivakkol_marks.a`, `libwivakkol_deque_turn.a`, `libwivakkol_deques.a` and
-//! `libwivakkol_desk.a`, which `rt staticlib wivakkol_turn` and so on write, and gives their numbers types. It has no heap, no state and no dependencies. docs/REFERENCE.md of the repository says
-//! what a table is, what a turn does and which bounds hold. The features `tables`, `marks`, `deques` and `desk` are on by default: without the first, [`join`], [`canonical`] and [`compare`] are left
-//! out, and the third archive is not needed; without the second, [`Marks`] and the fourth; without the third, [`DequeRun`] and the next two; without the fourth, [`assemble`] and [`disassemble`] and
-//! the last.
+//! are proved; this crate calls them in the archives `libwivakkol_turn.a`, `libwivakkol.a`, `libwivakkol_tables.a`, `libwivakkol_marks.a`, `libwivakkol_deque_turn.a`, `libwivakkol_deques.a`,
+//! `libwivakkol_desk.a` and `libwivakkol_pace.a`, which `rt staticlib wivakkol_turn` and so on write, and gives their numbers types. It has no heap, no state and no dependencies. docs/REFERENCE.md of the repository says
+//! what a table is, what a turn does and which bounds hold. The features `tables`, `marks`, `deques`, `desk` and `pace` are on by default: without the first, [`join`], [`canonical`] and [`compare`]
+//! are left out, and the third archive is not needed; without the second, [`Marks`] and the fourth; without the third, [`DequeRun`] and the next two; without the fourth, [`assemble`] and
+//! [`disassemble`] and the next; without the fifth, [`Pace`] and the last.
 //!
 //! ```
 //! use wivakkol::{Memory, Report, Run, TablesWork, Work};
@@ -36,6 +36,8 @@ mod limits;
 #[cfg(feature = "marks")]
 mod marks;
 mod memory;
+#[cfg(feature = "pace")]
+mod pace;
 mod raw;
 mod refusal;
 mod run;
@@ -51,6 +53,8 @@ pub use limits::{fit, limit, Fit, Limits};
 #[cfg(feature = "marks")]
 pub use marks::{Marks, MarksWork};
 pub use memory::{LimitWork, Memory, TablesWork, Work};
+#[cfg(feature = "pace")]
+pub use pace::{Pace, Paced};
 pub use refusal::{Place, Refusal};
 pub use run::{Preview, RefusedMemory, Reply, Report, Run, Status, Stopped, Turn};
 #[cfg(feature = "tables")]

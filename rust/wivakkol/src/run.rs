@@ -1,7 +1,7 @@
 //! A run: a table and the memory that it stands in, tied to each other.
-use crate::{Action, Memory, Refusal, Work};
 #[cfg(feature = "marks")]
 use crate::{Marks, MarksWork};
+use crate::{Memory, Refusal, Work};
 use core::fmt;
 use core::ops::DerefMut;
 

@@ -11,4 +11,6 @@ mod desk;
 #[cfg(feature = "marks")]
 mod marks;
 mod model;
+#[cfg(feature = "pace")]
+mod pace;
 mod random;
