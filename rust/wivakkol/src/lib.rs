@@ -36,6 +36,7 @@ mod limits;
 #[cfg(feature = "marks")]
 mod marks;
 mod memory;
+mod owned;
 #[cfg(feature = "pace")]
 mod pace;
 mod raw;
@@ -53,6 +54,7 @@ pub use limits::{fit, limit, Fit, Limits};
 #[cfg(feature = "marks")]
 pub use marks::{Marks, MarksWork};
 pub use memory::{LimitWork, Memory, TablesWork, Work};
+pub use owned::OwnedRun;
 #[cfg(feature = "pace")]
 pub use pace::{Pace, Paced};
 pub use refusal::{Place, Refusal};
