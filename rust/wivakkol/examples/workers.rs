@@ -96,12 +96,8 @@ fn take_a_while(seed: &mut u32) {
 fn step(w: u32, lock: &Mutex<Shared>, ready: &Condvar, blocks: &Blocks, seed: &mut u32) -> bool {
     let mut shared = lock.lock().unwrap();
     let mut run = shared.owned.run();
-    let said = run.turn(w).map(|turn| match turn.reply {
-        Reply::Done { thread, action } => (turn.reply, run.action(action).map(|action| (thread, action))),
-        _ => (turn.reply, None),
-    });
-    let (reply, done) = match said {
-        Ok(said) => said,
+    let turn = match run.turn(w) {
+        Ok(turn) => turn,
         Err(refusal) => {
             if refusal.number != 31 {
                 shared.refused = Some(refusal);
@@ -110,15 +106,19 @@ fn step(w: u32, lock: &Mutex<Shared>, ready: &Condvar, blocks: &Blocks, seed: &m
             return false;
         }
     };
+    let done = match turn.reply {
+        Reply::Done { thread, action } => run.action(action).map(|action| (thread, action)),
+        _ => None,
+    };
     shared.pace.took(w).expect("the pace has the run's workers");
     if let Some((thread, Action::Free { amount })) = done {
         blocks.give_back(thread, amount);
     }
     // Each of these makes at most one thread ready.
-    if matches!(done, Some((_, Action::Fork { .. } | Action::End))) || matches!(reply, Reply::Quota { .. }) {
+    if matches!(done, Some((_, Action::Fork { .. } | Action::End))) || matches!(turn.reply, Reply::Quota { .. }) {
         ready.notify_one();
     }
-    if reply == Reply::Idle {
+    if turn.reply == Reply::Idle {
         shared = ready.wait(shared).unwrap();
     }
     drop(shared);
