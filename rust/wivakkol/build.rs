@@ -1,6 +1,6 @@
 //! Links the archives `libwivakkol_turn.a` and `libwivakkol.a`, which `rt staticlib wivakkol_turn` and `rt staticlib wivakkol` write, with the feature `tables` also `libwivakkol_tables.a`, with
-//! `marks` also `libwivakkol_marks.a`, with `deques` also `libwivakkol_deque_turn.a` and `libwivakkol_deques.a`, and with `desk` also `libwivakkol_desk.a`: from the folder that `WIVAKKOL_ARCHIVE`
-//! names, or else from the repository's own.
+//! `marks` also `libwivakkol_marks.a`, with `deques` also `libwivakkol_deque_turn.a` and `libwivakkol_deques.a`, with `desk` also `libwivakkol_desk.a`, and with `pace` also `libwivakkol_pace.a`: from
+//! the folder that `WIVAKKOL_ARCHIVE` names, or else from the repository's own.
 use std::path::{Path, PathBuf};
 use std::{env, process};
 
@@ -23,6 +23,9 @@ fn main() {
     }
     if env::var_os("CARGO_FEATURE_DESK").is_some() {
         names.push("wivakkol_desk");
+    }
+    if env::var_os("CARGO_FEATURE_PACE").is_some() {
+        names.push("wivakkol_pace");
     }
     for name in names {
         let archive = folder.join(format!("lib{name}.a"));

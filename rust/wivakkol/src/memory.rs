@@ -86,6 +86,10 @@ impl Memory {
         Memory { sums: [0; 1027], numbers: [0; 18], words: [0; 6163], bytes: [0; 1040] }
     }
 
+    pub(crate) fn ended(&self) -> bool {
+        self.status()[0] == 4
+    }
+
     pub(crate) fn begin(&mut self, work: &mut Work, table: &[u8], filled: &mut [u8], p: u32, quota: u32) -> (u32, [u64; 2]) {
         let mut row = [0; 2];
         let parts = self.parts();

@@ -1,5 +1,5 @@
-//! The exported functions as the archives have them. An array is a reference to one of its size, so that the types say what include/wivakkol.h, wivakkol_tables.h, wivakkol_marks.h, wivakkol_deques.h and
-//! wivakkol_desk.h ask of a row, a block or a part of one: it is not NULL, aligned, of the full size and written before, and what is lent to be written overlaps nothing else. tests/calls/declarations.rs
+//! The exported functions as the archives have them. An array is a reference to one of its size, so that the types say what include/wivakkol.h, wivakkol_tables.h, wivakkol_marks.h, wivakkol_deques.h,
+//! wivakkol_desk.h and wivakkol_pace.h ask of a row, a block or a part of one: it is not NULL, aligned, of the full size and written before, and what is lent to be written overlaps nothing else. tests/calls/declarations.rs
 //! holds them against the source.
 
 extern "C" {
@@ -363,5 +363,53 @@ extern "C" {
         falls: &mut [u64; 1024],
         peaks: &mut [u64; 1024],
         depths: &mut [u16; 1024],
+    ) -> u32;
+}
+
+#[cfg(feature = "pace")]
+extern "C" {
+    pub fn wivakkol_pace_begin_on(p: u32, b: u32, pace: &mut [u32; 260]) -> u32;
+
+    pub fn wivakkol_may_on(pace: &[u32; 260], w: u32) -> u32;
+
+    pub fn wivakkol_kept_on(pace: &[u32; 260]) -> u32;
+
+    pub fn wivakkol_took_on(pace: &mut [u32; 260], w: u32) -> u32;
+
+    pub fn wivakkol_paced_turn_on(
+        table: *const u8,
+        length: usize,
+        w: u32,
+        bytes: &mut [u8; 1040],
+        words: &mut [u16; 6163],
+        numbers: &mut [u32; 18],
+        sums: &mut [u64; 1027],
+        pace: &mut [u32; 260],
+        row: &mut [u64; 5],
+    ) -> u32;
+
+    pub fn wivakkol_paced_list_on(
+        table: *const u8,
+        length: usize,
+        order: *const u8,
+        turns: usize,
+        bytes: &mut [u8; 1040],
+        words: &mut [u16; 6163],
+        numbers: &mut [u32; 18],
+        sums: &mut [u64; 1027],
+        pace: &mut [u32; 260],
+        row: &mut [u64; 3],
+    ) -> u32;
+
+    pub fn wivakkol_paced_rounds_on(
+        table: *const u8,
+        length: usize,
+        limit: u32,
+        bytes: &mut [u8; 1040],
+        words: &mut [u16; 6163],
+        numbers: &mut [u32; 18],
+        sums: &mut [u64; 1027],
+        pace: &mut [u32; 260],
+        row: &mut [u64; 3],
     ) -> u32;
 }

@@ -65,6 +65,7 @@ impl Refusal {
             47 => "no part, above 16, or lengths that do not add up to the bytes lent",
             48 => "the joined table passes 1,024 threads or 8,192 actions",
             49 => "the choice is not below p",
+            60 => "the turn would break the rule with the pace's b",
             61 => "too little room for the filled-out table",
             _ => "no number of these calls",
         }

@@ -1,7 +1,7 @@
 //! A run: a table and the memory that it stands in, tied to each other.
-use crate::{Action, Memory, Refusal, Work};
 #[cfg(feature = "marks")]
 use crate::{Marks, MarksWork};
+use crate::{Memory, Refusal, Work};
 use core::fmt;
 use core::ops::DerefMut;
 
@@ -48,7 +48,7 @@ macro_rules! readers {
 
         /// Whether the root has ended: the run is over.
         pub fn ended(&self) -> bool {
-            self.memory.status()[0] == 4
+            self.memory.ended()
         }
 
         /// Where a thread stands; `None` from 1,024 on. Threads that the table does not have are unborn.
@@ -147,7 +147,7 @@ pub enum Status {
     Ended,
 }
 
-/// Memory in which no run was opened, handed back as it was, and why.
+/// Memory in which no run was opened, handed back as it was, with its table by [`OwnedRun::open`](crate::OwnedRun::open), and why.
 pub struct RefusedMemory<M> {
     pub refusal: Refusal,
     pub memory: M,
@@ -186,15 +186,20 @@ pub struct Run<'t, M = &'t mut Memory> {
 /// The run's figures, without its memory and its table.
 impl<M: DerefMut<Target = Memory>> fmt::Debug for Run<'_, M> {
     fn fmt(&self, f: &mut fmt::Formatter<'_>) -> fmt::Result {
-        f.debug_struct("Run")
-            .field("workers", &self.workers())
-            .field("quota", &self.quota())
-            .field("turns", &self.turns())
-            .field("held", &self.held())
-            .field("highest", &self.highest())
-            .field("ended", &self.ended())
-            .finish_non_exhaustive()
+        figures("Run", &self.memory, f)
     }
+}
+
+pub(crate) fn figures(name: &str, memory: &Memory, f: &mut fmt::Formatter<'_>) -> fmt::Result {
+    let ([workers, quota], [held, highest, turns]) = (memory.settings(), memory.totals());
+    f.debug_struct(name)
+        .field("workers", workers)
+        .field("quota", quota)
+        .field("turns", turns)
+        .field("held", held)
+        .field("highest", highest)
+        .field("ended", &memory.ended())
+        .finish_non_exhaustive()
 }
 
 impl<'t> Run<'t> {
@@ -226,7 +231,7 @@ impl<'t> Run<'t> {
 }
 
 impl<'t, M: DerefMut<Target = Memory>> Run<'t, M> {
-    /// [`open`](Run::open) for memory that the run is to have and not only to borrow, such as a `Box<Memory>`: the run may then be kept or returned where no memory stays behind to borrow from.
+    /// [`open`](Run::open) for memory that the run is to have and not only to borrow, such as a `Box<Memory>`: the run may then be kept or returned where no memory stays behind to borrow from; with its table too, it is an [`OwnedRun`](crate::OwnedRun).
     /// Where it is refused, with 32, the memory comes back as it was. `M` must give the same memory each time; one that does not gets answers about whatever it gives.
     ///
     /// ```

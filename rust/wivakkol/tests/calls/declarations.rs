@@ -48,7 +48,7 @@ fn as_pointers(call: &str, parameters: &[String]) -> Vec<String> {
 #[test]
 fn calls_are_of_the_source() {
     let mut source = BTreeMap::new();
-    for name in ["wivakkol_turn", "wivakkol", "wivakkol_tables", "wivakkol_marks", "wivakkol_deque_turn", "wivakkol_deques", "wivakkol_desk"] {
+    for name in ["wivakkol_turn", "wivakkol", "wivakkol_tables", "wivakkol_marks", "wivakkol_deque_turn", "wivakkol_deques", "wivakkol_desk", "wivakkol_pace"] {
         for entry in fs::read_dir(format!("{HERE}/../../crates/{name}/src")).unwrap() {
             let text = fs::read_to_string(entry.unwrap().path()).unwrap();
             source.extend(functions(&text, "pub extern \"C\" fn "));
@@ -56,7 +56,7 @@ fn calls_are_of_the_source() {
     }
     let declared = functions(include_str!("../../src/raw.rs"), "pub fn ");
     assert_eq!(declared.len(), source.len());
-    assert_eq!(declared.len(), 25);
+    assert_eq!(declared.len(), 32);
     for (name, parameters) in declared {
         let exported = source.get(&name).unwrap_or_else(|| panic!("{name} is not exported"));
         assert_eq!(parameters, as_pointers(&name, exported), "{name}");
@@ -94,7 +94,7 @@ fn handed(text: &str, call: &str) -> Vec<String> {
         "&mut work.parents" | "&mut work.work.parents" => "seen".to_string(),
         other => {
             let place = other.trim_start_matches("&mut ").trim_start_matches('&').trim_end_matches("()");
-            let place = place.replace("marks.set", "set").replace("marks.", "mark").replace("work.run.", "spare");
+            let place = place.replace("marks.set", "set").replace("marks.", "mark").replace("pace.numbers", "pace").replace("work.run.", "spare");
             place.trim_start_matches("self.").trim_start_matches("parts.").trim_start_matches("work.").to_string()
         }
     };
@@ -111,7 +111,8 @@ fn memory_is_handed_by_name() {
         include_str!("../../src/tables.rs"),
         include_str!("../../src/marks.rs"),
         include_str!("../../src/deques.rs"),
-        include_str!("../../src/desk.rs")
+        include_str!("../../src/desk.rs"),
+        include_str!("../../src/pace.rs")
     );
     for (call, parameters) in functions(include_str!("../../src/raw.rs"), "pub fn ") {
         let mut names: Vec<&str> = parameters.iter().filter_map(|x| x.split_once(": ")).map(|(name, _)| name).collect();
@@ -126,7 +127,7 @@ fn memory_is_handed_by_name() {
 /// The headers without their comments.
 fn header() -> String {
     let read = |name: &str| fs::read_to_string(format!("{HERE}/../../include/{name}")).unwrap();
-    let text = read("wivakkol.h") + &read("wivakkol_marks.h");
+    let text = read("wivakkol.h") + &read("wivakkol_marks.h") + &read("wivakkol_pace.h");
     text.split("/*").map(|part| part.split_once("*/").map_or(part, |(_, after)| after)).collect()
 }
 
@@ -154,7 +155,7 @@ fn both_fields(in_header: &str, in_crate: &str) -> (Vec<String>, Vec<String>) {
         }
     };
     let wanted: Vec<String> = fields.split(';').filter(|x| !x.trim().is_empty()).map(in_rust).collect();
-    let source = concat!(include_str!("../../src/memory.rs"), include_str!("../../src/marks.rs"));
+    let source = concat!(include_str!("../../src/memory.rs"), include_str!("../../src/marks.rs"), include_str!("../../src/pace.rs"));
     let (_, fields) = source.split_once(&format!("#[repr(C)]\npub struct {in_crate} {{")).unwrap();
     let (fields, _) = fields.split_once('}').unwrap();
     let declared = fields.lines().map(|x| x.trim().trim_start_matches("pub(crate) ").trim_end_matches(',').to_string()).filter(|x| !x.is_empty()).collect();
@@ -170,6 +171,7 @@ fn memory_is_of_the_header() {
         ("wivakkol_limit_work", "LimitWork", 6),
         ("wivakkol_marks", "Marks", 5),
         ("wivakkol_marks_work", "MarksWork", 7),
+        ("wivakkol_pace", "Pace", 1),
     ];
     for (in_header, in_crate, count) in structs {
         let (wanted, declared) = both_fields(in_header, in_crate);

@@ -11,4 +11,7 @@ mod desk;
 #[cfg(feature = "marks")]
 mod marks;
 mod model;
+mod owned;
+#[cfg(feature = "pace")]
+mod pace;
 mod random;
