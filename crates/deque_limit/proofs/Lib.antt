@@ -1,0 +1,2 @@
+pub mod FromFacts
+pub mod ChoiceAnswers
