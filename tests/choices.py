@@ -79,7 +79,7 @@ def given(rng):
     bytes_ = asked(p, min(quota, HIGHEST), data, rng.choice([0, 1, 1, 2, p, p + 1, 65536]))
     kind = rng.randrange(12)
     if kind == 0:
-        return bytes_[:rng.randrange(len(bytes_))]
+        return bytes_[:rng.randrange(rng.choice([8, len(bytes_)]))]
     if kind == 1:
         at = rng.randrange(len(bytes_))
         return bytes_[:at] + bytes([rng.randrange(256)]) + bytes_[at + 1:]
