@@ -56,28 +56,32 @@ given-is : (f : Found) (y x : Bounds) → choicesAs f y ≡ Given x → y ≡ x
 given-is Nothing y x e = cc
 given-is (At r) y x e = no-way (cc)
 
-module _ (s : List ℕ) (p K c : ℕ) (x : Bounds) (e : choiceLimits s p K c ≡ Given x) (r : DequeRun) (b : dequeBegin s p K ≡ record { answer = started; run = r }) (calls : List DequeCall) where
+module _ (s : List ℕ) (p K c : ℕ) (x : Bounds) (e : choiceLimits s p K c ≡ Given x) where
   said : boundsOf (tableOf (filledOut s K)) K c ≡ x
   unfolding choiceLimits
   said = given-is (firstFound (choicePasses s p K c)) (boundsOf (tableOf (filledOut s K)) K c) x e
 
-  abbrev limits : DequeLimit (tableOf (filledOut s K)) p K (afterDequeCalls calls r) (pairsOfCalls calls r)
-  limits = deque-limit s p K r b calls
+  -- a record and the row of turns that led to it
+  module _ (r : DequeRun) (row : List Pair) (l : DequeLimit (tableOf (filledOut s K)) p K r row) where
+    -- where every choice is below c, neither what is held nor the highest so far is above the first number printed
+    pub answer-holds : Choices c row → (r .run .held ≤ x .memory) × (r .run .highest ≤ x .memory)
+    unfolding boundsOf
+    answer-holds h =
+        let d : choiceLimit (tableOf (filledOut s K)) K c ≡ x .memory = ap (λ (y : Bounds). y .memory) said in
+        (rw (← d) (choice-limits (tableOf (filledOut s K)) p K row (r .run .held) (l .held) c h), rw (← d) (choice-limits (tableOf (filledOut s K)) p K row (r .run .highest) (l .highest) c h))
 
-  -- where every choice is below c, neither what is held nor the highest so far is ever above the first number printed
-  pub answer-holds : Choices c (pairsOfCalls calls r) → (afterDequeCalls calls r .run .held ≤ x .memory) × (afterDequeCalls calls r .run .highest ≤ x .memory)
-  unfolding boundsOf
-  answer-holds h =
-      let d : choiceLimit (tableOf (filledOut s K)) K c ≡ x .memory = ap (λ (y : Bounds). y .memory) said in (
-        rw (← d) (choice-limits (tableOf (filledOut s K)) p K (pairsOfCalls calls r) (afterDequeCalls calls r .run .held) (limits .held) c h),
-        rw (← d) (choice-limits (tableOf (filledOut s K)) p K (pairsOfCalls calls r) (afterDequeCalls calls r .run .highest) (limits .highest) c h),
-      )
+    -- and where every choice is 0, above the second
+    pub near-holds : Choices 1 row → (r .run .held ≤ x .near) × (r .run .highest ≤ x .near)
+    unfolding boundsOf
+    near-holds h =
+        let d : nearLimit (tableOf (filledOut s K)) K ≡ x .near = ap (λ (y : Bounds). y .near) said in
+        (rw (← d) (near-limits (tableOf (filledOut s K)) p K row (r .run .held) (l .held) h), rw (← d) (near-limits (tableOf (filledOut s K)) p K row (r .run .highest) (l .highest) h))
 
-  -- and with every choice 0 never above the second
-  pub near-holds : Choices 1 (pairsOfCalls calls r) → (afterDequeCalls calls r .run .held ≤ x .near) × (afterDequeCalls calls r .run .highest ≤ x .near)
-  unfolding boundsOf
-  near-holds h =
-      let d : nearLimit (tableOf (filledOut s K)) K ≡ x .near = ap (λ (y : Bounds). y .near) said in (
-        rw (← d) (near-limits (tableOf (filledOut s K)) p K (pairsOfCalls calls r) (afterDequeCalls calls r .run .held) (limits .held) h),
-        rw (← d) (near-limits (tableOf (filledOut s K)) p K (pairsOfCalls calls r) (afterDequeCalls calls r .run .highest) (limits .highest) h),
-      )
+  -- for every list of calls from the record of the beginning
+  pub calls-hold : (r : DequeRun) → dequeBegin s p K ≡ record { answer = started; run = r } → (calls : List DequeCall) → Choices c (pairsOfCalls calls r)
+      → (afterDequeCalls calls r .run .held ≤ x .memory) × (afterDequeCalls calls r .run .highest ≤ x .memory)
+  calls-hold r b calls h = answer-holds (afterDequeCalls calls r) (pairsOfCalls calls r) (deque-limit s p K r b calls) h
+
+  pub calls-near : (r : DequeRun) → dequeBegin s p K ≡ record { answer = started; run = r } → (calls : List DequeCall) → Choices 1 (pairsOfCalls calls r)
+      → (afterDequeCalls calls r .run .held ≤ x .near) × (afterDequeCalls calls r .run .highest ≤ x .near)
+  calls-near r b calls h = near-holds (afterDequeCalls calls r) (pairsOfCalls calls r) (deque-limit s p K r b calls) h
