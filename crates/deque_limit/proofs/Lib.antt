@@ -1,0 +1,3 @@
+pub mod FromFacts
+pub mod ChoiceAnswers
+pub mod Holds

@@ -1,0 +1,4 @@
+pub mod ChoiceLimit
+pub mod Line
+pub mod Asked
+pub mod ChoiceCases
