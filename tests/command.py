@@ -158,6 +158,8 @@ def runs_of(given, text, table, p, quota):
     answers(['turns', *options], limit)
     for b, between in (0, ()), (2, ('-b', 2)):
         answers(['limit', *options, *between], program('memlimit', input_of(front + 'limit %d\n' % b, text)))
+    for c in 1, p:
+        answers(['limit', '-c', c, *options], program('dequelimit', input_of(front + 'limit %d\n' % c, text)))
     answers(['fill', '-K', quota, given], program('filltable', quota.to_bytes(3, 'little') + table))
     answers(['run', *options], program('runrounds', input_of(front + 'limit %d\n' % int(limit.split()[1]), text)))
     answers(['run', '--rounds', 7, *options], program('runrounds', input_of(front + 'limit 7\n', text)))
@@ -270,6 +272,7 @@ def options_refused():
         refuses([*name, '-p', 2, '-K', 0, e], '-K 0: ' + words(21))
     refuses(['fill', '-K', 0, e], '-K 0: ' + words(21))
     refuses(['limit', '-p', 2, '-K', 6, '-b', 65536, e], '-b 65536: ' + words(41))
+    refuses(['limit', '-p', 2, '-K', 6, '-c', 3, e], '-c 3: ' + words(49))
     for papers in (), ('--papers',):
         refuses(['quota', '-p', 17, '-M', 9, *papers, e], '-p 17: ' + words(20))
         refuses(['quota', '-p', 2, '-b', 65536, '-M', 9, *papers, e], '-b 65536: ' + words(41))
@@ -341,6 +344,7 @@ def wrong_usage():
             (['picture', '-p', '2', '-K', '6', '--deques', '--order', '0', '-b', '1', e],
              '--deques: DFDeques has no b, and takes no -b and no --rule (wivakkol help picture)'),
             (['picture', '-p', '2', '-K', '6', '-b', '1', '--rule', e], '--rule finds b: it takes no -b (wivakkol help picture)'),
+            (['limit', '-p', '2', '-K', '6', '-b', '1', '-c', '1', e], '-c: DFDeques has no b, and takes no -b (wivakkol help limit)'),
             (['check', 'nosuch.text'], 'nosuch.text: No such file or directory'), (['check', 'examples'], 'examples: Is a directory'),
             (['list', '-p', '2', '-K', '6', '--order', '@nosuch', e], 'nosuch: No such file or directory'),
             (['check', e, '-o', 'nosuch/file'], 'nosuch/file: No such file or directory')]:
@@ -409,6 +413,7 @@ def not_built(folder):
                                   (['run', '-p2', '-K6', '--rounds', '7', 'examples/e.text'], 'runrounds', 11), (['asm', 'examples/e.table'], 'tabledis', 4),
                                   (['quota', '-p2', '-M9', 'examples/e.text'], 'fitquota', 9), (['quota', '-p2', '-M9', '--papers', 'examples/e.text'], 'maxquota', 5),
                                   (['picture', '-p2', '-K6', '--deques', '--order', '0', 'examples/e.text'], 'dequelist', 12), (['limit', '-p2', '-K6', 'examples/e.text'], 'memlimit', 10),
+                                  (['limit', '-p2', '-K6', '-c1', 'examples/e.text'], 'dequelimit', 11),
                                   (['picture', '-p2', '-K6', 'examples/e.text'], 'maxturns turnlist', 11)]:
         line = how % (names.replace(' ', ', '), names, minutes)
         expect(' '.join(given), call(*given, command=top / 'tools/wivakkol'), (b'', 'wivakkol: %s\n' % line, 2))
