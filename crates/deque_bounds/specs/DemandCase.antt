@@ -44,13 +44,13 @@ partedBytes =
 abbrev pub parted : Table
 parted = tableOf partedBytes
 
--- k rounds of the two workers with choice c
-unfoldable pub rounds : ℕ → ℕ → List Pair → List Pair
-rounds zero c l = l
-rounds (suc k) c l = pair 0 c ∷ pair 1 c ∷ rounds k c l
+-- k rounds of the two workers, with choices c and e
+unfoldable pub rounds : ℕ → ℕ → ℕ → List Pair → List Pair
+rounds zero c e l = l
+rounds (suc k) c e l = pair 0 c ∷ pair 1 e ∷ rounds k c e l
 
 abbrev pub leaping : List Pair
-leaping = rounds 1 0 (rounds 35 1 (rounds 32 0 (pair 0 0 ∷ [])))
+leaping = rounds 1 0 0 (rounds 35 1 1 (rounds 32 0 0 (pair 0 0 ∷ [])))
 
 pub leaping-held : rowDeques parted 1 (startDeques parted) leaping .state .held ≡ 46
 unfolding rounds rowDeques dequeTurn steal actDeques letGo goesOn robbed own placeOf above bottom acts actBy woken waitsFor taken leftOf without startState firsts kindOf codeOf is forkBelow ownerBelow sumTo anyBelow tableOf

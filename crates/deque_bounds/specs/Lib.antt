@@ -3,3 +3,4 @@ pub mod LimitCases
 pub mod DemandCase
 pub mod Deepest
 pub mod BigCase
+pub mod BigLeaps
