@@ -1,10 +1,10 @@
 /* DFDeques (N13), from C: the second scheduler, over the same tables and in the same memory as wivakkol.h's runs. wivakkol_deque_turn is linked from the archive libwivakkol_deque_turn.a
- * (rt staticlib wivakkol_deque_turn), the other two from libwivakkol_deques.a (rt staticlib wivakkol_deques), in either order; a board without DFDeques needs none of them. What wivakkol.h asks of its
+ * (rt staticlib wivakkol_deque_turn), the other three from libwivakkol_deques.a (rt staticlib wivakkol_deques), in either order; a board without DFDeques needs none of them. What wivakkol.h asks of its
  * callers holds here too, and the answers are proved as those are (crates/wivakkol_deque_turn/src/ and crates/wivakkol_deques/src/ have the promises). wivakkol_deque_turn takes
- * at most 160 bytes of stack, wivakkol_deque_list under 320, wivakkol_deque_open under 8 KB, as measured (tests/deques_calls.py).
+ * at most 160 bytes of stack, wivakkol_deque_list under 320, wivakkol_deque_open and wivakkol_deque_limit under 8 KB, as measured (tests/deques_calls.py).
  *
  * A run is begun by wivakkol_begin, of libwivakkol.a: its memory is then the beginning of both kinds. The limits on memory, threads and turns, rounds, previews, wall charts and marks are
- * AsyncDF's; of a run by these calls none of them is promised. It has limits on memory of its own (docs/REFERENCE.md, DFDeques).
+ * AsyncDF's; of a run by these calls none of them is promised. It has limits on memory of its own (docs/REFERENCE.md, DFDeques), which wivakkol_deque_limit gives.
  *
  * Which kind a run is of is not stored: from its first turn on it is of the kind of that turn, and the calls of the two kinds must not be mixed on it. Nothing notices where they are. Each call then
  * still answers as it is defined for whatever the memory holds, and writes to nothing else, but it is no turn of either run; and wivakkol_open and wivakkol_back, where they return 0 on
@@ -34,7 +34,12 @@ extern "C" {
 /* The row of wivakkol_deque_open has the place alone. */
 #define WIVAKKOL_DEQUE_OPEN_ROW 1
 
-/* The calls as they are exported: a turn and a list on the four blocks, opening on each part by itself, as wivakkol_open_on is. */
+/* The row of wivakkol_deque_limit. */
+#define WIVAKKOL_DEQUE_LIMIT_MEMORY 1 /* no DFDeques run with these p and K whose choices are below c holds more */
+#define WIVAKKOL_DEQUE_LIMIT_NEAR 2   /* the same where every choice is 0, whatever c */
+#define WIVAKKOL_DEQUE_LIMIT_ROW 3
+
+/* The calls as they are exported: a turn and a list on the four blocks, opening on each part by itself, as wivakkol_open_on is, and the limit on each array, as wivakkol_limit_on is. */
 uint32_t wivakkol_deque_turn_on(const uint8_t *table, size_t length, uint32_t w, uint32_t c, uint8_t bytes[WIVAKKOL_BYTES], uint16_t words[WIVAKKOL_WORDS],
                                 uint32_t numbers[WIVAKKOL_NUMBERS], uint64_t sums[WIVAKKOL_SUMS], uint64_t row[WIVAKKOL_DEQUE_TURN_ROW]);
 uint32_t wivakkol_deque_list_on(const uint8_t *table, size_t length, const uint8_t *order, size_t order_length, uint8_t bytes[WIVAKKOL_BYTES],
@@ -45,6 +50,21 @@ uint32_t wivakkol_deque_open_on(const uint8_t *table, size_t length, const uint3
                                 const uint16_t under[1024], const uint16_t over[1024], const uint8_t holds[16], const uint16_t threads[16],
                                 const uint32_t quotas[16], const uint16_t heads[3], const uint64_t totals[3], uint64_t row[WIVAKKOL_DEQUE_OPEN_ROW],
                                 uint64_t rises[1024], uint64_t falls[1024], uint16_t forks[1024], uint16_t seen[1024], uint16_t list[1024]);
+uint32_t wivakkol_deque_limit_on(const uint8_t *table, size_t length, uint32_t p, uint32_t quota, uint32_t c, uint64_t row[WIVAKKOL_DEQUE_LIMIT_ROW],
+                                 uint64_t rises[1024], uint64_t falls[1024], uint64_t serials[1024], uint16_t depths[1024], uint64_t peaks[17408],
+                                 uint64_t rows[17408], uint8_t *filled, size_t room);
+
+/* What a run of DFDeques stays within, from the table alone: two limits of the table that runs with quota K, filled out where an alloc is above K. After a beginning of p workers with this K that
+ * returned 0, and through all turns, lists and openings of what these left, refused calls included, no more is held than the first where every choice of the turns taken is below c, and no more
+ * than the second where every choice is 0; in every order of the workers. The working memory is that of wivakkol_limit, all 0 afterwards, and `filled` is used as in wivakkol_begin.
+ *
+ * Returns 0, or the first check that refuses: 1 to 11, the table's own; 20, p is not 1 to 16; 49, c is not 1 to p; 21, K is not 1 to 16,777,215; 44, the filled-out table would pass 1,024 threads
+ * or 8,192 actions; 61, it has more bytes than `room`, which never comes with a room of WIVAKKOL_TABLE_MOST bytes. Where it refuses, both numbers are 0 and `filled` is as it was. */
+static inline uint32_t wivakkol_deque_limit(wivakkol_limit_work *work, const uint8_t *table, size_t length, uint32_t p, uint32_t quota, uint32_t c,
+                                            uint8_t *filled, size_t room, uint64_t row[WIVAKKOL_DEQUE_LIMIT_ROW])
+{
+    return wivakkol_deque_limit_on(table, length, p, quota, c, row, work->rises, work->falls, work->serials, work->depths, work->peaks, work->rows, filled, room);
+}
 
 /* Opens a run that was put away and brought back, or whose memory someone else has written: wivakkol_open for this kind. Returns 0, or 32: the memory has neither a sound record of DFDeques for
  * this table nor the blank one, all 0. Both lists are part of the record, so that all but the parents (WIVAKKOL_AT_PARENTS) is looked at; these are written where it returns 0, whatever was

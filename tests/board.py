@@ -109,13 +109,17 @@ def header_is_source():
     for call in RUN_CALLS:
         run_call_hands_over(text, call, source['wivakkol_%s_on' % call], call in ('turn', 'list', 'rounds', 'preview'))
     for calls, struct in (NUMBERS, 'tables_work'), (board_limits.NUMBERS, 'limit_work'):
-        lent_work = fields(text, struct)
         for call in calls:
-            result, *parameters = source[call + '_on']
-            taken = {name: (kind, size) for name, kind, size in parameters}
-            assert all(taken.get(name, (kind, size)) == (kind, size) for name, kind, size in lent_work), '%s_on: the working memory' % call
-            inline_on_table(text, call, struct, result, parameters, {name: 'work->' + name for name, _, _ in lent_work})
+            work_handed(text, call, struct, source)
     assert set(source) == {*ACTION_CALLS, *(call + '_on' for call in [*NUMBERS, *board_limits.NUMBERS]), *('wivakkol_%s_on' % call for call in RUN_CALLS)}
+
+
+def work_handed(text, call, struct, source):
+    """A call on a table has its working memory of that struct, and hands it over by its names."""
+    lent_work, (result, *parameters) = fields(text, struct), source[call + '_on']
+    taken = {name: (kind, size) for name, kind, size in parameters}
+    assert all(taken.get(name, (kind, size)) == (kind, size) for name, kind, size in lent_work), '%s_on: the working memory' % call
+    inline_on_table(text, call, struct, result, parameters, {name: 'work->' + name for name, _, _ in lent_work})
 
 
 def same_prototypes(prototypes, source):

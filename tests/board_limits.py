@@ -35,27 +35,37 @@ def drawn_case(rng, given):
     return data, p, b, memory, quota, rng.choice([0, 40, 300, 1000, 36868, 36868])
 
 
+def refused():
+    """Tables to which each of the table's own checks applies: none, E with a byte changed, and one with a thread that nothing forks."""
+    e = example('e.text')
+    return [b'', *(e[:at] + bytes([x]) + e[at + 1:] for at, x in ((0, 0), (0, 4), (8, 6), (16, 6), (17, 3), (40, 0), (21, 1), (25, 1), (45, 7))), table([(END, 0)], [(END, 0)])]
+
+
 def cases(rng, given, count):
     """Each number, too little room by one byte, the examples, the most deeply nested and the widest table, a tree of 1,024 threads, and drawn ones."""
     e, tree = example('e.text'), example('tree.text')
-    # a byte of E changed, so that each of the table's own checks applies
-    refused = [b'', *(e[:at] + bytes([x]) + e[at + 1:] for at, x in ((0, 0), (0, 4), (8, 6), (16, 6), (17, 3), (40, 0), (21, 1), (25, 1), (45, 7))), table([(END, 0)], [(END, 0)])]
-    fixed = [(data, 17, 65536, 0, 0, 0) for data in refused]
+    fixed = [(data, 17, 65536, 0, 0, 0) for data in refused()]
     fixed += [(e, 17, 65536, 0, 0, 0), (e, 2, 65536, 0, 0, 0), (e, 2, 65535, 0, 0, 0)]
     fixed += [(e, 2, 1, 55, 6, 0), (e, 2, 1, 11, 5, 36868), (e, 2, 1, 11, 5, 175), (e, 2, 1, 11, 5, 176), (tree, 4, 0, 440, 12, 0), (tree, 4, 0, 439, 12, 0)]
     fixed += [(stack.nested(), 16, 1, 10, 5, 0), (stack.fan(), 16, 1, 10, 5, 0), (bench.tree(), 16, 1, 27240, 218, 0)]
     return fixed + [drawn_case(rng, rng.choice(given)) for _ in range(count - len(fixed))]
 
 
-def limit_row(data, p, b, quota, room):
-    """Number, row, what is left of the working memory, and the checksum of the room."""
-    said, buffer = limits.said(data, p, quota, b), PAINT * room
+def in_room(said, data, quota, room):
+    """What a limit's call says with so much room for the filled-out table, and what it leaves there, which held the paint."""
+    buffer = PAINT * room
     if said[0] != 'refused':
         runs = filling.filled(data, quota)
         if runs != data and len(runs) > room:
             said = 'refused', 61, 0
         elif runs != data:
             buffer = runs + buffer[len(runs):]
+    return said, buffer
+
+
+def limit_row(data, p, b, quota, room):
+    """Number, row, what is left of the working memory, and the checksum of the room."""
+    said, buffer = in_room(limits.said(data, p, quota, b), data, quota, room)
     return ([said[1], said[2], 0, 0, 0, 0, 0] if said[0] == 'refused' else [0, 0, *said]) + CLEARED + [zlib.crc32(buffer)]
 
 

@@ -1,10 +1,11 @@
-"""Writes the stored input and output of crates/table_cases: inputs of tablecheck, maxquota, maxturns, memlimit and fitquota with a label, and the answer expected of each.
+"""Writes the stored input and output of crates/table_cases: inputs of tablecheck, maxquota, maxturns, memlimit, fitquota and dequelimit with a label, and the answer expected of each.
 
-A record of the input is the label's length (1 byte), the label, 't' for tablecheck, 'q' for maxquota, 'l' for maxturns, 'm' for memlimit or 'f' for fitquota, the input's length (3 bytes), the
-input. Every expected answer is written down here by hand, and held against reference.py, quota.py, most.py, limits.py or fitting.py as well.
+A record of the input is the label's length (1 byte), the label, 't' for tablecheck, 'q' for maxquota, 'l' for maxturns, 'm' for memlimit, 'f' for fitquota or 'd' for dequelimit, the input's
+length (3 bytes), the input. Every expected answer is written down here by hand, and held against reference.py, quota.py, most.py, limits.py, fitting.py or choices.py as well.
 """
 import pathlib
 
+from choices import dequelimit
 from fitting import fitquota
 from limits import memlimit
 from most import asked, maxturns
@@ -222,6 +223,28 @@ FITS = [
     ('41, fit', board(2, 65536, 0, E), 'refused 41 0'),
 ]
 
+# for choices below c and for choices 0: c + 1 threads of the fan can hold their 5 at once
+CHOICES = [
+    ('7 bytes, choices', asked(2, 6, b'')[:7], 'refused 33 0'),
+    ('8 bytes, choices', asked(2, 6, b'', 1), 'refused 1 0'),
+    ('E, c 1', asked(2, 6, E, 1), 'memory 12 near 12'),
+    ('E, c 2', asked(2, 6, E, 2), 'memory 12 near 12'),
+    ('E, K 5, c 1', asked(2, 5, E, 1), 'memory 12 near 12'),
+    ('E, one worker, c 1', asked(1, 6, E, 1), 'memory 12 near 12'),
+    ('a fan of three, c 1', asked(3, 5, three, 1), 'memory 10 near 10'),
+    ('a fan of three, c 2', asked(3, 5, three, 2), 'memory 15 near 10'),
+    ('one end, choices', asked(16, 1, least, 16), 'memory 0 near 0'),
+    ('the table before 20, choices', asked(0, 0, table([free(1), end])), 'refused 10 0'),
+    ('20 before 49', asked(17, 0, E, 18), 'refused 20 0'),
+    ('c 0', asked(2, 6, E, 0), 'refused 49 0'),
+    ('c above p', asked(2, 6, E, 3), 'refused 49 0'),
+    ('c 65,537', asked(2, 6, E, 65537), 'refused 49 0'),
+    ('49 before 21', asked(2, 0, E, 3), 'refused 49 0'),
+    ('21 before 44, choices', asked(1, 0, one(513), 1), 'refused 21 0'),
+    ('44, choices', asked(1, 1, one(513, 2), 1), 'refused 44 2'),
+    ('a byte more, choices', asked(2, 6, E + b'\0', 1), 'refused 3 0'),
+]
+
 
 def answers():
     """Label, program, input, expected answer and the model's, of every case."""
@@ -235,6 +258,8 @@ def answers():
         yield label, b'm', case, expected, memlimit(case)
     for label, case, expected in FITS:
         yield label, b'f', case, expected, fitquota(case)
+    for label, case, expected in CHOICES:
+        yield label, b'd', case, expected, dequelimit(case)
 
 
 def main():
@@ -248,7 +273,7 @@ def main():
     folder = pathlib.Path(__file__).parent.parent / 'crates' / 'table_cases'
     (folder / 'stdin').write_bytes(data)
     (folder / 'stdout').write_text(text)
-    print('%d cases, %d bytes' % (sum(map(len, (CASES, QUOTAS, TURNS, LIMITS, FITS))), len(data)))
+    print('%d cases, %d bytes' % (sum(map(len, (CASES, QUOTAS, TURNS, LIMITS, FITS, CHOICES))), len(data)))
 
 
 if __name__ == '__main__':

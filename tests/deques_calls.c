@@ -6,8 +6,9 @@
  *   o                  wivakkol_deque_open
  *   w W C              wivakkol_deque_turn
  *   l LENGTH ORDER     wivakkol_deque_list
- * with numbers of 4 bytes; each of the last four is answered by the number (4) and the row. Then come, of begin, the bytes of the room, which held the paint; of begin and open, a byte for each
- * field of the working memory, which holds noise before the call: 0, it is all 0; 1, it is as it was; 2, neither. Last comes the whole of the run's memory.
+ *   x P K C ROOM       wivakkol_deque_limit, with so much room for the filled-out table
+ * with numbers of 4 bytes; each of the last five is answered by the number (4) and the row. Then come, of begin and limit, the bytes of the room, which held the paint; of begin, open and limit, a
+ * byte for each field of the working memory, which holds noise before the call: 0, it is all 0; 1, it is as it was; 2, neither. Last comes the whole of the run's memory.
  *
  * A last line has the most stack that each call took, in bytes, its arguments there and its return address included. The table, the order and the room for the filled-out table each end where the
  * readable memory ends, the first two in pages that may not be written; each row, the run and the working memory stand between numbers that must stay, and a row holds anything before the call. */
@@ -16,6 +17,7 @@
 #include "wivakkol_deques.h"
 
 #define MOST_ROW WIVAKKOL_DEQUE_TURN_ROW
+#define CALLS 5
 
 static uint8_t *memory, *orders, *fillings, *steps;
 
@@ -32,9 +34,12 @@ static struct {
     uint64_t between[FENCES];
     wivakkol_work work;
     uint64_t above[FENCES];
+    wivakkol_limit_work limits;
+    uint64_t beyond[FENCES];
 } lent;
 
 static wivakkol_work before;
+static wivakkol_limit_work limits_before;
 
 static void begin(void)
 {
@@ -54,6 +59,11 @@ static void turn(void)
 static void list(void)
 {
     call.number = wivakkol_deque_list(&lent.run, call.table, call.length, call.order, call.order_length, call.row + 1);
+}
+
+static void limit(void)
+{
+    call.number = wivakkol_deque_limit(&lent.limits, call.table, call.length, call.p, call.quota, call.c, call.filled, call.room, call.row + 1);
 }
 
 /* A function that does nothing, with the parameters of wivakkol_deque_turn_on; called as that is, its address not known. */
@@ -94,7 +104,7 @@ static void make(void (*f)(void), size_t entries, size_t *most)
         if (call.row[i] != FENCE)
             fail("written above the row");
     for (i = 0; i < FENCES; i++)
-        if (lent.below[i] != FENCE || lent.between[i] != FENCE || lent.above[i] != FENCE)
+        if (lent.below[i] != FENCE || lent.between[i] != FENCE || lent.above[i] != FENCE || lent.beyond[i] != FENCE)
             fail("written outside the run or the working memory");
 }
 
@@ -133,10 +143,9 @@ static void put_run(void)
     put(&lent.run, sizeof lent.run);
 }
 
-/* A beginning in so much room. What is below the room stays as it was. */
-static void begin_step(uint32_t bytes, size_t *most)
+/* A call with so much room for the filled-out table. What is below the room stays as it was. */
+static void make_in_room(void (*f)(void), size_t entries, uint32_t bytes, size_t *most)
 {
-    uint64_t size;
     size_t i;
 
     if (bytes > ROOM - FENCES)
@@ -144,13 +153,38 @@ static void begin_step(uint32_t bytes, size_t *most)
     call.filled = place(fillings, bytes);
     call.room = bytes;
     memset(fillings, PAINT, ROOM);
-    stir();
-    make(begin, WIVAKKOL_BEGIN_ROW, most);
+    make(f, entries, most);
     for (i = 1; i <= FENCES; i++)
         if (call.filled[-(ptrdiff_t)i] != PAINT)
             fail("written below the room");
-    put_answer(WIVAKKOL_BEGIN_ROW);
+    put_answer(entries);
     put(call.filled, bytes);
+}
+
+#define LIMIT_LEFT(field) left(lent.limits.field, limits_before.field, sizeof lent.limits.field)
+
+static void limit_step(const uint8_t *s, size_t *most)
+{
+    uint8_t fields[6];
+
+    call.p = (uint32_t)little(s + 1, 4);
+    call.quota = (uint32_t)little(s + 5, 4);
+    call.c = (uint32_t)little(s + 9, 4);
+    noise(&lent.limits, sizeof lent.limits);
+    limits_before = lent.limits;
+    make_in_room(limit, WIVAKKOL_DEQUE_LIMIT_ROW, (uint32_t)little(s + 13, 4), most);
+    fields[0] = LIMIT_LEFT(rises), fields[1] = LIMIT_LEFT(falls), fields[2] = LIMIT_LEFT(serials);
+    fields[3] = LIMIT_LEFT(depths), fields[4] = LIMIT_LEFT(peaks), fields[5] = LIMIT_LEFT(rows);
+    put(fields, sizeof fields);
+    put_run();
+}
+
+static void begin_step(uint32_t bytes, size_t *most)
+{
+    uint64_t size;
+
+    stir();
+    make_in_room(begin, WIVAKKOL_BEGIN_ROW, bytes, most);
     put_work();
     put_run();
     size = call.row[1 + WIVAKKOL_FILLED];
@@ -160,7 +194,7 @@ static void begin_step(uint32_t bytes, size_t *most)
     }
 }
 
-/* A call that moves a run; how many bytes its step has. */
+/* A call that moves a run, or the limit; how many bytes its step has. */
 static size_t move_step(const uint8_t *s, size_t *most)
 {
     uint32_t x = (uint32_t)little(s + 1, 4);
@@ -184,6 +218,9 @@ static size_t move_step(const uint8_t *s, size_t *most)
         put_answer(WIVAKKOL_DEQUE_LIST_ROW);
         put_run();
         return 5 + x;
+    case 'x':
+        limit_step(s, &most[4]);
+        return 17;
     }
     fail("no such step");
     return 0;
@@ -233,7 +270,7 @@ static void print_layout(void)
 int main(void)
 {
     uint8_t front[4];
-    size_t length, at, i, most[4] = {0, 0, 0, 0};
+    size_t length, at, i, most[CALLS] = {0};
 
     memory = room();
     orders = room();
@@ -243,7 +280,7 @@ int main(void)
     if (stack == NULL || steps == NULL)
         fail("no memory");
     for (i = 0; i < FENCES; i++)
-        lent.below[i] = lent.between[i] = lent.above[i] = FENCE;
+        lent.below[i] = lent.between[i] = lent.above[i] = lent.beyond[i] = FENCE;
     print_layout();
     while (got(front, sizeof front)) {
         length = (size_t)little(front, 4);
@@ -254,7 +291,7 @@ int main(void)
         fflush(stdout);
     }
     printf("stack");
-    for (i = 0; i < 4; i++)
+    for (i = 0; i < CALLS; i++)
         printf(" %zu", most[i] > 0 ? most[i] - around() : 0); /* 0 of a call that was not made */
     printf("\n");
     return 0;

@@ -1,6 +1,6 @@
 """Holds the calls of libwivakkol_deque_turn.a and libwivakkol_deques.a against lent_deques.py, which was written on its own: on runs of DFDeques from a beginning, on records whose deques were laid by hand, and on damaged
 and random memory. Number, row and all of the memory after every call, cleared working memory, and the stack that a call uses; the header with the source. Sound runs are held against deques.py
-as well, turn by turn.
+as well, turn by turn. The limit is held against choices.py, on tables of its own.
 
 usage: python3 tests/deques_calls.py [COUNT]
     From the repository's top, after `rt staticlib` of wivakkol_deque_turn, wivakkol_deques and wivakkol; COUNT runs of each kind, or half as many, default 1,000; needs a C compiler, `cc`.
@@ -13,7 +13,9 @@ import random
 import sys
 
 import board
+import board_limits
 import board_runs
+import choices
 import deques
 import lent
 import lent_deques
@@ -23,12 +25,15 @@ from deques import Deque
 from differential import LARGEST, beginning, mostly, run_table, tablecheck_input
 from lent import FIELDS, SIZE
 from machine import ENDED, HELD, LAST_TURN, NO_THREAD, READY, THREADS, UNBORN, WAITING, WORKERS, described
+from peaks import bench, example
 from reference import ALLOC, END, FORK, FREE, JOIN, WORK, Table
 from tables import damaged, table
 
+import stack  # of bench/, which peaks puts on the path
+
 CRATES = ['wivakkol_deque_turn', 'wivakkol_deques', 'wivakkol']
 ARCHIVES = ['target/staticlib/lib%s.a' % crate for crate in CRATES]
-STACK_MOST = {'begin': 8192, 'open': 8192, 'turn': 161, 'list': 320}  # bytes that a call must stay below, as the header says
+STACK_MOST = {'begin': 8192, 'open': 8192, 'turn': 161, 'list': 320, 'limit': 8192}  # bytes that a call must stay below, as the header says
 E = table([(FORK, 1), (FORK, 2), (JOIN, 2), (JOIN, 1), (END, 0)], [(ALLOC, 6), (WORK, 0), (FREE, 6), (END, 0)], [(ALLOC, 6), (FREE, 6), (END, 0)])
 
 
@@ -47,6 +52,16 @@ class Play(board_runs.Play):
     def list(self, order):
         self.add(b'l', word(len(order)), bytes(order))
         return self.run_answered('list', *self.run.run_pairs(bytes(order)))
+
+    def limit(self, p, quota, c, room):
+        """Whatever the memory holds, which stays."""
+        self.add(b'x', word(p), word(quota), word(c), word(room))
+        said, buffer = board_limits.in_room(choices.said(self.data, p, quota, c), self.data, quota, room)
+        number, row = (said[1], [said[2], 0, 0]) if said[0] == 'refused' else (0, [0, *said])
+        self.reached['limit %d' % number] += 1
+        self.reached['limit filled out'] += number == 0 and buffer[:1] != board_limits.PAINT and room > 0
+        self.answers.append(word(number) + b''.join(word(x, 8) for x in row) + buffer + bytes(board_limits.CLEARED) + bytes(self.memory.bytes))
+        return number, row
 
 
 # ---- sound runs, held against deques.py as well
@@ -374,16 +389,47 @@ def random_run(rng):
     return play
 
 
+# ---- the limit
+
+def limit_figures(rng):
+    """Each refusal, numbers whose low byte is in range, too little room by one byte, the examples, the most deeply nested and the widest table, and a tree of 1,024 threads."""
+    e, tree = example('e.text'), example('tree.text')
+    asked = [(data, 17, 0, 0, 0) for data in board_limits.refused()]
+    asked += [(e, p, 0, 0, 0) for p in (0, 17, 258, 2**32 - 1)] + [(e, 2, 0, c, 0) for c in (0, 3, 257, 65537, 2**32 - 1)] + [(e, 2, quota, 2, 0) for quota in (0, 2**24, 2**24 + 6, 2**32 - 1)]
+    asked += [(e, 2, 6, 1, 0), (e, 2, 6, 2, 0), (e, 2, 5, 1, 175), (e, 2, 5, 1, 176), (tree, 4, 12, 3, 0), (tree, 4, 12, 1, 0)]
+    asked += [(data, 16, 218, c, 0) for data in (stack.nested(), stack.fan(), bench.tree()) for c in (1, 16)]
+    play = Play(rng.randbytes(SIZE), b'')
+    given = []
+    for data, *numbers in asked:
+        play.change_table(data)
+        given.append(play.limit(*numbers))
+    assert [(0, [0, 12, 12])] * 2 == given[24:26] and given[26:30] == [(61, [0, 0, 0]), (0, [0, 12, 12]), (0, [0, 1160, 124]), (0, [0, 124, 124])], given[24:30]
+    return play
+
+
+def drawn_limits(rng):
+    """Small tables, since the model is slow, at times damaged; p, K and c at times far out of range."""
+    play = Play(rng.randbytes(SIZE), b'')
+    for _ in range(3):
+        data, quota = choices.table_for(rng)
+        p = rng.choice([1, 2, 2, 3, 4, 16])
+        c = mostly(rng, rng.choice([1, 1, 2, p, rng.randint(1, p)]), 0, p + 1, 256 + p, 65536 + p, *FAR)
+        play.change_table(damaged(rng, data) if rng.random() < 0.1 else data)
+        play.limit(mostly(rng, p, 0, *FAR, 256 + p), mostly(rng, quota, 2**24, 2**24 + 1, 2**32 - 1), c, rng.choice([0, 40, 300, 1000, 36868, 36868]))
+    return play
+
+
 # ---- what is compared
 
-NUMBERS = {'begin': [*range(12), 20, 21, 44], 'open': [0, 32], 'turn': [0, 30, 31, 32, 49], 'list': [0, 30, 32, 49]}
+NUMBERS = {'begin': [*range(12), 20, 21, 44], 'open': [0, 32], 'turn': [0, 30, 31, 32, 49], 'list': [0, 30, 32, 49],
+           'limit': [*range(12), 20, 21, 44, 49, lent.NO_ROOM]}
 WANTED = ['%s %d' % (name, x) for name, numbers in NUMBERS.items() for x in numbers] + [*lent.SAID.values(), 'turns', *lent_deques.MISFITS]
 WANTED += ['list %s' % what for what in (*lent.RUN_SAID.values(), 'with turns', 'without', 'of an odd length', 'turns', *lent_deques.MISFITS)]
 COMMON = [clause.__name__ for clause in machine.CLAUSES if clause.__name__ not in deques.NOT_OF_DEQUES]
 # a deque with neither owner nor thread has no line: no memory breaks owner_or_thread
 CLAUSES = ['length', 'table', 'settings', *COMMON, 'each_thread_one', 'owners_right', 'links_describe', 'truth values', 'truth values alone']
 WANTED += ['open %s' % what for what in ('sound', 'blank', 'as it was', 'mended', *CLAUSES)]
-WANTED += ['steal', 'no deque there', 'two deques and more', 'a deque of three and more', 'lines in any order: sound']
+WANTED += ['limit filled out', 'steal', 'no deque there', 'two deques and more', 'a deque of three and more', 'lines in any order: sound']
 WANTED += [name + ': refused' for name in ('a thread less', 'no thread', 'a thread too many', 'lines in a circle', 'all in one line', 'the last line without a bottom',
                                            'a held thread inside a line', 'bottoms in another order', 'a bottom less', 'lines, a link to the left', 'lines, a link to the right',
                                            'lines, another leftmost', 'bottoms, a link to the left', 'bottoms, a link to the right', 'bottoms, another leftmost')]
@@ -401,6 +447,8 @@ def parts(rng, count):
         ('damaged', (opened_run(rng) for _ in range(count // 2))),
         ('damaged', (damaged_run(rng) for _ in range(count))),
         ('random', (random_run(rng) for _ in range(count))),
+        ('limits', (limit_figures(rng) for _ in range(1))),
+        ('limits', (drawn_limits(rng) for _ in range(count // 4))),
     )
 
 
@@ -422,7 +470,8 @@ def header_is_source():
     board.same_prototypes({name: said for name, said in board.prototypes_of(text).items() if name.startswith('wivakkol_deque_')}, source)
     for name in ('turn', 'list', 'open'):
         board.run_call_hands_over(text, 'deque_' + name, source['wivakkol_deque_%s_on' % name], name != 'open')
-    assert len(source) == 3
+    board.work_handed(text, 'wivakkol_deque_limit', 'limit_work', source)
+    assert len(source) == 4
 
 
 def main():

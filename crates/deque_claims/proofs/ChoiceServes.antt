@@ -1,8 +1,13 @@
 -- What `dequelimit` gives serves: over every history of calls from a beginning with the same p and K whose choices are below c, refused ones included, memory held and its highest are at most
--- its first number, and with choices 0 at most its second.
-use mathlib.Core.Path.{_≡_}
+-- its first number, and with choices 0 at most its second. So do the numbers that `wivakkol_deque_limit_on` puts into its row (`limit-call-serves`).
+use mathlib.Core.Path.{_≡_, sym, _∙_}
 use Prim.Native.Nat.{ℕ, _≤_}
-use mathlib.Core.List.{List}
+use mathlib.Core.List.{List, [], _∷_}
+use lib.ListN.{length, getD}
+use contract.Lifetimes.{Lfts}
+use denote.Ref.{RefT, now}
+use denote.Triple.Clauses.{AtExit}
+use borrow.Fn.Kinds.{endedOf}
 use Rattle.schedule.specs.declared.Beginning.the-variants.{Begun as started}
 use Rattle.run_memory.specs.Memory.{Memory, Answer}
 use Rattle.deques.specs.declared.DequeRun.{DequeRun}
@@ -12,9 +17,13 @@ use Rattle.deques.specs.DequeCalls.{DequeCall}
 use Rattle.deque_bounds.proofs.HeldLimits.{Choices}
 use Rattle.deque_limit.specs.declared.Bounds.{Bounds}
 use Rattle.deque_limit.specs.declared.ChoiceLimits.the-variants.{Given}
-use Rattle.deque_limit.specs.ChoiceLimit.{choiceLimits}
+use Rattle.deque_limit.specs.ChoiceLimit.{choiceLimits, choiceLimitsIn}
 use Rattle.deque_limit.proofs.Holds.{answer-holds, near-holds}
 use Rattle.stealing.specs.StealingMemory.{dequeRunIn}
+use Rattle.wivakkol_deques.specs.ChoiceRows.{choiceNumber, choiceRow}
+use Rattle.wivakkol_deques.proofs.ChoiceRows.{choice-zero}
+use Rattle.wivakkol_deques.proofs.limit.wivakkol_deque_limit_on.Kinds as limit-kinds
+use Rattle.wivakkol_deques.proofs.limit.wivakkol_deque_limit_on.Reads as limit-promise
 use Rattle.claims.specs.LentCalls.{tableThatRuns, Returned}
 use Rattle.claims.proofs.LentSays.{BeginSays}
 use Rattle.deque_claims.specs.LentDequeCalls.{LentDequeCall}
@@ -41,3 +50,39 @@ pub lent-code-choices-serve : (s : List ℕ) (p K c : ℕ) (x : Bounds) → choi
 lent-code-choices-serve s p K c x e {out} {filled} {a} h i {l} {answers} {row} {M} t =
     let r : DequeRun = dequeRunIn (tableThatRuns s a filled) M in
     record { below = answer-holds s p K c x e r row (lent-code-deque-limit h i t); near = near-holds s p K c x e r row (lent-code-deque-limit h i t) }
+
+-- ---- the call from C
+
+-- `wivakkol_deque_limit_on`, lent a table s, a buffer of so many bytes and working memory that held anything, returned `number` and left `row`
+pub record LimitSays (s : List ℕ) (p K c room number : ℕ) (row : List ℕ) : Type 0 where
+  pub lifetimes : Lfts 9
+  pub table : RefT (List ℕ)
+  pub before : RefT (List ℕ)
+  pub rises : RefT (List ℕ)
+  pub falls : RefT (List ℕ)
+  pub serials : RefT (List ℕ)
+  pub depths : RefT (List ℕ)
+  pub peaks : RefT (List ℕ)
+  pub rows : RefT (List ℕ)
+  pub buffer : RefT (List ℕ)
+  pub lent : now table ≡ s
+  pub lent-room : length (now buffer) ≡ room
+  pub exit : AtExit (endedOf 9 limit-kinds.ps limit-kinds.r) lifetimes
+  pub left : now (exit .1 .1 .1 .1 .0) ≡ row
+  pub promised : limit-promise.Learnt lifetimes (table, (p, (K, (c, (before, (rises, (falls, (serials, (depths, (peaks, (rows, (buffer, tt)))))))))))) number exit
+
+pub limit-number : {s : List ℕ} {p K c room number : ℕ} {row : List ℕ} → LimitSays s p K c room number row → number ≡ choiceNumber (choiceLimitsIn s p K c room)
+limit-number {s} {p} {K} {c} h = h .promised .0 ∙ (λ i. choiceNumber (choiceLimitsIn (h .lent i) p K c (h .lent-room i)))
+
+pub limit-row : {s : List ℕ} {p K c room number : ℕ} {row : List ℕ} → LimitSays s p K c room number row → row ≡ choiceRow (choiceLimitsIn s p K c room)
+limit-row {s} {p} {K} {c} h = sym (h .left) ∙ h .promised .1 .0 ∙ (λ i. choiceRow (choiceLimitsIn (h .lent i) p K c (h .lent-room i)))
+
+-- where it returned 0, the two numbers behind the place in its row serve
+pub limit-call-serves : {s : List ℕ} {p K : ℕ} (c : ℕ) {room number : ℕ} {left : List ℕ} → LimitSays s p K c room number left → number ≡ 0
+    → {out filled : List ℕ} {a : Answer} → BeginSays s p K out a filled → a .number ≡ 0
+    → {l : List LentDequeCall} {answers : List Returned} {row : List Pair} {M : Memory} → DequeHistory (tableThatRuns s a filled) (a .memory) l answers row M
+    → Served c (record { memory = getD left 1 0; near = getD left 2 0 }) (dequeRunIn (tableThatRuns s a filled) M) row
+limit-call-serves {s} {p} {K} c {room} {number} {left} q z {out} {filled} {a} h i {l} {answers} {row} {M} t =
+    let (x, (e, d)) = choice-zero s p K c room (sym (limit-number q) ∙ z) in
+    let f : left ≡ (0 ∷ x .memory ∷ x .near ∷ []) = limit-row q ∙ d in
+    rw f (lent-code-choices-serve s p K c x e h i t)

@@ -9,7 +9,7 @@ use lib.Dec.{ltb}
 use borrow.Author.Tests.{lt-ltb, le-ltb}
 use Rattle.table.specs.Sum.{pick, anyBelow}
 use Rattle.table.specs.Format.{tableOf}
-use Rattle.table.specs.Pass.{orElse, refusal, tryAt, tryFrom, tryPass, firstFound}
+use Rattle.table.specs.Pass.{refusal, firstFound}
 use Rattle.table.specs.Checks.{outside, passes}
 use Rattle.table.specs.Rules.{Rules}
 use Rattle.table.specs.declared.Refusal.{Refusal}
@@ -17,53 +17,31 @@ use Rattle.table.specs.declared.Found.{Found}
 use Rattle.table.specs.declared.Found.the-variants.{Nothing, At}
 use Rattle.table.proofs.Tests.{no-way}
 use Rattle.table.proofs.Sizes.{inside}
-use Rattle.table.proofs.Passes.{firstFound-append}
 use Rattle.filling.specs.declared.Filling.{Filling}
 use Rattle.order.specs.Words.{isNothing}
 use Rattle.filling.specs.Filled.{big, filledOut, fillPass}
 use Rattle.filling.specs.Filling.{filledInto}
 use Rattle.schedule.specs.Record.{maxWorkers}
-use Rattle.schedule.specs.Begin.{beginPasses}
 use Rattle.schedule.proofs.Stores.{Fits}
 use Rattle.schedule.proofs.Beginnings.{silent-runs}
 use Rattle.soundness.specs.Tested.{parentsIf, nextIf, beginFound, beginFilling, begunInto}
 use Rattle.soundness.proofs.Fillings.{runs, given-runs, fills-given, fills-none, front-is, fills-whole, sized}
-use Rattle.useful_limit.specs.Limits.{workersCheck, quotaCheck, settings, roomFor}
+use Rattle.useful_limit.specs.Limits.{quotaCheck, roomFor}
+use Rattle.useful_limit.specs.Code.Parts.{wideFault}
+use Rattle.useful_limit.proofs.Settings.{wide-found, narrow-found}
 use Rattle.deque_limit.specs.declared.ChoiceLimits.{ChoiceLimits}
 use Rattle.deque_limit.specs.declared.ChoiceLimits.the-variants.{Given, Refused}
 use Rattle.deque_limit.specs.ChoiceLimit.{boundsOf, choicesCheck, choicePasses, choiceLimits, choiceLimitsIn, choiceLimitsInto}
-use Rattle.deque_limit.specs.Asked.{Asked, wideFault}
+use Rattle.deque_limit.specs.Asked.{Asked}
 
 -- ---- the checks
 
 module _ (s : List ℕ) (p K c : ℕ) where
-  -- c is out of its range
-  wide-settings : outside 1 p c ≡ true → (q : Bool) → outside 1 maxWorkers p ≡ q → tryPass (settings (workersCheck p ∷ choicesCheck p c ∷ quotaCheck K ∷ [])) ≡ At (refusal (pick q 20 49) 0)
-  unfolding tryPass tryFrom tryAt
-  wide-settings h true e = rw e
-  wide-settings h false e = rw (e, h)
-
-  found-wide : outside 1 p c ≡ true → firstFound (choicePasses s p K c) ≡ At (wideFault (firstFound (passes s)) (outside 1 maxWorkers p))
-  unfolding firstFound
-  found-wide h =
-      firstFound-append (passes s) (settings (workersCheck p ∷ choicesCheck p c ∷ quotaCheck K ∷ []) ∷ fillPass (tableOf s) K ∷ [])
-      ∙ rw (wide-settings h (outside 1 maxWorkers p) refl) (go (firstFound (passes s)))
-    where
-      go : (f : Found) → orElse f (At (refusal (pick (outside 1 maxWorkers p) 20 49) 0)) ≡ At (wideFault f (outside 1 maxWorkers p))
-      go Nothing = refl
-      go (At r) = refl
-
-  -- c is in its range
-  begin-settings : outside 1 p c ≡ false → tryPass (settings (workersCheck p ∷ choicesCheck p c ∷ quotaCheck K ∷ [])) ≡ tryPass (settings (workersCheck p ∷ quotaCheck K ∷ []))
-  unfolding tryPass tryFrom tryAt
-  begin-settings h = rw (h)
+  found-wide : outside 1 p c ≡ true → firstFound (choicePasses s p K c) ≡ At (wideFault (firstFound (passes s)) (outside 1 maxWorkers p) 49)
+  found-wide h = wide-found s p (choicesCheck p c) h (quotaCheck K ∷ []) (fillPass (tableOf s) K ∷ [])
 
   found-begin : outside 1 p c ≡ false → firstFound (choicePasses s p K c) ≡ beginFound s p K
-  unfolding firstFound
-  found-begin h =
-      firstFound-append (passes s) (settings (workersCheck p ∷ choicesCheck p c ∷ quotaCheck K ∷ []) ∷ fillPass (tableOf s) K ∷ [])
-      ∙ ap (λ (f : Found). orElse (firstFound (passes s)) (orElse f (firstFound (fillPass (tableOf s) K ∷ [])))) (begin-settings h)
-      ∙ sym (firstFound-append (passes s) (beginPasses (tableOf s) p K))
+  found-begin h = narrow-found s p (choicesCheck p c) h K
 
   -- ---- the answers
 
@@ -76,7 +54,7 @@ module _ (s : List ℕ) (p K c : ℕ) where
     unfolding choiceLimitsIn choiceLimits
     answer-refused e = (rw e, rw e)
 
-    pub answer-wide : outside 1 p c ≡ true → {r : Refusal} → r ≡ wideFault (firstFound (passes s)) (outside 1 maxWorkers p) → Answers (Refused r) out
+    pub answer-wide : outside 1 p c ≡ true → {r : Refusal} → r ≡ wideFault (firstFound (passes s)) (outside 1 maxWorkers p) 49 → Answers (Refused r) out
     answer-wide h e = answer-refused (found-wide h ∙ ap At (sym e))
 
     module _ (h : outside 1 p c ≡ false) (r : Filling) (e : r ≡ beginFilling s p K) where
@@ -144,7 +122,7 @@ choices-whole s p K c room h = go (firstFound (choicePasses s p K c)) refl
     filled-small e = sized s p K [] (beginFilling s p K) refl e .1
 
     small : firstFound (choicePasses s p K c) ≡ Nothing → (q : Bool) → outside 1 p c ≡ q → length (filledOut s K) ≤ 36868
-    small e true g = let d : At (wideFault (firstFound (passes s)) (outside 1 maxWorkers p)) ≡ Nothing = sym (found-wide s p K c g) ∙ e in no-way (cc)
+    small e true g = let d : At (wideFault (firstFound (passes s)) (outside 1 maxWorkers p) 49) ≡ Nothing = sym (found-wide s p K c g) ∙ e in no-way (cc)
     small e false g = filled-small (sym (found-begin s p K c g) ∙ e)
 
     fits : (q : Bool) → length (filledOut s K) ≤ 36868 → pick q (length (filledOut s K)) 0 ≤ room

@@ -1,20 +1,19 @@
 // What `dequelimit` says: the checks in their order, the table that runs, and its numbers.
 use crate::ChoiceLimits;
 use crate::numbers::numbers;
-use checks::check_in;
 use filling::fill_in;
+use quota::outside;
 use soundness::begin_fault;
 use table::Found;
 use table::Loaded;
 use table::Refusal;
+use useful_limit::wide_fault;
 ghost use mathlib.Core.Path.{_≡_};
 ghost use lib.ListN.{length};
 ghost use Rattle.table.specs.Format.{tableOf};
-ghost use Rattle.table.specs.Pass.{firstFound};
-ghost use Rattle.table.specs.Checks.{outside as isOutside, passes};
 ghost use Rattle.table.specs.Rules.{Rules};
 ghost use Rattle.deque_limit.specs.ChoiceLimit.{boundsOf, choiceLimitsIn, choiceLimitsInto};
-ghost use Rattle.deque_limit.specs.Asked.{Asked, wideFault};
+ghost use Rattle.deque_limit.specs.Asked.{Asked};
 
 // Of the bytes of an accepted table.
 fn numbers_for(
@@ -40,32 +39,6 @@ fn numbers_for(
     }
 }
 
-fn outside(low: u32, high: u32, x: u32) -> bool
-    ensures { λ r. ⌜ r ≡ isOutside low high x ⌝ }
-{
-    x < low || high < x
-}
-
-// c is out of its range: the table's own checks, then 20, then 49.
-fn wide_fault(table: &[u8], p: u8, rises: &mut [u64; 1024], falls: &mut [u64; 1024]) -> Refusal
-    ensures { λ r. ⌜ r ≡ wideFault (firstFound (passes (now (table .entry)))) (isOutside 1 16 p) ⌝ }
-{
-    let found = check_in(table, rises, falls);
-    if let Found::At(r) = found {
-        return r;
-    }
-    if outside(1, 16, p as u32) {
-        return Refusal {
-            number: 20,
-            place: 0,
-        };
-    }
-    Refusal {
-        number: 49,
-        place: 0,
-    }
-}
-
 // The working memory is left as it was used.
 pub(crate) fn choice_answer(
     table: &[u8],
@@ -84,7 +57,7 @@ pub(crate) fn choice_answer(
     ensures { λ _. ⌜ now (filled .exit) ≡ choiceLimitsInto (now (table .entry)) p quota c (now (filled .entry)) ⌝ }
 {
     if outside(1, p as u32, c) {
-        return ChoiceLimits::Refused(wide_fault(table, p, rises, falls));
+        return ChoiceLimits::Refused(wide_fault(table, p, 49, rises, falls));
     }
     let filling = begin_fault(table, p, quota, rises, falls);
     let found = filling.found;

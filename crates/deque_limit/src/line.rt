@@ -5,15 +5,14 @@ use crate::choice_limit_in;
 use table::Loaded;
 use table::Refusal;
 use table::read::byte;
-use table::read::word;
 use text::put_labelled;
 use text::put_word;
+use useful_limit::line::number_in;
+use useful_limit::line::quota_in;
 ghost use mathlib.Core.Path.{_≡_};
 ghost use Prim.Native.Nat.{_≤_};
 ghost use mathlib.Core.List.{_++_};
 ghost use lib.ListN.{length, drop};
-ghost use Rattle.table.specs.Format.{u24At, u32At};
-ghost use Rattle.table.specs.Sum.{Read};
 ghost use Rattle.deque_limit.specs.ChoiceLimit.{choiceLimits};
 ghost use Rattle.deque_limit.specs.Line.{choicesTo, boundsLine, choicesLine};
 
@@ -43,26 +42,6 @@ fn answer_whole(table: &[u8], p: u8, quota: u32, c: u32) -> ChoiceLimits
     )
 }
 
-fn wide(x: u8) -> usize
-    ensures { λ r. ⌜ Read x 256 r ⌝ }
-{
-    x as usize
-}
-
-// K, 24 bits.
-fn quota_in(input: &[u8]) -> u32
-    ensures { λ r. ⌜ r ≡ u24At (now (input .entry)) 1 ⌝ }
-{
-    (word(input, 1) + 65536 * wide(byte(input, 3))) as u32
-}
-
-// c, 32 bits.
-fn choices_in(input: &[u8]) -> u32
-    ensures { λ r. ⌜ r ≡ u32At (now (input .entry)) 4 ⌝ }
-{
-    (word(input, 4) + 65536 * word(input, 6)) as u32
-}
-
 // Check 33, and the answer where it does not apply.
 pub(crate) fn answer_to(input: &[u8]) -> ChoiceLimits
     ensures { λ r. ⌜ r ≡ choicesTo (now (input .entry)) ⌝ }
@@ -77,7 +56,7 @@ pub(crate) fn answer_to(input: &[u8]) -> ChoiceLimits
         &input[8..],
         byte(input, 0),
         quota_in(input),
-        choices_in(input),
+        number_in(input),
     )
 }
 

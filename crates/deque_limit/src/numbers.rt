@@ -4,20 +4,15 @@ use peak_walk::Peaked;
 use peak_walk::peak_in;
 use quota::allocs::least_quota;
 use table::Facts;
+use useful_limit::lower;
 ghost use mathlib.Core.Path.{_≡_};
-ghost use Prim.Native.Nat.{_+_, _-_, _*_, _≤_, min};
+ghost use Prim.Native.Nat.{_+_, _-_, _*_, _≤_};
 ghost use Rattle.table.specs.Format.{tableOf};
 ghost use Rattle.table.specs.Rules.{Rules};
 ghost use Rattle.peaks.specs.Peak.{peakAt};
 ghost use Rattle.quota.specs.Code.Steps.{Accepted};
 ghost use Rattle.deque_limit.specs.ChoiceLimit.{nearLimit, boundsOf};
 ghost use Rattle.deque_limit.specs.Asked.{Asked, Small};
-
-fn lower(a: u64, b: u64) -> u64
-    ensures { λ r. ⌜ r ≡ min a b ⌝ }
-{
-    if a < b { a } else { b }
-}
 
 // The root's peak at a load.
 fn peak_at(

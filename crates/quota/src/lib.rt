@@ -90,7 +90,8 @@ fn quota_for(table: &[u8], facts: Facts, p: u8, b: u32, memory: u64) -> Quoted
     Quoted::Given(most)
 }
 
-fn outside(low: u32, high: u32, x: u32) -> bool
+// Below a range of numbers, or above it.
+pub fn outside(low: u32, high: u32, x: u32) -> bool
     ensures { λ r. ⌜ r ≡ isOutside low high x ⌝ }
 {
     x < low || high < x

@@ -1,5 +1,6 @@
-// Reads inputs of `tablecheck`, `maxquota`, `maxturns`, `memlimit` and `fitquota` one after the other, each with a label, and prints the label and the answer of each. A record of the input is
-// the label's length (1 byte), the label, 't' for `tablecheck`, 'q' for `maxquota`, 'l' for `maxturns`, 'm' for `memlimit` or 'f' for `fitquota`, the input's length (3 bytes), the input.
+// Reads inputs of `tablecheck`, `maxquota`, `maxturns`, `memlimit`, `fitquota` and `dequelimit` one after the other, each with a label, and prints the label and the answer of each. A record of the
+// input is the label's length (1 byte), the label, 't' for `tablecheck`, 'q' for `maxquota`, 'l' for `maxturns`, 'm' for `memlimit`, 'f' for `fitquota` or 'd' for `dequelimit`, the input's
+// length (3 bytes), the input.
 use libc::STDIN_FILENO;
 use libc::STDOUT_FILENO;
 ghost use Prim.Native.Nat.{_<_};
@@ -79,6 +80,14 @@ fn fit_answer(buffer: &mut [u8]) {
     io::write_all(STDOUT_FILENO, &line[..k]);
 }
 
+// The same of an input of `dequelimit`.
+fn choice_answer(buffer: &mut [u8]) {
+    let n = io::read_full(STDIN_FILENO, buffer);
+    let mut line = [0u8; 80];
+    let k = deque_limit::choice_line(&buffer[..n], &mut line);
+    io::write_all(STDOUT_FILENO, &line[..k]);
+}
+
 // One record, and whether there was one.
 fn one() -> bool {
     let length = wide(one_byte());
@@ -100,6 +109,8 @@ fn one() -> bool {
         limit_answer(&mut bytes[..n]);
     } else if program == b'f' {
         fit_answer(&mut bytes[..n]);
+    } else if program == b'd' {
+        choice_answer(&mut bytes[..n]);
     } else {
         table_answer(&mut bytes[..n]);
     }

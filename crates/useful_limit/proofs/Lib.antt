@@ -5,4 +5,5 @@ pub mod Steps
 pub mod FromParts
 pub mod Gathered
 pub mod Answers
+pub mod Settings
 pub mod LimitAnswers

@@ -10,7 +10,7 @@ use native.Mathlib.Decide.{decLt}
 use borrow.Author.Tests.{lt-ltb, le-ltb}
 use Rattle.table.specs.Sum.{pick, anyBelow}
 use Rattle.table.specs.Format.{tableOf}
-use Rattle.table.specs.Pass.{orElse, refusal, tryAt, tryFrom, tryPass, firstFound}
+use Rattle.table.specs.Pass.{refusal, firstFound}
 use Rattle.table.specs.Checks.{outside, passes}
 use Rattle.table.specs.Rules.{Rules}
 use Rattle.table.specs.Load.{loaded}
@@ -19,13 +19,12 @@ use Rattle.table.specs.declared.Found.{Found}
 use Rattle.table.specs.declared.Found.the-variants.{Nothing, At}
 use Rattle.table.specs.declared.Loaded.the-variants.{Refused as refused}
 use Rattle.table.proofs.Tests.{no-way}
-use Rattle.table.proofs.Passes.{firstFound-append, found-exactly, passes-rules, refused-exactly}
+use Rattle.table.proofs.Passes.{found-exactly, passes-rules, refused-exactly}
 use Rattle.filling.specs.declared.Filling.{Filling}
 use Rattle.order.specs.Words.{isNothing}
 use Rattle.filling.specs.Filled.{big, filledOut, fillPass}
 use Rattle.filling.specs.Filling.{filledInto}
 use Rattle.schedule.specs.Record.{maxWorkers}
-use Rattle.schedule.specs.Begin.{beginPasses}
 use Rattle.schedule.proofs.Stores.{Fits}
 use Rattle.schedule.proofs.Beginnings.{silent-runs}
 use Rattle.soundness.specs.Tested.{parentsIf, nextIf, beginFound, beginFilling, begunInto}
@@ -37,8 +36,9 @@ use Rattle.useful_limit.specs.declared.Parts.{Parts}
 use Rattle.useful_limit.specs.declared.Numbers.{Numbers}
 use Rattle.useful_limit.specs.declared.Limits.{Limits}
 use Rattle.useful_limit.specs.declared.Limits.the-variants.{Given, Refused}
-use Rattle.useful_limit.specs.Limits.{workersCheck, gapCheck, quotaCheck, settings, limitPasses, numbersOf, limits, roomFor, limitsIn, limitsInto}
+use Rattle.useful_limit.specs.Limits.{gapCheck, quotaCheck, limitPasses, numbersOf, limits, roomFor, limitsIn, limitsInto}
 use Rattle.useful_limit.specs.Code.Parts.{partsOf, needWith, Asked, wideFault}
+use Rattle.useful_limit.proofs.Settings.{wide-found, narrow-found}
 
 -- ---- the numbers
 
@@ -58,33 +58,11 @@ not-refused s {r} rules e =
 -- ---- the checks
 
 module _ (s : List ℕ) (p K b : ℕ) where
-  -- b is too large
-  wide-settings : maxGap < b → (q : Bool) → outside 1 maxWorkers p ≡ q → tryPass (settings (workersCheck p ∷ gapCheck b ∷ quotaCheck K ∷ [])) ≡ At (refusal (pick q 20 41) 0)
-  unfolding tryPass tryFrom tryAt
-  wide-settings h true e = rw e
-  wide-settings h false e = rw (e, lt-ltb maxGap b h)
-
-  found-wide : maxGap < b → firstFound (limitPasses s p K b) ≡ At (wideFault (firstFound (passes s)) (outside 1 maxWorkers p))
-  unfolding firstFound
-  found-wide h =
-      firstFound-append (passes s) (settings (workersCheck p ∷ gapCheck b ∷ quotaCheck K ∷ []) ∷ fillPass (tableOf s) K ∷ [])
-      ∙ rw (wide-settings h (outside 1 maxWorkers p) refl) (go (firstFound (passes s)))
-    where
-      go : (f : Found) → orElse f (At (refusal (pick (outside 1 maxWorkers p) 20 41) 0)) ≡ At (wideFault f (outside 1 maxWorkers p))
-      go Nothing = refl
-      go (At r) = refl
-
-  -- b is in its range
-  begin-settings : b ≤ maxGap → tryPass (settings (workersCheck p ∷ gapCheck b ∷ quotaCheck K ∷ [])) ≡ tryPass (settings (workersCheck p ∷ quotaCheck K ∷ []))
-  unfolding tryPass tryFrom tryAt
-  begin-settings h = rw (le-ltb maxGap b h)
+  found-wide : maxGap < b → firstFound (limitPasses s p K b) ≡ At (wideFault (firstFound (passes s)) (outside 1 maxWorkers p) 41)
+  found-wide h = wide-found s p (gapCheck b) (lt-ltb maxGap b h) (quotaCheck K ∷ []) (fillPass (tableOf s) K ∷ [])
 
   found-begin : b ≤ maxGap → firstFound (limitPasses s p K b) ≡ beginFound s p K
-  unfolding firstFound
-  found-begin h =
-      firstFound-append (passes s) (settings (workersCheck p ∷ gapCheck b ∷ quotaCheck K ∷ []) ∷ fillPass (tableOf s) K ∷ [])
-      ∙ ap (λ (f : Found). orElse (firstFound (passes s)) (orElse f (firstFound (fillPass (tableOf s) K ∷ [])))) (begin-settings h)
-      ∙ sym (firstFound-append (passes s) (beginPasses (tableOf s) p K))
+  found-begin h = narrow-found s p (gapCheck b) (le-ltb maxGap b h) K
 
   -- ---- the answers
 
@@ -97,7 +75,7 @@ module _ (s : List ℕ) (p K b : ℕ) where
     unfolding limitsIn limits
     answer-refused e = (rw e, rw e)
 
-    pub answer-wide : maxGap < b → {r : Refusal} → r ≡ wideFault (firstFound (passes s)) (outside 1 maxWorkers p) → Answers (Refused r) out
+    pub answer-wide : maxGap < b → {r : Refusal} → r ≡ wideFault (firstFound (passes s)) (outside 1 maxWorkers p) 41 → Answers (Refused r) out
     answer-wide h e = answer-refused (found-wide h ∙ ap At (sym e))
 
     module _ (h : b ≤ maxGap) (r : Filling) (e : r ≡ beginFilling s p K) where
@@ -165,7 +143,7 @@ limits-whole s p K b room h = go (firstFound (limitPasses s p K b)) refl
     filled-small e = sized s p K [] (beginFilling s p K) refl e .1
 
     small : firstFound (limitPasses s p K b) ≡ Nothing → Dec (maxGap < b) → length (filledOut s K) ≤ 36868
-    small e (yes g) = let d : At (wideFault (firstFound (passes s)) (outside 1 maxWorkers p)) ≡ Nothing = sym (found-wide s p K b g) ∙ e in no-way (cc)
+    small e (yes g) = let d : At (wideFault (firstFound (passes s)) (outside 1 maxWorkers p) 41) ≡ Nothing = sym (found-wide s p K b g) ∙ e in no-way (cc)
     small e (no g) = filled-small (sym (found-begin s p K b (omega (arith, g))) ∙ e)
 
     fits : (q : Bool) → length (filledOut s K) ≤ 36868 → pick q (length (filledOut s K)) 0 ≤ room

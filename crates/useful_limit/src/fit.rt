@@ -7,7 +7,8 @@ ghost use mathlib.Core.Path.{_≡_};
 ghost use Prim.Native.Nat.{_≤_, min};
 ghost use Rattle.useful_limit.specs.Code.Parts.{Sums, ruledNeed, restedNeed, needWith, unruledWith, fitsAt, shortAt, shortWith, fitWith};
 
-fn lower(a: u64, b: u64) -> u64
+// The lesser of two amounts.
+pub fn lower(a: u64, b: u64) -> u64
     ensures { λ r. ⌜ r ≡ min a b ⌝ }
 {
     if a < b { a } else { b }

@@ -2,15 +2,18 @@
 mod fit;
 mod gather;
 mod limit;
-mod line;
+pub mod line;
 
 use fit::fit;
+pub use fit::lower;
 use gather::parts;
 use limit::limit_answer;
+pub use limit::wide_fault;
 use line::answer_line;
 use line::answer_to;
 use line::limit_to;
 use line::limits_line;
+use quota::outside;
 use table::Facts;
 use table::Loaded;
 use table::Refusal;
@@ -19,7 +22,6 @@ ghost use mathlib.Core.List.{_++_};
 ghost use lib.ListN.{length, drop, replicate};
 ghost use Rattle.io.specs.Counts.{Counts};
 ghost use Rattle.table.specs.Pass.{refusal};
-ghost use Rattle.table.specs.Checks.{outside as isOutside};
 ghost use Rattle.quota.specs.Code.Steps.{Accepted};
 ghost use Rattle.useful_limit.specs.Limits.{limitsIn, limitsInto};
 ghost use Rattle.useful_limit.specs.Fit.{fitted};
@@ -193,7 +195,7 @@ fn fit_for(
     requires { ⌜ Accepted (now table) facts ⌝ }
     ensures { λ r. ⌜ r ≡ ownAnswer (now (table .entry)) p b memory ⌝ }
 {
-    if outside(p) {
+    if outside(1, 16, p as u32) {
         return refuse(20);
     }
     if 65535 < b {
@@ -203,12 +205,6 @@ fn fit_for(
         parts(table, facts, p, b, 16777215, rises, falls, peaks, rows),
         memory,
     )
-}
-
-pub(crate) fn outside(p: u8) -> bool
-    ensures { λ r. ⌜ r ≡ isOutside 1 16 p ⌝ }
-{
-    p < 1 || 16 < p
 }
 
 pub(crate) fn refuse(number: u8) -> Fitted

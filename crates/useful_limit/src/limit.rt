@@ -4,9 +4,9 @@ use crate::Numbers;
 use crate::fit::need;
 use crate::gather::parallel_at;
 use crate::gather::parts;
-use crate::outside;
 use checks::check_in;
 use filling::fill_in;
+use quota::outside;
 use soundness::begin_fault;
 use table::Facts;
 use table::Found;
@@ -14,7 +14,7 @@ use table::Loaded;
 use table::Refusal;
 ghost use mathlib.Core.Path.{_≡_};
 ghost use Prim.Native.Nat.{_≤_};
-ghost use lib.ListN.{length};
+ghost use lib.ListN.{length, replicate};
 ghost use Rattle.table.specs.Format.{tableOf};
 ghost use Rattle.table.specs.Pass.{firstFound};
 ghost use Rattle.table.specs.Checks.{outside as isOutside, passes};
@@ -83,24 +83,28 @@ fn numbers_for(
     }
 }
 
-// b is too large: the table's own checks, then 20, then 41.
-fn wide_fault(table: &[u8], p: u8, rises: &mut [u64; 1024], falls: &mut [u64; 1024]) -> Refusal
-    ensures { λ r. ⌜ r ≡ wideFault (firstFound (passes (now (table .entry)))) (isOutside 1 16 p) ⌝ }
+// Where a number behind p is out of its range: the table's own checks, then 20, then that number's. The working memory may hold anything and is left cleared.
+pub fn wide_fault(
+    table: &[u8],
+    p: u8,
+    number: u8,
+    rises: &mut [u64; 1024],
+    falls: &mut [u64; 1024],
+) -> Refusal
+    ensures { λ r. ⌜ r ≡ wideFault (firstFound (passes (now (table .entry)))) (isOutside 1 16 p) number ⌝ }
+    ensures { λ _. ⌜ (now (rises .exit) ≡ replicate 1024 0) × (now (falls .exit) ≡ replicate 1024 0) ⌝ }
 {
     let found = check_in(table, rises, falls);
     if let Found::At(r) = found {
         return r;
     }
-    if outside(p) {
+    if outside(1, 16, p as u32) {
         return Refusal {
             number: 20,
             place: 0,
         };
     }
-    Refusal {
-        number: 41,
-        place: 0,
-    }
+    Refusal { number, place: 0 }
 }
 
 // The working memory is left as it was used.
@@ -121,7 +125,7 @@ pub(crate) fn limit_answer(
     ensures { λ _. ⌜ now (filled .exit) ≡ limitsInto (now (table .entry)) p quota b (now (filled .entry)) ⌝ }
 {
     if 65535 < b {
-        return Limits::Refused(wide_fault(table, p, rises, falls));
+        return Limits::Refused(wide_fault(table, p, 41, rises, falls));
     }
     let filling = begin_fault(table, p, quota, rises, falls);
     let found = filling.found;

@@ -130,15 +130,15 @@ fn wide(x: u8) -> usize
     x as usize
 }
 
-// K, 24 bits.
-fn limit_quota_in(input: &[u8]) -> u32
+// Of the bytes of `runrounds`: K, 24 bits.
+pub fn quota_in(input: &[u8]) -> u32
     ensures { λ r. ⌜ r ≡ u24At (now (input .entry)) 1 ⌝ }
 {
     (word(input, 1) + 65536 * wide(byte(input, 3))) as u32
 }
 
-// b, 32 bits.
-fn limit_gap_in(input: &[u8]) -> u32
+// And the number behind it, here b: 32 bits.
+pub fn number_in(input: &[u8]) -> u32
     ensures { λ r. ⌜ r ≡ u32At (now (input .entry)) 4 ⌝ }
 {
     (word(input, 4) + 65536 * word(input, 6)) as u32
@@ -157,8 +157,8 @@ pub(crate) fn limit_to(input: &[u8]) -> Limits
     limit_whole(
         &input[8..],
         byte(input, 0),
-        limit_quota_in(input),
-        limit_gap_in(input),
+        quota_in(input),
+        number_in(input),
     )
 }
 

@@ -1,5 +1,5 @@
 -- What the proofs of the calls use.
-mod Answers
+pub mod Answers
 mod UsefulRows
 mod Cases
 mod Begins

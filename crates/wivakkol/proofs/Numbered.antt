@@ -20,11 +20,11 @@ use Rattle.soundness.specs.Tested.{beginFound}
 abbrev pub Numbered : Found → Type 0
 Numbered f = foundNumber f ≡ 0 → f ≡ Nothing
 
-data Checks : List Check → Type 0 where
+pub data Checks : List Check → Type 0 where
   none : Checks []
   one : {c : Check} {cs : List Check} → (c .number ≡ 0 → ⊥) → Checks cs → Checks (c ∷ cs)
 
-data Passes : List Pass → Type 0 where
+pub data Passes : List Pass → Type 0 where
   end : Passes []
   then : {p : Pass} {ps : List Pass} → Checks (p .checks) → Passes ps → Passes (p ∷ ps)
 
@@ -46,29 +46,30 @@ unfolding tryFrom
 from-place cs t i zero = λ e. refl
 from-place cs t i (suc k) = either (tryAt cs i) (tryFrom cs (suc i) k) (at-place cs t i) (from-place cs t (suc i) k)
 
-all-passes : (ps : List Pass) → Passes ps → Numbered (firstFound ps)
+pub all-passes : (ps : List Pass) → Passes ps → Numbered (firstFound ps)
 unfolding firstFound tryPass
 all-passes [] end = λ e. refl
 all-passes (p ∷ ps) (then t r) = either (tryPass p) (firstFound ps) (from-place (p .checks) t (p .from) (p .places)) (all-passes ps r)
 
-number-is : (n : ℕ) → suc n ≡ 0 → ⊥
+pub number-is : (n : ℕ) → suc n ≡ 0 → ⊥
 number-is n e = omega (arith, e)
 
-pub begin-numbered : (s : List ℕ) (p K : ℕ) → foundNumber (beginFound s p K) ≡ 0 → beginFound s p K ≡ Nothing
+-- the table's own checks, and those of passes behind them
+pub own-numbered : (s : List ℕ) (rest : List Pass) → Passes rest → Passes (passes s ++ rest)
 unfolding passes
-begin-numbered s p K = all-passes (passes s ++ beginPasses (tableOf s) p K) given
-  where
-    given : Passes (passes s ++ beginPasses (tableOf s) p K)
-    given =
-        then (one (number-is 0) (one (number-is 1) (one (number-is 2) none)))
-        (then (one (number-is 3) none)
-        (then (one (number-is 3) none)
-        (then (one (number-is 4) (one (number-is 5) (one (number-is 6) none)))
-        (then (one (number-is 7) (one (number-is 8) (one (number-is 8) none)))
-        (then (one (number-is 10) none)
-        (then (one (number-is 9) none)
-        (then (one (number-is 19) (one (number-is 20) none))
-        (then (one (number-is 43) none) end))))))))
+own-numbered s rest t =
+    then (one (number-is 0) (one (number-is 1) (one (number-is 2) none)))
+    (then (one (number-is 3) none)
+    (then (one (number-is 3) none)
+    (then (one (number-is 4) (one (number-is 5) (one (number-is 6) none)))
+    (then (one (number-is 7) (one (number-is 8) (one (number-is 8) none)))
+    (then (one (number-is 10) none)
+    (then (one (number-is 9) none) t))))))
+
+pub begin-numbered : (s : List ℕ) (p K : ℕ) → foundNumber (beginFound s p K) ≡ 0 → beginFound s p K ≡ Nothing
+begin-numbered s p K =
+    all-passes (passes s ++ beginPasses (tableOf s) p K)
+    (own-numbered s (beginPasses (tableOf s) p K) (then (one (number-is 19) (one (number-is 20) none)) (then (one (number-is 43) none) end)))
 
 pub turn-numbered : (r : Run) (w : ℕ) → Numbered (tryAt (turnChecks r w) 0)
 unfolding turnChecks

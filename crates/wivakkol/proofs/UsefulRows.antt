@@ -3,16 +3,12 @@ use mathlib.Core.Path.{_≡_, refl, ap, _∙_}
 use Prim.Native.Nat.{ℕ, min, _≤_}
 use native.Mathlib.Omega.{arith}
 use mathlib.Core.List.{List, [], _∷_}
-use mathlib.Core.Bool.{true}
 use lib.ListN.{length}
-use borrow.Author.Tests.{lt-ltb, le-ltb}
 use Rattle.table.specs.Format.{tableOf}
-use Rattle.table.specs.Pass.{Check, orElse, refusal, firstFound, tryAt, tryFrom, tryPass}
+use Rattle.table.specs.Pass.{firstFound}
 use Rattle.table.specs.Checks.{passes}
 use Rattle.table.specs.declared.Refusal.{Refusal}
-use Rattle.table.specs.declared.Found.{Found}
-use Rattle.table.specs.declared.Found.the-variants.{Nothing, At}
-use Rattle.table.proofs.Passes.{firstFound-append}
+use Rattle.table.specs.declared.Found.the-variants.{At}
 use Rattle.filling.specs.Filled.{fillPass}
 use Rattle.useful_limit.specs.declared.Numbers.{Numbers}
 use Rattle.useful_limit.specs.declared.Limits.{Limits}
@@ -20,32 +16,17 @@ use Rattle.useful_limit.specs.declared.Limits.the-variants.{Given}
 use Rattle.useful_limit.specs.declared.Limits.the-variants.{Refused as NoLimits}
 use Rattle.useful_limit.specs.declared.Fitted.{Fitted}
 use Rattle.useful_limit.specs.declared.Fitted.the-variants.{Fits, Short, Refused}
-use Rattle.useful_limit.specs.Limits.{workersCheck, gapCheck, quotaCheck, settings, limitPasses, limits, limitsIn, limitsInto}
+use Rattle.useful_limit.specs.Limits.{gapCheck, quotaCheck, limitPasses, limits, limitsIn, limitsInto}
 use Rattle.useful_limit.specs.Fit.{fitPasses, fitted}
+use Rattle.useful_limit.proofs.Settings.{manyFault, many-found}
 use Rattle.wivakkol.specs.Rows.{limitNumber, limitRow, fitNumber, fitRow}
 use Rattle.wivakkol.proofs.Answers.{as-handed}
 
 -- ---- more workers than there may be
 
--- the table's own check, or 20
-abbrev manyFault : Found → Refusal
-manyFault (At r) = r
-manyFault Nothing = refusal 20 0
-
-first-check : (p : ℕ) → 17 ≤ p → (l : List Check) → tryPass (settings (workersCheck p ∷ l)) ≡ At (refusal 20 0)
-unfolding tryPass tryFrom tryAt
-first-check p h l = rw (le-ltb p 1 (omega arith), lt-ltb 16 p (omega arith))
-
-own-first : (f : Found) → orElse f (At (refusal 20 0)) ≡ At (manyFault f)
-own-first Nothing = refl
-own-first (At r) = refl
-
 module _ (s : List ℕ) (K b : ℕ) where
   limit-found : (p : ℕ) → 17 ≤ p → firstFound (limitPasses s p K b) ≡ At (manyFault (firstFound (passes s)))
-  unfolding firstFound
-  limit-found p h =
-      firstFound-append (passes s) (settings (workersCheck p ∷ gapCheck b ∷ quotaCheck K ∷ []) ∷ fillPass (tableOf s) K ∷ [])
-      ∙ rw (first-check p h (gapCheck b ∷ quotaCheck K ∷ [])) (own-first (firstFound (passes s)))
+  limit-found p h = many-found s p h (gapCheck b ∷ quotaCheck K ∷ []) (fillPass (tableOf s) K ∷ [])
 
   limit-17 : (room p : ℕ) → 17 ≤ p → limitsIn s 17 K b room ≡ limitsIn s p K b room
   unfolding limitsIn limits
@@ -64,9 +45,7 @@ module _ (s : List ℕ) (K b : ℕ) where
 
 module _ (s : List ℕ) (b M : ℕ) where
   fit-found : (p : ℕ) → 17 ≤ p → firstFound (fitPasses s p b) ≡ At (manyFault (firstFound (passes s)))
-  unfolding firstFound
-  fit-found p h =
-      firstFound-append (passes s) (settings (workersCheck p ∷ gapCheck b ∷ []) ∷ []) ∙ rw (first-check p h (gapCheck b ∷ [])) (own-first (firstFound (passes s)))
+  fit-found p h = many-found s p h (gapCheck b ∷ []) []
 
   fit-17 : (p : ℕ) → 17 ≤ p → fitted s 17 b M ≡ fitted s p b M
   unfolding fitted

@@ -1,2 +1,4 @@
 pub mod DequeLent
 pub mod DequeLentCases
+pub mod ChoiceRows
+pub mod ChoiceRowCases

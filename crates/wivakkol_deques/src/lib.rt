@@ -8,6 +8,7 @@ ghost use Rattle.run_memory.specs.Blocks.{memoryOf};
 ghost use Rattle.wivakkol.specs.Lent.{saidOf, runRow};
 ghost use Rattle.wivakkol_deques.specs.DequeLent.{lentDequeList};
 
+pub mod limit;
 pub mod open;
 
 // what is said of a run, as a number

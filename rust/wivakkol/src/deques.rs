@@ -1,7 +1,59 @@
 //! Runs by DFDeques (N13), in the archives `libwivakkol_deque_turn.a` and `libwivakkol_deques.a`: the feature `deques`.
 use crate::run::{readers, reply, report, NO_THREAD};
-use crate::{raw, Memory, Refusal, RefusedMemory, Reply, Report, Run, Status, Stopped, Work};
+use crate::{raw, LimitWork, Memory, Refusal, RefusedMemory, Reply, Report, Run, Status, Stopped, Work};
 use core::ops::DerefMut;
+
+/// What a [`DequeRun`] stays within, from the table that runs, with p, K and c.
+#[derive(Clone, Copy, Debug, PartialEq, Eq, Hash)]
+pub struct DequeLimits {
+    /// No [`DequeRun`] with these p and K holds more where every choice of its turns is below c, whatever the order of the workers.
+    pub memory: u64,
+    /// The same where every choice is 0, whatever c.
+    pub near: u64,
+}
+
+/// What a run by DFDeques of `p` workers with this quota stays within where every choice is below `c`, and where every choice is 0. Where an alloc is above the quota, the filled-out table is put
+/// at the start of `filled`; else `filled` is not looked at and may be empty. Refused with 1 to 11, 20, 49 where `c` is not 1 to p, 21, 44, or 61 where `filled` has too little room, which never
+/// comes with [`TABLE_MOST`](crate::TABLE_MOST) bytes.
+///
+/// ```
+/// use wivakkol::{deque_limit, DequeRun, LimitWork, Memory, Work};
+///
+/// let table = include_bytes!("../../../examples/e.table");
+/// let limits = deque_limit(&mut LimitWork::new(), table, &mut [], 2, 6, 1)?;
+/// assert_eq!((limits.memory, limits.near), (12, 12));
+/// let (mut memory, mut work) = (Memory::new(), Work::new());
+/// let mut run = DequeRun::begin(table, &mut memory, &mut work, 2, 6)?;
+/// run.list(&[0, 0, 1, 0].repeat(8))?; // workers 0 and 1 by turns, every choice 0
+/// assert!(run.highest() <= limits.memory);
+/// # Ok::<(), Box<dyn std::error::Error>>(())
+/// ```
+pub fn deque_limit(work: &mut LimitWork, table: &[u8], filled: &mut [u8], p: u32, quota: u32, c: u32) -> Result<DequeLimits, Refusal> {
+    let mut row = [0; 3];
+    // SAFETY: "`table` points to `length` bytes that may be read", since both are of one slice, whose pointer is never NULL, and likewise "`filled` points to `room` bytes that may be written"; the
+    // row is a local array of its full size, and the working memory fields of one `&mut LimitWork`, so that nothing overlaps and nobody else touches them. Its content does not matter.
+    let number = unsafe {
+        raw::wivakkol_deque_limit_on(
+            table.as_ptr(),
+            table.len(),
+            p,
+            quota,
+            c,
+            &mut row,
+            &mut work.rises,
+            &mut work.falls,
+            &mut work.serials,
+            &mut work.depths,
+            &mut work.peaks,
+            &mut work.rows,
+            filled.as_mut_ptr(),
+            filled.len(),
+        )
+    };
+    let [place, memory, near] = row;
+    Refusal::unless_zero(number, place)?;
+    Ok(DequeLimits { memory, near })
+}
 
 /// A run by DFDeques, the second scheduler: each worker has a deque of its own, goes on with the child at a fork, and where it has no thread steals from the bottom of the deque that the turn
 /// chooses. It borrows its table and its memory as a [`Run`] does. It is a type of its own, since the calls of the two kinds must not be mixed: rounds, previews, wall lines and marks are those of

@@ -2,7 +2,7 @@
 //! are proved; this crate calls them in the archives `libwivakkol_turn.a`, `libwivakkol.a`, `libwivakkol_tables.a`, `libwivakkol_marks.a`, `libwivakkol_deque_turn.a`, `libwivakkol_deques.a`,
 //! `libwivakkol_desk.a` and `libwivakkol_pace.a`, which `rt staticlib wivakkol_turn` and so on write, and gives their numbers types. It has no heap, no state and no dependencies. docs/REFERENCE.md of the repository says
 //! what a table is, what a turn does and which bounds hold. The features `tables`, `marks`, `deques`, `desk` and `pace` are on by default: without the first, [`join`], [`canonical`] and [`compare`]
-//! are left out, and the third archive is not needed; without the second, [`Marks`] and the fourth; without the third, [`DequeRun`] and the next two; without the fourth, [`assemble`] and
+//! are left out, and the third archive is not needed; without the second, [`Marks`] and the fourth; without the third, [`DequeRun`], [`deque_limit`] and the next two; without the fourth, [`assemble`] and
 //! [`disassemble`] and the next; without the fifth, [`Pace`] and the last.
 //!
 //! ```
@@ -20,7 +20,7 @@
 //! What C has to keep to by itself is kept here by types: sizes, alignment, what overlaps what, one call at a time, and the same unchanged table for every call on a run. One thing is not: the
 //! stack. From C the calls behind [`check`], [`largest_quota`] and [`most_turns`] took up to 1,512 bytes of it, [`limit`] and [`fit`] 2,120, [`Run::begin`] 3,848, [`Run::open`] 6,136,
 //! [`Run::wall_line`] 6,440, a single turn 112, the others under 310; [`canonical`] and [`compare`] up to 1,368, [`join`] up to 1,544; [`Run::mark`] and [`Run::back`] up to 5,432;
-//! [`DequeRun::turn`] 160, [`DequeRun::list`] 192, [`DequeRun::open`] 8,144; [`assemble`] up to 1,544, [`disassemble`] up to 3,464; those of a [`Paced`], as disassembled, at most 288.
+//! [`DequeRun::turn`] 160, [`DequeRun::list`] 192, [`DequeRun::open`] 8,144, [`deque_limit`] 1,968; [`assemble`] up to 1,544, [`disassemble`] up to 3,464; those of a [`Paced`], as disassembled, at most 288.
 //! That the declarations fit the archives is tested and not proved.
 #![no_std]
 #![deny(unsafe_op_in_unsafe_fn)]
@@ -48,7 +48,7 @@ mod tables;
 
 pub use builder::{Builder, NotBuilt, Thread};
 #[cfg(feature = "deques")]
-pub use deques::{Deque, DequeRun};
+pub use deques::{deque_limit, Deque, DequeLimits, DequeRun};
 #[cfg(feature = "desk")]
 pub use desk::{assemble, disassemble, Expected, NotAssembled, NotListed, Unseen, TEXT_LONGEST, TEXT_MOST};
 pub use limits::{fit, limit, Fit, Limits};

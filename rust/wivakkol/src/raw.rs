@@ -313,6 +313,23 @@ extern "C" {
         row: &mut [u64; 3],
     ) -> u32;
 
+    pub fn wivakkol_deque_limit_on(
+        table: *const u8,
+        length: usize,
+        p: u32,
+        quota: u32,
+        c: u32,
+        row: &mut [u64; 3],
+        rises: &mut [u64; 1024],
+        falls: &mut [u64; 1024],
+        serials: &mut [u64; 1024],
+        depths: &mut [u16; 1024],
+        peaks: &mut [u64; 17408],
+        rows: &mut [u64; 17408],
+        filled: *mut u8,
+        room: usize,
+    ) -> u32;
+
     pub fn wivakkol_deque_open_on(
         table: *const u8,
         length: usize,

@@ -86,7 +86,7 @@ pub record Asked (p K b : ℕ) : Type 0 where
   pub few-quota : K ≤ 16777215
   pub small-gap : b ≤ maxGap
 
--- where b is too large: the table's own check, or 20 or 41
-abbrev pub wideFault : Found → Bool → Refusal
-wideFault (At r) q = r
-wideFault Nothing q = refusal (pick q 20 41) 0
+-- where a number behind p is out of its range: the table's own check, or 20, or that number's
+abbrev pub wideFault : Found → Bool → ℕ → Refusal
+wideFault (At r) q k = r
+wideFault Nothing q k = refusal (pick q 20 k) 0

@@ -3,7 +3,7 @@ use crate::cases::{e, refused};
 use crate::model::Action::{self, *};
 use crate::model::{bytes, filled, Draw, Said, Status, Table, Worker};
 use crate::random::{drawn, firsts, reply, status};
-use wivakkol::{DequeRun, Memory, Reply, Report, Run, Stopped, Work, TABLE_MOST};
+use wivakkol::{deque_limit, DequeLimits, DequeRun, LimitWork, Memory, Reply, Report, Run, Stopped, Work, TABLE_MOST};
 
 /// N13's machine, written on its own. "Deques are in a left-to-right list": each with its owner and its threads, the top first.
 struct Machine<'a> {
@@ -304,10 +304,11 @@ fn drawn_pair(draw: &mut Draw, p: u32) -> (u32, u32) {
     (draw.below(p) as u32, if draw.chance(50) { draw.below(p) as u32 } else { draw.below(p.min(2)) as u32 })
 }
 
-/// Random runs turn by turn and over lists, put away in between, also of filled-out tables.
+/// Random runs turn by turn and over lists, put away in between, also of filled-out tables; each within its limit.
 #[test]
 fn random_runs() {
     let (mut draw, mut work, mut filled_out, mut steals, mut finished) = (Draw(13), Work::new(), 0, 0, 0);
+    let mut limit_work = LimitWork::new();
     for _ in 0..120 {
         let (table, p, most) = drawn(&mut draw);
         let quota = if draw.chance(30) { 20 + draw.below(50) as u32 } else { most };
@@ -346,6 +347,8 @@ fn random_runs() {
             same(&run, &machine, &firsts);
         }
         finished += u32::from(machine.ended());
+        let limits = deque_limit(&mut limit_work, &data, &mut room, p, quota, p).unwrap();
+        assert!(machine.highest <= limits.memory, "{} above {limits:?}", machine.highest);
     }
     assert!(filled_out > 10 && steals > 1000 && finished > 80, "{filled_out} {steals} {finished}");
 }
@@ -356,4 +359,26 @@ fn text_is_of_the_header() {
     let header = include_str!("../../../../include/wivakkol_deques.h");
     let line = header.lines().find(|line| line.starts_with("#define WIVAKKOL_REFUSED_CHOICE 49")).unwrap();
     assert!(line.contains(&format!("/* {} */", refused(49, 0).meaning())), "{line}");
+}
+
+/// The limit for choices below c and for choices 0, and its refusals in their order.
+#[test]
+fn limits_of_choices() {
+    let (table, mut filled) = (bytes(&e()), [0; TABLE_MOST]);
+    let ask = |table: &[u8], filled: &mut [u8], p, quota, c| deque_limit(&mut LimitWork::new(), table, filled, p, quota, c);
+    assert_eq!(ask(&table, &mut [], 2, 6, 1), Ok(DequeLimits { memory: 12, near: 12 }));
+    assert_eq!(ask(&table, &mut filled, 2, 5, 2), Ok(DequeLimits { memory: 12, near: 12 }));
+    assert_ne!(filled[0], 0);
+    assert_eq!(ask(&table, &mut filled[..175], 2, 5, 2), Err(refused(61, 0)));
+    assert_eq!(ask(&table, &mut [], 2, 0, 2), Err(refused(21, 0)));
+    assert_eq!(ask(&table, &mut [], 2, 0, 0), Err(refused(49, 0)));
+    assert_eq!(ask(&table, &mut [], 2, 0, 258), Err(refused(49, 0)));
+    assert_eq!(ask(&table, &mut [], 258, 0, 0), Err(refused(20, 0)));
+    assert_eq!(ask(&[1, 0, 1], &mut [], 0, 0, 0), Err(refused(1, 0)));
+    assert_eq!(ask(&bytes(&vec![vec![Alloc(513), End]]), &mut filled, 1, 1, 1), Err(refused(44, 0)));
+    // three threads with 5 each: c + 1 of them at once
+    let child = vec![Alloc(5), Free(5), End];
+    let fan = bytes(&vec![vec![Fork(1), Fork(2), Fork(3), Join(3), Join(2), Join(1), End], child.clone(), child.clone(), child]);
+    assert_eq!(ask(&fan, &mut [], 3, 5, 1), Ok(DequeLimits { memory: 10, near: 10 }));
+    assert_eq!(ask(&fan, &mut [], 3, 5, 2), Ok(DequeLimits { memory: 15, near: 10 }));
 }

@@ -42,14 +42,14 @@ byte-requires c κs = search needs
 quota-in-requires : tie.Need-quota-in-requires
 quota-in-requires c κs = search needs
 
-choices-in-requires : tie.Need-choices-in-requires
-choices-in-requires c κs = search needs
+number-in-requires : tie.Need-number-in-requires
+number-in-requires c κs = search needs
 
 answer-whole-requires : tie.Need-answer-whole-requires
 answer-whole-requires c κs = search needs
 
 returns-2 : tie.Need-returns-2
-returns-2 c = c .answer-whole .ensures ∙ whole _ (c .before .before .before .before .before .if1 .left) (c .before .before .before .byte .ensures) (c .before .before .quota-in .ensures) (c .before .choices-in .ensures)
+returns-2 c = c .answer-whole .ensures ∙ whole _ (c .before .before .before .before .before .if1 .left) (c .before .before .before .byte .ensures) (c .before .before .quota-in .ensures) (c .before .number-in .ensures)
 
 pub answer-to-spec : {M : Type 1} → statement M
 answer-to-spec =
@@ -61,6 +61,6 @@ answer-to-spec =
     part-answer-whole-end
     byte-requires
     quota-in-requires
-    choices-in-requires
+    number-in-requires
     answer-whole-requires
     returns-2)

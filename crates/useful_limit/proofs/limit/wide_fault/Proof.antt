@@ -1,5 +1,6 @@
 -- `useful_limit::limit::wide_fault` meets its contract.
 use mathlib.Core.Path.{_≡_, refl, sym, _∙_}
+use Prim.Native.Nat.{ℕ}
 use mathlib.Core.Bool.{Bool, true, false}
 use Rattle.table.specs.Pass.{refusal}
 use Rattle.table.specs.declared.Refusal.{Refusal}
@@ -10,14 +11,14 @@ use borrow.Author.Needs.{needs}
 use Rattle.useful_limit.proofs.limit.wide_fault.Statement.{statement}
 use Rattle.useful_limit.proofs.limit.wide_fault.Tie as tie
 
-own : (f : Found) (q : Bool) {r : Refusal} → f ≡ At r → r ≡ wideFault f q
-own f q e = rw e
+own : (f : Found) (q : Bool) (k : ℕ) {r : Refusal} → f ≡ At r → r ≡ wideFault f q k
+own f q k e = rw e
 
-workers : (f : Found) (q : Bool) → f ≡ Nothing → q ≡ true → refusal 20 0 ≡ wideFault f q
-workers f q e d = rw (e, d)
+workers : (f : Found) (q : Bool) (k : ℕ) → f ≡ Nothing → q ≡ true → refusal 20 0 ≡ wideFault f q k
+workers f q k e d = rw (e, d)
 
-gap : (f : Found) (q : Bool) → f ≡ Nothing → q ≡ false → refusal 41 0 ≡ wideFault f q
-gap f q e d = rw (e, d)
+behind : (f : Found) (q : Bool) (k : ℕ) → f ≡ Nothing → q ≡ false → refusal k 0 ≡ wideFault f q k
+behind f q k e d = rw (e, d)
 
 check-in-requires : tie.Need-check-in-requires
 check-in-requires c κs = search needs
@@ -26,7 +27,7 @@ enum-known-found : tie.Need-enum-known-found
 enum-known-found c = search needs
 
 returns : tie.Need-returns
-returns c = own _ _ (sym (c .before .before .before .check-in .ensures .0) ∙ c .before .found .given .1)
+returns c = (own _ _ _ (sym (c .before .before .before .check-in .ensures .0) ∙ c .before .found .given .1), c .before .before .before .check-in .ensures .1)
 
 enum-told : tie.Need-enum-told
 enum-told c = search needs
@@ -35,10 +36,10 @@ outside-requires : tie.Need-outside-requires
 outside-requires c κs = search needs
 
 returns-2 : tie.Need-returns-2
-returns-2 c = workers _ _ (sym (c .before .before .before .before .check-in .ensures .0) ∙ c .before .before .enum-told .given .1) (sym (c .before .outside .ensures) ∙ c .if1 .taken)
+returns-2 c = (workers _ _ _ (sym (c .before .before .before .before .check-in .ensures .0) ∙ c .before .before .enum-told .given .1) (sym (c .before .outside .ensures) ∙ c .if1 .taken), c .before .before .before .before .check-in .ensures .1)
 
 returns-3 : tie.Need-returns-3
-returns-3 c = gap _ _ (sym (c .before .before .before .before .check-in .ensures .0) ∙ c .before .before .enum-told .given .1) (sym (c .before .outside .ensures) ∙ c .if1 .left)
+returns-3 c = (behind _ _ _ (sym (c .before .before .before .before .check-in .ensures .0) ∙ c .before .before .enum-told .given .1) (sym (c .before .outside .ensures) ∙ c .if1 .left), c .before .before .before .before .check-in .ensures .1)
 
 pub wide-fault-spec : {M : Type 1} → statement M
 wide-fault-spec =

@@ -39,11 +39,11 @@ part-limit-whole-end c = search needs
 byte-requires : tie.Need-byte-requires
 byte-requires c κs = search needs
 
-limit-quota-in-requires : tie.Need-limit-quota-in-requires
-limit-quota-in-requires c κs = search needs
+quota-in-requires : tie.Need-quota-in-requires
+quota-in-requires c κs = search needs
 
-limit-gap-in-requires : tie.Need-limit-gap-in-requires
-limit-gap-in-requires c κs = search needs
+number-in-requires : tie.Need-number-in-requires
+number-in-requires c κs = search needs
 
 limit-whole-requires : tie.Need-limit-whole-requires
 limit-whole-requires c κs = search needs
@@ -51,7 +51,7 @@ limit-whole-requires c κs = search needs
 returns-2 : tie.Need-returns-2
 returns-2 c =
     c .limit-whole .ensures
-    ∙ whole _ (c .before .before .before .before .before .if1 .left) (c .before .before .before .byte .ensures) (c .before .before .limit-quota-in .ensures) (c .before .limit-gap-in .ensures)
+    ∙ whole _ (c .before .before .before .before .before .if1 .left) (c .before .before .before .byte .ensures) (c .before .before .quota-in .ensures) (c .before .number-in .ensures)
 
 pub limit-to-spec : {M : Type 1} → statement M
 limit-to-spec =
@@ -62,7 +62,7 @@ limit-to-spec =
     part-limit-whole-start
     part-limit-whole-end
     byte-requires
-    limit-quota-in-requires
-    limit-gap-in-requires
+    quota-in-requires
+    number-in-requires
     limit-whole-requires
     returns-2)
