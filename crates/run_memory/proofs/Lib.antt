@@ -18,6 +18,7 @@ pub mod Turning
 pub mod Manned
 pub mod Refines
 pub mod RunsRefine
+pub mod Stopping
 pub mod Packed
 pub mod ByValue
 pub mod Refusals

@@ -12,11 +12,12 @@ use Rattle.table.specs.Format.{tableOf}
 use Rattle.schedule.specs.declared.Reply.the-variants.{Idle}
 use Rattle.array_machine.specs.Counted.{Left, turnOn}
 use Rattle.run_memory.specs.declared.runs.Stop.{Stop}
-use Rattle.run_memory.specs.Memory.{Memory, workerIn, movedIn, memoryAfter, Told, told, turnLeft, turnIn, answer}
+use Rattle.run_memory.specs.Memory.{Memory, workerIn, movedIn, memoryAfter, Told, told, turnLeft, turnIn, saidOf, runRow, Answer, answer}
 use Rattle.run_memory.specs.Runs.{Stopped, stopped, overIn}
+use Rattle.run_memory.proofs.Stopping.{stopped-answers}
 use Rattle.pace.specs.Pace.{took, nextIn}
 use Rattle.wivakkol_pace.specs.Paced.{hindranceIn, heldBack, PacedTold, pacedTold, pacedIn, Kept, kept, pacedTurnBy}
-use Rattle.wivakkol_pace.specs.PacedRuns.{PacedStop, pacedStop, pacedWorker, pacedDrive, pacedRun, stopRow, keptAs, pacedList, pacedRounds}
+use Rattle.wivakkol_pace.specs.PacedRuns.{PacedStop, pacedStop, pacedWorker, pacedDrive, pacedRun, keptAs, pacedList, pacedRounds}
 
 -- a turn that is refused moves nothing
 left-same : (M : Memory) (w : ℕ) (z : Left) → (turnLeft M w z .number ≡ 0 → ⊥) → turnLeft M w z .memory ≡ M
@@ -135,8 +136,8 @@ module _ (s : List ℕ) (who : ℕ → List ℕ → ℕ) (limit : ℕ) (M : Memo
 
 -- where a run stopped is put into the row
 pub put : {x : Stop} {M : Memory} {P : List ℕ} {d : PacedStop} {number : ℕ} {row : List ℕ} → pacedStop (stopped (x .number) (x .finished) (x .turns) M) P ≡ d
-    → number ≡ x .number → row ≡ stopRow (x .number) (x .finished) (x .turns) → kept (answer number row M) P ≡ keptAs d
-put {M = M} {P = P} e n r = (λ i. kept (answer (n i) (r i) M) P) ∙ ap keptAs e
+    → number ≡ x .number → row ≡ runRow (saidOf (x .number) (x .finished)) (x .turns) → kept (answer number row M) P ≡ keptAs d
+put {M = M} {P = P} e n r = ap (λ (a : Answer). kept a P) (stopped-answers refl n r) ∙ ap keptAs e
 
 pub list-is : (s l : List ℕ) (M : Memory) (P : List ℕ) → keptAs (pacedRun s (pacedWorker l false) (length l) M P) ≡ pacedList s l M P
 unfolding pacedList
