@@ -10,7 +10,7 @@ use schedule::Run;
 use table::Loaded;
 use table::read::byte;
 use table::read::word;
-pub use turns::list_pairs;
+use turns::list_pairs;
 ghost use mathlib.Core.Path.{_≡_};
 ghost use mathlib.Core.List.{[], _∷_, _++_};
 ghost use Prim.Native.Nat.{_+_, _*_, _/_, _≤_};
