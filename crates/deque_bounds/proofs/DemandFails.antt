@@ -10,7 +10,7 @@ use Rattle.deques.specs.DequeRuns.{Pair, pair}
 use Rattle.deques.specs.Deques.{startDeques}
 use Rattle.deques.specs.DequeCalls.{rowDeques}
 use Rattle.deque_bounds.specs.DemandCase.{parted, rounds, leaping, leaping-held, leaping-limit, leaping-keeps}
-use Rattle.deque_bounds.proofs.UprightTurns.{BelowAll}
+use Rattle.deque_bounds.proofs.SerialLinesTurns.{BelowAll}
 
 rounds-below : (k c : ℕ) → c < 2 → (l : List Pair) → BelowAll 2 l → BelowAll 2 (rounds k c l)
 unfolding rounds

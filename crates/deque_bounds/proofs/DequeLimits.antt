@@ -32,17 +32,17 @@ use Rattle.deques.specs.Lines.{line, linesOf}
 use Rattle.deques.proofs.DequeTurns.{withSerial, serial-facts}
 use Rattle.deques.proofs.Flat.{lines-append}
 use Rattle.deque_bounds.proofs.Lines.{Link, Chained, Light}
-use Rattle.deque_bounds.proofs.Went.{forks}
+use Rattle.deque_bounds.proofs.ActionLeaves.{forks}
 use Rattle.deques.specs.DequeRuns.{Pair}
 use Rattle.deques.specs.Deques.{startDeques}
 use Rattle.deques.specs.DequeCalls.{rowDeques}
 use Rattle.deque_bounds.specs.DequeRows.{robs, steals, stealsFar, far}
 use Rattle.deques.specs.Deques.{dequeTurn}
 use Rattle.deques.proofs.Flat.{Mine, mine}
-use Rattle.deque_bounds.proofs.Upright.{heldBy, AllLines, Upright}
-use Rattle.deque_bounds.proofs.UprightActs.{wait-empty}
-use Rattle.deque_bounds.proofs.UprightActs as Acts
-use Rattle.deque_bounds.proofs.UprightTurns.{BelowAll}
+use Rattle.deque_bounds.proofs.SerialLines.{heldBy, AllLines, SerialLines}
+use Rattle.deque_bounds.proofs.SerialLinesActs.{wait-empty}
+use Rattle.deque_bounds.proofs.SerialLinesActs as Acts
+use Rattle.deque_bounds.proofs.SerialLinesTurns.{BelowAll}
 use Rattle.schedule.specs.Machine.{taken}
 use Rattle.bounds.proofs.Draws.{spentBeyond}
 use Rattle.table.specs.Sum.{sumTo}
@@ -67,11 +67,11 @@ use Rattle.order.proofs.Totals.{sumTo-add}
 use Rattle.schedule.proofs.Sound.Leftmost.{all-done, front-done, leftmost-undone, leftmost-enabled}
 use Rattle.schedule.proofs.Bounds.Beyond.{Enabled}
 use Rattle.deque_bounds.proofs.DrawnRows.{draws-few}
-use Rattle.deque_bounds.proofs.UprightTurns.{from-start}
+use Rattle.deque_bounds.proofs.SerialLinesTurns.{from-start}
 use Rattle.deque_bounds.proofs.Lines.{line-nest}
-use Rattle.deque_bounds.proofs.Upright.{standing, all-front, all-head}
-use Rattle.deque_bounds.proofs.UprightActs.{wake-empty}
-use Rattle.deque_bounds.proofs.Went.{mine-at}
+use Rattle.deque_bounds.proofs.SerialLines.{standing, all-front, all-head}
+use Rattle.deque_bounds.proofs.SerialLinesActs.{wake-empty}
+use Rattle.deque_bounds.proofs.ActionLeaves.{mine-at}
 
 -- ---- the first k actions of serial order are a front part of it (as proofs/Bounds/Bound of crates/schedule, where these laws are not pub)
 
@@ -239,7 +239,7 @@ links-of T J st e x y k c = c .0
 
 -- ---- in every state that a row from the beginning reaches
 
-module _ (T : Table) (l : Lawful T) (p K fa : ℕ) (J : ℕ → ℕ) (D : Deques) (I : Upright T p K fa J D) where
+module _ (T : Table) (l : Lawful T) (p K fa : ℕ) (J : ℕ → ℕ) (D : Deques) (I : SerialLines T p K fa J D) where
   abbrev st : State
   st = D .state
 
@@ -339,11 +339,11 @@ module _ (T : Table) (l : Lawful T) (p K : ℕ) (few : p ≤ 16) (small : Within
   abbrev farther : ℕ
   farther = far T K (startDeques T) row
 
-  upright : Upright T p K farther begun after
-  upright = from-start T l p K few row h
+  serial-lines : SerialLines T p K farther begun after
+  serial-lines = from-start T l p K few row h
 
   g : Facts T p K (withSerial T l (after .state))
-  g = serial-facts T l p K (after .state) (upright .kept .common)
+  g = serial-facts T l p K (after .state) (serial-lines .kept .common)
 
   -- by the steals beyond v, the first action not done
   pub held-steals : (v : ℕ) → v < T .actions → isDone T (after .state) v ≡ false → ((a : ℕ) → a < T .actions → numberOf T a < numberOf T v → isDone T (after .state) a ≡ true)
@@ -367,7 +367,7 @@ module _ (T : Table) (l : Lawful T) (p K : ℕ) (few : p ≤ 16) (small : Within
           let v : ℕ = nextOf (after .state) t in
           let i : v < T .actions = next-below T l p K s g t (x .below) in
           let a : after .state .held ≤ S1 T + K * begun v = held-steals v i (leftmost-undone T l p K s g t others r) (front-done T l p K s g t others r) in
-          let c : suc (begun v) ≤ N T + farther = ready-count T l p K farther begun after upright t (x .below) (x .taken) in
+          let c : suc (begun v) ≤ N T + farther = ready-count T l p K farther begun after serial-lines t (x .below) (x .taken) in
           let n : 1 ≤ N T = omega (arith, nest-some T l 0 (l .some-thread), nest-most T 0 (l .some-thread)) in
           omega (arith, a, mul-le-mul-left K (let y : begun v ≤ N T - 1 + farther = omega (arith, c, n) in y))
 
@@ -399,7 +399,7 @@ pub held-alone : (T : Table) (l : Lawful T) (K : ℕ) → Within T K → (row : 
 held-alone T l K small row h = held-near T l 1 K (omega arith) small row h (λ g m. omega (arith, h g m .1))
 
 -- waits and wakings find the deque of a worker that holds a thread empty
-module _ (T : Table) (l : Lawful T) (p K : ℕ) (few : p ≤ 16) (fa : ℕ) (J : ℕ → ℕ) (D : Deques) (I : Upright T p K fa J D) (w : ℕ) (below : w < p) (h : workerOf (D .state) w .holds ≡ true) where
+module _ (T : Table) (l : Lawful T) (p K : ℕ) (few : p ≤ 16) (fa : ℕ) (J : ℕ → ℕ) (D : Deques) (I : SerialLines T p K fa J D) (w : ℕ) (below : w < p) (h : workerOf (D .state) w .holds ≡ true) where
   abbrev mineOf : List ℕ
   mineOf = getD (D .deques) (placeOf w (D .deques)) nothing .threads
 
@@ -409,8 +409,8 @@ module _ (T : Table) (l : Lawful T) (p K : ℕ) (few : p ≤ 16) (fa : ℕ) (J :
   same-its : mineOf ≡ its .threads
   same-its = subst (λ (y : List Deque). getD y (placeOf w y) nothing .threads ≡ its .threads) (sym (its .whole)) (mine-at w (its .front) (its .threads) (its .rest) (its .clear))
 
-  I' : Upright T p K fa J (over (D .state) (its .front ++ deque w (its .threads) ∷ its .rest))
-  I' = subst (λ (y : List Deque). Upright T p K fa J (over (D .state) y)) (its .whole) I
+  I' : SerialLines T p K fa J (over (D .state) (its .front ++ deque w (its .threads) ∷ its .rest))
+  I' = subst (λ (y : List Deque). SerialLines T p K fa J (over (D .state) y)) (its .whole) I
 
   pub waits-alone : kind T (nextOf (D .state) (workerOf (D .state) w .thread)) ≡ join
       → (statusOf (D .state) (T .argument (nextOf (D .state) (workerOf (D .state) w .thread))) ≡ ended → ⊥) → mineOf ≡ []

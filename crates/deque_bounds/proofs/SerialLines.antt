@@ -31,7 +31,7 @@ unfoldable pub AllLines : Table → ℕ → (ℕ → ℕ) → State → List Deq
 AllLines T far J st [] = Unit {0}
 AllLines T far J st (d ∷ ds) = Chained T J st 0 (line (heldBy st) d) × Light T far J st (line (heldBy st) d) × AllLines T far J st ds
 
-pub record Upright (T : Table) (p K far : ℕ) (J : ℕ → ℕ) (D : Deques) : Type 0 where
+pub record SerialLines (T : Table) (p K far : ℕ) (J : ℕ → ℕ) (D : Deques) : Type 0 where
   pub kept : Kept T p K D
   pub falls : Falls T J
   pub lines : AllLines T far J (D .state) (D .deques)

@@ -40,23 +40,23 @@ use Rattle.deques.proofs.DequeTurns.{withSerial, serial-facts, waits-status}
 use Rattle.deques.proofs.Flat.{own-at}
 use Rattle.deque_bounds.proofs.Lines.{Live, Moved}
 
-pub data Went (T : Table) (K w t a q : ℕ) (st : State) (front : List Deque) (k : List ℕ) (rest : List Deque) (D : Deques) : Type 0 where
+pub data ActionLeaves (T : Table) (K w t a q : ℕ) (st : State) (front : List Deque) (k : List ℕ) (rest : List Deque) (D : Deques) : Type 0 where
   -- work, an alloc within the quota, a free, a join done
   stays : Moved T K w t a q st (D .state) → (kind T a ≡ fork → ⊥) → workerOf (D .state) w .thread ≡ t → numberOf T (nextOf (D .state) t) ≡ suc (numberOf T a)
-      → isDone T (D .state) a ≡ true → D .deques ≡ front ++ deque w k ∷ rest → nextOf (D .state) t ≡ suc a → Went T K w t a q st front k rest D
+      → isDone T (D .state) a ≡ true → D .deques ≡ front ++ deque w k ∷ rest → nextOf (D .state) t ≡ suc a → ActionLeaves T K w t a q st front k rest D
   forks : Moved T K w t a q st (D .state) → kind T a ≡ fork → workerOf (D .state) w .thread ≡ T .argument a → nextOf (D .state) t ≡ suc a → isDone T (D .state) a ≡ true
-      → D .deques ≡ front ++ deque w (t ∷ k) ∷ rest → Went T K w t a q st front k rest D
+      → D .deques ≡ front ++ deque w (t ∷ k) ∷ rest → ActionLeaves T K w t a q st front k rest D
   -- an end that wakes nobody, above a thread
   pops : (t2 : ℕ) (l : List ℕ) → k ≡ t2 ∷ l → Moved T K w t a q st (D .state) → kind T a ≡ end → (Live (D .state) t → ⊥) → workerOf (D .state) w .thread ≡ t2 → isDone T (D .state) a ≡ true
-      → D .deques ≡ front ++ deque w l ∷ rest → Went T K w t a q st front k rest D
+      → D .deques ≡ front ++ deque w l ∷ rest → ActionLeaves T K w t a q st front k rest D
   -- a wait above a thread: hand-made records alone have it
-  drops : (t2 : ℕ) (l : List ℕ) → k ≡ t2 ∷ l → kind T a ≡ join → (statusOf st (T .argument a) ≡ ended → ⊥) → Went T K w t a q st front k rest D
+  drops : (t2 : ℕ) (l : List ℕ) → k ≡ t2 ∷ l → kind T a ≡ join → (statusOf st (T .argument a) ≡ ended → ⊥) → ActionLeaves T K w t a q st front k rest D
   -- an end that wakes nobody, or a wait, above none
-  leaves : k ≡ [] → Moved T K w t a q st (D .state) → (kind T a ≡ fork → ⊥) → workerOf (D .state) w .holds ≡ false → nextOf (D .state) t ≡ a → D .deques ≡ front ++ rest → Went T K w t a q st front k rest D
+  leaves : k ≡ [] → Moved T K w t a q st (D .state) → (kind T a ≡ fork → ⊥) → workerOf (D .state) w .holds ≡ false → nextOf (D .state) t ≡ a → D .deques ≡ front ++ rest → ActionLeaves T K w t a q st front k rest D
   wakes : (u : ℕ) → u < T .threads → statusOf st u ≡ waiting → awaited T st u ≡ t → Moved T K w t a q st (D .state) → kind T a ≡ end → (Live (D .state) t → ⊥)
-      → workerOf (D .state) w .thread ≡ u → isDone T (D .state) a ≡ true → D .deques ≡ front ++ deque w k ∷ rest → Went T K w t a q st front k rest D
+      → workerOf (D .state) w .thread ≡ u → isDone T (D .state) a ≡ true → D .deques ≡ front ++ deque w k ∷ rest → ActionLeaves T K w t a q st front k rest D
   stops : Moved T K w t a q st (D .state) → (kind T a ≡ fork → ⊥) → workerOf (D .state) w .holds ≡ false → nextOf (D .state) t ≡ a → D .deques ≡ front ++ deque 16 (t ∷ k) ∷ rest
-      → Went T K w t a q st front k rest D
+      → ActionLeaves T K w t a q st front k rest D
 
 -- ---- statuses set
 
@@ -146,7 +146,7 @@ module _ (T : Table) (l : Lawful T) (p K : ℕ) (few : p ≤ 16) (w : ℕ) (belo
   afterOf j s = pick (workerOf (s .state) w .holds) (over (s .state) ds) (letGo j (waitsFor T st u t) q w t x u (s .state) ds)
 
   abbrev Goes : Deques → Type 0
-  Goes D = Went T K w t a q st front k rest D
+  Goes D = ActionLeaves T K w t a q st front k rest D
 
   no-alloc : is alloc (kind T a) ≡ false → drawn K (allocOf T a) ≡ 0
   unfolding allocOf
@@ -472,6 +472,6 @@ module _ (T : Table) (l : Lawful T) (p K : ℕ) (few : p ≤ 16) (w : ℕ) (belo
           dead : Live (taken q w u s) t → ⊥
           dead v = v .1 (getD-set-other (s .status) u t held 0 (λ z. apart (sym z)) ∙ s-ended)
 
-  pub went : Goes (actDeques T K w st ds .after)
+  pub action-leaves : Goes (actDeques T K w st ds .after)
   unfolding actDeques act
-  went = by-kind (kind T a) refl by-fork by-end
+  action-leaves = by-kind (kind T a) refl by-fork by-end
