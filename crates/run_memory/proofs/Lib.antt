@@ -15,7 +15,7 @@ mod Drives
 pub mod Fixed
 pub mod Undone
 pub mod Turning
-pub mod Manned
+pub mod WorkerRecords
 pub mod Refines
 pub mod RunsRefine
 pub mod Stopping
