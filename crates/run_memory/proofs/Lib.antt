@@ -11,7 +11,7 @@ pub mod Takes
 mod Seeing
 pub mod Foreseeing
 mod Laying
-mod Drives
+pub mod Drives
 pub mod Fixed
 pub mod Undone
 pub mod Turning

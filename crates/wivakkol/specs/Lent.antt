@@ -3,8 +3,7 @@ use Prim.Native.Nat.{ℕ}
 use mathlib.Core.List.{List, [], _∷_}
 use mathlib.Core.Bool.{Bool, true, false}
 use lib.ListN.{set, replicate}
-use lib.Dec.{eqb, ltb}
-use Rattle.table.specs.Sum.{pick}
+use lib.Dec.{ltb}
 use Rattle.table.specs.Format.{tableOf}
 use Rattle.table.specs.declared.Found.{Found}
 use Rattle.table.specs.declared.Found.the-variants.{Nothing, At}
