@@ -21,7 +21,7 @@ use Rattle.schedule.proofs.Sound.Facts.{Facts}
 use Rattle.schedule.proofs.Sound.Done.{done-ended, ended-all, next-below, owner-of-next, undone-unborn, unborn-first}
 use Rattle.schedule.proofs.Sound.Leftmost.{next-undone}
 use Rattle.schedule.proofs.Linked.Waiting.{awaited}
-use Rattle.peaks.specs.Peak.{unended, unendedIn, outer, fresh, past, load, Light}
+use Rattle.peaks.specs.Peak.{unendedIn, outer, fresh, past, load, Light}
 use Rattle.peaks.proofs.Loads.{outer-child, past-fewer}
 use Rattle.peaks.proofs.LoadLaw.{all-fewer, outer-fewer, past-step, open-step}
 use Rattle.table.proofs.Words.{past-end}

@@ -27,7 +27,7 @@ use Rattle.schedule.proofs.Preservation.Turns.{either}
 use Rattle.schedule.proofs.Preservation.Starts.{start-next, start-worker, start-held}
 use Rattle.deque_bounds.proofs.Peaks.{peak-within}
 use Rattle.schedule.proofs.Sound.Facts.{Facts}
-use Rattle.peaks.specs.Peak.{unended, unendedIn, outer, fresh, past, load, Light, peakAt, workersPeak}
+use Rattle.peaks.specs.Peak.{unendedIn, outer, fresh, past, load, Light, peakAt, workersPeak}
 use Rattle.peaks.proofs.Peaks.{peak-rises}
 use Rattle.peaks.proofs.Held.{peak-common}
 use Rattle.peaks.proofs.LoadLaw.{all-fewer, outer-fewer}
@@ -36,14 +36,16 @@ use Rattle.deques.specs.Deques.{Deque, deque, nothing, isEmpty, bottom, robbed,
 use Rattle.deques.specs.DequeRuns.{Pair}
 use Rattle.deques.specs.Deques.{startDeques}
 use Rattle.deques.specs.DequeCalls.{rowDeques}
-use Rattle.deque_bounds.specs.DequeRows.{robs, stealsBeyond, stealsFar, far}
+use Rattle.deque_bounds.specs.DequeRows.{robs, stealsBeyond, stealsFar}
 use Rattle.deques.specs.Partition.{AllInUse}
 use Rattle.deques.specs.Lines.{line, linesOf}
 use Rattle.deques.proofs.Counts.{line-some}
 use Rattle.deques.proofs.Flat.{Mine, mine, lines-append}
 use Rattle.deques.proofs.DequeTurns.{withSerial, serial-facts, b-ready}
-use Rattle.deque_bounds.proofs.Lines.{Link, Chained}
-use Rattle.deque_bounds.proofs.SerialLines.{heldBy, SerialLines, AllLines, standing, standing-live, all-front, all-head}
+use Rattle.deques.proofs.Bottoms.{line-bottom}
+use Rattle.deque_bounds.proofs.Lines.{Link, Chained, link-of}
+use Rattle.deque_bounds.proofs.SerialLines.{heldBy, SerialLines, AllLines, standing-live, all-front, all-head}
+use Rattle.deques.proofs.Standing.{standing}
 use Rattle.deque_bounds.proofs.SerialLinesActs.{stepped, act-serial-lines, wait-empty}
 use Rattle.deque_bounds.proofs.SerialLinesSteals.{bottom-in, steal-serial-lines, steal-holds}
 use Rattle.deque_bounds.proofs.SerialLinesTurns.{BelowAll, turn-serial-lines, start-serial-lines, from-start}
@@ -89,12 +91,6 @@ in-use-after (e ∷ A) d B m = in-use-after A d B (m .1)
 full-line : (hold : ℕ → ℕ) (v : ℕ) (k : List ℕ) → List·Memᴰ v k → isEmpty k ≡ false
 full-line hold v [] m = absurd (List·Memᴰ·not-nil m)
 full-line hold v (x ∷ k) m = refl
-
-line-bottom : (q : Bool) (h : ℕ) (k : List ℕ) → isEmpty k ≡ false → bottom (pick q (h ∷ k) k) ≡ bottom k
-unfolding bottom
-line-bottom true h [] e = no-way cc
-line-bottom true h (x ∷ k) e = refl
-line-bottom false h k e = refl
 
 -- no line beyond has its lowest below M
 none-under : (num hold : ℕ → ℕ) (M : ℕ) (ds : List Deque) → AllInUse ds → ((v : ℕ) → List·Memᴰ v (linesOf hold ds) → M ≤ num v) → under num hold M ds ≡ 0
@@ -225,10 +221,6 @@ module _ (T : Table) (l : Lawful T) (p K fa : ℕ) (J : ℕ → ℕ) (D : Deques
 grow : (T : Table) (c c' : ℕ) (st : State) → c ≤ c' → LoadWithin T c st → LoadWithin T c' st
 unfolding Light
 grow T c c' st h g = record { light = λ t i j n. omega (arith, g .light t i j n); busy = λ w i e. omega (arith, g .busy w i e) }
-
-link-of : (T : Table) (J : ℕ → ℕ) (st : State) (e x y : ℕ) (k : List ℕ) → Chained T J st e (x ∷ y ∷ k) → Link T st x y
-unfolding Chained
-link-of T J st e x y k c = c .0
 
 -- the thread below a worker's own
 own-link : (T : Table) (l : Lawful T) (p K fa : ℕ) (J : ℕ → ℕ) (st : State) (w : ℕ) (A : List Deque) (k : List ℕ) (B : List Deque) → SerialLines T p K fa J (over st (A ++ deque w k ∷ B)) → w < 16

@@ -27,7 +27,8 @@ use Rattle.deques.specs.DequeRuns.{Pair}
 use Rattle.deques.specs.Deques.{startDeques}
 use Rattle.deques.specs.DequeCalls.{rowDeques}
 use Rattle.deque_bounds.specs.DequeRows.{steals, far, leaps}
-use Rattle.deque_bounds.proofs.SerialLines.{heldBy, AllLines, SerialLines, is-owner, all-front, all-head}
+use Rattle.deque_bounds.proofs.SerialLines.{heldBy, AllLines, SerialLines, all-front, all-head}
+use Rattle.deques.proofs.Standing.{is-owner}
 use Rattle.deque_bounds.proofs.SerialLinesTurns.{BelowAll, from-start, start-serial-lines}
 use Rattle.deque_bounds.proofs.StealsWithin.{Able, ThreadWithin, LineWithin, slackOf, LinesWithin, lines-within-split, lines-within-head, line-within-top}
 use Rattle.deque_bounds.proofs.StealsWithinActs.{thread-within-is}
@@ -48,7 +49,7 @@ use Rattle.schedule.proofs.Bounds.Beyond.{Enabled}
 use Rattle.schedule.proofs.Sound.Leftmost.{front-done, leftmost-undone, leftmost-enabled}
 use mathlib.Core.List.{reverseAux}
 use native.Mathlib.Nat.{mul-suc, mul-zero, mul-one, one-mul, mul-le-mul-left, mul-le-mul-right, mul-add, mul-assoc, mul-comm}
-use Rattle.deque_bounds.proofs.SerialLines.{owned-append}
+use Rattle.deques.proofs.Counts.{owned-append}
 use Rattle.deque_bounds.proofs.StealsWithinTurns.{steals-within-same}
 
 -- ---- levels and nesting

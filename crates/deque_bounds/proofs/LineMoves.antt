@@ -116,6 +116,14 @@ module _ (T : Table) (l : Lawful T) (J : ℕ → ℕ) (falls : Falls T J) {K : �
 
 -- ---- a steal: J' counts one more up to the start
 
+-- nestings fall by one from thread to thread
+pub above-nest : (T : Table) (l : Lawful T) (J : ℕ → ℕ) (st : State) (e : ℕ) (k : List ℕ) → Chained T J st e k → isEmpty (above k) ≡ false → nest T (bottom (above k)) ≡ suc (nest T (bottom k))
+unfolding Chained above bottom
+above-nest T l J st e [] c i = no-way cc
+above-nest T l J st e (t ∷ []) c i = no-way cc
+above-nest T l J st e (t ∷ y ∷ []) c i = link-nest T l J st t y (c .0)
+above-nest T l J st e (t ∷ y ∷ z ∷ k) c i = above-nest T l J st t (y ∷ z ∷ k) (c .2) refl
+
 module _ (T : Table) (l : Lawful T) (J J' : ℕ → ℕ) (falls : Falls T J) (start : ℕ) (up : (x : ℕ) → numberOf T x < numberOf T start → J' x ≡ suc (J x))
     (flat : (x : ℕ) → numberOf T start ≤ numberOf T x → J' x ≡ J x) (st s : State) (same : (u : ℕ) → nextOf s u ≡ nextOf st u) (still : (c : ℕ) → Live s c → Live st c)
     (ends : (v x : ℕ) → Live st v → x < T .actions → kind T x ≡ fork → owner T x ≡ v → Live st (T .argument x) → numberOf T (endOf T (T .argument x)) < numberOf T (nextOf st v)) where
@@ -196,22 +204,13 @@ module _ (T : Table) (l : Lawful T) (J J' : ℕ → ℕ) (falls : Falls T J) (st
           at (no b) = parted-more e t (n t (List·Memᴰ·head refl)) c x h f o v b
   chained-stolen e t (y ∷ k) n g i c = chained-stolen t y k (λ v j. n v (List·Memᴰ·tail j)) (inr (c .0)) i (c .2)
 
-  -- nestings fall by one from thread to thread
-  pub above-nest : (e : ℕ) (k : List ℕ) → Chained T J st e k → isEmpty (above k) ≡ false → nest T (bottom (above k)) ≡ suc (nest T (bottom k))
-  unfolding Chained above bottom
-  above-nest e [] c i = no-way cc
-  above-nest e (t ∷ []) c i = no-way cc
-  above-nest e (t ∷ y ∷ []) c i = link-nest T l J st t y (c .0)
-  above-nest e (t ∷ y ∷ z ∷ k) c i = above-nest t (y ∷ z ∷ k) (c .2) refl
-
-  -- lightness: of the part above, of the thread stolen, of a line beyond, and of any line once a steal is far
   pub light-above : (far e : ℕ) (k : List ℕ) → Chained T J st e k → Light T far J st k → Light T far J' s (above k)
   unfolding Light above
   light-above far e [] c r = tt
   light-above far e (t ∷ []) c r = tt
   light-above far e (t ∷ y ∷ k) c r =
       let z : nextOf s t ≡ nextOf st t = same t in
-      let n : nest T (bottom (t ∷ above (y ∷ k))) ≡ suc (nest T (bottom (t ∷ y ∷ k))) = above-nest e (t ∷ y ∷ k) c refl in
+      let n : nest T (bottom (t ∷ above (y ∷ k))) ≡ suc (nest T (bottom (t ∷ y ∷ k))) = above-nest T l J st e (t ∷ y ∷ k) c refl in
       rw z (omega (arith, r, n, more (nextOf st t)))
 
   pub light-stolen : (far t : ℕ) (k : List ℕ) → start ≡ nextOf st (bottom (t ∷ k)) → numberOf T (nextOf st t) ≤ numberOf T start → Light T far J st (t ∷ k)

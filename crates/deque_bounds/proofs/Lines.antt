@@ -49,6 +49,10 @@ Chained T J st e [] = Unit {0}
 Chained T J st e (t ∷ []) = Parted T J st e t
 Chained T J st e (t ∷ y ∷ l) = Link T st t y × NoLiveChildBut T st e t × Chained T J st t (y ∷ l)
 
+pub link-of : (T : Table) (J : ℕ → ℕ) (st : State) (e x y : ℕ) (k : List ℕ) → Chained T J st e (x ∷ y ∷ k) → Link T st x y
+unfolding Chained
+link-of T J st e x y k c = c .0
+
 -- J at the first thread's next action is below the nesting of the last, but for far
 unfoldable pub Light : Table → ℕ → (ℕ → ℕ) → State → List ℕ → Type 0
 Light T far J st [] = Unit {0}

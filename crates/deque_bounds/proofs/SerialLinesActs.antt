@@ -37,7 +37,9 @@ use Rattle.deque_bounds.proofs.Lines.{Live, Link, NoLiveChildBut, Parte
 use Rattle.deque_bounds.proofs.LineMoves.{some-child, no-child-waits, chained-fork, light-fork, chained-pop, light-pop}
 use Rattle.deque_bounds.proofs.Between.{in-fork, unborn-childless, join-forks}
 use Rattle.deque_bounds.proofs.ActionLeaves.{ActionLeaves, stays, forks, pops, drops, leaves, wakes, stops, action-leaves}
-use Rattle.deque_bounds.proofs.SerialLines.{heldBy, AllLines, SerialLines, Stands, stands, in-deque, is-owner, standing, standing-live, asc-mid, asc-replace, counted-in, occurs-append, owned-append, all-append, all-front, all-head, all-cons, all-keeps}
+use Rattle.deques.proofs.Counts.{counted-in, occurs-append, owned-append, Stands, stands}
+use Rattle.deques.proofs.Standing.{in-deque, is-owner, standing}
+use Rattle.deque_bounds.proofs.SerialLines.{heldBy, AllLines, SerialLines, standing-live, asc-mid, asc-replace, all-append, all-front, all-head, all-cons, all-keeps}
 
 no-child-parted : (T : Table) (J : ℕ → ℕ) (s : State) (e t : ℕ) → NoLiveChildBut T s e t → Parted T J s e t
 unfolding NoLiveChildBut Parted

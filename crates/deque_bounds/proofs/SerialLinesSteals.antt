@@ -25,9 +25,11 @@ use Rattle.deques.specs.Partition.{owns, ownedBy}
 use Rattle.deques.specs.Lines.{line, linesOf}
 use Rattle.deques.proofs.DequeTurns.{Kept, withSerial, serial-facts}
 use Rattle.deques.proofs.Flat.{lines-append}
+use Rattle.deques.proofs.Counts.{owned-append}
+use Rattle.deques.proofs.Bottoms.{line-bottom}
 use Rattle.deque_bounds.proofs.Lines.{Live, Parted, Chained, Light}
 use Rattle.deque_bounds.proofs.Between.{ends-before}
-use Rattle.deque_bounds.proofs.SerialLines.{heldBy, AllLines, SerialLines, standing-live, owned-append, all-append, all-front, all-head, all-cons}
+use Rattle.deque_bounds.proofs.SerialLines.{heldBy, AllLines, SerialLines, standing-live, all-append, all-front, all-head, all-cons}
 use Rattle.deque_bounds.specs.DequeRows.{robs, startsAt, stealsBeyond, stealsFar, threadLeftOf}
 use Rattle.deques.proofs.Placed.{robbed-lines}
 use Rattle.deques.proofs.DequeTurns.{taken-common, stolen, b-below, b-ready}
@@ -66,12 +68,6 @@ unfolding above
 line-above true h [] e = no-way cc
 line-above true h (x ∷ k) e = refl
 line-above false h k e = refl
-
-line-bottom : (q : Bool) (h : ℕ) (k : List ℕ) → isEmpty k ≡ false → bottom (pick q (h ∷ k) k) ≡ bottom k
-unfolding bottom
-line-bottom true h [] e = no-way cc
-line-bottom true h (x ∷ k) e = refl
-line-bottom false h k e = refl
 
 line-some : (q : Bool) (h : ℕ) (k : List ℕ) → isEmpty k ≡ false → isEmpty (pick q (h ∷ k) k) ≡ false
 line-some true h k e = refl

@@ -33,7 +33,8 @@ use Rattle.deque_bounds.proofs.Lines.{Live, Parted, Chained, Moved}
 use Rattle.deque_bounds.proofs.LineMoves.{some-child}
 use Rattle.deque_bounds.proofs.Between.{join-forks}
 use Rattle.deque_bounds.proofs.ActionLeaves.{ActionLeaves, stays, forks, pops, drops, leaves, wakes, stops}
-use Rattle.deque_bounds.proofs.SerialLines.{heldBy, AllLines, SerialLines, standing}
+use Rattle.deque_bounds.proofs.SerialLines.{heldBy, AllLines, SerialLines}
+use Rattle.deques.proofs.Standing.{standing}
 use Rattle.deque_bounds.proofs.SerialLinesActs as Acts
 use Rattle.deque_bounds.proofs.SerialLinesActs.{wait-empty, wake-empty}
 use Rattle.deque_bounds.proofs.StealsWithin.{Able, ThreadWithin, LineWithin, slackOf, LinesWithin, lines-within-append, lines-within-split, lines-within-head, lines-within-cons, line-within-top, top-line-within, parent-last}

@@ -25,11 +25,10 @@ use Rattle.deque_bounds.proofs.SerialLines.{heldBy, SerialLines}
 use Rattle.deque_bounds.proofs.SerialLinesSteals as Steals
 use Rattle.deque_bounds.proofs.SerialLinesSteals.{At, bottom-in}
 use Rattle.deque_bounds.proofs.StealsWithinActs.{thread-within-is, is-thread-within}
-use Rattle.deque_bounds.proofs.LineMoves.{more}
+use Rattle.deque_bounds.proofs.LineMoves.{above-nest, more}
 use Rattle.deques.proofs.Placed.{empty-is}
 use Rattle.deque_bounds.proofs.StealsWithin.{Able, ThreadWithin, LineWithin, slackOf, LinesWithin, lines-within-append, lines-within-split, lines-within-head, lines-within-cons, line-within-top, top-line-within}
 use Rattle.deque_bounds.specs.DequeRows.{robs, startsAt, stealsBeyond, threadLeftOf, leapsAt}
-use Rattle.deque_bounds.proofs.Lines.{link-nest}
 use Rattle.schedule.specs.Machine.{taken}
 use lib.Seq.{getD-set-same, getD-set-other}
 
@@ -195,13 +194,6 @@ module _ (T : Table) (l : Lawful T) (p K : ℕ) (few : p ≤ 16) (w : ℕ) (belo
   chain : Chained T J st 0 L
   chain = Steals.mine T l p K few w below c far J D I free some .0
 
-  nest-above : (e : ℕ) (k : List ℕ) → Chained T J st e k → isEmpty (above k) ≡ false → nest T (bottom (above k)) ≡ suc (nest T (bottom k))
-  unfolding Chained above bottom
-  nest-above e [] ch i = no-way cc
-  nest-above e (t ∷ []) ch i = no-way cc
-  nest-above e (t ∷ y ∷ []) ch i = link-nest T l J st t y (ch .0)
-  nest-above e (t ∷ y ∷ z ∷ k) ch i = nest-above t (y ∷ z ∷ k) (ch .2) refl
-
   bottom-is : bottom L ≡ b
   bottom-is = Steals.L-bottom T l p K few w below c far J D I free some
 
@@ -230,7 +222,7 @@ module _ (T : Table) (l : Lawful T) (p K : ℕ) (few : p ≤ 16) (w : ℕ) (belo
   above-lift slack slack' i [] ch o = tt
   above-lift slack slack' i (t ∷ []) ch o = tt
   above-lift slack slack' i (t ∷ y ∷ k) ch o =
-      let n : nest T (bottom (above (t ∷ y ∷ k))) ≡ suc (nest T (bottom (t ∷ y ∷ k))) = nest-above 0 (t ∷ y ∷ k) ch refl in
+      let n : nest T (bottom (above (t ∷ y ∷ k))) ≡ suc (nest T (bottom (t ∷ y ∷ k))) = above-nest T l J st 0 (t ∷ y ∷ k) ch refl in
       let h = line-within-top T B lp J old st slack t (y ∷ k) o in
       top-line-within T B lp' J' new s slack' t (above (y ∷ k))
       (lift t (bottom (t ∷ y ∷ k)) (bottom (above (t ∷ y ∷ k))) slack slack' 1 (omega (arith, one-more (nextOf st t))) (omega (arith, i, n)) (h .0))

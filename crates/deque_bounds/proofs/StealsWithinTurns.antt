@@ -28,7 +28,8 @@ use Rattle.deques.specs.DequeCalls.{rowDeques}
 use Rattle.deque_bounds.specs.DequeRows.{robs, stealsBeyond, steals, stealsFar, leapsAt, leaps}
 use Rattle.deques.specs.Deques.{DequeStep, steal, dequeTurn}
 use Rattle.deques.proofs.Flat.{Mine, mine}
-use Rattle.deque_bounds.proofs.SerialLines.{heldBy, SerialLines, is-owner}
+use Rattle.deque_bounds.proofs.SerialLines.{heldBy, SerialLines}
+use Rattle.deques.proofs.Standing.{is-owner}
 use Rattle.deque_bounds.proofs.SerialLinesActs.{stepped, wait-empty}
 use Rattle.deque_bounds.proofs.SerialLinesSteals as Steals
 use Rattle.deque_bounds.proofs.SerialLinesSteals.{steal-serial-lines, steal-holds}
