@@ -108,18 +108,28 @@ def header_is_source():
     same_prototypes(prototypes_of(text), source)
     for call in RUN_CALLS:
         run_call_hands_over(text, call, source['wivakkol_%s_on' % call], call in ('turn', 'list', 'rounds', 'preview'))
-    for calls, struct in (NUMBERS, 'tables_work'), (board_limits.NUMBERS, 'limit_work'):
-        for call in calls:
-            work_handed(text, call, struct, source)
+    table_calls_hand_over(text, NUMBERS, 'tables_work', source)
+    table_calls_hand_over(text, board_limits.NUMBERS, 'limit_work', source)
     assert set(source) == {*ACTION_CALLS, *(call + '_on' for call in [*NUMBERS, *board_limits.NUMBERS]), *('wivakkol_%s_on' % call for call in RUN_CALLS)}
 
 
-def work_handed(text, call, struct, source):
-    """A call on a table has its working memory of that struct, and hands it over by its names."""
-    lent_work, (result, *parameters) = fields(text, struct), source[call + '_on']
-    taken = {name: (kind, size) for name, kind, size in parameters}
-    assert all(taken.get(name, (kind, size)) == (kind, size) for name, kind, size in lent_work), '%s_on: the working memory' % call
-    inline_on_table(text, call, struct, result, parameters, {name: 'work->' + name for name, _, _ in lent_work})
+def table_calls_hand_over(text, calls, struct, source):
+    """Calls on tables: the exported ones take fields of the working memory as the struct has them, and the inline ones hand them over by name."""
+    work = fields(text, struct)
+    for call in calls:
+        result, *parameters = source[call + '_on']
+        taken = {name: (kind, size) for name, kind, size in parameters}
+        assert all(taken.get(name, (kind, size)) == (kind, size) for name, kind, size in work), '%s_on: the working memory' % call
+        inline_on_table(text, call, struct, result, parameters, {name: 'work->' + name for name, _, _ in work})
+
+
+def table_header_is_source(crate, calls):
+    """The header of an archive whose calls are all on tables: names, order, types, const and sizes of the exported ones are those of the source."""
+    header_for_cpp(crate + '.h')
+    source, text, others = exported(crate), header('wivakkol.h', crate + '.h'), prototypes_of(header())
+    same_prototypes({name: declared for name, declared in prototypes_of(text).items() if name not in others}, source)
+    assert set(source) == {call + '_on' for call in calls}
+    table_calls_hand_over(text, calls, 'tables_work', source)
 
 
 def same_prototypes(prototypes, source):

@@ -5,7 +5,6 @@ usage: python3 tests/choices.py [COUNT]
     damaged inputs (default 500).
 """
 import random
-import subprocess
 import sys
 
 import deques
@@ -13,7 +12,7 @@ import filling
 from most import asked
 from peaks import HIGHEST, Peaks, example
 from reference import ALLOC, Table, check
-from tables import drawn
+from tables import cut_or_changed, drawn, held_to
 
 
 def near(data, quota):
@@ -76,14 +75,7 @@ def given(rng):
     """An input: mostly a table that is accepted, at times with allocs far above K, damaged or cut."""
     data, quota = table_for(rng)
     p = rng.choice([0, 1, 2, 2, 3, 4, 16, 17])
-    bytes_ = asked(p, min(quota, HIGHEST), data, rng.choice([0, 1, 1, 2, p, p + 1, 65536]))
-    kind = rng.randrange(12)
-    if kind == 0:
-        return bytes_[:rng.randrange(rng.choice([8, len(bytes_)]))]
-    if kind == 1:
-        at = rng.randrange(len(bytes_))
-        return bytes_[:at] + bytes([rng.randrange(256)]) + bytes_[at + 1:]
-    return bytes_
+    return cut_or_changed(rng, asked(p, min(quota, HIGHEST), data, rng.choice([0, 1, 1, 2, p, p + 1, 65536])), 8)
 
 
 def runs(rng, count):
@@ -113,18 +105,12 @@ def main():
         found = dequelimit(asked(p, quota, data, c))
         if found != line:
             raise SystemExit('%r, expected %r' % (found, line))
-    rng, lines = random.Random(41), {}
+    rng = random.Random(41)
     reached, below = runs(rng, count // 2)
     print('%d figures; %d runs within the limit, %d of which reach it' % (len(FIGURES), reached + below, reached))
     inputs = [asked(p, quota, data, c) for data, p, quota, c, line in FIGURES]
-    for data in inputs + [given(rng) for _ in range(count)]:
-        expected = dequelimit(data)
-        found = subprocess.run(['target/bin/dequelimit'], input=data, capture_output=True, check=True).stdout.decode()
-        if found != expected + '\n':
-            raise SystemExit('%s: %r, expected %r' % (data.hex(), found, expected))
-        key = ' '.join(expected.split()[:2]) if expected.startswith('refused') else expected.split()[0]
-        lines[key] = lines.get(key, 0) + 1
-    print('%d inputs: dequelimit as the model (%s)' % (len(inputs) + count, ', '.join('%s %d' % x for x in sorted(lines.items()))))
+    answers = held_to('dequelimit', dequelimit, inputs + [given(rng) for _ in range(count)])
+    print('%d inputs: dequelimit as the model (%s)' % (len(inputs) + count, answers))
 
 
 if __name__ == '__main__':

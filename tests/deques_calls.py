@@ -21,20 +21,19 @@ import lent
 import lent_deques
 import machine
 from board_runs import FAR, any_number, damage, random_table, restore, some_worker, unstick, word
-from deques import Deque
 from differential import LARGEST, beginning, mostly, run_table, tablecheck_input
 from lent import FIELDS, SIZE
-from machine import ENDED, HELD, LAST_TURN, NO_THREAD, READY, THREADS, UNBORN, WAITING, WORKERS, described
+from machine import ENDED, HELD, LAST_TURN, NO_THREAD, READY, THREADS, WORKERS, described
 from peaks import bench, example
-from reference import ALLOC, END, FORK, FREE, JOIN, WORK, Table
-from tables import damaged, table
+from reference import Table
+from tables import BODIES_OF_E, damaged, table
 
 import stack  # of bench/, which peaks puts on the path
 
 CRATES = ['wivakkol_deque_turn', 'wivakkol_deques', 'wivakkol']
 ARCHIVES = ['target/staticlib/lib%s.a' % crate for crate in CRATES]
 STACK_MOST = {'begin': 8192, 'open': 8192, 'turn': 161, 'list': 320, 'limit': 8192}  # bytes that a call must stay below, as the header says
-E = table([(FORK, 1), (FORK, 2), (JOIN, 2), (JOIN, 1), (END, 0)], [(ALLOC, 6), (WORK, 0), (FREE, 6), (END, 0)], [(ALLOC, 6), (FREE, 6), (END, 0)])
+E = table(*BODIES_OF_E)
 
 
 class Play(board_runs.Play):
@@ -470,7 +469,7 @@ def header_is_source():
     board.same_prototypes({name: said for name, said in board.prototypes_of(text).items() if name.startswith('wivakkol_deque_')}, source)
     for name in ('turn', 'list', 'open'):
         board.run_call_hands_over(text, 'deque_' + name, source['wivakkol_deque_%s_on' % name], name != 'open')
-    board.work_handed(text, 'wivakkol_deque_limit', 'limit_work', source)
+    board.table_calls_hand_over(text, ['wivakkol_deque_limit'], 'limit_work', source)
     assert len(source) == 4
 
 

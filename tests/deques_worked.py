@@ -4,21 +4,15 @@ usage: python3 tests/deques_worked.py
 """
 import random
 
+import worked as checks
 from deques import Bottoms, Deque, begin, broken, copied, dequelist, deques_in, is_blank, run_pairs, same, store, turn
 from machine import ENDED, HELD, LAST_TURN, NO_THREAD, READY, THREADS, WAITING, Links
-from reference import ALLOC, END, FORK, FREE, JOIN, WORK
-from tables import drawn, table
+from reference import ALLOC, END
+from tables import BODIES_OF_E, drawn, table
+from worked import expect
 
-end, work = (END, 0), (WORK, 0)
-E = table([(FORK, 1), (FORK, 2), (JOIN, 2), (JOIN, 1), end], [(ALLOC, 6), work, (FREE, 6), end], [(ALLOC, 6), (FREE, 6), end])
-held_checks = 0
-
-
-def expect(what, found, wanted):
-    global held_checks
-    if found != wanted:
-        raise SystemExit('%s: expected %r, found %r' % (what, wanted, found))
-    held_checks += 1
+E = table(*BODIES_OF_E)
+end = (END, 0)
 
 
 def begun(data, p, quota):
@@ -167,4 +161,4 @@ worked()
 refusals()
 damages()
 turns = random_runs(random.Random(13), 25)
-print('%d expectations held, %d random turns' % (held_checks, turns))
+print('%d expectations held, %d random turns' % (checks.held_checks, turns))

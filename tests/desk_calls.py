@@ -25,23 +25,6 @@ NUMBERS = {0: {0, 2, 4, *range(6, 12), 61, 62, 63}, 1: {*range(12), 61}}
 Case = collections.namedtuple('Case', 'call data room number row out')
 
 
-def header_is_source():
-    """Names, order, types, const and sizes of the exported calls are those of the source; the inline ones hand the working memory over by name."""
-    board.header_for_cpp('wivakkol_desk.h')
-    source, text = board.exported('wivakkol_desk'), board.header('wivakkol.h', 'wivakkol_desk.h')
-    others = board.prototypes_of(board.header())
-    prototypes = {name: declared for name, declared in board.prototypes_of(text).items() if name not in others}
-    assert prototypes == source, 'the header and the source differ: %s' % [(name, prototypes.get(name), source.get(name))
-                                                                          for name in {*prototypes, *source} if prototypes.get(name) != source.get(name)]
-    assert set(source) == {call + '_on' for call in CALLS.values()}
-    work = board.fields(text, 'tables_work')
-    for call in CALLS.values():
-        result, *parameters = source[call + '_on']
-        taken = {name: (kind, size) for name, kind, size in parameters}
-        assert all(taken.get(name, (kind, size)) == (kind, size) for name, kind, size in work), '%s_on: the working memory' % call
-        board.inline_on_table(text, call, 'tables_work', result, parameters, {name: 'work->' + name for name, _, _ in work})
-
-
 # What is expected
 
 def fault_row(place, raw, expected):
@@ -162,7 +145,7 @@ def main():
     count = int(sys.argv[1]) if len(sys.argv) > 1 else 2000
     if not os.path.exists(ARCHIVE):
         sys.exit('%s is not there: run `rt staticlib wivakkol_desk` first' % ARCHIVE)
-    header_is_source()
+    board.table_header_is_source('wivakkol_desk', CALLS.values())
     rng = random.Random(40)
     cases = list(ends())
     cases += [drawn_case(rng) for _ in range(count - len(cases))]

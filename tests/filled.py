@@ -10,7 +10,7 @@ import sys
 
 import filling
 from reference import ALLOC, END, FORK, FREE, JOIN, WORK, Table, bodies, check, owners, serial_order
-from tables import drawn, table
+from tables import BODIES_OF_E as E, drawn, table
 
 MOST_THREADS, MOST_ACTIONS = 1024, 8192
 
@@ -112,7 +112,6 @@ def leaves(out, t):
 
 # By hand
 
-E = [[(FORK, 1), (FORK, 2), (JOIN, 2), (JOIN, 1), (END, 0)], [(ALLOC, 6), (WORK, 0), (FREE, 6), (END, 0)], [(ALLOC, 6), (FREE, 6), (END, 0)]]
 LEAF = [(WORK, 0), (END, 0)]
 
 

@@ -4,13 +4,12 @@ usage: python3 tests/fitting.py [COUNT]
     Holds it to the figures written down here, and `fitquota` (target/bin) to it on COUNT random and damaged inputs (default 500).
 """
 import random
-import subprocess
 import sys
 
 from peaks import HIGHEST, Peaks, example
 from quota import board, bound
 from reference import ALLOC, Table, check
-from tables import drawn
+from tables import cut_or_changed, drawn, held_to
 
 
 def fitted(data, p, b, memory):
@@ -66,14 +65,7 @@ def given(rng):
     peaks, answer = Peaks(data), check(data)
     near = [peaks.workers(max(p, 1)), peaks.resting(max(p, 1)), bound(answer, p, b, rng.randint(1, 60)), answer[3], 0, 2**64 - 1]
     memory = max(0, min(2**64 - 1, rng.choice(near) + rng.randint(-2, 1)))
-    bytes_ = board(p, b, memory, data)
-    kind = rng.randrange(12)
-    if kind == 0:
-        return bytes_[:rng.randrange(len(bytes_))]
-    if kind == 1:
-        at = rng.randrange(len(bytes_))
-        return bytes_[:at] + bytes([rng.randrange(256)]) + bytes_[at + 1:]
-    return bytes_
+    return cut_or_changed(rng, board(p, b, memory, data), 13)
 
 
 def main():
@@ -82,16 +74,9 @@ def main():
         found = fitquota(board(p, b, memory, data))
         if found != line:
             raise SystemExit('%r, expected %r' % (found, line))
-    rng, lines = random.Random(38), {}
-    for _ in range(count):
-        data = given(rng)
-        expected = fitquota(data)
-        found = subprocess.run(['target/bin/fitquota'], input=data, capture_output=True, check=True).stdout.decode()
-        if found != expected + '\n':
-            raise SystemExit('%s: %r, expected %r' % (data.hex(), found, expected))
-        key = expected.split()[0] + (' ' + expected.split()[1] if expected.startswith('refused') else '')
-        lines[key] = lines.get(key, 0) + 1
-    print('%d figures, %d inputs: fitquota as the model (%s)' % (len(FIGURES), count, ', '.join('%s %d' % x for x in sorted(lines.items()))))
+    rng = random.Random(38)
+    answers = held_to('fitquota', fitquota, [given(rng) for _ in range(count)])
+    print('%d figures, %d inputs: fitquota as the model (%s)' % (len(FIGURES), count, answers))
 
 
 if __name__ == '__main__':

@@ -4,14 +4,13 @@ usage: python3 tests/limits.py [COUNT]
     Holds it to the figures written down here, and `memlimit` (target/bin) to it on COUNT random and damaged inputs (default 500).
 """
 import random
-import subprocess
 import sys
 
 import filling
 from most import asked
 from peaks import HIGHEST, example, limits
 from reference import check
-from tables import drawn
+from tables import cut_or_changed, drawn, held_to
 
 WORDS = 'memory', 'serial', 'peak', 'parallel', 'stretch'
 
@@ -59,14 +58,7 @@ def given(rng):
     data = drawn(rng, threads, rng.randint(threads, 6 * threads + 20), largest)
     p, b = rng.choice([0, 1, 2, 2, 3, 4, 16, 17]), rng.choice([0, 0, 1, 1, 3, 65535, 65536])
     quota = rng.choice([0, 1, 3, max(largest), 2 * max(largest), HIGHEST])
-    bytes_ = asked(p, min(quota, HIGHEST), data, b)
-    kind = rng.randrange(12)
-    if kind == 0:
-        return bytes_[:rng.randrange(len(bytes_))]
-    if kind == 1:
-        at = rng.randrange(len(bytes_))
-        return bytes_[:at] + bytes([rng.randrange(256)]) + bytes_[at + 1:]
-    return bytes_
+    return cut_or_changed(rng, asked(p, min(quota, HIGHEST), data, b), 8)
 
 
 def main():
@@ -76,15 +68,9 @@ def main():
         if found != line:
             raise SystemExit('%r, expected %r' % (found, line))
     inputs = [asked(p, quota, data, b) for data, p, quota, b, line in FIGURES]
-    rng, lines = random.Random(38), {}
-    for data in inputs + [given(rng) for _ in range(count)]:
-        expected = memlimit(data)
-        found = subprocess.run(['target/bin/memlimit'], input=data, capture_output=True, check=True).stdout.decode()
-        if found != expected + '\n':
-            raise SystemExit('%s: %r, expected %r' % (data.hex(), found, expected))
-        key = ' '.join(expected.split()[:2]) if expected.startswith('refused') else expected.split()[0]
-        lines[key] = lines.get(key, 0) + 1
-    print('%d figures, %d inputs: memlimit as the model (%s)' % (len(FIGURES), count, ', '.join('%s %d' % x for x in sorted(lines.items()))))
+    rng = random.Random(38)
+    answers = held_to('memlimit', memlimit, inputs + [given(rng) for _ in range(count)])
+    print('%d figures, %d inputs: memlimit as the model (%s)' % (len(FIGURES), count, answers))
 
 
 if __name__ == '__main__':

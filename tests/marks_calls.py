@@ -14,8 +14,8 @@ import tempfile
 import lent
 from differential import beginning, order, run_table
 from lent import BLOCKS, COUNTS, FIELDS, OFFSETS
-from reference import ALLOC, END, FORK, FREE, JOIN, WORK, Table
-from tables import table
+from reference import Table
+from tables import BODIES_OF_E, table
 
 ROOT = pathlib.Path(__file__).resolve().parent.parent
 MARKS, WIDTHS = 8, {block: bits // 8 for bits, block in BLOCKS.items()}
@@ -24,7 +24,7 @@ RUN_AT = {block: sum(COUNTS[b] * WIDTHS[b] for b in list(COUNTS)[:i]) for i, blo
 MARKS_AT = {block: MARKS * at for block, at in RUN_AT.items()}
 SET_AT = MARKS * sum(COUNTS[b] * WIDTHS[b] for b in COUNTS)
 MARKS_SIZE = SET_AT + MARKS
-E = table([(FORK, 1), (FORK, 2), (JOIN, 2), (JOIN, 1), (END, 0)], [(ALLOC, 6), (WORK, 0), (FREE, 6), (END, 0)], [(ALLOC, 6), (FREE, 6), (END, 0)])
+E = table(*BODIES_OF_E)
 
 
 def word(x, size=4):

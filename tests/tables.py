@@ -1,5 +1,11 @@
-"""Tables as bytes: written out, drawn at random, and damaged."""
+"""Tables as bytes: written out, drawn at random, and damaged; and a program held to its model on such inputs."""
+import collections
+import subprocess
+
 from reference import END, WORK, ALLOC, FREE, FORK, JOIN
+
+# Document 01's example.
+BODIES_OF_E = [[(FORK, 1), (FORK, 2), (JOIN, 2), (JOIN, 1), (END, 0)], [(ALLOC, 6), (WORK, 0), (FREE, 6), (END, 0)], [(ALLOC, 6), (FREE, 6), (END, 0)]]
 
 
 def word(x):
@@ -59,6 +65,17 @@ def drawn(rng, threads, most, sizes=(4, 100, 16777215)):
     return table(*bodies)
 
 
+def cut_or_changed(rng, data, front):
+    """The same bytes, at times cut, often within the `front` bytes before the table, at times with another byte."""
+    kind = rng.randrange(12)
+    if kind == 0:
+        return data[:rng.randrange(rng.choice([front, len(data)]))]
+    if kind == 1:
+        at = rng.randrange(len(data))
+        return data[:at] + bytes([rng.randrange(256)]) + data[at + 1:]
+    return data
+
+
 def damaged(rng, data):
     """The same bytes with something wrong, most of the time."""
     data = bytearray(data)
@@ -91,3 +108,15 @@ def damaged(rng, data):
                     other = start + 4 * rng.randrange(slots)
                     data[at:at + 4], data[other:other + 4] = data[other:other + 4], data[at:at + 4]
     return bytes(data)
+
+
+def held_to(name, model, inputs):
+    """Holds a program that prints one line to its model; how often each answer was given, by its first word, a refusal's by its number too."""
+    given = collections.Counter()
+    for data in inputs:
+        expected = model(data)
+        found = subprocess.run(['target/bin/' + name], input=data, capture_output=True, check=True).stdout.decode()
+        if found != expected + '\n':
+            raise SystemExit('%s: %r, expected %r' % (data.hex(), found, expected))
+        given[' '.join(expected.split()[:2 if expected.startswith('refused') else 1])] += 1
+    return ', '.join('%s %d' % x for x in sorted(given.items()))

@@ -26,23 +26,6 @@ NUMBERS = {0: TABLE | {47, 48}, 1: TABLE, 2: TABLE}
 Case = collections.namedtuple('Case', 'call input number row a b used')
 
 
-def header_is_source():
-    """Names, order, types, const and sizes of the exported calls are those of the source; the inline ones hand the working memory over by name."""
-    board.header_for_cpp('wivakkol_tables.h')
-    source, text = board.exported('wivakkol_tables'), board.header('wivakkol.h', 'wivakkol_tables.h')
-    others = board.prototypes_of(board.header())
-    prototypes = {name: declared for name, declared in board.prototypes_of(text).items() if name not in others}
-    assert prototypes == source, 'the header and the source differ: %s' % [(name, prototypes.get(name), source.get(name))
-                                                                          for name in {*prototypes, *source} if prototypes.get(name) != source.get(name)]
-    assert set(source) == {call + '_on' for call in CALLS.values()}
-    work = board.fields(text, 'tables_work')
-    for call in CALLS.values():
-        result, *parameters = source[call + '_on']
-        taken = {name: (kind, size) for name, kind, size in parameters}
-        assert all(taken.get(name, (kind, size)) == (kind, size) for name, kind, size in work), '%s_on: the working memory' % call
-        board.inline_on_table(text, call, 'tables_work', result, parameters, {name: 'work->' + name for name, _, _ in work})
-
-
 def number(x):
     return x.to_bytes(4, 'little')
 
@@ -145,7 +128,7 @@ def main():
     count = int(sys.argv[1]) if len(sys.argv) > 1 else 2000
     if not os.path.exists(ARCHIVE):
         sys.exit('%s is not there: run `rt staticlib wivakkol_tables` first' % ARCHIVE)
-    header_is_source()
+    board.table_header_is_source('wivakkol_tables', CALLS.values())
     rng, size = random.Random(12), 8 + 56 + 2 * BYTES + WORKING
     cases = list(ends())
     cases += [drawn_case(rng) for _ in range(count - len(cases))]

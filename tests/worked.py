@@ -9,10 +9,9 @@ import random
 from machine import BYTES, ENDED, HELD, LARGEST, LAST_TURN, NO_THREAD, READY, THREADS, UNBORN, WAITING, Both, Links, View, begin, broken
 from machine import copied, described, is_blank, run_list, run_rounds, same, serial_order, sound, turn
 from reference import ALLOC, END, FORK, FREE, JOIN, WORK, check
-from tables import drawn, table
+from tables import BODIES_OF_E as E, drawn, table
 
 end, work = (END, 0), (WORK, 0)
-E = [[(FORK, 1), (FORK, 2), (JOIN, 2), (JOIN, 1), end], [(ALLOC, 6), work, (FREE, 6), end], [(ALLOC, 6), (FREE, 6), end]]
 held_checks = 0
 
 

@@ -83,17 +83,15 @@ module _ (T : Table) (l : Lawful T) (p K : ℕ) (st : State) (f : Facts T p K st
       (λ a h. rw (all-done T l p K st f e a h, lt-ltb (numberOf T a) (T .actions) (number-below T l a h)))
       ∙ sym (front-sum T l own (T .actions) (omega arith))
 
-  held-ended : statusOf st 0 ≡ ended → st .held ≤ S1 T
+  pub held-ended : statusOf st 0 ≡ ended → st .held ≤ S1 T
   unfolding heldAfter
   held-ended e = omega (arith, f .amount, done-all e (allocOf T), done-all e (freeOf T), front-held T (T .actions))
 
-  -- while it has not, the leftmost thread's next action is the first that is not done
-  held-open : (t : ℕ) (others : List ℕ) → st .list ≡ t ∷ others → t < T .threads → st .held ≤ S1 T + spentBeyond T (allocOf T) st (nextOf st t)
+  -- while it has not, with v the first action not done: the next action of the leftmost thread
+  pub held-open : (v : ℕ) → v < T .actions → isDone T st v ≡ false → ((a : ℕ) → a < T .actions → numberOf T a < numberOf T v → Done T st a) → st .held ≤ S1 T + spentBeyond T (allocOf T) st v
   unfolding heldAfter
-  held-open t others e h =
-      let v : ℕ = nextOf st t in
-      let w : v < T .actions = next-below T l p K st f t h in
-      let parts = done-parts v w (leftmost-undone T l p K st f t others e) (front-done T l p K st f t others e) in
+  held-open v w u before =
+      let parts = done-parts v w u before in
       let n : numberOf T v ≤ T .actions = omega (arith, number-below T l v w) in
       omega (
         arith,
@@ -113,11 +111,9 @@ module _ (T : Table) (l : Lawful T) (p K : ℕ) (some : 1 ≤ p) (few : p ≤ 16
         at-end = held-ended T l p K;
         before = λ st f t others e h.
             let v : ℕ = nextOf st t in
-            omega (
-              arith,
-              held-open T l p K st f t others e h,
-              covers T l p K (drawnCost T K) st f v (next-below T l p K st f t h) (leftmost-undone T l p K st f t others e) delayed,
-            );
+            let w : v < T .actions = next-below T l p K st f t h in
+            let u : isDone T st v ≡ false = leftmost-undone T l p K st f t others e in
+            omega (arith, held-open T l p K st f v w u (front-done T l p K st f t others e), covers T l p K (drawnCost T K) st f v w u delayed);
       }
 
   pub row-bound : (b : ℕ) → 1 ≤ b → (row : List ℕ) → Below p row → Keeps b row → rowState T K (startState T) row .held ≤ limit T p K b

@@ -24,10 +24,10 @@ use Rattle.schedule.specs.Calls.{Call, turn, overList, inRounds, turnsIn, turnR
 use Rattle.order.specs.Firsts.{firsts}
 use Rattle.soundness.proofs.Passed.{no-workers as blank-of}
 use Rattle.array_machine.proofs.Answers.{refusedAs, turned-none}
-use Rattle.run_memory.specs.Memory.{Memory, movedIn, Answer, answer, hindrance, turnIn}
+use Rattle.run_memory.specs.Memory.{Memory, movedIn, runRow, Answer, answer, hindrance, turnIn}
 use Rattle.run_memory.specs.Stands.{runIn}
 use Rattle.run_memory.specs.Runs.{overIn, driveIn, listRunIn}
-use Rattle.wivakkol.specs.Lent.{runRow, lentList}
+use Rattle.wivakkol.specs.Lent.{lentList}
 use Rattle.wivakkol.specs.Opened.{blankIn, blankedIn, lentOpen}
 use Rattle.wivakkol.specs.Preview.{lentPreview, shownAs}
 use Rattle.wivakkol.proofs.Opens.{no-workers, blank-record, blank-passes, blank-passed, open-blank, blank-turn, blank-rounds}

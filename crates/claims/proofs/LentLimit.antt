@@ -148,7 +148,7 @@ report-turns (Finished k) = refl
 report-turns (Spent k) = refl
 report-turns (Refused k x) = refl
 
-row-turns : {row : List ℕ} (x : Report) → row ≡ valuesRun (reportValues x) → getD row 2 0 ≡ turnsIn x
+pub row-turns : {row : List ℕ} (x : Report) → row ≡ valuesRun (reportValues x) → getD row 2 0 ≡ turnsIn x
 row-turns x e = ap (λ (l : List ℕ). getD l 2 0) e ∙ report-turns x
 
 -- a call is that call on the record, and the record after it stands

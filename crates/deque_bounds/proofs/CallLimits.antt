@@ -26,8 +26,8 @@ use Rattle.deques.proofs.DequeHistories.{TracedDeques, deque-calls-traced}
 use Rattle.deque_bounds.specs.DequeRows.{steals}
 use Rattle.deque_bounds.specs.Deepest.{deepest}
 use Rattle.deque_bounds.proofs.Lines.{Link}
-use Rattle.deque_bounds.proofs.Upright.{heldBy}
-use Rattle.deque_bounds.proofs.UprightTurns.{BelowAll, from-start}
+use Rattle.deque_bounds.proofs.SerialLines.{heldBy}
+use Rattle.deque_bounds.proofs.SerialLinesTurns.{BelowAll, from-start}
 use Rattle.deque_bounds.proofs.DequeLimits.{held-steals, line-links, line-short, waits-alone, wakes-alone}
 use Rattle.deque_bounds.proofs.DequePeaks.{deque-light}
 use Rattle.deque_bounds.proofs.HeldLimits.{HeldLimits, row-limits}

@@ -12,7 +12,7 @@ use Rattle.deques.specs.DequeCalls.{rowDeques}
 use Rattle.deque_bounds.specs.DequeRows.{leaps}
 use Rattle.deque_bounds.specs.DemandCase.{parted, rounds, leaping, leaping-held, leaping-limit, leaping-keeps}
 use Rattle.deque_bounds.specs.BigLeaps.{five, fiveRow, five-held, five-leaps, five-limit, five-keeps}
-use Rattle.deque_bounds.proofs.UprightTurns.{BelowAll}
+use Rattle.deque_bounds.proofs.SerialLinesTurns.{BelowAll}
 
 rounds-below : (k c e : ℕ) → c < 2 → e < 2 → (l : List Pair) → BelowAll 2 l → BelowAll 2 (rounds k c e l)
 unfolding rounds

@@ -21,14 +21,14 @@ use Rattle.schedule.proofs.Sound.Facts.{Facts}
 use Rattle.schedule.proofs.Sound.Done.{done-ended, ended-all, next-below, owner-of-next, undone-unborn, unborn-first}
 use Rattle.schedule.proofs.Sound.Leftmost.{next-undone}
 use Rattle.schedule.proofs.Linked.Waiting.{awaited}
-use Rattle.peaks.specs.Peak.{unended, unendedIn, outer, fresh, past, load, Light}
+use Rattle.peaks.specs.Peak.{unendedIn, outer, fresh, past, load, Light}
 use Rattle.peaks.proofs.Loads.{outer-child, past-fewer}
 use Rattle.peaks.proofs.LoadLaw.{all-fewer, outer-fewer, past-step, open-step}
 use Rattle.table.proofs.Words.{past-end}
 use Rattle.deques.specs.Deques.{Deque, Deques}
 use Rattle.deques.proofs.DequeTurns.{withSerial}
 use Rattle.deque_bounds.proofs.Lines.{Live, Link, Moved}
-use Rattle.deque_bounds.proofs.Went.{Went, stays, forks, pops, drops, leaves, wakes, stops}
+use Rattle.deque_bounds.proofs.ActionLeaves.{ActionLeaves, stays, forks, pops, drops, leaves, wakes, stops}
 
 -- every entered unended thread has load at most c; of a held one, a child forked directly before its next action counted too
 pub record LoadWithin (T : Table) (c : ℕ) (st : State) : Type 0 where
@@ -198,7 +198,7 @@ module _ (T : Table) (l : Lawful T) (p K : ℕ) (few : p ≤ 16) (w : ℕ) (belo
             go true = omega arith
             go false = omega arith
 
-  pub act-within : Went T K w t a q st front k rest D → LoadWithin T c s
+  pub act-within : ActionLeaves T K w t a q st front k rest D → LoadWithin T c s
   act-within (stays m n e i d z y) = on-stay m n e y
   act-within (forks m y e i d z) = on-fork m y e i
   act-within (pops t2 j e m y dead i d z) = on-pop m t2 j e y dead i d

@@ -34,23 +34,17 @@ use Rattle.peaks.proofs.LoadLaw.{past-step}
 use Rattle.deques.specs.Deques.{Deque, bottom}
 use Rattle.deques.specs.Lines.{line}
 use Rattle.deque_bounds.proofs.Lines.{Link, Chained}
+use Rattle.deque_bounds.proofs.Between.{number-along}
 use Rattle.deques.proofs.DequeTurns.{withSerial}
 
 -- ---- numbers of a whole thread
 
 module _ (T : Table) (l : Lawful T) where
-  number-to : (a d : ℕ) → a ≤ d → d < T .actions → owner T a ≡ owner T d → numberOf T a ≤ numberOf T d
-  number-to a d h i o = go (ℕ-discrete a d)
-    where
-      go : Dec (a ≡ d) → numberOf T a ≤ numberOf T d
-      go (yes e) = rw e (omega arith)
-      go (no n) = omega (arith, number-rises T l a d (omega (arith, n)) i o)
-
   number-end : (a : ℕ) → a < T .actions → numberOf T a ≤ numberOf T (endOf T (owner T a))
   number-end a h =
       let t : ℕ = owner T a in
       let b : t < T .threads = owner-below T (l .contents) a h in
-      number-to a (endOf T t) (omega (arith, owner-end T (l .contents) a h, after-end T (l .contents) t b)) (end-within T (l .contents) t b) (sym (owner-of-end T (l .contents) t b))
+      number-along T l a (endOf T t) (omega (arith, owner-end T (l .contents) a h, after-end T (l .contents) t b)) (end-within T (l .contents) t b) (sym (owner-of-end T (l .contents) t b))
 
   -- thread z and all below it lie within y's
   abbrev pub Inside : ℕ → ℕ → Type 0

@@ -1,6 +1,6 @@
 -- The limits of rows of turns of DFDeques from the beginning: by the steals beyond an action, by the places robbed, and what the lines are.
 use mathlib.Core.Path.{_≡_, refl, sym, ap, subst, _∙_}
-use Prim.Native.Nat.{ℕ, zero, suc, _+_, _-_, _*_, _≤_, _<_}
+use Prim.Native.Nat.{ℕ, suc, _+_, _-_, _*_, _≤_, _<_}
 use mathlib.Core.List.{List, [], _∷_, _++_, List·Memᴰ, List·Memᴰ·head, List·Memᴰ·tail, List·Memᴰ·not-nil, List·Memᴰ·cases-cons, Memᴰ·append-left, Memᴰ·append-right}
 use mathlib.Core.Bool.{Bool, true, false, _&&_}
 use mathlib.Core.Logic.{_⊎_, inl, inr}
@@ -8,7 +8,7 @@ use native.Mathlib.Omega.{arith}
 use native.Mathlib.Decide.{ℕ-discrete, decLt}
 use lib.ListN.{length, getD}
 use lib.Dec.{ltb, eqb}
-use borrow.Author.Tests.{eqb-true, lt-ltb, le-ltb}
+use borrow.Author.Tests.{eqb-true, lt-ltb}
 use Rattle.table.specs.Sum.{pick}
 use Rattle.table.specs.Format.{join, Table, kind}
 use Rattle.table.specs.Checks.{owner, allocOf}
@@ -21,119 +21,51 @@ use Rattle.schedule.specs.Machine.{State, ready, held, waiting, ended, nextOf, 
 use Rattle.order.specs.Order.{numberOf}
 use Rattle.schedule.specs.Sound.{isDone}
 use Rattle.order.proofs.Lawful.{Lawful, Within}
-use Rattle.order.proofs.Numbers.{number-once}
 use Rattle.order.proofs.Words.{Ascends}
 use Rattle.schedule.proofs.Sound.Facts.{Facts}
 use Rattle.schedule.proofs.Sound.Done.{next-below}
 use Rattle.schedule.proofs.Linked.Waiting.{awaited}
-use Rattle.deques.specs.Deques.{Deque, deque, nothing, kept, bottom, above, placeOf, own, Deques, over}
+use Rattle.deques.specs.Deques.{Deque, deque, nothing, kept, bottom, above, placeOf, Deques, over}
 use Rattle.deques.specs.Partition.{occurs, ownedBy}
 use Rattle.deques.specs.Lines.{line, linesOf}
 use Rattle.deques.proofs.DequeTurns.{withSerial, serial-facts}
 use Rattle.deques.proofs.Flat.{lines-append}
 use Rattle.deque_bounds.proofs.Lines.{Link, Chained, Light}
-use Rattle.deque_bounds.proofs.Went.{forks}
+use Rattle.deque_bounds.proofs.ActionLeaves.{forks}
 use Rattle.deques.specs.DequeRuns.{Pair}
 use Rattle.deques.specs.Deques.{startDeques}
 use Rattle.deques.specs.DequeCalls.{rowDeques}
 use Rattle.deque_bounds.specs.DequeRows.{robs, steals, stealsFar, far}
 use Rattle.deques.specs.Deques.{dequeTurn}
 use Rattle.deques.proofs.Flat.{Mine, mine}
-use Rattle.deque_bounds.proofs.Upright.{heldBy, AllLines, Upright}
-use Rattle.deque_bounds.proofs.UprightActs.{wait-empty}
-use Rattle.deque_bounds.proofs.UprightActs as Acts
-use Rattle.deque_bounds.proofs.UprightTurns.{BelowAll}
+use Rattle.deque_bounds.proofs.SerialLines.{heldBy, AllLines, SerialLines}
+use Rattle.deque_bounds.proofs.SerialLinesActs.{wait-empty}
+use Rattle.deque_bounds.proofs.SerialLinesActs as Acts
+use Rattle.deque_bounds.proofs.SerialLinesTurns.{BelowAll}
 use Rattle.schedule.specs.Machine.{taken}
 use Rattle.bounds.proofs.Draws.{spentBeyond}
-use Rattle.table.specs.Sum.{sumTo}
-use Rattle.table.proofs.Sums.{sumTo-cong}
-use lib.ListN.{take}
+use Rattle.bounds.proofs.Bound.{held-ended, held-open}
+use Rattle.deques.proofs.Counts.{in-counted}
 use native.Mathlib.Nat.{mul-le-mul-left}
-use mathlib.Core.List.{Memᴰ·map}
-use Rattle.table.specs.Sum.{sumOver}
-use Rattle.table.specs.Checks.{freeOf}
 use Rattle.table.specs.Level.{forkBelow}
 use Rattle.table.specs.Nested.{N}
-use Rattle.table.specs.Serial.{serialOrder, heldAfter, fronts, peakOf, S1}
+use Rattle.table.specs.Serial.{S1}
 use Rattle.table.proofs.Nesting.{fork-exists, fork-found}
 use Rattle.table.proofs.NestedThreads.{nest-root, nest-most}
 use Rattle.schedule.specs.Machine.{parentOf}
-use Rattle.schedule.specs.Sound.{ofDone, sumDone}
-use Rattle.schedule.proofs.Sound.Facts.{Done}
-use Rattle.order.proofs.Numbers.{number-below}
-use Rattle.order.proofs.Depth.{greatest-member}
-use Rattle.order.proofs.SerialSums.{lower, front-sum}
-use Rattle.order.proofs.Totals.{sumTo-add}
-use Rattle.schedule.proofs.Sound.Leftmost.{all-done, front-done, leftmost-undone, leftmost-enabled}
+use Rattle.schedule.proofs.Sound.Leftmost.{front-done, leftmost-undone, leftmost-enabled}
 use Rattle.schedule.proofs.Bounds.Beyond.{Enabled}
 use Rattle.deque_bounds.proofs.DrawnRows.{draws-few}
-use Rattle.deque_bounds.proofs.UprightTurns.{from-start}
-use Rattle.deque_bounds.proofs.Lines.{line-nest}
-use Rattle.deque_bounds.proofs.Upright.{standing, all-front, all-head}
-use Rattle.deque_bounds.proofs.UprightActs.{wake-empty}
-use Rattle.deque_bounds.proofs.Went.{mine-at}
+use Rattle.deque_bounds.proofs.SerialLinesTurns.{from-start}
+use Rattle.deque_bounds.proofs.Lines.{link-of, line-nest}
+use Rattle.deque_bounds.proofs.SerialLines.{all-front, all-head}
+use Rattle.deques.proofs.Standing.{standing}
+use Rattle.deque_bounds.proofs.SerialLinesActs.{wake-empty}
+use Rattle.deques.proofs.Flat.{mine-at}
 
--- ---- the first k actions of serial order are a front part of it (as proofs/Bounds/Bound of crates/schedule, where these laws are not pub)
-
-take-front : (k : ℕ) (l : List ℕ) → List·Memᴰ (take k l) (fronts l)
-unfolding fronts
-take-front zero [] = List·Memᴰ·head refl
-take-front (suc k) [] = List·Memᴰ·head refl
-take-front zero (x ∷ l) = List·Memᴰ·head refl
-take-front (suc k) (x ∷ l) = List·Memᴰ·tail (Memᴰ·map (x ∷_) (take-front k l))
-
-front-held : (T : Table) (k : ℕ) → heldAfter T (take k (serialOrder T)) ≤ S1 T
-unfolding S1 peakOf
-front-held T k = greatest-member (heldAfter T) (take k (serialOrder T)) (fronts (serialOrder T)) (take-front k (serialOrder T))
+-- ---- the leftmost thread
 
 module _ (T : Table) (l : Lawful T) (p K : ℕ) (st : State) (f : Facts T p K st) where
-  -- with v the first action not done: what is done is the front part before v, and what is done beyond v
-  done-parts : (v : ℕ) → v < T .actions → isDone T st v ≡ false → ((a : ℕ) → a < T .actions → numberOf T a < numberOf T v → Done T st a)
-      → (own : ℕ → ℕ) → sumTo (lower T own (numberOf T v)) (T .actions) + spentBeyond T own st v ≡ sumDone T st own
-  unfolding spentBeyond
-  done-parts v w n before own =
-      sumTo-add (lower T own (numberOf T v)) (λ a. pick (isDone T st a && ltb (numberOf T v) (numberOf T a)) (own a) 0) (ofDone T st own) (T .actions)
-      (λ a h. each a h (decLt (numberOf T a) (numberOf T v)) (ℕ-discrete (numberOf T a) (numberOf T v)))
-    where
-      beyond : (q : Bool) (x : ℕ) → 0 + pick (q && true) x 0 ≡ pick q x 0
-      beyond true x = omega arith
-      beyond false x = refl
-
-      each : (a : ℕ) → a < T .actions → Dec (numberOf T a < numberOf T v) → Dec (numberOf T a ≡ numberOf T v)
-          → lower T own (numberOf T v) a + pick (isDone T st a && ltb (numberOf T v) (numberOf T a)) (own a) 0 ≡ ofDone T st own a
-      each a h (yes i) d = rw (lt-ltb (numberOf T a) (numberOf T v) i, le-ltb (numberOf T v) (numberOf T a) (omega arith), before a h i) (omega arith)
-      each a h (no i) (yes d) =
-          let e : a ≡ v = number-once T l a v h w d in
-          let u : isDone T st a ≡ false = rw e n in
-          rw (u, le-ltb (numberOf T a) (numberOf T v) (omega arith))
-      each a h (no i) (no d) =
-          rw (le-ltb (numberOf T a) (numberOf T v) (omega arith), lt-ltb (numberOf T v) (numberOf T a) (omega (arith, d))) (beyond (isDone T st a) (own a))
-
-  held-open : (v : ℕ) → v < T .actions → isDone T st v ≡ false → ((a : ℕ) → a < T .actions → numberOf T a < numberOf T v → Done T st a) → st .held ≤ S1 T + spentBeyond T (allocOf T) st v
-  unfolding heldAfter
-  held-open v w u before =
-      let parts = done-parts v w u before in
-      let n : numberOf T v ≤ T .actions = omega (arith, number-below T l v w) in
-      omega (
-        arith,
-        f .amount,
-        parts (allocOf T),
-        parts (freeOf T),
-        front-sum T l (allocOf T) (numberOf T v) n,
-        front-sum T l (freeOf T) (numberOf T v) n,
-        front-held T (numberOf T v),
-      )
-
-  done-all : statusOf st 0 ≡ ended → (own : ℕ → ℕ) → sumDone T st own ≡ sumOver own (take (T .actions) (serialOrder T))
-  done-all e own =
-      sumTo-cong (ofDone T st own) (lower T own (T .actions)) (T .actions)
-      (λ a h. rw (all-done T l p K st f e a h, lt-ltb (numberOf T a) (T .actions) (number-below T l a h)))
-      ∙ sym (front-sum T l own (T .actions) (omega arith))
-
-  held-ended : statusOf st 0 ≡ ended → st .held ≤ S1 T
-  unfolding heldAfter
-  held-ended e = omega (arith, f .amount, done-all e (allocOf T), done-all e (freeOf T), front-held T (T .actions))
-
   -- while the root has not ended, some thread is the leftmost
   pub unended-listed : (statusOf st 0 ≡ ended → ⊥) → (t : ℕ) × (others : List ℕ) × (st .list ≡ t ∷ others)
   unended-listed n = go (st .list) refl
@@ -145,15 +77,6 @@ module _ (T : Table) (l : Lawful T) (p K : ℕ) (st : State) (f : Facts T p K st
 -- ---- threads in the lines
 
 module _ (hold : ℕ → ℕ) (v : ℕ) where
-  in-list : (k : List ℕ) → 1 ≤ countIn v k → List·Memᴰ v k
-  unfolding countIn
-  in-list [] i = absurd (omega (arith, i))
-  in-list (x ∷ k) i = go (eqb x v) refl (in-list k)
-    where
-      go : (q : Bool) → eqb x v ≡ q → (1 ≤ countIn v k → List·Memᴰ v k) → List·Memᴰ v (x ∷ k)
-      go true e ih = List·Memᴰ·head (sym (eqb-true x v e))
-      go false e ih = List·Memᴰ·tail (ih (let z : 1 ≤ 0 + countIn v k = rw e at i in omega (arith, z)))
-
   line-has : (d : Deque) → List·Memᴰ v (d .threads) → List·Memᴰ v (line hold d)
   line-has d m = go (ltb (d .owner) 16)
     where
@@ -178,7 +101,7 @@ module _ (hold : ℕ → ℕ) (v : ℕ) where
   deque-of (d ∷ ds) i = go (decLt 0 (countIn v (d .threads))) (deque-of ds)
     where
       go : Dec (0 < countIn v (d .threads)) → (1 ≤ occurs v ds → Somewhere ds) → Somewhere (d ∷ ds)
-      go (yes n) ih = record { front = []; deque = d; rest = ds; whole = refl; has = line-has d (in-list (d .threads) (omega (arith, n))) }
+      go (yes n) ih = record { front = []; deque = d; rest = ds; whole = refl; has = line-has d (in-counted v (d .threads) (omega (arith, n))) }
       go (no n) ih = later d ds (ih (omega (arith, n, i)))
 
   pub deque-owned : (ds : List Deque) (o : ℕ) → o < 16 → hold o ≡ v → 1 ≤ ownedBy o ds → Somewhere ds
@@ -233,13 +156,9 @@ chain-tail : (T : Table) (J : ℕ → ℕ) (st : State) (e z y : ℕ) (k : List 
 unfolding Chained
 chain-tail T J st e z y k c = c .2
 
-links-of : (T : Table) (J : ℕ → ℕ) (st : State) (e x y : ℕ) (k : List ℕ) → Chained T J st e (x ∷ y ∷ k) → Link T st x y
-unfolding Chained
-links-of T J st e x y k c = c .0
-
 -- ---- in every state that a row from the beginning reaches
 
-module _ (T : Table) (l : Lawful T) (p K fa : ℕ) (J : ℕ → ℕ) (D : Deques) (I : Upright T p K fa J D) where
+module _ (T : Table) (l : Lawful T) (p K fa : ℕ) (J : ℕ → ℕ) (D : Deques) (I : SerialLines T p K fa J D) where
   abbrev st : State
   st = D .state
 
@@ -276,7 +195,7 @@ module _ (T : Table) (l : Lawful T) (p K fa : ℕ) (J : ℕ → ℕ) (D : Deques
         at e [] c = chained-link e c
           where
             chained-link : (e : ℕ) → Chained T J st e (x ∷ y ∷ under) → Link T st x y
-            chained-link e c = links-of T J st e x y under c
+            chained-link e c = link-of T J st e x y under c
         at e (z ∷ []) c = at z [] (chain-tail T J st e z x (y ∷ under) c)
         at e (z ∷ z2 ∷ k) c = at z (z2 ∷ k) (chain-tail T J st e z z2 (k ++ x ∷ y ∷ under) c)
 
@@ -339,11 +258,11 @@ module _ (T : Table) (l : Lawful T) (p K : ℕ) (few : p ≤ 16) (small : Within
   abbrev farther : ℕ
   farther = far T K (startDeques T) row
 
-  upright : Upright T p K farther begun after
-  upright = from-start T l p K few row h
+  serial-lines : SerialLines T p K farther begun after
+  serial-lines = from-start T l p K few row h
 
   g : Facts T p K (withSerial T l (after .state))
-  g = serial-facts T l p K (after .state) (upright .kept .common)
+  g = serial-facts T l p K (after .state) (serial-lines .kept .common)
 
   -- by the steals beyond v, the first action not done
   pub held-steals : (v : ℕ) → v < T .actions → isDone T (after .state) v ≡ false → ((a : ℕ) → a < T .actions → numberOf T a < numberOf T v → isDone T (after .state) a ≡ true)
@@ -367,7 +286,7 @@ module _ (T : Table) (l : Lawful T) (p K : ℕ) (few : p ≤ 16) (small : Within
           let v : ℕ = nextOf (after .state) t in
           let i : v < T .actions = next-below T l p K s g t (x .below) in
           let a : after .state .held ≤ S1 T + K * begun v = held-steals v i (leftmost-undone T l p K s g t others r) (front-done T l p K s g t others r) in
-          let c : suc (begun v) ≤ N T + farther = ready-count T l p K farther begun after upright t (x .below) (x .taken) in
+          let c : suc (begun v) ≤ N T + farther = ready-count T l p K farther begun after serial-lines t (x .below) (x .taken) in
           let n : 1 ≤ N T = omega (arith, nest-some T l 0 (l .some-thread), nest-most T 0 (l .some-thread)) in
           omega (arith, a, mul-le-mul-left K (let y : begun v ≤ N T - 1 + farther = omega (arith, c, n) in y))
 
@@ -399,7 +318,7 @@ pub held-alone : (T : Table) (l : Lawful T) (K : ℕ) → Within T K → (row : 
 held-alone T l K small row h = held-near T l 1 K (omega arith) small row h (λ g m. omega (arith, h g m .1))
 
 -- waits and wakings find the deque of a worker that holds a thread empty
-module _ (T : Table) (l : Lawful T) (p K : ℕ) (few : p ≤ 16) (fa : ℕ) (J : ℕ → ℕ) (D : Deques) (I : Upright T p K fa J D) (w : ℕ) (below : w < p) (h : workerOf (D .state) w .holds ≡ true) where
+module _ (T : Table) (l : Lawful T) (p K : ℕ) (few : p ≤ 16) (fa : ℕ) (J : ℕ → ℕ) (D : Deques) (I : SerialLines T p K fa J D) (w : ℕ) (below : w < p) (h : workerOf (D .state) w .holds ≡ true) where
   abbrev mineOf : List ℕ
   mineOf = getD (D .deques) (placeOf w (D .deques)) nothing .threads
 
@@ -409,8 +328,8 @@ module _ (T : Table) (l : Lawful T) (p K : ℕ) (few : p ≤ 16) (fa : ℕ) (J :
   same-its : mineOf ≡ its .threads
   same-its = subst (λ (y : List Deque). getD y (placeOf w y) nothing .threads ≡ its .threads) (sym (its .whole)) (mine-at w (its .front) (its .threads) (its .rest) (its .clear))
 
-  I' : Upright T p K fa J (over (D .state) (its .front ++ deque w (its .threads) ∷ its .rest))
-  I' = subst (λ (y : List Deque). Upright T p K fa J (over (D .state) y)) (its .whole) I
+  I' : SerialLines T p K fa J (over (D .state) (its .front ++ deque w (its .threads) ∷ its .rest))
+  I' = subst (λ (y : List Deque). SerialLines T p K fa J (over (D .state) y)) (its .whole) I
 
   pub waits-alone : kind T (nextOf (D .state) (workerOf (D .state) w .thread)) ≡ join
       → (statusOf (D .state) (T .argument (nextOf (D .state) (workerOf (D .state) w .thread))) ≡ ended → ⊥) → mineOf ≡ []

@@ -27,7 +27,7 @@ use Rattle.schedule.proofs.Preservation.Turns.{either}
 use Rattle.schedule.proofs.Preservation.Starts.{start-next, start-worker, start-held}
 use Rattle.deque_bounds.proofs.Peaks.{peak-within}
 use Rattle.schedule.proofs.Sound.Facts.{Facts}
-use Rattle.peaks.specs.Peak.{unended, unendedIn, outer, fresh, past, load, Light, peakAt, workersPeak}
+use Rattle.peaks.specs.Peak.{unendedIn, outer, fresh, past, load, Light, peakAt, workersPeak}
 use Rattle.peaks.proofs.Peaks.{peak-rises}
 use Rattle.peaks.proofs.Held.{peak-common}
 use Rattle.peaks.proofs.LoadLaw.{all-fewer, outer-fewer}
@@ -36,17 +36,19 @@ use Rattle.deques.specs.Deques.{Deque, deque, nothing, isEmpty, bottom, robbed,
 use Rattle.deques.specs.DequeRuns.{Pair}
 use Rattle.deques.specs.Deques.{startDeques}
 use Rattle.deques.specs.DequeCalls.{rowDeques}
-use Rattle.deque_bounds.specs.DequeRows.{robs, stealsBeyond, stealsFar, far}
+use Rattle.deque_bounds.specs.DequeRows.{robs, stealsBeyond, stealsFar}
 use Rattle.deques.specs.Partition.{AllInUse}
 use Rattle.deques.specs.Lines.{line, linesOf}
 use Rattle.deques.proofs.Counts.{line-some}
 use Rattle.deques.proofs.Flat.{Mine, mine, lines-append}
 use Rattle.deques.proofs.DequeTurns.{withSerial, serial-facts, b-ready}
-use Rattle.deque_bounds.proofs.Lines.{Link, Chained}
-use Rattle.deque_bounds.proofs.Upright.{heldBy, Upright, AllLines, standing, standing-live, all-front, all-head}
-use Rattle.deque_bounds.proofs.UprightActs.{stepped, act-upright, wait-empty}
-use Rattle.deque_bounds.proofs.UprightSteals.{bottom-in, steal-upright, steal-holds}
-use Rattle.deque_bounds.proofs.UprightTurns.{BelowAll, turn-upright, start-upright, from-start}
+use Rattle.deques.proofs.Bottoms.{line-bottom}
+use Rattle.deque_bounds.proofs.Lines.{Link, Chained, link-of}
+use Rattle.deque_bounds.proofs.SerialLines.{heldBy, SerialLines, AllLines, standing-live, all-front, all-head}
+use Rattle.deques.proofs.Standing.{standing}
+use Rattle.deque_bounds.proofs.SerialLinesActs.{stepped, act-serial-lines, wait-empty}
+use Rattle.deque_bounds.proofs.SerialLinesSteals.{bottom-in, steal-serial-lines, steal-holds}
+use Rattle.deque_bounds.proofs.SerialLinesTurns.{BelowAll, turn-serial-lines, start-serial-lines, from-start}
 use Rattle.deque_bounds.proofs.DequeLimits.{Somewhere, somewhere}
 use Rattle.deque_bounds.specs.Deepest.{robbedAt, deepest}
 use Rattle.deque_bounds.proofs.DequeCounts.{under, under-up, under-more, under-few, goes-inside, walk, load-few}
@@ -90,12 +92,6 @@ full-line : (hold : ℕ → ℕ) (v : ℕ) (k : List ℕ) → List·Memᴰ v k �
 full-line hold v [] m = absurd (List·Memᴰ·not-nil m)
 full-line hold v (x ∷ k) m = refl
 
-line-bottom : (q : Bool) (h : ℕ) (k : List ℕ) → isEmpty k ≡ false → bottom (pick q (h ∷ k) k) ≡ bottom k
-unfolding bottom
-line-bottom true h [] e = no-way cc
-line-bottom true h (x ∷ k) e = refl
-line-bottom false h k e = refl
-
 -- no line beyond has its lowest below M
 none-under : (num hold : ℕ → ℕ) (M : ℕ) (ds : List Deque) → AllInUse ds → ((v : ℕ) → List·Memᴰ v (linesOf hold ds) → M ≤ num v) → under num hold M ds ≡ 0
 unfolding under AllInUse linesOf
@@ -106,7 +102,7 @@ none-under num hold M (d ∷ ds) m h =
 
 -- ---- a steal
 
-module _ (T : Table) (l : Lawful T) (p K fa : ℕ) (J : ℕ → ℕ) (D : Deques) (I : Upright T p K fa J D) where
+module _ (T : Table) (l : Lawful T) (p K fa : ℕ) (J : ℕ → ℕ) (D : Deques) (I : SerialLines T p K fa J D) where
   abbrev st : State
   st = D .state
 
@@ -226,12 +222,8 @@ grow : (T : Table) (c c' : ℕ) (st : State) → c ≤ c' → LoadWithin T c st 
 unfolding Light
 grow T c c' st h g = record { light = λ t i j n. omega (arith, g .light t i j n); busy = λ w i e. omega (arith, g .busy w i e) }
 
-link-of : (T : Table) (J : ℕ → ℕ) (st : State) (e x y : ℕ) (k : List ℕ) → Chained T J st e (x ∷ y ∷ k) → Link T st x y
-unfolding Chained
-link-of T J st e x y k c = c .0
-
 -- the thread below a worker's own
-own-link : (T : Table) (l : Lawful T) (p K fa : ℕ) (J : ℕ → ℕ) (st : State) (w : ℕ) (A : List Deque) (k : List ℕ) (B : List Deque) → Upright T p K fa J (over st (A ++ deque w k ∷ B)) → w < 16
+own-link : (T : Table) (l : Lawful T) (p K fa : ℕ) (J : ℕ → ℕ) (st : State) (w : ℕ) (A : List Deque) (k : List ℕ) (B : List Deque) → SerialLines T p K fa J (over st (A ++ deque w k ∷ B)) → w < 16
     → (t2 : ℕ) (j : List ℕ) → k ≡ t2 ∷ j → Link T st (workerOf st w .thread) t2 × (statusOf st t2 ≡ ended → ⊥) × (t2 < T .threads)
 own-link T l p K fa J st w A k B I h t2 j e =
     let own : Deque = deque w k in
@@ -244,23 +236,23 @@ own-link T l p K fa J st w A k B I h t2 j e =
     (link-of T J st 0 (workerOf st w .thread) t2 j (rw z at c), standing-live T l p K D (I .kept) t2 n .1, standing T l p K D (I .kept) t2 n .0)
 
 module _ (T : Table) (l : Lawful T) (p K : ℕ) (few : p ≤ 16) (w : ℕ) (below : w < p) where
-  act-kept : (fa : ℕ) (J : ℕ → ℕ) (st : State) (ds : List Deque) → Upright T p K fa J (over st ds) → workerOf st w .holds ≡ true → (c : ℕ) → LoadWithin T c st → LoadWithin T c (actDeques T K w st ds .after .state)
+  act-kept : (fa : ℕ) (J : ℕ → ℕ) (st : State) (ds : List Deque) → SerialLines T p K fa J (over st ds) → workerOf st w .holds ≡ true → (c : ℕ) → LoadWithin T c st → LoadWithin T c (actDeques T K w st ds .after .state)
   act-kept fa J st ds I h c g =
       let m : Mine w ds = mine w ds (I .kept .placed .owned w (omega (arith, few, below)) ∙ rw h) in
-      subst (λ (y : List Deque). LoadWithin T c (actDeques T K w st y .after .state)) (sym (m .whole)) (at m (subst (λ (y : List Deque). Upright T p K fa J (over st y)) (m .whole) I))
+      subst (λ (y : List Deque). LoadWithin T c (actDeques T K w st y .after .state)) (sym (m .whole)) (at m (subst (λ (y : List Deque). SerialLines T p K fa J (over st y)) (m .whole) I))
     where
-      at : (m : Mine w ds) → Upright T p K fa J (over st (m .front ++ deque w (m .threads) ∷ m .rest))
+      at : (m : Mine w ds) → SerialLines T p K fa J (over st (m .front ++ deque w (m .threads) ∷ m .rest))
           → LoadWithin T c (actDeques T K w st (m .front ++ deque w (m .threads) ∷ m .rest) .after .state)
       at m I =
           let after : Deques = actDeques T K w st (m .front ++ deque w (m .threads) ∷ m .rest) .after in
-          let U : Upright T p K fa J after = act-upright T l p K few w below fa J st (m .front) (m .threads) (m .rest) (m .clear) (m .alone) I h in
+          let U : SerialLines T p K fa J after = act-serial-lines T l p K few w below fa J st (m .front) (m .threads) (m .rest) (m .clear) (m .alone) I h in
           act-within T l p K few w below st (serial-facts T l p K st (I .kept .common)) h c g (workerOf st w .quota) (m .front) (m .threads) (m .rest)
           (own-link T l p K fa J st w (m .front) (m .threads) (m .rest) I (omega (arith, few, below)))
           (λ t2 j e k n. no-way (cc (wait-empty T l p K few w below fa J st (m .front) (m .threads) (m .rest) (m .clear) (m .alone) I h k n)))
           after (serial-facts T l p K (after .state) (U .kept .common))
           (stepped T l p K few w below fa J st (m .front) (m .threads) (m .rest) (m .clear) (m .alone) I h)
 
-  module _ (i fa : ℕ) (J : ℕ → ℕ) (D : Deques) (I : Upright T p K fa J D) (c : ℕ) (g : LoadWithin T c (D .state)) where
+  module _ (i fa : ℕ) (J : ℕ → ℕ) (D : Deques) (I : SerialLines T p K fa J D) (c : ℕ) (g : LoadWithin T c (D .state)) where
     abbrev now-st : State
     now-st = D .state
 
@@ -320,7 +312,7 @@ module _ (T : Table) (l : Lawful T) (p K : ℕ) (few : p ≤ 16) (w : ℕ) (belo
         (λ z.
         rw (e, z)
         (act-kept (fa + stealsFar w i D) (λ x. J x + stealsBeyond T w i D x) (taken K w (bottom (getD (D .deques) i nothing .threads)) (D .state)) (robbed w i (D .deques))
-        (steal-upright T l p K few w below i fa J D I e z) (steal-holds T l p K few w below i fa J D I e z) (max c (suc i)) (stolen-within e z)))))
+        (steal-serial-lines T l p K few w below i fa J D I e z) (steal-holds T l p K few w below i fa J D I e z) (max c (suc i)) (stolen-within e z)))))
       where
         counts : {z : State} → LoadWithin T (max c (pick (robs w i D) (suc i) 0)) z → LoadWithin T (max c (pick (robs w i D) (suc i) 0)) (counted z)
         counts k = record { light = k .light; busy = k .busy }
@@ -336,7 +328,7 @@ module _ (T : Table) (l : Lawful T) (p K : ℕ) (few : p ≤ 16) where
         busy = λ w h e. no-way (cc (start-worker T l w));
       }
 
-  row-within : (row : List Pair) → BelowAll p row → (fa : ℕ) (J : ℕ → ℕ) (D : Deques) → Upright T p K fa J D → (c : ℕ) → LoadWithin T c (D .state) → LoadWithin T (max c (deepest T K D row)) (rowDeques T K D row .state)
+  row-within : (row : List Pair) → BelowAll p row → (fa : ℕ) (J : ℕ → ℕ) (D : Deques) → SerialLines T p K fa J D → (c : ℕ) → LoadWithin T c (D .state) → LoadWithin T (max c (deepest T K D row)) (rowDeques T K D row .state)
   unfolding rowDeques deepest
   row-within [] h fa J D I c g = grow T c (max c 0) (D .state) (omega arith) g
   row-within (x ∷ row) h fa J D I c g =
@@ -345,7 +337,7 @@ module _ (T : Table) (l : Lawful T) (p K : ℕ) (few : p ≤ 16) where
       let E : Deques = dequeTurn T K w i D .after in
       let b : w < p = h x (List·Memᴰ·head refl) .0 in
       grow T (max (max c (robbedAt w i D)) (deepest T K E row)) (max c (max (robbedAt w i D) (deepest T K E row))) (rowDeques T K E row .state) (omega arith)
-      (row-within row (λ y m. h y (List·Memᴰ·tail m)) (fa + stealsFar w i D) (λ z. J z + stealsBeyond T w i D z) E (turn-upright T l p K few w b i fa J D I) (max c (robbedAt w i D))
+      (row-within row (λ y m. h y (List·Memᴰ·tail m)) (fa + stealsFar w i D) (λ z. J z + stealsBeyond T w i D z) E (turn-serial-lines T l p K few w b i fa J D I) (max c (robbedAt w i D))
       (turn-within T l p K few w b i fa J D I c g))
 
   module _ (row : List Pair) (h : BelowAll p row) where
@@ -359,7 +351,7 @@ module _ (T : Table) (l : Lawful T) (p K : ℕ) (few : p ≤ 16) where
     pub deque-light : Light T (rowDeques T K (startDeques T) row .state .next) (rowDeques T K (startDeques T) row .state .status) (deepest T K (startDeques T) row)
     deque-light =
         let z : max 0 c ≤ c = omega arith in
-        grow T (max 0 c) c after z (row-within row h 0 (λ x. 0) (startDeques T) (start-upright T l p K few) 0 start-within) .light
+        grow T (max 0 c) c after z (row-within row h 0 (λ x. 0) (startDeques T) (start-serial-lines T l p K few) 0 start-within) .light
 
     -- held is within the root's peak at load c
     pub deque-peak : rowDeques T K (startDeques T) row .state .held ≤ peakAt T 0 (deepest T K (startDeques T) row)

@@ -24,11 +24,11 @@ use Rattle.deques.specs.Deques.{Deque, deque, kept, Deques, over}
 use Rattle.deques.specs.Partition.{ownedBy}
 use Rattle.deques.proofs.DequeTurns.{withSerial, serial-facts}
 use Rattle.deque_bounds.proofs.Lines.{Live, Link, Chained, Moved, link-number}
-use Rattle.deque_bounds.proofs.Went.{Went, stays, forks, pops, drops, leaves, wakes, stops}
+use Rattle.deque_bounds.proofs.ActionLeaves.{ActionLeaves, stays, forks, pops, drops, leaves, wakes, stops}
 use Rattle.deques.proofs.Flat.{mine}
-use Rattle.deque_bounds.proofs.Upright.{heldBy, Upright}
-use Rattle.deque_bounds.proofs.UprightActs.{two-links, wait-empty, tops}
-use Rattle.deque_bounds.proofs.UprightActs as Acts
+use Rattle.deque_bounds.proofs.SerialLines.{heldBy, SerialLines}
+use Rattle.deque_bounds.proofs.SerialLinesActs.{two-links, wait-empty, tops}
+use Rattle.deque_bounds.proofs.SerialLinesActs as Acts
 use Rattle.deque_bounds.proofs.Between.{between-done}
 use Rattle.schedule.specs.Machine.{taken, drawn}
 use Rattle.bounds.proofs.Draws.{spentBeyond, standsBeyond, leftBeyond}
@@ -48,7 +48,7 @@ drawn-small : (K x : ℕ) → x ≤ K → drawn K x ≡ x
 drawn-small K x h = rw (le-ltb K x h) refl
 
 module _ (T : Table) (l : Lawful T) (p K : ℕ) (few : p ≤ 16) (w : ℕ) (below : w < p) (fa : ℕ) (J : ℕ → ℕ) (st : State) (front : List Deque) (k : List ℕ) (rest : List Deque)
-    (clear : ownedBy w front ≡ 0) (alone : ownedBy w rest ≡ 0) (I : Upright T p K fa J (over st (front ++ deque w k ∷ rest))) (h : workerOf st w .holds ≡ true)
+    (clear : ownedBy w front ≡ 0) (alone : ownedBy w rest ≡ 0) (I : SerialLines T p K fa J (over st (front ++ deque w k ∷ rest))) (h : workerOf st w .holds ≡ true)
     (v : ℕ) (inside : v < T .actions) where
   abbrev t : ℕ
   t = workerOf st w .thread
@@ -72,7 +72,7 @@ module _ (T : Table) (l : Lawful T) (p K : ℕ) (few : p ≤ 16) (w : ℕ) (belo
   X = acting T l p K w t a (withSerial T l st) f (omega (arith, few, below)) h refl refl
 
   abbrev Step : Deques → Type 0
-  Step D = Went T K w t a q st front k rest D
+  Step D = ActionLeaves T K w t a q st front k rest D
 
   free-not : (s : State) → workerOf s w .holds ≡ false → standsBeyond T s v w ≡ false
   unfolding standsBeyond

@@ -23,11 +23,11 @@ use Rattle.deques.specs.DequeCalls.{rowDeques}
 use Rattle.deque_bounds.specs.DequeRows.{startsAt, stealsBeyond, steals, stealsFar}
 use Rattle.deques.specs.Deques.{DequeStep, steal, dequeTurn}
 use Rattle.deques.proofs.Flat.{Mine, mine}
-use Rattle.deque_bounds.proofs.Upright.{Upright}
-use Rattle.deque_bounds.proofs.UprightActs.{stepped}
-use Rattle.deque_bounds.proofs.UprightActs as Acts
-use Rattle.deque_bounds.proofs.UprightSteals.{steal-upright, steal-holds}
-use Rattle.deque_bounds.proofs.UprightTurns.{BelowAll, turn-upright, start-upright}
+use Rattle.deque_bounds.proofs.SerialLines.{SerialLines}
+use Rattle.deque_bounds.proofs.SerialLinesActs.{stepped}
+use Rattle.deque_bounds.proofs.SerialLinesActs as Acts
+use Rattle.deque_bounds.proofs.SerialLinesSteals.{steal-serial-lines, steal-holds}
+use Rattle.deque_bounds.proofs.SerialLinesTurns.{BelowAll, turn-serial-lines, start-serial-lines}
 use Rattle.deques.proofs.DequeTurns.{b-ready}
 use Rattle.schedule.specs.Machine.{taken, counted}
 use Rattle.schedule.specs.Begin.{startState}
@@ -50,11 +50,11 @@ unfolding spentBeyond leftBeyond standsBeyond
 counted-left T s v = refl
 
 module _ (T : Table) (l : Lawful T) (p K : ℕ) (few : p ≤ 16) (small : Within T K) (w : ℕ) (below : w < p) (v : ℕ) (inside : v < T .actions) where
-  act-drawn : (fa : ℕ) (J : ℕ → ℕ) (st : State) (ds : List Deque) → Upright T p K fa J (over st ds) → workerOf st w .holds ≡ true → isDone T (actDeques T K w st ds .after .state) v ≡ false
+  act-drawn : (fa : ℕ) (J : ℕ → ℕ) (st : State) (ds : List Deque) → SerialLines T p K fa J (over st ds) → workerOf st w .holds ≡ true → isDone T (actDeques T K w st ds .after .state) v ≡ false
       → (isDone T st v ≡ false) × (leftOver T (actDeques T K w st ds .after .state) v ≤ leftOver T st v)
   act-drawn fa J st ds I h =
       let m : Mine w ds = mine w ds (I .kept .placed .owned w (omega (arith, few, below)) ∙ rw h) in
-      let I' : Upright T p K fa J (over st (m .front ++ deque w (m .threads) ∷ m .rest)) = subst (λ (y : List Deque). Upright T p K fa J (over st y)) (m .whole) I in
+      let I' : SerialLines T p K fa J (over st (m .front ++ deque w (m .threads) ∷ m .rest)) = subst (λ (y : List Deque). SerialLines T p K fa J (over st y)) (m .whole) I in
       let g = stepped T l p K few w below fa J st (m .front) (m .threads) (m .rest) (m .clear) (m .alone) I' h in
       subst (λ (y : List Deque). isDone T (actDeques T K w st y .after .state) v ≡ false → (isDone T st v ≡ false) × (leftOver T (actDeques T K w st y .after .state) v ≤ leftOver T st v)) (sym (m .whole))
       (λ n. (
@@ -62,7 +62,7 @@ module _ (T : Table) (l : Lawful T) (p K : ℕ) (few : p ≤ 16) (small : Within
         act-draws T l p K few w below fa J st (m .front) (m .threads) (m .rest) (m .clear) (m .alone) I' h v inside small _ g n,
       ))
 
-  module _ (c fa : ℕ) (J : ℕ → ℕ) (D : Deques) (I : Upright T p K fa J D) where
+  module _ (c fa : ℕ) (J : ℕ → ℕ) (D : Deques) (I : SerialLines T p K fa J D) where
     abbrev st : State
     st = D .state
 
@@ -143,7 +143,7 @@ module _ (T : Table) (l : Lawful T) (p K : ℕ) (few : p ≤ 16) (small : Within
 
     stolen-drew : (e : workerOf st w .holds ≡ false) → (i : isEmpty (getD (D .deques) c nothing .threads) ≡ false) → Drew (actDeques T K w (taken K w b st) (robbed w c (D .deques)) .after .state)
     stolen-drew e i n =
-        let (z, y) = act-drawn (fa + stealsFar w c D) (λ x. J x + stealsBeyond T w c D x) (taken K w b st) (robbed w c (D .deques)) (steal-upright T l p K few w below c fa J D I e i) (steal-holds T l p K few w below c fa J D I e i) n in
+        let (z, y) = act-drawn (fa + stealsFar w c D) (λ x. J x + stealsBeyond T w c D x) (taken K w b st) (robbed w c (D .deques)) (steal-serial-lines T l p K few w below c fa J D I e i) (steal-holds T l p K few w below c fa J D I e i) n in
         (sym (same-done e i v) ∙ z, omega (arith, y, steal-left e i))
 
     drew-counted : (s : State) → Drew s → Drew (counted s)
@@ -163,7 +163,7 @@ module _ (T : Table) (l : Lawful T) (p K : ℕ) (few : p ≤ 16) (small : Within
 -- ---- a row
 
 module _ (T : Table) (l : Lawful T) (p K : ℕ) (few : p ≤ 16) (small : Within T K) (v : ℕ) (inside : v < T .actions) where
-  pub row-drew : (row : List Pair) → BelowAll p row → (fa : ℕ) (J : ℕ → ℕ) (D : Deques) → Upright T p K fa J D → isDone T (rowDeques T K D row .state) v ≡ false
+  pub row-drew : (row : List Pair) → BelowAll p row → (fa : ℕ) (J : ℕ → ℕ) (D : Deques) → SerialLines T p K fa J D → isDone T (rowDeques T K D row .state) v ≡ false
       → (isDone T (D .state) v ≡ false) × (leftOver T (rowDeques T K D row .state) v ≤ leftOver T (D .state) v + K * steals T K D row v)
   unfolding rowDeques steals
   row-drew [] h fa J D I n = (n, omega arith)
@@ -172,7 +172,7 @@ module _ (T : Table) (l : Lawful T) (p K : ℕ) (few : p ≤ 16) (small : Within
       let c : ℕ = g .choice in
       let i : w < p = h g (List·Memᴰ·head refl) .0 in
       let E : Deques = dequeTurn T K w c D .after in
-      let (z, y) = row-drew row (λ y m. h y (List·Memᴰ·tail m)) (fa + stealsFar w c D) (λ x. J x + stealsBeyond T w c D x) E (turn-upright T l p K few w i c fa J D I) n in
+      let (z, y) = row-drew row (λ y m. h y (List·Memᴰ·tail m)) (fa + stealsFar w c D) (λ x. J x + stealsBeyond T w c D x) E (turn-serial-lines T l p K few w i c fa J D I) n in
       let (z', y') = turn-drew T l p K few small w i v inside c fa J D I z in
       (z', omega (arith, y, y', mul-add K (stealsBeyond T w c D v) (steals T K E row v)))
 
@@ -187,4 +187,4 @@ module _ (T : Table) (l : Lawful T) (p K : ℕ) (few : p ≤ 16) (small : Within
 
   pub draws-few : (row : List Pair) → BelowAll p row → isDone T (rowDeques T K (startDeques T) row .state) v ≡ false
       → spentBeyond T (allocOf T) (rowDeques T K (startDeques T) row .state) v ≤ K * steals T K (startDeques T) row v
-  draws-few row h n = omega (arith, row-drew row h 0 (λ x. 0) (startDeques T) (start-upright T l p K few) n .1, start-left)
+  draws-few row h n = omega (arith, row-drew row h 0 (λ x. 0) (startDeques T) (start-serial-lines T l p K few) n .1, start-left)

@@ -20,8 +20,8 @@ use Rattle.deques.specs.DequeRuns.{Pair}
 use Rattle.deques.specs.DequeCalls.{rowDeques}
 use Rattle.deque_bounds.specs.DequeRows.{far, leaps}
 use Rattle.deque_bounds.specs.Deepest.{deepest}
-use Rattle.deque_bounds.proofs.UprightTurns.{BelowAll}
-use Rattle.deque_bounds.proofs.WeighsTurns.{workersOf}
+use Rattle.deque_bounds.proofs.SerialLinesTurns.{BelowAll}
+use Rattle.deque_bounds.proofs.StealsWithinTurns.{workersOf}
 use Rattle.deque_bounds.proofs.DequeLimits.{held-far, held-near}
 use Rattle.deque_bounds.proofs.LeapLimits.{held-leaps, held-within}
 use Rattle.deque_bounds.proofs.Peaks.{peak-within, keeps-front, leaps-front}

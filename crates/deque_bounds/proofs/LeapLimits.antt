@@ -27,11 +27,12 @@ use Rattle.deques.specs.DequeRuns.{Pair}
 use Rattle.deques.specs.Deques.{startDeques}
 use Rattle.deques.specs.DequeCalls.{rowDeques}
 use Rattle.deque_bounds.specs.DequeRows.{steals, far, leaps}
-use Rattle.deque_bounds.proofs.Upright.{heldBy, AllLines, Upright, is-owner, all-front, all-head}
-use Rattle.deque_bounds.proofs.UprightTurns.{BelowAll, from-start, start-upright}
-use Rattle.deque_bounds.proofs.Weights.{Able, Owes, Heavy, slackOf, AllHeavy, heavy-split, heavy-head, heavy-top}
-use Rattle.deque_bounds.proofs.WeighsActs.{owes-is}
-use Rattle.deque_bounds.proofs.WeighsTurns.{Weighed, workersOf, row-weighed, start-weighed}
+use Rattle.deque_bounds.proofs.SerialLines.{heldBy, AllLines, SerialLines, all-front, all-head}
+use Rattle.deques.proofs.Standing.{is-owner}
+use Rattle.deque_bounds.proofs.SerialLinesTurns.{BelowAll, from-start, start-serial-lines}
+use Rattle.deque_bounds.proofs.StealsWithin.{Able, ThreadWithin, LineWithin, slackOf, LinesWithin, lines-within-split, lines-within-head, line-within-top}
+use Rattle.deque_bounds.proofs.StealsWithinActs.{thread-within-is}
+use Rattle.deque_bounds.proofs.StealsWithinTurns.{StealsWithin, workersOf, row-steals-within, start-steals-within}
 use Rattle.deque_bounds.proofs.DequeLimits.{Somewhere, somewhere, held-steals, held-at-end, unended-listed, nest-some}
 use Rattle.deque_bounds.proofs.Lines.{link-nest}
 use Rattle.table.specs.Level.{level, D}
@@ -48,8 +49,8 @@ use Rattle.schedule.proofs.Bounds.Beyond.{Enabled}
 use Rattle.schedule.proofs.Sound.Leftmost.{front-done, leftmost-undone, leftmost-enabled}
 use mathlib.Core.List.{reverseAux}
 use native.Mathlib.Nat.{mul-suc, mul-zero, mul-one, one-mul, mul-le-mul-left, mul-le-mul-right, mul-add, mul-assoc, mul-comm}
-use Rattle.deque_bounds.proofs.Upright.{owned-append}
-use Rattle.deque_bounds.proofs.WeighsTurns.{weighed-same}
+use Rattle.deques.proofs.Counts.{owned-append}
+use Rattle.deque_bounds.proofs.StealsWithinTurns.{steals-within-same}
 
 -- ---- levels and nesting
 
@@ -125,18 +126,18 @@ owned-in front d rest ds e o i =
 
 -- ---- the limit
 
-module _ (T : Table) (l : Lawful T) (p K : ℕ) (few : p ≤ 16) (B fa lp : ℕ) (J : ℕ → ℕ) (past : List ℕ) (E : Deques) (I : Upright T p K fa J E) (x : Weighed T B lp J past E)
+module _ (T : Table) (l : Lawful T) (p K : ℕ) (few : p ≤ 16) (B fa lp : ℕ) (J : ℕ → ℕ) (past : List ℕ) (E : Deques) (I : SerialLines T p K fa J E) (x : StealsWithin T B lp J past E)
     (young : (w : ℕ) → List·Memᴰ w past → age past w ≤ B) where
   abbrev st : State
   st = E .state
 
   -- the count at any thread of a line, with B for the slack
-  line-owes : (front : List Deque) (d : Deque) (rest : List Deque) → E .deques ≡ front ++ d ∷ rest → (v : ℕ) → List·Memᴰ v (line (heldBy st) d) → Able T st v
+  line-thread-within : (front : List Deque) (d : Deque) (rest : List Deque) → E .deques ≡ front ++ d ∷ rest → (v : ℕ) → List·Memᴰ v (line (heldBy st) d) → Able T st v
       → J (nextOf st v) + B + 1 ≤ B * level T (nextOf st v) + nest T v + lp
-  line-owes front d rest whole v m able = go (line (heldBy st) d) refl
+  line-thread-within front d rest whole v m able = go (line (heldBy st) d) refl
     where
-      heavy : Heavy T B lp J st (slackOf B (age past) d) (line (heldBy st) d)
-      heavy = heavy-head T B lp J (age past) st d rest (heavy-split T B lp J (age past) st front (d ∷ rest) (subst (AllHeavy T B lp J (age past) st) whole (x .heavy)) .1) .0
+      lines-within : LineWithin T B lp J st (slackOf B (age past) d) (line (heldBy st) d)
+      lines-within = lines-within-head T B lp J (age past) st d rest (lines-within-split T B lp J (age past) st front (d ∷ rest) (subst (LinesWithin T B lp J (age past) st) whole (x .lines-within)) .1) .0
 
       chain : Chained T J st 0 (line (heldBy st) d)
       chain = all-head T fa J st d rest (all-front T fa J st front (d ∷ rest) (subst (AllLines T fa J st) whole (I .lines)) .1) .0
@@ -158,17 +159,17 @@ module _ (T : Table) (l : Lawful T) (p K : ℕ) (few : p ≤ 16) (B fa lp : ℕ)
           mem : List·Memᴰ v (t ∷ k)
           mem = subst (λ (b : List ℕ). List·Memᴰ v b) e m
 
-          h2 : Owes T B lp J st (bottom (t ∷ k)) (slackOf B (age past) d) t × ((y : ℕ) → List·Memᴰ y k → Owes T B lp J st (bottom (t ∷ k)) 0 y)
-          h2 = heavy-top T B lp J (age past) st (slackOf B (age past) d) t k (subst (Heavy T B lp J st (slackOf B (age past) d)) e heavy)
+          h2 : ThreadWithin T B lp J st (bottom (t ∷ k)) (slackOf B (age past) d) t × ((y : ℕ) → List·Memᴰ y k → ThreadWithin T B lp J st (bottom (t ∷ k)) 0 y)
+          h2 = line-within-top T B lp J (age past) st (slackOf B (age past) d) t k (subst (LineWithin T B lp J st (slackOf B (age past) d)) e lines-within)
 
           low : nest T (bottom (t ∷ k)) ≤ nest T v
           low = last-lowest T l J st 0 v (t ∷ k) (subst (Chained T J st 0) e chain) mem
 
           which : (v ≡ t) ⊎ List·Memᴰ v k → J (nextOf st v) + B + 1 ≤ B * level T (nextOf st v) + nest T v + lp
           which (inl i) =
-              let o : Owes T B lp J st (bottom (t ∷ k)) (slackOf B (age past) d) v = subst (λ (b : ℕ). Owes T B lp J st (bottom (t ∷ k)) (slackOf B (age past) d) b) (sym i) (h2 .0) in
-              omega (arith, owes-is T B lp J st (bottom (t ∷ k)) (slackOf B (age past) d) v o able, small, low)
-          which (inr i) = omega (arith, owes-is T B lp J st (bottom (t ∷ k)) 0 v (h2 .1 v i) able, low)
+              let o : ThreadWithin T B lp J st (bottom (t ∷ k)) (slackOf B (age past) d) v = subst (λ (b : ℕ). ThreadWithin T B lp J st (bottom (t ∷ k)) (slackOf B (age past) d) b) (sym i) (h2 .0) in
+              omega (arith, thread-within-is T B lp J st (bottom (t ∷ k)) (slackOf B (age past) d) v o able, small, low)
+          which (inr i) = omega (arith, thread-within-is T B lp J st (bottom (t ∷ k)) 0 v (h2 .1 v i) able, low)
 
   pub enabled-few : 1 ≤ B → (v : ℕ) → Enabled T (withSerial T l st) v → J (nextOf st v) ≤ B * (D T - 1) + lp
   unfolding Able
@@ -179,7 +180,7 @@ module _ (T : Table) (l : Lawful T) (p K : ℕ) (few : p ≤ 16) (B fa lp : ℕ)
       let o : owner T (nextOf st v) ≡ v = owner-of-next T l p K (withSerial T l st) f v (e .below) in
       let up : level T (nextOf st v) ≤ level T (endOf T v) = subst (λ (z : ℕ). level T (nextOf st v) ≤ level T (endOf T z)) o (level-end T l (nextOf st v) i) in
       within-depth (J (nextOf st v)) B (level T (nextOf st v)) (nest T v) lp (D T) b (nest-some T l v (e .below))
-      (line-owes (s .front) (s .deque) (s .rest) (s .whole) v (s .has) (e .joined)) (omega (arith, up, level-nest T l v (e .below)))
+      (line-thread-within (s .front) (s .deque) (s .rest) (s .whole) v (s .has) (e .joined)) (omega (arith, up, level-nest T l v (e .below)))
 
 module _ (T : Table) (l : Lawful T) (p K b : ℕ) (few : p ≤ 16) (small : Within T K) (two : 2 ≤ p) (some : 1 ≤ b) (row : List Pair) (h : BelowAll p row) (rule : Keeps b (workersOf row)) where
   abbrev after : Deques
@@ -206,7 +207,7 @@ module _ (T : Table) (l : Lawful T) (p K b : ℕ) (few : p ≤ 16) (small : With
   pub held-leaps : after .state .held ≤ S1 T + K * (B * (D T - 1) + leaps T K (startDeques T) row)
   held-leaps = go (ℕ-discrete (statusOf (after .state) 0) ended)
     where
-      I : Upright T p K (far T K (startDeques T) row) (steals T K (startDeques T) row) after
+      I : SerialLines T p K (far T K (startDeques T) row) (steals T K (startDeques T) row) after
       I = from-start T l p K few row h
 
       g : Facts T p K (withSerial T l (after .state))
@@ -221,16 +222,16 @@ module _ (T : Table) (l : Lawful T) (p K b : ℕ) (few : p ≤ 16) (small : With
           let v : ℕ = nextOf (after .state) t in
           let i : v < T .actions = next-below T l p K s g t (x .below) in
           let a : after .state .held ≤ S1 T + K * steals T K (startDeques T) row v = held-steals T l p K few small row h v i (leftmost-undone T l p K s g t others r) (front-done T l p K s g t others r) in
-          let (past, pe, w) = row-weighed T l p K few B (workersOf row) young row h [] refl 0 0 (λ z. 0) (startDeques T) (start-upright T l p K few) (start-weighed T l p K few B (workersOf row) young) in
-          let w' : Weighed T B (leaps T K (startDeques T) row) (steals T K (startDeques T) row) past after = same-weighed past w in
+          let (past, pe, w) = row-steals-within T l p K few B (workersOf row) young row h [] refl 0 0 (λ z. 0) (startDeques T) (start-serial-lines T l p K few) (start-steals-within T l p K few B (workersOf row) young) in
+          let w' : StealsWithin T B (leaps T K (startDeques T) row) (steals T K (startDeques T) row) past after = same-steals-within past w in
           let c : steals T K (startDeques T) row v ≤ B * (D T - 1) + leaps T K (startDeques T) row =
           enabled-few T l p K few B (far T K (startDeques T) row) (leaps T K (startDeques T) row) (steals T K (startDeques T) row) past after I w' (young past [] pe) positive t x in
           omega (arith, a, mul-le-mul-left K c)
         where
-          same-weighed : (past : List ℕ) → Weighed T B (0 + leaps T K (startDeques T) row) (λ z. 0 + steals T K (startDeques T) row z) past after
-              → Weighed T B (leaps T K (startDeques T) row) (steals T K (startDeques T) row) past after
-          same-weighed past w =
-              weighed-same T B (0 + leaps T K (startDeques T) row) (leaps T K (startDeques T) row) (λ z. 0 + steals T K (startDeques T) row z) (steals T K (startDeques T) row) past after
+          same-steals-within : (past : List ℕ) → StealsWithin T B (0 + leaps T K (startDeques T) row) (λ z. 0 + steals T K (startDeques T) row z) past after
+              → StealsWithin T B (leaps T K (startDeques T) row) (steals T K (startDeques T) row) past after
+          same-steals-within past w =
+              steals-within-same T B (0 + leaps T K (startDeques T) row) (leaps T K (startDeques T) row) (λ z. 0 + steals T K (startDeques T) row z) (steals T K (startDeques T) row) past after
               (omega arith) (λ z. omega arith) w
 
   -- without a leap: exactly demand 3's limit

@@ -17,7 +17,7 @@ use Rattle.order.specs.Order.{numberOf}
 use Rattle.order.proofs.Lawful.{Lawful}
 use Rattle.order.proofs.Words.{Ascends}
 use Rattle.deques.specs.Deques.{isEmpty, bottom, above}
-use Rattle.deque_bounds.proofs.Lines.{Live, Link, Lonely, Parted, Chained, Light, Falls, Moved, link-keeps, chained-keeps, link-number, link-nest}
+use Rattle.deque_bounds.proofs.Lines.{Live, Link, NoLiveChildBut, Parted, Chained, Light, Falls, Moved, link-keeps, chained-keeps, link-number, link-nest}
 
 bottom-under : (c t : ℕ) (k : List ℕ) → bottom (c ∷ t ∷ k) ≡ bottom (t ∷ k)
 unfolding bottom
@@ -28,10 +28,10 @@ pub some-child : (T : Table) (l : Lawful T) (x : ℕ) → x < T .actions → kin
 some-child T l x h k e = omega (arith, fork-above T (l .contents) (l .bodies) x h k, e)
 
 -- a thread with one below it does not wait
-pub lonely-waits : (T : Table) (l : Lawful T) (J : ℕ → ℕ) (st : State) (t y : ℕ) (k : List ℕ) → Chained T J st 0 (t ∷ y ∷ k)
+pub no-child-waits : (T : Table) (l : Lawful T) (J : ℕ → ℕ) (st : State) (t y : ℕ) (k : List ℕ) → Chained T J st 0 (t ∷ y ∷ k)
     → (x : ℕ) → x < T .actions → kind T x ≡ fork → owner T x ≡ t → Live st (T .argument x) → ⊥
-unfolding Chained Lonely
-lonely-waits T l J st t y k c x h f o v = some-child T l x h f (c .1 x h f o v)
+unfolding Chained NoLiveChildBut
+no-child-waits T l J st t y k c x h f o v = some-child T l x h f (c .1 x h f o v)
 
 module _ (T : Table) (l : Lawful T) (J : ℕ → ℕ) (falls : Falls T J) {K : ℕ} (w t a q : ℕ) (st s : State) (m : Moved T K w t a q st s) (within : a < T .actions) (owned : owner T a ≡ t) where
   -- ---- a fork: the child comes above
@@ -51,17 +51,17 @@ module _ (T : Table) (l : Lawful T) (J : ℕ → ℕ) (falls : Falls T J) {K : �
         go (inl i) = inl i
         go (inr (i, e)) = inr (fork-once T (l .contents) (l .bodies) (l .nesting) x a h within k i e)
 
-    child-lonely : Lonely T s 0 c
-    unfolding Lonely
-    child-lonely x h k o v = go (born-of x h k v)
+    child-no-child : NoLiveChildBut T s 0 c
+    unfolding NoLiveChildBut
+    child-no-child x h k o v = go (born-of x h k v)
       where
         go : Live st (T .argument x) ⊎ (x ≡ a) → T .argument x ≡ 0
         go (inl i) = absurd (childless x h k o i)
         go (inr e) = absurd (omega (arith, lower, sym o ∙ ap (owner T) e ∙ owned))
 
     pub chained-fork : (k : List ℕ) → ((v : ℕ) → List·Memᴰ v k → v ≡ t → ⊥) → Chained T J st 0 (t ∷ k) → Chained T J s 0 (c ∷ t ∷ k)
-    unfolding Chained Parted Lonely
-    chained-fork k n r = (record { action = a; within = within; forks = forks; names = refl; owned = owned; next = over }, child-lonely, parent k n r)
+    unfolding Chained Parted NoLiveChildBut
+    chained-fork k n r = (record { action = a; within = within; forks = forks; names = refl; owned = owned; next = over }, child-no-child, parent k n r)
       where
         parent : (k : List ℕ) → ((v : ℕ) → List·Memᴰ v k → v ≡ t → ⊥) → Chained T J st 0 (t ∷ k) → Chained T J s c (t ∷ k)
         parent [] n r = λ x h f o v d. part x h f o d (born-of x h f v)
@@ -94,7 +94,7 @@ module _ (T : Table) (l : Lawful T) (J : ℕ → ℕ) (falls : Falls T J) {K : �
         go (inr i) = absurd (no-fork (i .0))
 
     pub chained-pop : (y : ℕ) (k : List ℕ) → ((v : ℕ) → List·Memᴰ v (y ∷ k) → v ≡ t → ⊥) → Chained T J st 0 (t ∷ y ∷ k) → Chained T J s 0 (y ∷ k)
-    unfolding Chained Parted Lonely
+    unfolding Chained Parted NoLiveChildBut
     chained-pop y k n r = at k n (r .2)
       where
         at : (k : List ℕ) → ((v : ℕ) → List·Memᴰ v (y ∷ k) → v ≡ t → ⊥) → Chained T J st t (y ∷ k) → Chained T J s 0 (y ∷ k)
@@ -115,6 +115,14 @@ module _ (T : Table) (l : Lawful T) (J : ℕ → ℕ) (falls : Falls T J) {K : �
         rw z (omega (arith, r', falls (nextOf st t) (nextOf st y) i))
 
 -- ---- a steal: J' counts one more up to the start
+
+-- nestings fall by one from thread to thread
+pub above-nest : (T : Table) (l : Lawful T) (J : ℕ → ℕ) (st : State) (e : ℕ) (k : List ℕ) → Chained T J st e k → isEmpty (above k) ≡ false → nest T (bottom (above k)) ≡ suc (nest T (bottom k))
+unfolding Chained above bottom
+above-nest T l J st e [] c i = no-way cc
+above-nest T l J st e (t ∷ []) c i = no-way cc
+above-nest T l J st e (t ∷ y ∷ []) c i = link-nest T l J st t y (c .0)
+above-nest T l J st e (t ∷ y ∷ z ∷ k) c i = above-nest T l J st t (y ∷ z ∷ k) (c .2) refl
 
 module _ (T : Table) (l : Lawful T) (J J' : ℕ → ℕ) (falls : Falls T J) (start : ℕ) (up : (x : ℕ) → numberOf T x < numberOf T start → J' x ≡ suc (J x))
     (flat : (x : ℕ) → numberOf T start ≤ numberOf T x → J' x ≡ J x) (st s : State) (same : (u : ℕ) → nextOf s u ≡ nextOf st u) (still : (c : ℕ) → Live s c → Live st c)
@@ -143,9 +151,9 @@ module _ (T : Table) (l : Lawful T) (J J' : ℕ → ℕ) (falls : Falls T J) (st
   link-same : (x y : ℕ) → Link T st x y → Link T s x y
   link-same x y k = record { action = k .action; within = k .within; forks = k .forks; names = k .names; owned = k .owned; next = same y ∙ k .next }
 
-  lonely-same : (e t : ℕ) → Lonely T st e t → Lonely T s e t
-  unfolding Lonely
-  lonely-same e t k x h f o v = k x h f o (still (T .argument x) v)
+  no-child-same : (e t : ℕ) → NoLiveChildBut T st e t → NoLiveChildBut T s e t
+  unfolding NoLiveChildBut
+  no-child-same e t k x h f o v = k x h f o (still (T .argument x) v)
 
   pub parted-more : (e t : ℕ) → Live st t → Parted T J st e t → Parted T J' s e t
   unfolding Parted
@@ -163,18 +171,18 @@ module _ (T : Table) (l : Lawful T) (J J' : ℕ → ℕ) (falls : Falls T J) (st
   unfolding Chained
   chained-more e [] n c = tt
   chained-more e (t ∷ []) n c = parted-more e t (n t (List·Memᴰ·head refl)) c
-  chained-more e (t ∷ y ∷ k) n c = (link-same t y (c .0), lonely-same e t (c .1), chained-more t (y ∷ k) (λ v i. n v (List·Memᴰ·tail i)) (c .2))
+  chained-more e (t ∷ y ∷ k) n c = (link-same t y (c .0), no-child-same e t (c .1), chained-more t (y ∷ k) (λ v i. n v (List·Memᴰ·tail i)) (c .2))
 
   -- the line that is robbed
   pub chained-above : (e : ℕ) (k : List ℕ) → Chained T J st e k → Chained T J' s e (above k)
-  unfolding Chained above Lonely Parted
+  unfolding Chained above NoLiveChildBut Parted
   chained-above e [] c = tt
   chained-above e (t ∷ []) c = tt
-  chained-above e (t ∷ y ∷ []) c = alone (lonely-same e t (c .1))
+  chained-above e (t ∷ y ∷ []) c = alone (no-child-same e t (c .1))
     where
-      alone : Lonely T s e t → Parted T J' s e t
+      alone : NoLiveChildBut T s e t → Parted T J' s e t
       alone k x h f o v d = absurd (d (k x h f o v))
-  chained-above e (t ∷ y ∷ z ∷ k) c = (link-same t y (c .0), lonely-same e t (c .1), chained-above t (y ∷ z ∷ k) (c .2))
+  chained-above e (t ∷ y ∷ z ∷ k) c = (link-same t y (c .0), no-child-same e t (c .1), chained-above t (y ∷ z ∷ k) (c .2))
 
   -- the thread stolen
   pub chained-stolen : (e t : ℕ) (k : List ℕ) → ((v : ℕ) → List·Memᴰ v (t ∷ k) → Live st v) → (e ≡ 0) ⊎ Link T st e t → start ≡ nextOf st (bottom (t ∷ k)) → Chained T J st e (t ∷ k)
@@ -196,22 +204,13 @@ module _ (T : Table) (l : Lawful T) (J J' : ℕ → ℕ) (falls : Falls T J) (st
           at (no b) = parted-more e t (n t (List·Memᴰ·head refl)) c x h f o v b
   chained-stolen e t (y ∷ k) n g i c = chained-stolen t y k (λ v j. n v (List·Memᴰ·tail j)) (inr (c .0)) i (c .2)
 
-  -- nestings fall by one from thread to thread
-  pub above-nest : (e : ℕ) (k : List ℕ) → Chained T J st e k → isEmpty (above k) ≡ false → nest T (bottom (above k)) ≡ suc (nest T (bottom k))
-  unfolding Chained above bottom
-  above-nest e [] c i = no-way cc
-  above-nest e (t ∷ []) c i = no-way cc
-  above-nest e (t ∷ y ∷ []) c i = link-nest T l J st t y (c .0)
-  above-nest e (t ∷ y ∷ z ∷ k) c i = above-nest t (y ∷ z ∷ k) (c .2) refl
-
-  -- lightness: of the part above, of the thread stolen, of a line beyond, and of any line once a steal is far
   pub light-above : (far e : ℕ) (k : List ℕ) → Chained T J st e k → Light T far J st k → Light T far J' s (above k)
   unfolding Light above
   light-above far e [] c r = tt
   light-above far e (t ∷ []) c r = tt
   light-above far e (t ∷ y ∷ k) c r =
       let z : nextOf s t ≡ nextOf st t = same t in
-      let n : nest T (bottom (t ∷ above (y ∷ k))) ≡ suc (nest T (bottom (t ∷ y ∷ k))) = above-nest e (t ∷ y ∷ k) c refl in
+      let n : nest T (bottom (t ∷ above (y ∷ k))) ≡ suc (nest T (bottom (t ∷ y ∷ k))) = above-nest T l J st e (t ∷ y ∷ k) c refl in
       rw z (omega (arith, r, n, more (nextOf st t)))
 
   pub light-stolen : (far t : ℕ) (k : List ℕ) → start ≡ nextOf st (bottom (t ∷ k)) → numberOf T (nextOf st t) ≤ numberOf T start → Light T far J st (t ∷ k)

@@ -34,8 +34,8 @@ pub record Link (T : Table) (st : State) (t y : ℕ) : Type 0 where
   pub next : nextOf st y ≡ suc action
 
 -- thread t has no live child but e (no child is 0)
-unfoldable pub Lonely : Table → State → ℕ → ℕ → Type 0
-Lonely T st e t = (x : ℕ) → x < T .actions → kind T x ≡ fork → owner T x ≡ t → Live st (T .argument x) → T .argument x ≡ e
+unfoldable pub NoLiveChildBut : Table → State → ℕ → ℕ → Type 0
+NoLiveChildBut T st e t = (x : ℕ) → x < T .actions → kind T x ≡ fork → owner T x ≡ t → Live st (T .argument x) → T .argument x ≡ e
 
 -- between the end of each live child of t, but e, and t's next action a steal began
 unfoldable pub Parted : Table → (ℕ → ℕ) → State → ℕ → ℕ → Type 0
@@ -47,7 +47,11 @@ Parted T J st e t =
 unfoldable pub Chained : Table → (ℕ → ℕ) → State → ℕ → List ℕ → Type 0
 Chained T J st e [] = Unit {0}
 Chained T J st e (t ∷ []) = Parted T J st e t
-Chained T J st e (t ∷ y ∷ l) = Link T st t y × Lonely T st e t × Chained T J st t (y ∷ l)
+Chained T J st e (t ∷ y ∷ l) = Link T st t y × NoLiveChildBut T st e t × Chained T J st t (y ∷ l)
+
+pub link-of : (T : Table) (J : ℕ → ℕ) (st : State) (e x y : ℕ) (k : List ℕ) → Chained T J st e (x ∷ y ∷ k) → Link T st x y
+unfolding Chained
+link-of T J st e x y k c = c .0
 
 -- J at the first thread's next action is below the nesting of the last, but for far
 unfoldable pub Light : Table → ℕ → (ℕ → ℕ) → State → List ℕ → Type 0
@@ -81,9 +85,9 @@ module _ (T : Table) (l : Lawful T) (J : ℕ → ℕ) {K : ℕ} (w t a q : ℕ) 
   pub link-keeps : (x y : ℕ) → (y ≡ t → ⊥) → Link T st x y → Link T s x y
   link-keeps x y n k = record { action = k .action; within = k .within; forks = k .forks; names = k .names; owned = k .owned; next = m .next-others y n ∙ k .next }
 
-  pub lonely-keeps : (e v : ℕ) → (v ≡ t → ⊥) → Lonely T st e v → Lonely T s e v
-  unfolding Lonely
-  lonely-keeps e v n k x h f o i = k x h f o (other-born x h f (λ z. n (sym o ∙ z)) i)
+  pub no-child-keeps : (e v : ℕ) → (v ≡ t → ⊥) → NoLiveChildBut T st e v → NoLiveChildBut T s e v
+  unfolding NoLiveChildBut
+  no-child-keeps e v n k x h f o i = k x h f o (other-born x h f (λ z. n (sym o ∙ z)) i)
 
   pub parted-keeps : (e v : ℕ) → (v ≡ t → ⊥) → Parted T J st e v → Parted T J s e v
   unfolding Parted
@@ -97,7 +101,7 @@ module _ (T : Table) (l : Lawful T) (J : ℕ → ℕ) {K : ℕ} (w t a q : ℕ) 
   chained-keeps e (x ∷ []) n c = parted-keeps e x (n x (List·Memᴰ·head refl)) c
   chained-keeps e (x ∷ y ∷ k) n c = (
     link-keeps x y (n y (List·Memᴰ·tail (List·Memᴰ·head refl))) (c .0),
-    lonely-keeps e x (n x (List·Memᴰ·head refl)) (c .1),
+    no-child-keeps e x (n x (List·Memᴰ·head refl)) (c .1),
     chained-keeps x (y ∷ k) (λ v i. n v (List·Memᴰ·tail i)) (c .2),
   )
 
@@ -116,7 +120,7 @@ module _ (T : Table) (l : Lawful T) (J : ℕ → ℕ) {K : ℕ} (w t a q : ℕ) 
         go (inr i) = absurd (no-fork (i .0))
 
     pub chained-top : (k : List ℕ) → ((v : ℕ) → List·Memᴰ v k → v ≡ t → ⊥) → Chained T J st 0 (t ∷ k) → Chained T J s 0 (t ∷ k)
-    unfolding Chained Lonely Parted
+    unfolding Chained NoLiveChildBut Parted
     chained-top [] n c = λ x h f o i d. omega (arith, c x h f o (still (T .argument x) i) d, falls (nextOf st t) (nextOf s t) (m .next-up))
     chained-top (y ∷ k) n c = (
       link-keeps t y (n y (List·Memᴰ·head refl)) (c .0),

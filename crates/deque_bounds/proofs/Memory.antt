@@ -27,10 +27,10 @@ use Rattle.deque_bounds.specs.DequeRows.{leaps, rowReplies, dequeMemory}
 use Rattle.schedule.proofs.SerialLive.{serialLive}
 use Rattle.deques.proofs.ActCommon.{CommonIn, Beside, beside}
 use Rattle.deques.proofs.DequeTurns.{Kept, withSerial, serial-facts, turn-kept, taken-common, b-below, b-ready}
-use Rattle.deque_bounds.proofs.UprightTurns.{BelowAll, start-upright}
+use Rattle.deque_bounds.proofs.SerialLinesTurns.{BelowAll, start-serial-lines}
 use Rattle.deque_bounds.proofs.Peaks.{go-same}
 use Rattle.deque_bounds.proofs.DequeLimits.{held-near}
-use Rattle.deque_bounds.proofs.WeighsTurns.{workersOf}
+use Rattle.deque_bounds.proofs.StealsWithinTurns.{workersOf}
 use Rattle.deque_bounds.proofs.LeapLimits.{held-within}
 
 -- a reply moves what is held
@@ -91,7 +91,7 @@ module _ (T : Table) (l : Lawful T) (p K : ℕ) (few : p ≤ 16) where
 
   pub memory-held : (row : List Pair) → BelowAll p row → rowDeques T K (startDeques T) row .state .held ≡ dequeMemory T K row
   unfolding dequeMemory
-  memory-held row h = omega (arith, row-moves row h (startDeques T) (start-upright T l p K few .kept), start-held T l .0)
+  memory-held row h = omega (arith, row-moves row h (startDeques T) (start-serial-lines T l p K few .kept), start-held T l .0)
 
 -- the limits by places and by leaps, of memory held by a row
 pub memory-near : (T : Table) (l : Lawful T) (p K : ℕ) → p ≤ 16 → Within T K → (row : List Pair) → BelowAll p row → ((g : Pair) → List·Memᴰ g row → g .choice ≡ 0) → dequeMemory T K row ≤ S1 T + K * (N T - 1)

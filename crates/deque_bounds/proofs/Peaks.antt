@@ -19,9 +19,9 @@ use Rattle.deques.specs.DequeRuns.{Pair}
 use Rattle.deques.specs.Deques.{startDeques}
 use Rattle.deques.specs.DequeCalls.{rowDeques}
 use Rattle.deque_bounds.specs.DequeRows.{leaps}
-use Rattle.deque_bounds.proofs.UprightTurns.{BelowAll}
+use Rattle.deque_bounds.proofs.SerialLinesTurns.{BelowAll}
 use Rattle.deque_bounds.proofs.DequeLimits.{held-near}
-use Rattle.deque_bounds.proofs.WeighsTurns.{workersOf}
+use Rattle.deque_bounds.proofs.StealsWithinTurns.{workersOf}
 use Rattle.deque_bounds.proofs.LeapLimits.{held-within}
 
 -- the highest of s is that of st, or what s holds

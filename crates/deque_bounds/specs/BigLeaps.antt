@@ -23,7 +23,7 @@ use Rattle.schedule.specs.Begin.{startState, beginPasses}
 use Rattle.deques.specs.Deques.{bottom, above, placeOf, own, robbed, goesOn, letGo, actDeques, steal, dequeTurn, startDeques}
 use Rattle.deques.specs.DequeRuns.{Pair}
 use Rattle.deques.specs.DequeCalls.{rowDeques}
-use Rattle.deque_bounds.specs.DequeRows.{crowded, leapsAt, leaps}
+use Rattle.deque_bounds.specs.DequeRows.{threadLeftOf, leapsAt, leaps}
 use Rattle.deque_bounds.specs.DemandCase.{rounds}
 
 abbrev eight : List Action → List Action
@@ -69,7 +69,7 @@ unfolding rounds entryRows actionRows tableRows written flatten rowDeques dequeT
 five-held = refl
 
 pub five-leaps : leaps five 1 (startDeques five) fiveRow ≡ 0
-unfolding rounds leaps leapsAt crowded entryRows actionRows tableRows written flatten rowDeques dequeTurn steal actDeques letGo goesOn robbed own placeOf above bottom acts actBy woken waitsFor taken leftOf without startState firsts kindOf codeOf is forkBelow ownerBelow sumTo anyBelow tableOf
+unfolding rounds leaps leapsAt threadLeftOf entryRows actionRows tableRows written flatten rowDeques dequeTurn steal actDeques letGo goesOn robbed own placeOf above bottom acts actBy woken waitsFor taken leftOf without startState firsts kindOf codeOf is forkBelow ownerBelow sumTo anyBelow tableOf
 five-leaps = refl
 
 -- S1 is 8 and D 25

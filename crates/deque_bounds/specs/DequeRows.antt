@@ -39,14 +39,14 @@ far T K d [] = 0
 far T K d (g ∷ row) = stealsFar (g .worker) (g .choice) d + far T K (dequeTurn T K (g .worker) (g .choice) d .after) row
 
 -- a deque left of place c has a thread
-unfoldable pub crowded : ℕ → List Deque → Bool
-crowded zero ds = false
-crowded (suc c) [] = false
-crowded (suc c) (d ∷ ds) = not (isEmpty (d .threads)) || crowded c ds
+unfoldable pub threadLeftOf : ℕ → List Deque → Bool
+threadLeftOf zero ds = false
+threadLeftOf (suc c) [] = false
+threadLeftOf (suc c) (d ∷ ds) = not (isEmpty (d .threads)) || threadLeftOf c ds
 
 -- a leap: a steal past a deque that has a thread
 unfoldable pub leapsAt : ℕ → ℕ → Deques → ℕ
-leapsAt w c d = pick (robs w c d && crowded c (d .deques)) 1 0
+leapsAt w c d = pick (robs w c d && threadLeftOf c (d .deques)) 1 0
 
 unfoldable pub leaps : Table → ℕ → Deques → List Pair → ℕ
 leaps T K d [] = 0

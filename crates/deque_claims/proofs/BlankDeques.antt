@@ -10,8 +10,7 @@ use Rattle.table.specs.Pass.{refusal}
 use Rattle.schedule.specs.declared.Report.the-variants.{Spent, Refused}
 use Rattle.schedule.specs.Calls.{turnsIn}
 use Rattle.run_memory.specs.Memory.{Memory, Answer}
-use Rattle.run_memory.specs.Runs.{stopped}
-use Rattle.wivakkol.specs.Lent.{stoppedAs}
+use Rattle.run_memory.specs.Runs.{stopped, stoppedAs}
 use Rattle.deques.specs.declared.DequeTurned.{DequeTurned}
 use Rattle.deques.specs.declared.DequeRan.{DequeRan}
 use Rattle.deques.specs.DequeRecord.{blankDeques}

@@ -4,7 +4,6 @@ use Prim.Native.Nat.{ℕ}
 use mathlib.Core.List.{List, [], _∷_, _++_}
 use mathlib.Core.Bool.{Bool, true, false}
 use lib.Dec.{eqb}
-use lib.ListN.{getD}
 use Rattle.table.specs.Sum.{pick}
 use Rattle.table.specs.Pass.{refusal, tryAt}
 use Rattle.table.specs.declared.Found.the-variants.{Nothing, At}
@@ -12,14 +11,10 @@ use Rattle.schedule.specs.declared.Reply.{Reply}
 use Rattle.schedule.specs.declared.Reply.the-variants.{Idle, Done, Quota, Wait}
 use Rattle.schedule.specs.Turn.{rootEnded, noWorker}
 use Rattle.schedule.specs.declared.Beginning.the-variants.{Begun as started}
-use Rattle.schedule.specs.declared.Report.{Report}
-use Rattle.schedule.specs.declared.Report.the-variants.{Finished, Spent, Refused}
-use Rattle.schedule.specs.Answers.{replyValues, reportValues}
-use Rattle.schedule.specs.Calls.{turnsIn}
+use Rattle.schedule.specs.Answers.{replyValues}
 use Rattle.filling.specs.Filled.{filledOut}
 use Rattle.run_memory.specs.Memory.{Memory}
 use Rattle.wivakkol.specs.Lent.{lentBegin}
-use Rattle.wivakkol.proofs.RunAnswers.{valuesRun}
 use Rattle.deques.specs.declared.DequeRun.{DequeRun}
 use Rattle.deques.specs.declared.DequeBegun.{DequeBegun}
 use Rattle.deques.specs.declared.DequeTurning.{DequeTurning}
@@ -30,7 +25,7 @@ use Rattle.deques.specs.DequeValues.{dequeTurningValues}
 use Rattle.deques.specs.DequeCalls.{DequeCall, turn, overPairs, dequeTurnRow, pairsFrom, afterDequeCall, pairsOf, afterDequeCalls, pairsOfCalls}
 use Rattle.stealing.specs.StealingMemory.{dequeRunIn, DequesStand}
 use Rattle.claims.specs.LentCalls.{returned}
-use Rattle.claims.proofs.LentLimit.{found-none, memory-so}
+use Rattle.claims.proofs.LentLimit.{found-none, memory-so, row-turns}
 use Rattle.wivakkol_deques.specs.DequeLent.{lentDequeOpen}
 use Rattle.wivakkol_deques.proofs.DequeOpens.{deque-open-record, deque-open-row, deques-open-refines, deques-reopened}
 use Rattle.wivakkol_deques.proofs.DequeStarts.{deque-begun-so, start-deques-stand}
@@ -75,14 +70,6 @@ turned-row r w c = go (unsoundDeques r) (noWorker (r .run) w) (rootEnded (r .run
     go false false false false = rw (reply-number (stepDeques r w c .reply))
 
 -- the turns that a report names
-report-turns : (x : Report) → reportValues x .turns ≡ turnsIn x
-report-turns (Finished k) = refl
-report-turns (Spent k) = refl
-report-turns (Refused k x) = refl
-
-row-turns : {row : List ℕ} (x : Report) → row ≡ valuesRun (reportValues x) → getD row 2 0 ≡ turnsIn x
-row-turns x e = ap (λ (l : List ℕ). getD l 2 0) e ∙ report-turns x
-
 -- ---- a call
 
 pub record CallRefines (s : List ℕ) (M : Memory) (c : DequeCall) : Type 0 where

@@ -3,34 +3,22 @@ mod turns;
 
 use lines::put_answer;
 use listing::input_wrong;
+use listing::put_header;
 use listing::put_wrong;
 use listing::quota_in;
 use schedule::Beginning;
-use schedule::Run;
 use table::Loaded;
 use table::read::byte;
 use table::read::word;
-pub use turns::list_pairs;
+use turns::list_pairs;
 ghost use mathlib.Core.Path.{_≡_};
-ghost use mathlib.Core.List.{[], _∷_, _++_};
-ghost use Prim.Native.Nat.{_+_, _*_, _/_, _≤_};
+ghost use mathlib.Core.List.{_++_};
+ghost use Prim.Native.Nat.{_+_, _*_, _/_};
 ghost use lib.ListN.{length, drop};
 ghost use Rattle.io.specs.Counts.{Counts};
 ghost use Rattle.text.specs.Puts.{Puts};
-ghost use Rattle.listing.specs.Listing.{headerOf};
 ghost use Rattle.deques.specs.DequeTurn.{dequeTurned};
 ghost use Rattle.deque_listing.specs.DequeListing.{dequeListedBy, dequeListingOf, inputTexts};
-
-// The header: the facts of the record's table.
-fn put_header(run: Run, out: &mut [u8]) -> usize
-    requires { ⌜ run .length ≤ 36868 ⌝ }
-    ensures { λ r. ⌜ Puts (now (out .entry)) 0 (now (out .exit)) r (headerOf run ∷ []) 64 ⌝ }
-{
-    let length = run.length as usize;
-    let table = run.table;
-    let loaded = facts::load(&table[..length]);
-    put_answer(out, 0, loaded)
-}
 
 // The checks of the beginning, the table's among them, and the turns.
 fn put_listing(table: &[u8], p: u8, quota: u32, order: &[u8], out: &mut [u8]) -> usize
@@ -43,7 +31,9 @@ fn put_listing(table: &[u8], p: u8, quota: u32, order: &[u8], out: &mut [u8]) ->
     }
     let run = begun.run;
     let record = run.run;
-    let at = put_header(record, out);
+    let length = record.length as usize;
+    let bytes = record.table;
+    let at = put_header(&bytes[..length], out);
     list_pairs(run, order, out, at)
 }
 

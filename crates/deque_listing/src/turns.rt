@@ -94,7 +94,7 @@ fn put_run(run: DequeRun, parents: &[u16; 1024], order: &[u8], out: &mut [u8], a
 
 // The lines of the turns of an order, two bytes a turn, up to the root's end, a refusal or the order's end, and the last line. A text that does not fit is left out; 64 bytes for each turn and
 // 64 more are enough.
-pub fn list_pairs(run: DequeRun, order: &[u8], out: &mut [u8], at: usize) -> usize
+pub(crate) fn list_pairs(run: DequeRun, order: &[u8], out: &mut [u8], at: usize) -> usize
     ensures { λ r. ⌜ Puts (now (out .entry)) at (now (out .exit)) r (textsOf (listPairs run (now (order .entry)))) (64 * (length (now (order .entry)) / 2 + 1)) ⌝ }
 {
     let tested = deque_test(run);

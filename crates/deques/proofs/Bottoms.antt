@@ -23,6 +23,12 @@ bottom-top : (t u : ℕ) (l : List ℕ) → bottom (t ∷ u ∷ l) ≡ bottom (u
 unfolding bottom
 bottom-top t u l = refl
 
+-- a line's bottom is its deque's
+pub line-bottom : (q : Bool) (h : ℕ) (k : List ℕ) → isEmpty k ≡ false → bottom (pick q (h ∷ k) k) ≡ bottom k
+line-bottom true h [] e = no-way cc
+line-bottom true h (x ∷ k) e = bottom-top h x k
+line-bottom false h k e = refl
+
 module _ (w : ℕ) (few : w < 16) (held held' : ℕ → ℕ) (same : (v : ℕ) → (v ≡ w → ⊥) → held' v ≡ held v) where
   pub bottoms-same : (ds : List Deque) → ownedBy w ds ≡ 0 → bottomsOf held' ds ≡ bottomsOf held ds
   unfolding bottomsOf ownedBy
@@ -113,17 +119,9 @@ module _ (w : ℕ) (few : w < 16) (held held' : ℕ → ℕ) (same : (v : ℕ) �
     unfolding bottomsOf bottom
     thief = rw (lt-ltb w 16 few) (ap₂ _∷_ robs (bottoms-same rest alone))
 
-    line-bottom : (q : Bool) → bottom (pick q (held o ∷ l) l) ≡ bottom l
-    line-bottom true = go l some
-      where
-        go : (l : List ℕ) → isEmpty l ≡ false → bottom (held o ∷ l) ≡ bottom l
-        go [] e = no-way cc
-        go (x ∷ l) e = bottom-top (held o) x l
-    line-bottom false = refl
-
     pub robbed-whole : bottomsOf held (front ++ deque o l ∷ rest) ≡ Af ++ (bottom l ∷ Bf)
     unfolding bottomsOf
-    robbed-whole = bottoms-append held front (deque o l ∷ rest) ∙ ap (λ (z : ℕ). Af ++ (z ∷ Bf)) (line-bottom (ltb o 16))
+    robbed-whole = bottoms-append held front (deque o l ∷ rest) ∙ ap (λ (z : ℕ). Af ++ (z ∷ Bf)) (line-bottom (ltb o 16) (held o) l some)
 
     -- the deque leaves
     pub last-bottoms : o ≡ 16 → above l ≡ [] → bottomsOf held' robbedTo ≡ bottomsOf held (front ++ deque o l ∷ rest)

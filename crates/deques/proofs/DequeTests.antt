@@ -26,7 +26,7 @@ use Rattle.order.proofs.Words.{and-of, or-exactly, not-exactly, eqb-exactly, lt
 use Rattle.deques.specs.declared.DequeRun.{DequeRun}
 use Rattle.deques.specs.Deques.{Deque, isEmpty}
 use Rattle.deques.specs.DequeRecord.{blankDeques}
-use Rattle.deques.specs.DequeSound.{SoundDeques, threadsIn, allManned, placedDeques, recordSound, dequeSound, isBlankDeques}
+use Rattle.deques.specs.DequeSound.{SoundDeques, threadsIn, allInUse, placedDeques, recordSound, dequeSound, isBlankDeques}
 use Rattle.deques.specs.Partition.{occurs, ownedBy, InUse, AllInUse, readyAt, holdsAt, PlacedDeques}
 use Rattle.deques.proofs.Counts.{counted-in, in-counted, count-append}
 
@@ -74,10 +74,10 @@ in-use-exactly d =
     back (inl i) = inl (lt-ltb (d .owner) 16 i)
     back (inr b) = inr (and-of (eqb-exactly (d .owner) 16) (not-exactly (isEmpty (d .threads))) .1 b)
 
-allManned-exactly : (ds : List Deque) → (allManned ds ≡ true) ↔ AllInUse ds
-unfolding allManned AllInUse
-allManned-exactly [] = ((λ e. tt), (λ e. refl))
-allManned-exactly (d ∷ ds) = and-of (in-use-exactly d) (allManned-exactly ds)
+all-in-use-exactly : (ds : List Deque) → (allInUse ds ≡ true) ↔ AllInUse ds
+unfolding allInUse AllInUse
+all-in-use-exactly [] = ((λ e. tt), (λ e. refl))
+all-in-use-exactly (d ∷ ds) = and-of (in-use-exactly d) (all-in-use-exactly ds)
 
 pub placed-exactly : (n : ℕ) (status : List ℕ) (workers : List Worker) (ds : List Deque) → (placedDeques n status workers ds ≡ true) ↔ PlacedDeques n status workers ds
 unfolding placedDeques
@@ -86,7 +86,7 @@ placed-exactly n status workers ds =
     (and-of (same-below (λ t. occurs t ds) (readyAt status) n)
     (and-of (threads-below n ds)
     (and-of (same-below (λ w. ownedBy w ds) (holdsAt workers) 16)
-    (allManned-exactly ds)))) (
+    (all-in-use-exactly ds)))) (
       (λ (a, (b, (c, d))). record { once = a; none = b; owned = c; in-use = d }),
       (λ x. (x .once, (x .none, (x .owned, x .in-use)))),
     )

@@ -78,6 +78,17 @@ unfolding waitsFor
 waits-status T st u t e =
     eqb-true (statusOf st u) waiting (and-exactly (eqb (statusOf st u) waiting) (is join (kind T (nextOf st u)) && eqb (T .argument (nextOf st u)) t) .0 e .0)
 
+-- whether a thread waits for its child is the same once that has ended
+pub waits-same : (T : Table) (st : State) (w t u : ℕ) → t < length (st .status) → statusOf st t ≡ held → waitsFor T (withList (without t (st .list)) (released w t ended st)) u t ≡ waitsFor T st u t
+unfolding waitsFor
+waits-same T st w t u fits taken = go (ℕ-discrete u t)
+  where
+    go : Dec (u ≡ t)
+        → (eqb (getD (set (st .status) t ended) u 0) waiting && (is join (kind T (nextOf st u)) && eqb (T .argument (nextOf st u)) t))
+        ≡ (eqb (statusOf st u) waiting && (is join (kind T (nextOf st u)) && eqb (T .argument (nextOf st u)) t))
+    go (yes z) = rw (z, getD-set-same (st .status) t ended 0 fits, taken)
+    go (no z) = rw (getD-set-other (st .status) t u ended 0 z)
+
 -- ---- a worker that acts
 
 module _ (T : Table) (l : Lawful T) (p K : ℕ) (few : p ≤ 16) (w : ℕ) (below : w < p) (st : State) (c : CommonIn T p K st) (ds : List Deque)
@@ -247,23 +258,15 @@ module _ (T : Table) (l : Lawful T) (p K : ℕ) (few : p ≤ 16) (w : ℕ) (belo
           ready-there (st .status) t ready x (λ z. omega (arith, above-it, z))
           ∙ rw (undone-unborn T l p K (withSerial T l st) f a (X .action) e (X .undone))
 
-  -- whether the parent waits for its child is the same once that has ended
-  waits-same : waitsFor T (withList (without t (st .list)) (released w t ended st)) u t ≡ waitsFor T st u t
-  unfolding waitsFor
-  waits-same = go (ℕ-discrete u t)
-    where
-      go : Dec (u ≡ t)
-          → (eqb (getD (set (st .status) t ended) u 0) waiting && (is join (kind T (nextOf st u)) && eqb (T .argument (nextOf st u)) t))
-          ≡ (eqb (statusOf st u) waiting && (is join (kind T (nextOf st u)) && eqb (T .argument (nextOf st u)) t))
-      go (yes z) = rw (z, getD-set-same (st .status) t ended 0 (omega (arith, small, X .thread)), X .taken)
-      go (no z) = rw (getD-set-other (st .status) t u ended 0 z)
+  still-waits : waitsFor T (withList (without t (st .list)) (released w t ended st)) u t ≡ waitsFor T st u t
+  still-waits = waits-same T st w t u (omega (arith, small, X .thread)) (X .taken)
 
   by-end : kind T a ≡ end → Both (afterOf end (actBy end T K w t a x st))
   unfolding actBy woken letGo taken
   by-end e =
       either (λ (s : State). CommonIn T p K s → Both (afterOf end (stepped (Done t a) s))) (waitsFor T mid u t) (withStatus u ready mid) mid
       (λ i d.
-      let j : waitsFor T st u t ≡ true = sym waits-same ∙ i in
+      let j : waitsFor T st u t ≡ true = sym still-waits ∙ i in
       rw (gone, j)
       (record {
         common = taken-common T l p K w few below (withStatus u ready mid) d (rw gone) q u quota-few parent (getD-set-same (set (st .status) t ended) u ready 0 room);
@@ -273,7 +276,7 @@ module _ (T : Table) (l : Lawful T) (p K : ℕ) (few : p ≤ 16) (w : ℕ) (belo
             (more (set (st .status) t ended) (set (st .workers) w nobody) (λ v. 0) u (small-set ended) parent (unready j) (releasing ended (λ v. 0) refl (λ v n. refl)));
       }))
       (λ i d.
-      let j : waitsFor T st u t ≡ false = sym waits-same ∙ i in
+      let j : waitsFor T st u t ≡ false = sym still-waits ∙ i in
       rw (gone, j) (goes mid d (rw gone) (small-set ended) wide-set (releasing ended (λ v. 0) refl (λ v n. refl))))
       (acted-common end e)
     where

@@ -1,14 +1,15 @@
 -- What the moves of the deques do to the lines: they are `leftOf` and `without`, the moves that links can make.
 use mathlib.Core.Path.{_≡_, refl, sym, ap, _∙_}
-use Prim.Native.Nat.{ℕ, _+_, _<_}
+use Prim.Native.Nat.{ℕ, suc, _+_, _<_}
 use mathlib.Core.List.{List, [], _∷_, _++_, append-assoc, List·Memᴰ, List·Memᴰ·head, List·Memᴰ·tail}
 use mathlib.Core.Bool.{Bool, true, false}
 use native.Mathlib.Omega.{arith}
 use lib.Dec.{eqb}
+use lib.ListN.{getD}
 use borrow.Author.Tests.{eqb-true, ne-eqb, eq-eqb, lt-ltb}
 use Rattle.table.specs.Sum.{pick}
 use Rattle.schedule.specs.Machine.{leftOf, without}
-use Rattle.deques.specs.Deques.{Deque, deque, kept, own, push, disown}
+use Rattle.deques.specs.Deques.{Deque, deque, nothing, kept, placeOf, own, push, disown}
 use Rattle.deques.specs.Lines.{line, linesOf}
 use Rattle.deques.specs.Partition.{ownedBy}
 use Rattle.deques.proofs.Placed.{lines-same}
@@ -21,6 +22,17 @@ pub record Mine (w : ℕ) (ds : List Deque) : Type 0 where
   pub whole : ds ≡ front ++ deque w threads ∷ rest
   pub clear : ownedBy w front ≡ 0
   pub alone : ownedBy w rest ≡ 0
+
+-- its threads, looked up by its place
+pub mine-at : (w : ℕ) (front : List Deque) (k : List ℕ) (rest : List Deque) → ownedBy w front ≡ 0 → getD (front ++ deque w k ∷ rest) (placeOf w (front ++ deque w k ∷ rest)) nothing .threads ≡ k
+unfolding placeOf ownedBy
+mine-at w [] k rest e = rw (eq-eqb w w refl)
+mine-at w (d ∷ front) k rest e = go (eqb (d .owner) w) refl (mine-at w front k rest)
+  where
+    go : (q : Bool) → eqb (d .owner) w ≡ q → (ownedBy w front ≡ 0 → getD (front ++ deque w k ∷ rest) (placeOf w (front ++ deque w k ∷ rest)) nothing .threads ≡ k)
+        → getD (d ∷ (front ++ deque w k ∷ rest)) (pick q 0 (suc (placeOf w (front ++ deque w k ∷ rest)))) nothing .threads ≡ k
+    go true i ih = absurd (let z : 1 + ownedBy w front ≡ 0 = rw i at e in omega (arith, z))
+    go false i ih = ih (let z : 0 + ownedBy w front ≡ 0 = rw i at e in omega (arith, z))
 
 later : (w : ℕ) (d : Deque) (ds : List Deque) → eqb (d .owner) w ≡ false → Mine w ds → Mine w (d ∷ ds)
 unfolding ownedBy

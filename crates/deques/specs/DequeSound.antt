@@ -50,16 +50,16 @@ threadsIn [] = []
 threadsIn (d ∷ ds) = d .threads ++ threadsIn ds
 
 -- "a deque has at most one owner", of which there is one number, "and an owner or a thread"
-unfoldable pub allManned : List Deque → Bool
-allManned [] = true
-allManned (d ∷ ds) = (ltb (d .owner) unowned || (eqb (d .owner) unowned && not (isEmpty (d .threads)))) && allManned ds
+unfoldable pub allInUse : List Deque → Bool
+allInUse [] = true
+allInUse (d ∷ ds) = (ltb (d .owner) unowned || (eqb (d .owner) unowned && not (isEmpty (d .threads)))) && allInUse ds
 
 unfoldable pub placedDeques : ℕ → List ℕ → List Worker → List Deque → Bool
 placedDeques n status workers ds =
     allBelow (λ t. eqb (occurs t ds) (readyAt status t)) n
     && (allIn (λ t. ltb t n) (threadsIn ds)
     && (allBelow (λ w. eqb (ownedBy w ds) (holdsAt workers w)) maxWorkers
-    && allManned ds))
+    && allInUse ds))
 
 -- document 01's rules and N9's without those on the list: the part that any kind of run has in common, the copy of the table, turns taken
 unfoldable pub recordSound : DequeRun → Bool

@@ -10,7 +10,7 @@ use Rattle.schedule.specs.Parents.{Parents}
 use Rattle.array_machine.specs.Packed.{packedOf}
 use Rattle.run_memory.specs.Memory.{Memory, movedIn}
 use Rattle.run_memory.specs.Stands.{workersIn}
-use Rattle.run_memory.proofs.Manned.{of-length, workers-back, truths-back}
+use Rattle.run_memory.proofs.WorkerRecords.{of-length, workers-back, truths-back}
 use Rattle.deques.specs.declared.DequeRun.{DequeRun}
 use Rattle.deques.specs.DequeSound.{SteadyDeques}
 use Rattle.stealing.specs.StealingMemory.{dequeRunIn, DequesStand}

@@ -2,45 +2,14 @@
 use deques::DequeRun;
 use dequetest::deque_blank_in;
 use dequetest::deque_test_in;
-use schedule::Run;
 use soundness::Tested;
+use soundness::bytes_rest;
+use soundness::copy_sound;
 ghost use mathlib.Core.Path.{_≡_};
-ghost use mathlib.Core.Bool.{true};
-ghost use Prim.Native.Nat.{_≤_};
-ghost use lib.ListN.{length, take};
-ghost use Rattle.order.specs.Words.{filled, sameList};
 ghost use Rattle.schedule.specs.Record.{tableIn};
-ghost use Rattle.soundness.specs.Code.Checks.{copySound};
 ghost use Rattle.soundness.specs.Tested.{parentsIf};
 ghost use Rattle.deques.specs.DequeSound.{dequeSound, isBlankDeques};
 ghost use Rattle.dfdeques.specs.DequePacking.{dequesTested};
-
-// "Table bytes past its length .. are 0"
-fn rest_zero(bytes: &[u8], used: usize) -> bool
-    ensures { λ r. ⌜ r ≡ sameList (now (bytes .entry)) (filled (length (now (bytes .entry))) (take used (now (bytes .entry)))) ⌝ }
-{
-    let mut i = used;
-    while i < bytes.len() {
-        if bytes[i] != 0 {
-            return false;
-        }
-        i += 1;
-    }
-    true
-}
-
-// The table's length, and the bytes past it.
-fn copy_sound(run: Run) -> bool
-    ensures { λ r. ⌜ r ≡ copySound run ⌝ }
-    ensures { λ r. ⌜ (r ≡ true → run .length ≤ 36868) ⌝ }
-{
-    let length = run.length as usize;
-    if 36868 < length {
-        return false;
-    }
-    let table = run.table;
-    rest_zero(&table, length)
-}
 
 fn sound(run: DequeRun) -> Tested
     ensures { λ r. ⌜ r ≡ record { passed = dequeSound run; parents = parentsIf (dequeSound run) (tableIn (run .run)) } ⌝ }
@@ -100,7 +69,7 @@ fn is_blank(run: DequeRun) -> bool
 {
     let record = run.run;
     let table = record.table;
-    if !rest_zero(&table, 0) {
+    if !bytes_rest(&table, 0) {
         return false;
     }
     if record.length != 0 {

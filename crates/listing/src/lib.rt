@@ -14,6 +14,7 @@ use lines::put_refused;
 use rounds::put_rounds;
 use schedule::Run;
 use sheets::put_chart;
+pub use sheets::put_header;
 use sheets::put_listing;
 use soundness::test;
 use table::read::byte;

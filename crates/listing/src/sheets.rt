@@ -3,24 +3,22 @@ use crate::chart_turns;
 use crate::list_turns;
 use lines::put_answer;
 use schedule::Beginning;
-use schedule::Run;
 use table::Loaded;
-ghost use Prim.Native.Nat.{_+_, _*_, _≤_};
+ghost use Prim.Native.Nat.{_+_, _*_};
 ghost use mathlib.Core.List.{[], _∷_};
 ghost use lib.ListN.{length};
+ghost use Rattle.table.specs.Load.{loaded as loadedOf};
+ghost use Rattle.text.specs.Text.{lineOf};
 ghost use Rattle.schedule.specs.Turn.{turned as turnedOf};
 ghost use Rattle.chart.specs.Chart.{charted};
-ghost use Rattle.listing.specs.Listing.{headerOf, listedBy, walledBy};
+ghost use Rattle.listing.specs.Listing.{listedBy, walledBy};
 ghost use Rattle.text.specs.Puts.{Puts};
 
-// The header: the facts of the record's table.
-fn put_header(run: Run, out: &mut [u8]) -> usize
-    requires { ⌜ run .length ≤ 36868 ⌝ }
-    ensures { λ r. ⌜ Puts (now (out .entry)) 0 (now (out .exit)) r (headerOf run ∷ []) 64 ⌝ }
+// The header: the facts of a table.
+pub fn put_header(table: &[u8], out: &mut [u8]) -> usize
+    ensures { λ r. ⌜ Puts (now (out .entry)) 0 (now (out .exit)) r (lineOf (loadedOf (now (table .entry))) ∷ []) 64 ⌝ }
 {
-    let length = run.length as usize;
-    let table = run.table;
-    let loaded = facts::load(&table[..length]);
+    let loaded = facts::load(table);
     put_answer(out, 0, loaded)
 }
 
@@ -34,7 +32,9 @@ pub(crate) fn put_listing(table: &[u8], p: u8, quota: u32, order: &[u8], out: &m
         return put_answer(out, 0, Loaded::Refused(refusal));
     }
     let run = begun.run;
-    let at = put_header(run, out);
+    let length = run.length as usize;
+    let bytes = run.table;
+    let at = put_header(&bytes[..length], out);
     list_turns(run, order, out, at)
 }
 

@@ -27,7 +27,7 @@ use Rattle.marks.specs.Marks.{Marked, marked, badMarked, setChecks, backChecks,
 use Rattle.run_memory.specs.Memory.{Memory, movedIn}
 use Rattle.run_memory.specs.Stands.{truths, workersIn, runIn}
 use Rattle.run_memory.specs.Packing.{memoryFor, recordOf}
-use Rattle.run_memory.proofs.Manned.{workers-back, truths-back}
+use Rattle.run_memory.proofs.WorkerRecords.{workers-back, truths-back}
 use Rattle.run_memory.proofs.Packed.{packed-record}
 use Rattle.wivakkol.specs.Opened.{soundIn, blankIn, lentOpen}
 use Rattle.wivakkol.proofs.Opens.{sound-in, no-workers as blank-settings}

@@ -15,7 +15,7 @@ use Rattle.table.specs.Sum.{pick}
 use Rattle.schedule.specs.declared.Worker.{Worker}
 use Rattle.schedule.specs.Machine.{nobody}
 use Rattle.run_memory.specs.Blocks.{part, rowIn, bytesIn, wordsIn, numbersIn, sumsIn}
-use Rattle.run_memory.specs.Places.{ofWorkers, laidRow, statuses, amountsAre, manned, mannedWords, mannedNumbers}
+use Rattle.run_memory.specs.Places.{ofWorkers, laidRow, statuses, amountsAre, workerBytes, workerWords, workerNumbers}
 use Rattle.run_memory.proofs.Parts.{part-get, part-right, part-left}
 
 -- ---- a loop that copies s's first n into d from a place on, when i of them are copied
@@ -175,8 +175,8 @@ module _ (f : Worker → ℕ) where
 
 -- the workers' records in the three blocks
 module _ (l : List Worker) (z : length l ≡ 16) (d : List ℕ) where
-  pub manned-laid : length d ≡ 1040 → bytesIn (paste d 1024 (ofWorkers (λ x. pick (x .holds) 1 0) l) 16) ≡ manned l (bytesIn d)
-  manned-laid y =
+  pub worker-bytes-laid : length d ≡ 1040 → bytesIn (paste d 1024 (ofWorkers (λ x. pick (x .holds) 1 0) l) 16) ≡ workerBytes l (bytesIn d)
+  worker-bytes-laid y =
       let s : List ℕ = ofWorkers (λ x. pick (x .holds) 1 0) l in
       let status : part 0 1024 (paste d 1024 s 16) ≡ part 0 1024 d = part-apart d 1024 s 0 1024 16 (omega (arith, y)) (of-workers-enough _ l z) (inl (omega arith)) in
       λ i. record { status = status i; holds = of-workers-part (λ x. pick (x .holds) 1 0) l d 1024 z (omega (arith, y)) i }
@@ -189,8 +189,8 @@ module _ (l : List Worker) (z : length l ≡ 16) (d : List ℕ) where
       go true e = part-apart d 6144 (ofWorkers (λ x. x .thread) l) (1024 * j) 1024 16 (omega (arith, y)) (of-workers-enough _ l z) (inl (omega (arith, ltb-true j 6 e)))
       go false e = refl
 
-  pub manned-words-laid : length d ≡ 6163 → wordsIn (paste d 6144 (ofWorkers (λ x. x .thread) l) 16) ≡ mannedWords l (wordsIn d)
-  manned-words-laid y =
+  pub worker-words-laid : length d ≡ 6163 → wordsIn (paste d 6144 (ofWorkers (λ x. x .thread) l) 16) ≡ workerWords l (wordsIn d)
+  worker-words-laid y =
       let past : (j : ℕ) → 6160 ≤ j → getD (paste d 6144 (ofWorkers (λ x. x .thread) l) 16) j 0 ≡ getD d j 0 =
       λ j q. cell-apart d 6144 (ofWorkers (λ x. x .thread) l) j 16 (omega (arith, y)) (of-workers-enough _ l z) (inr (omega (arith, q))) in
       λ i. record {
@@ -201,8 +201,8 @@ module _ (l : List Worker) (z : length l ≡ 16) (d : List ℕ) where
         busy = past 6162 (omega arith) i;
       }
 
-  pub manned-numbers-laid : length d ≡ 18 → numbersIn (paste d 2 (ofWorkers (λ x. x .quota) l) 16) ≡ mannedNumbers l (numbersIn d)
-  manned-numbers-laid y =
+  pub worker-numbers-laid : length d ≡ 18 → numbersIn (paste d 2 (ofWorkers (λ x. x .quota) l) 16) ≡ workerNumbers l (numbersIn d)
+  worker-numbers-laid y =
       let before : (j : ℕ) → j < 2 → getD (paste d 2 (ofWorkers (λ x. x .quota) l) 16) j 0 ≡ getD d j 0 =
       λ j q. cell-apart d 2 (ofWorkers (λ x. x .quota) l) j 16 (omega (arith, y)) (of-workers-enough _ l z) (inl (omega (arith, q))) in
       λ i. record { workers = before 0 (omega arith) i; quota = before 1 (omega arith) i; quotas = of-workers-part (λ x. x .quota) l d 2 z (omega (arith, y)) i }

@@ -18,19 +18,23 @@ use Rattle.run_memory.specs.declared.runs.Stop.{Stop}
 use Rattle.run_memory.specs.Runs.{Stopped, stopped, driveIn, listRunIn, roundsRunIn}
 use Rattle.run_memory.proofs.Undone.{Undone, undone-keeps}
 
--- a turn that is refused moves nothing
-refused-same : (s : List ℕ) (w : ℕ) (M : Memory) → (turnIn s w M .number ≡ 0 → ⊥) → turnIn s w M .memory ≡ M
-unfolding turnIn turnLeft
+-- a turn that is refused moves nothing, whatever hindered it
+pub nothing-moved : (M : Memory) (w : ℕ) (b : Bool) (n : ℕ) (z : Left) → let t : Told = pick b (turnLeft M w z) (told n Idle M) in
+    (t .number ≡ 0 → ⊥) → t .memory ≡ M
+unfolding turnLeft
+nothing-moved M w b n z = go b (z .fits)
+  where
+    go : (b c : Bool) → let t : Told = pick b (pick c (told 0 (z .reply) (memoryAfter M w z)) (told 32 Idle M)) (told n Idle M) in
+        (t .number ≡ 0 → ⊥) → t .memory ≡ M
+    go true true d = absurd (d refl)
+    go true false d = refl
+    go false c d = refl
+
+pub refused-same : (s : List ℕ) (w : ℕ) (M : Memory) → (turnIn s w M .number ≡ 0 → ⊥) → turnIn s w M .memory ≡ M
+unfolding turnIn
 refused-same s w M =
     let number : ℕ = hindrance (movedIn M .turns) (getD (M .settings) 0 0) w (getD (M .arrays .status) 0 0) in
-    let z : Left = turnOn (tableOf s) (getD (M .settings) 1 0) (M .parents) w (M .arrays) (movedIn M) (workerIn M w) in
-    go (eqb number 0) (z .fits) number z
-  where
-    go : (b c : Bool) (n : ℕ) (z : Left) → let t : Told = pick b (pick c (told 0 (z .reply) (memoryAfter M w z)) (told 32 Idle M)) (told n Idle M) in
-        (t .number ≡ 0 → ⊥) → t .memory ≡ M
-    go true true n z d = absurd (d refl)
-    go true false n z d = refl
-    go false c n z d = refl
+    nothing-moved M w (eqb number 0) number (turnOn (tableOf s) (getD (M .settings) 1 0) (M .parents) w (M .arrays) (movedIn M) (workerIn M w))
 
 -- the answer is the one given
 pub stopped-as : {x y : Stop} {M : Memory} {d : Stopped} → x ≡ y → stopped (y .number) (y .finished) (y .turns) M ≡ d → stopped (x .number) (x .finished) (x .turns) M ≡ d

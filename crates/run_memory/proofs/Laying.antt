@@ -6,7 +6,7 @@ use Rattle.schedule.specs.declared.Run.{Run}
 use Rattle.schedule.specs.Links.{Links}
 use Rattle.array_machine.specs.Arrays.{links}
 use Rattle.run_memory.specs.Blocks.{Bytes, Words, Numbers, Sums, gathered}
-use Rattle.run_memory.specs.Places.{headed, setTo, totalled, laidRow, statuses, amountsAre, manned, mannedWords, mannedNumbers}
+use Rattle.run_memory.specs.Places.{headed, setTo, totalled, laidRow, statuses, amountsAre, workerBytes, workerWords, workerNumbers}
 use Rattle.run_memory.specs.Packing.{secondFor, memoryFor}
 use Rattle.run_memory.specs.Code.Laid.{rowsLaid, laidWords, laidSums}
 
@@ -23,19 +23,19 @@ module _ (run : Run) where
       → S₄ ≡ totalled 2 (run .turns) S₃ → S₄ ≡ laidSums run S₀
   sums-laid S₀ a b c d = rw (d, c, b, a)
 
-  bytes-laid : (B₀ : Bytes) {B₁ B₂ : Bytes} → B₁ ≡ statuses (run .status) B₀ → B₂ ≡ manned (run .worker) B₁ → B₂ ≡ manned (run .worker) (statuses (run .status) B₀)
+  bytes-laid : (B₀ : Bytes) {B₁ B₂ : Bytes} → B₁ ≡ statuses (run .status) B₀ → B₂ ≡ workerBytes (run .worker) B₁ → B₂ ≡ workerBytes (run .worker) (statuses (run .status) B₀)
   bytes-laid B₀ a b = rw (b, a)
 
-  numbers-laid : (N₀ : Numbers) {N₁ N₂ N₃ : Numbers} → N₁ ≡ setTo 0 (run .workers) N₀ → N₂ ≡ setTo 1 (run .quota) N₁ → N₃ ≡ mannedNumbers (run .worker) N₂
-      → N₃ ≡ mannedNumbers (run .worker) (setTo 1 (run .quota) (setTo 0 (run .workers) N₀))
+  numbers-laid : (N₀ : Numbers) {N₁ N₂ N₃ : Numbers} → N₁ ≡ setTo 0 (run .workers) N₀ → N₂ ≡ setTo 1 (run .quota) N₁ → N₃ ≡ workerNumbers (run .worker) N₂
+      → N₃ ≡ workerNumbers (run .worker) (setTo 1 (run .quota) (setTo 0 (run .workers) N₀))
   numbers-laid N₀ a b c = rw (c, b, a)
 
   pub memory-laid : (parents : List ℕ) (B₀ : Bytes) {B₁ B₂ : Bytes} (W₀ : Words) {W₁ W₂ : Words} (N₀ : Numbers) {N₁ N₂ N₃ : Numbers} (S₀ : Sums) {S₁ : Sums}
       → W₁ ≡ laidWords run parents W₀ → S₁ ≡ laidSums run S₀ → B₁ ≡ statuses (run .status) B₀ → N₁ ≡ setTo 0 (run .workers) N₀ → N₂ ≡ setTo 1 (run .quota) N₁
-      → B₂ ≡ manned (run .worker) B₁ → W₂ ≡ mannedWords (run .worker) W₁ → N₃ ≡ mannedNumbers (run .worker) N₂
+      → B₂ ≡ workerBytes (run .worker) B₁ → W₂ ≡ workerWords (run .worker) W₁ → N₃ ≡ workerNumbers (run .worker) N₂
       → gathered B₂ W₂ N₃ S₁ ≡ memoryFor run parents
   memory-laid parents B₀ W₀ N₀ S₀ w s b m n b' w' n' =
       let eb = bytes-laid B₀ b b' in
-      let ew = w' ∙ ap (λ (W : Words). mannedWords (run .worker) W) w in
+      let ew = w' ∙ ap (λ (W : Words). workerWords (run .worker) W) w in
       let en = numbers-laid N₀ m n n' in
       λ i. gathered (eb i) (ew i) (en i) (s i)

@@ -11,13 +11,14 @@ pub mod Takes
 mod Seeing
 pub mod Foreseeing
 mod Laying
-mod Drives
+pub mod Drives
 pub mod Fixed
 pub mod Undone
 pub mod Turning
-pub mod Manned
+pub mod WorkerRecords
 pub mod Refines
 pub mod RunsRefine
+pub mod Stopping
 pub mod Packed
 pub mod ByValue
 pub mod Refusals

@@ -20,7 +20,7 @@ use Rattle.array_machine.proofs.Linking.{linked-as}
 use Rattle.run_memory.specs.Memory.{Memory, movedIn}
 use Rattle.run_memory.specs.Stands.{workersIn, runIn, Stands}
 use Rattle.run_memory.specs.Packing.{secondFor, memoryFor, recordOf}
-use Rattle.run_memory.proofs.Manned.{of-length, workers-back, truths-back}
+use Rattle.run_memory.proofs.WorkerRecords.{of-length, workers-back, truths-back}
 
 -- a record of sixteen workers, sound or not, is read back as it was
 pub unmoved-back : (run : Run) (parents : List ℕ) → length (run .worker) ≡ 16 → recordOf run (memoryFor run parents) ≡ run

@@ -83,6 +83,14 @@ turnRow x passed = let v = replyValues x in 0 ∷ saidCode (v .said) ∷ v .thre
 abbrev pub noRow : List ℕ
 noRow = 0 ∷ 0 ∷ 0 ∷ 0 ∷ 0 ∷ []
 
+-- what is said of where a run stopped
+abbrev pub saidOf : ℕ → Bool → Said
+saidOf number over = pick (eqb number 0) (pick over finished spent) nothing
+
+-- of a run: the place, what is said, and the turns taken
+abbrev pub runRow : Said → ℕ → List ℕ
+runRow x turns = 0 ∷ saidCode x ∷ turns ∷ []
+
 -- the refusal's number, 0 where there is none; the lent row; the memory
 pub record Answer : Type 0 where
   pub number : ℕ

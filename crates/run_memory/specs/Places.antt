@@ -79,11 +79,11 @@ unfoldable pub ofWorkers : (Worker → ℕ) → List Worker → List ℕ
 ofWorkers f [] = []
 ofWorkers f (x ∷ l) = f x ∷ ofWorkers f l
 
-abbrev pub manned : List Worker → Bytes → Bytes
-manned l B = record { status = B .status; holds = ofWorkers (λ x. pick (x .holds) 1 0) l }
+abbrev pub workerBytes : List Worker → Bytes → Bytes
+workerBytes l B = record { status = B .status; holds = ofWorkers (λ x. pick (x .holds) 1 0) l }
 
-abbrev pub mannedWords : List Worker → Words → Words
-mannedWords l W = record { rows = W .rows; threads = ofWorkers (λ x. x .thread) l; leftmost = W .leftmost; first = W .first; busy = W .busy }
+abbrev pub workerWords : List Worker → Words → Words
+workerWords l W = record { rows = W .rows; threads = ofWorkers (λ x. x .thread) l; leftmost = W .leftmost; first = W .first; busy = W .busy }
 
-abbrev pub mannedNumbers : List Worker → Numbers → Numbers
-mannedNumbers l N = record { workers = N .workers; quota = N .quota; quotas = ofWorkers (λ x. x .quota) l }
+abbrev pub workerNumbers : List Worker → Numbers → Numbers
+workerNumbers l N = record { workers = N .workers; quota = N .quota; quotas = ofWorkers (λ x. x .quota) l }

@@ -10,7 +10,7 @@ use Rattle.schedule.specs.declared.Report.{Report}
 use Rattle.schedule.specs.declared.Report.the-variants.{Finished, Spent, Refused}
 use Rattle.schedule.specs.Machine.{ended}
 use Rattle.schedule.specs.Runs.{workerAt}
-use Rattle.run_memory.specs.Memory.{Memory, movedIn, Told, turnIn}
+use Rattle.run_memory.specs.Memory.{Memory, movedIn, saidOf, runRow, Answer, answer, Told, turnIn}
 
 -- where a run stopped: a refusal's number, 0 where there is none; whether at the root's end; turns taken; the memory
 pub record Stopped : Type 0 where
@@ -46,6 +46,10 @@ roundsRunIn s limit M =
     let p : ℕ = getD (M .settings) 0 0 in
     let go : Stopped = driveIn s (workerAt [] true p) limit 0 M in
     pick (eqb (movedIn M .turns) (2 ^ 64 - 1)) (stopped 32 false 0 M) (pick (eqb p 0) (stopped 30 false 0 M) go)
+
+-- what a run answers to C
+abbrev pub stoppedAs : Stopped → Answer
+stoppedAs d = answer (d .number) (runRow (saidOf (d .number) (d .finished)) (d .turns)) (d .memory)
 
 -- the report of a call by value
 abbrev pub reportOf : ℕ → Bool → ℕ → Report

@@ -10,7 +10,7 @@ ghost use lib.Dec.{ltb};
 ghost use Rattle.table.specs.Sum.{pick};
 ghost use Rattle.run_memory.specs.Blocks.{bytesIn, wordsIn, numbersIn, sumsIn};
 ghost use Rattle.run_memory.specs.Stands.{workersFrom};
-ghost use Rattle.run_memory.specs.Places.{statuses, laidRow, manned, mannedWords, mannedNumbers, amountsAre, ofWorkers};
+ghost use Rattle.run_memory.specs.Places.{statuses, laidRow, workerBytes, workerWords, workerNumbers, amountsAre, ofWorkers};
 
 // Row k of the words is this; nothing where there is no such row.
 pub fn copy_row(words: &mut [u16; 6163], k: usize, from: &[u16; 1024])
@@ -60,9 +60,9 @@ pub fn copy_workers(
     numbers: &mut [u32; 18],
     workers: [Worker; 16],
 )
-    ensures { λ _. ⌜ bytesIn (now (bytes .exit)) ≡ manned workers (bytesIn (now (bytes .entry))) ⌝ }
-    ensures { λ _. ⌜ wordsIn (now (words .exit)) ≡ mannedWords workers (wordsIn (now (words .entry))) ⌝ }
-    ensures { λ _. ⌜ numbersIn (now (numbers .exit)) ≡ mannedNumbers workers (numbersIn (now (numbers .entry))) ⌝ }
+    ensures { λ _. ⌜ bytesIn (now (bytes .exit)) ≡ workerBytes workers (bytesIn (now (bytes .entry))) ⌝ }
+    ensures { λ _. ⌜ wordsIn (now (words .exit)) ≡ workerWords workers (wordsIn (now (words .entry))) ⌝ }
+    ensures { λ _. ⌜ numbersIn (now (numbers .exit)) ≡ workerNumbers workers (numbersIn (now (numbers .entry))) ⌝ }
 {
     copy_workers_in(bytes, words, numbers, workers);
 }

@@ -27,7 +27,9 @@ mod unused;
 pub use beginning::begin_fault;
 pub use blank::blank_in;
 pub use common::test_common;
+pub use sound::copy_sound;
 pub use sound::test_in;
+pub use unused::bytes_rest;
 
 // Whether a test passed, and each thread's parent, which the turns after it look up.
 pub struct Tested {

@@ -174,7 +174,7 @@ pub fn test_in(
 }
 
 // The table's length, and the bytes past it.
-fn copy_sound(run: Run) -> bool
+pub fn copy_sound(run: Run) -> bool
     ensures { λ r. ⌜ r ≡ copySound run ⌝ }
     ensures { λ r. ⌜ (r ≡ true → run .length ≤ 36868) ⌝ }
 {

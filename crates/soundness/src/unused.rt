@@ -26,7 +26,7 @@ pub(crate) fn unused_right(n: usize, next: &[u16], status: &[u8]) -> bool
 }
 
 // "Table bytes past its length .. are 0"; with none in use, all are, as the blank record's statuses.
-pub(crate) fn bytes_rest(bytes: &[u8], used: usize) -> bool
+pub fn bytes_rest(bytes: &[u8], used: usize) -> bool
     ensures { λ r. ⌜ r ≡ sameList (now (bytes .entry)) (filled (length (now (bytes .entry))) (take used (now (bytes .entry)))) ⌝ }
 {
     let mut i = used;

@@ -1,6 +1,6 @@
 -- A worker that goes on with its thread, on arrays in which the deques stand: its action leaves the reply and the state of `actDeques`, and the deques stand in the arrays after it.
 use mathlib.Core.Path.{_≡_, refl, sym, ap, subst, fun-ext, _∙_}
-use Prim.Native.Nat.{ℕ, suc, _+_, _-_, _^_, _≤_, _<_}
+use Prim.Native.Nat.{ℕ, _+_, _-_, _^_, _≤_, _<_}
 use mathlib.Core.List.{List, [], _∷_, _++_, List·Memᴰ, List·Memᴰ·head, List·Memᴰ·tail, List·Memᴰ·not-nil, List·Memᴰ·cases-cons, List·Memᴰ·append-cases, Memᴰ·append-right}
 use mathlib.Core.Bool.{Bool, true, false, _&&_}
 use mathlib.Core.Logic.{_⊎_, inl, inr}
@@ -9,7 +9,7 @@ use native.Mathlib.Decide.{ℕ-discrete}
 use lib.ListN.{length, getD, set}
 use lib.Seq.{getD-set-same, getD-set-other, set-getD, set-set}
 use lib.Dec.{leb, eqb}
-use borrow.Author.Tests.{lt-ltb, le-leb, eq-eqb, eqb-true}
+use borrow.Author.Tests.{lt-ltb, le-leb}
 use Rattle.table.specs.Sum.{pick}
 use Rattle.table.specs.Format.{Kind, end, work, alloc, free, fork, join, unknown, is, Table, kind, tableOf}
 use Rattle.table.specs.Rules.{Rules}
@@ -40,11 +40,11 @@ use Rattle.array_machine.specs.Arrays.{Arrays, linksOf, secondOf, amountIn, wit
 use Rattle.array_machine.specs.Turn.{Outcome, waitsIn, actOn}
 use Rattle.array_machine.proofs.Parts.{Sits}
 use Rattle.array_machine.proofs.Seats.{next-fits, alloc-room, own-room, free-room, own-free, child-room, fork-child, join-child}
-use Rattle.deques.specs.Deques.{Deque, deque, nothing, placeOf, bottom, over, goesTo, goesOn, letGo, DequeStep, steps, actDeques}
+use Rattle.deques.specs.Deques.{Deque, deque, bottom, over, goesTo, goesOn, letGo, DequeStep, steps, actDeques}
 use Rattle.deques.specs.Partition.{ownedBy, AllInUse}
 use Rattle.deques.specs.Lines.{linesOf, bottomsOf, threadOf, linkedIn}
 use Rattle.deques.proofs.Placed.{bottom-counts}
-use Rattle.deques.proofs.Flat.{Mine, mine, lines-are, fork-lines, pop-lines, leave-lines, wake-lines, stop-lines}
+use Rattle.deques.proofs.Flat.{Mine, mine, mine-at, lines-are, fork-lines, pop-lines, leave-lines, wake-lines, stop-lines}
 use Rattle.deques.proofs.Bottoms.{bottoms-are, fork-bottoms, pop-bottoms, leave-bottoms, wake-bottoms, wake-above, stop-bottoms}
 use Rattle.deques.proofs.DequeTurns.{Kept, withSerial, serial-facts, waits-status}
 use Rattle.deques.proofs.Counts.{counted-in, count-append, count-self, once-counts, bottoms-count, in-use-front, in-use-rest}
@@ -64,17 +64,6 @@ pub record Follows (w : ℕ) (workers : List Worker) (turns : ℕ) (o : Outcome)
   pub reply : o .reply ≡ s .reply
   pub state : s .after .state ≡ stateAt (o .arrays) (o .totals) (set workers w (o .worker)) turns
   pub laid : LaidOut (o .arrays) (o .totals) (threadOf (set workers w (o .worker))) (s .after .deques)
-
--- the deque that worker w owns
-mine-at : (w : ℕ) (front : List Deque) (k : List ℕ) (rest : List Deque) → ownedBy w front ≡ 0 → getD (front ++ deque w k ∷ rest) (placeOf w (front ++ deque w k ∷ rest)) nothing .threads ≡ k
-unfolding placeOf ownedBy
-mine-at w [] k rest e = rw (eq-eqb w w refl)
-mine-at w (d ∷ front) k rest e = go (eqb (d .owner) w) refl (mine-at w front k rest)
-  where
-    go : (q : Bool) → eqb (d .owner) w ≡ q → (ownedBy w front ≡ 0 → getD (front ++ deque w k ∷ rest) (placeOf w (front ++ deque w k ∷ rest)) nothing .threads ≡ k)
-        → getD (d ∷ (front ++ deque w k ∷ rest)) (pick q 0 (suc (placeOf w (front ++ deque w k ∷ rest)))) nothing .threads ≡ k
-    go true i ih = absurd (let z : 1 + ownedBy w front ≡ 0 = rw i at e in omega (arith, z))
-    go false i ih = ih (let z : 0 + ownedBy w front ≡ 0 = rw i at e in omega (arith, z))
 
 pub linked-by : (k : Links) (l l' : List ℕ) → l' ≡ l → LinkedAs k l → LinkedAs k l'
 linked-by k l l' e h = subst (λ (z : List ℕ). LinkedAs k z) (sym e) h

@@ -8,7 +8,7 @@ use borrow.Author.Tests.{lt-ltb, le-ltb, not-true}
 use lib.Dec.{ltb, eqb}
 use lib.ListN.{getD, set}
 use Rattle.table.specs.Sum.{pick}
-use Rattle.table.specs.Format.{Kind, end, fork, join, Table, kindOf, kind, tableOf}
+use Rattle.table.specs.Format.{Kind, join, Table, kindOf, kind, tableOf}
 use Rattle.table.proofs.Tests.{and-both, no-way}
 use Rattle.schedule.specs.declared.Worker.{Worker}
 use Rattle.schedule.specs.declared.Reply.{Reply}
@@ -16,7 +16,7 @@ use Rattle.schedule.specs.declared.Reply.the-variants.{Idle, Done, Wait}
 use Rattle.schedule.specs.Machine.{waiting, ended}
 use Rattle.array_machine.specs.Turn.{Outcome, unfit, nextFits, waitsIn, actOn, actIn, seatOf, stepFrom, stepOn}
 use Rattle.array_machine.specs.Counted.{Left, unmoved, roomFor, counting, turnOn}
-use Rattle.run_memory.specs.Memory.{Memory, memory, workerIn, movedIn, memoryAfter, hindrance, Told, told, turnLeft, turnIn}
+use Rattle.run_memory.specs.Memory.{Memory, memory, workerIn, movedIn, memoryAfter, Told, told, turnLeft, turnIn}
 use Rattle.run_memory.specs.Blocks.{Bytes, Words, Numbers, Sums, gathered}
 use Rattle.run_memory.specs.Places.{totalled}
 use Rattle.run_memory.specs.Code.Acts.{wentTo}
@@ -26,7 +26,7 @@ use Rattle.deques.specs.Lines.{linkedIn}
 use Rattle.array_machine.specs.Arrays.{secondOf}
 use Rattle.stealing.specs.Stealing.{leavesOn, wakesOn, forksOn, dequeBy, dequeIn, dequeOn, dequeTurnOn}
 use Rattle.stealing.specs.StealingMemory.{dequeTakenIn}
-use Rattle.stealing.specs.Code.{Going, leftBehind, wokenUp, forkedOff, endedIn}
+use Rattle.stealing.specs.Code.{Going, leftBehind, forkedOff, endedIn}
 
 -- the memory with this number of turns taken
 abbrev pub counted : ℕ → Memory → Memory

@@ -4,7 +4,7 @@ use Prim.Native.Nat.{ℕ, suc, _+_, _-_, _^_, _≤_, _<_}
 use native.Mathlib.Omega.{arith}
 use mathlib.Core.List.{List}
 use mathlib.Core.Bool.{Bool, true, false, not, _&&_}
-use borrow.Author.Tests.{ltb-true, ltb-false, lt-ltb, le-ltb, eqb-true, eqb-false, eq-eqb, ne-eqb}
+use borrow.Author.Tests.{ltb-true, lt-ltb, eqb-true, eqb-false, ne-eqb}
 use lib.Dec.{ltb, eqb}
 use lib.ListN.{length, getD, set, length-set}
 use Rattle.table.specs.Sum.{pick}
@@ -31,7 +31,7 @@ use Rattle.run_memory.proofs.Refines.{sixteen, own-worker, truths-set, workers-
 use Rattle.deques.specs.declared.DequeRun.{DequeRun}
 use Rattle.deques.specs.declared.DequeTurned.{DequeTurned}
 use Rattle.deques.specs.declared.DequeTurning.the-variants.{Taken, Refused}
-use Rattle.deques.specs.Deques.{DequeStep, Deques, over, dequeTurn}
+use Rattle.deques.specs.Deques.{DequeStep, over, dequeTurn}
 use Rattle.deques.specs.Lines.{linesOf, bottomsOf, threadOf}
 use Rattle.deques.specs.DequeRecord.{dequesIn, dequesOf, linesFor, bottomsFor, dequeStored, blankDeques}
 use Rattle.deques.specs.DequeSound.{SteadyDeques, dequeSound, isBlankDeques}

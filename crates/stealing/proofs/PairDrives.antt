@@ -1,5 +1,5 @@
 -- A run over pairs in lent memory goes turn by turn.
-use mathlib.Core.Path.{_≡_, refl, sym, ap, _∙_}
+use mathlib.Core.Path.{_≡_, sym, ap, _∙_}
 use Prim.Native.Nat.{ℕ, suc, _+_, _-_, _*_, _/_, _≤_, _<_}
 use native.Mathlib.Omega.{arith}
 use mathlib.Core.List.{List}
@@ -7,12 +7,9 @@ use mathlib.Core.Bool.{Bool, true, false}
 use borrow.Author.Tests.{eq-eqb, ne-eqb}
 use lib.Dec.{eqb}
 use lib.ListN.{length, getD}
-use Rattle.table.specs.Sum.{pick}
 use Rattle.table.specs.Format.{tableOf}
-use Rattle.schedule.specs.declared.Reply.the-variants.{Idle}
-use Rattle.array_machine.specs.Counted.{Left}
-use Rattle.run_memory.specs.declared.runs.Stop.{Stop}
-use Rattle.run_memory.specs.Memory.{Memory, workerIn, movedIn, memoryAfter, Told, told, turnLeft}
+use Rattle.run_memory.specs.Memory.{Memory, workerIn, movedIn, Told}
+use Rattle.run_memory.proofs.Drives.{nothing-moved}
 use Rattle.run_memory.specs.Runs.{Stopped, stopped, overIn}
 use Rattle.deques.specs.DequeRuns.{Pair, pairAt}
 use Rattle.stealing.specs.Stealing.{dequeTurnOn}
@@ -20,21 +17,10 @@ use Rattle.stealing.specs.StealingMemory.{dequeHindrance, dequeTurnIn, d
 
 -- a turn that is refused moves nothing
 pub refused-same : (s : List ℕ) (w c : ℕ) (M : Memory) → (dequeTurnIn s w c M .number ≡ 0 → ⊥) → dequeTurnIn s w c M .memory ≡ M
-unfolding dequeTurnIn turnLeft
+unfolding dequeTurnIn
 refused-same s w c M =
     let number : ℕ = dequeHindrance (movedIn M .turns) (getD (M .settings) 0 0) w c (getD (M .arrays .status) 0 0) in
-    let z : Left = dequeTurnOn (tableOf s) (getD (M .settings) 1 0) (M .parents) w c (M .arrays) (movedIn M) (workerIn M w) in
-    go (eqb number 0) (z .fits) number z
-  where
-    go : (b d : Bool) (n : ℕ) (z : Left) → let t : Told = pick b (pick d (told 0 (z .reply) (memoryAfter M w z)) (told 32 Idle M)) (told n Idle M) in
-        (t .number ≡ 0 → ⊥) → t .memory ≡ M
-    go true true n z d = absurd (d refl)
-    go true false n z d = refl
-    go false c n z d = refl
-
--- the answer is the one given
-pub stopped-as : {x y : Stop} {M : Memory} {d : Stopped} → x ≡ y → stopped (y .number) (y .finished) (y .turns) M ≡ d → stopped (x .number) (x .finished) (x .turns) M ≡ d
-stopped-as e h = rw e h
+    nothing-moved M w (eqb number 0) number (dequeTurnOn (tableOf s) (getD (M .settings) 1 0) (M .parents) w c (M .arrays) (movedIn M) (workerIn M w))
 
 -- what is left of a run of at most `limit` turns after i of them is the whole
 pub record Along (s : List ℕ) (who : ℕ → Pair) (limit : ℕ) (M₀ M : Memory) (i : ℕ) : Type 0 where

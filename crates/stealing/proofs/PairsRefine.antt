@@ -6,13 +6,11 @@ use mathlib.Core.Bool.{Bool, true, false}
 use borrow.Author.Tests.{eqb-true, eqb-false}
 use lib.Dec.{ltb, eqb}
 use lib.ListN.{length, getD}
-use Rattle.table.specs.Sum.{pick}
 use Rattle.schedule.specs.Turn.{rootEnded, noWorker}
 use Rattle.run_memory.specs.Memory.{Memory, movedIn}
-use Rattle.run_memory.specs.Runs.{Stopped, stopped, overIn, reportOf}
-use Rattle.deques.specs.declared.DequeRun.{DequeRun}
+use Rattle.run_memory.specs.Runs.{Stopped, overIn, reportOf}
 use Rattle.deques.specs.declared.DequeRan.{DequeRan}
-use Rattle.deques.specs.DequeTurn.{unsoundDeques, noChoice}
+use Rattle.deques.specs.DequeTurn.{noChoice}
 use Rattle.deques.specs.DequeRuns.{Pair, pairAt, dequeRan, driveDeques, pairsRun}
 use Rattle.stealing.specs.StealingMemory.{dequeHindrance, dequeTurnIn, dequeDriveIn, dequeListIn, dequeRunIn, DequesStand}
 use Rattle.stealing.proofs.InMemory.{deques-full, deques-room, deque-taken}

@@ -31,7 +31,8 @@ use Rattle.array_machine.specs.Arrays.{Arrays, secondOf}
 use Rattle.array_machine.specs.Turn.{Outcome, moved}
 use Rattle.deques.specs.Deques.{Deque, deque, nothing, isEmpty, bottom, robbed, over, DequeStep, steps, actDeques, steal, dequeTurn}
 use Rattle.deques.specs.Partition.{ownedBy, InUse, AllInUse}
-use Rattle.deques.specs.Lines.{line, linesOf, bottomsOf, threadOf}
+use Rattle.deques.specs.Lines.{linesOf, bottomsOf, threadOf}
+use Rattle.deques.proofs.Bottoms.{line-bottom}
 use Rattle.deques.proofs.Placed.{robbed-lines}
 use Rattle.deques.proofs.Counts.{owned-append, in-use-rest}
 use Rattle.deques.proofs.DequeTurns.{Kept, withSerial, serial-facts, taken-common, b-below, b-ready, stolen}
@@ -41,15 +42,6 @@ use Rattle.stealing.proofs.Words.{along-linked}
 use Rattle.stealing.proofs.Room.{stateAt}
 use Rattle.stealing.proofs.Acts.{LaidOut, Follows, linked-by, acts-follow}
 use Rattle.stealing.proofs.Robs.{Place, NoPlace, place, robbed-bottoms}
-
-line-bottom : (hold : ℕ → ℕ) (o : ℕ) (l : List ℕ) → isEmpty l ≡ false → bottom (line hold (deque o l)) ≡ bottom l
-unfolding bottom
-line-bottom hold o l e = go (ltb o 16) l e
-  where
-    go : (q : Bool) (l : List ℕ) → isEmpty l ≡ false → bottom (pick q (hold o ∷ l) l) ≡ bottom l
-    go q [] e = no-way cc
-    go true (x ∷ l) e = refl
-    go false (x ∷ l) e = refl
 
 -- what a test with a known outcome chooses
 goes-there : (i j k f : Bool) (o v z y : Outcome) → i ≡ true → j ≡ true → k ≡ true → f ≡ true → pick i (pick (j && k) (pick f o v) z) y ≡ o
@@ -167,7 +159,7 @@ module _ (s : List ℕ) (rules : Rules s) (p K : ℕ) (begins : firstFound (sett
       some-there = ap isEmpty (g .there) ∙ some
 
       found : alongBy c (A .over) (totals .first) ≡ b
-      found = along ∙ g .bottom-there ∙ line-bottom hold (g .owner) (g .threads) some ∙ b-is
+      found = along ∙ g .bottom-there ∙ line-bottom (ltb (g .owner) 16) (hold (g .owner)) (g .threads) some ∙ b-is
 
       b-small : b < tableOf s .threads
       b-small = b-below (tableOf s) laws p K few w below c (over st ds) X free some-there

@@ -212,6 +212,3 @@ module _ (s : List ℕ) (w c : ℕ) (M : Memory) {n : ℕ} (e : n ≡ dequeHindr
 -- of what stands in the memory
 pub asked-hindrance : {n t t' p p' r r' : ℕ} (w c : ℕ) → t ≡ t' → p ≡ p' → r ≡ r' → n ≡ dequeHindrance t p w c r → n ≡ dequeHindrance t' p' w c r'
 asked-hindrance w c x y z e = e ∙ (λ i. dequeHindrance (x i) (y i) w c (z i))
-
-pub asked-room : {f h h' : Bool} {t t' b b' : ℕ} (w : ℕ) → t ≡ t' → b ≡ b' → h ≡ h' → f ≡ roomFor t b h w → f ≡ roomFor t' b' h' w
-asked-room w x y z e = e ∙ (λ i. roomFor (x i) (y i) (z i) w)

@@ -37,9 +37,9 @@ use Rattle.soundness.proofs.Passed.{no-workers as blank-of}
 use Rattle.soundness.proofs.OnParts.{sound-is, blank-is}
 use Rattle.array_machine.specs.Arrays.{linksOf}
 use Rattle.schedule.specs.Answers.{nothing}
-use Rattle.run_memory.specs.Memory.{Memory, movedIn, noRow, answer, hindrance, turnIn, lentTurn}
+use Rattle.run_memory.specs.Memory.{Memory, movedIn, noRow, runRow, answer, hindrance, turnIn, lentTurn}
 use Rattle.run_memory.specs.Runs.{roundsRunIn}
-use Rattle.wivakkol.specs.Lent.{runRow, lentRounds, blankMemory}
+use Rattle.wivakkol.specs.Lent.{lentRounds, blankMemory}
 use Rattle.run_memory.specs.Stands.{truths, workersFrom, workersIn, runIn, Stands}
 use Rattle.wivakkol.specs.Opened.{soundIn, blankIn, beside, openedIn, blankedIn, openedAs, lentOpen}
 use Rattle.wivakkol.specs.Code.Standing.{standingOf, standing}

@@ -12,22 +12,22 @@ use Rattle.schedule.specs.declared.Report.{Report}
 use Rattle.schedule.specs.declared.Report.the-variants.{Finished, Spent, Refused}
 use Rattle.schedule.specs.Runs.{listRun, roundsRun}
 use Rattle.schedule.specs.Answers.{Values, reportValues, Said, nothing, finished, spent}
-use Rattle.run_memory.specs.Memory.{Memory, saidCode, Answer}
+use Rattle.run_memory.specs.Memory.{Memory, saidCode, saidOf, runRow, Answer}
 use Rattle.run_memory.specs.Stands.{runIn, Stands}
-use Rattle.run_memory.specs.Runs.{Stopped, listRunIn, roundsRunIn, reportOf}
+use Rattle.run_memory.specs.Runs.{Stopped, stoppedAs, reportOf}
 use Rattle.run_memory.proofs.RunsRefine.{Runs, list-refines, rounds-refines}
-use Rattle.wivakkol.specs.Lent.{saidOf, runRow, stoppedAs, lentList, lentRounds}
+use Rattle.wivakkol.specs.Lent.{lentList, lentRounds}
 
 -- the row of the paper's values of a run
 abbrev pub valuesRun : Values → List ℕ
 valuesRun v = v .place ∷ saidCode (v .said) ∷ v .turns ∷ []
 
 -- number and row are those of the report
-record Reported (number turns : ℕ) (said : Said) (x : Report) : Type 0 where
-  number-is : number ≡ reportValues x .number
-  row-is : runRow said turns ≡ valuesRun (reportValues x)
+pub record Reported (number turns : ℕ) (said : Said) (x : Report) : Type 0 where
+  pub number-is : number ≡ reportValues x .number
+  pub row-is : runRow said turns ≡ valuesRun (reportValues x)
 
-reported : (number : ℕ) (over : Bool) (turns : ℕ) → Reported number turns (saidOf number over) (reportOf number over turns)
+pub reported : (number : ℕ) (over : Bool) (turns : ℕ) → Reported number turns (saidOf number over) (reportOf number over turns)
 reported number over turns = go (eqb number 0) refl over
   where
     go : (b : Bool) → eqb number 0 ≡ b → (o : Bool)

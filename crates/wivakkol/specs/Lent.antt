@@ -3,8 +3,7 @@ use Prim.Native.Nat.{ℕ}
 use mathlib.Core.List.{List, [], _∷_}
 use mathlib.Core.Bool.{Bool, true, false}
 use lib.ListN.{set, replicate}
-use lib.Dec.{eqb, ltb}
-use Rattle.table.specs.Sum.{pick}
+use lib.Dec.{ltb}
 use Rattle.table.specs.Format.{tableOf}
 use Rattle.table.specs.declared.Found.{Found}
 use Rattle.table.specs.declared.Found.the-variants.{Nothing, At}
@@ -12,25 +11,13 @@ use Rattle.schedule.specs.Machine.{ready}
 use Rattle.schedule.specs.Links.{noThread}
 use Rattle.table.specs.Checks.{maxThreads}
 use Rattle.schedule.specs.Record.{maxWorkers}
-use Rattle.schedule.specs.Answers.{Said, nothing, finished, spent}
 use Rattle.filling.specs.Filled.{filledOut}
 use Rattle.soundness.specs.Tested.{parentsIn, nextIf, beginFilling}
 use Rattle.array_machine.specs.Arrays.{arrays}
-use Rattle.run_memory.specs.Memory.{Memory, memory, saidCode, Answer, answer}
-use Rattle.run_memory.specs.Runs.{Stopped, listRunIn, roundsRunIn}
+use Rattle.run_memory.specs.Memory.{Memory, memory, Answer, answer}
+use Rattle.run_memory.specs.Runs.{stoppedAs, listRunIn, roundsRunIn}
 
 -- ---- runs
-
--- what is said of where a run stopped
-abbrev pub saidOf : ℕ → Bool → Said
-saidOf number over = pick (eqb number 0) (pick over finished spent) nothing
-
--- place, what is said, and the turns taken
-abbrev pub runRow : Said → ℕ → List ℕ
-runRow x turns = 0 ∷ saidCode x ∷ turns ∷ []
-
-abbrev pub stoppedAs : Stopped → Answer
-stoppedAs d = answer (d .number) (runRow (saidOf (d .number) (d .finished)) (d .turns)) (d .memory)
 
 -- "Over a list of worker numbers"
 unfoldable pub lentList : List ℕ → List ℕ → Memory → Answer

@@ -1,5 +1,6 @@
 -- What the calls from C leave in the numbers lent to them. A call's answer is the refusal's number, 0 where there is none; the lent row has the place first and then the call's values,
--- all 0 where the call is refused. Both are those of the paper's values (`tableValues` of table, `valuesFor` of quota, `mostValuesFor` of most).
+-- all 0 where the call is refused. Of a table, a quota and a limit of turns both are those of the paper's values (`tableValues` of table, `valuesFor` of quota, `mostValuesFor` of most); of the
+-- useful limit and the quota that fits, which are no paper's, they are read off the answer by value.
 use Prim.Native.Nat.{ℕ}
 use mathlib.Core.List.{List, [], _∷_}
 use Rattle.table.specs.Load.{TableValues}

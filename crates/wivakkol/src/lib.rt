@@ -1,5 +1,5 @@
 // The calls that C links: on numbers and lent arrays alone, each answering any input whatever. A call returns the refusal's number, 0 where there is none, and puts the place and then
-// its values into the lent row; every number of the row is written, so that nothing of what was there before is left. The single turn is crate single's. include/wivakkol.h has the prototypes.
+// its values into the lent row; every number of the row is written, so that nothing of what was there before is left. The single turn is crate wivakkol_turn's. include/wivakkol.h has the prototypes.
 use quota::Quoted;
 use quota::largest_quota_in;
 use run_memory::lent::workers;

@@ -1,36 +1,11 @@
 // Runs over a list of workers and in rounds, from C: the run is run_memory's, and where it stopped goes into the lent row.
-use run_memory::runs::Stop;
+use run_memory::replies::put_run;
 use run_memory::runs::list_in;
 use run_memory::runs::rounds_in;
 ghost use mathlib.Core.Path.{_≡_};
-ghost use Rattle.run_memory.specs.Memory.{saidCode, answer};
+ghost use Rattle.run_memory.specs.Memory.{answer};
 ghost use Rattle.run_memory.specs.Blocks.{memoryOf};
-ghost use Rattle.wivakkol.specs.Lent.{saidOf, runRow, lentList, lentRounds};
-
-// what is said of a run, as a number
-const NOTHING: u64 = 0;
-
-const FINISHED: u64 = 6;
-
-const SPENT: u64 = 7;
-
-fn said(number: u32, finished: bool) -> u64
-    ensures { λ r. ⌜ r ≡ saidCode (saidOf number finished) ⌝ }
-{
-    if number != 0 {
-        return NOTHING;
-    }
-    if finished { FINISHED } else { SPENT }
-}
-
-// Puts what is said of a run into the row, and answers the refusal's number.
-fn put_run(row: &mut [u64; 3], stop: Stop) -> u32
-    ensures { λ r. ⌜ r ≡ stop .number ⌝ }
-    ensures { λ _. ⌜ now (row .exit) ≡ runRow (saidOf (stop .number) (stop .finished)) (stop .turns) ⌝ }
-{
-    *row = [0, said(stop.number, stop.finished), stop.turns];
-    stop.number
-}
+ghost use Rattle.wivakkol.specs.Lent.{lentList, lentRounds};
 
 // A run over a list of workers.
 #[no_mangle]

@@ -34,9 +34,9 @@ use Rattle.soundness.proofs.Noting.{parents-right}
 use Rattle.array_machine.specs.Arrays.{linksOf, secondOf}
 use Rattle.run_memory.specs.Memory.{Memory, movedIn, noRow, answer}
 use Rattle.run_memory.specs.Stands.{truths, workersFrom, workersIn, runIn}
-use Rattle.run_memory.specs.Runs.{stopped, overIn}
+use Rattle.run_memory.specs.Runs.{stopped, overIn, stoppedAs}
 use Rattle.run_memory.proofs.Refines.{own-worker}
-use Rattle.wivakkol.specs.Lent.{stoppedAs, blankMemory}
+use Rattle.wivakkol.specs.Lent.{blankMemory}
 use Rattle.deques.specs.declared.DequeRun.{DequeRun}
 use Rattle.deques.specs.DequeRecord.{bottomsIn, blankDeques}
 use Rattle.deques.specs.DequeSound.{SoundDeques, dequeSound, isBlankDeques}

@@ -9,13 +9,11 @@ use Rattle.table.specs.Sum.{pick}
 use Rattle.table.specs.Pass.{refusal}
 use Rattle.schedule.specs.declared.Reply.{Reply}
 use Rattle.schedule.specs.declared.Reply.the-variants.{Idle, Done, Quota, Wait}
-use Rattle.schedule.specs.declared.Report.the-variants.{Finished, Spent, Refused}
-use Rattle.schedule.specs.Answers.{replyValues, reportValues, nothing, finished, spent}
+use Rattle.schedule.specs.Answers.{replyValues, reportValues}
 use Rattle.run_memory.specs.Memory.{Memory, turnRow, noRow, Answer, Told}
 use Rattle.run_memory.specs.Stands.{valuesRow}
-use Rattle.run_memory.specs.Runs.{Stopped, reportOf}
-use Rattle.wivakkol.specs.Lent.{saidOf, runRow}
-use Rattle.wivakkol.proofs.RunAnswers.{valuesRun}
+use Rattle.run_memory.specs.Runs.{Stopped}
+use Rattle.wivakkol.proofs.RunAnswers.{valuesRun, reported}
 use Rattle.deques.specs.declared.DequeRun.{DequeRun}
 use Rattle.deques.specs.declared.DequeRan.{DequeRan}
 use Rattle.deques.specs.declared.DequeTurned.{DequeTurned}
@@ -58,18 +56,7 @@ told-so number x = go (eqb number 0) refl
     go true e = (eqb-true _ _ e ∙ replied x .0, replied x .1)
     go false e = (refl, refl)
 
--- ---- a run
-
-reported : (number : ℕ) (over : Bool) (turns : ℕ)
-    → (number ≡ reportValues (reportOf number over turns) .number) × (runRow (saidOf number over) turns ≡ valuesRun (reportValues (reportOf number over turns)))
-reported number over turns = go (eqb number 0) refl over
-  where
-    go : (b : Bool) → eqb number 0 ≡ b → (o : Bool)
-        → (number ≡ reportValues (pick b (pick o (Finished turns) (Spent turns)) (Refused turns (refusal number 0))) .number)
-        × (runRow (pick b (pick o finished spent) nothing) turns ≡ valuesRun (reportValues (pick b (pick o (Finished turns) (Spent turns)) (Refused turns (refusal number 0)))))
-    go true e true = (eqb-true _ _ e, refl)
-    go true e false = (eqb-true _ _ e, refl)
-    go false e o = (refl, refl)
+-- ---- the calls
 
 module _ (s : List ℕ) (M : Memory) (h : DequesStand s M) where
   pub deque-turn-answers : (w c : ℕ)
@@ -96,8 +83,8 @@ module _ (s : List ℕ) (M : Memory) (h : DequesStand s M) where
       let v = deque-list-refines s M h l in
       let r = reported (d .number) (d .finished) (d .turns) in
       record {
-        number-is = r .0 ∙ ap (λ (y : DequeRan). reportValues (y .report) .number) (v .by-value);
-        row-is = r .1 ∙ ap (λ (y : DequeRan). valuesRun (reportValues (y .report))) (v .by-value);
+        number-is = r .number-is ∙ ap (λ (y : DequeRan). reportValues (y .report) .number) (v .by-value);
+        row-is = r .row-is ∙ ap (λ (y : DequeRan). valuesRun (reportValues (y .report))) (v .by-value);
         record-after = ap (λ (y : DequeRan). y .run) (v .by-value);
         stands = v .stands;
       }

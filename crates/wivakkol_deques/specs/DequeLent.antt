@@ -9,7 +9,7 @@ use Rattle.table.specs.Format.{tableOf}
 use Rattle.array_machine.specs.Arrays.{linksOf, secondOf}
 use Rattle.run_memory.specs.Memory.{Memory, memory, movedIn, turnRow, noRow, Answer, answer, Told}
 use Rattle.run_memory.specs.Stands.{truths, workersIn}
-use Rattle.wivakkol.specs.Lent.{stoppedAs}
+use Rattle.run_memory.specs.Runs.{stoppedAs}
 use Rattle.deques.specs.declared.DequeRun.{DequeRun}
 use Rattle.deques.specs.DequeRecord.{blankDeques}
 use Rattle.dequetest.specs.DequeTested.{dequeSoundOn, dequeBlankOn, openNumber, openParents}

@@ -1,40 +1,14 @@
 // The calls of DFDeques (N13) that C links, but for the turn, which has a crate of its own: on numbers and lent memory alone, each answering any input whatever. Beginning is AsyncDF's,
 // `wivakkol_begin`: the memory of the start is the same for both kinds of run. They stand in an archive of their own. include/wivakkol_deques.h has the prototypes.
-use run_memory::runs::Stop;
+use run_memory::replies::put_run;
 use stealing::runs::deque_list_in;
 ghost use mathlib.Core.Path.{_≡_};
-ghost use Rattle.run_memory.specs.Memory.{saidCode, answer};
+ghost use Rattle.run_memory.specs.Memory.{answer};
 ghost use Rattle.run_memory.specs.Blocks.{memoryOf};
-ghost use Rattle.wivakkol.specs.Lent.{saidOf, runRow};
 ghost use Rattle.wivakkol_deques.specs.DequeLent.{lentDequeList};
 
 pub mod limit;
 pub mod open;
-
-// what is said of a run, as a number
-const NOTHING: u64 = 0;
-
-const FINISHED: u64 = 6;
-
-const SPENT: u64 = 7;
-
-fn said(number: u32, finished: bool) -> u64
-    ensures { λ r. ⌜ r ≡ saidCode (saidOf number finished) ⌝ }
-{
-    if number != 0 {
-        return NOTHING;
-    }
-    if finished { FINISHED } else { SPENT }
-}
-
-// Puts what is said of a run into the row, and answers the refusal's number.
-fn put_run(row: &mut [u64; 3], stop: Stop) -> u32
-    ensures { λ r. ⌜ r ≡ stop .number ⌝ }
-    ensures { λ _. ⌜ now (row .exit) ≡ runRow (saidOf (stop .number) (stop .finished)) (stop .turns) ⌝ }
-{
-    *row = [0, said(stop.number, stop.finished), stop.turns];
-    stop.number
-}
 
 // A run over a list, two bytes a turn: worker and choice.
 #[no_mangle]

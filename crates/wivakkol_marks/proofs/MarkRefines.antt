@@ -28,7 +28,7 @@ use Rattle.array_machine.specs.Packed.{packedOf}
 use Rattle.run_memory.specs.Memory.{Memory, movedIn}
 use Rattle.run_memory.specs.Stands.{truths, workersIn, settled, runIn, Stands}
 use Rattle.run_memory.proofs.Refines.{workers-length}
-use Rattle.run_memory.proofs.Manned.{of-length, workers-back, truths-back}
+use Rattle.run_memory.proofs.WorkerRecords.{of-length, workers-back, truths-back}
 use Rattle.wivakkol.specs.Lent.{blankMemory}
 use Rattle.wivakkol.specs.Opened.{soundIn, blankIn, openedAs, lentOpen}
 use Rattle.wivakkol.proofs.Opens.{open-record, open-stands, tested-same, blank-record, blank-passes, blank-passed}

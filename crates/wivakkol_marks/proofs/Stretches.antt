@@ -15,7 +15,7 @@ use Rattle.table.specs.Sum.{pick}
 use Rattle.schedule.specs.declared.Worker.{Worker}
 use Rattle.run_memory.specs.Memory.{Memory}
 use Rattle.run_memory.specs.Blocks.{part, Bytes, Words, Numbers, Sums, gathered, memoryOf}
-use Rattle.run_memory.specs.Places.{manned, mannedWords, mannedNumbers}
+use Rattle.run_memory.specs.Places.{workerBytes, workerWords, workerNumbers}
 use Rattle.run_memory.specs.Stands.{workersFrom}
 use Rattle.run_memory.proofs.Copied.{paste-whole, part-paste, part-apart}
 use Rattle.wivakkol_marks.specs.LentMarks.{memoryAt, rowFrom, mended}
@@ -121,6 +121,6 @@ loads i b w n s eb ew en es e = e ∙ (λ k. mended (memoryOf (eb k) (ew k) (en 
 -- ---- the workers' records, written anew
 
 pub mends : (B : Bytes) (W : Words) (N : Numbers) (S : Sums) {ws : List Worker} {B' : Bytes} {W' : Words} {N' : Numbers} → ws ≡ workersFrom (B .holds) (W .threads) (N .quotas) 0 16
-    → B' ≡ manned ws B → W' ≡ mannedWords ws W → N' ≡ mannedNumbers ws N → gathered B' W' N' S ≡ mended (gathered B W N S)
+    → B' ≡ workerBytes ws B → W' ≡ workerWords ws W → N' ≡ workerNumbers ws N → gathered B' W' N' S ≡ mended (gathered B W N S)
 mends B W N S {ws} e b w n =
-    (λ i. gathered (b i) (w i) (n i) S) ∙ ap (λ (l : List Worker). gathered (manned l B) (mannedWords l W) (mannedNumbers l N) S) e
+    (λ i. gathered (b i) (w i) (n i) S) ∙ ap (λ (l : List Worker). gathered (workerBytes l B) (workerWords l W) (workerNumbers l N) S) e

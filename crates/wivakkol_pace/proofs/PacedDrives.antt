@@ -8,34 +8,17 @@ use borrow.Author.Tests.{eq-eqb, ne-eqb}
 use lib.Dec.{eqb}
 use lib.ListN.{length, getD}
 use Rattle.table.specs.Sum.{pick}
-use Rattle.table.specs.Format.{tableOf}
 use Rattle.schedule.specs.declared.Reply.the-variants.{Idle}
-use Rattle.array_machine.specs.Counted.{Left, turnOn}
 use Rattle.run_memory.specs.declared.runs.Stop.{Stop}
-use Rattle.run_memory.specs.Memory.{Memory, workerIn, movedIn, memoryAfter, Told, told, turnLeft, turnIn, answer}
-use Rattle.run_memory.specs.Runs.{Stopped, stopped, overIn}
+use Rattle.run_memory.specs.Memory.{Memory, movedIn, told, turnIn, saidOf, runRow, Answer, answer}
+use Rattle.run_memory.specs.Runs.{stopped, overIn}
+use Rattle.run_memory.proofs.Drives.{refused-same}
+use Rattle.run_memory.proofs.Stopping.{stopped-answers}
 use Rattle.pace.specs.Pace.{took, nextIn}
-use Rattle.wivakkol_pace.specs.Paced.{hindranceIn, heldBack, PacedTold, pacedTold, pacedIn, Kept, kept, pacedTurnBy}
-use Rattle.wivakkol_pace.specs.PacedRuns.{PacedStop, pacedStop, pacedWorker, pacedDrive, pacedRun, stopRow, keptAs, pacedList, pacedRounds}
+use Rattle.wivakkol_pace.specs.Paced.{heldBack, PacedTold, pacedTold, pacedIn, Kept, kept, pacedTurnBy}
+use Rattle.wivakkol_pace.specs.PacedRuns.{PacedStop, pacedStop, pacedWorker, pacedDrive, pacedRun, keptAs, pacedList, pacedRounds}
 
--- a turn that is refused moves nothing
-left-same : (M : Memory) (w : ℕ) (z : Left) → (turnLeft M w z .number ≡ 0 → ⊥) → turnLeft M w z .memory ≡ M
-unfolding turnLeft
-left-same M w z = go (z .fits)
-  where
-    go : (c : Bool) → let t : Told = pick c (told 0 (z .reply) (memoryAfter M w z)) (told 32 Idle M) in (t .number ≡ 0 → ⊥) → t .memory ≡ M
-    go true d = absurd (d refl)
-    go false d = refl
-
-pub refused-same : (s : List ℕ) (w : ℕ) (M : Memory) → (turnIn s w M .number ≡ 0 → ⊥) → turnIn s w M .memory ≡ M
-unfolding turnIn
-refused-same s w M = go (hindranceIn M w) (eqb (hindranceIn M w) 0) (turnOn (tableOf s) (getD (M .settings) 1 0) (M .parents) w (M .arrays) (movedIn M) (workerIn M w))
-  where
-    go : (n : ℕ) (b : Bool) (z : Left) → (pick b (turnLeft M w z) (told n Idle M) .number ≡ 0 → ⊥) → pick b (turnLeft M w z) (told n Idle M) .memory ≡ M
-    go n true z d = left-same M w z d
-    go n false z d = refl
-
--- nor does a paced turn, and the pace stays too
+-- a paced turn that is refused moves nothing, and the pace stays too
 pub paced-same : (s : List ℕ) (w : ℕ) (M : Memory) (P : List ℕ) → let t : PacedTold = pacedIn s w M P in
     (t .told .number ≡ 0 → ⊥) → (t .told .memory ≡ M) × (t .pace ≡ P)
 unfolding pacedIn
@@ -135,8 +118,8 @@ module _ (s : List ℕ) (who : ℕ → List ℕ → ℕ) (limit : ℕ) (M : Memo
 
 -- where a run stopped is put into the row
 pub put : {x : Stop} {M : Memory} {P : List ℕ} {d : PacedStop} {number : ℕ} {row : List ℕ} → pacedStop (stopped (x .number) (x .finished) (x .turns) M) P ≡ d
-    → number ≡ x .number → row ≡ stopRow (x .number) (x .finished) (x .turns) → kept (answer number row M) P ≡ keptAs d
-put {M = M} {P = P} e n r = (λ i. kept (answer (n i) (r i) M) P) ∙ ap keptAs e
+    → number ≡ x .number → row ≡ runRow (saidOf (x .number) (x .finished)) (x .turns) → kept (answer number row M) P ≡ keptAs d
+put {M = M} {P = P} e n r = ap (λ (a : Answer). kept a P) (stopped-answers refl n r) ∙ ap keptAs e
 
 pub list-is : (s l : List ℕ) (M : Memory) (P : List ℕ) → keptAs (pacedRun s (pacedWorker l false) (length l) M P) ≡ pacedList s l M P
 unfolding pacedList

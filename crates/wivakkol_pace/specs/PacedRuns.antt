@@ -1,13 +1,12 @@
 -- Paced runs over a list of workers and in rounds: the paced turn again and again, up to the first refusal, 60 included, and its turns before that stay taken.
 use Prim.Native.Nat.{ℕ, zero, suc, _-_, _^_}
-use mathlib.Core.List.{List, [], _∷_}
+use mathlib.Core.List.{List, []}
 use mathlib.Core.Bool.{Bool, true, false}
 use lib.ListN.{length, getD}
 use lib.Dec.{eqb}
 use Rattle.table.specs.Sum.{pick}
-use Rattle.schedule.specs.Answers.{nothing, finished, spent}
-use Rattle.run_memory.specs.Memory.{Memory, movedIn, saidCode, answer}
-use Rattle.run_memory.specs.Runs.{Stopped, stopped, overIn}
+use Rattle.run_memory.specs.Memory.{Memory, movedIn}
+use Rattle.run_memory.specs.Runs.{Stopped, stopped, overIn, stoppedAs}
 use Rattle.pace.specs.Pace.{nextIn}
 use Rattle.wivakkol_pace.specs.Paced.{PacedTold, pacedIn, Kept, kept}
 
@@ -37,16 +36,9 @@ pacedRun s who limit M P = pick (eqb (movedIn M .turns) (2 ^ 64 - 1)) (pacedStop
 
 -- ---- the calls
 
--- what is said of where a run stopped, as of a run without a pace
-abbrev pub saidCodeOf : ℕ → Bool → ℕ
-saidCodeOf number over = saidCode (pick (eqb number 0) (pick over finished spent) nothing)
-
--- place, what is said, and the turns taken
-abbrev pub stopRow : ℕ → Bool → ℕ → List ℕ
-stopRow number over turns = 0 ∷ saidCodeOf number over ∷ turns ∷ []
-
+-- as of a run without a pace
 abbrev pub keptAs : PacedStop → Kept
-keptAs d = kept (answer (d .stop .number) (stopRow (d .stop .number) (d .stop .finished) (d .stop .turns)) (d .stop .memory)) (d .pace)
+keptAs d = kept (stoppedAs (d .stop)) (d .pace)
 
 -- over a list of workers
 unfoldable pub pacedList : List ℕ → List ℕ → Memory → List ℕ → Kept

@@ -4,6 +4,7 @@ use pace::next;
 use run_memory::places::TURNS;
 use run_memory::places::status_at;
 use run_memory::places::total_at;
+use run_memory::replies::put_run;
 use run_memory::runs::Stop;
 use schedule::statuses::ENDED;
 use table::read::byte;
@@ -17,7 +18,7 @@ ghost use Rattle.run_memory.specs.Memory.{answer};
 ghost use Rattle.run_memory.specs.Blocks.{bytesIn, memoryOf};
 ghost use Rattle.run_memory.specs.Runs.{stopped};
 ghost use Rattle.wivakkol_pace.specs.Paced.{kept};
-ghost use Rattle.wivakkol_pace.specs.PacedRuns.{saidCodeOf, stopRow, pacedStop, pacedWorker, pacedDrive, pacedRun, pacedList, pacedRounds};
+ghost use Rattle.wivakkol_pace.specs.PacedRuns.{pacedStop, pacedWorker, pacedDrive, pacedRun, pacedList, pacedRounds};
 
 // A refusal after i turns.
 fn refused(number: u32, i: usize) -> Stop
@@ -119,31 +120,6 @@ fn run(
         sums,
         pace,
     )
-}
-
-// what is said of a run, as a number
-const NOTHING: u64 = 0;
-
-const FINISHED: u64 = 6;
-
-const SPENT: u64 = 7;
-
-fn said(number: u32, finished: bool) -> u64
-    ensures { λ r. ⌜ r ≡ saidCodeOf number finished ⌝ }
-{
-    if number != 0 {
-        return NOTHING;
-    }
-    if finished { FINISHED } else { SPENT }
-}
-
-// Puts what is said of a run into the row, and answers the refusal's number.
-fn put_run(row: &mut [u64; 3], stop: Stop) -> u32
-    ensures { λ r. ⌜ r ≡ stop .number ⌝ }
-    ensures { λ _. ⌜ now (row .exit) ≡ stopRow (stop .number) (stop .finished) (stop .turns) ⌝ }
-{
-    *row = [0, said(stop.number, stop.finished), stop.turns];
-    stop.number
 }
 
 // A paced run over a list of workers.

@@ -17,7 +17,8 @@ use Rattle.stealing.specs.StealingMemory.{dequeTakenIn}
 use Rattle.stealing.specs.Code.{Going, stolenOn}
 use Rattle.run_memory.proofs.Takes.{codes, arguments}
 use Rattle.stealing.proofs.Goes.{spoke, counted-as}
-use Rattle.stealing.proofs.Steals.{Roomy, roomy, asked-room, ready-read, without-room, too-far, idles, steal-unfit, steals, stolen-going}
+use Rattle.run_memory.proofs.Takes.{asked-room}
+use Rattle.stealing.proofs.Steals.{Roomy, roomy, ready-read, without-room, too-far, idles, steal-unfit, steals, stolen-going}
 use borrow.Author.Needs.{needs}
 use Rattle.stealing.proofs.take.Statement.{statement}
 use Rattle.stealing.proofs.take.Tie as tie

@@ -34,16 +34,16 @@ module _ (r : DequeRun) where
 table-size : (c : tie.Start) → length (c .args .run .run .table) ≡ 36868
 table-size c = search needs
 
-slice-aggregate-rest-zero : tie.Need-slice-aggregate-rest-zero
-slice-aggregate-rest-zero c = sym (table-size (c .before .before .before))
+slice-aggregate-bytes-rest : tie.Need-slice-aggregate-bytes-rest
+slice-aggregate-bytes-rest c = sym (table-size (c .before .before .before))
 
-rest-zero-requires : tie.Need-rest-zero-requires
-rest-zero-requires c κs = search needs
+bytes-rest-requires : tie.Need-bytes-rest-requires
+bytes-rest-requires c κs = search needs
 
-zeros : (c : tie.After-rest-zero) → let s = c .before .before .before .before in c .rest-zero .result ≡ zero-table (s .args .run)
+zeros : (c : tie.After-bytes-rest) → let s = c .before .before .before .before in c .bytes-rest .result ≡ zero-table (s .args .run)
 zeros c =
     let s = c .before .before .before .before in
-    sized (s .args .run) (table-size s) (c .rest-zero .ensures)
+    sized (s .args .run) (table-size s) (c .bytes-rest .ensures)
 
 returns : tie.Need-returns
 returns c =
@@ -70,8 +70,8 @@ pub is-blank-spec : {M : Type 1} → statement M
 is-blank-spec =
     tie.close
     (tie.spec
-    slice-aggregate-rest-zero
-    rest-zero-requires
+    slice-aggregate-bytes-rest
+    bytes-rest-requires
     returns
     returns-2
     deque-blank-in-requires

@@ -4,6 +4,8 @@ use Prim.Native.Nat.{ℕ, _≤_}
 use mathlib.Core.List.{List}
 use native.Mathlib.Omega.{arith}
 use borrow.Author.Needs.{needs}
+use lib.ListN.{length}
+use lib.Seq.{length-take-le}
 use Rattle.table.specs.Format.{threadsOf, actionsOf}
 use Rattle.table.proofs.Sizes.{Sizes, sizes}
 use Rattle.schedule.specs.declared.Begun.{Begun}
@@ -58,8 +60,22 @@ returns c =
 enum-told : tie.Need-enum-told
 enum-told c = search needs
 
+cast-length : tie.Need-cast-length
+cast-length c = search needs
+
+table-size : (c : tie.After-bytes) → length (c .before .before .before .before .before .begin .result .run .table) ≡ 36868
+table-size c = search needs
+
+array-share-prefix-bytes : tie.Need-array-share-prefix-bytes
+array-share-prefix-bytes c =
+    let t = c .before .before .before in
+    omega (arith, begun-small _ _ _ (t .before .before .begin .ensures .0) (t .enum-told .given .1), table-size c)
+
+slice-aggregate-put-header : tie.Need-slice-aggregate-put-header
+slice-aggregate-put-header c = sym (length-take-le _ _ (array-share-prefix-bytes (c .before)))
+
 put-header-requires : tie.Need-put-header-requires
-put-header-requires c κs = begun-small _ _ _ (c .before .before .before .before .begin .ensures .0) (c .before .before .enum-told .given .1)
+put-header-requires c κs = search needs
 
 list-turns-requires : tie.Need-list-turns-requires
 list-turns-requires c κs = search needs
@@ -71,8 +87,9 @@ returns-2 : tie.Need-returns-2
 unfolding listedBy
 returns-2 c =
     let p = c .before .before .before .before .before .before in
-    let b = p .before .before .before .before .before in
-    let begins = p .before .before .before .enum-told .given .1 in
+    let t = p .before .before .before .before .before .before in
+    let b = t .before .before in
+    let begins = t .enum-told .given .1 in
     let turns = rw (begun-listed _ _ _ _ (b .begin .ensures .0) begins) at (c .before .before .list-turns .ensures) in
     rw (← b .begin .ensures .0, begins) (puts-within (omega arith) (puts-more (p .put-header .ensures) turns))
 
@@ -86,6 +103,9 @@ put-listing-spec =
     same-length
     returns
     enum-told
+    cast-length
+    array-share-prefix-bytes
+    slice-aggregate-put-header
     put-header-requires
     list-turns-requires
     same-length-2

@@ -4,7 +4,7 @@ use denote.Ref.{now}
 use lib.ListN.{length}
 use borrow.Author.Needs.{needs}
 use Rattle.run_memory.specs.Blocks.{bytesIn, wordsIn, numbersIn}
-use Rattle.run_memory.proofs.Copied.{manned-laid, manned-words-laid, manned-numbers-laid}
+use Rattle.run_memory.proofs.Copied.{worker-bytes-laid, worker-words-laid, worker-numbers-laid}
 use Rattle.run_memory.proofs.copies.copy_workers.Statement.{statement}
 use Rattle.run_memory.proofs.copies.copy_workers.Tie as tie
 
@@ -30,8 +30,8 @@ returns c =
     let e = c .copy-workers-in .ensures in
     let z = worker-size b in
     let a = b .before .before .before .args in (
-      ap bytesIn (e .0) ∙ manned-laid (a .workers) z (now (a .bytes)) (bytes-size b),
-      (ap wordsIn (e .1 .0) ∙ manned-words-laid (a .workers) z (now (a .words)) (words-size b), ap numbersIn (e .1 .1) ∙ manned-numbers-laid (a .workers) z (now (a .numbers)) (numbers-size b)),
+      ap bytesIn (e .0) ∙ worker-bytes-laid (a .workers) z (now (a .bytes)) (bytes-size b),
+      (ap wordsIn (e .1 .0) ∙ worker-words-laid (a .workers) z (now (a .words)) (words-size b), ap numbersIn (e .1 .1) ∙ worker-numbers-laid (a .workers) z (now (a .numbers)) (numbers-size b)),
     )
 
 pub copy-workers-spec : {M : Type 1} → statement M

@@ -3,7 +3,8 @@ use mathlib.Core.Path.{sym, _∙_}
 use denote.Ref.{now}
 use Rattle.run_memory.specs.Memory.{Memory}
 use Rattle.run_memory.specs.Blocks.{memoryOf}
-use Rattle.stealing.proofs.PairDrives.{stopped-as, full-list, driven-list}
+use Rattle.run_memory.proofs.Drives.{stopped-as}
+use Rattle.stealing.proofs.PairDrives.{full-list, driven-list}
 use borrow.Author.Needs.{needs}
 use Rattle.stealing.proofs.runs.deque_list_in.Statement.{statement}
 use Rattle.stealing.proofs.runs.deque_list_in.Tie as tie

@@ -9,7 +9,8 @@ use lib.ListN.{length}
 use Rattle.run_memory.specs.Memory.{Memory}
 use Rattle.run_memory.specs.Blocks.{memoryOf}
 use Rattle.deques.specs.DequeRuns.{pairAt}
-use Rattle.stealing.proofs.PairDrives.{Along, first-along, stopped-as, spent, root-stops, hindered, again, worker-read, choice-read}
+use Rattle.run_memory.proofs.Drives.{stopped-as}
+use Rattle.stealing.proofs.PairDrives.{Along, first-along, spent, root-stops, hindered, again, worker-read, choice-read}
 use Rattle.stealing.proofs.runs.drive.Statement.{statement}
 use Rattle.stealing.proofs.runs.drive.Tie as tie
 

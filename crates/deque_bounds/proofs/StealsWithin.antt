@@ -13,65 +13,65 @@ use Rattle.table.specs.Nested.{nest}
 use Rattle.schedule.specs.Machine.{State, ended, nextOf, statusOf}
 use Rattle.deques.specs.Deques.{Deque, bottom}
 use Rattle.deques.specs.Lines.{line}
-use Rattle.deque_bounds.proofs.Lines.{Live, Lonely, Parted, Chained}
-use Rattle.deque_bounds.proofs.Upright.{heldBy}
+use Rattle.deque_bounds.proofs.Lines.{Live, NoLiveChildBut, Parted, Chained}
+use Rattle.deque_bounds.proofs.SerialLines.{heldBy}
 
 -- the next action is no join of a child not ended
 unfoldable pub Able : Table → State → ℕ → Type 0
 Able T st t = kind T (nextOf st t) ≡ join → statusOf st (T .argument (nextOf st t)) ≡ ended
 
-unfoldable pub Owes : Table → ℕ → ℕ → (ℕ → ℕ) → State → ℕ → ℕ → ℕ → Type 0
-Owes T B leaps J st last slack t = Able T st t → J (nextOf st t) + B + B + 1 ≤ B * level T (nextOf st t) + nest T last + leaps + slack
+unfoldable pub ThreadWithin : Table → ℕ → ℕ → (ℕ → ℕ) → State → ℕ → ℕ → ℕ → Type 0
+ThreadWithin T B leaps J st last slack t = Able T st t → J (nextOf st t) + B + B + 1 ≤ B * level T (nextOf st t) + nest T last + leaps + slack
 
-unfoldable pub Heavy : Table → ℕ → ℕ → (ℕ → ℕ) → State → ℕ → List ℕ → Type 0
-Heavy T B leaps J st slack [] = Unit {0}
-Heavy T B leaps J st slack (t ∷ k) = Owes T B leaps J st (bottom (t ∷ k)) slack t × ((y : ℕ) → List·Memᴰ y k → Owes T B leaps J st (bottom (t ∷ k)) 0 y)
+unfoldable pub LineWithin : Table → ℕ → ℕ → (ℕ → ℕ) → State → ℕ → List ℕ → Type 0
+LineWithin T B leaps J st slack [] = Unit {0}
+LineWithin T B leaps J st slack (t ∷ k) = ThreadWithin T B leaps J st (bottom (t ∷ k)) slack t × ((y : ℕ) → List·Memᴰ y k → ThreadWithin T B leaps J st (bottom (t ∷ k)) 0 y)
 
 abbrev pub slackOf : ℕ → (ℕ → ℕ) → Deque → ℕ
 slackOf B old d = pick (ltb (d .owner) 16) (old (d .owner)) B
 
-unfoldable pub AllHeavy : Table → ℕ → ℕ → (ℕ → ℕ) → (ℕ → ℕ) → State → List Deque → Type 0
-AllHeavy T B leaps J old st [] = Unit {0}
-AllHeavy T B leaps J old st (d ∷ ds) = Heavy T B leaps J st (slackOf B old d) (line (heldBy st) d) × AllHeavy T B leaps J old st ds
+unfoldable pub LinesWithin : Table → ℕ → ℕ → (ℕ → ℕ) → (ℕ → ℕ) → State → List Deque → Type 0
+LinesWithin T B leaps J old st [] = Unit {0}
+LinesWithin T B leaps J old st (d ∷ ds) = LineWithin T B leaps J st (slackOf B old d) (line (heldBy st) d) × LinesWithin T B leaps J old st ds
 
 -- ---- lists
 
 module _ (T : Table) (B leaps : ℕ) (J old : ℕ → ℕ) (st : State) where
-  pub heavy-append : (A C : List Deque) → AllHeavy T B leaps J old st A → AllHeavy T B leaps J old st C → AllHeavy T B leaps J old st (A ++ C)
-  unfolding AllHeavy
-  heavy-append [] C a b = b
-  heavy-append (d ∷ A) C a b = (a .0, heavy-append A C (a .1) b)
+  pub lines-within-append : (A C : List Deque) → LinesWithin T B leaps J old st A → LinesWithin T B leaps J old st C → LinesWithin T B leaps J old st (A ++ C)
+  unfolding LinesWithin
+  lines-within-append [] C a b = b
+  lines-within-append (d ∷ A) C a b = (a .0, lines-within-append A C (a .1) b)
 
-  pub heavy-split : (A C : List Deque) → AllHeavy T B leaps J old st (A ++ C) → AllHeavy T B leaps J old st A × AllHeavy T B leaps J old st C
-  unfolding AllHeavy
-  heavy-split [] C a = (tt, a)
-  heavy-split (d ∷ A) C a = let z = heavy-split A C (a .1) in ((a .0, z .0), z .1)
+  pub lines-within-split : (A C : List Deque) → LinesWithin T B leaps J old st (A ++ C) → LinesWithin T B leaps J old st A × LinesWithin T B leaps J old st C
+  unfolding LinesWithin
+  lines-within-split [] C a = (tt, a)
+  lines-within-split (d ∷ A) C a = let z = lines-within-split A C (a .1) in ((a .0, z .0), z .1)
 
-  pub heavy-head : (d : Deque) (A : List Deque) → AllHeavy T B leaps J old st (d ∷ A) → Heavy T B leaps J st (slackOf B old d) (line (heldBy st) d) × AllHeavy T B leaps J old st A
-  unfolding AllHeavy
-  heavy-head d A a = a
+  pub lines-within-head : (d : Deque) (A : List Deque) → LinesWithin T B leaps J old st (d ∷ A) → LineWithin T B leaps J st (slackOf B old d) (line (heldBy st) d) × LinesWithin T B leaps J old st A
+  unfolding LinesWithin
+  lines-within-head d A a = a
 
-  pub heavy-cons : (d : Deque) (A : List Deque) → Heavy T B leaps J st (slackOf B old d) (line (heldBy st) d) → AllHeavy T B leaps J old st A → AllHeavy T B leaps J old st (d ∷ A)
-  unfolding AllHeavy
-  heavy-cons d A a b = (a, b)
+  pub lines-within-cons : (d : Deque) (A : List Deque) → LineWithin T B leaps J st (slackOf B old d) (line (heldBy st) d) → LinesWithin T B leaps J old st A → LinesWithin T B leaps J old st (d ∷ A)
+  unfolding LinesWithin
+  lines-within-cons d A a b = (a, b)
 
-  pub heavy-none : AllHeavy T B leaps J old st []
-  unfolding AllHeavy
-  heavy-none = tt
+  pub lines-within-none : LinesWithin T B leaps J old st []
+  unfolding LinesWithin
+  lines-within-none = tt
 
-  pub heavy-top : (slack t : ℕ) (k : List ℕ) → Heavy T B leaps J st slack (t ∷ k) → Owes T B leaps J st (bottom (t ∷ k)) slack t × ((y : ℕ) → List·Memᴰ y k → Owes T B leaps J st (bottom (t ∷ k)) 0 y)
-  unfolding Heavy
-  heavy-top slack t k h = h
+  pub line-within-top : (slack t : ℕ) (k : List ℕ) → LineWithin T B leaps J st slack (t ∷ k) → ThreadWithin T B leaps J st (bottom (t ∷ k)) slack t × ((y : ℕ) → List·Memᴰ y k → ThreadWithin T B leaps J st (bottom (t ∷ k)) 0 y)
+  unfolding LineWithin
+  line-within-top slack t k h = h
 
-  pub top-heavy : (slack t : ℕ) (k : List ℕ) → Owes T B leaps J st (bottom (t ∷ k)) slack t → ((y : ℕ) → List·Memᴰ y k → Owes T B leaps J st (bottom (t ∷ k)) 0 y) → Heavy T B leaps J st slack (t ∷ k)
-  unfolding Heavy
-  top-heavy slack t k a b = (a, b)
+  pub top-line-within : (slack t : ℕ) (k : List ℕ) → ThreadWithin T B leaps J st (bottom (t ∷ k)) slack t → ((y : ℕ) → List·Memᴰ y k → ThreadWithin T B leaps J st (bottom (t ∷ k)) 0 y) → LineWithin T B leaps J st slack (t ∷ k)
+  unfolding LineWithin
+  top-line-within slack t k a b = (a, b)
 
 -- a parent of t that stands in a line without t stands at its end, and was parted from t
 module _ (T : Table) (J : ℕ → ℕ) (st : State) (t x : ℕ) (within : x < T .actions) (forks : kind T x ≡ fork) (names : T .argument x ≡ t) (alive : Live st t) where
   pub parent-last : (e : ℕ) (L : List ℕ) → (e ≡ t → ⊥) → ((v : ℕ) → List·Memᴰ v L → v ≡ t → ⊥) → List·Memᴰ (owner T x) L → Chained T J st e L
       → (bottom L ≡ owner T x) × (suc (J (nextOf st (owner T x))) ≤ J (endOf T t))
-  unfolding Chained Lonely Parted bottom
+  unfolding Chained NoLiveChildBut Parted bottom
   parent-last e [] n a m c = absurd (List·Memᴰ·not-nil m)
   parent-last e (z ∷ []) n a m c = go (List·Memᴰ·cases-cons m)
     where

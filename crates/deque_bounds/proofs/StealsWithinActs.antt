@@ -32,11 +32,12 @@ use Rattle.deques.proofs.Flat.{lines-append}
 use Rattle.deque_bounds.proofs.Lines.{Live, Parted, Chained, Moved}
 use Rattle.deque_bounds.proofs.LineMoves.{some-child}
 use Rattle.deque_bounds.proofs.Between.{join-forks}
-use Rattle.deque_bounds.proofs.Went.{Went, stays, forks, pops, drops, leaves, wakes, stops}
-use Rattle.deque_bounds.proofs.Upright.{heldBy, AllLines, Upright, standing}
-use Rattle.deque_bounds.proofs.UprightActs as Acts
-use Rattle.deque_bounds.proofs.UprightActs.{wait-empty, wake-empty}
-use Rattle.deque_bounds.proofs.Weights.{Able, Owes, Heavy, slackOf, AllHeavy, heavy-append, heavy-split, heavy-head, heavy-cons, heavy-top, top-heavy, parent-last}
+use Rattle.deque_bounds.proofs.ActionLeaves.{ActionLeaves, stays, forks, pops, drops, leaves, wakes, stops}
+use Rattle.deque_bounds.proofs.SerialLines.{heldBy, AllLines, SerialLines}
+use Rattle.deques.proofs.Standing.{standing}
+use Rattle.deque_bounds.proofs.SerialLinesActs as Acts
+use Rattle.deque_bounds.proofs.SerialLinesActs.{wait-empty, wake-empty}
+use Rattle.deque_bounds.proofs.StealsWithin.{Able, ThreadWithin, LineWithin, slackOf, LinesWithin, lines-within-append, lines-within-split, lines-within-head, lines-within-cons, line-within-top, top-line-within, parent-last}
 use Rattle.deque_bounds.proofs.Lines.{line-nest}
 use Rattle.table.specs.Level.{level, dependsOn}
 use Rattle.table.proofs.Tests.{is-true, same-is}
@@ -48,15 +49,15 @@ use Rattle.order.proofs.Numbers.{number-depends}
 use Rattle.schedule.proofs.Sound.Done.{done-ended, ended-all}
 use native.Mathlib.Nat.{mul-suc, mul-le-mul-left}
 
-pub owes-is : (T : Table) (B leaps : ℕ) (J : ℕ → ℕ) (st : State) (last slack t : ℕ) → Owes T B leaps J st last slack t
+pub thread-within-is : (T : Table) (B leaps : ℕ) (J : ℕ → ℕ) (st : State) (last slack t : ℕ) → ThreadWithin T B leaps J st last slack t
     → Able T st t → J (nextOf st t) + B + B + 1 ≤ B * level T (nextOf st t) + nest T last + leaps + slack
-unfolding Owes
-owes-is T B leaps J st last slack t h = h
+unfolding ThreadWithin
+thread-within-is T B leaps J st last slack t h = h
 
-pub is-owes : (T : Table) (B leaps : ℕ) (J : ℕ → ℕ) (st : State) (last slack t : ℕ)
-    → (Able T st t → J (nextOf st t) + B + B + 1 ≤ B * level T (nextOf st t) + nest T last + leaps + slack) → Owes T B leaps J st last slack t
-unfolding Owes
-is-owes T B leaps J st last slack t h = h
+pub is-thread-within : (T : Table) (B leaps : ℕ) (J : ℕ → ℕ) (st : State) (last slack t : ℕ)
+    → (Able T st t → J (nextOf st t) + B + B + 1 ≤ B * level T (nextOf st t) + nest T last + leaps + slack) → ThreadWithin T B leaps J st last slack t
+unfolding ThreadWithin
+is-thread-within T B leaps J st last slack t h = h
 
 able-of : (T : Table) (st : State) (t : ℕ) → (kind T (nextOf st t) ≡ join → statusOf st (T .argument (nextOf st t)) ≡ ended) → Able T st t
 unfolding Able
@@ -71,9 +72,9 @@ unfolding bottom
 bottom-one t = refl
 
 module _ (T : Table) (l : Lawful T) (p K : ℕ) (few : p ≤ 16) (w : ℕ) (below : w < p) (far : ℕ) (J : ℕ → ℕ) (st : State) (front : List Deque) (k : List ℕ) (rest : List Deque)
-    (clear : ownedBy w front ≡ 0) (alone : ownedBy w rest ≡ 0) (I : Upright T p K far J (over st (front ++ deque w k ∷ rest))) (h : workerOf st w .holds ≡ true)
+    (clear : ownedBy w front ≡ 0) (alone : ownedBy w rest ≡ 0) (I : SerialLines T p K far J (over st (front ++ deque w k ∷ rest))) (h : workerOf st w .holds ≡ true)
     (B leaps : ℕ) (old new : ℕ → ℕ) (agree : (v : ℕ) → (v ≡ w → ⊥) → new v ≡ old v) (most : old w ≤ B)
-    (W : AllHeavy T B leaps J old st (front ++ deque w k ∷ rest)) where
+    (W : LinesWithin T B leaps J old st (front ++ deque w k ∷ rest)) where
   abbrev t : ℕ
   t = workerOf st w .thread
 
@@ -101,11 +102,11 @@ module _ (T : Table) (l : Lawful T) (p K : ℕ) (few : p ≤ 16) (w : ℕ) (belo
   alive : Live st t
   alive = ((λ e. omega (arith, X .taken, e)), (λ e. omega (arith, X .taken, e)))
 
-  parts : AllHeavy T B leaps J old st front × AllHeavy T B leaps J old st (deque w k ∷ rest)
-  parts = heavy-split T B leaps J old st front (deque w k ∷ rest) W
+  parts : LinesWithin T B leaps J old st front × LinesWithin T B leaps J old st (deque w k ∷ rest)
+  parts = lines-within-split T B leaps J old st front (deque w k ∷ rest) W
 
-  own-line : Heavy T B leaps J st (old w) (t ∷ k) × AllHeavy T B leaps J old st rest
-  own-line = rw (lt-ltb w 16 w16) at (heavy-head T B leaps J old st (deque w k) rest (parts .1))
+  own-line : LineWithin T B leaps J st (old w) (t ∷ k) × LinesWithin T B leaps J old st rest
+  own-line = rw (lt-ltb w 16 w16) at (lines-within-head T B leaps J old st (deque w k) rest (parts .1))
 
   chain : Chained T J st 0 (t ∷ k)
   chain = Acts.mine T l p K few w below far J st front k rest clear alone I h .0
@@ -115,7 +116,7 @@ module _ (T : Table) (l : Lawful T) (p K : ℕ) (few : p ≤ 16) (w : ℕ) (belo
 
   -- what t has
   credit : Able T st t → J a + B + B + 1 ≤ B * level T a + nest T last + leaps + B
-  credit e = omega (arith, owes-is T B leaps J st last (old w) t (heavy-top T B leaps J old st (old w) t k (own-line .0) .0) e, most)
+  credit e = omega (arith, thread-within-is T B leaps J st last (old w) t (line-within-top T B leaps J old st (old w) t k (own-line .0) .0) e, most)
 
   -- it pays for an action of a higher level
   pays : (z : ℕ) → Able T st t → J z ≤ J a → suc (level T a) ≤ level T z → J z + B + B + 1 ≤ B * level T z + nest T last + leaps
@@ -216,29 +217,29 @@ module _ (T : Table) (l : Lawful T) (p K : ℕ) (few : p ≤ 16) (w : ℕ) (belo
           subst (λ (z : ℕ). J (nextOf st y) + B + B + 1 ≤ B * level T (nextOf st y) + nest T z + leaps) (sym (u ∙ yo)) (fresh-parted v2)
 
     -- a thread other than t
-    owes-keeps : (y z slack : ℕ) → y < T .threads → (y ≡ t → ⊥) → (Fresh y → J (nextOf st y) + B + B + 1 ≤ B * level T (nextOf st y) + nest T z + leaps) → Owes T B leaps J st z slack y
-        → Owes T B leaps J s z slack y
-    owes-keeps y z slack i n fr o = is-owes T B leaps J s z slack y (λ e. go (able-back y i n e))
+    thread-within-keeps : (y z slack : ℕ) → y < T .threads → (y ≡ t → ⊥) → (Fresh y → J (nextOf st y) + B + B + 1 ≤ B * level T (nextOf st y) + nest T z + leaps) → ThreadWithin T B leaps J st z slack y
+        → ThreadWithin T B leaps J s z slack y
+    thread-within-keeps y z slack i n fr o = is-thread-within T B leaps J s z slack y (λ e. go (able-back y i n e))
       where
         same : nextOf s y ≡ nextOf st y
         same = m .next-others y n
 
         go : Able T st y ⊎ Fresh y → J (nextOf s y) + B + B + 1 ≤ B * level T (nextOf s y) + nest T z + leaps + slack
-        go (inl e) = rw same (owes-is T B leaps J st z slack y o e)
+        go (inl e) = rw same (thread-within-is T B leaps J st z slack y o e)
         go (inr e) = rw same (omega (arith, fr e))
 
-    line-keeps : (slack : ℕ) (L : List ℕ) → ((v : ℕ) → List·Memᴰ v L → v ≡ t → ⊥) → ((v : ℕ) → List·Memᴰ v L → v < T .threads) → Chained T J st 0 L → Heavy T B leaps J st slack L
-        → Heavy T B leaps J s slack L
-    unfolding Heavy
+    line-keeps : (slack : ℕ) (L : List ℕ) → ((v : ℕ) → List·Memᴰ v L → v ≡ t → ⊥) → ((v : ℕ) → List·Memᴰ v L → v < T .threads) → Chained T J st 0 L → LineWithin T B leaps J st slack L
+        → LineWithin T B leaps J s slack L
+    unfolding LineWithin
     line-keeps slack [] n i ch o = tt
     line-keeps slack (z ∷ L) n i ch o = (
-      owes-keeps z (bottom (z ∷ L)) slack (i z (List·Memᴰ·head refl)) (n z (List·Memᴰ·head refl)) (λ r. fresh-line z (i z (List·Memᴰ·head refl)) r (z ∷ L) n (List·Memᴰ·head refl) ch) (o .0),
-      (λ y e. owes-keeps y (bottom (z ∷ L)) 0 (i y (List·Memᴰ·tail e)) (n y (List·Memᴰ·tail e)) (λ r. fresh-line y (i y (List·Memᴰ·tail e)) r (z ∷ L) n (List·Memᴰ·tail e) ch) (o .1 y e)),
+      thread-within-keeps z (bottom (z ∷ L)) slack (i z (List·Memᴰ·head refl)) (n z (List·Memᴰ·head refl)) (λ r. fresh-line z (i z (List·Memᴰ·head refl)) r (z ∷ L) n (List·Memᴰ·head refl) ch) (o .0),
+      (λ y e. thread-within-keeps y (bottom (z ∷ L)) 0 (i y (List·Memᴰ·tail e)) (n y (List·Memᴰ·tail e)) (λ r. fresh-line y (i y (List·Memᴰ·tail e)) r (z ∷ L) n (List·Memᴰ·tail e) ch) (o .1 y e)),
     )
 
     all-keeps : (E : List Deque) → ownedBy w E ≡ 0 → ((v : ℕ) → List·Memᴰ v (linesOf (heldBy st) E) → v ≡ t → ⊥) → ((v : ℕ) → List·Memᴰ v (linesOf (heldBy st) E) → v < T .threads)
-        → AllLines T far J st E → AllHeavy T B leaps J old st E → AllHeavy T B leaps J new s E
-    unfolding AllHeavy AllLines ownedBy linesOf
+        → AllLines T far J st E → LinesWithin T B leaps J old st E → LinesWithin T B leaps J new s E
+    unfolding LinesWithin AllLines ownedBy linesOf
     all-keeps [] e n i ls o = tt
     all-keeps (d ∷ E) e n i ls o = go (eqb (d .owner) w) refl (all-keeps E)
       where
@@ -247,8 +248,8 @@ module _ (T : Table) (l : Lawful T) (p K : ℕ) (few : p ≤ 16) (w : ℕ) (belo
 
         go : (r : Bool) → eqb (d .owner) w ≡ r
             → (ownedBy w E ≡ 0 → ((v : ℕ) → List·Memᴰ v (linesOf (heldBy st) E) → v ≡ t → ⊥) → ((v : ℕ) → List·Memᴰ v (linesOf (heldBy st) E) → v < T .threads)
-            → AllLines T far J st E → AllHeavy T B leaps J old st E → AllHeavy T B leaps J new s E)
-            → Heavy T B leaps J s (slackOf B new d) (line (heldBy s) d) × AllHeavy T B leaps J new s E
+            → AllLines T far J st E → LinesWithin T B leaps J old st E → LinesWithin T B leaps J new s E)
+            → LineWithin T B leaps J s (slackOf B new d) (line (heldBy s) d) × LinesWithin T B leaps J new s E
         go true r ih = absurd (let z : 1 + ownedBy w E ≡ 0 = rw r at e in omega (arith, z))
         go false r ih =
             let z1 : heldBy s (d .owner) ≡ heldBy st (d .owner) = other r in
@@ -265,13 +266,13 @@ module _ (T : Table) (l : Lawful T) (p K : ℕ) (few : p ≤ 16) (w : ℕ) (belo
     unfolding linesOf
     lines-split = lines-append (heldBy st) front (deque w k ∷ rest)
 
-    front-keeps : AllHeavy T B leaps J new s front
+    front-keeps : LinesWithin T B leaps J new s front
     front-keeps =
         all-keeps front clear (Acts.apart-front T l p K few w below far J st front k rest clear alone I h)
         (λ v e. lines-low v (subst (λ (z : List ℕ). List·Memᴰ v z) (sym lines-split) (Memᴰ·append-left (line (heldBy st) (deque w k) ++ linesOf (heldBy st) rest) e)))
         (Acts.parts T l p K few w below far J st front k rest clear alone I h .0) (parts .0)
 
-    rest-keeps : AllHeavy T B leaps J new s rest
+    rest-keeps : LinesWithin T B leaps J new s rest
     rest-keeps =
         all-keeps rest alone (Acts.apart-rest T l p K few w below far J st front k rest clear alone I h)
         (λ v e. lines-low v (subst (λ (z : List ℕ). List·Memᴰ v z) (sym lines-split) (Memᴰ·append-right (linesOf (heldBy st) front) (Memᴰ·append-right (line (heldBy st) (deque w k)) e))))
@@ -281,26 +282,26 @@ module _ (T : Table) (l : Lawful T) (p K : ℕ) (few : p ≤ 16) (w : ℕ) (belo
     k-low y e = lines-low y (subst (λ (z : List ℕ). List·Memᴰ y z) (sym (Acts.lines-are T l p K few w below far J st front k rest clear alone I h)) (Memᴰ·append-right (linesOf (heldBy st) front) (List·Memᴰ·tail (Memᴰ·append-left (linesOf (heldBy st) rest) e))))
 
     -- the threads below t
-    under-keeps : (y : ℕ) → List·Memᴰ y k → Owes T B leaps J s last 0 y
+    under-keeps : (y : ℕ) → List·Memᴰ y k → ThreadWithin T B leaps J s last 0 y
     under-keeps y e =
-        owes-keeps y last 0 (k-low y e) (Acts.apart-k T l p K few w below far J st front k rest clear alone I h y e) (λ r. fresh-own y (k-low y e) r)
-        (heavy-top T B leaps J old st (old w) t k (own-line .0) .1 y e)
+        thread-within-keeps y last 0 (k-low y e) (Acts.apart-k T l p K few w below far J st front k rest clear alone I h y e) (λ r. fresh-own y (k-low y e) r)
+        (line-within-top T B leaps J old st (old w) t k (own-line .0) .1 y e)
 
     -- ---- the cases
 
-    put : (mid : Deque) (slack : ℕ) (L : List ℕ) → D .deques ≡ front ++ mid ∷ rest → slackOf B new mid ≡ slack → line (heldBy s) mid ≡ L → Heavy T B leaps J s slack L → AllHeavy T B leaps J new s (D .deques)
+    put : (mid : Deque) (slack : ℕ) (L : List ℕ) → D .deques ≡ front ++ mid ∷ rest → slackOf B new mid ≡ slack → line (heldBy s) mid ≡ L → LineWithin T B leaps J s slack L → LinesWithin T B leaps J new s (D .deques)
     put mid slack L e r i o =
-        subst (AllHeavy T B leaps J new s) (sym e)
-        (heavy-append T B leaps J new s front (mid ∷ rest) front-keeps
-        (heavy-cons T B leaps J new s mid rest (subst (λ (z : ℕ). Heavy T B leaps J s z (line (heldBy s) mid)) (sym r) (subst (Heavy T B leaps J s slack) (sym i) o)) rest-keeps))
+        subst (LinesWithin T B leaps J new s) (sym e)
+        (lines-within-append T B leaps J new s front (mid ∷ rest) front-keeps
+        (lines-within-cons T B leaps J new s mid rest (subst (λ (z : ℕ). LineWithin T B leaps J s z (line (heldBy s) mid)) (sym r) (subst (LineWithin T B leaps J s slack) (sym i) o)) rest-keeps))
 
     slack-w : (j : List ℕ) → slackOf B new (deque w j) ≡ new w
     slack-w j = rw (lt-ltb w 16 w16)
 
     -- t one action on
-    on : nextOf s t ≡ suc a → (kind T a ≡ end → ⊥) → isDone T s a ≡ true → (slack : ℕ) → Owes T B leaps J s last slack t
+    on : nextOf s t ≡ suc a → (kind T a ≡ end → ⊥) → isDone T s a ≡ true → (slack : ℕ) → ThreadWithin T B leaps J s last slack t
     on e n d slack =
-        is-owes T B leaps J s last slack t
+        is-thread-within T B leaps J s last slack t
         (λ z. rw e (omega (arith, pays (suc a) able (I .falls a (suc a) (omega (arith, rise))) (omega (arith, up)))))
       where
         no-ends : is end (kind T a) ≡ false
@@ -338,15 +339,15 @@ module _ (T : Table) (l : Lawful T) (p K : ℕ) (few : p ≤ 16) (w : ℕ) (belo
                     at (inl y) = y
                     at (inr y) = absurd (n (y .1))
 
-    owes-weaken : (z y slack : ℕ) → Owes T B leaps J s z 0 y → Owes T B leaps J s z slack y
-    owes-weaken z y slack o = is-owes T B leaps J s z slack y (λ e. omega (arith, owes-is T B leaps J s z 0 y o e))
+    thread-within-weaken : (z y slack : ℕ) → ThreadWithin T B leaps J s z 0 y → ThreadWithin T B leaps J s z slack y
+    thread-within-weaken z y slack o = is-thread-within T B leaps J s z slack y (λ e. omega (arith, thread-within-is T B leaps J s z 0 y o e))
 
     owned-line : (t2 : ℕ) (j : List ℕ) → heldBy s w ≡ t2 → line (heldBy s) (deque w j) ≡ t2 ∷ j
     owned-line t2 j e = rw (lt-ltb w 16 w16) (ap (λ (z : ℕ). z ∷ j) e)
 
-    at-stay : heldBy s w ≡ t → isDone T s a ≡ true → D .deques ≡ front ++ deque w k ∷ rest → nextOf s t ≡ suc a → AllHeavy T B leaps J new s (D .deques)
+    at-stay : heldBy s w ≡ t → isDone T s a ≡ true → D .deques ≡ front ++ deque w k ∷ rest → nextOf s t ≡ suc a → LinesWithin T B leaps J new s (D .deques)
     at-stay e d z y =
-        put (deque w k) (new w) (t ∷ k) z (slack-w k) (owned-line t k e) (top-heavy T B leaps J new s (new w) t k (on y no-ends d (new w)) under-keeps)
+        put (deque w k) (new w) (t ∷ k) z (slack-w k) (owned-line t k e) (top-line-within T B leaps J new s (new w) t k (on y no-ends d (new w)) under-keeps)
       where
         no-ends : kind T a ≡ end → ⊥
         no-ends n =
@@ -354,11 +355,11 @@ module _ (T : Table) (l : Lawful T) (p K : ℕ) (few : p ≤ 16) (w : ℕ) (belo
             let h1 : nextOf s t ≤ endOf T t = g .next-high t (X .thread) in
             omega (arith, r, h1, y)
 
-    at-fork : kind T a ≡ fork → heldBy s w ≡ T .argument a → nextOf s t ≡ suc a → isDone T s a ≡ true → D .deques ≡ front ++ deque w (t ∷ k) ∷ rest → AllHeavy T B leaps J new s (D .deques)
+    at-fork : kind T a ≡ fork → heldBy s w ≡ T .argument a → nextOf s t ≡ suc a → isDone T s a ≡ true → D .deques ≡ front ++ deque w (t ∷ k) ∷ rest → LinesWithin T B leaps J new s (D .deques)
     at-fork n e y d z =
         put (deque w (t ∷ k)) (new w) (x ∷ t ∷ k) z (slack-w (t ∷ k)) (owned-line x (t ∷ k) e)
-        (top-heavy T B leaps J new s (new w) x (t ∷ k) (subst (λ (b : ℕ). Owes T B leaps J s b (new w) x) (sym (bottom-under x t k)) child)
-        (λ u i. subst (λ (b : ℕ). Owes T B leaps J s b 0 u) (sym (bottom-under x t k)) (under u (List·Memᴰ·cases-cons i))))
+        (top-line-within T B leaps J new s (new w) x (t ∷ k) (subst (λ (b : ℕ). ThreadWithin T B leaps J s b (new w) x) (sym (bottom-under x t k)) child)
+        (λ u i. subst (λ (b : ℕ). ThreadWithin T B leaps J s b 0 u) (sym (bottom-under x t k)) (under u (List·Memᴰ·cases-cons i))))
       where
         x : ℕ
         x = T .argument a
@@ -374,9 +375,9 @@ module _ (T : Table) (l : Lawful T) (p K : ℕ) (few : p ≤ 16) (w : ℕ) (belo
         able : Able T st t
         able = able-of T st t (λ j. no-way cc)
 
-        child : Owes T B leaps J s last (new w) x
+        child : ThreadWithin T B leaps J s last (new w) x
         child =
-            is-owes T B leaps J s last (new w) x
+            is-thread-within T B leaps J s last (new w) x
             (λ r. rw first
             (omega (
               arith,
@@ -384,29 +385,29 @@ module _ (T : Table) (l : Lawful T) (p K : ℕ) (few : p ≤ 16) (w : ℕ) (belo
                   (omega (arith, level-child T (l .contents) (l .bodies) (l .nesting) (l .forking) a (X .action) n)),
             )))
 
-        under : (u : ℕ) → (u ≡ t) ⊎ List·Memᴰ u k → Owes T B leaps J s last 0 u
-        under u (inl r) = subst (λ (b : ℕ). Owes T B leaps J s last 0 b) (sym r) (on y (λ b. no-way cc) d 0)
+        under : (u : ℕ) → (u ≡ t) ⊎ List·Memᴰ u k → ThreadWithin T B leaps J s last 0 u
+        under u (inl r) = subst (λ (b : ℕ). ThreadWithin T B leaps J s last 0 b) (sym r) (on y (λ b. no-way cc) d 0)
         under u (inr r) = under-keeps u r
 
-    at-pop : (t2 : ℕ) (j : List ℕ) → k ≡ t2 ∷ j → heldBy s w ≡ t2 → D .deques ≡ front ++ deque w j ∷ rest → AllHeavy T B leaps J new s (D .deques)
+    at-pop : (t2 : ℕ) (j : List ℕ) → k ≡ t2 ∷ j → heldBy s w ≡ t2 → D .deques ≡ front ++ deque w j ∷ rest → LinesWithin T B leaps J new s (D .deques)
     at-pop t2 j e i z =
         put (deque w j) (new w) (t2 ∷ j) z (slack-w j) (owned-line t2 j i)
-        (top-heavy T B leaps J new s (new w) t2 j (owes-weaken (bottom (t2 ∷ j)) t2 (new w) (owes t2 (List·Memᴰ·head refl))) (λ y r. owes y (List·Memᴰ·tail r)))
+        (top-line-within T B leaps J new s (new w) t2 j (thread-within-weaken (bottom (t2 ∷ j)) t2 (new w) (thread-within t2 (List·Memᴰ·head refl))) (λ y r. thread-within y (List·Memᴰ·tail r)))
       where
         same : last ≡ bottom (t2 ∷ j)
         same = ap (λ (b : List ℕ). bottom (t ∷ b)) e ∙ bottom-under t t2 j
 
-        owes : (y : ℕ) → List·Memᴰ y (t2 ∷ j) → Owes T B leaps J s (bottom (t2 ∷ j)) 0 y
-        owes y r = subst (λ (b : ℕ). Owes T B leaps J s b 0 y) same (under-keeps y (subst (λ (b : List ℕ). List·Memᴰ y b) (sym e) r))
+        thread-within : (y : ℕ) → List·Memᴰ y (t2 ∷ j) → ThreadWithin T B leaps J s (bottom (t2 ∷ j)) 0 y
+        thread-within y r = subst (λ (b : ℕ). ThreadWithin T B leaps J s b 0 y) same (under-keeps y (subst (λ (b : List ℕ). List·Memᴰ y b) (sym e) r))
 
-    at-leave : D .deques ≡ front ++ rest → AllHeavy T B leaps J new s (D .deques)
-    at-leave e = subst (AllHeavy T B leaps J new s) (sym e) (heavy-append T B leaps J new s front rest front-keeps rest-keeps)
+    at-leave : D .deques ≡ front ++ rest → LinesWithin T B leaps J new s (D .deques)
+    at-leave e = subst (LinesWithin T B leaps J new s) (sym e) (lines-within-append T B leaps J new s front rest front-keeps rest-keeps)
 
-    at-wake : (u : ℕ) → u < T .threads → statusOf st u ≡ waiting → awaited T st u ≡ t → kind T a ≡ end → heldBy s w ≡ u → D .deques ≡ front ++ deque w k ∷ rest → AllHeavy T B leaps J new s (D .deques)
+    at-wake : (u : ℕ) → u < T .threads → statusOf st u ≡ waiting → awaited T st u ≡ t → kind T a ≡ end → heldBy s w ≡ u → D .deques ≡ front ++ deque w k ∷ rest → LinesWithin T B leaps J new s (D .deques)
     unfolding Fresh Parted
     at-wake u ub uw ua n i z =
         put (deque w k) (new w) (u ∷ []) z (slack-w k) (owned-line u k i ∙ ap (λ (b : List ℕ). u ∷ b) empty)
-        (top-heavy T B leaps J new s (new w) u [] (subst (λ (b : ℕ). Owes T B leaps J s b (new w) u) (sym (bottom-one u)) woke) (λ y r. absurd (List·Memᴰ·not-nil r)))
+        (top-line-within T B leaps J new s (new w) u [] (subst (λ (b : ℕ). ThreadWithin T B leaps J s b (new w) u) (sym (bottom-one u)) woke) (λ y r. absurd (List·Memᴰ·not-nil r)))
       where
         empty : k ≡ []
         empty = wake-empty T l p K few w below far J st front k rest clear alone I h u ub uw ua
@@ -422,14 +423,14 @@ module _ (T : Table) (l : Lawful T) (p K : ℕ) (few : p ≤ 16) (w : ℕ) (belo
             I .waiters u ub uw x xb xk (xo ∙ owner-of-next T l p K (withSerial T l st) f u ub) (subst (Live st) (sym (xn ∙ ua)) alive) (some-child T l x xb xk) in
             subst (λ (b : ℕ). suc (J (nextOf st u)) ≤ J (endOf T b)) (xn ∙ ua) r
 
-        woke : Owes T B leaps J s u (new w) u
-        woke = is-owes T B leaps J s u (new w) u (λ e. rw same (omega (arith, fresh-parted u ub (n, f .wait-join u ub uw, ua) parted)))
+        woke : ThreadWithin T B leaps J s u (new w) u
+        woke = is-thread-within T B leaps J s u (new w) u (λ e. rw same (omega (arith, fresh-parted u ub (n, f .wait-join u ub uw, ua) parted)))
 
-    at-stop : nextOf s t ≡ a → D .deques ≡ front ++ deque 16 (t ∷ k) ∷ rest → AllHeavy T B leaps J new s (D .deques)
+    at-stop : nextOf s t ≡ a → D .deques ≡ front ++ deque 16 (t ∷ k) ∷ rest → LinesWithin T B leaps J new s (D .deques)
     unfolding Able
     at-stop e z =
         put (deque 16 (t ∷ k)) B (t ∷ k) z refl refl
-        (top-heavy T B leaps J new s B t k (is-owes T B leaps J s last B t (λ r. rw e (credit (λ j. back j (r (ap (kind T) e ∙ j)))))) under-keeps)
+        (top-line-within T B leaps J new s B t k (is-thread-within T B leaps J s last B t (λ r. rw e (credit (λ j. back j (r (ap (kind T) e ∙ j)))))) under-keeps)
       where
         back : kind T a ≡ join → statusOf s (T .argument (nextOf s t)) ≡ ended → statusOf st (T .argument a) ≡ ended
         back j r = at (ended-back (T .argument a) (join-below T (l .contents) (l .bodies) a (X .action) j) (ap (λ (b : ℕ). statusOf s (T .argument b)) (sym e) ∙ r))
@@ -438,11 +439,11 @@ module _ (T : Table) (l : Lawful T) (p K : ℕ) (few : p ≤ 16) (w : ℕ) (belo
             at (inl y) = y
             at (inr y) = no-way (cc (y .1))
 
-  pub act-weighs : (D : Deques) → Kept T p K D → Went T K w t a q st front k rest D → AllHeavy T B leaps J new (D .state) (D .deques)
-  act-weighs D c (stays m n e i d z y) = at-stay D c m e d z y
-  act-weighs D c (forks m n e i d z) = at-fork D c m n e i d z
-  act-weighs D c (pops t2 j e m n dead i d z) = at-pop D c m t2 j e i z
-  act-weighs D c (drops t2 j e n y) = no-way (cc (wait-empty T l p K few w below far J st front k rest clear alone I h n y))
-  act-weighs D c (leaves e m n i y z) = at-leave D c m z
-  act-weighs D c (wakes u ub uw ua m n dead i d z) = at-wake D c m u ub uw ua n i z
-  act-weighs D c (stops m n i e z) = at-stop D c m e z
+  pub act-lines-within : (D : Deques) → Kept T p K D → ActionLeaves T K w t a q st front k rest D → LinesWithin T B leaps J new (D .state) (D .deques)
+  act-lines-within D c (stays m n e i d z y) = at-stay D c m e d z y
+  act-lines-within D c (forks m n e i d z) = at-fork D c m n e i d z
+  act-lines-within D c (pops t2 j e m n dead i d z) = at-pop D c m t2 j e i z
+  act-lines-within D c (drops t2 j e n y) = no-way (cc (wait-empty T l p K few w below far J st front k rest clear alone I h n y))
+  act-lines-within D c (leaves e m n i y z) = at-leave D c m z
+  act-lines-within D c (wakes u ub uw ua m n dead i d z) = at-wake D c m u ub uw ua n i z
+  act-lines-within D c (stops m n i e z) = at-stop D c m e z

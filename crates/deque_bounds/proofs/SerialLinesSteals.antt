@@ -25,14 +25,16 @@ use Rattle.deques.specs.Partition.{owns, ownedBy}
 use Rattle.deques.specs.Lines.{line, linesOf}
 use Rattle.deques.proofs.DequeTurns.{Kept, withSerial, serial-facts}
 use Rattle.deques.proofs.Flat.{lines-append}
+use Rattle.deques.proofs.Counts.{owned-append}
+use Rattle.deques.proofs.Bottoms.{line-bottom}
 use Rattle.deque_bounds.proofs.Lines.{Live, Parted, Chained, Light}
 use Rattle.deque_bounds.proofs.Between.{ends-before}
-use Rattle.deque_bounds.proofs.Upright.{heldBy, AllLines, Upright, standing-live, owned-append, all-append, all-front, all-head, all-cons}
-use Rattle.deque_bounds.specs.DequeRows.{robs, startsAt, stealsBeyond, stealsFar, crowded}
+use Rattle.deque_bounds.proofs.SerialLines.{heldBy, AllLines, SerialLines, standing-live, all-append, all-front, all-head, all-cons}
+use Rattle.deque_bounds.specs.DequeRows.{robs, startsAt, stealsBeyond, stealsFar, threadLeftOf}
 use Rattle.deques.proofs.Placed.{robbed-lines}
 use Rattle.deques.proofs.DequeTurns.{taken-common, stolen, b-below, b-ready}
-use Rattle.deque_bounds.proofs.Went.{live-set, wait-set}
-use Rattle.deque_bounds.proofs.UprightActs.{one-line, one-light}
+use Rattle.deque_bounds.proofs.ActionLeaves.{live-set, wait-set}
+use Rattle.deque_bounds.proofs.SerialLinesActs.{one-line, one-light}
 use Rattle.deque_bounds.proofs.LineMoves.{falls-more, parted-more, chained-more, chained-above, chained-stolen, light-above, light-stolen, light-beyond, light-far, ascends-bottom}
 use Rattle.schedule.specs.Machine.{taken}
 use lib.Seq.{getD-set-same, getD-set-other}
@@ -44,18 +46,18 @@ pub record At (w c : ℕ) (ds : List Deque) : Type 0 where
   pub rest : List Deque
   pub whole : ds ≡ front ++ getD ds c nothing ∷ rest
   pub left : (c ≡ 0) → front ≡ []
-  pub bare : crowded c ds ≡ false → (g : Deque) → List·Memᴰ g front → isEmpty (g .threads) ≡ true
+  pub bare : threadLeftOf c ds ≡ false → (g : Deque) → List·Memᴰ g front → isEmpty (g .threads) ≡ true
   pub robs : robbed w c ds ≡ front ++ kept (deque (getD ds c nothing .owner) (above (getD ds c nothing .threads))) (deque w [] ∷ rest)
 
 pub at-place : (w c : ℕ) (ds : List Deque) → isEmpty (getD ds c nothing .threads) ≡ false → At w c ds
-unfolding robbed crowded
+unfolding robbed threadLeftOf
 at-place w c [] e = no-way cc
 at-place w zero (d ∷ ds) e = record { front = []; rest = ds; whole = refl; left = λ z. refl; bare = λ z g m. absurd (List·Memᴰ·not-nil m); robs = refl }
 at-place w (suc c) (d ∷ ds) e =
     let y : At w c ds = at-place w c ds e in
     record { front = d ∷ y .front; rest = y .rest; whole = ap (d ∷_) (y .whole); left = λ z. no-way cc; bare = λ z g m. first (isEmpty (d .threads)) refl z (y .bare) g (List·Memᴰ·cases-cons m); robs = ap (d ∷_) (y .robs) }
   where
-    first : (b : Bool) → isEmpty (d .threads) ≡ b → (not b || crowded c ds) ≡ false → {k : List Deque} → (crowded c ds ≡ false → (g : Deque) → List·Memᴰ g k → isEmpty (g .threads) ≡ true)
+    first : (b : Bool) → isEmpty (d .threads) ≡ b → (not b || threadLeftOf c ds) ≡ false → {k : List Deque} → (threadLeftOf c ds ≡ false → (g : Deque) → List·Memᴰ g k → isEmpty (g .threads) ≡ true)
         → (g : Deque) → (g ≡ d) ⊎ List·Memᴰ g k → isEmpty (g .threads) ≡ true
     first true e z r g (inl i) = ap (λ (b : Deque). isEmpty (b .threads)) i ∙ e
     first true e z r g (inr i) = r z g i
@@ -66,12 +68,6 @@ unfolding above
 line-above true h [] e = no-way cc
 line-above true h (x ∷ k) e = refl
 line-above false h k e = refl
-
-line-bottom : (q : Bool) (h : ℕ) (k : List ℕ) → isEmpty k ≡ false → bottom (pick q (h ∷ k) k) ≡ bottom k
-unfolding bottom
-line-bottom true h [] e = no-way cc
-line-bottom true h (x ∷ k) e = refl
-line-bottom false h k e = refl
 
 line-some : (q : Bool) (h : ℕ) (k : List ℕ) → isEmpty k ≡ false → isEmpty (pick q (h ∷ k) k) ≡ false
 line-some true h k e = refl
@@ -107,7 +103,7 @@ unfolding Ascends
 asc-right f [] R i = i
 asc-right f (z ∷ A) R i = asc-right f A R (i .1)
 
-module _ (T : Table) (l : Lawful T) (p K : ℕ) (few : p ≤ 16) (w : ℕ) (below : w < p) (c far : ℕ) (J : ℕ → ℕ) (D : Deques) (I : Upright T p K far J D)
+module _ (T : Table) (l : Lawful T) (p K : ℕ) (few : p ≤ 16) (w : ℕ) (below : w < p) (c far : ℕ) (J : ℕ → ℕ) (D : Deques) (I : SerialLines T p K far J D)
     (free : workerOf (D .state) w .holds ≡ false) (some : isEmpty (getD (D .deques) c nothing .threads) ≡ false) where
   abbrev st : State
   st = D .state
@@ -356,9 +352,9 @@ module _ (T : Table) (l : Lawful T) (p K : ℕ) (few : p ≤ 16) (w : ℕ) (belo
   unfolding taken
   steal-holds = ap (λ (z : Worker). z .holds) (getD-set-same (st .workers) w (record { holds = true; thread = b; quota = K }) nobody (omega (arith, f .holding .worker-size, w16)))
 
-  pub steal-upright : Upright T p K far1 J' (over s (robbed w c ds))
+  pub steal-serial-lines : SerialLines T p K far1 J' (over s (robbed w c ds))
   unfolding taken
-  steal-upright =
+  steal-serial-lines =
       record {
         kept = steal-kept;
         falls = falls-more T l J J' (I .falls) start up flat st s same still ends;

@@ -1,10 +1,10 @@
--- `wivakkol_pace::runs::put_run` meets its contract: what is said, and the turns.
+-- `run_memory::replies::put_run` meets its contract: what is said, and the turns.
 use mathlib.Core.Path.{_≡_, refl, ap}
 use Prim.Native.Nat.{ℕ}
 use mathlib.Core.List.{[], _∷_}
 use borrow.Author.Needs.{needs}
-use Rattle.wivakkol_pace.proofs.runs.put_run.Statement.{statement}
-use Rattle.wivakkol_pace.proofs.runs.put_run.Tie as tie
+use Rattle.run_memory.proofs.replies.put_run.Statement.{statement}
+use Rattle.run_memory.proofs.replies.put_run.Tie as tie
 
 said-requires : tie.Need-said-requires
 said-requires c κs = search needs

@@ -33,20 +33,22 @@ use Rattle.deques.specs.Lines.{line, linesOf}
 use Rattle.deques.proofs.Placed.{lines-same}
 use Rattle.deques.proofs.DequeTurns.{Kept, withSerial, serial-facts, acts}
 use Rattle.deques.proofs.Flat.{lines-append}
-use Rattle.deque_bounds.proofs.Lines.{Live, Link, Lonely, Parted, Chained, Light, Moved, parted-keeps, chained-top, light-top}
-use Rattle.deque_bounds.proofs.LineMoves.{some-child, lonely-waits, chained-fork, light-fork, chained-pop, light-pop}
+use Rattle.deque_bounds.proofs.Lines.{Live, Link, NoLiveChildBut, Parted, Chained, Light, Moved, parted-keeps, chained-top, light-top}
+use Rattle.deque_bounds.proofs.LineMoves.{some-child, no-child-waits, chained-fork, light-fork, chained-pop, light-pop}
 use Rattle.deque_bounds.proofs.Between.{in-fork, unborn-childless, join-forks}
-use Rattle.deque_bounds.proofs.Went.{Went, stays, forks, pops, drops, leaves, wakes, stops, went}
-use Rattle.deque_bounds.proofs.Upright.{heldBy, AllLines, Upright, Stands, stands, in-deque, is-owner, standing, standing-live, asc-mid, asc-replace, counted-in, occurs-append, owned-append, all-append, all-front, all-head, all-cons, all-keeps}
+use Rattle.deque_bounds.proofs.ActionLeaves.{ActionLeaves, stays, forks, pops, drops, leaves, wakes, stops, action-leaves}
+use Rattle.deques.proofs.Counts.{counted-in, occurs-append, owned-append, Stands, stands}
+use Rattle.deques.proofs.Standing.{in-deque, is-owner, standing}
+use Rattle.deque_bounds.proofs.SerialLines.{heldBy, AllLines, SerialLines, standing-live, asc-mid, asc-replace, all-append, all-front, all-head, all-cons, all-keeps}
 
-lonely-parted : (T : Table) (J : ℕ → ℕ) (s : State) (e t : ℕ) → Lonely T s e t → Parted T J s e t
-unfolding Lonely Parted
-lonely-parted T J s e t r x h f o v d = absurd (d (r x h f o v))
+no-child-parted : (T : Table) (J : ℕ → ℕ) (s : State) (e t : ℕ) → NoLiveChildBut T s e t → Parted T J s e t
+unfolding NoLiveChildBut Parted
+no-child-parted T J s e t r x h f o v d = absurd (d (r x h f o v))
 
 chained-parted : (T : Table) (J : ℕ → ℕ) (s : State) (e t : ℕ) (k : List ℕ) → Chained T J s e (t ∷ k) → Parted T J s e t
 unfolding Chained
 chained-parted T J s e t [] c = c
-chained-parted T J s e t (y ∷ k) c = lonely-parted T J s e t (c .1)
+chained-parted T J s e t (y ∷ k) c = no-child-parted T J s e t (c .1)
 
 pub one-line : (T : Table) (J : ℕ → ℕ) (s : State) (t : ℕ) → Parted T J s 0 t → Chained T J s 0 (t ∷ [])
 unfolding Chained
@@ -88,7 +90,7 @@ only P t m i h = go (List·Memᴰ·cases-cons i)
     go (inr z) = absurd (List·Memᴰ·not-nil z)
 
 module _ (T : Table) (l : Lawful T) (p K : ℕ) (few : p ≤ 16) (w : ℕ) (below : w < p) (far : ℕ) (J : ℕ → ℕ) (st : State) (front : List Deque) (k : List ℕ) (rest : List Deque)
-    (clear : ownedBy w front ≡ 0) (alone : ownedBy w rest ≡ 0) (I : Upright T p K far J (over st (front ++ deque w k ∷ rest))) (h : workerOf st w .holds ≡ true) where
+    (clear : ownedBy w front ≡ 0) (alone : ownedBy w rest ≡ 0) (I : SerialLines T p K far J (over st (front ++ deque w k ∷ rest))) (h : workerOf st w .holds ≡ true) where
   abbrev t : ℕ
   t = workerOf st w .thread
 
@@ -211,7 +213,7 @@ module _ (T : Table) (l : Lawful T) (p K : ℕ) (few : p ≤ 16) (w : ℕ) (belo
 
     together : (D : List Deque) → Kept T p K (over s D) → (mid : List Deque) → D ≡ front ++ (mid ++ rest) → AllLines T far J s mid → (M : List ℕ) → linesOf (heldBy s) mid ≡ M ++ k
         → Ascends (num s) M → ((v : ℕ) → List·Memᴰ v M → num st t ≤ num s v) → ((v z : ℕ) → List·Memᴰ v M → List·Memᴰ z (k ++ B) → num s v < num s z)
-        → (kind T a ≡ join → Parted T J s 0 t) → Upright T p K far J (over s D)
+        → (kind T a ≡ join → Parted T J s 0 t) → SerialLines T p K far J (over s D)
     together D c mid e r M i up low cross waited =
         record {
           kept = c;
@@ -233,7 +235,7 @@ module _ (T : Table) (l : Lawful T) (p K : ℕ) (few : p ≤ 16) (w : ℕ) (belo
   -- ---- the cases
 
   abbrev Step : Deques → Type 0
-  Step D = Went T K w t a q st front k rest D
+  Step D = ActionLeaves T K w t a q st front k rest D
 
   pub owned-line : (s : State) (o t2 : ℕ) (j : List ℕ) → o < 16 → heldBy s o ≡ t2 → line (heldBy s) (deque o j) ≡ t2 ∷ j
   owned-line s o t2 j i e = rw (lt-ltb o 16 i) (ap (λ (z : ℕ). z ∷ j) e)
@@ -263,7 +265,7 @@ module _ (T : Table) (l : Lawful T) (p K : ℕ) (few : p ≤ 16) (w : ℕ) (belo
     s = D .state
 
     one-thread : Moved T K w t a q st s → (kind T a ≡ fork → ⊥) → num st t ≤ num s t → ((v : ℕ) → List·Memᴰ v (k ++ B) → num s t < num s v) → (d : Deque) → line (heldBy s) d ≡ t ∷ k
-        → D .deques ≡ front ++ d ∷ rest → Upright T p K far J D
+        → D .deques ≡ front ++ d ∷ rest → SerialLines T p K far J D
     one-thread m n up cross d e z =
         let top : Chained T J s 0 (t ∷ k) = chained-top T l J w t a q st s m (X .action) (X .owned) (I .falls) n k apart-k (mine .0) in
         together s m (D .deques) c (d ∷ []) z
@@ -272,11 +274,11 @@ module _ (T : Table) (l : Lawful T) (p K : ℕ) (few : p ≤ 16) (w : ℕ) (belo
         (λ j. chained-parted T J s 0 t k top)
 
     -- a stop: the next action is the same
-    at-stop : Moved T K w t a q st s → (kind T a ≡ fork → ⊥) → nextOf s t ≡ a → D .deques ≡ front ++ deque 16 (t ∷ k) ∷ rest → Upright T p K far J D
+    at-stop : Moved T K w t a q st s → (kind T a ≡ fork → ⊥) → nextOf s t ≡ a → D .deques ≡ front ++ deque 16 (t ∷ k) ∷ rest → SerialLines T p K far J D
     at-stop m n e z = one-thread m n (rw e (omega arith)) (λ v i. rw e (omega (arith, beyond v i, same-R s m v i))) (deque 16 (t ∷ k)) refl z
 
     -- it goes on: the next action is the next in serial order
-    at-stay : Moved T K w t a q st s → (kind T a ≡ fork → ⊥) → heldBy s w ≡ t → num s t ≡ suc (numberOf T a) → D .deques ≡ front ++ deque w k ∷ rest → Upright T p K far J D
+    at-stay : Moved T K w t a q st s → (kind T a ≡ fork → ⊥) → heldBy s w ≡ t → num s t ≡ suc (numberOf T a) → D .deques ≡ front ++ deque w k ∷ rest → SerialLines T p K far J D
     at-stay m n e i z = one-thread m n (omega (arith, i)) cross (deque w k) (owned-line s w t k w16 e) z
       where
         g : Facts T p K (withSerial T l s)
@@ -294,12 +296,12 @@ module _ (T : Table) (l : Lawful T) (p K : ℕ) (few : p ≤ 16) (w : ℕ) (belo
                 let y : nextOf s t ≡ nextOf s v = number-once T l (nextOf s t) (nextOf s v) (next-below T l p K (withSerial T l s) g t (X .thread)) (next-below T l p K (withSerial T l s) g v vb) b in
                 absurd (apart-R v j (sym (owner-of-next T l p K (withSerial T l s) g v vb) ∙ ap (owner T) (sym y) ∙ owner-of-next T l p K (withSerial T l s) g t (X .thread)))
 
-    at-leave : k ≡ [] → Moved T K w t a q st s → (kind T a ≡ fork → ⊥) → D .deques ≡ front ++ rest → Upright T p K far J D
+    at-leave : k ≡ [] → Moved T K w t a q st s → (kind T a ≡ fork → ⊥) → D .deques ≡ front ++ rest → SerialLines T p K far J D
     at-leave e m n z =
         together s m (D .deques) c [] z (none-lines s) [] (lines-nil s ∙ sym e) (asc-none (num s)) (λ v i. absurd (List·Memᴰ·not-nil i)) (λ v y i j. absurd (List·Memᴰ·not-nil i))
         (λ j. chained-parted T J s 0 t k (chained-top T l J w t a q st s m (X .action) (X .owned) (I .falls) n k apart-k (mine .0)))
 
-    at-pop : (t2 : ℕ) (j : List ℕ) → k ≡ t2 ∷ j → Moved T K w t a q st s → kind T a ≡ end → (Live s t → ⊥) → heldBy s w ≡ t2 → D .deques ≡ front ++ deque w j ∷ rest → Upright T p K far J D
+    at-pop : (t2 : ℕ) (j : List ℕ) → k ≡ t2 ∷ j → Moved T K w t a q st s → kind T a ≡ end → (Live s t → ⊥) → heldBy s w ≡ t2 → D .deques ≡ front ++ deque w j ∷ rest → SerialLines T p K far J D
     at-pop t2 j e m n dead i z =
         let mem : (v : ℕ) → List·Memᴰ v (t2 ∷ j) → List·Memᴰ v k = λ v y. subst (λ (b : List ℕ). List·Memᴰ v b) (sym e) y in
         let apart : (v : ℕ) → List·Memᴰ v (t2 ∷ j) → v ≡ t → ⊥ = λ v y. apart-k v (mem v y) in
@@ -313,7 +315,7 @@ module _ (T : Table) (l : Lawful T) (p K : ℕ) (few : p ≤ 16) (w : ℕ) (belo
         [] (flat-one s (deque w j) ∙ owned-line s w t2 j w16 i ∙ sym e) (asc-none (num s)) (λ v i. absurd (List·Memᴰ·not-nil i)) (λ v y i j. absurd (List·Memᴰ·not-nil i))
         (λ b. no-way cc)
 
-    at-fork : Moved T K w t a q st s → kind T a ≡ fork → heldBy s w ≡ T .argument a → nextOf s t ≡ suc a → D .deques ≡ front ++ deque w (t ∷ k) ∷ rest → Upright T p K far J D
+    at-fork : Moved T K w t a q st s → kind T a ≡ fork → heldBy s w ≡ T .argument a → nextOf s t ≡ suc a → D .deques ≡ front ++ deque w (t ∷ k) ∷ rest → SerialLines T p K far J D
     at-fork m n i e z =
         together s m (D .deques) c (deque w (t ∷ k) ∷ []) z
         (mid-lines s (deque w (t ∷ k)) (x ∷ t ∷ k) (owned-line s w x (t ∷ k) w16 i)
@@ -405,7 +407,7 @@ module _ (T : Table) (l : Lawful T) (p K : ℕ) (few : p ≤ 16) (w : ℕ) (belo
           let xb : x < T .actions = omega (arith, i, X .action) in
           let ox : owner T x ≡ t = o ∙ X .owned in
           let b : statusOf st (T .argument x) ≡ unborn → ⊥ = λ u. unborn-not x xb r ox i u in
-          absurd (lonely-waits T l J st t y j (subst (λ (b : List ℕ). Chained T J st 0 (t ∷ b)) e (mine .0)) x xb r ox (b, (λ u. z (sym (ap (statusOf st) nm) ∙ u))))
+          absurd (no-child-waits T l J st t y j (subst (λ (b : List ℕ). Chained T J st 0 (t ∷ b)) e (mine .0)) x xb r ox (b, (λ u. z (sym (ap (statusOf st) nm) ∙ u))))
         where
           unborn-not : (x : ℕ) → x < T .actions → kind T x ≡ fork → owner T x ≡ t → x < a → statusOf st (T .argument x) ≡ unborn → ⊥
           unborn-not x xb r ox i u =
@@ -416,7 +418,7 @@ module _ (T : Table) (l : Lawful T) (p K : ℕ) (few : p ≤ 16) (w : ℕ) (belo
               no-way (cc)
 
   pub at-wake : (D : Deques) → Kept T p K D → (u : ℕ) → u < T .threads → statusOf st u ≡ waiting → awaited T st u ≡ t → Moved T K w t a q st (D .state) → kind T a ≡ end → heldBy (D .state) w ≡ u
-      → D .deques ≡ front ++ deque w k ∷ rest → Upright T p K far J D
+      → D .deques ≡ front ++ deque w k ∷ rest → SerialLines T p K far J D
   unfolding Parted
   at-wake D c u ub uw ua m n i z =
       together s m (D .deques) c (deque w k ∷ []) z
@@ -494,13 +496,13 @@ module _ (T : Table) (l : Lawful T) (p K : ℕ) (few : p ≤ 16) (w : ℕ) (belo
               absurd (not-u (st-y .1) (sym (owner-of-next T l p K (withSerial T l st) f y (st-y .0)) ∙ ap (owner T) r ∙ owner-of-next T l p K (withSerial T l st) f u ub))
           at (no g) (no d) = omega (arith, g, d, here, same-R s m y b)
 
-  pub stepped : Went T K w t a q st front k rest (actDeques T K w st ds .after)
-  stepped = went T l p K few w below st (I .kept .common) h front k rest clear tops
+  pub stepped : ActionLeaves T K w t a q st front k rest (actDeques T K w st ds .after)
+  stepped = action-leaves T l p K few w below st (I .kept .common) h front k rest clear tops
 
-  pub act-upright : Upright T p K far J (actDeques T K w st ds .after)
-  act-upright = go (actDeques T K w st ds .after) (acts T l p K few w below st (I .kept .common) ds (I .kept .placed) h) stepped
+  pub act-serial-lines : SerialLines T p K far J (actDeques T K w st ds .after)
+  act-serial-lines = go (actDeques T K w st ds .after) (acts T l p K few w below st (I .kept .common) ds (I .kept .placed) h) stepped
     where
-      go : (D : Deques) → Kept T p K D → Step D → Upright T p K far J D
+      go : (D : Deques) → Kept T p K D → Step D → SerialLines T p K far J D
       go D c (stays m n e i d z y) = at-stay D c m n e i z
       go D c (forks m n e i d z) = at-fork D c m n e i z
       go D c (pops t2 j e m n dead i d z) = at-pop D c t2 j e m n dead i z

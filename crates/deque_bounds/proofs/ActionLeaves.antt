@@ -9,7 +9,7 @@ use native.Mathlib.Decide.{ℕ-discrete}
 use lib.ListN.{length, getD, set, length-set}
 use lib.Seq.{getD-set-same, getD-set-other}
 use lib.Dec.{ltb, leb, eqb}
-use borrow.Author.Tests.{eqb-true, eqb-false, ne-eqb, eq-eqb}
+use borrow.Author.Tests.{eqb-true, eqb-false, ne-eqb}
 use Rattle.table.specs.Sum.{pick}
 use Rattle.table.specs.Format.{Kind, end, work, alloc, free, fork, join, unknown, is, codeOf, Table, kind}
 use Rattle.table.specs.Checks.{owner, allocOf}
@@ -36,27 +36,27 @@ use Rattle.deques.specs.Deques.{Deque, deque, nothing, kept, placeOf, own, push
 use Rattle.schedule.proofs.SerialLive.{serialLive}
 use Rattle.deques.proofs.ActCommon.{CommonIn, Beside, beside}
 use Rattle.deques.specs.Partition.{ownedBy}
-use Rattle.deques.proofs.DequeTurns.{withSerial, serial-facts, waits-status}
-use Rattle.deques.proofs.Flat.{own-at}
+use Rattle.deques.proofs.DequeTurns.{withSerial, serial-facts, waits-status, waits-same}
+use Rattle.deques.proofs.Flat.{own-at, mine-at}
 use Rattle.deque_bounds.proofs.Lines.{Live, Moved}
 
-pub data Went (T : Table) (K w t a q : ℕ) (st : State) (front : List Deque) (k : List ℕ) (rest : List Deque) (D : Deques) : Type 0 where
+pub data ActionLeaves (T : Table) (K w t a q : ℕ) (st : State) (front : List Deque) (k : List ℕ) (rest : List Deque) (D : Deques) : Type 0 where
   -- work, an alloc within the quota, a free, a join done
   stays : Moved T K w t a q st (D .state) → (kind T a ≡ fork → ⊥) → workerOf (D .state) w .thread ≡ t → numberOf T (nextOf (D .state) t) ≡ suc (numberOf T a)
-      → isDone T (D .state) a ≡ true → D .deques ≡ front ++ deque w k ∷ rest → nextOf (D .state) t ≡ suc a → Went T K w t a q st front k rest D
+      → isDone T (D .state) a ≡ true → D .deques ≡ front ++ deque w k ∷ rest → nextOf (D .state) t ≡ suc a → ActionLeaves T K w t a q st front k rest D
   forks : Moved T K w t a q st (D .state) → kind T a ≡ fork → workerOf (D .state) w .thread ≡ T .argument a → nextOf (D .state) t ≡ suc a → isDone T (D .state) a ≡ true
-      → D .deques ≡ front ++ deque w (t ∷ k) ∷ rest → Went T K w t a q st front k rest D
+      → D .deques ≡ front ++ deque w (t ∷ k) ∷ rest → ActionLeaves T K w t a q st front k rest D
   -- an end that wakes nobody, above a thread
   pops : (t2 : ℕ) (l : List ℕ) → k ≡ t2 ∷ l → Moved T K w t a q st (D .state) → kind T a ≡ end → (Live (D .state) t → ⊥) → workerOf (D .state) w .thread ≡ t2 → isDone T (D .state) a ≡ true
-      → D .deques ≡ front ++ deque w l ∷ rest → Went T K w t a q st front k rest D
+      → D .deques ≡ front ++ deque w l ∷ rest → ActionLeaves T K w t a q st front k rest D
   -- a wait above a thread: hand-made records alone have it
-  drops : (t2 : ℕ) (l : List ℕ) → k ≡ t2 ∷ l → kind T a ≡ join → (statusOf st (T .argument a) ≡ ended → ⊥) → Went T K w t a q st front k rest D
+  drops : (t2 : ℕ) (l : List ℕ) → k ≡ t2 ∷ l → kind T a ≡ join → (statusOf st (T .argument a) ≡ ended → ⊥) → ActionLeaves T K w t a q st front k rest D
   -- an end that wakes nobody, or a wait, above none
-  leaves : k ≡ [] → Moved T K w t a q st (D .state) → (kind T a ≡ fork → ⊥) → workerOf (D .state) w .holds ≡ false → nextOf (D .state) t ≡ a → D .deques ≡ front ++ rest → Went T K w t a q st front k rest D
+  leaves : k ≡ [] → Moved T K w t a q st (D .state) → (kind T a ≡ fork → ⊥) → workerOf (D .state) w .holds ≡ false → nextOf (D .state) t ≡ a → D .deques ≡ front ++ rest → ActionLeaves T K w t a q st front k rest D
   wakes : (u : ℕ) → u < T .threads → statusOf st u ≡ waiting → awaited T st u ≡ t → Moved T K w t a q st (D .state) → kind T a ≡ end → (Live (D .state) t → ⊥)
-      → workerOf (D .state) w .thread ≡ u → isDone T (D .state) a ≡ true → D .deques ≡ front ++ deque w k ∷ rest → Went T K w t a q st front k rest D
+      → workerOf (D .state) w .thread ≡ u → isDone T (D .state) a ≡ true → D .deques ≡ front ++ deque w k ∷ rest → ActionLeaves T K w t a q st front k rest D
   stops : Moved T K w t a q st (D .state) → (kind T a ≡ fork → ⊥) → workerOf (D .state) w .holds ≡ false → nextOf (D .state) t ≡ a → D .deques ≡ front ++ deque 16 (t ∷ k) ∷ rest
-      → Went T K w t a q st front k rest D
+      → ActionLeaves T K w t a q st front k rest D
 
 -- ---- statuses set
 
@@ -76,16 +76,6 @@ wait-set xs i y h n u q = go (ℕ-discrete u i)
     go : Dec (u ≡ i) → getD xs u 0 ≡ waiting
     go (yes e) = absurd (n (sym (getD-set-same xs i y 0 h) ∙ ap (λ (z : ℕ). getD (set xs i y) z 0) (sym e) ∙ q))
     go (no d) = sym (getD-set-other xs i u y 0 d) ∙ q
-
-pub mine-at : (w : ℕ) (front : List Deque) (k : List ℕ) (rest : List Deque) → ownedBy w front ≡ 0 → getD (front ++ deque w k ∷ rest) (placeOf w (front ++ deque w k ∷ rest)) nothing .threads ≡ k
-unfolding placeOf ownedBy
-mine-at w [] k rest e = rw (eq-eqb w w refl)
-mine-at w (d ∷ front) k rest e = go (eqb (d .owner) w) refl (mine-at w front k rest)
-  where
-    go : (q : Bool) → eqb (d .owner) w ≡ q → (ownedBy w front ≡ 0 → getD (front ++ deque w k ∷ rest) (placeOf w (front ++ deque w k ∷ rest)) nothing .threads ≡ k)
-        → getD (d ∷ (front ++ deque w k ∷ rest)) (pick q 0 (suc (placeOf w (front ++ deque w k ∷ rest)))) nothing .threads ≡ k
-    go true i ih = absurd (let z : 1 + ownedBy w front ≡ 0 = rw i at e in omega (arith, z))
-    go false i ih = ih (let z : 0 + ownedBy w front ≡ 0 = rw i at e in omega (arith, z))
 
 -- ---- the cases
 
@@ -146,7 +136,7 @@ module _ (T : Table) (l : Lawful T) (p K : ℕ) (few : p ≤ 16) (w : ℕ) (belo
   afterOf j s = pick (workerOf (s .state) w .holds) (over (s .state) ds) (letGo j (waitsFor T st u t) q w t x u (s .state) ds)
 
   abbrev Goes : Deques → Type 0
-  Goes D = Went T K w t a q st front k rest D
+  Goes D = ActionLeaves T K w t a q st front k rest D
 
   no-alloc : is alloc (kind T a) ≡ false → drawn K (allocOf T a) ≡ 0
   unfolding allocOf
@@ -379,16 +369,8 @@ module _ (T : Table) (l : Lawful T) (p K : ℕ) (few : p ≤ 16) (w : ℕ) (belo
       mid : front ++ kept (push t (deque w k)) rest ≡ front ++ deque w (t ∷ k) ∷ rest
       mid = rw (ne-eqb w 16 (λ z. omega (arith, z, few, below))) refl
 
-  -- whether the parent waits for its child is the same once that has ended
-  waits-same : waitsFor T (withList (without t (st .list)) (released w t ended st)) u t ≡ waitsFor T st u t
-  unfolding waitsFor
-  waits-same = go (ℕ-discrete u t)
-    where
-      go : Dec (u ≡ t)
-          → (eqb (getD (set (st .status) t ended) u 0) waiting && (is join (kind T (nextOf st u)) && eqb (T .argument (nextOf st u)) t))
-          ≡ (eqb (statusOf st u) waiting && (is join (kind T (nextOf st u)) && eqb (T .argument (nextOf st u)) t))
-      go (yes z) = rw (z, getD-set-same (st .status) t ended 0 fits, X .taken)
-      go (no z) = rw (getD-set-other (st .status) t u ended 0 z)
+  still-waits : waitsFor T (withList (without t (st .list)) (released w t ended st)) u t ≡ waitsFor T st u t
+  still-waits = waits-same T st w t u fits (X .taken)
 
   waits-for : waitsFor T st u t ≡ true → awaited T st u ≡ t
   unfolding waitsFor
@@ -401,8 +383,8 @@ module _ (T : Table) (l : Lawful T) (p K : ℕ) (few : p ≤ 16) (w : ℕ) (belo
   unfolding actBy woken letGo taken is codeOf
   by-end e =
       either (λ (s : State). Acted T K w t a q st (Done t a) s → Goes (afterOf end (stepped (Done t a) s))) (waitsFor T mid u t) (withStatus u ready mid) mid
-      (λ i y. rw (gone, sym waits-same ∙ i) (wake (sym waits-same ∙ i) y))
-      (λ i y. rw (gone, sym waits-same ∙ i)
+      (λ i y. rw (gone, sym still-waits ∙ i) (wake (sym still-waits ∙ i) y))
+      (λ i y. rw (gone, sym still-waits ∙ i)
       (goes-off ended mid (Done t a) y refl refl refl no-fork none (inl refl) (λ z. did mid refl (getD-set-same (st .status) t ended 0 fits)) (λ z. e) (λ z. absurd (omega (arith, z)))))
       (acted-by end e)
     where
@@ -472,6 +454,6 @@ module _ (T : Table) (l : Lawful T) (p K : ℕ) (few : p ≤ 16) (w : ℕ) (belo
           dead : Live (taken q w u s) t → ⊥
           dead v = v .1 (getD-set-other (s .status) u t held 0 (λ z. apart (sym z)) ∙ s-ended)
 
-  pub went : Goes (actDeques T K w st ds .after)
+  pub action-leaves : Goes (actDeques T K w st ds .after)
   unfolding actDeques act
-  went = by-kind (kind T a) refl by-fork by-end
+  action-leaves = by-kind (kind T a) refl by-fork by-end

@@ -21,15 +21,14 @@ use Rattle.deques.specs.Deques.{Deque, deque, nothing, isEmpty, kept, bottom, a
 use Rattle.deques.specs.Partition.{ownedBy}
 use Rattle.deques.specs.Lines.{line, linesOf}
 use Rattle.deque_bounds.proofs.Lines.{Chained}
-use Rattle.deque_bounds.proofs.Upright.{heldBy, Upright}
-use Rattle.deque_bounds.proofs.UprightSteals as Steals
-use Rattle.deque_bounds.proofs.UprightSteals.{At, bottom-in}
-use Rattle.deque_bounds.proofs.WeighsActs.{owes-is, is-owes}
-use Rattle.deque_bounds.proofs.LineMoves.{more}
+use Rattle.deque_bounds.proofs.SerialLines.{heldBy, SerialLines}
+use Rattle.deque_bounds.proofs.SerialLinesSteals as Steals
+use Rattle.deque_bounds.proofs.SerialLinesSteals.{At, bottom-in}
+use Rattle.deque_bounds.proofs.StealsWithinActs.{thread-within-is, is-thread-within}
+use Rattle.deque_bounds.proofs.LineMoves.{above-nest, more}
 use Rattle.deques.proofs.Placed.{empty-is}
-use Rattle.deque_bounds.proofs.Weights.{Able, Owes, Heavy, slackOf, AllHeavy, heavy-append, heavy-split, heavy-head, heavy-cons, heavy-top, top-heavy}
-use Rattle.deque_bounds.specs.DequeRows.{robs, startsAt, stealsBeyond, crowded, leapsAt}
-use Rattle.deque_bounds.proofs.Lines.{link-nest}
+use Rattle.deque_bounds.proofs.StealsWithin.{Able, ThreadWithin, LineWithin, slackOf, LinesWithin, lines-within-append, lines-within-split, lines-within-head, lines-within-cons, line-within-top, top-line-within}
+use Rattle.deque_bounds.specs.DequeRows.{robs, startsAt, stealsBeyond, threadLeftOf, leapsAt}
 use Rattle.schedule.specs.Machine.{taken}
 use lib.Seq.{getD-set-same, getD-set-other}
 
@@ -43,9 +42,9 @@ above-in v (x ∷ y ∷ k) m = go (List·Memᴰ·cases-cons m) (above-in v (y �
     go (inl e) ih = List·Memᴰ·head e
     go (inr i) ih = List·Memᴰ·tail (ih i)
 
-module _ (T : Table) (l : Lawful T) (p K : ℕ) (few : p ≤ 16) (w : ℕ) (below : w < p) (c far : ℕ) (J : ℕ → ℕ) (D : Deques) (I : Upright T p K far J D)
+module _ (T : Table) (l : Lawful T) (p K : ℕ) (few : p ≤ 16) (w : ℕ) (below : w < p) (c far : ℕ) (J : ℕ → ℕ) (D : Deques) (I : SerialLines T p K far J D)
     (free : workerOf (D .state) w .holds ≡ false) (some : isEmpty (getD (D .deques) c nothing .threads) ≡ false)
-    (B lp : ℕ) (old new : ℕ → ℕ) (ages : (v : ℕ) → (v ≡ w → ⊥) → new v ≡ suc (old v)) (fresh : new w ≡ B) (W : AllHeavy T B lp J old (D .state) (D .deques)) where
+    (B lp : ℕ) (old new : ℕ → ℕ) (ages : (v : ℕ) → (v ≡ w → ⊥) → new v ≡ suc (old v)) (fresh : new w ≡ B) (W : LinesWithin T B lp J old (D .state) (D .deques)) where
   abbrev st : State
   st = D .state
 
@@ -104,14 +103,14 @@ module _ (T : Table) (l : Lawful T) (p K : ℕ) (few : p ≤ 16) (w : ℕ) (belo
       go (no r) = sym (getD-set-other (st .status) b (T .argument (nextOf st y)) held 0 r) ∙ e j
 
   -- one more in J, and one more to pay with
-  lift : (y z z' slack slack' more : ℕ) → J' (nextOf st y) ≤ J (nextOf st y) + more → nest T z + lp + slack + more ≤ nest T z' + lp' + slack' → Owes T B lp J st z slack y → Owes T B lp' J' s z' slack' y
+  lift : (y z z' slack slack' more : ℕ) → J' (nextOf st y) ≤ J (nextOf st y) + more → nest T z + lp + slack + more ≤ nest T z' + lp' + slack' → ThreadWithin T B lp J st z slack y → ThreadWithin T B lp' J' s z' slack' y
   lift y z z' slack slack' more i j o =
       let r : nextOf s y ≡ nextOf st y = same y in
-      is-owes T B lp' J' s z' slack' y (λ e. rw r (omega (arith, i, j, owes-is T B lp J st z slack y o (able-back y e))))
+      is-thread-within T B lp' J' s z' slack' y (λ e. rw r (omega (arith, i, j, thread-within-is T B lp J st z slack y o (able-back y e))))
 
-  lift-line : (slack slack' more : ℕ) (k : List ℕ) → ((y : ℕ) → List·Memᴰ y k → J' (nextOf st y) ≤ J (nextOf st y) + more) → slack ≤ slack' → lp + more ≤ lp' → Heavy T B lp J st slack k
-      → Heavy T B lp' J' s slack' k
-  unfolding Heavy
+  lift-line : (slack slack' more : ℕ) (k : List ℕ) → ((y : ℕ) → List·Memᴰ y k → J' (nextOf st y) ≤ J (nextOf st y) + more) → slack ≤ slack' → lp + more ≤ lp' → LineWithin T B lp J st slack k
+      → LineWithin T B lp' J' s slack' k
+  unfolding LineWithin
   lift-line slack slack' more [] i j n o = tt
   lift-line slack slack' more (t ∷ k) i j n o = (
     lift t (bottom (t ∷ k)) (bottom (t ∷ k)) slack slack' more (i t (List·Memᴰ·head refl)) (omega (arith, j, n)) (o .0),
@@ -119,17 +118,17 @@ module _ (T : Table) (l : Lawful T) (p K : ℕ) (few : p ≤ 16) (w : ℕ) (belo
   )
 
   -- a held thread alone, whose worker grows older
-  lift-one : (slack : ℕ) (t : ℕ) → Heavy T B lp J st slack (t ∷ []) → Heavy T B lp' J' s (suc slack) (t ∷ [])
-  unfolding Heavy
+  lift-one : (slack : ℕ) (t : ℕ) → LineWithin T B lp J st slack (t ∷ []) → LineWithin T B lp' J' s (suc slack) (t ∷ [])
+  unfolding LineWithin
   lift-one slack t o = (
     lift t (bottom (t ∷ [])) (bottom (t ∷ [])) slack (suc slack) 1 (omega (arith, one-more (nextOf st t))) (omega arith) (o .0),
     (λ y e. absurd (List·Memᴰ·not-nil e)),
   )
 
   all-lift : (E : List Deque) → ownedBy w E ≡ 0
-      → ((g : Deque) → List·Memᴰ g E → (g .owner ≡ w → ⊥) → ((v : ℕ) → List·Memᴰ v (line (heldBy st) g) → List·Memᴰ v (linesOf (heldBy st) E)) → Heavy T B lp J st (slackOf B old g) (line (heldBy st) g)
-      → Heavy T B lp' J' s (slackOf B new g) (line (heldBy st) g)) → AllHeavy T B lp J old st E → AllHeavy T B lp' J' new s E
-  unfolding AllHeavy ownedBy linesOf
+      → ((g : Deque) → List·Memᴰ g E → (g .owner ≡ w → ⊥) → ((v : ℕ) → List·Memᴰ v (line (heldBy st) g) → List·Memᴰ v (linesOf (heldBy st) E)) → LineWithin T B lp J st (slackOf B old g) (line (heldBy st) g)
+      → LineWithin T B lp' J' s (slackOf B new g) (line (heldBy st) g)) → LinesWithin T B lp J old st E → LinesWithin T B lp' J' new s E
+  unfolding LinesWithin ownedBy linesOf
   all-lift [] e n o = tt
   all-lift (g ∷ E) e n o = go (eqb (g .owner) w) refl (all-lift E)
     where
@@ -138,9 +137,9 @@ module _ (T : Table) (l : Lawful T) (p K : ℕ) (few : p ≤ 16) (w : ℕ) (belo
 
       go : (r : Bool) → eqb (g .owner) w ≡ r
           → (ownedBy w E ≡ 0
-          → ((g : Deque) → List·Memᴰ g E → (g .owner ≡ w → ⊥) → ((v : ℕ) → List·Memᴰ v (line (heldBy st) g) → List·Memᴰ v (linesOf (heldBy st) E)) → Heavy T B lp J st (slackOf B old g) (line (heldBy st) g)
-          → Heavy T B lp' J' s (slackOf B new g) (line (heldBy st) g)) → AllHeavy T B lp J old st E → AllHeavy T B lp' J' new s E)
-          → Heavy T B lp' J' s (slackOf B new g) (line (heldBy s) g) × AllHeavy T B lp' J' new s E
+          → ((g : Deque) → List·Memᴰ g E → (g .owner ≡ w → ⊥) → ((v : ℕ) → List·Memᴰ v (line (heldBy st) g) → List·Memᴰ v (linesOf (heldBy st) E)) → LineWithin T B lp J st (slackOf B old g) (line (heldBy st) g)
+          → LineWithin T B lp' J' s (slackOf B new g) (line (heldBy st) g)) → LinesWithin T B lp J old st E → LinesWithin T B lp' J' new s E)
+          → LineWithin T B lp' J' s (slackOf B new g) (line (heldBy s) g) × LinesWithin T B lp' J' new s E
       go true r ih = absurd (let z : 1 + ownedBy w E ≡ 0 = rw r at e in omega (arith, z))
       go false r ih =
           let z : heldBy s (g .owner) ≡ heldBy st (g .owner) = other r in (
@@ -156,35 +155,35 @@ module _ (T : Table) (l : Lawful T) (p K : ℕ) (few : p ≤ 16) (w : ℕ) (belo
       go true = omega (arith, ages (g .owner) n)
       go false = omega arith
 
-  parts : AllHeavy T B lp J old st (P .front) × AllHeavy T B lp J old st (d ∷ P .rest)
-  parts = heavy-split T B lp J old st (P .front) (d ∷ P .rest) (subst (AllHeavy T B lp J old st) (P .whole) W)
+  parts : LinesWithin T B lp J old st (P .front) × LinesWithin T B lp J old st (d ∷ P .rest)
+  parts = lines-within-split T B lp J old st (P .front) (d ∷ P .rest) (subst (LinesWithin T B lp J old st) (P .whole) W)
 
-  here : Heavy T B lp J st (slackOf B old d) L × AllHeavy T B lp J old st (P .rest)
-  here = heavy-head T B lp J old st d (P .rest) (parts .1)
+  here : LineWithin T B lp J st (slackOf B old d) L × LinesWithin T B lp J old st (P .rest)
+  here = lines-within-head T B lp J old st d (P .rest) (parts .1)
 
-  rest-lift : AllHeavy T B lp' J' new s (P .rest)
+  rest-lift : LinesWithin T B lp' J' new s (P .rest)
   rest-lift =
       all-lift (P .rest) (Steals.rest-clear T l p K few w below c far J D I free some)
       (λ g m n i o. lift-line (slackOf B old g) (slackOf B new g) 0 (line (heldBy st) g)
       (λ y e. omega (arith, flat (nextOf st y) (Steals.rest-beyond T l p K few w below c far J D I free some y (i y e)))) (older g n) (omega arith) o)
       (here .1)
 
-  leap-one : crowded c ds ≡ true → lp' ≡ suc lp
+  leap-one : threadLeftOf c ds ≡ true → lp' ≡ suc lp
   unfolding leapsAt
   leap-one e = rw (free, some, e) (omega arith)
 
-  bare-line : (g : Deque) → (g .owner ≡ w → ⊥) → isEmpty (g .threads) ≡ true → Heavy T B lp J st (slackOf B old g) (line (heldBy st) g) → Heavy T B lp' J' s (slackOf B new g) (line (heldBy st) g)
-  unfolding Heavy
+  bare-line : (g : Deque) → (g .owner ≡ w → ⊥) → isEmpty (g .threads) ≡ true → LineWithin T B lp J st (slackOf B old g) (line (heldBy st) g) → LineWithin T B lp' J' s (slackOf B new g) (line (heldBy st) g)
+  unfolding LineWithin
   bare-line g n e = rw (empty-is (g .threads) e, ages (g .owner) n) (go (ltb (g .owner) 16))
     where
-      go : (q : Bool) → Heavy T B lp J st (pick q (old (g .owner)) B) (pick q (heldBy st (g .owner) ∷ []) []) → Heavy T B lp' J' s (pick q (suc (old (g .owner))) B) (pick q (heldBy st (g .owner) ∷ []) [])
+      go : (q : Bool) → LineWithin T B lp J st (pick q (old (g .owner)) B) (pick q (heldBy st (g .owner) ∷ []) []) → LineWithin T B lp' J' s (pick q (suc (old (g .owner))) B) (pick q (heldBy st (g .owner) ∷ []) [])
       go true o = lift-one (old (g .owner)) (heldBy st (g .owner)) o
       go false o = tt
 
-  front-lift : AllHeavy T B lp' J' new s (P .front)
-  front-lift = go (crowded c ds) refl
+  front-lift : LinesWithin T B lp' J' new s (P .front)
+  front-lift = go (threadLeftOf c ds) refl
     where
-      go : (q : Bool) → crowded c ds ≡ q → AllHeavy T B lp' J' new s (P .front)
+      go : (q : Bool) → threadLeftOf c ds ≡ q → LinesWithin T B lp' J' new s (P .front)
       go true e =
           all-lift (P .front) (Steals.front-clear T l p K few w below c far J D I free some)
           (λ g m n i o. lift-line (slackOf B old g) (slackOf B new g) 1 (line (heldBy st) g) (λ y r. omega (arith, one-more (nextOf st y))) (older g n) (omega (arith, leap-one e)) o) (parts .0)
@@ -194,13 +193,6 @@ module _ (T : Table) (l : Lawful T) (p K : ℕ) (few : p ≤ 16) (w : ℕ) (belo
   -- the line that is robbed, and the thread stolen
   chain : Chained T J st 0 L
   chain = Steals.mine T l p K few w below c far J D I free some .0
-
-  nest-above : (e : ℕ) (k : List ℕ) → Chained T J st e k → isEmpty (above k) ≡ false → nest T (bottom (above k)) ≡ suc (nest T (bottom k))
-  unfolding Chained above bottom
-  nest-above e [] ch i = no-way cc
-  nest-above e (t ∷ []) ch i = no-way cc
-  nest-above e (t ∷ y ∷ []) ch i = link-nest T l J st t y (ch .0)
-  nest-above e (t ∷ y ∷ z ∷ k) ch i = nest-above t (y ∷ z ∷ k) (ch .2) refl
 
   bottom-is : bottom L ≡ b
   bottom-is = Steals.L-bottom T l p K few w below c far J D I free some
@@ -225,49 +217,49 @@ module _ (T : Table) (l : Lawful T) (p K : ℕ) (few : p ≤ 16) (w : ℕ) (belo
       go true (x ∷ k) i r = no-way (cc)
       go false k i r = omega arith
 
-  above-lift : (slack slack' : ℕ) → slack ≤ slack' → (k : List ℕ) → Chained T J st 0 k → Heavy T B lp J st slack k → Heavy T B lp' J' s slack' (above k)
-  unfolding Heavy above
+  above-lift : (slack slack' : ℕ) → slack ≤ slack' → (k : List ℕ) → Chained T J st 0 k → LineWithin T B lp J st slack k → LineWithin T B lp' J' s slack' (above k)
+  unfolding LineWithin above
   above-lift slack slack' i [] ch o = tt
   above-lift slack slack' i (t ∷ []) ch o = tt
   above-lift slack slack' i (t ∷ y ∷ k) ch o =
-      let n : nest T (bottom (above (t ∷ y ∷ k))) ≡ suc (nest T (bottom (t ∷ y ∷ k))) = nest-above 0 (t ∷ y ∷ k) ch refl in
-      let h = heavy-top T B lp J old st slack t (y ∷ k) o in
-      top-heavy T B lp' J' new s slack' t (above (y ∷ k))
+      let n : nest T (bottom (above (t ∷ y ∷ k))) ≡ suc (nest T (bottom (t ∷ y ∷ k))) = above-nest T l J st 0 (t ∷ y ∷ k) ch refl in
+      let h = line-within-top T B lp J old st slack t (y ∷ k) o in
+      top-line-within T B lp' J' new s slack' t (above (y ∷ k))
       (lift t (bottom (t ∷ y ∷ k)) (bottom (above (t ∷ y ∷ k))) slack slack' 1 (omega (arith, one-more (nextOf st t))) (omega (arith, i, n)) (h .0))
       (λ z e. lift z (bottom (t ∷ y ∷ k)) (bottom (above (t ∷ y ∷ k))) 0 0 1 (omega (arith, one-more (nextOf st z))) (omega (arith, n)) (h .1 z (above-in z (y ∷ k) e)))
 
-  stolen-lift : (k : List ℕ) → L ≡ k → Owes T B lp' J' s b B b
+  stolen-lift : (k : List ℕ) → L ≡ k → ThreadWithin T B lp' J' s b B b
   stolen-lift [] e = no-way (cc (Steals.L-some T l p K few w below c far J D I free some))
   stolen-lift (t ∷ []) e =
       let z : t ≡ b = sym (bottom-alone t) ∙ ap bottom (sym e) ∙ bottom-is in
-      let h : Owes T B lp J st (bottom (t ∷ [])) (slackOf B old d) t = heavy-top T B lp J old st (slackOf B old d) t [] (subst (Heavy T B lp J st (slackOf B old d)) e (here .0)) .0 in
-      let h2 : Owes T B lp J st b (slackOf B old d) b = subst (λ (y : ℕ). Owes T B lp J st y (slackOf B old d) b) (bottom-alone t ∙ z) (subst (Owes T B lp J st (bottom (t ∷ [])) (slackOf B old d)) z h) in
+      let h : ThreadWithin T B lp J st (bottom (t ∷ [])) (slackOf B old d) t = line-within-top T B lp J old st (slackOf B old d) t [] (subst (LineWithin T B lp J st (slackOf B old d)) e (here .0)) .0 in
+      let h2 : ThreadWithin T B lp J st b (slackOf B old d) b = subst (λ (y : ℕ). ThreadWithin T B lp J st y (slackOf B old d) b) (bottom-alone t ∙ z) (subst (ThreadWithin T B lp J st (bottom (t ∷ [])) (slackOf B old d)) z h) in
       lift b b b (slackOf B old d) B 0 (omega (arith, flat (nextOf st b) (omega arith))) (omega (arith, nobody-owns t e)) h2
   stolen-lift (t ∷ y ∷ k) e =
       let z : bottom (t ∷ y ∷ k) ≡ b = ap bottom (sym e) ∙ bottom-is in
-      let h = heavy-top T B lp J old st (slackOf B old d) t (y ∷ k) (subst (Heavy T B lp J st (slackOf B old d)) e (here .0)) .1 in
+      let h = line-within-top T B lp J old st (slackOf B old d) t (y ∷ k) (subst (LineWithin T B lp J st (slackOf B old d)) e (here .0)) .1 in
       let m : List·Memᴰ b (y ∷ k) = subst (λ (v : ℕ). List·Memᴰ v (y ∷ k)) (sym (bottom-second t y k) ∙ z) (bottom-in (y ∷ k) refl) in
-      let h2 : Owes T B lp J st b 0 b = subst (λ (v : ℕ). Owes T B lp J st v 0 b) z (h b m) in
+      let h2 : ThreadWithin T B lp J st b 0 b = subst (λ (v : ℕ). ThreadWithin T B lp J st v 0 b) z (h b m) in
       lift b b b 0 B 0 (omega (arith, flat (nextOf st b) (omega arith))) (omega arith) h2
 
-  thief-heavy : AllHeavy T B lp' J' new s (deque w [] ∷ P .rest)
-  thief-heavy =
-      heavy-cons T B lp' J' new s (deque w []) (P .rest)
-      (subst (λ (z : ℕ). Heavy T B lp' J' s z (line (heldBy s) (deque w []))) (sym slack-w)
-      (subst (Heavy T B lp' J' s B) (sym (Steals.thief-line T l p K few w below c far J D I free some))
-      (top-heavy T B lp' J' new s B b [] (subst (λ (v : ℕ). Owes T B lp' J' s v B b) (sym (bottom-alone b)) (stolen-lift L refl)) (λ y e. absurd (List·Memᴰ·not-nil e)))))
+  thief-within : LinesWithin T B lp' J' new s (deque w [] ∷ P .rest)
+  thief-within =
+      lines-within-cons T B lp' J' new s (deque w []) (P .rest)
+      (subst (λ (z : ℕ). LineWithin T B lp' J' s z (line (heldBy s) (deque w []))) (sym slack-w)
+      (subst (LineWithin T B lp' J' s B) (sym (Steals.thief-line T l p K few w below c far J D I free some))
+      (top-line-within T B lp' J' new s B b [] (subst (λ (v : ℕ). ThreadWithin T B lp' J' s v B b) (sym (bottom-alone b)) (stolen-lift L refl)) (λ y e. absurd (List·Memᴰ·not-nil e)))))
       rest-lift
 
-  robbed-heavy : AllHeavy T B lp' J' new s (kept (deque (d .owner) (above (d .threads))) (deque w [] ∷ P .rest))
-  robbed-heavy = go (eqb (d .owner) 16 && isEmpty (above (d .threads)))
+  robbed-within : LinesWithin T B lp' J' new s (kept (deque (d .owner) (above (d .threads))) (deque w [] ∷ P .rest))
+  robbed-within = go (eqb (d .owner) 16 && isEmpty (above (d .threads)))
     where
-      go : (q : Bool) → AllHeavy T B lp' J' new s (pick q (deque w [] ∷ P .rest) (deque (d .owner) (above (d .threads)) ∷ deque w [] ∷ P .rest))
-      go true = thief-heavy
+      go : (q : Bool) → LinesWithin T B lp' J' new s (pick q (deque w [] ∷ P .rest) (deque (d .owner) (above (d .threads)) ∷ deque w [] ∷ P .rest))
+      go true = thief-within
       go false =
-          heavy-cons T B lp' J' new s (deque (d .owner) (above (d .threads))) (deque w [] ∷ P .rest)
-          (subst (Heavy T B lp' J' s (slackOf B new d)) (sym (Steals.robbed-line T l p K few w below c far J D I free some))
+          lines-within-cons T B lp' J' new s (deque (d .owner) (above (d .threads))) (deque w [] ∷ P .rest)
+          (subst (LineWithin T B lp' J' s (slackOf B new d)) (sym (Steals.robbed-line T l p K few w below c far J D I free some))
           (above-lift (slackOf B old d) (slackOf B new d) (older d (Steals.other T l p K few w below c far J D I free some)) L chain (here .0)))
-          thief-heavy
+          thief-within
 
-  pub steal-weighs : AllHeavy T B lp' J' new s (robbed w c ds)
-  steal-weighs = subst (AllHeavy T B lp' J' new s) (sym (P .robs)) (heavy-append T B lp' J' new s (P .front) _ front-lift robbed-heavy)
+  pub steal-lines-within : LinesWithin T B lp' J' new s (robbed w c ds)
+  steal-lines-within = subst (LinesWithin T B lp' J' new s) (sym (P .robs)) (lines-within-append T B lp' J' new s (P .front) _ front-lift robbed-within)

@@ -1,12 +1,11 @@
--- `wivakkol_deques::said` meets its contract: nothing, finished and spent.
+-- `run_memory::replies::said` meets its contract: nothing, finished and spent.
 use mathlib.Core.Path.{_≡_}
 use Prim.Native.Nat.{ℕ}
 use mathlib.Core.Bool.{Bool, true, false}
 use borrow.Author.Tests.{ne-eqb}
-use Rattle.run_memory.specs.Memory.{saidCode}
-use Rattle.wivakkol.specs.Lent.{saidOf}
-use Rattle.wivakkol_deques.proofs.said.Statement.{statement}
-use Rattle.wivakkol_deques.proofs.said.Tie as tie
+use Rattle.run_memory.specs.Memory.{saidCode, saidOf}
+use Rattle.run_memory.proofs.replies.said.Statement.{statement}
+use Rattle.run_memory.proofs.replies.said.Tie as tie
 
 module _ (number : ℕ) (over : Bool) where
   refused : (number ≡ 0 → ⊥) → 0 ≡ saidCode (saidOf number over)

@@ -22,16 +22,16 @@ use Rattle.deques.specs.Partition.{occurs, ownedBy, AllInUse}
 use Rattle.deques.specs.Lines.{line, linesOf}
 use Rattle.deques.specs.Partition.{readyAt, holdsAt}
 use Rattle.deques.proofs.DequeTurns.{Kept}
-use Rattle.deque_bounds.proofs.Lines.{Link, Lonely, Parted, Chained, Light}
-use Rattle.deque_bounds.proofs.Went.{forks}
+use Rattle.deque_bounds.proofs.Lines.{Link, NoLiveChildBut, Parted, Chained, Light}
+use Rattle.deque_bounds.proofs.ActionLeaves.{forks}
 use Rattle.deques.specs.DequeRuns.{Pair}
 use Rattle.deques.specs.Deques.{startDeques}
 use Rattle.deques.specs.DequeCalls.{rowDeques}
 use Rattle.deque_bounds.specs.DequeRows.{robs, stealsBeyond, steals, stealsFar, far}
-use Rattle.deque_bounds.proofs.Upright.{heldBy, AllLines, Upright}
+use Rattle.deque_bounds.proofs.SerialLines.{heldBy, AllLines, SerialLines}
 use Rattle.deques.proofs.Flat.{Mine, mine}
-use Rattle.deque_bounds.proofs.UprightActs.{act-upright}
-use Rattle.deque_bounds.proofs.UprightSteals.{steal-upright, steal-holds}
+use Rattle.deque_bounds.proofs.SerialLinesActs.{act-serial-lines}
+use Rattle.deque_bounds.proofs.SerialLinesSteals.{steal-serial-lines, steal-holds}
 use Rattle.deques.specs.Deques.{DequeStep, steal, dequeTurn}
 use Rattle.schedule.specs.Machine.{taken, counted}
 use Rattle.schedule.specs.Begin.{startState}
@@ -45,7 +45,7 @@ use mathlib.Core.Path.{fun-ext}
 
 module _ (T : Table) (J : ℕ → ℕ) (st : State) where
   chained-counted : (e : ℕ) (k : List ℕ) → Chained T J st e k → Chained T J (counted st) e k
-  unfolding Chained Lonely Parted
+  unfolding Chained NoLiveChildBut Parted
   chained-counted e [] c = tt
   chained-counted e (t ∷ []) c = c
   chained-counted e (t ∷ y ∷ k) c =
@@ -62,9 +62,9 @@ module _ (T : Table) (J : ℕ → ℕ) (st : State) where
   all-counted fa [] c = tt
   all-counted fa (d ∷ ds) c = (chained-counted 0 (line (heldBy st) d) (c .0), light-counted fa (line (heldBy st) d) (c .1), all-counted fa ds (c .2))
 
-upright-counted : (T : Table) (p K fa : ℕ) (J : ℕ → ℕ) (D : Deques) → Upright T p K fa J D → Upright T p K fa J (over (counted (D .state)) (D .deques))
+serial-lines-counted : (T : Table) (p K fa : ℕ) (J : ℕ → ℕ) (D : Deques) → SerialLines T p K fa J D → SerialLines T p K fa J (over (counted (D .state)) (D .deques))
 unfolding Parted
-upright-counted T p K fa J D I =
+serial-lines-counted T p K fa J D I =
     record {
       kept = record { common = I .kept .common; placed = I .kept .placed };
       falls = I .falls;
@@ -73,42 +73,42 @@ upright-counted T p K fa J D I =
       waiters = λ u n e. I .waiters u n e;
     }
 
-upright-same : (T : Table) (p K fa fa' : ℕ) (J J' : ℕ → ℕ) (D : Deques) → fa ≡ fa' → ((x : ℕ) → J x ≡ J' x) → Upright T p K fa J D → Upright T p K fa' J' D
-upright-same T p K fa fa' J J' D e f I = subst (λ (y : ℕ). Upright T p K y J' D) e (subst (λ (y : ℕ → ℕ). Upright T p K fa y D) (fun-ext f) I)
+serial-lines-same : (T : Table) (p K fa fa' : ℕ) (J J' : ℕ → ℕ) (D : Deques) → fa ≡ fa' → ((x : ℕ) → J x ≡ J' x) → SerialLines T p K fa J D → SerialLines T p K fa' J' D
+serial-lines-same T p K fa fa' J J' D e f I = subst (λ (y : ℕ). SerialLines T p K y J' D) e (subst (λ (y : ℕ → ℕ). SerialLines T p K fa y D) (fun-ext f) I)
 
 -- ---- a turn
 
 module _ (T : Table) (l : Lawful T) (p K : ℕ) (few : p ≤ 16) (w : ℕ) (below : w < p) where
-  pub act-kept : (fa : ℕ) (J : ℕ → ℕ) (st : State) (ds : List Deque) → Upright T p K fa J (over st ds) → workerOf st w .holds ≡ true → Upright T p K fa J (actDeques T K w st ds .after)
+  pub act-kept : (fa : ℕ) (J : ℕ → ℕ) (st : State) (ds : List Deque) → SerialLines T p K fa J (over st ds) → workerOf st w .holds ≡ true → SerialLines T p K fa J (actDeques T K w st ds .after)
   act-kept fa J st ds I h =
       let m : Mine w ds = mine w ds (I .kept .placed .owned w (omega (arith, few, below)) ∙ rw h) in
-      subst (λ (y : List Deque). Upright T p K fa J (actDeques T K w st y .after)) (sym (m .whole))
-      (act-upright T l p K few w below fa J st (m .front) (m .threads) (m .rest) (m .clear) (m .alone) (subst (λ (y : List Deque). Upright T p K fa J (over st y)) (m .whole) I) h)
+      subst (λ (y : List Deque). SerialLines T p K fa J (actDeques T K w st y .after)) (sym (m .whole))
+      (act-serial-lines T l p K few w below fa J st (m .front) (m .threads) (m .rest) (m .clear) (m .alone) (subst (λ (y : List Deque). SerialLines T p K fa J (over st y)) (m .whole) I) h)
 
-  module _ (c fa : ℕ) (J : ℕ → ℕ) (D : Deques) (I : Upright T p K fa J D) where
+  module _ (c fa : ℕ) (J : ℕ → ℕ) (D : Deques) (I : SerialLines T p K fa J D) where
     abbrev Then : Deques → Type 0
-    Then E = Upright T p K (fa + stealsFar w c D) (λ x. J x + stealsBeyond T w c D x) E
+    Then E = SerialLines T p K (fa + stealsFar w c D) (λ x. J x + stealsBeyond T w c D x) E
 
     -- no steal
     pub none-stolen : robs w c D ≡ false → (stealsFar w c D ≡ 0) × ((x : ℕ) → stealsBeyond T w c D x ≡ 0)
     unfolding stealsFar stealsBeyond
     none-stolen e = (rw e, (λ x. rw e))
 
-    quiet : robs w c D ≡ false → (E : Deques) → Upright T p K fa J E → Then E
+    quiet : robs w c D ≡ false → (E : Deques) → SerialLines T p K fa J E → Then E
     quiet e E i =
         let (z, y) = none-stolen e in
-        upright-same T p K fa (fa + stealsFar w c D) J (λ x. J x + stealsBeyond T w c D x) E (omega (arith, z)) (λ x. omega (arith, y x)) i
+        serial-lines-same T p K fa (fa + stealsFar w c D) J (λ x. J x + stealsBeyond T w c D x) E (omega (arith, z)) (λ x. omega (arith, y x)) i
 
-    pub turn-upright : Then (dequeTurn T K w c D .after)
+    pub turn-serial-lines : Then (dequeTurn T K w c D .after)
     unfolding dequeTurn steal
-    turn-upright =
-        upright-counted T p K (fa + stealsFar w c D) (λ x. J x + stealsBeyond T w c D x) _
+    turn-serial-lines =
+        serial-lines-counted T p K (fa + stealsFar w c D) (λ x. J x + stealsBeyond T w c D x) _
         (either (λ (y : DequeStep). Then (y .after)) (workerOf (D .state) w .holds) _ _
         (λ e. quiet (rw e) (actDeques T K w (D .state) (D .deques) .after) (act-kept fa J (D .state) (D .deques) I e))
         (λ e. either (λ (y : DequeStep). Then (y .after)) (isEmpty (getD (D .deques) c nothing .threads)) _ _
         (λ i. quiet (rw (e, i)) D I)
         (λ i. act-kept (fa + stealsFar w c D) (λ x. J x + stealsBeyond T w c D x) (taken K w (bottom (getD (D .deques) c nothing .threads)) (D .state)) (robbed w c (D .deques))
-        (steal-upright T l p K few w below c fa J D I e i) (steal-holds T l p K few w below c fa J D I e i))))
+        (steal-serial-lines T l p K few w below c fa J D I e i) (steal-holds T l p K few w below c fa J D I e i))))
 
 -- ---- a row
 
@@ -116,18 +116,18 @@ abbrev pub BelowAll : ℕ → List Pair → Type 0
 BelowAll p row = (g : Pair) → List·Memᴰ g row → (g .worker < p) × (g .choice < p)
 
 module _ (T : Table) (l : Lawful T) (p K : ℕ) (few : p ≤ 16) where
-  pub row-upright : (row : List Pair) → BelowAll p row → (fa : ℕ) (J : ℕ → ℕ) (D : Deques) → Upright T p K fa J D
-      → Upright T p K (fa + far T K D row) (λ x. J x + steals T K D row x) (rowDeques T K D row)
+  pub row-serial-lines : (row : List Pair) → BelowAll p row → (fa : ℕ) (J : ℕ → ℕ) (D : Deques) → SerialLines T p K fa J D
+      → SerialLines T p K (fa + far T K D row) (λ x. J x + steals T K D row x) (rowDeques T K D row)
   unfolding rowDeques far steals
-  row-upright [] h fa J D I = upright-same T p K fa (fa + 0) J (λ x. J x + 0) D (omega arith) (λ x. omega arith) I
-  row-upright (g ∷ row) h fa J D I =
+  row-serial-lines [] h fa J D I = serial-lines-same T p K fa (fa + 0) J (λ x. J x + 0) D (omega arith) (λ x. omega arith) I
+  row-serial-lines (g ∷ row) h fa J D I =
       let w : ℕ = g .worker in
       let c : ℕ = g .choice in
       let E : Deques = dequeTurn T K w c D .after in
-      upright-same T p K (fa + stealsFar w c D + far T K E row) (fa + (stealsFar w c D + far T K E row)) (λ x. J x + stealsBeyond T w c D x + steals T K E row x)
+      serial-lines-same T p K (fa + stealsFar w c D + far T K E row) (fa + (stealsFar w c D + far T K E row)) (λ x. J x + stealsBeyond T w c D x + steals T K E row x)
       (λ x. J x + (stealsBeyond T w c D x + steals T K E row x)) (rowDeques T K E row) (omega arith) (λ x. omega arith)
-      (row-upright row (λ y m. h y (List·Memᴰ·tail m)) (fa + stealsFar w c D) (λ x. J x + stealsBeyond T w c D x) E
-      (turn-upright T l p K few w (h g (List·Memᴰ·head refl) .0) c fa J D I))
+      (row-serial-lines row (λ y m. h y (List·Memᴰ·tail m)) (fa + stealsFar w c D) (λ x. J x + stealsBeyond T w c D x) E
+      (turn-serial-lines T l p K few w (h g (List·Memᴰ·head refl) .0) c fa J D I))
 
   -- ---- the beginning
 
@@ -155,9 +155,9 @@ module _ (T : Table) (l : Lawful T) (p K : ℕ) (few : p ≤ 16) where
       own-none : (w : ℕ) → w < 16 → pick (eqb 16 w) 1 0 + 0 ≡ holdsAt (startState T .workers) w
       own-none w i = rw (ne-eqb 16 w (λ e. omega (arith, e, i)), start-worker T l w)
 
-  pub start-upright : Upright T p K 0 (λ x. 0) (startDeques T)
+  pub start-serial-lines : SerialLines T p K 0 (λ x. 0) (startDeques T)
   unfolding AllLines linesOf Chained Parted Light Ascends bottom
-  start-upright =
+  start-serial-lines =
       record {
         kept = start-kept;
         falls = λ a b i. omega arith;
@@ -174,7 +174,7 @@ module _ (T : Table) (l : Lawful T) (p K : ℕ) (few : p ≤ 16) where
       no-wait u e (no z) = omega (arith, e, start-unborn T l u (omega (arith, z)))
 
   -- after every row of turns from the beginning
-  pub from-start : (row : List Pair) → BelowAll p row → Upright T p K (far T K (startDeques T) row) (steals T K (startDeques T) row) (rowDeques T K (startDeques T) row)
+  pub from-start : (row : List Pair) → BelowAll p row → SerialLines T p K (far T K (startDeques T) row) (steals T K (startDeques T) row) (rowDeques T K (startDeques T) row)
   from-start row h =
-      upright-same T p K (0 + far T K (startDeques T) row) (far T K (startDeques T) row) (λ x. 0 + steals T K (startDeques T) row x) (steals T K (startDeques T) row)
-      (rowDeques T K (startDeques T) row) (omega arith) (λ x. omega arith) (row-upright row h 0 (λ x. 0) (startDeques T) start-upright)
+      serial-lines-same T p K (0 + far T K (startDeques T) row) (far T K (startDeques T) row) (λ x. 0 + steals T K (startDeques T) row x) (steals T K (startDeques T) row)
+      (rowDeques T K (startDeques T) row) (omega arith) (λ x. omega arith) (row-serial-lines row h 0 (λ x. 0) (startDeques T) start-serial-lines)

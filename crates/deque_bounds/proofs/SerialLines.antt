@@ -1,27 +1,24 @@
 -- What a run of DFDeques keeps from its beginning: its lines, their order, and what parts a child from its parent. An action keeps it.
 use mathlib.Core.Path.{_≡_, refl, sym, ap, subst}
 use Prim.Native.Nat.{ℕ, _+_, _≤_, _<_}
-use mathlib.Core.List.{List, [], _∷_, _++_, List·Memᴰ, List·Memᴰ·head, List·Memᴰ·tail, List·Memᴰ·not-nil, List·Memᴰ·cases-cons, List·Memᴰ·append-cases, Memᴰ·append-left, Memᴰ·append-right}
+use mathlib.Core.List.{List, [], _∷_, _++_, List·Memᴰ, List·Memᴰ·head, List·Memᴰ·tail, List·Memᴰ·append-cases, Memᴰ·append-left, Memᴰ·append-right}
 use mathlib.Core.Bool.{Bool, true, false}
 use mathlib.Core.Logic.{_⊎_, inl, inr}
 use native.Mathlib.Omega.{arith}
-use native.Mathlib.Decide.{decLt}
-use lib.Dec.{ltb, eqb}
-use borrow.Author.Tests.{eqb-true, eqb-false, eq-eqb, ltb-true}
-use Rattle.table.specs.Sum.{pick}
+use lib.Dec.{eqb}
+use borrow.Author.Tests.{eqb-false}
 use Rattle.table.specs.Format.{Table}
 use Rattle.table.specs.Checks.{owner}
 use Rattle.schedule.specs.declared.Worker.{Worker}
-use Rattle.schedule.specs.Memory.{countIn}
 use Rattle.schedule.specs.Machine.{State, ready, held, waiting, nextOf, statusOf, workerOf}
 use Rattle.order.specs.Order.{numberOf}
 use Rattle.order.proofs.Lawful.{Lawful}
 use Rattle.order.proofs.Words.{Ascends}
-use Rattle.schedule.proofs.Sound.Facts.{Facts}
 use Rattle.deques.specs.Deques.{Deque, kept, Deques}
-use Rattle.deques.specs.Partition.{occurs, ownedBy}
+use Rattle.deques.specs.Partition.{ownedBy}
 use Rattle.deques.specs.Lines.{line, linesOf}
-use Rattle.deques.proofs.DequeTurns.{Kept, withSerial, serial-facts}
+use Rattle.deques.proofs.DequeTurns.{Kept}
+use Rattle.deques.proofs.Standing.{standing}
 use Rattle.deque_bounds.proofs.Lines.{Live, Parted, Chained, Light, Falls, Moved, chained-keeps, light-keeps}
 
 abbrev pub heldBy : State → ℕ → ℕ
@@ -31,7 +28,7 @@ unfoldable pub AllLines : Table → ℕ → (ℕ → ℕ) → State → List Deq
 AllLines T far J st [] = Unit {0}
 AllLines T far J st (d ∷ ds) = Chained T J st 0 (line (heldBy st) d) × Light T far J st (line (heldBy st) d) × AllLines T far J st ds
 
-pub record Upright (T : Table) (p K far : ℕ) (J : ℕ → ℕ) (D : Deques) : Type 0 where
+pub record SerialLines (T : Table) (p K far : ℕ) (J : ℕ → ℕ) (D : Deques) : Type 0 where
   pub kept : Kept T p K D
   pub falls : Falls T J
   pub lines : AllLines T far J (D .state) (D .deques)
@@ -88,84 +85,9 @@ module _ (f g : ℕ → ℕ) where
 
 -- ---- who stands in a line
 
-pub counted-in : (v : ℕ) (l : List ℕ) → List·Memᴰ v l → 1 ≤ countIn v l
-unfolding countIn
-counted-in v [] m = absurd (List·Memᴰ·not-nil m)
-counted-in v (x ∷ l) m = go (List·Memᴰ·cases-cons m) (counted-in v l)
-  where
-    go : (v ≡ x) ⊎ List·Memᴰ v l → (List·Memᴰ v l → 1 ≤ countIn v l) → 1 ≤ pick (eqb x v) 1 0 + countIn v l
-    go (inl e) ih = rw (eq-eqb x v (sym e)) (omega arith)
-    go (inr i) ih = omega (arith, ih i)
-
-pub occurs-append : (v : ℕ) (A B : List Deque) → occurs v (A ++ B) ≡ occurs v A + occurs v B
-unfolding occurs
-occurs-append v [] B = omega arith
-occurs-append v (d ∷ A) B = omega (arith, occurs-append v A B)
-
-pub owned-append : (v : ℕ) (A B : List Deque) → ownedBy v (A ++ B) ≡ ownedBy v A + ownedBy v B
-unfolding ownedBy
-owned-append v [] B = omega arith
-owned-append v (d ∷ A) B = omega (arith, owned-append v A B)
-
-module _ (hold : ℕ → ℕ) (v : ℕ) where
-  abbrev pub Stands : List Deque → Type 0
-  Stands ds = (1 ≤ occurs v ds) ⊎ ((o : ℕ) × (o < 16) × (1 ≤ ownedBy o ds) × (hold o ≡ v))
-
-  pub stands : (ds : List Deque) → List·Memᴰ v (linesOf hold ds) → Stands ds
-  unfolding linesOf occurs ownedBy
-  stands [] m = absurd (List·Memᴰ·not-nil m)
-  stands (d ∷ ds) m = go (List·Memᴰ·append-cases (line hold d) m) (stands ds)
-    where
-      later : Stands ds → Stands (d ∷ ds)
-      later (inl i) = inl (omega (arith, i))
-      later (inr (o, i, j, e)) = inr (o, i, omega (arith, j), e)
-
-      here : (q : Bool) → ltb (d .owner) 16 ≡ q → List·Memᴰ v (pick q (hold (d .owner) ∷ d .threads) (d .threads)) → Stands (d ∷ ds)
-      here true i n = at (List·Memᴰ·cases-cons n)
-        where
-          at : (v ≡ hold (d .owner)) ⊎ List·Memᴰ v (d .threads) → Stands (d ∷ ds)
-          at (inl e) = inr (d .owner, ltb-true (d .owner) 16 i, rw (eq-eqb (d .owner) (d .owner) refl) (omega arith), sym e)
-          at (inr n) = inl (omega (arith, counted-in v (d .threads) n))
-      here false i n = inl (omega (arith, counted-in v (d .threads) n))
-
-      go : List·Memᴰ v (line hold d) ⊎ List·Memᴰ v (linesOf hold ds) → (List·Memᴰ v (linesOf hold ds) → Stands ds) → Stands (d ∷ ds)
-      go (inl n) ih = here (ltb (d .owner) 16) refl n
-      go (inr n) ih = later (ih n)
-
 module _ (T : Table) (l : Lawful T) (p K : ℕ) (D : Deques) (k : Kept T p K D) where
-  facts : Facts T p K (withSerial T l (D .state))
-  facts = serial-facts T l p K (D .state) (k .common)
-
-  pub in-deque : (v : ℕ) → 1 ≤ occurs v (D .deques) → (v < T .threads) × (statusOf (D .state) v ≡ ready)
-  in-deque v i = (low (decLt v (T .threads)), is-ready (eqb (statusOf (D .state) v) ready) refl)
-    where
-      low : Dec (v < T .threads) → v < T .threads
-      low (yes j) = j
-      low (no j) = absurd (omega (arith, i, k .placed .none v (omega (arith, j))))
-
-      is-ready : (q : Bool) → eqb (statusOf (D .state) v) ready ≡ q → statusOf (D .state) v ≡ ready
-      is-ready true e = eqb-true (statusOf (D .state) v) ready e
-      is-ready false e = absurd (let z : occurs v (D .deques) ≡ pick {A = ℕ} false 1 0 = rw e at (k .placed .once v (low (decLt v (T .threads)))) in omega (arith, z, i))
-
-  pub is-owner : (o : ℕ) → o < 16 → 1 ≤ ownedBy o (D .deques) → workerOf (D .state) o .holds ≡ true
-  is-owner o h i = go (workerOf (D .state) o .holds) refl
-    where
-      go : (q : Bool) → workerOf (D .state) o .holds ≡ q → q ≡ true
-      go true e = refl
-      go false e = absurd (let z : ownedBy o (D .deques) ≡ pick {A = ℕ} false 1 0 = rw e at (k .placed .owned o h) in omega (arith, z, i))
-
-  -- a thread in a line is ready or held
-  pub standing : (v : ℕ) → List·Memᴰ v (linesOf (heldBy (D .state)) (D .deques)) → (v < T .threads) × ((statusOf (D .state) v ≡ ready) ⊎ (statusOf (D .state) v ≡ held))
-  standing v m = go (stands (heldBy (D .state)) v (D .deques) m)
-    where
-      go : Stands (heldBy (D .state)) v (D .deques) → (v < T .threads) × ((statusOf (D .state) v ≡ ready) ⊎ (statusOf (D .state) v ≡ held))
-      go (inl i) = (in-deque v i .0, inl (in-deque v i .1))
-      go (inr (o, h, i, e)) =
-          let q : workerOf (D .state) o .holds ≡ true = is-owner o h i in
-          (subst (λ (z : ℕ). z < T .threads) e (facts .holding .holder-thread o h q), inr (subst (λ (z : ℕ). statusOf (D .state) z ≡ held) e (facts .holding .holder-held o h q)))
-
   pub standing-live : (v : ℕ) → List·Memᴰ v (linesOf (heldBy (D .state)) (D .deques)) → Live (D .state) v
-  standing-live v m = go (standing v m .1)
+  standing-live v m = go (standing T l p K D k v m .1)
     where
       go : (statusOf (D .state) v ≡ ready) ⊎ (statusOf (D .state) v ≡ held) → Live (D .state) v
       go (inl e) = ((λ z. omega (arith, e, z)), (λ z. omega (arith, e, z)))
