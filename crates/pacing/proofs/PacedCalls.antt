@@ -9,6 +9,7 @@ use lib.ListN.{replicate}
 use lib.Dec.{ltb, leb, eqb}
 use Rattle.table.specs.Sum.{pick}
 use Rattle.table.specs.Pass.{refusal}
+use Rattle.table.proofs.Tests.{no-way}
 use Rattle.schedule.specs.declared.Run.{Run}
 use Rattle.schedule.specs.declared.Beginning.the-variants.{Begun}
 use Rattle.schedule.specs.declared.Beginning.the-variants.{Refused as refusedBegin}
@@ -58,6 +59,20 @@ module _ (p b : ℕ) where
 
     pub start-begun : number ≡ 0 → paceBegun Begun (pace l) ≡ beginPace p b
     start-begun d = (rw (eq-eqb number 0 d) refl) ∙ ap begunAs e ∙ begun-so
+
+-- a pace that is begun is one begun in memory
+pub begun-started : (p b : ℕ) → beginPace p b .answer ≡ Begun → (startPace p b (replicate 260 0) .number ≡ 0) × (beginPace p b .pace .numbers ≡ startPace p b (replicate 260 0) .pace)
+unfolding startPace beginPace
+begun-started p b = go (ltb 0 p && leb p 16) (ltb 0 b && leb b 65535)
+  where
+    go : (x y : Bool)
+        → pick x (pick y (paceBegun Begun (pace (blank p b))) (paceBegun (refusedBegin (refusal 41 0)) (pace (replicate 260 0)))) (paceBegun (refusedBegin (refusal 20 0)) (pace (replicate 260 0))) .answer ≡ Begun
+        → (pick x (pick y (paced 0 (blank p b)) (paced 41 (replicate 260 0))) (paced 20 (replicate 260 0)) .number ≡ 0)
+        × (pick x (pick y (paceBegun Begun (pace (blank p b))) (paceBegun (refusedBegin (refusal 41 0)) (pace (replicate 260 0)))) (paceBegun (refusedBegin (refusal 20 0)) (pace (replicate 260 0))) .pace .numbers
+        ≡ pick x (pick y (paced 0 (blank p b)) (paced 41 (replicate 260 0))) (paced 20 (replicate 260 0)) .pace)
+    go true true e = (refl, refl)
+    go true false e = no-way (cc)
+    go false y e = no-way (cc)
 
 -- ---- a turn
 
