@@ -3,6 +3,7 @@
 pub mod PacedLimit
 pub mod PacedFromC
 pub mod MovesLimit
+pub mod PacedByValue
 pub mod RoundsKeep
 -- what they rest on: turns that a pace lets through keep the rule (Keeping), and every paced call is turns taken one by one (Steps)
 pub mod Keeping

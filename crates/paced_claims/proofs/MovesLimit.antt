@@ -130,29 +130,40 @@ idle r P = record { call = overList []; record-is = go (unsound r); row-is = emp
     go true = refl
     go false = refl
 
-    empty : (q b : Bool) → take (turnsIn (pick q (ran (Refused 0 (refusal 32 0)) r) (ran (pick b (Finished 0) (Spent 0)) r) .report)) [] ≡ []
+    empty : (q b : Bool) → _≡_ {A = List ℕ} (take (turnsIn (pick q (ran (Refused 0 (refusal 32 0)) r) (ran (pick b (Finished 0) (Spent 0)) r) .report)) []) []
     empty true b = refl
     empty false true = refl
     empty false false = refl
 
 module _ (r : Run) (P : Pace) where
-  -- a run of turns on a sound or blank record
+  -- the run over a list of the workers of turns, on a record that is sound or blank
+  listed : unsound r ≡ false → {row l : List ℕ} {r' : Run} → Turns r (P .numbers) row r' l → listRun r row ≡ ran (pick (rootEnded r') (Finished (length row)) (Spent (length row))) r'
+  unfolding listRun
+  listed e {row} {l} {r'} t =
+      let q : 0 + length row ≡ length row = omega arith in
+      rw e (
+      alone t (λ i. getD row i 0) 0 (λ m. let z : 0 + m ≡ m = omega arith in ap (λ (x : ℕ). getD row x 0) z) ∙ ap (λ (n : ℕ). ran (pick (rootEnded r') (Finished n) (Spent n)) r') q
+      )
+
   turns-one : unsound r ≡ false → {row l : List ℕ} {r' : Run} → Turns r (P .numbers) row r' l → One r P row (beside r' (record { numbers = l }))
-  unfolding afterCall rowOf listRun
+  unfolding afterCall rowOf
   turns-one e {row} {l} {r'} t =
-      let d : drive (λ i. getD row i 0) (length row) 0 r ≡ ran (pick (rootEnded r') (Finished (0 + length row)) (Spent (0 + length row))) r' =
-      alone t (λ i. getD row i 0) 0 (λ m. let q : 0 + m ≡ m = omega arith in ap (λ (x : ℕ). getD row x 0) q) in
+      let d = listed e t in
       record {
         call = overList row;
-        record-is = rw (e, d) refl;
-        row-is = rw (e, d) (whole (rootEnded r'));
+        record-is = ap (λ (x : Ran). x .run) d;
+        row-is = ap (λ (x : Ran). take (turnsIn (x .report)) row) d ∙ whole (rootEnded r');
         lets = turns-let t;
         workers = turns-workers t;
       }
     where
-      whole : (b : Bool) → take (turnsIn (pick b (Finished (0 + length row)) (Spent (0 + length row)))) row ≡ row
-      whole true = let q : 0 + length row ≡ length row = omega arith in rw q (take-length row)
-      whole false = let q : 0 + length row ≡ length row = omega arith in rw q (take-length row)
+      whole : (b : Bool) → take (turnsIn (pick b (Finished (length row)) (Spent (length row)))) row ≡ row
+      whole true = take-length row
+      whole false = take-length row
+
+  none-taken : (who : ℕ → List ℕ → ℕ) → workersOf who 0 0 (P .numbers) ≡ []
+  unfolding workersOf
+  none-taken who = refl
 
   run-one : (who : ℕ → List ℕ → ℕ) (k : ℕ) → let d : PacedRan = pacedRun who k r P in One r P (workersOf who 0 (turnsIn (d .report)) (P .numbers)) (afterRun d)
   run-one who k = go (unsound r) refl
@@ -160,12 +171,9 @@ module _ (r : Run) (P : Pace) where
       at : (d : PacedRan) → unsound r ≡ false → Driven who k 0 r (P .numbers) d → One r P (workersOf who 0 (turnsIn (d .report)) (P .numbers)) (afterRun d)
       at d e h = let q : turnsIn (d .report) ≡ h .taken = omega (arith, h .reported) in rw q (turns-one e (h .turns))
 
-      none-taken : workersOf who 0 0 (P .numbers) ≡ []
-      none-taken = refl
-
       go : (q : Bool) → unsound r ≡ q
           → let d : PacedRan = pick q (pacedRan (Refused 0 (refusal 32 0)) r P) (pacedDrive who k 0 r P) in One r P (workersOf who 0 (turnsIn (d .report)) (P .numbers)) (afterRun d)
-      go true e = rw none-taken (idle r P)
+      go true e = rw (none-taken who) (idle r P)
       go false e = at (pacedDrive who k 0 r P) e (drive-turns who k 0 r P)
 
   -- as many of a list as it reports

@@ -50,7 +50,7 @@ as-calls (opened h) = let r = as-calls h in record { calls = opening ∷ r .call
 
 steps-let : {s : List ℕ} {p : ℕ} {M M' : Memory} {P P' row : List ℕ} → Steps s M P row M' P' → getD (M .settings) 0 0 ≡ p → Lets p P row P'
 steps-let stay n = nobody
-steps-let {s} (step {M} {P} {w} t k) n = lets (omega (arith, below-p w M (t .unhindered), n)) (t .let-by) (steps-let k (ap (λ (x : List ℕ). getD x 0 0) (turn-settings s w M) ∙ n))
+steps-let {s} (step {M} {P} {w} t k) n = lets {w = w} (omega (arith, below-p w M (t .unhindered), n)) (t .let-by) (steps-let k (ap (λ (x : List ℕ). getD x 0 0) (turn-settings s w M) ∙ n))
 steps-let {s} (opened {M} k) n = steps-let k (ap (λ (x : List ℕ). getD x 0 0) (open-settings s M) ∙ n)
 
 -- ---- what every limit of a row says of them
