@@ -60,7 +60,7 @@ module _ {p b : ℕ} where
   pub next-may : {n : ℕ} {P : List ℕ} → Rounded p b n P → may P (nextIn P) ≡ true
   next-may {n} {P} h = may-one (h .stands) (nextIn P) (omega (arith, below-p h, h .stands .few-workers)) (rw (next-row h) (rounds-keep p (h .stands .some-worker) (suc n)))
 
-  rounded-on : {n : ℕ} {P : List ℕ} → Rounded p b n P → Rounded p b (suc n) (took P (nextIn P))
+  pub rounded-on : {n : ℕ} {P : List ℕ} → Rounded p b n P → Rounded p b (suc n) (took P (nextIn P))
   rounded-on {n} {P} h =
       record {
         turning = goes-on p (h .stands .some-worker) (h .stands .few-workers) n P (h .turning);
@@ -125,9 +125,12 @@ module _ (s : List ℕ) {p b : ℕ} where
       let r = rounded-call x n M P h in
       calls-pass limits limit (r .0) (pacedRounds s x M P .answer .memory) (pacedRounds s x M P .pace) (r .1)
 
+-- a pace that is begun
+pub first-rounded : (p b : ℕ) (l : List ℕ) → startPace p b l .number ≡ 0 → Rounded p b 0 (startPace p b l .pace)
+unfolding firsts
+first-rounded p b l e = record { turning = first-turning p b l e; stands = start-stands p b l e }
+
 -- from a pace that is begun, on any run: no call of rounds after calls of rounds is refused with 60
 pub paced-rounds-pass : (s : List ℕ) (p b : ℕ) (l : List ℕ) → startPace p b l .number ≡ 0 → (M : Memory) (limits : List ℕ) (limit : ℕ)
     → pacedRounds s limit (pacedAfter s (map byRounds limits) M (startPace p b l .pace) .memory) (pacedAfter s (map byRounds limits) M (startPace p b l .pace) .pace) .answer .number ≡ 60 → ⊥
-unfolding firsts
-paced-rounds-pass s p b l e M limits limit =
-    calls-pass s limits limit 0 M (startPace p b l .pace) (record { turning = first-turning p b l e; stands = start-stands p b l e })
+paced-rounds-pass s p b l e M limits limit = calls-pass s limits limit 0 M (startPace p b l .pace) (first-rounded p b l e)
