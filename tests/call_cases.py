@@ -9,12 +9,14 @@ import random
 
 import chart
 import machine
+import pace
 from cases import LARGEST, alloc, end, free, least, parent, work
 from machine import ENDED, HELD, LAST_TURN, NO_THREAD, READY, WAITING, described
 from tables import drawn, table
 
 FIELDS = ['length', 'p', 'quota', 'leftmost', 'busy', 'held', 'highest', 'turns', 'table', 'next', 'status', 'amounts', 'left', 'right']
 WORKER = ['holds', 'thread', 'quota']
+PACED = (b'b', b'T', b'L', b'R')
 E = table(parent(1, 2), [alloc(6), work, free(6), end], [alloc(6), free(6), end])
 
 
@@ -42,6 +44,22 @@ def rounds(limit):
     return b'r' + limit.to_bytes(4, 'little')
 
 
+def begun(p, b):
+    return b'b' + bytes([p]) + b.to_bytes(4, 'little')
+
+
+def paced(w):
+    return b'T' + bytes([w])
+
+
+def paced_order(*row):
+    return b'L' + bytes([len(row)]) + bytes(row)
+
+
+def paced_rounds(limit):
+    return b'R' + limit.to_bytes(4, 'little')
+
+
 def put(field, value, place=0, worker=False):
     number = len(FIELDS) + WORKER.index(field) if worker else FIELDS.index(field)
     return b'p' + bytes([number]) + place.to_bytes(2, 'little') + value.to_bytes(8, 'little')
@@ -61,8 +79,25 @@ def changed(run, call):
     return 'changed', run
 
 
-def called(run, call):
+def paced_call(run, keeper, call):
+    """A call on the record and the pace beside it, with the least b kept."""
+    if call[:1] == b'b':
+        keeper.numbers = [0] * pace.NUMBERS
+        number = keeper.begin(call[1], int.from_bytes(call[2:], 'little'))
+        answer = ('refused', number, 0) if number else ('begun',)
+    elif call[:1] == b'T':
+        answer, run = pace.turn(run, keeper, call[1])
+    elif call[:1] == b'L':
+        answer, run = pace.run_list(run, keeper, call[2:])
+    else:
+        answer, run = pace.run_rounds(run, keeper, int.from_bytes(call[1:], 'little'))
+    return ' '.join(map(str, (*answer, 'kept', keeper.numbers[pace.KEPT]))), run
+
+
+def called(run, call, keeper=None):
     """What the model answers, as text, and the record."""
+    if call[:1] in PACED:
+        return paced_call(run, keeper, call)
     if call[:1] == b'p':
         return changed(run, call)
     if call[:1] == b'c':
@@ -390,6 +425,26 @@ CASES = [
     ('sound: more quota left than a run leaves', (1, 6, table([alloc(4), alloc(4), end])), [turn(0), put('quota', 4, 0, True), turn(0)], ['done 0 0', 'changed', 'done 0 1']),
     ('sound: less quota left than a run leaves', (1, 9, table([alloc(4), alloc(4), end])), [turn(0), put('quota', 3, 0, True), turn(0)],
      ['done 0 0', 'changed', 'quota 0 4']),
+    # a pace beside the run
+    ('paced: 0 waits for 1; 30 and 31 come before 60', (2, 6, E), [begun(2, 1), paced(0), paced(1), paced(0), paced(0), paced(2), paced_rounds(99), paced(0), paced_rounds(3)],
+     ['begun kept 0', 'done 0 0 passed 0 kept 0', 'done 1 5 passed 0 kept 1', 'done 0 1 passed 1 kept 1', 'refused 60 0 kept 1', 'refused 30 0 kept 1', 'finished 11 kept 1', 'refused 31 0 kept 1',
+      'finished 0 kept 1']),
+    ('paced: b 2', (2, 6, E), [begun(2, 2), paced(0), paced(1), paced(0), paced(0), paced(0)],
+     ['begun kept 0', 'done 0 0 passed 0 kept 0', 'done 1 5 passed 0 kept 1', 'done 0 1 passed 1 kept 1', 'done 2 9 passed 1 kept 2', 'refused 60 0 kept 2']),
+    ('a paced list stopped by 60, and rounds after it', (2, 6, E), [begun(2, 1), paced_order(0, 0, 1, 0, 0), paced_order(), paced_rounds(1), paced_rounds(2), paced_order(1, 1)],
+     ['begun kept 0', 'refused 4 60 0 kept 1', 'spent 0 kept 1', 'spent 1 kept 1', 'spent 2 kept 1', 'refused 0 60 0 kept 1']),
+    ('paces that are not begun', (2, 6, E), [begun(0, 1), begun(17, 1), begun(2, 0), begun(2, 65536), begun(0, 0), paced(0), paced(1), begun(16, 65535), paced(1)],
+     ['refused 20 0 kept 0', 'refused 20 0 kept 0', 'refused 41 0 kept 0', 'refused 41 0 kept 0', 'refused 20 0 kept 0', 'done 0 0 passed 0 kept 0', 'refused 60 0 kept 0', 'begun kept 0',
+      'done 1 5 passed 0 kept 0']),
+    ('paced, not sound', (2, 6, E), [begun(2, 1), paced(0), put('held', 5), paced(0), paced(9), paced_order(), paced_order(0), paced_rounds(0), put('held', 0), paced_rounds(2)],
+     ['begun kept 0', 'done 0 0 passed 0 kept 0', 'changed', 'refused 32 0 kept 0', 'refused 32 0 kept 0', 'refused 0 32 0 kept 0', 'refused 0 32 0 kept 0', 'refused 0 32 0 kept 0', 'changed',
+      'spent 2 kept 1']),
+    ('paced, blank', (17, 6, E), [begun(2, 1), paced(0), paced_rounds(0), paced_rounds(7), paced_order(0), paced_order()],
+     ['begun kept 0', 'refused 30 0 kept 0', 'spent 0 kept 0', 'refused 0 30 0 kept 0', 'refused 0 30 0 kept 0', 'spent 0 kept 0']),
+    ('paced, the last turn but one', (2, 6, E), [begun(2, 1)] + NEARLY_LAST + [paced_rounds(9), paced(1), paced_order(), paced_rounds(0)],
+     ['begun kept 0', 'changed', 'refused 1 32 0 kept 0', 'refused 32 0 kept 0', 'refused 0 32 0 kept 0', 'refused 0 32 0 kept 0']),
+    ('a pace for more workers than the run has', (2, 6, E), [begun(3, 1), paced_rounds(99), paced_rounds(1), paced(0)],
+     ['begun kept 0', 'refused 2 30 0 kept 1', 'refused 0 30 0 kept 1', 'done 0 1 passed 1 kept 1']),
 ]
 
 
@@ -415,6 +470,12 @@ def random_put(rng, run):
     return put(field, near(getattr(run, field), 255), 0)
 
 
+def random_paced(rng, p):
+    """A pace for the run, seldom for another, and paced calls."""
+    sorts = [lambda: paced(rng.randrange(p)), lambda: paced_order(*(rng.randrange(p) for _ in range(rng.randint(0, 6)))), lambda: paced_rounds(rng.randint(0, 5)), lambda: turn(rng.randrange(p))]
+    return [begun(rng.choice([p] * 7 + [0, 17, 16]), rng.choice([1, 1, 1, 2, 3, 0, 65536]))] + [rng.choices(sorts, [4, 2, 2, 0.2])[0]() for _ in range(rng.randint(1, 12))]
+
+
 def random_case(rng):
     """A run, some turns, a change or two, and a call of each sort."""
     threads = rng.randint(1, 6)
@@ -427,7 +488,7 @@ def random_case(rng):
         calls.append(random_put(rng, run))
         run = called(run, calls[-1])[1]
     calls += [lined(), charted(*(rng.randrange(p + 1) for _ in range(rng.randint(0, 3)))), shown(rng.randrange(p + 1)), turn(rng.randrange(p)), rounds(rng.randint(0, 9)), order(0, rng.randrange(p), rng.randrange(p + 1))]
-    return (p, quota, data), calls
+    return (p, quota, data), calls + random_paced(rng, p)
 
 
 def record(label, beginning, calls):
@@ -443,7 +504,7 @@ def parts(data):
     calls_at = table_at + int.from_bytes(data[at + 5:table_at], 'little')
     calls, i = [], calls_at
     while data[i]:
-        length = {b't': 2, b'v': 2, b'w': 1, b'c': 2 + data[i + 1], b'l': 2 + data[i + 1], b'r': 5, b'p': 12}[data[i:i + 1]]
+        length = {b't': 2, b'v': 2, b'w': 1, b'c': 2 + data[i + 1], b'l': 2 + data[i + 1], b'r': 5, b'p': 12, b'b': 6, b'T': 2, b'L': 2 + data[i + 1], b'R': 5}[data[i:i + 1]]
         calls.append(data[i:i + length])
         i += length
     return data[1:at].decode(), data[at], int.from_bytes(data[at + 1:at + 5], 'little'), data[table_at:calls_at], calls
@@ -454,10 +515,11 @@ def answers(data):
     label, p, quota, case, calls = parts(data)
     answer, run = machine.begin(case, p, quota)
     text, found = label + ': ' + told(answer if answer == 'begun' else ' '.join(map(str, answer)), run), []
+    keeper = pace.Pace([0] * pace.NUMBERS)
     for call in calls:
-        answer, run = called(run, call)
+        answer, run = called(run, call, keeper)
         found.append(answer)
-        text += told(answer, run)
+        text += told(answer + (', pace %d' % mix(0, keeper.numbers) if call[:1] in PACED else ''), run)
     return found, text
 
 

@@ -289,6 +289,8 @@ def rounds_traits(data, text):
 
 def call_traits(data, text):
     yield 'refused 32' if ' 32 0,' in text else 'sound'
+    if ' 60 0 kept' in text:
+        yield 'refused 60'
     for call in call_cases.parts(data)[4]:
         if call[:1] == b'p' and call_cases.FIELDS[call[1]:][:1] in (['left'], ['right'], ['leftmost']):
             yield 'another ' + call_cases.FIELDS[call[1]]
@@ -426,7 +428,7 @@ PROGRAMS = {
                   ['done', 'open', 'quota', 'wait', 'idle', 'order left at the end', 'an odd last byte', 'order of 0', 'order of 4096', 'filled out',
                    'refused 20', 'refused 21', 'refused 30', 'refused 33', 'refused 44', 'refused 49']),
     'call_cases': ([], call_case, lambda data: call_cases.answers(data)[1], call_traits,
-                   ['sound', 'refused 32', 'another left', 'another right', 'another leftmost']),
+                   ['sound', 'refused 32', 'refused 60', 'another left', 'another right', 'another leftmost']),
 }
 
 

@@ -1,7 +1,7 @@
 """Holds the calls of libwivakkol_pace.a against a model over lent.py: paced turns, lists and rounds, refused ones included, openings of a pace, turns counted and none refused, on runs and paces as they
-are begun and on damaged ones. Answers, rows, who may go on, the least b kept, and every byte of the run and of the pace.
+are begun and on damaged ones. Answers, rows, who may go on, the least b kept, every byte of the run and of the pace, and the stack that a paced call uses.
 
-The model works on the pace's numbers as specs/Pace has them. Where a pace was begun and not damaged, it is held against the rule itself by brute force: every stretch of the row after a turn of a
+The model (pace.py) works on the pace's numbers as specs/Pace has them. Where a pace was begun and not damaged, it is held against the rule itself by brute force: every stretch of the row after a turn of a
 worker, up to its next, counted (document 01, "b"): a worker may have a turn exactly where the row with it keeps b, somebody always may, and the least b kept is the row's.
 
 Usage: pace_calls.py [COUNT]; wants target/staticlib/libwivakkol_pace.a and libwivakkol.a (rt staticlib).
@@ -19,82 +19,16 @@ from differential import beginning, order, run_table
 from lent import FINISHED, NO_ROW, SPENT
 from machine import ENDED, LAST_TURN
 from marks_calls import E
+from pace import AFTER, B, BREAKS, KEPT, LAST, NUMBERS, P, Pace
 from reference import Table
 
 ROOT = pathlib.Path(__file__).resolve().parent.parent
-NUMBERS, LAST = 260, 2**32 - 1
-B, P, KEPT, AFTER = 256, 257, 258, 259
-BREAKS = 60
 UNTOUCHED = [0xa5a5a5a5a5a5a5a5] * 5
+STACK_MOST = {'turn': 193, 'list': 289, 'rounds': 289}  # bytes that a call must stay below
 
 
 def word(x):
     return x.to_bytes(4, 'little')
-
-
-def least(row):
-    """The least b that a row keeps: of all stretches after a turn without a turn of its worker, the most turns of one worker."""
-    most = 0
-    for i, u in enumerate(row):
-        counts = collections.Counter()
-        for v in row[i + 1:]:
-            if v == u:
-                break
-            counts[v] += 1
-        most = max([most, *counts.values()])
-    return most
-
-
-class Pace:
-    def __init__(self, numbers):
-        self.numbers, self.row = list(numbers), None
-
-    def begin(self, p, b):
-        if not 1 <= p <= 16:
-            return 20
-        if not 1 <= b <= 65535:
-            return 41
-        self.numbers, self.row = [0] * NUMBERS, []
-        self.numbers[B], self.numbers[P] = b, p
-        return 0
-
-    def asked(self, w):
-        return max(self.numbers[16 * w:16 * w + 16]) if w < 16 else 0
-
-    def may(self, w):
-        return self.asked(w) <= self.numbers[B]
-
-    def number(self, w):
-        return 30 if w >= self.numbers[P] else 0 if self.may(w) else BREAKS
-
-    def took(self, w):
-        if self.row is not None:
-            self.row = self.row + [w] if w < self.numbers[P] else None
-        if w >= 16:
-            return
-        n = self.numbers
-        n[KEPT] = max(n[KEPT], self.asked(w))
-        n[AFTER] = w + 1
-        for x in range(16):
-            if 0 < n[16 * w + x] < LAST:
-                n[16 * w + x] += 1
-        for v in range(16):
-            n[16 * v + w] = 1
-        n[17 * w] = 0
-
-    def next(self):
-        return self.numbers[AFTER] if self.numbers[AFTER] < self.numbers[P] else 0
-
-    def by_force(self):
-        """The rule itself, where the pace stands for a row."""
-        row, p, b = self.row, self.numbers[P], self.numbers[B]
-        keeps = least(row)
-        assert self.numbers[KEPT] == keeps, (row, self.numbers[KEPT], keeps)
-        if keeps <= b:
-            fine = [least(row + [w]) <= b for w in range(p)]
-            assert [self.number(w) == 0 for w in range(p)] == fine, (row, b)
-            assert any(fine), (row, b)
-        assert self.next() == (row[-1] + 1 if row and row[-1] + 1 < p else 0)
 
 
 class Play:
@@ -238,14 +172,15 @@ def main():
     plays = [worked(rng)] + [drawn_play(rng) for _ in range(count)]
     reached = sum((play.reached for play in plays), collections.Counter())
     size = 4 + 40 + 4 * 18 + 4 + lent.SIZE + 4 * NUMBERS
-    calls = 0
+    calls, most = 0, [0, 0, 0]
     with tempfile.TemporaryDirectory() as folder:
         program = folder + '/calls'
         archives = [ROOT / ('target/staticlib/lib%s.a' % name) for name in ('wivakkol_pace', 'wivakkol')]
         subprocess.run(['cc', '-O2', '-I', ROOT / 'include', ROOT / 'tests/pace_calls.c', *archives, '-o', program], check=True)
         for play in plays:
             got = subprocess.run([program], input=bytes(play.steps), stdout=subprocess.PIPE, check=True).stdout
-            assert len(got) == size * len(play.answers), (len(got), size, len(play.answers))
+            assert len(got) == size * len(play.answers) + 12, (len(got), size, len(play.answers))
+            most = list(map(max, most, struct.unpack('<3I', got[-12:])))
             for k, (name, number, row, may, memory, numbers) in enumerate(play.answers):
                 one = got[size * k:size * (k + 1)]
                 answer, *values = struct.unpack('<I5Q18II', one[:120])
@@ -258,6 +193,8 @@ def main():
                 calls += 1
     missing = [name for name in WANTED if not reached[name]]
     assert count < 300 or not missing, missing
+    print('most stack: %s' % ', '.join('%s %d' % pair for pair in zip(STACK_MOST, most)))
+    assert all(x < limit for x, limit in zip(most, STACK_MOST.values())), 'a call took more stack than it may'
     print('%d paced calls agree; %s' % (calls, ', '.join('%s: %d' % (name, reached[name]) for name in WANTED)))
 
 

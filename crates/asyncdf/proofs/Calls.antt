@@ -60,11 +60,11 @@ module _ (r : Run) (e : unsound r ≡ false) (n : r .workers ≡ 0) where
   unfolding blank
   no-bytes = ap (λ (x : Run). x .length) is-blank
 
-  first-turn : r .turns ≡ 2 ^ 64 - 1 → ⊥
+  pub first-turn : r .turns ≡ 2 ^ 64 - 1 → ⊥
   unfolding blank
   first-turn h = omega (arith, h, ap (λ (x : Run). x .turns) is-blank)
 
-  open-root : rootEnded r ≡ false
+  pub open-root : rootEnded r ≡ false
   unfolding rootEnded blank
   open-root = ap rootEnded is-blank
 
@@ -99,17 +99,17 @@ module _ (run : Run) (e : unsound run ≡ false) (parents : List ℕ) (right : S
 
   -- packed, the blank record is read back
   module _ (n : run .workers ≡ 0) where
-    workers-none : getD (M .settings) 0 0 ≡ 0
+    pub workers-none : getD (M .settings) 0 0 ≡ 0
     workers-none = ap (λ (x : Memory). getD (x .settings) 0 0) m ∙ n
 
-    turns-few : movedIn M .turns ≡ 2 ^ 64 - 1 → ⊥
+    pub turns-few : movedIn M .turns ≡ 2 ^ 64 - 1 → ⊥
     turns-few h = first-turn run e n (sym (ap (λ (x : Memory). movedIn x .turns) m) ∙ h)
 
-    root-going : overIn M ≡ false
+    pub root-going : overIn M ≡ false
     unfolding rootEnded
     root-going = ap overIn m ∙ open-root run e n
 
-    same : recordOf run M ≡ run
+    pub same : recordOf run M ≡ run
     same = ap (recordOf run) m ∙ unmoved-back run parents (sixteen run e n)
 
   -- ---- a turn

@@ -4,7 +4,6 @@ use crate::beginning::blank;
 use crate::beginning::start;
 use run_memory::packing::pack;
 use run_memory::packing::unpack;
-use run_memory::runs::Stop;
 use run_memory::runs::list_in;
 use run_memory::runs::rounds_in;
 use run_memory::turn_in;
@@ -20,7 +19,6 @@ use soundness::test;
 use table::Found;
 use table::Refusal;
 ghost use mathlib.Core.Path.{_≡_};
-ghost use Prim.Native.Nat.{_<_};
 ghost use lib.Count.{ones};
 ghost use Rattle.table.specs.Pass.{refusal};
 ghost use Rattle.schedule.specs.declared.Turning.the-variants.{Refused};
@@ -137,19 +135,17 @@ fn unsound(run: Run) -> Ran
     }
 }
 
-// The report of a run that stopped.
-fn report_of(stop: Stop) -> Report
-    requires { ⌜ stop .number < 256 ⌝ }
-    ensures { λ r. ⌜ r ≡ reportOf (stop .number) (stop .finished) (stop .turns) ⌝ }
+// The report of a run that stopped: a refusal's number, 0 where there is none; whether at the root's end; the turns that it took.
+pub fn report_of(number: u8, finished: bool, turns: u64) -> Report
+    ensures { λ r. ⌜ r ≡ reportOf number finished turns ⌝ }
 {
-    if stop.number != 0 {
-        let number = stop.number as u8;
-        return Report::Refused(stop.turns, Refusal { number, place: 0 });
+    if number != 0 {
+        return Report::Refused(turns, Refusal { number, place: 0 });
     }
-    if stop.finished {
-        Report::Finished(stop.turns)
+    if finished {
+        Report::Finished(turns)
     } else {
-        Report::Spent(stop.turns)
+        Report::Spent(turns)
     }
 }
 
@@ -186,7 +182,7 @@ pub fn run_list(run: Run, order: &[u8]) -> Ran
         &mut numbers,
         &mut sums,
     );
-    let report = report_of(stop);
+    let report = report_of(stop.number as u8, stop.finished, stop.turns);
     let after = unpack(run, &bytes, &words, &numbers, &sums);
     Ran { report, run: after }
 }
@@ -224,7 +220,7 @@ pub fn run_rounds(run: Run, limit: u32) -> Ran
         &mut numbers,
         &mut sums,
     );
-    let report = report_of(stop);
+    let report = report_of(stop.number as u8, stop.finished, stop.turns);
     let after = unpack(run, &bytes, &words, &numbers, &sums);
     Ran { report, run: after }
 }

@@ -1,10 +1,12 @@
 // Begins runs and moves them on by single calls, also after something in the record was changed by hand, and prints each answer with what the record then holds. A record of the input:
 // the label's length (1 byte), the label, p (1), K (4), the table's length (3), the table, then calls up to a byte 0: 't' and a worker (1); 'l', a length (1) and an order; 'r' and
 // L (4); 'v' and a worker (1), a turn shown and not taken; 'w', the record's line of the wall chart; 'c', a length (1) and an order, the chart over it; 'p', a field (1), a place (2) and a
-// value (8).
+// value (8). A pace beside the run, with every number 0 at first: 'b', p (1) and b (4); 'T', 'L' and 'R', paced, as 't', 'l' and 'r'; each prints the least b kept and the pace too.
 use chart::Charted;
 use libc::STDIN_FILENO;
 use libc::STDOUT_FILENO;
+use pace::kept;
+use pacing::Pace;
 use preview::Previewed;
 use schedule::Beginning;
 use schedule::Reply;
@@ -97,6 +99,16 @@ fn tell_reply(reply: Reply) {
     }
 }
 
+fn tell_beginning(answer: Beginning) {
+    match answer {
+        Beginning::Begun => say(b"begun"),
+        Beginning::Refused(x) => {
+            say(b"refused");
+            tell_refusal(x);
+        }
+    }
+}
+
 fn tell_report(report: Report) {
     match report {
         Report::Finished(k) => tell(b"finished ", k),
@@ -115,6 +127,10 @@ fn mix(sum: u64, x: u64) -> u64 {
 }
 
 fn mix_byte(sum: u64, x: u8) -> u64 {
+    mix(sum, x as u64)
+}
+
+fn mix_number(sum: u64, x: u32) -> u64 {
     mix(sum, x as u64)
 }
 
@@ -286,9 +302,7 @@ fn put(run: Run, field: u8, i: usize, x: u64) -> Run {
 
 // ---- the calls
 
-fn call_turn(run: Run) -> Run {
-    let turned = asyncdf::turn(run, one_byte());
-    let answer = turned.answer;
+fn tell_turning(answer: Turning) {
     match answer {
         Turning::Taken(reply, passed) => {
             tell_reply(reply);
@@ -299,6 +313,12 @@ fn call_turn(run: Run) -> Run {
             tell_refusal(x);
         }
     }
+}
+
+fn call_turn(run: Run) -> Run {
+    let turned = asyncdf::turn(run, one_byte());
+    let answer = turned.answer;
+    tell_turning(answer);
     turned.run
 }
 
@@ -407,15 +427,93 @@ fn call(sort: u8, run: Run) -> Run {
     }
 }
 
+// ---- a pace beside the run
+
+struct Beside {
+    run: Run,
+    pace: Pace,
+}
+
+fn mix_pace(numbers: &[u32; 260]) -> u64 {
+    let mut sum = 0;
+    let mut i = 0;
+    while i < 260 {
+        sum = mix_number(sum, numbers[i]);
+        i += 1;
+    }
+    sum
+}
+
+// Prints the least b kept and the pace, after what a call said.
+fn with_pace(run: Run, pace: Pace) -> Beside {
+    let numbers = pace.numbers;
+    tell(b" kept ", kept(&numbers) as u64);
+    tell(b", pace ", mix_pace(&numbers));
+    Beside { run, pace }
+}
+
+fn call_pace(run: Run) -> Beside {
+    let p = one_byte();
+    let begun = pacing::begin_pace(p, quota_of(four_bytes()));
+    let answer = begun.answer;
+    tell_beginning(answer);
+    with_pace(run, begun.pace)
+}
+
+fn call_paced_turn(run: Run, pace: Pace) -> Beside {
+    let turned = pacing::paced_turn(run, pace, one_byte());
+    let answer = turned.answer;
+    tell_turning(answer);
+    with_pace(turned.run, turned.pace)
+}
+
+fn call_paced_order(run: Run, pace: Pace, buffer: &mut [u8]) -> Beside {
+    let n = io::read_full(STDIN_FILENO, buffer);
+    let ran = pacing::run_paced_list(run, pace, &buffer[..n]);
+    let report = ran.report;
+    tell_report(report);
+    with_pace(ran.run, ran.pace)
+}
+
+fn call_paced_list(run: Run, pace: Pace) -> Beside {
+    let length = wide(one_byte());
+    let mut buffer = io::buffer();
+    let n = within(length, &buffer);
+    call_paced_order(run, pace, &mut buffer[..n])
+}
+
+fn call_paced_rounds(run: Run, pace: Pace) -> Beside {
+    let ran = pacing::run_paced_rounds(run, pace, quota_of(four_bytes()));
+    let report = ran.report;
+    tell_report(report);
+    with_pace(ran.run, ran.pace)
+}
+
+fn call_beside(sort: u8, run: Run, pace: Pace) -> Beside {
+    match sort {
+        b'b' => call_pace(run),
+        b'T' => call_paced_turn(run, pace),
+        b'L' => call_paced_list(run, pace),
+        b'R' => call_paced_rounds(run, pace),
+        _ => Beside {
+            run: call(sort, run),
+            pace,
+        },
+    }
+}
+
 fn calls(begun: Run) {
     let mut run = begun;
+    let mut pace = Pace { numbers: [0; 260] };
     let mut left: u32 = 1000;
     while 0 < left {
         let sort = one_byte();
         if sort == 0 {
             return;
         }
-        run = call(sort, run);
+        let after = call_beside(sort, run, pace);
+        run = after.run;
+        pace = after.pace;
         tell_run(run);
         left -= 1;
     }
@@ -426,13 +524,7 @@ fn begin(p: u8, quota: u32, buffer: &mut [u8]) -> Run {
     let n = io::read_full(STDIN_FILENO, buffer);
     let begun = asyncdf::begin(&buffer[..n], p, quota);
     let answer = begun.answer;
-    match answer {
-        Beginning::Begun => say(b"begun"),
-        Beginning::Refused(x) => {
-            say(b"refused");
-            tell_refusal(x);
-        }
-    }
+    tell_beginning(answer);
     begun.run
 }
 

@@ -1,5 +1,6 @@
 // DFDeques runs by value (N13): beginning, the test of a record, a single turn, a run over a list of two bytes a turn. Every call is total, and what it answers equals a definition of
 // crates/deques. A turn and a run pack the record into the blocks of crates/run_memory, take their turns there (crates/stealing), and read it back.
+use asyncdf::report_of;
 use deques::DequeBegun;
 use deques::DequeRan;
 use deques::DequeRun;
@@ -8,7 +9,6 @@ use deques::DequeTurning;
 use links::NO_THREAD;
 use packing::pack_deques;
 use packing::unpack_deques;
-use run_memory::runs::Stop;
 use schedule::Beginning;
 use schedule::Report;
 use stealing::deque_turn_in;
@@ -16,12 +16,10 @@ use stealing::runs::deque_list_in;
 use table::Refusal;
 use testing::deque_test;
 ghost use mathlib.Core.Path.{_≡_};
-ghost use Prim.Native.Nat.{_<_};
 ghost use Rattle.table.specs.Pass.{refusal};
 ghost use Rattle.schedule.specs.declared.Report.the-variants.{Refused as Stopped};
 ghost use Rattle.schedule.specs.Answers.{beginningValues, reportValues};
 ghost use Rattle.schedule.specs.Values.{beginValues};
-ghost use Rattle.run_memory.specs.Runs.{reportOf};
 ghost use Rattle.deques.specs.declared.DequeTurning.the-variants.{Refused};
 ghost use Rattle.deques.specs.DequeBegin.{dequeBegin};
 ghost use Rattle.deques.specs.DequeTurn.{dequeTurned as turnedOf};
@@ -132,22 +130,6 @@ fn unsound(run: DequeRun) -> DequeRan
     }
 }
 
-// The report of a run that stopped.
-fn report_of(stop: Stop) -> Report
-    requires { ⌜ stop .number < 256 ⌝ }
-    ensures { λ r. ⌜ r ≡ reportOf (stop .number) (stop .finished) (stop .turns) ⌝ }
-{
-    if stop.number != 0 {
-        let number = stop.number as u8;
-        return Report::Refused(stop.turns, Refusal { number, place: 0 });
-    }
-    if stop.finished {
-        Report::Finished(stop.turns)
-    } else {
-        Report::Spent(stop.turns)
-    }
-}
-
 // A run over a list, two bytes a turn: worker and choice; an odd last byte isn't read.
 pub fn run_pairs(run: DequeRun, order: &[u8]) -> DequeRan
     ensures { λ r. ⌜ r ≡ pairsRun run (now (order .entry)) ⌝ }
@@ -182,7 +164,7 @@ pub fn run_pairs(run: DequeRun, order: &[u8]) -> DequeRan
         &mut numbers,
         &mut sums,
     );
-    let report = report_of(stop);
+    let report = report_of(stop.number as u8, stop.finished, stop.turns);
     let after = unpack_deques(run, &bytes, &words, &numbers, &sums);
     DequeRan { report, run: after }
 }

@@ -1,19 +1,14 @@
 -- The memory limit with b and no hypothesis on the row: from an accepted beginning of a run and of a pace, over every list of paced turns, lists and rounds, refused ones included, and openings.
 use mathlib.Core.Path.{_≡_, refl, sym, ap, subst, _∙_}
-use mathlib.Core.Logic.{_↔_}
 use Prim.Native.Nat.{ℕ, _<_, _≤_}
 use native.Mathlib.Omega.{arith}
-use mathlib.Core.List.{List, [], _∷_, _++_, append-assoc, append-nil, map}
-use mathlib.Core.Bool.{true}
-use lib.ListN.{length, getD}
+use mathlib.Core.List.{List, [], _∷_, _++_, map}
+use lib.ListN.{getD}
 use lib.Dec.{eqb}
 use borrow.Author.Tests.{eq-eqb}
 use Rattle.table.specs.Sum.{pick}
 use Rattle.table.specs.Format.{tableOf}
 use Rattle.schedule.specs.declared.Run.{Run}
-use Rattle.schedule.specs.Record.{listIn}
-use Rattle.schedule.specs.Threads.{threadLimit}
-use Rattle.schedule.specs.Memory.{memoryOf, peakMemory, Keeps, limit}
 use Rattle.schedule.specs.Calls.{turn}
 use Rattle.filling.specs.Filled.{filledOut}
 use Rattle.bounds.proofs.Limit.{MemoryLimit}
@@ -21,15 +16,18 @@ use Rattle.bounds.proofs.ThreadLimit.{ThreadLimit}
 use Rattle.bounds.proofs.RoundsLimit.{RoundsLimit, within-rounds}
 use Rattle.run_memory.specs.Memory.{Memory, turnIn, lentTurn}
 use Rattle.run_memory.specs.Stands.{runIn}
+use Rattle.run_memory.proofs.ByValue.{turn-settings}
 use Rattle.wivakkol.specs.Lent.{lentBegin}
 use Rattle.wivakkol.specs.Opened.{lentOpen}
 use Rattle.claims.specs.LentCalls.{LentCall, moving, opening, lentMove, lentCall, lentRowOf, lentAfter, lentRow}
 use Rattle.claims.proofs.LentLimit.{lent-limit, lent-threads, memory-so}
-use Rattle.pace.specs.Pace.{may, took, startPace}
+use Rattle.pace.specs.Pace.{startPace}
 use Rattle.pace.specs.Stands.{StandsFor}
-use Rattle.pace.proofs.Exact.{may-exactly, may-stands, start-stands, somebody-may, keeps-nil}
+use Rattle.pace.proofs.Exact.{start-stands, keeps-nil}
 use Rattle.paced_claims.specs.PacedCalls.{PacedCall, byRounds, Both, pacedAfter, pacedRow}
-use Rattle.paced_claims.proofs.Steps.{Taken, Steps, stay, step, opened, calls-steps, below-p, settings-stay, open-settings}
+use Rattle.paced_claims.proofs.Keeping.{Lets, Paces, lets-keep, PacedWithin, within-so}
+use Rattle.paced_claims.proofs.Keeping.{stay as nobody, step as lets}
+use Rattle.paced_claims.proofs.Steps.{Taken, Steps, stay, step, opened, calls-steps, below-p, open-settings}
 use Rattle.paced_claims.proofs.RoundsKeep.{paced-rounds-keep}
 
 -- ---- paced turns are turns
@@ -50,21 +48,10 @@ as-calls (opened h) = let r = as-calls h in record { calls = opening ∷ r .call
 
 -- ---- they keep the rule
 
-pub record Paces (p b : ℕ) (row : List ℕ) (P : List ℕ) : Type 0 where
-  pub keeps : Keeps b row
-  pub stands : StandsFor P p b row
-
-steps-keep : {s : List ℕ} {p b : ℕ} {M M' : Memory} {P P' more : List ℕ} → Steps s M P more M' P' → (row : List ℕ) → getD (M .settings) 0 0 ≡ p → Paces p b row P → Paces p b (row ++ more) P'
-steps-keep {P = P} stay row n h = rw (append-nil row) h
-steps-keep {s} {p} {b} (step {M} {P} {w} {row = more} {M'} {P'} t k) row n h =
-    let i : w < p = omega (arith, below-p w M (t .unhindered)) in
-    let next : Paces p b (row ++ w ∷ []) (took P w) =
-    record {
-      keeps = may-exactly P p b row (h .stands) (h .keeps) w (omega (arith, i, h .stands .few-workers)) .0 (t .let-by);
-      stands = may-stands P p b row (h .stands) w i (t .let-by);
-    } in
-    subst (λ (l : List ℕ). Paces p b l P') (append-assoc row (w ∷ []) more) (steps-keep k (row ++ w ∷ []) (ap (λ (x : List ℕ). getD x 0 0) (settings-stay s w M) ∙ n) next)
-steps-keep {s} (opened {M} k) row n h = steps-keep k row (ap (λ (x : List ℕ). getD x 0 0) (open-settings s M) ∙ n) h
+steps-let : {s : List ℕ} {p : ℕ} {M M' : Memory} {P P' row : List ℕ} → Steps s M P row M' P' → getD (M .settings) 0 0 ≡ p → Lets p P row P'
+steps-let stay n = nobody
+steps-let {s} (step {M} {P} {w} t k) n = lets {w = w} (omega (arith, below-p w M (t .unhindered), n)) (t .let-by) (steps-let k (ap (λ (x : List ℕ). getD x 0 0) (turn-settings s w M) ∙ n))
+steps-let {s} (opened {M} k) n = steps-let k (ap (λ (x : List ℕ). getD x 0 0) (open-settings s M) ∙ n)
 
 -- ---- what every limit of a row says of them
 
@@ -95,21 +82,8 @@ module _ (s : List ℕ) (p K room : ℕ) (e : lentBegin s p K room .number ≡ 0
 -- ---- the limit
 
 -- what a list of paced calls and openings leaves, given the table s that runs
-pub record PacedLimit (s : List ℕ) (p K b : ℕ) (row : List ℕ) (after : Both) : Type 0 where
-  -- the turns taken keep the rule with b, and the pace stands for them
-  pub keeps : Keeps b row
-  pub stands : StandsFor (after .pace) p b row
-  -- demand 3 of the record and the row
-  pub memory : MemoryLimit (tableOf s) p K b (runIn s (after .memory)) row
-  -- and with no hypothesis on the row: memory held now, and the highest ever
-  pub held : runIn s (after .memory) .held ≤ limit (tableOf s) p K b
-  pub highest : runIn s (after .memory) .highest ≤ limit (tableOf s) p K b
-  -- N2's limit on the threads in the list too
-  pub threads : ThreadLimit (tableOf s) p K b (runIn s (after .memory)) row
-  pub listed : length (listIn (runIn s (after .memory))) ≤ threadLimit (tableOf s) p b
-  -- a worker may have the next turn exactly where the row with it keeps the rule, and some worker may
-  pub exact : (w : ℕ) → w < p → (may (after .pace) w ≡ true) ↔ Keeps b (row ++ w ∷ [])
-  pub somebody : (w : ℕ) × ((w < p) × (may (after .pace) w ≡ true))
+abbrev pub PacedLimit : List ℕ → ℕ → ℕ → ℕ → List ℕ → Both → Type 0
+PacedLimit s p K b row after = PacedWithin (tableOf s) p K b row (runIn s (after .memory)) (after .pace)
 
 -- for every accepted beginning of a run and of a pace, and every list of paced calls, refused ones included, and openings
 pub paced-limit : (s : List ℕ) (p K room b : ℕ) (l : List ℕ) → lentBegin s p K room .number ≡ 0 → startPace p b l .number ≡ 0 → (calls : List PacedCall)
@@ -122,22 +96,8 @@ paced-limit s p K room b l e f calls =
     let row : List ℕ = pacedRow F calls M P in
     let first : StandsFor P p b [] = start-stands p b l f in
     let settled : getD (M .settings) 0 0 ≡ p = ap (λ (N : Memory). getD (N .settings) 0 0) (memory-so s p K room e) in
-    let c : Paces p b ([] ++ row) (pacedAfter F calls M P .pace) = steps-keep (calls-steps F calls M P) [] settled (record { keeps = keeps-nil b; stands = first }) in
-    let m : MemoryLimit (tableOf F) p K b (runIn F (pacedAfter F calls M P .memory)) row = paced-memory s p K room e P calls b (first .some-bound) in
-    let t : ThreadLimit (tableOf F) p K b (runIn F (pacedAfter F calls M P .memory)) row = paced-threads s p K room e P calls b (first .some-bound) in
-    let within : (memoryOf (tableOf F) K row ≤ limit (tableOf F) p K b) × (peakMemory (tableOf F) K row ≤ limit (tableOf F) p K b) =
-    m .bounded row [] (sym (append-nil row)) (c .keeps) in
-    record {
-      keeps = c .keeps;
-      stands = c .stands;
-      memory = m;
-      held = rw (m .held) (within .0);
-      highest = rw (m .highest) (within .1);
-      threads = t;
-      listed = rw (t .listed) (t .bounded row [] (sym (append-nil row)) (c .keeps));
-      exact = λ w i. may-exactly (pacedAfter F calls M P .pace) p b row (c .stands) (c .keeps) w (omega (arith, i, c .stands .few-workers));
-      somebody = somebody-may (pacedAfter F calls M P .pace) p b row (c .stands);
-    }
+    let c : Paces p b ([] ++ row) (pacedAfter F calls M P .pace) = lets-keep (steps-let (calls-steps F calls M P) settled) [] (record { keeps = keeps-nil b; stands = first }) in
+    within-so c (paced-memory s p K room e P calls b (first .some-bound)) (paced-threads s p K room e P calls b (first .some-bound))
 
 -- ---- rounds
 

@@ -26,15 +26,15 @@ use Rattle.paced_claims.proofs.Steps.{Steps, stay, step, opened, call-s
 -- ---- the pace after turns in rounds
 
 -- the next of p workers in rounds after n turns is n modulo p
-record Turning (p n : ℕ) (P : List ℕ) : Type 0 where
-  long : length P ≡ 260
-  workers : getD P 257 0 ≡ p
-  next : nextIn P ≡ n % p
+pub record Turning (p n : ℕ) (P : List ℕ) : Type 0 where
+  pub long : length P ≡ 260
+  pub workers : getD P 257 0 ≡ p
+  pub next : nextIn P ≡ n % p
 
-abbrev inRounds : ℕ → List ℕ → ℕ
+abbrev pub inRounds : ℕ → List ℕ → ℕ
 inRounds = pacedWorker [] true
 
-this-worker : (i : ℕ) (P : List ℕ) → inRounds i P ≡ nextIn P
+pub this-worker : (i : ℕ) (P : List ℕ) → inRounds i P ≡ nextIn P
 unfolding pacedWorker
 this-worker i P = refl
 
@@ -44,7 +44,7 @@ module _ (p : ℕ) (some : 0 < p) (few : p ≤ 16) where
   next-took P w long workers small =
       rw (took-after P long w small, took-past-counters P long w small 257 (omega arith) (λ z. omega arith) (λ z. omega arith), workers)
 
-  goes-on : (n : ℕ) (P : List ℕ) → Turning p n P → Turning p (suc n) (took P (nextIn P))
+  pub goes-on : (n : ℕ) (P : List ℕ) → Turning p n P → Turning p (suc n) (took P (nextIn P))
   goes-on n P h =
       let small : nextIn P < 16 = rw (h .next) (omega (arith, mod-lt n some, few)) in
       let e : n + 1 ≡ suc n = omega arith in
@@ -78,7 +78,7 @@ module _ (p : ℕ) (some : 0 < p) (few : p ≤ 16) where
 -- ---- the calls
 
 -- what turns one by one leave of a pace
-steps-pace : {s : List ℕ} {M M' : Memory} {P P' row : List ℕ} → Steps s M P row M' P' → P' ≡ tookEach P row
+pub steps-pace : {s : List ℕ} {M M' : Memory} {P P' row : List ℕ} → Steps s M P row M' P' → P' ≡ tookEach P row
 unfolding tookEach
 steps-pace stay = refl
 steps-pace (step t h) = steps-pace h
@@ -105,17 +105,18 @@ next-none P e = rw e (go (ltb 0 (getD P 257 0)))
     go true = refl
     go false = refl
 
+-- a pace that is begun
+pub first-turning : (p b : ℕ) (l : List ℕ) → startPace p b l .number ≡ 0 → Turning p 0 (startPace p b l .pace)
+unfolding afterLatest
+first-turning p b l e =
+    let P : List ℕ = startPace p b l .pace in
+    let h : StandsFor P p b [] = start-stands p b l e in
+    record { long = h .long; workers = h .workers; next = next-none P (h .after) ∙ sym (zero-mod p) }
+
 -- from a pace that is begun, on any run
 pub paced-rounds-keep : (s : List ℕ) (p b : ℕ) (l : List ℕ) → startPace p b l .number ≡ 0 → (M : Memory) (limits : List ℕ) → Keeps 1 (pacedRow s (map byRounds limits) M (startPace p b l .pace))
-unfolding afterLatest
 paced-rounds-keep s p b l e M limits =
     let P : List ℕ = startPace p b l .pace in
     let h : StandsFor P p b [] = start-stands p b l e in
-    let first : Turning p 0 P =
-    record {
-      long = h .long;
-      workers = h .workers;
-      next = next-none P (h .after) ∙ sym (zero-mod p);
-    } in
-    let r = rounds-are s p (h .some-worker) (h .few-workers) limits 0 M P first in
+    let r = rounds-are s p (h .some-worker) (h .few-workers) limits 0 M P (first-turning p b l e) in
     rw (r .1) (rounds-keep p (h .some-worker) (r .0))

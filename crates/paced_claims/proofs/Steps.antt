@@ -8,13 +8,11 @@ use lib.ListN.{length, getD}
 use lib.Dec.{eqb, ltb}
 use borrow.Author.Tests.{eq-eqb, eqb-true, eqb-false, ltb-true}
 use Rattle.table.specs.Sum.{pick}
-use Rattle.table.specs.Format.{tableOf}
 use Rattle.table.proofs.Tests.{no-way}
 use Rattle.schedule.specs.declared.Reply.the-variants.{Idle}
 use Rattle.order.specs.Firsts.{firsts}
 use Rattle.schedule.specs.Machine.{ended}
-use Rattle.array_machine.specs.Counted.{Left, turnOn}
-use Rattle.run_memory.specs.Memory.{Memory, movedIn, workerIn, memoryAfter, told, takenIn, turnLeft, turnIn, hindrance}
+use Rattle.run_memory.specs.Memory.{Memory, movedIn, told, takenIn, turnIn, hindrance}
 use Rattle.run_memory.specs.Runs.{stopped, overIn}
 use Rattle.wivakkol.specs.Opened.{soundIn, blankIn, openedAs, lentOpen}
 use Rattle.pace.specs.Pace.{may, took}
@@ -170,24 +168,7 @@ below-p w M e =
     go false true t e = refl
     go false false t e = no-way (omega arith)
 
-left-stays : (M : Memory) (w : ℕ) (z : Left) → turnLeft M w z .memory .settings ≡ M .settings
-unfolding turnLeft
-left-stays M w z = go (z .fits)
-  where
-    go : (q : Bool) → pick q (told 0 (z .reply) (memoryAfter M w z)) (told 32 Idle M) .memory .settings ≡ M .settings
-    go true = refl
-    go false = refl
-
--- it leaves p as it was
-pub settings-stay : (s : List ℕ) (w : ℕ) (M : Memory) → turnIn s w M .memory .settings ≡ M .settings
-unfolding turnIn
-settings-stay s w M = go (hindranceIn M w) (eqb (hindranceIn M w) 0)
-  where
-    go : (n : ℕ) (q : Bool) → pick q (takenIn s w M) (told n Idle M) .memory .settings ≡ M .settings
-    go n true = left-stays M w (turnOn (tableOf s) (getD (M .settings) 1 0) (M .parents) w (M .arrays) (movedIn M) (workerIn M w))
-    go n false = refl
-
--- so does an opening
+-- an opening leaves p as it was (a turn: run_memory's turn-settings)
 pub open-settings : (s : List ℕ) (M : Memory) → lentOpen s M .memory .settings ≡ M .settings
 unfolding lentOpen
 open-settings s M = go (soundIn s M) (blankIn M)

@@ -1,2 +1,3 @@
 pub mod PacedTurns
 pub mod PacedDrives
+pub mod PacedNumbers

@@ -91,8 +91,8 @@ fn drive(
     over(root_ended(&*bytes), i)
 }
 
-// 32 first where no turn can be counted; then the run.
-fn run(
+// 32 first where no turn can be counted; then the run, over the order or in rounds: what a call from C and one by value make.
+pub fn run_in(
     table: &[u8],
     order: &[u8],
     rounds: bool,
@@ -137,7 +137,7 @@ pub extern "C" fn wivakkol_paced_list_on(
     ensures { λ r. ⌜ kept (answer r (now (row .exit)) (memoryOf (now (bytes .exit)) (now (words .exit)) (now (numbers .exit)) (now (sums .exit)))) (now (pace .exit))
         ≡ pacedList (now (table .entry)) (now (order .entry)) (memoryOf (now (bytes .entry)) (now (words .entry)) (now (numbers .entry)) (now (sums .entry))) (now (pace .entry)) ⌝ }
 {
-    let stop = run(
+    let stop = run_in(
         table,
         order,
         false,
@@ -166,7 +166,7 @@ pub extern "C" fn wivakkol_paced_rounds_on(
     ensures { λ r. ⌜ kept (answer r (now (row .exit)) (memoryOf (now (bytes .exit)) (now (words .exit)) (now (numbers .exit)) (now (sums .exit)))) (now (pace .exit))
         ≡ pacedRounds (now (table .entry)) limit (memoryOf (now (bytes .entry)) (now (words .entry)) (now (numbers .entry)) (now (sums .entry))) (now (pace .entry)) ⌝ }
 {
-    let stop = run(
+    let stop = run_in(
         table,
         b"",
         true,

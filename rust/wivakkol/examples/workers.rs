@@ -197,23 +197,34 @@ fn main() -> Result<(), Box<dyn Error>> {
     Ok(())
 }
 
-/// Five runs each of examples/tree.text, within a time.
+/// Five runs each of examples/tree.text and of the fan of bench/bench.py, within a time.
 #[cfg(all(test, feature = "desk"))]
 mod tests {
     use super::*;
     use std::sync::mpsc;
     use std::time::Duration;
 
-    fn tree() -> Vec<u8> {
-        let text = include_bytes!("../../../examples/tree.text");
+    fn assembled(text: &[u8]) -> Vec<u8> {
         wivakkol::assemble(&mut TablesWork::new(), text, &mut vec![0; TABLE_MOST]).expect("the text is accepted").to_vec()
     }
 
+    fn tree() -> Vec<u8> {
+        assembled(include_bytes!("../../../examples/tree.text"))
+    }
+
+    /// A thread with 999 children, each of which draws 64.
+    fn fan() -> Vec<u8> {
+        let forks: String = (1..1000).map(|t| format!("fork {t}\n")).collect();
+        let joins: String = (1..1000).rev().map(|t| format!("join {t}\n")).collect();
+        let children: String = (1..1000).map(|t| format!("thread {t}\nalloc 64\nwork\nwork\nfree 64\nend\n")).collect();
+        assembled(format!("thread 0\n{forks}{joins}end\n{children}").as_bytes())
+    }
+
     /// `most`: S_p, as docs/WORKERS.md has it.
-    fn five_runs(p: u32, quota: u32, most: u64) {
+    fn five_runs(table: fn() -> Vec<u8>, p: u32, quota: u32, most: u64) {
         let (done, ended) = mpsc::channel();
         let runs = thread::spawn(move || {
-            let table = tree();
+            let table = table();
             let serial = check(&mut TablesWork::new(), &table).unwrap().peak;
             for _ in 0..5 {
                 let seen = run_workers(&table, p, quota).expect("the table runs");
@@ -232,17 +243,20 @@ mod tests {
 
     #[test]
     fn two_workers() {
-        five_runs(2, 12, 208);
+        five_runs(tree, 2, 12, 208);
+        five_runs(fan, 2, 64, 128);
     }
 
     #[test]
     fn four_workers() {
-        five_runs(4, 12, 1160);
+        five_runs(tree, 4, 12, 1160);
+        five_runs(fan, 4, 64, 256);
     }
 
     #[test]
     fn sixteen_workers() {
-        five_runs(16, 12, 2044);
+        five_runs(tree, 16, 12, 2044);
+        five_runs(fan, 16, 64, 1024);
     }
 
     /// Each of the four that is broken is noticed.
@@ -256,6 +270,6 @@ mod tests {
     /// Allocs of 8 above the quota: the filled-out table runs.
     #[test]
     fn filled_out() {
-        five_runs(4, 5, 1160);
+        five_runs(tree, 4, 5, 1160);
     }
 }

@@ -2,7 +2,6 @@
 use mathlib.Core.Path.{_≡_}
 use Prim.Native.Nat.{ℕ}
 use mathlib.Core.Bool.{Bool, true, false}
-use native.Mathlib.Omega.{arith}
 use borrow.Author.Tests.{ne-eqb}
 use Rattle.table.specs.Pass.{refusal}
 use Rattle.schedule.specs.declared.Report.the-variants.{Finished, Spent, Refused}
@@ -20,17 +19,14 @@ module _ (number turns : ℕ) (over : Bool) where
   spent : number ≡ 0 → over ≡ false → Spent turns ≡ reportOf number over turns
   spent e o = rw (e, o)
 
-cast-number : tie.Need-cast-number
-cast-number c = omega (arith, c .before .before .before .pre)
-
 returns : tie.Need-returns
-returns c = let x = c .before .before .before .args .stop in refused (x .number) (x .turns) (x .finished) (c .before .if1 .taken)
+returns c = let x = c .before .args in refused (x .number) (x .turns) (x .finished) (c .if1 .taken)
 
 returns-2 : tie.Need-returns-2
-returns-2 c = let x = c .before .before .before .args .stop in ended (x .number) (x .turns) (x .finished) (c .before .if1 .left) (c .if2 .taken)
+returns-2 c = let x = c .before .before .args in ended (x .number) (x .turns) (x .finished) (c .before .if1 .left) (c .if2 .taken)
 
 returns-3 : tie.Need-returns-3
-returns-3 c = let x = c .before .before .before .args .stop in spent (x .number) (x .turns) (x .finished) (c .before .if1 .left) (c .if2 .left)
+returns-3 c = let x = c .before .before .args in spent (x .number) (x .turns) (x .finished) (c .before .if1 .left) (c .if2 .left)
 
 pub report-of-spec : {M : Type 1} → statement M
-report-of-spec = tie.close (tie.spec cast-number returns returns-2 returns-3)
+report-of-spec = tie.close (tie.spec returns returns-2 returns-3)

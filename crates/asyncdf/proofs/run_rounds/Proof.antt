@@ -1,6 +1,7 @@
 -- `asyncdf::run_rounds` meets its contract: check 32, and then the run in the blocks.
 use mathlib.Core.Path.{_≡_, sym}
 use mathlib.Core.Bool.{false}
+use native.Mathlib.Omega.{arith}
 use borrow.Author.Needs.{needs}
 use lib.Seq.{length-take-le}
 use Rattle.schedule.specs.Turn.{unsound}
@@ -45,8 +46,11 @@ pack-requires c κs = search needs
 rounds-in-requires : tie.Need-rounds-in-requires
 rounds-in-requires c κs = search needs
 
+cast-report-of : tie.Need-cast-report-of
+cast-report-of c = omega (arith, rounds-small _ _ _ (c .before .rounds-in .ensures))
+
 report-of-requires : tie.Need-report-of-requires
-report-of-requires c κs = rounds-small _ _ _ (c .rounds-in .ensures)
+report-of-requires c κs = search needs
 
 unpack-requires : tie.Need-unpack-requires
 unpack-requires c κs = search needs
@@ -54,7 +58,7 @@ unpack-requires c κs = search needs
 returns-2 : tie.Need-returns-2
 returns-2 c =
     let x = c .before .before .before .before .before in
-    let t = x .before in
+    let t = x .before .before in
     let k = t .before .before .before .before .before in
     let e = k .before .before .before .before .before .before .before .before .before .before in
     rw (← rounds-values)
@@ -73,6 +77,7 @@ run-rounds-spec =
     slice-aggregate-table
     pack-requires
     rounds-in-requires
+    cast-report-of
     report-of-requires
     unpack-requires
     returns-2)

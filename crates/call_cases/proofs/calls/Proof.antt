@@ -6,10 +6,10 @@ use Rattle.call_cases.proofs.calls.Statement.{statement}
 use Rattle.call_cases.proofs.calls.Tie as tie
 
 abbrev Inv-loop : tie.InvT-loop
-Inv-loop run₀ left₀ run left = left ≤ 1000
+Inv-loop run₀ pace₀ left₀ run pace left = left ≤ 1000
 
 abbrev μ-loop : tie.MeasureT-loop
-μ-loop run₀ left₀ run left = left
+μ-loop run₀ pace₀ left₀ run pace left = left
 
 loop-holds : tie.Need-loop-holds Inv-loop μ-loop
 loop-holds c = omega arith
@@ -20,8 +20,8 @@ one-byte-requires c κs = search needs
 returns : tie.Need-returns Inv-loop μ-loop
 returns c = search needs
 
-call-requires : tie.Need-call-requires Inv-loop μ-loop
-call-requires c κs = search needs
+call-beside-requires : tie.Need-call-beside-requires Inv-loop μ-loop
+call-beside-requires c κs = search needs
 
 tell-run-requires : tie.Need-tell-run-requires Inv-loop μ-loop
 tell-run-requires c κs = search needs
@@ -47,7 +47,7 @@ calls-spec =
     loop-holds
     one-byte-requires
     returns
-    call-requires
+    call-beside-requires
     tell-run-requires
     sub-left
     loop-less

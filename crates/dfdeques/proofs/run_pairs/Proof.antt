@@ -1,6 +1,7 @@
 -- `dfdeques::run_pairs` meets its contract: check 32, and then the run in the blocks.
 use mathlib.Core.Path.{_≡_, sym}
 use mathlib.Core.Bool.{false}
+use native.Mathlib.Omega.{arith}
 use borrow.Author.Needs.{needs}
 use lib.Seq.{length-take-le}
 use Rattle.deques.specs.DequeTurn.{unsoundDeques}
@@ -45,8 +46,11 @@ pack-deques-requires c κs = search needs
 deque-list-in-requires : tie.Need-deque-list-in-requires
 deque-list-in-requires c κs = search needs
 
+cast-report-of : tie.Need-cast-report-of
+cast-report-of c = omega (arith, pairs-small _ _ _ (c .before .deque-list-in .ensures))
+
 report-of-requires : tie.Need-report-of-requires
-report-of-requires c κs = pairs-small _ _ _ (c .deque-list-in .ensures)
+report-of-requires c κs = search needs
 
 unpack-deques-requires : tie.Need-unpack-deques-requires
 unpack-deques-requires c κs = search needs
@@ -54,7 +58,7 @@ unpack-deques-requires c κs = search needs
 returns-2 : tie.Need-returns-2
 returns-2 c =
     let x = c .before .before .before .before .before in
-    let t = x .before in
+    let t = x .before .before in
     let k = t .before .before .before .before .before in
     let e = k .before .before .before .before .before .before .before .before .before .before .before in
     rw (← pairs-values)
@@ -73,6 +77,7 @@ run-pairs-spec =
     slice-aggregate-table
     pack-deques-requires
     deque-list-in-requires
+    cast-report-of
     report-of-requires
     unpack-deques-requires
     returns-2)

@@ -7,8 +7,8 @@ use borrow.Author.Needs.{needs}
 use Rattle.wivakkol_pace.proofs.runs.wivakkol_paced_list_on.Statement.{statement}
 use Rattle.wivakkol_pace.proofs.runs.wivakkol_paced_list_on.Tie as tie
 
-run-requires : tie.Need-run-requires
-run-requires c κs = search needs
+run-in-requires : tie.Need-run-in-requires
+run-in-requires c κs = search needs
 
 put-run-requires : tie.Need-put-run-requires
 put-run-requires c κs = search needs
@@ -17,8 +17,8 @@ returns : tie.Need-returns
 returns c =
     let t = c .before .before in
     let d = t .before .before .before .before .before .before .before .before .args in
-    put (t .run .ensures) (c .put-run .ensures .0) (c .put-run .ensures .1)
+    put (t .run-in .ensures) (c .put-run .ensures .0) (c .put-run .ensures .1)
     ∙ list-is (now (d .table)) (now (d .order)) (memoryOf (now (d .bytes)) (now (d .words)) (now (d .numbers)) (now (d .sums))) (now (d .pace))
 
 pub wivakkol-paced-list-on-spec : {M : Type 1} → statement M
-wivakkol-paced-list-on-spec = tie.close (tie.spec run-requires put-run-requires returns)
+wivakkol-paced-list-on-spec = tie.close (tie.spec run-in-requires put-run-requires returns)

@@ -1,4 +1,4 @@
--- `wivakkol_pace::runs::run` meets its contract: 32 first, then the run.
+-- `wivakkol_pace::runs::run_in` meets its contract: 32 first, then the run.
 use mathlib.Core.Path.{sym, _∙_}
 use denote.Ref.{now}
 use Rattle.run_memory.specs.Memory.{Memory}
@@ -6,8 +6,8 @@ use Rattle.run_memory.specs.Blocks.{memoryOf}
 use Rattle.wivakkol_pace.specs.PacedRuns.{pacedWorker}
 use Rattle.wivakkol_pace.proofs.PacedDrives.{stopped-as, full, driven}
 use borrow.Author.Needs.{needs}
-use Rattle.wivakkol_pace.proofs.runs.run.Statement.{statement}
-use Rattle.wivakkol_pace.proofs.runs.run.Tie as tie
+use Rattle.wivakkol_pace.proofs.runs.run_in.Statement.{statement}
+use Rattle.wivakkol_pace.proofs.runs.run_in.Tie as tie
 
 abbrev start : tie.Start → Memory
 start d = memoryOf (now (d .args .bytes)) (now (d .args .words)) (now (d .args .numbers)) (now (d .args .sums))
@@ -38,5 +38,5 @@ returns-2 c =
     c .drive .ensures
     )
 
-pub run-spec : {M : Type 1} → statement M
-run-spec = tie.close (tie.spec total-at-requires refused-requires returns drive-requires returns-2)
+pub run-in-spec : {M : Type 1} → statement M
+run-in-spec = tie.close (tie.spec total-at-requires refused-requires returns drive-requires returns-2)

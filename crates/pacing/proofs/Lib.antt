@@ -1,0 +1,3 @@
+pub mod PacedCalls
+pub mod PacedRefines
+pub mod PacedAnswers
