@@ -119,7 +119,7 @@ module _ (s : List ℕ) (who : ℕ → List ℕ → ℕ) (limit : ℕ) (M : Memo
 -- where a run stopped is put into the row
 pub put : {x : Stop} {M : Memory} {P : List ℕ} {d : PacedStop} {number : ℕ} {row : List ℕ} → pacedStop (stopped (x .number) (x .finished) (x .turns) M) P ≡ d
     → number ≡ x .number → row ≡ runRow (saidOf (x .number) (x .finished)) (x .turns) → kept (answer number row M) P ≡ keptAs d
-put {M = M} {P = P} e n r = ap (λ (a : Answer). kept a P) (stopped-answers refl n r) ∙ ap keptAs e
+put {x = x} {M = M} {P = P} e n r = ap (λ (a : Answer). kept a P) (stopped-answers {x = x} {M = M} refl n r) ∙ ap keptAs e
 
 pub list-is : (s l : List ℕ) (M : Memory) (P : List ℕ) → keptAs (pacedRun s (pacedWorker l false) (length l) M P) ≡ pacedList s l M P
 unfolding pacedList
