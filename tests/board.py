@@ -132,6 +132,29 @@ def table_header_is_source(crate, calls):
     table_calls_hand_over(text, calls, 'tables_work', source)
 
 
+def hold_table_calls(program, calls, wanted, cases, packed, size, differs, every):
+    """Makes calls on tables one by one, `calls` by their number: each answers and leaves what is expected of it, no call takes more stack than it may, and every number wanted is reached if that
+    is asked."""
+    deepest, numbers = collections.Counter(), {call: collections.Counter() for call in calls}
+    with subprocess.Popen([program], stdin=subprocess.PIPE, stdout=subprocess.PIPE) as running:
+        for i, case in enumerate(cases):
+            running.stdin.write(packed(case))
+            running.stdin.flush()
+            got = running.stdout.read(size(case))
+            assert len(got) == size(case), 'call %d: no answer' % i
+            different, deep = differs(case, got)
+            assert not different, ('call %d' % i, calls[case.call], str(case)[:400], different)
+            deepest[case.call] = max(deepest[case.call], deep)
+            numbers[case.call][case.number] += 1
+        running.stdin.close()
+    assert running.returncode == 0
+    for call, name in calls.items():
+        missing = wanted[call] - set(numbers[call])
+        assert not missing or not every, '%s: not every number was reached, %s' % (name, sorted(missing))
+        print('%s: %d calls agree (by number: %s), most stack %d bytes' % (name, sum(numbers[call].values()), dict(sorted(numbers[call].items())), deepest[call]))
+        assert deepest[call] < STACK_MOST, '%s takes more stack than it may' % name
+
+
 def same_prototypes(prototypes, source):
     differ = [(name, prototypes.get(name), source.get(name)) for name in {*prototypes, *source} if prototypes.get(name) != source.get(name)]
     assert not differ, 'the header and the source differ: %s' % differ

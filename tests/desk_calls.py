@@ -8,7 +8,6 @@ import collections
 import os
 import random
 import struct
-import subprocess
 import sys
 
 import board
@@ -17,7 +16,7 @@ import texts
 from reference import Table, check
 from tables import damaged, drawn, table
 
-ARCHIVE, OUT = 'target/staticlib/libwivakkol_desk.a', 'target/c'
+ARCHIVE = 'target/staticlib/libwivakkol_desk.a'
 CALLS = {0: 'wivakkol_assemble', 1: 'wivakkol_disassemble'}
 MOST, TABLE_MOST, WORKING, PAINT, BEYOND = 266240, 36868, 3 * 8192 + 3 * 2048, b'\x77', 64
 EXPECTED = {'thread, alloc, free, fork, join, work or end': 1, 'a number up to 16777215': 2, 'the end of the line': 3}
@@ -124,13 +123,6 @@ def packed(case):
     return b''.join((case.call.to_bytes(4, 'little'), len(case.data).to_bytes(4, 'little'), case.data, case.room.to_bytes(4, 'little')))
 
 
-def build():
-    os.makedirs(OUT, exist_ok=True)
-    program = OUT + '/desk_test'
-    subprocess.run(['cc', '-std=c99', '-Wall', '-Wextra', '-Werror', '-pedantic', '-O2', '-Iinclude', '-o', program, 'tests/desk_calls.c', ARCHIVE], check=True)
-    return program
-
-
 def differs(case, got):
     """What a call left that is not expected of it, if anything; and the stack that it took."""
     answer, deep = struct.unpack('<II', got[:8])
@@ -149,25 +141,8 @@ def main():
     rng = random.Random(40)
     cases = list(ends())
     cases += [drawn_case(rng) for _ in range(count - len(cases))]
-    deepest, numbers = collections.Counter(), {call: collections.Counter() for call in CALLS}
-    with subprocess.Popen([build()], stdin=subprocess.PIPE, stdout=subprocess.PIPE) as running:
-        for i, case in enumerate(cases):
-            running.stdin.write(packed(case))
-            running.stdin.flush()
-            size = 8 + 48 + case.room + BEYOND + WORKING
-            got = running.stdout.read(size)
-            assert len(got) == size, 'call %d: no answer' % i
-            different, deep = differs(case, got)
-            assert not different, ('call %d' % i, CALLS[case.call], case.data[:200], case.room, different)
-            deepest[case.call] = max(deepest[case.call], deep)
-            numbers[case.call][case.number] += 1
-        running.stdin.close()
-    assert running.returncode == 0
-    for call, name in CALLS.items():
-        missing = NUMBERS[call] - set(numbers[call])
-        assert not missing or count < 2000, '%s: not every number was reached, %s' % (name, sorted(missing))
-        print('%s: %d calls agree (by number: %s), most stack %d bytes' % (name, sum(numbers[call].values()), dict(sorted(numbers[call].items())), deepest[call]))
-        assert deepest[call] < board.STACK_MOST, '%s takes more stack than it may' % name
+    program = board.build('tests/desk_calls.c', 'desk_test', [ARCHIVE])
+    board.hold_table_calls(program, CALLS, NUMBERS, cases, packed, lambda case: 8 + 48 + case.room + BEYOND + WORKING, differs, count >= 2000)
 
 
 if __name__ == '__main__':

@@ -8,7 +8,6 @@ import collections
 import os
 import random
 import struct
-import subprocess
 import sys
 
 import board
@@ -17,7 +16,7 @@ from designs import compare, form, joined, shuffled
 from reference import check
 from tables import damaged, drawn
 
-ARCHIVE, OUT = 'target/staticlib/libwivakkol_tables.a', 'target/c'
+ARCHIVE = 'target/staticlib/libwivakkol_tables.a'
 CALLS = {0: 'wivakkol_join', 1: 'wivakkol_canonical', 2: 'wivakkol_compare'}
 BYTES, WORKING, PAINT = 36868, 3 * 8192 + 3 * 2048, b'\x77'
 SAID = {'before': 1, 'equal': 2, 'after': 3}
@@ -106,13 +105,6 @@ def cleared(work, used):
     return all(work[at:at + k] == (bytes(k) if name in used else b'\x5a' * k) for name, (at, k) in parts.items())
 
 
-def build():
-    os.makedirs(OUT, exist_ok=True)
-    program = OUT + '/tables_test'
-    subprocess.run(['cc', '-std=c99', '-Wall', '-Wextra', '-Werror', '-pedantic', '-O2', '-Iinclude', '-o', program, 'tests/tables_calls.c', ARCHIVE], check=True)
-    return program
-
-
 def differs(case, got):
     """What a call left that is not expected of it, if anything; and the stack that it took."""
     answer, deep = struct.unpack('<II', got[:8])
@@ -129,27 +121,11 @@ def main():
     if not os.path.exists(ARCHIVE):
         sys.exit('%s is not there: run `rt staticlib wivakkol_tables` first' % ARCHIVE)
     board.table_header_is_source('wivakkol_tables', CALLS.values())
-    rng, size = random.Random(12), 8 + 56 + 2 * BYTES + WORKING
+    rng = random.Random(12)
     cases = list(ends())
     cases += [drawn_case(rng) for _ in range(count - len(cases))]
-    deepest, numbers = collections.Counter(), {call: collections.Counter() for call in CALLS}
-    with subprocess.Popen([build()], stdin=subprocess.PIPE, stdout=subprocess.PIPE) as running:
-        for i, case in enumerate(cases):
-            running.stdin.write(number(case.call) + case.input)
-            running.stdin.flush()
-            got = running.stdout.read(size)
-            assert len(got) == size, 'call %d: no answer' % i
-            different, deep = differs(case, got)
-            assert not different, ('call %d' % i, CALLS[case.call], different)
-            deepest[case.call] = max(deepest[case.call], deep)
-            numbers[case.call][case.number] += 1
-        running.stdin.close()
-    assert running.returncode == 0
-    for call, name in CALLS.items():
-        missing = NUMBERS[call] - set(numbers[call])
-        assert not missing or count < 2000, '%s: not every number was reached, %s' % (name, sorted(missing))
-        print('%s: %d calls agree (by number: %s), most stack %d bytes' % (name, sum(numbers[call].values()), dict(sorted(numbers[call].items())), deepest[call]))
-        assert deepest[call] < board.STACK_MOST, '%s takes more stack than it may' % name
+    program = board.build('tests/tables_calls.c', 'tables_test', [ARCHIVE])
+    board.hold_table_calls(program, CALLS, NUMBERS, cases, lambda case: number(case.call) + case.input, lambda case: 8 + 56 + 2 * BYTES + WORKING, differs, count >= 2000)
 
 
 if __name__ == '__main__':
