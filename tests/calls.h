@@ -1,4 +1,4 @@
-/* What the programs share that call the archives for the tests: room that ends where readable memory ends, a painted stack, noise, and numbers of the input. Each is one file, so that all is here. */
+/* What the programs share that call the archives for the tests: room that ends where readable memory ends, a painted stack, noise, and numbers of the input. Each is one file, so that all is here; a program may leave some of it unused. */
 #ifndef CALLS_H
 #define CALLS_H
 
@@ -24,14 +24,14 @@ static uint8_t *stack;
 static size_t touched = STACK; /* of the stack, from its upper end */
 static ucontext_t here, there;
 
-static void fail(const char *what)
+static inline void fail(const char *what)
 {
     fprintf(stderr, "calls: %s\n", what);
     exit(1);
 }
 
 /* Makes a call on the painted stack; how much of it was touched, in whole words: a single byte may be written with the paint's own number. */
-static size_t on_stack(void (*f)(void))
+static inline size_t on_stack(void (*f)(void))
 {
     static uint8_t painted[PAGE];
     size_t low;
@@ -56,7 +56,7 @@ static size_t on_stack(void (*f)(void))
 }
 
 /* Noise in working memory: any numbers, small ones, or the largest. */
-static void noise(void *into, size_t size)
+static inline void noise(void *into, size_t size)
 {
     static const uint64_t masks[] = {UINT64_MAX, UINT64_C(0x0003000300030003), UINT64_C(0x03ff03ff03ff03ff)};
     static uint64_t x = FENCE;
@@ -73,7 +73,7 @@ static void noise(void *into, size_t size)
 }
 
 /* What a call has left of such bytes: 0, zeros; 1, those from before; 2, neither. */
-static uint8_t left(const void *of, const void *was, size_t size)
+static inline uint8_t left(const void *of, const void *was, size_t size)
 {
     const uint8_t *bytes = of;
 
@@ -82,13 +82,13 @@ static uint8_t left(const void *of, const void *was, size_t size)
     return memcmp(of, was, size) == 0 ? 1 : 2;
 }
 
-static uint64_t little(const uint8_t *s, int bytes)
+static inline uint64_t little(const uint8_t *s, int bytes)
 {
     return bytes == 0 ? 0 : s[0] + 256 * little(s + 1, bytes - 1);
 }
 
 /* Whole, or nothing at the input's end. */
-static int got(uint8_t *into, size_t bytes)
+static inline int got(uint8_t *into, size_t bytes)
 {
     size_t count = fread(into, 1, bytes, stdin);
 
@@ -97,14 +97,32 @@ static int got(uint8_t *into, size_t bytes)
     return count == bytes;
 }
 
-static void put(const void *bytes, size_t size)
+/* The next number of the input, which must be there. */
+static inline uint32_t number(void)
+{
+    uint8_t bytes[4];
+
+    if (!got(bytes, 4))
+        fail("a case is cut off");
+    return (uint32_t)little(bytes, 4);
+}
+
+/* Makes the stack to be painted. */
+static inline void make_stack(void)
+{
+    stack = malloc(STACK);
+    if (stack == NULL)
+        fail("no memory");
+}
+
+static inline void put(const void *bytes, size_t size)
 {
     if (fwrite(bytes, 1, size, stdout) != size)
         fail("no output");
 }
 
 /* Opens the room for so many bytes at its end: where they are to be put, before it is closed again. */
-static uint8_t *place(uint8_t *room, uint32_t length)
+static inline uint8_t *place(uint8_t *room, uint32_t length)
 {
     if (length > ROOM)
         fail("a table or an order above the room for it");
@@ -113,14 +131,14 @@ static uint8_t *place(uint8_t *room, uint32_t length)
     return room + ROOM - length;
 }
 
-static void close_room(uint8_t *room)
+static inline void close_room(uint8_t *room)
 {
     if (mprotect(room, ROOM, PROT_READ) != 0)
         fail("no memory");
 }
 
 /* Room behind which nothing may be read. */
-static uint8_t *room(void)
+static inline uint8_t *room(void)
 {
     uint8_t *made = mmap(NULL, ROOM + PAGE, PROT_READ | PROT_WRITE, MAP_PRIVATE | MAP_ANONYMOUS, -1, 0);
 
