@@ -8,6 +8,7 @@ usage: python3 bench/bench.py [--runs N] [--before PROGRAM] [PROGRAM WORDS..]
 """
 import argparse
 import itertools
+import os
 import pathlib
 import random
 import resource
@@ -126,6 +127,22 @@ def build():
     for words in ['target/baseline'], ['target/baseline_links', '-DLINKS']:
         subprocess.run([compiler, '-O3', '-Wall', '-Wextra', 'bench/baseline.c', '-o', *words], check=True)
     return {ROW: ['target/baseline', 'repeat'], LINKS: ['target/baseline_links', 'repeat']}
+
+
+def from_c(name, archives):
+    """For the measurements from C: how often all is measured, by the command's words, and the program bench/NAME.c, built. Plain C is compiled apart, so that its calls stay calls, as those into
+    the archives are."""
+    options = argparse.ArgumentParser()
+    options.add_argument('--rounds', type=int, default=10)
+    options.add_argument('--compiler', default='%s -O3' % pathlib.Path(shutil.which('clang') or shutil.which('cc')).name)
+    words = options.parse_args()
+    compiler, out, warnings = words.compiler.split(), pathlib.Path('target/c'), ['-Wall', '-Wextra', '-Werror']
+    out.mkdir(parents=True, exist_ok=True)
+    program, plain = str(out / (name + '_bench')), str(out / ('plain_%s.o' % name))
+    subprocess.run([*compiler, *warnings, '-Wno-unused-function', '-DLINKS', '-DCALLS', '-c', '-o', plain, 'bench/baseline.c'], check=True)
+    subprocess.run([*compiler, '-std=c99', *warnings, '-Iinclude', '-o', program, 'bench/%s.c' % name, plain, *archives], check=True)
+    print('C compiled by %s; load at the start %s' % (words.compiler, ' '.join('%.1f' % x for x in os.getloadavg())))
+    return words.rounds, program
 
 
 def report(cases, programs):

@@ -2,55 +2,7 @@
  * other in every of the N; then by wivakkol_preview and wivakkol_turn. Prints the turns of a run, and of all runs the least processor time of wivakkol_begin, of wivakkol_open in the middle
  * of a run, and of a turn in each of the five ways, in nanoseconds. Before that it compares the two, turn by turn. For bench/board.py; arguments p, K and N. */
 #define _POSIX_C_SOURCE 199309L
-#include <inttypes.h>
-#include <stdio.h>
-#include <stdlib.h>
-#include <string.h>
-#include <time.h>
-
-#include "plain.h"
-#include "wivakkol.h"
-
-static uint8_t table[WIVAKKOL_TABLE_MOST], filled[WIVAKKOL_TABLE_MOST];
-static size_t length;
-static uint32_t p, quota;
-static wivakkol_run run;
-static wivakkol_work work;
-static plain_run *plain;
-static uint64_t turns;
-
-static double now(void)
-{
-    struct timespec t;
-
-    clock_gettime(CLOCK_PROCESS_CPUTIME_ID, &t);
-    return 1e9 * (double)t.tv_sec + (double)t.tv_nsec;
-}
-
-static void least(double *of, double x)
-{
-    *of = x < *of ? x : *of;
-}
-
-static void fail(const char *what)
-{
-    fprintf(stderr, "board: %s\n", what);
-    exit(1);
-}
-
-static void begin(void)
-{
-    uint64_t row[WIVAKKOL_BEGIN_ROW];
-
-    if (wivakkol_begin(&run, &work, table, length, p, quota, filled, sizeof filled, row) != 0 || row[WIVAKKOL_FILLED] != 0)
-        fail("refused, or an alloc above K");
-}
-
-static void begin_plain(void)
-{
-    if (plain_begin(plain, table, length, p, quota) != 0)
-        fail("refused by plain C");
-}
+#include "measured.h"
 
 /* Opening a run after half of its turns: its processor time. */
 static double open_run(void)
@@ -144,15 +96,9 @@ int main(int argc, char **argv)
     double of_begin = 1e18, of_open = 1e18, start, of[5] = { 1e18, 1e18, 1e18, 1e18, 1e18 };
     int n, i;
 
-    if (argc != 4)
-        return 2;
-    length = fread(table, 1, sizeof table, stdin);
-    p = (uint32_t)strtoul(argv[1], NULL, 10);
-    quota = (uint32_t)strtoul(argv[2], NULL, 10);
-    if ((plain = malloc(plain_size())) == NULL)
-        fail("no memory");
+    n = given(argc, argv);
     compare();
-    for (n = atoi(argv[3]); n > 0; n--) {
+    for (; n > 0; n--) {
         start = now();
         begin();
         least(&of_begin, now() - start);

@@ -8,16 +8,12 @@ usage: python3 bench/board.py [--rounds N] [--compiler 'CC -O..']
     From the repository's top, after `rt staticlib wivakkol_turn`, `rt staticlib wivakkol` and `rt check bench_runs`; needs a C compiler, by default that of bench.py with -O3. N rounds (default 10),
     of 20 runs each from C and 3 measurements of the program by value for every table and number of workers.
 """
-import argparse
-import os
-import pathlib
-import shutil
 import subprocess
 
 import bench
 from bench import QUOTA, RATTLE, TABLES, WORKERS
 
-ARCHIVES, OUT, RUNS = ['target/staticlib/libwivakkol_turn.a', 'target/staticlib/libwivakkol.a'], 'target/c', '20'
+ARCHIVES, RUNS = ['target/staticlib/libwivakkol_turn.a', 'target/staticlib/libwivakkol.a'], '20'
 BY_VALUE = {RATTLE: ['target/bin/bench_runs']}
 MOST_RATIO, MOST_NS = 1.5, {'tree': 60}
 BEGIN, OPEN, TURN, PLAIN_TURN, ROUNDS, PLAIN_ROUNDS, PREVIEWED = range(7)
@@ -43,16 +39,6 @@ class Case(bench.Case):
         """A turn inside a run of the program by value, in nanoseconds."""
         each = {call: (self.many[call, RATTLE] - self.none[call, RATTLE]) / self.counts[call, RATTLE] for call in self.calls}
         return (each['run'] - each['test']) / self.turns * 1e9
-
-
-def build(words):
-    """The C program; plain C is compiled apart, so that its calls stay calls, as those into the archives are."""
-    program, plain = OUT + '/board_bench', OUT + '/plain.o'
-    os.makedirs(OUT, exist_ok=True)
-    warnings = ['-Wall', '-Wextra', '-Werror']
-    subprocess.run([*words, *warnings, '-Wno-unused-function', '-DLINKS', '-DCALLS', '-c', '-o', plain, 'bench/baseline.c'], check=True)
-    subprocess.run([*words, '-std=c99', *warnings, '-Iinclude', '-o', program, 'bench/board.c', plain, *ARCHIVES], check=True)
-    return program
 
 
 def report(cases):
@@ -81,16 +67,11 @@ def report(cases):
 
 
 def main():
-    options = argparse.ArgumentParser()
-    options.add_argument('--rounds', type=int, default=10)
-    options.add_argument('--compiler', default='%s -O3' % pathlib.Path(shutil.which('clang') or shutil.which('cc')).name)
-    words = options.parse_args()
-    program = build(words.compiler.split())
-    print('C compiled by %s; load at the start %s' % (words.compiler, ' '.join('%.1f' % x for x in os.getloadavg())))
+    rounds, program = bench.from_c('board', ARCHIVES)
     cases = [Case(make, p) for make in TABLES for p in WORKERS]
     for case in cases:
         case.agree(BY_VALUE)
-    for _ in range(words.rounds):
+    for _ in range(rounds):
         for case in cases:
             case.measure_all(program)
     report(cases)

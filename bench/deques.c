@@ -3,57 +3,13 @@
  * runs the least processor time of wivakkol_deque_open in the middle of a run and of a turn in each of the four ways, in nanoseconds. Before that it compares the two, turn by turn. For
  * bench/deques.py; arguments p, K and N. */
 #define _POSIX_C_SOURCE 199309L
-#include <inttypes.h>
-#include <stdio.h>
-#include <stdlib.h>
-#include <string.h>
-#include <time.h>
-
-#include "plain.h"
+#include "measured.h"
 #include "wivakkol_deques.h"
 
 #define MOST (1 << 21) /* bytes of an order */
 
-static uint8_t table[WIVAKKOL_TABLE_MOST], filled[WIVAKKOL_TABLE_MOST], order[MOST];
-static size_t length;
-static uint32_t p, quota;
-static wivakkol_run run;
-static wivakkol_work work;
-static plain_run *plain;
-static uint64_t turns, steals, idle;
-
-static double now(void)
-{
-    struct timespec t;
-
-    clock_gettime(CLOCK_PROCESS_CPUTIME_ID, &t);
-    return 1e9 * (double)t.tv_sec + (double)t.tv_nsec;
-}
-
-static void least(double *of, double x)
-{
-    *of = x < *of ? x : *of;
-}
-
-static void fail(const char *what)
-{
-    fprintf(stderr, "deques: %s\n", what);
-    exit(1);
-}
-
-static void begin(void)
-{
-    uint64_t row[WIVAKKOL_BEGIN_ROW];
-
-    if (wivakkol_begin(&run, &work, table, length, p, quota, filled, sizeof filled, row) != 0 || row[WIVAKKOL_FILLED] != 0)
-        fail("refused, or an alloc above K");
-}
-
-static void begin_plain(void)
-{
-    if (plain_begin(plain, table, length, p, quota) != 0)
-        fail("refused by plain C");
-}
+static uint8_t order[MOST];
+static uint64_t steals, idle;
 
 /* The order of a whole run, with the same numbers and rows from both. */
 static void compare(void)
@@ -146,15 +102,9 @@ int main(int argc, char **argv)
     double of_open = 1e18, of[4] = { 1e18, 1e18, 1e18, 1e18 };
     int n, i;
 
-    if (argc != 4)
-        return 2;
-    length = fread(table, 1, sizeof table, stdin);
-    p = (uint32_t)strtoul(argv[1], NULL, 10);
-    quota = (uint32_t)strtoul(argv[2], NULL, 10);
-    if ((plain = malloc(plain_size())) == NULL)
-        fail("no memory");
+    n = given(argc, argv);
     compare();
-    for (n = atoi(argv[3]); n > 0; n--) {
+    for (; n > 0; n--) {
         begin();
         least(&of[0], by_turns());
         begin_plain();

@@ -6,15 +6,11 @@ usage: python3 bench/deques.py [--rounds N] [--compiler 'CC -O..']
     From the repository's top, after `rt staticlib` of wivakkol_deque_turn, wivakkol_deques and wivakkol; needs a C compiler, by default that of bench.py with -O3. N rounds (default 10), of 20 runs each
     for every table and number of workers.
 """
-import argparse
-import os
-import pathlib
-import shutil
 import subprocess
 
-from bench import QUOTA, TABLES, WORKERS
+from bench import QUOTA, TABLES, WORKERS, from_c
 
-ARCHIVES, OUT, RUNS = ['target/staticlib/lib%s.a' % name for name in ('wivakkol_deque_turn', 'wivakkol_deques', 'wivakkol')], 'target/c', '20'
+ARCHIVES, RUNS = ['target/staticlib/lib%s.a' % name for name in ('wivakkol_deque_turn', 'wivakkol_deques', 'wivakkol')], '20'
 MOST_RATIO = 1.5
 OPEN, TURN, PLAIN_TURN, LIST, PLAIN_LIST = range(5)
 
@@ -32,16 +28,6 @@ class Case:
         self.least = list(map(min, self.least, map(float, words[3:])))
 
 
-def build(words):
-    """The C program; plain C is compiled apart, so that its calls stay calls, as those into the archives are."""
-    program, plain = OUT + '/deques_bench', OUT + '/plain.o'
-    os.makedirs(OUT, exist_ok=True)
-    warnings = ['-Wall', '-Wextra', '-Werror']
-    subprocess.run([*words, *warnings, '-Wno-unused-function', '-DLINKS', '-DCALLS', '-c', '-o', plain, 'bench/baseline.c'], check=True)
-    subprocess.run([*words, '-std=c99', *warnings, '-Iinclude', '-o', program, 'bench/deques.c', plain, *ARCHIVES], check=True)
-    return program
-
-
 def report(cases):
     print('\nns of a turn:\n\n| | workers | turns, steals, idle | `wivakkol_deque_turn` / plain C | | in `wivakkol_deque_list` / plain C | | open, µs |\n|---|---|---|---|---|---|---|---|')
     for case in cases:
@@ -56,14 +42,9 @@ def report(cases):
 
 
 def main():
-    options = argparse.ArgumentParser()
-    options.add_argument('--rounds', type=int, default=10)
-    options.add_argument('--compiler', default='%s -O3' % pathlib.Path(shutil.which('clang') or shutil.which('cc')).name)
-    words = options.parse_args()
-    program = build(words.compiler.split())
-    print('C compiled by %s; load at the start %s' % (words.compiler, ' '.join('%.1f' % x for x in os.getloadavg())))
+    rounds, program = from_c('deques', ARCHIVES)
     cases = [Case(make, p) for make in TABLES for p in WORKERS]
-    for _ in range(words.rounds):
+    for _ in range(rounds):
         for case in cases:
             case.measure(program)
     report(cases)

@@ -2,52 +2,16 @@
  * the other in every of the N. Prints the turns of a run and, of all runs, the least processor time of a turn in each of the four ways, and of a call refused with 60, in nanoseconds. Before that it
  * compares the paced turn with plain C, turn by turn, with turns that are refused between. For bench/pace.py; arguments p, K and N. */
 #define _POSIX_C_SOURCE 199309L
-#include <inttypes.h>
-#include <stdio.h>
-#include <stdlib.h>
-#include <string.h>
-#include <time.h>
-
-#include "plain.h"
+#include "measured.h"
 #include "wivakkol_pace.h"
 
-static uint8_t table[WIVAKKOL_TABLE_MOST], filled[WIVAKKOL_TABLE_MOST];
-static size_t length;
-static uint32_t p, quota;
-static wivakkol_run run;
-static wivakkol_work work;
 static wivakkol_pace pace, other;
-static plain_run *plain;
-static uint64_t turns;
-
-static double now(void)
-{
-    struct timespec t;
-
-    clock_gettime(CLOCK_PROCESS_CPUTIME_ID, &t);
-    return 1e9 * (double)t.tv_sec + (double)t.tv_nsec;
-}
-
-static void least(double *of, double x)
-{
-    *of = x < *of ? x : *of;
-}
-
-static void fail(const char *what)
-{
-    fprintf(stderr, "pace: %s\n", what);
-    exit(1);
-}
 
 /* Rounds keep b 1. */
-static void begin(void)
+static void begin_paced(void)
 {
-    uint64_t row[WIVAKKOL_BEGIN_ROW];
-
-    if (wivakkol_begin(&run, &work, table, length, p, quota, filled, sizeof filled, row) != 0 || row[WIVAKKOL_FILLED] != 0)
-        fail("refused, or an alloc above K");
-    if (plain_begin(plain, table, length, p, quota) != 0)
-        fail("refused by plain C");
+    begin();
+    begin_plain();
     if (wivakkol_pace_begin(&pace, p, 1) != 0 || plain_pace_begin(other.numbers, p, 1) != 0)
         fail("no pace");
 }
@@ -58,7 +22,7 @@ static void compare(void)
     uint64_t one[WIVAKKOL_TURN_ROW], two[WIVAKKOL_TURN_ROW];
     uint32_t w = 0, k = 0, number, refused = 0;
 
-    begin();
+    begin_paced();
     do {
         number = wivakkol_paced_turn(&run, &pace, table, length, w, one);
         if (number != plain_paced_turn(plain, other.numbers, w, two) || memcmp(one, two, sizeof one) != 0 || memcmp(&pace, &other, sizeof pace) != 0)
@@ -136,28 +100,24 @@ int main(int argc, char **argv)
     double of[5] = { 1e18, 1e18, 1e18, 1e18, 1e18 };
     int n, i;
 
-    if (argc != 4)
-        return 2;
-    length = fread(table, 1, sizeof table, stdin);
-    p = (uint32_t)strtoul(argv[1], NULL, 10);
-    quota = (uint32_t)strtoul(argv[2], NULL, 10);
-    if (p < 2 || (plain = malloc(plain_size())) == NULL)
-        fail("one worker, or no memory");
+    n = given(argc, argv);
+    if (p < 2)
+        fail("one worker");
     compare();
-    begin();
+    begin_paced();
     by_turns();
     turns = run.sums[WIVAKKOL_AT_TURNS];
-    for (n = atoi(argv[3]); n > 0; n--) {
-        begin();
+    for (; n > 0; n--) {
+        begin_paced();
         least(&of[0], by_turns());
-        begin();
+        begin_paced();
         least(&of[1], by_paced_turns());
         if (run.sums[WIVAKKOL_AT_TURNS] != turns)
             fail("not the same run");
         least(&of[2], by_plain_paced_turns());
-        begin();
+        begin_paced();
         least(&of[3], in_paced_rounds());
-        begin();
+        begin_paced();
         least(&of[4], refused_calls(turns));
     }
     printf("%" PRIu64, turns);

@@ -5,39 +5,20 @@ take their turns to be measured one after the other, again and again, and each t
 usage: python3 bench/pace.py [--rounds N] [--compiler 'CC -O..']
     From the repository's top, after `rt staticlib` of wivakkol_pace, wivakkol_turn and wivakkol; needs a C compiler, by default that of bench.py with -O3. N rounds (default 10), of 20 runs each.
 """
-import argparse
-import os
-import pathlib
-import shutil
 import subprocess
 
-from bench import QUOTA, TABLES, WORKERS
+from bench import QUOTA, TABLES, WORKERS, from_c
 
-ARCHIVES, OUT, RUNS = ['target/staticlib/lib%s.a' % name for name in ('wivakkol_pace', 'wivakkol_turn', 'wivakkol')], 'target/c', '20'
+ARCHIVES, RUNS = ['target/staticlib/lib%s.a' % name for name in ('wivakkol_pace', 'wivakkol_turn', 'wivakkol')], '20'
 TURN, PACED, PLAIN, ROUNDS, REFUSED = range(5)
 MOST_RATIO, MOST_MORE = 1.5, 25
 
 
-def build(words):
-    """The C program; plain C is compiled apart, so that its calls stay calls, as those into the archives are."""
-    program, plain = OUT + '/pace_bench', OUT + '/plain_pace.o'
-    os.makedirs(OUT, exist_ok=True)
-    warnings = ['-Wall', '-Wextra', '-Werror']
-    subprocess.run([*words, *warnings, '-Wno-unused-function', '-DLINKS', '-DCALLS', '-c', '-o', plain, 'bench/baseline.c'], check=True)
-    subprocess.run([*words, '-std=c99', *warnings, '-Iinclude', '-o', program, 'bench/pace.c', plain, *ARCHIVES], check=True)
-    return program
-
-
 def main():
-    options = argparse.ArgumentParser()
-    options.add_argument('--rounds', type=int, default=10)
-    options.add_argument('--compiler', default='%s -O3' % pathlib.Path(shutil.which('clang') or shutil.which('cc')).name)
-    words = options.parse_args()
-    program = build(words.compiler.split())
-    print('C compiled by %s; load at the start %s' % (words.compiler, ' '.join('%.1f' % x for x in os.getloadavg())))
+    rounds, program = from_c('pace', ARCHIVES)
     cases = [(make.__name__, make(), p) for make in TABLES for p in WORKERS]
     least = {}
-    for _ in range(words.rounds):
+    for _ in range(rounds):
         for name, data, p in cases:
             done = subprocess.run([program, str(p), str(QUOTA), RUNS], input=data, stdout=subprocess.PIPE, check=True)
             times = list(map(float, done.stdout.decode().split()[1:]))

@@ -5,11 +5,8 @@ trees, chains, fans, and the three in turn. All take their turns to be measured 
 usage: python3 bench/tables.py [--rounds N] [--compiler 'CC -O..']
     From the repository's top, after `rt staticlib wivakkol_tables`; needs a C compiler, by default that of bench.py with -O3. N rounds (default 10) of 100 calls each.
 """
-import argparse
-import os
 import pathlib
 import random
-import shutil
 import subprocess
 import sys
 
@@ -22,18 +19,8 @@ from tables import drawn, table
 sys.path.insert(0, str(pathlib.Path(__file__).parent.parent / 'tools'))
 from parts import packed
 
-ARCHIVE, OUT, CALLS = 'target/staticlib/libwivakkol_tables.a', 'target/c', '100'
+ARCHIVE, CALLS = 'target/staticlib/libwivakkol_tables.a', '100'
 NAMES = {'forms': ['`wivakkol_canonical`', '`wivakkol_compare`'], 'join': ['`wivakkol_join`']}
-
-
-def build(words):
-    """The C program; plain C is compiled apart, so that its calls stay calls, as those into the archive are."""
-    program, plain = OUT + '/tables_bench', OUT + '/plain_tables.o'
-    os.makedirs(OUT, exist_ok=True)
-    warnings = ['-Wall', '-Wextra', '-Werror']
-    subprocess.run([*words, *warnings, '-Wno-unused-function', '-DLINKS', '-DCALLS', '-c', '-o', plain, 'bench/baseline.c'], check=True)
-    subprocess.run([*words, '-std=c99', *warnings, '-Iinclude', '-o', program, 'bench/tables.c', plain, ARCHIVE], check=True)
-    return program
 
 
 def tree(rng):
@@ -65,15 +52,10 @@ def report(kind, least):
 
 
 def main():
-    options = argparse.ArgumentParser()
-    options.add_argument('--rounds', type=int, default=10)
-    options.add_argument('--compiler', default='%s -O3' % pathlib.Path(shutil.which('clang') or shutil.which('cc')).name)
-    words = options.parse_args()
-    program = build(words.compiler.split())
-    print('C compiled by %s; load at the start %s' % (words.compiler, ' '.join('%.1f' % x for x in os.getloadavg())))
+    rounds, program = bench.from_c('tables', [ARCHIVE])
     given = inputs(random.Random(14))
     least = {kind: {name: [1e18] * 2 * len(NAMES[kind]) for name in of} for kind, of in given.items()}
-    for _ in range(words.rounds):
+    for _ in range(rounds):
         for kind, of in given.items():
             for name, data in of.items():
                 times = subprocess.run([program, CALLS, kind], input=data, stdout=subprocess.PIPE, check=True).stdout.split()

@@ -340,16 +340,33 @@ def quiet(rng, play, w):
                           ('totals', lent.HIGHEST, rng.choice([0, 2**64 - 1])), ('parents', t, any_number(rng, memory, THREADS))]))
 
 
-def opened_run(rng):
-    """Somewhere in a run, one number at a time becomes another, mostly one that turns would not notice, and the run is opened. Where the record is still sound, its turns are machine.py's.
-    Then all is as before, is opened with another table too, and goes on."""
+def begun_run(rng, kind, model):
+    """A run that has begun: its steps, p, and the machine of the model."""
     data, most = run_table(rng)
-    play, p = Play(rng.randbytes(SIZE), data), rng.choice([1, 2, 3, 4, 16])
+    play, p = kind(rng.randbytes(SIZE), data), rng.choice([1, 2, 3, 4, 16])
     quota = min(LARGEST, rng.choice([most, most + 1, LARGEST, max(1, most // 2)]))
     if play.begin(p, quota)[0] != 0:
         quota = most
         play.begin(p, quota)
-    taking, data = machine.Machine(machine.begin(data, p, quota)[1]), play.data
+    return play, p, model.Machine(model.begin(data, p, quota)[1])
+
+
+def as_before(rng, play, before):
+    """The memory is as before, and at times opened with another table too."""
+    restore(play, before)
+    if rng.random() < 0.1:
+        data = play.data
+        play.change_table(rng.choice([damaged(rng, data), data + bytes(machine.BYTES)]))
+        play.open()
+        restore(play, before)
+        play.change_table(data)
+
+
+def opened_run(rng):
+    """Somewhere in a run, one number at a time becomes another, mostly one that turns would not notice, and the run is opened. Where the record is still sound, its turns are machine.py's.
+    Then all is as before, is opened with another table too, and goes on."""
+    play, p, taking = begun_run(rng, Play, machine)
+    data = play.data
     for _ in range(rng.randint(1, 4)):
         for _ in range(rng.randint(0, 20)):
             sound_turn(play, taking, rng.randrange(p))
@@ -359,12 +376,7 @@ def opened_run(rng):
             other = machine.Machine(play.run.record(data))
             for _ in range(min(3, machine.LAST_TURN - other.run.turns)):
                 sound_turn(play, other, rng.randrange(other.run.p))
-        restore(play, before)
-        if rng.random() < 0.1:
-            play.change_table(rng.choice([damaged(rng, data), data + bytes(machine.BYTES)]))
-            play.open()
-            restore(play, before)
-            play.change_table(data)
+        as_before(rng, play, before)
     assert play.open() == (0, [0]) and play.memory.bytes == before
     return play
 

@@ -294,13 +294,8 @@ def shaped_run(rng):
 
 def opened_run(rng):
     """Somewhere in a run, one number at a time becomes another, and the run is opened. Then all is as before, is opened with another table too, and goes on."""
-    data, most = run_table(rng)
-    play, p = Play(rng.randbytes(SIZE), data), rng.choice([1, 2, 3, 4, 16])
-    quota = min(LARGEST, rng.choice([most, most + 1, LARGEST, max(1, most // 2)]))
-    if play.begin(p, quota)[0] != 0:
-        quota = most
-        play.begin(p, quota)
-    taking, data = deques.Machine(deques.begin(data, p, quota)[1]), play.data
+    play, p, taking = board_runs.begun_run(rng, Play, deques)
+    data = play.data
     for _ in range(rng.randint(1, 4)):
         for _ in range(rng.randint(0, 20)):
             sound_turn(play, taking, *pair(rng, p))
@@ -310,12 +305,7 @@ def opened_run(rng):
             other = deques.Machine(play.run.deque_record(data))
             for _ in range(min(3, LAST_TURN - other.run.turns)):
                 sound_turn(play, other, *pair(rng, p))
-        restore(play, before)
-        if rng.random() < 0.1:
-            play.change_table(rng.choice([damaged(rng, data), data + bytes(machine.BYTES)]))
-            play.open()
-            restore(play, before)
-            play.change_table(data)
+        board_runs.as_before(rng, play, before)
     assert play.open() == (0, [0]) and play.memory.bytes == before
     return play
 
