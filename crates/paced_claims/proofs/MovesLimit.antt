@@ -25,7 +25,6 @@ use Rattle.schedule.specs.declared.Turning.the-variants.{Taken}
 use Rattle.schedule.specs.declared.Turning.the-variants.{Refused as refusedTurn}
 use Rattle.schedule.specs.declared.Report.{Report}
 use Rattle.schedule.specs.declared.Report.the-variants.{Finished, Spent, Refused}
-use Rattle.schedule.specs.Machine.{Stepped}
 use Rattle.schedule.specs.Begin.{begin, startRun}
 use Rattle.schedule.specs.Turn.{unsound, rootEnded, noWorker, turnChecks, stepRun, passedIn, turnedAs, turned}
 use Rattle.schedule.specs.Runs.{ran, moved, drive, listRun}
@@ -33,7 +32,7 @@ use Rattle.schedule.specs.Calls.{Call, turn, overList, inRounds, turnsIn, turnR
 use Rattle.schedule.proofs.Runs.Histories.{begin-started}
 use Rattle.bounds.proofs.Limit.{MemoryLimit, memory-limit}
 use Rattle.bounds.proofs.ThreadLimit.{ThreadLimit, thread-limit}
-use Rattle.pace.specs.Pace.{may, took, nextIn, startPace}
+use Rattle.pace.specs.Pace.{may, took, nextIn}
 use Rattle.pace.specs.Stands.{StandsFor}
 use Rattle.pace.proofs.Exact.{start-stands, keeps-nil}
 use Rattle.wivakkol_pace.specs.PacedRuns.{pacedWorker}
@@ -43,7 +42,7 @@ use Rattle.pacing.specs.Pacing.{counted, beginPace, isTaken, pacedTurn, pacedTu
 use Rattle.pacing.specs.PacedValues.{Beside, beside}
 use Rattle.pacing.proofs.PacedCalls.{begun-started}
 use Rattle.paced_claims.specs.PacedCalls.{workersOf}
-use Rattle.paced_claims.specs.PacedMoves.{afterTurn, afterRun, pacedMove, roundsRow, moveRow, pacedMoves, movesRow}
+use Rattle.paced_claims.specs.PacedMoves.{afterTurn, afterRun, pacedMove, moveRow, pacedMoves, movesRow}
 use Rattle.paced_claims.proofs.Keeping.{Lets, stay, step, then, Paces, lets-keep, PacedWithin, within-so}
 use Rattle.paced_claims.proofs.Steps.{listed-front}
 

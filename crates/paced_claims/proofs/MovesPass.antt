@@ -1,5 +1,5 @@
 -- Paced rounds by value in calls one after the other, and nothing between them, are never refused with 60, as from C (RoundsPass).
-use mathlib.Core.Path.{_≡_, refl, sym, subst, _∙_}
+use mathlib.Core.Path.{_≡_, sym, subst}
 use Prim.Native.Nat.{ℕ, zero, suc, _-_, _^_}
 use native.Mathlib.Omega.{arith}
 use mathlib.Core.List.{List, [], _∷_, map}
@@ -17,7 +17,7 @@ use Rattle.schedule.specs.Turn.{unsound, rootEnded, noWorker}
 use Rattle.schedule.specs.Runs.{moved}
 use Rattle.schedule.specs.Answers.{reportValues}
 use Rattle.schedule.specs.Calls.{inRounds}
-use Rattle.pace.specs.Pace.{may, nextIn, startPace}
+use Rattle.pace.specs.Pace.{may, nextIn}
 use Rattle.pacing.specs.declared.Pace.{Pace}
 use Rattle.pacing.specs.declared.PacedRan.{PacedRan}
 use Rattle.pacing.specs.Pacing.{counted, beginPace, pacedRan, pacedDrive, pacedRoundsRun}

@@ -9,14 +9,13 @@ use denote.Ref.{RefT, now}
 use denote.Triple.Clauses.{AtExit}
 use borrow.Fn.Kinds.{endedOf}
 use lib.ListN.{length}
-use Rattle.run_memory.specs.Memory.{Memory, Answer, answer, turnIn, lentTurn}
+use Rattle.run_memory.specs.Memory.{Memory, Answer, answer, lentTurn}
 use Rattle.run_memory.specs.Blocks.{memoryOf}
 use Rattle.schedule.specs.Calls.{turn}
 use Rattle.filling.specs.Filled.{filledOut}
 use Rattle.soundness.specs.Tested.{begunInto}
 use Rattle.wivakkol.specs.Lent.{lentBegin}
-use Rattle.wivakkol.specs.Opened.{lentOpen}
-use Rattle.claims.specs.LentCalls.{LentCall, moving, opening, tableThatRuns, lentMove, lentCall}
+use Rattle.claims.specs.LentCalls.{moving, opening, tableThatRuns, lentMove, lentCall}
 use Rattle.claims.proofs.Shaped.{Shaped, bytesOf, wordsOf, numbersOf, sumsOf, in-blocks}
 use Rattle.claims.proofs.Sizes.{begin-shaped, call-shaped}
 use Rattle.claims.proofs.LentSays.{BeginSays, OpenSays, begin-is, open-is, begin-says, open-says}

@@ -1,12 +1,10 @@
 -- The memory limit with b and no hypothesis on the row: from an accepted beginning of a run and of a pace, over every list of paced turns, lists and rounds, refused ones included, and openings.
-use mathlib.Core.Path.{_≡_, refl, sym, ap, subst, _∙_}
-use Prim.Native.Nat.{ℕ, _<_, _≤_}
+use mathlib.Core.Path.{_≡_, refl, ap, subst, _∙_}
+use Prim.Native.Nat.{ℕ, _≤_}
 use native.Mathlib.Omega.{arith}
 use mathlib.Core.List.{List, [], _∷_, _++_, map}
 use lib.ListN.{getD}
-use lib.Dec.{eqb}
 use borrow.Author.Tests.{eq-eqb}
-use Rattle.table.specs.Sum.{pick}
 use Rattle.table.specs.Format.{tableOf}
 use Rattle.schedule.specs.declared.Run.{Run}
 use Rattle.schedule.specs.Calls.{turn}
@@ -18,7 +16,6 @@ use Rattle.run_memory.specs.Memory.{Memory, turnIn, lentTurn}
 use Rattle.run_memory.specs.Stands.{runIn}
 use Rattle.run_memory.proofs.ByValue.{turn-settings}
 use Rattle.wivakkol.specs.Lent.{lentBegin}
-use Rattle.wivakkol.specs.Opened.{lentOpen}
 use Rattle.claims.specs.LentCalls.{LentCall, moving, opening, lentMove, lentCall, lentRowOf, lentAfter, lentRow}
 use Rattle.claims.proofs.LentLimit.{lent-limit, lent-threads, memory-so}
 use Rattle.pace.specs.Pace.{startPace}
@@ -27,7 +24,7 @@ use Rattle.pace.proofs.Exact.{start-stands, keeps-nil}
 use Rattle.paced_claims.specs.PacedCalls.{PacedCall, byRounds, Both, pacedAfter, pacedRow}
 use Rattle.paced_claims.proofs.Keeping.{Lets, Paces, lets-keep, PacedWithin, within-so}
 use Rattle.paced_claims.proofs.Keeping.{stay as nobody, step as lets}
-use Rattle.paced_claims.proofs.Steps.{Taken, Steps, stay, step, opened, calls-steps, below-p, open-settings}
+use Rattle.paced_claims.proofs.Steps.{Steps, stay, step, opened, calls-steps, below-p, open-settings}
 use Rattle.paced_claims.proofs.RoundsKeep.{paced-rounds-keep}
 
 -- ---- paced turns are turns

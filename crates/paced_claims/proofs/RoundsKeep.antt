@@ -11,16 +11,15 @@ use Rattle.table.specs.Sum.{pick}
 use Rattle.order.specs.Firsts.{firsts}
 use Rattle.schedule.specs.Memory.{Keeps}
 use Rattle.bounds.proofs.Rounds.{rounds-keep}
-use Rattle.run_memory.specs.Memory.{Memory, Answer, turnIn}
+use Rattle.run_memory.specs.Memory.{Memory, Answer}
 use Rattle.run_memory.proofs.Turning.{in-turn}
 use Rattle.pace.specs.Pace.{nextIn, took, tookEach, startPace}
 use Rattle.pace.specs.Since.{afterLatest}
 use Rattle.pace.specs.Stands.{StandsFor}
 use Rattle.pace.proofs.Cells.{took-long, took-past-counters, took-after}
 use Rattle.pace.proofs.Exact.{start-stands}
-use Rattle.wivakkol_pace.specs.Paced.{Kept}
 use Rattle.wivakkol_pace.specs.PacedRuns.{pacedWorker, pacedRounds}
-use Rattle.paced_claims.specs.PacedCalls.{PacedCall, byRounds, pacedCall, workersOf, takenBy, pacedRow}
+use Rattle.paced_claims.specs.PacedCalls.{byRounds, pacedCall, workersOf, takenBy, pacedRow}
 use Rattle.paced_claims.proofs.Steps.{Steps, stay, step, opened, call-steps}
 
 -- ---- the pace after turns in rounds

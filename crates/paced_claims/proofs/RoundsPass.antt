@@ -1,10 +1,10 @@
 -- Paced rounds in calls one after the other, of any lengths and with any b, and nothing between them, are never refused with 60: whose turn is next in rounds has had none since each other's latest.
 use mathlib.Core.Path.{_≡_, refl, sym, ap, subst, _∙_}
-use Prim.Native.Nat.{ℕ, zero, suc, _+_, _-_, _^_, _%_, _<_, _≤_}
+use Prim.Native.Nat.{ℕ, zero, suc, _+_, _-_, _^_, _%_, _<_}
 use native.Mathlib.Omega.{arith}
-use native.Mathlib.Nat.{mod-lt, zero-mod}
+use native.Mathlib.Nat.{mod-lt}
 use mathlib.Core.List.{List, [], _∷_, _++_, map}
-use mathlib.Core.Bool.{Bool, true, false, not, _&&_}
+use mathlib.Core.Bool.{Bool, true, false, _&&_}
 use lib.ListN.{getD}
 use lib.Dec.{eqb}
 use borrow.Author.Tests.{eqb-true}
@@ -13,7 +13,7 @@ use Rattle.order.specs.Firsts.{firsts}
 use Rattle.schedule.specs.Memory.{Keeps}
 use Rattle.schedule.specs.declared.Reply.the-variants.{Idle}
 use Rattle.bounds.proofs.Rounds.{rounds-keep}
-use Rattle.run_memory.specs.Memory.{Memory, Answer, movedIn, told, turnIn}
+use Rattle.run_memory.specs.Memory.{Memory, movedIn, told, turnIn}
 use Rattle.run_memory.specs.Runs.{stopped, overIn}
 use Rattle.run_memory.proofs.Refusals.{turn-number}
 use Rattle.pace.specs.Pace.{may, nextIn, took, tookEach, startPace}
@@ -22,7 +22,7 @@ use Rattle.pace.specs.Stands.{StandsFor}
 use Rattle.pace.proofs.Rows.{keeps-snoc}
 use Rattle.pace.proofs.Exact.{may-exactly, may-stands, start-stands}
 use Rattle.wivakkol_pace.specs.Paced.{hindranceIn, heldBack, pacedTold, pacedIn}
-use Rattle.wivakkol_pace.specs.PacedRuns.{PacedStop, pacedStop, pacedDrive, pacedRun, pacedRounds}
+use Rattle.wivakkol_pace.specs.PacedRuns.{pacedStop, pacedDrive, pacedRun, pacedRounds}
 use Rattle.paced_claims.specs.PacedCalls.{byRounds, pacedCall, workersOf, takenBy, pacedAfter}
 use Rattle.paced_claims.proofs.Steps.{Taken, taken, call-steps}
 use Rattle.paced_claims.proofs.RoundsKeep.{Turning, inRounds, this-worker, goes-on, first-turning, steps-pace}

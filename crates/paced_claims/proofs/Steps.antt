@@ -1,5 +1,5 @@
 -- Every list of paced calls is a row of turns, each of which the pace let through, with openings between them; refused calls and the ends of runs leave nothing else.
-use mathlib.Core.Path.{_≡_, refl, sym, ap, subst, _∙_}
+use mathlib.Core.Path.{_≡_, refl, sym, ap, subst}
 use Prim.Native.Nat.{ℕ, zero, suc, _+_, _-_, _^_, _<_, _≤_}
 use native.Mathlib.Omega.{arith}
 use mathlib.Core.List.{List, [], _∷_, _++_}
@@ -16,10 +16,10 @@ use Rattle.run_memory.specs.Memory.{Memory, movedIn, told, takenIn, turnIn, hin
 use Rattle.run_memory.specs.Runs.{stopped, overIn}
 use Rattle.wivakkol.specs.Opened.{soundIn, blankIn, openedAs, lentOpen}
 use Rattle.pace.specs.Pace.{may, took}
-use Rattle.wivakkol_pace.specs.Paced.{hindranceIn, heldBack, PacedTold, pacedTold, pacedIn, Kept, pacedTurnBy, pacedTurn}
+use Rattle.wivakkol_pace.specs.Paced.{hindranceIn, heldBack, pacedTold, pacedIn, Kept, pacedTurnBy, pacedTurn}
 use Rattle.wivakkol_pace.specs.PacedRuns.{PacedStop, pacedStop, pacedWorker, pacedDrive, pacedRun, pacedList, pacedRounds}
 use Rattle.wivakkol_pace.proofs.PacedDrives.{paced-same}
-use Rattle.paced_claims.specs.PacedCalls.{PacedCall, byTurn, byList, byRounds, byOpening, pacedCall, workersOf, takenBy, Both, pacedAfter, pacedRow}
+use Rattle.paced_claims.specs.PacedCalls.{PacedCall, byTurn, byList, byRounds, byOpening, pacedCall, workersOf, takenBy, pacedAfter, pacedRow}
 
 -- ---- a turn that is taken
 

@@ -1,6 +1,6 @@
 -- Every paced call's answer has the number and the values that follow from its checks, its turns and their replies.
 use mathlib.Core.Path.{_≡_, refl, sym, ap, _∙_, fun-ext}
-use Prim.Native.Nat.{ℕ, zero, suc, _+_, _-_, _^_, _≤_, _<_}
+use Prim.Native.Nat.{ℕ, zero, suc, _+_, _-_, _^_}
 use native.Mathlib.Nat.{zero-add, suc-add, add-zero, add-suc}
 use mathlib.Core.List.{List, [], _∷_, _++_}
 use mathlib.Core.Bool.{Bool, true, false, not, _&&_, _||_}
@@ -13,7 +13,7 @@ use Rattle.table.specs.declared.Found.{Found}
 use Rattle.table.specs.declared.Found.the-variants.{Nothing, At}
 use Rattle.schedule.specs.declared.Run.{Run}
 use Rattle.schedule.specs.declared.Report.the-variants.{Finished, Spent, Refused}
-use Rattle.schedule.specs.Turn.{unsound, rootEnded, noWorker, turnChecks, stepRun, passedIn, turnedAs, turned}
+use Rattle.schedule.specs.Turn.{unsound, rootEnded, noWorker, turnChecks, stepRun, passedIn, turned}
 use Rattle.schedule.specs.Runs.{moved}
 use Rattle.schedule.specs.Answers.{finished, spent, Values, replyValues, passing, beginningValues, turningValues, reportValues}
 use Rattle.schedule.specs.Values.{valuesWith, turnValues, runChecks, firstThat}
@@ -23,7 +23,7 @@ use Rattle.pacing.specs.declared.Pace.{Pace}
 use Rattle.pacing.specs.declared.PaceBegun.{PaceBegun}
 use Rattle.pacing.specs.declared.PacedTurned.{PacedTurned}
 use Rattle.pacing.specs.declared.PacedRan.{PacedRan}
-use Rattle.pacing.specs.Pacing.{counted, beginPace, pacedBy, pacedTurned, pacedRan, pacedDrive, pacedRun, pacedListRun, pacedRoundsRun}
+use Rattle.pacing.specs.Pacing.{counted, beginPace, pacedTurned, pacedRan, pacedDrive, pacedRun, pacedListRun, pacedRoundsRun}
 use Rattle.pacing.specs.PacedValues.{paceChecks, paceValues, wouldBreak, pacedTurnValues, Beside, beside, turnMore, afterPaced, pacedChecks, pacedStops, pacedTaken, pacedRunValues, pacedListValues, pacedRoundsValues}
 
 -- ---- a beginning and a turn

@@ -13,10 +13,9 @@ use Rattle.table.proofs.Tests.{no-way}
 use Rattle.schedule.specs.declared.Run.{Run}
 use Rattle.schedule.specs.declared.Beginning.the-variants.{Begun}
 use Rattle.schedule.specs.declared.Beginning.the-variants.{Refused as refusedBegin}
-use Rattle.schedule.specs.declared.Reply.{Reply}
 use Rattle.schedule.specs.declared.Turned.{Turned}
 use Rattle.schedule.specs.declared.Turning.{Turning}
-use Rattle.schedule.specs.declared.Turning.the-variants.{Taken, Refused}
+use Rattle.schedule.specs.declared.Turning.the-variants.{Refused}
 use Rattle.schedule.specs.Turn.{turned}
 use Rattle.pace.specs.Pace.{Paced, paced, blank, startPace, may, took}
 use Rattle.pacing.specs.declared.Pace.{Pace}

@@ -1,11 +1,11 @@
 -- A paced run by value on a record that passed check 32 is the run in the memory into which the record was packed: on a sound record turn by turn, and on the blank one at once.
-use mathlib.Core.Path.{_≡_, refl, sym, ap, subst, _∙_}
-use Prim.Native.Nat.{ℕ, zero, suc, _-_, _^_, _≤_, _<_}
+use mathlib.Core.Path.{_≡_, refl, ap, _∙_}
+use Prim.Native.Nat.{ℕ, zero, suc, _-_, _^_, _<_}
 use native.Mathlib.Omega.{arith}
 use native.Mathlib.Decide.{ℕ-discrete}
 use mathlib.Core.List.{List, []}
 use mathlib.Core.Bool.{Bool, true, false}
-use borrow.Author.Tests.{eqb-true, eqb-false, ne-eqb, le-ltb}
+use borrow.Author.Tests.{ne-eqb, le-ltb}
 use lib.Dec.{ltb, eqb}
 use lib.ListN.{length, getD}
 use Rattle.table.specs.Sum.{pick}
@@ -25,7 +25,7 @@ use Rattle.run_memory.specs.Runs.{stopped, overIn, reportOf}
 use Rattle.run_memory.proofs.Refines.{taken-so}
 use Rattle.run_memory.proofs.Packed.{read-back, packed-record, packed-stands}
 use Rattle.asyncdf.proofs.Calls.{first-turn, open-root, workers-none, turns-few, root-going, same}
-use Rattle.pace.specs.Pace.{may, nextIn}
+use Rattle.pace.specs.Pace.{may}
 use Rattle.wivakkol_pace.specs.Paced.{heldBack, pacedIn}
 use Rattle.wivakkol_pace.specs.PacedRuns.{PacedStop, pacedStop, pacedWorker}
 use Rattle.wivakkol_pace.specs.PacedRuns.{pacedDrive as driveIn}

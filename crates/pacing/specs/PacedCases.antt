@@ -1,4 +1,4 @@
--- Paced calls on E with two workers, K 6 and b 1, computed on the definitions: what they say, the turns that the pace has counted since, and the least b kept.
+-- Paced calls on E with two workers, K 6 and b 1, computed on the definitions: what they report, the turns of the record, and the least b kept.
 use mathlib.Core.Path.{_≡_, refl}
 use Prim.Native.Nat.{ℕ}
 use mathlib.Core.List.{List, [], _∷_}
@@ -10,10 +10,9 @@ use Rattle.table.specs.Checks.{ownerBelow, allocOf, freeOf, wholeWithin}
 use Rattle.table.specs.Level.{forkBelow}
 use Rattle.table.specs.Cases.{E}
 use Rattle.order.specs.Firsts.{firsts}
-use Rattle.schedule.specs.declared.Run.{Run}
 use Rattle.schedule.specs.declared.Turning.{Turning}
 use Rattle.schedule.specs.declared.Report.{Report}
-use Rattle.schedule.specs.declared.Report.the-variants.{Finished, Spent, Refused}
+use Rattle.schedule.specs.declared.Report.the-variants.{Finished, Refused}
 use Rattle.schedule.specs.declared.Turning.the-variants.{Refused as refusedTurn}
 use Rattle.schedule.specs.Machine.{leftOf, without, waitsFor, woken, actBy, act, leftmost, taken, turnFree, turnOf, passedBy}
 use Rattle.schedule.specs.Record.{setOf}
@@ -54,7 +53,7 @@ rounds-worked : toldBy (inRounds 99 (overList (0 ∷ 1 ∷ 0 ∷ 0 ∷ []))) ≡
 unfolding codeOf sumTo anyBelow kindOf is tableOf ownerBelow allocOf freeOf wholeWithin forkBelow leftOf without waitsFor woken actBy act leftmost taken turnFree turnOf setOf firsts walk rightIn startState startRun rootEnded noWorker stepRun mostFrom asked may nextIn counted renewed took pacedDrive
 rounds-worked = refl
 
--- a single turn that would break the rule: 60, and record and pace as they were; and once the run is over 31, whatever the pace
+-- a single turn that would break the rule: 60; 30 comes before it, and once the run is over 31
 abbrev answered : ℕ → PacedRan → Turning
 answered w d = pacedBy (turnedSound (d .run) w) (d .run) (d .pace) w .answer
 

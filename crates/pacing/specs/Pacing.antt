@@ -1,6 +1,6 @@
 -- A pace beside a run, by value: the turn and the runs of a record (crates/schedule), where a turn that would break the rule with b is refused, and one that is taken is counted (crates/pace).
 use Prim.Native.Nat.{ℕ, zero, suc, _-_, _^_}
-use mathlib.Core.List.{List, []}
+use mathlib.Core.List.{List}
 use mathlib.Core.Bool.{Bool, true, false, _&&_}
 use lib.ListN.{length, getD, replicate}
 use lib.Dec.{ltb, leb, eqb}

@@ -5,7 +5,7 @@ use mathlib.Core.List.{List}
 use mathlib.Core.Bool.{Bool, true, false}
 use lib.Dec.{eqb}
 use Rattle.table.specs.Sum.{pick}
-use Rattle.run_memory.specs.Memory.{Memory, movedIn, turnIn}
+use Rattle.run_memory.specs.Memory.{Memory, movedIn}
 use Rattle.run_memory.specs.Runs.{overIn}
 use Rattle.run_memory.proofs.Refusals.{turn-number}
 use Rattle.wivakkol_pace.specs.Paced.{heldBack, PacedTold, pacedIn}

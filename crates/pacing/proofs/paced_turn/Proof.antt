@@ -1,5 +1,5 @@
 -- `pacing::paced_turn` meets its contract: the turn by value, and then the pace.
-use mathlib.Core.Path.{_≡_, refl, sym, _∙_}
+use mathlib.Core.Path.{refl, sym, _∙_}
 use borrow.Author.Needs.{needs}
 use borrow.Author.Tests.{not-true, not-false}
 use Rattle.pacing.proofs.PacedCalls.{refused-so, held-so, taken-so}
