@@ -148,8 +148,8 @@ typedef struct wivakkol_tables_work {
     uint16_t order[WIVAKKOL_MOST_THREADS];
 } wivakkol_tables_work;
 
-/* Working memory of wivakkol_limit and wivakkol_fit, and of wivakkol_deque_limit, for which C must keep to the same. All of it is 0 afterwards, also where they refuse. `peaks` has 17 numbers for each thread, and `rows` 17
- * for each open child. */
+/* Working memory of wivakkol_limit and wivakkol_fit, and of wivakkol_deque_limit, for which C must keep to the same. All of it is 0 afterwards, also where they refuse. `peaks` has 17 numbers
+ * for each thread, and `rows` 17 for each open child. */
 #define WIVAKKOL_PEAKS 17408
 
 typedef struct wivakkol_limit_work {

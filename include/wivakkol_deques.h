@@ -35,7 +35,7 @@ extern "C" {
 #define WIVAKKOL_DEQUE_OPEN_ROW 1
 
 /* The row of wivakkol_deque_limit. */
-#define WIVAKKOL_DEQUE_LIMIT_MEMORY 1 /* no DFDeques run with these p and K whose choices are below c holds more */
+#define WIVAKKOL_DEQUE_LIMIT_MEMORY 1 /* no DFDeques run begun with these p and K whose choices are below c holds more */
 #define WIVAKKOL_DEQUE_LIMIT_NEAR 2   /* the same where every choice is 0, whatever c */
 #define WIVAKKOL_DEQUE_LIMIT_ROW 3
 
@@ -54,7 +54,7 @@ uint32_t wivakkol_deque_limit_on(const uint8_t *table, size_t length, uint32_t p
                                  uint64_t rises[1024], uint64_t falls[1024], uint64_t serials[1024], uint16_t depths[1024], uint64_t peaks[17408],
                                  uint64_t rows[17408], uint8_t *filled, size_t room);
 
-/* What a run of DFDeques stays within, from the table alone: two limits of the table that runs with quota K, filled out where an alloc is above K. After a beginning of p workers with this K that
+/* What a run of DFDeques stays within, before it is begun: two limits of the table that runs with quota K, filled out where an alloc is above K. After a beginning of p workers with this K that
  * returned 0, and through all turns, lists and openings of what these left, refused calls included, no more is held than the first where every choice of the turns taken is below c, and no more
  * than the second where every choice is 0; in every order of the workers. The working memory is that of wivakkol_limit, all 0 afterwards, and `filled` is used as in wivakkol_begin.
  *

@@ -94,8 +94,8 @@ static inline uint32_t wivakkol_paced_list(wivakkol_run *run, wivakkol_pace *pac
     return wivakkol_paced_list_on(table, length, order, turns, run->bytes, run->words, run->numbers, run->sums, pace->numbers, row);
 }
 
-/* The same for the pace's workers 0 to p - 1 in rounds, at most `limit` turns, on from the worker after that of the latest turn counted, worker 0 before any: so calls one after the other, with
- * nothing between them, keep the rule with b 1 together, which those of wivakkol_rounds do not. */
+/* The same for the pace's workers 0 to p - 1 in rounds, at most `limit` turns, on from the worker after that of the latest turn counted, worker 0 before any: so calls one after the other, from
+ * the pace's beginning on and with no other turns, keep the rule with b 1 together, which those of wivakkol_rounds do not, and none is refused with 60. */
 static inline uint32_t wivakkol_paced_rounds(wivakkol_run *run, wivakkol_pace *pace, const uint8_t *table, size_t length, uint32_t limit,
                                              uint64_t row[WIVAKKOL_RUN_ROW])
 {

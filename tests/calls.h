@@ -1,4 +1,5 @@
-/* What the programs share that call the archives for the tests: room that ends where readable memory ends, a painted stack, noise, and numbers of the input. Each is one file, so that all is here; a program may leave some of it unused. */
+/* What the programs share that call the archives for the tests: room that ends where readable memory ends, a painted stack, noise, and numbers of the input. Each is one file, so that all is here;
+ * a program may leave some of it unused. */
 #ifndef CALLS_H
 #define CALLS_H
 

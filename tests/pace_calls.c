@@ -12,13 +12,6 @@ static size_t n, k;
 static uint32_t x, y, answer, most[3];
 static uint64_t row[5];
 
-static uint32_t number(void)
-{
-    uint8_t c[4];
-    if (fread(c, 1, 4, stdin) != 4) exit(1);
-    return (uint32_t)little(c, 4);
-}
-
 static size_t bytes(void *to)
 {
     size_t size = number();
@@ -56,8 +49,7 @@ static void make(void (*f)(void), uint32_t *most)
 int main(void)
 {
     int call;
-    stack = malloc(STACK);
-    if (stack == NULL) fail("no memory");
+    make_stack();
     while ((call = getchar()) != EOF) {
         answer = 0;
         memset(row, 0xa5, sizeof row);

@@ -69,7 +69,6 @@ turned-row r w c = go (unsoundDeques r) (noWorker (r .run) w) (rootEnded (r .run
     go false false false true = refl
     go false false false false = rw (reply-number (stepDeques r w c .reply))
 
--- the turns that a report names
 -- ---- a call
 
 pub record CallRefines (s : List ℕ) (M : Memory) (c : DequeCall) : Type 0 where

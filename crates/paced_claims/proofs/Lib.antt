@@ -1,6 +1,6 @@
 -- what a visitor is sent to: both limits with no hypothesis on the row, on the definitions (PacedLimit from C, MovesLimit by value) and from the functions' own promises (PacedFromC,
--- PacedByValue); calls of rounds one after the other keep the rule with 1 together (RoundsKeep), and
--- are never refused with 60 (RoundsPass, MovesPass)
+-- PacedByValue); rounds from the pace's beginning on, in calls one after the other and no other turns, keep the rule with 1 together (RoundsKeep) and are never refused with 60 (RoundsPass,
+-- MovesPass)
 pub mod PacedLimit
 pub mod PacedFromC
 pub mod MovesLimit

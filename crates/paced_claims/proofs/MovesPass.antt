@@ -1,4 +1,4 @@
--- Paced rounds by value in calls one after the other, and nothing between them, are never refused with 60, as from C (RoundsPass).
+-- Paced rounds by value from the pace's beginning on, in calls one after the other and no other turns, are never refused with 60, as from C (RoundsPass).
 use mathlib.Core.Path.{_≡_, sym, subst}
 use Prim.Native.Nat.{ℕ, zero, suc, _-_, _^_}
 use native.Mathlib.Omega.{arith}

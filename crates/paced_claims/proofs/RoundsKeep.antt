@@ -1,4 +1,4 @@
--- Paced rounds in calls one after the other, of any lengths, are one run in rounds: together they keep the rule with 1, whatever the pace's b.
+-- Paced rounds from the pace's beginning on, in calls one after the other, of any lengths, are one run in rounds: together they keep the rule with 1, whatever the pace's b.
 use mathlib.Core.Path.{_≡_, refl, sym, ap, ap₂, subst, _∙_}
 use Prim.Native.Nat.{ℕ, zero, suc, _+_, _%_, _<_, _≤_}
 use native.Mathlib.Omega.{arith}

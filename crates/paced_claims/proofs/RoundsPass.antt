@@ -1,4 +1,5 @@
--- Paced rounds in calls one after the other, of any lengths and with any b, and nothing between them, are never refused with 60: whose turn is next in rounds has had none since each other's latest.
+-- Paced rounds from the pace's beginning on, in calls one after the other, of any lengths and with any b, and no other turns, are never refused with 60: whose turn is next in rounds has had none
+-- since each other's latest.
 use mathlib.Core.Path.{_≡_, refl, sym, ap, subst, _∙_}
 use Prim.Native.Nat.{ℕ, zero, suc, _+_, _-_, _^_, _%_, _<_}
 use native.Mathlib.Omega.{arith}

@@ -1,4 +1,4 @@
-// What the memory of a run of DFDeques stays within, from the table alone.
+// What the memory of a run of DFDeques stays within, before it is begun.
 use deque_limit::ChoiceLimits;
 use deque_limit::choice_limit_in;
 use run_memory::lent::workers;

@@ -3,10 +3,10 @@ use crate::run::{readers, reply, report, NO_THREAD};
 use crate::{raw, LimitWork, Memory, Refusal, RefusedMemory, Reply, Report, Run, Status, Stopped, Work};
 use core::ops::DerefMut;
 
-/// What a [`DequeRun`] stays within, from the table that runs, with p, K and c.
+/// What a [`DequeRun`] that is begun stays within, from the table that runs, with p, K and c.
 #[derive(Clone, Copy, Debug, PartialEq, Eq, Hash)]
 pub struct DequeLimits {
-    /// No [`DequeRun`] with these p and K holds more where every choice of its turns is below c, whatever the order of the workers.
+    /// No [`DequeRun`] begun with these p and K holds more where every choice of its turns is below c, whatever the order of the workers.
     pub memory: u64,
     /// The same where every choice is 0, whatever c.
     pub near: u64,

@@ -329,7 +329,8 @@ impl Default for TablesWork {
     }
 }
 
-/// Working memory of [`limit`](crate::limit), [`fit`](crate::fit) and, with the feature `deques`, `deque_limit`: 305,152 bytes, all 0 between two calls. One serves any number of tables, one call at a time.
+/// Working memory of [`limit`](crate::limit), [`fit`](crate::fit) and, with the feature `deques`, `deque_limit`: 305,152 bytes, all 0 between two calls. One serves any number of tables, one call
+/// at a time.
 #[repr(C)]
 pub struct LimitWork {
     pub(crate) rises: [u64; 1024],

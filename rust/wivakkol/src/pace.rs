@@ -152,8 +152,8 @@ impl<'t, M: DerefMut<Target = Memory>> Paced<'t, '_, M> {
         report(self.run.memory.paced_list(self.run.table, self.pace, order))
     }
 
-    /// Turns of the workers 0 to p − 1, again and again, up to the root's end, at most `limit` of them, on from the worker after that of the latest turn: so calls one after the other, with
-    /// nothing between them, keep the rule with b 1 together, which those of [`Run::rounds`] do not. Stopped as [`list`](Paced::list) is.
+    /// Turns of the workers 0 to p − 1, again and again, up to the root's end, at most `limit` of them, on from the worker after that of the latest turn: so calls one after the other,
+    /// from the pace's beginning on and with no other turns, keep the rule with b 1 together, which those of [`Run::rounds`] do not, and none is refused with 60. Stopped as [`list`](Paced::list) is.
     pub fn rounds(&mut self, limit: u32) -> Result<Report, Stopped> {
         report(self.run.memory.paced_rounds(self.run.table, self.pace, limit))
     }
