@@ -37,13 +37,17 @@ use Rattle.run_memory.proofs.ByValue.{turn-value, turn-record, list-value, roun
 
 -- ---- a run that check 32 refuses
 
-pub list-unsound : (r : Run) (l : List ℕ) → unsound r ≡ true → ran (Refused 0 (refusal 32 0)) r ≡ listRun r l
+list-unsound : (r : Run) (l : List ℕ) → unsound r ≡ true → ran (Refused 0 (refusal 32 0)) r ≡ listRun r l
 unfolding listRun
 list-unsound r l e = rw e
 
-pub rounds-unsound : (r : Run) (limit : ℕ) → unsound r ≡ true → ran (Refused 0 (refusal 32 0)) r ≡ roundsRun r limit
+rounds-unsound : (r : Run) (limit : ℕ) → unsound r ≡ true → ran (Refused 0 (refusal 32 0)) r ≡ roundsRun r limit
 unfolding roundsRun
 rounds-unsound r limit e = rw e
+
+pub run-unsound : (r : Run) (l : List ℕ) (rounds : Bool) (limit : ℕ) → unsound r ≡ true → ran (Refused 0 (refusal 32 0)) r ≡ pick rounds (roundsRun r limit) (listRun r l)
+run-unsound r l true limit e = rounds-unsound r limit e
+run-unsound r l false limit e = list-unsound r l e
 
 -- ---- the blank record
 
@@ -146,7 +150,7 @@ module _ (run : Run) (e : unsound run ≡ false) (parents : List ℕ) (right : S
   abbrev value : Stopped → Ran
   value d = ran (reportOf (d .number) (d .finished) (d .turns)) (recordOf run (d .memory))
 
-  pub list-taken : (l : List ℕ) {d : Stopped} → d ≡ listRunIn s l M → value d ≡ listRun run l
+  list-taken : (l : List ℕ) {d : Stopped} → d ≡ listRunIn s l M → value d ≡ listRun run l
   list-taken l {d} f = go (ℕ-discrete (run .workers) 0)
     where
       none : (b : Bool) → recordOf run M ≡ run
@@ -158,12 +162,17 @@ module _ (run : Run) (e : unsound run ≡ false) (parents : List ℕ) (right : S
       go (yes n) = ap value (f ∙ no-list s M (workers-none n) (turns-few n) (root-going n) l) ∙ none (eqb (length l) 0) (same n) ∙ list-blank run e n l
       go (no n) = list-value (sound-here n .steady) parents m (right (sound-here n)) (fits n) l f
 
-  pub rounds-taken : (limit : ℕ) {d : Stopped} → d ≡ roundsRunIn s limit M → value d ≡ roundsRun run limit
+  rounds-taken : (limit : ℕ) {d : Stopped} → d ≡ roundsRunIn s limit M → value d ≡ roundsRun run limit
   rounds-taken limit {d} f = go (ℕ-discrete (run .workers) 0)
     where
       go : Dec (run .workers ≡ 0) → value d ≡ roundsRun run limit
       go (yes n) = ap value (f ∙ no-rounds s M (workers-none n) (turns-few n) limit) ∙ ap (ran (Refused 0 (refusal 30 0))) (same n) ∙ rounds-blank run e n limit
       go (no n) = rounds-value (sound-here n .steady) parents m (right (sound-here n)) (fits n) limit f
+
+  pub run-taken : (l : List ℕ) (rounds : Bool) (limit : ℕ) {d : Stopped} → d ≡ pick rounds (roundsRunIn s limit M) (listRunIn s l M)
+      → value d ≡ pick rounds (roundsRun run limit) (listRun run l)
+  run-taken l true limit f = rounds-taken limit f
+  run-taken l false limit f = list-taken l f
 
 -- ---- an answer put together
 
@@ -174,11 +183,10 @@ ran-as e f g = (λ i. ran (e i) (f i)) ∙ g
 pub told-small : (s : List ℕ) (w : ℕ) (M : Memory) {number : ℕ} {reply : Reply} {M' : Memory} → told number reply M' ≡ turnIn s w M → number < 256
 told-small s w M e = omega (arith, ap (λ (x : Told). x .number) e, turn-number s w M)
 
-pub list-small : (s l : List ℕ) (M : Memory) {number turns : ℕ} {over : Bool} {M' : Memory} → stopped number over turns M' ≡ listRunIn s l M → number < 256
-list-small s l M e = omega (arith, ap (λ (x : Stopped). x .number) e, list-number s l M)
-
-pub rounds-small : (s : List ℕ) (limit : ℕ) (M : Memory) {number turns : ℕ} {over : Bool} {M' : Memory} → stopped number over turns M' ≡ roundsRunIn s limit M → number < 256
-rounds-small s limit M e = omega (arith, ap (λ (x : Stopped). x .number) e, rounds-number s limit M)
+pub run-small : (s l : List ℕ) (rounds : Bool) (limit : ℕ) (M : Memory) {number turns : ℕ} {over : Bool} {M' : Memory}
+    → stopped number over turns M' ≡ pick rounds (roundsRunIn s limit M) (listRunIn s l M) → number < 256
+run-small s l true limit M e = omega (arith, ap (λ (x : Stopped). x .number) e, rounds-number s limit M)
+run-small s l false limit M e = omega (arith, ap (λ (x : Stopped). x .number) e, list-number s l M)
 
 -- ---- the values of an answer that is the definition's
 

@@ -4,6 +4,7 @@ use crate::beginning::blank;
 use crate::beginning::start;
 use run_memory::packing::pack;
 use run_memory::packing::unpack;
+use run_memory::runs::Stop;
 use run_memory::runs::list_in;
 use run_memory::runs::rounds_in;
 use run_memory::turn_in;
@@ -20,6 +21,7 @@ use table::Found;
 use table::Refusal;
 ghost use mathlib.Core.Path.{_≡_};
 ghost use lib.Count.{ones};
+ghost use Rattle.table.specs.Sum.{pick};
 ghost use Rattle.table.specs.Pass.{refusal};
 ghost use Rattle.schedule.specs.declared.Turning.the-variants.{Refused};
 ghost use Rattle.schedule.specs.declared.Report.the-variants.{Refused as Stopped};
@@ -32,7 +34,8 @@ ghost use Rattle.schedule.specs.Sound.{Steady};
 ghost use Rattle.order.specs.Words.{countBelow};
 ghost use Rattle.schedule.specs.Turn.{turned as turnedOf};
 ghost use Rattle.schedule.specs.Runs.{ran, listRun, roundsRun};
-ghost use Rattle.run_memory.specs.Runs.{reportOf};
+ghost use Rattle.run_memory.specs.Blocks.{memoryOf};
+ghost use Rattle.run_memory.specs.Runs.{stopped, listRunIn, roundsRunIn, reportOf};
 
 mod beginning;
 
@@ -149,10 +152,30 @@ pub fn report_of(number: u8, finished: bool, turns: u64) -> Report
     }
 }
 
-// A run over a list of workers.
-pub fn run_list(run: Run, order: &[u8]) -> Ran
-    ensures { λ r. ⌜ r ≡ listRun run (now (order .entry)) ⌝ }
-    ensures { λ r. ⌜ reportValues (r .report) ≡ listValues run (now (order .entry)) ⌝ }
+// A run in the blocks, over the order or in rounds.
+fn stop_in(
+    table: &[u8],
+    order: &[u8],
+    rounds: bool,
+    limit: u32,
+    bytes: &mut [u8; 1040],
+    words: &mut [u16; 6163],
+    numbers: &mut [u32; 18],
+    sums: &mut [u64; 1027],
+) -> Stop
+    ensures { λ r. ⌜ stopped (r .number) (r .finished) (r .turns) (memoryOf (now (bytes .exit)) (now (words .exit)) (now (numbers .exit)) (now (sums .exit)))
+        ≡ pick rounds (roundsRunIn (now (table .entry)) limit (memoryOf (now (bytes .entry)) (now (words .entry)) (now (numbers .entry)) (now (sums .entry))))
+        (listRunIn (now (table .entry)) (now (order .entry)) (memoryOf (now (bytes .entry)) (now (words .entry)) (now (numbers .entry)) (now (sums .entry)))) ⌝ }
+{
+    if rounds {
+        return rounds_in(table, limit, bytes, words, numbers, sums);
+    }
+    list_in(table, order, bytes, words, numbers, sums)
+}
+
+// A run over the order, or in rounds of at most `limit` turns.
+fn run_by(run: Run, order: &[u8], rounds: bool, limit: u32) -> Ran
+    ensures { λ r. ⌜ r ≡ pick rounds (roundsRun run limit) (listRun run (now (order .entry))) ⌝ }
 {
     let tested = test(run);
     if !tested.passed {
@@ -174,9 +197,11 @@ pub fn run_list(run: Run, order: &[u8]) -> Ran
         &mut numbers,
         &mut sums,
     );
-    let stop = list_in(
+    let stop = stop_in(
         table,
         order,
+        rounds,
+        limit,
         &mut bytes,
         &mut words,
         &mut numbers,
@@ -187,42 +212,20 @@ pub fn run_list(run: Run, order: &[u8]) -> Ran
     Ran { report, run: after }
 }
 
+// A run over a list of workers.
+pub fn run_list(run: Run, order: &[u8]) -> Ran
+    ensures { λ r. ⌜ r ≡ listRun run (now (order .entry)) ⌝ }
+    ensures { λ r. ⌜ reportValues (r .report) ≡ listValues run (now (order .entry)) ⌝ }
+{
+    run_by(run, order, false, 0)
+}
+
 // A run in rounds, of at most `limit` turns.
 pub fn run_rounds(run: Run, limit: u32) -> Ran
     ensures { λ r. ⌜ r ≡ roundsRun run limit ⌝ }
     ensures { λ r. ⌜ reportValues (r .report) ≡ roundsValues run limit ⌝ }
 {
-    let tested = test(run);
-    if !tested.passed {
-        return unsound(run);
-    }
-    let parents = tested.parents;
-    let length = run.length as usize;
-    let table = run.table;
-    let table = &table[..length];
-    let mut bytes = [0u8; 1040];
-    let mut words = [0u16; 6163];
-    let mut numbers = [0u32; 18];
-    let mut sums = [0u64; 1027];
-    pack(
-        run,
-        &parents,
-        &mut bytes,
-        &mut words,
-        &mut numbers,
-        &mut sums,
-    );
-    let stop = rounds_in(
-        table,
-        limit,
-        &mut bytes,
-        &mut words,
-        &mut numbers,
-        &mut sums,
-    );
-    let report = report_of(stop.number as u8, stop.finished, stop.turns);
-    let after = unpack(run, &bytes, &words, &numbers, &sums);
-    Ran { report, run: after }
+    run_by(run, b"", true, limit)
 }
 
 // The number busy: of a record that is sound, turns taken apart, the workers that hold a thread.

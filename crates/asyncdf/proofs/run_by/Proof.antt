@@ -1,0 +1,87 @@
+-- `asyncdf::run_by` meets its contract: check 32, and then the run in the blocks.
+use mathlib.Core.Path.{_≡_, sym, _∙_}
+use mathlib.Core.Bool.{false}
+use native.Mathlib.Omega.{arith}
+use borrow.Author.Needs.{needs}
+use lib.Seq.{length-take-le}
+use Rattle.schedule.specs.Turn.{unsound}
+use Rattle.soundness.proofs.Passed.{test-fails, test-passes, test-parents}
+use Rattle.asyncdf.proofs.Calls.{run-unsound, table-inside, run-taken, ran-as, run-small}
+use Rattle.asyncdf.proofs.run_by.Statement.{statement}
+use Rattle.asyncdf.proofs.run_by.Tie as tie
+
+abbrev start : tie.Else1 → tie.Start
+start c = c .before .before .before .before
+
+-- the record passed the test
+passed : (c : tie.Else1) → unsound (start c .args .run) ≡ false
+passed c = test-passes _ (c .before .before .test .ensures) (c .if1 .left)
+
+test-requires : tie.Need-test-requires
+test-requires c κs = search needs
+
+unsound-requires : tie.Need-unsound-requires
+unsound-requires c κs = search needs
+
+returns : tie.Need-returns
+returns c =
+    let t = c .before in
+    c .unsound .ensures ∙ run-unsound _ _ (t .before .before .before .before .args .rounds) _ (test-fails _ (t .before .before .test .ensures) (t .if1 .taken))
+
+cast-length : tie.Need-cast-length
+cast-length c = search needs
+
+array-share-prefix-table : tie.Need-array-share-prefix-table
+array-share-prefix-table c = table-inside _ (passed (c .before .before .before))
+
+slice-aggregate-table : tie.Need-slice-aggregate-table
+slice-aggregate-table c =
+    let e = c .before .before .before .before in
+    sym (length-take-le (start e .args .run .length) (start e .args .run .table) (table-inside _ (passed e)))
+
+pack-requires : tie.Need-pack-requires
+pack-requires c κs = search needs
+
+-- the record was packed
+abbrev packed : tie.After-stop-in → tie.After-pack
+packed c = c .before .before .before .before .before
+
+abbrev tested : tie.After-stop-in → tie.Else1
+tested c = packed c .before .before .before .before .before .before .before .before .before .before
+
+stop-in-requires : tie.Need-stop-in-requires
+stop-in-requires c κs = search needs
+
+cast-report-of : tie.Need-cast-report-of
+cast-report-of c = omega (arith, run-small _ _ (start (tested (c .before)) .args .rounds) _ _ (c .before .stop-in .ensures))
+
+report-of-requires : tie.Need-report-of-requires
+report-of-requires c κs = search needs
+
+unpack-requires : tie.Need-unpack-requires
+unpack-requires c κs = search needs
+
+returns-2 : tie.Need-returns-2
+returns-2 c =
+    let x = c .before .before .before .before .before in
+    let t = x .before .before in
+    let e = tested t in
+    ran-as (x .report-of .ensures) (c .unpack .ensures)
+    (run-taken _ (passed e) _ (λ h. test-parents _ (e .before .before .test .ensures) h) (packed t .pack .ensures) _ (start e .args .rounds) _ (t .stop-in .ensures))
+
+pub run-by-spec : {M : Type 1} → statement M
+run-by-spec =
+    tie.close
+    (tie.spec
+    test-requires
+    unsound-requires
+    returns
+    cast-length
+    array-share-prefix-table
+    slice-aggregate-table
+    pack-requires
+    stop-in-requires
+    cast-report-of
+    report-of-requires
+    unpack-requires
+    returns-2)
