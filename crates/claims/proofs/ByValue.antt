@@ -27,6 +27,7 @@ use Rattle.schedule.specs.Turn.{turned}
 use Rattle.schedule.specs.Runs.{listRun, roundsRun}
 use Rattle.schedule.specs.Calls.{Call, turn, overList, inRounds, turnsIn, turnRow, afterCall, afterCalls, rowOf, rowOfCalls}
 use Rattle.claims.specs.Answers.{Answer, turning, report, answerOf, answersOf}
+use Rattle.claims.proofs.LentSays.{lentOf}
 use Rattle.bounds.proofs.Limit.{MemoryLimit, memory-limit}
 use Rattle.bounds.proofs.ThreadLimit.{ThreadLimit, thread-limit}
 use Rattle.bounds.proofs.Most.{turns-most, rounds-finish}
@@ -136,10 +137,6 @@ history-is (next {r} {r'} {r''} {c} {x} {row} {rest} {calls} {answers} h t) =
     }
 
 -- ---- a history exists
-
--- a reference at some place to a value
-abbrev lentOf : List ℕ → RefT (List ℕ)
-lentOf l = record { ptr = (0, 0); name = 0; now = l }
 
 -- what the definitions answer keeps the promises
 pub begin-says : (s : List ℕ) (p K : ℕ) → BeginSays s p K (begin s p K)

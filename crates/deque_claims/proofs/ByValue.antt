@@ -35,6 +35,7 @@ use Rattle.dfdeques.proofs.deque_turn.Kinds as turn-kinds
 use Rattle.dfdeques.proofs.deque_turn.Reads as turn-promise
 use Rattle.dfdeques.proofs.run_pairs.Kinds as pairs-kinds
 use Rattle.dfdeques.proofs.run_pairs.Reads as pairs-promise
+use Rattle.claims.proofs.LentSays.{lentOf}
 use Rattle.deque_claims.specs.DequeAnswersOf.{DequeAnswer, turning, report, dequeAnswerOf, dequeAnswersOf}
 
 -- ---- what the promises say
@@ -124,10 +125,6 @@ history-is (next {r} {r'} {r''} {c} {x} {row} {rest} {calls} {answers} h t) =
     }
 
 -- ---- a history exists
-
--- a reference at some place to a value
-abbrev lentOf : List ℕ → RefT (List ℕ)
-lentOf l = record { ptr = (0, 0); name = 0; now = l }
 
 -- what the definitions answer keeps the promises
 pub begin-says : (s : List ℕ) (p K : ℕ) → BeginSays s p K (dequeBegin s p K)

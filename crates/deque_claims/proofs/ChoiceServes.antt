@@ -1,9 +1,9 @@
 -- What `dequelimit` gives serves: over every history of calls from a beginning with the same p and K whose choices are below c, refused ones included, memory held and its highest are at most
 -- its first number, and with choices 0 at most its second. So do the numbers that `wivakkol_deque_limit_on` puts into its row (`limit-call-serves`).
-use mathlib.Core.Path.{_≡_, sym, _∙_}
+use mathlib.Core.Path.{_≡_, refl, sym, _∙_}
 use Prim.Native.Nat.{ℕ, _≤_}
 use mathlib.Core.List.{List, [], _∷_}
-use lib.ListN.{length, getD}
+use lib.ListN.{length, getD, replicate}
 use contract.Lifetimes.{Lfts}
 use denote.Ref.{RefT, now}
 use denote.Triple.Clauses.{AtExit}
@@ -17,7 +17,7 @@ use Rattle.deques.specs.DequeCalls.{DequeCall}
 use Rattle.deque_bounds.proofs.HeldLimits.{Choices}
 use Rattle.deque_limit.specs.declared.Bounds.{Bounds}
 use Rattle.deque_limit.specs.declared.ChoiceLimits.the-variants.{Given}
-use Rattle.deque_limit.specs.ChoiceLimit.{choiceLimits, choiceLimitsIn}
+use Rattle.deque_limit.specs.ChoiceLimit.{choiceLimits, choiceLimitsIn, choiceLimitsInto}
 use Rattle.deque_limit.proofs.Holds.{answer-holds, near-holds}
 use Rattle.stealing.specs.StealingMemory.{dequeRunIn}
 use Rattle.wivakkol_deques.specs.ChoiceRows.{choiceNumber, choiceRow}
@@ -25,7 +25,7 @@ use Rattle.wivakkol_deques.proofs.ChoiceRows.{choice-zero}
 use Rattle.wivakkol_deques.proofs.limit.wivakkol_deque_limit_on.Kinds as limit-kinds
 use Rattle.wivakkol_deques.proofs.limit.wivakkol_deque_limit_on.Reads as limit-promise
 use Rattle.claims.specs.LentCalls.{tableThatRuns, Returned}
-use Rattle.claims.proofs.LentSays.{BeginSays}
+use Rattle.claims.proofs.LentSays.{BeginSays, lentOf}
 use Rattle.deque_claims.specs.LentDequeCalls.{LentDequeCall}
 use Rattle.deque_claims.specs.DequeAnswersOf.{DequeAnswer}
 use Rattle.deque_claims.proofs.ByValue as by-value
@@ -76,6 +76,30 @@ limit-number {s} {p} {K} {c} h = h .promised .0 ∙ (λ i. choiceNumber (choiceL
 
 pub limit-row : {s : List ℕ} {p K c room number : ℕ} {row : List ℕ} → LimitSays s p K c room number row → row ≡ choiceRow (choiceLimitsIn s p K c room)
 limit-row {s} {p} {K} {c} h = sym (h .left) ∙ h .promised .1 .0 ∙ (λ i. choiceRow (choiceLimitsIn (h .lent i) p K c (h .lent-room i)))
+
+-- what it is defined to answer keeps its promise, whatever is lent
+pub limit-says : (s out : List ℕ) (p K c : ℕ)
+    → LimitSays s p K c (length out) (choiceNumber (choiceLimitsIn s p K c (length out))) (choiceRow (choiceLimitsIn s p K c (length out)))
+limit-says s out p K c =
+    let zeros : ℕ → RefT (List ℕ) = λ n. lentOf (replicate n 0) in
+    let row : RefT (List ℕ) = lentOf (choiceRow (choiceLimitsIn s p K c (length out))) in
+    record {
+      lifetimes = ([], ([], ([], ([], ([], ([], ([], ([], ([], tt)))))))));
+      table = lentOf s;
+      before = lentOf [];
+      rises = lentOf [];
+      falls = lentOf [];
+      serials = lentOf [];
+      depths = lentOf [];
+      peaks = lentOf [];
+      rows = lentOf [];
+      buffer = lentOf out;
+      lent = refl;
+      lent-room = refl;
+      exit = (lentOf s, (p, (K, (c, (row, (zeros 1024, (zeros 1024, (zeros 1024, (zeros 1024, (zeros 17408, (zeros 17408, (lentOf (choiceLimitsInto s p K c out), tt))))))))))));
+      left = refl;
+      promised = (refl, (refl, (refl, (refl, refl, refl, refl, refl, refl))));
+    }
 
 -- where it returned 0, the two numbers behind the place in its row serve
 pub limit-call-serves : {s : List ℕ} {p K : ℕ} (c : ℕ) {room number : ℕ} {left : List ℕ} → LimitSays s p K c room number left → number ≡ 0

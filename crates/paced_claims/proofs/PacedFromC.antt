@@ -18,7 +18,7 @@ use Rattle.wivakkol.specs.Lent.{lentBegin}
 use Rattle.claims.specs.LentCalls.{moving, opening, tableThatRuns, lentMove, lentCall}
 use Rattle.claims.proofs.Shaped.{Shaped, bytesOf, wordsOf, numbersOf, sumsOf, in-blocks}
 use Rattle.claims.proofs.Sizes.{begin-shaped, call-shaped}
-use Rattle.claims.proofs.LentSays.{BeginSays, OpenSays, begin-is, open-is, begin-says, open-says}
+use Rattle.claims.proofs.LentSays.{BeginSays, OpenSays, begin-is, open-is, lentOf, begin-says, open-says}
 use Rattle.claims.proofs.FromC.{runs-so}
 use Rattle.pace.specs.Pace.{Paced, paced, startPace}
 use Rattle.wivakkol_pace.specs.Paced.{Kept, kept, pacedTurn}
@@ -131,9 +131,6 @@ paced-history-is {s} (next {M} {P} {c} {k} {l} {row} {z} h t) =
     )
 
 -- ---- a history exists
-
-abbrev lentOf : List ℕ → RefT (List ℕ)
-lentOf l = record { ptr = (0, 0); name = 0; now = l }
 
 pace-says : (p b : ℕ) (l : List ℕ) → PaceSays p b l (startPace p b l)
 pace-says p b l = record { lifetimes = ([], tt); pace = lentOf l; exit = (p, (b, (lentOf (startPace p b l .pace), tt))); lent-pace = refl; left = refl; promised = refl }
