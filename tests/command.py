@@ -354,13 +354,13 @@ def wrong_usage():
 
 
 def writing_fails(folder):
-    full = '<stdout>: No space left on device'
+    device, reason = os.path.join(os.path.dirname(os.devnull), 'full'), 'No space left on device'
     for given in ['check', 'examples/e.text'], ['list', '-p', '2', '-K', '6', 'examples/tree.text'], ['help'], ['--version']:
-        with open('/dev/full', 'wb') as out:
+        with open(device, 'wb') as out:
             done = subprocess.run([str(COMMAND), *given], stdout=out, stderr=subprocess.PIPE)
-        expect('%s > /dev/full' % given, (done.stderr.decode(), done.returncode), ('wivakkol: %s\n' % full, 2))
-    refuses(['asm', 'examples/e.text', '-o', '/dev/full'], 'wivakkol: /dev/full: No space left on device', status=2)
-    with open('/dev/full', 'wb') as out:
+        expect('%s > %s' % (given, device), (done.stderr.decode(), done.returncode), ('wivakkol: <stdout>: %s\n' % reason, 2))
+    refuses(['asm', 'examples/e.text', '-o', device], 'wivakkol: %s: %s' % (device, reason), status=2)
+    with open(device, 'wb') as out:
         done = subprocess.run([str(COMMAND), 'check', 'nosuch'], stderr=out)
     expect('standard error full', done.returncode, 2)
     closed = subprocess.run(['bash', '-c', '"$0" check examples/e.text >&-', str(COMMAND)], stderr=subprocess.PIPE)

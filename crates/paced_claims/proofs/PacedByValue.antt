@@ -17,6 +17,7 @@ use Rattle.schedule.specs.declared.Beginning.the-variants.{Begun as started}
 use Rattle.schedule.specs.Begin.{begin}
 use Rattle.schedule.specs.Calls.{Call, turn, overList, inRounds, turnsIn, turnRow}
 use Rattle.claims.proofs.ByValue.{BeginSays, begin-is, begin-says}
+use Rattle.claims.proofs.LentSays.{lentOf}
 use Rattle.pacing.specs.declared.Pace.{Pace}
 use Rattle.pacing.specs.declared.PaceBegun.{PaceBegun}
 use Rattle.pacing.specs.declared.PacedTurned.{PacedTurned}
@@ -100,8 +101,7 @@ moved : (r : Run) (P : Pace) (c : Call) → Moved r P c (moveRow c r P) (pacedMo
 unfolding pacedMove moveRow
 moved r P (turn w) = by-turn w (pacedTurned r P w) (record { exit = (r, (P, (w, tt))); promised = turned-answers r P w refl })
 moved r P (overList l) =
-    let lent : RefT (List ℕ) = record { ptr = (0, 0); name = 0; now = l } in
-    by-list l (pacedListRun r P l) (record { lifetimes = ([], tt); order = lent; lent = refl; exit = (r, (P, (lent, tt))); promised = list-answers r P l refl })
+    by-list l (pacedListRun r P l) (record { lifetimes = ([], tt); order = lentOf l; lent = refl; exit = (r, (P, (lentOf l, tt))); promised = list-answers r P l refl })
 moved r P (inRounds limit) = by-rounds limit (pacedRoundsRun r P limit) (record { exit = (r, (P, (limit, tt))); promised = rounds-answers r P limit refl })
 
 moves-history-exists : (calls : List Call) (r : Run) (P : Pace) → MovesHistory r P calls (movesRow calls r P) (pacedMoves calls r P)
