@@ -32,7 +32,7 @@ use Rattle.claims.proofs.LentSays.{BeginSays, begin-is}
 use Rattle.claims.proofs.MarkSays.{MarkSays, BackSays, UnmarkSays, mark-is, back-is, unmark-is}
 use Rattle.claims.proofs.LentLimit.{begun-stands, begun-there}
 use Rattle.claims.proofs.FromC.{LentCalled, call-is, runs-so}
-use Rattle.claims.proofs.LentMarked.{unmarked-in, begun-refines, lent-marked-limit, lent-marked-threads, lent-marked-turns, lent-marked-peak, lent-marked-useful}
+use Rattle.claims.proofs.LentMarked.{unmarked-in, begun-refines, lent-marked-limit, lent-marked-threads, lent-marked-turns, lent-marked-peak, lent-marked-useful, lent-marked-every-order}
 
 -- ---- a history
 
