@@ -45,7 +45,7 @@ use Rattle.claims.specs.LentCalls.{moving, opening, returned, lentMove, 
 use Rattle.claims.specs.Answers.{answerOf, inNumbers}
 use Rattle.claims.specs.LentMarkCalls.{LentMarkCall, running, setting, going, Lent, lent, lentMarkAfter, lentMarksAfter, lentMarksReturned, lentTurnsTo, marksOfCalls, returnedWithMarks}
 use Rattle.claims.proofs.LentLimit.{call-refines, open-row, begun-stands, begun-there}
-use Rattle.claims.proofs.Marks.{marked-limit, marked-threads, marked-turns, marked-peak, marked-useful}
+use Rattle.claims.proofs.Marks.{marked-limit, marked-threads, marked-turns, marked-peak, marked-useful, marked-every-order}
 
 -- ---- one call
 
