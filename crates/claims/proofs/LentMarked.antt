@@ -29,6 +29,7 @@ use Rattle.wivakkol.proofs.Opens.{open-refines, opens-stands, stands-worked}
 use Rattle.bounds.proofs.Limit.{MemoryLimit}
 use Rattle.bounds.proofs.ThreadLimit.{ThreadLimit}
 use Rattle.bounds.proofs.PeakLimit.{PeakLimit, UsefulLimit}
+use Rattle.sharp.proofs.QuotaLimit.{EveryOrder}
 use Rattle.marks.specs.Marks.{Marked, marked, unmarked, MarkValues, MarkCall, afterMark, afterMarks, Led, led, ledBy, nowhere, rowOfMarks, turnsBy, turnsTo}
 use Rattle.marks.specs.Marks.{moving as onRun}
 use Rattle.marks.specs.Marks.{setting as marking}
@@ -44,7 +45,7 @@ use Rattle.claims.specs.LentCalls.{moving, opening, returned, lentMove, 
 use Rattle.claims.specs.Answers.{answerOf, inNumbers}
 use Rattle.claims.specs.LentMarkCalls.{LentMarkCall, running, setting, going, Lent, lent, lentMarkAfter, lentMarksAfter, lentMarksReturned, lentTurnsTo, marksOfCalls, returnedWithMarks}
 use Rattle.claims.proofs.LentLimit.{call-refines, open-row, begun-stands, begun-there}
-use Rattle.claims.proofs.Marks.{marked-limit, marked-threads, marked-turns, marked-peak, marked-useful}
+use Rattle.claims.proofs.Marks.{marked-limit, marked-threads, marked-turns, marked-peak, marked-useful, marked-every-order}
 
 -- ---- one call
 
@@ -247,3 +248,6 @@ module _ (s : List ℕ) (p K room : ℕ) (e : lentBegin s p K room .number ≡ 0
 
   pub lent-marked-useful : (most : ℕ) → UsefulLimit T p K most (runIn F (lentMarksAfter F l start .memory)) (lentTurnsTo F l start nowhere .here)
   lent-marked-useful most = holds (UsefulLimit T p K most) (marked-useful s p K r (begun-there s p K room e) (marksOfCalls l) most)
+
+  pub lent-marked-every-order : EveryOrder T p K (runIn F (lentMarksAfter F l start .memory)) (lentTurnsTo F l start nowhere .here)
+  lent-marked-every-order = holds (EveryOrder T p K) (marked-every-order s p K r (begun-there s p K room e) (marksOfCalls l))

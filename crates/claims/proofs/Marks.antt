@@ -19,6 +19,7 @@ use Rattle.bounds.proofs.Limit.{MemoryLimit, memory-limit}
 use Rattle.bounds.proofs.ThreadLimit.{ThreadLimit, thread-limit}
 use Rattle.bounds.proofs.Most.{turns-most}
 use Rattle.bounds.proofs.PeakLimit.{PeakLimit, UsefulLimit, peak-limit, useful-limit}
+use Rattle.sharp.proofs.QuotaLimit.{EveryOrder, every-order}
 use Rattle.marks.specs.Marks.{Mark, Marked, marked, unmarked, setChecks, backChecks, MarkValues, setValues, backValues, setAs, backAs, MarkCall, moving, setting, going, afterMark, afterMarks, Led, ledTo, nowhere, rowOfMarks, rowBy, numberOf, turnsBy, turnsTo}
 use Rattle.marks.proofs.Marked.{marked-follows}
 use Rattle.marks.proofs.Turns.{turns-led-to}
@@ -50,12 +51,15 @@ module _ (s : List ℕ) (p K : ℕ) (r : Run) (e : begin s p K ≡ record { answ
   pub marked-turns : notIdle (replies T K (startState T) (rowOfMarks cs r)) ≤ turnsOf T
   marked-turns = holds (λ (q : Run) (row : List ℕ). notIdle (replies T K (startState T) row) ≤ turnsOf T) (turns-most s p K r e)
 
-  -- and so do the peak of p workers and the useful limit
+  -- and so do the peak of p workers, the useful limit and the limits for every order
   pub marked-peak : PeakLimit T p K (afterMarks cs (unmarked r) .run) (rowOfMarks cs r)
   marked-peak = holds (PeakLimit T p K) (peak-limit s p K r e)
 
   pub marked-useful : (b : ℕ) → UsefulLimit T p K b (afterMarks cs (unmarked r) .run) (rowOfMarks cs r)
   marked-useful b = holds (UsefulLimit T p K b) (λ calls. useful-limit s p K r e calls b)
+
+  pub marked-every-order : EveryOrder T p K (afterMarks cs (unmarked r) .run) (rowOfMarks cs r)
+  marked-every-order = holds (EveryOrder T p K) (every-order s p K r e)
 
 -- ---- by value, from what the functions promise
 
@@ -197,3 +201,6 @@ module _ {s : List ℕ} {p K : ℕ} {b : Begun} (h : BeginSays s p K b) (e : b .
 
   pub promised-useful : (most : ℕ) → UsefulLimit (tableOf (filledOut s K)) p K most (m .run) (w .here)
   promised-useful most = history-holds (UsefulLimit (tableOf (filledOut s K)) p K most) (marked-useful s p K (b .run) begun cs most)
+
+  pub promised-every-order : EveryOrder (tableOf (filledOut s K)) p K (m .run) (w .here)
+  promised-every-order = history-holds (EveryOrder (tableOf (filledOut s K)) p K) (marked-every-order s p K (b .run) begun cs)

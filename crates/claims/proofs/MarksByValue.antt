@@ -22,6 +22,7 @@ use Rattle.schedule.specs.Calls.{Call}
 use Rattle.bounds.proofs.Limit.{MemoryLimit}
 use Rattle.bounds.proofs.ThreadLimit.{ThreadLimit}
 use Rattle.bounds.proofs.PeakLimit.{PeakLimit, UsefulLimit}
+use Rattle.sharp.proofs.QuotaLimit.{EveryOrder}
 use Rattle.marks.specs.Marks.{Marked, marked, unmarked, setChecks, backChecks, MarkValues, setValues, backValues, setAs, backAs, MarkCall, moving, setting, going, Led, ledBy, nowhere, turnsBy}
 use Rattle.marks.proofs.Marked.{Follows, mark-follows, unmarked-follows}
 use Rattle.wivakkol_marks.specs.LentMarks.{Marks, marksOf}
@@ -188,3 +189,6 @@ module _ {s : List ℕ} {p K : ℕ} {b : Begun} (h : BeginSays s p K b) (e : b .
 
   pub code-marked-useful : (most : ℕ) → UsefulLimit T p K most r (w .here)
   code-marked-useful most = promised.promised-useful h e history most
+
+  pub code-marked-every-order : EveryOrder T p K r (w .here)
+  code-marked-every-order = promised.promised-every-order h e history

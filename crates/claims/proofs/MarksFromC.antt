@@ -17,6 +17,7 @@ use Rattle.schedule.specs.Most.{notIdle}
 use Rattle.bounds.proofs.Limit.{MemoryLimit}
 use Rattle.bounds.proofs.ThreadLimit.{ThreadLimit}
 use Rattle.bounds.proofs.PeakLimit.{PeakLimit, UsefulLimit}
+use Rattle.sharp.proofs.QuotaLimit.{EveryOrder}
 use Rattle.run_memory.specs.Memory.{Memory, Answer}
 use Rattle.run_memory.specs.Stands.{runIn}
 use Rattle.wivakkol.specs.Lent.{lentBegin}
@@ -31,7 +32,7 @@ use Rattle.claims.proofs.LentSays.{BeginSays, begin-is}
 use Rattle.claims.proofs.MarkSays.{MarkSays, BackSays, UnmarkSays, mark-is, back-is, unmark-is}
 use Rattle.claims.proofs.LentLimit.{begun-stands, begun-there}
 use Rattle.claims.proofs.FromC.{LentCalled, call-is, runs-so}
-use Rattle.claims.proofs.LentMarked.{unmarked-in, begun-refines, lent-marked-limit, lent-marked-threads, lent-marked-turns, lent-marked-peak, lent-marked-useful}
+use Rattle.claims.proofs.LentMarked.{unmarked-in, begun-refines, lent-marked-limit, lent-marked-threads, lent-marked-turns, lent-marked-peak, lent-marked-useful, lent-marked-every-order}
 
 -- ---- a history
 
@@ -161,3 +162,6 @@ module _ {s : List ℕ} {p K : ℕ} {out filled : List ℕ} {a : Answer} (h : Be
 
   pub lent-code-marked-useful : (most : ℕ) → UsefulLimit T p K most (runIn (tableThatRuns s a filled) (x .memory)) (w .here)
   lent-code-marked-useful most = holds (UsefulLimit T p K most) (lent-marked-useful s p K (length out) begun before kept l most)
+
+  pub lent-code-marked-every-order : EveryOrder T p K (runIn (tableThatRuns s a filled) (x .memory)) (w .here)
+  lent-code-marked-every-order = holds (EveryOrder T p K) (lent-marked-every-order s p K (length out) begun before kept l)

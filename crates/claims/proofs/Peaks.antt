@@ -1,6 +1,6 @@
 -- The peak of p workers, from the functions' own promises: over every list of calls from an accepted beginning, refused ones included, memory held and its highest are at most S_p of the
 -- table that runs, whatever K and whatever the order of the turns (`code-peak`, `lent-code-peak`); and at most the useful limit, for b at least 1 after each front part that keeps the rule with
--- b, for b 0 after every one (`code-useful`, `lent-code-useful`).
+-- b, for b 0 after every one (`code-useful`, `lent-code-useful`); and at most C and CE, the sharper limits for every order of turns (`code-every-order`, `lent-code-every-order`).
 use mathlib.Core.Path.{_≡_, sym, ap, subst, _∙_}
 use Prim.Native.Nat.{ℕ}
 use mathlib.Core.List.{List}
@@ -13,6 +13,7 @@ use Rattle.schedule.specs.Begin.{begin}
 use Rattle.schedule.specs.Calls.{Call, afterCalls, rowOfCalls}
 use Rattle.filling.specs.Filled.{filledOut}
 use Rattle.bounds.proofs.PeakLimit.{PeakLimit, UsefulLimit, peak-limit, useful-limit}
+use Rattle.sharp.proofs.QuotaLimit.{EveryOrder, every-order}
 use Rattle.run_memory.specs.Memory.{Memory}
 use Rattle.run_memory.specs.Memory.{Answer as Answered}
 use Rattle.run_memory.specs.Stands.{runIn}
@@ -34,6 +35,9 @@ module _ {s : List ℕ} {p K : ℕ} {b : Begun} (h : by-value.BeginSays s p K b)
   pub code-useful : (most : ℕ) → UsefulLimit (tableOf (filledOut s K)) p K most r row
   code-useful most = by-value.history-holds h e t (UsefulLimit (tableOf (filledOut s K)) p K most) (λ f. useful-limit s p K (b .run) f calls most)
 
+  pub code-every-order : EveryOrder (tableOf (filledOut s K)) p K r row
+  code-every-order = by-value.history-holds h e t (EveryOrder (tableOf (filledOut s K)) p K) (λ f. every-order s p K (b .run) f calls)
+
 -- ---- from C
 
 module _ {s : List ℕ} {p K : ℕ} {out filled : List ℕ} {a : Answered} (h : from-c.BeginSays s p K out a filled) (e : a .number ≡ 0) {l : List LentCall} {answers : List Returned} {row : List ℕ}
@@ -53,3 +57,6 @@ module _ {s : List ℕ} {p K : ℕ} {out filled : List ℕ} {a : Answered} (h : 
 
   pub lent-code-useful : (most : ℕ) → UsefulLimit (tableOf (filledOut s K)) p K most (runIn (tableThatRuns s a filled) M) row
   lent-code-useful most = lent-holds (UsefulLimit (tableOf (filledOut s K)) p K most) (λ f. useful-limit s p K (begin s p K .run) f (movesOf l) most)
+
+  pub lent-code-every-order : EveryOrder (tableOf (filledOut s K)) p K (runIn (tableThatRuns s a filled) M) row
+  lent-code-every-order = lent-holds (EveryOrder (tableOf (filledOut s K)) p K) (λ f. every-order s p K (begin s p K .run) f (movesOf l))

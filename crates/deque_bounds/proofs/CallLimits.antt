@@ -15,6 +15,8 @@ use Rattle.schedule.specs.Machine.{State, waiting, ended, nextOf, statusOf, wor
 use Rattle.schedule.specs.Sound.{isDone}
 use Rattle.schedule.proofs.Linked.Waiting.{awaited}
 use Rattle.peaks.specs.Peak.{Light}
+use Rattle.peaks.proofs.Unpreempted.{Stands}
+use Rattle.sharp.specs.Off.{restsAny}
 use Rattle.deques.specs.declared.DequeRun.{DequeRun}
 use Rattle.deques.specs.Deques.{Deque, Deques, nothing, placeOf, startDeques}
 use Rattle.deques.specs.Lines.{line}
@@ -31,6 +33,7 @@ use Rattle.deque_bounds.proofs.SerialLinesTurns.{BelowAll, from-start}
 use Rattle.deque_bounds.proofs.DequeLimits.{held-steals, line-links, line-short, waits-alone, wakes-alone}
 use Rattle.deque_bounds.proofs.DequePeaks.{deque-light}
 use Rattle.deque_bounds.proofs.HeldLimits.{HeldLimits, row-limits}
+use Rattle.deque_bounds.proofs.DequeRests.{RestLimits, deque-placed, rest-limits}
 
 -- the lines of deques, the owner's thread and then its threads from the top to the bottom
 pub record LineLaws (T : Table) (p : ℕ) (d : Deques) : Type 0 where
@@ -57,6 +60,9 @@ pub record RowLaws (T : Table) (p K : ℕ) (d : Deques) (row : List Pair) : Type
   pub highest : HeldLimits T p K row (d .state .highest)
   -- no entered unended thread has a load above c, 1 and the greatest place robbed
   pub light : Light T (d .state .next) (d .state .status) (deepest T K (startDeques T) row)
+  -- every live thread that nobody holds stands at a resting place or at an alloc: so the peak with p threads elsewhere is a limit too, of held and of the highest
+  pub placed : (t : ℕ) → t < T .threads → Stands (statusOf (d .state) t) → restsAny T (nextOf (d .state) t) ≡ true
+  pub rested : RestLimits T p K row (d .state .held) × RestLimits T p K row (d .state .highest)
   -- K for each steal that began beyond the first action not done
   pub stolen : Within T K → (v : ℕ) → FirstUndone T (d .state) v → d .state .held ≤ S1 T + K * steals T K (startDeques T) row v
   pub lines : LineLaws T p d
@@ -71,6 +77,8 @@ module _ (T : Table) (l : Lawful T) (p K : ℕ) (few : p ≤ 16) (row : List Pai
         held = m .0;
         highest = m .1;
         light = deque-light T l p K few row h;
+        placed = deque-placed T l p K few row h;
+        rested = rest-limits T l p K few row h;
         stolen = λ s v f. held-steals T l p K few s row h v (f .inside) (f .undone) (f .before);
         lines =
             record {

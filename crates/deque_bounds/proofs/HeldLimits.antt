@@ -50,7 +50,7 @@ unfolding far
 far-front T K [] rest d = omega arith
 far-front T K (g ∷ front) rest d = omega (arith, far-front T K front rest (dequeTurn T K (g .worker) (g .choice) d .after))
 
-deepest-front : (T : Table) (K : ℕ) (front rest : List Pair) (d : Deques) → deepest T K d front ≤ deepest T K d (front ++ rest)
+pub deepest-front : (T : Table) (K : ℕ) (front rest : List Pair) (d : Deques) → deepest T K d front ≤ deepest T K d (front ++ rest)
 unfolding deepest
 deepest-front T K [] rest d = omega arith
 deepest-front T K (g ∷ front) rest d = omega (arith, deepest-front T K front rest (dequeTurn T K (g .worker) (g .choice) d .after))

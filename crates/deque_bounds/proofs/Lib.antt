@@ -21,4 +21,5 @@ pub mod DequeActs
 pub mod DequeCounts
 pub mod DequePeaks
 pub mod HeldLimits
+pub mod DequeRests
 pub mod CallLimits
