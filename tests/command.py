@@ -501,12 +501,12 @@ def harmed(folder):
     program.unlink()
     says('%s: No such file or directory; %s' % (program, again))
     expect('asm needs tableasm alone', call('asm', 'examples/e.text', command=here), (E, '', 0))
+    program.mkdir()
+    says('%s: Is a directory; %s' % (program, again))
     (top / 'dist/SUMS').unlink()
     expect('no sums', call('asm', 'examples/e.text', command=here), (b'', 'wivakkol: %s: No such file or directory; %s\n' % (top / 'dist/SUMS', again), 2))
     (top / 'dist/KIT').unlink()
     expect('no kit', call('-V', command=here)[0].split(b'\n')[2], b'kit not known')
-    program.mkdir()
-    says('%s: Is a directory; %s' % (program, again))
 
 
 RT = """#!/bin/sh

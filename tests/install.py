@@ -246,6 +246,7 @@ def refused(folder):
     program.unlink()
     expect('missing', call(*tool, folder / 'no')[1:], ('install.py: %s: No such file or directory; `git checkout dist` brings it back\n' % program, 1))
     program.write_bytes(data)
+    program.chmod(0o755)
     expect('nothing was put', (folder / 'no').exists(), False)
     (folder / 'file').touch()
     expect('a prefix below a file', call(*tool, folder / 'file/below')[1:], ('install.py: %s: Not a directory; PREFIX names the folder to install to\n' % (folder / 'file/below/bin'), 1))

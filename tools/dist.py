@@ -210,12 +210,16 @@ def wasm_module():
 
 # dist/
 
+def makers():
+    """The files of dist/ but for SUMS, each with what makes its bytes from what stands in target/; those that take longer come last."""
+    return {'KIT': lambda: proving.kit_line().encode(), **{'x86_64-linux/' + name: functools.partial(program, name) for name in proving.programs()},
+            'x86_64-linux/libwivakkol.a': native_archive, 'aarch64-linux/libwivakkol.a': aarch64_archive, 'wasm32/wivakkol.wasm': wasm_module}
+
+
 def made():
-    """The files of dist/ from what stands in target/, each with its bytes; those that take longer come last."""
+    """The files of dist/, each with its bytes."""
     sums = {}
-    for name, make in [('KIT', lambda: proving.kit_line().encode()),
-                       *(('x86_64-linux/' + name, functools.partial(program, name)) for name in proving.programs()),
-                       ('x86_64-linux/libwivakkol.a', native_archive), ('aarch64-linux/libwivakkol.a', aarch64_archive), ('wasm32/wivakkol.wasm', wasm_module)]:
+    for name, make in makers().items():
         data = make()
         sums[name] = hashlib.sha256(data).hexdigest()
         yield name, data
@@ -265,14 +269,12 @@ def compare():
         return
     for name in missing():
         raise Wrong('%s is not there: nothing to compare dist/ with' % name)
-    there = {str(path.relative_to(DIST)) for path in DIST.rglob('*') if path.is_file()}
+    for name in sorted({str(path.relative_to(DIST)) for path in DIST.rglob('*') if path.is_file()} - {*makers(), 'SUMS'}):
+        raise Wrong('dist/%s is none of its files: %s' % (name, RENEW))
     count = total = 0
     for name, data in made():
-        there.discard(name)
         same(name, data)
         count, total = count + 1, total + len(data)
-    for name in sorted(there):
-        raise Wrong('dist/%s is none of its files: %s' % (name, RENEW))
     print('dist: %d files are what was proved and built, %d bytes' % (count, total))
 
 

@@ -82,20 +82,33 @@ def kit_line():
 
 # Stamps
 
-def files_of(crate):
-    for part in STAMPED:
-        path = crate / part
-        if path.is_file() and not path.is_symlink():
-            yield path
-        for folder, _, names in os.walk(path):
-            yield from (pathlib.Path(folder, name) for name in names if not os.path.islink(os.path.join(folder, name)))
+def files_of(folder, name):
+    """The files below a crate's part, by their names from the crate's folder."""
+    try:
+        with os.scandir(os.path.join(folder, name)) as found:
+            for entry in found:
+                inner = name + '/' + entry.name
+                if entry.is_dir(follow_symlinks=False):
+                    yield from files_of(folder, inner)
+                elif entry.is_file(follow_symlinks=False):
+                    yield inner
+    except NotADirectoryError:
+        yield name
+    except FileNotFoundError:
+        pass
+
+
+def summed(folder, name):
+    """A line as sha256sum writes it."""
+    with open(os.path.join(folder, name), 'rb', buffering=0) as file:
+        return '%s  %s\n' % (hashlib.sha256(file.read()).hexdigest(), name)
 
 
 @functools.lru_cache(maxsize=None)
 def stamp(name, kit, top=TOP):
     """The hash that rt writes for a crate where it and all below it are proved with this kit."""
-    rest, crate = crates(top)[name][0], top / 'crates' / name
-    rows = sorted('%s  %s\n' % (hashlib.sha256(path.read_bytes()).hexdigest(), path.relative_to(crate)) for path in files_of(crate))
+    rest, crate = crates(top)[name][0], os.path.join(top, 'crates', name)
+    rows = sorted(summed(crate, file) for part in STAMPED for file in files_of(crate, part))
     below = [stamp(other, kit, top) if other in crates(top) else 'kit ' + other for other in rest.split()]
     text = kit + 'machine %s\n' % platform.machine() + ''.join(rows) + 'deps: %s\n' % rest + ''.join(line + '\n' for line in below)
     return hashlib.sha256(text.encode()).hexdigest()
