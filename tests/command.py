@@ -1,4 +1,4 @@
-"""Runs tools/wivakkol on the examples and on what it must refuse: answers against the programs in target/bin with inputs that inputasm makes, messages and exit statuses against what is written
+"""Runs tools/wivakkol on the examples and on what it must refuse: answers with the programs of dist/ against those in target/bin with inputs that inputasm makes, messages and exit statuses against what is written
 here, the words of refusals against docs/REFERENCE.md, and every command of docs/COMMAND.md against the output that stands there.
 
 usage: python3 tests/command.py            (from the repository's top, after `rt check` of the programs)
@@ -33,9 +33,9 @@ def expect(what, found, wanted):
         sys.exit('%s: expected\n%s\nfound\n%s' % (what, wanted, found))
 
 
-def call(*given, data=b'', command=COMMAND, **more):
+def call(*given, data=b'', command=None, **more):
     """Standard output, standard error and exit status of a call."""
-    done = subprocess.run([str(command), *map(str, given)], input=data, stdout=subprocess.PIPE, stderr=subprocess.PIPE, **more)
+    done = subprocess.run([str(command or COMMAND), *map(str, given)], input=data, stdout=subprocess.PIPE, stderr=subprocess.PIPE, **more)
     return done.stdout, done.stderr.decode(), done.returncode
 
 
@@ -414,14 +414,19 @@ def terminal(folder):
 OLD_KIT = 'an older kit\n'
 
 
-def tree(folder):
-    """A repository of the tools, the crates and dist/, in which the crates below tablecheck are copies and nothing is built."""
-    top = folder / 'top'
+def cloned(top):
+    """A repository of the tools and dist/, in which nothing is built."""
     shutil.rmtree(top, ignore_errors=True)
-    (top / 'crates').mkdir(parents=True)
     for name in 'tools', 'dist':
         shutil.copytree(TOP / name, top / name, ignore=shutil.ignore_patterns('__pycache__'))
     shutil.copy(TOP / 'crates.txt', top)
+    return top
+
+
+def tree(folder):
+    """The same with the crates, of which those below tablecheck are copies."""
+    top = cloned(folder / 'top')
+    (top / 'crates').mkdir()
     below = proving.closure(['tablecheck'])
     for name in proving.crates():
         if name in below:
@@ -568,10 +573,12 @@ def without_rt(folder):
 def main():
     if sys.argv[1:] == ['--write']:
         return page(True)
+    global COMMAND
     page(False)
     help_examples(rows_of_page())
     with tempfile.TemporaryDirectory() as name:
         folder = pathlib.Path(name)
+        COMMAND = cloned(folder / 'clone') / 'tools/wivakkol'  # from here on with the programs of dist/, held to those of target/bin
         on_the_examples(folder)
         ways_to_give(folder)
         bytes_refused(folder)

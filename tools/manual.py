@@ -145,7 +145,7 @@ _wivakkol "$@"
 
 def zsh_value(option):
     value = command()['OPTIONS'][option].value
-    return ':%s:%s' % (value.strip('[]'), '_files' if value == 'FILE' else '( )') if value else ''
+    return '%s:%s:%s' % (':' if value.startswith('[') else '', value.strip('[]'), '_files' if value == 'FILE' else '( )') if value else ''
 
 
 def for_fish():
