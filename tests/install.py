@@ -253,8 +253,10 @@ def refused(folder):
     done('make', '-s', 'install', 'PREFIX=%s' % (folder / 'twice'), cwd=top)
     done('make', '-s', 'install', 'PREFIX=%s' % (folder / 'twice'), cwd=top)
     (folder / 'twice/lib/other').touch()
+    program.write_bytes(data[:-1])
     done('make', '-s', 'uninstall', 'PREFIX=%s' % (folder / 'twice'), cwd=top)
     expect('removed', [str(path.relative_to(folder / 'twice')) for path in sorted((folder / 'twice').rglob('*'))], ['lib', 'lib/other'])
+    program.write_bytes(data)
 
 
 def compared(folder):

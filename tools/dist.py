@@ -40,7 +40,10 @@ class Wrong(Exception):
 
 
 def run(command, **more):
-    done = subprocess.run([str(word) for word in command], stdout=subprocess.PIPE, stderr=subprocess.STDOUT, **more)
+    try:
+        done = subprocess.run([str(word) for word in command], stdout=subprocess.PIPE, stderr=subprocess.STDOUT, **more)
+    except OSError as fault:
+        raise Wrong('%s cannot be started: %s' % (command[0], fault.strerror or fault))
     if done.returncode:
         raise Wrong('%s ended with status %d: %s' % (pathlib.Path(command[0]).name, done.returncode, done.stdout.decode(errors='replace').strip().rsplit('\n', 1)[-1]))
     return done.stdout
@@ -85,21 +88,22 @@ def saving_kit(folder, module):
     script.chmod(EXECUTABLE)
 
 
-def archive(name):
-    """`rt staticlib` of a crate; beside the archive the module, and the stamp of the sources of both."""
+def archive(name, log=None):
+    """`rt staticlib` of a crate, whose words go to a file if one is given; beside the archive the module, and the stamp of the sources of both."""
     MODULES.mkdir(parents=True, exist_ok=True)
     module, mark = MODULES / (name + '.bc'), MODULES / (name + '.of')
     for path in module, mark:
         path.unlink(missing_ok=True)
-    kit, of = proving.kit_line(), None
+    kit = proving.kit_line()
     if kit is None:
         raise Wrong('no rt: it proves the archives')
     of = proving.stamp(name, kit)
     with tempfile.TemporaryDirectory() as folder:
         saving_kit(pathlib.Path(folder, 'kit'), module)
-        status = subprocess.run(['rt', 'staticlib', name], cwd=TOP, env={**os.environ, 'RATTLE_HOME': folder + '/kit'}).returncode
+        status = subprocess.run(['rt', 'staticlib', name], cwd=TOP, env={**os.environ, 'RATTLE_HOME': folder + '/kit'}, stdout=log, stderr=log).returncode
     if status or not module.exists():
-        raise Wrong('rt staticlib %s ended with status %d%s' % (name, status, '' if status else ' and left no module'))
+        raise Wrong('rt staticlib %s ended with status %d%s%s'
+                    % (name, status, '' if status else ' and left no module', '; %s has what it said' % os.path.relpath(log.name, TOP) if log else ''))
     mark.write_text(of + '\n')
 
 
@@ -239,8 +243,10 @@ def build():
     unproved = stale + [name for name in old if not proving.proved_with(name)]
     if unproved:
         proving.check(unproved)
-    for name in old:
-        archive(name)
+    for i, name in enumerate(old, 1):
+        print('archive %d of %d, %s' % (i, len(old), name), file=sys.stderr)
+        with (TOP / 'target/log' / (name + '.archive')).open('wb') as log:
+            archive(name, log)
 
 
 def write():

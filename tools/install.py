@@ -31,14 +31,14 @@ class Wrong(Exception):
     """One line that says what is wrong and what to do."""
 
 
-def ready():
-    """The files of dist/x86_64-linux, each with the bytes that dist/SUMS names."""
+def ready(removes):
+    """The files that dist/SUMS names, each with its bytes, which must be those of its sum; to remove them their names are enough."""
     found = {}
     try:
         for line in (TOP / 'dist/SUMS').read_text().splitlines():
             total, name = line.split()
-            data = (TOP / 'dist' / name).read_bytes()
-            if hashlib.sha256(data).hexdigest() != total:
+            data = b'' if removes else (TOP / 'dist' / name).read_bytes()
+            if not removes and hashlib.sha256(data).hexdigest() != total:
                 raise Wrong('dist/%s is damaged, its bytes are not those that dist/SUMS names: `git checkout dist` brings it back' % name)
             found[name] = data
     except OSError as fault:
@@ -48,9 +48,9 @@ def ready():
     return found
 
 
-def files():
+def files(removes):
     """What is installed: of each file its bytes and its mode."""
-    found, dist = {}, ready()
+    found, dist = {}, ready(removes)
     tool = runpy.run_path(str(TOP / 'tools/wivakkol'))
     missing = [name for name in tool['PROGRAMS'] if READY + name not in dist]
     if missing:
@@ -100,13 +100,13 @@ def main():
     words = words[removes:]
     if not 1 <= len(words) <= 2 or words[0].startswith('-'):
         sys.exit(__doc__)
-    prefix = pathlib.Path((words[1] if len(words) > 1 else '') + os.path.abspath(words[0]))
+    prefix = pathlib.Path((words[1] if len(words) > 1 else '') + os.path.abspath(os.path.expanduser(words[0])))
     try:
         if removes:
-            remove(prefix, files())
+            remove(prefix, files(removes))
             print('removed from %s' % prefix)
             return
-        wanted = files()
+        wanted = files(removes)
         for name, (data, mode) in wanted.items():
             put(prefix / name, data, mode)
         print('%d files in %s' % (len(wanted), prefix))
