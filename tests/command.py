@@ -5,6 +5,7 @@ usage: python3 tests/command.py            (from the repository's top, after `rt
        python3 tests/command.py --write    (puts the output seen into docs/COMMAND.md, and docs/pictures/repeats.svg: to be read before it is kept)
 """
 import functools
+import hashlib
 import os
 import pathlib
 import pty
@@ -500,6 +501,11 @@ def harmed(folder):
     for bad in data[:-1], b'', data[:64] + b'\1' + data[65:]:
         program.write_bytes(bad)
         says('%s is damaged, its bytes are not those that SUMS names; %s' % (program, again))
+    sums = (top / 'dist/SUMS').read_text()
+    program.write_bytes(b'of another machine')
+    (top / 'dist/SUMS').write_text(sums.replace(hashlib.sha256(data).hexdigest(), hashlib.sha256(b'of another machine').hexdigest()))
+    says('tablecheck cannot be started: Exec format error (it is for x86-64 Linux with glibc)')
+    (top / 'dist/SUMS').write_text(sums)
     program.write_bytes(data)
     program.chmod(0o644)
     says('%s is not executable: `chmod +x` makes it so' % program)
@@ -523,7 +529,7 @@ sleep 1
 echo proved >target/log/table.res
 for name; do
     echo built >target/log/$name.res
-    ln -s "%s/$name" target/bin/
+    ln -sf "%s/$name" target/bin/
     cp stamps/$name target/stamp/
 done
 """
@@ -553,6 +559,13 @@ def builds(folder):
     expect('at work', (lines[0], any(line.endswith('at work on table') for line in lines), lines[-1].split(',')[0]), (first, True, '%d of %d crates proved' % (count + 1, crates)))
     expect('built', call('check', '--build', 'examples/e.text', command=here, env=environment), (b'table 3 12 serial 6 depth 8 nested 2\n', '', 0))
     without = {**os.environ, 'PATH': '/nowhere'}
+    (top / 'target/stamp/tabledis').unlink()
+    end, terminal = pty.openpty()
+    done = subprocess.run([str(here), 'check', '--build', 'examples/e.text'], env=environment, stdout=subprocess.PIPE, stderr=terminal)
+    os.close(terminal)
+    told = os.read(end, 65536).decode()
+    os.close(end)
+    expect('on a terminal', (done.returncode, told.count('\n'), '\r%d of %d crates proved' % (count + 1, crates) in told), (0, 2, True))
     (top / 'target/stamp/tabledis').unlink()
     out, line, status = call(here, 'dis', '--build', 'examples/e.text', command=sys.executable, env=without)
     expect('no rt', (out, line.split('\n')[1], status), (b'', 'wivakkol: rt, which proves and builds, cannot be started: No such file or directory', 2))
