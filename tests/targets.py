@@ -28,7 +28,7 @@ import dist
 OUT, DIST = pathlib.Path('target/targets'), pathlib.Path('dist')
 HEADERS = sorted(pathlib.Path('include').glob('*.h'))
 SIZES = {'uint8_t': 1, 'uint16_t': 2, 'uint32_t': 4, 'uint64_t': 8}
-LEAST_TURNS = 100000
+LEAST_TURNS, TURNS = 100000, ('wivakkol_turn', 'wivakkol_paced_turn', 'wivakkol_deque_turn')
 ROOM, TEXT = 36868, 266240
 Call = collections.namedtuple('Call', 'name parameters exported arguments')
 Parameter = collections.namedtuple('Parameter', 'name type pointer const count')
@@ -354,29 +354,37 @@ def differs(name, found, wanted, told):
         sys.exit('%s: %d bytes of answers, on x86-64 %d' % (name, len(found), len(wanted)))
 
 
+TOOLS = {'aarch64': 'qemu-aarch64', 'wasm32': 'node'}
+
+
+def compare(name, script, wanted):
+    """A target's answers with those of x86-64."""
+    tool = shutil.which(TOOLS[name])
+    command = [tool, driver('aarch64-linux')] if name == 'aarch64' else [tool, 'tests/targets.js', DIST / 'wasm32/wivakkol.wasm', signatures()]
+    differs(name, answers(command, bytes(script.out)), wanted, script.told)
+
+
 def main():
     seed = int(sys.argv[1]) if len(sys.argv) > 1 else 1
+    there = [name for name in TOOLS if shutil.which(TOOLS[name])]
+    for name in TOOLS:
+        if name not in there:
+            print('%s was left out: no %s' % (name, TOOLS[name]))
+    if not there:
+        return
     OUT.mkdir(parents=True, exist_ok=True)
     script, anyhow = drawn(seed)
     wanted = answers([driver('x86_64-linux')], bytes(script.out))
     if len(wanted) != 12 * len(script.told):
         sys.exit('%d bytes of answers to %d calls' % (len(wanted), len(script.told)))
     answered = collections.Counter(name for i, name in enumerate(script.told) if wanted[12 * i:12 * i + 4] == bytes(4))
-    turns = sum(name in ('wivakkol_turn', 'wivakkol_paced_turn', 'wivakkol_deque_turn') for name in script.told)
-    taken = sum(answered[name] for name in ('wivakkol_turn', 'wivakkol_paced_turn', 'wivakkol_deque_turn'))
+    taken = sum(answered[name] for name in TURNS)
     never = [name for name in CALLS if not answered[name] and name not in anyhow]
     if never or taken < LEAST_TURNS:
         sys.exit('%d turns taken, and %s never answered 0' % (taken, ', '.join(never) or 'nothing'))
-    compared, left = [], []
-    for name, tool, command in [('aarch64', 'qemu-aarch64', lambda tool: [tool, driver('aarch64-linux')]),
-                                ('wasm32', 'node', lambda tool: [tool, 'tests/targets.js', DIST / 'wasm32/wivakkol.wasm', signatures()])]:
-        if shutil.which(tool):
-            differs(name, answers(command(shutil.which(tool)), bytes(script.out)), wanted, script.told)
-            compared.append(name)
-        else:
-            left.append('%s was left out: no %s' % (name, tool))
-    print('%s: as x86-64 in %d calls of %d kinds, %d of them turns, %d of these taken%s'
-          % (' and '.join(compared) or 'nothing', len(script.told), len(CALLS), turns, taken, ''.join('; ' + line for line in left)))
+    for name in there:
+        compare(name, script, wanted)
+    print('%s: as x86-64 in %d calls of %d kinds, %d turns taken among them' % (' and '.join(there), len(script.told), len(CALLS), taken))
 
 
 if __name__ == '__main__':
