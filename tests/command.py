@@ -1,10 +1,11 @@
-"""Runs tools/wivakkol on the examples and on what it must refuse: answers against the programs in target/bin with inputs that inputasm makes, messages and exit statuses against what is written
+"""Runs tools/wivakkol on the examples and on what it must refuse: answers with the programs of dist/ against those in target/bin with inputs that inputasm makes, messages and exit statuses against what is written
 here, the words of refusals against docs/REFERENCE.md, and every command of docs/COMMAND.md against the output that stands there.
 
 usage: python3 tests/command.py            (from the repository's top, after `rt check` of the programs)
        python3 tests/command.py --write    (puts the output seen into docs/COMMAND.md, and docs/pictures/repeats.svg: to be read before it is kept)
 """
 import functools
+import hashlib
 import os
 import pathlib
 import pty
@@ -16,6 +17,10 @@ import sys
 import tempfile
 
 TOP = pathlib.Path.cwd()
+sys.path.insert(0, str(TOP / 'tools'))
+import proving
+
+VERSION = re.search(r'^version = "(.*)"', (TOP / 'rust/wivakkol/Cargo.toml').read_text(), re.M)[1]
 COMMAND, PAGE, PICTURE, BIN = TOP / 'tools/wivakkol', TOP / 'docs/COMMAND.md', TOP / 'docs/pictures/repeats.svg', TOP / 'target/bin'
 TEXTS = ['e', 'parts', 'stages', 'tree', 'repeats']
 E = (TOP / 'examples/e.table').read_bytes()
@@ -29,9 +34,9 @@ def expect(what, found, wanted):
         sys.exit('%s: expected\n%s\nfound\n%s' % (what, wanted, found))
 
 
-def call(*given, data=b'', command=COMMAND, **more):
+def call(*given, data=b'', command=None, **more):
     """Standard output, standard error and exit status of a call."""
-    done = subprocess.run([str(command), *map(str, given)], input=data, stdout=subprocess.PIPE, stderr=subprocess.PIPE, **more)
+    done = subprocess.run([str(command or COMMAND), *map(str, given)], input=data, stdout=subprocess.PIPE, stderr=subprocess.PIPE, **more)
     return done.stdout, done.stderr.decode(), done.returncode
 
 
@@ -313,7 +318,14 @@ def wrong_usage():
     e = 'examples/e.text'
     for given, line in [
             ([], 'which command? check, asm, dis, quota, limit, turns, fill, run, list, chart, deques, picture, join, canon, cmp (wivakkol help)'),
-            (['chekc', e], "no command is called 'chekc' (wivakkol help)"),
+            (['chekc', e], "no command is called 'chekc'; did you mean check? (wivakkol help)"),
+            (['List', e], "no command is called 'List'; did you mean list? (wivakkol help)"),
+            (['zzz', e], "no command is called 'zzz' (wivakkol help)"),
+            (['help', 'pictrue'], "no command and no refusal is called 'pictrue'; did you mean picture? (wivakkol help)"),
+            (['run', '-k', '6', e], 'run takes no -k; did you mean -K? (wivakkol help run)'),
+            (['run', '--round=6', e], 'run takes no --round; did you mean --rounds? (wivakkol help run)'),
+            (['check', '--nmubers', e], 'check takes no --nmubers; did you mean --numbers? (wivakkol help check)'),
+            (['check', '--papers', e], 'check takes no --papers (wivakkol help check)'),
             (['help', 'nothing'], "no command and no refusal is called 'nothing' (wivakkol help)"),
             (['help', '22'], "no command and no refusal is called '22' (wivakkol help)"),
             (['check'], 'check takes one table, found 0 (wivakkol help check)'),
@@ -350,7 +362,12 @@ def wrong_usage():
             (['check', e, '-o', 'nosuch/file'], 'nosuch/file: No such file or directory')]:
         refuses(given, 'wivakkol: ' + line, status=2)
     expect('picture -b 0', call('picture', '-p', 2, '-K', 6, '-b', 0, e)[2], 2)
-    answers(['--version'], b'wivakkol %s\n' % re.search(r'^version = "(.*)"', (TOP / 'rust/wivakkol/Cargo.toml').read_text(), re.M)[1].encode())
+    for given in ['--version'], ['-V']:
+        out, told, status = call(*given)
+        expect(given, (out.split(b'\n')[0].decode(), len(out.split(b'\n')), told, status), ('wivakkol %s' % VERSION, 4, '', 0))
+    for given in ['help'], ['-h'], ['--help']:
+        expect(given, call(*given), call('help'))
+    expect('check -h', call('check', '-h'), call('help', 'check'))
 
 
 def writing_fails(folder):
@@ -393,64 +410,188 @@ def terminal(folder):
         expect('%s on a terminal' % given, done.returncode, status)
 
 
-# Programs that are not built
+# Where the programs are from
 
-def tree_without_programs(folder, programs):
-    """A repository of the tools alone, with some of the programs."""
-    top = folder / 'top'
+OLD_KIT = 'an older kit\n'
+
+
+def cloned(top):
+    """A repository of the tools and dist/, in which nothing is built."""
     shutil.rmtree(top, ignore_errors=True)
-    (top / 'target/bin').mkdir(parents=True)
-    shutil.copytree(TOP / 'tools', top / 'tools', ignore=shutil.ignore_patterns('__pycache__'))
-    for name in programs:
-        os.symlink(BIN / name, top / 'target/bin' / name)
+    for name in 'tools', 'dist':
+        shutil.copytree(TOP / name, top / name, ignore=shutil.ignore_patterns('__pycache__'))
+    shutil.copy(TOP / 'crates.txt', top)
     return top
 
 
-def not_built(folder):
-    top = tree_without_programs(folder, ['tableasm'])
-    how = "not built yet: %%s. In %s, `rt check %%s` builds it (from nothing some %%d minutes with two cores, less where a part is proved already); so does --build" % top
-    for given, names, minutes in [(['check', 'examples/e.text'], 'tablecheck', 2), (['run', '-p2', '-K6', 'examples/e.text'], 'maxturns runrounds', 11),
-                                  (['run', '-p2', '-K6', '--rounds', '7', 'examples/e.text'], 'runrounds', 11), (['asm', 'examples/e.table'], 'tabledis', 4),
-                                  (['quota', '-p2', '-M9', 'examples/e.text'], 'fitquota', 9), (['quota', '-p2', '-M9', '--papers', 'examples/e.text'], 'maxquota', 5),
-                                  (['picture', '-p2', '-K6', '--deques', '--order', '0', 'examples/e.text'], 'dequelist', 12), (['limit', '-p2', '-K6', 'examples/e.text'], 'memlimit', 10),
-                                  (['limit', '-p2', '-K6', '-c1', 'examples/e.text'], 'dequelimit', 11),
-                                  (['picture', '-p2', '-K6', 'examples/e.text'], 'maxturns turnlist', 11)]:
-        line = how % (names.replace(' ', ', '), names, minutes)
-        expect(' '.join(given), call(*given, command=top / 'tools/wivakkol'), (b'', 'wivakkol: %s\n' % line, 2))
-    expect('asm needs tableasm alone', call('asm', 'examples/e.text', command=top / 'tools/wivakkol'), (E, '', 0))
+def tree(folder):
+    """The same with the crates, of which those below tablecheck are copies."""
+    top = cloned(folder / 'top')
+    (top / 'crates').mkdir()
+    below = proving.closure(['tablecheck'])
+    for name in proving.crates():
+        if name in below:
+            shutil.copytree(TOP / 'crates' / name, top / 'crates' / name)
+        else:
+            os.symlink(TOP / 'crates' / name, top / 'crates' / name)
+    for name in 'bin', 'stamp', 'log':
+        (top / 'target' / name).mkdir(parents=True)
+    return top
+
+
+def built(top, name, script, kit=None):
+    """A script as a program in target/bin, with the stamp that rt would have written."""
+    path = top / 'target/bin' / name
+    path.write_text(script)
+    path.chmod(0o755)
+    (top / 'target/stamp' / name).write_text(proving.stamp(name, kit or (TOP / 'dist/KIT').read_text()) + '\n')
+
+
+def where_from(folder):
+    """target/bin where it is up to date with the sources of the program and of all below it, else dist/."""
+    top = tree(folder)
+    here, kit = top / 'tools/wivakkol', (TOP / 'dist/KIT').read_text()
+    ready, fresh = b'table 3 12 serial 6 depth 8 nested 2\n', b'from target\n'
+    source, stamp = top / 'crates/table/src/lib.rt', top / 'target/stamp/tablecheck'
+
+    def check(what, wanted):
+        expect(what, call('check', 'examples/e.text', command=here), (wanted, '', 0))
+
+    def version(folders):
+        expect('--version', call('--version', command=here), (('wivakkol %s\nprograms from %s\nkit %s' % (VERSION, folders, kit)).encode(), '', 0))
+
+    check('nothing built', ready)
+    version(top / 'dist/x86_64-linux')
+    built(top, 'tablecheck', '#!/bin/sh\necho from target\n')
+    check('up to date', fresh)
+    version('%s (tablecheck), else %s' % (top / 'target/bin', top / 'dist/x86_64-linux'))
+    text = source.read_text()
+    source.write_text(text + '\n')
+    check('a crate below has changed', ready)
+    source.write_text(text)
+    check('as it was', fresh)
+    (top / 'crates/tablecheck/src/more.rt').touch()
+    check('a file more', ready)
+    (top / 'crates/tablecheck/src/more.rt').unlink()
+    built(top, 'tablecheck', '#!/bin/sh\necho from target\n', OLD_KIT)
+    check('proved with a kit that is not here', ready)
+    for bad in '', 'nothing\n':
+        stamp.write_text(bad)
+        check('a stamp of something else', ready)
+    stamp.unlink()
+    check('no stamp', ready)
+    built(top, 'tablecheck', '#!/bin/sh\necho from target\n')
+    (top / 'target/bin/tablecheck').unlink()
+    check('a stamp and no program', ready)
+    for name in proving.programs():
+        built(top, name, '#!/bin/sh\nexit 3\n')
+    version('%s (all)' % (top / 'target/bin'))
+    expect('a program fails', call('check', 'examples/e.table', command=here), (b'', 'wivakkol: tablecheck ended with status 3 and no answer\n', 2))
+
+
+def harmed(folder):
+    """dist/ that is damaged or lacks something: one line, which says what brings it back."""
+    top = tree(folder)
+    here, program, again = top / 'tools/wivakkol', top / 'dist/x86_64-linux/tablecheck', '`git checkout dist` brings it back, and --build proves and builds it'
+
+    def says(line):
+        expect(line, call('check', 'examples/e.text', command=here), (b'', 'wivakkol: %s\n' % line, 2))
+
+    data = program.read_bytes()
+    for bad in data[:-1], b'', data[:64] + b'\1' + data[65:]:
+        program.write_bytes(bad)
+        says('%s is damaged, its bytes are not those that SUMS names; %s' % (program, again))
+    sums = (top / 'dist/SUMS').read_text()
+    program.write_bytes(b'of another machine')
+    (top / 'dist/SUMS').write_text(sums.replace(hashlib.sha256(data).hexdigest(), hashlib.sha256(b'of another machine').hexdigest()))
+    says('tablecheck cannot be started: Exec format error (it is for x86-64 Linux with glibc)')
+    (top / 'dist/SUMS').write_text(sums)
+    program.write_bytes(data)
+    program.chmod(0o644)
+    says('%s is not executable: `chmod +x` makes it so' % program)
+    program.unlink()
+    says('%s: No such file or directory; %s' % (program, again))
+    expect('asm needs tableasm alone', call('asm', 'examples/e.text', command=here), (E, '', 0))
+    program.mkdir()
+    says('%s: Is a directory; %s' % (program, again))
+    (top / 'dist/SUMS').unlink()
+    expect('no sums', call('asm', 'examples/e.text', command=here), (b'', 'wivakkol: %s: No such file or directory; %s\n' % (top / 'dist/SUMS', again), 2))
+    (top / 'dist/KIT').unlink()
+    expect('no kit', call('-V', command=here)[0].split(b'\n')[2], b'kit not known')
+
+
+RT = """#!/bin/sh
+# rt as far as it is looked at from outside: what it writes of each crate, programs, stamps
+[ -e broken ] && { echo 'rt: table NOT PROVED (exit 1, 3 s)'; echo 'rt: FAILED: table'; exit 1; }
+shift
+echo failed >target/log/table.res
+sleep 1
+echo proved >target/log/table.res
+for name; do
+    echo built >target/log/$name.res
+    ln -sf "%s/$name" target/bin/
+    cp stamps/$name target/stamp/
+done
+"""
 
 
 def builds(folder):
-    """--build runs rt, which is here a script that links the programs, shows what it writes, and goes on."""
-    top = tree_without_programs(folder, [])
-    tools = folder / 'rt-here'
+    """--build runs rt, which is here a script, says how far it is, and goes on with what was built."""
+    top, tools = tree(folder), folder / 'rt-here'
     tools.mkdir()
-    (tools / 'rt').write_text('#!/bin/sh\necho "rt: $*" in "$PWD"\n[ -e broken ] && exit 1\nshift\nfor name; do ln -s "%s/$name" target/bin/; done\n' % BIN)
+    (tools / 'rt').write_text(RT % BIN)
     (tools / 'rt').chmod(0o755)
+    (top / 'stamps').mkdir()
+    for name in proving.programs():
+        (top / 'stamps' / name).write_text(proving.stamp(name, (TOP / 'dist/KIT').read_text()) + '\n')
     environment = {**os.environ, 'PATH': '%s:%s' % (tools, os.environ['PATH'])}
-    told = 'wivakkol: rt check tableasm tablecheck (from nothing some 4 minutes with two cores, less where a part is proved already; it is silent for a minute or more)\n' \
-           'rt: check tableasm tablecheck in %s\n' % top
-    here = top / 'tools/wivakkol'
+    here, count, crates = top / 'tools/wivakkol', len(proving.programs()), len(proving.closure(proving.programs()))
+    first = 'wivakkol: proving and building %d programs, from nothing some twelve minutes with two cores' % count
     (top / 'broken').touch()
-    expect('rt fails', call('check', '--build', 'examples/e.text', command=here, env=environment), (b'', told + 'wivakkol: rt check tableasm tablecheck ended with status 1\n', 2))
+    out, told, status = call('check', '--build', 'examples/e.text', command=here, env=environment)
+    expect('rt fails', (out, told.split('\n')[0], told.split('\n')[-2], status),
+           (b'', first, 'wivakkol: rt: table NOT PROVED (exit 1, 3 s); rt: FAILED: table (rt check ended with status 1; target/log/check.out has all that it said)', 2))
     (top / 'broken').unlink()
-    expect('rt builds', call('check', '--build', 'examples/e.text', command=here, env=environment), (b'table 3 12 serial 6 depth 8 nested 2\n', told, 0))
+    out, told, status = call('check', '--build', 'examples/e.text', command=here, env=environment)
+    expect('rt builds', (out, status), (b'table 3 12 serial 6 depth 8 nested 2\n', 0))
+    lines = told.split('\n')[:-1]
+    expect('how far it is', all(re.fullmatch(r'\d+ of %d crates proved, 0:\d\d(; at work on table)?' % crates, line) for line in lines[1:]), True)
+    expect('at work', (lines[0], any(line.endswith('at work on table') for line in lines), lines[-1].split(',')[0]), (first, True, '%d of %d crates proved' % (count + 1, crates)))
     expect('built', call('check', '--build', 'examples/e.text', command=here, env=environment), (b'table 3 12 serial 6 depth 8 nested 2\n', '', 0))
     without = {**os.environ, 'PATH': '/nowhere'}
+    (top / 'target/stamp/tabledis').unlink()
+    end, terminal = pty.openpty()
+    done = subprocess.run([str(here), 'check', '--build', 'examples/e.text'], env=environment, stdout=subprocess.PIPE, stderr=terminal)
+    os.close(terminal)
+    told = os.read(end, 65536).decode()
+    os.close(end)
+    expect('on a terminal', (done.returncode, told.count('\n'), '\r%d of %d crates proved' % (count + 1, crates) in told), (0, 2, True))
+    (top / 'target/stamp/tabledis').unlink()
     out, line, status = call(here, 'dis', '--build', 'examples/e.text', command=sys.executable, env=without)
-    expect('no rt', (out, line.split('\n')[1], status), (b'', 'wivakkol: rt, which builds the programs, cannot be started: No such file or directory', 2))
-    (top / 'target/bin/tabledis').write_text('#!/bin/sh\nexit 3\n')
-    (top / 'target/bin/tabledis').chmod(0o755)
-    expect('a program fails', call('dis', 'examples/e.text', command=here), (b'', 'wivakkol: tabledis ended with status 3 and no answer\n', 2))
+    expect('no rt', (out, line.split('\n')[1], status), (b'', 'wivakkol: rt, which proves and builds, cannot be started: No such file or directory', 2))
+
+
+def without_rt(folder):
+    """The README's first command with Python 3 alone on the path, from the repository as it is cloned."""
+    top, alone = tree(folder), folder / 'alone'
+    alone.mkdir()
+    (alone / 'python3').symlink_to(sys.executable)
+    command = re.search(r'^    tools/wivakkol (list .*)$', (TOP / 'README.md').read_text(), re.M)[1].split()
+    shutil.copytree(TOP / 'examples', top / 'examples')
+    listing = re.search(r'(    table 3 12 serial.*?)\n\n', (TOP / 'README.md').read_text(), re.S)[1]
+    wanted = ''.join(line[4:] + '\n' for line in listing.split('\n')).encode()
+    expect('README', call(*command, command=top / 'tools/wivakkol', cwd=top, env={'PATH': str(alone)}), (wanted, '', 0))
 
 
 def main():
     if sys.argv[1:] == ['--write']:
         return page(True)
+    global COMMAND
     page(False)
     help_examples(rows_of_page())
     with tempfile.TemporaryDirectory() as name:
         folder = pathlib.Path(name)
+        COMMAND = cloned(folder / 'clone') / 'tools/wivakkol'  # from here on with the programs of dist/, held to those of target/bin
         on_the_examples(folder)
         ways_to_give(folder)
         bytes_refused(folder)
@@ -462,8 +603,10 @@ def main():
         writing_fails(folder)
         reader_leaves()
         terminal(folder)
-        not_built(folder)
+        where_from(folder)
+        harmed(folder)
         builds(folder)
+        without_rt(folder)
     print('%d answers, refusals and statuses as they should be' % count)
 
 

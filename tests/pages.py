@@ -14,11 +14,11 @@ ELSEWHERE = {'memmove', 'do_action', 'docs/guides/DESIGN.md'}  # of C, of its ca
 
 
 def tree():
-    """The files that git has, and all words in those that are no pages."""
+    """All words in the files that git has and that are no pages and no built files."""
     files = subprocess.run(['git', 'ls-files', '-co', '--exclude-standard'], capture_output=True, text=True, check=True).stdout.split('\n')
     words = set()
     for name in files:
-        if not name or name.endswith(('.md', '.svg', '.table', '.run', '.board')) or pathlib.Path(name).name in ('stdin', 'stdout'):
+        if not name or name.startswith('dist/') or name.endswith(('.md', '.svg', '.table', '.run', '.board')) or pathlib.Path(name).name in ('stdin', 'stdout'):
             continue
         if pathlib.Path(name).is_file():
             words.update(re.findall(r"[A-Za-z_][A-Za-z0-9_'-]*", pathlib.Path(name).read_text()))
