@@ -138,10 +138,22 @@ HEAD = {1: cut_off, 2: outside, 3: length}
 
 def of_thread(number, place, source):
     if source.lines is None and number == 4:
-        return None
+        return entry(place, source.data)
     if number == 4:
         return 'thread %d has no action; it has at least its end' % place
     return 'thread %d is forked nowhere; fork it or take it out' % place
+
+
+def entry(place, data):
+    """Of the contents of a table as bytes: the entry against the counts before it."""
+    pairs = [(int.from_bytes(data[at:at + 2], 'little'), int.from_bytes(data[at + 2:at + 4], 'little')) for at in range(0, 4 + 4 * int.from_bytes(data[:2], 'little'), 4)]
+    (n, m), before = pairs[0], sum(count for _, count in pairs[1:place + 1])
+    if place == n:
+        return 'the counts add up to %s, and m is %s' % (commas(before), commas(m))
+    first, count = pairs[place + 1]
+    if first == before and not count:
+        return 'thread %d has no action; it has at least its end' % place
+    return 'it begins at action %s, and the counts before it add up to %s' % (commas(first), commas(before))
 
 
 def kind_above(source, thread, at):
@@ -194,7 +206,7 @@ def wrong_join(source, thread, at):
     expected = 'expected join %s, the latest child not yet joined (forked in %s)' % (source.short(child), source.where(thread, forked))
     if kind == JOIN:
         return expected
-    return expected + ' before %s ends' % source.who(thread) + ('' if len(found) == 1 else ', and %s before it' % many(len(found) - 1, 'other'))
+    return expected + ', before %s ends' % source.who(thread) + ('' if len(found) == 1 else ', and %s before it' % many(len(found) - 1, 'other'))
 
 
 # Balances

@@ -13,7 +13,8 @@ usage: python3 tools/picture.py [LISTING] [-p P] [-K K] [-b B] [--trace | --rule
 The picture. A turn is a cell: filled where its action was done, hatched at a quota turn, hollow at a wait, a dash where the worker is idle. A pale
 bar from one cell to the next is a worker that holds its thread between two turns. The colour is the thread's number modulo 8; the number itself
 stands in the cells or bars that have room for it, and each cell shows its line of the listing to a pointer that rests on it. A run of more than 256
-turns is cut into bands of 256, from top to bottom. A bound that is far above the curve stands over a break of the scale. Where the run does not keep
+turns is cut into bands of 256, from top to bottom. Where the listing has names behind its turns, as `wivakkol list` writes them of a design, they stand in
+a list below all bands, and a label in the place of `work` where there is room. A bound that is far above the curve stands over a break of the scale. Where the run does not keep
 the rule with b, the bound does not speak of it, which the picture says, with the least b whose rule it keeps.
 """
 import argparse
@@ -337,7 +338,7 @@ class Key:
 
     def __init__(self, names, width):
         self.lines = ['%d %s' % pair for pair in names.items()]
-        self.column = 6 * max(map(len, self.lines), default=0) + 18
+        self.column = 5 * max(map(len, self.lines), default=0) + 18
         columns = max(1, (width - LEFT) // self.column)
         self.rows = -(-len(self.lines) // columns)
         self.height = 13 * self.rows + 8 if self.rows else 0
