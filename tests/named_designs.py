@@ -161,53 +161,63 @@ class Draw:
         self.text = self.separator().join([''] + texts + [''])
 
     def job(self, i):
-        rng, name = self.rng, self.jobs[i]
-        must = [self.jobs[i + 1]] if i + 1 < len(self.jobs) else []
-        body, balance, n, m, opened, self.given = [], 0, 1, 1, [], 0
+        """A job that names later ones, the next one always; its final balance, threads and actions are kept."""
+        rng = self.rng
+        self.body, self.balance, self.n, self.m, self.opened, self.given = [], 0, 1, 1, [], 0
+        self.below, self.must = self.jobs[i + 1:], self.jobs[i + 1:i + 2]
         for _ in range(rng.randint(0, 7)):
             kind = rng.choice(['alloc', 'free', 'work', 'work', 'together', 'fork', 'join'])
-            room = max(0, balance if not self.wrong or rng.random() < 0.6 else balance + 2)
-            if kind == 'alloc' or kind == 'free' and not room:
-                amount, times = rng.choice([1, 7, 40, 16777215] + [0] * self.wrong), self.times(3)
-                body.append('alloc %d%s' % (amount, self.star(times)))
-                balance, m = balance + amount * times, m + times
-            elif kind == 'free':
-                amount = rng.randint(1, min(room, 16777215))
-                times = rng.randint(1, max(1, min(3, room // amount)))
-                body.append('free %d%s' % (amount, self.star(times)))
-                balance, m = balance - amount * times, m + times
-            elif kind == 'work':
-                times = self.times(5)
-                body.append('work%s%s' % (rng.choice(['', ' weave', ' x', ' job1']), self.star(times)))
-                m += times
-            elif kind in ('together', 'fork') and i + 1 < len(self.jobs):
-                inside = (must or [rng.choice(self.jobs[i + 1:])]) + [rng.choice(self.jobs[i + 1:]) for _ in range(rng.randint(0, 2))] * (kind == 'together')
-                counts = [self.times(3) if kind == 'together' else 1 for _ in inside]
-                if n + sum(c * self.threads[x] for c, x in zip(counts, inside)) > 150:
-                    continue
-                must = []
-                n += sum(c * self.threads[x] for c, x in zip(counts, inside))
-                m += sum(c * (self.actions[x] + 2) for c, x in zip(counts, inside))
-                if kind == 'together':
-                    balance += sum(c * self.final[x] for c, x in zip(counts, inside))
-                    body.append('together {%s}' % self.inner(['%s%s' % (x, self.star(c)) for c, x in zip(counts, inside)]))
-                else:
-                    opened.append(('t%d' % self.given, self.final[inside[0]]))
-                    self.given += 1
-                    body.append('fork %s as %s' % (inside[0], opened[-1][0]))
-            elif kind == 'join' and opened:
-                given, final = opened.pop(0 if self.wrong and rng.random() < 0.5 else -1)
-                balance += final
-                body.append('join ' + given)
-        if must and n + self.threads[must[0]] <= 1000:
-            body.append('together { %s }' % must[0])
-            balance, n, m = balance + self.final[must[0]], n + self.threads[must[0]], m + 2 + self.actions[must[0]]
-        for given, final in opened[::-1]:
-            if not self.wrong or rng.random() < 0.8:
-                body.append('join ' + given)
-            balance += final
-        self.final[name], self.threads[name], self.actions[name] = max(0, balance), n, m
-        return '%s%s{%s}' % (name, self.blank(), self.inner(body))
+            if kind in ('together', 'fork'):
+                self.forks(kind)
+            elif kind == 'join':
+                self.join()
+            else:
+                self.do(kind)
+        while self.must:
+            self.forks('together', 1000)
+        while self.opened:
+            self.join(leave_out=self.wrong and rng.random() < 0.2)
+        self.final[self.jobs[i]], self.threads[self.jobs[i]], self.actions[self.jobs[i]] = max(0, self.balance), self.n, self.m
+        return '%s%s{%s}' % (self.jobs[i], self.blank(), self.inner(self.body))
+
+    def do(self, kind):
+        rng = self.rng
+        room = max(0, self.balance if not self.wrong or rng.random() < 0.6 else self.balance + 2)
+        amount, times, what = 0, self.times(3), 'work' + rng.choice(['', ' weave', ' x', ' job1'])
+        if kind == 'alloc':
+            amount = rng.choice([1, 7, 40, 16777215] + [0] * self.wrong)
+            what = 'alloc %d' % amount
+        elif kind == 'free' and room:
+            amount = -rng.randint(1, min(room, 16777215))
+            times, what = rng.randint(1, max(1, min(3, room // -amount))), 'free %d' % -amount
+        self.body.append(what + self.star(times))
+        self.balance, self.m = self.balance + amount * times, self.m + times
+
+    def forks(self, kind, most=150):
+        """Forks one job, or several together; nothing where there would be too many threads."""
+        rng = self.rng
+        if not self.below:
+            return
+        inside = (self.must or [rng.choice(self.below)]) + [rng.choice(self.below) for _ in range(rng.randint(0, 2))] * (kind == 'together' and most == 150)
+        counts = [self.times(3) if kind == 'together' and most == 150 else 1 for _ in inside]
+        added = sum(times * self.threads[job] for times, job in zip(counts, inside))
+        if self.n + added > most:
+            return
+        self.must, self.n = [], self.n + added
+        self.m += sum(times * (self.actions[job] + 2) for times, job in zip(counts, inside))
+        if kind == 'together':
+            self.balance += sum(times * self.final[job] for times, job in zip(counts, inside))
+            self.body.append('together {%s}' % self.inner([job + self.star(times) for times, job in zip(counts, inside)]))
+        else:
+            self.opened.append(('t%d' % self.given, self.final[inside[0]]))
+            self.given += 1
+            self.body.append('fork %s as %s' % (inside[0], self.opened[-1][0]))
+
+    def join(self, leave_out=False):
+        if self.opened:
+            given, final = self.opened.pop(0 if self.wrong and self.rng.random() < 0.3 else -1)
+            self.balance += final
+            self.body += [] if leave_out else ['join ' + given]
 
     def times(self, most):
         return self.rng.choice([1, 1, self.rng.randint(1, most)])
@@ -256,13 +266,29 @@ def one_design(rng, wrong):
     return 'accepted'
 
 
+def spoiled(rng, text):
+    """A design with some characters changed: a fault in a line that it has, or another design, which the model reads alike; and no layout where it is no design."""
+    for _ in range(rng.randint(1, 3)):
+        at = rng.randrange(len(text) + 1)
+        text = text[:at] + rng.choice(['', '{', '}', ';', '*', '\n', '#', ' ', '0', '9', 'a', 'as', 'fork ', 'work', '\r', '\x00', 'together{']) + text[at + rng.randint(0, 3):]
+    if not design.is_design(text.encode()):
+        return
+    try:
+        made = design.expanded(text.encode())
+    except design.Fault as fault:
+        expect('line of a fault', fault.line is not None and 1 <= fault.line <= text.count('\n') + 1 and bool(fault.message), True)
+        return
+    expect(text, (made.bodies, made.lines, made.labels, made.names, made.heads), model(text))
+    layouts(text, made)
+
+
 def layouts(text, made):
     """The layout has the same jobs and comments, and is its own layout."""
     laid = design.laid_out(text.encode())
     again = design.expanded(laid)
     expect('layout of ' + text, (again.bodies, again.labels, again.names), (made.bodies, made.labels, made.names))
     expect('layout of the layout', design.laid_out(laid), laid)
-    expect('comments', re.findall('#.*', laid.decode()), re.findall('#.*', text))
+    expect('comments', re.findall('#.*', laid.decode()), [comment.rstrip() for comment in re.findall('#.*', text)])
 
 
 def filled_names(made, given, quota):
@@ -324,7 +350,7 @@ FAULTS = [
     ('a {\n work\n end\n}', 3, 'a job ends with its }, without end', None),
     ('a {\n b * 6\n}\nb { }', 2, "expected alloc, free, work, together, fork or join, found 'b'; a job is named in together { .. }, or in fork b as NAME", None),
     ('a {\n fork b\n}\nb { }', 2, 'expected as NAME behind fork b, by which it is joined', None),
-    ('a {\n work weave 3\n}', 2, "expected ; or the end of the line, found '3'", None),
+    ('a {\n work weave 3\n}', 2, "expected ; or the end of the line, found 3; a count is written * 3", None),
     ('a {\n alloc 2 free 2 }', 2, "expected ; or the end of the line, found 'free'", None),
     ('a {\n work\n\n', 4, 'expected a } at the end of job a, which begins in line 1', None),
     ('a {\n together {\n b\nb { }', 4, "expected ; or the end of the line, found '{'", None),
@@ -422,6 +448,8 @@ def main():
     said = [one_design(rng, i % 3 == 0) for i in range(wanted)]
     for _ in range(wanted // 4):
         one_table(rng)
+    for _ in range(wanted):
+        spoiled(rng, Draw(rng, False).text)
     if min(said.count('accepted'), said.count('refused')) < wanted // 20:
         sys.exit('too few of one kind: %d accepted, %d refused' % (said.count('accepted'), said.count('refused')))
     print('%d designs, of which %d are refused, and %d tables there and back; eleven tables of docs/FIGURES.md: %d comparisons' % (wanted, said.count('refused'), wanted // 4, count))

@@ -143,6 +143,8 @@ class Reader:
             if self.peek().kind == '}':
                 return found, self.next().line
             found.append(part())
+            if self.peek().kind == 'number':
+                raise Fault(self.peek().line, 'expected ; or the end of the line, found %s; a count is written * %s' % ((self.peek().word[:40],) * 2))
             if self.peek().kind not in ('', ';', '}'):
                 self.expected('; or the end of the line')
 
@@ -613,7 +615,7 @@ class Layout:
     def comment(self, token, at):
         behind = at > 0 and self.tokens[at - 1].line == token.line and self.tokens[at - 1].kind != ''
         self.end_line()
-        if behind:
+        if behind and self.rows and self.rows[-1]:
             self.rows[-1] += '  ' + token.word
         else:
             self.rows.append('  ' * self.depth + token.word)
