@@ -394,43 +394,40 @@ def bodies_of(table):
     return out
 
 
+def dummies(made, bodies):
+    """The names and lines of the dummy threads in a table that is filled out from a design's."""
+    given, waits = len(made.bodies), {}  # by dummy thread: the thread that has the alloc, and its line
+    for thread, body in enumerate(bodies):
+        own = 0
+        for kind, argument in body:
+            put_in = kind in (FORK, JOIN) and argument >= given
+            if put_in and kind == FORK:
+                waits[argument] = waits.get(thread) or (thread, made.lines[thread][own])
+            own += not put_in
+    many, seen, out = collections.Counter(thread for thread, _ in waits.values()), collections.Counter(), []
+    for dummy in range(given, len(bodies)):
+        thread, line = waits[dummy]
+        name = 'dummy[%d]' % seen[thread] if many[thread] > 1 else 'dummy'
+        seen[thread] += 1
+        out.append((below(made.names[thread] if thread else '', name), line))
+    return out
+
+
 class Named:
     """The names of a table that was made of a design, or filled out from it: of each thread, and of each action its label or its kind, and both with the
     line in the design. Threads from the design's count on are dummy threads, named below the thread whose alloc waits for them, at its line."""
 
     def __init__(self, made, table):
-        self.threads, self.actions, self.labels = list(zip(made.names, made.heads)), [], []
         given, bodies = len(made.bodies), bodies_of(table)
-        owners = self.dummies(given, bodies, made)
+        self.threads, self.actions, self.labels = list(zip(made.names, made.heads)) + dummies(made, bodies), [], []
         for thread, body in enumerate(bodies):
-            rest = iter(zip(made.lines[thread], made.labels[thread])) if thread < given else iter(())
+            own = 0
             for kind, argument in body:
-                line, label = (self.threads[thread][1], None) if thread in owners else (None, None) if kind in (FORK, JOIN) and argument >= given else next(rest)
-                self.labels.append(label)
-                self.actions.append((label or KINDS[kind], line))
-        self.lines_before_allocs()
-
-    def dummies(self, given, bodies, made):
-        """The thread whose alloc waits for each dummy thread; their names and lines are put behind those of the design's."""
-        owners, lines = {}, {}
-        for thread, body in enumerate(bodies):
-            for at, (kind, argument) in enumerate(body):
-                if kind == FORK and argument >= given:
-                    owners[argument] = owners.get(thread, thread)
-                    lines[argument] = lines[thread] if thread >= given else made.lines[thread][at - 2 * sum(1 for k, x in body[:at] if k == FORK and x >= given)]
-        many, seen = collections.Counter(owners.values()), collections.Counter()
-        for thread in range(given, len(bodies)):
-            owner = owners[thread]
-            name = 'dummy[%d]' % seen[owner] if many[owner] > 1 else 'dummy'
-            seen[owner] += 1
-            self.threads.append((below(made.names[owner] if owner else '', name), lines[thread]))
-        return owners
-
-    def lines_before_allocs(self):
-        """The fork and the join of dummy threads stand in the line of the alloc behind them."""
-        for at in range(len(self.actions) - 1, -1, -1):
-            name, line = self.actions[at]
-            self.actions[at] = name, self.actions[at + 1][1] if line is None else line
+                put_in = thread >= given or kind in (FORK, JOIN) and argument >= given
+                line = self.threads[thread][1] if thread >= given else made.lines[thread][own]  # of what is put in that of the alloc behind it
+                self.labels.append(None if put_in else made.labels[thread][own])
+                self.actions.append((self.labels[-1] or KINDS[kind], line))
+                own += not put_in
 
     def listing(self, data):
         """A listing with names: behind each turn the thread's, and the label of its work."""
@@ -524,7 +521,7 @@ def job_of(body, name):
             after = next(i for i in range(joins, len(body)) if body[i][0] != JOIN)
             both = min(joins - at, after - joins)
             for _, child in body[at:joins - both]:
-                given[child] = 'x%d' % (len(given) + 1)
+                given[child] = 't%d' % child
                 out.append('fork %s as %s' % (name(child), given[child]))
             if both:
                 out.append('together { %s }' % '; '.join(counted(name(child) for _, child in body[joins - both:joins])))
