@@ -1,11 +1,12 @@
 """Runs tools/wivakkol on the examples and on what it must refuse: answers with the programs of dist/ against those in target/bin with inputs that inputasm makes, messages and exit statuses against what is written
-here, the words of refusals against docs/REFERENCE.md, and every command of docs/COMMAND.md against the output that stands there.
+here, the words of refusals against docs/REFERENCE.md, and every command of docs/COMMAND.md and docs/DESIGNS.md against the output that stands there.
 
 usage: python3 tests/command.py            (from the repository's top, after `rt check` of the programs)
-       python3 tests/command.py --write    (puts the output seen into docs/COMMAND.md, and docs/pictures/repeats.svg: to be read before it is kept)
+       python3 tests/command.py --write    (puts the output seen into docs/COMMAND.md, docs/DESIGNS.md and docs/pictures/repeats.svg: to be read before it is kept)
 """
 import functools
 import hashlib
+import json
 import os
 import pathlib
 import pty
@@ -22,6 +23,7 @@ import proving
 
 VERSION = re.search(r'^version = "(.*)"', (TOP / 'rust/wivakkol/Cargo.toml').read_text(), re.M)[1]
 COMMAND, PAGE, PICTURE, BIN = TOP / 'tools/wivakkol', TOP / 'docs/COMMAND.md', TOP / 'docs/pictures/repeats.svg', TOP / 'target/bin'
+DESIGNS = TOP / 'docs/DESIGNS.md'
 TEXTS = ['e', 'parts', 'stages', 'tree', 'repeats']
 E = (TOP / 'examples/e.table').read_bytes()
 count = 0
@@ -74,32 +76,46 @@ def seen(commands, folder, path):
     return done.stdout.split(mark + '\n')[:-1]
 
 
-def page(write):
-    """The page as it would be with the output seen. `wivakkol` is found through a link, as its section on installing says."""
-    text = PAGE.read_text()
+def as_seen(text, folder):
+    """A page as it would be with the output seen, in a folder that has `wivakkol` in bin/."""
+    lines, found = blocks(text)
+    told = seen([command for block in found for command in block[2]], folder, '%s/bin:%s' % (folder, os.environ['PATH']))
+    for start, end, commands in reversed(found):
+        here, told = told[-len(commands):], told[:-len(commands)]
+        lines[start:end] = [line for command, out in zip(commands, here) for line in ['    $ ' + command] + ['    ' + row for row in out.splitlines()]]
+    return '\n'.join(lines)
+
+
+def pages(write):
+    """The two pages with the output seen. `wivakkol` is found through a link, as its section on installing says."""
+    text, designs = PAGE.read_text(), DESIGNS.read_text()
     with tempfile.TemporaryDirectory() as folder:
         os.symlink(TOP / 'examples', folder + '/examples')
+        for name in 'carpet.design', 'repeats.text':
+            shutil.copy(TOP / 'examples' / name, folder)
         os.mkdir(folder + '/bin')
         link = re.search(r'^    (ln -s .*)$', text, re.M)[1]
         subprocess.run(link.replace('~/.local/bin/', folder + '/bin/'), shell=True, check=True)
-        lines, found = blocks(text)
-        told = seen([command for block in found for command in block[2]], folder, '%s/bin:%s' % (folder, os.environ['PATH']))
-        for start, end, commands in reversed(found):
-            here, told = told[-len(commands):], told[:-len(commands)]
-            lines[start:end] = [line for command, out in zip(commands, here) for line in ['    $ ' + command] + ['    ' + row for row in out.splitlines()]]
+        found = as_seen(text, folder), as_seen(designs, folder)
         drawn = pathlib.Path(folder, 'repeats.svg').read_bytes()
     if write:
-        PAGE.write_text('\n'.join(lines))
+        PAGE.write_text(found[0])
+        DESIGNS.write_text(found[1])
         PICTURE.write_bytes(drawn)
         return
-    expect('docs/COMMAND.md', text, '\n'.join(lines))
+    expect('docs/COMMAND.md', text, found[0])
+    expect('docs/DESIGNS.md', designs, found[1])
     expect('docs/pictures/repeats.svg', PICTURE.read_bytes(), drawn)
+    for name in 'carpet', 'stages':
+        rows = (TOP / 'examples' / (name + '.design')).read_text().splitlines()
+        shown = '\n'.join('    ' + row if row else '' for row in rows[name == 'stages':])
+        expect('%s.design in the page' % name, shown in designs, True)
 
 
 def rows_of_page():
     """The page's table of commands names each command with its program, and its table of options each option."""
     text = PAGE.read_text()
-    rows = dict(re.findall(r'^\| `(\w+)[^|]*` \| `(\w+)`', text, re.M))
+    rows = dict(re.findall(r'^\| `(\w+)[^|]*` \| `([\w/.]+)`', text, re.M))
     commands = re.findall(r'^  (\w+) ', call('help')[0].decode(), re.M)
     expect('commands of the page', list(rows), commands)
     for name in commands:
@@ -207,7 +223,9 @@ def ways_to_give(folder):
     answers(['dis', path, '-o', '-'], program('tabledis', E))
     joined = program('jointables', bytes([2]) + 2 * len(E).to_bytes(4, 'little') + E + E)
     answers(['join', 'examples/e.text', 'examples/e.table'], joined)
-    answers(['cmp', 'examples/e.text', 'examples/tree.text'], b'before\n')
+    order = folder / 'order'
+    order.write_text('0:0 1')
+    answers(['deques', '-p2', '-K6', '--order', '@%s' % order, 'examples/e.text'], call('deques', '-p2', '-K6', '--order', '0:0 1:0', 'examples/e.text')[0])
 
 
 def made(folder, name, data):
@@ -224,29 +242,81 @@ def words(number):
 
 def bytes_refused(folder):
     """Damaged tables as bytes: file and place, and the bare line with --numbers. All numbers of the table's checks are met."""
-    damaged = [E[:at] + bytes([value]) + E[at + 1:] for at, value in [(4, 1), (8, 6), (12, 8), (16, 6), (17, 0), (21, 1), (25, 1), (45, 7), (48, 1)]]
-    unforked = bytes([2, 0, 2, 0, 0, 0, 1, 0, 1, 0, 1, 0]) + bytes(8)
     met = set()
-    for data in damaged + [unforked, b'', b'\1', bytes(12), E + b'\0', E + E * 4000]:
+    for data, why in DAMAGED:
         line = program('tablecheck', data).decode().strip()
         number, place = map(int, line.split()[1:])
         path = made(folder, 'damaged.table', data) / 'damaged.table'
         counted = {4: 'entry', 11: 'thread'}.get(number, 'action') if number > 3 else None
-        refuses(['check', path], '%s: %s' % ('%s: %s %d' % (path, counted, place) if counted else path, words(number)))
+        refuses(['check', path], '%s: refused %d: %s' % ('%s: %s %d' % (path, counted, place) if counted else path, number, why))
         refuses(['dis', '--numbers', path], line)
         met.add(number)
     expect('numbers met', met, set(range(1, 12)))
 
 
+def changed(at, value):
+    return E[:at] + bytes([value]) + E[at + 1:]
+
+
+DAMAGED = [
+    (changed(4, 1), 'it begins at action 1, and the counts before it add up to 0'),
+    (changed(8, 6), 'it begins at action 6, and the counts before it add up to 5'),
+    (changed(14, 4), 'the counts add up to 13, and m is 12'),
+    (E[:14] + b'\0' + E[15:], 'thread 2 has no action; it has at least its end'),
+    (changed(16, 6), 'kind 6; kinds are 0 to 5. If several are wrong from here on, an action is not 4 bytes long'),
+    (changed(17, 0), 'thread 0 forks thread 0, which is not above it; number the threads so that each is above the one that forks it'),
+    (changed(17, 9), 'there is no thread 9; the table has threads 0 to 2'),
+    (changed(41, 9), 'work has the argument 9; it has none'),
+    (changed(21, 1), 'thread 1 is forked already, in action 0; give this fork a thread of its own'),
+    (changed(25, 1), 'expected join 2, the latest child not yet joined (forked in action 1)'),
+    (changed(45, 7), 'thread 1, joined here, ends 1 below 0: in action 7 it holds 6 and frees 7'),
+    (changed(48, 1), 'thread 1 does not end; put end after this'),
+    (bytes([2, 0, 2, 0, 0, 0, 1, 0, 1, 0, 1, 0]) + bytes(8), 'thread 1 is forked nowhere; fork it or take it out'),
+    (b'', 'the file is empty'), (b'\n', 'the text is empty: it has no thread'), (b'\1', 'found 1 byte, and a table has at least 12; is it cut off?'),
+    (bytes(12), 'n is 0 and m is 0; n is 1 to 1,024 and m 1 to 8,192. Is it a table at all, with its low bytes first?'),
+    (E + b'\0', 'found 65 bytes; a table with n 3 and m 12 has 64'),
+    (E + E * 4000, 'found more than 36,868 bytes; a table with n 3 and m 12 has 64'),
+    ('thread 0\n  end\n'.encode('utf-16-le'), 'text in UTF-16, two bytes to a letter; save it as UTF-8')]
+
+
+# behind a head of three lines: the line, the number and what is said
+TEXTS_REFUSED = [
+    (b' fork 1\n end\nthread 1\nthread 2\n end\n', 6, 4, 'thread 1 has no action; it has at least its end'),
+    (b' work\n alloc 0\n end\n', 5, 6, 'alloc 0; give at least 1 unit, or take it out'),
+    (b' fork 7\n end\n' + b''.join(b'thread %d\n end\n' % t for t in range(1, 7)), 4, 6, 'there is no thread 7; the text has threads 0 to 6'),
+    (b' fork 7\n end\n', 4, 6, 'there is no thread 7; the text has thread 0 alone'),
+    (b' fork 1\n join 1\n end\nthread 1\n join 0\n end\n', 8, 6, 'thread 1 joins thread 0, which is not above it; number the threads so that each is above the one that forks it'),
+    (b' end\n work\n', 4, 7, 'thread 0 ends here and has 1 action after it; take the end out, or what follows'),
+    (b' fork 1\n fork 1\n end\nthread 1\n end\n', 5, 8, 'thread 1 is forked already, in line 4; give this fork a thread of its own'),
+    (b' fork 1\n end\nthread 1\n end\n', 5, 9, 'expected join 1, the latest child not yet joined (forked in line 4), before thread 0 ends'),
+    (b' fork 1\n fork 2\n end\nthread 1\n end\nthread 2\n end\n', 6, 9,
+     'expected join 2, the latest child not yet joined (forked in line 5), before thread 0 ends, and 1 other before it'),
+    (b' fork 1\n # more\n fork 2\n join 1\n join 2\n end\nthread 1\n end\nthread 2\n end\n', 7, 9,
+     'expected join 2, the latest child not yet joined (forked in line 6)'),
+    (b' join 1\n fork 1\n end\nthread 1\n end\n', 4, 9, 'thread 0 has no child to join'),
+    (b' fork 1\n join 1\n join 1\n end\nthread 1\n end\n', 6, 9, 'thread 0 has no child to join; thread 1 is joined already, in line 5'),
+    (b' alloc 6\n\n # more\n free 7\n end\n', 7, 10, 'thread 0 holds 6 here and frees 7; free less, or after the join of the child that drew it'),
+    (b' fork 1\n join 1\n end\nthread 1\n fork 2\n join 2\n end\nthread 2\n alloc 3\n free 8\n end\n', 5, 10,
+     'thread 1, joined here, ends 5 below 0: in line 13 thread 2 holds 3 and frees 8'),
+    (b' alloc 5\n fork 1\n join 1\n free 5\n end\nthread 1\n free 5\n end\n', 7, 10,
+     'thread 1, joined in line 6, ends 5 below 0: in line 10 it holds 0 and frees 5; so thread 0 holds 0 here and frees 5'),
+    (b' end\nthread 1\n end\n', 5, 11, 'thread 1 is forked nowhere; fork it or take it out')]
+
+
 def texts_refused(folder):
-    """What tableasm says of a text, with file and line."""
+    """What tableasm says of a text, with file and line, and what there is to do."""
     head = b'# first\n\nthread 0\n'
-    for rest, line, number in [(b' fork 1\n end\nthread 1\nthread 2\n end\n', 6, 4), (b' work\n alloc 0\n end\n', 5, 6), (b' end\n work\n', 4, 7),
-                               (b' fork 1\n fork 1\n end\nthread 1\n end\n', 5, 8), (b' fork 1\n end\nthread 1\n end\n', 5, 9),
-                               (b' alloc 6\n\n # more\n free 7\n end\n', 7, 10), (b' end\nthread 1\n end\n', 5, 11)]:
-        refuses(['check', '-'], '<stdin>:%d: %s' % (line, words(number)), head + rest)
+    for rest, line, number, why in TEXTS_REFUSED:
+        refuses(['check', '-'], '<stdin>:%d: refused %d: %s' % (line, number, why), head + rest)
         refuses(['asm', '--numbers', '-'], program('tableasm', head + rest).decode().strip(), head + rest)
-    refuses(['check', '-'], '<stdin>: %s' % words(2), b'   \n')
+    for text in b'   \n', b'# nothing\n':
+        refuses(['check', '-'], '<stdin>: refused 2: the text is empty: it has no thread', text)
+    refuses(['check', '-'], '<stdin>: refused 2: 1,025 threads and 1,025 actions; a table has 1 to 1,024 threads and 1 to 8,192 actions',
+            b'thread 0\n end\n' + b''.join(b'thread %d\n end\n' % t for t in range(1, 1025)))
+    refuses(['check', '-'], '<stdin>: refused 2: 1 thread and 8,193 actions; a table has 1 to 1,024 threads and 1 to 8,192 actions', b'thread 0\n' + b'work\n' * 8192 + b'end\n')
+    for text in head.decode() + ' end\n', 'a { work }\n':
+        refuses(['check', '-'], '<stdin>: text in UTF-16, two bytes to a letter; save it as UTF-8', text.encode('utf-16'))
+        refuses(['fmt', '-'], '<stdin>: text in UTF-16, two bytes to a letter; save it as UTF-8', text.encode('utf-16'))
     refuses(['check', '-'], '<stdin>:4: expected a number up to 16777215', head + b' alloc many\n')
     refuses(['check', '--numbers', '-'], 'line 4: expected a number up to 16777215', head + b' alloc many\n')
     refuses(['run', '-p', 2, '-K', 1, '-'], '<stdin>:2: a carriage return; lines end with a newline alone', head.replace(b'\n', b'\r\n') + b' end\r\n')
@@ -272,12 +342,15 @@ def lines_of_actions(folder):
 def options_refused():
     e, many = 'examples/e.text', 'examples/tree.text'
     for name in ['limit'], ['turns'], ['run'], ['list'], ['chart', '--rounds', 3], ['picture'], ['deques', '--order', '0:0'], ['picture', '--deques', '--order', '0:0']:
-        refuses([*name, '-p', 17, '-K', 6, e], '-p 17: ' + words(20))
-        refuses([*name, '-p', 0, '-K', 6, e], '-p 0: ' + words(20))
-        refuses([*name, '-p', 2, '-K', 0, e], '-K 0: ' + words(21))
+        for p in (17, 0, 300) if name != ['run'] else (17, 0, 255, 256, 300, 10 ** 19):
+            refuses([*name, '-p', p, '-K', 6, e], '-p %d: %s' % (p, words(20)))
+        for quota in 0, 16777216:
+            refuses([*name, '-p', 2, '-K', quota, e], '-K %d: %s' % (quota, words(21)))
     refuses(['fill', '-K', 0, e], '-K 0: ' + words(21))
-    refuses(['limit', '-p', 2, '-K', 6, '-b', 65536, e], '-b 65536: ' + words(41))
-    refuses(['limit', '-p', 2, '-K', 6, '-c', 3, e], '-c 3: ' + words(49))
+    for b in 65536, 2 ** 32, 2 ** 40:
+        refuses(['limit', '-p', 2, '-K', 6, '-b', b, e], '-b %d: %s' % (b, words(41)))
+    for c in 3, 2 ** 32:
+        refuses(['limit', '-p', 2, '-K', 6, '-c', c, e], '-c %d: %s' % (c, words(49)))
     for papers in (), ('--papers',):
         refuses(['quota', '-p', 17, '-M', 9, *papers, e], '-p 17: ' + words(20))
         refuses(['quota', '-p', 2, '-b', 65536, '-M', 9, *papers, e], '-b 65536: ' + words(41))
@@ -295,9 +368,10 @@ def options_refused():
     refuses(['deques', '-p', 2, '-K', 6, '--order', '0:0 ' * 2049, e], '--order: ' + words(33))
     refuses(['join'] + [e] * 17, '17 tables: ' + words(47))
     refuses(['join'] + [many] * 5, '5 tables: ' + words(48))
-    refuses(['join', e, 'examples/e.run'], 'examples/e.run: ' + words(2))
-    refuses(['cmp', e, 'examples/e.run'], 'examples/e.run: ' + words(2))
-    refuses(['cmp', '--numbers', e, 'examples/e.run'], 'refused 2 0 table 1')
+    head = 'n is 1,538 and m is 0; n is 1 to 1,024 and m 1 to 8,192. Is it a table at all, with its low bytes first?'
+    refuses(['join', e, 'examples/e.run'], 'examples/e.run: refused 2: ' + head)
+    refuses(['cmp', e, 'examples/e.run'], 'examples/e.run: refused 2: ' + head, status=2)
+    refuses(['cmp', '--numbers', e, 'examples/e.run'], 'refused 2 0 table 1', status=2)
 
 
 def words_of_the_reference():
@@ -312,12 +386,170 @@ def words_of_the_reference():
         expect('help %d' % number, words(number), 'refused %d: %s; %s' % (number, refusal.meaning, refusal.advice))
 
 
+# Designs, orders that are drawn, differences
+
+CARPET = TOP / 'examples/carpet.design'
+
+
+def designs(folder):
+    """Each command on a design says what it says of the table that the design stands for, with names behind the turns unless --numbers is given."""
+    text = CARPET.read_bytes()
+    path = made(folder, 'carpet.table', call('asm', CARPET)[0]) / 'carpet.table'
+    for given in (['check'], ['asm'], ['canon'], ['design'], ['quota', '-p', 2, '-M', 200], ['limit', '-p', 2, '-K', 40], ['turns', '-p', 2, '-K', 40], ['fill', '-K', 30], ['run', '-p', 2, '-K', 40],
+                  ['chart', '-p', 2, '-K', 30, '--rounds', 20], ['list', '-p', 2, '-K', 30, '--numbers'], ['deques', '-p', 2, '-K', 30, '--numbers'], ['dis', '--numbers'],
+                  ['picture', '-p', 2, '-K', 40, '--numbers', '--trace'], ['picture', '-p', 2, '-K', 40, '--rule'], ['join', CARPET]):
+        answers([*given, CARPET], call(*given, path)[0])
+    answers(['cmp', '-', path], b'equal\n', text)
+    named_turns(path)
+    answers(['check', '-'], b'table 20 127 serial 52 depth 29 nested 3\n', call('dis', CARPET)[0])
+    shown = call('dis', CARPET)[0].decode()
+    expect('dis', [row in shown for row in ('thread 0 # carpet\n', 'thread 2 # row[0]/helper[0]\n', 'work # action 18 weave\n', 'alloc 40 # action 17\n')], [True] * 4)
+
+
+def named_turns(path):
+    """Names behind the turns: the six columns before them are the program's; the picture and the trace have them too."""
+    for given in ['list', '--rounds', 60, '-K', 40], ['list', '-K', 30], ['deques', '-K', 30, '--random', 4]:
+        bare, named = (call(*given, '-p', 2, table, *more)[0].decode().splitlines() for table, more in ((path, ()), (CARPET, ())))
+        names = [row.split()[6:] for row in named]
+        expect('columns', [' '.join(row.split()[:6]) if row[:1].isdigit() else row for row in named], bare)
+        expect('names', [bool(name) for name in names], [row[:1].isdigit() and 'idle' not in row or ' nothing' in row or row.startswith('table') for row in bare])
+        found = {row.split()[2]: row.split()[6] for row in named[1:] if len(row.split()) > 6 and row[:1].isdigit()}
+        expect('threads', (found['0'], found['1'], found.get('2', 'row[0]/helper[0]')), ('carpet', 'row[0]', 'row[0]/helper[0]'))
+        expect('labels', {tuple(row.split()[4:5] + row.split()[7:]) for row in named[1:] if len(row.split()) > 7}, {('work', 'weave')})
+    expect('dummies', any(' row[1]/dummy[1]' in row for row in named), True)
+    listing = call('list', '-p', 2, '-K', 40, '--rounds', 20, CARPET)[0]
+    for more in (), ('--trace',):
+        drawn = subprocess.run([sys.executable, 'tools/picture.py', '-p', '2', '-K', '40', *more], input=listing, stdout=subprocess.PIPE, check=True).stdout
+        answers(['picture', '-p', 2, '-K', 40, '--rounds', 20, *more, CARPET], drawn)
+        expect('names in it', [name in drawn.decode() for name in ('row[0]', 'weave')], [True, True])
+    bare, named = (json.loads(call('picture', '-p', 2, '-K', 40, '--rounds', 60, '--trace', table)[0])['traceEvents'] for table in (path, CARPET))
+    threads = {'thread %d' % t: name for t, name in enumerate(re.findall('^thread [0-9]+ # (.*)$', call('dis', CARPET)[0].decode(), re.M))}
+    expect('trace', [{**event, 'name': event['name'].replace('weave', 'work')} for event in named], [{**event, 'name': threads.get(event['name'], event['name'])} for event in bare])
+
+
+DESIGNS_REFUSED = [
+    (('row * 6', 'row * 600'), 4, 'refused 2: job carpet has 1,802 threads, and a table has at most 1,024; row * 600 passes it'),
+    (('weave * 3', 'weave * 9000'), 10, 'refused 2: job row has 9,015 actions, and a table has at most 8,192; work weave * 9000 passes it'),
+    (('alloc 10', 'alloc 0'), 15, 'refused 6: in job helper, alloc 0; give at least 1 unit, or take it out'),
+    (('free 40', 'free 400'), 4, 'refused 10: in job carpet, row[5], joined here, ends 360 below 0: in line 12 it holds 40 and frees 400'),
+    (('free 10', 'free 11'), 4, 'refused 10: in job carpet, row[4], joined here, ends 2 below 0: in line 15 row[4]/helper[1] holds 10 and frees 11'),
+    (('free 2', 'free 3'), 5, 'refused 10: in job carpet, carpet holds 2 here and frees 3; free less, or after the join of the child that drew it'),
+    (('together { helper * 2 }', 'fork helper as a; fork border as b; join a; join b'), 11,
+     'refused 9: in job row, expected join b, the latest child not yet joined (forked in line 11)'),
+    (('together { helper * 2 }', 'fork helper as a; fork helper as b; join b'), 13,
+     'refused 9: in job row, expected join a, the latest child not yet joined (forked in line 11), before row[0] ends'),
+    (('border { work }', 'border { free 1 }'), 5,
+     'refused 10: in job carpet, border, joined in line 4, ends 1 below 0: in line 16 it holds 0 and frees 1; so carpet holds 1 here and frees 2'),
+    (('helper * 2', 'helpr * 2'), 11, 'there is no job helpr; is it helper?'),
+    (('; border', ''), 16, 'job border is named nowhere below the first job, carpet, which is the root; name it in a together or a fork, or take it out'),
+    (('border { work }', 'border { together { carpet } }'), 16, 'jobs in a circle: carpet > border > carpet; no job may lead back to itself'),
+    (('border { work }', 'helper { work }'), 16, 'a second job helper; the first is in line 15'),
+    (('work weave', 'wrok weave'), 10, "expected alloc, free, work, together, fork or join, found 'wrok'; a job is named in together { .. }, or in fork wrok as NAME"),
+]
+
+
+def designs_refused(folder):
+    """Faults with the line of the design, and refusals of the assembler with its line and job; --numbers as of a text."""
+    text = CARPET.read_text()
+    for (old, new), line, why in DESIGNS_REFUSED:
+        data = text.replace(old, new).encode()
+        refuses(['check', '-'], '<stdin>:%d: %s' % (line, why), data)
+        found = re.match('refused ([0-9]+)', why)
+        out, told, status = call('check', '--numbers', '-', data=data)
+        expect('--numbers', (out, status, bool(re.fullmatch('refused %s [0-9]+ line [0-9]+\n' % found[1] if found else 'line %d: .*\n' % line, told))), (b'', 1, True))
+    allocs = text.replace('alloc 40', 'alloc 4000').encode()
+    refuses(['list', '-p', 2, '-K', 1, '-'], '<stdin>:9: refused 44: in job row, ' + words(44).split(': ', 1)[1], allocs)
+    refuses(['join', CARPET, '-'], '<stdin>:4: ' + DESIGNS_REFUSED[0][2], text.replace('row * 6', 'row * 600').encode())
+    kept = made(folder, 'kept.map', b'as it was') / 'kept.map'
+    refuses(['asm', '-', '--map', kept], '<stdin>:4: ' + DESIGNS_REFUSED[0][2], text.replace('row * 6', 'row * 600').encode())
+    expect('--map of a refusal', kept.read_bytes(), b'as it was')
+
+
+def maps(folder):
+    """Maps by their ending; they are compiled by tests/named_designs.py."""
+    for ending, first in ('map', '# carpet.design: thread NUMBER'), ('h', '/* Names and lines of carpet.design,'), ('rs', '//! Names and lines of carpet.design,'):
+        path = folder / ('carpet.' + ending)
+        answers(['asm', CARPET, '--map', path], call('asm', CARPET)[0])
+        expect(ending, path.read_text().startswith(first), True)
+    rows = (folder / 'carpet.map').read_text().splitlines()
+    expect('map', [row in rows for row in ('thread 2 15 row[0]/helper[0]', 'action 18 10 weave', 'action 17 9 alloc', 'action 1 4 fork', 'action 16 6 end')], [True] * 5)
+    answers(['fill', '-K', 30, CARPET, '--map', folder / 'filled.map'], call('fill', '-K', 30, CARPET)[0])
+    rows = (folder / 'filled.map').read_text().splitlines()
+    expect('filled out', [row in rows for row in ('thread 20 9 row[0]/dummy[0]', 'action 17 9 fork', 'action 19 9 alloc', 'action 20 10 weave')], [True] * 4)
+
+
+def orders_drawn():
+    """What a seed draws is told so that --order takes it; DFDeques in rounds has the choice that is given."""
+    for given in ['list', 'examples/e.text'], ['deques', 'examples/e.text'], ['deques', '--rounds', 9, 'examples/e.text'], ['list', CARPET], ['chart', 'examples/e.text']:
+        name, *rest = given
+        out, told, status = call(name, '-p', 3, '-K', 6, '--random', 7, *rest)
+        order = re.fullmatch('--order "([0-9: ]*)"\n', told)[1]
+        expect('%s drawn' % given, (out, status), (call(name, '-p', 3, '-K', 6, '--order', order, rest[-1])[0], 0))
+        if '--rounds' in given:
+            expect('workers in rounds', [word.split(':')[0] for word in order.split()], list('012012012'))
+        expect('again', call(name, '-p', 3, '-K', 6, '--random', 7, *rest), (out, told, 0))
+        expect('another seed', call(name, '-p', 3, '-K', 6, '--random', 8, *rest)[1] == told, False)
+    for more, choice in ((), 0), (('--choices', 1), 1):
+        rounds = ' '.join('%d:%d' % (turn % 2, choice) for turn in range(2048))
+        answers(['deques', '-p', 2, '-K', 6, *more, 'examples/tree.text'], call('deques', '-p', 2, '-K', 6, '--order', rounds, 'examples/tree.text')[0])
+        answers(['deques', '-p', 2, '-K', 6, '--rounds', 5, *more, 'examples/e.text'], call('deques', '-p', 2, '-K', 6, '--order', rounds[:19], 'examples/e.text')[0])
+    drawn = call('picture', '-p', 2, '-K', 6, '--deques', '--random', 2, 'examples/e.text')
+    order = re.fullmatch('--order "(.*)"\n', drawn[1])[1]
+    expect('picture', drawn[0], call('picture', '-p', 2, '-K', 6, '--deques', '--order', order, 'examples/e.text')[0])
+    refuses(['deques', '-p', 2, '-K', 6, '--choices', 2, 'examples/e.text'], '--choices 2: ' + words(49), out=b'table 3 12 serial 6 depth 8\nrefused 49 0\n')
+
+
+def differences(folder):
+    """Where two tables differ, by the thread of the canonical form; exit status 1, as of cmp."""
+    stages = (TOP / 'examples/stages.text').read_text()
+    other = made(folder, 'other.text', ('# one\n# two\n' + stages.replace('alloc 8\n  work\n  work', 'alloc 9\n  work\n  work').replace('free 8\n  end\n\nthread 3', 'free 9\n  end\n\nthread 3')).encode())
+    expect('cmp', call('cmp', 'examples/stages.text', other / 'other.text'), (b'before\nthread 2 of the canonical form: alloc 8 against alloc 9; line 22 and line 24\n', '', 1))
+    expect('cmp', call('cmp', other / 'other.text', 'examples/stages.text'), (b'after\nthread 2 of the canonical form: alloc 9 against alloc 8; line 24 and line 22\n', '', 1))
+    expect('cmp --numbers', call('cmp', '--numbers', 'examples/stages.text', other / 'other.text'), (b'before\n', '', 1))
+    longer = made(folder, 'longer.text', stages.replace('fork 5    #', 'work\n  fork 5    #').encode()) / 'longer.text'
+    expect('cmp', call('cmp', 'examples/stages.text', longer)[0].decode().split('\n')[1], 'thread 3 of the canonical form: fork 5 against work; line 29 and line 29')
+    expect('cmp', call('cmp', 'examples/e.table', CARPET), (b'before\nthread 0 of the canonical form (carpet): fork 1 against alloc 2; action 0 and line 3\n', '', 1))
+    shifted = made(folder, 'shifted.design', CARPET.read_bytes().replace(b'helper * 2', b'helper')) / 'shifted.design'
+    expect('cmp', call('cmp', CARPET, shifted)[0].decode().split('\n')[1], 'thread 1 of the canonical form (row[0]): fork helper[1] against join helper; line 11 and line 11')
+
+
+def remarks():
+    """What is left at the root's end is a remark, and no refusal; what a parent frees is none."""
+    leaves = b'thread 0\n fork 1\n fork 2\n join 2\n join 1\n free %d\n end\nthread 1\n alloc 18\n end\nthread 2\n alloc 1\n end\n'
+    facts = program('tablecheck', program('tableasm', leaves % 1))
+    expect('remark', call('check', '-', data=leaves % 1), (facts, '<stdin>: remark: thread 1 leaves 18 units; thread 2 leaves 1 unit; the root leaves 18 at its end\n', 0))
+    answers(['check', '--numbers', '-'], facts, leaves % 1)
+    answers(['check', '-'], facts, leaves % 19)
+    answers(['check', 'examples/parts.text'], program('tablecheck', program('tableasm', (TOP / 'examples/parts.text').read_bytes())))
+    design = b'a { together { b * 3; c }; free 2 }\nb { alloc 6 }\nc { alloc 1 }\n'
+    expect('remark', call('check', '-', data=design)[1], '<stdin>: remark: b[0] and 2 more like it leave 6 units each; c leaves 1 unit; the root leaves 17 at its end\n')
+    expect('remark', call('check', '-', data=b'a { alloc 3 }\n')[1], '<stdin>: remark: the root leaves 3 at its end\n')
+
+
+def laid_out(folder):
+    """fmt keeps comments and words; what is laid out stays so."""
+    text = b'#top\nthread\t0   # the root\nfork 1 #x\n\n\n\n    # inside\n join 1\n end\n  thread 1\nend\n\n'
+    wanted = b'#top\nthread 0  # the root\n  fork 1  #x\n\n  # inside\n  join 1\n  end\nthread 1\n  end\n'
+    answers(['fmt', '-'], wanted, text)
+    answers(['fmt', '-'], wanted, wanted)
+    expect('one table', call('asm', '-', data=text)[0], call('asm', '-', data=wanted)[0])
+    jobs = b'a{work;;together{b*2\n b};# behind\n\n\n # alone\n alloc 1;free 1}b   {work weave*3;}# end'
+    wanted = b'a {\n  work\n  together {\n    b * 2\n    b\n  }  # behind\n\n  # alone\n  alloc 1\n  free 1\n}\nb { work weave * 3 }  # end\n'
+    answers(['fmt', '-'], wanted, jobs)
+    answers(['fmt', '-'], wanted, wanted)
+    for path in sorted((TOP / 'examples').glob('*.design')):
+        answers(['fmt', path], path.read_bytes())
+    answers(['fmt', '-'], b'thread 0\n  fork 7\n  free 5\n', b' thread 0\nfork 7\n free  5')
+    refuses(['fmt', 'examples/e.table'], 'examples/e.table: no text; `wivakkol dis` writes one of bytes')
+    refuses(['fmt', '-'], '<stdin>:1: expected a } at the end of job a, which begins in line 1', b'a { work')
+
+
 # Usage, reading, writing
 
 def wrong_usage():
     e = 'examples/e.text'
     for given, line in [
-            ([], 'which command? check, asm, dis, quota, limit, turns, fill, run, list, chart, deques, picture, join, canon, cmp (wivakkol help)'),
+            ([], 'which command? check, asm, dis, design, fmt, quota, limit, turns, fill, run, list, chart, deques, picture, join, canon, cmp (wivakkol help)'),
             (['chekc', e], "no command is called 'chekc'; did you mean check? (wivakkol help)"),
             (['List', e], "no command is called 'List'; did you mean list? (wivakkol help)"),
             (['zzz', e], "no command is called 'zzz' (wivakkol help)"),
@@ -337,10 +569,8 @@ def wrong_usage():
             (['run', '-p', '2', e], 'run needs -K K (wivakkol help run)'),
             (['quota', e], 'quota needs -p P and -M M (wivakkol help quota)'),
             (['run', '-p', '2', '-p', '2', '-K', '6', e], '-p is given twice (wivakkol help run)'),
-            (['run', '-p', 'two', '-K', '6', e], "-p takes a number from 0 to 255, not 'two' (wivakkol help run)"),
-            (['run', '-p', '256', '-K', '6', e], "-p takes a number from 0 to 255, not '256' (wivakkol help run)"),
-            (['run', '-p', '2', '-K', '16777216', e], "-K takes a number from 0 to 16777215, not '16777216' (wivakkol help run)"),
-            (['run', '-p', '2', '-K', '-1', e], "-K takes a number from 0 to 16777215, not '-1' (wivakkol help run)"),
+            (['run', '-p', 'two', '-K', '6', e], "-p takes a number from 1 to 16, not 'two' (wivakkol help run)"),
+            (['run', '-p', '2', '-K', '-1', e], "-K takes a number from 1 to 16777215, not '-1' (wivakkol help run)"),
             (['quota', '-p', '2', '-M', str(2 ** 64), e], "-M takes a number from 0 to %d, not '%d' (wivakkol help quota)" % (2 ** 64 - 1, 2 ** 64)),
             (['run', e, '-p'], '-p needs a value, P (wivakkol help run)'),
             (['check', '--numbers=1', e], '--numbers takes no value (wivakkol help check)'),
@@ -348,11 +578,17 @@ def wrong_usage():
             (['list', '-p', '2', '-K', '6', '--order', '0 256', e], "--order takes a number from 0 to 255, not '256' (wivakkol help list)"),
             (['list', '-p', '2', '-K', '6', '--rounds', '65536', e], 'an order of 65536 turns: it has at most 4096 (wivakkol help list)'),
             (['list', '-p', '2', '-K', '6', '--order', '0:1', e], "--order takes a number from 0 to 255, not '0:1' (wivakkol help list)"),
-            (['deques', '-p', '2', '-K', '6', e], 'deques needs --order WORDS (wivakkol help deques)'),
+            (['deques', '-p', '2', '-K', '6', '--rounds', '65536', e], 'an order of 65536 turns: it has at most 2048 (wivakkol help deques)'),
+            (['deques', '-p', '2', '-K', '6', '--order', '0', '--random', '1', e], '--order or --random, not both (wivakkol help deques)'),
+            (['list', '-p', '2', '-K', '6', '--rounds', '--random', '1', e], '--rounds or --random, not both: in rounds there is nothing to draw (wivakkol help list)'),
+            (['deques', '-p', '2', '-K', '6', '--choices', '0', '--random', '1', e], '--choices is for DFDeques in rounds: it takes no --order and no --random (wivakkol help deques)'),
+            (['picture', '-p', '2', '-K', '6', '--choices', '0', e],
+             '--choices is for DFDeques in rounds: it takes no --order and no --random, and picture takes it with --deques (wivakkol help picture)'),
+            (['list', '-p', '2', '-K', '6', '--random', 'x', e], "--random takes a number from 0 to %d, not 'x' (wivakkol help list)" % (2 ** 64 - 1)),
+            (['asm', e, '--map', 'x.map'], '--map: examples/e.text is no design, and has no names (wivakkol help asm)'),
             (['deques', '-p', '2', '-K', '6', '--order', '0:', e], "--order takes a number from 0 to 255, not '' (wivakkol help deques)"),
             (['deques', '-p', '2', '-K', '6', '--order', '0:1:2', e], "--order takes a number from 0 to 255, not '1:2' (wivakkol help deques)"),
             (['deques', '-p', '2', '-K', '6', '--order', '0 ' * 32768, e], 'an order of 32768 turns: it has at most 2048 (wivakkol help deques)'),
-            (['picture', '-p', '2', '-K', '6', '--deques', e], '--deques needs --order WORDS (wivakkol help picture)'),
             (['picture', '-p', '2', '-K', '6', '--deques', '--order', '0', '-b', '1', e],
              '--deques: DFDeques has no b, and takes no -b and no --rule (wivakkol help picture)'),
             (['picture', '-p', '2', '-K', '6', '-b', '1', '--rule', e], '--rule finds b: it takes no -b (wivakkol help picture)'),
@@ -385,7 +621,7 @@ def writing_fails(folder):
     closed = subprocess.run(['bash', '-c', '"$0" check - <&-', str(COMMAND)], stdout=subprocess.PIPE, stderr=subprocess.PIPE)
     expect('standard input closed', (closed.stdout, closed.stderr.decode(), closed.returncode), (b'', 'wivakkol: <stdin>: closed\n', 2))
     kept = made(folder, 'kept', b'as it was') / 'kept'
-    refuses(['asm', 'examples/e.run', '-o', kept], 'examples/e.run: ' + words(2))
+    expect('refused', call('asm', 'examples/e.run', '-o', kept)[2], 1)
     expect('-o of a refusal', kept.read_bytes(), b'as it was')
 
 
@@ -585,9 +821,9 @@ def without_rt(folder):
 
 def main():
     if sys.argv[1:] == ['--write']:
-        return page(True)
+        return pages(True)
     global COMMAND
-    page(False)
+    pages(False)
     help_examples(rows_of_page())
     with tempfile.TemporaryDirectory() as name:
         folder = pathlib.Path(name)
@@ -598,6 +834,13 @@ def main():
         texts_refused(folder)
         lines_of_actions(folder)
         options_refused()
+        designs(folder)
+        designs_refused(folder)
+        maps(folder)
+        orders_drawn()
+        differences(folder)
+        remarks()
+        laid_out(folder)
         words_of_the_reference()
         wrong_usage()
         writing_fails(folder)

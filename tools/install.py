@@ -59,7 +59,8 @@ def files(removes):
     for name, data in dist.items():
         if name.startswith(READY) and not name.endswith('.a'):
             found['libexec/wivakkol/' + name[len(READY):]] = data, EXECUTABLE
-    found['libexec/wivakkol/picture.py'] = (TOP / 'tools/picture.py').read_bytes(), PLAIN
+    for name in ('picture.py', 'design.py', 'explain.py'):
+        found['libexec/wivakkol/' + name] = (TOP / 'tools' / name).read_bytes(), PLAIN
     for name in 'KIT', 'SUMS':
         found['libexec/wivakkol/' + name] = (TOP / 'dist' / name).read_bytes(), PLAIN
     for header in (TOP / 'include').glob('*.h'):

@@ -13,7 +13,8 @@ usage: python3 tools/picture.py [LISTING] [-p P] [-K K] [-b B] [--trace | --rule
 The picture. A turn is a cell: filled where its action was done, hatched at a quota turn, hollow at a wait, a dash where the worker is idle. A pale
 bar from one cell to the next is a worker that holds its thread between two turns. The colour is the thread's number modulo 8; the number itself
 stands in the cells or bars that have room for it, and each cell shows its line of the listing to a pointer that rests on it. A run of more than 256
-turns is cut into bands of 256, from top to bottom. A bound that is far above the curve stands over a break of the scale. Where the run does not keep
+turns is cut into bands of 256, from top to bottom. Where the listing has names behind its turns, as `wivakkol list` writes them of a design, they stand in
+a list below all bands, and a label in the place of `work` where there is room. A bound that is far above the curve stands over a break of the scale. Where the run does not keep
 the rule with b, the bound does not speak of it, which the picture says, with the least b whose rule it keeps.
 """
 import argparse
@@ -22,7 +23,8 @@ import json
 import re
 import sys
 
-Turn = collections.namedtuple('Turn', 'number worker thread action name held line')
+# `called`, `label`: the names of the thread and of its work, where the listing has them, as `wivakkol` writes it of a design
+Turn = collections.namedtuple('Turn', 'number worker thread action name held line called label', defaults=(None, None))
 # `held`: its stretches; `taken`: the turns in which a worker takes a thread with the whole quota
 Run = collections.namedtuple('Run', 'threads actions serial depth turns last deques held taken')
 # a worker on one thread that it holds all the while: its turns, and the first and the last turn during which it holds it
@@ -55,7 +57,8 @@ def pattern(text):
 
 
 HEAD = pattern('table N N serial N depth N')
-TURN = pattern('N N N N (%s) N' % '|'.join(KINDS + ('quota', 'wait')))
+CALLED = r'([A-Za-z_.][A-Za-z0-9_./\[\]-]*)'
+TURN = pattern('N N N N (%s) N' % '|'.join(KINDS + ('quota', 'wait')) + '(?: CALLED(?: CALLED)?)?'.replace('CALLED', CALLED))
 IDLE = pattern('N N - - idle N')
 TOTALS = pattern('(done|open) N peak N')
 REFUSED = pattern('refused N N')
@@ -74,8 +77,8 @@ def turn_in(line):
     """The turn that a line tells of, or None."""
     found = TURN.fullmatch(line)
     if found:
-        number, worker, thread, action, name, held = found.groups()
-        return Turn(int(number), int(worker), int(thread), int(action), name, int(held), line)
+        number, worker, thread, action, name, held, called, label = found.groups()
+        return Turn(int(number), int(worker), int(thread), int(action), name, int(held), line, called, label)
     found = IDLE.fullmatch(line)
     if found:
         number, worker, held = map(int, found.groups())
@@ -325,6 +328,25 @@ BAND, LEFT, RIGHT, TOP, TICKS, GAP = 256, 96, 150, 92, 18, 26
 FAR = 8  # a bound above so many times what else is shown is drawn above a break of the scale
 
 
+def called_threads(run):
+    """The names of the threads, by number, as far as the listing has them."""
+    return {turn.thread: turn.called for turn in sorted(run.turns, key=lambda turn: turn.thread or 0) if turn.called}
+
+
+class Key:
+    """The threads' names, in columns below all bands."""
+
+    def __init__(self, names, width):
+        self.lines = ['%d %s' % pair for pair in names.items()]
+        self.column = 5 * max(map(len, self.lines), default=0) + 18
+        columns = max(1, (width - LEFT) // self.column)
+        self.rows = -(-len(self.lines) // columns)
+        self.height = 13 * self.rows + 8 if self.rows else 0
+
+    def drawn(self, top):
+        return [words(LEFT + i // self.rows * self.column, top + 13 * (i % self.rows), line, 'called small') for i, line in enumerate(self.lines)]
+
+
 class Layout:
     def __init__(self, run, rows, bound):
         turns = len(run.turns)
@@ -336,7 +358,8 @@ class Layout:
         self.bands = max(1, -(-turns // BAND))
         self.width = LEFT + max(self.columns * self.cell, 640) + RIGHT
         self.band = rows * self.row + TICKS + self.curve + GAP
-        self.height = TOP + self.bands * self.band
+        self.key = Key(called_threads(run), self.width)
+        self.height = TOP + self.bands * self.band + self.key.height
         held = max([run.serial, 1] + [turn.held for turn in run.turns])
         self.bound = bound.amount if bound else None
         self.far = bool(bound) and bound.amount > FAR * held
@@ -430,12 +453,17 @@ def cell(layout, turn):
             return out + [words(middle, y + 28, 'idle', 'small', 'middle')]
         ground = [path('ground', box(x + 8, y + 3, 31, layout.row - 6))] if turn.name == 'quota' else []
         return out + ground + [words(middle, y + 15, turn.thread, label_kind(turn.name, turn.thread, 'thread'), 'middle'),
-                               words(middle, y + 28, turn.name, label_kind(turn.name, turn.thread, 'small'), 'middle')]
+                               words(middle, y + 28, shortened(turn.label or turn.name), label_kind(turn.name, turn.thread, 'small'), 'middle')]
     if layout.cell == 22 and turn.thread is not None:
         kind = label_kind(turn.name, turn.thread, 'thread', 'small')
         ground = [path('ground', box(x + 2, y + 3, 17, layout.row - 6))] if turn.name == 'quota' else []
         return out + ground + [words(middle, y + 11, turn.thread, kind, 'middle')]
     return out
+
+
+def shortened(label):
+    """A label as far as it fits into a wide cell."""
+    return label if len(label) <= 9 else label[:8] + '.'
 
 
 def pieces(first, last):
@@ -604,7 +632,7 @@ def picture(run, rows, bound=None):
         out += names(layout, run)
     for band in range(layout.bands):
         out += curve(layout, run, band) + amount_lines(layout, run, band, bound)
-    return '\n'.join(out + peak(layout, run) + ['</svg>']) + '\n'
+    return '\n'.join(out + peak(layout, run) + layout.key.drawn(TOP + layout.bands * layout.band) + ['</svg>']) + '\n'
 
 
 # The trace
@@ -613,13 +641,14 @@ TICK = 1000  # a turn's length in the trace, in microseconds
 
 
 def slices(run):
-    """A slice for each stretch of a worker on a thread, and inside it one for each turn."""
+    """A slice for each stretch of a worker on a thread, and inside it one for each turn, by their names where the listing has them."""
+    called = called_threads(run)
     for stretch in run.held:
         yield {'ph': 'X', 'pid': 1, 'tid': stretch.worker, 'ts': (stretch.since - 1) * TICK, 'dur': (stretch.until - stretch.since + 1) * TICK,
-               'name': 'thread %d' % stretch.thread, 'cat': 'thread'}
+               'name': called.get(stretch.thread, 'thread %d' % stretch.thread), 'cat': 'thread'}
     for turn in run.turns:
         told = {} if turn.thread is None else {'thread': turn.thread, 'action': turn.action}
-        yield {'ph': 'X', 'pid': 1, 'tid': turn.worker, 'ts': (turn.number - 1) * TICK, 'dur': TICK, 'name': turn.name, 'cat': 'turn',
+        yield {'ph': 'X', 'pid': 1, 'tid': turn.worker, 'ts': (turn.number - 1) * TICK, 'dur': TICK, 'name': turn.label or turn.name, 'cat': 'turn',
                'args': {'turn': turn.number, **told, 'held': turn.held}}
 
 
