@@ -1,7 +1,7 @@
 -- How many turns at most (N8), over every list of calls from a beginning: turns that are not idle, and runs in rounds that finish.
 --
 -- What it cites, in crates/schedule/specs: `begin` (Begin) answers with the record of an accepted beginning; `rowOfCalls` (Calls) is the row of turns of a list of calls; `replies`
--- (Memory) are the replies of a row; `notIdle` (Most) counts those that aren't idle; `roundsRun` (Runs) is a run in rounds; `turnsOf` (crates/order/specs/Turns) is m + A + J.
+-- (Memory) are the replies of a row; `notIdle` (Most) counts those that aren't idle; `turnsOf` (Most) is m + A + J; `roundsRun` (Runs) is a run in rounds.
 use mathlib.Core.Path.{_≡_, refl, ap}
 use Prim.Native.Nat.{ℕ, zero, suc, _+_, _*_, _^_, _≤_, _<_}
 use native.Mathlib.Nat.{mul-le-mul, mul-le-mul-left, one-mul}
