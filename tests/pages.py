@@ -1,7 +1,7 @@
 """Holds the pages against the tree: every file that they name is there, every link leads to a page and a heading of it, and every name in
 backticks stands somewhere in the code, the definitions, the proofs or the scripts; a name with hyphens is a law's, and is stated somewhere; what is
-named with its file is in that file. The lists of public functions and of the calls from C are complete, and refusals stand in the order of the
-checks as the definitions have it. The notes are left out: they are as of their landing.
+named with its file is in that file. DEMAND3.md has every definition that the statement rests on, but for what it lets a reader skip. The lists of
+public functions and of the calls from C are complete, and refusals stand in the order of the checks as the definitions have it. The notes are left out: they are as of their landing.
 
 usage: python3 tests/pages.py    (from the repository's top)
 """
@@ -107,6 +107,42 @@ def misplaced(text):
             for name in re.findall(r'`([^`]+)`', names):
                 if not pathlib.Path(path).exists() or name not in defined(path):
                     yield '%s in %s' % (name, path)
+
+
+# ---- what demand 3 rests on
+
+# what a reader of demand 3 may skip, as its page says: whole files, and definitions
+SKIPPED = {'schedule/specs/Sound', 'schedule/specs/Links', 'filling/specs/Filled', 'table/specs/Pass', 'passes', 'settingPasses', 'beginPasses', 'isBlank', 'linksIn', 'listIn', 'passedIn', 'passedBy'}
+NAME = r"[A-Za-z][\w']*(?:-[\w']+)*"
+
+
+def stated(text):
+    """The definitions of a file, each with its text, and what it takes from other files' definitions."""
+    text = re.sub(r'--.*', '', re.sub(r'^ *--.*\n', '', text, flags=re.M))
+    found = [(re.search(r'^(?:abbrev |unfoldable )?(?:pub )?(?:record |data )?(%s).* :' % NAME, part, re.M), part) for part in re.split(r'\n\s*\n', text)]
+    taken = {}
+    for crate, path, names in re.findall(r'use Rattle·(\w+)(?:·\w+)?\.(specs[\w.]*)\.\{([^}]*)\}', text):
+        for name, _, known in (part.strip().partition(' as ') for part in names.split(',')):
+            taken[known or name] = ('%s/%s' % (crate, path.replace('.', '/')), name)
+    return {match.group(1): part for match, part in found if match}, taken
+
+
+def unread(text):
+    """Definitions that demand 3's statement rests on and that its page neither lists nor skips."""
+    files = {'/'.join(path.parts[1:])[:-5]: stated(read(path)) for path in pathlib.Path('crates').glob('*/specs/**/*.antt')}
+    own, taken = stated(read('crates/bounds/proofs/Limit.antt'))
+    statement = own['MemoryLimit'] + own['memory-limit'].partition('\nmemory-limit ')[0]
+    todo, seen, listed = [taken[word] for word in re.findall(NAME, statement) if word in taken], set(), set(re.findall(r'`([^`]+)`', text))
+    assert len(todo) > 10
+    while todo:
+        module, name = todo.pop()
+        if (module, name) in seen or module in SKIPPED or name in SKIPPED or name not in files.get(module, [{}])[0]:
+            continue
+        seen.add((module, name))
+        own, taken = files[module]
+        todo += [(module, word) if word in own else taken[word] for word in re.findall(NAME, own[name]) if word in own or word in taken]
+        if name not in listed:
+            yield '%s of crates/%s.antt' % (name, module)
 
 
 # ---- lists that are complete
@@ -231,6 +267,7 @@ def main():
         for sort, found in (('file', missing_files(text)), ('link', missing_links(page, text)), ('name', missing_names(text, words)), ('law', unstated(text)),
                             ('definition there', elsewhere_defined(text)), ('definition there', misplaced(text))):
             faults += ['%s: no such %s: %s' % (page, sort, what) for what in found]
+    faults += ['docs/DEMAND3.md does not have %s' % what for what in unread(read('docs/DEMAND3.md'))]
     faults += ['docs/PROOFS.md, public functions: %s' % what for what in functions_missing(read('docs/PROOFS.md'))]
     faults += ['docs/C-AND-RUST.md does not have %s' % what for what in calls_missing(read('docs/C-AND-RUST.md'))]
     faults += orders_wrong()
