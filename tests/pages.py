@@ -3,7 +3,8 @@ backticks stands somewhere in the code, the definitions, the proofs or the scrip
 named with its file is in that file. DEMAND3.md has every definition that the statement rests on, but for what it lets a reader skip. The lists of
 public functions and of the calls from C are complete, and refusals stand in the order of the checks as the definitions have it. The notes are left out: they are as of their landing.
 
-usage: python3 tests/pages.py    (from the repository's top)
+usage: python3 tests/pages.py                 (from the repository's top)
+       python3 tests/pages.py --functions     (prints the rows of PROOFS.md's table of public functions, as the sources have them)
 """
 import functools
 import itertools
@@ -161,6 +162,12 @@ def public_functions():
     return found
 
 
+def function_rows():
+    crates = re.findall(r'^(\w+):', read('crates.txt'), re.M)
+    for crate, functions in sorted(public_functions().items(), key=lambda pair: crates.index(pair[0])):
+        print('| `%s` | %s |' % (crate, ', '.join('`%s`' % name for name in functions)))
+
+
 def functions_missing(text):
     """The table of every public function on the page, and what it says of them."""
     functions = public_functions()
@@ -169,6 +176,9 @@ def functions_missing(text):
     for crate in sorted({*functions, *listed}):
         for name in sorted({*functions.get(crate, {})} ^ {*listed.get(crate, [])}):
             yield '%s::%s is %s' % (crate, name, 'not listed' if name in functions.get(crate, {}) else 'listed and not there')
+    count = int(re.search(r'^What one crate can call of another, (\d+) functions', text, re.M).group(1))
+    if count != sum(map(len, functions.values())):
+        yield '%d in all, not %d' % (sum(map(len, functions.values())), count)
     inner = set(re.findall(r'`(\w+::\w+)`', re.search(r'`specs/Code/`[^.]*;([^.]*)\.', text).group(1)))
     for crate, name in [(crate, name) for crate in functions for name in functions[crate]]:
         contract, file = functions[crate][name]
@@ -279,4 +289,4 @@ def main():
 
 
 if __name__ == '__main__':
-    main()
+    function_rows() if '--functions' in sys.argv else main()
