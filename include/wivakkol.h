@@ -57,7 +57,7 @@ extern "C" {
 #define WIVAKKOL_REFUSED_FILLING 44      /* the filled-out table would pass 1,024 threads or 8,192 actions */
 #define WIVAKKOL_REFUSED_ROOM 61         /* the buffer lent for the filled-out table is too small */
 
-/* A refusal in words, for whoever prints one: of every number that a call of the three headers returns, of 0 that nothing is refused. No two numbers have the same words; a number that no call
+/* A refusal in words, for whoever prints one: of every number that a call of the six headers returns, of 0 that nothing is refused. No two numbers have the same words; a number that no call
  * returns has its own. */
 static inline const char *wivakkol_refusal_words(uint32_t number)
 {

@@ -24,8 +24,8 @@ extern "C" {
  * the deque's threads from the top to the bottom. Its second list (WIVAKKOL_AT_UNDER, _OVER, _FIRST) has the bottoms: the last thread of each line. A line ends with a bottom, and its
  * deque has an owner exactly where its first thread is held: the worker that holds it. A thread that waits stands in neither list. */
 
-/* The row of wivakkol_deque_turn is that of wivakkol_turn: WIVAKKOL_SAID, WIVAKKOL_THREAD and WIVAKKOL_VALUE after the place. WIVAKKOL_PASSED is 0 here. Idle is said where there is no deque at the
- * place chosen, or it has no thread but its owner's. */
+/* The row of wivakkol_deque_turn is that of wivakkol_turn: WIVAKKOL_SAID, WIVAKKOL_THREAD and WIVAKKOL_VALUE after the place. WIVAKKOL_PASSED is 0 here. In a sound run
+ * idle is said where there is no deque at the place chosen, or it has no thread but its owner's. */
 #define WIVAKKOL_DEQUE_TURN_ROW 5
 
 /* The row of wivakkol_deque_list is that of wivakkol_list: WIVAKKOL_SAID and WIVAKKOL_TAKEN after the place. */

@@ -1,5 +1,6 @@
 /* Marks to come back to, from C: up to eight runs kept beside a run, each of them that run as it once was. Archive libwivakkol_marks.a (rt staticlib wivakkol_marks), which a board without marks needs
- * none of. What wivakkol.h asks of its callers holds here too. Its answers are proved as those of wivakkol.h are (crates/wivakkol_marks/src/ has the promises). A call takes under 8 KB of stack.
+ * none of. What wivakkol.h asks of its callers holds here too. Its answers are proved as those of wivakkol.h are (crates/wivakkol_marks/src/ has the promises), and that this header says the same as
+ * that source is tested (tests/marks_calls.py). A call takes under 8 KB of stack.
  *
  * The other calls take no marks and leave them as they are. wivakkol_mark and wivakkol_back test the run and every set mark as wivakkol_open tests a run, also the mark that is to be replaced; in a
  * mark any number but 0 says that a worker holds a thread, and it comes back as 1. So they take up to ten times as long as an opening (docs/C-AND-RUST.md has what was measured). They have no row: the

@@ -5,6 +5,7 @@ usage: python3 tests/board.py [COUNT]
     From the repository's top, after `rt staticlib wivakkol_turn` and `rt staticlib wivakkol`; COUNT tables and half as many runs of each kind, default 3,000; needs a C compiler, `cc`.
 """
 import collections
+import math
 import os
 import pathlib
 import random
@@ -63,7 +64,7 @@ def exported(crate, numbers=BYTES):
     """The exported functions of a crate's source: of each its parameters as (name, C type, array size), where a slice is a pointer and its number of bytes, whose name is in `numbers`."""
     calls = {}
     for path in sorted(pathlib.Path('crates/%s/src' % crate).glob('*.rt')):
-        for name, text, result in re.findall(r'pub extern "C" fn (\w+)\(([^)]*)\) -> (\w+)', path.read_text()):
+        for name, text, result in re.findall(r'pub extern "C" fn (\w+)\(([^)]*)\)(?: -> (\w+))?', path.read_text()):
             calls[name] = [('', c_type(result), None)]
             for parameter in filter(None, map(str.strip, text.split(','))):
                 variable, kind = parameter.split(': ')
@@ -78,7 +79,7 @@ def exported(crate, numbers=BYTES):
 
 
 def c_type(rattle):
-    return 'uint%s_t' % re.fullmatch(r'u(8|16|32|64)', rattle).group(1)
+    return 'uint%s_t' % re.fullmatch(r'u(8|16|32|64)', rattle).group(1) if rattle else 'void'
 
 
 def header(*names):
@@ -91,8 +92,8 @@ def header(*names):
 
 def declared(text):
     """A parameter or field of the header as (name, type, array size)."""
-    kind, star, name, size = re.fullmatch(r'((?:const )?\w+) (\*?)(\w+)(?:\[(\d+)\])?', ' '.join(text.split())).groups()
-    return name, kind, '*' if star else int(size) if size else None
+    kind, star, name, size = re.fullmatch(r'((?:const )?\w+) (\*?)(\w+)(?:\[(\d+(?: \* \d+)*)\])?', ' '.join(text.split())).groups()
+    return name, kind, '*' if star else math.prod(map(int, size.split(' * '))) if size else None
 
 
 def prototypes_of(text):
@@ -216,11 +217,35 @@ def inline_on_table(text, call, struct, result, parameters, places):
     hands_over(call, inline, result, parameters, places)
 
 
+def structs_hand_over(text, call, exported_as, places):
+    """A call for several structs: it has the exported one's parameters but for what stands in them, by `places`, and hands these over in its order, each with the type and size of its field; a
+    struct is const where nothing of it is written."""
+    kind, taken, given = re.search(r'static inline (\w+) %s\(([^)]*)\)\s*\{\s*(?:return )?%s_on\(([^)]*)\);\s*\}' % (call, call), text).groups()
+    structs = {name: (const, struct) for const, struct, name in re.findall(r'(const )?wivakkol_(\w+) \*(\w+)', taken)}
+    (result, *parameters), own = exported_as, ', '.join(x for x in taken.split(',') if 'wivakkol_' not in x)
+    hands_over(call, (kind, own, given), result, parameters, places)
+    written = set()
+    for name, kind, size in parameters:
+        if name in places:
+            struct, _, path = places[name].partition('->')
+            assert field_at(text, structs[struct][1], path) == (kind.replace('const ', ''), size), '%s: %s is no %s' % (call, name, places[name])
+            written.update([] if kind.startswith('const ') else [struct])
+    assert {name for name, (const, _) in structs.items() if not const} == written, '%s: what is written of its structs' % call
+    assert set(structs) == {places[name].partition('->')[0] for name, _, _ in parameters if name in places}, '%s: a struct of which nothing is handed over' % call
+
+
+def field_at(text, struct, path):
+    """Type and size of a field, of a struct inside the struct as well."""
+    name, _, rest = path.partition('.')
+    kind, size = {name: (kind, size) for name, kind, size in fields(text, struct)}[name]
+    return field_at(text, kind.removeprefix('wivakkol_'), rest) if rest else (kind, size)
+
+
 def hands_over(call, inline, result, parameters, places):
     """An inline call's result, parameters, the row last, and what it gives the exported one, which has `result` and `parameters`."""
     kind, taken, given = inline
     wanted = sorted((x for x in parameters if x[0] not in places), key=lambda x: x[0] == 'row')
-    assert [('', kind, None), *map(declared, taken.split(','))] == [result] + wanted, '%s has other parameters' % call
+    assert [('', kind, None), *map(declared, filter(None, taken.split(',')))] == [result] + wanted, '%s has other parameters' % call
     wanted = [places.get(name, name) for name, _, _ in parameters]
     assert [' '.join(x.split()) for x in given.split(',')] == wanted, '%s hands its parameters, blocks and parts over in another order' % call
 

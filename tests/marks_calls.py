@@ -1,5 +1,5 @@
 """Holds the calls of libwivakkol_marks.a against a model over lent.py: on runs and marks that are set, replaced, gone back to and damaged. Answers, every byte of the run and of the marks, cleared
-working memory, and the stack that a call uses (under 8 KB).
+working memory, and the stack that a call uses (under 8 KB); the header with the source.
 
 Usage: marks_calls.py [COUNT]; wants target/staticlib/libwivakkol_marks.a and libwivakkol.a (rt staticlib).
 """
@@ -11,6 +11,7 @@ import subprocess
 import sys
 import tempfile
 
+import board
 import lent
 from differential import beginning, order, run_table
 from lent import BLOCKS, COUNTS, FIELDS, OFFSETS
@@ -182,7 +183,23 @@ def drawn_play(rng):
 WANTED = ['mark 0', 'mark 32', 'mark 45', 'back 0', 'back 32', 'back 45', 'back 46', 'set', 'set anew', 'set blank', 'set sound', 'back blank', 'back sound', 'back over turns', 'back to the same']
 
 
+def header_is_source():
+    """Names, order, types, const and sizes of the exported calls are those of the source, and the inline ones hand over the run, the marks and the working memory by their names."""
+    source, text = board.exported('wivakkol_marks'), board.header('wivakkol.h', 'wivakkol_marks.h')
+    others = board.prototypes_of(board.header())
+    board.same_prototypes({name: said for name, said in board.prototypes_of(text).items() if name not in others}, source)
+    places = {before + block: '%s->%s' % (struct, block) for before, struct in (('', 'run'), ('mark', 'marks')) for block in COUNTS}
+    places.update(set='marks->set', **{'spare' + block: 'work->run.' + block for block in COUNTS})
+    places.update((name, 'work->' + name) for name, kind, _ in board.fields(text, 'marks_work') if kind.startswith('uint'))
+    places.update((board.WORK_NAMES.get(name, name), 'work->work.' + name) for name, _, _ in board.fields(text, 'work'))
+    for call in ('mark', 'back', 'unmark'):
+        board.structs_hand_over(text, 'wivakkol_' + call, source['wivakkol_%s_on' % call], places)
+    assert len(source) == 3
+
+
 def main():
+    header_is_source()
+    board.header_for_cpp('wivakkol_marks.h')
     rng = random.Random(11)
     count = int(sys.argv[1]) if len(sys.argv) > 1 else 150
     plays = [worked(rng)] + [drawn_play(rng) for _ in range(count)]

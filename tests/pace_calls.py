@@ -1,5 +1,5 @@
 """Holds the calls of libwivakkol_pace.a against a model over lent.py: paced turns, lists and rounds, refused ones included, openings of a pace, turns counted and none refused, on runs and paces as they
-are begun and on damaged ones. Answers, rows, who may go on, the least b kept, every byte of the run and of the pace, and the stack that a paced call uses.
+are begun and on damaged ones. Answers, rows, who may go on, the least b kept, every byte of the run and of the pace, and the stack that a paced call uses; the header with the source.
 
 The model (pace.py) works on the pace's numbers as specs/Pace has them. Where a pace was begun and not damaged, it is held against the rule itself by brute force: every stretch of the row after a turn of a
 worker, up to its next, counted (document 01, "b"): a worker may have a turn exactly where the row with it keeps b, somebody always may, and the least b kept is the row's.
@@ -14,6 +14,7 @@ import subprocess
 import sys
 import tempfile
 
+import board
 import lent
 from differential import beginning, order, run_table
 from lent import FINISHED, NO_ROW, SPENT
@@ -166,7 +167,20 @@ WANTED = ['pace 0', 'pace 20', 'pace 41', 'took 0', 'took 30', 'turn 0', 'turn 3
           'rounds 60', 'list stopped after turns', 'rounds stopped after turns', 'by brute force']
 
 
+def header_is_source():
+    """Names, order, types, const and sizes of the exported calls are those of the source, and the inline ones hand over the run and the pace by their names."""
+    source, text = board.exported('wivakkol_pace'), board.header('wivakkol.h', 'wivakkol_pace.h')
+    others = board.prototypes_of(board.header())
+    board.same_prototypes({name: said for name, said in board.prototypes_of(text).items() if name not in others}, source)
+    places = {'pace': 'pace->numbers', **{block: 'run->' + block for block in lent.COUNTS}}
+    for call in ('pace_begin', 'may', 'kept', 'took', 'paced_turn', 'paced_list', 'paced_rounds'):
+        board.structs_hand_over(text, 'wivakkol_' + call, source['wivakkol_%s_on' % call], places)
+    assert len(source) == 7
+
+
 def main():
+    header_is_source()
+    board.header_for_cpp('wivakkol_pace.h')
     rng = random.Random(39)
     count = int(sys.argv[1]) if len(sys.argv) > 1 else 300
     plays = [worked(rng)] + [drawn_play(rng) for _ in range(count)]

@@ -26,7 +26,7 @@ use Rattle.assembly.specs.declared.Assembling.the-variants.{Answered, Sh
 
 -- ---- well-formed texts
 
--- after n threads and m actions, one line more: "Threads stand in order from 0 without gap", and an action stands in a thread
+-- after n threads and m actions, one line more: threads stand in order from 0 without a gap, and an action stands in a thread
 abbrev pub countedBy : Said → ℕ → ℕ → Counting
 countedBy Nothing n m = Counted n m
 countedBy (Thread t) n m = pick (eqb t n) (Counted (n + 1) m) (Stopped (NextThread n))
@@ -48,7 +48,7 @@ checked l = checkedFrom 1 0 0 l
 
 -- ---- the table's bytes
 
--- two numbers of 16 bits, little-endian: "threads n (16 bits), actions m (16 bits)", and "the thread's first action (16 bits), its count of actions (16 bits)"
+-- two numbers of 16 bits, little-endian: n and m, and "the thread's first action (16 bits), its count of actions (16 bits)"
 abbrev pub pairRow : ℕ → ℕ → List ℕ
 pairRow a b = a % 256 ∷ a / 256 % 256 ∷ b % 256 ∷ b / 256 % 256 ∷ []
 
@@ -122,7 +122,7 @@ unfoldable pub lineThat : (Said → Bool) → ℕ → ℕ → List Said → ℕ
 lineThat p line k [] = 0
 lineThat p line k (x ∷ l) = pick (p x && eqb k 0) line (lineThat p (suc line) (leftAfter (p x) k) l)
 
--- "for 4 and 11 the `thread` line"
+-- for 4 and 11 the `thread` line
 abbrev pub namesThread : ℕ → Bool
 namesThread number = eqb number 4 || eqb number 11
 

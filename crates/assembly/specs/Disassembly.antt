@@ -37,7 +37,7 @@ actionTexts unknown x = []
 abbrev pub numberTexts : ℕ → List (List ℕ)
 numberTexts a = ascii " # action " ∷ decimal a ∷ newline ∷ []
 
--- "alloc 6 # action 5"
+-- `alloc 6 # action 5`
 abbrev pub lineTexts : Table → ℕ → List (List ℕ)
 lineTexts T a = actionTexts (kindOf (T .code a)) (T .argument a) ++ numberTexts a
 

@@ -20,23 +20,23 @@ use Rattle.deque_limit.specs.declared.Bounds.{Bounds}
 use Rattle.deque_limit.specs.declared.ChoiceLimits.{ChoiceLimits}
 use Rattle.deque_limit.specs.declared.ChoiceLimits.the-variants.{Given, Refused}
 
--- "for c 1 where no alloc is above K the lesser of it and S1 + K·(N − 1)"
+-- for choices 0: the peak of two workers, and where no alloc is above K the lesser of it and S1 + K·(N − 1)
 unfoldable pub nearLimit : Table → ℕ → ℕ
 nearLimit T K = pick (anyBelow (big T K) (T .actions)) (peakAt T 0 1) (min (peakAt T 0 1) (S1 T + K * (N T - 1)))
 
--- "X for choices below c, peakAt 0 c"
+-- for choices below c: the peak of c + 1 workers, for c 1 the number above
 unfoldable pub choiceLimit : Table → ℕ → ℕ → ℕ
 choiceLimit T K c = pick (eqb c 1) (nearLimit T K) (peakAt T 0 c)
 
--- "Y what X is for c 1"
+-- the two numbers: for choices below c, and for choices 0
 unfoldable pub boundsOf : Table → ℕ → ℕ → Bounds
 boundsOf T K c = record { memory = choiceLimit T K c; near = nearLimit T K }
 
--- 49: "c outside 1 to p"
+-- 49: c outside 1 to p
 abbrev pub choicesCheck : ℕ → ℕ → Check
 choicesCheck p c = record { number = 49; applies = λ i. outside 1 p c }
 
--- "refusals .. in this order: .. 1 to 11, 20, 49 (c outside 1 to p), 21, 44"
+-- the checks in their order: 1 to 11, 20, 49, 21, 44
 abbrev pub choicePasses : List ℕ → ℕ → ℕ → ℕ → List Pass
 choicePasses s p K c = passes s ++ (settings (workersCheck p ∷ choicesCheck p c ∷ quotaCheck K ∷ []) ∷ fillPass (tableOf s) K ∷ [])
 
@@ -44,7 +44,7 @@ abbrev pub choicesAs : Found → Bounds → ChoiceLimits
 choicesAs Nothing x = Given x
 choicesAs (At r) x = Refused r
 
--- "of the table that runs": filled out for K
+-- of the table that runs, filled out for K
 unfoldable pub choiceLimits : List ℕ → ℕ → ℕ → ℕ → ChoiceLimits
 choiceLimits s p K c = choicesAs (firstFound (choicePasses s p K c)) (boundsOf (tableOf (filledOut s K)) K c)
 

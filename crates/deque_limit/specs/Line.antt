@@ -14,11 +14,11 @@ use Rattle.deque_limit.specs.declared.ChoiceLimits.{ChoiceLimits}
 use Rattle.deque_limit.specs.declared.ChoiceLimits.the-variants.{Given, Refused}
 use Rattle.deque_limit.specs.ChoiceLimit.{choiceLimits}
 
--- "the bytes of `runrounds`, whose last number c is the greatest choice + 1 that will be given": p 1 byte, K 3, c 4, a table; "33 (under 8 bytes)"
+-- the bytes of `runrounds` with c for L, 1 and the greatest choice that will be given: p 1 byte, K 3, c 4, a table; under 8 bytes 33
 unfoldable pub choicesTo : List ℕ → ChoiceLimits
 choicesTo s = pick (ltb (length s) 8) (Refused (refusal 33 0)) (choiceLimits (drop 8 s) (workersIn s) (u24At s 1) (u32At s 4))
 
--- "prints `memory X near Y`"
+-- `memory X near Y`
 unfoldable pub boundsLine : Bounds → List ℕ
 boundsLine x = ascii "memory " ++ decimal (x .memory) ++ ascii " near " ++ decimal (x .near) ++ newline
 

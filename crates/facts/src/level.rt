@@ -1,5 +1,6 @@
 // The depth D: a thread's end level, given its start level, and the walk over its actions call each other.
 use table::kinds::FORK;
+use table::kinds::JOIN;
 use table::read::argument_in;
 use table::read::body_of;
 use table::read::code_in;
@@ -65,7 +66,7 @@ fn next_level(k: u8, x: usize, last: usize, ends: &[usize; 1024]) -> usize
     requires { ⌜ (last < 8192) × (k ≡ 5 → (x < 1024) × (getD (now ends) x 0 ≤ 8192)) ⌝ }
     ensures { λ r. ⌜ r ≡ nextLevel (kindOf k) x last (now (ends .entry)) ⌝ }
 {
-    if k != 5 {
+    if k != JOIN {
         return last + 1;
     }
     let end = ends[x];

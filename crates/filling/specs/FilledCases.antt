@@ -27,7 +27,7 @@ pub E-filled : filledOut E 5
 unfolding entryRows actionRows tableRows written flatten kindOf codeOf is tableOf serialWithin anyBelow allocOf big dummies newThreads treeOf sumBefore rootOf filledFrom oldBodies treesAlong filledBodies filledOut
 E-filled = refl
 
--- "n 9, m 34, S1 6, D 17, N 4"
+-- n 9, m 34, S1 6, D 17, N 4
 pub E-filled-values : valuesOf (loaded (filledOut E 5)) ≡ accepted (filledOut E 5) 9 34 6 17 4 .values
 unfolding entryRows actionRows tableRows written flatten big dummies newThreads treeOf sumBefore rootOf filledFrom oldBodies treesAlong filledBodies filledOut loaded factsOf sumTo sumOver greatest anyBelow codeOf kindOf is tableOf tryAt tryFrom tryPass firstFound entryWrong totalWrong ownerBelow kindUnknown argumentWrong endMisplaced forkedBelow forkedBefore openBefore joinNotLatest endWithOpen neverForked allocOf freeOf wholeWithin balance balanceBelow0 passes serialWithin fronts heldAfter peakOf S1 forkBelow forkOf beforeIt joinedEnd dependsOn levelWithin D greatestTo nestWithin N
 E-filled-values = refl
@@ -74,7 +74,7 @@ two400-full = refl
 abbrev pub one : ℕ → List ℕ
 one x = written ((act 2 x ∷ act 0 0 ∷ []) ∷ [])
 
--- "K 1: alloc 512, end: n 1,024, m 3,583; 513: 44 at 0"
+-- K 1: alloc 512, end: n 1,024, m 3,583; 513: 44 at 0
 pub most-full : tryPass (fillPass (tableOf (one 513)) 1) ≡ At (refusal 44 0)
 unfolding entryRows actionRows tableRows written flatten kindOf codeOf is tableOf sumTo allocOf big dummies newThreads newActions overfull tryPass tryFrom tryAt
 most-full = refl

@@ -22,7 +22,7 @@ bytesOf width x =
     (x % 256 ∷ x / 256 % 256 ∷ x / 65536 % 256 ∷ x / 16777216 % 256
     ∷ x / 4294967296 % 256 ∷ x / 1099511627776 % 256 ∷ x / 281474976710656 % 256 ∷ x / 72057594037927936 % 256 ∷ [])
 
--- "p (1 byte), K (3 bytes), the order's length (2 bytes), the order (a worker per byte)"; "p (1 byte), K (3 bytes), L (4 bytes)"; "p (1 byte), b (4 bytes), M (8 bytes)"
+-- "p (1 byte), K (3 bytes), the order's length (2 bytes), the order (a worker per byte)"; p, K and L in 1, 3 and 4 bytes; p, b and M in 1, 4 and 8
 unfoldable pub frontTexts : Front → List (List ℕ)
 frontTexts nothing = []
 frontTexts (workers p) = []

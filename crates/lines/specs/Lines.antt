@@ -87,7 +87,7 @@ textsOf l = linesThen (l .lines) (lastTexts (l .last))
 
 -- ---- the line of a run in rounds
 
--- "finished TURNS peak PEAK held HELD", "spent TURNS peak PEAK held HELD", or the refusal's line
+-- `finished TURNS peak PEAK held HELD`, `spent TURNS peak PEAK held HELD`, or the refusal's line
 unfoldable pub reportTexts : Report → Run → List (List ℕ)
 reportTexts (Finished k) r = totalsTexts finishedWord k (r .highest) ++ (heldWord ∷ decimal (r .held) ∷ newline ∷ [])
 reportTexts (Spent k) r = totalsTexts spentWord k (r .highest) ++ (heldWord ∷ decimal (r .held) ∷ newline ∷ [])

@@ -32,6 +32,6 @@ lawful s r =
       few-actions = z .actions-high;
     }
 
--- no alloc is above the quota: check 22
+-- no alloc is above the quota: what check 22 asked, before N6
 abbrev pub Within : Table → ℕ → Type 0
 Within T K = (a : ℕ) → a < T .actions → allocOf T a ≤ K

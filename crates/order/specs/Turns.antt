@@ -7,6 +7,6 @@ use Rattle.order.specs.Words.{countBelow}
 abbrev pub ofKind : Table → Kind → ℕ
 ofKind T k = countBelow (λ a. is k (kind T a)) (T .actions)
 
--- "m the number of actions, A of allocs and J of joins": m + A + J
+-- "Let m be the number of actions, A of allocs and J of joins": m + A + J
 unfoldable pub turnsOf : Table → ℕ
 turnsOf T = T .actions + ofKind T alloc + ofKind T join

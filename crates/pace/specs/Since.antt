@@ -10,7 +10,7 @@ unfoldable pub sinceLatest : ℕ → ℕ → List ℕ → ℕ
 sinceLatest x w [] = 0
 sinceLatest x w (v ∷ row) = pick (eqb (sinceLatest x w row) 0) (pick (eqb v x) (1 + countIn w row) 0) (sinceLatest x w row)
 
--- "each other worker": the same, and 0 of a worker and itself
+-- the same of another worker, and 0 of a worker and itself
 unfoldable pub askedOf : ℕ → ℕ → List ℕ → ℕ
 askedOf x w row = pick (eqb x w) 0 (sinceLatest x w row)
 

@@ -36,7 +36,7 @@ covered T K = leb (stretch T K) K
 
 -- ---- resting places
 
--- "a thread's first action, right after a fork, at a join, after its end" (past a thread's end the next thread begins)
+-- before a thread's first action, right after a fork, at a join, after its end (past a thread's end the next thread begins)
 unfoldable pub rests : Table → ℕ → Bool
 rests T a = stretchBegins T a || is join (kind T a)
 
@@ -54,7 +54,7 @@ unfoldable pub rise : Table → ℕ → ℕ → ℕ
 rise T t k =
     (ownTo T (allocOf T) t k + ownTo T (freeOf T) t (rested T t k)) - (ownTo T (allocOf T) t (rested T t k) + ownTo T (freeOf T) t k)
 
--- "R the greatest, over a resting place and any position from it up to the next one, the arrival at a join left out, of the thread's own allocs less frees between" (0 at least)
+-- R: the most by which a thread's own allocs less frees rise from a resting place on, short of the next one, the arrival at a join left out; 0 at least
 unfoldable pub R : Table → ℕ
 R T = greatestTo (λ t. greatestTo (rise T t) (suc (T .count t))) (T .threads)
 
@@ -62,7 +62,7 @@ R T = greatestTo (λ t. greatestTo (rise T t) (suc (T .count t))) (T .threads)
 unfoldable pub restingPeak : Table → ℕ → ℕ
 restingPeak T p = peakOn T (rests T) 0 (p - 1) + p * R T
 
--- "the least of demand 3's limit (b ≥ 1; b 0: nobody keeps any), S_p, and this where it applies"
+-- the least of demand 3's limit (b at least 1; with b 0 nobody keeps any, and it is left out), S_p and, where K covers every stretch, the peak over resting places
 unfoldable pub usefulLimit : Table → ℕ → ℕ → ℕ → ℕ
 usefulLimit T p K b =
     min (workersPeak T p) (min (pick (eqb b 0) (workersPeak T p) (limit T p K b)) (pick (covered T K) (restingPeak T p) (workersPeak T p)))

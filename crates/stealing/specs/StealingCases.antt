@@ -1,4 +1,4 @@
--- The listing of E (plan 1.6) on arrays: three threads, so arrays of three places.
+-- The first listing of E by DFDeques (docs/REFERENCE.md) on arrays: three threads, so arrays of three places.
 use mathlib.Core.Path.{_≡_, refl}
 use Prim.Native.Nat.{ℕ}
 use mathlib.Core.List.{List, [], _∷_}

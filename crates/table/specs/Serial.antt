@@ -33,7 +33,7 @@ unfoldable pub fronts : List ℕ → List (List ℕ)
 fronts [] = [] ∷ []
 fronts (x ∷ l) = [] ∷ map (x ∷_) (fronts l)
 
--- "the amount held": what the allocs drew less what the frees gave back. No front part of an accepted table's serial order frees more than it drew
+-- the "amount held": what the allocs drew less what the frees gave back. No front part of an accepted table's serial order frees more than it drew
 -- (`serial-held`, proofs/Peaks), and the empty one holds 0, so a difference cut off at 0 is the amount.
 unfoldable pub heldAfter : Table → List ℕ → ℕ
 heldAfter T l = sumOver (allocOf T) l - sumOver (freeOf T) l

@@ -16,7 +16,7 @@ pairRow a b = a % 256 ∷ a / 256 ∷ b % 256 ∷ b / 256 ∷ []
 abbrev pub actionRow : Action → List ℕ
 actionRow a = a .code ∷ a .argument % 256 ∷ a .argument / 256 % 256 ∷ a .argument / 65536 ∷ []
 
--- "the thread's first action, its count of actions", where k actions stand before
+-- "the thread's first action (16 bits), its count of actions (16 bits)", where k actions stand before
 unfoldable pub entryRows : ℕ → List (List Action) → List (List ℕ)
 entryRows k [] = []
 entryRows k (b ∷ bs) = pairRow k (length b) ∷ entryRows (k + length b) bs

@@ -59,7 +59,7 @@ space = 32 ∷ []
 abbrev pub newline : List ℕ
 newline = 10 ∷ []
 
--- an accepted table: "table n m serial S1 depth D"
+-- an accepted table: `table n m serial S1 depth D`
 abbrev pub factsText : Facts → List ℕ
 factsText f =
     tableWord ++ decimal (f .threads)
@@ -71,15 +71,15 @@ factsText f =
 unfoldable pub acceptedLine : Facts → List ℕ
 acceptedLine f = factsText f ++ newline
 
--- all facts, with the nested thread levels: "table n m serial S1 depth D nested N"
+-- all facts, with the nested thread levels: `table n m serial S1 depth D nested N`
 unfoldable pub nestedLine : Facts → List ℕ
 nestedLine f = factsText f ++ nestedWord ++ decimal (f .nested) ++ newline
 
--- a refused table's line: "refused NUMBER PLACE"
+-- a refused table's line: `refused NUMBER PLACE`
 unfoldable pub refusedLine : Refusal → List ℕ
 refusedLine r = refusedWord ++ decimal (r .number) ++ space ++ decimal (r .place) ++ newline
 
--- the line of a refusal of one of several, from 0: "refused NUMBER PLACE", a label and which one
+-- the line of a refusal of one of several, from 0: `refused NUMBER PLACE`, a label and which one
 abbrev pub refusedOf : Refusal → List ℕ → ℕ → List (List ℕ)
 refusedOf r label i = refusedWord ∷ decimal (r .number) ∷ space ∷ decimal (r .place) ∷ label ∷ decimal i ∷ newline ∷ []
 

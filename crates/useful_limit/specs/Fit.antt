@@ -21,17 +21,17 @@ use Rattle.useful_limit.specs.Limits.{workersCheck, gapCheck, settings}
 
 -- ---- as it is asked
 
--- "the largest from the table's largest alloc (1 if it has none) up to 16,777,215 whose usefulLimit is at most M"; in that range no alloc is above K, so that the table as given runs
+-- the largest from the table's largest alloc (1 if it has none) up to 16,777,215 whose useful limit is at most M; in that range no alloc is above K, so that the table as given runs
 pub record IsLargest (T : Table) (p b M K : ℕ) : Type 0 where
   pub in-range : InRange T K
   pub serves : usefulLimit T p K b ≤ M
   pub none-above : (L : ℕ) → K < L → InRange T L → usefulLimit T p L b ≤ M → ⊥
 
--- "where there is none"
+-- there is none
 abbrev pub NoneFits : Table → ℕ → ℕ → ℕ → Type 0
 NoneFits T p b M = (K : ℕ) → InRange T K → M < usefulLimit T p K b
 
--- "the least that any K in that range needs, and the least such K"
+-- the least that any K in that range needs, and the least such K
 pub record IsLeast (T : Table) (p b K : ℕ) : Type 0 where
   pub in-range : InRange T K
   pub least : (L : ℕ) → InRange T L → usefulLimit T p K b ≤ usefulLimit T p L b
@@ -77,7 +77,7 @@ ownFit T p b M = pick (noFit T p b M) (shortWith T p b (leastNeed T p b)) (fitsW
 
 -- ---- the answer
 
--- "refusals .. 1 to 11, 20, 41"
+-- the checks in their order: 1 to 11, 20, 41
 abbrev pub fitPasses : List ℕ → ℕ → ℕ → List Pass
 fitPasses s p b = passes s ++ (settings (workersCheck p ∷ gapCheck b ∷ []) ∷ [])
 

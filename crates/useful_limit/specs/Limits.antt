@@ -27,7 +27,7 @@ use Rattle.useful_limit.specs.declared.Limits.the-variants.{Given, Refus
 abbrev pub workersCheck : ℕ → Check
 workersCheck p = record { number = 20; applies = λ i. outside 1 maxWorkers p }
 
--- 41: "b above 65,535"; "b 0: nobody keeps any"
+-- 41: b above 65,535; with b 0 nobody keeps any
 abbrev pub gapCheck : ℕ → Check
 gapCheck b = record { number = 41; applies = λ i. ltb maxGap b }
 
@@ -38,11 +38,11 @@ quotaCheck K = record { number = 21; applies = λ i. outside 1 maxQuota K }
 abbrev pub settings : List Check → Pass
 settings checks = record { from = 0; places = 1; checks = checks }
 
--- "refusals in this order: .. 1 to 11, 20, 41 (b above 65,535), 21, 44"
+-- the checks in their order: 1 to 11, 20, 41, 21, 44
 abbrev pub limitPasses : List ℕ → ℕ → ℕ → ℕ → List Pass
 limitPasses s p K b = passes s ++ (settings (workersCheck p ∷ gapCheck b ∷ quotaCheck K ∷ []) ∷ fillPass (tableOf s) K ∷ [])
 
--- "usefulLimit, S1, S_p, parallel peak, the largest draw of a stretch under K"
+-- the useful limit, S1, S_p, the parallel peak, the largest draw of a stretch under K
 unfoldable pub numbersOf : Table → ℕ → ℕ → ℕ → Numbers
 numbersOf T p K b =
     record { memory = usefulLimit T p K b; serial = S1 T; peak = workersPeak T p; parallel = parallelPeak T; stretch = stretchOf T K }
@@ -51,7 +51,7 @@ abbrev pub limitsAs : Found → Numbers → Limits
 limitsAs Nothing x = Given x
 limitsAs (At r) x = Refused r
 
--- "of the table that runs": filled out for K
+-- of the table that runs, filled out for K
 unfoldable pub limits : List ℕ → ℕ → ℕ → ℕ → Limits
 limits s p K b = limitsAs (firstFound (limitPasses s p K b)) (numbersOf (tableOf (filledOut s K)) p K b)
 

@@ -18,7 +18,7 @@ use Rattle.useful_limit.specs.declared.Fitted.the-variants.{Fits, Short,
 use Rattle.useful_limit.specs.Limits.{limits}
 use Rattle.useful_limit.specs.Fit.{fitted}
 
--- ---- memlimit: "the bytes of `runrounds` with b for L: p 1 byte, K 3, b 4, a table"; under 8 bytes 33
+-- ---- memlimit: the bytes of `runrounds` with b for L, p 1 byte, K 3, b 4, a table; under 8 bytes 33
 
 unfoldable pub limitsTo : List ℕ → Limits
 limitsTo s = pick (ltb (length s) 8) (NoLimits (refusal 33 0)) (limits (drop 8 s) (workersIn s) (u24At s 1) (u32At s 4))
@@ -37,7 +37,7 @@ limits-example : limitsLine (Given (record { memory = 12; serial = 6; peak = 12;
 unfolding numbersLine decimal digitsOf
 limits-example = refl
 
--- ---- fitquota: "input of `maxquota`"; under 13 bytes 33
+-- ---- fitquota: the input of `maxquota`; under 13 bytes 33
 
 unfoldable pub fittedTo : List ℕ → Fitted
 fittedTo s = pick (ltb (length s) 13) (Refused (refusal 33 0)) (fitted (drop 13 s) (workersIn s) (gapIn s) (memoryIn s))
