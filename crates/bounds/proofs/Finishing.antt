@@ -1,7 +1,8 @@
--- Runs in rounds finish (N8): while the root has not ended, some worker's next turn is not idle, and it comes within p turns.
+-- Runs in rounds finish (N8): while the root has not ended, some worker's next turn is not idle, and it comes within p turns. One that finishes does so after the same number of turns with every
+-- limit that is not below it (`finishes-after`).
 use mathlib.Core.Path.{_≡_, refl, sym, ap, subst, _∙_}
 use Prim.Native.Nat.{ℕ, zero, suc, _+_, _-_, _*_, _/_, _%_, _^_, _≤_, _<_}
-use native.Mathlib.Nat.{mod-lt, mod-eq-of-lt, mul-add-mod-self-right, div-add-mod', mul-le-mul-left, mul-suc, suc-mul}
+use native.Mathlib.Nat.{zero-add, mod-lt, mod-eq-of-lt, mul-add-mod-self-right, div-add-mod', mul-le-mul-left, mul-suc, suc-mul}
 use native.Mathlib.Omega.{arith}
 use native.Mathlib.Decide.{ℕ-discrete, decLt}
 use mathlib.Core.List.{List, [], _∷_, List·Memᴰ·not-nil}
@@ -189,3 +190,112 @@ sound-finishes r h limit few b =
     let c : Cycle (λ i. i % (r .workers)) (r .workers) = rounds-cycle (r .workers) some in
     let z : eqb (r .workers) 0 ≡ false = ne-eqb (r .workers) 0 (λ e. omega arith) in
     rw (sound-exactly r .1 h, z) (drive-finishes (λ i. i % (r .workers)) limit 0 r c g few (due r g (λ i. i % (r .workers)) c limit 0 b))
+
+-- ---- a run that finishes, and the same run with another limit
+
+module _ (who : ℕ → ℕ) where
+  -- a turn of it
+  data Step (k i : ℕ) (r : Run) (n : ℕ) : Type 0 where
+    over : rootEnded r ≡ true → n ≡ i → Step k i r n
+    onward : rootEnded r ≡ false → eqb (r .turns) (2 ^ 64 - 1) ≡ false → noWorker r (who i) ≡ false → drive who k (suc i) (moved r (who i)) .report ≡ Finished n → Step k i r n
+
+  step : (k i : ℕ) (r : Run) (n : ℕ) → drive who (suc k) i r .report ≡ Finished n → Step k i r n
+  unfolding drive
+  step k i r n = go (rootEnded r) refl (eqb (r .turns) (2 ^ 64 - 1)) refl (noWorker r (who i)) refl
+    where
+      rest : Ran
+      rest = drive who k (suc i) (moved r (who i))
+
+      go : (b : Bool) → rootEnded r ≡ b → (c : Bool) → eqb (r .turns) (2 ^ 64 - 1) ≡ c → (d : Bool) → noWorker r (who i) ≡ d
+          → pick b (ran (Finished i) r) (pick c (ran (Refused i (refusal 32 0)) r) (pick d (ran (Refused i (refusal 30 0)) r) rest)) .report ≡ Finished n → Step k i r n
+      go true e c x d y h = over e (cc)
+      go false e true x d y h = no-way (cc)
+      go false e false x true y h = no-way (cc)
+      go false e false x false y h = onward e x y h
+
+  -- it takes no fewer turns than those before, and more where the root has not ended
+  drive-least : (k i : ℕ) (r : Run) (n : ℕ) → drive who k i r .report ≡ Finished n → i ≤ n
+  unfolding drive
+  drive-least zero i r n h = go (rootEnded r) h
+    where
+      go : (b : Bool) → pick b (Finished i) (Spent i) ≡ Finished n → i ≤ n
+      go true h = let e : i ≡ n = cc in omega arith
+      go false h = no-way (cc)
+  drive-least (suc k) i r n h = go (step k i r n h) (drive-least k (suc i) (moved r (who i)) n)
+    where
+      go : Step k i r n → (drive who k (suc i) (moved r (who i)) .report ≡ Finished n → suc i ≤ n) → i ≤ n
+      go (over e q) ih = omega arith
+      go (onward e x y q) ih = omega (arith, ih q)
+
+  -- and no more than its limit
+  drive-most : (k i : ℕ) (r : Run) (n : ℕ) → drive who k i r .report ≡ Finished n → n ≤ i + k
+  unfolding drive
+  drive-most zero i r n h = go (rootEnded r) h
+    where
+      go : (b : Bool) → pick b (Finished i) (Spent i) ≡ Finished n → n ≤ i + 0
+      go true h = let e : i ≡ n = cc in omega arith
+      go false h = no-way (cc)
+  drive-most (suc k) i r n h = go (step k i r n h) (drive-most k (suc i) (moved r (who i)) n)
+    where
+      go : Step k i r n → (drive who k (suc i) (moved r (who i)) .report ≡ Finished n → n ≤ suc i + k) → n ≤ i + suc k
+      go (over e q) ih = omega arith
+      go (onward e x y q) ih = omega (arith, ih q)
+
+  -- at its first turn: over, or not
+  drive-at : (k i : ℕ) (r : Run) (n : ℕ) → drive who k i r .report ≡ Finished n → (rootEnded r ≡ true → n ≡ i) × (rootEnded r ≡ false → i < n)
+  unfolding drive
+  drive-at zero i r n h = go (rootEnded r) refl h
+    where
+      go : (b : Bool) → rootEnded r ≡ b → pick b (Finished i) (Spent i) ≡ Finished n → (rootEnded r ≡ true → n ≡ i) × (rootEnded r ≡ false → i < n)
+      go true e q = ((λ t. cc), (λ f. no-way (cc)))
+      go false e q = no-way (cc)
+  drive-at (suc k) i r n h = go (step k i r n h)
+    where
+      go : Step k i r n → (rootEnded r ≡ true → n ≡ i) × (rootEnded r ≡ false → i < n)
+      go (over e q) = ((λ t. q), (λ f. no-way (cc)))
+      go (onward e x y q) = ((λ t. no-way (cc)), (λ f. drive-least k (suc i) (moved r (who i)) n q))
+
+  -- with any limit at least that number it finishes after that number, with any other it is spent
+  drive-any : (k i : ℕ) (r : Run) (n : ℕ) → drive who k i r .report ≡ Finished n → (j : ℕ)
+      → (n ≤ i + j → drive who j i r .report ≡ Finished n) × (i + j < n → drive who j i r .report ≡ Spent (i + j))
+  unfolding drive
+  drive-any k i r n h zero = go (rootEnded r) refl (drive-at k i r n h)
+    where
+      go : (b : Bool) → rootEnded r ≡ b → (rootEnded r ≡ true → n ≡ i) × (rootEnded r ≡ false → i < n)
+          → (n ≤ i + 0 → pick b (Finished i) (Spent i) ≡ Finished n) × (i + 0 < n → pick b (Finished i) (Spent i) ≡ Spent (i + 0))
+      go true e (t, f) = let q : n ≡ i = t e in ((λ l. cc), (λ l. absurd (omega arith)))
+      go false e (t, f) = let q : i < n = f e in let z : i + 0 ≡ i = omega arith in ((λ l. absurd (omega arith)), (λ l. rw z))
+  drive-any zero i r n h (suc j) = go (rootEnded r) refl (drive-at zero i r n h) h
+    where
+      go : (b : Bool) → rootEnded r ≡ b → (rootEnded r ≡ true → n ≡ i) × (rootEnded r ≡ false → i < n) → pick b (Finished i) (Spent i) ≡ Finished n
+          → (n ≤ i + suc j → drive who (suc j) i r .report ≡ Finished n) × (i + suc j < n → drive who (suc j) i r .report ≡ Spent (i + suc j))
+      go true e (t, f) q = let m : n ≡ i = t e in ((λ l. rw (e, m)), (λ l. absurd (omega arith)))
+      go false e d q = no-way (cc)
+  drive-any (suc k) i r n h (suc j) = go (step k i r n h) (λ q. drive-any k (suc i) (moved r (who i)) n q j)
+    where
+      go : Step k i r n
+          → (drive who k (suc i) (moved r (who i)) .report ≡ Finished n
+          → (n ≤ suc i + j → drive who j (suc i) (moved r (who i)) .report ≡ Finished n) × (suc i + j < n → drive who j (suc i) (moved r (who i)) .report ≡ Spent (suc i + j)))
+          → (n ≤ i + suc j → drive who (suc j) i r .report ≡ Finished n) × (i + suc j < n → drive who (suc j) i r .report ≡ Spent (i + suc j))
+      go (over e q) ih = ((λ l. rw (e, q)), (λ l. absurd (omega arith)))
+      go (onward e x y q) ih =
+          let z : i + suc j ≡ suc i + j = omega arith in
+          ((λ l. rw (e, x, y) (ih q .0 (omega arith))), (λ l. rw (e, x, y, z) (ih q .1 (omega arith))))
+
+-- a run in rounds of a record finishes after k turns: with a limit of at least k it says finished with k, with a lower one spent with all of it
+pub record FinishesAfter (r : Run) (k : ℕ) : Type 0 where
+  pub finished : (limit : ℕ) → k ≤ limit → roundsRun r limit .report ≡ Finished k
+  pub spent : (limit : ℕ) → limit < k → roundsRun r limit .report ≡ Spent limit
+
+pub finishes-after : (r : Run) → Sound r → (b k : ℕ) → roundsRun r b .report ≡ Finished k → (k ≤ b) × FinishesAfter r k
+unfolding roundsRun unsound
+finishes-after r h b k =
+    let z : eqb (r .workers) 0 ≡ false = ne-eqb (r .workers) 0 (λ e. omega (arith, steady-fits r (h .steady) .some-worker)) in
+    rw (sound-exactly r .1 h, z)
+    (λ e. (
+      omega (arith, drive-most (λ i. i % (r .workers)) b 0 r k e),
+      record {
+        finished = λ limit l. rw (sound-exactly r .1 h, z) (drive-any (λ i. i % (r .workers)) b 0 r k e limit .0 (omega arith));
+        spent = λ limit l. rw (sound-exactly r .1 h, z) (rw zero-add at (drive-any (λ i. i % (r .workers)) b 0 r k e limit .1 (omega arith)));
+      },
+    ))

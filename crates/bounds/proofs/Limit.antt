@@ -17,7 +17,9 @@ use Rattle.schedule.specs.Begin.{begin}
 use Rattle.schedule.specs.Calls.{Call, afterCalls, rowOfCalls}
 use Rattle.schedule.specs.Memory.{doneIn, memoryOf, peakMemory, Keeps, limit}
 use Rattle.schedule.proofs.Runs.Rows.{row-balanced, row-held, row-highest}
+use Rattle.order.proofs.Lawful.{Within}
 use Rattle.filling.specs.Filled.{filledOut}
+use Rattle.filling.proofs.FilledTable.{in-place}
 use Rattle.schedule.proofs.Runs.Histories.{Started, begin-started, Traced, calls-traced}
 use Rattle.filling.proofs.Delay.{drawnCost, Delayed}
 use Rattle.bounds.proofs.FrontParts.{peak-within, front-bound, front-alone}
@@ -64,3 +66,8 @@ pub limit-given : (s : List ℕ) (p K : ℕ) (r : Run) → begin s p K ≡ recor
     → limit (tableOf (filledOut s K)) p K b ≡ S1 (tableOf s) + b * K * (p - 1) * (D (tableOf (filledOut s K)) - 1)
 unfolding limit
 limit-given s p K r e b = rw (begin-started s p K r e .filling .peak)
+
+-- The statement with no word of filling: where no alloc is above K (`Within`, crates/order/proofs/Lawful) the table as given is the one that runs, and the limit is its own.
+pub memory-limit-given : (s : List ℕ) (p K : ℕ) (r : Run) → begin s p K ≡ record { answer = started; run = r } → Within (tableOf s) K → (b : ℕ) → 1 ≤ b → (calls : List Call)
+    → MemoryLimit (tableOf s) p K b (afterCalls calls r) (rowOfCalls calls r)
+memory-limit-given s p K r e n b g calls = rw (in-place s K n) at (memory-limit s p K r e b g calls)

@@ -1,11 +1,13 @@
--- How many turns at most (N8), over every list of calls from a beginning: turns that are not idle, and runs in rounds that finish.
+-- How many turns at most (N8), over every list of calls from a beginning: turns that are not idle, runs in rounds that finish, and the number that any run in rounds reports.
 --
 -- What it cites, in crates/schedule/specs: `begin` (Begin) answers with the record of an accepted beginning; `rowOfCalls` (Calls) is the row of turns of a list of calls; `replies`
--- (Memory) are the replies of a row; `notIdle` (Most) counts those that aren't idle; `turnsOf` (Most) is m + A + J; `roundsRun` (Runs) is a run in rounds.
+-- (Memory) are the replies of a row; `notIdle` (Most) counts those that aren't idle; `roundsRun` (Runs) is a run in rounds, and `turnsIn` (Calls) the number that it reports. `turnsOf` (crates/order/specs/Turns) is
+-- m + A + J.
 use mathlib.Core.Path.{_≡_, refl, ap}
 use Prim.Native.Nat.{ℕ, zero, suc, _+_, _*_, _^_, _≤_, _<_}
 use native.Mathlib.Nat.{mul-le-mul, mul-le-mul-left, one-mul}
 use native.Mathlib.Omega.{arith}
+use native.Mathlib.Decide.{decLt}
 use mathlib.Core.List.{List, [], _∷_, List·Memᴰ·head, List·Memᴰ·tail}
 use mathlib.Core.Bool.{Bool, true, false, not, _&&_}
 use lib.Dec.{eqb}
@@ -21,7 +23,7 @@ use Rattle.filling.specs.Filled.{filledOut}
 use Rattle.schedule.specs.Begin.{begin, startState}
 use Rattle.schedule.specs.Sound.{isDone, Steady, Sound}
 use Rattle.schedule.specs.Runs.{roundsRun}
-use Rattle.schedule.specs.Calls.{Call, rowOfCalls}
+use Rattle.schedule.specs.Calls.{Call, turnsIn, rowOfCalls}
 use Rattle.schedule.specs.Memory.{rowState, replies}
 use Rattle.schedule.specs.Most.{notIdle}
 use Rattle.order.specs.Turns.{turnsOf}
@@ -34,7 +36,7 @@ use Rattle.schedule.proofs.Stores.{steady-lawful, steady-fits, steady-facts}
 use Rattle.schedule.proofs.Runs.Histories.{begin-sound, start-state, calls-left}
 use Rattle.bounds.proofs.Potential.{standsAt, putBackStill, waitStill, toGo, potential}
 use Rattle.bounds.proofs.Lowers.{turn-sum}
-use Rattle.bounds.proofs.Finishing.{sound-finishes}
+use Rattle.bounds.proofs.Finishing.{sound-finishes, FinishesAfter, finishes-after}
 
 -- ---- the potential of any state is at most m + A + J
 
@@ -133,3 +135,24 @@ rounds-finish s p K r e =
     let few : r .workers * turnsOf (tableIn r) ≤ 16 * 24576 =
     mul-le-mul (steady-fits r (h .steady) .few-workers) (turnsOf-few (tableIn r) (steady-lawful r (h .steady) .few-actions)) in
     sound-rounds r h (p * turnsOf (tableOf (filledOut s K))) (omega arith) (omega arith)
+
+-- "in rounds .. a run takes turns until the root's end or L of them": there is one number of turns, at most p × (m + A + J) of the table as run, after which the root has ended; with a limit not below it
+-- a run in rounds from the beginning says finished with it, with a lower one spent with all of them
+pub rounds-number : (s : List ℕ) (p K : ℕ) (r : Run) → begin s p K ≡ record { answer = started; run = r }
+    → (k : ℕ) × (k ≤ p * turnsOf (tableOf (filledOut s K))) × FinishesAfter r k
+rounds-number s p K r e =
+    let (k, f) = rounds-finish s p K r e in
+    let a = finishes-after r (begin-sound s p K r e) (p * turnsOf (tableOf (filledOut s K))) k f in
+    (k, a .0, a .1)
+
+-- so the number that it reports is at most p × (m + A + J), whatever its limit
+pub rounds-turns : (s : List ℕ) (p K : ℕ) (r : Run) → begin s p K ≡ record { answer = started; run = r } → (limit : ℕ)
+    → turnsIn (roundsRun r limit .report) ≤ p * turnsOf (tableOf (filledOut s K))
+rounds-turns s p K r e limit = go (rounds-number s p K r e)
+  where
+    go : (k : ℕ) × (k ≤ p * turnsOf (tableOf (filledOut s K))) × FinishesAfter r k → turnsIn (roundsRun r limit .report) ≤ p * turnsOf (tableOf (filledOut s K))
+    go (k, b, f) = at (decLt limit k)
+      where
+        at : Dec (limit < k) → turnsIn (roundsRun r limit .report) ≤ p * turnsOf (tableOf (filledOut s K))
+        at (yes l) = rw (f .spent limit l) (omega arith)
+        at (no l) = rw (f .finished limit (omega arith)) b

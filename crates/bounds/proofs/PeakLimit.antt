@@ -1,9 +1,10 @@
--- The peak of p workers over every list of calls: what is held is at most S_p, whatever K and whatever the order of the turns, refused calls included; and at most the useful limit.
+-- The peak of p workers over every list of calls: what is held is at most S_p, whatever K and whatever the order of the turns, refused calls included; and at most the useful limit. S_p of the table
+-- that runs is that of the table as given (`given-workers`), so that it is one number whatever K.
 --
 -- What it cites: `begin`, `afterCalls`, `rowOfCalls`, `memoryOf`, `peakMemory`, `Keeps` and `limit` as the memory limit of demand 3 does (Limit); `workersPeak` is S_p and `Light` that no
 -- entered unended thread has a load above r (specs/Peak of crates/peaks); `stretch`, `covered`, `restingPeak` and `usefulLimit` are in specs/Rests there.
 use mathlib.Core.Path.{_≡_, refl, sym, ap, _∙_}
-use Prim.Native.Nat.{ℕ, _-_, _≤_, _<_}
+use Prim.Native.Nat.{ℕ, suc, _+_, _*_, _-_, _≤_, _<_}
 use native.Mathlib.Omega.{arith}
 use mathlib.Core.List.{List, [], _++_, append-nil, List·Memᴰ}
 use mathlib.Core.Bool.{Bool, true, false}
@@ -11,25 +12,33 @@ use lib.Dec.{leb, eqb}
 use borrow.Author.Tests.{eqb-false, leb-true}
 use Rattle.table.specs.Sum.{pick}
 use Rattle.table.specs.Format.{Table, tableOf}
+use Rattle.table.specs.Rules.{Rules}
 use Rattle.schedule.specs.declared.Run.{Run}
 use Rattle.schedule.specs.declared.Reply.{Reply}
+use Rattle.schedule.specs.declared.Begun.{Begun}
 use Rattle.schedule.specs.declared.Beginning.the-variants.{Begun as started}
 use Rattle.schedule.specs.Machine.{State}
 use Rattle.schedule.specs.Begin.{begin, startState}
 use Rattle.schedule.specs.Calls.{Call, afterCalls, rowOfCalls}
 use Rattle.schedule.specs.Memory.{replies, memoryOf, peakMemory, Keeps, limit}
-use Rattle.order.proofs.Lawful.{Lawful}
+use Rattle.order.proofs.Lawful.{Lawful, lawful}
 use Rattle.order.proofs.Lists.{Below}
 use Rattle.schedule.proofs.Runs.Rows.{row-held, row-highest, front-workers}
 use Rattle.schedule.proofs.Runs.Histories.{Started, Traced, calls-traced}
 use Rattle.filling.specs.Filled.{filledOut}
 use Rattle.filling.proofs.Delay.{drawnCost, Delayed}
+use Rattle.filling.proofs.FilledTable.{fill-rules}
+use Rattle.filling.proofs.FilledTable.{Fits as Room}
+use Rattle.schedule.proofs.Stores.{Fits}
+use Rattle.schedule.proofs.Beginnings.{begun-exactly}
 use Rattle.peaks.specs.Peak.{Light, workersPeak}
-use Rattle.peaks.specs.Rests.{stretch, covered, restingPeak, usefulLimit}
+use Rattle.peaks.specs.Rests.{stretch, covered, restingPeak, parallelPeak, usefulLimit}
 use Rattle.peaks.proofs.LoadLaw.{row-light}
 use Rattle.peaks.proofs.Unpreempted.{NoQuota}
 use Rattle.peaks.proofs.RowPeaks.{row-peak, row-rests, row-quiet}
 use Rattle.peaks.proofs.Useful.{useful-peak, useful-within}
+use Rattle.peaks.proofs.Parallel.{enough-workers}
+use Rattle.peaks.proofs.FilledPeak.{fill-workers}
 use Rattle.bounds.proofs.FrontParts.{keeps-front, peak-within, front-bound}
 
 -- ---- rows of turns
@@ -135,3 +144,31 @@ module _ (s : List ℕ) (p K : ℕ) (r : Run) (e : begin s p K ≡ record { answ
         lower = (useful-peak T p K b, useful-within T p K b);
         quiet = λ covers. row-quiet T (i .lawful) p K (i .few-workers) covers row below;
       }
+
+-- ---- of the table as given
+
+-- the table, p and K of an accepted beginning
+module _ (s : List ℕ) (p K : ℕ) (e : begin s p K .answer ≡ started) where
+  begun : Rules s × (Fits p K × Room (tableOf s) K)
+  begun = begun-exactly s p K .0 e
+
+  -- the peak of q workers, for any q, of the filled-out table is that of the table as given
+  pub given-workers : (q : ℕ) → workersPeak (tableOf (filledOut s K)) q ≡ workersPeak (tableOf s) q
+  given-workers q = fill-workers s K (begun .0) (begun .1 .0 .some-quota) (begun .1 .1) q
+
+  -- and so is the parallel peak
+  pub given-parallel : parallelPeak (tableOf (filledOut s K)) ≡ parallelPeak (tableOf s)
+  given-parallel =
+      let T : Table = tableOf s in
+      let U : Table = tableOf (filledOut s K) in
+      let q : ℕ = suc (U .actions * U .threads + T .actions * T .threads) in
+      let f : Rules (filledOut s K) = fill-rules s K (begun .0) (begun .1 .0 .some-quota) (begun .1 .1) in
+      sym (enough-workers U (lawful (filledOut s K) f) q (omega arith)) ∙ given-workers q ∙ enough-workers T (lawful s (begun .0)) q (omega arith)
+
+-- what every list of calls from the beginning holds, and ever held, is within the peak of p workers of the table as given
+pub peak-given : (s : List ℕ) (p K : ℕ) (r : Run) → begin s p K ≡ record { answer = started; run = r } → (calls : List Call)
+    → (afterCalls calls r .held ≤ workersPeak (tableOf s) p) × (afterCalls calls r .highest ≤ workersPeak (tableOf s) p)
+peak-given s p K r e calls =
+    let w = peak-limit s p K r e calls .within in
+    let g = given-workers s p K (ap (λ (x : Begun). x .answer) e) p in
+    (omega (arith, w .0, g), omega (arith, w .1, g))

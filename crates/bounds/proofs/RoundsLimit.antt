@@ -12,7 +12,9 @@ use Rattle.table.specs.Level.{D}
 use Rattle.schedule.specs.declared.Run.{Run}
 use Rattle.schedule.specs.declared.Beginning.the-variants.{Begun as started}
 use Rattle.schedule.specs.Record.{listIn}
+use Rattle.order.proofs.Lawful.{Within}
 use Rattle.filling.specs.Filled.{filledOut}
+use Rattle.filling.proofs.FilledTable.{in-place}
 use Rattle.schedule.specs.Begin.{begin}
 use Rattle.schedule.specs.Runs.{roundsRun}
 use Rattle.schedule.specs.Calls.{Call, inRounds, turnsIn, afterCall, afterCalls, rowOf, rowOfCalls}
@@ -63,3 +65,8 @@ rounds-limit s p K r e turns =
     let some : 1 ≤ r .workers = omega (arith, begin-started s p K r e .some-worker) in
     let calls : List Call = inRounds turns ∷ [] in
     within-rounds (memory-limit s p K r e 1 (omega arith) calls) (thread-limit s p K r e 1 (omega arith) calls) (rounds-row-keeps r some turns)
+
+-- where no alloc is above K, of the table as given
+pub rounds-limit-given : (s : List ℕ) (p K : ℕ) (r : Run) → begin s p K ≡ record { answer = started; run = r } → Within (tableOf s) K → (turns : ℕ)
+    → RoundsLimit (tableOf s) p K (roundsRun r turns .run)
+rounds-limit-given s p K r e n turns = rw (in-place s K n) at (rounds-limit s p K r e turns)

@@ -13,7 +13,9 @@ use Rattle.schedule.specs.declared.Run.{Run}
 use Rattle.schedule.specs.declared.Beginning.the-variants.{Begun as started}
 use Rattle.schedule.specs.Machine.{State}
 use Rattle.schedule.specs.Record.{listIn}
+use Rattle.order.proofs.Lawful.{Within}
 use Rattle.filling.specs.Filled.{filledOut}
+use Rattle.filling.proofs.FilledTable.{in-place}
 use Rattle.schedule.specs.Begin.{begin}
 use Rattle.schedule.specs.Calls.{Call, afterCalls, rowOfCalls}
 use Rattle.schedule.specs.Memory.{Keeps}
@@ -43,3 +45,8 @@ thread-limit s p K r e b g calls =
       bounded = λ front rest d keeps. row-listed T (i .lawful) p K (i .some-worker) (i .few-workers) b front (t .below front rest d) keeps;
       alone = λ one front rest d. row-listed-alone T (i .lawful) p K (i .some-worker) (i .few-workers) one front (t .below front rest d);
     }
+
+-- where no alloc is above K, of the table as given
+pub thread-limit-given : (s : List ℕ) (p K : ℕ) (r : Run) → begin s p K ≡ record { answer = started; run = r } → Within (tableOf s) K → (b : ℕ) → 1 ≤ b → (calls : List Call)
+    → ThreadLimit (tableOf s) p K b (afterCalls calls r) (rowOfCalls calls r)
+thread-limit-given s p K r e n b g calls = rw (in-place s K n) at (thread-limit s p K r e b g calls)

@@ -1,6 +1,8 @@
--- The limits of DFDeques over every list of calls from a beginning, refused ones included: on the table that runs (N6), whatever the order of the turns and the choices.
-use mathlib.Core.Path.{_≡_, sym, subst}
-use Prim.Native.Nat.{ℕ, _+_, _*_, _≤_, _<_}
+-- The limits of DFDeques over every list of calls from a beginning, refused ones included: on the table that runs (N6), whatever the order of the turns and the choices; the peaks also of the table
+-- as given (`deque-given`). The parallel peak bounds every sound record too (`deque-parallel-record`).
+use mathlib.Core.Path.{_≡_, sym, ap, subst, _∙_}
+use Prim.Native.Nat.{ℕ, suc, _+_, _*_, _≤_, _<_}
+use native.Mathlib.Omega.{arith}
 use mathlib.Core.List.{List, [], _∷_, _++_, List·Memᴰ, Memᴰ·append-left}
 use mathlib.Core.Bool.{true, false}
 use lib.ListN.{length, getD}
@@ -9,22 +11,29 @@ use Rattle.table.specs.Nested.{N}
 use Rattle.table.specs.Serial.{S1}
 use Rattle.filling.specs.Filled.{filledOut}
 use Rattle.order.specs.Order.{numberOf}
-use Rattle.order.proofs.Lawful.{Lawful, Within}
+use Rattle.order.proofs.Lawful.{Lawful, Within, lawful}
 use Rattle.schedule.specs.declared.Beginning.the-variants.{Begun as started}
+use Rattle.schedule.specs.Begin.{begin}
+use Rattle.schedule.specs.Record.{bytesOf, tableIn}
 use Rattle.schedule.specs.Machine.{State, waiting, ended, nextOf, statusOf, workerOf, parentOf}
 use Rattle.schedule.specs.Sound.{isDone}
 use Rattle.schedule.proofs.Linked.Waiting.{awaited}
-use Rattle.peaks.specs.Peak.{Light}
+use Rattle.peaks.specs.Peak.{Light, workersPeak}
+use Rattle.peaks.specs.Rests.{parallelPeak}
 use Rattle.peaks.proofs.Unpreempted.{Stands}
+use Rattle.peaks.proofs.Parallel.{workers-parallel, parallel-common}
 use Rattle.sharp.specs.Off.{restsAny}
+use Rattle.bounds.proofs.PeakLimit.{given-workers, given-parallel}
 use Rattle.deques.specs.declared.DequeRun.{DequeRun}
+use Rattle.deques.specs.declared.DequeBegun.{DequeBegun}
 use Rattle.deques.specs.Deques.{Deque, Deques, nothing, placeOf, startDeques}
 use Rattle.deques.specs.Lines.{line}
 use Rattle.deques.specs.DequeRecord.{dequesOf}
 use Rattle.deques.specs.DequeBegin.{dequeBegin}
+use Rattle.deques.specs.DequeSound.{SteadyDeques}
 use Rattle.deques.specs.DequeRuns.{Pair}
 use Rattle.deques.specs.DequeCalls.{DequeCall, afterDequeCalls, pairsOfCalls, rowDeques}
-use Rattle.deques.proofs.DequeHistories.{TracedDeques, deque-calls-traced}
+use Rattle.deques.proofs.DequeHistories.{TracedDeques, deque-begin-answer, deque-calls-traced}
 use Rattle.deque_bounds.specs.DequeRows.{steals}
 use Rattle.deque_bounds.specs.Deepest.{deepest}
 use Rattle.deque_bounds.proofs.Lines.{Link}
@@ -113,3 +122,38 @@ deque-limit s p K r e calls =
       now = now;
       fronts = λ front rest q. row-laws T l p K few front (λ g m. t .below g (subst (λ (k : List Pair). List·Memᴰ g k) (sym q) (Memᴰ·append-left rest m)));
     }
+
+-- ---- the parallel peak
+
+-- bounds every record that is sound but for its turns taken, one made up by hand too
+pub deque-parallel-record : (r : DequeRun) → SteadyDeques r → r .run .held ≤ parallelPeak (tableIn (r .run))
+deque-parallel-record r h = parallel-common (tableIn (r .run)) (lawful (bytesOf (r .run)) (h .table)) (r .run .workers) (r .run .quota) _ _ _ _ _ _ (h .common)
+
+-- of a record and the row of turns that led to it
+pub record DequeParallel (T : Table) (K : ℕ) (r : DequeRun) (row : List Pair) : Type 0 where
+  pub within : (r .run .held ≤ parallelPeak T) × (r .run .highest ≤ parallelPeak T)
+  -- and so after every front part
+  pub fronts : (front rest : List Pair) → row ≡ front ++ rest
+      → (rowDeques T K (startDeques T) front .state .held ≤ parallelPeak T) × (rowDeques T K (startDeques T) front .state .highest ≤ parallelPeak T)
+
+-- for every accepted table, p and K, and every list of calls from the record of the beginning
+pub deque-parallel : (s : List ℕ) (p K : ℕ) (r : DequeRun) → dequeBegin s p K ≡ record { answer = started; run = r } → (calls : List DequeCall)
+    → DequeParallel (tableOf (filledOut s K)) K (afterDequeCalls calls r) (pairsOfCalls calls r)
+deque-parallel s p K r e calls =
+    let d : DequeLimit (tableOf (filledOut s K)) p K (afterDequeCalls calls r) (pairsOfCalls calls r) = deque-limit s p K r e calls in
+    let T : Table = tableOf (filledOut s K) in
+    let l : Lawful T = deque-calls-traced s p K r e calls .started .lawful in
+    let w : workersPeak T (suc p) ≤ parallelPeak T = workers-parallel T l (suc p) in
+    record {
+      within = (omega (arith, w, d .held .workers), omega (arith, w, d .highest .workers));
+      fronts = λ front rest q. let f = d .fronts front rest q in (omega (arith, w, f .held .workers), omega (arith, w, f .highest .workers));
+    }
+
+-- with the peaks of the table as given: those of p + 1 workers (`HeldLimits .workers`), and the parallel one
+pub deque-given : (s : List ℕ) (p K : ℕ) (r : DequeRun) → dequeBegin s p K ≡ record { answer = started; run = r } → (calls : List DequeCall)
+    → (afterDequeCalls calls r .run .highest ≤ workersPeak (tableOf s) (suc p)) × (afterDequeCalls calls r .run .highest ≤ parallelPeak (tableOf s))
+deque-given s p K r e calls =
+    let b : begin s p K .answer ≡ started = sym (deque-begin-answer s p K) ∙ ap (λ (x : DequeBegun). x .answer) e in (
+      omega (arith, deque-limit s p K r e calls .highest .workers, given-workers s p K b (suc p)),
+      omega (arith, deque-parallel s p K r e calls .within .1, given-parallel s p K b),
+    )

@@ -2,12 +2,12 @@
 use Prim.Native.Nat.{ℕ, zero, suc, _+_, _-_, _≤_, _<_}
 use native.Mathlib.Omega.{arith}
 use native.Mathlib.Decide.{decLt}
-use mathlib.Core.Path.{_≡_, refl, sym, _∙_}
+use mathlib.Core.Path.{_≡_, refl, sym, ap, _∙_}
 use mathlib.Core.List.{List, [], _∷_, _++_}
 use mathlib.Core.Bool.{Bool, true, false}
 use borrow.Author.Tests.{le-ltb}
-use lib.ListN.{length, getD, take}
-use lib.Seq.{getD-take, take-length, length-take-le}
+use lib.ListN.{length, getD, take, length-append}
+use lib.Seq.{getD-take, take-at, take-length, length-take-le}
 use Rattle.table.specs.Sum.{pick, sumTo}
 use Rattle.table.specs.Format.{Kind, alloc, free, fork, join, is, codeOf, kindOf, Table, kind}
 use Rattle.table.specs.Checks.{owner, allocOf, freeOf, withChild, whole, partOf, upTo, balance, balanceBelow0}
@@ -24,8 +24,8 @@ use Rattle.table.proofs.ReadBack.{none}
 use Rattle.filling.proofs.Bodies.{kindIn}
 use Rattle.filling.proofs.Built.{kind-at, argument-at}
 use Rattle.filling.proofs.ForkCounts.{sumIn, sumIn-to}
-use Rattle.filling.proofs.OldThreads.{filled-sum}
-use Rattle.filling.proofs.Fills.{Fills, c, b, old-below, body-old, root-in, quiet}
+use Rattle.filling.proofs.OldThreads.{filled-append, filled-sum}
+use Rattle.filling.proofs.Fills.{Fills, c, b, old-below, body-old, root-in, quiet, lead, start, front-fork, front-join, front-joined}
 
 -- ---- an amount that only one kind has
 
@@ -129,6 +129,44 @@ module _ (T : Table) (K : ℕ) (U : Table) (x : Fills T K U) (j : Kind) (no-fork
   unfolding kindOf is codeOf
   front-zero a h e = let (lo, hi) = root-in T K U x a h e in (rw no-fork, rw (no-join, new-whole (rootOf T K a) hi lo))
 
+  -- ---- the sum over the first actions of a thread of T, in front of its action i
+
+  pub part-same : (t i : ℕ) → t < T .threads → i ≤ T .count t → partOf U (amount j U) t (lead T K U x t i) ≡ partOf T (amount j T) t i
+  part-same t i h l =
+      let front : List Action = filledFrom T K (T .first t) i in
+      let rest : List Action = filledFrom T K (T .first t + i) (T .count t - i) in
+      let n : T .count t ≡ i + (T .count t - i) = omega arith in
+      let y : getD bs t [] ≡ front ++ rest = body-old T K U x t h ∙ ap (filledFrom T K (T .first t)) n ∙ filled-append T K i (T .count t - i) (T .first t) in
+      let z : lead T K U x t i ≤ length (getD bs t []) = omega (arith, ap length y, length-append front rest) in
+      part-is t (lead T K U x t i) (old-below T K U x t h) z
+      ∙ ap (sumIn (weigh j W)) (ap (take (length front)) y ∙ take-at front rest (length front) refl)
+      ∙ filled-sum T K (weigh j W) i (T .first t)
+      ∙ sumTo-cong _ _ i (λ e k. rw (front-still (T .first t + e) (action-within T cT bT t e h (omega arith)), own-is t e h (omega arith)) (omega arith))
+
+  part-next : (t k a : ℕ) → U .first t + k ≡ a → partOf U (amount j U) t (suc k) ≡ partOf U (amount j U) t k + withChild U join (amount j U) W a
+  unfolding sumTo
+  part-next t k a e = ap (λ (y : ℕ). partOf U (amount j U) t k + withChild U join (amount j U) W y) e
+
+  -- and right after the fork and right after the join of a tree in front of it
+  module _ (t i : ℕ) (h : t < T .threads) (k : i < T .count t) (e : big T K (T .first t + i) ≡ true) where
+    fork-adds : withChild U join (amount j U) W (start T K U x t i) ≡ 0
+    unfolding is codeOf
+    fork-adds = rw (front-fork T K U x t i h k e, no-fork)
+
+    join-adds : withChild U join (amount j U) W (suc (start T K U x t i)) ≡ 0
+    unfolding is codeOf
+    join-adds =
+        let (lo, hi) = root-in T K U x (T .first t + i) (action-within T cT bT t i h k) e in
+        rw (front-join T K U x t i h k e, no-join, front-joined T K U x t i h k e) (omega (arith, new-whole (rootOf T K (T .first t + i)) hi lo))
+
+    pub part-forked : partOf U (amount j U) t (suc (lead T K U x t i)) ≡ partOf T (amount j T) t i
+    part-forked = omega (arith, part-next t (lead T K U x t i) (start T K U x t i) refl, fork-adds, part-same t i h (omega arith))
+
+    pub part-joined : partOf U (amount j U) t (suc (suc (lead T K U x t i))) ≡ partOf T (amount j T) t i
+    part-joined =
+        let z : U .first t + suc (lead T K U x t i) ≡ suc (start T K U x t i) = omega arith in
+        omega (arith, part-next t (suc (lead T K U x t i)) (suc (start T K U x t i)) z, join-adds, part-forked)
+
 -- ---- along a body: never more given back than drawn
 
 Above : (Action → ℕ) → (Action → ℕ) → ℕ → ℕ → List Action → Type 0
@@ -173,6 +211,26 @@ module _ (T : Table) (K : ℕ) (U : Table) (x : Fills T K U) where
   no-af : (is alloc fork ≡ false) × (is alloc join ≡ false) × (is free fork ≡ false) × (is free join ≡ false)
   unfolding is codeOf
   no-af = (refl, refl, refl, refl)
+
+  -- a new thread draws nothing
+  pub new-still : (t : ℕ) → T .threads ≤ t → t < U .threads → whole U (allocOf U) t ≡ 0
+  unfolding allocOf
+  new-still t lo hi = new-whole T K U x alloc (no-af .0) (no-af .1) still-alloc t hi lo
+
+  -- what a thread of T has drawn and given back in front of its action i, and right after the fork and right after the join of a tree there, is what it was in the table as given
+  module _ (t : ℕ) (known : t < T .threads) (i : ℕ) where
+    pub parts-same : i ≤ T .count t → (partOf U (allocOf U) t (lead T K U x t i) ≡ partOf T (allocOf T) t i) × (partOf U (freeOf U) t (lead T K U x t i) ≡ partOf T (freeOf T) t i)
+    unfolding allocOf freeOf
+    parts-same h = (part-same T K U x alloc (no-af .0) (no-af .1) still-alloc t i known h, part-same T K U x free (no-af .2) (no-af .3) still-free t i known h)
+
+    module _ (w : i < T .count t) (e : big T K (T .first t + i) ≡ true) where
+      pub parts-forked : (partOf U (allocOf U) t (suc (lead T K U x t i)) ≡ partOf T (allocOf T) t i) × (partOf U (freeOf U) t (suc (lead T K U x t i)) ≡ partOf T (freeOf T) t i)
+      unfolding allocOf freeOf
+      parts-forked = (part-forked T K U x alloc (no-af .0) (no-af .1) still-alloc t i known w e, part-forked T K U x free (no-af .2) (no-af .3) still-free t i known w e)
+
+      pub parts-joined : (partOf U (allocOf U) t (suc (suc (lead T K U x t i))) ≡ partOf T (allocOf T) t i) × (partOf U (freeOf U) t (suc (suc (lead T K U x t i))) ≡ partOf T (freeOf T) t i)
+      unfolding allocOf freeOf
+      parts-joined = (part-joined T K U x alloc (no-af .0) (no-af .1) still-alloc t i known w e, part-joined T K U x free (no-af .2) (no-af .3) still-free t i known w e)
 
   module _ (t : ℕ) (known : t < T .threads) where
     held : (i : ℕ) → i ≤ T .count t → partOf T (amount free T) t i ≤ partOf T (amount alloc T) t i

@@ -125,6 +125,13 @@ module _ (T : Table) (K : ℕ) (U : Table) (x : Fills T K U) where
       let e : filledFrom T K (T .first t) (suc i) ≡ filledFrom T K (T .first t) i ++ (inFront T K a ++ (actionAt T a ∷ [])) = ap (filledFrom T K (T .first t)) z ∙ filled-append T K i 1 (T .first t) in
       rw e (omega (arith, length-append (filledFrom T K (T .first t) i) (inFront T K a ++ (actionAt T a ∷ [])), length-append (inFront T K a) (actionAt T a ∷ [])))
 
+  -- with no tree in front of it, and with one
+  pub lead-plain : (t i : ℕ) → big T K (T .first t + i) ≡ false → lead t (suc i) ≡ suc (lead t i)
+  lead-plain t i e = let n : length (inFront T K (T .first t + i)) ≡ 0 = rw e in omega (arith, lead-next t i)
+
+  pub lead-big : (t i : ℕ) → big T K (T .first t + i) ≡ true → lead t (suc i) ≡ suc (suc (suc (lead t i)))
+  lead-big t i e = let n : length (inFront T K (T .first t + i)) ≡ 2 = rw e in omega (arith, lead-next t i)
+
   module _ (t i : ℕ) (known : t < T .threads) (within : i < T .count t) where
     abbrev a : ℕ
     a = T .first t + i

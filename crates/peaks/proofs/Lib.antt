@@ -18,5 +18,7 @@ pub mod OneWorker
 pub mod PeakSizes
 pub mod Parallel
 pub mod Useful
+-- the filled-out table has the peaks of the table as given
+pub mod FilledPeak
 -- rows of turns from the beginning
 pub mod RowPeaks

@@ -15,22 +15,33 @@ use Rattle.peaks.proofs.Opens.{greatest-same, open-child}
 
 -- ---- peaks of the children that agree, or are below
 
-module _ (T : Table) (v w : ℕ → ℕ → ℕ) where
-  gain-same : (r : ℕ) (l : List ℕ) (j : ℕ) → ((d s : ℕ) → List·Memᴰ d l → v d s ≡ w d s) → gain T v r l j ≡ gain T w r l j
+module _ (T U : Table) (v w : ℕ → ℕ → ℕ) where
+  -- of two tables, children that end with the same and can hold the same
+  abbrev pub Same : List ℕ → Type 0
+  Same l = (d : ℕ) → List·Memᴰ d l → (final U d ≡ final T d) × ((s : ℕ) → v d s ≡ w d s)
+
+  gain-same : (r : ℕ) (l : List ℕ) (j : ℕ) → Same l → gain U v r l j ≡ gain T w r l j
   unfolding gain
   gain-same r [] j h = refl
-  gain-same r (c ∷ l) zero h = omega (arith, gain-same r l zero (λ d s m. h d s (List·Memᴰ·tail m)))
+  gain-same r (c ∷ l) zero h = omega (arith, gain-same r l zero (λ d m. h d (List·Memᴰ·tail m)), h c (List·Memᴰ·head refl) .0)
   gain-same r (c ∷ l) (suc j) h =
-      omega (arith, gain-same r l (suc j) (λ d s m. h d s (List·Memᴰ·tail m)), gain-same r l j (λ d s m. h d s (List·Memᴰ·tail m)), h c (r - j) (List·Memᴰ·head refl))
+      omega (
+        arith,
+        gain-same r l (suc j) (λ d m. h d (List·Memᴰ·tail m)),
+        gain-same r l j (λ d m. h d (List·Memᴰ·tail m)),
+        h c (List·Memᴰ·head refl) .0,
+        h c (List·Memᴰ·head refl) .1 (r - j),
+      )
 
-  one-same : (r : ℕ) (l : List ℕ) → ((d s : ℕ) → List·Memᴰ d l → v d s ≡ w d s) → oneMore T v r l ≡ oneMore T w r l
+  one-same : (r : ℕ) (l : List ℕ) → Same l → oneMore U v r l ≡ oneMore T w r l
   one-same r [] h = refl
-  one-same r (c ∷ l) h = omega (arith, gain-same r l r (λ d s m. h d s (List·Memᴰ·tail m)), h c 0 (List·Memᴰ·head refl))
+  one-same r (c ∷ l) h = omega (arith, gain-same r l r (λ d m. h d (List·Memᴰ·tail m)), h c (List·Memᴰ·head refl) .1 0)
 
-  most-same : (r : ℕ) (f : Bool) (l : List ℕ) → ((d s : ℕ) → List·Memᴰ d l → v d s ≡ w d s) → most T v r f l ≡ most T w r f l
+  pub most-same : (r : ℕ) (f : Bool) (l : List ℕ) → Same l → most U v r f l ≡ most T w r f l
   unfolding most
-  most-same r f l h = rw (greatest-same (gain T v r l) (gain T w r l) (suc r) (λ j i. gain-same r l j h), one-same r l h)
+  most-same r f l h = rw (greatest-same (gain U v r l) (gain T w r l) (suc r) (λ j i. gain-same r l j h), one-same r l h)
 
+module _ (T : Table) (v w : ℕ → ℕ → ℕ) where
   gain-le : (r s : ℕ) → r ≤ s → (l : List ℕ) (j : ℕ) → ((d x y : ℕ) → List·Memᴰ d l → x ≤ y → v d x ≤ w d y) → gain T v r l j ≤ gain T w s l j
   unfolding gain
   gain-le r s b [] j h = omega arith
@@ -91,7 +102,7 @@ module _ (T : Table) (l : Lawful T) (stop : ℕ → Bool) where
       greatest-same _ _ (suc (T .count t))
       (λ k i.
       ap (λ x. pick (stop (T .first t + k)) (balanceTo T t k + x) 0)
-      (most-same T v w r (fresh T (T .first t + k)) (openBefore T (T .first t + k)) (λ d s m. let (a, b) = open-child T l t k d h (omega arith) m in e d s a b)))
+      (most-same T T v w r (fresh T (T .first t + k)) (openBefore T (T .first t + k)) (λ d m. let (a, b) = open-child T l t k d h (omega arith) m in (refl, λ s. e d s a b))))
 
   peak-fuel : (f g t r : ℕ) → t < T .threads → T .threads ≤ f + t → T .threads ≤ g + t → peakWithin f T stop t r ≡ peakWithin g T stop t r
   unfolding peakWithin

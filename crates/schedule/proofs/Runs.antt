@@ -3,3 +3,4 @@ pub mod Replies
 pub mod Rows
 pub mod Histories
 pub mod Values
+pub mod Blank

@@ -1,4 +1,4 @@
--- Lists of calls, the record that they leave and the row of workers that they lay end to end (document 01, "What demand 3 ranges over").
+-- Lists of calls, what they answer, the record that they leave and the row of workers that they lay end to end (document 01, "What demand 3 ranges over").
 use Prim.Native.Nat.{ℕ, _%_}
 use mathlib.Core.List.{List, [], _∷_, _++_}
 use lib.ListN.{take}
@@ -49,3 +49,20 @@ afterCalls (c ∷ cs) r = afterCalls cs (afterCall c r)
 unfoldable pub rowOfCalls : List Call → Run → List ℕ
 rowOfCalls [] r = []
 rowOfCalls (c ∷ cs) r = rowOf c r ++ rowOfCalls cs (afterCall c r)
+
+-- ---- answers
+
+-- what a call answers besides the record
+pub data Answer : Type 0 where
+  turning : Turning → Answer
+  report : Report → Answer
+
+abbrev pub answerOf : Call → Run → Answer
+answerOf (turn w) r = turning (turned r w .answer)
+answerOf (overList l) r = report (listRun r l .report)
+answerOf (inRounds limit) r = report (roundsRun r limit .report)
+
+-- each on the record that the last one left
+unfoldable pub answersOf : List Call → Run → List Answer
+answersOf [] r = []
+answersOf (c ∷ calls) r = answerOf c r ∷ answersOf calls (afterCall c r)

@@ -24,4 +24,5 @@ pub mod Actives
 pub mod Parents
 pub mod LinkCases
 pub mod RowList
+pub mod OldRuns
 pub mod Code

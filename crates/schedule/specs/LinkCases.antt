@@ -1,11 +1,15 @@
--- Links, worked: the list 2 0 1 in links of four threads, what a fork and an end write, what a search finds, and links that describe no list.
+-- Links, worked: the list 2 0 1 in links of four threads, what a fork and an end write, what a search finds, and links that describe no list; and the same list in a row.
 use mathlib.Core.Path.{_≡_, refl}
 use mathlib.Core.List.{List, [], _∷_}
+use mathlib.Core.Bool.{true, false}
 use Prim.Native.Nat.{ℕ}
-use lib.ListN.{take}
+use lib.ListN.{take, replicate}
+use Rattle.order.specs.Words.{sameList}
 use Rattle.order.specs.Firsts.{firsts}
 use Rattle.schedule.specs.Links.{noThread, Links, walk, rightIn, leftAfter, laid, linkLeft, unlink, linkLast, seek}
 use Rattle.schedule.specs.Actives.{actives, filledFrom}
+use Rattle.schedule.specs.RowList.{rowed, readRow}
+use Rattle.schedule.specs.OldRuns.{sameRow}
 
 abbrev links : List ℕ → List ℕ → ℕ → Links
 links left right head = record { left = left; right = right; head = head }
@@ -79,3 +83,9 @@ filled-worked : (let k : Links = filledFrom 3 (1 ∷ 3 ∷ 2 ∷ []) (1 ∷ 2 �
     record { left = k .left; right = k .right; head = k .head }) ≡ links (noThread ∷ 9 ∷ 0 ∷ []) (2 ∷ 9 ∷ noThread ∷ []) 0
 unfolding filledFrom linkLast
 filled-worked = refl
+
+-- the same list as it was kept before N10: in a row of numbers whose unused places are 0, which the old test of a record asks, and one where they are not
+row-worked : (sameRow (rowed (2 ∷ 0 ∷ 1 ∷ [])) (rowed (readRow (rowed (2 ∷ 0 ∷ 1 ∷ [])))) ≡ true)
+    × (sameRow (record { list = 2 ∷ 0 ∷ 1 ∷ 7 ∷ replicate 1020 0; listed = 3 }) (rowed (2 ∷ 0 ∷ 1 ∷ [])) ≡ false)
+unfolding sameList
+row-worked = (refl, refl)

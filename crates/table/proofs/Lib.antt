@@ -9,6 +9,7 @@ pub mod Nesting
 pub mod Unjoined
 pub mod WellFormed
 pub mod WellNested
+pub mod FirstUnnested
 pub mod Serial
 pub mod Rank
 pub mod Levels

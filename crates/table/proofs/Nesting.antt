@@ -22,12 +22,12 @@ isEmpty-true : (l : List ℕ) → isEmpty l ≡ true → l ≡ []
 isEmpty-true [] e = refl
 isEmpty-true (x ∷ l) e = cc
 
-isLatest-true : (d : ℕ) (l : List ℕ) → isLatest d l ≡ true → l ≡ d ∷ tail l
+pub isLatest-true : (d : ℕ) (l : List ℕ) → isLatest d l ≡ true → l ≡ d ∷ tail l
 isLatest-true d [] e = cc
 isLatest-true d (x ∷ l) e = cc (eqb-true d x e)
 
 -- of two tests that are not both true, the second is false where the first is true
-and-second : (s t : Bool) → (s && t) ≡ false → s ≡ true → t ≡ false
+pub and-second : (s t : Bool) → (s && t) ≡ false → s ≡ true → t ≡ false
 and-second true t e p = e
 and-second false t e p = cc
 
@@ -64,6 +64,23 @@ forks-true T d a e =
 
 pub fork-forks : (T : Table) (d a : ℕ) → kind T a ≡ fork → T .argument a ≡ d → forks T d a ≡ true
 fork-forks T d a k e = rw (same-is fork (kind T a) k) (eq-eqb (T .argument a) d e)
+
+-- no two forks of one child, in order
+pub fork-not-later : (T : Table) (x y : ℕ) → forkedBefore T y ≡ false → x < y → kind T x ≡ fork → kind T y ≡ fork → T .argument x ≡ T .argument y → ⊥
+unfolding forkedBefore forkedBelow
+fork-not-later T x y n l i j e =
+    no-way (cc (
+      and-second _ _ n (same-is fork (kind T y) j),
+      some-anyBelow (forks T (T .argument y)) y x l (fork-forks T (T .argument y) x i e),
+    ))
+
+pub once-below : (T : Table) (m : ℕ) → ((a : ℕ) → a < m → forkedBefore T a ≡ false) → (x y : ℕ) → x < m → y < m → kind T x ≡ fork → kind T y ≡ fork → T .argument x ≡ T .argument y → x ≡ y
+once-below T m n x y h k i j e = go (decLt x y) (decLt y x)
+  where
+    go : Dec (x < y) → Dec (y < x) → x ≡ y
+    go (yes l) d = absurd (fork-not-later T x y (n y k) l i j e)
+    go (no l) (yes r) = absurd (fork-not-later T y x (n x h) r j i (sym e))
+    go (no l) (no r) = omega arith
 
 -- kinds that open or close no child leave the list as it is
 opened-same : (k : Kind) (d : ℕ) (l : List ℕ) → is end k ≡ false → is fork k ≡ false → is join k ≡ false → opened k d l ≡ l
@@ -148,22 +165,8 @@ module _ (T : Table) (c : ContentRules T) (b : BodyRules T) (n : NestRules T) wh
       let o = open-forked a d h m in
       rw (o .3) at (fork-below T c b (o .0) (omega (arith, o .1)) (o .2))
 
-  -- no two forks of one child, in order
-  fork-not-later : (x y : ℕ) → x < y → y < T .actions → kind T x ≡ fork → kind T y ≡ fork → T .argument x ≡ T .argument y → ⊥
-  unfolding forkedBefore forkedBelow
-  fork-not-later x y l h i j e =
-      no-way (cc (
-        and-second _ _ (n .once y h) (same-is fork (kind T y) j),
-        some-anyBelow (forks T (T .argument y)) y x l (fork-forks T (T .argument y) x i e),
-      ))
-
   pub fork-once : (x y : ℕ) → x < T .actions → y < T .actions → kind T x ≡ fork → kind T y ≡ fork → T .argument x ≡ T .argument y → x ≡ y
-  fork-once x y h k i j e = go (decLt x y) (decLt y x)
-    where
-      go : Dec (x < y) → Dec (y < x) → x ≡ y
-      go (yes l) d = absurd (fork-not-later x y l k i j e)
-      go (no l) (yes m) = absurd (fork-not-later y x m h j i (sym e))
-      go (no l) (no m) = omega arith
+  fork-once = once-below T (T .actions) (n .once)
 
   forkBelow-found : (m a : ℕ) → m ≤ T .actions → a < m → kind T a ≡ fork → forkBelow T m (T .argument a) ≡ a
   unfolding forkBelow

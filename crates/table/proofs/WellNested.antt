@@ -24,7 +24,7 @@ Forked T = (t : ℕ) → 0 < t → t < T .threads → ForkedOnce T t
 -- ---- the head of the open children is the latest unjoined child
 
 module _ (T : Table) (t a : ℕ) where
-  head-latest : (d : ℕ) (l r : List ℕ) → OpenForks T t a l → l ≡ d ∷ r → Latest T t a d
+  pub head-latest : (d : ℕ) (l r : List ℕ) → OpenForks T t a l → l ≡ d ∷ r → Latest T t a d
   head-latest d l r o e = go (o .forks) (sym (o .of-forks) ∙ e) (o .falling) (o .exactly)
     where
       go : (s : List ℕ) → map (T .argument) s ≡ d ∷ r → Falling s → ((x : ℕ) → List·Memᴰ x s ↔ Unjoined T t a (T .argument x) x) → Latest T t a d
@@ -37,7 +37,7 @@ module _ (T : Table) (t a : ℕ) where
           first x (inl e) = omega arith
           first x (inr i) = omega (arith, f .0 x i)
 
-  latest-head : (d : ℕ) (l : List ℕ) → OpenForks T t a l → Latest T t a d → l ≡ d ∷ tail l
+  pub latest-head : (d : ℕ) (l : List ℕ) → OpenForks T t a l → Latest T t a d → l ≡ d ∷ tail l
   latest-head d l o q = rw (o .of-forks) (go (o .forks) (o .falling) (λ x. o .exactly x .0) (o .exactly (q .action) .1 (rw named (q .unjoined))))
     where
       named : T .argument (q .action) ≡ d
@@ -59,7 +59,7 @@ module _ (T : Table) (t a : ℕ) where
       go [] m = refl
       go (y ∷ s) m = absurd (none (T .argument y) y (m y (List·Memᴰ·head refl)))
 
-  empty-none : OpenForks T t a [] → (d x : ℕ) → Unjoined T t a d x → ⊥
+  pub empty-none : OpenForks T t a [] → (d x : ℕ) → Unjoined T t a d x → ⊥
   empty-none o d x u = go (o .forks) (o .of-forks) (o .exactly x .1 (rw (u .forked .named) u))
     where
       go : (s : List ℕ) → [] ≡ map (T .argument) s → List·Memᴰ x s → ⊥
@@ -99,7 +99,7 @@ spared j k t h = go (is j k) refl
     go true e = h (is-true j k e)
     go false e = refl
 
-isLatest-head : (d : ℕ) (l r : List ℕ) → l ≡ d ∷ r → not (isLatest d l) ≡ false
+pub isLatest-head : (d : ℕ) (l r : List ℕ) → l ≡ d ∷ r → not (isLatest d l) ≡ false
 isLatest-head d l r e = rw (e, eq-eqb d d refl)
 
 module _ (T : Table) (c : ContentRules T) (b : BodyRules T) (f : Forked T) (w : WellNested T) where

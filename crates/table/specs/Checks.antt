@@ -115,7 +115,9 @@ opened fork c l = c ∷ l
 opened join c l = tail l
 opened unknown c l = l
 
--- the children that an action's thread has forked and not yet joined before it, the latest first (`rules-unjoined`, proofs/Unjoined)
+-- The children that an action's thread has forked and not yet joined before it, the latest first, where the bodies are right (checks 4 to 7) and 8 and 9 apply to no action before it (`open-unjoined`,
+-- proofs/Unjoined). A join takes the latest off whatever it names, so after one that names another the list says nothing; but that join is refused, so 9 is given exactly at the first action that
+-- breaks the paper's sentence (`refused-nine`, proofs/FirstUnnested).
 unfoldable pub openBefore : Table → ℕ → List ℕ
 openBefore T zero = []
 openBefore T (suc a) = opened (kind T a) (T .argument a) (openBefore T a)

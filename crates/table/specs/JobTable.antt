@@ -1,5 +1,5 @@
 -- A job table in the words of document 01, "The job table", said of the numbers that specs/Format reads off the bytes and without any of the checks. That a
--- table is accepted exactly when it is one is `accepted-job-table` (proofs/JobTables).
+-- table is accepted exactly when it is one is `accepted-job-table` (proofs/JobTables). At the end, in the same words, where 9 is given.
 use mathlib.Core.Path.{_≡_}
 use Prim.Native.Nat.{ℕ, zero, suc, _+_, _*_, _≤_, _<_}
 use mathlib.Core.List.{List}
@@ -89,6 +89,11 @@ pub record WellNested (T : Table) : Type 0 where
   pub joins : (t c a : ℕ) → Names T join t c a → Latest T t a c
   pub ends : (t a : ℕ) → InBody T t a → kind T a ≡ end → (c x : ℕ) → Unjoined T t a c x → ⊥
 
+-- action a breaks that sentence
+pub data BreaksNesting (T : Table) (a : ℕ) : Type 0 where
+  not-latest : (t c : ℕ) → Names T join t c a → (Latest T t a c → ⊥) → BreaksNesting T a
+  left-unjoined : (t c x : ℕ) → InBody T t a → kind T a ≡ end → Unjoined T t a c x → BreaksNesting T a
+
 -- ---- balances
 
 -- z 0 + z 1 + .. + z (k - 1), signed
@@ -131,3 +136,15 @@ pub record JobTable (s : List ℕ) : Type 0 where
   pub forked : (c : ℕ) → 0 < c → c < tableOf s .threads → ForkedOnce (tableOf s) c
   pub nested : WellNested (tableOf s)
   pub balanced : Balanced (tableOf s)
+
+-- ---- refusal 9
+
+-- 9 at action a: no earlier check applies (1 to 7: the bytes are sized, laid out and well formed; 8: no action before a forks a thread that an earlier one has forked), and a is the first action
+-- that breaks the sentence on joins and ends. That a table is refused so exactly there is `refused-nine` (proofs/FirstUnnested).
+pub record FirstUnnested (s : List ℕ) (a : ℕ) : Type 0 where
+  pub sized : Sized s
+  pub laid : LaidOut (tableOf s)
+  pub formed : WellFormed (tableOf s)
+  pub once : (x y : ℕ) → x < y → y < a → kind (tableOf s) x ≡ fork → kind (tableOf s) y ≡ fork → tableOf s .argument x ≡ tableOf s .argument y → ⊥
+  pub kept : (x : ℕ) → x < a → BreaksNesting (tableOf s) x → ⊥
+  pub breaks : BreaksNesting (tableOf s) a

@@ -197,7 +197,7 @@ steps who k i r d h b g =
       goes = rw z (record { left = left-step r (who i) (firsts who (suc i) (j - suc i)) (d .run) h b (g .goes .left); steady = g .goes .steady });
     }
 
-worker-there : (r : Run) (w : ℕ) → noWorker r w ≡ false → w < r .workers
+pub worker-there : (r : Run) (w : ℕ) → noWorker r w ≡ false → w < r .workers
 unfolding noWorker
 worker-there r w e = ltb-true w (r .workers) (not-false _ e)
 
