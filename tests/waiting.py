@@ -3,7 +3,8 @@ workers on each of TABLES.
 
 Asked of the model as the examples are: no worker is left waiting, no step finds memory that is not drawn, real memory stays within the highest, nobody sleeps over a ready thread, and no
 interleaving goes on for ever: there is no cycle at all, so that no fairness is needed but that some worker that can go on does. The same where workers stop for good once a turn has left them
-without a thread, as long as one goes on, but for the sleeping. Each fault of FAULTS must be found, so that the model is known to see it. The model's turns are those of machine.py, in random runs.
+without a thread, as long as one goes on, but for the sleeping. Each fault of FAULTS must be found, so that the model is known to see it; without the signals at an end and a quota stop nothing
+goes wrong as long as no worker stops. The model's turns are those of machine.py, in random runs.
 
 usage: python3 tests/waiting.py
     From the repository's top; needs spin and a C compiler, `cc`, and says so where one is not at hand.
@@ -34,6 +35,14 @@ TABLES = [
     (table([fork(1), join(1), end], [fork(2), join(2), end], [alloc(1), free(1), end]), 1),
     # two children, of which one is stopped
     (table([fork(1), fork(2), join(2), join(1), end], [alloc(1), alloc(1), end], [end]), 1),
+]
+# the name of what is asked, the model's macros, and whether it is asked of cycles
+MODELS = [
+    ('every-end', ['WOKEN=1'], False),
+    ('no-cycle', ['WOKEN=1'], True),
+    ('every-end-some-away', ['WOKEN=0', 'STAYS_AWAY'], False),
+    ('no-cycle-some-away', ['WOKEN=0', 'STAYS_AWAY'], True),
+    ('fork-signals-alone', ['WOKEN=0', 'NO_END_SIGNAL', 'NO_QUOTA_SIGNAL'], False),
 ]
 # a fault, with what it needs to show, and what spin says of it
 FAULTS = [
@@ -73,7 +82,7 @@ def written():
     shutil.copy('tests/waiting.pml', FOLDER)
 
 
-def verified(name, defines, cycles=False):
+def verified(name, defines, cycles):
     """What the verifier says of the model with the macros given: on end states and assertions, or on cycles."""
     folder = '%s/%s' % (FOLDER, name)
     os.makedirs(folder, exist_ok=True)
@@ -93,7 +102,7 @@ def found(told):
     return line and line[1], int(states)
 
 
-def good(name, defines, cycles=False):
+def good(name, defines, cycles):
     error, states = found(verified(name, defines, cycles))
     if error:
         sys.exit('%s: %s' % (name, error))
@@ -102,7 +111,7 @@ def good(name, defines, cycles=False):
 
 def faulty(fault, defines, expected):
     name = ' '.join([fault] + defines)
-    error, _ = found(verified(name.replace(' ', '-'), [fault, 'WOKEN=0'] + defines))
+    error, _ = found(verified(name.replace(' ', '-'), [fault, 'WOKEN=0'] + defines, False))
     if not error or expected not in error:
         sys.exit('%s: not found, but %s' % (name, error))
     return '%s: %s' % (name, error)
@@ -139,9 +148,7 @@ def main():
     turns = sum(compared(i, p, seed) for i in range(len(TABLES)) for p in WORKERS for seed in range(1, SEEDS + 1))
     print('%d turns in random runs of the model are the machine\'s' % turns)
     with ThreadPoolExecutor(os.cpu_count()) as pool:
-        told = [pool.submit(good, 'every-end', ['WOKEN=1']), pool.submit(good, 'no-cycle', ['WOKEN=1'], True),
-                pool.submit(good, 'every-end-some-away', ['WOKEN=0', 'STAYS_AWAY']), pool.submit(good, 'no-cycle-some-away', ['WOKEN=0', 'STAYS_AWAY'], True)]
-        told += [pool.submit(faulty, *fault) for fault in FAULTS]
+        told = [pool.submit(good, *model) for model in MODELS] + [pool.submit(faulty, *fault) for fault in FAULTS]
         for line in told:
             print(line.result())
 

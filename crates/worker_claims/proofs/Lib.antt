@@ -2,3 +2,6 @@
 pub mod WorkersByValue
 pub mod WorkersFromC
 pub mod DequeWorkersByValue
+pub mod DequeWorkersFromC
+-- what a worker reads from C
+pub mod ActionSays

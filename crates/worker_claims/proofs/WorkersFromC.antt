@@ -3,17 +3,12 @@
 -- `lent-worked-exists`: every list of events that keeps the rule has one. `lent-code-real-memory`: and so all that crates/workers says of real memory holds.
 use mathlib.Core.Path.{_≡_, refl, sym, ap, ap₂, subst, _∙_}
 use Prim.Native.Nat.{ℕ, _<_}
-use native.Mathlib.Omega.{arith}
 use native.Mathlib.Decide.{ℕ-discrete}
 use mathlib.Core.List.{List, [], _∷_, _++_}
 use lib.Dec.{eqb}
-use lib.ListN.{length, getD}
-use contract.Lifetimes.{Lfts}
-use denote.Ref.{RefT, now}
-use denote.Triple.Clauses.{AtExit}
-use borrow.Fn.Kinds.{endedOf}
+use lib.ListN.{length}
 use Rattle.table.specs.Sum.{pick}
-use Rattle.table.specs.Format.{Table, kindOf, kind, tableOf}
+use Rattle.table.specs.Format.{kindOf, tableOf}
 use Rattle.table.specs.Pass.{tryAt}
 use Rattle.table.specs.declared.Found.{Found}
 use Rattle.table.specs.declared.Found.the-variants.{Nothing, At}
@@ -23,7 +18,7 @@ use Rattle.filling.specs.Filled.{filledOut}
 use Rattle.order.proofs.Lists.{filled-front}
 use Rattle.schedule.specs.declared.Run.{Run}
 use Rattle.schedule.specs.declared.Begun.{Begun}
-use Rattle.schedule.specs.declared.Reply.the-variants.{Idle, Done, Quota, Wait}
+use Rattle.schedule.specs.declared.Reply.the-variants.{Done}
 use Rattle.schedule.specs.declared.Turning.{Turning}
 use Rattle.schedule.specs.declared.Turning.the-variants.{Taken, Refused}
 use Rattle.schedule.specs.Machine.{Stepped}
@@ -42,58 +37,19 @@ use Rattle.run_memory.specs.Memory.{Memory, Answer, lentTurn}
 use Rattle.run_memory.specs.Stands.{runIn, Stands, valuesRow}
 use Rattle.soundness.specs.Tested.{begunInto}
 use Rattle.wivakkol.specs.Lent.{lentBegin}
-use Rattle.wivakkol_turn.specs.Actions.{kindCode, argumentOf}
-use Rattle.wivakkol_turn.proofs.Numbered.{own-kind, own-argument}
-use Rattle.wivakkol_turn.proofs.actions.wivakkol_kind.Kinds as kind-kinds
-use Rattle.wivakkol_turn.proofs.actions.wivakkol_kind.Reads as kind-promise
-use Rattle.wivakkol_turn.proofs.actions.wivakkol_argument.Kinds as argument-kinds
-use Rattle.wivakkol_turn.proofs.actions.wivakkol_argument.Reads as argument-promise
 use Rattle.claims.specs.LentCalls.{moving, Returned, lentMove, lentCall, lentRowOf, tableThatRuns}
-use Rattle.claims.proofs.LentSays.{BeginSays, TurnSays, begin-is, turn-is, begin-says, turn-says, lentOf}
+use Rattle.claims.proofs.LentSays.{BeginSays, TurnSays, begin-is, turn-is, begin-says, turn-says}
 use Rattle.claims.proofs.LentLimit.{CallRefines, call-refines, begun-there, begun-stands}
 use Rattle.claims.proofs.FromC.{runs-so}
 use Rattle.claims.proofs.Shaped.{Shaped}
 use Rattle.claims.proofs.Sizes.{begin-shaped, call-shaped}
-use Rattle.workers.specs.Real.{Effect, nothing, effectBy, effectOf, none, Real, noMemory, byTurn, byWork}
+use Rattle.workers.specs.Real.{Effect, nothing, effectBy, none, Real, noMemory, byTurn, byWork}
 use Rattle.workers.specs.Workers.{Event, turn, work, Workers, starting, effectIn, afterEvent, afterEvents, MayCome, Orderly, callsOf}
 use Rattle.workers.proofs.RealMemory.{RealMemory, real-memory}
+use Rattle.worker_claims.proofs.ActionSays.{KindSays, ArgumentSays, kind-is, argument-is, kind-says, argument-says, saidIn, threadIn, actionIn, readIn, refused-silent, done-read, other-nothing, reply-number}
 use Rattle.worker_claims.proofs.WorkersByValue.{DefinedWork}
 
--- ---- what the promises say
-
--- `wivakkol_kind`, lent a table s, answered k to action a
-pub record KindSays (s : List ℕ) (a k : ℕ) : Type 0 where
-  pub lifetimes : Lfts 1
-  pub table : RefT (List ℕ)
-  pub lent : now table ≡ s
-  pub exit : AtExit (endedOf 1 kind-kinds.ps kind-kinds.r) lifetimes
-  pub promised : kind-promise.Learnt lifetimes (table, (a, tt)) k exit
-
--- `wivakkol_argument`
-pub record ArgumentSays (s : List ℕ) (a x : ℕ) : Type 0 where
-  pub lifetimes : Lfts 1
-  pub table : RefT (List ℕ)
-  pub lent : now table ≡ s
-  pub exit : AtExit (endedOf 1 argument-kinds.ps argument-kinds.r) lifetimes
-  pub promised : argument-promise.Learnt lifetimes (table, (a, tt)) x exit
-
-kind-is : {s : List ℕ} {a k : ℕ} → KindSays s a k → k ≡ kindCode s a
-kind-is {s} {a} h = h .promised ∙ ap (λ (u : List ℕ). kindCode u a) (h .lent)
-
-argument-is : {s : List ℕ} {a x : ℕ} → ArgumentSays s a x → x ≡ argumentOf s a
-argument-is {s} {a} h = h .promised ∙ ap (λ (u : List ℕ). argumentOf u a) (h .lent)
-
 -- ---- events
-
--- the numbers of a turn's row: what is said, where 2 is done, the thread and the action
-abbrev pub saidIn : Answer → ℕ
-saidIn a = getD (a .row) 1 0
-
-abbrev pub threadIn : Answer → ℕ
-threadIn a = getD (a .row) 2 0
-
-abbrev pub actionIn : Answer → ℕ
-actionIn a = getD (a .row) 3 0
 
 abbrev pub takenRow : Answer → ℕ → List ℕ
 takenRow a w = pick (eqb (a .number) 0) (w ∷ []) []
@@ -146,35 +102,23 @@ module _ (u : List ℕ) (M : Memory) (h : Stands u M) (w : ℕ) where
   unfolding lentMove
   row-so = ap (λ (x : Returned). x .row) (step .answer)
 
-  own-effect : (t a : ℕ) → a < tableOf u .actions → effectBy (kindOf (kindCode u a)) t (argumentOf u a) ≡ effectOf (tableOf u) (Done t a)
-  unfolding effectOf tableOf
-  own-effect t a b = rw (own-kind u a b, own-argument u a b)
-
-  done-effect : saidIn (lentTurn u w M) ≡ 2
-      → effectBy (kindOf (kindCode u (actionIn (lentTurn u w M)))) (threadIn (lentTurn u w M)) (argumentOf u (actionIn (lentTurn u w M)))
-      ≡ effectIn (tableIn (runIn u M)) (turned (runIn u M) w .answer)
+  done-effect : saidIn (lentTurn u w M) ≡ 2 → readIn u (lentTurn u w M) ≡ effectIn (tableIn (runIn u M)) (turned (runIn u M) w .answer)
   done-effect = go (turned (runIn u M) w .answer) refl row-so
     where
       go : (x : Turning) → turned (runIn u M) w .answer ≡ x → lentTurn u w M .row ≡ valuesRow (turningValues x) → saidIn (lentTurn u w M) ≡ 2
-          → effectBy (kindOf (kindCode u (actionIn (lentTurn u w M)))) (threadIn (lentTurn u w M)) (argumentOf u (actionIn (lentTurn u w M))) ≡ effectIn (tableIn (runIn u M)) x
-      go (Taken Idle k) e r q = let z : _≡_ {A = ℕ} 1 2 = rw r at q in absurd (omega arith)
-      go (Taken (Quota t y) k) e r q = let z : _≡_ {A = ℕ} 3 2 = rw r at q in absurd (omega arith)
-      go (Taken (Wait t c) k) e r q = let z : _≡_ {A = ℕ} 4 2 = rw r at q in absurd (omega arith)
-      go (Refused y) e r q = let z : _≡_ {A = ℕ} 0 2 = rw r at q in absurd (omega arith)
-      go (Taken (Done t a) k) e r q =
-          let b : a < tableOf u .actions = rw table-is at (action-there (runIn u M) (h .steady) w t a k e) in
-          rw r (own-effect t a b ∙ ap (λ (T : Table). effectOf T (Done t a)) (sym table-is))
+          → readIn u (lentTurn u w M) ≡ effectIn (tableIn (runIn u M)) x
+      go (Taken x k) e r q =
+          let there : (t a : ℕ) → x ≡ Done t a → a < tableOf u .actions =
+          λ t a i. rw table-is at (action-there (runIn u M) (h .steady) w t a k (rw i at e)) in
+          rw table-is (done-read u x k (lentTurn u w M) r q there)
+      go (Refused y) e r q = absurd (refused-silent y (lentTurn u w M) r q)
 
   other-effect : (lentTurn u w M .number ≡ 0 → saidIn (lentTurn u w M) ≡ 2 → ⊥) → nothing ≡ effectIn (tableIn (runIn u M)) (turned (runIn u M) w .answer)
-  unfolding effectOf
   other-effect n = go (turned (runIn u M) w .answer) number-is row-so
     where
       go : (x : Turning) → lentTurn u w M .number ≡ turningValues x .number → lentTurn u w M .row ≡ valuesRow (turningValues x) → nothing ≡ effectIn (tableIn (runIn u M)) x
-      go (Taken Idle k) i r = refl
-      go (Taken (Quota t y) k) i r = refl
-      go (Taken (Wait t c) k) i r = refl
+      go (Taken x k) i r = other-nothing (tableIn (runIn u M)) x k (lentTurn u w M) r (n (i ∙ reply-number x))
       go (Refused y) i r = refl
-      go (Taken (Done t a) k) i r = absurd (n i (ap (λ (l : List ℕ). getD l 1 0) r))
 
   module _ (m : Real) where
     -- with the effect read, what stands after the turn is the event's
@@ -209,7 +153,7 @@ lent-worked-is {u} h (by-done {M} {N} {m} {n} {l} {row} {a} {k} {x} w free says 
     let e : a ≡ lentTurn u w M = turn-is says in
     let i : DefinedWork (standing u (a .memory) (byTurn (effectBy (kindOf k) (threadIn a) x) w m)) l row (standing u N n) =
     lent-worked-is (subst (λ (y : Answer). Stands u (y .memory)) (sym e) (stands-after u M h w)) t in
-    let q : effectBy (kindOf k) (threadIn a) x ≡ effectBy (kindOf (kindCode u (actionIn a))) (threadIn a) (argumentOf u (actionIn a)) =
+    let q : effectBy (kindOf k) (threadIn a) x ≡ readIn u a =
     rw (kind-is kinds, argument-is arguments) in
     let b : effectBy (kindOf k) (threadIn a) x ≡ effectIn (tableIn (runIn u M)) (turned (runIn u M) w .answer) =
     q ∙ rw e (done-effect u M h w (rw e at said)) in
@@ -239,12 +183,6 @@ shaped-after : (u : List ℕ) (M : Memory) → Shaped M → (w : ℕ) → Shaped
 unfolding lentCall lentMove
 shaped-after u M h w = call-shaped u (moving (turnCall w)) M h
 
-kind-says : (s : List ℕ) (a : ℕ) → KindSays s a (kindCode s a)
-kind-says s a = record { lifetimes = ([], tt); table = lentOf s; lent = refl; exit = (lentOf s, (a, tt)); promised = refl }
-
-argument-says : (s : List ℕ) (a : ℕ) → ArgumentSays s a (argumentOf s a)
-argument-says s a = record { lifetimes = ([], tt); table = lentOf s; lent = refl; exit = (lentOf s, (a, tt)); promised = refl }
-
 pub lent-worked-exists : (l : List Event) (u : List ℕ) (M : Memory) (m : Real) → Shaped M → Stands u M → Orderly l (standing u M m) → LentEnd u M m l
 unfolding Orderly MayCome afterEvent
 lent-worked-exists [] u M m k h o = record { row = []; memory = M; real = m; worked = over }
@@ -271,7 +209,7 @@ lent-worked-exists (turn w ∷ l) u M m k h o = go (ℕ-discrete (a .number) 0) 
     go (no n) d next = other next (λ e q. n e)
     go (yes e) (no n) next = other next (λ i q. n q)
     go (yes e) (yes d) next =
-        let i = next (effectBy (kindOf (kindCode u (actionIn a))) (threadIn a) (argumentOf u (actionIn a))) (done-effect u M h w d) in
+        let i = next (readIn u a) (done-effect u M h w d) in
         record {
           row = takenRow a w ++ i .row;
           memory = i .memory;

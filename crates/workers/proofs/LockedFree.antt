@@ -1,6 +1,6 @@
 -- The limits hold at every moment, also between the turn of a free and the free itself, while the others go on with what is pending for them: no turn comes in between, since the lock is not given back.
 -- Until the free is made, real memory agrees with the record before its turn.
-use mathlib.Core.Path.{_≡_, refl, sym, ap, _∙_}
+use mathlib.Core.Path.{_≡_, refl, sym, _∙_}
 use Prim.Native.Nat.{ℕ, _+_, _≤_, _<_}
 use native.Mathlib.Omega.{arith}
 use native.Mathlib.Decide.{ℕ-discrete}

@@ -53,3 +53,8 @@ unfoldable pub callsOf : List Event → List Call
 callsOf [] = []
 callsOf (turn w ∷ l) = turnCall w ∷ callsOf l
 callsOf (work w ∷ l) = callsOf l
+
+-- turns of the workers given, each followed at once by what it leaves to do
+unfoldable pub inTurn : List ℕ → List Event
+inTurn [] = []
+inTurn (w ∷ row) = turn w ∷ work w ∷ inTurn row
