@@ -8,6 +8,7 @@ use Rattle.deques.specs.declared.DequeRun.{DequeRun}
 use Rattle.deques.specs.declared.DequeTurning.{DequeTurning}
 use Rattle.deques.specs.declared.DequeTurning.the-variants.{Taken, Refused}
 use Rattle.deques.specs.DequeTurn.{dequeTurned}
+use Rattle.deques.specs.DequeRuns.{Pair}
 use Rattle.deques.specs.DequeCalls.{DequeCall}
 use Rattle.deques.specs.DequeCalls.{turn as turnCall}
 use Rattle.workers.specs.Real.{Effect, nothing, effectOf, none, Real, noMemory, byTurn, byWork}
@@ -53,3 +54,8 @@ unfoldable pub dequeCallsOf : List DequeEvent → List DequeCall
 dequeCallsOf [] = []
 dequeCallsOf (turn w c ∷ l) = turnCall w c ∷ dequeCallsOf l
 dequeCallsOf (work w ∷ l) = dequeCallsOf l
+
+-- turns of the pairs given, each followed at once by what it leaves to do
+unfoldable pub dequeInTurn : List Pair → List DequeEvent
+dequeInTurn [] = []
+dequeInTurn (g ∷ row) = turn (g .worker) (g .choice) ∷ work (g .worker) ∷ dequeInTurn row

@@ -1,5 +1,5 @@
 -- Real memory for the running code of DFDeques, by value: each turn is a call of `dfdeques::deque_turn` on the record that the last one left, of which nothing is known but its promise.
--- `deque-worked-is`: the record, real memory and the row of pairs are those of the definitions. `deque-worked-exists`: every list of events that keeps rule 4 has one.
+-- `deque-worked-is`: the record, real memory and the row of pairs are those of the definitions. `deque-worked-exists`: every list of events that keeps rule 4 has one, and so from a beginning every row of pairs (`deque-turns-worked-exist`).
 -- `deque-code-real-memory`: and so all that crates/deque_workers says of real memory holds.
 use mathlib.Core.Path.{_≡_, refl, sym, ap, ap₂, subst, _∙_}
 use Prim.Native.Nat.{ℕ}
@@ -16,8 +16,8 @@ use Rattle.deques.specs.DequeRuns.{Pair, pair}
 use Rattle.deques.specs.DequeCalls.{dequeTurnRow, afterDequeCall, pairsOf, pairsOfCalls}
 use Rattle.deques.proofs.DequeAnswers.{deque-turn-values}
 use Rattle.workers.specs.Real.{none, byTurn, byWork}
-use Rattle.deque_workers.specs.DequeWorkers.{DequeEvent, turn, work, DequeWorkers, startingDeques, dequeEffectIn, afterDequeEvent, afterDequeEvents, DequeMayCome, DequeOrderly, dequeCallsOf}
-use Rattle.deque_workers.proofs.DequeRealMemory.{DequeRealMemory, deque-real-memory}
+use Rattle.deque_workers.specs.DequeWorkers.{DequeEvent, turn, work, DequeWorkers, startingDeques, dequeEffectIn, afterDequeEvent, afterDequeEvents, DequeMayCome, DequeOrderly, dequeCallsOf, dequeInTurn}
+use Rattle.deque_workers.proofs.DequeRealMemory.{DequeRealMemory, deque-real-memory, deque-in-turn-orderly}
 use Rattle.deque_claims.proofs.ByValue.{BeginSays, TurnSays, begin-is, begin-says}
 
 -- what worker w does with the answer of its turn
@@ -69,6 +69,11 @@ pub deque-begun-worked-exists : (s : List ℕ) (p K : ℕ) (l : List DequeEvent)
     → BeginSays s p K (dequeBegin s p K)
     × DequeWorked (startingDeques (dequeBegin s p K .run)) l (pairsOfCalls (dequeCallsOf l) (dequeBegin s p K .run)) (afterDequeEvents l (startingDeques (dequeBegin s p K .run)))
 deque-begun-worked-exists s p K l o = (begin-says s p K, deque-worked-exists l (startingDeques (dequeBegin s p K .run)) o)
+
+-- for every row of pairs
+pub deque-turns-worked-exist : (s : List ℕ) (p K : ℕ) (row : List Pair)
+    → (taken : List Pair) × ((z : DequeWorkers) × (BeginSays s p K (dequeBegin s p K) × DequeWorked (startingDeques (dequeBegin s p K .run)) (dequeInTurn row) taken z))
+deque-turns-worked-exist s p K row = (_, (_, deque-begun-worked-exists s p K (dequeInTurn row) (deque-in-turn-orderly row (startingDeques (dequeBegin s p K .run)) (λ w. refl))))
 
 -- Beginning accepted the bytes, p and K, and any events followed.
 pub deque-code-real-memory : {s : List ℕ} {p K : ℕ} {b : DequeBegun} → BeginSays s p K b → b .answer ≡ started → {l : List DequeEvent} {row : List Pair} {z : DequeWorkers}

@@ -1,6 +1,6 @@
 -- Real memory for the calls of DFDeques from C: each turn is a call of `wivakkol_deque_turn_on` on the memory that the last one left; where it says done, `wivakkol_kind` and `wivakkol_argument`
 -- say what its worker does. Nothing is known but their promises. `lent-deque-worked-is`: what stands in memory, real memory and the row of pairs are those of the definitions.
--- `lent-deque-worked-exists`: every list of events that keeps rule 4 has one, and so from a beginning (`lent-deque-begun-worked-exists`). `lent-deque-code-real-memory`: and so all that
+-- `lent-deque-worked-exists`: every list of events that keeps rule 4 has one, and so from a beginning every row of pairs (`lent-deque-turns-worked-exist`). `lent-deque-code-real-memory`: and so all that
 -- crates/deque_workers says of real memory holds.
 use mathlib.Core.Path.{_≡_, refl, sym, ap, ap₂, subst, _∙_}
 use Prim.Native.Nat.{ℕ, _<_}
@@ -40,8 +40,8 @@ use Rattle.deque_claims.proofs.DequeSays.{TurnSays, turn-is, turn-says}
 use Rattle.deque_claims.proofs.DequesRefine.{CallRefines, deque-call-refines, begun-deques-stand, begun-deques-there}
 use Rattle.deque_claims.proofs.DequeSizes.{deque-call-shaped}
 use Rattle.workers.specs.Real.{Effect, nothing, effectBy, none, Real, noMemory, byTurn, byWork}
-use Rattle.deque_workers.specs.DequeWorkers.{DequeEvent, turn, work, DequeWorkers, startingDeques, dequeEffectIn, afterDequeEvent, afterDequeEvents, DequeMayCome, DequeOrderly, dequeCallsOf}
-use Rattle.deque_workers.proofs.DequeRealMemory.{DequeRealMemory, deque-real-memory, deque-action-there}
+use Rattle.deque_workers.specs.DequeWorkers.{DequeEvent, turn, work, DequeWorkers, startingDeques, dequeEffectIn, afterDequeEvent, afterDequeEvents, DequeMayCome, DequeOrderly, dequeCallsOf, dequeInTurn}
+use Rattle.deque_workers.proofs.DequeRealMemory.{DequeRealMemory, deque-real-memory, deque-action-there, deque-in-turn-orderly}
 use Rattle.worker_claims.proofs.ActionSays.{KindSays, ArgumentSays, kind-is, argument-is, kind-says, argument-says, saidIn, threadIn, actionIn, readIn, refused-silent, done-read, other-nothing, unpassed, reply-number}
 use Rattle.worker_claims.proofs.DequeWorkersByValue.{DefinedDequeWork}
 
@@ -222,6 +222,13 @@ lent-deque-begun-worked-exists s p K out e l o =
     lent-deque-worked-exists l (filledOut s K) (a .memory) noMemory (begin-shaped s p K (length out)) (begun-deques-stand s p K (length out) e)
     (subst (λ (x : DequeRun). DequeOrderly l (startingDeques x)) r o) in
     (h, subst (λ (u : List ℕ). LentDequeEnd u (a .memory) noMemory l) (sym (runs-so h e)) there)
+
+-- for every row of pairs
+pub lent-deque-turns-worked-exist : (s : List ℕ) (p K : ℕ) (out : List ℕ) → lentBegin s p K (length out) .number ≡ 0 → (row : List Pair)
+    → BeginSays s p K out (lentBegin s p K (length out)) (begunInto s p K out)
+    × LentDequeEnd (tableThatRuns s (lentBegin s p K (length out)) (begunInto s p K out)) (lentBegin s p K (length out) .memory) noMemory (dequeInTurn row)
+lent-deque-turns-worked-exist s p K out e row =
+    lent-deque-begun-worked-exists s p K out e (dequeInTurn row) (deque-in-turn-orderly row (startingDeques (dequeBegin s p K .run)) (λ w. refl))
 
 -- ---- the limits
 

@@ -1,5 +1,6 @@
 -- Real memory for the running code, by value: each turn is a call of `asyncdf::turn` on the record that the last one left, of which nothing is known but its promise. `worked-is`: the record, real memory
--- and the row of turns are those of the definitions. `worked-exists`: every list of events that keeps the rule has one. `code-real-memory`: and so all that crates/workers says of real memory holds.
+-- and the row of turns are those of the definitions. `worked-exists`: every list of events that keeps the rule has one, and so from a beginning every row of turns (`turns-worked-exist`). `code-real-memory`: and so all that
+-- crates/workers says of real memory holds.
 use mathlib.Core.Path.{_≡_, refl, sym, ap, ap₂, subst, _∙_}
 use Prim.Native.Nat.{ℕ}
 use mathlib.Core.List.{List, [], _∷_, _++_}
@@ -14,8 +15,9 @@ use Rattle.schedule.specs.Turn.{turned}
 use Rattle.schedule.specs.Calls.{turnRow, afterCall, rowOf, rowOfCalls}
 use Rattle.schedule.proofs.Runs.Values.{turn-values}
 use Rattle.workers.specs.Real.{none, byTurn, byWork}
-use Rattle.workers.specs.Workers.{Event, turn, work, Workers, starting, effectIn, afterEvent, afterEvents, MayCome, Orderly, callsOf}
+use Rattle.workers.specs.Workers.{Event, turn, work, Workers, starting, effectIn, afterEvent, afterEvents, MayCome, Orderly, callsOf, inTurn}
 use Rattle.workers.proofs.RealMemory.{RealMemory, real-memory}
+use Rattle.workers.proofs.InTurn.{in-turn-orderly}
 use Rattle.claims.proofs.ByValue.{BeginSays, TurnSays, begin-is, begin-says}
 
 -- what worker w does with the answer of its turn
@@ -64,6 +66,10 @@ worked-exists (work w ∷ l) s o = by-work w (worked-exists l (workedTo s w) (o 
 pub begun-worked-exists : (s : List ℕ) (p K : ℕ) (l : List Event) → Orderly l (starting (begin s p K .run))
     → BeginSays s p K (begin s p K) × Worked (starting (begin s p K .run)) l (rowOfCalls (callsOf l) (begin s p K .run)) (afterEvents l (starting (begin s p K .run)))
 begun-worked-exists s p K l o = (begin-says s p K, worked-exists l (starting (begin s p K .run)) o)
+
+-- for every row of turns
+pub turns-worked-exist : (s : List ℕ) (p K : ℕ) (row : List ℕ) → (taken : List ℕ) × ((z : Workers) × (BeginSays s p K (begin s p K) × Worked (starting (begin s p K .run)) (inTurn row) taken z))
+turns-worked-exist s p K row = (_, (_, begun-worked-exists s p K (inTurn row) (in-turn-orderly row (starting (begin s p K .run)) (λ w. refl))))
 
 -- Beginning accepted the bytes, p and K, and any events followed.
 pub code-real-memory : {s : List ℕ} {p K : ℕ} {b : Begun} → BeginSays s p K b → b .answer ≡ started → {l : List Event} {row : List ℕ} {z : Workers}

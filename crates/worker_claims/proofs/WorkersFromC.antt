@@ -1,6 +1,7 @@
 -- Real memory for the calls from C, as docs/WORKERS.md has them: each turn is a call of `wivakkol_turn_on` on the memory that the last one left; where it says done, `wivakkol_kind` and
 -- `wivakkol_argument` say what its worker does. Nothing is known but their promises. `lent-worked-is`: what stands in memory, real memory and the row of turns are those of the definitions.
--- `lent-worked-exists`: every list of events that keeps the rule has one. `lent-code-real-memory`: and so all that crates/workers says of real memory holds.
+-- `lent-worked-exists`: every list of events that keeps the rule has one, and so from a beginning every row of turns (`lent-turns-worked-exist`). `lent-code-real-memory`: and so all that
+-- crates/workers says of real memory holds.
 use mathlib.Core.Path.{_≡_, refl, sym, ap, ap₂, subst, _∙_}
 use Prim.Native.Nat.{ℕ, _<_}
 use native.Mathlib.Decide.{ℕ-discrete}
@@ -44,8 +45,9 @@ use Rattle.claims.proofs.FromC.{runs-so}
 use Rattle.claims.proofs.Shaped.{Shaped}
 use Rattle.claims.proofs.Sizes.{begin-shaped, call-shaped}
 use Rattle.workers.specs.Real.{Effect, nothing, effectBy, none, Real, noMemory, byTurn, byWork}
-use Rattle.workers.specs.Workers.{Event, turn, work, Workers, starting, effectIn, afterEvent, afterEvents, MayCome, Orderly, callsOf}
+use Rattle.workers.specs.Workers.{Event, turn, work, Workers, starting, effectIn, afterEvent, afterEvents, MayCome, Orderly, callsOf, inTurn}
 use Rattle.workers.proofs.RealMemory.{RealMemory, real-memory}
+use Rattle.workers.proofs.InTurn.{in-turn-orderly}
 use Rattle.worker_claims.proofs.ActionSays.{KindSays, ArgumentSays, kind-is, argument-is, kind-says, argument-says, saidIn, threadIn, actionIn, readIn, refused-silent, done-read, other-nothing, reply-number}
 use Rattle.worker_claims.proofs.WorkersByValue.{DefinedWork}
 
@@ -228,6 +230,12 @@ lent-begun-worked-exists s p K out e l o =
     let there : LentEnd (filledOut s K) (a .memory) noMemory l =
     lent-worked-exists l (filledOut s K) (a .memory) noMemory (begin-shaped s p K (length out)) (begun-stands s p K (length out) e) (subst (λ (x : Run). Orderly l (starting x)) r o) in
     (h, subst (λ (u : List ℕ). LentEnd u (a .memory) noMemory l) (sym (runs-so h e)) there)
+
+-- for every row of turns
+pub lent-turns-worked-exist : (s : List ℕ) (p K : ℕ) (out : List ℕ) → lentBegin s p K (length out) .number ≡ 0 → (row : List ℕ)
+    → BeginSays s p K out (lentBegin s p K (length out)) (begunInto s p K out)
+    × LentEnd (tableThatRuns s (lentBegin s p K (length out)) (begunInto s p K out)) (lentBegin s p K (length out) .memory) noMemory (inTurn row)
+lent-turns-worked-exist s p K out e row = lent-begun-worked-exists s p K out e (inTurn row) (in-turn-orderly row (starting (begin s p K .run)) (λ w. refl))
 
 -- ---- the limits
 

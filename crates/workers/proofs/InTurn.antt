@@ -9,7 +9,7 @@ use Rattle.schedule.specs.Turn.{turned}
 use Rattle.workers.specs.Real.{Effect, nothing, allocs, frees, joins, Pending, none, draw, inherit, Real, put, byTurn, byWork}
 use Rattle.workers.specs.Workers.{turn, work, Workers, effectIn, afterEvent, MayCome, Orderly, inTurn}
 
-abbrev NonePending : Real → Type 0
+abbrev pub NonePending : Real → Type 0
 NonePending m = (v : ℕ) → m .pending v ≡ none
 
 -- what was put at w is done, and nothing is pending again
@@ -20,13 +20,13 @@ undone w x f n v = go (ℕ-discrete v w)
     go (yes e) = rw (eq-eqb v w e)
     go (no e) = rw (ne-eqb v w e) (n v)
 
-none-again : (e : Effect) (w : ℕ) (m : Real) → NonePending m → NonePending (byWork (byTurn e w m .pending w) w (byTurn e w m))
+pub none-again : (e : Effect) (w : ℕ) (m : Real) → NonePending m → NonePending (byWork (byTurn e w m .pending w) w (byTurn e w m))
 none-again nothing w m n = rw (n w) n
 none-again (allocs t x) w m n = rw (eq-eqb w w refl) (undone w (draw t x) (m .pending) n)
 none-again (frees t x) w m n = rw (n w) n
 none-again (joins t c) w m n = rw (eq-eqb w w refl) (undone w (inherit t c) (m .pending) n)
 
-pub in-turn-orderly : (row : List ℕ) (s : Workers) → ((w : ℕ) → s .real .pending w ≡ none) → Orderly (inTurn row) s
+pub in-turn-orderly : (row : List ℕ) (s : Workers) → NonePending (s .real) → Orderly (inTurn row) s
 unfolding Orderly MayCome afterEvent inTurn
 in-turn-orderly [] s n = tt
 in-turn-orderly (w ∷ row) s n =
