@@ -21,6 +21,7 @@ from reference import END, ALLOC, FREE, FORK, JOIN, Table, owners, serial_order
 from tables import table
 
 FOLDER, WORKERS, SEEDS = 'target/waiting', (2, 3), 3
+SPIN = ['spin', '-Pcc -E -x c']
 KIND = ['end_', 'work_', 'alloc_', 'free_', 'fork_', 'join_']
 end = (END, 0)
 alloc, free, fork, join = (lambda x, kind=kind: (kind, x) for kind in (ALLOC, FREE, FORK, JOIN))
@@ -86,8 +87,8 @@ def verified(name, defines, cycles):
     """What the verifier says of the model with the macros given: on end states and assertions, or on cycles."""
     folder = '%s/%s' % (FOLDER, name)
     os.makedirs(folder, exist_ok=True)
-    subprocess.run(['spin', '-a', *('-D' + x for x in defines), '../waiting.pml'], cwd=folder, check=True, capture_output=True)
-    subprocess.run(['cc', '-O1', '-w', '-DNOFAIR', '-DMEMLIM=2048', '-DNP' if cycles else '-DSAFETY', '-o', 'pan', 'pan.c'], cwd=folder, check=True)
+    subprocess.run([*SPIN, '-a', *('-D' + x for x in defines), '../waiting.pml'], cwd=folder, check=True, capture_output=True)
+    subprocess.run(['cc', '-O0', '-w', '-DNOFAIR', '-DMEMLIM=2048', '-DNP' if cycles else '-DSAFETY', '-o', 'pan', 'pan.c'], cwd=folder, check=True)
     told = subprocess.run(['./pan', '-m100000', *(['-l'] if cycles else [])], cwd=folder, check=True, capture_output=True, text=True).stdout
     if 'errors:' not in told or 'max search depth too small' in told or 'Search not completed' in told and 'pan:1:' not in told:
         sys.exit('%s: the search was not completed:\n%s' % (name, told))
@@ -124,7 +125,7 @@ def reply_of(said, t, a, x):
 def compared(i, p, seed):
     """A random run of the model: each of its turns is the machine's. How many they were."""
     data, quota = TABLES[i]
-    told = subprocess.run(['spin', '-T', '-n%d' % seed, '-DTABLE=%d' % i, '-DTAKING=%d' % p, '-DWOKEN=1', 'waiting.pml'], cwd=FOLDER, check=True, capture_output=True, text=True).stdout
+    told = subprocess.run([*SPIN, '-T', '-n%d' % seed, '-DTABLE=%d' % i, '-DTAKING=%d' % p, '-DWOKEN=1', 'waiting.pml'], cwd=FOLDER, check=True, capture_output=True, text=True).stdout
     machine, turns = Machine(begin(data, p, quota)[1]), re.findall(r'turn (\d+) (\w+) (\d+) (\d+)', told)
     for w, said, t, a in turns:
         t, a = int(t), int(a)
