@@ -185,7 +185,7 @@ static int step(uint32_t w, uint32_t *seed)
     }
     if (kind == WIVAKKOL_KIND_FREE)
         give_back(t, argument);
-    /* Each of these makes at most one thread ready. */
+    /* A fork leaves two threads ready, the others one at most. This worker takes one with its next turn, a woken one what is left, or all of it where this one stays away. */
     if (kind == WIVAKKOL_KIND_FORK || kind == WIVAKKOL_KIND_END || row[WIVAKKOL_SAID] == WIVAKKOL_SAID_QUOTA)
         pthread_cond_signal(&ready);
     if (row[WIVAKKOL_SAID] == WIVAKKOL_SAID_IDLE)

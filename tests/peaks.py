@@ -121,6 +121,18 @@ def repeats():
     return table(bench.forked(range(1, 7)), *jobs, *[[(ALLOC, 10), (WORK, 0), (FREE, 10), (END, 0)]] * 12)
 
 
+def chain(threads):
+    """Each draws 8, forks the next and joins it."""
+    return table(*[[(ALLOC, 8), (FORK, t + 1), (JOIN, t + 1), (FREE, 8), (END, 0)] for t in range(threads - 1)], [(ALLOC, 8), (FREE, 8), (END, 0)])
+
+
+def levels(count):
+    """A balanced tree: each thread draws 8, forks two and joins them."""
+    inner = 2**(count - 1) - 1
+    forks = [[(ALLOC, 8), (FORK, 2 * t + 1), (FORK, 2 * t + 2), (JOIN, 2 * t + 2), (JOIN, 2 * t + 1), (FREE, 8), (END, 0)] for t in range(inner)]
+    return table(*forks, *[[(ALLOC, 8), (FREE, 8), (END, 0)]] * (inner + 1))
+
+
 # name, table, K, and for p 2, 4 and 16: the peak in rounds, demand 3's limit with b 1, S_p, and peak and R over resting places where that is least; None: not written down
 FIGURES = [
     ('E', example('e.text'), 6, [(None, None, 12, None)] * 3),
@@ -130,6 +142,8 @@ FIGURES = [
     ('bench chain', bench.chain(), 8, [(None, None, 7992, None)] * 3),
     ('bench tree', bench.tree(), 218, [(25988, 393120, 26324, None), (25991, 1127344, 26830, None), (26030, 5532688, 27241, None)]),
     ('bench comb', bench.comb(), 128, [(128, 640512, 256, None), (256, 1921280, 512, None), (1216, 9605888, 2048, None)]),
+    ('chain of 200', chain(200), 8, [(None, 9576, 1600, None), (None, 25528, 1600, None), (None, 121240, 1600, None)]),
+    ('ten levels', levels(10), 8, [(None, 600, 440, 376), (None, 1640, 3080, 2072), (None, 7880, 8184, 4216)]),
     ('repeats', repeats(), 40, [(None, 1090, 110, None), (None, 3170, 230, None), (None, 15650, 360, None)]),
 ]
 

@@ -114,7 +114,7 @@ fn step(w: u32, lock: &Mutex<Shared>, ready: &Condvar, blocks: &Blocks, seed: &m
     if let Some((thread, Action::Free { amount })) = done {
         blocks.give_back(thread, amount);
     }
-    // Each of these makes at most one thread ready.
+    // A fork leaves two threads ready, the others one at most. This worker takes one with its next turn, a woken one what is left, or all of it where this one stays away.
     if matches!(done, Some((_, Action::Fork { .. } | Action::End))) || matches!(turn.reply, Reply::Quota { .. }) {
         ready.notify_one();
     }

@@ -1,0 +1,4 @@
+pub mod Real
+pub mod Workers
+pub mod LateFree
+pub mod BrokenRules
