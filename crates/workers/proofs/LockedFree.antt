@@ -28,6 +28,8 @@ use Rattle.peaks.specs.Peak.{workersPeak}
 use Rattle.peaks.specs.Rests.{usefulLimit}
 use Rattle.bounds.proofs.Limit.{MemoryLimit, memory-limit}
 use Rattle.bounds.proofs.PeakLimit.{Ruled, peak-limit, useful-limit}
+use Rattle.sharp.specs.Need.{needPeak}
+use Rattle.sharp.proofs.QuotaLimit.{need-limit}
 use Rattle.workers.specs.Real.{Effect, nothing, allocs, frees, joins, effectOf, Pending, none, draw, inherit, Real, memory, put, byTurn, byWork, pendingAll}
 use Rattle.workers.specs.Workers.{Workers, effectIn, afterEvent, MayCome}
 use Rattle.workers.specs.Workers.{work as workEvent}
@@ -50,6 +52,8 @@ pub record LockedMemory (T : Table) (p K : ℕ) (s : Late) (row : List ℕ) : Ty
   pub bounded : (b : ℕ) → 1 ≤ b → Keeps b row → (memory (s .real) ≤ limit T p K b) × (s .real .highest ≤ limit T p K b)
   -- the useful limit
   pub useful : (b : ℕ) → Ruled b row → (memory (s .real) ≤ usefulLimit T p K b) × (s .real .highest ≤ usefulLimit T p K b)
+  -- CE, the sharper limit for every order
+  pub sharper : (memory (s .real) ≤ needPeak T p K) × (s .real .highest ≤ needPeak T p K)
   -- a free that is owed finds its memory drawn
   pub frees-drawn : (w t x : ℕ) → s .owed w ≡ frees t x → x ≤ s .real .amounts t
 
@@ -228,6 +232,7 @@ module _ (s : List ℕ) (p K : ℕ) (r : Run) (e : begin s p K ≡ record { answ
             let m : MemoryLimit T p K b (afterCalls calls r) (rowOfCalls calls r) = memory-limit s p K r e b i calls in
             under (limit T p K b) (rw (m .highest) (m .bounded (rowOfCalls calls r) [] (sym (append-nil (rowOfCalls calls r))) keeps .1));
         useful = λ b ruled. under (usefulLimit T p K b) (useful-limit s p K r e calls b .within ruled .1);
+        sharper = under (needPeak T p K) (need-limit s p K r e calls .within .1);
         frees-drawn = x .drawn;
       }
     where
