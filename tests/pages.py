@@ -9,7 +9,7 @@ import subprocess
 import sys
 
 PAGES = ['README.md', 'CONTRIBUTING.md', 'CHANGELOG.md', *map(str, sorted(pathlib.Path('docs').glob('*.md'))), 'docs/pictures/README.md']
-FOLDERS = 'crates|docs|tests|tools|examples|bench|include|rust'
+FOLDERS = 'crates|dist|docs|tests|tools|examples|bench|include|rust'
 ELSEWHERE = {'memmove', 'do_action', 'docs/guides/DESIGN.md'}  # of C, of its caller, of the toolchain
 
 
