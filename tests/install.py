@@ -271,6 +271,9 @@ def compared(folder):
     tool = [sys.executable, top / 'tools/dist.py', 'check']
     kit, program, strange = top / 'dist/KIT', top / 'dist/x86_64-linux/canontable', top / 'dist/x86_64-linux/more'
     line, data = kit.read_text(), program.read_bytes()
+    alone = {'PATH': str(folder / 'alone')}
+    expect('dist without rt', call(*tool[:-1], env=alone), ('', 'dist.py: no rt: its kit proves and compiles\n', 1))
+    expect('compared without rt', call(*tool, env=alone), ('dist/ was not compared: it was built with %s, and here is no kit\n' % line.strip(), '', 0))
     if not kit_of_dist():
         return 'the comparison of dist/ was left out: no rt, or another kit'
     kit.write_text('another kit\n')
