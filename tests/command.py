@@ -782,7 +782,7 @@ def builds(folder):
         (top / 'stamps' / name).write_text(proving.stamp(name, (TOP / 'dist/KIT').read_text()) + '\n')
     environment = {**os.environ, 'PATH': '%s:%s' % (tools, os.environ['PATH'])}
     here, count, crates = top / 'tools/wivakkol', len(proving.programs()), len(proving.closure(proving.programs()))
-    first = 'wivakkol: proving and building %d programs, from nothing some twelve minutes with two cores' % count
+    first = 'wivakkol: proving and building %d programs, from nothing some fifteen minutes with two cores' % count
     (top / 'broken').touch()
     out, told, status = call('check', '--build', 'examples/e.text', command=here, env=environment)
     expect('rt fails', (out, told.split('\n')[0], told.split('\n')[-2], status),

@@ -153,6 +153,11 @@ int main(void)
 '''
 
 
+def kit_of_dist():
+    """Whether the kit that is here is the one that dist/ was built with."""
+    return bool(shutil.which('rt')) and call('rt', 'version')[0] == (TOP / 'dist/KIT').read_text()
+
+
 def what_a_board_links(folder, prefix):
     """A board that takes turns alone links as much of the one archive as of the turn's own; all archives together link without a name twice."""
     (folder / 'turns.c').write_text(TURNS)
@@ -161,8 +166,8 @@ def what_a_board_links(folder, prefix):
     names = {line.split()[-1] for line in done('nm', folder / 'one').splitlines() if 'wivakkol_' in line}
     expect('what a board links', names, {'wivakkol_turn_on', 'wivakkol_kind', 'wivakkol_argument'})
     done('cc', '-O2', '-I', TOP / 'include', '-Wl,--whole-archive', '-o', 'whole', 'turns.c', prefix / 'lib/libwivakkol.a', '-Wl,--no-whole-archive', cwd=folder)
-    if not (TOP / 'target/staticlib/libwivakkol_turn.a').exists():
-        return 'the archives apart were left out: target/staticlib has none'
+    if not (TOP / 'target/staticlib/libwivakkol_turn.a').exists() or not kit_of_dist():
+        return 'the archives apart were left out: target/staticlib has none, or the kit is another'
     done('cc', '-O2', '-I', TOP / 'include', '-o', 'two', 'turns.c', TOP / 'target/staticlib/libwivakkol_turn.a', cwd=folder)
     sizes = {name: done('size', folder / name).split('\n')[1].split()[:4] for name in ('one', 'two', 'whole')}
     expect('the size of a board', sizes['one'], sizes['two'])
@@ -266,7 +271,10 @@ def compared(folder):
     tool = [sys.executable, top / 'tools/dist.py', 'check']
     kit, program, strange = top / 'dist/KIT', top / 'dist/x86_64-linux/canontable', top / 'dist/x86_64-linux/more'
     line, data = kit.read_text(), program.read_bytes()
-    if not shutil.which('rt') or call('rt', 'version')[0] != line:
+    alone = {'PATH': str(folder / 'alone')}
+    expect('dist without rt', call(*tool[:-1], env=alone), ('', 'dist.py: no rt: its kit proves and compiles\n', 1))
+    expect('compared without rt', call(*tool, env=alone), ('dist/ was not compared: it was built with %s, and here is no kit\n' % line.strip(), '', 0))
+    if not kit_of_dist():
         return 'the comparison of dist/ was left out: no rt, or another kit'
     kit.write_text('another kit\n')
     expect('another kit', call(*tool), ('dist/ was not compared: it was built with another kit, and here is %s' % line, '', 0))

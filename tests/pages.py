@@ -14,7 +14,7 @@ import subprocess
 import sys
 
 PAGES = ['README.md', 'CONTRIBUTING.md', 'CHANGELOG.md', *map(str, sorted(pathlib.Path('docs').glob('*.md'))), 'docs/pictures/README.md']
-FOLDERS = 'crates|docs|tests|tools|examples|bench|include|rust'
+FOLDERS = 'crates|dist|docs|tests|tools|examples|bench|include|rust'
 ELSEWHERE = {'memmove', 'do_action', 'docs/guides/DESIGN.md'}  # of C, of its caller, of the toolchain
 LAW = r"[a-z][A-Za-z0-9']*(?:-[A-Za-z0-9']+)+"  # a law's name, as against a definition's
 

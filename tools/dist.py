@@ -51,12 +51,18 @@ def run(command, **more):
 
 # Archives with their modules
 
+def kit_here():
+    """The line of the kit that proves and compiles."""
+    found = proving.kit_line()
+    if found is None:
+        raise Wrong('no rt: its kit proves and compiles')
+    return found
+
+
 def compiler():
     """The folder of the kit's compiler."""
-    kit = proving.kit_folder()
-    if kit is None:
-        raise Wrong('no rt: the kit has the compiler')
-    return kit / 'on' / platform.machine() / 'toolchain/bin'
+    kit_here()
+    return proving.kit_folder() / 'on' / platform.machine() / 'toolchain/bin'
 
 
 SAVING = """#!/bin/sh
@@ -94,10 +100,7 @@ def archive(name, log=None):
     module, mark = MODULES / (name + '.bc'), MODULES / (name + '.of')
     for path in module, mark:
         path.unlink(missing_ok=True)
-    kit = proving.kit_line()
-    if kit is None:
-        raise Wrong('no rt: it proves the archives')
-    of = proving.stamp(name, kit)
+    of = proving.stamp(name, kit_here())
     with tempfile.TemporaryDirectory() as folder:
         saving_kit(pathlib.Path(folder, 'kit'), module)
         status = subprocess.run(['rt', 'staticlib', name], cwd=TOP, env={**os.environ, 'RATTLE_HOME': folder + '/kit'}, stdout=log, stderr=log).returncode
@@ -108,10 +111,10 @@ def archive(name, log=None):
 
 
 def archived(name):
-    """Whether an archive and its module are those of the sources as they are."""
+    """Whether an archive and its module are those of the sources as they are and of the kit that is here."""
     try:
         of = (MODULES / (name + '.of')).read_text().strip()
-        return (STATIC / ('lib%s.a' % name)).exists() and (MODULES / (name + '.bc')).exists() and of in [proving.stamp(name, kit) for kit in proving.kits()]
+        return (STATIC / ('lib%s.a' % name)).exists() and (MODULES / (name + '.bc')).exists() and of == proving.stamp(name, kit_here())
     except OSError:
         return False
 
@@ -216,7 +219,7 @@ def wasm_module():
 
 def makers():
     """The files of dist/ but for SUMS, each with what makes its bytes from what stands in target/; those that take longer come last."""
-    return {'KIT': lambda: proving.kit_line().encode(), **{'x86_64-linux/' + name: functools.partial(program, name) for name in proving.programs()},
+    return {'KIT': lambda: kit_here().encode(), **{'x86_64-linux/' + name: functools.partial(program, name) for name in proving.programs()},
             'x86_64-linux/libwivakkol.a': native_archive, 'aarch64-linux/libwivakkol.a': aarch64_archive, 'wasm32/wivakkol.wasm': wasm_module}
 
 
@@ -238,9 +241,10 @@ def missing():
 
 def build():
     """Proves and builds what is not up to date."""
-    stale = [name for name in proving.programs() if not proving.proved_with(name) or not (BIN / name).exists()]
+    proved = functools.partial(proving.proved_with, among=[kit_here()])
+    stale = [name for name in proving.programs() if not proved(name) or not (BIN / name).exists()]
     old = [name for name in proving.archives() if not archived(name)]
-    unproved = stale + [name for name in old if not proving.proved_with(name)]
+    unproved = stale + [name for name in old if not proved(name)]
     if unproved:
         proving.check(unproved)
     for i, name in enumerate(old, 1):

@@ -123,11 +123,11 @@ def kits(top=TOP):
     return [kit for kit in dict.fromkeys([kit_line(), named]) if kit]
 
 
-def proved_with(name, top=TOP):
-    """The kit with which a crate is proved, as it now is; None where it is not."""
+def proved_with(name, top=TOP, among=None):
+    """The kit with which a crate is proved, as it now is; None where it is not. It is one of `among`, or of those above."""
     try:
         found = (top / 'target/stamp' / name).read_text().strip()
-        return next((kit for kit in kits(top) if stamp(name, kit, top) == found), None)
+        return next((kit for kit in among or kits(top) if stamp(name, kit, top) == found), None)
     except (OSError, KeyError):
         return None
 
