@@ -47,10 +47,17 @@ def copy(folder):
     return folder
 
 
+def make(top, what, prefix, destination=''):
+    """`make install` or `make uninstall`; where there is no make, what it calls."""
+    if shutil.which('make'):
+        return done('make', '-s', what, 'PREFIX=%s' % prefix, 'DESTDIR=%s' % destination, cwd=top)
+    return done(sys.executable, 'tools/install.py', *['--remove'] * (what == 'uninstall'), prefix, destination, cwd=top)
+
+
 def installed(folder):
     """An installation, through DESTDIR and moved to its place, whose repository is no more."""
     top, prefix = copy(folder / 'repository'), folder / 'prefix'
-    told = done('make', '-s', 'install', 'PREFIX=/opt/w', 'DESTDIR=%s' % (folder / 'stage'), cwd=top)
+    told = make(top, 'install', '/opt/w', folder / 'stage')
     expect('install', re.sub(r'^\d+', 'N', told), 'N files in %s\n' % (folder / 'stage/opt/w'))
     (folder / 'stage/opt/w').rename(prefix)
     shutil.rmtree(top)
@@ -255,11 +262,11 @@ def refused(folder):
     expect('nothing was put', (folder / 'no').exists(), False)
     (folder / 'file').touch()
     expect('a prefix below a file', call(*tool, folder / 'file/below')[1:], ('install.py: %s: Not a directory; PREFIX names the folder to install to\n' % (folder / 'file/below/bin'), 1))
-    done('make', '-s', 'install', 'PREFIX=%s' % (folder / 'twice'), cwd=top)
-    done('make', '-s', 'install', 'PREFIX=%s' % (folder / 'twice'), cwd=top)
+    make(top, 'install', folder / 'twice')
+    make(top, 'install', folder / 'twice')
     (folder / 'twice/lib/other').touch()
     program.write_bytes(data[:-1])
-    done('make', '-s', 'uninstall', 'PREFIX=%s' % (folder / 'twice'), cwd=top)
+    make(top, 'uninstall', folder / 'twice')
     expect('removed', [str(path.relative_to(folder / 'twice')) for path in sorted((folder / 'twice').rglob('*'))], ['lib', 'lib/other'])
     program.write_bytes(data)
 
