@@ -81,7 +81,7 @@ def as_seen(text, folder):
     return '\n'.join(lines)
 
 
-def pages(write):
+def page(write):
     """The two pages with the output seen. `wivakkol` is found through a link, as its section on installing says."""
     text, designs = PAGE.read_text(), DESIGNS.read_text()
     with tempfile.TemporaryDirectory() as folder:
@@ -513,6 +513,7 @@ def remarks():
     leaves = b'thread 0\n fork 1\n fork 2\n join 2\n join 1\n free %d\n end\nthread 1\n alloc 18\n end\nthread 2\n alloc 1\n end\n'
     facts = program('tablecheck', program('tableasm', leaves % 1))
     expect('remark', call('check', '-', data=leaves % 1), (facts, '<stdin>: remark: thread 1 leaves 18 units; thread 2 leaves 1 unit; the root leaves 18 at its end\n', 0))
+    expect('what is held at the end', call('run', '-p', 1, '-K', 99, '-', data=leaves % 1)[0].split()[-1], b'18')
     answers(['check', '--numbers', '-'], facts, leaves % 1)
     answers(['check', '-'], facts, leaves % 19)
     answers(['check', 'examples/parts.text'], program('tablecheck', program('tableasm', (TOP / 'examples/parts.text').read_bytes())))
@@ -682,8 +683,8 @@ def builds(folder):
 
 def main():
     if sys.argv[1:] == ['--write']:
-        return pages(True)
-    pages(False)
+        return page(True)
+    page(False)
     help_examples(rows_of_page())
     with tempfile.TemporaryDirectory() as name:
         folder = pathlib.Path(name)
