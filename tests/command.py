@@ -352,15 +352,20 @@ def options_refused():
     refuses(['quota', '-p', 2, '-b', 0, '-M', 9, '--papers', e], '-b 0: ' + words(41))
     refuses(['quota', '-p', 2, '-M', 47, '--papers', e], '%s: %s' % (e, words(42)))
     refuses(['quota', '-p', 2, '-M', 47, '--papers', '--numbers', e], 'refused 42 0')
-    refuses(['list', '-p', 2, '-K', 6, '--rounds', 4097, e], '--rounds: ' + words(33))
+    refuses(['list', '-p', 2, '-K', 6, '--rounds', 4097, e], '--rounds: refused 33: 4,097 turns; a listing of AsyncDF has at most 4,096')
+    refuses(['deques', '-p', 2, '-K', 6, '--rounds', 2049, e], '--rounds: refused 33: 2,049 turns; a listing of DFDeques has at most 2,048')
     turns = b'table 3 12 serial 6 depth 8\n1 0 0 0 fork 0\nrefused 30 0\n'
-    refuses(['list', '-p', 2, '-K', 6, '--order', 0, 2, e], '--order: ' + words(30), out=turns)
-    refuses(['picture', '-p', 2, '-K', 6, '--order', 0, 2, e], '--order: ' + words(30))
-    for number, pair in (30, '2:0'), (49, '1:2'):
+    second = '--order: refused 30: turn 2 has worker 2, and p is 2; all turns before it were taken'
+    refuses(['list', '-p', 2, '-K', 6, '--order', 0, 2, e], second, out=turns)
+    refuses(['list', '-p', 2, '-K', 6, '--order', 0, 2, '--numbers', e], 'refused 30 0', out=turns)
+    refuses(['chart', '-p', 2, '-K', 6, '--order', 0, 2, e], second, out=call('chart', '-p', 2, '-K', 6, '--order', 0, e)[0] + b'refused 30 0\n')
+    refuses(['picture', '-p', 2, '-K', 6, '--order', 0, 2, e], second)
+    for number, pair, why in (30, '2:0', 'worker 2'), (49, '1:2', 'choice 2'):
+        third = '--order: refused %d: turn 3 has %s, and p is 2; all turns before it were taken' % (number, why)
         begun = call('deques', '-p', 2, '-K', 6, '--order', '0:0', '1:0', e)[0].rsplit(b'open', 1)[0]
-        refuses(['deques', '-p', 2, '-K', 6, '--order', '0:0', '1:0', pair, e], '--order: ' + words(number), out=begun + b'refused %d 0\n' % number)
-        refuses(['picture', '--deques', '-p', 2, '-K', 6, '--order', '0:0', '1:0', pair, e], '--order: ' + words(number))
-    refuses(['deques', '-p', 2, '-K', 6, '--order', '0:0 ' * 2049, e], '--order: ' + words(33))
+        refuses(['deques', '-p', 2, '-K', 6, '--order', '0:0', '1:0', pair, e], third, out=begun + b'refused %d 0\n' % number)
+        refuses(['picture', '--deques', '-p', 2, '-K', 6, '--order', '0:0', '1:0', pair, e], third)
+    refuses(['deques', '-p', 2, '-K', 6, '--order', '0:0 ' * 2049, e], '--order: refused 33: 2,049 turns; a listing of DFDeques has at most 2,048')
     refuses(['join'] + [e] * 17, '17 tables: ' + words(47))
     refuses(['join'] + [many] * 5, '5 tables: ' + words(48))
     head = 'n is 1,538 and m is 0; n is 1 to 1,024 and m 1 to 8,192. Is it a table at all, with its low bytes first?'
@@ -491,7 +496,8 @@ def orders_drawn():
     drawn = call('picture', '-p', 2, '-K', 6, '--deques', '--random', 2, 'examples/e.text')
     order = re.fullmatch('--order "(.*)"\n', drawn[1])[1]
     expect('picture', drawn[0], call('picture', '-p', 2, '-K', 6, '--deques', '--order', order, 'examples/e.text')[0])
-    refuses(['deques', '-p', 2, '-K', 6, '--choices', 2, 'examples/e.text'], '--choices 2: ' + words(49), out=b'table 3 12 serial 6 depth 8\nrefused 49 0\n')
+    refuses(['deques', '-p', 2, '-K', 6, '--choices', 2, 'examples/e.text'], '--choices 2: refused 49: turn 1 has choice 2, and p is 2; all turns before it were taken',
+            out=b'table 3 12 serial 6 depth 8\nrefused 49 0\n')
 
 
 def differences(folder):
