@@ -409,13 +409,13 @@ def designs(folder):
 def named_turns(path):
     """Names behind the turns: the six columns before them are the program's; the picture and the trace have them too."""
     for given in ['list', '--rounds', 60, '-K', 40], ['list', '-K', 30], ['deques', '-K', 30, '--random', 4]:
-        bare, named = (call(*given, '-p', 2, table, *more)[0].decode().splitlines() for table, more in ((path, ()), (CARPET, ())))
-        names = [row.split()[6:] for row in named]
+        bare, named = (call(*given, '-p', 2, table)[0].decode().splitlines() for table in (path, CARPET))
         expect('columns', [' '.join(row.split()[:6]) if row[:1].isdigit() else row for row in named], bare)
-        expect('names', [bool(name) for name in names], [row[:1].isdigit() and 'idle' not in row or ' nothing' in row or row.startswith('table') for row in bare])
-        found = {row.split()[2]: row.split()[6] for row in named[1:] if len(row.split()) > 6 and row[:1].isdigit()}
-        expect('threads', (found['0'], found['1'], found.get('2', 'row[0]/helper[0]')), ('carpet', 'row[0]', 'row[0]/helper[0]'))
-        expect('labels', {tuple(row.split()[4:5] + row.split()[7:]) for row in named[1:] if len(row.split()) > 7}, {('work', 'weave')})
+        turns = [row.split() for row in named if row[:1].isdigit()]
+        expect('names', [len(turn) > 6 for turn in turns], [turn[4] != 'idle' for turn in turns])
+        found = {turn[2]: turn[6] for turn in turns if turn[4] != 'idle'}
+        expect('threads', (found['0'], found['1'], found['2']), ('carpet', 'row[0]', 'row[0]/helper[0]'))
+        expect('labels', {(turn[4], *turn[7:]) for turn in turns if len(turn) > 7}, {('work', 'weave')})
     expect('dummies', any(' row[1]/dummy[1]' in row for row in named), True)
     listing = call('list', '-p', 2, '-K', 40, '--rounds', 20, CARPET)[0]
     for more in (), ('--trace',):
