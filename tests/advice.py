@@ -1,7 +1,7 @@
 """Follows what tools/explain.py says of a refused text, word by word, until the text is accepted: advice that names a wrong line, thread or amount does not get there. The refusals are those of
 tests/texts.py, which is held to `tableasm`.
 
-usage: python3 tests/advice.py [COUNT]    (from the repository's top; COUNT random damaged texts, default 400, and as many damaged tables as bytes)
+usage: python3 tests/advice.py [COUNT]    (from the repository's top; COUNT random damaged texts, default 400, as many damaged tables as bytes, and as many pairs of texts that differ in one amount)
 """
 import collections
 import random
@@ -11,6 +11,7 @@ import sys
 sys.dont_write_bytecode = True
 sys.path[:0] = ['tools', 'tests']
 import explain
+from designs import shuffled
 from reference import check
 from tables import damaged, drawn
 from texts import assemble, disassemble
@@ -108,6 +109,31 @@ def accepted(lines, met):
     raise SystemExit('%d pieces of advice do not help:\n%s' % (MANY, '\n'.join(lines)))
 
 
+def differ(rng):
+    """Of two texts that differ in one amount, the second under other thread numbers, both lines are named; of one text under two numbers nothing is."""
+    first = lines_of(drawn(rng, rng.choice([1, 3, 8, 20]), rng.choice([10, 60]), [3, 40]))
+    allocs = [i for i, line in enumerate(first) if line.startswith('alloc')]
+    if not allocs:
+        return 0
+    at = rng.choice(allocs)
+    before, after = first[at], 'alloc %d' % (int(first[at].split()[1]) + 1)
+    second = lines_of(shuffled(rng, assembled(first[:at] + [after] + first[at + 1:])))
+    same = lines_of(shuffled(rng, assembled(first)))
+    sources = [explain.of_text('\n'.join(lines).encode()) for lines in (first, second, same)]
+    told = explain.difference(*sources[:2])
+    found = re.fullmatch('thread [0-9]+ of the canonical form: %s against %s; line ([0-9]+) and line ([0-9]+)' % (before, after), told)
+    if not found or int(found[1]) != at + 1:
+        raise SystemExit('line %d, %s for %s: %s' % (at + 1, after, before, told))
+    cited(second, found[2], after)
+    if explain.difference(sources[0], sources[2]) is not None:
+        raise SystemExit('one table: %s' % explain.difference(sources[0], sources[2]))
+    return 1
+
+
+def assembled(lines):
+    return assemble(('\n'.join(lines) + '\n').encode())[0]
+
+
 def main():
     rng, wanted = random.Random(9), int(sys.argv[1]) if len(sys.argv) > 1 else 400
     met, steps, told = collections.Counter(), 0, 0
@@ -123,9 +149,11 @@ def main():
             told += bool(explain.reason(answer[1], answer[2], explain.of_bytes(data)))
             if not explain.reason(answer[1], answer[2], explain.of_bytes(data)):
                 raise SystemExit('nothing to say of %s' % (answer,))
-    if not {6, 7, 8, 9, 10} <= set(met) or told < wanted // 3:
+    differences = sum(differ(rng) for _ in range(wanted))
+    if not {6, 7, 8, 9, 10} <= set(met) or min(told, differences) < wanted // 3:
         raise SystemExit('too few kinds: %s, %d tables' % (met, told))
-    print('%d texts, accepted after %d pieces of advice: %s; %d damaged tables with words' % (wanted, steps, ', '.join('refusal %d %d times' % pair for pair in sorted(met.items())), told))
+    print('%d texts, accepted after %d pieces of advice: %s; %d damaged tables with words; %d differences found'
+          % (wanted, steps, ', '.join('refusal %d %d times' % pair for pair in sorted(met.items())), told, differences))
 
 
 if __name__ == '__main__':

@@ -86,7 +86,7 @@ def as_seen(text, folder):
     return '\n'.join(lines)
 
 
-def pages(write):
+def page(write):
     """The two pages with the output seen. `wivakkol` is found through a link, as its section on installing says."""
     text, designs = PAGE.read_text(), DESIGNS.read_text()
     with tempfile.TemporaryDirectory() as folder:
@@ -357,15 +357,20 @@ def options_refused():
     refuses(['quota', '-p', 2, '-b', 0, '-M', 9, '--papers', e], '-b 0: ' + words(41))
     refuses(['quota', '-p', 2, '-M', 47, '--papers', e], '%s: %s' % (e, words(42)))
     refuses(['quota', '-p', 2, '-M', 47, '--papers', '--numbers', e], 'refused 42 0')
-    refuses(['list', '-p', 2, '-K', 6, '--rounds', 4097, e], '--rounds: ' + words(33))
+    refuses(['list', '-p', 2, '-K', 6, '--rounds', 4097, e], '--rounds: refused 33: 4,097 turns; a listing of AsyncDF has at most 4,096')
+    refuses(['deques', '-p', 2, '-K', 6, '--rounds', 2049, e], '--rounds: refused 33: 2,049 turns; a listing of DFDeques has at most 2,048')
     turns = b'table 3 12 serial 6 depth 8\n1 0 0 0 fork 0\nrefused 30 0\n'
-    refuses(['list', '-p', 2, '-K', 6, '--order', 0, 2, e], '--order: ' + words(30), out=turns)
-    refuses(['picture', '-p', 2, '-K', 6, '--order', 0, 2, e], '--order: ' + words(30))
-    for number, pair in (30, '2:0'), (49, '1:2'):
+    second = '--order: refused 30: turn 2 has worker 2, and p is 2; all turns before it were taken'
+    refuses(['list', '-p', 2, '-K', 6, '--order', 0, 2, e], second, out=turns)
+    refuses(['list', '-p', 2, '-K', 6, '--order', 0, 2, '--numbers', e], 'refused 30 0', out=turns)
+    refuses(['chart', '-p', 2, '-K', 6, '--order', 0, 2, e], second, out=call('chart', '-p', 2, '-K', 6, '--order', 0, e)[0] + b'refused 30 0\n')
+    refuses(['picture', '-p', 2, '-K', 6, '--order', 0, 2, e], second)
+    for number, pair, why in (30, '2:0', 'worker 2'), (49, '1:2', 'choice 2'):
+        third = '--order: refused %d: turn 3 has %s, and p is 2; all turns before it were taken' % (number, why)
         begun = call('deques', '-p', 2, '-K', 6, '--order', '0:0', '1:0', e)[0].rsplit(b'open', 1)[0]
-        refuses(['deques', '-p', 2, '-K', 6, '--order', '0:0', '1:0', pair, e], '--order: ' + words(number), out=begun + b'refused %d 0\n' % number)
-        refuses(['picture', '--deques', '-p', 2, '-K', 6, '--order', '0:0', '1:0', pair, e], '--order: ' + words(number))
-    refuses(['deques', '-p', 2, '-K', 6, '--order', '0:0 ' * 2049, e], '--order: ' + words(33))
+        refuses(['deques', '-p', 2, '-K', 6, '--order', '0:0', '1:0', pair, e], third, out=begun + b'refused %d 0\n' % number)
+        refuses(['picture', '--deques', '-p', 2, '-K', 6, '--order', '0:0', '1:0', pair, e], third)
+    refuses(['deques', '-p', 2, '-K', 6, '--order', '0:0 ' * 2049, e], '--order: refused 33: 2,049 turns; a listing of DFDeques has at most 2,048')
     refuses(['join'] + [e] * 17, '17 tables: ' + words(47))
     refuses(['join'] + [many] * 5, '5 tables: ' + words(48))
     head = 'n is 1,538 and m is 0; n is 1 to 1,024 and m 1 to 8,192. Is it a table at all, with its low bytes first?'
@@ -409,13 +414,13 @@ def designs(folder):
 def named_turns(path):
     """Names behind the turns: the six columns before them are the program's; the picture and the trace have them too."""
     for given in ['list', '--rounds', 60, '-K', 40], ['list', '-K', 30], ['deques', '-K', 30, '--random', 4]:
-        bare, named = (call(*given, '-p', 2, table, *more)[0].decode().splitlines() for table, more in ((path, ()), (CARPET, ())))
-        names = [row.split()[6:] for row in named]
+        bare, named = (call(*given, '-p', 2, table)[0].decode().splitlines() for table in (path, CARPET))
         expect('columns', [' '.join(row.split()[:6]) if row[:1].isdigit() else row for row in named], bare)
-        expect('names', [bool(name) for name in names], [row[:1].isdigit() and 'idle' not in row or ' nothing' in row or row.startswith('table') for row in bare])
-        found = {row.split()[2]: row.split()[6] for row in named[1:] if len(row.split()) > 6 and row[:1].isdigit()}
-        expect('threads', (found['0'], found['1'], found.get('2', 'row[0]/helper[0]')), ('carpet', 'row[0]', 'row[0]/helper[0]'))
-        expect('labels', {tuple(row.split()[4:5] + row.split()[7:]) for row in named[1:] if len(row.split()) > 7}, {('work', 'weave')})
+        turns = [row.split() for row in named if row[:1].isdigit()]
+        expect('names', [len(turn) > 6 for turn in turns], [turn[4] != 'idle' for turn in turns])
+        found = {turn[2]: turn[6] for turn in turns if turn[4] != 'idle'}
+        expect('threads', (found['0'], found['1'], found['2']), ('carpet', 'row[0]', 'row[0]/helper[0]'))
+        expect('labels', {(turn[4], *turn[7:]) for turn in turns if len(turn) > 7}, {('work', 'weave')})
     expect('dummies', any(' row[1]/dummy[1]' in row for row in named), True)
     listing = call('list', '-p', 2, '-K', 40, '--rounds', 20, CARPET)[0]
     for more in (), ('--trace',):
@@ -496,7 +501,8 @@ def orders_drawn():
     drawn = call('picture', '-p', 2, '-K', 6, '--deques', '--random', 2, 'examples/e.text')
     order = re.fullmatch('--order "(.*)"\n', drawn[1])[1]
     expect('picture', drawn[0], call('picture', '-p', 2, '-K', 6, '--deques', '--order', order, 'examples/e.text')[0])
-    refuses(['deques', '-p', 2, '-K', 6, '--choices', 2, 'examples/e.text'], '--choices 2: ' + words(49), out=b'table 3 12 serial 6 depth 8\nrefused 49 0\n')
+    refuses(['deques', '-p', 2, '-K', 6, '--choices', 2, 'examples/e.text'], '--choices 2: refused 49: turn 1 has choice 2, and p is 2; all turns before it were taken',
+            out=b'table 3 12 serial 6 depth 8\nrefused 49 0\n')
 
 
 def differences(folder):
@@ -518,6 +524,7 @@ def remarks():
     leaves = b'thread 0\n fork 1\n fork 2\n join 2\n join 1\n free %d\n end\nthread 1\n alloc 18\n end\nthread 2\n alloc 1\n end\n'
     facts = program('tablecheck', program('tableasm', leaves % 1))
     expect('remark', call('check', '-', data=leaves % 1), (facts, '<stdin>: remark: thread 1 leaves 18 units; thread 2 leaves 1 unit; the root leaves 18 at its end\n', 0))
+    expect('what is held at the end', call('run', '-p', 1, '-K', 99, '-', data=leaves % 1)[0].split()[-1], b'18')
     answers(['check', '--numbers', '-'], facts, leaves % 1)
     answers(['check', '-'], facts, leaves % 19)
     answers(['check', 'examples/parts.text'], program('tablecheck', program('tableasm', (TOP / 'examples/parts.text').read_bytes())))
@@ -821,9 +828,9 @@ def without_rt(folder):
 
 def main():
     if sys.argv[1:] == ['--write']:
-        return pages(True)
+        return page(True)
     global COMMAND
-    pages(False)
+    page(False)
     help_examples(rows_of_page())
     with tempfile.TemporaryDirectory() as name:
         folder = pathlib.Path(name)

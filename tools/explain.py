@@ -266,6 +266,28 @@ def balance_below(source, thread, at):
 ACTIONS = {5: kind_above, 6: argument, 7: ends, 8: forked_twice, 9: wrong_join, 10: balance_below}
 
 
+# Orders
+
+def of_order(line, order, out, p):
+    """What to say of a listing that is refused for its order, with its length or with the turn that was not taken; None where it is refused for something else."""
+    option, _, rest = line.partition(': ')
+    number = rest.split(':')[0]
+    width = len(order[0]) if order else 1
+    if number == 'refused 33':
+        return '%s: %s: %s turns; a listing of %s has at most %s' % (option, number, commas(len(order)), 'DFDeques' if width == 2 else 'AsyncDF', commas(4096 // width))
+    if number not in ('refused 30', 'refused 49') or not out:
+        return None
+    turn = taken(out)
+    what = 'worker %d' % order[turn][0] if number == 'refused 30' else 'choice %d' % order[turn][1]
+    return '%s: %s: turn %s has %s, and p is %d; all turns before it were taken' % (option, number, commas(turn + 1), what, p)
+
+
+def taken(out):
+    """How many turns a listing or a chart has: its lines but for the first, and for the last where that is no turn."""
+    rows = out.decode('ascii').splitlines()
+    return len([row for row in rows[1:] if row.split()[0] not in ('done', 'open', 'refused')])
+
+
 # What an accepted table leaves
 
 def remark(source):
