@@ -15,7 +15,7 @@ import sys
 
 PAGES = ['README.md', 'CONTRIBUTING.md', 'CHANGELOG.md', *map(str, sorted(pathlib.Path('docs').glob('*.md'))), 'docs/pictures/README.md']
 FOLDERS = 'crates|dist|docs|tests|tools|examples|bench|include|rust'
-ELSEWHERE = {'memmove', 'do_action', 'docs/guides/DESIGN.md'}  # of C, of its caller, of the toolchain
+ELSEWHERE = {'memmove', 'do_action', 'docs/guides/DESIGN.md', 'pkg-config', 'probe-stack', 'qemu-aarch64'}  # of C, of its caller, of the toolchain, of other tools
 LAW = r"[a-z][A-Za-z0-9']*(?:-[A-Za-z0-9']+)+"  # a law's name, as against a definition's
 
 
@@ -82,7 +82,7 @@ def laws():
 def unstated(text):
     """Laws that a page names and no file states."""
     for name in sorted(set(re.findall(r'`(%s)`' % LAW, text))):
-        if name not in laws() and not any(pathlib.Path(folder, name + '.md').exists() for folder in ('docs', '.')):
+        if name not in laws() | ELSEWHERE and not any(pathlib.Path(folder, name + '.md').exists() for folder in ('docs', '.')):
             yield name
 
 
