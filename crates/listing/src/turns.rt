@@ -11,8 +11,8 @@ use run_memory::places::HIGHEST;
 use run_memory::places::NEXT;
 use run_memory::places::TURNS;
 use run_memory::places::row_at;
-use run_memory::places::status_at;
 use run_memory::places::total_at;
+use run_memory::runs::ends_root;
 use run_memory::turn_in;
 use schedule::Reply;
 use schedule::Run;
@@ -25,6 +25,7 @@ ghost use Prim.Native.Nat.{_+_, _*_, _≤_, _<_};
 ghost use lib.ListN.{length};
 ghost use lib.Dec.{ltb};
 ghost use Rattle.table.specs.Format.{tableOf};
+ghost use Rattle.schedule.specs.declared.Reply.the-variants.{Done};
 ghost use Rattle.schedule.specs.Listing.{actionIn, threadIn, lastWith};
 ghost use Rattle.schedule.specs.Record.{tableIn};
 ghost use Rattle.schedule.specs.Turn.{unsound};
@@ -112,6 +113,42 @@ fn put_after(
     put_step(table, words, sums, out, at, w, reply)
 }
 
+// The same after a turn that did this action of this thread.
+fn put_done(
+    chart: bool,
+    table: &[u8],
+    bytes: &[u8; 1040],
+    words: &[u16; 6163],
+    numbers: &[u32; 18],
+    sums: &[u64; 1027],
+    out: &mut [u8],
+    at: usize,
+    p: u8,
+    w: u8,
+    thread: u16,
+    action: u16,
+) -> usize
+    ensures { λ r. ⌜ Puts (now (out .entry)) at (now (out .exit)) r
+        (afterTexts chart (figuresIn p (memoryOf (now (bytes .entry)) (now (words .entry)) (now (numbers .entry)) (now (sums .entry))))
+        (lineIn (tableOf (now (table .entry))) w (Done thread action) (wordsIn (now (words .entry))) (sumsIn (now (sums .entry)))))
+        (afterSize chart (figuresIn p (memoryOf (now (bytes .entry)) (now (words .entry)) (now (numbers .entry)) (now (sums .entry))))) ⌝ }
+{
+    let done = Reply::Done { thread, action };
+    put_after(
+        chart,
+        table,
+        bytes,
+        words,
+        numbers,
+        sums,
+        out,
+        at,
+        p,
+        w,
+        done,
+    )
+}
+
 // What is put at the root's end or the order's: the last line, and of a chart nothing.
 fn put_over(chart: bool, out: &mut [u8], at: usize, ended: bool, turns: u64, peak: u64) -> usize
     ensures { λ r. ⌜ Puts (now (out .entry)) at (now (out .exit)) r (overTexts chart (lastWith ended turns peak)) 64 ⌝ }
@@ -169,7 +206,23 @@ fn put_each(
         if too_many(chart, total_at(&*sums, TURNS)) {
             return put_refused(out, at, 43);
         }
-        at = put_after(
+        let Reply::Done { thread, action } = reply else {
+            at = put_after(
+                chart,
+                table,
+                &*bytes,
+                &*words,
+                &*numbers,
+                &*sums,
+                out,
+                at,
+                p,
+                w,
+                reply,
+            );
+            continue;
+        };
+        at = put_done(
             chart,
             table,
             &*bytes,
@@ -180,16 +233,10 @@ fn put_each(
             at,
             p,
             w,
-            reply,
+            thread,
+            action,
         );
-        let Reply::Done {
-            thread: _,
-            action: _,
-        } = reply
-        else {
-            continue;
-        };
-        if status_at(&*bytes, 0) == ENDED {
+        if ends_root(table, thread, action) {
             return put_end(chart, out, at, true, &*sums);
         }
     }

@@ -1,5 +1,5 @@
 -- A run in lent memory goes turn by turn.
-use mathlib.Core.Path.{_≡_, refl, sym, ap, _∙_}
+use mathlib.Core.Path.{_≡_, refl, sym, ap, subst, _∙_}
 use Prim.Native.Nat.{ℕ, zero, suc, _+_, _-_, _≤_, _<_}
 use native.Mathlib.Omega.{arith}
 use mathlib.Core.List.{List, []}
@@ -9,14 +9,14 @@ use lib.Dec.{eqb}
 use lib.ListN.{length, getD}
 use Rattle.table.specs.Sum.{pick}
 use Rattle.schedule.specs.Machine.{ended}
-use Rattle.schedule.specs.declared.Reply.the-variants.{Idle}
+use Rattle.schedule.specs.declared.Reply.the-variants.{Idle, Done}
 use Rattle.table.specs.Format.{tableOf}
 use Rattle.schedule.specs.Runs.{workerAt}
 use Rattle.array_machine.specs.Counted.{Left, turnOn}
 use Rattle.run_memory.specs.Memory.{Memory, workerIn, movedIn, memoryAfter, hindrance, Told, told, turnLeft, turnIn}
 use Rattle.run_memory.specs.declared.runs.Stop.{Stop}
-use Rattle.run_memory.specs.Runs.{Stopped, stopped, driveIn, listRunIn, roundsRunIn}
-use Rattle.run_memory.proofs.Undone.{Undone, undone-keeps}
+use Rattle.run_memory.specs.Runs.{Stopped, stopped, endsRoot, driveIn, listRunIn, roundsRunIn}
+use Rattle.run_memory.proofs.Endings.{Undone, Unending, Ends, says-no-end, says-end, turn-ends}
 
 -- a turn that is refused moves nothing, whatever hindered it
 pub nothing-moved : (M : Memory) (w : ℕ) (b : Bool) (n : ℕ) (z : Left) → let t : Told = pick b (turnLeft M w z) (told n Idle M) in
@@ -50,14 +50,15 @@ unfolding driveIn
 root-stops s who zero i M e = rw (eq-eqb (getD (M .arrays .status) 0 0) ended e)
 root-stops s who (suc k) i M e = rw (eq-eqb (getD (M .arrays .status) 0 0) ended e)
 
--- what is left of a run of at most `limit` turns after i of them is the whole; the root has not ended
+-- what is left of a run of at most `limit` turns after i of them is the whole; the root has a place, and has not ended
 pub record Along (s : List ℕ) (who : ℕ → ℕ) (limit : ℕ) (M₀ M : Memory) (i : ℕ) : Type 0 where
   pub within : i ≤ limit
+  pub rooted : 0 < length (M .arrays .status)
   pub going : Going M
   pub remains : driveIn s who (limit - i) i M ≡ driveIn s who limit 0 M₀
 
-pub first-along : (s : List ℕ) (who : ℕ → ℕ) (limit : ℕ) (M : Memory) → Going M → Along s who limit M M 0
-first-along s who limit M o = let e : limit - 0 ≡ limit = omega arith in record { within = omega arith; going = o; remains = rw e }
+pub first-along : (s : List ℕ) (who : ℕ → ℕ) (limit : ℕ) (M : Memory) → 0 < length (M .arrays .status) → Going M → Along s who limit M M 0
+first-along s who limit M r o = let e : limit - 0 ≡ limit = omega arith in record { within = omega arith; rooted = r; going = o; remains = rw e }
 
 module _ {s : List ℕ} {who : ℕ → ℕ} {limit : ℕ} {M₀ M : Memory} {i : ℕ} (v : Along s who limit M₀ M i) where
   abbrev whole : Stopped
@@ -89,16 +90,28 @@ module _ {s : List ℕ} {who : ℕ → ℕ} {limit : ℕ} {M₀ M : Memory} {i :
           let n : suc i ≡ i + 1 = omega arith in
           ap (λ (k : ℕ). driveIn s who (limit - (i + 1)) k (t .memory)) (sym n) ∙ (rw (ne-eqb (getD (M .arrays .status) 0 0) ended (v .going), ← there, d) at here)
 
-      pub again : Going (t .memory) → Along s who limit M₀ (t .memory) (i + 1)
-      again o = record { within = omega (arith, h); going = o; remains = rest }
+      -- what the turn did to the root
+      told-ends : Ends (tableOf s) 0 (M .arrays .status) (t .reply) (t .memory .arrays .status)
+      told-ends = subst (λ (x : Told). Ends (tableOf s) 0 (M .arrays .status) (x .reply) (x .memory .arrays .status)) (sym e) (turn-ends s w M 0)
+
+      again : Unending (tableOf s) 0 (t .reply) → Along s who limit M₀ (t .memory) (i + 1)
+      again u =
+          let n : length (t .memory .arrays .status) ≡ length (M .arrays .status) = told-ends .long in
+          record { within = omega (arith, h); rooted = omega (arith, n, v .rooted); going = told-ends .keep u (v .going); remains = rest }
 
       -- no action was done
       pub undone : Undone (t .reply) → Along s who limit M₀ (t .memory) (i + 1)
-      undone u =
-          again (λ z. undone-keeps s w M 0 (λ x a k. u x a (ap (λ (y : Told). y .reply) e ∙ k)) (v .going) (ap (λ (y : Told). getD (y .memory .arrays .status) 0 0) (sym e) ∙ z))
+      undone u = again (λ a f k. u 0 a f)
 
-      pub finished : getD (t .memory .arrays .status) 0 0 ≡ ended → stopped 0 true (i + 1) (t .memory) ≡ whole
-      finished z = root-stops s who (limit - (i + 1)) (i + 1) (t .memory) z ∙ rest
+      -- one was done
+      module _ {x a : ℕ} (f : t .reply ≡ Done x a) where
+        pub goes-on : endsRoot (tableOf s) x a ≡ false → Along s who limit M₀ (t .memory) (i + 1)
+        goes-on z = again (says-no-end (tableOf s) f z)
+
+        pub finished : endsRoot (tableOf s) x a ≡ true → stopped 0 true (i + 1) (t .memory) ≡ whole
+        finished z =
+            let (g, k) = says-end (tableOf s) f z in
+            root-stops s who (limit - (i + 1)) (i + 1) (t .memory) (told-ends .ends a g k (v .rooted)) ∙ rest
 
 -- ---- the calls
 

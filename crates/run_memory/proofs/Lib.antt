@@ -13,7 +13,7 @@ pub mod Foreseeing
 mod Laying
 pub mod Drives
 pub mod Fixed
-pub mod Undone
+pub mod Endings
 pub mod Turning
 pub mod WorkerRecords
 pub mod Refines

@@ -1,10 +1,11 @@
 -- Runs over a list of workers and in rounds, in lent memory, whatever it holds.
 use Prim.Native.Nat.{ℕ, zero, suc, _-_, _^_}
 use mathlib.Core.List.{List, []}
-use mathlib.Core.Bool.{Bool, true, false}
+use mathlib.Core.Bool.{Bool, true, false, _&&_}
 use lib.ListN.{length, getD}
 use lib.Dec.{eqb}
 use Rattle.table.specs.Sum.{pick}
+use Rattle.table.specs.Format.{end, is, Table, kind}
 use Rattle.table.specs.Pass.{refusal}
 use Rattle.schedule.specs.declared.Report.{Report}
 use Rattle.schedule.specs.declared.Report.the-variants.{Finished, Spent, Refused}
@@ -21,6 +22,10 @@ pub record Stopped : Type 0 where
 
 abbrev pub stopped : ℕ → Bool → ℕ → Memory → Stopped
 stopped number finished turns M = record { number = number; finished = finished; turns = turns; memory = M }
+
+-- whether action a of thread t, which a reply says was done, is the root's end: "Thread 0 is the root"
+unfoldable pub endsRoot : Table → ℕ → ℕ → Bool
+endsRoot T t a = eqb t 0 && is end (kind T a)
 
 -- the root has ended
 abbrev pub overIn : Memory → Bool

@@ -299,8 +299,9 @@ fn act_free(
     put_row(words, NEXT, t, a + 1);
     put_amount(sums, t, own - x as u64);
     hold(sums, all - x as u64);
-    let quota = quota_left(&*bytes, &*numbers, w);
-    keep(bytes, words, numbers, w, t, quota);
+    // "the quota doesn't rise"
+    let left = quota_left(&*bytes, &*numbers, w);
+    keep(bytes, words, numbers, w, t, left);
     done(t, a)
 }
 

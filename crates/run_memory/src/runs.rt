@@ -2,21 +2,26 @@
 use crate::places::TURNS;
 use crate::places::WORKERS;
 use crate::places::setting_at;
-use crate::places::status_at;
 use crate::places::total_at;
 use crate::rounds::following;
 use crate::turn_in;
 use schedule::Reply;
 use schedule::statuses::ENDED;
+use table::kinds::END;
 use table::read::byte;
+use table::read::code;
+use table::read::threads;
 ghost use mathlib.Core.Path.{_≡_};
 ghost use mathlib.Core.Bool.{true, false};
 ghost use Prim.Native.Nat.{_<_};
-ghost use lib.ListN.{getD};
+ghost use lib.ListN.{length, getD};
+ghost use lib.Dec.{eqb};
 ghost use Rattle.table.specs.Sum.{pick};
+ghost use Rattle.table.specs.Format.{tableOf};
+ghost use Rattle.schedule.specs.Machine.{ended};
 ghost use Rattle.schedule.specs.Runs.{workerAt};
-ghost use Rattle.run_memory.specs.Blocks.{numbersIn, memoryOf};
-ghost use Rattle.run_memory.specs.Runs.{stopped, driveIn, listRunIn, roundsRunIn};
+ghost use Rattle.run_memory.specs.Blocks.{bytesIn, numbersIn, memoryOf};
+ghost use Rattle.run_memory.specs.Runs.{stopped, endsRoot, driveIn, listRunIn, roundsRunIn};
 
 // Where a run stopped: a refusal's number, 0 where there is none; whether at the root's end; the turns that it took.
 pub struct Stop {
@@ -47,6 +52,25 @@ fn finished(i: usize) -> Stop
     }
 }
 
+// The root has ended. A part's length is known to the proof, an array's is not: the root has a place.
+pub fn root_ended(bytes: &[u8; 1040]) -> bool
+    ensures { λ r. ⌜ r ≡ eqb (getD (bytesIn (now (bytes .entry)) .status) 0 0) ended ⌝ }
+    ensures { λ _. ⌜ 0 < length (bytesIn (now (bytes .entry)) .status) ⌝ }
+{
+    let places = &bytes[..];
+    places[0] == ENDED
+}
+
+// Whether the action that a turn did is the root's end, from the thread and the action that its reply names.
+pub fn ends_root(table: &[u8], thread: u16, action: u16) -> bool
+    ensures { λ r. ⌜ r ≡ endsRoot (tableOf (now (table .entry))) thread action ⌝ }
+{
+    if thread != 0 {
+        return false;
+    }
+    code(table, threads(table), action as usize) == END
+}
+
 // The worker whose turn comes after i turns: from the order, or in rounds the one that is next.
 fn worker_of(order: &[u8], rounds: bool, next: u32, i: usize) -> u32
     ensures { λ r. ⌜ r ≡ pick rounds next (getD (now (order .entry)) i 0) ⌝ }
@@ -54,7 +78,7 @@ fn worker_of(order: &[u8], rounds: bool, next: u32, i: usize) -> u32
     if rounds { next } else { byte(order, i) as u32 }
 }
 
-// At most `limit` turns. No turn but one in which an action is done can end the root.
+// At most `limit` turns. Each reply is taken apart, and the thread and the action that it names say whether the root ended.
 fn drive(
     table: &[u8],
     order: &[u8],
@@ -69,7 +93,7 @@ fn drive(
     ensures { λ r. ⌜ stopped (r .number) (r .finished) (r .turns) (memoryOf (now (bytes .exit)) (now (words .exit)) (now (numbers .exit)) (now (sums .exit)))
         ≡ driveIn (now (table .entry)) (workerAt (now (order .entry)) rounds (numbersIn (now (numbers .entry)) .workers)) limit 0 (memoryOf (now (bytes .entry)) (now (words .entry)) (now (numbers .entry)) (now (sums .entry))) ⌝ }
 {
-    if status_at(&*bytes, 0) == ENDED {
+    if root_ended(&*bytes) {
         return finished(0);
     }
     let p = setting_at(&*numbers, WORKERS);
@@ -84,14 +108,10 @@ fn drive(
         }
         let reply = spoken.reply;
         i += 1;
-        let Reply::Done {
-            thread: _,
-            action: _,
-        } = reply
-        else {
+        let Reply::Done { thread, action } = reply else {
             continue;
         };
-        if status_at(&*bytes, 0) == ENDED {
+        if ends_root(table, thread, action) {
             return finished(i);
         }
     }

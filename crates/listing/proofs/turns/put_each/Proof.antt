@@ -14,6 +14,8 @@ use Rattle.table.specs.Pass.{refusal}
 use Rattle.table.proofs.Tests.{no-way}
 use Rattle.text.specs.Text.{refusedLine}
 use Rattle.schedule.specs.declared.Run.{Run}
+use Rattle.schedule.specs.declared.Reply.{Reply}
+use Rattle.schedule.specs.declared.Reply.the-variants.{Done}
 use Rattle.schedule.specs.declared.Turning.the-variants.{Taken as taken}
 use Rattle.schedule.specs.Machine.{ended as endedStatus}
 use Rattle.schedule.specs.Record.{maxBytes, bytesOf}
@@ -29,7 +31,8 @@ use Rattle.array_machine.proofs.Answers.{steady-room, refusedAs, root-over, roo
 use Rattle.run_memory.specs.Memory.{Memory, movedIn, Told, turnIn, passedOver}
 use Rattle.run_memory.specs.Stands.{runIn, Stands}
 use Rattle.run_memory.specs.Blocks.{memoryOf}
-use Rattle.run_memory.proofs.Undone.{Undone, not-done, undone-keeps}
+use Rattle.run_memory.specs.Runs.{endsRoot}
+use Rattle.run_memory.proofs.Endings.{Undone, Unending, Ends, not-done, says-no-end, says-end, turn-ends}
 use Rattle.run_memory.proofs.Refines.{Moves, moves-so, turnedBy, turn-turned}
 use Rattle.asyncdf.proofs.Calls.{told-small}
 use Rattle.listing.specs.Sheets.{turnsTexts, widest, figuresIn, afterTexts, afterSize, overTexts, Drawn}
@@ -64,6 +67,10 @@ module _ {chart : Bool} {s : List ℕ} {p : ℕ} {order out₀ : List ℕ} {at�
     (v : Tells chart s p order out₀ at₀ M₀ M out at i) where
   abbrev here : Run
   here = runIn s M
+
+  -- the root has a place
+  rooted : 0 < length (M .arrays .status)
+  rooted = let n : length (M .arrays .status) ≡ 1024 = v .drawn .stands .steady .state .common .status-size in omega (arith, n)
 
   -- what the whole is to put
   abbrev Whole : List ℕ → ℕ → Type 0
@@ -115,13 +122,20 @@ module _ {chart : Bool} {s : List ℕ} {p : ℕ} {order out₀ : List ℕ} {at�
       count-there : p ≡ getD (x .memory .settings) 0 0
       count-there = v .drawn .workers ∙ ap (λ (l : List ℕ). getD l 0 0) (sym (ap (λ (y : Told). y .memory .settings) t ∙ moves .settings))
 
-      -- what was put after it, of p workers and the table in these bytes
-      abbrev Put : List ℕ → ℕ → ℕ → List ℕ → Type 0
-      Put o k p' s' =
+      -- what is put after a turn with this reply, of p workers and the table in these bytes
+      abbrev PutOf : Reply → List ℕ → ℕ → ℕ → List ℕ → Type 0
+      PutOf y o k p' s' =
           Puts out at o k
           (afterTexts chart (figuresIn p' (x .memory))
-          (line (movedIn (x .memory) .turns) w (toldWith (x .reply) (kind (tableOf s') (actionIn (x .reply))) (getD (x .memory .arrays .next) (threadIn (x .reply)) 0)) (movedIn (x .memory) .totals .held)))
+          (line (movedIn (x .memory) .turns) w (toldWith y (kind (tableOf s') (actionIn y)) (getD (x .memory .arrays .next) (threadIn y) 0)) (movedIn (x .memory) .totals .held)))
           (afterSize chart (figuresIn p' (x .memory)))
+
+      abbrev Put : List ℕ → ℕ → ℕ → List ℕ → Type 0
+      Put = PutOf (x .reply)
+
+      -- from the thread and the action of a reply that was taken apart
+      done-line : {u a : ℕ} → x .reply ≡ Done u a → {o : List ℕ} {k : ℕ} → PutOf (Done u a) o k p s → Put o k p s
+      done-line g {o} {k} q = subst (λ (y : Reply). PutOf y o k p s) (sym g) q
 
       module _ (f : (chart && ltb mostTurns (movedIn (x .memory) .turns)) ≡ false) {o : List ℕ} {k : ℕ} (l : length o ≡ length out) (q : Put o k p s) where
         few-there : chart ≡ true → tooMany there ≡ false
@@ -135,18 +149,30 @@ module _ {chart : Bool} {s : List ℕ} {p : ℕ} {order out₀ : List ℕ} {at�
             again (v .listed) h (root-open here (v .drawn .going)) takes refl (λ c. sym (charted-written there (sound-there c) (few-there c))) l
             (sized chart (figures there) (λ c. wall-width there (sound-there c) (few-there c)) put-there)
 
-        goes-on : (getD (x .memory .arrays .status) 0 0 ≡ endedStatus → ⊥) → Tells chart s p order out₀ at₀ M₀ (x .memory) o k (i + 1)
-        goes-on d = record { drawn = record { stands = stands-there; going = d; workers = count-there; room = few-enough chart (movedIn (x .memory) .turns) f }; listed = next-listed }
+        going-on : (getD (x .memory .arrays .status) 0 0 ≡ endedStatus → ⊥) → Tells chart s p order out₀ at₀ M₀ (x .memory) o k (i + 1)
+        going-on d = record { drawn = record { stands = stands-there; going = d; workers = count-there; room = few-enough chart (movedIn (x .memory) .turns) f }; listed = next-listed }
+
+        -- what the turn did to the root
+        told-ends : Ends (tableOf s) 0 (M .arrays .status) (x .reply) (x .memory .arrays .status)
+        told-ends = subst (λ (y : Told). Ends (tableOf s) 0 (M .arrays .status) (y .reply) (y .memory .arrays .status)) (sym t) (turn-ends s w M 0)
+
+        again-with : Unending (tableOf s) 0 (x .reply) → Tells chart s p order out₀ at₀ M₀ (x .memory) o k (i + 1)
+        again-with u = going-on (told-ends .keep u (v .drawn .going))
 
         -- no action was done
         undone : Undone (x .reply) → Tells chart s p order out₀ at₀ M₀ (x .memory) o k (i + 1)
-        undone u =
-            goes-on (λ e.
-            undone-keeps s w M 0 (λ y a j. u y a (ap (λ (y : Told). y .reply) t ∙ j)) (v .drawn .going) (ap (λ (y : Told). getD (y .memory .arrays .status) 0 0) (sym t) ∙ e))
+        undone u = again-with (λ a f d. u 0 a f)
 
-        finished : {z : List ℕ} {j : ℕ} → getD (x .memory .arrays .status) 0 0 ≡ endedStatus
-            → Puts o k z j (overTexts chart (lastWith true (movedIn (x .memory) .turns) (movedIn (x .memory) .totals .highest))) 64 → Whole z j
-        finished e u = ended next-listed (root-over there e) u
+        -- one was done
+        module _ {u a : ℕ} (g : x .reply ≡ Done u a) where
+          goes-on : endsRoot (tableOf s) u a ≡ false → Tells chart s p order out₀ at₀ M₀ (x .memory) o k (i + 1)
+          goes-on e = again-with (says-no-end (tableOf s) g e)
+
+          finished : {z : List ℕ} {j : ℕ} → endsRoot (tableOf s) u a ≡ true
+              → Puts o k z j (overTexts chart (lastWith true (movedIn (x .memory) .turns) (movedIn (x .memory) .totals .highest))) 64 → Whole z j
+          finished e n =
+              let (b, d) = says-end (tableOf s) g e in
+              ended next-listed (root-over there (told-ends .ends a b d rooted)) n
 
 record Inv (chart : Bool) (s : List ℕ) (p : ℕ) (order out₀ : List ℕ) (at₀ : ℕ) (M₀ M : Memory) (out : List ℕ) (at i : ℕ) : Type 0 where
   within : i ≤ length order
@@ -172,9 +198,19 @@ inside c = c .before .before .before .before .before .before .before
 abbrev top : tie.After-struct-known Inv-loop μ-loop → tie.At-loop Inv-loop μ-loop
 top c = inside c .before
 
--- its line was put
+-- no action was done, and its line was put
+abbrev matched : tie.After-slice-known4 Inv-loop μ-loop → tie.At-match-keys2 Inv-loop μ-loop
+matched c = c .before .before .before .before .before .before .before .before
+
 abbrev fewer : tie.After-slice-known4 Inv-loop μ-loop → tie.Else2 Inv-loop μ-loop
-fewer c = c .before .before .before .before .before .before .before .before
+fewer c = matched c .before
+
+-- the reply was taken apart, and the line of what was done was put
+abbrev apart : tie.After-slice-known5 Inv-loop μ-loop → tie.After-reply Inv-loop μ-loop
+apart c = c .before .before .before .before .before .before .before .before .before
+
+abbrev few : tie.After-slice-known5 Inv-loop μ-loop → tie.Else2 Inv-loop μ-loop
+few c = apart c .before .before
 
 loop-holds : tie.Need-loop-holds Inv-loop μ-loop
 loop-holds c =
@@ -228,67 +264,71 @@ returns-2 c =
     no-line (top k .loop .inv .tells) (inside k .loop-test .taken) (k .before .turn-in .ensures .0) (n .if1 .left) (asked (begin (top k) .args .chart) (m .before .before .total-at .result) (m .before .too-many .ensures) (m .before .before .total-at .ensures) (m .if2 .taken))
     (c .before .before .put-refused2 .ensures)
 
+enum-known-reply : tie.Need-enum-known-reply Inv-loop μ-loop
+enum-known-reply c = c .match .keys1
+
 put-after-requires : tie.Need-put-after-requires Inv-loop μ-loop
 put-after-requires c κs = search needs
 
-enum-told : tie.Need-enum-told Inv-loop μ-loop
-enum-told c = c .match .keys1
-
 loop-less : tie.Need-loop-less Inv-loop μ-loop
-loop-less c = omega (arith, inside (fewer (c .before) .before .before .before .before .before) .loop-test .taken)
+loop-less c = omega (arith, inside (fewer c .before .before .before .before .before) .loop-test .taken)
 
 loop-again : tie.Need-loop-again Inv-loop μ-loop
 loop-again c =
-    let p = c .before in
-    let m = fewer p in
+    let m = fewer c in
     let n = m .before .before .before .before in
     let k = n .before in
     let v = top k .loop .inv in
     record {
       within = omega (arith, inside k .loop-test .taken);
-      long = omega (arith, p .before .out3 .given, v .long);
+      long = omega (arith, c .before .out3 .given, v .long);
       tells =
-          undone (v .tells) (inside k .loop-test .taken) (k .before .turn-in .ensures .0) (n .if1 .left) (asked (begin (top k) .args .chart) (m .before .before .total-at .result) (m .before .too-many .ensures) (m .before .before .total-at .ensures) (m .if2 .left)) (omega (arith, p .before .out3 .given))
-          (p .before .before .put-after .ensures) (not-done (c .match .keys2));
+          undone (v .tells) (inside k .loop-test .taken) (k .before .turn-in .ensures .0) (n .if1 .left) (asked (begin (top k) .args .chart) (m .before .before .total-at .result) (m .before .too-many .ensures) (m .before .before .total-at .ensures) (m .if2 .left)) (omega (arith, c .before .out3 .given))
+          (c .before .before .put-after .ensures) (not-done (matched c .match .keys2));
     }
 
-status-at-requires : tie.Need-status-at-requires Inv-loop μ-loop
-status-at-requires c κs = search needs
+put-done-requires : tie.Need-put-done-requires Inv-loop μ-loop
+put-done-requires c κs = search needs
+
+ends-root-requires : tie.Need-ends-root-requires Inv-loop μ-loop
+ends-root-requires c κs = search needs
 
 put-end-requires : tie.Need-put-end-requires Inv-loop μ-loop
 put-end-requires c κs = search needs
 
 same-length-3 : tie.Need-same-length-3 Inv-loop μ-loop
 same-length-3 c =
-    let p = c .before .before .before .before .before .before .before .before .before .before in
-    omega (arith, p .before .out3 .given, top (fewer p .before .before .before .before .before) .loop .inv .long)
+    let p = c .before .before .before .before .before .before .before in
+    omega (arith, p .before .out4 .given, top (few p .before .before .before .before .before) .loop .inv .long)
 
 returns-3 : tie.Need-returns-3 Inv-loop μ-loop
 returns-3 c =
     let t = c .before .before .before .before .before in
-    let p = t .before .before .before .before .before in
-    let m = fewer p in
+    let p = t .before .before in
+    let m = few p in
     let n = m .before .before .before .before in
     let k = n .before in
-    finished (top k .loop .inv .tells) (inside k .loop-test .taken) (k .before .turn-in .ensures .0) (n .if1 .left) (asked (begin (top k) .args .chart) (m .before .before .total-at .result) (m .before .too-many .ensures) (m .before .before .total-at .ensures) (m .if2 .left)) (omega (arith, p .before .out3 .given))
-    (p .before .before .put-after .ensures) (sym (t .before .status-at .ensures) ∙ t .if3 .taken) (c .before .before .put-end .ensures)
+    let g = apart p .reply .given .1 in
+    finished (top k .loop .inv .tells) (inside k .loop-test .taken) (k .before .turn-in .ensures .0) (n .if1 .left) (asked (begin (top k) .args .chart) (m .before .before .total-at .result) (m .before .too-many .ensures) (m .before .before .total-at .ensures) (m .if2 .left)) (omega (arith, p .before .out4 .given))
+    (done-line (top k .loop .inv .tells) (inside k .loop-test .taken) (k .before .turn-in .ensures .0) (n .if1 .left) g (p .before .before .put-done .ensures)) g (sym (t .before .ends-root .ensures) ∙ t .if3 .taken) (c .before .before .put-end .ensures)
 
 loop-less-2 : tie.Need-loop-less-2 Inv-loop μ-loop
-loop-less-2 c = omega (arith, inside (fewer (c .before .before .before .before .before) .before .before .before .before .before) .loop-test .taken)
+loop-less-2 c = omega (arith, inside (few (c .before .before) .before .before .before .before .before) .loop-test .taken)
 
 loop-again-2 : tie.Need-loop-again-2 Inv-loop μ-loop
 loop-again-2 c =
-    let p = c .before .before .before .before .before in
-    let m = fewer p in
+    let p = c .before .before in
+    let m = few p in
     let n = m .before .before .before .before in
     let k = n .before in
     let v = top k .loop .inv in
+    let g = apart p .reply .given .1 in
     record {
       within = omega (arith, inside k .loop-test .taken);
-      long = omega (arith, p .before .out3 .given, v .long);
+      long = omega (arith, p .before .out4 .given, v .long);
       tells =
-          goes-on (v .tells) (inside k .loop-test .taken) (k .before .turn-in .ensures .0) (n .if1 .left) (asked (begin (top k) .args .chart) (m .before .before .total-at .result) (m .before .too-many .ensures) (m .before .before .total-at .ensures) (m .if2 .left)) (omega (arith, p .before .out3 .given))
-          (p .before .before .put-after .ensures) (λ x. c .if3 .left (c .before .status-at .ensures ∙ x));
+          goes-on (v .tells) (inside k .loop-test .taken) (k .before .turn-in .ensures .0) (n .if1 .left) (asked (begin (top k) .args .chart) (m .before .before .total-at .result) (m .before .too-many .ensures) (m .before .before .total-at .ensures) (m .if2 .left)) (omega (arith, p .before .out4 .given))
+          (done-line (v .tells) (inside k .loop-test .taken) (k .before .turn-in .ensures .0) (n .if1 .left) g (p .before .before .put-done .ensures)) g (sym (c .before .ends-root .ensures) ∙ c .if3 .left);
     }
 
 put-end-requires-2 : tie.Need-put-end-requires-2 Inv-loop μ-loop
@@ -322,11 +362,12 @@ put-each-spec =
     put-refused-requires-2
     same-length-2
     returns-2
+    enum-known-reply
     put-after-requires
-    enum-told
     loop-less
     loop-again
-    status-at-requires
+    put-done-requires
+    ends-root-requires
     put-end-requires
     same-length-3
     returns-3

@@ -6,6 +6,7 @@ use mathlib.Core.Bool.{Bool, true, false}
 use native.Mathlib.Nat.{zero-mod}
 use native.Mathlib.Omega.{arith}
 use borrow.Author.Needs.{needs}
+use borrow.Author.Tests.{eqb-true, eqb-false}
 use denote.Ref.{now}
 use lib.Dec.{ltb}
 use lib.ListN.{getD}
@@ -14,8 +15,8 @@ use Rattle.schedule.specs.Runs.{workerAt}
 use Rattle.run_memory.specs.Memory.{Memory}
 use Rattle.run_memory.specs.Blocks.{memoryOf}
 use Rattle.run_memory.proofs.Turning.{in-turn}
-use Rattle.run_memory.proofs.Undone.{not-done}
-use Rattle.run_memory.proofs.Drives.{Along, root-stops, first-along, stopped-as, spent, hindered, again, undone, finished}
+use Rattle.run_memory.proofs.Endings.{not-done}
+use Rattle.run_memory.proofs.Drives.{Along, root-stops, first-along, stopped-as, spent, hindered, undone, goes-on, finished}
 use Rattle.run_memory.proofs.runs.drive.Statement.{statement}
 use Rattle.run_memory.proofs.runs.drive.Tie as tie
 
@@ -61,8 +62,8 @@ top c = asked-for c .before .before
 abbrev start : tie.After-struct-known Inv-loop μ-loop → tie.Start Inv-loop μ-loop
 start c = top c .before .before .before .before .before .before .before .before
 
-status-at-requires : tie.Need-status-at-requires Inv-loop μ-loop
-status-at-requires c κs = search needs
+root-ended-requires : tie.Need-root-ended-requires Inv-loop μ-loop
+root-ended-requires c κs = search needs
 
 finished-requires : tie.Need-finished-requires Inv-loop μ-loop
 finished-requires c κs = search needs
@@ -70,7 +71,7 @@ finished-requires c κs = search needs
 returns : tie.Need-returns Inv-loop μ-loop
 returns c =
     let n = c .before in
-    stopped-as (c .finished .ensures) (root-stops _ _ _ 0 _ (sym (n .before .status-at .ensures) ∙ n .if1 .taken))
+    stopped-as (c .finished .ensures) (root-stops _ _ _ 0 _ (eqb-true _ _ (sym (n .before .root-ended .ensures .0) ∙ n .if1 .taken)))
 
 setting-at-requires : tie.Need-setting-at-requires Inv-loop μ-loop
 setting-at-requires c κs = search needs
@@ -83,7 +84,7 @@ loop-holds c =
       asked = d .pre;
       workers = c .setting-at .ensures;
       turn = λ _. sym (zero-mod _);
-      along = first-along _ _ _ _ (λ x. o .if1 .left (o .before .status-at .ensures ∙ x));
+      along = first-along _ _ _ _ (o .before .root-ended .ensures .1) (eqb-false _ _ (sym (o .before .root-ended .ensures .0) ∙ o .if1 .left));
     }
 
 worker-of-requires : tie.Need-worker-of-requires Inv-loop μ-loop
@@ -109,8 +110,8 @@ returns-2 c =
 add-i : tie.Need-add-i Inv-loop μ-loop
 add-i c = omega (arith, asked-for (c .before) .before .loop-test .taken, start (c .before) .fits .limit)
 
-enum-told : tie.Need-enum-told Inv-loop μ-loop
-enum-told c = c .match .keys1
+enum-known-reply : tie.Need-enum-known-reply Inv-loop μ-loop
+enum-known-reply c = c .match .keys1
 
 loop-less : tie.Need-loop-less Inv-loop μ-loop
 loop-less c = omega (arith, asked-for (c .before .before) .before .loop-test .taken)
@@ -127,38 +128,44 @@ loop-again c =
       along = undone (v .along) (asked-for k .before .loop-test .taken) (this-worker (now (start k .args .order)) (start k .args .rounds) _ _ (v .turn) (asked-for k .worker-of .ensures)) (k .before .turn-in .ensures .0) (e .if2 .left) (not-done (c .match .keys2));
     }
 
-status-at-requires-2 : tie.Need-status-at-requires-2 Inv-loop μ-loop
-status-at-requires-2 c κs = search needs
+ends-root-requires : tie.Need-ends-root-requires Inv-loop μ-loop
+ends-root-requires c κs = search needs
 
 finished-requires-2 : tie.Need-finished-requires-2 Inv-loop μ-loop
 finished-requires-2 c κs = search needs
+
+-- the reply was taken apart
+abbrev apart : tie.After-ends-root Inv-loop μ-loop → tie.After-reply Inv-loop μ-loop
+apart z = z .before .before
 
 returns-3 : tie.Need-returns-3 Inv-loop μ-loop
 returns-3 c =
     let n = c .before in
     let z = n .before in
-    let e = z .before .before .before .before in
+    let e = apart z .before .before in
     let k = e .before in
     let v = top k .loop .inv in
     stopped-as (c .finished2 .ensures)
     (finished (v .along) (asked-for k .before .loop-test .taken)
     (this-worker (now (start k .args .order)) (start k .args .rounds) _ _ (v .turn) (asked-for k .worker-of .ensures)) (k .before .turn-in .ensures .0) (e .if2 .left)
-    (sym (z .status-at2 .ensures) ∙ n .if3 .taken))
+    (apart z .reply .given .1) (sym (z .ends-root .ensures) ∙ n .if3 .taken))
 
 loop-less-2 : tie.Need-loop-less-2 Inv-loop μ-loop
-loop-less-2 c = omega (arith, asked-for (c .before .before .before .before .before .before) .before .loop-test .taken)
+loop-less-2 c = omega (arith, asked-for (apart (c .before) .before .before .before) .before .loop-test .taken)
 
 loop-again-2 : tie.Need-loop-again-2 Inv-loop μ-loop
 loop-again-2 c =
     let z = c .before in
-    let e = z .before .before .before .before in
+    let e = apart z .before .before in
     let k = e .before in
     let v = top k .loop .inv in
     record {
       asked = v .asked;
       workers = v .workers;
       turn = next-worker (now (start k .args .order)) (start k .args .rounds) _ _ (v .workers) (v .asked) (v .turn) (followed k .following .ensures);
-      along = again (v .along) (asked-for k .before .loop-test .taken) (this-worker (now (start k .args .order)) (start k .args .rounds) _ _ (v .turn) (asked-for k .worker-of .ensures)) (k .before .turn-in .ensures .0) (e .if2 .left) (λ x. c .if3 .left (z .status-at2 .ensures ∙ x));
+      along =
+          goes-on (v .along) (asked-for k .before .loop-test .taken) (this-worker (now (start k .args .order)) (start k .args .rounds) _ _ (v .turn) (asked-for k .worker-of .ensures)) (k .before .turn-in .ensures .0) (e .if2 .left)
+          (apart z .reply .given .1) (sym (z .ends-root .ensures) ∙ c .if3 .left);
     }
 
 returns-4 : tie.Need-returns-4 Inv-loop μ-loop
@@ -170,7 +177,7 @@ drive-spec =
     (tie.spec
     Inv-loop
     μ-loop
-    status-at-requires
+    root-ended-requires
     finished-requires
     returns
     setting-at-requires
@@ -181,10 +188,10 @@ drive-spec =
     refused-requires
     returns-2
     add-i
-    enum-told
+    enum-known-reply
     loop-less
     loop-again
-    status-at-requires-2
+    ends-root-requires
     finished-requires-2
     returns-3
     loop-less-2
