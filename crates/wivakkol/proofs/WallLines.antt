@@ -1,4 +1,5 @@
--- A run's line from the memory lent: the checks, the text that fills the lent line, and that on a run that stands both are the record's (N5).
+-- A run's line from the memory lent: the checks, the text that fills the lent line, that it has its width and is read back (`lent-line`), and that on a run that stands number and line are the
+-- record's (N5).
 use mathlib.Core.Path.{_≡_, refl, sym, ap, _∙_}
 use Prim.Native.Nat.{ℕ, min, _≤_, _<_}
 use native.Mathlib.Omega.{arith}
@@ -17,11 +18,11 @@ use Rattle.schedule.specs.Turn.{unsound}
 use Rattle.schedule.proofs.Stores.{steady-fits}
 use Rattle.schedule.proofs.Sound.Tests.{sound-exactly}
 use Rattle.chart.specs.declared.Charted.{Charted}
-use Rattle.chart.specs.Chart.{Figures, mostTurns, figuresOf, figures, lineTexts, lineText, tooMany, charted, chartedIn, chartedValues, lineValues}
-use Rattle.chart.proofs.Records.{line-filled, charted-unsound, charted-many, charted-written, charted-values}
+use Rattle.chart.specs.Chart.{Figures, mostTurns, figuresOf, figures, lineTexts, lineText, readBack, tooMany, charted, chartedIn, chartedValues, lineValues}
+use Rattle.chart.proofs.Records.{wall-width, wall-newline, wall-read, line-filled, charted-unsound, charted-many, charted-written, charted-values}
 use Rattle.run_memory.specs.Memory.{Memory, movedIn}
 use Rattle.run_memory.specs.Stands.{workersIn, runIn, Stands}
-use Rattle.wivakkol.specs.Opened.{soundIn, blankIn, lineFault, lineAfter}
+use Rattle.wivakkol.specs.Opened.{soundIn, blankIn, lineFault, figuresIn, lineAfter}
 use Rattle.wivakkol.specs.Code.Standing.{standingOf, standing}
 use Rattle.wivakkol.proofs.Opens.{sound-in, no-workers, blank-passed, stands-worked, stands-unsound}
 
@@ -60,10 +61,16 @@ module _ (s : List ℕ) (M : Memory) {n : ℕ} (e : n ≡ standing s M) where
 
 -- ---- the text
 
+-- "one line, 84 characters and a newline"; "from a line each shown number can be read back"
+pub record WallLine (x : Figures) (line : List ℕ) : Type 0 where
+  pub width : length line ≡ 85
+  pub newline : getD line 84 0 ≡ 10
+  pub read : readBack line ≡ x
+
 -- a record that passes both checks, with the memory's numbers
 record Shows (M : Memory) : Type 0 where
   run : Run
-  same : figures run ≡ figuresOf (movedIn M .turns) (getD (M .settings) 0 0) (workersIn M) (movedIn M .totals .held)
+  same : figures run ≡ figuresIn M
   passes : unsound run ≡ false
   few-turns : tooMany run ≡ false
   few-workers : getD (M .settings) 0 0 ≤ 16
@@ -91,6 +98,14 @@ module _ (s : List ℕ) (M : Memory) where
       go true e b f true g h = absurd (omega (arith, h))
       go false e true f true g h = absurd (omega (arith, h))
       go false e false f t g h = absurd (omega (arith, h))
+
+  -- the line after the call, where it answers 0, whatever is lent: a sound record stands there or the blank one
+  pub lent-line : lineFault s M ≡ 0 → (line : List ℕ) → WallLine (figuresIn M) (lineAfter (lineFault s M) M line)
+  unfolding lineAfter
+  lent-line e line =
+      let g : Shows M = shows e in
+      rw (e, ← g .same)
+      (record { width = wall-width (g .run) (g .passes) (g .few-turns); newline = wall-newline (g .run) (g .passes) (g .few-turns); read = wall-read (g .run) (g .passes) (g .few-turns) })
 
   pub line-written : {n : ℕ} → n ≡ lineFault s M → n ≡ 0 → {p : ℕ} → p ≡ min (getD (M .settings) 0 0) 17 → {workers : List Worker} → workers ≡ workersIn M → (line out : List ℕ) (k : ℕ) → length line ≡ 85
       → bufferAt out k ≡ putAll (bufferAt line 0) (lineTexts (figuresOf (getD (M .totals) 2 0) p workers (getD (M .totals) 0 0))) → out ≡ lineAfter 0 M line

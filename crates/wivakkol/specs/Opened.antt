@@ -10,7 +10,7 @@ use Rattle.schedule.specs.Links.{noThread, Links}
 use Rattle.schedule.specs.Actives.{noLinks, filledFrom}
 use Rattle.table.specs.Checks.{maxThreads}
 use Rattle.soundness.specs.Tested.{parentsIn, soundOn, blankOn}
-use Rattle.chart.specs.Chart.{mostTurns, figuresOf, lineText}
+use Rattle.chart.specs.Chart.{Figures, mostTurns, figuresOf, lineText}
 use Rattle.array_machine.specs.Arrays.{arrays, linksOf}
 use Rattle.run_memory.specs.Memory.{Memory, memory, movedIn, Answer, answer}
 use Rattle.run_memory.specs.Stands.{truths, workersIn}
@@ -59,7 +59,10 @@ lentOpen s M = openedAs (soundIn s M) (blankIn M) s M
 unfoldable pub lineFault : List ℕ → Memory → ℕ
 lineFault s M = pick (not (soundIn s M) && not (blankIn M)) 32 (pick (ltb mostTurns (movedIn M .turns)) 43 0)
 
+-- the numbers that a line shows of the record that stands in the memory: turns taken, each worker's cell, memory held
+abbrev pub figuresIn : Memory → Figures
+figuresIn M = figuresOf (movedIn M .turns) (getD (M .settings) 0 0) (workersIn M) (movedIn M .totals .held)
+
 -- the lent line after the call: "with no line written" where it is refused
 unfoldable pub lineAfter : ℕ → Memory → List ℕ → List ℕ
-lineAfter number M line =
-    pick (eqb number 0) (lineText (figuresOf (movedIn M .turns) (getD (M .settings) 0 0) (workersIn M) (movedIn M .totals .held))) line
+lineAfter number M line = pick (eqb number 0) (lineText (figuresIn M)) line
