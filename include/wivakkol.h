@@ -35,6 +35,7 @@ extern "C" {
 #define WIVAKKOL_VERSION "0.1.0"
 
 /* What a call returns: 0, or one of these; docs/REFERENCE.md, "Refusals", has each in full. */
+/* made from data/refusals.txt: names */
 #define WIVAKKOL_REFUSED_HEAD 1          /* the table has under 4 bytes */
 #define WIVAKKOL_REFUSED_COUNTS 2        /* n or m is outside its range */
 #define WIVAKKOL_REFUSED_LENGTH 3        /* the length is not 4 + 4n + 4m */
@@ -56,12 +57,14 @@ extern "C" {
 #define WIVAKKOL_REFUSED_TURNS 43        /* more than 999,999 turns are taken */
 #define WIVAKKOL_REFUSED_FILLING 44      /* the filled-out table would pass 1,024 threads or 8,192 actions */
 #define WIVAKKOL_REFUSED_ROOM 61         /* the buffer lent for the filled-out table is too small */
+/* made to here */
 
-/* A refusal in words, for whoever prints one: of every number that a call of the three headers returns, of 0 that nothing is refused. No two numbers have the same words; a number that no call
+/* A refusal in words, for whoever prints one: of every number that a call of the headers returns, of 0 that nothing is refused. No two numbers have the same words; a number that no call
  * returns has its own. */
 static inline const char *wivakkol_refusal_words(uint32_t number)
 {
     switch (number) {
+    /* made from data/refusals.txt: words */
     case 0: return "nothing is refused";
     case 1: return "the table has under 4 bytes";
     case 2: return "n is not 1 to 1,024, or m is not 1 to 8,192";
@@ -87,12 +90,13 @@ static inline const char *wivakkol_refusal_words(uint32_t number)
     case 46: return "the mark is not set";
     case 47: return "no part, above 16, or lengths that do not add up to the bytes lent";
     case 48: return "the joined table passes 1,024 threads or 8,192 actions";
-    case 49: return "the choice is not below p";
+    case 49: return "the choice is not below p; of a limit, c is not 1 to p";
     case 60: return "the turn would break the rule with b";
     case 61: return "the buffer lent is too small";
     case 62: return "the text has more than 262,144 bytes";
     case 63: return "a line of the text is not as it should be";
     default: return "no call refuses with this number";
+    /* made to here */
     }
 }
 
@@ -228,6 +232,7 @@ static inline uint32_t wivakkol_fit(wivakkol_limit_work *work, const uint8_t *ta
  * at the part's place + t, and likewise for worker w: run.bytes[WIVAKKOL_AT_STATUS + t] is the status of thread t. Among neighbours
  * and leftmost threads 1,024 stands where there is none to name; the parent of the root and of a thread that nothing forks is 0, and so is the thread of a worker that holds none. */
 
+/* made from data/memory.txt: places */
 /* Places in `sums`. */
 #define WIVAKKOL_AT_AMOUNTS 0    /* of each thread, the memory that it holds */
 #define WIVAKKOL_AT_HELD 1024    /* memory held, by all of them */
@@ -258,6 +263,7 @@ static inline uint32_t wivakkol_fit(wivakkol_limit_work *work, const uint8_t *ta
 #define WIVAKKOL_AT_STATUS 0   /* of each thread, one of the five below */
 #define WIVAKKOL_AT_HOLDS 1024 /* of each worker, whether it holds a thread: 0 if not */
 #define WIVAKKOL_BYTES 1040
+/* made to here */
 
 /* The status of a thread. */
 #define WIVAKKOL_STATUS_UNBORN 0

@@ -213,8 +213,9 @@ def made(folder, name, data):
 # Refusals
 
 @functools.lru_cache(maxsize=None)
-def words(number):
-    return call('help', number)[0].decode().strip()
+def words(number, which=0):
+    """What `help` says of a number; the second line is of a program that means another thing by it."""
+    return call('help', number)[0].decode().split('\n')[which]
 
 
 def bytes_refused(folder):
@@ -272,7 +273,8 @@ def options_refused():
         refuses([*name, '-p', 2, '-K', 0, e], '-K 0: ' + words(21))
     refuses(['fill', '-K', 0, e], '-K 0: ' + words(21))
     refuses(['limit', '-p', 2, '-K', 6, '-b', 65536, e], '-b 65536: ' + words(41))
-    refuses(['limit', '-p', 2, '-K', 6, '-c', 3, e], '-c 3: ' + words(49))
+    refuses(['limit', '-p', 2, '-K', 6, '-c', 3, e], '-c 3: ' + words(49, 1))
+    refuses(['limit', '-p', 2, '-K', 6, '-c', 0, e], '-c 0: refused 49: c is not 1 to p; the limit is that of runs whose choices are all below c')
     for papers in (), ('--papers',):
         refuses(['quota', '-p', 17, '-M', 9, *papers, e], '-p 17: ' + words(20))
         refuses(['quota', '-p', 2, '-b', 65536, '-M', 9, *papers, e], '-b 65536: ' + words(41))
@@ -305,6 +307,8 @@ def words_of_the_reference():
         for part in refusal.meaning.split('; at entry n, ') if texts else []:
             expect('%d: %s' % (number, part), any(part in text for text in texts), True)
         expect('help %d' % number, words(number), 'refused %d: %s; %s' % (number, refusal.meaning, refusal.advice))
+    for (program, number), refusal in runpy.run_path(str(COMMAND))['OF_PROGRAM'].items():
+        expect('%d of %s' % (number, program), any(refusal.meaning in text for n, text in rows if int(n) == number), True)
 
 
 # Usage, reading, writing

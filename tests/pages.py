@@ -1,5 +1,5 @@
 """Holds the pages against the tree: every file that they name is there, every link leads to a page and a heading of it, and every name in
-backticks stands somewhere in the code, the definitions, the proofs or the scripts. The notes are left out: they are as of their landing.
+backticks stands somewhere in the code, the definitions, the proofs or the scripts. The notes are left out: they are as of their landing. What is made from the lists in data/ is as they have it.
 
 usage: python3 tests/pages.py    (from the repository's top)
 """
@@ -8,8 +8,11 @@ import re
 import subprocess
 import sys
 
+sys.path.insert(0, str(pathlib.Path(__file__).parent.parent / 'tools'))
+import lists
+
 PAGES = ['README.md', 'CONTRIBUTING.md', 'CHANGELOG.md', *map(str, sorted(pathlib.Path('docs').glob('*.md'))), 'docs/pictures/README.md']
-FOLDERS = 'crates|docs|tests|tools|examples|bench|include|rust'
+FOLDERS = 'crates|data|docs|tests|tools|examples|bench|include|rust'
 ELSEWHERE = {'memmove', 'do_action', 'docs/guides/DESIGN.md'}  # of C, of its caller, of the toolchain
 
 
@@ -61,9 +64,12 @@ def main():
             for what in found:
                 print('%s: no such %s: %s' % (page, sort, what))
                 faults += 1
+    for what in lists.different(write=False):
+        print(what)
+        faults += 1
     if faults:
-        sys.exit('%d not found' % faults)
-    print('%d pages: every file, link and name is there' % len(PAGES))
+        sys.exit('%d not found, or not as the lists have it' % faults)
+    print('%d pages: every file, link and name is there, and what is made from data/ is as it has it' % len(PAGES))
 
 
 if __name__ == '__main__':

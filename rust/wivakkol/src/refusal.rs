@@ -29,16 +29,19 @@ impl Refusal {
 
     /// What `place` counts.
     pub fn kind_of_place(&self) -> Place {
+        // made from data/refusals.txt: places
         match self.number {
             4 => Place::Entry,
             5..=10 | 44 => Place::Action,
             11 => Place::Thread,
             _ => Place::Nothing,
         }
+        // made to here
     }
 
     /// What the check found.
     pub fn meaning(&self) -> &'static str {
+        // made from data/refusals.txt: meanings
         match self.number {
             1 => "under 4 bytes",
             2 => "n not 1 to 1,024, or m not 1 to 8,192",
@@ -64,11 +67,12 @@ impl Refusal {
             46 => "the mark is not set",
             47 => "no part, above 16, or lengths that do not add up to the bytes lent",
             48 => "the joined table passes 1,024 threads or 8,192 actions",
-            49 => "the choice is not below p",
+            49 => "the choice is not below p; of a limit, c is not 1 to p",
             60 => "the turn would break the rule with the pace's b",
             61 => "too little room for the filled-out table",
             _ => "no number of these calls",
         }
+        // made to here
     }
 }
 
