@@ -15,6 +15,7 @@ import sys
 
 import board_limits
 import board_runs
+import fitting
 import lent
 import machine
 import most
@@ -306,13 +307,13 @@ def end_of_run(data, p, K):
 def compare_example(program, drawn):
     """The example program on some of the cases; its arguments are p, b and M."""
     for case in drawn:
-        answer, quoted = check(case.data), quota.largest(*case[:4])
-        wanted = [facts_line(answer)] + ([] if answer[0] == 'refused' else [' '.join(map(str, quoted))])
-        if quoted[0] != 'refused':
-            wanted.append(end_of_run(case.data, case.p, quoted[1]))
+        answer, fits = check(case.data), fitting.fitted(*case[:4])
+        wanted = [facts_line(answer)] + ([] if answer[0] == 'refused' else [' '.join(map(str, fits))])
+        if fits[0] == 'quota':
+            wanted.append(end_of_run(case.data, case.p, fits[1]))
         done = subprocess.run([program, *map(str, case[1:4])], input=case.data, stdout=subprocess.PIPE)
         assert done.stdout.decode().splitlines() == wanted, (done.stdout, wanted, case[1:4])
-        assert done.returncode == (1 if quoted[0] == 'refused' else 0)
+        assert done.returncode == (0 if fits[0] == 'quota' else 1)
 
 
 def main():

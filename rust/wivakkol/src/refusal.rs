@@ -1,8 +1,8 @@
 //! Refusals and their texts.
 use core::fmt;
 
-/// The first check that applies, and where: an entry of the contents, an action or a thread, 0 where the check has no place (docs/REFERENCE.md, "Refusals"). Its `Debug` is its text too, since
-/// that is what a `main` prints that ends with `?`.
+/// The first check that applies, and where: an entry of the contents, an action or a thread, 0 where the check has no place (docs/REFERENCE.md, "Refusals"). Its `Debug` is its text too, as that
+/// of every error here, since that is what a `main` prints that ends with `?`.
 #[derive(Clone, Copy, PartialEq, Eq, Hash)]
 pub struct Refusal {
     pub number: u32,
@@ -89,10 +89,19 @@ impl fmt::Display for Refusal {
     }
 }
 
-impl fmt::Debug for Refusal {
-    fn fmt(&self, f: &mut fmt::Formatter<'_>) -> fmt::Result {
-        fmt::Display::fmt(self, f)
-    }
+/// An error whose `Debug` is its text too, since that is what a `main` prints that ends with `?`.
+macro_rules! error {
+    ($error:ty $(, $of:ident)?) => {
+        impl$(<$of>)? core::fmt::Debug for $error {
+            fn fmt(&self, f: &mut core::fmt::Formatter<'_>) -> core::fmt::Result {
+                core::fmt::Display::fmt(self, f)
+            }
+        }
+
+        impl$(<$of>)? core::error::Error for $error {}
+    };
 }
 
-impl core::error::Error for Refusal {}
+pub(crate) use error;
+
+error!(Refusal);

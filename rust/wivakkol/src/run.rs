@@ -1,4 +1,5 @@
 //! A run: a table and the memory that it stands in, tied to each other.
+use crate::refusal::error;
 #[cfg(feature = "marks")]
 use crate::{Marks, MarksWork};
 use crate::{Memory, Refusal, Work};
@@ -123,7 +124,7 @@ pub enum Report {
 }
 
 /// A refusal that stopped turns over a list or in rounds, and how many were taken before it.
-#[derive(Clone, Copy, Debug, PartialEq, Eq, Hash)]
+#[derive(Clone, Copy, PartialEq, Eq, Hash)]
 pub struct Stopped {
     pub refusal: Refusal,
     pub turns: u64,
@@ -135,7 +136,7 @@ impl fmt::Display for Stopped {
     }
 }
 
-impl core::error::Error for Stopped {}
+error!(Stopped);
 
 /// Where a thread stands.
 #[derive(Clone, Copy, Debug, PartialEq, Eq, Hash)]
@@ -153,19 +154,13 @@ pub struct RefusedMemory<M> {
     pub memory: M,
 }
 
-impl<M> fmt::Debug for RefusedMemory<M> {
-    fn fmt(&self, f: &mut fmt::Formatter<'_>) -> fmt::Result {
-        f.debug_struct("RefusedMemory").field("refusal", &self.refusal).finish_non_exhaustive()
-    }
-}
-
 impl<M> fmt::Display for RefusedMemory<M> {
     fn fmt(&self, f: &mut fmt::Formatter<'_>) -> fmt::Result {
         self.refusal.fmt(f)
     }
 }
 
-impl<M> core::error::Error for RefusedMemory<M> {}
+error!(RefusedMemory<M>, M);
 
 /// A run that was begun or opened. It borrows its table, so that every call is given the same bytes and nobody changes them meanwhile, and its memory, so that nobody else touches that; both are
 /// free again when the run is dropped. Where `M` is a box or a lock's guard ([`open_in`](Run::open_in)), the run has that instead of a borrow, and [`into_memory`](Run::into_memory) hands it back.

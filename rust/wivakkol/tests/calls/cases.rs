@@ -417,6 +417,7 @@ fn texts() {
     assert_eq!(refused(30, 0).to_string(), "refused 30: the worker is not below p");
     let stopped = Stopped { refusal: refused(30, 0), turns: 2 };
     assert_eq!(stopped.to_string(), "refused 30: the worker is not below p (after 2 turns)");
+    assert_eq!(format!("{stopped:?}"), stopped.to_string());
 }
 
 /// The meanings are those of docs/REFERENCE.md, but for what 32 means in lent memory and for words about which action is given.
@@ -446,6 +447,7 @@ fn memory_in_a_box() {
     let kept = memory.to_bytes();
     let refused_memory = Run::open_in(&[], memory, &mut work).err().unwrap();
     assert_eq!((refused_memory.refusal, refused_memory.to_string()), (refused(32, 0), refused(32, 0).to_string()));
+    assert_eq!(format!("{refused_memory:?}"), refused_memory.to_string());
     assert!(std::ptr::eq(place, &*refused_memory.memory) && refused_memory.memory.to_bytes() == kept);
 }
 
