@@ -1,4 +1,4 @@
-/* Wivakkol, called from C, for x86-64: wivakkol_turn, wivakkol_kind and wivakkol_argument are linked from the archive libwivakkol_turn.a (`rt staticlib wivakkol_turn`), all other calls from
+/* Wivakkol, called from C, for x86-64: wivakkol_turn, wivakkol_kind, wivakkol_argument and wivakkol_origin are linked from the archive libwivakkol_turn.a (`rt staticlib wivakkol_turn`), all other calls from
  * libwivakkol.a (`rt staticlib wivakkol`), in either order. A board that does the actions takes single turns, and a turn that is compiled by itself needs little stack (docs/C-AND-RUST.md): so
  * it has an archive of its own. docs/WORKERS.md has what threads that do the actions must keep to.
  *
@@ -9,7 +9,7 @@
  *
  * A call returns a number: 0, or the number of the check that refuses (docs/REFERENCE.md, "Refusals"). Into the row it puts the place of the refusal, 0 where there is none, and then its
  * values, all 0 where it refuses but for the turns taken by a run and, with 61, the bytes that wivakkol_begin lacks room for. Every entry of the row is written on every call, whatever was
- * there before. wivakkol_kind and wivakkol_argument are apart: they return what they are asked for, refuse nothing and have no row.
+ * there before. wivakkol_kind, wivakkol_argument and wivakkol_origin are apart: they return what they are asked for, refuse nothing and have no row.
  *
  * What C must keep to, as the proofs take it for granted:
  * - `table` points to `length` bytes that may be read, all of them written before. It is never NULL, not even with a length of 0. `order` likewise points to `turns` bytes.
@@ -329,6 +329,9 @@ typedef struct wivakkol_work {
 #define WIVAKKOL_KIND_JOIN 5  /* the child */
 #define WIVAKKOL_NO_KIND 255  /* of what is no action of the table; its argument is 0 */
 
+/* Of wivakkol_origin: no action of the table as given. */
+#define WIVAKKOL_NO_ACTION 65535
+
 /* The row of wivakkol_preview: that of the turn, and after the turn */
 #define WIVAKKOL_AFTER_HELD 5    /* memory held */
 #define WIVAKKOL_AFTER_HIGHEST 6 /* its highest */
@@ -422,6 +425,13 @@ static inline uint32_t wivakkol_turn(wivakkol_run *run, const uint8_t *table, si
  * there, 0 behind their end, with m from their head. */
 uint32_t wivakkol_kind(const uint8_t *table, size_t length, uint64_t a);
 uint32_t wivakkol_argument(const uint8_t *table, size_t length, uint64_t a);
+
+/* Which action of the table as given action a of the table that runs with this quota is, so that whoever does the actions finds what to do also where an alloc is above K and the filled-out table
+ * runs. WIVAKKOL_NO_ACTION for what was put in, dummies with their forks and joins, where a is not below m, and where the quota is not 1 to 16,777,215. Each action as given is the origin of exactly
+ * one, of the same kind, argument and thread, in order; where no alloc is above K, every action is its own. It is read off the table that runs and K alone, and takes no run: the quota is the one
+ * that wivakkol_begin was given, in run.numbers[WIVAKKOL_AT_K]. It looks at all of the table: a board may ask once for each action after the beginning and keep the answers. Of any other bytes the
+ * answer is as its definition has it (crates/origin/specs/Origin.antt). */
+uint32_t wivakkol_origin(const uint8_t *table, size_t length, uint32_t quota, uint64_t a);
 
 /* A turn of each worker of `order`, one byte each, up to the root's end: turns with a single row for all. Returns 0 with finished or spent, or the number with which a turn is refused, 30 or
  * 32; it ends there, and the memory is as after the turns before. Before all else comes 32 where 2^64 - 1 turns are taken, also where the root has ended or the order is empty. */

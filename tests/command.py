@@ -1,4 +1,4 @@
-"""Runs tools/wivakkol on the examples and on what it must refuse: answers against the programs in target/bin with inputs that inputasm makes, messages and exit statuses against what is written
+"""Runs tools/wivakkol on the examples and on what it must refuse: answers against the programs in target/bin with inputs that inputasm makes, listings by the table as given against filling.py, messages and exit statuses against what is written
 here, the words of refusals against docs/REFERENCE.md, and every command of docs/COMMAND.md against the output that stands there.
 
 usage: python3 tests/command.py            (from the repository's top, after `rt check` of the programs)
@@ -14,6 +14,9 @@ import shutil
 import subprocess
 import sys
 import tempfile
+
+import filling
+from reference import FORK, JOIN, Table
 
 TOP = pathlib.Path.cwd()
 COMMAND, PAGE, PICTURE, BIN = TOP / 'tools/wivakkol', TOP / 'docs/COMMAND.md', TOP / 'docs/pictures/repeats.svg', TOP / 'target/bin'
@@ -311,6 +314,31 @@ def words_of_the_reference():
         expect('%d of %s' % (number, program), any(refusal.meaning in text for n, text in rows if int(n) == number), True)
 
 
+def listed_as_given():
+    """With --given the action of each line is that of the table as given, by tests/filling.py's bodies: old threads without forks and joins of new ones; the rest of the line stays."""
+    for text, quota in ('examples/e.text', 5), ('examples/e.text', 6), ('examples/repeats.text', 30), ('examples/stages.text', 40):
+        given = call('asm', text)[0]
+        owns = own_actions(given, filling.filled(given, quota))
+        expect('%s: actions as given' % text, list(owns.values()), [str(a) for a in range(Table(given).m)])
+        for command in ['list', '-p', 3, '-K', quota], ['deques', '-p', 2, '-K', quota, '--order', '0:0 1:0 0:1 1:1 ' * 60]:
+            plain, shown = call(*command, text)[0].decode(), call(*command, '--given', text)[0].decode()
+            rows = [line.split(' ') for line in plain.split('\n')]
+            wanted = '\n'.join(' '.join(row[:3] + [owns.get(int(row[3]), '-')] + row[4:] if len(row) == 6 and row[3] != '-' else row) for row in rows)
+            expect('%s --given with %d' % (command[0], quota), shown, wanted)
+    refuses(['list', '-p', 2, '-K', 5, '--given', '--order', 0, 0, 2, 'examples/e.text'], '--order: ' + words(30), out=b'table 9 34 serial 6 depth 17\n1 0 0 0 fork 0\n2 0 1 - fork 0\nrefused 30 0\n')
+
+
+def own_actions(given, out):
+    """Of the actions of a filled-out table those of the table as given, by their numbers there as texts."""
+    n, actions, owns, a = Table(given).n, Table(out).actions, {}, 0
+    for first, count in Table(out).contents[:n]:
+        for i in range(first, first + count):
+            kind, x = actions[i]
+            if kind not in (FORK, JOIN) or x < n:
+                owns[i], a = str(a), a + 1
+    return owns
+
+
 # Usage, reading, writing
 
 def wrong_usage():
@@ -462,6 +490,7 @@ def main():
         lines_of_actions(folder)
         options_refused()
         words_of_the_reference()
+        listed_as_given()
         wrong_usage()
         writing_fails(folder)
         reader_leaves()

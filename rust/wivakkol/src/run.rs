@@ -22,6 +22,12 @@ macro_rules! readers {
             $crate::action(self.table, u64::from(action))
         }
 
+        /// The action of the table as given that action `action` of the table that runs is; `None` where it was put in, since an alloc is above the quota, or where there is none
+        /// ([`origin`](crate::origin)).
+        pub fn origin(&self, action: u16) -> Option<u16> {
+            $crate::origin(self.table, self.quota(), u64::from(action))
+        }
+
         /// The number of workers, p.
         pub fn workers(&self) -> u32 {
             self.memory.settings()[0]

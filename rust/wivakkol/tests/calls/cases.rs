@@ -432,6 +432,22 @@ fn texts_are_of_the_reference() {
     }
 }
 
+/// Origins of E's actions with K 5, where two pairs of them and the dummies are put in, and with K 6, where it runs as given.
+#[test]
+fn origins() {
+    let (table, mut memory, mut filled, mut work) = (bytes(&e()), Memory::new(), [0; 176], Work::new());
+    let run = Run::begin_filling(&table, &mut filled, &mut memory, &mut work, 2, 5).unwrap();
+    let mut wanted = [None; 36];
+    for (given, at) in (0..12).zip([0, 1, 2, 3, 4, 7, 8, 9, 10, 13, 14, 15]) {
+        wanted[at] = Some(given);
+        assert_eq!(run.action(at as u16), action(&table, u64::from(given)));
+    }
+    assert_eq!(std::array::from_fn(|a| run.origin(a as u16)), wanted);
+    assert_eq!((0..13).map(|a| wivakkol::origin(&table, 6, a)).collect::<Vec<_>>(), [(0..12).map(Some).collect(), vec![None]].concat());
+    assert_eq!([0, 1 << 24, u32::MAX].map(|quota| wivakkol::origin(&table, quota, 0)), [None; 3]);
+    assert_eq!(wivakkol::origin(&[], 5, 0), None);
+}
+
 /// A run in a box is put away and taken up in it: the box is handed back, as it was where the opening is refused.
 #[test]
 fn memory_in_a_box() {
