@@ -1,5 +1,5 @@
-/* Reads a table on standard input and prints its facts; with the arguments p, b and M also the largest quota for a board with M units of memory, and a run with that quota to its end,
- * p workers in rounds: its turns and the most memory held. Or the check that refuses. README.md ("From C") has how to build it. */
+/* Reads a table on standard input and prints its facts; with the arguments p, b and M also the largest quota for a board with M units of memory by the useful limit, that limit, and a run with that
+ * quota to its end, p workers in rounds: its turns and the most memory held. With b 0 the workers may take their turns in any order. Where no quota fits, what the least needs; or the check that refuses. README.md ("From C") has how to build it. */
 #include <errno.h>
 #include <inttypes.h>
 #include <stdio.h>
@@ -13,6 +13,7 @@ static uint8_t filled[WIVAKKOL_TABLE_MOST];
 static wivakkol_run run;
 static wivakkol_work work;
 static wivakkol_tables_work tables_work;
+static wivakkol_limit_work limit_work;
 
 static int refused(uint32_t number, const uint64_t *row)
 {
@@ -37,7 +38,7 @@ static uint64_t number(const char *text, uint64_t most)
 
 int main(int argc, char **argv)
 {
-    uint64_t facts[WIVAKKOL_CHECK_ROW], quota[WIVAKKOL_QUOTA_ROW], begun[WIVAKKOL_BEGIN_ROW], end[WIVAKKOL_RUN_ROW];
+    uint64_t facts[WIVAKKOL_CHECK_ROW], fit[WIVAKKOL_FIT_ROW], begun[WIVAKKOL_BEGIN_ROW], end[WIVAKKOL_RUN_ROW];
     const uint8_t *running = table;
     uint32_t answer, p;
     size_t length;
@@ -54,14 +55,18 @@ int main(int argc, char **argv)
     if (argc == 1)
         return 0;
     p = (uint32_t)number(argv[1], UINT32_MAX);
-    answer = wivakkol_quota(&tables_work, table, length, p, (uint32_t)number(argv[2], UINT32_MAX), number(argv[3], UINT64_MAX), quota);
+    answer = wivakkol_fit(&limit_work, table, length, p, (uint32_t)number(argv[2], UINT32_MAX), number(argv[3], UINT64_MAX), fit);
     if (answer != 0)
-        return refused(answer, quota);
-    printf("quota %" PRIu64 "\n", quota[WIVAKKOL_QUOTA]);
+        return refused(answer, fit);
+    if (fit[WIVAKKOL_FIT_FITS] == 0) {
+        printf("none memory %" PRIu64 " quota %" PRIu64 "\n", fit[WIVAKKOL_FIT_MEMORY], fit[WIVAKKOL_FIT_QUOTA]);
+        return 1;
+    }
+    printf("quota %" PRIu64 " memory %" PRIu64 "\n", fit[WIVAKKOL_FIT_QUOTA], fit[WIVAKKOL_FIT_MEMORY]);
 
-    if ((answer = wivakkol_begin(&run, &work, table, length, p, (uint32_t)quota[WIVAKKOL_QUOTA], filled, sizeof filled, begun)) != 0)
+    if ((answer = wivakkol_begin(&run, &work, table, length, p, (uint32_t)fit[WIVAKKOL_FIT_QUOTA], filled, sizeof filled, begun)) != 0)
         return refused(answer, begun);
-    /* With a smaller quota than wivakkol_quota gives, the filled-out table may be the one that runs. */
+    /* With a smaller quota than wivakkol_fit gives, the filled-out table may be the one that runs. */
     if (begun[WIVAKKOL_FILLED] != 0) {
         running = filled;
         length = (size_t)begun[WIVAKKOL_FILLED];

@@ -1,4 +1,4 @@
-/* Wivakkol, called from C, for x86-64: wivakkol_turn, wivakkol_kind and wivakkol_argument are linked from the archive libwivakkol_turn.a (`rt staticlib wivakkol_turn`), all other calls from
+/* Wivakkol, called from C, for x86-64: wivakkol_turn, wivakkol_kind, wivakkol_argument and wivakkol_origin are linked from the archive libwivakkol_turn.a (`rt staticlib wivakkol_turn`), all other calls from
  * libwivakkol.a (`rt staticlib wivakkol`), in either order. A board that does the actions takes single turns, and a turn that is compiled by itself needs little stack (docs/C-AND-RUST.md): so
  * it has an archive of its own. docs/WORKERS.md has what threads that do the actions must keep to.
  *
@@ -9,7 +9,7 @@
  *
  * A call returns a number: 0, or the number of the check that refuses (docs/REFERENCE.md, "Refusals"). Into the row it puts the place of the refusal, 0 where there is none, and then its
  * values, all 0 where it refuses but for the turns taken by a run and, with 61, the bytes that wivakkol_begin lacks room for. Every entry of the row is written on every call, whatever was
- * there before. wivakkol_kind and wivakkol_argument are apart: they return what they are asked for, refuse nothing and have no row.
+ * there before. wivakkol_kind, wivakkol_argument and wivakkol_origin are apart: they return what they are asked for, refuse nothing and have no row.
  *
  * What C must keep to, as the proofs take it for granted:
  * - `table` points to `length` bytes that may be read, all of them written before. It is never NULL, not even with a length of 0. `order` likewise points to `turns` bytes.
@@ -35,6 +35,7 @@ extern "C" {
 #define WIVAKKOL_VERSION "0.1.0"
 
 /* What a call returns: 0, or one of these; docs/REFERENCE.md, "Refusals", has each in full. */
+/* made from data/refusals.txt: names */
 #define WIVAKKOL_REFUSED_HEAD 1          /* the table has under 4 bytes */
 #define WIVAKKOL_REFUSED_COUNTS 2        /* n or m is outside its range */
 #define WIVAKKOL_REFUSED_LENGTH 3        /* the length is not 4 + 4n + 4m */
@@ -56,12 +57,14 @@ extern "C" {
 #define WIVAKKOL_REFUSED_TURNS 43        /* more than 999,999 turns are taken */
 #define WIVAKKOL_REFUSED_FILLING 44      /* the filled-out table would pass 1,024 threads or 8,192 actions */
 #define WIVAKKOL_REFUSED_ROOM 61         /* the buffer lent for the filled-out table is too small */
+/* made to here */
 
-/* A refusal in words, for whoever prints one: of every number that a call of the six headers returns, of 0 that nothing is refused. No two numbers have the same words; a number that no call
+/* A refusal in words, for whoever prints one: of every number that a call of the headers returns, of 0 that nothing is refused. No two numbers have the same words; a number that no call
  * returns has its own. */
 static inline const char *wivakkol_refusal_words(uint32_t number)
 {
     switch (number) {
+    /* made from data/refusals.txt: words */
     case 0: return "nothing is refused";
     case 1: return "the table has under 4 bytes";
     case 2: return "n is not 1 to 1,024, or m is not 1 to 8,192";
@@ -87,12 +90,13 @@ static inline const char *wivakkol_refusal_words(uint32_t number)
     case 46: return "the mark is not set";
     case 47: return "no part, above 16, or lengths that do not add up to the bytes lent";
     case 48: return "the joined table passes 1,024 threads or 8,192 actions";
-    case 49: return "the choice is not below p";
+    case 49: return "the choice is not below p; of a limit, c is not 1 to p";
     case 60: return "the turn would break the rule with b";
     case 61: return "the buffer lent is too small";
     case 62: return "the text has more than 262,144 bytes";
     case 63: return "a line of the text is not as it should be";
     default: return "no call refuses with this number";
+    /* made to here */
     }
 }
 
@@ -228,6 +232,7 @@ static inline uint32_t wivakkol_fit(wivakkol_limit_work *work, const uint8_t *ta
  * at the part's place + t, and likewise for worker w: run.bytes[WIVAKKOL_AT_STATUS + t] is the status of thread t. Among neighbours
  * and leftmost threads 1,024 stands where there is none to name; the parent of the root and of a thread that nothing forks is 0, and so is the thread of a worker that holds none. */
 
+/* made from data/memory.txt: places */
 /* Places in `sums`. */
 #define WIVAKKOL_AT_AMOUNTS 0    /* of each thread, the memory that it holds */
 #define WIVAKKOL_AT_HELD 1024    /* memory held, by all of them */
@@ -258,6 +263,7 @@ static inline uint32_t wivakkol_fit(wivakkol_limit_work *work, const uint8_t *ta
 #define WIVAKKOL_AT_STATUS 0   /* of each thread, one of the five below */
 #define WIVAKKOL_AT_HOLDS 1024 /* of each worker, whether it holds a thread: 0 if not */
 #define WIVAKKOL_BYTES 1040
+/* made to here */
 
 /* The status of a thread. */
 #define WIVAKKOL_STATUS_UNBORN 0
@@ -322,6 +328,9 @@ typedef struct wivakkol_work {
 #define WIVAKKOL_KIND_FORK 4  /* the child */
 #define WIVAKKOL_KIND_JOIN 5  /* the child */
 #define WIVAKKOL_NO_KIND 255  /* of what is no action of the table; its argument is 0 */
+
+/* Of wivakkol_origin: no action of the table as given. */
+#define WIVAKKOL_NO_ACTION 65535
 
 /* The row of wivakkol_preview: that of the turn, and after the turn */
 #define WIVAKKOL_AFTER_HELD 5    /* memory held */
@@ -416,6 +425,13 @@ static inline uint32_t wivakkol_turn(wivakkol_run *run, const uint8_t *table, si
  * there, 0 behind their end, with m from their head. */
 uint32_t wivakkol_kind(const uint8_t *table, size_t length, uint64_t a);
 uint32_t wivakkol_argument(const uint8_t *table, size_t length, uint64_t a);
+
+/* Which action of the table as given action a of the table that runs with this quota is, so that whoever does the actions finds what to do also where an alloc is above K and the filled-out table
+ * runs. WIVAKKOL_NO_ACTION for what was put in, dummies with their forks and joins, where a is not below m, and where the quota is not 1 to 16,777,215. Each action as given is the origin of exactly
+ * one, of the same kind, argument and thread, in order; where no alloc is above K, every action is its own. It is read off the table that runs and K alone, and takes no run: the quota is the one
+ * that wivakkol_begin was given, in run.numbers[WIVAKKOL_AT_K]. It looks at all of the table: a board may ask once for each action after the beginning and keep the answers. Of any other bytes the
+ * answer is as its definition has it (crates/origin/specs/Origin.antt). */
+uint32_t wivakkol_origin(const uint8_t *table, size_t length, uint32_t quota, uint64_t a);
 
 /* A turn of each worker of `order`, one byte each, up to the root's end: turns with a single row for all. Returns 0 with finished or spent, or the number with which a turn is refused, 30 or
  * 32; it ends there, and the memory is as after the turns before. Before all else comes 32 where 2^64 - 1 turns are taken, also where the root has ended or the order is empty. */

@@ -18,7 +18,9 @@
 extern "C" {
 #endif
 
-#define WIVAKKOL_REFUSED_CHOICE 49 /* the choice is not below p */
+/* made from data/refusals.txt: names */
+#define WIVAKKOL_REFUSED_CHOICE 49 /* the choice is not below p; of a limit, c is not 1 to p */
+/* made to here */
 
 /* The memory of a run is a wivakkol_run with the places of wivakkol.h. Its list (WIVAKKOL_AT_LEFT, _RIGHT, _LEFTMOST) has the lines: deque by deque from the left, the thread that the owner holds, then
  * the deque's threads from the top to the bottom. Its second list (WIVAKKOL_AT_UNDER, _OVER, _FIRST) has the bottoms: the last thread of each line. A line ends with a bottom, and its

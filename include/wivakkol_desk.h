@@ -12,8 +12,10 @@ extern "C" {
 #endif
 
 /* What wivakkol_assemble returns besides the numbers of wivakkol.h, 61 among them; docs/REFERENCE.md, "Refusals", has all in full. */
+/* made from data/refusals.txt: names */
 #define WIVAKKOL_REFUSED_TEXT 62 /* the text has more than 262,144 bytes */
 #define WIVAKKOL_REFUSED_LINE 63 /* a line is not as it should be: the row says which, and what was expected */
+/* made to here */
 
 /* The longest text that is read; the bytes that the text of every table fits. */
 #define WIVAKKOL_TEXT_LONGEST 262144

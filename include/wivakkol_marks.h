@@ -14,8 +14,10 @@
 extern "C" {
 #endif
 
+/* made from data/refusals.txt: names */
 #define WIVAKKOL_REFUSED_MARK 45  /* the mark is above 7 */
 #define WIVAKKOL_REFUSED_UNSET 46 /* the mark is not set */
+/* made to here */
 
 #define WIVAKKOL_MOST_MARKS 8
 

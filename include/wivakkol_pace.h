@@ -23,7 +23,9 @@
 extern "C" {
 #endif
 
+/* made from data/refusals.txt: names */
 #define WIVAKKOL_REFUSED_PACE 60 /* the turn would break the rule with b */
+/* made to here */
 
 #define WIVAKKOL_PACE_NUMBERS 260
 

@@ -12,8 +12,10 @@ extern "C" {
 #endif
 
 /* What wivakkol_join returns besides the numbers of wivakkol.h; docs/REFERENCE.md, "Refusals", has both in full. */
+/* made from data/refusals.txt: names */
 #define WIVAKKOL_REFUSED_PARTS 47  /* no part, above 16, or lengths that do not add up to the bytes lent */
 #define WIVAKKOL_REFUSED_JOINED 48 /* the joined table passes 1,024 threads or 8,192 actions */
+/* made to here */
 
 #define WIVAKKOL_MOST_PARTS 16
 

@@ -2,6 +2,7 @@
  *
  * Without an argument a case is the table's length, p and b (4 bytes each), M (8), K (4) and the table. For each a line: of wivakkol_check, wivakkol_quota and wivakkol_most the number, the
  * row and a number for each field of the working memory, as below; then wivakkol_kind and wivakkol_argument of the actions p, b, M, K and 0, and of the remainders of b by 64 and by 512. With the
+ * argument `origins` a case is the table's length and K (4 bytes each) and the table, and its line wivakkol_origin of every (m / 256 + 1)th action below its m, of 65,535, of 2^32 and of 2^64 - 1; with the
  * argument `limits` a case has the room for the filled-out table (4) after K, and its line wivakkol_limit, with a checksum of the room, which held the paint, and wivakkol_fit. With the argument
  * `runs` the first line has the size of a wivakkol_run and where its blocks stand. A case is then its length (4) and steps on one run's memory:
  *   t LENGTH TABLE     the table from now on
@@ -33,7 +34,7 @@ static struct {
     const uint8_t *table, *order;
     uint8_t *filled;
     uint32_t length, turns, p, b, quota, w, limit, number, room;
-    uint64_t memory, row[MOST_ROW + 2];
+    uint64_t memory, action, row[MOST_ROW + 2];
     uint8_t line[WIVAKKOL_LINE + 2];
 } call;
 
@@ -79,6 +80,11 @@ static void limit(void)
 static void fit(void)
 {
     call.number = wivakkol_fit(&lent.limits, call.table, call.length, call.p, call.b, call.memory, call.row + 1);
+}
+
+static void origin(void)
+{
+    call.number = wivakkol_origin(call.table, call.length, call.quota, call.action);
 }
 
 static void begin(void)
@@ -223,6 +229,36 @@ static void tables(void)
         printf("\n");
     }
     printf("stack %zu %zu %zu\n", most[0] - around(), most[1] - around(), most[2] - around());
+}
+
+static void asked_origin(uint64_t action, size_t *most)
+{
+    call.action = action;
+    make(origin, 0, most);
+    printf("%" PRIu32 " ", call.number);
+}
+
+static void origins(void)
+{
+    uint8_t front[8];
+    uint64_t a, m;
+    size_t most = 0;
+
+    while (got(front, sizeof front)) {
+        uint8_t *at = place_table((uint32_t)little(front, 4));
+        call.quota = (uint32_t)little(front + 4, 4);
+        if (call.length != 0 && !got(at, call.length))
+            fail("a case is cut off");
+        close_room(memory);
+        m = (call.length > 2 ? call.table[2] : 0) + 256 * (uint64_t)(call.length > 3 ? call.table[3] : 0);
+        for (a = 0; a < m; a += m / 256 + 1)
+            asked_origin(a, &most);
+        asked_origin(65535, &most);
+        asked_origin(UINT64_C(1) << 32, &most);
+        asked_origin(UINT64_MAX, &most);
+        printf("\n");
+    }
+    printf("stack %zu\n", most - around());
 }
 
 #define PRINT_LIMIT_LEFT(field) printf(" %d", left(lent.limits.field, before.limits.field, sizeof lent.limits.field))
@@ -473,9 +509,11 @@ int main(int argc, char **argv)
         tables();
     else if (argc == 2 && strcmp(argv[1], "runs") == 0)
         runs();
+    else if (argc == 2 && strcmp(argv[1], "origins") == 0)
+        origins();
     else if (argc == 2 && strcmp(argv[1], "limits") == 0)
         limits();
     else
-        fail("the only arguments there are: limits, runs");
+        fail("the only arguments there are: limits, origins, runs");
     return 0;
 }

@@ -15,7 +15,9 @@ import subprocess
 import sys
 
 import board_limits
+import board_origins
 import board_runs
+import fitting
 import lent
 import machine
 import most
@@ -38,7 +40,7 @@ STACK_MOST = 8192  # bytes that a call on a table may take of the stack
 # the names of their numbers of bytes, of lengths that of their count
 BYTES = {'table': 'length', 'text': 'length', 'out': 'room', 'order': 'turns', 'filled': 'room', 'first': 'first_length', 'second': 'second_length', 'tables': 'length', 'lengths': 'parts'}
 RUN_CALLS = list(board_runs.NUMBERS)  # the calls for a wivakkol_run
-ACTION_CALLS = ['wivakkol_kind', 'wivakkol_argument']
+ACTION_CALLS = ['wivakkol_kind', 'wivakkol_argument', 'wivakkol_origin']
 WORK_NAMES = {'parents': 'seen'}  # fields of a wivakkol_work that the exported calls name otherwise, since they have parents of their own
 # the places that the header names: of each the part of a block that it is in, and which number of that
 NAMED = {'HELD': ('totals', lent.HELD_NOW), 'HIGHEST': ('totals', lent.HIGHEST), 'TURNS': ('totals', lent.TURNS), 'P': ('settings', lent.P), 'K': ('settings', lent.K),
@@ -331,13 +333,13 @@ def end_of_run(data, p, K):
 def compare_example(program, drawn):
     """The example program on some of the cases; its arguments are p, b and M."""
     for case in drawn:
-        answer, quoted = check(case.data), quota.largest(*case[:4])
-        wanted = [facts_line(answer)] + ([] if answer[0] == 'refused' else [' '.join(map(str, quoted))])
-        if quoted[0] != 'refused':
-            wanted.append(end_of_run(case.data, case.p, quoted[1]))
+        answer, fits = check(case.data), fitting.fitted(*case[:4])
+        wanted = [facts_line(answer)] + ([] if answer[0] == 'refused' else [' '.join(map(str, fits))])
+        if fits[0] == 'quota':
+            wanted.append(end_of_run(case.data, case.p, fits[1]))
         done = subprocess.run([program, *map(str, case[1:4])], input=case.data, stdout=subprocess.PIPE)
         assert done.stdout.decode().splitlines() == wanted, (done.stdout, wanted, case[1:4])
-        assert done.returncode == (1 if quoted[0] == 'refused' else 0)
+        assert done.returncode == (0 if fits[0] == 'quota' else 1)
 
 
 def main():
@@ -362,6 +364,7 @@ def main():
     assert {*range(6), 255} <= set(kinds) or count < 1000, 'not every kind was reached, %s' % sorted(kinds)
     print('wivakkol_kind and wivakkol_argument: %d of %d agree, %d of them of no action' % (sum(kinds.values()), sum(kinds.values()), kinds[255]))
     print('examples/board.c: %d of %d agree' % (len(some), len(some)))
+    origin_stack = board_origins.compare(program, drawn, count)
     limit_stacks = board_limits.compare(program, drawn[3:], count)
     assert max(limit_stacks) < STACK_MOST, 'a call on limits took more stack than it may: %s' % limit_stacks
     kinds, stacks = board_runs.compare(program, 21, [case.data for case in drawn[:3]], count // 2)
@@ -371,7 +374,7 @@ def main():
         print('%s memory: %d runs agree, of %d beginnings, %d openings, %d turns, %d lists, %d rounds, %d previews and %d lines (%s)' % (kind, counter['runs'], *calls, told))
     missing = [what for what in board_runs.WANTED if not any(counter[what] for counter in kinds.values())]
     assert not missing or count < 1000, 'no run reached %s' % ', '.join(missing)
-    print('most stack of %s, in bytes: %s' % (', '.join(['check', 'quota', 'most', 'limit', 'fit', *RUN_CALLS]), ' '.join([*last.split()[1:], *map(str, limit_stacks + stacks)])))
+    print('most stack of %s, in bytes: %s' % (', '.join(['check', 'quota', 'most', 'origin', 'limit', 'fit', *RUN_CALLS]), ' '.join([*last.split()[1:], *map(str, [origin_stack] + limit_stacks + stacks)])))
 
 
 if __name__ == '__main__':

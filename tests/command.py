@@ -1,4 +1,4 @@
-"""Runs tools/wivakkol on the examples and on what it must refuse: answers with the programs of dist/ against those in target/bin with inputs that inputasm makes, messages and exit statuses against what is written
+"""Runs tools/wivakkol on the examples and on what it must refuse: answers with the programs of dist/ against those in target/bin with inputs that inputasm makes, listings by the table as given against filling.py, messages and exit statuses against what is written
 here, the words of refusals against docs/REFERENCE.md, and every command of docs/COMMAND.md and docs/DESIGNS.md against the output that stands there.
 
 usage: python3 tests/command.py            (from the repository's top, after `rt check` of the programs)
@@ -16,6 +16,9 @@ import shutil
 import subprocess
 import sys
 import tempfile
+
+import filling
+from reference import FORK, JOIN, Table
 
 TOP = pathlib.Path.cwd()
 sys.path.insert(0, str(TOP / 'tools'))
@@ -236,8 +239,9 @@ def made(folder, name, data):
 # Refusals
 
 @functools.lru_cache(maxsize=None)
-def words(number):
-    return call('help', number)[0].decode().strip()
+def words(number, which=0):
+    """What `help` says of a number; the second line is of a program that means another thing by it."""
+    return call('help', number)[0].decode().split('\n')[which]
 
 
 def bytes_refused(folder):
@@ -350,7 +354,8 @@ def options_refused():
     for b in 65536, 2 ** 32, 2 ** 40:
         refuses(['limit', '-p', 2, '-K', 6, '-b', b, e], '-b %d: %s' % (b, words(41)))
     for c in 3, 2 ** 32:
-        refuses(['limit', '-p', 2, '-K', 6, '-c', c, e], '-c %d: %s' % (c, words(49)))
+        refuses(['limit', '-p', 2, '-K', 6, '-c', c, e], '-c %d: %s' % (c, words(49, 1)))
+    refuses(['limit', '-p', 2, '-K', 6, '-c', 0, e], '-c 0: refused 49: c is not 1 to p; the limit is that of runs whose choices are all below c')
     for papers in (), ('--papers',):
         refuses(['quota', '-p', 17, '-M', 9, *papers, e], '-p 17: ' + words(20))
         refuses(['quota', '-p', 2, '-b', 65536, '-M', 9, *papers, e], '-b 65536: ' + words(41))
@@ -389,6 +394,33 @@ def words_of_the_reference():
         for part in refusal.meaning.split('; at entry n, ') if texts else []:
             expect('%d: %s' % (number, part), any(part in text for text in texts), True)
         expect('help %d' % number, words(number), 'refused %d: %s; %s' % (number, refusal.meaning, refusal.advice))
+    for (program, number), refusal in runpy.run_path(str(COMMAND))['OF_PROGRAM'].items():
+        expect('%d of %s' % (number, program), any(refusal.meaning in text for n, text in rows if int(n) == number), True)
+
+
+def listed_as_given():
+    """With --given the action of each line is that of the table as given, by tests/filling.py's bodies: old threads without forks and joins of new ones; the rest of the line stays."""
+    for text, quota in ('examples/e.text', 5), ('examples/e.text', 6), ('examples/repeats.text', 30), ('examples/stages.text', 40):
+        given = call('asm', text)[0]
+        owns = own_actions(given, filling.filled(given, quota))
+        expect('%s: actions as given' % text, list(owns.values()), [str(a) for a in range(Table(given).m)])
+        for command in ['list', '-p', 3, '-K', quota], ['deques', '-p', 2, '-K', quota, '--order', '0:0 1:0 0:1 1:1 ' * 60]:
+            plain, shown = call(*command, text)[0].decode(), call(*command, '--given', text)[0].decode()
+            rows = [line.split(' ') for line in plain.split('\n')]
+            wanted = '\n'.join(' '.join(row[:3] + [owns.get(int(row[3]), '-')] + row[4:] if len(row) == 6 and row[3] != '-' else row) for row in rows)
+            expect('%s --given with %d' % (command[0], quota), shown, wanted)
+    refuses(['list', '-p', 2, '-K', 5, '--given', '--order', 0, 0, 2, 'examples/e.text'], '--order: ' + words(30), out=b'table 9 34 serial 6 depth 17\n1 0 0 0 fork 0\n2 0 1 - fork 0\nrefused 30 0\n')
+
+
+def own_actions(given, out):
+    """Of the actions of a filled-out table those of the table as given, by their numbers there as texts."""
+    n, actions, owns, a = Table(given).n, Table(out).actions, {}, 0
+    for first, count in Table(out).contents[:n]:
+        for i in range(first, first + count):
+            kind, x = actions[i]
+            if kind not in (FORK, JOIN) or x < n:
+                owns[i], a = str(a), a + 1
+    return owns
 
 
 # Designs, orders that are drawn, differences
@@ -849,6 +881,7 @@ def main():
         remarks()
         laid_out(folder)
         words_of_the_reference()
+        listed_as_given()
         wrong_usage()
         writing_fails(folder)
         reader_leaves()

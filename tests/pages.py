@@ -1,7 +1,8 @@
 """Holds the pages against the tree: every file that they name is there, every link leads to a page and a heading of it, and every name in
 backticks stands somewhere in the code, the definitions, the proofs or the scripts; a name with hyphens is a law's, and is stated somewhere; what is
 named with its file is in that file. DEMAND3.md has every definition that the statement rests on, but for what it lets a reader skip. The lists of
-public functions and of the calls from C are complete, and refusals stand in the order of the checks as the definitions have it. The notes are left out: they are as of their landing.
+public functions and of the calls from C are complete, and refusals stand in the order of the checks as the definitions have it. What is made
+from the lists in data/ is as they have it. The notes are left out: they are as of their landing.
 
 usage: python3 tests/pages.py                 (from the repository's top)
        python3 tests/pages.py --functions     (prints the rows of PROOFS.md's table of public functions, as the sources have them)
@@ -13,8 +14,11 @@ import re
 import subprocess
 import sys
 
+sys.path.insert(0, str(pathlib.Path(__file__).parent.parent / 'tools'))
+import lists
+
 PAGES = ['README.md', 'CONTRIBUTING.md', 'CHANGELOG.md', *map(str, sorted(pathlib.Path('docs').glob('*.md'))), 'docs/pictures/README.md']
-FOLDERS = 'crates|dist|docs|tests|tools|examples|bench|include|rust'
+FOLDERS = 'crates|data|dist|docs|tests|tools|examples|bench|include|rust'
 ELSEWHERE = {'memmove', 'do_action', 'docs/guides/DESIGN.md', 'pkg-config', 'probe-stack', 'qemu-aarch64'}  # of C, of its caller, of the toolchain, of other tools
 LAW = r"[a-z][A-Za-z0-9']*(?:-[A-Za-z0-9']+)+"  # a law's name, as against a definition's
 
@@ -281,11 +285,12 @@ def main():
     faults += ['docs/PROOFS.md, public functions: %s' % what for what in functions_missing(read('docs/PROOFS.md'))]
     faults += ['docs/C-AND-RUST.md does not have %s' % what for what in calls_missing(read('docs/C-AND-RUST.md'))]
     faults += orders_wrong()
+    faults += lists.different(write=False)
     for fault in faults:
         print(fault)
     if faults:
         sys.exit('%d not as they should be' % len(faults))
-    print('%d pages: every file, link, name and law is there, lists of functions and calls are complete, and refusals in their order' % len(PAGES))
+    print('%d pages: every file, link, name and law is there, lists of functions and calls are complete, refusals in their order, and what is made from data/ as it has it' % len(PAGES))
 
 
 if __name__ == '__main__':

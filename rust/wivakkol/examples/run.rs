@@ -8,6 +8,10 @@ fn main() -> Result<(), Box<dyn Error>> {
         return Err("usage: run TABLE p K".into());
     };
     let table = fs::read(file)?;
+    // n is at most 1,024, so that the second byte of a table is below 5, and that of a text is not.
+    if table.get(1).is_some_and(|&byte| byte >= 9) {
+        return Err(format!("{file} is a text, and a run takes the table's bytes: tools/wivakkol asm {file} -o TABLE makes them").into());
+    }
     let facts = check(&mut TablesWork::new(), &table)?;
     println!("table {} {} serial {} depth {}", facts.threads, facts.actions, facts.peak, facts.depth);
 

@@ -189,7 +189,12 @@ fn main() -> Result<(), Box<dyn Error>> {
         return Err("usage: workers TABLE p K".into());
     };
     let (p, quota) = (p.parse()?, quota.parse()?);
-    let seen = run_workers(&fs::read(file)?, p, quota)?;
+    let table = fs::read(file)?;
+    // n is at most 1,024, so that the second byte of a table is below 5, and that of a text is not.
+    if table.get(1).is_some_and(|&byte| byte >= 9) {
+        return Err(format!("{file} is a text, and a run takes the table's bytes: tools/wivakkol asm {file} -o TABLE makes them").into());
+    }
+    let seen = run_workers(&table, p, quota)?;
     println!("p {p} K {quota} turns {} peak {} highest {} S_p {} b {} limit {}", seen.turns, seen.peak, seen.highest, seen.most, seen.b, seen.limit);
     if !seen.within() {
         return Err("above".into());

@@ -1,4 +1,5 @@
 //! Tables written from forks and joins.
+use crate::refusal::error;
 use crate::{check, Facts, Place, Refusal, TablesWork, TABLE_MOST};
 use core::fmt;
 
@@ -23,7 +24,7 @@ impl Thread {
 }
 
 /// Why there is no table.
-#[derive(Clone, Copy, Debug, PartialEq, Eq, Hash)]
+#[derive(Clone, Copy, PartialEq, Eq, Hash)]
 pub enum NotBuilt {
     /// More than 1,024 threads, or more than 8,192 actions with an end for each thread.
     TooLarge,
@@ -49,7 +50,7 @@ impl fmt::Display for NotBuilt {
     }
 }
 
-impl core::error::Error for NotBuilt {}
+error!(NotBuilt);
 
 /// A table in the making, 55 KB of plain numbers: actions are put behind each other in each thread, the threads in any order, and a fork gives its thread the next number. Joins name their child by
 /// themselves, since it can only be the latest, and every thread gets its end when the table is written. Where something is refused nothing is put.

@@ -1,4 +1,5 @@
 //! Tables as text, in the archive `libwivakkol_desk.a`: the feature `desk`.
+use crate::refusal::error;
 use crate::{raw, Refusal, TablesWork};
 use core::fmt;
 
@@ -42,7 +43,7 @@ pub enum Unseen {
 }
 
 /// Why a text gives no table. Lines are counted from 1.
-#[derive(Clone, Copy, Debug, PartialEq, Eq, Hash)]
+#[derive(Clone, Copy, PartialEq, Eq, Hash)]
 pub enum NotAssembled {
     /// More than [`TEXT_LONGEST`] bytes.
     TooLong,
@@ -70,10 +71,10 @@ impl fmt::Display for NotAssembled {
     }
 }
 
-impl core::error::Error for NotAssembled {}
+error!(NotAssembled);
 
 /// Why a table is not written out.
-#[derive(Clone, Copy, Debug, PartialEq, Eq, Hash)]
+#[derive(Clone, Copy, PartialEq, Eq, Hash)]
 pub enum NotListed {
     /// The buffer has fewer bytes than 12 for each thread and 31 for each action.
     Short { bytes: usize },
@@ -90,7 +91,7 @@ impl fmt::Display for NotListed {
     }
 }
 
-impl core::error::Error for NotListed {}
+error!(NotListed);
 
 /// The table of a text, put at the start of `out`, which 36,868 bytes ([`TABLE_MOST`](crate::TABLE_MOST)) always suffice for. A refused table stands in `out` too, where the text gives one; else
 /// `out` is as it was. docs/REFERENCE.md, "Tables as text", says what a text may have in it.

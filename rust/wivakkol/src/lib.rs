@@ -73,6 +73,9 @@ pub const MOST_THREADS: usize = 1024;
 /// The most workers of a run.
 pub const MOST_WORKERS: usize = 16;
 
+/// No action, of an origin: a table has at most 65,535.
+const NO_ACTION: u16 = 65535;
+
 /// A table's facts.
 #[derive(Clone, Copy, Debug, PartialEq, Eq, Hash)]
 pub struct Facts {
@@ -120,6 +123,27 @@ pub fn action(table: &[u8], a: u64) -> Option<Action> {
         5 => Action::Join { child: u16::try_from(argument).ok()? },
         _ => return None,
     })
+}
+
+/// Which action of the table as given action `a` of the table that runs with this quota is, so that whoever does the actions finds what to do also where an alloc is above the quota and the
+/// filled-out table runs; `None` for what was put in, dummies with their forks and joins, and where there is no such action or quota. Each action as given is the origin of exactly one, of the same kind,
+/// argument and thread, in order. It is read off the table that runs, all of which it looks at.
+///
+/// ```
+/// use wivakkol::{Memory, Run, Work};
+///
+/// let table = include_bytes!("../../../examples/e.table");
+/// let (mut memory, mut filled, mut work) = (Memory::new(), [0; 176], Work::new());
+/// let run = Run::begin_filling(table, &mut filled, &mut memory, &mut work, 2, 5)?;
+/// assert_eq!((run.origin(7), run.action(7)), (Some(5), wivakkol::action(table, 5)));
+/// assert_eq!(run.origin(5), None);
+/// assert_eq!(wivakkol::origin(table, 6, 5), Some(5));
+/// # Ok::<(), wivakkol::Refusal>(())
+/// ```
+pub fn origin(table: &[u8], quota: u32, a: u64) -> Option<u16> {
+    // SAFETY: as in `action`.
+    let origin = unsafe { raw::wivakkol_origin(table.as_ptr(), table.len(), quota, a) };
+    u16::try_from(origin).ok().filter(|&origin| origin != NO_ACTION)
 }
 
 /// Is this a job table, and what are its facts? Refused with 1 to 11.

@@ -7,10 +7,12 @@ use crate::raw;
 #[derive(Clone)]
 #[repr(C)]
 pub struct Memory {
+    // made from data/memory.txt: struct
     pub(crate) sums: [u64; 1027],
     pub(crate) numbers: [u32; 18],
     pub(crate) words: [u16; 6163],
     pub(crate) bytes: [u8; 1040],
+    // made to here
 }
 
 /// The parts of the blocks, each with its place: one of them to be read, as an array of its own, and all of them to be written, cut from the blocks one behind the other.
@@ -55,6 +57,7 @@ macro_rules! parts {
     };
 }
 
+// made from data/memory.txt: parts
 parts! {
     sums {
         amounts: [u64; 1024] at 0,
@@ -79,6 +82,7 @@ parts! {
         holds: [u8; 16] at 1024,
     }
 }
+// made to here
 
 impl Memory {
     /// All 0, as after a beginning that was refused.

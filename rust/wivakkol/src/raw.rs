@@ -126,6 +126,8 @@ extern "C" {
 
     pub fn wivakkol_argument(table: *const u8, length: usize, a: u64) -> u32;
 
+    pub fn wivakkol_origin(table: *const u8, length: usize, quota: u32, a: u64) -> u32;
+
     pub fn wivakkol_list_on(
         table: *const u8,
         length: usize,

@@ -1,8 +1,8 @@
 //! Refusals and their texts.
 use core::fmt;
 
-/// The first check that applies, and where: an entry of the contents, an action or a thread, 0 where the check has no place (docs/REFERENCE.md, "Refusals"). Its `Debug` is its text too, since
-/// that is what a `main` prints that ends with `?`.
+/// The first check that applies, and where: an entry of the contents, an action or a thread, 0 where the check has no place (docs/REFERENCE.md, "Refusals"). Its `Debug` is its text too, as that
+/// of every error here, since that is what a `main` prints that ends with `?`.
 #[derive(Clone, Copy, PartialEq, Eq, Hash)]
 pub struct Refusal {
     pub number: u32,
@@ -29,16 +29,19 @@ impl Refusal {
 
     /// What `place` counts.
     pub fn kind_of_place(&self) -> Place {
+        // made from data/refusals.txt: places
         match self.number {
             4 => Place::Entry,
             5..=10 | 44 => Place::Action,
             11 => Place::Thread,
             _ => Place::Nothing,
         }
+        // made to here
     }
 
     /// What the check found.
     pub fn meaning(&self) -> &'static str {
+        // made from data/refusals.txt: meanings
         match self.number {
             1 => "under 4 bytes",
             2 => "n not 1 to 1,024, or m not 1 to 8,192",
@@ -64,11 +67,12 @@ impl Refusal {
             46 => "the mark is not set",
             47 => "no part, above 16, or lengths that do not add up to the bytes lent",
             48 => "the joined table passes 1,024 threads or 8,192 actions",
-            49 => "the choice is not below p",
+            49 => "the choice is not below p; of a limit, c is not 1 to p",
             60 => "the turn would break the rule with the pace's b",
             61 => "too little room for the filled-out table",
             _ => "no number of these calls",
         }
+        // made to here
     }
 }
 
@@ -85,10 +89,19 @@ impl fmt::Display for Refusal {
     }
 }
 
-impl fmt::Debug for Refusal {
-    fn fmt(&self, f: &mut fmt::Formatter<'_>) -> fmt::Result {
-        fmt::Display::fmt(self, f)
-    }
+/// An error whose `Debug` is its text too, since that is what a `main` prints that ends with `?`.
+macro_rules! error {
+    ($error:ty $(, $of:ident)?) => {
+        impl$(<$of>)? core::fmt::Debug for $error {
+            fn fmt(&self, f: &mut core::fmt::Formatter<'_>) -> core::fmt::Result {
+                core::fmt::Display::fmt(self, f)
+            }
+        }
+
+        impl$(<$of>)? core::error::Error for $error {}
+    };
 }
 
-impl core::error::Error for Refusal {}
+pub(crate) use error;
+
+error!(Refusal);

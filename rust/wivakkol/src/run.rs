@@ -1,4 +1,5 @@
 //! A run: a table and the memory that it stands in, tied to each other.
+use crate::refusal::error;
 #[cfg(feature = "marks")]
 use crate::{Marks, MarksWork};
 use crate::{Memory, Refusal, Work};
@@ -19,6 +20,12 @@ macro_rules! readers {
         /// Action `action` of the table that runs, as [`Reply::Done`] names it; `None` where there is none.
         pub fn action(&self, action: u16) -> Option<$crate::Action> {
             $crate::action(self.table, u64::from(action))
+        }
+
+        /// The action of the table as given that action `action` of the table that runs is; `None` where it was put in, since an alloc is above the quota, or where there is none
+        /// ([`origin`](crate::origin)).
+        pub fn origin(&self, action: u16) -> Option<u16> {
+            $crate::origin(self.table, self.quota(), u64::from(action))
         }
 
         /// The number of workers, p.
@@ -123,7 +130,7 @@ pub enum Report {
 }
 
 /// A refusal that stopped turns over a list or in rounds, and how many were taken before it.
-#[derive(Clone, Copy, Debug, PartialEq, Eq, Hash)]
+#[derive(Clone, Copy, PartialEq, Eq, Hash)]
 pub struct Stopped {
     pub refusal: Refusal,
     pub turns: u64,
@@ -135,7 +142,7 @@ impl fmt::Display for Stopped {
     }
 }
 
-impl core::error::Error for Stopped {}
+error!(Stopped);
 
 /// Where a thread stands.
 #[derive(Clone, Copy, Debug, PartialEq, Eq, Hash)]
@@ -153,19 +160,13 @@ pub struct RefusedMemory<M> {
     pub memory: M,
 }
 
-impl<M> fmt::Debug for RefusedMemory<M> {
-    fn fmt(&self, f: &mut fmt::Formatter<'_>) -> fmt::Result {
-        f.debug_struct("RefusedMemory").field("refusal", &self.refusal).finish_non_exhaustive()
-    }
-}
-
 impl<M> fmt::Display for RefusedMemory<M> {
     fn fmt(&self, f: &mut fmt::Formatter<'_>) -> fmt::Result {
         self.refusal.fmt(f)
     }
 }
 
-impl<M> core::error::Error for RefusedMemory<M> {}
+error!(RefusedMemory<M>, M);
 
 /// A run that was begun or opened. It borrows its table, so that every call is given the same bytes and nobody changes them meanwhile, and its memory, so that nobody else touches that; both are
 /// free again when the run is dropped. Where `M` is a box or a lock's guard ([`open_in`](Run::open_in)), the run has that instead of a borrow, and [`into_memory`](Run::into_memory) hands it back.

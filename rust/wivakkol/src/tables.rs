@@ -1,10 +1,11 @@
 //! The calls on whole tables, in the archive `libwivakkol_tables.a`: the feature `tables`.
+use crate::refusal::error;
 use crate::{raw, Facts, Refusal, TablesWork, TABLE_MOST};
 use core::cmp::Ordering;
 use core::fmt;
 
 /// The refusal of one of several tables, and which of them it is, counted from 0.
-#[derive(Clone, Copy, Debug, PartialEq, Eq, Hash)]
+#[derive(Clone, Copy, PartialEq, Eq, Hash)]
 pub struct RefusedTable {
     pub refusal: Refusal,
     pub table: usize,
@@ -16,7 +17,7 @@ impl fmt::Display for RefusedTable {
     }
 }
 
-impl core::error::Error for RefusedTable {}
+error!(RefusedTable);
 
 /// The canonical form of a table, put at the start of `out`: its threads numbered by the serial order of their forks, the root staying 0. It has as many bytes as the table, and the same facts.
 /// Refused with 1 to 11; `out` is then as it was.
@@ -66,7 +67,7 @@ pub fn compare(work: &mut TablesWork, first: &[u8], second: &[u8], a: &mut [u8; 
 }
 
 /// Why tables were not joined: the refusal of one of the parts, counted from 0, or 47 or 48, which are of all of them.
-#[derive(Clone, Copy, Debug, PartialEq, Eq, Hash)]
+#[derive(Clone, Copy, PartialEq, Eq, Hash)]
 pub struct RefusedJoin {
     pub refusal: Refusal,
     pub part: Option<usize>,
@@ -81,7 +82,7 @@ impl fmt::Display for RefusedJoin {
     }
 }
 
-impl core::error::Error for RefusedJoin {}
+error!(RefusedJoin);
 
 /// Up to sixteen tables as one, put at the start of `out`, and its facts, which come from the parts' alone: a new thread 0 forks each part's root in the order given, joins them in reverse, and
 /// ends; the parts' threads follow part by part. The parts are lent back to back in `tables`, with their `lengths`. Refused, in this order, with 47 (no part, above 16, or lengths that do not add

@@ -132,6 +132,7 @@ fn refused_by_the_check() {
     builder.alloc(child, 1).unwrap();
     assert_eq!(written(&builder), Err(NotBuilt::Refused { refusal: Refusal { number: 10, place: 5 }, thread: child, step: 2 }));
     let text = unjoined.to_string();
+    assert_eq!(format!("{unjoined:?}"), text);
     let meaning = "a join that is not of the latest child forked and not yet joined, or an end with a child not joined";
     assert_eq!(text, format!("refused 9 at action 4: {meaning} (thread 1, step 1)"));
 }

@@ -417,6 +417,7 @@ fn texts() {
     assert_eq!(refused(30, 0).to_string(), "refused 30: the worker is not below p");
     let stopped = Stopped { refusal: refused(30, 0), turns: 2 };
     assert_eq!(stopped.to_string(), "refused 30: the worker is not below p (after 2 turns)");
+    assert_eq!(format!("{stopped:?}"), stopped.to_string());
 }
 
 /// The meanings are those of docs/REFERENCE.md, but for what 32 means in lent memory and for words about which action is given.
@@ -429,6 +430,22 @@ fn texts_are_of_the_reference() {
             assert!(reference.lines().any(row), "{number}: {part}");
         }
     }
+}
+
+/// Origins of E's actions with K 5, where two pairs of them and the dummies are put in, and with K 6, where it runs as given.
+#[test]
+fn origins() {
+    let (table, mut memory, mut filled, mut work) = (bytes(&e()), Memory::new(), [0; 176], Work::new());
+    let run = Run::begin_filling(&table, &mut filled, &mut memory, &mut work, 2, 5).unwrap();
+    let mut wanted = [None; 36];
+    for (given, at) in (0..12).zip([0, 1, 2, 3, 4, 7, 8, 9, 10, 13, 14, 15]) {
+        wanted[at] = Some(given);
+        assert_eq!(run.action(at as u16), action(&table, u64::from(given)));
+    }
+    assert_eq!(std::array::from_fn(|a| run.origin(a as u16)), wanted);
+    assert_eq!((0..13).map(|a| wivakkol::origin(&table, 6, a)).collect::<Vec<_>>(), [(0..12).map(Some).collect(), vec![None]].concat());
+    assert_eq!([0, 1 << 24, u32::MAX].map(|quota| wivakkol::origin(&table, quota, 0)), [None; 3]);
+    assert_eq!(wivakkol::origin(&[], 5, 0), None);
 }
 
 /// A run in a box is put away and taken up in it: the box is handed back, as it was where the opening is refused.
@@ -446,6 +463,7 @@ fn memory_in_a_box() {
     let kept = memory.to_bytes();
     let refused_memory = Run::open_in(&[], memory, &mut work).err().unwrap();
     assert_eq!((refused_memory.refusal, refused_memory.to_string()), (refused(32, 0), refused(32, 0).to_string()));
+    assert_eq!(format!("{refused_memory:?}"), refused_memory.to_string());
     assert!(std::ptr::eq(place, &*refused_memory.memory) && refused_memory.memory.to_bytes() == kept);
 }
 

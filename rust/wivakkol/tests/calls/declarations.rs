@@ -56,7 +56,7 @@ fn calls_are_of_the_source() {
     }
     let declared = functions(include_str!("../../src/raw.rs"), "pub fn ");
     assert_eq!(declared.len(), source.len());
-    assert_eq!(declared.len(), 33);
+    assert_eq!(declared.len(), 34);
     for (name, parameters) in declared {
         let exported = source.get(&name).unwrap_or_else(|| panic!("{name} is not exported"));
         assert_eq!(parameters, as_pointers(&name, exported), "{name}");
@@ -158,7 +158,11 @@ fn both_fields(in_header: &str, in_crate: &str) -> (Vec<String>, Vec<String>) {
     let source = concat!(include_str!("../../src/memory.rs"), include_str!("../../src/marks.rs"), include_str!("../../src/pace.rs"));
     let (_, fields) = source.split_once(&format!("#[repr(C)]\npub struct {in_crate} {{")).unwrap();
     let (fields, _) = fields.split_once('}').unwrap();
-    let declared = fields.lines().map(|x| x.trim().trim_start_matches("pub(crate) ").trim_end_matches(',').to_string()).filter(|x| !x.is_empty()).collect();
+    let declared = fields
+        .lines()
+        .map(|x| x.trim().trim_start_matches("pub(crate) ").trim_end_matches(',').to_string())
+        .filter(|x| !x.is_empty() && !x.starts_with("//"))
+        .collect();
     (wanted, declared)
 }
 

@@ -115,6 +115,7 @@ fn worked_comparisons() {
     assert_eq!(compare(&e, &bad), in_table(10, 1, 1));
     assert_eq!(compare(&e, &[]), in_table(1, 0, 1));
     let refused = compare(&e, &bad).unwrap_err();
+    assert_eq!(format!("{refused:?}"), refused.to_string());
     assert_eq!(refused.to_string(), "table 1: refused 10 at action 1: the thread's balance falls below 0");
 }
 
@@ -211,6 +212,7 @@ fn refused_joins() {
     assert_eq!(join(&e, &[0, 64]), Err(refused(1, 0, Some(0))));
     assert_eq!(join(&[&e[..], &bad].concat(), &[64, bad.len() as u32, 0]), Err(refused(10, 1, Some(1))));
     assert_eq!(join(&[&e[..], &bad].concat(), &[64, 0, bad.len() as u32]), Err(refused(1, 0, Some(1))));
+    assert_eq!(format!("{:?}", refused(10, 1, Some(1))), refused(10, 1, Some(1)).to_string());
     assert_eq!(refused(10, 1, Some(1)).to_string(), "part 1: refused 10 at action 1: the thread's balance falls below 0");
     assert_eq!(refused(48, 0, None).to_string(), "refused 48: the joined table passes 1,024 threads or 8,192 actions");
 }

@@ -53,7 +53,12 @@ fn mistakes() {
 
 #[test]
 fn words() {
-    let said = |text: &[u8]| assembled(text).unwrap_err().to_string();
+    let said = |text: &[u8]| {
+        let fault = assembled(text).unwrap_err();
+        assert_eq!(format!("{fault:?}"), fault.to_string());
+        fault.to_string()
+    };
+    assert_eq!(format!("{:?}", listed(b"").unwrap_err()), "refused 1: under 4 bytes");
     assert_eq!(said(b"thread 0\n end\nthread 2\n"), "line 3: expected thread 1");
     assert_eq!(said(b"thread 0\r\n"), "line 1: a carriage return; lines end with a newline alone");
     assert_eq!(said(b"thread 0\n alloc 6\n free 7\n end\n"), "line 3: refused 10 at action 1: the thread's balance falls below 0");
