@@ -19,7 +19,7 @@
 //!
 //! What C has to keep to by itself is kept here by types: sizes, alignment, what overlaps what, one call at a time, and the same unchanged table for every call on a run. One thing is not: the
 //! stack. From C the calls behind [`check`], [`largest_quota`] and [`most_turns`] took up to 1,512 bytes of it, [`limit`] and [`fit`] 2,120, [`Run::begin`] 3,848, [`Run::open`] 6,136,
-//! [`Run::wall_line`] 6,440, a single turn 112, the others under 310; [`canonical`] and [`compare`] up to 1,368, [`join`] up to 1,544; [`Run::mark`] and [`Run::back`] up to 5,432;
+//! [`Run::wall_line`] 6,440, a single turn 112, [`origin`] 160, the others under 310; [`canonical`] and [`compare`] up to 1,368, [`join`] up to 1,544; [`Run::mark`] and [`Run::back`] up to 5,432;
 //! [`DequeRun::turn`] 160, [`DequeRun::list`] 192, [`DequeRun::open`] 8,144, [`deque_limit`] 1,968; [`assemble`] up to 1,544, [`disassemble`] up to 3,512;
 //! those of a [`Paced`] up to 288.
 //! That the declarations fit the archives is tested and not proved.
