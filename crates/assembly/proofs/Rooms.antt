@@ -13,7 +13,7 @@ use Rattle.table.specs.Load.{loaded}
 use Rattle.table.specs.declared.Loaded.{Loaded}
 use Rattle.table.specs.declared.Loaded.the-variants.{Accepted, Refused}
 use Rattle.assembly.specs.Said.{saids}
-use Rattle.assembly.specs.Assembly.{checked, longestText, sizesOutside, bytesBy, bytesOf, orShort, keptIfShort, assembled, assembling, assembledIn, assemblingIn}
+use Rattle.assembly.specs.Assembly.{checked, longestText, sizesOutside, bytesBy, bytesNeeded, orShort, keptIfShort, assembled, assembling, assembledIn, assemblingIn}
 use Rattle.assembly.specs.Disassembly.{mostOf, orShortText, disassembled, disassembling, disassembledIn, disassemblingIn}
 use Rattle.assembly.specs.declared.Assembled.{Assembled}
 use Rattle.assembly.specs.declared.Assembling.{Assembling}
@@ -56,8 +56,8 @@ bytes-by-most (WellFormed n m) = go (sizesOutside n m) refl
     go true e = omega arith
     go false e = let r = in-range n m e in omega (arith, r .0, r .1)
 
-bytes-most : (s : List ℕ) → bytesOf s ≤ 36868
-unfolding bytesOf
+bytes-most : (s : List ℕ) → bytesNeeded s ≤ 36868
+unfolding bytesNeeded
 bytes-most s = go (ltb longestText (length s))
   where
     go : (t : Bool) → pick t 0 (bytesBy (checked (saids s))) ≤ 36868
@@ -66,16 +66,16 @@ bytes-most s = go (ltb longestText (length s))
 
 -- in such a buffer the table is never too long
 module _ (s out : List ℕ) (room : 36868 ≤ length out) where
-  enough : bytesOf s ≤ length out
+  enough : bytesNeeded s ≤ length out
   enough = omega (arith, bytes-most s, room)
 
   ample : assembling (length out) s ≡ Answered (assembled s)
   unfolding assembling
-  ample = sym (fits (length out) (bytesOf s) enough refl)
+  ample = sym (fits (length out) (bytesNeeded s) enough refl)
 
   ample-in : assemblingIn s out ≡ assembledIn s out
   unfolding assemblingIn
-  ample-in = sym (put-in (bytesOf s) out enough refl)
+  ample-in = sym (put-in (bytesNeeded s) out enough refl)
 
   pub answered-whole : (x : Assembling) (a : Assembled) (o : List ℕ) → x ≡ Answered a → x ≡ assembling (length out) s → o ≡ assemblingIn s out → (a ≡ assembled s) × (o ≡ assembledIn s out)
   answered-whole x a o e q w =

@@ -163,19 +163,19 @@ abbrev pub bytesBy : Checked → ℕ
 bytesBy (Fault line e) = 0
 bytesBy (WellFormed n m) = pick (sizesOutside n m) 0 (4 + 4 * n + 4 * m)
 
-unfoldable pub bytesOf : List ℕ → ℕ
-bytesOf s = pick (ltb longestText (length s)) 0 (bytesBy (checked (saids s)))
+unfoldable pub bytesNeeded : List ℕ → ℕ
+bytesNeeded s = pick (ltb longestText (length s)) 0 (bytesBy (checked (saids s)))
 
 -- an answer for which a buffer of `room` bytes needs k of them
 abbrev pub orShort : ℕ → ℕ → Assembled → Assembling
 orShort room k a = pick (ltb room k) (Short k) (Answered a)
 
 unfoldable pub assembling : ℕ → List ℕ → Assembling
-assembling room s = orShort room (bytesOf s) (assembled s)
+assembling room s = orShort room (bytesNeeded s) (assembled s)
 
 -- the buffer afterwards, as it was where it has fewer than k bytes
 abbrev pub keptIfShort : ℕ → List ℕ → List ℕ → List ℕ
 keptIfShort k out after = pick (ltb (length out) k) out after
 
 unfoldable pub assemblingIn : List ℕ → List ℕ → List ℕ
-assemblingIn s out = keptIfShort (bytesOf s) out (assembledIn s out)
+assemblingIn s out = keptIfShort (bytesNeeded s) out (assembledIn s out)

@@ -1,7 +1,7 @@
 -- Demand 3, entire: the memory limit over every list of calls.
 --
 -- What it cites, in crates/schedule/specs: `begin` (Begin) answers with the record of an accepted beginning; `afterCalls` and `rowOfCalls` (Calls) are the record that a list of calls
--- leaves and its row of turns; `memoryOf` and `peakMemory` (Memory) are what the row's turns hold, from the replies and the table alone; `doneIn` (Memory) sums the allocs
+-- leaves and its row of turns; `rowMemory` and `peakMemory` (Memory) are what the row's turns hold, from the replies and the table alone; `rowSum` (Memory) sums the allocs
 -- or the frees done; `Keeps` (Memory) is the rule with b; `limit` (Memory) is S1 + b·K·(p − 1)·(D − 1), with S1 and D of crates/table/specs.
 use mathlib.Core.Path.{_≡_, sym, ap, _∙_}
 use Prim.Native.Nat.{ℕ, _+_, _-_, _*_, _≤_, _<_}
@@ -15,7 +15,7 @@ use Rattle.schedule.specs.declared.Beginning.the-variants.{Begun as started}
 use Rattle.schedule.specs.Machine.{State}
 use Rattle.schedule.specs.Begin.{begin}
 use Rattle.schedule.specs.Calls.{Call, afterCalls, rowOfCalls}
-use Rattle.schedule.specs.Memory.{doneIn, memoryOf, peakMemory, Keeps, limit}
+use Rattle.schedule.specs.Memory.{rowSum, rowMemory, peakMemory, Keeps, limit}
 use Rattle.schedule.proofs.Runs.Rows.{row-balanced, row-held, row-highest}
 use Rattle.order.proofs.Lawful.{Within}
 use Rattle.filling.specs.Filled.{filledOut}
@@ -27,14 +27,14 @@ use Rattle.bounds.proofs.FrontParts.{peak-within, front-bound, front-al
 -- of a record r and the row of turns that led to it
 pub record MemoryLimit (T : Table) (p K b : ℕ) (r : Run) (row : List ℕ) : Type 0 where
   -- the record's held is the row's memory, and its highest the greatest after any front part
-  pub held : r .held ≡ memoryOf T K row
+  pub held : r .held ≡ rowMemory T K row
   pub highest : r .highest ≡ peakMemory T K row
   -- that memory is allocs done less frees done, and no front part frees more than it drew
-  pub balanced : (front rest : List ℕ) → row ≡ front ++ rest → doneIn freeOf T K front ≤ doneIn allocOf T K front
+  pub balanced : (front rest : List ℕ) → row ≡ front ++ rest → rowSum freeOf T K front ≤ rowSum allocOf T K front
   -- after every front part that keeps the rule with b, both are within the limit
-  pub bounded : (front rest : List ℕ) → row ≡ front ++ rest → Keeps b front → (memoryOf T K front ≤ limit T p K b) × (peakMemory T K front ≤ limit T p K b)
+  pub bounded : (front rest : List ℕ) → row ≡ front ++ rest → Keeps b front → (rowMemory T K front ≤ limit T p K b) × (peakMemory T K front ≤ limit T p K b)
   -- one worker alone never holds more than the serial peak
-  pub alone : p ≡ 1 → (memoryOf T K row ≤ S1 T) × (peakMemory T K row ≤ S1 T)
+  pub alone : p ≡ 1 → (rowMemory T K row ≤ S1 T) × (peakMemory T K row ≤ S1 T)
 
 -- "users may rely on the memory and thread limits with D and N of the filled-out table" (N6), whose S1 is the given table's (`peak`): for every accepted table, p and K, every b at least 1
 -- and every list of calls from the record of the beginning
@@ -48,14 +48,14 @@ memory-limit s p K r e b g calls =
     let row : List ℕ = rowOfCalls calls r in
     let whole : row ≡ row ++ [] = sym (append-nil row) in
     let h : (w : ℕ) → List·Memᴰ w row → w < p = t .below row [] whole in
-    let alone : p ≡ 1 → (front rest : List ℕ) → row ≡ front ++ rest → memoryOf T K front ≤ S1 T =
+    let alone : p ≡ 1 → (front rest : List ℕ) → row ≡ front ++ rest → rowMemory T K front ≤ S1 T =
     front-alone T (i .lawful) p K (i .some-worker) (i .few-workers) delayed row h in
     record {
       held = ap (λ (x : State). x .held) (t .state) ∙ row-held T (i .lawful) p K (i .few-workers) row h;
       highest = ap (λ (x : State). x .highest) (t .state) ∙ row-highest T (i .lawful) p K (i .few-workers) row h;
       balanced = λ front rest d. row-balanced T (i .lawful) p K (i .few-workers) front (t .below front rest d);
       bounded = λ front rest d keeps.
-          let within : (f z : List ℕ) → front ≡ f ++ z → memoryOf T K f ≤ limit T p K b =
+          let within : (f z : List ℕ) → front ≡ f ++ z → rowMemory T K f ≤ limit T p K b =
           front-bound T (i .lawful) p K (i .some-worker) (i .few-workers) delayed front (t .below front rest d) b g keeps in
           (within front [] (sym (append-nil front)), peak-within T K (limit T p K b) front within);
       alone = λ one. (alone one row [] whole, peak-within T K (S1 T) row (alone one));

@@ -1,7 +1,7 @@
 -- The peak of p workers over every list of calls: what is held is at most S_p, whatever K and whatever the order of the turns, refused calls included; and at most the useful limit. S_p of the table
 -- that runs is that of the table as given (`given-workers`), so that it is one number whatever K.
 --
--- What it cites: `begin`, `afterCalls`, `rowOfCalls`, `memoryOf`, `peakMemory`, `Keeps` and `limit` as the memory limit of demand 3 does (Limit); `workersPeak` is S_p and `Light` that no
+-- What it cites: `begin`, `afterCalls`, `rowOfCalls`, `rowMemory`, `peakMemory`, `Keeps` and `limit` as the memory limit of demand 3 does (Limit); `workersPeak` is S_p and `Light` that no
 -- entered unended thread has a load above r (specs/Peak of crates/peaks); `stretch`, `covered`, `restingPeak` and `usefulLimit` are in specs/Rests there.
 use mathlib.Core.Path.{_≡_, refl, sym, ap, _∙_}
 use Prim.Native.Nat.{ℕ, suc, _+_, _*_, _-_, _≤_, _<_}
@@ -20,7 +20,7 @@ use Rattle.schedule.specs.declared.Beginning.the-variants.{Begun as started}
 use Rattle.schedule.specs.Machine.{State}
 use Rattle.schedule.specs.Begin.{begin, startState}
 use Rattle.schedule.specs.Calls.{Call, afterCalls, rowOfCalls}
-use Rattle.schedule.specs.Memory.{replies, memoryOf, peakMemory, Keeps, limit}
+use Rattle.schedule.specs.Memory.{replies, rowMemory, peakMemory, Keeps, limit}
 use Rattle.order.proofs.Lawful.{Lawful, lawful}
 use Rattle.order.proofs.Lists.{Below}
 use Rattle.schedule.proofs.Runs.Rows.{row-held, row-highest, front-workers}
@@ -52,17 +52,17 @@ module _ (T : Table) (l : Lawful T) (p K : ℕ) (some : 1 ≤ p) (few : p ≤ 16
   row-peaks row h = peak-within T K (workersPeak T p) row (λ front rest e. row-peak T l p K few front (front-workers (λ w. w < p) row front rest e h))
 
   module _ (delayed : Delayed T (drawnCost T K)) (b : ℕ) where
-    pub row-useful : (row : List ℕ) → Below p row → Ruled b row → memoryOf T K row ≤ usefulLimit T p K b
+    pub row-useful : (row : List ℕ) → Below p row → Ruled b row → rowMemory T K row ≤ usefulLimit T p K b
     unfolding usefulLimit covered
     row-useful row h ruled = omega (arith, row-peak T l p K few row h, by-b (eqb b 0) refl, by-K (leb (stretch T K) K) refl)
       where
-        by-b : (q : Bool) → eqb b 0 ≡ q → memoryOf T K row ≤ pick q (workersPeak T p) (limit T p K b)
+        by-b : (q : Bool) → eqb b 0 ≡ q → rowMemory T K row ≤ pick q (workersPeak T p) (limit T p K b)
         by-b true e = row-peak T l p K few row h
         by-b false e =
             let g : 1 ≤ b = omega (arith, eqb-false b 0 e) in
             front-bound T l p K some few delayed row h b g (ruled g) row [] (sym (append-nil row))
 
-        by-K : (q : Bool) → leb (stretch T K) K ≡ q → memoryOf T K row ≤ pick q (restingPeak T p) (workersPeak T p)
+        by-K : (q : Bool) → leb (stretch T K) K ≡ q → rowMemory T K row ≤ pick q (restingPeak T p) (workersPeak T p)
         by-K true e = row-rests T l p K few (leb-true (stretch T K) K e) row h
         by-K false e = row-peak T l p K few row h
 
@@ -77,7 +77,7 @@ module _ (T : Table) (l : Lawful T) (p K : ℕ) (some : 1 ≤ p) (few : p ≤ 16
 pub record PeakLimit (T : Table) (p K : ℕ) (r : Run) (row : List ℕ) : Type 0 where
   pub within : (r .held ≤ workersPeak T p) × (r .highest ≤ workersPeak T p)
   -- and so after every front part
-  pub bounded : (front rest : List ℕ) → row ≡ front ++ rest → (memoryOf T K front ≤ workersPeak T p) × (peakMemory T K front ≤ workersPeak T p)
+  pub bounded : (front rest : List ℕ) → row ≡ front ++ rest → (rowMemory T K front ≤ workersPeak T p) × (peakMemory T K front ≤ workersPeak T p)
   -- no entered unended thread has a load above p − 1
   pub light : Light T (r .next) (r .status) (p - 1)
 
@@ -85,7 +85,7 @@ pub record UsefulLimit (T : Table) (p K b : ℕ) (r : Run) (row : List ℕ) : Ty
   -- for b at least 1 where the row keeps the rule with b, for b 0 always
   pub within : Ruled b row → (r .held ≤ usefulLimit T p K b) × (r .highest ≤ usefulLimit T p K b)
   -- and so after each front part that does
-  pub bounded : (front rest : List ℕ) → row ≡ front ++ rest → Ruled b front → (memoryOf T K front ≤ usefulLimit T p K b) × (peakMemory T K front ≤ usefulLimit T p K b)
+  pub bounded : (front rest : List ℕ) → row ≡ front ++ rest → Ruled b front → (rowMemory T K front ≤ usefulLimit T p K b) × (peakMemory T K front ≤ usefulLimit T p K b)
   -- it is at most S_p, and for b at least 1 at most demand 3's limit
   pub lower : (usefulLimit T p K b ≤ workersPeak T p) × (1 ≤ b → usefulLimit T p K b ≤ limit T p K b)
   -- where K is at least what every stretch draws no turn replied quota
@@ -105,7 +105,7 @@ module _ (s : List ℕ) (p K : ℕ) (r : Run) (e : begin s p K ≡ record { answ
   below : Below p (rowOfCalls calls r)
   below = traced .below row [] (sym (append-nil row))
 
-  held : afterCalls calls r .held ≡ memoryOf (tableOf (filledOut s K)) K (rowOfCalls calls r)
+  held : afterCalls calls r .held ≡ rowMemory (tableOf (filledOut s K)) K (rowOfCalls calls r)
   held = ap (λ (x : State). x .held) (traced .state) ∙ row-held T (traced .started .lawful) p K (traced .started .few-workers) row below
 
   highest : afterCalls calls r .highest ≡ peakMemory (tableOf (filledOut s K)) K (rowOfCalls calls r)
@@ -115,7 +115,7 @@ module _ (s : List ℕ) (p K : ℕ) (r : Run) (e : begin s p K ≡ record { answ
   pub peak-limit : PeakLimit (tableOf (filledOut s K)) p K (afterCalls calls r) (rowOfCalls calls r)
   peak-limit =
       let i : Started s p K r = traced .started in
-      let bounded : (front rest : List ℕ) → row ≡ front ++ rest → (memoryOf T K front ≤ workersPeak T p) × (peakMemory T K front ≤ workersPeak T p) =
+      let bounded : (front rest : List ℕ) → row ≡ front ++ rest → (rowMemory T K front ≤ workersPeak T p) × (peakMemory T K front ≤ workersPeak T p) =
       λ front rest d. (
         row-peak T (i .lawful) p K (i .few-workers) front (traced .below front rest d),
         row-peaks T (i .lawful) p K (i .some-worker) (i .few-workers) front (traced .below front rest d),
@@ -133,7 +133,7 @@ module _ (s : List ℕ) (p K : ℕ) (r : Run) (e : begin s p K ≡ record { answ
   useful-limit b =
       let i : Started s p K r = traced .started in
       let delayed : Delayed T (drawnCost T K) = i .filling .delayed in
-      let bounded : (front rest : List ℕ) → row ≡ front ++ rest → Ruled b front → (memoryOf T K front ≤ usefulLimit T p K b) × (peakMemory T K front ≤ usefulLimit T p K b) =
+      let bounded : (front rest : List ℕ) → row ≡ front ++ rest → Ruled b front → (rowMemory T K front ≤ usefulLimit T p K b) × (peakMemory T K front ≤ usefulLimit T p K b) =
       λ front rest d ruled. (
         row-useful T (i .lawful) p K (i .some-worker) (i .few-workers) delayed b front (traced .below front rest d) ruled,
         row-usefuls T (i .lawful) p K (i .some-worker) (i .few-workers) delayed b front (traced .below front rest d) ruled,

@@ -18,7 +18,7 @@ use Rattle.schedule.specs.declared.Beginning.the-variants.{Begun as started}
 use Rattle.filling.specs.Filled.{filledOut}
 use Rattle.schedule.specs.Begin.{begin, startRun}
 use Rattle.schedule.specs.Calls.{Call, afterCalls, rowOfCalls}
-use Rattle.schedule.specs.Memory.{memoryOf, peakMemory, Keeps}
+use Rattle.schedule.specs.Memory.{rowMemory, peakMemory, Keeps}
 use Rattle.bounds.proofs.Limit.{MemoryLimit, memory-limit}
 use Rattle.bounds.proofs.PeakLimit.{Ruled, UsefulLimit, useful-limit}
 use Rattle.quota.specs.declared.Quoted.{Quoted}
@@ -53,7 +53,7 @@ use Rattle.useful_limit.proofs.fit_in.Reads as fit-promise
 -- of a record r and the row of turns that led to it: after every front part that keeps the rule, memory held and its greatest so far are at most M, and so are the record's own if
 -- the whole row keeps it
 pub record WithinBoard (Rule : List ℕ → Type 0) (T : Table) (K M : ℕ) (r : Run) (row : List ℕ) : Type 0 where
-  pub fronts : (front rest : List ℕ) → row ≡ front ++ rest → Rule front → (memoryOf T K front ≤ M) × (peakMemory T K front ≤ M)
+  pub fronts : (front rest : List ℕ) → row ≡ front ++ rest → Rule front → (rowMemory T K front ≤ M) × (peakMemory T K front ≤ M)
   pub recorded : Rule row → (r .held ≤ M) × (r .highest ≤ M)
 
 -- By value: a beginning accepts, and after every history of calls from its record the board is kept.
@@ -123,7 +123,7 @@ quota-serves s p b M K e =
       i .begun,
       λ calls.
           let l : MemoryLimit (tableOf s) p K b (afterCalls calls (startRun s p K)) (rowOfCalls calls (startRun s p K)) = rw (i .in-place) at (memory-limit s p K (startRun s p K) (i .begun) b (g .0 .some-gap) calls) in
-          let fronts : (front rest : List ℕ) → rowOfCalls calls (startRun s p K) ≡ front ++ rest → Keeps b front → (memoryOf (tableOf s) K front ≤ M) × (peakMemory (tableOf s) K front ≤ M) =
+          let fronts : (front rest : List ℕ) → rowOfCalls calls (startRun s p K) ≡ front ++ rest → Keeps b front → (rowMemory (tableOf s) K front ≤ M) × (peakMemory (tableOf s) K front ≤ M) =
           λ front rest d k. let w = l .bounded front rest d k in (omega (arith, w .0, g .1 .serves), omega (arith, w .1, g .1 .serves)) in
           record {
             fronts = fronts;

@@ -49,7 +49,7 @@ use Rattle.soundness.proofs.Noting.{parents-right}
 use Rattle.array_machine.proofs.Starts.{alone, alone-linked, is-start}
 use Rattle.table.specs.Load.{foundNumber}
 use Rattle.run_memory.specs.Memory.{Memory, Answer, answer, lentTurn}
-use Rattle.wivakkol.specs.Lent.{startMemory, begunAs, lentBegin}
+use Rattle.wivakkol.specs.Lent.{startMemory, lentBegunAs, lentBegin}
 use Rattle.run_memory.specs.Stands.{truths, workersFrom, runIn, Stands, valuesRow}
 use Rattle.wivakkol.specs.Opened.{soundIn, blankIn, openedIn, openedAs, lentOpen}
 use Rattle.claims.specs.LentCalls.{LentCall, moving, opening, tableThatRuns, returned, lentMove, lentCall, lentRowOf, lentAfter, lentReturned, lentRow, movesOf}
@@ -74,7 +74,7 @@ unfolding workersFrom
 start-run s p K = is-start s p K refl refl
 
 -- no check has the number 0, and neither has too little room
-numbered : (f : Found) (short : Bool) (bytes : ℕ) (M : Memory) → Numbered f → begunAs f short bytes M .number ≡ 0 → (f ≡ Nothing) × (short ≡ false)
+numbered : (f : Found) (short : Bool) (bytes : ℕ) (M : Memory) → Numbered f → lentBegunAs f short bytes M .number ≡ 0 → (f ≡ Nothing) × (short ≡ false)
 numbered Nothing true bytes M h e = absurd (omega (arith, e))
 numbered Nothing false bytes M h e = (refl, refl)
 numbered (At x) short bytes M h e = let z : At x ≡ Nothing = h e in no-way (cc)

@@ -16,7 +16,7 @@ use Rattle.run_memory.specs.Blocks.{memoryOf}
 use Rattle.soundness.specs.Tested.{begunInto}
 use Rattle.wivakkol.specs.Lent.{lentBegin, lentList, lentRounds}
 use Rattle.wivakkol.specs.Opened.{soundIn, blankIn, openedAs, lentOpen}
-use Rattle.claims.proofs.Shaped.{Shaped, bytesOf, wordsOf, numbersOf, sumsOf, in-blocks}
+use Rattle.claims.proofs.Shaped.{Shaped, byteBlock, wordsOf, numbersOf, sumsOf, in-blocks}
 use Rattle.wivakkol.proofs.begin.wivakkol_begin_on.Kinds as begin-kinds
 use Rattle.wivakkol.proofs.begin.wivakkol_begin_on.Reads as begin-promise
 use Rattle.wivakkol.proofs.open.wivakkol_open_on.Kinds as open-kinds
@@ -173,11 +173,11 @@ begin-says s p K out =
 
 -- the blocks of a memory
 abbrev pub blocksOf : List ℕ → Memory → Blocks
-blocksOf s M = record { table = lentOf s; bytes = lentOf (bytesOf M); words = lentOf (wordsOf M); numbers = lentOf (numbersOf M); sums = lentOf (sumsOf M); row = lentOf [] }
+blocksOf s M = record { table = lentOf s; bytes = lentOf (byteBlock M); words = lentOf (wordsOf M); numbers = lentOf (numbersOf M); sums = lentOf (sumsOf M); row = lentOf [] }
 
 -- an answer is what stands in the blocks of its memory
 pub whole : (a : Answer) → Shaped (a .memory)
-    → answer (a .number) (a .row) (memoryOf (bytesOf (a .memory)) (wordsOf (a .memory)) (numbersOf (a .memory)) (sumsOf (a .memory))) ≡ a
+    → answer (a .number) (a .row) (memoryOf (byteBlock (a .memory)) (wordsOf (a .memory)) (numbersOf (a .memory)) (sumsOf (a .memory))) ≡ a
 whole a h = ap (answer (a .number) (a .row)) (in-blocks (a .memory) h)
 
 pub turn-says : (s : List ℕ) (w : ℕ) (M : Memory) → Shaped M → Shaped (lentTurn s w M .memory) → TurnSays s w M (lentTurn s w M)
@@ -188,7 +188,7 @@ turn-says s w M h k =
       lifetimes = ([], ([], ([], ([], ([], ([], tt))))));
       refs = blocksOf s M;
       exit =
-          (lentOf s, (w, (lentOf (bytesOf (a .memory)), (lentOf (wordsOf (a .memory)), (lentOf (numbersOf (a .memory)), (lentOf (sumsOf (a .memory)), (lentOf (a .row), tt)))))));
+          (lentOf s, (w, (lentOf (byteBlock (a .memory)), (lentOf (wordsOf (a .memory)), (lentOf (numbersOf (a .memory)), (lentOf (sumsOf (a .memory)), (lentOf (a .row), tt)))))));
       lent-table = refl;
       lent-run = in-blocks M h;
       left = e;
@@ -205,7 +205,7 @@ list-says s l M h k =
       order = lentOf l;
       lent-order = refl;
       exit =
-          (lentOf s, (lentOf l, (lentOf (bytesOf (a .memory)), (lentOf (wordsOf (a .memory)), (lentOf (numbersOf (a .memory)), (lentOf (sumsOf (a .memory)), (lentOf (a .row), tt)))))));
+          (lentOf s, (lentOf l, (lentOf (byteBlock (a .memory)), (lentOf (wordsOf (a .memory)), (lentOf (numbersOf (a .memory)), (lentOf (sumsOf (a .memory)), (lentOf (a .row), tt)))))));
       lent-table = refl;
       lent-run = in-blocks M h;
       left = e;
@@ -220,7 +220,7 @@ rounds-says s limit M h k =
       lifetimes = ([], ([], ([], ([], ([], ([], tt))))));
       refs = blocksOf s M;
       exit =
-          (lentOf s, (limit, (lentOf (bytesOf (a .memory)), (lentOf (wordsOf (a .memory)), (lentOf (numbersOf (a .memory)), (lentOf (sumsOf (a .memory)), (lentOf (a .row), tt)))))));
+          (lentOf s, (limit, (lentOf (byteBlock (a .memory)), (lentOf (wordsOf (a .memory)), (lentOf (numbersOf (a .memory)), (lentOf (sumsOf (a .memory)), (lentOf (a .row), tt)))))));
       lent-table = refl;
       lent-run = in-blocks M h;
       left = e;

@@ -90,8 +90,8 @@ past a b n i e = subst (λ (k : ℕ). getD (a ++ b) (k + i) 0 ≡ getD b i 0) e 
 abbrev rowsOf : Memory → List (List ℕ)
 rowsOf M = M .parents ∷ M .arrays .next ∷ M .arrays .left ∷ M .arrays .right ∷ M .arrays .under ∷ M .arrays .over ∷ []
 
-abbrev pub bytesOf : Memory → List ℕ
-bytesOf M = M .arrays .status ++ M .holds
+abbrev pub byteBlock : Memory → List ℕ
+byteBlock M = M .arrays .status ++ M .holds
 
 abbrev pub wordsOf : Memory → List ℕ
 wordsOf M = laid (rowsOf M) (M .threads ++ M .heads)
@@ -127,7 +127,7 @@ module _ (M : Memory) (h : Shaped M) where
   total-there : (i : ℕ) → getD (sumsOf M) (1024 + i) 0 ≡ getD (M .totals) i 0
   total-there i = past (M .arrays .amounts) (M .totals) 1024 i (h .arrays .amounts)
 
-  pub in-blocks : memoryOf (bytesOf M) (wordsOf M) (numbersOf M) (sumsOf M) ≡ M
+  pub in-blocks : memoryOf (byteBlock M) (wordsOf M) (numbersOf M) (sumsOf M) ≡ M
   unfolding rowIn
   in-blocks =
       let s = two (M .settings) (h .settings) in

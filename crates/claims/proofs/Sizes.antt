@@ -33,7 +33,7 @@ use Rattle.array_machine.specs.Counted.{Left, counting, unmoved, roomFor, turnO
 use Rattle.run_memory.specs.Memory.{Memory, workerIn, movedIn, memoryAfter, hindrance, Told, told, turnLeft, turnIn, lentTurn}
 use Rattle.run_memory.specs.Stands.{runIn}
 use Rattle.run_memory.specs.Runs.{Stopped, overIn, driveIn, listRunIn, roundsRunIn}
-use Rattle.wivakkol.specs.Lent.{lentList, lentRounds, startMemory, blankMemory, begunAs, lentBegin}
+use Rattle.wivakkol.specs.Lent.{lentList, lentRounds, startMemory, blankMemory, lentBegunAs, lentBegin}
 use Rattle.wivakkol.specs.Opened.{soundIn, blankIn, openedIn, openedAs, lentOpen}
 use Rattle.claims.specs.LentCalls.{LentCall, moving, opening, lentMove, lentCall}
 use Rattle.wivakkol.proofs.Opens.{open-stands}
@@ -305,7 +305,7 @@ unfolding lentBegin
 begin-shaped s p K room = go (beginFilling s p K .found) refl (ltb room (beginFilling s p K .bytes)) refl
   where
     go : (f : Found) → beginFilling s p K .found ≡ f → (b : Bool) → ltb room (beginFilling s p K .bytes) ≡ b
-        → Shaped (begunAs f b (beginFilling s p K .bytes) (startMemory (filledOut s K) p K) .memory)
+        → Shaped (lentBegunAs f b (beginFilling s p K .bytes) (startMemory (filledOut s K) p K) .memory)
     go (At x) e b c = blank-shaped
     go Nothing e true c = blank-shaped
     go Nothing e false c =

@@ -10,7 +10,7 @@ use borrow.Fn.Kinds.{endedOf}
 use Rattle.array_machine.specs.Arrays.{arrays}
 use Rattle.run_memory.specs.Memory.{Memory, memory, Answer, answer}
 use Rattle.run_memory.specs.Blocks.{memoryOf}
-use Rattle.claims.proofs.Shaped.{Shaped, bytesOf, wordsOf, numbersOf, sumsOf, in-blocks}
+use Rattle.claims.proofs.Shaped.{Shaped, byteBlock, wordsOf, numbersOf, sumsOf, in-blocks}
 use Rattle.claims.proofs.LentSays.{Refs, lentIn, Work, Blocks, blocksIn, lentOf, refsOf, cleared, workOf, blocksOf, whole}
 use Rattle.wivakkol_deques.specs.DequeLent.{lentDequeTurn, lentDequeList, lentDequeOpen}
 use Rattle.wivakkol_deque_turn.proofs.wivakkol_deque_turn_on.Kinds as turn-kinds
@@ -74,7 +74,7 @@ turn-says s w c M h k =
       lifetimes = ([], ([], ([], ([], ([], ([], tt))))));
       refs = blocksOf s M;
       exit =
-          (lentOf s, (w, (c, (lentOf (bytesOf (a .memory)), (lentOf (wordsOf (a .memory)), (lentOf (numbersOf (a .memory)), (lentOf (sumsOf (a .memory)), (lentOf (a .row), tt))))))));
+          (lentOf s, (w, (c, (lentOf (byteBlock (a .memory)), (lentOf (wordsOf (a .memory)), (lentOf (numbersOf (a .memory)), (lentOf (sumsOf (a .memory)), (lentOf (a .row), tt))))))));
       lent-table = refl;
       lent-run = in-blocks M h;
       left = e;
@@ -91,7 +91,7 @@ list-says s l M h k =
       order = lentOf l;
       lent-order = refl;
       exit =
-          (lentOf s, (lentOf l, (lentOf (bytesOf (a .memory)), (lentOf (wordsOf (a .memory)), (lentOf (numbersOf (a .memory)), (lentOf (sumsOf (a .memory)), (lentOf (a .row), tt)))))));
+          (lentOf s, (lentOf l, (lentOf (byteBlock (a .memory)), (lentOf (wordsOf (a .memory)), (lentOf (numbersOf (a .memory)), (lentOf (sumsOf (a .memory)), (lentOf (a .row), tt)))))));
       lent-table = refl;
       lent-run = in-blocks M h;
       left = e;

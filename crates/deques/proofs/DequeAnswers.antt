@@ -23,7 +23,7 @@ use Rattle.schedule.specs.Begin.{beginPasses}
 use Rattle.schedule.specs.Record.{blank}
 use Rattle.schedule.specs.Turn.{rootEnded, noWorker}
 use Rattle.schedule.specs.Answers.{begun, finished, spent, Values, replyValues, beginningValues, reportValues}
-use Rattle.schedule.specs.Values.{valuesWith, beginValues, firstThat}
+use Rattle.schedule.specs.Values.{saidValues, beginValues, firstThat}
 use Rattle.deques.specs.declared.DequeRun.{DequeRun}
 use Rattle.deques.specs.declared.DequeRan.{DequeRan}
 use Rattle.deques.specs.Deques.{DequeStep}
@@ -42,7 +42,7 @@ pub deque-begin-values : (s : List ℕ) (p K : ℕ) → beginningValues (dequeBe
 unfolding dequeBegin beginValues
 deque-begin-values s p K = go (firstFound (passes s ++ beginPasses (tableOf s) p K))
   where
-    go : (found : Found) → beginningValues (dequeBegunAs found (startDequeRun (filledOut s K) p K) .answer) ≡ valuesWith found begun 0 0 0
+    go : (found : Found) → beginningValues (dequeBegunAs found (startDequeRun (filledOut s K) p K) .answer) ≡ saidValues found begun 0 0 0
     go Nothing = refl
     go (At x) = refl
 
@@ -52,7 +52,7 @@ deque-turn-values r w c = go (tryAt (dequeChecks r w c) 0) (stepDeques r w c) (s
   where
     go : (found : Found) (d : DequeStep) (x : Reply) → d .reply ≡ x
         → dequeTurningValues (dequeTurnedAs found r d .answer)
-        ≡ valuesWith found (replyValues (d .reply) .said) (replyValues (d .reply) .thread) (replyValues (d .reply) .value) (ifFound found 0 1)
+        ≡ saidValues found (replyValues (d .reply) .said) (replyValues (d .reply) .thread) (replyValues (d .reply) .value) (ifFound found 0 1)
     go (At y) d x e = refl
     go Nothing d Idle e = rw e
     go Nothing d (Done t a) e = rw e
@@ -72,7 +72,7 @@ first-same g h e k = ap (λ (x : ℕ → Bool). firstThat x k) (fun-ext e)
 
 -- the values of a run that stops after n of k turns, i turns having gone before: the record that they left, and the pair of the next
 abbrev stopped : ℕ → ℕ → ℕ → DequeRun → Pair → Values
-stopped i n k left g = valuesWith (pick (eqb n k || rootEnded (left .run)) Nothing (tryAt (pairChecks left g) 0)) (pick (rootEnded (left .run)) finished spent) 0 0 (i + n)
+stopped i n k left g = saidValues (pick (eqb n k || rootEnded (left .run)) Nothing (tryAt (pairChecks left g) 0)) (pick (rootEnded (left .run)) finished spent) 0 0 (i + n)
 
 stopped-next : (i n k : ℕ) (left : DequeRun) (g : Pair) → stopped i (suc n) (suc k) left g ≡ stopped (suc i) n k left g
 stopped-next i n k left g = rw (eqb·suc-suc, add-suc, suc-add)
@@ -88,7 +88,7 @@ module _ (f : ℕ → Pair) (k : ℕ) (r : DequeRun) where
   taken-none e = rw e
 
   stop-now : (i : ℕ) → stopsBefore r (f 0) ≡ true
-      → from i f (suc k) r ≡ valuesWith (pick (rootEnded (r .run)) Nothing (tryAt (pairChecks r (f 0)) 0)) (pick (rootEnded (r .run)) finished spent) 0 0 i
+      → from i f (suc k) r ≡ saidValues (pick (rootEnded (r .run)) Nothing (tryAt (pairChecks r (f 0)) 0)) (pick (rootEnded (r .run)) finished spent) 0 0 i
   unfolding afterPairs
   stop-now i e = ap (λ (n : ℕ). stopped i n (suc k) (afterPairs f n r) (f n)) (taken-none e) ∙ rw (eqb·zero-suc, add-zero)
 
@@ -139,7 +139,7 @@ drive-values : (who f : ℕ → Pair) (k i : ℕ) (r : DequeRun) → ((n : ℕ) 
 unfolding driveDeques pairsTaken firstThat afterPairs
 drive-values who f zero i r h = rw add-zero (go (rootEnded (r .run)))
   where
-    go : (b : Bool) → reportValues (pick b (Finished i) (Spent i)) ≡ valuesWith Nothing (pick b finished spent) 0 0 i
+    go : (b : Bool) → reportValues (pick b (Finished i) (Spent i)) ≡ saidValues Nothing (pick b finished spent) 0 0 i
     go true = refl
     go false = refl
 drive-values who f (suc k) i r h =

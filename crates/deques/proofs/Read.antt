@@ -14,7 +14,7 @@ use Rattle.table.proofs.Tests.{no-way, and-both}
 use Rattle.schedule.specs.declared.Worker.{Worker}
 use Rattle.schedule.specs.Memory.{countIn}
 use Rattle.schedule.specs.Machine.{held, nobody, workerOf}
-use Rattle.schedule.specs.Links.{noThread, Links, LinkedAs, listOf, firstOf, leftAfter}
+use Rattle.schedule.specs.Links.{noThread, Links, LinkedAs, listOf, headOf, leftAfter}
 use Rattle.order.proofs.Lawful.{Lawful}
 use Rattle.order.proofs.Lists.{Below}
 use Rattle.schedule.proofs.Sound.Facts.{Facts}
@@ -44,7 +44,7 @@ module _ (k : Links) (l : List ℕ) (h : LinkedAs k l) (b : Below noThread l) (t
       after : (x : ℕ) (l : List ℕ) → Below noThread (x ∷ l) → List·Memᴰ t l → ltb (leftAfter x l t) noThread ≡ true
       after x l b m = lt-ltb (leftAfter x l t) noThread (b (leftAfter x l t) (leftAfter-in x t l m))
 
-      go : (l : List ℕ) → Below noThread l → List·Memᴰ t l → (ltb (leftAfter noThread l t) noThread || eqb (firstOf l) t) ≡ true
+      go : (l : List ℕ) → Below noThread l → List·Memᴰ t l → (ltb (leftAfter noThread l t) noThread || eqb (headOf l) t) ≡ true
       go [] b m = absurd (List·Memᴰ·not-nil m)
       go (x ∷ l) b m = at (eqb x t) refl (List·Memᴰ·cases-cons m)
         where
@@ -57,7 +57,7 @@ module _ (k : Links) (l : List ℕ) (h : LinkedAs k l) (b : Below noThread l) (t
   unfolding linkedIn
   linked-out n = rw (h .lefts t i, h .leftmost, leftAfter-out noThread t l n) (go l n)
     where
-      go : (l : List ℕ) → (List·Memᴰ t l → ⊥) → eqb (firstOf l) t ≡ false
+      go : (l : List ℕ) → (List·Memᴰ t l → ⊥) → eqb (headOf l) t ≡ false
       go [] n = ne-eqb noThread t (λ e. omega arith)
       go (x ∷ l) n = ne-eqb x t (λ e. n (List·Memᴰ·head (sym e)))
 

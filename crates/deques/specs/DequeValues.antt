@@ -12,7 +12,7 @@ use Rattle.table.specs.declared.Found.{Found}
 use Rattle.table.specs.declared.Found.the-variants.{Nothing}
 use Rattle.schedule.specs.Turn.{rootEnded, noWorker}
 use Rattle.schedule.specs.Answers.{finished, spent, Values, replyValues, refusing}
-use Rattle.schedule.specs.Values.{valuesWith, firstThat}
+use Rattle.schedule.specs.Values.{saidValues, firstThat}
 use Rattle.deques.specs.declared.DequeRun.{DequeRun}
 use Rattle.deques.specs.declared.DequeTurning.{DequeTurning}
 use Rattle.deques.specs.declared.DequeTurning.the-variants.{Taken, Refused}
@@ -31,7 +31,7 @@ unfoldable pub dequeTurnValues : DequeRun → ℕ → ℕ → Values
 dequeTurnValues r w c =
     let found : Found = tryAt (dequeChecks r w c) 0 in
     let reply : Values = replyValues (stepDeques r w c .reply) in
-    valuesWith found (reply .said) (reply .thread) (reply .value) (ifFound found 0 1)
+    saidValues found (reply .said) (reply .thread) (reply .value) (ifFound found 0 1)
 
 -- ---- the turns of a run, of which the one after n turns is of the pair `who n`
 
@@ -67,7 +67,7 @@ pairsStoppedBy who k r =
 unfoldable pub drivenValues : Found → (ℕ → Pair) → ℕ → DequeRun → Values
 drivenValues before who k r =
     let n : ℕ = pairsTaken who k r in
-    valuesWith (orElse before (pairsStoppedBy who k r)) (pick (rootEnded (afterPairs who n r .run)) finished spent) 0 0 (ifFound before 0 n)
+    saidValues (orElse before (pairsStoppedBy who k r)) (pick (rootEnded (afterPairs who n r .run)) finished spent) 0 0 (ifFound before 0 n)
 
 -- a run over a list, two bytes a turn
 unfoldable pub pairsValues : DequeRun → List ℕ → Values

@@ -20,7 +20,7 @@ use Rattle.table.proofs.Nesting.{anyBelow-true, some-anyBelow}
 use Rattle.table.proofs.Passes.{tryPass-from-0}
 use Rattle.order.proofs.Lawful.{Lawful, lawful}
 use Rattle.table.specs.Written.{Action, written}
-use Rattle.filling.specs.Filled.{big, newThreads, newActions, filledBodies, filledOut, threadsTo, actionsTo, bytesOf, overfull, fillPass}
+use Rattle.filling.specs.Filled.{big, newThreads, newActions, filledBodies, filledOut, threadsTo, actionsTo, sizeOfTable, overfull, fillPass}
 use Rattle.table.proofs.ReadBack.{read-back, bytes-length, threads-back, actions-back, argument-short}
 use Rattle.table.specs.Serial.{serialOrder}
 use Rattle.filling.proofs.Bodies.{short-at}
@@ -137,11 +137,11 @@ module _ (s : List ℕ) (K : ℕ) where
         )
 
     -- 4 bytes a head, a thread, an action, whether it is filled out or runs as it is
-    pub fill-size : length (filledOut s K) ≡ bytesOf (threadsTo T K (T .actions)) (actionsTo T K (T .actions))
+    pub fill-size : length (filledOut s K) ≡ sizeOfTable (threadsTo T K (T .actions)) (actionsTo T K (T .actions))
     unfolding filledOut tableOf
     fill-size = go (anyBelow (big T K) (T .actions)) refl
       where
-        go : (q : Bool) → anyBelow (big T K) (T .actions) ≡ q → length (pick q (written bs) s) ≡ bytesOf (threadsTo T K (T .actions)) (actionsTo T K (T .actions))
+        go : (q : Bool) → anyBelow (big T K) (T .actions) ≡ q → length (pick q (written bs) s) ≡ sizeOfTable (threadsTo T K (T .actions)) (actionsTo T K (T .actions))
         go true e = omega (arith, bytes-length bs, filled-threads T l K some, filled-actions T l K some)
         go false e =
             omega (

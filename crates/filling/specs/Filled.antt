@@ -102,8 +102,8 @@ abbrev pub actionsTo : Table → ℕ → ℕ → ℕ
 actionsTo T K k = T .actions + sumTo (newActions T K) k
 
 -- the bytes of a table of n threads and m actions
-abbrev pub bytesOf : ℕ → ℕ → ℕ
-bytesOf n m = 4 + 4 * n + 4 * m
+abbrev pub sizeOfTable : ℕ → ℕ → ℕ
+sizeOfTable n m = 4 + 4 * n + 4 * m
 
 -- 44: "the filled-out table would pass 1,024 threads or 8,192 actions .. at the alloc that first does so, counted by rising action of the table as given"
 unfoldable pub overfull : Table → ℕ → ℕ → Bool

@@ -16,8 +16,8 @@ use Rattle.inputs.specs.declared.Made.the-variants.{Written as Filled, M
 -- ---- the bytes
 
 -- a number's lowest bytes, little-endian, at most 8
-abbrev pub bytesOf : ℕ → ℕ → List ℕ
-bytesOf width x =
+abbrev pub lowBytes : ℕ → ℕ → List ℕ
+lowBytes width x =
     take width
     (x % 256 ∷ x / 256 % 256 ∷ x / 65536 % 256 ∷ x / 16777216 % 256
     ∷ x / 4294967296 % 256 ∷ x / 1099511627776 % 256 ∷ x / 281474976710656 % 256 ∷ x / 72057594037927936 % 256 ∷ [])
@@ -28,9 +28,9 @@ frontTexts nothing = []
 frontTexts (workers p) = []
 frontTexts (quota p K) = []
 frontTexts (between p b) = []
-frontTexts (turns p K o) = bytesOf 1 p ∷ bytesOf 3 K ∷ bytesOf 2 (length o) ∷ o ∷ []
-frontTexts (rounds p K L) = bytesOf 1 p ∷ bytesOf 3 K ∷ bytesOf 4 L ∷ []
-frontTexts (board p b M) = bytesOf 1 p ∷ bytesOf 4 b ∷ bytesOf 8 M ∷ []
+frontTexts (turns p K o) = lowBytes 1 p ∷ lowBytes 3 K ∷ lowBytes 2 (length o) ∷ o ∷ []
+frontTexts (rounds p K L) = lowBytes 1 p ∷ lowBytes 3 K ∷ lowBytes 4 L ∷ []
+frontTexts (board p b M) = lowBytes 1 p ∷ lowBytes 4 b ∷ lowBytes 8 M ∷ []
 
 abbrev pub frontBytes : Front → List ℕ
 frontBytes f = flatten (frontTexts f)

@@ -8,13 +8,13 @@ ghost use lib.ListN.{length};
 ghost use Rattle.text.specs.Text.{bufferAt, placed};
 ghost use Rattle.text.specs.Puts.{Puts};
 ghost use Rattle.inputs.specs.Front.{turns, rounds, board};
-ghost use Rattle.inputs.specs.Input.{bytesOf, frontTexts};
+ghost use Rattle.inputs.specs.Input.{lowBytes, frontTexts};
 ghost use Rattle.inputs.specs.Code.Steps.{Room, frontIs, heldBy};
 
 // The lowest bytes of a number, so many.
 fn put_bytes(out: &mut [u8], at: usize, width: usize, x: u64) -> usize
     requires { ⌜ width ≤ 8 ⌝ }
-    ensures { λ r. ⌜ bufferAt (now (out .exit)) r ≡ placed (now (out .entry)) at (bytesOf width x) ⌝ }
+    ensures { λ r. ⌜ bufferAt (now (out .exit)) r ≡ placed (now (out .entry)) at (lowBytes width x) ⌝ }
 {
     let row = [
         (x % 256) as u8,

@@ -11,7 +11,7 @@ use lib.Seq.{drop-cons, drop-length, getD-set-same, getD-set-other, ext-getD}
 use borrow.Author.Tests.{eq-eqb, ne-eqb}
 use Rattle.table.specs.Sum.{pick}
 use Rattle.order.specs.Firsts.{firsts}
-use Rattle.schedule.specs.Links.{noThread, firstOf, rightIn, leftAfter, laid}
+use Rattle.schedule.specs.Links.{noThread, headOf, rightIn, leftAfter, laid}
 use Rattle.order.proofs.Lists.{firsts-length, firsts-at}
 use Rattle.links.specs.Code.Steps.{leftThere}
 
@@ -44,7 +44,7 @@ firsts-set f k u x =
 
 -- ---- a thread and its neighbours in a row
 
-pub first-there : (l : List ℕ) (i : ℕ) → i < length l → getD l i 0 ≡ firstOf (drop i l)
+pub first-there : (l : List ℕ) (i : ℕ) → i < length l → getD l i 0 ≡ headOf (drop i l)
 first-there l i h = rw (drop-cons l i 0 h)
 
 pub left-first : (l : List ℕ) (i : ℕ) → i ≡ 0 → noThread ≡ leftThere l i
@@ -74,7 +74,7 @@ laid-start l left right h =
 
 -- the thread at place j comes to those after it
 laid-more : (l left right : List ℕ) (j : ℕ) → LaidFrom l left right (j + 1)
-    → LaidFrom l (set left (getD l j 0) (leftThere l j)) (set right (getD l j 0) (firstOf (drop (j + 1) l))) j
+    → LaidFrom l (set left (getD l j 0) (leftThere l j)) (set right (getD l j 0) (headOf (drop (j + 1) l))) j
 unfolding leftAfter rightIn
 laid-more l left right j h =
     let u : ℕ = getD l j 0 in
@@ -85,11 +85,11 @@ laid-more l left right j h =
     record {
       within = omega (arith, h .within);
       lefts = rw (h .lefts, e, p) (firsts-set (leftAfter u d) noThread u (leftThere l j));
-      rights = rw (h .rights, e) (firsts-set (rightIn d) noThread u (firstOf d));
+      rights = rw (h .rights, e) (firsts-set (rightIn d) noThread u (headOf d));
     }
 
 -- the same with the code's names: x stands right of place j, y left of it
-pub laid-on : (l left right left' right' : List ℕ) (i j x y : ℕ) → i ≡ j + 1 → LaidFrom l left right i → x ≡ firstOf (drop i l) → y ≡ leftThere l j
+pub laid-on : (l left right left' right' : List ℕ) (i j x y : ℕ) → i ≡ j + 1 → LaidFrom l left right i → x ≡ headOf (drop i l) → y ≡ leftThere l j
     → right' ≡ set right (getD l j 0) x → left' ≡ set left (getD l j 0) y → LaidFrom l left' right' j
 laid-on l left right left' right' i j x y e h a b p q = rw (p, q, a, b, e) (laid-more l left right j (rw e at h))
 

@@ -5,7 +5,7 @@ ghost use mathlib.Core.Path.{_≡_};
 ghost use mathlib.Core.List.{_++_};
 ghost use Prim.Native.Nat.{_≤_};
 ghost use lib.ListN.{length, take, drop, set, replicate};
-ghost use Rattle.schedule.specs.Links.{firstOf, laid, linkLast, noThread, walk};
+ghost use Rattle.schedule.specs.Links.{headOf, laid, linkLast, noThread, walk};
 ghost use Rattle.schedule.specs.Actives.{filledFrom, noLinks};
 ghost use Rattle.links.specs.Code.Steps.{leftThere};
 ghost use Rattle.schedule.specs.Sound.{sameLinks};
@@ -59,7 +59,7 @@ fn clear(links: &mut [u16; 1024])
 
 // The thread at place i of a row; NO_THREAD past its end.
 fn thread_at(row: &[u16], i: usize) -> u16
-    ensures { λ r. ⌜ r ≡ firstOf (drop i (now (row .entry))) ⌝ }
+    ensures { λ r. ⌜ r ≡ headOf (drop i (now (row .entry))) ⌝ }
 {
     if i < row.len() { row[i] } else { NO_THREAD }
 }

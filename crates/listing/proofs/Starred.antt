@@ -38,8 +38,8 @@ tableRow c = record { computed = loads (valuesOf (loaded (c .bytes))); expected 
 abbrev pub runRow : Case → Row
 runRow c = record { computed = lists (ranBy never turned (c .bytes) (c .workers) (c .quota) (c .order)); expected = lists (c .listing) }
 
-abbrev pub turnRow : TurnCase → Row
-turnRow c = record { computed = says (saidBy turned c); expected = says (c .values) }
+abbrev pub turnCaseRow : TurnCase → Row
+turnCaseRow c = record { computed = says (saidBy turned c); expected = says (c .values) }
 
 abbrev pub limitRow : RowCase → Row
 limitRow c = record { computed = measures (measuredBy turned c); expected = measures (c .measures) }
@@ -48,7 +48,7 @@ abbrev pub textRow : ListingCase → Row
 textRow c = record { computed = prints (listingOf (c .input)); expected = prints (c .text) }
 
 unfoldable pub starred : List Row
-starred = map tableRow tableCases ++ (map runRow runCases ++ (map turnRow turnCases ++ (map limitRow rowCases ++ map textRow listingCases)))
+starred = map tableRow tableCases ++ (map runRow runCases ++ (map turnCaseRow turnCases ++ (map limitRow rowCases ++ map textRow listingCases)))
 
 abbrev Agree : List Row → Type 0
 Agree l = map (λ (r : Row). r .computed) l ≡ map (λ (r : Row). r .expected) l
@@ -73,6 +73,6 @@ unfolding starred
 starred-worked =
     agree-append (map tableRow tableCases) _ (rows-agree tableRow _ _ loads tableCases refl refl tables-worked)
     (agree-append (map runRow runCases) _ (rows-agree runRow _ _ lists runCases refl refl (worked-turned .0))
-    (agree-append (map turnRow turnCases) _ (rows-agree turnRow _ _ says turnCases refl refl (said-turned .0))
+    (agree-append (map turnCaseRow turnCases) _ (rows-agree turnCaseRow _ _ says turnCases refl refl (said-turned .0))
     (agree-append (map limitRow rowCases) _ (rows-agree limitRow _ _ measures rowCases refl refl (rows-turned .0))
     (rows-agree textRow _ _ prints listingCases refl refl (listings-worked .0)))))

@@ -10,7 +10,7 @@ use Rattle.table.specs.Format.{Table}
 use Rattle.schedule.specs.declared.Run.{Run}
 use Rattle.schedule.specs.Record.{listIn}
 use Rattle.schedule.specs.Threads.{threadLimit}
-use Rattle.schedule.specs.Memory.{memoryOf, peakMemory, Keeps, limit}
+use Rattle.schedule.specs.Memory.{rowMemory, peakMemory, Keeps, limit}
 use Rattle.bounds.proofs.Limit.{MemoryLimit}
 use Rattle.bounds.proofs.ThreadLimit.{ThreadLimit}
 use Rattle.pace.specs.Pace.{may, took}
@@ -59,7 +59,7 @@ pub record PacedWithin (T : Table) (p K b : ℕ) (row : List ℕ) (r : Run) (P :
 
 pub within-so : {T : Table} {p K b : ℕ} {row : List ℕ} {r : Run} {P : List ℕ} → Paces p b row P → MemoryLimit T p K b r row → ThreadLimit T p K b r row → PacedWithin T p K b row r P
 within-so {T} {p} {K} {b} {row} {r} {P} c m t =
-    let within : (memoryOf T K row ≤ limit T p K b) × (peakMemory T K row ≤ limit T p K b) = m .bounded row [] (sym (append-nil row)) (c .keeps) in
+    let within : (rowMemory T K row ≤ limit T p K b) × (peakMemory T K row ≤ limit T p K b) = m .bounded row [] (sym (append-nil row)) (c .keeps) in
     record {
       keeps = c .keeps;
       stands = c .stands;

@@ -16,7 +16,7 @@ use Rattle.filling.specs.Filled.{filledOut}
 use Rattle.soundness.specs.Tested.{begunInto}
 use Rattle.wivakkol.specs.Lent.{lentBegin}
 use Rattle.claims.specs.LentCalls.{moving, opening, tableThatRuns, lentMove, lentCall}
-use Rattle.claims.proofs.Shaped.{Shaped, bytesOf, wordsOf, numbersOf, sumsOf, in-blocks}
+use Rattle.claims.proofs.Shaped.{Shaped, byteBlock, wordsOf, numbersOf, sumsOf, in-blocks}
 use Rattle.claims.proofs.Sizes.{begin-shaped, call-shaped}
 use Rattle.claims.proofs.LentSays.{BeginSays, OpenSays, begin-is, open-is, lentOf, begin-says, open-says}
 use Rattle.claims.proofs.FromC.{runs-so}
@@ -136,12 +136,12 @@ pace-says : (p b : ℕ) (l : List ℕ) → PaceSays p b l (startPace p b l)
 pace-says p b l = record { lifetimes = ([], tt); pace = lentOf l; exit = (p, (b, (lentOf (startPace p b l .pace), tt))); lent-pace = refl; left = refl; promised = refl }
 
 abbrev refsOf : List ℕ → Memory → List ℕ → PacedRefs
-refsOf s M P = record { table = lentOf s; bytes = lentOf (bytesOf M); words = lentOf (wordsOf M); numbers = lentOf (numbersOf M); sums = lentOf (sumsOf M); pace = lentOf P; row = lentOf [] }
+refsOf s M P = record { table = lentOf s; bytes = lentOf (byteBlock M); words = lentOf (wordsOf M); numbers = lentOf (numbersOf M); sums = lentOf (sumsOf M); pace = lentOf P; row = lentOf [] }
 
 -- an answer is what stands in the blocks of its memory
 whole : (k : Kept) → Shaped (k .answer .memory)
     → kept (answer (k .answer .number) (k .answer .row)
-    (memoryOf (bytesOf (k .answer .memory)) (wordsOf (k .answer .memory)) (numbersOf (k .answer .memory)) (sumsOf (k .answer .memory)))) (k .pace) ≡ k
+    (memoryOf (byteBlock (k .answer .memory)) (wordsOf (k .answer .memory)) (numbersOf (k .answer .memory)) (sumsOf (k .answer .memory)))) (k .pace) ≡ k
 whole k h = ap (λ (N : Memory). kept (answer (k .answer .number) (k .answer .row) N) (k .pace)) (in-blocks (k .answer .memory) h)
 
 module _ (s : List ℕ) (M : Memory) (P : List ℕ) (h : Shaped M) where
@@ -152,7 +152,7 @@ module _ (s : List ℕ) (M : Memory) (P : List ℕ) (h : Shaped M) where
       record {
         lifetimes = ([], ([], ([], ([], ([], ([], ([], tt)))))));
         refs = refsOf s M P;
-        exit = (lentOf s, (w, (lentOf (bytesOf N), (lentOf (wordsOf N), (lentOf (numbersOf N), (lentOf (sumsOf N), (lentOf (k .pace), (lentOf (k .answer .row), tt))))))));
+        exit = (lentOf s, (w, (lentOf (byteBlock N), (lentOf (wordsOf N), (lentOf (numbersOf N), (lentOf (sumsOf N), (lentOf (k .pace), (lentOf (k .answer .row), tt))))))));
         lent-table = refl;
         lent-run = in-blocks M h;
         lent-pace = refl;
@@ -169,7 +169,7 @@ module _ (s : List ℕ) (M : Memory) (P : List ℕ) (h : Shaped M) where
         refs = refsOf s M P;
         order = lentOf l;
         lent-order = refl;
-        exit = (lentOf s, (lentOf l, (lentOf (bytesOf N), (lentOf (wordsOf N), (lentOf (numbersOf N), (lentOf (sumsOf N), (lentOf (k .pace), (lentOf (k .answer .row), tt))))))));
+        exit = (lentOf s, (lentOf l, (lentOf (byteBlock N), (lentOf (wordsOf N), (lentOf (numbersOf N), (lentOf (sumsOf N), (lentOf (k .pace), (lentOf (k .answer .row), tt))))))));
         lent-table = refl;
         lent-run = in-blocks M h;
         lent-pace = refl;
@@ -184,7 +184,7 @@ module _ (s : List ℕ) (M : Memory) (P : List ℕ) (h : Shaped M) where
       record {
         lifetimes = ([], ([], ([], ([], ([], ([], ([], tt)))))));
         refs = refsOf s M P;
-        exit = (lentOf s, (limit, (lentOf (bytesOf N), (lentOf (wordsOf N), (lentOf (numbersOf N), (lentOf (sumsOf N), (lentOf (k .pace), (lentOf (k .answer .row), tt))))))));
+        exit = (lentOf s, (limit, (lentOf (byteBlock N), (lentOf (wordsOf N), (lentOf (numbersOf N), (lentOf (sumsOf N), (lentOf (k .pace), (lentOf (k .answer .row), tt))))))));
         lent-table = refl;
         lent-run = in-blocks M h;
         lent-pace = refl;

@@ -16,7 +16,7 @@ use Rattle.schedule.specs.declared.Report.the-variants.{Finished, Spent, Refuse
 use Rattle.schedule.specs.Turn.{unsound, rootEnded, noWorker, turnChecks, stepRun, passedIn, turned}
 use Rattle.schedule.specs.Runs.{moved}
 use Rattle.schedule.specs.Answers.{finished, spent, Values, replyValues, passing, beginningValues, turningValues, reportValues}
-use Rattle.schedule.specs.Values.{valuesWith, turnValues, runChecks, firstThat}
+use Rattle.schedule.specs.Values.{saidValues, turnValues, runChecks, firstThat}
 use Rattle.schedule.proofs.Runs.Values.{turn-values}
 use Rattle.pace.specs.Pace.{may, nextIn}
 use Rattle.pacing.specs.declared.Pace.{Pace}
@@ -52,7 +52,7 @@ try-more (d ∷ l) c i = go (d .applies i) (try-more l c i)
 abbrev saidOf : Run → ℕ → Found → Values
 saidOf r w found =
     let reply : Values = replyValues (stepRun r w .reply) in
-    passing (ifFound found 0 (passedIn r w)) (valuesWith found (reply .said) (reply .thread) (reply .value) (ifFound found 0 1))
+    passing (ifFound found 0 (passedIn r w)) (saidValues found (reply .said) (reply .thread) (reply .value) (ifFound found 0 1))
 
 module _ (r : Run) (P : Pace) (w : ℕ) where
   found-more : tryAt (turnChecks r w ++ (wouldBreak P w ∷ [])) 0 ≡ orElse (tryAt (turnChecks r w) 0) (pick (not (may (P .numbers) w)) (At (refusal 60 0)) Nothing)
@@ -76,7 +76,7 @@ module _ (r : Run) (P : Pace) (w : ℕ) where
 
 -- the values of a run that stops after n of k turns, i turns having gone before: what those left, and the worker of the next
 abbrev stopped : ℕ → ℕ → ℕ → Beside → ℕ → Values
-stopped i n k g w = valuesWith (pick (eqb n k || rootEnded (g .run)) Nothing (tryAt (pacedChecks g w) 0)) (pick (rootEnded (g .run)) finished spent) 0 0 (i + n)
+stopped i n k g w = saidValues (pick (eqb n k || rootEnded (g .run)) Nothing (tryAt (pacedChecks g w) 0)) (pick (rootEnded (g .run)) finished spent) 0 0 (i + n)
 
 stopped-next : (i n k : ℕ) (g : Beside) (w : ℕ) → stopped i (suc n) (suc k) g w ≡ stopped (suc i) n k g w
 stopped-next i n k g w = rw (eqb·suc-suc, add-suc, suc-add)
@@ -102,7 +102,7 @@ module _ (f : ℕ → List ℕ → ℕ) (k : ℕ) (g : Beside) where
   taken-none e = rw e
 
   stop-now : (i : ℕ) → pacedStops g (whose f 0 g) ≡ true
-      → from i f (suc k) g ≡ valuesWith (pick (rootEnded (g .run)) Nothing (tryAt (pacedChecks g (whose f 0 g)) 0)) (pick (rootEnded (g .run)) finished spent) 0 0 i
+      → from i f (suc k) g ≡ saidValues (pick (rootEnded (g .run)) Nothing (tryAt (pacedChecks g (whose f 0 g)) 0)) (pick (rootEnded (g .run)) finished spent) 0 0 i
   unfolding afterPaced
   stop-now i e = ap (λ (n : ℕ). stopped i n (suc k) (afterPaced f n g) (whose f n (afterPaced f n g))) (taken-none e) ∙ rw (eqb·zero-suc, add-zero)
 
@@ -159,7 +159,7 @@ drive-values : (who f : ℕ → List ℕ → ℕ) (k i : ℕ) (r : Run) (P : Pac
 unfolding pacedDrive pacedTaken firstThat afterPaced
 drive-values who f zero i r P h = rw add-zero (go (rootEnded r))
   where
-    go : (b : Bool) → reportValues (pick b (Finished i) (Spent i)) ≡ valuesWith Nothing (pick b finished spent) 0 0 i
+    go : (b : Bool) → reportValues (pick b (Finished i) (Spent i)) ≡ saidValues Nothing (pick b finished spent) 0 0 i
     go true = refl
     go false = refl
 drive-values who f (suc k) i r P h =

@@ -24,18 +24,18 @@ use Rattle.pacing.specs.Pacing.{pace, paceBegun, beginPace, isTaken, pac
 
 -- ---- a beginning
 
-abbrev begunAs : Paced → PaceBegun
-begunAs k = pick (eqb (k .number) 0) (paceBegun Begun (pace (k .pace))) (paceBegun (refusedBegin (refusal (k .number) 0)) (pace (k .pace)))
+abbrev paceBegunAs : Paced → PaceBegun
+paceBegunAs k = pick (eqb (k .number) 0) (paceBegun Begun (pace (k .pace))) (paceBegun (refusedBegin (refusal (k .number) 0)) (pace (k .pace)))
 
 module _ (p b : ℕ) where
   abbrev started : Paced
   started = startPace p b (replicate 260 0)
 
-  begun-so : begunAs started ≡ beginPace p b
+  begun-so : paceBegunAs started ≡ beginPace p b
   unfolding startPace beginPace
   begun-so = go (ltb 0 p && leb p 16) refl (ltb 0 b && leb b 65535) refl
     where
-      go : (x : Bool) → (ltb 0 p && leb p 16) ≡ x → (y : Bool) → (ltb 0 b && leb b 65535) ≡ y → begunAs started ≡ beginPace p b
+      go : (x : Bool) → (ltb 0 p && leb p 16) ≡ x → (y : Bool) → (ltb 0 b && leb b 65535) ≡ y → paceBegunAs started ≡ beginPace p b
       go true e true f = rw (e, f)
       go true e false f = rw (e, f)
       go false e y f = rw e
@@ -54,10 +54,10 @@ module _ (p b : ℕ) where
     start-small = omega (arith, ap (λ (k : Paced). k .number) e, small-so)
 
     pub start-refused : (number ≡ 0 → ⊥) → paceBegun (refusedBegin (refusal number 0)) (pace l) ≡ beginPace p b
-    start-refused d = (rw (ne-eqb number 0 d) refl) ∙ ap begunAs e ∙ begun-so
+    start-refused d = (rw (ne-eqb number 0 d) refl) ∙ ap paceBegunAs e ∙ begun-so
 
     pub start-begun : number ≡ 0 → paceBegun Begun (pace l) ≡ beginPace p b
-    start-begun d = (rw (eq-eqb number 0 d) refl) ∙ ap begunAs e ∙ begun-so
+    start-begun d = (rw (eq-eqb number 0 d) refl) ∙ ap paceBegunAs e ∙ begun-so
 
 -- a pace that is begun is one begun in memory
 pub begun-started : (p b : ℕ) → beginPace p b .answer ≡ Begun → (startPace p b (replicate 260 0) .number ≡ 0) × (beginPace p b .pace .numbers ≡ startPace p b (replicate 260 0) .pace)

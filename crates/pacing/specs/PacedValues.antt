@@ -13,7 +13,7 @@ use Rattle.schedule.specs.declared.Run.{Run}
 use Rattle.schedule.specs.Turn.{unsound, rootEnded, turnChecks, stepRun, passedIn}
 use Rattle.schedule.specs.Runs.{moved}
 use Rattle.schedule.specs.Answers.{begun, finished, spent, Values, replyValues, passing}
-use Rattle.schedule.specs.Values.{valuesWith, runChecks, firstThat}
+use Rattle.schedule.specs.Values.{saidValues, runChecks, firstThat}
 use Rattle.pace.specs.Pace.{may, nextIn}
 use Rattle.pacing.specs.declared.Pace.{Pace}
 use Rattle.pacing.specs.Pacing.{counted}
@@ -23,7 +23,7 @@ unfoldable pub paceChecks : ℕ → ℕ → List Check
 paceChecks p b = record { number = 20; applies = λ i. not (ltb 0 p && leb p 16) } ∷ record { number = 41; applies = λ i. not (ltb 0 b && leb b 65535) } ∷ []
 
 unfoldable pub paceValues : ℕ → ℕ → Values
-paceValues p b = valuesWith (tryAt (paceChecks p b) 0) begun 0 0 0
+paceValues p b = saidValues (tryAt (paceChecks p b) 0) begun 0 0 0
 
 -- 60: the turn would break the rule with b
 abbrev pub wouldBreak : Pace → ℕ → Check
@@ -34,7 +34,7 @@ unfoldable pub pacedTurnValues : Run → Pace → ℕ → Values
 pacedTurnValues r P w =
     let found : Found = tryAt (turnChecks r w ++ (wouldBreak P w ∷ [])) 0 in
     let reply : Values = replyValues (stepRun r w .reply) in
-    passing (ifFound found 0 (passedIn r w)) (valuesWith found (reply .said) (reply .thread) (reply .value) (ifFound found 0 1))
+    passing (ifFound found 0 (passedIn r w)) (saidValues found (reply .said) (reply .thread) (reply .value) (ifFound found 0 1))
 
 -- ---- the turns of a run, of which the one after n turns is that of worker `who n`, from the pace's numbers too
 
@@ -74,7 +74,7 @@ pacedRunValues who k g =
     let left : Beside = afterPaced who n g in
     let before : Found = tryAt (record { number = 32; applies = λ i. unsound (g .run) } ∷ []) 0 in
     let after : Found = pick (eqb n k || rootEnded (left .run)) Nothing (tryAt (pacedChecks left (who n (left .pace .numbers))) 0) in
-    valuesWith (orElse before after) (pick (rootEnded (left .run)) finished spent) 0 0 (ifFound before 0 n)
+    saidValues (orElse before after) (pick (rootEnded (left .run)) finished spent) 0 0 (ifFound before 0 n)
 
 unfoldable pub pacedListValues : Run → Pace → List ℕ → Values
 pacedListValues r P l = pacedRunValues (λ i n. getD l i 0) (length l) (beside r P)

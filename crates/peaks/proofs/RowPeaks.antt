@@ -4,7 +4,7 @@ use mathlib.Core.List.{List, List·Memᴰ}
 use Rattle.table.specs.Format.{Table}
 use Rattle.schedule.specs.declared.Reply.{Reply}
 use Rattle.schedule.specs.Begin.{startState}
-use Rattle.schedule.specs.Memory.{rowState, replies, memoryOf}
+use Rattle.schedule.specs.Memory.{rowState, replies, rowMemory}
 use Rattle.order.proofs.Lawful.{Lawful}
 use Rattle.order.proofs.Lists.{Below}
 use Rattle.schedule.proofs.Preservation.Starts.{start-facts}
@@ -17,14 +17,14 @@ use Rattle.peaks.proofs.Unpreempted.{NoQuota, unpreempted-start, unpree
 use Rattle.peaks.proofs.Resting.{rest-held}
 
 module _ (T : Table) (l : Lawful T) (p K : ℕ) (few : p ≤ 16) where
-  pub row-peak : (row : List ℕ) → Below p row → memoryOf T K row ≤ workersPeak T p
+  pub row-peak : (row : List ℕ) → Below p row → rowMemory T K row ≤ workersPeak T p
   unfolding workersPeak
   row-peak row h =
       rw (row-held T l p K few row h)
       at (peak-held T l p K (rowState T K (startState T) row) (row-facts T l p K few (startState T) (start-facts T l p K) row h) _ (row-light T l p K few row h))
 
   module _ (covers : stretch T K ≤ K) where
-    pub row-rests : (row : List ℕ) → Below p row → memoryOf T K row ≤ restingPeak T p
+    pub row-rests : (row : List ℕ) → Below p row → rowMemory T K row ≤ restingPeak T p
     unfolding restingPeak
     row-rests row h =
         let f = start-facts T l p K in

@@ -25,7 +25,7 @@ use Rattle.schedule.specs.Record.{maxWorkers}
 use Rattle.order.proofs.Lawful.{Lawful, lawful}
 use Rattle.quota.specs.declared.Quoted.{Quoted}
 use Rattle.quota.specs.declared.Quoted.the-variants.{Given, Refused}
-use Rattle.quota.specs.Quota.{leastQuota, costOf, mostWithin, mostQuota, noQuota, maxGap, quotaPasses, answeredBy, quoted, valuesOf, valuesWith, valuesFor}
+use Rattle.quota.specs.Quota.{leastQuota, costOf, mostWithin, mostQuota, noQuota, maxGap, quotaPasses, answeredBy, quoted, valuesOf, quotaValuesWith, valuesFor}
 use Rattle.quota.specs.Code.Steps.{Accepted, ownAnswer}
 use Rattle.quota.proofs.Answers.{found-own}
 
@@ -97,7 +97,7 @@ unfolding quoted ownAnswer
 own-whole s p b M r = rw (found-own s p b M, passes-rules s .1 r)
 
 -- its values are those that the checks give
-values-found : (f : Found) (K : ℕ) → valuesOf (answeredBy f K) ≡ valuesWith f K
+values-found : (f : Found) (K : ℕ) → valuesOf (answeredBy f K) ≡ quotaValuesWith f K
 values-found Nothing K = refl
 values-found (At r) K = refl
 

@@ -112,8 +112,8 @@ valuesOf (Given K) = record { number = 0; place = 0; quota = K }
 valuesOf (Refused r) = record { number = r .number; place = r .place; quota = 0 }
 
 -- the same from the checks and the numbers alone
-abbrev pub valuesWith : Found → ℕ → QuotaValues
-valuesWith found K = record { number = foundNumber found; place = foundPlace found; quota = ifFound found 0 K }
+abbrev pub quotaValuesWith : Found → ℕ → QuotaValues
+quotaValuesWith found K = record { number = foundNumber found; place = foundPlace found; quota = ifFound found 0 K }
 
 unfoldable pub valuesFor : List ℕ → ℕ → ℕ → ℕ → QuotaValues
-valuesFor s p b M = valuesWith (firstFound (quotaPasses s p b M)) (mostQuota (tableOf s) p b M)
+valuesFor s p b M = quotaValuesWith (firstFound (quotaPasses s p b M)) (mostQuota (tableOf s) p b M)

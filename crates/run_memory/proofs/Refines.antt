@@ -40,7 +40,7 @@ use Rattle.array_machine.specs.Packed.{packedOf}
 use Rattle.array_machine.proofs.Reading.{own-table}
 use Rattle.array_machine.proofs.Packed.{Carries, Goes, turn-goes}
 use Rattle.array_machine.proofs.Answers.{steady-full, steady-room, refusedAs, turned-unsound, turned-none, turned-over, turned-taken, root-over, root-open, passed-along}
-use Rattle.run_memory.specs.Memory.{Memory, workerFrom, workerIn, movedIn, memoryAfter, turnRow, noRow, Answer, answer, hindrance, Told, told, turnLeft, turnIn, passedOver, lentTurn}
+use Rattle.run_memory.specs.Memory.{Memory, workerFrom, workerIn, movedIn, memoryAfter, replyRow, noRow, Answer, answer, hindrance, Told, told, turnLeft, turnIn, passedOver, lentTurn}
 use Rattle.run_memory.specs.Stands.{truths, workersFrom, workersIn, settled, runIn, Stands, valuesRow}
 
 -- ---- the workers
@@ -121,7 +121,7 @@ taken-number (Done t a) k = refl
 taken-number (Quota t y) k = refl
 taken-number (Wait t c) k = refl
 
-taken-row : (x : Reply) (k : ℕ) → turnRow x k ≡ valuesRow (turningValues (Taken x k))
+taken-row : (x : Reply) (k : ℕ) → replyRow x k ≡ valuesRow (turningValues (Taken x k))
 taken-row Idle k = refl
 taken-row (Done t a) k = refl
 taken-row (Quota t y) k = refl
@@ -143,10 +143,10 @@ module _ (t : Told) (k : ℕ) where
       go true e = eqb-true _ _ e ∙ taken-number (t .reply) k
       go false e = refl
 
-  said-row : pick (eqb (t .number) 0) (turnRow (t .reply) k) noRow ≡ valuesRow (turningValues (answered (eqb (t .number) 0)))
+  said-row : pick (eqb (t .number) 0) (replyRow (t .reply) k) noRow ≡ valuesRow (turningValues (answered (eqb (t .number) 0)))
   said-row = go (eqb (t .number) 0)
     where
-      go : (b : Bool) → pick b (turnRow (t .reply) k) noRow ≡ valuesRow (turningValues (answered b))
+      go : (b : Bool) → pick b (replyRow (t .reply) k) noRow ≡ valuesRow (turningValues (answered b))
       go true = taken-row (t .reply) k
       go false = refl
 

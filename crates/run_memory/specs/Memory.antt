@@ -77,8 +77,8 @@ saidCode finished = 6
 saidCode spent = 7
 
 -- of a turn: the place of a refusal, which is 0; what is said, with the thread and the action, amount or child; how many threads stood left of one taken
-abbrev pub turnRow : Reply → ℕ → List ℕ
-turnRow x passed = let v = replyValues x in 0 ∷ saidCode (v .said) ∷ v .thread ∷ v .value ∷ passed ∷ []
+abbrev pub replyRow : Reply → ℕ → List ℕ
+replyRow x passed = let v = replyValues x in 0 ∷ saidCode (v .said) ∷ v .thread ∷ v .value ∷ passed ∷ []
 
 abbrev pub noRow : List ℕ
 noRow = 0 ∷ 0 ∷ 0 ∷ 0 ∷ 0 ∷ []
@@ -142,4 +142,4 @@ passedOver M w = passedFrom (workerIn M w .holds) (M .arrays .status) (M .arrays
 unfoldable pub lentTurn : List ℕ → ℕ → Memory → Answer
 lentTurn s w M =
     let t : Told = turnIn s w M in
-    answer (t .number) (pick (eqb (t .number) 0) (turnRow (t .reply) (passedOver M w)) noRow) (t .memory)
+    answer (t .number) (pick (eqb (t .number) 0) (replyRow (t .reply) (passedOver M w)) noRow) (t .memory)

@@ -2,10 +2,10 @@
 use crate::runs::Stop;
 use schedule::Reply;
 ghost use mathlib.Core.Path.{_≡_};
-ghost use Rattle.run_memory.specs.Memory.{saidCode, turnRow, saidOf, runRow};
+ghost use Rattle.run_memory.specs.Memory.{saidCode, replyRow, saidOf, runRow};
 
 pub fn put_reply(row: &mut [u64; 5], reply: Reply, passed: u16)
-    ensures { λ _. ⌜ now (row .exit) ≡ turnRow reply passed ⌝ }
+    ensures { λ _. ⌜ now (row .exit) ≡ replyRow reply passed ⌝ }
 {
     match reply {
         Reply::Idle => {

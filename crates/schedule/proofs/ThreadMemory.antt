@@ -23,7 +23,7 @@ use Rattle.schedule.specs.Machine.{State, unborn, ended, nextOf, statusO
 use Rattle.schedule.specs.Record.{stateOf, tableIn}
 use Rattle.schedule.specs.Begin.{startState}
 use Rattle.schedule.specs.Sound.{Steady, joinedIn, shareIn, balanceTo, isDone, progress, isJoined, share}
-use Rattle.schedule.specs.Memory.{rowState, memoryOf}
+use Rattle.schedule.specs.Memory.{rowState, rowMemory}
 use Rattle.order.proofs.Lawful.{Lawful}
 use Rattle.order.proofs.Words.{never-true}
 use Rattle.order.proofs.Totals.{sumTo-front}
@@ -148,7 +148,7 @@ module _ (r : Run) (h : Steady r) where
 
 -- after any row of turns from the beginning the amounts come to the row's memory, which is read off its replies alone
 pub row-total : (T : Table) → Lawful T → (p K : ℕ) → p ≤ 16 → (row : List ℕ) → ((w : ℕ) → List·Memᴰ w row → w < p)
-    → sumTo (amountOf (rowState T K (startState T) row)) 1024 ≡ memoryOf T K row
+    → sumTo (amountOf (rowState T K (startState T) row)) 1024 ≡ rowMemory T K row
 row-total T l p K few row h =
     let f : Facts T p K (startState T) = start-facts T l p K in
     amounts-total T l p K (rowState T K (startState T) row) (row-facts T l p K few (startState T) f row h) ∙ row-held T l p K few row h

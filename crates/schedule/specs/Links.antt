@@ -34,14 +34,14 @@ listOf k = walk noThread (k .right) (k .head)
 -- ---- laying
 
 -- the leftmost thread of a list: "as leftmost when the list is empty", 1,024
-abbrev pub firstOf : List ℕ → ℕ
-firstOf [] = noThread
-firstOf (t ∷ l) = t
+abbrev pub headOf : List ℕ → ℕ
+headOf [] = noThread
+headOf (t ∷ l) = t
 
 -- the right neighbour of thread t in a list; noThread for the last, and "on both sides for a thread not in the list"
 unfoldable pub rightIn : List ℕ → ℕ → ℕ
 rightIn [] t = noThread
-rightIn (u ∷ l) t = pick (eqb u t) (firstOf l) (rightIn l t)
+rightIn (u ∷ l) t = pick (eqb u t) (headOf l) (rightIn l t)
 
 -- its left neighbour, where y stands before the list
 unfoldable pub leftAfter : ℕ → List ℕ → ℕ → ℕ
@@ -52,7 +52,7 @@ abbrev pub leftIn : List ℕ → ℕ → ℕ
 leftIn l t = leftAfter noThread l t
 
 abbrev pub laid : List ℕ → Links
-laid l = record { left = firsts (leftIn l) 0 noThread; right = firsts (rightIn l) 0 noThread; head = firstOf l }
+laid l = record { left = firsts (leftIn l) 0 noThread; right = firsts (rightIn l) 0 noThread; head = headOf l }
 
 -- the links describe the list
 pub record Linked (left right : List ℕ) (head : ℕ) (l : List ℕ) : Type 0 where
@@ -60,7 +60,7 @@ pub record Linked (left right : List ℕ) (head : ℕ) (l : List ℕ) : Type 0 w
   pub right-size : length right ≡ noThread
   pub lefts : (t : ℕ) → t < noThread → getD left t 0 ≡ leftIn l t
   pub rights : (t : ℕ) → t < noThread → getD right t 0 ≡ rightIn l t
-  pub leftmost : head ≡ firstOf l
+  pub leftmost : head ≡ headOf l
 
 abbrev pub LinkedAs : Links → List ℕ → Type 0
 LinkedAs k l = Linked (k .left) (k .right) (k .head) l

@@ -36,14 +36,14 @@ unfoldable pub sumReplies : (ℕ → ℕ) → List Reply → ℕ
 sumReplies own [] = 0
 sumReplies own (x ∷ l) = ofReply own x + sumReplies own l
 
--- the sum of the arguments of the allocs done in a row, `doneIn allocOf`, and of the frees done, `doneIn freeOf`
-abbrev pub doneIn : (Table → ℕ → ℕ) → Table → ℕ → List ℕ → ℕ
-doneIn own T K row = sumReplies (own T) (replies T K (startState T) row)
+-- the sum of the arguments of the allocs done in a row, `rowSum allocOf`, and of the frees done, `rowSum freeOf`
+abbrev pub rowSum : (Table → ℕ → ℕ) → Table → ℕ → List ℕ → ℕ
+rowSum own T K row = sumReplies (own T) (replies T K (startState T) row)
 
 -- "memory held is the sum of the arguments of the allocs done, less that of the frees done". The difference never stops at 0: the frees done are at most the allocs done (`row-balanced`,
 -- proofs/Runs/Rows, and the field `balanced` of the limit, crates/bounds/proofs/Limit).
-unfoldable pub memoryOf : Table → ℕ → List ℕ → ℕ
-memoryOf T K row =
+unfoldable pub rowMemory : Table → ℕ → List ℕ → ℕ
+rowMemory T K row =
     let l : List Reply = replies T K (startState T) row in
     sumReplies (allocOf T) l - sumReplies (freeOf T) l
 
@@ -54,7 +54,7 @@ frontRows (w ∷ l) = [] ∷ map (w ∷_) (frontRows l)
 
 -- "its greatest value after any front part of the row, the empty one included"
 unfoldable pub peakMemory : Table → ℕ → List ℕ → ℕ
-peakMemory T K row = greatest (memoryOf T K) (frontRows row)
+peakMemory T K row = greatest (rowMemory T K) (frontRows row)
 
 -- ---- the rule with b
 

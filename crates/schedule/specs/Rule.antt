@@ -22,7 +22,7 @@ use Rattle.order.specs.Firsts.{firsts}
 use Rattle.schedule.specs.Links.{walk, rightIn}
 use Rattle.order.specs.Words.{allIn}
 use Rattle.schedule.specs.Turn.{rootEnded, noWorker, stepRun}
-use Rattle.schedule.specs.Memory.{replies, sumReplies, memoryOf, frontRows, peakMemory, countIn, limit}
+use Rattle.schedule.specs.Memory.{replies, sumReplies, rowMemory, frontRows, peakMemory, countIn, limit}
 use Rattle.schedule.specs.declared.Run.{Run}
 use Rattle.schedule.specs.declared.Turned.{Turned}
 use Rattle.schedule.specs.Listing.{Last, done, notDone}
@@ -124,5 +124,5 @@ abbrev pub Measured : (Run → ℕ → Turned) → List RowCase → Type 0
 Measured turn l = map (measuredBy turn) l ≡ map (λ (c : RowCase). c .measures) l
 
 pub rows-worked : Measured turnedSound rowCases × Measured turnedSound ownRows
-unfolding rowCases ownRows twoPairs sumTo sumOver greatest anyBelow codeOf kindOf is tableOf tryAt tryFrom tryPass firstFound entryWrong totalWrong ownerBelow kindUnknown argumentWrong endMisplaced forkedBelow forkedBefore openBefore joinNotLatest endWithOpen neverForked allocOf freeOf wholeWithin balance balanceBelow0 passes serialWithin fronts heldAfter peakOf S1 forkBelow forkOf beforeIt joinedEnd dependsOn levelWithin D leftOf without waitsFor woken actBy act leftmost taken turnFree turnOf setOf big overfull filledOut firsts walk rightIn startState startRun begin allIn rootEnded noWorker stepRun replies sumReplies memoryOf frontRows peakMemory countIn limit untilNext atMost keeps
+unfolding rowCases ownRows twoPairs sumTo sumOver greatest anyBelow codeOf kindOf is tableOf tryAt tryFrom tryPass firstFound entryWrong totalWrong ownerBelow kindUnknown argumentWrong endMisplaced forkedBelow forkedBefore openBefore joinNotLatest endWithOpen neverForked allocOf freeOf wholeWithin balance balanceBelow0 passes serialWithin fronts heldAfter peakOf S1 forkBelow forkOf beforeIt joinedEnd dependsOn levelWithin D leftOf without waitsFor woken actBy act leftmost taken turnFree turnOf setOf big overfull filledOut firsts walk rightIn startState startRun begin allIn rootEnded noWorker stepRun replies sumReplies rowMemory frontRows peakMemory countIn limit untilNext atMost keeps
 rows-worked = (refl, refl)

@@ -18,8 +18,8 @@ use Rattle.schedule.specs.Runs.{moved}
 use Rattle.schedule.specs.Answers.{Said, nothing, begun, finished, spent, Values, replyValues, passing}
 
 -- number and place of what checks have found; where they have found nothing, what is said, with the thread and the action, amount or child that it names; the turns taken
-abbrev pub valuesWith : Found → Said → ℕ → ℕ → ℕ → Values
-valuesWith found x thread value turns =
+abbrev pub saidValues : Found → Said → ℕ → ℕ → ℕ → Values
+saidValues found x thread value turns =
     record {
       number = foundNumber found;
       place = foundPlace found;
@@ -34,14 +34,14 @@ valuesWith found x thread value turns =
 
 -- the table's checks, then 20, 21 and 44
 unfoldable pub beginValues : List ℕ → ℕ → ℕ → Values
-beginValues s p K = valuesWith (firstFound (passes s ++ beginPasses (tableOf s) p K)) begun 0 0 0
+beginValues s p K = saidValues (firstFound (passes s ++ beginPasses (tableOf s) p K)) begun 0 0 0
 
 -- 32, 30, 31, or what the machine's reply says, with how many threads it passed over; a refused turn is not taken
 unfoldable pub turnValues : Run → ℕ → Values
 turnValues r w =
     let found : Found = tryAt (turnChecks r w) 0 in
     let reply : Values = replyValues (stepRun r w .reply) in
-    passing (ifFound found 0 (passedIn r w)) (valuesWith found (reply .said) (reply .thread) (reply .value) (ifFound found 0 1))
+    passing (ifFound found 0 (passedIn r w)) (saidValues found (reply .said) (reply .thread) (reply .value) (ifFound found 0 1))
 
 -- ---- the turns of a run, of which the one after n turns is worker `who n`'s
 
@@ -79,7 +79,7 @@ stoppedBy who k r =
 unfoldable pub runValues : Found → (ℕ → ℕ) → ℕ → Run → Values
 runValues before who k r =
     let n : ℕ = turnsTaken who k r in
-    valuesWith (orElse before (stoppedBy who k r)) (pick (rootEnded (afterTurns who n r)) finished spent) 0 0 (ifFound before 0 n)
+    saidValues (orElse before (stoppedBy who k r)) (pick (rootEnded (afterTurns who n r)) finished spent) 0 0 (ifFound before 0 n)
 
 -- "Over a list of worker numbers"; "A call over many turns tests this first."
 unfoldable pub listValues : Run → List ℕ → Values

@@ -1,6 +1,6 @@
 -- The peak of p workers with quota K over every list of calls: what is held is at most C and at most CE of the table that runs, whatever the order of the turns, refused calls included.
 --
--- What it cites: `begin`, `afterCalls`, `rowOfCalls`, `memoryOf` and `peakMemory` as the memory limit of demand 3 does (proofs/Limit of crates/bounds); `quotaPeak` is C, `anyQuotaPeak` is C0 and
+-- What it cites: `begin`, `afterCalls`, `rowOfCalls`, `rowMemory` and `peakMemory` as the memory limit of demand 3 does (proofs/Limit of crates/bounds); `quotaPeak` is C, `anyQuotaPeak` is C0 and
 -- `restsUnder` a resting place under K (specs/Off); `needPeak` is CE and `LightNeed` is (W) (specs/Need); `workersPeak`, `stretch` and `restingPeak` are in specs/Peak and specs/Rests of crates/peaks.
 use mathlib.Core.Path.{_≡_, sym, ap, _∙_}
 use Prim.Native.Nat.{ℕ, _-_, _≤_, _<_}
@@ -14,7 +14,7 @@ use Rattle.schedule.specs.declared.Beginning.the-variants.{Begun as started}
 use Rattle.schedule.specs.Machine.{State}
 use Rattle.schedule.specs.Begin.{begin}
 use Rattle.schedule.specs.Calls.{Call, afterCalls, rowOfCalls}
-use Rattle.schedule.specs.Memory.{memoryOf, peakMemory}
+use Rattle.schedule.specs.Memory.{rowMemory, peakMemory}
 use Rattle.order.proofs.Lists.{Below}
 use Rattle.schedule.proofs.Runs.Rows.{row-held, row-highest}
 use Rattle.schedule.proofs.Runs.Histories.{Started, Traced, calls-traced}
@@ -33,7 +33,7 @@ use Rattle.sharp.proofs.QuotaRows.{row-placed, row-off, row-quota, row-
 pub record QuotaLimit (T : Table) (p K : ℕ) (r : Run) (row : List ℕ) : Type 0 where
   pub within : (r .held ≤ quotaPeak T p K) × (r .highest ≤ quotaPeak T p K)
   -- and so after every front part
-  pub bounded : (front rest : List ℕ) → row ≡ front ++ rest → (memoryOf T K front ≤ quotaPeak T p K) × (peakMemory T K front ≤ quotaPeak T p K)
+  pub bounded : (front rest : List ℕ) → row ≡ front ++ rest → (rowMemory T K front ≤ quotaPeak T p K) × (peakMemory T K front ≤ quotaPeak T p K)
   -- every live thread that nobody holds stands at a resting place under K
   pub placed : (t : ℕ) → t < T .threads → Stands (getD (r .status) t 0) → restsUnder T K (getD (r .next) t 0) ≡ true
   -- so at most p threads stand elsewhere
@@ -45,7 +45,7 @@ pub record QuotaLimit (T : Table) (p K : ℕ) (r : Run) (row : List ℕ) : Type 
 pub record NeedLimit (T : Table) (p K : ℕ) (r : Run) (row : List ℕ) : Type 0 where
   pub within : (r .held ≤ needPeak T p K) × (r .highest ≤ needPeak T p K)
   -- and so after every front part
-  pub bounded : (front rest : List ℕ) → row ≡ front ++ rest → (memoryOf T K front ≤ needPeak T p K) × (peakMemory T K front ≤ needPeak T p K)
+  pub bounded : (front rest : List ℕ) → row ≡ front ++ rest → (rowMemory T K front ≤ needPeak T p K) × (peakMemory T K front ≤ needPeak T p K)
   -- no entered unended thread has a weighted load above p − 1
   pub light : LightNeed T p (r .next) (r .status) (p - 1)
   -- it is at most C
@@ -70,7 +70,7 @@ module _ (s : List ℕ) (p K : ℕ) (r : Run) (e : begin s p K ≡ record { answ
   below : Below p (rowOfCalls calls r)
   below = traced .below row [] (sym (append-nil row))
 
-  held : afterCalls calls r .held ≡ memoryOf (tableOf (filledOut s K)) K (rowOfCalls calls r)
+  held : afterCalls calls r .held ≡ rowMemory (tableOf (filledOut s K)) K (rowOfCalls calls r)
   held = ap (λ (x : State). x .held) (traced .state) ∙ row-held T (traced .started .lawful) p K (traced .started .few-workers) row below
 
   highest : afterCalls calls r .highest ≡ peakMemory (tableOf (filledOut s K)) K (rowOfCalls calls r)
@@ -80,7 +80,7 @@ module _ (s : List ℕ) (p K : ℕ) (r : Run) (e : begin s p K ≡ record { answ
   pub quota-limit : QuotaLimit (tableOf (filledOut s K)) p K (afterCalls calls r) (rowOfCalls calls r)
   quota-limit =
       let i : Started s p K r = traced .started in
-      let bounded : (front rest : List ℕ) → row ≡ front ++ rest → (memoryOf T K front ≤ quotaPeak T p K) × (peakMemory T K front ≤ quotaPeak T p K) =
+      let bounded : (front rest : List ℕ) → row ≡ front ++ rest → (rowMemory T K front ≤ quotaPeak T p K) × (peakMemory T K front ≤ quotaPeak T p K) =
       λ front rest d. (
         row-quota T (i .lawful) p K (i .few-workers) front (traced .below front rest d),
         row-quotas T (i .lawful) p K (i .few-workers) front (traced .below front rest d),
@@ -99,7 +99,7 @@ module _ (s : List ℕ) (p K : ℕ) (r : Run) (e : begin s p K ≡ record { answ
   pub need-limit : NeedLimit (tableOf (filledOut s K)) p K (afterCalls calls r) (rowOfCalls calls r)
   need-limit =
       let i : Started s p K r = traced .started in
-      let bounded : (front rest : List ℕ) → row ≡ front ++ rest → (memoryOf T K front ≤ needPeak T p K) × (peakMemory T K front ≤ needPeak T p K) =
+      let bounded : (front rest : List ℕ) → row ≡ front ++ rest → (rowMemory T K front ≤ needPeak T p K) × (peakMemory T K front ≤ needPeak T p K) =
       λ front rest d. (
         row-need T (i .lawful) p K (i .few-workers) front (traced .below front rest d),
         row-needs T (i .lawful) p K (i .few-workers) front (traced .below front rest d),

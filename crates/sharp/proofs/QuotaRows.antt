@@ -15,7 +15,7 @@ use Rattle.table.proofs.Sums.{sumTo-le}
 use Rattle.table.proofs.Levels.{greatest-bound}
 use Rattle.schedule.specs.Machine.{State, unborn, held, ended, statusOf, nextOf}
 use Rattle.schedule.specs.Begin.{startState}
-use Rattle.schedule.specs.Memory.{rowState, memoryOf, frontRows, peakMemory}
+use Rattle.schedule.specs.Memory.{rowState, rowMemory, frontRows, peakMemory}
 use Rattle.schedule.specs.Sound.{liveIn}
 use Rattle.order.specs.Words.{countBelow}
 use Rattle.order.proofs.Lawful.{Lawful}
@@ -34,9 +34,9 @@ use Rattle.sharp.proofs.NeedLaw.{row-need-light}
 use Rattle.sharp.proofs.NeedHeld.{need-held}
 
 -- the greatest amount after a front part is within what bounds them all
-pub peak-within : (T : Table) (K B : ℕ) (row : List ℕ) → ((front rest : List ℕ) → row ≡ front ++ rest → memoryOf T K front ≤ B) → peakMemory T K row ≤ B
+pub peak-within : (T : Table) (K B : ℕ) (row : List ℕ) → ((front rest : List ℕ) → row ≡ front ++ rest → rowMemory T K front ≤ B) → peakMemory T K row ≤ B
 unfolding peakMemory
-peak-within T K B row h = greatest-bound (memoryOf T K) (frontRows row) B (λ front m. let r = front-rest row front m in h front (r .0) (r .1))
+peak-within T K B row h = greatest-bound (rowMemory T K) (frontRows row) B (λ front m. let r = front-rest row front m in h front (r .0) (r .1))
 
 -- at most p threads are off where those that nobody holds are not
 few-off : (T : Table) (p K : ℕ) (st : State) → Facts T p K st → ((t : ℕ) → t < T .threads → Stands (statusOf st t) → restsUnder T K (nextOf st t) ≡ true)
@@ -73,7 +73,7 @@ module _ (T : Table) (l : Lawful T) (p K : ℕ) (few : p ≤ 16) where
   row-off row h = few-off T p K (rowState T K (startState T) row) (row-facts T l p K few (startState T) (start-facts T l p K) row h) (row-placed row h)
 
   -- C
-  pub row-quota : (row : List ℕ) → Below p row → memoryOf T K row ≤ quotaPeak T p K
+  pub row-quota : (row : List ℕ) → Below p row → rowMemory T K row ≤ quotaPeak T p K
   unfolding quotaPeak
   row-quota row h =
       rw (row-held T l p K few row h)
@@ -84,7 +84,7 @@ module _ (T : Table) (l : Lawful T) (p K : ℕ) (few : p ≤ 16) where
   row-quotas row h = peak-within T K (quotaPeak T p K) row (λ front rest e. row-quota front (front-workers (λ w. w < p) row front rest e h))
 
   -- CE
-  pub row-need : (row : List ℕ) → Below p row → memoryOf T K row ≤ needPeak T p K
+  pub row-need : (row : List ℕ) → Below p row → rowMemory T K row ≤ needPeak T p K
   unfolding needPeak
   row-need row h =
       rw (row-held T l p K few row h)

@@ -4,21 +4,21 @@ use Prim.Native.Nat.{ℕ, zero, suc}
 use mathlib.Core.List.{List, [], _∷_, _++_, List·Memᴰ, List·Memᴰ·head, List·Memᴰ·tail}
 use lib.ListN.{getD}
 use borrow.Author.Tests.{eq-eqb, lt-ltb}
-use Rattle.schedule.specs.Links.{noThread, Links, LinkedAs, firstOf, rightIn, leftAfter, lastAfter}
+use Rattle.schedule.specs.Links.{noThread, Links, LinkedAs, headOf, rightIn, leftAfter, lastAfter}
 use Rattle.order.proofs.Lists.{Below}
 use Rattle.schedule.proofs.Linked.Once.{Once}
 use Rattle.schedule.proofs.Linked.Neighbours.{rightIn-here, rightIn-later, leftAfter-later}
 use Rattle.stealing.specs.Stealing.{alongBy}
 
 -- the element at place c along the right links
-along-row : (c : ℕ) (right l : List ℕ) → Once l → Below noThread l → ((t : ℕ) → List·Memᴰ t l → getD right t 0 ≡ rightIn l t) → alongBy c right (firstOf l) ≡ getD l c noThread
+along-row : (c : ℕ) (right l : List ℕ) → Once l → Below noThread l → ((t : ℕ) → List·Memᴰ t l → getD right t 0 ≡ rightIn l t) → alongBy c right (headOf l) ≡ getD l c noThread
 unfolding alongBy Once
 along-row zero right [] o b e = refl
 along-row (suc c) right [] o b e = refl
 along-row zero right (x ∷ l) o b e = refl
 along-row (suc c) right (x ∷ l) o b e =
-    let next : getD right x 0 ≡ firstOf l = e x (List·Memᴰ·head refl) ∙ rightIn-here x l in
-    let rest : alongBy c right (firstOf l) ≡ getD l c noThread =
+    let next : getD right x 0 ≡ headOf l = e x (List·Memᴰ·head refl) ∙ rightIn-here x l in
+    let rest : alongBy c right (headOf l) ≡ getD l c noThread =
     along-row c right l (o .1) (λ t m. b t (List·Memᴰ·tail m)) (λ t m. e t (List·Memᴰ·tail m) ∙ rightIn-later x t l (λ q. o .0 (rw q m))) in
     rw (lt-ltb x noThread (b x (List·Memᴰ·head refl)), next, rest)
 

@@ -20,11 +20,11 @@ use Rattle.table.specs.declared.Found.{Found}
 use Rattle.table.specs.declared.Found.the-variants.{Nothing, At}
 use Rattle.table.specs.declared.Loaded.the-variants.{Accepted, Refused}
 use Rattle.table.proofs.Tests.{no-way}
-use Rattle.table.proofs.Trying.{orElse-assoc, Each, Each-at, firstOf, firstOf-nothing, firstOf-at, Leads, found, found-nothing, found-at, Silent, tryAt-nothing, tryAt-at, Lowest, tryFrom-at, tryPass-nothing}
+use Rattle.table.proofs.Trying.{orElse-assoc, Each, Each-at, firstBy, firstOf-nothing, firstOf-at, Leads, found, found-nothing, found-at, Silent, tryAt-nothing, tryAt-at, Lowest, tryFrom-at, tryPass-nothing}
 
 -- ---- the first check that applies, in any list of passes
 
-firstFound-first : (ps : List Pass) → firstFound ps ≡ firstOf tryPass ps
+firstFound-first : (ps : List Pass) → firstFound ps ≡ firstBy tryPass ps
 unfolding firstFound
 firstFound-first [] = refl
 firstFound-first (p ∷ ps) = rw (firstFound-first ps)

@@ -46,14 +46,14 @@ Each-at P [] h j y e = no-way (cc)
 Each-at P (x ∷ l) h zero y e = let d : x ≡ y = cc in rw d at (h .0)
 Each-at P (x ∷ l) h (suc j) y e = Each-at P l (h .1) j y e
 
-abbrev pub firstOf : {A : Type 0} → (A → Found) → List A → Found
-firstOf f [] = Nothing
-firstOf f (x ∷ l) = orElse (f x) (firstOf f l)
+abbrev pub firstBy : {A : Type 0} → (A → Found) → List A → Found
+firstBy f [] = Nothing
+firstBy f (x ∷ l) = orElse (f x) (firstBy f l)
 
-pub firstOf-nothing : {A : Type 0} (f : A → Found) (l : List A) → (firstOf f l ≡ Nothing) ↔ Each (λ x. f x ≡ Nothing) l
+pub firstOf-nothing : {A : Type 0} (f : A → Found) (l : List A) → (firstBy f l ≡ Nothing) ↔ Each (λ x. f x ≡ Nothing) l
 firstOf-nothing f [] = ((λ h. tt), (λ h. refl))
 firstOf-nothing f (x ∷ l) =
-    Iff·trans (orElse-nothing (f x) (firstOf f l))
+    Iff·trans (orElse-nothing (f x) (firstBy f l))
     ((λ h. (h .0, firstOf-nothing f l .0 (h .1))), (λ h. (h .0, firstOf-nothing f l .1 (h .1))))
 
 -- an element of the list finds it, and those before find nothing
@@ -64,11 +64,11 @@ pub record Leads {A : Type 0} (f : A → Found) (l : List A) (r : Refusal) : Typ
   pub finds : f element ≡ At r
   pub before : (j : ℕ) (y : A) → j < index → getElem? l j ≡ some y → f y ≡ Nothing
 
-pub firstOf-at : {A : Type 0} (f : A → Found) (l : List A) (r : Refusal) → firstOf f l ≡ At r → Leads f l r
+pub firstOf-at : {A : Type 0} (f : A → Found) (l : List A) (r : Refusal) → firstBy f l ≡ At r → Leads f l r
 firstOf-at f [] r h = no-way (cc)
 firstOf-at {A} f (x ∷ l) r h = go (f x) refl (firstOf-at f l r) h
   where
-    go : (g : Found) → f x ≡ g → (firstOf f l ≡ At r → Leads f l r) → orElse g (firstOf f l) ≡ At r → Leads f (x ∷ l) r
+    go : (g : Found) → f x ≡ g → (firstBy f l ≡ At r → Leads f l r) → orElse g (firstBy f l) ≡ At r → Leads f (x ∷ l) r
     go Nothing e ih k =
         record { index = suc (ih k .index); element = ih k .element; there = ih k .there; finds = ih k .finds; before = before }
       where
@@ -95,7 +95,7 @@ pub found-at : (t : Bool) (q r : Refusal) → pick t (At q) Nothing ≡ At r →
 found-at true q r h = (refl, cc)
 found-at false q r h = no-way (cc)
 
-tryAt-first : (cs : List Check) (i : ℕ) → tryAt cs i ≡ firstOf (found i) cs
+tryAt-first : (cs : List Check) (i : ℕ) → tryAt cs i ≡ firstBy (found i) cs
 unfolding tryAt
 tryAt-first [] i = refl
 tryAt-first (c ∷ cs) i = rw (found-else (c .applies i) (refusal (c .number) i) (tryAt cs i), tryAt-first cs i)

@@ -17,7 +17,7 @@ use Rattle.table.specs.declared.Found.{Found}
 use Rattle.table.specs.declared.Found.the-variants.{Nothing, At}
 use Rattle.table.specs.declared.Loaded.{Loaded}
 use Rattle.table.specs.declared.Loaded.the-variants.{Accepted, Refused}
-use Rattle.quota.specs.Quota.{valuesFor, valuesWith, mostQuota, quotaPasses}
+use Rattle.quota.specs.Quota.{valuesFor, quotaValuesWith, mostQuota, quotaPasses}
 use Rattle.quota.specs.Quota.{valuesOf as quotaValuesOf}
 use Rattle.quota.specs.declared.Quoted.{Quoted}
 use Rattle.quota.specs.declared.Quoted.the-variants.{Given}
@@ -66,7 +66,7 @@ module _ (s : List ℕ) (b M : ℕ) where
   unfolding valuesFor
   as-17 p h =
       rw (too-many p h, too-many 17 (omega arith))
-      (unread valuesWith (λ r x y. refl) (firstFound (passes s)) (refusal 20 0) (mostQuota (tableOf s) 17 b M) (mostQuota (tableOf s) p b M))
+      (unread quotaValuesWith (λ r x y. refl) (firstFound (passes s)) (refusal 20 0) (mostQuota (tableOf s) 17 b M) (mostQuota (tableOf s) p b M))
 
 module _ (s : List ℕ) (K : ℕ) where
   most-too-many : (p : ℕ) → 17 ≤ p → mostFound s p K ≡ orElse (firstFound (passes s)) (At (refusal 20 0))

@@ -18,7 +18,7 @@ use Rattle.filling.specs.Filled.{big, filledOut}
 use Rattle.filling.specs.Filling.{fillFound, filledInto}
 use Rattle.soundness.specs.Tested.{beginFound, beginFilling, begunInto}
 use Rattle.soundness.proofs.Fillings.{sized}
-use Rattle.wivakkol.specs.Lent.{startMemory, begunAs, lentBegin}
+use Rattle.wivakkol.specs.Lent.{startMemory, lentBegunAs, lentBegin}
 
 and-false : (b : Bool) → (b && false) ≡ false
 and-false true = refl
@@ -41,7 +41,7 @@ module _ (s : List ℕ) (p K : ℕ) where
 
   -- With 36,868 bytes of room 61 never comes: the call is the request's beginning.
   pub ample-room : (room : ℕ) → 36868 ≤ room
-      → lentBegin s p K room ≡ begunAs (beginFound s p K) false (beginFilling s p K .bytes) (startMemory (filledOut s K) p K)
+      → lentBegin s p K room ≡ lentBegunAs (beginFound s p K) false (beginFilling s p K .bytes) (startMemory (filledOut s K) p K)
   unfolding lentBegin
   ample-room room h = rw (le-ltb room (beginFilling s p K .bytes) (omega (arith, few-bytes)), found-is)
 

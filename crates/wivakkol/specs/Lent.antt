@@ -50,12 +50,12 @@ abbrev pub noRoom : ℕ
 noRoom = 61
 
 -- "A refused beginning hands back the blank record". The row has the place, and the bytes of the filled-out table, 0 where the table as given runs; of the Bool, there is too little room for them.
-abbrev pub begunAs : Found → Bool → ℕ → Memory → Answer
-begunAs (At x) short bytes M = answer (x .number) (x .place ∷ 0 ∷ []) blankMemory
-begunAs Nothing true bytes M = answer noRoom (0 ∷ bytes ∷ []) blankMemory
-begunAs Nothing false bytes M = answer 0 (0 ∷ bytes ∷ []) M
+abbrev pub lentBegunAs : Found → Bool → ℕ → Memory → Answer
+lentBegunAs (At x) short bytes M = answer (x .number) (x .place ∷ 0 ∷ []) blankMemory
+lentBegunAs Nothing true bytes M = answer noRoom (0 ∷ bytes ∷ []) blankMemory
+lentBegunAs Nothing false bytes M = answer 0 (0 ∷ bytes ∷ []) M
 
 -- The checks of a beginning, then 61; the run is of the filled-out table ("Replies, records .. name the filled-out table", N6), which the call puts into the buffer of `room` bytes (`begunInto`,
 -- crates/soundness/specs/Tested).
 unfoldable pub lentBegin : List ℕ → ℕ → ℕ → ℕ → Answer
-lentBegin s p K room = let f = beginFilling s p K in begunAs (f .found) (ltb room (f .bytes)) (f .bytes) (startMemory (filledOut s K) p K)
+lentBegin s p K room = let f = beginFilling s p K in lentBegunAs (f .found) (ltb room (f .bytes)) (f .bytes) (startMemory (filledOut s K) p K)

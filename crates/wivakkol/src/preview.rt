@@ -5,13 +5,13 @@ use run_memory::replies::put_reply;
 use schedule::Reply;
 ghost use mathlib.Core.Path.{_≡_};
 ghost use mathlib.Core.List.{[], _∷_, _++_};
-ghost use Rattle.run_memory.specs.Memory.{turnRow};
+ghost use Rattle.run_memory.specs.Memory.{replyRow};
 ghost use Rattle.run_memory.specs.Blocks.{memoryOf};
 ghost use Rattle.wivakkol.specs.Preview.{preview, lentPreview};
 
 // What the turn would say, and memory held, its highest and the quota left after it.
 fn put_preview(row: &mut [u64; 8], reply: Reply, passed: u16, held: u64, highest: u64, quota: u32)
-    ensures { λ _. ⌜ now (row .exit) ≡ turnRow reply passed ++ (held ∷ highest ∷ quota ∷ []) ⌝ }
+    ensures { λ _. ⌜ now (row .exit) ≡ replyRow reply passed ++ (held ∷ highest ∷ quota ∷ []) ⌝ }
 {
     let mut said: [u64; 5] = [0; 5];
     put_reply(&mut said, reply, passed);

@@ -10,7 +10,7 @@ use Rattle.table.specs.Pass.{refusal}
 use Rattle.schedule.specs.declared.Reply.{Reply}
 use Rattle.schedule.specs.declared.Reply.the-variants.{Idle, Done, Quota, Wait}
 use Rattle.schedule.specs.Answers.{replyValues, reportValues}
-use Rattle.run_memory.specs.Memory.{Memory, turnRow, noRow, Answer, Told}
+use Rattle.run_memory.specs.Memory.{Memory, replyRow, noRow, Answer, Told}
 use Rattle.run_memory.specs.Stands.{valuesRow}
 use Rattle.run_memory.specs.Runs.{Stopped}
 use Rattle.wivakkol.proofs.RunAnswers.{valuesRun, reported}
@@ -37,7 +37,7 @@ pub record AnswersDeques (s : List ℕ) (a : Answer) (number : ℕ) (row : List 
 
 -- ---- a turn
 
-replied : (x : Reply) → (0 ≡ replyValues x .number) × (turnRow x 0 ≡ valuesRow (replyValues x))
+replied : (x : Reply) → (0 ≡ replyValues x .number) × (replyRow x 0 ≡ valuesRow (replyValues x))
 replied Idle = (refl, refl)
 replied (Done t a) = (refl, refl)
 replied (Quota t x) = (refl, refl)
@@ -47,12 +47,12 @@ abbrev turningOf : ℕ → Reply → DequeTurning
 turningOf number x = pick (eqb number 0) (Taken x) (refusedTurn (refusal number 0))
 
 told-so : (number : ℕ) (x : Reply)
-    → (number ≡ dequeTurningValues (turningOf number x) .number) × (pick (eqb number 0) (turnRow x 0) noRow ≡ valuesRow (dequeTurningValues (turningOf number x)))
+    → (number ≡ dequeTurningValues (turningOf number x) .number) × (pick (eqb number 0) (replyRow x 0) noRow ≡ valuesRow (dequeTurningValues (turningOf number x)))
 told-so number x = go (eqb number 0) refl
   where
     go : (b : Bool) → eqb number 0 ≡ b
         → (number ≡ dequeTurningValues (pick b (Taken x) (refusedTurn (refusal number 0))) .number)
-        × (pick b (turnRow x 0) noRow ≡ valuesRow (dequeTurningValues (pick b (Taken x) (refusedTurn (refusal number 0)))))
+        × (pick b (replyRow x 0) noRow ≡ valuesRow (dequeTurningValues (pick b (Taken x) (refusedTurn (refusal number 0)))))
     go true e = (eqb-true _ _ e ∙ replied x .0, replied x .1)
     go false e = (refl, refl)
 

@@ -7,7 +7,7 @@ use lib.ListN.{getD}
 use Rattle.table.specs.Sum.{pick}
 use Rattle.table.specs.Format.{tableOf}
 use Rattle.array_machine.specs.Arrays.{linksOf, secondOf}
-use Rattle.run_memory.specs.Memory.{Memory, memory, movedIn, turnRow, noRow, Answer, answer, Told}
+use Rattle.run_memory.specs.Memory.{Memory, memory, movedIn, replyRow, noRow, Answer, answer, Told}
 use Rattle.run_memory.specs.Stands.{truths, workersIn}
 use Rattle.run_memory.specs.Runs.{stoppedAs}
 use Rattle.deques.specs.declared.DequeRun.{DequeRun}
@@ -19,7 +19,7 @@ use Rattle.stealing.specs.StealingMemory.{dequeTurnIn, dequeListIn, dequeRunIn}
 unfoldable pub lentDequeTurn : List ℕ → ℕ → ℕ → Memory → Answer
 lentDequeTurn s w c M =
     let t : Told = dequeTurnIn s w c M in
-    answer (t .number) (pick (eqb (t .number) 0) (turnRow (t .reply) 0) noRow) (t .memory)
+    answer (t .number) (pick (eqb (t .number) 0) (replyRow (t .reply) 0) noRow) (t .memory)
 
 -- "A run over a list takes two bytes a turn, worker and choice"
 unfoldable pub lentDequeList : List ℕ → List ℕ → Memory → Answer

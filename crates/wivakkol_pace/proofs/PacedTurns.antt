@@ -7,7 +7,7 @@ use borrow.Author.Tests.{eq-eqb, ne-eqb}
 use lib.Dec.{eqb}
 use Rattle.table.specs.Sum.{pick}
 use Rattle.schedule.specs.declared.Reply.the-variants.{Idle}
-use Rattle.run_memory.specs.Memory.{Memory, hindrance, answer, noRow, turnRow, Told, told, turnIn, passedOver}
+use Rattle.run_memory.specs.Memory.{Memory, hindrance, answer, noRow, replyRow, Told, told, turnIn, passedOver}
 use Rattle.pace.specs.Pace.{may, took}
 use Rattle.wivakkol_pace.specs.Paced.{stopped, hindranceIn, heldBack, PacedTold, pacedTold, pacedIn, kept, pacedTurnBy}
 
@@ -46,12 +46,12 @@ module _ (s : List ℕ) (w : ℕ) (M : Memory) (P : List ℕ) where
     unfolding pacedTurnBy
     tells-refusal d = rw (← e, ne-eqb (t .told .number) 0 d)
 
-    pub tells : {p : ℕ} {row : List ℕ} → t .told .number ≡ 0 → p ≡ pick (counting && eqb (t .told .number) 0) (passedOver M w) 0 → row ≡ turnRow (t .told .reply) p
+    pub tells : {p : ℕ} {row : List ℕ} → t .told .number ≡ 0 → p ≡ pick (counting && eqb (t .told .number) 0) (passedOver M w) 0 → row ≡ replyRow (t .told .reply) p
         → kept (answer 0 row (t .told .memory)) (t .pace) ≡ pacedTurnBy counting s w M P
     unfolding pacedTurnBy
     tells {p} {row} d q r =
         let here : p ≡ pick counting (passedOver M w) 0 = q ∙ counts counting (eqb (t .told .number) 0) (eq-eqb (t .told .number) 0 d) in
-        ap (λ (x : List ℕ). kept (answer 0 x (t .told .memory)) (t .pace)) (r ∙ ap (turnRow (t .told .reply)) here) ∙ rw (← e, d)
+        ap (λ (x : List ℕ). kept (answer 0 x (t .told .memory)) (t .pace)) (r ∙ ap (replyRow (t .told .reply)) here) ∙ rw (← e, d)
       where
         counts : (c q : Bool) → q ≡ true → pick (c && q) (passedOver M w) 0 ≡ pick c (passedOver M w) 0
         counts true q e = rw e

@@ -6,7 +6,7 @@ use lib.ListN.{getD}
 use lib.Dec.{eqb}
 use Rattle.table.specs.Sum.{pick}
 use Rattle.schedule.specs.declared.Reply.the-variants.{Idle}
-use Rattle.run_memory.specs.Memory.{Memory, Answer, answer, noRow, turnRow, movedIn, hindrance, Told, told, turnIn, passedOver}
+use Rattle.run_memory.specs.Memory.{Memory, Answer, answer, noRow, replyRow, movedIn, hindrance, Told, told, turnIn, passedOver}
 use Rattle.pace.specs.Pace.{may, took}
 
 -- a number of the library's own, above the papers': the turn would break the rule with b
@@ -50,7 +50,7 @@ kept a P = record { answer = a; pace = P }
 unfoldable pub pacedTurnBy : Bool → List ℕ → ℕ → Memory → List ℕ → Kept
 pacedTurnBy counting s w M P =
     let t : PacedTold = pacedIn s w M P in
-    kept (answer (t .told .number) (pick (eqb (t .told .number) 0) (turnRow (t .told .reply) (pick counting (passedOver M w) 0)) noRow) (t .told .memory)) (t .pace)
+    kept (answer (t .told .number) (pick (eqb (t .told .number) 0) (replyRow (t .told .reply) (pick counting (passedOver M w) 0)) noRow) (t .told .memory)) (t .pace)
 
 -- as C calls it
 abbrev pub pacedTurn : List ℕ → ℕ → Memory → List ℕ → Kept

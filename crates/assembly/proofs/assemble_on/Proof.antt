@@ -6,7 +6,7 @@ use mathlib.Core.List.{List}
 use borrow.Author.Tests.{lt-ltb, le-ltb}
 use lib.ListN.{length}
 use Rattle.assembly.specs.Said.{saids}
-use Rattle.assembly.specs.Assembly.{checked, longestText, answered, writtenIn, assembled, assembledIn, bytesBy, bytesOf, orShort, keptIfShort, assembling, assemblingIn}
+use Rattle.assembly.specs.Assembly.{checked, longestText, answered, writtenIn, assembled, assembledIn, bytesBy, bytesNeeded, orShort, keptIfShort, assembling, assemblingIn}
 use Rattle.assembly.specs.declared.Expected.{Expected}
 use Rattle.assembly.specs.declared.Assembled.the-variants.{TooLong, Malformed}
 use Rattle.assembly.specs.declared.Assembling.{Assembling}
@@ -20,7 +20,7 @@ use Rattle.assembly.proofs.assemble_on.Tie as tie
 
 module _ (s out : List ℕ) where
   long : longestText < length s → (Answered TooLong ≡ assembling (length out) s) × (out ≡ assemblingIn s out)
-  unfolding assembling assemblingIn bytesOf assembled assembledIn
+  unfolding assembling assemblingIn bytesNeeded assembled assembledIn
   long h =
       let t = lt-ltb longestText (length s) h in
       (rw t (fits (length out) 0 (omega arith) refl), rw t (put-in 0 out (omega arith) refl))
@@ -28,7 +28,7 @@ module _ (s out : List ℕ) where
   short : {x : Assembling} {o : List ℕ} {y : Checked} → length s ≤ longestText → y ≡ checked (saids s)
       → x ≡ orShort (length out) (bytesBy y) (answered y (saids s)) → o ≡ keptIfShort (bytesBy y) out (writtenIn y (saids s) out)
       → (x ≡ assembling (length out) s) × (o ≡ assemblingIn s out)
-  unfolding assembling assemblingIn bytesOf assembled assembledIn
+  unfolding assembling assemblingIn bytesNeeded assembled assembledIn
   short h e a w = (
     rw (le-ltb longestText (length s) h) (a ∙ ap (λ (z : Checked). orShort (length out) (bytesBy z) (answered z (saids s))) e),
     rw (le-ltb longestText (length s) h) (w ∙ ap (λ (z : Checked). keptIfShort (bytesBy z) out (writtenIn z (saids s) out)) e),

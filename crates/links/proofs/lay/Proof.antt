@@ -8,7 +8,7 @@ use denote.Ref.{now}
 use lib.ListN.{length, take}
 use lib.Seq.{take-all, length-take-le}
 use borrow.Author.Needs.{needs}
-use Rattle.schedule.specs.Links.{firstOf, laid}
+use Rattle.schedule.specs.Links.{headOf, laid}
 use Rattle.links.proofs.lay.Statement.{statement}
 use Rattle.links.proofs.lay.Tie as tie
 
@@ -42,7 +42,7 @@ returns c =
     let t = c .before in
     let e = front (t .before .before .before .before .before .before .before .before) in (
       t .lay-threads .ensures .0 ∙ ap (λ (l : List ℕ). laid l .left) e,
-      (t .lay-threads .ensures .1 ∙ ap (λ (l : List ℕ). laid l .right) e, c .thread-at .ensures ∙ ap firstOf e),
+      (t .lay-threads .ensures .1 ∙ ap (λ (l : List ℕ). laid l .right) e, c .thread-at .ensures ∙ ap headOf e),
     )
 
 pub lay-spec : {M : Type 1} → statement M

@@ -11,7 +11,7 @@ use borrow.Author.Tests.{ltb-true, lt-ltb}
 use Rattle.table.specs.Sum.{pick}
 use Rattle.table.proofs.Tests.{no-way}
 use Rattle.schedule.specs.Machine.{waiting}
-use Rattle.schedule.specs.Links.{noThread, Links, walk, firstOf, rightIn, leftAfter, lastAfter, lastOf, Linked, LinkedAs, linkLast}
+use Rattle.schedule.specs.Links.{noThread, Links, walk, headOf, rightIn, leftAfter, lastAfter, lastOf, Linked, LinkedAs, linkLast}
 use Rattle.schedule.specs.Actives.{actives, noLinks, filledFrom}
 use Rattle.order.proofs.Lists.{Below}
 use Rattle.schedule.proofs.Linked.Once.{Once}
@@ -48,7 +48,7 @@ module _ (c : ℕ) where
       ap (λ (r : ℕ). pick (eqb x v) y r) (left-last x v l (λ i. n (List·Memᴰ·tail i)))
       ∙ choose-swap (eqb x v) (eqb c v) y (lastAfter x l) (leftAfter x l v) (apart x c v (λ e. n (List·Memᴰ·head e)))
 
-  first-last : (l : List ℕ) → Below noThread l → firstOf (l ++ c ∷ []) ≡ pick (ltb (lastOf l) noThread) (firstOf l) c
+  first-last : (l : List ℕ) → Below noThread l → headOf (l ++ c ∷ []) ≡ pick (ltb (lastOf l) noThread) (headOf l) c
   unfolding lastAfter
   first-last [] b = refl
   first-last (x ∷ l) b = rw (lt-ltb (lastAfter x l) noThread (b (lastAfter x l) (lastAfter-in x l)))

@@ -12,7 +12,7 @@ use borrow.Author.Tests.{eq-eqb, ne-eqb, lt-ltb, le-ltb}
 use Rattle.table.specs.Sum.{pick}
 use Rattle.schedule.specs.Machine.{ready, leftOf, without, leftmost}
 use Rattle.order.specs.Firsts.{firsts}
-use Rattle.schedule.specs.Links.{noThread, Links, walk, firstOf, rightIn, leftIn, laid, Linked, LinkedAs, linkLeft, unlink, Sought, firstReady, seek}
+use Rattle.schedule.specs.Links.{noThread, Links, walk, headOf, rightIn, leftIn, laid, Linked, LinkedAs, linkLeft, unlink, Sought, firstReady, seek}
 use Rattle.order.proofs.Lists.{Below, firsts-length, firsts-at}
 use Rattle.schedule.proofs.Linked.Once.{Once, once-short}
 use Rattle.schedule.proofs.Linked.Neighbours.{rightIn-here, rightIn-later, rightIn-leftOf, leftIn-leftOf, rightIn-without, leftIn-without, first-leftOf, first-without}
@@ -48,14 +48,14 @@ linked-laid k l h =
 
 -- ---- reading
 
-walk-row : (k : ℕ) (right l : List ℕ) → length l ≤ k → Once l → Below noThread l → ((t : ℕ) → List·Memᴰ t l → getD right t 0 ≡ rightIn l t) → walk k right (firstOf l) ≡ l
+walk-row : (k : ℕ) (right l : List ℕ) → length l ≤ k → Once l → Below noThread l → ((t : ℕ) → List·Memᴰ t l → getD right t 0 ≡ rightIn l t) → walk k right (headOf l) ≡ l
 unfolding walk Once
 walk-row zero right [] h o b e = refl
 walk-row (suc k) right [] h o b e = refl
 walk-row zero right (x ∷ l) h o b e = absurd (omega arith)
 walk-row (suc k) right (x ∷ l) h o b e =
-    let next : getD right x 0 ≡ firstOf l = e x (List·Memᴰ·head refl) ∙ rightIn-here x l in
-    let rest : walk k right (firstOf l) ≡ l =
+    let next : getD right x 0 ≡ headOf l = e x (List·Memᴰ·head refl) ∙ rightIn-here x l in
+    let rest : walk k right (headOf l) ≡ l =
     walk-row k right l (omega arith) (o .1) (λ t m. b t (List·Memᴰ·tail m))
     (λ t m. e t (List·Memᴰ·tail m) ∙ rightIn-later x t l (λ q. o .0 (rw q m))) in
     rw (lt-ltb x noThread (b x (List·Memᴰ·head refl)), next, rest)

@@ -10,13 +10,13 @@ use borrow.Author.Tests.{eqb-true, eqb-false, eq-eqb, ne-eqb, lt-ltb}
 use Rattle.table.specs.Sum.{pick}
 use Rattle.table.proofs.Tests.{no-way}
 use Rattle.schedule.specs.Machine.{leftOf, without}
-use Rattle.schedule.specs.Links.{noThread, firstOf, rightIn, leftAfter, leftIn}
+use Rattle.schedule.specs.Links.{noThread, headOf, rightIn, leftAfter, leftIn}
 use Rattle.order.proofs.Lists.{Below}
 use Rattle.schedule.proofs.Linked.Once.{Once}
 
 -- ---- neighbours, thread by thread
 
-pub rightIn-here : (u : ℕ) (l : List ℕ) → rightIn (u ∷ l) u ≡ firstOf l
+pub rightIn-here : (u : ℕ) (l : List ℕ) → rightIn (u ∷ l) u ≡ headOf l
 unfolding rightIn
 rightIn-here u l = rw (eq-eqb u u refl)
 
@@ -51,7 +51,7 @@ leftAfter-in y t (x ∷ l) m = go (eqb x t) refl (leftAfter-in x t l) (List·Mem
     go false q ih (inl e) = absurd (eqb-false x t q (sym e))
     go false q ih (inr i) = List·Memᴰ·tail (ih i)
 
-firstOf-in : (l : List ℕ) → (firstOf l ≡ noThread) ⊎ List·Memᴰ (firstOf l) l
+firstOf-in : (l : List ℕ) → (headOf l ≡ noThread) ⊎ List·Memᴰ (headOf l) l
 firstOf-in [] = inl refl
 firstOf-in (x ∷ l) = inr (List·Memᴰ·head refl)
 
@@ -65,8 +65,8 @@ rightIn-in t (x ∷ l) = go (eqb x t) (rightIn-in t l)
     later v (inr m) = inr (List·Memᴰ·tail m)
 
     go : (q : Bool) → (rightIn l t ≡ noThread) ⊎ List·Memᴰ (rightIn l t) l
-        → (pick q (firstOf l) (rightIn l t) ≡ noThread) ⊎ List·Memᴰ (pick q (firstOf l) (rightIn l t)) (x ∷ l)
-    go true ih = later (firstOf l) (firstOf-in l)
+        → (pick q (headOf l) (rightIn l t) ≡ noThread) ⊎ List·Memᴰ (pick q (headOf l) (rightIn l t)) (x ∷ l)
+    go true ih = later (headOf l) (firstOf-in l)
     go false ih = later (rightIn l t) ih
 
 -- ---- choices
@@ -151,11 +151,11 @@ module _ (t : ℕ) where
           → rightIn (x ∷ without t l) v ≡ pick (eqb t v) noThread (pick (eqb (leftAfter x l t) v) (rightIn l t) (rightIn (x ∷ l) v)))
           → (t ≡ x) ⊎ List·Memᴰ t l
           → rightIn (y ∷ pick q l (x ∷ without t l)) v
-          ≡ pick (eqb t v) noThread (pick (eqb (pick q y (leftAfter x l t)) v) (pick q (firstOf l) (rightIn l t)) (rightIn (y ∷ x ∷ l) v))
+          ≡ pick (eqb t v) noThread (pick (eqb (pick q y (leftAfter x l t)) v) (pick q (headOf l) (rightIn l t)) (rightIn (y ∷ x ∷ l) v))
       go true q ih s =
           let e : x ≡ t = eqb-true x t q in
           rw e
-          (choose-out (eqb y v) (eqb t v) (firstOf l) t (firstOf l) noThread (rightIn l v) (apart t y v (λ i. d (sym i)))
+          (choose-out (eqb y v) (eqb t v) (headOf l) t (headOf l) noThread (rightIn l v) (apart t y v (λ i. d (sym i)))
           (λ g. rightIn-out v l (λ i. o .1 .0 (Memᴰ·cast (e ∙ eqb-true t v g) i))))
       go false q ih (inl e) = absurd (eqb-false x t q (sym e))
       go false q ih (inr i) =
@@ -165,7 +165,7 @@ module _ (t : ℕ) where
 
   -- t was the first
   left-second : (y v : ℕ) (l : List ℕ) → v < noThread → (List·Memᴰ t l → ⊥)
-      → leftAfter y l v ≡ pick (eqb t v) noThread (pick (eqb (firstOf l) v) y (pick (eqb t v) y (leftAfter t l v)))
+      → leftAfter y l v ≡ pick (eqb t v) noThread (pick (eqb (headOf l) v) y (pick (eqb t v) y (leftAfter t l v)))
   unfolding leftAfter
   left-second y v [] h n = rw (ne-eqb noThread v (λ e. omega arith)) (go (eqb t v))
     where
@@ -197,7 +197,7 @@ module _ (t : ℕ) where
           → (List·Memᴰ t l → leftAfter x (without t l) v ≡ pick (eqb t v) noThread (pick (eqb (rightIn l t) v) (leftAfter x l t) (leftAfter x l v)))
           → (t ≡ x) ⊎ List·Memᴰ t l
           → leftAfter y (pick q l (x ∷ without t l)) v
-          ≡ pick (eqb t v) noThread (pick (eqb (pick q (firstOf l) (rightIn l t)) v) (pick q y (leftAfter x l t)) (leftAfter y (x ∷ l) v))
+          ≡ pick (eqb t v) noThread (pick (eqb (pick q (headOf l) (rightIn l t)) v) (pick q y (leftAfter x l t)) (leftAfter y (x ∷ l) v))
       go true q ih s =
           let e : x ≡ t = eqb-true x t q in
           rw e (left-second y v l h (λ i. o .0 (Memᴰ·cast e i)))
@@ -236,24 +236,24 @@ module _ (l : List ℕ) (o : Once l) (b : Below noThread l) (t : ℕ) (m : List�
 
 -- the leftmost thread stays, unless t has none left of it
 module _ (t : ℕ) where
-  pub first-leftOf : (c : ℕ) (l : List ℕ) → Below noThread l → List·Memᴰ t l → firstOf (leftOf c t l) ≡ pick (ltb (leftIn l t) noThread) (firstOf l) c
+  pub first-leftOf : (c : ℕ) (l : List ℕ) → Below noThread l → List·Memᴰ t l → headOf (leftOf c t l) ≡ pick (ltb (leftIn l t) noThread) (headOf l) c
   unfolding leftAfter leftOf
   first-leftOf c [] b m = absurd (List·Memᴰ·not-nil m)
   first-leftOf c (x ∷ l) b m = go (eqb x t) refl (List·Memᴰ·cases-cons m)
     where
       go : (q : Bool) → eqb x t ≡ q → (t ≡ x) ⊎ List·Memᴰ t l
-          → firstOf (pick q (c ∷ x ∷ l) (x ∷ leftOf c t l)) ≡ pick (ltb (pick q noThread (leftAfter x l t)) noThread) x c
+          → headOf (pick q (c ∷ x ∷ l) (x ∷ leftOf c t l)) ≡ pick (ltb (pick q noThread (leftAfter x l t)) noThread) x c
       go true q s = refl
       go false q (inl e) = absurd (eqb-false x t q (sym e))
       go false q (inr i) = rw (lt-ltb (leftAfter x l t) noThread (b (leftAfter x l t) (leftAfter-in x t l i)))
 
-  pub first-without : (l : List ℕ) → Below noThread l → List·Memᴰ t l → firstOf (without t l) ≡ pick (ltb (leftIn l t) noThread) (firstOf l) (rightIn l t)
+  pub first-without : (l : List ℕ) → Below noThread l → List·Memᴰ t l → headOf (without t l) ≡ pick (ltb (leftIn l t) noThread) (headOf l) (rightIn l t)
   unfolding leftAfter rightIn without
   first-without [] b m = absurd (List·Memᴰ·not-nil m)
   first-without (x ∷ l) b m = go (eqb x t) refl (List·Memᴰ·cases-cons m)
     where
       go : (q : Bool) → eqb x t ≡ q → (t ≡ x) ⊎ List·Memᴰ t l
-          → firstOf (pick q l (x ∷ without t l)) ≡ pick (ltb (pick q noThread (leftAfter x l t)) noThread) x (pick q (firstOf l) (rightIn l t))
+          → headOf (pick q l (x ∷ without t l)) ≡ pick (ltb (pick q noThread (leftAfter x l t)) noThread) x (pick q (headOf l) (rightIn l t))
       go true q s = refl
       go false q (inl e) = absurd (eqb-false x t q (sym e))
       go false q (inr i) = rw (lt-ltb (leftAfter x l t) noThread (b (leftAfter x l t) (leftAfter-in x t l i)))

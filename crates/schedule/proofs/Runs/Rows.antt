@@ -11,7 +11,7 @@ use Rattle.table.proofs.Levels.{greatest-same}
 use Rattle.table.proofs.Peaks.{greatest-map}
 use Rattle.schedule.specs.Machine.{State, turnOf}
 use Rattle.schedule.specs.Begin.{startState}
-use Rattle.schedule.specs.Memory.{rowState, replies, sumReplies, doneIn, memoryOf, frontRows, peakMemory}
+use Rattle.schedule.specs.Memory.{rowState, replies, sumReplies, rowSum, rowMemory, frontRows, peakMemory}
 use Rattle.order.proofs.Lawful.{Lawful}
 use Rattle.schedule.proofs.Sound.Facts.{Facts}
 use Rattle.schedule.proofs.Preservation.Turns.{turn-facts}
@@ -95,18 +95,18 @@ module _ (T : Table) (l : Lawful T) (p K : ℕ) (few : p ≤ 16) where
         greatest-empty (λ front. rowState T K st′ front .held) row,
       )
 
-  -- what is freed was drawn before: the difference in `memoryOf` is the amount
-  pub row-balanced : (row : List ℕ) → ((w : ℕ) → List·Memᴰ w row → w < p) → doneIn freeOf T K row ≤ doneIn allocOf T K row
+  -- what is freed was drawn before: the difference in `rowMemory` is the amount
+  pub row-balanced : (row : List ℕ) → ((w : ℕ) → List·Memᴰ w row → w < p) → rowSum freeOf T K row ≤ rowSum allocOf T K row
   row-balanced row h = omega (arith, row-amounts (startState T) (start-facts T l p K) row h, start-held T l .0)
 
-  pub row-held : (row : List ℕ) → ((w : ℕ) → List·Memᴰ w row → w < p) → rowState T K (startState T) row .held ≡ memoryOf T K row
-  unfolding memoryOf
+  pub row-held : (row : List ℕ) → ((w : ℕ) → List·Memᴰ w row → w < p) → rowState T K (startState T) row .held ≡ rowMemory T K row
+  unfolding rowMemory
   row-held row h = omega (arith, row-amounts (startState T) (start-facts T l p K) row h, start-held T l .0)
 
   pub row-highest : (row : List ℕ) → ((w : ℕ) → List·Memᴰ w row → w < p) → rowState T K (startState T) row .highest ≡ peakMemory T K row
   unfolding peakMemory
   row-highest row h =
-      let e : greatest (λ front. rowState T K (startState T) front .held) (frontRows row) ≡ greatest (memoryOf T K) (frontRows row) =
-      greatest-same (λ front. rowState T K (startState T) front .held) (memoryOf T K) (frontRows row)
+      let e : greatest (λ front. rowState T K (startState T) front .held) (frontRows row) ≡ greatest (rowMemory T K) (frontRows row) =
+      greatest-same (λ front. rowState T K (startState T) front .held) (rowMemory T K) (frontRows row)
       (λ front m. let r = front-rest row front m in row-held front (front-workers (λ w. w < p) row front (r .0) (r .1) h)) in
       omega (arith, e, row-tops (startState T) (start-facts T l p K) row h, start-held T l .1)

@@ -25,7 +25,7 @@ use Rattle.filling.specs.Filled.{filledOut}
 use Rattle.schedule.specs.Turn.{unsound, rootEnded, noWorker, turnChecks, stepRun, passedIn, turnedAs, turned}
 use Rattle.schedule.specs.Runs.{ran, moved, drive, listRun, roundsRun}
 use Rattle.schedule.specs.Answers.{begun, finished, spent, Values, replyValues, passing, beginningValues, turningValues, reportValues}
-use Rattle.schedule.specs.Values.{valuesWith, beginValues, turnValues, afterTurns, runChecks, stops, firstThat, turnsTaken, stoppedBy, runValues, listValues, roundsValues}
+use Rattle.schedule.specs.Values.{saidValues, beginValues, turnValues, afterTurns, runChecks, stops, firstThat, turnsTaken, stoppedBy, runValues, listValues, roundsValues}
 
 -- ---- a beginning and a turn
 
@@ -33,7 +33,7 @@ pub begin-values : (s : List ℕ) (p K : ℕ) → beginningValues (begin s p K .
 unfolding begin beginValues
 begin-values s p K = go (firstFound (passes s ++ beginPasses (tableOf s) p K))
   where
-    go : (found : Found) → beginningValues (begunAs found (startRun (filledOut s K) p K) .answer) ≡ valuesWith found begun 0 0 0
+    go : (found : Found) → beginningValues (begunAs found (startRun (filledOut s K) p K) .answer) ≡ saidValues found begun 0 0 0
     go Nothing = refl
     go (At x) = refl
 
@@ -44,7 +44,7 @@ turn-values r w = go (tryAt (turnChecks r w) 0) (stepRun r w) (stepRun r w .repl
     go : (found : Found) (d : Stepped) (x : Reply) → d .reply ≡ x
         → turningValues (turnedAs found r (passedIn r w) d .answer)
         ≡ passing (ifFound found 0 (passedIn r w))
-        (valuesWith found (replyValues (d .reply) .said) (replyValues (d .reply) .thread) (replyValues (d .reply) .value) (ifFound found 0 1))
+        (saidValues found (replyValues (d .reply) .said) (replyValues (d .reply) .thread) (replyValues (d .reply) .value) (ifFound found 0 1))
     go (At y) d x e = refl
     go Nothing d Idle e = rw e
     go Nothing d (Done t a) e = rw e
@@ -91,7 +91,7 @@ taken-first who k r = first-that (λ n. stops (afterTurns who n r) (who n)) k
 
 -- the values of a run that stops after n of k turns, i turns having gone before: the record that they left, and the worker of the next
 abbrev stopped : ℕ → ℕ → ℕ → Run → ℕ → Values
-stopped i n k left w = valuesWith (pick (eqb n k || rootEnded left) Nothing (tryAt (runChecks left w) 0)) (pick (rootEnded left) finished spent) 0 0 (i + n)
+stopped i n k left w = saidValues (pick (eqb n k || rootEnded left) Nothing (tryAt (runChecks left w) 0)) (pick (rootEnded left) finished spent) 0 0 (i + n)
 
 stopped-next : (i n k : ℕ) (left : Run) (w : ℕ) → stopped i (suc n) (suc k) left w ≡ stopped (suc i) n k left w
 stopped-next i n k left w = rw (eqb·suc-suc, add-suc, suc-add)
@@ -107,7 +107,7 @@ module _ (f : ℕ → ℕ) (k : ℕ) (r : Run) where
   taken-none e = rw e
 
   stop-now : (i : ℕ) → stops r (f 0) ≡ true
-      → from i f (suc k) r ≡ valuesWith (pick (rootEnded r) Nothing (tryAt (runChecks r (f 0)) 0)) (pick (rootEnded r) finished spent) 0 0 i
+      → from i f (suc k) r ≡ saidValues (pick (rootEnded r) Nothing (tryAt (runChecks r (f 0)) 0)) (pick (rootEnded r) finished spent) 0 0 i
   unfolding afterTurns
   stop-now i e = ap (λ (n : ℕ). stopped i n (suc k) (afterTurns f n r) (f n)) (taken-none e) ∙ rw (eqb·zero-suc, add-zero)
 
@@ -150,7 +150,7 @@ drive-values : (who f : ℕ → ℕ) (k i : ℕ) (r : Run) → ((n : ℕ) → wh
 unfolding drive turnsTaken firstThat afterTurns
 drive-values who f zero i r h = rw add-zero (go (rootEnded r))
   where
-    go : (b : Bool) → reportValues (pick b (Finished i) (Spent i)) ≡ valuesWith Nothing (pick b finished spent) 0 0 i
+    go : (b : Bool) → reportValues (pick b (Finished i) (Spent i)) ≡ saidValues Nothing (pick b finished spent) 0 0 i
     go true = refl
     go false = refl
 drive-values who f (suc k) i r h =

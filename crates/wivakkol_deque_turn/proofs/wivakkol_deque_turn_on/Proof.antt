@@ -5,7 +5,7 @@ use mathlib.Core.List.{List}
 use borrow.Author.Needs.{needs}
 use borrow.Author.Tests.{ne-eqb}
 use denote.Ref.{now}
-use Rattle.run_memory.specs.Memory.{Memory, noRow, turnRow, answer, Told}
+use Rattle.run_memory.specs.Memory.{Memory, noRow, replyRow, answer, Told}
 use Rattle.run_memory.specs.Blocks.{memoryOf}
 use Rattle.stealing.specs.StealingMemory.{dequeTurnIn}
 use Rattle.wivakkol_deques.specs.DequeLent.{lentDequeTurn}
@@ -17,7 +17,7 @@ module _ (s : List ℕ) (w c : ℕ) (M : Memory) {y : Told} (e : y ≡ dequeTurn
   unfolding lentDequeTurn
   refuses d = rw (← e, ne-eqb (y .number) 0 d)
 
-  tells : {row : List ℕ} → y .number ≡ 0 → row ≡ turnRow (y .reply) 0 → answer 0 row (y .memory) ≡ lentDequeTurn s w c M
+  tells : {row : List ℕ} → y .number ≡ 0 → row ≡ replyRow (y .reply) 0 → answer 0 row (y .memory) ≡ lentDequeTurn s w c M
   unfolding lentDequeTurn
   tells {row} d r = ap (λ (x : List ℕ). answer 0 x (y .memory)) r ∙ rw (← e, d)
 

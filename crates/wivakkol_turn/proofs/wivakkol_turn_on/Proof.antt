@@ -7,7 +7,7 @@ use borrow.Author.Tests.{ne-eqb}
 use denote.Ref.{now}
 use lib.Dec.{eqb}
 use Rattle.table.specs.Sum.{pick}
-use Rattle.run_memory.specs.Memory.{Memory, noRow, turnRow, answer, Told, turnIn, passedOver, lentTurn}
+use Rattle.run_memory.specs.Memory.{Memory, noRow, replyRow, answer, Told, turnIn, passedOver, lentTurn}
 use Rattle.run_memory.specs.Blocks.{memoryOf}
 use Rattle.wivakkol_turn.proofs.wivakkol_turn_on.Statement.{statement}
 use Rattle.wivakkol_turn.proofs.wivakkol_turn_on.Tie as tie
@@ -17,11 +17,11 @@ module _ (s : List ℕ) (w : ℕ) (M : Memory) {y : Told} (e : y ≡ turnIn s w 
   unfolding lentTurn
   refuses d = rw (← e, ne-eqb (y .number) 0 d)
 
-  tells : {p : ℕ} {row : List ℕ} → y .number ≡ 0 → p ≡ pick (eqb (y .number) 0) (passedOver M w) 0 → row ≡ turnRow (y .reply) p → answer 0 row (y .memory) ≡ lentTurn s w M
+  tells : {p : ℕ} {row : List ℕ} → y .number ≡ 0 → p ≡ pick (eqb (y .number) 0) (passedOver M w) 0 → row ≡ replyRow (y .reply) p → answer 0 row (y .memory) ≡ lentTurn s w M
   unfolding lentTurn
   tells {p} {row} d q r =
       let here : p ≡ passedOver M w = rw d at q in
-      ap (λ (x : List ℕ). answer 0 x (y .memory)) (r ∙ ap (turnRow (y .reply)) here) ∙ rw (← e, d)
+      ap (λ (x : List ℕ). answer 0 x (y .memory)) (r ∙ ap (replyRow (y .reply)) here) ∙ rw (← e, d)
 
 abbrev start : tie.Start → Memory
 start d = memoryOf (now (d .args .bytes)) (now (d .args .words)) (now (d .args .numbers)) (now (d .args .sums))

@@ -1,7 +1,7 @@
 -- `inputs::put::put_rounds` meets its contract: p, K and L.
 use native.Mathlib.Omega.{arith}
 use Rattle.text.proofs.Putting.{puts-word, puts-more, puts-within}
-use Rattle.inputs.specs.Input.{bytesOf, frontTexts}
+use Rattle.inputs.specs.Input.{lowBytes, frontTexts}
 use borrow.Author.Needs.{needs}
 use Rattle.inputs.proofs.put.put_rounds.Statement.{statement}
 use Rattle.inputs.proofs.put.put_rounds.Tie as tie
@@ -20,7 +20,7 @@ same-length c = search needs
 
 returns : tie.Need-returns
 unfolding frontTexts
-returns c = puts-within (omega arith) (puts-more (puts-word (bytesOf 1 (c .before .before .before .before .before .before .before .before .before .before .before .before .before .args .p)) (c .before .before .before .before .before .before .before .before .before .before .put-bytes .ensures)) (puts-more (puts-word (bytesOf 3 (c .before .before .before .before .before .before .before .before .before .before .before .before .before .args .k)) (c .before .before .before .before .before .before .put-bytes2 .ensures)) (puts-word (bytesOf 4 (c .before .before .before .before .before .before .before .before .before .before .before .before .before .args .limit)) (c .before .before .put-bytes3 .ensures))))
+returns c = puts-within (omega arith) (puts-more (puts-word (lowBytes 1 (c .before .before .before .before .before .before .before .before .before .before .before .before .before .args .p)) (c .before .before .before .before .before .before .before .before .before .before .put-bytes .ensures)) (puts-more (puts-word (lowBytes 3 (c .before .before .before .before .before .before .before .before .before .before .before .before .before .args .k)) (c .before .before .before .before .before .before .put-bytes2 .ensures)) (puts-word (lowBytes 4 (c .before .before .before .before .before .before .before .before .before .before .before .before .before .args .limit)) (c .before .before .put-bytes3 .ensures))))
 
 pub put-rounds-spec : {M : Type 1} → statement M
 put-rounds-spec =

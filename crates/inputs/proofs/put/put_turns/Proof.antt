@@ -3,7 +3,7 @@ use native.Mathlib.Omega.{arith}
 use denote.Ref.{now}
 use lib.ListN.{length}
 use Rattle.text.proofs.Putting.{puts-word, puts-more, puts-within}
-use Rattle.inputs.specs.Input.{bytesOf, frontTexts}
+use Rattle.inputs.specs.Input.{lowBytes, frontTexts}
 use borrow.Author.Needs.{needs}
 use Rattle.inputs.proofs.put.put_turns.Statement.{statement}
 use Rattle.inputs.proofs.put.put_turns.Tie as tie
@@ -25,7 +25,7 @@ same-length c = search needs
 
 returns : tie.Need-returns
 unfolding frontTexts
-returns c = puts-within (omega arith) (puts-more (puts-word (bytesOf 1 (c .before .before .before .before .before .before .before .before .before .before .before .before .before .before .before .before .before .before .args .p)) (c .before .before .before .before .before .before .before .before .before .before .before .before .before .before .put-bytes .ensures)) (puts-more (puts-word (bytesOf 3 (c .before .before .before .before .before .before .before .before .before .before .before .before .before .before .before .before .before .before .args .k)) (c .before .before .before .before .before .before .before .before .before .before .put-bytes2 .ensures)) (puts-more (puts-word (bytesOf 2 (length (now (c .before .before .before .before .before .before .before .before .before .before .before .before .before .before .before .before .before .before .args .order)))) (c .before .before .before .before .before .before .put-bytes3 .ensures)) (puts-word (now (c .before .before .before .before .before .before .before .before .before .before .before .before .before .before .before .before .before .before .args .order)) (c .before .before .put-word .ensures)))))
+returns c = puts-within (omega arith) (puts-more (puts-word (lowBytes 1 (c .before .before .before .before .before .before .before .before .before .before .before .before .before .before .before .before .before .before .args .p)) (c .before .before .before .before .before .before .before .before .before .before .before .before .before .before .put-bytes .ensures)) (puts-more (puts-word (lowBytes 3 (c .before .before .before .before .before .before .before .before .before .before .before .before .before .before .before .before .before .before .args .k)) (c .before .before .before .before .before .before .before .before .before .before .put-bytes2 .ensures)) (puts-more (puts-word (lowBytes 2 (length (now (c .before .before .before .before .before .before .before .before .before .before .before .before .before .before .before .before .before .before .args .order)))) (c .before .before .before .before .before .before .put-bytes3 .ensures)) (puts-word (now (c .before .before .before .before .before .before .before .before .before .before .before .before .before .before .before .before .before .before .args .order)) (c .before .before .put-word .ensures)))))
 
 pub put-turns-spec : {M : Type 1} → statement M
 put-turns-spec =
