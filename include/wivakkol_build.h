@@ -51,12 +51,12 @@ typedef struct wivakkol_builder {
 } wivakkol_builder;
 
 /* Numbers of 16 and 32 bits, low bytes first. */
-static inline uint32_t wivakkol_build_word(const uint8_t *at)
+static inline uint32_t wivakkol_build_word_(const uint8_t *at)
 {
     return (uint32_t)at[0] + 256 * (uint32_t)at[1];
 }
 
-static inline void wivakkol_build_put(uint8_t *at, uint32_t low, uint32_t high)
+static inline void wivakkol_build_put_(uint8_t *at, uint32_t low, uint32_t high)
 {
     at[0] = (uint8_t)(low % 256);
     at[1] = (uint8_t)(low / 256 % 256);
@@ -64,23 +64,23 @@ static inline void wivakkol_build_put(uint8_t *at, uint32_t low, uint32_t high)
     at[3] = (uint8_t)(high / 256 % 256);
 }
 
-static inline uint32_t wivakkol_build_threads(const wivakkol_builder *b)
+static inline uint32_t wivakkol_build_threads_(const wivakkol_builder *b)
 {
-    return wivakkol_build_word(b->bytes);
+    return wivakkol_build_word_(b->bytes);
 }
 
-static inline uint32_t wivakkol_build_actions(const wivakkol_builder *b)
+static inline uint32_t wivakkol_build_actions_(const wivakkol_builder *b)
 {
-    return wivakkol_build_word(b->bytes + 2);
+    return wivakkol_build_word_(b->bytes + 2);
 }
 
 /* The table's bytes, from b->bytes on; 0 where a call has put nothing. */
 static inline size_t wivakkol_built(const wivakkol_builder *b)
 {
-    return b->fault != 0 ? 0 : 4 + 4 * ((size_t)wivakkol_build_threads(b) + wivakkol_build_actions(b));
+    return b->fault != 0 ? 0 : 4 + 4 * ((size_t)wivakkol_build_threads_(b) + wivakkol_build_actions_(b));
 }
 
-static inline uint32_t wivakkol_build_fault(wivakkol_builder *b, uint32_t fault)
+static inline uint32_t wivakkol_build_fault_(wivakkol_builder *b, uint32_t fault)
 {
     if (b->fault == 0)
         b->fault = fault;
@@ -97,21 +97,21 @@ static inline uint32_t wivakkol_build(wivakkol_builder *b, uint8_t *bytes, size_
     b->fault = 0;
     if (room < sizeof root) {
         b->room = 0;
-        return wivakkol_build_fault(b, WIVAKKOL_BUILD_ROOM);
+        return wivakkol_build_fault_(b, WIVAKKOL_BUILD_ROOM);
     }
     memcpy(bytes, root, sizeof root);
     return 0;
 }
 
 /* Whether so many threads and actions more can be put into a thread: 0, or why not. */
-static inline uint32_t wivakkol_build_refused(const wivakkol_builder *b, uint32_t thread, uint32_t threads, uint32_t actions)
+static inline uint32_t wivakkol_build_refused_(const wivakkol_builder *b, uint32_t thread, uint32_t threads, uint32_t actions)
 {
     uint32_t n, m;
 
     if (b->room == 0)
         return WIVAKKOL_BUILD_ROOM;
-    n = wivakkol_build_threads(b);
-    m = wivakkol_build_actions(b);
+    n = wivakkol_build_threads_(b);
+    m = wivakkol_build_actions_(b);
     if (n <= thread)
         return WIVAKKOL_BUILD_THREAD;
     if (WIVAKKOL_MOST_THREADS < n + threads || WIVAKKOL_MOST_ACTIONS < m + actions)
@@ -120,48 +120,48 @@ static inline uint32_t wivakkol_build_refused(const wivakkol_builder *b, uint32_
 }
 
 /* An action in front of the thread's end, for which there is room. */
-static inline void wivakkol_build_action(wivakkol_builder *b, uint32_t thread, uint32_t kind, uint32_t argument)
+static inline void wivakkol_build_action_(wivakkol_builder *b, uint32_t thread, uint32_t kind, uint32_t argument)
 {
-    uint32_t n = wivakkol_build_threads(b), m = wivakkol_build_actions(b), t;
+    uint32_t n = wivakkol_build_threads_(b), m = wivakkol_build_actions_(b), t;
     uint8_t *entry = b->bytes + 4 + 4 * (size_t)thread, *bodies = b->bytes + 4 + 4 * (size_t)n;
-    size_t end = (size_t)wivakkol_build_word(entry) + wivakkol_build_word(entry + 2) - 1;
+    size_t end = (size_t)wivakkol_build_word_(entry) + wivakkol_build_word_(entry + 2) - 1;
 
     memmove(bodies + 4 * (end + 1), bodies + 4 * end, 4 * ((size_t)m - end));
-    wivakkol_build_put(bodies + 4 * end, kind + 256 * (argument % 256), argument / 256);
-    wivakkol_build_put(entry, wivakkol_build_word(entry), wivakkol_build_word(entry + 2) + 1);
+    wivakkol_build_put_(bodies + 4 * end, kind + 256 * (argument % 256), argument / 256);
+    wivakkol_build_put_(entry, wivakkol_build_word_(entry), wivakkol_build_word_(entry + 2) + 1);
     for (t = thread + 1; t < n; t++) {
         entry += 4;
-        wivakkol_build_put(entry, wivakkol_build_word(entry) + 1, wivakkol_build_word(entry + 2));
+        wivakkol_build_put_(entry, wivakkol_build_word_(entry) + 1, wivakkol_build_word_(entry + 2));
     }
-    wivakkol_build_put(b->bytes, n, m + 1);
+    wivakkol_build_put_(b->bytes, n, m + 1);
 }
 
 /* A new thread, forked here: its number, WIVAKKOL_NO_THREAD where nothing is put. */
 static inline uint32_t wivakkol_build_fork(wivakkol_builder *b, uint32_t thread, uint32_t *child)
 {
-    uint32_t fault = wivakkol_build_refused(b, thread, 1, 2), n, m;
+    uint32_t fault = wivakkol_build_refused_(b, thread, 1, 2), n, m;
     uint8_t *bodies;
 
     *child = WIVAKKOL_NO_THREAD;
     if (fault != 0)
-        return wivakkol_build_fault(b, fault);
-    n = wivakkol_build_threads(b);
-    m = wivakkol_build_actions(b);
+        return wivakkol_build_fault_(b, fault);
+    n = wivakkol_build_threads_(b);
+    m = wivakkol_build_actions_(b);
     bodies = b->bytes + 4 + 4 * (size_t)n;
     memmove(bodies + 4, bodies, 4 * (size_t)m);
-    wivakkol_build_put(bodies, m, 1);
-    wivakkol_build_put(bodies + 4 + 4 * (size_t)m, WIVAKKOL_KIND_END, 0);
-    wivakkol_build_put(b->bytes, n + 1, m + 1);
-    wivakkol_build_action(b, thread, WIVAKKOL_KIND_FORK, n);
+    wivakkol_build_put_(bodies, m, 1);
+    wivakkol_build_put_(bodies + 4 + 4 * (size_t)m, WIVAKKOL_KIND_END, 0);
+    wivakkol_build_put_(b->bytes, n + 1, m + 1);
+    wivakkol_build_action_(b, thread, WIVAKKOL_KIND_FORK, n);
     *child = n;
     return 0;
 }
 
 /* The thread's latest child that is forked and not yet joined, WIVAKKOL_NO_THREAD where it has none. */
-static inline uint32_t wivakkol_build_open(const wivakkol_builder *b, uint32_t thread)
+static inline uint32_t wivakkol_build_open_(const wivakkol_builder *b, uint32_t thread)
 {
-    const uint8_t *entry = b->bytes + 4 + 4 * (size_t)thread, *first = b->bytes + 4 + 4 * ((size_t)wivakkol_build_threads(b) + wivakkol_build_word(entry));
-    const uint8_t *at = first + 4 * (size_t)wivakkol_build_word(entry + 2);
+    const uint8_t *entry = b->bytes + 4 + 4 * (size_t)thread, *first = b->bytes + 4 + 4 * ((size_t)wivakkol_build_threads_(b) + wivakkol_build_word_(entry));
+    const uint8_t *at = first + 4 * (size_t)wivakkol_build_word_(entry + 2);
     uint32_t joined = 0;
 
     while (at != first) {
@@ -169,7 +169,7 @@ static inline uint32_t wivakkol_build_open(const wivakkol_builder *b, uint32_t t
         if (at[0] == WIVAKKOL_KIND_JOIN)
             joined++;
         else if (at[0] == WIVAKKOL_KIND_FORK && joined-- == 0)
-            return wivakkol_build_word(at + 1);
+            return wivakkol_build_word_(at + 1);
     }
     return WIVAKKOL_NO_THREAD;
 }
@@ -177,74 +177,74 @@ static inline uint32_t wivakkol_build_open(const wivakkol_builder *b, uint32_t t
 /* Waits for the latest child that is forked and not yet joined. */
 static inline uint32_t wivakkol_build_join(wivakkol_builder *b, uint32_t thread)
 {
-    uint32_t fault = wivakkol_build_refused(b, thread, 0, 0), child;
+    uint32_t fault = wivakkol_build_refused_(b, thread, 0, 0), child;
 
     if (fault != 0)
-        return wivakkol_build_fault(b, fault);
-    child = wivakkol_build_open(b, thread);
-    fault = child == WIVAKKOL_NO_THREAD ? WIVAKKOL_BUILD_NO_JOIN : wivakkol_build_refused(b, thread, 0, 1);
+        return wivakkol_build_fault_(b, fault);
+    child = wivakkol_build_open_(b, thread);
+    fault = child == WIVAKKOL_NO_THREAD ? WIVAKKOL_BUILD_NO_JOIN : wivakkol_build_refused_(b, thread, 0, 1);
     if (fault != 0)
-        return wivakkol_build_fault(b, fault);
-    wivakkol_build_action(b, thread, WIVAKKOL_KIND_JOIN, child);
+        return wivakkol_build_fault_(b, fault);
+    wivakkol_build_action_(b, thread, WIVAKKOL_KIND_JOIN, child);
     return 0;
 }
 
 /* Joins all children that are left, the latest first; those for which there is room. */
 static inline uint32_t wivakkol_build_join_all(wivakkol_builder *b, uint32_t thread)
 {
-    uint32_t fault = wivakkol_build_refused(b, thread, 0, 0);
+    uint32_t fault = wivakkol_build_refused_(b, thread, 0, 0);
 
     if (fault != 0)
-        return wivakkol_build_fault(b, fault);
-    while (fault == 0 && wivakkol_build_open(b, thread) != WIVAKKOL_NO_THREAD)
+        return wivakkol_build_fault_(b, fault);
+    while (fault == 0 && wivakkol_build_open_(b, thread) != WIVAKKOL_NO_THREAD)
         fault = wivakkol_build_join(b, thread);
     return fault;
 }
 
-static inline uint32_t wivakkol_build_one(wivakkol_builder *b, uint32_t thread, uint32_t kind, uint32_t argument)
+static inline uint32_t wivakkol_build_one_(wivakkol_builder *b, uint32_t thread, uint32_t kind, uint32_t argument)
 {
-    uint32_t fault = wivakkol_build_refused(b, thread, 0, 1);
+    uint32_t fault = wivakkol_build_refused_(b, thread, 0, 1);
 
     if (fault != 0)
-        return wivakkol_build_fault(b, fault);
-    wivakkol_build_action(b, thread, kind, argument);
+        return wivakkol_build_fault_(b, fault);
+    wivakkol_build_action_(b, thread, kind, argument);
     return 0;
 }
 
 /* Anything that takes a turn and no memory. */
 static inline uint32_t wivakkol_build_work(wivakkol_builder *b, uint32_t thread)
 {
-    return wivakkol_build_one(b, thread, WIVAKKOL_KIND_WORK, 0);
+    return wivakkol_build_one_(b, thread, WIVAKKOL_KIND_WORK, 0);
 }
 
-static inline uint32_t wivakkol_build_amount(wivakkol_builder *b, uint32_t thread, uint32_t kind, uint32_t amount)
+static inline uint32_t wivakkol_build_amount_(wivakkol_builder *b, uint32_t thread, uint32_t kind, uint32_t amount)
 {
     if (amount == 0 || WIVAKKOL_MOST_AMOUNT < amount)
-        return wivakkol_build_fault(b, WIVAKKOL_BUILD_AMOUNT);
-    return wivakkol_build_one(b, thread, kind, amount);
+        return wivakkol_build_fault_(b, WIVAKKOL_BUILD_AMOUNT);
+    return wivakkol_build_one_(b, thread, kind, amount);
 }
 
 /* Draws memory. */
 static inline uint32_t wivakkol_build_alloc(wivakkol_builder *b, uint32_t thread, uint32_t amount)
 {
-    return wivakkol_build_amount(b, thread, WIVAKKOL_KIND_ALLOC, amount);
+    return wivakkol_build_amount_(b, thread, WIVAKKOL_KIND_ALLOC, amount);
 }
 
 /* Gives memory back: of its own, or what a joined child left. */
 static inline uint32_t wivakkol_build_free(wivakkol_builder *b, uint32_t thread, uint32_t amount)
 {
-    return wivakkol_build_amount(b, thread, WIVAKKOL_KIND_FREE, amount);
+    return wivakkol_build_amount_(b, thread, WIVAKKOL_KIND_FREE, amount);
 }
 
 /* Of an action of the table: how many actions of its thread come before it, and the thread; so the place of a refusal is found again in the calls that were made. 0 and WIVAKKOL_NO_THREAD
  * where there is no such action. */
 static inline uint32_t wivakkol_build_step(const wivakkol_builder *b, uint64_t action, uint32_t *thread)
 {
-    uint32_t t, first, n = b->room == 0 ? 0 : wivakkol_build_threads(b);
+    uint32_t t, first, n = b->room == 0 ? 0 : wivakkol_build_threads_(b);
 
     for (t = 0; t < n; t++) {
-        first = wivakkol_build_word(b->bytes + 4 + 4 * (size_t)t);
-        if (first <= action && action < (uint64_t)first + wivakkol_build_word(b->bytes + 6 + 4 * (size_t)t)) {
+        first = wivakkol_build_word_(b->bytes + 4 + 4 * (size_t)t);
+        if (first <= action && action < (uint64_t)first + wivakkol_build_word_(b->bytes + 6 + 4 * (size_t)t)) {
             *thread = t;
             return (uint32_t)action - first;
         }

@@ -36,7 +36,7 @@ static void told(const wivakkol_builder *b, uint32_t length)
     size_t i, whole;
 
     printf("%" PRIu32 " %zu ", b->fault, wivakkol_built(b));
-    whole = b->room == 0 ? 0 : 4 + 4 * ((size_t)wivakkol_build_threads(b) + wivakkol_build_actions(b));
+    whole = b->room == 0 ? 0 : 4 + 4 * ((size_t)wivakkol_build_threads_(b) + wivakkol_build_actions_(b));
     number = wivakkol_check(&work, b->bytes, whole, row);
     steps = wivakkol_build_step(b, row[WIVAKKOL_PLACE], &thread);
     printf("%" PRIu32 " %" PRIu64 " %" PRIu32 " %" PRIu32 " ", number, row[WIVAKKOL_PLACE], thread, steps);

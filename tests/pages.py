@@ -195,13 +195,13 @@ def functions_missing(text):
 
 
 def calls_missing(text):
-    """The headers, and the calls from C in the tables of calls."""
+    """The headers, and the calls from C in the tables of calls; what ends in _ is for the header itself."""
     for header in sorted(pathlib.Path('include').glob('*.h')):
         if '`%s`' % header not in text:
             yield str(header)
         declared = re.sub(r'/\*.*?\*/', '', read(header), flags=re.S)
         for name in re.findall(r'^(?:static inline )?\w+ \*?(wivakkol_\w+)\(', declared, re.M):
-            if not name.endswith('_on') and not re.search(r'^\| (?:`\w+\(.*?\)`, )*`%s\(' % name, text, re.M) and name != 'wivakkol_refusal_words':
+            if not name.endswith(('_on', '_')) and not re.search(r'^\| (?:`\w+\(.*?\)`, )*`%s\(' % name, text, re.M) and name != 'wivakkol_refusal_words':
                 yield name
 
 
