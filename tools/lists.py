@@ -211,9 +211,9 @@ def parts():
 
 
 def marked(text, word):
-    """Before, inside and behind the marks of a part; None where they are not there once."""
+    """Before, inside and behind the marks of a part; None where they are not there."""
     found = re.findall(r'\A(.*?^[^\n]*made from data/\w+\.txt: %s\b[^\n]*\n)(.*?)(^[^\n]*made to here[^\n]*\n.*)\Z' % word, text, re.S | re.M)
-    return found[0] if found and text.count(': %s' % word) >= 1 else None
+    return found[0] if found else None
 
 
 def others_in_reference(found):
