@@ -102,14 +102,14 @@ def module(name):
     """A module as a function, called once, that answers what the module exports: modules in files of their own do not load from a disk."""
     text = (ROOT / 'screen' / (name + '.mjs')).read_text()
     text = re.sub(r"^import (\{[^}]*\}) from '\./(\w+)\.mjs';$", r'const \1 = \2;', text, flags=re.M)
-    exported = re.findall(r'^export (?:async )?(?:function|class|const|let) (\w+)', text, re.M)
+    exported = re.findall(r'^export (?:async )?(?:function|class|const|let) ([\w$]+)', text, re.M)
     body = re.sub(r'^export ', '', text, flags=re.M).strip()
     return 'const %s = (() => {\n%s\nreturn {%s};\n})();\n' % (name, body, ', '.join(exported))
 
 
 def embedded(name, value):
     """A JSON value in the page, in a script that is none."""
-    return '<script type="application/json" id="%s">%s</script>' % (name, json.dumps(value, ensure_ascii=True, separators=(',', ':')).replace('<', '\\u003c'))
+    return '<script type="application/json" id="data-%s">%s</script>' % (name, json.dumps(value, ensure_ascii=True, separators=(',', ':')).replace('<', '\\u003c'))
 
 
 def page(start=None):
