@@ -297,6 +297,16 @@ class Record {
         return {kind: this.kindOf(action), argument: this.argumentOf(action)};
     }
 
+    /** How much a turn that was looked at is worth to who looks for the worst: -1 refused, 0 idle; else by memory held after it, and of equals a fork before another action before quota and wait. */
+    worth(number, held) {
+        const {calls, constants} = this;
+        if (number) return -1;
+        const said = calls.row(constants.SAID);
+        if (said === constants.SAID_IDLE) return 0;
+        const forks = said === constants.SAID_DONE && this.kindOf(calls.row(constants.VALUE)) === constants.KIND_FORK;
+        return 4 * held() + (forks ? 3 : said === constants.SAID_DONE ? 2 : 1);
+    }
+
     /** Lends an order to a list: bytes of it, from `from` on. */
     lendOrder(order, from, to) {
         this.calls.bytes.set(order.subarray(from, to), this.calls.at.order);
@@ -315,6 +325,7 @@ export class AsyncRecord extends Record {
         this.backOf = calls.ready('back_on', this.given, ['i']);
         this.mayOf = calls.ready('may_on', this.given, ['w']);
         this.tookOf = calls.ready('took_on', this.given, ['w']);
+        this.heldAfter = () => calls.row(this.constants.AFTER_HELD);
     }
 
     /** Clears the marks and begins the pace: with b where turns that break its rule are to be refused, else with the largest, to count. */
@@ -346,6 +357,10 @@ export class AsyncRecord extends Record {
         const row = calls.answer(this.previewOf(worker), constants.PREVIEW_ROW);
         if (row instanceof Refusal) return row;
         return {...this.said(row), held: row[constants.AFTER_HELD], highest: row[constants.AFTER_HIGHEST], quota: row[constants.AFTER_QUOTA], refused: this.may(worker)};
+    }
+
+    worthOf(worker) {
+        return this.worth(this.may(worker) || this.previewOf(worker), this.heldAfter);
     }
 
     /** Takes the turns of an order again, whose workers are at `from` to `to`. */
@@ -420,8 +435,20 @@ export class DequeRecord extends Record {
         calls.bytes.copyWithin(calls.at.spare, this.base, this.base + calls.facts.run);
         const row = calls.answer(this.spareTurnOf(worker, choice), constants.DEQUE_TURN_ROW);
         if (row instanceof Refusal) return row;
-        const after = this.spare ??= this.twin('spare');
+        const after = this.after();
         return {...this.said(row), held: after.held, highest: after.highest, quota: after.quotaOf(worker), refused: 0};
+    }
+
+    /** The copy on which turns are looked at. */
+    after() {
+        this.spare ??= this.twin('spare');
+        return this.spare;
+    }
+
+    worthOf(worker, choice) {
+        const {calls} = this;
+        calls.bytes.copyWithin(calls.at.spare, this.base, this.base + calls.facts.run);
+        return this.worth(this.spareTurnOf(worker, choice), () => this.after().held);
     }
 
     again(workers, choices, from, to) {

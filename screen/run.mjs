@@ -154,14 +154,11 @@ export class Run {
 
     /** The worker whose turn leaves most held; of equals one that forks, then one that does not give its thread up, then the next in rounds. None that is idle while another is not. */
     worst(choice, after) {
-        const {constants, record, given: {p}} = this;
+        const {record, given: {p}} = this;
         let best = after % p, most = -1;
         for (let i = 0; i < p; i++) {
-            const worker = (after + i) % p, seen = record.preview(worker, choice);
-            if (seen instanceof Refusal || seen.refused) continue;
-            const forks = seen.said === constants.SAID_DONE && record.kindOf(seen.action) === constants.KIND_FORK;
-            const value = seen.said === constants.SAID_IDLE ? 0 : 4 * seen.held + (forks ? 3 : seen.said === constants.SAID_DONE ? 2 : 1);
-            if (value > most) [best, most] = [worker, value];
+            const worker = (after + i) % p, worth = record.worthOf(worker, choice);
+            if (worth > most) [best, most] = [worker, worth];
         }
         return best;
     }

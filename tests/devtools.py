@@ -94,6 +94,18 @@ class Browser:
         self.process.wait(20)
         shutil.rmtree(self.folder, ignore_errors=True)
 
+    def downloads(self, folder):
+        """Where files go that the page saves."""
+        session, self.session = self.session, None
+        self.ask('Browser.setDownloadBehavior', behavior='allow', downloadPath=str(folder))
+        self.session = session
+
+    def choose(self, selector, path):
+        """A file chosen in a field for files."""
+        root = self.ask('DOM.getDocument')['root']['nodeId']
+        node = self.ask('DOM.querySelector', nodeId=root, selector=selector)['nodeId']
+        self.ask('DOM.setFileInputFiles', files=[str(path)], nodeId=node)
+
     def ask(self, method, **given):
         self.last += 1
         message = {'id': self.last, 'method': method, 'params': given}
