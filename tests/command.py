@@ -317,7 +317,7 @@ def words_of_the_reference():
 def wrong_usage():
     e = 'examples/e.text'
     for given, line in [
-            ([], 'which command? check, asm, dis, quota, limit, turns, fill, run, list, chart, deques, picture, join, canon, cmp (wivakkol help)'),
+            ([], 'which command? check, asm, dis, quota, limit, turns, fill, run, list, chart, deques, picture, join, canon, cmp, screen (wivakkol help)'),
             (['chekc', e], "no command is called 'chekc'; did you mean check? (wivakkol help)"),
             (['List', e], "no command is called 'List'; did you mean list? (wivakkol help)"),
             (['zzz', e], "no command is called 'zzz' (wivakkol help)"),

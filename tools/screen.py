@@ -7,6 +7,7 @@ usage: python3 tools/screen.py            (writes dist/screen.html)
 """
 import base64
 import gzip
+import hashlib
 import json
 import pathlib
 import re
@@ -14,7 +15,7 @@ import runpy
 import sys
 
 ROOT = pathlib.Path(__file__).resolve().parent.parent
-PAGE, WASM = ROOT / 'dist/screen.html', ROOT / 'dist/wasm32/wivakkol.wasm'
+PAGE, WASM, SUMS = ROOT / 'dist/screen.html', ROOT / 'dist/wasm32/wivakkol.wasm', ROOT / 'dist/SUMS'
 HEADERS = ('wivakkol', 'wivakkol_desk', 'wivakkol_marks', 'wivakkol_pace', 'wivakkol_deques')
 MODULES = ('calls', 'run', 'files', 'drawings', 'panels', 'main')
 EXAMPLES = ('repeats', 'e', 'parts', 'stages', 'tree')
@@ -112,11 +113,11 @@ def embedded(name, value):
     return '<script type="application/json" id="data-%s">%s</script>' % (name, json.dumps(value, ensure_ascii=True, separators=(',', ':')).replace('<', '\\u003c'))
 
 
-def page(start=None):
-    """The page without the calls, which stand where PACKED stands; `start` is what the command gives it: a table in base64, its name, p, K and M."""
+def page():
+    """The page without the calls, which stand where PACKED stands. Where data-start is null, `wivakkol screen` puts a table in base64, its name, p, K and M."""
     parts = {'STYLE': (ROOT / 'screen/style.css').read_text().strip(), 'SCRIPT': ''.join(module(name) for name in MODULES).strip(),
              'DATA': '\n'.join([embedded('facts', facts()), embedded('examples', {name: (ROOT / 'examples' / (name + '.text')).read_text() for name in EXAMPLES}),
-                                embedded('start', start)])}
+                                embedded('start', None)])}
     return re.sub(r'<!-- (STYLE|SCRIPT|DATA) -->', lambda found: parts[found[1]], (ROOT / 'screen/page.html').read_text())
 
 
@@ -124,28 +125,43 @@ def with_calls(text, wasm):
     return text.replace('<!-- PACKED -->', base64.b64encode(gzip.compress(wasm, 9, mtime=0)).decode())
 
 
-def made(start=None, wasm=None):
-    return with_calls(page(start), WASM.read_bytes() if wasm is None else wasm)
+def current(wasm):
+    """Is dist/screen.html what would be made of these calls? They are compared unpacked, since programs that pack differ."""
+    found = re.fullmatch(r'(.*<script type="text/plain" id="packed">)([A-Za-z0-9+/=]*)(</script>.*)', PAGE.read_text() if PAGE.exists() else '', re.S)
+    return bool(found) and found[1] + '<!-- PACKED -->' + found[3] == page() and gzip.decompress(base64.b64decode(found[2])) == wasm
 
 
-def current():
-    """Is dist/screen.html what would be made? The calls are compared unpacked, since programs that pack differ."""
-    if not PAGE.exists():
-        return False
-    found = re.fullmatch(r'(.*<script type="text/plain" id="packed">)([A-Za-z0-9+/=]*)(</script>.*)', PAGE.read_text(), re.S)
-    return bool(found) and found[1] + '<!-- PACKED -->' + found[3] == page() and gzip.decompress(base64.b64decode(found[2])) == WASM.read_bytes()
+def for_dist(wasm):
+    """The page's bytes with these calls; those that stand there where they are what would be made."""
+    return PAGE.read_bytes() if current(wasm) else with_calls(page(), wasm).encode()
+
+
+def write():
+    """Writes dist/screen.html, and its sum."""
+    data = for_dist(WASM.read_bytes())
+    PAGE.write_bytes(data)
+    lines = [line for line in SUMS.read_text().splitlines() if not line.endswith('  ' + PAGE.name)] + ['%s  %s' % (hashlib.sha256(data).hexdigest(), PAGE.name)]
+    SUMS.write_text(''.join(line + '\n' for line in sorted(lines, key=lambda line: line.split('  ')[1])))
+
+
+def faults():
+    """What is wrong with dist/screen.html, in one line, or nothing."""
+    if not current(WASM.read_bytes()):
+        return 'dist/screen.html is not what screen/, include/, examples/ and dist/wasm32 make: `python3 tools/screen.py` writes it anew'
+    if '%s  %s\n' % (hashlib.sha256(PAGE.read_bytes()).hexdigest(), PAGE.name) not in SUMS.read_text():
+        return 'dist/SUMS has another sum for screen.html: `python3 tools/screen.py` writes it anew'
+    return None
 
 
 def main(given):
     if given == ['--facts']:
         print(json.dumps(facts()))
     elif given == ['--check']:
-        if not current():
-            sys.exit('dist/screen.html is not what screen/, include/, examples/ and dist/wasm32 make: python3 tools/screen.py writes it anew')
+        if faults():
+            sys.exit(faults())
         print('dist/screen.html is as made, %d bytes' % PAGE.stat().st_size)
     elif not given:
-        PAGE.parent.mkdir(exist_ok=True)
-        PAGE.write_text(made())
+        write()
     else:
         sys.exit(__doc__)
 
