@@ -130,6 +130,7 @@ export class Drawings {
     }
 
     draw(run, shown) {
+        if (this.timeline.clientWidth < 2 * (LEFT + RIGHT)) return; // no room, as on paper, where a picture of it stands
         this.theme ??= new Theme(document.documentElement);
         this.drawTimeline(run, shown);
         this.drawMemory(run, shown);
@@ -342,7 +343,7 @@ export class Drawings {
         if (run.limits.paced !== undefined) lines.push({name: `limit, b ${run.given.b}`, value: run.limits.paced, colour: theme.limit, dash: [8, 3, 2, 3]});
         if (run.limits.near !== undefined) lines.push({name: 'limit, choices 0', value: run.limits.near, colour: theme.limit, dash: [8, 3, 2, 3]});
         if (M !== null) lines.push({name: 'M', value: M, colour: theme.memory, dash: []});
-        const near = lines.filter((line) => line.value <= 1.7 * peak), far = lines.filter((line) => line.value > 1.7 * peak).sort((a, b) => b.value - a.value);
+        const most = 1.7 * Math.max(peak, run.serial), near = lines.filter((line) => line.value <= most), far = lines.filter((line) => line.value > most).sort((a, b) => b.value - a.value);
         return {near, far, top: Math.max(peak, ...near.map((line) => line.value)) * 1.06};
     }
 
@@ -381,7 +382,7 @@ export class Drawings {
 
     /** What each thread holds, from thread 0 upwards, painted pixel by pixel. */
     stack(run, context, width, ratio, y, base) {
-        const {theme, view, amounts} = this, {starts, count, turns, coloured} = this.columnsOf(run, width, ratio);
+        const {starts, count, turns, coloured} = this.columnsOf(run, width, ratio), {theme, view, amounts} = this;
         const columns = Math.floor((width - LEFT - RIGHT) * ratio), rows = Math.ceil(base * ratio), {layer} = this;
         const image = context.createImageData(columns, rows), pixels = new Uint32Array(image.data.buffer), gap = theme.panelPixel;
         const scale = columns / (view.to - view.from);

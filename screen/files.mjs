@@ -158,6 +158,11 @@ export function givenActions(run) {
     return found;
 }
 
+/** A refusal of a turn or a mark in a few words: what to do is plain. */
+export function short(refusal) {
+    return `refused ${refusal.number}: ${refusal.meaning}`;
+}
+
 /** A refusal in one sentence with its place in the text where it has one. */
 export function told(calls, refusal, text = null) {
     const {constants} = calls;

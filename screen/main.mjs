@@ -1,7 +1,7 @@
 // The page: what is pressed, dropped, typed or opened, and what is then drawn.
 import {load, Refusal} from './calls.mjs';
 import {BadState, bringTo, checkState, linkOf, readLink, rules, Run, stateOf, unpacked} from './run.mjs';
-import {chart, listing, NoTable, order, readFile, told, trace} from './files.mjs';
+import {chart, listing, NoTable, order, readFile, short, told, trace} from './files.mjs';
 import {Drawings, grouped, Theme} from './drawings.mjs';
 import {$, facts, holders, KEYS, linesOf, made, marks, previews, stand, TextPanel, tries} from './panels.mjs';
 
@@ -78,7 +78,7 @@ class Screen {
 
     tableTold(sentence, line) {
         $('table-told').textContent = line ? `line ${line}: ${sentence}` : sentence;
-        $('text').classList.toggle('wrong', Boolean(sentence));
+        $('code').classList.toggle('wrong', Boolean(sentence));
         this.text.mark(sentence ? 0 : this.text.next, line || 0);
         if (line) this.text.show(line);
     }
@@ -278,7 +278,7 @@ class Screen {
     /** Why turns ended, where that is worth a word. */
     why(answer) {
         const {M} = this.run.given;
-        if (answer instanceof Refusal) this.say(told(this.calls, answer).sentence);
+        if (answer instanceof Refusal) this.say(short(answer));
         else if (answer === 'memory') this.say(`stopped: the next turn would hold more than M ${grouped(M)}`);
         else if (answer === 'list') this.say('the list is at its end');
         else if (answer === 'ended') this.say(`the run is over: ${grouped(this.run.turn)} turns, highest ${grouped(this.run.record.highest)}`, true);
@@ -304,7 +304,7 @@ class Screen {
         if (this.blocked()) return;
         this.halt();
         const refused = this.run.take(worker, this.run.choiceOf(this.rule));
-        this.say(refused ? `worker ${worker}: ${told(this.calls, refused).sentence}` : '');
+        this.say(refused ? `worker ${worker}: ${short(refused)}` : '');
         this.refresh();
     }
 
@@ -366,8 +366,8 @@ class Screen {
     useList() {
         const found = this.run.readOrder($('list-text').value);
         if (!(found instanceof Uint8Array)) {
-            const why = found.refused ? told(this.calls, found.refused).sentence : `expected ${found.wanted}`;
-            $('list-told').textContent = `turn ${found.turn} of the list, “${found.word.slice(0, 20)}”: ${why}`;
+            const why = found.refused ? short(found.refused) : `expected ${found.wanted}`;
+            $('list-told').textContent = `turn ${found.turn} of the list, “${found.word.slice(0, 20)}”: ${why}. No turn was taken.`;
             return;
         }
         Object.assign(this.rule, {order: 'list', list: found, from: this.run.turn});
@@ -379,7 +379,7 @@ class Screen {
     mark(i) {
         if (this.blocked()) return;
         const refused = this.run.mark(i);
-        this.say(refused ? told(this.calls, refused).sentence : `mark ${i} is set at turn ${grouped(this.run.turn)}`, !refused);
+        this.say(refused ? `mark ${i}: ${short(refused)}` : `mark ${i} is set at turn ${grouped(this.run.turn)}`, !refused);
         this.refresh();
     }
 
@@ -387,7 +387,7 @@ class Screen {
         if (this.blocked()) return;
         this.halt();
         const refused = this.run.back(i);
-        this.say(refused ? `mark ${i}: ${told(this.calls, refused).sentence}` : '');
+        this.say(refused ? `mark ${i}: ${short(refused)}` : '');
         this.refresh();
     }
 
@@ -442,7 +442,9 @@ class Screen {
         tries(run, theme);
         this.controls();
         const seen = (shown.hover ?? shown.next)?.preview;
-        this.text.mark(seen && seen.action >= 0 ? this.lines[seen.action] : 0, 0);
+        const line = seen && seen.action >= 0 ? this.lines[seen.action] : 0;
+        this.text.mark(line, 0);
+        if (line && document.activeElement !== this.text.area) this.text.show(line);
         drawings.draw(run, shown);
         this.frames++;
         $('memory').setAttribute('aria-label', `memory held: ${run.record.held} after turn ${run.turn}, highest ${run.record.highest}, stacked by thread`);
@@ -661,8 +663,8 @@ class Screen {
             target.blur?.();
             return;
         }
-        if (event.ctrlKey || event.metaKey || event.altKey || target.closest('input, textarea, select, dialog')) return;
-        if (target.closest('button, [tabindex]') && (key === ' ' || key === 'Enter')) return;
+        if (event.ctrlKey || event.metaKey || event.altKey || target.closest('input:not([type=checkbox]), textarea, select, dialog')) return;
+        if (target.closest('button, input') && (key === ' ' || key === 'Enter')) return;
         if (!this.run) return;
         const act = this.pending ? this.afterMark(key) : this.actOf(key, event.shiftKey);
         if (!act) return;

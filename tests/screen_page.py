@@ -128,6 +128,50 @@ def runs(page):
     page.click('#asyncdf')
 
 
+STACKED = """(() => {
+    const w = wivakkol, d = w.drawings, {run} = w, {layer} = d, copy = document.createElement('canvas'), {theme} = d, kept = d.kept;
+    Object.assign(copy, {width: layer.width, height: layer.height});
+    const context = copy.getContext('2d', {willReadFrequently: true});
+    context.drawImage(layer, 0, 0);
+    const pixels = new Uint32Array(context.getImageData(0, 0, copy.width, copy.height).data.buffer), scale = copy.width / (d.view.to - d.view.from);
+    let bands = 0;
+    const wrong = [];
+    for (let c = 0; c < kept.turns.length; c++) {
+        const turn = kept.turns[c], record = run.lookAt(run.log, turn), x = Math.floor(((kept.starts[c] + kept.starts[c + 1]) / 2 - d.view.from) * scale);
+        const seen = [];
+        if (x < 0 || x >= copy.width) continue;
+        for (let y = copy.height - 1; y >= 0; y--) {
+            const colour = pixels[y * copy.width + x];
+            if (colour !== theme.panelPixel && colour !== 0 && seen.at(-1) !== colour) seen.push(colour);
+        }
+        const wanted = [];
+        for (let t = 0; t < run.threads; t++) {
+            const colour = kept.coloured[t] ? theme.pixels[t % theme.pixels.length] : theme.greyPixel;
+            if (record.amount(t) && wanted.at(-1) !== colour) wanted.push(colour);
+        }
+        bands += wanted.length;
+        if (JSON.stringify(seen) !== JSON.stringify(wanted)) wrong.push(turn);
+    }
+    return {turns: kept.turns.length, bands, wrong};
+})()"""
+
+
+def drawn(page):
+    """In each column of the drawing the bands are those of the threads that hold memory then, from below; after turns, after other tables, zoomed."""
+    page.open()
+    for name, p, quota, turns in ('repeats', 4, 40, 126), ('stages', 4, 8, 30), ('tree', 4, 8, 60), ('tree', 16, 8, 900):
+        page.example(name, p, quota)
+        page.browser.run('wivakkol.advance(1)')
+        page.settled()
+        page.browser.run('wivakkol.advance(%d)' % (turns - 1))
+        page.settled()
+        seen = page.browser.run(STACKED)
+        expect('%s: columns' % name, (seen['wrong'], seen['turns'] == turns if turns < 400 else seen['turns'] > 300, seen['bands'] > seen['turns']), ([], True, True))
+        page.keys('+', '+')
+        expect('%s: columns, nearer' % name, page.browser.run(STACKED)['wrong'], [])
+        page.keys('z')
+
+
 def forward_and_back(page):
     """Steps back and on, marks, two tries, and the run as a link and as a file."""
     page.example('repeats', 4, 40)
@@ -362,6 +406,7 @@ def main(given):
                 return pictures(page)
             page.open()
             runs(page)
+            drawn(page)
             forward_and_back(page)
             refused(page)
             times = large(page)
