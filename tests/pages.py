@@ -9,7 +9,7 @@ import subprocess
 import sys
 
 PAGES = ['README.md', 'CONTRIBUTING.md', 'CHANGELOG.md', *map(str, sorted(pathlib.Path('docs').glob('*.md'))), 'docs/pictures/README.md']
-FOLDERS = 'crates|dist|docs|tests|tools|examples|bench|include|rust'
+FOLDERS = 'crates|dist|docs|tests|tools|examples|bench|include|rust|screen'
 ELSEWHERE = {'memmove', 'do_action', 'docs/guides/DESIGN.md'}  # of C, of its caller, of the toolchain
 
 
@@ -18,7 +18,7 @@ def tree():
     files = subprocess.run(['git', 'ls-files', '-co', '--exclude-standard'], capture_output=True, text=True, check=True).stdout.split('\n')
     words = set()
     for name in files:
-        if not name or name.startswith('dist/') or name.endswith(('.md', '.svg', '.table', '.run', '.board')) or pathlib.Path(name).name in ('stdin', 'stdout'):
+        if not name or name.startswith('dist/') or name.endswith(('.md', '.svg', '.png', '.table', '.run', '.board')) or pathlib.Path(name).name in ('stdin', 'stdout'):
             continue
         if pathlib.Path(name).is_file():
             words.update(re.findall(r"[A-Za-z_][A-Za-z0-9_'-]*", pathlib.Path(name).read_text()))
