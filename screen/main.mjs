@@ -97,10 +97,22 @@ class Screen {
     }
 
     typed() {
-        clearTimeout(this.typing);
         $('example').value = '';
         this.name = 'run';
-        this.typing = setTimeout(() => this.retry(), 250);
+        this.soon(() => this.retry(), 250);
+    }
+
+    /** What is typed is taken after a short rest, or at once where the field is left or Enter pressed. */
+    soon(act, rest) {
+        clearTimeout(this.typing?.timer);
+        this.typing = {act, timer: setTimeout(() => this.now(), rest)};
+    }
+
+    now() {
+        const {typing} = this;
+        clearTimeout(typing?.timer);
+        this.typing = null;
+        typing?.act();
     }
 
     /** After an edit: the same table as before leaves the run as it is. */
@@ -562,11 +574,8 @@ class Screen {
     }
 
     listenToNumbers() {
-        const later = () => {
-            clearTimeout(this.typing);
-            this.typing = setTimeout(() => this.begin(), 300);
-        };
-        for (const id of ['p', 'K', 'b']) $(id).addEventListener('input', later);
+        for (const id of ['p', 'K', 'b']) $(id).addEventListener('input', () => this.soon(() => this.begin(), 300));
+        for (const id of ['p', 'K', 'b', 'text']) $(id).addEventListener('change', () => this.now());
         $('M').addEventListener('input', () => {
             const memory = this.numberOf('M', Number.MAX_SAFE_INTEGER);
             this.wrong(Number.isNaN(memory) ? 'M' : '', Number.isNaN(memory) ? 'M: a whole number is wanted' : '');
@@ -713,14 +722,12 @@ async function start() {
     const wasm = await unpacked(encoded($('packed').textContent), 'gzip');
     const screen = new Screen(await load(wasm, data('facts'))), given = data('start');
     globalThis.wivakkol = screen; // for the console and for tests
+    screen.example('repeats', {M: 200});
     if (given) {
         screen.setNumbers({M: null, b: null, ...given});
         screen.bring(encoded(given.table), given.name);
     }
-    if (!screen.run) screen.example('repeats', given ? {} : {M: 200});
-    const told = $('table-told').textContent;
     await screen.fromHash();
-    if (given && told) $('table-told').textContent = told;
 }
 
 start().catch((fault) => {

@@ -82,7 +82,7 @@ export function facts(run, theme) {
     add(run.deques ? 'limit, every choice' : 'limit, every order', grouped(run.limits.every), [theme.limit, 'dotted']);
     if (run.limits.near !== undefined) add('limit, choices all 0', grouped(run.limits.near), [theme.limit, 'dashed']);
     if (run.limits.paced !== undefined) add(`limit, b ${run.given.b}`, grouped(run.limits.paced), [theme.limit, 'dashed']);
-    add('any p', grouped(run.limits.parallel));
+    add('limit, any p', grouped(run.limits.parallel));
     if (run.given.M !== null) add('board M', grouped(run.given.M), [theme.memory, 'solid']);
     if (!run.deques) {
         add('turns in rounds ≤', grouped(run.most));

@@ -53,19 +53,17 @@ class Page:
         self.settled()
 
     def settled(self):
-        self.browser.until('!wivakkol.asked && !wivakkol.going')
+        self.browser.until('!wivakkol.asked && !wivakkol.going && !wivakkol.typing')
 
     def field(self, name, value):
         """A number typed into its field, and time for it to be taken."""
-        self.browser.run('wivakkol.typing = 0')
         self.browser.type('#' + name, str(value))
-        time.sleep(0.34)
+        self.browser.key('Enter')
         self.browser.key('Escape')
         self.settled()
 
     def text(self, text):
         self.browser.type('#text', text)
-        time.sleep(0.3)
         self.browser.key('Escape')
         self.settled()
 
@@ -281,6 +279,9 @@ def files_refused(page):
         bring(page, name, data)
         page.browser.until('document.getElementById("table-told").textContent.includes(%s)' % json.dumps(words))
         expect(name, (page.stale(), page.word('#turn')), (False, 'turn 2'))
+    page.browser.run('(() => {const all = new DataTransfer(); all.items.add(new File([new Uint8Array([0xff, 0xd8, 0xff, 0xe0])], "b.jpg")); dispatchEvent(new DragEvent("drop", {dataTransfer: all}));})()')
+    page.browser.until('document.getElementById("table-told").textContent === "b.jpg: This is a JPEG picture, not a table."')
+    expect('a picture dropped', (page.stale(), page.word('#turn')), (False, 'turn 2'))
     bring(page, 'other.json', b'{"wivakkol": 7}')
     page.browser.until('document.getElementById("run-told").textContent.includes("version 7")')
     bring(page, 'my.table', e)
@@ -295,6 +296,21 @@ def bring(page, name, data):
     path = page.folder.parent / name
     path.write_bytes(data)
     page.browser.choose('#file', path)
+
+
+def with_a_table(page):
+    """The page as `wivakkol screen` writes it: with a table, with one that is refused, with numbers that are."""
+    stages = pathlib.Path('examples/stages.text').read_bytes()
+    for data, numbers, turn, where, words in [(stages, ['-p', '3', '-K', '8', '-M', '30'], 'turn 0', '#numbers-told', ''), (stages, ['-p', '17', '-K', '8'], 'turn 0', '#numbers-told', 'refused 20:'),
+                                              (pathlib.Path('examples/e.table').read_bytes()[:-1], ['-p', '2', '-K', '6'], 'turn 0', '#table-told', 'refused 3:')]:
+        path = page.folder.parent / 'with.html'
+        subprocess.run([sys.executable, 'tools/wivakkol', 'screen', *numbers, '-', '-o', str(path)], input=data, check=True)
+        page.browser.open('about:blank', 'location.href === "about:blank"')
+        page.browser.open(path.as_uri(), READY)
+        expect('screen %s' % numbers, (page.word('#turn'), words in page.word(where), page.stale()), (turn, True, words == 'refused 20:'))
+        if data == stages:
+            expect('its text', page.browser.run('document.getElementById("text").value').encode(), stages)
+            expect('its numbers', page.browser.run('["p", "K"].map((id) => document.getElementById(id).value)'), [numbers[1], numbers[3]])
 
 
 def largest():
@@ -409,6 +425,7 @@ def main(given):
             drawn(page)
             forward_and_back(page)
             refused(page)
+            with_a_table(page)
             times = large(page)
             if given == ['--figures']:
                 figures(page, times)
