@@ -188,6 +188,7 @@ def forward_and_back(page):
     expect('where they part', page.word('#tries th').startswith('same up to turn '), True)
     saved = page.saved('run')
     page.keys('l')
+    page.browser.until('document.getElementById("run-told").textContent.startsWith("The link is")')
     link, told = page.browser.run('location.hash.slice(1)'), page.word('#run-told')
     expect('link', ('link is' in told, 80 < len(link) < 2000), (True, True))
     page.open(link)
@@ -282,6 +283,14 @@ def files_refused(page):
     page.browser.run('(() => {const all = new DataTransfer(); all.items.add(new File([new Uint8Array([0xff, 0xd8, 0xff, 0xe0])], "b.jpg")); dispatchEvent(new DragEvent("drop", {dataTransfer: all}));})()')
     page.browser.until('document.getElementById("table-told").textContent === "b.jpg: This is a JPEG picture, not a table."')
     expect('a picture dropped', (page.stale(), page.word('#turn')), (False, 'turn 2'))
+    page.keys('m', '3')
+    state, before = json.loads(page.saved('run')), (page.word('#stand'), page.word('#marks'), page.saved('listing'))
+    for name, change, words in [('far.json', {'turn': 9}, 'it is at turn 9 of 2'), ('none.json', {'tries': [['h', '0f']]}, 'not understood'), ('worker.json', {'tries': [[['h', '0f']]]}, 'its turn 2 is refused with 30'),
+                                ('p.json', {'p': 17}, 'it is refused with 20'), ('text.json', {'text': 'thread 0'}, 'its table is refused with'), ('long.json', {'tries': [[['r', 99]]]}, 'it has 99 turns where the run has 14')]:
+        bring(page, name, json.dumps({**state, **change}).encode())
+        page.browser.until('document.getElementById("run-told").textContent.includes(%s)' % json.dumps(words))
+        page.settled()
+        expect('%s: the run stays' % name, (page.word('#turn'), page.word('#stand'), page.word('#marks'), page.saved('listing')), ('turn 2', *before))
     bring(page, 'other.json', b'{"wivakkol": 7}')
     page.browser.until('document.getElementById("run-told").textContent.includes("version 7")')
     bring(page, 'my.table', e)
