@@ -5,11 +5,11 @@ const HIGH = 4294967296;
 const RECORDS = ['run', 'replay', 'spare'];
 const ORDER_ROOM = 2048;
 
-/** What a call answers where it refuses: its number, the place, what the place counts, the check's meaning and what to do; `row` has the call's other numbers. */
+/** What a call answers where it refuses: its number, the place, what the place counts, the check's meaning and what to do; of a text the line; `row` has the call's other numbers. */
 export class Refusal {
     constructor(facts, number, row) {
         const [about, meaning, advice] = facts.refusals[number] ?? ['', 'no call refuses with this number', ''];
-        Object.assign(this, {number, place: row[0] ?? 0, row, about, meaning, advice});
+        Object.assign(this, {number, place: row[0] ?? 0, row, about, meaning, advice, line: null});
     }
 }
 
@@ -122,7 +122,8 @@ export class Calls {
         if (text.length > constants.TEXT_LONGEST) return this.refusal(constants.REFUSED_TEXT);
         const given = {...this.put('text', text), out: this.at.tried, room: constants.TABLE_MOST};
         const row = this.answer(this.call('assemble_on', given), constants.ASSEMBLE_ROW);
-        return row instanceof Refusal ? row : this.bytes.slice(given.out, given.out + row[constants.TEXT_BYTES]);
+        if (row instanceof Refusal) return Object.assign(row, {line: row.row[constants.TEXT_LINE] || null});
+        return this.bytes.slice(given.out, given.out + row[constants.TEXT_BYTES]);
     }
 
     disassemble(table) {

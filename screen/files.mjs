@@ -166,10 +166,9 @@ export function short(refusal) {
 /** A refusal in one sentence with its place in the text where it has one. */
 export function told(calls, refusal, text = null) {
     const {constants} = calls;
-    if (refusal.number === constants.REFUSED_LINE) return {line: refusal.row[constants.TEXT_LINE], sentence: expected(constants, refusal.row)};
-    let line = refusal.number <= 11 ? refusal.row[constants.TEXT_LINE] || null : null;
-    if (text !== null && refusal.number === constants.REFUSED_FILLING) line = actionLines(text)[refusal.place] ?? null;
-    return {line, sentence: `refused ${refusal.number}: ${refusal.meaning}; ${refusal.advice}`};
+    if (refusal.number === constants.REFUSED_LINE) return {line: refusal.line, sentence: expected(constants, refusal.row)};
+    const filling = text !== null && refusal.number === constants.REFUSED_FILLING;
+    return {line: filling ? actionLines(text)[refusal.place] ?? null : refusal.line, sentence: `refused ${refusal.number}: ${refusal.meaning}; ${refusal.advice}`};
 }
 
 /** What the assembler expected in a line, and what an editor may not show. */

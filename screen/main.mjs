@@ -1,6 +1,6 @@
 // The page: what is pressed, dropped, typed or opened, and what is then drawn.
 import {load, Refusal} from './calls.mjs';
-import {BadState, bringTo, checkState, linkOf, readLink, rules, Run, stateOf, unpacked} from './run.mjs';
+import {BadState, bringTo, checkState, linkOf, NONE, readLink, rules, Run, stateOf, unpacked} from './run.mjs';
 import {chart, listing, NoTable, order, readFile, short, told, trace} from './files.mjs';
 import {Drawings, grouped, Theme} from './drawings.mjs';
 import {$, facts, holders, KEYS, linesOf, made, marks, previews, stand, TextPanel, tries} from './panels.mjs';
@@ -89,7 +89,7 @@ class Screen {
     }
 
     refuseNumbers(refusal, text) {
-        const id = {20: 'p', 21: 'K', 44: 'K', 41: 'b'}[refusal.number], {line, sentence} = told(this.calls, refusal, text);
+        const filling = refusal.number === this.calls.constants.REFUSED_FILLING, id = filling ? 'K' : refusal.about.startsWith('-') && refusal.about[1], {line, sentence} = told(this.calls, refusal, text);
         if (!id) return this.refuseTable({line, sentence});
         this.wrong(id, sentence);
         if (line) this.tableTold(`the alloc that K is too small for`, line);
@@ -642,7 +642,7 @@ class Screen {
     turnWords(i) {
         const {log} = this.run;
         if (!(i >= 0 && i < log.length)) return '';
-        const what = log.thread[i] === 65535 ? 'idle' : `thread ${log.thread[i]}, action ${log.action[i]}`;
+        const what = log.thread[i] === NONE ? 'idle' : `thread ${log.thread[i]}, action ${log.action[i]}`;
         return `turn ${i + 1}: worker ${log.worker[i]}, ${what}, held ${grouped(log.held[i])}`;
     }
 

@@ -116,6 +116,10 @@ def runs(page):
         data = bytes([p]) + quota.to_bytes(3, 'little') + len(order_bytes(order)).to_bytes(2, 'little') + order_bytes(order) + table
         listing = program('turnlist' if kind == 'asyncdf' else 'dequelist', data)
         expect('%s, %s: listing' % (name, kind), page.saved('listing'), listing)
+        path = page.folder.parent / 'order'
+        path.write_bytes(order)
+        command = ['list' if kind == 'asyncdf' else 'deques', '-p', str(p), '-K', str(quota), '--order', '@%s' % path, 'examples/%s.text' % name]
+        expect('%s: the order for the command' % name, subprocess.run([sys.executable, 'tools/wivakkol', *command], stdout=subprocess.PIPE).stdout, listing)
         expect('%s: ended' % name, listing.splitlines()[-1].startswith(b'done'), True)
         expect('%s: table' % name, page.saved('table'), table)
         if kind == 'asyncdf':
