@@ -416,7 +416,7 @@ def screens(folder):
         start = json.loads(found[2])
         if start:
             start['table'] = base64.b64decode(start['table'])
-        expect('screen %s' % given, (start, place.sub(rb'\1null\3', path.read_bytes())), (wanted, page))
+        expect('screen %s' % given, (start, place.sub(rb'\1null\3', path.read_bytes()) == page), (wanted, True))
         expect('nothing that ends the script', b'<' in found[2], False)
     refuses(['screen', '-p', 2, '-K', 6, '-o', path, '-'], '<stdin>:2: refused 7: ' + words(7).partition(': ')[2], b'thread 0\n  work\n')
     refuses(['screen', '-p', 2, 'examples/e.text'], 'wivakkol: screen needs -p P and -K K for a table (wivakkol help screen)', status=2)
@@ -434,11 +434,11 @@ def screens(folder):
         out, told, status = call('screen', env={'PATH': more + str(only)})
         found = re.fullmatch(line, told)
         expect('opened', (out, bool(found), status), (b'', True, 0))
-        expect('the page', pathlib.Path(found[1]).read_bytes(), page)
+        expect('the page', pathlib.Path(found[1]).read_bytes() == page, True)
         for _ in range(200 if more else 0):
             if not (folder / 'seen').exists():
                 time.sleep(0.05)
-        expect('what was opened', (folder / 'seen').read_bytes(), page)
+        expect('what was opened', (folder / 'seen').read_bytes() == page, True)
         pathlib.Path(found[1]).unlink()
 
 
