@@ -4,6 +4,7 @@ here, the words of refusals against docs/REFERENCE.md, and every command of docs
 usage: python3 tests/command.py            (from the repository's top, after `rt check` of the programs)
        python3 tests/command.py --write    (puts the output seen into docs/COMMAND.md, docs/DESIGNS.md and docs/pictures/repeats.svg: to be read before it is kept)
 """
+import base64
 import functools
 import hashlib
 import json
@@ -16,6 +17,7 @@ import shutil
 import subprocess
 import sys
 import tempfile
+import time
 
 import filling
 from reference import FORK, JOIN, Table
@@ -588,7 +590,7 @@ def laid_out(folder):
 def wrong_usage():
     e = 'examples/e.text'
     for given, line in [
-            ([], 'which command? check, asm, dis, design, fmt, quota, limit, turns, fill, run, list, chart, deques, picture, join, canon, cmp (wivakkol help)'),
+            ([], 'which command? check, asm, dis, design, fmt, quota, limit, turns, fill, run, list, chart, deques, picture, join, canon, cmp, screen (wivakkol help)'),
             (['chekc', e], "no command is called 'chekc'; did you mean check? (wivakkol help)"),
             (['List', e], "no command is called 'List'; did you mean list? (wivakkol help)"),
             (['zzz', e], "no command is called 'zzz' (wivakkol help)"),
@@ -673,6 +675,48 @@ def reader_leaves():
         started.stdin.close()
         expect('%s, closed' % given, (started.stderr.read(), started.wait()), (b'', 2))
         started.stderr.close()
+
+
+# The screen
+
+def screens(folder):
+    """The page with a table in it, as given; the page alone; what is refused; how it is opened."""
+    page, path, text = (TOP / 'dist/screen.html').read_bytes(), folder / 'screen.html', (TOP / 'examples/e.text').read_bytes()
+    place = re.compile(rb'(<script type="application/json" id="data-start">)(.*?)(</script>)')
+    for given, data, wanted in [(['-p', 2, '-K', 6, 'examples/e.text'], b'', {'name': 'e.text', 'table': text, 'p': 2, 'K': 6}),
+                                (['-p', 17, '-K', 0, '-M', 12, '-'], E, {'name': '<stdin>', 'table': E, 'p': 17, 'K': 0, 'M': 12}), ([], b'', None)]:
+        answers(['screen', *given, '-o', path], b'', data)
+        found = place.search(path.read_bytes())
+        start = json.loads(found[2])
+        if start:
+            start['table'] = base64.b64decode(start['table'])
+        expect('screen %s' % given, (start, place.sub(rb'\1null\3', path.read_bytes()) == page), (wanted, True))
+        expect('nothing that ends the script', b'<' in found[2], False)
+    refuses(['screen', '-p', 2, '-K', 6, '-o', path, '-'], '<stdin>:2: refused 7: ' + words(7).partition(': ')[2], b'thread 0\n  work\n')
+    refuses(['screen', '-p', 2, 'examples/e.text'], 'wivakkol: screen needs -p P and -K K for a table (wivakkol help screen)', status=2)
+    refuses(['screen', '-b', 2], 'wivakkol: screen takes no -b (wivakkol help screen)', status=2)
+    tools = folder / 'opens'
+    tools.mkdir()
+    (tools / 'xdg-open').write_text('#!/bin/sh\ncp "$1" "%s/seen.new" && mv "%s/seen.new" "%s/seen"\n' % (folder, folder, folder))
+    (tools / 'xdg-open').chmod(0o755)
+    for more, line in ('%s:' % tools, r'wivakkol: the screen is (\S+)\n'), ('', r'wivakkol: the screen is (\S+): open it in a browser\n'):
+        only = folder / 'only'
+        only.mkdir(exist_ok=True)
+        for name in 'env', 'python3', 'cp', 'mv', 'sh':
+            if not (only / name).exists():
+                os.symlink(shutil.which(name), only / name)
+        out, told, status = call('screen', env={'PATH': more + str(only)})
+        found = re.fullmatch(line, told)
+        expect('opened', (out, bool(found), status), (b'', True, 0))
+        expect('the page', pathlib.Path(found[1]).read_bytes() == page, True)
+        for _ in range(200 if more else 0):
+            if not (folder / 'seen').exists():
+                time.sleep(0.05)
+        expect('what was opened', (folder / 'seen').read_bytes() == page, True)
+        pathlib.Path(found[1]).unlink()
+
+
+# Programs that are not built
 
 
 def terminal(folder):
@@ -886,6 +930,7 @@ def main():
         writing_fails(folder)
         reader_leaves()
         terminal(folder)
+        screens(folder)
         where_from(folder)
         harmed(folder)
         builds(folder)

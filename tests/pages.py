@@ -18,7 +18,7 @@ sys.path.insert(0, str(pathlib.Path(__file__).parent.parent / 'tools'))
 import lists
 
 PAGES = ['README.md', 'CONTRIBUTING.md', 'CHANGELOG.md', *map(str, sorted(pathlib.Path('docs').glob('*.md'))), 'docs/pictures/README.md']
-FOLDERS = 'crates|data|dist|docs|tests|tools|examples|bench|include|rust'
+FOLDERS = 'crates|data|dist|docs|tests|tools|examples|bench|include|rust|screen'
 ELSEWHERE = {'memmove', 'do_action', 'docs/guides/DESIGN.md', 'pkg-config', 'probe-stack', 'qemu-aarch64'}  # of C, of its caller, of the toolchain, of other tools
 LAW = r"[a-z][A-Za-z0-9']*(?:-[A-Za-z0-9']+)+"  # a law's name, as against a definition's
 
@@ -32,7 +32,7 @@ def tree():
     files = subprocess.run(['git', 'ls-files', '-co', '--exclude-standard'], capture_output=True, text=True, check=True).stdout.split('\n')
     words = set()
     for name in files:
-        if not name or name.startswith('dist/') or name.endswith(('.md', '.svg', '.table', '.run', '.board')) or pathlib.Path(name).name in ('stdin', 'stdout'):
+        if not name or name.startswith('dist/') or name.endswith(('.md', '.svg', '.png', '.table', '.run', '.board')) or pathlib.Path(name).name in ('stdin', 'stdout'):
             continue
         if pathlib.Path(name).is_file():
             words.update(re.findall(r"[A-Za-z_][A-Za-z0-9_'-]*", read(name)))

@@ -8,7 +8,7 @@ usage: python3 tools/dist.py                  writes dist/ from target/ (make di
 
 dist/x86_64-linux has the programs of the desk and one archive with the objects of the proved ones. The archive for aarch64 and the wasm32 module are compiled by the kit's
 compiler from the modules that rattle handed to it for these archives. An archive's module is had by a kit of links in which clang alone is a script that saves what it is
-given, so that nothing is proved twice for it.
+given, so that nothing is proved twice for it. The screen is made of screen/ and that module (tools/screen.py).
 """
 import concurrent.futures
 import functools
@@ -23,6 +23,7 @@ import sys
 import tempfile
 
 import proving
+import screen
 
 TOP = proving.TOP
 DIST, BIN, STATIC, MODULES = TOP / 'dist', TOP / 'target/bin', TOP / 'target/staticlib', TOP / 'target/module'
@@ -202,6 +203,7 @@ def aarch64_archive():
         return packed(objects('aarch64-linux', folder), folder / 'libwivakkol.a')
 
 
+@functools.lru_cache(maxsize=None)
 def wasm_module():
     """All calls, exported; no imports. The stack stands first, so that one that overflows leaves the memory and traps."""
     with tempfile.TemporaryDirectory() as folder:
@@ -220,7 +222,8 @@ def wasm_module():
 def makers():
     """The files of dist/ but for SUMS, each with what makes its bytes from what stands in target/; those that take longer come last."""
     return {'KIT': lambda: kit_here().encode(), **{'x86_64-linux/' + name: functools.partial(program, name) for name in proving.programs()},
-            'x86_64-linux/libwivakkol.a': native_archive, 'aarch64-linux/libwivakkol.a': aarch64_archive, 'wasm32/wivakkol.wasm': wasm_module}
+            'x86_64-linux/libwivakkol.a': native_archive, 'aarch64-linux/libwivakkol.a': aarch64_archive, 'wasm32/wivakkol.wasm': wasm_module,
+            'screen.html': lambda: screen.for_dist(wasm_module())}
 
 
 def made():

@@ -52,13 +52,14 @@ def files(removes):
     """What is installed: of each file its bytes and its mode."""
     found, dist = {}, ready(removes)
     tool = runpy.run_path(str(TOP / 'tools/wivakkol'))
-    missing = [name for name in tool['PROGRAMS'] if READY + name not in dist]
+    missing = [name for name in ['screen.html', *(READY + name for name in tool['PROGRAMS'])] if name not in dist]
     if missing:
         raise Wrong('dist/SUMS names no %s: `git checkout dist` brings it back' % missing[0])
     found['bin/wivakkol'] = (TOP / 'tools/wivakkol').read_bytes(), EXECUTABLE
     for name, data in dist.items():
         if name.startswith(READY) and not name.endswith('.a'):
             found['libexec/wivakkol/' + name[len(READY):]] = data, EXECUTABLE
+    found['libexec/wivakkol/screen.html'] = dist['screen.html'], PLAIN
     for name in ('picture.py', 'design.py', 'explain.py'):
         found['libexec/wivakkol/' + name] = (TOP / 'tools' / name).read_bytes(), PLAIN
     for name in 'KIT', 'SUMS':
