@@ -8,56 +8,30 @@ use borrow.Author.Tests.{le-ltb}
 use lib.Dec.{eqb}
 use lib.ListN.{getD, take}
 use Rattle.table.specs.Sum.{pick}
-use Rattle.table.specs.Pass.{refusal, tryAt}
+use Rattle.table.specs.Pass.{tryAt}
 use Rattle.schedule.specs.declared.Run.{Run}
 use Rattle.schedule.specs.declared.Turned.{Turned}
 use Rattle.schedule.specs.declared.Ran.{Ran}
-use Rattle.schedule.specs.declared.Report.the-variants.{Spent, Refused}
 use Rattle.schedule.specs.Machine.{ended}
 use Rattle.schedule.specs.Record.{blank}
-use Rattle.schedule.specs.Turn.{unsound, rootEnded, noWorker, turnChecks, turned}
-use Rattle.schedule.specs.Runs.{ran, drive, listRun, roundsRun, workerAt}
+use Rattle.schedule.specs.Turn.{noWorker, turnChecks}
+use Rattle.schedule.specs.Runs.{workerAt}
 use Rattle.schedule.specs.Answers.{nothing, spent}
 use Rattle.schedule.specs.Values.{turnValues}
 use Rattle.schedule.specs.Shown.{previewValues}
-use Rattle.schedule.specs.Calls.{Call, turn, overList, inRounds, turnsIn, turnRow, afterCall, afterCalls, rowOf, rowOfCalls}
+use Rattle.schedule.specs.Calls.{Call, turn, overList, inRounds, turnsIn, turnRow, afterCall, afterCalls, rowOf, rowOfCalls, turning, report, answerOf}
+use Rattle.schedule.proofs.Runs.Blank.{blank-tested, turned-blank, list-none, list-some, rounds-blank}
 use Rattle.order.specs.Firsts.{firsts}
 use Rattle.soundness.proofs.Passed.{no-workers as blank-of}
-use Rattle.array_machine.proofs.Answers.{refusedAs, turned-none}
 use Rattle.run_memory.specs.Memory.{Memory, movedIn, runRow, Answer, answer, hindrance, turnIn}
 use Rattle.run_memory.specs.Stands.{runIn}
 use Rattle.run_memory.specs.Runs.{overIn, driveIn, listRunIn}
 use Rattle.wivakkol.specs.Lent.{lentList}
 use Rattle.wivakkol.specs.Opened.{blankIn, blankedIn, lentOpen}
 use Rattle.wivakkol.specs.Preview.{lentPreview, shownAs}
-use Rattle.wivakkol.proofs.Opens.{no-workers, blank-record, blank-passes, blank-passed, open-blank, blank-turn, blank-rounds}
+use Rattle.wivakkol.proofs.Opens.{no-workers, blank-passed, open-blank, blank-turn, blank-rounds}
 use Rattle.claims.specs.LentCalls.{LentCall, moving, opening, Returned, returned, lentMove, lentCall, lentRowOf, lentAfter, lentReturned, lentRow, movesOf}
-use Rattle.claims.specs.Answers.{turning, report, answerOf, inNumbers, returnedBy}
-
--- ---- document 01's calls on the blank record
-
-pub blank-tested : unsound blank ≡ false
-blank-tested = ap unsound (sym blank-record) ∙ blank-passed [] _ blank-passes
-
-blank-open : rootEnded blank ≡ false
-unfolding rootEnded blank
-blank-open = refl
-
-turned-blank : (w : ℕ) → turned blank w ≡ refusedAs 30 blank
-unfolding blank
-turned-blank w = sym (turned-none blank w blank-tested (omega arith))
-
-list-none : listRun blank [] ≡ ran (Spent 0) blank
-unfolding listRun drive
-list-none = rw (blank-tested, blank-open)
-
-list-some : (w : ℕ) (l : List ℕ) → listRun blank (w ∷ l) ≡ ran (Refused 0 (refusal 30 0)) blank
-unfolding listRun drive noWorker blank
-list-some w l = rw (blank-tested, blank-open, le-ltb w 0 (omega arith))
-
-rounds-blank : (limit : ℕ) → roundsRun blank limit ≡ ran (Refused 0 (refusal 30 0)) blank
-unfolding roundsRun blank
-rounds-blank limit = rw blank-tested
+use Rattle.claims.specs.Answers.{inNumbers, returnedBy}
 
 -- ---- on memory that has it
 

@@ -17,7 +17,7 @@ use Rattle.schedule.specs.declared.Begun.{Begun}
 use Rattle.schedule.specs.declared.Beginning.the-variants.{Begun as started}
 use Rattle.filling.specs.Filled.{filledOut}
 use Rattle.schedule.specs.Begin.{begin, startRun}
-use Rattle.schedule.specs.Calls.{Call, afterCalls, rowOfCalls}
+use Rattle.schedule.specs.Calls.{Call, afterCalls, rowOfCalls, Answer}
 use Rattle.schedule.specs.Memory.{rowMemory, peakMemory, Keeps}
 use Rattle.bounds.proofs.Limit.{MemoryLimit, memory-limit}
 use Rattle.bounds.proofs.PeakLimit.{Ruled, UsefulLimit, useful-limit}
@@ -38,7 +38,6 @@ use Rattle.wivakkol.specs.Lent.{lentBegin}
 use Rattle.wivakkol.specs.Rows.{fitRow}
 use Rattle.wivakkol.proofs.Rooms.{no-bytes}
 use Rattle.claims.specs.LentCalls.{LentCall, tableThatRuns, Returned, movesOf}
-use Rattle.claims.specs.Answers.{Answer}
 use Rattle.claims.proofs.ByValue.{History, history-is}
 use Rattle.claims.proofs.ByValue as by-value
 use Rattle.claims.proofs.LentSays as from-c

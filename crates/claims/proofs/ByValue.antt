@@ -25,8 +25,7 @@ use Rattle.order.specs.Turns.{turnsOf}
 use Rattle.order.specs.Firsts.{firsts}
 use Rattle.schedule.specs.Turn.{turned}
 use Rattle.schedule.specs.Runs.{listRun, roundsRun}
-use Rattle.schedule.specs.Calls.{Call, turn, overList, inRounds, turnsIn, turnRow, afterCall, afterCalls, rowOf, rowOfCalls}
-use Rattle.claims.specs.Answers.{Answer, turning, report, answerOf, answersOf}
+use Rattle.schedule.specs.Calls.{Call, turn, overList, inRounds, turnsIn, turnRow, afterCall, afterCalls, rowOf, rowOfCalls, Answer, turning, report, answerOf, answersOf}
 use Rattle.claims.proofs.LentSays.{lentOf}
 use Rattle.bounds.proofs.Limit.{MemoryLimit, memory-limit}
 use Rattle.bounds.proofs.ThreadLimit.{ThreadLimit, thread-limit}

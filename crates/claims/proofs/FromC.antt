@@ -10,7 +10,7 @@ use Rattle.table.specs.Format.{tableOf}
 use Rattle.schedule.specs.declared.Run.{Run}
 use Rattle.schedule.specs.declared.Begun.{Begun}
 use Rattle.schedule.specs.Begin.{begin, startState}
-use Rattle.schedule.specs.Calls.{Call, turn, overList, inRounds, afterCall, afterCalls, rowOfCalls}
+use Rattle.schedule.specs.Calls.{Call, turn, overList, inRounds, afterCall, afterCalls, rowOfCalls, answerOf, answersOf}
 use Rattle.bounds.proofs.Limit.{MemoryLimit}
 use Rattle.bounds.proofs.ThreadLimit.{ThreadLimit}
 use Rattle.run_memory.specs.Memory.{Memory, Answer}
@@ -24,7 +24,7 @@ use Rattle.bounds.proofs.Most.{turns-most}
 use Rattle.soundness.specs.Tested.{begunInto}
 use Rattle.wivakkol.specs.Lent.{lentBegin}
 use Rattle.claims.specs.LentCalls.{LentCall, moving, opening, tableThatRuns, Returned, returned, lentMove, lentCall, lentRowOf, lentAfter, lentReturned, lentRow, movesOf}
-use Rattle.claims.specs.Answers.{answerOf, answersOf, inNumbers, returnedBy}
+use Rattle.claims.specs.Answers.{inNumbers, returnedBy}
 use Rattle.claims.proofs.LentLimit.{Refines, calls-refine, runs-filled, begun-there, begun-record, begun-stands, lent-limit, lent-threads}
 use Rattle.claims.proofs.Shaped.{Shaped, blocks-shaped}
 use Rattle.claims.proofs.Sizes.{begin-shaped, call-shaped}
@@ -72,7 +72,8 @@ lent-history-is {s} (next {M} {M'} {c} {a} {l} {answers} {row} h t) =
 
 -- ---- a history exists
 
-called : (s : List ℕ) (M : Memory) (c : LentCall) → Shaped M → Shaped (lentCall s c M .memory) → LentCalled s M c (lentCall s c M)
+-- the definition's own answer, where rows have the lengths of the parts
+pub called : (s : List ℕ) (M : Memory) (c : LentCall) → Shaped M → Shaped (lentCall s c M .memory) → LentCalled s M c (lentCall s c M)
 unfolding lentCall lentMove
 called s M (moving (turn w)) h k = by-turn (turn-says s w M h k)
 called s M (moving (overList l)) h k = by-list (list-says s l M h k)

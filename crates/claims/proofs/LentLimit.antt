@@ -30,7 +30,7 @@ use Rattle.schedule.specs.declared.Report.the-variants.{Finished, Spent, Refuse
 use Rattle.schedule.specs.Answers.{Values, reportValues}
 use Rattle.schedule.specs.Runs.{listRun, roundsRun}
 use Rattle.order.specs.Firsts.{firsts}
-use Rattle.schedule.specs.Calls.{Call, turn, overList, inRounds, turnsIn, afterCall, afterCalls, rowOf, rowOfCalls, turnRow}
+use Rattle.schedule.specs.Calls.{Call, turn, overList, inRounds, turnsIn, afterCall, afterCalls, rowOf, rowOfCalls, turnRow, answerOf}
 use Rattle.schedule.specs.Values.{turnValues}
 use Rattle.order.proofs.Lists.{Below}
 use Rattle.schedule.proofs.Linked.Once.{Once}
@@ -53,7 +53,7 @@ use Rattle.wivakkol.specs.Lent.{startMemory, lentBegunAs, lentBegin}
 use Rattle.run_memory.specs.Stands.{truths, workersFrom, runIn, Stands, valuesRow}
 use Rattle.wivakkol.specs.Opened.{soundIn, blankIn, openedIn, openedAs, lentOpen}
 use Rattle.claims.specs.LentCalls.{LentCall, moving, opening, tableThatRuns, returned, lentMove, lentCall, lentRowOf, lentAfter, lentReturned, lentRow, movesOf}
-use Rattle.claims.specs.Answers.{answerOf, inNumbers, returnedBy}
+use Rattle.claims.specs.Answers.{inNumbers, returnedBy}
 use Rattle.wivakkol.proofs.Opens.{open-record, open-refines, open-stands, opens-stands}
 use Rattle.wivakkol.proofs.Numbered.{Numbered, begin-numbered, turn-numbered}
 use Rattle.run_memory.proofs.Refines.{Turns, turn-refines}

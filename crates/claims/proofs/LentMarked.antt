@@ -16,7 +16,7 @@ use Rattle.schedule.specs.Record.{blank}
 use Rattle.schedule.specs.Begin.{startState}
 use Rattle.schedule.specs.Sound.{Steady}
 use Rattle.schedule.specs.Turn.{unsound}
-use Rattle.schedule.specs.Calls.{Call, afterCall, rowOf}
+use Rattle.schedule.specs.Calls.{Call, afterCall, rowOf, answerOf}
 use Rattle.schedule.specs.Memory.{replies}
 use Rattle.schedule.specs.Most.{notIdle}
 use Rattle.schedule.proofs.Stores.{steady-fits}
@@ -42,7 +42,7 @@ use Rattle.wivakkol_marks.specs.LentMarks.{going as goingAs}
 use Rattle.wivakkol_marks.specs.MarkedIn.{recordIn, marksIn, markedIn}
 use Rattle.wivakkol_marks.proofs.MarkRefines.{opened-record, mark-values, back-values, mark-refines, back-refines, back-stands, unmark-refines}
 use Rattle.claims.specs.LentCalls.{moving, opening, returned, lentMove, lentCall, lentRowOf}
-use Rattle.claims.specs.Answers.{answerOf, inNumbers}
+use Rattle.claims.specs.Answers.{inNumbers}
 use Rattle.claims.specs.LentMarkCalls.{LentMarkCall, running, setting, going, Lent, lent, lentMarkAfter, lentMarksAfter, lentMarksReturned, lentTurnsTo, marksOfCalls, returnedWithMarks}
 use Rattle.claims.proofs.LentLimit.{call-refines, open-row, begun-stands, begun-there}
 use Rattle.claims.proofs.Marks.{marked-limit, marked-threads, marked-turns, marked-peak, marked-useful, marked-every-order}

@@ -12,13 +12,16 @@ pub mod Board
 pub mod Rounds
 pub mod Peaks
 pub mod Turns
--- what they rest on: what the promises from C say (LentSays, MarkSays), lists of calls on lent memory are those on the record (LentLimit, Blank) and its marks (LentMarked), what stands in
--- blocks (Shaped, Sizes), and that no call changes a run's table (Bytes)
+-- what they rest on: what the promises from C say (LentSays, MarkSays; of the wall chart ChartSays), lists of calls on lent memory are those on the record (LentLimit, Blank) and its marks
+-- (LentMarked), what stands in blocks (Shaped, Sizes; of marks MarksShaped, MarkSizes), and that no call changes a run's table (Bytes)
 pub mod LentSays
 pub mod MarkSays
+pub mod ChartSays
 pub mod LentLimit
 pub mod LentMarked
 pub mod Blank
 pub mod Shaped
 pub mod Sizes
+pub mod MarksShaped
+pub mod MarkSizes
 pub mod Bytes

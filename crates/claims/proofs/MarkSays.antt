@@ -1,8 +1,9 @@
 -- What the promises of the three calls from C on marks say (N11): their own `ensures`, as the check reads them (`Learnt`), of what was lent and of what stood there at the end. Each answer is the
--- definition's (`mark-is`, `back-is`, `unmark-is`).
-use mathlib.Core.Path.{_≡_, sym, ap, _∙_}
+-- definition's (`mark-is`, `back-is`, `unmark-is`), and the definition's own keeps the promise (`mark-says`, `back-says`, `unmark-says`).
+use mathlib.Core.Path.{_≡_, refl, sym, ap, ap₂, _∙_}
 use Prim.Native.Nat.{ℕ}
-use mathlib.Core.List.{List}
+use mathlib.Core.List.{List, []}
+use lib.ListN.{replicate}
 use contract.Lifetimes.{Lfts}
 use denote.Ref.{RefT, now}
 use denote.Triple.Clauses.{AtExit}
@@ -16,6 +17,9 @@ use Rattle.wivakkol_marks.proofs.wivakkol_back_on.Kinds as back-kinds
 use Rattle.wivakkol_marks.proofs.wivakkol_back_on.Reads as back-promise
 use Rattle.wivakkol_marks.proofs.wivakkol_unmark_on.Kinds as unmark-kinds
 use Rattle.wivakkol_marks.proofs.wivakkol_unmark_on.Reads as unmark-promise
+use Rattle.claims.proofs.Shaped.{Shaped, bytesOf, wordsOf, numbersOf, sumsOf, in-blocks}
+use Rattle.claims.proofs.LentSays.{lentOf, cleared}
+use Rattle.claims.proofs.MarksShaped.{MarksShaped, flat, marks-in-blocks}
 
 -- references to all that is lent to them: the table and the run's blocks, the marks' blocks, and the working memory
 pub record MarkRefs : Type 0 where
@@ -92,3 +96,75 @@ back-is {i = i} {number = number} h = ap (going number) (sym (h .left)) ∙ h .p
 
 pub unmark-is : {K : Marks} → (h : UnmarkSays K) → K ≡ lentUnmark (marksOf (now (h .set)) (h .bytes) (h .words) (h .numbers) (h .sums))
 unmark-is h = sym (h .left) ∙ ap (λ (l : List ℕ). marksOf l (h .bytes) (h .words) (h .numbers) (h .sums)) (h .promised)
+
+-- ---- what the definitions answer keeps them
+
+-- the blocks of a table, a run and its marks, and any working memory
+abbrev markRefs : List ℕ → Memory → Marks → MarkRefs
+markRefs s M K =
+    record {
+      table = lentOf s;
+      bytes = lentOf (bytesOf M);
+      words = lentOf (wordsOf M);
+      numbers = lentOf (numbersOf M);
+      sums = lentOf (sumsOf M);
+      set = lentOf (K .set);
+      mark-bytes = lentOf (flat bytesOf (K .kept));
+      mark-words = lentOf (flat wordsOf (K .kept));
+      mark-numbers = lentOf (flat numbersOf (K .kept));
+      mark-sums = lentOf (flat sumsOf (K .kept));
+      spare-bytes = lentOf (replicate 1040 0);
+      spare-words = lentOf (replicate 6163 0);
+      spare-numbers = lentOf (replicate 18 0);
+      spare-sums = lentOf (replicate 1027 0);
+      next = lentOf cleared;
+      status = lentOf cleared;
+      amounts = lentOf cleared;
+      left = lentOf cleared;
+      right = lentOf cleared;
+      rises = lentOf cleared;
+      falls = lentOf cleared;
+      forks = lentOf cleared;
+      seen = lentOf cleared;
+      list = lentOf cleared;
+    }
+
+pub mark-says : (s : List ℕ) (i : ℕ) (M : Memory) (K : Marks) → Shaped M → MarksShaped K → MarksShaped (lentMark s i M K .marks) → MarkSays s i M K (lentMark s i M K .number) (lentMark s i M K .marks)
+mark-says s i M K h k g =
+    let K' : Marks = lentMark s i M K .marks in
+    record {
+      lifetimes = ([], ([], ([], ([], ([], ([], ([], ([], ([], ([], ([], ([], ([], ([], ([], ([], ([], ([], ([], ([], ([], ([], ([], ([], tt))))))))))))))))))))))));
+      refs = markRefs s M K;
+      exit =
+          (lentOf s, (i, (lentOf (bytesOf M), (lentOf (wordsOf M), (lentOf (numbersOf M), (lentOf (sumsOf M), (lentOf (K' .set), (lentOf (flat bytesOf (K' .kept)), (lentOf (flat wordsOf (K' .kept)), (lentOf (flat numbersOf (K' .kept)), (lentOf (flat sumsOf (K' .kept)), (lentOf (replicate 1040 0), (lentOf (replicate 6163 0), (lentOf (replicate 18 0), (lentOf (replicate 1027 0), (lentOf cleared, (lentOf cleared, (lentOf cleared, (lentOf cleared, (lentOf cleared, (lentOf cleared, (lentOf cleared, (lentOf cleared, (lentOf cleared, (lentOf cleared, tt)))))))))))))))))))))))));
+      lent-table = refl;
+      lent-run = in-blocks M h;
+      lent-marks = marks-in-blocks K k;
+      left = marks-in-blocks K' g;
+      promised = (
+        ap (setting (lentMark s i M K .number)) (marks-in-blocks K' g) ∙ sym (ap₂ (lentMark s i) (in-blocks M h) (marks-in-blocks K k)),
+        ((refl, refl, refl, refl, refl, refl, refl, refl, refl, refl, refl, refl, refl, refl), λ z. k .flags),
+      );
+    }
+
+pub back-says : (s : List ℕ) (i : ℕ) (M : Memory) (K : Marks) → Shaped M → MarksShaped K → Shaped (lentBack s i M K .memory) → BackSays s i M K (lentBack s i M K .number) (lentBack s i M K .memory)
+back-says s i M K h k g =
+    let M' : Memory = lentBack s i M K .memory in
+    record {
+      lifetimes = ([], ([], ([], ([], ([], ([], ([], ([], ([], ([], ([], ([], ([], ([], ([], ([], ([], ([], ([], ([], ([], ([], ([], ([], tt))))))))))))))))))))))));
+      refs = markRefs s M K;
+      exit =
+          (lentOf s, (i, (lentOf (bytesOf M'), (lentOf (wordsOf M'), (lentOf (numbersOf M'), (lentOf (sumsOf M'), (lentOf (K .set), (lentOf (flat bytesOf (K .kept)), (lentOf (flat wordsOf (K .kept)), (lentOf (flat numbersOf (K .kept)), (lentOf (flat sumsOf (K .kept)), (lentOf (replicate 1040 0), (lentOf (replicate 6163 0), (lentOf (replicate 18 0), (lentOf (replicate 1027 0), (lentOf cleared, (lentOf cleared, (lentOf cleared, (lentOf cleared, (lentOf cleared, (lentOf cleared, (lentOf cleared, (lentOf cleared, (lentOf cleared, (lentOf cleared, tt)))))))))))))))))))))))));
+      lent-table = refl;
+      lent-run = in-blocks M h;
+      lent-marks = marks-in-blocks K k;
+      left = in-blocks M' g;
+      promised = (
+        ap (going (lentBack s i M K .number)) (in-blocks M' g) ∙ sym (ap₂ (lentBack s i) (in-blocks M h) (marks-in-blocks K k)),
+        (refl, refl, refl, refl, refl, refl, refl, refl, refl, refl, refl, refl, refl, refl),
+      );
+    }
+
+pub unmark-says : (flags b w n z : List ℕ) → UnmarkSays (marksOf (replicate 8 0) b w n z)
+unmark-says flags b w n z =
+    record { lifetimes = ([], tt); set = lentOf flags; bytes = b; words = w; numbers = n; sums = z; exit = (lentOf (replicate 8 0), tt); left = refl; promised = refl }

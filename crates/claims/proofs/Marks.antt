@@ -12,7 +12,7 @@ use Rattle.schedule.specs.declared.Run.{Run}
 use Rattle.schedule.specs.declared.Begun.{Begun}
 use Rattle.schedule.specs.declared.Beginning.the-variants.{Begun as started}
 use Rattle.schedule.specs.Begin.{begin, startState}
-use Rattle.schedule.specs.Calls.{Call, afterCalls, rowOfCalls}
+use Rattle.schedule.specs.Calls.{Call, afterCalls, rowOfCalls, Answer}
 use Rattle.schedule.specs.Memory.{replies}
 use Rattle.schedule.specs.Most.{notIdle}
 use Rattle.bounds.proofs.Limit.{MemoryLimit, memory-limit}
@@ -23,7 +23,6 @@ use Rattle.sharp.proofs.QuotaLimit.{EveryOrder, every-order}
 use Rattle.marks.specs.Marks.{Mark, Marked, marked, unmarked, setChecks, backChecks, MarkValues, setValues, backValues, setAs, backAs, MarkCall, moving, setting, going, afterMark, afterMarks, Led, ledTo, nowhere, rowOfMarks, rowBy, numberOf, turnsBy, turnsTo}
 use Rattle.marks.proofs.Marked.{marked-follows}
 use Rattle.marks.proofs.Turns.{turns-led-to}
-use Rattle.claims.specs.Answers.{Answer}
 use Rattle.claims.specs.MarkAnswers.{MarkAnswer, moved, values, markAnswerOf, markAnswersOf}
 use Rattle.claims.proofs.ByValue as by-value
 use Rattle.claims.proofs.ByValue.{BeginSays, Called, begin-is}

@@ -1,52 +1,65 @@
--- Marks by value (N11): the run goes by value, and the marks are lent. A history is a list of calls, each on the run and the lent marks that the last one left, of which nothing is known but what
--- the calls promise. `history-is-promised`: from a run on, with no mark set, it is a history of runs with marks (Marks). `code-marked-limit`, `-threads` and `-turns`: and so the limits hold.
-use mathlib.Core.Path.{_≡_, sym, ap, subst, _∙_}
+-- Marks by value (N11): the run goes by value, and the marks are lent. A history is a list of calls, each on the run and the lent marks that the last one left, of which nothing is known
+-- but what the calls promise. `code-mark-history-exists`, `code-begun-history-exists`: every list of calls has one. `history-is-promised`: from a run on, with no mark set, it is a history
+-- of runs with marks (Marks). `code-marked-limit`, `-threads` and `-turns`: and so the limits hold.
+use mathlib.Core.Path.{_≡_, refl, sym, ap, subst, _∙_}
 use Prim.Native.Nat.{ℕ, _≤_}
 use mathlib.Core.List.{List, [], _∷_}
+use mathlib.Core.Bool.{Bool, true, false, not}
+use lib.Dec.{ltb, eqb}
+use lib.ListN.{length, replicate}
 use contract.Lifetimes.{Lfts}
 use denote.Ref.{RefT, now}
 use denote.Triple.Clauses.{AtExit}
 use borrow.Fn.Kinds.{endedOf}
+use Rattle.table.specs.Sum.{pick}
 use Rattle.table.specs.Format.{Table, tableOf}
-use Rattle.table.specs.Pass.{tryAt}
+use Rattle.table.specs.Pass.{refusal, tryAt}
+use Rattle.table.specs.declared.Found.{Found}
+use Rattle.table.specs.declared.Found.the-variants.{Nothing, At}
 use Rattle.order.specs.Turns.{turnsOf}
 use Rattle.filling.specs.Filled.{filledOut}
 use Rattle.schedule.specs.declared.Run.{Run}
 use Rattle.schedule.specs.declared.Begun.{Begun}
 use Rattle.schedule.specs.declared.Beginning.the-variants.{Begun as started}
-use Rattle.schedule.specs.Begin.{startState}
+use Rattle.schedule.specs.Begin.{begin, startState}
 use Rattle.schedule.specs.Record.{bytesOf}
 use Rattle.schedule.specs.Memory.{replies}
 use Rattle.schedule.specs.Most.{notIdle}
-use Rattle.schedule.specs.Calls.{Call}
+use Rattle.schedule.specs.Turn.{unsound}
+use Rattle.schedule.specs.Calls.{Call, afterCall, rowOf, Answer, answerOf}
 use Rattle.bounds.proofs.Limit.{MemoryLimit}
 use Rattle.bounds.proofs.ThreadLimit.{ThreadLimit}
 use Rattle.bounds.proofs.PeakLimit.{PeakLimit, UsefulLimit}
 use Rattle.sharp.proofs.QuotaLimit.{EveryOrder}
-use Rattle.marks.specs.Marks.{Marked, marked, unmarked, setChecks, backChecks, MarkValues, setValues, backValues, setAs, backAs, MarkCall, moving, setting, going, Led, ledBy, nowhere, turnsBy}
+use Rattle.soundness.specs.Tested.{tested}
+use Rattle.run_memory.specs.Packing.{memoryFor}
+use Rattle.marks.specs.Marks.{Marked, marked, unmarked, markOf, isSet, badMarked, setChecks, backChecks, MarkValues, markValues, setValues, backValues, setAs, backAs, MarkCall, moving, setting, going, Led, ledBy, nowhere, turnsBy}
 use Rattle.marks.proofs.Marked.{Follows, mark-follows, unmarked-follows}
-use Rattle.wivakkol_marks.specs.LentMarks.{Marks, marksOf}
+use Rattle.wivakkol_marks.specs.LentMarks.{Marks, marksOf, lentMark}
 use Rattle.wivakkol_marks.specs.MarkedIn.{marksIn}
 use Rattle.wivakkol_marks.proofs.MarkRefines.{unmark-refines}
 use Rattle.marking.specs.declared.Marking.{Marking}
+use Rattle.marking.specs.declared.Marking.the-variants.{Done, Refused}
 use Rattle.marking.specs.declared.Gone.{Gone}
-use Rattle.marking.specs.Marking.{markingValues}
+use Rattle.marking.specs.Marking.{markingValues, isDone, markedBy, marksAfter}
+use Rattle.marking.proofs.Values.{after-marks}
 use Rattle.marking.proofs.set_mark.Kinds as set-kinds
 use Rattle.marking.proofs.set_mark.Reads as set-promise
 use Rattle.marking.proofs.go_back.Kinds as back-kinds
 use Rattle.marking.proofs.go_back.Reads as back-promise
 use Rattle.wivakkol.specs.Lent.{blankMemory}
-use Rattle.claims.specs.Answers.{Answer}
 use Rattle.claims.specs.MarkAnswers.{MarkAnswer, moved, values}
 use Rattle.claims.proofs.Bytes.{calls-bytes}
-use Rattle.claims.proofs.ByValue.{BeginSays, Called}
-use Rattle.claims.proofs.MarkSays.{UnmarkSays, unmark-is}
+use Rattle.claims.proofs.ByValue.{BeginSays, Called, begin-says, called}
+use Rattle.claims.proofs.MarkSays.{UnmarkSays, unmark-is, unmark-says}
+use Rattle.claims.proofs.LentSays.{lentOf, cleared as clearedWork}
+use Rattle.claims.proofs.Shaped.{wordsOf, numbersOf, sumsOf}
+use Rattle.claims.proofs.Shaped.{bytesOf as blockBytes}
+use Rattle.claims.proofs.MarksShaped.{MarksShaped, flat, inBlocks, marks-in-blocks, blocks-marks-shaped}
+use Rattle.claims.proofs.MarkSizes.{mark-shaped, packed-shaped}
 use Rattle.claims.proofs.Marks as promised
 
 -- ---- what the calls on marks promise: the marks are lent, and read with the run's own table
-
-abbrev markedBy : Run → Marks → Marked
-markedBy r K = marked r (marksIn (bytesOf r) K)
 
 -- setting mark i, lent marks K, answered v and left the marks K'
 pub record SetSays (r : Run) (i : ℕ) (K : Marks) (v : MarkValues) (K' : Marks) : Type 0 where
@@ -131,6 +144,171 @@ pub data MarkHistory : Run → Marks → Led ℕ → List MarkCall → List Mark
   none : {r : Run} {K : Marks} {w : Led ℕ} → MarkHistory r K w [] [] r K w
   next : {r r' r'' : Run} {K K' K'' : Marks} {w w' : Led ℕ} {c : MarkCall} {x : MarkAnswer} {row : List ℕ} {cs : List MarkCall} {xs : List MarkAnswer}
       → MarkCalled r K c x row r' K' → MarkHistory r' K' (turnsBy c row (promised.numberIn x) w) cs xs r'' K'' w' → MarkHistory r K w (c ∷ cs) (x ∷ xs) r'' K'' w'
+
+-- ---- every list of calls has a history: the answers
+
+markingOf : Found → Marking
+markingOf Nothing = Done
+markingOf (At y) = Refused y
+
+marking-values : (f : Found) → markingValues (markingOf f) ≡ markValues f
+unfolding markingOf
+marking-values Nothing = refl
+marking-values (At y) = refl
+
+set-done : (m : Marked) (i : ℕ) → isDone (markingOf (tryAt (setChecks m i) 0)) ≡ eqb (markingValues (markingOf (tryAt (setChecks m i) 0)) .number) 0
+unfolding tryAt markingOf
+set-done m i = go (badMarked m) (not (ltb i 8))
+  where
+    go : (a b : Bool)
+        → isDone (markingOf (pick a (At (refusal 32 0)) (pick b (At (refusal 45 0)) Nothing))) ≡ eqb (markingValues (markingOf (pick a (At (refusal 32 0)) (pick b (At (refusal 45 0)) Nothing))) .number) 0
+    go true b = refl
+    go false true = refl
+    go false false = refl
+
+back-done : (m : Marked) (i : ℕ) → isDone (markingOf (tryAt (backChecks m i) 0)) ≡ eqb (markingValues (markingOf (tryAt (backChecks m i) 0)) .number) 0
+unfolding tryAt markingOf
+back-done m i = go (badMarked m) (not (ltb i 8)) (not (isSet (markOf m i)))
+  where
+    go : (a b c : Bool)
+        → isDone (markingOf (pick a (At (refusal 32 0)) (pick b (At (refusal 45 0)) (pick c (At (refusal 46 0)) Nothing))))
+        ≡ eqb (markingValues (markingOf (pick a (At (refusal 32 0)) (pick b (At (refusal 45 0)) (pick c (At (refusal 46 0)) Nothing)))) .number) 0
+    go true b c = refl
+    go false true c = refl
+    go false false true = refl
+    go false false false = refl
+
+-- ---- the calls keep the lengths, and what they answer keeps the promises
+
+after-shaped : (r : Run) (i : ℕ) (K : Marks) → MarksShaped K → MarksShaped (marksAfter r i K)
+unfolding marksAfter
+after-shaped r i K k = go (unsound r) refl
+  where
+    go : (q : Bool) → unsound r ≡ q → MarksShaped (pick q K (lentMark (bytesOf r) i (memoryFor r (tested r .parents)) K .marks))
+    go true e = k
+    go false e = mark-shaped (bytesOf r) i (memoryFor r (tested r .parents)) K (packed-shaped r e) k
+
+abbrev markRefs : Marks → MarkRefs
+markRefs K =
+    record {
+      set = lentOf (K .set);
+      mark-bytes = lentOf (flat blockBytes (K .kept));
+      mark-words = lentOf (flat wordsOf (K .kept));
+      mark-numbers = lentOf (flat numbersOf (K .kept));
+      mark-sums = lentOf (flat sumsOf (K .kept));
+      spare-bytes = lentOf (replicate 1040 0);
+      spare-words = lentOf (replicate 6163 0);
+      spare-numbers = lentOf (replicate 18 0);
+      spare-sums = lentOf (replicate 1027 0);
+      next = lentOf clearedWork;
+      status = lentOf clearedWork;
+      amounts = lentOf clearedWork;
+      left = lentOf clearedWork;
+      right = lentOf clearedWork;
+      rises = lentOf clearedWork;
+      falls = lentOf clearedWork;
+      forks = lentOf clearedWork;
+      seen = lentOf clearedWork;
+      list = lentOf clearedWork;
+    }
+
+module _ (r : Run) (i : ℕ) (K : Marks) (k : MarksShaped K) where
+  abbrev m : Marked
+  m = markedBy r K
+
+  set-learnt : SetLearnt r i K (markingOf (tryAt (setChecks (markedBy r K) i) 0)) (marksAfter r i K)
+  unfolding setValues
+  set-learnt =
+      let K' : Marks = marksAfter r i K in
+      let g : MarksShaped K' = after-shaped r i K k in
+      let e : inBlocks K ≡ K = marks-in-blocks K k in
+      let f : inBlocks K' ≡ K' = marks-in-blocks K' g in
+      record {
+        lifetimes = ([], ([], ([], ([], ([], ([], ([], ([], ([], ([], ([], ([], ([], ([], ([], ([], ([], ([], ([], tt)))))))))))))))))));
+        refs = markRefs K;
+        exit =
+            (r, (i, (lentOf (K' .set), (lentOf (flat blockBytes (K' .kept)), (lentOf (flat wordsOf (K' .kept)), (lentOf (flat numbersOf (K' .kept)), (lentOf (flat sumsOf (K' .kept)), (lentOf (replicate 1040 0), (lentOf (replicate 6163 0), (lentOf (replicate 18 0), (lentOf (replicate 1027 0), (lentOf clearedWork, (lentOf clearedWork, (lentOf clearedWork, (lentOf clearedWork, (lentOf clearedWork, (lentOf clearedWork, (lentOf clearedWork, (lentOf clearedWork, (lentOf clearedWork, (lentOf clearedWork, tt)))))))))))))))))))));
+        lent-marks = e;
+        left = f;
+        promised = (
+          marking-values (tryAt (setChecks m i) 0) ∙ ap (λ (x : Marks). setValues (markedBy r x) i) (sym e),
+          (
+            ap (marksIn (bytesOf r)) f ∙ after-marks r K i (k .flags) (k .kept)
+                ∙ ap (λ (x : Marks). setAs (tryAt (setChecks (markedBy r x) i) 0) i (markedBy r x) .marks) (sym e),
+            ((refl, refl, refl, refl, refl, refl, refl, refl, refl, refl, refl, refl, refl, refl), (f ∙ ap (marksAfter r i) (sym e), set-done m i)),
+          ),
+        );
+      }
+
+  gone : Gone
+  gone = record { answer = markingOf (tryAt (backChecks m i) 0); run = backAs (tryAt (backChecks m i) 0) i m .run }
+
+  back-learnt : BackLearnt r i K gone
+  unfolding backValues gone
+  back-learnt =
+      let e : inBlocks K ≡ K = marks-in-blocks K k in
+      record {
+        lifetimes = ([], ([], ([], ([], ([], ([], ([], ([], ([], ([], ([], ([], ([], ([], ([], ([], ([], ([], ([], tt)))))))))))))))))));
+        refs = markRefs K;
+        exit =
+            (r, (i, (lentOf (K .set), (lentOf (flat blockBytes (K .kept)), (lentOf (flat wordsOf (K .kept)), (lentOf (flat numbersOf (K .kept)), (lentOf (flat sumsOf (K .kept)), (lentOf (replicate 1040 0), (lentOf (replicate 6163 0), (lentOf (replicate 18 0), (lentOf (replicate 1027 0), (lentOf clearedWork, (lentOf clearedWork, (lentOf clearedWork, (lentOf clearedWork, (lentOf clearedWork, (lentOf clearedWork, (lentOf clearedWork, (lentOf clearedWork, (lentOf clearedWork, (lentOf clearedWork, tt)))))))))))))))))))));
+        lent-marks = e;
+        promised = (
+          marking-values (tryAt (backChecks m i) 0) ∙ ap (λ (x : Marks). backValues (markedBy r x) i) (sym e),
+          (
+            ap (λ (x : Marks). backAs (tryAt (backChecks (markedBy r x) i) 0) i (markedBy r x) .run) (sym e),
+            ((refl, refl, refl, refl, refl, refl, refl, refl, refl, refl, refl, refl, refl, refl), back-done m i),
+          ),
+        );
+      }
+
+-- ---- .. call by call
+
+record CallExists (r : Run) (K : Marks) (c : MarkCall) : Type 0 where
+  pub answer : MarkAnswer
+  pub row : List ℕ
+  pub run : Run
+  pub marks : Marks
+  pub call : MarkCalled r K c answer row run marks
+  pub shaped : MarksShaped marks
+
+call-exists : (r : Run) (K : Marks) → MarksShaped K → (c : MarkCall) → CallExists r K c
+call-exists r K k (moving c) = record { answer = moved (answerOf c r); row = rowOf c r; run = afterCall c r; marks = K; call = by-call (called r c); shaped = k }
+call-exists r K k (setting i) =
+    record { answer = values (markingValues (markingOf (tryAt (setChecks (markedBy r K) i) 0))); row = []; run = r; marks = marksAfter r i K; call = by-set (set-learnt r i K k); shaped = after-shaped r i K k }
+call-exists r K k (going i) =
+    record { answer = values (markingValues (gone r i K k .answer)); row = []; run = gone r i K k .run; marks = K; call = by-back (back-learnt r i K k); shaped = k }
+
+pub record HistoryExists (r : Run) (K : Marks) (w : Led ℕ) (cs : List MarkCall) : Type 0 where
+  pub answers : List MarkAnswer
+  pub run : Run
+  pub marks : Marks
+  pub turns : Led ℕ
+  pub history : MarkHistory r K w cs answers run marks turns
+
+pub code-mark-history-exists : (r : Run) (K : Marks) → MarksShaped K → (w : Led ℕ) (cs : List MarkCall) → HistoryExists r K w cs
+code-mark-history-exists r K k w [] = record { answers = []; run = r; marks = K; turns = w; history = none }
+code-mark-history-exists r K k w (c ∷ cs) =
+    let d : CallExists r K c = call-exists r K k c in
+    let h : HistoryExists (d .run) (d .marks) (turnsBy c (d .row) (promised.numberIn (d .answer)) w) cs = code-mark-history-exists (d .run) (d .marks) (d .shaped) (turnsBy c (d .row) (promised.numberIn (d .answer)) w) cs in
+    record { answers = d .answer ∷ h .answers; run = h .run; marks = h .marks; turns = h .turns; history = next (d .call) (h .history) }
+
+-- From any beginning on, accepted or not, with any blocks for the marks, cleared: every list of calls, those on marks among them, has a history of which nothing is said but what the
+-- functions promise. So what `code-marked-limit`, `-threads`, `-turns`, `-peak` and `-useful` say of all such histories is said of something.
+pub record MarksBegun (s : List ℕ) (p K : ℕ) (b w n z : List ℕ) (cs : List MarkCall) : Type 0 where
+  pub begins : BeginSays s p K (begin s p K)
+  pub clears : UnmarkSays (marksOf (replicate 8 0) b w n z)
+  pub exists : HistoryExists (begin s p K .run) (marksOf (replicate 8 0) b w n z) nowhere cs
+
+pub code-begun-history-exists : (s : List ℕ) (p K : ℕ) (flags b w n z : List ℕ) → length b ≡ 8320 → length w ≡ 49304 → length n ≡ 144 → length z ≡ 8216 → (cs : List MarkCall) → MarksBegun s p K b w n z cs
+code-begun-history-exists s p K flags b w n z hb hw hn hz cs =
+    record {
+      begins = begin-says s p K;
+      clears = unmark-says flags b w n z;
+      exists = code-mark-history-exists (begin s p K .run) (marksOf (replicate 8 0) b w n z) (blocks-marks-shaped b w n z hb hw hn hz) nowhere cs;
+    }
+
+-- ---- a history is one of runs with marks
 
 -- marks are read with the run's own table, which is that of the run at the start
 module _ (start : Run) where

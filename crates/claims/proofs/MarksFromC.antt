@@ -1,10 +1,11 @@
--- The calls from C with marks among them (N11). A history is a list of calls, each on the memory and the marks that the last one left, of which nothing is known but what the functions' own
--- promises say (LentSays, MarkSays). `lent-mark-history-is`: what they leave, what was returned and the turns that led there are those of the definitions. `begun-marks-refine`: from a beginning
--- that answered 0 it is those calls on the record and its marks, answers included. `lent-code-marked-limit`, `-threads` and `-turns`: and so the limits hold.
+-- The calls from C with marks among them (N11). A history is a list of calls, each on the memory and the marks that the last one left, of which nothing is known but what the functions'
+-- own promises say (LentSays, MarkSays). `lent-mark-history-is`: what they leave, what was returned and the turns that led there are those of the definitions. `lent-mark-history-exists`,
+-- `begun-mark-history-exists`: every list of calls has one. `begun-marks-refine`: from a beginning that answered 0 it is those calls on the record and its marks, answers included.
+-- `lent-code-marked-limit`, `-threads` and `-turns`: and so the limits hold.
 use mathlib.Core.Path.{_≡_, refl, sym, ap, ap₂, subst, _∙_}
 use Prim.Native.Nat.{ℕ, _≤_}
 use mathlib.Core.List.{List, [], _∷_}
-use lib.ListN.{length}
+use lib.ListN.{length, replicate}
 use denote.Ref.{now}
 use Rattle.table.specs.Format.{Table, tableOf}
 use Rattle.order.specs.Turns.{turnsOf}
@@ -20,6 +21,7 @@ use Rattle.bounds.proofs.PeakLimit.{PeakLimit, UsefulLimit}
 use Rattle.sharp.proofs.QuotaLimit.{EveryOrder}
 use Rattle.run_memory.specs.Memory.{Memory, Answer}
 use Rattle.run_memory.specs.Stands.{runIn}
+use Rattle.soundness.specs.Tested.{begunInto}
 use Rattle.wivakkol.specs.Lent.{lentBegin}
 use Rattle.marks.specs.Marks.{unmarked, afterMarks, Led, nowhere}
 use Rattle.wivakkol_marks.specs.LentMarks.{Marks, marksOf, lentUnmark}
@@ -28,10 +30,14 @@ use Rattle.wivakkol_marks.specs.MarkedIn.{markedIn}
 use Rattle.wivakkol_marks.proofs.MarkRefines.{kept-size}
 use Rattle.claims.specs.LentCalls.{LentCall, tableThatRuns, Returned, returned, lentRowOf}
 use Rattle.claims.specs.LentMarkCalls.{LentMarkCall, running, setting, going, Lent, lent, lentMarkAfter, lentMarkReturned, lentMarkRow, lentTurnsBy, lentMarksAfter, lentMarksReturned, lentTurnsTo, marksOfCalls, returnedWithMarks}
-use Rattle.claims.proofs.LentSays.{BeginSays, begin-is}
-use Rattle.claims.proofs.MarkSays.{MarkSays, BackSays, UnmarkSays, mark-is, back-is, unmark-is}
+use Rattle.claims.proofs.LentSays.{BeginSays, begin-is, begin-says}
+use Rattle.claims.proofs.MarkSays.{MarkSays, BackSays, UnmarkSays, mark-is, back-is, unmark-is, mark-says, back-says, unmark-says}
 use Rattle.claims.proofs.LentLimit.{begun-stands, begun-there}
-use Rattle.claims.proofs.FromC.{LentCalled, call-is, runs-so}
+use Rattle.claims.proofs.FromC.{LentCalled, call-is, called, runs-so}
+use Rattle.claims.proofs.Shaped.{Shaped}
+use Rattle.claims.proofs.Sizes.{begin-shaped, call-shaped}
+use Rattle.claims.proofs.MarksShaped.{MarksShaped, blocks-marks-shaped}
+use Rattle.claims.proofs.MarkSizes.{mark-shaped, back-shaped}
 use Rattle.claims.proofs.LentMarked.{unmarked-in, begun-refines, lent-marked-limit, lent-marked-threads, lent-marked-turns, lent-marked-peak, lent-marked-useful, lent-marked-every-order}
 
 -- ---- a history
@@ -86,6 +92,49 @@ lent-mark-history-is {s} (next {x} {x'} {x''} {w} {w'} {c} {a} {row} {l} {answer
       left-is = b .left-is ∙ ap (lentMarksAfter s l) (d .left-is);
       answers-are = ap₂ _∷_ (d .answer-is) (b .answers-are ∙ ap (lentMarksReturned s l) (d .left-is));
       turns-are = b .turns-are ∙ (λ i. lentTurnsTo s l (d .left-is i) (lentTurnsBy c (d .row-is i) (d .answer-is i .number) w));
+    }
+
+-- ---- every list of calls has a history
+
+mark-called : (s : List ℕ) (x : Lent) → Shaped (x .memory) → MarksShaped (x .marks) → (c : LentMarkCall) → LentMarkCalled s x c (lentMarkReturned s c x) (lentMarkRow s c x) (lentMarkAfter s c x)
+unfolding lentMarkAfter
+mark-called s x h k (running c) = by-call (called s (x .memory) c h (call-shaped s c (x .memory) h))
+mark-called s x h k (setting i) = by-mark (mark-says s i (x .memory) (x .marks) h k (mark-shaped s i (x .memory) (x .marks) h k))
+mark-called s x h k (going i) = by-back (back-says s i (x .memory) (x .marks) h k (back-shaped s i (x .memory) (x .marks) h k))
+
+after-shaped : (s : List ℕ) (x : Lent) → Shaped (x .memory) → MarksShaped (x .marks) → (c : LentMarkCall) → Shaped (lentMarkAfter s c x .memory) × MarksShaped (lentMarkAfter s c x .marks)
+unfolding lentMarkAfter
+after-shaped s x h k (running c) = (call-shaped s c (x .memory) h, k)
+after-shaped s x h k (setting i) = (h, mark-shaped s i (x .memory) (x .marks) h k)
+after-shaped s x h k (going i) = (back-shaped s i (x .memory) (x .marks) h k, k)
+
+-- the definitions' own
+pub lent-mark-history-exists : (s : List ℕ) (x : Lent) → Shaped (x .memory) → MarksShaped (x .marks) → (w : Led ℕ) (l : List LentMarkCall)
+    → LentMarkHistory s x w l (lentMarksReturned s l x) (lentMarksAfter s l x) (lentTurnsTo s l x w)
+unfolding lentMarksAfter lentMarksReturned lentTurnsTo
+lent-mark-history-exists s x h k w [] = none
+lent-mark-history-exists s x h k w (c ∷ l) =
+    let (a, b) = after-shaped s x h k c in
+    next (mark-called s x h k c) (lent-mark-history-exists s (lentMarkAfter s c x) a b (lentTurnsBy c (lentMarkRow s c x) (lentMarkReturned s c x .number) w) l)
+
+-- From any beginning on, refused or not, given any table u, with any blocks for the marks, cleared: every list of calls from C, those on marks among them, has a history of which nothing
+-- is said but what the functions promise. So what `lent-code-marked-limit`, `-threads`, `-turns`, `-peak` and `-useful` say of all such histories is said of something.
+pub record MarksBegun (s : List ℕ) (p K : ℕ) (out u b w n z : List ℕ) (l : List LentMarkCall) : Type 0 where
+  pub begins : BeginSays s p K out (lentBegin s p K (length out)) (begunInto s p K out)
+  pub clears : UnmarkSays (marksOf (replicate 8 0) b w n z)
+  pub history :
+      let x : Lent = lent (lentBegin s p K (length out) .memory) (marksOf (replicate 8 0) b w n z) in
+      LentMarkHistory u x nowhere l (lentMarksReturned u l x) (lentMarksAfter u l x) (lentTurnsTo u l x nowhere)
+
+pub begun-mark-history-exists : (s : List ℕ) (p K : ℕ) (out u flags b w n z : List ℕ) → length b ≡ 8320 → length w ≡ 49304 → length n ≡ 144 → length z ≡ 8216 → (l : List LentMarkCall)
+    → MarksBegun s p K out u b w n z l
+begun-mark-history-exists s p K out u flags b w n z hb hw hn hz l =
+    record {
+      begins = begin-says s p K out;
+      clears = unmark-says flags b w n z;
+      history =
+          lent-mark-history-exists u (lent (lentBegin s p K (length out) .memory) (marksOf (replicate 8 0) b w n z)) (begin-shaped s p K (length out))
+          (blocks-marks-shaped b w n z hb hw hn hz) nowhere l;
     }
 
 -- ---- from a beginning on

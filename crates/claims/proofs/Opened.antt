@@ -24,7 +24,8 @@ use Rattle.schedule.specs.Values.{turnValues}
 use Rattle.schedule.specs.Shown.{previewValues}
 use Rattle.schedule.specs.Runs.{ran, listRun, roundsRun}
 use Rattle.schedule.specs.Answers.{turningValues, reportValues}
-use Rattle.schedule.specs.Calls.{Call, turn, overList, inRounds, afterCall, afterCalls, rowOfCalls}
+use Rattle.schedule.proofs.Runs.Blank.{blank-tested}
+use Rattle.schedule.specs.Calls.{Call, turn, overList, inRounds, afterCall, afterCalls, rowOfCalls, answerOf}
 use Rattle.order.proofs.Words.{allBelow-exactly}
 use Rattle.soundness.proofs.Chains.{never}
 use Rattle.array_machine.proofs.Answers.{turned-unsound}
@@ -36,13 +37,13 @@ use Rattle.wivakkol.specs.Preview.{lentPreview, shownAs}
 use Rattle.wivakkol.proofs.Opens.{tested-same, open-record, open-blank, stands-worked}
 use Rattle.wivakkol.proofs.PreviewRefines.{preview-refines}
 use Rattle.claims.specs.LentCalls.{LentCall, opening, Returned, lentCall, lentAfter, lentReturned, lentRow, movesOf}
-use Rattle.claims.specs.Answers.{answerOf, inNumbers, returnedBy}
+use Rattle.claims.specs.Answers.{inNumbers, returnedBy}
 use Rattle.wivakkol_marks.specs.MarkedIn.{recordIn}
 use Rattle.claims.proofs.Shaped.{Shaped}
 use Rattle.claims.proofs.Sizes.{call-shaped}
 use Rattle.claims.proofs.LentLimit.{open-refine}
 use Rattle.claims.proofs.LentSays.{OpenSays, open-is, open-says}
-use Rattle.claims.proofs.Blank.{is-blank, blank-tested, blank-preview, beside-blank, blank-refines}
+use Rattle.claims.proofs.Blank.{is-blank, blank-preview, beside-blank, blank-refines}
 use Rattle.claims.proofs.FromC.{LentHistory, lent-history-is, Defines, lent-history-exists}
 
 -- ---- what opening answers

@@ -10,7 +10,7 @@ use Rattle.schedule.specs.declared.Run.{Run}
 use Rattle.schedule.specs.declared.Begun.{Begun}
 use Rattle.schedule.specs.declared.Beginning.the-variants.{Begun as started}
 use Rattle.schedule.specs.Begin.{begin}
-use Rattle.schedule.specs.Calls.{Call, afterCalls, rowOfCalls}
+use Rattle.schedule.specs.Calls.{Call, afterCalls, rowOfCalls, Answer}
 use Rattle.filling.specs.Filled.{filledOut}
 use Rattle.bounds.proofs.PeakLimit.{PeakLimit, UsefulLimit, peak-limit, useful-limit}
 use Rattle.sharp.proofs.QuotaLimit.{EveryOrder, every-order}
@@ -18,7 +18,6 @@ use Rattle.run_memory.specs.Memory.{Memory}
 use Rattle.run_memory.specs.Memory.{Answer as Answered}
 use Rattle.run_memory.specs.Stands.{runIn}
 use Rattle.wivakkol.specs.Lent.{lentBegin}
-use Rattle.claims.specs.Answers.{Answer}
 use Rattle.claims.specs.LentCalls.{LentCall, tableThatRuns, Returned, movesOf}
 use Rattle.claims.proofs.ByValue as by-value
 use Rattle.claims.proofs.LentSays as from-c

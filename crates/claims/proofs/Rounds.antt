@@ -13,7 +13,7 @@ use Rattle.schedule.specs.declared.Report.{Report}
 use Rattle.filling.specs.Filled.{filledOut}
 use Rattle.schedule.specs.Begin.{begin, startRun}
 use Rattle.schedule.specs.Runs.{roundsRun}
-use Rattle.schedule.specs.Calls.{Call, inRounds, afterCall, afterCalls}
+use Rattle.schedule.specs.Calls.{Call, inRounds, afterCall, afterCalls, report}
 use Rattle.schedule.proofs.Runs.Histories.{begin-started}
 use Rattle.order.specs.Turns.{turnsOf}
 use Rattle.bounds.proofs.Most.{rounds-finish}
@@ -23,7 +23,7 @@ use Rattle.quota.specs.Quota.{quoted}
 use Rattle.run_memory.specs.Memory.{Memory, Answer}
 use Rattle.run_memory.specs.Stands.{runIn}
 use Rattle.claims.specs.LentCalls.{tableThatRuns, Returned, returned, movesOf}
-use Rattle.claims.specs.Answers.{report, inNumbers, returnedBy}
+use Rattle.claims.specs.Answers.{inNumbers, returnedBy}
 use Rattle.claims.proofs.ByValue as by-value
 use Rattle.claims.proofs.LentSays as from-c
 use Rattle.claims.proofs.LentLimit.{begun-record}

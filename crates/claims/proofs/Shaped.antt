@@ -143,7 +143,7 @@ module _ (M : Memory) (h : Shaped M) where
 
 -- ---- and memory that stands in blocks of their sizes has such rows
 
-part-full : (at n : ℕ) (l : List ℕ) → at + n ≤ length l → length (part at n l) ≡ n
+pub part-full : (at n : ℕ) (l : List ℕ) → at + n ≤ length l → length (part at n l) ≡ n
 unfolding part
 part-full at n l h = length-take n (drop at l) ∙ ap (min n) (length-drop at l) ∙ min-eq-left (omega (arith, h))
 

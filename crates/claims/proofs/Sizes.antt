@@ -234,7 +234,7 @@ full-parents T h = full-firsts (parentOf T) (T .threads) h
 pub same : (x : ℕ) → Full (replicate 1024 x)
 same x = length-replicate {A = ℕ} 1024 x
 
-open-shaped : (s : List ℕ) (M : Memory) → Shaped M → Shaped (lentOpen s M .memory)
+pub open-shaped : (s : List ℕ) (M : Memory) → Shaped M → Shaped (lentOpen s M .memory)
 unfolding lentOpen
 open-shaped s M h = go (soundIn s M) refl (blankIn M)
   where

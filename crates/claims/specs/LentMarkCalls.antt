@@ -3,6 +3,7 @@ use Prim.Native.Nat.{ℕ}
 use mathlib.Core.List.{List, [], _∷_, _++_}
 use Rattle.table.specs.Sum.{pick}
 use Rattle.schedule.specs.Turn.{unsound}
+use Rattle.schedule.specs.Calls.{answerOf}
 use Rattle.run_memory.specs.Memory.{Memory}
 use Rattle.marks.specs.Marks.{Marked, setValues, backValues, MarkCall, afterMark, Led, led, turnsBy}
 use Rattle.marks.specs.Marks.{moving as onRun}
@@ -10,7 +11,7 @@ use Rattle.marks.specs.Marks.{setting as marking}
 use Rattle.marks.specs.Marks.{going as returning}
 use Rattle.wivakkol_marks.specs.LentMarks.{Marks, lentMark, lentBack}
 use Rattle.claims.specs.LentCalls.{LentCall, moving, opening, Returned, returned, lentCall, lentRowOf}
-use Rattle.claims.specs.Answers.{answerOf, inNumbers}
+use Rattle.claims.specs.Answers.{inNumbers}
 
 -- ---- calls
 

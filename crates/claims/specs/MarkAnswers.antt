@@ -1,7 +1,7 @@
 -- What the calls of a list with marks in it answer (N11), from the definitions on the run and its marks.
 use mathlib.Core.List.{List, [], _∷_}
+use Rattle.schedule.specs.Calls.{Answer, answerOf}
 use Rattle.marks.specs.Marks.{Marked, MarkValues, setValues, backValues, MarkCall, moving, setting, going, afterMark}
-use Rattle.claims.specs.Answers.{Answer, answerOf}
 
 -- what a call answers besides the run and the marks: a call on marks, its number and place
 pub data MarkAnswer : Type 0 where

@@ -1,2 +1,2 @@
 -- What the proofs of the calls use.
-mod Values
+pub mod Values

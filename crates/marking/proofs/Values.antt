@@ -267,3 +267,18 @@ module _ (run : Run) (e : unsound run ≡ true) (K : Marks) (i : ℕ) where
 
   pub unsound-run : run ≡ backAs (tryAt (backChecks (markedBy run K) i) 0) i (markedBy run K) .run
   unsound-run = rw back-found
+
+-- ---- either
+
+-- the marks after setting one, read with the run's table, are N11's
+pub after-marks : (run : Run) (K : Marks) (i : ℕ) → length (K .set) ≡ 8 → length (K .kept) ≡ 8
+    → marksIn (bytesOf run) (marksAfter run i K) ≡ setAs (tryAt (setChecks (markedBy run K) i) 0) i (markedBy run K) .marks
+after-marks run K i z y = go (unsound run) refl
+  where
+    go : (q : Bool) → unsound run ≡ q → marksIn (bytesOf run) (marksAfter run i K) ≡ setAs (tryAt (setChecks (markedBy run K) i) 0) i (markedBy run K) .marks
+    go true e = ap (marksIn (bytesOf run)) (sym (unsound-after run e K i)) ∙ unsound-marks run e K i
+    go false e =
+        let P : List ℕ = tested run .parents in
+        let x : Setting = lentMark (bytesOf run) i (memoryFor run P) K in
+        ap (marksIn (bytesOf run)) (sym (set-after run e P K i {n = x .number} {K' = x .marks} refl refl))
+        ∙ set-marks run e P K i {n = x .number} {K' = x .marks} refl (λ q. z) y
