@@ -82,14 +82,15 @@ static inline uint32_t wivakkol_took(wivakkol_pace *pace, uint32_t w)
 }
 
 /* A turn of worker w, as wivakkol_turn, with its row, and counted. Returns 0, or the first of these that applies, with the run and the pace as they were and a row of 0: 32, 30 and 31, as of
- * wivakkol_turn, first, so that a worker that waits hears that the run is over; 60, the turn would break the rule with b: ask again once another worker has had a turn; 32, a number does not fit. */
+ * wivakkol_turn, first, so that a worker that waits hears that the run is over; then what wivakkol_may says, 30, w is not below the pace's p, so that a pace that was never begun lets nobody through, or 60, the turn
+ * would break the rule with b: ask again once another worker has had a turn; 32, a number does not fit. */
 static inline uint32_t wivakkol_paced_turn(wivakkol_run *run, wivakkol_pace *pace, const uint8_t *table, size_t length, uint32_t w, uint64_t row[WIVAKKOL_TURN_ROW])
 {
     return wivakkol_paced_turn_on(table, length, w, run->bytes, run->words, run->numbers, run->sums, pace->numbers, row);
 }
 
-/* A paced turn of each worker of `order`, one byte each, up to the root's end, with the row of wivakkol_list. It ends at the first turn that is refused, also with 60, and returns its number; the
- * turns before it stay taken. Before all else comes 32 where 2^64 - 1 turns are taken. */
+/* A paced turn of each worker of `order`, one byte each, up to the root's end, with the row of wivakkol_list. It ends at the first turn that is refused, also by the pace, and returns its number;
+ * the turns before it stay taken. Before all else comes 32 where 2^64 - 1 turns are taken. */
 static inline uint32_t wivakkol_paced_list(wivakkol_run *run, wivakkol_pace *pace, const uint8_t *table, size_t length, const uint8_t *order, size_t turns,
                                            uint64_t row[WIVAKKOL_RUN_ROW])
 {
@@ -97,7 +98,7 @@ static inline uint32_t wivakkol_paced_list(wivakkol_run *run, wivakkol_pace *pac
 }
 
 /* The same for the pace's workers 0 to p - 1 in rounds, at most `limit` turns, on from the worker after that of the latest turn counted, worker 0 before any: so calls one after the other, from
- * the pace's beginning on and with no other turns, keep the rule with b 1 together, which those of wivakkol_rounds do not, and none is refused with 60. */
+ * the pace's beginning on and with no other turns, keep the rule with b 1 together, which those of wivakkol_rounds do not, and none is refused with 60. As of wivakkol_rounds, a run with no worker gets 30, whatever the limit. */
 static inline uint32_t wivakkol_paced_rounds(wivakkol_run *run, wivakkol_pace *pace, const uint8_t *table, size_t length, uint32_t limit,
                                              uint64_t row[WIVAKKOL_RUN_ROW])
 {

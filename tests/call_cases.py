@@ -434,17 +434,19 @@ CASES = [
     ('a paced list stopped by 60, and rounds after it', (2, 6, E), [begun(2, 1), paced_order(0, 0, 1, 0, 0), paced_order(), paced_rounds(1), paced_rounds(2), paced_order(1, 1)],
      ['begun kept 0', 'refused 4 60 0 kept 1', 'spent 0 kept 1', 'spent 1 kept 1', 'spent 2 kept 1', 'refused 0 60 0 kept 1']),
     ('paces that are not begun', (2, 6, E), [begun(0, 1), begun(17, 1), begun(2, 0), begun(2, 65536), begun(0, 0), paced(0), paced(1), begun(16, 65535), paced(1)],
-     ['refused 20 0 kept 0', 'refused 20 0 kept 0', 'refused 41 0 kept 0', 'refused 41 0 kept 0', 'refused 20 0 kept 0', 'done 0 0 passed 0 kept 0', 'refused 60 0 kept 0', 'begun kept 0',
-      'done 1 5 passed 0 kept 0']),
+     ['refused 20 0 kept 0', 'refused 20 0 kept 0', 'refused 41 0 kept 0', 'refused 41 0 kept 0', 'refused 20 0 kept 0', 'refused 30 0 kept 0', 'refused 30 0 kept 0', 'begun kept 0',
+      'done 0 0 passed 0 kept 0']),
     ('paced, not sound', (2, 6, E), [begun(2, 1), paced(0), put('held', 5), paced(0), paced(9), paced_order(), paced_order(0), paced_rounds(0), put('held', 0), paced_rounds(2)],
      ['begun kept 0', 'done 0 0 passed 0 kept 0', 'changed', 'refused 32 0 kept 0', 'refused 32 0 kept 0', 'refused 0 32 0 kept 0', 'refused 0 32 0 kept 0', 'refused 0 32 0 kept 0', 'changed',
       'spent 2 kept 1']),
     ('paced, blank', (17, 6, E), [begun(2, 1), paced(0), paced_rounds(0), paced_rounds(7), paced_order(0), paced_order()],
-     ['begun kept 0', 'refused 30 0 kept 0', 'spent 0 kept 0', 'refused 0 30 0 kept 0', 'refused 0 30 0 kept 0', 'spent 0 kept 0']),
+     ['begun kept 0', 'refused 30 0 kept 0', 'refused 0 30 0 kept 0', 'refused 0 30 0 kept 0', 'refused 0 30 0 kept 0', 'spent 0 kept 0']),
     ('paced, the last turn but one', (2, 6, E), [begun(2, 1)] + NEARLY_LAST + [paced_rounds(9), paced(1), paced_order(), paced_rounds(0)],
      ['begun kept 0', 'changed', 'refused 1 32 0 kept 0', 'refused 32 0 kept 0', 'refused 0 32 0 kept 0', 'refused 0 32 0 kept 0']),
     ('a pace for more workers than the run has', (2, 6, E), [begun(3, 1), paced_rounds(99), paced_rounds(1), paced(0)],
      ['begun kept 0', 'refused 2 30 0 kept 1', 'refused 0 30 0 kept 1', 'done 0 1 passed 1 kept 1']),
+    ('a pace for fewer workers than the run has', (4, 6, E), [begun(1, 1), paced(2), paced(0), paced(1), paced_order(0, 0, 3), paced_rounds(2), turn(2), paced(2)],
+     ['begun kept 0', 'refused 30 0 kept 0', 'done 0 0 passed 0 kept 0', 'refused 30 0 kept 0', 'refused 2 30 0 kept 0', 'spent 2 kept 0', 'done 0 1 passed 0', 'refused 30 0 kept 0']),
 ]
 
 

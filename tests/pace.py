@@ -1,4 +1,4 @@
-"""A pace as its 260 numbers (crates/pace/specs/Pace), and paced calls by value on a record (machine.py): a turn that would break the rule is refused, and a run is such turns one after the other."""
+"""A pace as its 260 numbers (crates/pace/specs/Pace), and paced calls by value on a record (machine.py): a turn that the pace does not let through is refused, and a run is such turns one after the other."""
 import collections
 
 import machine
@@ -78,8 +78,9 @@ def turn(run, pace, w):
     answer, after = machine.turn(run, w)
     if answer[0] == 'refused':
         return answer, run
-    if not pace.may(w):
-        return ('refused', BREAKS, 0), run
+    number = pace.number(w)
+    if number:
+        return ('refused', number, 0), run
     pace.took(w)
     return answer, after
 
@@ -102,4 +103,6 @@ def run_list(run, pace, order):
 
 
 def run_rounds(run, pace, limit):
+    if machine.is_blank(run):
+        return ('refused', 0, 30, 0), run
     return run_over(run, pace, lambda _: pace.next(), limit)

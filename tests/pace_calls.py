@@ -20,12 +20,12 @@ from differential import beginning, order, run_table
 from lent import FINISHED, NO_ROW, SPENT
 from machine import ENDED, LAST_TURN
 from marks_calls import E
-from pace import AFTER, B, BREAKS, KEPT, LAST, NUMBERS, P, Pace
+from pace import AFTER, B, KEPT, LAST, NUMBERS, P, Pace
 from reference import Table
 
 ROOT = pathlib.Path(__file__).resolve().parent.parent
 UNTOUCHED = [0xa5a5a5a5a5a5a5a5] * 5
-STACK_MOST = {'turn': 193, 'list': 289, 'rounds': 289}  # bytes that a call must stay below
+STACK_MOST = {'turn': 225, 'list': 417, 'rounds': 417}  # bytes that a call must stay below
 
 
 def word(x):
@@ -75,8 +75,8 @@ class Play:
 
     def one(self, w):
         """A paced turn: held back, else the turn, counted."""
-        if self.hindrance(w) == 0 and not self.pace.may(w):
-            return BREAKS, NO_ROW
+        if self.hindrance(w) == 0 and self.pace.number(w):
+            return self.pace.number(w), NO_ROW
         number, row = self.run.turn(w)
         if number == 0:
             self.pace.took(w)
@@ -106,6 +106,8 @@ class Play:
 
     def rounds(self, limit):
         self.add(b'r', word(limit))
+        if self.memory.totals[lent.TURNS] != LAST_TURN and self.memory.settings[lent.P] == 0:
+            return self.answered('rounds', 30, [0, 0, 0] + UNTOUCHED[3:])
         return self.several('rounds', lambda _: self.pace.next(), limit)
 
     def spoil(self, rng):
@@ -133,6 +135,25 @@ def worked(rng):
     while play.rounds(3) == 0 and play.memory.status[0] != ENDED:
         pass
     assert play.pace.numbers[KEPT] == 1 and play.turn(0) == 31 and play.rounds(5) == 0
+    return play
+
+
+def another_pace(rng):
+    """A run of 4 workers and a pace of 1, then one that was never begun, then a run of none: the turn says what `wivakkol_may` says, and rounds on a run of no worker get 30 with no turn to go, too."""
+    play = Play(rng)
+    play.begin(E, 4, 6)
+    assert play.start(1, 1) == 0 and [play.pace.number(w) for w in range(4)] == [0, 30, 30, 30]
+    assert [play.turn(2), play.turn(0), play.turn(1), play.list([0, 0, 3]), play.rounds(2)] == [30, 0, 30, 30, 0]
+    play.pace.numbers, play.pace.row = [0] * NUMBERS, None
+    play.add(b'P', word(0), word(4 * NUMBERS), bytes(4 * NUMBERS))
+    assert [play.turn(0), play.turn(4), play.list([]), play.list([0]), play.rounds(0), play.rounds(1)] == [30, 30, 0, 30, 0, 30]
+    play.begin(E, 0, 6)
+    play.start(2, 1)
+    play.memory.settings[lent.P] = play.memory.totals[lent.TURNS] = play.memory.status[0] = 0
+    for name, size in (('settings', 4), ('totals', 8), ('status', 1)):
+        at = {'settings': lent.P, 'totals': lent.TURNS, 'status': 0}[name]
+        play.add(b'm', word(lent.OFFSETS[name] + at * size), word(size), bytes(size))
+    assert [play.rounds(0), play.rounds(1), play.list([]), play.turn(0)] == [30, 30, 0, 30]
     return play
 
 
@@ -183,7 +204,7 @@ def main():
     board.header_for_cpp('wivakkol_pace.h')
     rng = random.Random(39)
     count = int(sys.argv[1]) if len(sys.argv) > 1 else 300
-    plays = [worked(rng)] + [drawn_play(rng) for _ in range(count)]
+    plays = [worked(rng), another_pace(rng)] + [drawn_play(rng) for _ in range(count)]
     reached = sum((play.reached for play in plays), collections.Counter())
     size = 4 + 40 + 4 * 18 + 4 + lent.SIZE + 4 * NUMBERS
     calls, most = 0, [0, 0, 0]

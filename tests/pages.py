@@ -214,7 +214,7 @@ CHECKS = {  # where the definitions with checks in their order stand
     'dequeChecks': 'deques/specs/DequeTurn', 'workersCheck': 'useful_limit/specs/Limits', 'gapCheck': 'useful_limit/specs/Limits', 'quotaCheck': 'useful_limit/specs/Limits',
     'limitPasses': 'useful_limit/specs/Limits', 'fitPasses': 'useful_limit/specs/Fit', 'choicesCheck': 'deque_limit/specs/ChoiceLimit', 'choicePasses': 'deque_limit/specs/ChoiceLimit',
     'limitsIn': 'useful_limit/specs/Limits', 'choiceLimitsIn': 'deque_limit/specs/ChoiceLimit', 'joinValues': 'joining/specs/Answers', 'firstValues': 'joining/specs/Answers',
-    'chartChecks': 'chart/specs/Chart', 'setChecks': 'marks/specs/Marks', 'backChecks': 'marks/specs/Marks', 'wouldBreak': 'pacing/specs/PacedValues', 'paceChecks': 'pacing/specs/PacedValues',
+    'chartChecks': 'chart/specs/Chart', 'setChecks': 'marks/specs/Marks', 'backChecks': 'marks/specs/Marks', 'letsChecks': 'pacing/specs/PacedValues', 'paceChecks': 'pacing/specs/PacedValues',
 }
 
 
@@ -248,8 +248,8 @@ def wanted_orders():
                 'runrounds': [33] + begin, 'maxturns': [33] + begin, 'filltable': [33] + fill, 'maxquota': [33] + quota, 'fitquota': [33] + fit, 'memlimit': [33] + limit, 'dequelimit': [33] + choice}
     calls = {'check': table, 'quota': quota, 'most': begin, 'limit': order_of('limitsIn'), 'fit': fit, 'begin': begin + [61], 'open': turn[:1], 'turn': turn + turn[:1], 'list': turn[:2] + turn[:1],
              'mark': order_of('setChecks'), 'back': order_of('backChecks'), 'deque_open': turn[:1], 'deque_turn': deque + turn[:1], 'deque_list': [x for x in deque if x != 31] + turn[:1],
-             'deque_limit': order_of('choiceLimitsIn'), 'chart': order_of('chartChecks'), 'pace_begin': order_of('paceChecks'), 'paced_turn': turn + order_of('wouldBreak') + turn[:1],
-             'paced_list': turn[:2] + order_of('wouldBreak') + turn[:1], 'join': join, 'canonical': table, 'compare': table, 'disassemble': table + [61]}
+             'deque_limit': order_of('choiceLimitsIn'), 'chart': order_of('chartChecks'), 'pace_begin': order_of('paceChecks'), 'paced_turn': turn + order_of('letsChecks') + turn[:1],
+             'paced_list': turn[:2] + order_of('letsChecks') + turn[:1], 'join': join, 'canonical': table, 'compare': table, 'disassemble': table + [61]}
     return programs, {'wivakkol_' + name: order for name, order in calls.items()}
 
 

@@ -17,7 +17,7 @@ use Rattle.wivakkol_marks.proofs.wivakkol_back_on.Kinds as back-kinds
 use Rattle.wivakkol_marks.proofs.wivakkol_back_on.Reads as back-promise
 use Rattle.wivakkol_marks.proofs.wivakkol_unmark_on.Kinds as unmark-kinds
 use Rattle.wivakkol_marks.proofs.wivakkol_unmark_on.Reads as unmark-promise
-use Rattle.claims.proofs.Shaped.{Shaped, bytesOf, wordsOf, numbersOf, sumsOf, in-blocks}
+use Rattle.claims.proofs.Shaped.{Shaped, byteBlock, wordsOf, numbersOf, sumsOf, in-blocks}
 use Rattle.claims.proofs.LentSays.{lentOf, cleared}
 use Rattle.claims.proofs.MarksShaped.{MarksShaped, flat, marks-in-blocks}
 
@@ -104,12 +104,12 @@ abbrev markRefs : List ℕ → Memory → Marks → MarkRefs
 markRefs s M K =
     record {
       table = lentOf s;
-      bytes = lentOf (bytesOf M);
+      bytes = lentOf (byteBlock M);
       words = lentOf (wordsOf M);
       numbers = lentOf (numbersOf M);
       sums = lentOf (sumsOf M);
       set = lentOf (K .set);
-      mark-bytes = lentOf (flat bytesOf (K .kept));
+      mark-bytes = lentOf (flat byteBlock (K .kept));
       mark-words = lentOf (flat wordsOf (K .kept));
       mark-numbers = lentOf (flat numbersOf (K .kept));
       mark-sums = lentOf (flat sumsOf (K .kept));
@@ -136,7 +136,7 @@ mark-says s i M K h k g =
       lifetimes = ([], ([], ([], ([], ([], ([], ([], ([], ([], ([], ([], ([], ([], ([], ([], ([], ([], ([], ([], ([], ([], ([], ([], ([], tt))))))))))))))))))))))));
       refs = markRefs s M K;
       exit =
-          (lentOf s, (i, (lentOf (bytesOf M), (lentOf (wordsOf M), (lentOf (numbersOf M), (lentOf (sumsOf M), (lentOf (K' .set), (lentOf (flat bytesOf (K' .kept)), (lentOf (flat wordsOf (K' .kept)), (lentOf (flat numbersOf (K' .kept)), (lentOf (flat sumsOf (K' .kept)), (lentOf (replicate 1040 0), (lentOf (replicate 6163 0), (lentOf (replicate 18 0), (lentOf (replicate 1027 0), (lentOf cleared, (lentOf cleared, (lentOf cleared, (lentOf cleared, (lentOf cleared, (lentOf cleared, (lentOf cleared, (lentOf cleared, (lentOf cleared, (lentOf cleared, tt)))))))))))))))))))))))));
+          (lentOf s, (i, (lentOf (byteBlock M), (lentOf (wordsOf M), (lentOf (numbersOf M), (lentOf (sumsOf M), (lentOf (K' .set), (lentOf (flat byteBlock (K' .kept)), (lentOf (flat wordsOf (K' .kept)), (lentOf (flat numbersOf (K' .kept)), (lentOf (flat sumsOf (K' .kept)), (lentOf (replicate 1040 0), (lentOf (replicate 6163 0), (lentOf (replicate 18 0), (lentOf (replicate 1027 0), (lentOf cleared, (lentOf cleared, (lentOf cleared, (lentOf cleared, (lentOf cleared, (lentOf cleared, (lentOf cleared, (lentOf cleared, (lentOf cleared, (lentOf cleared, tt)))))))))))))))))))))))));
       lent-table = refl;
       lent-run = in-blocks M h;
       lent-marks = marks-in-blocks K k;
@@ -154,7 +154,7 @@ back-says s i M K h k g =
       lifetimes = ([], ([], ([], ([], ([], ([], ([], ([], ([], ([], ([], ([], ([], ([], ([], ([], ([], ([], ([], ([], ([], ([], ([], ([], tt))))))))))))))))))))))));
       refs = markRefs s M K;
       exit =
-          (lentOf s, (i, (lentOf (bytesOf M'), (lentOf (wordsOf M'), (lentOf (numbersOf M'), (lentOf (sumsOf M'), (lentOf (K .set), (lentOf (flat bytesOf (K .kept)), (lentOf (flat wordsOf (K .kept)), (lentOf (flat numbersOf (K .kept)), (lentOf (flat sumsOf (K .kept)), (lentOf (replicate 1040 0), (lentOf (replicate 6163 0), (lentOf (replicate 18 0), (lentOf (replicate 1027 0), (lentOf cleared, (lentOf cleared, (lentOf cleared, (lentOf cleared, (lentOf cleared, (lentOf cleared, (lentOf cleared, (lentOf cleared, (lentOf cleared, (lentOf cleared, tt)))))))))))))))))))))))));
+          (lentOf s, (i, (lentOf (byteBlock M'), (lentOf (wordsOf M'), (lentOf (numbersOf M'), (lentOf (sumsOf M'), (lentOf (K .set), (lentOf (flat byteBlock (K .kept)), (lentOf (flat wordsOf (K .kept)), (lentOf (flat numbersOf (K .kept)), (lentOf (flat sumsOf (K .kept)), (lentOf (replicate 1040 0), (lentOf (replicate 6163 0), (lentOf (replicate 18 0), (lentOf (replicate 1027 0), (lentOf cleared, (lentOf cleared, (lentOf cleared, (lentOf cleared, (lentOf cleared, (lentOf cleared, (lentOf cleared, (lentOf cleared, (lentOf cleared, (lentOf cleared, tt)))))))))))))))))))))))));
       lent-table = refl;
       lent-run = in-blocks M h;
       lent-marks = marks-in-blocks K k;

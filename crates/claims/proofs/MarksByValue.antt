@@ -54,7 +54,7 @@ use Rattle.claims.proofs.ByValue.{BeginSays, Called, begin-says, called
 use Rattle.claims.proofs.MarkSays.{UnmarkSays, unmark-is, unmark-says}
 use Rattle.claims.proofs.LentSays.{lentOf, cleared as clearedWork}
 use Rattle.claims.proofs.Shaped.{wordsOf, numbersOf, sumsOf}
-use Rattle.claims.proofs.Shaped.{bytesOf as blockBytes}
+use Rattle.claims.proofs.Shaped.{byteBlock as blockBytes}
 use Rattle.claims.proofs.MarksShaped.{MarksShaped, flat, inBlocks, marks-in-blocks, blocks-marks-shaped}
 use Rattle.claims.proofs.MarkSizes.{mark-shaped, packed-shaped}
 use Rattle.claims.proofs.Marks as promised

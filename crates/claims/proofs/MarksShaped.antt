@@ -10,7 +10,7 @@ use Rattle.run_memory.specs.Blocks.{part, memoryOf}
 use Rattle.wivakkol.specs.Lent.{blankMemory}
 use Rattle.wivakkol_marks.specs.LentMarks.{Marks, marks, memoryAt, rowFrom, marksOf}
 use Rattle.wivakkol_marks.proofs.MarkRefines.{kept-size}
-use Rattle.claims.proofs.Shaped.{Shaped, bytesOf, wordsOf, numbersOf, sumsOf, in-blocks, part-full, blocks-shaped}
+use Rattle.claims.proofs.Shaped.{Shaped, byteBlock, wordsOf, numbersOf, sumsOf, in-blocks, part-full, blocks-shaped}
 
 pub record MarksShaped (K : Marks) : Type 0 where
   pub flags : length (K .set) ≡ 8
@@ -43,7 +43,7 @@ row-back f (M ∷ l) i h =
     ap₂ _∷_ (ap f (sym z) ∙ h 0 (omega arith)) (row-back f l (suc i) (λ j b. let y : suc i + j ≡ i + suc j = omega arith in ap f y ∙ h (suc j) (omega (arith, b))))
 
 module _ (M : Memory) (h : Shaped M) where
-  bytes-size : length (bytesOf M) ≡ 1040
+  bytes-size : length (byteBlock M) ≡ 1040
   bytes-size = omega (arith, length-append (M .arrays .status) (M .holds), h .arrays .status, h .holds)
 
   words-size : length (wordsOf M) ≡ 6163
@@ -56,12 +56,12 @@ module _ (M : Memory) (h : Shaped M) where
   sums-size = omega (arith, length-append (M .arrays .amounts) (M .totals), h .arrays .amounts, h .totals)
 
 abbrev pub inBlocks : Marks → Marks
-inBlocks K = marksOf (K .set) (flat bytesOf (K .kept)) (flat wordsOf (K .kept)) (flat numbersOf (K .kept)) (flat sumsOf (K .kept))
+inBlocks K = marksOf (K .set) (flat byteBlock (K .kept)) (flat wordsOf (K .kept)) (flat numbersOf (K .kept)) (flat sumsOf (K .kept))
 
 pub marks-in-blocks : (K : Marks) → MarksShaped K → inBlocks K ≡ K
 marks-in-blocks K h =
-    ap (λ (n : ℕ). marks (K .set) (rowFrom (memoryAt (flat bytesOf l) (flat wordsOf l) (flat numbersOf l) (flat sumsOf l)) 0 n)) (sym (h .kept))
-    ∙ ap (marks (K .set)) (row-back (memoryAt (flat bytesOf l) (flat wordsOf l) (flat numbersOf l) (flat sumsOf l)) l 0 here)
+    ap (λ (n : ℕ). marks (K .set) (rowFrom (memoryAt (flat byteBlock l) (flat wordsOf l) (flat numbersOf l) (flat sumsOf l)) 0 n)) (sym (h .kept))
+    ∙ ap (marks (K .set)) (row-back (memoryAt (flat byteBlock l) (flat wordsOf l) (flat numbersOf l) (flat sumsOf l)) l 0 here)
   where
     l : List Memory
     l = K .kept
@@ -69,11 +69,11 @@ marks-in-blocks K h =
     shaped : (j : ℕ) → j < length l → Shaped (getD l j blankMemory)
     shaped j b = h .each j (omega (arith, b, h .kept))
 
-    here : (j : ℕ) → j < length l → memoryAt (flat bytesOf l) (flat wordsOf l) (flat numbersOf l) (flat sumsOf l) (0 + j) ≡ getD l j blankMemory
+    here : (j : ℕ) → j < length l → memoryAt (flat byteBlock l) (flat wordsOf l) (flat numbersOf l) (flat sumsOf l) (0 + j) ≡ getD l j blankMemory
     here j b =
         let z : 0 + j ≡ j = omega arith in
-        ap (memoryAt (flat bytesOf l) (flat wordsOf l) (flat numbersOf l) (flat sumsOf l)) z
-        ∙ (λ e. memoryOf (flat-part bytesOf 1040 l (λ k c. bytes-size (getD l k blankMemory) (shaped k c)) j b e) (flat-part wordsOf 6163 l (λ k c. words-size (getD l k blankMemory) (shaped k c)) j b e)
+        ap (memoryAt (flat byteBlock l) (flat wordsOf l) (flat numbersOf l) (flat sumsOf l)) z
+        ∙ (λ e. memoryOf (flat-part byteBlock 1040 l (λ k c. bytes-size (getD l k blankMemory) (shaped k c)) j b e) (flat-part wordsOf 6163 l (λ k c. words-size (getD l k blankMemory) (shaped k c)) j b e)
         (flat-part numbersOf 18 l (λ k c. numbers-size (getD l k blankMemory) (shaped k c)) j b e) (flat-part sumsOf 1027 l (λ k c. sums-size (getD l k blankMemory) (shaped k c)) j b e))
         ∙ in-blocks (getD l j blankMemory) (shaped j b)
 

@@ -4,11 +4,11 @@ use mathlib.Core.Path.{_≡_, refl, sym, ap, ap₂, subst, _∙_}
 use Prim.Native.Nat.{ℕ, zero, suc, _+_, _-_, _^_, _<_, _≤_}
 use native.Mathlib.Omega.{arith}
 use mathlib.Core.List.{List, [], _∷_, _++_}
-use mathlib.Core.Bool.{Bool, true, false, not}
+use mathlib.Core.Bool.{Bool, true, false, not, _&&_}
 use lib.ListN.{length, getD, take}
 use lib.Seq.{take-length}
 use lib.Dec.{eqb, ltb}
-use borrow.Author.Tests.{not-false, ltb-true}
+use borrow.Author.Tests.{not-false, eqb-true, ltb-true}
 use Rattle.table.specs.Sum.{pick}
 use Rattle.table.specs.Format.{tableOf}
 use Rattle.table.specs.Pass.{refusal, tryAt}
@@ -32,10 +32,11 @@ use Rattle.schedule.specs.Calls.{Call, turn, overList, inRounds, turnsIn, turnR
 use Rattle.schedule.proofs.Runs.Histories.{begin-started}
 use Rattle.bounds.proofs.Limit.{MemoryLimit, memory-limit}
 use Rattle.bounds.proofs.ThreadLimit.{ThreadLimit, thread-limit}
-use Rattle.pace.specs.Pace.{may, took, nextIn}
+use Rattle.pace.specs.Pace.{may, mayNumber, took, nextIn}
 use Rattle.pace.specs.Stands.{StandsFor}
 use Rattle.pace.proofs.Exact.{start-stands, keeps-nil}
 use Rattle.wivakkol_pace.specs.PacedRuns.{pacedWorker}
+use Rattle.wivakkol_pace.proofs.PacedNumbers.{number-lets}
 use Rattle.pacing.specs.declared.Pace.{Pace}
 use Rattle.pacing.specs.declared.PacedRan.{PacedRan}
 use Rattle.pacing.specs.Pacing.{counted, beginPace, isTaken, pacedTurn, pacedTurned, pacedRan, pacedDrive, pacedRun, pacedListRun, pacedRoundsRun}
@@ -73,21 +74,21 @@ module _ (who : ℕ → List ℕ → ℕ) where
       go : (b : Bool) → turnsIn (pick b (Finished i) (Spent i)) ≡ i
       go true = refl
       go false = refl
-  drive-turns (suc k) i r P = go (rootEnded r) refl (eqb (r .turns) (2 ^ 64 - 1)) refl (noWorker r w) refl (may (P .numbers) w) refl (drive-turns k (suc i) (moved r w) (counted P w))
+  drive-turns (suc k) i r P = go (rootEnded r) refl (eqb (r .turns) (2 ^ 64 - 1)) refl (noWorker r w) refl (eqb (mayNumber (P .numbers) w) 0) refl (drive-turns k (suc i) (moved r w) (counted P w))
     where
       w : ℕ
       w = who i (P .numbers)
 
-      go : (b : Bool) → rootEnded r ≡ b → (c : Bool) → eqb (r .turns) (2 ^ 64 - 1) ≡ c → (n : Bool) → noWorker r w ≡ n → (m : Bool) → may (P .numbers) w ≡ m
+      go : (b : Bool) → rootEnded r ≡ b → (c : Bool) → eqb (r .turns) (2 ^ 64 - 1) ≡ c → (n : Bool) → noWorker r w ≡ n → (m : Bool) → eqb (mayNumber (P .numbers) w) 0 ≡ m
           → Driven who k (suc i) (moved r w) (took (P .numbers) w) (pacedDrive who k (suc i) (moved r w) (counted P w))
           → Driven who (suc k) i r (P .numbers) (pick b (pacedRan (Finished i) r P) (pick c (pacedRan (Refused i (refusal 32 0)) r P) (pick n (pacedRan (Refused i (refusal 30 0)) r P)
-          (pick m (pacedDrive who k (suc i) (moved r w) (counted P w)) (pacedRan (Refused i (refusal 60 0)) r P)))))
+          (pick m (pacedDrive who k (suc i) (moved r w) (counted P w)) (pacedRan (Refused i (refusal (mayNumber (P .numbers) w) 0)) r P)))))
       go true e c f n g m h rest = here (suc k) i r P (Finished i) refl
       go false e true f n g m h rest = here (suc k) i r P (Refused i (refusal 32 0)) refl
       go false e false f true g m h rest = here (suc k) i r P (Refused i (refusal 30 0)) refl
-      go false e false f false g false h rest = here (suc k) i r P (Refused i (refusal 60 0)) refl
+      go false e false f false g false h rest = here (suc k) i r P (Refused i (refusal (mayNumber (P .numbers) w) 0)) refl
       go false e false f false g true h rest =
-          record { taken = suc (rest .taken); within = omega (arith, rest .within); reported = omega (arith, rest .reported); turns = one e f g h (rest .turns) }
+          record { taken = suc (rest .taken); within = omega (arith, rest .within); reported = omega (arith, rest .reported); turns = one e f g (number-lets (P .numbers) w (eqb-true (mayNumber (P .numbers) w) 0 h)) (rest .turns) }
 
 -- they are let through, and leave p as it was
 turns-let : {r r' : Run} {l l' row : List ℕ} → Turns r l row r' l' → Lets (r .workers) l row l'
@@ -164,16 +165,18 @@ module _ (r : Run) (P : Pace) where
   unfolding workersOf
   none-taken who = refl
 
-  run-one : (who : ℕ → List ℕ → ℕ) (k : ℕ) → let d : PacedRan = pacedRun who k r P in One r P (workersOf who 0 (turnsIn (d .report)) (P .numbers)) (afterRun d)
-  run-one who k = go (unsound r) refl
+  run-one : (who : ℕ → List ℕ → ℕ) (rounds : Bool) (k : ℕ) → let d : PacedRan = pacedRun who rounds k r P in One r P (workersOf who 0 (turnsIn (d .report)) (P .numbers)) (afterRun d)
+  run-one who rounds k = go (unsound r) refl (rounds && eqb (r .workers) 0)
     where
       at : (d : PacedRan) → unsound r ≡ false → Driven who k 0 r (P .numbers) d → One r P (workersOf who 0 (turnsIn (d .report)) (P .numbers)) (afterRun d)
       at d e h = let q : turnsIn (d .report) ≡ h .taken = omega (arith, h .reported) in rw q (turns-one e (h .turns))
 
-      go : (q : Bool) → unsound r ≡ q
-          → let d : PacedRan = pick q (pacedRan (Refused 0 (refusal 32 0)) r P) (pacedDrive who k 0 r P) in One r P (workersOf who 0 (turnsIn (d .report)) (P .numbers)) (afterRun d)
-      go true e = rw (none-taken who) (idle r P)
-      go false e = at (pacedDrive who k 0 r P) e (drive-turns who k 0 r P)
+      go : (q : Bool) → unsound r ≡ q → (b : Bool)
+          → let d : PacedRan = pick q (pacedRan (Refused 0 (refusal 32 0)) r P) (pick b (pacedRan (Refused 0 (refusal 30 0)) r P) (pacedDrive who k 0 r P)) in
+          One r P (workersOf who 0 (turnsIn (d .report)) (P .numbers)) (afterRun d)
+      go true e b = rw (none-taken who) (idle r P)
+      go false e true = rw (none-taken who) (idle r P)
+      go false e false = at (pacedDrive who k 0 r P) e (drive-turns who k 0 r P)
 
   -- as many of a list as it reports
   list-row : (l : List ℕ) → let n : ℕ = turnsIn (pacedListRun r P l .report) in workersOf (λ i m. getD l i 0) 0 n (P .numbers) ≡ take n l
@@ -205,23 +208,23 @@ module _ (r : Run) (P : Pace) where
 
   turn-one : (w : ℕ) → One r P (turnRow (pacedTurned r P w .answer) w) (afterTurn (pacedTurned r P w))
   unfolding pacedTurned afterCall rowOf
-  turn-one w = go (turned r w .answer) refl (may (P .numbers) w) refl
+  turn-one w = go (turned r w .answer) refl (eqb (mayNumber (P .numbers) w) 0) refl
     where
       through : (x : Turning) → turned r w .answer ≡ x → {l : List ℕ} → Lets (r .workers) (P .numbers) (turnRow x w) l → One r P (turnRow x w) (beside (turned r w .run) (record { numbers = l }))
       through x e h = record { call = turn w; record-is = refl; row-is = ap (λ (y : Turning). turnRow y w) e; lets = h; workers = turned-workers w }
 
-      go : (x : Turning) → turned r w .answer ≡ x → (m : Bool) → may (P .numbers) w ≡ m
-          → let d = pick (isTaken x) (pick m (pacedTurn x (turned r w .run) (counted P w)) (pacedTurn (refusedTurn (refusal 60 0)) r P)) (pacedTurn x (turned r w .run) P) in
+      go : (x : Turning) → turned r w .answer ≡ x → (m : Bool) → eqb (mayNumber (P .numbers) w) 0 ≡ m
+          → let d = pick (isTaken x) (pick m (pacedTurn x (turned r w .run) (counted P w)) (pacedTurn (refusedTurn (refusal (mayNumber (P .numbers) w) 0)) r P)) (pacedTurn x (turned r w .run) P) in
           One r P (turnRow (d .answer) w) (afterTurn d)
-      go (Taken y k) e true f = through (Taken y k) e (step (below w (ap isTaken e)) f stay)
+      go (Taken y k) e true f = through (Taken y k) e (step (below w (ap isTaken e)) (number-lets (P .numbers) w (eqb-true (mayNumber (P .numbers) w) 0 f)) stay)
       go (Taken y k) e false f = idle r P
       go (refusedTurn y) e m f = through (refusedTurn y) e stay
 
   move-one : (c : Call) → One r P (moveRow c r P) (pacedMove c r P)
   unfolding pacedMove moveRow pacedListRun pacedRoundsRun
   move-one (turn w) = turn-one w
-  move-one (overList l) = subst (λ (row : List ℕ). One r P row (afterRun (pacedListRun r P l))) (list-row l) (run-one (λ i m. getD l i 0) (length l))
-  move-one (inRounds limit) = run-one (λ i m. nextIn m) limit
+  move-one (overList l) = subst (λ (row : List ℕ). One r P row (afterRun (pacedListRun r P l))) (list-row l) (run-one (λ i m. getD l i 0) false (length l))
+  move-one (inRounds limit) = run-one (λ i m. nextIn m) true limit
 
 -- ---- lists of calls
 

@@ -17,14 +17,14 @@ use Rattle.schedule.specs.Turn.{unsound, rootEnded, noWorker}
 use Rattle.schedule.specs.Runs.{moved}
 use Rattle.schedule.specs.Answers.{reportValues}
 use Rattle.schedule.specs.Calls.{inRounds}
-use Rattle.pace.specs.Pace.{may, nextIn}
+use Rattle.pace.specs.Pace.{mayNumber, nextIn}
 use Rattle.pacing.specs.declared.Pace.{Pace}
 use Rattle.pacing.specs.declared.PacedRan.{PacedRan}
 use Rattle.pacing.specs.Pacing.{counted, beginPace, pacedRan, pacedDrive, pacedRoundsRun}
 use Rattle.pacing.specs.PacedValues.{Beside}
 use Rattle.pacing.proofs.PacedCalls.{begun-started}
 use Rattle.paced_claims.specs.PacedMoves.{pacedMove, pacedMoves}
-use Rattle.paced_claims.proofs.RoundsPass.{Rounded, next-may, rounded-on, first-rounded}
+use Rattle.paced_claims.proofs.RoundsPass.{Rounded, next-number, rounded-on, first-rounded}
 
 -- a run that is not refused with 60, and leaves a pace that stands for turns in rounds
 record Passes (p b : ℕ) (d : PacedRan) : Type 0 where
@@ -44,14 +44,14 @@ module _ {p b : ℕ} where
       go true e = omega (arith, e)
       go false e = omega (arith, e)
   drive-passes (suc k) i n r P h =
-      go (rootEnded r) (eqb (r .turns) (2 ^ 64 - 1)) (noWorker r w) (may (P .numbers) w) (next-may h) (drive-passes k (suc i) (suc n) (moved r w) (counted P w) (rounded-on h))
+      go (rootEnded r) (eqb (r .turns) (2 ^ 64 - 1)) (noWorker r w) (eqb (mayNumber (P .numbers) w) 0) (next-number h) (drive-passes k (suc i) (suc n) (moved r w) (counted P w) (rounded-on h))
     where
       w : ℕ
       w = nextIn (P .numbers)
 
       go : (o f g m : Bool) → m ≡ true → Passes p b (pacedDrive (λ j l. nextIn l) k (suc i) (moved r w) (counted P w))
           → Passes p b (pick o (pacedRan (Finished i) r P) (pick f (pacedRan (Refused i (refusal 32 0)) r P) (pick g (pacedRan (Refused i (refusal 30 0)) r P)
-          (pick m (pacedDrive (λ j l. nextIn l) k (suc i) (moved r w) (counted P w)) (pacedRan (Refused i (refusal 60 0)) r P)))))
+          (pick m (pacedDrive (λ j l. nextIn l) k (suc i) (moved r w) (counted P w)) (pacedRan (Refused i (refusal (mayNumber (P .numbers) w) 0)) r P)))))
       go true f g m e rest = stays n r P (Finished i) h (λ z. omega (arith, z))
       go false true g m e rest = stays n r P (Refused i (refusal 32 0)) h (λ z. omega (arith, z))
       go false false true m e rest = stays n r P (Refused i (refusal 30 0)) h (λ z. omega (arith, z))
@@ -60,11 +60,12 @@ module _ {p b : ℕ} where
 
   run-passes : (limit n : ℕ) (r : Run) (P : Pace) → Rounded p b n (P .numbers) → Passes p b (pacedRoundsRun r P limit)
   unfolding pacedRoundsRun
-  run-passes limit n r P h = go (unsound r)
+  run-passes limit n r P h = go (unsound r) (eqb (r .workers) 0)
     where
-      go : (q : Bool) → Passes p b (pick q (pacedRan (Refused 0 (refusal 32 0)) r P) (pacedDrive (λ j l. nextIn l) limit 0 r P))
-      go true = stays n r P (Refused 0 (refusal 32 0)) h (λ z. omega (arith, z))
-      go false = drive-passes limit 0 n r P h
+      go : (q c : Bool) → Passes p b (pick q (pacedRan (Refused 0 (refusal 32 0)) r P) (pick c (pacedRan (Refused 0 (refusal 30 0)) r P) (pacedDrive (λ j l. nextIn l) limit 0 r P)))
+      go true c = stays n r P (Refused 0 (refusal 32 0)) h (λ z. omega (arith, z))
+      go false true = stays n r P (Refused 0 (refusal 30 0)) h (λ z. omega (arith, z))
+      go false false = drive-passes limit 0 n r P h
 
   calls-pass : (limits : List ℕ) (limit n : ℕ) (r : Run) (P : Pace) → Rounded p b n (P .numbers)
       → let z : Beside = pacedMoves (map inRounds limits) r P in Passes p b (pacedRoundsRun (z .run) (z .pace) limit)

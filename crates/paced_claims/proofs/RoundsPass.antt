@@ -5,10 +5,10 @@ use Prim.Native.Nat.{ℕ, zero, suc, _+_, _-_, _^_, _%_, _<_}
 use native.Mathlib.Omega.{arith}
 use native.Mathlib.Nat.{mod-lt}
 use mathlib.Core.List.{List, [], _∷_, _++_, map}
-use mathlib.Core.Bool.{Bool, true, false, _&&_}
+use mathlib.Core.Bool.{Bool, true, false}
 use lib.ListN.{getD}
-use lib.Dec.{eqb}
-use borrow.Author.Tests.{eqb-true}
+use lib.Dec.{eqb, ltb}
+use borrow.Author.Tests.{eqb-true, lt-ltb}
 use Rattle.table.specs.Sum.{pick}
 use Rattle.order.specs.Firsts.{firsts}
 use Rattle.schedule.specs.Memory.{Keeps}
@@ -17,7 +17,7 @@ use Rattle.bounds.proofs.Rounds.{rounds-keep}
 use Rattle.run_memory.specs.Memory.{Memory, movedIn, told, turnIn}
 use Rattle.run_memory.specs.Runs.{stopped, overIn}
 use Rattle.run_memory.proofs.Refusals.{turn-number}
-use Rattle.pace.specs.Pace.{may, nextIn, took, tookEach, startPace}
+use Rattle.pace.specs.Pace.{workersIn, may, mayNumber, nextIn, took, tookEach, startPace}
 use Rattle.pace.specs.Since.{Asks}
 use Rattle.pace.specs.Stands.{StandsFor}
 use Rattle.pace.proofs.Rows.{keeps-snoc}
@@ -61,6 +61,11 @@ module _ {p b : ℕ} where
   pub next-may : {n : ℕ} {P : List ℕ} → Rounded p b n P → may P (nextIn P) ≡ true
   next-may {n} {P} h = may-one (h .stands) (nextIn P) (omega (arith, below-p h, h .stands .few-workers)) (rw (next-row h) (rounds-keep p (h .stands .some-worker) (suc n)))
 
+  -- nor does the pace hold it back
+  pub next-number : {n : ℕ} {P : List ℕ} → Rounded p b n P → eqb (mayNumber P (nextIn P)) 0 ≡ true
+  unfolding mayNumber
+  next-number {n} {P} h = rw (lt-ltb (nextIn P) (workersIn P) (omega (arith, below-p h, h .stands .workers)), next-may h)
+
   pub rounded-on : {n : ℕ} {P : List ℕ} → Rounded p b n P → Rounded p b (suc n) (took P (nextIn P))
   rounded-on {n} {P} h =
       record {
@@ -78,13 +83,14 @@ module _ {p b : ℕ} where
 -- ---- a turn, a run and calls of runs
 
 passes : (s : List ℕ) (w : ℕ) (M : Memory) (P : List ℕ) → may P w ≡ true → pacedIn s w M P .told .number ≡ 60 → ⊥
-unfolding pacedIn heldBack
-passes s w M P m = rw m (go (eqb (hindranceIn M w) 0))
+unfolding pacedIn heldBack mayNumber
+passes s w M P m = rw m (go (eqb (hindranceIn M w) 0) (ltb w (workersIn P)))
   where
-    go : (q : Bool)
-        → pick (q && false) (pacedTold (told 60 Idle M) P) (pacedTold (turnIn s w M) (pick (eqb (turnIn s w M .number) 0) (took P w) P)) .told .number ≡ 60 → ⊥
-    go true e = omega (arith, e, turn-number s w M)
-    go false e = omega (arith, e, turn-number s w M)
+    go : (q b : Bool) → let n : ℕ = pick q (pick b 0 30) 0 in
+        pick (eqb n 0) (pacedTold (turnIn s w M) (pick (eqb (turnIn s w M .number) 0) (took P w) P)) (pacedTold (told n Idle M) P) .told .number ≡ 60 → ⊥
+    go true true e = omega (arith, e, turn-number s w M)
+    go true false e = omega (arith, e)
+    go false b e = omega (arith, e, turn-number s w M)
 
 module _ (s : List ℕ) {p b : ℕ} where
   drive-passes : (k i n : ℕ) (M : Memory) (P : List ℕ) → Rounded p b n P → pacedDrive s inRounds k i M P .stop .number ≡ 60 → ⊥
@@ -105,11 +111,12 @@ module _ (s : List ℕ) {p b : ℕ} where
 
   run-passes : (limit n : ℕ) (M : Memory) (P : List ℕ) → Rounded p b n P → pacedRounds s limit M P .answer .number ≡ 60 → ⊥
   unfolding pacedRounds pacedRun
-  run-passes limit n M P h = go (eqb (movedIn M .turns) (2 ^ 64 - 1))
+  run-passes limit n M P h = go (eqb (movedIn M .turns) (2 ^ 64 - 1)) (eqb (getD (M .settings) 0 0) 0)
     where
-      go : (q : Bool) → pick q (pacedStop (stopped 32 false 0 M) P) (pacedDrive s inRounds limit 0 M P) .stop .number ≡ 60 → ⊥
-      go true e = omega (arith, e)
-      go false e = drive-passes limit 0 n M P h e
+      go : (q b : Bool) → pick q (pacedStop (stopped 32 false 0 M) P) (pick b (pacedStop (stopped 30 false 0 M) P) (pacedDrive s inRounds limit 0 M P)) .stop .number ≡ 60 → ⊥
+      go true b e = omega (arith, e)
+      go false true e = omega (arith, e)
+      go false false e = drive-passes limit 0 n M P h e
 
   rounded-call : (limit n : ℕ) (M : Memory) (P : List ℕ) → Rounded p b n P → (m : ℕ) × Rounded p b m (pacedRounds s limit M P .pace)
   unfolding pacedCall takenBy

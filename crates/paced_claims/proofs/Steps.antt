@@ -3,7 +3,7 @@ use mathlib.Core.Path.{_≡_, refl, sym, ap, subst}
 use Prim.Native.Nat.{ℕ, zero, suc, _+_, _-_, _^_, _<_, _≤_}
 use native.Mathlib.Omega.{arith}
 use mathlib.Core.List.{List, [], _∷_, _++_}
-use mathlib.Core.Bool.{Bool, true, false, not}
+use mathlib.Core.Bool.{Bool, true, false, _&&_}
 use lib.ListN.{length, getD}
 use lib.Dec.{eqb, ltb}
 use borrow.Author.Tests.{eq-eqb, eqb-true, eqb-false, ltb-true}
@@ -16,9 +16,10 @@ use Rattle.run_memory.specs.Memory.{Memory, movedIn, told, takenIn, turnIn, hin
 use Rattle.run_memory.specs.Runs.{stopped, overIn}
 use Rattle.wivakkol.specs.Opened.{soundIn, blankIn, openedAs, lentOpen}
 use Rattle.pace.specs.Pace.{may, took}
-use Rattle.wivakkol_pace.specs.Paced.{hindranceIn, heldBack, pacedTold, pacedIn, Kept, pacedTurnBy, pacedTurn}
+use Rattle.wivakkol_pace.specs.Paced.{hindranceIn, heldBack, pacedTold, pacedIn, Kept, pacedTurn}
 use Rattle.wivakkol_pace.specs.PacedRuns.{PacedStop, pacedStop, pacedWorker, pacedDrive, pacedRun, pacedList, pacedRounds}
 use Rattle.wivakkol_pace.proofs.PacedDrives.{paced-same}
+use Rattle.wivakkol_pace.proofs.PacedNumbers.{number-lets}
 use Rattle.paced_claims.specs.PacedCalls.{PacedCall, byTurn, byList, byRounds, byOpening, pacedCall, workersOf, takenBy, pacedAfter, pacedRow}
 
 -- ---- a turn that is taken
@@ -39,26 +40,22 @@ unhindered-so s w M e = go (hindranceIn M w) (eqb (hindranceIn M w) 0) refl e
     go n true f e = eqb-true n 0 f
     go n false f e = e
 
-let-by-so : (w : ℕ) (M : Memory) (P : List ℕ) → heldBack w M P ≡ false → hindranceIn M w ≡ 0 → may P w ≡ true
+let-by-so : (w : ℕ) (M : Memory) (P : List ℕ) → heldBack w M P ≡ 0 → hindranceIn M w ≡ 0 → may P w ≡ true
 unfolding heldBack
-let-by-so w M P e z = go (may P w) (rw (eq-eqb (hindranceIn M w) 0 z) at e)
-  where
-    go : (q : Bool) → not q ≡ false → q ≡ true
-    go true e = refl
-    go false e = no-way (cc)
+let-by-so w M P e z = number-lets P w (rw (eq-eqb (hindranceIn M w) 0 z) at e)
 
 pub taken : (s : List ℕ) (w : ℕ) (M : Memory) (P : List ℕ) → pacedIn s w M P .told .number ≡ 0 → Taken s w M P
 unfolding pacedIn
-taken s w M P = go (heldBack w M P) refl
+taken s w M P = go (eqb (heldBack w M P) 0) refl
   where
-    go : (q : Bool) → heldBack w M P ≡ q → pick q (pacedTold (told 60 Idle M) P) (pacedTold (turnIn s w M) (pick (eqb (turnIn s w M .number) 0) (took P w) P)) .told .number ≡ 0
+    go : (q : Bool) → eqb (heldBack w M P) 0 ≡ q → pick q (pacedTold (turnIn s w M) (pick (eqb (turnIn s w M .number) 0) (took P w) P)) (pacedTold (told (heldBack w M P) Idle M) P) .told .number ≡ 0
         → Taken s w M P
-    go true f e = absurd (omega (arith, e))
-    go false f e =
+    go false f e = absurd (eqb-false (heldBack w M P) 0 f e)
+    go true f e =
         record {
           number = e;
           unhindered = unhindered-so s w M e;
-          let-by = let-by-so w M P f (unhindered-so s w M e);
+          let-by = let-by-so w M P (eqb-true (heldBack w M P) 0 f) (unhindered-so s w M e);
           memory = rw f;
           pace = rw (f, eq-eqb (turnIn s w M .number) 0 e);
         }
@@ -81,7 +78,7 @@ nothing {s} {M} {M'} {P} {P'} e f = subst (λ (x : Memory). Steps s M P [] x P')
 -- ---- a single turn
 
 turn-steps : (s : List ℕ) (w : ℕ) (M : Memory) (P : List ℕ) → Steps s M P (takenBy (byTurn w) P (pacedTurn s w M P .answer)) (pacedTurn s w M P .answer .memory) (pacedTurn s w M P .pace)
-unfolding takenBy pacedTurnBy
+unfolding takenBy pacedTurn
 turn-steps s w M P = go (eqb (pacedIn s w M P .told .number) 0) refl
   where
     go : (q : Bool) → eqb (pacedIn s w M P .told .number) 0 ≡ q → Steps s M P (pick q (w ∷ []) []) (pacedIn s w M P .told .memory) (pacedIn s w M P .pace)
@@ -122,16 +119,18 @@ module _ (s : List ℕ) (who : ℕ → List ℕ → ℕ) where
           let t : Taken s (who i P) M P = taken s (who i P) M P (eqb-true (pacedIn s (who i P) M P .told .number) 0 e) in
           rw (t .memory, t .pace) (onward i M P (pacedDrive s who k (suc i) (turnIn s (who i P) M .memory) (took P (who i P))) t (ih (turnIn s (who i P) M .memory) (took P (who i P))))
 
-  run-steps : (limit : ℕ) (M : Memory) (P : List ℕ) → let d : PacedStop = pacedRun s who limit M P in Steps s M P (workersOf who 0 (d .stop .turns) P) (d .stop .memory) (d .pace)
+  run-steps : (rounds : Bool) (limit : ℕ) (M : Memory) (P : List ℕ) → let d : PacedStop = pacedRun s who rounds limit M P in Steps s M P (workersOf who 0 (d .stop .turns) P) (d .stop .memory) (d .pace)
   unfolding pacedRun
-  run-steps limit M P = go (eqb (movedIn M .turns) (2 ^ 64 - 1))
+  run-steps rounds limit M P = go (eqb (movedIn M .turns) (2 ^ 64 - 1)) (rounds && eqb (getD (M .settings) 0 0) 0)
     where
       whole : (d : PacedStop) → Driven s who 0 M P d → Steps s M P (workersOf who 0 (d .stop .turns) P) (d .stop .memory) (d .pace)
       whole d r = let z : d .stop .turns - 0 ≡ d .stop .turns = omega arith in rw z at (r .steps)
 
-      go : (q : Bool) → let d : PacedStop = pick q (pacedStop (stopped 32 false 0 M) P) (pacedDrive s who limit 0 M P) in Steps s M P (workersOf who 0 (d .stop .turns) P) (d .stop .memory) (d .pace)
-      go true = whole (pacedStop (stopped 32 false 0 M) P) (here 0 M P 32 false)
-      go false = whole (pacedDrive s who limit 0 M P) (drive-steps limit 0 M P)
+      go : (q b : Bool) → let d : PacedStop = pick q (pacedStop (stopped 32 false 0 M) P) (pick b (pacedStop (stopped 30 false 0 M) P) (pacedDrive s who limit 0 M P)) in
+          Steps s M P (workersOf who 0 (d .stop .turns) P) (d .stop .memory) (d .pace)
+      go true b = whole (pacedStop (stopped 32 false 0 M) P) (here 0 M P 32 false)
+      go false true = whole (pacedStop (stopped 30 false 0 M) P) (here 0 M P 30 false)
+      go false false = whole (pacedDrive s who limit 0 M P) (drive-steps limit 0 M P)
 
 -- the workers of a run over a list are the list's, from its front
 pub listed-front : (l : List ℕ) (n i : ℕ) (P : List ℕ) → workersOf (pacedWorker l false) i n P ≡ firsts (λ j. getD l j 0) i n
@@ -144,8 +143,8 @@ listed-front l (suc n) i P = ap (getD l i 0 ∷_) (listed-front l n (suc i) (too
 pub call-steps : (s : List ℕ) (c : PacedCall) (M : Memory) (P : List ℕ) → let k : Kept = pacedCall s c M P in Steps s M P (takenBy c P (k .answer)) (k .answer .memory) (k .pace)
 unfolding pacedCall takenBy pacedList pacedRounds
 call-steps s (byTurn w) M P = turn-steps s w M P
-call-steps s (byList l) M P = run-steps s (pacedWorker l false) (length l) M P
-call-steps s (byRounds limit) M P = run-steps s (pacedWorker [] true) limit M P
+call-steps s (byList l) M P = run-steps s (pacedWorker l false) false (length l) M P
+call-steps s (byRounds limit) M P = run-steps s (pacedWorker [] true) true limit M P
 call-steps s byOpening M P = opened stay
 
 pub calls-steps : (s : List ℕ) (calls : List PacedCall) (M : Memory) (P : List ℕ) → Steps s M P (pacedRow s calls M P) (pacedAfter s calls M P .memory) (pacedAfter s calls M P .pace)

@@ -17,7 +17,8 @@ use Rattle.schedule.specs.declared.Turned.{Turned}
 use Rattle.schedule.specs.declared.Turning.{Turning}
 use Rattle.schedule.specs.declared.Turning.the-variants.{Refused}
 use Rattle.schedule.specs.Turn.{turned}
-use Rattle.pace.specs.Pace.{Paced, paced, blank, startPace, may, took}
+use Rattle.pace.specs.Pace.{Paced, paced, blank, startPace, mayNumber, took}
+use Rattle.wivakkol_pace.proofs.PacedNumbers.{may-small}
 use Rattle.pacing.specs.declared.Pace.{Pace}
 use Rattle.pacing.specs.declared.PaceBegun.{PaceBegun}
 use Rattle.pacing.specs.Pacing.{pace, paceBegun, beginPace, isTaken, pacedTurn, pacedTurned}
@@ -75,15 +76,20 @@ begun-started p b = go (ltb 0 p && leb p 16) (ltb 0 b && leb b 65535)
 
 -- ---- a turn
 
+-- the pace's number is one of a refusal
+pub number-small : (P : List ℕ) (w : ℕ) {n : ℕ} → n ≡ mayNumber P w → n < 256
+number-small P w e = omega (arith, e, may-small P w)
+
 module _ (r : Run) (P : Pace) (w : ℕ) {t : Turned} (e : t ≡ turned r w) where
   pub refused-so : isTaken (t .answer) ≡ false → pacedTurn (t .answer) (t .run) P ≡ pacedTurned r P w
   unfolding pacedTurned
   refused-so d = rw (← e, d) refl
 
-  pub held-so : isTaken (t .answer) ≡ true → may (P .numbers) w ≡ false → pacedTurn (Refused (refusal 60 0)) r P ≡ pacedTurned r P w
-  unfolding pacedTurned
-  held-so d m = rw (← e, d, m) refl
+  module _ {n : ℕ} (k : n ≡ mayNumber (P .numbers) w) where
+    pub held-so : isTaken (t .answer) ≡ true → (n ≡ 0 → ⊥) → pacedTurn (Refused (refusal n 0)) r P ≡ pacedTurned r P w
+    unfolding pacedTurned
+    held-so d m = rw (← e, d, ← k, ne-eqb n 0 m) refl
 
-  pub taken-so : {x : Turning} {l : List ℕ} → t .answer ≡ x → isTaken x ≡ true → may (P .numbers) w ≡ true → l ≡ took (P .numbers) w → pacedTurn x (t .run) (pace l) ≡ pacedTurned r P w
-  unfolding pacedTurned
-  taken-so {x} {l} a d m q = rw (← e, a, d, m, q) refl
+    pub taken-so : {x : Turning} {l : List ℕ} → t .answer ≡ x → isTaken x ≡ true → n ≡ 0 → l ≡ took (P .numbers) w → pacedTurn x (t .run) (pace l) ≡ pacedTurned r P w
+    unfolding pacedTurned
+    taken-so {x} {l} a d m q = rw (← e, a, d, ← k, m, q) refl

@@ -20,7 +20,7 @@ use Rattle.schedule.specs.Begin.{startState, startRun}
 use Rattle.schedule.specs.Links.{walk, rightIn}
 use Rattle.schedule.specs.Turn.{rootEnded, noWorker, stepRun, passedIn}
 use Rattle.schedule.specs.Cases.{turnedSound}
-use Rattle.pace.specs.Pace.{blank, mostFrom, asked, may, nextIn, keptIn, counted, renewed, took}
+use Rattle.pace.specs.Pace.{blank, mostFrom, asked, may, mayNumber, nextIn, keptIn, counted, renewed, took}
 use Rattle.pacing.specs.declared.PacedRan.{PacedRan}
 use Rattle.pacing.specs.Pacing.{pace, pacedBy, pacedDrive}
 
@@ -45,12 +45,12 @@ toldBy d = told (d .report) (d .run .turns) (keptIn (d .pace .numbers))
 
 -- worker 0 waits for worker 1 once it has had a turn; before that it does not
 list-worked : toldBy (overList (0 ∷ 0 ∷ 1 ∷ 0 ∷ 0 ∷ [])) ≡ told (Refused 4 (refusal 60 0)) 4 1
-unfolding codeOf sumTo anyBelow kindOf is tableOf ownerBelow allocOf freeOf wholeWithin forkBelow leftOf without waitsFor woken actBy act leftmost taken turnFree turnOf setOf firsts walk rightIn startState startRun rootEnded noWorker stepRun mostFrom asked may nextIn counted renewed took pacedDrive
+unfolding codeOf sumTo anyBelow kindOf is tableOf ownerBelow allocOf freeOf wholeWithin forkBelow leftOf without waitsFor woken actBy act leftmost taken turnFree turnOf setOf firsts walk rightIn startState startRun rootEnded noWorker stepRun mostFrom asked may mayNumber nextIn counted renewed took pacedDrive
 list-worked = refl
 
 -- refused with 60, nothing has changed; rounds go on with worker 1, and the run ends after as many turns as without a pace
 rounds-worked : toldBy (inRounds 99 (overList (0 ∷ 1 ∷ 0 ∷ 0 ∷ []))) ≡ told (Finished 11) 14 1
-unfolding codeOf sumTo anyBelow kindOf is tableOf ownerBelow allocOf freeOf wholeWithin forkBelow leftOf without waitsFor woken actBy act leftmost taken turnFree turnOf setOf firsts walk rightIn startState startRun rootEnded noWorker stepRun mostFrom asked may nextIn counted renewed took pacedDrive
+unfolding codeOf sumTo anyBelow kindOf is tableOf ownerBelow allocOf freeOf wholeWithin forkBelow leftOf without waitsFor woken actBy act leftmost taken turnFree turnOf setOf firsts walk rightIn startState startRun rootEnded noWorker stepRun mostFrom asked may mayNumber nextIn counted renewed took pacedDrive
 rounds-worked = refl
 
 -- a single turn that would break the rule: 60; 30 comes before it, and once the run is over 31
@@ -59,5 +59,5 @@ answered w d = pacedBy (turnedSound (d .run) w) (d .run) (d .pace) w .answer
 
 turn-worked : (answered 0 (overList (0 ∷ 1 ∷ 0 ∷ [])) ≡ refusedTurn (refusal 60 0)) × (answered 2 (overList (0 ∷ 1 ∷ 0 ∷ [])) ≡ refusedTurn (refusal 30 0))
     × (answered 1 (inRounds 99 (overList [])) ≡ refusedTurn (refusal 31 0))
-unfolding codeOf sumTo anyBelow kindOf is tableOf ownerBelow allocOf freeOf wholeWithin forkBelow leftOf without waitsFor woken actBy act leftmost taken turnFree turnOf setOf firsts walk rightIn startState startRun rootEnded noWorker stepRun passedBy passedIn tryAt mostFrom asked may nextIn counted renewed took pacedDrive
+unfolding codeOf sumTo anyBelow kindOf is tableOf ownerBelow allocOf freeOf wholeWithin forkBelow leftOf without waitsFor woken actBy act leftmost taken turnFree turnOf setOf firsts walk rightIn startState startRun rootEnded noWorker stepRun passedBy passedIn tryAt mostFrom asked may mayNumber nextIn counted renewed took pacedDrive
 turn-worked = (refl, refl, refl)

@@ -14,7 +14,7 @@ use Rattle.schedule.specs.Turn.{unsound, rootEnded, turnChecks, stepRun, passed
 use Rattle.schedule.specs.Runs.{moved}
 use Rattle.schedule.specs.Answers.{begun, finished, spent, Values, replyValues, passing}
 use Rattle.schedule.specs.Values.{saidValues, runChecks, firstThat}
-use Rattle.pace.specs.Pace.{may, nextIn}
+use Rattle.pace.specs.Pace.{workersIn, may, nextIn}
 use Rattle.pacing.specs.declared.Pace.{Pace}
 use Rattle.pacing.specs.Pacing.{counted}
 
@@ -25,14 +25,14 @@ paceChecks p b = record { number = 20; applies = λ i. not (ltb 0 p && leb p 16)
 unfoldable pub paceValues : ℕ → ℕ → Values
 paceValues p b = saidValues (tryAt (paceChecks p b) 0) begun 0 0 0
 
--- 60: the turn would break the rule with b
-abbrev pub wouldBreak : Pace → ℕ → Check
-wouldBreak P w = record { number = 60; applies = λ i. not (may (P .numbers) w) }
+-- 30 and 60: the pace has no such worker, or the turn would break the rule with b
+abbrev pub letsChecks : Pace → ℕ → List Check
+letsChecks P w = record { number = 30; applies = λ i. not (ltb w (workersIn (P .numbers))) } ∷ record { number = 60; applies = λ i. not (may (P .numbers) w) } ∷ []
 
--- 32, 30, 31, 60, or what the machine's reply says
+-- 32, 30, 31, then the pace's 30 and 60, or what the machine's reply says
 unfoldable pub pacedTurnValues : Run → Pace → ℕ → Values
 pacedTurnValues r P w =
-    let found : Found = tryAt (turnChecks r w ++ (wouldBreak P w ∷ [])) 0 in
+    let found : Found = tryAt (turnChecks r w ++ letsChecks P w) 0 in
     let reply : Values = replyValues (stepRun r w .reply) in
     passing (ifFound found 0 (passedIn r w)) (saidValues found (reply .said) (reply .thread) (reply .value) (ifFound found 0 1))
 
@@ -55,9 +55,9 @@ unfoldable pub afterPaced : (ℕ → List ℕ → ℕ) → ℕ → Beside → Be
 afterPaced who zero g = g
 afterPaced who (suc n) g = let h : Beside = afterPaced who n g in turnMore h (who n (h .pace .numbers))
 
--- what refuses a turn of worker w: 32, 30, 60
+-- what refuses a turn of worker w: 32, 30, then the pace's 30 and 60
 unfoldable pub pacedChecks : Beside → ℕ → List Check
-pacedChecks g w = runChecks (g .run) w ++ (wouldBreak (g .pace) w ∷ [])
+pacedChecks g w = runChecks (g .run) w ++ letsChecks (g .pace) w
 
 -- "a run stops at the root's end, a refusal": before a turn of worker w
 unfoldable pub pacedStops : Beside → ℕ → Bool
@@ -67,17 +67,17 @@ pacedStops g w = rootEnded (g .run) || ifFound (tryAt (pacedChecks g w) 0) true 
 unfoldable pub pacedTaken : (ℕ → List ℕ → ℕ) → ℕ → Beside → ℕ
 pacedTaken who k g = firstThat (λ n. let h : Beside = afterPaced who n g in pacedStops h (who n (h .pace .numbers))) k
 
--- the report of a run of at most k turns: 32 first where the record is not sound
-unfoldable pub pacedRunValues : (ℕ → List ℕ → ℕ) → ℕ → Beside → Values
-pacedRunValues who k g =
+-- the report of a run of at most k turns: 32 first where the record is not sound; in rounds 30 on the blank one
+unfoldable pub pacedRunValues : (ℕ → List ℕ → ℕ) → Bool → ℕ → Beside → Values
+pacedRunValues who rounds k g =
     let n : ℕ = pacedTaken who k g in
     let left : Beside = afterPaced who n g in
-    let before : Found = tryAt (record { number = 32; applies = λ i. unsound (g .run) } ∷ []) 0 in
+    let before : Found = tryAt (record { number = 32; applies = λ i. unsound (g .run) } ∷ record { number = 30; applies = λ i. rounds && eqb (g .run .workers) 0 } ∷ []) 0 in
     let after : Found = pick (eqb n k || rootEnded (left .run)) Nothing (tryAt (pacedChecks left (who n (left .pace .numbers))) 0) in
     saidValues (orElse before after) (pick (rootEnded (left .run)) finished spent) 0 0 (ifFound before 0 n)
 
 unfoldable pub pacedListValues : Run → Pace → List ℕ → Values
-pacedListValues r P l = pacedRunValues (λ i n. getD l i 0) (length l) (beside r P)
+pacedListValues r P l = pacedRunValues (λ i n. getD l i 0) false (length l) (beside r P)
 
 unfoldable pub pacedRoundsValues : Run → Pace → ℕ → Values
-pacedRoundsValues r P limit = pacedRunValues (λ i n. nextIn n) limit (beside r P)
+pacedRoundsValues r P limit = pacedRunValues (λ i n. nextIn n) true limit (beside r P)

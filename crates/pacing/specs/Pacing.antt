@@ -18,7 +18,7 @@ use Rattle.schedule.specs.declared.Report.{Report}
 use Rattle.schedule.specs.declared.Report.the-variants.{Finished, Spent, Refused}
 use Rattle.schedule.specs.Turn.{unsound, rootEnded, noWorker, turned}
 use Rattle.schedule.specs.Runs.{moved}
-use Rattle.pace.specs.Pace.{size, blank, may, took, nextIn}
+use Rattle.pace.specs.Pace.{size, blank, mayNumber, took, nextIn}
 use Rattle.pacing.specs.declared.Pace.{Pace}
 use Rattle.pacing.specs.declared.PaceBegun.{PaceBegun}
 use Rattle.pacing.specs.declared.PacedTurned.{PacedTurned}
@@ -51,10 +51,12 @@ isTaken (refusedTurn x) = false
 abbrev pub pacedTurn : Turning → Run → Pace → PacedTurned
 pacedTurn x r P = record { answer = x; run = r; pace = P }
 
--- of a turn that is taken, whether the pace lets it through; one that is refused says so first, as a worker that waits is to hear that the run is over
+-- of a turn that is taken, whether the pace lets it through: 30 where the pace has no such worker, 60 where it would break the rule. One that is refused says so first, as a worker that waits is to hear
+-- that the run is over
 abbrev pub pacedBy : Turned → Run → Pace → ℕ → PacedTurned
 pacedBy t r P w =
-    pick (isTaken (t .answer)) (pick (may (P .numbers) w) (pacedTurn (t .answer) (t .run) (counted P w)) (pacedTurn (refusedTurn (refusal 60 0)) r P)) (pacedTurn (t .answer) (t .run) P)
+    let number : ℕ = mayNumber (P .numbers) w in
+    pick (isTaken (t .answer)) (pick (eqb number 0) (pacedTurn (t .answer) (t .run) (counted P w)) (pacedTurn (refusedTurn (refusal number 0)) r P)) (pacedTurn (t .answer) (t .run) P)
 
 unfoldable pub pacedTurned : Run → Pace → ℕ → PacedTurned
 pacedTurned r P w = pacedBy (turned r w) r P w
@@ -64,8 +66,8 @@ pacedTurned r P w = pacedBy (turned r w) r P w
 abbrev pub pacedRan : Report → Run → Pace → PacedRan
 pacedRan x r P = record { report = x; run = r; pace = P }
 
--- At most k turns more after i turns, the worker of turn i given by `who`, from the pace's numbers too: the run of crates/schedule, that stops at a turn that would break the rule as at any
--- refusal, after the run's own
+-- At most k turns more after i turns, the worker of turn i given by `who`, from the pace's numbers too: the run of crates/schedule, that stops at a turn that the pace does not let through as
+-- at any refusal, after the run's own
 unfoldable pub pacedDrive : (ℕ → List ℕ → ℕ) → ℕ → ℕ → Run → Pace → PacedRan
 pacedDrive who zero i r P = pacedRan (pick (rootEnded r) (Finished i) (Spent i)) r P
 pacedDrive who (suc k) i r P =
@@ -74,18 +76,18 @@ pacedDrive who (suc k) i r P =
     pick (rootEnded r) (pacedRan (Finished i) r P)
     (pick (eqb (r .turns) (2 ^ 64 - 1)) (pacedRan (Refused i (refusal 32 0)) r P)
     (pick (noWorker r w) (pacedRan (Refused i (refusal 30 0)) r P)
-    (pick (may (P .numbers) w) rest (pacedRan (Refused i (refusal 60 0)) r P))))
+    (pick (eqb (mayNumber (P .numbers) w) 0) rest (pacedRan (Refused i (refusal (mayNumber (P .numbers) w) 0)) r P))))
 
--- "A call over many turns tests this first."
-abbrev pub pacedRun : (ℕ → List ℕ → ℕ) → ℕ → Run → Pace → PacedRan
-pacedRun who k r P =
+-- "A call over many turns tests this first."; in rounds, on the blank record "any turn or run in rounds on it gets 30"
+abbrev pub pacedRun : (ℕ → List ℕ → ℕ) → Bool → ℕ → Run → Pace → PacedRan
+pacedRun who rounds k r P =
     let go : PacedRan = pacedDrive who k 0 r P in
-    pick (unsound r) (pacedRan (Refused 0 (refusal 32 0)) r P) go
+    pick (unsound r) (pacedRan (Refused 0 (refusal 32 0)) r P) (pick (rounds && eqb (r .workers) 0) (pacedRan (Refused 0 (refusal 30 0)) r P) go)
 
 -- over a list of workers
 unfoldable pub pacedListRun : Run → Pace → List ℕ → PacedRan
-pacedListRun r P l = pacedRun (λ i n. getD l i 0) (length l) r P
+pacedListRun r P l = pacedRun (λ i n. getD l i 0) false (length l) r P
 
--- in rounds, on from the worker after that of the latest turn. On the blank record any turn gets 30; with no turn to go, it is spent
+-- in rounds, on from the worker after that of the latest turn
 unfoldable pub pacedRoundsRun : Run → Pace → ℕ → PacedRan
-pacedRoundsRun r P limit = pacedRun (λ i n. nextIn n) limit r P
+pacedRoundsRun r P limit = pacedRun (λ i n. nextIn n) true limit r P

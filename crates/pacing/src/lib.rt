@@ -2,7 +2,7 @@
 // that of crates/asyncdf; a run packs the record into the blocks of crates/run_memory, takes its turns there as a call from C does (crates/wivakkol_pace), and reads it back.
 use asyncdf::report_of;
 use asyncdf::turn;
-use pace::may;
+use pace::hinders;
 use pace::start;
 use pace::took;
 use run_memory::packing::pack;
@@ -75,21 +75,18 @@ fn is_taken(answer: Turning) -> bool
     }
 }
 
-// A turn that would break the rule with b: record and pace as they were.
-fn held_back(run: Run, pace: Pace) -> PacedTurned
-    ensures { λ r. ⌜ r ≡ pacedTurn (Refused (refusal 60 0)) run pace ⌝ }
+// A turn that the pace does not let through: record and pace as they were.
+fn held_back(run: Run, pace: Pace, number: u8) -> PacedTurned
+    ensures { λ r. ⌜ r ≡ pacedTurn (Refused (refusal number 0)) run pace ⌝ }
 {
     PacedTurned {
-        answer: Turning::Refused(Refusal {
-            number: 60,
-            place: 0,
-        }),
+        answer: Turning::Refused(Refusal { number, place: 0 }),
         run,
         pace,
     }
 }
 
-// A turn of worker w, counted: 32, 30, 31; 60 where it would break the rule with b; or the reply, and record and pace after.
+// A turn of worker w, counted: 32, 30, 31; then 30 where the pace has no such worker, 60 where it would break the rule with b; or the reply, and record and pace after.
 pub fn paced_turn(run: Run, pace: Pace, w: u8) -> PacedTurned
     ensures { λ r. ⌜ r ≡ pacedTurned run pace w ⌝ }
     ensures { λ r. ⌜ turningValues (r .answer) ≡ pacedTurnValues run pace w ⌝ }
@@ -105,8 +102,9 @@ pub fn paced_turn(run: Run, pace: Pace, w: u8) -> PacedTurned
         };
     }
     let mut numbers = pace.numbers;
-    if !may(&numbers, w as u32) {
-        return held_back(run, pace);
+    let number = hinders(&numbers, w as u32);
+    if number != 0 {
+        return held_back(run, pace, number as u8);
     }
     took(&mut numbers, w as u32);
     PacedTurned {
@@ -135,7 +133,7 @@ fn unsound(run: Run, pace: Pace) -> PacedRan
 
 // At most `limit` turns, over the order or in rounds.
 fn paced_run(run: Run, pace: Pace, order: &[u8], rounds: bool, limit: usize) -> PacedRan
-    ensures { λ r. ⌜ r ≡ pacedRun (pacedWorker (now (order .entry)) rounds) limit run pace ⌝ }
+    ensures { λ r. ⌜ r ≡ pacedRun (pacedWorker (now (order .entry)) rounds) rounds limit run pace ⌝ }
 {
     let tested = test(run);
     if !tested.passed {

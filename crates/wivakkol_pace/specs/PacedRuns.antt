@@ -1,7 +1,7 @@
--- Paced runs over a list of workers and in rounds: the paced turn again and again, up to the first refusal, 60 included, and its turns before that stay taken.
+-- Paced runs over a list of workers and in rounds: the paced turn again and again, up to the first refusal, the pace's included, and its turns before that stay taken.
 use Prim.Native.Nat.{ℕ, zero, suc, _-_, _^_}
 use mathlib.Core.List.{List, []}
-use mathlib.Core.Bool.{Bool, true, false}
+use mathlib.Core.Bool.{Bool, true, false, _&&_}
 use lib.ListN.{length, getD}
 use lib.Dec.{eqb}
 use Rattle.table.specs.Sum.{pick}
@@ -30,9 +30,12 @@ pacedDrive s who (suc k) i M P =
     let rest : PacedStop = pacedDrive s who k (suc i) (t .told .memory) (t .pace) in
     pick (overIn M) (pacedStop (stopped 0 true i M) P) (pick (eqb (t .told .number) 0) rest (pacedStop (stopped (t .told .number) false i M) P))
 
--- 32 first where no turn can be counted
-unfoldable pub pacedRun : List ℕ → (ℕ → List ℕ → ℕ) → ℕ → Memory → List ℕ → PacedStop
-pacedRun s who limit M P = pick (eqb (movedIn M .turns) (2 ^ 64 - 1)) (pacedStop (stopped 32 false 0 M) P) (pacedDrive s who limit 0 M P)
+-- 32 first where no turn can be counted; in rounds 30 where the run has no worker, "any turn or run in rounds on it gets 30"
+unfoldable pub pacedRun : List ℕ → (ℕ → List ℕ → ℕ) → Bool → ℕ → Memory → List ℕ → PacedStop
+pacedRun s who rounds limit M P =
+    let go : PacedStop = pacedDrive s who limit 0 M P in
+    pick (eqb (movedIn M .turns) (2 ^ 64 - 1)) (pacedStop (stopped 32 false 0 M) P)
+    (pick (rounds && eqb (getD (M .settings) 0 0) 0) (pacedStop (stopped 30 false 0 M) P) go)
 
 -- ---- the calls
 
@@ -42,8 +45,8 @@ keptAs d = kept (stoppedAs (d .stop)) (d .pace)
 
 -- over a list of workers
 unfoldable pub pacedList : List ℕ → List ℕ → Memory → List ℕ → Kept
-pacedList s l M P = keptAs (pacedRun s (pacedWorker l false) (length l) M P)
+pacedList s l M P = keptAs (pacedRun s (pacedWorker l false) false (length l) M P)
 
 -- in rounds, on from the worker after that of the latest turn, whoever took it
 unfoldable pub pacedRounds : List ℕ → ℕ → Memory → List ℕ → Kept
-pacedRounds s limit M P = keptAs (pacedRun s (pacedWorker [] true) limit M P)
+pacedRounds s limit M P = keptAs (pacedRun s (pacedWorker [] true) true limit M P)

@@ -1,21 +1,21 @@
-// Paced runs over a list of workers and in rounds, from C, whatever the memory holds: a run stops at the first turn that would break the rule as at any refusal (specs/PacedRuns).
+// Paced runs over a list of workers and in rounds, from C, whatever the memory holds: a run stops at the first turn that the pace holds back as at any refusal (specs/PacedRuns).
 use crate::paced_in;
 use pace::next;
 use run_memory::places::TURNS;
-use run_memory::places::status_at;
+use run_memory::places::WORKERS;
+use run_memory::places::setting_at;
 use run_memory::places::total_at;
 use run_memory::replies::put_run;
 use run_memory::runs::Stop;
-use schedule::statuses::ENDED;
+use run_memory::runs::ends_root;
+use run_memory::runs::root_ended;
+use schedule::Reply;
 use table::read::byte;
 ghost use mathlib.Core.Path.{_≡_};
-ghost use mathlib.Core.Bool.{false};
-ghost use lib.ListN.{getD};
+ghost use mathlib.Core.Bool.{false, _&&_};
 ghost use lib.Dec.{eqb};
-ghost use Rattle.table.specs.Sum.{pick};
-ghost use Rattle.schedule.specs.Machine.{ended};
 ghost use Rattle.run_memory.specs.Memory.{answer};
-ghost use Rattle.run_memory.specs.Blocks.{bytesIn, memoryOf};
+ghost use Rattle.run_memory.specs.Blocks.{numbersIn, memoryOf};
 ghost use Rattle.run_memory.specs.Runs.{stopped};
 ghost use Rattle.wivakkol_pace.specs.Paced.{kept};
 ghost use Rattle.wivakkol_pace.specs.PacedRuns.{pacedStop, pacedWorker, pacedDrive, pacedRun, pacedList, pacedRounds};
@@ -42,13 +42,6 @@ fn over(finished: bool, i: usize) -> Stop
     }
 }
 
-// The root has ended.
-fn root_ended(bytes: &[u8; 1040]) -> bool
-    ensures { λ r. ⌜ r ≡ eqb (getD (bytesIn (now (bytes .entry)) .status) 0 0) ended ⌝ }
-{
-    status_at(bytes, 0) == ENDED
-}
-
 // The worker whose turn comes after i turns: from the order, or in rounds the one after that of the latest turn.
 fn worker_of(order: &[u8], rounds: bool, pace: &[u32; 260], i: usize) -> u32
     ensures { λ r. ⌜ r ≡ pacedWorker (now (order .entry)) rounds i (now (pace .entry)) ⌝ }
@@ -60,7 +53,7 @@ fn worker_of(order: &[u8], rounds: bool, pace: &[u32; 260], i: usize) -> u32
     }
 }
 
-// At most `limit` turns.
+// At most `limit` turns. Each reply is taken apart, and the thread and the action that it names say whether the root ended.
 fn drive(
     table: &[u8],
     order: &[u8],
@@ -75,23 +68,36 @@ fn drive(
     ensures { λ r. ⌜ pacedStop (stopped (r .number) (r .finished) (r .turns) (memoryOf (now (bytes .exit)) (now (words .exit)) (now (numbers .exit)) (now (sums .exit)))) (now (pace .exit))
         ≡ pacedDrive (now (table .entry)) (pacedWorker (now (order .entry)) rounds) limit 0 (memoryOf (now (bytes .entry)) (now (words .entry)) (now (numbers .entry)) (now (sums .entry))) (now (pace .entry)) ⌝ }
 {
-    let mut row = [0; 5];
+    if root_ended(&*bytes) {
+        return over(true, 0);
+    }
     let mut i: usize = 0;
     while i < limit {
-        if root_ended(&*bytes) {
+        let w = worker_of(order, rounds, &*pace, i);
+        let spoken = paced_in(table, w, false, sums, pace, bytes, words, numbers);
+        if spoken.number != 0 {
+            return refused(spoken.number, i);
+        }
+        let reply = spoken.reply;
+        i += 1;
+        let Reply::Done { thread, action } = reply else {
+            continue;
+        };
+        if ends_root(table, thread, action) {
             return over(true, i);
         }
-        let w = worker_of(order, rounds, &*pace, i);
-        let number = paced_in(table, w, false, sums, pace, &mut row, bytes, words, numbers);
-        if number != 0 {
-            return refused(number, i);
-        }
-        i += 1;
     }
-    over(root_ended(&*bytes), i)
+    over(false, i)
 }
 
-// 32 first where no turn can be counted; then the run, over the order or in rounds: what a call from C and one by value make.
+// In rounds a run with no worker is refused.
+fn nobody(rounds: bool, numbers: &[u32; 18]) -> bool
+    ensures { λ r. ⌜ r ≡ rounds && eqb (numbersIn (now (numbers .entry)) .workers) 0 ⌝ }
+{
+    rounds && setting_at(numbers, WORKERS) == 0
+}
+
+// 32 first where no turn can be counted, and in rounds 30 where there is no worker; then the run, over the order or in rounds: what a call from C and one by value make.
 pub fn run_in(
     table: &[u8],
     order: &[u8],
@@ -104,10 +110,13 @@ pub fn run_in(
     pace: &mut [u32; 260],
 ) -> Stop
     ensures { λ r. ⌜ pacedStop (stopped (r .number) (r .finished) (r .turns) (memoryOf (now (bytes .exit)) (now (words .exit)) (now (numbers .exit)) (now (sums .exit)))) (now (pace .exit))
-        ≡ pacedRun (now (table .entry)) (pacedWorker (now (order .entry)) rounds) limit (memoryOf (now (bytes .entry)) (now (words .entry)) (now (numbers .entry)) (now (sums .entry))) (now (pace .entry)) ⌝ }
+        ≡ pacedRun (now (table .entry)) (pacedWorker (now (order .entry)) rounds) rounds limit (memoryOf (now (bytes .entry)) (now (words .entry)) (now (numbers .entry)) (now (sums .entry))) (now (pace .entry)) ⌝ }
 {
     if total_at(&*sums, TURNS) == u64::MAX {
         return refused(32, 0);
+    }
+    if nobody(rounds, &*numbers) {
+        return refused(30, 0);
     }
     drive(
         table,

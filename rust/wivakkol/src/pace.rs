@@ -139,8 +139,8 @@ impl<'t, M: DerefMut<Target = Memory>> Run<'t, M> {
 }
 
 impl<'t, M: DerefMut<Target = Memory>> Paced<'t, '_, M> {
-    /// A turn of worker `w`, counted. Refused, with nothing changed: 32, 30 and 31 as [`Run::turn`] is, first, so that a worker that waits hears that the run is over; then 60, the turn would break
-    /// the rule with b: ask again once another worker has had a turn.
+    /// A turn of worker `w`, counted. Refused, with nothing changed: 32, 30 and 31 as [`Run::turn`] is, first, so that a worker that waits hears that the run is over; then as
+    /// [`Pace::may`] is, 30, `w` is not below the pace's p, or 60, the turn would break the rule with b: ask again once another worker has had a turn.
     pub fn turn(&mut self, w: u32) -> Result<Turn, Refusal> {
         let (number, [place, said, thread, value, passed]) = self.run.memory.paced_turn(self.run.table, self.pace, w);
         Refusal::unless_zero(number, place)?;
@@ -153,7 +153,8 @@ impl<'t, M: DerefMut<Target = Memory>> Paced<'t, '_, M> {
     }
 
     /// Turns of the workers 0 to p − 1, again and again, up to the root's end, at most `limit` of them, on from the worker after that of the latest turn: so calls one after the other,
-    /// from the pace's beginning on and with no other turns, keep the rule with b 1 together, which those of [`Run::rounds`] do not, and none is refused with 60. Stopped as [`list`](Paced::list) is.
+    /// from the pace's beginning on and with no other turns, keep the rule with b 1 together, which those of [`Run::rounds`] do not, and none is refused with 60. Stopped as [`list`](Paced::list) is;
+    /// a run with no worker at once with 30, as [`Run::rounds`] is.
     pub fn rounds(&mut self, limit: u32) -> Result<Report, Stopped> {
         report(self.run.memory.paced_rounds(self.run.table, self.pace, limit))
     }

@@ -3,10 +3,12 @@ use mathlib.Core.Path.{_≡_, sym, _∙_}
 use mathlib.Core.Bool.{false}
 use native.Mathlib.Omega.{arith}
 use borrow.Author.Needs.{needs}
+use denote.Ref.{now}
 use lib.Seq.{length-take-le}
 use Rattle.schedule.specs.Turn.{unsound}
 use Rattle.soundness.proofs.Passed.{test-fails, test-passes, test-parents}
 use Rattle.asyncdf.proofs.Calls.{table-inside}
+use Rattle.wivakkol_pace.specs.PacedRuns.{pacedWorker}
 use Rattle.pacing.proofs.PacedRefines.{run-unsound, run-taken, run-small, ran-as}
 use Rattle.pacing.proofs.paced_run.Statement.{statement}
 use Rattle.pacing.proofs.paced_run.Tie as tie
@@ -25,7 +27,10 @@ unsound-requires : tie.Need-unsound-requires
 unsound-requires c κs = search needs
 
 returns : tie.Need-returns
-returns c = let t = c .before in c .unsound .ensures ∙ run-unsound _ _ _ _ (test-fails _ (t .before .before .test .ensures) (t .if1 .taken))
+returns c =
+    let t = c .before in
+    let d = t .before .before .before .before .args in
+    c .unsound .ensures ∙ run-unsound (pacedWorker (now (d .order)) (d .rounds)) (d .rounds) (d .limit) (d .run) (d .pace) (test-fails _ (t .before .before .test .ensures) (t .if1 .taken))
 
 cast-length : tie.Need-cast-length
 cast-length c = search needs
@@ -45,7 +50,7 @@ run-in-requires : tie.Need-run-in-requires
 run-in-requires c κs = search needs
 
 cast-report-of : tie.Need-cast-report-of
-cast-report-of c = omega (arith, run-small _ _ _ _ _ (c .before .run-in .ensures))
+cast-report-of c = omega (arith, run-small _ _ _ _ _ _ (c .before .run-in .ensures))
 
 report-of-requires : tie.Need-report-of-requires
 report-of-requires c κs = search needs
@@ -60,7 +65,7 @@ returns-2 c =
     let k = t .before .before .before .before .before .before in
     let e = k .before .before .before .before .before .before .before .before .before .before .before in
     ran-as (x .report-of .ensures) (c .unpack .ensures)
-    (run-taken _ (passed e) _ (λ h. test-parents _ (e .before .before .test .ensures) h) (k .pack .ensures) _ _ _ (t .run-in .ensures))
+    (run-taken _ (passed e) _ (λ h. test-parents _ (e .before .before .test .ensures) h) (k .pack .ensures) _ _ _ _ (t .run-in .ensures))
 
 pub paced-run-spec : {M : Type 1} → statement M
 paced-run-spec =

@@ -1,6 +1,5 @@
 -- `wivakkol_pace::stops` meets its contract.
-use mathlib.Core.Path.{sym, ap, _∙_}
-use mathlib.Core.Bool.{not}
+use mathlib.Core.Path.{sym, _∙_}
 use denote.Ref.{now}
 use Rattle.wivakkol_pace.proofs.PacedTurns.{stopped-else, stopped-by}
 use borrow.Author.Needs.{needs}
@@ -10,11 +9,11 @@ use Rattle.wivakkol_pace.proofs.stops.Tie as tie
 returns : tie.Need-returns
 returns c = let d = c .before .args in sym (stopped-else (d .number) (now (d .pace)) (d .w) (c .if1 .taken))
 
-may-requires : tie.Need-may-requires
-may-requires c κs = search needs
+hinders-requires : tie.Need-hinders-requires
+hinders-requires c κs = search needs
 
 returns-2 : tie.Need-returns-2
-returns-2 c = let d = c .before .before .args in ap not (c .may .ensures) ∙ sym (stopped-by (d .number) (now (d .pace)) (d .w) (c .before .if1 .left))
+returns-2 c = let d = c .before .before .args in c .hinders .ensures ∙ sym (stopped-by (d .number) (now (d .pace)) (d .w) (c .before .if1 .left))
 
 pub stops-spec : {M : Type 1} → statement M
-stops-spec = tie.close (tie.spec returns may-requires returns-2)
+stops-spec = tie.close (tie.spec returns hinders-requires returns-2)

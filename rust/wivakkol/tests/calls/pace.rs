@@ -81,6 +81,20 @@ fn order_of_refusals() {
     assert_eq!(narrow, before);
 }
 
+/// A pace for fewer workers than the run's, and one that was never begun: a turn says what `may` says.
+#[test]
+fn another_pace() {
+    let (table, mut memory, mut few) = (bytes(&e()), Memory::new(), Pace::begin(1, 1).unwrap());
+    let mut run = Run::begin(&table, &mut memory, &mut Work::new(), 4, 6).unwrap().paced(&mut few);
+    assert_eq!((run.pace().may(2), run.turn(2)), (Err(refused(30, 0)), Err(refused(30, 0))));
+    assert_eq!(run.turn(0).map(|x| x.reply), Ok(Reply::Done { thread: 0, action: 0 }));
+    assert_eq!(run.list(&[0, 3]).map_err(|x| (x.turns, x.refusal)), Err((1, refused(30, 0))));
+    assert_eq!(run.rounds(2), Ok(Report::Spent { turns: 2 }));
+    let (run, mut none) = (run.into_run(), Pace::from_bytes(&[0; Pace::BYTES]));
+    let mut run = run.paced(&mut none);
+    assert_eq!((run.pace().may(0), run.turn(0), run.rounds(0)), (Err(refused(30, 0)), Err(refused(30, 0)), Ok(Report::Spent { turns: 0 })));
+}
+
 /// A run with its pace, the row of its turns, and the model.
 struct Both<'t, 'p, 'm> {
     run: Paced<'t, 'p>,
