@@ -20,6 +20,18 @@ class Copy {
     }
 }
 
+/** A call with one number left open. Turns and previews, the calls that are made most, have their parameters handed one by one, which takes half the time. */
+function spread(call, args, place) {
+    if (args.length === 8 && place === 2) {
+        const [a, b, , d, e, f, g, h] = args;
+        return (value) => call(a, b, value, d, e, f, g, h) >>> 0;
+    }
+    return (value) => {
+        args[place] = value;
+        return call(...args) >>> 0;
+    };
+}
+
 /** Unpacks and starts the calls. */
 export async function load(wasm, facts) {
     const {instance} = await WebAssembly.instantiate(wasm, {});
@@ -68,11 +80,7 @@ export class Calls {
         });
         const places = free.map((parameter) => takes.findIndex((row) => row[0] === parameter));
         if (places.length === 1 && takes[places[0]][1] === 'n') {
-            const [place] = places;
-            return (value) => {
-                args[place] = value;
-                return call(...args) >>> 0;
-            };
+            return spread(call, args, places[0]);
         }
         return (...values) => {
             for (let i = 0; i < places.length; i++) args[places[i]] = takes[places[i]][1] === 'N' ? BigInt(values[i]) : values[i];

@@ -216,6 +216,50 @@ def forward_and_back(page):
     expect('and a run all the same', page.word('#turn'), 'turn 1')
 
 
+def within_memory(page):
+    """A quota for M, what each worker would do against the turn that is then taken, a halt before M is passed, and the paper."""
+    page.example('tree', 2, 8)
+    for memory in 136, 100:
+        page.field('M', memory)
+        page.click('#fit')
+        words = program('fitquota', bytes([2]) + bytes(4) + memory.to_bytes(8, 'little') + table_of('tree')).decode().split()
+        told = (page.word('#run-told') + page.word('#numbers-told')).replace(',', '')
+        expect('K for M %d' % memory, all(' %s' % number in told for number in words if number.isdecimal()), True)
+    page.example('repeats', 4, 40)
+    page.field('M', 150)
+    page.click('[data-order=worst]')
+    page.click('#stop')
+    page.keys('r')
+    highest = page.browser.run('wivakkol.run.record.highest')
+    expect('a halt', (page.word('#run-told'), 110 < highest <= 150), ('stopped: the next turn would hold more than M 150', True))
+    expect('what would pass it', '▲' in page.word('#previews .next'), True)
+    would = page.browser.run('document.querySelector("#previews .next").getAttribute("aria-label")')
+    page.click('#previews .next')
+    held = page.browser.run('wivakkol.run.record.held')
+    expect('a click takes that turn', would.endswith('held after it %d, above M' % held), True)
+    page.click('#stop')
+    page.keys('r')
+    page.browser.run('dispatchEvent(new Event("beforeprint"))')
+    expect('on paper', page.word('#paper pre').encode() + b'\n', page.saved('chart'))
+    expect('its pictures', page.browser.run('[...document.querySelectorAll("#paper img")].map((one) => one.src.length > 5000)'), [True, True])
+    page.field('M', '')
+
+
+def the_deques(page):
+    """A click on a deque chooses it: a worker without a thread then robs its bottom."""
+    page.example('repeats', 4, 40)
+    page.click('#dfdeques')
+    page.click('[data-choice=zero]')
+    page.keys('0', '0', '1', '1')
+    lines = page.browser.run('wivakkol.run.record.deques()')
+    page.click('.deque:nth-child(2)')
+    expect('chosen', (page.browser.run('document.querySelector(".deque.chosen").value'), page.browser.run('wivakkol.rule.choice')), ('1', 'chosen'))
+    page.keys('2')
+    log = page.saved('listing').decode().split('\n')
+    expect('the bottom of the second deque', (log[5].split()[1:3], len(lines)), (['2', str(lines[1]['threads'][-1])], 2))
+    page.click('#asyncdf')
+
+
 REFUSED = [('p', '17', 20, '#numbers-told'), ('p', '0', 20, '#numbers-told'), ('K', '0', 21, '#numbers-told'), ('K', '16777216', 21, '#numbers-told'), ('b', '0', 41, '#numbers-told')]
 WRONG = [('thread 0\n  fork 1\n  end\nthread 1\n  end\n', 9, 3), ('thread 0\n  free 1\n  end\n', 10, 2), ('thread 0\n  weave\n', 63, 2), ('thread 0\n  alloc 0\n  end\n', 6, 2),
          ('thread 0\n  end\nthread 1\n  end\n', 11, 3), ('', 2, 0)]
@@ -437,6 +481,8 @@ def main(given):
             runs(page)
             drawn(page)
             forward_and_back(page)
+            within_memory(page)
+            the_deques(page)
             refused(page)
             with_a_table(page)
             times = large(page)
