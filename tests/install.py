@@ -171,7 +171,7 @@ def what_a_board_links(folder, prefix):
     apart = sorted((TOP / 'target/staticlib').glob('*.a'))
     done('cc', '-O2', '-I', TOP / 'include', '-o', 'one', 'turns.c', prefix / 'lib/libwivakkol.a', cwd=folder)
     names = {line.split()[-1] for line in done('nm', folder / 'one').splitlines() if 'wivakkol_' in line}
-    expect('what a board links', names, {'wivakkol_turn_on', 'wivakkol_kind', 'wivakkol_argument'})
+    expect('what a board links', names, {'wivakkol_turn_on', 'wivakkol_kind', 'wivakkol_argument', 'wivakkol_origin'})
     done('cc', '-O2', '-I', TOP / 'include', '-Wl,--whole-archive', '-o', 'whole', 'turns.c', prefix / 'lib/libwivakkol.a', '-Wl,--no-whole-archive', cwd=folder)
     if not (TOP / 'target/staticlib/libwivakkol_turn.a').exists() or not kit_of_dist():
         return 'the archives apart were left out: target/staticlib has none, or the kit is another'
@@ -215,7 +215,7 @@ def pages(prefix):
             expect(page.name, call('man', '--warnings', '-E', 'UTF-8', '-l', page)[1:], ('', 0))
     headers = '\n'.join(re.sub(r'/\*.*?\*/', '', path.read_text(), flags=re.S) for path in (TOP / 'include').glob('*.h'))
     for name in sorted(set(re.findall(r'\b(wivakkol_\w+)\(', headers))):
-        expect('%s in wivakkol(3)' % name, name + '(' in texts['wivakkol.3'], not name.endswith('_on'))
+        expect('%s in wivakkol(3)' % name, name + '(' in texts['wivakkol.3'], not name.endswith(('_on', '_')))
     expect('pages', sorted(texts), ['wivakkol-table.5', 'wivakkol.1', 'wivakkol.3'])
     return None if shutil.which('man') else 'man was left out: no man'
 

@@ -26,7 +26,7 @@ sys.path.insert(0, str(pathlib.Path(__file__).parent.parent / 'tools'))
 import dist
 
 OUT, DIST = pathlib.Path('target/targets'), pathlib.Path('dist')
-HEADERS = sorted(pathlib.Path('include').glob('*.h'))
+HEADERS = sorted(path for path in pathlib.Path('include').glob('*.h') if path.stem != 'wivakkol_build')  # which is C alone, with nothing of it in an archive
 SIZES = {'uint8_t': 1, 'uint16_t': 2, 'uint32_t': 4, 'uint64_t': 8}
 LEAST_TURNS, TURNS = 100000, ('wivakkol_turn', 'wivakkol_paced_turn', 'wivakkol_deque_turn')
 ROOM, TEXT = 36868, 266240

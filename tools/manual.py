@@ -57,13 +57,13 @@ def on_the_command():
 
 
 def calls_of(header):
-    """The calls of a header: what is declared, and the first sentence of the comment above it. Those on parts of a struct, ..._on, are left out."""
+    """The calls of a header: what is declared, and the first sentence of the comment above it. Those on parts of a struct, ..._on, and what a header keeps to itself, ..._, are left out."""
     text = (TOP / 'include' / header).read_text()
     found = re.findall(r'/\*((?:(?!\*/).)*)\*/\n((?:(?:static inline )?(?:const char \*|\w+ )\w+\([^;{]*\)(?:;|\n\{)\n?)+)', text, re.S)
     for comment, declared in found:
         sentence = re.split(r'(?<=[a-z\])])[.:](?:\s|$)', ' '.join(re.sub(r'\n \*', ' ', comment).split()))[0] + '.'
         for one in re.findall(r'(?:static inline )?((?:const char \*|\w+ )(\w+)\([^;{]*\))', declared):
-            if not one[1].endswith('_on'):
+            if not one[1].endswith(('_on', '_')):
                 yield ' '.join(one[0].split()) + ';', sentence
 
 
