@@ -3,7 +3,7 @@ within the peak of p workers, which peaks.py works out. A peak that is told too 
 
 usage: python3 tests/workers.py [COUNT]
     From the repository's top, after `rt staticlib wivakkol_turn` and `rt staticlib wivakkol`; COUNT runs of each, default 5; needs a C compiler, `cc`, and says so where there is none. It stops
-    after 20 seconds for each 5 runs, also where a run hangs.
+    after 60 seconds for each 5 runs, also where a run hangs.
 """
 import os
 import re
@@ -54,7 +54,7 @@ def main():
         return
     count = int(sys.argv[1]) if len(sys.argv) > 1 else 5
     build()
-    until = time.monotonic() + 4 * max(count, 5)
+    until = time.monotonic() + 12 * max(count, 5)
     for name in TABLES:
         for p in (2, 4, 16):
             runs(name, p, count, until)
