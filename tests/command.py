@@ -411,7 +411,7 @@ def listed_as_given():
             rows = [line.split(' ') for line in plain.split('\n')]
             wanted = '\n'.join(' '.join(row[:3] + [owns.get(int(row[3]), '-')] + row[4:] if len(row) == 6 and row[3] != '-' else row) for row in rows)
             expect('%s --given with %d' % (command[0], quota), shown, wanted)
-    refuses(['list', '-p', 2, '-K', 5, '--given', '--order', 0, 0, 2, 'examples/e.text'], '--order: ' + words(30), out=b'table 9 34 serial 6 depth 17\n1 0 0 0 fork 0\n2 0 1 - fork 0\nrefused 30 0\n')
+    refuses(['list', '-p', 2, '-K', 5, '--given', '--order', 0, 0, 2, 'examples/e.text'], '--order: refused 30: turn 3 has worker 2, and p is 2; all turns before it were taken', out=b'table 9 34 serial 6 depth 17\n1 0 0 0 fork 0\n2 0 1 - fork 0\nrefused 30 0\n')
 
 
 def own_actions(given, out):
@@ -684,7 +684,8 @@ def screens(folder):
     page, path, text = (TOP / 'dist/screen.html').read_bytes(), folder / 'screen.html', (TOP / 'examples/e.text').read_bytes()
     place = re.compile(rb'(<script type="application/json" id="data-start">)(.*?)(</script>)')
     for given, data, wanted in [(['-p', 2, '-K', 6, 'examples/e.text'], b'', {'name': 'e.text', 'table': text, 'p': 2, 'K': 6}),
-                                (['-p', 17, '-K', 0, '-M', 12, '-'], E, {'name': '<stdin>', 'table': E, 'p': 17, 'K': 0, 'M': 12}), ([], b'', None)]:
+                                (['-p', 17, '-K', 0, '-M', 12, '-'], E, {'name': '<stdin>', 'table': E, 'p': 17, 'K': 0, 'M': 12}), ([], b'', None),
+                                (['-p', 2, '-K', 40, CARPET], b'', {'name': 'carpet.design', 'table': call('dis', CARPET)[0], 'p': 2, 'K': 40})]:
         answers(['screen', *given, '-o', path], b'', data)
         found = place.search(path.read_bytes())
         start = json.loads(found[2])
@@ -692,7 +693,7 @@ def screens(folder):
             start['table'] = base64.b64decode(start['table'])
         expect('screen %s' % given, (start, place.sub(rb'\1null\3', path.read_bytes()) == page), (wanted, True))
         expect('nothing that ends the script', b'<' in found[2], False)
-    refuses(['screen', '-p', 2, '-K', 6, '-o', path, '-'], '<stdin>:2: refused 7: ' + words(7).partition(': ')[2], b'thread 0\n  work\n')
+    refuses(['screen', '-p', 2, '-K', 6, '-o', path, '-'], '<stdin>:2: refused 7: thread 0 does not end; put end after this', b'thread 0\n  work\n')
     refuses(['screen', '-p', 2, 'examples/e.text'], 'wivakkol: screen needs -p P and -K K for a table (wivakkol help screen)', status=2)
     refuses(['screen', '-b', 2], 'wivakkol: screen takes no -b (wivakkol help screen)', status=2)
     tools = folder / 'opens'
