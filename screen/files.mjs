@@ -135,6 +135,13 @@ export function trace(run, log = run.log) {
     return `{"displayTimeUnit":"ms","traceEvents":[\n${events.map(spaced).join(',\n')}\n]}\n`;
 }
 
+/** Names of threads: what a text says behind `thread N #`, as `wivakkol dis` writes the names of a design. */
+export function namesOf(text) {
+    const found = [];
+    for (const [, thread, name] of text.matchAll(/^[ \t]*thread[ \t]+(\d{1,4})[ \t]*#[ \t]*([^\n]*?)[ \t]*$/gm)) found[Number(thread)] = name.slice(0, 64);
+    return found;
+}
+
 /** The line of each action of a text, counted from 1: actions have a line each, in the order of their numbers. */
 export function actionLines(text) {
     const found = [];

@@ -1,7 +1,7 @@
 // The page: what is pressed, dropped, typed or opened, and what is then drawn.
 import {load, Refusal} from './calls.mjs';
 import {BadState, bringTo, checkState, linkOf, NONE, readLink, rules, Run, stateOf, unpacked} from './run.mjs';
-import {chart, listing, NoTable, order, readFile, short, told, trace} from './files.mjs';
+import {chart, listing, namesOf, NoTable, order, readFile, short, told, trace} from './files.mjs';
 import {Drawings, grouped, Theme} from './drawings.mjs';
 import {$, facts, holders, KEYS, linesOf, made, marks, previews, stand, TextPanel, tries} from './panels.mjs';
 
@@ -58,7 +58,7 @@ class Screen {
     }
 
     take(run, text) {
-        Object.assign(this, {run, hover: null, lines: linesOf(run, text), accepted: text});
+        Object.assign(this, {run, hover: null, lines: linesOf(run, text), names: namesOf(text), accepted: text});
         Object.assign(this.rule, {list: null, from: 0, chosen: 0});
         if (this.rule.order === 'list') this.rule.order = 'rounds';
         this.drawings.view.whole = true;
@@ -122,6 +122,7 @@ class Screen {
         if (!same || this.isStale) return this.begin();
         this.text.number();
         this.lines = linesOf(this.run, text);
+        this.names = namesOf(text);
         this.accepted = text;
         this.tableTold('', 0);
         this.refresh();
@@ -423,7 +424,7 @@ class Screen {
     shown() {
         const {run, rule} = this, next = run.next(rule), seen = run.previews(rule);
         const with_ = (worker) => ({worker, preview: seen[worker] instanceof Refusal ? null : seen[worker]});
-        return {next: next ? with_(next.worker) : null, hover: this.hover === null || this.hover >= run.given.p ? null : with_(this.hover), previews: seen, lines: this.lines, tab: this.tab,
+        return {next: next ? with_(next.worker) : null, hover: this.hover === null || this.hover >= run.given.p ? null : with_(this.hover), previews: seen, lines: this.lines, names: this.names, tab: this.tab,
             chosen: rule.choice === 'chosen' ? rule.chosen : -1, row: this.row, limitName: run.deques ? 'limit, every choice' : 'limit, every order'};
     }
 
@@ -448,7 +449,7 @@ class Screen {
         const shown = this.shown(), {theme} = drawings;
         previews(run, theme, shown);
         facts(run, theme);
-        holders(run, theme);
+        holders(run, theme, shown);
         stand(run, theme, shown);
         marks(run);
         tries(run, theme);

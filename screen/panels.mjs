@@ -44,13 +44,13 @@ function would(run, seen) {
 function previewRow(run, theme, shown, worker) {
     const seen = shown.previews[worker], {bold, text} = would(run, seen), thread = run.record.threadOf(worker), real = !(seen instanceof Refusal), {M} = run.given;
     const busy = real && seen.thread >= 0, line = busy ? shown.lines[seen.action] : 0, change = real ? seen.held - run.record.held : 0;
-    const above = real && M !== null && seen.held > M;
+    const above = real && M !== null && seen.held > M, named = busy && shown.names[seen.thread] ? ` ${shown.names[seen.thread]}` : '';
     const holds = made('span', {}, made('kbd', {}, worker.toString(16).toUpperCase()), thread < 0 ? ' –' : square(theme, thread), thread < 0 ? null : String(thread));
     const what = made('span', {className: 'would'}, busy ? square(theme, seen.thread) : null, busy ? `${seen.thread} ` : null, made('b', {}, bold), text,
-        busy ? made('small', {}, ` #${seen.action}${line ? ` L${line}` : ''}`) : null, real && seen.refused ? made('small', {className: 'above'}, ` refused ${seen.refused}: b`) : null);
+        busy ? made('small', {}, ` #${seen.action}${line ? ` L${line}` : ''}${named}`) : null, real && seen.refused ? made('small', {className: 'above'}, ` refused ${seen.refused}: b`) : null);
     const after = made('span', {className: above ? 'n above' : 'n'}, change ? made('small', {}, `${change > 0 ? '+' : '−'}${grouped(Math.abs(change))} `) : null, above ? '▲ ' : null, real ? grouped(seen.held) : '');
     const cells = [holds, what, after, made('span', {className: 'n'}, real ? grouped(seen.quota) : ''), made('span', {className: 'n passed'}, real && seen.passed ? String(seen.passed) : '')];
-    return {cells, label: `worker ${worker}: ${bold} ${text}${busy ? ` of thread ${seen.thread}` : ''}${line ? `, line ${line}` : ''}${real ? `, held after it ${seen.held}` : ''}${above ? ', above M' : ''}`};
+    return {cells, label: `worker ${worker}: ${bold} ${text}${busy ? ` of thread ${seen.thread}${named}` : ''}${line ? `, line ${line}` : ''}${real ? `, held after it ${seen.held}` : ''}${above ? ', above M' : ''}`};
 }
 
 export function previews(run, theme, shown) {
@@ -102,7 +102,7 @@ function statusWords(run, thread, holder) {
     return `${name === 'held' ? `held by w${holder.get(thread)}` : name}, next ${actionWords(run, record.next(thread))}`;
 }
 
-export function holders(run, theme) {
+export function holders(run, theme, {names}) {
     const {record, constants, threads} = run, counts = new Map(), all = [], holder = new Map();
     for (let w = 0; w < run.given.p; w++) if (record.threadOf(w) >= 0) holder.set(record.threadOf(w), w);
     for (let t = 0; t < threads; t++) {
@@ -113,7 +113,7 @@ export function holders(run, theme) {
     const most = all.length ? record.amount(all[0]) : 1, shown = all.slice(0, 14);
     const rows = shown.map((t) => made('div', {className: 'row'}, made('span', {}, square(theme, t), `thread ${t}`),
         made('span', {className: 'meter', style: `width:${Math.max(2, 100 * record.amount(t) / most)}%;background:${theme.thread(t)}`}), made('span', {className: 'n'}, grouped(record.amount(t))),
-        made('span', {className: 's'}, statusWords(run, t, holder))));
+        made('span', {className: 's'}, names[t] ? `${names[t]}, ` : null, statusWords(run, t, holder))));
     if (all.length > shown.length) {
         const left = all.slice(shown.length).reduce((sum, t) => sum + record.amount(t), 0);
         rows.push(made('div', {className: 'row'}, made('span', {className: 's'}, `${all.length - shown.length} more`), made('span'), made('span', {className: 'n'}, grouped(left))));
@@ -148,11 +148,11 @@ function dequesPanel(run, theme, shown) {
     return made('div', {}, made('small', {}, 'From the left, each from the top. A worker without a thread robs the bottom of the deque at its place: click one, or [ and ].'), found.length ? box : made('p', {}, 'no deque'));
 }
 
-function listPanel(run, theme) {
+function listPanel(run, theme, {names}) {
     const {record, constants} = run, box = made('div', {className: 'chips'});
     for (const t of record.threads()) {
         const status = record.status(t), name = status === constants.STATUS_WAITING ? 'waiting' : status === constants.STATUS_HELD ? 'held' : 'ready';
-        box.append(made('span', {className: `chip ${name}`, title: `thread ${t}, ${name}, holds ${record.amount(t)}, next ${actionWords(run, record.next(t))}`}, square(theme, t), String(t)));
+        box.append(made('span', {className: `chip ${name}`, title: `thread ${t}${names[t] ? ` ${names[t]}` : ''}, ${name}, holds ${record.amount(t)}, next ${actionWords(run, record.next(t))}`}, square(theme, t), String(t)));
     }
     const order = run.deques ? 'The lines of the deques from the left; a thread that waits stands in none.' : 'The list, earliest in serial order first. Bold: held by a worker; dashed: waiting.';
     return made('div', {}, made('small', {}, order), box.children.length ? box : made('p', {}, 'no thread'));
@@ -182,7 +182,7 @@ export function stand(run, theme, shown) {
         button.hidden = !tabs.includes(button.dataset.tab);
         button.setAttribute('aria-selected', String(button.dataset.tab === tab));
     }
-    const panel = tab === 'chart' ? chartPanel(run) : tab === 'deques' ? dequesPanel(run, theme, shown) : tab === 'list' ? listPanel(run, theme) : recordPanel(run);
+    const panel = tab === 'chart' ? chartPanel(run) : tab === 'deques' ? dequesPanel(run, theme, shown) : tab === 'list' ? listPanel(run, theme, shown) : recordPanel(run);
     $('stand').replaceChildren(panel);
 }
 

@@ -291,6 +291,18 @@ def refused(page):
     files_refused(page)
 
 
+def names(page):
+    """Of the text that a design stands for the page has the names of threads."""
+    text = subprocess.run(['tools/wivakkol', 'dis', 'examples/carpet.design'], stdout=subprocess.PIPE, check=True).stdout.decode()
+    page.text(text)
+    page.field('K', 40)
+    page.keys(*' ' * 8)
+    expect('names', ('row[0], ' in page.word('#holders'), ' of thread 1 row[0], line ' in page.browser.run('document.getElementById("previews").children[1].title + document.getElementById("previews").children[2].title')), (True, True))
+    page.text(text.replace('# row[0]\n', '\n'))
+    page.keys(*' ' * 8)
+    expect('no name', 'row[0], ' in page.word('#holders'), False)
+
+
 def turns_refused(page):
     page.example('e', 2, 6)
     for keys, number in [(['f'], 30), (['m', '9'], 45), (['g', '5'], 46), (['r', '0'], 31)]:
@@ -484,6 +496,7 @@ def main(given):
             within_memory(page)
             the_deques(page)
             refused(page)
+            names(page)
             with_a_table(page)
             times = large(page)
             if given == ['--figures']:
