@@ -57,9 +57,9 @@ def make(top, what, prefix, destination=''):
 def installed(folder):
     """An installation, through DESTDIR and moved to its place, whose repository is no more."""
     top, prefix = copy(folder / 'repository'), folder / 'prefix'
-    told = make(top, 'install', '/opt/w', folder / 'stage')
-    expect('install', re.sub(r'^\d+', 'N', told), 'N files in %s\n' % (folder / 'stage/opt/w'))
-    (folder / 'stage/opt/w').rename(prefix)
+    told = make(top, 'install', '/w', folder / 'stage')
+    expect('install', re.sub(r'^\d+', 'N', told), 'N files in %s\n' % (folder / 'stage/w'))
+    (folder / 'stage/w').rename(prefix)
     shutil.rmtree(top)
     return prefix
 

@@ -68,7 +68,7 @@ def compiler():
 
 SAVING = """#!/bin/sh
 # the kit's clang, which saves the module that it is given
-PATH=/usr/bin:/bin
+PATH='%(path)s'
 for word; do
     case $word in *.bc) cp "$word" '%(module)s' ;; esac
 done
@@ -91,7 +91,7 @@ def saving_kit(folder, module):
     linked(proving.kit_folder().resolve(), folder, 'on', platform.machine(), 'toolchain', 'bin')
     script = folder / 'on' / platform.machine() / 'toolchain/bin/clang'
     script.unlink()
-    script.write_text(SAVING % {'module': module, 'clang': compiler() / 'clang'})
+    script.write_text(SAVING % {'module': module, 'clang': compiler() / 'clang', 'path': os.defpath})
     script.chmod(EXECUTABLE)
 
 
