@@ -28,7 +28,7 @@ use table::read::{actions, threads};
 use table::{Loaded, Refusal};
 
 // What should have stood on a line: a keyword, a number of at most 24 bits, the line's end, or the next thread by its number.
-#[derive(Drop)]
+#[derive(Clone, Copy)]
 pub enum Expected {
     Keyword,
     Number,
@@ -37,7 +37,7 @@ pub enum Expected {
 }
 
 // What a line says: nothing, a thread, an action by its kind's code and argument, or what should have stood there.
-#[derive(Drop)]
+#[derive(Clone, Copy)]
 pub(crate) enum Said {
     Nothing,
     Thread(usize),

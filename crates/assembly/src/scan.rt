@@ -3,7 +3,7 @@ ghost use Rattle.std.specs.Prelude.{◌≡◌};
 ghost use Rattle.assembly.specs.Words.{in_class, Spans};
 
 // What a line goes on with, what stands before a comment, what is between words, what a word goes on with, what stands before a carriage return.
-#[derive(Drop)]
+#[derive(Clone, Copy)]
 pub enum Class {
     Line,
     Plain,

@@ -3,7 +3,7 @@ use schedule::{Beginning, Reply, Report, Run};
 use table::Refusal;
 
 // The record of a run of DFDeques.
-#[derive(Drop)]
+#[derive(Clone, Copy)]
 pub struct DequeRun {
     // as AsyncDF's, but for its list, which has the lines: deque by deque from the left, the thread that the owner holds, then the deque's threads from the top to the bottom
     pub run: Run,

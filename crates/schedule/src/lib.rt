@@ -5,7 +5,7 @@ pub mod statuses;
 use table::Refusal;
 
 // What a worker holds: a thread and what is left of the quota, or nothing, with 0 for both.
-#[derive(Drop)]
+#[derive(Clone, Copy)]
 pub struct Worker {
     pub holds: bool,
     pub thread: u16,
@@ -13,7 +13,7 @@ pub struct Worker {
 }
 
 // The run record of document 01.
-#[derive(Drop)]
+#[derive(Clone, Copy)]
 pub struct Run {
     // the table, and how many of its bytes are in use
     pub table: [u8; 36868],
@@ -39,7 +39,7 @@ pub struct Run {
 }
 
 // What a turn says: idle; the action done; the amount wanted beyond the quota; the child waited for.
-#[derive(Drop)]
+#[derive(Clone, Copy)]
 pub enum Reply {
     Idle,
     Done { thread: u16, action: u16 },
@@ -61,7 +61,7 @@ pub struct Begun {
 }
 
 // A single turn: its reply, and how many threads stood left of the one that the worker took, 0 where it took none.
-#[derive(Drop)]
+#[derive(Clone, Copy)]
 pub enum Turning {
     Taken(Reply, u16),
     Refused(Refusal),

@@ -5,7 +5,7 @@ pub mod read;
 ghost use Rattle.std.specs.Prelude.{◌≡◌, max, min};
 
 // What an accepted table tells: threads n, actions m, serial peak S1, depth D and nested thread levels N.
-#[derive(Drop)]
+#[derive(Clone, Copy)]
 pub struct Facts {
     pub threads: u16,
     pub actions: u16,
@@ -15,7 +15,7 @@ pub struct Facts {
 }
 
 // The number of the check that applied, and its place.
-#[derive(Drop)]
+#[derive(Clone, Copy)]
 pub struct Refusal {
     pub number: u8,
     pub place: u16,
@@ -28,7 +28,7 @@ pub enum Loaded {
 }
 
 // What a pass over the table finds.
-#[derive(Drop)]
+#[derive(Clone, Copy)]
 pub enum Found {
     Nothing,
     At(Refusal),

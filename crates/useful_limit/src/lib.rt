@@ -47,7 +47,7 @@ pub enum Fitted {
 }
 
 // Of a table, p and b: S1, what each unit of quota adds to demand 3's limit, whether b is 0, S_p, the peak over resting places, the most that a stretch draws under a quota, and the least quota.
-#[derive(Drop)]
+#[derive(Clone, Copy)]
 pub(crate) struct Parts {
     pub(crate) serial: u64,
     pub(crate) cost: u64,
