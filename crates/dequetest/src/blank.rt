@@ -25,7 +25,7 @@ pub fn deque_blank_in(
     turns: u64,
 ) -> bool
     ensures { result ≡ deque_blank_on p quota next.now status.now amounts.now
-        (record { left = left.entry.now; right = right.now; head = leftmost })
+        (record { left = left.now; right = right.now; head = leftmost })
         (record { left = under.now; right = over.now; head = first }) workers busy held highest turns }
 {
     let lines = blank_in(

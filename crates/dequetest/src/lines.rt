@@ -157,7 +157,7 @@ pub(crate) fn deques_stand(
 ) -> bool
     requires n_bound { n ≤ 1024 }
     requires bottoms_len { length bottoms.old ≡ 1024 }
-    ensures { result ≡ deques_stand n status.now (record { left = left.entry.now; right = right.now; head = leftmost })
+    ensures { result ≡ deques_stand n status.now (record { left = left.now; right = right.now; head = leftmost })
         (record { left = under.now; right = over.now; head = first }) }
 {
     *row = [0; 1024];

@@ -41,16 +41,16 @@ pub fn deque_open_in(
     row: &mut [u16; 1024],
 ) -> u32
     ensures value { result ≡ open_number (written && deque_sound_on table.now p quota next.now status.now amounts.now
-        (record { left = left.entry.now; right = right.now; head = leftmost })
+        (record { left = left.now; right = right.now; head = leftmost })
         (record { left = under.now; right = over.now; head = first }) workers busy held highest turns)
         (deque_blank_on p quota next.now status.now amounts.now
-        (record { left = left.entry.now; right = right.now; head = leftmost })
+        (record { left = left.now; right = right.now; head = leftmost })
         (record { left = under.now; right = over.now; head = first }) workers busy held highest turns) }
     ensures parents_after { parents.new ≡ open_parents (written && deque_sound_on table.now p quota next.now status.now amounts.now
-        (record { left = left.entry.now; right = right.now; head = leftmost })
+        (record { left = left.now; right = right.now; head = leftmost })
         (record { left = under.now; right = over.now; head = first }) workers busy held highest turns)
         (deque_blank_on p quota next.now status.now amounts.now
-        (record { left = left.entry.now; right = right.now; head = leftmost })
+        (record { left = left.now; right = right.now; head = leftmost })
         (record { left = under.now; right = over.now; head = first }) workers busy held highest turns) (table_of table.now) parents.old }
     ensures rises_after { (rises.new ≡ replicate 1024 0) × (falls.new ≡ replicate 1024 0) }
     ensures forks_after { (forks.new ≡ replicate 1024 0) × (seen.new ≡ replicate 1024 0) × (row.new ≡ replicate 1024 0) }

@@ -35,7 +35,7 @@ fn sound_parts(
     row: &mut [u16; 1024],
 ) -> bool
     ensures value { result ≡ deque_sound_on table.now p quota next.now status.now amounts.now
-        (record { left = left.entry.now; right = right.now; head = leftmost })
+        (record { left = left.now; right = right.now; head = leftmost })
         (record { left = under.now; right = over.now; head = first }) workers busy held highest turns }
     ensures parents_after { result ≡ true → parents.new ≡ parents_in (table_of table.now) }
     ensures rises_after { (rises.new ≡ replicate 1024 0) × (falls.new ≡ replicate 1024 0) }
@@ -83,7 +83,7 @@ pub fn deque_test_in(
     row: &mut [u16; 1024],
 ) -> bool
     ensures value { result ≡ deque_sound_on table.now p quota next.now status.now amounts.now
-        (record { left = left.entry.now; right = right.now; head = leftmost })
+        (record { left = left.now; right = right.now; head = leftmost })
         (record { left = under.now; right = over.now; head = first }) workers busy held highest turns }
     ensures parents_after { parents.new ≡ parents_if result (table_of table.now) }
     ensures rises_after { (rises.new ≡ replicate 1024 0) × (falls.new ≡ replicate 1024 0) }

@@ -88,8 +88,8 @@ fn lay_threads(row: &[u16], left: &mut [u16; 1024], right: &mut [u16; 1024])
 
 // Puts c at the right end, where y is the last thread. The leftmost thread then.
 fn link_last(left: &mut [u16; 1024], right: &mut [u16; 1024], leftmost: u16, c: u16, y: u16) -> u16
-    ensures { record { left = left.exit.now; right = right.new; head = result }
-        ≡ link_last c y (record { left = left.entry.now; right = right.old; head = leftmost }) }
+    ensures { record { left = left.new; right = right.new; head = result }
+        ≡ link_last c y (record { left = left.old; right = right.old; head = leftmost }) }
 {
     put(left, c, y);
     put(right, y, c);
@@ -166,7 +166,7 @@ pub fn describe(
     row: &[u16; 1024],
     len: usize,
 ) -> bool
-    ensures { result ≡ same_links (record { left = left.entry.now; right = right.now; head = leftmost }) (laid (take len row.now)) }
+    ensures { result ≡ same_links (record { left = left.now; right = right.now; head = leftmost }) (laid (take len row.now)) }
 {
     let mut lefts = [0u16; 1024];
     let mut rights = [0u16; 1024];

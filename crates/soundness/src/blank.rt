@@ -66,7 +66,7 @@ pub fn blank_in(
     turns: u64,
 ) -> bool
     ensures { result ≡ blank_on p quota next.now status.now amounts.now
-        (record { left = left.entry.now; right = right.now; head = leftmost }) workers busy held highest turns }
+        (record { left = left.now; right = right.now; head = leftmost }) workers busy held highest turns }
 {
     if p != 0 {
         return false;

@@ -49,7 +49,7 @@ fn links_sound(
 ) -> bool
     requires accepted { Accepted table.now n }
     requires placed { Placed table.now n next.now }
-    ensures { result ≡ links_sound (table_of table.now) next.now status.now (record { left = left.entry.now; right = right.now; head = leftmost }) }
+    ensures { result ≡ links_sound (table_of table.now) next.now status.now (record { left = left.now; right = right.now; head = leftmost }) }
 {
     *row = [0; 1024];
     let len = links::read_row(right, leftmost, row);
@@ -82,7 +82,7 @@ fn sound_parts(
     row: &mut [u16; 1024],
 ) -> bool
     ensures value { result ≡ sound_on table.now p quota next.now status.now amounts.now
-        (record { left = left.entry.now; right = right.now; head = leftmost }) workers busy held highest turns }
+        (record { left = left.now; right = right.now; head = leftmost }) workers busy held highest turns }
     ensures parents_after { result ≡ true → parents.new ≡ parents_in (table_of table.now) }
     ensures rises_after { (rises.new ≡ replicate 1024 0) × (falls.new ≡ replicate 1024 0) }
 {
@@ -124,7 +124,7 @@ pub fn test_in(
     row: &mut [u16; 1024],
 ) -> bool
     ensures value { result ≡ sound_on table.now p quota next.now status.now amounts.now
-        (record { left = left.entry.now; right = right.now; head = leftmost }) workers busy held highest turns }
+        (record { left = left.now; right = right.now; head = leftmost }) workers busy held highest turns }
     ensures parents_after { parents.new ≡ parents_if result (table_of table.now) }
     ensures rises_after { (rises.new ≡ replicate 1024 0) × (falls.new ≡ replicate 1024 0) }
     ensures forks_after { (forks.new ≡ replicate 1024 0) × (row.new ≡ replicate 1024 0) }
