@@ -1,6 +1,6 @@
 """Holds the pages against the tree: every file that they name is there, every link leads to a page and a heading of it, and every name in
-backticks stands somewhere in the code, the definitions, the proofs or the scripts; a name with hyphens is a law's, and is stated somewhere; what is
-named with its file is in that file. DEMAND3.md has every definition that the statement rests on, but for what it lets a reader skip. The lists of
+backticks stands somewhere in the code, the definitions, the proofs or the scripts; a name of several words that no code has is a law's or a definition's,
+and is stated somewhere; what is named with its file is in that file. DEMAND3.md has every definition that the statement rests on, but for what it lets a reader skip. The lists of
 public functions and of the calls from C are complete, and refusals stand in the order of the checks as the definitions have it. What is made
 from the lists in data/ is as they have it. The notes are left out: they are as of their landing.
 
@@ -20,7 +20,7 @@ import lists
 PAGES = ['README.md', 'CONTRIBUTING.md', 'CHANGELOG.md', *map(str, sorted(pathlib.Path('docs').glob('*.md'))), 'docs/pictures/README.md']
 FOLDERS = 'crates|data|dist|docs|tests|tools|examples|bench|include|rust|screen'
 ELSEWHERE = {'memmove', 'do_action', 'docs/guides/DESIGN.md', 'pkg-config', 'probe-stack', 'qemu-aarch64'}  # of C, of its caller, of the toolchain, of other tools
-LAW = r"[a-z][A-Za-z0-9']*(?:-[A-Za-z0-9']+)+"  # a law's name, as against a definition's
+LAW = r"[a-z][A-Za-z0-9']*(?:[_-][A-Za-z0-9']+)+"  # a law's name, and a definition's of several words
 
 
 def read(path):
@@ -36,6 +36,19 @@ def tree():
             continue
         if pathlib.Path(name).is_file():
             words.update(re.findall(r"[A-Za-z_][A-Za-z0-9_'-]*", read(name)))
+    return words
+
+
+@functools.cache
+def in_code():
+    """The words of the code and of the scripts, comments left out: not those of definitions and proofs."""
+    comments = {'.rt': r'//.*', '.mjs': r'//.*', '.c': r'/\*.*?\*/|//.*', '.h': r'/\*.*?\*/|//.*', '.py': r'#.*', '.rs': r'//.*'}
+    files = subprocess.run(['git', 'ls-files', '-co', '--exclude-standard'], capture_output=True, text=True, check=True).stdout.split('\n')
+    words = set()
+    for path in map(pathlib.Path, files):
+        if path.suffix in comments and path.is_file() and path.parts[0] != 'dist':
+            flags = re.S if path.suffix in ('.c', '.h') else 0
+            words.update(re.findall(r"[A-Za-z_][A-Za-z0-9_'-]*", re.sub(comments[path.suffix].replace('//.*', r'//[^\n]*'), '', path.read_text(), flags=flags)))
     return words
 
 
@@ -74,7 +87,7 @@ def defined(path):
     """The names that a file defines: of definitions and proofs those with a type, of code types, functions and constants."""
     if path.endswith('.rt'):
         return set(re.findall(r'\b(?:fn|struct|enum|const|mod) (\w+)', read(path)))
-    stated = re.findall(r"^ *(?:abbrev |unfoldable )?(?:pub )?(?:record |data )?([A-Za-z][A-Za-z0-9'-]*(?: +[A-Za-z][A-Za-z0-9'-]*)*)(?: [({].*?)? :", read(path), re.M)
+    stated = re.findall(r"^ *(?:abbrev |unfoldable )?(?:pub )?(?:record |data )?([A-Za-z][A-Za-z0-9_'-]*(?: +[A-Za-z][A-Za-z0-9_'-]*)*)(?: [({].*?)? :", read(path), re.M)
     return {name for names in stated for name in names.split()}
 
 
@@ -84,16 +97,16 @@ def laws():
 
 
 def unstated(text):
-    """Laws that a page names and no file states."""
+    """Laws and definitions that a page names and no file states."""
     for name in sorted(set(re.findall(r'`(%s)`' % LAW, text))):
-        if name not in laws() | ELSEWHERE and not any(pathlib.Path(folder, name + '.md').exists() for folder in ('docs', '.')):
+        if name not in laws() | ELSEWHERE | in_code() and not pathlib.Path('crates', name).is_dir() and not any(pathlib.Path(folder, name + '.md').exists() for folder in ('docs', '.')):
             yield name
 
 
 def elsewhere_defined(text):
     """Names before a file, `a`, `b` and `c`, crates/x/proofs/Y.antt or `a` (Y.antt there), that the file does not define."""
     folder = None
-    pattern = r"((?:`[A-Za-z][A-Za-z0-9'-]*`(?:, | and |, and ))*`[A-Za-z][A-Za-z0-9'-]*`)(?:,? \(?|, )((?:crates/[\w/]+/)?[A-Z]\w*\.antt)|(crates/[\w/]+/)(?=[A-Z]\w*\.antt)"
+    pattern = r"((?:`[A-Za-z][A-Za-z0-9_'-]*`(?:, | and |, and ))*`[A-Za-z][A-Za-z0-9_'-]*`)(?:,? \(?|, )((?:crates/[\w/]+/)?[A-Z]\w*\.antt)|(crates/[\w/]+/)(?=[A-Z]\w*\.antt)"
     for line in text.split('\n\n'):
         for row in line.split('\n|') if line.lstrip().startswith('|') else [line]:
             folder = None
@@ -117,7 +130,7 @@ def misplaced(text):
 # ---- what demand 3 rests on
 
 # what a reader of demand 3 may skip, as its page says: whole files, and definitions
-SKIPPED = {'schedule/specs/Sound', 'schedule/specs/Links', 'filling/specs/Filled', 'table/specs/Pass', 'passes', 'settingPasses', 'beginPasses', 'isBlank', 'linksIn', 'listIn', 'passedIn', 'passedBy'}
+SKIPPED = {'schedule/specs/Sound', 'schedule/specs/Links', 'filling/specs/Filled', 'table/specs/Pass', 'passes', 'setting_passes', 'begin_passes', 'is_blank', 'links_in', 'list_in', 'passed_in', 'passed_by'}
 NAME = r"[A-Za-z][\w']*(?:-[\w']+)*"
 
 
@@ -126,7 +139,7 @@ def stated(text):
     text = re.sub(r'--.*', '', re.sub(r'^ *--.*\n', '', text, flags=re.M))
     found = [(re.search(r'^(?:abbrev |unfoldable )?(?:pub )?(?:record |data )?(%s).* :' % NAME, part, re.M), part) for part in re.split(r'\n\s*\n', text)]
     taken = {}
-    for crate, path, names in re.findall(r'use Rattle·(\w+)(?:·\w+)?\.(specs[\w.]*)\.\{([^}]*)\}', text):
+    for crate, path, names in re.findall(r'use Rattle\.(\w+)\.(specs[\w.]*)\.\{([^}]*)\}', text):
         for name, _, known in (part.strip().partition(' as ') for part in names.split(',')):
             taken[known or name] = ('%s/%s' % (crate, path.replace('.', '/')), name)
     return {match.group(1): part for match, part in found if match}, taken
@@ -136,7 +149,7 @@ def unread(text):
     """Definitions that demand 3's statement rests on and that its page neither lists nor skips."""
     files = {'/'.join(path.parts[1:])[:-5]: stated(read(path)) for path in pathlib.Path('crates').glob('*/specs/**/*.antt')}
     own, taken = stated(read('crates/bounds/proofs/Limit.antt'))
-    statement = own['MemoryLimit'] + own['memory-limit'].partition('\nmemory-limit ')[0]
+    statement = own['MemoryLimit'] + own['memory_limit'].partition('\nmemory_limit ')[0]
     todo, seen, listed = [taken[word] for word in re.findall(NAME, statement) if word in taken], set(), set(re.findall(r'`([^`]+)`', text))
     assert len(todo) > 10
     while todo:
@@ -152,13 +165,19 @@ def unread(text):
 
 # ---- lists that are complete
 
+def handed_on(text):
+    """What a crate's first file hands on, each with its module."""
+    for module, names in re.findall(r'^pub use (\w+)::(\w+|\{[^}]*\});', text, re.M):
+        yield from ((module, name) for name in re.findall(r'\w+', names))
+
+
 def public_functions():
     """Of each crate what another can call: public functions of its lib.rt and of public modules, and those that it hands on; each with the text of its contract and of its file."""
     found = {}
     for path in sorted(pathlib.Path('crates').glob('*/src/lib.rt')):
         text = read(path)
         whole = [(text, None)] + [(read(path.parent / (name + '.rt')), None) for name in re.findall(r'^pub mod (\w+);', text, re.M)]
-        whole += [(read(path.parent / (module + '.rt')), name) for module, name in re.findall(r'^pub use (\w+)::(\w+);', text, re.M)]
+        whole += [(read(path.parent / (module + '.rt')), name) for module, name in handed_on(text)]
         for text, alone in whole:
             for name, contract in re.findall(r'^pub (?:extern "C" )?fn (\w+)\([^)]*\)(.*?)^\{', text, re.M | re.S):
                 if alone in (None, name):
@@ -186,7 +205,7 @@ def functions_missing(text):
     inner = set(re.findall(r'`(\w+::\w+)`', re.search(r'`specs/Code/`[^.]*;([^.]*)\.', text).group(1)))
     for crate, name in [(crate, name) for crate in functions for name in functions[crate]]:
         contract, file = functions[crate][name]
-        of_code = {part.split(' as ')[-1].strip() for names in re.findall(r'^ghost use Rattle·\S*?specs\.Code\.\w+\.\{(.*?)\}', file, re.M | re.S) for part in names.split(',')}
+        of_code = {part.split(' as ')[-1].strip() for names in re.findall(r'^ghost use Rattle\.\S*?specs\.Code\.\w+\.\{(.*?)\}', file, re.M | re.S) for part in names.split(',')}
         cites = any(re.search(r"(?<![\w'-])%s(?![\w'-])" % re.escape(word), contract) for word in of_code)
         if 'requires' in contract or 'ensures' not in contract:
             yield '%s::%s has a condition, or no promise' % (crate, name)
@@ -208,13 +227,13 @@ def calls_missing(text):
 # ---- the order of the checks
 
 CHECKS = {  # where the definitions with checks in their order stand
-    'headPass': 'table/specs/Checks', 'entriesPass': 'table/specs/Checks', 'totalPass': 'table/specs/Checks', 'firstPass': 'table/specs/Checks', 'secondPass': 'table/specs/Checks',
-    'forkedPass': 'table/specs/Checks', 'balancePass': 'table/specs/Checks', 'shapePasses': 'table/specs/Checks', 'passes': 'table/specs/Checks', 'fillPass': 'filling/specs/Filled',
-    'quotaPass': 'filling/specs/Filling', 'settingPasses': 'schedule/specs/Begin', 'beginPasses': 'schedule/specs/Begin', 'turnChecks': 'schedule/specs/Turn', 'runChecks': 'schedule/specs/Values',
-    'dequeChecks': 'deques/specs/DequeTurn', 'workersCheck': 'useful_limit/specs/Limits', 'gapCheck': 'useful_limit/specs/Limits', 'quotaCheck': 'useful_limit/specs/Limits',
-    'limitPasses': 'useful_limit/specs/Limits', 'fitPasses': 'useful_limit/specs/Fit', 'choicesCheck': 'deque_limit/specs/ChoiceLimit', 'choicePasses': 'deque_limit/specs/ChoiceLimit',
-    'limitsIn': 'useful_limit/specs/Limits', 'choiceLimitsIn': 'deque_limit/specs/ChoiceLimit', 'joinValues': 'joining/specs/Answers', 'firstValues': 'joining/specs/Answers',
-    'chartChecks': 'chart/specs/Chart', 'setChecks': 'marks/specs/Marks', 'backChecks': 'marks/specs/Marks', 'letsChecks': 'pacing/specs/PacedValues', 'paceChecks': 'pacing/specs/PacedValues',
+    'head_pass': 'table/specs/Checks', 'entries_pass': 'table/specs/Checks', 'total_pass': 'table/specs/Checks', 'first_pass': 'table/specs/Checks', 'second_pass': 'table/specs/Checks',
+    'forked_pass': 'table/specs/Checks', 'balance_pass': 'table/specs/Checks', 'shape_passes': 'table/specs/Checks', 'passes': 'table/specs/Checks', 'fill_pass': 'filling/specs/Filled',
+    'quota_pass': 'filling/specs/Filling', 'setting_passes': 'schedule/specs/Begin', 'begin_passes': 'schedule/specs/Begin', 'turn_checks': 'schedule/specs/Turn', 'run_checks': 'schedule/specs/Values',
+    'deque_checks': 'deques/specs/DequeTurn', 'workers_check': 'useful_limit/specs/Limits', 'gap_check': 'useful_limit/specs/Limits', 'quota_check': 'useful_limit/specs/Limits',
+    'limit_passes': 'useful_limit/specs/Limits', 'fit_passes': 'useful_limit/specs/Fit', 'choices_check': 'deque_limit/specs/ChoiceLimit', 'choice_passes': 'deque_limit/specs/ChoiceLimit',
+    'limits_in': 'useful_limit/specs/Limits', 'choice_limits_in': 'deque_limit/specs/ChoiceLimit', 'join_values': 'joining/specs/Answers', 'first_values': 'joining/specs/Answers',
+    'chart_checks': 'chart/specs/Chart', 'set_checks': 'marks/specs/Marks', 'back_checks': 'marks/specs/Marks', 'lets_checks': 'pacing/specs/PacedValues', 'pace_checks': 'pacing/specs/PacedValues',
 }
 
 
@@ -240,16 +259,16 @@ def numbers(text):
 
 def wanted_orders():
     """Of each program and call that refuses what it tries, from the definitions, but for what its input or its lent memory adds."""
-    table, begin = order_of('passes'), order_of('passes') + order_of('beginPasses')
-    limit, choice, fit, join = order_of('limitPasses'), order_of('choicePasses'), order_of('fitPasses'), order_of('joinValues')
-    fill, quota = table + order_of('quotaPass') + order_of('fillPass'), table + order_of('quotaPass', 'quota/specs/Quota')
-    turn, deque = order_of('turnChecks'), order_of('dequeChecks')
+    table, begin = order_of('passes'), order_of('passes') + order_of('begin_passes')
+    limit, choice, fit, join = order_of('limit_passes'), order_of('choice_passes'), order_of('fit_passes'), order_of('join_values')
+    fill, quota = table + order_of('quota_pass') + order_of('fill_pass'), table + order_of('quota_pass', 'quota/specs/Quota')
+    turn, deque = order_of('turn_checks'), order_of('deque_checks')
     programs = {'tablecheck': table, 'tabledis': table, 'canontable': table, 'cmptables': [33] + table, 'jointables': join, 'turnlist': [33] + begin, 'wallchart': [33] + begin,
                 'runrounds': [33] + begin, 'maxturns': [33] + begin, 'filltable': [33] + fill, 'maxquota': [33] + quota, 'fitquota': [33] + fit, 'memlimit': [33] + limit, 'dequelimit': [33] + choice}
-    calls = {'check': table, 'quota': quota, 'most': begin, 'limit': order_of('limitsIn'), 'fit': fit, 'begin': begin + [61], 'open': turn[:1], 'turn': turn + turn[:1], 'list': turn[:2] + turn[:1],
-             'mark': order_of('setChecks'), 'back': order_of('backChecks'), 'deque_open': turn[:1], 'deque_turn': deque + turn[:1], 'deque_list': [x for x in deque if x != 31] + turn[:1],
-             'deque_limit': order_of('choiceLimitsIn'), 'chart': order_of('chartChecks'), 'pace_begin': order_of('paceChecks'), 'paced_turn': turn + order_of('letsChecks') + turn[:1],
-             'paced_list': turn[:2] + order_of('letsChecks') + turn[:1], 'join': join, 'canonical': table, 'compare': table, 'disassemble': table + [61]}
+    calls = {'check': table, 'quota': quota, 'most': begin, 'limit': order_of('limits_in'), 'fit': fit, 'begin': begin + [61], 'open': turn[:1], 'turn': turn + turn[:1], 'list': turn[:2] + turn[:1],
+             'mark': order_of('set_checks'), 'back': order_of('back_checks'), 'deque_open': turn[:1], 'deque_turn': deque + turn[:1], 'deque_list': [x for x in deque if x != 31] + turn[:1],
+             'deque_limit': order_of('choice_limits_in'), 'chart': order_of('chart_checks'), 'pace_begin': order_of('pace_checks'), 'paced_turn': turn + order_of('lets_checks') + turn[:1],
+             'paced_list': turn[:2] + order_of('lets_checks') + turn[:1], 'join': join, 'canonical': table, 'compare': table, 'disassemble': table + [61]}
     return programs, {'wivakkol_' + name: order for name, order in calls.items()}
 
 
@@ -259,7 +278,7 @@ def orders_wrong():
     programs, calls = wanted_orders()
     table = [int(x) for x in re.findall(r'^\| (\d+) \| (?:0|n|entry|action|thread) \| [^|]+ \| [^|]+ \| [^|]+ \|$', reference, re.M)]
     first = [x for x, _ in itertools.groupby(table[:table.index(44) + 1])]
-    if first != [33] + order_of('passes') + order_of('beginPasses'):
+    if first != [33] + order_of('passes') + order_of('begin_passes'):
         yield 'docs/REFERENCE.md: the table of refusals has %s' % first
     said = {}
     for names, text in re.findall(r'^\| ((?:`\w+`(?:, )?)+) \| ([^|]+) \|$', reference.partition('\n### Who gives what\n')[2].partition('\n### ')[0], re.M):
