@@ -3,7 +3,7 @@ run to its end, taken by wivakkol_deque_turn and inside wivakkol_deque_list, and
 drawn from the turns' numbers. All take their turns to be measured one after the other, again and again, and each time is the least. The last line says which goals were met.
 
 usage: python3 bench/deques.py [--rounds N] [--compiler 'CC -O..']
-    From the repository's top, after `rt staticlib` of wivakkol_deque_turn, wivakkol_deques and wivakkol; needs a C compiler, by default that of bench.py with -O3. N rounds (default 10), of 20 runs each
+    From the repository's top, after `python3 tools/dist.py archive` of wivakkol_deque_turn, wivakkol_deques and wivakkol; needs a C compiler, by default that of bench.py with -O3. N rounds (default 10), of 20 runs each
     for every table and number of workers.
 """
 import subprocess

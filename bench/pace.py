@@ -3,7 +3,7 @@ pace: processor time of a turn in a run in rounds to its end, with b 1; inside w
 take their turns to be measured one after the other, again and again, and each time is the least. The last line says which goals were met.
 
 usage: python3 bench/pace.py [--rounds N] [--compiler 'CC -O..']
-    From the repository's top, after `rt staticlib` of wivakkol_pace, wivakkol_turn and wivakkol; needs a C compiler, by default that of bench.py with -O3. N rounds (default 10), of 20 runs each.
+    From the repository's top, after `python3 tools/dist.py archive` of wivakkol_pace, wivakkol_turn and wivakkol; needs a C compiler, by default that of bench.py with -O3. N rounds (default 10), of 20 runs each.
 """
 import subprocess
 

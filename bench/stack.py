@@ -2,7 +2,7 @@
 deeply nested table there is; and the same of single calls, in bench_runs, which has its input of 64 KiB and a record on the stack besides. Where a stack
 begins is drawn anew for each process, so that the least moves by a few KiB: it is one with which several tries in a row go well.
 
-usage: python3 bench/stack.py [NAME..]    (from the repository's top, after `rt check` of the programs; default: all names of FRONTS)
+usage: python3 bench/stack.py [NAME..]    (from the repository's top, after `make build`; default: all names of FRONTS)
 """
 import pathlib
 import subprocess

@@ -3,7 +3,7 @@ two tables and of joining. The first two on the four tables of bench.py, each un
 trees, chains, fans, and the three in turn. All take their turns to be measured one after the other, again and again, and each time is the least.
 
 usage: python3 bench/tables.py [--rounds N] [--compiler 'CC -O..']
-    From the repository's top, after `rt staticlib wivakkol_tables`; needs a C compiler, by default that of bench.py with -O3. N rounds (default 10) of 100 calls each.
+    From the repository's top, after `python3 tools/dist.py archive wivakkol_tables`; needs a C compiler, by default that of bench.py with -O3. N rounds (default 10) of 100 calls each.
 """
 import pathlib
 import random

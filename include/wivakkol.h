@@ -1,5 +1,5 @@
-/* Wivakkol, called from C, for x86-64: wivakkol_turn, wivakkol_kind, wivakkol_argument and wivakkol_origin are linked from the archive libwivakkol_turn.a (`rt staticlib wivakkol_turn`), all other calls from
- * libwivakkol.a (`rt staticlib wivakkol`), in either order. A board that does the actions takes single turns, and a turn that is compiled by itself needs little stack (docs/C-AND-RUST.md): so
+/* Wivakkol, called from C, for x86-64: wivakkol_turn, wivakkol_kind, wivakkol_argument and wivakkol_origin are linked from the archive libwivakkol_turn.a (`tools/dist.py archive wivakkol_turn`), all other calls from
+ * libwivakkol.a (`tools/dist.py archive wivakkol`), in either order. A board that does the actions takes single turns, and a turn that is compiled by itself needs little stack (docs/C-AND-RUST.md): so
  * it has an archive of its own. docs/WORKERS.md has what threads that do the actions must keep to.
  *
  * Every call answers every input: no table, no number and no content of a run's memory is outside what it takes. A turn, a list, rounds and a

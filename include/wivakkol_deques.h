@@ -1,5 +1,5 @@
 /* DFDeques (N13), from C: the second scheduler, over the same tables and in the same memory as wivakkol.h's runs. wivakkol_deque_turn is linked from the archive libwivakkol_deque_turn.a
- * (rt staticlib wivakkol_deque_turn), the other three from libwivakkol_deques.a (rt staticlib wivakkol_deques), in either order; a board without DFDeques needs none of them. What wivakkol.h asks of its
+ * (tools/dist.py archive wivakkol_deque_turn), the other three from libwivakkol_deques.a (tools/dist.py archive wivakkol_deques), in either order; a board without DFDeques needs none of them. What wivakkol.h asks of its
  * callers holds here too, and the answers are proved as those are (crates/wivakkol_deque_turn/src/ and crates/wivakkol_deques/src/ have the promises). wivakkol_deque_turn takes
  * at most 160 bytes of stack, wivakkol_deque_list under 320, wivakkol_deque_open and wivakkol_deque_limit under 8 KB, as measured (tests/deques_calls.py).
  *

@@ -1,4 +1,4 @@
-/* A desk's texts from C: a text assembled to a table, a table written out as its text. Archive libwivakkol_desk.a (`rt staticlib wivakkol_desk`), which a board does without. A call returns 0, or
+/* A desk's texts from C: a text assembled to a table, a table written out as its text. Archive libwivakkol_desk.a (`tools/dist.py archive wivakkol_desk`), which a board does without. A call returns 0, or
  * the number of the refusal, and writes every number of its row, the place first. A call takes under 8 KB of stack. Its answers are proved as those of wivakkol.h are
  * (crates/wivakkol_desk/src/ has the promises), and that this header says the same as that source is tested (tests/desk_calls.py). What a text may have in it is in docs/REFERENCE.md, "Tables as
  * text". */

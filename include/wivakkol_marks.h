@@ -1,4 +1,4 @@
-/* Marks to come back to, from C: up to eight runs kept beside a run, each of them that run as it once was. Archive libwivakkol_marks.a (rt staticlib wivakkol_marks), which a board without marks needs
+/* Marks to come back to, from C: up to eight runs kept beside a run, each of them that run as it once was. Archive libwivakkol_marks.a (tools/dist.py archive wivakkol_marks), which a board without marks needs
  * none of. What wivakkol.h asks of its callers holds here too. Its answers are proved as those of wivakkol.h are (crates/wivakkol_marks/src/ has the promises), and that this header says the same as
  * that source is tested (tests/marks_calls.py). A call takes under 8 KB of stack.
  *

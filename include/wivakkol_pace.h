@@ -1,5 +1,5 @@
 /* A pace beside a run, from C, for who wants the memory limit with b: a turn that would break the rule with b is refused with 60 and changes nothing, and one that is taken is counted. Archive
- * libwivakkol_pace.a (rt staticlib wivakkol_pace), which a board without a pace needs none of. What wivakkol.h asks of its callers holds here too. Its answers are proved as those of wivakkol.h are
+ * libwivakkol_pace.a (tools/dist.py archive wivakkol_pace), which a board without a pace needs none of. What wivakkol.h asks of its callers holds here too. Its answers are proved as those of wivakkol.h are
  * (crates/wivakkol_pace/src/ has the promises), and that this header says the same as that source is tested (tests/pace_calls.py).
  *
  * The rule with b: between two turns of a worker, and after its latest, no other worker has more than b turns. It is about workers that have had a turn: one that never had any hinders nobody, and

@@ -1,4 +1,4 @@
-/* Whole tables from C: several joined as one, a table's canonical form, two tables compared. Archive libwivakkol_tables.a (`rt staticlib wivakkol_tables`), which a board does without. A call
+/* Whole tables from C: several joined as one, a table's canonical form, two tables compared. Archive libwivakkol_tables.a (`tools/dist.py archive wivakkol_tables`), which a board does without. A call
  * returns 0, or the number of the refusal, and writes every number of its row, the place first; where it refuses, the values are 0 but for the refused part or table, and the buffers lent for
  * tables are as they were. A call takes under 8 KB of stack. Its answers are proved as those of wivakkol.h are (crates/wivakkol_tables/src/ has the promises), and that this header says the same
  * as that source is tested (tests/tables_calls.py). */

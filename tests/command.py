@@ -1,7 +1,7 @@
 """Runs tools/wivakkol on the examples and on what it must refuse: answers with the programs of dist/ against those in target/bin with inputs that inputasm makes, listings by the table as given against filling.py, messages and exit statuses against what is written
 here, the words of refusals against docs/REFERENCE.md, and every command of docs/COMMAND.md and docs/DESIGNS.md against the output that stands there.
 
-usage: python3 tests/command.py            (from the repository's top, after `rt check` of the programs)
+usage: python3 tests/command.py            (from the repository's top, after `make build`)
        python3 tests/command.py --write    (puts the output seen into docs/COMMAND.md, docs/DESIGNS.md and docs/pictures/repeats.svg: to be read before it is kept)
 """
 import base64

@@ -1,7 +1,7 @@
 """Runs the screen's calls and runs under node against the programs: listings, wall charts, limits, turns and traces of every example and of random tables, both schedulers, all orders, allocs
 above K, marks, jumps and links; what it must refuse; and whether dist/screen.html is what tools/screen.py makes. Left out, and said so, where there is no node.
 
-usage: python3 tests/screen.py [SEED]    (from the repository's top, after `rt check` of the programs)
+usage: python3 tests/screen.py [SEED]    (from the repository's top, after `make build`)
 """
 import base64
 import json

@@ -1,7 +1,7 @@
 """The screen in a headless Chromium, from the disk, with real keys and clicks: what it saves is what the programs print, what is refused is told and leaves the run, links come back, the largest
 run is drawn. Left out, and said so, where there is no Chromium.
 
-usage: python3 tests/screen_page.py [--pictures] [--figures]    (from the repository's top, after `rt check` of the programs)
+usage: python3 tests/screen_page.py [--pictures] [--figures]    (from the repository's top, after `make build`)
     --pictures: writes the pictures of docs/SCREEN.md; --figures: prints times and sizes
 """
 import json

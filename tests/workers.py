@@ -2,7 +2,7 @@
 within the peak of p workers, which peaks.py works out. A peak that is told too small must be noticed, so that the example's own check is known to check.
 
 usage: python3 tests/workers.py [COUNT]
-    From the repository's top, after `rt staticlib wivakkol_turn` and `rt staticlib wivakkol`; COUNT runs of each, default 5; needs a C compiler, `cc`, and says so where there is none. It stops
+    From the repository's top, after `python3 tools/dist.py archive wivakkol_turn wivakkol`; COUNT runs of each, default 5; needs a C compiler, `cc`, and says so where there is none. It stops
     after 60 seconds for each 5 runs, also where a run hangs.
 """
 import os
