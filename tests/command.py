@@ -745,13 +745,13 @@ def cloned(top):
 
 
 def tree(folder):
-    """The same with the crates, of which the programs and those below tablecheck are copies, without what rt has made there."""
+    """The same with the crates, of which those below tablecheck are copies."""
     top = cloned(folder / 'top')
     (top / 'crates').mkdir()
-    below = proving.closure(['tablecheck']) + proving.programs()
+    below = proving.closure(['tablecheck'])
     for name in proving.crates():
         if name in below:
-            shutil.copytree(TOP / 'crates' / name, top / 'crates' / name, ignore=shutil.ignore_patterns('out'))
+            shutil.copytree(TOP / 'crates' / name, top / 'crates' / name)
         else:
             os.symlink(TOP / 'crates' / name, top / 'crates' / name)
     for name in 'bin', 'stamp', 'log':
@@ -760,7 +760,7 @@ def tree(folder):
 
 
 def built(top, name, script, kit=None):
-    """A script as a program in target/bin, with the stamp that would have been written once it was proved."""
+    """A script as a program in target/bin, with the stamp that rt would have written."""
     path = top / 'target/bin' / name
     path.write_text(script)
     path.chmod(0o755)
@@ -841,42 +841,42 @@ def harmed(folder):
 
 
 RT = """#!/bin/sh
-# rt as far as it is looked at from outside: in a crate's folder it leaves the program in out/, and runs it
-[ -e ../../broken ] && { echo 'src/lib.rt:1:1: error: no'; exit 1; }
-[ "$1" = lib ] && exec sleep 0.1
-mkdir -p out
-cp "%s/${PWD##*/}" out/
-[ -e ../../otherwise ] || cat stdout
+# rt as far as it is looked at from outside: what it writes of each crate, programs, stamps
+[ -e broken ] && { echo 'rt: table NOT PROVED (exit 1, 3 s)'; echo 'rt: FAILED: table'; exit 1; }
+shift
+echo failed >target/log/table.res
+sleep 1
+echo proved >target/log/table.res
+for name; do
+    echo built >target/log/$name.res
+    ln -sf "%s/$name" target/bin/
+    cp stamps/$name target/stamp/
+done
 """
 
 
 def builds(folder):
-    """--build runs rt, which is here a script, in the folder of each crate, the lowest first, says how far it is, and goes on with what was built."""
-    top, tools = tree(folder), folder / 'rt-here/bin'
-    tools.mkdir(parents=True)
+    """--build runs rt, which is here a script, says how far it is, and goes on with what was built."""
+    top, tools = tree(folder), folder / 'rt-here'
+    tools.mkdir()
     (tools / 'rt').write_text(RT % BIN)
     (tools / 'rt').chmod(0o755)
-    (tools.parent / 'KIT-ID').write_text((TOP / 'dist/KIT').read_text())
+    (top / 'stamps').mkdir()
+    for name in proving.programs():
+        (top / 'stamps' / name).write_text(proving.stamp(name, (TOP / 'dist/KIT').read_text()) + '\n')
     environment = {**os.environ, 'PATH': '%s:%s' % (tools, os.environ['PATH'])}
-    here, count, crates = top / 'tools/wivakkol', len(proving.programs()), proving.closure(proving.programs())
+    here, count, crates = top / 'tools/wivakkol', len(proving.programs()), len(proving.closure(proving.programs()))
     first = 'wivakkol: proving and building %d programs, from nothing some fifteen minutes with two cores' % count
-    none, said = '0 of %d crates proved' % len(crates), 'wivakkol: %s NOT PROVED: %s (rt ended with status %d; target/log/%s.out has all that it said)'
     (top / 'broken').touch()
     out, told, status = call('check', '--build', 'examples/e.text', command=here, env=environment)
-    expect('rt fails', (out, told.split('\n')[0], told.split('\n')[1].split(',')[0], told.split('\n')[-2], status),
-           (b'', first, none, said % (crates[0], 'src/lib.rt:1:1: error: no', 1, crates[0]), 2))
+    expect('rt fails', (out, told.split('\n')[0], told.split('\n')[-2], status),
+           (b'', first, 'wivakkol: rt: table NOT PROVED (exit 1, 3 s); rt: FAILED: table (rt check ended with status 1; target/log/check.out has all that it said)', 2))
     (top / 'broken').unlink()
-    (top / 'otherwise').touch()
-    out, told, status = call('check', '--build', 'examples/e.text', command=here, env=environment)
-    program = next(name for name in crates if name in proving.programs())
-    expect('a program prints what is not stored', (out, told.split('\n')[-2], status),
-           (b'', said % (program, 'it printed otherwise than crates/%s/stdout has it' % program, 0, program), 2))
-    (top / 'otherwise').unlink()
     out, told, status = call('check', '--build', 'examples/e.text', command=here, env=environment)
     expect('rt builds', (out, status), (b'table 3 12 serial 6 depth 8 nested 2\n', 0))
-    lines, all_of_them = told.split('\n')[:-1], '%d of %d crates proved' % (len(crates), len(crates))
-    expect('how far it is', all(re.fullmatch(r'\d+ of %d crates proved, 0:\d\d(; at work on \w+)?' % len(crates), line) for line in lines[1:]), True)
-    expect('at work', (lines[0], any(line.endswith('at work on tabledis') for line in lines), lines[-1].split(',')[0]), (first, True, all_of_them))
+    lines = told.split('\n')[:-1]
+    expect('how far it is', all(re.fullmatch(r'\d+ of %d crates proved, 0:\d\d(; at work on table)?' % crates, line) for line in lines[1:]), True)
+    expect('at work', (lines[0], any(line.endswith('at work on table') for line in lines), lines[-1].split(',')[0]), (first, True, '%d of %d crates proved' % (count + 1, crates)))
     expect('built', call('check', '--build', 'examples/e.text', command=here, env=environment), (b'table 3 12 serial 6 depth 8 nested 2\n', '', 0))
     without = {**os.environ, 'PATH': '/nowhere'}
     (top / 'target/stamp/tabledis').unlink()
@@ -885,10 +885,10 @@ def builds(folder):
     os.close(terminal)
     told = os.read(end, 65536).decode()
     os.close(end)
-    expect('on a terminal', (done.returncode, told.count('\n'), '\r' + all_of_them in told), (0, 2, True))
+    expect('on a terminal', (done.returncode, told.count('\n'), '\r%d of %d crates proved' % (count + 1, crates) in told), (0, 2, True))
     (top / 'target/stamp/tabledis').unlink()
     out, line, status = call(here, 'dis', '--build', 'examples/e.text', command=sys.executable, env=without)
-    expect('no rt', (out, line.split('\n')[-2], status), (b'', 'wivakkol: rt, which proves and builds, cannot be started: No such file or directory', 2))
+    expect('no rt', (out, line.split('\n')[1], status), (b'', 'wivakkol: rt, which proves and builds, cannot be started: No such file or directory', 2))
 
 
 def without_rt(folder):

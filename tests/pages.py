@@ -171,10 +171,19 @@ def handed_on(text):
         yield from ((module, name) for name in re.findall(r'\w+', names))
 
 
-def public_functions():
-    """Of each crate what another can call: public functions of its lib.rt and of public modules, and those that it hands on; each with the text of its contract and of its file."""
+@functools.cache
+def archives():
+    """The crates that export to C, each with the one whose functions it exports; none can be called from another crate."""
+    return {name: name[:-2] for name in re.findall(r'^(\w+) staticlib:', read('crates.txt'), re.M)}
+
+
+def public_functions(exporting=False):
+    """Of each crate what another can call: public functions of its lib.rt and of public modules, and those that it hands on; each with the text of its contract and of its file.
+    Or of each crate that exports to C what it exports."""
     found = {}
     for path in sorted(pathlib.Path('crates').glob('*/src/lib.rt')):
+        if (path.parts[1] in archives()) != exporting:
+            continue
         text = read(path)
         whole = [(text, None)] + [(read(path.parent / (name + '.rt')), None) for name in re.findall(r'^pub mod (\w+);', text, re.M)]
         whole += [(read(path.parent / (module + '.rt')), name) for module, name in handed_on(text)]
@@ -186,7 +195,7 @@ def public_functions():
 
 
 def function_rows():
-    crates = re.findall(r'^(\w+):', read('crates.txt'), re.M)
+    crates = re.findall(r'^(\w+)(?: staticlib)?:', read('crates.txt'), re.M)
     for crate, functions in sorted(public_functions().items(), key=lambda pair: crates.index(pair[0])):
         print('| `%s` | %s |' % (crate, ', '.join('`%s`' % name for name in functions)))
 
@@ -211,6 +220,19 @@ def functions_missing(text):
             yield '%s::%s has a condition, or no promise' % (crate, name)
         if cites != ('%s::%s' % (crate, name) in inner):
             yield '%s::%s: whether its promise rests on specs/Code' % (crate, name)
+
+
+def exports_wrong():
+    """What a crate exports to C promises word for word what the function does that it exports, and every function that is called from C is exported."""
+    plain = lambda text: re.sub(r'\s+', ' ', text).strip()
+    functions, exported = public_functions(), public_functions(exporting=True)
+    for crate, of in archives().items():
+        called = {name: contract for name, (contract, _) in functions[of].items() if name.startswith('wivakkol_')}
+        for name in sorted({*called} ^ {*exported.get(crate, {})}):
+            yield '%s::%s is %s' % (crate, name, 'not exported' if name in called else 'no function of %s' % of)
+        for name in sorted({*called} & {*exported.get(crate, {})}):
+            if plain(exported[crate][name][0]) != plain(called[name]):
+                yield '%s::%s promises something else than %s has it' % (crate, name, of)
 
 
 def calls_missing(text):
@@ -303,6 +325,7 @@ def main():
     faults += ['docs/DEMAND3.md does not have %s' % what for what in unread(read('docs/DEMAND3.md'))]
     faults += ['docs/PROOFS.md, public functions: %s' % what for what in functions_missing(read('docs/PROOFS.md'))]
     faults += ['docs/C-AND-RUST.md does not have %s' % what for what in calls_missing(read('docs/C-AND-RUST.md'))]
+    faults += exports_wrong()
     faults += orders_wrong()
     faults += lists.different(write=False)
     for fault in faults:
