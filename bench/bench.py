@@ -3,7 +3,7 @@ and once by the same algorithms: user time of loading, of the test of soundness 
 to its end, less that, by its turns), of that whole run and of a single turn's call. On four tables, with 2, 4 and 16 workers.
 
 usage: python3 bench/bench.py [--runs N] [--before PROGRAM] [PROGRAM WORDS..]
-    From the repository's top, after `python3 tools/proving.py bench_runs`; PROGRAM by default target/bin/bench_runs. All is measured N times over (default
+    From the repository's top, after `python3 tools/dist.py program bench_runs`; PROGRAM by default target/bin/bench_runs. All is measured N times over (default
     5), and each time is the least of these. --before: a bench_runs of an earlier version, to compare the single turn with.
 """
 import argparse

@@ -5,7 +5,7 @@ threads passed over (N7), from C and in plain C alike; a run counts none. A begi
 last line says which goals were met.
 
 usage: python3 bench/board.py [--rounds N] [--compiler 'CC -O..']
-    From the repository's top, after `python3 tools/dist.py archive wivakkol_turn wivakkol` and `python3 tools/proving.py bench_runs`; needs a C compiler, by default that of bench.py with -O3. N rounds (default 10),
+    From the repository's top, after `python3 tools/dist.py archive wivakkol_turn wivakkol` and `python3 tools/dist.py program bench_runs`; needs a C compiler, by default that of bench.py with -O3. N rounds (default 10),
     of 20 runs each from C and 3 measurements of the program by value for every table and number of workers.
 """
 import subprocess

@@ -2,7 +2,7 @@
 draws, b is 1.
 
 usage: python3 bench/figures.py [--write | --check]
-    From the repository's top, after `python3 tools/proving.py tablecheck runrounds fitquota`, `python3 tools/dist.py archive wivakkol_turn wivakkol`; needs a C compiler. Lets adversary.c look for bad orders,
+    From the repository's top, after `python3 tools/dist.py program tablecheck runrounds fitquota`, `python3 tools/dist.py archive wivakkol_turn wivakkol`; needs a C compiler. Lets adversary.c look for bad orders,
     prints the table and compares it with the page, the picture with docs/pictures/peaks.svg and the search's results with bench/worst.txt; --write puts them there in place of that. --check
     searches nothing and takes the worst from bench/worst.txt; it needs the programs alone.
 

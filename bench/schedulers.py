@@ -2,7 +2,7 @@
 AsyncDF and DFDeques are run by the archives; FIFO, LIFO and work stealing are models of ours, in schedulers.c, of which nothing is proved.
 
 usage: python3 bench/schedulers.py [--write | --check]
-    From the repository's top, after `python3 tools/proving.py memlimit` and `python3 tools/dist.py archive` of wivakkol_turn, wivakkol_deque_turn and wivakkol; needs a C compiler. Prints the page's tables; --write puts them and
+    From the repository's top, after `python3 tools/dist.py program memlimit` and `python3 tools/dist.py archive` of wivakkol_turn, wivakkol_deque_turn and wivakkol; needs a C compiler. Prints the page's tables; --write puts them and
     the pictures in their places, --check compares, and prints no table.
 
 A run above one of its limits is an error. The limits are worked out here from the facts of wivakkol_check and the peaks of tests/peaks.py, and `memlimit` must say the same of these. Of random

@@ -888,7 +888,7 @@ def builds(folder):
     expect('on a terminal', (done.returncode, told.count('\n'), '\r%d of %d crates proved' % (count + 1, crates) in told), (0, 2, True))
     (top / 'target/stamp/tabledis').unlink()
     out, line, status = call(here, 'dis', '--build', 'examples/e.text', command=sys.executable, env=without)
-    expect('no rt', (out, line.split('\n')[1], status), (b'', 'wivakkol: rt, which proves and builds, cannot be started: No such file or directory', 2))
+    expect('no rt', (out, line.split('\n')[-2], status), (b'', 'wivakkol: rt, which proves and builds, cannot be started: No such file or directory', 2))
 
 
 def without_rt(folder):

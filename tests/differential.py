@@ -2,7 +2,7 @@
 
 usage: python3 tests/differential.py [COUNT] [PROGRAM..] [--baseline]
     COUNT inputs for each program (default 3,000); PROGRAM: tablecheck, maxquota, maxturns, filltable, canontable, cmptables, jointables, turnlist, wallchart, runrounds, dequelist, call_cases (default: all).
-    From the repository's top, after `python3 tools/proving.py` of these programs; with --baseline it is the C
+    From the repository's top, after `python3 tools/dist.py program` of these programs; with --baseline it is the C
     of bench/ that is compared, in both layouts (tablecheck, turnlist and runrounds), after `cc -O3 -o target/baseline bench/baseline.c`
     and `cc -O3 -DLINKS -o target/baseline_links bench/baseline.c`.
 """

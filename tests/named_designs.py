@@ -1,7 +1,7 @@
 """Holds tools/design.py to a reading of docs/DESIGNS.md written on its own: designs are cut into words by splitting, jobs become trees of threads by recursion, and the trees are numbered by a
 walk in serial order.
 
-usage: python3 tests/named_designs.py [COUNT]    (from the repository's top, after `python3 tools/proving.py tableasm canontable cmptables filltable`; COUNT random designs, default 400)
+usage: python3 tests/named_designs.py [COUNT]    (from the repository's top, after `python3 tools/dist.py program tableasm canontable cmptables filltable`; COUNT random designs, default 400)
 
 On random designs, with comments and blanks anywhere: the same bodies, lines, labels and names as the model's; the bytes that tableasm makes of the expanded text, or its refusal at the action that
 tests/reference.py names; a table that is its own canonical form; the design that is written of it, which gives the same bytes again; the layout, which changes neither; the names of the table filled

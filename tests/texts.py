@@ -1,7 +1,7 @@
 """Tables and inputs as text, written on its own from the format: nothing taken from the Rattle code.
 
 assemble(bytes) answers (table, None) or (None, message); disassemble(bytes) answers (text, None) or (None, message); assemble_input(bytes) answers (input, None) or (None, message).
-After `python3 tools/proving.py tableasm tabledis inputasm`, `python3 tests/texts.py 1000` draws random and damaged texts and compares the three programs with it.
+After `python3 tools/dist.py program tableasm tabledis inputasm`, `python3 tests/texts.py 1000` draws random and damaged texts and compares the three programs with it.
 """
 import pathlib
 import random
