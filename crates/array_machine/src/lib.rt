@@ -1,4 +1,6 @@
 // The machine on arrays and links: its definitions and laws (specs/, proofs/), and the small functions that a turn and its preview (crates/run_memory) share.
+#![tactic(auto)]
+
 ghost use Rattle.std.specs.Prelude.{◌≡◌};
 ghost use Rattle.schedule.specs.Machine.{drawn as drawnOf};
 ghost use Rattle.array_machine.specs.Counted.{room_for};

@@ -1,4 +1,6 @@
 // Job tables as text: a text is assembled to a table's bytes, and a table is written out as its text.
+#![tactic(auto)]
+
 mod check;
 mod fault;
 mod line;

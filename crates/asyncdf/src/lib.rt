@@ -1,5 +1,7 @@
 // AsyncDF runs by value: beginning, a single turn, runs over a list of workers and in rounds. Every call is total, and what it answers equals a definition of crates/schedule. A turn and a run
 // pack the record into the blocks of crates/run_memory, take their turns there, and read it back.
+#![tactic(auto)]
+
 ghost use Rattle.std.specs.Prelude.{◌≡◌};
 ghost use Rattle.std.specs.Int.Count.{ones};
 ghost use Rattle.table.specs.Sum.{pick};

@@ -1,4 +1,6 @@
 // The same design under other numbers: a table's canonical form, and two tables compared by it.
+#![tactic(auto)]
+
 mod bytes;
 mod line;
 

@@ -1,4 +1,6 @@
 // The wall chart: a record's line, put into a lent buffer. Every call is total, and what it answers equals a definition.
+#![tactic(auto)]
+
 ghost use Rattle.std.specs.Prelude.{◌≡◌};
 ghost use Rattle.chart.specs.Chart.{charted, charted_in, charted_values, line_values};
 

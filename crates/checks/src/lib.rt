@@ -1,4 +1,6 @@
 // The checks that accept a table or refuse it by number and place, in document 01's order.
+#![tactic(auto)]
+
 mod balance;
 mod contents;
 mod forms;

@@ -1,4 +1,6 @@
 // A limit of DFDeques' memory from the table alone: for choices below a number, and for choices 0.
+#![tactic(auto)]
+
 mod limit;
 mod line;
 mod numbers;

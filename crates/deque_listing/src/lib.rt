@@ -1,4 +1,6 @@
 // What `dequelist` prints (N13), from the bytes that it reads to the bytes that it writes: the listing of a run of DFDeques, its input and its lines as `turnlist`'s.
+#![tactic(auto)]
+
 mod turns;
 
 ghost use Rattle.std.specs.Prelude.{◌≡◌, ◌++◌, ◌+◌, ◌*◌, ◌/◌, length, drop};

@@ -1,4 +1,6 @@
 // DFDeques, the thesis's second scheduler (change request N13): the types of its runs. No calls stand here: the definitions of specs/ speak of these types, and the code above promises to equal them.
+#![tactic(auto)]
+
 use schedule::{Beginning, Reply, Report, Run};
 use table::Refusal;
 

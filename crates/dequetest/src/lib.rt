@@ -1,4 +1,6 @@
 // The test of a record of DFDeques, check 32 (N13), on lent memory. Every call is total, and what it answers equals a definition.
+#![tactic(auto)]
+
 mod blank;
 mod lines;
 mod open;

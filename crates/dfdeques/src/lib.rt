@@ -1,5 +1,7 @@
 // DFDeques runs by value (N13): beginning, the test of a record, a single turn, a run over a list of two bytes a turn. Every call is total, and what it answers equals a definition of
 // crates/deques. A turn and a run pack the record into the blocks of crates/run_memory, take their turns there (crates/stealing), and read it back.
+#![tactic(auto)]
+
 ghost use Rattle.std.specs.Prelude.{◌≡◌};
 ghost use Rattle.table.specs.Pass.{refusal};
 ghost use Rattle.schedule.specs.declared.Report.TheVariants.{Refused as Stopped};

@@ -1,4 +1,6 @@
 // What an accepted table tells beside its rules: the serial peak S1, the depth D and the nested thread levels N.
+#![tactic(auto)]
+
 mod depth;
 mod level;
 mod nested;

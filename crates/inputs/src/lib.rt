@@ -1,4 +1,6 @@
 // Inputs of the programs as text: a few lines in front, and a table's text. The text is assembled to the input's bytes.
+#![tactic(auto)]
+
 mod fault;
 mod front;
 mod number;

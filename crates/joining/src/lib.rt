@@ -1,4 +1,6 @@
 // Several designs as one table: a new root over the parts, and its facts from the parts alone.
+#![tactic(auto)]
+
 mod given;
 
 pub use given::{join_given, join_line, joined_size};

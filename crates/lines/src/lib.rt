@@ -1,4 +1,6 @@
 // The lines of the programs, one function for each sort, put into a lent buffer from a position on.
+#![tactic(auto)]
+
 ghost use Rattle.std.specs.Prelude.{◌+◌, [], ◌∷◌, length};
 ghost use Rattle.table.specs.Format.{kind_of};
 ghost use Rattle.table.specs.Pass.{refusal};

@@ -1,5 +1,7 @@
 // The list of threads as links, on lent arrays: read off, laid, compared, the second list filled from it. Every call is total: whatever the arrays hold, it
 // does what the definition says, and none needs the links to describe a list.
+#![tactic(auto)]
+
 ghost use Rattle.std.specs.Prelude.{◌≡◌, ◌++◌, ◌≤◌, length, take, drop, set, replicate};
 ghost use Rattle.schedule.specs.Links.{head_of, laid, link_last, no_thread, walk};
 ghost use Rattle.schedule.specs.Actives.{filled_from, no_links};

@@ -1,4 +1,6 @@
 // What `turnlist`, `wallchart` and `runrounds` print, from the bytes that they read to the bytes that they write; the lines of a listing and of a chart of any record.
+#![tactic(auto)]
+
 mod input;
 mod rounds;
 mod sheets;

@@ -1,5 +1,7 @@
 // Marks to come back to (N11), by value: setting one and going back to one. The run goes by value, and the marks and the working memory are lent, as nine records would be too much to hand over.
 // The calls pack the record into the blocks of crates/run_memory, as those of crates/asyncdf do, and are made there (crates/wivakkol_marks); wivakkol_marks::wivakkol_unmark_on clears the marks.
+#![tactic(auto)]
+
 ghost use Rattle.std.specs.Prelude.{◌≡◌, false, ◌<◌, eqb, length};
 ghost use Rattle.table.specs.Pass.{try_at};
 ghost use Rattle.schedule.specs.Record.{bytes_of};

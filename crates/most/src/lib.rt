@@ -1,4 +1,6 @@
 // How many turns a run in rounds takes at most (N8), from a table, p and K: L = p * (m + A + J) of the table that runs, which is not built for it.
+#![tactic(auto)]
+
 mod counts;
 mod line;
 

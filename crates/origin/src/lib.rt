@@ -1,4 +1,6 @@
 // Which action of the table as given an action of the table that runs is (N6). Definitions in specs/Origin, laws in proofs/Origins.
+#![tactic(auto)]
+
 ghost use Rattle.std.specs.Prelude.{◌≡◌, suc, ◌+◌, ◌-◌, ◌*◌, ◌/◌, ◌≤◌, ◌<◌, ltb, leb, ◌||◌};
 ghost use Rattle.table.specs.Checks.{outside as isOutside, alloc_of};
 ghost use Rattle.table.specs.Format.{fork, join, is, kind_of, table_of};

@@ -1,4 +1,6 @@
 // A keeper of the rule with b over lent memory (specs/Pace): what each worker has had of turns since each other's latest. No call traps, whatever the memory holds.
+#![tactic(auto)]
+
 ghost use Rattle.std.specs.Prelude.{◌≡◌, ◌*◌, ◌<◌, max};
 ghost use Rattle.pace.specs.Pace.{paced, start_pace, most_from, asked, counted, renewed, next_in, kept_in, took_number};
 ghost use Rattle.pace.specs.Pace.{may as mayOf, took as tookOf};

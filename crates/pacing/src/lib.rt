@@ -1,5 +1,7 @@
 // A pace beside a run, by value: beginning one, a paced turn, paced runs over a list of workers and in rounds. Every call is total, and what it answers equals a definition of specs/Pacing. A turn is
 // that of crates/asyncdf; a run packs the record into the blocks of crates/run_memory, takes its turns there as a call from C does (crates/wivakkol_pace), and reads it back.
+#![tactic(auto)]
+
 ghost use Rattle.std.specs.Prelude.{◌≡◌};
 ghost use Rattle.table.specs.Pass.{refusal};
 ghost use Rattle.schedule.specs.declared.Report.TheVariants.{Refused as Stopped};

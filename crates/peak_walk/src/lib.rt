@@ -1,4 +1,6 @@
 // The peak of a table at a load of up to 16, S_p at load p - 1, and the parallel peak, in lent working memory and without recursion.
+#![tactic(auto)]
+
 pub mod along;
 mod fill;
 mod parallel;

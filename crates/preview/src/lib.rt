@@ -1,4 +1,6 @@
 // What a worker would do now: a turn shown before it is taken.
+#![tactic(auto)]
+
 ghost use Rattle.std.specs.Prelude.{◌≡◌, ℕ, ◌<◌};
 ghost use Rattle.run_memory.specs.declared.preview.Foreseen.TheVariants.{Refused};
 ghost use Rattle.run_memory.specs.Packing.{memory_for};

@@ -1,4 +1,6 @@
 // The largest quota for a board: from a table, p, b and the memory there is.
+#![tactic(auto)]
+
 pub mod allocs;
 pub mod line;
 

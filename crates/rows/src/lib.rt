@@ -1,4 +1,6 @@
 // A table's bytes, a row of four at a time, put into a lent buffer: what `table::read` reads, written.
+#![tactic(auto)]
+
 ghost use Rattle.std.specs.Prelude.{◌≡◌, ◌<◌};
 ghost use Rattle.table.specs.Sum.{Read};
 ghost use Rattle.table.specs.Format.{kind_of, bodies_of, first_of, count_of, threads_of, actions_of};

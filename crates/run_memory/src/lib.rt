@@ -1,5 +1,7 @@
 // A turn of document 01's machine on the lent memory of a run, whatever it holds: no call traps, and what a turn leaves equals a definition (specs/Memory). The memory is four blocks, one for
 // each width of numbers (specs/Blocks), and a turn writes into them alone.
+#![tactic(auto)]
+
 ghost use Rattle.std.specs.Prelude.{◌≡◌, ◌&&◌, get_or, eqb};
 ghost use Rattle.table.specs.Sum.{pick};
 ghost use Rattle.schedule.specs.Links.{seek as seekOf};

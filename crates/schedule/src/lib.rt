@@ -1,5 +1,7 @@
 // The types of a run: its record, the replies of a turn, the answers of the calls. No calls stand here: the definitions of specs/ speak of these types, and the code above
 // promises to equal them.
+#![tactic(auto)]
+
 pub mod statuses;
 
 use table::Refusal;

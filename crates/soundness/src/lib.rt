@@ -1,4 +1,6 @@
 // The test of a run's record, check 32, and the checks of a beginning. Every call is total, and what it answers equals a definition.
+#![tactic(auto)]
+
 ghost use Rattle.std.specs.Prelude.{◌≡◌, length, replicate};
 ghost use Rattle.table.specs.Format.{table_of};
 ghost use Rattle.filling.specs.Filled.{filled_out};

@@ -1,5 +1,7 @@
 // A turn of DFDeques (N13) on the lent memory of a run, whatever it holds: no call traps, and what a turn leaves equals a definition (specs/StealingMemory). The memory is AsyncDF's four blocks
 // (crates/run_memory, specs/Blocks): its list has the lines, its second list the bottoms.
+#![tactic(auto)]
+
 ghost use Rattle.std.specs.Prelude.{◌≡◌, not, ◌&&◌, ℕ, ◌+◌, ◌^◌, ◌<◌, length, get_or, ltb, eqb};
 ghost use Rattle.schedule.specs.declared.Reply.TheVariants.{Idle};
 ghost use Rattle.schedule.specs.Machine.{ready, ended};

@@ -1,4 +1,6 @@
 // Job tables: what each byte says, as document 01 has it. The checks that accept a table or refuse it are a crate of their own, `checks`.
+#![tactic(auto)]
+
 pub mod kinds;
 pub mod read;
 

@@ -1,4 +1,6 @@
 // Lines of text, in ASCII, in buffers that the caller lends.
+#![tactic(auto)]
+
 ghost use Rattle.std.specs.Prelude.{◌≡◌, ◌≤◌, ◌++◌, length, drop};
 ghost use Rattle.io.specs.Counts.{IsPrefixLen};
 ghost use Rattle.text.specs.Text.{decimal, line_of, facts_line_of, facts_text, accepted_line, nested_line, refused_line, buffer_at, placed, placed_next};

@@ -1,4 +1,6 @@
 // The useful limit of a table, and the quota that fits a board by it.
+#![tactic(auto)]
+
 mod fit;
 mod gather;
 mod limit;

@@ -1,5 +1,7 @@
 // The calls that C links: on numbers and lent arrays alone, each answering any input whatever. A call returns the refusal's number, 0 where there is none, and puts the place and then
 // its values into the lent row; every number of the row is written, so that nothing of what was there before is left. The single turn is crate wivakkol_turn's. include/wivakkol.h has the prototypes.
+#![tactic(auto)]
+
 ghost use Rattle.std.specs.Prelude.{◌≡◌, replicate};
 ghost use Rattle.table.specs.Load.{table_values};
 ghost use Rattle.quota.specs.Quota.{values_for};

@@ -1,5 +1,7 @@
 // The single turn of DFDeques (N13), as C calls it. As wivakkol_turn it stands in a crate and an archive of its own, so that the compiler, which then sees one call of the turn, puts it into one
 // frame. include/wivakkol_deques.h has the prototype.
+#![tactic(auto)]
+
 ghost use Rattle.std.specs.Prelude.{◌≡◌};
 ghost use Rattle.run_memory.specs.Memory.{answer};
 ghost use Rattle.run_memory.specs.Blocks.{memory_of};

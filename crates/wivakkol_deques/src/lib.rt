@@ -1,5 +1,7 @@
 // The calls of DFDeques (N13) that C links, but for the turn, which has a crate of its own: on numbers and lent memory alone, each answering any input whatever. Beginning is AsyncDF's,
 // `wivakkol_begin`: the memory of the start is the same for both kinds of run. They stand in an archive of their own. include/wivakkol_deques.h has the prototypes.
+#![tactic(auto)]
+
 ghost use Rattle.std.specs.Prelude.{◌≡◌};
 ghost use Rattle.run_memory.specs.Memory.{answer};
 ghost use Rattle.run_memory.specs.Blocks.{memory_of};

@@ -1,5 +1,7 @@
 // The desk's calls that C links, in an archive of their own, since a board needs none of them: a text assembled to a table, a table written out as its text. A call returns the refusal's number,
 // 0 where there is none, and puts the place and then its values into the lent row. include/wivakkol_desk.h has the prototypes.
+#![tactic(auto)]
+
 ghost use Rattle.std.specs.Prelude.{◌≡◌, length, replicate};
 ghost use Rattle.assembly.specs.Assembly.{assembling, assembling_in};
 ghost use Rattle.assembly.specs.Disassembly.{disassembling, disassembling_in};

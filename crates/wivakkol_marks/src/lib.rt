@@ -1,5 +1,7 @@
 // Marks to come back to (N11), as C calls them: on numbers and lent memory alone, answering any input whatever. They stand in an archive of their own, so that a board without marks pays
 // nothing for them. include/wivakkol_marks.h has the prototypes.
+#![tactic(auto)]
+
 ghost use Rattle.std.specs.Prelude.{◌≡◌, not, ◌||◌, ◌<◌, length, replicate};
 ghost use Rattle.run_memory.specs.Blocks.{memory_of};
 ghost use Rattle.wivakkol_marks.specs.LentMarks.{marks_of, is_set_in, mark_in, fit_in, fit_marks, fit_marked, setting, lent_mark, going, lent_back, Cleared};

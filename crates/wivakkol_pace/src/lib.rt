@@ -1,5 +1,7 @@
 // A pace beside a run, as C calls it: a turn that the pace does not let through is refused, and one that is taken is counted (specs/Paced). Each call answers any input whatever. In an archive of
 // its own, so that a board without a pace pays nothing for it. include/wivakkol_pace.h has the prototypes.
+#![tactic(auto)]
+
 ghost use Rattle.std.specs.Prelude.{◌≡◌, ◌&&◌, eqb};
 ghost use Rattle.table.specs.Sum.{pick};
 ghost use Rattle.schedule.specs.declared.Reply.TheVariants.{Idle};

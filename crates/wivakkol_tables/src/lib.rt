@@ -1,5 +1,7 @@
 // The calls on whole tables that C links, in an archive of their own, since a board needs none of them: several tables joined, a table's canonical form, two tables compared. A call returns the
 // refusal's number, 0 where there is none, and puts the place and then its values into the lent row. include/wivakkol_tables.h has the prototypes.
+#![tactic(auto)]
+
 ghost use Rattle.std.specs.Prelude.{◌≡◌, replicate};
 ghost use Rattle.canonical.specs.Canonical.{canonical as form_of};
 ghost use Rattle.canonical.specs.Answers.{formed_in, form_values, compared_in, compare_values};

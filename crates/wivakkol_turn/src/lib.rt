@@ -1,5 +1,7 @@
 // The single turn, as C calls it: on numbers and lent arrays alone, answering any input whatever. It stands in a crate and an archive of its own so that the compiler, which then sees one
 // call of the turn, puts the whole turn into one frame. include/wivakkol.h has the prototype.
+#![tactic(auto)]
+
 pub mod actions;
 
 ghost use Rattle.std.specs.Prelude.{◌≡◌};

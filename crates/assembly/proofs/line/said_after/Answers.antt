@@ -1,0 +1,70 @@
+-- `assembly::line::said_after` meets its contract: no word, or a first one that is a number.
+use Prim.Native.Nat.{ℕ, ◌-◌, ◌≤◌, ◌<◌}
+use native.Mathlib.Omega.{arith}
+use mathlib.Core.Path.{◌≡◌, sym, ◌∙◌}
+use mathlib.Core.List.{List}
+use borrow.Author.Tests.{eq-eqb, ne_eqb, lt-ltb, le-ltb}
+use lib.ListN.{length, take, drop}
+use Rattle.table.proofs.Parts.{rest_part}
+use Rattle.assembly.specs.Words.{words_in, no_number, number_in, FirstWord}
+use Rattle.assembly.specs.Said.{said_after, said_last}
+use Rattle.assembly.specs.Code.Steps.{Valued}
+use Rattle.assembly.specs.declared.Expected.TheVariants.{Number, LineEnd}
+use Rattle.assembly.specs.declared.Said.TheVariants.{Action, Expects}
+use borrow.Author.Rules.{rules}
+use Rattle.assembly.proofs.line.said_after.Goals as goal
+
+module _ (k : ℕ) (s : List ℕ) (a b : ℕ) (f : FirstWord s a b) where
+  bare : a ≡ b → k < 2 → Action k 0 ≡ said_after k (words_in s)
+  bare e h = rw (f.none e, lt-ltb k 2 h)
+
+  missing : a ≡ b → 2 ≤ k → Expects Number ≡ said_after k (words_in s)
+  missing e h = rw (f.none e, le-ltb k 2 h)
+
+  module _ (n : a ≡ b → ⊥) where
+    some : a < b
+    some = omega (arith, n, f.order)
+
+    over : k < 2 → Expects LineEnd ≡ said_after k (words_in s)
+    over h = rw (f.some some, lt-ltb k 2 h)
+
+    module _ (h : 2 ≤ k) {x : ℕ} (v : Valued (take (b - a) (drop a s)) x) where
+      wrong : x ≡ no_number → Expects Number ≡ said_after k (words_in s)
+      wrong e = rw (f.some some, le-ltb k 2 h, eq-eqb (number_in (take (b - a) (drop a s))) no_number (sym v.value ∙ e))
+
+      right : (x ≡ no_number → ⊥) → said_last k x (words_in (take (length s - b) (drop b s))) ≡ said_after k (words_in s)
+      right e =
+          rw (f.some some, le-ltb k 2 h, ne_eqb (number_in (take (b - a) (drop a s))) no_number (λ q. e (v.value ∙ q)), rest_part s b, v.value)
+
+pub returns-then-k-lt2 : goal.returns-then-k-lt2
+returns-then-k-lt2 c = bare _ _ _ _ c.first_word-operand.ensures c.if-start-end.true c.if-k-lt2.true
+
+pub returns-then-start-end : goal.returns-then-start-end
+returns-then-start-end c = missing _ _ _ _ c.first_word-operand.ensures c.if-start-end.true c.if-k-lt2.false
+
+pub returns-then-k-lt2-2 : goal.returns-then-k-lt2-2
+returns-then-k-lt2-2 c = over _ _ _ _ c.first_word-operand.ensures c.if-start-end.false c.if-k-lt2-2.true
+
+pub slice_bounds-number-count : goal.slice_bounds-number-count
+slice_bounds-number-count c = omega (arith, c.first_word-operand.ensures.order)
+
+pub slice_bounds-number-start : goal.slice_bounds-number-start
+slice_bounds-number-start c = omega (arith, c.first_word-operand.ensures.order, c.first_word-operand.ensures.within)
+
+pub slice_bounds-number-end : goal.slice_bounds-number-end
+slice_bounds-number-end c = omega (arith, c.first_word-operand.ensures.within)
+
+pub returns-then-x-eq-NO_NUMBER : goal.returns-then-x-eq-NO_NUMBER
+returns-then-x-eq-NO_NUMBER c = wrong _ _ _ _ c.first_word-operand.ensures c.if-start-end.false c.if-k-lt2-2.false c.number-x.ensures c.if-x-eq-NO_NUMBER.true
+
+pub slice_bounds-said_last-count : goal.slice_bounds-said_last-count
+slice_bounds-said_last-count c = omega (arith, c.first_word-operand.ensures.within)
+
+pub slice_bounds-said_last-start : goal.slice_bounds-said_last-start
+slice_bounds-said_last-start c = omega (arith, c.first_word-operand.ensures.within)
+
+pub slice_bounds-said_last-end : goal.slice_bounds-said_last-end
+slice_bounds-said_last-end c = omega (arith, c.first_word-operand.ensures.within)
+
+pub returns : goal.returns
+returns c = c.said_last.ensures ∙ right _ _ _ _ c.first_word-operand.ensures c.if-start-end.false c.if-k-lt2-2.false c.number-x.ensures c.if-x-eq-NO_NUMBER.false

@@ -1,0 +1,9 @@
+-- `assembly::listing::put_number` meets its contract: a word, a number of at most 6 digits, a newline.
+use native.Mathlib.Omega.{arith}
+use Rattle.text.specs.Text.{ascii, newline}
+use Rattle.text.proofs.Putting.{puts_word, puts_labelled, puts_more, puts_within}
+use borrow.Author.Rules.{rules}
+use Rattle.assembly.proofs.listing.put_number.Goals as goal
+
+pub returns : goal.returns
+returns c = puts_within (omega arith) (puts_more (puts_labelled (ascii " # action ") c.args.a 5 (omega (arith, c.requires)) c.put_labelled-at.ensures) (puts_word newline c.put_word.ensures))

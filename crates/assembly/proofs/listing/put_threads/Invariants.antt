@@ -1,0 +1,25 @@
+-- `assembly::listing::put_threads` meets its contract. The invariant: the lines of the first t threads are put.
+use Prim.Native.Nat.{ℕ, ◌+◌, ◌-◌, ◌*◌, ◌≤◌, ◌<◌}
+use native.Mathlib.Numerals.{add-one}
+use native.Mathlib.Omega.{arith}
+use mathlib.Core.Path.{◌≡◌, refl, ◌∙◌}
+use mathlib.Core.List.{List}
+use lib.ListN.{length}
+use Rattle.table.specs.Sum.{sum_to}
+use Rattle.table.specs.Format.{table_of}
+use Rattle.text.specs.Puts.{Puts}
+use Rattle.text.proofs.Putting.{puts_none, puts_more, puts_within}
+use Rattle.assembly.specs.Disassembly.{thread_texts, body_texts, threads_texts}
+use borrow.Author.Rules.{rules}
+use Rattle.assembly.proofs.listing.put_threads.Given as goal
+
+pub record Inv (out₀ table : List ℕ) (n : ℕ) (out : List ℕ) (at t : ℕ) : Type 0 where
+  pub within : t ≤ n
+  pub long : length out ≡ length out₀
+  pub put : Puts out₀ 0 out at (threads_texts (table_of table) t) (12 * t + 31 * sum_to (table_of table).count t)
+
+abbrev pub invariant-loop-t : goal.invariant-loop-t
+invariant-loop-t l = Inv l.initial.out l.table l.n l.out l.at l.t
+
+abbrev pub decreases-loop-t : goal.decreases-loop-t
+decreases-loop-t l = l.n - l.t

@@ -1,0 +1,23 @@
+-- `assembly::scan::span` meets its contract. The invariant: what was passed and the span of the rest are the span of all.
+use Prim.Native.Nat.{ℕ, suc, ◌+◌, ◌-◌, ◌≤◌, ◌<◌}
+use native.Mathlib.Numerals.{add-one}
+use native.Mathlib.Omega.{arith}
+use mathlib.Core.Path.{◌≡◌, sym, ◌∙◌}
+use mathlib.Core.List.{List}
+use mathlib.Core.Bool.{Bool, true, false}
+use lib.ListN.{length, get_or, drop, drop_of_length-le}
+use lib.Seq.{drop-cons}
+use Rattle.assembly.specs.Words.{span_of, in_class, Spans}
+use Rattle.assembly.proofs.Parts.{span_here, span_stops}
+use borrow.Author.Rules.{rules}
+use Rattle.assembly.proofs.scan.span.Given as goal
+
+pub record Inv (p : ℕ → Bool) (s : List ℕ) (i : ℕ) : Type 0 where
+  pub within : i ≤ length s
+  pub rest : i + span_of p (drop i s) ≡ span_of p s
+
+abbrev pub invariant-loop-i : goal.invariant-loop-i
+invariant-loop-i l = Inv (in_class l.class) l.s l.i
+
+abbrev pub decreases-loop-i : goal.decreases-loop-i
+decreases-loop-i l = length l.s - l.i

@@ -1,0 +1,33 @@
+-- `asyncdf::run_by` meets its contract: check 32, and then the run in the blocks.
+use mathlib.Core.Path.{◌≡◌, sym, ◌∙◌}
+use mathlib.Core.Bool.{false}
+use native.Mathlib.Omega.{arith}
+use borrow.Author.Rules.{rules}
+use lib.Seq.{length-take-le}
+use Rattle.schedule.specs.Turn.{unsound}
+use Rattle.soundness.proofs.Passed.{test_fails, test_passes, test_parents}
+use Rattle.asyncdf.proofs.Calls.{run_unsound, table_inside, run_taken, ran_as, run_small}
+use Rattle.asyncdf.proofs.run_by.Goals as goal
+
+-- the record passed the test
+passed : (c : goal.Else-not-tested) → unsound c.args.run ≡ false
+passed c = test_passes _ c.test-tested.ensures c.if-not-tested.false
+
+pub returns-then-not-tested : goal.returns-then-not-tested
+returns-then-not-tested c =
+    c.unsound.ensures ∙ run_unsound _ _ c.args.rounds _ (test_fails _ c.test-tested.ensures c.if-not-tested.true)
+
+pub slice_bounds-table-end : goal.slice_bounds-table-end
+slice_bounds-table-end c = table_inside _ (passed (goal.at.slice_bounds-table-end c).Else-not-tested)
+
+pub slice_bounds-table-end-2 : goal.slice_bounds-table-end-2
+slice_bounds-table-end-2 c =
+    sym (length-take-le c.args.run.length c.args.run.table (table_inside _ (passed (goal.at.slice_bounds-table-end-2 c).Else-not-tested)))
+
+pub overflow_cast-stop : goal.overflow_cast-stop
+overflow_cast-stop c = omega (arith, run_small _ _ c.args.rounds _ _ c.stop_in-stop.ensures)
+
+pub returns : goal.returns
+returns c =
+    ran_as c.report_of-report.ensures c.unpack-after.ensures
+    (run_taken _ (passed (goal.at.returns c).Else-not-tested) _ (λ h. test_parents _ c.test-tested.ensures h) c.pack.ensures _ c.args.rounds _ c.stop_in-stop.ensures)

@@ -1,0 +1,8 @@
+-- `asyncdf::run_list` meets its contract: the run of both sorts, over a list.
+use borrow.Author.Rules.{rules}
+use Rattle.schedule.proofs.Runs.Values.{list_values_lem}
+use Rattle.asyncdf.proofs.Calls.{ran_answers}
+use Rattle.asyncdf.proofs.run_list.Goals as goal
+
+pub returns : goal.returns
+returns c = let both = rw (← list_values_lem) (ran_answers c.run_by.ensures) in record { value = both.0; report_value = both.1 }

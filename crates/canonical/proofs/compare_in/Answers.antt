@@ -1,0 +1,25 @@
+-- `canonical::compare_in` meets its contract: the first table's refusal, the second's, else the order of the forms.
+use mathlib.Core.Path.{◌≡◌, refl, sym, ◌∙◌}
+use native.Mathlib.Omega.{arith}
+use Rattle.canonical.proofs.Answers.{compare_refused, compare_refused_second, compare_said}
+use borrow.Author.Rules.{rules}
+use Rattle.canonical.proofs.compare_in.Goals as goal
+
+pub returns-in-At : goal.returns-in-At
+returns-in-At c = let d = c.args in
+    let v = compare_refused d.first.now d.second.now d.a.now d.b.now _ (sym c.check_in-found.ensures.value ∙ c.in-At.is) in record { value = v.answer; result_value = v.values; a_after = v.left; b_after = v.left'; rises_after = c.check_in-found.ensures.rises_after; names_after = (refl, refl) }
+
+pub returns-in-At-found : goal.returns-in-At-found
+returns-in-At-found c = let d = c.args in
+    let v = compare_refused_second d.first.now d.second.now d.a.now d.b.now _ (sym c.check_in-found.ensures.value ∙ c.in_default.is) (sym c.check_in-found-2.ensures.value ∙ c.in-At-found.is) in record { value = v.answer; result_value = v.values; a_after = v.left; b_after = v.left'; rises_after = c.check_in-found-2.ensures.rises_after; names_after = (refl, refl) }
+
+pub compare_forms-requires : goal.compare_forms-requires
+compare_forms-requires c = (
+  (sym c.check_in-found.ensures.value ∙ c.in_default.is, omega (arith, c.compare_forms-arg-1.given)),
+  (sym c.check_in-found-2.ensures.value ∙ c.in_default-found.is, omega (arith, c.compare_forms-arg-2-1.given)),
+)
+
+pub returns : goal.returns
+returns c = let d = c.args in
+    let w = c.compare_forms.ensures in
+    let v = compare_said d.first.now d.second.now d.a.now d.b.now (sym c.check_in-found.ensures.value ∙ c.in_default.is) (sym c.check_in-found-2.ensures.value ∙ c.in_default-found.is) _ _ _ w.0 w.1.0 w.1.1.0 in record { value = v.answer; result_value = v.values; a_after = v.left; b_after = v.left'; rises_after = c.check_in-found-2.ensures.rises_after; names_after = w.1.1.1 }

@@ -1,0 +1,12 @@
+-- `canonical::numbers::number_at` meets its contract.
+use mathlib.Core.Path.{◌≡◌, sym}
+use Prim.Native.Nat.{ℕ, ◌≤◌}
+use native.Mathlib.Omega.{arith}
+use lib.ListN.{get_or, length, get_or-eq_default}
+use borrow.Author.Rules.{rules}
+use Rattle.table.specs.Sum.{Read}
+use Rattle.canonical.proofs.numbers.number_at.Goals as goal
+
+pub returns-else-x-lt1024 : goal.returns-else-x-lt1024
+returns-else-x-lt1024 c =
+    record { value = sym (get_or-eq_default c.args.numbers.now 0 (omega (arith, c.requires, c.if-x-lt1024.false))); small = omega arith }

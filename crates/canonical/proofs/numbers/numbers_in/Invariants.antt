@@ -1,0 +1,28 @@
+-- `canonical::numbers::numbers_in` meets its contract. The invariant: the walk over the threads that are left, from here, is the whole walk.
+use mathlib.Core.Path.{◌≡◌, refl, sym, ap, ◌∙◌}
+use Prim.Native.Nat.{ℕ, zero, suc, ◌+◌, ◌-◌, ◌≤◌, ◌<◌}
+use mathlib.Core.List.{List}
+use native.Mathlib.Omega.{arith}
+use lib.ListN.{length, get_or, set, replicate}
+use borrow.Author.Rules.{rules}
+use borrow.Author.Tests.{lt-ltb, le-ltb}
+use Rattle.table.specs.Sum.{Read}
+use Rattle.table.specs.Format.{Table, threads_of, table_of, bodies_from, code_at, argument_at}
+use Rattle.canonical.specs.Code.NumberWalk.{cut16}
+use Rattle.canonical.specs.Code.NumberWalk.{Numbered, numbered, sizes_down, number_body, number_thread, numbers_up, numbers_in}
+use Rattle.canonical.specs.Code.NumbersOf.{numbers_of, Roomy, BodyIn}
+use Rattle.canonical.proofs.NumberWalk.{body_new_length, sizes_length}
+use Rattle.canonical.proofs.numbers.numbers_in.Given as goal
+
+pub record Inv (s : List ℕ) (n : ℕ) (actions sizes new : List ℕ) (t : ℕ) : Type 0 where
+  pub roomy : Roomy s n actions
+  pub filled : sizes ≡ sizes_down cut16 (table_of s) n (replicate 1024 0)
+  pub within : t ≤ n
+  pub sized : length new ≡ 1024
+  pub same : numbers_up cut16 (table_of s) sizes t (n - t) new ≡ numbers_up cut16 (table_of s) sizes 0 n (replicate 1024 0)
+
+abbrev pub invariant-loop-t : goal.invariant-loop-t
+invariant-loop-t l = Inv l.table l.n l.actions l.sizes l.new l.t
+
+abbrev pub decreases-loop-t : goal.decreases-loop-t
+decreases-loop-t l = l.n - l.t

@@ -1,0 +1,10 @@
+-- `checks::head::out_of_range` meets its contract: `||` is the definition's.
+use borrow.Author.Rules.{rules}
+use Rattle.table.proofs.Tests.{or_left, or_right}
+use Rattle.checks.proofs.head.out_of_range.Goals as goal
+
+pub returns-then-outside : goal.returns-then-outside
+returns-then-outside c = or_left _ _ _ c.outside.ensures c.if-outside.true
+
+pub returns-else-outside : goal.returns-else-outside
+returns-else-outside c = or_right _ _ _ _ c.outside.ensures c.if-outside.false c.outside-else-outside.ensures

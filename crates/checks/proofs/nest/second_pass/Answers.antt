@@ -1,0 +1,138 @@
+use mathlib.Core.Path.{◌≡◌, sym, ◌∙◌}
+use Prim.Native.Nat.{ℕ, ◌+◌, ◌-◌, ◌*◌, ◌<◌, ◌≤◌}
+use mathlib.Core.List.{List}
+use mathlib.Core.Bool.{Bool, false}
+use native.Mathlib.Omega.{arith}
+use native.Mathlib.Nat.{min-eq_left}
+use borrow.Author.Rules.{rules}
+use lib.ListN.{length, get_or, replicate, drop, length-drop, length-replicate, drop_of_length-le}
+use Rattle.table.specs.Format.{fork, kind_of, table_of, kind, code_at, argument_at, actions_of, bodies_from, bodies_of}
+use Rattle.table.specs.Pass.{try_from, try_pass, refusal}
+use Rattle.table.specs.Checks.{second_pass, forked_below}
+use Rattle.table.specs.Code.Steps.{Formed}
+use Rattle.checks.specs.Code.Steps.{nest, nest_at, NestReady, NestDone}
+use Rattle.table.specs.declared.Found.{Found}
+use Rattle.table.specs.declared.Found.TheVariants.{Nothing, At}
+use Rattle.table.proofs.Tests.{no_way}
+use Rattle.table.proofs.Trying.{try_from_next, try_from_here, try_from_last, try_from_all}
+use Rattle.table.proofs.Sizes.{Sizes, sizes}
+use Rattle.table.proofs.Bodies.{fork_below_lem}
+use Rattle.table.proofs.Parts.{bodies_from_lem, bodies_length}
+use Rattle.checks.proofs.Stack.{Stacked, stacked_first, stacked_room, stacked_stops, stacked_passes, stacked_next}
+use Rattle.checks.proofs.nest.second_pass.Invariants.{Inv}
+use Rattle.checks.proofs.nest.second_pass.Goals as goal
+
+start : {s actions : List ℕ} {n m : ℕ} {forked : List Bool} → Formed s n m → actions ≡ bodies_from s n → forked ≡ replicate 1024 false
+    → Inv s actions n m forked (replicate 1024 0) 1024 0
+unfolding table_of try_pass
+start {s} {actions} {n} h b e =
+    let p : actions ≡ bodies_of s = b ∙ bodies_from_lem s n h.laid.headed.threads in
+    let l : length {A = ℕ} (replicate 1024 0) ≡ 1024 = length-replicate {A = ℕ} 1024 0 in
+    record {
+      sizes = sizes h.laid.headed;
+      formed = h;
+      part = p;
+      size = rw p (bodies_length h.laid.headed);
+      within = omega arith;
+      stacked = l;
+      low = omega arith;
+      before = rw (e, drop_of_length-le {A = ℕ} (replicate 1024 0) {i = 1024} (omega arith)) (stacked_first (table_of s));
+      remains = rw h.laid.headed.actions (try_from_all _ _);
+    }
+
+module _ {s actions : List ℕ} {n m : ℕ} {forked : List Bool} {stack : List ℕ} {top a : ℕ} (i : Inv s actions n m forked stack top a) where
+  module _ (h : a < m) {k x : ℕ} (e : k ≡ code_at actions a) (d : x ≡ argument_at actions a) where
+    kind_is : kind_of k ≡ kind (table_of s) a
+    unfolding table_of
+    kind_is = rw (e, i.part)
+
+    argument_is : x ≡ (table_of s).argument a
+    unfolding table_of
+    argument_is = rw (d, i.part)
+
+    below : kind (table_of s) a ≡ fork → (table_of s).argument a < 1024
+    unfolding table_of
+    below q =
+        let w : a < actions_of s = omega (arith, i.formed.laid.headed.actions) in
+        omega (arith, fork_below_lem (table_of s) i.formed.laid.contents i.formed.bodies a w q, i.formed.laid.headed.threads, i.sizes.threads_high)
+
+    ready : NestReady (kind_of k) x top stack forked
+    ready =
+        record {
+          stacked = i.stacked;
+          marked = i.size;
+          within = i.low;
+          forks = λ q. rw argument_is (below (sym kind_is ∙ q));
+          room = λ q r.
+              let l : length (drop top stack) < 1024 = stacked_room _ _ _ _ i x (rw argument_is (below (sym kind_is ∙ q))) r in
+              omega (arith, length-drop top stack, i.stacked, i.low);
+        }
+
+    module _ {number top' : ℕ} {stack' : List ℕ} {forked' : List Bool} (o : NestDone (kind_of k) x top stack forked number top' stack' forked') where
+      done : nest number (drop top' stack') forked' ≡ nest_at (kind (table_of s) a) ((table_of s).argument a) (drop top stack) forked
+      done = rw (kind_is, argument_is) at o.done
+
+      stops : (number ≡ 0 → ⊥) → At (refusal number a) ≡ try_pass (second_pass (table_of s))
+      stops z = sym (try_from_here _ a m h (refusal number a) (stacked_stops _ _ _ _ i _ _ _ done z)) ∙ i.remains
+
+      again : number ≡ 0 → Inv s actions n m forked' stack' top' (a + 1)
+      again z =
+          record {
+            sizes = i.sizes;
+            formed = i.formed;
+            part = i.part;
+            size = i.size;
+            within = omega arith;
+            stacked = o.stacked;
+            low = o.within;
+            before = stacked_next _ _ _ _ i _ _ _ done z below;
+            remains = sym (try_from_next _ a m h (stacked_passes _ _ _ _ i _ _ _ done z)) ∙ i.remains;
+          }
+
+  module _ (h : m ≤ a) where
+    last : a ≡ m
+    last = omega (arith, i.within)
+
+    none : Nothing ≡ try_pass (second_pass (table_of s))
+    none = sym (try_from_last _ a m last) ∙ i.remains
+
+    marks : (t : ℕ) → get_or forked t false ≡ forked_below (table_of s) m t
+    marks t = rw last at (i.marks t)
+
+refused : {f : Found} {number place : ℕ} {A : Type 0} → f ≡ At (refusal number place) → f ≡ Nothing → A
+refused e z = no_way cc
+
+pub loop-a-init : goal.loop-a-init
+loop-a-init c =
+    let i = start c.requires.formed c.bodies-actions.ensures c.requires.forked_value in
+    (i, c.lesser-stop.ensures ∙ min-eq_left (omega (arith, i.size)))
+
+pub nest_at-next-requires : goal.nest_at-next-requires
+nest_at-next-requires c =
+    let i = c.loop-a.invariant in
+    ready i.0 (omega (arith, i.1, c.loop-a-test.true)) c.action_in-action.ensures.code_value c.action_in-action.ensures.read.value
+
+pub refuse-requires : goal.refuse-requires
+refuse-requires c = omega (arith, c.loop-a.invariant.0.sizes)
+
+pub returns-then-next-ne0 : goal.returns-then-next-ne0
+returns-then-next-ne0 c = record {
+  value = c.refuse.ensures
+      ∙ stops c.loop-a.invariant.0 (omega (arith, c.loop-a.invariant.1, c.loop-a-test.true)) c.action_in-action.ensures.code_value c.action_in-action.ensures.read.value
+      c.nest_at-next.ensures c.if-next-ne0.true;
+  false_after = refused c.refuse.ensures;
+}
+
+pub overflow_add-a : goal.overflow_add-a
+overflow_add-a c = omega (arith, c.loop-a.invariant.0.sizes)
+
+pub loop-a-smaller : goal.loop-a-smaller
+loop-a-smaller c = omega (arith, c.loop-a.invariant.1, c.loop-a-test.true)
+
+pub loop-a-preserved : goal.loop-a-preserved
+loop-a-preserved c =
+    let i = c.loop-a.invariant in
+    (again i.0 (omega (arith, i.1, c.loop-a-test.true)) c.action_in-action.ensures.code_value c.action_in-action.ensures.read.value c.nest_at-next.ensures c.if-next-ne0.false, i.1)
+
+pub returns : goal.returns
+returns c = let i = c.loop-a.invariant in record { value = none i.0 (omega (arith, i.1, c.loop-a-test.false)); false_after = λ e. marks i.0 (omega (arith, i.1, c.loop-a-test.false)) }

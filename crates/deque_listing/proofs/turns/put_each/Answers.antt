@@ -1,0 +1,70 @@
+use mathlib.Core.Path.{◌≡◌, sym, ap, ◌∙◌}
+use Prim.Native.Nat.{ℕ, ◌+◌, ◌-◌, ◌*◌, ◌/◌}
+use native.Mathlib.Omega.{arith}
+use borrow.Author.Rules.{rules}
+use lib.Dec.{eqb}
+use lib.ListN.{length}
+use Rattle.run_memory.specs.Blocks.{memory_of}
+use Rattle.dfdeques.proofs.DequeByValue.{told_small}
+use Rattle.deque_listing.proofs.PairLines.{Tells, start, finished, spent, stopped, goes_on}
+use Rattle.deque_listing.proofs.turns.put_each.Goals as goal
+
+pub loop-i-init : goal.loop-i-init
+loop-i-init c =
+    record { stands = c.requires; listed = start _ _ _ _ }
+
+pub shape_of-out-then-status_at-eq-ENDED : goal.shape_of-out-then-status_at-eq-ENDED
+shape_of-out-then-status_at-eq-ENDED c = omega (arith, c.loop-i.invariant.listed.long)
+
+pub returns-then-status_at-eq-ENDED : goal.returns-then-status_at-eq-ENDED
+returns-then-status_at-eq-ENDED c =
+    finished c.loop-i.invariant (sym c.status_at.ensures ∙ c.if-status_at-eq-ENDED.true) c.put_end.ensures
+
+pub overflow_mul-w : goal.overflow_mul-w
+overflow_mul-w c = omega (arith, c.loop-i-test.true, c.good)
+
+pub bounds-order-i : goal.bounds-order-i
+bounds-order-i c = omega (arith, c.loop-i-test.true)
+
+pub overflow_mul-c : goal.overflow_mul-c
+overflow_mul-c c = omega (arith, c.loop-i-test.true, c.good)
+
+pub overflow_add-c : goal.overflow_add-c
+overflow_add-c c = omega (arith, c.loop-i-test.true, c.good)
+
+pub bounds-order-i-in-loop-i : goal.bounds-order-i-in-loop-i
+bounds-order-i-in-loop-i c = omega (arith, c.loop-i-test.true)
+
+pub overflow_cast-w : goal.overflow_cast-w
+overflow_cast-w c = omega (arith, c.type_inv.order (2 * c.loop-i.i))
+
+pub overflow_cast-c : goal.overflow_cast-c
+overflow_cast-c c = omega (arith, c.type_inv.order (2 * c.loop-i.i + 1))
+
+pub overflow_cast-spoken : goal.overflow_cast-spoken
+overflow_cast-spoken c = omega (arith, told_small _ _ _ _ c.deque_turn_in-spoken.ensures)
+
+pub shape_of-out-then-spoken-ne0 : goal.shape_of-out-then-spoken-ne0
+shape_of-out-then-spoken-ne0 c = omega (arith, c.loop-i.invariant.listed.long)
+
+pub returns-then-spoken-ne0 : goal.returns-then-spoken-ne0
+returns-then-spoken-ne0 c =
+    stopped c.loop-i.invariant c.loop-i-test.true (λ x. c.if-status_at-eq-ENDED.false (c.status_at.ensures ∙ x)) c.deque_turn_in-spoken.ensures c.if-spoken-ne0.true c.put_refused.ensures
+
+pub overflow_add-i : goal.overflow_add-i
+overflow_add-i c = omega (arith, c.loop-i-test.true, c.good)
+
+pub loop-i-smaller : goal.loop-i-smaller
+loop-i-smaller c = omega (arith, c.loop-i-test.true)
+
+pub loop-i-preserved : goal.loop-i-preserved
+loop-i-preserved c =
+    goes_on c.loop-i.invariant c.loop-i-test.true (λ x. c.if-status_at-eq-ENDED.false (c.status_at.ensures ∙ x)) c.deque_turn_in-spoken.ensures c.if-spoken-ne0.false (omega (arith, c.out-in-loop-i-1.given))
+    c.put_step-at.ensures
+
+pub shape_of-out : goal.shape_of-out
+shape_of-out c = omega (arith, c.loop-i.invariant.listed.long)
+
+pub returns : goal.returns
+returns c =
+    spent c.loop-i.invariant _ (ap (λ (x : ℕ). eqb x 4) c.status_at-ended.ensures) c.loop-i-test.false c.put_end-2.ensures

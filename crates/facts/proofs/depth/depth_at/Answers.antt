@@ -1,0 +1,10 @@
+-- `facts::depth::depth_at` meets its contract: past the end there is 0.
+use mathlib.Core.Path.{sym}
+use native.Mathlib.Omega.{arith}
+use lib.ListN.{get_or-eq_default}
+use borrow.Author.Rules.{rules}
+use Rattle.facts.proofs.depth.depth_at.Goals as goal
+
+pub returns-else-x-lt1024 : goal.returns-else-x-lt1024
+returns-else-x-lt1024 c =
+    record { value = sym (get_or-eq_default c.args.depths.now 0 (omega (arith, c.requires, c.if-x-lt1024.false))); small = omega arith }

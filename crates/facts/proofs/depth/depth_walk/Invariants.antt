@@ -1,0 +1,28 @@
+-- `facts::depth::depth_walk` meets its contract. The invariant: what is left of the walk from here is the whole walk.
+use mathlib.Core.Path.{◌≡◌, ap, ◌∙◌}
+use Prim.Native.Nat.{ℕ, suc, ◌+◌, ◌-◌, ◌≤◌, ◌<◌}
+use mathlib.Core.List.{List}
+use native.Mathlib.Omega.{arith}
+use native.Mathlib.Numerals.{add-one}
+use lib.ListN.{length}
+use borrow.Author.Rules.{rules}
+use Rattle.table.specs.Format.{kind_of, code_at, argument_at}
+use Rattle.facts.specs.Code.DepthWalk.{Reached, reached, step_depth, body_depth, cut16, Stepped}
+use Rattle.facts.proofs.DepthWalk.{step_length}
+use Rattle.facts.proofs.depth.depth_walk.Given as goal
+
+abbrev pub rest : List ℕ → ℕ → ℕ → Reached → Reached
+rest l a k w = body_depth cut16 (code_at l) (argument_at l) a k w
+
+pub record Inv (l : List ℕ) (count : ℕ) (depths₀ depths : List ℕ) (last i : ℕ) : Type 0 where
+  pub within : i ≤ count
+  pub few : count < 65536
+  pub sized : length depths ≡ 1024
+  pub low : last ≤ 65536 + i
+  pub same : rest l i (count - i) (reached depths last) ≡ rest l 0 count (reached depths₀ 0)
+
+abbrev pub invariant-loop-i : goal.invariant-loop-i
+invariant-loop-i l = Inv l.body l.count l.initial.depths l.depths l.last l.i
+
+abbrev pub decreases-loop-i : goal.decreases-loop-i
+decreases-loop-i l = l.count - l.i

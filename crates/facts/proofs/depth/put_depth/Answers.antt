@@ -1,0 +1,10 @@
+-- `facts::depth::put_depth` meets its contract: past the end nothing is set.
+use mathlib.Core.Path.{sym}
+use Prim.Native.Nat.{◌%◌}
+use native.Mathlib.Omega.{arith}
+use lib.Seq.{set_out}
+use borrow.Author.Rules.{rules}
+use Rattle.facts.proofs.depth.put_depth.Goals as goal
+
+pub returns-else-x-lt1024 : goal.returns-else-x-lt1024
+returns-else-x-lt1024 c = sym (set_out c.args.depths.now c.args.x (c.args.v % 65536) (omega (arith, c.requires, c.if-x-lt1024.false)))

@@ -1,0 +1,46 @@
+-- `facts::weigh` meets its contract: as `load`, without recursion and with what is left.
+use mathlib.Core.Path.{◌≡◌, sym, ◌∙◌}
+use native.Mathlib.Omega.{arith}
+use borrow.Author.Rules.{rules}
+use Rattle.table.specs.Pass.{first_found}
+use Rattle.table.specs.Checks.{passes}
+use Rattle.table.specs.declared.Found.TheVariants.{Nothing}
+use Rattle.facts.specs.Code.Steps.{Kept}
+use Rattle.facts.proofs.Accepted.{kept, small, shallow, few_levels, facts_are, weighed_not, weighed_is}
+use Rattle.facts.proofs.weigh.Goals as goal
+
+-- the table keeps the rules
+none : (c : goal.In_default) → first_found (passes c.args.table.now) ≡ Nothing
+none c = sym c.check_in-found.ensures.value ∙ c.in_default.is
+
+known : (c : goal.After-actions-m) → Kept c.args.table.now c.threads-n.result c.actions-m.result
+known c = kept _ (none c) c.threads-n.ensures.value c.actions-m.ensures.value
+
+pub returns-in-At : goal.returns-in-At
+returns-in-At c = weighed_not c.args.table.now (sym c.check_in-found.ensures.value ∙ c.in-At.is)
+
+pub serial_amounts-amounts-requires : goal.serial_amounts-amounts-requires
+serial_amounts-amounts-requires c = known (goal.at.serial_amounts-amounts-requires c).After-actions-m
+
+pub nested_levels-nested-requires : goal.nested_levels-nested-requires
+nested_levels-nested-requires c = (known (goal.at.nested_levels-nested-requires c).After-actions-m).nested
+
+pub depth_in-depth-requires : goal.depth_in-depth-requires
+depth_in-depth-requires c = known (goal.at.depth_in-depth-requires c).After-actions-m
+
+pub overflow_cast-facts : goal.overflow_cast-facts
+overflow_cast-facts c = omega (arith, small (known (goal.at.overflow_cast-facts c).After-actions-m))
+
+pub overflow_cast-facts-2 : goal.overflow_cast-facts-2
+overflow_cast-facts-2 c = omega (arith, small (known (goal.at.overflow_cast-facts-2 c).After-actions-m))
+
+pub overflow_cast-facts-3 : goal.overflow_cast-facts-3
+overflow_cast-facts-3 c = omega (arith, c.depth_in-depth.ensures, shallow (known (goal.at.overflow_cast-facts-3 c).After-actions-m))
+
+pub overflow_cast-facts-4 : goal.overflow_cast-facts-4
+overflow_cast-facts-4 c = omega (arith, c.nested_levels-nested.ensures, few_levels (known (goal.at.overflow_cast-facts-4 c).After-actions-m))
+
+pub returns : goal.returns
+returns c =
+    let a = c.serial_amounts-amounts.ensures in
+    weighed_is _ (none (goal.at.returns c).In_default) (facts_are (known (goal.at.returns c).After-actions-m) a.0 c.depth_in-depth.ensures c.nested_levels-nested.ensures) a.1

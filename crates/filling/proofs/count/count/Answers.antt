@@ -1,0 +1,86 @@
+use mathlib.Core.Path.{◌≡◌, refl, sym, ◌∙◌}
+use Prim.Native.Nat.{ℕ, suc, ◌+◌, ◌-◌, ◌*◌, ◌/◌, ◌≤◌, ◌<◌}
+use mathlib.Core.List.{List, [], ◌∷◌}
+use mathlib.Core.Bool.{Bool, true, false, ◌&&◌, ◌||◌}
+use native.Mathlib.Numerals.{add-one}
+use native.Mathlib.Omega.{arith}
+use lib.Dec.{ltb}
+use borrow.Author.Rules.{rules}
+use borrow.Author.Tests.{ltb-false}
+use Rattle.table.specs.Sum.{pick, sum_to, Read}
+use Rattle.table.specs.Format.{Table, threads_of, actions_of, table_of}
+use Rattle.table.specs.Checks.{alloc_of}
+use Rattle.table.specs.Pass.{Check, refusal, try_at, try_from, try_pass}
+use Rattle.table.specs.declared.Found.{Found}
+use Rattle.table.specs.declared.Found.TheVariants.{Nothing, At}
+use Rattle.table.proofs.Tests.{or_neither}
+use Rattle.table.proofs.Trying.{try_from_next, try_from_here, try_from_last, try_from_all}
+use Rattle.filling.specs.declared.Total.{Total}
+use Rattle.filling.specs.Filled.{big, dummies, new_threads, new_actions, threads_to, actions_to, overfull, fill_pass}
+use Rattle.filling.specs.Filling.{total_of}
+use Rattle.filling.proofs.count.count.Invariants.{Inv, checks}
+use Rattle.filling.proofs.count.count.Goals as goal
+
+start : (s : List ℕ) (K n m : ℕ) → Read (threads_of s) 65536 n → Read (actions_of s) 65536 m → Inv s K n m n m 0
+unfolding table_of sum_to try_pass
+start s K n m r q =
+    record {
+      is_threads = r.value;
+      is_actions = q.value;
+      within = omega arith;
+      small = q.small;
+      now_threads = omega (arith, r.value);
+      now_actions = omega (arith, q.value);
+      threads_small = r.small;
+      actions_small = q.small;
+      remains = rw (try_from_all (checks (table_of s) K) m, q.value);
+    }
+
+done : (s : List ℕ) (K n m threads actions a : ℕ) → Inv s K n m threads actions a → m ≤ a
+    → ◌≡◌ {A = Total} (record { found = Nothing; threads = threads; actions = actions }) (total_of (table_of s) K)
+done s K n m threads actions a i h =
+    let t : try_pass (fill_pass (table_of s) K) ≡ Nothing = sym i.remains ∙ try_from_last (checks (table_of s) K) a m (omega (arith, i.within)) in
+    let e : a ≡ (table_of s).actions = omega (arith, i.within, i.is_actions) in
+    let n : threads ≡ threads_to (table_of s) K (table_of s).actions = rw e at i.now_threads in
+    let m : actions ≡ actions_to (table_of s) K (table_of s).actions = rw e at i.now_actions in
+    rw (t, n, m)
+
+pub loop-a-init : goal.loop-a-init
+loop-a-init c = start _ _ _ _ c.threads-n.ensures c.actions-m.ensures
+
+pub amount-x-requires : goal.amount-x-requires
+amount-x-requires c = c.loop-a.invariant.is_threads
+
+pub new_threads-threads-requires : goal.new_threads-threads-requires
+new_threads-threads-requires c = record { x_bound = c.amount-x.ensures.small; quota_bound = omega arith }
+
+pub overflow_add-threads : goal.overflow_add-threads
+overflow_add-threads c = omega (arith, c.new_threads-threads.ensures.small, c.loop-a.invariant.threads_small)
+
+pub new_actions-actions-requires : goal.new_actions-actions-requires
+new_actions-actions-requires c = record { x_bound = c.amount-x.ensures.small; quota_bound = omega arith }
+
+pub overflow_add-actions : goal.overflow_add-actions
+overflow_add-actions c = omega (arith, c.new_actions-actions.ensures.small, c.loop-a.invariant.actions_small)
+
+pub refuse-requires : goal.refuse-requires
+refuse-requires c = omega (arith, c.loop-a-test.true, c.loop-a.invariant.small)
+
+pub returns-then-is_full : goal.returns-then-is_full
+returns-then-is_full c =
+    stops _ _ _ _ _ _ _ _ _ _ c.loop-a.invariant c.amount-x.ensures.value c.new_threads-threads.ensures.value c.new_actions-actions.ensures.value
+    c.loop-a-test.true (sym c.is_full.ensures ∙ c.if-is_full.true) _ c.refuse.ensures
+
+pub overflow_add-a : goal.overflow_add-a
+overflow_add-a c = omega (arith, c.loop-a-test.true, c.loop-a.invariant.small)
+
+pub loop-a-smaller : goal.loop-a-smaller
+loop-a-smaller c = omega (arith, c.loop-a-test.true)
+
+pub loop-a-preserved : goal.loop-a-preserved
+loop-a-preserved c =
+    again _ _ _ _ _ _ _ _ _ _ c.loop-a.invariant c.amount-x.ensures.value c.new_threads-threads.ensures.value c.new_actions-actions.ensures.value
+    c.loop-a-test.true (sym c.is_full.ensures ∙ c.if-is_full.false)
+
+pub returns : goal.returns
+returns c = done _ _ _ _ _ _ _ c.loop-a.invariant c.loop-a-test.false

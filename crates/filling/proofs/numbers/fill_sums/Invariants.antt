@@ -1,0 +1,24 @@
+-- `filling::numbers::fill_sums` meets its contract. The invariant: the array has the sums of the threads from t on.
+use mathlib.Core.Path.{◌≡◌, ◌∙◌}
+use Prim.Native.Nat.{ℕ, ◌+◌, ◌-◌, ◌≤◌, ◌<◌}
+use mathlib.Core.List.{List}
+use native.Mathlib.Omega.{arith}
+use native.Mathlib.Decide.{ℕ_discrete}
+use lib.ListN.{length, get_or, set, length-set}
+use lib.Seq.{get_or-set_same, get_or-set_other}
+use Rattle.table.specs.Format.{table_of}
+use Rattle.filling.specs.Code.Steps.{Ready, new_of, Sums}
+use Rattle.filling.proofs.Numbering.{l}
+use Rattle.filling.proofs.numbers.fill_sums.Given as goal
+
+pub record Inv (s : List ℕ) (n K : ℕ) (sums : List ℕ) (t : ℕ) : Type 0 where
+  pub ready : Ready s n K
+  pub few : n ≤ 1024
+  pub within : t ≤ n
+  pub filled : Sums (table_of s) K sums t
+
+abbrev pub invariant-loop-t : goal.invariant-loop-t
+invariant-loop-t l = Inv l.table l.n l.quota l.sums l.t
+
+abbrev pub decreases-loop-t : goal.decreases-loop-t
+decreases-loop-t l = l.t

@@ -1,0 +1,12 @@
+-- `inputs::front::quota_line` meets its contract: K is given, or something else should have stood there.
+use mathlib.Core.Path.{refl, sym, ◌∙◌}
+use Rattle.inputs.specs.Front.{quota}
+use Rattle.inputs.proofs.Given.{given_goes, given_stops}
+use borrow.Author.Rules.{rules}
+use Rattle.inputs.proofs.front.quota_line.Goals as goal
+
+pub returns-in-Given : goal.returns-in-Given
+returns-in-Given c = given_goes (quota c.args.p) _ (sym c.read_figure-given.ensures ∙ c.in-Given.is) (λ buf. refl) refl
+
+pub returns-in-Stopped : goal.returns-in-Stopped
+returns-in-Stopped c = given_stops (quota c.args.p) _ (sym c.read_figure-given.ensures ∙ c.in-Stopped.is)

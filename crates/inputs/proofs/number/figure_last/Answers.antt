@@ -1,0 +1,24 @@
+-- `inputs::number::figure_last` meets its contract: another word, or none.
+use native.Mathlib.Omega.{arith}
+use Prim.Native.Nat.{ℕ}
+use mathlib.Core.Path.{◌≡◌}
+use mathlib.Core.List.{List}
+use Rattle.assembly.specs.Words.{words_in, FirstWord}
+use Rattle.inputs.specs.Number.{figure_last}
+use Rattle.inputs.specs.declared.Wanted.TheVariants.{LineEnd}
+use Rattle.inputs.specs.declared.number.Figure.TheVariants.{Given, Stopped}
+use borrow.Author.Rules.{rules}
+use Rattle.inputs.proofs.number.figure_last.Goals as goal
+
+module _ (x : ℕ) (s : List ℕ) (a b : ℕ) (f : FirstWord s a b) where
+  more : (a ≡ b → ⊥) → Stopped LineEnd ≡ figure_last x (words_in s)
+  more h = rw (f.some (omega (arith, h, f.order)))
+
+  last : a ≡ b → Given x ≡ figure_last x (words_in s)
+  last e = rw (f.none e)
+
+pub returns-then-more : goal.returns-then-more
+returns-then-more c = more _ _ _ _ c.first_word-more.ensures c.if-more.true
+
+pub returns : goal.returns
+returns c = last _ _ _ _ c.first_word-more.ensures c.if-more.false

@@ -1,0 +1,35 @@
+-- `inputs::number::read_number` meets its contract. The invariant: the rest, read on from v, has the word's value, and v is at most as much as it may be.
+use native.Mathlib.Omega.{arith}
+use Prim.Native.Nat.{ℕ, ◌+◌, ◌-◌, ◌≤◌, ◌<◌}
+use native.Mathlib.Numerals.{add-one}
+use mathlib.Core.Path.{◌≡◌, refl, sym, ◌∙◌}
+use mathlib.Core.List.{List}
+use mathlib.Core.Bool.{Bool, true, false, ◌&&◌}
+use borrow.Author.Tests.{leb-true, not-true, not-false}
+use lib.Dec.{leb}
+use lib.ListN.{length, get_or, drop, drop_of_length-le}
+use lib.Seq.{drop-cons}
+use Rattle.assembly.specs.Words.{is_digit, zero_led}
+use Rattle.inputs.specs.Number.{next_value, goes_on, value_from, number_in}
+use Rattle.inputs.specs.Code.Steps.{Numbered}
+use Rattle.inputs.specs.declared.number.Number.TheVariants.{Value, NoNumber}
+use borrow.Author.Rules.{rules}
+use Rattle.inputs.proofs.number.read_number.Given as goal
+
+pub record Inv (w : List ℕ) (most v i : ℕ) : Type 0 where
+  pub within : i ≤ length w
+  pub small : v ≤ most
+  pub led : zero_led w ≡ false
+  pub rest : value_from most v (drop i w) ≡ value_from most 0 w
+
+-- a byte that goes on is a digit, and the number stays small
+pub record Digit (most v b : ℕ) : Type 0 where
+  pub least : 48 ≤ b
+  pub greatest : b ≤ 57
+  pub small : next_value v b ≤ most
+
+abbrev pub invariant-loop-i : goal.invariant-loop-i
+invariant-loop-i l = Inv l.w l.most l.v l.i
+
+abbrev pub decreases-loop-i : goal.decreases-loop-i
+decreases-loop-i l = length l.w - l.i

@@ -1,0 +1,22 @@
+-- `joining::given::lengths_to` meets its contract. The invariant: the first i places have the first i lengths.
+use mathlib.Core.Path.{◌≡◌, refl, ◌∙◌}
+use Prim.Native.Nat.{ℕ, ◌+◌, ◌-◌, ◌≤◌, ◌<◌}
+use mathlib.Core.List.{List}
+use native.Mathlib.Omega.{arith}
+use native.Mathlib.Numerals.{add-one}
+use lib.ListN.{length, take, set, length-set}
+use lib.Seq.{take-suc-set}
+use borrow.Author.Rules.{rules}
+use Rattle.joining.specs.Given.{length_in, lengths_to}
+use Rattle.joining.proofs.given.lengths_to.Given as goal
+
+pub record Inv (input : List ℕ) (k : ℕ) (lengths : List ℕ) (i : ℕ) : Type 0 where
+  pub long : length lengths ≡ 16
+  pub within : i ≤ k
+  pub read : take i lengths ≡ lengths_to input i
+
+abbrev pub invariant-loop-i : goal.invariant-loop-i
+invariant-loop-i l = Inv l.input l.k l.lengths l.i
+
+abbrev pub decreases-loop-i : goal.decreases-loop-i
+decreases-loop-i l = l.k - l.i

@@ -1,0 +1,24 @@
+use mathlib.Core.Path.{◌∙◌}
+use Prim.Native.Nat.{◌-◌}
+use mathlib.Core.Logic.{⊎_elim}
+use borrow.Author.Rules.{rules}
+use Rattle.schedule.specs.Links.{no_thread}
+use Rattle.schedule.specs.Actives.{no_links, filled_from}
+use Rattle.links.proofs.Filling.{FilledTo, filled_start, filled_out_lem, filled_over, filled_past, filled_with_lem}
+use Rattle.links.proofs.fill_actives.Goals as goal
+
+pub loop-passed-init : goal.loop-passed-init
+loop-passed-init c =
+    filled_start 1024 c.args.status.now c.args.right.now c.args.leftmost _ _ c.clear.ensures c.clear-2.ensures
+
+pub loop-passed-preserved : goal.loop-passed-preserved
+loop-passed-preserved c =
+    ⊎_elim (λ w. filled_with_lem c.loop-passed.invariant c.loop-passed-test.true c.if-t-ge-NO_THREAD.false w.0.taken ((λ i. record { left = w.4 i; right = w.5 i; head = w.6 i }) ∙ w.3.ensures) w.7)
+    (λ w. filled_past c.loop-passed.invariant c.loop-passed-test.true c.if-t-ge-NO_THREAD.false w.0.left (λ i. record { left = w.1 i; right = w.2 i; head = w.3 i }) w.4)
+    c.if-status-t-ne-WAITING.branch
+
+pub returns-after-loop-passed : goal.returns-after-loop-passed
+returns-after-loop-passed c = filled_over c.loop-passed.invariant c.loop-passed-test.false
+
+pub returns-then-t-ge-NO_THREAD : goal.returns-then-t-ge-NO_THREAD
+returns-then-t-ge-NO_THREAD c = filled_out_lem c.loop-passed.invariant c.if-t-ge-NO_THREAD.true

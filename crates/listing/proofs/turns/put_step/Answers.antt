@@ -1,0 +1,36 @@
+-- `listing::turns::put_step` meets its contract: the action's kind and the thread's next action are read where the reply says, turns taken and memory held where they stand.
+use mathlib.Core.Path.{◌≡◌, ap, subst, ◌∙◌}
+use Prim.Native.Nat.{ℕ}
+use mathlib.Core.List.{List}
+use borrow.Author.Rules.{rules}
+use lib.ListN.{get_or}
+use Rattle.table.specs.Format.{threads_of, table_of, kind_of, code_at, bodies_from}
+use Rattle.table.proofs.Parts.{code_from}
+use Rattle.schedule.specs.Listing.{Line, line, told_with}
+use Rattle.lines.specs.Lines.{turn_texts}
+use Rattle.text.specs.Puts.{Puts}
+use Rattle.run_memory.specs.Blocks.{words_in}
+use Rattle.listing.proofs.turns.put_step.Goals as goal
+
+threads_in_lem : (s : List ℕ) {n : ℕ} → n ≡ threads_of s → n ≡ (table_of s).threads
+unfolding table_of
+threads_in_lem s e = e
+
+-- the code of the action read
+code_read : (s : List ℕ) {n a b k : ℕ} → n ≡ threads_of s → a ≡ b → k ≡ code_at (bodies_from s n) a → k ≡ (table_of s).code b
+code_read s {n} {a} e d f = f ∙ code_from s n (threads_in_lem s e) a ∙ ap (λ (i : ℕ). (table_of s).code i) d
+
+next_read : (l : List ℕ) {t u x : ℕ} → t ≡ u → x ≡ get_or l t 0 → x ≡ get_or l u 0
+next_read l e f = f ∙ ap (λ (i : ℕ). get_or l i 0) e
+
+same_line : {x y : Line} {s o : List ℕ} {at r : ℕ} → x ≡ y → Puts s at o r (turn_texts x) 64 → Puts s at o r (turn_texts y) 64
+same_line {s = s} {o} {at} {r} e p = subst (λ (z : Line). Puts s at o r (turn_texts z) 64) e p
+
+pub returns : goal.returns
+returns c =
+    let a = c in
+    let n = a in
+    let g = n.args in
+    let e = code_read g.table.now n.threads.ensures.value a.action_done.ensures c.code-code.ensures in
+    let d = next_read ((words_in g.words.now).rows 1) c.thread_in.ensures c.row_at-action.ensures in
+    same_line (λ i. line (c.total_at.ensures i) g.w (told_with g.reply (kind_of (e i)) (d i)) (c.total_at-held.ensures i)) c.put_turn.ensures

@@ -1,0 +1,25 @@
+-- `most::counts::given_turns` meets its contract. The invariant: `turns` is what the actions passed add up to, at most 2 for each.
+use mathlib.Core.Path.{◌≡◌, refl, ap, ◌∙◌}
+use Prim.Native.Nat.{ℕ, ◌+◌, ◌-◌, ◌*◌, ◌≤◌, ◌<◌}
+use native.Mathlib.Numerals.{add-one}
+use native.Mathlib.Omega.{arith}
+use mathlib.Core.List.{List}
+use Rattle.table.specs.Sum.{sum_to, Read}
+use Rattle.table.specs.Format.{table_of}
+use Rattle.order.specs.Turns.{turns_of}
+use Rattle.most.specs.Code.Steps.{turns_at}
+use Rattle.most.proofs.TurnCounts.{turns_sum}
+use Rattle.most.proofs.counts.given_turns.Given as goal
+
+pub record Inv (s : List ℕ) (n m turns a : ℕ) : Type 0 where
+  pub threads : n ≡ (table_of s).threads
+  pub actions : Read (table_of s).actions 65536 m
+  pub within : a ≤ m
+  pub added : turns ≡ sum_to (turns_at (table_of s)) a
+  pub few : turns ≤ 2 * a
+
+abbrev pub invariant-loop-a : goal.invariant-loop-a
+invariant-loop-a l = Inv l.table l.n l.m l.turns l.a
+
+abbrev pub decreases-loop-a : goal.decreases-loop-a
+decreases-loop-a l = l.m - l.a

@@ -1,0 +1,17 @@
+-- `most::most_turns_in` meets its contract: the table's own checks, then those of a beginning; the working memory is as checking leaves it.
+use mathlib.Core.Path.{sym, ◌∙◌}
+use borrow.Author.Rules.{rules}
+use Rattle.table.proofs.Passes.{passes_rules}
+use Rattle.most.proofs.Answers.{refused_own, own_whole, values_are}
+use Rattle.most.proofs.most_turns_in.Goals as goal
+
+pub turns_for-requires : goal.turns_for-requires
+turns_for-requires c = (passes_rules _).0 (sym c.check_in-found.ensures.value ∙ c.in-Nothing.is)
+
+pub returns-in-At : goal.returns-in-At
+returns-in-At c = let l = c.check_in-found.ensures in
+    let v = values_are _ _ _ (refused_own _ _ _ _ (sym l.0 ∙ c.in-At.is)) in record { value = v.0; result_value = v.1; rises_after = l.1 }
+
+pub returns-in-Nothing : goal.returns-in-Nothing
+returns-in-Nothing c = let l = c.check_in-found.ensures in
+    let v = values_are _ _ _ (c.turns_for.ensures ∙ own_whole _ _ _ (sym l.0 ∙ c.in-Nothing.is)) in record { value = v.0; result_value = v.1; rises_after = l.1 }

@@ -1,0 +1,36 @@
+-- `pacing::paced_run` meets its contract: check 32, and then the run in the blocks.
+use mathlib.Core.Path.{◌≡◌, sym, ◌∙◌}
+use mathlib.Core.Bool.{false}
+use native.Mathlib.Omega.{arith}
+use borrow.Author.Rules.{rules}
+use lib.Seq.{length-take-le}
+use Rattle.schedule.specs.Turn.{unsound}
+use Rattle.soundness.proofs.Passed.{test_fails, test_passes, test_parents}
+use Rattle.asyncdf.proofs.Calls.{table_inside}
+use Rattle.wivakkol_pace.specs.PacedRuns.{paced_worker}
+use Rattle.pacing.proofs.PacedRefines.{run_unsound, run_taken, run_small, ran_as}
+use Rattle.pacing.proofs.paced_run.Goals as goal
+
+-- the record passed the test
+passed : (c : goal.Else-not-tested) → unsound c.args.run ≡ false
+passed c = test_passes _ c.test-tested.ensures c.if-not-tested.false
+
+pub returns-then-not-tested : goal.returns-then-not-tested
+returns-then-not-tested c =
+    let d = c.args in
+    c.unsound.ensures ∙ run_unsound (paced_worker d.order.now d.rounds) d.rounds d.limit d.run d.pace (test_fails _ c.test-tested.ensures c.if-not-tested.true)
+
+pub slice_bounds-table-end : goal.slice_bounds-table-end
+slice_bounds-table-end c = table_inside _ (passed (goal.at.slice_bounds-table-end c).Else-not-tested)
+
+pub slice_bounds-table-end-2 : goal.slice_bounds-table-end-2
+slice_bounds-table-end-2 c =
+    sym (length-take-le c.args.run.length c.args.run.table (table_inside _ (passed (goal.at.slice_bounds-table-end-2 c).Else-not-tested)))
+
+pub overflow_cast-stop : goal.overflow_cast-stop
+overflow_cast-stop c = omega (arith, run_small _ _ _ _ _ _ c.run_in-stop.ensures)
+
+pub returns : goal.returns
+returns c =
+    ran_as c.report_of-report.ensures c.unpack-after.ensures
+    (run_taken _ (passed (goal.at.returns c).Else-not-tested) _ (λ h. test_parents _ c.test-tested.ensures h) c.pack.ensures _ _ _ _ c.run_in-stop.ensures)

@@ -1,0 +1,53 @@
+use Rattle.peak_walk.proofs.Readings.{up_fits, down_fits, alloc_read, free_read, rests_read, since_next, greatest_more, rise_whole}
+use Rattle.std.proofs.Common.{◌≡◌, ◌-◌, ◌≤◌, refl, ◌∙◌, arith, rules}
+use Rattle.table.specs.Sum.{greatest_to}
+use Rattle.table.specs.Format.{table_of}
+use Rattle.table.specs.Checks.{alloc_of, free_of}
+use Rattle.peak_walk.specs.Along.{since_rest}
+use Rattle.peak_walk.proofs.along.rise.Goals as goal
+
+pub loop-a-init : goal.loop-a-init
+unfolding greatest_to since_rest
+loop-a-init c = (omega arith, refl, refl, refl)
+
+pub may_after-rests-requires : goal.may_after-rests-requires
+may_after-rests-requires c = omega (arith, c.loop-a-test.true, c.actions-m.ensures.small)
+
+pub since-up-requires : goal.since-up-requires
+since-up-requires c =
+    omega (
+      arith,
+      up_fits _ _ c.loop-a.up c.alloc_of.result (omega (arith, c.loop-a-test.true, c.actions-m.ensures.small)) c.loop-a.invariant.2
+          (alloc_read _ _ _ _ c.threads-n.ensures.value c.code-k.ensures _ c.argument-x.ensures.value _ c.alloc_of.ensures),
+    )
+
+pub since-down-requires : goal.since-down-requires
+since-down-requires c =
+    omega (
+      arith,
+      down_fits _ _ c.loop-a.down c.free_of.result (omega (arith, c.loop-a-test.true, c.actions-m.ensures.small)) c.loop-a.invariant.3
+          (free_read _ _ _ _ c.threads-n.ensures.value c.code-k.ensures _ c.argument-x.ensures.value _ c.free_of.ensures),
+    )
+
+pub overflow_add-a : goal.overflow_add-a
+overflow_add-a c = omega (arith, c.loop-a-test.true, c.actions-m.ensures.small)
+
+pub loop-a-smaller : goal.loop-a-smaller
+loop-a-smaller c = omega (arith, c.loop-a-test.true)
+
+pub loop-a-preserved : goal.loop-a-preserved
+loop-a-preserved c =
+    let b = c in
+    let e = b.threads-n.ensures.value in
+    let still = rests_read _ _ _ c.may_after-rests.result e c.may_after-rests.ensures in (
+      omega (arith, c.loop-a-test.true),
+      greatest_more _ b.loop-a.a b.loop-a.best c.less.result c.larger-best.result b.loop-a.invariant.1 (c.less.ensures ∙ (λ i. b.loop-a.invariant.2 i - b.loop-a.invariant.3 i)) c.larger-best.ensures,
+      since_next _ _ b.loop-a.a b.loop-a.up c.alloc_of.result c.since-up.result c.may_after-rests.result b.loop-a.invariant.2
+          (alloc_read _ _ _ _ e c.code-k.ensures _ c.argument-x.ensures.value _ c.alloc_of.ensures) still c.since-up.ensures,
+      since_next _ _ b.loop-a.a b.loop-a.down c.free_of.result c.since-down.result c.may_after-rests.result b.loop-a.invariant.3
+          (free_read _ _ _ _ e c.code-k.ensures _ c.argument-x.ensures.value _ c.free_of.ensures) still c.since-down.ensures,
+    )
+
+pub returns : goal.returns
+returns c =
+    rise_whole _ c.loop-a.a c.actions-m.result _ c.loop-a.invariant.1 (omega (arith, c.loop-a.invariant.0, c.loop-a-test.false)) c.actions-m.ensures.value

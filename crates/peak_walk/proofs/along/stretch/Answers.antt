@@ -1,0 +1,42 @@
+use Rattle.peak_walk.proofs.Readings.{drawn_fits, kind_read, alloc_read, drawn_read, drawn_next, greatest_more, stretch_whole}
+use Rattle.std.proofs.Common.{◌≡◌, ◌+◌, ◌-◌, ◌≤◌, refl, arith, rules}
+use Rattle.table.specs.Sum.{greatest_to}
+use Rattle.table.specs.Format.{table_of}
+use Rattle.peaks.specs.Rests.{drawn_at, drawn_before, stretch}
+use Rattle.peak_walk.proofs.along.stretch.Goals as goal
+
+-- what the action draws, as the calls give it
+draws : (c : goal.After-drawn_of-x → c.drawn_of-x.result ≡ drawn_at (table_of c.args.table.now) c.args.quota c.loop-a.a
+draws c =
+    drawn_read _ _ _ _ _ (alloc_read _ _ _ _ c.threads-n.ensures.value c.code-k.ensures _ c.argument.ensures.value _ c.alloc_of.ensures) c.drawn_of-x.ensures
+
+pub loop-a-init : goal.loop-a-init
+unfolding greatest_to drawn_before
+loop-a-init c = (omega arith, refl, refl)
+
+pub overflow_add-before : goal.overflow_add-before
+overflow_add-before c =
+    omega (arith, drawn_fits _ _ _ c.loop-a c.drawn_of-x.result (omega (arith, c.loop-a-test.true, c.actions-m.ensures.small)) c.loop-a.invariant.2 (draws (goal.at.overflow_add-before c).After-drawn_of-x))
+
+pub since-before-requires : goal.since-before-requires
+since-before-requires c =
+    omega (arith, drawn_fits _ _ _ c.loop-a c.drawn_of-x.result (omega (arith, c.loop-a-test.true, c.actions-m.ensures.small)) c.loop-a.invariant.2 (draws (goal.at.since-before-requires c).After-drawn_of-x))
+
+pub overflow_add-a : goal.overflow_add-a
+overflow_add-a c = omega (arith, c.loop-a-test.true, c.actions-m.ensures.small)
+
+pub loop-a-smaller : goal.loop-a-smaller
+loop-a-smaller c = omega (arith, c.loop-a-test.true)
+
+pub loop-a-preserved : goal.loop-a-preserved
+loop-a-preserved c =
+    (
+      omega (arith, c.loop-a-test.true),
+      greatest_more _ c.loop-a.a c.loop-a.best (c.loop-a + c.drawn_of-x.result) c.larger-best.result c.loop-a.invariant.1 (λ i. c.loop-a.invariant.2 i + draws (goal.at.loop-a-preserved c).After-drawn_of-x i) c.larger-best.ensures,
+      drawn_next _ _ c.loop-a.a c.loop-a c.drawn_of-x.result c.since-before.result _ c.ends_stretch.result (kind_read _ _ _ _ c.threads-n.ensures.value c.code-k.ensures)
+          c.loop-a.invariant.2 (draws (goal.at.loop-a-preserved c).After-drawn_of-x) c.ends_stretch.ensures c.since-before.ensures,
+    )
+
+pub returns : goal.returns
+returns c =
+    stretch_whole _ _ c.loop-a.a c.actions-m.result _ c.loop-a.invariant.1 (omega (arith, c.loop-a.invariant.0, c.loop-a-test.false)) c.actions-m.ensures.value

@@ -1,0 +1,25 @@
+-- `quota::allocs::least_quota` meets its contract. The invariant: `least` is the greatest of 1 and the allocs passed.
+use mathlib.Core.Path.{◌≡◌, refl, ap, ◌∙◌}
+use Prim.Native.Nat.{ℕ, ◌+◌, ◌-◌, ◌≤◌, ◌<◌, max}
+use native.Mathlib.Numerals.{add-one}
+use mathlib.Core.List.{List}
+use native.Mathlib.Omega.{arith}
+use borrow.Author.Rules.{rules}
+use Rattle.table.specs.Sum.{greatest_to}
+use Rattle.table.specs.Format.{threads_of, actions_of, table_of}
+use Rattle.table.specs.Checks.{alloc_of}
+use Rattle.quota.specs.Quota.{least_quota}
+use Rattle.quota.proofs.allocs.least_quota.Given as goal
+
+pub record Inv (s : List ℕ) (n m least a : ℕ) : Type 0 where
+  pub threads : n ≡ threads_of s
+  pub actions : m ≡ actions_of s
+  pub some : m < 65536
+  pub within : a ≤ m
+  pub greatest : least ≡ max 1 (greatest_to (alloc_of (table_of s)) a)
+
+abbrev pub invariant-loop-a : goal.invariant-loop-a
+invariant-loop-a l = Inv l.table l.n l.m l.least l.a
+
+abbrev pub decreases-loop-a : goal.decreases-loop-a
+decreases-loop-a l = l.m - l.a

@@ -1,0 +1,14 @@
+-- `quota::largest_quota` meets its contract: the table's own checks, then those of the quota.
+use mathlib.Core.Path.{sym, ◌∙◌}
+use borrow.Author.Rules.{rules}
+use Rattle.quota.proofs.Checks.{refused_own, accepted_own, own_whole, values_are}
+use Rattle.quota.proofs.largest_quota.Goals as goal
+
+pub quota_for-requires : goal.quota_for-requires
+quota_for-requires c = accepted_own _ _ (sym c.load-loaded.ensures.value ∙ c.in-Accepted.is)
+
+pub returns-in-Refused : goal.returns-in-Refused
+returns-in-Refused c = let both = values_are _ _ _ _ (refused_own _ _ _ _ _ (sym c.load-loaded.ensures.value ∙ c.in-Refused.is)) in record { value = both.0; result_value = both.1 }
+
+pub returns-in-Accepted : goal.returns-in-Accepted
+returns-in-Accepted c = let a = accepted_own _ _ (sym c.load-loaded.ensures.value ∙ c.in-Accepted.is) in let both = values_are _ _ _ _ (c.quota_for.ensures ∙ own_whole _ _ _ _ a.rules) in record { value = both.0; result_value = both.1 }

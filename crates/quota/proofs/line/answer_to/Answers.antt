@@ -1,0 +1,30 @@
+-- `quota::line::answer_to` meets its contract: what follows the thirteen bytes is the table.
+use mathlib.Core.Path.{◌≡◌, ◌∙◌}
+use Prim.Native.Nat.{ℕ, ◌-◌, ◌≤◌, ◌<◌}
+use mathlib.Core.List.{List}
+use borrow.Author.Tests.{lt-ltb, le-ltb}
+use lib.ListN.{length, take, drop}
+use Rattle.table.specs.Pass.{refusal}
+use Rattle.table.proofs.Parts.{rest_part}
+use Rattle.quota.specs.declared.Quoted.TheVariants.{Refused}
+use Rattle.quota.specs.Quota.{quoted}
+use Rattle.quota.specs.Line.{workers_in, gap_in, memory_in, answer_to}
+use borrow.Author.Rules.{rules}
+use Rattle.quota.proofs.line.answer_to.Goals as goal
+
+module _ (s : List ℕ) where
+  short : length s < 13 → Refused (refusal 33 0) ≡ answer_to s
+  unfolding answer_to
+  short h = rw (lt-ltb (length s) 13 h)
+
+  whole : {p b M : ℕ} → 13 ≤ length s → p ≡ workers_in s → b ≡ gap_in s → M ≡ memory_in s → quoted (take (length s - 13) (drop 13 s)) p b M ≡ answer_to s
+  unfolding answer_to
+  whole h ep eb eM = rw (le-ltb (length s) 13 h, ep, eb, eM, rest_part s 13)
+
+pub returns-then-input-lt13 : goal.returns-then-input-lt13
+returns-then-input-lt13 c = c.refuse.ensures ∙ short _ c.if-input-lt13.true
+
+pub returns : goal.returns
+returns c =
+    c.largest_quota.ensures.value
+    ∙ whole _ c.if-input-lt13.false c.byte.ensures c.gap_in.ensures c.memory_in.ensures

@@ -1,0 +1,24 @@
+-- `rows::put_bodies` meets its contract. The invariant: the bodies of the threads that are left are what is left.
+use mathlib.Core.Path.{◌≡◌, refl, sym, ap, ◌∙◌}
+use Prim.Native.Nat.{ℕ, suc, ◌+◌, ◌-◌, ◌≤◌, ◌<◌}
+use mathlib.Core.List.{List, [], ◌∷◌, ◌++◌}
+use native.Mathlib.Omega.{arith}
+use lib.ListN.{length, get_or, drop}
+use lib.Seq.{drop-cons, drop-length}
+use borrow.Author.Rules.{rules}
+use Rattle.table.specs.Format.{bodies_of, first_of, count_of}
+use Rattle.text.specs.Text.{buffer_at}
+use Rattle.text.specs.Puts.{put_all}
+use Rattle.rows.specs.Rows.{renamed_rows, named_by, ordered_rows}
+use Rattle.rows.proofs.Rest.{Rest, rest_all, rest_rows}
+use Rattle.rows.proofs.put_bodies.Given as goal
+
+pub record Inv (out₀ : List ℕ) (at₀ : ℕ) (s order names out : List ℕ) (at i : ℕ) : Type 0 where
+  pub within : i ≤ length order
+  pub left : Rest out₀ at₀ (ordered_rows s (named_by names) order) out at (ordered_rows s (named_by names) (drop i order))
+
+abbrev pub invariant-loop-i : goal.invariant-loop-i
+invariant-loop-i l = Inv l.initial.out l.initial.at l.table l.order l.names l.out l.at l.i
+
+abbrev pub decreases-loop-i : goal.decreases-loop-i
+decreases-loop-i l = length l.order - l.i

@@ -1,0 +1,25 @@
+-- `rows::put_ordered` meets its contract. The invariant: the entries of the threads that are left are what is left.
+use mathlib.Core.Path.{◌≡◌, refl, sym, ap, ◌∙◌}
+use Prim.Native.Nat.{ℕ, suc, ◌+◌, ◌-◌, ◌%◌, ◌≤◌, ◌<◌}
+use mathlib.Core.List.{List, [], ◌∷◌}
+use native.Mathlib.Omega.{arith}
+use lib.ListN.{length, get_or, drop}
+use lib.Seq.{drop-cons, drop-length}
+use borrow.Author.Rules.{rules}
+use Rattle.table.specs.Format.{count_of, table_of}
+use Rattle.text.specs.Text.{buffer_at, placed}
+use Rattle.text.specs.Puts.{put_all}
+use Rattle.rows.specs.Rows.{cut_pair, ordered_entries}
+use Rattle.rows.proofs.Rest.{Rest, rest_all, rest_row}
+use Rattle.rows.proofs.put_ordered.Given as goal
+
+pub record Inv (out₀ : List ℕ) (at₀ : ℕ) (s order out : List ℕ) (at before i : ℕ) : Type 0 where
+  pub within : i ≤ length order
+  pub small : before < 65536
+  pub left : Rest out₀ at₀ (ordered_entries s 0 order) out at (ordered_entries s before (drop i order))
+
+abbrev pub invariant-loop-i : goal.invariant-loop-i
+invariant-loop-i l = Inv l.initial.out l.initial.at l.table l.order l.out l.at l.before l.i
+
+abbrev pub decreases-loop-i : goal.decreases-loop-i
+decreases-loop-i l = length l.order - l.i

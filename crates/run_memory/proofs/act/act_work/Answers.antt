@@ -1,0 +1,43 @@
+-- `run_memory::act::act_work` meets its contract: the thread stands at the action after it, if that has a number.
+use mathlib.Core.Path.{refl, ap}
+use borrow.Author.Tests.{not-true, not-false}
+use Rattle.array_machine.proofs.Leaves.{fits16, fits_next}
+use Rattle.run_memory.specs.Code.Writes.{having}
+use Rattle.run_memory.specs.Blocks.{Words, bytes_in, words_in, numbers_in, sums_in}
+use Rattle.run_memory.proofs.Acts.{gone_as, kept_words_as, room_in, work_unfit, work_done}
+use borrow.Author.Rules.{rules}
+use Rattle.run_memory.proofs.act.act_work.Goals as goal
+
+pub returns-then-not-next_fits : goal.returns-then-not-next_fits
+returns-then-not-next_fits c =
+    let B = bytes_in c.args.bytes.now in
+    let W = words_in c.args.words.now in
+    let N = numbers_in c.args.numbers.now in
+    let S = sums_in c.args.sums.now in
+    let w = c.args.w in
+    let t = c.args.t in
+    let a = c.args.a in
+    λ T x.
+    gone_as c.args.bytes.now c.args.words.now c.args.numbers.now c.args.sums.now c.unfit.ensures refl refl refl refl
+    (work_unfit B W N S T w t a x (not-true _ c.if-not-next_fits.true) c.next_fits.ensures)
+
+pub overflow_add-a : goal.overflow_add-a
+overflow_add-a c = fits16 (fits_next _ (not-false _ c.if-not-next_fits.false) c.next_fits.ensures)
+
+pub keep-requires : goal.keep-requires
+keep-requires c =
+    room_in c.requires refl (ap (λ (W : Words). W.busy) c.put_row.ensures)
+
+pub returns : goal.returns
+returns c =
+    let B = bytes_in c.args.bytes.now in
+    let W = words_in c.args.words.now in
+    let N = numbers_in c.args.numbers.now in
+    let S = sums_in c.args.sums.now in
+    let w = c.args.w in
+    let t = c.args.t in
+    let a = c.args.a in
+    λ T x.
+    gone_as c.keep.new.0 c.keep.new.1.0 c.keep.new.1.1.0 c.args.sums.now c.done.ensures c.keep.ensures.bytes_after
+    (kept_words_as B w (having t c.quota_left-quota.result) c.put_row.ensures c.keep.ensures.words_after) c.keep.ensures.numbers_after refl
+    (work_done B W N S T w t a x c.quota_left-quota.ensures (not-false _ c.if-not-next_fits.false) c.next_fits.ensures c.requires)

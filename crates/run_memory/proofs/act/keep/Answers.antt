@@ -1,0 +1,29 @@
+-- `run_memory::act::keep` meets its contract: a thread that is taken is held, and the worker has it.
+use mathlib.Core.Path.{◌≡◌, refl, sym, ap, ◌∙◌}
+use Prim.Native.Nat.{ℕ}
+use mathlib.Core.List.{List}
+use mathlib.Core.Logic.{⊎_elim}
+use borrow.Author.Tests.{not-true, not-false}
+use Rattle.run_memory.specs.Code.Writes.{having, seated_bytes}
+use Rattle.run_memory.specs.Blocks.{Bytes, Words, bytes_in, words_in}
+use Rattle.run_memory.proofs.Acts.{seated_own, seated_taken, settled_as, settled_words_as, room_still}
+use borrow.Author.Rules.{rules}
+use Rattle.run_memory.proofs.act.keep.Goals as goal
+
+-- the bytes after the test
+seated : (c : goal.Joined-not-holds_at) → bytes_in c.if-not-holds_at.bytes ≡ seated_bytes c.args.w c.args.t (bytes_in c.args.bytes.now)
+seated c =
+    let c = c in
+    let B : Bytes = bytes_in c.args.bytes.now in
+    ⊎_elim
+    (λ z. seated_taken B c.args.w c.args.t (sym c.holds_at.ensures ∙ not-true _ z.0.taken) (ap (λ (l : List ℕ). bytes_in l) z.3 ∙ z.2.ensures))
+    (λ z. seated_own B c.args.w c.args.t (sym c.holds_at.ensures ∙ not-false _ z.0.left) (ap (λ (l : List ℕ). bytes_in l) z.1))
+    c.if-not-holds_at.branch
+
+pub settle-requires : goal.settle-requires
+settle-requires c =
+    room_still c.requires (ap (λ (B : Bytes). B.holds) (seated (goal.at.settle-requires c).Joined-not-holds_at)) refl
+
+pub returns : goal.returns
+returns c = let z = having c.args.t c.args.quota in
+    let same : ◌≡◌ {A = Words} (words_in c.args.words.now) (words_in c.args.words.now) = refl in record { bytes_after = settled_as c.args.w z (seated (goal.at.returns c).Joined-not-holds_at) c.settle.ensures.bytes_after; words_after = settled_words_as c.args.w z (seated (goal.at.returns c).Joined-not-holds_at) same c.settle.ensures.words_after; numbers_after = c.settle.ensures.numbers_after }

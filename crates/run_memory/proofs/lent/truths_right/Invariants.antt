@@ -1,0 +1,15 @@
+-- `run_memory::lent::truths_right` meets its contract. The invariant: the workers below w have 0 or 1.
+use Prim.Native.Nat.{◌-◌, ◌<◌}
+use native.Mathlib.Omega.{arith}
+use borrow.Author.Tests.{lt-ltb, le-ltb}
+use lib.Dec.{ltb}
+use lib.ListN.{get_or}
+use Rattle.order.proofs.Every.{Passed, passed_none, passed_more, passed_fails, passed_all}
+use Rattle.run_memory.specs.Stands.{truths}
+use Rattle.run_memory.proofs.lent.truths_right.Given as goal
+
+abbrev pub invariant-loop-w : goal.invariant-loop-w
+invariant-loop-w l = Passed (λ i. ltb (get_or l.holds i 0) 2) l.w
+
+abbrev pub decreases-loop-w : goal.decreases-loop-w
+decreases-loop-w l = 16 - l.w

@@ -1,0 +1,20 @@
+use mathlib.Core.Path.{refl}
+use Prim.Native.Nat.{◌-◌}
+use native.Mathlib.Omega.{arith}
+use Rattle.run_memory.proofs.WorkerRecords.{Upto, one_more, all_sixteen}
+use borrow.Author.Rules.{rules}
+use Rattle.run_memory.proofs.lent.workers_at.Reads as reads
+use Rattle.run_memory.proofs.lent.workers_at.Lts as lts
+use Rattle.run_memory.proofs.lent.workers_at.Goals as goal
+
+pub loop-w-init : goal.loop-w-init
+loop-w-init c = record { size = refl; right = λ i l. absurd (omega (arith, l)) }
+
+pub loop-w-smaller : goal.loop-w-smaller
+loop-w-smaller c = omega arith
+
+pub loop-w-preserved : goal.loop-w-preserved
+loop-w-preserved c = one_more c.loop-w.invariant c.loop-w-test.true _ c.worker_at.ensures
+
+pub returns : goal.returns
+returns c = all_sixteen c.loop-w.invariant c.loop-w-test.false

@@ -1,0 +1,19 @@
+-- `run_memory::list::seek` meets its contract. The invariant: the whole search finds what the search from t finds, with the threads passed so far.
+use mathlib.Core.Path.{◌≡◌, sym, subst, ◌∙◌}
+use Prim.Native.Nat.{ℕ, ◌-◌}
+use mathlib.Core.List.{List}
+use borrow.Author.Rules.{rules}
+use Rattle.run_memory.proofs.Searching.{SoFar, sought_start, sought_found, sought_out, sought_over, sought_on}
+use Rattle.run_memory.specs.Blocks.{bytes_in, words_in}
+use Rattle.run_memory.specs.Places.{head_at}
+use Rattle.run_memory.proofs.list.seek.Given as goal
+
+-- the search in the blocks, at a thread that was read there
+abbrev pub Searched : List ℕ → List ℕ → ℕ → ℕ → ℕ → ℕ → Type 0
+Searched bytes words k h t passed = SoFar (bytes_in bytes).status ((words_in words).rows k) (head_at h (words_in words)) t passed
+
+abbrev pub invariant-loop-passed : goal.invariant-loop-passed
+invariant-loop-passed l = Searched l.bytes l.words l.k l.h l.t l.passed
+
+abbrev pub decreases-loop-passed : goal.decreases-loop-passed
+decreases-loop-passed l = 1024 - l.passed

@@ -1,0 +1,24 @@
+-- `run_memory::list::unlink` meets its contract: its writes are those of the definition.
+use borrow.Author.Rules.{rules}
+use Rattle.run_memory.specs.Blocks.{words_in}
+use Rattle.run_memory.proofs.Linking.{no_list, its_list, unlinked_inner, unlinked_first}
+use Rattle.run_memory.proofs.list.unlink.Goals as goal
+
+pub returns-then-k-ge5 : goal.returns-then-k-ge5
+returns-then-k-ge5 c = no_list _ _ c.if-k-ge5.true
+
+pub returns-then-x-ge-NO_THREAD : goal.returns-then-x-ge-NO_THREAD
+returns-then-x-ge-NO_THREAD c =
+    let g = c in
+    let d = g.args in
+    its_list _ _ g.if-k-ge5.false
+    (unlinked_first d.k d.h d.t _ _ (words_in d.words.now) _ _ _ _ c.row_at-x.ensures c.row_at-y.ensures c.put_row.ensures c.put_row-2.ensures c.put_row-3.ensures
+    c.put_row-4.ensures _ c.if-x-ge-NO_THREAD.true c.put_head.ensures)
+
+pub returns-else-x-ge-NO_THREAD : goal.returns-else-x-ge-NO_THREAD
+returns-else-x-ge-NO_THREAD c =
+    let g = c in
+    let d = g.args in
+    its_list _ _ g.if-k-ge5.false
+    (unlinked_inner d.k d.h d.t _ _ (words_in d.words.now) _ _ _ _ c.row_at-x.ensures c.row_at-y.ensures c.put_row.ensures c.put_row-2.ensures c.put_row-3.ensures
+    c.put_row-4.ensures c.if-x-ge-NO_THREAD.false)

@@ -1,0 +1,29 @@
+-- `run_memory::preview::see_alloc` meets its contract: beyond the quota, where a number does not fit, and within both.
+use mathlib.Core.Path.{◌∙◌}
+use borrow.Author.Tests.{not-true, not-false}
+use Rattle.array_machine.proofs.Leaves.{fits64}
+use Rattle.run_memory.specs.Blocks.{numbers_in, sums_in}
+use Rattle.run_memory.proofs.Acts.{share, alloc_room}
+use Rattle.run_memory.proofs.Seeing.{alloc_beyond, alloc_unfit, alloc_done}
+use borrow.Author.Rules.{rules}
+use Rattle.run_memory.proofs.preview.see_alloc.Goals as goal
+
+pub returns-then-quota-share : goal.returns-then-quota-share
+returns-then-quota-share c =
+    λ T B W. c.see.ensures ∙ alloc_beyond B W (numbers_in c.args.numbers.now) (sums_in c.args.sums.now) T c.args.t c.args.a c.args.x c.args.quota (share c.args.x c.setting_at.ensures c.drawn-share.ensures) c.if-quota-share.true
+
+pub returns-then-not-alloc_fits : goal.returns-then-not-alloc_fits
+returns-then-not-alloc_fits c =
+    let d = c in
+    λ T B W. c.unseen.ensures
+    ∙ alloc_unfit B W (numbers_in d.args.numbers.now) (sums_in d.args.sums.now) T d.args.t d.args.a d.args.x d.args.quota c.amount_at-own.ensures c.total_at-all.ensures (share d.args.x c.setting_at.ensures c.drawn-share.ensures) c.if-quota-share.false c.alloc_fits.ensures (not-true _ c.if-not-alloc_fits.true)
+
+pub overflow_add-all : goal.overflow_add-all
+overflow_add-all c =
+    fits64 (alloc_room c.args.a c.total_at-all.result c.amount_at-own.result c.args.x (not-false _ c.if-not-alloc_fits.false) c.alloc_fits.ensures).1.0
+
+pub returns : goal.returns
+returns c =
+    let d = c in
+    λ T B W. c.see_holding.ensures
+    ∙ alloc_done B W (numbers_in d.args.numbers.now) (sums_in d.args.sums.now) T d.args.t d.args.a d.args.x d.args.quota c.amount_at-own.ensures c.total_at-all.ensures (share d.args.x c.setting_at.ensures c.drawn-share.ensures) c.if-quota-share.false c.alloc_fits.ensures (not-false _ c.if-not-alloc_fits.false)

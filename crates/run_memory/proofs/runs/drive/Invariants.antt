@@ -1,0 +1,32 @@
+-- `run_memory::runs::drive` meets its contract. The invariant: what is left of the run is the whole, and the root has not ended (Along).
+use mathlib.Core.Path.{◌≡◌, refl, sym, ap, ◌∙◌}
+use Prim.Native.Nat.{ℕ, ◌+◌, ◌-◌, ◌%◌, ◌<◌}
+use mathlib.Core.List.{List}
+use mathlib.Core.Bool.{Bool, true, false}
+use native.Mathlib.Nat.{zero-mod}
+use native.Mathlib.Omega.{arith}
+use borrow.Author.Rules.{rules}
+use borrow.Author.Tests.{eqb-true, eqb-false}
+use lib.Dec.{ltb}
+use lib.ListN.{get_or}
+use Rattle.table.specs.Sum.{pick}
+use Rattle.schedule.specs.Runs.{worker_at}
+use Rattle.run_memory.specs.Memory.{Memory}
+use Rattle.run_memory.specs.Blocks.{memory_of}
+use Rattle.run_memory.proofs.Turning.{in_turn}
+use Rattle.run_memory.proofs.Endings.{not_done}
+use Rattle.run_memory.proofs.Drives.{Along, root_stops, first_along, stopped_as_lem, spent, hindered, undone, goes_on, finished}
+use Rattle.run_memory.proofs.runs.drive.Given as goal
+
+pub record Inv (s order : List ℕ) (rounds : Bool) (limit : ℕ) (M₀ M : Memory) (p i next : ℕ) : Type 0 where
+  pub asked : rounds ≡ true → 0 < get_or M₀.settings 0 0
+  pub workers : p ≡ get_or M₀.settings 0 0
+  pub turn : rounds ≡ true → next ≡ i % get_or M₀.settings 0 0
+  pub along : Along s (worker_at order rounds (get_or M₀.settings 0 0)) limit M₀ M i
+
+abbrev pub invariant-loop-i : goal.invariant-loop-i
+invariant-loop-i l =
+    Inv l.table l.order l.rounds l.limit (memory_of l.initial.bytes l.initial.words l.initial.numbers l.initial.sums) (memory_of l.bytes l.words l.numbers l.sums) l.p l.i l.next
+
+abbrev pub decreases-loop-i : goal.decreases-loop-i
+decreases-loop-i l = l.limit - l.i

@@ -1,0 +1,32 @@
+use Prim.Native.Nat.{◌-◌}
+use native.Mathlib.Omega.{arith}
+use Rattle.table.specs.Format.{table_of}
+use Rattle.schedule.specs.Sound.{status_follows}
+use Rattle.soundness.proofs.Lookups.{thread_below}
+use Rattle.order.proofs.Every.{Passed, passed_none, passed_next, passed_stop, passed_all}
+use Rattle.soundness.proofs.bodies.statuses_follow.Goals as goal
+
+pub loop-t-init : goal.loop-t-init
+loop-t-init c = passed_none
+
+pub status_follows-requires : goal.status_follows-requires
+status_follows-requires c =
+    let p = c.requires in
+    (p.0.rules, (thread_below p.0 c.loop-t-test.true, p.1))
+
+pub returns-then-not-status_follows : goal.returns-then-not-status_follows
+returns-then-not-status_follows c =
+    passed_stop c.loop-t.invariant c.loop-t-test.true c.status_follows.ensures c.if-not-status_follows.true
+
+pub overflow_add-t : goal.overflow_add-t
+overflow_add-t c = omega arith
+
+pub loop-t-smaller : goal.loop-t-smaller
+loop-t-smaller c = omega arith
+
+pub loop-t-preserved : goal.loop-t-preserved
+loop-t-preserved c =
+    passed_next c.loop-t.invariant c.status_follows.ensures c.if-not-status_follows.false
+
+pub returns : goal.returns
+returns c = passed_all c.loop-t.invariant c.loop-t-test.false

@@ -1,0 +1,13 @@
+-- `soundness::bodies::waits_at_joins` meets its contract. The invariant: the threads below t pass the test.
+use Prim.Native.Nat.{◌-◌}
+use native.Mathlib.Omega.{arith}
+use Rattle.table.specs.Format.{table_of}
+use Rattle.schedule.specs.Sound.{waits_at_join}
+use Rattle.order.proofs.Every.{Passed, passed_none, passed_next, passed_stop, passed_all}
+use Rattle.soundness.proofs.bodies.waits_at_joins.Given as goal
+
+abbrev pub invariant-loop-t : goal.invariant-loop-t
+invariant-loop-t l = Passed (waits_at_join (table_of l.table) l.next l.status) l.t
+
+abbrev pub decreases-loop-t : goal.decreases-loop-t
+decreases-loop-t l = l.n - l.t

@@ -1,0 +1,52 @@
+-- `soundness::common::common_parts` meets its contract: the table's own checks come first, then each thread's parent is noted and the common part tested.
+use mathlib.Core.Path.{◌≡◌, refl, sym, ◌∙◌}
+use Prim.Native.Nat.{ℕ}
+use mathlib.Core.List.{List}
+use mathlib.Core.Bool.{false}
+use borrow.Author.Rules.{rules}
+use lib.ListN.{replicate}
+use Rattle.table.specs.Format.{table_of}
+use Rattle.table.specs.Pass.{first_found}
+use Rattle.table.specs.Checks.{passes}
+use Rattle.table.specs.Rules.{Rules}
+use Rattle.table.specs.declared.Refusal.{Refusal}
+use Rattle.table.specs.declared.Found.TheVariants.{At}
+use Rattle.table.proofs.Passes.{passes_rules}
+use Rattle.schedule.specs.declared.Worker.{Worker}
+use Rattle.schedule.specs.Sound.{common_sound}
+use Rattle.order.specs.Words.{is_nothing}
+use Rattle.soundness.specs.Code.Checks.{Accepted}
+use Rattle.soundness.specs.Tested.{parents_in, parents_if}
+use Rattle.soundness.proofs.Noting.{parents_right}
+use Rattle.soundness.proofs.common.common_parts.Goals as goal
+
+module _ (s : List ℕ) where
+  not_sound : (p K : ℕ) (next status amounts : List ℕ) (workers : List Worker) (set amount highest : ℕ) {x : Refusal} → first_found (passes s) ≡ At x
+      → false ≡ common_sound s p K next status amounts workers set amount highest
+  unfolding common_sound
+  not_sound p K next status amounts workers set amount highest h = rw h
+
+  no_parents : {x : Refusal} → first_found (passes s) ≡ At x → replicate 1024 0 ≡ parents_if (is_nothing (first_found (passes s))) (table_of s)
+  no_parents h = rw h
+
+  its_parents : {l : List ℕ} → Rules s → l ≡ parents_in (table_of s) → l ≡ parents_if (is_nothing (first_found (passes s))) (table_of s)
+  its_parents k e = e ∙ rw ((passes_rules s).1 k)
+
+passed : (c : goal.In_default) → Rules c.args.table.now
+passed c = (passes_rules _).0 (sym c.check_in-found.ensures.value ∙ c.in_default.is)
+
+known : (c : goal.After-threads-n) → Accepted c.args.table.now c.threads-n.result
+unfolding table_of
+known c = record { rules = passed c; threads = c.threads-n.ensures.value }
+
+pub returns-in-At : goal.returns-in-At
+returns-in-At c = let e = sym c.check_in-found.ensures.value ∙ c.in-At.is in record { value = not_sound _ _ _ _ _ _ _ _ _ _ e; parents_after = no_parents _ e; falls_after = c.check_in-found.ensures.rises_after.1 }
+
+pub fill_forks-requires : goal.fill_forks-requires
+fill_forks-requires c = record { accepted = known (goal.at.fill_forks-requires c).After-threads-n; forks_value = (refl, refl) }
+
+pub common_holds-requires : goal.common_holds-requires
+common_holds-requires c = record { accepted = known (goal.at.common_holds-requires c).After-threads-n; forks = c.fill_forks.ensures.forks; parents = parents_right _ c.fill_forks.ensures.parents_after }
+
+pub returns : goal.returns
+returns c = record { value = c.common_holds.ensures; parents_after = its_parents _ (known (goal.at.returns c).After-threads-n).rules c.fill_forks.ensures.parents_after; falls_after = c.check_in-found.ensures.rises_after.1 }

@@ -1,0 +1,7 @@
+-- `soundness::common::test_common` meets its contract: what was used is cleared, but for the parents.
+use mathlib.Core.Path.{refl}
+use borrow.Author.Rules.{rules}
+use Rattle.soundness.proofs.common.test_common.Goals as goal
+
+pub returns : goal.returns
+returns c = let k = c.common_parts-passed.ensures in record { value = k.0; parents_after = k.1.0; rises_after = (refl, k.1.1, refl) }

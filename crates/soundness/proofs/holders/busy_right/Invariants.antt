@@ -1,0 +1,25 @@
+-- `soundness::holders::busy_right` meets its contract. The invariant: `set` is the set of the workers from w on, in its lowest bits.
+use mathlib.Core.Path.{◌≡◌, refl, ap, ◌∙◌}
+use Prim.Native.Nat.{ℕ, suc, ◌+◌, ◌-◌, ◌*◌, ◌^◌, ◌≤◌, ◌<◌}
+use mathlib.Core.List.{List, [], ◌∷◌}
+use mathlib.Core.Bool.{Bool, true, false}
+use native.Mathlib.Nat.{two-pow-succ, pow-le-pow_right}
+use native.Mathlib.Omega.{arith}
+use lib.ListN.{length, get_or, drop, length-drop, drop_of_length-le}
+use lib.Seq.{drop-cons}
+use Rattle.table.specs.Sum.{pick}
+use Rattle.schedule.specs.declared.Worker.{Worker}
+use Rattle.schedule.specs.Machine.{nobody}
+use Rattle.schedule.specs.Record.{set_of}
+use Rattle.soundness.proofs.holders.busy_right.Given as goal
+
+pub record Inv (workers : List Worker) (set w : ℕ) : Type 0 where
+  pub size : length workers ≡ 16
+  pub within : w ≤ 16
+  pub part : set ≡ set_of (drop w workers)
+
+abbrev pub invariant-loop-w : goal.invariant-loop-w
+invariant-loop-w l = Inv l.workers l.set l.w
+
+abbrev pub decreases-loop-w : goal.decreases-loop-w
+decreases-loop-w l = l.w

@@ -1,0 +1,13 @@
+-- `soundness::holders::workers_right` meets its contract. The invariant: the workers below w are right.
+use Prim.Native.Nat.{◌-◌}
+use native.Mathlib.Omega.{arith}
+use borrow.Author.Rules.{rules}
+use Rattle.schedule.specs.Sound.{worker_right}
+use Rattle.order.proofs.Every.{Passed, passed_none, passed_next, passed_stop, passed_all}
+use Rattle.soundness.proofs.holders.workers_right.Given as goal
+
+abbrev pub invariant-loop-w : goal.invariant-loop-w
+invariant-loop-w l = Passed (worker_right l.n l.p l.quota l.workers) l.w
+
+abbrev pub decreases-loop-w : goal.decreases-loop-w
+decreases-loop-w l = 16 - l.w

@@ -1,0 +1,32 @@
+-- `soundness::listed::mark_listed` meets its contract. The invariant: the marked threads are those in the first i places, and all of them are below n.
+use mathlib.Core.Path.{◌≡◌, refl, sym, ◌∙◌}
+use Prim.Native.Nat.{ℕ, ◌+◌, ◌-◌, ◌≤◌, ◌<◌}
+use mathlib.Core.List.{List, [], ◌∷◌, ◌++◌}
+use mathlib.Core.Bool.{Bool, true, false, ◌||◌, or_assoc, or-false, or-true}
+use native.Mathlib.Decide.{ℕ_discrete}
+use native.Mathlib.Numerals.{add-one}
+use native.Mathlib.Omega.{arith}
+use borrow.Author.Tests.{lt-ltb, le-ltb, eq-eqb, ne_eqb}
+use lib.Dec.{ltb, eqb}
+use lib.ListN.{length, get_or, take, set, replicate, length-set, length-replicate, length-take}
+use lib.Seq.{take-suc, get_or-take, get_or-set_same, get_or-set_other}
+use Rattle.table.proofs.Tests.{no_way}
+use Rattle.order.specs.Words.{all_in, member}
+use Rattle.order.proofs.Lists.{get_d_alike, get_d_member}
+use Rattle.order.proofs.Words.{and_exactly, all_in_exactly, never_true, not_both}
+use Rattle.soundness.proofs.listed.mark_listed.Given as goal
+
+pub record Inv (n : ℕ) (list : List ℕ) (len : ℕ) (marks : List Bool) (i : ℕ) : Type 0 where
+  pub threads : n ≤ 1024
+  pub places : len ≤ 1024
+  pub size : length list ≡ 1024
+  pub room : length marks ≡ 1024
+  pub within : i ≤ len
+  pub below : all_in (λ t. ltb t n) (take i list) ≡ true
+  pub marked : (t : ℕ) → get_or marks t false ≡ member t (take i list)
+
+abbrev pub invariant-loop-i : goal.invariant-loop-i
+invariant-loop-i l = Inv l.n l.list l.len l.marks l.i
+
+abbrev pub decreases-loop-i : goal.decreases-loop-i
+decreases-loop-i l = l.len - l.i

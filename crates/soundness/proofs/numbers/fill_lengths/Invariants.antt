@@ -1,0 +1,24 @@
+-- `soundness::numbers::fill_lengths` meets its contract. The invariant: the array has the lengths of the threads from t on.
+use mathlib.Core.Path.{◌≡◌, ◌∙◌}
+use Prim.Native.Nat.{ℕ, ◌+◌, ◌-◌, ◌≤◌, ◌<◌}
+use mathlib.Core.List.{List}
+use native.Mathlib.Omega.{arith}
+use native.Mathlib.Decide.{ℕ_discrete}
+use lib.ListN.{length, get_or, set, length-set}
+use lib.Seq.{get_or-set_same, get_or-set_other}
+use Rattle.table.specs.Format.{Table, table_of}
+use Rattle.table.specs.Serial.{serial}
+use Rattle.soundness.specs.Code.Checks.{Accepted, Lengths}
+use Rattle.soundness.proofs.Lookups.{few_threads}
+use Rattle.soundness.proofs.numbers.fill_lengths.Given as goal
+
+pub record Inv (T : Table) (n : ℕ) (lengths : List ℕ) (t : ℕ) : Type 0 where
+  pub few : n ≤ 1024
+  pub within : t ≤ n
+  pub filled : Lengths T lengths t
+
+abbrev pub invariant-loop-t : goal.invariant-loop-t
+invariant-loop-t l = Inv (table_of l.table) l.n l.lengths l.t
+
+abbrev pub decreases-loop-t : goal.decreases-loop-t
+decreases-loop-t l = l.t

@@ -1,0 +1,27 @@
+use Prim.Native.Nat.{◌-◌}
+use native.Mathlib.Omega.{arith}
+use borrow.Author.Rules.{rules}
+use Rattle.table.specs.Format.{table_of}
+use Rattle.soundness.specs.Code.Order.{Numbering}
+use Rattle.soundness.proofs.Lookups.{accepted_lawful}
+use Rattle.soundness.proofs.Marks.{numbering_starts, numbering_ends}
+use Rattle.soundness.proofs.numbers.fill_numbers.Goals as goal
+
+pub loop-t-init : goal.loop-t-init
+loop-t-init c = numbering_starts _ (accepted_lawful c.requires.accepted) c.args.next.now c.args.numbers.now c.requires.lengths
+
+pub number_thread-first-requires : goal.number_thread-first-requires
+number_thread-first-requires c = let p = c.requires in record { accepted = p.0; placed = p.1.0; t_lt_n = c.loop-t-test.true; numbering = c.loop-t.invariant }
+
+pub overflow_add-t : goal.overflow_add-t
+overflow_add-t c = omega arith
+
+pub loop-t-smaller : goal.loop-t-smaller
+loop-t-smaller c = omega arith
+
+pub loop-t-preserved : goal.loop-t-preserved
+loop-t-preserved c = c.number_thread-first.ensures
+
+pub returns : goal.returns
+returns c =
+    numbering_ends _ (accepted_lawful c.requires.accepted) c.args.next.now _ _ _ (omega (arith, c.requires.accepted.threads, c.loop-t-test.false)) c.loop-t.invariant

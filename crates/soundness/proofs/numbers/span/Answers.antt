@@ -1,0 +1,63 @@
+-- `soundness::numbers::span` meets its contract: an action comes alone, or with the child that it forks, whose thread is above its own.
+use mathlib.Core.Path.{◌≡◌}
+use Prim.Native.Nat.{ℕ, ◌+◌, ◌≤◌, ◌<◌}
+use mathlib.Core.List.{List}
+use native.Mathlib.Omega.{arith}
+use borrow.Author.Rules.{rules}
+use lib.ListN.{length, get_or}
+use Rattle.table.specs.Format.{fork, kind, table_of}
+use Rattle.table.specs.Checks.{owner}
+use Rattle.table.specs.Serial.{serial}
+use Rattle.order.proofs.Lawful.{Lawful}
+use Rattle.soundness.specs.Code.Checks.{Accepted, Lengths}
+use Rattle.soundness.specs.Code.Order.{Inside}
+use Rattle.soundness.proofs.Lookups.{accepted_lawful, code_read, argument_read, fork_code, not_fork}
+use Rattle.soundness.proofs.Spans.{inside_fork, span_step, span_fork, child_small}
+use Rattle.soundness.proofs.numbers.span.Goals as goal
+
+-- what holds at a fork of thread x
+record Forked (s : List ℕ) (a x : ℕ) (lengths : List ℕ) : Type 0 where
+  below : x < 1024
+  child : get_or lengths x 0 ≤ 8192
+  both : length (serial (table_of s) a) ≡ 1 + get_or lengths x 0 + length (serial (table_of s) (a + 1))
+
+module _ (s : List ℕ) (n a : ℕ) (lengths : List ℕ)
+    (p : Accepted s n × (Inside (table_of s) (owner (table_of s) a) a × Lengths (table_of s) lengths (owner (table_of s) a + 1))) where
+  lawful : Lawful (table_of s)
+  lawful = accepted_lawful p.0
+
+  alone : (k : ℕ) → k ≡ (table_of s).code a → (k ≡ 4 → ⊥) → length (serial (table_of s) a) ≡ 1 + length (serial (table_of s) (a + 1))
+  alone k e d = span_step (table_of s) lawful _ a p.1.0 (rw e at (not_fork d))
+
+  forked : (k x : ℕ) → k ≡ (table_of s).code a → k ≡ 4 → x ≡ (table_of s).argument a → Forked s a x lengths
+  forked k x e d r =
+      let forks : kind (table_of s) a ≡ fork = rw e at (fork_code d) in
+      let (above, below) = inside_fork (table_of s) lawful _ a p.1.0 forks in
+      let known = p.1.1.right ((table_of s).argument a) (omega arith) below in
+      rw r
+      (record {
+        below = omega (arith, lawful.few_threads);
+        child = rw known (child_small (table_of s) lawful _ a p.1.0 forks);
+        both = rw known (span_fork (table_of s) lawful _ a p.1.0 forks);
+      })
+
+pub returns-then-code-ne-FORK : goal.returns-then-code-ne-FORK
+returns-then-code-ne-FORK c =
+    alone c.args.table.now _ _ c.args.lengths.now c.requires _ (code_read c.requires.accepted _ c.code.ensures) c.if-code-ne-FORK.true
+
+at_fork : (c : goal.After-argument) → Forked c.args.table.now c.args.a c.argument.result
+    c.args.lengths.now
+at_fork c =
+    forked c.args.table.now _ _ c.args.lengths.now c.requires _ _ (code_read c.requires.accepted _ c.code.ensures) c.if-code-ne-FORK.false (argument_read c.requires.accepted _ c.argument.ensures).value
+
+pub bounds-lengths-argument : goal.bounds-lengths-argument
+bounds-lengths-argument c = (at_fork (goal.at.bounds-lengths-argument c).After-argument).below
+
+pub overflow_cast-result : goal.overflow_cast-result
+overflow_cast-result c = omega (arith, (at_fork (goal.at.overflow_cast-result c).After-argument).child)
+
+pub overflow_add-result : goal.overflow_add-result
+overflow_add-result c = omega (arith, (at_fork (goal.at.overflow_add-result c).After-argument).child)
+
+pub returns : goal.returns
+returns c = (at_fork (goal.at.returns c).After-argument).both

@@ -1,0 +1,19 @@
+-- `soundness::shares::clear_joined` meets its contract. The invariants: the threads joined below thread t's actions, or below action a of it, are cleared.
+use Prim.Native.Nat.{◌-◌}
+use native.Mathlib.Omega.{arith}
+use borrow.Author.Rules.{rules}
+use Rattle.soundness.proofs.Lookups.{accepted_body}
+use Rattle.soundness.proofs.Clearing.{Clearing, ClearingIn, clearing_starts, clearing_enters, clearing_asks, clearing_goes, clearing_leaves, clearing_ends}
+use Rattle.soundness.proofs.shares.clear_joined.Given as goal
+
+abbrev pub invariant-loop-a : goal.invariant-loop-a
+invariant-loop-a l = ClearingIn l.table l.n l.next l.status l.t l.stop l.amounts l.a
+
+abbrev pub decreases-loop-a : goal.decreases-loop-a
+decreases-loop-a l = l.stop - l.a
+
+abbrev pub invariant-loop-t : goal.invariant-loop-t
+invariant-loop-t l = Clearing l.table l.n l.next l.status l.amounts l.t
+
+abbrev pub decreases-loop-t : goal.decreases-loop-t
+decreases-loop-t l = l.n - l.t

@@ -1,0 +1,56 @@
+-- `soundness::sound::sound` meets its contract: a record is sound where its parts are and its table is a copy of the bytes in use.
+use mathlib.Core.Path.{◌≡◌, sym, ◌∙◌}
+use Prim.Native.Nat.{ℕ, ◌≤◌}
+use mathlib.Core.List.{List}
+use mathlib.Core.Bool.{Bool, true, false}
+use native.Mathlib.Omega.{arith}
+use borrow.Author.Rules.{rules}
+use borrow.Author.Tests.{not-false}
+use lib.ListN.{length, replicate}
+use lib.Seq.{length-take-le}
+use Rattle.schedule.specs.declared.Run.{Run}
+use Rattle.schedule.specs.Record.{bytes_of, table_in, links_in}
+use Rattle.schedule.specs.Sound.{sound}
+use Rattle.soundness.specs.declared.Tested.{Tested}
+use Rattle.soundness.specs.Code.Checks.{copy_sound}
+use Rattle.soundness.specs.Tested.{parents_if, sound_on}
+use Rattle.soundness.proofs.Chains.{off, on, skip, last}
+use Rattle.soundness.proofs.OnParts.{sound_is}
+use Rattle.soundness.proofs.sound.sound.Goals as goal
+
+module _ (r : Run) where
+  abbrev answer : Tested
+  answer = record { passed = sound r; parents = parents_if (sound r) (table_in r) }
+
+  abbrev parts : Bool
+  parts = sound_on (bytes_of r) r.workers r.quota r.next r.status r.amounts (links_in r) r.worker r.busy r.held r.highest r.turns
+
+  no_copy : copy_sound r ≡ false → record { passed = false; parents = replicate 1024 0 } ≡ answer
+  no_copy e =
+      let h : sound r ≡ false = sound_is r ∙ sym (skip parts (sym e)) in
+      rw h
+
+  by_parts : copy_sound r ≡ true → {q : Bool} {l : List ℕ} → q ≡ parts → l ≡ parents_if q (table_in r) → record { passed = q; parents = l } ≡ answer
+  by_parts e {q} h d =
+      let k : q ≡ sound r = last parts h e ∙ sym (sound_is r) in
+      rw (d, k)
+
+table_size : (c : goal.Start) → length c.args.run.table ≡ 36868
+table_size c = search rules
+
+bounds : (c : goal.Else-not-copy_sound) → c.args.run.length ≤ 36868
+bounds c = c.copy_sound.ensures.length_bound (not-false _ c.if-not-copy_sound.false)
+
+pub returns-then-not-copy_sound : goal.returns-then-not-copy_sound
+returns-then-not-copy_sound c = no_copy _ (off c.copy_sound.ensures.value c.if-not-copy_sound.true)
+
+pub slice_bounds-table-end : goal.slice_bounds-table-end
+slice_bounds-table-end c =
+    omega (arith, bounds (goal.at.slice_bounds-table-end c).Else-not-copy_sound, table_size (goal.at.slice_bounds-table-end c).Start)
+
+pub slice_bounds-bytes-end : goal.slice_bounds-bytes-end
+slice_bounds-bytes-end c = sym (length-take-le _ _ (array_share_prefix_table c))
+
+pub returns : goal.returns
+returns c =
+    by_parts c.args.run (on c.copy_sound.ensures.value c.if-not-copy_sound.false) c.test_in-passed.ensures.value c.test_in-passed.ensures.parents_after

@@ -1,0 +1,14 @@
+-- `soundness::unused::zero_numbers` meets its contract. The invariant: the places below t are 0.
+use Prim.Native.Nat.{◌-◌}
+use native.Mathlib.Omega.{arith}
+use borrow.Author.Rules.{rules}
+use lib.ListN.{length}
+use Rattle.order.proofs.Every.{PassedFrom, from_none}
+use Rattle.soundness.proofs.Filled.{is_zero, rest_more, zeros_fail, zeros_pass}
+use Rattle.soundness.proofs.unused.zero_numbers.Given as goal
+
+abbrev pub invariant-loop-t : goal.invariant-loop-t
+invariant-loop-t l = PassedFrom 0 (is_zero l.l) l.t
+
+abbrev pub decreases-loop-t : goal.decreases-loop-t
+decreases-loop-t l = length l.l - l.t

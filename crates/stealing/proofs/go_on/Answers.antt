@@ -1,0 +1,162 @@
+-- `stealing::go_on` meets its contract.
+use mathlib.Core.Path.{◌≡◌, refl, sym, ap, ◌∙◌}
+use Prim.Native.Nat.{ℕ, ◌+◌, ◌<◌}
+use mathlib.Core.Bool.{Bool, true, ◌&&◌}
+use mathlib.Core.Logic.{⊎_elim}
+use Rattle.table.proofs.Tests.{and_both}
+use native.Mathlib.Omega.{arith}
+use borrow.Author.Tests.{not-true, not-false, ltb-true}
+use lib.Dec.{ltb}
+use Rattle.table.specs.Format.{table_of}
+use Rattle.array_machine.specs.Turn.{next_fits}
+use Rattle.array_machine.proofs.Leaves.{fits16, fits_and}
+use Rattle.run_memory.specs.Blocks.{bytes_in, words_in, numbers_in, sums_in, memory_of}
+use Rattle.run_memory.proofs.Takes.{codes, arguments}
+use Rattle.stealing.proofs.Goes.{spoke, counted_as, no_thread_read, ends_read, other_read, fork_unfit_read, fork_read, wait_read, join_read}
+use borrow.Author.Rules.{rules}
+use Rattle.stealing.proofs.go_on.Goals as goal
+
+small : {x : ℕ} → x < 1024 → x < 65536
+small h = omega (arith, h)
+
+-- what the test says
+inside : {f : Bool} (a x : ℕ) → f ≡ true → f ≡ (next_fits a && ltb x 1024) → (a + 1 < 65536) × (x < 1024)
+inside a x e d =
+    let p : (a + 1 < 65536) × (ltb x 1024 ≡ true) = fits_and a (ltb x 1024) e d in
+    (p.0, ltb-true x 1024 p.1)
+
+below : {f : Bool} (x : ℕ) (b : Bool) → f ≡ true → f ≡ (ltb x 1024 && b) → x < 1024
+below x b e d = ltb-true x 1024 (and_both (ltb x 1024) b (sym d ∙ e)).0
+
+pub returns-then-t-ge-NO_THREAD : goal.returns-then-t-ge-NO_THREAD
+returns-then-t-ge-NO_THREAD c =
+    let s = c.args.table.now in
+    let w = c.args.w in
+    let M = memory_of c.args.bytes.now c.args.words.now c.args.numbers.now c.args.sums.now in
+    λ v. spoke c.refused.ensures (no_thread_read s w v M c.requires c.thread_at-t.ensures refl c.if-t-ge-NO_THREAD.true)
+
+pub returns-then-code-eq-END : goal.returns-then-code-eq-END
+returns-then-code-eq-END c =
+    let x2 = c in
+    let e1 = x2 in
+    let x1 = e1 in
+    let d = x1 in
+    let s = d.args.table.now in
+    let w = d.args.w in
+    let M = memory_of d.args.bytes.now d.args.words.now d.args.numbers.now d.args.sums.now in
+    let C = codes s c.bodies-actions.ensures c.threads.ensures.value in
+    let G = arguments s c.bodies-actions.ensures c.threads.ensures.value in
+    let a = x2.row_at-a.result in
+    let i = c.code_in-code.ensures ∙ (λ j. sym C j a) in
+    λ v.
+    spoke c.said.ensures
+    (counted_as (bytes_in c.end.new.1.1.1.0) (words_in c.end.new.1.1.1.1.0) (numbers_in c.end.new.1.1.1.1.1.0) (sums_in d.args.sums.now) c.count.ensures
+    (ends_read s w v M d.requires x1.thread_at-t.ensures x2.row_at-a.ensures e1.if-t-ge-NO_THREAD.false i c.if-code-eq-END.true (c.end.ensures (table_of s) (sums_in d.args.sums.now) C G)))
+
+pub returns-then-not-fork_fits : goal.returns-then-not-fork_fits
+returns-then-not-fork_fits c =
+    let b = c in
+    let n = b in
+    let x2 = n in
+    let e1 = x2 in
+    let x1 = e1 in
+    let d = x1 in
+    let s = d.args.table.now in
+    let w = d.args.w in
+    let M = memory_of d.args.bytes.now d.args.words.now d.args.numbers.now d.args.sums.now in
+    let C = codes s b.bodies-actions.ensures n.threads.ensures.value in
+    let G = arguments s b.bodies-actions.ensures n.threads.ensures.value in
+    let a = x2.row_at-a.result in
+    let i = c.code_in-code.ensures ∙ (λ j. sym C j a) in
+    λ v.
+    spoke c.refused-then-not-fork_fits.ensures
+    (fork_unfit_read s w v M d.requires x1.thread_at-t.ensures x2.row_at-a.ensures e1.if-t-ge-NO_THREAD.false i (c.argument_in-x.ensures.value ∙ (λ j. sym G j a)) c.if-code-eq-FORK.true c.fork_fits.ensures (not-true _ c.if-not-fork_fits.true))
+
+pub overflow_cast-x : goal.overflow_cast-x
+overflow_cast-x c =
+    fits16 (small (inside c.row_at-a.result _ (not-false _ c.if-not-fork_fits.false) c.fork_fits.ensures).1)
+
+pub fork-requires : goal.fork-requires
+fork-requires c = let b = c in
+    let n = b in
+    let x2 = n in
+    let e1 = x2 in
+    let x1 = e1 in
+    let d = x1 in
+    let s = d.args.table.now in
+    let w = d.args.w in
+    let M = memory_of d.args.bytes.now d.args.words.now d.args.numbers.now d.args.sums.now in
+    let C = codes s b.bodies-actions.ensures n.threads.ensures.value in
+    let G = arguments s b.bodies-actions.ensures n.threads.ensures.value in
+    let a = x2.row_at-a.result in
+    let i = c.code_in-code.ensures ∙ (λ j. sym C j a) in
+    let r = inside a c.argument_in-x.result (not-false _ c.if-not-fork_fits.false) c.fork_fits.ensures in record { holder = (d.requires.few, d.requires.holds); a_bound = (r.0, (r.1, x2.row_at-a.ensures)) }
+
+pub returns-then-code-eq-FORK : goal.returns-then-code-eq-FORK
+returns-then-code-eq-FORK c =
+    let o = c in
+    let k = o in
+    let b = k in
+    let n = b in
+    let x2 = n in
+    let e1 = x2 in
+    let x1 = e1 in
+    let d = x1 in
+    let s = d.args.table.now in
+    let w = d.args.w in
+    let M = memory_of d.args.bytes.now d.args.words.now d.args.numbers.now d.args.sums.now in
+    let C = codes s b.bodies-actions.ensures n.threads.ensures.value in
+    let G = arguments s b.bodies-actions.ensures n.threads.ensures.value in
+    let a = x2.row_at-a.result in
+    let i = k.code_in-code.ensures ∙ (λ j. sym C j a) in
+    λ v.
+    spoke c.said-then-code-eq-FORK.ensures
+    (counted_as (bytes_in c.fork.new.1.1.1.1.0) (words_in c.fork.new.1.1.1.1.1.0) (numbers_in d.args.numbers.now) (sums_in d.args.sums.now) c.count-then-code-eq-FORK.ensures
+    (fork_read s w v M d.requires x1.thread_at-t.ensures x2.row_at-a.ensures e1.if-t-ge-NO_THREAD.false i (c.argument_in-x.ensures.value ∙ (λ j. sym G j a)) c.if-code-eq-FORK.true c.fork_fits.ensures (not-false _ c.if-not-fork_fits.false) (c.fork.ensures (sums_in d.args.sums.now))))
+
+pub overflow_cast-x-then-runs_on : goal.overflow_cast-x-then-runs_on
+overflow_cast-x-then-runs_on c =
+    fits16 (small (below _ _ c.if-runs_on.true c.runs_on.ensures))
+
+pub returns-then-runs_on : goal.returns-then-runs_on
+returns-then-runs_on c =
+    let o2 = c in
+    let o = o2 in
+    let k = o in
+    let b = k in
+    let n = b in
+    let x2 = n in
+    let e1 = x2 in
+    let x1 = e1 in
+    let d = x1 in
+    let s = d.args.table.now in
+    let w = d.args.w in
+    let M = memory_of d.args.bytes.now d.args.words.now d.args.numbers.now d.args.sums.now in
+    let C = codes s b.bodies-actions.ensures n.threads.ensures.value in
+    let G = arguments s b.bodies-actions.ensures n.threads.ensures.value in
+    let a = x2.row_at-a.result in
+    let i = k.code_in-code.ensures ∙ (λ j. sym C j a) in
+    λ v.
+    spoke c.said-then-runs_on.ensures
+    (counted_as (bytes_in c.leave.new.1.1.1.0) (words_in c.leave.new.1.1.1.1.0) (numbers_in c.leave.new.1.1.1.1.1.0) (sums_in d.args.sums.now) c.count-then-runs_on.ensures
+    (wait_read s w v M d.requires x1.thread_at-t.ensures x2.row_at-a.ensures e1.if-t-ge-NO_THREAD.false i (c.argument_in-x-then-code-eq-JOIN.ensures.value ∙ (λ j. sym G j a)) c.if-code-eq-JOIN.true c.runs_on.ensures c.if-runs_on.true (c.leave.ensures (sums_in d.args.sums.now))))
+
+pub returns : goal.returns
+returns c =
+    let x2 = c in
+    let e1 = x2 in
+    let x1 = e1 in
+    let d = x1 in
+    let s = d.args.table.now in
+    let w = d.args.w in
+    let M = memory_of d.args.bytes.now d.args.words.now d.args.numbers.now d.args.sums.now in
+    let C = codes s c.bodies-actions.ensures c.threads.ensures.value in
+    let G = arguments s c.bodies-actions.ensures c.threads.ensures.value in
+    let a = x2.row_at-a.result in
+    let i = c.code_in-code.ensures ∙ (λ j. sym C j a) in
+    λ v.
+    c.plain.ensures
+    ∙ ⊎_elim
+    (λ z. join_read s w v M d.requires x1.thread_at-t.ensures x2.row_at-a.ensures e1.if-t-ge-NO_THREAD.false i (z.1.ensures.value ∙ (λ j. sym G j a)) z.0.taken z.3.ensures z.4.left)
+    (λ z. other_read s w v M d.requires x1.thread_at-t.ensures x2.row_at-a.ensures e1.if-t-ge-NO_THREAD.false i c.if-code-eq-END.false c.if-code-eq-FORK.false z.left)
+    c.if-code-eq-JOIN.branch

@@ -1,0 +1,6 @@
+-- `table::read::argument` meets its contract.
+use borrow.Author.Rules.{rules}
+use Rattle.table.proofs.read.argument.Goals as goal
+
+pub returns : goal.returns
+returns c = rw c.bodies.ensures at c.argument_in.ensures

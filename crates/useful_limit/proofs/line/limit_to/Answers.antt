@@ -1,0 +1,32 @@
+-- `useful_limit::line::limit_to` meets its contract: what follows the eight bytes is the table.
+use mathlib.Core.Path.{◌≡◌, ◌∙◌}
+use Prim.Native.Nat.{ℕ, ◌-◌, ◌≤◌, ◌<◌}
+use mathlib.Core.List.{List}
+use borrow.Author.Tests.{lt-ltb, le-ltb}
+use lib.ListN.{length, take, drop}
+use Rattle.table.specs.Format.{u24_at, u32_at}
+use Rattle.table.specs.Pass.{refusal}
+use Rattle.table.proofs.Parts.{rest_part}
+use Rattle.quota.specs.Line.{workers_in}
+use Rattle.useful_limit.specs.declared.Limits.TheVariants.{Refused}
+use Rattle.useful_limit.specs.Limits.{limits}
+use Rattle.useful_limit.specs.Line.{limits_to}
+use borrow.Author.Rules.{rules}
+use Rattle.useful_limit.proofs.line.limit_to.Goals as goal
+
+module _ (s : List ℕ) where
+  short : length s < 8 → Refused (refusal 33 0) ≡ limits_to s
+  unfolding limits_to
+  short h = rw (lt-ltb (length s) 8 h)
+
+  whole : {p K b : ℕ} → 8 ≤ length s → p ≡ workers_in s → K ≡ u24_at s 1 → b ≡ u32_at s 4 → limits (take (length s - 8) (drop 8 s)) p K b ≡ limits_to s
+  unfolding limits_to
+  whole h ep eK eb = rw (le-ltb (length s) 8 h, ep, eK, eb, rest_part s 8)
+
+pub returns-then-input-lt8 : goal.returns-then-input-lt8
+returns-then-input-lt8 c = short _ c.if-input-lt8.true
+
+pub returns : goal.returns
+returns c =
+    c.limit_whole.ensures
+    ∙ whole _ c.if-input-lt8.false c.byte.ensures c.quota_in.ensures c.number_in.ensures

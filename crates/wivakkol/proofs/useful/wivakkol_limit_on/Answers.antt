@@ -1,0 +1,16 @@
+-- `wivakkol::useful::wivakkol_limit_on` meets its contract: what the useful limit's call answers, case by case.
+use borrow.Author.Rules.{rules}
+use Rattle.wivakkol.proofs.UsefulRows.{limit_handed, limit_given, limit_refused}
+use Rattle.wivakkol.proofs.useful.wivakkol_limit_on.Goals as goal
+
+pub returns-in-Given : goal.returns-in-Given
+returns-in-Given c = let a = c.args in
+    let e = c.limit_in-answer.ensures in
+    let q = limit_handed a.table.now a.quota a.b a.p a.filled.now c.workers-w.ensures e.0 e.1.0 in
+    let r = limit_given q.0 c.in-Given.is in record { value = r.0; row_after = r.1; filled_after = q.1; rises_after = e.1.1 }
+
+pub returns-in-Refused : goal.returns-in-Refused
+returns-in-Refused c = let a = c.args in
+    let e = c.limit_in-answer.ensures in
+    let q = limit_handed a.table.now a.quota a.b a.p a.filled.now c.workers-w.ensures e.0 e.1.0 in
+    let r = limit_refused q.0 c.in-Refused.is in record { value = r.0; row_after = r.1; filled_after = q.1; rises_after = e.1.1 }

@@ -1,0 +1,12 @@
+-- `wivakkol::wivakkol_check_on` meets its contract: what loading answers, case by case.
+use borrow.Author.Rules.{rules}
+use Rattle.wivakkol.proofs.Answers.{accepted_row, refused_row}
+use Rattle.wivakkol.proofs.wivakkol_check_on.Goals as goal
+
+pub returns-in-Accepted : goal.returns-in-Accepted
+returns-in-Accepted c = let l = c.load_in-loaded.ensures.1 in
+    let r = accepted_row _ _ l.0 _ c.in-Accepted.is in record { value = r.0; row_after = r.1; rises_after = l.1 }
+
+pub returns-in-Refused : goal.returns-in-Refused
+returns-in-Refused c = let l = c.load_in-loaded.ensures.1 in
+    let r = refused_row _ _ l.0 _ c.in-Refused.is in record { value = r.0; row_after = r.1; rises_after = l.1 }

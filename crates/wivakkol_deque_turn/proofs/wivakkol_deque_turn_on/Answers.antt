@@ -1,0 +1,31 @@
+-- `wivakkol_deque_turn::wivakkol_deque_turn_on` meets its contract: what the turn says is put into the row.
+use mathlib.Core.Path.{◌≡◌, ap, ◌∙◌}
+use Prim.Native.Nat.{ℕ}
+use mathlib.Core.List.{List}
+use borrow.Author.Rules.{rules}
+use borrow.Author.Tests.{ne_eqb}
+use Rattle.run_memory.specs.Memory.{Memory, no_row, reply_row, answer, Told}
+use Rattle.run_memory.specs.Blocks.{memory_of}
+use Rattle.stealing.specs.StealingMemory.{deque_turn_in}
+use Rattle.wivakkol_deques.specs.DequeLent.{lent_deque_turn}
+use Rattle.wivakkol_deque_turn.proofs.wivakkol_deque_turn_on.Goals as goal
+
+module _ (s : List ℕ) (w c : ℕ) (M : Memory) {y : Told} (e : y ≡ deque_turn_in s w c M) where
+  refuses : (y.number ≡ 0 → ⊥) → answer y.number no_row y.memory ≡ lent_deque_turn s w c M
+  unfolding lent_deque_turn
+  refuses d = rw (← e, ne_eqb y.number 0 d)
+
+  tells : {row : List ℕ} → y.number ≡ 0 → row ≡ reply_row y.reply 0 → answer 0 row y.memory ≡ lent_deque_turn s w c M
+  unfolding lent_deque_turn
+  tells {row} d r = ap (λ (x : List ℕ). answer 0 x y.memory) r ∙ rw (← e, d)
+
+abbrev start : goal.Start → Memory
+start d = memory_of d.args.bytes.now d.args.words.now d.args.numbers.now d.args.sums.now
+
+pub returns-then-told-ne0 : goal.returns-then-told-ne0
+returns-then-told-ne0 c =
+    refuses c.args.table.now c.args.w c.args.c (start (goal.at.returns-then-told-ne0 c).Start) c.deque_turn_in-told.ensures c.if-told-ne0.true
+
+pub returns : goal.returns
+returns c =
+    tells c.args.table.now c.args.w c.args.c (start (goal.at.returns c).Start) c.deque_turn_in-told.ensures c.if-told-ne0.false c.put_reply.ensures

@@ -1,0 +1,16 @@
+-- `wivakkol_deques::limit::wivakkol_deque_limit_on` meets its contract: what the limit's call answers, case by case.
+use borrow.Author.Rules.{rules}
+use Rattle.wivakkol_deques.proofs.ChoiceRows.{choice_handed, choice_given, choice_refused}
+use Rattle.wivakkol_deques.proofs.limit.wivakkol_deque_limit_on.Goals as goal
+
+pub returns-in-Given : goal.returns-in-Given
+returns-in-Given c = let a = c.args in
+    let e = c.choice_limit_in-answer.ensures in
+    let q = choice_handed a.table.now a.quota a.c a.p a.filled.now c.workers-w.ensures e.0 e.1.0 in
+    let r = choice_given q.0 c.in-Given.is in record { value = r.0; row_after = r.1; filled_after = q.1; rises_after = e.1.1 }
+
+pub returns-in-Refused : goal.returns-in-Refused
+returns-in-Refused c = let a = c.args in
+    let e = c.choice_limit_in-answer.ensures in
+    let q = choice_handed a.table.now a.quota a.c a.p a.filled.now c.workers-w.ensures e.0 e.1.0 in
+    let r = choice_refused q.0 c.in-Refused.is in record { value = r.0; row_after = r.1; filled_after = q.1; rises_after = e.1.1 }

@@ -1,0 +1,22 @@
+-- `wivakkol_desk::wivakkol_disassemble_on` meets its contract: the answer's number and row, or the bytes that are lacking.
+use Rattle.wivakkol_desk.proofs.Rows.{told_row, lacks_row}
+use borrow.Author.Rules.{rules}
+use Rattle.wivakkol_desk.proofs.wivakkol_disassemble_on.Goals as goal
+
+pub returns-in-Listed : goal.returns-in-Listed
+returns-in-Listed c =
+    let e = c.disassemble_in-answer.ensures in
+    let v = told_row _ _ _ _ c.in-Answered.is c.in-Listed.is e.0 in
+    (v.0, (v.1, e.1))
+
+pub returns-in-Refused : goal.returns-in-Refused
+returns-in-Refused c =
+    let e = c.disassemble_in-answer.ensures in
+    let v = told_row _ _ _ _ c.in-Answered.is c.in-Refused.is e.0 in
+    (v.0, (v.1, e.1))
+
+pub returns-in-Short : goal.returns-in-Short
+returns-in-Short c =
+    let e = c.disassemble_in-answer.ensures in
+    let v = lacks_row _ _ _ c.in-Short.is e.0 in
+    (v.0, (v.1, e.1))

@@ -1,0 +1,30 @@
+use Prim.Native.Nat.{◌-◌}
+use mathlib.Core.Bool.{not, ◌||◌}
+use native.Mathlib.Omega.{arith}
+use Rattle.order.proofs.Every.{Passed, passed_none, passed_next, passed_stop, passed_all}
+use Rattle.wivakkol_marks.specs.LentMarks.{marks_of, is_set_in, mark_in, fit_in, fit_marks}
+use Rattle.wivakkol_marks.proofs.fit_marks.Goals as goal
+
+pub loop-i-init : goal.loop-i-init
+loop-i-init c = passed_none
+
+pub fit_mark-fits-requires : goal.fit_mark-fits-requires
+fit_mark-fits-requires c = c.loop-i-test.true
+
+pub returns-then-not-fits : goal.returns-then-not-fits
+unfolding fit_marks
+returns-then-not-fits c =
+    passed_stop c.loop-i.invariant c.loop-i-test.true c.fit_mark-fits.ensures c.if-not-fits.true
+
+pub overflow_add-i : goal.overflow_add-i
+overflow_add-i c = omega (arith, c.loop-i-test.true)
+
+pub loop-i-smaller : goal.loop-i-smaller
+loop-i-smaller c = omega (arith, c.loop-i-test.true)
+
+pub loop-i-preserved : goal.loop-i-preserved
+loop-i-preserved c = passed_next c.loop-i.invariant c.fit_mark-fits.ensures c.if-not-fits.false
+
+pub returns : goal.returns
+unfolding fit_marks
+returns c = passed_all c.loop-i.invariant c.loop-i-test.false

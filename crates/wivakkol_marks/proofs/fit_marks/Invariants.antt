@@ -1,0 +1,14 @@
+-- `wivakkol_marks::fit_marks` meets its contract. The invariant: the marks below i are not set, or fit.
+use Prim.Native.Nat.{◌-◌}
+use mathlib.Core.Bool.{not, ◌||◌}
+use native.Mathlib.Omega.{arith}
+use Rattle.order.proofs.Every.{Passed, passed_none, passed_next, passed_stop, passed_all}
+use Rattle.wivakkol_marks.specs.LentMarks.{marks_of, is_set_in, mark_in, fit_in, fit_marks}
+use Rattle.wivakkol_marks.proofs.fit_marks.Given as goal
+
+abbrev pub invariant-loop-i : goal.invariant-loop-i
+invariant-loop-i l =
+    Passed (λ j. not (is_set_in (marks_of l.set l.markbytes l.markwords l.marknumbers l.marksums) j) || fit_in l.table (mark_in (marks_of l.set l.markbytes l.markwords l.marknumbers l.marksums) j)) l.i
+
+abbrev pub decreases-loop-i : goal.decreases-loop-i
+decreases-loop-i l = 8 - l.i

@@ -1,0 +1,52 @@
+-- `wivakkol_marks::standing::sound_on` meets its contract: the test of the parts, with the workers' truth values.
+use mathlib.Core.Path.{refl, ap, ◌∙◌}
+use Prim.Native.Nat.{ℕ, min}
+use borrow.Author.Rules.{rules}
+use Rattle.wivakkol_marks.proofs.Fits.{sound_read, truths_read}
+use Rattle.wivakkol_marks.proofs.standing.sound_on.Goals as goal
+
+pub returns-then-truths_right : goal.returns-then-truths_right
+returns-then-truths_right c = let k = c in
+    let p = k in
+    let x = p in
+    let w = x in
+    let s = w in
+    let e = c.test_in-passed.ensures in record {
+      value = sound_read s.args.table.now s.requires
+          (record {
+            workers = p.workers.ensures ∙ ap (λ (n : ℕ). min n 17) x.setting_at.ensures;
+            quota = k.setting_at-2.ensures;
+            leftmost = c.head_at.ensures;
+            records = w.workers_out-records.ensures;
+            busy = c.head_at-2.ensures;
+            held = c.total_at.ensures;
+            highest = c.total_at-2.ensures;
+            turns = c.total_at-3.ensures;
+          })
+          e.0 c.truths_right.ensures c.if-truths_right.true;
+      seen_after = e.1.0;
+      forks_after = e.1.1.1;
+    }
+
+pub returns : goal.returns
+returns c = let l = c in
+    let k = l in
+    let p = k in
+    let x = p in
+    let w = x in
+    let s = w in record {
+      value = truths_read s.args.table.now s.requires
+          (record {
+            workers = p.workers.ensures ∙ ap (λ (n : ℕ). min n 17) x.setting_at.ensures;
+            quota = k.setting_at-2.ensures;
+            leftmost = l.head_at.ensures;
+            records = w.workers_out-records.ensures;
+            busy = c.head_at-2.ensures;
+            held = c.total_at.ensures;
+            highest = c.total_at-2.ensures;
+            turns = c.total_at-3.ensures;
+          })
+          c.truths_right.ensures c.if-truths_right.false;
+      seen_after = refl;
+      forks_after = c.test_in-passed.ensures.forks_after;
+    }

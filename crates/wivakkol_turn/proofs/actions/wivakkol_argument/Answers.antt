@@ -1,0 +1,23 @@
+-- `wivakkol_turn::actions::wivakkol_argument` meets its contract.
+use mathlib.Core.Path.{◌∙◌}
+use borrow.Author.Rules.{rules}
+use Rattle.table.specs.Format.{table_of}
+use Rattle.table.proofs.Parts.{argument_from}
+use Rattle.wivakkol_turn.specs.Actions.{argument_of}
+use Rattle.wivakkol_turn.proofs.Numbered.{no_action_lem, an_action, threads_read}
+use Rattle.wivakkol_turn.proofs.actions.wivakkol_argument.Goals as goal
+
+pub returns-then-actions-a : goal.returns-then-actions-a
+unfolding argument_of
+returns-then-actions-a c =
+    let d = c.args in
+    no_action_lem d.table.now d.a c.actions.ensures c.if-actions-a.true ((table_of d.table.now).argument d.a) 0
+
+pub returns : goal.returns
+unfolding argument_of
+returns c =
+    let d = c.args in
+    let s = d.table.now in
+    c.argument.ensures.value
+    ∙ argument_from s _ (threads_read s c.threads.ensures) d.a
+    ∙ an_action s d.a c.actions.ensures c.if-actions-a.false ((table_of s).argument d.a) 0

@@ -1,0 +1,33 @@
+-- `wivakkol_turn::wivakkol_turn_on` meets its contract: what the turn says is put into the row.
+use mathlib.Core.Path.{◌≡◌, ap, ◌∙◌}
+use Prim.Native.Nat.{ℕ}
+use mathlib.Core.List.{List}
+use borrow.Author.Rules.{rules}
+use borrow.Author.Tests.{ne_eqb}
+use lib.Dec.{eqb}
+use Rattle.table.specs.Sum.{pick}
+use Rattle.run_memory.specs.Memory.{Memory, no_row, reply_row, answer, Told, turn_in, passed_over, lent_turn}
+use Rattle.run_memory.specs.Blocks.{memory_of}
+use Rattle.wivakkol_turn.proofs.wivakkol_turn_on.Goals as goal
+
+module _ (s : List ℕ) (w : ℕ) (M : Memory) {y : Told} (e : y ≡ turn_in s w M) where
+  refuses : (y.number ≡ 0 → ⊥) → answer y.number no_row y.memory ≡ lent_turn s w M
+  unfolding lent_turn
+  refuses d = rw (← e, ne_eqb y.number 0 d)
+
+  tells : {p : ℕ} {row : List ℕ} → y.number ≡ 0 → p ≡ pick (eqb y.number 0) (passed_over M w) 0 → row ≡ reply_row y.reply p → answer 0 row y.memory ≡ lent_turn s w M
+  unfolding lent_turn
+  tells {p} {row} d q r =
+      let here : p ≡ passed_over M w = rw d at q in
+      ap (λ (x : List ℕ). answer 0 x y.memory) (r ∙ ap (reply_row y.reply) here) ∙ rw (← e, d)
+
+abbrev start : goal.Start → Memory
+start d = memory_of d.args.bytes.now d.args.words.now d.args.numbers.now d.args.sums.now
+
+pub returns-then-spoken-ne0 : goal.returns-then-spoken-ne0
+returns-then-spoken-ne0 c =
+    refuses c.args.table.now c.args.w (start (goal.at.returns-then-spoken-ne0 c).Start) c.turn_in-spoken.ensures.sums_after c.if-spoken-ne0.true
+
+pub returns : goal.returns
+returns c =
+    tells c.args.table.now c.args.w (start (goal.at.returns c).Start) c.turn_in-spoken.ensures.sums_after c.if-spoken-ne0.false c.turn_in-spoken.ensures.passed_value c.put_reply.ensures
