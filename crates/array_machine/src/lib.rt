@@ -2,7 +2,7 @@
 #![tactic(auto)]
 
 ghost use Rattle.std.specs.Prelude.{◌≡◌};
-ghost use Rattle.schedule.specs.Machine.{drawn as drawnOf};
+ghost use Rattle.schedule.specs.Machine.{drawn as drawn_of};
 ghost use Rattle.array_machine.specs.Counted.{room_for};
 
 pub mod fits;
@@ -44,7 +44,7 @@ pub fn room_for(turns: u64, busy: u16, holds: bool, w: usize) -> bool
 
 // What an alloc of x draws from the quota: above K nothing (N6).
 pub fn drawn(quota: u32, x: u32) -> u32
-    ensures { result ≡ drawnOf quota x }
+    ensures { result ≡ drawn_of quota x }
 {
     if quota < x { 0 } else { x }
 }

@@ -1,7 +1,7 @@
 // The first pass over a text: its threads and actions, or its first line that is not as it should be.
 ghost use Rattle.std.specs.Prelude.{◌≡◌, ◌≤◌, length};
 ghost use Rattle.assembly.specs.Said.{saids};
-ghost use Rattle.assembly.specs.Assembly.{counted_by, longest_text, checked as checkedOf};
+ghost use Rattle.assembly.specs.Assembly.{counted_by, longest_text, checked as checked_of};
 ghost use Rattle.assembly.specs.Code.Steps.{Countable};
 
 use crate::line::read_line;
@@ -47,7 +47,7 @@ fn counted(said: Said, n: usize, m: usize) -> Counting
 
 pub(crate) fn check(text: &[u8]) -> Checked
     requires { length text.now ≤ longest_text }
-    ensures { result ≡ checkedOf (saids text.now) }
+    ensures { result ≡ checked_of (saids text.now) }
 {
     let mut at = 0;
     let mut line = 1;

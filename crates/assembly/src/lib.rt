@@ -12,7 +12,7 @@ pub mod unseen;
 pub mod word;
 
 ghost use Rattle.std.specs.Prelude.{◌≡◌, length, replicate};
-ghost use Rattle.table.specs.Checks.{outside as isOutside};
+ghost use Rattle.table.specs.Checks.{outside as is_outside};
 ghost use Rattle.table.specs.Format.{table_of};
 ghost use Rattle.assembly.specs.Said.{saids};
 ghost use Rattle.assembly.specs.declared.check.Checked.TheVariants.{WellFormed};
@@ -142,7 +142,7 @@ fn assemble_on(
 }
 
 fn outside(low: usize, high: usize, x: usize) -> bool
-    ensures { result ≡ isOutside low high x }
+    ensures { result ≡ is_outside low high x }
 {
     x < low || high < x
 }

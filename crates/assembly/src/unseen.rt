@@ -1,7 +1,7 @@
 // Bytes of a line that an editor may not show.
 ghost use Rattle.std.specs.Prelude.{◌≡◌, [], ◌∷◌, ◌-◌, take};
-ghost use Rattle.assembly.specs.Words.{same as isSame};
-ghost use Rattle.assembly.specs.Unseen.{unseen_in, unseen_at as unseenOf};
+ghost use Rattle.assembly.specs.Words.{same as is_same};
+ghost use Rattle.assembly.specs.Unseen.{unseen_in, unseen_at as unseen_of};
 ghost use Rattle.assembly.specs.Code.Steps.{After};
 
 use crate::scan::{Class, span};
@@ -33,7 +33,7 @@ fn after_lines(text: &[u8], k: usize) -> usize
 }
 
 fn is_marked(line: &[u8]) -> bool
-    ensures { result ≡ isSame (take 3 line.now) (239 ∷ 187 ∷ 191 ∷ []) }
+    ensures { result ≡ is_same (take 3 line.now) (239 ∷ 187 ∷ 191 ∷ []) }
 {
     if line.len() < 3 {
         return false;
@@ -65,7 +65,7 @@ fn lines_before(line: usize) -> usize
 
 // In a line of a text, counted from 1.
 pub fn unseen_at(text: &[u8], line: usize) -> Unseen
-    ensures { result ≡ unseenOf text.now line }
+    ensures { result ≡ unseen_of text.now line }
 {
     let at = after_lines(text, lines_before(line));
     let end = at + span(&text[at..], Class::Line);

@@ -1,6 +1,6 @@
 // A line's words: the first one, a word's keyword, a word's number.
 ghost use Rattle.std.specs.Prelude.{◌≡◌, ◌≤◌};
-ghost use Rattle.assembly.specs.Words.{no_number, next_value, zero_led, same as isSame, FirstWord};
+ghost use Rattle.assembly.specs.Words.{no_number, next_value, zero_led, same as is_same, FirstWord};
 ghost use Rattle.assembly.specs.Said.{code_of_word};
 ghost use Rattle.assembly.specs.Code.Steps.{Valued};
 
@@ -26,7 +26,7 @@ pub fn first_word(s: &[u8]) -> Word
 }
 
 pub fn same(a: &[u8], b: &[u8]) -> bool
-    ensures { result ≡ isSame a.now b.now }
+    ensures { result ≡ is_same a.now b.now }
 {
     if a.len() != b.len() {
         return false;

@@ -1,7 +1,7 @@
 // The record of an accepted beginning, and the blank one.
 ghost use Rattle.std.specs.Prelude.{◌≡◌, ◌≤◌, length, replicate};
 ghost use Rattle.table.specs.Format.{table_of};
-ghost use Rattle.schedule.specs.Record.{blank as blankRun};
+ghost use Rattle.schedule.specs.Record.{blank as blank_run};
 ghost use Rattle.order.specs.Words.{filled};
 ghost use Rattle.schedule.specs.Begin.{start_run};
 ghost use Rattle.order.specs.Firsts.{firsts};
@@ -16,7 +16,7 @@ const NOBODY: Worker = Worker {
 };
 
 pub(crate) fn blank() -> Run
-    ensures { result ≡ blankRun }
+    ensures { result ≡ blank_run }
 {
     Run {
         table: [0; 36868],

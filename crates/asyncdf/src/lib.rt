@@ -10,12 +10,12 @@ ghost use Rattle.schedule.specs.declared.Turning.TheVariants.{Refused};
 ghost use Rattle.schedule.specs.declared.Report.TheVariants.{Refused as Stopped};
 ghost use Rattle.schedule.specs.Answers.{beginning_values, turning_values, report_values};
 ghost use Rattle.schedule.specs.Values.{begin_values, turn_values, list_values, rounds_values};
-ghost use Rattle.schedule.specs.Begin.{begin as beginOf};
+ghost use Rattle.schedule.specs.Begin.{begin as begin_of};
 ghost use Rattle.schedule.specs.Machine.{worker_of};
 ghost use Rattle.schedule.specs.Record.{state_of};
 ghost use Rattle.schedule.specs.Sound.{Steady};
 ghost use Rattle.order.specs.Words.{count_below};
-ghost use Rattle.schedule.specs.Turn.{turned as turnedOf};
+ghost use Rattle.schedule.specs.Turn.{turned as turned_of};
 ghost use Rattle.schedule.specs.Runs.{ran, list_run, rounds_run};
 ghost use Rattle.run_memory.specs.Blocks.{memory_of};
 ghost use Rattle.run_memory.specs.Runs.{stopped, list_run_in, rounds_run_in, report_of};
@@ -32,7 +32,7 @@ mod beginning;
 
 // Beginning from a table's bytes, p and K: the table's own checks, then 20, 21 and 44. The record is of the filled-out table, which is the table as given where nothing is above K.
 pub fn begin(bytes: &[u8], p: u8, quota: u32) -> Begun
-    ensures value { result ≡ beginOf bytes.now p quota }
+    ensures value { result ≡ begin_of bytes.now p quota }
     ensures answer_value { beginning_values result.answer ≡ begin_values bytes.now p quota }
 {
     let mut next = [0u16; 1024];
@@ -70,7 +70,7 @@ fn refused(number: u8, run: Run) -> Turned
 
 // A single turn of worker w: 32, 30, 31, or the reply, how many threads stood left of one that it took, and the record after.
 pub fn turn(run: Run, w: u8) -> Turned
-    ensures value { result ≡ turnedOf run w }
+    ensures value { result ≡ turned_of run w }
     ensures answer_value { turning_values result.answer ≡ turn_values run w }
 {
     let tested = test(run);

@@ -101,9 +101,9 @@ keeps_exactly b row = (keeps_rule b row, rule_keeps b row)
 -- ---- the two rows
 
 -- "bound for b 1 is 6 + 6 × 7 = 48": the limit is worked out in crates/schedule/specs/Rule
-pub E-keeps : Keeps 1 order_e
+pub e_keeps : Keeps 1 order_e
 unfolding keeps until_next at_most all_in count_in
-E-keeps = (keeps_exactly 1 order_e).0 refl
+e_keeps = (keeps_exactly 1 order_e).0 refl
 
 pub gap_breaks : Keeps 1 order_gap → ⊥
 unfolding keeps until_next at_most all_in count_in

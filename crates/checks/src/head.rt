@@ -1,20 +1,20 @@
 // Checks 1 to 3: the head, and the length that it asks for.
 ghost use Rattle.std.specs.Prelude.{◌≡◌, ◌||◌};
 ghost use Rattle.table.specs.Pass.{try_pass};
-ghost use Rattle.table.specs.Checks.{head_pass, outside as isOutside};
+ghost use Rattle.table.specs.Checks.{head_pass, outside as is_outside};
 
 use crate::refuse;
 use table::Found;
 use table::read::{actions, threads};
 
 fn outside(low: usize, high: usize, x: usize) -> bool
-    ensures { result ≡ isOutside low high x }
+    ensures { result ≡ is_outside low high x }
 {
     x < low || high < x
 }
 
 fn out_of_range(n: usize, m: usize) -> bool
-    ensures { result ≡ (isOutside 1 1024 n || isOutside 1 8192 m) }
+    ensures { result ≡ (is_outside 1 1024 n || is_outside 1 8192 m) }
 {
     outside(1, 1024, n) || outside(1, 8192, m)
 }

@@ -158,11 +158,11 @@ module _ (T : Table) (l : Lawful T) (p K fa : ℕ) (J : ℕ → ℕ) (D : Deques
     P : Placed i D.deques
     P = place i D.deques some
 
-    L-bottom : bottom (line hold d) ≡ b
-    L-bottom = line_bottom (ltb d.owner 16) (hold d.owner) d.threads some
+    l_bottom : bottom (line hold d) ≡ b
+    l_bottom = line_bottom (ltb d.owner 16) (hold d.owner) d.threads some
 
     b_in : Memᴰ b (line hold d)
-    b_in = subst (λ (z : ℕ). Memᴰ z (line hold d)) L-bottom (bottom_in (line hold d) (go (ltb d.owner 16)))
+    b_in = subst (λ (z : ℕ). Memᴰ z (line hold d)) l_bottom (bottom_in (line hold d) (go (ltb d.owner 16)))
       where
         go : (q : Bool) → is_empty (pick q (hold d.owner ∷ d.threads) d.threads) ≡ false
         go true = refl
@@ -186,7 +186,7 @@ module _ (T : Table) (l : Lawful T) (p K fa : ℕ) (J : ℕ → ℕ) (D : Deques
         let beyond : under num hold (num b) P.after ≡ 0 =
         none_under num hold (num b) P.after (in_use_after P.front d P.after (subst AllInUse P.whole I.kept.placed.in_use))
         (λ v m. omega (arith, asc_cross num (line hold d) (lines_of hold P.after) rising b v b_in m)) in
-        let here : under num hold (num b) (d ∷ P.after) ≡ 0 = rw (L-bottom, le-ltb (num b) (num b) (omega arith)) (omega (arith, beyond)) in
+        let here : under num hold (num b) (d ∷ P.after) ≡ 0 = rw (l_bottom, le-ltb (num b) (num b) (omega arith)) (omega (arith, beyond)) in
         let z : under num hold (num b) (P.front ++ d ∷ P.after) ≤ length P.front = under_few num hold (num b) P.front (d ∷ P.after) here in
         omega (arith, P.size, subst (λ (q : List Deque). under num hold (num b) q ≤ length P.front) (sym P.whole) z)
 

@@ -207,11 +207,11 @@ module _ (T : Table) (l : Lawful T) (p K : ℕ) (few : p ≤ 16) (w : ℕ) (belo
   pub mine : Chained T J st 0 L × Light T far J st L × AllLines T far J st P.rest
   mine = all_head T far J st d P.rest parts.1
 
-  pub L-some : is_empty L ≡ false
-  L-some = line_some (ltb d.owner 16) (held_by st d.owner) d.threads some
+  pub l_some : is_empty L ≡ false
+  l_some = line_some (ltb d.owner 16) (held_by st d.owner) d.threads some
 
-  pub L-bottom : bottom L ≡ b
-  L-bottom = line_bottom (ltb d.owner 16) (held_by st d.owner) d.threads some
+  pub l_bottom : bottom L ≡ b
+  l_bottom = line_bottom (ltb d.owner 16) (held_by st d.owner) d.threads some
 
   pub robbed_line : line (held_by s) (deque d.owner (above d.threads)) ≡ above L
   robbed_line = let z : held_by s d.owner ≡ held_by st d.owner = held_others d.owner other in rw z (line_above (ltb d.owner 16) (held_by st d.owner) d.threads some)
@@ -220,23 +220,23 @@ module _ (T : Table) (l : Lawful T) (p K : ℕ) (few : p ≤ 16) (w : ℕ) (belo
   thief_line = rw (lt-ltb w 16 w16) (ap (λ (z : ℕ). z ∷ []) held_here)
 
   stolen_parted : Parted T J' s 0 b
-  stolen_parted = go L refl L-some
+  stolen_parted = go L refl l_some
     where
       go : (k : List ℕ) → L ≡ k → is_empty k ≡ false → Parted T J' s 0 b
       go [] e i = no_way cc
       go (t ∷ k) e i =
-          let z : bottom (t ∷ k) ≡ b = ap bottom (sym e) ∙ L-bottom in
+          let z : bottom (t ∷ k) ≡ b = ap bottom (sym e) ∙ l_bottom in
           subst (Parted T J' s 0) z
           (chained_stolen T l J J' I.falls start up flat st s same still ends 0 t k (λ v m. alive v (Memᴰ.append_right A (Memᴰ.append_left B (subst (λ (y : List ℕ). Memᴰ v y) (sym e) m))))
           (inl refl) (ap (next_of st) (sym z)) (subst (Chained T J st 0) e mine.0))
 
   stolen_light : suc (J' (next_of s b)) ≤ nest T b + far
-  stolen_light = go L refl L-some
+  stolen_light = go L refl l_some
     where
       go : (k : List ℕ) → L ≡ k → is_empty k ≡ false → suc (J' (next_of s b)) ≤ nest T b + far
       go [] e i = no_way cc
       go (t ∷ k) e i =
-          let z : bottom (t ∷ k) ≡ b = ap bottom (sym e) ∙ L-bottom in
+          let z : bottom (t ∷ k) ≡ b = ap bottom (sym e) ∙ l_bottom in
           let r : Ascends num (t ∷ k) = subst (Ascends num) e (asc_left num L B (asc_right num A (L ++ B) rising)) in
           let y : num t ≤ num (bottom (t ∷ k)) = ascends_bottom num t k r in
           subst (λ (g : ℕ). suc (J' (next_of s g)) ≤ nest T g + far) z
@@ -315,8 +315,8 @@ module _ (T : Table) (l : Lawful T) (p K : ℕ) (few : p ≤ 16) (w : ℕ) (belo
   -- the lines right of the robbed one lie beyond the start
   pub rest_beyond : (v : ℕ) → Memᴰ v B → number_of T start ≤ num v
   rest_beyond v m =
-      let z : num (bottom L) < num v = asc_cross num L B (asc_right num A (L ++ B) rising) (bottom L) v (bottom_in L L-some) m in
-      let y : num (bottom L) ≡ num b = ap num L-bottom in
+      let z : num (bottom L) < num v = asc_cross num L B (asc_right num A (L ++ B) rising) (bottom L) v (bottom_in L l_some) m in
+      let y : num (bottom L) ≡ num b = ap num l_bottom in
       omega (arith, z, y)
 
   lines_near : c ≡ 0 → AllLines T far J' s (robbed w c ds)

@@ -195,7 +195,7 @@ module _ (T : Table) (l : Lawful T) (p K : ℕ) (few : p ≤ 16) (w : ℕ) (belo
   chain = (Steals.mine T l p K few w below c far J D I free some).0
 
   bottom_is : bottom L ≡ b
-  bottom_is = Steals.L-bottom T l p K few w below c far J D I free some
+  bottom_is = Steals.l_bottom T l p K few w below c far J D I free some
 
   bottom_alone : (t : ℕ) → bottom (t ∷ []) ≡ t
   unfolding bottom
@@ -229,7 +229,7 @@ module _ (T : Table) (l : Lawful T) (p K : ℕ) (few : p ≤ 16) (w : ℕ) (belo
       (λ z e. lift z (bottom (t ∷ y ∷ k)) (bottom (above (t ∷ y ∷ k))) 0 0 1 (omega (arith, one_more (next_of st z))) (omega (arith, n)) (h.1 z (above_in z (y ∷ k) e)))
 
   stolen_lift : (k : List ℕ) → L ≡ k → ThreadWithin T B lp' J' s b B b
-  stolen_lift [] e = no_way (cc (Steals.L-some T l p K few w below c far J D I free some))
+  stolen_lift [] e = no_way (cc (Steals.l_some T l p K few w below c far J D I free some))
   stolen_lift (t ∷ []) e =
       let z : t ≡ b = sym (bottom_alone t) ∙ ap bottom (sym e) ∙ bottom_is in
       let h : ThreadWithin T B lp J st (bottom (t ∷ [])) (slack_of B old d) t = (line_within_top T B lp J old st (slack_of B old d) t [] (subst (LineWithin T B lp J st (slack_of B old d)) e here.0)).0 in

@@ -9,7 +9,7 @@ ghost use Rattle.schedule.specs.Answers.{beginning_values, report_values};
 ghost use Rattle.schedule.specs.Values.{begin_values};
 ghost use Rattle.deques.specs.declared.DequeTurning.TheVariants.{Refused};
 ghost use Rattle.deques.specs.DequeBegin.{deque_begin};
-ghost use Rattle.deques.specs.DequeTurn.{deque_turned as turnedOf};
+ghost use Rattle.deques.specs.DequeTurn.{deque_turned as turned_of};
 ghost use Rattle.deques.specs.DequeRuns.{deque_ran, pairs_run};
 ghost use Rattle.deques.specs.DequeValues.{deque_turning_values, deque_turn_values, pairs_values};
 
@@ -67,7 +67,7 @@ fn refused(number: u8, run: DequeRun) -> DequeTurned
 
 // A single turn of worker w with choice c: 32, 30, 31, 49, or the reply and the record after.
 pub fn deque_turn(run: DequeRun, w: u8, c: u8) -> DequeTurned
-    ensures value { result ≡ turnedOf run w c }
+    ensures value { result ≡ turned_of run w c }
     ensures answer_value { deque_turning_values result.answer ≡ deque_turn_values run w c }
 {
     let tested = deque_test(run);

@@ -17,29 +17,29 @@ use Rattle.order.specs.Turns.{turns_of}
 use Rattle.filling.specs.Filled.{act, big, dummies, new_threads, tree_of, sum_before, root_of, filled_from, old_bodies, trees_along, filled_bodies, filled_out, fork2, leaf, new_actions, threads_to, actions_to, overfull, fill_pass}
 
 -- "E with K 5 is accepted": its filled-out table
-pub E-filled : filled_out E 5
+pub e_filled : filled_out E 5
     ≡ written
     ((act 4 1 ∷ act 4 2 ∷ act 5 2 ∷ act 5 1 ∷ act 0 0 ∷ [])
     ∷ (act 4 3 ∷ act 5 3 ∷ act 2 6 ∷ act 1 0 ∷ act 3 6 ∷ act 0 0 ∷ [])
     ∷ (act 4 6 ∷ act 5 6 ∷ act 2 6 ∷ act 3 6 ∷ act 0 0 ∷ [])
     ∷ fork2 4 5 ∷ leaf ∷ leaf ∷ fork2 7 8 ∷ leaf ∷ leaf ∷ [])
 unfolding entry_rows action_rows table_rows written flatten kind_of code_of is table_of serial_within any_below alloc_of big dummies new_threads tree_of sum_before root_of filled_from old_bodies trees_along filled_bodies filled_out
-E-filled = refl
+e_filled = refl
 
 -- n 9, m 34, S1 6, D 17, N 4
-pub E-filled-values : values_of (loaded (filled_out E 5)) ≡ (accepted (filled_out E 5) 9 34 6 17 4).values
+pub e_filled_values : values_of (loaded (filled_out E 5)) ≡ (accepted (filled_out E 5) 9 34 6 17 4).values
 unfolding entry_rows action_rows table_rows written flatten big dummies new_threads tree_of sum_before root_of filled_from old_bodies trees_along filled_bodies filled_out loaded facts_of sum_to sum_over greatest any_below code_of kind_of is table_of try_at try_from try_pass first_found entry_wrong total_wrong owner_below kind_unknown argument_wrong end_misplaced forked_below forked_before open_before join_not_latest end_with_open never_forked alloc_of free_of whole_within balance balance_below0 passes serial_within fronts held_after peak_of S1 fork_below fork_of before_it joined_end depends_on level_within D greatest_to nest_within N
-E-filled-values = refl
+e_filled_values = refl
 
 -- m + A + J: 34 + 2 + 8, and 16 for E itself
-pub E-turns : (turns_of (table_of (filled_out E 5)) ≡ 44) × (turns_of (table_of E) ≡ 16)
+pub e_turns : (turns_of (table_of (filled_out E 5)) ≡ 44) × (turns_of (table_of E) ≡ 16)
 unfolding entry_rows action_rows table_rows written flatten kind_of code_of is table_of serial_within sum_to any_below alloc_of big dummies new_threads tree_of sum_before root_of filled_from old_bodies trees_along filled_bodies filled_out turns_of
-E-turns = (refl, refl)
+e_turns = (refl, refl)
 
 -- with K 6 nothing is big
-pub E-in-place : filled_out E 6 ≡ E
+pub e_in_place : filled_out E 6 ≡ E
 unfolding kind_of code_of is table_of any_below alloc_of big filled_out
-E-in-place = refl
+e_in_place = refl
 
 abbrev pub one7 : List ℕ
 one7 = written ((act 2 7 ∷ act 0 0 ∷ []) ∷ [])

@@ -10,7 +10,7 @@ mod read;
 
 ghost use Rattle.std.specs.Prelude.{◌≡◌};
 ghost use Rattle.assembly.specs.Assembly.{assembled};
-ghost use Rattle.inputs.specs.Input.{made, made_in, with_table, filled_with, later as laterLine};
+ghost use Rattle.inputs.specs.Input.{made, made_in, with_table, filled_with, later as later_line};
 ghost use Rattle.inputs.specs.Code.Steps.{Passed, Addable, front_is};
 
 use assembly::Assembled;
@@ -64,7 +64,7 @@ pub fn assemble(text: &[u8], out: &mut [u8; 40970]) -> Made
 // A line of the table's text, counted from the start of the whole text; 0 where no line tells.
 fn later(lines: usize, line: usize) -> usize
     requires { Passed lines line }
-    ensures { result ≡ laterLine lines line }
+    ensures { result ≡ later_line lines line }
 {
     if line == 0 { 0 } else { lines + line }
 }

@@ -5,7 +5,7 @@
 ghost use Rattle.std.specs.Prelude.{◌≡◌, false, ◌<◌, eqb, length};
 ghost use Rattle.table.specs.Pass.{try_at};
 ghost use Rattle.schedule.specs.Record.{bytes_of};
-ghost use Rattle.schedule.specs.Record.{blank as blankRun};
+ghost use Rattle.schedule.specs.Record.{blank as blank_run};
 ghost use Rattle.schedule.specs.Turn.{unsound};
 ghost use Rattle.marks.specs.Marks.{set_checks, back_checks, set_values, back_values, set_as, back_as};
 ghost use Rattle.run_memory.specs.Blocks.{memory_of};
@@ -61,7 +61,7 @@ const NOBODY: Worker = Worker {
 };
 
 fn blank() -> Run
-    ensures { result ≡ blankRun }
+    ensures { result ≡ blank_run }
 {
     Run {
         table: [0; 36868],

@@ -8,7 +8,7 @@ ghost use Rattle.std.specs.Prelude.{◌≡◌, ◌++◌, length, drop, replicate
 ghost use Rattle.io.specs.Counts.{IsPrefixLen};
 ghost use Rattle.table.specs.Pass.{refusal};
 ghost use Rattle.table.specs.Rules.{Rules};
-ghost use Rattle.table.specs.Checks.{outside as isOutside};
+ghost use Rattle.table.specs.Checks.{outside as is_outside};
 ghost use Rattle.most.specs.Most.{most_of, most_values_of, most_values_for};
 ghost use Rattle.most.specs.Line.{most_to, most_line};
 ghost use Rattle.most.specs.Code.Steps.{own_most};
@@ -85,7 +85,7 @@ fn turns_for(table: &[u8], p: u8, quota: u32) -> Most
 }
 
 fn outside(high: u32, x: u32) -> bool
-    ensures { result ≡ isOutside 1 high x }
+    ensures { result ≡ is_outside 1 high x }
 {
     x < 1 || high < x
 }

@@ -2,7 +2,7 @@
 #![tactic(auto)]
 
 ghost use Rattle.std.specs.Prelude.{◌≡◌, suc, ◌+◌, ◌-◌, ◌*◌, ◌/◌, ◌≤◌, ◌<◌, ltb, leb, ◌||◌};
-ghost use Rattle.table.specs.Checks.{outside as isOutside, alloc_of};
+ghost use Rattle.table.specs.Checks.{outside as is_outside, alloc_of};
 ghost use Rattle.table.specs.Format.{fork, join, is, kind_of, table_of};
 ghost use Rattle.table.specs.Sum.{pick, sum_to, Read};
 ghost use Rattle.filling.specs.Filled.{new_threads};
@@ -22,7 +22,7 @@ struct Counted {
 }
 
 fn outside(quota: u32) -> bool
-    ensures { result ≡ isOutside 1 16777215 quota }
+    ensures { result ≡ is_outside 1 16777215 quota }
 {
     quota < 1 || 16777215 < quota
 }

@@ -3,8 +3,8 @@
 
 ghost use Rattle.std.specs.Prelude.{◌≡◌, ◌*◌, ◌<◌, max};
 ghost use Rattle.pace.specs.Pace.{paced, start_pace, most_from, asked, counted, renewed, next_in, kept_in, took_number};
-ghost use Rattle.pace.specs.Pace.{may as mayOf, took as tookOf};
-ghost use Rattle.pace.specs.Pace.{one_more as oneMoreOf};
+ghost use Rattle.pace.specs.Pace.{may as may_of, took as took_of};
+ghost use Rattle.pace.specs.Pace.{one_more as one_more_of};
 ghost use Rattle.pace.specs.Pace.{may_number};
 
 pub const WORKERS: usize = 16;
@@ -71,14 +71,14 @@ pub fn asks(pace: &[u32; 260], w: u32) -> u32
 
 // May worker w have the next turn?
 pub fn may(pace: &[u32; 260], w: u32) -> bool
-    ensures { result ≡ mayOf pace.now w }
+    ensures { result ≡ may_of pace.now w }
 {
     let bound = pace[BOUND];
     asks(pace, w) <= bound
 }
 
 fn one_more(n: u32) -> u32
-    ensures { result ≡ oneMoreOf n }
+    ensures { result ≡ one_more_of n }
 {
     if n == 0 {
         return n;
@@ -113,7 +113,7 @@ fn renew(pace: &mut [u32; 260], w: usize)
 
 // Worker w has had a turn.
 pub fn took(pace: &mut [u32; 260], w: u32)
-    ensures { pace.new ≡ tookOf pace.old w }
+    ensures { pace.new ≡ took_of pace.old w }
 {
     if w < 16 {
         let i = w as usize;

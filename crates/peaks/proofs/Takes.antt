@@ -155,13 +155,13 @@ module _ (T : Table) (l : Lawful T) (p K : ℕ) (st : State) (f : Facts T p K st
         let (x, y) = (and_exactly (worker_of st v).holds _).0 e in
         (and_exactly (worker_of st v).holds _).1 (x, lt-ltb _ M' (omega (arith, ltb-true (number_of T (next_of st (worker_of st v).thread)) M y)))
 
-    H-up : (M M' : ℕ) → M ≤ M' → H M ≤ H M'
-    H-up M M' b = count_le (under M) (under M') 16 (under_up M M' b)
+    h_up : (M M' : ℕ) → M ≤ M' → H M ≤ H M'
+    h_up M M' b = count_le (under M) (under M') 16 (under_up M M' b)
 
     -- a live thread between adds one
-    H-more : (y M M' : ℕ) → y < T.threads → (status_of st y ≡ unborn → ⊥) → (status_of st y ≡ ended → ⊥) → M ≤ number_of T (T.first y) → number_of T (end_of T y) < M' → M' ≤ N → suc (H M) ≤ H M'
+    h_more : (y M M' : ℕ) → y < T.threads → (status_of st y ≡ unborn → ⊥) → (status_of st y ≡ ended → ⊥) → M ≤ number_of T (T.first y) → number_of T (end_of T y) < M' → M' ≤ N → suc (H M) ≤ H M'
     unfolding under
-    H-more y M M' h u e low high n =
+    h_more y M M' h u e low high n =
         let (x, i, s, a, b) = held_inside T.threads y (omega arith) h u e (omega arith) in
         let (v, j, q, r) = f.holding.held_holder x i s in
         count_more (under M) (under M') 16 v j (under_up M M' (omega arith)) (rw (q, r) (le-ltb (number_of T (next_of st x)) M (omega arith)))
@@ -205,24 +205,24 @@ module _ (T : Table) (l : Lawful T) (p K : ℕ) (st : State) (f : Facts T p K st
                 ))
 
             go : Dec (status_of st c ≡ ended) → unended st.status c + unended_in st.status (open_before T a) + H (number_of T (T.first t)) ≤ H (number_of T (suc a))
-            go (yes x) = rw (eq-eqb (status_of st c) ended x) (omega (arith, before, H-up (number_of T a) (number_of T (suc a)) (omega (arith, rises k j))))
+            go (yes x) = rw (eq-eqb (status_of st c) ended x) (omega (arith, before, h_up (number_of T a) (number_of T (suc a)) (omega (arith, rises k j))))
             go (no x) =
                 rw (ne_eqb (status_of st c) ended x)
                 (omega (
                   arith,
                   before,
-                  H-more c (number_of T a) (number_of T (suc a)) (fork_below_lem T l.contents l.bodies a w y) born x (omega (arith, number_child T l a w y)) (number_past T l a w y) n,
+                  h_more c (number_of T a) (number_of T (suc a)) (fork_below_lem T l.contents l.bodies a w y) born x (omega (arith, number_child T l a w y)) (number_past T l a w y) n,
                 ))
 
         joins : (k : ℕ) → suc k < T.count t → T.first t + k < T.actions
             → open_before T (T.first t + k) ≡ T.argument (T.first t + k) ∷ open_before T (suc (T.first t + k)) → P (T.first t + k) → P (suc (T.first t + k))
         joins k j w e ih b n =
-            omega (arith, rw e at (ih (omega arith) (omega (arith, rises k j))), H-up (number_of T (T.first t + k)) (number_of T (suc (T.first t + k))) (omega (arith, rises k j)))
+            omega (arith, rw e at (ih (omega arith) (omega (arith, rises k j))), h_up (number_of T (T.first t + k)) (number_of T (suc (T.first t + k))) (omega (arith, rises k j)))
 
         stays : (k : ℕ) → suc k < T.count t → T.first t + k < T.actions → open_before T (suc (T.first t + k)) ≡ open_before T (T.first t + k) → P (T.first t + k) → P (suc (T.first t + k))
         stays k j w e ih b n =
             rw e
-            (omega (arith, ih (omega arith) (omega (arith, rises k j)), H-up (number_of T (T.first t + k)) (number_of T (suc (T.first t + k))) (omega (arith, rises k j))))
+            (omega (arith, ih (omega arith) (omega (arith, rises k j)), h_up (number_of T (T.first t + k)) (number_of T (suc (T.first t + k))) (omega (arith, rises k j))))
 
     open_few : (t a : ℕ) → a < T.actions → owner T a ≡ t → a ≤ next_of st t → number_of T a ≤ N
         → unended_in st.status (open_before T a) + H (number_of T (T.first t)) ≤ H (number_of T a)
@@ -257,7 +257,7 @@ module _ (T : Table) (l : Lawful T) (p K : ℕ) (st : State) (f : Facts T p K st
               o,
               open_few q x w refl (at (done_where T st x d)) (omega arith),
               ih (omega arith) (owner_below_lem T l.contents x w) born (omega arith),
-              H-up (number_of T x) (number_of T (T.first (suc t))) (omega arith),
+              h_up (number_of T x) (number_of T (T.first (suc t))) (omega arith),
             )
           where
             at : (x < next_of st (owner T x)) ⊎ ((x ≡ next_of st (owner T x)) × (status_of st (owner T x) ≡ ended)) → x ≤ next_of st (owner T x)
@@ -276,9 +276,9 @@ module _ (T : Table) (l : Lawful T) (p K : ℕ) (st : State) (f : Facts T p K st
         )
 
     -- a worker that holds nothing is not among them
-    H-spare : (w M : ℕ) → w < p → (worker_of st w).holds ≡ false → suc (H M) ≤ p
+    h_spare : (w M : ℕ) → w < p → (worker_of st w).holds ≡ false → suc (H M) ≤ p
     unfolding under
-    H-spare w M h e =
+    h_spare w M h e =
         omega (
           arith,
           one_fails (under M) p w h (rw e),
@@ -295,4 +295,4 @@ module _ (T : Table) (l : Lawful T) (p K : ℕ) (st : State) (f : Facts T p K st
         arith,
         rw i at (leftmost_first (λ t. number_of T (next_of st t)) st.status st.list f.serial x (f.live_listed x y (λ z. omega arith) (λ z. omega arith)) s),
       )) in
-      omega (arith, full_few N none t b u (omega arith), H-spare N none w N h e)
+      omega (arith, full_few N none t b u (omega arith), h_spare N none w N h e)

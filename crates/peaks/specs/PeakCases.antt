@@ -13,13 +13,13 @@ use Rattle.schedule.specs.Memory.{row_state}
 use Rattle.peaks.specs.Peak.{outer_within, fresh, load, gain, most, peak_there, peak_within, workers_peak}
 use Rattle.peaks.specs.Rests.{stretch_begins, rests, drawn_before, stretch, covered, rested, rise, R, resting_peak, useful_limit, best_within, parallel_peak}
 
-pub E-one : workers_peak (table_of E) 1 ≡ 6
+pub e_one : workers_peak (table_of E) 1 ≡ 6
 unfolding code_of kind_of is table_of sum_to sum_over greatest_to open_before alloc_of free_of whole_within fresh gain most peak_there peak_within workers_peak
-E-one = refl
+e_one = refl
 
-pub E-two : workers_peak (table_of E) 2 ≡ 12
+pub e_two : workers_peak (table_of E) 2 ≡ 12
 unfolding code_of kind_of is table_of sum_to sum_over greatest_to open_before alloc_of free_of whole_within fresh gain most peak_there peak_within workers_peak
-E-two = refl
+e_two = refl
 
 -- the root forks three children that each draw 5 and give it back
 abbrev one : List Action

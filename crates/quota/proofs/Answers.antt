@@ -19,7 +19,7 @@ use Rattle.table.specs.declared.Found.TheVariants.{Nothing, At}
 use Rattle.table.specs.Load.{found_number}
 use Rattle.table.proofs.Tests.{no_way}
 use Rattle.table.proofs.Sizes.{inside}
-use Rattle.table.proofs.Trying.{Each, Each-at, or_else_nothing, or_else_last}
+use Rattle.table.proofs.Trying.{Each, each_at, or_else_nothing, or_else_last}
 use Rattle.table.proofs.Passes.{first_found_append, found_exactly, passes_rules, try_pass_from_0}
 use Rattle.schedule.specs.Record.{max_workers}
 use Rattle.schedule.specs.Begin.{max_quota}
@@ -129,8 +129,8 @@ module _ (s : List ℕ) (p b M : ℕ) where
   table_number : (r : Refusal) → first_found (passes s) ≡ At r → r.number < 20
   table_number r e =
       let a : Applies (passes s) r.number _ = ((found_exactly (passes s) r).0 e).applies in
-      let l : a.check.number < 20 = Each-at (λ (c : Check). c.number < 20) a.pass.checks
-      (Each-at (λ (q : Pass). Each (λ (c : Check). c.number < 20) q.checks) (passes s) table_numbers _ a.pass a.pass_there) _ a.check a.check_there in
+      let l : a.check.number < 20 = each_at (λ (c : Check). c.number < 20) a.pass.checks
+      (each_at (λ (q : Pass). Each (λ (c : Check). c.number < 20) q.checks) (passes s) table_numbers _ a.pass a.pass_there) _ a.check a.check_there in
       omega (arith, a.numbered)
 
   own_none : (try_pass own ≡ At (refusal 42 0)) ↔ ((outside 1 max_workers p ≡ false) × (outside 1 max_gap b ≡ false) × (no_quota (table_of s) p b M ≡ true))

@@ -7,7 +7,7 @@ pub mod line;
 ghost use Rattle.std.specs.Prelude.{◌≡◌, ◌-◌, ◌*◌, ◌++◌, length, drop, replicate};
 ghost use Rattle.io.specs.Counts.{IsPrefixLen};
 ghost use Rattle.table.specs.Pass.{refusal};
-ghost use Rattle.table.specs.Checks.{outside as isOutside};
+ghost use Rattle.table.specs.Checks.{outside as is_outside};
 ghost use Rattle.quota.specs.Quota.{most_within, quoted, values_of, values_for};
 ghost use Rattle.quota.specs.Line.{answer_to, quota_line};
 ghost use Rattle.quota.specs.Code.Steps.{Ready, Accepted, own_answer};
@@ -90,7 +90,7 @@ fn quota_for(table: &[u8], facts: Facts, p: u8, b: u32, memory: u64) -> Quoted
 
 // Below a range of numbers, or above it.
 pub fn outside(low: u32, high: u32, x: u32) -> bool
-    ensures { result ≡ isOutside low high x }
+    ensures { result ≡ is_outside low high x }
 {
     x < low || high < x
 }

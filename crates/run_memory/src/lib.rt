@@ -4,11 +4,11 @@
 
 ghost use Rattle.std.specs.Prelude.{◌≡◌, ◌&&◌, get_or, eqb};
 ghost use Rattle.table.specs.Sum.{pick};
-ghost use Rattle.schedule.specs.Links.{seek as seekOf};
+ghost use Rattle.schedule.specs.Links.{seek as seek_of};
 ghost use Rattle.schedule.specs.declared.Reply.TheVariants.{Idle};
 ghost use Rattle.array_machine.specs.Counted.{passed_along};
 ghost use Rattle.run_memory.specs.Memory.{told, taken_in, turn_in, passed_over};
-ghost use Rattle.run_memory.specs.Memory.{hindrance as hindranceOf};
+ghost use Rattle.run_memory.specs.Memory.{hindrance as hindrance_of};
 ghost use Rattle.run_memory.specs.Blocks.{bytes_in, words_in, memory_of};
 ghost use Rattle.run_memory.specs.Places.{holds_in};
 
@@ -55,7 +55,7 @@ fn refused(number: u32) -> Spoken
 
 // 32 where no turn can be counted, 30, 31; 0 where none applies.
 pub fn hindrance(turns: u64, p: u32, w: u32, root: u8) -> u32
-    ensures { result ≡ hindranceOf turns p w root }
+    ensures { result ≡ hindrance_of turns p w root }
 {
     if turns == u64::MAX {
         return 32;
@@ -69,7 +69,7 @@ pub fn hindrance(turns: u64, p: u32, w: u32, root: u8) -> u32
 // The thread with which worker w goes on: its own, or the leftmost ready one, which it takes; NO_THREAD where none is ready. The search goes along the second list, past held threads alone.
 pub(crate) fn thread_for(bytes: &[u8; 1040], words: &[u16; 6163], w: usize) -> u16
     ensures { result ≡ pick (holds_in w (bytes_in bytes.now)) (get_or (words_in words.now).threads w 0)
-        (seekOf 1024 (bytes_in bytes.now).status ((words_in words.now).rows 5) (words_in words.now).first).thread }
+        (seek_of 1024 (bytes_in bytes.now).status ((words_in words.now).rows 5) (words_in words.now).first).thread }
 {
     if holds_at(bytes, w) {
         return thread_at(words, w);
@@ -84,7 +84,7 @@ pub(crate) fn passed_along(
     holds: bool,
     counting: bool,
 ) -> u16
-    ensures { result ≡ pick counting (passed_along holds (seekOf 1024 (bytes_in bytes.now).status ((words_in words.now).rows 3) (words_in words.now).leftmost)) 0 }
+    ensures { result ≡ pick counting (passed_along holds (seek_of 1024 (bytes_in bytes.now).status ((words_in words.now).rows 3) (words_in words.now).leftmost)) 0 }
 {
     if !counting {
         return 0;

@@ -1,7 +1,7 @@
 // A thread put into and taken out of a list of the words: its left links are row k, its right links row k + 1, its leftmost thread head h. Nothing is written where there are no such rows.
 ghost use Rattle.std.specs.Prelude.{◌≡◌, ltb};
 ghost use Rattle.table.specs.Sum.{pick};
-ghost use Rattle.schedule.specs.Links.{seek as seekOf};
+ghost use Rattle.schedule.specs.Links.{seek as seek_of};
 ghost use Rattle.run_memory.specs.Blocks.{bytes_in, words_in};
 ghost use Rattle.run_memory.specs.Places.{head_at};
 ghost use Rattle.run_memory.specs.Code.Writes.{linked_left, unlinked};
@@ -54,8 +54,8 @@ pub fn unlink(words: &mut [u16; 6163], k: usize, h: usize, t: u16)
 
 // The search along row k, from head h, over 1,024 threads at most.
 pub(crate) fn seek(bytes: &[u8; 1040], words: &[u16; 6163], k: usize, h: usize) -> Sought
-    ensures thread_value { result.thread ≡ (seekOf 1024 (bytes_in bytes.now).status ((words_in words.now).rows k) (head_at h (words_in words.now))).thread }
-    ensures passed_value { result.passed ≡ (seekOf 1024 (bytes_in bytes.now).status ((words_in words.now).rows k) (head_at h (words_in words.now))).passed }
+    ensures thread_value { result.thread ≡ (seek_of 1024 (bytes_in bytes.now).status ((words_in words.now).rows k) (head_at h (words_in words.now))).thread }
+    ensures passed_value { result.passed ≡ (seek_of 1024 (bytes_in bytes.now).status ((words_in words.now).rows k) (head_at h (words_in words.now))).passed }
 {
     let mut t = head_at(words, h);
     let mut passed = 0;

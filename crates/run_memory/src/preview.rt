@@ -7,7 +7,7 @@ ghost use Rattle.run_memory.specs.declared.preview.Foreseen.TheVariants.{Would};
 ghost use Rattle.run_memory.specs.Memory.{taken_in, passed_over};
 ghost use Rattle.run_memory.specs.Blocks.{Bytes, Words, Numbers, bytes_in, numbers_in, sums_in, gathered, memory_of};
 ghost use Rattle.run_memory.specs.Preview.{foreseen_as, foreseen_in};
-ghost use Rattle.run_memory.specs.Code.Seen.{seeing, unseen as nothingSeen, seen_in};
+ghost use Rattle.run_memory.specs.Code.Seen.{seeing, unseen as nothing_seen, seen_in};
 
 use crate::act::quota_left;
 use crate::places::{
@@ -50,7 +50,7 @@ struct Seen {
 const RELEASED: u32 = 0;
 
 fn unseen() -> Seen
-    ensures { result ≡ nothingSeen }
+    ensures { result ≡ nothing_seen }
 {
     Seen {
         fits: false,
@@ -63,7 +63,7 @@ fn unseen() -> Seen
 
 // Memory held stays as it is.
 fn see(fits: bool, reply: Reply, sums: &[u64; 1027], quota: u32) -> Seen
-    ensures { result ≡ pick fits (seeing reply (sums_in sums.now).held (sums_in sums.now).highest quota) nothingSeen }
+    ensures { result ≡ pick fits (seeing reply (sums_in sums.now).held (sums_in sums.now).highest quota) nothing_seen }
 {
     if !fits {
         return unseen();

@@ -3,7 +3,7 @@ ghost use Rattle.std.specs.Prelude.{◌≡◌, ◌<◌, replicate};
 ghost use Rattle.table.specs.Format.{table_of};
 ghost use Rattle.table.specs.Rules.{Rules};
 ghost use Rattle.table.specs.Pass.{first_found, refusal};
-ghost use Rattle.table.specs.Checks.{outside as isOutside};
+ghost use Rattle.table.specs.Checks.{outside as is_outside};
 ghost use Rattle.schedule.specs.Begin.{setting_passes};
 ghost use Rattle.order.specs.Firsts.{firsts};
 ghost use Rattle.order.specs.Words.{filled};
@@ -25,7 +25,7 @@ fn refuse(number: u8, place: usize) -> Found
 }
 
 fn outside(low: u32, high: u32, x: u32) -> bool
-    ensures { result ≡ isOutside low high x }
+    ensures { result ≡ is_outside low high x }
 {
     x < low || high < x
 }

@@ -2,7 +2,7 @@
 ghost use Rattle.std.specs.Prelude.{◌≡◌, true, ◌≤◌, length, take, replicate};
 ghost use Rattle.table.specs.Format.{table_of};
 ghost use Rattle.schedule.specs.Record.{table_in};
-ghost use Rattle.schedule.specs.Sound.{listed as listed_of, sound as soundOf};
+ghost use Rattle.schedule.specs.Sound.{listed as listed_of, sound as sound_of};
 ghost use Rattle.soundness.specs.Code.Checks.{Accepted, Placed, links_sound, copy_sound};
 ghost use Rattle.soundness.specs.Tested.{parents_in, parents_if, sound_on};
 
@@ -156,7 +156,7 @@ pub fn copy_sound(run: Run) -> bool
 
 // The same of a record by value.
 pub(crate) fn sound(run: Run) -> Tested
-    ensures { result ≡ record { passed = soundOf run; parents = parents_if (soundOf run) (table_in run) } }
+    ensures { result ≡ record { passed = sound_of run; parents = parents_if (sound_of run) (table_in run) } }
 {
     let mut parents = [0u16; 1024];
     if !copy_sound(run) {

@@ -6,7 +6,7 @@ ghost use Rattle.std.specs.Prelude.{◌≡◌, not, ◌&&◌, ℕ, ◌+◌, ◌^
 ghost use Rattle.schedule.specs.declared.Reply.TheVariants.{Idle};
 ghost use Rattle.schedule.specs.Machine.{ready, ended};
 ghost use Rattle.run_memory.specs.Memory.{told, turn_in};
-ghost use Rattle.run_memory.specs.Memory.{hindrance as hindranceOf};
+ghost use Rattle.run_memory.specs.Memory.{hindrance as hindrance_of};
 ghost use Rattle.run_memory.specs.Blocks.{bytes_in, numbers_in, sums_in, memory_of};
 ghost use Rattle.run_memory.specs.Places.{totalled};
 ghost use Rattle.stealing.specs.StealingMemory.{deque_hindrance, deque_taken_in, deque_turn_in};
@@ -171,7 +171,7 @@ fn take(
     numbers: &mut [u32; 18],
     sums: &mut [u64; 1027],
 ) -> DequeTold
-    requires { hindranceOf (sums_in sums.old).turns (numbers_in numbers.old).workers w (get_or (bytes_in bytes.old).status 0 0) ≡ 0 }
+    requires { hindrance_of (sums_in sums.old).turns (numbers_in numbers.old).workers w (get_or (bytes_in bytes.old).status 0 0) ≡ 0 }
     ensures { told result.number result.reply (memory_of bytes.new words.new numbers.new sums.new)
         ≡ deque_taken_in table.now w c (memory_of bytes.old words.old numbers.old sums.old) }
 {

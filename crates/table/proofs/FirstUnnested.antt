@@ -23,7 +23,7 @@ use Rattle.table.specs.declared.Found.{Found}
 use Rattle.table.specs.declared.Found.TheVariants.{Nothing, At}
 use Rattle.table.specs.declared.Loaded.TheVariants.{Accepted, Refused}
 use Rattle.table.proofs.Tests.{no_way, and_both, is_true, same_is}
-use Rattle.table.proofs.Trying.{Each, Each-at, Leads, found, found_at, try_at_nothing, try_at_at, nothing_try_from, try_from_split, Lowest, try_from_at, Silent}
+use Rattle.table.proofs.Trying.{Each, each_at, Leads, found, found_at, try_at_nothing, try_at_at, nothing_try_from, try_from_split, Lowest, try_from_at, Silent}
 use Rattle.table.proofs.Passes.{head_rules, content_rules, body_rules, found_exactly, refused_exactly}
 use Rattle.table.proofs.Nesting.{is_latest_true, and_second, any_below_true, forks_true, fork_not_later, once_below}
 use Rattle.table.proofs.Unjoined.{in_body, body_owner, body_action, NestedBelow, OpenForks, open_unjoined}
@@ -140,7 +140,7 @@ silent_second T j f q e = (try_at_nothing (second_pass T).checks j).1 (f, (q, (e
 -- 9 is found by the second pass alone, after its 8
 row_nine : (T : Table) (a j : ℕ) (c : Check) → get_elem? (second_pass T).checks j ≡ some c → c.number ≡ 9 → c.applies a ≡ true → (join_not_latest T a ≡ true) ⊎ (end_with_open T a ≡ true)
 row_nine T a =
-    Each-at (λ c. c.number ≡ 9 → c.applies a ≡ true → (join_not_latest T a ≡ true) ⊎ (end_with_open T a ≡ true)) (second_pass T).checks
+    each_at (λ c. c.number ≡ 9 → c.applies a ≡ true → (join_not_latest T a ≡ true) ⊎ (end_with_open T a ≡ true)) (second_pass T).checks
     ((λ n t. absurd (omega arith)), ((λ n t. inl t), ((λ n t. inr t), tt)))
 
 -- what a pass finds
@@ -158,7 +158,7 @@ row_finds cs a n e =
 pass_without : (n a : ℕ) (p : Pass) → Each (λ c. c.number ≡ n → ⊥) p.checks → try_pass p ≡ At (refusal n a) → ⊥
 pass_without n a p f e =
     let (j, c, there, k, t) = row_finds p.checks a n (pass_finds p (refusal n a) e).here in
-    Each-at (λ c. c.number ≡ n → ⊥) p.checks f j c there k
+    each_at (λ c. c.number ≡ n → ⊥) p.checks f j c there k
 
 either : (f g : Found) (r : Refusal) → or_else f g ≡ At r → (f ≡ At r) ⊎ ((f ≡ Nothing) × (g ≡ At r))
 either Nothing g r e = inr (refl, e)

@@ -88,8 +88,8 @@ accepted_job_table s f = (
 
 -- ---- some bytes are a job table, and some of the right size are none
 
-pub E-job-table : JobTable E
-E-job-table = go (loaded E) refl
+pub e_job_table : JobTable E
+e_job_table = go (loaded E) refl
   where
     go : (a : Loaded) → loaded E ≡ a → JobTable E
     go (Accepted f) e = ((accepted_job_table E f).0 e).0

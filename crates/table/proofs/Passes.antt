@@ -21,7 +21,7 @@ use Rattle.table.specs.declared.Found.{Found}
 use Rattle.table.specs.declared.Found.TheVariants.{Nothing, At}
 use Rattle.table.specs.declared.Loaded.TheVariants.{Accepted, Refused}
 use Rattle.table.proofs.Tests.{no_way}
-use Rattle.table.proofs.Trying.{or_else_assoc, Each, Each-at, first_by, first_of_nothing, first_of_at, Leads, found, found_nothing, found_at, Silent, try_at_nothing, try_at_at, Lowest, try_from_at, try_pass_nothing}
+use Rattle.table.proofs.Trying.{or_else_assoc, Each, each_at, first_by, first_of_nothing, first_of_at, Leads, found, found_nothing, found_at, Silent, try_at_nothing, try_at_at, Lowest, try_from_at, try_pass_nothing}
 
 -- ---- the first check that applies, in any list of passes
 
@@ -39,7 +39,7 @@ pub first_found_nothing : (ps : List Pass) → (first_found ps ≡ Nothing) ↔ 
 first_found_nothing ps = rw (first_found_first ps) (first_of_nothing try_pass ps)
 
 row_unapplied : (cs : List Check) (i : ℕ) → Silent cs i → (j : ℕ) (c : Check) → get_elem? cs j ≡ some c → c.applies i ≡ true → ⊥
-row_unapplied cs i h j c e t = let f : c.applies i ≡ false = Each-at (λ c. c.applies i ≡ false) cs h j c e in no_way (cc)
+row_unapplied cs i h j c e t = let f : c.applies i ≡ false = each_at (λ c. c.applies i ≡ false) cs h j c e in no_way (cc)
 
 pass_unapplied : (ps : List Pass) (k : ℕ) (w : Standing) (a : Applies ps k w) → try_pass a.pass ≡ Nothing → ⊥
 pass_unapplied ps k w a h =
@@ -49,7 +49,7 @@ pass_unapplied ps k w a h =
 pub none_applies : (ps : List Pass) → first_found ps ≡ Nothing → (k : ℕ) (w : Standing) → Applies ps k w → ⊥
 none_applies ps h k w a =
     pass_unapplied ps k w a
-    (Each-at (λ p. try_pass p ≡ Nothing) ps ((first_found_nothing ps).0 h) w.pass a.pass a.pass_there)
+    (each_at (λ p. try_pass p ≡ Nothing) ps ((first_found_nothing ps).0 h) w.pass a.pass a.pass_there)
 
 -- the first pass that finds something, the lowest place at which it does and the first row that does there
 module _ (ps : List Pass) (r : Refusal) (a : Leads try_pass ps r)

@@ -38,14 +38,14 @@ abbrev pub Each : {A : Type 0} → (A → Type 0) → List A → Type 0
 Each P [] = Unit
 Each P (x ∷ l) = P x × Each P l
 
-Each-iff : {A : Type 0} (P Q : A → Type 0) → ((x : A) → P x ↔ Q x) → (l : List A) → Each P l ↔ Each Q l
-Each-iff P Q h [] = ((λ t. tt), (λ t. tt))
-Each-iff P Q h (x ∷ l) = Iff.and (h x) (Each-iff P Q h l)
+each_iff : {A : Type 0} (P Q : A → Type 0) → ((x : A) → P x ↔ Q x) → (l : List A) → Each P l ↔ Each Q l
+each_iff P Q h [] = ((λ t. tt), (λ t. tt))
+each_iff P Q h (x ∷ l) = Iff.and (h x) (each_iff P Q h l)
 
-pub Each-at : {A : Type 0} (P : A → Type 0) (l : List A) → Each P l → (j : ℕ) (y : A) → get_elem? l j ≡ some y → P y
-Each-at P [] h j y e = no_way (cc)
-Each-at P (x ∷ l) h zero y e = let d : x ≡ y = cc in rw d at h.0
-Each-at P (x ∷ l) h (suc j) y e = Each-at P l h.1 j y e
+pub each_at : {A : Type 0} (P : A → Type 0) (l : List A) → Each P l → (j : ℕ) (y : A) → get_elem? l j ≡ some y → P y
+each_at P [] h j y e = no_way (cc)
+each_at P (x ∷ l) h zero y e = let d : x ≡ y = cc in rw d at h.0
+each_at P (x ∷ l) h (suc j) y e = each_at P l h.1 j y e
 
 abbrev pub first_by : {A : Type 0} → (A → Found) → List A → Found
 first_by f [] = Nothing
@@ -109,7 +109,7 @@ pub try_at_nothing : (cs : List Check) (i : ℕ) → (try_at cs i ≡ Nothing) �
 try_at_nothing cs i =
     rw (try_at_first cs i)
     (Iff.trans (first_of_nothing (found i) cs)
-    (Each-iff (λ c. found i c ≡ Nothing) (λ c. c.applies i ≡ false) (λ c. found_nothing (c.applies i) (refusal c.number i)) cs))
+    (each_iff (λ c. found i c ≡ Nothing) (λ c. c.applies i ≡ false) (λ c. found_nothing (c.applies i) (refusal c.number i)) cs))
 
 pub try_at_at : (cs : List Check) (i : ℕ) (r : Refusal) → try_at cs i ≡ At r → Leads (found i) cs r
 try_at_at cs i r h = first_of_at (found i) cs r (sym (try_at_first cs i) ∙ h)

@@ -2,7 +2,7 @@
 ghost use Rattle.std.specs.Prelude.{◌≡◌, ◌≤◌, length, replicate};
 ghost use Rattle.table.specs.Format.{table_of};
 ghost use Rattle.table.specs.Pass.{first_found};
-ghost use Rattle.table.specs.Checks.{outside as isOutside, passes};
+ghost use Rattle.table.specs.Checks.{outside as is_outside, passes};
 ghost use Rattle.table.specs.Rules.{Rules};
 ghost use Rattle.quota.specs.Code.Steps.{Accepted, Ready};
 ghost use Rattle.useful_limit.specs.Limits.{numbers_of, limits_in, limits_into};
@@ -77,7 +77,7 @@ pub fn wide_fault(
     rises: &mut [u64; 1024],
     falls: &mut [u64; 1024],
 ) -> Refusal
-    ensures value { result ≡ wide_fault (first_found (passes table.now)) (isOutside 1 16 p) number }
+    ensures value { result ≡ wide_fault (first_found (passes table.now)) (is_outside 1 16 p) number }
     ensures rises_after { (rises.new ≡ replicate 1024 0) × (falls.new ≡ replicate 1024 0) }
 {
     let found = check_in(table, rises, falls);

@@ -113,22 +113,22 @@ filled_linked (suc n) status right t y k l e h o b =
     Past : Type 0
     Past = Once (l ++ rest) → Below no_thread (l ++ rest) → LinkedAs past (l ++ rest)
 
-    With-t : Type 0
-    With-t = LinkedAs (link_last t y k) (l ++ t ∷ []) → Once ((l ++ t ∷ []) ++ rest) → Below no_thread ((l ++ t ∷ []) ++ rest) → LinkedAs with_t ((l ++ t ∷ []) ++ rest)
+    WithT : Type 0
+    WithT = LinkedAs (link_last t y k) (l ++ t ∷ []) → Once ((l ++ t ∷ []) ++ rest) → Below no_thread ((l ++ t ∷ []) ++ rest) → LinkedAs with_t ((l ++ t ∷ []) ++ rest)
 
     entered : t < no_thread → Once (l ++ t ∷ rest) → Below no_thread (l ++ t ∷ rest) → LinkedAs (link_last t y k) (l ++ t ∷ [])
     entered i o b =
         rw e
         (link_last_linked k l h (once_front l (t ∷ rest) o) (λ u m. b u (Memᴰ.append_left (t ∷ rest) m)) t i (once_after l rest t o).0)
 
-    inner : t < no_thread → Past → With-t → (w : Bool) → Once (l ++ pick w rest (t ∷ rest)) → Below no_thread (l ++ pick w rest (t ∷ rest))
+    inner : t < no_thread → Past → WithT → (w : Bool) → Once (l ++ pick w rest (t ∷ rest)) → Below no_thread (l ++ pick w rest (t ∷ rest))
         → LinkedAs (pick w past with_t) (l ++ pick w rest (t ∷ rest))
     inner i p q true o b = p o b
     inner i p q false o b =
         let same : (l ++ t ∷ []) ++ rest ≡ l ++ t ∷ rest = append_assoc l (t ∷ []) rest in
         rw same at (q (entered i o b) (rw same o) (rw same b))
 
-    outer : (p : Bool) → ltb t no_thread ≡ p → Past → With-t → Once (l ++ actives status (pick p (t ∷ walk n right (get_or right t 0)) []))
+    outer : (p : Bool) → ltb t no_thread ≡ p → Past → WithT → Once (l ++ actives status (pick p (t ∷ walk n right (get_or right t 0)) []))
         → Below no_thread (l ++ actives status (pick p (t ∷ walk n right (get_or right t 0)) []))
         → LinkedAs (pick p (pick (eqb (get_or status t 0) waiting) past with_t) k) (l ++ actives status (pick p (t ∷ walk n right (get_or right t 0)) []))
     outer true g p q o b = inner (ltb-true t no_thread g) p q (eqb (get_or status t 0) waiting) o b
