@@ -65,7 +65,7 @@ def header_for_cpp(name='wivakkol.h'):
 def exported(crate, numbers=BYTES):
     """The exported functions of a crate's source: of each its parameters as (name, C type, array size), where a slice is a pointer and its number of bytes, whose name is in `numbers`."""
     calls = {}
-    for path in sorted(pathlib.Path('crates/%s/src' % crate).glob('*.rt')):
+    for path in sorted(pathlib.Path('crates/%s_c/src' % crate).glob('*.rt')):
         for name, text, result in re.findall(r'pub extern "C" fn (\w+)\(([^)]*)\)(?: -> (\w+))?', path.read_text()):
             calls[name] = [('', c_type(result), None)]
             for parameter in filter(None, map(str.strip, text.split(','))):
