@@ -261,6 +261,7 @@ def missing():
 
 def build():
     """Proves and builds what is not up to date."""
+    kit_here()
     if not all(map(proving.up_to_date, proving.programs())):
         proving.check(proving.programs())
     old = [name for name in proving.archives() if not archived(name)]
