@@ -2,7 +2,7 @@
 were written on their own. Holds the header against the source, since nothing else would say where they differ.
 
 usage: python3 tests/board.py [COUNT]
-    From the repository's top, after `rt staticlib wivakkol_turn` and `rt staticlib wivakkol`; COUNT tables and half as many runs of each kind, default 3,000; needs a C compiler, `cc`.
+    From the repository's top, after `python3 tools/dist.py archive wivakkol_turn wivakkol`; COUNT tables and half as many runs of each kind, default 3,000; needs a C compiler, `cc`.
 """
 import collections
 import math
@@ -359,7 +359,7 @@ def main():
     count = int(sys.argv[1]) if len(sys.argv) > 1 else 3000
     for crate, archive in zip(CRATES, ARCHIVES):
         if not os.path.exists(archive):
-            sys.exit('%s is not there: run `rt staticlib %s` first' % (archive, crate))
+            sys.exit('%s is not there: run `python3 tools/dist.py archive %s` first' % (archive, crate))
     header_is_source()
     places_are_named()
     numbers_are_named()
