@@ -4,6 +4,7 @@ rt leaves what it makes in crates/NAME/out; what is taken from there stands in t
 once NAME is proved (and, a program, has run as it should), of the kit's line, the files of the crate and the stamps of the crates that it depends on. It is computed from the sources
 alone, so that it also speaks of everything below NAME.
 """
+import errno
 import functools
 import hashlib
 import os
@@ -194,6 +195,8 @@ def prove(name, log, top):
 def check(names, top=TOP):
     """Proves and builds crates and those below them, as far as they are not up to date, with progress: on a terminal one line that is written over, else a line for each crate."""
     everything, began, terminal = closure(names, top), time.monotonic(), sys.stderr.isatty()
+    if kit_line() is None:
+        raise NotProved('rt, which proves and builds, cannot be started: %s' % os.strerror(errno.ENOENT))
     log = top / 'target/log'
     log.mkdir(parents=True, exist_ok=True)
 
@@ -206,7 +209,7 @@ def check(names, top=TOP):
         if up_to_date(name, top):
             continue
         progress(done, name, False)
-        of = stamp(name, kit_line() or '', top)
+        of = stamp(name, kit_line(), top)
         try:
             status, as_stored = prove(name, log / (name + '.out'), top)
         except OSError as fault:
