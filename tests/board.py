@@ -63,10 +63,9 @@ def header_for_cpp(name='wivakkol.h'):
 
 
 def exported(crate, numbers=BYTES):
-    """The functions that C links of a crate, by the source of its exports: of each its parameters as (name, C type, array size), where a slice is a pointer and its number of bytes, whose name
-    is in `numbers`."""
+    """The functions that C links of a crate, by the source of its exports: of each its parameters as (name, C type, array size), where a slice is a pointer and its number of bytes, whose
+    name is in `numbers`."""
     calls = {}
-    same_promises(crate)
     for path in sorted(pathlib.Path('crates/%s_c/src' % crate).glob('*.rt')):
         for name, text, result in re.findall(r'pub extern "C" fn (\w+)\(([^)]*)\)(?: -> (\w+))?', path.read_text()):
             calls[name] = [('', c_type(result), None)]
@@ -80,17 +79,6 @@ def exported(crate, numbers=BYTES):
                 else:
                     calls[name].append((variable, const + c_type(inner), int(size) if lent else None))
     return calls
-
-
-def same_promises(crate):
-    """Each export has the parameters and the clauses of the crate's function of its name, and nothing but a call of it."""
-    texts = {folder: ''.join(path.read_text() for path in sorted(pathlib.Path('crates/%s/src' % folder).glob('*.rt'))) for folder in (crate, crate + '_c')}
-    found = {name: (' '.join(contract.split()), body) for name, contract, body in re.findall(r'^pub extern "C" fn (\w+)(\(.*?)^\{\n(.*?)^\}', texts[crate + '_c'], re.M | re.S)}
-    own = {name: ' '.join(contract.split()) for name, contract in re.findall(r'^pub fn (\w+)(\(.*?)^\{', texts[crate], re.M | re.S)}
-    assert found and texts[crate + '_c'].count('no_mangle') == len(found), crate
-    for name, (contract, body) in found.items():
-        assert contract == own.get(name), '%s: what is exported promises otherwise than the function of its name in %s' % (name, crate)
-        assert re.fullmatch(r'    %s::(\w+::)?%s\([\w\s,]*\);?\n' % (crate, name), body), '%s: what is exported does more than call the function of its name' % name
 
 
 def c_type(rattle):
