@@ -2,7 +2,7 @@
 were written on their own. Holds the header against the source, since nothing else would say where they differ.
 
 usage: python3 tests/board.py [COUNT]
-    From the repository's top, after `rt staticlib wivakkol_turn` and `rt staticlib wivakkol`; COUNT tables and half as many runs of each kind, default 3,000; needs a C compiler, `cc`.
+    From the repository's top, after `python3 tools/dist.py archive wivakkol_turn wivakkol`; COUNT tables and half as many runs of each kind, default 3,000; needs a C compiler, `cc`.
 """
 import collections
 import math
@@ -63,9 +63,10 @@ def header_for_cpp(name='wivakkol.h'):
 
 
 def exported(crate, numbers=BYTES):
-    """The exported functions of a crate's source: of each its parameters as (name, C type, array size), where a slice is a pointer and its number of bytes, whose name is in `numbers`."""
+    """The functions that C links of a crate, by the source of its exports: of each its parameters as (name, C type, array size), where a slice is a pointer and its number of bytes, whose
+    name is in `numbers`."""
     calls = {}
-    for path in sorted(pathlib.Path('crates/%s/src' % crate).glob('*.rt')):
+    for path in sorted(pathlib.Path('crates/%s_c/src' % crate).glob('*.rt')):
         for name, text, result in re.findall(r'pub extern "C" fn (\w+)\(([^)]*)\)(?: -> (\w+))?', path.read_text()):
             calls[name] = [('', c_type(result), None)]
             for parameter in filter(None, map(str.strip, text.split(','))):
@@ -346,7 +347,7 @@ def main():
     count = int(sys.argv[1]) if len(sys.argv) > 1 else 3000
     for crate, archive in zip(CRATES, ARCHIVES):
         if not os.path.exists(archive):
-            sys.exit('%s is not there: run `rt staticlib %s` first' % (archive, crate))
+            sys.exit('%s is not there: run `python3 tools/dist.py archive %s` first' % (archive, crate))
     header_is_source()
     places_are_named()
     numbers_are_named()

@@ -2,7 +2,7 @@
 what wivakkol_check says of them, by reference.py.
 
 usage: python3 tests/build.py [COUNT]
-    From the repository's top, after `rt staticlib wivakkol`; COUNT random cases, default 1,500; needs a C compiler, `cc`.
+    From the repository's top, after `python3 tools/dist.py archive wivakkol`; COUNT random cases, default 1,500; needs a C compiler, `cc`.
 """
 import collections
 import random

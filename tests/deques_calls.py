@@ -3,7 +3,7 @@ and random memory. Number, row and all of the memory after every call, cleared w
 as well, turn by turn. The limit is held against choices.py, on tables of its own.
 
 usage: python3 tests/deques_calls.py [COUNT]
-    From the repository's top, after `rt staticlib` of wivakkol_deque_turn, wivakkol_deques and wivakkol; COUNT runs of each kind, or half as many, default 1,000; needs a C compiler, `cc`.
+    From the repository's top, after `python3 tools/dist.py archive wivakkol_deque_turn wivakkol_deques wivakkol`; COUNT runs of each kind, or half as many, default 1,000; needs a C compiler, `cc`.
 """
 import collections
 import concurrent.futures
@@ -467,7 +467,7 @@ def main():
     count = int(sys.argv[1]) if len(sys.argv) > 1 else 1000
     for crate, archive in zip(CRATES, ARCHIVES):
         if not os.path.exists(archive):
-            sys.exit('%s is not there: run `rt staticlib %s` first' % (archive, crate))
+            sys.exit('%s is not there: run `python3 tools/dist.py archive %s` first' % (archive, crate))
     header_is_source()
     board.header_for_cpp('wivakkol_deques.h')
     path = board.build('tests/deques_calls.c', 'deques_test', ARCHIVES)

@@ -2,7 +2,7 @@
 working memory, and the stack that each call takes (under 8 KB). Holds the header against the source as well.
 
 usage: python3 tests/desk_calls.py [COUNT]
-    From the repository's top, after `rt staticlib wivakkol_desk`; COUNT calls (default 2,000); needs a C compiler, `cc`.
+    From the repository's top, after `python3 tools/dist.py archive wivakkol_desk`; COUNT calls (default 2,000); needs a C compiler, `cc`.
 """
 import collections
 import os
@@ -136,7 +136,7 @@ def differs(case, got):
 def main():
     count = int(sys.argv[1]) if len(sys.argv) > 1 else 2000
     if not os.path.exists(ARCHIVE):
-        sys.exit('%s is not there: run `rt staticlib wivakkol_desk` first' % ARCHIVE)
+        sys.exit('%s is not there: run `python3 tools/dist.py archive wivakkol_desk` first' % ARCHIVE)
     board.table_header_is_source('wivakkol_desk', CALLS.values())
     rng = random.Random(40)
     cases = list(ends())

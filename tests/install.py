@@ -182,8 +182,9 @@ def what_a_board_links(folder, prefix):
         here = folder / archive.stem
         here.mkdir()
         done('ar', 'x', archive, cwd=here)
+        name = archive.stem[3:] + '.o'
         for path in here.iterdir():
-            expect('%s in the one archive' % path.name, subprocess.run(['ar', 'p', prefix / 'lib/libwivakkol.a', path.name], stdout=subprocess.PIPE).stdout, path.read_bytes())
+            expect('%s in the one archive' % name, subprocess.run(['ar', 'p', prefix / 'lib/libwivakkol.a', name], stdout=subprocess.PIPE).stdout, path.read_bytes())
     return 'a board of turns alone: text %s from the one archive and from libwivakkol_turn.a, %s with all of it' % (sizes['one'][0], sizes['whole'][0])
 
 

@@ -1,7 +1,7 @@
 """Holds the calls of libwivakkol_marks.a against a model over lent.py: on runs and marks that are set, replaced, gone back to and damaged. Answers, every byte of the run and of the marks, cleared
 working memory, and the stack that a call uses (under 8 KB); the header with the source.
 
-Usage: marks_calls.py [COUNT]; wants target/staticlib/libwivakkol_marks.a and libwivakkol.a (rt staticlib).
+Usage: marks_calls.py [COUNT]; wants target/staticlib/libwivakkol_marks.a and libwivakkol.a (python3 tools/dist.py archive).
 """
 import collections
 import pathlib

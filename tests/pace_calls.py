@@ -4,7 +4,7 @@ are begun and on damaged ones. Answers, rows, who may go on, the least b kept, e
 The model (pace.py) works on the pace's numbers as specs/Pace has them. Where a pace was begun and not damaged, it is held against the rule itself by brute force: every stretch of the row after a turn of a
 worker, up to its next, counted (document 01, "b"): a worker may have a turn exactly where the row with it keeps b, somebody always may, and the least b kept is the row's.
 
-Usage: pace_calls.py [COUNT]; wants target/staticlib/libwivakkol_pace.a and libwivakkol.a (rt staticlib).
+Usage: pace_calls.py [COUNT]; wants target/staticlib/libwivakkol_pace.a and libwivakkol.a (python3 tools/dist.py archive).
 """
 import collections
 import pathlib

@@ -4,18 +4,19 @@ usage: python3 tools/dist.py                  writes dist/ from target/ (make di
        python3 tools/dist.py check            compares dist/ with what stands in target/, byte for byte, and proves nothing; with another kit than dist/KIT names
                                               it says so and compares nothing
        python3 tools/dist.py build            proves and builds the programs of the desk and the archives, as far as they are not up to date (make build)
-       python3 tools/dist.py archive NAME ..  `rt staticlib NAME` of each, which leaves the module of the archive too, in target/module/NAME.bc
+       python3 tools/dist.py proved           after `rt ci`: puts what it proved into target/, in the place of what stood there, and builds the archives over it
+       python3 tools/dist.py program NAME ..  proves and builds each, as far as it is not up to date: target/bin/NAME
+       python3 tools/dist.py archive NAME ..  brings what stands below each up to date and builds it: target/staticlib/libNAME.a, target/aarch64/libNAME.a, target/module/NAME.bc
 
-dist/x86_64-linux has the programs of the desk and one archive with the objects of the proved ones. The archive for aarch64 and the wasm32 module are compiled by the kit's
-compiler from the modules that rattle handed to it for these archives. An archive's module is had by a kit of links in which clang alone is a script that saves what it is
-given, so that nothing is proved twice for it. The screen is made of screen/ and that module (tools/screen.py).
+dist/x86_64-linux has the programs of the desk and one archive with the objects of the proved ones. Each archive is built by rattle of the crate NAME_c, whose exports call those of
+NAME, once for x86-64 and once for aarch64. The wasm32 module is compiled by the kit's compiler from the modules that rattle handed to it for x86-64, which is no target of rattle's. An
+archive's module is had by a toolchain of links in which clang alone is a script that saves what it is given. The screen is made of screen/ and that module (tools/screen.py).
 """
 import concurrent.futures
 import functools
 import hashlib
 import os
 import pathlib
-import platform
 import re
 import shutil
 import subprocess
@@ -26,13 +27,14 @@ import proving
 import screen
 
 TOP = proving.TOP
-DIST, BIN, STATIC, MODULES = TOP / 'dist', TOP / 'target/bin', TOP / 'target/staticlib', TOP / 'target/module'
+DIST, BIN, STATIC, OF_ARM, MODULES = TOP / 'dist', TOP / 'target/bin', TOP / 'target/staticlib', TOP / 'target/aarch64', TOP / 'target/module'
 MOST = 1000000  # bytes of all files together
 ELF, EXECUTABLE = b'\x7fELF', 0o755
 RENEW = '`make dist` renews it'
-# what the kit's compiler is told for each target beside what rattle tells it
-COMMON = ['-O3', '-ffunction-sections', '-fdata-sections', '-mllvm', '-trap-unreachable', '-mllvm', '-no-trap-after-noreturn', '-Wno-override-module']
-TARGETS = {'aarch64-linux': ('aarch64-unknown-linux-gnu', ['-fPIC']), 'wasm32': ('wasm32-unknown-unknown', [])}
+# what the kit's compiler is told for wasm32, as rattle tells it for wasm64
+WASM = 'wasm32-unknown-unknown'
+FLAGS = ['-O3', '-ffunction-sections', '-fdata-sections', '-mllvm', '-trap-unreachable', '-mllvm', '-no-trap-after-noreturn', '-mllvm', '-expand-div-rem-bits=64',
+         '-mllvm', '-disable-machine-licm', '-mllvm', '-disable-postra-machine-licm', '-mllvm', '-sink-common-insts=false', '-Wno-override-module']
 WASM_STACK = 262144
 
 
@@ -63,7 +65,7 @@ def kit_here():
 def compiler():
     """The folder of the kit's compiler."""
     kit_here()
-    return proving.kit_folder() / 'on' / platform.machine() / 'toolchain/bin'
+    return proving.kit_folder() / 'toolchain/bin'
 
 
 SAVING = """#!/bin/sh
@@ -76,48 +78,74 @@ exec '%(clang)s' "$@"
 """
 
 
-def linked(kit, there, *parts):
-    """A folder of links to a kit's; the folders on the way to `parts` are folders of their own."""
-    there.mkdir()
-    for path in kit.iterdir():
-        if not parts or path.name != parts[0]:
-            (there / path.name).symlink_to(path.resolve())
-    if parts:
-        linked(kit / parts[0], there / parts[0], *parts[1:])
-
-
-def saving_kit(folder, module):
-    """A kit of links whose clang is a script."""
-    linked(proving.kit_folder().resolve(), folder, 'on', platform.machine(), 'toolchain', 'bin')
-    script = folder / 'on' / platform.machine() / 'toolchain/bin/clang'
-    script.unlink()
+def saving_toolchain(folder, module):
+    """A toolchain of links whose clang is a script."""
+    (folder / 'bin').mkdir(parents=True)
+    (folder / 'lib').symlink_to(compiler().parent / 'lib')
+    for path in compiler().iterdir():
+        if path.name != 'clang':
+            (folder / 'bin' / path.name).symlink_to(path)
+    script = folder / 'bin/clang'
     script.write_text(SAVING % {'module': module, 'clang': compiler() / 'clang', 'path': os.defpath})
     script.chmod(EXECUTABLE)
 
 
-def archive(name, log=None):
-    """`rt staticlib` of a crate, whose words go to a file if one is given; beside the archive the module, and the stamp of the sources of both."""
-    MODULES.mkdir(parents=True, exist_ok=True)
+def library(name):
+    return TOP / 'crates' / name / 'out/rlib' / (name + '.rlib')
+
+
+def built(name, out, toolchain, *more):
+    """What rattle says of an archive that it proves, over the libraries below as rt left them, and builds."""
+    kit, crate = proving.kit_folder(), proving.exports(name)
+    needed, below = proving.crates()[crate][0].split(), proving.closure([crate])[:-1]
+    words = ['--crate-name', crate, 'src/lib.rt', '--extern', 'std=%s/rlibs/std.rlib' % kit, '-L', 'dependency=%s/rlibs' % kit]
+    for other in needed:
+        words += ['--extern', '%s=%s' % (other, library(other))]
+    for other in below:
+        words += ['-L', 'dependency=%s' % library(other).parent]
+    words += ['--antt-project', kit / 'rattle/logic/antt-project.json', '--logic-built', kit / 'logic_built', '--jobs', '1', '--crate-type', 'staticlib', '--toolchain', toolchain, '--backend', 'llvm']
+    out.parent.mkdir(parents=True, exist_ok=True)
+    done = subprocess.run([kit / 'bin/rattle', 'build', *map(str, words), *more, '-o', out], cwd=TOP / 'crates' / crate, stdin=subprocess.DEVNULL, stdout=subprocess.PIPE, stderr=subprocess.STDOUT)
+    log = TOP / 'target/log' / (out.parent.name + '.' + name)
+    log.parent.mkdir(parents=True, exist_ok=True)
+    log.write_bytes(done.stdout)
+    if done.returncode or b'\nlogic=proved ' not in b'\n' + done.stdout:
+        raise Wrong('%s was not built: %s (rattle ended with status %d; %s has all that it said)'
+                    % (os.path.relpath(out, TOP), '; '.join(proving.told(log)[:3]), done.returncode, os.path.relpath(log, TOP)))
+
+
+def archive(name):
+    """A crate's archives, over what rt proved of those below it; beside the one for x86-64 its module, and the stamp of the sources of all."""
     module, mark = MODULES / (name + '.bc'), MODULES / (name + '.of')
+    MODULES.mkdir(parents=True, exist_ok=True)
     for path in module, mark:
         path.unlink(missing_ok=True)
-    of = proving.stamp(name, kit_here())
+    of = proving.stamp(proving.exports(name), kit_here())
     with tempfile.TemporaryDirectory() as folder:
-        saving_kit(pathlib.Path(folder, 'kit'), module)
-        status = subprocess.run(['rt', 'staticlib', name], cwd=TOP, env={**os.environ, 'RATTLE_HOME': folder + '/kit'}, stdout=log, stderr=log).returncode
-    if status or not module.exists():
-        raise Wrong('rt staticlib %s ended with status %d%s%s'
-                    % (name, status, '' if status else ' and left no module', '; %s has what it said' % os.path.relpath(log.name, TOP) if log else ''))
+        saving_toolchain(pathlib.Path(folder, 'toolchain'), module)
+        built(name, STATIC / ('lib%s.a' % name), folder + '/toolchain', '--cpu', 'x86-64')
+    if not module.exists():
+        raise Wrong('the compiler was handed no module of lib%s.a' % name)
+    built(name, OF_ARM / ('lib%s.a' % name), compiler().parent, '--target', 'aarch64-unknown-linux-gnu')
     mark.write_text(of + '\n')
+
+
+def archives(names):
+    with concurrent.futures.ThreadPoolExecutor(min(4, os.cpu_count())) as beside:
+        list(beside.map(archive, names))
 
 
 def archived(name):
     """Whether an archive and its module are those of the sources as they are and of the kit that is here."""
     try:
         of = (MODULES / (name + '.of')).read_text().strip()
-        return (STATIC / ('lib%s.a' % name)).exists() and (MODULES / (name + '.bc')).exists() and of == proving.stamp(name, kit_here())
+        return all(path.exists() for path in parts(name)) and of == proving.stamp(proving.exports(name), kit_here())
     except OSError:
         return False
+
+
+def parts(name):
+    return STATIC / ('lib%s.a' % name), OF_ARM / ('lib%s.a' % name), MODULES / (name + '.bc')
 
 
 # Programs
@@ -133,7 +161,7 @@ def program(name):
     return data[:40] + bytes(8) + data[48:58] + bytes(6) + data[64:end]
 
 
-# Other targets
+# WebAssembly
 
 def emptied(target):
     """Datalayout and triple of a target, as the compiler has them."""
@@ -152,26 +180,19 @@ def exports(text):
     return re.findall(r'^define (?!internal|private|linkonce)[^@]*@(\w+)\(', text, re.M)
 
 
-def retargeted(text, target, keep_probes):
-    for line in emptied(target):
+def retargeted(text):
+    """A module for wasm32, which has no pages to probe below the stack."""
+    for line in emptied(WASM):
         text = re.sub('^%s.*$' % re.escape(line.split('"')[0]), lambda _: line, text, count=1, flags=re.M)
-    text = text.replace(' "target-cpu"="x86-64"', '')
-    return text if keep_probes else text.replace(' "probe-stack"="inline-asm"', '')
+    return re.sub(' "(target-cpu|probe-stack|stack-probe-size)"="[^"]*"', '', text)
 
 
-def compiled(target, folder, name):
-    """The object of an archive for a target."""
-    triple, more = TARGETS[target]
+def compiled(folder, name):
+    """The object of an archive for wasm32."""
     source, made_here = folder / (name + '.ll'), folder / (name + '.o')
-    source.write_text(retargeted(disassembled(name), triple, target != 'wasm32'))
-    run([compiler() / 'clang', '--target=' + triple, *COMMON, *more, '-c', '-x', 'ir', source, '-o', made_here])
+    source.write_text(retargeted(disassembled(name)))
+    run([compiler() / 'clang', '--target=' + WASM, *FLAGS, '-c', '-x', 'ir', source, '-o', made_here])
     return made_here
-
-
-def objects(target, folder):
-    """The objects of all archives for a target."""
-    with concurrent.futures.ThreadPoolExecutor(os.cpu_count()) as beside:
-        return list(beside.map(functools.partial(compiled, target, folder), proving.archives()))
 
 
 def packed(members, out):
@@ -180,27 +201,22 @@ def packed(members, out):
     return out.read_bytes()
 
 
-def unpacked(name, folder):
-    """The objects of a proved archive, renamed after it."""
-    here = folder / name
+def unpacked(archive, folder):
+    """The object of a proved archive, renamed after it."""
+    here = folder / archive.stem
     here.mkdir()
-    run([compiler() / 'llvm-ar', 'x', STATIC / ('lib%s.a' % name)], cwd=here)
+    run([compiler() / 'llvm-ar', 'x', archive], cwd=here)
     found = sorted(here.iterdir())
     if len(found) != 1:
-        raise Wrong('target/staticlib/lib%s.a has %d objects, and one was expected' % (name, len(found)))
-    return found[0].rename(folder / (name + '.o'))
+        raise Wrong('%s has %d objects, and one was expected' % (os.path.relpath(archive, TOP), len(found)))
+    return found[0].rename(folder / (archive.stem[3:] + '.o'))
 
 
-def native_archive():
+def one_archive(apart):
+    """The archives that stand apart in a folder as one."""
     with tempfile.TemporaryDirectory() as folder:
         folder = pathlib.Path(folder)
-        return packed([unpacked(name, folder) for name in proving.archives()], folder / 'libwivakkol.a')
-
-
-def aarch64_archive():
-    with tempfile.TemporaryDirectory() as folder:
-        folder = pathlib.Path(folder)
-        return packed(objects('aarch64-linux', folder), folder / 'libwivakkol.a')
+        return packed([unpacked(apart / ('lib%s.a' % name), folder) for name in proving.archives()], folder / 'libwivakkol.a')
 
 
 @functools.lru_cache(maxsize=None)
@@ -208,7 +224,8 @@ def wasm_module():
     """All calls, exported; no imports. The stack stands first, so that one that overflows leaves the memory and traps."""
     with tempfile.TemporaryDirectory() as folder:
         folder = pathlib.Path(folder)
-        made = objects('wasm32', folder)
+        with concurrent.futures.ThreadPoolExecutor(os.cpu_count()) as beside:
+            made = list(beside.map(functools.partial(compiled, folder), proving.archives()))
         names = [call for name in proving.archives() for call in exports(disassembled(name))]
         (folder / 'wasm-ld').symlink_to(compiler().resolve() / 'clang')
         out = folder / 'wivakkol.wasm'
@@ -222,7 +239,7 @@ def wasm_module():
 def makers():
     """The files of dist/ but for SUMS, each with what makes its bytes from what stands in target/; those that take longer come last."""
     return {'KIT': lambda: kit_here().encode(), **{'x86_64-linux/' + name: functools.partial(program, name) for name in proving.programs()},
-            'x86_64-linux/libwivakkol.a': native_archive, 'aarch64-linux/libwivakkol.a': aarch64_archive, 'wasm32/wivakkol.wasm': wasm_module,
+            'x86_64-linux/libwivakkol.a': functools.partial(one_archive, STATIC), 'aarch64-linux/libwivakkol.a': functools.partial(one_archive, OF_ARM), 'wasm32/wivakkol.wasm': wasm_module,
             'screen.html': lambda: screen.for_dist(wasm_module())}
 
 
@@ -238,22 +255,40 @@ def made():
 
 def missing():
     """What would have to stand in target/ and does not."""
-    wanted = [BIN / name for name in proving.programs()] + [STATIC / ('lib%s.a' % name) for name in proving.archives()] + [MODULES / (name + '.bc') for name in proving.archives()]
+    wanted = [BIN / name for name in proving.programs()] + [path for name in proving.archives() for path in parts(name)]
     return [str(path.relative_to(TOP)) for path in wanted if not path.exists()]
 
 
 def build():
     """Proves and builds what is not up to date."""
-    proved = functools.partial(proving.proved_with, among=[kit_here()])
-    stale = [name for name in proving.programs() if not proved(name) or not (BIN / name).exists()]
+    kit_here()
+    if not all(map(proving.up_to_date, proving.programs())):
+        proving.check(proving.programs())
     old = [name for name in proving.archives() if not archived(name)]
-    unproved = stale + [name for name in old if not proved(name)]
-    if unproved:
-        proving.check(unproved)
-    for i, name in enumerate(old, 1):
-        print('archive %d of %d, %s' % (i, len(old), name), file=sys.stderr)
-        with (TOP / 'target/log' / (name + '.archive')).open('wb') as log:
-            archive(name, log)
+    if old:
+        below(old)
+        archives(old)
+
+
+def below(names):
+    """Has rt bring the libraries below some archives up to date in crates/*/out, which after `rt ci` has none of its own."""
+    crates = list(map(proving.exports, names))
+    proving.check(crates)
+    for crate in crates:
+        log = TOP / 'target/log' / (crate + '.out')
+        with log.open('wb') as out:
+            status = subprocess.run(['rt', 'lib'], cwd=TOP / 'crates' / crate, stdin=subprocess.DEVNULL, stdout=out, stderr=out).returncode
+        if status:
+            raise Wrong('rt lib of %s ended with status %d: %s; target/log/%s.out has all that it said' % (crate, status, '; '.join(proving.told(log)[:3]), crate))
+
+
+def proved():
+    """After `rt ci`: what it proved and built, and the archives over that. Libraries that rt put back as they stood before it are brought up to date first."""
+    proving.take_all()
+    left = [name for name in proving.closure(map(proving.exports, proving.archives())) if (library(name).parent / 'stamp').exists()]
+    if left:
+        below(proving.archives())
+    archives(proving.archives())
 
 
 def write():
@@ -301,6 +336,13 @@ def same(name, data):
         raise Wrong('dist/%s is not executable: %s' % (name, RENEW))
 
 
+def named(names, there):
+    for name in names:
+        if name not in there:
+            raise Wrong('crates.txt has no %s' % name)
+    return names
+
+
 def main():
     words = sys.argv[1:]
     try:
@@ -310,9 +352,14 @@ def main():
             compare()
         elif words == ['build']:
             build()
+        elif words == ['proved']:
+            proved()
+        elif words[0] == 'program' and len(words) > 1:
+            proving.check(named(words[1:], proving.crates()))
         elif words[0] == 'archive' and len(words) > 1:
-            for name in words[1:]:
-                archive(name)
+            named(words[1:], proving.archives())
+            below(words[1:])
+            archives(words[1:])
         else:
             sys.exit(__doc__)
     except (Wrong, proving.NotProved) as fault:

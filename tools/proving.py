@@ -1,8 +1,10 @@
 """What stands in target/ and which of it is up to date with the sources; proving and building with progress. For tools/wivakkol and tools/dist.py.
 
-Up to date is what rt itself would not prove again: target/stamp/NAME is the hash that rt writes once NAME is proved (and, a program, has run as it should), of the kit's
-line, the files of the crate and the stamps of the crates that it depends on. Here it is computed from the sources alone, so that it also speaks of everything below NAME.
+rt leaves what it makes in crates/NAME/out; what is taken from there stands in target/. Up to date is what was proved as the sources now are: target/stamp/NAME is the hash, written
+once NAME is proved (and, a program, has run as it should), of the kit's line, the files of the crate and the stamps of the crates that it depends on. It is computed from the sources
+alone, so that it also speaks of everything below NAME.
 """
+import errno
 import functools
 import hashlib
 import os
@@ -33,7 +35,7 @@ def crates(top=TOP):
             section = line[2:]
         name, colon, rest = line.split('#')[0].partition(':')
         if colon:
-            found[name.strip()] = (rest, section)
+            found[name.split()[0]] = (rest, section)
     return found
 
 
@@ -47,18 +49,28 @@ def programs(top=TOP):
 
 
 def archives(top=TOP):
-    """The crates whose functions are called from C."""
+    """The crates whose functions are called from C. What C links of one is built of a crate of its own, whose exports call it."""
     return section('from C', top)
 
 
+def exports(name):
+    """The crate whose exports call an archive's functions."""
+    return name + '_c'
+
+
 def closure(names, top=TOP):
-    """The crates that some crates need, themselves too."""
-    found, todo = [], list(names)
-    while todo:
-        name = todo.pop()
-        if name in crates(top) and name not in found:
+    """The crates that some crates need, themselves too, each after those that it depends on."""
+    found, ready = [], set()
+
+    def put(name):
+        if name in crates(top) and name not in ready:
+            ready.add(name)
+            for other in crates(top)[name][0].split():
+                put(other)
             found.append(name)
-            todo += crates(top)[name][0].split()
+
+    for name in names:
+        put(name)
     return found
 
 
@@ -66,10 +78,8 @@ def closure(names, top=TOP):
 
 def kit_folder():
     """The folder of the kit that `rt` is of, or None."""
-    found = os.environ.get('RATTLE_HOME') or shutil.which('rt')
-    if found is None:
-        return None
-    return pathlib.Path(found) if 'RATTLE_HOME' in os.environ else pathlib.Path(found).resolve().parent.parent
+    found = shutil.which('rt')
+    return found and pathlib.Path(found).resolve().parent.parent
 
 
 def kit_line():
@@ -106,7 +116,7 @@ def summed(folder, name):
 
 @functools.lru_cache(maxsize=None)
 def stamp(name, kit, top=TOP):
-    """The hash that rt writes for a crate where it and all below it are proved with this kit."""
+    """The hash that is written for a crate where it and all below it are proved with this kit."""
     rest, crate = crates(top)[name][0], os.path.join(top, 'crates', name)
     rows = sorted(summed(crate, file) for part in STAMPED for file in files_of(crate, part))
     below = [stamp(other, kit, top) if other in crates(top) else 'kit ' + other for other in rest.split()]
@@ -132,25 +142,33 @@ def proved_with(name, top=TOP, among=None):
         return None
 
 
+def put(path, data):
+    """A file in the place of what was there, also of a program that runs."""
+    path.parent.mkdir(parents=True, exist_ok=True)
+    new = path.with_name(path.name + '.new')
+    new.write_bytes(data)
+    new.chmod(0o755 if data[:4] == b'\x7fELF' or data[:2] == b'#!' else 0o644)
+    new.replace(path)
+
+
+def take(name, of, top=TOP):
+    """What rt has just proved: a program is put into target/bin, and the stamp is written."""
+    if (top / 'crates' / name / 'src/main.rt').exists():
+        made = top / 'crates' / name / 'out' / name
+        if not made.exists():
+            raise NotProved('crates/%s/out/%s is not there: rt ci builds it' % (name, name))
+        put(top / 'target/bin' / name, made.read_bytes())
+    put(top / 'target/stamp' / name, (of + '\n').encode())
+
+
+def take_all(top=TOP):
+    """What `rt ci` has just proved, of every crate, in the place of all that stood in target/."""
+    shutil.rmtree(top / 'target', ignore_errors=True)
+    for name in crates(top):
+        take(name, stamp(name, kit_line(), top), top)
+
+
 # Proving, with progress
-
-def state(name, since, top):
-    """What rt has written of a crate since the beginning: nothing yet, `failed` as long as it is at work, `proved` or `built`."""
-    path = top / 'target/log' / (name + '.res')
-    try:
-        return path.read_text().strip() if path.stat().st_mtime_ns >= since else ''
-    except OSError:
-        return ''
-
-
-def progress(names, since, began, top):
-    states = {name: state(name, since, top) for name in names}
-    done = [name for name in names if states[name] in ('proved', 'built')]
-    at_work = [name for name in names if states[name] == 'failed']
-    took = int(time.monotonic() - began)
-    line = '%d of %d crates proved, %d:%02d' % (len(done), len(names), took // 60, took % 60)
-    return (len(done), at_work), line + ('; at work on ' + ' '.join(at_work) if at_work else '')
-
 
 def show(line, end):
     sys.stderr.write(('\r%s\033[K' % line if sys.stderr.isatty() else line) + end)
@@ -160,29 +178,51 @@ def show(line, end):
 def told(path):
     """Of what rt printed, the lines that say what failed."""
     lines = path.read_text(errors='replace').split('\n')
-    found = [line for line in lines if re.match(r'rt: .*(NOT PROVED|FAILED)|rt: crates\.txt', line)]
+    found = [line for line in lines if re.search(r': error\b|^fn \S+: (not proved|no proof|could not tell)', line)]
     return found or [line for line in lines if line][-1:]
 
 
+def prove(name, log, top):
+    """Has rt prove a crate and build its library, archive or program, which is run once on its stored input; the status, and whether it printed what is stored."""
+    folder = top / 'crates' / name
+    is_program = (folder / 'src/main.rt').exists()
+    stored = {part: (folder / part).read_bytes() if (folder / part).exists() else b'' for part in ('stdin', 'stdout')}
+    with log.open('wb') as out:
+        done = subprocess.run(['rt', 'run' if is_program else 'lib'], cwd=folder, input=stored['stdin'], stdout=subprocess.PIPE if is_program else out, stderr=out)
+    return done.returncode, not is_program or done.stdout == stored['stdout']
+
+
 def check(names, top=TOP):
-    """`rt check` with progress: on a terminal one line that is written over, else a line for each change."""
-    everything = closure(names, top)
-    log = top / 'target/log/check.out'
-    log.parent.mkdir(parents=True, exist_ok=True)
-    since, began, last, terminal = time.time_ns() - 10 ** 7, time.monotonic(), None, sys.stderr.isatty()
-    try:
-        with log.open('wb') as out:
-            rt = subprocess.Popen(['rt', 'check', *names], cwd=top, stdin=subprocess.DEVNULL, stdout=out, stderr=out)
-    except OSError as fault:
-        raise NotProved('rt, which proves and builds, cannot be started: %s' % (fault.strerror or fault))
-    while True:
-        ended = rt.poll() is not None
-        now, line = progress(everything, since, began, top)
-        if terminal or now != last:
-            show(line, '' if terminal and not ended else '\n')
-        last = now
-        if ended:
-            break
-        time.sleep(0.2 if time.monotonic() - began < 2 else 1)
-    if rt.returncode:
-        raise NotProved('%s (rt check ended with status %d; target/log/check.out has all that it said)' % ('; '.join(told(log)[:3]), rt.returncode))
+    """Proves and builds crates and those below them, as far as they are not up to date, with progress: on a terminal one line that is written over, else a line for each crate."""
+    everything, began, terminal = closure(names, top), time.monotonic(), sys.stderr.isatty()
+    if kit_line() is None:
+        raise NotProved('rt, which proves and builds, cannot be started: %s' % os.strerror(errno.ENOENT))
+    log = top / 'target/log'
+    log.mkdir(parents=True, exist_ok=True)
+
+    def progress(done, at_work, end):
+        took = int(time.monotonic() - began)
+        line = '%d of %d crates proved, %d:%02d' % (done, len(everything), took // 60, took % 60)
+        show(line + ('; at work on ' + at_work if at_work else ''), '' if terminal and not end else '\n')
+
+    for done, name in enumerate(everything):
+        if up_to_date(name, top):
+            continue
+        progress(done, name, False)
+        of = stamp(name, kit_line(), top)
+        try:
+            status, as_stored = prove(name, log / (name + '.out'), top)
+        except OSError as fault:
+            raise NotProved('rt, which proves and builds, cannot be started: %s' % (fault.strerror or fault))
+        if status or not as_stored:
+            progress(done, '', True)
+            what = '; '.join(told(log / (name + '.out'))[:3]) if status else 'it printed otherwise than crates/%s/stdout has it' % name
+            raise NotProved('%s NOT PROVED: %s (rt ended with status %d; target/log/%s.out has all that it said)' % (name, what, status, name))
+        take(name, of, top)
+    progress(len(everything), '', True)
+
+
+def up_to_date(name, top=TOP):
+    """Whether a crate is proved, as it now is, with the kit that is here, and a program stands in target/bin."""
+    is_program = (top / 'crates' / name / 'src/main.rt').exists()
+    return bool(proved_with(name, top, [kit_line() or ''])) and (not is_program or (top / 'target/bin' / name).exists())

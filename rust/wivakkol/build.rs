@@ -1,5 +1,5 @@
 //! Links the proved archives: `libwivakkol.a` of an installation or of `dist/`, which has the objects of all of them; or, where `libwivakkol_turn.a` stands in the folder, the
-//! archives that `rt staticlib` writes, those of the crate's features alone: `wivakkol_turn` and `wivakkol`, with `tables` also `wivakkol_tables`, with `marks` `wivakkol_marks`, with `deques`
+//! archives that `python3 tools/dist.py archive` writes, those of the crate's features alone: `wivakkol_turn` and `wivakkol`, with `tables` also `wivakkol_tables`, with `marks` `wivakkol_marks`, with `deques`
 //! `wivakkol_deque_turn` and `wivakkol_deques`, with `desk` `wivakkol_desk`, with `pace` `wivakkol_pace`. The folder is the one that `WIVAKKOL_ARCHIVE` names, or else the repository's
 //! `target/staticlib`, or its `dist/`.
 use std::path::{Path, PathBuf};
@@ -16,7 +16,7 @@ fn main() {
         let archive = folder.join(format!("lib{name}.a"));
         let Ok(archive) = archive.canonicalize() else {
             eprintln!(
-                "{} is not there: `rt staticlib {name}` writes it to target/staticlib, and WIVAKKOL_ARCHIVE may name the folder of an archive",
+                "{} is not there: `python3 tools/dist.py archive {name}` writes it to target/staticlib, and WIVAKKOL_ARCHIVE may name the folder of an archive",
                 archive.display()
             );
             process::exit(1);

@@ -51,8 +51,7 @@ const NO_ROOM: u32 = 61;
 
 // Begins a run, or gives the check that refuses; the memory is then that of the blank record. Where an alloc is above the quota, the filled-out table is put into `filled`, and is the one that
 // runs; the row has its bytes. The working memory, rises and falls, is left cleared.
-#[unsafe(no_mangle)]
-pub extern "C" fn wivakkol_begin_on(
+pub fn wivakkol_begin_on(
     table: &[u8],
     p: u32,
     quota: u32,

@@ -26,8 +26,7 @@ pub use preview::wivakkol_preview_on;
 pub use useful::{wivakkol_fit_on, wivakkol_limit_on};
 
 // A table's facts n, m, S1, D and N, or the check that refuses it. The working memory of these two calls may hold anything, and is left cleared.
-#[unsafe(no_mangle)]
-pub extern "C" fn wivakkol_check_on(
+pub fn wivakkol_check_on(
     table: &[u8],
     row: &mut [u64; 6],
     rises: &mut [u64; 1024],
@@ -60,8 +59,7 @@ pub extern "C" fn wivakkol_check_on(
 }
 
 // The largest quota for a board with memory M, or the check that refuses.
-#[unsafe(no_mangle)]
-pub extern "C" fn wivakkol_quota_on(
+pub fn wivakkol_quota_on(
     table: &[u8],
     p: u32,
     b: u32,

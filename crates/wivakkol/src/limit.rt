@@ -7,8 +7,7 @@ use most::{Most, most_turns_in};
 use run_memory::lent::workers;
 
 // How many turns a run in rounds takes at most, or the check that refuses. The working memory may hold anything, and is left cleared.
-#[unsafe(no_mangle)]
-pub extern "C" fn wivakkol_most_on(
+pub fn wivakkol_most_on(
     table: &[u8],
     p: u32,
     quota: u32,

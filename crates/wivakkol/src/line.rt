@@ -10,8 +10,7 @@ use run_memory::lent::{workers, workers_at};
 
 // The line of the record that stands in the memory: 32 where no sound record and not the blank one stands there, then 43 where a line has no room for the turns taken; where it is refused, the lent line
 // is as it was. The working memory is left cleared.
-#[unsafe(no_mangle)]
-pub extern "C" fn wivakkol_chart_on(
+pub fn wivakkol_chart_on(
     table: &[u8],
     settings: &[u32; 2],
     next: &[u16; 1024],

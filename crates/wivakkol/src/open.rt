@@ -155,8 +155,7 @@ pub(crate) fn standing_lent(
 
 // Opens a run: 32 where no sound record and not the blank one stands in the memory, which is then as it was; else each thread's parent and the second list are filled. The working memory is
 // left cleared.
-#[unsafe(no_mangle)]
-pub extern "C" fn wivakkol_open_on(
+pub fn wivakkol_open_on(
     table: &[u8],
     settings: &[u32; 2],
     parents: &mut [u16; 1024],

@@ -27,8 +27,7 @@ fn put_preview(row: &mut [u64; 8], reply: Reply, passed: u16, held: u64, highest
 }
 
 // The turn of worker w, or what refuses it.
-#[unsafe(no_mangle)]
-pub extern "C" fn wivakkol_preview_on(
+pub fn wivakkol_preview_on(
     table: &[u8],
     w: u32,
     bytes: &[u8; 1040],

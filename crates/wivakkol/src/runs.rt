@@ -8,8 +8,7 @@ use run_memory::replies::put_run;
 use run_memory::runs::{list_in, rounds_in};
 
 // A run over a list of workers.
-#[unsafe(no_mangle)]
-pub extern "C" fn wivakkol_list_on(
+pub fn wivakkol_list_on(
     table: &[u8],
     order: &[u8],
     bytes: &mut [u8; 1040],
@@ -26,8 +25,7 @@ pub extern "C" fn wivakkol_list_on(
 }
 
 // A run in rounds, of at most `limit` turns.
-#[unsafe(no_mangle)]
-pub extern "C" fn wivakkol_rounds_on(
+pub fn wivakkol_rounds_on(
     table: &[u8],
     limit: u32,
     bytes: &mut [u8; 1040],

@@ -9,8 +9,7 @@ use useful_limit::{Fitted, Limits, fit_in, limit_in};
 
 // The useful limit of the table that runs, S1, S_p, the parallel peak and the largest draw of a stretch, or the check that refuses; 61 where the room for the filled-out table is too little. The
 // working memory of these two calls may hold anything, and is left cleared.
-#[unsafe(no_mangle)]
-pub extern "C" fn wivakkol_limit_on(
+pub fn wivakkol_limit_on(
     table: &[u8],
     p: u32,
     quota: u32,
@@ -47,8 +46,7 @@ pub extern "C" fn wivakkol_limit_on(
 }
 
 // The largest quota whose useful limit is at most M, and that limit; or, where none is, the quota that needs the least, and how much; or the check that refuses.
-#[unsafe(no_mangle)]
-pub extern "C" fn wivakkol_fit_on(
+pub fn wivakkol_fit_on(
     table: &[u8],
     p: u32,
     b: u32,

@@ -11,8 +11,7 @@ use run_memory::replies::put_reply;
 use stealing::deque_turn_in;
 
 // A turn of worker w with choice c. Every number of the row is written; the last, which AsyncDF has of N7, stays 0.
-#[unsafe(no_mangle)]
-pub extern "C" fn wivakkol_deque_turn_on(
+pub fn wivakkol_deque_turn_on(
     table: &[u8],
     w: u32,
     c: u32,

@@ -14,8 +14,7 @@ pub mod limit;
 pub mod open;
 
 // A run over a list, two bytes a turn: worker and choice.
-#[unsafe(no_mangle)]
-pub extern "C" fn wivakkol_deque_list_on(
+pub fn wivakkol_deque_list_on(
     table: &[u8],
     order: &[u8],
     bytes: &mut [u8; 1040],

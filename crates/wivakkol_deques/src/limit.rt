@@ -8,8 +8,7 @@ use run_memory::lent::workers;
 
 // The limit of the table that runs for choices below c and for choices 0, or the check that refuses; 61 where the room for the filled-out table is too little. The working memory may hold
 // anything, and is left cleared.
-#[unsafe(no_mangle)]
-pub extern "C" fn wivakkol_deque_limit_on(
+pub fn wivakkol_deque_limit_on(
     table: &[u8],
     p: u32,
     quota: u32,

@@ -9,8 +9,7 @@ use run_memory::lent::{truths_right, workers, workers_at};
 
 // Opens a run: 32 where no sound record of DFDeques and not the blank one stands in the memory, which is then as it was; else each thread's parent is filled. Both lists of links are part of
 // the record. The working memory is left cleared.
-#[unsafe(no_mangle)]
-pub extern "C" fn wivakkol_deque_open_on(
+pub fn wivakkol_deque_open_on(
     table: &[u8],
     settings: &[u32; 2],
     parents: &mut [u16; 1024],

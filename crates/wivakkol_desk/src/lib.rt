@@ -79,8 +79,7 @@ fn answer_row(text: &[u8], answer: Assembled, row: &mut [u64; 6]) -> u32
 }
 
 // The table of a text. The working memory of these calls may hold anything, and is left cleared.
-#[unsafe(no_mangle)]
-pub extern "C" fn wivakkol_assemble_on(
+pub fn wivakkol_assemble_on(
     text: &[u8],
     out: &mut [u8],
     row: &mut [u64; 6],
@@ -105,8 +104,7 @@ pub extern "C" fn wivakkol_assemble_on(
 }
 
 // The text of a table.
-#[unsafe(no_mangle)]
-pub extern "C" fn wivakkol_disassemble_on(
+pub fn wivakkol_disassemble_on(
     table: &[u8],
     out: &mut [u8],
     row: &mut [u64; 2],

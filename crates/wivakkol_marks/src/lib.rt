@@ -388,8 +388,7 @@ fn go_back(
 }
 
 // Sets mark i to the run as it is, or gives the check that refuses; the marks are then as they were. The working memory is left cleared.
-#[unsafe(no_mangle)]
-pub extern "C" fn wivakkol_mark_on(
+pub fn wivakkol_mark_on(
     table: &[u8],
     i: u32,
     bytes: &[u8; 1040],
@@ -467,8 +466,7 @@ pub extern "C" fn wivakkol_mark_on(
 }
 
 // Goes back to mark i, and opens the run that it keeps; or gives the check that refuses, and the run is then as it was. The working memory is left cleared.
-#[unsafe(no_mangle)]
-pub extern "C" fn wivakkol_back_on(
+pub fn wivakkol_back_on(
     table: &[u8],
     i: u32,
     bytes: &mut [u8; 1040],
@@ -545,8 +543,7 @@ pub extern "C" fn wivakkol_back_on(
 }
 
 // Clears the marks: none is set.
-#[unsafe(no_mangle)]
-pub extern "C" fn wivakkol_unmark_on(set: &mut [u8; 8])
+pub fn wivakkol_unmark_on(set: &mut [u8; 8])
     ensures { set.new ≡ replicate 8 0 }
 {
     *set = [0; 8];

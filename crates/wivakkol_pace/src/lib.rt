@@ -77,8 +77,7 @@ pub(crate) fn paced_in(
 }
 
 // The paced turn, with how many threads stood left of one that it took. Every number of the row is written.
-#[unsafe(no_mangle)]
-pub extern "C" fn wivakkol_paced_turn_on(
+pub fn wivakkol_paced_turn_on(
     table: &[u8],
     w: u32,
     bytes: &mut [u8; 1040],
@@ -104,32 +103,28 @@ pub extern "C" fn wivakkol_paced_turn_on(
 // ---- the pace alone
 
 // Begins a pace for p workers and b: 0, or 20 where p is not 1 to 16, 41 where b is not 1 to 65,535; then nothing is written.
-#[unsafe(no_mangle)]
-pub extern "C" fn wivakkol_pace_begin_on(p: u32, b: u32, pace: &mut [u32; 260]) -> u32
+pub fn wivakkol_pace_begin_on(p: u32, b: u32, pace: &mut [u32; 260]) -> u32
     ensures { paced result pace.new ≡ start_pace p b pace.old }
 {
     pace::start(p, b, pace)
 }
 
 // May worker w have the next turn, as far as the pace is concerned? 0; 30 where it is not below the pace's p; 60.
-#[unsafe(no_mangle)]
-pub extern "C" fn wivakkol_may_on(pace: &[u32; 260], w: u32) -> u32
+pub fn wivakkol_may_on(pace: &[u32; 260], w: u32) -> u32
     ensures { result ≡ may_number pace.now w }
 {
     hinders(pace, w)
 }
 
 // The least b that the turns counted so far keep.
-#[unsafe(no_mangle)]
-pub extern "C" fn wivakkol_kept_on(pace: &[u32; 260]) -> u32
+pub fn wivakkol_kept_on(pace: &[u32; 260]) -> u32
     ensures { result ≡ kept_in pace.now }
 {
     pace::kept(pace)
 }
 
 // Worker w has had a turn that was not taken through the pace: 0, or 30 where it is not below the pace's p, and then nothing is written.
-#[unsafe(no_mangle)]
-pub extern "C" fn wivakkol_took_on(pace: &mut [u32; 260], w: u32) -> u32
+pub fn wivakkol_took_on(pace: &mut [u32; 260], w: u32) -> u32
     ensures { paced result pace.new ≡ took_number pace.old w }
 {
     pace::note(pace, w)

@@ -118,8 +118,7 @@ pub fn run_in(
 }
 
 // A paced run over a list of workers.
-#[unsafe(no_mangle)]
-pub extern "C" fn wivakkol_paced_list_on(
+pub fn wivakkol_paced_list_on(
     table: &[u8],
     order: &[u8],
     bytes: &mut [u8; 1040],
@@ -147,8 +146,7 @@ pub extern "C" fn wivakkol_paced_list_on(
 }
 
 // A paced run in rounds, of at most `limit` turns, that goes on after the worker of the latest turn.
-#[unsafe(no_mangle)]
-pub extern "C" fn wivakkol_paced_rounds_on(
+pub fn wivakkol_paced_rounds_on(
     table: &[u8],
     limit: u32,
     bytes: &mut [u8; 1040],

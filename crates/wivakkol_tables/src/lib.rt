@@ -12,8 +12,7 @@ use canonical::{Compared, Formed, compare_in, form_in};
 use joining::{Joined, join_in};
 
 // The canonical form of a table. The working memory of these calls may hold anything, and is left cleared.
-#[unsafe(no_mangle)]
-pub extern "C" fn wivakkol_canonical_on(
+pub fn wivakkol_canonical_on(
     table: &[u8],
     out: &mut [u8; 36868],
     row: &mut [u64; 2],
@@ -42,8 +41,7 @@ pub extern "C" fn wivakkol_canonical_on(
 }
 
 // Two tables compared by the bytes of their forms.
-#[unsafe(no_mangle)]
-pub extern "C" fn wivakkol_compare_on(
+pub fn wivakkol_compare_on(
     first: &[u8],
     second: &[u8],
     a: &mut [u8; 36868],
@@ -83,8 +81,7 @@ pub extern "C" fn wivakkol_compare_on(
 }
 
 // Tables that are lent back to back, joined as one.
-#[unsafe(no_mangle)]
-pub extern "C" fn wivakkol_join_on(
+pub fn wivakkol_join_on(
     tables: &[u8],
     lengths: &[u32],
     out: &mut [u8; 36868],

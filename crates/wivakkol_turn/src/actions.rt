@@ -8,8 +8,7 @@ use origin::origin;
 use table::read;
 
 // The code of the kind, 255 for what is no action of the table.
-#[unsafe(no_mangle)]
-pub extern "C" fn wivakkol_kind(table: &[u8], a: u64) -> u32
+pub fn wivakkol_kind(table: &[u8], a: u64) -> u32
     ensures { result ≡ kind_code table.now a }
 {
     if read::actions(table) as u64 <= a {
@@ -19,8 +18,7 @@ pub extern "C" fn wivakkol_kind(table: &[u8], a: u64) -> u32
 }
 
 // The argument, 0 for what is no action of the table.
-#[unsafe(no_mangle)]
-pub extern "C" fn wivakkol_argument(table: &[u8], a: u64) -> u32
+pub fn wivakkol_argument(table: &[u8], a: u64) -> u32
     ensures { result ≡ argument_of table.now a }
 {
     if read::actions(table) as u64 <= a {
@@ -30,8 +28,7 @@ pub extern "C" fn wivakkol_argument(table: &[u8], a: u64) -> u32
 }
 
 // Of the table that runs with this quota: the action of the table as given that action a is, 65,535 where it was put in, or is no action.
-#[unsafe(no_mangle)]
-pub extern "C" fn wivakkol_origin(table: &[u8], quota: u32, a: u64) -> u32
+pub fn wivakkol_origin(table: &[u8], quota: u32, a: u64) -> u32
     ensures { result ≡ origin_in (table_of table.now) quota a }
 {
     origin(table, quota, a)

@@ -12,8 +12,7 @@ use run_memory::replies::put_reply;
 use run_memory::turn_in;
 
 // A turn of worker w, with how many threads stood left of one that it took. Every number of the row is written.
-#[unsafe(no_mangle)]
-pub extern "C" fn wivakkol_turn_on(
+pub fn wivakkol_turn_on(
     table: &[u8],
     w: u32,
     bytes: &mut [u8; 1040],

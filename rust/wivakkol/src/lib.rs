@@ -1,6 +1,6 @@
 //! AsyncDF for job tables: a scheduler whose memory is bounded beforehand, for every order in which its workers take their turns; and DFDeques, whose workers have deques of their own. The calls
 //! are proved; this crate calls them in the archives `libwivakkol_turn.a`, `libwivakkol.a`, `libwivakkol_tables.a`, `libwivakkol_marks.a`, `libwivakkol_deque_turn.a`, `libwivakkol_deques.a`,
-//! `libwivakkol_desk.a` and `libwivakkol_pace.a`, which `rt staticlib wivakkol_turn` and so on write, and gives their numbers types. It has no heap, no state and no dependencies. docs/REFERENCE.md of the repository says
+//! `libwivakkol_desk.a` and `libwivakkol_pace.a`, which `python3 tools/dist.py archive wivakkol_turn` and so on write, and gives their numbers types. It has no heap, no state and no dependencies. docs/REFERENCE.md of the repository says
 //! what a table is, what a turn does and which bounds hold. The features `tables`, `marks`, `deques`, `desk` and `pace` are on by default: without the first, [`join`], [`canonical`] and [`compare`]
 //! are left out, and the third archive is not needed; without the second, [`Marks`] and the fourth; without the third, [`DequeRun`], [`deque_limit`] and the next two; without the fourth, [`assemble`] and
 //! [`disassemble`] and the next; without the fifth, [`Pace`] and the last.

@@ -49,7 +49,7 @@ fn as_pointers(call: &str, parameters: &[String]) -> Vec<String> {
 fn calls_are_of_the_source() {
     let mut source = BTreeMap::new();
     for name in ["wivakkol_turn", "wivakkol", "wivakkol_tables", "wivakkol_marks", "wivakkol_deque_turn", "wivakkol_deques", "wivakkol_desk", "wivakkol_pace"] {
-        for entry in fs::read_dir(format!("{HERE}/../../crates/{name}/src")).unwrap() {
+        for entry in fs::read_dir(format!("{HERE}/../../crates/{name}_c/src")).unwrap() {
             let text = fs::read_to_string(entry.unwrap().path()).unwrap();
             source.extend(functions(&text, "pub extern \"C\" fn "));
         }
