@@ -1,10 +1,14 @@
 // Does one call again and again, for bench/bench.py to measure. Standard input: what to do (1 byte: 'l' load the table; 'r' a run in rounds of L turns from the
 // beginning; 's' a single turn of worker 0 on the record after L turns), how often (4 bytes), then p, K, L and the table as runrounds has them. Prints what was done, how often, and
 // a total over the answers. What a call is given depends on the total so far, so that the compiler can leave none out.
+#![tactic(auto)]
+
 ghost use Rattle.std.specs.Prelude.{◌<◌};
 
-use libc::{STDIN_FILENO, STDOUT_FILENO};
 use schedule::{Reply, Report, Run, Turning};
+use std::io;
+use std::io::Write;
+use streams::read_full;
 use table::Loaded;
 
 fn wide(x: u8) -> u32
@@ -104,28 +108,28 @@ fn start(mode: u8, p: u8, quota: u32, limit: u32, bytes: &[u8]) -> Run {
     ran.run
 }
 
-fn print(mode: u8, count: u32, total: u64) {
+fn print(rt: &HostRuntime, mode: u8, count: u32, total: u64) -> io::Result<()> {
     let name = [mode];
-    io::write_all(STDOUT_FILENO, &name);
-    io::write_all(STDOUT_FILENO, b" ");
-    io::print_decimal(STDOUT_FILENO, count as u64);
-    io::write_all(STDOUT_FILENO, b" ");
-    io::print_decimal(STDOUT_FILENO, total);
-    io::write_all(STDOUT_FILENO, b"\n");
+    rt.stdout().write_all(&name)?;
+    rt.stdout().write_all(b" ")?;
+    print!(rt; "{count}")?;
+    rt.stdout().write_all(b" ")?;
+    print!(rt; "{total}")?;
+    rt.stdout().write_all(b"\n")
 }
 
-fn main() {
+fn main(rt: HostRuntime) -> io::Result<()> {
     let mut head = [0u8; 13];
-    if io::read_full(STDIN_FILENO, &mut head) < 13 {
-        io::write_all(STDOUT_FILENO, b"refused 33 0\n");
-        return;
+    if read_full(&mut rt.stdin(), &mut head)? < 13 {
+        rt.stdout().write_all(b"refused 33 0\n")?;
+        return Ok(());
     }
-    let mut buffer = io::large_buffer();
-    let n = io::read_full(STDIN_FILENO, &mut buffer);
+    let mut buffer = streams::large_buffer();
+    let n = read_full(&mut rt.stdin(), &mut buffer)?;
     let count = four(head[1], head[2], head[3], head[4]);
     let quota = three(head[6], head[7], head[8]);
     let limit = four(head[9], head[10], head[11], head[12]);
     let run = start(head[0], head[5], quota, limit, &buffer[..n]);
     let total = repeated(head[0], count, run, limit, &buffer[..n]);
-    print(head[0], count, total);
+    print(&rt, head[0], count, total)
 }

@@ -2,15 +2,19 @@
 // the label's length (1 byte), the label, p (1), K (4), the table's length (3), the table, then calls up to a byte 0: 't' and a worker (1); 'l', a length (1) and an order; 'r' and
 // L (4); 'v' and a worker (1), a turn shown and not taken; 'w', the record's line of the wall chart; 'c', a length (1) and an order, the chart over it; 'p', a field (1), a place (2) and a
 // value (8). A pace beside the run, with every number 0 at first: 'b', p (1) and b (4); 'T', 'L' and 'R', paced, as 't', 'l' and 'r'; each prints the least b kept and the pace too.
-ghost use Rattle.std.specs.Prelude.{◌<◌};
+#![tactic(auto)]
+
+ghost use Rattle.std.specs.Prelude.{◌<◌, IfOk};
 ghost use Rattle.io.specs.Counts.{IsPrefixLen};
 
 use chart::Charted;
-use libc::{STDIN_FILENO, STDOUT_FILENO};
 use pace::kept;
 use pacing::Pace;
 use preview::Previewed;
 use schedule::{Beginning, Reply, Report, Run, Turning, Worker};
+use std::io;
+use std::io::Write;
+use streams::read_full;
 use table::Refusal;
 
 fn wide(x: u8) -> usize
@@ -20,30 +24,30 @@ fn wide(x: u8) -> usize
 }
 
 // One byte; 0 where the input ends.
-fn one_byte() -> u8 {
+fn one_byte(rt: &HostRuntime) -> io::Result<u8> {
     let mut bytes = [0u8; 1];
-    io::read_full(STDIN_FILENO, &mut bytes);
-    bytes[0]
+    read_full(&mut rt.stdin(), &mut bytes)?;
+    Ok(bytes[0])
 }
 
-fn two_bytes() -> usize
-    ensures { result < 65536 }
+fn two_bytes(rt: &HostRuntime) -> io::Result<usize>
+    ensures { IfOk result (λ n. n < 65536) }
 {
     let mut bytes = [0u8; 2];
-    io::read_full(STDIN_FILENO, &mut bytes);
-    wide(bytes[0]) + 256 * wide(bytes[1])
+    read_full(&mut rt.stdin(), &mut bytes)?;
+    Ok(wide(bytes[0]) + 256 * wide(bytes[1]))
 }
 
-fn four_bytes() -> u64
-    ensures { result < 4294967296 }
+fn four_bytes(rt: &HostRuntime) -> io::Result<u64>
+    ensures { IfOk result (λ n. n < 4294967296) }
 {
-    let low = two_bytes() as u64;
-    low + 65536 * two_bytes() as u64
+    let low = two_bytes(rt)? as u64;
+    Ok(low + 65536 * two_bytes(rt)? as u64)
 }
 
-fn eight_bytes() -> u64 {
-    let low = four_bytes();
-    low + 4294967296 * four_bytes()
+fn eight_bytes(rt: &HostRuntime) -> io::Result<u64> {
+    let low = four_bytes(rt)?;
+    Ok(low + 4294967296 * four_bytes(rt)?)
 }
 
 // k, or the buffer's length where that is less.
@@ -55,64 +59,67 @@ fn within(k: usize, buffer: &[u8]) -> usize
 
 // ---- what is printed
 
-fn say(word: &[u8]) {
-    io::write_all(STDOUT_FILENO, word);
+fn say(rt: &HostRuntime, word: &[u8]) -> io::Result<()> {
+    rt.stdout().write_all(word)
 }
 
 // The first k bytes of a text.
-fn say_front(text: &[u8], k: usize) {
+fn say_front(rt: &HostRuntime, text: &[u8], k: usize) -> io::Result<()> {
     let n = within(k, text);
-    say(&text[..n]);
+    say(rt, &text[..n])
 }
 
 // A word and a number.
-fn tell(word: &[u8], x: u64) {
-    io::write_all(STDOUT_FILENO, word);
-    io::print_decimal(STDOUT_FILENO, x);
+fn tell(rt: &HostRuntime, word: &[u8], x: u64) -> io::Result<()> {
+    rt.stdout().write_all(word)?;
+    print!(rt; "{x}")
 }
 
-fn tell_refusal(x: Refusal) {
-    tell(b" ", x.number as u64);
-    tell(b" ", x.place as u64);
+fn tell_refusal(rt: &HostRuntime, x: Refusal) -> io::Result<()> {
+    tell(rt, b" ", x.number as u64)?;
+    tell(rt, b" ", x.place as u64)
 }
 
-fn tell_reply(reply: Reply) {
+fn tell_reply(rt: &HostRuntime, reply: Reply) -> io::Result<()> {
     match reply {
-        Reply::Idle => say(b"idle"),
+        Reply::Idle => say(rt, b"idle")?,
         Reply::Done { thread, action } => {
-            tell(b"done ", thread as u64);
-            tell(b" ", action as u64);
+            tell(rt, b"done ", thread as u64)?;
+            tell(rt, b" ", action as u64)?;
         }
         Reply::Quota { thread, wanted } => {
-            tell(b"quota ", thread as u64);
-            tell(b" ", wanted as u64);
+            tell(rt, b"quota ", thread as u64)?;
+            tell(rt, b" ", wanted as u64)?;
         }
         Reply::Wait { thread, child } => {
-            tell(b"wait ", thread as u64);
-            tell(b" ", child as u64);
+            tell(rt, b"wait ", thread as u64)?;
+            tell(rt, b" ", child as u64)?;
         }
     }
+    Ok(())
 }
 
-fn tell_beginning(answer: Beginning) {
+fn tell_beginning(rt: &HostRuntime, answer: Beginning) -> io::Result<()> {
     match answer {
-        Beginning::Begun => say(b"begun"),
+        Beginning::Begun => say(rt, b"begun")?,
         Beginning::Refused(x) => {
-            say(b"refused");
-            tell_refusal(x);
+            say(rt, b"refused")?;
+            tell_refusal(rt, x)?;
         }
     }
+    Ok(())
 }
 
-fn tell_report(report: Report) {
+fn tell_report(rt: &HostRuntime, report: Report) -> io::Result<()> {
     match report {
-        Report::Finished(k) => tell(b"finished ", k),
-        Report::Spent(k) => tell(b"spent ", k),
+        Report::Finished(k) => tell(rt, b"finished ", k)?,
+        Report::Spent(k) => tell(rt, b"spent ", k)?,
         Report::Refused(k, x) => {
-            tell(b"refused ", k);
-            tell_refusal(x);
+            tell(rt, b"refused ", k)?;
+            tell_refusal(rt, x)?;
         }
     }
+    Ok(())
 }
 
 // A number that nearly any change of what was mixed changes.
@@ -194,12 +201,12 @@ fn mix_run(run: Run) -> u64 {
     mix(mix(sum, run.highest), run.turns)
 }
 
-fn tell_run(run: Run) {
-    tell(b", held ", run.held);
-    tell(b" highest ", run.highest);
-    tell(b" turns ", run.turns);
-    tell(b" record ", mix_run(run));
-    say(b"\n");
+fn tell_run(rt: &HostRuntime, run: Run) -> io::Result<()> {
+    tell(rt, b", held ", run.held)?;
+    tell(rt, b" highest ", run.highest)?;
+    tell(rt, b" turns ", run.turns)?;
+    tell(rt, b" record ", mix_run(run))?;
+    say(rt, b"\n")
 }
 
 // ---- what is changed
@@ -297,28 +304,29 @@ fn put(run: Run, field: u8, i: usize, x: u64) -> Run {
 
 // ---- the calls
 
-fn tell_turning(answer: Turning) {
+fn tell_turning(rt: &HostRuntime, answer: Turning) -> io::Result<()> {
     match answer {
         Turning::Taken(reply, passed) => {
-            tell_reply(reply);
-            tell(b" passed ", passed as u64);
+            tell_reply(rt, reply)?;
+            tell(rt, b" passed ", passed as u64)?;
         }
         Turning::Refused(x) => {
-            say(b"refused");
-            tell_refusal(x);
+            say(rt, b"refused")?;
+            tell_refusal(rt, x)?;
         }
     }
+    Ok(())
 }
 
-fn call_turn(run: Run) -> Run {
-    let turned = asyncdf::turn(run, one_byte());
+fn call_turn(rt: &HostRuntime, run: Run) -> io::Result<Run> {
+    let turned = asyncdf::turn(run, one_byte(rt)?);
     let answer = turned.answer;
-    tell_turning(answer);
-    turned.run
+    tell_turning(rt, answer)?;
+    Ok(turned.run)
 }
 
-fn call_preview(run: Run) -> Run {
-    let shown = preview::preview(run, one_byte());
+fn call_preview(rt: &HostRuntime, run: Run) -> io::Result<Run> {
+    let shown = preview::preview(run, one_byte(rt)?);
     match shown {
         Previewed::Would {
             reply,
@@ -327,98 +335,98 @@ fn call_preview(run: Run) -> Run {
             highest,
             quota,
         } => {
-            say(b"would ");
-            tell_reply(reply);
-            tell(b" passed ", passed as u64);
-            tell(b" held ", held);
-            tell(b" highest ", highest);
-            tell(b" quota ", quota as u64);
+            say(rt, b"would ")?;
+            tell_reply(rt, reply)?;
+            tell(rt, b" passed ", passed as u64)?;
+            tell(rt, b" held ", held)?;
+            tell(rt, b" highest ", highest)?;
+            tell(rt, b" quota ", quota as u64)?;
         }
         Previewed::Refused(x) => {
-            say(b"refused");
-            tell_refusal(x);
+            say(rt, b"refused")?;
+            tell_refusal(rt, x)?;
         }
     }
-    run
+    Ok(run)
 }
 
 // A line without its newline.
-fn say_line(line: &[u8; 85]) {
+fn say_line(rt: &HostRuntime, line: &[u8; 85]) -> io::Result<()> {
     let text = &line[..];
-    say_front(text, 84);
+    say_front(rt, text, 84)
 }
 
-fn call_line(run: Run) -> Run {
+fn call_line(rt: &HostRuntime, run: Run) -> io::Result<Run> {
     let mut line = [0u8; 85];
     let charted = chart::wall_line(run, &mut line);
     match charted {
-        Charted::Written => say_line(&line),
+        Charted::Written => say_line(rt, &line)?,
         Charted::Refused(x) => {
-            say(b"refused");
-            tell_refusal(x);
+            say(rt, b"refused")?;
+            tell_refusal(rt, x)?;
         }
     }
-    run
+    Ok(run)
 }
 
 // Reads an order that fills the buffer and prints the chart over it, without its last newline.
-fn call_lines(run: Run, buffer: &mut [u8]) -> Run {
-    let n = io::read_full(STDIN_FILENO, buffer);
+fn call_lines(rt: &HostRuntime, run: Run, buffer: &mut [u8]) -> io::Result<Run> {
+    let n = read_full(&mut rt.stdin(), buffer)?;
     let mut text = [0u8; 21845];
     let k = listing::chart_turns(run, &buffer[..n], &mut text, 0);
-    say(b"chart\n");
+    say(rt, b"chart\n")?;
     if 0 < k {
-        say_front(&text, k - 1);
+        say_front(rt, &text, k - 1)?;
     }
-    run
+    Ok(run)
 }
 
-fn call_chart(run: Run) -> Run {
-    let length = wide(one_byte());
-    let mut buffer = io::buffer();
+fn call_chart(rt: &HostRuntime, run: Run) -> io::Result<Run> {
+    let length = wide(one_byte(rt)?);
+    let mut buffer = streams::buffer();
     let n = within(length, &buffer);
-    call_lines(run, &mut buffer[..n])
+    call_lines(rt, run, &mut buffer[..n])
 }
 
-fn call_order(run: Run, buffer: &mut [u8]) -> Run {
-    let n = io::read_full(STDIN_FILENO, buffer);
+fn call_order(rt: &HostRuntime, run: Run, buffer: &mut [u8]) -> io::Result<Run> {
+    let n = read_full(&mut rt.stdin(), buffer)?;
     let ran = asyncdf::run_list(run, &buffer[..n]);
     let report = ran.report;
-    tell_report(report);
-    ran.run
+    tell_report(rt, report)?;
+    Ok(ran.run)
 }
 
-fn call_list(run: Run) -> Run {
-    let length = wide(one_byte());
-    let mut buffer = io::buffer();
+fn call_list(rt: &HostRuntime, run: Run) -> io::Result<Run> {
+    let length = wide(one_byte(rt)?);
+    let mut buffer = streams::buffer();
     let n = within(length, &buffer);
-    call_order(run, &mut buffer[..n])
+    call_order(rt, run, &mut buffer[..n])
 }
 
-fn call_rounds(run: Run) -> Run {
-    let ran = asyncdf::run_rounds(run, quota_of(four_bytes()));
+fn call_rounds(rt: &HostRuntime, run: Run) -> io::Result<Run> {
+    let ran = asyncdf::run_rounds(run, quota_of(four_bytes(rt)?));
     let report = ran.report;
-    tell_report(report);
-    ran.run
+    tell_report(rt, report)?;
+    Ok(ran.run)
 }
 
-fn call_put(run: Run) -> Run {
-    let field = one_byte();
-    let place = two_bytes();
-    let value = eight_bytes();
-    say(b"changed");
-    put(run, field, place, value)
+fn call_put(rt: &HostRuntime, run: Run) -> io::Result<Run> {
+    let field = one_byte(rt)?;
+    let place = two_bytes(rt)?;
+    let value = eight_bytes(rt)?;
+    say(rt, b"changed")?;
+    Ok(put(run, field, place, value))
 }
 
-fn call(sort: u8, run: Run) -> Run {
+fn call(rt: &HostRuntime, sort: u8, run: Run) -> io::Result<Run> {
     match sort {
-        b't' => call_turn(run),
-        b'l' => call_list(run),
-        b'r' => call_rounds(run),
-        b'v' => call_preview(run),
-        b'w' => call_line(run),
-        b'c' => call_chart(run),
-        _ => call_put(run),
+        b't' => call_turn(rt, run),
+        b'l' => call_list(rt, run),
+        b'r' => call_rounds(rt, run),
+        b'v' => call_preview(rt, run),
+        b'w' => call_line(rt, run),
+        b'c' => call_chart(rt, run),
+        _ => call_put(rt, run),
     }
 }
 
@@ -441,120 +449,127 @@ fn mix_pace(numbers: &[u32; 260]) -> u64 {
 }
 
 // Prints the least b kept and the pace, after what a call said.
-fn with_pace(run: Run, pace: Pace) -> Beside {
+fn with_pace(rt: &HostRuntime, run: Run, pace: Pace) -> io::Result<Beside> {
     let numbers = pace.numbers;
-    tell(b" kept ", kept(&numbers) as u64);
-    tell(b", pace ", mix_pace(&numbers));
-    Beside { run, pace }
+    tell(rt, b" kept ", kept(&numbers) as u64)?;
+    tell(rt, b", pace ", mix_pace(&numbers))?;
+    Ok(Beside { run, pace })
 }
 
-fn call_pace(run: Run) -> Beside {
-    let p = one_byte();
-    let begun = pacing::begin_pace(p, quota_of(four_bytes()));
+fn call_pace(rt: &HostRuntime, run: Run) -> io::Result<Beside> {
+    let p = one_byte(rt)?;
+    let begun = pacing::begin_pace(p, quota_of(four_bytes(rt)?));
     let answer = begun.answer;
-    tell_beginning(answer);
-    with_pace(run, begun.pace)
+    tell_beginning(rt, answer)?;
+    with_pace(rt, run, begun.pace)
 }
 
-fn call_paced_turn(run: Run, pace: Pace) -> Beside {
-    let turned = pacing::paced_turn(run, pace, one_byte());
+fn call_paced_turn(rt: &HostRuntime, run: Run, pace: Pace) -> io::Result<Beside> {
+    let turned = pacing::paced_turn(run, pace, one_byte(rt)?);
     let answer = turned.answer;
-    tell_turning(answer);
-    with_pace(turned.run, turned.pace)
+    tell_turning(rt, answer)?;
+    with_pace(rt, turned.run, turned.pace)
 }
 
-fn call_paced_order(run: Run, pace: Pace, buffer: &mut [u8]) -> Beside {
-    let n = io::read_full(STDIN_FILENO, buffer);
+fn call_paced_order(
+    rt: &HostRuntime,
+    run: Run,
+    pace: Pace,
+    buffer: &mut [u8],
+) -> io::Result<Beside> {
+    let n = read_full(&mut rt.stdin(), buffer)?;
     let ran = pacing::run_paced_list(run, pace, &buffer[..n]);
     let report = ran.report;
-    tell_report(report);
-    with_pace(ran.run, ran.pace)
+    tell_report(rt, report)?;
+    with_pace(rt, ran.run, ran.pace)
 }
 
-fn call_paced_list(run: Run, pace: Pace) -> Beside {
-    let length = wide(one_byte());
-    let mut buffer = io::buffer();
+fn call_paced_list(rt: &HostRuntime, run: Run, pace: Pace) -> io::Result<Beside> {
+    let length = wide(one_byte(rt)?);
+    let mut buffer = streams::buffer();
     let n = within(length, &buffer);
-    call_paced_order(run, pace, &mut buffer[..n])
+    call_paced_order(rt, run, pace, &mut buffer[..n])
 }
 
-fn call_paced_rounds(run: Run, pace: Pace) -> Beside {
-    let ran = pacing::run_paced_rounds(run, pace, quota_of(four_bytes()));
+fn call_paced_rounds(rt: &HostRuntime, run: Run, pace: Pace) -> io::Result<Beside> {
+    let ran = pacing::run_paced_rounds(run, pace, quota_of(four_bytes(rt)?));
     let report = ran.report;
-    tell_report(report);
-    with_pace(ran.run, ran.pace)
+    tell_report(rt, report)?;
+    with_pace(rt, ran.run, ran.pace)
 }
 
-fn call_beside(sort: u8, run: Run, pace: Pace) -> Beside {
+fn call_beside(rt: &HostRuntime, sort: u8, run: Run, pace: Pace) -> io::Result<Beside> {
     match sort {
-        b'b' => call_pace(run),
-        b'T' => call_paced_turn(run, pace),
-        b'L' => call_paced_list(run, pace),
-        b'R' => call_paced_rounds(run, pace),
-        _ => Beside {
-            run: call(sort, run),
+        b'b' => call_pace(rt, run),
+        b'T' => call_paced_turn(rt, run, pace),
+        b'L' => call_paced_list(rt, run, pace),
+        b'R' => call_paced_rounds(rt, run, pace),
+        _ => Ok(Beside {
+            run: call(rt, sort, run)?,
             pace,
-        },
+        }),
     }
 }
 
-fn calls(begun: Run) {
+fn calls(rt: &HostRuntime, begun: Run) -> io::Result<()> {
     let mut run = begun;
     let mut pace = Pace { numbers: [0; 260] };
     let mut left: u32 = 1000;
     while 0 < left {
-        let sort = one_byte();
+        let sort = one_byte(rt)?;
         if sort == 0 {
-            return;
+            return Ok(());
         }
-        let after = call_beside(sort, run, pace);
+        let after = call_beside(rt, sort, run, pace)?;
         run = after.run;
         pace = after.pace;
-        tell_run(run);
+        tell_run(rt, run)?;
         left -= 1;
     }
+    Ok(())
 }
 
 // Reads a table that fills the buffer and begins.
-fn begin(p: u8, quota: u32, buffer: &mut [u8]) -> Run {
-    let n = io::read_full(STDIN_FILENO, buffer);
+fn begin(rt: &HostRuntime, p: u8, quota: u32, buffer: &mut [u8]) -> io::Result<Run> {
+    let n = read_full(&mut rt.stdin(), buffer)?;
     let begun = asyncdf::begin(&buffer[..n], p, quota);
     let answer = begun.answer;
-    tell_beginning(answer);
-    begun.run
+    tell_beginning(rt, answer)?;
+    Ok(begun.run)
 }
 
 // Copies a label that fills the buffer to the output.
-fn label(buffer: &mut [u8]) {
-    let n = io::read_full(STDIN_FILENO, buffer);
-    io::write_all(STDOUT_FILENO, &buffer[..n]);
-    io::write_all(STDOUT_FILENO, b": ");
+fn label(rt: &HostRuntime, buffer: &mut [u8]) -> io::Result<()> {
+    let n = read_full(&mut rt.stdin(), buffer)?;
+    rt.stdout().write_all(&buffer[..n])?;
+    rt.stdout().write_all(b": ")
 }
 
 // One record, and whether there was one.
-fn one() -> bool {
-    let length = wide(one_byte());
+fn one(rt: &HostRuntime) -> io::Result<bool> {
+    let length = wide(one_byte(rt)?);
     if length == 0 {
-        return false;
+        return Ok(false);
     }
-    let mut name = io::buffer();
+    let mut name = streams::buffer();
     let k = within(length, &name);
-    label(&mut name[..k]);
-    let p = one_byte();
-    let quota = quota_of(four_bytes());
-    let low = two_bytes();
-    let length = low + 65536 * wide(one_byte());
-    let mut bytes = io::large_buffer();
+    label(rt, &mut name[..k])?;
+    let p = one_byte(rt)?;
+    let quota = quota_of(four_bytes(rt)?);
+    let low = two_bytes(rt)?;
+    let length = low + 65536 * wide(one_byte(rt)?);
+    let mut bytes = streams::large_buffer();
     let n = within(length, &bytes);
-    let run = begin(p, quota, &mut bytes[..n]);
-    tell_run(run);
-    calls(run);
-    true
+    let run = begin(rt, p, quota, &mut bytes[..n])?;
+    tell_run(rt, run)?;
+    calls(rt, run)?;
+    Ok(true)
 }
 
-fn main() {
+fn main(rt: HostRuntime) -> io::Result<()> {
     let mut left: u32 = 1000;
-    while 0 < left && one() {
+    while 0 < left && one(&rt)? {
         left -= 1;
     }
+    Ok(())
 }

@@ -1,11 +1,15 @@
 // Reads p, K, an order of two bytes a turn, worker and choice, and a table on standard input, and prints the listing of the run of DFDeques.
-use libc::{STDIN_FILENO, STDOUT_FILENO};
+#![tactic(auto)]
 
-fn main() {
+use std::io;
+use std::io::Write;
+use streams::{large_buffer, read_full};
+
+fn main(rt: HostRuntime) -> io::Result<()> {
     // More than the longest order and table: what lies beyond is refused for its length all the same.
-    let mut buffer = io::large_buffer();
-    let n = io::read_full(STDIN_FILENO, &mut buffer);
+    let mut buffer = large_buffer();
+    let n = read_full(&mut rt.stdin(), &mut buffer)?;
     let mut text = [0u8; 131200];
     let k = deque_listing::deque_listing(&buffer[..n], &mut text);
-    io::write_all(STDOUT_FILENO, &text[..k]);
+    rt.stdout().write_all(&text[..k])
 }

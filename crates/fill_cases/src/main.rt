@@ -1,10 +1,14 @@
 // Reads inputs of `filltable` one after the other, each with a label, and prints the label and the answer of each: the facts of the table that it writes, with its bytes where they
 // are under 256, or the check that refuses. A record of the input is the label's length (1 byte), the label, the input's length (3 bytes), the input.
+#![tactic(auto)]
+
 ghost use Rattle.std.specs.Prelude.{◌<◌};
 ghost use Rattle.io.specs.Counts.{IsPrefixLen};
 
 use filling::Answer;
-use libc::{STDIN_FILENO, STDOUT_FILENO};
+use std::io;
+use std::io::Write;
+use streams::read_full;
 use table::{Loaded, Refusal};
 
 fn wide(x: u8) -> usize
@@ -14,17 +18,17 @@ fn wide(x: u8) -> usize
 }
 
 // One byte; 0 where the input ends.
-fn one_byte() -> u8 {
+fn one_byte(rt: &HostRuntime) -> io::Result<u8> {
     let mut bytes = [0u8; 1];
-    io::read_full(STDIN_FILENO, &mut bytes);
-    bytes[0]
+    read_full(&mut rt.stdin(), &mut bytes)?;
+    Ok(bytes[0])
 }
 
 // A length of three bytes.
-fn long_length() -> usize {
+fn long_length(rt: &HostRuntime) -> io::Result<usize> {
     let mut bytes = [0u8; 3];
-    io::read_full(STDIN_FILENO, &mut bytes);
-    wide(bytes[0]) + 256 * wide(bytes[1]) + 65536 * wide(bytes[2])
+    read_full(&mut rt.stdin(), &mut bytes)?;
+    Ok(wide(bytes[0]) + 256 * wide(bytes[1]) + 65536 * wide(bytes[2]))
 }
 
 // k, or the buffer's length where that is less.
@@ -35,59 +39,62 @@ fn within(k: usize, buffer: &[u8]) -> usize
 }
 
 // Copies a label that fills the buffer to the output.
-fn label(buffer: &mut [u8]) {
-    let n = io::read_full(STDIN_FILENO, buffer);
-    io::write_all(STDOUT_FILENO, &buffer[..n]);
-    io::write_all(STDOUT_FILENO, b": ");
+fn label(rt: &HostRuntime, buffer: &mut [u8]) -> io::Result<()> {
+    let n = read_full(&mut rt.stdin(), buffer)?;
+    rt.stdout().write_all(&buffer[..n])?;
+    rt.stdout().write_all(b": ")
 }
 
 // The facts of a table, and its bytes where they are few.
-fn table_answer(table: &[u8]) {
+fn table_answer(rt: &HostRuntime, table: &[u8]) -> io::Result<()> {
     let mut line = [0u8; 80];
     let k = text::facts_line(facts::load(table), &mut line);
-    io::write_all(STDOUT_FILENO, &line[..k]);
+    rt.stdout().write_all(&line[..k])?;
     if table.len() < 256 {
-        io::write_all(STDOUT_FILENO, table);
-        io::write_all(STDOUT_FILENO, b"\n");
+        rt.stdout().write_all(table)?;
+        rt.stdout().write_all(b"\n")?;
     }
+    Ok(())
 }
 
-fn refused(refusal: Refusal) {
+fn refused(rt: &HostRuntime, refusal: Refusal) -> io::Result<()> {
     let mut line = [0u8; 80];
     let k = text::facts_line(Loaded::Refused(refusal), &mut line);
-    io::write_all(STDOUT_FILENO, &line[..k]);
+    rt.stdout().write_all(&line[..k])
 }
 
 // Reads an input that fills the buffer and prints its answer.
-fn fill_answer(buffer: &mut [u8]) {
-    let n = io::read_full(STDIN_FILENO, buffer);
+fn fill_answer(rt: &HostRuntime, buffer: &mut [u8]) -> io::Result<()> {
+    let n = read_full(&mut rt.stdin(), buffer)?;
     let mut table = [0u8; 36868];
     let answer = filling::fill_input(&buffer[..n], &mut table);
     match answer {
-        Answer::Filled(k) => table_answer(&table[..k]),
-        Answer::Refused(refusal) => refused(refusal),
+        Answer::Filled(k) => table_answer(rt, &table[..k])?,
+        Answer::Refused(refusal) => refused(rt, refusal)?,
     }
+    Ok(())
 }
 
 // One record, and whether there was one.
-fn one() -> bool {
-    let length = wide(one_byte());
+fn one(rt: &HostRuntime) -> io::Result<bool> {
+    let length = wide(one_byte(rt)?);
     if length == 0 {
-        return false;
+        return Ok(false);
     }
-    let mut name = io::buffer();
+    let mut name = streams::buffer();
     let k = within(length, &name);
-    label(&mut name[..k]);
-    let length = long_length();
-    let mut bytes = io::large_buffer();
+    label(rt, &mut name[..k])?;
+    let length = long_length(rt)?;
+    let mut bytes = streams::large_buffer();
     let n = within(length, &bytes);
-    fill_answer(&mut bytes[..n]);
-    true
+    fill_answer(rt, &mut bytes[..n])?;
+    Ok(true)
 }
 
-fn main() {
+fn main(rt: HostRuntime) -> io::Result<()> {
     let mut left: u32 = 1000;
-    while 0 < left && one() {
+    while 0 < left && one(&rt)? {
         left -= 1;
     }
+    Ok(())
 }

@@ -1,16 +1,20 @@
 // Reads a count (1 byte), so many lengths (4 bytes each) and the tables on standard input, and writes them joined as one table. Where there is none, nothing is written but a line on
 // standard error that says why.
-use libc::{STDERR_FILENO, STDIN_FILENO, STDOUT_FILENO};
+#![tactic(auto)]
 
-fn main() {
+use std::io;
+use std::io::Write;
+use streams::read_full;
+
+fn main(rt: HostRuntime) -> io::Result<()> {
     // A byte more than sixteen of the longest tables with their lengths and the count, so that a longer input is refused.
     let mut input = [0u8; 589954];
-    let n = io::read_full(STDIN_FILENO, &mut input);
+    let n = read_full(&mut rt.stdin(), &mut input)?;
     let mut bytes = [0u8; 36868];
     let answer = joining::join_given(&input[..n], &mut bytes);
     let k = joining::joined_size(answer);
-    io::write_all(STDOUT_FILENO, &bytes[..k]);
+    rt.stdout().write_all(&bytes[..k])?;
     let mut line = [0u8; 80];
     let k = joining::join_line(answer, &mut line);
-    io::write_all(STDERR_FILENO, &line[..k]);
+    rt.stderr().write_all(&line[..k])
 }

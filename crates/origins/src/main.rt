@@ -1,10 +1,14 @@
 // Reads the input of `filltable` on standard input, K (3 bytes) and a table, and prints a line for each action of the table that runs with that quota: the number of the action of the table as given that it is, or - where it was put in. Where no table runs, the check that refuses.
+#![tactic(auto)]
+
 ghost use Rattle.std.specs.Prelude.{◌≡◌};
 ghost use Rattle.table.specs.Format.{u24_at};
 ghost use Rattle.table.specs.Sum.{Read};
 
 use filling::Answer;
-use libc::{STDIN_FILENO, STDOUT_FILENO};
+use std::io;
+use std::io::Write;
+use streams::read_full;
 use table::{Loaded, Refusal, read};
 
 fn wide(x: u8) -> usize
@@ -20,43 +24,45 @@ fn quota_in(input: &[u8]) -> u32
     (read::word(input, 0) + 65536 * wide(read::byte(input, 2))) as u32
 }
 
-fn print_origin(x: u32) {
+fn print_origin(rt: &HostRuntime, x: u32) -> io::Result<()> {
     if x == 65535 {
-        io::write_all(STDOUT_FILENO, b"-\n");
-        return;
+        rt.stdout().write_all(b"-\n")?;
+        return Ok(());
     }
-    io::print_decimal(STDOUT_FILENO, x as u64);
-    io::write_all(STDOUT_FILENO, b"\n");
+    print!(rt; "{x}")?;
+    rt.stdout().write_all(b"\n")
 }
 
-fn print_origins(table: &[u8], quota: u32) {
+fn print_origins(rt: &HostRuntime, table: &[u8], quota: u32) -> io::Result<()> {
     let m = read::actions(table);
     let mut a = 0;
     while a < m {
-        print_origin(origin::origin(table, quota, a as u64));
+        print_origin(rt, origin::origin(table, quota, a as u64))?;
         a += 1;
     }
+    Ok(())
 }
 
-fn refused(refusal: Refusal) {
+fn refused(rt: &HostRuntime, refusal: Refusal) -> io::Result<()> {
     let mut line = [0u8; 80];
     let k = text::facts_line(Loaded::Refused(refusal), &mut line);
-    io::write_all(STDOUT_FILENO, &line[..k]);
+    rt.stdout().write_all(&line[..k])
 }
 
-fn print_answer(input: &[u8]) {
+fn print_answer(rt: &HostRuntime, input: &[u8]) -> io::Result<()> {
     let quota = quota_in(input);
     let mut table = [0u8; 36868];
     let answer = filling::fill_input(input, &mut table);
     match answer {
-        Answer::Filled(k) => print_origins(&table[..k], quota),
-        Answer::Refused(refusal) => refused(refusal),
+        Answer::Filled(k) => print_origins(rt, &table[..k], quota)?,
+        Answer::Refused(refusal) => refused(rt, refusal)?,
     }
+    Ok(())
 }
 
-fn main() {
+fn main(rt: HostRuntime) -> io::Result<()> {
     // More than the longest input: what lies beyond is refused for its length all the same.
-    let mut buffer = io::large_buffer();
-    let n = io::read_full(STDIN_FILENO, &mut buffer);
-    print_answer(&buffer[..n]);
+    let mut buffer = streams::large_buffer();
+    let n = read_full(&mut rt.stdin(), &mut buffer)?;
+    print_answer(&rt, &buffer[..n])
 }

@@ -1,9 +1,13 @@
 // Reads inputs of turnlist, runrounds, wallchart and dequelist one after the other, each with a label, and prints the label and the answer of each. A record of the input
 // is its sort ('t', 'r', 'w' or 'd', 1 byte), the label's length (1 byte), the label, the input's length (3 bytes), the input.
+#![tactic(auto)]
+
 ghost use Rattle.std.specs.Prelude.{◌<◌};
 ghost use Rattle.io.specs.Counts.{IsPrefixLen};
 
-use libc::{STDIN_FILENO, STDOUT_FILENO};
+use std::io;
+use std::io::Write;
+use streams::read_full;
 
 fn wide(x: u8) -> usize
     ensures { result < 256 }
@@ -12,17 +16,17 @@ fn wide(x: u8) -> usize
 }
 
 // One byte; 0 where the input ends.
-fn short() -> u8 {
+fn short(rt: &HostRuntime) -> io::Result<u8> {
     let mut bytes = [0u8; 1];
-    io::read_full(STDIN_FILENO, &mut bytes);
-    bytes[0]
+    read_full(&mut rt.stdin(), &mut bytes)?;
+    Ok(bytes[0])
 }
 
 // A length of three bytes.
-fn long_length() -> usize {
+fn long_length(rt: &HostRuntime) -> io::Result<usize> {
     let mut bytes = [0u8; 3];
-    io::read_full(STDIN_FILENO, &mut bytes);
-    wide(bytes[0]) + 256 * wide(bytes[1]) + 65536 * wide(bytes[2])
+    read_full(&mut rt.stdin(), &mut bytes)?;
+    Ok(wide(bytes[0]) + 256 * wide(bytes[1]) + 65536 * wide(bytes[2]))
 }
 
 // k, or the buffer's length where that is less.
@@ -33,74 +37,76 @@ fn within(k: usize, buffer: &[u8]) -> usize
 }
 
 // Copies a label that fills the buffer to the output.
-fn label(buffer: &mut [u8]) {
-    let n = io::read_full(STDIN_FILENO, buffer);
-    io::write_all(STDOUT_FILENO, &buffer[..n]);
-    io::write_all(STDOUT_FILENO, b": ");
+fn label(rt: &HostRuntime, buffer: &mut [u8]) -> io::Result<()> {
+    let n = read_full(&mut rt.stdin(), buffer)?;
+    rt.stdout().write_all(&buffer[..n])?;
+    rt.stdout().write_all(b": ")
 }
 
 // Prints what turnlist answers.
-fn turns(input: &[u8]) {
+fn turns(rt: &HostRuntime, input: &[u8]) -> io::Result<()> {
     let mut text = [0u8; 262400];
     let k = listing::turn_listing(input, &mut text);
-    io::write_all(STDOUT_FILENO, &text[..k]);
+    rt.stdout().write_all(&text[..k])
 }
 
 // Prints what wallchart answers.
-fn chart(input: &[u8]) {
+fn chart(rt: &HostRuntime, input: &[u8]) -> io::Result<()> {
     let mut text = [0u8; 348330];
     let k = listing::wall_chart(input, &mut text);
-    io::write_all(STDOUT_FILENO, &text[..k]);
+    rt.stdout().write_all(&text[..k])
 }
 
 // Prints what runrounds answers.
-fn rounds(input: &[u8]) {
+fn rounds(rt: &HostRuntime, input: &[u8]) -> io::Result<()> {
     let mut text = [0u8; 96];
     let k = listing::rounds_line(input, &mut text);
-    io::write_all(STDOUT_FILENO, &text[..k]);
+    rt.stdout().write_all(&text[..k])
 }
 
 // Prints what dequelist answers.
-fn pairs(input: &[u8]) {
+fn pairs(rt: &HostRuntime, input: &[u8]) -> io::Result<()> {
     let mut text = [0u8; 131200];
     let k = deque_listing::deque_listing(input, &mut text);
-    io::write_all(STDOUT_FILENO, &text[..k]);
+    rt.stdout().write_all(&text[..k])
 }
 
 // Reads an input that fills the buffer and prints its answer.
-fn answer(sort: u8, buffer: &mut [u8]) {
-    let n = io::read_full(STDIN_FILENO, buffer);
+fn answer(rt: &HostRuntime, sort: u8, buffer: &mut [u8]) -> io::Result<()> {
+    let n = read_full(&mut rt.stdin(), buffer)?;
     if sort == b't' {
-        turns(&buffer[..n]);
+        turns(rt, &buffer[..n])?;
     } else if sort == b'w' {
-        chart(&buffer[..n]);
+        chart(rt, &buffer[..n])?;
     } else if sort == b'd' {
-        pairs(&buffer[..n]);
+        pairs(rt, &buffer[..n])?;
     } else {
-        rounds(&buffer[..n]);
+        rounds(rt, &buffer[..n])?;
     }
+    Ok(())
 }
 
 // One record, and whether there was one.
-fn one() -> bool {
-    let sort = short();
+fn one(rt: &HostRuntime) -> io::Result<bool> {
+    let sort = short(rt)?;
     if sort == 0 {
-        return false;
+        return Ok(false);
     }
-    let length = wide(short());
-    let mut name = io::buffer();
+    let length = wide(short(rt)?);
+    let mut name = streams::buffer();
     let k = within(length, &name);
-    label(&mut name[..k]);
-    let length = long_length();
-    let mut bytes = io::large_buffer();
+    label(rt, &mut name[..k])?;
+    let length = long_length(rt)?;
+    let mut bytes = streams::large_buffer();
     let n = within(length, &bytes);
-    answer(sort, &mut bytes[..n]);
-    true
+    answer(rt, sort, &mut bytes[..n])?;
+    Ok(true)
 }
 
-fn main() {
+fn main(rt: HostRuntime) -> io::Result<()> {
     let mut left: u32 = 1000;
-    while 0 < left && one() {
+    while 0 < left && one(&rt)? {
         left -= 1;
     }
+    Ok(())
 }
