@@ -28,7 +28,7 @@ import screen
 
 TOP = proving.TOP
 DIST, BIN, STATIC, OF_ARM, MODULES = TOP / 'dist', TOP / 'target/bin', TOP / 'target/staticlib', TOP / 'target/aarch64', TOP / 'target/module'
-MOST = 1000000  # bytes of all files together
+MOST = 2000000  # bytes of all files together
 ELF, EXECUTABLE = b'\x7fELF', 0o755
 RENEW = '`make dist` renews it'
 # what the kit's compiler is told for wasm32, as rattle tells it for wasm64
