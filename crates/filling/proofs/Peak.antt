@@ -34,7 +34,7 @@ module _ (up down : ℕ → ℕ) where
   unfolding top_from sum_over greatest fronts
   top_fronts [] u d f h = omega (arith, h [])
   top_fronts (x ∷ l) u d f h =
-      rw greatest_map
+      rw (greatest_map f (x ∷◌) (fronts l))
       (omega (arith, h [], top_fronts l (u + up x) (d + down x) (λ q. f (x ∷ q)) (λ q. omega (arith, h (x ∷ q)))))
 
   -- what neither draws nor gives back leaves the highest amount as it is

@@ -155,7 +155,7 @@ module _ (T : Table) (c : ContentRules T) (b : BodyRules T) (n : NestRules T) (o
       rw (serial_end T c b (T.first t + k) (action_within T c b t k h (omega arith)) e)
       (omega (arith, rw (i, e) at (fork_part_whole t h))))
       (λ t k h i e child next.
-      rw (serial_fork T c b (T.first t + k) (action_within T c b t k h (omega arith)) e, sum_over_append)
+      rw (serial_fork T c b (T.first t + k) (action_within T c b t k h (omega arith)) e, sum_over_append own (serial T (T.first (T.argument (T.first t + k)))) (serial T (suc (T.first t + k))))
       (omega (arith, rw add-zero at child, rw (add-suc, e) at next)))
       (λ t k h i p q next.
       rw (serial_step T c b (T.first t + k) (action_within T c b t k h (omega arith)) p q) (omega (arith, rw (add-suc, q) at next)))

@@ -92,7 +92,7 @@ module _ (up down : ℕ → ℕ) where
   unfolding top_from sum_over greatest fronts
   top_fronts [] u d f h = omega (arith, h [])
   top_fronts (x ∷ l) u d f h =
-      rw greatest_map
+      rw (greatest_map f (x ∷◌) (fronts l))
       (omega (arith, h [], top_fronts l (u + up x) (d + down x) (λ q. f (x ∷ q)) (λ q. omega (arith, h (x ∷ q)))))
 
 sum_over_le : (f g : ℕ → ℕ) (l : List ℕ) → ((x : ℕ) → Memᴰ x l → f x ≤ g x) → sum_over f l ≤ sum_over g l

@@ -29,7 +29,7 @@ greatest_empty f (w ∷ row) = omega arith
 
 greatest_front : (f : List ℕ → ℕ) (w : ℕ) (row : List ℕ) → greatest f (front_rows (w ∷ row)) ≡ max (f []) (greatest (λ q. f (w ∷ q)) (front_rows row))
 unfolding greatest front_rows
-greatest_front f w row = rw greatest_map
+greatest_front f w row = rw (greatest_map f (w ∷◌) (front_rows row))
 
 pub front_rest : (row front : List ℕ) → Memᴰ front (front_rows row) → (rest : List ℕ) × (row ≡ front ++ rest)
 unfolding front_rows
