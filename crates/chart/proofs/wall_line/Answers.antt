@@ -11,6 +11,7 @@ use Rattle.chart.specs.declared.Charted.{Charted}
 use Rattle.chart.specs.Chart.{charted, charted_in, charted_values, line_values}
 use Rattle.chart.proofs.Records.{line_filled, many, few, charted_unsound, charted_many, charted_written, charted_values_lem}
 use borrow.Author.Rules.{rules}
+use Rattle.chart.proofs.wall_line.Goals.{Else-not-tested}
 use Rattle.chart.proofs.wall_line.Goals as goal
 
 -- an answer, and the buffer that goes with it
@@ -19,7 +20,7 @@ answers : {x : Charted} (r : Run) (s o : List ℕ) → x ≡ charted r → o ≡
 answers r s o e f = (e, (ap charted_values e ∙ charted_values_lem r, f ∙ ap (λ (y : Charted). charted_in y r s) e))
 
 -- the record passed the test
-passed : (c : goal.Else-not-tested) → unsound c.args.run ≡ false
+passed : (c : Else-not-tested) → unsound c.args.run ≡ false
 passed c = test_passes _ c.test-tested.ensures c.if-not-tested.false
 
 pub returns-then-not-tested : goal.returns-then-not-tested

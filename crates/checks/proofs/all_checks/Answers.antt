@@ -12,6 +12,7 @@ use Rattle.table.specs.declared.Refusal.{Refusal}
 use Rattle.table.specs.declared.Found.TheVariants.{Nothing, At}
 use Rattle.table.proofs.Trying.{or_else_last}
 use Rattle.table.proofs.Passes.{first_found_nothing, first_found_append, head_rules, content_rules, body_rules, nest_rules, fork_rules}
+use Rattle.checks.proofs.all_checks.Goals.{After-actions-m}
 use Rattle.checks.proofs.all_checks.Goals as goal
 
 in_head : (s : List ℕ) {r : Refusal} → try_pass (head_pass s) ≡ At r → At r ≡ first_found (passes s)
@@ -44,11 +45,8 @@ module _ {s : List ℕ} {n m : ℕ} (h : Headed s n m) where
     in_balances = rw (head_passed, first_found_append (shape_passes (table_of s)), e, or_else_last)
 
 -- the head has passed
-passed : (c : goal.In_default) → HeadRules c.args.table.now
-passed c = (head_rules _).0 (sym c.head-found.ensures ∙ c.in_default.is)
-
-reached : (c : goal.After-actions-m) → Headed c.args.table.now c.threads-n.result c.actions-m.result
-reached c = record { head = passed c; threads = c.threads-n.ensures.value; actions = c.actions-m.ensures.value }
+reached : (c : After-actions-m) → Headed c.args.table.now c.threads-n.result c.actions-m.result
+reached c = record { head = (head_rules _).0 (sym c.head-found.ensures ∙ c.in_default.is); threads = c.threads-n.ensures.value; actions = c.actions-m.ensures.value }
 
 pub returns-in-At : goal.returns-in-At
 returns-in-At c =

@@ -7,13 +7,14 @@ use Rattle.table.specs.Checks.{passes}
 use Rattle.table.specs.declared.Found.TheVariants.{Nothing}
 use Rattle.facts.specs.Code.Steps.{Kept}
 use Rattle.facts.proofs.Accepted.{kept, small, shallow, few_levels, facts_are, refused, accepted, answered}
+use Rattle.facts.proofs.load.Goals.{After-actions-m, In_default}
 use Rattle.facts.proofs.load.Goals as goal
 
 -- the table keeps the rules
-none : (c : goal.In_default) → first_found (passes c.args.table.now) ≡ Nothing
+none : (c : In_default) → first_found (passes c.args.table.now) ≡ Nothing
 none c = sym c.check-found.ensures ∙ c.in_default.is
 
-known : (c : goal.After-actions-m) → Kept c.args.table.now c.threads-n.result c.actions-m.result
+known : (c : After-actions-m) → Kept c.args.table.now c.threads-n.result c.actions-m.result
 known c = kept _ (none c) c.threads-n.ensures.value c.actions-m.ensures.value
 
 pub returns-in-At : goal.returns-in-At

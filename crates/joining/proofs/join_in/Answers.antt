@@ -14,6 +14,7 @@ use Rattle.joining.specs.declared.Joined.TheVariants.{Refused, InPart}
 use Rattle.joining.specs.declared.weights.Weights.{Weights}
 use Rattle.joining.proofs.JoinAnswers.{lent, answer_is, wrong_is, values_are}
 use borrow.Author.Rules.{rules}
+use Rattle.joining.proofs.join_in.Goals.{Else-parts_wrong}
 use Rattle.joining.proofs.join_in.Goals as goal
 
 -- the answer, its values and the buffer
@@ -29,7 +30,7 @@ says ls s out x out' e p = record { answer = e; values = ap join_values_of e ∙
 weighed_is : (ls s : List ℕ) → parts_wrong ls s ≡ false → (w y : Weights) → w ≡ weights_from 0 no_part (parts_of ls s) → w ≡ y → answered y (length ls) ≡ joined ls s
 weighed_is ls s e w y p q = ap (λ (x : Weights). answered x (length ls)) (sym q ∙ p) ∙ answer_is ls s e
 
-right : (c : goal.Else-parts_wrong) → Lent c.args.lengths.now c.args.tables.now
+right : (c : Else-parts_wrong) → Lent c.args.lengths.now c.args.tables.now
 right c = lent _ _ (sym c.parts_wrong.ensures ∙ c.if-parts_wrong.false)
 
 pub returns-then-parts_wrong : goal.returns-then-parts_wrong

@@ -11,14 +11,15 @@ use Rattle.joining.specs.Code.Steps.{Small, LentFew, facts_from}
 use Rattle.joining.specs.Code.Rows.{threads_over, actions_over}
 use Rattle.joining.proofs.JoinAnswers.{small, total_n, total_m, lent_few, joined_there, few_of, too_large, fits_in}
 use borrow.Author.Rules.{rules}
+use Rattle.joining.proofs.join_parts.Goals.{Else-too_large, Start}
 use Rattle.joining.proofs.join_parts.Goals as goal
 
 -- the totals are small
-bound : (b : goal.Start) → Small 16 b.args.totals
+bound : (b : Start) → Small 16 b.args.totals
 bound b = small b.args.lengths.now b.args.tables.now b.requires.0 b.args.totals b.requires.1
 
 -- 48 does not apply
-few : (c : goal.Else-too_large) → (1 + c.args.totals.threads ≤ 1024) × (2 * length c.args.lengths.now + 1 + c.args.totals.actions ≤ 8192)
+few : (c : Else-too_large) → (1 + c.args.totals.threads ≤ 1024) × (2 * length c.args.lengths.now + 1 + c.args.totals.actions ≤ 8192)
 few c = few_of _ _ (sym c.too_large.ensures ∙ c.if-too_large.false)
 
 pub overflow_add-n : goal.overflow_add-n

@@ -12,6 +12,7 @@ use Rattle.schedule.specs.declared.Worker.{Worker}
 use Rattle.schedule.specs.Machine.{nobody}
 use Rattle.chart.specs.Chart.{cell_of, cells_from, cell_texts, cells_texts}
 use Rattle.chart.proofs.line.put_cells.Invariants.{Inv, cells_after}
+use Rattle.chart.proofs.line.put_cells.Goals.{Start}
 use Rattle.chart.proofs.line.put_cells.Goals as goal
 
 module _ {p : ℕ} {workers : List Worker} {out₀ : List ℕ} {at₀ : ℕ} {out : List ℕ} {at w : ℕ} (sixteen : length workers ≡ 16) (v : Inv p workers out₀ at₀ out at w) where
@@ -35,7 +36,7 @@ module _ {p : ℕ} {workers : List Worker} {out₀ : List ℕ} {at₀ : ℕ} {ou
             ∙ v.rest);
       }
 
-sixteen_in : (s : goal.Start → length s.args.t4 ≡ 16
+sixteen_in : (s : Start → length s.args.t4 ≡ 16
 sixteen_in s = search rules
 
 pub loop-w-init : goal.loop-w-init

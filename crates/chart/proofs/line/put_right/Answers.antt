@@ -12,6 +12,7 @@ use Rattle.text.proofs.Placing.{line_put}
 use Rattle.text.specs.Puts.{put_all}
 use Rattle.chart.specs.Chart.{right_texts}
 use Rattle.chart.proofs.Putting.{blanks_take}
+use Rattle.chart.proofs.line.put_right.Goals.{After-put_number-k}
 use Rattle.chart.proofs.line.put_right.Goals as goal
 
 -- the digits, spelled at the of a buffer of their own
@@ -34,10 +35,10 @@ module _ (n k : ℕ) (o : List ℕ) (h : n < 2 ^ 64) (e : buffer_at o k ≡ plac
       let b : buffer_at o₁ r₁ ≡ placed s at (replicate (width - length (decimal n)) 32) = e₁ ∙ ap (placed s at) a in
       e₂ ∙ (λ i. placed_next (b i) (digits i))
 
-bounded : (c : goal.After-put_number-k) → c.args.n < 2 ^ 64
+bounded : (c : After-put_number-k) → c.args.n < 2 ^ 64
 bounded c = omega (arith, c.well_formed)
 
-fits : (c : goal.After-put_number-k) → c.put_number-k.result ≤ length c.put_number-k.new.0
+fits : (c : After-put_number-k) → c.put_number-k.result ≤ length c.put_number-k.new.0
 fits c = within c.args.n _ _ (bounded c) c.put_number-k.ensures
 
 pub slice_bounds-put_word-end : goal.slice_bounds-put_word-end

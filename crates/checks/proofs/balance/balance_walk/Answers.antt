@@ -12,6 +12,7 @@ use Rattle.table.specs.Code.Steps.{WalkReady, amount_at}
 use Rattle.checks.specs.Code.Steps.{least_that, least_next, overdrawn, balance_of}
 use Rattle.table.proofs.Walks.{Summed, sum_next, child_small}
 use Rattle.checks.proofs.balance.balance_walk.Invariants.{Inv}
+use Rattle.checks.proofs.balance.balance_walk.Goals.{After-child_amount, After-child_amount-in-loop-i}
 use Rattle.checks.proofs.balance.balance_walk.Goals as goal
 
 start : {l : List ℕ} {count : ℕ} {rises falls : List ℕ} → WalkReady join l count rises falls → Inv l count rises falls 0 0 0 0
@@ -39,20 +40,18 @@ done {count = count} {i = i} v h =
     rw (v.rise_is, v.fall_is, v.below_is, e)
 
 -- the sums after this action
-risen : (c : goal.After-child_amount →
+risen : (c : After-child_amount) →
     let s = c.args in
     Summed (amount_at alloc join s.body.now s.rises.now) c.loop-i.i (c.loop-i.rise + (c.alloc_of.result + c.child_amount.result))
 risen c =
-    let c = c in
     let v = c.loop-i.invariant in
     sum_next alloc join _ _ v.0.ready.rise_small (omega (arith, v.1, c.loop-i-test.true))
     c.action_in-action.ensures.code_value c.action_in-action.ensures.read.value c.alloc_of.ensures c.child_amount.ensures v.0.rise_is
 
-fallen : (c : goal.After-child_amount-in-loop-i →
+fallen : (c : After-child_amount-in-loop-i) →
     let s = c.args in
     Summed (amount_at free join s.body.now s.falls.now) c.loop-i.i (c.loop-i.fall + (c.free_of.result + c.child_amount-in-loop-i.result))
 fallen c =
-    let c = c in
     let v = c.loop-i.invariant in
     sum_next free join _ _ v.0.ready.fall_small (omega (arith, v.1, c.loop-i-test.true))
     c.action_in-action.ensures.code_value c.action_in-action.ensures.read.value c.free_of.ensures c.child_amount-in-loop-i.ensures v.0.fall_is
@@ -75,7 +74,10 @@ pub overflow_add-rise-in-loop-i : goal.overflow_add-rise-in-loop-i
 overflow_add-rise-in-loop-i c = omega (arith, risen (goal.at.overflow_add-rise-in-loop-i c).After-child_amount)
 
 pub child_amount-requires-in-loop-i : goal.child_amount-requires-in-loop-i
-child_amount-requires-in-loop-i c = child_amount_requires c κs
+unfolding kind_of
+child_amount-requires-in-loop-i c =
+    λ g. child_small c.loop-i.invariant.0.ready (omega (arith, c.loop-i.invariant.1, c.loop-i-test.true))
+    c.action_in-action.ensures.code_value c.action_in-action.ensures.read.value (ap kind_of g)
 
 pub overflow_add-fall : goal.overflow_add-fall
 overflow_add-fall c = omega (arith, fallen (goal.at.overflow_add-fall c).After-child_amount-in-loop-i)

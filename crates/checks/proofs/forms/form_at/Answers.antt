@@ -66,12 +66,11 @@ returns-in-1 c = c.inner.ensures ∙ sym (at_work _ _ _ _ _ c.in-1.is)
 
 pub returns-in-2 : goal.returns-in-2
 returns-in-2 c =
-    let d = c.in-2.in_default-own.rest in
-    c.inner-in-2.ensures ∙ sym (at_amount _ _ _ _ _ d.0.1 d.1 c.in-2.if-k-lt4-own.true)
+    c.inner-in-2.ensures ∙ sym (at_amount _ _ _ _ _ (omega arith) (omega arith) (omega arith))
 
 pub returns-in-4 : goal.returns-in-4
 returns-in-4 c =
-    rw c.is_child.ensures at c.inner-in-4.ensures ∙ sym (at_child _ _ _ _ _ c.in-2.if-k-lt4-own.false c.in-4.if-k-lt6-own.true)
+    rw c.is_child.ensures at c.inner-in-4.ensures ∙ sym (at_child _ _ _ _ _ (omega arith) (omega arith))
 
 pub returns-in-6-to-255 : goal.returns-in-6-to-255
-returns-in-6-to-255 c = sym (at_unknown _ _ _ _ _ c.in-4.if-k-lt6-own.false)
+returns-in-6-to-255 c = sym (at_unknown _ _ _ _ _ (omega arith))

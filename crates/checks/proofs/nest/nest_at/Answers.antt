@@ -111,7 +111,7 @@ pub overflow_sub-stack : goal.overflow_sub-stack
 overflow_sub-stack c = fork_room c.requires c.in-4.is c.if-forked-x.false
 
 pub overflow_sub-result : goal.overflow_sub-result
-overflow_sub-result c = sub_stack c
+overflow_sub-result c = fork_room c.requires c.in-4.is c.if-forked-x.false
 
 pub returns-then-top-eq1024 : goal.returns-then-top-eq1024
 returns-then-top-eq1024 c = join_none c.requires c.in-5.is c.if-top-eq1024.true
@@ -129,4 +129,4 @@ pub returns-else-stack-top : goal.returns-else-stack-top
 returns-else-stack-top c = join_latest c.requires c.in-5.is c.if-top-eq1024.false c.if-stack-top.false
 
 pub returns-in_default : goal.returns-in_default
-returns-in_default c = stays c.requires 0 (others _ _ _ _ c.in_default.in_default-own.rest.0.0.1 c.in_default.in_default-own.rest.0.1 c.in_default.in_default-own.rest.1)
+returns-in_default c = stays c.requires 0 (others _ _ _ _ (omega arith) (omega arith) (omega arith))

@@ -45,4 +45,4 @@ returns c =
     let e = c.in_default.is in
     c.never_forked.ensures
     ∙ passed c.args.table.now _ _ c.requires
-    c.second_pass-found.new.1.1.1.1.0 (sym c.second_pass-found.ensures.value ∙ e) (c.second_pass-found.ensures.false_after e)
+    c.second_pass-found.new.forked (sym c.second_pass-found.ensures.value ∙ e) (c.second_pass-found.ensures.false_after e)

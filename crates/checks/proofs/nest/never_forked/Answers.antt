@@ -42,7 +42,7 @@ refuse-requires c = omega arith
 
 pub returns-then-not-forked-t : goal.returns-then-not-forked-t
 returns-then-not-forked-t c =
-    c.refuse.ensures ∙ stops c.loop-t.invariant c.loop-t-test.true c.if-not-forked-t.true
+    c.refuse.ensures ∙ stops c.loop-t.invariant c.loop-t-test.true (rw c.if-not-forked-t.true)
 
 pub overflow_add-t : goal.overflow_add-t
 overflow_add-t c = omega arith
@@ -52,7 +52,7 @@ loop-t-smaller c = omega arith
 
 pub loop-t-preserved : goal.loop-t-preserved
 loop-t-preserved c =
-    again c.loop-t.invariant c.loop-t-test.true c.if-not-forked-t.false
+    again c.loop-t.invariant c.loop-t-test.true (rw c.if-not-forked-t.false)
 
 pub returns : goal.returns
 returns c = none c.loop-t.invariant c.loop-t-test.false

@@ -60,11 +60,11 @@ module _ {s actions : List ℕ} {n m : ℕ} {forked : List Bool} {stack : List �
     ready =
         record {
           stacked = i.stacked;
-          marked = i.size;
+          marked = i.before.size;
           within = i.low;
           forks = λ q. rw argument_is (below (sym kind_is ∙ q));
           room = λ q r.
-              let l : length (drop top stack) < 1024 = stacked_room _ _ _ _ i x (rw argument_is (below (sym kind_is ∙ q))) r in
+              let l : length (drop top stack) < 1024 = stacked_room _ _ _ _ i.before x (rw argument_is (below (sym kind_is ∙ q))) r in
               omega (arith, length-drop top stack, i.stacked, i.low);
         }
 
@@ -73,7 +73,7 @@ module _ {s actions : List ℕ} {n m : ℕ} {forked : List Bool} {stack : List �
       done = rw (kind_is, argument_is) at o.done
 
       stops : (number ≡ 0 → ⊥) → At (refusal number a) ≡ try_pass (second_pass (table_of s))
-      stops z = sym (try_from_here _ a m h (refusal number a) (stacked_stops _ _ _ _ i _ _ _ done z)) ∙ i.remains
+      stops z = sym (try_from_here _ a m h (refusal number a) (stacked_stops _ _ _ _ i.before _ _ _ done z)) ∙ i.remains
 
       again : number ≡ 0 → Inv s actions n m forked' stack' top' (a + 1)
       again z =
@@ -85,8 +85,8 @@ module _ {s actions : List ℕ} {n m : ℕ} {forked : List Bool} {stack : List �
             within = omega arith;
             stacked = o.stacked;
             low = o.within;
-            before = stacked_next _ _ _ _ i _ _ _ done z below;
-            remains = sym (try_from_next _ a m h (stacked_passes _ _ _ _ i _ _ _ done z)) ∙ i.remains;
+            before = stacked_next _ _ _ _ i.before _ _ _ done z below;
+            remains = sym (try_from_next _ a m h (stacked_passes _ _ _ _ i.before _ _ _ done z)) ∙ i.remains;
           }
 
   module _ (h : m ≤ a) where
@@ -97,7 +97,7 @@ module _ {s actions : List ℕ} {n m : ℕ} {forked : List Bool} {stack : List �
     none = sym (try_from_last _ a m last) ∙ i.remains
 
     marks : (t : ℕ) → get_or forked t false ≡ forked_below (table_of s) m t
-    marks t = rw last at (i.marks t)
+    marks t = rw last at (i.before.marks t)
 
 refused : {f : Found} {number place : ℕ} {A : Type 0} → f ≡ At (refusal number place) → f ≡ Nothing → A
 refused e z = no_way cc

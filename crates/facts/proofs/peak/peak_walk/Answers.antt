@@ -15,6 +15,7 @@ use Rattle.table.proofs.Tests.{is_true}
 use Rattle.table.proofs.Sums.{sum_to_part}
 use Rattle.table.proofs.Walks.{Summed, sum_next, child_small}
 use Rattle.facts.proofs.peak.peak_walk.Invariants.{Inv}
+use Rattle.facts.proofs.peak.peak_walk.Goals.{After-action_in-action, After-child_amount-in-loop-i, After-child_amount-in-loop-i-2}
 use Rattle.facts.proofs.peak.peak_walk.Goals as goal
 
 module _ {l : List ℕ} {count : ℕ} {rises falls peaks : List ℕ} where
@@ -41,13 +42,13 @@ module _ {l : List ℕ} {count : ℕ} {rises falls peaks : List ℕ} where
     top_next e f g q = rw add-one (cc)
 
 -- what the calls of an action give: a child's number, and the two sums after it
-child_index : (c : goal.After-action_in-action → c.action_in-action.result.code ≡ 4 → c.action_in-action.result.argument < 1024
+child_index : (c : After-action_in-action → c.action_in-action.result.code ≡ 4 → c.action_in-action.result.argument < 1024
 unfolding kind_of
 child_index c e =
     let v = c.loop-i.invariant in
     child_small v.0.ready (omega (arith, v.1, c.loop-i-test.true)) c.action_in-action.ensures.code_value c.action_in-action.ensures.read.value (rw e)
 
-risen_next : (c : goal.After-child_amount-in-loop-i →
+risen_next : (c : After-child_amount-in-loop-i) →
     let c = c.args in
     Summed (amount_at alloc fork c.body.now c.rises.now) c.loop-i.i (c.loop-i.rise + (c.alloc_of.result + c.child_amount-in-loop-i.result))
 risen_next c =
@@ -55,7 +56,7 @@ risen_next c =
     sum_next alloc fork _ _ v.0.ready.rise_small (omega (arith, v.1, c.loop-i-test.true)) c.action_in-action.ensures.code_value c.action_in-action.ensures.read.value
     c.alloc_of.ensures c.child_amount-in-loop-i.ensures v.0.risen
 
-fallen_next : (c : goal.After-child_amount-in-loop-i-2 →
+fallen_next : (c : After-child_amount-in-loop-i-2) →
     let c = c.args in
     Summed (amount_at free fork c.body.now c.falls.now) c.loop-i.i (c.loop-i.fall + (c.free_of.result + c.child_amount-in-loop-i-2.result))
 fallen_next c =

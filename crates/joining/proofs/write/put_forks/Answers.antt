@@ -9,6 +9,7 @@ use Rattle.joining.specs.Code.Steps.{LentFew}
 use Rattle.joining.specs.Code.Rows.{starts_over, entries_over, moved_over, fork_rows, threads_over, actions_over}
 use Rattle.joining.proofs.Splits.{parts_length}
 use Rattle.joining.proofs.OverParts.{Inv, start, runs, again, ends, over_forks}
+use Rattle.joining.proofs.write.put_forks.Goals.{After-threads-root}
 use Rattle.joining.proofs.write.put_forks.Goals as goal
 
 pub loop-i-init : goal.loop-i-init
@@ -21,7 +22,7 @@ part_at-requires c =
     (c.requires.lent, c.loop-i-test.true)
 
 -- a part's root and its threads
-within : (c : goal.After-threads-root → c.loop-i.root + c.threads-root.result ≤ 1024
+within : (c : After-threads-root → c.loop-i.root + c.threads-root.result ≤ 1024
 within c =
     omega (
       arith,

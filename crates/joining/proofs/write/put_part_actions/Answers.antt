@@ -9,6 +9,7 @@ use Rattle.joining.specs.Code.Steps.{LentFew}
 use Rattle.joining.specs.Code.Rows.{starts_over, entries_over, moved_over, fork_rows, threads_over, actions_over}
 use Rattle.joining.proofs.Splits.{parts_length}
 use Rattle.joining.proofs.OverParts.{Inv, start, runs, again, ends, over_moved}
+use Rattle.joining.proofs.write.put_part_actions.Goals.{After-part_at-part}
 use Rattle.joining.proofs.write.put_part_actions.Goals as goal
 
 pub loop-i-init : goal.loop-i-init
@@ -20,7 +21,7 @@ pub part_at-part-requires : goal.part_at-part-requires
 part_at-part-requires c = (c.requires.lent, c.loop-i-test.true)
 
 -- a part's root
-within : (c : goal.After-part_at-part → c.loop-i.root ≤ 1024
+within : (c : After-part_at-part → c.loop-i.root ≤ 1024
 within c =
     let h : c.loop-i.i < length (parts_of c.args.lengths.now c.args.tables.now) = omega (arith, c.loop-i-test.true, parts_length c.args.lengths.now c.args.tables.now) in
     omega (arith, runs over_moved c.loop-i.invariant h _ c.part_at-part.ensures, c.requires.threads)

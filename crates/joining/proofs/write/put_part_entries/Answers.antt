@@ -9,6 +9,7 @@ use Rattle.joining.specs.Code.Steps.{LentFew}
 use Rattle.joining.specs.Code.Rows.{starts_over, entries_over, moved_over, fork_rows, threads_over, actions_over}
 use Rattle.joining.proofs.Splits.{parts_length}
 use Rattle.joining.proofs.OverParts.{Inv, start, runs, again, ends, over_entries}
+use Rattle.joining.proofs.write.put_part_entries.Goals.{After-part_at-part}
 use Rattle.joining.proofs.write.put_part_entries.Goals as goal
 
 pub overflow_mul-before : goal.overflow_mul-before
@@ -29,7 +30,7 @@ pub part_at-part-requires : goal.part_at-part-requires
 part_at-part-requires c = (c.requires.lent, c.loop-i-test.true)
 
 -- what stands before a part's actions and with them
-within : (c : goal.After-part_at-part → c.loop-i ≤ 8192
+within : (c : After-part_at-part → c.loop-i ≤ 8192
 within c =
     let h : c.loop-i.i < length (parts_of c.args.lengths.now c.args.tables.now) = omega (arith, c.loop-i-test.true, parts_length c.args.lengths.now c.args.tables.now) in
     omega (arith, runs over_entries c.loop-i.invariant h _ c.part_at-part.ensures, c.requires.actions)
