@@ -1,6 +1,6 @@
 -- The bytes of a table from its threads' bodies, a row of four at a time: the head, an entry for each thread, the actions.
 use Rattle.std.specs.Prelude.{ℕ, zero, suc, ◌+◌, ◌/◌, ◌%◌, length}
-use mathlib.Core.List.{List, [], ◌∷◌, ◌++◌, map, flatten}
+use mathlib.Core.List.{List, [], ◌∷◌, ◌++◌, flatten}
 use Rattle.table.specs.Format.{Table}
 
 pub record Action : Type 0 where

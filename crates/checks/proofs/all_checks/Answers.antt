@@ -2,11 +2,9 @@
 use mathlib.Core.Path.{◌≡◌, sym, ◌∙◌}
 use Prim.Native.Nat.{ℕ}
 use mathlib.Core.List.{List}
-use borrow.Author.Rules.{rules}
 use Rattle.table.specs.Format.{table_of}
 use Rattle.table.specs.Pass.{try_pass, first_found}
 use Rattle.table.specs.Checks.{head_pass, balance_pass, passes, shape_passes}
-use Rattle.table.specs.Rules.{HeadRules}
 use Rattle.table.specs.Code.Steps.{Headed, Nested}
 use Rattle.table.specs.declared.Refusal.{Refusal}
 use Rattle.table.specs.declared.Found.TheVariants.{Nothing, At}

@@ -2,7 +2,6 @@
 use mathlib.Core.Path.{◌≡◌, sym, ◌∙◌}
 use Prim.Native.Nat.{ℕ}
 use mathlib.Core.List.{List}
-use borrow.Author.Rules.{rules}
 use Rattle.table.specs.Format.{Table, table_of}
 use Rattle.table.specs.Pass.{try_pass, first_found, or_else}
 use Rattle.table.specs.Checks.{entries_pass, total_pass, first_pass, second_pass, forked_pass, shape_passes}

@@ -1,17 +1,11 @@
 -- `checks::balance::balance_walk` meets its contract. The invariant: rise and fall are the sums up to action i, and below is the least action before i at which the body is overdrawn.
-use mathlib.Core.Path.{◌≡◌, refl, ap, ◌∙◌}
-use Prim.Native.Nat.{ℕ, suc, ◌+◌, ◌-◌, ◌<◌, ◌≤◌}
+use mathlib.Core.Path.{◌≡◌}
+use Prim.Native.Nat.{ℕ, ◌-◌, ◌≤◌}
 use mathlib.Core.List.{List}
-use native.Mathlib.Numerals.{add-one}
-use native.Mathlib.Omega.{arith}
-use native.Mathlib.Nat.{min-eq_left}
-use borrow.Author.Rules.{rules}
-use lib.Dec.{ltb}
 use Rattle.table.specs.Sum.{sum_to}
-use Rattle.table.specs.Format.{alloc, free, join, kind_of}
+use Rattle.table.specs.Format.{alloc, free, join}
 use Rattle.table.specs.Code.Steps.{WalkReady, amount_at}
-use Rattle.checks.specs.Code.Steps.{least_that, least_next, overdrawn, balance_of}
-use Rattle.table.proofs.Walks.{Summed, sum_next, child_small}
+use Rattle.checks.specs.Code.Steps.{least_that, overdrawn}
 use Rattle.checks.proofs.balance.balance_walk.Given as goal
 
 pub record Inv (l : List ℕ) (count : ℕ) (rises falls : List ℕ) (rise fall below i : ℕ) : Type 0 where

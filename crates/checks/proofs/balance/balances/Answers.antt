@@ -2,7 +2,6 @@ use mathlib.Core.Path.{◌≡◌, refl, sym, ap, ◌∙◌}
 use Prim.Native.Nat.{ℕ, suc, ◌+◌, ◌-◌, ◌*◌, ◌<◌, ◌≤◌}
 use mathlib.Core.List.{List}
 use native.Mathlib.Omega.{arith}
-use borrow.Author.Rules.{rules}
 use borrow.Author.Tests.{lt-ltb, le-ltb}
 use lib.Dec.{ltb}
 use lib.ListN.{length, get_or, set, drop}
@@ -17,7 +16,7 @@ use Rattle.checks.specs.declared.balance.Balance.{Balance}
 use Rattle.table.specs.declared.Found.{Found}
 use Rattle.table.specs.declared.Found.TheVariants.{Nothing, At}
 use Rattle.table.proofs.Tests.{negative_is}
-use Rattle.table.proofs.Sizes.{Sizes, sizes}
+use Rattle.table.proofs.Sizes.{sizes}
 use Rattle.table.proofs.Trying.{try_from_split, try_from_last, try_from_all}
 use Rattle.table.proofs.Bodies.{names_join, first_is, counts_all, body_within, owner_at}
 use Rattle.table.proofs.Amounts.{whole_is, part_of_bound}

@@ -1,21 +1,12 @@
 -- `checks::contents::contents` meets its contract. The invariant: `sum` is the sum of the earlier counts, and what is found from entry t on is what is found in all.
-use mathlib.Core.Path.{◌≡◌, refl, sym, ◌∙◌}
-use Prim.Native.Nat.{ℕ, ◌+◌, ◌-◌, ◌*◌, ◌<◌, ◌≤◌}
+use mathlib.Core.Path.{◌≡◌}
+use Prim.Native.Nat.{ℕ, ◌-◌, ◌*◌, ◌≤◌}
 use mathlib.Core.List.{List}
-use mathlib.Core.Bool.{true, false, not, ◌||◌}
-use native.Mathlib.Numerals.{add-one}
-use native.Mathlib.Omega.{arith}
-use borrow.Author.Rules.{rules}
-use borrow.Author.Tests.{eq-eqb, ne_eqb}
-use lib.Dec.{eqb}
-use Rattle.table.specs.Sum.{sum_to}
-use Rattle.table.specs.Format.{table_of, threads_of, actions_of}
-use Rattle.table.specs.Pass.{try_at, try_from, try_pass, or_else, refusal}
-use Rattle.table.specs.Checks.{counts_below, entry_wrong, total_wrong, entries_pass, total_pass}
+use Rattle.table.specs.Format.{table_of}
+use Rattle.table.specs.Pass.{try_from, try_pass}
+use Rattle.table.specs.Checks.{counts_below, entries_pass}
 use Rattle.table.specs.Code.Steps.{Headed}
-use Rattle.table.specs.declared.Found.TheVariants.{Nothing, At}
-use Rattle.table.proofs.Sizes.{Sizes, sizes}
-use Rattle.table.proofs.Trying.{try_from_next, try_from_here, try_from_last, try_from_all}
+use Rattle.table.proofs.Sizes.{Sizes}
 use Rattle.checks.proofs.contents.contents.Given as goal
 
 pub record Inv (s : List ℕ) (n m sum t : ℕ) : Type 0 where

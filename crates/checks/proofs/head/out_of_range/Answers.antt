@@ -1,5 +1,4 @@
 -- `checks::head::out_of_range` meets its contract: `||` is the definition's.
-use borrow.Author.Rules.{rules}
 use Rattle.table.proofs.Tests.{or_left, or_right}
 use Rattle.checks.proofs.head.out_of_range.Goals as goal
 

@@ -5,7 +5,6 @@ use Prim.Native.Nat.{ℕ, pred}
 use mathlib.Core.List.{List, [], ◌∷◌}
 use mathlib.Core.Bool.{Bool, false}
 use native.Mathlib.Omega.{arith}
-use borrow.Author.Rules.{rules}
 use lib.ListN.{get_or}
 use Rattle.table.specs.Format.{table_of}
 use Rattle.table.specs.Pass.{try_from, try_pass, or_else}

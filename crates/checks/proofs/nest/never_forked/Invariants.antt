@@ -1,14 +1,10 @@
 -- `checks::nest::never_forked` meets its contract. The invariant: what is found from thread t on is what is found from thread 1 on.
-use mathlib.Core.Path.{◌≡◌, sym, ◌∙◌}
-use Prim.Native.Nat.{ℕ, pred, ◌+◌, ◌-◌, ◌<◌, ◌≤◌}
+use mathlib.Core.Path.{◌≡◌}
+use Prim.Native.Nat.{ℕ, pred, ◌-◌, ◌≤◌}
 use mathlib.Core.List.{List, [], ◌∷◌}
-use mathlib.Core.Bool.{Bool, true, false, not}
-use native.Mathlib.Omega.{arith}
-use lib.ListN.{get_or}
-use Rattle.table.specs.Pass.{try_at, try_from, refusal}
+use mathlib.Core.Bool.{Bool}
+use Rattle.table.specs.Pass.{try_from}
 use Rattle.checks.specs.Code.Steps.{unmarked}
-use Rattle.table.specs.declared.Found.TheVariants.{Nothing, At}
-use Rattle.table.proofs.Trying.{try_from_next, try_from_here}
 use Rattle.checks.proofs.nest.never_forked.Given as goal
 
 pub record Inv (n : ℕ) (forked : List Bool) (t : ℕ) : Type 0 where

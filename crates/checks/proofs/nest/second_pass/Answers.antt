@@ -1,13 +1,12 @@
 use mathlib.Core.Path.{◌≡◌, sym, ◌∙◌}
-use Prim.Native.Nat.{ℕ, ◌+◌, ◌-◌, ◌*◌, ◌<◌, ◌≤◌}
+use Prim.Native.Nat.{ℕ, ◌+◌, ◌<◌, ◌≤◌}
 use mathlib.Core.List.{List}
 use mathlib.Core.Bool.{Bool, false}
 use native.Mathlib.Omega.{arith}
 use native.Mathlib.Nat.{min-eq_left}
-use borrow.Author.Rules.{rules}
 use lib.ListN.{length, get_or, replicate, drop, length-drop, length-replicate, drop_of_length-le}
 use Rattle.table.specs.Format.{fork, kind_of, table_of, kind, code_at, argument_at, actions_of, bodies_from, bodies_of}
-use Rattle.table.specs.Pass.{try_from, try_pass, refusal}
+use Rattle.table.specs.Pass.{try_pass, refusal}
 use Rattle.table.specs.Checks.{second_pass, forked_below}
 use Rattle.table.specs.Code.Steps.{Formed}
 use Rattle.checks.specs.Code.Steps.{nest, nest_at, NestReady, NestDone}
@@ -15,10 +14,10 @@ use Rattle.table.specs.declared.Found.{Found}
 use Rattle.table.specs.declared.Found.TheVariants.{Nothing, At}
 use Rattle.table.proofs.Tests.{no_way}
 use Rattle.table.proofs.Trying.{try_from_next, try_from_here, try_from_last, try_from_all}
-use Rattle.table.proofs.Sizes.{Sizes, sizes}
+use Rattle.table.proofs.Sizes.{sizes}
 use Rattle.table.proofs.Bodies.{fork_below_lem}
 use Rattle.table.proofs.Parts.{bodies_from_lem, bodies_length}
-use Rattle.checks.proofs.Stack.{Stacked, stacked_first, stacked_room, stacked_stops, stacked_passes, stacked_next}
+use Rattle.checks.proofs.Stack.{stacked_first, stacked_room, stacked_stops, stacked_passes, stacked_next}
 use Rattle.checks.proofs.nest.second_pass.Invariants.{Inv}
 use Rattle.checks.proofs.nest.second_pass.Goals as goal
 

@@ -1,5 +1,4 @@
 -- `table::read::action_in` meets its contract: the code is the lowest of an action's four bytes, the argument the upper three.
-use borrow.Author.Rules.{rules}
 use Rattle.table.proofs.Words.{low_byte, high_bytes}
 use Rattle.table.proofs.read.action_in.Goals as goal
 

@@ -1,5 +1,4 @@
 -- `table::read::argument` meets its contract.
-use borrow.Author.Rules.{rules}
 use Rattle.table.proofs.read.argument.Goals as goal
 
 pub returns : goal.returns

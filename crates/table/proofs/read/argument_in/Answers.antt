@@ -1,5 +1,4 @@
 -- `table::read::argument_in` meets its contract: the argument is the upper three of an action's four bytes.
-use borrow.Author.Rules.{rules}
 use Rattle.table.proofs.Words.{high_bytes}
 use Rattle.table.proofs.read.argument_in.Goals as goal
 

@@ -1,6 +1,5 @@
 -- `table::read::byte` meets its contract: past a list's end stands the default.
 use mathlib.Core.Path.{sym}
-use borrow.Author.Rules.{rules}
 use lib.ListN.{get_or-eq_default}
 use Rattle.table.proofs.read.byte.Goals as goal
 

@@ -1,5 +1,4 @@
 -- `table::read::code` meets its contract.
-use borrow.Author.Rules.{rules}
 use Rattle.table.proofs.read.code.Goals as goal
 
 pub returns : goal.returns

@@ -1,5 +1,4 @@
 -- `table::read::code_in` meets its contract: the code is the lowest of an action's four bytes.
-use borrow.Author.Rules.{rules}
 use Rattle.table.proofs.Words.{low_byte}
 use Rattle.table.proofs.read.code_in.Goals as goal
 

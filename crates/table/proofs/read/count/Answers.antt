@@ -1,5 +1,4 @@
 -- `table::read::count` meets its contract: it is the upper word of the thread's entry.
-use borrow.Author.Rules.{rules}
 use Rattle.table.proofs.Words.{count_read}
 use Rattle.table.proofs.read.count.Goals as goal
 

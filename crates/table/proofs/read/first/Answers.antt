@@ -1,5 +1,4 @@
 -- `table::read::first` meets its contract: it is the lower word of the thread's entry.
-use borrow.Author.Rules.{rules}
 use Rattle.table.proofs.Words.{first_read}
 use Rattle.table.proofs.read.first.Goals as goal
 

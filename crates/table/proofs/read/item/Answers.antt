@@ -2,7 +2,6 @@
 use native.Mathlib.Omega.{arith}
 use Prim.Native.Nat.{◌*◌}
 use Rattle.table.proofs.Words.{double_word_cut, double_word_past_end}
-use borrow.Author.Rules.{rules}
 use Rattle.table.proofs.read.item.Goals as goal
 
 pub returns-then-whole-a : goal.returns-then-whole-a

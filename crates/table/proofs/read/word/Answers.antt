@@ -1,6 +1,5 @@
 -- `table::read::word` meets its contract: past the end there are zeros.
 use Rattle.table.proofs.Words.{word_past_end}
-use borrow.Author.Rules.{rules}
 use Rattle.table.proofs.read.word.Goals as goal
 
 pub returns-then-s-i : goal.returns-then-s-i
