@@ -11,6 +11,7 @@ use Rattle.schedule.specs.Links.{no_thread, Links}
 use Rattle.schedule.specs.Sound.{same_links}
 use Rattle.order.specs.Words.{same_list}
 use Rattle.order.proofs.Lists.{firsts_length}
+use Rattle.links.proofs.describe.Goals.{After-lay-first}
 use Rattle.links.proofs.describe.Goals as goal
 
 -- the three tests, in the definition's order
@@ -34,10 +35,10 @@ module _ (k there : Links) {a : Bool} {lefts : List ℕ} (e : a ≡ same_list k.
     unfolding same_links
     third_decides i j = rw (on_left ∙ not-false a h, on_right ∙ not-false b i) (ap (eqb k.head) j)
 
-lefts_size : (c : goal.After-lay-first) → length c.lay-first.new.1.1.0 ≡ 1024
+lefts_size : (c : After-lay-first) → length c.lay-first.new.1.1.0 ≡ 1024
 lefts_size c = ap length c.lay-first.ensures.left_after ∙ firsts_length _ 0 no_thread
 
-rights_size : (c : goal.After-lay-first) → length c.lay-first.new.1.1.1.0 ≡ 1024
+rights_size : (c : After-lay-first) → length c.lay-first.new.1.1.1.0 ≡ 1024
 rights_size c = ap length c.lay-first.ensures.right_after ∙ firsts_length _ 0 no_thread
 
 pub slice_bounds-same-end-2 : goal.slice_bounds-same-end-2

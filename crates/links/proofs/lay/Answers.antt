@@ -8,12 +8,13 @@ use lib.ListN.{length, take}
 use lib.Seq.{take_all, length-take-le}
 use borrow.Author.Rules.{rules}
 use Rattle.schedule.specs.Links.{head_of, laid}
+use Rattle.links.proofs.lay.Goals.{After-places-1}
 use Rattle.links.proofs.lay.Goals as goal
 
-fits : (c : goal.After-places-1) → c.if-len-lt1024.count ≤ length c.args.row.now
+fits : (c : After-places-1) → c.if-len-lt1024.count ≤ length c.args.row.now
 fits c = ⊎_elim (λ w. omega (arith, c.places-1.given.0)) (λ w. omega (arith, c.places-1.given.0)) c.if-len-lt1024.branch
 
-front : (c : goal.After-places-1) → take c.if-len-lt1024.count c.args.row.now ≡ take c.args.len c.args.row.now
+front : (c : After-places-1) → take c.if-len-lt1024.count c.args.row.now ≡ take c.args.len c.args.row.now
 front c =
     let row = c.args.row.now in
     let n = c.places-1.given.0 in
