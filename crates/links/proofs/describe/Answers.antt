@@ -4,6 +4,7 @@ use mathlib.Core.Bool.{Bool, true, false, not}
 use mathlib.Core.List.{List}
 use Prim.Native.Nat.{ℕ}
 use lib.ListN.{length}
+use native.Mathlib.Omega.{arith}
 use lib.Dec.{eqb}
 use borrow.Author.Rules.{rules}
 use borrow.Author.Tests.{not-true, not-false}
@@ -18,43 +19,37 @@ module _ (k there : Links) {a : Bool} {lefts : List ℕ} (e : a ≡ same_list k.
   on_left : same_list k.left there.left ≡ a
   on_left = sym (e ∙ ap (same_list k.left) d)
 
-  first_fails : not a ≡ true → false ≡ same_links k there
+  first_fails : a ≡ false → false ≡ same_links k there
   unfolding same_links
-  first_fails h = rw (on_left ∙ not-true a h)
+  first_fails h = rw (on_left ∙ h)
 
-  module _ (h : not a ≡ false) {b : Bool} {rights : List ℕ} (f : b ≡ same_list k.right rights) (g : rights ≡ there.right) where
+  module _ (h : a ≡ true) {b : Bool} {rights : List ℕ} (f : b ≡ same_list k.right rights) (g : rights ≡ there.right) where
     on_right : same_list k.right there.right ≡ b
     on_right = sym (f ∙ ap (same_list k.right) g)
 
-    second_fails : not b ≡ true → false ≡ same_links k there
+    second_fails : b ≡ false → false ≡ same_links k there
     unfolding same_links
-    second_fails i = rw (on_left ∙ not-false a h, on_right ∙ not-true b i)
+    second_fails i = rw (on_left ∙ h, on_right ∙ i)
 
-    third_decides : not b ≡ false → {first : ℕ} → first ≡ there.head → eqb k.head first ≡ same_links k there
+    third_decides : b ≡ true → {first : ℕ} → first ≡ there.head → eqb k.head first ≡ same_links k there
     unfolding same_links
-    third_decides i j = rw (on_left ∙ not-false a h, on_right ∙ not-false b i) (ap (eqb k.head) j)
-
-lefts_size : (c : goal.After-lay-first) → length c.lay-first.new.1.1.0 ≡ 1024
-lefts_size c = ap length c.lay-first.ensures.left_after ∙ firsts_length _ 0 no_thread
-
-rights_size : (c : goal.After-lay-first) → length c.lay-first.new.1.1.1.0 ≡ 1024
-rights_size c = ap length c.lay-first.ensures.right_after ∙ firsts_length _ 0 no_thread
+    third_decides i j = rw (on_left ∙ h, on_right ∙ i) (ap (eqb k.head) j)
 
 pub slice_bounds-same-end-2 : goal.slice_bounds-same-end-2
-slice_bounds-same-end-2 c = sym (lefts_size (goal.at.slice_bounds-same-end-2 c).After-lay-first)
+slice_bounds-same-end-2 c = grind (arith, ap length c.lay-first.ensures.left_after, firsts_length)
 
 pub same-requires : goal.same-requires
-same-requires c = c.same-arg-1.given.0 ∙ sym (lefts_size (goal.at.same-requires c).After-lay-first)
+same-requires c = grind (arith, ap length c.lay-first.ensures.left_after, firsts_length)
 
 pub returns-then-not-same : goal.returns-then-not-same
 returns-then-not-same c =
     first_fails _ _ c.same.ensures c.lay-first.ensures.left_after c.if-not-same.true
 
 pub slice_bounds-same-end-4 : goal.slice_bounds-same-end-4
-slice_bounds-same-end-4 c = sym (rights_size (goal.at.slice_bounds-same-end-4 c).After-lay-first)
+slice_bounds-same-end-4 c = grind (arith, ap length c.lay-first.ensures.right_after, firsts_length)
 
 pub same-requires-2 : goal.same-requires-2
-same-requires-2 c = c.same-arg-2-1.given.0 ∙ sym (rights_size (goal.at.same-requires-2 c).After-lay-first)
+same-requires-2 c = grind (arith, ap length c.lay-first.ensures.right_after, firsts_length)
 
 pub returns-then-not-same-2 : goal.returns-then-not-same-2
 returns-then-not-same-2 c =

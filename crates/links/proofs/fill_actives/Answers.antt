@@ -5,6 +5,7 @@ use borrow.Author.Rules.{rules}
 use Rattle.schedule.specs.Links.{no_thread}
 use Rattle.schedule.specs.Actives.{no_links, filled_from}
 use Rattle.links.proofs.Filling.{FilledTo, filled_start, filled_out_lem, filled_over, filled_past, filled_with_lem}
+use Rattle.links.proofs.fill_actives.Goals.{then-status-t-ne-WAITING, else-status-t-ne-WAITING}
 use Rattle.links.proofs.fill_actives.Goals as goal
 
 pub loop-passed-init : goal.loop-passed-init
@@ -13,9 +14,10 @@ loop-passed-init c =
 
 pub loop-passed-preserved : goal.loop-passed-preserved
 loop-passed-preserved c =
-    ⊎_elim (λ w. filled_with_lem c.loop-passed.invariant c.loop-passed-test.true c.if-t-ge-NO_THREAD.false w.0.taken ((λ i. record { left = w.4 i; right = w.5 i; head = w.6 i }) ∙ w.3.ensures) w.7)
-    (λ w. filled_past c.loop-passed.invariant c.loop-passed-test.true c.if-t-ge-NO_THREAD.false w.0.left (λ i. record { left = w.1 i; right = w.2 i; head = w.3 i }) w.4)
-    c.if-status-t-ne-WAITING.branch
+    elim c.if-status-t-ne-WAITING.branch [
+      then-status-t-ne-WAITING w ↦ filled_with_lem c.loop-passed.invariant c.loop-passed-test.true c.if-t-ge-NO_THREAD.false w.if-status-t-ne-WAITING.true ((λ i. record { left = w.under-is i; right = w.over-is i; head = w.first-is i }) ∙ w.link_last-first.ensures) w.last-is
+      | else-status-t-ne-WAITING w ↦ filled_past c.loop-passed.invariant c.loop-passed-test.true c.if-t-ge-NO_THREAD.false w.if-status-t-ne-WAITING.false (λ i. record { left = w.under-is i; right = w.over-is i; head = w.first-is i }) w.last-is
+    ]
 
 pub returns-after-loop-passed : goal.returns-after-loop-passed
 returns-after-loop-passed c = filled_over c.loop-passed.invariant c.loop-passed-test.false

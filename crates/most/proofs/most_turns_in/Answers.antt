@@ -9,9 +9,7 @@ pub turns_for-requires : goal.turns_for-requires
 turns_for-requires c = (passes_rules _).0 (sym c.check_in-found.ensures.value ∙ c.in-Nothing.is)
 
 pub returns-in-At : goal.returns-in-At
-returns-in-At c = let l = c.check_in-found.ensures in
-    let v = values_are _ _ _ (refused_own _ _ _ _ (sym l.0 ∙ c.in-At.is)) in record { value = v.0; result_value = v.1; rises_after = l.1 }
+returns-in-At c = let v = values_are _ _ _ (refused_own _ _ _ _ (sym c.check_in-found.ensures.value ∙ c.in-At.is)) in record { value = v.0; result_value = v.1; rises_after = c.check_in-found.ensures.rises_after }
 
 pub returns-in-Nothing : goal.returns-in-Nothing
-returns-in-Nothing c = let l = c.check_in-found.ensures in
-    let v = values_are _ _ _ (c.turns_for.ensures ∙ own_whole _ _ _ (sym l.0 ∙ c.in-Nothing.is)) in record { value = v.0; result_value = v.1; rises_after = l.1 }
+returns-in-Nothing c = let v = values_are _ _ _ (c.turns_for.ensures ∙ own_whole _ _ _ (sym c.check_in-found.ensures.value ∙ c.in-Nothing.is)) in record { value = v.0; result_value = v.1; rises_after = c.check_in-found.ensures.rises_after }

@@ -8,12 +8,13 @@ use borrow.Author.Rules.{rules}
 use Rattle.table.specs.Checks.{outside}
 use Rattle.table.proofs.Sizes.{inside}
 use Rattle.most.proofs.Answers.{many_workers, wide_quota, too_full, count_ready, at_most}
+use Rattle.most.proofs.turns_for.Goals.{Else-outside, Else-outside-2}
 use Rattle.most.proofs.turns_for.Goals as goal
 
-workers_in_lem : (c : goal.Else-outside) → outside 1 16 c.args.p ≡ false
+workers_in_lem : (c : Else-outside) → outside 1 16 c.args.p ≡ false
 workers_in_lem c = sym c.outside.ensures ∙ c.if-outside.false
 
-quota_in_lem : (c : goal.Else-outside-2) → outside 1 16777215 c.args.quota ≡ false
+quota_in_lem : (c : Else-outside-2) → outside 1 16777215 c.args.quota ≡ false
 quota_in_lem c = sym c.outside-2.ensures ∙ c.if-outside-2.false
 
 pub returns-then-outside : goal.returns-then-outside

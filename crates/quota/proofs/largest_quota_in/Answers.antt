@@ -8,10 +8,8 @@ pub quota_for-requires : goal.quota_for-requires
 quota_for-requires c = accepted_own _ _ (sym c.load_in-loaded.ensures.value ∙ c.in-Accepted.is)
 
 pub returns-in-Refused : goal.returns-in-Refused
-returns-in-Refused c = let l = c.load_in-loaded.ensures in
-    let v = values_are _ _ _ _ (refused_own _ _ _ _ _ (sym l.0 ∙ c.in-Refused.is)) in record { value = v.0; result_value = v.1; rises_after = l.1.1 }
+returns-in-Refused c = let v = values_are _ _ _ _ (refused_own _ _ _ _ _ (sym c.load_in-loaded.ensures.value ∙ c.in-Refused.is)) in record { value = v.0; result_value = v.1; rises_after = c.load_in-loaded.ensures.rises_after }
 
 pub returns-in-Accepted : goal.returns-in-Accepted
-returns-in-Accepted c = let l = c.load_in-loaded.ensures in
-    let a = accepted_own _ _ (sym l.0 ∙ c.in-Accepted.is) in
-    let v = values_are _ _ _ _ (c.quota_for.ensures ∙ own_whole _ _ _ _ a.rules) in record { value = v.0; result_value = v.1; rises_after = l.1.1 }
+returns-in-Accepted c = let a = accepted_own _ _ (sym c.load_in-loaded.ensures.value ∙ c.in-Accepted.is) in
+    let v = values_are _ _ _ _ (c.quota_for.ensures ∙ own_whole _ _ _ _ a.rules) in record { value = v.0; result_value = v.1; rises_after = c.load_in-loaded.ensures.rises_after }

@@ -11,18 +11,19 @@ use Rattle.table.proofs.Sizes.{inside}
 use Rattle.quota.specs.declared.Quoted.TheVariants.{Given}
 use Rattle.quota.specs.Quota.{most_within, most_quota}
 use Rattle.quota.proofs.Checks.{many_workers, wide_gap, little_memory, below_least, at_most, depth_some, peak_is, depth_is, most_is}
+use Rattle.quota.proofs.quota_for.Goals.{After-most_within-most, Else-memory-peak, Else-outside, Else-outside-2}
 use Rattle.quota.proofs.quota_for.Goals as goal
 
-workers_in_lem : (c : goal.Else-outside) → outside 1 16 c.args.p ≡ false
+workers_in_lem : (c : Else-outside) → outside 1 16 c.args.p ≡ false
 workers_in_lem c = sym c.outside.ensures ∙ c.if-outside.false
 
-gap_in_lem : (c : goal.Else-outside-2) → outside 1 65535 c.args.b ≡ false
+gap_in_lem : (c : Else-outside-2) → outside 1 65535 c.args.b ≡ false
 gap_in_lem c = sym c.outside-2.ensures ∙ c.if-outside-2.false
 
-peak_in : (c : goal.Else-memory-peak) → S1 (table_of c.args.table.now) ≤ c.args.memory
+peak_in : (c : Else-memory-peak) → S1 (table_of c.args.table.now) ≤ c.args.memory
 peak_in c = omega (arith, peak_is c.requires, c.if-memory-peak.false)
 
-most_found_lem : (c : goal.After-most_within-most) → c.most_within-most.result
+most_found_lem : (c : After-most_within-most) → c.most_within-most.result
     ≡ most_quota (table_of c.args.table.now) c.args.p c.args.b c.args.memory
 most_found_lem c =
     let a = c.args in

@@ -9,6 +9,7 @@ use Rattle.schedule.specs.Links.{no_thread, Sought, seek}
 use Rattle.array_machine.specs.Counted.{passed_along}
 use Rattle.run_memory.specs.Blocks.{bytes_in, words_in}
 use borrow.Author.Rules.{rules}
+use Rattle.run_memory.proofs.passed_along.Goals.{Start}
 use Rattle.run_memory.proofs.passed_along.Goals as goal
 
 unasked : (b h : Bool) (x : Sought) → b ≡ false → ◌≡◌ {A = ℕ} 0 (pick b (passed_along h x) 0)
@@ -28,7 +29,7 @@ module _ (b h : Bool) (x : Sought) (e : b ≡ true) where
     unfolding passed_along
     none l = let m : ltb x.thread no_thread ≡ false = ap (λ (y : ℕ). ltb y no_thread) (sym q) ∙ le-ltb t no_thread l in rw (e, d, m)
 
-abbrev along : goal.Start → Sought
+abbrev along : Start → Sought
 along d = seek 1024 (bytes_in d.args.bytes.now).status ((words_in d.args.words.now).rows 3) (words_in d.args.words.now).leftmost
 
 pub returns-then-not-counting : goal.returns-then-not-counting

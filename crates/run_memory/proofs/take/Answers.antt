@@ -14,19 +14,20 @@ use Rattle.run_memory.specs.Blocks.{bytes_in, words_in, numbers_in, sums_in, gat
 use Rattle.run_memory.specs.Places.{totalled}
 use Rattle.run_memory.specs.Code.Acts.{Gone, acted, Seated}
 use Rattle.run_memory.proofs.Takes.{counted, heads_out, room, asked_room, own_thread, sought_thread, taken_ready, codes, arguments, without_room, no_thread_lem, idles, goes_unfit, goes, passes_none, passes_idle, passed_as, passes, spoke, passing}
+use Rattle.run_memory.proofs.take.Goals.{After-room_for, After-row_at-a, Else-not-room_for, Start}
 use Rattle.run_memory.proofs.take.Goals as goal
 
-abbrev start : goal.Start → Memory
+abbrev start : Start → Memory
 start d = memory_of d.args.bytes.now d.args.words.now d.args.numbers.now d.args.sums.now
 
-abbrev table_of_lem : goal.Start → List ℕ
+abbrev table_of_lem : Start → List ℕ
 table_of_lem d = d.args.table.now
 
 -- where there is room
-abbrev Room : goal.After-room_for → Type 0
+abbrev Room : After-room_for → Type 0
 Room c = let M = start c in ((moved_in M).turns + 1 < 2 ^ 64) × ((c.args.w < 16) × ((worker_in M c.args.w).holds ≡ false → (moved_in M).busy + 2 ^ c.args.w < 65536))
 
-roomy : (c : goal.Else-not-room_for) → Room c
+roomy : (c : Else-not-room_for) → Room c
 roomy c =
     let M = start c in
     room (moved_in M).turns (moved_in M).busy c.args.w (worker_in M c.args.w).holds (not-false _ c.if-not-room_for.false)
@@ -69,7 +70,7 @@ returns-then-t-ge-NO_THREAD c = let d = c in
       passed_value = passing d.args.counting (passed_over (start d) d.args.w) c.refused-then-t-ge-NO_THREAD.ensures (passes_idle (start d) d.args.w d.args.counting l);
     }
 
-seated_at : (c : goal.After-row_at-a) → Seated (start c) c.args.w c.thread_for-t.result c.row_at-a.result
+seated_at : (c : After-row_at-a) → Seated (start c) c.args.w c.thread_for-t.result c.row_at-a.result
 seated_at c =
     let c = c in
     let c = c in

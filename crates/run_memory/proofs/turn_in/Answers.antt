@@ -6,12 +6,13 @@ use lib.ListN.{get_or}
 use Rattle.run_memory.specs.Memory.{Memory, moved_in, hindrance, passed_over}
 use Rattle.run_memory.specs.Blocks.{memory_of}
 use Rattle.run_memory.proofs.Takes.{hindered, goes_on, asked_hindrance, passes_none, spoke, passing}
+use Rattle.run_memory.proofs.turn_in.Goals.{After-hindrance-number, Start}
 use Rattle.run_memory.proofs.turn_in.Goals as goal
 
-abbrev start : goal.Start → Memory
+abbrev start : Start → Memory
 start d = memory_of d.args.bytes.now d.args.words.now d.args.numbers.now d.args.sums.now
 
-tested : (h : goal.After-hindrance-number) → let M = start h in h.hindrance-number.result ≡ hindrance (moved_in M).turns (get_or M.settings 0 0) h.args.w (get_or M.arrays.status 0 0)
+tested : (h : After-hindrance-number) → let M = start h in h.hindrance-number.result ≡ hindrance (moved_in M).turns (get_or M.settings 0 0) h.args.w (get_or M.arrays.status 0 0)
 tested h =
     asked_hindrance h.args.w h.total_at.ensures h.setting_at.ensures h.status_at-root.ensures h.hindrance-number.ensures
 

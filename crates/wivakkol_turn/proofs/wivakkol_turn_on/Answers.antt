@@ -8,6 +8,7 @@ use lib.Dec.{eqb}
 use Rattle.table.specs.Sum.{pick}
 use Rattle.run_memory.specs.Memory.{Memory, no_row, reply_row, answer, Told, turn_in, passed_over, lent_turn}
 use Rattle.run_memory.specs.Blocks.{memory_of}
+use Rattle.wivakkol_turn.proofs.wivakkol_turn_on.Goals.{Start}
 use Rattle.wivakkol_turn.proofs.wivakkol_turn_on.Goals as goal
 
 module _ (s : List ℕ) (w : ℕ) (M : Memory) {y : Told} (e : y ≡ turn_in s w M) where
@@ -21,7 +22,7 @@ module _ (s : List ℕ) (w : ℕ) (M : Memory) {y : Told} (e : y ≡ turn_in s w
       let here : p ≡ passed_over M w = rw d at q in
       ap (λ (x : List ℕ). answer 0 x y.memory) (r ∙ ap (reply_row y.reply) here) ∙ rw (← e, d)
 
-abbrev start : goal.Start → Memory
+abbrev start : Start → Memory
 start d = memory_of d.args.bytes.now d.args.words.now d.args.numbers.now d.args.sums.now
 
 pub returns-then-spoken-ne0 : goal.returns-then-spoken-ne0

@@ -21,6 +21,56 @@ use Rattle.filling.specs.Filling.{total_of}
 use Rattle.filling.proofs.count.count.Invariants.{Inv, checks}
 use Rattle.filling.proofs.count.count.Goals as goal
 
+module _ (s : List ℕ) (K n m threads actions a x y z : ℕ) (i : Inv s K n m threads actions a) (e : x ≡ alloc_of (table_of s) a)
+    (ey : y ≡ pick (ltb K x) (2 * ((x + K - 1) / K) - 1) 0) (ez : z ≡ pick (ltb K x) (7 * ((x + K - 1) / K) - 3) 0) where
+  abbrev T : Table
+  T = table_of s
+
+  threads_next : threads + y ≡ threads_to T K (suc a)
+  unfolding sum_to new_threads big dummies
+  threads_next = omega (arith, i.now_threads, rw e at ey)
+
+  actions_next : actions + z ≡ actions_to T K (suc a)
+  unfolding sum_to new_actions big dummies
+  actions_next = omega (arith, i.now_actions, rw e at ez)
+
+  full_is : overfull T K a ≡ (ltb K x && (ltb 1024 (threads + y) || ltb 8192 (actions + z)))
+  unfolding overfull big
+  full_is = rw (← threads_next, ← actions_next, ← e)
+
+  module _ (h : a < m) where
+    stops : (ltb K x && (ltb 1024 (threads + y) || ltb 8192 (actions + z))) ≡ true → (f : Found) → f ≡ At (refusal 44 a)
+        → ◌≡◌ {A = Total} (record { found = f; threads = 0; actions = 0 }) (total_of T K)
+    unfolding try_at
+    stops w f q =
+        let t : try_pass (fill_pass T K) ≡ At (refusal 44 a) = sym i.remains ∙ try_from_here (checks T K) a m h (refusal 44 a) (rw (full_is ∙ w)) in
+        rw (t, q)
+
+    again : (ltb K x && (ltb 1024 (threads + y) || ltb 8192 (actions + z))) ≡ false → Inv s K n m (threads + y) (actions + z) (a + 1)
+    unfolding try_at
+    again w =
+        let (p, q) = limits (ltb K x) refl w in
+        record {
+          is_threads = i.is_threads;
+          is_actions = i.is_actions;
+          within = omega arith;
+          small = i.small;
+          now_threads = rw add-one threads_next;
+          now_actions = rw add-one actions_next;
+          threads_small = p;
+          actions_small = q;
+          remains = sym (try_from_next (checks T K) a m h (rw (full_is ∙ w))) ∙ i.remains;
+        }
+      where
+        limits : (q : Bool) → ltb K x ≡ q → (q && (ltb 1024 (threads + y) || ltb 8192 (actions + z))) ≡ false → (threads + y < 65536) × (actions + z < 65536)
+        limits true r v =
+            let (p, q) = or_neither (ltb 1024 (threads + y)) (ltb 8192 (actions + z)) v in
+            (omega (arith, ltb-false 1024 (threads + y) p), omega (arith, ltb-false 8192 (actions + z) q))
+        limits false r v =
+            let u : y ≡ 0 = rw r at ey in
+            let w : z ≡ 0 = rw r at ez in
+            (omega (arith, i.threads_small), omega (arith, i.actions_small))
+
 start : (s : List ℕ) (K n m : ℕ) → Read (threads_of s) 65536 n → Read (actions_of s) 65536 m → Inv s K n m n m 0
 unfolding table_of sum_to try_pass
 start s K n m r q =

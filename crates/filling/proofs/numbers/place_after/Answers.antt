@@ -23,11 +23,11 @@ module _ (s : List ℕ) (n K a thread root : ℕ) (sums starts : List ℕ)
   )
 
 pub step-requires : goal.step-requires
-step-requires c = let both = asks c.args.table.now _ _ _ _ _ c.args.sums.now c.args.starts.now c.requires in record { ready = both.0; a_bound = both.1.0; sums = both.1.1 }
+step-requires c = let both = asks c.args.table.now _ _ _ _ _ c.args.sums.now c.args.starts.now (c.requires.ready, (c.requires.a_bound, (c.requires.at, (c.requires.sums, c.requires.starts)))) in record { ready = both.0; a_bound = both.1.0; sums = both.1.1 }
 
 pub overflow_add-result : goal.overflow_add-result
 overflow_add-result c =
-    omega (arith, (low c.args.table.now _ _ _ _ _ c.args.sums.now c.args.starts.now c.requires).0, c.step.ensures.small)
+    omega (arith, (low c.args.table.now _ _ _ _ _ c.args.sums.now c.args.starts.now (c.requires.ready, (c.requires.a_bound, (c.requires.at, (c.requires.sums, c.requires.starts))))).0, c.step.ensures.small)
 
 pub returns-then-code-ne-END : goal.returns-then-code-ne-END
 returns-then-code-ne-END c =
@@ -35,7 +35,7 @@ returns-then-code-ne-END c =
 
 pub overflow_add-t : goal.overflow_add-t
 overflow_add-t c =
-    omega (arith, (low c.args.table.now _ _ _ _ _ c.args.sums.now c.args.starts.now c.requires).1)
+    omega (arith, (low c.args.table.now _ _ _ _ _ c.args.sums.now c.args.starts.now (c.requires.ready, (c.requires.a_bound, (c.requires.at, (c.requires.sums, c.requires.starts))))).1)
 
 pub returns-then-t-n : goal.returns-then-t-n
 returns-then-t-n c =

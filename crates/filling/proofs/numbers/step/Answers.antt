@@ -40,12 +40,12 @@ module _ (s : List ℕ) (n K a : ℕ) (sums : List ℕ) (p : Ready s n K × ((a 
 
 pub bounds-sums-argument : goal.bounds-sums-argument
 bounds-sums-argument c =
-    child c.args.table.now _ _ _ c.args.sums.now c.requires _ (code_read c.args.table.now c.requires.ready.threads _ c.code.ensures) _ c.if-code-eq-FORK.true (argument_read c.args.table.now c.requires.ready.threads _ c.argument.ensures).value
+    child c.args.table.now _ _ _ c.args.sums.now (c.requires.ready, (c.requires.a_bound, c.requires.sums)) _ (code_read c.args.table.now c.requires.ready.threads _ c.code.ensures) _ c.if-code-eq-FORK.true (argument_read c.args.table.now c.requires.ready.threads _ c.argument.ensures).value
 
 pub returns-then-code-eq-FORK : goal.returns-then-code-eq-FORK
 returns-then-code-eq-FORK c =
-    at_fork c.args.table.now _ _ _ c.args.sums.now c.requires _ (code_read c.args.table.now c.requires.ready.threads _ c.code.ensures) _ c.if-code-eq-FORK.true (argument_read c.args.table.now c.requires.ready.threads _ c.argument.ensures).value
+    at_fork c.args.table.now _ _ _ c.args.sums.now (c.requires.ready, (c.requires.a_bound, c.requires.sums)) _ (code_read c.args.table.now c.requires.ready.threads _ c.code.ensures) _ c.if-code-eq-FORK.true (argument_read c.args.table.now c.requires.ready.threads _ c.argument.ensures).value
 
 pub returns : goal.returns
 returns c =
-    at_plain c.args.table.now _ _ _ c.args.sums.now c.requires _ (code_read c.args.table.now c.requires.ready.threads _ c.code.ensures) c.if-code-eq-FORK.false _ _ c.amount.ensures.value c.new_threads.ensures.value
+    at_plain c.args.table.now _ _ _ c.args.sums.now (c.requires.ready, (c.requires.a_bound, c.requires.sums)) _ (code_read c.args.table.now c.requires.ready.threads _ c.code.ensures) c.if-code-eq-FORK.false _ _ c.amount.ensures.value c.new_threads.ensures.value

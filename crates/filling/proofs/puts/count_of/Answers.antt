@@ -25,10 +25,10 @@ module _ (s : List ℕ) (n K c : ℕ) (sums : List ℕ) (p : Ready s n K × ((c 
       rw (body_new s n K p.0 c low p.1.0) (record { value = rw z at e ∙ sym (tree_length_is c (size_at (table_of s) K c)); small = f })
 
 pub returns-then-c-n : goal.returns-then-c-n
-returns-then-c-n c = own c.args.table.now _ _ _ c.args.sums.now c.requires _ c.if-c-n.true c.body_count.ensures
+returns-then-c-n c = own c.args.table.now _ _ _ c.args.sums.now (c.requires.ready, (c.requires.c_bound, c.requires.sizes)) _ c.if-c-n.true c.body_count.ensures
 
 pub returns-then-sums-c-le1 : goal.returns-then-sums-c-le1
-returns-then-sums-c-le1 c = new c.args.table.now _ _ _ c.args.sums.now c.requires _ c.if-c-n.false (rw (le-leb (get_or c.args.sums.now c.args.c 0) 1 c.if-sums-c-le1.true)) (omega arith)
+returns-then-sums-c-le1 c = new c.args.table.now _ _ _ c.args.sums.now (c.requires.ready, (c.requires.c_bound, c.requires.sizes)) _ c.if-c-n.false (rw (le-leb (get_or c.args.sums.now c.args.c 0) 1 c.if-sums-c-le1.true)) (omega arith)
 
 pub returns-else-sums-c-le1 : goal.returns-else-sums-c-le1
-returns-else-sums-c-le1 c = new c.args.table.now _ _ _ c.args.sums.now c.requires _ c.if-c-n.false (rw (lt-leb (get_or c.args.sums.now c.args.c 0) 1 c.if-sums-c-le1.false)) (omega arith)
+returns-else-sums-c-le1 c = new c.args.table.now _ _ _ c.args.sums.now (c.requires.ready, (c.requires.c_bound, c.requires.sizes)) _ c.if-c-n.false (rw (lt-leb (get_or c.args.sums.now c.args.c 0) 1 c.if-sums-c-le1.false)) (omega arith)

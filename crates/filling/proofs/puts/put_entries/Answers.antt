@@ -17,6 +17,35 @@ use Rattle.filling.proofs.FilledRows.{count_actions, entries_from, entries_none,
 use Rattle.filling.proofs.puts.put_entries.Invariants.{Inv}
 use Rattle.filling.proofs.puts.put_entries.Goals as goal
 
+module _ (s : List ℕ) (n K total : ℕ) (sums out₀ : List ℕ) (at₀ : ℕ) (out : List ℕ) (at first c : ℕ) (i : Inv s n K total sums out₀ at₀ out at first c) where
+  small : first ≤ 8192
+  small = omega (arith, i.counted, i.ready.few_actions)
+
+  few : total ≤ 1024
+  few = omega (arith, i.all, i.ready.few_threads)
+
+  module _ (h : c < total) where
+    high : c < threads_to (table_of s) K (table_of s).actions
+    high = omega (arith, i.all)
+
+    asks : Ready s n K × ((c < threads_to (table_of s) K (table_of s).actions) × Sizes (table_of s) K sums)
+    asks = (i.ready, (high, i.sizes))
+
+    again : (d : ℕ) (out' : List ℕ) (at' : ℕ) → Read (length (get_or (filled_bodies (table_of s) K) c [])) 65536 d → length out' ≡ length out → buffer_at out' at' ≡ placed out at (cut_pair first d)
+        → Inv s n K total sums out₀ at₀ out' at' (first + d) (c + 1)
+    again d out' at' q e p =
+        record {
+          ready = i.ready;
+          all = i.all;
+          sizes = i.sizes;
+          high = omega arith;
+          counted = omega (arith, i.counted, q.value, entries_length s n K i.ready c high);
+          left = rest_row (rw (entries_from s n K i.ready c first d high (omega (arith, small)) q.value q.small) at i.left) e p;
+        }
+
+  ends : total ≤ c → buffer_at out at ≡ put_all (buffer_at out₀ at₀) (entry_rows 0 (filled_bodies (table_of s) K))
+  ends h = rw (entries_none s n K i.ready c first (omega (arith, i.high, i.all))) at i.left.same
+
 start : (s : List ℕ) (n K total : ℕ) (sums out : List ℕ) (at : ℕ) → Ready s n K → total ≡ threads_to (table_of s) K (table_of s).actions → Sizes (table_of s) K sums → Inv s n K total sums out at out at 0 0
 start s n K total sums out at r e z =
     record {

@@ -24,5 +24,5 @@ module _ (s : List ℕ) (n K a root : ℕ) (p : Ready s n K × ((a < (table_of s
 pub returns : goal.returns
 returns c =
     let s = c.args.table.now in
-    step s _ _ _ _ c.requires _ _ _ c.amount.ensures.value (code_read s c.requires.ready.threads _ c.code.ensures) (argument_read s c.requires.ready.threads _ c.argument.ensures).value c.args.out.now _ _ _ _ _
+    step s _ _ _ _ (c.requires.ready, (c.requires.a_bound, c.requires.root_value)) _ _ _ c.amount.ensures.value (code_read s c.requires.ready.threads _ c.code.ensures) (argument_read s c.requires.ready.threads _ c.argument.ensures).value c.args.out.now _ _ _ _ _
     c.put_front-after.ensures c.put_action.ensures

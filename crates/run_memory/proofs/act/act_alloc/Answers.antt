@@ -7,10 +7,11 @@ use Rattle.run_memory.specs.Blocks.{Words, Sums, bytes_in, words_in, numbers_in,
 use Rattle.run_memory.specs.Code.Writes.{held_sums, having}
 use Rattle.run_memory.proofs.Acts.{gone_as, written_as, kept_words_as, room_in, share, alloc_room, alloc_beyond, alloc_unfit, alloc_done}
 use borrow.Author.Rules.{rules}
+use Rattle.run_memory.proofs.act.act_alloc.Goals.{Else-not-alloc_fits}
 use Rattle.run_memory.proofs.act.act_alloc.Goals as goal
 
 -- the test passed
-passed : (c : goal.Else-not-alloc_fits) → (c.args.a + 1 < 65536) × ((c.total_at-all.result + c.args.x < 2 ^ 64) × (c.amount_at-own.result + c.args.x < 2 ^ 64))
+passed : (c : Else-not-alloc_fits) → (c.args.a + 1 < 65536) × ((c.total_at-all.result + c.args.x < 2 ^ 64) × (c.amount_at-own.result + c.args.x < 2 ^ 64))
 passed c =
     let c = c in
     let c = c in

@@ -14,6 +14,7 @@ use Rattle.run_memory.specs.Code.Writes.{linked_left, unlinked, settled, settled
 use Rattle.run_memory.proofs.Acts.{written_as, room_in}
 use Rattle.run_memory.proofs.ListActs.{end_done}
 use borrow.Author.Rules.{rules}
+use Rattle.run_memory.proofs.act.act_end.Goals.{Joined-waits}
 use Rattle.run_memory.proofs.act.act_end.Goals as goal
 
 -- the one of two that a test chooses
@@ -29,7 +30,7 @@ waits_then : (T : Table) (u t w : ℕ) (W : Words) (B : Bytes) {r : Bool} {X : B
 waits_then T u t w W B e p q = e ∙ (λ i. waits_in T ((q i).rows 1) (p i).status u t)
 
 -- the bytes and the words where the parent may have been woken
-bytes_there : (c : goal.Joined-waits) → let B : Bytes = settled c.args.w nobody (statused c.args.t ended (bytes_in c.args.bytes.now)) in
+bytes_there : (c : Joined-waits) → let B : Bytes = settled c.args.w nobody (statused c.args.t ended (bytes_in c.args.bytes.now)) in
     bytes_in c.if-waits.bytes ≡ pick c.waits.result (statused c.row_at-u.result ready B) B
 bytes_there c =
     let c = c in
@@ -38,7 +39,7 @@ bytes_there c =
     ⊎_elim (λ z. ap bytes_in z.5 ∙ (z.2.ensures ∙ (ap (statused c.row_at-u.result ready) s.put_back.ensures.bytes_after ∙ sym (chosen _ _ z.0.taken))))
     (λ z. ap bytes_in z.1 ∙ (s.put_back.ensures.bytes_after ∙ sym (passed_by _ _ z.0.left))) c.if-waits.branch
 
-words_there : (c : goal.Joined-waits) → let W : Words = settled_words c.args.w (holds_in c.args.w (bytes_in c.args.bytes.now)) nobody (words_in c.args.words.now) in
+words_there : (c : Joined-waits) → let W : Words = settled_words c.args.w (holds_in c.args.w (bytes_in c.args.bytes.now)) nobody (words_in c.args.words.now) in
     words_in c.if-waits.words ≡ pick c.waits.result (linked_left 4 1 c.row_at-u.result c.args.t W) W
 words_there c =
     let c = c in

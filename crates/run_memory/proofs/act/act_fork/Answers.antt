@@ -14,6 +14,7 @@ use Rattle.run_memory.specs.Code.Writes.{linked_left}
 use Rattle.run_memory.proofs.Acts.{written_as, kept_words_as, room_in}
 use Rattle.run_memory.proofs.ListActs.{unfit_as, fork_unfit, fork_done}
 use borrow.Author.Rules.{rules}
+use Rattle.run_memory.proofs.act.act_fork.Goals.{Else-not-fork_fits}
 use Rattle.run_memory.proofs.act.act_fork.Goals as goal
 
 small : {x : ℕ} → x < 1024 → x < 65536
@@ -26,7 +27,7 @@ inside a x e d =
     (p.0, ltb-true x 1024 p.1)
 
 -- the test passed
-passed : (c : goal.Else-not-fork_fits) → (c.args.a + 1 < 65536) × (c.args.x < 1024)
+passed : (c : Else-not-fork_fits) → (c.args.a + 1 < 65536) × (c.args.x < 1024)
 passed c =
     let c = c in
     inside c.args.a c.args.x (not-false _ c.if-not-fork_fits.false) c.fork_fits.ensures

@@ -7,10 +7,11 @@ use Rattle.run_memory.specs.Blocks.{Words, Sums, bytes_in, words_in, numbers_in,
 use Rattle.run_memory.specs.Code.Writes.{held_sums, having}
 use Rattle.run_memory.proofs.Acts.{gone_as, kept_words_as, room_in, free_room, free_unfit, free_done}
 use borrow.Author.Rules.{rules}
+use Rattle.run_memory.proofs.act.act_free.Goals.{Else-not-free_fits}
 use Rattle.run_memory.proofs.act.act_free.Goals as goal
 
 -- the test passed
-passed : (c : goal.Else-not-free_fits) → (c.args.a + 1 < 65536) × ((c.args.x ≤ c.total_at-all.result) × (c.args.x ≤ c.amount_at-own.result))
+passed : (c : Else-not-free_fits) → (c.args.a + 1 < 65536) × ((c.args.x ≤ c.total_at-all.result) × (c.args.x ≤ c.amount_at-own.result))
 passed c =
     let c = c in
     let c = c in

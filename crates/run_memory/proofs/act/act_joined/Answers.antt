@@ -11,6 +11,7 @@ use Rattle.run_memory.specs.Code.Writes.{having}
 use Rattle.run_memory.proofs.Acts.{gone_as, kept_words_as, room_in}
 use Rattle.run_memory.proofs.ListActs.{unfit_as, join_unfit, join_done_lem}
 use borrow.Author.Rules.{rules}
+use Rattle.run_memory.proofs.act.act_joined.Goals.{Else-not-join_fits}
 use Rattle.run_memory.proofs.act.act_joined.Goals as goal
 
 -- what the test says
@@ -20,7 +21,7 @@ room a s e d =
     (p.0, ltb-true s (2 ^ 64) p.1)
 
 -- the test passed
-passed : (c : goal.Else-not-join_fits) → (c.args.a + 1 < 65536) × (c.amount_at-own.result + c.amount_at-child.result < 2 ^ 64)
+passed : (c : Else-not-join_fits) → (c.args.a + 1 < 65536) × (c.amount_at-own.result + c.amount_at-child.result < 2 ^ 64)
 passed c =
     let c = c in
     let c = c in

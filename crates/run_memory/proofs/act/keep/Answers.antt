@@ -8,10 +8,11 @@ use Rattle.run_memory.specs.Code.Writes.{having, seated_bytes}
 use Rattle.run_memory.specs.Blocks.{Bytes, Words, bytes_in, words_in}
 use Rattle.run_memory.proofs.Acts.{seated_own, seated_taken, settled_as, settled_words_as, room_still}
 use borrow.Author.Rules.{rules}
+use Rattle.run_memory.proofs.act.keep.Goals.{Joined-not-holds_at}
 use Rattle.run_memory.proofs.act.keep.Goals as goal
 
 -- the bytes after the test
-seated : (c : goal.Joined-not-holds_at) → bytes_in c.if-not-holds_at.bytes ≡ seated_bytes c.args.w c.args.t (bytes_in c.args.bytes.now)
+seated : (c : Joined-not-holds_at) → bytes_in c.if-not-holds_at.bytes ≡ seated_bytes c.args.w c.args.t (bytes_in c.args.bytes.now)
 seated c =
     let c = c in
     let B : Bytes = bytes_in c.args.bytes.now in

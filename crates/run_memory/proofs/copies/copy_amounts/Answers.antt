@@ -4,12 +4,13 @@ use lib.ListN.{length}
 use borrow.Author.Rules.{rules}
 use Rattle.run_memory.specs.Blocks.{sums_in}
 use Rattle.run_memory.proofs.Copied.{amounts_laid}
+use Rattle.run_memory.proofs.copies.copy_amounts.Goals.{After-copy_sums-arg-2-1}
 use Rattle.run_memory.proofs.copies.copy_amounts.Goals as goal
 
-sums_size : (c : goal.After-copy_sums-arg-2-1) → length c.args.sums.now ≡ 1027
+sums_size : (c : After-copy_sums-arg-2-1) → length c.args.sums.now ≡ 1027
 sums_size c = search rules
 
-from_size : (c : goal.After-copy_sums-arg-2-1) → length c.args.from.now ≡ 1024
+from_size : (c : After-copy_sums-arg-2-1) → length c.args.from.now ≡ 1024
 from_size c = search rules
 
 pub returns : goal.returns

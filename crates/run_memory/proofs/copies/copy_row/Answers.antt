@@ -4,12 +4,13 @@ use lib.ListN.{length}
 use borrow.Author.Rules.{rules}
 use Rattle.run_memory.specs.Blocks.{words_in}
 use Rattle.run_memory.proofs.Copied.{row_laid, row_none}
+use Rattle.run_memory.proofs.copies.copy_row.Goals.{After-copy_words-arg-then-k-lt6-1}
 use Rattle.run_memory.proofs.copies.copy_row.Goals as goal
 
-words_size : (c : goal.After-copy_words-arg-then-k-lt6-1) → length c.args.words.now ≡ 6163
+words_size : (c : After-copy_words-arg-then-k-lt6-1) → length c.args.words.now ≡ 6163
 words_size c = search rules
 
-from_size : (c : goal.After-copy_words-arg-then-k-lt6-1) → length c.args.from.now ≡ 1024
+from_size : (c : After-copy_words-arg-then-k-lt6-1) → length c.args.from.now ≡ 1024
 from_size c = search rules
 
 pub returns-then-k-lt6 : goal.returns-then-k-lt6

@@ -4,9 +4,10 @@ use lib.ListN.{length}
 use borrow.Author.Rules.{rules}
 use Rattle.run_memory.specs.Blocks.{bytes_in, words_in, numbers_in}
 use Rattle.run_memory.proofs.Copied.{worker_bytes_laid, worker_words_laid, worker_numbers_laid}
+use Rattle.run_memory.proofs.copies.copy_workers.Goals.{After-copy_workers_in-arg-3-1}
 use Rattle.run_memory.proofs.copies.copy_workers.Goals as goal
 
-module _ (c : goal.After-copy_workers_in-arg-3-1) where
+module _ (c : After-copy_workers_in-arg-3-1) where
   bytes_size : length c.args.bytes.now ≡ 1040
   bytes_size = search rules
 
@@ -20,6 +21,5 @@ module _ (c : goal.After-copy_workers_in-arg-3-1) where
   worker_size = search rules
 
 pub returns : goal.returns
-returns c = let e = c.copy_workers_in.ensures in
-    let z = worker_size c in
-    let a = c.args in record { bytes_after = ap bytes_in e.0 ∙ worker_bytes_laid a.workers z a.bytes.now (bytes_size c); words_after = ap words_in e.1.0 ∙ worker_words_laid a.workers z a.words.now (words_size c); numbers_after = ap numbers_in e.1.1 ∙ worker_numbers_laid a.workers z a.numbers.now (numbers_size c) }
+returns c = let z = worker_size c in
+    let a = c.args in record { bytes_after = ap bytes_in c.copy_workers_in.ensures.bytes_after ∙ worker_bytes_laid a.workers z a.bytes.now (bytes_size c); words_after = ap words_in c.copy_workers_in.ensures.words_after ∙ worker_words_laid a.workers z a.words.now (words_size c); numbers_after = ap numbers_in c.copy_workers_in.ensures.numbers_after ∙ worker_numbers_laid a.workers z a.numbers.now (numbers_size c) }

@@ -10,6 +10,7 @@ use Rattle.schedule.specs.Machine.{nobody}
 use Rattle.run_memory.specs.Places.{of_workers}
 use Rattle.run_memory.proofs.Copied.{Copying, copying_start, copying_size, copying_inside, copying_on, copying_over, of_workers_enough, of_workers_get}
 use Rattle.run_memory.proofs.copies.copy_workers_in.Invariants.{Inv}
+use Rattle.run_memory.proofs.copies.copy_workers_in.Goals.{Start}
 use Rattle.run_memory.proofs.copies.copy_workers_in.Goals as goal
 
 module _ {bytes₀ words₀ numbers₀ : List ℕ} {workers : List Worker} where
@@ -33,7 +34,7 @@ module _ {bytes₀ words₀ numbers₀ : List ℕ} {workers : List Worker} where
         quotas = copying_on v.quotas b refl (sym (of_workers_get (λ x. x.quota) workers w l));
       }
 
-worker_size : (c : goal.Start → length c.args.t4 ≡ 16
+worker_size : (c : Start → length c.args.t4 ≡ 16
 worker_size c = search rules
 
 pub loop-w-init : goal.loop-w-init

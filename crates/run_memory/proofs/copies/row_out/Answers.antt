@@ -4,9 +4,10 @@ use lib.ListN.{length}
 use borrow.Author.Rules.{rules}
 use borrow.Author.Tests.{le-ltb}
 use Rattle.run_memory.proofs.Copied.{row_out}
+use Rattle.run_memory.proofs.copies.row_out.Goals.{After-copy_words-arg-then-k-lt6-1}
 use Rattle.run_memory.proofs.copies.row_out.Goals as goal
 
-to_size : (c : goal.After-copy_words-arg-then-k-lt6-1) → length c.args.to.now ≡ 1024
+to_size : (c : After-copy_words-arg-then-k-lt6-1) → length c.args.to.now ≡ 1024
 to_size c = search rules
 
 pub returns-then-k-lt6 : goal.returns-then-k-lt6

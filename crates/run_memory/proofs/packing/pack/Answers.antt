@@ -6,8 +6,7 @@ use Rattle.run_memory.proofs.packing.pack.Goals as goal
 
 pub returns : goal.returns
 returns c =
-    let m = c.copy_workers.ensures in
     let a = c.args in
     memory_laid a.run a.parents.now (bytes_in a.bytes.now) (words_in a.words.now) (numbers_in a.numbers.now) (sums_in a.sums.now)
     c.pack_words.ensures c.pack_sums.ensures c.copy_statuses.ensures c.put_setting.ensures c.put_setting-2.ensures
-    m.0 m.1.0 m.1.1
+    c.copy_workers.ensures.bytes_after c.copy_workers.ensures.words_after c.copy_workers.ensures.numbers_after

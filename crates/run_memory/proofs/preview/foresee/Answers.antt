@@ -15,16 +15,17 @@ use Rattle.run_memory.proofs.Parts.{part_length}
 use Rattle.run_memory.proofs.Takes.{has_room, asked_room, own_thread, sought_thread, taken_ready, codes, arguments, without_room, no_thread_lem, passed_as, passes}
 use Rattle.run_memory.proofs.Foreseeing.{no_worker_lem, refuses, is_idle, is_unfit, goes}
 use borrow.Author.Rules.{rules}
+use Rattle.run_memory.proofs.preview.foresee.Goals.{After-room_for, After-see_action-there, Start}
 use Rattle.run_memory.proofs.preview.foresee.Goals as goal
 
-abbrev start : goal.Start → Memory
+abbrev start : Start → Memory
 start d = memory_of d.args.bytes.now d.args.words.now d.args.numbers.now d.args.sums.now
 
-abbrev table_of_lem : goal.Start → List ℕ
+abbrev table_of_lem : Start → List ℕ
 table_of_lem d = d.args.table.now
 
 -- the test for room, of what stands in the memory
-tested : (r : goal.After-room_for) → r.room_for.result ≡ has_room (table_of_lem r) r.args.w (start r)
+tested : (r : After-room_for) → r.room_for.result ≡ has_room (table_of_lem r) r.args.w (start r)
 tested r = asked_room r.args.w r.total_at-turns.ensures r.head_at.ensures r.holds_at-holds.ensures r.room_for.ensures
 
 pub returns-then-places-w : goal.returns-then-places-w
@@ -48,7 +49,7 @@ returns-then-t-ge-NO_THREAD c =
     (sought_thread _ c.if-holds.false c.holds_at-holds.ensures c.thread_for-t.ensures c.if-t-ge-NO_THREAD.true)
 
 -- what was seen of the thread's next action
-seen_of : (a : goal.After-see_action-there) → let T = table_of (table_of_lem a) in
+seen_of : (a : After-see_action-there) → let T = table_of (table_of_lem a) in
     a.see_action-there.result ≡ seen_in (kind T a.row_at-a.result) T a.thread_for-t.result a.row_at-a.result (T.argument a.row_at-a.result) a.quota_left-quota.result (start a)
 seen_of a =
     let a = a in

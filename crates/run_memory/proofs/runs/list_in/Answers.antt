@@ -5,9 +5,10 @@ use Rattle.run_memory.specs.Memory.{Memory}
 use Rattle.run_memory.specs.Blocks.{memory_of}
 use Rattle.run_memory.proofs.Drives.{stopped_as_lem, full_list, driven_list}
 use borrow.Author.Rules.{rules}
+use Rattle.run_memory.proofs.runs.list_in.Goals.{Start}
 use Rattle.run_memory.proofs.runs.list_in.Goals as goal
 
-abbrev start : goal.Start → Memory
+abbrev start : Start → Memory
 start d = memory_of d.args.bytes.now d.args.words.now d.args.numbers.now d.args.sums.now
 
 pub returns-then-total_at-eq18446744073709551615 : goal.returns-then-total_at-eq18446744073709551615

@@ -6,9 +6,10 @@ use Rattle.run_memory.specs.Memory.{Memory}
 use Rattle.run_memory.specs.Blocks.{memory_of}
 use Rattle.run_memory.proofs.Drives.{stopped_as_lem, full_rounds, no_rounds, driven_rounds}
 use borrow.Author.Rules.{rules}
+use Rattle.run_memory.proofs.runs.rounds_in.Goals.{Start}
 use Rattle.run_memory.proofs.runs.rounds_in.Goals as goal
 
-abbrev start : goal.Start → Memory
+abbrev start : Start → Memory
 start d = memory_of d.args.bytes.now d.args.words.now d.args.numbers.now d.args.sums.now
 
 some : {p q : ℕ} → p ≡ q → (p ≡ 0 → ⊥) → 0 < q
