@@ -1,6 +1,6 @@
 -- A walk over a thread's body on lists that are right above the thread comes to its peak and its final balance. The invariant: the balance is the thread's so far, the best that of the places
 -- so far, and the rows are those of the children that stand open.
-use Rattle.std.proofs.Common.{◌≡◌, ℕ, zero, suc, ◌+◌, ◌-◌, ◌^◌, ◌<◌, ◌≤◌, max, Bool, true, false, List, [], ◌∷◌, length, get_or, sym, refl, ap, ◌∙◌, add-zero, add-suc, arith}
+use Rattle.std.proofs.Common.{◌≡◌, ℕ, zero, suc, ◌+◌, ◌-◌, ◌^◌, ◌<◌, ◌≤◌, max, Bool, true, false, List, [], ◌∷◌, length, get_or, sym, refl, ap, ◌∙◌, subst, add-zero, add-suc, arith}
 use native.Mathlib.Decide.{ℕ_discrete}
 use Rattle.table.specs.Sum.{pick, sum_to, greatest_to}
 use Rattle.table.specs.Format.{Kind, end, work, alloc, free, fork, join, unknown, code_of, is, Table, kind}
@@ -74,16 +74,21 @@ module _ (T : Table) (l : Lawful T) (small : (a : ℕ) → T.argument a < 167772
     pub none : (j : ℕ) → j < 17 → get_or w.rows j 0 ≡ 0
     pub size : length w.rows ≡ 17408
 
-  nothing : greatest_to place 1 ≡ 0
-  unfolding greatest_to peak_there sum_to most gain
-  nothing =
-      rw (add-zero (T.first t), open_first T l.contents l.bodies l.nesting t h)
-      (go (standing T resting (T.first t)) (fresh T (T.first t)) (zeros (suc r)))
+  bare : (f : ℕ) (l : List ℕ) → l ≡ [] → max 0 (pick (standing T resting f) (balance_to T t 0 + most T P r (fresh T f) l) 0) ≡ 0
+  unfolding greatest_to sum_to most gain
+  bare f l e =
+      subst (λ (m : List ℕ). max 0 (pick (standing T resting f) (balance_to T t 0 + most T P r (fresh T f) m) 0) ≡ 0) (sym e)
+      (go (standing T resting f) (fresh T f) (zeros (suc r)))
     where
       go : (q f : Bool) → greatest_to (λ j. 0) (suc r) ≡ 0 → max 0 (pick q (0 + max (greatest_to (λ j. 0) (suc r)) (pick f 0 0)) 0) ≡ 0
       go true true z = omega (arith, z)
       go true false z = omega (arith, z)
       go false f z = refl
+
+  nothing : greatest_to place 1 ≡ 0
+  unfolding greatest_to peak_there
+  nothing =
+      bare (T.first t + 0) (open_before T (T.first t + 0)) (rw (add-zero (T.first t), open_first T l.contents l.bodies l.nesting t h))
 
   start : Holds 0 (walk 0 0 0 rows)
   unfolding sum_to RowsOf

@@ -13,6 +13,7 @@ use Rattle.listing.specs.Listing.{workers_in, quota_in, order_length, order_in, 
 use Rattle.listing.proofs.Inputs.{right}
 use Rattle.deques.specs.DequeTurn.{deque_turned}
 use Rattle.deque_listing.specs.DequeListing.{deque_listed_by, input_texts}
+use Rattle.deque_listing.proofs.put_text.Goals.{After-word-end, Else-input_wrong}
 use Rattle.deque_listing.proofs.put_text.Goals as goal
 
 few : (s : List ℕ) → input_wrong s ≡ false → length (order_in s) ≤ 4096
@@ -34,10 +35,10 @@ module _ (s : List ℕ) {out o : List ℕ} {r : ℕ} where
       rw h (puts_within (omega (arith, few s h)) v)
 
 -- the input passed check 33
-passed : (c : goal.Else-input_wrong) → input_wrong c.args.input.now ≡ false
+passed : (c : Else-input_wrong) → input_wrong c.args.input.now ≡ false
 passed c = rw c.input_wrong.ensures at c.if-input_wrong.false
 
-within : (c : goal.After-word-end) → 6 + c.word-end.result ≤ length c.args.input.now
+within : (c : After-word-end) → 6 + c.word-end.result ≤ length c.args.input.now
 within c = omega (arith, (right c.args.input.now (passed c)).1, c.word-end.ensures.value)
 
 pub returns-then-input_wrong : goal.returns-then-input_wrong

@@ -14,6 +14,7 @@ use Rattle.chart.specs.Chart.{charted}
 use Rattle.listing.specs.Sheets.{widest}
 use Rattle.listing.specs.Listing.{workers_in, quota_in, order_length, order_in, table_after, input_wrong, listed_by, wrong_input, walled_by, printed_texts}
 use Rattle.listing.proofs.Inputs.{right}
+use Rattle.listing.proofs.put_text.Goals.{After-word-end, Else-input_wrong}
 use Rattle.listing.proofs.put_text.Goals as goal
 
 one_line : (chart : Bool) → 64 ≤ widest chart * 4098
@@ -50,10 +51,10 @@ module _ (chart : Bool) (s : List ℕ) {out o : List ℕ} {r : ℕ} where
         rw (h, c) (puts_within (omega (arith, few s h)) v)
 
 -- the input passed check 33
-passed : (c : goal.Else-input_wrong) → input_wrong c.args.input.now ≡ false
+passed : (c : Else-input_wrong) → input_wrong c.args.input.now ≡ false
 passed c = rw c.input_wrong.ensures at c.if-input_wrong.false
 
-within : (c : goal.After-word-end) → 6 + c.word-end.result ≤ length c.args.input.now
+within : (c : After-word-end) → 6 + c.word-end.result ≤ length c.args.input.now
 within c = omega (arith, (right c.args.input.now (passed c)).1, c.word-end.ensures.value)
 
 pub returns-then-input_wrong : goal.returns-then-input_wrong

@@ -4,10 +4,11 @@ use Rattle.table.specs.Pass.{first_found}
 use Rattle.table.specs.Checks.{passes}
 use Rattle.table.specs.declared.Found.TheVariants.{Nothing}
 use Rattle.peak_walk.proofs.Answers.{refused, too_high, given, accepted, right_start}
+use Rattle.peak_walk.proofs.answer.Goals.{In_default}
 use Rattle.peak_walk.proofs.answer.Goals as goal
 
 -- the table keeps the rules
-silent : (c : goal.In_default) → first_found (passes c.args.table.now) ≡ Nothing
+silent : (c : In_default) → first_found (passes c.args.table.now) ≡ Nothing
 silent c = sym c.check_in-found.ensures.value ∙ c.in_default.is
 
 pub returns-in-At : goal.returns-in-At

@@ -14,7 +14,7 @@ fit_mark-fits-requires c = c.loop-i-test.true
 pub returns-then-not-fits : goal.returns-then-not-fits
 unfolding fit_marks
 returns-then-not-fits c =
-    passed_stop c.loop-i.invariant c.loop-i-test.true c.fit_mark-fits.ensures c.if-not-fits.true
+    passed_stop c.loop-i.invariant c.loop-i-test.true c.fit_mark-fits.ensures (ap not c.if-not-fits.true)
 
 pub overflow_add-i : goal.overflow_add-i
 overflow_add-i c = omega (arith, c.loop-i-test.true)
@@ -23,7 +23,7 @@ pub loop-i-smaller : goal.loop-i-smaller
 loop-i-smaller c = omega (arith, c.loop-i-test.true)
 
 pub loop-i-preserved : goal.loop-i-preserved
-loop-i-preserved c = passed_next c.loop-i.invariant c.fit_mark-fits.ensures c.if-not-fits.false
+loop-i-preserved c = passed_next c.loop-i.invariant c.fit_mark-fits.ensures (ap not c.if-not-fits.false)
 
 pub returns : goal.returns
 unfolding fit_marks

@@ -19,6 +19,7 @@ use Rattle.schedule.proofs.Sound.Tests.{sound_exactly}
 use Rattle.schedule.proofs.Runs.Histories.{begin_sound}
 use Rattle.listing.specs.Listing.{listed_by}
 use Rattle.text.proofs.Putting.{puts_more, puts_within}
+use Rattle.listing.proofs.sheets.put_listing.Goals.{After-bytes-1}
 use Rattle.listing.proofs.sheets.put_listing.Goals as goal
 
 -- an accepted beginning's record is sound, and its turns are listed as they are
@@ -43,7 +44,7 @@ unfolding listed_by
 returns-in-Refused c =
     rw (← c.begin-begun.ensures.value, c.in-Refused.is) (puts_within (omega arith) c.put_answer.ensures)
 
-table_size : (c : goal.After-bytes-1) → length c.begin-begun.result.run.table ≡ 36868
+table_size : (c : After-bytes-1) → length c.begin-begun.result.run.table ≡ 36868
 table_size c = search rules
 
 pub slice_bounds-bytes-end : goal.slice_bounds-bytes-end

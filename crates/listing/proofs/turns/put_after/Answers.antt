@@ -13,6 +13,7 @@ use Rattle.text.specs.Puts.{put_all, Puts}
 use Rattle.chart.specs.Chart.{Figures, figures_of, line_texts}
 use Rattle.run_memory.specs.Blocks.{words_in, sums_in, memory_of}
 use Rattle.listing.specs.Sheets.{line_in, figures_in, after_texts, after_size}
+use Rattle.listing.proofs.turns.put_after.Goals.{Start}
 use Rattle.listing.proofs.turns.put_after.Goals as goal
 
 module _ {chart : Bool} (x : Figures) (l : Line) {s o : List ℕ} {at r : ℕ} where
@@ -22,10 +23,10 @@ module _ {chart : Bool} (x : Figures) (l : Line) {s o : List ℕ} {at r : ℕ} w
   of_listing : chart ≡ false → Puts s at o r (turn_texts l) 64 → Puts s at o r (after_texts chart x l) (after_size chart x)
   of_listing e p = rw e p
 
-abbrev drawn : goal.Start → Figures
+abbrev drawn : Start → Figures
 drawn s = figures_in s.args.p (memory_of s.args.bytes.now s.args.words.now s.args.numbers.now s.args.sums.now)
 
-abbrev told : goal.Start → Line
+abbrev told : Start → Line
 told s = line_in (table_of s.args.table.now) s.args.w s.args.reply (words_in s.args.words.now) (sums_in s.args.sums.now)
 
 pub returns-then-chart : goal.returns-then-chart

@@ -9,6 +9,7 @@ use Rattle.lines.specs.Lines.{last_texts}
 use Rattle.text.specs.Puts.{Puts}
 use Rattle.text.proofs.Putting.{puts_none}
 use Rattle.listing.specs.Sheets.{over_texts}
+use Rattle.listing.proofs.turns.put_over.Goals.{Start}
 use Rattle.listing.proofs.turns.put_over.Goals as goal
 
 module _ {chart : Bool} (x : Last) {s : List ℕ} {at : ℕ} where
@@ -18,7 +19,7 @@ module _ {chart : Bool} (x : Last) {s : List ℕ} {at : ℕ} where
   last_line : {o : List ℕ} {r : ℕ} → chart ≡ false → Puts s at o r (last_texts x) 64 → Puts s at o r (over_texts chart x) 64
   last_line e p = rw e p
 
-abbrev said : goal.Start → Last
+abbrev said : Start → Last
 said s = last_with s.args.ended s.args.turns s.args.peak
 
 pub returns-then-chart : goal.returns-then-chart

@@ -24,6 +24,7 @@ use Rattle.listing.specs.Sheets.{turns_texts, widest, over_texts}
 use Rattle.array_machine.proofs.Answers.{turned_none, root_over, root_open}
 use Rattle.run_memory.proofs.Packed.{table_room, packed_record, packed_stands}
 use Rattle.listing.proofs.Ordered.{texts_refused, start, ended, exhausted, refused}
+use Rattle.listing.proofs.turns.put_turns.Goals.{Else-run-eq0, Start}
 use Rattle.listing.proofs.turns.put_turns.Goals as goal
 
 some : {x : ℕ} → (x ≡ 0 → ⊥) → 0 < x
@@ -50,11 +51,11 @@ module _ (chart : Bool) (run : Run) (order : List ℕ) {out o : List ℕ} {at r 
       → Puts out at o r (turns_texts chart run order) size
   puts {size} h parents e x = subst (λ (y : Run). Puts out at o r (turns_texts chart y order) size) (packed_record h parents e) x
 
-turns_fit : (s : goal.Start) → s.args.run.turns < 2 ^ 64
+turns_fit : (s : Start) → s.args.run.turns < 2 ^ 64
 turns_fit s = search rules
 
 -- there are workers, so that the record is sound
-steady : (c : goal.Else-run-eq0) → Steady c.args.run
+steady : (c : Else-run-eq0) → Steady c.args.run
 steady c = (has_workers _ c.requires.run_value (some c.if-run-eq0.false)).steady
 
 pub returns-then-status-eq-ENDED : goal.returns-then-status-eq-ENDED

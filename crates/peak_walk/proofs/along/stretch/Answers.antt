@@ -3,10 +3,11 @@ use Rattle.std.proofs.Common.{◌≡◌, ◌+◌, ◌-◌, ◌≤◌, refl, arit
 use Rattle.table.specs.Sum.{greatest_to}
 use Rattle.table.specs.Format.{table_of}
 use Rattle.peaks.specs.Rests.{drawn_at, drawn_before, stretch}
+use Rattle.peak_walk.proofs.along.stretch.Goals.{After-drawn_of-x}
 use Rattle.peak_walk.proofs.along.stretch.Goals as goal
 
 -- what the action draws, as the calls give it
-draws : (c : goal.After-drawn_of-x → c.drawn_of-x.result ≡ drawn_at (table_of c.args.table.now) c.args.quota c.loop-a.a
+draws : (c : After-drawn_of-x) → c.drawn_of-x.result ≡ drawn_at (table_of c.args.table.now) c.args.quota c.loop-a.a
 draws c =
     drawn_read _ _ _ _ _ (alloc_read _ _ _ _ c.threads-n.ensures.value c.code-k.ensures _ c.argument.ensures.value _ c.alloc_of.ensures) c.drawn_of-x.ensures
 
@@ -16,11 +17,11 @@ loop-a-init c = (omega arith, refl, refl)
 
 pub overflow_add-before : goal.overflow_add-before
 overflow_add-before c =
-    omega (arith, drawn_fits _ _ _ c.loop-a c.drawn_of-x.result (omega (arith, c.loop-a-test.true, c.actions-m.ensures.small)) c.loop-a.invariant.2 (draws (goal.at.overflow_add-before c).After-drawn_of-x))
+    omega (arith, drawn_fits _ _ _ c.loop-a.before c.drawn_of-x.result (omega (arith, c.loop-a-test.true, c.actions-m.ensures.small)) c.loop-a.invariant.2 (draws (goal.at.overflow_add-before c).After-drawn_of-x))
 
 pub since-before-requires : goal.since-before-requires
 since-before-requires c =
-    omega (arith, drawn_fits _ _ _ c.loop-a c.drawn_of-x.result (omega (arith, c.loop-a-test.true, c.actions-m.ensures.small)) c.loop-a.invariant.2 (draws (goal.at.since-before-requires c).After-drawn_of-x))
+    omega (arith, drawn_fits _ _ _ c.loop-a.before c.drawn_of-x.result (omega (arith, c.loop-a-test.true, c.actions-m.ensures.small)) c.loop-a.invariant.2 (draws (goal.at.since-before-requires c).After-drawn_of-x))
 
 pub overflow_add-a : goal.overflow_add-a
 overflow_add-a c = omega (arith, c.loop-a-test.true, c.actions-m.ensures.small)
@@ -32,8 +33,8 @@ pub loop-a-preserved : goal.loop-a-preserved
 loop-a-preserved c =
     (
       omega (arith, c.loop-a-test.true),
-      greatest_more _ c.loop-a.a c.loop-a.best (c.loop-a + c.drawn_of-x.result) c.larger-best.result c.loop-a.invariant.1 (λ i. c.loop-a.invariant.2 i + draws (goal.at.loop-a-preserved c).After-drawn_of-x i) c.larger-best.ensures,
-      drawn_next _ _ c.loop-a.a c.loop-a c.drawn_of-x.result c.since-before.result _ c.ends_stretch.result (kind_read _ _ _ _ c.threads-n.ensures.value c.code-k.ensures)
+      greatest_more _ c.loop-a.a c.loop-a.best (c.loop-a.before + c.drawn_of-x.result) c.larger-best.result c.loop-a.invariant.1 (λ i. c.loop-a.invariant.2 i + draws (goal.at.loop-a-preserved c).After-drawn_of-x i) c.larger-best.ensures,
+      drawn_next _ _ c.loop-a.a c.loop-a.before c.drawn_of-x.result c.since-before.result _ c.ends_stretch.result (kind_read _ _ _ _ c.threads-n.ensures.value c.code-k.ensures)
           c.loop-a.invariant.2 (draws (goal.at.loop-a-preserved c).After-drawn_of-x) c.ends_stretch.ensures c.since-before.ensures,
     )
 

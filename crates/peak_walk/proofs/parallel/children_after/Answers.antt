@@ -9,7 +9,7 @@ pub returns-then-k-eq-FORK : goal.returns-then-k-eq-FORK
 unfolding children_after kind_of
 returns-then-k-eq-FORK c =
     let k = c.args.k in
-    rw (is_code 4 k (omega arith), eq-eqb k 4 c.if-k-eq-FORK.true) (rw c.number.ensures at c.wrapping_add_u64.ensures)
+    rw (is_code 4 k (omega arith), eq-eqb k 4 c.if-k-eq-FORK.true) (rw c.number.ensures at c.wrapping_add_u64.ensures.value)
 
 pub returns-then-k-eq-JOIN : goal.returns-then-k-eq-JOIN
 unfolding children_after kind_of

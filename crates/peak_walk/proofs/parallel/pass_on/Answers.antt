@@ -14,4 +14,4 @@ pub returns : goal.returns
 returns c =
     let g = c.args in
     counted g.bests.now g.finals.now g.k g.x g.w.balance g.w.children g.w.most c.balance_after-balance.result c.children_after-children.result c.wrapping_add_u64.result
-    c.larger-most.result c.balance_after-balance.ensures c.children_after-children.ensures c.wrapping_add_u64.ensures c.larger-most.ensures
+    c.larger-most.result c.balance_after-balance.ensures c.children_after-children.ensures c.wrapping_add_u64.ensures.value c.larger-most.ensures

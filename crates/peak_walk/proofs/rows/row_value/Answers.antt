@@ -23,11 +23,11 @@ pub returns-then-j-eq0 : goal.returns-then-j-eq0
 returns-then-j-eq0 c =
     let g = c.args in
     at_zero g.peaks.now g.finals.now g.rows.now g.r g.c g.d g.j c.number.result c.number-2.result c.wrapping_add_u64-over.result
-    c.number.ensures c.number-2.ensures c.wrapping_add_u64-over.ensures c.if-j-eq0.true
+    c.number.ensures c.number-2.ensures c.wrapping_add_u64-over.ensures.value c.if-j-eq0.true
 
 pub returns : goal.returns
 returns c =
     let g = c.args in
     above g.peaks.now g.finals.now g.rows.now g.r g.c g.d g.j c.number.result c.number-2.result c.wrapping_add_u64-over.result
-    c.number.ensures c.number-2.ensures c.wrapping_add_u64-over.ensures c.if-j-eq0.false c.number-unended.result c.number-3.result c.wrapping_add_u64.result c.larger.result
-    c.number-unended.ensures c.number-3.ensures c.wrapping_add_u64.ensures c.larger.ensures
+    c.number.ensures c.number-2.ensures c.wrapping_add_u64-over.ensures.value c.if-j-eq0.false c.number-unended.result c.number-3.result c.wrapping_add_u64.result c.larger.result
+    c.number-unended.ensures c.number-3.ensures c.wrapping_add_u64.ensures.value c.larger.ensures

@@ -9,7 +9,7 @@ pub returns-then-k-eq-ALLOC : goal.returns-then-k-eq-ALLOC
 unfolding balance_after kind_of
 returns-then-k-eq-ALLOC c =
     let k = c.args.k in
-    rw (is_code 2 k (omega arith), eq-eqb k 2 c.if-k-eq-ALLOC.true) c.wrapping_add_u64.ensures
+    rw (is_code 2 k (omega arith), eq-eqb k 2 c.if-k-eq-ALLOC.true) c.wrapping_add_u64.ensures.value
 
 pub returns-then-k-eq-FREE : goal.returns-then-k-eq-FREE
 unfolding balance_after kind_of
@@ -22,7 +22,7 @@ unfolding balance_after kind_of
 returns-then-k-eq-JOIN c =
     let k = c.args.k in
     rw (is_code 2 k (omega arith), ne_eqb k 2 c.if-k-eq-ALLOC.false, is_code 3 k (omega arith), ne_eqb k 3 c.if-k-eq-FREE.false, is_code 5 k (omega arith), eq-eqb k 5 c.if-k-eq-JOIN.true)
-    (rw c.number.ensures at c.wrapping_add_u64-then-k-eq-JOIN.ensures)
+    (rw c.number.ensures at c.wrapping_add_u64-then-k-eq-JOIN.ensures.value)
 
 pub returns : goal.returns
 unfolding balance_after kind_of

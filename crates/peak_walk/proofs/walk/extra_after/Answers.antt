@@ -13,4 +13,4 @@ pub returns : goal.returns
 unfolding extra_after kind_of
 returns c =
     let k = c.args.k in
-    rw (is_code 4 k (omega arith), eq-eqb k 4 c.if-k-ne-FORK.false, add-zero (17 * c.args.x)) (rw (c.number.ensures, c.number-2.ensures) at c.wrapping_add_u64.ensures)
+    rw (is_code 4 k (omega arith), eq-eqb k 4 c.if-k-ne-FORK.false, add-zero (17 * c.args.x)) (rw (c.number.ensures, c.number-2.ensures) at c.wrapping_add_u64.ensures.value)

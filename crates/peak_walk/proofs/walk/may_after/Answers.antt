@@ -1,5 +1,5 @@
 -- `peak_walk::walk::may_after` meets its contract: a kind is told by its code.
-use Rattle.std.proofs.Common.{◌≡◌, ℕ, ◌+◌, Bool, true, false, not, eqb, refl, add-one, arith, rules, eq-eqb, ne_eqb}
+use Rattle.std.proofs.Common.{ap, ◌≡◌, ℕ, ◌+◌, Bool, true, false, not, eqb, refl, add-one, arith, rules, eq-eqb, ne_eqb}
 use Rattle.table.specs.Format.{code_at, bodies_from}
 use Rattle.table.proofs.Tests.{no_way}
 use Rattle.table.specs.Format.{kind_of}
@@ -33,7 +33,7 @@ module _ (code : ℕ → ℕ) (a : ℕ) where
 pub returns-then-not-resting : goal.returns-then-not-resting
 returns-then-not-resting c =
     let g = c.args in
-    anywhere (code_at (bodies_from g.table.now g.n)) g.a g.resting c.if-not-resting.true
+    anywhere (code_at (bodies_from g.table.now g.n)) g.a g.resting (ap not c.if-not-resting.true)
 
 pub returns-then-k-eq-END : goal.returns-then-k-eq-END
 returns-then-k-eq-END c =
@@ -48,4 +48,4 @@ returns-then-k-eq-FORK c =
 pub returns : goal.returns
 returns c =
     let g = c.args in
-    by_next (code_at (bodies_from g.table.now g.n)) g.a c.code-k.result c.code-k.ensures g.resting c.if-not-resting.false c.if-k-eq-END.false c.if-k-eq-FORK.false c.code.result c.code.ensures
+    by_next (code_at (bodies_from g.table.now g.n)) g.a c.code-k.result c.code-k.ensures g.resting (ap not c.if-not-resting.false) c.if-k-eq-END.false c.if-k-eq-FORK.false c.code.result c.code.ensures

@@ -1,5 +1,5 @@
 -- `peak_walk::walk::step` meets its contract.
-use Rattle.std.proofs.Common.{◌≡◌, ℕ, ◌+◌, ◌%◌, ◌^◌, max, Bool, true, false, not, List, arith, rules}
+use Rattle.std.proofs.Common.{ap, ◌≡◌, ℕ, ◌+◌, ◌%◌, ◌^◌, max, Bool, true, false, not, List, arith, rules}
 use Rattle.table.specs.Format.{kind_of}
 use Rattle.table.proofs.Tests.{no_way}
 use Rattle.peak_walk.specs.Code.Walk.{row_greatest, balance_after, depth_after, rows_after, extra_after, walk, stepped}
@@ -23,7 +23,7 @@ pub returns-then-not-may : goal.returns-then-not-may
 returns-then-not-may c =
     let g = c.args in
     passed g.peaks.now g.finals.now g.rows.now g.r g.k g.x g.w.balance g.w.best g.w.depth c.balance_after-balance.result c.extra_after-extra.result
-    c.depth_after-depth.result _ c.balance_after-balance.ensures c.extra_after-extra.ensures c.rows_after.ensures c.depth_after-depth.ensures g.may c.if-not-may.true
+    c.depth_after-depth.result _ c.balance_after-balance.ensures c.extra_after-extra.ensures c.rows_after.ensures c.depth_after-depth.ensures g.may (ap not c.if-not-may.true)
 
 pub row_greatest-requires : goal.row_greatest-requires
 row_greatest-requires c =
@@ -38,5 +38,5 @@ returns c =
     let b = c in
     let g = b.args in
     counted g.peaks.now g.finals.now g.rows.now g.r g.k g.x g.w.balance g.w.best g.w.depth b.balance_after-balance.result c.extra_after-extra.result
-    c.depth_after-depth.result _ b.balance_after-balance.ensures c.extra_after-extra.ensures c.rows_after.ensures c.depth_after-depth.ensures g.may c.if-not-may.false c.row_greatest.result c.larger-most.result c.wrapping_add_u64.result
-    c.larger-best.result c.row_greatest.ensures c.larger-most.ensures c.wrapping_add_u64.ensures c.larger-best.ensures
+    c.depth_after-depth.result _ b.balance_after-balance.ensures c.extra_after-extra.ensures c.rows_after.ensures c.depth_after-depth.ensures g.may (ap not c.if-not-may.false) c.row_greatest.result c.larger-most.result c.wrapping_add_u64.result
+    c.larger-best.result c.row_greatest.ensures c.larger-most.ensures c.wrapping_add_u64.ensures.value c.larger-best.ensures

@@ -3,12 +3,13 @@ use Prim.Native.Nat.{◌-◌, ◌≤◌}
 use native.Mathlib.Nat.{mul-le-mul}
 use native.Mathlib.Omega.{arith}
 use borrow.Author.Rules.{rules}
+use Rattle.useful_limit.proofs.gather.cost.Goals.{Start}
 use Rattle.useful_limit.proofs.gather.cost.Goals as goal
 
-workers : (c : goal.Start) → c.args.p - 1 ≤ 15
+workers : (c : Start) → c.args.p - 1 ≤ 15
 workers c = omega (arith, c.requires.few_workers)
 
-depths : (c : goal.Start) → c.args.depth - 1 ≤ 65535
+depths : (c : Start) → c.args.depth - 1 ≤ 65535
 depths c = omega (arith, c.well_formed)
 
 pub overflow_mul-result : goal.overflow_mul-result

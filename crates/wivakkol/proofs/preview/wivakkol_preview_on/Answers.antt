@@ -3,9 +3,10 @@ use Rattle.run_memory.specs.Memory.{Memory}
 use Rattle.run_memory.specs.Blocks.{memory_of}
 use Rattle.wivakkol.proofs.Previews.{shows, refuses}
 use borrow.Author.Rules.{rules}
+use Rattle.wivakkol.proofs.preview.wivakkol_preview_on.Goals.{Start}
 use Rattle.wivakkol.proofs.preview.wivakkol_preview_on.Goals as goal
 
-abbrev start : goal.Start → Memory
+abbrev start : Start → Memory
 start d = memory_of d.args.bytes.now d.args.words.now d.args.numbers.now d.args.sums.now
 
 pub returns-in-Would : goal.returns-in-Would

@@ -4,30 +4,31 @@ use native.Mathlib.Omega.{arith}
 use lib.ListN.{length}
 use borrow.Author.Rules.{rules}
 use Rattle.wivakkol_marks.proofs.Stretches.{stores}
+use Rattle.wivakkol_marks.proofs.copies.store.Goals.{After-copy_bytes-arg-2-1, After-copy_numbers-arg-2-1, After-copy_sums-arg-2-1, After-copy_words-arg-2-1}
 use Rattle.wivakkol_marks.proofs.copies.store.Goals as goal
 
-bytes_size : (c : goal.After-copy_bytes-arg-2-1) → length c.args.bytes.now ≡ 1040
+bytes_size : (c : After-copy_bytes-arg-2-1) → length c.args.bytes.now ≡ 1040
 bytes_size c = search rules
 
-markbytes_size : (c : goal.After-copy_bytes-arg-2-1) → length c.args.markbytes.now ≡ 8320
+markbytes_size : (c : After-copy_bytes-arg-2-1) → length c.args.markbytes.now ≡ 8320
 markbytes_size c = search rules
 
-words_size : (c : goal.After-copy_words-arg-2-1) → length c.args.words.now ≡ 6163
+words_size : (c : After-copy_words-arg-2-1) → length c.args.words.now ≡ 6163
 words_size c = search rules
 
-markwords_size : (c : goal.After-copy_words-arg-2-1) → length c.args.markwords.now ≡ 49304
+markwords_size : (c : After-copy_words-arg-2-1) → length c.args.markwords.now ≡ 49304
 markwords_size c = search rules
 
-numbers_size : (c : goal.After-copy_numbers-arg-2-1) → length c.args.numbers.now ≡ 18
+numbers_size : (c : After-copy_numbers-arg-2-1) → length c.args.numbers.now ≡ 18
 numbers_size c = search rules
 
-marknumbers_size : (c : goal.After-copy_numbers-arg-2-1) → length c.args.marknumbers.now ≡ 144
+marknumbers_size : (c : After-copy_numbers-arg-2-1) → length c.args.marknumbers.now ≡ 144
 marknumbers_size c = search rules
 
-sums_size : (c : goal.After-copy_sums-arg-2-1) → length c.args.sums.now ≡ 1027
+sums_size : (c : After-copy_sums-arg-2-1) → length c.args.sums.now ≡ 1027
 sums_size c = search rules
 
-marksums_size : (c : goal.After-copy_sums-arg-2-1) → length c.args.marksums.now ≡ 8216
+marksums_size : (c : After-copy_sums-arg-2-1) → length c.args.marksums.now ≡ 8216
 marksums_size c = search rules
 
 pub overflow_mul-i : goal.overflow_mul-i
