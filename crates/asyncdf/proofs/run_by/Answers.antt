@@ -7,10 +7,11 @@ use lib.Seq.{length-take-le}
 use Rattle.schedule.specs.Turn.{unsound}
 use Rattle.soundness.proofs.Passed.{test_fails, test_passes, test_parents}
 use Rattle.asyncdf.proofs.Calls.{run_unsound, table_inside, run_taken, ran_as, run_small}
+use Rattle.asyncdf.proofs.run_by.Goals.{Else-not-tested}
 use Rattle.asyncdf.proofs.run_by.Goals as goal
 
 -- the record passed the test
-passed : (c : goal.Else-not-tested) → unsound c.args.run ≡ false
+passed : (c : Else-not-tested) → unsound c.args.run ≡ false
 passed c = test_passes _ c.test-tested.ensures c.if-not-tested.false
 
 pub returns-then-not-tested : goal.returns-then-not-tested

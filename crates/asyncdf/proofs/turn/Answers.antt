@@ -9,10 +9,11 @@ use Rattle.schedule.proofs.Runs.Values.{turn_values_lem}
 use Rattle.soundness.proofs.Passed.{test_fails, test_passes, test_parents}
 use Rattle.array_machine.proofs.Answers.{turned_unsound}
 use Rattle.asyncdf.proofs.Calls.{turned_answers, table_inside, turn_stopped, turn_taken, told_small}
+use Rattle.asyncdf.proofs.turn.Goals.{Else-not-tested}
 use Rattle.asyncdf.proofs.turn.Goals as goal
 
 -- the record passed the test
-passed : (c : goal.Else-not-tested) → unsound c.args.run ≡ false
+passed : (c : Else-not-tested) → unsound c.args.run ≡ false
 passed c = test_passes _ c.test-tested.ensures c.if-not-tested.false
 
 pub returns-then-not-tested : goal.returns-then-not-tested

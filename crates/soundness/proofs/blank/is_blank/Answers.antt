@@ -13,6 +13,7 @@ use Rattle.soundness.specs.Tested.{blank_on}
 use Rattle.soundness.proofs.Chains.{off, on, cut, pass}
 use Rattle.soundness.proofs.Filled.{none_filled}
 use Rattle.soundness.proofs.OnParts.{blank_is}
+use Rattle.soundness.proofs.blank.is_blank.Goals.{After-bytes_rest, Start}
 use Rattle.soundness.proofs.blank.is_blank.Goals as goal
 
 module _ (r : Run) where
@@ -28,13 +29,13 @@ module _ (r : Run) where
   no_table : zero_table ≡ false → false ≡ is_blank r
   no_table e = cut _ e ∙ sym (blank_is r)
 
-table_size : (c : goal.Start) → length c.args.run.table ≡ 36868
+table_size : (c : Start) → length c.args.run.table ≡ 36868
 table_size c = search rules
 
 pub slice_bounds-bytes_rest-end : goal.slice_bounds-bytes_rest-end
 slice_bounds-bytes_rest-end c = sym (table_size (goal.at.slice_bounds-bytes_rest-end c).Start)
 
-zeros : (c : goal.After-bytes_rest) → c.bytes_rest.result ≡ zero_table c.args.run
+zeros : (c : After-bytes_rest) → c.bytes_rest.result ≡ zero_table c.args.run
 zeros c =
     let c = c in
     sized c.args.run (table_size c) c.bytes_rest.ensures

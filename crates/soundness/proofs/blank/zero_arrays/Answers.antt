@@ -8,6 +8,7 @@ use lib.ListN.{length, take, replicate}
 use Rattle.order.specs.Words.{filled, same_list}
 use Rattle.soundness.proofs.Chains.{off, on, cut, pass}
 use Rattle.soundness.proofs.Filled.{none_filled}
+use Rattle.soundness.proofs.blank.zero_arrays.Goals.{After-bytes_rest, After-zero_amounts, After-zero_numbers, After-zero_numbers-2}
 use Rattle.soundness.proofs.blank.zero_arrays.Goals as goal
 
 module _ (l : List ℕ) (z : length l ≡ 1024) where
@@ -17,16 +18,16 @@ module _ (l : List ℕ) (z : length l ≡ 1024) where
   sized_rest : {b : Bool} → b ≡ same_list l (filled (length l) (take 0 l)) → b ≡ same_list l (replicate 1024 0)
   sized_rest e = sized (e ∙ ap (same_list l) (none_filled (length l) l))
 
-next_zero : (c : goal.After-zero_numbers) → c.zero_numbers.result ≡ same_list c.args.next.now (replicate 1024 0)
+next_zero : (c : After-zero_numbers) → c.zero_numbers.result ≡ same_list c.args.next.now (replicate 1024 0)
 next_zero c = sized c.args.next.now c.zero_numbers-arg-1.given.0 c.zero_numbers.ensures
 
-status_zero : (c : goal.After-bytes_rest) → c.bytes_rest.result ≡ same_list c.args.status.now (replicate 1024 0)
+status_zero : (c : After-bytes_rest) → c.bytes_rest.result ≡ same_list c.args.status.now (replicate 1024 0)
 status_zero c = sized_rest c.args.status.now c.bytes_rest-arg-1.given.0 c.bytes_rest.ensures
 
-amounts_zero : (c : goal.After-zero_amounts) → c.zero_amounts.result ≡ same_list c.args.amounts.now (replicate 1024 0)
+amounts_zero : (c : After-zero_amounts) → c.zero_amounts.result ≡ same_list c.args.amounts.now (replicate 1024 0)
 amounts_zero c = sized c.args.amounts.now c.zero_amounts-arg-1.given.0 c.zero_amounts.ensures
 
-left_zero : (c : goal.After-zero_numbers-2)
+left_zero : (c : After-zero_numbers-2)
     → c.zero_numbers-2.result ≡ same_list c.args.left.now (replicate 1024 0)
 left_zero c =
     sized c.args.left.now c.zero_numbers-arg-2-1.given.0 c.zero_numbers-2.ensures

@@ -20,6 +20,7 @@ use Rattle.soundness.specs.Code.Checks.{Accepted, threads_sound, holders_sound}
 use Rattle.soundness.proofs.Lookups.{few_threads}
 use Rattle.soundness.proofs.Chains.{off, on, cut, stop, pass, skip, first_of}
 use borrow.Author.Rules.{rules}
+use Rattle.soundness.proofs.common.common_holds.Goals.{Else-not-amounts_right, Else-not-held_right, Else-not-holders_sound, Else-not-threads_sound, In_default, Start}
 use Rattle.soundness.proofs.common.common_holds.Goals as goal
 
 regroup : (x y z a b c d e f g h m i j : Bool)
@@ -69,44 +70,44 @@ module _ (s : List ℕ) (n p K : ℕ) (next status amounts : List ℕ) (workers 
         → {r : Bool} → r ≡ tests → r ≡ common_sound s p K next status amounts workers set amount highest
     sized a b c e = pass (eq-eqb (length next) 1024 a) (pass (eq-eqb (length status) 1024 b) (pass (eq-eqb (length workers) 16 c) e)) ∙ begins
 
-abbrev Goal : goal.Start → Bool → Type 0
+abbrev Goal : Start → Bool → Type 0
 Goal s r =
     r
     ≡ common_sound s.args.table.now s.args.p s.args.quota s.args.next.now s.args.status.now s.args.amounts.now s.args.workers s.args.busy s.args.held s.args.highest
 
-abbrev left4 : goal.Start → Bool
+abbrev left4 : Start → Bool
 left4 s = leb s.args.held s.args.highest && eqb s.args.busy (set_of s.args.workers)
 
-abbrev left3 : goal.Start → Bool
+abbrev left3 : Start → Bool
 left3 s = same_list s.args.amounts.now (shares_in (table_of s.args.table.now) s.args.next.now s.args.status.now) && left4 s
 
-abbrev left2 : goal.Start → Bool
+abbrev left2 : Start → Bool
 left2 s = held_right (table_of s.args.table.now) s.args.next.now s.args.status.now s.args.held && left3 s
 
-abbrev left1 : goal.Start → Bool
+abbrev left1 : Start → Bool
 left1 s = holders_sound s.args.n s.args.p s.args.quota s.args.status.now s.args.workers && left2 s
 
-threads_held : (c : goal.Else-not-threads_sound) → threads_sound (table_of c.args.table.now) c.args.n c.args.next.now c.args.status.now ≡ true
+threads_held : (c : Else-not-threads_sound) → threads_sound (table_of c.args.table.now) c.args.n c.args.next.now c.args.status.now ≡ true
 threads_held c = on c.threads_sound.ensures.value c.if-not-threads_sound.false
 
-worker_size : (s : goal.Start) → length s.args.workers ≡ 16
+worker_size : (s : Start) → length s.args.workers ≡ 16
 worker_size s = search rules
 
-begun : (c : goal.In_default) → first_found (setting_passes c.args.p c.args.quota) ≡ Nothing
+begun : (c : In_default) → first_found (setting_passes c.args.p c.args.quota) ≡ Nothing
 begun c = sym c.settings_fault-found.ensures ∙ c.in_default.is
 
-after1 : (c : goal.Else-not-threads_sound) {r : Bool} → r ≡ left1 c → Goal c r
+after1 : (c : Else-not-threads_sound) {r : Bool} → r ≡ left1 c → Goal c r
 after1 c h =
     let z = c.threads_sound.ensures.next_len (not-false _ c.if-not-threads_sound.false) in
     sized _ _ _ _ _ _ _ _ _ _ _ c.pre.0 (begun c) z.0 z.1 (worker_size c) (pass (threads_held c) h)
 
-after2 : (c : goal.Else-not-holders_sound) {r : Bool} → r ≡ left2 c → Goal c r
+after2 : (c : Else-not-holders_sound) {r : Bool} → r ≡ left2 c → Goal c r
 after2 c h = after1 c (pass (on c.holders_sound.ensures c.if-not-holders_sound.false) h)
 
-after3 : (c : goal.Else-not-held_right) {r : Bool} → r ≡ left3 c → Goal c r
+after3 : (c : Else-not-held_right) {r : Bool} → r ≡ left3 c → Goal c r
 after3 c h = after2 c (pass (on c.held_right.ensures c.if-not-held_right.false) h)
 
-after4 : (c : goal.Else-not-amounts_right) {r : Bool} → r ≡ left4 c → Goal c r
+after4 : (c : Else-not-amounts_right) {r : Bool} → r ≡ left4 c → Goal c r
 after4 c h = after3 c (pass (on c.amounts_right.ensures c.if-not-amounts_right.false) h)
 
 pub returns-in-At : goal.returns-in-At

@@ -2,9 +2,10 @@
 use Rattle.soundness.specs.Code.Checks.{Placed}
 use Rattle.soundness.proofs.Chains.{off, on, cut, pass, never}
 use borrow.Author.Rules.{rules}
+use Rattle.soundness.proofs.common.threads_sound.Goals.{Else-not-next_in_bodies}
 use Rattle.soundness.proofs.common.threads_sound.Goals as goal
 
-placed : (c : goal.Else-not-next_in_bodies) → Placed c.args.table.now c.args.n c.args.next.now
+placed : (c : Else-not-next_in_bodies) → Placed c.args.table.now c.args.n c.args.next.now
 placed c = on c.next_in_bodies.ensures c.if-not-next_in_bodies.false
 
 pub returns-then-not-next_in_bodies : goal.returns-then-not-next_in_bodies

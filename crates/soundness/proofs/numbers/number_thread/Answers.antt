@@ -12,6 +12,7 @@ use Rattle.soundness.specs.Code.Checks.{Accepted, Placed}
 use Rattle.soundness.specs.Code.Order.{NumbersTo, Numbering}
 use Rattle.soundness.proofs.Lookups.{Body, accepted_lawful, thread_below, accepted_body, placed}
 use Rattle.soundness.proofs.Marks.{numbers_owner, numbers_small, numbers_stored, numbering_first, numbering_numbered, numbering_next}
+use Rattle.soundness.proofs.numbers.number_thread.Goals.{Start}
 use Rattle.soundness.proofs.numbers.number_thread.Goals as goal
 
 -- where the thread's body and its next action lie, and how its walk begins
@@ -73,7 +74,7 @@ module _ (s : List ℕ) (n t first : ℕ) (next numbers : List ℕ)
           let v : NumbersTo (table_of s) t (first + count - 1) other (set middle t number) after = rw (own at_next) at w in
           numbering_next (table_of s) lawful next numbers t first p.1.1.1 below number other (first + count) middle after at_next v (rw e)
 
-at_start : (c : goal.Start) → Ready c.args.table.now c.args.n c.args.t c.args.first c.args.next.now c.args.numbers.now
+at_start : (c : Start) → Ready c.args.table.now c.args.n c.args.t c.args.first c.args.next.now c.args.numbers.now
 at_start c = ready c.args.table.now _ _ _ c.args.next.now c.args.numbers.now c.requires
 
 pub overflow_add-stop : goal.overflow_add-stop

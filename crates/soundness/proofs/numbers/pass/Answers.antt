@@ -13,6 +13,7 @@ use Rattle.soundness.specs.Code.Order.{Inside, NumbersTo}
 use Rattle.soundness.proofs.Lookups.{accepted_lawful, code_read, argument_read, fork_code, not_fork}
 use Rattle.soundness.proofs.Spans.{inside_within, inside_fork, child_small}
 use Rattle.soundness.proofs.Marks.{numbers_inside, numbers_small, numbers_step, numbers_fork}
+use Rattle.soundness.proofs.numbers.pass.Goals.{After-argument-c}
 use Rattle.soundness.proofs.numbers.pass.Goals as goal
 
 -- what holds at a fork of thread x
@@ -58,7 +59,7 @@ pub returns-then-code-ne-FORK : goal.returns-then-code-ne-FORK
 returns-then-code-ne-FORK c =
     step c.args.table.now _ _ _ c.args.numbers.now c.requires _ (code_read c.requires.accepted _ c.code.ensures) c.if-code-ne-FORK.true
 
-at_fork : (c : goal.After-argument-c) → Forked c.args.table.now c.args.a
+at_fork : (c : After-argument-c) → Forked c.args.table.now c.args.a
     c.args.number c.argument-c.result
     c.args.numbers.now
 at_fork c =

@@ -16,6 +16,7 @@ use Rattle.soundness.specs.Code.Checks.{copy_sound}
 use Rattle.soundness.specs.Tested.{parents_if, sound_on}
 use Rattle.soundness.proofs.Chains.{off, on, skip, last}
 use Rattle.soundness.proofs.OnParts.{sound_is}
+use Rattle.soundness.proofs.sound.sound.Goals.{Else-not-copy_sound, Start}
 use Rattle.soundness.proofs.sound.sound.Goals as goal
 
 module _ (r : Run) where
@@ -35,10 +36,10 @@ module _ (r : Run) where
       let k : q ≡ sound r = last parts h e ∙ sym (sound_is r) in
       rw (d, k)
 
-table_size : (c : goal.Start) → length c.args.run.table ≡ 36868
+table_size : (c : Start) → length c.args.run.table ≡ 36868
 table_size c = search rules
 
-bounds : (c : goal.Else-not-copy_sound) → c.args.run.length ≤ 36868
+bounds : (c : Else-not-copy_sound) → c.args.run.length ≤ 36868
 bounds c = c.copy_sound.ensures.length_bound (not-false _ c.if-not-copy_sound.false)
 
 pub returns-then-not-copy_sound : goal.returns-then-not-copy_sound

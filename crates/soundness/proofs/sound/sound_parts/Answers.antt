@@ -22,6 +22,7 @@ use Rattle.schedule.proofs.Sound.Tests.{common_exactly}
 use Rattle.soundness.specs.Code.Checks.{Accepted, Placed, links_sound}
 use Rattle.soundness.specs.Tested.{parents_in, parents_if, sound_on}
 use Rattle.soundness.proofs.Chains.{off, on, cut, skip, last, pass, first_of, second_of, never}
+use Rattle.soundness.proofs.sound.sound_parts.Goals.{Start}
 use Rattle.soundness.proofs.sound.sound_parts.Goals as goal
 
 module _ (s : List ℕ) (p K : ℕ) (next status amounts : List ℕ) (workers : List Worker) (set amount highest : ℕ) where
@@ -73,7 +74,7 @@ module _ (s : List ℕ) (p K : ℕ) (next status amounts : List ℕ) (workers : 
         let e : n ≡ (table_of s).threads = a in
         (record { rules = (passes_rules s).0 no_check; threads = a }, rw e placed)
 
-turns_fit : (c : goal.Start) → c.args.turns < 18446744073709551616
+turns_fit : (c : Start) → c.args.turns < 18446744073709551616
 turns_fit c = search rules
 
 pub returns-then-not-common : goal.returns-then-not-common
