@@ -1,7 +1,7 @@
 -- `preview::preview` meets its contract: refused by the test, of no worker, and as it is foreseen on the blocks.
 use mathlib.Core.Path.{◌≡◌, sym, ap, ◌∙◌}
 use Prim.Native.Nat.{ℕ, ◌^◌, ◌<◌}
-use mathlib.Core.Bool.{false}
+use mathlib.Core.Bool.{false, not}
 use native.Mathlib.Omega.{arith}
 use borrow.Author.Rules.{rules}
 use Rattle.table.specs.declared.Refusal.{Refusal}
@@ -31,11 +31,11 @@ module _ (r : Run) (w : ℕ) {f : Foreseen} (e : as_preview f ≡ preview_of r w
   is_refused i d = ap Refused (d ∙ ap refusal_of i) ∙ (ap as_preview (sym i) ∙ e)
 
 pub returns-then-not-tested : goal.returns-then-not-tested
-returns-then-not-tested c = let both = both c.args.run c.args.w (ap Refused c.refused.ensures ∙ shows_unsound c.args.run c.args.w (test_fails _ c.test-tested.ensures c.if-not-tested.true)) in record { value = both.0; result_value = both.1 }
+returns-then-not-tested c = let both = both c.args.run c.args.w (ap Refused c.refused.ensures ∙ shows_unsound c.args.run c.args.w (test_fails _ c.test-tested.ensures (ap not c.if-not-tested.true))) in record { value = both.0; result_value = both.1 }
 
 -- the record passed the test
 passed : (c : Else-not-tested) → unsound c.args.run ≡ false
-passed c = test_passes _ c.test-tested.ensures c.if-not-tested.false
+passed c = test_passes _ c.test-tested.ensures (ap not c.if-not-tested.false)
 
 pub returns-then-run-eq0 : goal.returns-then-run-eq0
 returns-then-run-eq0 c = let both = both c.args.run c.args.w (ap Refused c.refused-then-run-eq0.ensures ∙ shows_none c.args.run c.args.w (passed (goal.at.returns-then-run-eq0 c).Else-not-tested) (omega (arith, c.if-run-eq0.true))) in record { value = both.0; result_value = both.1 }

@@ -1,7 +1,7 @@
 -- `soundness::blank::is_blank` meets its contract: the table in the record first, then its length, then the parts.
 use mathlib.Core.Path.{◌≡◌, ap, sym, ◌∙◌}
 use Prim.Native.Nat.{ℕ}
-use mathlib.Core.Bool.{Bool, false}
+use mathlib.Core.Bool.{Bool, false, not}
 use borrow.Author.Rules.{rules}
 use borrow.Author.Tests.{eq-eqb, ne_eqb}
 use lib.ListN.{length, take, replicate}
@@ -42,12 +42,12 @@ zeros c =
 
 pub returns-then-not-bytes_rest : goal.returns-then-not-bytes_rest
 returns-then-not-bytes_rest c =
-    no_table c.args.run (off (zeros (goal.at.returns-then-not-bytes_rest c).After-bytes_rest) c.if-not-bytes_rest.true)
+    no_table c.args.run (off (zeros (goal.at.returns-then-not-bytes_rest c).After-bytes_rest) (ap not c.if-not-bytes_rest.true))
 
 pub returns-then-run-ne0 : goal.returns-then-run-ne0
 returns-then-run-ne0 c =
-    pass (on (zeros (goal.at.returns-then-run-ne0 c).After-bytes_rest) c.if-not-bytes_rest.false) (cut (parts c.args.run) (ne_eqb _ 0 c.if-run-ne0.true)) ∙ sym (blank_is _)
+    pass (on (zeros (goal.at.returns-then-run-ne0 c).After-bytes_rest) (ap not c.if-not-bytes_rest.false)) (cut (parts c.args.run) (ne_eqb _ 0 c.if-run-ne0.true)) ∙ sym (blank_is _)
 
 pub returns : goal.returns
 returns c =
-    pass (on (zeros (goal.at.returns c).After-bytes_rest) c.if-not-bytes_rest.false) (pass (eq-eqb _ 0 c.if-run-ne0.false) c.blank_in.ensures) ∙ sym (blank_is c.args.run)
+    pass (on (zeros (goal.at.returns c).After-bytes_rest) (ap not c.if-not-bytes_rest.false)) (pass (eq-eqb _ 0 c.if-run-ne0.false) c.blank_in.ensures) ∙ sym (blank_is c.args.run)

@@ -1,8 +1,8 @@
 -- `soundness::common::common_holds` meets its contract: the tests are the clauses, in their order.
-use mathlib.Core.Path.{◌≡◌, refl, sym, ◌∙◌}
+use mathlib.Core.Path.{◌≡◌, refl, sym, ◌∙◌, ap}
 use Prim.Native.Nat.{ℕ}
 use mathlib.Core.List.{List}
-use mathlib.Core.Bool.{Bool, true, false, ◌&&◌, ◌||◌, and_assoc}
+use mathlib.Core.Bool.{Bool, true, false, ◌&&◌, ◌||◌, and_assoc, not}
 use borrow.Author.Tests.{not-false, eq-eqb, le-leb, lt-leb}
 use lib.ListN.{length}
 use lib.Dec.{ltb, leb, eqb}
@@ -88,7 +88,7 @@ abbrev left1 : Start → Bool
 left1 s = holders_sound s.args.n s.args.p s.args.quota s.args.status.now s.args.workers && left2 s
 
 threads_held : (c : Else-not-threads_sound) → threads_sound (table_of c.args.table.now) c.args.n c.args.next.now c.args.status.now ≡ true
-threads_held c = on c.threads_sound.ensures.value c.if-not-threads_sound.false
+threads_held c = on c.threads_sound.ensures.value (ap not c.if-not-threads_sound.false)
 
 worker_size : (s : Start) → length s.args.workers ≡ 16
 worker_size s = search rules
@@ -98,17 +98,17 @@ begun c = sym c.settings_fault-found.ensures ∙ c.in_default.is
 
 after1 : (c : Else-not-threads_sound) {r : Bool} → r ≡ left1 c → Goal c r
 after1 c h =
-    let z = c.threads_sound.ensures.next_len (not-false _ c.if-not-threads_sound.false) in
-    sized _ _ _ _ _ _ _ _ _ _ _ c.pre.0 (begun c) z.0 z.1 (worker_size c) (pass (threads_held c) h)
+    let z = c.threads_sound.ensures.next_len (not-false _ (ap not c.if-not-threads_sound.false)) in
+    sized _ _ _ _ _ _ _ _ _ _ _ c.requires.accepted (begun c) z.0 z.1 (worker_size c) (pass (threads_held c) h)
 
 after2 : (c : Else-not-holders_sound) {r : Bool} → r ≡ left2 c → Goal c r
-after2 c h = after1 c (pass (on c.holders_sound.ensures c.if-not-holders_sound.false) h)
+after2 c h = after1 c (pass (on c.holders_sound.ensures (ap not c.if-not-holders_sound.false)) h)
 
 after3 : (c : Else-not-held_right) {r : Bool} → r ≡ left3 c → Goal c r
-after3 c h = after2 c (pass (on c.held_right.ensures c.if-not-held_right.false) h)
+after3 c h = after2 c (pass (on c.held_right.ensures (ap not c.if-not-held_right.false)) h)
 
 after4 : (c : Else-not-amounts_right) {r : Bool} → r ≡ left4 c → Goal c r
-after4 c h = after3 c (pass (on c.amounts_right.ensures c.if-not-amounts_right.false) h)
+after4 c h = after3 c (pass (on c.amounts_right.ensures (ap not c.if-not-amounts_right.false)) h)
 
 pub returns-in-At : goal.returns-in-At
 returns-in-At c =
@@ -116,25 +116,25 @@ returns-in-At c =
 
 pub returns-then-not-threads_sound : goal.returns-then-not-threads_sound
 returns-then-not-threads_sound c =
-    no_threads _ _ _ _ _ _ _ _ _ _ _ c.requires.accepted (begun (goal.at.returns-then-not-threads_sound c).In_default) (off c.threads_sound.ensures.value c.if-not-threads_sound.true)
+    no_threads _ _ _ _ _ _ _ _ _ _ _ c.requires.accepted (begun (goal.at.returns-then-not-threads_sound c).In_default) (off c.threads_sound.ensures.value (ap not c.if-not-threads_sound.true))
 
 pub holders_sound-requires : goal.holders_sound-requires
 holders_sound-requires c = few_threads c.requires.accepted
 
 pub returns-then-not-holders_sound : goal.returns-then-not-holders_sound
-returns-then-not-holders_sound c = after1 (goal.at.returns-then-not-holders_sound c).Else-not-threads_sound (cut _ (off c.holders_sound.ensures c.if-not-holders_sound.true))
+returns-then-not-holders_sound c = after1 (goal.at.returns-then-not-holders_sound c).Else-not-threads_sound (cut _ (off c.holders_sound.ensures (ap not c.if-not-holders_sound.true)))
 
 pub held_right-requires : goal.held_right-requires
 held_right-requires c = record { accepted = c.requires.accepted; placed = first_of _ _ (threads_held (goal.at.held_right-requires c).Else-not-threads_sound) }
 
 pub returns-then-not-held_right : goal.returns-then-not-held_right
-returns-then-not-held_right c = after2 (goal.at.returns-then-not-held_right c).Else-not-holders_sound (cut _ (off c.held_right.ensures c.if-not-held_right.true))
+returns-then-not-held_right c = after2 (goal.at.returns-then-not-held_right c).Else-not-holders_sound (cut _ (off c.held_right.ensures (ap not c.if-not-held_right.true)))
 
 pub amounts_right-requires : goal.amounts_right-requires
 amounts_right-requires c = record { accepted = c.requires.accepted; status_value = threads_held (goal.at.amounts_right-requires c).Else-not-threads_sound }
 
 pub returns-then-not-amounts_right : goal.returns-then-not-amounts_right
-returns-then-not-amounts_right c = after3 (goal.at.returns-then-not-amounts_right c).Else-not-held_right (cut _ (off c.amounts_right.ensures c.if-not-amounts_right.true))
+returns-then-not-amounts_right c = after3 (goal.at.returns-then-not-amounts_right c).Else-not-held_right (cut _ (off c.amounts_right.ensures (ap not c.if-not-amounts_right.true)))
 
 pub returns-then-held-highest : goal.returns-then-held-highest
 returns-then-held-highest c = after4 (goal.at.returns-then-held-highest c).Else-not-amounts_right (pass (le-leb _ _ c.if-held-highest.true) c.busy_right.ensures)
