@@ -37,8 +37,7 @@ slice_bounds-bytes_rest-end c = sym (table_size (goal.at.slice_bounds-bytes_rest
 
 zeros : (c : After-bytes_rest) → c.bytes_rest.result ≡ zero_table c.args.run
 zeros c =
-    let c = c in
-    sized c.args.run (table_size c) c.bytes_rest.ensures
+    sized c.args.run (search rules) c.bytes_rest.ensures
 
 pub returns-then-not-bytes_rest : goal.returns-then-not-bytes_rest
 returns-then-not-bytes_rest c =
