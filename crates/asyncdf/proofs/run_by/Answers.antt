@@ -1,21 +1,22 @@
 -- `asyncdf::run_by` meets its contract: check 32, and then the run in the blocks.
-use mathlib.Core.Path.{◌≡◌, sym, ◌∙◌}
-use mathlib.Core.Bool.{false}
+use mathlib.Core.Path.{◌≡◌, sym, ◌∙◌, ap}
+use mathlib.Core.Bool.{false, not}
 use native.Mathlib.Omega.{arith}
 use borrow.Author.Rules.{rules}
 use lib.Seq.{length-take-le}
 use Rattle.schedule.specs.Turn.{unsound}
 use Rattle.soundness.proofs.Passed.{test_fails, test_passes, test_parents}
 use Rattle.asyncdf.proofs.Calls.{run_unsound, table_inside, run_taken, ran_as, run_small}
+use Rattle.asyncdf.proofs.run_by.Goals.{Else-not-tested}
 use Rattle.asyncdf.proofs.run_by.Goals as goal
 
 -- the record passed the test
-passed : (c : goal.Else-not-tested) → unsound c.args.run ≡ false
-passed c = test_passes _ c.test-tested.ensures c.if-not-tested.false
+passed : (c : Else-not-tested) → unsound c.args.run ≡ false
+passed c = test_passes _ c.test-tested.ensures (ap not c.if-not-tested.false)
 
 pub returns-then-not-tested : goal.returns-then-not-tested
 returns-then-not-tested c =
-    c.unsound.ensures ∙ run_unsound _ _ c.args.rounds _ (test_fails _ c.test-tested.ensures c.if-not-tested.true)
+    c.unsound.ensures ∙ run_unsound _ _ c.args.rounds _ (test_fails _ c.test-tested.ensures (ap not c.if-not-tested.true))
 
 pub slice_bounds-table-end : goal.slice_bounds-table-end
 slice_bounds-table-end c = table_inside _ (passed (goal.at.slice_bounds-table-end c).Else-not-tested)

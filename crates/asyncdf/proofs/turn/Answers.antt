@@ -1,6 +1,6 @@
 -- `asyncdf::turn` meets its contract: check 32, and then the turn in the blocks.
-use mathlib.Core.Path.{◌≡◌, sym, ◌∙◌}
-use mathlib.Core.Bool.{false}
+use mathlib.Core.Path.{◌≡◌, sym, ◌∙◌, ap}
+use mathlib.Core.Bool.{false, not}
 use native.Mathlib.Omega.{arith}
 use borrow.Author.Rules.{rules}
 use lib.Seq.{length-take-le}
@@ -9,14 +9,15 @@ use Rattle.schedule.proofs.Runs.Values.{turn_values_lem}
 use Rattle.soundness.proofs.Passed.{test_fails, test_passes, test_parents}
 use Rattle.array_machine.proofs.Answers.{turned_unsound}
 use Rattle.asyncdf.proofs.Calls.{turned_answers, table_inside, turn_stopped, turn_taken, told_small}
+use Rattle.asyncdf.proofs.turn.Goals.{Else-not-tested}
 use Rattle.asyncdf.proofs.turn.Goals as goal
 
 -- the record passed the test
-passed : (c : goal.Else-not-tested) → unsound c.args.run ≡ false
-passed c = test_passes _ c.test-tested.ensures c.if-not-tested.false
+passed : (c : Else-not-tested) → unsound c.args.run ≡ false
+passed c = test_passes _ c.test-tested.ensures (ap not c.if-not-tested.false)
 
 pub returns-then-not-tested : goal.returns-then-not-tested
-returns-then-not-tested c = let both = rw (← turn_values_lem) (turned_answers (c.refused.ensures ∙ turned_unsound _ _ (test_fails _ c.test-tested.ensures c.if-not-tested.true))) in record { value = both.0; answer_value = both.1 }
+returns-then-not-tested c = let both = rw (← turn_values_lem) (turned_answers (c.refused.ensures ∙ turned_unsound _ _ (test_fails _ c.test-tested.ensures (ap not c.if-not-tested.true)))) in record { value = both.0; answer_value = both.1 }
 
 pub slice_bounds-table-end : goal.slice_bounds-table-end
 slice_bounds-table-end c = table_inside _ (passed (goal.at.slice_bounds-table-end c).Else-not-tested)

@@ -65,7 +65,7 @@ last s n t stop allocs₀ frees₀ allocs frees a i h =
     rw e (i.drawn, i.given)
 
 pub loop-a-init : goal.loop-a-init
-loop-a-init c = start c.args.table.now _ _ _ _ c.args c.requires c.first-a.ensures.value
+loop-a-init c = start c.args.table.now _ _ _ _ c.args.before c.requires c.first-a.ensures.value
 
 pub overflow_add-allocs : goal.overflow_add-allocs
 overflow_add-allocs c = omega (arith, own_small alloc (kind_of c.code-k.result) c.argument-x.result c.argument-x.ensures.small)

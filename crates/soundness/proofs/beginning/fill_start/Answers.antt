@@ -8,6 +8,7 @@ use Rattle.table.specs.Rules.{Rules}
 use Rattle.order.specs.Firsts.{firsts}
 use Rattle.order.specs.Words.{filled}
 use Rattle.soundness.specs.Code.Checks.{Accepted}
+use Rattle.soundness.proofs.beginning.fill_start.Goals.{After-threads-n}
 use Rattle.soundness.proofs.beginning.fill_start.Goals as goal
 
 known : (s : List ℕ) (n : ℕ) → Rules s → n ≡ threads_of s → Accepted s n
@@ -17,7 +18,7 @@ known s n r e = record { rules = r; threads = e }
 next_is : (s : List ℕ) (n : ℕ) (next : List ℕ) → Accepted s n → next ≡ filled 1024 (firsts (table_of s).first 0 n) → next ≡ filled 1024 (firsts (table_of s).first 0 (table_of s).threads)
 next_is s n next a e = e ∙ ap (λ (k : ℕ). filled 1024 (firsts (table_of s).first 0 k)) a.threads
 
-known_there : (c : goal.After-threads-n) → Accepted c.args.table.now c.threads-n.result
+known_there : (c : After-threads-n) → Accepted c.args.table.now c.threads-n.result
 known_there c = known _ _ c.requires.rules c.threads-n.ensures.value
 
 pub fill_forks-requires : goal.fill_forks-requires

@@ -17,6 +17,7 @@ use Rattle.schedule.specs.Turn.{is_nobody}
 use Rattle.order.proofs.Words.{not_both}
 use Rattle.schedule.proofs.Sound.Clauses.{nobody_exactly, worker_right_exactly}
 use Rattle.order.proofs.Every.{same_truth, all_cong}
+use Rattle.soundness.proofs.blank.all_free.Goals.{Start}
 use Rattle.soundness.proofs.blank.all_free.Goals as goal
 
 module _ (l : List Worker) (w : ℕ) where
@@ -35,7 +36,7 @@ all_right : (l : List Worker) → length l ≡ 16 → {b : Bool} → b ≡ all_b
 all_right l z e =
     e ∙ all_cong _ _ 16 (λ w h. same_truth _ _ (free_right l w).0 (free_right l w).1) ∙ rw (eq-eqb (length l) 16 z)
 
-worker_size : (c : goal.Start) → length c.args.workers ≡ 16
+worker_size : (c : Start) → length c.args.workers ≡ 16
 worker_size c = search rules
 
 pub returns : goal.returns

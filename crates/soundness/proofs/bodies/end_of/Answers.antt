@@ -4,9 +4,10 @@ use borrow.Author.Rules.{rules}
 use Rattle.table.specs.Format.{table_of}
 use Rattle.order.proofs.Lawful.{lawful}
 use Rattle.soundness.proofs.Lookups.{Body, body}
+use Rattle.soundness.proofs.bodies.end_of.Goals.{Start}
 use Rattle.soundness.proofs.bodies.end_of.Goals as goal
 
-at_start : (c : goal.Start) → Body (table_of c.args.table.now) c.args.t
+at_start : (c : Start) → Body (table_of c.args.table.now) c.args.t
 at_start c = body (lawful _ c.requires.rules) c.requires.t_bound
 
 pub overflow_add-result : goal.overflow_add-result

@@ -1,4 +1,5 @@
-use mathlib.Core.Path.{◌≡◌, ◌∙◌}
+use mathlib.Core.Bool.{not}
+use mathlib.Core.Path.{◌≡◌, ◌∙◌, ap}
 use Prim.Native.Nat.{ℕ, ◌-◌}
 use mathlib.Core.List.{List}
 use native.Mathlib.Omega.{arith}
@@ -21,12 +22,11 @@ loop-t-init c = passed_none
 
 pub thread_in_order-requires : goal.thread_in_order-requires
 thread_in_order-requires c =
-    let p = c.requires in
-    (p.0, (c.loop-t-test.true, p.1))
+    record { accepted = c.requires.accepted; t_lt_n = c.loop-t-test.true; placed = c.requires.placed; forks = c.requires.forks; parents = c.requires.parents }
 
 pub returns-then-not-thread_in_order : goal.returns-then-not-thread_in_order
 returns-then-not-thread_in_order c =
-    passed_stop c.loop-t.invariant c.loop-t-test.true c.thread_in_order.ensures c.if-not-thread_in_order.true
+    passed_stop c.loop-t.invariant c.loop-t-test.true c.thread_in_order.ensures (ap not c.if-not-thread_in_order.true)
     ∙ all c.args.table.now _ c.args.next.now c.args.status.now c.requires.accepted
 
 pub overflow_add-t : goal.overflow_add-t
@@ -37,7 +37,7 @@ loop-t-smaller c = omega arith
 
 pub loop-t-preserved : goal.loop-t-preserved
 loop-t-preserved c =
-    passed_next c.loop-t.invariant c.thread_in_order.ensures c.if-not-thread_in_order.false
+    passed_next c.loop-t.invariant c.thread_in_order.ensures (ap not c.if-not-thread_in_order.false)
 
 pub returns : goal.returns
 returns c =

@@ -10,6 +10,7 @@ use Rattle.table.proofs.Bodies.{owner_of_end, join_below}
 use Rattle.schedule.specs.Sound.{done_in}
 use Rattle.soundness.specs.Code.Checks.{Accepted, done_at, join_done}
 use Rattle.soundness.proofs.Lookups.{accepted_lawful, code_read, argument_read, body, join_code, is_join, not_join}
+use Rattle.soundness.proofs.bodies.join_done.Goals.{After-argument-c}
 use Rattle.soundness.proofs.bodies.join_done.Goals as goal
 
 module _ (s : List ℕ) (n a k : ℕ) (r : Accepted s n) (h : a < (table_of s).actions) (e : k ≡ (table_of s).code a) where
@@ -31,7 +32,7 @@ pub returns-then-code-ne-JOIN : goal.returns-then-code-ne-JOIN
 returns-then-code-ne-JOIN c =
     other _ _ _ _ c.requires.accepted c.requires.a_bound (code_read c.requires.accepted _ c.code.ensures) c.args.next.now c.args.status.now c.if-code-ne-JOIN.true
 
-the_child : (c : goal.After-argument-c) → c.argument-c.result < (table_of c.args.table.now).threads
+the_child : (c : After-argument-c) → c.argument-c.result < (table_of c.args.table.now).threads
 the_child c =
     child _ _ _ _ c.requires.accepted c.requires.a_bound (code_read c.requires.accepted _ c.code.ensures) c.if-code-ne-JOIN.false _ (argument_read c.requires.accepted _ c.argument-c.ensures).value
 

@@ -1,3 +1,5 @@
+use mathlib.Core.Bool.{not}
+use mathlib.Core.Path.{ap}
 use Prim.Native.Nat.{◌-◌}
 use native.Mathlib.Omega.{arith}
 use Rattle.table.specs.Format.{table_of}
@@ -14,7 +16,7 @@ next_in_body-requires c = let p = c.requires in record { rules = p.rules; t_boun
 
 pub returns-then-not-next_in_body : goal.returns-then-not-next_in_body
 returns-then-not-next_in_body c =
-    passed_stop c.loop-t.invariant c.loop-t-test.true c.next_in_body.ensures c.if-not-next_in_body.true
+    passed_stop c.loop-t.invariant c.loop-t-test.true c.next_in_body.ensures (ap not c.if-not-next_in_body.true)
 
 pub overflow_add-t : goal.overflow_add-t
 overflow_add-t c = omega arith
@@ -24,7 +26,7 @@ loop-t-smaller c = omega arith
 
 pub loop-t-preserved : goal.loop-t-preserved
 loop-t-preserved c =
-    passed_next c.loop-t.invariant c.next_in_body.ensures c.if-not-next_in_body.false
+    passed_next c.loop-t.invariant c.next_in_body.ensures (ap not c.if-not-next_in_body.false)
 
 pub returns : goal.returns
 returns c = passed_all c.loop-t.invariant c.loop-t-test.false

@@ -30,7 +30,7 @@ pub bounds-next-t : goal.bounds-next-t
 bounds-next-t c = omega (arith, (body (lawful _ c.requires.rules) c.requires.t_bound).few)
 
 pub end_of-requires : goal.end_of-requires
-end_of-requires c = let both = c.requires in record { rules = both.0; t_bound = both.1 }
+end_of-requires c = record { rules = c.requires.rules; t_bound = c.requires.t_bound }
 
 pub returns-then-first-a : goal.returns-then-first-a
 returns-then-first-a c =

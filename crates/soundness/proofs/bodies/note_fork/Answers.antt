@@ -12,6 +12,7 @@ use Rattle.order.proofs.Lawful.{Lawful}
 use Rattle.soundness.specs.Code.Checks.{Accepted, Noted}
 use Rattle.soundness.proofs.Lookups.{accepted_lawful, code_read, argument_read, fork_code, no_fork}
 use Rattle.soundness.proofs.Noting.{noted_other, noted_fork}
+use Rattle.soundness.proofs.bodies.note_fork.Goals.{After-argument-c}
 use Rattle.soundness.proofs.bodies.note_fork.Goals as goal
 
 module _ (s : List ℕ) (n t a k : ℕ) (r : Accepted s n) (h : a < (table_of s).actions) (o : owner (table_of s) a ≡ t) (e : k ≡ (table_of s).code a) where
@@ -29,7 +30,7 @@ module _ (s : List ℕ) (n t a k : ℕ) (r : Accepted s n) (h : a < (table_of s)
   same f xs ys w = noted_other (table_of s) (accepted_lawful r) xs ys a w h (no_fork (λ d. f (e ∙ d)))
 
 -- at the stores
-bounds : (c : goal.After-argument-c) → (c.argument-c.result < 1024) × (c.args.a < 65536) × (c.args.t < 65536)
+bounds : (c : After-argument-c) → (c.argument-c.result < 1024) × (c.args.a < 65536) × (c.args.t < 65536)
 bounds c =
     small c.args.table.now _ _ _ _ c.requires.accepted c.requires.a_bound c.requires.a_value (code_read c.requires.accepted _ c.code.ensures) _ (argument_read c.requires.accepted _ c.argument-c.ensures).value c.if-code-eq-FORK.true
 

@@ -20,6 +20,7 @@ use Rattle.soundness.specs.Code.Checks.{Forks, unborn_in, unborn_at}
 use Rattle.soundness.proofs.Lookups.{body}
 use Rattle.order.proofs.Every.{beq_agree}
 use Rattle.soundness.proofs.Noting.{few, unborn_noted}
+use Rattle.soundness.proofs.bodies.status_follows.Goals.{Start}
 use Rattle.soundness.proofs.bodies.status_follows.Goals as goal
 
 module _ (s : List ℕ) (t : ℕ) (forks parents next status : List ℕ) (l : Rules s) (h : t < (table_of s).threads) (f : Forks (table_of s) forks) (g : Parents (table_of s) parents) (r : Bool)
@@ -42,7 +43,7 @@ module _ (s : List ℕ) (t : ℕ) (forks parents next status : List ℕ) (l : Ru
     unfolding status_follows
     at_end_lem d a end p q = rw (sym agrees ∙ not-false _ w, d, p, q) (sym (and-true _))
 
-in_array : (c : goal.Start) → c.args.t < 1024
+in_array : (c : Start) → c.args.t < 1024
 in_array c = (body (lawful _ c.requires.rules) c.requires.t_bound).few
 
 pub bounds-status-t : goal.bounds-status-t

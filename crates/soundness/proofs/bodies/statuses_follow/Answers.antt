@@ -1,3 +1,5 @@
+use mathlib.Core.Bool.{not}
+use mathlib.Core.Path.{ap}
 use Prim.Native.Nat.{◌-◌}
 use native.Mathlib.Omega.{arith}
 use Rattle.table.specs.Format.{table_of}
@@ -11,12 +13,11 @@ loop-t-init c = passed_none
 
 pub status_follows-requires : goal.status_follows-requires
 status_follows-requires c =
-    let p = c.requires in
-    (p.0.rules, (thread_below p.0 c.loop-t-test.true, p.1))
+    record { rules = c.requires.accepted.rules; t_bound = thread_below c.requires.accepted c.loop-t-test.true; forks = c.requires.forks; parents = c.requires.parents }
 
 pub returns-then-not-status_follows : goal.returns-then-not-status_follows
 returns-then-not-status_follows c =
-    passed_stop c.loop-t.invariant c.loop-t-test.true c.status_follows.ensures c.if-not-status_follows.true
+    passed_stop c.loop-t.invariant c.loop-t-test.true c.status_follows.ensures (ap not c.if-not-status_follows.true)
 
 pub overflow_add-t : goal.overflow_add-t
 overflow_add-t c = omega arith
@@ -26,7 +27,7 @@ loop-t-smaller c = omega arith
 
 pub loop-t-preserved : goal.loop-t-preserved
 loop-t-preserved c =
-    passed_next c.loop-t.invariant c.status_follows.ensures c.if-not-status_follows.false
+    passed_next c.loop-t.invariant c.status_follows.ensures (ap not c.if-not-status_follows.false)
 
 pub returns : goal.returns
 returns c = passed_all c.loop-t.invariant c.loop-t-test.false

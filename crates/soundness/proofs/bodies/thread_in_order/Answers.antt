@@ -1,4 +1,4 @@
-use mathlib.Core.Path.{◌≡◌, sym, ◌∙◌}
+use mathlib.Core.Path.{◌≡◌, sym, ◌∙◌, ap}
 use Prim.Native.Nat.{ℕ, ◌+◌, ◌-◌, ◌≤◌, ◌<◌}
 use mathlib.Core.List.{List}
 use mathlib.Core.Bool.{Bool, true, false, not}
@@ -15,7 +15,7 @@ use Rattle.soundness.specs.Code.Checks.{Accepted, Placed, Forks, done_to, unborn
 use Rattle.soundness.proofs.Lookups.{Body, accepted_lawful, thread_below, accepted_body, placed}
 use Rattle.soundness.proofs.Done.{stop_within, undone_in_order, unborn_in_order, born_in_order, body_passes, body_fails}
 use Rattle.soundness.proofs.Noting.{few, unborn_noted}
-use Rattle.soundness.proofs.bodies.thread_in_order.Invariants.{Inv}
+use Rattle.soundness.proofs.bodies.thread_in_order.Invariants.{Inv, asked, stopped, again, all}
 use Rattle.soundness.proofs.bodies.thread_in_order.Goals as goal
 
 -- what the calls before the loop say
@@ -63,7 +63,7 @@ join_done-requires c = let both = asked _ _ _ _ _ _ _ c.loop-a.invariant c.loop-
 
 pub returns-then-not-join_done : goal.returns-then-not-join_done
 returns-then-not-join_done c =
-    stopped _ _ _ _ _ _ _ c.loop-a.invariant c.loop-a-test.true _ c.join_done.ensures c.if-not-join_done.true
+    stopped _ _ _ _ _ _ _ c.loop-a.invariant c.loop-a-test.true _ c.join_done.ensures (ap not c.if-not-join_done.true)
 
 pub overflow_add-a : goal.overflow_add-a
 overflow_add-a c = omega arith
@@ -73,7 +73,7 @@ loop-a-smaller c = omega arith
 
 pub loop-a-preserved : goal.loop-a-preserved
 loop-a-preserved c =
-    again _ _ _ _ _ _ _ c.loop-a.invariant c.loop-a-test.true _ c.join_done.ensures c.if-not-join_done.false
+    again _ _ _ _ _ _ _ c.loop-a.invariant c.loop-a-test.true _ c.join_done.ensures (ap not c.if-not-join_done.false)
 
 pub returns : goal.returns
 returns c = all _ _ _ _ _ _ _ c.loop-a.invariant c.loop-a-test.false

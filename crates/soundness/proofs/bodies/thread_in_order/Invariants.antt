@@ -35,7 +35,7 @@ module _ (s : List ℕ) (n t : ℕ) (next status : List ℕ) (stop a : ℕ) (i :
   below : t < (table_of s).threads
   below = thread_below i.accepted i.thread
 
-  asked : a < stop → Accepted s n × (a < (table_of s).actions)
+  pub asked : a < stop → Accepted s n × (a < (table_of s).actions)
   asked h = (i.accepted, omega (arith, i.within, i.room.within))
 
   -- the test at a
@@ -43,11 +43,11 @@ module _ (s : List ℕ) (n t : ℕ) (next status : List ℕ) (stop a : ℕ) (i :
   here h r e =
       born_in_order (table_of s) l next status t below i.born a i.from (omega (arith, i.within)) (omega (arith, i.stops)) ∙ sym e
 
-  stopped : a < stop → (r : Bool) → r ≡ join_done (table_of s) next status a → not r ≡ true → false ≡ body_in_order (table_of s) next status t
+  pub stopped : a < stop → (r : Bool) → r ≡ join_done (table_of s) next status a → not r ≡ true → false ≡ body_in_order (table_of s) next status t
   stopped h r e d =
       sym (body_fails (table_of s) l next status t below a i.from (omega (arith, i.within)) (here h r e ∙ not-true r d))
 
-  again : a < stop → (r : Bool) → r ≡ join_done (table_of s) next status a → not r ≡ false → Inv s n t next status stop (a + 1)
+  pub again : a < stop → (r : Bool) → r ≡ join_done (table_of s) next status a → not r ≡ false → Inv s n t next status stop (a + 1)
   again h r e d =
       record {
         accepted = i.accepted;
@@ -67,7 +67,7 @@ module _ (s : List ℕ) (n t : ℕ) (next status : List ℕ) (stop a : ℕ) (i :
           go (yes q) = rw q (here h r e ∙ not-false r d)
           go (no q) = let w : x ≡ a → ⊥ = q in i.ordered x j (omega (arith, w))
 
-  all : stop ≤ a → true ≡ body_in_order (table_of s) next status t
+  pub all : stop ≤ a → true ≡ body_in_order (table_of s) next status t
   all h = sym (body_passes (table_of s) l next status t below at)
     where
       at : (x : ℕ) → (table_of s).first t ≤ x → x < (table_of s).first t + (table_of s).count t → in_order (table_of s) next status x ≡ true

@@ -1,3 +1,5 @@
+use mathlib.Core.Bool.{not}
+use mathlib.Core.Path.{ap}
 use Prim.Native.Nat.{◌-◌}
 use native.Mathlib.Omega.{arith}
 use Rattle.table.specs.Format.{table_of}
@@ -9,11 +11,11 @@ pub loop-t-init : goal.loop-t-init
 loop-t-init c = passed_none
 
 pub waits_at_join-requires : goal.waits_at_join-requires
-waits_at_join-requires c = let p = c.requires in record { accepted = p.0; t_lt_n = c.loop-t-test.true; placed = p.1 }
+waits_at_join-requires c = record { accepted = c.requires.accepted; t_lt_n = c.loop-t-test.true; placed = c.requires.placed }
 
 pub returns-then-not-waits_at_join : goal.returns-then-not-waits_at_join
 returns-then-not-waits_at_join c =
-    passed_stop c.loop-t.invariant c.loop-t-test.true c.waits_at_join.ensures c.if-not-waits_at_join.true
+    passed_stop c.loop-t.invariant c.loop-t-test.true c.waits_at_join.ensures (ap not c.if-not-waits_at_join.true)
 
 pub overflow_add-t : goal.overflow_add-t
 overflow_add-t c = omega arith
@@ -23,7 +25,7 @@ loop-t-smaller c = omega arith
 
 pub loop-t-preserved : goal.loop-t-preserved
 loop-t-preserved c =
-    passed_next c.loop-t.invariant c.waits_at_join.ensures c.if-not-waits_at_join.false
+    passed_next c.loop-t.invariant c.waits_at_join.ensures (ap not c.if-not-waits_at_join.false)
 
 pub returns : goal.returns
 returns c = passed_all c.loop-t.invariant c.loop-t-test.false

@@ -1,14 +1,15 @@
 -- `soundness::common::common_holds` meets its contract: the tests are the clauses, in their order.
-use mathlib.Core.Path.{◌≡◌, refl, sym, ◌∙◌}
+use mathlib.Core.Path.{◌≡◌, refl, sym, ◌∙◌, ap}
 use Prim.Native.Nat.{ℕ}
 use mathlib.Core.List.{List}
-use mathlib.Core.Bool.{Bool, true, false, ◌&&◌, ◌||◌, and_assoc}
+use mathlib.Core.Bool.{Bool, true, false, ◌&&◌, ◌||◌, and_assoc, not}
 use borrow.Author.Tests.{not-false, eq-eqb, le-leb, lt-leb}
 use lib.ListN.{length}
 use lib.Dec.{ltb, leb, eqb}
 use Rattle.table.specs.Format.{Table, table_of}
 use Rattle.table.specs.Pass.{first_found}
 use Rattle.table.specs.declared.Refusal.{Refusal}
+use Rattle.table.specs.declared.Found.{Found}
 use Rattle.table.specs.declared.Found.TheVariants.{Nothing, At}
 use Rattle.table.proofs.Passes.{passes_rules}
 use Rattle.schedule.specs.declared.Worker.{Worker}
@@ -69,74 +70,57 @@ module _ (s : List ℕ) (n p K : ℕ) (next status amounts : List ℕ) (workers 
         → {r : Bool} → r ≡ tests → r ≡ common_sound s p K next status amounts workers set amount highest
     sized a b c e = pass (eq-eqb (length next) 1024 a) (pass (eq-eqb (length status) 1024 b) (pass (eq-eqb (length workers) 16 c) e)) ∙ begins
 
-abbrev Goal : goal.Start → Bool → Type 0
-Goal s r =
-    r
-    ≡ common_sound s.args.table.now s.args.p s.args.quota s.args.next.now s.args.status.now s.args.amounts.now s.args.workers s.args.busy s.args.held s.args.highest
+-- past the settings, over threads that are sound
+module _ (s : List ℕ) (n p K : ℕ) (next status amounts : List ℕ) (workers : List Worker) (set amount highest : ℕ) (k : Accepted s n)
+    {x : Found} (f : x ≡ first_found (setting_passes p K)) (d : x ≡ Nothing) (w : length workers ≡ 16)
+    {b : Bool} (t : b ≡ threads_sound (table_of s) n next status) (u : b ≡ true) (z : b ≡ true → (length next ≡ 1024) × (length status ≡ 1024)) where
+  past_threads : {r : Bool}
+      → r ≡ (holders_sound n p K status workers
+      && (held_right (table_of s) next status amount && (same_list amounts (shares_in (table_of s) next status) && (leb amount highest && eqb set (set_of workers)))))
+      → r ≡ common_sound s p K next status amounts workers set amount highest
+  past_threads e = sized s n p K next status amounts workers set amount highest k (sym f ∙ d) (z u).0 (z u).1 w (pass (sym t ∙ u) e)
 
-abbrev left4 : goal.Start → Bool
-left4 s = leb s.args.held s.args.highest && eqb s.args.busy (set_of s.args.workers)
+  module _ {g : Bool} (h : g ≡ holders_sound n p K status workers) (i : g ≡ true) where
+    past_holders : {r : Bool}
+        → r ≡ (held_right (table_of s) next status amount && (same_list amounts (shares_in (table_of s) next status) && (leb amount highest && eqb set (set_of workers))))
+        → r ≡ common_sound s p K next status amounts workers set amount highest
+    past_holders e = past_threads (pass (sym h ∙ i) e)
 
-abbrev left3 : goal.Start → Bool
-left3 s = same_list s.args.amounts.now (shares_in (table_of s.args.table.now) s.args.next.now s.args.status.now) && left4 s
+    module _ {j : Bool} (l : j ≡ held_right (table_of s) next status amount) (m : j ≡ true) where
+      past_held : {r : Bool} → r ≡ (same_list amounts (shares_in (table_of s) next status) && (leb amount highest && eqb set (set_of workers)))
+          → r ≡ common_sound s p K next status amounts workers set amount highest
+      past_held e = past_holders (pass (sym l ∙ m) e)
 
-abbrev left2 : goal.Start → Bool
-left2 s = held_right (table_of s.args.table.now) s.args.next.now s.args.status.now s.args.held && left3 s
-
-abbrev left1 : goal.Start → Bool
-left1 s = holders_sound s.args.n s.args.p s.args.quota s.args.status.now s.args.workers && left2 s
-
-threads_held : (c : goal.Else-not-threads_sound) → threads_sound (table_of c.args.table.now) c.args.n c.args.next.now c.args.status.now ≡ true
-threads_held c = on c.threads_sound.ensures.value c.if-not-threads_sound.false
-
-worker_size : (s : goal.Start) → length s.args.workers ≡ 16
-worker_size s = search rules
-
-begun : (c : goal.In_default) → first_found (setting_passes c.args.p c.args.quota) ≡ Nothing
-begun c = sym c.settings_fault-found.ensures ∙ c.in_default.is
-
-after1 : (c : goal.Else-not-threads_sound) {r : Bool} → r ≡ left1 c → Goal c r
-after1 c h =
-    let z = c.threads_sound.ensures.next_len (not-false _ c.if-not-threads_sound.false) in
-    sized _ _ _ _ _ _ _ _ _ _ _ c.pre.0 (begun c) z.0 z.1 (worker_size c) (pass (threads_held c) h)
-
-after2 : (c : goal.Else-not-holders_sound) {r : Bool} → r ≡ left2 c → Goal c r
-after2 c h = after1 c (pass (on c.holders_sound.ensures c.if-not-holders_sound.false) h)
-
-after3 : (c : goal.Else-not-held_right) {r : Bool} → r ≡ left3 c → Goal c r
-after3 c h = after2 c (pass (on c.held_right.ensures c.if-not-held_right.false) h)
-
-after4 : (c : goal.Else-not-amounts_right) {r : Bool} → r ≡ left4 c → Goal c r
-after4 c h = after3 c (pass (on c.amounts_right.ensures c.if-not-amounts_right.false) h)
+      past_amounts : {q : Bool} → q ≡ same_list amounts (shares_in (table_of s) next status) → q ≡ true → {r : Bool} → r ≡ (leb amount highest && eqb set (set_of workers))
+          → r ≡ common_sound s p K next status amounts workers set amount highest
+      past_amounts o v e = past_held (pass (sym o ∙ v) e)
 
 pub returns-in-At : goal.returns-in-At
-returns-in-At c =
-    no_settings _ _ _ _ _ _ _ _ _ _ _ c.requires.accepted (sym c.settings_fault-found.ensures ∙ c.in-At.is)
+returns-in-At c = no_settings _ _ _ _ _ _ _ _ _ _ _ c.requires.accepted (sym c.settings_fault-found.ensures ∙ c.in-At.is)
 
 pub returns-then-not-threads_sound : goal.returns-then-not-threads_sound
-returns-then-not-threads_sound c =
-    no_threads _ _ _ _ _ _ _ _ _ _ _ c.requires.accepted (begun (goal.at.returns-then-not-threads_sound c).In_default) (off c.threads_sound.ensures.value c.if-not-threads_sound.true)
+returns-then-not-threads_sound c = no_threads _ _ _ _ _ _ _ _ _ _ _ c.requires.accepted (sym c.settings_fault-found.ensures ∙ c.in_default.is) (sym c.threads_sound.ensures.value ∙ c.if-not-threads_sound.true)
 
 pub holders_sound-requires : goal.holders_sound-requires
 holders_sound-requires c = few_threads c.requires.accepted
 
 pub returns-then-not-holders_sound : goal.returns-then-not-holders_sound
-returns-then-not-holders_sound c = after1 (goal.at.returns-then-not-holders_sound c).Else-not-threads_sound (cut _ (off c.holders_sound.ensures c.if-not-holders_sound.true))
+returns-then-not-holders_sound c = past_threads _ _ _ _ _ _ _ _ _ _ _ c.requires.accepted c.settings_fault-found.ensures c.in_default.is (search rules) c.threads_sound.ensures.value c.if-not-threads_sound.false c.threads_sound.ensures.next_len (cut _ (sym c.holders_sound.ensures ∙ c.if-not-holders_sound.true))
 
 pub held_right-requires : goal.held_right-requires
-held_right-requires c = record { accepted = c.requires.accepted; placed = first_of _ _ (threads_held (goal.at.held_right-requires c).Else-not-threads_sound) }
+held_right-requires c = record { accepted = c.requires.accepted; placed = first_of _ _ (sym c.threads_sound.ensures.value ∙ c.if-not-threads_sound.false) }
 
 pub returns-then-not-held_right : goal.returns-then-not-held_right
-returns-then-not-held_right c = after2 (goal.at.returns-then-not-held_right c).Else-not-holders_sound (cut _ (off c.held_right.ensures c.if-not-held_right.true))
+returns-then-not-held_right c = past_holders _ _ _ _ _ _ _ _ _ _ _ c.requires.accepted c.settings_fault-found.ensures c.in_default.is (search rules) c.threads_sound.ensures.value c.if-not-threads_sound.false c.threads_sound.ensures.next_len c.holders_sound.ensures c.if-not-holders_sound.false (cut _ (sym c.held_right.ensures ∙ c.if-not-held_right.true))
 
 pub amounts_right-requires : goal.amounts_right-requires
-amounts_right-requires c = record { accepted = c.requires.accepted; status_value = threads_held (goal.at.amounts_right-requires c).Else-not-threads_sound }
+amounts_right-requires c = record { accepted = c.requires.accepted; status_value = sym c.threads_sound.ensures.value ∙ c.if-not-threads_sound.false }
 
 pub returns-then-not-amounts_right : goal.returns-then-not-amounts_right
-returns-then-not-amounts_right c = after3 (goal.at.returns-then-not-amounts_right c).Else-not-held_right (cut _ (off c.amounts_right.ensures c.if-not-amounts_right.true))
+returns-then-not-amounts_right c = past_held _ _ _ _ _ _ _ _ _ _ _ c.requires.accepted c.settings_fault-found.ensures c.in_default.is (search rules) c.threads_sound.ensures.value c.if-not-threads_sound.false c.threads_sound.ensures.next_len c.holders_sound.ensures c.if-not-holders_sound.false c.held_right.ensures c.if-not-held_right.false (cut _ (sym c.amounts_right.ensures ∙ c.if-not-amounts_right.true))
 
 pub returns-then-held-highest : goal.returns-then-held-highest
-returns-then-held-highest c = after4 (goal.at.returns-then-held-highest c).Else-not-amounts_right (pass (le-leb _ _ c.if-held-highest.true) c.busy_right.ensures)
+returns-then-held-highest c = past_amounts _ _ _ _ _ _ _ _ _ _ _ c.requires.accepted c.settings_fault-found.ensures c.in_default.is (search rules) c.threads_sound.ensures.value c.if-not-threads_sound.false c.threads_sound.ensures.next_len c.holders_sound.ensures c.if-not-holders_sound.false c.held_right.ensures c.if-not-held_right.false c.amounts_right.ensures c.if-not-amounts_right.false (pass (le-leb _ _ c.if-held-highest.true) c.busy_right.ensures)
 
 pub returns-else-held-highest : goal.returns-else-held-highest
-returns-else-held-highest c = after4 (goal.at.returns-else-held-highest c).Else-not-amounts_right (stop _ _ (lt-leb _ _ c.if-held-highest.false))
+returns-else-held-highest c = past_amounts _ _ _ _ _ _ _ _ _ _ _ c.requires.accepted c.settings_fault-found.ensures c.in_default.is (search rules) c.threads_sound.ensures.value c.if-not-threads_sound.false c.threads_sound.ensures.next_len c.holders_sound.ensures c.if-not-holders_sound.false c.held_right.ensures c.if-not-held_right.false c.amounts_right.ensures c.if-not-amounts_right.false (stop _ _ (lt-leb _ _ c.if-held-highest.false))

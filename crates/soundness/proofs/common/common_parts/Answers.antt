@@ -18,6 +18,7 @@ use Rattle.order.specs.Words.{is_nothing}
 use Rattle.soundness.specs.Code.Checks.{Accepted}
 use Rattle.soundness.specs.Tested.{parents_in, parents_if}
 use Rattle.soundness.proofs.Noting.{parents_right}
+use Rattle.soundness.proofs.common.common_parts.Goals.{After-threads-n, In_default}
 use Rattle.soundness.proofs.common.common_parts.Goals as goal
 
 module _ (s : List ℕ) where
@@ -32,10 +33,10 @@ module _ (s : List ℕ) where
   its_parents : {l : List ℕ} → Rules s → l ≡ parents_in (table_of s) → l ≡ parents_if (is_nothing (first_found (passes s))) (table_of s)
   its_parents k e = e ∙ rw ((passes_rules s).1 k)
 
-passed : (c : goal.In_default) → Rules c.args.table.now
+passed : (c : In_default) → Rules c.args.table.now
 passed c = (passes_rules _).0 (sym c.check_in-found.ensures.value ∙ c.in_default.is)
 
-known : (c : goal.After-threads-n) → Accepted c.args.table.now c.threads-n.result
+known : (c : After-threads-n) → Accepted c.args.table.now c.threads-n.result
 unfolding table_of
 known c = record { rules = passed c; threads = c.threads-n.ensures.value }
 

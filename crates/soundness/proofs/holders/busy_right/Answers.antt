@@ -4,6 +4,7 @@ use mathlib.Core.List.{List, [], ◌∷◌}
 use mathlib.Core.Bool.{Bool, true, false}
 use native.Mathlib.Nat.{two-pow-succ, pow-le-pow_right}
 use native.Mathlib.Omega.{arith}
+use borrow.Author.Rules.{rules}
 use lib.ListN.{length, get_or, drop, length-drop, drop_of_length-le}
 use lib.Seq.{drop-cons}
 use Rattle.table.specs.Sum.{pick}
@@ -45,7 +46,7 @@ module _ (workers : List Worker) (set w : ℕ) (i : Inv workers set w) where
   whole h = let z : w ≡ 0 = omega arith in i.part ∙ ap (λ (j : ℕ). set_of (drop j workers)) z
 
 pub loop-w-init : goal.loop-w-init
-loop-w-init c = start c.args.t2 c.well_formed.1.0.1.0.1
+loop-w-init c = start c.args.workers (search rules)
 
 pub overflow_sub-w : goal.overflow_sub-w
 overflow_sub-w c = omega arith
@@ -67,7 +68,7 @@ loop-w-smaller-then-x c = omega arith
 
 pub loop-w-preserved-then-x : goal.loop-w-preserved-then-x
 loop-w-preserved-then-x c =
-    again c.args.t2 _ _ c.loop-w.invariant c.loop-w-test.true true c.if-x.true _ refl
+    again c.args.workers _ _ c.loop-w.invariant c.loop-w-test.true true c.if-x.true _ refl
 
 pub overflow_mul-set-else-x : goal.overflow_mul-set-else-x
 overflow_mul-set-else-x c = omega (arith, small _ _ _ c.loop-w.invariant)
@@ -77,8 +78,8 @@ loop-w-smaller c = omega arith
 
 pub loop-w-preserved : goal.loop-w-preserved
 loop-w-preserved c =
-    again c.args.t2 _ _ c.loop-w.invariant c.loop-w-test.true false c.if-x.false _ (omega arith)
+    again c.args.workers _ _ c.loop-w.invariant c.loop-w-test.true false c.if-x.false _ (omega arith)
 
 pub returns : goal.returns
 returns c =
-    rw (whole c.args.t2 _ _ c.loop-w.invariant c.loop-w-test.false)
+    rw (whole c.args.workers _ _ c.loop-w.invariant c.loop-w-test.false)

@@ -79,14 +79,14 @@ wanted n status workers counts w i h =
     all_cong _ (one_holder status workers) n (λ t l. rw (i.counted t (omega (arith, i.small)), z))
 
 pub loop-w-init : goal.loop-w-init
-loop-w-init c = start _ c.args.t3 _ c.requires refl
+loop-w-init c = start _ c.args.workers _ c.requires refl
 
 pub bounds-counts-t : goal.bounds-counts-t
 bounds-counts-t c = c.if-t-lt1024.true
 
 pub overflow_add-counts : goal.overflow_add-counts
 overflow_add-counts c =
-    omega (arith, few _ c.args.t3 _ _ c.loop-w.invariant c.loop-w-test.true _ c.if-t-lt1024.true)
+    omega (arith, few _ c.args.workers _ _ c.loop-w.invariant c.loop-w-test.true _ c.if-t-lt1024.true)
 
 pub bounds-counts-t-then-t-lt1024 : goal.bounds-counts-t-then-t-lt1024
 bounds-counts-t-then-t-lt1024 c = c.if-t-lt1024.true
@@ -96,25 +96,25 @@ loop-w-smaller-then-t-lt1024 c = omega arith
 
 pub loop-w-preserved-then-t-lt1024 : goal.loop-w-preserved-then-t-lt1024
 loop-w-preserved-then-t-lt1024 c =
-    one _ c.args.t3 _ _ c.loop-w.invariant c.loop-w-test.true c.if-x.true c.if-t-lt1024.true
+    one _ c.args.workers _ _ c.loop-w.invariant c.loop-w-test.true c.if-x.true c.if-t-lt1024.true
 
 pub loop-w-smaller-else-t-lt1024 : goal.loop-w-smaller-else-t-lt1024
 loop-w-smaller-else-t-lt1024 c = omega arith
 
 pub loop-w-preserved-else-t-lt1024 : goal.loop-w-preserved-else-t-lt1024
 loop-w-preserved-else-t-lt1024 c =
-    beyond _ c.args.t3 _ _ c.loop-w.invariant c.loop-w-test.true c.if-x.true c.if-t-lt1024.false
+    beyond _ c.args.workers _ _ c.loop-w.invariant c.loop-w-test.true c.if-x.true c.if-t-lt1024.false
 
 pub loop-w-smaller : goal.loop-w-smaller
 loop-w-smaller c = omega arith
 
 pub loop-w-preserved : goal.loop-w-preserved
 loop-w-preserved c =
-    idle _ c.args.t3 _ _ c.loop-w.invariant c.loop-w-test.true c.if-x.false
+    idle _ c.args.workers _ _ c.loop-w.invariant c.loop-w-test.true c.if-x.false
 
 pub counts_right-requires : goal.counts_right-requires
 counts_right-requires c = c.requires
 
 pub returns : goal.returns
 returns c =
-    c.counts_right.ensures ∙ wanted _ c.args.status.now c.args.t3 _ _ c.loop-w.invariant c.loop-w-test.false
+    c.counts_right.ensures ∙ wanted _ c.args.status.now c.args.workers _ _ c.loop-w.invariant c.loop-w-test.false

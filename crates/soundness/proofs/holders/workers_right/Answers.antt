@@ -1,3 +1,5 @@
+use mathlib.Core.Bool.{not}
+use mathlib.Core.Path.{ap}
 use Prim.Native.Nat.{◌-◌}
 use native.Mathlib.Omega.{arith}
 use borrow.Author.Rules.{rules}
@@ -11,14 +13,14 @@ loop-w-init c = passed_none
 pub returns-then-not-worker_right : goal.returns-then-not-worker_right
 unfolding worker_right
 returns-then-not-worker_right c =
-    passed_stop c.loop-w.invariant c.loop-w-test.true c.worker_right.ensures c.if-not-worker_right.true
+    passed_stop c.loop-w.invariant c.loop-w-test.true c.worker_right.ensures (ap not c.if-not-worker_right.true)
 
 pub loop-w-smaller : goal.loop-w-smaller
 loop-w-smaller c = omega arith
 
 pub loop-w-preserved : goal.loop-w-preserved
 unfolding worker_right
-loop-w-preserved c = passed_next c.loop-w.invariant c.worker_right.ensures c.if-not-worker_right.false
+loop-w-preserved c = passed_next c.loop-w.invariant c.worker_right.ensures (ap not c.if-not-worker_right.false)
 
 pub returns : goal.returns
 returns c = passed_all c.loop-w.invariant c.loop-w-test.false

@@ -1,5 +1,5 @@
 -- `soundness::listed::list_follows` meets its contract: where all threads of the list are below n, the marks are the threads in the list.
-use mathlib.Core.Path.{◌≡◌, sym, ◌∙◌}
+use mathlib.Core.Path.{◌≡◌, sym, ◌∙◌, ap}
 use Prim.Native.Nat.{ℕ}
 use mathlib.Core.List.{List}
 use mathlib.Core.Bool.{Bool, true, false, not, ◌&&◌, and-false, and-true}
@@ -34,11 +34,11 @@ module _ (n : ℕ) (status l : List ℕ) (r : Bool) (e : r ≡ below n l) where
 pub returns-then-not-mark_listed : goal.returns-then-not-mark_listed
 returns-then-not-mark_listed c =
     let a = c.args in
-    beyond _ a.status.now (take a.len a.list.now) _ c.mark_listed.ensures.value c.if-not-mark_listed.true
+    beyond _ a.status.now (take a.len a.list.now) _ c.mark_listed.ensures.value (ap not c.if-not-mark_listed.true)
 
 pub returns : goal.returns
 returns c =
     let a = c.args in
     c.marks_right.ensures
-    ∙ within _ a.status.now (take a.len a.list.now) _ c.mark_listed.ensures.value c.if-not-mark_listed.false c.mark_listed.new.1.1.1.0
+    ∙ within _ a.status.now (take a.len a.list.now) _ c.mark_listed.ensures.value (ap not c.if-not-mark_listed.false) c.mark_listed.new.marks
     c.mark_listed.ensures.false_after

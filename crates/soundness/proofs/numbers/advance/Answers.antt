@@ -34,7 +34,8 @@ loop-a-init c = record { within = c.requires.from_le_to.0; numbered = c.requires
 
 pub pass-number-requires : goal.pass-number-requires
 pass-number-requires c =
-    (c.requires.accepted, ready c.args.table.now _ _ _ _ _ c.args.numbers.now _ c.requires.accepted c.loop-a.invariant c.loop-a-test.true c.requires.from_le_to.1)
+    let both = ready c.args.table.now _ _ _ _ _ c.args.numbers.now _ c.requires.accepted c.loop-a.invariant c.loop-a-test.true c.requires.from_le_to.1 in
+    record { accepted = c.requires.accepted; a_bound = both.0; numbers_to = both.1 }
 
 pub overflow_add-a : goal.overflow_add-a
 overflow_add-a c = omega arith

@@ -11,7 +11,7 @@ pub loop-t-init : goal.loop-t-init
 loop-t-init c = numbering_starts _ (accepted_lawful c.requires.accepted) c.args.next.now c.args.numbers.now c.requires.lengths
 
 pub number_thread-first-requires : goal.number_thread-first-requires
-number_thread-first-requires c = let p = c.requires in record { accepted = p.0; placed = p.1.0; t_lt_n = c.loop-t-test.true; numbering = c.loop-t.invariant }
+number_thread-first-requires c = record { accepted = c.requires.accepted; placed = c.requires.placed; t_lt_n = c.loop-t-test.true; numbering = c.loop-t.invariant }
 
 pub overflow_add-t : goal.overflow_add-t
 overflow_add-t c = omega arith

@@ -12,6 +12,7 @@ use Rattle.soundness.specs.Code.Checks.{Accepted, Placed}
 use Rattle.soundness.specs.Code.Order.{NumbersTo, Numbering}
 use Rattle.soundness.proofs.Lookups.{Body, accepted_lawful, thread_below, accepted_body, placed}
 use Rattle.soundness.proofs.Marks.{numbers_owner, numbers_small, numbers_stored, numbering_first, numbering_numbered, numbering_next}
+use Rattle.soundness.proofs.numbers.number_thread.Goals.{Start}
 use Rattle.soundness.proofs.numbers.number_thread.Goals as goal
 
 -- where the thread's body and its next action lie, and how its walk begins
@@ -73,8 +74,8 @@ module _ (s : List ℕ) (n t first : ℕ) (next numbers : List ℕ)
           let v : NumbersTo (table_of s) t (first + count - 1) other (set middle t number) after = rw (own at_next) at w in
           numbering_next (table_of s) lawful next numbers t first p.1.1.1 below number other (first + count) middle after at_next v (rw e)
 
-at_start : (c : goal.Start) → Ready c.args.table.now c.args.n c.args.t c.args.first c.args.next.now c.args.numbers.now
-at_start c = ready c.args.table.now _ _ _ c.args.next.now c.args.numbers.now c.requires
+at_start : (c : Start) → Ready c.args.table.now c.args.n c.args.t c.args.first c.args.next.now c.args.numbers.now
+at_start c = ready c.args.table.now _ _ _ c.args.next.now c.args.numbers.now (c.requires.accepted, (c.requires.placed, (c.requires.t_lt_n, c.requires.numbering)))
 
 pub overflow_add-stop : goal.overflow_add-stop
 overflow_add-stop c = omega (arith, at_start (goal.at.overflow_add-stop c).Start, c.count.ensures.value)
@@ -99,11 +100,12 @@ overflow_cast-start c = omega (arith, at_start (goal.at.overflow_cast-start c).S
 
 pub advance-number-requires : goal.advance-number-requires
 advance-number-requires c =
-    (c.requires.accepted, first_walk c.args.table.now _ _ _ c.args.next.now c.args.numbers.now c.requires)
+    let both = first_walk c.args.table.now _ _ _ c.args.next.now c.args.numbers.now (c.requires.accepted, (c.requires.placed, (c.requires.t_lt_n, c.requires.numbering))) in
+    record { accepted = c.requires.accepted; from_le_to = both.0; numbers_to = both.1 }
 
 pub overflow_cast-numbers : goal.overflow_cast-numbers
 overflow_cast-numbers c =
-    omega (arith, fits c.args.table.now _ _ _ c.args.next.now c.args.numbers.now c.requires _ _ c.advance-number.ensures)
+    omega (arith, fits c.args.table.now _ _ _ c.args.next.now c.args.numbers.now (c.requires.accepted, (c.requires.placed, (c.requires.t_lt_n, c.requires.numbering))) _ _ c.advance-number.ensures)
 
 pub offset_bounds-numbers-t-2 : goal.offset_bounds-numbers-t-2
 offset_bounds-numbers-t-2 c = omega (arith, at_start (goal.at.offset_bounds-numbers-t-2 c).Start)
@@ -115,14 +117,13 @@ pub overflow_sub-stop : goal.overflow_sub-stop
 overflow_sub-stop c = omega (arith, at_start (goal.at.overflow_sub-stop c).Start, c.count.ensures.value)
 
 pub advance-requires : goal.advance-requires
-advance-requires c = (
-  c.requires.accepted,
-  second_walk c.args.table.now _ _ _ c.args.next.now c.args.numbers.now c.requires _ _ c.advance-number.ensures _
-      c.count.ensures.value,
-)
+advance-requires c =
+    let both = second_walk c.args.table.now _ _ _ c.args.next.now c.args.numbers.now (c.requires.accepted, (c.requires.placed, (c.requires.t_lt_n, c.requires.numbering))) _ _ c.advance-number.ensures _
+      c.count.ensures.value in
+    record { accepted = c.requires.accepted; from_le_to = both.0; numbers_to = both.1 }
 
 pub returns : goal.returns
 returns c =
-    done c.args.table.now _ _ _ c.args.next.now c.args.numbers.now c.requires _ _ c.advance-number.ensures _
+    done c.args.table.now _ _ _ c.args.next.now c.args.numbers.now (c.requires.accepted, (c.requires.placed, (c.requires.t_lt_n, c.requires.numbering))) _ _ c.advance-number.ensures _
     c.count.ensures.value
     _ _ c.advance.ensures

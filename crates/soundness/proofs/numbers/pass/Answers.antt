@@ -13,6 +13,7 @@ use Rattle.soundness.specs.Code.Order.{Inside, NumbersTo}
 use Rattle.soundness.proofs.Lookups.{accepted_lawful, code_read, argument_read, fork_code, not_fork}
 use Rattle.soundness.proofs.Spans.{inside_within, inside_fork, child_small}
 use Rattle.soundness.proofs.Marks.{numbers_inside, numbers_small, numbers_step, numbers_fork}
+use Rattle.soundness.proofs.numbers.pass.Goals.{After-argument-c}
 use Rattle.soundness.proofs.numbers.pass.Goals as goal
 
 -- what holds at a fork of thread x
@@ -52,17 +53,17 @@ module _ (s : List ℕ) (n a number : ℕ) (numbers : List ℕ)
       })
 
 pub overflow_add-after : goal.overflow_add-after
-overflow_add-after c = omega (arith, small c.args.table.now _ _ _ c.args.numbers.now c.requires)
+overflow_add-after c = omega (arith, small c.args.table.now _ _ _ c.args.numbers.now (c.requires.accepted, (c.requires.a_bound, c.requires.numbers_to)))
 
 pub returns-then-code-ne-FORK : goal.returns-then-code-ne-FORK
 returns-then-code-ne-FORK c =
-    step c.args.table.now _ _ _ c.args.numbers.now c.requires _ (code_read c.requires.accepted _ c.code.ensures) c.if-code-ne-FORK.true
+    step c.args.table.now _ _ _ c.args.numbers.now (c.requires.accepted, (c.requires.a_bound, c.requires.numbers_to)) _ (code_read c.requires.accepted _ c.code.ensures) c.if-code-ne-FORK.true
 
-at_fork : (c : goal.After-argument-c) → Forked c.args.table.now c.args.a
+at_fork : (c : After-argument-c) → Forked c.args.table.now c.args.a
     c.args.number c.argument-c.result
     c.args.numbers.now
 at_fork c =
-    forked c.args.table.now _ _ _ c.args.numbers.now c.requires _ _ (code_read c.requires.accepted _ c.code.ensures) c.if-code-ne-FORK.false (argument_read c.requires.accepted _ c.argument-c.ensures).value
+    forked c.args.table.now _ _ _ c.args.numbers.now (c.requires.accepted, (c.requires.a_bound, c.requires.numbers_to)) _ _ (code_read c.requires.accepted _ c.code.ensures) c.if-code-ne-FORK.false (argument_read c.requires.accepted _ c.argument-c.ensures).value
 
 pub bounds-numbers-c : goal.bounds-numbers-c
 bounds-numbers-c c = (at_fork (goal.at.bounds-numbers-c c).After-argument-c).below

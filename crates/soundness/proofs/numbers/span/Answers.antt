@@ -13,6 +13,7 @@ use Rattle.soundness.specs.Code.Checks.{Accepted, Lengths}
 use Rattle.soundness.specs.Code.Order.{Inside}
 use Rattle.soundness.proofs.Lookups.{accepted_lawful, code_read, argument_read, fork_code, not_fork}
 use Rattle.soundness.proofs.Spans.{inside_fork, span_step, span_fork, child_small}
+use Rattle.soundness.proofs.numbers.span.Goals.{After-argument}
 use Rattle.soundness.proofs.numbers.span.Goals as goal
 
 -- what holds at a fork of thread x
@@ -43,12 +44,12 @@ module _ (s : List ℕ) (n a : ℕ) (lengths : List ℕ)
 
 pub returns-then-code-ne-FORK : goal.returns-then-code-ne-FORK
 returns-then-code-ne-FORK c =
-    alone c.args.table.now _ _ c.args.lengths.now c.requires _ (code_read c.requires.accepted _ c.code.ensures) c.if-code-ne-FORK.true
+    alone c.args.table.now _ _ c.args.lengths.now (c.requires.accepted, (c.requires.inside, c.requires.lengths)) _ (code_read c.requires.accepted _ c.code.ensures) c.if-code-ne-FORK.true
 
-at_fork : (c : goal.After-argument) → Forked c.args.table.now c.args.a c.argument.result
+at_fork : (c : After-argument) → Forked c.args.table.now c.args.a c.argument.result
     c.args.lengths.now
 at_fork c =
-    forked c.args.table.now _ _ c.args.lengths.now c.requires _ _ (code_read c.requires.accepted _ c.code.ensures) c.if-code-ne-FORK.false (argument_read c.requires.accepted _ c.argument.ensures).value
+    forked c.args.table.now _ _ c.args.lengths.now (c.requires.accepted, (c.requires.inside, c.requires.lengths)) _ _ (code_read c.requires.accepted _ c.code.ensures) c.if-code-ne-FORK.false (argument_read c.requires.accepted _ c.argument.ensures).value
 
 pub bounds-lengths-argument : goal.bounds-lengths-argument
 bounds-lengths-argument c = (at_fork (goal.at.bounds-lengths-argument c).After-argument).below

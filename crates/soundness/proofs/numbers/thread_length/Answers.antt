@@ -57,7 +57,8 @@ loop-a-init c =
 
 pub span-total-requires : goal.span-total-requires
 span-total-requires c =
-    (c.requires.accepted, inside c.args.table.now _ _ _ _ c.loop-a.invariant _ c.args.lengths.now c.requires c.loop-a-test.true)
+    let both = inside c.args.table.now _ _ _ _ c.loop-a.invariant _ c.args.lengths.now (c.requires.accepted, (c.requires.t_lt_n, c.requires.lengths)) c.loop-a-test.true in
+    record { accepted = c.requires.accepted; inside = both.0; lengths = both.1 }
 
 pub overflow_add-total : goal.overflow_add-total
 overflow_add-total c = omega (arith, c.loop-a.invariant, c.span-total.ensures)

@@ -2,6 +2,7 @@
 use mathlib.Core.Path.{◌≡◌, refl, ap, ◌∙◌}
 use Prim.Native.Nat.{ℕ}
 use mathlib.Core.List.{List}
+use borrow.Author.Rules.{rules}
 use lib.ListN.{length}
 use Rattle.table.specs.Format.{table_of}
 use Rattle.schedule.specs.Sound.{shares_in}
@@ -22,7 +23,7 @@ clear_joined-requires c = record { accepted = c.requires.accepted; status_value 
 
 pub same_amounts-requires : goal.same_amounts-requires
 same_amounts-requires c =
-    (c.same_amounts-arg-1.given.0, sized c.requires.accepted c.args.next.now c.args.status.now _ c.clear_joined.ensures)
+    (search rules, sized c.requires.accepted c.args.next.now c.args.status.now _ c.clear_joined.ensures)
 
 pub returns : goal.returns
 returns c =

@@ -15,6 +15,7 @@ use Rattle.order.specs.Words.{filled, same_list}
 use Rattle.soundness.specs.Code.Checks.{copy_sound}
 use Rattle.soundness.proofs.Chains.{cut, pass, never}
 use borrow.Author.Rules.{rules}
+use Rattle.soundness.proofs.sound.copy_sound.Goals.{Start}
 use Rattle.soundness.proofs.sound.copy_sound.Goals as goal
 
 -- more than the array has cannot be taken
@@ -34,7 +35,7 @@ module _ (r : Run) (z : length r.table ≡ 36868) where
   all_right : r.length ≤ 36868 → {t : Bool} → t ≡ same_list r.table (filled (length r.table) (bytes_of r)) → t ≡ copy_sound r
   all_right a x = pass (enough r.length 36868 r.table z a) (x ∙ ap (λ (k : ℕ). same_list r.table (filled k (bytes_of r))) z)
 
-table_size : (c : goal.Start) → length c.args.run.table ≡ 36868
+table_size : (c : Start) → length c.args.run.table ≡ 36868
 table_size c = search rules
 
 pub returns-then-length-gt36868 : goal.returns-then-length-gt36868

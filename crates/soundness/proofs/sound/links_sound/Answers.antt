@@ -39,8 +39,8 @@ list_sound-requires c = let right = c.args.right.now in
 
 pub returns-then-not-list_sound : goal.returns-then-not-list_sound
 returns-then-not-list_sound c =
-    not_listed _ _ _ c.args.left.now c.args.right.now c.args.leftmost c.read_row-len.ensures.value c.read_row-len.ensures.row_after c.list_sound.ensures c.if-not-list_sound.true
+    not_listed _ _ _ c.args.left.now c.args.right.now c.args.leftmost c.read_row-len.ensures.value c.read_row-len.ensures.row_after c.list_sound.ensures (ap not c.if-not-list_sound.true)
 
 pub returns : goal.returns
 returns c =
-    by_links _ _ _ c.args.left.now c.args.right.now c.args.leftmost c.read_row-len.ensures.value c.read_row-len.ensures.row_after c.list_sound.ensures c.if-not-list_sound.false c.describe.ensures
+    by_links _ _ _ c.args.left.now c.args.right.now c.args.leftmost c.read_row-len.ensures.value c.read_row-len.ensures.row_after c.list_sound.ensures (ap not c.if-not-list_sound.false) c.describe.ensures

@@ -1,8 +1,8 @@
 -- `soundness::sound::sound` meets its contract: a record is sound where its parts are and its table is a copy of the bytes in use.
-use mathlib.Core.Path.{◌≡◌, sym, ◌∙◌}
+use mathlib.Core.Path.{◌≡◌, sym, ◌∙◌, ap}
 use Prim.Native.Nat.{ℕ, ◌≤◌}
 use mathlib.Core.List.{List}
-use mathlib.Core.Bool.{Bool, true, false}
+use mathlib.Core.Bool.{Bool, true, false, not}
 use native.Mathlib.Omega.{arith}
 use borrow.Author.Rules.{rules}
 use borrow.Author.Tests.{not-false}
@@ -16,6 +16,7 @@ use Rattle.soundness.specs.Code.Checks.{copy_sound}
 use Rattle.soundness.specs.Tested.{parents_if, sound_on}
 use Rattle.soundness.proofs.Chains.{off, on, skip, last}
 use Rattle.soundness.proofs.OnParts.{sound_is}
+use Rattle.soundness.proofs.sound.sound.Goals.{Else-not-copy_sound, Start}
 use Rattle.soundness.proofs.sound.sound.Goals as goal
 
 module _ (r : Run) where
@@ -35,14 +36,14 @@ module _ (r : Run) where
       let k : q ≡ sound r = last parts h e ∙ sym (sound_is r) in
       rw (d, k)
 
-table_size : (c : goal.Start) → length c.args.run.table ≡ 36868
+table_size : (c : Start) → length c.args.run.table ≡ 36868
 table_size c = search rules
 
-bounds : (c : goal.Else-not-copy_sound) → c.args.run.length ≤ 36868
-bounds c = c.copy_sound.ensures.length_bound (not-false _ c.if-not-copy_sound.false)
+bounds : (c : Else-not-copy_sound) → c.args.run.length ≤ 36868
+bounds c = c.copy_sound.ensures.length_bound (not-false _ (ap not c.if-not-copy_sound.false))
 
 pub returns-then-not-copy_sound : goal.returns-then-not-copy_sound
-returns-then-not-copy_sound c = no_copy _ (off c.copy_sound.ensures.value c.if-not-copy_sound.true)
+returns-then-not-copy_sound c = no_copy _ (off c.copy_sound.ensures.value (ap not c.if-not-copy_sound.true))
 
 pub slice_bounds-table-end : goal.slice_bounds-table-end
 slice_bounds-table-end c =
@@ -53,4 +54,4 @@ slice_bounds-bytes-end c = sym (length-take-le _ _ (array_share_prefix_table c))
 
 pub returns : goal.returns
 returns c =
-    by_parts c.args.run (on c.copy_sound.ensures.value c.if-not-copy_sound.false) c.test_in-passed.ensures.value c.test_in-passed.ensures.parents_after
+    by_parts c.args.run (on c.copy_sound.ensures.value (ap not c.if-not-copy_sound.false)) c.test_in-passed.ensures.value c.test_in-passed.ensures.parents_after

@@ -2,7 +2,7 @@
 use mathlib.Core.Path.{◌≡◌, ap, sym, ◌∙◌}
 use Prim.Native.Nat.{ℕ, ◌<◌}
 use mathlib.Core.List.{List}
-use mathlib.Core.Bool.{Bool, true, false, ◌&&◌, and_assoc}
+use mathlib.Core.Bool.{Bool, true, false, ◌&&◌, and_assoc, not}
 use native.Mathlib.Omega.{arith}
 use borrow.Author.Rules.{rules}
 use borrow.Author.Tests.{lt-ltb, le-ltb}
@@ -22,6 +22,7 @@ use Rattle.schedule.proofs.Sound.Tests.{common_exactly}
 use Rattle.soundness.specs.Code.Checks.{Accepted, Placed, links_sound}
 use Rattle.soundness.specs.Tested.{parents_in, parents_if, sound_on}
 use Rattle.soundness.proofs.Chains.{off, on, cut, skip, last, pass, first_of, second_of, never}
+use Rattle.soundness.proofs.sound.sound_parts.Goals.{Start}
 use Rattle.soundness.proofs.sound.sound_parts.Goals as goal
 
 module _ (s : List ℕ) (p K : ℕ) (next status amounts : List ℕ) (workers : List Worker) (set amount highest : ℕ) where
@@ -73,18 +74,18 @@ module _ (s : List ℕ) (p K : ℕ) (next status amounts : List ℕ) (workers : 
         let e : n ≡ (table_of s).threads = a in
         (record { rules = (passes_rules s).0 no_check; threads = a }, rw e placed)
 
-turns_fit : (c : goal.Start) → c.args.turns < 18446744073709551616
+turns_fit : (c : Start) → c.args.turns < 18446744073709551616
 turns_fit c = search rules
 
 pub returns-then-not-common : goal.returns-then-not-common
-returns-then-not-common c = let k = c.test_common-common.ensures in record { value = not_shared _ _ _ _ _ _ _ _ _ _ _ _ (off k.0 c.if-not-common.true); parents_after = never; rises_after = (k.1.1.0, k.1.1.1) }
+returns-then-not-common c = let k = c.test_common-common.ensures in record { value = not_shared _ _ _ _ _ _ _ _ _ _ _ _ (off k.0 (ap not c.if-not-common.true)); parents_after = never; rises_after = (k.1.1.0, k.1.1.1) }
 
 pub returns-then-turns-eq18446744073709551615 : goal.returns-then-turns-eq18446744073709551615
 returns-then-turns-eq18446744073709551615 c = let k = c.test_common-common.ensures in record { value = last_turn _ _ _ _ _ _ _ _ _ _ _ _ c.if-turns-eq18446744073709551615.true; parents_after = never; rises_after = (k.1.1.0, k.1.1.1) }
 
 pub links_sound-requires : goal.links_sound-requires
-links_sound-requires c = let both = known _ _ _ _ _ _ _ _ _ _ (on c.test_common-common.ensures.value c.if-not-common.false) c.threads-n.ensures.value in record { accepted = both.0; placed = both.1 }
+links_sound-requires c = let both = known _ _ _ _ _ _ _ _ _ _ (on c.test_common-common.ensures.value (ap not c.if-not-common.false)) c.threads-n.ensures.value in record { accepted = both.0; placed = both.1 }
 
 pub returns : goal.returns
 returns c = let k = c.test_common-common.ensures in
-    let h = on k.0 c.if-not-common.false in record { value = all_sound _ _ _ _ _ _ _ _ _ _ _ _ h c.links_sound.ensures c.if-turns-eq18446744073709551615.false (turns_fit (goal.at.returns c).Start); parents_after = (λ q. its_parents _ _ _ _ _ _ _ _ _ _ h k.1.0); rises_after = (k.1.1.0, k.1.1.1) }
+    let h = on k.0 (ap not c.if-not-common.false) in record { value = all_sound _ _ _ _ _ _ _ _ _ _ _ _ h c.links_sound.ensures c.if-turns-eq18446744073709551615.false (turns_fit (goal.at.returns c).Start); parents_after = (λ q. its_parents _ _ _ _ _ _ _ _ _ _ h k.1.0); rises_after = (k.1.1.0, k.1.1.1) }
