@@ -1,14 +1,14 @@
 -- The bodies that a table has.
-use Prim.Native.Nat.{ℕ, zero, suc, ◌+◌, ◌≤◌, ◌<◌}
+use Prim.Native.Nat.{ℕ, zero, suc, ◌+◌, ◌<◌}
 use native.Mathlib.Omega.{arith}
 use mathlib.Core.Path.{◌≡◌, refl, ap}
-use mathlib.Core.List.{List, [], ◌∷◌, flatten}
+use mathlib.Core.List.{[], flatten}
 use lib.ListN.{length, get_or, length-append}
 use Rattle.table.specs.Sum.{sum_to}
 use Rattle.table.specs.Format.{Table}
 use Rattle.table.specs.Checks.{counts_below}
 use Rattle.table.specs.Rules.{ContentRules}
-use Rattle.table.specs.Written.{Action, body_in}
+use Rattle.table.specs.Written.{body_in}
 use Rattle.table.proofs.Bodies.{counts_all}
 use Rattle.parts.specs.Joined.{bodies_from, bodies_in}
 use Rattle.parts.proofs.Built.{from_length}

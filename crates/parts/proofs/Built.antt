@@ -3,16 +3,15 @@ use Prim.Native.Nat.{ℕ, zero, suc, ◌+◌, ◌≤◌, ◌<◌}
 use native.Mathlib.Omega.{arith}
 use mathlib.Core.Path.{◌≡◌, refl, sym, ap, ◌∙◌}
 use mathlib.Core.List.{List, [], ◌∷◌, ◌++◌, map, flatten, append-nil}
-use mathlib.Core.Bool.{Bool, true, false}
 use borrow.Author.Tests.{eq-eqb, ne_eqb}
-use lib.ListN.{length, get_or, take, drop, length-append}
+use lib.ListN.{length, get_or, take, length-append}
 use lib.Seq.{take-suc, take-length}
 use Rattle.table.specs.Sum.{sum_to}
-use Rattle.table.specs.Format.{Table, kind_of}
+use Rattle.table.specs.Format.{Table}
 use Rattle.table.specs.Checks.{entry_wrong, total_wrong, counts_below}
 use Rattle.table.specs.Rules.{ContentRules}
 use Rattle.table.specs.Written.{Action, action_at, actions_from, body_in}
-use Rattle.parts.specs.Copies.{Copies, renamed, renamed_action}
+use Rattle.parts.specs.Copies.{Copies, renamed_action}
 use Rattle.table.proofs.ReadBack.{Reads, none, body_at}
 
 pub flatten_append : (l r : List (List Action)) → flatten (l ++ r) ≡ flatten l ++ flatten r

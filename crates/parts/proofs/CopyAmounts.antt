@@ -1,14 +1,14 @@
 -- Amounts of a copy: allocs and frees, action by action, of whole threads, and the peak.
-use Prim.Native.Nat.{ℕ, zero, suc, ◌+◌, ◌-◌, ◌≤◌, ◌<◌, max}
+use Prim.Native.Nat.{ℕ, ◌+◌, ◌<◌}
 use native.Mathlib.Omega.{arith}
-use mathlib.Core.Path.{◌≡◌, refl, sym, ap, ◌∙◌}
+use mathlib.Core.Path.{◌≡◌, refl}
 use mathlib.Core.List.Memᴰ
 use mathlib.Core.List.{List, [], ◌∷◌, map, Memᴰ}
 use mathlib.Core.Bool.{Bool, true, false}
 use mathlib.Core.Logic.{⊎_elim}
 use Rattle.table.specs.Sum.{pick, sum_over, greatest}
 use Rattle.table.specs.Format.{Kind, alloc, free, is, Table, kind}
-use Rattle.table.specs.Checks.{alloc_of, free_of, whole}
+use Rattle.table.specs.Checks.{alloc_of, free_of}
 use Rattle.table.specs.Rules.{ContentRules, BodyRules}
 use Rattle.table.specs.Serial.{serial, fronts, held_after, peak_of}
 use Rattle.table.proofs.Tests.{is_true}

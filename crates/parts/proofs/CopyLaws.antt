@@ -1,20 +1,17 @@
 -- What a copy of a table inside another carries over: serial order, levels, open children, nested levels, amounts.
-use Prim.Native.Nat.{ℕ, zero, suc, pred, ◌+◌, ◌-◌, ◌≤◌, ◌<◌, max}
+use Prim.Native.Nat.{ℕ, zero, suc, ◌+◌, ◌-◌, ◌<◌, max}
 use native.Mathlib.Omega.{arith}
 use mathlib.Core.Path.{◌≡◌, refl, sym, ap, ◌∙◌}
 use mathlib.Core.List.{List, [], ◌∷◌, ◌++◌, map}
 use mathlib.Core.Bool.{Bool, true, false}
-use Rattle.table.specs.Sum.{pick, sum_to}
-use Rattle.table.specs.Format.{Kind, end, work, alloc, free, fork, join, unknown, is, Table, kind}
-use Rattle.table.specs.Checks.{owner, end_of, open_before, alloc_of, with_child, whole, part_of}
+use Rattle.table.specs.Format.{end, fork, join, is, Table, kind}
+use Rattle.table.specs.Checks.{owner, end_of}
 use Rattle.table.specs.Rules.{ContentRules, BodyRules, NestRules, ForkRules}
 use Rattle.table.specs.Serial.{serial}
 use Rattle.table.specs.Level.{level}
-use Rattle.table.specs.Nested.{nest}
-use Rattle.table.proofs.Sums.{sum_to_cong}
 use Rattle.table.proofs.Tests.{is_true, fork_no_end}
-use Rattle.table.proofs.Bodies.{owner_at, owner_below_lem, owner_first, owner_end, owner_of_first, owner_of_end, body_within, after_end, first_within, count_pos, next_owner, next_within, fork_below_lem, join_below, end_within}
-use Rattle.table.proofs.Serial.{serial_end, serial_fork, serial_step, serial_induction, child_within}
+use Rattle.table.proofs.Bodies.{owner_at, owner_below_lem, owner_first, owner_end, owner_of_first, owner_of_end, body_within, after_end, count_pos, next_owner, next_within, fork_below_lem, join_below, end_within}
+use Rattle.table.proofs.Serial.{serial_end, serial_fork, serial_step, serial_induction}
 use Rattle.table.proofs.Rank.{rank, rank_child, rank_rises, rank_join}
 use Rattle.table.proofs.Levels.{by_place, level_root, level_child, level_step, level_join}
 use Rattle.parts.specs.Copies.{renamed, Copies, place_of}

@@ -1,17 +1,16 @@
 -- Open children, amounts and nested levels of a copy, and the rules of its actions.
-use Prim.Native.Nat.{ℕ, zero, suc, pred, ◌+◌, ◌-◌, ◌≤◌, ◌<◌}
-use native.Mathlib.Nat.{add-zero, add-suc}
+use Prim.Native.Nat.{ℕ, zero, suc, ◌+◌, ◌≤◌, ◌<◌}
 use native.Mathlib.Omega.{arith}
-use mathlib.Core.Path.{◌≡◌, refl, sym, ap, ◌∙◌}
-use mathlib.Core.List.{List, [], ◌∷◌, ◌++◌, map}
+use mathlib.Core.Path.{◌≡◌, refl, ◌∙◌}
+use mathlib.Core.List.{List, [], ◌∷◌, map}
 use mathlib.Core.Bool.{Bool, true, false}
-use Rattle.table.specs.Sum.{pick, sum_to}
-use Rattle.table.specs.Format.{Kind, end, work, alloc, free, fork, join, unknown, is, code_of, Table, kind}
-use Rattle.table.specs.Checks.{owner, end_of, tail, opened, open_before, with_child, whole, part_of}
+use Rattle.table.specs.Sum.{sum_to}
+use Rattle.table.specs.Format.{Kind, end, work, alloc, free, fork, join, unknown, is, Table, kind}
+use Rattle.table.specs.Checks.{owner, tail, opened, open_before, with_child, whole, part_of}
 use Rattle.table.specs.Rules.{ContentRules, BodyRules, NestRules, ForkRules}
 use Rattle.table.specs.Nested.{nest}
 use Rattle.table.proofs.Sums.{sum_to_cong}
-use Rattle.table.proofs.Tests.{is_true, fork_no_end}
+use Rattle.table.proofs.Tests.{is_true}
 use Rattle.table.proofs.Serial.{downward}
 use Rattle.table.proofs.Bodies.{first_is, first_next, after_end, end_kind, owner_at, join_above, join_below, fork_above, owner_below_lem}
 use Rattle.table.proofs.Amounts.{whole_is, action_within}

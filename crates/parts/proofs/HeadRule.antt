@@ -1,15 +1,14 @@
 -- The head of what is written: checks 1 to 3.
-use Prim.Native.Nat.{ℕ, zero, suc, ◌+◌, ◌*◌, ◌≤◌, ◌<◌}
+use Prim.Native.Nat.{◌+◌, ◌*◌, ◌≤◌, ◌<◌}
 use native.Mathlib.Omega.{arith}
-use mathlib.Core.Path.{◌≡◌, refl, sym, ap, ◌∙◌}
+use mathlib.Core.Path.{◌≡◌}
 use mathlib.Core.List.{List, flatten}
 use lib.ListN.{length}
 use borrow.Author.Tests.{le-ltb, eq-eqb}
 use Rattle.table.specs.Format.{threads_of, actions_of, table_of}
-use Rattle.table.specs.Rules.{HeadRules, Rules}
+use Rattle.table.specs.Rules.{HeadRules}
 use Rattle.table.specs.Load.{loaded, facts_of}
-use Rattle.table.specs.declared.Loaded.{Loaded}
-use Rattle.table.specs.declared.Loaded.TheVariants.{Accepted, Refused}
+use Rattle.table.specs.declared.Loaded.TheVariants.{Accepted}
 use Rattle.table.proofs.Passes.{accepted_exactly}
 use Rattle.table.specs.Written.{Action, written}
 use Rattle.parts.specs.Kept.{Keeps}

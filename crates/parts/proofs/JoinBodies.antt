@@ -2,20 +2,20 @@
 use Prim.Native.Nat.{ℕ, zero, suc, ◌+◌, ◌-◌, ◌*◌, ◌≤◌, ◌<◌}
 use native.Mathlib.Omega.{arith}
 use native.Mathlib.Decide.{dec_lt}
-use mathlib.Core.Path.{◌≡◌, refl, sym, ap, ◌∙◌}
+use mathlib.Core.Path.{◌≡◌, refl, ap, ◌∙◌}
 use mathlib.Core.List.{List, [], ◌∷◌, ◌++◌, map, flatten}
 use lib.ListN.{length, get_or, length-append, get_or-append}
-use lib.Seq.{get_or-append-add, get_or-append_seam, ext_get_or}
-use Rattle.table.specs.Format.{Kind, end, fork, join, kind_of, Table, kind, table_of}
+use lib.Seq.{get_or-append-add, get_or-append_seam}
+use Rattle.table.specs.Format.{kind_of, Table}
 use Rattle.table.specs.Rules.{ContentRules}
-use Rattle.table.specs.Written.{Action, action_at, actions_from, body_in, written}
-use Rattle.parts.specs.Copies.{Copies, renamed_action}
+use Rattle.table.specs.Written.{Action, body_in}
+use Rattle.parts.specs.Copies.{renamed_action}
 use Rattle.parts.specs.Kept.{Keeps}
 use Rattle.parts.specs.Joined.{offsets, forks, joins_back, root_body, part_bodies, joined_bodies}
-use Rattle.table.proofs.ReadBack.{Reads, none, read_back, body_at}
+use Rattle.table.proofs.ReadBack.{Reads, none}
 use Rattle.parts.proofs.Built.{Placed, built_contents, placed_copies, flatten_append, from_length, body_inside}
 use Rattle.parts.proofs.PartsPlaced.{threads_before, map_length, map_at, part_at}
-use Rattle.parts.proofs.JoinShape.{Shape, shape_keeps}
+use Rattle.parts.proofs.JoinShape.{Shape}
 use Rattle.table.proofs.Bodies.{count_pos}
 
 -- a list of bodies that are the table's

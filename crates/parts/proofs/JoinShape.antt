@@ -1,20 +1,18 @@
 -- A table that is several parts under a new root: the shape, and the rules that it keeps.
-use Prim.Native.Nat.{ℕ, zero, suc, pred, ◌+◌, ◌-◌, ◌*◌, ◌≤◌, ◌<◌}
+use Prim.Native.Nat.{ℕ, zero, suc, ◌+◌, ◌-◌, ◌*◌, ◌≤◌, ◌<◌}
 use native.Mathlib.Omega.{arith}
 use native.Mathlib.Decide.{dec_lt}
 use mathlib.Core.Path.{◌≡◌, refl, sym, ap, ◌∙◌}
 use mathlib.Core.List.{List, [], ◌∷◌}
 use mathlib.Core.Bool.{Bool, true, false, not, ◌&&◌}
-use mathlib.Core.Logic.{◌⊎◌, inl, inr}
-use lib.Dec.{eqb, ltb}
 use borrow.Author.Tests.{eq-eqb, lt-ltb, ne_eqb, le-ltb}
-use Rattle.table.specs.Sum.{pick, sum_to, any_below}
-use Rattle.table.specs.Format.{Kind, end, alloc, free, fork, join, is, code_of, Table, kind}
-use Rattle.table.specs.Checks.{owner, end_of, kind_unknown, argument_fits, argument_wrong, end_misplaced, forks, forked_below, forked_before, never_forked, opened, open_before, join_not_latest, end_with_open, alloc_of, free_of, with_child, whole, part_of, balance, balance_below0}
+use Rattle.table.specs.Sum.{sum_to, any_below}
+use Rattle.table.specs.Format.{end, fork, join, is, code_of, Table, kind}
+use Rattle.table.specs.Checks.{owner, end_of, kind_unknown, argument_wrong, end_misplaced, forks, forked_below, forked_before, never_forked, open_before, join_not_latest, end_with_open, alloc_of, free_of, with_child, whole, balance, balance_below0}
 use Rattle.table.specs.Rules.{ContentRules, BodyRules, NestRules, ForkRules, BalanceRules}
 use Rattle.table.proofs.Tests.{no_way, is_true, negative_is}
 use Rattle.table.proofs.Sums.{sum_to_le}
-use Rattle.table.proofs.Bodies.{first_is, count_pos, body_within, owner_at, owner_is, owner_below_lem, owner_first, owner_end, after_end, fork_above, join_above, fork_below_lem}
+use Rattle.table.proofs.Bodies.{first_is, body_within, owner_at, owner_is, owner_below_lem, owner_first, owner_end, after_end, fork_above, join_above, fork_below_lem}
 use Rattle.table.proofs.Amounts.{action_within}
 use Rattle.table.proofs.Nesting.{any_below_true, some_any_below, forks_true, fork_forks, fork_once, fork_exists}
 use Rattle.table.proofs.Peaks.{whole_held}

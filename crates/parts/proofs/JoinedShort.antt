@@ -1,18 +1,17 @@
 -- What is joined has arguments of 24 bits.
 use Prim.Native.Nat.{ℕ, zero, suc, ◌+◌, ◌≤◌, ◌<◌}
 use native.Mathlib.Omega.{arith}
-use mathlib.Core.Path.{◌≡◌, refl}
+use mathlib.Core.Path.{◌≡◌}
 use mathlib.Core.List.{List, [], ◌∷◌, ◌++◌, map, flatten}
 use lib.ListN.{length}
 use Rattle.table.specs.Format.{Table}
 use Rattle.table.specs.Rules.{ContentRules, BodyRules}
-use Rattle.table.specs.Written.{Action, body_in}
+use Rattle.table.specs.Written.{body_in}
 use Rattle.parts.specs.Copies.{renamed_action}
 use Rattle.parts.specs.Kept.{Keeps}
 use Rattle.parts.specs.Joined.{bodies_from, bodies_in, offsets, forks, joins_back, root_body, part_bodies, joined_bodies}
 use Rattle.parts.proofs.Built.{flatten_append}
 use Rattle.parts.proofs.Short.{Short, ShortActions, short_append, body_short}
-use Rattle.parts.proofs.JoinBodies.{Bodied}
 use Rattle.parts.proofs.BodiesIn.{bodied_in}
 
 bodies_short : (T : Table) → ContentRules T → BodyRules T → Short T → (f : ℕ → ℕ) → ((t : ℕ) → t < T.threads → f t < 16777216) → (k t : ℕ) → t + k ≤ T.threads

@@ -1,17 +1,16 @@
 -- Forks and joins that are well bracketed, each around those of the parts after it: the levels.
-use Prim.Native.Nat.{ℕ, zero, suc, ◌+◌, ◌*◌, ◌≤◌, ◌<◌, max}
+use Prim.Native.Nat.{ℕ, suc, ◌+◌, ◌*◌, ◌<◌, max}
 use native.Mathlib.Omega.{arith}
-use mathlib.Core.Path.{◌≡◌, refl, sym, ap, ◌∙◌}
+use mathlib.Core.Path.{◌≡◌}
 use mathlib.Core.List.{List, [], ◌∷◌}
-use mathlib.Core.Bool.{Bool, true, false}
+use mathlib.Core.Bool.{false}
 use lib.ListN.{length}
-use Rattle.table.specs.Format.{Kind, end, fork, join, is, code_of, Table, kind}
+use Rattle.table.specs.Format.{end, fork, join, is, code_of, Table, kind}
 use Rattle.table.specs.Checks.{end_of}
 use Rattle.table.specs.Rules.{ContentRules, BodyRules, NestRules, ForkRules}
 use Rattle.table.specs.Level.{level}
 use Rattle.table.proofs.Tests.{fork_no_end}
-use Rattle.table.proofs.Bodies.{first_within}
-use Rattle.table.proofs.Levels.{level_root, level_child, level_step, level_join}
+use Rattle.table.proofs.Levels.{level_child, level_step, level_join}
 use Rattle.parts.specs.Joined.{deepest}
 
 -- the level of the last join, where the action before the first fork has level k and the parts have these depths

@@ -1,20 +1,20 @@
 -- The rules that look at one thread's body pass from a table to its copy.
-use Prim.Native.Nat.{ℕ, zero, suc, pred, ◌+◌, ◌-◌, ◌≤◌, ◌<◌}
+use Prim.Native.Nat.{ℕ, suc, ◌+◌, ◌-◌, ◌<◌}
 use native.Mathlib.Omega.{arith}
-use mathlib.Core.Path.{◌≡◌, refl, sym, ap, ◌∙◌}
-use mathlib.Core.List.{List, [], ◌∷◌, ◌++◌, map}
+use mathlib.Core.Path.{◌≡◌, refl, ap}
+use mathlib.Core.List.{List, [], ◌∷◌, map}
 use mathlib.Core.Bool.{Bool, true, false, not, ◌&&◌}
-use lib.Dec.{eqb, ltb, leb}
+use lib.Dec.{eqb}
 use borrow.Author.Tests.{eqb-true, eqb-false, eq-eqb, ne_eqb, lt-ltb, not-false}
 use Rattle.table.specs.Sum.{pick}
 use Rattle.table.specs.Format.{Kind, end, work, alloc, free, fork, join, unknown, is, Table, kind}
-use Rattle.table.specs.Checks.{owner, end_of, kind_unknown, argument_fits, argument_wrong, differ, end_misplaced, is_latest, is_empty, open_before, join_not_latest, end_with_open, alloc_of, free_of, part_of, up_to, balance, balance_below0}
+use Rattle.table.specs.Checks.{owner, end_of, kind_unknown, argument_fits, argument_wrong, end_misplaced, is_latest, is_empty, open_before, join_not_latest, end_with_open, alloc_of, free_of, balance, balance_below0}
 use Rattle.table.specs.Rules.{ContentRules, BodyRules, NestRules, BalanceRules}
-use Rattle.table.proofs.Tests.{is_true, and_both}
-use Rattle.table.proofs.Bodies.{owner_at, after_end, count_pos, fork_above, join_above, fork_below_lem, join_below}
+use Rattle.table.proofs.Tests.{is_true}
+use Rattle.table.proofs.Bodies.{owner_at, after_end, fork_below_lem, join_below}
 use Rattle.table.proofs.Amounts.{action_within}
 use Rattle.parts.specs.Copies.{renamed, Copies}
-use Rattle.parts.proofs.CopyRules.{same_kind, copy_open, copy_part}
+use Rattle.parts.proofs.CopyRules.{copy_open, copy_part}
 
 latest_map : (f : ℕ → ℕ) (x : ℕ) (l : List ℕ) → is_latest x l ≡ true → is_latest (f x) (map f l) ≡ true
 latest_map f x [] h = h

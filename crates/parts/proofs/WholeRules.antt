@@ -2,12 +2,11 @@
 use Prim.Native.Nat.{ℕ, zero, suc, ◌+◌, ◌-◌, ◌≤◌, ◌<◌}
 use native.Mathlib.Omega.{arith}
 use mathlib.Core.Path.{◌≡◌, refl, sym, ap, ◌∙◌}
-use mathlib.Core.Bool.{Bool, true, false, not, ◌&&◌}
-use lib.Dec.{eqb}
-use Rattle.table.specs.Format.{Kind, fork, join, is, Table, kind}
+use mathlib.Core.Bool.{Bool, true, false, ◌&&◌}
+use Rattle.table.specs.Format.{fork, join, is, Table, kind}
 use Rattle.table.specs.Checks.{owner, forks, forked_below, forked_before, never_forked}
 use Rattle.table.specs.Rules.{ContentRules, BodyRules, NestRules, ForkRules, BalanceRules}
-use Rattle.table.proofs.Tests.{no_way, is_true, and_both}
+use Rattle.table.proofs.Tests.{is_true}
 use Rattle.table.proofs.Bodies.{owner_below_lem, owner_first, owner_end, fork_above, fork_below_lem}
 use Rattle.table.proofs.Amounts.{action_within}
 use Rattle.table.proofs.Nesting.{any_below_true, some_any_below, forks_true, fork_forks, fork_once, fork_exists}

@@ -1,6 +1,5 @@
 -- A table that stands inside another under other thread numbers.
-use Rattle.std.specs.Prelude.{◌≡◌, ℕ, ◌+◌, ◌-◌, ◌<◌, Bool, true, false}
-use Rattle.table.specs.Sum.{pick}
+use Rattle.std.specs.Prelude.{◌≡◌, ℕ, ◌+◌, ◌-◌, ◌<◌}
 use Rattle.table.specs.Format.{Kind, end, work, alloc, free, fork, join, unknown, Table, kind, kind_of}
 use Rattle.table.specs.Checks.{owner}
 use Rattle.table.specs.Written.{Action}
