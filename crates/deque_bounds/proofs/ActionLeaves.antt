@@ -168,8 +168,8 @@ module _ (T : Table) (l : Lawful T) (p K : ℕ) (few : p ≤ 16) (w : ℕ) (belo
       }
 
   -- it goes on with its thread
-  goes_on : (r : Reply) (s : State) → s.next ≡ set st.next t (suc a) → Acted T K w t a q st r s → r ≡ Done t a → s.status ≡ st.status → (worker_of s w).holds ≡ true → (kind T a ≡ fork → ⊥) → Goes (over s ds)
-  goes_on r s nx y e i o n =
+  goes_on_lem : (r : Reply) (s : State) → s.next ≡ set st.next t (suc a) → Acted T K w t a q st r s → r ≡ Done t a → s.status ≡ st.status → (worker_of s w).holds ≡ true → (kind T a ≡ fork → ⊥) → Goes (over s ds)
+  goes_on_lem r s nx y e i o n =
       let (z1, z2, z3) = y.keeps o in
       stays
       (moved r s s y refl (λ d. refl) (λ v j. refl) (omega (arith, z3)) (λ c v. inl (subst (λ (m : List ℕ). LiveIn m c) i v)) (λ u v. inl (subst (λ (m : List ℕ). get_or m u 0 ≡ waiting) i v))
@@ -178,18 +178,18 @@ module _ (T : Table) (l : Lawful T) (p K : ℕ) (few : p ≤ 16) (w : ℕ) (belo
 
   by_work_lem : kind T a ≡ work → Goes (after_of work (act_by work T K w t a x st))
   unfolding act_by
-  by_work_lem e = rw h (goes_on (Done t a) _ refl (acted_by work e) refl refl h (λ z. no_way cc))
+  by_work_lem e = rw h (goes_on_lem (Done t a) _ refl (acted_by work e) refl refl h (λ z. no_way cc))
 
   by_free : kind T a ≡ free → Goes (after_of free (act_by free T K w t a x st))
   unfolding act_by
-  by_free e = rw h (goes_on (Done t a) _ refl (acted_by free e) refl refl h (λ z. no_way cc))
+  by_free e = rw h (goes_on_lem (Done t a) _ refl (acted_by free e) refl refl h (λ z. no_way cc))
 
   by_alloc : kind T a ≡ alloc → Goes (after_of alloc (act_by alloc T K w t a x st))
   unfolding act_by let_go
   by_alloc e =
       either (λ (s : Stepped). Acted T K w t a q st s.reply s.state → Goes (after_of alloc s)) (leb (drawn K x) q) _ _
       (λ i y. rw (get_or-set_same st.workers w (record { holds = true; thread = t; quota = q - drawn K x }) nobody wide)
-      (goes_on (Done t a) _ refl y refl refl (rw (get_or-set_same st.workers w (record { holds = true; thread = t; quota = q - drawn K x }) nobody wide)) (λ z. no_way cc)))
+      (goes_on_lem (Done t a) _ refl y refl refl (rw (get_or-set_same st.workers w (record { holds = true; thread = t; quota = q - drawn K x }) nobody wide)) (λ z. no_way cc)))
       (λ i y. rw gone (stop y))
       (acted_by alloc e)
     where
@@ -288,7 +288,7 @@ module _ (T : Table) (l : Lawful T) (p K : ℕ) (few : p ≤ 16) (w : ℕ) (belo
   unfolding act_by let_go is code_of
   by_join e =
       either (λ (s : Stepped). Acted T K w t a q st s.reply s.state → Goes (after_of join s)) (eqb (status_of st x) ended) _ _
-      (λ i y. rw h (goes_on (Done t a) _ refl y refl refl h (λ z. no_way cc)))
+      (λ i y. rw h (goes_on_lem (Done t a) _ refl y refl refl h (λ z. no_way cc)))
       (λ i y. rw gone
       (goes_off waiting (released w t waiting st) (Wait t x) y refl refl refl (λ z. no_way cc) none (inr refl) (λ z. absurd (omega (arith, z))) (λ z. absurd (omega (arith, z)))
       (λ z. (e, eqb-false (status_of st x) ended i))))
