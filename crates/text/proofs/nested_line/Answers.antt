@@ -3,7 +3,6 @@ use Prim.Native.Nat.{ℕ, ◌≤◌}
 use native.Mathlib.Omega.{arith}
 use mathlib.Core.Path.{◌≡◌, sym, ap, ◌∙◌}
 use mathlib.Core.List.{List, [], ◌∷◌, ◌++◌}
-use borrow.Author.Rules.{rules}
 use lib.ListN.{length, drop, length-append}
 use Rattle.table.specs.declared.Facts.{Facts}
 use Rattle.text.specs.Text.{decimal, nested_word, newline, facts_text, nested_line, Buffer, buffer_at, placed, placed_next}
@@ -37,4 +36,4 @@ told s f h o₁ o₂ o r₁ r₂ r l e₁ e₂ e =
 pub returns : goal.returns
 returns c = let both = told c.args.out.now c.args.facts
     (record { threads = omega (arith, c.well_formed); actions = omega (arith, c.well_formed); peak = omega (arith, c.well_formed); depth = omega (arith, c.well_formed); nested = omega (arith, c.well_formed) })
-    _ _ _ _ _ _ (omega (arith, c.put_labelled-arg-1.given)) c.put_facts-at.ensures c.put_labelled-at.ensures c.put_word.ensures in record { value = both.0; out_after = both.1 }
+    _ _ _ _ _ _ (omega arith) c.put_facts-at.ensures c.put_labelled-at.ensures c.put_word.ensures in record { value = both.0; out_after = both.1 }

@@ -3,7 +3,6 @@ use Prim.Native.Nat.{ℕ}
 use native.Mathlib.Omega.{arith}
 use mathlib.Core.Path.{◌≡◌, ◌∙◌}
 use mathlib.Core.List.{List, [], ◌∷◌}
-use borrow.Author.Rules.{rules}
 use lib.ListN.{length}
 use Rattle.table.specs.declared.Facts.{Facts}
 use Rattle.text.specs.Text.{decimal, table_word, serial_word, depth_word, space, facts_text, buffer_at, placed, placed_next}
@@ -23,6 +22,6 @@ told s long f h o₁ o₂ o₃ o r₁ r₂ r₃ r e₁ e₂ e₃ e =
 
 pub returns : goal.returns
 returns c =
-    told c.args.out.now (omega (arith, c.put_labelled-arg-1.given)) c.args.facts
+    told c.args.out.now (omega arith) c.args.facts
     (record { threads = omega (arith, c.well_formed); actions = omega (arith, c.well_formed); peak = omega (arith, c.well_formed); depth = omega (arith, c.well_formed); nested = omega (arith, c.well_formed) })
     _ _ _ _ _ _ _ _ c.put_labelled-at.ensures c.put_labelled-at-2.ensures c.put_labelled-at-3.ensures c.put_labelled.ensures

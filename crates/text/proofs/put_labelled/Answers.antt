@@ -1,6 +1,5 @@
 -- `text::put_labelled` meets its contract: the number goes where the word left off.
 use mathlib.Core.Path.{ap, ◌∙◌}
-use borrow.Author.Rules.{rules}
 use Rattle.text.specs.Text.{Buffer, placed_next, decimal}
 use Rattle.text.proofs.put_labelled.Goals as goal
 

@@ -5,7 +5,6 @@ use mathlib.Core.List.{List}
 use Rattle.table.specs.declared.Refusal.{Refusal}
 use Rattle.text.specs.Text.{decimal, refused_word, space, newline, refused_of, buffer_at, placed, placed_next}
 use Rattle.text.specs.Puts.{put_all}
-use borrow.Author.Rules.{rules}
 use Rattle.text.proofs.put_refused_of.Goals as goal
 
 told : (s label : List ℕ) (q : Refusal) (i : ℕ) (o₁ o₂ o₃ o : List ℕ) (r₁ r₂ r₃ r : ℕ)

@@ -3,7 +3,6 @@ use Prim.Native.Nat.{ℕ, ◌^◌, ◌≤◌, ◌<◌}
 use native.Mathlib.Omega.{arith}
 use mathlib.Core.Path.{◌≡◌}
 use mathlib.Core.List.{List, [], ◌∷◌, ◌++◌}
-use borrow.Author.Rules.{rules}
 use lib.ListN.{length, drop, length-append}
 use Rattle.table.specs.declared.Refusal.{Refusal}
 use Rattle.text.specs.Text.{decimal, refused_word, space, newline, refused_line, buffer_at, placed, placed_next}
@@ -27,6 +26,6 @@ module _ (s : List ℕ) (long : length s ≡ 80) (q : Refusal) (n : q.number < 2
       (p.0, (p.1, omega (arith, p.0, short)))
 
 pub returns : goal.returns
-returns c = let both = told c.args.out.now (omega (arith, c.put_labelled-arg-1.given)) c.args.refusal
+returns c = let both = told c.args.out.now (omega arith) c.args.refusal
     (omega (arith, c.well_formed)) (omega (arith, c.well_formed)) _ _ _ _ _ _
     c.put_labelled-at.ensures c.put_labelled-at-2.ensures c.put_word.ensures in record { value = both.0; out_after = both.1.0; upper_bound = both.1.1 }
