@@ -1,7 +1,7 @@
 -- Rows that a loop puts one after another: whoever puts the rows that are left puts all of them.
 use mathlib.Core.Path.{◌≡◌, refl, sym, ap, ◌∙◌}
 use Prim.Native.Nat.{ℕ}
-use mathlib.Core.List.{List, [], ◌∷◌, ◌++◌, foldl-append}
+use mathlib.Core.List.{List, ◌∷◌, ◌++◌, foldl-append}
 use lib.ListN.{length}
 use Rattle.text.specs.Text.{Buffer, buffer_at, placed, placed_next}
 use Rattle.text.specs.Puts.{put_all}

@@ -1,8 +1,6 @@
 -- `rows::moved` meets its contract.
-use mathlib.Core.Path.{◌≡◌, refl, sym, ap}
+use mathlib.Core.Path.{◌≡◌, refl}
 use Prim.Native.Nat.{ℕ, zero, suc, ◌+◌}
-use native.Mathlib.Omega.{arith}
-use borrow.Author.Rules.{rules}
 use Rattle.table.specs.Format.{kind_of}
 use Rattle.parts.specs.Copies.{renamed}
 use Rattle.rows.specs.Rows.{moved_by}

@@ -2,7 +2,6 @@
 use mathlib.Core.Path.{sym}
 use native.Mathlib.Omega.{arith}
 use lib.ListN.{get_or-eq_default}
-use borrow.Author.Rules.{rules}
 use Rattle.rows.proofs.name_of.Goals as goal
 
 pub returns-else-x-names : goal.returns-else-x-names

@@ -1,8 +1,7 @@
 -- `rows::named` meets its contract.
-use mathlib.Core.Path.{◌≡◌, refl, sym, ap, ◌∙◌}
-use Prim.Native.Nat.{ℕ, zero, suc, ◌+◌}
+use mathlib.Core.Path.{◌≡◌, refl, ◌∙◌}
+use Prim.Native.Nat.{ℕ, zero, suc}
 use mathlib.Core.List.{List}
-use borrow.Author.Rules.{rules}
 use Rattle.table.specs.Format.{kind_of}
 use Rattle.parts.specs.Copies.{renamed}
 use Rattle.rows.specs.Rows.{named_by}

@@ -1,10 +1,9 @@
 use mathlib.Core.Path.{◌≡◌, ap, ◌∙◌}
-use Prim.Native.Nat.{ℕ, ◌+◌, ◌-◌}
+use Prim.Native.Nat.{ℕ, ◌+◌}
 use native.Mathlib.Omega.{arith}
-use borrow.Author.Rules.{rules}
 use Rattle.table.specs.Format.{code_at, argument_at}
 use Rattle.rows.specs.Rows.{moved_by}
-use Rattle.rows.proofs.RowsLeft.{Inv, start, again, ends}
+use Rattle.rows.proofs.RowsLeft.{start, again, ends}
 use Rattle.rows.proofs.put_actions.Goals as goal
 
 zero_plus : (i : ℕ) → i ≡ 0 + i
@@ -29,7 +28,7 @@ loop-i-preserved c =
     let d = c.args in
     again d.out.now d.at d.actions.now 0 d.count (moved_by d.o) c.loop-i.out c.loop-i.at c.loop-i.i c.loop-i.invariant c.loop-i-test.true
     c.action_in-action.result.code c.action_in-action.result.argument c.moved-x.result (c.action_in-action.ensures.code_value ∙ ap (code_at d.actions.now) (zero_plus c.loop-i.i)) (c.action_in-action.ensures.read.value ∙ ap (argument_at d.actions.now) (zero_plus c.loop-i.i)) c.moved-x.ensures _ _
-    (omega (arith, c.out-1.given)) c.put_action-at.ensures
+    (omega arith) c.put_action-at.ensures
 
 pub shape_of-out : goal.shape_of-out
 shape_of-out c = omega (arith, c.loop-i.invariant.left.long)

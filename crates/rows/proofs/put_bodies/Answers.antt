@@ -1,15 +1,14 @@
-use mathlib.Core.Path.{◌≡◌, refl, sym, ap, ◌∙◌}
-use Prim.Native.Nat.{ℕ, suc, ◌+◌, ◌-◌, ◌≤◌, ◌<◌}
+use mathlib.Core.Path.{◌≡◌, ap, ◌∙◌}
+use Prim.Native.Nat.{ℕ, suc, ◌+◌, ◌≤◌, ◌<◌}
 use mathlib.Core.List.{List, [], ◌∷◌, ◌++◌}
 use native.Mathlib.Omega.{arith}
 use lib.ListN.{length, get_or, drop}
 use lib.Seq.{drop-cons, drop-length}
-use borrow.Author.Rules.{rules}
 use Rattle.table.specs.Format.{bodies_of, first_of, count_of}
 use Rattle.text.specs.Text.{buffer_at}
 use Rattle.text.specs.Puts.{put_all}
 use Rattle.rows.specs.Rows.{renamed_rows, named_by, ordered_rows}
-use Rattle.rows.proofs.Rest.{Rest, rest_all, rest_rows}
+use Rattle.rows.proofs.Rest.{rest_all, rest_rows}
 use Rattle.rows.proofs.put_bodies.Invariants.{Inv}
 use Rattle.rows.proofs.put_bodies.Goals as goal
 
@@ -52,7 +51,7 @@ pub loop-i-preserved : goal.loop-i-preserved
 loop-i-preserved c =
     let d = c.args in
     again d.out.now d.at d.table.now d.order.now d.names.now c.loop-i.out c.loop-i.at c.loop-i.i c.loop-i.invariant c.loop-i-test.true
-    c.wide.result c.wide.ensures.value _ _ (omega (arith, c.out-1.given)) c.put_named-at.ensures
+    c.wide.result c.wide.ensures.value _ _ (omega arith) c.put_named-at.ensures
 
 pub shape_of-out : goal.shape_of-out
 shape_of-out c = omega (arith, c.loop-i.invariant.left.long)

@@ -1,16 +1,9 @@
 -- `rows::put_bodies` meets its contract. The invariant: the bodies of the threads that are left are what is left.
-use mathlib.Core.Path.{◌≡◌, refl, sym, ap, ◌∙◌}
-use Prim.Native.Nat.{ℕ, suc, ◌+◌, ◌-◌, ◌≤◌, ◌<◌}
-use mathlib.Core.List.{List, [], ◌∷◌, ◌++◌}
-use native.Mathlib.Omega.{arith}
-use lib.ListN.{length, get_or, drop}
-use lib.Seq.{drop-cons, drop-length}
-use borrow.Author.Rules.{rules}
-use Rattle.table.specs.Format.{bodies_of, first_of, count_of}
-use Rattle.text.specs.Text.{buffer_at}
-use Rattle.text.specs.Puts.{put_all}
-use Rattle.rows.specs.Rows.{renamed_rows, named_by, ordered_rows}
-use Rattle.rows.proofs.Rest.{Rest, rest_all, rest_rows}
+use Prim.Native.Nat.{ℕ, ◌-◌, ◌≤◌}
+use mathlib.Core.List.{List}
+use lib.ListN.{length, drop}
+use Rattle.rows.specs.Rows.{named_by, ordered_rows}
+use Rattle.rows.proofs.Rest.{Rest}
 use Rattle.rows.proofs.put_bodies.Given as goal
 
 pub record Inv (out₀ : List ℕ) (at₀ : ℕ) (s order names out : List ℕ) (at i : ℕ) : Type 0 where

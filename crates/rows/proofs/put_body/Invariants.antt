@@ -1,9 +1,7 @@
 -- `rows::put_body` meets its contract. The invariant: the rows of the actions that are left are what is left (RowsLeft).
 use Prim.Native.Nat.{◌-◌}
-use native.Mathlib.Omega.{arith}
-use borrow.Author.Rules.{rules}
 use Rattle.rows.specs.Rows.{named_by}
-use Rattle.rows.proofs.RowsLeft.{Inv, start, again, ends}
+use Rattle.rows.proofs.RowsLeft.{Inv}
 use Rattle.rows.proofs.put_body.Given as goal
 
 abbrev pub invariant-loop-i : goal.invariant-loop-i

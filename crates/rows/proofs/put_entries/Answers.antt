@@ -1,14 +1,13 @@
-use mathlib.Core.Path.{◌≡◌, refl, sym, ap, ◌∙◌}
+use mathlib.Core.Path.{◌≡◌, ap, ◌∙◌}
 use Prim.Native.Nat.{ℕ, suc, ◌+◌, ◌-◌, ◌≤◌, ◌<◌}
-use mathlib.Core.List.{List, [], ◌∷◌}
+use mathlib.Core.List.{List, ◌∷◌}
 use native.Mathlib.Omega.{arith}
 use lib.ListN.{length}
-use borrow.Author.Rules.{rules}
-use Rattle.table.specs.Format.{first_of, count_of, threads_of, table_of}
+use Rattle.table.specs.Format.{threads_of, table_of}
 use Rattle.text.specs.Text.{buffer_at, placed}
 use Rattle.text.specs.Puts.{put_all}
 use Rattle.rows.specs.Rows.{cut_pair, shifted_entries}
-use Rattle.rows.proofs.Rest.{Rest, rest_all, rest_row}
+use Rattle.rows.proofs.Rest.{rest_all, rest_row}
 use Rattle.rows.proofs.put_entries.Invariants.{Inv}
 use Rattle.rows.proofs.put_entries.Goals as goal
 
@@ -49,7 +48,7 @@ pub loop-t-preserved : goal.loop-t-preserved
 loop-t-preserved c =
     let d = c.args in
     again d.out.now d.at d.table.now d.o c.threads-n.result c.loop-t.out c.loop-t.at c.loop-t.t c.loop-t.invariant c.loop-t-test.true c.wide-before.result
-    c.first.result c.count.result c.wide-before.ensures.value c.first.ensures.value c.count.ensures.value _ _ (omega (arith, c.out-1.given)) c.put_pair-at.ensures
+    c.first.result c.count.result c.wide-before.ensures.value c.first.ensures.value c.count.ensures.value _ _ (omega arith) c.put_pair-at.ensures
 
 pub shape_of-out : goal.shape_of-out
 shape_of-out c = omega (arith, c.loop-t.invariant.left.long)

@@ -1,15 +1,8 @@
 -- `rows::put_entries` meets its contract. The invariant: the entries of the threads that are left are what is left.
-use mathlib.Core.Path.{◌≡◌, refl, sym, ap, ◌∙◌}
-use Prim.Native.Nat.{ℕ, suc, ◌+◌, ◌-◌, ◌≤◌, ◌<◌}
-use mathlib.Core.List.{List, [], ◌∷◌}
-use native.Mathlib.Omega.{arith}
-use lib.ListN.{length}
-use borrow.Author.Rules.{rules}
-use Rattle.table.specs.Format.{first_of, count_of, threads_of, table_of}
-use Rattle.text.specs.Text.{buffer_at, placed}
-use Rattle.text.specs.Puts.{put_all}
-use Rattle.rows.specs.Rows.{cut_pair, shifted_entries}
-use Rattle.rows.proofs.Rest.{Rest, rest_all, rest_row}
+use Prim.Native.Nat.{ℕ, ◌-◌, ◌≤◌}
+use mathlib.Core.List.{List}
+use Rattle.rows.specs.Rows.{shifted_entries}
+use Rattle.rows.proofs.Rest.{Rest}
 use Rattle.rows.proofs.put_entries.Given as goal
 
 pub record Inv (out₀ : List ℕ) (at₀ : ℕ) (s : List ℕ) (o n : ℕ) (out : List ℕ) (at t : ℕ) : Type 0 where

@@ -1,12 +1,11 @@
 -- `rows::put_moved` meets its contract: a table's actions are all that its head says.
-use mathlib.Core.Path.{◌≡◌, refl, sym, ap, ◌∙◌}
+use mathlib.Core.Path.{◌≡◌, ap, ◌∙◌}
 use Prim.Native.Nat.{ℕ}
 use mathlib.Core.List.{List}
 use Rattle.table.specs.Format.{threads_of, actions_of, bodies_from, bodies_of}
 use Rattle.text.specs.Text.{buffer_at}
 use Rattle.text.specs.Puts.{put_all}
 use Rattle.rows.specs.Rows.{renamed_rows, moved_by}
-use borrow.Author.Rules.{rules}
 use Rattle.rows.proofs.put_moved.Goals as goal
 
 all_are : (s l : List ℕ) (n m v o : ℕ) → n ≡ threads_of s → l ≡ bodies_from s n → m ≡ actions_of s → v ≡ o → renamed_rows l (moved_by v) 0 m ≡ renamed_rows (bodies_of s) (moved_by o) 0 (actions_of s)

@@ -1,12 +1,11 @@
 -- `rows::put_named` meets its contract: a thread's body begins at its first action and has its count.
-use mathlib.Core.Path.{◌≡◌, refl, sym, ap, ◌∙◌}
+use mathlib.Core.Path.{◌≡◌, ap, ◌∙◌}
 use Prim.Native.Nat.{ℕ}
 use mathlib.Core.List.{List}
 use Rattle.table.specs.Format.{threads_of, bodies_from, bodies_of, first_of, count_of, table_of}
 use Rattle.text.specs.Text.{buffer_at}
 use Rattle.text.specs.Puts.{put_all}
 use Rattle.rows.specs.Rows.{renamed_rows, named_by}
-use borrow.Author.Rules.{rules}
 use Rattle.rows.proofs.put_named.Goals as goal
 
 body_is : (s l names : List ℕ) (t n f c : ℕ) → n ≡ threads_of s → l ≡ bodies_from s n → f ≡ (table_of s).first t → c ≡ (table_of s).count t

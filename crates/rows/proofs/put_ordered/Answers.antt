@@ -1,15 +1,14 @@
-use mathlib.Core.Path.{◌≡◌, refl, sym, ap, ◌∙◌}
-use Prim.Native.Nat.{ℕ, suc, ◌+◌, ◌-◌, ◌%◌, ◌≤◌, ◌<◌}
+use mathlib.Core.Path.{◌≡◌, ap, ◌∙◌}
+use Prim.Native.Nat.{ℕ, suc, ◌+◌, ◌%◌, ◌≤◌, ◌<◌}
 use mathlib.Core.List.{List, [], ◌∷◌}
 use native.Mathlib.Omega.{arith}
 use lib.ListN.{length, get_or, drop}
 use lib.Seq.{drop-cons, drop-length}
-use borrow.Author.Rules.{rules}
 use Rattle.table.specs.Format.{count_of, table_of}
 use Rattle.text.specs.Text.{buffer_at, placed}
 use Rattle.text.specs.Puts.{put_all}
 use Rattle.rows.specs.Rows.{cut_pair, ordered_entries}
-use Rattle.rows.proofs.Rest.{Rest, rest_all, rest_row}
+use Rattle.rows.proofs.Rest.{rest_all, rest_row}
 use Rattle.rows.proofs.put_ordered.Invariants.{Inv}
 use Rattle.rows.proofs.put_ordered.Goals as goal
 
@@ -56,9 +55,9 @@ loop-i-smaller c = omega (arith, c.loop-i-test.true)
 pub loop-i-preserved : goal.loop-i-preserved
 loop-i-preserved c =
     let d = c.args in
-    again d.out.now d.at d.table.now d.order.now c.loop-i.out c.loop-i.at c.loop-i c.loop-i.i c.loop-i.invariant c.loop-i-test.true
+    again d.out.now d.at d.table.now d.order.now c.loop-i.out c.loop-i.at c.loop-i.before c.loop-i.i c.loop-i.invariant c.loop-i-test.true
     c.wide.result c.count-size.result c.wide.ensures.value c.count-size.ensures.value _ _
-    (omega (arith, c.out-1.given)) c.put_pair-at.ensures
+    (omega arith) c.put_pair-at.ensures
 
 pub shape_of-out : goal.shape_of-out
 shape_of-out c = omega (arith, c.loop-i.invariant.left.long)
@@ -66,4 +65,4 @@ shape_of-out c = omega (arith, c.loop-i.invariant.left.long)
 pub returns : goal.returns
 returns c =
     let d = c.args in
-    ends d.out.now d.at d.table.now d.order.now c.loop-i.out c.loop-i.at c.loop-i c.loop-i.i c.loop-i.invariant c.loop-i-test.false
+    ends d.out.now d.at d.table.now d.order.now c.loop-i.out c.loop-i.at c.loop-i.before c.loop-i.i c.loop-i.invariant c.loop-i-test.false

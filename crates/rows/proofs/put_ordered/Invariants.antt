@@ -1,16 +1,9 @@
 -- `rows::put_ordered` meets its contract. The invariant: the entries of the threads that are left are what is left.
-use mathlib.Core.Path.{◌≡◌, refl, sym, ap, ◌∙◌}
-use Prim.Native.Nat.{ℕ, suc, ◌+◌, ◌-◌, ◌%◌, ◌≤◌, ◌<◌}
-use mathlib.Core.List.{List, [], ◌∷◌}
-use native.Mathlib.Omega.{arith}
-use lib.ListN.{length, get_or, drop}
-use lib.Seq.{drop-cons, drop-length}
-use borrow.Author.Rules.{rules}
-use Rattle.table.specs.Format.{count_of, table_of}
-use Rattle.text.specs.Text.{buffer_at, placed}
-use Rattle.text.specs.Puts.{put_all}
-use Rattle.rows.specs.Rows.{cut_pair, ordered_entries}
-use Rattle.rows.proofs.Rest.{Rest, rest_all, rest_row}
+use Prim.Native.Nat.{ℕ, ◌-◌, ◌≤◌, ◌<◌}
+use mathlib.Core.List.{List}
+use lib.ListN.{length, drop}
+use Rattle.rows.specs.Rows.{ordered_entries}
+use Rattle.rows.proofs.Rest.{Rest}
 use Rattle.rows.proofs.put_ordered.Given as goal
 
 pub record Inv (out₀ : List ℕ) (at₀ : ℕ) (s order out : List ℕ) (at before i : ℕ) : Type 0 where
