@@ -21,4 +21,4 @@ answer_of-requires-2 c =
 
 pub returns : goal.returns
 returns c = let h = test_passes _ c.test-tested.ensures (ap not c.if-not-tested.false) in
-    let f = c.back_packed-packed.ensures in record { answer_value = c.answer_of-2.ensures.result_value ∙ back_number_lem _ h _ _ _ f.0; run_value = back_run _ h _ _ _ f.1; cleared = c.clear-2.ensures; answer_value_2 = c.answer_of-2.ensures.result_value_2 }
+    let f = c.back_packed-packed.ensures in record { answer_value = c.answer_of-2.ensures.result_value ∙ back_number_lem _ h _ _ _ f.number_value; run_value = back_run _ h _ _ _ f.run_value; cleared = c.clear-2.ensures; answer_value_2 = c.answer_of-2.ensures.result_value_2 }

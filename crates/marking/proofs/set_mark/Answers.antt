@@ -25,4 +25,4 @@ answer_of-requires-2 c =
 pub returns : goal.returns
 returns c = let a = c.args in
     let h = test_passes _ c.test-tested.ensures (ap not c.if-not-tested.false) in
-    let f = c.set_packed-number.ensures in record { result_value = c.answer_of-2.ensures.result_value ∙ set_values_lem _ h _ _ _ f.0; marksums_after = set_marks _ h _ _ _ f.0 f.1 (kept_size a.set.now a.markbytes.now a.markwords.now a.marknumbers.now a.marksums.now); cleared = c.clear-2.ensures; marksums_after_2 = set_after _ h _ _ _ f.0 (ap (λ (x : Tested). x.parents) c.test-tested.ensures); result_value_2 = c.answer_of-2.ensures.result_value_2 }
+    let f = c.set_packed-number.ensures in record { result_value = c.answer_of-2.ensures.result_value ∙ set_values_lem _ h _ _ _ f.marksums_after; marksums_after = set_marks _ h _ _ _ f.marksums_after f.set_len (kept_size a.set.now a.markbytes.now a.markwords.now a.marknumbers.now a.marksums.now); cleared = c.clear-2.ensures; marksums_after_2 = set_after _ h _ _ _ f.marksums_after (ap (λ (x : Tested). x.parents) c.test-tested.ensures); result_value_2 = c.answer_of-2.ensures.result_value_2 }

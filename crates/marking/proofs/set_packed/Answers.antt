@@ -17,4 +17,4 @@ slice_bounds-table-end c =
 
 pub returns : goal.returns
 returns c = let a = c.args in
-    let e = c.wivakkol_mark_on.ensures in record { marksums_after = e.0 ∙ ap (λ (M : Memory). lent_mark (bytes_of a.run) a.i M (marks_of a.set.now a.markbytes.now a.markwords.now a.marknumbers.now a.marksums.now)) c.pack.ensures; set_len = e.1.1 }
+    let e = c.wivakkol_mark_on.ensures in record { marksums_after = e.marksums_after ∙ ap (λ (M : Memory). lent_mark (bytes_of a.run) a.i M (marks_of a.set.now a.markbytes.now a.markwords.now a.marknumbers.now a.marksums.now)) c.pack.ensures; set_len = e.set_len }

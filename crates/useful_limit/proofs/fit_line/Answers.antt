@@ -7,5 +7,10 @@ use borrow.Author.Rules.{rules}
 use Rattle.useful_limit.proofs.fit_line.Goals as goal
 
 pub returns : goal.returns
-returns c = let e = c.answer_line.ensures in let both = rw (← c.answer_to.ensures)
-    (e.0, (e.1.0, counts _ _ (omega (arith, e.0, simp length-append at (ap length e.1.0))))) in record { value = both.0; out_after = both.1.0; prefix_len = both.1.1 }
+returns c =
+    let e = c.answer_line.ensures in
+    record {
+      value = rw (← c.answer_to.ensures) e.value;
+      out_after = rw (← c.answer_to.ensures) e.out_after;
+      prefix_len = counts _ _ (omega (arith, e.value, simp length-append at (ap length e.out_after)));
+    }

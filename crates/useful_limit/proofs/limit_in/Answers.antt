@@ -4,4 +4,4 @@ use borrow.Author.Rules.{rules}
 use Rattle.useful_limit.proofs.limit_in.Goals as goal
 
 pub returns : goal.returns
-returns c = let e = c.limit_answer-answer.ensures in record { value = e.0; filled_after = e.1; rises_after = (refl, refl, refl, refl, refl, refl) }
+returns c = let e = c.limit_answer-answer.ensures in record { value = e.value; filled_after = e.filled_after; rises_after = (refl, refl, refl, refl, refl, refl) }

@@ -4,9 +4,9 @@ use Rattle.wivakkol.proofs.Answers.{accepted_row, refused_row}
 use Rattle.wivakkol.proofs.wivakkol_check_on.Goals as goal
 
 pub returns-in-Accepted : goal.returns-in-Accepted
-returns-in-Accepted c = let l = c.load_in-loaded.ensures.1 in
-    let r = accepted_row _ _ l.0 _ c.in-Accepted.is in record { value = r.0; row_after = r.1; rises_after = l.1 }
+returns-in-Accepted c = let l = c.load_in-loaded.ensures in
+    let r = accepted_row _ _ l.result_value _ c.in-Accepted.is in record { value = r.0; row_after = r.1; rises_after = l.rises_after }
 
 pub returns-in-Refused : goal.returns-in-Refused
-returns-in-Refused c = let l = c.load_in-loaded.ensures.1 in
-    let r = refused_row _ _ l.0 _ c.in-Refused.is in record { value = r.0; row_after = r.1; rises_after = l.1 }
+returns-in-Refused c = let l = c.load_in-loaded.ensures in
+    let r = refused_row _ _ l.result_value _ c.in-Refused.is in record { value = r.0; row_after = r.1; rises_after = l.rises_after }

@@ -9,5 +9,9 @@ pub overflow_cast-least : goal.overflow_cast-least
 overflow_cast-least c = record { fits = omega (arith, c.least_quota-least.ensures, (least_in_range c.args.table.now).high) }
 
 pub returns : goal.returns
-returns c = let r = c.requires.1 in let both = both c.requires.0 _ _ _ r.few_workers r.small_gap
-    (parts_are c.requires.0 _ _ _ c.cost-cost.ensures c.peak_at-peak.ensures c.resting_peak-resting.ensures c.stretch-stretch.ensures c.least_quota-least.ensures) in record { value = both.0; sums = both.1 }
+returns c =
+    let r = c.requires.1 in
+    let e =
+        both c.requires.0 _ _ _ r.few_workers r.small_gap
+        (parts_are c.requires.0 _ _ _ c.cost-cost.ensures c.peak_at-peak.ensures c.resting_peak-resting.ensures c.stretch-stretch.ensures c.least_quota-least.ensures) in
+    record { value = e.0; sums = e.1 }

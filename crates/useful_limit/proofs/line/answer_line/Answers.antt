@@ -3,10 +3,25 @@ use borrow.Author.Rules.{rules}
 use Rattle.useful_limit.proofs.line.answer_line.Goals as goal
 
 pub returns-in-Fits : goal.returns-in-Fits
-returns-in-Fits c = let both = rw c.in-Fits.is c.fits_line.ensures in record { value = both.0; out_after = both.1.0; upper_bound = both.1.1 }
+returns-in-Fits c =
+    record {
+      value = rw c.in-Fits.is c.fits_line.ensures.value;
+      out_after = rw c.in-Fits.is c.fits_line.ensures.out_after;
+      upper_bound = c.fits_line.ensures.upper_bound;
+    }
 
 pub returns-in-Short : goal.returns-in-Short
-returns-in-Short c = let both = rw c.in-Short.is c.short_line.ensures in record { value = both.0; out_after = both.1.0; upper_bound = both.1.1 }
+returns-in-Short c =
+    record {
+      value = rw c.in-Short.is c.short_line.ensures.value;
+      out_after = rw c.in-Short.is c.short_line.ensures.out_after;
+      upper_bound = c.short_line.ensures.upper_bound;
+    }
 
 pub returns-in-Refused : goal.returns-in-Refused
-returns-in-Refused c = let e = c.table_line.ensures in let both = rw c.in-Refused.is (e.0, (e.1.0, e.1.1.1)) in record { value = both.0; out_after = both.1.0; upper_bound = both.1.1 }
+returns-in-Refused c =
+    record {
+      value = rw c.in-Refused.is c.table_line.ensures.value;
+      out_after = rw c.in-Refused.is c.table_line.ensures.out_after;
+      upper_bound = c.table_line.ensures.upper_bound;
+    }

@@ -19,7 +19,14 @@ put_whole s o r t h p =
     (q.0, (q.1, omega (arith, q.0, i)))
 
 pub returns-in-Given : goal.returns-in-Given
-returns-in-Given c = let both = rw c.in-Given.is c.numbers_line.ensures in record { value = both.0; out_after = both.1.0; upper_bound = both.1.1 }
+returns-in-Given c =
+    record {
+      value = rw c.in-Given.is c.numbers_line.ensures.value;
+      out_after = rw c.in-Given.is c.numbers_line.ensures.out_after;
+      upper_bound = c.numbers_line.ensures.upper_bound;
+    }
 
 pub returns-in-Refused : goal.returns-in-Refused
-returns-in-Refused c = let a = c.args in let both = rw c.in-Refused.is (put_whole a.out.now _ _ _ (omega (arith, c.put_answer-arg-1.given)) c.put_answer.ensures) in record { value = both.0; out_after = both.1.0; upper_bound = both.1.1 }
+returns-in-Refused c =
+    let e = put_whole c.args.out.now _ _ _ (omega (arith, c.put_answer-arg-1.given)) c.put_answer.ensures in
+    record { value = rw c.in-Refused.is e.0; out_after = rw c.in-Refused.is e.1.0; upper_bound = e.1.1 }

@@ -14,7 +14,7 @@ use Rattle.wivakkol.proofs.open.sound_lent.Goals as goal
 pub returns-then-truths_right : goal.returns-then-truths_right
 returns-then-truths_right c =
     let e = c.test_in-passed.ensures in (
-      λ parents under over. tests_sound _ _ c.workers.ensures c.workers_at-records.ensures e.0 c.truths_right.ensures c.if-truths_right.true,
+      λ parents under over. tests_sound _ _ c.workers.ensures c.workers_at-records.ensures e.value c.truths_right.ensures c.if-truths_right.true,
       e.1,
     )
 

@@ -8,4 +8,4 @@ pub returns : goal.returns
 returns c =
     let a = c.args in
     let m = c.copy_workers.ensures in
-    mends (bytes_in a.bytes.now) (words_in a.words.now) (numbers_in a.numbers.now) (sums_in a.sums.now) c.workers_out-workers.ensures m.0 m.1.0 m.1.1
+    mends (bytes_in a.bytes.now) (words_in a.words.now) (numbers_in a.numbers.now) (sums_in a.sums.now) c.workers_out-workers.ensures m.bytes_after m.words_after m.numbers_after

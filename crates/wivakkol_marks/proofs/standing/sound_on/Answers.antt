@@ -23,9 +23,9 @@ returns-then-truths_right c = let k = c in
             highest = c.total_at-2.ensures;
             turns = c.total_at-3.ensures;
           })
-          e.0 c.truths_right.ensures c.if-truths_right.true;
-      seen_after = e.1.0;
-      forks_after = e.1.1.1;
+          e.value c.truths_right.ensures c.if-truths_right.true;
+      seen_after = e.parents_after;
+      forks_after = e.forks_after;
     }
 
 pub returns : goal.returns

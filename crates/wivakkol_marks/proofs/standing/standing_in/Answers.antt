@@ -7,13 +7,13 @@ pub sound_on-sound-requires : goal.sound_on-sound-requires
 sound_on-sound-requires c = c.lay_out.ensures
 
 pub returns-then-sound : goal.returns-then-sound
-returns-then-sound c = let e = c.sound_on-sound.ensures in record { value = finds_sound _ _ e.0 c.if-sound.true; seen_after = seen_as _ e.1.0 c.if-sound.true; forks_after = e.1.1; laid_out = c.lay_out.ensures }
+returns-then-sound c = let e = c.sound_on-sound.ensures in record { value = finds_sound _ _ e.value c.if-sound.true; seen_after = seen_as _ e.seen_after c.if-sound.true; forks_after = e.forks_after; laid_out = c.lay_out.ensures }
 
 pub blank_on-blank-requires : goal.blank_on-blank-requires
 blank_on-blank-requires c = c.lay_out.ensures
 
 pub returns-then-blank : goal.returns-then-blank
-returns-then-blank c = let e = c.sound_on-sound.ensures in record { value = finds_blank _ _ e.0 c.if-sound.false c.blank_on-blank.ensures c.if-blank.true; seen_after = seen_as _ e.1.0 c.if-sound.false; forks_after = e.1.1; laid_out = c.lay_out.ensures }
+returns-then-blank c = let e = c.sound_on-sound.ensures in record { value = finds_blank _ _ e.value c.if-sound.false c.blank_on-blank.ensures c.if-blank.true; seen_after = seen_as _ e.seen_after c.if-sound.false; forks_after = e.forks_after; laid_out = c.lay_out.ensures }
 
 pub returns : goal.returns
-returns c = let e = c.sound_on-sound.ensures in record { value = finds_neither _ _ e.0 c.if-sound.false c.blank_on-blank.ensures c.if-blank.false; seen_after = seen_as _ e.1.0 c.if-sound.false; forks_after = e.1.1; laid_out = c.lay_out.ensures }
+returns c = let e = c.sound_on-sound.ensures in record { value = finds_neither _ _ e.value c.if-sound.false c.blank_on-blank.ensures c.if-blank.false; seen_after = seen_as _ e.seen_after c.if-sound.false; forks_after = e.forks_after; laid_out = c.lay_out.ensures }
