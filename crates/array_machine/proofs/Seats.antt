@@ -118,8 +118,8 @@ module _ {s : List ℕ} {n K : ℕ} {A : Arrays} {totals : Totals} {worker : Wor
     pub thread_small : worker.thread < 1024
     thread_small = omega (arith, thread_below, few_threads)
 
-    pub next_fits : next_fits (action_in A worker.thread) ≡ true
-    next_fits = lt-ltb (action_in A worker.thread + 1) 65536 (omega (arith, next_small worker.thread thread_below))
+    pub next_fits_lem : next_fits (action_in A worker.thread) ≡ true
+    next_fits_lem = lt-ltb (action_in A worker.thread + 1) 65536 (omega (arith, next_small worker.thread thread_below))
 
     next_is_below : action_in A worker.thread < (table_of s).actions
     next_is_below = next_below (table_of s) laws q.p K (state_of run) known worker.thread thread_below

@@ -22,7 +22,7 @@ use Rattle.array_machine.specs.Arrays.{Arrays, listed_in, action_in, amount_in, 
 use Rattle.array_machine.specs.Turn.{Outcome, waits_in, act_on, act_in, Seat, seat, seat_of, seat_in, step_from, step_on}
 use Rattle.array_machine.proofs.Parts.{state_in, turn_body, Went, Sits}
 use Rattle.array_machine.proofs.Reading.{own_table}
-use Rattle.array_machine.proofs.Seats.{known, thread_below, thread_small, next_fits, alloc_room, own_room, free_room, own_free, child_room, fork_child, join_child, taken_sits}
+use Rattle.array_machine.proofs.Seats.{known, thread_below, thread_small, next_fits_lem, alloc_room, own_room, free_room, own_free, child_room, fork_child, join_child, taken_sits}
 use Rattle.array_machine.proofs.Linking.{ActedBy, Acted, small, found, acted_body, acted_chained}
 
 -- ---- waking the parent
@@ -69,7 +69,7 @@ module _ {s : List ℕ} {n K : ℕ} {A : Arrays} {totals : Totals} {worker : Wor
 
   works : ActedBy work T K x A totals worker (left_by work)
   unfolding act_on act_by links_by actives_by
-  works = rw (next_fits q h) (record { fits = refl; state = λ list. refl; list_links = refl; second_links = λ list. refl })
+  works = rw (next_fits_lem q h) (record { fits = refl; state = λ list. refl; list_links = refl; second_links = λ list. refl })
 
   allocates : ActedBy alloc T K x A totals worker (left_by alloc)
   unfolding act_on act_by links_by actives_by
@@ -77,20 +77,20 @@ module _ {s : List ℕ} {n K : ℕ} {A : Arrays} {totals : Totals} {worker : Wor
     where
       go : (b : Bool) → leb (drawn K x) worker.quota ≡ b → ActedBy alloc T K x A totals worker (left_by alloc)
       go true e =
-          rw (e, next_fits q h, lt-ltb (totals.held + x) (2 ^ 64) (alloc_room q h), lt-ltb (amount_in A t + x) (2 ^ 64) (own_room q h))
+          rw (e, next_fits_lem q h, lt-ltb (totals.held + x) (2 ^ 64) (alloc_room q h), lt-ltb (amount_in A t + x) (2 ^ 64) (own_room q h))
           (record { fits = refl; state = λ list. rw e; list_links = refl; second_links = λ list. refl })
       go false e = rw e (record { fits = refl; state = λ list. rw e; list_links = refl; second_links = λ list. refl })
 
   frees : kind T a ≡ free → ActedBy free T K x A totals worker (left_by free)
   unfolding act_on act_by links_by actives_by
   frees k =
-      rw (next_fits q h, le-leb x totals.held (free_room q h k), le-leb x (amount_in A t) (own_free q h k))
+      rw (next_fits_lem q h, le-leb x totals.held (free_room q h k), le-leb x (amount_in A t) (own_free q h k))
       (record { fits = refl; state = λ list. refl; list_links = refl; second_links = λ list. refl })
 
   forks : kind T a ≡ fork → ActedBy fork T K x A totals worker (left_by fork)
   unfolding act_on act_by links_by actives_by
   forks k =
-      rw (next_fits q h, lt-ltb x 1024 (fork_child q h k))
+      rw (next_fits_lem q h, lt-ltb x 1024 (fork_child q h k))
       (record { fits = refl; state = λ list. refl; list_links = refl; second_links = λ list. refl })
 
   joins : kind T a ≡ join → ActedBy join T K x A totals worker (left_by join)
@@ -99,7 +99,7 @@ module _ {s : List ℕ} {n K : ℕ} {A : Arrays} {totals : Totals} {worker : Wor
     where
       go : (b : Bool) → eqb (get_or A.status x 0) ended ≡ b → ActedBy join T K x A totals worker (left_by join)
       go true e =
-          rw (lt-ltb x 1024 (join_child q h k), e, next_fits q h, lt-ltb (amount_in A t + amount_in A x) (2 ^ 64) (child_room q h x))
+          rw (lt-ltb x 1024 (join_child q h k), e, next_fits_lem q h, lt-ltb (amount_in A t + amount_in A x) (2 ^ 64) (child_room q h x))
           (record { fits = refl; state = λ list. rw e; list_links = refl; second_links = λ list. rw e })
       go false e =
           rw (lt-ltb x 1024 (join_child q h k), e)

@@ -24,7 +24,7 @@ use Rattle.text.proofs.Putting.{puts_whole}
 use Rattle.parts.specs.Joined.{joined_bodies}
 use Rattle.rows.specs.Rows.{over}
 use Rattle.joining.specs.Joining.{joined_bytes, weighed, threads_in, actions_in, joined_facts}
-use Rattle.joining.specs.Answers.{parts_of, sum_of, parts_wrong, in_part, first_refused, too_large, joined_with, joined, joined_in, left_by, JoinValues, join_values_of, join_values, refused_values, whole_values, part_values, first_values}
+use Rattle.joining.specs.Answers.{parts_of, sum_of, parts_wrong, in_part, first_refused, too_large as is_too_large, joined_with, joined, joined_in, left_by, JoinValues, join_values_of, join_values, refused_values, whole_values, part_values, first_values}
 use Rattle.joining.specs.Code.Rows.{threads_over, actions_over, joined_rows}
 use Rattle.joining.specs.Code.Steps.{Lent, LentFew, Small, no_part, totals_from, facts_from, weights_from, answered, AllWeighed}
 use Rattle.joining.specs.declared.Joined.{Joined}
@@ -83,8 +83,8 @@ first_values_lem (s ∷ ps) i x = go (first_found (passes s)) (first_values_lem 
     go Nothing ih = ih
     go (At r) ih = refl
 
-with_values : (f : Facts) → join_values_of (joined_with f) ≡ pick (too_large f) (refused_values (refusal 48 0) 0) (whole_values f)
-with_values f = go (too_large f)
+with_values : (f : Facts) → join_values_of (joined_with f) ≡ pick (is_too_large f) (refused_values (refusal 48 0) 0) (whole_values f)
+with_values f = go (is_too_large f)
   where
     go : (b : Bool) → join_values_of (pick b (Refused (refusal 48 0)) (Written f)) ≡ pick b (refused_values (refusal 48 0) 0) (whole_values f)
     go true = refl
@@ -95,7 +95,7 @@ unfolding joined join_values
 values_are ls s = go (parts_wrong ls s)
   where
     go : (b : Bool) → join_values_of (pick b (Refused (refusal 47 0)) (first_refused 0 (parts_of ls s) (joined_with (joined_facts (map weighed (parts_of ls s))))))
-        ≡ pick b (refused_values (refusal 47 0) 0) (first_values 0 (parts_of ls s) (pick (too_large (joined_facts (map weighed (parts_of ls s)))) (refused_values (refusal 48 0) 0) (whole_values (joined_facts (map weighed (parts_of ls s))))))
+        ≡ pick b (refused_values (refusal 47 0) 0) (first_values 0 (parts_of ls s) (pick (is_too_large (joined_facts (map weighed (parts_of ls s)))) (refused_values (refusal 48 0) 0) (whole_values (joined_facts (map weighed (parts_of ls s))))))
     go true = refl
     go false = first_values_lem (parts_of ls s) 0 (joined_with (joined_facts (map weighed (parts_of ls s)))) ∙ ap (first_values 0 (parts_of ls s)) (with_values (joined_facts (map weighed (parts_of ls s))))
 
@@ -184,12 +184,12 @@ module _ (k : ℕ) (t : Totals) where
   same_m = omega arith
 
   pub too_large : (ltb 1024 (1 + t.threads) || ltb 8192 (2 * k + 1 + t.actions)) ≡ true → Refused (refusal 48 0) ≡ joined_with (facts_from k t)
-  too_large e = let z : too_large (facts_from k t) ≡ true = rw (same_n, same_m) at e in rw z
+  too_large e = let z : is_too_large (facts_from k t) ≡ true = rw (same_n, same_m) at e in rw z
 
   pub fits_in : (ltb 1024 (1 + t.threads) || ltb 8192 (2 * k + 1 + t.actions)) ≡ false
       → Written (record { threads = 1 + t.threads; actions = 2 * k + 1 + t.actions; peak = t.peak; depth = 1 + t.depth; nested = 1 + t.nested }) ≡ joined_with (facts_from k t)
   fits_in e =
-      let z : too_large (facts_from k t) ≡ false = rw (same_n, same_m) at e in
+      let z : is_too_large (facts_from k t) ≡ false = rw (same_n, same_m) at e in
       let d : 1 + t.depth ≡ suc t.depth = omega arith in
       let n : 1 + t.nested ≡ suc t.nested = omega arith in
       rw (z, same_n, same_m, d, n)
