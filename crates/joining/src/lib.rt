@@ -21,7 +21,7 @@ use weights::{Totals, Weights, weigh_parts};
 use write::put_joined;
 
 // The joined table's facts; a refusal of the parts as a whole; or a part's own refusal, the parts counted from 0.
-#[derive(Drop)]
+#[derive(Clone, Copy)]
 pub enum Joined {
     Written(Facts),
     Refused(Refusal),
