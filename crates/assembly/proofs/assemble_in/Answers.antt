@@ -4,4 +4,4 @@ use borrow.Author.Rules.{rules}
 use Rattle.assembly.proofs.assemble_in.Goals as goal
 
 pub returns : goal.returns
-returns c = let e = c.assemble_on-answer.ensures in record { value = e.0; out_after = e.1; rises_after = (refl, refl, refl, refl) }
+returns c = record { value = c.assemble_on-answer.ensures.value; out_after = c.assemble_on-answer.ensures.out_after; rises_after = (refl, refl, refl, refl) }

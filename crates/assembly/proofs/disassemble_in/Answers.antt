@@ -37,10 +37,7 @@ write_text-requires c =
     record { threads = h.threads; actions = h.actions; counts = h.counts }
 
 pub returns-in-Refused : goal.returns-in-Refused
-returns-in-Refused c = let e = c.load_in-loaded.ensures in
-    let v = refused _ _ (sym c.in-Refused.is ∙ e.0) in record { value = v.0; out_after = v.1; rises_after = e.1.1 }
+returns-in-Refused c = let v = refused _ _ (sym c.in-Refused.is ∙ c.load_in-loaded.ensures.value) in record { value = v.0; out_after = v.1; rises_after = c.load_in-loaded.ensures.rises_after }
 
 pub returns-in-Accepted : goal.returns-in-Accepted
-returns-in-Accepted c = let e = c.load_in-loaded.ensures in
-    let t = c.write_text.ensures in
-    let v = answers _ _ (sym c.in-Accepted.is ∙ e.0) t.0 t.1 in record { value = v.0; out_after = v.1; rises_after = e.1.1 }
+returns-in-Accepted c = let v = answers _ _ (sym c.in-Accepted.is ∙ c.load_in-loaded.ensures.value) c.write_text.ensures.value c.write_text.ensures.out_after in record { value = v.0; out_after = v.1; rises_after = c.load_in-loaded.ensures.rises_after }

@@ -99,7 +99,7 @@ returns-in-At c = let a = c.args in let both = rw (← begin_values_lem) (begun_
 
 pub start-requires : goal.start-requires
 start-requires c = let a = c.args in
-    let e = c.accept-filling.ensures in record { bytes_len_bound = given_small a.bytes.now a.p a.quota _ e.0 c.in_default.is c.if-k-eq0.true; next_value = given_next a.bytes.now a.p a.quota _ e.0 c.in_default.is c.if-k-eq0.true _ e.1.1.0 }
+    record { bytes_len_bound = given_small a.bytes.now a.p a.quota _ c.accept-filling.ensures.value c.in_default.is c.if-k-eq0.true; next_value = given_next a.bytes.now a.p a.quota _ c.accept-filling.ensures.value c.in_default.is c.if-k-eq0.true _ c.accept-filling.ensures.next_after }
 
 pub returns-then-k-eq0 : goal.returns-then-k-eq0
 returns-then-k-eq0 c = let a = c.args in let both = rw (← begin_values_lem)
@@ -113,14 +113,13 @@ slice_bounds-filled-end c =
 pub slice_bounds-start-end : goal.slice_bounds-start-end
 slice_bounds-start-end c =
     let a = c.args in
-    let e = c.accept-filling.ensures in
-    sym (length-take-le _ _ (there a.bytes.now a.p a.quota _ e.0 c.in_default.is c.if-k-eq0.false _ e.1.0))
+    sym (length-take-le _ _ (there a.bytes.now a.p a.quota _ c.accept-filling.ensures.value c.in_default.is c.if-k-eq0.false _ c.accept-filling.ensures.filled_after))
 
 pub start-requires-2 : goal.start-requires-2
 start-requires-2 c = let a = c.args in
-    let e = c.accept-filling.ensures in record { bytes_len_bound = front_small a.bytes.now a.p a.quota _ e.0 c.in_default.is c.if-k-eq0.false _ e.1.0; next_value = front_next a.bytes.now a.p a.quota _ e.0 c.in_default.is c.if-k-eq0.false _ e.1.0 _ e.1.1.0 }
+    record { bytes_len_bound = front_small a.bytes.now a.p a.quota _ c.accept-filling.ensures.value c.in_default.is c.if-k-eq0.false _ c.accept-filling.ensures.filled_after; next_value = front_next a.bytes.now a.p a.quota _ c.accept-filling.ensures.value c.in_default.is c.if-k-eq0.false _ c.accept-filling.ensures.filled_after _ c.accept-filling.ensures.next_after }
 
 pub returns : goal.returns
 returns c = let a = c.args in
-    let e = c.accept-filling.ensures in let both = rw (← begin_values_lem)
-    (begun_answers (front_begun a.bytes.now a.p a.quota _ e.0 c.in_default.is c.if-k-eq0.false _ e.1.0 _ c.start-2.ensures)) in record { value = both.0; answer_value = both.1 }
+    let both = rw (← begin_values_lem)
+    (begun_answers (front_begun a.bytes.now a.p a.quota _ c.accept-filling.ensures.value c.in_default.is c.if-k-eq0.false _ c.accept-filling.ensures.filled_after _ c.start-2.ensures)) in record { value = both.0; answer_value = both.1 }

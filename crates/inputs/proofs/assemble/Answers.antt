@@ -79,7 +79,7 @@ pub slice_bounds-add_table-end : goal.slice_bounds-add_table-end
 slice_bounds-add_table-end c = omega (arith, c.read_front-read.ensures.within)
 
 pub add_table-requires : goal.add_table-requires
-add_table-requires c = addable _ _ _ c.if-text-gt-LONGEST.false c.read_front-read.ensures _ c.in-Whole.is (omega (arith, c.add_table-arg-in-Whole-1.given))
+add_table-requires c = addable _ _ _ c.if-text-gt-LONGEST.false c.read_front-read.ensures _ c.in-Whole.is (search rules)
 
 pub returns-in-Fault : goal.returns-in-Fault
 returns-in-Fault c = let both = no_front _ _ _ c.if-text-gt-LONGEST.false c.read_front-read.ensures c.in-Fault.is in record { value = both.0; out_after = both.1 }

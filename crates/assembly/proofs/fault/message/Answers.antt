@@ -17,4 +17,4 @@ told s o r ts h p =
     (q.0, (q.1, counts o r (omega (arith, q.0, ap length q.1, length-append (flatten ts) (drop r s)))))
 
 pub returns : goal.returns
-returns c = let both = told _ _ _ _ (omega (arith, c.put_message-arg-1.given)) c.put_message.ensures in record { value = both.0; out_after = both.1.0; prefix_len = both.1.1 }
+returns c = let both = told _ _ _ _ (search rules) c.put_message.ensures in record { value = both.0; out_after = both.1.0; prefix_len = both.1.1 }

@@ -10,5 +10,5 @@ pub returns : goal.returns
 unfolding fault_texts
 returns c =
     puts_within (omega arith)
-    (puts_more (puts_labelled (ascii "line ") c.args.line 19 (omega (arith, c.well_formed)) c.put_labelled-at.ensures)
+    (puts_more (puts_labelled (ascii "line ") c.args.line 19 (omega arith) c.put_labelled-at.ensures)
     (puts_more (rw c.unseen_at.ensures at c.put_reason-at.ensures) (puts_word newline c.put_word.ensures)))

@@ -6,4 +6,4 @@ use borrow.Author.Rules.{rules}
 use Rattle.assembly.proofs.fault.put_next.Goals as goal
 
 pub returns : goal.returns
-returns c = puts_within (omega arith) (puts_labelled (ascii "thread ") c.args.t 19 (omega (arith, c.well_formed)) c.put_labelled.ensures)
+returns c = puts_within (omega arith) (puts_labelled (ascii "thread ") c.args.t 19 (omega arith) c.put_labelled.ensures)

@@ -10,5 +10,5 @@ pub returns : goal.returns
 unfolding refused_texts
 returns c =
     puts_within (omega arith)
-    (puts_more (puts_labelled (ascii "refused ") c.args.number 19 (omega (arith, c.well_formed)) c.put_labelled-at.ensures)
-    (puts_more (puts_labelled (ascii " ") c.args.place 19 (omega (arith, c.well_formed)) c.put_labelled-at-2.ensures) (puts_more c.put_line-at.ensures (puts_word newline c.put_word.ensures))))
+    (puts_more (puts_labelled (ascii "refused ") c.args.number 19 (omega arith) c.put_labelled-at.ensures)
+    (puts_more (puts_labelled (ascii " ") c.args.place 19 (omega arith) c.put_labelled-at-2.ensures) (puts_more c.put_line-at.ensures (puts_word newline c.put_word.ensures))))

@@ -56,7 +56,7 @@ pub loop-i-smaller : goal.loop-i-smaller
 loop-i-smaller c = omega arith
 
 pub loop-i-preserved : goal.loop-i-preserved
-loop-i-preserved c = again _ _ _ _ _ _ _ _ c.loop-i.invariant c.loop-i-test.true c.requires.0 c.code.ensures c.argument.ensures.value (omega (arith, c.out-1.given)) c.put_action-at.ensures (omega (arith, c.out-in-loop-i-1.given)) c.put_number-at.ensures
+loop-i-preserved c = again _ _ _ _ _ _ _ _ c.loop-i.invariant c.loop-i-test.true c.requires.0 c.code.ensures c.argument.ensures.value (search rules) c.put_action-at.ensures (search rules) c.put_number-at.ensures
 
 pub shape_of-out : goal.shape_of-out
 shape_of-out c = omega (arith, c.loop-i.invariant.long)

@@ -46,7 +46,7 @@ pub loop-t-smaller : goal.loop-t-smaller
 loop-t-smaller c = omega arith
 
 pub loop-t-preserved : goal.loop-t-preserved
-loop-t-preserved c = again _ _ _ _ _ _ c.loop-t.invariant c.loop-t-test.true c.put_thread-at.ensures c.first.ensures.value c.count.ensures.value c.put_body-at.ensures (omega (arith, c.out-1.given)) (omega (arith, c.out-in-loop-t-1.given))
+loop-t-preserved c = again _ _ _ _ _ _ c.loop-t.invariant c.loop-t-test.true c.put_thread-at.ensures c.first.ensures.value c.count.ensures.value c.put_body-at.ensures (search rules) (search rules)
 
 pub shape_of-out : goal.shape_of-out
 shape_of-out c = omega (arith, c.loop-t.invariant.long)

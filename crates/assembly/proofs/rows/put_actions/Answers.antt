@@ -43,7 +43,7 @@ pub loop-from-smaller : goal.loop-from-smaller
 loop-from-smaller c = omega (arith, c.read_line-read.ensures.later, c.read_line-read.ensures.within)
 
 pub loop-from-preserved : goal.loop-from-preserved
-loop-from-preserved c = again _ _ _ _ _ _ c.loop-from.invariant c.read_line-read.ensures (omega (arith, c.out-1.given)) c.put_row-at.ensures
+loop-from-preserved c = again _ _ _ _ _ _ c.loop-from.invariant c.read_line-read.ensures (search rules) c.put_row-at.ensures
 
 pub shape_of-out : goal.shape_of-out
 shape_of-out c = omega (arith, c.loop-from.invariant.long)

@@ -61,7 +61,7 @@ pub loop-from-smaller : goal.loop-from-smaller
 loop-from-smaller c = omega (arith, c.read_line-read.ensures.later, c.read_line-read.ensures.within)
 
 pub loop-from-preserved : goal.loop-from-preserved
-loop-from-preserved c = again _ _ _ _ _ _ _ c.loop-from.invariant c.read_line-read.ensures (omega (arith, c.out-1.given)) c.put_entry-at.ensures c.actions_after-a.ensures
+loop-from-preserved c = again _ _ _ _ _ _ _ c.loop-from.invariant c.read_line-read.ensures (search rules) c.put_entry-at.ensures c.actions_after-a.ensures
 
 pub shape_of-out : goal.shape_of-out
 shape_of-out c = omega (arith, c.loop-from.invariant.long)

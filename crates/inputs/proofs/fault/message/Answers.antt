@@ -23,7 +23,7 @@ pub returns-in-Written : goal.returns-in-Written
 returns-in-Written c = let both = rw c.in-Written.is (refl, (refl, none c.args.out.now)) in record { value = both.0; out_after = both.1.0; prefix_len = both.1.1 }
 
 pub returns-in-Malformed : goal.returns-in-Malformed
-returns-in-Malformed c = let both = rw c.in-Malformed.is (told _ _ _ _ (omega (arith, c.put_malformed-arg-1.given)) c.put_malformed.ensures) in record { value = both.0; out_after = both.1.0; prefix_len = both.1.1 }
+returns-in-Malformed c = let both = rw c.in-Malformed.is (told _ _ _ _ (search rules) c.put_malformed.ensures) in record { value = both.0; out_after = both.1.0; prefix_len = both.1.1 }
 
 pub returns-in-NoTable : goal.returns-in-NoTable
-returns-in-NoTable c = let both = rw c.in-NoTable.is c.message.ensures in record { value = both.0; out_after = both.1.0; prefix_len = both.1.1 }
+returns-in-NoTable c = let both = rw c.in-NoTable.is (c.message.ensures.value, (c.message.ensures.out_after, c.message.ensures.prefix_len)) in record { value = both.0; out_after = both.1.0; prefix_len = both.1.1 }

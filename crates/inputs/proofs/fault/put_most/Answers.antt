@@ -6,4 +6,4 @@ use borrow.Author.Rules.{rules}
 use Rattle.inputs.proofs.fault.put_most.Goals as goal
 
 pub returns : goal.returns
-returns c = puts_within (omega arith) (puts_labelled (ascii "a number up to ") c.args.most 19 (omega (arith, c.well_formed)) c.put_labelled.ensures)
+returns c = puts_within (omega arith) (puts_labelled (ascii "a number up to ") c.args.most 19 (omega arith) c.put_labelled.ensures)
