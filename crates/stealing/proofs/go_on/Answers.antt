@@ -2,10 +2,9 @@
 use mathlib.Core.Path.{◌≡◌, refl, sym, ap, ◌∙◌}
 use Prim.Native.Nat.{ℕ, ◌+◌, ◌<◌}
 use mathlib.Core.Bool.{Bool, true, ◌&&◌}
-use mathlib.Core.Logic.{⊎_elim}
 use Rattle.table.proofs.Tests.{and_both}
 use native.Mathlib.Omega.{arith}
-use borrow.Author.Tests.{not-true, not-false, ltb-true}
+use borrow.Author.Tests.{ltb-true}
 use lib.Dec.{ltb}
 use Rattle.table.specs.Format.{table_of}
 use Rattle.array_machine.specs.Turn.{next_fits}
@@ -14,6 +13,7 @@ use Rattle.run_memory.specs.Blocks.{bytes_in, words_in, numbers_in, sums_in, mem
 use Rattle.run_memory.proofs.Takes.{codes, arguments}
 use Rattle.stealing.proofs.Goes.{spoke, counted_as, no_thread_read, ends_read, other_read, fork_unfit_read, fork_read, wait_read, join_read}
 use borrow.Author.Rules.{rules}
+use Rattle.stealing.proofs.go_on.Goals.{then-code-eq-JOIN+else-runs_on, else-code-eq-JOIN}
 use Rattle.stealing.proofs.go_on.Goals as goal
 
 small : {x : ℕ} → x < 1024 → x < 65536
@@ -50,7 +50,7 @@ returns-then-code-eq-END c =
     let i = c.code_in-code.ensures ∙ (λ j. sym C j a) in
     λ v.
     spoke c.said.ensures
-    (counted_as (bytes_in c.end.new.1.1.1.0) (words_in c.end.new.1.1.1.1.0) (numbers_in c.end.new.1.1.1.1.1.0) (sums_in d.args.sums.now) c.count.ensures
+    (counted_as (bytes_in c.end.new.bytes) (words_in c.end.new.words) (numbers_in c.end.new.numbers) (sums_in d.args.sums.now) c.count.ensures
     (ends_read s w v M d.requires x1.thread_at-t.ensures x2.row_at-a.ensures e1.if-t-ge-NO_THREAD.false i c.if-code-eq-END.true (c.end.ensures (table_of s) (sums_in d.args.sums.now) C G)))
 
 pub returns-then-not-fork_fits : goal.returns-then-not-fork_fits
@@ -70,11 +70,11 @@ returns-then-not-fork_fits c =
     let i = c.code_in-code.ensures ∙ (λ j. sym C j a) in
     λ v.
     spoke c.refused-then-not-fork_fits.ensures
-    (fork_unfit_read s w v M d.requires x1.thread_at-t.ensures x2.row_at-a.ensures e1.if-t-ge-NO_THREAD.false i (c.argument_in-x.ensures.value ∙ (λ j. sym G j a)) c.if-code-eq-FORK.true c.fork_fits.ensures (not-true _ c.if-not-fork_fits.true))
+    (fork_unfit_read s w v M d.requires x1.thread_at-t.ensures x2.row_at-a.ensures e1.if-t-ge-NO_THREAD.false i (c.argument_in-x.ensures.value ∙ (λ j. sym G j a)) c.if-code-eq-FORK.true c.fork_fits.ensures c.if-not-fork_fits.true)
 
 pub overflow_cast-x : goal.overflow_cast-x
 overflow_cast-x c =
-    fits16 (small (inside c.row_at-a.result _ (not-false _ c.if-not-fork_fits.false) c.fork_fits.ensures).1)
+    fits16 (small (inside c.row_at-a.result _ c.if-not-fork_fits.false c.fork_fits.ensures).1)
 
 pub fork-requires : goal.fork-requires
 fork-requires c = let b = c in
@@ -90,7 +90,7 @@ fork-requires c = let b = c in
     let G = arguments s b.bodies-actions.ensures n.threads.ensures.value in
     let a = x2.row_at-a.result in
     let i = c.code_in-code.ensures ∙ (λ j. sym C j a) in
-    let r = inside a c.argument_in-x.result (not-false _ c.if-not-fork_fits.false) c.fork_fits.ensures in record { holder = (d.requires.few, d.requires.holds); a_bound = (r.0, (r.1, x2.row_at-a.ensures)) }
+    let r = inside a c.argument_in-x.result c.if-not-fork_fits.false c.fork_fits.ensures in record { holder = (d.requires.few, d.requires.holds); a_bound = (r.0, (r.1, x2.row_at-a.ensures)) }
 
 pub returns-then-code-eq-FORK : goal.returns-then-code-eq-FORK
 returns-then-code-eq-FORK c =
@@ -111,8 +111,8 @@ returns-then-code-eq-FORK c =
     let i = k.code_in-code.ensures ∙ (λ j. sym C j a) in
     λ v.
     spoke c.said-then-code-eq-FORK.ensures
-    (counted_as (bytes_in c.fork.new.1.1.1.1.0) (words_in c.fork.new.1.1.1.1.1.0) (numbers_in d.args.numbers.now) (sums_in d.args.sums.now) c.count-then-code-eq-FORK.ensures
-    (fork_read s w v M d.requires x1.thread_at-t.ensures x2.row_at-a.ensures e1.if-t-ge-NO_THREAD.false i (c.argument_in-x.ensures.value ∙ (λ j. sym G j a)) c.if-code-eq-FORK.true c.fork_fits.ensures (not-false _ c.if-not-fork_fits.false) (c.fork.ensures (sums_in d.args.sums.now))))
+    (counted_as (bytes_in c.fork.new.bytes) (words_in c.fork.new.words) (numbers_in d.args.numbers.now) (sums_in d.args.sums.now) c.count-then-code-eq-FORK.ensures
+    (fork_read s w v M d.requires x1.thread_at-t.ensures x2.row_at-a.ensures e1.if-t-ge-NO_THREAD.false i (c.argument_in-x.ensures.value ∙ (λ j. sym G j a)) c.if-code-eq-FORK.true c.fork_fits.ensures c.if-not-fork_fits.false (c.fork.ensures (sums_in d.args.sums.now))))
 
 pub overflow_cast-x-then-runs_on : goal.overflow_cast-x-then-runs_on
 overflow_cast-x-then-runs_on c =
@@ -138,7 +138,7 @@ returns-then-runs_on c =
     let i = k.code_in-code.ensures ∙ (λ j. sym C j a) in
     λ v.
     spoke c.said-then-runs_on.ensures
-    (counted_as (bytes_in c.leave.new.1.1.1.0) (words_in c.leave.new.1.1.1.1.0) (numbers_in c.leave.new.1.1.1.1.1.0) (sums_in d.args.sums.now) c.count-then-runs_on.ensures
+    (counted_as (bytes_in c.leave.new.bytes) (words_in c.leave.new.words) (numbers_in c.leave.new.numbers) (sums_in d.args.sums.now) c.count-then-runs_on.ensures
     (wait_read s w v M d.requires x1.thread_at-t.ensures x2.row_at-a.ensures e1.if-t-ge-NO_THREAD.false i (c.argument_in-x-then-code-eq-JOIN.ensures.value ∙ (λ j. sym G j a)) c.if-code-eq-JOIN.true c.runs_on.ensures c.if-runs_on.true (c.leave.ensures (sums_in d.args.sums.now))))
 
 pub returns : goal.returns
@@ -156,7 +156,4 @@ returns c =
     let i = c.code_in-code.ensures ∙ (λ j. sym C j a) in
     λ v.
     c.plain.ensures
-    ∙ ⊎_elim
-    (λ z. join_read s w v M d.requires x1.thread_at-t.ensures x2.row_at-a.ensures e1.if-t-ge-NO_THREAD.false i (z.1.ensures.value ∙ (λ j. sym G j a)) z.0.taken z.3.ensures z.4.left)
-    (λ z. other_read s w v M d.requires x1.thread_at-t.ensures x2.row_at-a.ensures e1.if-t-ge-NO_THREAD.false i c.if-code-eq-END.false c.if-code-eq-FORK.false z.left)
-    c.if-code-eq-JOIN.branch
+    ∙ elim c.if-code-eq-JOIN.branch [ then-code-eq-JOIN+else-runs_on z ↦ join_read s w v M d.requires x1.thread_at-t.ensures x2.row_at-a.ensures e1.if-t-ge-NO_THREAD.false i (z.argument_in-x-then-code-eq-JOIN.ensures.value ∙ (λ j. sym G j a)) z.if-code-eq-JOIN.true z.runs_on.ensures z.if-runs_on.false | else-code-eq-JOIN z ↦ other_read s w v M d.requires x1.thread_at-t.ensures x2.row_at-a.ensures e1.if-t-ge-NO_THREAD.false i c.if-code-eq-END.false c.if-code-eq-FORK.false z.if-code-eq-JOIN.false ]

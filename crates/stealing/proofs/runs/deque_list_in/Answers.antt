@@ -7,13 +7,10 @@ use Rattle.stealing.proofs.PairDrives.{full_list, driven_list}
 use borrow.Author.Rules.{rules}
 use Rattle.stealing.proofs.runs.deque_list_in.Goals as goal
 
-abbrev start : goal.Start → Memory
-start d = memory_of d.args.bytes.now d.args.words.now d.args.numbers.now d.args.sums.now
-
 pub returns-then-total_at-eq18446744073709551615 : goal.returns-then-total_at-eq18446744073709551615
 returns-then-total_at-eq18446744073709551615 c =
-    stopped_as_lem c.refused.ensures (full_list c.args.table.now c.args.order.now (start (goal.at.returns-then-total_at-eq18446744073709551615 c).Start) (sym c.total_at.ensures ∙ c.if-total_at-eq18446744073709551615.true))
+    stopped_as_lem c.refused.ensures (full_list c.args.table.now c.args.order.now (memory_of c.args.bytes.now c.args.words.now c.args.numbers.now c.args.sums.now) (sym c.total_at.ensures ∙ c.if-total_at-eq18446744073709551615.true))
 
 pub returns : goal.returns
 returns c =
-    driven_list c.args.table.now c.args.order.now (start (goal.at.returns c).Start) (λ x. c.if-total_at-eq18446744073709551615.false (c.total_at.ensures ∙ x)) c.drive.ensures
+    driven_list c.args.table.now c.args.order.now (memory_of c.args.bytes.now c.args.words.now c.args.numbers.now c.args.sums.now) (λ x. c.if-total_at-eq18446744073709551615.false (c.total_at.ensures ∙ x)) c.drive.ensures

@@ -9,9 +9,10 @@ use Rattle.run_memory.specs.Blocks.{memory_of}
 use Rattle.deques.specs.DequeRuns.{pair_at}
 use Rattle.run_memory.proofs.Drives.{stopped_as_lem}
 use Rattle.stealing.proofs.PairDrives.{Along, first_along, spent, root_stops, hindered, again, worker_read, choice_read}
+use Rattle.stealing.proofs.runs.drive.Goals.{In-loop-i}
 use Rattle.stealing.proofs.runs.drive.Goals as goal
 
-inside : (i : goal.In-loop-i → i.loop-i.i < length i.args.order.now / 2
+inside : (i : In-loop-i) → i.loop-i.i < length i.args.order.now / 2
 inside i = subst (λ (n : ℕ). i.loop-i.i < n) i.loop-i.invariant.size i.loop-i-test.true
 
 pub loop-i-init : goal.loop-i-init
@@ -21,33 +22,13 @@ pub returns-then-root_ended : goal.returns-then-root_ended
 returns-then-root_ended c =
     stopped_as_lem c.over.ensures (root_stops c.loop-i.invariant.along (inside (goal.at.returns-then-root_ended c).In-loop-i) (sym c.root_ended.ensures ∙ c.if-root_ended.true))
 
-pub overflow_mul-i : goal.overflow_mul-i
-overflow_mul-i c =
-    omega (arith, inside (goal.at.overflow_mul-i c).In-loop-i, c.good)
-
-pub overflow_mul-i-in-loop-i : goal.overflow_mul-i-in-loop-i
-overflow_mul-i-in-loop-i c =
-    omega (arith, inside (goal.at.overflow_mul-i-in-loop-i c).In-loop-i, c.good)
-
-pub overflow_add-i : goal.overflow_add-i
-overflow_add-i c =
-    omega (arith, inside (goal.at.overflow_add-i c).In-loop-i, c.good)
-
 pub returns-then-told-ne0 : goal.returns-then-told-ne0
 returns-then-told-ne0 c =
     let i = c in
     let l = i in
     stopped_as_lem c.refused.ensures
-    (hindered l.loop-i.invariant.along (inside i) (sym c.root_ended.ensures ∙ c.if-root_ended.false) (worker_read l.args.order.now _ c.byte-w.ensures) (choice_read l.args.order.now _ c.byte-c.ensures) c.deque_turn_in-told.ensures
+    (hindered l.loop-i.invariant.along (inside (goal.at.returns-then-told-ne0 c).In-loop-i) (sym c.root_ended.ensures ∙ c.if-root_ended.false) (worker_read l.args.order.now _ c.byte-w.ensures) (choice_read l.args.order.now _ c.byte-c.ensures) c.deque_turn_in-told.ensures
     c.if-told-ne0.true)
-
-pub overflow_add-i-in-loop-i : goal.overflow_add-i-in-loop-i
-overflow_add-i-in-loop-i c =
-    omega (arith, inside (goal.at.overflow_add-i-in-loop-i c).In-loop-i, c.good)
-
-pub loop-i-smaller : goal.loop-i-smaller
-loop-i-smaller c =
-    omega (arith, c.loop-i-test.true)
 
 pub loop-i-preserved : goal.loop-i-preserved
 loop-i-preserved c =
