@@ -42,7 +42,7 @@ module _ {l : List ℕ} {count : ℕ} {rises falls peaks : List ℕ} where
     top_next e f g q = rw add-one (cc)
 
 -- what the calls of an action give: a child's number, and the two sums after it
-child_index : (c : After-action_in-action → c.action_in-action.result.code ≡ 4 → c.action_in-action.result.argument < 1024
+child_index : (c : After-action_in-action) → c.action_in-action.result.code ≡ 4 → c.action_in-action.result.argument < 1024
 unfolding kind_of
 child_index c e =
     let v = c.loop-i.invariant in
