@@ -27,7 +27,6 @@ use Rattle.table.proofs.NestedThreads.{nested_few}
 use Rattle.table.proofs.Values.{table_values_lem}
 use Rattle.facts.specs.Code.Steps.{Kept}
 use Rattle.facts.specs.Weigh.{left_of, weigh, weighed_by, weighing}
-use Rattle.facts.specs.declared.Weighed.{Weighed}
 use Rattle.facts.specs.declared.Weighing.{Weighing}
 use Rattle.facts.specs.declared.Weighing.TheVariants.{Accepted as weighed, Refused as unweighed}
 use Rattle.facts.proofs.EndLevels.{by_rules, in_threads, few_threads, few_actions}

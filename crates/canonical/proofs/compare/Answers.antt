@@ -3,4 +3,4 @@ use borrow.Author.Rules.{rules}
 use Rattle.canonical.proofs.compare.Goals as goal
 
 pub returns : goal.returns
-returns c = let e = c.compare_in.ensures in record { value = e.0; result_value = e.1.0; a_after = e.1.1.0; b_after = e.1.1.1.0 }
+returns c = record { value = c.compare_in.ensures.value; result_value = c.compare_in.ensures.result_value; a_after = c.compare_in.ensures.a_after; b_after = c.compare_in.ensures.b_after }

@@ -21,5 +21,4 @@ compare_forms-requires c = (
 
 pub returns : goal.returns
 returns c = let d = c.args in
-    let w = c.compare_forms.ensures in
-    let v = compare_said d.first.now d.second.now d.a.now d.b.now (sym c.check_in-found.ensures.value ∙ c.in_default.is) (sym c.check_in-found-2.ensures.value ∙ c.in_default-found.is) _ _ _ w.0 w.1.0 w.1.1.0 in record { value = v.answer; result_value = v.values; a_after = v.left; b_after = v.left'; rises_after = c.check_in-found-2.ensures.rises_after; names_after = w.1.1.1 }
+    let v = compare_said d.first.now d.second.now d.a.now d.b.now (sym c.check_in-found.ensures.value ∙ c.in_default.is) (sym c.check_in-found-2.ensures.value ∙ c.in_default-found.is) _ _ _ c.compare_forms.ensures.value c.compare_forms.ensures.a_after c.compare_forms.ensures.b_after in record { value = v.answer; result_value = v.values; a_after = v.left; b_after = v.left'; rises_after = c.check_in-found-2.ensures.rises_after; names_after = c.compare_forms.ensures.names_after }

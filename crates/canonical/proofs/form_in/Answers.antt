@@ -15,5 +15,4 @@ write_form-k-requires c =
 
 pub returns : goal.returns
 returns c = let d = c.args in
-    let w = c.write_form-k.ensures in
-    let v = form_written d.table.now d.out.now (sym c.check_in-found.ensures.value ∙ c.in_default.is) _ _ w.0.0 w.0.1 in record { value = v.answer; result_value = v.values; out_after = v.left; rises_after = c.check_in-found.ensures.rises_after; names_after = w.1 }
+    let v = form_written d.table.now d.out.now (sym c.check_in-found.ensures.value ∙ c.in_default.is) _ _ c.write_form-k.ensures.value.0 c.write_form-k.ensures.value.1 in record { value = v.answer; result_value = v.values; out_after = v.left; rises_after = c.check_in-found.ensures.rises_after; names_after = c.write_form-k.ensures.names_after }

@@ -1,17 +1,16 @@
 -- `facts::load` meets its contract: where no check applies every rule is kept, and the facts are the definitions'.
 use mathlib.Core.Path.{◌≡◌, sym, ◌∙◌}
 use native.Mathlib.Omega.{arith}
-use borrow.Author.Rules.{rules}
 use Rattle.table.specs.Pass.{first_found}
 use Rattle.table.specs.Checks.{passes}
 use Rattle.table.specs.declared.Found.TheVariants.{Nothing}
 use Rattle.facts.specs.Code.Steps.{Kept}
 use Rattle.facts.proofs.Accepted.{kept, small, shallow, few_levels, facts_are, refused, accepted, answered}
-use Rattle.facts.proofs.load.Goals.{After-actions-m, In_default}
+use Rattle.facts.proofs.load.Goals.{After-actions-m}
 use Rattle.facts.proofs.load.Goals as goal
 
 -- the table keeps the rules
-none : (c : In_default) → first_found (passes c.args.table.now) ≡ Nothing
+none : (c : After-actions-m) → first_found (passes c.args.table.now) ≡ Nothing
 none c = sym c.check-found.ensures ∙ c.in_default.is
 
 known : (c : After-actions-m) → Kept c.args.table.now c.threads-n.result c.actions-m.result
@@ -42,4 +41,4 @@ pub overflow_cast-result-4 : goal.overflow_cast-result-4
 overflow_cast-result-4 c = omega (arith, c.nested_levels-nested.ensures, few_levels (known (goal.at.overflow_cast-result-4 c).After-actions-m))
 
 pub returns : goal.returns
-returns c = let both = answered _ (accepted _ (none (goal.at.returns c).In_default) (facts_are (known (goal.at.returns c).After-actions-m) c.serial_amounts-amounts.ensures.peak_value c.depth-depth.ensures c.nested_levels-nested.ensures)) in record { value = both.0; result_value = both.1 }
+returns c = let both = answered _ (accepted _ (none (goal.at.returns c).After-actions-m) (facts_are (known (goal.at.returns c).After-actions-m) c.serial_amounts-amounts.ensures.peak_value c.depth-depth.ensures c.nested_levels-nested.ensures)) in record { value = both.0; result_value = both.1 }

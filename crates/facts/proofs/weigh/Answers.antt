@@ -1,17 +1,16 @@
 -- `facts::weigh` meets its contract: as `load`, without recursion and with what is left.
 use mathlib.Core.Path.{◌≡◌, sym, ◌∙◌}
 use native.Mathlib.Omega.{arith}
-use borrow.Author.Rules.{rules}
 use Rattle.table.specs.Pass.{first_found}
 use Rattle.table.specs.Checks.{passes}
 use Rattle.table.specs.declared.Found.TheVariants.{Nothing}
 use Rattle.facts.specs.Code.Steps.{Kept}
 use Rattle.facts.proofs.Accepted.{kept, small, shallow, few_levels, facts_are, weighed_not, weighed_is}
-use Rattle.facts.proofs.weigh.Goals.{After-actions-m, In_default}
+use Rattle.facts.proofs.weigh.Goals.{After-actions-m}
 use Rattle.facts.proofs.weigh.Goals as goal
 
 -- the table keeps the rules
-none : (c : In_default) → first_found (passes c.args.table.now) ≡ Nothing
+none : (c : After-actions-m) → first_found (passes c.args.table.now) ≡ Nothing
 none c = sym c.check_in-found.ensures.value ∙ c.in_default.is
 
 known : (c : After-actions-m) → Kept c.args.table.now c.threads-n.result c.actions-m.result
@@ -43,5 +42,4 @@ overflow_cast-facts-4 c = omega (arith, c.nested_levels-nested.ensures, few_leve
 
 pub returns : goal.returns
 returns c =
-    let a = c.serial_amounts-amounts.ensures in
-    weighed_is _ (none (goal.at.returns c).In_default) (facts_are (known (goal.at.returns c).After-actions-m) a.0 c.depth_in-depth.ensures c.nested_levels-nested.ensures) a.1
+    weighed_is _ (none (goal.at.returns c).After-actions-m) (facts_are (known (goal.at.returns c).After-actions-m) c.serial_amounts-amounts.ensures.peak_value c.depth_in-depth.ensures c.nested_levels-nested.ensures) c.serial_amounts-amounts.ensures.left_value

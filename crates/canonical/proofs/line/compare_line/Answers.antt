@@ -25,8 +25,7 @@ second_is L n k r e f = rw (f, e) (drop_what_is L r)
 
 pub returns-then-input-lt4 : goal.returns-then-input-lt4
 returns-then-input-lt4 c = let d = c.args in
-    let e = c.table_line.ensures in
-    let p = short_told d.input.now d.out.now _ _ c.if-input-lt4.true e.0 e.1.0 in record { value = p.0; out_after = p.1; prefix_len = e.1.1.0 }
+    let p = short_told d.input.now d.out.now _ _ c.if-input-lt4.true c.table_line.ensures.value c.table_line.ensures.out_after in record { value = p.0; out_after = p.1; prefix_len = c.table_line.ensures.prefix_len }
 
 pub slice_bounds-compare-end : goal.slice_bounds-compare-end
 slice_bounds-compare-end c = sym (length-take-le _ _ (omega (arith, c.lesser-k.ensures)))

@@ -2,7 +2,6 @@
 use mathlib.Core.Path.{sym}
 use native.Mathlib.Omega.{arith}
 use lib.ListN.{get_or-eq_default}
-use borrow.Author.Rules.{rules}
 use Rattle.facts.proofs.depth.depth_at.Goals as goal
 
 pub returns-else-x-lt1024 : goal.returns-else-x-lt1024

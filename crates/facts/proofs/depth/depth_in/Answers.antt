@@ -3,14 +3,13 @@ use Prim.Native.Nat.{ℕ, suc, ◌+◌, ◌-◌, ◌*◌, ◌≤◌}
 use mathlib.Core.List.{List}
 use native.Mathlib.Omega.{arith}
 use lib.ListN.{length, get_or, set, drop, replicate, length-replicate}
-use borrow.Author.Rules.{rules}
 use Rattle.table.specs.Format.{first_of, bodies_from, bodies_of, body_of, table_of, code_at, argument_at}
 use Rattle.table.specs.Level.{D}
 use Rattle.table.proofs.Sizes.{sizes}
 use Rattle.table.proofs.Parts.{body_from, code_part, argument_part}
 use Rattle.facts.specs.Code.Steps.{Kept}
 use Rattle.facts.specs.Code.DepthWalk.{Reached, reached, body_depth, thread_walked, thread_depth, depths_down, cut16}
-use Rattle.facts.proofs.EndLevels.{in_threads, few_threads, few_actions}
+use Rattle.facts.proofs.EndLevels.{few_threads, few_actions}
 use Rattle.facts.proofs.DepthWalk.{WellNested, body_length, thread_length, body_shift, depth_cut}
 use Rattle.facts.proofs.depth.depth_in.Invariants.{Inv}
 use Rattle.facts.proofs.depth.depth_in.Goals as goal

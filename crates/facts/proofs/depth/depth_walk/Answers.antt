@@ -4,7 +4,6 @@ use mathlib.Core.List.{List}
 use native.Mathlib.Omega.{arith}
 use native.Mathlib.Numerals.{add-one}
 use lib.ListN.{length}
-use borrow.Author.Rules.{rules}
 use Rattle.table.specs.Format.{kind_of, code_at, argument_at}
 use Rattle.facts.specs.Code.DepthWalk.{Reached, reached, step_depth, body_depth, cut16, Stepped}
 use Rattle.facts.proofs.DepthWalk.{step_length}

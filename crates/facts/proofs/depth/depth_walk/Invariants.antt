@@ -1,14 +1,10 @@
 -- `facts::depth::depth_walk` meets its contract. The invariant: what is left of the walk from here is the whole walk.
-use mathlib.Core.Path.{◌≡◌, ap, ◌∙◌}
-use Prim.Native.Nat.{ℕ, suc, ◌+◌, ◌-◌, ◌≤◌, ◌<◌}
+use mathlib.Core.Path.{◌≡◌}
+use Prim.Native.Nat.{ℕ, ◌+◌, ◌-◌, ◌≤◌, ◌<◌}
 use mathlib.Core.List.{List}
-use native.Mathlib.Omega.{arith}
-use native.Mathlib.Numerals.{add-one}
 use lib.ListN.{length}
-use borrow.Author.Rules.{rules}
-use Rattle.table.specs.Format.{kind_of, code_at, argument_at}
-use Rattle.facts.specs.Code.DepthWalk.{Reached, reached, step_depth, body_depth, cut16, Stepped}
-use Rattle.facts.proofs.DepthWalk.{step_length}
+use Rattle.table.specs.Format.{code_at, argument_at}
+use Rattle.facts.specs.Code.DepthWalk.{Reached, reached, body_depth, cut16}
 use Rattle.facts.proofs.depth.depth_walk.Given as goal
 
 abbrev pub rest : List ℕ → ℕ → ℕ → Reached → Reached

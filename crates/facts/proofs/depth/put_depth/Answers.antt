@@ -3,7 +3,6 @@ use mathlib.Core.Path.{sym}
 use Prim.Native.Nat.{◌%◌}
 use native.Mathlib.Omega.{arith}
 use lib.Seq.{set_out}
-use borrow.Author.Rules.{rules}
 use Rattle.facts.proofs.depth.put_depth.Goals as goal
 
 pub returns-else-x-lt1024 : goal.returns-else-x-lt1024

@@ -9,7 +9,7 @@ use Rattle.table.specs.Format.{fork, join, kind_of, is, kind, code_at, argument_
 use Rattle.table.specs.Level.{level}
 use Rattle.table.specs.Code.Steps.{Nested}
 use Rattle.facts.specs.Code.Steps.{Starts, EndLevels, Walked, next_level}
-use Rattle.table.proofs.Sizes.{Sizes, sizes}
+use Rattle.table.proofs.Sizes.{sizes}
 use Rattle.table.proofs.Bodies.{first_within, fork_below_lem, join_below}
 use Rattle.table.proofs.Rank.{rest}
 use Rattle.table.proofs.Amounts.{action_within}

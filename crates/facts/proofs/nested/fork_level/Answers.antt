@@ -6,7 +6,6 @@ use native.Mathlib.Numerals.{add-one}
 use native.Mathlib.Omega.{arith}
 use lib.ListN.{set}
 use borrow.Author.Tests.{eq-eqb, ne_eqb}
-use borrow.Author.Rules.{rules}
 use Rattle.table.specs.Sum.{pick}
 use Rattle.table.specs.Format.{fork, is, kind_of}
 use Rattle.table.proofs.Walks.{is_code}

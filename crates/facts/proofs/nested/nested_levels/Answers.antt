@@ -1,20 +1,19 @@
 use mathlib.Core.Path.{◌≡◌, refl, sym, ◌∙◌}
-use Prim.Native.Nat.{ℕ, suc, ◌+◌, ◌-◌, ◌≤◌, ◌<◌, max}
+use Prim.Native.Nat.{ℕ, suc, ◌+◌, ◌≤◌, ◌<◌, max}
 use mathlib.Core.List.{List}
 use native.Mathlib.Numerals.{add-one}
 use native.Mathlib.Omega.{arith}
 use native.Mathlib.Nat.{min-eq_left}
-use borrow.Author.Rules.{rules}
 use lib.ListN.{get_or, set, replicate}
 use Rattle.table.specs.Sum.{pick}
 use Rattle.table.specs.Format.{end, fork, is, kind_of, Table, table_of, kind, code_at, argument_at, bodies_of, bodies_from}
 use Rattle.table.specs.Rules.{ContentRules, BodyRules, NestRules, ForkRules}
 use Rattle.table.specs.Nested.{N}
 use Rattle.table.specs.Code.Steps.{Nested}
-use Rattle.table.proofs.Sizes.{Sizes, sizes}
+use Rattle.table.proofs.Sizes.{sizes}
 use Rattle.table.proofs.Bodies.{fork_below_lem}
 use Rattle.table.proofs.NestedThreads.{nest_few}
-use Rattle.facts.proofs.NestWalk.{NestsTo, nests_first, nests_below, nests_known, nests_next, nests_all}
+use Rattle.facts.proofs.NestWalk.{nests_first, nests_below, nests_known, nests_next, nests_all}
 use Rattle.table.proofs.Parts.{bodies_from_lem, bodies_length}
 use Rattle.facts.proofs.nested.nested_levels.Invariants.{Inv}
 use Rattle.facts.proofs.nested.nested_levels.Goals as goal

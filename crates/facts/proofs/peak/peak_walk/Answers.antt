@@ -5,7 +5,6 @@ use mathlib.Core.Bool.{Bool, true, false}
 use native.Mathlib.Numerals.{add-one}
 use native.Mathlib.Omega.{arith}
 use native.Mathlib.Nat.{min-eq_left}
-use borrow.Author.Rules.{rules}
 use lib.ListN.{get_or}
 use Rattle.table.specs.Sum.{pick, sum_to, greatest_to}
 use Rattle.table.specs.Format.{alloc, free, fork, kind_of, is, code_at, argument_at}
@@ -49,25 +48,23 @@ child_index c e =
     child_small v.0.ready (omega (arith, v.1, c.loop-i-test.true)) c.action_in-action.ensures.code_value c.action_in-action.ensures.read.value (rw e)
 
 risen_next : (c : After-child_amount-in-loop-i) →
-    let c = c.args in
-    Summed (amount_at alloc fork c.body.now c.rises.now) c.loop-i.i (c.loop-i.rise + (c.alloc_of.result + c.child_amount-in-loop-i.result))
+    let s = c.args in
+    Summed (amount_at alloc fork s.body.now s.rises.now) c.loop-i.i (c.loop-i.rise + (c.alloc_of.result + c.child_amount-in-loop-i.result))
 risen_next c =
     let v = c.loop-i.invariant in
     sum_next alloc fork _ _ v.0.ready.rise_small (omega (arith, v.1, c.loop-i-test.true)) c.action_in-action.ensures.code_value c.action_in-action.ensures.read.value
     c.alloc_of.ensures c.child_amount-in-loop-i.ensures v.0.risen
 
 fallen_next : (c : After-child_amount-in-loop-i-2) →
-    let c = c.args in
-    Summed (amount_at free fork c.body.now c.falls.now) c.loop-i.i (c.loop-i.fall + (c.free_of.result + c.child_amount-in-loop-i-2.result))
+    let s = c.args in
+    Summed (amount_at free fork s.body.now s.falls.now) c.loop-i.i (c.loop-i.fall + (c.free_of.result + c.child_amount-in-loop-i-2.result))
 fallen_next c =
     let v = c.loop-i.invariant in
     sum_next free fork _ _ v.0.ready.fall_small (omega (arith, v.1, c.loop-i-test.true)) c.action_in-action.ensures.code_value c.action_in-action.ensures.read.value
     c.free_of.ensures c.child_amount-in-loop-i-2.ensures v.0.fallen
 
 pub loop-i-init : goal.loop-i-init
-loop-i-init c =
-    let r = c.requires in
-    (start r.0 r.1, c.lesser-stop.ensures ∙ min-eq_left (omega (arith, r.0.room)))
+loop-i-init c = let r = c.requires in (start r.walk_ready r.peaks_ready, c.lesser-stop.ensures ∙ min-eq_left (omega (arith, r.walk_ready.room)))
 
 pub overflow_sub-rise : goal.overflow_sub-rise
 overflow_sub-rise c = held c.loop-i.invariant.0

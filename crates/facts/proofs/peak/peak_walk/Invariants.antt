@@ -1,20 +1,11 @@
 -- `facts::peak::peak_walk` meets its contract. The invariant: the sums and the highest are those of the actions before i; what a sum is after an action is part of the whole sum, which is small.
-use mathlib.Core.Path.{◌≡◌, refl, ◌∙◌}
-use Prim.Native.Nat.{ℕ, ◌+◌, ◌-◌, ◌^◌, ◌<◌, ◌≤◌, max}
+use mathlib.Core.Path.{◌≡◌}
+use Prim.Native.Nat.{ℕ, ◌-◌, ◌≤◌}
 use mathlib.Core.List.{List}
-use mathlib.Core.Bool.{Bool, true, false}
-use native.Mathlib.Numerals.{add-one}
-use native.Mathlib.Omega.{arith}
-use native.Mathlib.Nat.{min-eq_left}
-use borrow.Author.Rules.{rules}
-use lib.ListN.{get_or}
-use Rattle.table.specs.Sum.{pick, sum_to, greatest_to}
-use Rattle.table.specs.Format.{alloc, free, fork, kind_of, is, code_at, argument_at}
-use Rattle.table.specs.Code.Steps.{child_amount, amount_at, WalkReady}
+use Rattle.table.specs.Sum.{sum_to, greatest_to}
+use Rattle.table.specs.Format.{alloc, free, fork}
+use Rattle.table.specs.Code.Steps.{amount_at, WalkReady}
 use Rattle.facts.specs.Code.Steps.{top_of, PeaksReady}
-use Rattle.table.proofs.Tests.{is_true}
-use Rattle.table.proofs.Sums.{sum_to_part}
-use Rattle.table.proofs.Walks.{Summed, sum_next, child_small}
 use Rattle.facts.proofs.peak.peak_walk.Given as goal
 
 pub record Inv (l : List ℕ) (count : ℕ) (rises falls peaks : List ℕ) (rise fall peak i : ℕ) : Type 0 where

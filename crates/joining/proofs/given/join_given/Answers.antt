@@ -40,5 +40,4 @@ slice_bounds-join-end-2 c = sym (length-take-le _ _ (omega (arith, c.if-count-gt
 
 pub returns : goal.returns
 returns c = let d = c.args in
-    let j = c.join.ensures in
-    let v = said d.input.now c.wide-count.result (c.wide-count.ensures.value ∙ c.byte.ensures) c.lengths_to-lengths.result c.lengths_to-lengths.ensures.result_value d.out.now _ _ c.if-input-start.false j.0 j.1.0 j.1.1 in record { value = v.answer; result_value = v.values; out_after = v.left }
+    let v = said d.input.now c.wide-count.result (c.wide-count.ensures.value ∙ c.byte.ensures) c.lengths_to-lengths.result c.lengths_to-lengths.ensures.result_value d.out.now _ _ c.if-input-start.false c.join.ensures.value c.join.ensures.result_value c.join.ensures.out_after in record { value = v.answer; result_value = v.values; out_after = v.left }

@@ -23,7 +23,7 @@ returns-in-Written c = let both = line_of _ _ c.args.out.now _ _ c.in-Written.is
 pub returns-in-Refused : goal.returns-in-Refused
 unfolding join_line
 returns-in-Refused c = let d = c.args in
-    let e = c.table_line.ensures in let both = line_of _ _ d.out.now _ _ c.in-Refused.is e.0 (rw e.0 at e.1.0) in record { value = both.0; out_after = both.1.0; prefix_len = both.1.1 }
+    let both = line_of _ _ d.out.now _ _ c.in-Refused.is c.table_line.ensures.value (rw c.table_line.ensures.value at c.table_line.ensures.out_after) in record { value = both.0; out_after = both.1.0; prefix_len = both.1.1 }
 
 pub returns-in-InPart : goal.returns-in-InPart
 unfolding join_line
