@@ -1,18 +1,15 @@
 -- The answers and the buffers by what the checks find; which tables are refused; the values without the answer.
-use mathlib.Core.Path.{◌≡◌, refl, sym, ap, ◌∙◌}
-use Prim.Native.Nat.{ℕ, ◌≤◌}
-use mathlib.Core.List.{List, [], ◌∷◌}
+use mathlib.Core.Path.{◌≡◌, refl, ap, ◌∙◌}
+use Prim.Native.Nat.{ℕ}
+use mathlib.Core.List.{List}
 use mathlib.Core.Logic.{◌↔◌}
-use native.Mathlib.Omega.{arith}
 use lib.ListN.{length}
 use Rattle.table.specs.Load.{loaded, facts_of}
 use Rattle.table.specs.Format.{table_of}
-use Rattle.table.specs.declared.Facts.{Facts}
 use Rattle.table.specs.declared.Refusal.{Refusal}
 use Rattle.table.specs.declared.Found.{Found}
 use Rattle.table.specs.declared.Found.TheVariants.{Nothing, At}
-use Rattle.table.specs.declared.Loaded.{Loaded}
-use Rattle.table.specs.declared.Loaded.TheVariants.{Accepted, Refused as Rejected}
+use Rattle.table.specs.declared.Loaded.TheVariants.{Refused as Rejected}
 use Rattle.rows.specs.Rows.{over}
 use Rattle.canonical.specs.Canonical.{canonical}
 use Rattle.canonical.specs.Order.{Ordered, before, equal, after, compare_tables}
@@ -20,7 +17,7 @@ use Rattle.canonical.specs.Answers.{found_in, formed, formed_in, form_values, fo
 use Rattle.canonical.specs.declared.Formed.{Formed}
 use Rattle.canonical.specs.declared.Formed.TheVariants.{Written, Refused}
 use Rattle.canonical.specs.declared.Compared.{Compared}
-use Rattle.canonical.specs.declared.Compared.TheVariants.{Before, Equal, After, Refused as RefusedOf}
+use Rattle.canonical.specs.declared.Compared.TheVariants.{Refused as RefusedOf}
 
 -- ---- the form
 

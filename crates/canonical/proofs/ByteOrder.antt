@@ -1,18 +1,14 @@
 -- The order of lists of bytes: total, and decided at the first difference.
-use Prim.Native.Nat.{ℕ, zero, suc, ◌+◌, ◌*◌, ◌≤◌, ◌<◌}
+use Prim.Native.Nat.{ℕ, zero, suc, ◌<◌}
 use native.Mathlib.Omega.{arith}
 use native.Mathlib.Decide.{dec_lt}
 use mathlib.Core.Path.{◌≡◌, refl, sym, ap, ◌∙◌}
 use mathlib.Core.List.{List, [], ◌∷◌}
-use mathlib.Core.Bool.{Bool, true, false}
-use mathlib.Core.Logic.{◌↔◌, ◌⊎◌, inl, inr}
-use lib.Dec.{ltb}
+use mathlib.Core.Logic.{◌⊎◌, inl, inr}
 use lib.ListN.{length, get_or}
-use borrow.Author.Tests.{lt-ltb, le-ltb, ltb-true, ltb-false}
-use Rattle.table.specs.Sum.{pick}
-use Rattle.table.specs.Format.{u16_at}
+use borrow.Author.Tests.{lt-ltb, le-ltb}
 use Rattle.table.proofs.Tests.{no_way}
-use Rattle.canonical.specs.Order.{Ordered, before, equal, after, swapped, byte_order, SmallerAt}
+use Rattle.canonical.specs.Order.{before, equal, after, swapped, byte_order, SmallerAt}
 
 -- three ways that two numbers stand
 data Stand (x y : ℕ) : Type 0 where

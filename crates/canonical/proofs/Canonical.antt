@@ -1,19 +1,18 @@
 -- The canonical form of an accepted table is accepted with the same facts, and comparing by it is an order up to renaming.
-use Prim.Native.Nat.{ℕ, zero, suc, ◌+◌, ◌*◌, ◌≤◌, ◌<◌}
+use Prim.Native.Nat.{ℕ, suc, ◌+◌, ◌≤◌, ◌<◌}
 use native.Mathlib.Omega.{arith}
 use mathlib.Core.Path.{◌≡◌, refl, sym, ap, ◌∙◌}
-use mathlib.Core.List.{List, [], ◌∷◌, map, flatten}
+use mathlib.Core.List.{List, [], ◌∷◌, map}
 use mathlib.Core.Logic.{◌↔◌, ⊎_elim}
-use lib.ListN.{length, get_or}
-use Rattle.table.specs.Format.{Table, table_of, threads_of, actions_of}
+use lib.ListN.{length}
+use Rattle.table.specs.Format.{Table, table_of}
 use Rattle.table.specs.Checks.{end_of}
 use Rattle.table.specs.Load.{loaded, facts_of}
-use Rattle.table.specs.Serial.{serial, serial_order, S1}
+use Rattle.table.specs.Serial.{serial_order, S1}
 use Rattle.table.specs.Level.{level, D}
 use Rattle.table.specs.Nested.{nest, N}
 use Rattle.table.specs.declared.Facts.{Facts}
-use Rattle.table.specs.declared.Loaded.{Loaded}
-use Rattle.table.specs.declared.Loaded.TheVariants.{Accepted, Refused}
+use Rattle.table.specs.declared.Loaded.TheVariants.{Accepted}
 use Rattle.table.proofs.Bodies.{first_within, end_within}
 use Rattle.table.proofs.Serial.{serial_length}
 use Rattle.table.proofs.Levels.{level_root}
@@ -21,12 +20,12 @@ use Rattle.table.proofs.NestedThreads.{nest_root, nest_most}
 use Rattle.table.proofs.Passes.{accepted_exactly, accepted_facts}
 use Rattle.order.proofs.Lawful.{Lawful, lawful}
 use Rattle.table.specs.Written.{Action, written}
-use Rattle.parts.specs.Copies.{Copies, place_of}
+use Rattle.parts.specs.Copies.{place_of}
 use Rattle.parts.specs.Kept.{Keeps}
 use Rattle.parts.proofs.Short.{Short}
 use Rattle.canonical.specs.Renames.{Renames}
 use Rattle.canonical.specs.Canonical.{canonical_bodies, canonical}
-use Rattle.canonical.specs.Order.{Ordered, before, equal, after, swapped, byte_order, compare_tables, SmallerAt}
+use Rattle.canonical.specs.Order.{before, equal, swapped, compare_tables, SmallerAt}
 use Rattle.table.proofs.ReadBack.{argument_short, threads_back, actions_back, bytes_length}
 use Rattle.parts.proofs.HeadRule.{written_loaded}
 use Rattle.parts.proofs.CopyLaws.{copy_first, copy_end, copy_serial, copy_level}

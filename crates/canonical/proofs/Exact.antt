@@ -1,11 +1,10 @@
 -- Equal forms exactly when one table becomes the other by renaming threads.
-use Prim.Native.Nat.{ℕ, zero, suc, ◌+◌, ◌≤◌, ◌<◌}
+use Prim.Native.Nat.{ℕ, ◌+◌, ◌<◌}
 use native.Mathlib.Omega.{arith}
 use mathlib.Core.Path.{◌≡◌, refl, sym, ap, ◌∙◌}
-use mathlib.Core.List.{List, map}
 use mathlib.Core.Logic.{◌↔◌}
-use lib.ListN.{length, get_or}
-use Rattle.table.specs.Format.{Kind, end, work, alloc, free, fork, join, unknown, Table, kind, kind_of, table_of}
+use lib.ListN.{get_or}
+use Rattle.table.specs.Format.{Kind, end, work, alloc, free, fork, join, unknown, Table, kind, kind_of}
 use Rattle.table.proofs.Bodies.{fork_below_lem, join_below}
 use Rattle.table.proofs.Amounts.{action_within}
 use Rattle.order.proofs.Lawful.{Lawful}

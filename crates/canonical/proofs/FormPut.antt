@@ -1,11 +1,11 @@
 -- What code puts for an accepted table is its canonical form, at the start of a buffer that has room for every table.
 use mathlib.Core.Path.{◌≡◌, refl, sym, ap, ◌∙◌}
-use Prim.Native.Nat.{ℕ, zero, suc, ◌+◌, ◌*◌, ◌≤◌, ◌<◌}
-use mathlib.Core.List.{List, [], ◌∷◌, ◌++◌, flatten, Memᴰ}
+use Prim.Native.Nat.{ℕ, ◌≤◌, ◌<◌}
+use mathlib.Core.List.{List, [], ◌∷◌, flatten, Memᴰ}
 use native.Mathlib.Omega.{arith}
-use lib.ListN.{length, get_or, take, drop, length-append}
+use lib.ListN.{length, take, drop, length-append}
 use lib.Seq.{take_at}
-use Rattle.table.specs.Format.{threads_of, bodies_of, first_of, count_of, table_of}
+use Rattle.table.specs.Format.{threads_of, first_of, count_of, table_of}
 use Rattle.table.specs.Written.{table_rows, written}
 use Rattle.table.specs.Load.{if_found}
 use Rattle.table.specs.declared.Found.{Found}
@@ -18,11 +18,10 @@ use Rattle.text.specs.Text.{buffer_at}
 use Rattle.text.specs.Puts.{put_all}
 use Rattle.text.proofs.Putting.{puts_whole}
 use Rattle.order.proofs.Lawful.{Lawful, lawful}
-use Rattle.rows.specs.Rows.{over, renamed_rows, ordered_rows, named_by}
+use Rattle.rows.specs.Rows.{over, ordered_rows, named_by}
 use Rattle.canonical.specs.Canonical.{thread_order, new_number, canonical_bodies, canonical}
 use Rattle.canonical.specs.Answers.{found_in, formed_by, formed, formed_in}
-use Rattle.canonical.specs.declared.Formed.{Formed}
-use Rattle.canonical.specs.declared.Formed.TheVariants.{Written, Refused}
+use Rattle.canonical.specs.declared.Formed.TheVariants.{Written}
 use Rattle.canonical.specs.Code.NumbersOf.{numbers_of, order_of}
 use Rattle.canonical.specs.Code.Rows.{Accepts, form_rows}
 use Rattle.canonical.proofs.Renaming.{order_below}

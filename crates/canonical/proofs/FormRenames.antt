@@ -1,30 +1,27 @@
 -- The canonical form of a table is a renaming of it.
-use Prim.Native.Nat.{ℕ, zero, suc, ◌+◌, ◌≤◌, ◌<◌}
+use Prim.Native.Nat.{ℕ, zero, suc, ◌≤◌, ◌<◌}
 use native.Mathlib.Omega.{arith}
-use mathlib.Core.Path.{◌≡◌, refl, sym, ap, ◌∙◌}
+use mathlib.Core.Path.{◌≡◌, refl, ap, ◌∙◌}
 use mathlib.Core.List.{List, [], ◌∷◌, ◌++◌, map, flatten, Memᴰ}
 use mathlib.Core.Bool.{Bool, true, false}
-use mathlib.Core.Logic.{◌⊎◌, inl, inr, ⊎_elim}
+use mathlib.Core.Logic.{◌⊎◌, inl, inr}
 use native.Mathlib.Decide.{dec_lt}
 use lib.Dec.{eqb}
 use lib.ListN.{length, get_or}
-use borrow.Author.Tests.{eqb-true, eqb-false, eq-eqb, ne_eqb}
+use borrow.Author.Tests.{eqb-true, eqb-false}
 use Rattle.table.specs.Sum.{pick}
-use Rattle.table.specs.Format.{fork, join, is, Table, kind, table_of}
+use Rattle.table.specs.Format.{fork, join, Table, kind, table_of}
 use Rattle.table.specs.Checks.{owner, open_before}
-use Rattle.table.specs.Rules.{Rules, ContentRules, BodyRules, NestRules, ForkRules, BalanceRules}
-use Rattle.table.specs.Serial.{serial_order}
-use Rattle.table.proofs.Bodies.{count_pos, owner_below_lem, owner_first, first_within, fork_below_lem, join_below, owner_of_first, fork_above}
+use Rattle.table.specs.Rules.{ContentRules, BodyRules, NestRules, ForkRules, BalanceRules}
+use Rattle.table.proofs.Bodies.{count_pos, owner_below_lem, owner_first, fork_below_lem, owner_of_first}
 use Rattle.table.proofs.Nesting.{open_join, open_forked}
-use Rattle.table.proofs.Serial.{serial_length}
 use Rattle.order.specs.Words.{place_in}
 use Rattle.order.specs.Order.{number_of}
 use Rattle.order.proofs.Lawful.{Lawful}
-use Rattle.order.proofs.Places.{place_of_lem}
 use Rattle.order.proofs.Numbers.{number_child, number_rises}
 use Rattle.order.proofs.Words.{Ascends}
 use Rattle.table.specs.Written.{Action, actions_from, body_in, written}
-use Rattle.parts.specs.Copies.{Copies, renamed_action, place_of}
+use Rattle.parts.specs.Copies.{Copies, renamed_action}
 use Rattle.canonical.specs.Renames.{Renames}
 use Rattle.canonical.specs.Canonical.{thread_order, new_number, canonical_bodies}
 use Rattle.table.proofs.ReadBack.{Reads, read_back}

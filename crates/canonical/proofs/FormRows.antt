@@ -1,7 +1,7 @@
 -- The rows of the canonical form, from the table's bytes, the order of its threads and their new numbers.
-use mathlib.Core.Path.{◌≡◌, refl, sym, ap, ◌∙◌}
+use mathlib.Core.Path.{◌≡◌, refl, sym, ◌∙◌}
 use Prim.Native.Nat.{ℕ, zero, suc, ◌+◌, ◌%◌, ◌≤◌, ◌<◌}
-use mathlib.Core.List.{List, [], ◌∷◌, ◌++◌, map, flatten, Memᴰ}
+use mathlib.Core.List.{List, [], ◌∷◌, map, flatten, Memᴰ}
 use native.Mathlib.Omega.{arith}
 use lib.ListN.{length, length-append}
 use Rattle.table.specs.Format.{Kind, end, work, alloc, free, fork, join, unknown, kind, bodies_of, threads_of, actions_of, first_of, count_of, table_of}

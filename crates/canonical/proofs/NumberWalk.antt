@@ -1,23 +1,22 @@
 -- The walks give the new numbers.
-use Prim.Native.Nat.{ℕ, zero, suc, ◌+◌, ◌-◌, ◌≤◌, ◌<◌}
+use Prim.Native.Nat.{ℕ, zero, suc, ◌+◌, ◌≤◌, ◌<◌}
 use native.Mathlib.Omega.{arith}
-use native.Mathlib.Decide.{dec_lt, ℕ_discrete}
+use native.Mathlib.Decide.{ℕ_discrete}
 use mathlib.Core.Path.{◌≡◌, refl, sym, ap, ◌∙◌}
-use mathlib.Core.List.{List, [], ◌∷◌}
+use mathlib.Core.List.{List}
 use mathlib.Core.Bool.{Bool, true, false}
 use lib.ListN.{length, get_or, set, length-set}
 use lib.Seq.{get_or-set_same, get_or-set_other}
 use Rattle.table.specs.Sum.{pick, sum_to}
-use Rattle.table.specs.Format.{Kind, end, fork, is, kind_of, Table, kind}
+use Rattle.table.specs.Format.{Kind, fork, is, kind_of, Table, kind}
 use Rattle.table.specs.Checks.{owner, counts_below}
 use Rattle.table.proofs.Tests.{no_way, is_true, same_is}
-use Rattle.table.proofs.Sums.{sum_to_cong}
-use Rattle.table.proofs.Bodies.{first_is, first_next, count_pos, body_within, counts_all, body_before, owner_at, owner_below_lem, owner_first, owner_end, fork_above, fork_below_lem}
+use Rattle.table.proofs.Bodies.{first_is, first_next, count_pos, body_within, counts_all, body_before, owner_at, owner_end, fork_above, fork_below_lem}
 use Rattle.table.proofs.Amounts.{fork_part, fork_part_bound, action_within}
 use Rattle.table.proofs.Nesting.{fork_exists}
 use Rattle.order.proofs.Lawful.{Lawful}
 use Rattle.canonical.specs.Canonical.{new_number}
-use Rattle.canonical.specs.Code.NumberWalk.{fork_size, forked_sizes, sizes_down, Numbered, numbered, step_number, number_body, number_thread, numbers_up, numbers_in}
+use Rattle.canonical.specs.Code.NumberWalk.{forked_sizes, sizes_down, Numbered, numbered, step_number, number_body, number_thread, numbers_up, numbers_in}
 use Rattle.canonical.proofs.Order.{new_below}
 use Rattle.canonical.proofs.Numbering.{one_fork, size_of, number_child_is, number_root_is, size_fork, size_plain, size_all}
 

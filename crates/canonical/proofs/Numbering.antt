@@ -1,7 +1,6 @@
 -- The new numbers from the sizes of subtrees: a child's number is its thread's, one more, and the sizes of the children forked before it.
-use Prim.Native.Nat.{ℕ, zero, suc, ◌+◌, ◌-◌, ◌≤◌, ◌<◌}
+use Prim.Native.Nat.{ℕ, zero, suc, ◌+◌, ◌-◌, ◌<◌}
 use native.Mathlib.Omega.{arith}
-use native.Mathlib.Decide.{dec_lt}
 use mathlib.Core.Path.{◌≡◌, refl, sym, ap, ◌∙◌}
 use mathlib.Core.List.{List, [], ◌∷◌, ◌++◌, append-nil, append_assoc}
 use mathlib.Core.Bool.{Bool, true, false}
@@ -11,10 +10,10 @@ use Rattle.table.specs.Sum.{pick, sum_to, sum_over}
 use Rattle.table.specs.Format.{end, fork, code_of, is, Table, kind}
 use Rattle.table.specs.Checks.{owner, whole}
 use Rattle.table.specs.Serial.{serial, serial_order}
-use Rattle.table.proofs.Tests.{is_true, fork_no_end}
+use Rattle.table.proofs.Tests.{is_true}
 use Rattle.table.proofs.Sums.{sum_over_append}
-use Rattle.table.proofs.Bodies.{first_within, owner_below_lem, owner_first, owner_end, fork_above, fork_below_lem, count_pos}
-use Rattle.table.proofs.Amounts.{fork_part, fork_part_fork, fork_part_step, fork_part_whole, whole_serial, action_within, action_next}
+use Rattle.table.proofs.Bodies.{owner_below_lem, owner_first, owner_end, fork_above, fork_below_lem}
+use Rattle.table.proofs.Amounts.{fork_part, fork_part_fork, fork_part_step, fork_part_whole, whole_serial, action_within}
 use Rattle.table.proofs.Nesting.{fork_exists}
 use Rattle.table.proofs.Rank.{no_end}
 use Rattle.table.proofs.Serial.{serial_fork, serial_step}

@@ -1,20 +1,17 @@
 -- The threads in the order of their forks: each stands there once.
-use Prim.Native.Nat.{ℕ, zero, suc, ◌+◌, ◌≤◌, ◌<◌}
+use Prim.Native.Nat.{ℕ, zero, suc, ◌+◌, ◌<◌}
 use native.Mathlib.Omega.{arith}
 use mathlib.Core.Path.{◌≡◌, refl, sym, ap, ◌∙◌}
 use mathlib.Core.List.{List, [], ◌∷◌, ◌++◌, map, Memᴰ}
 use mathlib.Core.Bool.{Bool, true, false}
 use mathlib.Core.Logic.{◌⊎◌, inl, inr, ⊎_elim}
-use lib.Dec.{eqb}
 use lib.ListN.{length, get_or}
-use borrow.Author.Tests.{eqb-true, eqb-false, eq-eqb, ne_eqb}
+use borrow.Author.Tests.{eq-eqb, ne_eqb}
 use Rattle.table.specs.Sum.{pick, sum_to}
 use Rattle.table.specs.Format.{fork, is, Table, kind}
-use Rattle.table.specs.Checks.{owner}
 use Rattle.table.specs.Serial.{serial_order}
-use Rattle.table.proofs.Sums.{sum_to_cong}
 use Rattle.table.proofs.Tests.{is_true, same_is}
-use Rattle.table.proofs.Bodies.{first_within, owner_below_lem}
+use Rattle.table.proofs.Bodies.{first_within}
 use Rattle.table.proofs.Nesting.{fork_exists}
 use Rattle.table.proofs.Serial.{serial_length, serial_below}
 use Rattle.order.specs.Words.{place_in, member, count_below}

@@ -1,13 +1,12 @@
 -- The threads by their new numbers stand in the order of their forks, so the rows that are put are those of the form.
-use mathlib.Core.Path.{◌≡◌, refl, sym, ap, ◌∙◌}
-use Prim.Native.Nat.{ℕ, zero, suc, ◌+◌, ◌*◌, ◌%◌, ◌≤◌, ◌<◌}
-use mathlib.Core.List.{List, [], ◌∷◌, ◌++◌, flatten}
+use mathlib.Core.Path.{◌≡◌, sym, ◌∙◌}
+use Prim.Native.Nat.{ℕ, zero, suc, ◌≤◌, ◌<◌}
+use mathlib.Core.List.{List}
 use native.Mathlib.Omega.{arith}
 use native.Mathlib.Decide.{ℕ_discrete}
-use lib.ListN.{length, get_or, set, take, drop, length-set, length-replicate}
+use lib.ListN.{length, get_or, set, take, length-set, length-replicate}
 use lib.Seq.{get_or-set_same, get_or-set_other, get_or-take, length-take-le, ext_get_or}
-use Rattle.table.specs.Format.{Table, table_of}
-use Rattle.table.specs.Load.{loaded, facts_of}
+use Rattle.table.specs.Format.{Table}
 use Rattle.order.proofs.Lawful.{Lawful}
 use Rattle.canonical.specs.Canonical.{thread_order, new_number}
 use Rattle.canonical.specs.Code.NumberWalk.{cut16}

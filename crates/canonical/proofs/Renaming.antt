@@ -1,24 +1,23 @@
 -- Tables that a renaming makes of each other have the same canonical form.
-use Prim.Native.Nat.{ℕ, zero, suc, ◌+◌, ◌≤◌, ◌<◌}
+use Prim.Native.Nat.{ℕ, zero, suc, ◌+◌, ◌<◌}
 use native.Mathlib.Omega.{arith}
-use mathlib.Core.Path.{◌≡◌, refl, sym, ap, ◌∙◌}
+use mathlib.Core.Path.{◌≡◌, refl, ap, ◌∙◌}
 use mathlib.Core.List.Memᴰ
-use mathlib.Core.List.{List, [], ◌∷◌, ◌++◌, map, Memᴰ}
+use mathlib.Core.List.{List, [], ◌∷◌, map, Memᴰ}
 use mathlib.Core.Bool.{Bool, true, false}
-use mathlib.Core.Logic.{◌⊎◌, inl, inr, ⊎_elim}
+use mathlib.Core.Logic.{⊎_elim}
 use lib.Dec.{eqb}
-use lib.ListN.{length}
 use borrow.Author.Tests.{eqb-true, eqb-false, eq-eqb, ne_eqb}
 use Rattle.table.specs.Sum.{pick}
-use Rattle.table.specs.Format.{Kind, end, work, alloc, free, fork, join, unknown, is, Table, kind, kind_of}
+use Rattle.table.specs.Format.{Kind, end, work, alloc, free, fork, join, unknown, is, Table, kind}
 use Rattle.table.specs.Rules.{ContentRules, BodyRules}
-use Rattle.table.specs.Serial.{serial, serial_order}
+use Rattle.table.specs.Serial.{serial_order}
 use Rattle.table.proofs.Tests.{is_true}
-use Rattle.table.proofs.Bodies.{first_within, fork_below_lem, join_below, body_within}
+use Rattle.table.proofs.Bodies.{first_within, fork_below_lem, join_below}
 use Rattle.table.proofs.Amounts.{action_within}
 use Rattle.table.proofs.Serial.{serial_below}
-use Rattle.table.specs.Written.{Action, action_at, actions_from, body_in}
-use Rattle.parts.specs.Copies.{renamed, renamed_action, Copies, place_of}
+use Rattle.table.specs.Written.{action_at, actions_from, body_in}
+use Rattle.parts.specs.Copies.{renamed, renamed_action, place_of}
 use Rattle.canonical.specs.Renames.{Renames}
 use Rattle.canonical.specs.Canonical.{forks_in, thread_order, new_number, canonical_bodies}
 use Rattle.order.specs.Words.{place_in}

@@ -1,6 +1,6 @@
 -- Worked cases, computed on the definitions: forms, comparisons and refusals.
-use Rattle.std.specs.Prelude.{◌≡◌, refl, ℕ, suc, length}
-use mathlib.Core.List.{List, [], ◌∷◌, ◌++◌, map, flatten}
+use Rattle.std.specs.Prelude.{◌≡◌, refl, ℕ}
+use mathlib.Core.List.{List, [], ◌∷◌, map, flatten}
 use Rattle.table.specs.Sum.{sum_to, sum_over, greatest, any_below, greatest_to}
 use Rattle.table.specs.Format.{code_of, kind_of, is, table_of}
 use Rattle.table.specs.Pass.{try_at, try_from, try_pass, first_found}
@@ -12,7 +12,7 @@ use Rattle.table.specs.Cases.{E, least, two_allocs, overfreed}
 use Rattle.order.specs.Words.{place_in}
 use Rattle.canonical.specs.Canonical.{forks_in, thread_order, canonical_bodies, canonical}
 use Rattle.canonical.specs.Order.{byte_order}
-use Rattle.canonical.specs.Answers.{CompareValues, compared, compare_values}
+use Rattle.canonical.specs.Answers.{CompareValues, compare_values}
 
 abbrev action : ℕ → ℕ → Action
 action k x = record { code = k; argument = x }

@@ -1,6 +1,6 @@
 -- The line that tells how two tables compare.
 use Rattle.std.specs.Prelude.{ℕ, ◌≡◌, refl, ltb, length, take, drop}
-use mathlib.Core.List.{List, [], ◌∷◌, flatten}
+use mathlib.Core.List.{List, flatten}
 use Rattle.table.specs.Sum.{pick}
 use Rattle.table.specs.Format.{u32_at}
 use Rattle.table.specs.Pass.{refusal}

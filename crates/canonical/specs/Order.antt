@@ -1,5 +1,5 @@
 -- Comparing two tables by the bytes of their canonical forms (change request N14).
-use Rattle.std.specs.Prelude.{◌≡◌, ℕ, suc, ◌<◌, List, [], ◌∷◌, Bool, true, false, ltb, length, get_or}
+use Rattle.std.specs.Prelude.{◌≡◌, ℕ, ◌<◌, List, [], ◌∷◌, ltb, length, get_or}
 use Rattle.table.specs.Sum.{pick}
 use Rattle.canonical.specs.Canonical.{canonical}
 

@@ -1,5 +1,4 @@
 -- `canonical::compare` meets its contract, which is `compare_in`'s.
-use borrow.Author.Rules.{rules}
 use Rattle.canonical.proofs.compare.Goals as goal
 
 pub returns : goal.returns

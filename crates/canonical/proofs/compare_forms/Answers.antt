@@ -1,29 +1,26 @@
 -- `canonical::compare_forms` meets its contract: what lies at the two buffers' starts are the forms.
-use mathlib.Core.Path.{◌≡◌, refl, sym, ap, ◌∙◌}
+use mathlib.Core.Path.{◌≡◌, sym, ◌∙◌}
 use Prim.Native.Nat.{ℕ, ◌≤◌}
 use mathlib.Core.List.{List}
-use native.Mathlib.Omega.{arith}
-use lib.ListN.{length, take, drop, length-append}
-use lib.Seq.{take_at, length-take-le}
-use Rattle.rows.specs.Rows.{over}
+use lib.ListN.{length}
+use lib.Seq.{length-take-le}
 use Rattle.canonical.specs.Canonical.{canonical}
-use Rattle.canonical.specs.Order.{Ordered, byte_order}
+use Rattle.canonical.specs.Order.{byte_order}
 use Rattle.canonical.specs.Answers.{said}
 use Rattle.canonical.proofs.FormPut.{over_within, over_front}
-use borrow.Author.Rules.{rules}
 use Rattle.canonical.proofs.compare_forms.Goals.{After-write_form-k, After-write_form-l}
 use Rattle.canonical.proofs.compare_forms.Goals as goal
 
 same_said : (a b f g : List ℕ) → a ≡ f → b ≡ g → said (byte_order a b) ≡ said (byte_order f g)
 same_said a b f g p q = rw (p, q)
 
-first_within : (c : After-write_form-k) → c.write_form-k.result ≤ length c.write_form-k.new.1.0
+first_within : (c : After-write_form-k) → c.write_form-k.result ≤ length c.write_form-k.new.out
 first_within c =
     let d = c.args in
     let w = c.write_form-k.ensures.value in
     over_within (canonical d.first.now) d.a.now _ _ w.0 w.1
 
-second_within : (c : After-write_form-l) → c.write_form-l.result ≤ length c.write_form-l.new.1.0
+second_within : (c : After-write_form-l) → c.write_form-l.result ≤ length c.write_form-l.new.out
 second_within c =
     let d = c.args in
     let w = c.write_form-l.ensures.value in

@@ -1,8 +1,7 @@
 -- `canonical::compare_in` meets its contract: the first table's refusal, the second's, else the order of the forms.
-use mathlib.Core.Path.{◌≡◌, refl, sym, ◌∙◌}
+use mathlib.Core.Path.{refl, sym, ◌∙◌}
 use native.Mathlib.Omega.{arith}
 use Rattle.canonical.proofs.Answers.{compare_refused, compare_refused_second, compare_said}
-use borrow.Author.Rules.{rules}
 use Rattle.canonical.proofs.compare_in.Goals as goal
 
 pub returns-in-At : goal.returns-in-At
@@ -15,8 +14,8 @@ returns-in-At-found c = let d = c.args in
 
 pub compare_forms-requires : goal.compare_forms-requires
 compare_forms-requires c = (
-  (sym c.check_in-found.ensures.value ∙ c.in_default.is, omega (arith, c.compare_forms-arg-1.given)),
-  (sym c.check_in-found-2.ensures.value ∙ c.in_default-found.is, omega (arith, c.compare_forms-arg-2-1.given)),
+  (sym c.check_in-found.ensures.value ∙ c.in_default.is, omega arith),
+  (sym c.check_in-found-2.ensures.value ∙ c.in_default-found.is, omega arith),
 )
 
 pub returns : goal.returns

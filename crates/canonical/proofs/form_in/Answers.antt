@@ -1,8 +1,7 @@
 -- `canonical::form_in` meets its contract: nothing is written where a check applies, else the form.
-use mathlib.Core.Path.{◌≡◌, refl, sym, ◌∙◌}
+use mathlib.Core.Path.{refl, sym, ◌∙◌}
 use native.Mathlib.Omega.{arith}
 use Rattle.canonical.proofs.Answers.{form_refused, form_written}
-use borrow.Author.Rules.{rules}
 use Rattle.canonical.proofs.form_in.Goals as goal
 
 pub returns-in-At : goal.returns-in-At
@@ -11,7 +10,7 @@ returns-in-At c = let d = c.args in
 
 pub write_form-k-requires : goal.write_form-k-requires
 write_form-k-requires c =
-    (sym c.check_in-found.ensures.value ∙ c.in_default.is, omega (arith, c.write_form-arg-1.given))
+    (sym c.check_in-found.ensures.value ∙ c.in_default.is, omega arith)
 
 pub returns : goal.returns
 returns c = let d = c.args in

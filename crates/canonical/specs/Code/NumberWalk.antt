@@ -1,7 +1,7 @@
 -- The new numbers without recursion: sizes of subtrees from the highest thread down, numbers from the root up.
-use Rattle.std.specs.Prelude.{ℕ, zero, suc, ◌+◌, ◌%◌, List, ltb, get_or, set, replicate}
+use Rattle.std.specs.Prelude.{ℕ, zero, suc, ◌+◌, ◌%◌, List, get_or, set}
 use Rattle.table.specs.Sum.{pick, sum_to}
-use Rattle.table.specs.Format.{Kind, fork, is, kind_of, Table, threads_of, table_of}
+use Rattle.table.specs.Format.{Kind, fork, is, kind_of, Table}
 
 -- 16 bits
 abbrev pub cut16 : ℕ → ℕ

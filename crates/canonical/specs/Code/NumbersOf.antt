@@ -1,5 +1,5 @@
 -- What the walks for the new numbers answer to any bytes.
-use Rattle.std.specs.Prelude.{ℕ, zero, suc, ◌+◌, ◌≤◌, ◌<◌, ◌≡◌, List, ltb, length, get_or, set, replicate}
+use Rattle.std.specs.Prelude.{ℕ, zero, suc, ◌+◌, ◌≤◌, ◌<◌, ◌≡◌, List, ltb, get_or, set, replicate}
 use Rattle.table.specs.Sum.{pick}
 use Rattle.table.specs.Format.{Kind, threads_of, bodies_from, table_of}
 use Rattle.canonical.specs.Code.NumberWalk.{cut16}

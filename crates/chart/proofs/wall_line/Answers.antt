@@ -34,4 +34,4 @@ pub returns : goal.returns
 returns c = let a = c.args in
     let u = passed (goal.at.returns c).Else-not-tested in
     let t = few a.run u c.if-run-gt-MOST_TURNS.false in let both = answers a.run a.out.now _ (charted_written a.run u t)
-    (line_filled a.run a.out.now _ _ u t (omega (arith, c.put_line-arg-1.given)) c.put_line.ensures) in record { value = both.0; result_value = both.1.0; out_after = both.1.1 }
+    (line_filled a.run a.out.now _ _ u t (omega arith) c.put_line.ensures) in record { value = both.0; result_value = both.1.0; out_after = both.1.1 }

@@ -42,7 +42,7 @@ weigh_parts-weights-requires c = right (goal.at.weigh_parts-weights-requires c).
 
 pub join_parts-requires : goal.join_parts-requires
 join_parts-requires c =
-    (right (goal.at.join_parts-requires c).Else-parts_wrong, record { weighed = sym c.weigh_parts-weights.ensures.value ∙ c.in-All.is }, omega (arith, c.join_parts-arg-1.given))
+    (right (goal.at.join_parts-requires c).Else-parts_wrong, record { weighed = sym c.weigh_parts-weights.ensures.value ∙ c.in-All.is }, omega arith)
 
 pub returns-in-Refused : goal.returns-in-Refused
 returns-in-Refused c = let d = c.args in

@@ -1,10 +1,10 @@
 use mathlib.Core.Path.{◌≡◌, refl, sym, ap, ◌∙◌}
-use Prim.Native.Nat.{ℕ, suc, ◌+◌, ◌-◌, ◌≤◌, ◌<◌}
+use Prim.Native.Nat.{ℕ, suc, ◌+◌, ◌≤◌, ◌<◌}
 use mathlib.Core.List.{List, [], ◌∷◌}
 use native.Mathlib.Omega.{arith}
 use lib.ListN.{length, get_or, drop}
 use lib.Seq.{drop-cons, drop-length}
-use Rattle.canonical.specs.Order.{Ordered, before, equal, after, byte_order}
+use Rattle.canonical.specs.Order.{before, equal, after, byte_order}
 use Rattle.canonical.specs.Answers.{said}
 use Rattle.canonical.proofs.ByteOrder.{order_lower, order_higher, order_level}
 use Rattle.canonical.proofs.bytes.byte_order.Invariants.{Inv}

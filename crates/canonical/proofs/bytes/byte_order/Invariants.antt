@@ -1,13 +1,9 @@
 -- `canonical::bytes::byte_order` meets its contract. The invariant: what is left stands as the whole does.
-use mathlib.Core.Path.{◌≡◌, refl, sym, ap, ◌∙◌}
-use Prim.Native.Nat.{ℕ, suc, ◌+◌, ◌-◌, ◌≤◌, ◌<◌}
-use mathlib.Core.List.{List, [], ◌∷◌}
-use native.Mathlib.Omega.{arith}
-use lib.ListN.{length, get_or, drop}
-use lib.Seq.{drop-cons, drop-length}
-use Rattle.canonical.specs.Order.{Ordered, before, equal, after, byte_order}
-use Rattle.canonical.specs.Answers.{said}
-use Rattle.canonical.proofs.ByteOrder.{order_lower, order_higher, order_level}
+use mathlib.Core.Path.{◌≡◌}
+use Prim.Native.Nat.{ℕ, ◌-◌, ◌≤◌}
+use mathlib.Core.List.{List}
+use lib.ListN.{length, drop}
+use Rattle.canonical.specs.Order.{byte_order}
 use Rattle.canonical.proofs.bytes.byte_order.Given as goal
 
 pub record Inv (a b : List ℕ) (i : ℕ) : Type 0 where

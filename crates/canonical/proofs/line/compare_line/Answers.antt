@@ -1,6 +1,6 @@
 -- `canonical::line::compare_line` meets its contract.
-use mathlib.Core.Path.{◌≡◌, refl, sym, ap, ◌∙◌}
-use Prim.Native.Nat.{ℕ, ◌-◌, ◌≤◌, min}
+use mathlib.Core.Path.{◌≡◌, sym, ap, ◌∙◌}
+use Prim.Native.Nat.{ℕ, ◌-◌, min}
 use mathlib.Core.List.{List}
 use native.Mathlib.Omega.{arith}
 use lib.ListN.{length, take, drop, length-drop}
@@ -10,7 +10,6 @@ use Rattle.canonical.specs.Answers.{compared}
 use Rattle.canonical.specs.Lines.{compare_line, first_table, second_table}
 use Rattle.text.proofs.Told.{told_within}
 use Rattle.canonical.proofs.CompareLine.{take_what_is, drop_what_is, short_told, tables_told}
-use borrow.Author.Rules.{rules}
 use Rattle.canonical.proofs.line.compare_line.Goals as goal
 
 -- what lies from k on

@@ -1,14 +1,13 @@
-use mathlib.Core.Path.{◌≡◌, refl, sym, ap, ◌∙◌}
-use Prim.Native.Nat.{ℕ, zero, suc, ◌+◌, ◌-◌, ◌≤◌, ◌<◌}
+use mathlib.Core.Path.{◌≡◌, refl, ap, ◌∙◌}
+use Prim.Native.Nat.{ℕ, suc, ◌+◌, ◌-◌, ◌≤◌}
 use mathlib.Core.List.{List}
 use native.Mathlib.Omega.{arith}
-use lib.ListN.{length, get_or, set, replicate, length-set}
-use borrow.Author.Rules.{rules}
+use lib.ListN.{length, set, replicate, length-set}
 use Rattle.table.specs.Sum.{Read}
-use Rattle.table.specs.Format.{Table, table_of, code_at, argument_at}
+use Rattle.table.specs.Format.{table_of, code_at, argument_at}
 use Rattle.canonical.specs.Code.NumberWalk.{cut16}
 use Rattle.canonical.specs.Code.NumberWalk.{forked_sizes, sizes_down}
-use Rattle.canonical.specs.Code.NumbersOf.{Roomy, BodyIn}
+use Rattle.canonical.specs.Code.NumbersOf.{Roomy}
 use Rattle.canonical.proofs.numbers.fill_sizes.Invariants.{Inv}
 use Rattle.canonical.proofs.numbers.fill_sizes.Goals as goal
 

@@ -1,14 +1,10 @@
 -- `canonical::numbers::forked_sizes` meets its contract. The invariant: the total is that of the actions before i.
-use mathlib.Core.Path.{◌≡◌, refl, sym, ap, ◌∙◌}
-use Prim.Native.Nat.{ℕ, suc, ◌+◌, ◌-◌, ◌*◌, ◌≤◌, ◌<◌}
+use mathlib.Core.Path.{◌≡◌}
+use Prim.Native.Nat.{ℕ, ◌-◌, ◌*◌, ◌≤◌}
 use mathlib.Core.List.{List}
-use native.Mathlib.Omega.{arith}
-use native.Mathlib.Numerals.{add-one}
 use lib.ListN.{length}
-use borrow.Author.Rules.{rules}
-use Rattle.table.specs.Sum.{sum_to, Read}
-use Rattle.table.specs.Format.{kind_of, code_at, argument_at}
-use Rattle.canonical.specs.Code.NumberWalk.{fork_size, forked_sizes}
+use Rattle.table.specs.Format.{code_at, argument_at}
+use Rattle.canonical.specs.Code.NumberWalk.{forked_sizes}
 use Rattle.canonical.specs.Code.NumbersOf.{BodyIn}
 use Rattle.canonical.proofs.numbers.forked_sizes.Given as goal
 

@@ -1,10 +1,7 @@
 -- `canonical::numbers::number_at` meets its contract.
-use mathlib.Core.Path.{◌≡◌, sym}
-use Prim.Native.Nat.{ℕ, ◌≤◌}
+use mathlib.Core.Path.{sym}
 use native.Mathlib.Omega.{arith}
-use lib.ListN.{get_or, length, get_or-eq_default}
-use borrow.Author.Rules.{rules}
-use Rattle.table.specs.Sum.{Read}
+use lib.ListN.{get_or-eq_default}
 use Rattle.canonical.proofs.numbers.number_at.Goals as goal
 
 pub returns-else-x-lt1024 : goal.returns-else-x-lt1024

@@ -1,15 +1,12 @@
 -- `canonical::numbers::number_walk` meets its contract. The invariant: what is left of the walk from here is the whole walk.
-use mathlib.Core.Path.{◌≡◌, refl, sym, ap, ◌∙◌}
-use Prim.Native.Nat.{ℕ, zero, suc, ◌+◌, ◌-◌, ◌*◌, ◌^◌, ◌≤◌, ◌<◌}
+use mathlib.Core.Path.{◌≡◌}
+use Prim.Native.Nat.{ℕ, ◌+◌, ◌-◌, ◌*◌, ◌≤◌, ◌<◌}
 use mathlib.Core.List.{List}
-use native.Mathlib.Omega.{arith}
 use lib.ListN.{length}
-use borrow.Author.Rules.{rules}
-use Rattle.table.specs.Format.{kind_of, code_at, argument_at}
+use Rattle.table.specs.Format.{code_at, argument_at}
 use Rattle.canonical.specs.Code.NumberWalk.{cut16}
-use Rattle.canonical.specs.Code.NumberWalk.{Numbered, numbered, step_number, number_body}
-use Rattle.canonical.specs.Code.NumbersOf.{BodyIn, NumberStepped}
-use Rattle.canonical.proofs.NumberWalk.{step_new_length}
+use Rattle.canonical.specs.Code.NumberWalk.{Numbered, numbered, number_body}
+use Rattle.canonical.specs.Code.NumbersOf.{BodyIn}
 use Rattle.canonical.proofs.numbers.number_walk.Given as goal
 
 abbrev pub rest : List ℕ → List ℕ → ℕ → ℕ → Numbered → Numbered

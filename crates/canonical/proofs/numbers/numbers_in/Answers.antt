@@ -1,15 +1,13 @@
-use mathlib.Core.Path.{◌≡◌, refl, sym, ap, ◌∙◌}
-use Prim.Native.Nat.{ℕ, zero, suc, ◌+◌, ◌-◌, ◌≤◌, ◌<◌}
+use mathlib.Core.Path.{◌≡◌, refl, ap, ◌∙◌}
+use Prim.Native.Nat.{ℕ, suc, ◌+◌, ◌-◌, ◌≤◌, ◌<◌}
 use mathlib.Core.List.{List}
 use native.Mathlib.Omega.{arith}
-use lib.ListN.{length, get_or, set, replicate}
-use borrow.Author.Rules.{rules}
+use lib.ListN.{length, get_or, replicate}
 use borrow.Author.Tests.{lt-ltb, le-ltb}
-use Rattle.table.specs.Sum.{Read}
-use Rattle.table.specs.Format.{Table, threads_of, table_of, bodies_from, code_at, argument_at}
+use Rattle.table.specs.Format.{threads_of, table_of, bodies_from, code_at, argument_at}
 use Rattle.canonical.specs.Code.NumberWalk.{cut16}
-use Rattle.canonical.specs.Code.NumberWalk.{Numbered, numbered, sizes_down, number_body, number_thread, numbers_up, numbers_in}
-use Rattle.canonical.specs.Code.NumbersOf.{numbers_of, Roomy, BodyIn}
+use Rattle.canonical.specs.Code.NumberWalk.{Numbered, numbered, sizes_down, number_body, number_thread, numbers_up}
+use Rattle.canonical.specs.Code.NumbersOf.{numbers_of}
 use Rattle.canonical.proofs.NumberWalk.{body_new_length, sizes_length}
 use Rattle.canonical.proofs.numbers.numbers_in.Invariants.{Inv}
 use Rattle.canonical.proofs.numbers.numbers_in.Goals as goal

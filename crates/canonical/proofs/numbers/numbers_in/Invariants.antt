@@ -1,17 +1,12 @@
 -- `canonical::numbers::numbers_in` meets its contract. The invariant: the walk over the threads that are left, from here, is the whole walk.
-use mathlib.Core.Path.{◌≡◌, refl, sym, ap, ◌∙◌}
-use Prim.Native.Nat.{ℕ, zero, suc, ◌+◌, ◌-◌, ◌≤◌, ◌<◌}
+use mathlib.Core.Path.{◌≡◌}
+use Prim.Native.Nat.{ℕ, ◌-◌, ◌≤◌}
 use mathlib.Core.List.{List}
-use native.Mathlib.Omega.{arith}
-use lib.ListN.{length, get_or, set, replicate}
-use borrow.Author.Rules.{rules}
-use borrow.Author.Tests.{lt-ltb, le-ltb}
-use Rattle.table.specs.Sum.{Read}
-use Rattle.table.specs.Format.{Table, threads_of, table_of, bodies_from, code_at, argument_at}
+use lib.ListN.{length, replicate}
+use Rattle.table.specs.Format.{table_of}
 use Rattle.canonical.specs.Code.NumberWalk.{cut16}
-use Rattle.canonical.specs.Code.NumberWalk.{Numbered, numbered, sizes_down, number_body, number_thread, numbers_up, numbers_in}
-use Rattle.canonical.specs.Code.NumbersOf.{numbers_of, Roomy, BodyIn}
-use Rattle.canonical.proofs.NumberWalk.{body_new_length, sizes_length}
+use Rattle.canonical.specs.Code.NumberWalk.{sizes_down, numbers_up}
+use Rattle.canonical.specs.Code.NumbersOf.{Roomy}
 use Rattle.canonical.proofs.numbers.numbers_in.Given as goal
 
 pub record Inv (s : List ℕ) (n : ℕ) (actions sizes new : List ℕ) (t : ℕ) : Type 0 where

@@ -1,9 +1,8 @@
-use mathlib.Core.Path.{◌≡◌, refl, sym, ap, ◌∙◌}
-use Prim.Native.Nat.{ℕ, suc, ◌+◌, ◌-◌, ◌≤◌, ◌<◌}
+use mathlib.Core.Path.{◌≡◌, refl, ap, ◌∙◌}
+use Prim.Native.Nat.{ℕ, suc, ◌+◌, ◌≤◌, ◌<◌}
 use mathlib.Core.List.{List}
 use native.Mathlib.Omega.{arith}
-use lib.ListN.{length, get_or, set, length-set, length-replicate}
-use borrow.Author.Rules.{rules}
+use lib.ListN.{length, get_or, set}
 use Rattle.canonical.specs.Code.NumberWalk.{cut16}
 use Rattle.canonical.specs.Code.NumbersOf.{order_of}
 use Rattle.canonical.proofs.Ordering.{order_sized}

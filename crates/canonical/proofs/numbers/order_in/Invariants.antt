@@ -1,13 +1,8 @@
 -- `canonical::numbers::order_in` meets its contract. The invariant: the threads passed are at their numbers.
-use mathlib.Core.Path.{◌≡◌, refl, sym, ap, ◌∙◌}
-use Prim.Native.Nat.{ℕ, suc, ◌+◌, ◌-◌, ◌≤◌, ◌<◌}
+use mathlib.Core.Path.{◌≡◌}
+use Prim.Native.Nat.{ℕ, ◌-◌, ◌≤◌}
 use mathlib.Core.List.{List}
-use native.Mathlib.Omega.{arith}
-use lib.ListN.{length, get_or, set, length-set, length-replicate}
-use borrow.Author.Rules.{rules}
-use Rattle.canonical.specs.Code.NumberWalk.{cut16}
 use Rattle.canonical.specs.Code.NumbersOf.{order_of}
-use Rattle.canonical.proofs.Ordering.{order_sized}
 use Rattle.canonical.proofs.numbers.order_in.Given as goal
 
 pub record Inv (names : List ℕ) (n : ℕ) (order : List ℕ) (t : ℕ) : Type 0 where

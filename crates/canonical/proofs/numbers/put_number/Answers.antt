@@ -1,9 +1,8 @@
 -- `canonical::numbers::put_number` meets its contract.
-use mathlib.Core.Path.{◌≡◌, sym}
-use Prim.Native.Nat.{ℕ, ◌≤◌, ◌%◌}
+use mathlib.Core.Path.{sym}
+use Prim.Native.Nat.{◌%◌}
 use native.Mathlib.Omega.{arith}
 use lib.Seq.{set_out}
-use borrow.Author.Rules.{rules}
 use Rattle.canonical.proofs.numbers.put_number.Goals as goal
 
 pub returns-else-x-lt1024 : goal.returns-else-x-lt1024

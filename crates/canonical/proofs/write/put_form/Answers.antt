@@ -1,11 +1,9 @@
 -- `canonical::write::put_form` meets its contract: head, entries and bodies one after another.
-use mathlib.Core.Path.{◌≡◌, refl, sym, ap, ◌∙◌}
-use Prim.Native.Nat.{ℕ, ◌≤◌}
-use mathlib.Core.List.{List, [], ◌∷◌, ◌++◌, foldl-append}
-use native.Mathlib.Omega.{arith}
-use lib.ListN.{length, take}
+use mathlib.Core.Path.{◌≡◌, sym, ap, ◌∙◌}
+use Prim.Native.Nat.{ℕ}
+use mathlib.Core.List.{List, foldl-append}
+use lib.ListN.{take}
 use lib.Seq.{length-take-le}
-use borrow.Author.Rules.{rules}
 use Rattle.table.specs.Format.{threads_of, actions_of}
 use Rattle.text.specs.Text.{Buffer, buffer_at, placed, placed_next}
 use Rattle.text.specs.Puts.{put_all}

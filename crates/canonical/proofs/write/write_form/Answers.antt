@@ -1,5 +1,5 @@
 -- `canonical::write::write_form` meets its contract.
-use mathlib.Core.Path.{◌≡◌, refl, sym, ap, ◌∙◌}
+use mathlib.Core.Path.{refl, ap, ◌∙◌}
 use Prim.Native.Nat.{ℕ, ◌≤◌}
 use native.Mathlib.Omega.{arith}
 use mathlib.Core.List.{List}
@@ -9,7 +9,6 @@ use lib.ListN.{length}
 use Rattle.canonical.proofs.FormPut.{accepts_lawful, form_put}
 use Rattle.canonical.proofs.NumbersOf.{numbers_sized}
 use Rattle.canonical.proofs.Ordering.{order_sized}
-use borrow.Author.Rules.{rules}
 use Rattle.canonical.proofs.write.write_form.Goals as goal
 
 threads_few : (s : List ℕ) → Lawful (table_of s) → threads_of s ≤ 1024
@@ -22,7 +21,7 @@ order_in-requires c =
 
 pub put_form-k-requires : goal.put_form-k-requires
 put_form-k-requires c =
-    omega (arith, ap length c.order_in.ensures, order_sized c.numbers_in.new.1.0 c.threads-n.result, c.threads-n.ensures.value, threads_few c.args.table.now (accepts_lawful c.args.table.now c.requires.0))
+    omega (arith, ap length c.order_in.ensures, order_sized c.numbers_in.new.new c.threads-n.result, c.threads-n.ensures.value, threads_few c.args.table.now (accepts_lawful c.args.table.now c.requires.0))
 
 pub returns : goal.returns
 returns c = record {

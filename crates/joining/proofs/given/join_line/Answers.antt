@@ -28,4 +28,4 @@ returns-in-Refused c = let d = c.args in
 pub returns-in-InPart : goal.returns-in-InPart
 unfolding join_line
 returns-in-InPart c = let d = c.args in
-    let p = refused_told d.out.now (omega (arith, c.put_refused_of-arg-1.given)) _ (omega (arith, c.in-InPart.known_told-in-InPart-1-own.given)) (omega (arith, c.in-InPart.known_told-in-InPart-1-own.given)) (ascii " part ") (omega arith) _ (omega (arith, c.in-InPart.known_told-in-InPart-1-own.given)) _ _ c.put_refused_of.ensures in let both = line_of _ _ d.out.now _ _ c.in-InPart.is p.0 p.1 in record { value = both.0; out_after = both.1.0; prefix_len = both.1.1 }
+    let p = refused_told d.out.now (omega arith) _ (omega (arith, c.in-InPart.known_told-in-InPart-1-own.given)) (omega (arith, c.in-InPart.known_told-in-InPart-1-own.given)) (ascii " part ") (omega arith) _ (omega (arith, c.in-InPart.known_told-in-InPart-1-own.given)) _ _ c.put_refused_of.ensures in let both = line_of _ _ d.out.now _ _ c.in-InPart.is p.0 p.1 in record { value = both.0; out_after = both.1.0; prefix_len = both.1.1 }
