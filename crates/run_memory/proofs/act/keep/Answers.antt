@@ -14,7 +14,6 @@ use Rattle.run_memory.proofs.act.keep.Goals as goal
 -- the bytes after the test
 seated : (c : Joined-not-holds_at) → bytes_in c.if-not-holds_at.bytes ≡ seated_bytes c.args.w c.args.t (bytes_in c.args.bytes.now)
 seated c =
-    let c = c in
     let B : Bytes = bytes_in c.args.bytes.now in
     ⊎_elim
     (λ z. seated_taken B c.args.w c.args.t (sym c.holds_at.ensures ∙ not-true _ z.0.taken) (ap (λ (l : List ℕ). bytes_in l) z.3 ∙ z.2.ensures))
