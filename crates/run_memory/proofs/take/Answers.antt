@@ -75,7 +75,7 @@ returns-then-not-went c = let M = memory_of c.args.bytes.now c.args.words.now c.
       sums_after = spoke c.refused-then-not-went.ensures
           (goes_unfit s c.args.w M c.if-not-room_for.false
           (asked_room c.args.w c.total_at-turns.ensures c.head_at.ensures c.holds_at-holds.ensures c.room_for.ensures)
-          c.thread_for-t.result c.thread_for-t.ensures c.if-t-ge-NO_THREAD.false q c.if-not-went.true);
+          c.thread_for-t.result c.thread_for-t.ensures c.if-t-ge-NO_THREAD.false q (not-true _ c.if-not-went.true));
       passed_value = passing c.args.counting (passed_over M c.args.w) c.refused-then-not-went.ensures (passes_none c.args.counting 32 _ refl);
     }
 
@@ -92,6 +92,6 @@ returns c = let M = memory_of c.args.bytes.now c.args.words.now c.args.numbers.n
       sums_after = ap (told 0 _) (one_more c.go_on-went.new.bytes c.go_on-went.new.words c.go_on-went.new.numbers c.go_on-went.new.sums c.put_total-2.new.sums c.total_at-turns.ensures c.put_total-2.ensures)
           ∙ goes s c.args.w M c.if-not-room_for.false
           (asked_room c.args.w c.total_at-turns.ensures c.head_at.ensures c.holds_at-holds.ensures c.room_for.ensures)
-          c.thread_for-t.result c.thread_for-t.ensures l q c.if-not-went.false;
+          c.thread_for-t.result c.thread_for-t.ensures l q (not-false _ c.if-not-went.false);
       passed_value = passed_as c.args.counting (seek 1024 M.arrays.status M.arrays.right (moved_in M).totals.leftmost) c.holds_at-holds.ensures c.passed_along-passed.ensures ∙ passes M c.args.w c.args.counting c.thread_for-t.result c.thread_for-t.ensures l;
     }

@@ -14,7 +14,7 @@ use Rattle.run_memory.specs.Code.Writes.{linked_left, unlinked, settled, settled
 use Rattle.run_memory.proofs.Acts.{written_as, room_in}
 use Rattle.run_memory.proofs.ListActs.{end_done}
 use borrow.Author.Rules.{rules}
-use Rattle.run_memory.proofs.act.act_end.Goals.{Joined-waits}
+use Rattle.run_memory.proofs.act.act_end.Goals.{Joined-waits, then-waits, else-waits}
 use Rattle.run_memory.proofs.act.act_end.Goals as goal
 
 -- the one of two that a test chooses
@@ -33,14 +33,18 @@ waits_then T u t w W B e p q = e ∙ (λ i. waits_in T ((q i).rows 1) (p i).stat
 bytes_there : (c : Joined-waits) → let B : Bytes = settled c.args.w nobody (statused c.args.t ended (bytes_in c.args.bytes.now)) in
     bytes_in c.if-waits.bytes ≡ pick c.waits.result (statused c.row_at-u.result ready B) B
 bytes_there c =
-    ⊎_elim (λ z. ap bytes_in z.5 ∙ (z.2.ensures ∙ (ap (statused c.row_at-u.result ready) c.put_back.ensures.bytes_after ∙ sym (chosen _ _ z.0.taken))))
-    (λ z. ap bytes_in z.1 ∙ (c.put_back.ensures.bytes_after ∙ sym (passed_by _ _ z.0.left))) c.if-waits.branch
+    elim c.if-waits.branch [
+      then-waits z ↦ ap bytes_in z.bytes-is ∙ (z.put_status.ensures ∙ (ap (statused c.row_at-u.result ready) c.put_back.ensures.bytes_after ∙ sym (chosen _ _ z.if-waits.true)))
+      | else-waits z ↦ ap bytes_in z.bytes-is ∙ (c.put_back.ensures.bytes_after ∙ sym (passed_by _ _ z.if-waits.false))
+    ]
 
 words_there : (c : Joined-waits) → let W : Words = settled_words c.args.w (holds_in c.args.w (bytes_in c.args.bytes.now)) nobody (words_in c.args.words.now) in
     words_in c.if-waits.words ≡ pick c.waits.result (linked_left 4 1 c.row_at-u.result c.args.t W) W
 words_there c =
-    ⊎_elim (λ z. ap words_in z.6 ∙ (z.4.ensures ∙ (ap (linked_left 4 1 c.row_at-u.result c.args.t) c.put_back.ensures.words_after ∙ sym (chosen _ _ z.0.taken))))
-    (λ z. ap words_in z.2 ∙ (c.put_back.ensures.words_after ∙ sym (passed_by _ _ z.0.left))) c.if-waits.branch
+    elim c.if-waits.branch [
+      then-waits z ↦ ap words_in z.words-is ∙ (z.link_left.ensures ∙ (ap (linked_left 4 1 c.row_at-u.result c.args.t) c.put_back.ensures.words_after ∙ sym (chosen _ _ z.if-waits.true)))
+      | else-waits z ↦ ap words_in z.words-is ∙ (c.put_back.ensures.words_after ∙ sym (passed_by _ _ z.if-waits.false))
+    ]
 
 pub put_back-requires : goal.put_back-requires
 put_back-requires c = room_in c.requires refl refl

@@ -45,7 +45,7 @@ pub returns-then-not-there : goal.returns-then-not-there
 returns-then-not-there c =
     let M = memory_of c.args.bytes.now c.args.words.now c.args.numbers.now c.args.sums.now in
     is_unfit c.args.table.now c.args.w M c.if-not-room_for.false (asked_room c.args.w c.total_at-turns.ensures c.head_at.ensures c.holds_at-holds.ensures c.room_for.ensures) c.thread_for-t.result c.thread_for-t.ensures c.if-t-ge-NO_THREAD.false
-    (taken_ready _ _ _ _ c.thread_for-t.ensures c.if-t-ge-NO_THREAD.false) c.row_at-a.ensures c.quota_left-quota.ensures (c.see_action-there.ensures (table_of c.args.table.now) (words_in c.args.words.now) (codes c.args.table.now c.bodies-actions.ensures c.threads.ensures.value) (arguments c.args.table.now c.bodies-actions.ensures c.threads.ensures.value)) c.if-not-there.true
+    (taken_ready _ _ _ _ c.thread_for-t.ensures c.if-t-ge-NO_THREAD.false) c.row_at-a.ensures c.quota_left-quota.ensures (c.see_action-there.ensures (table_of c.args.table.now) (words_in c.args.words.now) (codes c.args.table.now c.bodies-actions.ensures c.threads.ensures.value) (arguments c.args.table.now c.bodies-actions.ensures c.threads.ensures.value)) (not-true _ c.if-not-there.true)
 
 -- the worker has its place among the quotas
 placed : (l : List ℕ) {w : ℕ} → length l ≡ 18 → w < length l - 2 → w < length (part 2 16 l)
@@ -57,7 +57,7 @@ pub returns : goal.returns
 returns c =
     let M = memory_of c.args.bytes.now c.args.words.now c.args.numbers.now c.args.sums.now in
     goes c.args.table.now c.args.w M c.if-not-room_for.false (asked_room c.args.w c.total_at-turns.ensures c.head_at.ensures c.holds_at-holds.ensures c.room_for.ensures) c.thread_for-t.result c.thread_for-t.ensures c.if-t-ge-NO_THREAD.false
-    (taken_ready _ _ _ _ c.thread_for-t.ensures c.if-t-ge-NO_THREAD.false) c.row_at-a.ensures c.quota_left-quota.ensures (c.see_action-there.ensures (table_of c.args.table.now) (words_in c.args.words.now) (codes c.args.table.now c.bodies-actions.ensures c.threads.ensures.value) (arguments c.args.table.now c.bodies-actions.ensures c.threads.ensures.value)) c.if-not-there.false
+    (taken_ready _ _ _ _ c.thread_for-t.ensures c.if-t-ge-NO_THREAD.false) c.row_at-a.ensures c.quota_left-quota.ensures (c.see_action-there.ensures (table_of c.args.table.now) (words_in c.args.words.now) (codes c.args.table.now c.bodies-actions.ensures c.threads.ensures.value) (arguments c.args.table.now c.bodies-actions.ensures c.threads.ensures.value)) (not-false _ c.if-not-there.false)
     (passed_as true (seek 1024 M.arrays.status M.arrays.right (moved_in M).totals.leftmost) c.holds_at-holds.ensures c.passed_along-passed.ensures
     ∙ passes M c.args.w true c.thread_for-t.result c.thread_for-t.ensures c.if-t-ge-NO_THREAD.false)
     (placed c.args.numbers.now (omega arith) c.if-places-w.false)

@@ -63,7 +63,7 @@ loop-i-preserved-in_default c =
       asked = v.asked;
       workers = v.workers;
       turn = next_worker c.args.order.now c.args.rounds _ _ v.workers v.asked v.turn c.following-next.ensures;
-      along = undone v.along c.loop-i-test.true (this_worker c.args.order.now c.args.rounds _ _ v.turn c.worker_of-w.ensures) c.turn_in-spoken.ensures.sums_after c.if-spoken-ne0.false ?;
+      along = undone v.along c.loop-i-test.true (this_worker c.args.order.now c.args.rounds _ _ v.turn c.worker_of-w.ensures) c.turn_in-spoken.ensures.sums_after c.if-spoken-ne0.false c.in_default.not-Done;
     }
 
 pub returns-then-ends_root : goal.returns-then-ends_root
