@@ -9,7 +9,6 @@ use Rattle.schedule.specs.Links.{no_thread, Sought, seek}
 use Rattle.array_machine.specs.Counted.{passed_along}
 use Rattle.run_memory.specs.Blocks.{bytes_in, words_in}
 use borrow.Author.Rules.{rules}
-use Rattle.run_memory.proofs.passed_along.Goals.{Start}
 use Rattle.run_memory.proofs.passed_along.Goals as goal
 
 unasked : (b h : Bool) (x : Sought) → b ≡ false → ◌≡◌ {A = ℕ} 0 (pick b (passed_along h x) 0)
@@ -29,21 +28,18 @@ module _ (b h : Bool) (x : Sought) (e : b ≡ true) where
     unfolding passed_along
     none l = let m : ltb x.thread no_thread ≡ false = ap (λ (y : ℕ). ltb y no_thread) (sym q) ∙ le-ltb t no_thread l in rw (e, d, m)
 
-abbrev along : Start → Sought
-along d = seek 1024 (bytes_in d.args.bytes.now).status ((words_in d.args.words.now).rows 3) (words_in d.args.words.now).leftmost
-
 pub returns-then-not-counting : goal.returns-then-not-counting
 returns-then-not-counting c =
-    unasked c.args.counting c.args.holds (along (goal.at.returns-then-not-counting c).Start) (not-true _ c.if-not-counting.true)
+    unasked c.args.counting c.args.holds (seek 1024 (bytes_in c.args.bytes.now).status ((words_in c.args.words.now).rows 3) (words_in c.args.words.now).leftmost) c.if-not-counting.true
 
 pub returns-then-holds : goal.returns-then-holds
 returns-then-holds c =
-    with_thread c.args.counting c.args.holds (along (goal.at.returns-then-holds c).Start) (not-false _ c.if-not-counting.false) c.if-holds.true
+    with_thread c.args.counting c.args.holds (seek 1024 (bytes_in c.args.bytes.now).status ((words_in c.args.words.now).rows 3) (words_in c.args.words.now).leftmost) c.if-not-counting.false c.if-holds.true
 
 pub returns-then-found-lt-NO_THREAD : goal.returns-then-found-lt-NO_THREAD
 returns-then-found-lt-NO_THREAD c =
-    found c.args.counting c.args.holds (along (goal.at.returns-then-found-lt-NO_THREAD c).Start) (not-false _ c.if-not-counting.false) c.if-holds.false c.seek-found.ensures.thread_value c.if-found-lt-NO_THREAD.true c.seek-found.ensures.passed_value
+    found c.args.counting c.args.holds (seek 1024 (bytes_in c.args.bytes.now).status ((words_in c.args.words.now).rows 3) (words_in c.args.words.now).leftmost) c.if-not-counting.false c.if-holds.false c.seek-found.ensures.thread_value c.if-found-lt-NO_THREAD.true c.seek-found.ensures.passed_value
 
 pub returns-else-found-lt-NO_THREAD : goal.returns-else-found-lt-NO_THREAD
 returns-else-found-lt-NO_THREAD c =
-    none c.args.counting c.args.holds (along (goal.at.returns-else-found-lt-NO_THREAD c).Start) (not-false _ c.if-not-counting.false) c.if-holds.false c.seek-found.ensures.thread_value c.if-found-lt-NO_THREAD.false
+    none c.args.counting c.args.holds (seek 1024 (bytes_in c.args.bytes.now).status ((words_in c.args.words.now).rows 3) (words_in c.args.words.now).leftmost) c.if-not-counting.false c.if-holds.false c.seek-found.ensures.thread_value c.if-found-lt-NO_THREAD.false

@@ -13,10 +13,7 @@ use Rattle.run_memory.proofs.act.act_alloc.Goals as goal
 -- the test passed
 passed : (c : Else-not-alloc_fits) → (c.args.a + 1 < 65536) × ((c.total_at-all.result + c.args.x < 2 ^ 64) × (c.amount_at-own.result + c.args.x < 2 ^ 64))
 passed c =
-    let c = c in
-    let c = c in
-    let c = c in
-    alloc_room c.args.a c.total_at-all.result c.amount_at-own.result c.args.x (not-false _ c.if-not-alloc_fits.false) c.alloc_fits.ensures
+    alloc_room c.args.a c.total_at-all.result c.amount_at-own.result c.args.x c.if-not-alloc_fits.false c.alloc_fits.ensures
 
 pub put_back-requires : goal.put_back-requires
 put_back-requires c = room_in c.requires refl refl
@@ -36,18 +33,16 @@ returns-then-quota-share c =
 
 pub returns-then-not-alloc_fits : goal.returns-then-not-alloc_fits
 returns-then-not-alloc_fits c =
-    let q = c in
-    let d = q in
-    let B = bytes_in d.args.bytes.now in
-    let W = words_in d.args.words.now in
-    let N = numbers_in d.args.numbers.now in
-    let S = sums_in d.args.sums.now in
-    let w = d.args.w in
-    let t = d.args.t in
-    let a = d.args.a in
+    let B = bytes_in c.args.bytes.now in
+    let W = words_in c.args.words.now in
+    let N = numbers_in c.args.numbers.now in
+    let S = sums_in c.args.sums.now in
+    let w = c.args.w in
+    let t = c.args.t in
+    let a = c.args.a in
     λ T.
-    gone_as d.args.bytes.now d.args.words.now d.args.numbers.now d.args.sums.now c.unfit.ensures refl refl refl refl
-    (alloc_unfit B W N S T w t a d.args.x c.amount_at-own.ensures c.total_at-all.ensures q.quota_left-quota.ensures (share d.args.x c.setting_at.ensures c.drawn-share.ensures) c.if-quota-share.false c.alloc_fits.ensures (not-true _ c.if-not-alloc_fits.true))
+    gone_as c.args.bytes.now c.args.words.now c.args.numbers.now c.args.sums.now c.unfit.ensures refl refl refl refl
+    (alloc_unfit B W N S T w t a c.args.x c.amount_at-own.ensures c.total_at-all.ensures c.quota_left-quota.ensures (share c.args.x c.setting_at.ensures c.drawn-share.ensures) c.if-quota-share.false c.alloc_fits.ensures c.if-not-alloc_fits.true)
 
 pub overflow_add-a : goal.overflow_add-a
 overflow_add-a c = fits16 (passed (goal.at.overflow_add-a c).Else-not-alloc_fits).0
@@ -64,22 +59,16 @@ keep-requires c =
 
 pub returns : goal.returns
 returns c =
-    let o = c in
-    let e = o in
-    let z = e in
-    let v = z in
-    let q = v in
-    let d = q in
-    let B = bytes_in d.args.bytes.now in
-    let W = words_in d.args.words.now in
-    let N = numbers_in d.args.numbers.now in
-    let S = sums_in d.args.sums.now in
-    let w = d.args.w in
-    let t = d.args.t in
-    let a = d.args.a in
-    let x = d.args.x in
+    let B = bytes_in c.args.bytes.now in
+    let W = words_in c.args.words.now in
+    let N = numbers_in c.args.numbers.now in
+    let S = sums_in c.args.sums.now in
+    let w = c.args.w in
+    let t = c.args.t in
+    let a = c.args.a in
+    let x = c.args.x in
     λ T.
-    gone_as c.keep.new.0 c.keep.new.1.0 c.keep.new.1.1.0 c.hold.new.0 c.done.ensures c.keep.ensures.bytes_after
-    (kept_words_as B w (having t (q.quota_left-quota.result - z.drawn-share.result)) c.put_row.ensures c.keep.ensures.words_after) c.keep.ensures.numbers_after
+    gone_as c.keep.new.bytes c.keep.new.words c.keep.new.numbers c.hold.new.sums c.done.ensures c.keep.ensures.bytes_after
+    (kept_words_as B w (having t (c.quota_left-quota.result - c.drawn-share.result)) c.put_row.ensures c.keep.ensures.words_after) c.keep.ensures.numbers_after
     (c.hold.ensures ∙ ap (λ (Y : Sums). held_sums (c.total_at-all.result + x) Y) c.put_amount.ensures)
-    (alloc_done B W N S T w t a x o.amount_at-own.ensures c.total_at-all.ensures q.quota_left-quota.ensures (share d.args.x v.setting_at.ensures z.drawn-share.ensures) e.if-quota-share.false c.alloc_fits.ensures (not-false _ c.if-not-alloc_fits.false) d.requires)
+    (alloc_done B W N S T w t a x c.amount_at-own.ensures c.total_at-all.ensures c.quota_left-quota.ensures (share c.args.x c.setting_at.ensures c.drawn-share.ensures) c.if-quota-share.false c.alloc_fits.ensures c.if-not-alloc_fits.false c.requires)

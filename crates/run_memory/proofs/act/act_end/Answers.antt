@@ -14,7 +14,7 @@ use Rattle.run_memory.specs.Code.Writes.{linked_left, unlinked, settled, settled
 use Rattle.run_memory.proofs.Acts.{written_as, room_in}
 use Rattle.run_memory.proofs.ListActs.{end_done}
 use borrow.Author.Rules.{rules}
-use Rattle.run_memory.proofs.act.act_end.Goals.{Joined-waits}
+use Rattle.run_memory.proofs.act.act_end.Goals.{Joined-waits, then-waits, else-waits}
 use Rattle.run_memory.proofs.act.act_end.Goals as goal
 
 -- the one of two that a test chooses
@@ -33,36 +33,32 @@ waits_then T u t w W B e p q = e ∙ (λ i. waits_in T ((q i).rows 1) (p i).stat
 bytes_there : (c : Joined-waits) → let B : Bytes = settled c.args.w nobody (statused c.args.t ended (bytes_in c.args.bytes.now)) in
     bytes_in c.if-waits.bytes ≡ pick c.waits.result (statused c.row_at-u.result ready B) B
 bytes_there c =
-    let c = c in
-    let c = c in
-    let s = c in
-    ⊎_elim (λ z. ap bytes_in z.5 ∙ (z.2.ensures ∙ (ap (statused c.row_at-u.result ready) s.put_back.ensures.bytes_after ∙ sym (chosen _ _ z.0.taken))))
-    (λ z. ap bytes_in z.1 ∙ (s.put_back.ensures.bytes_after ∙ sym (passed_by _ _ z.0.left))) c.if-waits.branch
+    elim c.if-waits.branch [
+      then-waits z ↦ ap bytes_in z.bytes-is ∙ (z.put_status.ensures ∙ (ap (statused c.row_at-u.result ready) c.put_back.ensures.bytes_after ∙ sym (chosen _ _ z.if-waits.true)))
+      | else-waits z ↦ ap bytes_in z.bytes-is ∙ (c.put_back.ensures.bytes_after ∙ sym (passed_by _ _ z.if-waits.false))
+    ]
 
 words_there : (c : Joined-waits) → let W : Words = settled_words c.args.w (holds_in c.args.w (bytes_in c.args.bytes.now)) nobody (words_in c.args.words.now) in
     words_in c.if-waits.words ≡ pick c.waits.result (linked_left 4 1 c.row_at-u.result c.args.t W) W
 words_there c =
-    let c = c in
-    let c = c in
-    let s = c in
-    let c = s in
-    ⊎_elim (λ z. ap words_in z.6 ∙ (z.4.ensures ∙ (ap (linked_left 4 1 c.row_at-u.result c.args.t) s.put_back.ensures.words_after ∙ sym (chosen _ _ z.0.taken))))
-    (λ z. ap words_in z.2 ∙ (s.put_back.ensures.words_after ∙ sym (passed_by _ _ z.0.left))) c.if-waits.branch
+    elim c.if-waits.branch [
+      then-waits z ↦ ap words_in z.words-is ∙ (z.link_left.ensures ∙ (ap (linked_left 4 1 c.row_at-u.result c.args.t) c.put_back.ensures.words_after ∙ sym (chosen _ _ z.if-waits.true)))
+      | else-waits z ↦ ap words_in z.words-is ∙ (c.put_back.ensures.words_after ∙ sym (passed_by _ _ z.if-waits.false))
+    ]
 
 pub put_back-requires : goal.put_back-requires
 put_back-requires c = room_in c.requires refl refl
 
 pub returns : goal.returns
 returns c =
-    let d = c in
-    let B = bytes_in d.args.bytes.now in
-    let W = words_in d.args.words.now in
-    let N = numbers_in d.args.numbers.now in
-    let S = sums_in d.args.sums.now in
-    let w = d.args.w in
-    let t = d.args.t in
+    let B = bytes_in c.args.bytes.now in
+    let W = words_in c.args.words.now in
+    let N = numbers_in c.args.numbers.now in
+    let S = sums_in c.args.sums.now in
+    let w = c.args.w in
+    let t = c.args.t in
     let u = c.row_at-u.result in
     λ T x p q.
     written_as c.done.ensures (bytes_there (goal.at.returns c).Joined-waits) (c.unlink-2.ensures ∙ ap (unlinked 4 1 t) (c.unlink.ensures ∙ ap (unlinked 2 0 t) (words_there (goal.at.returns c).Joined-waits))) c.put_back.ensures.numbers_after
-    (end_done B W N S T w t d.args.a x u c.waits.result (c.row_at-u.ensures ∙ ap (λ (Y : Words). get_or (Y.rows 0) t 0) c.put_back.ensures.words_after)
+    (end_done B W N S T w t c.args.a x u c.waits.result (c.row_at-u.ensures ∙ ap (λ (Y : Words). get_or (Y.rows 0) t 0) c.put_back.ensures.words_after)
     (waits_then T u t w W B (c.waits.ensures T p q) c.put_back.ensures.bytes_after c.put_back.ensures.words_after))

@@ -29,8 +29,7 @@ inside a x e d =
 -- the test passed
 passed : (c : Else-not-fork_fits) → (c.args.a + 1 < 65536) × (c.args.x < 1024)
 passed c =
-    let c = c in
-    inside c.args.a c.args.x (not-false _ c.if-not-fork_fits.false) c.fork_fits.ensures
+    inside c.args.a c.args.x c.if-not-fork_fits.false c.fork_fits.ensures
 
 pub returns-then-not-fork_fits : goal.returns-then-not-fork_fits
 returns-then-not-fork_fits c =
@@ -38,7 +37,7 @@ returns-then-not-fork_fits c =
     let W = words_in c.args.words.now in
     let N = numbers_in c.args.numbers.now in
     let S = sums_in c.args.sums.now in
-    λ T. unfit_as c.unfit.ensures (fork_unfit B W N S T c.args.w c.args.t c.args.a c.args.x (not-true _ c.if-not-fork_fits.true) c.fork_fits.ensures)
+    λ T. unfit_as c.unfit.ensures (fork_unfit B W N S T c.args.w c.args.t c.args.a c.args.x c.if-not-fork_fits.true c.fork_fits.ensures)
 
 pub overflow_cast-c : goal.overflow_cast-c
 overflow_cast-c c = fits16 (small (passed (goal.at.overflow_cast-c c).Else-not-fork_fits).1)
@@ -52,16 +51,15 @@ put_back-requires c =
 
 pub returns : goal.returns
 returns c =
-    let d = c in
-    let B = bytes_in d.args.bytes.now in
-    let W = words_in d.args.words.now in
-    let N = numbers_in d.args.numbers.now in
-    let S = sums_in d.args.sums.now in
-    let w = d.args.w in
-    let t = d.args.t in
-    let x = d.args.x in
+    let B = bytes_in c.args.bytes.now in
+    let W = words_in c.args.words.now in
+    let N = numbers_in c.args.numbers.now in
+    let S = sums_in c.args.sums.now in
+    let w = c.args.w in
+    let t = c.args.t in
+    let x = c.args.x in
     let q = kept_words_as B w nobody c.put_row.ensures c.put_back.ensures.words_after in
     λ T.
     written_as c.done.ensures (c.put_status.ensures ∙ ap (statused x ready) c.put_back.ensures.bytes_after)
     (c.link_left-2.ensures ∙ ap (linked_left 4 1 x t) (c.link_left.ensures ∙ ap (linked_left 2 0 x t) q)) c.put_back.ensures.numbers_after
-    (fork_done B W N S T w t d.args.a x d.requires (not-false _ c.if-not-fork_fits.false) c.fork_fits.ensures)
+    (fork_done B W N S T w t c.args.a x c.requires c.if-not-fork_fits.false c.fork_fits.ensures)

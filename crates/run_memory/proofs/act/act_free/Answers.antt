@@ -13,10 +13,7 @@ use Rattle.run_memory.proofs.act.act_free.Goals as goal
 -- the test passed
 passed : (c : Else-not-free_fits) → (c.args.a + 1 < 65536) × ((c.args.x ≤ c.total_at-all.result) × (c.args.x ≤ c.amount_at-own.result))
 passed c =
-    let c = c in
-    let c = c in
-    let c = c in
-    free_room c.args.a c.total_at-all.result c.amount_at-own.result c.args.x (not-false _ c.if-not-free_fits.false) c.free_fits.ensures
+    free_room c.args.a c.total_at-all.result c.amount_at-own.result c.args.x c.if-not-free_fits.false c.free_fits.ensures
 
 pub returns-then-not-free_fits : goal.returns-then-not-free_fits
 returns-then-not-free_fits c =
@@ -29,7 +26,7 @@ returns-then-not-free_fits c =
     let a = c.args.a in
     λ T.
     gone_as c.args.bytes.now c.args.words.now c.args.numbers.now c.args.sums.now c.unfit.ensures refl refl refl refl
-    (free_unfit B W N S T w t a c.args.x c.amount_at-own.ensures c.total_at-all.ensures c.free_fits.ensures (not-true _ c.if-not-free_fits.true))
+    (free_unfit B W N S T w t a c.args.x c.amount_at-own.ensures c.total_at-all.ensures c.free_fits.ensures c.if-not-free_fits.true)
 
 pub overflow_add-a : goal.overflow_add-a
 overflow_add-a c = fits16 (passed (goal.at.overflow_add-a c).Else-not-free_fits).0
@@ -46,19 +43,16 @@ keep-requires c =
 
 pub returns : goal.returns
 returns c =
-    let l = c in
-    let o = l in
-    let d = o in
-    let B = bytes_in d.args.bytes.now in
-    let W = words_in d.args.words.now in
-    let N = numbers_in d.args.numbers.now in
-    let S = sums_in d.args.sums.now in
-    let w = d.args.w in
-    let t = d.args.t in
-    let a = d.args.a in
-    let x = d.args.x in
+    let B = bytes_in c.args.bytes.now in
+    let W = words_in c.args.words.now in
+    let N = numbers_in c.args.numbers.now in
+    let S = sums_in c.args.sums.now in
+    let w = c.args.w in
+    let t = c.args.t in
+    let a = c.args.a in
+    let x = c.args.x in
     λ T.
-    gone_as c.keep.new.0 c.keep.new.1.0 c.keep.new.1.1.0 c.hold.new.0 c.done.ensures c.keep.ensures.bytes_after
+    gone_as c.keep.new.bytes c.keep.new.words c.keep.new.numbers c.hold.new.sums c.done.ensures c.keep.ensures.bytes_after
     (kept_words_as B w (having t c.quota_left-left.result) c.put_row.ensures c.keep.ensures.words_after) c.keep.ensures.numbers_after
-    (c.hold.ensures ∙ ap (λ (Y : Sums). held_sums (l.total_at-all.result - x) Y) c.put_amount.ensures)
-    (free_done B W N S T w t a x o.amount_at-own.ensures l.total_at-all.ensures c.free_fits.ensures c.quota_left-left.ensures (not-false _ c.if-not-free_fits.false) d.requires)
+    (c.hold.ensures ∙ ap (λ (Y : Sums). held_sums (c.total_at-all.result - x) Y) c.put_amount.ensures)
+    (free_done B W N S T w t a x c.amount_at-own.ensures c.total_at-all.ensures c.free_fits.ensures c.quota_left-left.ensures c.if-not-free_fits.false c.requires)

@@ -23,9 +23,7 @@ room a s e d =
 -- the test passed
 passed : (c : Else-not-join_fits) → (c.args.a + 1 < 65536) × (c.amount_at-own.result + c.amount_at-child.result < 2 ^ 64)
 passed c =
-    let c = c in
-    let c = c in
-    room c.args.a (c.amount_at-own.result + c.amount_at-child.result) (not-false _ c.if-not-join_fits.false) c.join_fits.ensures
+    room c.args.a (c.amount_at-own.result + c.amount_at-child.result) c.if-not-join_fits.false c.join_fits.ensures
 
 pub returns-then-not-join_fits : goal.returns-then-not-join_fits
 returns-then-not-join_fits c =
@@ -36,7 +34,7 @@ returns-then-not-join_fits c =
     λ T.
     unfit_as c.unfit.ensures
     (join_unfit B W N S T c.args.w c.args.t c.args.a c.args.c c.requires.seated c.requires.c_bound.0 c.requires.c_bound.1 c.amount_at-own.ensures c.amount_at-child.ensures
-    c.join_fits.ensures (not-true _ c.if-not-join_fits.true))
+    c.join_fits.ensures c.if-not-join_fits.true)
 
 pub overflow_add-a : goal.overflow_add-a
 overflow_add-a c = fits16 (passed (goal.at.overflow_add-a c).Else-not-join_fits).0
@@ -50,18 +48,15 @@ keep-requires c =
 
 pub returns : goal.returns
 returns c =
-    let j = c in
-    let o = j in
-    let d = o in
-    let B = bytes_in d.args.bytes.now in
-    let W = words_in d.args.words.now in
-    let N = numbers_in d.args.numbers.now in
-    let S = sums_in d.args.sums.now in
-    let w = d.args.w in
-    let t = d.args.t in
+    let B = bytes_in c.args.bytes.now in
+    let W = words_in c.args.words.now in
+    let N = numbers_in c.args.numbers.now in
+    let S = sums_in c.args.sums.now in
+    let w = c.args.w in
+    let t = c.args.t in
     λ T.
-    gone_as c.keep.new.0 c.keep.new.1.0 c.keep.new.1.1.0 c.put_amount-2.new.0 c.done.ensures c.keep.ensures.bytes_after
+    gone_as c.keep.new.bytes c.keep.new.words c.keep.new.numbers c.put_amount-2.new.sums c.done.ensures c.keep.ensures.bytes_after
     (kept_words_as B w (having t c.quota_left-quota.result) c.put_row.ensures c.keep.ensures.words_after) c.keep.ensures.numbers_after
-    (c.put_amount-2.ensures ∙ ap (amounted d.args.c 0) c.put_amount.ensures)
-    (join_done_lem B W N S T w t d.args.a d.args.c d.requires.seated d.requires.c_bound.0 d.requires.c_bound.1 o.amount_at-own.ensures j.amount_at-child.ensures j.join_fits.ensures
-    c.quota_left-quota.ensures (not-false _ c.if-not-join_fits.false))
+    (c.put_amount-2.ensures ∙ ap (amounted c.args.c 0) c.put_amount.ensures)
+    (join_done_lem B W N S T w t c.args.a c.args.c c.requires.seated c.requires.c_bound.0 c.requires.c_bound.1 c.amount_at-own.ensures c.amount_at-child.ensures c.join_fits.ensures
+    c.quota_left-quota.ensures c.if-not-join_fits.false)

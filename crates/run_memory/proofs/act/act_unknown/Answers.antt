@@ -18,5 +18,5 @@ returns c =
     let t = c.args.t in
     let a = c.args.a in
     λ T x.
-    gone_as c.keep.new.0 c.keep.new.1.0 c.keep.new.1.1.0 c.args.sums.now c.said.ensures c.keep.ensures.bytes_after c.keep.ensures.words_after c.keep.ensures.numbers_after refl
+    gone_as c.keep.new.bytes c.keep.new.words c.keep.new.numbers c.args.sums.now c.said.ensures c.keep.ensures.bytes_after c.keep.ensures.words_after c.keep.ensures.numbers_after refl
     (unknown_kept B W N S T w t a x c.quota_left-quota.ensures)

@@ -19,10 +19,10 @@ returns-then-not-next_fits c =
     let a = c.args.a in
     λ T x.
     gone_as c.args.bytes.now c.args.words.now c.args.numbers.now c.args.sums.now c.unfit.ensures refl refl refl refl
-    (work_unfit B W N S T w t a x (not-true _ c.if-not-next_fits.true) c.next_fits.ensures)
+    (work_unfit B W N S T w t a x c.if-not-next_fits.true c.next_fits.ensures)
 
 pub overflow_add-a : goal.overflow_add-a
-overflow_add-a c = fits16 (fits_next _ (not-false _ c.if-not-next_fits.false) c.next_fits.ensures)
+overflow_add-a c = fits16 (fits_next _ c.if-not-next_fits.false c.next_fits.ensures)
 
 pub keep-requires : goal.keep-requires
 keep-requires c =
@@ -38,6 +38,6 @@ returns c =
     let t = c.args.t in
     let a = c.args.a in
     λ T x.
-    gone_as c.keep.new.0 c.keep.new.1.0 c.keep.new.1.1.0 c.args.sums.now c.done.ensures c.keep.ensures.bytes_after
+    gone_as c.keep.new.bytes c.keep.new.words c.keep.new.numbers c.args.sums.now c.done.ensures c.keep.ensures.bytes_after
     (kept_words_as B w (having t c.quota_left-quota.result) c.put_row.ensures c.keep.ensures.words_after) c.keep.ensures.numbers_after refl
-    (work_done B W N S T w t a x c.quota_left-quota.ensures (not-false _ c.if-not-next_fits.false) c.next_fits.ensures c.requires)
+    (work_done B W N S T w t a x c.quota_left-quota.ensures c.if-not-next_fits.false c.next_fits.ensures c.requires)

@@ -8,18 +8,17 @@ use Rattle.run_memory.specs.Code.Writes.{having, seated_bytes}
 use Rattle.run_memory.specs.Blocks.{Bytes, Words, bytes_in, words_in}
 use Rattle.run_memory.proofs.Acts.{seated_own, seated_taken, settled_as, settled_words_as, room_still}
 use borrow.Author.Rules.{rules}
-use Rattle.run_memory.proofs.act.keep.Goals.{Joined-not-holds_at}
+use Rattle.run_memory.proofs.act.keep.Goals.{Joined-not-holds_at, then-not-holds_at, else-not-holds_at}
 use Rattle.run_memory.proofs.act.keep.Goals as goal
 
 -- the bytes after the test
 seated : (c : Joined-not-holds_at) → bytes_in c.if-not-holds_at.bytes ≡ seated_bytes c.args.w c.args.t (bytes_in c.args.bytes.now)
 seated c =
-    let c = c in
     let B : Bytes = bytes_in c.args.bytes.now in
-    ⊎_elim
-    (λ z. seated_taken B c.args.w c.args.t (sym c.holds_at.ensures ∙ not-true _ z.0.taken) (ap (λ (l : List ℕ). bytes_in l) z.3 ∙ z.2.ensures))
-    (λ z. seated_own B c.args.w c.args.t (sym c.holds_at.ensures ∙ not-false _ z.0.left) (ap (λ (l : List ℕ). bytes_in l) z.1))
-    c.if-not-holds_at.branch
+    elim c.if-not-holds_at.branch [
+      then-not-holds_at z ↦ seated_taken B c.args.w c.args.t (sym c.holds_at.ensures ∙ z.if-not-holds_at.true) (ap (λ (l : List ℕ). bytes_in l) z.bytes-is ∙ z.put_status.ensures)
+      | else-not-holds_at z ↦ seated_own B c.args.w c.args.t (sym c.holds_at.ensures ∙ z.if-not-holds_at.false) (ap (λ (l : List ℕ). bytes_in l) z.bytes-is)
+    ]
 
 pub settle-requires : goal.settle-requires
 settle-requires c =

@@ -10,7 +10,6 @@ use Rattle.schedule.specs.Machine.{nobody}
 use Rattle.run_memory.specs.Places.{of_workers}
 use Rattle.run_memory.proofs.Copied.{Copying, copying_start, copying_size, copying_inside, copying_on, copying_over, of_workers_enough, of_workers_get}
 use Rattle.run_memory.proofs.copies.copy_workers_in.Invariants.{Inv}
-use Rattle.run_memory.proofs.copies.copy_workers_in.Goals.{Start}
 use Rattle.run_memory.proofs.copies.copy_workers_in.Goals as goal
 
 module _ {bytes₀ words₀ numbers₀ : List ℕ} {workers : List Worker} where
@@ -34,11 +33,8 @@ module _ {bytes₀ words₀ numbers₀ : List ℕ} {workers : List Worker} where
         quotas = copying_on v.quotas b refl (sym (of_workers_get (λ x. x.quota) workers w l));
       }
 
-worker_size : (c : Start → length c.args.t4 ≡ 16
-worker_size c = search rules
-
 pub loop-w-init : goal.loop-w-init
-loop-w-init c = start (worker_size (goal.at.loop-w-init c).Start) c.requires.bytes_len c.requires.words_len c.requires.numbers_len
+loop-w-init c = start (omega arith) c.requires.bytes_len c.requires.words_len c.requires.numbers_len
 
 pub bounds-bytes-w : goal.bounds-bytes-w
 bounds-bytes-w c = copying_inside c.loop-w.invariant.holds c.loop-w-test.true

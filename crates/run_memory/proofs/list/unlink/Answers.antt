@@ -9,16 +9,14 @@ returns-then-k-ge5 c = no_list _ _ c.if-k-ge5.true
 
 pub returns-then-x-ge-NO_THREAD : goal.returns-then-x-ge-NO_THREAD
 returns-then-x-ge-NO_THREAD c =
-    let g = c in
-    let d = g.args in
-    its_list _ _ g.if-k-ge5.false
+    let d = c.args in
+    its_list _ _ c.if-k-ge5.false
     (unlinked_first d.k d.h d.t _ _ (words_in d.words.now) _ _ _ _ c.row_at-x.ensures c.row_at-y.ensures c.put_row.ensures c.put_row-2.ensures c.put_row-3.ensures
     c.put_row-4.ensures _ c.if-x-ge-NO_THREAD.true c.put_head.ensures)
 
 pub returns-else-x-ge-NO_THREAD : goal.returns-else-x-ge-NO_THREAD
 returns-else-x-ge-NO_THREAD c =
-    let g = c in
-    let d = g.args in
-    its_list _ _ g.if-k-ge5.false
+    let d = c.args in
+    its_list _ _ c.if-k-ge5.false
     (unlinked_inner d.k d.h d.t _ _ (words_in d.words.now) _ _ _ _ c.row_at-x.ensures c.row_at-y.ensures c.put_row.ensures c.put_row-2.ensures c.put_row-3.ensures
     c.put_row-4.ensures c.if-x-ge-NO_THREAD.false)

@@ -6,9 +6,5 @@ use Rattle.run_memory.proofs.packing.pack_words.Goals as goal
 
 pub returns : goal.returns
 returns c =
-    let n = c in
-    let p = n in
-    let k = p in
-    let s = k in
-    words_laid s.args.run s.args.parents.now (words_in s.args.words.now) k.fill_actives-first.ensures p.copy_row.ensures n.copy_row-2.ensures
+    words_laid c.args.run c.args.parents.now (words_in c.args.words.now) c.fill_actives-first.ensures c.copy_row.ensures c.copy_row-2.ensures
     c.copy_row-3.ensures c.copy_row-4.ensures c.copy_row-5.ensures c.copy_row-6.ensures c.put_head.ensures c.put_head-2.ensures c.put_head-3.ensures

@@ -5,22 +5,18 @@ use Rattle.run_memory.proofs.packing.unpack.Goals as goal
 
 pub returns : goal.returns
 returns c =
-    let s = c in
-    let z = s in
-    let y = z in
-    let x = y in
-    let run : Run = x.args.run in
+    let run : Run = c.args.run in
     λ i.
     record {
       table = run.table;
       length = run.length;
       workers = run.workers;
       quota = run.quota;
-      next = x.row_out.ensures i;
-      status = s.statuses_out.ensures i;
+      next = c.row_out.ensures i;
+      status = c.statuses_out.ensures i;
       amounts = c.amounts_out.ensures i;
-      left = y.row_out-2.ensures i;
-      right = z.row_out-3.ensures i;
+      left = c.row_out-2.ensures i;
+      right = c.row_out-3.ensures i;
       leftmost = c.head_at.ensures i;
       worker = c.workers_out-worker.ensures i;
       busy = c.head_at-2.ensures i;

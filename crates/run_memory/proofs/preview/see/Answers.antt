@@ -20,7 +20,7 @@ fits e p d = rw (e, p, d)
 pub returns-then-not-fits : goal.returns-then-not-fits
 returns-then-not-fits c =
     let S = sums_in c.args.sums.now in
-    c.unseen.ensures ∙ unfit c.args.fits (seeing c.args.reply S.held S.highest c.args.quota) (not-true _ c.if-not-fits.true)
+    c.unseen.ensures ∙ unfit c.args.fits (seeing c.args.reply S.held S.highest c.args.quota) c.if-not-fits.true
 
 pub returns : goal.returns
-returns c = fits (not-false _ c.if-not-fits.false) c.total_at-held.ensures c.total_at-highest.ensures
+returns c = fits c.if-not-fits.false c.total_at-held.ensures c.total_at-highest.ensures

@@ -14,16 +14,14 @@ returns-then-quota-share c =
 
 pub returns-then-not-alloc_fits : goal.returns-then-not-alloc_fits
 returns-then-not-alloc_fits c =
-    let d = c in
     λ T B W. c.unseen.ensures
-    ∙ alloc_unfit B W (numbers_in d.args.numbers.now) (sums_in d.args.sums.now) T d.args.t d.args.a d.args.x d.args.quota c.amount_at-own.ensures c.total_at-all.ensures (share d.args.x c.setting_at.ensures c.drawn-share.ensures) c.if-quota-share.false c.alloc_fits.ensures (not-true _ c.if-not-alloc_fits.true)
+    ∙ alloc_unfit B W (numbers_in c.args.numbers.now) (sums_in c.args.sums.now) T c.args.t c.args.a c.args.x c.args.quota c.amount_at-own.ensures c.total_at-all.ensures (share c.args.x c.setting_at.ensures c.drawn-share.ensures) c.if-quota-share.false c.alloc_fits.ensures c.if-not-alloc_fits.true
 
 pub overflow_add-all : goal.overflow_add-all
 overflow_add-all c =
-    fits64 (alloc_room c.args.a c.total_at-all.result c.amount_at-own.result c.args.x (not-false _ c.if-not-alloc_fits.false) c.alloc_fits.ensures).1.0
+    fits64 (alloc_room c.args.a c.total_at-all.result c.amount_at-own.result c.args.x c.if-not-alloc_fits.false c.alloc_fits.ensures).1.0
 
 pub returns : goal.returns
 returns c =
-    let d = c in
     λ T B W. c.see_holding.ensures
-    ∙ alloc_done B W (numbers_in d.args.numbers.now) (sums_in d.args.sums.now) T d.args.t d.args.a d.args.x d.args.quota c.amount_at-own.ensures c.total_at-all.ensures (share d.args.x c.setting_at.ensures c.drawn-share.ensures) c.if-quota-share.false c.alloc_fits.ensures (not-false _ c.if-not-alloc_fits.false)
+    ∙ alloc_done B W (numbers_in c.args.numbers.now) (sums_in c.args.sums.now) T c.args.t c.args.a c.args.x c.args.quota c.amount_at-own.ensures c.total_at-all.ensures (share c.args.x c.setting_at.ensures c.drawn-share.ensures) c.if-quota-share.false c.alloc_fits.ensures c.if-not-alloc_fits.false

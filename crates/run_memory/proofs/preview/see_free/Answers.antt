@@ -10,13 +10,13 @@ use Rattle.run_memory.proofs.preview.see_free.Goals as goal
 pub returns-then-not-free_fits : goal.returns-then-not-free_fits
 returns-then-not-free_fits c =
     λ T B W N. c.unseen.ensures
-    ∙ free_unfit B W N (sums_in c.args.sums.now) T c.args.t c.args.a c.args.x c.args.quota c.amount_at-own.ensures c.total_at-all.ensures c.free_fits.ensures (not-true _ c.if-not-free_fits.true)
+    ∙ free_unfit B W N (sums_in c.args.sums.now) T c.args.t c.args.a c.args.x c.args.quota c.amount_at-own.ensures c.total_at-all.ensures c.free_fits.ensures c.if-not-free_fits.true
 
 pub overflow_sub-all : goal.overflow_sub-all
 overflow_sub-all c =
-    (free_room c.args.a c.total_at-all.result c.amount_at-own.result c.args.x (not-false _ c.if-not-free_fits.false) c.free_fits.ensures).1.0
+    (free_room c.args.a c.total_at-all.result c.amount_at-own.result c.args.x c.if-not-free_fits.false c.free_fits.ensures).1.0
 
 pub returns : goal.returns
 returns c =
     λ T B W N. c.see_holding.ensures
-    ∙ free_done B W N (sums_in c.args.sums.now) T c.args.t c.args.a c.args.x c.args.quota c.amount_at-own.ensures c.total_at-all.ensures c.free_fits.ensures (not-false _ c.if-not-free_fits.false)
+    ∙ free_done B W N (sums_in c.args.sums.now) T c.args.t c.args.a c.args.x c.args.quota c.amount_at-own.ensures c.total_at-all.ensures c.free_fits.ensures c.if-not-free_fits.false

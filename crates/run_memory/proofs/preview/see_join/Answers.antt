@@ -17,7 +17,6 @@ returns-then-status_at-ne-ENDED c =
 
 pub returns : goal.returns
 returns c =
-    let d = c in
     λ T W N. c.see-2.ensures
-    ∙ join_seen (bytes_in d.args.bytes.now) W N (sums_in d.args.sums.now) T d.args.t d.args.a d.args.x d.args.quota c.if-x-ge1024.false (sym c.status_at.ensures ∙ c.if-status_at-ne-ENDED.false)
+    ∙ join_seen (bytes_in c.args.bytes.now) W N (sums_in c.args.sums.now) T c.args.t c.args.a c.args.x c.args.quota c.if-x-ge1024.false (sym c.status_at.ensures ∙ c.if-status_at-ne-ENDED.false)
     c.amount_at-own.ensures c.amount_at-child.ensures c.join_fits-fits.ensures

@@ -51,10 +51,7 @@ returns-then-spoken-ne0 c =
     (hindered v.along c.loop-i-test.true (this_worker c.args.order.now c.args.rounds _ _ v.turn c.worker_of-w.ensures) c.turn_in-spoken.ensures.sums_after c.if-spoken-ne0.true)
 
 pub overflow_add-i : goal.overflow_add-i
-overflow_add-i c = omega (arith, c.loop-i-test.true, c.fits.limit)
-
-pub enum_known-reply : goal.enum_known-reply
-enum_known-reply c = c.in-Done.in-Done-own.keys1
+overflow_add-i c = omega arith
 
 pub loop-i-smaller-in_default : goal.loop-i-smaller-in_default
 loop-i-smaller-in_default c = omega (arith, c.loop-i-test.true)
@@ -66,7 +63,7 @@ loop-i-preserved-in_default c =
       asked = v.asked;
       workers = v.workers;
       turn = next_worker c.args.order.now c.args.rounds _ _ v.workers v.asked v.turn c.following-next.ensures;
-      along = undone v.along c.loop-i-test.true (this_worker c.args.order.now c.args.rounds _ _ v.turn c.worker_of-w.ensures) c.turn_in-spoken.ensures.sums_after c.if-spoken-ne0.false (not_done c.in-Done.in-Done-own.keys2);
+      along = undone v.along c.loop-i-test.true (this_worker c.args.order.now c.args.rounds _ _ v.turn c.worker_of-w.ensures) c.turn_in-spoken.ensures.sums_after c.if-spoken-ne0.false c.in_default.not-Done;
     }
 
 pub returns-then-ends_root : goal.returns-then-ends_root

@@ -14,7 +14,7 @@ rooted : (l : List ℕ) → length l ≡ 1040 → 0 < length (part 0 1024 l)
 rooted l e = let n : length (part 0 1024 l) ≡ 1024 = part_length 0 1024 l (omega (arith, e)) in omega (arith, n)
 
 pub bounds-places-0 : goal.bounds-places-0
-bounds-places-0 c = omega (arith, c.places-1.given.0)
+bounds-places-0 c = omega arith
 
 pub returns : goal.returns
-returns c = let l = c.args.bytes.now in record { value = ap (λ (x : ℕ). eqb x ended) (sym (front_get 1024 l 0 0 (omega arith))); status_nonzero = rooted l c.places-1.given.0 }
+returns c = let l = c.args.bytes.now in record { value = ap (λ (x : ℕ). eqb x ended) (sym (front_get 1024 l 0 0 (omega arith))); status_nonzero = rooted l (omega arith) }
