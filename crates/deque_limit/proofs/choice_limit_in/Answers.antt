@@ -4,4 +4,4 @@ use borrow.Author.Rules.{rules}
 use Rattle.deque_limit.proofs.choice_limit_in.Goals as goal
 
 pub returns : goal.returns
-returns c = let e = c.choice_answer-answer.ensures in record { value = e.0; filled_after = e.1; rises_after = (refl, refl, refl, refl, refl, refl) }
+returns c = record { value = c.choice_answer-answer.ensures.value; filled_after = c.choice_answer-answer.ensures.filled_after; rises_after = (refl, refl, refl, refl, refl, refl) }

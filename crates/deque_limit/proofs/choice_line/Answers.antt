@@ -7,5 +7,5 @@ use borrow.Author.Rules.{rules}
 use Rattle.deque_limit.proofs.choice_line.Goals as goal
 
 pub returns : goal.returns
-returns c = let e = c.answer_line.ensures in let both = rw (← c.answer_to.ensures)
-    (e.0, (e.1.0, counts _ _ (omega (arith, e.0, simp length-append at (ap length e.1.0))))) in record { value = both.0; out_after = both.1.0; prefix_len = both.1.1 }
+returns c = let both = rw (← c.answer_to.ensures)
+    (c.answer_line.ensures.value, (c.answer_line.ensures.out_after, counts _ _ (omega (arith, c.answer_line.ensures.value, simp length-append at (ap length c.answer_line.ensures.out_after))))) in record { value = both.0; out_after = both.1.0; prefix_len = both.1.1 }

@@ -1,4 +1,5 @@
 -- `dfdeques::run_pairs` meets its contract: check 32, and then the run in the blocks.
+use Rattle.std.proofs.Common.{ap, not}
 use mathlib.Core.Path.{◌≡◌, sym}
 use mathlib.Core.Bool.{false}
 use native.Mathlib.Omega.{arith}
@@ -8,14 +9,15 @@ use Rattle.deques.specs.DequeTurn.{unsound_deques}
 use Rattle.deques.proofs.DequeAnswers.{pairs_values_lem}
 use Rattle.dfdeques.proofs.DequesPassed.{deque_fails, deque_passes, deque_parents}
 use Rattle.dfdeques.proofs.DequeByValue.{pairs_unsound, deque_inside, pairs_taken_lem, ran_as, pairs_small, ran_answers}
+use Rattle.dfdeques.proofs.run_pairs.Goals.{Else-not-tested}
 use Rattle.dfdeques.proofs.run_pairs.Goals as goal
 
 -- the record passed the test
-passed : (c : goal.Else-not-tested) → unsound_deques c.args.run ≡ false
-passed c = deque_passes _ c.deque_test-tested.ensures c.if-not-tested.false
+passed : (c : Else-not-tested) → unsound_deques c.args.run ≡ false
+passed c = deque_passes _ c.deque_test-tested.ensures (ap not c.if-not-tested.false)
 
 pub returns-then-not-tested : goal.returns-then-not-tested
-returns-then-not-tested c = let both = rw (← pairs_values_lem, c.unsound.ensures) (ran_answers (pairs_unsound _ _ (deque_fails _ c.deque_test-tested.ensures c.if-not-tested.true))) in record { value = both.0; report_value = both.1 }
+returns-then-not-tested c = let both = rw (← pairs_values_lem, c.unsound.ensures) (ran_answers (pairs_unsound _ _ (deque_fails _ c.deque_test-tested.ensures (ap not c.if-not-tested.true)))) in record { value = both.0; report_value = both.1 }
 
 pub slice_bounds-table-end : goal.slice_bounds-table-end
 slice_bounds-table-end c = deque_inside _ (passed (goal.at.slice_bounds-table-end c).Else-not-tested)

@@ -19,13 +19,10 @@ module _ (s : List ℕ) (w c : ℕ) (M : Memory) {y : Told} (e : y ≡ deque_tur
   unfolding lent_deque_turn
   tells {row} d r = ap (λ (x : List ℕ). answer 0 x y.memory) r ∙ rw (← e, d)
 
-abbrev start : goal.Start → Memory
-start d = memory_of d.args.bytes.now d.args.words.now d.args.numbers.now d.args.sums.now
-
 pub returns-then-told-ne0 : goal.returns-then-told-ne0
 returns-then-told-ne0 c =
-    refuses c.args.table.now c.args.w c.args.c (start (goal.at.returns-then-told-ne0 c).Start) c.deque_turn_in-told.ensures c.if-told-ne0.true
+    refuses c.args.table.now c.args.w c.args.c (memory_of c.args.bytes.now c.args.words.now c.args.numbers.now c.args.sums.now) c.deque_turn_in-told.ensures c.if-told-ne0.true
 
 pub returns : goal.returns
 returns c =
-    tells c.args.table.now c.args.w c.args.c (start (goal.at.returns c).Start) c.deque_turn_in-told.ensures c.if-told-ne0.false c.put_reply.ensures
+    tells c.args.table.now c.args.w c.args.c (memory_of c.args.bytes.now c.args.words.now c.args.numbers.now c.args.sums.now) c.deque_turn_in-told.ensures c.if-told-ne0.false c.put_reply.ensures

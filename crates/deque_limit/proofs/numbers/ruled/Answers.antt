@@ -3,12 +3,13 @@ use Prim.Native.Nat.{◌-◌, ◌*◌, ◌≤◌}
 use native.Mathlib.Nat.{mul-le-mul}
 use native.Mathlib.Omega.{arith}
 use borrow.Author.Rules.{rules}
+use Rattle.deque_limit.proofs.numbers.ruled.Goals.{Start}
 use Rattle.deque_limit.proofs.numbers.ruled.Goals as goal
 
-levels : (c : goal.Start) → c.args.nested - 1 ≤ 65535
+levels : (c : Start) → c.args.nested - 1 ≤ 65535
 levels c = omega (arith, c.well_formed)
 
-added : (c : goal.Start) → c.args.quota * (c.args.nested - 1) ≤ 16777215 * 65535
+added : (c : Start) → c.args.quota * (c.args.nested - 1) ≤ 16777215 * 65535
 added c = mul-le-mul c.requires.few_quota (levels c)
 
 pub overflow_mul-result : goal.overflow_mul-result

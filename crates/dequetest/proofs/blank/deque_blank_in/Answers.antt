@@ -1,4 +1,5 @@
 -- `dequetest::blank::deque_blank_in` meets its contract: where the first test holds, the second says no more than that the second list's links are 0.
+use Rattle.std.proofs.Common.{ap, not}
 use mathlib.Core.Path.{◌≡◌, ◌∙◌}
 use Prim.Native.Nat.{ℕ}
 use mathlib.Core.List.{List}
@@ -52,8 +53,8 @@ module _ (p K : ℕ) (next status amounts : List ℕ) (lines bottoms : Links) (w
       (same_list bottoms.left (replicate 1024 0)) (same_list bottoms.right (replicate 1024 0)) (eqb bottoms.head 0) e)
 
 pub returns-then-not-lines : goal.returns-then-not-lines
-returns-then-not-lines c = not_lines _ _ _ _ _ _ _ _ _ _ _ _ (off c.blank_in-lines.ensures c.if-not-lines.true)
+returns-then-not-lines c = not_lines _ _ _ _ _ _ _ _ _ _ _ _ (off c.blank_in-lines.ensures (ap not c.if-not-lines.true))
 
 pub returns : goal.returns
 returns c =
-    both _ _ _ _ _ _ _ _ _ _ _ _ (on c.blank_in-lines.ensures c.if-not-lines.false) c.blank_in.ensures
+    both _ _ _ _ _ _ _ _ _ _ _ _ (on c.blank_in-lines.ensures (ap not c.if-not-lines.false)) c.blank_in.ensures

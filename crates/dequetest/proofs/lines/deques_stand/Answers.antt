@@ -72,12 +72,12 @@ walk_right-requires c = record { n_bound = c.requires.n_bound; threads = read_th
 pub returns-then-not-walk_right : goal.returns-then-not-walk_right
 returns-then-not-walk_right c =
     not_walked _ _ c.args.left.now c.args.right.now c.args.leftmost c.args.under.now c.args.over.now c.args.first c.read_row-len.ensures.value
-    c.read_row-len.ensures.row_after c.walk_right.ensures c.if-not-walk_right.true
+    c.read_row-len.ensures.row_after c.walk_right.ensures (ap not c.if-not-walk_right.true)
 
 pub returns-then-not-describe : goal.returns-then-not-describe
 returns-then-not-describe c =
     not_lined _ _ c.args.left.now c.args.right.now c.args.leftmost c.args.under.now c.args.over.now c.args.first c.read_row-len.ensures.value
-    c.read_row-len.ensures.row_after c.walk_right.ensures c.if-not-walk_right.false c.describe.ensures c.if-not-describe.true
+    c.read_row-len.ensures.row_after c.walk_right.ensures (ap not c.if-not-walk_right.false) c.describe.ensures (ap not c.if-not-describe.true)
 
 pub gather_bottoms-count-requires : goal.gather_bottoms-count-requires
 gather_bottoms-count-requires c = record { threads = read_threads c.args.right.now c.args.leftmost c.read_row-len.ensures.value c.read_row-len.ensures.row_after; bottoms_len = c.requires.bottoms_len }
@@ -85,4 +85,4 @@ gather_bottoms-count-requires c = record { threads = read_threads c.args.right.n
 pub returns : goal.returns
 returns c =
     by_bottoms _ _ c.args.left.now c.args.right.now c.args.leftmost c.args.under.now c.args.over.now c.args.first c.read_row-len.ensures.value
-    c.read_row-len.ensures.row_after c.walk_right.ensures c.if-not-walk_right.false c.describe.ensures c.if-not-describe.false c.gather_bottoms-count.ensures c.describe-2.ensures
+    c.read_row-len.ensures.row_after c.walk_right.ensures (ap not c.if-not-walk_right.false) c.describe.ensures (ap not c.if-not-describe.false) c.gather_bottoms-count.ensures c.describe-2.ensures

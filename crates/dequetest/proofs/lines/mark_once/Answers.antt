@@ -4,13 +4,14 @@ use lib.ListN.{get_or}
 use borrow.Author.Rules.{rules}
 use Rattle.table.proofs.Tests.{no_way}
 use Rattle.dequetest.proofs.Walking.{MarkedFrom, marked_start, marked_low, marked_on, marked_twice, marked_all}
+use Rattle.dequetest.proofs.lines.mark_once.Goals.{In-loop-i}
 use Rattle.dequetest.proofs.lines.mark_once.Goals as goal
 
 pub loop-i-init : goal.loop-i-init
 loop-i-init c = marked_start c.args.row.now c.args.len c.args.marks.now c.requires.threads c.requires.marks_value
 
 -- the thread there
-low : (c : goal.In-loop-i → get_or c.args.row.now (c.loop-i.i - 1) 0 < 1024
+low : (c : In-loop-i) → get_or c.args.row.now (c.loop-i.i - 1) 0 < 1024
 low c = marked_low _ _ _ c.loop-i.i (c.loop-i.i - 1) (omega (arith, c.loop-i-test.true)) c.loop-i.invariant
 
 pub offset_bounds-row-i : goal.offset_bounds-row-i

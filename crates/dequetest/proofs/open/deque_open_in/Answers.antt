@@ -47,19 +47,16 @@ module _ (sound blank : Bool) where
 
 pub returns-then-both : goal.returns-then-both
 returns-then-both c = let d = c.deque_test_in-passed in
-    let e = d.ensures in
     let a = c.args in
-    let h = tested a.written e.0 c.both.ensures ∙ c.if-both.true in
-    let p = its_parents d.result (table_of a.table.now) e.1.0 (second_of a.written d.result (sym c.both.ensures ∙ c.if-both.true)) in record { value = sound_number _ _ h; parents_after = sound_parents _ _ _ _ h p; rises_after = e.1.1.0; forks_after = (e.1.1.1.0, refl, e.1.1.1.1) }
+    let h = tested a.written d.ensures.value c.both.ensures ∙ c.if-both.true in
+    let p = its_parents d.result (table_of a.table.now) d.ensures.parents_after (second_of a.written d.result (sym c.both.ensures ∙ c.if-both.true)) in record { value = sound_number _ _ h; parents_after = sound_parents _ _ _ _ h p; rises_after = d.ensures.rises_after; forks_after = (d.ensures.forks_after.0, refl, d.ensures.forks_after.1) }
 
 pub returns-then-blank : goal.returns-then-blank
-returns-then-blank c = let e = c.deque_test_in-passed.ensures in
-    let a = c.args in
-    let h = tested a.written e.0 c.both.ensures ∙ c.if-both.false in
-    let k = sym c.deque_blank_in-blank.ensures ∙ c.if-blank.true in record { value = blank_number _ _ h k; parents_after = blank_parents _ _ _ _ h k; rises_after = e.1.1.0; forks_after = (e.1.1.1.0, refl, e.1.1.1.1) }
+returns-then-blank c = let a = c.args in
+    let h = tested a.written c.deque_test_in-passed.ensures.value c.both.ensures ∙ c.if-both.false in
+    let k = sym c.deque_blank_in-blank.ensures ∙ c.if-blank.true in record { value = blank_number _ _ h k; parents_after = blank_parents _ _ _ _ h k; rises_after = c.deque_test_in-passed.ensures.rises_after; forks_after = (c.deque_test_in-passed.ensures.forks_after.0, refl, c.deque_test_in-passed.ensures.forks_after.1) }
 
 pub returns : goal.returns
-returns c = let e = c.deque_test_in-passed.ensures in
-    let a = c.args in
-    let h = tested a.written e.0 c.both.ensures ∙ c.if-both.false in
-    let k = sym c.deque_blank_in-blank.ensures ∙ c.if-blank.false in record { value = refused_number _ _ h k; parents_after = refused_parents _ _ _ _ h k; rises_after = e.1.1.0; forks_after = (e.1.1.1.0, refl, e.1.1.1.1) }
+returns c = let a = c.args in
+    let h = tested a.written c.deque_test_in-passed.ensures.value c.both.ensures ∙ c.if-both.false in
+    let k = sym c.deque_blank_in-blank.ensures ∙ c.if-blank.false in record { value = refused_number _ _ h k; parents_after = refused_parents _ _ _ _ h k; rises_after = c.deque_test_in-passed.ensures.rises_after; forks_after = (c.deque_test_in-passed.ensures.forks_after.0, refl, c.deque_test_in-passed.ensures.forks_after.1) }

@@ -4,7 +4,6 @@ use mathlib.Core.List.{List}
 use mathlib.Core.Bool.{Bool, true, false}
 use Prim.Native.Nat.{ℕ}
 use borrow.Author.Rules.{rules}
-use borrow.Author.Tests.{not-true, not-false}
 use lib.ListN.{replicate}
 use Rattle.table.specs.Format.{Table, table_of}
 use Rattle.soundness.specs.Tested.{parents_in, parents_if}
@@ -17,8 +16,7 @@ its_parents : (q : Bool) (T : Table) {l : List ℕ} → q ≡ true → l ≡ par
 its_parents q T e h = rw e h
 
 pub returns-then-not-passed : goal.returns-then-not-passed
-returns-then-not-passed c = let k = c.sound_parts-passed.ensures in record { value = k.0; parents_after = no_parents c.sound_parts-passed.result (table_of c.args.table.now) (not-true _ c.if-not-passed.true); rises_after = k.1.1; forks_after = (refl, refl) }
+returns-then-not-passed c = record { value = c.sound_parts-passed.ensures.value; parents_after = no_parents c.sound_parts-passed.result (table_of c.args.table.now) c.if-not-passed.true; rises_after = c.sound_parts-passed.ensures.rises_after; forks_after = (refl, refl) }
 
 pub returns-else-not-passed : goal.returns-else-not-passed
-returns-else-not-passed c = let k = c.sound_parts-passed.ensures in
-    let e = not-false c.sound_parts-passed.result c.if-not-passed.false in record { value = k.0; parents_after = its_parents c.sound_parts-passed.result (table_of c.args.table.now) e (k.1.0 e); rises_after = k.1.1; forks_after = (refl, refl) }
+returns-else-not-passed c = let e = c.if-not-passed.false in record { value = c.sound_parts-passed.ensures.value; parents_after = its_parents c.sound_parts-passed.result (table_of c.args.table.now) e (c.sound_parts-passed.ensures.parents_after e); rises_after = c.sound_parts-passed.ensures.rises_after; forks_after = (refl, refl) }

@@ -1,4 +1,5 @@
 -- `dequetest::sound::sound_parts` meets its contract: the common part comes first, then turns taken, then the deques.
+use Rattle.std.proofs.Common.{not}
 use mathlib.Core.Path.{◌≡◌, ap, ◌∙◌}
 use Prim.Native.Nat.{ℕ, ◌<◌, ◌≤◌}
 use mathlib.Core.List.{List}
@@ -24,6 +25,7 @@ use Rattle.soundness.proofs.Lookups.{few_threads}
 use Rattle.soundness.proofs.Chains.{off, on, cut, skip, pass, first_of, never}
 use Rattle.deques.specs.DequeWalk.{deques_stand}
 use Rattle.dequetest.specs.DequeTested.{deque_sound_on}
+use Rattle.dequetest.proofs.sound.sound_parts.Goals.{Start}
 use Rattle.dequetest.proofs.sound.sound_parts.Goals as goal
 
 module _ (s : List ℕ) (p K : ℕ) (next status amounts : List ℕ) (workers : List Worker) (set amount highest : ℕ) where
@@ -67,18 +69,17 @@ threads_are s a = a
 cleared_size : {l : List ℕ} → l ≡ replicate 1024 0 → length l ≡ 1024
 cleared_size e = ap length e ∙ length-replicate {A = ℕ} 1024 0
 
-turns_fit : (c : goal.Start) → c.args.turns < 18446744073709551616
+turns_fit : (c : Start) → c.args.turns < 18446744073709551616
 turns_fit c = search rules
 
 pub returns-then-not-common : goal.returns-then-not-common
-returns-then-not-common c = let k = c.test_common-common.ensures in record { value = not_shared _ _ _ _ _ _ _ _ _ _ _ _ _ (off k.0 c.if-not-common.true); parents_after = never; rises_after = (k.1.1.0, k.1.1.1) }
+returns-then-not-common c = record { value = not_shared _ _ _ _ _ _ _ _ _ _ _ _ _ (off c.test_common-common.ensures.value (ap not c.if-not-common.true)); parents_after = never; rises_after = (c.test_common-common.ensures.rises_after.0, c.test_common-common.ensures.rises_after.1) }
 
 pub returns-then-turns-eq18446744073709551615 : goal.returns-then-turns-eq18446744073709551615
-returns-then-turns-eq18446744073709551615 c = let k = c.test_common-common.ensures in record { value = last_turn _ _ _ _ _ _ _ _ _ _ _ _ _ c.if-turns-eq18446744073709551615.true; parents_after = never; rises_after = (k.1.1.0, k.1.1.1) }
+returns-then-turns-eq18446744073709551615 c = record { value = last_turn _ _ _ _ _ _ _ _ _ _ _ _ _ c.if-turns-eq18446744073709551615.true; parents_after = never; rises_after = (c.test_common-common.ensures.rises_after.0, c.test_common-common.ensures.rises_after.1) }
 
 pub deques_stand-requires : goal.deques_stand-requires
-deques_stand-requires c = let k = c.test_common-common.ensures in record { n_bound = few _ _ _ _ _ _ _ _ _ _ (on k.0 c.if-not-common.false) (threads_are _ c.threads-n.ensures.value); bottoms_len = cleared_size k.1.1.2 }
+deques_stand-requires c = record { n_bound = few _ _ _ _ _ _ _ _ _ _ (on c.test_common-common.ensures.value (ap not c.if-not-common.false)) (threads_are _ c.threads-n.ensures.value); bottoms_len = cleared_size c.test_common-common.ensures.rises_after.2 }
 
 pub returns : goal.returns
-returns c = let k = c.test_common-common.ensures in
-    let h = on k.0 c.if-not-common.false in record { value = all_sound _ _ _ _ _ _ _ _ _ _ _ _ _ h (threads_are _ c.threads-n.ensures.value) c.deques_stand.ensures c.if-turns-eq18446744073709551615.false (turns_fit (goal.at.returns c).Start); parents_after = (λ q. its_parents _ _ _ _ _ _ _ _ _ _ h k.1.0); rises_after = (k.1.1.0, k.1.1.1) }
+returns c = let h = on c.test_common-common.ensures.value (ap not c.if-not-common.false) in record { value = all_sound _ _ _ _ _ _ _ _ _ _ _ _ _ h (threads_are _ c.threads-n.ensures.value) c.deques_stand.ensures c.if-turns-eq18446744073709551615.false (search rules); parents_after = (λ q. its_parents _ _ _ _ _ _ _ _ _ _ h c.test_common-common.ensures.parents_after); rises_after = (c.test_common-common.ensures.rises_after.0, c.test_common-common.ensures.rises_after.1) }

@@ -1,4 +1,5 @@
 -- `dfdeques::testing::is_blank` meets its contract: the table in the record first, then its length, then the parts.
+use Rattle.std.proofs.Common.{not}
 use mathlib.Core.Path.{◌≡◌, ap, sym, ◌∙◌}
 use Prim.Native.Nat.{ℕ}
 use mathlib.Core.Bool.{Bool, false}
@@ -14,6 +15,7 @@ use Rattle.deques.specs.DequeRecord.{bottoms_in}
 use Rattle.deques.specs.DequeSound.{is_blank_deques}
 use Rattle.dequetest.specs.DequeTested.{deque_blank_on}
 use Rattle.dequetest.proofs.DequeOnParts.{deque_blank_is}
+use Rattle.dfdeques.proofs.testing.is_blank.Goals.{After-bytes_rest, Start}
 use Rattle.dfdeques.proofs.testing.is_blank.Goals as goal
 
 module _ (r : DequeRun) where
@@ -30,25 +32,25 @@ module _ (r : DequeRun) where
   no_table : zero_table ≡ false → false ≡ is_blank_deques r
   no_table e = cut _ e ∙ sym (deque_blank_is r)
 
-table_size : (c : goal.Start) → length c.args.run.run.table ≡ 36868
+table_size : (c : Start) → length c.args.run.run.table ≡ 36868
 table_size c = search rules
 
 pub slice_bounds-bytes_rest-end : goal.slice_bounds-bytes_rest-end
 slice_bounds-bytes_rest-end c = sym (table_size (goal.at.slice_bounds-bytes_rest-end c).Start)
 
-zeros : (c : goal.After-bytes_rest) → c.bytes_rest.result ≡ zero_table c.args.run
+zeros : (c : After-bytes_rest) → c.bytes_rest.result ≡ zero_table c.args.run
 zeros c =
     let c = c in
     sized c.args.run (table_size c) c.bytes_rest.ensures
 
 pub returns-then-not-bytes_rest : goal.returns-then-not-bytes_rest
 returns-then-not-bytes_rest c =
-    no_table c.args.run (off (zeros (goal.at.returns-then-not-bytes_rest c).After-bytes_rest) c.if-not-bytes_rest.true)
+    no_table c.args.run (off (zeros (goal.at.returns-then-not-bytes_rest c).After-bytes_rest) (ap not c.if-not-bytes_rest.true))
 
 pub returns-then-record-ne0 : goal.returns-then-record-ne0
 returns-then-record-ne0 c =
-    pass (on (zeros (goal.at.returns-then-record-ne0 c).After-bytes_rest) c.if-not-bytes_rest.false) (cut (parts c.args.run) (ne_eqb _ 0 c.if-record-ne0.true)) ∙ sym (deque_blank_is _)
+    pass (on (zeros (goal.at.returns-then-record-ne0 c).After-bytes_rest) (ap not c.if-not-bytes_rest.false)) (cut (parts c.args.run) (ne_eqb _ 0 c.if-record-ne0.true)) ∙ sym (deque_blank_is _)
 
 pub returns : goal.returns
 returns c =
-    pass (on (zeros (goal.at.returns c).After-bytes_rest) c.if-not-bytes_rest.false) (pass (eq-eqb _ 0 c.if-record-ne0.false) c.deque_blank_in.ensures) ∙ sym (deque_blank_is c.args.run)
+    pass (on (zeros (goal.at.returns c).After-bytes_rest) (ap not c.if-not-bytes_rest.false)) (pass (eq-eqb _ 0 c.if-record-ne0.false) c.deque_blank_in.ensures) ∙ sym (deque_blank_is c.args.run)

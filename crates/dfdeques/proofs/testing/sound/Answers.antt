@@ -1,11 +1,11 @@
 -- `dfdeques::testing::sound` meets its contract: a record is sound where its parts are and its table is a copy of the bytes in use.
+use Rattle.std.proofs.Common.{ap, not}
 use mathlib.Core.Path.{◌≡◌, sym, ◌∙◌}
 use Prim.Native.Nat.{ℕ, ◌≤◌}
 use mathlib.Core.List.{List}
 use mathlib.Core.Bool.{Bool, true, false}
 use native.Mathlib.Omega.{arith}
 use borrow.Author.Rules.{rules}
-use borrow.Author.Tests.{not-false}
 use lib.ListN.{length, replicate}
 use lib.Seq.{length-take-le}
 use Rattle.schedule.specs.Record.{bytes_of, table_in, links_in}
@@ -18,6 +18,7 @@ use Rattle.deques.specs.DequeRecord.{bottoms_in}
 use Rattle.deques.specs.DequeSound.{deque_sound}
 use Rattle.dequetest.specs.DequeTested.{deque_sound_on}
 use Rattle.dequetest.proofs.DequeOnParts.{deque_sound_is}
+use Rattle.dfdeques.proofs.testing.sound.Goals.{Else-not-copy_sound, Start}
 use Rattle.dfdeques.proofs.testing.sound.Goals as goal
 
 module _ (r : DequeRun) where
@@ -39,14 +40,14 @@ module _ (r : DequeRun) where
       let k : q ≡ deque_sound r = last parts h e ∙ sym (deque_sound_is r) in
       rw (d, k)
 
-table_size : (c : goal.Start) → length c.args.run.run.table ≡ 36868
+table_size : (c : Start) → length c.args.run.run.table ≡ 36868
 table_size c = search rules
 
-bounds : (c : goal.Else-not-copy_sound) → c.args.run.run.length ≤ 36868
-bounds c = c.copy_sound.ensures.length_bound (not-false _ c.if-not-copy_sound.false)
+bounds : (c : Else-not-copy_sound) → c.args.run.run.length ≤ 36868
+bounds c = c.copy_sound.ensures.length_bound c.if-not-copy_sound.false
 
 pub returns-then-not-copy_sound : goal.returns-then-not-copy_sound
-returns-then-not-copy_sound c = no_copy _ (off c.copy_sound.ensures.value c.if-not-copy_sound.true)
+returns-then-not-copy_sound c = no_copy _ (off c.copy_sound.ensures.value (ap not c.if-not-copy_sound.true))
 
 pub slice_bounds-table-end : goal.slice_bounds-table-end
 slice_bounds-table-end c =
@@ -57,4 +58,4 @@ slice_bounds-bytes-end c = sym (length-take-le _ _ (array_share_prefix_table c))
 
 pub returns : goal.returns
 returns c =
-    by_parts c.args.run (on c.copy_sound.ensures.value c.if-not-copy_sound.false) c.deque_test_in-passed.ensures.value c.deque_test_in-passed.ensures.parents_after
+    by_parts c.args.run (on c.copy_sound.ensures.value (ap not c.if-not-copy_sound.false)) c.deque_test_in-passed.ensures.value c.deque_test_in-passed.ensures.parents_after

@@ -5,12 +5,10 @@ use Rattle.wivakkol_deques.proofs.limit.wivakkol_deque_limit_on.Goals as goal
 
 pub returns-in-Given : goal.returns-in-Given
 returns-in-Given c = let a = c.args in
-    let e = c.choice_limit_in-answer.ensures in
-    let q = choice_handed a.table.now a.quota a.c a.p a.filled.now c.workers-w.ensures e.0 e.1.0 in
-    let r = choice_given q.0 c.in-Given.is in record { value = r.0; row_after = r.1; filled_after = q.1; rises_after = e.1.1 }
+    let q = choice_handed a.table.now a.quota a.c a.p a.filled.now c.workers-w.ensures c.choice_limit_in-answer.ensures.value c.choice_limit_in-answer.ensures.filled_after in
+    let r = choice_given q.0 c.in-Given.is in record { value = r.0; row_after = r.1; filled_after = q.1; rises_after = c.choice_limit_in-answer.ensures.rises_after }
 
 pub returns-in-Refused : goal.returns-in-Refused
 returns-in-Refused c = let a = c.args in
-    let e = c.choice_limit_in-answer.ensures in
-    let q = choice_handed a.table.now a.quota a.c a.p a.filled.now c.workers-w.ensures e.0 e.1.0 in
-    let r = choice_refused q.0 c.in-Refused.is in record { value = r.0; row_after = r.1; filled_after = q.1; rises_after = e.1.1 }
+    let q = choice_handed a.table.now a.quota a.c a.p a.filled.now c.workers-w.ensures c.choice_limit_in-answer.ensures.value c.choice_limit_in-answer.ensures.filled_after in
+    let r = choice_refused q.0 c.in-Refused.is in record { value = r.0; row_after = r.1; filled_after = q.1; rises_after = c.choice_limit_in-answer.ensures.rises_after }

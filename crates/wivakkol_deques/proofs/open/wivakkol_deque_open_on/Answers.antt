@@ -4,8 +4,4 @@ use borrow.Author.Rules.{rules}
 use Rattle.wivakkol_deques.proofs.open.wivakkol_deque_open_on.Goals as goal
 
 pub returns : goal.returns
-returns c =
-    let e = c.deque_open_in.ensures in (
-      opens_so _ _ c.workers.ensures c.workers_at-records.ensures c.truths_right-written.ensures e.0 e.1.0,
-      e.1.1,
-    )
+returns c =  record { totals_after = opens_so _ _ c.workers.ensures c.workers_at-records.ensures c.truths_right-written.ensures c.deque_open_in.ensures.value c.deque_open_in.ensures.parents_after; rises_after = e.1.1; forks_after =  }
