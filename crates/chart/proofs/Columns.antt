@@ -6,9 +6,10 @@ use mathlib.Core.Path.{◌≡◌, refl, ap, ◌∙◌}
 use mathlib.Core.List.{List, [], ◌∷◌, ◌++◌, append-nil, append_assoc, flatten}
 use mathlib.Core.Bool.{Bool, true, false}
 use borrow.Author.Tests.{ltb-true, ltb-false, ne_eqb}
-use lib.Dec.{ltb}
+use lib.Dec.{ltb, eqb}
 use lib.ListN.{length, get_or, replicate, length-append, length-replicate}
 use lib.Seq.{get_or_at}
+use Rattle.table.specs.Sum.{pick}
 use Rattle.text.specs.Text.{digit, digits_of, decimal}
 use Rattle.text.proofs.Decimal.{decimal_digit, decimal_more, decimal_length}
 use Rattle.chart.specs.Chart.{right_texts, number_from, number_in}
@@ -29,7 +30,7 @@ right_length k n h = simp (length-append, length-replicate) (omega (arith, decim
 from_append : (n : ℕ) (s t : List ℕ) → number_from n (s ++ t) ≡ number_from (number_from n s) t
 unfolding number_from
 from_append n [] t = refl
-from_append n (x ∷ s) t = from_append _ s t
+from_append n (x ∷ s) t = from_append (pick (eqb x 32) n (10 * n + (x - 48))) s t
 
 from_blanks : (n k : ℕ) → number_from n (replicate k 32) ≡ n
 unfolding number_from

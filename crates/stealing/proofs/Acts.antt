@@ -40,7 +40,7 @@ use Rattle.array_machine.specs.declared.Totals.{Totals}
 use Rattle.array_machine.specs.Arrays.{Arrays, links_of, second_of, amount_in, with_statuses}
 use Rattle.array_machine.specs.Turn.{Outcome, waits_in, act_on}
 use Rattle.array_machine.proofs.Parts.{Sits}
-use Rattle.array_machine.proofs.Seats.{next_fits, alloc_room, own_room, free_room, own_free, child_room, fork_child, join_child}
+use Rattle.array_machine.proofs.Seats.{next_fits_lem, alloc_room, own_room, free_room, own_free, child_room, fork_child, join_child}
 use Rattle.deques.specs.Deques.{Deque, deque, bottom, over, goes_to, goes_on, let_go, DequeStep, steps, act_deques}
 use Rattle.deques.specs.Partition.{owned_by, AllInUse}
 use Rattle.deques.specs.Lines.{lines_of, bottoms_of, thread_of, linked_in}
@@ -281,12 +281,12 @@ module _ (s : List ℕ) (rules : Rules s) (p K : ℕ) (begins : first_found (set
 
   works : Follows w workers turns (left_by work) (step_by work)
   unfolding deque_by act_on act_by
-  works = rw (next_fits seat h, h) (record { fits = refl; reply = refl; state = rw (set-get_or workers w nobody); laid = record { lines = (same_laid worker refl).lines; bottoms = (same_laid worker refl).bottoms } })
+  works = rw (next_fits_lem seat h, h) (record { fits = refl; reply = refl; state = rw (set-get_or workers w nobody); laid = record { lines = (same_laid worker refl).lines; bottoms = (same_laid worker refl).bottoms } })
 
   frees : kind (table_of s) a ≡ free → Follows w workers turns (left_by free) (step_by free)
   unfolding deque_by act_on act_by
   frees e =
-      rw (next_fits seat h, le-leb x totals.held (free_room seat h e), le-leb x (amount_in A t) (own_free seat h e), h)
+      rw (next_fits_lem seat h, le-leb x totals.held (free_room seat h e), le-leb x (amount_in A t) (own_free seat h e), h)
       (record { fits = refl; reply = refl; state = rw (set-get_or workers w nobody); laid = record { lines = (same_laid worker refl).lines; bottoms = (same_laid worker refl).bottoms } })
 
   allocates : kind (table_of s) a ≡ alloc → Follows w workers turns (left_by alloc) (step_by alloc)
@@ -296,7 +296,7 @@ module _ (s : List ℕ) (rules : Rules s) (p K : ℕ) (begins : first_found (set
       go : (b : Bool) → leb (drawn K x) q ≡ b → Follows w workers turns (left_by alloc) (step_by alloc)
       go true i =
           let y : Worker = record { holds = true; thread = t; quota = q - drawn K x } in
-          rw (i, next_fits seat h, lt-ltb (totals.held + x) (2 ^ 64) (alloc_room seat h), lt-ltb (amount_in A t + x) (2 ^ 64) (own_room seat h), get_or-set_same workers w (record { holds = true; thread = t; quota = q - drawn K x }) nobody wide)
+          rw (i, next_fits_lem seat h, lt-ltb (totals.held + x) (2 ^ 64) (alloc_room seat h), lt-ltb (amount_in A t + x) (2 ^ 64) (own_room seat h), get_or-set_same workers w (record { holds = true; thread = t; quota = q - drawn K x }) nobody wide)
           (record { fits = refl; reply = refl; state = refl; laid = record { lines = (same_laid y refl).lines; bottoms = (same_laid y refl).bottoms } })
       go false i =
           rw (i, gone)
@@ -317,14 +317,14 @@ module _ (s : List ℕ) (rules : Rules s) (p K : ℕ) (begins : first_found (set
     where
       go : (b : Bool) → eqb (get_or A.status x 0) ended ≡ b → Follows w workers turns (left_by join) (step_by join)
       go true i =
-          rw (lt-ltb x 1024 (join_child seat h e), i, next_fits seat h, lt-ltb (amount_in A t + amount_in A x) (2 ^ 64) (child_room seat h x), h)
+          rw (lt-ltb x 1024 (join_child seat h e), i, next_fits_lem seat h, lt-ltb (amount_in A t + amount_in A x) (2 ^ 64) (child_room seat h x), h)
           (record { fits = refl; reply = refl; state = rw (set-get_or workers w nobody); laid = record { lines = (same_laid worker refl).lines; bottoms = (same_laid worker refl).bottoms } })
       go false i = rw (lt-ltb x 1024 (join_child seat h e), i, gone) (leaves (Wait t x) waiting)
 
   forks : kind (table_of s) a ≡ fork → Follows w workers turns (left_by fork) (step_by fork)
   unfolding deque_by forks_on act_by let_go taken left_of
   forks e =
-      rw (next_fits seat h, lt-ltb x 1024 (fork_child seat h e), gone)
+      rw (next_fits_lem seat h, lt-ltb x 1024 (fork_child seat h e), gone)
       (record {
         fits = refl;
         reply = refl;
