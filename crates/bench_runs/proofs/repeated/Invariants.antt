@@ -2,8 +2,8 @@
 use Rattle.std.proofs.Common.{◌≤◌}
 use Rattle.bench_runs.proofs.repeated.Given as goal
 
-abbrev pub invariant-loop-total : goal.invariant-loop-total
-invariant-loop-total l = l.left ≤ l.count
+abbrev pub invariant-loop-left : goal.invariant-loop-left
+invariant-loop-left l = l.left ≤ l.count
 
-abbrev pub decreases-loop-total : goal.decreases-loop-total
-decreases-loop-total l = l.left
+abbrev pub decreases-loop-left : goal.decreases-loop-left
+decreases-loop-left l = l.left

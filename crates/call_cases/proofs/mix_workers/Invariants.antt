@@ -2,8 +2,8 @@
 use Rattle.std.proofs.Common.{◌-◌, ◌≤◌}
 use Rattle.call_cases.proofs.mix_workers.Given as goal
 
-abbrev pub invariant-loop-sum : goal.invariant-loop-sum
-invariant-loop-sum l = l.w ≤ 16
+abbrev pub invariant-loop-w : goal.invariant-loop-w
+invariant-loop-w l = l.w ≤ 16
 
-abbrev pub decreases-loop-sum : goal.decreases-loop-sum
-decreases-loop-sum l = 16 - l.w
+abbrev pub decreases-loop-w : goal.decreases-loop-w
+decreases-loop-w l = 16 - l.w
