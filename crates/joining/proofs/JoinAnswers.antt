@@ -1,22 +1,20 @@
 -- The answer by what weighing the parts gives, the buffer, and the values without the answer.
 use mathlib.Core.Path.{◌≡◌, refl, sym, ap, ◌∙◌}
-use Prim.Native.Nat.{ℕ, zero, suc, ◌+◌, ◌*◌, ◌≤◌, ◌<◌}
-use mathlib.Core.List.{List, [], ◌∷◌, ◌++◌, map, flatten}
+use Prim.Native.Nat.{ℕ, suc, ◌+◌, ◌*◌, ◌≤◌}
+use mathlib.Core.List.{List, [], ◌∷◌, map, flatten}
 use mathlib.Core.Bool.{Bool, true, false, not, ◌||◌}
 use native.Mathlib.Omega.{arith}
-use native.Mathlib.Decide.{dec_lt, ℕ_discrete}
 use lib.Dec.{ltb, eqb}
-use lib.ListN.{length, drop}
-use borrow.Author.Tests.{lt-ltb, le-ltb, ltb-false, eq-eqb, ne_eqb, eqb-true, eqb-false}
+use lib.ListN.{length}
+use borrow.Author.Tests.{ltb-false, eqb-true, eqb-false}
 use Rattle.table.specs.Sum.{pick}
-use Rattle.table.specs.Format.{table_of, threads_of, actions_of}
+use Rattle.table.specs.Format.{table_of}
 use Rattle.table.specs.Pass.{first_found, refusal}
 use Rattle.table.specs.Checks.{passes}
 use Rattle.table.specs.Load.{facts_of}
 use Rattle.table.specs.declared.Facts.{Facts}
 use Rattle.table.specs.declared.Found.{Found}
 use Rattle.table.specs.declared.Found.TheVariants.{Nothing, At}
-use Rattle.table.specs.Written.{written}
 use Rattle.table.proofs.ReadBack.{bytes_length}
 use Rattle.text.specs.Text.{buffer_at}
 use Rattle.text.specs.Puts.{put_all}
@@ -24,14 +22,14 @@ use Rattle.text.proofs.Putting.{puts_whole}
 use Rattle.parts.specs.Joined.{joined_bodies}
 use Rattle.rows.specs.Rows.{over}
 use Rattle.joining.specs.Joining.{joined_bytes, weighed, threads_in, actions_in, joined_facts}
-use Rattle.joining.specs.Answers.{parts_of, sum_of, parts_wrong, in_part, first_refused, too_large as is_too_large, joined_with, joined, joined_in, left_by, JoinValues, join_values_of, join_values, refused_values, whole_values, part_values, first_values}
+use Rattle.joining.specs.Answers.{parts_of, sum_of, parts_wrong, in_part, first_refused, too_large as is_too_large, joined_with, joined, join_values_of, join_values, refused_values, whole_values, part_values, first_values}
 use Rattle.joining.specs.Code.Rows.{threads_over, actions_over, joined_rows}
 use Rattle.joining.specs.Code.Steps.{Lent, LentFew, Small, no_part, totals_from, facts_from, weights_from, answered, AllWeighed}
 use Rattle.joining.specs.declared.Joined.{Joined}
-use Rattle.joining.specs.declared.Joined.TheVariants.{Written, Refused, InPart}
+use Rattle.joining.specs.declared.Joined.TheVariants.{Written, Refused}
 use Rattle.joining.specs.declared.weights.Totals.{Totals}
-use Rattle.joining.proofs.JoinedWhole.{bodies_over, over_length}
-use Rattle.joining.proofs.JoinRows.{AllFit, joined_size_lem, joined_count, joined_bytes_lem}
+use Rattle.joining.proofs.JoinedWhole.{bodies_over}
+use Rattle.joining.proofs.JoinRows.{joined_size_lem, joined_count, joined_bytes_lem}
 use Rattle.joining.proofs.Splits.{parts_length}
 use Rattle.joining.proofs.Weighs.{Weighs, all_weighed, total_threads, total_actions, totals_joined, weights_answer}
 

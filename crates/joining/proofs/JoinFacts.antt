@@ -2,16 +2,16 @@
 use Prim.Native.Nat.{ℕ, zero, suc, pred, ◌+◌, ◌-◌, ◌*◌, ◌≤◌, ◌<◌, max}
 use native.Mathlib.Omega.{arith}
 use native.Mathlib.Decide.{dec_lt}
-use mathlib.Core.Path.{◌≡◌, refl, sym, ap, ◌∙◌}
+use mathlib.Core.Path.{◌≡◌, refl, ap, ◌∙◌}
 use mathlib.Core.List.{List, [], ◌∷◌, map}
-use mathlib.Core.Bool.{Bool, true, false}
+use mathlib.Core.Bool.{false}
 use lib.ListN.{length}
-use lib.IntN.{ℤ, pos, negsuc, sub_ℕ}
+use lib.IntN.{pos}
 use borrow.Author.Tests.{le-ltb}
-use Rattle.table.specs.Sum.{pick, sum_to, greatest, greatest_to}
-use Rattle.table.specs.Format.{Kind, end, fork, join, is, code_of, Table, kind}
-use Rattle.table.specs.Checks.{owner, end_of, alloc_of, free_of, with_child, whole, part_of, balance}
-use Rattle.table.specs.Serial.{serial, peak_of, S1}
+use Rattle.table.specs.Sum.{sum_to, greatest, greatest_to}
+use Rattle.table.specs.Format.{end, fork, is, code_of, Table, kind}
+use Rattle.table.specs.Checks.{end_of, alloc_of, free_of, whole, balance}
+use Rattle.table.specs.Serial.{S1}
 use Rattle.table.specs.Level.{level, D}
 use Rattle.table.specs.Nested.{nest, N}
 use Rattle.table.specs.Load.{facts_of}
@@ -19,19 +19,19 @@ use Rattle.table.proofs.Tests.{no_way}
 use Rattle.table.proofs.Bodies.{count_pos, first_within, end_within, after_end, owner_of_end, end_kind}
 use Rattle.table.proofs.Amounts.{fork_part, fork_part_fork, fork_part_step, fork_part_whole, whole_is}
 use Rattle.table.proofs.Peaks.{top_at, peak_at, peak_thread, whole_held}
-use Rattle.table.proofs.Levels.{level_root, level_child, first_no_join}
+use Rattle.table.proofs.Levels.{level_root, level_child}
 use Rattle.table.proofs.NestedThreads.{nest_root, nest_child, nest_most, nested_under}
-use Rattle.parts.specs.Copies.{Copies, place_of}
+use Rattle.parts.specs.Copies.{place_of}
 use Rattle.parts.specs.Kept.{Keeps}
 use Rattle.parts.specs.Joined.{deepest}
 use Rattle.facts.specs.Weigh.{left_of, weigh}
 use Rattle.facts.specs.declared.Weighed.{Weighed}
-use Rattle.joining.specs.Joining.{peak_from, joined_facts}
+use Rattle.joining.specs.Joining.{peak_from}
 use Rattle.parts.proofs.CopyLaws.{copy_first, copy_end, copy_level}
 use Rattle.parts.proofs.CopyRules.{copy_nest}
 use Rattle.parts.proofs.CopyAmounts.{copy_peak}
 use Rattle.parts.proofs.RootLevels.{level_after, after_deepest, After, Brackets, bracket_levels}
-use Rattle.parts.proofs.JoinShape.{Shape, RootAt, forks_it, joins_it, ends_it, root_at, InPart, in_part_lem, at_within, some_thread, first_root, root_here, root_end, root_within, root_owner, part_alloc, part_free, shape_keeps}
+use Rattle.parts.proofs.JoinShape.{Shape, RootAt, forks_it, joins_it, ends_it, root_at, in_part_lem, first_root, root_here, root_end, root_within, root_owner, part_alloc, part_free, shape_keeps}
 
 -- ---- what a thread leaves
 

@@ -1,11 +1,11 @@
 -- The rows that code puts, from the parts' bytes, are those of the joined table.
 use mathlib.Core.Path.{◌≡◌, refl, sym, ap, ◌∙◌}
-use Prim.Native.Nat.{ℕ, zero, suc, ◌+◌, ◌*◌, ◌≤◌, ◌<◌}
+use Prim.Native.Nat.{ℕ, suc, ◌+◌, ◌*◌, ◌≤◌, ◌<◌}
 use mathlib.Core.List.{List, [], ◌∷◌, ◌++◌, map, flatten}
 use native.Mathlib.Omega.{arith}
 use lib.ListN.{length, length-append}
 use Rattle.table.specs.Sum.{sum_to}
-use Rattle.table.specs.Format.{Table, kind, threads_of, actions_of, bodies_of, table_of}
+use Rattle.table.specs.Format.{Table, threads_of, actions_of, bodies_of, table_of}
 use Rattle.table.specs.Written.{Action, pair_row, action_row, entry_rows, action_rows, table_rows, written}
 use Rattle.table.proofs.ReadBack.{argument_short}
 use Rattle.parts.specs.Copies.{renamed_action}

@@ -1,25 +1,20 @@
 -- Several accepted tables as one: the result passes every check, and its facts are those from the parts alone.
-use Prim.Native.Nat.{ℕ, zero, suc, ◌+◌, ◌-◌, ◌*◌, ◌≤◌, ◌<◌}
+use Prim.Native.Nat.{ℕ, zero, suc, ◌+◌, ◌*◌, ◌≤◌, ◌<◌}
 use native.Mathlib.Omega.{arith}
-use mathlib.Core.Path.{◌≡◌, refl, sym, ap, ◌∙◌}
-use mathlib.Core.List.{List, [], ◌∷◌, ◌++◌, map, flatten}
-use lib.ListN.{length, get_or, length-append}
-use lib.Seq.{ext_get_or}
-use Rattle.table.specs.Sum.{sum_to, greatest}
+use mathlib.Core.Path.{◌≡◌, refl, ap, ◌∙◌}
+use mathlib.Core.List.{List, [], ◌∷◌, map, flatten}
+use lib.ListN.{length, get_or}
+use Rattle.table.specs.Sum.{greatest}
 use Rattle.table.specs.Format.{Table, table_of}
-use Rattle.table.specs.Checks.{counts_below}
-use Rattle.table.specs.Rules.{ContentRules, Rules}
 use Rattle.table.specs.Load.{loaded, facts_of}
 use Rattle.table.specs.Serial.{S1}
 use Rattle.table.specs.Level.{D}
 use Rattle.table.specs.Nested.{N}
 use Rattle.table.specs.declared.Facts.{Facts}
-use Rattle.table.specs.declared.Loaded.{Loaded}
-use Rattle.table.specs.declared.Loaded.TheVariants.{Accepted, Refused}
-use Rattle.table.proofs.Bodies.{counts_all}
+use Rattle.table.specs.declared.Loaded.TheVariants.{Accepted}
 use Rattle.table.proofs.Passes.{accepted_exactly, accepted_facts}
 use Rattle.order.proofs.Lawful.{Lawful, lawful}
-use Rattle.table.specs.Written.{Action, action_at, actions_from, body_in, written}
+use Rattle.table.specs.Written.{Action, written}
 use Rattle.parts.specs.Kept.{Keeps}
 use Rattle.parts.specs.Joined.{bodies_in, joined_bodies, deepest}
 use Rattle.facts.specs.Weigh.{weigh}
@@ -33,7 +28,7 @@ use Rattle.parts.proofs.PartsPlaced.{threads_before}
 use Rattle.parts.proofs.HeadRule.{written_loaded}
 use Rattle.parts.proofs.JoinShape.{Shape, shape_keeps}
 use Rattle.joining.proofs.JoinFacts.{tables_from, join_peak, join_depth, join_nested}
-use Rattle.parts.proofs.JoinBodies.{Bodied, actions_over, joined_actions, joined_threads, joined_shape}
+use Rattle.parts.proofs.JoinBodies.{actions_over, joined_actions, joined_threads, joined_shape}
 
 -- ---- accepted parts
 

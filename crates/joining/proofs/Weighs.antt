@@ -1,18 +1,15 @@
 -- The totals over the parts are the joined table's facts, and small; the first part that is refused.
-use mathlib.Core.Path.{◌≡◌, refl, sym, ap, ◌∙◌}
-use Prim.Native.Nat.{ℕ, zero, suc, ◌+◌, ◌*◌, ◌≤◌, ◌<◌, max}
+use mathlib.Core.Path.{◌≡◌, refl, sym}
+use Prim.Native.Nat.{ℕ, suc, ◌+◌, ◌*◌, ◌≤◌, max}
 use mathlib.Core.List.{List, [], ◌∷◌, map}
 use native.Mathlib.Omega.{arith}
 use lib.ListN.{length}
 use Rattle.table.specs.Sum.{greatest}
-use Rattle.table.specs.Format.{alloc, Table, kind, table_of}
+use Rattle.table.specs.Format.{alloc, kind, table_of}
 use Rattle.table.specs.Pass.{first_found}
 use Rattle.table.specs.Checks.{alloc_of, passes}
-use Rattle.table.specs.Rules.{Rules}
 use Rattle.table.specs.Serial.{S1}
 use Rattle.table.specs.Load.{facts_of}
-use Rattle.table.specs.declared.Facts.{Facts}
-use Rattle.table.specs.declared.Refusal.{Refusal}
 use Rattle.table.specs.declared.Found.{Found}
 use Rattle.table.specs.declared.Found.TheVariants.{Nothing, At}
 use Rattle.table.proofs.Tests.{no_way}
@@ -23,18 +20,14 @@ use Rattle.table.proofs.ReadBack.{argument_short}
 use Rattle.order.proofs.Lawful.{Lawful, lawful}
 use Rattle.facts.specs.Weigh.{weigh, weighed_by, weighing}
 use Rattle.facts.specs.declared.Weighed.{Weighed}
-use Rattle.facts.specs.declared.Weighing.{Weighing}
-use Rattle.facts.specs.declared.Weighing.TheVariants.{Accepted, Refused as Unweighed}
+use Rattle.facts.specs.declared.Weighing.TheVariants.{Accepted}
 use Rattle.facts.proofs.Accepted.{kept, shallow, few_levels}
-use Rattle.parts.specs.Kept.{Keeps}
 use Rattle.parts.specs.Joined.{deepest}
 use Rattle.joining.specs.Joining.{weighed, threads_in, actions_in, peak_from, joined_facts}
 use Rattle.joining.specs.Answers.{first_refused, joined_with}
 use Rattle.joining.specs.Code.Steps.{no_part, add_part, totals_from, facts_from, weights_by, weights_from, answered, Small, SmallPart}
-use Rattle.joining.specs.declared.Joined.{Joined}
 use Rattle.joining.specs.declared.weights.Totals.{Totals}
-use Rattle.joining.specs.declared.weights.Weights.{Weights}
-use Rattle.joining.specs.declared.weights.Weights.TheVariants.{All, Refused as RefusedAt}
+use Rattle.joining.specs.declared.weights.Weights.TheVariants.{All}
 use Rattle.joining.proofs.JoinFacts.{left_peak}
 use Rattle.joining.proofs.JoinedWhole.{lawful_keeps}
 use Rattle.joining.proofs.JoinRows.{AllFit}

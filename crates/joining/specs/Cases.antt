@@ -1,5 +1,5 @@
 -- Worked cases, computed on the definitions: what is joined, its facts, and refusals.
-use Rattle.std.specs.Prelude.{◌≡◌, refl, ℕ, suc, length}
+use Rattle.std.specs.Prelude.{◌≡◌, refl, ℕ}
 use mathlib.Core.List.{List, [], ◌∷◌, ◌++◌, map, flatten}
 use Rattle.table.specs.Sum.{sum_to, sum_over, greatest, any_below, greatest_to}
 use Rattle.table.specs.Format.{code_of, kind_of, is, table_of}
@@ -10,7 +10,7 @@ use Rattle.table.specs.Serial.{serial_within, fronts, held_after, peak_of, S1}
 use Rattle.table.specs.Level.{fork_below, fork_of, before_it, joined_end, depends_on, level_within, D}
 use Rattle.table.specs.Nested.{nest_within, N}
 use Rattle.table.specs.Load.{facts_of}
-use Rattle.table.specs.Written.{Action, entry_rows, action_rows, table_rows, written, actions_from}
+use Rattle.table.specs.Written.{entry_rows, action_rows, table_rows, written, actions_from}
 use Rattle.table.specs.Cases.{E, least, two_allocs, overfreed}
 use Rattle.parts.specs.Joined.{bodies_from, offsets, forks, joins_back, part_bodies, joined_bodies, deepest}
 use Rattle.joining.specs.Joining.{joined_bytes, threads_in, actions_in, peak_from, joined_facts}

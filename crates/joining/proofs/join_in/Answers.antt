@@ -7,13 +7,12 @@ use native.Mathlib.Omega.{arith}
 use lib.ListN.{length}
 use Rattle.table.specs.Pass.{refusal}
 use Rattle.joining.specs.Joining.{joined_bytes}
-use Rattle.joining.specs.Answers.{parts_of, parts_wrong, left_by, joined_with, joined, joined_in, join_values, join_values_of}
-use Rattle.joining.specs.Code.Steps.{Lent, no_part, facts_from, weights_from, answered}
+use Rattle.joining.specs.Answers.{parts_of, parts_wrong, left_by, joined, joined_in, join_values, join_values_of}
+use Rattle.joining.specs.Code.Steps.{Lent, no_part, weights_from, answered}
 use Rattle.joining.specs.declared.Joined.{Joined}
-use Rattle.joining.specs.declared.Joined.TheVariants.{Refused, InPart}
+use Rattle.joining.specs.declared.Joined.TheVariants.{Refused}
 use Rattle.joining.specs.declared.weights.Weights.{Weights}
 use Rattle.joining.proofs.JoinAnswers.{lent, answer_is, wrong_is, values_are}
-use borrow.Author.Rules.{rules}
 use Rattle.joining.proofs.join_in.Goals.{Else-parts_wrong}
 use Rattle.joining.proofs.join_in.Goals as goal
 

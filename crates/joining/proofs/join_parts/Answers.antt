@@ -1,16 +1,10 @@
 -- `joining::join_parts` meets its contract: 48, or the joined table.
-use mathlib.Core.Path.{◌≡◌, refl, sym, ap, ◌∙◌}
-use Prim.Native.Nat.{ℕ, suc, ◌+◌, ◌*◌, ◌≤◌}
-use mathlib.Core.List.{List}
-use mathlib.Core.Bool.{false}
+use mathlib.Core.Path.{refl, sym, ◌∙◌}
+use Prim.Native.Nat.{◌+◌, ◌*◌, ◌≤◌}
 use native.Mathlib.Omega.{arith}
 use lib.ListN.{length}
-use Rattle.joining.specs.Answers.{parts_of, left_by, joined_with}
-use Rattle.joining.specs.Joining.{joined_bytes}
-use Rattle.joining.specs.Code.Steps.{Small, LentFew, facts_from}
-use Rattle.joining.specs.Code.Rows.{threads_over, actions_over}
+use Rattle.joining.specs.Code.Steps.{Small}
 use Rattle.joining.proofs.JoinAnswers.{small, total_n, total_m, lent_few, joined_there, few_of, too_large, fits_in}
-use borrow.Author.Rules.{rules}
 use Rattle.joining.proofs.join_parts.Goals.{Else-too_large, Start}
 use Rattle.joining.proofs.join_parts.Goals as goal
 

@@ -8,7 +8,7 @@ use Rattle.facts.specs.declared.Weighing.TheVariants.{Accepted, Refused as Unwei
 use Rattle.joining.specs.Answers.{parts_of, sum_of, joined_with}
 use Rattle.joining.specs.Code.Rows.{threads_over, actions_over}
 use Rattle.joining.specs.declared.Joined.{Joined}
-use Rattle.joining.specs.declared.Joined.TheVariants.{Written, Refused, InPart}
+use Rattle.joining.specs.declared.Joined.TheVariants.{InPart}
 use Rattle.joining.specs.declared.weights.Totals.{Totals}
 use Rattle.joining.specs.declared.weights.Weights.{Weights}
 use Rattle.joining.specs.declared.weights.Weights.TheVariants.{All, Refused as RefusedAt}

@@ -10,7 +10,6 @@ use Rattle.joining.specs.Answers.{joined, joined_in, join_values, join_values_of
 use Rattle.joining.specs.Given.{count_in, lengths_to, lengths_in, tables_in}
 use Rattle.joining.specs.declared.Joined.{Joined}
 use Rattle.joining.proofs.JoinGiven.{Says, short_said, many_said, whole_said}
-use borrow.Author.Rules.{rules}
 use Rattle.joining.proofs.given.join_given.Goals as goal
 
 module _ (input : List ℕ) (k : ℕ) (count : k ≡ count_in input) (lengths : List ℕ) (read : take k lengths ≡ lengths_to input k) where

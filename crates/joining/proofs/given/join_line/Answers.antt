@@ -10,7 +10,6 @@ use Rattle.rows.specs.Rows.{over}
 use Rattle.joining.specs.Given.{join_line}
 use Rattle.joining.specs.declared.Joined.{Joined}
 use Rattle.text.proofs.Told.{refused_told, told_within}
-use borrow.Author.Rules.{rules}
 use Rattle.joining.proofs.given.join_line.Goals as goal
 
 line_of : (x y : Joined) (s o : List ℕ) (r : ℕ) → x ≡ y → r ≡ length (join_line y) → o ≡ over (join_line y) s → (r ≡ length (join_line x)) × ((o ≡ over (join_line x) s) × IsPrefixLen r o)
@@ -28,4 +27,4 @@ returns-in-Refused c = let d = c.args in
 pub returns-in-InPart : goal.returns-in-InPart
 unfolding join_line
 returns-in-InPart c = let d = c.args in
-    let p = refused_told d.out.now (omega arith) _ (omega (arith, c.in-InPart.known_told-in-InPart-1-own.given)) (omega (arith, c.in-InPart.known_told-in-InPart-1-own.given)) (ascii " part ") (omega arith) _ (omega (arith, c.in-InPart.known_told-in-InPart-1-own.given)) _ _ c.put_refused_of.ensures in let both = line_of _ _ d.out.now _ _ c.in-InPart.is p.0 p.1 in record { value = both.0; out_after = both.1.0; prefix_len = both.1.1 }
+    let p = refused_told d.out.now (omega arith) _ (omega arith) (omega arith) (ascii " part ") (omega arith) _ (omega arith) _ _ c.put_refused_of.ensures in let both = line_of _ _ d.out.now _ _ c.in-InPart.is p.0 p.1 in record { value = both.0; out_after = both.1.0; prefix_len = both.1.1 }

@@ -1,5 +1,4 @@
 -- `joining::given::joined_size` meets its contract: the bytes of a written table, else none.
-use borrow.Author.Rules.{rules}
 use Rattle.joining.proofs.given.joined_size.Goals as goal
 
 pub returns-in-Written : goal.returns-in-Written

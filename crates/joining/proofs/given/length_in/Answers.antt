@@ -1,5 +1,4 @@
 -- `joining::given::length_in` meets its contract: two halves of 16 bits.
-use borrow.Author.Rules.{rules}
 use Rattle.joining.proofs.JoinGiven.{length_is}
 use Rattle.joining.proofs.given.length_in.Goals as goal
 

@@ -1,13 +1,9 @@
 -- `joining::given::lengths_to` meets its contract. The invariant: the first i places have the first i lengths.
-use mathlib.Core.Path.{◌≡◌, refl, ◌∙◌}
-use Prim.Native.Nat.{ℕ, ◌+◌, ◌-◌, ◌≤◌, ◌<◌}
+use mathlib.Core.Path.{◌≡◌}
+use Prim.Native.Nat.{ℕ, ◌-◌, ◌≤◌}
 use mathlib.Core.List.{List}
-use native.Mathlib.Omega.{arith}
-use native.Mathlib.Numerals.{add-one}
-use lib.ListN.{length, take, set, length-set}
-use lib.Seq.{take-suc-set}
-use borrow.Author.Rules.{rules}
-use Rattle.joining.specs.Given.{length_in, lengths_to}
+use lib.ListN.{length, take}
+use Rattle.joining.specs.Given.{lengths_to}
 use Rattle.joining.proofs.given.lengths_to.Given as goal
 
 pub record Inv (input : List ℕ) (k : ℕ) (lengths : List ℕ) (i : ℕ) : Type 0 where

@@ -1,5 +1,5 @@
 -- `joining::split::part_at` meets its contract: a part lies between two sums of lengths, within the bytes lent.
-use mathlib.Core.Path.{◌≡◌, refl, sym, ap, ◌∙◌}
+use mathlib.Core.Path.{◌≡◌, sym, ap, ◌∙◌}
 use Prim.Native.Nat.{ℕ, suc, ◌+◌, ◌-◌, ◌≤◌, ◌<◌}
 use mathlib.Core.List.{List, []}
 use native.Mathlib.Omega.{arith}
@@ -7,7 +7,6 @@ use lib.ListN.{length, get_or, take, drop}
 use Rattle.joining.specs.Answers.{parts_of, sum_of}
 use Rattle.joining.specs.Code.Steps.{Lent}
 use Rattle.joining.proofs.Splits.{sum_next, sum_within, part_is}
-use borrow.Author.Rules.{rules}
 use Rattle.joining.proofs.split.part_at.Goals as goal
 
 module _ (ls s : List ℕ) (i a b : ℕ) (h : i < length ls) (v : Lent ls s) (p : a ≡ sum_of (take i ls)) (q : b ≡ sum_of (take (i + 1) ls)) where

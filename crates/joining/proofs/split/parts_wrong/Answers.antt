@@ -1,15 +1,13 @@
 -- `joining::split::parts_wrong` meets its contract.
-use mathlib.Core.Path.{◌≡◌, refl, sym, ap, ◌∙◌}
+use mathlib.Core.Path.{◌≡◌}
 use Prim.Native.Nat.{ℕ, ◌≤◌, ◌<◌}
 use mathlib.Core.List.{List}
-use mathlib.Core.Bool.{Bool, true, false, not}
-use native.Mathlib.Omega.{arith}
+use mathlib.Core.Bool.{true, not}
 use lib.Dec.{eqb}
 use lib.ListN.{length, take}
 use lib.Seq.{take-length}
 use borrow.Author.Tests.{eq-eqb, ne_eqb, lt-ltb, le-ltb}
 use Rattle.joining.specs.Answers.{sum_of, parts_wrong}
-use borrow.Author.Rules.{rules}
 use Rattle.joining.proofs.split.parts_wrong.Goals as goal
 
 module _ (ls s : List ℕ) where

@@ -1,12 +1,9 @@
 -- `joining::split::sum_to` meets its contract. The invariant: the sum of the lengths passed, each of 32 bits.
-use mathlib.Core.Path.{◌≡◌, refl, sym, ap, ◌∙◌}
-use Prim.Native.Nat.{ℕ, suc, ◌+◌, ◌-◌, ◌*◌, ◌≤◌, ◌<◌}
+use mathlib.Core.Path.{◌≡◌}
+use Prim.Native.Nat.{ℕ, ◌-◌, ◌*◌, ◌≤◌}
 use mathlib.Core.List.{List}
-use native.Mathlib.Omega.{arith}
-use lib.ListN.{length, get_or, take}
-use borrow.Author.Rules.{rules}
+use lib.ListN.{take}
 use Rattle.joining.specs.Answers.{sum_of}
-use Rattle.joining.proofs.Splits.{sum_next}
 use Rattle.joining.proofs.split.sum_to.Given as goal
 
 pub record Inv (ls : List ℕ) (k sum i : ℕ) : Type 0 where

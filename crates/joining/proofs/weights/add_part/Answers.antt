@@ -1,11 +1,10 @@
 -- `joining::weights::add_part` meets its contract: nothing wraps, since the parts are few and small.
-use mathlib.Core.Path.{◌≡◌, refl, sym, ap, ◌∙◌}
+use mathlib.Core.Path.{◌≡◌}
 use Prim.Native.Nat.{ℕ, suc, ◌+◌, ◌*◌, max}
 use native.Mathlib.Omega.{arith}
 use Rattle.facts.specs.declared.Weighed.{Weighed}
 use Rattle.joining.specs.declared.weights.Totals.{Totals}
 use Rattle.joining.specs.Code.Steps.{add_part}
-use borrow.Author.Rules.{rules}
 use Rattle.joining.proofs.weights.add_part.Goals as goal
 
 added : (i : ℕ) (t : Totals) (w : Weighed) (p d n : ℕ) → p ≡ max t.peak (t.held + w.facts.peak) → d ≡ max t.depth (2 * (i + 1) + w.facts.depth) → n ≡ max t.nested w.facts.nested

@@ -1,19 +1,16 @@
 use mathlib.Core.Path.{◌≡◌, refl, sym, ap, ◌∙◌}
-use Prim.Native.Nat.{ℕ, suc, ◌+◌, ◌-◌, ◌≤◌, ◌<◌}
+use Prim.Native.Nat.{ℕ, suc, ◌+◌, ◌≤◌, ◌<◌}
 use mathlib.Core.List.{List, [], ◌∷◌}
 use native.Mathlib.Omega.{arith}
 use lib.ListN.{length, get_or, drop, replicate}
 use lib.Seq.{drop-cons, drop-length}
-use borrow.Author.Rules.{rules}
 use Rattle.table.specs.declared.Refusal.{Refusal}
 use Rattle.facts.specs.Weigh.{weighing}
 use Rattle.facts.specs.declared.Weighed.{Weighed}
-use Rattle.facts.specs.declared.Weighing.{Weighing}
 use Rattle.facts.specs.declared.Weighing.TheVariants.{Accepted, Refused as Unweighed}
 use Rattle.joining.specs.Answers.{parts_of}
-use Rattle.joining.specs.Code.Steps.{Lent, Small, SmallPart, no_part, add_part, weights_from}
+use Rattle.joining.specs.Code.Steps.{no_part, add_part, weights_from}
 use Rattle.joining.specs.declared.weights.Totals.{Totals}
-use Rattle.joining.specs.declared.weights.Weights.{Weights}
 use Rattle.joining.specs.declared.weights.Weights.TheVariants.{All, Refused as RefusedAt}
 use Rattle.joining.proofs.Splits.{parts_length}
 use Rattle.joining.proofs.Weighs.{weighing_small, add_small}

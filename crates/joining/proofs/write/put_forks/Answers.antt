@@ -1,14 +1,9 @@
-use mathlib.Core.Path.{◌≡◌, refl, sym, ap, ◌∙◌}
-use Prim.Native.Nat.{ℕ, suc, ◌+◌, ◌-◌, ◌*◌, ◌≤◌, ◌<◌}
-use mathlib.Core.List.{List, [], ◌∷◌}
+use Prim.Native.Nat.{◌+◌, ◌≤◌}
 use native.Mathlib.Omega.{arith}
-use lib.ListN.{length, get_or}
-use borrow.Author.Rules.{rules}
 use Rattle.joining.specs.Answers.{parts_of}
-use Rattle.joining.specs.Code.Steps.{LentFew}
-use Rattle.joining.specs.Code.Rows.{starts_over, entries_over, moved_over, fork_rows, threads_over, actions_over}
+use Rattle.joining.specs.Code.Rows.{starts_over, fork_rows, threads_over}
 use Rattle.joining.proofs.Splits.{parts_length}
-use Rattle.joining.proofs.OverParts.{Inv, start, runs, again, ends, over_forks}
+use Rattle.joining.proofs.OverParts.{start, runs, again, ends, over_forks}
 use Rattle.joining.proofs.write.put_forks.Goals.{After-threads-root}
 use Rattle.joining.proofs.write.put_forks.Goals as goal
 
@@ -22,7 +17,7 @@ part_at-requires c =
     (c.requires.lent, c.loop-i-test.true)
 
 -- a part's root and its threads
-within : (c : After-threads-root → c.loop-i.root + c.threads-root.result ≤ 1024
+within : (c : After-threads-root) → c.loop-i.root + c.threads-root.result ≤ 1024
 within c =
     omega (
       arith,
@@ -45,7 +40,7 @@ pub loop-i-preserved : goal.loop-i-preserved
 loop-i-preserved c =
     let d = c.args in
     again over_forks c.loop-i.invariant (omega (arith, c.loop-i-test.true, parts_length d.lengths.now d.tables.now)) _ c.part_at.ensures c.threads-root.result c.threads-root.ensures.value _ _
-    (omega (arith, c.out-1.given)) c.put_action-at.ensures
+    (omega arith) c.put_action-at.ensures
 
 pub shape_of-out : goal.shape_of-out
 shape_of-out c = omega (arith, c.loop-i.invariant.left.long)

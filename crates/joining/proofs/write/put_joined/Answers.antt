@@ -1,7 +1,7 @@
 -- `joining::write::put_joined` meets its contract: the rows one after another.
-use mathlib.Core.Path.{◌≡◌, refl, sym, ap, ◌∙◌}
+use mathlib.Core.Path.{◌≡◌, sym, ap, ◌∙◌}
 use Prim.Native.Nat.{ℕ, suc, ◌+◌, ◌*◌}
-use mathlib.Core.List.{List, [], ◌∷◌, ◌++◌, append_assoc, foldl, foldl-append}
+use mathlib.Core.List.{List, [], ◌∷◌, ◌++◌, append_assoc, foldl-append}
 use native.Mathlib.Omega.{arith}
 use lib.ListN.{length}
 use Rattle.text.specs.Text.{Buffer, buffer_at, placed, placed_next}
@@ -10,7 +10,6 @@ use Rattle.rows.specs.Rows.{cut_pair, cut_action}
 use Rattle.joining.specs.Answers.{parts_of}
 use Rattle.joining.specs.Code.Rows.{starts_over, entries_over, moved_over, fork_rows, join_rows, threads_over, actions_over, joined_rows}
 use Rattle.joining.proofs.Splits.{parts_length}
-use borrow.Author.Rules.{rules}
 use Rattle.joining.proofs.write.put_joined.Goals as goal
 
 -- rows, and more of them after
@@ -46,8 +45,6 @@ joined_put ps n m q k e f g l out o₁ o₂ o₃ o₄ o₅ o₆ o₇ k₁ k₂ k
 
 pub returns : goal.returns
 returns c =
-    let c₁ = c in
-    let b = c₁ in
-    let d = b.args in
-    joined_put (parts_of d.lengths.now d.tables.now) d.n d.m (2 * length d.lengths.now + 1) (length d.lengths.now) b.requires.1 b.requires.2 (omega arith) (sym (parts_length d.lengths.now d.tables.now))
-    d.out.now _ _ _ _ _ _ _ _ _ _ _ _ _ _ c₁.put_pair-at.ensures c.put_pair-at-2.ensures c.put_part_entries-at.ensures c.put_forks-at.ensures c.put_joins-at.ensures c.put_action-at.ensures c.put_part_actions.ensures
+    let d = c.args in
+    joined_put (parts_of d.lengths.now d.tables.now) d.n d.m (2 * length d.lengths.now + 1) (length d.lengths.now) c.requires.1 c.requires.2 (omega arith) (sym (parts_length d.lengths.now d.tables.now))
+    d.out.now _ _ _ _ _ _ _ _ _ _ _ _ _ _ c.put_pair-at.ensures c.put_pair-at-2.ensures c.put_part_entries-at.ensures c.put_forks-at.ensures c.put_joins-at.ensures c.put_action-at.ensures c.put_part_actions.ensures

@@ -1,15 +1,14 @@
 use mathlib.Core.Path.{◌≡◌, refl, sym, ap, ◌∙◌}
-use Prim.Native.Nat.{ℕ, zero, suc, ◌+◌, ◌-◌, ◌≤◌, ◌<◌}
+use Prim.Native.Nat.{ℕ, suc, ◌+◌, ◌-◌, ◌≤◌}
 use mathlib.Core.List.{List, [], ◌∷◌, ◌++◌}
 use native.Mathlib.Omega.{arith}
 use lib.ListN.{length, get_or, take}
 use lib.Seq.{take-suc, take-length}
-use borrow.Author.Rules.{rules}
 use Rattle.table.specs.Format.{threads_of}
 use Rattle.text.specs.Text.{buffer_at, placed}
 use Rattle.text.specs.Puts.{put_all}
 use Rattle.rows.specs.Rows.{cut_action}
-use Rattle.rows.proofs.Rest.{Rest, rest_all, rest_row}
+use Rattle.rows.proofs.Rest.{rest_all, rest_row}
 use Rattle.joining.specs.Answers.{parts_of}
 use Rattle.joining.specs.Code.Rows.{starts_over, join_rows, threads_over}
 use Rattle.joining.proofs.Splits.{parts_length}
@@ -83,7 +82,7 @@ pub loop-i-preserved : goal.loop-i-preserved
 loop-i-preserved c =
     let d = c.args in
     again d.out.now d.at (parts_of d.lengths.now d.tables.now) _ _ _ _ c.loop-i.invariant (c.loop-i.i - 1) (omega (arith, c.loop-i-test.true)) _ c.part_at.ensures c.threads-root.result c.threads-root.ensures.value _ _
-    (omega (arith, c.out-1.given)) c.put_action-at.ensures
+    (omega arith) c.put_action-at.ensures
 
 pub shape_of-out : goal.shape_of-out
 shape_of-out c = omega (arith, c.loop-i.invariant.left.long)

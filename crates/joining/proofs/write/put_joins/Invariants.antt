@@ -1,19 +1,11 @@
 -- `joining::write::put_joins` meets its contract. The invariant: the joins of the parts before are what is left, and the number is the next part's root.
-use mathlib.Core.Path.{◌≡◌, refl, sym, ap, ◌∙◌}
-use Prim.Native.Nat.{ℕ, zero, suc, ◌+◌, ◌-◌, ◌≤◌, ◌<◌}
-use mathlib.Core.List.{List, [], ◌∷◌, ◌++◌}
-use native.Mathlib.Omega.{arith}
-use lib.ListN.{length, get_or, take}
-use lib.Seq.{take-suc, take-length}
-use borrow.Author.Rules.{rules}
-use Rattle.table.specs.Format.{threads_of}
-use Rattle.text.specs.Text.{buffer_at, placed}
-use Rattle.text.specs.Puts.{put_all}
-use Rattle.rows.specs.Rows.{cut_action}
-use Rattle.rows.proofs.Rest.{Rest, rest_all, rest_row}
+use mathlib.Core.Path.{◌≡◌}
+use Prim.Native.Nat.{ℕ, suc, ◌≤◌}
+use mathlib.Core.List.{List}
+use lib.ListN.{length, take}
+use Rattle.rows.proofs.Rest.{Rest}
 use Rattle.joining.specs.Answers.{parts_of}
 use Rattle.joining.specs.Code.Rows.{starts_over, join_rows, threads_over}
-use Rattle.joining.proofs.Splits.{parts_length}
 use Rattle.joining.proofs.write.put_joins.Given as goal
 
 pub record Inv (out₀ : List ℕ) (at₀ : ℕ) (ps : List (List ℕ)) (out : List ℕ) (at root i : ℕ) : Type 0 where

@@ -1,14 +1,10 @@
-use mathlib.Core.Path.{◌≡◌, refl, sym, ap, ◌∙◌}
-use Prim.Native.Nat.{ℕ, suc, ◌+◌, ◌-◌, ◌*◌, ◌≤◌, ◌<◌}
-use mathlib.Core.List.{List, [], ◌∷◌}
+use Prim.Native.Nat.{◌≤◌, ◌<◌}
 use native.Mathlib.Omega.{arith}
-use lib.ListN.{length, get_or}
-use borrow.Author.Rules.{rules}
+use lib.ListN.{length}
 use Rattle.joining.specs.Answers.{parts_of}
-use Rattle.joining.specs.Code.Steps.{LentFew}
-use Rattle.joining.specs.Code.Rows.{starts_over, entries_over, moved_over, fork_rows, threads_over, actions_over}
+use Rattle.joining.specs.Code.Rows.{moved_over, threads_over}
 use Rattle.joining.proofs.Splits.{parts_length}
-use Rattle.joining.proofs.OverParts.{Inv, start, runs, again, ends, over_moved}
+use Rattle.joining.proofs.OverParts.{start, runs, again, ends, over_moved}
 use Rattle.joining.proofs.write.put_part_actions.Goals.{After-part_at-part}
 use Rattle.joining.proofs.write.put_part_actions.Goals as goal
 
@@ -21,7 +17,7 @@ pub part_at-part-requires : goal.part_at-part-requires
 part_at-part-requires c = (c.requires.lent, c.loop-i-test.true)
 
 -- a part's root
-within : (c : After-part_at-part → c.loop-i.root ≤ 1024
+within : (c : After-part_at-part) → c.loop-i.root ≤ 1024
 within c =
     let h : c.loop-i.i < length (parts_of c.args.lengths.now c.args.tables.now) = omega (arith, c.loop-i-test.true, parts_length c.args.lengths.now c.args.tables.now) in
     omega (arith, runs over_moved c.loop-i.invariant h _ c.part_at-part.ensures, c.requires.threads)
@@ -43,7 +39,7 @@ pub loop-i-preserved : goal.loop-i-preserved
 loop-i-preserved c =
     let d = c.args in
     again over_moved c.loop-i.invariant (omega (arith, c.loop-i-test.true, parts_length d.lengths.now d.tables.now)) _ c.part_at-part.ensures c.threads-root.result c.threads-root.ensures.value _ _
-    (omega (arith, c.out-1.given)) c.put_moved-at.ensures
+    (omega arith) c.put_moved-at.ensures
 
 pub shape_of-out : goal.shape_of-out
 shape_of-out c = omega (arith, c.loop-i.invariant.left.long)

@@ -1,15 +1,9 @@
 -- `joining::write::put_part_actions` meets its contract. The invariant is OverParts'.
-use mathlib.Core.Path.{◌≡◌, refl, sym, ap, ◌∙◌}
-use Prim.Native.Nat.{ℕ, suc, ◌+◌, ◌-◌, ◌*◌, ◌≤◌, ◌<◌}
-use mathlib.Core.List.{List, [], ◌∷◌}
-use native.Mathlib.Omega.{arith}
-use lib.ListN.{length, get_or}
-use borrow.Author.Rules.{rules}
+use Prim.Native.Nat.{◌-◌}
+use lib.ListN.{length}
 use Rattle.joining.specs.Answers.{parts_of}
-use Rattle.joining.specs.Code.Steps.{LentFew}
-use Rattle.joining.specs.Code.Rows.{starts_over, entries_over, moved_over, fork_rows, threads_over, actions_over}
-use Rattle.joining.proofs.Splits.{parts_length}
-use Rattle.joining.proofs.OverParts.{Inv, start, runs, again, ends, over_moved}
+use Rattle.joining.specs.Code.Rows.{moved_over, threads_over}
+use Rattle.joining.proofs.OverParts.{Inv}
 use Rattle.joining.proofs.write.put_part_actions.Given as goal
 
 abbrev pub invariant-loop-i : goal.invariant-loop-i

@@ -1,14 +1,11 @@
-use mathlib.Core.Path.{◌≡◌, refl, sym, ap, ◌∙◌}
-use Prim.Native.Nat.{ℕ, suc, ◌+◌, ◌-◌, ◌*◌, ◌≤◌, ◌<◌}
-use mathlib.Core.List.{List, [], ◌∷◌}
+use mathlib.Core.Path.{◌≡◌}
+use Prim.Native.Nat.{ℕ, suc, ◌+◌, ◌*◌, ◌≤◌, ◌<◌}
 use native.Mathlib.Omega.{arith}
-use lib.ListN.{length, get_or}
-use borrow.Author.Rules.{rules}
+use lib.ListN.{length}
 use Rattle.joining.specs.Answers.{parts_of}
-use Rattle.joining.specs.Code.Steps.{LentFew}
-use Rattle.joining.specs.Code.Rows.{starts_over, entries_over, moved_over, fork_rows, threads_over, actions_over}
+use Rattle.joining.specs.Code.Rows.{entries_over, actions_over}
 use Rattle.joining.proofs.Splits.{parts_length}
-use Rattle.joining.proofs.OverParts.{Inv, start, runs, again, ends, over_entries}
+use Rattle.joining.proofs.OverParts.{start, runs, again, ends, over_entries}
 use Rattle.joining.proofs.write.put_part_entries.Goals.{After-part_at-part}
 use Rattle.joining.proofs.write.put_part_entries.Goals as goal
 
@@ -30,7 +27,7 @@ pub part_at-part-requires : goal.part_at-part-requires
 part_at-part-requires c = (c.requires.lent, c.loop-i-test.true)
 
 -- what stands before a part's actions and with them
-within : (c : After-part_at-part → c.loop-i ≤ 8192
+within : (c : After-part_at-part) → c.loop-i.before ≤ 8192
 within c =
     let h : c.loop-i.i < length (parts_of c.args.lengths.now c.args.tables.now) = omega (arith, c.loop-i-test.true, parts_length c.args.lengths.now c.args.tables.now) in
     omega (arith, runs over_entries c.loop-i.invariant h _ c.part_at-part.ensures, c.requires.actions)
@@ -52,7 +49,7 @@ pub loop-i-preserved : goal.loop-i-preserved
 loop-i-preserved c =
     let d = c.args in
     again over_entries c.loop-i.invariant (omega (arith, c.loop-i-test.true, parts_length d.lengths.now d.tables.now)) _ c.part_at-part.ensures c.actions-before.result c.actions-before.ensures.value _ _
-    (omega (arith, c.out-1.given)) c.put_entries-at.ensures
+    (omega arith) c.put_entries-at.ensures
 
 pub shape_of-out : goal.shape_of-out
 shape_of-out c = omega (arith, c.loop-i.invariant.left.long)
