@@ -1,7 +1,5 @@
 -- An answer's number and row are those of its values.
 use mathlib.Core.Path.{◌≡◌, sym, ap, ◌∙◌}
-use Prim.Native.Nat.{ℕ}
-use mathlib.Core.List.{List}
 use Rattle.canonical.specs.Answers.{FormValues, form_values_of, CompareValues, compare_values_of}
 use Rattle.canonical.specs.declared.Formed.{Formed}
 use Rattle.canonical.specs.declared.Compared.{Compared}
