@@ -95,15 +95,14 @@ module _ (s : List ℕ) (p K : ℕ) (r : Filling) (e : r ≡ begin_filling s p K
         front_begun b g = begun b (g ∙ ap (λ (l : List ℕ). start_run l p K) front)
 
 pub returns-in-At : goal.returns-in-At
-returns-in-At c = let a = c.args in let both = rw (← begin_values_lem) (begun_answers (refused a.bytes.now a.p a.quota _ c.accept-filling.ensures.value _ _ c.in-At.is c.blank.ensures)) in record { value = both.0; answer_value = both.1 }
+returns-in-At c = let a = c.args in let both = begun_answers (refused a.bytes.now a.p a.quota _ c.accept-filling.ensures.value _ _ c.in-At.is c.blank.ensures) in record { value = both.0; answer_value = rw (← begin_values_lem) both.1 }
 
 pub start-requires : goal.start-requires
 start-requires c = let a = c.args in
     record { bytes_len_bound = given_small a.bytes.now a.p a.quota _ c.accept-filling.ensures.value c.in_default.is c.if-k-eq0.true; next_value = given_next a.bytes.now a.p a.quota _ c.accept-filling.ensures.value c.in_default.is c.if-k-eq0.true _ c.accept-filling.ensures.next_after }
 
 pub returns-then-k-eq0 : goal.returns-then-k-eq0
-returns-then-k-eq0 c = let a = c.args in let both = rw (← begin_values_lem)
-    (begun_answers (given_begun a.bytes.now a.p a.quota _ c.accept-filling.ensures.value c.in_default.is c.if-k-eq0.true _ c.start.ensures)) in record { value = both.0; answer_value = both.1 }
+returns-then-k-eq0 c = let a = c.args in let both = begun_answers (given_begun a.bytes.now a.p a.quota _ c.accept-filling.ensures.value c.in_default.is c.if-k-eq0.true _ c.start.ensures) in record { value = both.0; answer_value = rw (← begin_values_lem) both.1 }
 
 pub slice_bounds-filled-end : goal.slice_bounds-filled-end
 slice_bounds-filled-end c =
@@ -121,5 +120,4 @@ start-requires-2 c = let a = c.args in
 
 pub returns : goal.returns
 returns c = let a = c.args in
-    let both = rw (← begin_values_lem)
-    (begun_answers (front_begun a.bytes.now a.p a.quota _ c.accept-filling.ensures.value c.in_default.is c.if-k-eq0.false _ c.accept-filling.ensures.filled_after _ c.start-2.ensures)) in record { value = both.0; answer_value = both.1 }
+    let both = begun_answers (front_begun a.bytes.now a.p a.quota _ c.accept-filling.ensures.value c.in_default.is c.if-k-eq0.false _ c.accept-filling.ensures.filled_after _ c.start-2.ensures) in record { value = both.0; answer_value = rw (← begin_values_lem) both.1 }

@@ -17,7 +17,7 @@ passed : (c : Else-not-tested) → unsound c.args.run ≡ false
 passed c = test_passes _ c.test-tested.ensures (ap not c.if-not-tested.false)
 
 pub returns-then-not-tested : goal.returns-then-not-tested
-returns-then-not-tested c = let both = rw (← turn_values_lem) (turned_answers (c.refused.ensures ∙ turned_unsound _ _ (test_fails _ c.test-tested.ensures (ap not c.if-not-tested.true)))) in record { value = both.0; answer_value = both.1 }
+returns-then-not-tested c = let both = turned_answers (c.refused.ensures ∙ turned_unsound _ _ (test_fails _ c.test-tested.ensures (ap not c.if-not-tested.true))) in record { value = both.0; answer_value = rw (← turn_values_lem) both.1 }
 
 pub slice_bounds-table-end : goal.slice_bounds-table-end
 slice_bounds-table-end c = table_inside _ (passed (goal.at.slice_bounds-table-end c).Else-not-tested)
@@ -30,11 +30,9 @@ pub overflow_cast-spoken : goal.overflow_cast-spoken
 overflow_cast-spoken c = omega (arith, told_small _ _ _ c.turn_in-spoken.ensures.sums_after)
 
 pub returns-then-spoken-ne0 : goal.returns-then-spoken-ne0
-returns-then-spoken-ne0 c = let both = rw (← turn_values_lem)
-    (turned_answers (c.refused-then-spoken-ne0.ensures
-    ∙ turn_stopped _ (passed (goal.at.returns-then-spoken-ne0 c).Else-not-tested) _ (λ h. test_parents _ c.test-tested.ensures h) c.pack.ensures _ c.turn_in-spoken.ensures.sums_after c.if-spoken-ne0.true)) in record { value = both.0; answer_value = both.1 }
+returns-then-spoken-ne0 c = let both = turned_answers (c.refused-then-spoken-ne0.ensures
+    ∙ turn_stopped _ (passed (goal.at.returns-then-spoken-ne0 c).Else-not-tested) _ (λ h. test_parents _ c.test-tested.ensures h) c.pack.ensures _ c.turn_in-spoken.ensures.sums_after c.if-spoken-ne0.true) in record { value = both.0; answer_value = rw (← turn_values_lem) both.1 }
 
 pub returns : goal.returns
-returns c = let both = rw (← turn_values_lem)
-    (turned_answers (turn_taken _ (passed (goal.at.returns c).Else-not-tested) _ (λ h. test_parents _ c.test-tested.ensures h) c.pack.ensures _ c.turn_in-spoken.ensures.sums_after c.if-spoken-ne0.false
-    c.turn_in-spoken.ensures.passed_value c.unpack-after.ensures)) in record { value = both.0; answer_value = both.1 }
+returns c = let both = turned_answers (turn_taken _ (passed (goal.at.returns c).Else-not-tested) _ (λ h. test_parents _ c.test-tested.ensures h) c.pack.ensures _ c.turn_in-spoken.ensures.sums_after c.if-spoken-ne0.false
+    c.turn_in-spoken.ensures.passed_value c.unpack-after.ensures) in record { value = both.0; answer_value = rw (← turn_values_lem) both.1 }
