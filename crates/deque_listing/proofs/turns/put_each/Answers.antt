@@ -20,17 +20,8 @@ pub returns-then-status_at-eq-ENDED : goal.returns-then-status_at-eq-ENDED
 returns-then-status_at-eq-ENDED c =
     finished c.loop-i.invariant (sym c.status_at.ensures ∙ c.if-status_at-eq-ENDED.true) c.put_end.ensures
 
-pub overflow_mul-w : goal.overflow_mul-w
-overflow_mul-w c = omega (arith, c.loop-i-test.true, c.good)
-
 pub bounds-order-i : goal.bounds-order-i
 bounds-order-i c = omega (arith, c.loop-i-test.true)
-
-pub overflow_mul-c : goal.overflow_mul-c
-overflow_mul-c c = omega (arith, c.loop-i-test.true, c.good)
-
-pub overflow_add-c : goal.overflow_add-c
-overflow_add-c c = omega (arith, c.loop-i-test.true, c.good)
 
 pub bounds-order-i-in-loop-i : goal.bounds-order-i-in-loop-i
 bounds-order-i-in-loop-i c = omega (arith, c.loop-i-test.true)
@@ -50,9 +41,6 @@ shape_of-out-then-spoken-ne0 c = omega (arith, c.loop-i.invariant.listed.long)
 pub returns-then-spoken-ne0 : goal.returns-then-spoken-ne0
 returns-then-spoken-ne0 c =
     stopped c.loop-i.invariant c.loop-i-test.true (λ x. c.if-status_at-eq-ENDED.false (c.status_at.ensures ∙ x)) c.deque_turn_in-spoken.ensures c.if-spoken-ne0.true c.put_refused.ensures
-
-pub overflow_add-i : goal.overflow_add-i
-overflow_add-i c = omega (arith, c.loop-i-test.true, c.good)
 
 pub loop-i-smaller : goal.loop-i-smaller
 loop-i-smaller c = omega (arith, c.loop-i-test.true)

@@ -31,8 +31,8 @@ slice_bounds-table-end-2 c =
 
 pub put_each-requires : goal.put_each-requires
 put_each-requires c =
-    deque_stands c.pre.0.steady c.args.parents.now c.pack_deques.ensures c.pre.1 (omega (arith, c.pre.0.turns))
+    deque_stands c.requires.sound_deques.steady c.args.parents.now c.pack_deques.ensures c.requires.parents (omega (arith, c.requires.sound_deques.turns))
 
 pub returns : goal.returns
 returns c =
-    puts c.args.run c.args.order.now c.pre.0.steady c.args.parents.now c.pack_deques.ensures c.put_each.ensures
+    puts c.args.run c.args.order.now c.requires.sound_deques.steady c.args.parents.now c.pack_deques.ensures c.put_each.ensures

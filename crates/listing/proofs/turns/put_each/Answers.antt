@@ -188,9 +188,6 @@ pub returns-then-spoken-ne0 : goal.returns-then-spoken-ne0
 returns-then-spoken-ne0 c =
     stopped c.loop-i.invariant.tells c.loop-i-test.true c.turn_in-spoken.ensures.sums_after c.if-spoken-ne0.true c.put_refused.ensures
 
-pub overflow_add-i : goal.overflow_add-i
-overflow_add-i c = omega (arith, c.loop-i-test.true, c.good)
-
 pub shape_of-out-then-too_many : goal.shape_of-out-then-too_many
 shape_of-out-then-too_many c = omega arith
 

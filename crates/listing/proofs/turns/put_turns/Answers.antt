@@ -70,7 +70,7 @@ returns-then-order-eq0 c =
 
 pub returns-then-run-eq0 : goal.returns-then-run-eq0
 returns-then-run-eq0 c =
-    no_workers c.args.chart c.args.run c.args.order.now c.if-status-eq-ENDED.false c.pre.0 c.if-order-eq0.false c.if-run-eq0.true c.put_refused.ensures
+    no_workers c.args.chart c.args.run c.args.order.now c.if-status-eq-ENDED.false c.requires.run_value c.if-order-eq0.false c.if-run-eq0.true c.put_refused.ensures
 
 pub slice_bounds-table-end : goal.slice_bounds-table-end
 slice_bounds-table-end c = table_room (steady (goal.at.slice_bounds-table-end c).Else-run-eq0)
@@ -83,10 +83,10 @@ pub put_each-requires : goal.put_each-requires
 put_each-requires c =
     let m = c.pack.ensures in
     record {
-      stands = packed_stands (steady (goal.at.put_each-requires c).Else-run-eq0) c.args.parents.now m (c.pre.1.0 (some c.if-run-eq0.false)) (turns_fit (goal.at.put_each-requires c).Start);
-      = λ z. c.if-status-eq-ENDED.false (sym (ap (λ (x : Memory). get_or x.arrays.status 0 0) m) ∙ z);
+      stands = packed_stands (steady (goal.at.put_each-requires c).Else-run-eq0) c.args.parents.now m (c.requires.parents (some c.if-run-eq0.false)) (turns_fit (goal.at.put_each-requires c).Start);
+      going = λ z. c.if-status-eq-ENDED.false (sym (ap (λ (x : Memory). get_or x.arrays.status 0 0) m) ∙ z);
       workers = ap (λ (x : Memory). get_or x.settings 0 0) (sym m);
-      room = λ x. omega (arith, ap (λ (y : Memory). (moved_in y).turns) m, c.pre.1.1 x);
+      room = λ x. omega (arith, ap (λ (y : Memory). (moved_in y).turns) m, c.requires.turns_le_most_turns x);
     }
 
 pub returns : goal.returns

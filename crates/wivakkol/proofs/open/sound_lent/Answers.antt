@@ -13,14 +13,21 @@ use Rattle.wivakkol.proofs.open.sound_lent.Goals as goal
 -- src/open.rt:100:9
 pub returns-then-truths_right : goal.returns-then-truths_right
 returns-then-truths_right c =
-    let e = c.test_in-passed.ensures in (
-      λ parents under over. tests_sound _ _ c.workers.ensures c.workers_at-records.ensures e.value c.truths_right.ensures c.if-truths_right.true,
-      e.1,
-    )
+    let e = c.test_in-passed.ensures in
+    record {
+      by_index = λ parents under over. tests_sound _ _ c.workers.ensures c.workers_at-records.ensures e.value c.truths_right.ensures c.if-truths_right.true;
+      seen_after = e.parents_after;
+      rises_after = e.rises_after;
+      forks_after = e.forks_after;
+    }
 
 -- src/open.rt:51:1
 pub returns : goal.returns
-returns c = (
-  λ parents under over. tests_truths _ _ c.workers.ensures c.workers_at-records.ensures c.truths_right.ensures c.if-truths_right.false,
-  (refl, c.test_in-passed.ensures.1.1),
-)
+returns c =
+    let e = c.test_in-passed.ensures in
+    record {
+      by_index = λ parents under over. tests_truths _ _ c.workers.ensures c.workers_at-records.ensures c.truths_right.ensures c.if-truths_right.false;
+      seen_after = refl;
+      rises_after = e.rises_after;
+      forks_after = e.forks_after;
+    }
