@@ -14,9 +14,7 @@ fn main(rt: HostRuntime) -> io::Result<()> {
     let mut bytes = [0u8; 36868];
     let answer = canonical::form(&buffer[..n], &mut bytes);
     match answer {
-        Formed::Written(k) => {
-            rt.stdout().write_all(&bytes[..k])
-        }
+        Formed::Written(k) => { rt.stdout().write_all(&bytes[..k]) }
         Formed::Refused(r) => {
             let mut line = [0u8; 80];
             let k = text::table_line(Loaded::Refused(r), &mut line);

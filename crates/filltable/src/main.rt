@@ -14,9 +14,7 @@ fn main(rt: HostRuntime) -> io::Result<()> {
     let mut table = [0u8; 36868];
     let answer = filling::fill_input(&buffer[..n], &mut table);
     match answer {
-        Answer::Filled(k) => {
-            rt.stdout().write_all(&table[..k])
-        }
+        Answer::Filled(k) => { rt.stdout().write_all(&table[..k]) }
         Answer::Refused(refusal) => {
             let mut line = [0u8; 80];
             let k = text::facts_line(Loaded::Refused(refusal), &mut line);

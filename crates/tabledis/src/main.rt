@@ -14,9 +14,7 @@ fn main(rt: HostRuntime) -> io::Result<()> {
     let mut listing = [0u8; 266240];
     let answer = assembly::disassemble(&buffer[..n], &mut listing);
     match answer {
-        Disassembled::Listed(k) => {
-            rt.stdout().write_all(&listing[..k])
-        }
+        Disassembled::Listed(k) => { rt.stdout().write_all(&listing[..k]) }
         Disassembled::Refused(r) => {
             let mut line = [0u8; 80];
             let k = text::table_line(Loaded::Refused(r), &mut line);

@@ -15,7 +15,7 @@ loop-passed-init c =
 pub loop-passed-preserved : goal.loop-passed-preserved
 loop-passed-preserved c =
     elim c.if-status-t-ne-WAITING.branch [
-      then-status-t-ne-WAITING w ↦ filled_with_lem c.loop-passed.invariant c.loop-passed-test.true c.if-t-ge-NO_THREAD.false w.if-status-t-ne-WAITING.true ((λ i. record { left = w.under-is i; right = w.over-is i; head = w.first-is i }) ∙ w.link_last-first.ensures) w.last-is
+      | then-status-t-ne-WAITING w ↦ filled_with_lem c.loop-passed.invariant c.loop-passed-test.true c.if-t-ge-NO_THREAD.false w.if-status-t-ne-WAITING.true ((λ i. record { left = w.under-is i; right = w.over-is i; head = w.first-is i }) ∙ w.link_last-first.ensures) w.last-is
       | else-status-t-ne-WAITING w ↦ filled_past c.loop-passed.invariant c.loop-passed-test.true c.if-t-ge-NO_THREAD.false w.if-status-t-ne-WAITING.false (λ i. record { left = w.under-is i; right = w.over-is i; head = w.first-is i }) w.last-is
     ]
 

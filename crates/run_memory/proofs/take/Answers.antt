@@ -24,21 +24,21 @@ one_more b w n l k e d =
 pub returns-then-not-room_for : goal.returns-then-not-room_for
 returns-then-not-room_for c = let M = memory_of c.args.bytes.now c.args.words.now c.args.numbers.now c.args.sums.now in
     record {
-  sums_after = spoke c.refused.ensures
-      (without_room c.args.table.now c.args.w M c.if-not-room_for.true
-      (asked_room c.args.w c.total_at-turns.ensures c.head_at.ensures c.holds_at-holds.ensures c.room_for.ensures));
-  passed_value = passing c.args.counting (passed_over M c.args.w) c.refused.ensures (passes_none c.args.counting 32 _ refl);
-}
+      sums_after = spoke c.refused.ensures
+          (without_room c.args.table.now c.args.w M c.if-not-room_for.true
+          (asked_room c.args.w c.total_at-turns.ensures c.head_at.ensures c.holds_at-holds.ensures c.room_for.ensures));
+      passed_value = passing c.args.counting (passed_over M c.args.w) c.refused.ensures (passes_none c.args.counting 32 _ refl);
+    }
 
 pub returns-then-holds : goal.returns-then-holds
 returns-then-holds c = let M = memory_of c.args.bytes.now c.args.words.now c.args.numbers.now c.args.sums.now in
     record {
-  sums_after = spoke c.refused-then-holds.ensures
-      (no_thread_lem c.args.table.now c.args.w M c.if-not-room_for.false
-      (asked_room c.args.w c.total_at-turns.ensures c.head_at.ensures c.holds_at-holds.ensures c.room_for.ensures)
-      (sym c.holds_at-holds.ensures ∙ c.if-holds.true) (own_thread _ c.if-holds.true c.holds_at-holds.ensures c.thread_for-t.ensures c.if-t-ge-NO_THREAD.true));
-  passed_value = passing c.args.counting (passed_over M c.args.w) c.refused-then-holds.ensures (passes_none c.args.counting 32 _ refl);
-}
+      sums_after = spoke c.refused-then-holds.ensures
+          (no_thread_lem c.args.table.now c.args.w M c.if-not-room_for.false
+          (asked_room c.args.w c.total_at-turns.ensures c.head_at.ensures c.holds_at-holds.ensures c.room_for.ensures)
+          (sym c.holds_at-holds.ensures ∙ c.if-holds.true) (own_thread _ c.if-holds.true c.holds_at-holds.ensures c.thread_for-t.ensures c.if-t-ge-NO_THREAD.true));
+      passed_value = passing c.args.counting (passed_over M c.args.w) c.refused-then-holds.ensures (passes_none c.args.counting 32 _ refl);
+    }
 
 pub overflow_add-turns : goal.overflow_add-turns
 overflow_add-turns c =

@@ -81,24 +81,27 @@ seated m =
     let S = m.args.sums.now in
     let M = memory_of m.args.bytes.now m.args.words.now m.args.numbers.now S in
     let R = roomy M w m.if-not-room_for.false (asked_room w m.total_at-turns.ensures m.head_at.ensures m.holds_at-holds.ensures m.room_for.ensures) in
-    elim m.if-not-holds.branch [ then-not-holds+else-c-ge16+else-not-is_ready+else-not-action_fits z ↦
-    let none = sym m.holds_at-holds.ensures ∙ z.if-not-holds.true in
-    let n = z.threads.ensures.value in
-    let fits = z.action_fits.ensures (table_of s) (numbers_in m.args.numbers.now) (codes s z.bodies-actions.ensures n) (arguments s z.bodies-actions.ensures n) in
-    let l = z.lengths.ensures in
-    let h1 = sixteen 1024 m.args.bytes.now l.0 (omega arith) in
-    let h2 = sixteen 6144 m.args.words.now l.1.0 (omega arith) in
-    let h3 = sixteen 2 m.args.numbers.now l.1.1 (omega arith) in
-    let left = (λ i. memory_of (z.bytes-is i) (z.words-is i) (z.numbers-is i) S) ∙ z.steal.ensures (sums_in S) in (
-      subst (λ (X : Memory). Going X w) (sym left)
-          (stolen_going s w v M R none z.if-c-ge16.false z.bottom_at-b.ensures z.is_ready.ensures z.if-not-is_ready.false fits z.if-not-action_fits.false h1 h2 h3 m.requires),
-      ap (deque_taken_in s w v) left ∙ steals s w v M R none z.if-c-ge16.false z.bottom_at-b.ensures z.is_ready.ensures z.if-not-is_ready.false fits z.if-not-action_fits.false h1 h2 h3,
-    ) | else-not-holds z ↦
-    let same : memory_of m.if-not-holds.bytes m.if-not-holds.words m.if-not-holds.numbers S ≡ M = λ i. memory_of (z.bytes-is i) (z.words-is i) (z.numbers-is i) S in (
-      subst (λ (X : Memory). Going X w) (sym same)
-          (record { few = R.few; holds = sym m.holds_at-holds.ensures ∙ z.if-not-holds.false; room = R.turns; free = m.requires }),
-      ap (deque_taken_in s w v) same,
-    ) ]
+    elim m.if-not-holds.branch [
+      | then-not-holds+else-c-ge16+else-not-is_ready+else-not-action_fits z ↦
+          let none = sym m.holds_at-holds.ensures ∙ z.if-not-holds.true in
+          let n = z.threads.ensures.value in
+          let fits = z.action_fits.ensures (table_of s) (numbers_in m.args.numbers.now) (codes s z.bodies-actions.ensures n) (arguments s z.bodies-actions.ensures n) in
+          let l = z.lengths.ensures in
+          let h1 = sixteen 1024 m.args.bytes.now l.0 (omega arith) in
+          let h2 = sixteen 6144 m.args.words.now l.1.0 (omega arith) in
+          let h3 = sixteen 2 m.args.numbers.now l.1.1 (omega arith) in
+          let left = (λ i. memory_of (z.bytes-is i) (z.words-is i) (z.numbers-is i) S) ∙ z.steal.ensures (sums_in S) in (
+            subst (λ (X : Memory). Going X w) (sym left)
+                (stolen_going s w v M R none z.if-c-ge16.false z.bottom_at-b.ensures z.is_ready.ensures z.if-not-is_ready.false fits z.if-not-action_fits.false h1 h2 h3 m.requires),
+            ap (deque_taken_in s w v) left ∙ steals s w v M R none z.if-c-ge16.false z.bottom_at-b.ensures z.is_ready.ensures z.if-not-is_ready.false fits z.if-not-action_fits.false h1 h2 h3,
+          )
+      | else-not-holds z ↦
+          let same : memory_of m.if-not-holds.bytes m.if-not-holds.words m.if-not-holds.numbers S ≡ M = λ i. memory_of (z.bytes-is i) (z.words-is i) (z.numbers-is i) S in (
+            subst (λ (X : Memory). Going X w) (sym same)
+                (record { few = R.few; holds = sym m.holds_at-holds.ensures ∙ z.if-not-holds.false; room = R.turns; free = m.requires }),
+            ap (deque_taken_in s w v) same,
+          )
+    ]
 
 pub go_on-requires : goal.go_on-requires
 go_on-requires c = (seated (goal.at.go_on-requires c).Joined-not-holds).0

@@ -5,12 +5,12 @@ use Rattle.wivakkol_desk.proofs.wivakkol_disassemble_on.Goals as goal
 
 pub returns-in-Listed : goal.returns-in-Listed
 returns-in-Listed c = let v = told_row _ _ _ _ c.in-Answered.is c.in-Listed.is c.disassemble_in-answer.ensures.value in
-     record { value = v.0; row_after = v.1; out_after = c.disassemble_in-answer.ensures.out_after; rises_after = c.disassemble_in-answer.ensures.rises_after }
+    record { value = v.0; row_after = v.1; out_after = c.disassemble_in-answer.ensures.out_after; rises_after = c.disassemble_in-answer.ensures.rises_after }
 
 pub returns-in-Refused : goal.returns-in-Refused
 returns-in-Refused c = let v = told_row _ _ _ _ c.in-Answered.is c.in-Refused.is c.disassemble_in-answer.ensures.value in
-     record { value = v.0; row_after = v.1; out_after = c.disassemble_in-answer.ensures.out_after; rises_after = c.disassemble_in-answer.ensures.rises_after }
+    record { value = v.0; row_after = v.1; out_after = c.disassemble_in-answer.ensures.out_after; rises_after = c.disassemble_in-answer.ensures.rises_after }
 
 pub returns-in-Short : goal.returns-in-Short
 returns-in-Short c = let v = lacks_row _ _ _ c.in-Short.is c.disassemble_in-answer.ensures.value in
-     record { value = v.0; row_after = v.1; out_after = c.disassemble_in-answer.ensures.out_after; rises_after = c.disassemble_in-answer.ensures.rises_after }
+    record { value = v.0; row_after = v.1; out_after = c.disassemble_in-answer.ensures.out_after; rises_after = c.disassemble_in-answer.ensures.rises_after }

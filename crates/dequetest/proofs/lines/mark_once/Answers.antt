@@ -27,7 +27,7 @@ pub bounds-marks-t : goal.bounds-marks-t
 bounds-marks-t c = low (goal.at.bounds-marks-t c).In-loop-i
 
 pub returns-then-marks-t : goal.returns-then-marks-t
-returns-then-marks-t c =  record { value = marked_twice _ _ _ c.loop-i.i (c.loop-i.i - 1) (omega (arith, c.loop-i-test.true)) c.loop-i.invariant c.if-marks-t.true; false_after = (λ e. no_way (cc)) }
+returns-then-marks-t c = record { value = marked_twice _ _ _ c.loop-i.i (c.loop-i.i - 1) (omega (arith, c.loop-i-test.true)) c.loop-i.invariant c.if-marks-t.true; false_after = (λ e. no_way (cc)) }
 
 pub bounds-marks-t-in-loop-i : goal.bounds-marks-t-in-loop-i
 bounds-marks-t-in-loop-i c = low (goal.at.bounds-marks-t-in-loop-i c).In-loop-i
@@ -37,4 +37,4 @@ loop-i-preserved c =
     marked_on _ _ _ c.loop-i.i (c.loop-i.i - 1) (omega (arith, c.loop-i-test.true)) c.loop-i.invariant c.if-marks-t.false
 
 pub returns : goal.returns
-returns c =  let both = marked_all _ _ _ _ c.loop-i.invariant c.loop-i-test.false in record { value = both.0; false_after = both.1 }
+returns c = let both = marked_all _ _ _ _ c.loop-i.invariant c.loop-i-test.false in record { value = both.0; false_after = both.1 }

@@ -30,13 +30,12 @@ pub loop-a-smaller : goal.loop-a-smaller
 loop-a-smaller c = omega (arith, c.loop-a-test.true)
 
 pub loop-a-preserved : goal.loop-a-preserved
-loop-a-preserved c =
-    (
-      omega (arith, c.loop-a-test.true),
-      greatest_more _ c.loop-a.a c.loop-a.best (c.loop-a.before + c.drawn_of-x.result) c.larger-best.result c.loop-a.invariant.1 (λ i. c.loop-a.invariant.2 i + draws (goal.at.loop-a-preserved c).After-drawn_of-x i) c.larger-best.ensures,
-      drawn_next _ _ c.loop-a.a c.loop-a.before c.drawn_of-x.result c.since-before.result _ c.ends_stretch.result (kind_read _ _ _ _ c.threads-n.ensures.value c.code-k.ensures)
-          c.loop-a.invariant.2 (draws (goal.at.loop-a-preserved c).After-drawn_of-x) c.ends_stretch.ensures c.since-before.ensures,
-    )
+loop-a-preserved c = (
+  omega (arith, c.loop-a-test.true),
+  greatest_more _ c.loop-a.a c.loop-a.best (c.loop-a.before + c.drawn_of-x.result) c.larger-best.result c.loop-a.invariant.1 (λ i. c.loop-a.invariant.2 i + draws (goal.at.loop-a-preserved c).After-drawn_of-x i) c.larger-best.ensures,
+  drawn_next _ _ c.loop-a.a c.loop-a.before c.drawn_of-x.result c.since-before.result _ c.ends_stretch.result (kind_read _ _ _ _ c.threads-n.ensures.value c.code-k.ensures)
+      c.loop-a.invariant.2 (draws (goal.at.loop-a-preserved c).After-drawn_of-x) c.ends_stretch.ensures c.since-before.ensures,
+)
 
 pub returns : goal.returns
 returns c =

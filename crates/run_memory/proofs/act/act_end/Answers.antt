@@ -34,7 +34,7 @@ bytes_there : (c : Joined-waits) → let B : Bytes = settled c.args.w nobody (st
     bytes_in c.if-waits.bytes ≡ pick c.waits.result (statused c.row_at-u.result ready B) B
 bytes_there c =
     elim c.if-waits.branch [
-      then-waits z ↦ ap bytes_in z.bytes-is ∙ (z.put_status.ensures ∙ (ap (statused c.row_at-u.result ready) c.put_back.ensures.bytes_after ∙ sym (chosen _ _ z.if-waits.true)))
+      | then-waits z ↦ ap bytes_in z.bytes-is ∙ (z.put_status.ensures ∙ (ap (statused c.row_at-u.result ready) c.put_back.ensures.bytes_after ∙ sym (chosen _ _ z.if-waits.true)))
       | else-waits z ↦ ap bytes_in z.bytes-is ∙ (c.put_back.ensures.bytes_after ∙ sym (passed_by _ _ z.if-waits.false))
     ]
 
@@ -42,7 +42,7 @@ words_there : (c : Joined-waits) → let W : Words = settled_words c.args.w (hol
     words_in c.if-waits.words ≡ pick c.waits.result (linked_left 4 1 c.row_at-u.result c.args.t W) W
 words_there c =
     elim c.if-waits.branch [
-      then-waits z ↦ ap words_in z.words-is ∙ (z.link_left.ensures ∙ (ap (linked_left 4 1 c.row_at-u.result c.args.t) c.put_back.ensures.words_after ∙ sym (chosen _ _ z.if-waits.true)))
+      | then-waits z ↦ ap words_in z.words-is ∙ (z.link_left.ensures ∙ (ap (linked_left 4 1 c.row_at-u.result c.args.t) c.put_back.ensures.words_after ∙ sym (chosen _ _ z.if-waits.true)))
       | else-waits z ↦ ap words_in z.words-is ∙ (c.put_back.ensures.words_after ∙ sym (passed_by _ _ z.if-waits.false))
     ]
 

@@ -16,7 +16,7 @@ seated : (c : Joined-not-holds_at) → bytes_in c.if-not-holds_at.bytes ≡ seat
 seated c =
     let B : Bytes = bytes_in c.args.bytes.now in
     elim c.if-not-holds_at.branch [
-      then-not-holds_at z ↦ seated_taken B c.args.w c.args.t (sym c.holds_at.ensures ∙ z.if-not-holds_at.true) (ap (λ (l : List ℕ). bytes_in l) z.bytes-is ∙ z.put_status.ensures)
+      | then-not-holds_at z ↦ seated_taken B c.args.w c.args.t (sym c.holds_at.ensures ∙ z.if-not-holds_at.true) (ap (λ (l : List ℕ). bytes_in l) z.bytes-is ∙ z.put_status.ensures)
       | else-not-holds_at z ↦ seated_own B c.args.w c.args.t (sym c.holds_at.ensures ∙ z.if-not-holds_at.false) (ap (λ (l : List ℕ). bytes_in l) z.bytes-is)
     ]
 

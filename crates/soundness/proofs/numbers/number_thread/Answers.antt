@@ -119,7 +119,7 @@ overflow_sub-stop c = omega (arith, at_start (goal.at.overflow_sub-stop c).Start
 pub advance-requires : goal.advance-requires
 advance-requires c =
     let both = second_walk c.args.table.now _ _ _ c.args.next.now c.args.numbers.now (c.requires.accepted, (c.requires.placed, (c.requires.t_lt_n, c.requires.numbering))) _ _ c.advance-number.ensures _
-      c.count.ensures.value in
+    c.count.ensures.value in
     record { accepted = c.requires.accepted; from_le_to = both.0; numbers_to = both.1 }
 
 pub returns : goal.returns

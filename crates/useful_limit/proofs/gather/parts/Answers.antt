@@ -12,6 +12,6 @@ pub returns : goal.returns
 returns c =
     let r = c.requires.1 in
     let e =
-        both c.requires.0 _ _ _ r.few_workers r.small_gap
-        (parts_are c.requires.0 _ _ _ c.cost-cost.ensures c.peak_at-peak.ensures c.resting_peak-resting.ensures c.stretch-stretch.ensures c.least_quota-least.ensures) in
+    both c.requires.0 _ _ _ r.few_workers r.small_gap
+    (parts_are c.requires.0 _ _ _ c.cost-cost.ensures c.peak_at-peak.ensures c.resting_peak-resting.ensures c.stretch-stretch.ensures c.least_quota-least.ensures) in
     record { value = e.0; sums = e.1 }
