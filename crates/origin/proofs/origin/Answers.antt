@@ -67,6 +67,9 @@ returns-then-m-a c =
 pub brought-all-requires : goal.brought-all-requires
 brought-all-requires c = let s = c.args.table.now in record { n_value = threads_read s c.threads-n.ensures; le_quota = in_range _ (sym c.outside.ensures ∙ c.if-outside.false); k_bound = omega (arith, c.actions-m.ensures.small) }
 
+pub is_put_in-requires : goal.is_put_in-requires
+is_put_in-requires c = threads_read c.args.table.now c.threads-n.ensures
+
 pub returns-then-is_put_in : goal.returns-then-is_put_in
 returns-then-is_put_in c =
     let s = c.args.table.now in
