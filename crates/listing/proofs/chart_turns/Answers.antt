@@ -18,7 +18,6 @@ use Rattle.chart.specs.Turns.{chart_turns}
 use Rattle.chart.proofs.Records.{wall_width, many, few, charted_unsound, charted_many, charted_written}
 use Rattle.soundness.proofs.Passed.{test_fails, test_passes, test_parents, has_workers}
 use Rattle.listing.specs.Sheets.{turns_texts}
-use Rattle.std.proofs.Common.{not, ap}
 use Rattle.listing.proofs.chart_turns.Goals.{Else-not-tested}
 use Rattle.listing.proofs.chart_turns.Goals as goal
 
@@ -38,12 +37,12 @@ module _ (run : Run) (order : List ℕ) {out : List ℕ} {at : ℕ} {o : List �
 
 -- the record passed the test, and has few enough turns
 passed : (c : Else-not-tested) → unsound c.args.run ≡ false
-passed c = test_passes _ c.test-tested.ensures (ap not c.if-not-tested.false)
+passed c = test_passes _ c.test-tested.ensures c.if-not-tested.false
 
 pub returns-then-not-tested : goal.returns-then-not-tested
 returns-then-not-tested c =
     let a = c.args in
-    refused a.run a.order.now 32 (charted_unsound a.run (test_fails _ c.test-tested.ensures (ap not c.if-not-tested.true))) c.put_refused.ensures
+    refused a.run a.order.now 32 (charted_unsound a.run (test_fails _ c.test-tested.ensures c.if-not-tested.true)) c.put_refused.ensures
 
 pub returns-then-run-gt-MOST_TURNS : goal.returns-then-run-gt-MOST_TURNS
 returns-then-run-gt-MOST_TURNS c =

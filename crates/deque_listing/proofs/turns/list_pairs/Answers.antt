@@ -7,20 +7,19 @@ use Rattle.deques.specs.DequeSound.{SoundDeques}
 use Rattle.deques.specs.DequeTurn.{unsound_deques}
 use Rattle.dfdeques.proofs.DequesPassed.{deque_fails, deque_passes, deque_parents, deque_workers}
 use Rattle.deque_listing.proofs.PairLines.{not_sound, lists, no_turns, no_workers}
-use Rattle.std.proofs.Common.{not, ap}
 use Rattle.deque_listing.proofs.turns.list_pairs.Goals.{Else-not-tested, Else-record-eq0}
 use Rattle.deque_listing.proofs.turns.list_pairs.Goals as goal
 
 -- the record passed the test
 passed : (c : Else-not-tested) → unsound_deques c.args.run ≡ false
-passed c = deque_passes _ c.deque_test-tested.ensures (ap not c.if-not-tested.false)
+passed c = deque_passes _ c.deque_test-tested.ensures c.if-not-tested.false
 
 sound : (c : Else-record-eq0) → SoundDeques c.args.run
 sound c = deque_workers _ (passed c) (omega (arith, c.if-record-eq0.false))
 
 pub returns-then-not-tested : goal.returns-then-not-tested
 returns-then-not-tested c =
-    not_sound c.args.run c.args.order.now (deque_fails _ c.deque_test-tested.ensures (ap not c.if-not-tested.true)) c.put_refused.ensures
+    not_sound c.args.run c.args.order.now (deque_fails _ c.deque_test-tested.ensures c.if-not-tested.true) c.put_refused.ensures
 
 pub returns-then-order-lt2 : goal.returns-then-order-lt2
 returns-then-order-lt2 c =
