@@ -8,6 +8,7 @@ use borrow.Author.Tests.{le-ltb}
 use lib.ListN.{length, get_or}
 use contract.Lifetimes.{Lfts}
 use denote.Ref.{Bor}
+use denote.MutBor.{MutBor}
 use denote.Triple.Clauses.{AtExit}
 use borrow.Fn.Kinds.{ended_of}
 use Rattle.table.specs.Format.{Table, table_of}
@@ -172,12 +173,12 @@ fit_within s p b M K X e calls =
 pub record FitSays (s : List ℕ) (p b M : ℕ) (x : Fitted) : Type 0 where
   pub lifetimes : Lfts 7
   pub table : Bor (List ℕ)
-  pub rises : Bor (List ℕ)
-  pub falls : Bor (List ℕ)
-  pub serials : Bor (List ℕ)
-  pub depths : Bor (List ℕ)
-  pub peaks : Bor (List ℕ)
-  pub rows : Bor (List ℕ)
+  pub rises : MutBor (List ℕ)
+  pub falls : MutBor (List ℕ)
+  pub serials : MutBor (List ℕ)
+  pub depths : MutBor (List ℕ)
+  pub peaks : MutBor (List ℕ)
+  pub rows : MutBor (List ℕ)
   pub lent : table.now ≡ s
   pub exit : AtExit (ended_of 7 fit_kinds.ps fit_kinds.r) lifetimes
   pub promised : fit_promise.Learnt lifetimes (table, (p, (b, (M, (rises, (falls, (serials, (depths, (peaks, (rows, tt)))))))))) x exit

@@ -6,6 +6,7 @@ use Prim.Native.Nat.{ℕ}
 use mathlib.Core.List.{List, []}
 use contract.Lifetimes.{Lfts}
 use denote.Ref.{Bor}
+use denote.MutBor.{MutBor}
 use denote.Triple.Clauses.{AtExit}
 use borrow.Fn.Kinds.{ended_of}
 use Rattle.array_machine.specs.Arrays.{arrays}
@@ -14,7 +15,7 @@ use Rattle.wivakkol.specs.Opened.{sound_in, blank_in, line_fault, figures_in, li
 use Rattle.wivakkol.proofs.WallLines.{WallLine, lent_line, line_kept}
 use Rattle.wivakkol.proofs.wivakkol_chart_on.Kinds as chart_kinds
 use Rattle.wivakkol.proofs.wivakkol_chart_on.Reads as chart_promise
-use Rattle.claims.proofs.LentSays.{lent_of, cleared}
+use Rattle.claims.proofs.LentSays.{lent_of, lent_mut, cleared}
 
 -- `wivakkol_chart_on`, lent a table s, a run M (of which it is not lent parents and second list) and a line, answered a number and left `out` in the line
 pub record ChartSays (s : List ℕ) (M : Memory) (line : List ℕ) (number : ℕ) (out : List ℕ) : Type 0 where
@@ -31,12 +32,12 @@ pub record ChartSays (s : List ℕ) (M : Memory) (line : List ℕ) (number : ℕ
   pub quotas : Bor (List ℕ)
   pub heads : Bor (List ℕ)
   pub totals : Bor (List ℕ)
-  pub text : Bor (List ℕ)
-  pub rises : Bor (List ℕ)
-  pub falls : Bor (List ℕ)
-  pub forks : Bor (List ℕ)
-  pub seen : Bor (List ℕ)
-  pub list : Bor (List ℕ)
+  pub text : MutBor (List ℕ)
+  pub rises : MutBor (List ℕ)
+  pub falls : MutBor (List ℕ)
+  pub forks : MutBor (List ℕ)
+  pub seen : MutBor (List ℕ)
+  pub list : MutBor (List ℕ)
   pub exit : AtExit (ended_of 18 chart_kinds.ps chart_kinds.r) lifetimes
   pub lent_table : table.now ≡ s
   pub lent_run : memory settings.now M.parents (arrays next.now status.now amounts.now left.now right.now M.arrays.under M.arrays.over) holds.now threads.now quotas.now heads.now totals.now ≡ M
@@ -90,14 +91,14 @@ chart_says s M line =
       quotas = lent_of M.quotas;
       heads = lent_of M.heads;
       totals = lent_of M.totals;
-      text = lent_of line;
-      rises = lent_of cleared;
-      falls = lent_of cleared;
-      forks = lent_of cleared;
-      seen = lent_of cleared;
-      list = lent_of cleared;
+      text = lent_mut line;
+      rises = lent_mut cleared;
+      falls = lent_mut cleared;
+      forks = lent_mut cleared;
+      seen = lent_mut cleared;
+      list = lent_mut cleared;
       exit =
-          (lent_of s, (lent_of M.settings, (lent_of M.arrays.next, (lent_of M.arrays.status, (lent_of M.arrays.amounts, (lent_of M.arrays.left, (lent_of M.arrays.right, (lent_of M.holds, (lent_of M.threads, (lent_of M.quotas, (lent_of M.heads, (lent_of M.totals, (lent_of (line_after (line_fault s M) M line), (lent_of cleared, (lent_of cleared, (lent_of cleared, (lent_of cleared, (lent_of cleared, tt))))))))))))))))));
+          (lent_of s, (lent_of M.settings, (lent_of M.arrays.next, (lent_of M.arrays.status, (lent_of M.arrays.amounts, (lent_of M.arrays.left, (lent_of M.arrays.right, (lent_of M.holds, (lent_of M.threads, (lent_of M.quotas, (lent_of M.heads, (lent_of M.totals, (lent_mut (line_after (line_fault s M) M line), (lent_mut cleared, (lent_mut cleared, (lent_mut cleared, (lent_mut cleared, (lent_mut cleared, tt))))))))))))))))));
       lent_table = refl;
       lent_run = refl;
       lent_text = refl;

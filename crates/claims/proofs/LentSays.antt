@@ -6,6 +6,7 @@ use Prim.Native.Nat.{ℕ}
 use mathlib.Core.List.{List, []}
 use contract.Lifetimes.{Lfts}
 use denote.Ref.{Bor}
+use denote.MutBor.{MutBor, as_bor}
 use denote.Triple.Clauses.{AtExit}
 use borrow.Fn.Kinds.{ended_of}
 use mathlib.Core.Bool.{Bool, true, false}
@@ -33,21 +34,21 @@ use Rattle.wivakkol_turn.proofs.wivakkol_turn_on.Reads as turn_promise
 -- references to all that is lent to a beginning and to an opening
 pub record Refs : Type 0 where
   pub table : Bor (List ℕ)
-  pub settings : Bor (List ℕ)
-  pub parents : Bor (List ℕ)
-  pub next : Bor (List ℕ)
-  pub status : Bor (List ℕ)
-  pub amounts : Bor (List ℕ)
-  pub left : Bor (List ℕ)
-  pub right : Bor (List ℕ)
-  pub under : Bor (List ℕ)
-  pub over : Bor (List ℕ)
-  pub holds : Bor (List ℕ)
-  pub threads : Bor (List ℕ)
-  pub quotas : Bor (List ℕ)
-  pub heads : Bor (List ℕ)
-  pub totals : Bor (List ℕ)
-  pub row : Bor (List ℕ)
+  pub settings : MutBor (List ℕ)
+  pub parents : MutBor (List ℕ)
+  pub next : MutBor (List ℕ)
+  pub status : MutBor (List ℕ)
+  pub amounts : MutBor (List ℕ)
+  pub left : MutBor (List ℕ)
+  pub right : MutBor (List ℕ)
+  pub under : MutBor (List ℕ)
+  pub over : MutBor (List ℕ)
+  pub holds : MutBor (List ℕ)
+  pub threads : MutBor (List ℕ)
+  pub quotas : MutBor (List ℕ)
+  pub heads : MutBor (List ℕ)
+  pub totals : MutBor (List ℕ)
+  pub row : MutBor (List ℕ)
 
 -- the run in them
 abbrev pub lent_in : Refs → Memory
@@ -58,20 +59,20 @@ lent_in refs =
 
 -- to the working memory
 pub record Work : Type 0 where
-  pub rises : Bor (List ℕ)
-  pub falls : Bor (List ℕ)
-  pub forks : Bor (List ℕ)
-  pub seen : Bor (List ℕ)
-  pub list : Bor (List ℕ)
+  pub rises : MutBor (List ℕ)
+  pub falls : MutBor (List ℕ)
+  pub forks : MutBor (List ℕ)
+  pub seen : MutBor (List ℕ)
+  pub list : MutBor (List ℕ)
 
 -- and to a turn and a run
 pub record Blocks : Type 0 where
   pub table : Bor (List ℕ)
-  pub bytes : Bor (List ℕ)
-  pub words : Bor (List ℕ)
-  pub numbers : Bor (List ℕ)
-  pub sums : Bor (List ℕ)
-  pub row : Bor (List ℕ)
+  pub bytes : MutBor (List ℕ)
+  pub words : MutBor (List ℕ)
+  pub numbers : MutBor (List ℕ)
+  pub sums : MutBor (List ℕ)
+  pub row : MutBor (List ℕ)
 
 abbrev pub blocks_in : Blocks → Memory
 blocks_in refs = memory_of refs.bytes.now refs.words.now refs.numbers.now refs.sums.now
@@ -113,7 +114,7 @@ pub record BeginSays (s : List ℕ) (p K : ℕ) (out : List ℕ) (a : Answer) (f
   pub lifetimes : Lfts 19
   pub refs : Refs
   pub work : Work
-  pub buffer : Bor (List ℕ)
+  pub buffer : MutBor (List ℕ)
   pub exit : AtExit (ended_of 19 begin_kinds.ps begin_kinds.r) lifetimes
   pub lent_table : refs.table.now ≡ s
   pub lent_buffer : buffer.now ≡ out
@@ -130,7 +131,7 @@ pub record OpenSays (s : List ℕ) (M : Memory) (a : Answer) : Type 0 where
   pub lent_table : refs.table.now ≡ s
   pub lent_run : lent_in refs ≡ M
   pub left : answer a.number exit.1.1.1.1.1.1.1.1.1.1.1.1.1.1.1.0.now (memory refs.settings.now exit.1.1.0.now (arrays refs.next.now refs.status.now refs.amounts.now refs.left.now refs.right.now exit.1.1.1.1.1.1.1.1.0.now exit.1.1.1.1.1.1.1.1.1.0.now) refs.holds.now refs.threads.now refs.quotas.now exit.1.1.1.1.1.1.1.1.1.1.1.1.1.0.now refs.totals.now) ≡ a
-  pub promised : open_promise.Learnt lifetimes (refs.table, (refs.settings, (refs.parents, (refs.next, (refs.status, (refs.amounts, (refs.left, (refs.right, (refs.under, (refs.over, (refs.holds, (refs.threads, (refs.quotas, (refs.heads, (refs.totals, (refs.row, (work.rises, (work.falls, (work.forks, (work.seen, (work.list, tt))))))))))))))))))))) a.number exit
+  pub promised : open_promise.Learnt lifetimes (refs.table, (as_bor refs.settings, (refs.parents, (as_bor refs.next, (as_bor refs.status, (as_bor refs.amounts, (as_bor refs.left, (as_bor refs.right, (refs.under, (refs.over, (as_bor refs.holds, (as_bor refs.threads, (as_bor refs.quotas, (refs.heads, (as_bor refs.totals, (refs.row, (work.rises, (work.falls, (work.forks, (work.seen, (work.list, tt))))))))))))))))))))) a.number exit
 
 pub turn_is : {s : List ℕ} {w : ℕ} {M : Memory} {a : Answer} → TurnSays s w M a → a ≡ lent_turn s w M
 turn_is {s} {w} {M} h = sym h.left ∙ h.promised ∙ ap₂ (λ (t : List ℕ) (x : Memory). lent_turn t w x) h.lent_table h.lent_run
@@ -156,24 +157,28 @@ open_is {s} {M} h = sym h.left ∙ h.promised.0 ∙ ap₂ (λ (t : List ℕ) (x 
 abbrev pub lent_of : List ℕ → Bor (List ℕ)
 lent_of l = record { ref_ptr = (0, 0); now = l }
 
+-- and one that it can be written through, under some ghost name
+abbrev pub lent_mut : List ℕ → MutBor (List ℕ)
+lent_mut l = record { ref_ptr = (0, 0); ghost_name = 0; now = l }
+
 abbrev pub refs_of : List ℕ → Memory → Refs
-refs_of s M = record { table = lent_of s; settings = lent_of M.settings; parents = lent_of M.parents; next = lent_of M.arrays.next; status = lent_of M.arrays.status; amounts = lent_of M.arrays.amounts; left = lent_of M.arrays.left; right = lent_of M.arrays.right; under = lent_of M.arrays.under; over = lent_of M.arrays.over; holds = lent_of M.holds; threads = lent_of M.threads; quotas = lent_of M.quotas; heads = lent_of M.heads; totals = lent_of M.totals; row = lent_of [] }
+refs_of s M = record { table = lent_of s; settings = lent_mut M.settings; parents = lent_mut M.parents; next = lent_mut M.arrays.next; status = lent_mut M.arrays.status; amounts = lent_mut M.arrays.amounts; left = lent_mut M.arrays.left; right = lent_mut M.arrays.right; under = lent_mut M.arrays.under; over = lent_mut M.arrays.over; holds = lent_mut M.holds; threads = lent_mut M.threads; quotas = lent_mut M.quotas; heads = lent_mut M.heads; totals = lent_mut M.totals; row = lent_mut [] }
 
 -- working memory as a call leaves it
 abbrev pub cleared : List ℕ
 cleared = replicate 1024 0
 
 abbrev pub work_of : Work
-work_of = record { rises = lent_of cleared; falls = lent_of cleared; forks = lent_of cleared; seen = lent_of cleared; list = lent_of cleared }
+work_of = record { rises = lent_mut cleared; falls = lent_mut cleared; forks = lent_mut cleared; seen = lent_mut cleared; list = lent_mut cleared }
 
 pub begin_says : (s : List ℕ) (p K : ℕ) (out : List ℕ) → BeginSays s p K out (lent_begin s p K (length out)) (begun_into s p K out)
 begin_says s p K out =
     let a : Answer = lent_begin s p K (length out) in
-    record { lifetimes = ([], ([], ([], ([], ([], ([], ([], ([], ([], ([], ([], ([], ([], ([], ([], ([], ([], ([], ([], tt))))))))))))))))))); refs = refs_of s a.memory; work = work_of; buffer = lent_of out; exit = (lent_of s, (p, (K, (lent_of a.memory.settings, (lent_of a.memory.parents, (lent_of a.memory.arrays.next, (lent_of a.memory.arrays.status, (lent_of a.memory.arrays.amounts, (lent_of a.memory.arrays.left, (lent_of a.memory.arrays.right, (lent_of a.memory.arrays.under, (lent_of a.memory.arrays.over, (lent_of a.memory.holds, (lent_of a.memory.threads, (lent_of a.memory.quotas, (lent_of a.memory.heads, (lent_of a.memory.totals, (lent_of a.row, (lent_of cleared, (lent_of cleared, (lent_of (begun_into s p K out), tt))))))))))))))))))))); lent_table = refl; lent_buffer = refl; left_buffer = refl; left = refl; promised = (refl, (refl, (refl, refl))) }
+    record { lifetimes = ([], ([], ([], ([], ([], ([], ([], ([], ([], ([], ([], ([], ([], ([], ([], ([], ([], ([], ([], tt))))))))))))))))))); refs = refs_of s a.memory; work = work_of; buffer = lent_mut out; exit = (lent_of s, (p, (K, (lent_mut a.memory.settings, (lent_mut a.memory.parents, (lent_mut a.memory.arrays.next, (lent_mut a.memory.arrays.status, (lent_mut a.memory.arrays.amounts, (lent_mut a.memory.arrays.left, (lent_mut a.memory.arrays.right, (lent_mut a.memory.arrays.under, (lent_mut a.memory.arrays.over, (lent_mut a.memory.holds, (lent_mut a.memory.threads, (lent_mut a.memory.quotas, (lent_mut a.memory.heads, (lent_mut a.memory.totals, (lent_mut a.row, (lent_mut cleared, (lent_mut cleared, (lent_mut (begun_into s p K out), tt))))))))))))))))))))); lent_table = refl; lent_buffer = refl; left_buffer = refl; left = refl; promised = (refl, (refl, (refl, refl))) }
 
 -- the blocks of a memory
 abbrev pub blocks_of : List ℕ → Memory → Blocks
-blocks_of s M = record { table = lent_of s; bytes = lent_of (byte_block M); words = lent_of (words_of M); numbers = lent_of (numbers_of M); sums = lent_of (sums_of M); row = lent_of [] }
+blocks_of s M = record { table = lent_of s; bytes = lent_mut (byte_block M); words = lent_mut (words_of M); numbers = lent_mut (numbers_of M); sums = lent_mut (sums_of M); row = lent_mut [] }
 
 -- an answer is what stands in the blocks of its memory
 pub whole : (a : Answer) → Shaped a.memory
@@ -188,7 +193,7 @@ turn_says s w M h k =
       lifetimes = ([], ([], ([], ([], ([], ([], tt))))));
       refs = blocks_of s M;
       exit =
-          (lent_of s, (w, (lent_of (byte_block a.memory), (lent_of (words_of a.memory), (lent_of (numbers_of a.memory), (lent_of (sums_of a.memory), (lent_of a.row, tt)))))));
+          (lent_of s, (w, (lent_mut (byte_block a.memory), (lent_mut (words_of a.memory), (lent_mut (numbers_of a.memory), (lent_mut (sums_of a.memory), (lent_mut a.row, tt)))))));
       lent_table = refl;
       lent_run = in_blocks_lem M h;
       left = e;
@@ -205,7 +210,7 @@ list_says s l M h k =
       order = lent_of l;
       lent_order = refl;
       exit =
-          (lent_of s, (lent_of l, (lent_of (byte_block a.memory), (lent_of (words_of a.memory), (lent_of (numbers_of a.memory), (lent_of (sums_of a.memory), (lent_of a.row, tt)))))));
+          (lent_of s, (lent_of l, (lent_mut (byte_block a.memory), (lent_mut (words_of a.memory), (lent_mut (numbers_of a.memory), (lent_mut (sums_of a.memory), (lent_mut a.row, tt)))))));
       lent_table = refl;
       lent_run = in_blocks_lem M h;
       left = e;
@@ -220,7 +225,7 @@ rounds_says s limit M h k =
       lifetimes = ([], ([], ([], ([], ([], ([], tt))))));
       refs = blocks_of s M;
       exit =
-          (lent_of s, (limit, (lent_of (byte_block a.memory), (lent_of (words_of a.memory), (lent_of (numbers_of a.memory), (lent_of (sums_of a.memory), (lent_of a.row, tt)))))));
+          (lent_of s, (limit, (lent_mut (byte_block a.memory), (lent_mut (words_of a.memory), (lent_mut (numbers_of a.memory), (lent_mut (sums_of a.memory), (lent_mut a.row, tt)))))));
       lent_table = refl;
       lent_run = in_blocks_lem M h;
       left = e;
@@ -247,4 +252,4 @@ pub open_says : (s : List ℕ) (M : Memory) → OpenSays s M (lent_open s M)
 open_says s M =
     let a : Answer = lent_open s M in
     let e = open_parts s M in
-    record { lifetimes = ([], ([], ([], ([], ([], ([], ([], ([], ([], ([], ([], ([], ([], ([], ([], ([], ([], ([], ([], ([], ([], tt))))))))))))))))))))); refs = refs_of s M; work = work_of; exit = (lent_of s, (lent_of M.settings, (lent_of a.memory.parents, (lent_of M.arrays.next, (lent_of M.arrays.status, (lent_of M.arrays.amounts, (lent_of M.arrays.left, (lent_of M.arrays.right, (lent_of a.memory.arrays.under, (lent_of a.memory.arrays.over, (lent_of M.holds, (lent_of M.threads, (lent_of M.quotas, (lent_of a.memory.heads, (lent_of M.totals, (lent_of a.row, (lent_of cleared, (lent_of cleared, (lent_of cleared, (lent_of cleared, (lent_of cleared, tt))))))))))))))))))))); lent_table = refl; lent_run = refl; left = e; promised = (e, ((refl, refl), (refl, refl, refl))) }
+    record { lifetimes = ([], ([], ([], ([], ([], ([], ([], ([], ([], ([], ([], ([], ([], ([], ([], ([], ([], ([], ([], ([], ([], tt))))))))))))))))))))); refs = refs_of s M; work = work_of; exit = (lent_of s, (lent_of M.settings, (lent_mut a.memory.parents, (lent_of M.arrays.next, (lent_of M.arrays.status, (lent_of M.arrays.amounts, (lent_of M.arrays.left, (lent_of M.arrays.right, (lent_mut a.memory.arrays.under, (lent_mut a.memory.arrays.over, (lent_of M.holds, (lent_of M.threads, (lent_of M.quotas, (lent_mut a.memory.heads, (lent_of M.totals, (lent_mut a.row, (lent_mut cleared, (lent_mut cleared, (lent_mut cleared, (lent_mut cleared, (lent_mut cleared, tt))))))))))))))))))))); lent_table = refl; lent_run = refl; left = e; promised = (e, ((refl, refl), (refl, refl, refl))) }

@@ -6,6 +6,7 @@ use mathlib.Core.List.{List, []}
 use lib.ListN.{replicate}
 use contract.Lifetimes.{Lfts}
 use denote.Ref.{Bor}
+use denote.MutBor.{MutBor, as_bor}
 use denote.Triple.Clauses.{AtExit}
 use borrow.Fn.Kinds.{ended_of}
 use Rattle.run_memory.specs.Memory.{Memory}
@@ -18,35 +19,35 @@ use Rattle.wivakkol_marks.proofs.wivakkol_back_on.Reads as back_promise
 use Rattle.wivakkol_marks.proofs.wivakkol_unmark_on.Kinds as unmark_kinds
 use Rattle.wivakkol_marks.proofs.wivakkol_unmark_on.Reads as unmark_promise
 use Rattle.claims.proofs.Shaped.{Shaped, byte_block, words_of, numbers_of, sums_of, in_blocks_lem}
-use Rattle.claims.proofs.LentSays.{lent_of, cleared}
+use Rattle.claims.proofs.LentSays.{lent_of, lent_mut, cleared}
 use Rattle.claims.proofs.MarksShaped.{MarksShaped, flat, marks_in_blocks}
 
 -- references to all that is lent to them: the table and the run's blocks, the marks' blocks, and the working memory
 pub record MarkRefs : Type 0 where
   pub table : Bor (List ℕ)
-  pub bytes : Bor (List ℕ)
-  pub words : Bor (List ℕ)
-  pub numbers : Bor (List ℕ)
-  pub sums : Bor (List ℕ)
-  pub set : Bor (List ℕ)
-  pub mark_bytes : Bor (List ℕ)
-  pub mark_words : Bor (List ℕ)
-  pub mark_numbers : Bor (List ℕ)
-  pub mark_sums : Bor (List ℕ)
-  pub spare_bytes : Bor (List ℕ)
-  pub spare_words : Bor (List ℕ)
-  pub spare_numbers : Bor (List ℕ)
-  pub spare_sums : Bor (List ℕ)
-  pub next : Bor (List ℕ)
-  pub status : Bor (List ℕ)
-  pub amounts : Bor (List ℕ)
-  pub left : Bor (List ℕ)
-  pub right : Bor (List ℕ)
-  pub rises : Bor (List ℕ)
-  pub falls : Bor (List ℕ)
-  pub forks : Bor (List ℕ)
-  pub seen : Bor (List ℕ)
-  pub list : Bor (List ℕ)
+  pub bytes : MutBor (List ℕ)
+  pub words : MutBor (List ℕ)
+  pub numbers : MutBor (List ℕ)
+  pub sums : MutBor (List ℕ)
+  pub set : MutBor (List ℕ)
+  pub mark_bytes : MutBor (List ℕ)
+  pub mark_words : MutBor (List ℕ)
+  pub mark_numbers : MutBor (List ℕ)
+  pub mark_sums : MutBor (List ℕ)
+  pub spare_bytes : MutBor (List ℕ)
+  pub spare_words : MutBor (List ℕ)
+  pub spare_numbers : MutBor (List ℕ)
+  pub spare_sums : MutBor (List ℕ)
+  pub next : MutBor (List ℕ)
+  pub status : MutBor (List ℕ)
+  pub amounts : MutBor (List ℕ)
+  pub left : MutBor (List ℕ)
+  pub right : MutBor (List ℕ)
+  pub rises : MutBor (List ℕ)
+  pub falls : MutBor (List ℕ)
+  pub forks : MutBor (List ℕ)
+  pub seen : MutBor (List ℕ)
+  pub list : MutBor (List ℕ)
 
 abbrev run_lent : MarkRefs → Memory
 run_lent refs = memory_of refs.bytes.now refs.words.now refs.numbers.now refs.sums.now
@@ -63,7 +64,7 @@ pub record MarkSays (s : List ℕ) (i : ℕ) (M : Memory) (K : Marks) (number : 
   pub lent_run : run_lent refs ≡ M
   pub lent_marks : marks_lent refs ≡ K
   pub left : marks_of exit.1.1.1.1.1.1.0.now exit.1.1.1.1.1.1.1.0.now exit.1.1.1.1.1.1.1.1.0.now exit.1.1.1.1.1.1.1.1.1.0.now exit.1.1.1.1.1.1.1.1.1.1.0.now ≡ K'
-  pub promised : mark_promise.Learnt lifetimes (refs.table, (i, (refs.bytes, (refs.words, (refs.numbers, (refs.sums, (refs.set, (refs.mark_bytes, (refs.mark_words, (refs.mark_numbers, (refs.mark_sums, (refs.spare_bytes, (refs.spare_words, (refs.spare_numbers, (refs.spare_sums, (refs.next, (refs.status, (refs.amounts, (refs.left, (refs.right, (refs.rises, (refs.falls, (refs.forks, (refs.seen, (refs.list, tt))))))))))))))))))))))))) number exit
+  pub promised : mark_promise.Learnt lifetimes (refs.table, (i, (as_bor refs.bytes, (as_bor refs.words, (as_bor refs.numbers, (as_bor refs.sums, (refs.set, (refs.mark_bytes, (refs.mark_words, (refs.mark_numbers, (refs.mark_sums, (refs.spare_bytes, (refs.spare_words, (refs.spare_numbers, (refs.spare_sums, (refs.next, (refs.status, (refs.amounts, (refs.left, (refs.right, (refs.rises, (refs.falls, (refs.forks, (refs.seen, (refs.list, tt))))))))))))))))))))))))) number exit
 
 -- `wivakkol_back_on` answered a number and left the run M'
 pub record BackSays (s : List ℕ) (i : ℕ) (M : Memory) (K : Marks) (number : ℕ) (M' : Memory) : Type 0 where
@@ -74,12 +75,12 @@ pub record BackSays (s : List ℕ) (i : ℕ) (M : Memory) (K : Marks) (number : 
   pub lent_run : run_lent refs ≡ M
   pub lent_marks : marks_lent refs ≡ K
   pub left : memory_of exit.1.1.0.now exit.1.1.1.0.now exit.1.1.1.1.0.now exit.1.1.1.1.1.0.now ≡ M'
-  pub promised : back_promise.Learnt lifetimes (refs.table, (i, (refs.bytes, (refs.words, (refs.numbers, (refs.sums, (refs.set, (refs.mark_bytes, (refs.mark_words, (refs.mark_numbers, (refs.mark_sums, (refs.spare_bytes, (refs.spare_words, (refs.spare_numbers, (refs.spare_sums, (refs.next, (refs.status, (refs.amounts, (refs.left, (refs.right, (refs.rises, (refs.falls, (refs.forks, (refs.seen, (refs.list, tt))))))))))))))))))))))))) number exit
+  pub promised : back_promise.Learnt lifetimes (refs.table, (i, (refs.bytes, (refs.words, (refs.numbers, (refs.sums, (as_bor refs.set, (as_bor refs.mark_bytes, (as_bor refs.mark_words, (as_bor refs.mark_numbers, (as_bor refs.mark_sums, (refs.spare_bytes, (refs.spare_words, (refs.spare_numbers, (refs.spare_sums, (refs.next, (refs.status, (refs.amounts, (refs.left, (refs.right, (refs.rises, (refs.falls, (refs.forks, (refs.seen, (refs.list, tt))))))))))))))))))))))))) number exit
 
 -- `wivakkol_unmark_on` left the marks K: it is lent whether each is set, and not the blocks that the marks keep
 pub record UnmarkSays (K : Marks) : Type 0 where
   pub lifetimes : Lfts 1
-  pub set : Bor (List ℕ)
+  pub set : MutBor (List ℕ)
   pub bytes : List ℕ
   pub words : List ℕ
   pub numbers : List ℕ
@@ -104,29 +105,29 @@ abbrev mark_refs : List ℕ → Memory → Marks → MarkRefs
 mark_refs s M K =
     record {
       table = lent_of s;
-      bytes = lent_of (byte_block M);
-      words = lent_of (words_of M);
-      numbers = lent_of (numbers_of M);
-      sums = lent_of (sums_of M);
-      set = lent_of K.set;
-      mark_bytes = lent_of (flat byte_block K.kept);
-      mark_words = lent_of (flat words_of K.kept);
-      mark_numbers = lent_of (flat numbers_of K.kept);
-      mark_sums = lent_of (flat sums_of K.kept);
-      spare_bytes = lent_of (replicate 1040 0);
-      spare_words = lent_of (replicate 6163 0);
-      spare_numbers = lent_of (replicate 18 0);
-      spare_sums = lent_of (replicate 1027 0);
-      next = lent_of cleared;
-      status = lent_of cleared;
-      amounts = lent_of cleared;
-      left = lent_of cleared;
-      right = lent_of cleared;
-      rises = lent_of cleared;
-      falls = lent_of cleared;
-      forks = lent_of cleared;
-      seen = lent_of cleared;
-      list = lent_of cleared;
+      bytes = lent_mut (byte_block M);
+      words = lent_mut (words_of M);
+      numbers = lent_mut (numbers_of M);
+      sums = lent_mut (sums_of M);
+      set = lent_mut K.set;
+      mark_bytes = lent_mut (flat byte_block K.kept);
+      mark_words = lent_mut (flat words_of K.kept);
+      mark_numbers = lent_mut (flat numbers_of K.kept);
+      mark_sums = lent_mut (flat sums_of K.kept);
+      spare_bytes = lent_mut (replicate 1040 0);
+      spare_words = lent_mut (replicate 6163 0);
+      spare_numbers = lent_mut (replicate 18 0);
+      spare_sums = lent_mut (replicate 1027 0);
+      next = lent_mut cleared;
+      status = lent_mut cleared;
+      amounts = lent_mut cleared;
+      left = lent_mut cleared;
+      right = lent_mut cleared;
+      rises = lent_mut cleared;
+      falls = lent_mut cleared;
+      forks = lent_mut cleared;
+      seen = lent_mut cleared;
+      list = lent_mut cleared;
     }
 
 pub mark_says : (s : List ℕ) (i : ℕ) (M : Memory) (K : Marks) → Shaped M → MarksShaped K → MarksShaped (lent_mark s i M K).marks → MarkSays s i M K (lent_mark s i M K).number (lent_mark s i M K).marks
@@ -136,7 +137,7 @@ mark_says s i M K h k g =
       lifetimes = ([], ([], ([], ([], ([], ([], ([], ([], ([], ([], ([], ([], ([], ([], ([], ([], ([], ([], ([], ([], ([], ([], ([], ([], tt))))))))))))))))))))))));
       refs = mark_refs s M K;
       exit =
-          (lent_of s, (i, (lent_of (byte_block M), (lent_of (words_of M), (lent_of (numbers_of M), (lent_of (sums_of M), (lent_of K'.set, (lent_of (flat byte_block K'.kept), (lent_of (flat words_of K'.kept), (lent_of (flat numbers_of K'.kept), (lent_of (flat sums_of K'.kept), (lent_of (replicate 1040 0), (lent_of (replicate 6163 0), (lent_of (replicate 18 0), (lent_of (replicate 1027 0), (lent_of cleared, (lent_of cleared, (lent_of cleared, (lent_of cleared, (lent_of cleared, (lent_of cleared, (lent_of cleared, (lent_of cleared, (lent_of cleared, (lent_of cleared, tt)))))))))))))))))))))))));
+          (lent_of s, (i, (lent_of (byte_block M), (lent_of (words_of M), (lent_of (numbers_of M), (lent_of (sums_of M), (lent_mut K'.set, (lent_mut (flat byte_block K'.kept), (lent_mut (flat words_of K'.kept), (lent_mut (flat numbers_of K'.kept), (lent_mut (flat sums_of K'.kept), (lent_mut (replicate 1040 0), (lent_mut (replicate 6163 0), (lent_mut (replicate 18 0), (lent_mut (replicate 1027 0), (lent_mut cleared, (lent_mut cleared, (lent_mut cleared, (lent_mut cleared, (lent_mut cleared, (lent_mut cleared, (lent_mut cleared, (lent_mut cleared, (lent_mut cleared, (lent_mut cleared, tt)))))))))))))))))))))))));
       lent_table = refl;
       lent_run = in_blocks_lem M h;
       lent_marks = marks_in_blocks K k;
@@ -154,7 +155,7 @@ back_says s i M K h k g =
       lifetimes = ([], ([], ([], ([], ([], ([], ([], ([], ([], ([], ([], ([], ([], ([], ([], ([], ([], ([], ([], ([], ([], ([], ([], ([], tt))))))))))))))))))))))));
       refs = mark_refs s M K;
       exit =
-          (lent_of s, (i, (lent_of (byte_block M'), (lent_of (words_of M'), (lent_of (numbers_of M'), (lent_of (sums_of M'), (lent_of K.set, (lent_of (flat byte_block K.kept), (lent_of (flat words_of K.kept), (lent_of (flat numbers_of K.kept), (lent_of (flat sums_of K.kept), (lent_of (replicate 1040 0), (lent_of (replicate 6163 0), (lent_of (replicate 18 0), (lent_of (replicate 1027 0), (lent_of cleared, (lent_of cleared, (lent_of cleared, (lent_of cleared, (lent_of cleared, (lent_of cleared, (lent_of cleared, (lent_of cleared, (lent_of cleared, (lent_of cleared, tt)))))))))))))))))))))))));
+          (lent_of s, (i, (lent_mut (byte_block M'), (lent_mut (words_of M'), (lent_mut (numbers_of M'), (lent_mut (sums_of M'), (lent_of K.set, (lent_of (flat byte_block K.kept), (lent_of (flat words_of K.kept), (lent_of (flat numbers_of K.kept), (lent_of (flat sums_of K.kept), (lent_mut (replicate 1040 0), (lent_mut (replicate 6163 0), (lent_mut (replicate 18 0), (lent_mut (replicate 1027 0), (lent_mut cleared, (lent_mut cleared, (lent_mut cleared, (lent_mut cleared, (lent_mut cleared, (lent_mut cleared, (lent_mut cleared, (lent_mut cleared, (lent_mut cleared, (lent_mut cleared, tt)))))))))))))))))))))))));
       lent_table = refl;
       lent_run = in_blocks_lem M h;
       lent_marks = marks_in_blocks K k;
@@ -167,4 +168,4 @@ back_says s i M K h k g =
 
 pub unmark_says : (flags b w n z : List ℕ) → UnmarkSays (marks_of (replicate 8 0) b w n z)
 unmark_says flags b w n z =
-    record { lifetimes = ([], tt); set = lent_of flags; bytes = b; words = w; numbers = n; sums = z; exit = (lent_of (replicate 8 0), tt); left = refl; promised = refl }
+    record { lifetimes = ([], tt); set = lent_mut flags; bytes = b; words = w; numbers = n; sums = z; exit = (lent_mut (replicate 8 0), tt); left = refl; promised = refl }

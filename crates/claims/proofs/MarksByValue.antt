@@ -9,6 +9,7 @@ use lib.Dec.{ltb, eqb}
 use lib.ListN.{length, replicate}
 use contract.Lifetimes.{Lfts}
 use denote.Ref.{Bor}
+use denote.MutBor.{MutBor, as_bor}
 use denote.Triple.Clauses.{AtExit}
 use borrow.Fn.Kinds.{ended_of}
 use Rattle.table.specs.Sum.{pick}
@@ -52,7 +53,7 @@ use Rattle.claims.specs.MarkAnswers.{MarkAnswer, moved, values}
 use Rattle.claims.proofs.Bytes.{calls_bytes}
 use Rattle.claims.proofs.ByValue.{BeginSays, Called, begin_says, called}
 use Rattle.claims.proofs.MarkSays.{UnmarkSays, unmark_is, unmark_says}
-use Rattle.claims.proofs.LentSays.{lent_of, cleared as cleared_work}
+use Rattle.claims.proofs.LentSays.{lent_of, lent_mut, cleared as cleared_work}
 use Rattle.claims.proofs.Shaped.{words_of, numbers_of, sums_of}
 use Rattle.claims.proofs.Shaped.{byte_block as block_bytes}
 use Rattle.claims.proofs.MarksShaped.{MarksShaped, flat, in_blocks, marks_in_blocks, blocks_marks_shaped}
@@ -75,25 +76,25 @@ pub record BackSays (r : Run) (i : ℕ) (K : Marks) (v : MarkValues) (r' : Run) 
 
 -- references to what is lent: the marks' blocks, and the working memory
 pub record MarkRefs : Type 0 where
-  pub set : Bor (List ℕ)
-  pub mark_bytes : Bor (List ℕ)
-  pub mark_words : Bor (List ℕ)
-  pub mark_numbers : Bor (List ℕ)
-  pub mark_sums : Bor (List ℕ)
-  pub spare_bytes : Bor (List ℕ)
-  pub spare_words : Bor (List ℕ)
-  pub spare_numbers : Bor (List ℕ)
-  pub spare_sums : Bor (List ℕ)
-  pub next : Bor (List ℕ)
-  pub status : Bor (List ℕ)
-  pub amounts : Bor (List ℕ)
-  pub left : Bor (List ℕ)
-  pub right : Bor (List ℕ)
-  pub rises : Bor (List ℕ)
-  pub falls : Bor (List ℕ)
-  pub forks : Bor (List ℕ)
-  pub seen : Bor (List ℕ)
-  pub list : Bor (List ℕ)
+  pub set : MutBor (List ℕ)
+  pub mark_bytes : MutBor (List ℕ)
+  pub mark_words : MutBor (List ℕ)
+  pub mark_numbers : MutBor (List ℕ)
+  pub mark_sums : MutBor (List ℕ)
+  pub spare_bytes : MutBor (List ℕ)
+  pub spare_words : MutBor (List ℕ)
+  pub spare_numbers : MutBor (List ℕ)
+  pub spare_sums : MutBor (List ℕ)
+  pub next : MutBor (List ℕ)
+  pub status : MutBor (List ℕ)
+  pub amounts : MutBor (List ℕ)
+  pub left : MutBor (List ℕ)
+  pub right : MutBor (List ℕ)
+  pub rises : MutBor (List ℕ)
+  pub falls : MutBor (List ℕ)
+  pub forks : MutBor (List ℕ)
+  pub seen : MutBor (List ℕ)
+  pub list : MutBor (List ℕ)
 
 abbrev marks_lent : MarkRefs → Marks
 marks_lent refs = marks_of refs.set.now refs.mark_bytes.now refs.mark_words.now refs.mark_numbers.now refs.mark_sums.now
@@ -113,7 +114,7 @@ pub record BackLearnt (r : Run) (i : ℕ) (K : Marks) (g : Gone) : Type 0 where
   pub refs : MarkRefs
   pub exit : AtExit (ended_of 19 back_kinds.ps back_kinds.r) lifetimes
   pub lent_marks : marks_lent refs ≡ K
-  pub promised : back_promise.Learnt lifetimes (r, (i, (refs.set, (refs.mark_bytes, (refs.mark_words, (refs.mark_numbers, (refs.mark_sums, (refs.spare_bytes, (refs.spare_words, (refs.spare_numbers, (refs.spare_sums, (refs.next, (refs.status, (refs.amounts, (refs.left, (refs.right, (refs.rises, (refs.falls, (refs.forks, (refs.seen, (refs.list, tt))))))))))))))))))))) g exit
+  pub promised : back_promise.Learnt lifetimes (r, (i, (as_bor refs.set, (as_bor refs.mark_bytes, (as_bor refs.mark_words, (as_bor refs.mark_numbers, (as_bor refs.mark_sums, (refs.spare_bytes, (refs.spare_words, (refs.spare_numbers, (refs.spare_sums, (refs.next, (refs.status, (refs.amounts, (refs.left, (refs.right, (refs.rises, (refs.falls, (refs.forks, (refs.seen, (refs.list, tt))))))))))))))))))))) g exit
 
 set_says : {r : Run} {i : ℕ} {K : Marks} {x : Marking} {K' : Marks} → SetLearnt r i K x K' → SetSays r i K (marking_values x) K'
 set_says {r} {i} {K} h =
@@ -191,25 +192,25 @@ after_shaped r i K k = go (unsound r) refl
 abbrev mark_refs : Marks → MarkRefs
 mark_refs K =
     record {
-      set = lent_of K.set;
-      mark_bytes = lent_of (flat block_bytes K.kept);
-      mark_words = lent_of (flat words_of K.kept);
-      mark_numbers = lent_of (flat numbers_of K.kept);
-      mark_sums = lent_of (flat sums_of K.kept);
-      spare_bytes = lent_of (replicate 1040 0);
-      spare_words = lent_of (replicate 6163 0);
-      spare_numbers = lent_of (replicate 18 0);
-      spare_sums = lent_of (replicate 1027 0);
-      next = lent_of cleared_work;
-      status = lent_of cleared_work;
-      amounts = lent_of cleared_work;
-      left = lent_of cleared_work;
-      right = lent_of cleared_work;
-      rises = lent_of cleared_work;
-      falls = lent_of cleared_work;
-      forks = lent_of cleared_work;
-      seen = lent_of cleared_work;
-      list = lent_of cleared_work;
+      set = lent_mut K.set;
+      mark_bytes = lent_mut (flat block_bytes K.kept);
+      mark_words = lent_mut (flat words_of K.kept);
+      mark_numbers = lent_mut (flat numbers_of K.kept);
+      mark_sums = lent_mut (flat sums_of K.kept);
+      spare_bytes = lent_mut (replicate 1040 0);
+      spare_words = lent_mut (replicate 6163 0);
+      spare_numbers = lent_mut (replicate 18 0);
+      spare_sums = lent_mut (replicate 1027 0);
+      next = lent_mut cleared_work;
+      status = lent_mut cleared_work;
+      amounts = lent_mut cleared_work;
+      left = lent_mut cleared_work;
+      right = lent_mut cleared_work;
+      rises = lent_mut cleared_work;
+      falls = lent_mut cleared_work;
+      forks = lent_mut cleared_work;
+      seen = lent_mut cleared_work;
+      list = lent_mut cleared_work;
     }
 
 module _ (r : Run) (i : ℕ) (K : Marks) (k : MarksShaped K) where
@@ -227,7 +228,7 @@ module _ (r : Run) (i : ℕ) (K : Marks) (k : MarksShaped K) where
         lifetimes = ([], ([], ([], ([], ([], ([], ([], ([], ([], ([], ([], ([], ([], ([], ([], ([], ([], ([], ([], tt)))))))))))))))))));
         refs = mark_refs K;
         exit =
-            (r, (i, (lent_of K'.set, (lent_of (flat block_bytes K'.kept), (lent_of (flat words_of K'.kept), (lent_of (flat numbers_of K'.kept), (lent_of (flat sums_of K'.kept), (lent_of (replicate 1040 0), (lent_of (replicate 6163 0), (lent_of (replicate 18 0), (lent_of (replicate 1027 0), (lent_of cleared_work, (lent_of cleared_work, (lent_of cleared_work, (lent_of cleared_work, (lent_of cleared_work, (lent_of cleared_work, (lent_of cleared_work, (lent_of cleared_work, (lent_of cleared_work, (lent_of cleared_work, tt)))))))))))))))))))));
+            (r, (i, (lent_mut K'.set, (lent_mut (flat block_bytes K'.kept), (lent_mut (flat words_of K'.kept), (lent_mut (flat numbers_of K'.kept), (lent_mut (flat sums_of K'.kept), (lent_mut (replicate 1040 0), (lent_mut (replicate 6163 0), (lent_mut (replicate 18 0), (lent_mut (replicate 1027 0), (lent_mut cleared_work, (lent_mut cleared_work, (lent_mut cleared_work, (lent_mut cleared_work, (lent_mut cleared_work, (lent_mut cleared_work, (lent_mut cleared_work, (lent_mut cleared_work, (lent_mut cleared_work, (lent_mut cleared_work, tt)))))))))))))))))))));
         lent_marks = e;
         left = f;
         promised = (
@@ -251,7 +252,7 @@ module _ (r : Run) (i : ℕ) (K : Marks) (k : MarksShaped K) where
         lifetimes = ([], ([], ([], ([], ([], ([], ([], ([], ([], ([], ([], ([], ([], ([], ([], ([], ([], ([], ([], tt)))))))))))))))))));
         refs = mark_refs K;
         exit =
-            (r, (i, (lent_of K.set, (lent_of (flat block_bytes K.kept), (lent_of (flat words_of K.kept), (lent_of (flat numbers_of K.kept), (lent_of (flat sums_of K.kept), (lent_of (replicate 1040 0), (lent_of (replicate 6163 0), (lent_of (replicate 18 0), (lent_of (replicate 1027 0), (lent_of cleared_work, (lent_of cleared_work, (lent_of cleared_work, (lent_of cleared_work, (lent_of cleared_work, (lent_of cleared_work, (lent_of cleared_work, (lent_of cleared_work, (lent_of cleared_work, (lent_of cleared_work, tt)))))))))))))))))))));
+            (r, (i, (lent_of K.set, (lent_of (flat block_bytes K.kept), (lent_of (flat words_of K.kept), (lent_of (flat numbers_of K.kept), (lent_of (flat sums_of K.kept), (lent_mut (replicate 1040 0), (lent_mut (replicate 6163 0), (lent_mut (replicate 18 0), (lent_mut (replicate 1027 0), (lent_mut cleared_work, (lent_mut cleared_work, (lent_mut cleared_work, (lent_mut cleared_work, (lent_mut cleared_work, (lent_mut cleared_work, (lent_mut cleared_work, (lent_mut cleared_work, (lent_mut cleared_work, (lent_mut cleared_work, tt)))))))))))))))))))));
         lent_marks = e;
         promised = (
           marking_values_lem (try_at (back_checks m i) 0) ∙ ap (λ (x : Marks). back_values (marked_by r x) i) (sym e),

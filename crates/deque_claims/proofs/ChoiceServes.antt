@@ -6,6 +6,7 @@ use mathlib.Core.List.{List, [], ◌∷◌}
 use lib.ListN.{length, get_or, replicate}
 use contract.Lifetimes.{Lfts}
 use denote.Ref.{Bor}
+use denote.MutBor.{MutBor}
 use denote.Triple.Clauses.{AtExit}
 use borrow.Fn.Kinds.{ended_of}
 use Rattle.schedule.specs.declared.Beginning.TheVariants.{Begun as started}
@@ -25,7 +26,7 @@ use Rattle.wivakkol_deques.proofs.ChoiceRows.{choice_zero}
 use Rattle.wivakkol_deques.proofs.limit.wivakkol_deque_limit_on.Kinds as limit_kinds
 use Rattle.wivakkol_deques.proofs.limit.wivakkol_deque_limit_on.Reads as limit_promise
 use Rattle.claims.specs.LentCalls.{table_that_runs, Returned}
-use Rattle.claims.proofs.LentSays.{BeginSays, lent_of}
+use Rattle.claims.proofs.LentSays.{BeginSays, lent_of, lent_mut}
 use Rattle.deque_claims.specs.LentDequeCalls.{LentDequeCall}
 use Rattle.deque_claims.specs.DequeAnswersOf.{DequeAnswer}
 use Rattle.deque_claims.proofs.ByValue as by_value
@@ -57,14 +58,14 @@ lent_code_choices_serve s p K c x e {out} {filled} {a} h i {l} {answers} {row} {
 pub record LimitSays (s : List ℕ) (p K c room number : ℕ) (row : List ℕ) : Type 0 where
   pub lifetimes : Lfts 9
   pub table : Bor (List ℕ)
-  pub before : Bor (List ℕ)
-  pub rises : Bor (List ℕ)
-  pub falls : Bor (List ℕ)
-  pub serials : Bor (List ℕ)
-  pub depths : Bor (List ℕ)
-  pub peaks : Bor (List ℕ)
-  pub rows : Bor (List ℕ)
-  pub buffer : Bor (List ℕ)
+  pub before : MutBor (List ℕ)
+  pub rises : MutBor (List ℕ)
+  pub falls : MutBor (List ℕ)
+  pub serials : MutBor (List ℕ)
+  pub depths : MutBor (List ℕ)
+  pub peaks : MutBor (List ℕ)
+  pub rows : MutBor (List ℕ)
+  pub buffer : MutBor (List ℕ)
   pub lent : table.now ≡ s
   pub lent_room : length buffer.now ≡ room
   pub exit : AtExit (ended_of 9 limit_kinds.ps limit_kinds.r) lifetimes
@@ -81,22 +82,22 @@ limit_row_lem {s} {p} {K} {c} h = sym h.left ∙ h.promised.1.0 ∙ (λ i. choic
 pub limit_says : (s out : List ℕ) (p K c : ℕ)
     → LimitSays s p K c (length out) (choice_number (choice_limits_in s p K c (length out))) (choice_row (choice_limits_in s p K c (length out)))
 limit_says s out p K c =
-    let zeros : ℕ → Bor (List ℕ) = λ n. lent_of (replicate n 0) in
-    let row : Bor (List ℕ) = lent_of (choice_row (choice_limits_in s p K c (length out))) in
+    let zeros : ℕ → MutBor (List ℕ) = λ n. lent_mut (replicate n 0) in
+    let row : MutBor (List ℕ) = lent_mut (choice_row (choice_limits_in s p K c (length out))) in
     record {
       lifetimes = ([], ([], ([], ([], ([], ([], ([], ([], ([], tt)))))))));
       table = lent_of s;
-      before = lent_of [];
-      rises = lent_of [];
-      falls = lent_of [];
-      serials = lent_of [];
-      depths = lent_of [];
-      peaks = lent_of [];
-      rows = lent_of [];
-      buffer = lent_of out;
+      before = lent_mut [];
+      rises = lent_mut [];
+      falls = lent_mut [];
+      serials = lent_mut [];
+      depths = lent_mut [];
+      peaks = lent_mut [];
+      rows = lent_mut [];
+      buffer = lent_mut out;
       lent = refl;
       lent_room = refl;
-      exit = (lent_of s, (p, (K, (c, (row, (zeros 1024, (zeros 1024, (zeros 1024, (zeros 1024, (zeros 17408, (zeros 17408, (lent_of (choice_limits_into s p K c out), tt))))))))))));
+      exit = (lent_of s, (p, (K, (c, (row, (zeros 1024, (zeros 1024, (zeros 1024, (zeros 1024, (zeros 17408, (zeros 17408, (lent_mut (choice_limits_into s p K c out), tt))))))))))));
       left = refl;
       promised = (refl, (refl, (refl, (refl, refl, refl, refl, refl, refl))));
     }

@@ -5,13 +5,14 @@ use Prim.Native.Nat.{ℕ}
 use mathlib.Core.List.{List, []}
 use contract.Lifetimes.{Lfts}
 use denote.Ref.{Bor}
+use denote.MutBor.{as_bor}
 use denote.Triple.Clauses.{AtExit}
 use borrow.Fn.Kinds.{ended_of}
 use Rattle.array_machine.specs.Arrays.{arrays}
 use Rattle.run_memory.specs.Memory.{Memory, memory, Answer, answer}
 use Rattle.run_memory.specs.Blocks.{memory_of}
 use Rattle.claims.proofs.Shaped.{Shaped, byte_block, words_of, numbers_of, sums_of, in_blocks_lem}
-use Rattle.claims.proofs.LentSays.{Refs, lent_in, Work, Blocks, blocks_in, lent_of, refs_of, cleared, work_of, blocks_of, whole}
+use Rattle.claims.proofs.LentSays.{Refs, lent_in, Work, Blocks, blocks_in, lent_of, lent_mut, refs_of, cleared, work_of, blocks_of, whole}
 use Rattle.wivakkol_deques.specs.DequeLent.{lent_deque_turn, lent_deque_list, lent_deque_open}
 use Rattle.wivakkol_deque_turn.proofs.wivakkol_deque_turn_on.Kinds as turn_kinds
 use Rattle.wivakkol_deque_turn.proofs.wivakkol_deque_turn_on.Reads as turn_promise
@@ -53,7 +54,7 @@ pub record OpenSays (s : List ℕ) (M : Memory) (a : Answer) : Type 0 where
   pub lent_table : refs.table.now ≡ s
   pub lent_run : lent_in refs ≡ M
   pub left : answer a.number exit.1.1.1.1.1.1.1.1.1.1.1.1.1.1.1.0.now (memory refs.settings.now exit.1.1.0.now (arrays refs.next.now refs.status.now refs.amounts.now refs.left.now refs.right.now refs.under.now refs.over.now) refs.holds.now refs.threads.now refs.quotas.now refs.heads.now refs.totals.now) ≡ a
-  pub promised : open_promise.Learnt lifetimes (refs.table, (refs.settings, (refs.parents, (refs.next, (refs.status, (refs.amounts, (refs.left, (refs.right, (refs.under, (refs.over, (refs.holds, (refs.threads, (refs.quotas, (refs.heads, (refs.totals, (refs.row, (work.rises, (work.falls, (work.forks, (work.seen, (work.list, tt))))))))))))))))))))) a.number exit
+  pub promised : open_promise.Learnt lifetimes (refs.table, (as_bor refs.settings, (refs.parents, (as_bor refs.next, (as_bor refs.status, (as_bor refs.amounts, (as_bor refs.left, (as_bor refs.right, (as_bor refs.under, (as_bor refs.over, (as_bor refs.holds, (as_bor refs.threads, (as_bor refs.quotas, (as_bor refs.heads, (as_bor refs.totals, (refs.row, (work.rises, (work.falls, (work.forks, (work.seen, (work.list, tt))))))))))))))))))))) a.number exit
 
 pub turn_is : {s : List ℕ} {w c : ℕ} {M : Memory} {a : Answer} → TurnSays s w c M a → a ≡ lent_deque_turn s w c M
 turn_is {s} {w} {c} {M} h = sym h.left ∙ h.promised ∙ ap₂ (λ (t : List ℕ) (x : Memory). lent_deque_turn t w c x) h.lent_table h.lent_run
@@ -74,7 +75,7 @@ turn_says s w c M h k =
       lifetimes = ([], ([], ([], ([], ([], ([], tt))))));
       refs = blocks_of s M;
       exit =
-          (lent_of s, (w, (c, (lent_of (byte_block a.memory), (lent_of (words_of a.memory), (lent_of (numbers_of a.memory), (lent_of (sums_of a.memory), (lent_of a.row, tt))))))));
+          (lent_of s, (w, (c, (lent_mut (byte_block a.memory), (lent_mut (words_of a.memory), (lent_mut (numbers_of a.memory), (lent_mut (sums_of a.memory), (lent_mut a.row, tt))))))));
       lent_table = refl;
       lent_run = in_blocks_lem M h;
       left = e;
@@ -91,7 +92,7 @@ list_says s l M h k =
       order = lent_of l;
       lent_order = refl;
       exit =
-          (lent_of s, (lent_of l, (lent_of (byte_block a.memory), (lent_of (words_of a.memory), (lent_of (numbers_of a.memory), (lent_of (sums_of a.memory), (lent_of a.row, tt)))))));
+          (lent_of s, (lent_of l, (lent_mut (byte_block a.memory), (lent_mut (words_of a.memory), (lent_mut (numbers_of a.memory), (lent_mut (sums_of a.memory), (lent_mut a.row, tt)))))));
       lent_table = refl;
       lent_run = in_blocks_lem M h;
       left = e;
@@ -108,4 +109,4 @@ pub open_says : (s : List ℕ) (M : Memory) → OpenSays s M (lent_deque_open s 
 open_says s M =
     let a : Answer = lent_deque_open s M in
     let e = open_parts s M in
-    record { lifetimes = ([], ([], ([], ([], ([], ([], ([], ([], ([], ([], ([], ([], ([], ([], ([], ([], ([], ([], ([], ([], ([], tt))))))))))))))))))))); refs = refs_of s M; work = work_of; exit = (lent_of s, (lent_of M.settings, (lent_of a.memory.parents, (lent_of M.arrays.next, (lent_of M.arrays.status, (lent_of M.arrays.amounts, (lent_of M.arrays.left, (lent_of M.arrays.right, (lent_of M.arrays.under, (lent_of M.arrays.over, (lent_of M.holds, (lent_of M.threads, (lent_of M.quotas, (lent_of M.heads, (lent_of M.totals, (lent_of a.row, (lent_of cleared, (lent_of cleared, (lent_of cleared, (lent_of cleared, (lent_of cleared, tt))))))))))))))))))))); lent_table = refl; lent_run = refl; left = e; promised = (e, ((refl, refl), (refl, refl, refl))) }
+    record { lifetimes = ([], ([], ([], ([], ([], ([], ([], ([], ([], ([], ([], ([], ([], ([], ([], ([], ([], ([], ([], ([], ([], tt))))))))))))))))))))); refs = refs_of s M; work = work_of; exit = (lent_of s, (lent_of M.settings, (lent_mut a.memory.parents, (lent_of M.arrays.next, (lent_of M.arrays.status, (lent_of M.arrays.amounts, (lent_of M.arrays.left, (lent_of M.arrays.right, (lent_of M.arrays.under, (lent_of M.arrays.over, (lent_of M.holds, (lent_of M.threads, (lent_of M.quotas, (lent_of M.heads, (lent_of M.totals, (lent_mut a.row, (lent_mut cleared, (lent_mut cleared, (lent_mut cleared, (lent_mut cleared, (lent_mut cleared, tt))))))))))))))))))))); lent_table = refl; lent_run = refl; left = e; promised = (e, ((refl, refl), (refl, refl, refl))) }

@@ -6,6 +6,7 @@ use Prim.Native.Nat.{ℕ}
 use mathlib.Core.List.{List, [], ◌∷◌, ◌++◌}
 use contract.Lifetimes.{Lfts}
 use denote.Ref.{Bor}
+use denote.MutBor.{MutBor}
 use denote.Triple.Clauses.{AtExit}
 use borrow.Fn.Kinds.{ended_of}
 use lib.ListN.{length}
@@ -18,7 +19,7 @@ use Rattle.wivakkol.specs.Lent.{lent_begin}
 use Rattle.claims.specs.LentCalls.{moving, opening, table_that_runs, lent_move, lent_call}
 use Rattle.claims.proofs.Shaped.{Shaped, byte_block, words_of, numbers_of, sums_of, in_blocks_lem}
 use Rattle.claims.proofs.Sizes.{begin_shaped, call_shaped}
-use Rattle.claims.proofs.LentSays.{BeginSays, OpenSays, begin_is, open_is, lent_of, begin_says, open_says}
+use Rattle.claims.proofs.LentSays.{BeginSays, OpenSays, begin_is, open_is, lent_of, lent_mut, begin_says, open_says}
 use Rattle.claims.proofs.FromC.{runs_so}
 use Rattle.pace.specs.Pace.{Paced, paced, start_pace}
 use Rattle.wivakkol_pace.specs.Paced.{Kept, kept, paced_turn}
@@ -40,7 +41,7 @@ use Rattle.wivakkol_pace.proofs.runs.wivakkol_paced_rounds_on.Reads as rounds_pr
 -- `wivakkol_pace_begin_on`, lent numbers l, answered k
 pub record PaceSays (p b : ℕ) (l : List ℕ) (k : Paced) : Type 0 where
   pub lifetimes : Lfts 1
-  pub pace : Bor (List ℕ)
+  pub pace : MutBor (List ℕ)
   pub exit : AtExit (ended_of 1 pace_kinds.ps pace_kinds.r) lifetimes
   pub lent_pace : pace.now ≡ l
   pub left : paced k.number exit.1.1.0.now ≡ k
@@ -49,12 +50,12 @@ pub record PaceSays (p b : ℕ) (l : List ℕ) (k : Paced) : Type 0 where
 -- references to all that is lent to a paced call
 pub record PacedRefs : Type 0 where
   pub table : Bor (List ℕ)
-  pub bytes : Bor (List ℕ)
-  pub words : Bor (List ℕ)
-  pub numbers : Bor (List ℕ)
-  pub sums : Bor (List ℕ)
-  pub pace : Bor (List ℕ)
-  pub row : Bor (List ℕ)
+  pub bytes : MutBor (List ℕ)
+  pub words : MutBor (List ℕ)
+  pub numbers : MutBor (List ℕ)
+  pub sums : MutBor (List ℕ)
+  pub pace : MutBor (List ℕ)
+  pub row : MutBor (List ℕ)
 
 abbrev blocks_in : PacedRefs → Memory
 blocks_in refs = memory_of refs.bytes.now refs.words.now refs.numbers.now refs.sums.now
@@ -133,10 +134,10 @@ paced_history_is {s} (next {M} {P} {c} {k} {l} {row} {z} h t) =
 -- ---- a history exists
 
 pace_says : (p b : ℕ) (l : List ℕ) → PaceSays p b l (start_pace p b l)
-pace_says p b l = record { lifetimes = ([], tt); pace = lent_of l; exit = (p, (b, (lent_of (start_pace p b l).pace, tt))); lent_pace = refl; left = refl; promised = refl }
+pace_says p b l = record { lifetimes = ([], tt); pace = lent_mut l; exit = (p, (b, (lent_mut (start_pace p b l).pace, tt))); lent_pace = refl; left = refl; promised = refl }
 
 abbrev refs_of : List ℕ → Memory → List ℕ → PacedRefs
-refs_of s M P = record { table = lent_of s; bytes = lent_of (byte_block M); words = lent_of (words_of M); numbers = lent_of (numbers_of M); sums = lent_of (sums_of M); pace = lent_of P; row = lent_of [] }
+refs_of s M P = record { table = lent_of s; bytes = lent_mut (byte_block M); words = lent_mut (words_of M); numbers = lent_mut (numbers_of M); sums = lent_mut (sums_of M); pace = lent_mut P; row = lent_mut [] }
 
 -- an answer is what stands in the blocks of its memory
 whole : (k : Kept) → Shaped k.answer.memory
@@ -152,7 +153,7 @@ module _ (s : List ℕ) (M : Memory) (P : List ℕ) (h : Shaped M) where
       record {
         lifetimes = ([], ([], ([], ([], ([], ([], ([], tt)))))));
         refs = refs_of s M P;
-        exit = (lent_of s, (w, (lent_of (byte_block N), (lent_of (words_of N), (lent_of (numbers_of N), (lent_of (sums_of N), (lent_of k.pace, (lent_of k.answer.row, tt))))))));
+        exit = (lent_of s, (w, (lent_mut (byte_block N), (lent_mut (words_of N), (lent_mut (numbers_of N), (lent_mut (sums_of N), (lent_mut k.pace, (lent_mut k.answer.row, tt))))))));
         lent_table = refl;
         lent_run = in_blocks_lem M h;
         lent_pace = refl;
@@ -169,7 +170,7 @@ module _ (s : List ℕ) (M : Memory) (P : List ℕ) (h : Shaped M) where
         refs = refs_of s M P;
         order = lent_of l;
         lent_order = refl;
-        exit = (lent_of s, (lent_of l, (lent_of (byte_block N), (lent_of (words_of N), (lent_of (numbers_of N), (lent_of (sums_of N), (lent_of k.pace, (lent_of k.answer.row, tt))))))));
+        exit = (lent_of s, (lent_of l, (lent_mut (byte_block N), (lent_mut (words_of N), (lent_mut (numbers_of N), (lent_mut (sums_of N), (lent_mut k.pace, (lent_mut k.answer.row, tt))))))));
         lent_table = refl;
         lent_run = in_blocks_lem M h;
         lent_pace = refl;
@@ -184,7 +185,7 @@ module _ (s : List ℕ) (M : Memory) (P : List ℕ) (h : Shaped M) where
       record {
         lifetimes = ([], ([], ([], ([], ([], ([], ([], tt)))))));
         refs = refs_of s M P;
-        exit = (lent_of s, (limit, (lent_of (byte_block N), (lent_of (words_of N), (lent_of (numbers_of N), (lent_of (sums_of N), (lent_of k.pace, (lent_of k.answer.row, tt))))))));
+        exit = (lent_of s, (limit, (lent_mut (byte_block N), (lent_mut (words_of N), (lent_mut (numbers_of N), (lent_mut (sums_of N), (lent_mut k.pace, (lent_mut k.answer.row, tt))))))));
         lent_table = refl;
         lent_run = in_blocks_lem M h;
         lent_pace = refl;
