@@ -11,5 +11,5 @@ use Rattle.lines.proofs.put_answer.Goals as goal
 pub returns : goal.returns
 returns c =
     let t = c.table_line-k in
-    let whole : take t.result _ ≡ line_of c.args.answer = ap (take t.result) t.ensures.1.0 ∙ take_at _ _ t.result (sym t.ensures.0) in
-    puts_within (omega (arith, t.ensures.0, t.ensures.1.1.1)) (puts_word _ (rw whole at c.put_word.ensures))
+    let whole : take t.result _ ≡ line_of c.args.answer = ap (take t.result) t.ensures.out_after ∙ take_at _ _ t.result (sym t.ensures.value) in
+    puts_within (omega (arith, t.ensures.value, t.ensures.upper_bound)) (puts_word _ (rw whole at c.put_word.ensures))

@@ -45,6 +45,5 @@ returns-in-5 c = rw c.in-5.is (puts_within (omega arith) (puts_word (kind_word j
 pub returns-in_default : goal.returns-in_default
 unfolding kind_word kind_of
 returns-in_default c =
-    let d = c.in_default.in_default-own.rest in
-    let k : 6 ≤ c.args.code = omega (arith, d.1, d.0.1, d.0.0.1, d.0.0.0.1, d.0.0.0.0.1, d.0.0.0.0.0.1) in
+    let k : 6 ≤ c.args.code = omega arith in
     rw (kind_unknown_lem c.args.code k) (puts_within (omega arith) (puts_word (kind_word unknown) c.put_word-in_default.ensures))
