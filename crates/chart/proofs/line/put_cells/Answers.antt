@@ -12,7 +12,6 @@ use Rattle.schedule.specs.declared.Worker.{Worker}
 use Rattle.schedule.specs.Machine.{nobody}
 use Rattle.chart.specs.Chart.{cell_of, cells_from, cell_texts, cells_texts}
 use Rattle.chart.proofs.line.put_cells.Invariants.{Inv, cells_after}
-use Rattle.chart.proofs.line.put_cells.Goals.{Start}
 use Rattle.chart.proofs.line.put_cells.Goals as goal
 
 module _ {p : ℕ} {workers : List Worker} {out₀ : List ℕ} {at₀ : ℕ} {out : List ℕ} {at w : ℕ} (sixteen : length workers ≡ 16) (v : Inv p workers out₀ at₀ out at w) where
@@ -36,9 +35,6 @@ module _ {p : ℕ} {workers : List Worker} {out₀ : List ℕ} {at₀ : ℕ} {ou
             ∙ v.rest);
       }
 
-sixteen_in : (s : Start → length s.args.t4 ≡ 16
-sixteen_in s = search rules
-
 pub loop-w-init : goal.loop-w-init
 loop-w-init c = record { within = omega arith; long = refl; rest = refl }
 
@@ -56,10 +52,10 @@ loop-w-smaller c = omega arith
 
 pub loop-w-preserved : goal.loop-w-preserved
 loop-w-preserved c =
-    again (sixteen_in (goal.at.loop-w-preserved c).Start) c.loop-w.invariant c.loop-w-test.true (omega (arith, c.out-1.given)) c.put_cell-at.ensures
+    again (search rules) c.loop-w.invariant c.loop-w-test.true (omega arith) c.put_cell-at.ensures
 
 pub shape_of-out : goal.shape_of-out
 shape_of-out c = omega arith
 
 pub returns : goal.returns
-returns c = all (sixteen_in (goal.at.returns c).Start) c.loop-w.invariant c.loop-w-test.false
+returns c = all (search rules) c.loop-w.invariant c.loop-w-test.false

@@ -38,7 +38,7 @@ module _ (n k : ℕ) (o : List ℕ) (h : n < 2 ^ 64) (e : buffer_at o k ≡ plac
 bounded : (c : After-put_number-k) → c.args.n < 2 ^ 64
 bounded c = omega (arith, c.well_formed)
 
-fits : (c : After-put_number-k) → c.put_number-k.result ≤ length c.put_number-k.new.0
+fits : (c : After-put_number-k) → c.put_number-k.result ≤ length c.put_number-k.new.out
 fits c = within c.args.n _ _ (bounded c) c.put_number-k.ensures
 
 pub slice_bounds-put_word-end : goal.slice_bounds-put_word-end
@@ -53,4 +53,4 @@ slice_bounds-put_word-end-2 c =
 
 pub returns : goal.returns
 returns c =
-    aligned c.args.n _ _ (bounded (goal.at.returns c).After-put_number-k) c.put_number-k.ensures c.args.out.now c.args.at c.args.width c.room-pad.result c.pre c.room-pad.ensures c.put_word-at.ensures c.put_word.ensures
+    aligned c.args.n _ _ (bounded (goal.at.returns c).After-put_number-k) c.put_number-k.ensures c.args.out.now c.args.at c.args.width c.room-pad.result c.requires c.room-pad.ensures c.put_word-at.ensures c.put_word.ensures
