@@ -1,9 +1,8 @@
 use mathlib.Core.Path.{◌≡◌, refl, ◌∙◌}
-use Prim.Native.Nat.{ℕ, ◌+◌, ◌-◌, ◌≤◌, ◌<◌}
+use Prim.Native.Nat.{ℕ, ◌+◌, ◌≤◌, ◌<◌}
 use mathlib.Core.List.{List}
 use native.Mathlib.Numerals.{add-one}
 use native.Mathlib.Omega.{arith}
-use borrow.Author.Rules.{rules}
 use Rattle.table.specs.Sum.{sum_to}
 use Rattle.table.specs.Format.{Table, table_of}
 use Rattle.table.specs.Checks.{owner}
@@ -76,7 +75,7 @@ overflow_add-first c = omega (arith, c.loop-k.invariant.few, c.loop-k-test.true)
 
 pub step-total-requires : goal.step-total-requires
 step-total-requires c = let i = c.loop-k.invariant in
-     let rest = asks c.args.table.now _ _ _ c.args.sums.now _ _ _ _ i c.loop-k-test.true in record { ready = i.ready; a_bound = rest.0; sums = rest.1 }
+    let rest = asks c.args.table.now _ _ _ c.args.sums.now _ _ _ _ i c.loop-k-test.true in record { ready = i.ready; a_bound = rest.0; sums = rest.1 }
 
 pub overflow_add-total : goal.overflow_add-total
 overflow_add-total c =
