@@ -1,10 +1,5 @@
 use mathlib.Core.Path.{◌∙◌}
-use Prim.Native.Nat.{◌-◌}
-use mathlib.Core.Logic.{⊎_elim}
-use borrow.Author.Rules.{rules}
-use Rattle.schedule.specs.Links.{no_thread}
-use Rattle.schedule.specs.Actives.{no_links, filled_from}
-use Rattle.links.proofs.Filling.{FilledTo, filled_start, filled_out_lem, filled_over, filled_past, filled_with_lem}
+use Rattle.links.proofs.Filling.{filled_start, filled_out_lem, filled_over, filled_past, filled_with_lem}
 use Rattle.links.proofs.fill_actives.Goals.{then-status-t-ne-WAITING, else-status-t-ne-WAITING}
 use Rattle.links.proofs.fill_actives.Goals as goal
 
@@ -15,7 +10,7 @@ loop-passed-init c =
 pub loop-passed-preserved : goal.loop-passed-preserved
 loop-passed-preserved c =
     elim c.if-status-t-ne-WAITING.branch [
-      then-status-t-ne-WAITING w ↦ filled_with_lem c.loop-passed.invariant c.loop-passed-test.true c.if-t-ge-NO_THREAD.false w.if-status-t-ne-WAITING.true ((λ i. record { left = w.under-is i; right = w.over-is i; head = w.first-is i }) ∙ w.link_last-first.ensures) w.last-is
+      | then-status-t-ne-WAITING w ↦ filled_with_lem c.loop-passed.invariant c.loop-passed-test.true c.if-t-ge-NO_THREAD.false w.if-status-t-ne-WAITING.true ((λ i. record { left = w.under-is i; right = w.over-is i; head = w.first-is i }) ∙ w.link_last-first.ensures) w.last-is
       | else-status-t-ne-WAITING w ↦ filled_past c.loop-passed.invariant c.loop-passed-test.true c.if-t-ge-NO_THREAD.false w.if-status-t-ne-WAITING.false (λ i. record { left = w.under-is i; right = w.over-is i; head = w.first-is i }) w.last-is
     ]
 
