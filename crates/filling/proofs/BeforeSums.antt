@@ -1,6 +1,6 @@
 -- What stands before an action in serial order, without serial order: after an action it is more by that action and, at a fork, by the child's whole thread; at a child's first action it is
 -- what it was after the fork itself. So roots are found without recursion: the sums of whole threads downward, then upward where the roots of each thread begin.
-use Prim.Native.Nat.{ℕ, zero, suc, ◌+◌, ◌-◌, ◌<◌}
+use Prim.Native.Nat.{ℕ, zero, suc, ◌+◌, ◌<◌}
 use native.Mathlib.Omega.{arith}
 use mathlib.Core.Path.{◌≡◌, refl, ap, ◌∙◌}
 use mathlib.Core.List.Memᴰ

@@ -1,5 +1,5 @@
 -- The filled-out table, as bytes: it passes every check (fill-rules), its counts (fill-counts) and size (fill-size, room-enough), when 44 is silent (room-exactly), and that nothing big leaves the table as given (in_place).
-use Prim.Native.Nat.{ℕ, zero, suc, ◌+◌, ◌-◌, ◌*◌, ◌≤◌, ◌<◌}
+use Prim.Native.Nat.{ℕ, zero, suc, ◌+◌, ◌*◌, ◌≤◌, ◌<◌}
 use native.Mathlib.Omega.{arith}
 use mathlib.Core.Path.{◌≡◌, refl, ◌∙◌}
 use mathlib.Core.List.{List, flatten}

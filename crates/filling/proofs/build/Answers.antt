@@ -1,6 +1,5 @@
 -- `filling::build` meets its contract.
 use Rattle.filling.proofs.Measured.{ready_total}
-use borrow.Author.Rules.{rules}
 use Rattle.filling.proofs.build.Goals as goal
 
 pub fill_sizes-requires : goal.fill_sizes-requires

@@ -4,7 +4,6 @@ use Prim.Native.Nat.{ℕ}
 use mathlib.Core.List.{List}
 use Rattle.table.specs.Format.{threads_of, table_of}
 use Rattle.filling.proofs.Measured.{untouched, too_little, build_ready, built}
-use borrow.Author.Rules.{rules}
 use Rattle.filling.proofs.fill_in.Goals as goal
 
 threads_is : (s : List ℕ) (n : ℕ) → n ≡ threads_of s → n ≡ (table_of s).threads

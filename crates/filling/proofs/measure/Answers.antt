@@ -5,7 +5,6 @@ use mathlib.Core.List.{List}
 use native.Mathlib.Omega.{arith}
 use Rattle.table.specs.Format.{threads_of, table_of}
 use Rattle.filling.proofs.Measured.{refused_table, refused_quota, refused_full, total_few, in_place_filling, whole_filling}
-use borrow.Author.Rules.{rules}
 use Rattle.filling.proofs.measure.Goals as goal
 
 threads_is : (s : List ℕ) (x n : ℕ) → x ≡ n → n ≡ threads_of s → x ≡ (table_of s).threads

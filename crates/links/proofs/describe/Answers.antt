@@ -1,14 +1,12 @@
 -- `links::describe` meets its contract: the links laid are those of the row, and 1,024 long as the given ones are; the leftmost thread is compared last.
 use mathlib.Core.Path.{◌≡◌, ap, sym, ◌∙◌}
-use mathlib.Core.Bool.{Bool, true, false, not}
+use mathlib.Core.Bool.{Bool, true, false}
 use mathlib.Core.List.{List}
 use Prim.Native.Nat.{ℕ}
 use lib.ListN.{length}
 use native.Mathlib.Omega.{arith}
 use lib.Dec.{eqb}
-use borrow.Author.Rules.{rules}
-use borrow.Author.Tests.{not-true, not-false}
-use Rattle.schedule.specs.Links.{no_thread, Links}
+use Rattle.schedule.specs.Links.{Links}
 use Rattle.schedule.specs.Sound.{same_links}
 use Rattle.order.specs.Words.{same_list}
 use Rattle.order.proofs.Lists.{firsts_length}

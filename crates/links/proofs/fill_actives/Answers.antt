@@ -1,10 +1,5 @@
 use mathlib.Core.Path.{◌∙◌}
-use Prim.Native.Nat.{◌-◌}
-use mathlib.Core.Logic.{⊎_elim}
-use borrow.Author.Rules.{rules}
-use Rattle.schedule.specs.Links.{no_thread}
-use Rattle.schedule.specs.Actives.{no_links, filled_from}
-use Rattle.links.proofs.Filling.{FilledTo, filled_start, filled_out_lem, filled_over, filled_past, filled_with_lem}
+use Rattle.links.proofs.Filling.{filled_start, filled_out_lem, filled_over, filled_past, filled_with_lem}
 use Rattle.links.proofs.fill_actives.Goals.{then-status-t-ne-WAITING, else-status-t-ne-WAITING}
 use Rattle.links.proofs.fill_actives.Goals as goal
 

@@ -1,11 +1,8 @@
 -- `links::fill_actives` meets its contract. The invariant: the whole filling is what the filling from t on makes of the links so far.
-use mathlib.Core.Path.{◌∙◌}
 use Prim.Native.Nat.{◌-◌}
-use mathlib.Core.Logic.{⊎_elim}
-use borrow.Author.Rules.{rules}
 use Rattle.schedule.specs.Links.{no_thread}
 use Rattle.schedule.specs.Actives.{no_links, filled_from}
-use Rattle.links.proofs.Filling.{FilledTo, filled_start, filled_out_lem, filled_over, filled_past, filled_with_lem}
+use Rattle.links.proofs.Filling.{FilledTo}
 use Rattle.links.proofs.fill_actives.Given as goal
 
 abbrev pub invariant-loop-passed : goal.invariant-loop-passed

@@ -1,6 +1,5 @@
 use native.Mathlib.Omega.{arith}
-use borrow.Author.Rules.{rules}
-use Rattle.links.proofs.Laying.{LaidFrom, laid_start, laid_on, laid_done}
+use Rattle.links.proofs.Laying.{laid_start, laid_on, laid_done}
 use Rattle.links.proofs.lay_threads.Goals as goal
 
 pub loop-i-init : goal.loop-i-init

@@ -1,7 +1,5 @@
 -- `links::lay_threads` meets its contract. The invariant: the links are those of the row from place i on.
-use native.Mathlib.Omega.{arith}
-use borrow.Author.Rules.{rules}
-use Rattle.links.proofs.Laying.{LaidFrom, laid_start, laid_on, laid_done}
+use Rattle.links.proofs.Laying.{LaidFrom}
 use Rattle.links.proofs.lay_threads.Given as goal
 
 abbrev pub invariant-loop-i : goal.invariant-loop-i

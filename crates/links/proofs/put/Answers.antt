@@ -1,7 +1,6 @@
 -- `links::put` meets its contract: past the end of a row a write does nothing.
 use mathlib.Core.Path.{sym}
 use lib.Seq.{set_out}
-use borrow.Author.Rules.{rules}
 use Rattle.links.proofs.put.Goals as goal
 
 pub returns-else-place-links : goal.returns-else-place-links

@@ -1,7 +1,4 @@
-use Prim.Native.Nat.{◌-◌}
-use lib.ListN.{length}
-use borrow.Author.Rules.{rules}
-use Rattle.links.proofs.Comparing.{SameTo, same_start, same_on, same_not, same_all}
+use Rattle.links.proofs.Comparing.{same_start, same_on, same_not, same_all}
 use Rattle.links.proofs.same.Goals as goal
 
 pub loop-i-init : goal.loop-i-init

@@ -1,8 +1,7 @@
 -- `links::same` meets its contract. The invariant: whether the rests from place i on are the same is whether the rows are.
 use Prim.Native.Nat.{◌-◌}
 use lib.ListN.{length}
-use borrow.Author.Rules.{rules}
-use Rattle.links.proofs.Comparing.{SameTo, same_start, same_on, same_not, same_all}
+use Rattle.links.proofs.Comparing.{SameTo}
 use Rattle.links.proofs.same.Given as goal
 
 abbrev pub invariant-loop-i : goal.invariant-loop-i

@@ -1,7 +1,6 @@
 -- `links::thread_at` meets its contract: what a row has at a place stands first in its rest from there on.
 use mathlib.Core.Path.{sym, ap}
 use lib.ListN.{drop_of_length-le}
-use borrow.Author.Rules.{rules}
 use Rattle.schedule.specs.Links.{head_of}
 use Rattle.links.proofs.Laying.{first_there}
 use Rattle.links.proofs.thread_at.Goals as goal

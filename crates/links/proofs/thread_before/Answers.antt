@@ -1,5 +1,4 @@
 -- `links::thread_before` meets its contract, by the two cases of the test.
-use borrow.Author.Rules.{rules}
 use Rattle.links.proofs.Laying.{left_first, left_there_lem}
 use Rattle.links.proofs.thread_before.Goals as goal
 

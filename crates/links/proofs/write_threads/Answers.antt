@@ -1,7 +1,4 @@
-use Prim.Native.Nat.{◌-◌}
-use lib.ListN.{length}
-use borrow.Author.Rules.{rules}
-use Rattle.links.proofs.Reading.{Written, written_start, written_on, written_out, written_over}
+use Rattle.links.proofs.Reading.{written_start, written_on, written_out, written_over}
 use Rattle.links.proofs.write_threads.Goals as goal
 
 pub loop-k-init : goal.loop-k-init

@@ -1,8 +1,7 @@
 -- `links::write_threads` meets its contract. The invariant: the k threads written and those from t on are the whole list, and past them the row is as it was.
 use Prim.Native.Nat.{◌-◌}
 use lib.ListN.{length}
-use borrow.Author.Rules.{rules}
-use Rattle.links.proofs.Reading.{Written, written_start, written_on, written_out, written_over}
+use Rattle.links.proofs.Reading.{Written}
 use Rattle.links.proofs.write_threads.Given as goal
 
 abbrev pub invariant-loop-k : goal.invariant-loop-k

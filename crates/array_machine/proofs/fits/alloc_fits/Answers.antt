@@ -1,6 +1,5 @@
 -- `array_machine::fits::alloc_fits` meets its contract: the tests in their order.
 use Rattle.links.proofs.Comparing.{both, neither}
-use borrow.Author.Rules.{rules}
 use Rattle.array_machine.proofs.fits.alloc_fits.Goals as goal
 
 pub returns-then-sum_fits : goal.returns-then-sum_fits

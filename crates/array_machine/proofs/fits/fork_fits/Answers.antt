@@ -1,7 +1,6 @@
 -- `array_machine::fits::fork_fits` meets its contract: the tests in their order.
 use mathlib.Core.Path.{refl}
 use Rattle.links.proofs.Comparing.{both, neither}
-use borrow.Author.Rules.{rules}
 use Rattle.array_machine.proofs.fits.fork_fits.Goals as goal
 
 pub returns-then-next_fits : goal.returns-then-next_fits

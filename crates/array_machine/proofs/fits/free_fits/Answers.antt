@@ -2,7 +2,6 @@
 use mathlib.Core.Path.{refl}
 use borrow.Author.Tests.{le-leb, lt-leb}
 use Rattle.links.proofs.Comparing.{both, neither}
-use borrow.Author.Rules.{rules}
 use Rattle.array_machine.proofs.fits.free_fits.Goals as goal
 
 pub returns-then-x-held : goal.returns-then-x-held

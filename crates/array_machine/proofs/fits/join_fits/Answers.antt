@@ -1,6 +1,5 @@
 -- `array_machine::fits::join_fits` meets its contract: the tests in their order.
 use Rattle.links.proofs.Comparing.{both, neither}
-use borrow.Author.Rules.{rules}
 use Rattle.array_machine.proofs.fits.join_fits.Goals as goal
 
 pub returns-then-next_fits : goal.returns-then-next_fits

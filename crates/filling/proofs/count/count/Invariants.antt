@@ -1,24 +1,10 @@
 -- `filling::count::count` meets its contract. The invariant: threads and actions are those that the allocs below a make, and what is found from action a on is what is found in all.
-use mathlib.Core.Path.{◌≡◌, refl, sym, ◌∙◌}
-use Prim.Native.Nat.{ℕ, suc, ◌+◌, ◌-◌, ◌*◌, ◌/◌, ◌≤◌, ◌<◌}
+use mathlib.Core.Path.{◌≡◌}
+use Prim.Native.Nat.{ℕ, ◌-◌, ◌≤◌, ◌<◌}
 use mathlib.Core.List.{List, [], ◌∷◌}
-use mathlib.Core.Bool.{Bool, true, false, ◌&&◌, ◌||◌}
-use native.Mathlib.Numerals.{add-one}
-use native.Mathlib.Omega.{arith}
-use lib.Dec.{ltb}
-use borrow.Author.Rules.{rules}
-use borrow.Author.Tests.{ltb-false}
-use Rattle.table.specs.Sum.{pick, sum_to, Read}
-use Rattle.table.specs.Format.{Table, threads_of, actions_of, table_of}
-use Rattle.table.specs.Checks.{alloc_of}
-use Rattle.table.specs.Pass.{Check, refusal, try_at, try_from, try_pass}
-use Rattle.table.specs.declared.Found.{Found}
-use Rattle.table.specs.declared.Found.TheVariants.{Nothing, At}
-use Rattle.table.proofs.Tests.{or_neither}
-use Rattle.table.proofs.Trying.{try_from_next, try_from_here, try_from_last, try_from_all}
-use Rattle.filling.specs.declared.Total.{Total}
-use Rattle.filling.specs.Filled.{big, dummies, new_threads, new_actions, threads_to, actions_to, overfull, fill_pass}
-use Rattle.filling.specs.Filling.{total_of}
+use Rattle.table.specs.Format.{Table, table_of}
+use Rattle.table.specs.Pass.{Check, try_from, try_pass}
+use Rattle.filling.specs.Filled.{threads_to, actions_to, overfull, fill_pass}
 use Rattle.filling.proofs.count.count.Given as goal
 
 abbrev pub checks : Table → ℕ → List Check

@@ -3,7 +3,6 @@ use mathlib.Core.Path.{◌≡◌, refl}
 use Prim.Native.Nat.{ℕ, ◌+◌, ◌-◌, ◌/◌, ◌<◌}
 use native.Mathlib.Nat.{div-zero, div-lt_iff_lt-mul, mul-le-mul_left}
 use native.Mathlib.Omega.{arith}
-use borrow.Author.Rules.{rules}
 use Rattle.filling.proofs.count.dummies_of.Goals as goal
 
 by_none : (x K : ℕ) → K ≡ 0 → 0 ≡ (x + K - 1) / K

@@ -10,7 +10,6 @@ use Rattle.table.proofs.Parts.{rest_part}
 use Rattle.filling.specs.declared.Answer.{Answer}
 use Rattle.filling.specs.declared.Answer.TheVariants.{Refused}
 use Rattle.filling.specs.Filling.{answer_of, whole_into, answer_to, answered_in}
-use borrow.Author.Rules.{rules}
 use Rattle.filling.proofs.input.fill_input.Goals as goal
 
 short : (input out : List ℕ) → length input < 3 → (Refused (refusal 33 0) ≡ answer_to input) × (out ≡ answered_in input out)

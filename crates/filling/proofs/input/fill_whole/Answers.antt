@@ -2,7 +2,6 @@
 use mathlib.Core.Path.{refl}
 use native.Mathlib.Omega.{arith}
 use Rattle.filling.proofs.Measured.{whole_refused, whole_filled, whole_in_place}
-use borrow.Author.Rules.{rules}
 use Rattle.filling.proofs.input.fill_whole.Goals as goal
 
 pub returns-in-At : goal.returns-in-At

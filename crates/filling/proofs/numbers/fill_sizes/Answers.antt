@@ -1,12 +1,12 @@
 use mathlib.Core.Path.{◌≡◌}
-use Prim.Native.Nat.{ℕ, ◌+◌, ◌-◌, ◌*◌, ◌≤◌, ◌<◌}
+use Prim.Native.Nat.{ℕ, ◌+◌, ◌*◌, ◌≤◌, ◌<◌}
 use mathlib.Core.List.{List}
 use native.Mathlib.Omega.{arith}
 use lib.ListN.{get_or}
 use Rattle.table.specs.Format.{table_of}
 use Rattle.filling.specs.Filled.{half, threads_to}
 use Rattle.filling.specs.Code.Steps.{Ready, Sums, RootsTo, Sizes, split_at}
-use Rattle.filling.proofs.Numbering.{Children, size_right, size_small, children_in, split_next, sizes_all}
+use Rattle.filling.proofs.Numbering.{size_right, size_small, children_in, split_next, sizes_all}
 use Rattle.filling.proofs.numbers.fill_sizes.Invariants.{Inv}
 use Rattle.filling.proofs.numbers.fill_sizes.Goals as goal
 

@@ -1,13 +1,11 @@
 -- `filling::numbers::fill_sizes` meets its contract. The invariant: the sizes of the children of the new threads below c are there, and with the roots' they are all that is needed.
 use mathlib.Core.Path.{◌≡◌}
-use Prim.Native.Nat.{ℕ, ◌+◌, ◌-◌, ◌*◌, ◌≤◌, ◌<◌}
+use Prim.Native.Nat.{ℕ, ◌-◌, ◌≤◌}
 use mathlib.Core.List.{List}
-use native.Mathlib.Omega.{arith}
-use lib.ListN.{get_or}
 use Rattle.table.specs.Format.{table_of}
-use Rattle.filling.specs.Filled.{half, threads_to}
-use Rattle.filling.specs.Code.Steps.{Ready, Sums, RootsTo, Sizes, split_at}
-use Rattle.filling.proofs.Numbering.{Children, size_right, size_small, children_in, split_next, sizes_all}
+use Rattle.filling.specs.Filled.{threads_to}
+use Rattle.filling.specs.Code.Steps.{Ready}
+use Rattle.filling.proofs.Numbering.{Children}
 use Rattle.filling.proofs.numbers.fill_sizes.Given as goal
 
 pub record Inv (s : List ℕ) (n K total : ℕ) (sums : List ℕ) (c : ℕ) : Type 0 where

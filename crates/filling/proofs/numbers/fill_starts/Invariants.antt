@@ -1,16 +1,9 @@
 -- `filling::numbers::fill_starts` meets its contract. The invariant: the starts of the threads forked below a, the sizes at the roots of the big allocs below a, and the place of a.
 use mathlib.Core.Path.{◌≡◌}
-use Prim.Native.Nat.{ℕ, ◌+◌, ◌-◌, ◌≤◌, ◌<◌}
+use Prim.Native.Nat.{ℕ, ◌-◌, ◌≤◌, ◌<◌}
 use mathlib.Core.List.{List}
-use mathlib.Core.Bool.{true}
-use native.Mathlib.Omega.{arith}
-use borrow.Author.Rules.{rules}
-use lib.ListN.{length, set}
-use Rattle.table.specs.Sum.{pick, Read}
-use Rattle.table.specs.Format.{fork, is, Table, table_of, actions_of, kind}
-use Rattle.filling.specs.Filled.{big, dummies}
+use Rattle.table.specs.Format.{table_of}
 use Rattle.filling.specs.Code.Steps.{Ready, Sums, RootsTo, Starts, At}
-use Rattle.filling.proofs.Numbering.{starts_root, at_first, child_in, big_root, starts_next, sized_next}
 use Rattle.filling.proofs.numbers.fill_starts.Given as goal
 
 pub record Inv (s : List ℕ) (n K m : ℕ) (sums starts : List ℕ) (thread root a : ℕ) : Type 0 where

@@ -1,13 +1,8 @@
 -- `filling::numbers::fill_sums` meets its contract. The invariant: the array has the sums of the threads from t on.
-use mathlib.Core.Path.{◌≡◌, ◌∙◌}
-use Prim.Native.Nat.{ℕ, ◌+◌, ◌-◌, ◌≤◌, ◌<◌}
+use Prim.Native.Nat.{ℕ, ◌≤◌}
 use mathlib.Core.List.{List}
-use native.Mathlib.Omega.{arith}
-use native.Mathlib.Decide.{ℕ_discrete}
-use lib.ListN.{length, get_or, set, length-set}
-use lib.Seq.{get_or-set_same, get_or-set_other}
 use Rattle.table.specs.Format.{table_of}
-use Rattle.filling.specs.Code.Steps.{Ready, new_of, Sums}
+use Rattle.filling.specs.Code.Steps.{Ready, Sums}
 use Rattle.filling.proofs.Numbering.{l}
 use Rattle.filling.proofs.numbers.fill_sums.Given as goal
 

@@ -10,7 +10,6 @@ use Rattle.table.specs.Sum.{pick}
 use Rattle.table.specs.Format.{Table, table_of}
 use Rattle.table.specs.Checks.{alloc_of}
 use Rattle.filling.specs.Filled.{big, dummies}
-use borrow.Author.Rules.{rules}
 use Rattle.filling.proofs.numbers.note_size.Goals as goal
 
 module _ (T : Table) (K a x : ℕ) (e : x ≡ alloc_of T a) where

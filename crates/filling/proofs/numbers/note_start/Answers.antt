@@ -1,13 +1,12 @@
 -- `filling::numbers::note_start` meets its contract.
 use mathlib.Core.Path.{◌≡◌}
-use Prim.Native.Nat.{ℕ, ◌-◌, ◌<◌}
+use Prim.Native.Nat.{ℕ, ◌<◌}
 use mathlib.Core.List.{List}
 use mathlib.Core.Bool.{true, false}
 use lib.ListN.{set}
 use Rattle.table.specs.Sum.{pick}
 use Rattle.table.specs.Format.{fork, is, Table, table_of, kind}
 use Rattle.filling.proofs.Reading.{code_read, argument_read, fork_code, is_fork, not_fork}
-use borrow.Author.Rules.{rules}
 use Rattle.filling.proofs.numbers.note_start.Goals as goal
 
 module _ (T : Table) (a k : ℕ) (starts : List ℕ) (root : ℕ) (e : k ≡ T.code a) where

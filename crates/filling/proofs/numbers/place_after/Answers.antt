@@ -1,5 +1,5 @@
 -- `filling::numbers::place_after` meets its contract. In the same thread the root goes on; after an end it is the next thread's start.
-use Prim.Native.Nat.{ℕ, ◌+◌, ◌-◌, ◌≤◌, ◌<◌}
+use Prim.Native.Nat.{ℕ, ◌+◌, ◌≤◌, ◌<◌}
 use mathlib.Core.List.{List}
 use native.Mathlib.Omega.{arith}
 use Rattle.table.specs.Format.{table_of}
@@ -8,7 +8,6 @@ use Rattle.filling.specs.Code.Steps.{Ready, At, Sums, Starts}
 use Rattle.filling.proofs.Reading.{code_read, end_code, not_end}
 use Rattle.filling.proofs.Numbering.{sums_from, root_between, at_next, at_last, at_thread, l}
 use Rattle.table.proofs.Bodies.{owner_below_lem}
-use borrow.Author.Rules.{rules}
 use Rattle.filling.proofs.numbers.place_after.Goals as goal
 
 module _ (s : List ℕ) (n K a thread root : ℕ) (sums starts : List ℕ)

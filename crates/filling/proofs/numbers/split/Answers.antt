@@ -7,7 +7,6 @@ use native.Mathlib.Omega.{arith}
 use lib.ListN.{set}
 use borrow.Author.Tests.{le-leb, lt-leb}
 use Rattle.filling.specs.Code.Steps.{split_at}
-use borrow.Author.Rules.{rules}
 use Rattle.filling.proofs.numbers.split.Goals as goal
 
 none : (l : List ℕ) (c d : ℕ) → d ≤ 1 → l ≡ split_at c d l

@@ -12,7 +12,6 @@ use Rattle.filling.specs.Filled.{big, dummies, new_threads}
 use Rattle.filling.specs.Code.Steps.{Ready, new_of, root_step, Sums}
 use Rattle.filling.proofs.Reading.{code_read, argument_read, fork_code, not_fork}
 use Rattle.filling.proofs.Numbering.{step_fork, step_plain, child_in, new_small, new_few}
-use borrow.Author.Rules.{rules}
 use Rattle.filling.proofs.numbers.step.Goals as goal
 
 module _ (s : List ℕ) (n K a : ℕ) (sums : List ℕ) (p : Ready s n K × ((a < (table_of s).actions) × Sums (table_of s) K sums (owner (table_of s) a + 1))) (k : ℕ) (e : k ≡ (table_of s).code a) where

@@ -1,19 +1,12 @@
 -- `filling::numbers::thread_sum` meets its contract. The invariant: what is counted is what the actions before k lead to.
-use mathlib.Core.Path.{◌≡◌, refl, ◌∙◌}
+use mathlib.Core.Path.{◌≡◌}
 use Prim.Native.Nat.{ℕ, ◌+◌, ◌-◌, ◌≤◌, ◌<◌}
 use mathlib.Core.List.{List}
-use native.Mathlib.Numerals.{add-one}
-use native.Mathlib.Omega.{arith}
-use borrow.Author.Rules.{rules}
-use Rattle.table.specs.Sum.{sum_to}
-use Rattle.table.specs.Format.{Table, table_of}
-use Rattle.table.specs.Checks.{owner}
-use Rattle.table.proofs.Bodies.{body_within, owner_is}
-use Rattle.table.proofs.Amounts.{fork_part, fork_part_whole}
-use Rattle.table.proofs.Sums.{sum_to_part}
+use Rattle.table.specs.Format.{table_of}
+use Rattle.table.proofs.Amounts.{fork_part}
 use Rattle.filling.specs.Filled.{new_threads}
-use Rattle.filling.specs.Code.Steps.{Ready, new_of, root_step, Sums}
-use Rattle.filling.proofs.Numbering.{l, new_small}
+use Rattle.filling.specs.Code.Steps.{Ready, Sums}
+use Rattle.filling.proofs.Numbering.{l}
 use Rattle.filling.proofs.numbers.thread_sum.Given as goal
 
 pub record Inv (s : List ℕ) (n K t : ℕ) (sums : List ℕ) (first count total k : ℕ) : Type 0 where

@@ -13,7 +13,6 @@ use Rattle.filling.specs.Code.Steps.{Ready}
 use Rattle.table.proofs.Bodies.{body_within}
 use Rattle.filling.proofs.Numbering.{l}
 use Rattle.filling.proofs.FilledRows.{front_length, body_own, body_short}
-use borrow.Author.Rules.{rules}
 use Rattle.filling.proofs.puts.body_count.Invariants.{Inv}
 use Rattle.filling.proofs.puts.body_count.Goals as goal
 

@@ -1,20 +1,12 @@
 -- `filling::puts::body_count` meets its contract. The invariant: what is counted and what is left from action k on are the whole body.
 use mathlib.Core.Path.{◌≡◌}
-use Prim.Native.Nat.{ℕ, suc, ◌+◌, ◌-◌, ◌≤◌, ◌<◌}
+use Prim.Native.Nat.{ℕ, ◌+◌, ◌-◌, ◌≤◌, ◌<◌}
 use mathlib.Core.List.{List}
-use mathlib.Core.Bool.{Bool, true, false}
-use native.Mathlib.Omega.{arith}
 use lib.ListN.{length}
-use lib.Dec.{ltb}
-use Rattle.table.specs.Sum.{pick, Read}
 use Rattle.table.specs.Format.{table_of}
-use Rattle.table.specs.Checks.{alloc_of}
 use Rattle.filling.specs.Filled.{filled_from, filled_body}
 use Rattle.filling.specs.Code.Steps.{Ready}
-use Rattle.table.proofs.Bodies.{body_within}
 use Rattle.filling.proofs.Numbering.{l}
-use Rattle.filling.proofs.FilledRows.{front_length, body_own, body_short}
-use borrow.Author.Rules.{rules}
 use Rattle.filling.proofs.puts.body_count.Given as goal
 
 pub record Inv (s : List ℕ) (n K t first count total k : ℕ) : Type 0 where

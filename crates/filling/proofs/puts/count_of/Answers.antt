@@ -1,6 +1,6 @@
 -- `filling::puts::count_of` meets its contract.
 use mathlib.Core.Path.{◌≡◌, sym, ◌∙◌}
-use Prim.Native.Nat.{ℕ, ◌-◌, ◌≤◌, ◌<◌}
+use Prim.Native.Nat.{ℕ, ◌≤◌, ◌<◌}
 use mathlib.Core.List.{List, []}
 use native.Mathlib.Omega.{arith}
 use lib.ListN.{length, get_or}
@@ -11,7 +11,6 @@ use Rattle.filling.specs.Filled.{filled_body, filled_bodies, threads_to}
 use Rattle.filling.specs.Code.Steps.{Ready, Sizes, size_at}
 use borrow.Author.Tests.{le-leb, lt-leb}
 use Rattle.filling.proofs.FilledRows.{body_own, body_new, tree_length_is}
-use borrow.Author.Rules.{rules}
 use Rattle.filling.proofs.puts.count_of.Goals as goal
 
 module _ (s : List ℕ) (n K c : ℕ) (sums : List ℕ) (p : Ready s n K × ((c < threads_to (table_of s) K (table_of s).actions) × Sizes (table_of s) K sums)) where

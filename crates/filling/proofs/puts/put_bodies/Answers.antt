@@ -5,7 +5,7 @@ use native.Mathlib.Omega.{arith}
 use lib.ListN.{length}
 use Rattle.text.specs.Text.{buffer_at}
 use Rattle.text.specs.Puts.{put_all}
-use Rattle.rows.proofs.Rest.{Rest, rest_all, rest_rows}
+use Rattle.rows.proofs.Rest.{rest_all, rest_rows}
 use Rattle.table.specs.Sum.{Read}
 use Rattle.table.specs.Format.{table_of, actions_of}
 use Rattle.table.specs.Written.{action_at, action_rows}
@@ -13,7 +13,6 @@ use Rattle.filling.specs.Filled.{in_front, filled_from}
 use Rattle.filling.specs.Code.Steps.{Ready, Sums, Starts, At}
 use Rattle.filling.proofs.Numbering.{at_first}
 use Rattle.filling.proofs.FilledRows.{left_from, left_none}
-use borrow.Author.Rules.{rules}
 use Rattle.filling.proofs.puts.put_bodies.Invariants.{Inv}
 use Rattle.filling.proofs.puts.put_bodies.Goals as goal
 

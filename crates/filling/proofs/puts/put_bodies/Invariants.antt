@@ -1,20 +1,12 @@
 -- `filling::puts::put_bodies` meets its contract. The invariant: the actions from a on are what is left, and the place is that of a.
 use mathlib.Core.Path.{◌≡◌}
-use Prim.Native.Nat.{ℕ, ◌+◌, ◌-◌, ◌≤◌, ◌<◌}
-use mathlib.Core.List.{List, [], ◌∷◌, ◌++◌}
-use native.Mathlib.Omega.{arith}
-use lib.ListN.{length}
-use Rattle.text.specs.Text.{buffer_at}
-use Rattle.text.specs.Puts.{put_all}
-use Rattle.rows.proofs.Rest.{Rest, rest_all, rest_rows}
-use Rattle.table.specs.Sum.{Read}
-use Rattle.table.specs.Format.{table_of, actions_of}
-use Rattle.table.specs.Written.{action_at, action_rows}
-use Rattle.filling.specs.Filled.{in_front, filled_from}
+use Prim.Native.Nat.{ℕ, ◌-◌, ◌≤◌, ◌<◌}
+use mathlib.Core.List.{List}
+use Rattle.rows.proofs.Rest.{Rest}
+use Rattle.table.specs.Format.{table_of}
+use Rattle.table.specs.Written.{action_rows}
+use Rattle.filling.specs.Filled.{filled_from}
 use Rattle.filling.specs.Code.Steps.{Ready, Sums, Starts, At}
-use Rattle.filling.proofs.Numbering.{at_first}
-use Rattle.filling.proofs.FilledRows.{left_from, left_none}
-use borrow.Author.Rules.{rules}
 use Rattle.filling.proofs.puts.put_bodies.Given as goal
 
 pub record Inv (s : List ℕ) (n K : ℕ) (sums starts : List ℕ) (m : ℕ) (out₀ : List ℕ) (at₀ : ℕ) (out : List ℕ) (at thread root a : ℕ) : Type 0 where

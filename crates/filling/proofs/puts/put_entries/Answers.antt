@@ -1,18 +1,17 @@
 use mathlib.Core.Path.{◌≡◌}
-use Prim.Native.Nat.{ℕ, ◌+◌, ◌-◌, ◌≤◌, ◌<◌}
-use mathlib.Core.List.{List, [], flatten}
+use Prim.Native.Nat.{ℕ, ◌+◌, ◌≤◌, ◌<◌}
+use mathlib.Core.List.{List, []}
 use native.Mathlib.Omega.{arith}
-use lib.ListN.{length, get_or, drop}
+use lib.ListN.{length, get_or}
 use Rattle.text.specs.Text.{buffer_at, placed}
 use Rattle.text.specs.Puts.{put_all}
 use Rattle.rows.specs.Rows.{cut_pair}
-use Rattle.rows.proofs.Rest.{Rest, rest_all, rest_row}
+use Rattle.rows.proofs.Rest.{rest_all, rest_row}
 use Rattle.table.specs.Sum.{Read}
 use Rattle.table.specs.Format.{table_of}
 use Rattle.table.specs.Written.{entry_rows}
-use Rattle.filling.specs.Filled.{filled_bodies, threads_to, actions_to}
+use Rattle.filling.specs.Filled.{filled_bodies, threads_to}
 use Rattle.filling.specs.Code.Steps.{Ready, Sizes}
-use borrow.Author.Rules.{rules}
 use Rattle.filling.proofs.FilledRows.{count_actions, entries_from, entries_none, entries_length}
 use Rattle.filling.proofs.puts.put_entries.Invariants.{Inv}
 use Rattle.filling.proofs.puts.put_entries.Goals as goal

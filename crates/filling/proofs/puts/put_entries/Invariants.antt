@@ -1,20 +1,13 @@
 -- `filling::puts::put_entries` meets its contract. The invariant: the entries of the threads from c on are what is left, and their first action is the next.
 use mathlib.Core.Path.{◌≡◌}
-use Prim.Native.Nat.{ℕ, ◌+◌, ◌-◌, ◌≤◌, ◌<◌}
-use mathlib.Core.List.{List, [], flatten}
-use native.Mathlib.Omega.{arith}
-use lib.ListN.{length, get_or, drop}
-use Rattle.text.specs.Text.{buffer_at, placed}
-use Rattle.text.specs.Puts.{put_all}
-use Rattle.rows.specs.Rows.{cut_pair}
-use Rattle.rows.proofs.Rest.{Rest, rest_all, rest_row}
-use Rattle.table.specs.Sum.{Read}
+use Prim.Native.Nat.{ℕ, ◌+◌, ◌-◌, ◌≤◌}
+use mathlib.Core.List.{List, flatten}
+use lib.ListN.{length, drop}
+use Rattle.rows.proofs.Rest.{Rest}
 use Rattle.table.specs.Format.{table_of}
 use Rattle.table.specs.Written.{entry_rows}
 use Rattle.filling.specs.Filled.{filled_bodies, threads_to, actions_to}
 use Rattle.filling.specs.Code.Steps.{Ready, Sizes}
-use borrow.Author.Rules.{rules}
-use Rattle.filling.proofs.FilledRows.{count_actions, entries_from, entries_none, entries_length}
 use Rattle.filling.proofs.puts.put_entries.Given as goal
 
 pub record Inv (s : List ℕ) (n K total : ℕ) (sums out₀ : List ℕ) (at₀ : ℕ) (out : List ℕ) (at first c : ℕ) : Type 0 where

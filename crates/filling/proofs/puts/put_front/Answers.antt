@@ -1,13 +1,12 @@
 -- `filling::puts::put_front` meets its contract.
 use mathlib.Core.Path.{◌≡◌, ap, ◌∙◌}
-use Prim.Native.Nat.{ℕ, ◌-◌, ◌≤◌, ◌<◌}
+use Prim.Native.Nat.{ℕ, ◌≤◌, ◌<◌}
 use mathlib.Core.List.{List}
 use Rattle.text.specs.Text.{Buffer, buffer_at, placed, placed_next}
 use Rattle.text.specs.Puts.{put_all}
 use Rattle.rows.specs.Rows.{cut_action}
 use Rattle.filling.specs.Code.Steps.{front_rows}
 use borrow.Author.Tests.{le-ltb, lt-ltb}
-use borrow.Author.Rules.{rules}
 use Rattle.filling.proofs.puts.put_front.Goals as goal
 
 none : (K x root : ℕ) (b : Buffer) → x ≤ K → b ≡ put_all b (front_rows K x root)

@@ -1,6 +1,6 @@
 -- `filling::puts::put_step` meets its contract.
 use mathlib.Core.Path.{◌≡◌}
-use Prim.Native.Nat.{ℕ, ◌+◌, ◌-◌, ◌<◌}
+use Prim.Native.Nat.{ℕ, ◌<◌}
 use mathlib.Core.List.{List, [], ◌∷◌, ◌++◌}
 use Rattle.text.specs.Text.{buffer_at, placed}
 use Rattle.text.specs.Puts.{put_all}
@@ -12,7 +12,6 @@ use Rattle.filling.specs.Filled.{root_of, in_front}
 use Rattle.filling.specs.Code.Steps.{Ready, front_rows}
 use Rattle.filling.proofs.Reading.{code_read, argument_read}
 use Rattle.filling.proofs.FilledRows.{put_rows, step_rows}
-use borrow.Author.Rules.{rules}
 use Rattle.filling.proofs.puts.put_step.Goals as goal
 
 module _ (s : List ℕ) (n K a root : ℕ) (p : Ready s n K × ((a < (table_of s).actions) × (root ≡ root_of (table_of s) K a))) where

@@ -1,6 +1,6 @@
 -- `filling::puts::put_table` meets its contract.
 use mathlib.Core.Path.{◌≡◌}
-use Prim.Native.Nat.{ℕ, ◌+◌, ◌-◌}
+use Prim.Native.Nat.{ℕ}
 use mathlib.Core.List.{List, [], ◌∷◌, ◌++◌, flatten}
 use Rattle.text.specs.Text.{buffer_at, placed}
 use Rattle.text.specs.Puts.{put_all}
@@ -11,7 +11,6 @@ use Rattle.table.specs.Written.{Action, entry_rows, action_rows, table_rows}
 use Rattle.filling.specs.Filled.{filled_from, trees_along, filled_bodies, threads_to, actions_to}
 use Rattle.filling.specs.Code.Steps.{Ready}
 use Rattle.filling.proofs.FilledRows.{put_rows, whole_rows}
-use borrow.Author.Rules.{rules}
 use Rattle.filling.proofs.puts.put_table.Goals as goal
 
 whole : (s : List ℕ) (n K total actions : ℕ) → Ready s n K → total ≡ threads_to (table_of s) K (table_of s).actions → actions ≡ actions_to (table_of s) K (table_of s).actions

@@ -1,6 +1,6 @@
 -- `filling::puts::put_tree` meets its contract.
 use mathlib.Core.Path.{◌≡◌, refl, ap, ◌∙◌}
-use Prim.Native.Nat.{ℕ, ◌+◌, ◌-◌, ◌*◌, ◌/◌, ◌≤◌, ◌<◌}
+use Prim.Native.Nat.{ℕ, ◌+◌, ◌*◌, ◌/◌, ◌≤◌, ◌<◌}
 use mathlib.Core.List.{List}
 use Rattle.text.specs.Text.{Buffer, buffer_at, placed, placed_next}
 use Rattle.text.specs.Puts.{put_all}
@@ -8,7 +8,6 @@ use Rattle.rows.specs.Rows.{cut_action}
 use Rattle.table.specs.Written.{action_rows}
 use Rattle.filling.specs.TreeSizes.{tree_body}
 use Rattle.filling.proofs.FilledRows.{tree_one_rows, tree_more_rows}
-use borrow.Author.Rules.{rules}
 use Rattle.filling.proofs.puts.put_tree.Goals as goal
 
 one : (c d : ℕ) → d ≤ 1 → (o o' q : List ℕ) (at r j : ℕ) → buffer_at o' r ≡ placed o at (cut_action 1 0) → buffer_at q j ≡ placed o' r (cut_action 0 0)

@@ -2,10 +2,10 @@ use mathlib.Core.Path.{◌≡◌}
 use Prim.Native.Nat.{ℕ, ◌+◌, ◌-◌, ◌≤◌, ◌<◌}
 use mathlib.Core.List.{List, flatten}
 use native.Mathlib.Omega.{arith}
-use lib.ListN.{length, get_or, drop}
+use lib.ListN.{length, get_or}
 use Rattle.text.specs.Text.{buffer_at}
 use Rattle.text.specs.Puts.{put_all}
-use Rattle.rows.proofs.Rest.{Rest, rest_all, rest_rows}
+use Rattle.rows.proofs.Rest.{rest_all, rest_rows}
 use Rattle.table.specs.Format.{table_of}
 use Rattle.table.specs.Serial.{serial_order}
 use Rattle.table.specs.Written.{action_rows}

@@ -1,20 +1,14 @@
 -- `filling::puts::put_trees` meets its contract. The invariant: the bodies of the threads from c on are what is left.
 use mathlib.Core.Path.{◌≡◌}
-use Prim.Native.Nat.{ℕ, ◌+◌, ◌-◌, ◌≤◌, ◌<◌}
+use Prim.Native.Nat.{ℕ, ◌-◌, ◌≤◌}
 use mathlib.Core.List.{List, flatten}
-use native.Mathlib.Omega.{arith}
-use lib.ListN.{length, get_or, drop}
-use Rattle.text.specs.Text.{buffer_at}
-use Rattle.text.specs.Puts.{put_all}
-use Rattle.rows.proofs.Rest.{Rest, rest_all, rest_rows}
+use lib.ListN.{drop}
+use Rattle.rows.proofs.Rest.{Rest}
 use Rattle.table.specs.Format.{table_of}
 use Rattle.table.specs.Serial.{serial_order}
 use Rattle.table.specs.Written.{action_rows}
 use Rattle.filling.specs.Filled.{trees_along, threads_to}
-use Rattle.filling.specs.TreeSizes.{tree_body}
-use Rattle.filling.specs.Code.Steps.{Ready, Sizes, size_at}
-use Rattle.filling.proofs.Numbering.{size_small}
-use Rattle.filling.proofs.FilledRows.{trees_from, trees_none}
+use Rattle.filling.specs.Code.Steps.{Ready, Sizes}
 use Rattle.filling.proofs.puts.put_trees.Given as goal
 
 pub record Inv (s : List ℕ) (n K total : ℕ) (sums out₀ : List ℕ) (at₀ : ℕ) (out : List ℕ) (at c : ℕ) : Type 0 where

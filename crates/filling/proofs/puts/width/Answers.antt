@@ -1,5 +1,4 @@
 -- `filling::puts::width` meets its contract.
-use Prim.Native.Nat.{◌-◌}
 use borrow.Author.Tests.{le-ltb, lt-ltb}
 use Rattle.filling.proofs.puts.width.Goals as goal
 
