@@ -72,7 +72,7 @@ module _ (s : List ℕ) (p K : ℕ) (b : Begun) (e : b ≡ begin s p K) where
       go (At y) e = let z : started ≡ Refused y = sym d ∙ ap (λ (y : Begun). y.answer) e in no_way cc
 
 pub returns-in-Refused : goal.returns-in-Refused
-returns-in-Refused c = let a = c.args in let both = rw (← deque_begin_values) (begun_answers (refused a.bytes.now a.p a.quota c.begin-begun.result c.begin-begun.ensures.value _ c.in-Refused.is)) in record { value = both.0; answer_value = both.1 }
+returns-in-Refused c = let a = c.args in let both = (begun_answers (refused a.bytes.now a.p a.quota c.begin-begun.result c.begin-begun.ensures.value _ c.in-Refused.is)) in record { value = both.0; answer_value = rw (← deque_begin_values) both.1 }
 
 pub returns : goal.returns
-returns c = let a = c.args in let both = rw (← deque_begin_values) (begun_answers (begun a.bytes.now a.p a.quota c.begin-begun.result c.begin-begun.ensures.value c.in_default.is)) in record { value = both.0; answer_value = both.1 }
+returns c = let a = c.args in let both = (begun_answers (begun a.bytes.now a.p a.quota c.begin-begun.result c.begin-begun.ensures.value c.in_default.is)) in record { value = both.0; answer_value = rw (← deque_begin_values) both.1 }

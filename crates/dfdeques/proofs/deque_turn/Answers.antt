@@ -17,7 +17,7 @@ passed : (c : Else-not-tested) → unsound_deques c.args.run ≡ false
 passed c = deque_passes _ c.deque_test-tested.ensures (ap not c.if-not-tested.false)
 
 pub returns-then-not-tested : goal.returns-then-not-tested
-returns-then-not-tested c = let both = rw (← deque_turn_values_lem) (turned_answers (c.refused.ensures ∙ turn_unsound _ _ _ (deque_fails _ c.deque_test-tested.ensures (ap not c.if-not-tested.true)))) in record { value = both.0; answer_value = both.1 }
+returns-then-not-tested c = let both = (turned_answers (c.refused.ensures ∙ turn_unsound _ _ _ (deque_fails _ c.deque_test-tested.ensures (ap not c.if-not-tested.true)))) in record { value = both.0; answer_value = rw (← deque_turn_values_lem) both.1 }
 
 pub slice_bounds-table-end : goal.slice_bounds-table-end
 slice_bounds-table-end c = deque_inside _ (passed (goal.at.slice_bounds-table-end c).Else-not-tested)
@@ -30,11 +30,9 @@ pub overflow_cast-spoken : goal.overflow_cast-spoken
 overflow_cast-spoken c = omega (arith, told_small _ _ _ _ c.deque_turn_in-spoken.ensures)
 
 pub returns-then-spoken-ne0 : goal.returns-then-spoken-ne0
-returns-then-spoken-ne0 c = let both = rw (← deque_turn_values_lem)
-    (turned_answers (c.refused-then-spoken-ne0.ensures
-    ∙ deque_stopped _ (passed (goal.at.returns-then-spoken-ne0 c).Else-not-tested) _ (λ h. deque_parents _ c.deque_test-tested.ensures h) c.pack_deques.ensures _ _ c.deque_turn_in-spoken.ensures c.if-spoken-ne0.true)) in record { value = both.0; answer_value = both.1 }
+returns-then-spoken-ne0 c = let both = (turned_answers (c.refused-then-spoken-ne0.ensures
+    ∙ deque_stopped _ (passed (goal.at.returns-then-spoken-ne0 c).Else-not-tested) _ (λ h. deque_parents _ c.deque_test-tested.ensures h) c.pack_deques.ensures _ _ c.deque_turn_in-spoken.ensures c.if-spoken-ne0.true)) in record { value = both.0; answer_value = rw (← deque_turn_values_lem) both.1 }
 
 pub returns : goal.returns
-returns c = let both = rw (← deque_turn_values_lem)
-    (turned_answers (deque_taken _ (passed (goal.at.returns c).Else-not-tested) _ (λ h. deque_parents _ c.deque_test-tested.ensures h) c.pack_deques.ensures _ _ c.deque_turn_in-spoken.ensures c.if-spoken-ne0.false
-    c.unpack_deques-after.ensures)) in record { value = both.0; answer_value = both.1 }
+returns c = let both = (turned_answers (deque_taken _ (passed (goal.at.returns c).Else-not-tested) _ (λ h. deque_parents _ c.deque_test-tested.ensures h) c.pack_deques.ensures _ _ c.deque_turn_in-spoken.ensures c.if-spoken-ne0.false
+    c.unpack_deques-after.ensures)) in record { value = both.0; answer_value = rw (← deque_turn_values_lem) both.1 }

@@ -17,7 +17,7 @@ passed : (c : Else-not-tested) → unsound_deques c.args.run ≡ false
 passed c = deque_passes _ c.deque_test-tested.ensures (ap not c.if-not-tested.false)
 
 pub returns-then-not-tested : goal.returns-then-not-tested
-returns-then-not-tested c = let both = rw (← pairs_values_lem, c.unsound.ensures) (ran_answers (pairs_unsound _ _ (deque_fails _ c.deque_test-tested.ensures (ap not c.if-not-tested.true)))) in record { value = both.0; report_value = both.1 }
+returns-then-not-tested c = let both = (ran_answers (pairs_unsound _ _ (deque_fails _ c.deque_test-tested.ensures (ap not c.if-not-tested.true)))) in record { value = rw c.unsound.ensures both.0; report_value = rw (← pairs_values_lem, c.unsound.ensures) both.1 }
 
 pub slice_bounds-table-end : goal.slice_bounds-table-end
 slice_bounds-table-end c = deque_inside _ (passed (goal.at.slice_bounds-table-end c).Else-not-tested)
@@ -30,6 +30,5 @@ pub overflow_cast-stop : goal.overflow_cast-stop
 overflow_cast-stop c = omega (arith, pairs_small _ _ _ c.deque_list_in-stop.ensures)
 
 pub returns : goal.returns
-returns c = let both = rw (← pairs_values_lem)
-    (ran_answers (ran_as c.report_of-report.ensures c.unpack_deques-after.ensures
-    (pairs_taken_lem _ (passed (goal.at.returns c).Else-not-tested) _ (λ h. deque_parents _ c.deque_test-tested.ensures h) c.pack_deques.ensures _ c.deque_list_in-stop.ensures))) in record { value = both.0; report_value = both.1 }
+returns c = let both = (ran_answers (ran_as c.report_of-report.ensures c.unpack_deques-after.ensures
+    (pairs_taken_lem _ (passed (goal.at.returns c).Else-not-tested) _ (λ h. deque_parents _ c.deque_test-tested.ensures h) c.pack_deques.ensures _ c.deque_list_in-stop.ensures))) in record { value = both.0; report_value = rw (← pairs_values_lem) both.1 }

@@ -28,4 +28,4 @@ module _ (s : List ℕ) (long : length s ≡ 80) (x : Bounds) (wide : x.memory <
       (p.0, (p.1, omega (arith, p.0, within)))
 
 pub returns : goal.returns
-returns c = let both = told c.args.out.now (omega (arith, c.put_labelled-arg-1.given)) c.args.x (omega (arith, c.well_formed)) (omega (arith, c.well_formed)) _ _ _ _ _ _ c.put_labelled-at.ensures c.put_labelled-at-2.ensures c.put_word.ensures in record { value = both.0; out_after = both.1.0; upper_bound = both.1.1 }
+returns c = let both = told c.args.out.now (search rules) c.args.x (search rules) (search rules) _ _ _ _ _ _ c.put_labelled-at.ensures c.put_labelled-at-2.ensures c.put_word.ensures in record { value = both.0; out_after = both.1.0; upper_bound = both.1.1 }

@@ -29,6 +29,5 @@ bottoms_laid r parents B N S W e a b c =
 pub returns : goal.returns
 returns c =
     let a = c.args in
-    let l = c.pack.new.1.1 in
-    bottoms_laid a.run a.parents.now (bytes_in l.0) (numbers_in l.1.1.0) (sums_in l.1.1.1.0) (words_in l.1.0)
+    bottoms_laid a.run a.parents.now (bytes_in c.pack.new.bytes) (numbers_in c.pack.new.numbers) (sums_in c.pack.new.sums) (words_in c.pack.new.words)
     c.pack.ensures c.copy_row.ensures c.copy_row-2.ensures c.put_head.ensures

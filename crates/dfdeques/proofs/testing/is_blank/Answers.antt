@@ -15,7 +15,7 @@ use Rattle.deques.specs.DequeRecord.{bottoms_in}
 use Rattle.deques.specs.DequeSound.{is_blank_deques}
 use Rattle.dequetest.specs.DequeTested.{deque_blank_on}
 use Rattle.dequetest.proofs.DequeOnParts.{deque_blank_is}
-use Rattle.dfdeques.proofs.testing.is_blank.Goals.{After-bytes_rest, Start}
+use Rattle.dfdeques.proofs.testing.is_blank.Goals.{After-bytes_rest}
 use Rattle.dfdeques.proofs.testing.is_blank.Goals as goal
 
 module _ (r : DequeRun) where
@@ -32,16 +32,8 @@ module _ (r : DequeRun) where
   no_table : zero_table ≡ false → false ≡ is_blank_deques r
   no_table e = cut _ e ∙ sym (deque_blank_is r)
 
-table_size : (c : Start) → length c.args.run.run.table ≡ 36868
-table_size c = search rules
-
-pub slice_bounds-bytes_rest-end : goal.slice_bounds-bytes_rest-end
-slice_bounds-bytes_rest-end c = sym (table_size (goal.at.slice_bounds-bytes_rest-end c).Start)
-
 zeros : (c : After-bytes_rest) → c.bytes_rest.result ≡ zero_table c.args.run
-zeros c =
-    let c = c in
-    sized c.args.run (table_size c) c.bytes_rest.ensures
+zeros c = sized c.args.run (search rules) c.bytes_rest.ensures
 
 pub returns-then-not-bytes_rest : goal.returns-then-not-bytes_rest
 returns-then-not-bytes_rest c =

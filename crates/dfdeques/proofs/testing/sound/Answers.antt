@@ -18,7 +18,6 @@ use Rattle.deques.specs.DequeRecord.{bottoms_in}
 use Rattle.deques.specs.DequeSound.{deque_sound}
 use Rattle.dequetest.specs.DequeTested.{deque_sound_on}
 use Rattle.dequetest.proofs.DequeOnParts.{deque_sound_is}
-use Rattle.dfdeques.proofs.testing.sound.Goals.{Else-not-copy_sound, Start}
 use Rattle.dfdeques.proofs.testing.sound.Goals as goal
 
 module _ (r : DequeRun) where
@@ -40,21 +39,8 @@ module _ (r : DequeRun) where
       let k : q ≡ deque_sound r = last parts h e ∙ sym (deque_sound_is r) in
       rw (d, k)
 
-table_size : (c : Start) → length c.args.run.run.table ≡ 36868
-table_size c = search rules
-
-bounds : (c : Else-not-copy_sound) → c.args.run.run.length ≤ 36868
-bounds c = c.copy_sound.ensures.length_bound c.if-not-copy_sound.false
-
 pub returns-then-not-copy_sound : goal.returns-then-not-copy_sound
 returns-then-not-copy_sound c = no_copy _ (off c.copy_sound.ensures.value (ap not c.if-not-copy_sound.true))
-
-pub slice_bounds-table-end : goal.slice_bounds-table-end
-slice_bounds-table-end c =
-    omega (arith, bounds (goal.at.slice_bounds-table-end c).Else-not-copy_sound, table_size (goal.at.slice_bounds-table-end c).Start)
-
-pub slice_bounds-bytes-end : goal.slice_bounds-bytes-end
-slice_bounds-bytes-end c = sym (length-take-le _ _ (array_share_prefix_table c))
 
 pub returns : goal.returns
 returns c =

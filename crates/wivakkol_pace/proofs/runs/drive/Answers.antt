@@ -5,7 +5,6 @@ use borrow.Author.Rules.{rules}
 use borrow.Author.Tests.{eqb-false}
 use Rattle.run_memory.specs.Memory.{Memory}
 use Rattle.run_memory.specs.Blocks.{memory_of}
-use Rattle.run_memory.proofs.Endings.{not_done}
 use Rattle.wivakkol_pace.specs.PacedRuns.{paced_worker}
 use Rattle.wivakkol_pace.proofs.PacedDrives.{Along, first_along, stopped_as_lem, spent, root_stops, hindered, undone, goes_on, finished}
 use Rattle.wivakkol_pace.proofs.runs.drive.Goals as goal
@@ -25,15 +24,12 @@ returns-then-spoken-ne0 c =
 pub overflow_add-i : goal.overflow_add-i
 overflow_add-i c = omega (arith, c.loop-i-test.true)
 
-pub enum_known-reply : goal.enum_known-reply
-enum_known-reply c = c.in-Done.in-Done-own.keys1
-
 pub loop-i-smaller-in_default : goal.loop-i-smaller-in_default
 loop-i-smaller-in_default c = omega (arith, c.loop-i-test.true)
 
 pub loop-i-preserved-in_default : goal.loop-i-preserved-in_default
 loop-i-preserved-in_default c =
-    undone c.loop-i.invariant c.loop-i-test.true c.worker_of-w.ensures c.paced_in-spoken.ensures.pace_after c.if-spoken-ne0.false (not_done c.in-Done.in-Done-own.keys2)
+    undone c.loop-i.invariant c.loop-i-test.true c.worker_of-w.ensures c.paced_in-spoken.ensures.pace_after c.if-spoken-ne0.false c.in_default.not-Done
 
 pub returns-then-ends_root : goal.returns-then-ends_root
 returns-then-ends_root c =
