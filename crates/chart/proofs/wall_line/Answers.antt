@@ -3,7 +3,7 @@ use Prim.Native.Nat.{ℕ}
 use native.Mathlib.Omega.{arith}
 use mathlib.Core.Path.{◌≡◌, refl, ap, ◌∙◌}
 use mathlib.Core.List.{List}
-use mathlib.Core.Bool.{false, not}
+use mathlib.Core.Bool.{false}
 use Rattle.schedule.specs.declared.Run.{Run}
 use Rattle.schedule.specs.Turn.{unsound}
 use Rattle.soundness.proofs.Passed.{test_fails, test_passes}
@@ -21,10 +21,10 @@ answers r s o e f = (e, (ap charted_values e ∙ charted_values_lem r, f ∙ ap 
 
 -- the record passed the test
 passed : (c : Else-not-tested) → unsound c.args.run ≡ false
-passed c = test_passes _ c.test-tested.ensures (ap not c.if-not-tested.false)
+passed c = test_passes _ c.test-tested.ensures c.if-not-tested.false
 
 pub returns-then-not-tested : goal.returns-then-not-tested
-returns-then-not-tested c = let a = c.args in let both = answers a.run a.out.now _ (charted_unsound a.run (test_fails a.run c.test-tested.ensures (ap not c.if-not-tested.true))) refl in record { value = both.0; result_value = both.1.0; out_after = both.1.1 }
+returns-then-not-tested c = let a = c.args in let both = answers a.run a.out.now _ (charted_unsound a.run (test_fails a.run c.test-tested.ensures c.if-not-tested.true)) refl in record { value = both.0; result_value = both.1.0; out_after = both.1.1 }
 
 pub returns-then-run-gt-MOST_TURNS : goal.returns-then-run-gt-MOST_TURNS
 returns-then-run-gt-MOST_TURNS c = let a = c.args in

@@ -1,7 +1,6 @@
 -- `lines::put_answer` meets its contract: what the line's buffer has at its front is the line.
 use mathlib.Core.Path.{◌≡◌, sym, ap, ◌∙◌}
 use native.Mathlib.Omega.{arith}
-use borrow.Author.Rules.{rules}
 use lib.ListN.{take}
 use lib.Seq.{take_at}
 use Rattle.text.specs.Text.{line_of}

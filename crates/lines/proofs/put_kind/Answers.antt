@@ -2,7 +2,6 @@
 use mathlib.Core.Path.{◌≡◌, refl}
 use Prim.Native.Nat.{ℕ, zero, suc, ◌≤◌}
 use native.Mathlib.Omega.{arith}
-use borrow.Author.Rules.{rules}
 use Rattle.table.specs.Format.{end, work, alloc, free, fork, join, unknown, kind_of}
 use Rattle.lines.specs.Lines.{kind_word}
 use Rattle.text.proofs.Putting.{puts_word, puts_within}

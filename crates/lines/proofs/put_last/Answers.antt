@@ -1,6 +1,5 @@
 -- `lines::put_last` meets its contract: the word goes by whether the root has ended.
 use native.Mathlib.Omega.{arith}
-use borrow.Author.Rules.{rules}
 use Rattle.text.specs.Text.{newline}
 use Rattle.lines.specs.Lines.{last_texts}
 use Rattle.text.proofs.Putting.{puts_word, puts_more, puts_within}

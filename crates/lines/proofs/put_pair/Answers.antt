@@ -1,6 +1,5 @@
 -- `lines::put_pair` meets its contract: two numbers of at most five digits, each after a space.
 use native.Mathlib.Omega.{arith}
-use borrow.Author.Rules.{rules}
 use Rattle.text.specs.Text.{space}
 use Rattle.text.proofs.Putting.{puts_labelled, puts_more}
 use Rattle.lines.proofs.put_pair.Goals as goal

@@ -1,6 +1,5 @@
 -- `lines::put_told` meets its contract: each sort of reply has its texts, at most 18 bytes.
 use native.Mathlib.Omega.{arith}
-use borrow.Author.Rules.{rules}
 use Rattle.lines.specs.Lines.{idle_word, quota_word, wait_word, told_texts}
 use Rattle.text.proofs.Putting.{puts_word, puts_more, puts_within}
 use Rattle.lines.proofs.put_told.Goals as goal

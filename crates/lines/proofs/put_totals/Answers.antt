@@ -1,6 +1,5 @@
 -- `lines::put_totals` meets its contract: two numbers of at most twenty digits.
 use native.Mathlib.Omega.{arith}
-use borrow.Author.Rules.{rules}
 use Rattle.lines.specs.Lines.{peak_word}
 use Rattle.text.proofs.Putting.{puts_labelled, puts_more, puts_within}
 use Rattle.lines.proofs.put_totals.Goals as goal

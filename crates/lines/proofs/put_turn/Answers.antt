@@ -1,6 +1,5 @@
 -- `lines::put_turn` meets its contract: the texts of a line in their order, 64 bytes at most.
 use native.Mathlib.Omega.{arith}
-use borrow.Author.Rules.{rules}
 use Rattle.text.specs.Text.{space, newline}
 use Rattle.lines.specs.Lines.{turn_texts}
 use Rattle.text.proofs.Putting.{puts_word, puts_number, puts_labelled, puts_more}

@@ -1,17 +1,12 @@
 -- `chart::line::put_cells` meets its contract. The invariant: whoever puts the cells from worker w on puts all of them.
-use Prim.Native.Nat.{ℕ, suc, ◌+◌, ◌-◌, ◌≤◌, ◌<◌}
-use native.Mathlib.Numerals.{add-one}
-use native.Mathlib.Omega.{arith}
-use mathlib.Core.Path.{◌≡◌, refl, sym, ap, ◌∙◌}
-use mathlib.Core.List.{List, ◌∷◌, foldl-append}
-use borrow.Author.Rules.{rules}
-use lib.ListN.{length, get_or, drop, drop_of_length-le}
-use lib.Seq.{drop-cons}
-use Rattle.text.specs.Text.{Buffer, buffer_at, placed_next}
+use Prim.Native.Nat.{ℕ, ◌-◌, ◌≤◌}
+use mathlib.Core.Path.{◌≡◌}
+use mathlib.Core.List.{List}
+use lib.ListN.{length, drop}
+use Rattle.text.specs.Text.{buffer_at}
 use Rattle.text.specs.Puts.{put_all}
 use Rattle.schedule.specs.declared.Worker.{Worker}
-use Rattle.schedule.specs.Machine.{nobody}
-use Rattle.chart.specs.Chart.{cell_of, cells_from, cell_texts, cells_texts}
+use Rattle.chart.specs.Chart.{cells_from, cells_texts}
 use Rattle.chart.proofs.line.put_cells.Given as goal
 
 -- the cells of workers from w on

@@ -3,7 +3,6 @@ use mathlib.Core.List.{[], ◌∷◌, ◌++◌}
 use Rattle.text.specs.Text.{newline, buffer_at}
 use Rattle.chart.specs.Chart.{cells_from, right_texts, cells_texts, line_texts}
 use Rattle.chart.proofs.Putting.{put_more}
-use borrow.Author.Rules.{rules}
 use Rattle.chart.proofs.line.put_line.Goals as goal
 
 pub returns : goal.returns
