@@ -2,17 +2,15 @@
 use mathlib.Core.Path.{◌≡◌, refl, sym, ap, subst, ◌∙◌}
 use Prim.Native.Nat.{ℕ, ◌+◌, ◌^◌, ◌<◌}
 use mathlib.Core.List.{List}
-use mathlib.Core.Bool.{false}
-use borrow.Author.Rules.{rules}
 use borrow.Author.Tests.{not-true, not-false}
 use Rattle.table.specs.Format.{Table, table_of, kind}
 use Rattle.schedule.specs.declared.Reply.TheVariants.{Idle}
 use Rattle.schedule.specs.Links.{seek}
 use Rattle.array_machine.proofs.Leaves.{fits64}
-use Rattle.run_memory.specs.Memory.{Memory, worker_in, moved_in, told, passed_over}
+use Rattle.run_memory.specs.Memory.{Memory, moved_in, told, passed_over}
 use Rattle.run_memory.specs.Blocks.{bytes_in, words_in, numbers_in, sums_in, gathered, memory_of}
 use Rattle.run_memory.specs.Places.{totalled}
-use Rattle.run_memory.specs.Code.Acts.{Gone, acted, Seated}
+use Rattle.run_memory.specs.Code.Acts.{Gone, acted}
 use Rattle.run_memory.proofs.Takes.{counted, heads_out, room, asked_room, own_thread, sought_thread, taken_ready, codes, arguments, without_room, no_thread_lem, idles, goes_unfit, goes, passes_none, passes_idle, passed_as, passes, spoke, passing}
 use Rattle.run_memory.proofs.take.Goals as goal
 
@@ -24,21 +22,21 @@ one_more b w n l k e d =
 pub returns-then-not-room_for : goal.returns-then-not-room_for
 returns-then-not-room_for c = let M = memory_of c.args.bytes.now c.args.words.now c.args.numbers.now c.args.sums.now in
     record {
-  sums_after = spoke c.refused.ensures
-      (without_room c.args.table.now c.args.w M c.if-not-room_for.true
-      (asked_room c.args.w c.total_at-turns.ensures c.head_at.ensures c.holds_at-holds.ensures c.room_for.ensures));
-  passed_value = passing c.args.counting (passed_over M c.args.w) c.refused.ensures (passes_none c.args.counting 32 _ refl);
-}
+      sums_after = spoke c.refused.ensures
+          (without_room c.args.table.now c.args.w M c.if-not-room_for.true
+          (asked_room c.args.w c.total_at-turns.ensures c.head_at.ensures c.holds_at-holds.ensures c.room_for.ensures));
+      passed_value = passing c.args.counting (passed_over M c.args.w) c.refused.ensures (passes_none c.args.counting 32 _ refl);
+    }
 
 pub returns-then-holds : goal.returns-then-holds
 returns-then-holds c = let M = memory_of c.args.bytes.now c.args.words.now c.args.numbers.now c.args.sums.now in
     record {
-  sums_after = spoke c.refused-then-holds.ensures
-      (no_thread_lem c.args.table.now c.args.w M c.if-not-room_for.false
-      (asked_room c.args.w c.total_at-turns.ensures c.head_at.ensures c.holds_at-holds.ensures c.room_for.ensures)
-      (sym c.holds_at-holds.ensures ∙ c.if-holds.true) (own_thread _ c.if-holds.true c.holds_at-holds.ensures c.thread_for-t.ensures c.if-t-ge-NO_THREAD.true));
-  passed_value = passing c.args.counting (passed_over M c.args.w) c.refused-then-holds.ensures (passes_none c.args.counting 32 _ refl);
-}
+      sums_after = spoke c.refused-then-holds.ensures
+          (no_thread_lem c.args.table.now c.args.w M c.if-not-room_for.false
+          (asked_room c.args.w c.total_at-turns.ensures c.head_at.ensures c.holds_at-holds.ensures c.room_for.ensures)
+          (sym c.holds_at-holds.ensures ∙ c.if-holds.true) (own_thread _ c.if-holds.true c.holds_at-holds.ensures c.thread_for-t.ensures c.if-t-ge-NO_THREAD.true));
+      passed_value = passing c.args.counting (passed_over M c.args.w) c.refused-then-holds.ensures (passes_none c.args.counting 32 _ refl);
+    }
 
 pub overflow_add-turns : goal.overflow_add-turns
 overflow_add-turns c =

@@ -1,7 +1,6 @@
 -- `run_memory::act::act_end` meets its contract: the statuses and the links after each write, one after the other, are those of an end.
 use mathlib.Core.Path.{◌≡◌, refl, sym, ap, ◌∙◌}
 use Prim.Native.Nat.{ℕ}
-use mathlib.Core.Logic.{⊎_elim}
 use mathlib.Core.Bool.{Bool, true, false}
 use lib.ListN.{get_or, set}
 use Rattle.table.specs.Sum.{pick}
@@ -13,7 +12,6 @@ use Rattle.run_memory.specs.Places.{statused, holds_in}
 use Rattle.run_memory.specs.Code.Writes.{linked_left, unlinked, settled, settled_words}
 use Rattle.run_memory.proofs.Acts.{written_as, room_in}
 use Rattle.run_memory.proofs.ListActs.{end_done}
-use borrow.Author.Rules.{rules}
 use Rattle.run_memory.proofs.act.act_end.Goals.{Joined-waits, then-waits, else-waits}
 use Rattle.run_memory.proofs.act.act_end.Goals as goal
 
@@ -34,7 +32,7 @@ bytes_there : (c : Joined-waits) → let B : Bytes = settled c.args.w nobody (st
     bytes_in c.if-waits.bytes ≡ pick c.waits.result (statused c.row_at-u.result ready B) B
 bytes_there c =
     elim c.if-waits.branch [
-      then-waits z ↦ ap bytes_in z.bytes-is ∙ (z.put_status.ensures ∙ (ap (statused c.row_at-u.result ready) c.put_back.ensures.bytes_after ∙ sym (chosen _ _ z.if-waits.true)))
+      | then-waits z ↦ ap bytes_in z.bytes-is ∙ (z.put_status.ensures ∙ (ap (statused c.row_at-u.result ready) c.put_back.ensures.bytes_after ∙ sym (chosen _ _ z.if-waits.true)))
       | else-waits z ↦ ap bytes_in z.bytes-is ∙ (c.put_back.ensures.bytes_after ∙ sym (passed_by _ _ z.if-waits.false))
     ]
 
@@ -42,7 +40,7 @@ words_there : (c : Joined-waits) → let W : Words = settled_words c.args.w (hol
     words_in c.if-waits.words ≡ pick c.waits.result (linked_left 4 1 c.row_at-u.result c.args.t W) W
 words_there c =
     elim c.if-waits.branch [
-      then-waits z ↦ ap words_in z.words-is ∙ (z.link_left.ensures ∙ (ap (linked_left 4 1 c.row_at-u.result c.args.t) c.put_back.ensures.words_after ∙ sym (chosen _ _ z.if-waits.true)))
+      | then-waits z ↦ ap words_in z.words-is ∙ (z.link_left.ensures ∙ (ap (linked_left 4 1 c.row_at-u.result c.args.t) c.put_back.ensures.words_after ∙ sym (chosen _ _ z.if-waits.true)))
       | else-waits z ↦ ap words_in z.words-is ∙ (c.put_back.ensures.words_after ∙ sym (passed_by _ _ z.if-waits.false))
     ]
 

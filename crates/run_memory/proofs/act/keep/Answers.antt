@@ -2,12 +2,9 @@
 use mathlib.Core.Path.{◌≡◌, refl, sym, ap, ◌∙◌}
 use Prim.Native.Nat.{ℕ}
 use mathlib.Core.List.{List}
-use mathlib.Core.Logic.{⊎_elim}
-use borrow.Author.Tests.{not-true, not-false}
 use Rattle.run_memory.specs.Code.Writes.{having, seated_bytes}
 use Rattle.run_memory.specs.Blocks.{Bytes, Words, bytes_in, words_in}
 use Rattle.run_memory.proofs.Acts.{seated_own, seated_taken, settled_as, settled_words_as, room_still}
-use borrow.Author.Rules.{rules}
 use Rattle.run_memory.proofs.act.keep.Goals.{Joined-not-holds_at, then-not-holds_at, else-not-holds_at}
 use Rattle.run_memory.proofs.act.keep.Goals as goal
 
@@ -16,7 +13,7 @@ seated : (c : Joined-not-holds_at) → bytes_in c.if-not-holds_at.bytes ≡ seat
 seated c =
     let B : Bytes = bytes_in c.args.bytes.now in
     elim c.if-not-holds_at.branch [
-      then-not-holds_at z ↦ seated_taken B c.args.w c.args.t (sym c.holds_at.ensures ∙ z.if-not-holds_at.true) (ap (λ (l : List ℕ). bytes_in l) z.bytes-is ∙ z.put_status.ensures)
+      | then-not-holds_at z ↦ seated_taken B c.args.w c.args.t (sym c.holds_at.ensures ∙ z.if-not-holds_at.true) (ap (λ (l : List ℕ). bytes_in l) z.bytes-is ∙ z.put_status.ensures)
       | else-not-holds_at z ↦ seated_own B c.args.w c.args.t (sym c.holds_at.ensures ∙ z.if-not-holds_at.false) (ap (λ (l : List ℕ). bytes_in l) z.bytes-is)
     ]
 
