@@ -17,7 +17,7 @@ use Rattle.table.specs.Checks.{max_threads}
 use Rattle.table.proofs.Tests.{no_way, and_both, is_true, same_is}
 use Rattle.schedule.specs.declared.Worker.{Worker}
 use Rattle.schedule.specs.declared.Reply.{Reply}
-use Rattle.schedule.specs.declared.Reply.TheVariants.{Idle, Done, Quota, Wait}
+use Rattle.schedule.specs.declared.Reply.TheVariants.{Idle, Done}
 use Rattle.schedule.specs.Machine.{ready, held, waiting, ended, drawn}
 use Rattle.schedule.specs.Links.{no_thread, seek}
 use Rattle.schedule.specs.Listing.{thread_in}

@@ -40,7 +40,7 @@ use Rattle.array_machine.specs.Packed.{packed_of}
 use Rattle.array_machine.proofs.Reading.{own_table}
 use Rattle.array_machine.proofs.Packed.{Carries, Goes, turn_goes}
 use Rattle.array_machine.proofs.Answers.{steady_full, steady_room, refused_as, turned_unsound, turned_none, turned_over, turned_taken, root_over, root_open, passed_along_lem}
-use Rattle.run_memory.specs.Memory.{Memory, worker_from, worker_in, moved_in, memory_after, reply_row, no_row, Answer, answer, hindrance, Told, told, turn_left, turn_in, passed_over, lent_turn}
+use Rattle.run_memory.specs.Memory.{Memory, worker_from, worker_in, moved_in, memory_after, reply_row, no_row, Answer, hindrance, Told, told, turn_left, turn_in, passed_over, lent_turn}
 use Rattle.run_memory.specs.Stands.{truths, workers_from, workers_in, settled, run_in, Stands, values_row}
 
 -- ---- the workers

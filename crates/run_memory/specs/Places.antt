@@ -2,7 +2,6 @@
 use Rattle.std.specs.Prelude.{ℕ, List, [], ◌∷◌, Bool, not, ◌&&◌, get_or, set, ltb, eqb}
 use Rattle.table.specs.Sum.{pick}
 use Rattle.schedule.specs.declared.Worker.{Worker}
-use Rattle.schedule.specs.Machine.{held}
 use Rattle.run_memory.specs.Blocks.{Bytes, Words, Numbers, Sums}
 
 -- ---- bytes

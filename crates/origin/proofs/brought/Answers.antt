@@ -4,9 +4,8 @@ use mathlib.Core.List.{List}
 use native.Mathlib.Numerals.{add-one}
 use native.Mathlib.Omega.{arith}
 use lib.Dec.{ltb}
-use borrow.Author.Rules.{rules}
 use Rattle.table.specs.Sum.{pick, sum_to, Read}
-use Rattle.table.specs.Format.{Table, table_of}
+use Rattle.table.specs.Format.{table_of}
 use Rattle.table.specs.Checks.{alloc_of}
 use Rattle.filling.specs.Filled.{big, dummies, new_threads}
 use Rattle.origin.specs.Origin.{bigs_to}

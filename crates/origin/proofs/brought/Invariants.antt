@@ -1,15 +1,10 @@
 -- `origin::brought` meets its contract. The invariant: both sums are those over the actions below a.
 use mathlib.Core.Path.{◌≡◌}
-use Prim.Native.Nat.{ℕ, suc, ◌+◌, ◌-◌, ◌*◌, ◌/◌, ◌≤◌, ◌<◌}
+use Prim.Native.Nat.{ℕ, ◌-◌, ◌*◌, ◌≤◌, ◌<◌}
 use mathlib.Core.List.{List}
-use native.Mathlib.Numerals.{add-one}
-use native.Mathlib.Omega.{arith}
-use lib.Dec.{ltb}
-use borrow.Author.Rules.{rules}
-use Rattle.table.specs.Sum.{pick, sum_to, Read}
-use Rattle.table.specs.Format.{Table, table_of}
-use Rattle.table.specs.Checks.{alloc_of}
-use Rattle.filling.specs.Filled.{big, dummies, new_threads}
+use Rattle.table.specs.Sum.{sum_to}
+use Rattle.table.specs.Format.{table_of}
+use Rattle.filling.specs.Filled.{new_threads}
 use Rattle.origin.specs.Origin.{bigs_to}
 use Rattle.origin.proofs.brought.Given as goal
 

@@ -1,10 +1,8 @@
 -- `origin::is_put_in` meets its contract.
 use mathlib.Core.Path.{◌≡◌, ◌∙◌, sym}
 use Prim.Native.Nat.{ℕ, ◌≤◌, ◌<◌}
-use mathlib.Core.List.{List}
 use mathlib.Core.Bool.{Bool, true, false, ◌||◌}
 use lib.Dec.{leb}
-use borrow.Author.Rules.{rules}
 use borrow.Author.Tests.{le-leb, lt-leb}
 use Rattle.table.specs.Format.{fork, join, is, kind_of, Table, table_of}
 use Rattle.table.proofs.Parts.{code_from, argument_from}

@@ -2,7 +2,6 @@
 use mathlib.Core.Path.{◌≡◌}
 use Prim.Native.Nat.{ℕ, ◌-◌, ◌*◌}
 use native.Mathlib.Omega.{arith}
-use borrow.Author.Rules.{rules}
 use Rattle.origin.proofs.kept.Goals as goal
 
 told : (a b x r : ℕ) → b ≡ x → r ≡ a - 2 * b → r ≡ a - 2 * x

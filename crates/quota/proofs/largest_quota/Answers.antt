@@ -1,6 +1,5 @@
 -- `quota::largest_quota` meets its contract: the table's own checks, then those of the quota.
 use mathlib.Core.Path.{sym, ◌∙◌}
-use borrow.Author.Rules.{rules}
 use Rattle.quota.proofs.Checks.{refused_own, accepted_own, own_whole, values_are}
 use Rattle.quota.proofs.largest_quota.Goals as goal
 

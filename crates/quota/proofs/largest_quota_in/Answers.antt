@@ -1,6 +1,5 @@
 -- `quota::largest_quota_in` meets its contract: as `largest_quota`, and the working memory is as loading leaves it.
 use mathlib.Core.Path.{sym, ◌∙◌}
-use borrow.Author.Rules.{rules}
 use Rattle.quota.proofs.Checks.{refused_own, accepted_own, own_whole, values_are}
 use Rattle.quota.proofs.largest_quota_in.Goals as goal
 

@@ -2,13 +2,12 @@
 use mathlib.Core.Path.{◌≡◌, sym, ap, ◌∙◌}
 use Prim.Native.Nat.{ℕ, ◌≤◌, ◌<◌}
 use mathlib.Core.Bool.{Bool, true, false}
-use borrow.Author.Tests.{lt-ltb, le-ltb, not-true, not-false}
+use borrow.Author.Tests.{lt-ltb, le-ltb}
 use lib.Dec.{ltb}
 use Rattle.table.specs.Sum.{pick}
 use Rattle.schedule.specs.Links.{no_thread, Sought, seek}
 use Rattle.array_machine.specs.Counted.{passed_along}
 use Rattle.run_memory.specs.Blocks.{bytes_in, words_in}
-use borrow.Author.Rules.{rules}
 use Rattle.run_memory.proofs.passed_along.Goals as goal
 
 unasked : (b h : Bool) (x : Sought) → b ≡ false → ◌≡◌ {A = ℕ} 0 (pick b (passed_along h x) 0)

@@ -2,17 +2,15 @@
 use mathlib.Core.Path.{◌≡◌, refl, sym, ap, subst, ◌∙◌}
 use Prim.Native.Nat.{ℕ, ◌+◌, ◌^◌, ◌<◌}
 use mathlib.Core.List.{List}
-use mathlib.Core.Bool.{false}
-use borrow.Author.Rules.{rules}
 use borrow.Author.Tests.{not-true, not-false}
 use Rattle.table.specs.Format.{Table, table_of, kind}
 use Rattle.schedule.specs.declared.Reply.TheVariants.{Idle}
 use Rattle.schedule.specs.Links.{seek}
 use Rattle.array_machine.proofs.Leaves.{fits64}
-use Rattle.run_memory.specs.Memory.{Memory, worker_in, moved_in, told, passed_over}
+use Rattle.run_memory.specs.Memory.{Memory, moved_in, told, passed_over}
 use Rattle.run_memory.specs.Blocks.{bytes_in, words_in, numbers_in, sums_in, gathered, memory_of}
 use Rattle.run_memory.specs.Places.{totalled}
-use Rattle.run_memory.specs.Code.Acts.{Gone, acted, Seated}
+use Rattle.run_memory.specs.Code.Acts.{Gone, acted}
 use Rattle.run_memory.proofs.Takes.{counted, heads_out, room, asked_room, own_thread, sought_thread, taken_ready, codes, arguments, without_room, no_thread_lem, idles, goes_unfit, goes, passes_none, passes_idle, passed_as, passes, spoke, passing}
 use Rattle.run_memory.proofs.take.Goals as goal
 

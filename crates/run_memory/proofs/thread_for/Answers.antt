@@ -3,7 +3,6 @@ use mathlib.Core.Path.{◌≡◌}
 use Prim.Native.Nat.{ℕ}
 use mathlib.Core.Bool.{Bool, true, false}
 use Rattle.table.specs.Sum.{pick}
-use borrow.Author.Rules.{rules}
 use Rattle.run_memory.proofs.thread_for.Goals as goal
 
 own : {b h : Bool} {x t : ℕ} (u : ℕ) → b ≡ true → b ≡ h → x ≡ t → x ≡ pick h t u

@@ -1,9 +1,7 @@
 -- `run_memory::turn_in` meets its contract: hindered, or taken.
-use mathlib.Core.Path.{◌≡◌, ◌∙◌}
-use borrow.Author.Rules.{rules}
+use mathlib.Core.Path.{◌∙◌}
 use borrow.Author.Tests.{ne_eqb}
-use lib.ListN.{get_or}
-use Rattle.run_memory.specs.Memory.{Memory, moved_in, hindrance, passed_over}
+use Rattle.run_memory.specs.Memory.{passed_over}
 use Rattle.run_memory.specs.Blocks.{memory_of}
 use Rattle.run_memory.proofs.Takes.{hindered, goes_on, asked_hindrance, passes_none, spoke, passing}
 use Rattle.run_memory.proofs.turn_in.Goals as goal

@@ -1,14 +1,10 @@
 -- `quota::allocs::least_quota` meets its contract. The invariant: `least` is the greatest of 1 and the allocs passed.
-use mathlib.Core.Path.{◌≡◌, refl, ap, ◌∙◌}
-use Prim.Native.Nat.{ℕ, ◌+◌, ◌-◌, ◌≤◌, ◌<◌, max}
-use native.Mathlib.Numerals.{add-one}
+use mathlib.Core.Path.{◌≡◌}
+use Prim.Native.Nat.{ℕ, ◌-◌, ◌≤◌, ◌<◌, max}
 use mathlib.Core.List.{List}
-use native.Mathlib.Omega.{arith}
-use borrow.Author.Rules.{rules}
 use Rattle.table.specs.Sum.{greatest_to}
 use Rattle.table.specs.Format.{threads_of, actions_of, table_of}
 use Rattle.table.specs.Checks.{alloc_of}
-use Rattle.quota.specs.Quota.{least_quota}
 use Rattle.quota.proofs.allocs.least_quota.Given as goal
 
 pub record Inv (s : List ℕ) (n m least a : ℕ) : Type 0 where

@@ -9,7 +9,6 @@ use Rattle.table.proofs.Parts.{rest_part}
 use Rattle.quota.specs.declared.Quoted.TheVariants.{Refused}
 use Rattle.quota.specs.Quota.{quoted}
 use Rattle.quota.specs.Line.{workers_in, gap_in, memory_in, answer_to}
-use borrow.Author.Rules.{rules}
 use Rattle.quota.proofs.line.answer_to.Goals as goal
 
 module _ (s : List ℕ) where

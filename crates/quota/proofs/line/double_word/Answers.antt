@@ -6,7 +6,6 @@ use native.Mathlib.Omega.{arith}
 use lib.ListN.{get_or}
 use Rattle.table.specs.Format.{u16_at, u32_at}
 use Rattle.table.specs.Sum.{Read}
-use borrow.Author.Rules.{rules}
 use Rattle.quota.proofs.line.double_word.Goals as goal
 
 joined : (s : List ℕ) (i x y : ℕ) → Read (u16_at s i) 65536 x → Read (u16_at s (i + 2)) 65536 y → Read (u32_at s i) 4294967296 (x + 65536 * y)

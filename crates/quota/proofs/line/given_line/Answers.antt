@@ -8,7 +8,6 @@ use Rattle.text.specs.Text.{decimal, newline, buffer_at, placed, placed_next}
 use Rattle.text.proofs.Decimal.{decimal_length}
 use Rattle.text.proofs.Placing.{line_put}
 use Rattle.quota.specs.Line.{quota_word, given_line}
-use borrow.Author.Rules.{rules}
 use Rattle.quota.proofs.line.given_line.Goals as goal
 
 module _ (s : List ℕ) (long : length s ≡ 80) (K : ℕ) (small : K < 2 ^ 32) where

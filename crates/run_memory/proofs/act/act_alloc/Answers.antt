@@ -1,12 +1,10 @@
 -- `run_memory::act::act_alloc` meets its contract: beyond the quota, where a number does not fit, and within both.
 use mathlib.Core.Path.{refl, ap, ◌∙◌}
 use Prim.Native.Nat.{◌+◌, ◌-◌, ◌^◌, ◌<◌}
-use borrow.Author.Tests.{not-true, not-false}
 use Rattle.array_machine.proofs.Leaves.{fits16, fits64}
 use Rattle.run_memory.specs.Blocks.{Words, Sums, bytes_in, words_in, numbers_in, sums_in}
 use Rattle.run_memory.specs.Code.Writes.{held_sums, having}
 use Rattle.run_memory.proofs.Acts.{gone_as, written_as, kept_words_as, room_in, share, alloc_room, alloc_beyond, alloc_unfit, alloc_done}
-use borrow.Author.Rules.{rules}
 use Rattle.run_memory.proofs.act.act_alloc.Goals.{Else-not-alloc_fits}
 use Rattle.run_memory.proofs.act.act_alloc.Goals as goal
 

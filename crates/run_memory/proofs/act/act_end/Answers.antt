@@ -1,7 +1,6 @@
 -- `run_memory::act::act_end` meets its contract: the statuses and the links after each write, one after the other, are those of an end.
 use mathlib.Core.Path.{◌≡◌, refl, sym, ap, ◌∙◌}
 use Prim.Native.Nat.{ℕ}
-use mathlib.Core.Logic.{⊎_elim}
 use mathlib.Core.Bool.{Bool, true, false}
 use lib.ListN.{get_or, set}
 use Rattle.table.specs.Sum.{pick}
@@ -13,7 +12,6 @@ use Rattle.run_memory.specs.Places.{statused, holds_in}
 use Rattle.run_memory.specs.Code.Writes.{linked_left, unlinked, settled, settled_words}
 use Rattle.run_memory.proofs.Acts.{written_as, room_in}
 use Rattle.run_memory.proofs.ListActs.{end_done}
-use borrow.Author.Rules.{rules}
 use Rattle.run_memory.proofs.act.act_end.Goals.{Joined-waits, then-waits, else-waits}
 use Rattle.run_memory.proofs.act.act_end.Goals as goal
 

@@ -3,7 +3,7 @@ use mathlib.Core.Path.{◌≡◌, refl, ap, ◌∙◌}
 use Prim.Native.Nat.{ℕ, ◌+◌, ◌<◌}
 use mathlib.Core.Bool.{Bool, true, ◌&&◌}
 use native.Mathlib.Omega.{arith}
-use borrow.Author.Tests.{not-true, not-false, ltb-true}
+use borrow.Author.Tests.{ltb-true}
 use lib.Dec.{ltb}
 use Rattle.schedule.specs.Machine.{ready, nobody}
 use Rattle.array_machine.specs.Turn.{next_fits}
@@ -13,7 +13,6 @@ use Rattle.run_memory.specs.Places.{statused}
 use Rattle.run_memory.specs.Code.Writes.{linked_left}
 use Rattle.run_memory.proofs.Acts.{written_as, kept_words_as, room_in}
 use Rattle.run_memory.proofs.ListActs.{unfit_as, fork_unfit, fork_done}
-use borrow.Author.Rules.{rules}
 use Rattle.run_memory.proofs.act.act_fork.Goals.{Else-not-fork_fits}
 use Rattle.run_memory.proofs.act.act_fork.Goals as goal
 

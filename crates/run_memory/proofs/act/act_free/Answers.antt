@@ -1,12 +1,10 @@
 -- `run_memory::act::act_free` meets its contract: no more than is held, with numbers that fit.
 use mathlib.Core.Path.{refl, ap, ◌∙◌}
 use Prim.Native.Nat.{◌+◌, ◌-◌, ◌≤◌, ◌<◌}
-use borrow.Author.Tests.{not-true, not-false}
 use Rattle.array_machine.proofs.Leaves.{fits16}
 use Rattle.run_memory.specs.Blocks.{Words, Sums, bytes_in, words_in, numbers_in, sums_in}
 use Rattle.run_memory.specs.Code.Writes.{held_sums, having}
 use Rattle.run_memory.proofs.Acts.{gone_as, kept_words_as, room_in, free_room, free_unfit, free_done}
-use borrow.Author.Rules.{rules}
 use Rattle.run_memory.proofs.act.act_free.Goals.{Else-not-free_fits}
 use Rattle.run_memory.proofs.act.act_free.Goals as goal
 

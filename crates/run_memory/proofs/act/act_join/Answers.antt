@@ -6,7 +6,6 @@ use Rattle.run_memory.specs.Blocks.{bytes_in, words_in, numbers_in, sums_in}
 use Rattle.run_memory.specs.Code.Writes.{unlinked}
 use Rattle.run_memory.proofs.Acts.{written_as, room_in}
 use Rattle.run_memory.proofs.ListActs.{unfit_as, join_outside, join_waits}
-use borrow.Author.Rules.{rules}
 use Rattle.run_memory.proofs.act.act_join.Goals as goal
 
 -- the status read is no end

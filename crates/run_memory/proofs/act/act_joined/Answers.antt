@@ -2,7 +2,7 @@
 use mathlib.Core.Path.{◌≡◌, refl, ap, ◌∙◌}
 use Prim.Native.Nat.{ℕ, ◌+◌, ◌^◌, ◌<◌}
 use mathlib.Core.Bool.{Bool, true, ◌&&◌}
-use borrow.Author.Tests.{not-true, not-false, ltb-true}
+use borrow.Author.Tests.{ltb-true}
 use Rattle.array_machine.specs.Turn.{next_fits, amount_fits}
 use Rattle.array_machine.proofs.Leaves.{fits16, fits64, fits_and}
 use Rattle.run_memory.specs.Blocks.{Words, bytes_in, words_in, numbers_in, sums_in}
@@ -10,7 +10,6 @@ use Rattle.run_memory.specs.Places.{amounted}
 use Rattle.run_memory.specs.Code.Writes.{having}
 use Rattle.run_memory.proofs.Acts.{gone_as, kept_words_as, room_in}
 use Rattle.run_memory.proofs.ListActs.{unfit_as, join_unfit, join_done_lem}
-use borrow.Author.Rules.{rules}
 use Rattle.run_memory.proofs.act.act_joined.Goals.{Else-not-join_fits}
 use Rattle.run_memory.proofs.act.act_joined.Goals as goal
 

@@ -2,7 +2,6 @@
 use mathlib.Core.Path.{refl}
 use Rattle.run_memory.specs.Blocks.{bytes_in, words_in, numbers_in, sums_in}
 use Rattle.run_memory.proofs.Acts.{gone_as, room_in, unknown_kept}
-use borrow.Author.Rules.{rules}
 use Rattle.run_memory.proofs.act.act_unknown.Goals as goal
 
 pub keep-requires : goal.keep-requires

@@ -1,11 +1,9 @@
 -- `run_memory::act::act_work` meets its contract: the thread stands at the action after it, if that has a number.
 use mathlib.Core.Path.{refl, ap}
-use borrow.Author.Tests.{not-true, not-false}
 use Rattle.array_machine.proofs.Leaves.{fits16, fits_next}
 use Rattle.run_memory.specs.Code.Writes.{having}
 use Rattle.run_memory.specs.Blocks.{Words, bytes_in, words_in, numbers_in, sums_in}
 use Rattle.run_memory.proofs.Acts.{gone_as, kept_words_as, room_in, work_unfit, work_done}
-use borrow.Author.Rules.{rules}
 use Rattle.run_memory.proofs.act.act_work.Goals as goal
 
 pub returns-then-not-next_fits : goal.returns-then-not-next_fits

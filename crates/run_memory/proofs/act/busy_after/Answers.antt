@@ -1,9 +1,7 @@
 -- `run_memory::act::busy_after` meets its contract: the bit is 2 ^ w, and each way out is one of the definition's cases.
 use mathlib.Core.Path.{◌≡◌}
-use Prim.Native.Nat.{ℕ, ◌+◌, ◌-◌, ◌*◌, ◌%◌, ◌^◌, ◌<◌}
+use Prim.Native.Nat.{ℕ, ◌+◌, ◌*◌, ◌%◌, ◌^◌, ◌<◌}
 use mathlib.Core.Bool.{Bool, true, false}
-use native.Mathlib.Omega.{arith}
-use borrow.Author.Rules.{rules}
 use Rattle.array_machine.specs.Counted.{busy_after}
 use Rattle.array_machine.proofs.Bits.{bit_is}
 use Rattle.array_machine.proofs.Leaves.{fits16}

@@ -8,7 +8,6 @@ use Rattle.array_machine.proofs.Leaves.{code_unknown}
 use Rattle.run_memory.specs.Memory.{Memory}
 use Rattle.run_memory.specs.Blocks.{memory_of}
 use Rattle.run_memory.specs.Code.Acts.{Gone, acted}
-use borrow.Author.Rules.{rules}
 use Rattle.run_memory.proofs.act.go_on.Goals as goal
 
 module _ (T : Table) (l : List ℕ) (p : T.code ≡ code_at l) (q : T.argument ≡ argument_at l) (w t a : ℕ) (M : Memory) where

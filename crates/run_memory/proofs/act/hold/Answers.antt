@@ -2,7 +2,6 @@
 use mathlib.Core.Path.{ap, ◌∙◌}
 use Prim.Native.Nat.{ℕ, max}
 use Rattle.run_memory.specs.Places.{totalled}
-use borrow.Author.Rules.{rules}
 use Rattle.run_memory.proofs.act.hold.Goals as goal
 
 pub returns : goal.returns

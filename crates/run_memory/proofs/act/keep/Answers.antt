@@ -2,12 +2,9 @@
 use mathlib.Core.Path.{◌≡◌, refl, sym, ap, ◌∙◌}
 use Prim.Native.Nat.{ℕ}
 use mathlib.Core.List.{List}
-use mathlib.Core.Logic.{⊎_elim}
-use borrow.Author.Tests.{not-true, not-false}
 use Rattle.run_memory.specs.Code.Writes.{having, seated_bytes}
 use Rattle.run_memory.specs.Blocks.{Bytes, Words, bytes_in, words_in}
 use Rattle.run_memory.proofs.Acts.{seated_own, seated_taken, settled_as, settled_words_as, room_still}
-use borrow.Author.Rules.{rules}
 use Rattle.run_memory.proofs.act.keep.Goals.{Joined-not-holds_at, then-not-holds_at, else-not-holds_at}
 use Rattle.run_memory.proofs.act.keep.Goals as goal
 

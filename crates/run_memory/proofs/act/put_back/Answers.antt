@@ -3,7 +3,6 @@ use mathlib.Core.Path.{◌≡◌, refl, ap}
 use Rattle.schedule.specs.Machine.{nobody}
 use Rattle.run_memory.specs.Blocks.{Bytes, Words, words_in}
 use Rattle.run_memory.proofs.Acts.{settled_as, settled_words_as, room_still}
-use borrow.Author.Rules.{rules}
 use Rattle.run_memory.proofs.act.put_back.Goals as goal
 
 pub let_go-requires : goal.let_go-requires

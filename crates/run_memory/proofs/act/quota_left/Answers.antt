@@ -1,6 +1,5 @@
 -- `run_memory::act::quota_left` meets its contract: the test chooses.
 use mathlib.Core.Path.{sym, ◌∙◌}
-use borrow.Author.Rules.{rules}
 use Rattle.run_memory.proofs.act.quota_left.Goals as goal
 
 pub returns-then-holds_at : goal.returns-then-holds_at

@@ -5,7 +5,6 @@ use borrow.Author.Tests.{not-false}
 use Rattle.array_machine.specs.Counted.{busy_after}
 use Rattle.run_memory.specs.Blocks.{Words, bytes_in, words_in}
 use Rattle.run_memory.specs.Places.{holding, threaded, headed}
-use borrow.Author.Rules.{rules}
 use Rattle.run_memory.proofs.act.settle.Goals as goal
 
 pub busy_after-busy-requires : goal.busy_after-busy-requires

@@ -12,7 +12,6 @@ use Rattle.table.proofs.Walks.{is_code}
 use Rattle.schedule.specs.Machine.{waiting}
 use Rattle.array_machine.specs.Turn.{waits_in}
 use Rattle.run_memory.specs.Blocks.{bytes_in, words_in}
-use borrow.Author.Rules.{rules}
 use Rattle.run_memory.proofs.act.waits.Goals as goal
 
 -- an action is a join by its code

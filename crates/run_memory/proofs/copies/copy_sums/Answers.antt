@@ -1,9 +1,8 @@
 use mathlib.Core.Path.{refl, sym}
-use Prim.Native.Nat.{◌-◌}
 use native.Mathlib.Nat.{zero-add}
 use native.Mathlib.Omega.{arith}
 use borrow.Author.Rules.{rules}
-use Rattle.run_memory.proofs.Copied.{Copying, copying_start, copying_size, copying_on, copying_over}
+use Rattle.run_memory.proofs.Copied.{copying_start, copying_size, copying_on, copying_over}
 use Rattle.run_memory.proofs.copies.copy_sums.Goals as goal
 
 pub loop-i-init : goal.loop-i-init

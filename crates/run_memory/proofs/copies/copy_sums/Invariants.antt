@@ -1,10 +1,6 @@
 -- `run_memory::copies::copy_sums` meets its contract. The invariant: i sums are copied.
-use mathlib.Core.Path.{refl, sym}
 use Prim.Native.Nat.{◌-◌}
-use native.Mathlib.Nat.{zero-add}
-use native.Mathlib.Omega.{arith}
-use borrow.Author.Rules.{rules}
-use Rattle.run_memory.proofs.Copied.{Copying, copying_start, copying_size, copying_on, copying_over}
+use Rattle.run_memory.proofs.Copied.{Copying}
 use Rattle.run_memory.proofs.copies.copy_sums.Given as goal
 
 abbrev pub invariant-loop-i : goal.invariant-loop-i

@@ -1,10 +1,9 @@
 use mathlib.Core.Path.{refl, sym}
-use Prim.Native.Nat.{◌-◌}
 use native.Mathlib.Omega.{arith}
-use lib.ListN.{drop, length-drop}
+use lib.ListN.{length-drop}
 use lib.Seq.{get_or-drop}
 use borrow.Author.Rules.{rules}
-use Rattle.run_memory.proofs.Copied.{Copying, copying_start, copying_size, copying_on, copying_over}
+use Rattle.run_memory.proofs.Copied.{copying_start, copying_size, copying_on, copying_over}
 use Rattle.run_memory.proofs.copies.copy_words.Goals as goal
 
 pub loop-i-init : goal.loop-i-init

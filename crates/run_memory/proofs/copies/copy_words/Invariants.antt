@@ -1,11 +1,7 @@
 -- `run_memory::copies::copy_words` meets its contract. The invariant: i words are copied.
-use mathlib.Core.Path.{refl, sym}
 use Prim.Native.Nat.{◌-◌}
-use native.Mathlib.Omega.{arith}
-use lib.ListN.{drop, length-drop}
-use lib.Seq.{get_or-drop}
-use borrow.Author.Rules.{rules}
-use Rattle.run_memory.proofs.Copied.{Copying, copying_start, copying_size, copying_on, copying_over}
+use lib.ListN.{drop}
+use Rattle.run_memory.proofs.Copied.{Copying}
 use Rattle.run_memory.proofs.copies.copy_words.Given as goal
 
 abbrev pub invariant-loop-i : goal.invariant-loop-i

@@ -2,7 +2,6 @@
 use mathlib.Core.Path.{◌≡◌, ap, ◌∙◌}
 use lib.ListN.{length}
 use native.Mathlib.Omega.{arith}
-use borrow.Author.Rules.{rules}
 use Rattle.run_memory.specs.Blocks.{bytes_in, words_in, numbers_in}
 use Rattle.run_memory.proofs.Copied.{worker_bytes_laid, worker_words_laid, worker_numbers_laid}
 use Rattle.run_memory.proofs.copies.copy_workers.Goals as goal

@@ -1,14 +1,12 @@
 use mathlib.Core.Path.{◌≡◌, refl, sym, ◌∙◌}
-use Prim.Native.Nat.{ℕ, ◌-◌, ◌+◌, ◌<◌}
+use Prim.Native.Nat.{ℕ, ◌+◌, ◌<◌}
 use native.Mathlib.Omega.{arith}
 use mathlib.Core.List.{List}
 use lib.ListN.{length, get_or, set}
-use borrow.Author.Rules.{rules}
 use Rattle.table.specs.Sum.{pick}
 use Rattle.schedule.specs.declared.Worker.{Worker}
 use Rattle.schedule.specs.Machine.{nobody}
-use Rattle.run_memory.specs.Places.{of_workers}
-use Rattle.run_memory.proofs.Copied.{Copying, copying_start, copying_size, copying_inside, copying_on, copying_over, of_workers_enough, of_workers_get}
+use Rattle.run_memory.proofs.Copied.{copying_start, copying_size, copying_inside, copying_on, copying_over, of_workers_enough, of_workers_get}
 use Rattle.run_memory.proofs.copies.copy_workers_in.Invariants.{Inv}
 use Rattle.run_memory.proofs.copies.copy_workers_in.Goals as goal
 

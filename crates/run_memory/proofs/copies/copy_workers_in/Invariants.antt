@@ -1,15 +1,12 @@
 -- `run_memory::copies::copy_workers_in` meets its contract. The invariant: of w workers the records are copied.
-use mathlib.Core.Path.{◌≡◌, refl, sym, ◌∙◌}
-use Prim.Native.Nat.{ℕ, ◌-◌, ◌+◌, ◌<◌}
-use native.Mathlib.Omega.{arith}
+use mathlib.Core.Path.{◌≡◌}
+use Prim.Native.Nat.{ℕ, ◌-◌}
 use mathlib.Core.List.{List}
-use lib.ListN.{length, get_or, set}
-use borrow.Author.Rules.{rules}
+use lib.ListN.{length}
 use Rattle.table.specs.Sum.{pick}
 use Rattle.schedule.specs.declared.Worker.{Worker}
-use Rattle.schedule.specs.Machine.{nobody}
 use Rattle.run_memory.specs.Places.{of_workers}
-use Rattle.run_memory.proofs.Copied.{Copying, copying_start, copying_size, copying_inside, copying_on, copying_over, of_workers_enough, of_workers_get}
+use Rattle.run_memory.proofs.Copied.{Copying}
 use Rattle.run_memory.proofs.copies.copy_workers_in.Given as goal
 
 pub record Inv (bytes₀ words₀ numbers₀ : List ℕ) (workers : List Worker) (bytes words numbers : List ℕ) (w : ℕ) : Type 0 where

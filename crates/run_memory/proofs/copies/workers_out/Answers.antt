@@ -1,9 +1,6 @@
 use mathlib.Core.Path.{refl}
-use Prim.Native.Nat.{◌-◌}
 use native.Mathlib.Omega.{arith}
-use Rattle.run_memory.specs.Blocks.{bytes_in, words_in, numbers_in}
-use Rattle.run_memory.proofs.WorkerRecords.{Upto, one_more, all_sixteen}
-use borrow.Author.Rules.{rules}
+use Rattle.run_memory.proofs.WorkerRecords.{one_more, all_sixteen}
 use Rattle.run_memory.proofs.copies.workers_out.Goals as goal
 
 pub loop-w-init : goal.loop-w-init

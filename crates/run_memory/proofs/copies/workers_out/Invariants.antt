@@ -1,10 +1,7 @@
 -- `run_memory::copies::workers_out` meets its contract. The invariant: the workers below w have their records.
-use mathlib.Core.Path.{refl}
 use Prim.Native.Nat.{◌-◌}
-use native.Mathlib.Omega.{arith}
 use Rattle.run_memory.specs.Blocks.{bytes_in, words_in, numbers_in}
-use Rattle.run_memory.proofs.WorkerRecords.{Upto, one_more, all_sixteen}
-use borrow.Author.Rules.{rules}
+use Rattle.run_memory.proofs.WorkerRecords.{Upto}
 use Rattle.run_memory.proofs.copies.workers_out.Given as goal
 
 abbrev pub invariant-loop-w : goal.invariant-loop-w

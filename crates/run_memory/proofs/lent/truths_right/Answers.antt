@@ -1,9 +1,8 @@
-use Prim.Native.Nat.{◌-◌, ◌<◌}
+use Prim.Native.Nat.{◌<◌}
 use native.Mathlib.Omega.{arith}
 use borrow.Author.Tests.{lt-ltb, le-ltb}
-use lib.Dec.{ltb}
 use lib.ListN.{get_or}
-use Rattle.order.proofs.Every.{Passed, passed_none, passed_more, passed_fails, passed_all}
+use Rattle.order.proofs.Every.{passed_none, passed_more, passed_fails, passed_all}
 use Rattle.run_memory.specs.Stands.{truths}
 use Rattle.run_memory.proofs.lent.truths_right.Goals as goal
 

@@ -1,11 +1,8 @@
 -- `run_memory::lent::truths_right` meets its contract. The invariant: the workers below w have 0 or 1.
-use Prim.Native.Nat.{◌-◌, ◌<◌}
-use native.Mathlib.Omega.{arith}
-use borrow.Author.Tests.{lt-ltb, le-ltb}
+use Prim.Native.Nat.{◌-◌}
 use lib.Dec.{ltb}
 use lib.ListN.{get_or}
-use Rattle.order.proofs.Every.{Passed, passed_none, passed_more, passed_fails, passed_all}
-use Rattle.run_memory.specs.Stands.{truths}
+use Rattle.order.proofs.Every.{Passed}
 use Rattle.run_memory.proofs.lent.truths_right.Given as goal
 
 abbrev pub invariant-loop-w : goal.invariant-loop-w

@@ -1,10 +1,6 @@
 use mathlib.Core.Path.{refl}
-use Prim.Native.Nat.{◌-◌}
 use native.Mathlib.Omega.{arith}
-use Rattle.run_memory.proofs.WorkerRecords.{Upto, one_more, all_sixteen}
-use borrow.Author.Rules.{rules}
-use Rattle.run_memory.proofs.lent.workers_at.Reads as reads
-use Rattle.run_memory.proofs.lent.workers_at.Lts as lts
+use Rattle.run_memory.proofs.WorkerRecords.{one_more, all_sixteen}
 use Rattle.run_memory.proofs.lent.workers_at.Goals as goal
 
 pub loop-w-init : goal.loop-w-init

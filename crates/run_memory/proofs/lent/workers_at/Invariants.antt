@@ -1,11 +1,6 @@
 -- `run_memory::lent::workers_at` meets its contract. The invariant: the workers below w have their records.
-use mathlib.Core.Path.{refl}
 use Prim.Native.Nat.{◌-◌}
-use native.Mathlib.Omega.{arith}
-use Rattle.run_memory.proofs.WorkerRecords.{Upto, one_more, all_sixteen}
-use borrow.Author.Rules.{rules}
-use Rattle.run_memory.proofs.lent.workers_at.Reads as reads
-use Rattle.run_memory.proofs.lent.workers_at.Lts as lts
+use Rattle.run_memory.proofs.WorkerRecords.{Upto}
 use Rattle.run_memory.proofs.lent.workers_at.Given as goal
 
 abbrev pub invariant-loop-w : goal.invariant-loop-w

@@ -1,5 +1,4 @@
 -- `run_memory::list::link_left` meets its contract: its writes are those of the definition.
-use borrow.Author.Rules.{rules}
 use Rattle.run_memory.specs.Blocks.{words_in}
 use Rattle.run_memory.proofs.Linking.{no_list, its_list, linked_inner, linked_first}
 use Rattle.run_memory.proofs.list.link_left.Goals as goal

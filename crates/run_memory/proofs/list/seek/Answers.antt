@@ -1,10 +1,7 @@
 use mathlib.Core.Path.{◌≡◌, sym, subst, ◌∙◌}
-use Prim.Native.Nat.{ℕ, ◌-◌}
+use Prim.Native.Nat.{ℕ}
 use mathlib.Core.List.{List}
-use borrow.Author.Rules.{rules}
-use Rattle.run_memory.proofs.Searching.{SoFar, sought_start, sought_found, sought_out, sought_over, sought_on}
-use Rattle.run_memory.specs.Blocks.{bytes_in, words_in}
-use Rattle.run_memory.specs.Places.{head_at}
+use Rattle.run_memory.proofs.Searching.{sought_start, sought_found, sought_out, sought_over, sought_on}
 use Rattle.run_memory.proofs.list.seek.Invariants.{Searched}
 use Rattle.run_memory.proofs.list.seek.Goals as goal
 

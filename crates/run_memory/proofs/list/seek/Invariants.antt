@@ -1,9 +1,7 @@
 -- `run_memory::list::seek` meets its contract. The invariant: the whole search finds what the search from t finds, with the threads passed so far.
-use mathlib.Core.Path.{◌≡◌, sym, subst, ◌∙◌}
 use Prim.Native.Nat.{ℕ, ◌-◌}
 use mathlib.Core.List.{List}
-use borrow.Author.Rules.{rules}
-use Rattle.run_memory.proofs.Searching.{SoFar, sought_start, sought_found, sought_out, sought_over, sought_on}
+use Rattle.run_memory.proofs.Searching.{SoFar}
 use Rattle.run_memory.specs.Blocks.{bytes_in, words_in}
 use Rattle.run_memory.specs.Places.{head_at}
 use Rattle.run_memory.proofs.list.seek.Given as goal

@@ -1,5 +1,4 @@
 -- `run_memory::list::unlink` meets its contract: its writes are those of the definition.
-use borrow.Author.Rules.{rules}
 use Rattle.run_memory.specs.Blocks.{words_in}
 use Rattle.run_memory.proofs.Linking.{no_list, its_list, unlinked_inner, unlinked_first}
 use Rattle.run_memory.proofs.list.unlink.Goals as goal

@@ -1,5 +1,4 @@
 -- `run_memory::packing::pack` meets its contract: the copies lay the record's memory.
-use borrow.Author.Rules.{rules}
 use Rattle.run_memory.specs.Blocks.{bytes_in, words_in, numbers_in, sums_in}
 use Rattle.run_memory.proofs.Laying.{memory_laid}
 use Rattle.run_memory.proofs.packing.pack.Goals as goal

@@ -1,5 +1,4 @@
 -- `run_memory::packing::pack_sums` meets its contract: the copies are those of the record's sums.
-use borrow.Author.Rules.{rules}
 use Rattle.run_memory.specs.Blocks.{sums_in}
 use Rattle.run_memory.proofs.Laying.{sums_laid}
 use Rattle.run_memory.proofs.packing.pack_sums.Goals as goal

@@ -1,5 +1,4 @@
 -- `run_memory::packing::pack_words` meets its contract: the copies are those of the record's rows and heads, and of the second list that was filled.
-use borrow.Author.Rules.{rules}
 use Rattle.run_memory.specs.Blocks.{words_in}
 use Rattle.run_memory.proofs.Laying.{words_laid}
 use Rattle.run_memory.proofs.packing.pack_words.Goals as goal

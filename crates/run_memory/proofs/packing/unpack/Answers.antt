@@ -1,5 +1,4 @@
 -- `run_memory::packing::unpack` meets its contract: each part is read where it stands.
-use borrow.Author.Rules.{rules}
 use Rattle.schedule.specs.declared.Run.{Run}
 use Rattle.run_memory.proofs.packing.unpack.Goals as goal
 

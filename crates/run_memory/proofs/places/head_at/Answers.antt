@@ -1,5 +1,4 @@
 -- `run_memory::places::head_at` meets its contract: there are three heads.
-use borrow.Author.Rules.{rules}
 use Rattle.run_memory.specs.Blocks.{words_in}
 use Rattle.run_memory.proofs.Rows.{head_get, head_past}
 use Rattle.run_memory.proofs.places.head_at.Goals as goal

@@ -3,7 +3,6 @@ use mathlib.Core.Path.{sym, ap}
 use Prim.Native.Nat.{ℕ}
 use mathlib.Core.Bool.{not}
 use lib.Dec.{eqb}
-use borrow.Author.Rules.{rules}
 use Rattle.run_memory.proofs.Parts.{part_get, part_past}
 use Rattle.run_memory.proofs.places.holds_at.Goals as goal
 

@@ -1,5 +1,4 @@
 -- `run_memory::places::put_amount` meets its contract: past its part a write does nothing.
-use borrow.Author.Rules.{rules}
 use Rattle.run_memory.proofs.Numbers.{amount_set, amount_set_past}
 use Rattle.run_memory.proofs.places.put_amount.Goals as goal
 

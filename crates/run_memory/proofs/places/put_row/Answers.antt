@@ -1,5 +1,4 @@
 -- `run_memory::places::put_row` meets its contract: outside a row, and of no row, a write does nothing.
-use borrow.Author.Rules.{rules}
 use Rattle.run_memory.proofs.Rows.{row_set, row_set_past, row_set_none}
 use Rattle.run_memory.proofs.places.put_row.Goals as goal
 

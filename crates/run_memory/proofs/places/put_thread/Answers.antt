@@ -1,5 +1,4 @@
 -- `run_memory::places::put_thread` meets its contract: past its part a write does nothing.
-use borrow.Author.Rules.{rules}
 use Rattle.run_memory.proofs.Rows.{thread_set, thread_set_past}
 use Rattle.run_memory.proofs.places.put_thread.Goals as goal
 

@@ -1,5 +1,4 @@
 -- `run_memory::places::put_total_in` meets its contract: the block has its length, and past its three numbers a write does nothing.
-use borrow.Author.Rules.{rules}
 use Rattle.run_memory.specs.Blocks.{sums_in}
 use Rattle.run_memory.proofs.Numbers.{total_set, total_set_past}
 use Rattle.run_memory.proofs.places.put_total_in.Goals as goal

@@ -1,6 +1,5 @@
 -- `run_memory::places::quota_at` meets its contract: past its part a read gives 0.
 use mathlib.Core.Path.{sym}
-use borrow.Author.Rules.{rules}
 use Rattle.run_memory.proofs.Parts.{part_get, part_past}
 use Rattle.run_memory.proofs.places.quota_at.Goals as goal
 

@@ -1,6 +1,5 @@
 -- `run_memory::places::row_at` meets its contract: outside a row, and of no row, a read gives 0.
 use mathlib.Core.Path.{sym}
-use borrow.Author.Rules.{rules}
 use Rattle.run_memory.proofs.Rows.{row_get, row_past, row_none}
 use Rattle.run_memory.proofs.places.row_at.Goals as goal
 

@@ -1,5 +1,4 @@
 -- `run_memory::places::setting_at` meets its contract: there are two settings.
-use borrow.Author.Rules.{rules}
 use Rattle.run_memory.specs.Blocks.{numbers_in}
 use Rattle.run_memory.proofs.Numbers.{setting_get, setting_past}
 use Rattle.run_memory.proofs.places.setting_at.Goals as goal

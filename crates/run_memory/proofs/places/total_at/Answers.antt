@@ -1,5 +1,4 @@
 -- `run_memory::places::total_at` meets its contract: there are three totals.
-use borrow.Author.Rules.{rules}
 use Rattle.run_memory.specs.Blocks.{sums_in}
 use Rattle.run_memory.proofs.Numbers.{total_get, total_past}
 use Rattle.run_memory.proofs.places.total_at.Goals as goal

@@ -1,5 +1,4 @@
 -- `run_memory::places::worker_at` meets its contract: each field is what its cell holds.
-use borrow.Author.Rules.{rules}
 use Rattle.run_memory.proofs.places.worker_at.Goals as goal
 
 pub returns : goal.returns

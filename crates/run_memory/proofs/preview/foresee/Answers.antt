@@ -6,15 +6,13 @@ use mathlib.Core.Bool.{true}
 use native.Mathlib.Omega.{arith}
 use borrow.Author.Tests.{not-true, not-false}
 use lib.ListN.{length}
-use Rattle.table.specs.Format.{kind, table_of}
+use Rattle.table.specs.Format.{table_of}
 use Rattle.schedule.specs.Links.{seek}
-use Rattle.run_memory.specs.Memory.{Memory, moved_in}
+use Rattle.run_memory.specs.Memory.{moved_in}
 use Rattle.run_memory.specs.Blocks.{words_in, memory_of, part}
-use Rattle.run_memory.specs.Code.Seen.{seen_in}
 use Rattle.run_memory.proofs.Parts.{part_length}
-use Rattle.run_memory.proofs.Takes.{has_room, asked_room, own_thread, sought_thread, taken_ready, codes, arguments, without_room, no_thread_lem, passed_as, passes}
+use Rattle.run_memory.proofs.Takes.{asked_room, own_thread, sought_thread, taken_ready, codes, arguments, without_room, no_thread_lem, passed_as, passes}
 use Rattle.run_memory.proofs.Foreseeing.{no_worker_lem, refuses, is_idle, is_unfit, goes}
-use borrow.Author.Rules.{rules}
 use Rattle.run_memory.proofs.preview.foresee.Goals as goal
 
 pub returns-then-places-w : goal.returns-then-places-w

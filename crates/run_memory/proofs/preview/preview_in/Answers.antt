@@ -1,11 +1,7 @@
 -- `run_memory::preview::preview_in` meets its contract: hindered, or foreseen.
-use mathlib.Core.Path.{◌≡◌}
-use lib.ListN.{get_or}
-use Rattle.run_memory.specs.Memory.{Memory, moved_in, hindrance}
 use Rattle.run_memory.specs.Blocks.{memory_of}
 use Rattle.run_memory.proofs.Takes.{asked_hindrance}
 use Rattle.run_memory.proofs.Foreseeing.{is_hindered, is_taken}
-use borrow.Author.Rules.{rules}
 use Rattle.run_memory.proofs.preview.preview_in.Goals as goal
 
 pub returns-then-number-ne0 : goal.returns-then-number-ne0

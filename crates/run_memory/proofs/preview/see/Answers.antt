@@ -2,13 +2,11 @@
 use mathlib.Core.Path.{◌≡◌, ◌∙◌}
 use Prim.Native.Nat.{ℕ}
 use mathlib.Core.Bool.{Bool, true, false}
-use borrow.Author.Tests.{not-true, not-false}
 use Rattle.table.specs.Sum.{pick}
 use Rattle.schedule.specs.declared.Reply.{Reply}
 use Rattle.run_memory.specs.declared.preview.Seen.{Seen}
 use Rattle.run_memory.specs.Blocks.{sums_in}
 use Rattle.run_memory.specs.Code.Seen.{seeing, unseen}
-use borrow.Author.Rules.{rules}
 use Rattle.run_memory.proofs.preview.see.Goals as goal
 
 unfit : (f : Bool) (y : Seen) → f ≡ false → unseen ≡ pick f y unseen

@@ -10,7 +10,6 @@ use Rattle.run_memory.specs.Memory.{Memory}
 use Rattle.run_memory.specs.Blocks.{bytes_in, numbers_in, sums_in, gathered}
 use Rattle.run_memory.specs.Code.Seen.{seen_in}
 use Rattle.run_memory.proofs.Seeing.{end_seen, work_seen, fork_seen, unknown_seen}
-use borrow.Author.Rules.{rules}
 use Rattle.run_memory.proofs.preview.see_action.Goals as goal
 
 module _ (T : Table) (l : List ℕ) (p : T.code ≡ code_at l) (q : T.argument ≡ argument_at l) (t a quota : ℕ) (M : Memory) where

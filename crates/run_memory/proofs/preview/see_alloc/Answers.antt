@@ -1,11 +1,9 @@
 -- `run_memory::preview::see_alloc` meets its contract: beyond the quota, where a number does not fit, and within both.
 use mathlib.Core.Path.{◌∙◌}
-use borrow.Author.Tests.{not-true, not-false}
 use Rattle.array_machine.proofs.Leaves.{fits64}
 use Rattle.run_memory.specs.Blocks.{numbers_in, sums_in}
 use Rattle.run_memory.proofs.Acts.{share, alloc_room}
 use Rattle.run_memory.proofs.Seeing.{alloc_beyond, alloc_unfit, alloc_done}
-use borrow.Author.Rules.{rules}
 use Rattle.run_memory.proofs.preview.see_alloc.Goals as goal
 
 pub returns-then-quota-share : goal.returns-then-quota-share

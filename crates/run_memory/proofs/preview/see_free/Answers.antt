@@ -1,10 +1,8 @@
 -- `run_memory::preview::see_free` meets its contract: the test decides, and what passed it can be taken away.
 use mathlib.Core.Path.{◌∙◌}
-use borrow.Author.Tests.{not-true, not-false}
 use Rattle.run_memory.specs.Blocks.{sums_in}
 use Rattle.run_memory.proofs.Acts.{free_room}
 use Rattle.run_memory.proofs.Seeing.{free_unfit, free_done}
-use borrow.Author.Rules.{rules}
 use Rattle.run_memory.proofs.preview.see_free.Goals as goal
 
 pub returns-then-not-free_fits : goal.returns-then-not-free_fits

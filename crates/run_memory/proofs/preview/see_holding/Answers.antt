@@ -2,7 +2,6 @@
 use mathlib.Core.Path.{ap, ◌∙◌}
 use Prim.Native.Nat.{ℕ, max}
 use Rattle.run_memory.specs.Code.Seen.{seeing}
-use borrow.Author.Rules.{rules}
 use Rattle.run_memory.proofs.preview.see_holding.Goals as goal
 
 pub returns : goal.returns

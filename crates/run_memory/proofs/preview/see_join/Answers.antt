@@ -2,7 +2,6 @@
 use mathlib.Core.Path.{sym, ◌∙◌}
 use Rattle.run_memory.specs.Blocks.{bytes_in, sums_in}
 use Rattle.run_memory.proofs.Seeing.{join_outside, join_waits, join_seen}
-use borrow.Author.Rules.{rules}
 use Rattle.run_memory.proofs.preview.see_join.Goals as goal
 
 pub returns-then-x-ge1024 : goal.returns-then-x-ge1024

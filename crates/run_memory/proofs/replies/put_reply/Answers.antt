@@ -1,5 +1,4 @@
 -- `run_memory::replies::put_reply` meets its contract, case by case.
-use borrow.Author.Rules.{rules}
 use Rattle.run_memory.proofs.replies.put_reply.Goals as goal
 
 pub returns-in-Idle : goal.returns-in-Idle

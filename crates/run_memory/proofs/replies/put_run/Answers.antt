@@ -1,8 +1,7 @@
 -- `run_memory::replies::put_run` meets its contract: what is said, and the turns.
-use mathlib.Core.Path.{◌≡◌, refl, ap}
+use mathlib.Core.Path.{refl, ap}
 use Prim.Native.Nat.{ℕ}
 use mathlib.Core.List.{[], ◌∷◌}
-use borrow.Author.Rules.{rules}
 use Rattle.run_memory.proofs.replies.put_run.Goals as goal
 
 pub returns : goal.returns

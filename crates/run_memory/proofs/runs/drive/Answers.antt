@@ -1,20 +1,16 @@
 use mathlib.Core.Path.{◌≡◌, refl, sym, ap, ◌∙◌}
-use Prim.Native.Nat.{ℕ, ◌+◌, ◌-◌, ◌%◌, ◌<◌}
+use Prim.Native.Nat.{ℕ, ◌+◌, ◌%◌, ◌<◌}
 use mathlib.Core.List.{List}
 use mathlib.Core.Bool.{Bool, true, false}
 use native.Mathlib.Nat.{zero-mod}
 use native.Mathlib.Omega.{arith}
-use borrow.Author.Rules.{rules}
 use borrow.Author.Tests.{eqb-true, eqb-false}
 use lib.Dec.{ltb}
 use lib.ListN.{get_or}
 use Rattle.table.specs.Sum.{pick}
 use Rattle.schedule.specs.Runs.{worker_at}
-use Rattle.run_memory.specs.Memory.{Memory}
-use Rattle.run_memory.specs.Blocks.{memory_of}
 use Rattle.run_memory.proofs.Turning.{in_turn}
-use Rattle.run_memory.proofs.Endings.{not_done}
-use Rattle.run_memory.proofs.Drives.{Along, root_stops, first_along, stopped_as_lem, spent, hindered, undone, goes_on, finished}
+use Rattle.run_memory.proofs.Drives.{root_stops, first_along, stopped_as_lem, spent, hindered, undone, goes_on, finished}
 use Rattle.run_memory.proofs.runs.drive.Goals as goal
 
 module _ (order : List ℕ) (rounds : Bool) (p i : ℕ) where

@@ -1,21 +1,13 @@
 -- `run_memory::runs::drive` meets its contract. The invariant: what is left of the run is the whole, and the root has not ended (Along).
-use mathlib.Core.Path.{◌≡◌, refl, sym, ap, ◌∙◌}
-use Prim.Native.Nat.{ℕ, ◌+◌, ◌-◌, ◌%◌, ◌<◌}
+use mathlib.Core.Path.{◌≡◌}
+use Prim.Native.Nat.{ℕ, ◌-◌, ◌%◌, ◌<◌}
 use mathlib.Core.List.{List}
-use mathlib.Core.Bool.{Bool, true, false}
-use native.Mathlib.Nat.{zero-mod}
-use native.Mathlib.Omega.{arith}
-use borrow.Author.Rules.{rules}
-use borrow.Author.Tests.{eqb-true, eqb-false}
-use lib.Dec.{ltb}
+use mathlib.Core.Bool.{Bool, true}
 use lib.ListN.{get_or}
-use Rattle.table.specs.Sum.{pick}
 use Rattle.schedule.specs.Runs.{worker_at}
 use Rattle.run_memory.specs.Memory.{Memory}
 use Rattle.run_memory.specs.Blocks.{memory_of}
-use Rattle.run_memory.proofs.Turning.{in_turn}
-use Rattle.run_memory.proofs.Endings.{not_done}
-use Rattle.run_memory.proofs.Drives.{Along, root_stops, first_along, stopped_as_lem, spent, hindered, undone, goes_on, finished}
+use Rattle.run_memory.proofs.Drives.{Along}
 use Rattle.run_memory.proofs.runs.drive.Given as goal
 
 pub record Inv (s order : List ℕ) (rounds : Bool) (limit : ℕ) (M₀ M : Memory) (p i next : ℕ) : Type 0 where

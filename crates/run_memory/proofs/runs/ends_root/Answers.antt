@@ -1,10 +1,9 @@
 -- `run_memory::runs::ends_root` meets its contract: another thread than the root, or the root's action by its code.
-use mathlib.Core.Path.{◌≡◌, ap, ◌∙◌}
+use mathlib.Core.Path.{◌≡◌, ◌∙◌}
 use Prim.Native.Nat.{ℕ}
 use mathlib.Core.List.{List}
 use mathlib.Core.Bool.{false}
 use native.Mathlib.Omega.{arith}
-use borrow.Author.Rules.{rules}
 use borrow.Author.Tests.{eq-eqb, ne_eqb}
 use lib.Dec.{eqb}
 use Rattle.table.specs.Format.{Table, threads_of, table_of, end, is, kind, kind_of, code_at, bodies_from}

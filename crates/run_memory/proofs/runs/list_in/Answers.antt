@@ -4,7 +4,6 @@ use Rattle.table.proofs.Tests.{no_way}
 use Rattle.run_memory.specs.Memory.{Memory}
 use Rattle.run_memory.specs.Blocks.{memory_of}
 use Rattle.run_memory.proofs.Drives.{stopped_as_lem, full_list, driven_list}
-use borrow.Author.Rules.{rules}
 use Rattle.run_memory.proofs.runs.list_in.Goals.{Start}
 use Rattle.run_memory.proofs.runs.list_in.Goals as goal
 

@@ -5,7 +5,6 @@ use native.Mathlib.Omega.{arith}
 use Rattle.run_memory.specs.Memory.{Memory}
 use Rattle.run_memory.specs.Blocks.{memory_of}
 use Rattle.run_memory.proofs.Drives.{stopped_as_lem, full_rounds, no_rounds, driven_rounds}
-use borrow.Author.Rules.{rules}
 use Rattle.run_memory.proofs.runs.rounds_in.Goals.{Start}
 use Rattle.run_memory.proofs.runs.rounds_in.Goals as goal
 

@@ -2,7 +2,6 @@
 use mathlib.Core.Path.{◌≡◌}
 use Prim.Native.Nat.{ℕ}
 use mathlib.Core.Bool.{Bool, true, false}
-use borrow.Author.Rules.{rules}
 use Rattle.table.specs.Sum.{pick}
 use Rattle.run_memory.proofs.runs.worker_of.Goals as goal
 
