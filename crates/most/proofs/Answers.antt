@@ -15,7 +15,7 @@ use Rattle.table.proofs.Trying.{or_else_last}
 use Rattle.table.proofs.Passes.{first_found_append}
 use Rattle.order.specs.Turns.{turns_of}
 use Rattle.filling.specs.declared.Total.{Total}
-use Rattle.filling.specs.Filled.{filled_out, threads_to, actions_to, fill_pass}
+use Rattle.filling.specs.Filled.{threads_to, actions_to, fill_pass}
 use Rattle.filling.specs.Filling.{total_as, total_of}
 use Rattle.schedule.specs.Record.{max_workers}
 use Rattle.schedule.specs.Begin.{max_quota, setting_passes, begin_passes}

@@ -1,6 +1,5 @@
 -- `most::most_turns_in` meets its contract: the table's own checks, then those of a beginning; the working memory is as checking leaves it.
 use mathlib.Core.Path.{sym, ◌∙◌}
-use borrow.Author.Rules.{rules}
 use Rattle.table.proofs.Passes.{passes_rules}
 use Rattle.most.proofs.Answers.{refused_own, own_whole, values_are}
 use Rattle.most.proofs.most_turns_in.Goals as goal

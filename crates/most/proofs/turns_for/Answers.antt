@@ -1,10 +1,9 @@
 -- `most::turns_for` meets its contract: the answer, check by check.
-use mathlib.Core.Path.{◌≡◌, refl, sym, ◌∙◌}
+use mathlib.Core.Path.{◌≡◌, sym, ◌∙◌}
 use Prim.Native.Nat.{◌≤◌}
 use native.Mathlib.Nat.{mul-le-mul}
 use native.Mathlib.Omega.{arith}
 use mathlib.Core.Bool.{false}
-use borrow.Author.Rules.{rules}
 use Rattle.table.specs.Checks.{outside}
 use Rattle.table.proofs.Sizes.{inside}
 use Rattle.most.proofs.Answers.{many_workers, wide_quota, too_full, count_ready, at_most}

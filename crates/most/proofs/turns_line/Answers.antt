@@ -3,7 +3,6 @@ use native.Mathlib.Omega.{arith}
 use mathlib.Core.Path.{ap}
 use lib.ListN.{length, length-append}
 use Rattle.text.proofs.Placing.{counts}
-use borrow.Author.Rules.{rules}
 use Rattle.most.proofs.turns_line.Goals as goal
 
 pub returns : goal.returns

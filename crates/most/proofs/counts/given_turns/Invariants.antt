@@ -1,14 +1,10 @@
 -- `most::counts::given_turns` meets its contract. The invariant: `turns` is what the actions passed add up to, at most 2 for each.
-use mathlib.Core.Path.{◌≡◌, refl, ap, ◌∙◌}
-use Prim.Native.Nat.{ℕ, ◌+◌, ◌-◌, ◌*◌, ◌≤◌, ◌<◌}
-use native.Mathlib.Numerals.{add-one}
-use native.Mathlib.Omega.{arith}
+use mathlib.Core.Path.{◌≡◌}
+use Prim.Native.Nat.{ℕ, ◌-◌, ◌*◌, ◌≤◌}
 use mathlib.Core.List.{List}
 use Rattle.table.specs.Sum.{sum_to, Read}
 use Rattle.table.specs.Format.{table_of}
-use Rattle.order.specs.Turns.{turns_of}
 use Rattle.most.specs.Code.Steps.{turns_at}
-use Rattle.most.proofs.TurnCounts.{turns_sum}
 use Rattle.most.proofs.counts.given_turns.Given as goal
 
 pub record Inv (s : List ℕ) (n m turns a : ℕ) : Type 0 where

@@ -1,7 +1,6 @@
 -- `most::counts::turns_at` meets its contract.
-use mathlib.Core.Path.{◌≡◌, ◌∙◌}
+use mathlib.Core.Path.{◌∙◌}
 use native.Mathlib.Omega.{arith}
-use borrow.Author.Rules.{rules}
 use Rattle.table.specs.Format.{table_of}
 use Rattle.table.proofs.Parts.{code_from}
 use Rattle.most.proofs.TurnCounts.{at_alloc, at_join, at_other}

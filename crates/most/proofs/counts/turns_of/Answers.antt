@@ -1,9 +1,8 @@
 -- `most::counts::turns_of` meets its contract.
-use mathlib.Core.Path.{◌≡◌, refl}
+use mathlib.Core.Path.{◌≡◌}
 use Prim.Native.Nat.{ℕ, ◌+◌, ◌-◌, ◌≤◌}
 use native.Mathlib.Omega.{arith}
 use mathlib.Core.List.{List}
-use borrow.Author.Rules.{rules}
 use Rattle.table.specs.Sum.{Read}
 use Rattle.table.specs.Format.{threads_of, actions_of, table_of}
 use Rattle.order.specs.Turns.{turns_of}

@@ -9,7 +9,6 @@ use Rattle.table.proofs.Parts.{rest_part}
 use Rattle.most.specs.declared.Most.TheVariants.{Refused}
 use Rattle.most.specs.Most.{most_of}
 use Rattle.most.specs.Line.{workers_in, quota_in, most_to}
-use borrow.Author.Rules.{rules}
 use Rattle.most.proofs.line.answer_to.Goals as goal
 
 module _ (s : List ℕ) where

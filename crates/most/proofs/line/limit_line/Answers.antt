@@ -8,7 +8,6 @@ use Rattle.text.specs.Text.{decimal, newline, buffer_at, placed, placed_next}
 use Rattle.text.proofs.Decimal.{decimal_length}
 use Rattle.text.proofs.Placing.{line_put}
 use Rattle.most.specs.Line.{limit_word, limit_line}
-use borrow.Author.Rules.{rules}
 use Rattle.most.proofs.line.limit_line.Goals as goal
 
 module _ (s : List ℕ) (long : length s ≡ 80) (L : ℕ) (small : L < 2 ^ 32) where
