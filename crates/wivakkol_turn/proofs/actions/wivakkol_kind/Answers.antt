@@ -1,6 +1,5 @@
 -- `wivakkol_turn::actions::wivakkol_kind` meets its contract.
 use mathlib.Core.Path.{◌∙◌}
-use borrow.Author.Rules.{rules}
 use Rattle.table.specs.Format.{table_of}
 use Rattle.table.proofs.Parts.{code_from}
 use Rattle.wivakkol_turn.specs.Actions.{kind_code}
