@@ -8,4 +8,4 @@ pub returns-in-Answered : goal.returns-in-Answered
 returns-in-Answered c = let both = answered_whole _ _ (search rules) _ _ _ c.in-Answered.is c.assemble_on-answer.ensures.value c.assemble_on-answer.ensures.out_after in record { value = both.0; out_after = both.1 }
 
 pub returns-in-Short : goal.returns-in-Short
-returns-in-Short c = let a = c.args in let both = absurd (let z = never_short a.text.now a.out.now (search rules) _ _ c.in-Short.is c.assemble_on-answer.ensures.value in omega (arith, z)) in record { value = both.0; out_after = both.1 }
+returns-in-Short c = let a = c.args in absurd (let z = never_short a.text.now a.out.now (search rules) _ _ c.in-Short.is c.assemble_on-answer.ensures.value in omega (arith, z))

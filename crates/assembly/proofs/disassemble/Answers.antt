@@ -8,4 +8,4 @@ pub returns-in-Answered : goal.returns-in-Answered
 returns-in-Answered c = let both = told_whole _ _ (search rules) _ _ _ c.in-Answered.is c.disassemble_in-answer.ensures.value c.disassemble_in-answer.ensures.out_after in record { value = both.0; out_after = both.1 }
 
 pub returns-in-Short : goal.returns-in-Short
-returns-in-Short c = let a = c.args in let both = absurd (let z = text_never_short a.bytes.now a.out.now (search rules) _ _ c.in-Short.is c.disassemble_in-answer.ensures.value in omega (arith, z)) in record { value = both.0; out_after = both.1 }
+returns-in-Short c = let a = c.args in absurd (let z = text_never_short a.bytes.now a.out.now (search rules) _ _ c.in-Short.is c.disassemble_in-answer.ensures.value in omega (arith, z))

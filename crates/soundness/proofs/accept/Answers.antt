@@ -3,4 +3,4 @@ use borrow.Author.Rules.{rules}
 use Rattle.soundness.proofs.accept.Goals as goal
 
 pub returns : goal.returns
-returns c = let e = c.accept_in.ensures in record { value = e.0; filled_after = e.1.0; next_after = e.1.1.0; parents_after = e.1.1.1.0 }
+returns c = let e = c.accept_in.ensures in record { value = e.value; filled_after = e.filled_after; next_after = e.next_after; parents_after = e.parents_after }

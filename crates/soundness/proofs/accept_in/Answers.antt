@@ -18,19 +18,19 @@ said e k f = (e, (f.0, (f.1.0, (f.1.1, k))))
 
 pub returns-in-At : goal.returns-in-At
 returns-in-At c = let a = c.args in
-    let e = c.begin_fault-filling.ensures in let both = said e.0 e.1 (fills_nothing a.table.now a.p a.quota a.filled.now _ e.0 _ c.in-At.is) in record { value = both.0; filled_after = both.1.0; next_after = both.1.1.0; parents_after = both.1.1.1.0; rises_after = both.1.1.1.1 }
+    let e = c.begin_fault-filling.ensures in let both = said e.value e.rises_after (fills_nothing a.table.now a.p a.quota a.filled.now _ e.value _ c.in-At.is) in record { value = both.0; filled_after = both.1.0; next_after = both.1.1.0; parents_after = both.1.1.1.0; rises_after = both.1.1.1.1 }
 
 pub fill_start-requires : goal.fill_start-requires
 fill_start-requires c = let a = c.args in record { rules = given_rules a.table.now a.p a.quota a.filled.now _ c.begin_fault-filling.ensures.value c.in_default.is; next_value = (refl, refl) }
 
 pub returns-then-k-eq0 : goal.returns-then-k-eq0
 returns-then-k-eq0 c = let a = c.args in
-    let e = c.begin_fault-filling.ensures in let both = said e.0 e.1
-    (fills_given a.table.now a.p a.quota a.filled.now _ e.0 c.in_default.is c.if-k-eq0.true _ _ c.fill_start.ensures.next_after c.fill_start.ensures.parents_after) in record { value = both.0; filled_after = both.1.0; next_after = both.1.1.0; parents_after = both.1.1.1.0; rises_after = both.1.1.1.1 }
+    let e = c.begin_fault-filling.ensures in let both = said e.value e.rises_after
+    (fills_given a.table.now a.p a.quota a.filled.now _ e.value c.in_default.is c.if-k-eq0.true _ _ c.fill_start.ensures.next_after c.fill_start.ensures.parents_after) in record { value = both.0; filled_after = both.1.0; next_after = both.1.1.0; parents_after = both.1.1.1.0; rises_after = both.1.1.1.1 }
 
 pub returns-then-filled-k : goal.returns-then-filled-k
 returns-then-filled-k c = let a = c.args in
-    let e = c.begin_fault-filling.ensures in let both = said e.0 e.1 (fills_none a.table.now a.p a.quota a.filled.now _ e.0 c.in_default.is c.if-k-eq0.false c.if-filled-k.true) in record { value = both.0; filled_after = both.1.0; next_after = both.1.1.0; parents_after = both.1.1.1.0; rises_after = both.1.1.1.1 }
+    let e = c.begin_fault-filling.ensures in let both = said e.value e.rises_after (fills_none a.table.now a.p a.quota a.filled.now _ e.value c.in_default.is c.if-k-eq0.false c.if-filled-k.true) in record { value = both.0; filled_after = both.1.0; next_after = both.1.1.0; parents_after = both.1.1.1.0; rises_after = both.1.1.1.1 }
 
 pub slice_bounds-fill_start-end : goal.slice_bounds-fill_start-end
 slice_bounds-fill_start-end c =

@@ -5,12 +5,13 @@ use mathlib.Core.List.{List}
 use mathlib.Core.Bool.{false}
 use borrow.Author.Rules.{rules}
 use lib.ListN.{replicate}
-use Rattle.table.specs.Format.{table_of}
+use Rattle.table.specs.Format.{table_of, threads_of}
 use Rattle.table.specs.Pass.{first_found}
 use Rattle.table.specs.Checks.{passes}
 use Rattle.table.specs.Rules.{Rules}
 use Rattle.table.specs.declared.Refusal.{Refusal}
-use Rattle.table.specs.declared.Found.TheVariants.{At}
+use Rattle.table.specs.declared.Found.{Found}
+use Rattle.table.specs.declared.Found.TheVariants.{At, Nothing}
 use Rattle.table.proofs.Passes.{passes_rules}
 use Rattle.schedule.specs.declared.Worker.{Worker}
 use Rattle.schedule.specs.Sound.{common_sound}
@@ -18,7 +19,6 @@ use Rattle.order.specs.Words.{is_nothing}
 use Rattle.soundness.specs.Code.Checks.{Accepted}
 use Rattle.soundness.specs.Tested.{parents_in, parents_if}
 use Rattle.soundness.proofs.Noting.{parents_right}
-use Rattle.soundness.proofs.common.common_parts.Goals.{After-threads-n, In_default}
 use Rattle.soundness.proofs.common.common_parts.Goals as goal
 
 module _ (s : List ℕ) where
@@ -33,21 +33,18 @@ module _ (s : List ℕ) where
   its_parents : {l : List ℕ} → Rules s → l ≡ parents_in (table_of s) → l ≡ parents_if (is_nothing (first_found (passes s))) (table_of s)
   its_parents k e = e ∙ rw ((passes_rules s).1 k)
 
-passed : (c : In_default) → Rules c.args.table.now
-passed c = (passes_rules _).0 (sym c.check_in-found.ensures.value ∙ c.in_default.is)
-
-known : (c : After-threads-n) → Accepted c.args.table.now c.threads-n.result
+known : {s : List ℕ} {n : ℕ} {x : Found} → x ≡ first_found (passes s) → x ≡ Nothing → n ≡ threads_of s → Accepted s n
 unfolding table_of
-known c = record { rules = passed c; threads = c.threads-n.ensures.value }
+known {s} f d e = record { rules = (passes_rules s).0 (sym f ∙ d); threads = e }
 
 pub returns-in-At : goal.returns-in-At
 returns-in-At c = let e = sym c.check_in-found.ensures.value ∙ c.in-At.is in record { value = not_sound _ _ _ _ _ _ _ _ _ _ e; parents_after = no_parents _ e; falls_after = c.check_in-found.ensures.rises_after.1 }
 
 pub fill_forks-requires : goal.fill_forks-requires
-fill_forks-requires c = record { accepted = known (goal.at.fill_forks-requires c).After-threads-n; forks_value = (refl, refl) }
+fill_forks-requires c = record { accepted = known c.check_in-found.ensures.value c.in_default.is c.threads-n.ensures.value; forks_value = (refl, refl) }
 
 pub common_holds-requires : goal.common_holds-requires
-common_holds-requires c = record { accepted = known (goal.at.common_holds-requires c).After-threads-n; forks = c.fill_forks.ensures.forks; parents = parents_right _ c.fill_forks.ensures.parents_after }
+common_holds-requires c = record { accepted = known c.check_in-found.ensures.value c.in_default.is c.threads-n.ensures.value; forks = c.fill_forks.ensures.forks; parents = parents_right _ c.fill_forks.ensures.parents_after }
 
 pub returns : goal.returns
-returns c = record { value = c.common_holds.ensures; parents_after = its_parents _ (known (goal.at.returns c).After-threads-n).rules c.fill_forks.ensures.parents_after; falls_after = c.check_in-found.ensures.rises_after.1 }
+returns c = record { value = c.common_holds.ensures; parents_after = its_parents _ (known {s = c.args.table.now} c.check_in-found.ensures.value c.in_default.is c.threads-n.ensures.value).rules c.fill_forks.ensures.parents_after; falls_after = c.check_in-found.ensures.rises_after.1 }

@@ -4,4 +4,4 @@ use borrow.Author.Rules.{rules}
 use Rattle.soundness.proofs.common.test_common.Goals as goal
 
 pub returns : goal.returns
-returns c = let k = c.common_parts-passed.ensures in record { value = k.0; parents_after = k.1.0; rises_after = (refl, k.1.1, refl) }
+returns c = let k = c.common_parts-passed.ensures in record { value = k.value; parents_after = k.parents_after; rises_after = (refl, k.falls_after, refl) }

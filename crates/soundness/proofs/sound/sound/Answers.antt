@@ -50,7 +50,9 @@ slice_bounds-table-end c =
     omega (arith, bounds (goal.at.slice_bounds-table-end c).Else-not-copy_sound, table_size (goal.at.slice_bounds-table-end c).Start)
 
 pub slice_bounds-bytes-end : goal.slice_bounds-bytes-end
-slice_bounds-bytes-end c = sym (length-take-le _ _ (array_share_prefix_table c))
+slice_bounds-bytes-end c =
+    sym (length-take-le c.args.run.length c.args.run.table
+    (omega (arith, bounds (goal.at.slice_bounds-bytes-end c).Else-not-copy_sound, table_size (goal.at.slice_bounds-bytes-end c).Start)))
 
 pub returns : goal.returns
 returns c =

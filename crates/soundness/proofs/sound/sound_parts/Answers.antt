@@ -78,14 +78,14 @@ turns_fit : (c : Start) → c.args.turns < 18446744073709551616
 turns_fit c = search rules
 
 pub returns-then-not-common : goal.returns-then-not-common
-returns-then-not-common c = let k = c.test_common-common.ensures in record { value = not_shared _ _ _ _ _ _ _ _ _ _ _ _ (off k.0 (ap not c.if-not-common.true)); parents_after = never; rises_after = (k.1.1.0, k.1.1.1) }
+returns-then-not-common c = let k = c.test_common-common.ensures in record { value = not_shared _ _ _ _ _ _ _ _ _ _ _ _ (off k.value (ap not c.if-not-common.true)); parents_after = never; rises_after = (k.rises_after.0, k.rises_after.1) }
 
 pub returns-then-turns-eq18446744073709551615 : goal.returns-then-turns-eq18446744073709551615
-returns-then-turns-eq18446744073709551615 c = let k = c.test_common-common.ensures in record { value = last_turn _ _ _ _ _ _ _ _ _ _ _ _ c.if-turns-eq18446744073709551615.true; parents_after = never; rises_after = (k.1.1.0, k.1.1.1) }
+returns-then-turns-eq18446744073709551615 c = let k = c.test_common-common.ensures in record { value = last_turn _ _ _ _ _ _ _ _ _ _ _ _ c.if-turns-eq18446744073709551615.true; parents_after = never; rises_after = (k.rises_after.0, k.rises_after.1) }
 
 pub links_sound-requires : goal.links_sound-requires
 links_sound-requires c = let both = known _ _ _ _ _ _ _ _ _ _ (on c.test_common-common.ensures.value (ap not c.if-not-common.false)) c.threads-n.ensures.value in record { accepted = both.0; placed = both.1 }
 
 pub returns : goal.returns
 returns c = let k = c.test_common-common.ensures in
-    let h = on k.0 (ap not c.if-not-common.false) in record { value = all_sound _ _ _ _ _ _ _ _ _ _ _ _ h c.links_sound.ensures c.if-turns-eq18446744073709551615.false (turns_fit (goal.at.returns c).Start); parents_after = (λ q. its_parents _ _ _ _ _ _ _ _ _ _ h k.1.0); rises_after = (k.1.1.0, k.1.1.1) }
+    let h = on k.value (ap not c.if-not-common.false) in record { value = all_sound _ _ _ _ _ _ _ _ _ _ _ _ h c.links_sound.ensures c.if-turns-eq18446744073709551615.false (turns_fit (goal.at.returns c).Start); parents_after = (λ q. its_parents _ _ _ _ _ _ _ _ _ _ h k.parents_after); rises_after = (k.rises_after.0, k.rises_after.1) }

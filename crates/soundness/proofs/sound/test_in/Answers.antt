@@ -17,8 +17,8 @@ its_parents : (q : Bool) (T : Table) {l : List ℕ} → q ≡ true → l ≡ par
 its_parents q T e h = rw e h
 
 pub returns-then-not-passed : goal.returns-then-not-passed
-returns-then-not-passed c = let k = c.sound_parts-passed.ensures in record { value = k.0; parents_after = no_parents c.sound_parts-passed.result (table_of c.args.table.now) (not-true _ (ap not c.if-not-passed.true)); rises_after = k.1.1; forks_after = (refl, refl) }
+returns-then-not-passed c = let k = c.sound_parts-passed.ensures in record { value = k.value; parents_after = no_parents c.sound_parts-passed.result (table_of c.args.table.now) (not-true _ (ap not c.if-not-passed.true)); rises_after = k.rises_after; forks_after = (refl, refl) }
 
 pub returns-else-not-passed : goal.returns-else-not-passed
 returns-else-not-passed c = let k = c.sound_parts-passed.ensures in
-    let e = not-false c.sound_parts-passed.result (ap not c.if-not-passed.false) in record { value = k.0; parents_after = its_parents c.sound_parts-passed.result (table_of c.args.table.now) e (k.1.0 e); rises_after = k.1.1; forks_after = (refl, refl) }
+    let e = not-false c.sound_parts-passed.result (ap not c.if-not-passed.false) in record { value = k.value; parents_after = its_parents c.sound_parts-passed.result (table_of c.args.table.now) e (k.parents_after e); rises_after = k.rises_after; forks_after = (refl, refl) }
