@@ -18,7 +18,6 @@ use Rattle.deques.specs.DequeTurn.{unsound_deques, deque_turned}
 use Rattle.deques.proofs.DequeTests.{deque_sound_exactly}
 use Rattle.deques.proofs.DequeHistories.{deque_begin_sound}
 use Rattle.deque_listing.specs.DequeListing.{order_by, list_pairs, deque_listed_by}
-use Rattle.deque_listing.proofs.put_listing.Goals.{After-bytes-1}
 use Rattle.deque_listing.proofs.put_listing.Goals as goal
 
 -- an accepted beginning's record is sound
@@ -43,15 +42,10 @@ unfolding deque_listed_by
 returns-in-Refused c =
     rw (← c.deque_begin-begun.ensures.value, c.in-Refused.is) (puts_within (omega arith) c.put_answer.ensures)
 
-table_size : (c : After-bytes-1) → length c.deque_begin-begun.result.run.run.table ≡ 36868
-table_size c = search rules
-
 pub slice_bounds-bytes-end : goal.slice_bounds-bytes-end
 slice_bounds-bytes-end c =
-    omega (arith, begun_small _ _ _ c.deque_begin-begun.ensures.value c.in_default.is, table_size (goal.at.slice_bounds-bytes-end c).After-bytes-1)
-
-pub slice_bounds-put_header-end : goal.slice_bounds-put_header-end
-slice_bounds-put_header-end c = sym (length-take-le _ _ (array_share_prefix_bytes c))
+    let size : length c.deque_begin-begun.result.run.run.table ≡ 36868 = search rules in
+    omega (arith, begun_small _ _ _ c.deque_begin-begun.ensures.value c.in_default.is)
 
 pub returns : goal.returns
 unfolding deque_listed_by

@@ -5,11 +5,7 @@ use lib.ListN.{length}
 use borrow.Author.Tests.{not-true, not-false}
 use borrow.Author.Rules.{rules}
 use Rattle.wivakkol_marks.proofs.Marking.{set_unsound, set_above, set_done}
-use Rattle.wivakkol_marks.proofs.set_mark.Goals.{After-note-arg-1}
 use Rattle.wivakkol_marks.proofs.set_mark.Goals as goal
-
-set_size : (c : After-note-arg-1) → length c.args.set.now ≡ 8
-set_size c = search rules
 
 pub returns-then-not-fits : goal.returns-then-not-fits
 returns-then-not-fits c = record { marksums_after = set_unsound _ _ _ _ c.fit_marked-fits.ensures c.if-not-fits.true; set_len = λ e. absurd (omega (arith, e)) }
@@ -17,11 +13,5 @@ returns-then-not-fits c = record { marksums_after = set_unsound _ _ _ _ c.fit_ma
 pub returns-then-i-gt-LAST_MARK : goal.returns-then-i-gt-LAST_MARK
 returns-then-i-gt-LAST_MARK c = record { marksums_after = set_above _ _ _ _ c.fit_marked-fits.ensures c.if-not-fits.false c.if-i-gt-LAST_MARK.true; set_len = λ e. absurd (omega (arith, e)) }
 
-pub store-requires : goal.store-requires
-store-requires c = omega (arith, c.if-i-gt-LAST_MARK.false)
-
-pub note-requires : goal.note-requires
-note-requires c = omega (arith, c.if-i-gt-LAST_MARK.false, set_size (goal.at.note-requires c).After-note-arg-1)
-
 pub returns : goal.returns
-returns c = record { marksums_after = set_done _ _ _ _ c.fit_marked-fits.ensures c.if-not-fits.false (omega (arith, c.if-i-gt-LAST_MARK.false)) c.note.ensures c.store.ensures; set_len = λ e. set_size (goal.at.returns c).After-note-arg-1 }
+returns c = record { marksums_after = set_done _ _ _ _ c.fit_marked-fits.ensures c.if-not-fits.false (omega (arith, c.if-i-gt-LAST_MARK.false)) c.note.ensures c.store.ensures; set_len = λ e. omega arith }

@@ -19,7 +19,6 @@ use Rattle.schedule.proofs.Sound.Tests.{sound_exactly}
 use Rattle.schedule.proofs.Runs.Histories.{begin_sound}
 use Rattle.listing.specs.Listing.{listed_by}
 use Rattle.text.proofs.Putting.{puts_more, puts_within}
-use Rattle.listing.proofs.sheets.put_listing.Goals.{After-bytes-1}
 use Rattle.listing.proofs.sheets.put_listing.Goals as goal
 
 -- an accepted beginning's record is sound, and its turns are listed as they are
@@ -44,15 +43,10 @@ unfolding listed_by
 returns-in-Refused c =
     rw (← c.begin-begun.ensures.value, c.in-Refused.is) (puts_within (omega arith) c.put_answer.ensures)
 
-table_size : (c : After-bytes-1) → length c.begin-begun.result.run.table ≡ 36868
-table_size c = search rules
-
 pub slice_bounds-bytes-end : goal.slice_bounds-bytes-end
 slice_bounds-bytes-end c =
-    omega (arith, begun_small _ _ _ c.begin-begun.ensures.value c.in_default.is, table_size (goal.at.slice_bounds-bytes-end c).After-bytes-1)
-
-pub slice_bounds-put_header-end : goal.slice_bounds-put_header-end
-slice_bounds-put_header-end c = sym (length-take-le _ _ (array_share_prefix_bytes c))
+    let size : length c.begin-begun.result.run.table ≡ 36868 = search rules in
+    omega (arith, begun_small _ _ _ c.begin-begun.ensures.value c.in_default.is)
 
 pub returns : goal.returns
 unfolding listed_by

@@ -28,9 +28,7 @@ same_line {s = s} {o} {at} {r} e p = subst (λ (z : Line). Puts s at o r (turn_t
 
 pub returns : goal.returns
 returns c =
-    let a = c in
-    let n = a in
-    let g = n.args in
-    let e = code_read g.table.now n.threads.ensures.value a.action_done.ensures c.code-code.ensures in
+    let g = c.args in
+    let e = code_read g.table.now c.threads.ensures.value c.action_done.ensures c.code-code.ensures in
     let d = next_read ((words_in g.words.now).rows 1) c.thread_in.ensures c.row_at-action.ensures in
     same_line (λ i. line (c.total_at.ensures i) g.w (told_with g.reply (kind_of (e i)) (d i)) (c.total_at-held.ensures i)) c.put_turn.ensures

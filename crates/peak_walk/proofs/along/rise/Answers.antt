@@ -37,14 +37,13 @@ loop-a-smaller c = omega (arith, c.loop-a-test.true)
 
 pub loop-a-preserved : goal.loop-a-preserved
 loop-a-preserved c =
-    let b = c in
-    let e = b.threads-n.ensures.value in
+    let e = c.threads-n.ensures.value in
     let still = rests_read _ _ _ c.may_after-rests.result e c.may_after-rests.ensures in (
       omega (arith, c.loop-a-test.true),
-      greatest_more _ b.loop-a.a b.loop-a.best c.less.result c.larger-best.result b.loop-a.invariant.1 (c.less.ensures ∙ (λ i. b.loop-a.invariant.2 i - b.loop-a.invariant.3 i)) c.larger-best.ensures,
-      since_next _ _ b.loop-a.a b.loop-a.up c.alloc_of.result c.since-up.result c.may_after-rests.result b.loop-a.invariant.2
+      greatest_more _ c.loop-a.a c.loop-a.best c.less.result c.larger-best.result c.loop-a.invariant.1 (c.less.ensures ∙ (λ i. c.loop-a.invariant.2 i - c.loop-a.invariant.3 i)) c.larger-best.ensures,
+      since_next _ _ c.loop-a.a c.loop-a.up c.alloc_of.result c.since-up.result c.may_after-rests.result c.loop-a.invariant.2
           (alloc_read _ _ _ _ e c.code-k.ensures _ c.argument-x.ensures.value _ c.alloc_of.ensures) still c.since-up.ensures,
-      since_next _ _ b.loop-a.a b.loop-a.down c.free_of.result c.since-down.result c.may_after-rests.result b.loop-a.invariant.3
+      since_next _ _ c.loop-a.a c.loop-a.down c.free_of.result c.since-down.result c.may_after-rests.result c.loop-a.invariant.3
           (free_read _ _ _ _ e c.code-k.ensures _ c.argument-x.ensures.value _ c.free_of.ensures) still c.since-down.ensures,
     )
 

@@ -35,8 +35,7 @@ row_greatest-requires c =
 
 pub returns : goal.returns
 returns c =
-    let b = c in
-    let g = b.args in
-    counted g.peaks.now g.finals.now g.rows.now g.r g.k g.x g.w.balance g.w.best g.w.depth b.balance_after-balance.result c.extra_after-extra.result
-    c.depth_after-depth.result _ b.balance_after-balance.ensures c.extra_after-extra.ensures c.rows_after.ensures c.depth_after-depth.ensures g.may (ap not c.if-not-may.false) c.row_greatest.result c.larger-most.result c.wrapping_add_u64.result
+    let g = c.args in
+    counted g.peaks.now g.finals.now g.rows.now g.r g.k g.x g.w.balance g.w.best g.w.depth c.balance_after-balance.result c.extra_after-extra.result
+    c.depth_after-depth.result _ c.balance_after-balance.ensures c.extra_after-extra.ensures c.rows_after.ensures c.depth_after-depth.ensures g.may (ap not c.if-not-may.false) c.row_greatest.result c.larger-most.result c.wrapping_add_u64.result
     c.larger-best.result c.row_greatest.ensures c.larger-most.ensures c.wrapping_add_u64.ensures.value c.larger-best.ensures

@@ -8,16 +8,12 @@ use Rattle.wivakkol_marks.proofs.standing.blank_on.Goals as goal
 
 pub returns : goal.returns
 returns c =
-    let p = c in
-    let x = p in
-    let w = x in
-    let s = w in
-    blank_read [] s.requires
+    blank_read [] c.requires
     (record {
-      workers = p.workers.ensures ∙ ap (λ (n : ℕ). min n 17) x.setting_at.ensures;
+      workers = c.workers.ensures ∙ ap (λ (n : ℕ). min n 17) c.setting_at.ensures;
       quota = c.setting_at-2.ensures;
       leftmost = c.head_at.ensures;
-      records = w.workers_out-records.ensures;
+      records = c.workers_out-records.ensures;
       busy = c.head_at-2.ensures;
       held = c.total_at.ensures;
       highest = c.total_at-2.ensures;

@@ -6,18 +6,13 @@ use Rattle.wivakkol_marks.proofs.Fits.{sound_read, truths_read}
 use Rattle.wivakkol_marks.proofs.standing.sound_on.Goals as goal
 
 pub returns-then-truths_right : goal.returns-then-truths_right
-returns-then-truths_right c = let k = c in
-    let p = k in
-    let x = p in
-    let w = x in
-    let s = w in
-    let e = c.test_in-passed.ensures in record {
-      value = sound_read s.args.table.now s.requires
+returns-then-truths_right c = let e = c.test_in-passed.ensures in record {
+      value = sound_read c.args.table.now c.requires
           (record {
-            workers = p.workers.ensures ∙ ap (λ (n : ℕ). min n 17) x.setting_at.ensures;
-            quota = k.setting_at-2.ensures;
+            workers = c.workers.ensures ∙ ap (λ (n : ℕ). min n 17) c.setting_at.ensures;
+            quota = c.setting_at-2.ensures;
             leftmost = c.head_at.ensures;
-            records = w.workers_out-records.ensures;
+            records = c.workers_out-records.ensures;
             busy = c.head_at-2.ensures;
             held = c.total_at.ensures;
             highest = c.total_at-2.ensures;
@@ -29,18 +24,13 @@ returns-then-truths_right c = let k = c in
     }
 
 pub returns : goal.returns
-returns c = let l = c in
-    let k = l in
-    let p = k in
-    let x = p in
-    let w = x in
-    let s = w in record {
-      value = truths_read s.args.table.now s.requires
+returns c = record {
+      value = truths_read c.args.table.now c.requires
           (record {
-            workers = p.workers.ensures ∙ ap (λ (n : ℕ). min n 17) x.setting_at.ensures;
-            quota = k.setting_at-2.ensures;
-            leftmost = l.head_at.ensures;
-            records = w.workers_out-records.ensures;
+            workers = c.workers.ensures ∙ ap (λ (n : ℕ). min n 17) c.setting_at.ensures;
+            quota = c.setting_at-2.ensures;
+            leftmost = c.head_at.ensures;
+            records = c.workers_out-records.ensures;
             busy = c.head_at-2.ensures;
             held = c.total_at.ensures;
             highest = c.total_at-2.ensures;
