@@ -5,7 +5,7 @@ ghost use Rattle.peaks.specs.Peak.{peak_on};
 ghost use Rattle.peak_walk.specs.Peaked.{standing};
 ghost use Rattle.peak_walk.specs.Code.Walk.{Accepted, Right};
 
-use crate::rows::{number, put};
+use crate::row::{number, put};
 use crate::walk::walk_body;
 
 // Their peaks at load r, and their final balances.

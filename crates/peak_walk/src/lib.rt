@@ -4,7 +4,7 @@
 pub mod along;
 mod fill;
 mod parallel;
-mod rows;
+mod row;
 mod walk;
 
 ghost use Rattle.std.specs.Prelude.{◌≡◌, replicate};

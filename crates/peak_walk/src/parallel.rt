@@ -5,7 +5,7 @@ ghost use Rattle.peaks.specs.Rests.{parallel_peak};
 ghost use Rattle.peak_walk.specs.Code.Walk.{Accepted};
 ghost use Rattle.peak_walk.specs.Code.Parallel.{children_after, pass, passed_on, passed, Bests};
 
-use crate::rows::{number, put};
+use crate::row::{number, put};
 use crate::walk::{balance_after, less};
 use std::num::wrapping_add_u64;
 use table::kinds::{FORK, JOIN};

@@ -3,7 +3,7 @@ ghost use Rattle.std.specs.Prelude.{◌≡◌, suc, ◌-◌, ◌<◌, ◌≤◌}
 ghost use Rattle.table.specs.Format.{kind_of, code_at, argument_at, bodies_from, table_of};
 ghost use Rattle.peak_walk.specs.Code.Walk.{Small, balance_after, depth_after, rows_after, extra_after, walk as walk_of, stepped, may_after, walked};
 
-use crate::rows::{number, push_row, row_greatest};
+use crate::row::{number, push_row, row_greatest};
 use std::num::wrapping_add_u64;
 use table::kinds::{ALLOC, END, FORK, FREE, JOIN};
 use table::{larger, read};

@@ -1,7 +1,7 @@
 -- `peak_walk::rows::row_value` meets its contract.
 use Rattle.std.proofs.Common.{◌≡◌, ℕ, suc, ◌+◌, ◌-◌, ◌*◌, ◌%◌, ◌^◌, max, List, get_or, ap, ◌∙◌, arith, rules}
 use Rattle.peak_walk.specs.Code.Walk.{slot, cut, row_value}
-use Rattle.peak_walk.proofs.rows.row_value.Goals as goal
+use Rattle.peak_walk.proofs.row.row_value.Goals as goal
 
 module _ (peaks finals rows : List ℕ) (r c d j a b over : ℕ) (e : a ≡ get_or finals c 0) (f : b ≡ get_or rows (17 * d + j) 0) (o : over ≡ (a + b) % 2 ^ 64) where
   at_zero : j ≡ 0 → over ≡ row_value peaks finals r c d rows j

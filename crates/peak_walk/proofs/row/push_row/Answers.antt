@@ -1,7 +1,7 @@
 use Rattle.std.proofs.Common.{◌≡◌, ℕ, suc, ◌+◌, ◌-◌, ◌*◌, ◌≤◌, List, length, set, refl, ap, ◌∙◌, add-one, arith, rules}
 use Rattle.peak_walk.proofs.OpenRows.{pushed_length}
 use Rattle.peak_walk.specs.Code.Walk.{Small, row_value, pushed}
-use Rattle.peak_walk.proofs.rows.push_row.Goals as goal
+use Rattle.peak_walk.proofs.row.push_row.Goals as goal
 
 again : (peaks finals rows₀ : List ℕ) (r c d j : ℕ) (rows rows' : List ℕ) (v : ℕ) → rows ≡ pushed peaks finals r c d rows₀ j → v ≡ row_value peaks finals r c d rows j
     → rows' ≡ set rows (17 * (d + 1) + j) v → rows' ≡ pushed peaks finals r c d rows₀ (j + 1)

@@ -2,7 +2,7 @@
 use Rattle.std.proofs.Common.{◌≡◌, ℕ, suc, ◌+◌, ◌-◌, ◌*◌, ◌≤◌, max, List, get_or, refl, ◌∙◌, add-one, arith, rules}
 use Rattle.table.specs.Sum.{greatest_to}
 use Rattle.peak_walk.specs.Code.Walk.{Small, slot}
-use Rattle.peak_walk.proofs.rows.row_greatest.Given as goal
+use Rattle.peak_walk.proofs.row.row_greatest.Given as goal
 
 abbrev pub invariant-loop-j : goal.invariant-loop-j
 invariant-loop-j l = (l.j ≤ suc l.r) × Small l.r 0 l.d × (l.best ≡ greatest_to (λ i. get_or l.rows (slot l.d i) 0) l.j)
