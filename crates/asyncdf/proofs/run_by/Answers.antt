@@ -12,11 +12,11 @@ use Rattle.asyncdf.proofs.run_by.Goals as goal
 
 -- the record passed the test
 passed : (c : Else-not-tested) → unsound c.args.run ≡ false
-passed c = test_passes _ c.test-tested.ensures (ap not c.if-not-tested.false)
+passed c = test_passes _ c.test-tested.ensures c.if-not-tested.false
 
 pub returns-then-not-tested : goal.returns-then-not-tested
 returns-then-not-tested c =
-    c.unsound.ensures ∙ run_unsound _ _ c.args.rounds _ (test_fails _ c.test-tested.ensures (ap not c.if-not-tested.true))
+    c.unsound.ensures ∙ run_unsound _ _ c.args.rounds _ (test_fails _ c.test-tested.ensures c.if-not-tested.true)
 
 pub slice_bounds-table-end : goal.slice_bounds-table-end
 slice_bounds-table-end c = table_inside _ (passed (goal.at.slice_bounds-table-end c).Else-not-tested)

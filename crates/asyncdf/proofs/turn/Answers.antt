@@ -14,10 +14,10 @@ use Rattle.asyncdf.proofs.turn.Goals as goal
 
 -- the record passed the test
 passed : (c : Else-not-tested) → unsound c.args.run ≡ false
-passed c = test_passes _ c.test-tested.ensures (ap not c.if-not-tested.false)
+passed c = test_passes _ c.test-tested.ensures c.if-not-tested.false
 
 pub returns-then-not-tested : goal.returns-then-not-tested
-returns-then-not-tested c = let both = turned_answers (c.refused.ensures ∙ turned_unsound _ _ (test_fails _ c.test-tested.ensures (ap not c.if-not-tested.true))) in record { value = both.0; answer_value = rw (← turn_values_lem) both.1 }
+returns-then-not-tested c = let both = turned_answers (c.refused.ensures ∙ turned_unsound _ _ (test_fails _ c.test-tested.ensures c.if-not-tested.true)) in record { value = both.0; answer_value = rw (← turn_values_lem) both.1 }
 
 pub slice_bounds-table-end : goal.slice_bounds-table-end
 slice_bounds-table-end c = table_inside _ (passed (goal.at.slice_bounds-table-end c).Else-not-tested)

@@ -63,10 +63,10 @@ pub returns-in-Written : goal.returns-in-Written
 returns-in-Written c = let both = written _ _ _ _ _ _ _ _ _ (sym c.assemble-answer.ensures.value ∙ c.in-Written.is) c.assemble-answer.ensures.out_after c.requires.wide c.put_input.ensures in record { value = both.0; out_after = both.1 }
 
 pub returns-in-TooLong : goal.returns-in-TooLong
-returns-in-TooLong c = let both = rw (sym c.assemble-answer.ensures.value ∙ c.in-TooLong.is) (refl, refl) in record { value = both.0; out_after = both.1 }
+returns-in-TooLong c = let e = sym c.assemble-answer.ensures.value ∙ c.in-TooLong.is in record { value = rw e refl; out_after = rw e refl }
 
 pub returns-in-Malformed : goal.returns-in-Malformed
-returns-in-Malformed c = let both = rw (sym c.assemble-answer.ensures.value ∙ c.in-Malformed.is, c.later.ensures) (refl, refl) in record { value = both.0; out_after = both.1 }
+returns-in-Malformed c = let e = sym c.assemble-answer.ensures.value ∙ c.in-Malformed.is in record { value = rw (e, c.later.ensures) refl; out_after = rw e refl }
 
 pub returns-in-Refused : goal.returns-in-Refused
-returns-in-Refused c = let both = rw (sym c.assemble-answer.ensures.value ∙ c.in-Refused.is, c.later-in-Refused.ensures) (refl, refl) in record { value = both.0; out_after = both.1 }
+returns-in-Refused c = let e = sym c.assemble-answer.ensures.value ∙ c.in-Refused.is in record { value = rw (e, c.later-in-Refused.ensures) refl; out_after = rw e refl }

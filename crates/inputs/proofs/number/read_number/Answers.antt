@@ -63,22 +63,22 @@ pub loop-i-init : goal.loop-i-init
 loop-i-init c = record { within = omega arith; small = omega arith; led = sym c.zero_led.ensures ∙ c.if-zero_led.false; rest = refl }
 
 pub returns-then-not-goes_on : goal.returns-then-not-goes_on
-returns-then-not-goes_on c = stops _ _ _ _ c.loop-i.invariant c.loop-i-test.true (sym c.goes_on.ensures ∙ not-true c.goes_on.result (ap not c.if-not-goes_on.true))
+returns-then-not-goes_on c = stops _ _ _ _ c.loop-i.invariant c.loop-i-test.true (sym c.goes_on.ensures ∙ c.if-not-goes_on.true)
 
 pub overflow_mul-v : goal.overflow_mul-v
-overflow_mul-v c = omega (arith, (digit c.args.most c.loop-i.v (get_or c.args.w.now c.loop-i.i 0) (sym c.goes_on.ensures ∙ not-false c.goes_on.result (ap not c.if-not-goes_on.false))).small)
+overflow_mul-v c = omega (arith, (digit c.args.most c.loop-i.v (get_or c.args.w.now c.loop-i.i 0) (sym c.goes_on.ensures ∙ c.if-not-goes_on.false)).small)
 
 pub overflow_sub-v : goal.overflow_sub-v
-overflow_sub-v c = omega (arith, (digit c.args.most c.loop-i.v (get_or c.args.w.now c.loop-i.i 0) (sym c.goes_on.ensures ∙ not-false c.goes_on.result (ap not c.if-not-goes_on.false))).least)
+overflow_sub-v c = omega (arith, (digit c.args.most c.loop-i.v (get_or c.args.w.now c.loop-i.i 0) (sym c.goes_on.ensures ∙ c.if-not-goes_on.false)).least)
 
 pub overflow_cast-v : goal.overflow_cast-v
-overflow_cast-v c = omega (arith, (digit c.args.most c.loop-i.v (get_or c.args.w.now c.loop-i.i 0) (sym c.goes_on.ensures ∙ not-false c.goes_on.result (ap not c.if-not-goes_on.false))).greatest)
+overflow_cast-v c = omega (arith, (digit c.args.most c.loop-i.v (get_or c.args.w.now c.loop-i.i 0) (sym c.goes_on.ensures ∙ c.if-not-goes_on.false)).greatest)
 
 pub overflow_add-v : goal.overflow_add-v
-overflow_add-v c = omega (arith, (digit c.args.most c.loop-i.v (get_or c.args.w.now c.loop-i.i 0) (sym c.goes_on.ensures ∙ not-false c.goes_on.result (ap not c.if-not-goes_on.false))).least, (digit c.args.most c.loop-i.v (get_or c.args.w.now c.loop-i.i 0) (sym c.goes_on.ensures ∙ not-false c.goes_on.result (ap not c.if-not-goes_on.false))).small)
+overflow_add-v c = omega (arith, (digit c.args.most c.loop-i.v (get_or c.args.w.now c.loop-i.i 0) (sym c.goes_on.ensures ∙ c.if-not-goes_on.false)).least, (digit c.args.most c.loop-i.v (get_or c.args.w.now c.loop-i.i 0) (sym c.goes_on.ensures ∙ c.if-not-goes_on.false)).small)
 
 pub loop-i-preserved : goal.loop-i-preserved
-loop-i-preserved c = again _ _ _ _ c.loop-i.invariant c.loop-i-test.true (sym c.goes_on.ensures ∙ not-false c.goes_on.result (ap not c.if-not-goes_on.false))
+loop-i-preserved c = again _ _ _ _ c.loop-i.invariant c.loop-i-test.true (sym c.goes_on.ensures ∙ c.if-not-goes_on.false)
 
 pub returns : goal.returns
 returns c = ends _ _ _ _ c.loop-i.invariant c.loop-i-test.false

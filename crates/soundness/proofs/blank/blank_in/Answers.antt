@@ -1,5 +1,5 @@
 -- `soundness::blank::blank_in` meets its contract: the tests are the clauses, in their order.
-use mathlib.Core.Path.{◌≡◌, ◌∙◌, ap}
+use mathlib.Core.Path.{◌≡◌, ◌∙◌, ap, sym}
 use Prim.Native.Nat.{ℕ}
 use mathlib.Core.List.{List}
 use mathlib.Core.Bool.{Bool, ◌&&◌, and_assoc, not}
@@ -47,24 +47,24 @@ returns-then-quota-ne0 c = grouped _ _ _ _ _ _ _ _ _ _ _ (pass (eq-eqb _ 0 c.if-
 pub returns-then-not-zero_arrays : goal.returns-then-not-zero_arrays
 returns-then-not-zero_arrays c =
     grouped _ _ _ _ _ _ _ _ _ _ _
-    (pass (eq-eqb _ 0 c.if-p-ne0.false) (pass (eq-eqb _ 0 c.if-quota-ne0.false) (cut _ (off c.zero_arrays.ensures (ap not c.if-not-zero_arrays.true)))))
+    (pass (eq-eqb _ 0 c.if-p-ne0.false) (pass (eq-eqb _ 0 c.if-quota-ne0.false) (cut _ (sym c.zero_arrays.ensures ∙ c.if-not-zero_arrays.true))))
 
 pub returns-then-leftmost-ne0 : goal.returns-then-leftmost-ne0
 returns-then-leftmost-ne0 c =
     grouped _ _ _ _ _ _ _ _ _ _ _
     (pass (eq-eqb _ 0 c.if-p-ne0.false)
-    (pass (eq-eqb _ 0 c.if-quota-ne0.false) (pass (on c.zero_arrays.ensures (ap not c.if-not-zero_arrays.false)) (cut _ (ne_eqb _ 0 c.if-leftmost-ne0.true)))))
+    (pass (eq-eqb _ 0 c.if-quota-ne0.false) (pass (sym c.zero_arrays.ensures ∙ c.if-not-zero_arrays.false) (cut _ (ne_eqb _ 0 c.if-leftmost-ne0.true)))))
 
 pub returns-then-not-all_free : goal.returns-then-not-all_free
 returns-then-not-all_free c =
     grouped _ _ _ _ _ _ _ _ _ _ _
     (pass (eq-eqb _ 0 c.if-p-ne0.false)
     (pass (eq-eqb _ 0 c.if-quota-ne0.false)
-    (pass (on c.zero_arrays.ensures (ap not c.if-not-zero_arrays.false)) (pass (eq-eqb _ 0 c.if-leftmost-ne0.false) (cut _ (off c.all_free.ensures (ap not c.if-not-all_free.true)))))))
+    (pass (sym c.zero_arrays.ensures ∙ c.if-not-zero_arrays.false) (pass (eq-eqb _ 0 c.if-leftmost-ne0.false) (cut _ (sym c.all_free.ensures ∙ c.if-not-all_free.true))))))
 
 pub returns : goal.returns
 returns c =
     grouped _ _ _ _ _ _ _ _ _ _ _
     (pass (eq-eqb _ 0 c.if-p-ne0.false)
     (pass (eq-eqb _ 0 c.if-quota-ne0.false)
-    (pass (on c.zero_arrays.ensures (ap not c.if-not-zero_arrays.false)) (pass (eq-eqb _ 0 c.if-leftmost-ne0.false) (pass (on c.all_free.ensures (ap not c.if-not-all_free.false)) c.zero_totals.ensures)))))
+    (pass (sym c.zero_arrays.ensures ∙ c.if-not-zero_arrays.false) (pass (eq-eqb _ 0 c.if-leftmost-ne0.false) (pass (sym c.all_free.ensures ∙ c.if-not-all_free.false) c.zero_totals.ensures)))))

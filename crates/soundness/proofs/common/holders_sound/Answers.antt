@@ -1,12 +1,12 @@
 -- `soundness::common::holders_sound` meets its contract: the tests are the clauses, in their order.
 use mathlib.Core.Bool.{not}
-use mathlib.Core.Path.{ap}
+use mathlib.Core.Path.{ap, sym, ◌∙◌}
 use Rattle.soundness.proofs.Chains.{off, on, cut, pass}
 use borrow.Author.Rules.{rules}
 use Rattle.soundness.proofs.common.holders_sound.Goals as goal
 
 pub returns-then-not-one_holder_each : goal.returns-then-not-one_holder_each
-returns-then-not-one_holder_each c = cut _ (off c.one_holder_each.ensures (ap not c.if-not-one_holder_each.true))
+returns-then-not-one_holder_each c = cut _ (sym c.one_holder_each.ensures ∙ c.if-not-one_holder_each.true)
 
 pub returns : goal.returns
-returns c = pass (on c.one_holder_each.ensures (ap not c.if-not-one_holder_each.false)) c.workers_right.ensures
+returns c = pass (sym c.one_holder_each.ensures ∙ c.if-not-one_holder_each.false) c.workers_right.ensures

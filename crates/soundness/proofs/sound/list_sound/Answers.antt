@@ -1,5 +1,5 @@
 -- `soundness::sound::list_sound` meets its contract: the tests are the clauses, in their order.
-use mathlib.Core.Path.{◌≡◌, ◌∙◌, ap}
+use mathlib.Core.Path.{◌≡◌, ◌∙◌, ap, sym}
 use Prim.Native.Nat.{ℕ}
 use mathlib.Core.List.{List}
 use mathlib.Core.Bool.{Bool, ◌&&◌, and_assoc, not}
@@ -22,11 +22,11 @@ pub list_follows-requires : goal.list_follows-requires
 list_follows-requires c = (few_threads c.requires.accepted, c.requires.len_bound.0, c.requires.len_bound.1)
 
 pub returns-then-not-list_follows : goal.returns-then-not-list_follows
-returns-then-not-list_follows c = both _ _ _ _ _ c.requires.accepted.threads (cut _ (off c.list_follows.ensures (ap not c.if-not-list_follows.true)))
+returns-then-not-list_follows c = both _ _ _ _ _ c.requires.accepted.threads (cut _ (sym c.list_follows.ensures ∙ c.if-not-list_follows.true))
 
 pub in_serial_order-requires : goal.in_serial_order-requires
-in_serial_order-requires c = record { accepted = c.requires.accepted; placed = c.requires.placed; len_bound = (c.requires.len_bound.0, c.requires.len_bound.1, second_of (all_below (list_follows c.args.status.now (take c.args.len c.args.list.now)) c.args.n) _ (on c.list_follows.ensures (ap not c.if-not-list_follows.false))) }
+in_serial_order-requires c = record { accepted = c.requires.accepted; placed = c.requires.placed; len_bound = (c.requires.len_bound.0, c.requires.len_bound.1, second_of (all_below (list_follows c.args.status.now (take c.args.len c.args.list.now)) c.args.n) _ (sym c.list_follows.ensures ∙ c.if-not-list_follows.false)) }
 
 pub returns : goal.returns
 returns c =
-    both _ _ _ _ _ c.requires.accepted.threads (pass (on c.list_follows.ensures (ap not c.if-not-list_follows.false)) c.in_serial_order.ensures)
+    both _ _ _ _ _ c.requires.accepted.threads (pass (sym c.list_follows.ensures ∙ c.if-not-list_follows.false) c.in_serial_order.ensures)

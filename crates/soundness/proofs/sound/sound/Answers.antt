@@ -40,10 +40,10 @@ table_size : (c : Start) → length c.args.run.table ≡ 36868
 table_size c = search rules
 
 bounds : (c : Else-not-copy_sound) → c.args.run.length ≤ 36868
-bounds c = c.copy_sound.ensures.length_bound (not-false _ (ap not c.if-not-copy_sound.false))
+bounds c = c.copy_sound.ensures.length_bound c.if-not-copy_sound.false
 
 pub returns-then-not-copy_sound : goal.returns-then-not-copy_sound
-returns-then-not-copy_sound c = no_copy _ (off c.copy_sound.ensures.value (ap not c.if-not-copy_sound.true))
+returns-then-not-copy_sound c = no_copy _ (sym c.copy_sound.ensures.value ∙ c.if-not-copy_sound.true)
 
 pub slice_bounds-table-end : goal.slice_bounds-table-end
 slice_bounds-table-end c =
@@ -56,4 +56,4 @@ slice_bounds-bytes-end c =
 
 pub returns : goal.returns
 returns c =
-    by_parts c.args.run (on c.copy_sound.ensures.value (ap not c.if-not-copy_sound.false)) c.test_in-passed.ensures.value c.test_in-passed.ensures.parents_after
+    by_parts c.args.run (sym c.copy_sound.ensures.value ∙ c.if-not-copy_sound.false) c.test_in-passed.ensures.value c.test_in-passed.ensures.parents_after

@@ -84,7 +84,7 @@ pub returns-then-turns-eq18446744073709551615 : goal.returns-then-turns-eq184467
 returns-then-turns-eq18446744073709551615 c = let k = c.test_common-common.ensures in record { value = last_turn _ _ _ _ _ _ _ _ _ _ _ _ c.if-turns-eq18446744073709551615.true; parents_after = never; rises_after = (k.rises_after.0, k.rises_after.1) }
 
 pub links_sound-requires : goal.links_sound-requires
-links_sound-requires c = let both = known _ _ _ _ _ _ _ _ _ _ (on c.test_common-common.ensures.value (ap not c.if-not-common.false)) c.threads-n.ensures.value in record { accepted = both.0; placed = both.1 }
+links_sound-requires c = let both = known _ _ _ _ _ _ _ _ _ _ (sym c.test_common-common.ensures.value ∙ c.if-not-common.false) c.threads-n.ensures.value in record { accepted = both.0; placed = both.1 }
 
 pub returns : goal.returns
 returns c = let k = c.test_common-common.ensures in

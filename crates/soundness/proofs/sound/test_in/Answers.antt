@@ -1,5 +1,5 @@
 -- `soundness::sound::test_in` meets its contract: the parents stand where the parts are sound, and the rest is cleared.
-use mathlib.Core.Path.{◌≡◌, refl, ap}
+use mathlib.Core.Path.{◌≡◌, refl, ap, sym, ◌∙◌}
 use mathlib.Core.List.{List}
 use mathlib.Core.Bool.{Bool, true, false, not}
 use Prim.Native.Nat.{ℕ}
@@ -17,8 +17,8 @@ its_parents : (q : Bool) (T : Table) {l : List ℕ} → q ≡ true → l ≡ par
 its_parents q T e h = rw e h
 
 pub returns-then-not-passed : goal.returns-then-not-passed
-returns-then-not-passed c = let k = c.sound_parts-passed.ensures in record { value = k.value; parents_after = no_parents c.sound_parts-passed.result (table_of c.args.table.now) (not-true _ (ap not c.if-not-passed.true)); rises_after = k.rises_after; forks_after = (refl, refl) }
+returns-then-not-passed c = let k = c.sound_parts-passed.ensures in record { value = k.value; parents_after = no_parents c.sound_parts-passed.result (table_of c.args.table.now) c.if-not-passed.true; rises_after = k.rises_after; forks_after = (refl, refl) }
 
 pub returns-else-not-passed : goal.returns-else-not-passed
 returns-else-not-passed c = let k = c.sound_parts-passed.ensures in
-    let e = not-false c.sound_parts-passed.result (ap not c.if-not-passed.false) in record { value = k.value; parents_after = its_parents c.sound_parts-passed.result (table_of c.args.table.now) e (k.parents_after e); rises_after = k.rises_after; forks_after = (refl, refl) }
+    let e = c.if-not-passed.false in record { value = k.value; parents_after = its_parents c.sound_parts-passed.result (table_of c.args.table.now) e (k.parents_after e); rises_after = k.rises_after; forks_after = (refl, refl) }
