@@ -1,5 +1,4 @@
 -- `dfdeques::deque_turn` meets its contract: check 32, and then the turn in the blocks.
-use Rattle.std.proofs.Common.{ap, not}
 use mathlib.Core.Path.{◌≡◌, sym, ◌∙◌}
 use mathlib.Core.Bool.{false}
 use native.Mathlib.Omega.{arith}
@@ -14,10 +13,10 @@ use Rattle.dfdeques.proofs.deque_turn.Goals as goal
 
 -- the record passed the test
 passed : (c : Else-not-tested) → unsound_deques c.args.run ≡ false
-passed c = deque_passes _ c.deque_test-tested.ensures (ap not c.if-not-tested.false)
+passed c = deque_passes _ c.deque_test-tested.ensures c.if-not-tested.false
 
 pub returns-then-not-tested : goal.returns-then-not-tested
-returns-then-not-tested c = let both = (turned_answers (c.refused.ensures ∙ turn_unsound _ _ _ (deque_fails _ c.deque_test-tested.ensures (ap not c.if-not-tested.true)))) in record { value = both.0; answer_value = rw (← deque_turn_values_lem) both.1 }
+returns-then-not-tested c = let both = (turned_answers (c.refused.ensures ∙ turn_unsound _ _ _ (deque_fails _ c.deque_test-tested.ensures c.if-not-tested.true))) in record { value = both.0; answer_value = rw (← deque_turn_values_lem) both.1 }
 
 pub slice_bounds-table-end : goal.slice_bounds-table-end
 slice_bounds-table-end c = deque_inside _ (passed (goal.at.slice_bounds-table-end c).Else-not-tested)

@@ -1,5 +1,4 @@
 -- `dfdeques::run_pairs` meets its contract: check 32, and then the run in the blocks.
-use Rattle.std.proofs.Common.{ap, not}
 use mathlib.Core.Path.{◌≡◌, sym}
 use mathlib.Core.Bool.{false}
 use native.Mathlib.Omega.{arith}
@@ -14,10 +13,10 @@ use Rattle.dfdeques.proofs.run_pairs.Goals as goal
 
 -- the record passed the test
 passed : (c : Else-not-tested) → unsound_deques c.args.run ≡ false
-passed c = deque_passes _ c.deque_test-tested.ensures (ap not c.if-not-tested.false)
+passed c = deque_passes _ c.deque_test-tested.ensures c.if-not-tested.false
 
 pub returns-then-not-tested : goal.returns-then-not-tested
-returns-then-not-tested c = let both = (ran_answers (pairs_unsound _ _ (deque_fails _ c.deque_test-tested.ensures (ap not c.if-not-tested.true)))) in record { value = rw c.unsound.ensures both.0; report_value = rw (← pairs_values_lem, c.unsound.ensures) both.1 }
+returns-then-not-tested c = let both = (ran_answers (pairs_unsound _ _ (deque_fails _ c.deque_test-tested.ensures c.if-not-tested.true))) in record { value = rw c.unsound.ensures both.0; report_value = rw (← pairs_values_lem, c.unsound.ensures) both.1 }
 
 pub slice_bounds-table-end : goal.slice_bounds-table-end
 slice_bounds-table-end c = deque_inside _ (passed (goal.at.slice_bounds-table-end c).Else-not-tested)

@@ -1,5 +1,4 @@
 -- `pacing::paced_run` meets its contract: check 32, and then the run in the blocks.
-use Rattle.std.proofs.Common.{ap, not}
 use mathlib.Core.Path.{◌≡◌, sym, ◌∙◌}
 use mathlib.Core.Bool.{false}
 use native.Mathlib.Omega.{arith}
@@ -15,12 +14,12 @@ use Rattle.pacing.proofs.paced_run.Goals as goal
 
 -- the record passed the test
 passed : (c : Else-not-tested) → unsound c.args.run ≡ false
-passed c = test_passes _ c.test-tested.ensures (ap not c.if-not-tested.false)
+passed c = test_passes _ c.test-tested.ensures c.if-not-tested.false
 
 pub returns-then-not-tested : goal.returns-then-not-tested
 returns-then-not-tested c =
     let d = c.args in
-    c.unsound.ensures ∙ run_unsound (paced_worker d.order.now d.rounds) d.rounds d.limit d.run d.pace (test_fails _ c.test-tested.ensures (ap not c.if-not-tested.true))
+    c.unsound.ensures ∙ run_unsound (paced_worker d.order.now d.rounds) d.rounds d.limit d.run d.pace (test_fails _ c.test-tested.ensures c.if-not-tested.true)
 
 pub slice_bounds-table-end : goal.slice_bounds-table-end
 slice_bounds-table-end c = table_inside _ (passed (goal.at.slice_bounds-table-end c).Else-not-tested)
