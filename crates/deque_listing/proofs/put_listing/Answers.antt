@@ -47,6 +47,11 @@ slice_bounds-bytes-end c =
     let size : length c.deque_begin-begun.result.run.run.table ≡ 36868 = search rules in
     omega (arith, begun_small _ _ _ c.deque_begin-begun.ensures.value c.in_default.is)
 
+pub slice_bounds-put_header-end : goal.slice_bounds-put_header-end
+slice_bounds-put_header-end c =
+    let size : length c.deque_begin-begun.result.run.run.table ≡ 36868 = search rules in
+    sym (length-take-le _ _ (omega (arith, begun_small _ _ _ c.deque_begin-begun.ensures.value c.in_default.is)))
+
 pub returns : goal.returns
 unfolding deque_listed_by
 returns c =

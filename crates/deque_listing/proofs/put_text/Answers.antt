@@ -13,7 +13,6 @@ use Rattle.listing.specs.Listing.{workers_in, quota_in, order_length, order_in, 
 use Rattle.listing.proofs.Inputs.{right}
 use Rattle.deques.specs.DequeTurn.{deque_turned}
 use Rattle.deque_listing.specs.DequeListing.{deque_listed_by, input_texts}
-use Rattle.deque_listing.proofs.put_text.Goals.{After-word-end, Else-input_wrong}
 use Rattle.deque_listing.proofs.put_text.Goals as goal
 
 few : (s : List ℕ) → input_wrong s ≡ false → length (order_in s) ≤ 4096
@@ -34,28 +33,21 @@ module _ (s : List ℕ) {out o : List ℕ} {r : ℕ} where
       rw (rest_part s (6 + order_length s), whole) at (rw (en, ep, eK) at u) in
       rw h (puts_within (omega (arith, few s h)) v)
 
--- the input passed check 33
-passed : (c : Else-input_wrong) → input_wrong c.args.input.now ≡ false
-passed c = rw c.input_wrong.ensures at c.if-input_wrong.false
-
-within : (c : After-word-end) → 6 + c.word-end.result ≤ length c.args.input.now
-within c = omega (arith, (right c.args.input.now (passed c)).1, c.word-end.ensures.value)
-
 pub returns-then-input_wrong : goal.returns-then-input_wrong
 returns-then-input_wrong c =
     let a = c.args in
     wrong a.input.now (rw c.input_wrong.ensures at c.if-input_wrong.true) c.put_wrong.ensures
 
 pub slice_bounds-table-count : goal.slice_bounds-table-count
-slice_bounds-table-count c = within (goal.at.slice_bounds-table-count c).After-word-end
+slice_bounds-table-count c = let sizes = right c.args.input.now (rw c.input_wrong.ensures at c.if-input_wrong.false) in omega (arith, c.word-end.ensures.value)
 
 pub slice_bounds-table-start : goal.slice_bounds-table-start
-slice_bounds-table-start c = within (goal.at.slice_bounds-table-start c).After-word-end
+slice_bounds-table-start c = let sizes = right c.args.input.now (rw c.input_wrong.ensures at c.if-input_wrong.false) in omega (arith, c.word-end.ensures.value)
 
 pub slice_bounds-order-end : goal.slice_bounds-order-end
-slice_bounds-order-end c = within (goal.at.slice_bounds-order-end c).After-word-end
+slice_bounds-order-end c = let sizes = right c.args.input.now (rw c.input_wrong.ensures at c.if-input_wrong.false) in omega (arith, c.word-end.ensures.value)
 
 pub returns : goal.returns
 returns c =
     let a = c.args in
-    lists a.input.now (passed (goal.at.returns c).Else-input_wrong) c.word-end.ensures.value c.byte-p.ensures c.quota_in-quota.ensures c.put_listing.ensures
+    lists a.input.now (rw c.input_wrong.ensures at c.if-input_wrong.false) c.word-end.ensures.value c.byte-p.ensures c.quota_in-quota.ensures c.put_listing.ensures

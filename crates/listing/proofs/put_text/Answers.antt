@@ -14,7 +14,6 @@ use Rattle.chart.specs.Chart.{charted}
 use Rattle.listing.specs.Sheets.{widest}
 use Rattle.listing.specs.Listing.{workers_in, quota_in, order_length, order_in, table_after, input_wrong, listed_by, wrong_input, walled_by, printed_texts}
 use Rattle.listing.proofs.Inputs.{right}
-use Rattle.listing.proofs.put_text.Goals.{After-word-end, Else-input_wrong}
 use Rattle.listing.proofs.put_text.Goals as goal
 
 one_line : (chart : Bool) → 64 ≤ widest chart * 4098
@@ -50,33 +49,26 @@ module _ (chart : Bool) (s : List ℕ) {out o : List ℕ} {r : ℕ} where
         rw (rest_part s (6 + order_length s), whole) at (rw (en, ep, eK) at u) in
         rw (h, c) (puts_within (omega (arith, few s h)) v)
 
--- the input passed check 33
-passed : (c : Else-input_wrong) → input_wrong c.args.input.now ≡ false
-passed c = rw c.input_wrong.ensures at c.if-input_wrong.false
-
-within : (c : After-word-end) → 6 + c.word-end.result ≤ length c.args.input.now
-within c = omega (arith, (right c.args.input.now (passed c)).1, c.word-end.ensures.value)
-
 pub returns-then-input_wrong : goal.returns-then-input_wrong
 returns-then-input_wrong c =
     let a = c.args in
     wrong a.chart a.input.now (rw c.input_wrong.ensures at c.if-input_wrong.true) c.put_wrong.ensures
 
 pub slice_bounds-table-count : goal.slice_bounds-table-count
-slice_bounds-table-count c = within (goal.at.slice_bounds-table-count c).After-word-end
+slice_bounds-table-count c = let sizes = right c.args.input.now (rw c.input_wrong.ensures at c.if-input_wrong.false) in omega (arith, c.word-end.ensures.value)
 
 pub slice_bounds-table-start : goal.slice_bounds-table-start
-slice_bounds-table-start c = within (goal.at.slice_bounds-table-start c).After-word-end
+slice_bounds-table-start c = let sizes = right c.args.input.now (rw c.input_wrong.ensures at c.if-input_wrong.false) in omega (arith, c.word-end.ensures.value)
 
 pub slice_bounds-order-end : goal.slice_bounds-order-end
-slice_bounds-order-end c = within (goal.at.slice_bounds-order-end c).After-word-end
+slice_bounds-order-end c = let sizes = right c.args.input.now (rw c.input_wrong.ensures at c.if-input_wrong.false) in omega (arith, c.word-end.ensures.value)
 
 pub returns-then-chart : goal.returns-then-chart
 returns-then-chart c =
     let a = c.args in
-    charts a.chart a.input.now (passed (goal.at.returns-then-chart c).Else-input_wrong) c.word-end.ensures.value c.byte-p.ensures c.quota_in-quota.ensures c.if-chart.true c.put_chart.ensures
+    charts a.chart a.input.now (rw c.input_wrong.ensures at c.if-input_wrong.false) c.word-end.ensures.value c.byte-p.ensures c.quota_in-quota.ensures c.if-chart.true c.put_chart.ensures
 
 pub returns : goal.returns
 returns c =
     let a = c.args in
-    lists a.chart a.input.now (passed (goal.at.returns c).Else-input_wrong) c.word-end.ensures.value c.byte-p.ensures c.quota_in-quota.ensures c.if-chart.false c.put_listing.ensures
+    lists a.chart a.input.now (rw c.input_wrong.ensures at c.if-input_wrong.false) c.word-end.ensures.value c.byte-p.ensures c.quota_in-quota.ensures c.if-chart.false c.put_listing.ensures

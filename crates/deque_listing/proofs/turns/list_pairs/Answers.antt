@@ -7,15 +7,7 @@ use Rattle.deques.specs.DequeSound.{SoundDeques}
 use Rattle.deques.specs.DequeTurn.{unsound_deques}
 use Rattle.dfdeques.proofs.DequesPassed.{deque_fails, deque_passes, deque_parents, deque_workers}
 use Rattle.deque_listing.proofs.PairLines.{not_sound, lists, no_turns, no_workers}
-use Rattle.deque_listing.proofs.turns.list_pairs.Goals.{Else-not-tested, Else-record-eq0}
 use Rattle.deque_listing.proofs.turns.list_pairs.Goals as goal
-
--- the record passed the test
-passed : (c : Else-not-tested) → unsound_deques c.args.run ≡ false
-passed c = deque_passes _ c.deque_test-tested.ensures c.if-not-tested.false
-
-sound : (c : Else-record-eq0) → SoundDeques c.args.run
-sound c = deque_workers _ (passed c) (omega (arith, c.if-record-eq0.false))
 
 pub returns-then-not-tested : goal.returns-then-not-tested
 returns-then-not-tested c =
@@ -23,15 +15,17 @@ returns-then-not-tested c =
 
 pub returns-then-order-lt2 : goal.returns-then-order-lt2
 returns-then-order-lt2 c =
-    no_turns c.args.run c.args.order.now (passed (goal.at.returns-then-order-lt2 c).Else-not-tested) c.if-record-eq0.true c.if-order-lt2.true c.put_last.ensures
+    no_turns c.args.run c.args.order.now (deque_passes _ c.deque_test-tested.ensures c.if-not-tested.false) c.if-record-eq0.true c.if-order-lt2.true c.put_last.ensures
 
 pub returns-then-record-eq0 : goal.returns-then-record-eq0
 returns-then-record-eq0 c =
-    no_workers c.args.run c.args.order.now (passed (goal.at.returns-then-record-eq0 c).Else-not-tested) c.if-record-eq0.true c.if-order-lt2.false c.put_refused-then-record-eq0.ensures
+    no_workers c.args.run c.args.order.now (deque_passes _ c.deque_test-tested.ensures c.if-not-tested.false) c.if-record-eq0.true c.if-order-lt2.false c.put_refused-then-record-eq0.ensures
 
 pub put_run-requires : goal.put_run-requires
-put_run-requires c = record { sound_deques = sound (goal.at.put_run-requires c).Else-record-eq0; parents = deque_parents _ c.deque_test-tested.ensures (sound (goal.at.put_run-requires c).Else-record-eq0) }
+put_run-requires c =
+    let sound = deque_workers _ (deque_passes _ c.deque_test-tested.ensures c.if-not-tested.false) (omega (arith, c.if-record-eq0.false)) in
+    record { sound_deques = sound; parents = deque_parents _ c.deque_test-tested.ensures sound }
 
 pub returns : goal.returns
 returns c =
-    lists c.args.run c.args.order.now (passed (goal.at.returns c).Else-not-tested) c.put_run.ensures
+    lists c.args.run c.args.order.now (deque_passes _ c.deque_test-tested.ensures c.if-not-tested.false) c.put_run.ensures

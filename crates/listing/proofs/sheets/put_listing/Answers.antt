@@ -48,6 +48,11 @@ slice_bounds-bytes-end c =
     let size : length c.begin-begun.result.run.table ≡ 36868 = search rules in
     omega (arith, begun_small _ _ _ c.begin-begun.ensures.value c.in_default.is)
 
+pub slice_bounds-put_header-end : goal.slice_bounds-put_header-end
+slice_bounds-put_header-end c =
+    let size : length c.begin-begun.result.run.table ≡ 36868 = search rules in
+    sym (length-take-le _ _ (omega (arith, begun_small _ _ _ c.begin-begun.ensures.value c.in_default.is)))
+
 pub returns : goal.returns
 unfolding listed_by
 returns c =
