@@ -5,4 +5,4 @@ use Rattle.asyncdf.proofs.Calls.{ran_answers}
 use Rattle.asyncdf.proofs.run_rounds.Goals as goal
 
 pub returns : goal.returns
-returns c = let both = rw (← rounds_values_lem) (ran_answers c.run_by.ensures) in record { value = both.0; report_value = both.1 }
+returns c = let both = ran_answers c.run_by.ensures in record { value = both.0; report_value = rw (← rounds_values_lem) both.1 }
