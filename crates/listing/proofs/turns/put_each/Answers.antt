@@ -30,7 +30,7 @@ use Rattle.run_memory.specs.Memory.{Memory, moved_in, Told, turn_in, passed_over
 use Rattle.run_memory.specs.Stands.{run_in, Stands}
 use Rattle.run_memory.specs.Blocks.{memory_of}
 use Rattle.run_memory.specs.Runs.{ends_root}
-use Rattle.run_memory.proofs.Endings.{Undone, Unending, Ends, not_done, says_no_end, says_end, turn_ends}
+use Rattle.run_memory.proofs.Endings.{Undone, Unending, Ends, says_no_end, says_end, turn_ends}
 use Rattle.run_memory.proofs.Refines.{Moves, moves_so, turned_by, turn_turned}
 use Rattle.asyncdf.proofs.Calls.{told_small}
 use Rattle.listing.specs.Sheets.{turns_texts, widest, figures_in, after_texts, after_size, over_texts, Drawn}
@@ -39,9 +39,9 @@ use Rattle.listing.proofs.turns.put_each.Invariants.{Tells}
 use Rattle.listing.proofs.turns.put_each.Goals as goal
 
 -- a chart's test of its turns
-too_many : (chart : Bool) (turns : ℕ) → (chart && ltb most_turns turns) ≡ true → (chart ≡ true) × (most_turns < turns)
-too_many true turns e = (refl, ltb-true most_turns turns e)
-too_many false turns e = no_way cc
+above_most : (chart : Bool) (turns : ℕ) → (chart && ltb most_turns turns) ≡ true → (chart ≡ true) × (most_turns < turns)
+above_most true turns e = (refl, ltb-true most_turns turns e)
+above_most false turns e = no_way cc
 
 few_enough : (chart : Bool) (turns : ℕ) → (chart && ltb most_turns turns) ≡ false → chart ≡ true → turns ≤ most_turns
 few_enough true turns e c = ltb-false most_turns turns e
@@ -109,7 +109,7 @@ module _ {chart : Bool} {s : List ℕ} {p : ℕ} {order out₀ : List ℕ} {at�
       -- a chart has no line for the record after it
       no_line : {o : List ℕ} {r : ℕ} → (chart && ltb most_turns (moved_in x.memory).turns) ≡ true → Puts out at o r (refused_line (refusal 43 0) ∷ []) 64 → Whole o r
       no_line e q =
-          let (c, k) = too_many chart (moved_in x.memory).turns e in
+          let (c, k) = above_most chart (moved_in x.memory).turns e in
           refused v.listed h (refusal 43 0)
           (λ rest. rw c (texts_many here w (root_open here v.drawn.going) takes refl rest (sym (charted_many there (sound_there c) (many there (sound_there c) k))))) q
 
@@ -196,9 +196,6 @@ returns-then-too_many c =
     no_line c.loop-i.invariant.tells c.loop-i-test.true c.turn_in-spoken.ensures.sums_after c.if-spoken-ne0.false (asked c.args.chart c.total_at.result c.too_many.ensures c.total_at.ensures c.if-too_many.true)
     c.put_refused-then-too_many.ensures
 
-pub enum_known-reply : goal.enum_known-reply
-enum_known-reply c = c.in-Done.in-Done-own.keys1
-
 pub loop-i-smaller-in_default : goal.loop-i-smaller-in_default
 loop-i-smaller-in_default c = omega (arith, c.loop-i-test.true)
 
@@ -210,7 +207,7 @@ loop-i-preserved-in_default c =
       long = omega (arith, c.out-in_default-1.given, v.long);
       tells =
           undone v.tells c.loop-i-test.true c.turn_in-spoken.ensures.sums_after c.if-spoken-ne0.false (asked c.args.chart c.total_at.result c.too_many.ensures c.total_at.ensures c.if-too_many.false) (omega (arith, c.out-in_default-1.given))
-          c.put_after-at.ensures (not_done c.in-Done.in-Done-own.keys2);
+          c.put_after-at.ensures c.in_default.not-Done;
     }
 
 pub shape_of-out-then-ends_root : goal.shape_of-out-then-ends_root
