@@ -1,6 +1,5 @@
 -- `assembly::assemble_in` meets its contract: the answer of the working part, and cleared working memory.
 use mathlib.Core.Path.{refl}
-use borrow.Author.Rules.{rules}
 use Rattle.assembly.proofs.assemble_in.Goals as goal
 
 pub returns : goal.returns

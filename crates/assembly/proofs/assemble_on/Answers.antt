@@ -14,7 +14,6 @@ use Rattle.assembly.specs.declared.Assembling.TheVariants.{Answered}
 use Rattle.assembly.specs.declared.check.Checked.{Checked}
 use Rattle.assembly.specs.declared.check.Checked.TheVariants.{Fault}
 use Rattle.assembly.proofs.Rooms.{fits, put_in_lem}
-use borrow.Author.Rules.{rules}
 use Rattle.assembly.proofs.assemble_on.Goals as goal
 
 module _ (s out : List ℕ) where

@@ -16,7 +16,6 @@ use Rattle.assembly.specs.declared.Disassembling.{Disassembling}
 use Rattle.assembly.specs.declared.Disassembling.TheVariants.{Answered}
 use Rattle.assembly.proofs.Accepted.{shape}
 use Rattle.assembly.proofs.Rooms.{fits_text, put_in_lem}
-use borrow.Author.Rules.{rules}
 use Rattle.assembly.proofs.disassemble_in.Goals as goal
 
 module _ (s out : List ℕ) where

@@ -1,5 +1,4 @@
 -- `assembly::sizes_outside` meets its contract: `||` is the definition's.
-use borrow.Author.Rules.{rules}
 use Rattle.table.proofs.Tests.{or_left, or_right}
 use Rattle.assembly.proofs.sizes_outside.Goals as goal
 

@@ -1,7 +1,7 @@
 -- `assembly::write_table` meets its contract: check 2, the room, the rows, and what loading them answers.
 use Prim.Native.Nat.{ℕ, ◌+◌, ◌*◌, ◌≤◌, ◌<◌}
 use native.Mathlib.Omega.{arith}
-use mathlib.Core.Path.{◌≡◌, refl, sym, ap, ◌∙◌}
+use mathlib.Core.Path.{◌≡◌, sym, ap, ◌∙◌}
 use mathlib.Core.List.{List}
 use mathlib.Core.Bool.{true, false}
 use lib.ListN.{length, take, drop, length-append}
@@ -25,7 +25,6 @@ use Rattle.assembly.specs.declared.check.Checked.TheVariants.{WellFormed}
 use Rattle.assembly.proofs.Counts.{totals}
 use Rattle.assembly.proofs.TableRows.{in_range, table_put}
 use Rattle.assembly.proofs.Rooms.{fits, lacks, put_in_lem, kept}
-use borrow.Author.Rules.{rules}
 use Rattle.assembly.proofs.write_table.Goals as goal
 
 rejected : (l : List Said) {y : Loaded} {r : Refusal} {j : ℕ} → y ≡ Refused r → j ≡ refused_at r l → Rejected r j ≡ judged y l

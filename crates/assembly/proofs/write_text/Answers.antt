@@ -1,7 +1,7 @@
 -- `assembly::write_text` meets its contract: a buffer with 12 bytes for each thread and 31 for each action has room for the text.
 use Prim.Native.Nat.{ℕ, ◌+◌, ◌*◌, ◌≤◌, ◌<◌}
 use native.Mathlib.Omega.{arith}
-use mathlib.Core.Path.{◌≡◌, sym, ap, ◌∙◌}
+use mathlib.Core.Path.{◌≡◌, ap, ◌∙◌}
 use mathlib.Core.List.{List, ◌++◌}
 use lib.ListN.{length, drop}
 use Rattle.table.specs.Sum.{sum_to}
@@ -15,7 +15,6 @@ use Rattle.assembly.specs.declared.Disassembled.TheVariants.{Listed}
 use Rattle.assembly.specs.declared.Disassembling.{Disassembling}
 use Rattle.assembly.specs.declared.Disassembling.TheVariants.{Answered, Short}
 use Rattle.assembly.proofs.Rooms.{fits_text, lacks_text, put_in_lem, kept}
-use borrow.Author.Rules.{rules}
 use Rattle.assembly.proofs.write_text.Goals as goal
 
 -- an answer and a buffer are those of an accepted table

@@ -1,8 +1,7 @@
 -- `asyncdf::run_by` meets its contract: check 32, and then the run in the blocks.
-use mathlib.Core.Path.{◌≡◌, sym, ◌∙◌, ap}
-use mathlib.Core.Bool.{false, not}
+use mathlib.Core.Path.{◌≡◌, sym, ◌∙◌}
+use mathlib.Core.Bool.{false}
 use native.Mathlib.Omega.{arith}
-use borrow.Author.Rules.{rules}
 use lib.Seq.{length-take-le}
 use Rattle.schedule.specs.Turn.{unsound}
 use Rattle.soundness.proofs.Passed.{test_fails, test_passes, test_parents}

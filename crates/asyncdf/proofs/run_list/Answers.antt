@@ -1,5 +1,4 @@
 -- `asyncdf::run_list` meets its contract: the run of both sorts, over a list.
-use borrow.Author.Rules.{rules}
 use Rattle.schedule.proofs.Runs.Values.{list_values_lem}
 use Rattle.asyncdf.proofs.Calls.{ran_answers}
 use Rattle.asyncdf.proofs.run_list.Goals as goal

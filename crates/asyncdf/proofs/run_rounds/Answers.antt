@@ -1,5 +1,4 @@
 -- `asyncdf::run_rounds` meets its contract: the run of both sorts, in rounds.
-use borrow.Author.Rules.{rules}
 use Rattle.schedule.proofs.Runs.Values.{rounds_values_lem}
 use Rattle.asyncdf.proofs.Calls.{ran_answers}
 use Rattle.asyncdf.proofs.run_rounds.Goals as goal

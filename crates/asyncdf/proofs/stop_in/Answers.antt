@@ -1,5 +1,4 @@
 -- `asyncdf::stop_in` meets its contract: one of two calls.
-use borrow.Author.Rules.{rules}
 use Rattle.asyncdf.proofs.stop_in.Goals as goal
 
 pub returns-then-rounds : goal.returns-then-rounds

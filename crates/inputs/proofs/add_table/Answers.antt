@@ -18,7 +18,6 @@ use Rattle.inputs.specs.Code.Steps.{Passed}
 use Rattle.inputs.specs.declared.Made.{Made}
 use Rattle.inputs.specs.declared.Made.TheVariants.{Written as Filled}
 use Rattle.inputs.proofs.Tables.{table_written, table_small, input_put}
-use borrow.Author.Rules.{rules}
 use Rattle.inputs.proofs.add_table.Goals as goal
 
 small : (o : List ℕ) (k : ℕ) → k ≤ length o → k ≤ 36868 → length (take k o) ≤ 36868

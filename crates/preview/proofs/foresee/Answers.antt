@@ -4,7 +4,6 @@ use Rattle.schedule.specs.Record.{bytes_of}
 use Rattle.run_memory.specs.Memory.{Memory}
 use Rattle.run_memory.specs.Preview.{foreseen_in}
 use Rattle.run_memory.proofs.Packed.{table_room}
-use borrow.Author.Rules.{rules}
 use Rattle.preview.proofs.foresee.Goals as goal
 
 pub slice_bounds-all-end : goal.slice_bounds-all-end

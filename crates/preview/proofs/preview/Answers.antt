@@ -1,14 +1,12 @@
 -- `preview::preview` meets its contract: refused by the test, of no worker, and as it is foreseen on the blocks.
 use mathlib.Core.Path.{◌≡◌, sym, ap, ◌∙◌}
-use Prim.Native.Nat.{ℕ, ◌^◌, ◌<◌}
-use mathlib.Core.Bool.{false, not}
+use Prim.Native.Nat.{ℕ}
+use mathlib.Core.Bool.{false}
 use native.Mathlib.Omega.{arith}
 use borrow.Author.Rules.{rules}
 use Rattle.table.specs.declared.Refusal.{Refusal}
 use Rattle.schedule.specs.declared.Run.{Run}
 use Rattle.schedule.specs.declared.Reply.{Reply}
-use Rattle.schedule.specs.Sound.{Sound}
-use Rattle.schedule.specs.Turn.{unsound}
 use Rattle.schedule.specs.Shown.{preview_values}
 use Rattle.soundness.proofs.Passed.{test_fails, test_passes, test_parents, has_workers}
 use Rattle.run_memory.specs.declared.preview.Foreseen.{Foreseen}

@@ -2,7 +2,6 @@
 use mathlib.Core.Path.{sym, ap, ◌∙◌}
 use native.Mathlib.Omega.{arith}
 use Rattle.preview.specs.Preview.{refusal_of}
-use borrow.Author.Rules.{rules}
 use Rattle.preview.proofs.refusal_of.Goals as goal
 
 pub overflow_cast-number : goal.overflow_cast-number

@@ -1,5 +1,4 @@
 -- `soundness::accept` meets its contract: `accept_in` on working memory of its own.
-use borrow.Author.Rules.{rules}
 use Rattle.soundness.proofs.accept.Goals as goal
 
 pub returns : goal.returns

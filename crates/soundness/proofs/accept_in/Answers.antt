@@ -1,6 +1,6 @@
 -- `soundness::accept_in` meets its contract: nothing is written where a check applies or the room is too little; else the two arrays are of the table as given where nothing is above the
 -- quota, and of the filled-out table at the start of the buffer where something is. The checks leave the working memory cleared.
-use mathlib.Core.Path.{◌≡◌, refl, sym, ap, subst, ◌∙◌}
+use mathlib.Core.Path.{refl, sym, ap, subst, ◌∙◌}
 use Prim.Native.Nat.{ℕ}
 use mathlib.Core.List.{List}
 use mathlib.Core.Bool.{true}

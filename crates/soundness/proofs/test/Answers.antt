@@ -1,7 +1,6 @@
 -- `soundness::test` meets its contract: a record that is not sound passes where it is blank, and a sound one has its parents noted.
 use mathlib.Core.Path.{◌≡◌, refl, sym, ap, ◌∙◌}
 use mathlib.Core.Bool.{Bool, true, false, not}
-use borrow.Author.Rules.{rules}
 use lib.ListN.{replicate}
 use Rattle.schedule.specs.declared.Run.{Run}
 use Rattle.schedule.specs.Record.{table_in}

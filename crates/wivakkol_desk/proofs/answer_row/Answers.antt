@@ -1,6 +1,5 @@
 -- `wivakkol_desk::answer_row` meets its contract: the answer is one of four.
 use Rattle.wivakkol_desk.proofs.Rows.{same_row, fault_row}
-use borrow.Author.Rules.{rules}
 use Rattle.wivakkol_desk.proofs.answer_row.Goals as goal
 
 pub returns-in-Written : goal.returns-in-Written

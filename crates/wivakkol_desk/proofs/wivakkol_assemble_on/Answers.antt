@@ -1,6 +1,5 @@
 -- `wivakkol_desk::wivakkol_assemble_on` meets its contract: the answer's number and row, or the bytes that are lacking.
 use Rattle.wivakkol_desk.proofs.Rows.{answered_row, short_row}
-use borrow.Author.Rules.{rules}
 use Rattle.wivakkol_desk.proofs.wivakkol_assemble_on.Goals as goal
 
 pub returns-in-Answered : goal.returns-in-Answered

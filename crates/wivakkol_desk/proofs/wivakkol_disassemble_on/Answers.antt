@@ -1,6 +1,5 @@
 -- `wivakkol_desk::wivakkol_disassemble_on` meets its contract: the answer's number and row, or the bytes that are lacking.
 use Rattle.wivakkol_desk.proofs.Rows.{told_row, lacks_row}
-use borrow.Author.Rules.{rules}
 use Rattle.wivakkol_desk.proofs.wivakkol_disassemble_on.Goals as goal
 
 pub returns-in-Listed : goal.returns-in-Listed

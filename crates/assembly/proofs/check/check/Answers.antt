@@ -1,11 +1,11 @@
-use Prim.Native.Nat.{ℕ, suc, ◌+◌, ◌-◌, ◌≤◌}
+use Prim.Native.Nat.{ℕ, suc, ◌+◌, ◌≤◌}
 use native.Mathlib.Numerals.{add-one}
 use native.Mathlib.Omega.{arith}
 use mathlib.Core.Path.{◌≡◌, refl, sym, ◌∙◌}
 use mathlib.Core.List.{List}
 use lib.ListN.{length, drop}
 use Rattle.assembly.specs.Said.{saids}
-use Rattle.assembly.specs.Assembly.{counted_by, checked_from, checked, longest_text}
+use Rattle.assembly.specs.Assembly.{counted_by, checked_from, checked}
 use Rattle.assembly.specs.Code.Steps.{Reads}
 use Rattle.assembly.specs.declared.Expected.{Expected}
 use Rattle.assembly.specs.declared.line.Line.{Line}
@@ -13,7 +13,6 @@ use Rattle.assembly.specs.declared.check.Counting.TheVariants.{Counted, Stopped}
 use Rattle.assembly.specs.declared.check.Checked.TheVariants.{WellFormed, Fault}
 use Rattle.assembly.proofs.Lines.{said_none}
 use Rattle.assembly.proofs.Counts.{checked_nil, checked_next, counted_more}
-use borrow.Author.Rules.{rules}
 use Rattle.assembly.proofs.check.check.Invariants.{Inv}
 use Rattle.assembly.proofs.check.check.Goals as goal
 

@@ -1,7 +1,6 @@
 -- `assembly::check::counted` meets its contract, by what the line says.
 use native.Mathlib.Omega.{arith}
 use borrow.Author.Tests.{eq-eqb, ne_eqb}
-use borrow.Author.Rules.{rules}
 use Rattle.assembly.proofs.check.counted.Goals as goal
 
 pub overflow_add-result : goal.overflow_add-result

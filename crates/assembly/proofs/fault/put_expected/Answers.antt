@@ -3,7 +3,6 @@ use native.Mathlib.Omega.{arith}
 use Rattle.text.specs.Text.{ascii}
 use Rattle.text.proofs.Putting.{puts_word, puts_within}
 use Rattle.assembly.specs.Message.{expected_texts}
-use borrow.Author.Rules.{rules}
 use Rattle.assembly.proofs.fault.put_expected.Goals as goal
 
 pub returns-in-Keyword : goal.returns-in-Keyword

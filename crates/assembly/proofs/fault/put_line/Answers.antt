@@ -3,7 +3,6 @@ use native.Mathlib.Omega.{arith}
 use borrow.Author.Tests.{eq-eqb, ne_eqb}
 use Rattle.text.specs.Text.{ascii}
 use Rattle.text.proofs.Putting.{puts_none, puts_labelled, puts_within}
-use borrow.Author.Rules.{rules}
 use Rattle.assembly.proofs.fault.put_line.Goals as goal
 
 pub returns-then-line-eq0 : goal.returns-then-line-eq0

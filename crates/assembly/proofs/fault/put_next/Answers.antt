@@ -2,7 +2,6 @@
 use native.Mathlib.Omega.{arith}
 use Rattle.text.specs.Text.{ascii}
 use Rattle.text.proofs.Putting.{puts_labelled, puts_within}
-use borrow.Author.Rules.{rules}
 use Rattle.assembly.proofs.fault.put_next.Goals as goal
 
 pub returns : goal.returns

@@ -1,5 +1,4 @@
 -- `assembly::fault::put_reason` meets its contract, by what is not shown.
-use borrow.Author.Rules.{rules}
 use Rattle.assembly.proofs.fault.put_reason.Goals as goal
 
 pub returns-in-Nothing : goal.returns-in-Nothing

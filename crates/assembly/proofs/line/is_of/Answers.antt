@@ -5,7 +5,6 @@ use Prim.Native.Nat.{ℕ}
 use Rattle.assembly.specs.Code.Steps.{of_sort}
 use Rattle.assembly.specs.declared.Expected.{Expected}
 use Rattle.assembly.specs.declared.Said.TheVariants.{Nothing, Thread, Action, Expects}
-use borrow.Author.Rules.{rules}
 use Rattle.assembly.proofs.line.is_of.Goals as goal
 
 nothing : (b : Bool) → false ≡ of_sort b Nothing

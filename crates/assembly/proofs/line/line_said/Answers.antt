@@ -12,7 +12,6 @@ use Rattle.assembly.specs.Said.{code_of_word, said_after, said_by, meaning_of, l
 use Rattle.assembly.specs.declared.scan.Class.TheVariants.{Plain}
 use Rattle.assembly.specs.declared.Expected.TheVariants.{Keyword}
 use Rattle.assembly.specs.declared.Said.TheVariants.{Nothing, Expects}
-use borrow.Author.Rules.{rules}
 use Rattle.assembly.proofs.line.line_said.Goals as goal
 
 module _ (l : List ℕ) (p a b : ℕ) (v : Spans (in_class Plain) l p) (f : FirstWord (take p l) a b) where

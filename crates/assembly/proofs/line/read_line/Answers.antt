@@ -8,7 +8,6 @@ use Rattle.table.proofs.Parts.{rest_part}
 use Rattle.assembly.specs.Words.{in_class, span_of, Spans}
 use Rattle.assembly.specs.declared.scan.Class.TheVariants.{Line}
 use Rattle.assembly.proofs.Lines.{reads_line, reads_last}
-use borrow.Author.Rules.{rules}
 use Rattle.assembly.proofs.line.read_line.Goals as goal
 
 module _ (s : List ℕ) (at k : ℕ) (v : Spans (in_class Line) (take (length s - at) (drop at s)) k) where

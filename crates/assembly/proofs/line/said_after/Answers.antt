@@ -11,7 +11,6 @@ use Rattle.assembly.specs.Said.{said_after, said_last}
 use Rattle.assembly.specs.Code.Steps.{Valued}
 use Rattle.assembly.specs.declared.Expected.TheVariants.{Number, LineEnd}
 use Rattle.assembly.specs.declared.Said.TheVariants.{Action, Expects}
-use borrow.Author.Rules.{rules}
 use Rattle.assembly.proofs.line.said_after.Goals as goal
 
 module _ (k : ℕ) (s : List ℕ) (a b : ℕ) (f : FirstWord s a b) where

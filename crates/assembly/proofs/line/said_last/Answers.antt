@@ -8,7 +8,6 @@ use Rattle.assembly.specs.Words.{words_in, FirstWord}
 use Rattle.assembly.specs.Said.{said_last}
 use Rattle.assembly.specs.declared.Expected.TheVariants.{LineEnd}
 use Rattle.assembly.specs.declared.Said.TheVariants.{Thread, Action, Expects}
-use borrow.Author.Rules.{rules}
 use Rattle.assembly.proofs.line.said_last.Goals as goal
 
 module _ (k x : ℕ) (s : List ℕ) (a b : ℕ) (f : FirstWord s a b) where

@@ -6,7 +6,6 @@ use Rattle.table.specs.Format.{unknown, kind_of}
 use Rattle.text.specs.Text.{ascii}
 use Rattle.text.proofs.Putting.{puts_none, puts_word, puts_within}
 use Rattle.assembly.specs.Disassembly.{action_texts}
-use borrow.Author.Rules.{rules}
 use Rattle.assembly.proofs.listing.put_action.Goals as goal
 
 kind_unknown_lem : (k : ℕ) → 6 ≤ k → kind_of k ≡ unknown

@@ -1,16 +1,11 @@
 -- `assembly::listing::put_body` meets its contract. The invariant: the lines of the first i actions are put.
-use Prim.Native.Nat.{ℕ, ◌+◌, ◌-◌, ◌*◌, ◌≤◌, ◌<◌}
-use native.Mathlib.Numerals.{add-one}
-use native.Mathlib.Omega.{arith}
-use mathlib.Core.Path.{◌≡◌, refl, ◌∙◌}
+use Prim.Native.Nat.{ℕ, ◌-◌, ◌*◌, ◌≤◌}
+use mathlib.Core.Path.{◌≡◌}
 use mathlib.Core.List.{List}
 use lib.ListN.{length}
-use Rattle.table.specs.Format.{threads_of, table_of, code_at, argument_at, bodies_from, kind_of}
-use Rattle.table.proofs.Parts.{code_from, argument_from}
+use Rattle.table.specs.Format.{table_of}
 use Rattle.text.specs.Puts.{Puts}
-use Rattle.text.proofs.Putting.{puts_none, puts_more, puts_within}
-use Rattle.assembly.specs.Disassembly.{action_texts, number_texts, body_texts}
-use borrow.Author.Rules.{rules}
+use Rattle.assembly.specs.Disassembly.{body_texts}
 use Rattle.assembly.proofs.listing.put_body.Given as goal
 
 pub record Inv (out₀ : List ℕ) (at₀ : ℕ) (table : List ℕ) (from count : ℕ) (out : List ℕ) (at i : ℕ) : Type 0 where

@@ -1,7 +1,6 @@
 -- `assembly::listing::put_operand` meets its contract: a word of at most 6 bytes, a number of at most 8 digits.
 use native.Mathlib.Omega.{arith}
 use Rattle.text.proofs.Putting.{puts_labelled, puts_within}
-use borrow.Author.Rules.{rules}
 use Rattle.assembly.proofs.listing.put_operand.Goals as goal
 
 pub returns : goal.returns

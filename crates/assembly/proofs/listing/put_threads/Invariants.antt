@@ -1,16 +1,12 @@
 -- `assembly::listing::put_threads` meets its contract. The invariant: the lines of the first t threads are put.
-use Prim.Native.Nat.{ℕ, ◌+◌, ◌-◌, ◌*◌, ◌≤◌, ◌<◌}
-use native.Mathlib.Numerals.{add-one}
-use native.Mathlib.Omega.{arith}
-use mathlib.Core.Path.{◌≡◌, refl, ◌∙◌}
+use Prim.Native.Nat.{ℕ, ◌+◌, ◌-◌, ◌*◌, ◌≤◌}
+use mathlib.Core.Path.{◌≡◌}
 use mathlib.Core.List.{List}
 use lib.ListN.{length}
 use Rattle.table.specs.Sum.{sum_to}
 use Rattle.table.specs.Format.{table_of}
 use Rattle.text.specs.Puts.{Puts}
-use Rattle.text.proofs.Putting.{puts_none, puts_more, puts_within}
-use Rattle.assembly.specs.Disassembly.{thread_texts, body_texts, threads_texts}
-use borrow.Author.Rules.{rules}
+use Rattle.assembly.specs.Disassembly.{threads_texts}
 use Rattle.assembly.proofs.listing.put_threads.Given as goal
 
 pub record Inv (out₀ table : List ℕ) (n : ℕ) (out : List ℕ) (at t : ℕ) : Type 0 where

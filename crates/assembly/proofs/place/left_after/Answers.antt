@@ -1,6 +1,5 @@
 -- `assembly::place::left_after` meets its contract: one less where the line counts.
 use native.Mathlib.Omega.{arith}
-use borrow.Author.Rules.{rules}
 use Rattle.assembly.proofs.place.left_after.Goals as goal
 
 pub returns-then-k-eq0 : goal.returns-then-k-eq0

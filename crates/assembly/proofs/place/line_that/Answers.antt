@@ -1,4 +1,4 @@
-use Prim.Native.Nat.{ℕ, suc, ◌+◌, ◌-◌, ◌≤◌}
+use Prim.Native.Nat.{ℕ, suc, ◌+◌, ◌≤◌}
 use native.Mathlib.Numerals.{add-one}
 use native.Mathlib.Omega.{arith}
 use mathlib.Core.Path.{◌≡◌, refl, sym, ◌∙◌}
@@ -7,12 +7,11 @@ use mathlib.Core.Bool.{Bool, true, false, ◌&&◌}
 use lib.Dec.{eqb}
 use lib.ListN.{length, drop}
 use Rattle.assembly.specs.Said.{saids}
-use Rattle.assembly.specs.Assembly.{left_after, line_that, longest_text}
-use Rattle.assembly.specs.Code.Steps.{Reads, of_sort}
+use Rattle.assembly.specs.Assembly.{left_after, line_that}
+use Rattle.assembly.specs.Code.Steps.{Reads}
 use Rattle.assembly.specs.declared.Said.{Said}
 use Rattle.assembly.specs.declared.line.Line.{Line}
 use Rattle.assembly.proofs.Lines.{said_none}
-use borrow.Author.Rules.{rules}
 use Rattle.assembly.proofs.place.line_that.Invariants.{Inv}
 use Rattle.assembly.proofs.place.line_that.Goals as goal
 

@@ -1,19 +1,13 @@
 -- `assembly::place::line_that` meets its contract. The invariant: the line found in the rest is the line found in all.
-use Prim.Native.Nat.{ℕ, suc, ◌+◌, ◌-◌, ◌≤◌}
-use native.Mathlib.Numerals.{add-one}
-use native.Mathlib.Omega.{arith}
-use mathlib.Core.Path.{◌≡◌, refl, sym, ◌∙◌}
+use Prim.Native.Nat.{ℕ, ◌+◌, ◌-◌, ◌≤◌}
+use mathlib.Core.Path.{◌≡◌}
 use mathlib.Core.List.{List}
-use mathlib.Core.Bool.{Bool, true, false, ◌&&◌}
-use lib.Dec.{eqb}
+use mathlib.Core.Bool.{Bool}
 use lib.ListN.{length, drop}
 use Rattle.assembly.specs.Said.{saids}
-use Rattle.assembly.specs.Assembly.{left_after, line_that, longest_text}
-use Rattle.assembly.specs.Code.Steps.{Reads, of_sort}
+use Rattle.assembly.specs.Assembly.{line_that, longest_text}
+use Rattle.assembly.specs.Code.Steps.{of_sort}
 use Rattle.assembly.specs.declared.Said.{Said}
-use Rattle.assembly.specs.declared.line.Line.{Line}
-use Rattle.assembly.proofs.Lines.{said_none}
-use borrow.Author.Rules.{rules}
 use Rattle.assembly.proofs.place.line_that.Given as goal
 
 pub record Inv (p : Said → Bool) (s : List ℕ) (k at line left : ℕ) : Type 0 where

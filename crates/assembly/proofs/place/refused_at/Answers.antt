@@ -8,7 +8,6 @@ use Rattle.table.specs.declared.Refusal.{Refusal}
 use Rattle.assembly.specs.Assembly.{is_thread, is_action, line_that, names_thread, refused_at}
 use Rattle.assembly.specs.Code.Steps.{of_sort}
 use Rattle.assembly.specs.declared.Said.{Said}
-use borrow.Author.Rules.{rules}
 use Rattle.assembly.proofs.place.refused_at.Goals as goal
 
 either : (t : Bool) (k : ℕ) (l : List Said) → line_that (of_sort t) 1 k l ≡ pick t (line_that is_thread 1 k l) (line_that is_action 1 k l)

@@ -1,5 +1,4 @@
 -- `assembly::place::stands` meets its contract: `&&` is the definition's.
-use borrow.Author.Rules.{rules}
 use Rattle.assembly.proofs.place.stands.Goals as goal
 
 pub returns-then-counts : goal.returns-then-counts

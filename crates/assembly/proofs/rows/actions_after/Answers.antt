@@ -1,7 +1,6 @@
 -- `assembly::rows::actions_after` meets its contract: an action counts.
 use mathlib.Core.Path.{sym, ◌∙◌}
 use native.Mathlib.Omega.{arith}
-use borrow.Author.Rules.{rules}
 use Rattle.assembly.proofs.rows.actions_after.Goals as goal
 
 pub overflow_add-result : goal.overflow_add-result

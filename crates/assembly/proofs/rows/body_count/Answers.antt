@@ -1,4 +1,4 @@
-use Prim.Native.Nat.{ℕ, suc, ◌+◌, ◌-◌, ◌≤◌}
+use Prim.Native.Nat.{ℕ, suc, ◌+◌, ◌≤◌}
 use native.Mathlib.Omega.{arith}
 use mathlib.Core.Path.{◌≡◌, sym, ◌∙◌}
 use mathlib.Core.List.{List, ◌∷◌}
@@ -10,7 +10,6 @@ use Rattle.assembly.specs.Code.Steps.{Reads, CountsBody}
 use Rattle.assembly.specs.declared.Said.{Said}
 use Rattle.assembly.specs.declared.line.Line.{Line}
 use Rattle.assembly.proofs.Lines.{said_none}
-use borrow.Author.Rules.{rules}
 use Rattle.assembly.proofs.rows.body_count.Invariants.{Inv}
 use Rattle.assembly.proofs.rows.body_count.Goals as goal
 

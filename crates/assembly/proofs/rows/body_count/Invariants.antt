@@ -1,17 +1,10 @@
 -- `assembly::rows::body_count` meets its contract. The invariant: the actions passed and those of the rest are all of them.
-use Prim.Native.Nat.{ℕ, suc, ◌+◌, ◌-◌, ◌≤◌}
-use native.Mathlib.Omega.{arith}
-use mathlib.Core.Path.{◌≡◌, sym, ◌∙◌}
-use mathlib.Core.List.{List, ◌∷◌}
-use mathlib.Core.Bool.{true, false}
+use Prim.Native.Nat.{ℕ, ◌+◌, ◌-◌, ◌≤◌}
+use mathlib.Core.Path.{◌≡◌}
+use mathlib.Core.List.{List}
 use lib.ListN.{length, drop}
 use Rattle.assembly.specs.Said.{saids}
-use Rattle.assembly.specs.Assembly.{is_thread, is_action, body_count}
-use Rattle.assembly.specs.Code.Steps.{Reads, CountsBody}
-use Rattle.assembly.specs.declared.Said.{Said}
-use Rattle.assembly.specs.declared.line.Line.{Line}
-use Rattle.assembly.proofs.Lines.{said_none}
-use borrow.Author.Rules.{rules}
+use Rattle.assembly.specs.Assembly.{body_count}
 use Rattle.assembly.proofs.rows.body_count.Given as goal
 
 pub record Inv (s : List ℕ) (from at count : ℕ) : Type 0 where

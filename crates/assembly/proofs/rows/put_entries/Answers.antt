@@ -1,4 +1,4 @@
-use Prim.Native.Nat.{ℕ, ◌+◌, ◌-◌, ◌≤◌}
+use Prim.Native.Nat.{ℕ, ◌+◌, ◌≤◌}
 use native.Mathlib.Omega.{arith}
 use mathlib.Core.Path.{◌≡◌, refl, sym, ap, ◌∙◌}
 use mathlib.Core.List.{List, foldl-append}
@@ -8,7 +8,7 @@ use Rattle.text.specs.Puts.{put_all}
 use Rattle.assembly.specs.Said.{saids}
 use mathlib.Core.Bool.{Bool, true, false}
 use Rattle.table.specs.Sum.{pick}
-use Rattle.assembly.specs.Assembly.{is_action, entry_rows, actions_after, entries_from, longest_text}
+use Rattle.assembly.specs.Assembly.{is_action, entry_rows, actions_after, entries_from}
 use Rattle.assembly.specs.Code.Steps.{Reads}
 use Rattle.assembly.specs.declared.Said.{Said}
 use Rattle.assembly.specs.declared.line.Line.{Line}

@@ -1,20 +1,12 @@
 -- `assembly::rows::put_entries` meets its contract. The invariant: whoever puts the entries of the rest puts all of them.
-use Prim.Native.Nat.{ℕ, ◌+◌, ◌-◌, ◌≤◌}
-use native.Mathlib.Omega.{arith}
-use mathlib.Core.Path.{◌≡◌, refl, sym, ap, ◌∙◌}
-use mathlib.Core.List.{List, foldl-append}
+use Prim.Native.Nat.{ℕ, ◌-◌, ◌≤◌}
+use mathlib.Core.Path.{◌≡◌}
+use mathlib.Core.List.{List}
 use lib.ListN.{length, drop}
-use Rattle.text.specs.Text.{Buffer, buffer_at, placed_next}
+use Rattle.text.specs.Text.{buffer_at}
 use Rattle.text.specs.Puts.{put_all}
 use Rattle.assembly.specs.Said.{saids}
-use mathlib.Core.Bool.{Bool, true, false}
-use Rattle.table.specs.Sum.{pick}
-use Rattle.assembly.specs.Assembly.{is_action, entry_rows, actions_after, entries_from, longest_text}
-use Rattle.assembly.specs.Code.Steps.{Reads}
-use Rattle.assembly.specs.declared.Said.{Said}
-use Rattle.assembly.specs.declared.line.Line.{Line}
-use Rattle.assembly.proofs.Lines.{said_none}
-use borrow.Author.Rules.{rules}
+use Rattle.assembly.specs.Assembly.{entries_from, longest_text}
 use Rattle.assembly.proofs.rows.put_entries.Given as goal
 
 pub record Inv (out₀ : List ℕ) (at₀ : ℕ) (text out : List ℕ) (at from a : ℕ) : Type 0 where

@@ -7,7 +7,6 @@ use Rattle.text.specs.Puts.{put_all}
 use Rattle.assembly.specs.Assembly.{body_count, pair_row, entry_rows}
 use Rattle.assembly.specs.declared.Said.{Said}
 use Rattle.assembly.specs.declared.Said.TheVariants.{Thread}
-use borrow.Author.Rules.{rules}
 use Rattle.assembly.proofs.rows.put_entry.Goals as goal
 
 entry : (s o : List ℕ) (at r a count : ℕ) (l : List Said) {x : Said} {t : ℕ} → x ≡ Thread t → count ≡ body_count l → buffer_at o r ≡ placed s at (pair_row a count) → buffer_at o r ≡ put_all (buffer_at s at) (entry_rows x a l)

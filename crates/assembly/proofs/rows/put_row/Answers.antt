@@ -1,5 +1,4 @@
 -- `assembly::rows::put_row` meets its contract: an action has a row, any other line has none.
-use borrow.Author.Rules.{rules}
 use Rattle.assembly.proofs.rows.put_row.Goals as goal
 
 pub returns-in-Nothing : goal.returns-in-Nothing

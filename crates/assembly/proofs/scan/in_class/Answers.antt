@@ -1,6 +1,5 @@
 -- `assembly::scan::in_class` meets its contract, class by class.
 use borrow.Author.Tests.{eq-eqb, ne_eqb}
-use borrow.Author.Rules.{rules}
 use Rattle.assembly.proofs.scan.in_class.Goals as goal
 
 pub returns-in-Line : goal.returns-in-Line

@@ -1,4 +1,4 @@
-use Prim.Native.Nat.{ℕ, suc, ◌+◌, ◌-◌, ◌≤◌, ◌<◌}
+use Prim.Native.Nat.{ℕ, suc, ◌+◌, ◌≤◌, ◌<◌}
 use native.Mathlib.Numerals.{add-one}
 use native.Mathlib.Omega.{arith}
 use mathlib.Core.Path.{◌≡◌, sym, ◌∙◌}
@@ -8,7 +8,6 @@ use lib.ListN.{length, get_or, drop, drop_of_length-le}
 use lib.Seq.{drop-cons}
 use Rattle.assembly.specs.Words.{span_of, in_class, Spans}
 use Rattle.assembly.proofs.Parts.{span_here, span_stops}
-use borrow.Author.Rules.{rules}
 use Rattle.assembly.proofs.scan.span.Invariants.{Inv}
 use Rattle.assembly.proofs.scan.span.Goals as goal
 

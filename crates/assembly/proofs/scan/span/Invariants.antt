@@ -1,15 +1,10 @@
 -- `assembly::scan::span` meets its contract. The invariant: what was passed and the span of the rest are the span of all.
-use Prim.Native.Nat.{ℕ, suc, ◌+◌, ◌-◌, ◌≤◌, ◌<◌}
-use native.Mathlib.Numerals.{add-one}
-use native.Mathlib.Omega.{arith}
-use mathlib.Core.Path.{◌≡◌, sym, ◌∙◌}
+use Prim.Native.Nat.{ℕ, ◌+◌, ◌-◌, ◌≤◌}
+use mathlib.Core.Path.{◌≡◌}
 use mathlib.Core.List.{List}
-use mathlib.Core.Bool.{Bool, true, false}
-use lib.ListN.{length, get_or, drop, drop_of_length-le}
-use lib.Seq.{drop-cons}
-use Rattle.assembly.specs.Words.{span_of, in_class, Spans}
-use Rattle.assembly.proofs.Parts.{span_here, span_stops}
-use borrow.Author.Rules.{rules}
+use mathlib.Core.Bool.{Bool}
+use lib.ListN.{length, drop}
+use Rattle.assembly.specs.Words.{span_of, in_class}
 use Rattle.assembly.proofs.scan.span.Given as goal
 
 pub record Inv (p : ℕ → Bool) (s : List ℕ) (i : ℕ) : Type 0 where

@@ -10,10 +10,9 @@ use lib.ListN.{length, take, drop, length-drop, drop_of_length-le}
 use lib.Seq.{drop-drop}
 use Rattle.table.proofs.Parts.{rest_part}
 use Rattle.assembly.specs.Words.{span_of, in_class, Spans}
-use Rattle.assembly.specs.Unseen.{after_line, after_lines}
+use Rattle.assembly.specs.Unseen.{after_lines}
 use Rattle.assembly.specs.Code.Steps.{After}
 use Rattle.assembly.specs.declared.scan.Class.TheVariants.{Line}
-use borrow.Author.Rules.{rules}
 use Rattle.assembly.proofs.unseen.after_lines.Invariants.{Inv}
 use Rattle.assembly.proofs.unseen.after_lines.Goals as goal
 

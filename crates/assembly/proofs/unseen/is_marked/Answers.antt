@@ -9,7 +9,6 @@ use lib.ListN.{length, take}
 use lib.Seq.{length-take-le}
 use Rattle.table.specs.Sum.{pick}
 use Rattle.assembly.specs.Words.{same}
-use borrow.Author.Rules.{rules}
 use Rattle.assembly.proofs.unseen.is_marked.Goals as goal
 
 pick_false : (t : Bool) → false ≡ pick t false false

@@ -1,17 +1,15 @@
 -- `assembly::unseen::unseen_in` meets its contract: a mark, or a carriage return before the comment.
 use Prim.Native.Nat.{ℕ, ◌≤◌, ◌<◌}
-use native.Mathlib.Omega.{arith}
 use mathlib.Core.Path.{◌≡◌, sym, ◌∙◌}
 use mathlib.Core.List.{List, [], ◌∷◌}
 use mathlib.Core.Bool.{true, false}
 use borrow.Author.Tests.{lt-ltb, le-ltb}
 use lib.ListN.{length, take}
 use lib.Seq.{length-take-le}
-use Rattle.assembly.specs.Words.{span_of, in_class, same, Spans}
+use Rattle.assembly.specs.Words.{in_class, same, Spans}
 use Rattle.assembly.specs.Unseen.{unseen_in}
 use Rattle.assembly.specs.declared.scan.Class.TheVariants.{Plain, Shown}
 use Rattle.assembly.specs.declared.unseen.Unseen.TheVariants.{Nothing, Return, Mark}
-use borrow.Author.Rules.{rules}
 use Rattle.assembly.proofs.unseen.unseen_in.Goals as goal
 
 module _ (l : List ℕ) where

@@ -7,7 +7,6 @@ use Rattle.table.proofs.Parts.{rest_part}
 use Rattle.assembly.specs.Words.{in_class, Spans, FirstWord}
 use Rattle.assembly.specs.declared.scan.Class.TheVariants.{Blank, Word}
 use Rattle.assembly.proofs.Parts.{word_first}
-use borrow.Author.Rules.{rules}
 use Rattle.assembly.proofs.word.first_word.Goals as goal
 
 module _ (s : List ℕ) (start k : ℕ) (b : Spans (in_class Word) (take (length s - start) (drop start s)) k) where

@@ -1,7 +1,6 @@
 -- `assembly::word::keyword` meets its contract: the first name that is the word.
 use mathlib.Core.Path.{sym, ◌∙◌}
 use Rattle.assembly.specs.Said.{code_of_word}
-use borrow.Author.Rules.{rules}
 use Rattle.assembly.proofs.word.keyword.Goals as goal
 
 pub returns-then-same : goal.returns-then-same

@@ -1,7 +1,6 @@
 -- `assembly::word::next_value` meets its contract: a byte below 0, a byte above 9, and a digit.
 use native.Mathlib.Omega.{arith}
 use borrow.Author.Tests.{le-leb, lt-leb}
-use borrow.Author.Rules.{rules}
 use Rattle.assembly.proofs.word.next_value.Goals as goal
 
 pub returns-then-b-lt48 : goal.returns-then-b-lt48

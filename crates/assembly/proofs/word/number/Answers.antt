@@ -4,12 +4,11 @@ use native.Mathlib.Omega.{arith}
 use mathlib.Core.Path.{◌≡◌, refl, sym, ◌∙◌}
 use mathlib.Core.List.{List}
 use mathlib.Core.Bool.{Bool, true, false}
-use lib.ListN.{length, get_or, drop, drop_of_length-le}
+use lib.ListN.{length, get_or, drop_of_length-le}
 use lib.Seq.{drop-cons}
 use Rattle.table.specs.Sum.{pick}
 use Rattle.assembly.specs.Words.{no_number, is_digit, next_value, value_from, zero_led, number_in}
 use Rattle.assembly.specs.Code.Steps.{Valued}
-use borrow.Author.Rules.{rules}
 use Rattle.assembly.proofs.word.number.Invariants.{Inv}
 use Rattle.assembly.proofs.word.number.Goals as goal
 

@@ -1,16 +1,10 @@
 -- `assembly::word::number` meets its contract. The invariant: the rest, read on from v, has the word's value.
-use Prim.Native.Nat.{ℕ, ◌+◌, ◌-◌, ◌*◌, ◌≤◌, ◌<◌, min}
-use native.Mathlib.Numerals.{add-one}
-use native.Mathlib.Omega.{arith}
-use mathlib.Core.Path.{◌≡◌, refl, sym, ◌∙◌}
+use Prim.Native.Nat.{ℕ, ◌-◌, ◌≤◌}
+use mathlib.Core.Path.{◌≡◌}
 use mathlib.Core.List.{List}
-use mathlib.Core.Bool.{Bool, true, false}
-use lib.ListN.{length, get_or, drop, drop_of_length-le}
-use lib.Seq.{drop-cons}
-use Rattle.table.specs.Sum.{pick}
-use Rattle.assembly.specs.Words.{no_number, is_digit, next_value, value_from, zero_led, number_in}
-use Rattle.assembly.specs.Code.Steps.{Valued}
-use borrow.Author.Rules.{rules}
+use mathlib.Core.Bool.{false}
+use lib.ListN.{length, drop}
+use Rattle.assembly.specs.Words.{no_number, value_from, zero_led}
 use Rattle.assembly.proofs.word.number.Given as goal
 
 pub record Inv (w : List ℕ) (v i : ℕ) : Type 0 where

@@ -1,6 +1,5 @@
 -- `assembly::word::zero_led` meets its contract: `&&` is the definition's.
 use borrow.Author.Tests.{lt-ltb, le-ltb}
-use borrow.Author.Rules.{rules}
 use Rattle.assembly.proofs.word.zero_led.Goals as goal
 
 pub returns-then-w-gt1 : goal.returns-then-w-gt1

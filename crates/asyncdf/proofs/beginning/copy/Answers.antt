@@ -1,5 +1,5 @@
 use mathlib.Core.Path.{◌≡◌, refl, ap, ◌∙◌}
-use Prim.Native.Nat.{ℕ, ◌+◌, ◌-◌, ◌≤◌, ◌<◌}
+use Prim.Native.Nat.{ℕ, ◌+◌, ◌≤◌, ◌<◌}
 use mathlib.Core.List.{List}
 use native.Mathlib.Omega.{arith}
 use lib.ListN.{length, get_or, set, replicate}
@@ -7,7 +7,7 @@ use lib.Seq.{take-length}
 use Rattle.order.specs.Words.{filled}
 use Rattle.order.specs.Firsts.{firsts}
 use Rattle.order.proofs.Lists.{firsts_take}
-use Rattle.soundness.proofs.Laying.{Laid, laid_more}
+use Rattle.soundness.proofs.Laying.{laid_more}
 use Rattle.asyncdf.proofs.beginning.copy.Invariants.{Inv}
 use Rattle.asyncdf.proofs.beginning.copy.Goals as goal
 

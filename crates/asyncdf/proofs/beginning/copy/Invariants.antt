@@ -1,14 +1,8 @@
 -- `asyncdf::beginning::copy` meets its contract. The invariant: the first i places have the bytes, and the others 0.
-use mathlib.Core.Path.{◌≡◌, refl, ap, ◌∙◌}
-use Prim.Native.Nat.{ℕ, ◌+◌, ◌-◌, ◌≤◌, ◌<◌}
+use Prim.Native.Nat.{ℕ, ◌-◌, ◌≤◌}
 use mathlib.Core.List.{List}
-use native.Mathlib.Omega.{arith}
-use lib.ListN.{length, get_or, set, replicate}
-use lib.Seq.{take-length}
-use Rattle.order.specs.Words.{filled}
-use Rattle.order.specs.Firsts.{firsts}
-use Rattle.order.proofs.Lists.{firsts_take}
-use Rattle.soundness.proofs.Laying.{Laid, laid_more}
+use lib.ListN.{length, get_or}
+use Rattle.soundness.proofs.Laying.{Laid}
 use Rattle.asyncdf.proofs.beginning.copy.Given as goal
 
 pub record Inv (s out : List ℕ) (i : ℕ) : Type 0 where

@@ -1,7 +1,6 @@
 -- `asyncdf::beginning::start` meets its contract: the two filled arrays are the definition's, and the other fields compute.
 use mathlib.Core.Path.{refl}
 use native.Mathlib.Omega.{arith}
-use borrow.Author.Rules.{rules}
 use Rattle.array_machine.proofs.Starts.{is_start}
 use Rattle.asyncdf.proofs.beginning.start.Goals as goal
 

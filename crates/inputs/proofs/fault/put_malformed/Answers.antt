@@ -3,7 +3,6 @@ use native.Mathlib.Omega.{arith}
 use Rattle.text.specs.Text.{ascii, newline}
 use Rattle.text.proofs.Putting.{puts_word, puts_labelled, puts_more, puts_within}
 use Rattle.assembly.specs.Message.{fault_texts}
-use borrow.Author.Rules.{rules}
 use Rattle.inputs.proofs.fault.put_malformed.Goals as goal
 
 pub returns : goal.returns

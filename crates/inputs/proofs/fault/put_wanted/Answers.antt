@@ -3,7 +3,6 @@ use native.Mathlib.Omega.{arith}
 use Rattle.text.specs.Text.{ascii}
 use Rattle.inputs.specs.Message.{wanted_texts}
 use Rattle.text.proofs.Putting.{puts_word, puts_within}
-use borrow.Author.Rules.{rules}
 use Rattle.inputs.proofs.fault.put_wanted.Goals as goal
 
 pub returns-in-Workers : goal.returns-in-Workers

@@ -3,7 +3,6 @@ use native.Mathlib.Omega.{arith}
 use mathlib.Core.Path.{refl, sym, ◌∙◌}
 use Rattle.inputs.specs.Front.{step_with}
 use Rattle.inputs.proofs.Given.{plainly_stepping}
-use borrow.Author.Rules.{rules}
 use Rattle.inputs.proofs.front.after.Goals as goal
 
 pub returns-then-same : goal.returns-then-same

@@ -3,7 +3,6 @@ use native.Mathlib.Omega.{arith}
 use mathlib.Core.Path.{refl, sym, ◌∙◌}
 use Rattle.inputs.specs.Front.{step_with}
 use Rattle.inputs.proofs.Given.{plainly_stepping}
-use borrow.Author.Rules.{rules}
 use Rattle.inputs.proofs.front.after_quota.Goals as goal
 
 pub turns_line-requires : goal.turns_line-requires

@@ -1,7 +1,6 @@
 -- `inputs::front::after_workers` meets its contract: quota, between, or neither.
 use mathlib.Core.Path.{refl, sym, ◌∙◌}
 use Rattle.inputs.specs.Front.{step_with}
-use borrow.Author.Rules.{rules}
 use Rattle.inputs.proofs.front.after_workers.Goals as goal
 
 pub returns-then-same : goal.returns-then-same

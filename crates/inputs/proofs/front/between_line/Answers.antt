@@ -2,7 +2,6 @@
 use mathlib.Core.Path.{refl, sym, ◌∙◌}
 use Rattle.inputs.specs.Front.{between}
 use Rattle.inputs.proofs.Given.{given_goes, given_stops}
-use borrow.Author.Rules.{rules}
 use Rattle.inputs.proofs.front.between_line.Goals as goal
 
 pub returns-in-Given : goal.returns-in-Given

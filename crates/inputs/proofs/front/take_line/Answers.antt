@@ -13,7 +13,6 @@ use Rattle.inputs.specs.Code.Steps.{Stepping, front_is, held_by, Room}
 use Rattle.inputs.specs.declared.front.Front.{Front as Kept}
 use Rattle.inputs.specs.declared.front.Step.TheVariants.{Goes}
 use Rattle.inputs.proofs.Given.{stepping_as}
-use borrow.Author.Rules.{rules}
 use Rattle.inputs.proofs.front.take_line.Goals as goal
 
 module _ (l : List ℕ) (p a b : ℕ) (v : Spans (in_class Plain) l p) (f : FirstWord (take p l) a b) where

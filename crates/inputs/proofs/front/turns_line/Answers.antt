@@ -10,7 +10,6 @@ use Rattle.inputs.specs.declared.order.Ordered.{Ordered}
 use Rattle.inputs.specs.declared.order.Ordered.TheVariants.{Listed, Broken}
 use Rattle.inputs.specs.declared.front.Front.TheVariants.{Turns}
 use Rattle.inputs.specs.declared.front.Step.TheVariants.{Goes, Stops}
-use borrow.Author.Rules.{rules}
 use Rattle.inputs.proofs.front.turns_line.Goals as goal
 
 module _ (p K : ℕ) {r : Ordered} (buf : List ℕ) (o : Order) (d : Ordering r buf o) where

@@ -7,7 +7,6 @@ use Rattle.assembly.specs.Words.{words_in, FirstWord}
 use Rattle.inputs.specs.Number.{figure_last}
 use Rattle.inputs.specs.declared.Wanted.TheVariants.{LineEnd}
 use Rattle.inputs.specs.declared.number.Figure.TheVariants.{Given, Stopped}
-use borrow.Author.Rules.{rules}
 use Rattle.inputs.proofs.number.figure_last.Goals as goal
 
 module _ (x : ℕ) (s : List ℕ) (a b : ℕ) (f : FirstWord s a b) where

@@ -5,7 +5,6 @@ use mathlib.Core.Path.{◌≡◌, refl, sym}
 use mathlib.Core.Bool.{Bool, true, false}
 use borrow.Author.Tests.{leb-true, leb-false, le-leb, lt-leb}
 use lib.Dec.{leb}
-use borrow.Author.Rules.{rules}
 use Rattle.inputs.proofs.number.goes_on.Goals as goal
 
 divided : (v d most : ℕ) → d ≤ most → leb v ((most - d) / 10) ≡ leb (10 * v + d) most

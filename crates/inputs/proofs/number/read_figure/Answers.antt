@@ -10,7 +10,6 @@ use Rattle.inputs.specs.Number.{number_in, figure_last, figure_of}
 use Rattle.inputs.specs.declared.Wanted.TheVariants.{Number as NumberTo}
 use Rattle.inputs.specs.declared.number.Number.TheVariants.{Value, NoNumber}
 use Rattle.inputs.specs.declared.number.Figure.TheVariants.{Stopped}
-use borrow.Author.Rules.{rules}
 use Rattle.inputs.proofs.number.read_figure.Goals as goal
 
 module _ (most : ℕ) (s : List ℕ) (a b : ℕ) (f : FirstWord s a b) where

@@ -1,18 +1,17 @@
 use native.Mathlib.Omega.{arith}
-use Prim.Native.Nat.{ℕ, ◌+◌, ◌-◌, ◌≤◌, ◌<◌}
+use Prim.Native.Nat.{ℕ, ◌+◌, ◌≤◌, ◌<◌}
 use native.Mathlib.Numerals.{add-one}
-use mathlib.Core.Path.{◌≡◌, refl, sym, ◌∙◌, ap}
+use mathlib.Core.Path.{◌≡◌, refl, sym, ◌∙◌}
 use mathlib.Core.List.{List}
-use mathlib.Core.Bool.{Bool, true, false, ◌&&◌, not}
-use borrow.Author.Tests.{leb-true, not-true, not-false}
+use mathlib.Core.Bool.{Bool, true, false, ◌&&◌}
+use borrow.Author.Tests.{leb-true}
 use lib.Dec.{leb}
-use lib.ListN.{length, get_or, drop, drop_of_length-le}
+use lib.ListN.{length, get_or, drop_of_length-le}
 use lib.Seq.{drop-cons}
 use Rattle.assembly.specs.Words.{is_digit, zero_led}
 use Rattle.inputs.specs.Number.{next_value, goes_on, value_from, number_in}
 use Rattle.inputs.specs.Code.Steps.{Numbered}
 use Rattle.inputs.specs.declared.number.Number.TheVariants.{Value, NoNumber}
-use borrow.Author.Rules.{rules}
 use Rattle.inputs.proofs.number.read_number.Invariants.{Digit, Inv}
 use Rattle.inputs.proofs.number.read_number.Goals as goal
 

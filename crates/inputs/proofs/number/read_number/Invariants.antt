@@ -1,19 +1,11 @@
 -- `inputs::number::read_number` meets its contract. The invariant: the rest, read on from v, has the word's value, and v is at most as much as it may be.
-use native.Mathlib.Omega.{arith}
-use Prim.Native.Nat.{ℕ, ◌+◌, ◌-◌, ◌≤◌, ◌<◌}
-use native.Mathlib.Numerals.{add-one}
-use mathlib.Core.Path.{◌≡◌, refl, sym, ◌∙◌}
+use Prim.Native.Nat.{ℕ, ◌-◌, ◌≤◌}
+use mathlib.Core.Path.{◌≡◌}
 use mathlib.Core.List.{List}
-use mathlib.Core.Bool.{Bool, true, false, ◌&&◌}
-use borrow.Author.Tests.{leb-true, not-true, not-false}
-use lib.Dec.{leb}
-use lib.ListN.{length, get_or, drop, drop_of_length-le}
-use lib.Seq.{drop-cons}
-use Rattle.assembly.specs.Words.{is_digit, zero_led}
-use Rattle.inputs.specs.Number.{next_value, goes_on, value_from, number_in}
-use Rattle.inputs.specs.Code.Steps.{Numbered}
-use Rattle.inputs.specs.declared.number.Number.TheVariants.{Value, NoNumber}
-use borrow.Author.Rules.{rules}
+use mathlib.Core.Bool.{false}
+use lib.ListN.{length, drop}
+use Rattle.assembly.specs.Words.{zero_led}
+use Rattle.inputs.specs.Number.{next_value, value_from}
 use Rattle.inputs.proofs.number.read_number.Given as goal
 
 pub record Inv (w : List ℕ) (most v i : ℕ) : Type 0 where

@@ -13,7 +13,6 @@ use Rattle.inputs.specs.Code.Steps.{Room, Ordering}
 use Rattle.inputs.specs.declared.Wanted.TheVariants.{Number as NumberTo, FewerWorkers}
 use Rattle.inputs.specs.declared.number.Number.TheVariants.{Value, NoNumber}
 use Rattle.inputs.specs.declared.order.Ordered.TheVariants.{Listed, Broken}
-use borrow.Author.Rules.{rules}
 use Rattle.inputs.proofs.order.add_worker.Goals as goal
 
 module _ (buf w : List ℕ) (n : ℕ) (h : Room buf n) where

@@ -7,11 +7,10 @@ use lib.Seq.{drop-drop}
 use Rattle.table.proofs.Parts.{rest_part}
 use Rattle.assembly.specs.Words.{parts, nonempty, words_in, FirstWord}
 use Rattle.inputs.specs.Front.{Order, onward_order, added, order_from, max_order}
-use Rattle.inputs.specs.Code.Steps.{Room, Ordering}
+use Rattle.inputs.specs.Code.Steps.{Ordering}
 use Rattle.inputs.specs.declared.Wanted.{Wanted}
 use Rattle.inputs.specs.declared.order.Ordered.{Ordered}
 use Rattle.inputs.specs.declared.order.Ordered.TheVariants.{Listed, Broken}
-use borrow.Author.Rules.{rules}
 use Rattle.inputs.proofs.order.order_line.Invariants.{Inv}
 use Rattle.inputs.proofs.order.order_line.Goals as goal
 

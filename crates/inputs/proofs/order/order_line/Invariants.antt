@@ -1,18 +1,11 @@
 -- `inputs::order::order_line` meets its contract. The invariant: the order of the rest, after the workers so far, is the order of all.
-use native.Mathlib.Omega.{arith}
-use Prim.Native.Nat.{ℕ, ◌+◌, ◌-◌, ◌≤◌, ◌<◌}
-use mathlib.Core.Path.{◌≡◌, refl, sym, ap, ◌∙◌}
-use mathlib.Core.List.{List, [], ◌∷◌}
-use lib.ListN.{length, take, drop, length-drop, drop_of_length-le}
-use lib.Seq.{drop-drop}
-use Rattle.table.proofs.Parts.{rest_part}
-use Rattle.assembly.specs.Words.{parts, nonempty, words_in, FirstWord}
-use Rattle.inputs.specs.Front.{Order, onward_order, added, order_from, max_order}
-use Rattle.inputs.specs.Code.Steps.{Room, Ordering}
-use Rattle.inputs.specs.declared.Wanted.{Wanted}
-use Rattle.inputs.specs.declared.order.Ordered.{Ordered}
-use Rattle.inputs.specs.declared.order.Ordered.TheVariants.{Listed, Broken}
-use borrow.Author.Rules.{rules}
+use Prim.Native.Nat.{ℕ, ◌-◌, ◌≤◌}
+use mathlib.Core.Path.{◌≡◌}
+use mathlib.Core.List.{List}
+use lib.ListN.{length, take, drop}
+use Rattle.assembly.specs.Words.{words_in}
+use Rattle.inputs.specs.Front.{order_from}
+use Rattle.inputs.specs.Code.Steps.{Room}
 use Rattle.inputs.proofs.order.order_line.Given as goal
 
 pub record Inv (s buf₀ : List ℕ) (n₀ : ℕ) (buf : List ℕ) (n at : ℕ) : Type 0 where

@@ -2,7 +2,6 @@
 use native.Mathlib.Omega.{arith}
 use Rattle.text.proofs.Putting.{puts_word, puts_more, puts_within}
 use Rattle.inputs.specs.Input.{low_bytes, front_texts}
-use borrow.Author.Rules.{rules}
 use Rattle.inputs.proofs.put.put_board.Goals as goal
 
 pub returns : goal.returns

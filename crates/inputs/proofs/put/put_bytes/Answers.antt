@@ -2,7 +2,6 @@
 use native.Mathlib.Omega.{arith}
 use mathlib.Core.Path.{sym}
 use lib.Seq.{length-take-le}
-use borrow.Author.Rules.{rules}
 use Rattle.inputs.proofs.put.put_bytes.Goals as goal
 
 pub slice_bounds-put_word-end : goal.slice_bounds-put_word-end

@@ -10,7 +10,6 @@ use Rattle.inputs.specs.Input.{front_texts}
 use Rattle.inputs.specs.Code.Steps.{Room, held_by}
 use Rattle.inputs.specs.declared.front.Front.{Front as Kept}
 use Rattle.inputs.specs.declared.front.Front.TheVariants.{Turns}
-use borrow.Author.Rules.{rules}
 use Rattle.inputs.proofs.put.put_front.Goals as goal
 
 module _ {f : Kept} (buf : List ℕ) (h : Room buf (held_by f)) where

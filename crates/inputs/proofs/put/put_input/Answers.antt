@@ -1,7 +1,6 @@
 -- `inputs::put::put_input` meets its contract: the front, and the table after it.
 use native.Mathlib.Omega.{arith}
 use Rattle.text.proofs.Putting.{puts_word, puts_more, puts_within}
-use borrow.Author.Rules.{rules}
 use Rattle.inputs.proofs.put.put_input.Goals as goal
 
 pub put_front-at-requires : goal.put_front-at-requires

@@ -1,6 +1,5 @@
 -- `inputs::read::at_end` meets its contract, by what the lines have given.
 use native.Mathlib.Omega.{arith}
-use borrow.Author.Rules.{rules}
 use Rattle.inputs.proofs.read.at_end.Goals as goal
 
 pub returns-in-Nothing : goal.returns-in-Nothing

@@ -7,7 +7,6 @@ use Rattle.table.proofs.Parts.{rest_part}
 use Rattle.assembly.specs.Words.{in_class, Spans}
 use Rattle.assembly.specs.declared.scan.Class.TheVariants.{Line}
 use Rattle.inputs.specs.Code.Steps.{Lined}
-use borrow.Author.Rules.{rules}
 use Rattle.inputs.proofs.read.line_end.Goals as goal
 
 module _ (s : List ℕ) (at k : ℕ) (v : Spans (in_class Line) (take (length s - at) (drop at s)) k) where

@@ -5,10 +5,9 @@ use mathlib.Core.Path.{◌≡◌, refl, sym, ap, ◌∙◌}
 use mathlib.Core.List.{List}
 use lib.ListN.{length, take, drop}
 use Rattle.assembly.specs.Words.{lines_of, words_of}
-use Rattle.assembly.specs.Assembly.{longest_text}
 use Rattle.assembly.specs.Unseen.{after_lines}
 use Rattle.inputs.specs.Front.{Front, Step, step_of, Fronted, onward, front_from, front_of, max_order}
-use Rattle.inputs.specs.Code.Steps.{Room, Stepping, Lined, Ending, ReadsFront, front_is, step_is, held_by}
+use Rattle.inputs.specs.Code.Steps.{Stepping, Lined, Ending, ReadsFront, front_is, step_is}
 use Rattle.inputs.specs.declared.Wanted.{Wanted}
 use Rattle.inputs.specs.declared.front.Front.{Front as Kept}
 use Rattle.inputs.specs.declared.front.Step.{Step as Taken}
@@ -17,7 +16,6 @@ use Rattle.inputs.specs.declared.read.End.{End}
 use Rattle.inputs.specs.declared.read.End.TheVariants.{Whole, Fault}
 use Rattle.inputs.specs.declared.read.Read.{Read}
 use Rattle.inputs.proofs.Lines.{lines_none, line_at, after_next}
-use borrow.Author.Rules.{rules}
 use Rattle.inputs.proofs.read.read_front.Invariants.{Inv}
 use Rattle.inputs.proofs.read.read_front.Goals as goal
 

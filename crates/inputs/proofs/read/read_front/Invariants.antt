@@ -1,24 +1,14 @@
 -- `inputs::read::read_front` meets its contract. The invariant: the front that is read on from here is the front of the whole text.
-use native.Mathlib.Omega.{arith}
-use Prim.Native.Nat.{ℕ, suc, ◌+◌, ◌-◌, ◌≤◌, ◌<◌, min}
-use native.Mathlib.Numerals.{add-one}
-use mathlib.Core.Path.{◌≡◌, refl, sym, ap, ◌∙◌}
+use Prim.Native.Nat.{ℕ, ◌-◌, ◌≤◌}
+use mathlib.Core.Path.{◌≡◌}
 use mathlib.Core.List.{List}
-use lib.ListN.{length, take, drop}
-use Rattle.assembly.specs.Words.{lines_of, words_of}
+use lib.ListN.{length, drop}
+use Rattle.assembly.specs.Words.{lines_of}
 use Rattle.assembly.specs.Assembly.{longest_text}
 use Rattle.assembly.specs.Unseen.{after_lines}
-use Rattle.inputs.specs.Front.{Front, Step, step_of, Fronted, onward, front_from, front_of, max_order}
-use Rattle.inputs.specs.Code.Steps.{Room, Stepping, Lined, Ending, ReadsFront, front_is, step_is, held_by}
-use Rattle.inputs.specs.declared.Wanted.{Wanted}
+use Rattle.inputs.specs.Front.{front_from, front_of}
+use Rattle.inputs.specs.Code.Steps.{Room, front_is, held_by}
 use Rattle.inputs.specs.declared.front.Front.{Front as Kept}
-use Rattle.inputs.specs.declared.front.Step.{Step as Taken}
-use Rattle.inputs.specs.declared.front.Step.TheVariants.{Goes, Stops, Ends}
-use Rattle.inputs.specs.declared.read.End.{End}
-use Rattle.inputs.specs.declared.read.End.TheVariants.{Whole, Fault}
-use Rattle.inputs.specs.declared.read.Read.{Read}
-use Rattle.inputs.proofs.Lines.{lines_none, line_at, after_next}
-use borrow.Author.Rules.{rules}
 use Rattle.inputs.proofs.read.read_front.Given as goal
 
 pub record Inv (s buf : List ℕ) (f : Kept) (k at : ℕ) : Type 0 where

@@ -15,7 +15,7 @@ use Rattle.soundness.specs.Code.Checks.{Accepted, Placed, done_to}
 use Rattle.soundness.specs.Code.Adding.{Adds, Added}
 use Rattle.soundness.specs.declared.amounts.Sums.{Sums}
 use Rattle.soundness.proofs.Lookups.{thread_below, accepted_body, placed}
-use Rattle.soundness.proofs.DoneSums.{Undone, Counted, undone_low, undone_high, counted_first, counted_next, counted_last}
+use Rattle.soundness.proofs.DoneSums.{Undone, undone_low, undone_high, counted_first, counted_next, counted_last}
 use Rattle.soundness.proofs.amounts.held_right.Invariants.{Inv}
 use Rattle.soundness.proofs.amounts.held_right.Goals as goal
 

@@ -1,22 +1,12 @@
 -- `soundness::amounts::held_right` meets its contract. The invariant: the sums are those of what is done in the threads below t.
-use mathlib.Core.Path.{◌≡◌, sym, ◌∙◌}
-use Prim.Native.Nat.{ℕ, ◌+◌, ◌-◌, ◌≤◌, ◌<◌}
+use Prim.Native.Nat.{ℕ, ◌-◌, ◌≤◌}
 use mathlib.Core.List.{List}
-use native.Mathlib.Decide.{ℕ_discrete}
-use native.Mathlib.Omega.{arith}
-use borrow.Author.Tests.{eq-eqb, ne_eqb, lt-leb}
-use lib.ListN.{get_or}
-use lib.Dec.{eqb, leb}
 use Rattle.table.specs.Format.{table_of}
-use Rattle.table.specs.Checks.{end_of, counts_below, alloc_of, free_of}
-use Rattle.table.specs.Rules.{ContentRules}
-use Rattle.table.proofs.Bodies.{first_is, body_within}
-use Rattle.schedule.specs.Sound.{sum_done_in, held_right}
-use Rattle.soundness.specs.Code.Checks.{Accepted, Placed, done_to}
-use Rattle.soundness.specs.Code.Adding.{Adds, Added}
+use Rattle.table.specs.Checks.{alloc_of, free_of}
+use Rattle.soundness.specs.Code.Checks.{Accepted, Placed}
 use Rattle.soundness.specs.declared.amounts.Sums.{Sums}
-use Rattle.soundness.proofs.Lookups.{thread_below, accepted_body, placed}
-use Rattle.soundness.proofs.DoneSums.{Undone, Counted, undone_low, undone_high, counted_first, counted_next, counted_last}
+use Rattle.soundness.proofs.Lookups.{placed}
+use Rattle.soundness.proofs.DoneSums.{Counted}
 use Rattle.soundness.proofs.amounts.held_right.Given as goal
 
 pub record Inv (s : List ℕ) (n : ℕ) (next status : List ℕ) (held : ℕ) (sums : Sums) (t : ℕ) : Type 0 where

@@ -1,18 +1,10 @@
 -- `soundness::amounts::thread_sums` meets its contract. The invariant: the amounts of the thread's actions below a are added.
-use mathlib.Core.Path.{◌≡◌, refl}
-use Prim.Native.Nat.{ℕ, ◌+◌, ◌-◌, ◌≤◌, ◌<◌}
+use Prim.Native.Nat.{ℕ, ◌-◌, ◌≤◌}
 use mathlib.Core.List.{List}
-use native.Mathlib.Numerals.{add-one}
-use native.Mathlib.Omega.{arith}
-use borrow.Author.Rules.{rules}
-use Rattle.table.specs.Sum.{sum_to, Read}
-use Rattle.table.specs.Format.{Kind, alloc, free, kind_of, Table, kind, table_of, own_amount}
+use Rattle.table.specs.Format.{table_of}
 use Rattle.table.specs.Checks.{alloc_of, free_of}
-use Rattle.table.proofs.Walks.{own_small}
 use Rattle.soundness.specs.Code.Checks.{Accepted}
-use Rattle.soundness.specs.Code.Adding.{Adds, Added}
-use Rattle.soundness.specs.declared.amounts.Sums.{Sums}
-use Rattle.soundness.proofs.Lookups.{accepted_lawful, code_read, argument_read}
+use Rattle.soundness.specs.Code.Adding.{Added}
 use Rattle.soundness.proofs.amounts.thread_sums.Given as goal
 
 pub record Inv (s : List ℕ) (n t stop allocs₀ frees₀ allocs frees a : ℕ) : Type 0 where

@@ -1,7 +1,6 @@
 -- `soundness::beginning::begin_fault` meets its contract: with p outside its range the table's own checks and then 20, else what the filling finds.
-use mathlib.Core.Path.{◌≡◌, sym, ap, ◌∙◌}
+use mathlib.Core.Path.{sym, ◌∙◌}
 use native.Mathlib.Omega.{arith}
-use borrow.Author.Rules.{rules}
 use Rattle.soundness.proofs.Fillings.{measured, refused_table, refused_workers}
 use Rattle.soundness.proofs.beginning.begin_fault.Goals as goal
 

@@ -1,15 +1,13 @@
 use mathlib.Core.Path.{◌≡◌, ap, ◌∙◌}
-use Prim.Native.Nat.{ℕ, ◌+◌, ◌-◌, ◌≤◌, ◌<◌}
+use Prim.Native.Nat.{ℕ, ◌+◌, ◌≤◌, ◌<◌}
 use mathlib.Core.List.{List}
 use native.Mathlib.Omega.{arith}
-use borrow.Author.Rules.{rules}
 use lib.ListN.{set, replicate}
-use Rattle.table.specs.Format.{actions_of, table_of}
-use Rattle.table.proofs.Sizes.{Sizes}
+use Rattle.table.specs.Format.{table_of}
 use Rattle.order.specs.Words.{filled}
 use Rattle.order.specs.Firsts.{firsts}
 use Rattle.soundness.specs.Code.Checks.{Accepted}
-use Rattle.soundness.proofs.Laying.{Laid, laid_more, accepted_sizes}
+use Rattle.soundness.proofs.Laying.{laid_more, accepted_sizes}
 use Rattle.soundness.proofs.beginning.fill_next.Invariants.{Inv}
 use Rattle.soundness.proofs.beginning.fill_next.Goals as goal
 

@@ -1,16 +1,9 @@
 -- `soundness::beginning::fill_next` meets its contract. The invariant: the first t places have these threads' first actions, and the others 0.
-use mathlib.Core.Path.{◌≡◌, ap, ◌∙◌}
-use Prim.Native.Nat.{ℕ, ◌+◌, ◌-◌, ◌≤◌, ◌<◌}
+use Prim.Native.Nat.{ℕ, ◌-◌, ◌≤◌}
 use mathlib.Core.List.{List}
-use native.Mathlib.Omega.{arith}
-use borrow.Author.Rules.{rules}
-use lib.ListN.{set, replicate}
 use Rattle.table.specs.Format.{actions_of, table_of}
 use Rattle.table.proofs.Sizes.{Sizes}
-use Rattle.order.specs.Words.{filled}
-use Rattle.order.specs.Firsts.{firsts}
-use Rattle.soundness.specs.Code.Checks.{Accepted}
-use Rattle.soundness.proofs.Laying.{Laid, laid_more, accepted_sizes}
+use Rattle.soundness.proofs.Laying.{Laid}
 use Rattle.soundness.proofs.beginning.fill_next.Given as goal
 
 pub record Inv (s : List ℕ) (n : ℕ) (next : List ℕ) (t : ℕ) : Type 0 where

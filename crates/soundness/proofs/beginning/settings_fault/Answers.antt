@@ -2,7 +2,6 @@
 use mathlib.Core.Path.{◌≡◌, sym, ◌∙◌}
 use Prim.Native.Nat.{ℕ}
 use mathlib.Core.Bool.{true, false}
-use borrow.Author.Rules.{rules}
 use Rattle.table.specs.Pass.{refusal, try_at, try_from, try_pass, first_found}
 use Rattle.table.specs.Checks.{outside}
 use Rattle.table.specs.declared.Found.TheVariants.{Nothing, At}

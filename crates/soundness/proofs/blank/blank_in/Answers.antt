@@ -1,9 +1,8 @@
 -- `soundness::blank::blank_in` meets its contract: the tests are the clauses, in their order.
-use mathlib.Core.Path.{◌≡◌, ◌∙◌, ap, sym}
+use mathlib.Core.Path.{◌≡◌, ◌∙◌, sym}
 use Prim.Native.Nat.{ℕ}
 use mathlib.Core.List.{List}
-use mathlib.Core.Bool.{Bool, ◌&&◌, and_assoc, not}
-use borrow.Author.Rules.{rules}
+use mathlib.Core.Bool.{Bool, ◌&&◌, and_assoc}
 use borrow.Author.Tests.{eq-eqb, ne_eqb}
 use lib.ListN.{length, get_or, replicate}
 use lib.Dec.{eqb}
@@ -14,7 +13,7 @@ use Rattle.order.specs.Words.{all_below, same_list}
 use Rattle.schedule.specs.Turn.{is_nobody}
 use Rattle.soundness.specs.Code.Checks.{zero_arrays}
 use Rattle.soundness.specs.Tested.{blank_on}
-use Rattle.soundness.proofs.Chains.{off, on, cut, pass}
+use Rattle.soundness.proofs.Chains.{cut, pass}
 use Rattle.soundness.proofs.blank.blank_in.Goals as goal
 
 regroup : (p q a b c d e f g h t : Bool)

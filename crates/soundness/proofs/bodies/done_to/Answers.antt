@@ -1,5 +1,4 @@
 -- `soundness::bodies::done_to` meets its contract: both arms are the definition's.
-use borrow.Author.Rules.{rules}
 use borrow.Author.Tests.{eq-eqb, ne_eqb}
 use native.Mathlib.Omega.{arith}
 use Rattle.soundness.proofs.bodies.done_to.Goals as goal

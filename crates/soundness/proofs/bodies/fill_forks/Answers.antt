@@ -1,5 +1,5 @@
 use mathlib.Core.Path.{◌≡◌, refl, sym, ◌∙◌}
-use Prim.Native.Nat.{ℕ, ◌+◌, ◌-◌, ◌≤◌, ◌<◌}
+use Prim.Native.Nat.{ℕ, ◌+◌, ◌≤◌, ◌<◌}
 use mathlib.Core.List.{List}
 use native.Mathlib.Numerals.{add-one}
 use native.Mathlib.Omega.{arith}
@@ -7,7 +7,7 @@ use borrow.Author.Rules.{rules}
 use lib.ListN.{replicate}
 use Rattle.table.specs.Sum.{sum_to}
 use Rattle.table.specs.Format.{table_of}
-use Rattle.table.specs.Checks.{owner, counts_below}
+use Rattle.table.specs.Checks.{owner}
 use Rattle.table.proofs.Bodies.{first_is, counts_all, owner_is}
 use Rattle.soundness.specs.Tested.{parents_in}
 use Rattle.soundness.specs.Code.Checks.{Accepted, Forks, Noted}

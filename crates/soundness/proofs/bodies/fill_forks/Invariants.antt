@@ -1,19 +1,11 @@
 -- `soundness::bodies::fill_forks` meets its contract. The invariants: the forks below a are noted; a is where thread t begins, or lies in its body.
-use mathlib.Core.Path.{◌≡◌, refl, sym, ◌∙◌}
+use mathlib.Core.Path.{◌≡◌}
 use Prim.Native.Nat.{ℕ, ◌+◌, ◌-◌, ◌≤◌, ◌<◌}
 use mathlib.Core.List.{List}
-use native.Mathlib.Numerals.{add-one}
-use native.Mathlib.Omega.{arith}
-use borrow.Author.Rules.{rules}
-use lib.ListN.{replicate}
-use Rattle.table.specs.Sum.{sum_to}
 use Rattle.table.specs.Format.{table_of}
-use Rattle.table.specs.Checks.{owner, counts_below}
-use Rattle.table.proofs.Bodies.{first_is, counts_all, owner_is}
-use Rattle.soundness.specs.Tested.{parents_in}
-use Rattle.soundness.specs.Code.Checks.{Accepted, Forks, Noted}
-use Rattle.soundness.proofs.Lookups.{Body, accepted_lawful, thread_below, accepted_body}
-use Rattle.soundness.proofs.Noting.{noted_none, noted_forks, noted_parents}
+use Rattle.table.specs.Checks.{counts_below}
+use Rattle.soundness.specs.Code.Checks.{Accepted, Noted}
+use Rattle.soundness.proofs.Lookups.{Body}
 use Rattle.soundness.proofs.bodies.fill_forks.Given as goal
 
 pub record Inv (s : List ℕ) (n : ℕ) (forks parents : List ℕ) (a t : ℕ) : Type 0 where

@@ -1,6 +1,6 @@
 use mathlib.Core.Bool.{not}
 use mathlib.Core.Path.{◌≡◌, ◌∙◌, ap}
-use Prim.Native.Nat.{ℕ, ◌-◌}
+use Prim.Native.Nat.{ℕ}
 use mathlib.Core.List.{List}
 use native.Mathlib.Omega.{arith}
 use Rattle.table.specs.Format.{table_of}
@@ -8,7 +8,7 @@ use Rattle.schedule.specs.Sound.{in_order}
 use Rattle.order.specs.Words.{all_below}
 use Rattle.order.proofs.Lawful.{lawful}
 use Rattle.soundness.specs.Code.Checks.{Accepted, body_in_order}
-use Rattle.order.proofs.Every.{Passed, passed_none, passed_next, passed_stop, passed_all}
+use Rattle.order.proofs.Every.{passed_none, passed_next, passed_stop, passed_all}
 use Rattle.soundness.proofs.Done.{by_bodies}
 use Rattle.soundness.proofs.bodies.in_order.Goals as goal
 

@@ -1,5 +1,4 @@
 -- `soundness::bodies::is_done` meets its contract: what is done stands before where it stops.
-use borrow.Author.Rules.{rules}
 use Rattle.soundness.proofs.Done.{before_stop}
 use Rattle.soundness.proofs.bodies.is_done.Goals as goal
 

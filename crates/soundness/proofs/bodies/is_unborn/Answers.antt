@@ -1,5 +1,4 @@
 -- `soundness::bodies::is_unborn` meets its contract: `&&` is the definition's.
-use borrow.Author.Rules.{rules}
 use borrow.Author.Tests.{lt-ltb, le-ltb}
 use native.Mathlib.Omega.{arith}
 use Rattle.soundness.proofs.bodies.is_unborn.Goals as goal

@@ -1,11 +1,9 @@
 use mathlib.Core.Bool.{not}
 use mathlib.Core.Path.{ap}
-use Prim.Native.Nat.{◌-◌}
 use native.Mathlib.Omega.{arith}
-use Rattle.table.specs.Format.{table_of}
 use Rattle.schedule.specs.Sound.{next_in_body}
 use Rattle.soundness.proofs.Lookups.{thread_below}
-use Rattle.order.proofs.Every.{Passed, passed_none, passed_next, passed_stop, passed_all}
+use Rattle.order.proofs.Every.{passed_none, passed_next, passed_stop, passed_all}
 use Rattle.soundness.proofs.bodies.next_in_bodies.Goals as goal
 
 pub loop-t-init : goal.loop-t-init

@@ -1,10 +1,8 @@
 -- `soundness::bodies::next_in_bodies` meets its contract. The invariant: the threads below t pass the test.
 use Prim.Native.Nat.{◌-◌}
-use native.Mathlib.Omega.{arith}
 use Rattle.table.specs.Format.{table_of}
 use Rattle.schedule.specs.Sound.{next_in_body}
-use Rattle.soundness.proofs.Lookups.{thread_below}
-use Rattle.order.proofs.Every.{Passed, passed_none, passed_next, passed_stop, passed_all}
+use Rattle.order.proofs.Every.{Passed}
 use Rattle.soundness.proofs.bodies.next_in_bodies.Given as goal
 
 abbrev pub invariant-loop-t : goal.invariant-loop-t

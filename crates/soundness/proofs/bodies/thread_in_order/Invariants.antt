@@ -6,16 +6,12 @@ use mathlib.Core.Bool.{Bool, true, false, not}
 use native.Mathlib.Decide.{ℕ_discrete, dec_lt}
 use native.Mathlib.Omega.{arith}
 use borrow.Author.Tests.{not-true, not-false}
-use borrow.Author.Rules.{rules}
-use lib.Dec.{leb}
 use Rattle.table.specs.Format.{table_of}
 use Rattle.schedule.specs.Sound.{in_order}
 use Rattle.order.proofs.Lawful.{Lawful}
-use Rattle.schedule.specs.Parents.{Parents}
-use Rattle.soundness.specs.Code.Checks.{Accepted, Placed, Forks, done_to, unborn_in, unborn_at, join_done, body_in_order}
-use Rattle.soundness.proofs.Lookups.{Body, accepted_lawful, thread_below, accepted_body, placed}
-use Rattle.soundness.proofs.Done.{stop_within, undone_in_order, unborn_in_order, born_in_order, body_passes, body_fails}
-use Rattle.soundness.proofs.Noting.{few, unborn_noted}
+use Rattle.soundness.specs.Code.Checks.{Accepted, done_to, unborn_in, join_done, body_in_order}
+use Rattle.soundness.proofs.Lookups.{Body, accepted_lawful, thread_below}
+use Rattle.soundness.proofs.Done.{undone_in_order, born_in_order, body_passes, body_fails}
 use Rattle.soundness.proofs.bodies.thread_in_order.Given as goal
 
 pub record Inv (s : List ℕ) (n t : ℕ) (next status : List ℕ) (stop a : ℕ) : Type 0 where

@@ -1,10 +1,8 @@
 use mathlib.Core.Bool.{not}
 use mathlib.Core.Path.{ap}
-use Prim.Native.Nat.{◌-◌}
 use native.Mathlib.Omega.{arith}
-use Rattle.table.specs.Format.{table_of}
 use Rattle.schedule.specs.Sound.{waits_at_join}
-use Rattle.order.proofs.Every.{Passed, passed_none, passed_next, passed_stop, passed_all}
+use Rattle.order.proofs.Every.{passed_none, passed_next, passed_stop, passed_all}
 use Rattle.soundness.proofs.bodies.waits_at_joins.Goals as goal
 
 pub loop-t-init : goal.loop-t-init

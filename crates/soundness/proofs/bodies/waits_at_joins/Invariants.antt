@@ -1,9 +1,8 @@
 -- `soundness::bodies::waits_at_joins` meets its contract. The invariant: the threads below t pass the test.
 use Prim.Native.Nat.{◌-◌}
-use native.Mathlib.Omega.{arith}
 use Rattle.table.specs.Format.{table_of}
 use Rattle.schedule.specs.Sound.{waits_at_join}
-use Rattle.order.proofs.Every.{Passed, passed_none, passed_next, passed_stop, passed_all}
+use Rattle.order.proofs.Every.{Passed}
 use Rattle.soundness.proofs.bodies.waits_at_joins.Given as goal
 
 abbrev pub invariant-loop-t : goal.invariant-loop-t

@@ -1,9 +1,9 @@
 -- `soundness::common::common_holds` meets its contract: the tests are the clauses, in their order.
-use mathlib.Core.Path.{◌≡◌, refl, sym, ◌∙◌, ap}
+use mathlib.Core.Path.{◌≡◌, refl, sym, ◌∙◌}
 use Prim.Native.Nat.{ℕ}
 use mathlib.Core.List.{List}
-use mathlib.Core.Bool.{Bool, true, false, ◌&&◌, ◌||◌, and_assoc, not}
-use borrow.Author.Tests.{not-false, eq-eqb, le-leb, lt-leb}
+use mathlib.Core.Bool.{Bool, true, false, ◌&&◌, ◌||◌, and_assoc}
+use borrow.Author.Tests.{eq-eqb, le-leb, lt-leb}
 use lib.ListN.{length}
 use lib.Dec.{ltb, leb, eqb}
 use Rattle.table.specs.Format.{Table, table_of}
@@ -19,7 +19,7 @@ use Rattle.schedule.specs.Sound.{next_in_body, in_order, status_follows, waits_a
 use Rattle.order.specs.Words.{all_below, same_list}
 use Rattle.soundness.specs.Code.Checks.{Accepted, threads_sound, holders_sound}
 use Rattle.soundness.proofs.Lookups.{few_threads}
-use Rattle.soundness.proofs.Chains.{off, on, cut, stop, pass, skip, first_of}
+use Rattle.soundness.proofs.Chains.{cut, stop, pass, skip, first_of}
 use borrow.Author.Rules.{rules}
 use Rattle.soundness.proofs.common.common_holds.Goals as goal
 

@@ -1,8 +1,6 @@
 -- `soundness::common::holders_sound` meets its contract: the tests are the clauses, in their order.
-use mathlib.Core.Bool.{not}
-use mathlib.Core.Path.{ap, sym, ◌∙◌}
-use Rattle.soundness.proofs.Chains.{off, on, cut, pass}
-use borrow.Author.Rules.{rules}
+use mathlib.Core.Path.{sym, ◌∙◌}
+use Rattle.soundness.proofs.Chains.{cut, pass}
 use Rattle.soundness.proofs.common.holders_sound.Goals as goal
 
 pub returns-then-not-one_holder_each : goal.returns-then-not-one_holder_each

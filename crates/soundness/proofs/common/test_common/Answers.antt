@@ -1,6 +1,5 @@
 -- `soundness::common::test_common` meets its contract: what was used is cleared, but for the parents.
 use mathlib.Core.Path.{refl}
-use borrow.Author.Rules.{rules}
 use Rattle.soundness.proofs.common.test_common.Goals as goal
 
 pub returns : goal.returns

@@ -2,7 +2,7 @@
 use mathlib.Core.Bool.{not}
 use mathlib.Core.Path.{ap, sym, ◌∙◌}
 use Rattle.soundness.specs.Code.Checks.{Placed}
-use Rattle.soundness.proofs.Chains.{off, on, cut, pass, never}
+use Rattle.soundness.proofs.Chains.{on, cut, pass, never}
 use borrow.Author.Rules.{rules}
 use Rattle.soundness.proofs.common.threads_sound.Goals.{Else-not-next_in_bodies}
 use Rattle.soundness.proofs.common.threads_sound.Goals as goal

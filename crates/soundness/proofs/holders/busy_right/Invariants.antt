@@ -1,15 +1,9 @@
 -- `soundness::holders::busy_right` meets its contract. The invariant: `set` is the set of the workers from w on, in its lowest bits.
-use mathlib.Core.Path.{◌≡◌, refl, ap, ◌∙◌}
-use Prim.Native.Nat.{ℕ, suc, ◌+◌, ◌-◌, ◌*◌, ◌^◌, ◌≤◌, ◌<◌}
-use mathlib.Core.List.{List, [], ◌∷◌}
-use mathlib.Core.Bool.{Bool, true, false}
-use native.Mathlib.Nat.{two-pow-succ, pow-le-pow_right}
-use native.Mathlib.Omega.{arith}
-use lib.ListN.{length, get_or, drop, length-drop, drop_of_length-le}
-use lib.Seq.{drop-cons}
-use Rattle.table.specs.Sum.{pick}
+use mathlib.Core.Path.{◌≡◌}
+use Prim.Native.Nat.{ℕ, ◌≤◌}
+use mathlib.Core.List.{List}
+use lib.ListN.{length, drop}
 use Rattle.schedule.specs.declared.Worker.{Worker}
-use Rattle.schedule.specs.Machine.{nobody}
 use Rattle.schedule.specs.Record.{set_of}
 use Rattle.soundness.proofs.holders.busy_right.Given as goal
 

@@ -1,14 +1,12 @@
 use mathlib.Core.Path.{◌≡◌}
-use Prim.Native.Nat.{ℕ, ◌-◌}
+use Prim.Native.Nat.{ℕ}
 use mathlib.Core.List.{List}
-use mathlib.Core.Bool.{Bool, true, false}
+use mathlib.Core.Bool.{true, false}
 use native.Mathlib.Omega.{arith}
-use borrow.Author.Rules.{rules}
 use borrow.Author.Tests.{eq-eqb, ne_eqb}
-use lib.Dec.{eqb}
 use lib.ListN.{get_or}
 use Rattle.soundness.specs.Code.Checks.{holders_wanted}
-use Rattle.order.proofs.Every.{Passed, passed_none, passed_more, passed_fails, passed_all}
+use Rattle.order.proofs.Every.{passed_none, passed_more, passed_fails, passed_all}
 use Rattle.soundness.proofs.holders.counts_right.Invariants.{test}
 use Rattle.soundness.proofs.holders.counts_right.Goals as goal
 

@@ -1,15 +1,11 @@
 -- `soundness::holders::counts_right` meets its contract. The invariant: the counts of the threads below t are those of their statuses.
-use mathlib.Core.Path.{◌≡◌}
 use Prim.Native.Nat.{ℕ, ◌-◌}
 use mathlib.Core.List.{List}
-use mathlib.Core.Bool.{Bool, true, false}
-use native.Mathlib.Omega.{arith}
-use borrow.Author.Rules.{rules}
-use borrow.Author.Tests.{eq-eqb, ne_eqb}
+use mathlib.Core.Bool.{Bool}
 use lib.Dec.{eqb}
 use lib.ListN.{get_or}
 use Rattle.soundness.specs.Code.Checks.{holders_wanted}
-use Rattle.order.proofs.Every.{Passed, passed_none, passed_more, passed_fails, passed_all}
+use Rattle.order.proofs.Every.{Passed}
 use Rattle.soundness.proofs.holders.counts_right.Given as goal
 
 abbrev pub test : List ℕ → List ℕ → ℕ → Bool

@@ -1,25 +1,11 @@
 -- `soundness::holders::one_holder_each` meets its contract. The invariant: the counts are of the workers below w, so that none is above w.
-use mathlib.Core.Path.{◌≡◌, refl, sym, ◌∙◌}
-use Prim.Native.Nat.{ℕ, ◌+◌, ◌-◌, ◌≤◌, ◌<◌}
+use mathlib.Core.Path.{◌≡◌}
+use Prim.Native.Nat.{ℕ, ◌-◌, ◌≤◌, ◌<◌}
 use mathlib.Core.List.{List}
-use mathlib.Core.Bool.{true, false, ◌&&◌}
-use native.Mathlib.Decide.{ℕ_discrete}
-use native.Mathlib.Numerals.{add-one}
-use native.Mathlib.Omega.{arith}
-use borrow.Author.Rules.{rules}
-use borrow.Author.Tests.{eq-eqb, ne_eqb}
-use lib.Dec.{eqb}
-use lib.ListN.{length, get_or, set, replicate, length-set, length-replicate}
-use lib.Seq.{get_or-set_same, get_or-set_other}
-use Rattle.table.specs.Sum.{pick, sum_to}
+use lib.ListN.{length, get_or}
 use Rattle.schedule.specs.declared.Worker.{Worker}
-use Rattle.schedule.specs.Machine.{nobody}
-use Rattle.schedule.specs.Sound.{holds_thread, one_holder}
-use Rattle.order.specs.Words.{all_below, count_below}
-use Rattle.order.proofs.CountBelow.{count_bound}
-use Rattle.order.proofs.Lists.{get_d_alike}
-use Rattle.soundness.specs.Code.Checks.{holders_wanted}
-use Rattle.order.proofs.Every.{all_cong}
+use Rattle.schedule.specs.Sound.{holds_thread}
+use Rattle.order.specs.Words.{count_below}
 use Rattle.soundness.proofs.holders.one_holder_each.Given as goal
 
 -- how many of the first w workers hold thread t

@@ -1,9 +1,7 @@
 -- `soundness::holders::workers_right` meets its contract. The invariant: the workers below w are right.
 use Prim.Native.Nat.{◌-◌}
-use native.Mathlib.Omega.{arith}
-use borrow.Author.Rules.{rules}
 use Rattle.schedule.specs.Sound.{worker_right}
-use Rattle.order.proofs.Every.{Passed, passed_none, passed_next, passed_stop, passed_all}
+use Rattle.order.proofs.Every.{Passed}
 use Rattle.soundness.proofs.holders.workers_right.Given as goal
 
 abbrev pub invariant-loop-w : goal.invariant-loop-w

@@ -1,19 +1,11 @@
 -- `soundness::listed::mark_listed` meets its contract. The invariant: the marked threads are those in the first i places, and all of them are below n.
-use mathlib.Core.Path.{◌≡◌, refl, sym, ◌∙◌}
-use Prim.Native.Nat.{ℕ, ◌+◌, ◌-◌, ◌≤◌, ◌<◌}
-use mathlib.Core.List.{List, [], ◌∷◌, ◌++◌}
-use mathlib.Core.Bool.{Bool, true, false, ◌||◌, or_assoc, or-false, or-true}
-use native.Mathlib.Decide.{ℕ_discrete}
-use native.Mathlib.Numerals.{add-one}
-use native.Mathlib.Omega.{arith}
-use borrow.Author.Tests.{lt-ltb, le-ltb, eq-eqb, ne_eqb}
-use lib.Dec.{ltb, eqb}
-use lib.ListN.{length, get_or, take, set, replicate, length-set, length-replicate, length-take}
-use lib.Seq.{take-suc, get_or-take, get_or-set_same, get_or-set_other}
-use Rattle.table.proofs.Tests.{no_way}
+use mathlib.Core.Path.{◌≡◌}
+use Prim.Native.Nat.{ℕ, ◌-◌, ◌≤◌}
+use mathlib.Core.List.{List}
+use mathlib.Core.Bool.{Bool, true, false}
+use lib.Dec.{ltb}
+use lib.ListN.{length, get_or, take}
 use Rattle.order.specs.Words.{all_in, member}
-use Rattle.order.proofs.Lists.{get_d_alike, get_d_member}
-use Rattle.order.proofs.Words.{and_exactly, all_in_exactly, never_true, not_both}
 use Rattle.soundness.proofs.listed.mark_listed.Given as goal
 
 pub record Inv (n : ℕ) (list : List ℕ) (len : ℕ) (marks : List Bool) (i : ℕ) : Type 0 where

@@ -1,16 +1,11 @@
 -- `soundness::listed::marks_right` meets its contract. The invariant: the threads below t are marked if they are live.
-use mathlib.Core.Path.{◌≡◌, ◌∙◌}
 use Prim.Native.Nat.{ℕ, ◌-◌}
 use mathlib.Core.List.{List}
-use mathlib.Core.Bool.{Bool, false, not, ◌&&◌, beq}
-use native.Mathlib.Omega.{arith}
-use borrow.Author.Rules.{rules}
-use lib.Dec.{eqb}
+use mathlib.Core.Bool.{Bool, false}
 use lib.ListN.{get_or}
-use Rattle.schedule.specs.Machine.{unborn, ended}
 use Rattle.schedule.specs.Sound.{live_in}
 use Rattle.order.specs.Words.{agree}
-use Rattle.order.proofs.Every.{Passed, passed_none, passed_next, passed_stop, passed_all, beq_agree}
+use Rattle.order.proofs.Every.{Passed}
 use Rattle.soundness.proofs.listed.marks_right.Given as goal
 
 abbrev pub test : List ℕ → List Bool → ℕ → Bool

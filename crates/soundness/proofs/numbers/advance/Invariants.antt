@@ -1,14 +1,9 @@
 -- `soundness::numbers::advance` meets its contract. The invariant: the walk has come to action a, which is at most `to`.
-use Prim.Native.Nat.{ℕ, ◌+◌, ◌-◌, ◌≤◌, ◌<◌}
-use mathlib.Core.Path.{◌≡◌}
+use Prim.Native.Nat.{ℕ, ◌-◌, ◌≤◌}
 use mathlib.Core.List.{List}
-use native.Mathlib.Omega.{arith}
 use Rattle.table.specs.Format.{table_of}
-use Rattle.table.specs.Checks.{owner, end_of}
-use Rattle.soundness.specs.Code.Checks.{Accepted}
+use Rattle.table.specs.Checks.{owner}
 use Rattle.soundness.specs.Code.Order.{NumbersTo}
-use Rattle.soundness.proofs.Lookups.{accepted_lawful}
-use Rattle.soundness.proofs.Marks.{numbers_owner, numbers_here, numbers_on}
 use Rattle.soundness.proofs.numbers.advance.Given as goal
 
 pub record Inv (s : List ℕ) (t to a number : ℕ) (before numbers : List ℕ) : Type 0 where

@@ -1,15 +1,8 @@
 -- `soundness::numbers::fill_lengths` meets its contract. The invariant: the array has the lengths of the threads from t on.
-use mathlib.Core.Path.{◌≡◌, ◌∙◌}
-use Prim.Native.Nat.{ℕ, ◌+◌, ◌-◌, ◌≤◌, ◌<◌}
+use Prim.Native.Nat.{ℕ, ◌≤◌}
 use mathlib.Core.List.{List}
-use native.Mathlib.Omega.{arith}
-use native.Mathlib.Decide.{ℕ_discrete}
-use lib.ListN.{length, get_or, set, length-set}
-use lib.Seq.{get_or-set_same, get_or-set_other}
 use Rattle.table.specs.Format.{Table, table_of}
-use Rattle.table.specs.Serial.{serial}
-use Rattle.soundness.specs.Code.Checks.{Accepted, Lengths}
-use Rattle.soundness.proofs.Lookups.{few_threads}
+use Rattle.soundness.specs.Code.Checks.{Lengths}
 use Rattle.soundness.proofs.numbers.fill_lengths.Given as goal
 
 pub record Inv (T : Table) (n : ℕ) (lengths : List ℕ) (t : ℕ) : Type 0 where

@@ -1,8 +1,4 @@
-use Prim.Native.Nat.{◌-◌}
 use native.Mathlib.Omega.{arith}
-use borrow.Author.Rules.{rules}
-use Rattle.table.specs.Format.{table_of}
-use Rattle.soundness.specs.Code.Order.{Numbering}
 use Rattle.soundness.proofs.Lookups.{accepted_lawful}
 use Rattle.soundness.proofs.Marks.{numbering_starts, numbering_ends}
 use Rattle.soundness.proofs.numbers.fill_numbers.Goals as goal

@@ -1,14 +1,8 @@
 -- `soundness::numbers::rising` meets its contract. The invariant: the numbers rise along the whole list if they do from place i on.
-use mathlib.Core.Path.{◌≡◌, refl, sym, ◌∙◌}
-use Prim.Native.Nat.{ℕ, zero, suc, ◌+◌, ◌-◌, ◌≤◌, ◌<◌}
-use mathlib.Core.List.{List, [], ◌∷◌}
-use mathlib.Core.Bool.{true, false, ◌&&◌}
-use native.Mathlib.Numerals.{add-one}
-use native.Mathlib.Omega.{arith}
-use borrow.Author.Tests.{lt-ltb, le-ltb}
-use lib.Dec.{ltb}
+use mathlib.Core.Path.{◌≡◌}
+use Prim.Native.Nat.{ℕ, ◌-◌, ◌≤◌}
+use mathlib.Core.List.{List}
 use lib.ListN.{length, get_or, take, drop}
-use lib.Seq.{drop-cons, drop-nil, get_or-take, length-take-le}
 use Rattle.order.specs.Words.{rises}
 use Rattle.soundness.proofs.numbers.rising.Given as goal
 

@@ -2,19 +2,10 @@
 use mathlib.Core.Path.{◌≡◌}
 use Prim.Native.Nat.{ℕ, ◌+◌, ◌-◌, ◌≤◌, ◌<◌}
 use mathlib.Core.List.{List}
-use native.Mathlib.Omega.{arith}
-use borrow.Author.Rules.{rules}
 use lib.ListN.{length}
 use Rattle.table.specs.Format.{table_of}
-use Rattle.table.specs.Checks.{owner, end_of}
+use Rattle.table.specs.Checks.{end_of}
 use Rattle.table.specs.Serial.{serial}
-use Rattle.table.specs.Sum.{Read}
-use Rattle.table.proofs.Bodies.{first_within}
-use Rattle.order.proofs.Lawful.{Lawful}
-use Rattle.soundness.specs.Code.Checks.{Accepted, Lengths}
-use Rattle.soundness.specs.Code.Order.{Inside}
-use Rattle.soundness.proofs.Lookups.{accepted_lawful, thread_below, accepted_body}
-use Rattle.soundness.proofs.Spans.{inside_owner, end_length, length_small}
 use Rattle.soundness.proofs.numbers.thread_length.Given as goal
 
 pub record Inv (s : List ℕ) (t last total a : ℕ) : Type 0 where

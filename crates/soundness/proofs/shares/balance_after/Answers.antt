@@ -1,6 +1,5 @@
 -- `soundness::shares::balance_after` meets its contract: each kind of action moves the balance as the table's laws say.
 use native.Mathlib.Omega.{arith}
-use borrow.Author.Rules.{rules}
 use Rattle.soundness.proofs.Lookups.{code_read, argument_read}
 use Rattle.soundness.proofs.Balancing.{before_small, past_alloc, free_room, past_free, child_few, child_small, past_join, past_other}
 use Rattle.soundness.proofs.shares.balance_after.Goals as goal

@@ -1,8 +1,6 @@
-use Prim.Native.Nat.{◌-◌}
 use native.Mathlib.Omega.{arith}
-use borrow.Author.Rules.{rules}
 use Rattle.soundness.proofs.Lookups.{accepted_body}
-use Rattle.soundness.proofs.Clearing.{Clearing, ClearingIn, clearing_starts, clearing_enters, clearing_asks, clearing_goes, clearing_leaves, clearing_ends}
+use Rattle.soundness.proofs.Clearing.{clearing_starts, clearing_enters, clearing_asks, clearing_goes, clearing_leaves, clearing_ends}
 use Rattle.soundness.proofs.shares.clear_joined.Goals as goal
 
 pub loop-t-init : goal.loop-t-init

@@ -1,9 +1,6 @@
 -- `soundness::shares::clear_joined` meets its contract. The invariants: the threads joined below thread t's actions, or below action a of it, are cleared.
 use Prim.Native.Nat.{◌-◌}
-use native.Mathlib.Omega.{arith}
-use borrow.Author.Rules.{rules}
-use Rattle.soundness.proofs.Lookups.{accepted_body}
-use Rattle.soundness.proofs.Clearing.{Clearing, ClearingIn, clearing_starts, clearing_enters, clearing_asks, clearing_goes, clearing_leaves, clearing_ends}
+use Rattle.soundness.proofs.Clearing.{Clearing, ClearingIn}
 use Rattle.soundness.proofs.shares.clear_joined.Given as goal
 
 abbrev pub invariant-loop-a : goal.invariant-loop-a

@@ -1,16 +1,12 @@
 -- `soundness::shares::fill_balances` meets its contract. The invariant: the array has the balances so far of the threads from t on.
 use mathlib.Core.Path.{◌≡◌}
-use Prim.Native.Nat.{ℕ, ◌+◌, ◌-◌, ◌≤◌, ◌<◌}
+use Prim.Native.Nat.{ℕ, ◌≤◌, ◌<◌}
 use mathlib.Core.List.{List}
 use mathlib.Core.Bool.{true}
-use native.Mathlib.Omega.{arith}
-use lib.ListN.{get_or, set, replicate}
+use lib.ListN.{get_or}
 use Rattle.table.specs.Format.{table_of}
-use Rattle.table.proofs.Walks.{argument_small}
-use Rattle.soundness.specs.Code.Checks.{Accepted, done_to, threads_sound}
-use Rattle.soundness.specs.Code.Balancing.{Balances, Balancing, Balanced}
-use Rattle.soundness.proofs.Lookups.{few_threads}
-use Rattle.soundness.proofs.Balancing.{balances_none, balancing, balances_next}
+use Rattle.soundness.specs.Code.Checks.{Accepted, threads_sound}
+use Rattle.soundness.specs.Code.Balancing.{Balances}
 use Rattle.soundness.proofs.shares.fill_balances.Given as goal
 
 pub record Inv (s : List ℕ) (n : ℕ) (next status balances : List ℕ) (t : ℕ) : Type 0 where

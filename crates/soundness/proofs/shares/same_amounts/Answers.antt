@@ -1,10 +1,8 @@
 use mathlib.Core.Path.{◌∙◌}
-use Prim.Native.Nat.{◌-◌}
 use native.Mathlib.Omega.{arith}
-use borrow.Author.Rules.{rules}
 use borrow.Author.Tests.{eq-eqb, ne_eqb}
-use Rattle.order.proofs.Every.{Passed, passed_none, passed_more, passed_fails, passed_all}
-use Rattle.soundness.proofs.Clearing.{same_at, same_places}
+use Rattle.order.proofs.Every.{passed_none, passed_more, passed_fails, passed_all}
+use Rattle.soundness.proofs.Clearing.{same_places}
 use Rattle.soundness.proofs.shares.same_amounts.Goals as goal
 
 pub loop-t-init : goal.loop-t-init

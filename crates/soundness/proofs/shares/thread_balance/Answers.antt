@@ -1,8 +1,5 @@
 use mathlib.Core.Path.{◌≡◌}
-use Prim.Native.Nat.{◌-◌}
 use native.Mathlib.Omega.{arith}
-use borrow.Author.Rules.{rules}
-use Rattle.soundness.specs.Code.Balancing.{Balancing, Balanced}
 use Rattle.soundness.proofs.Balancing.{balanced_none}
 use Rattle.soundness.proofs.shares.thread_balance.Goals as goal
 

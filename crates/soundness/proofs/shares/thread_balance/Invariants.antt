@@ -1,10 +1,6 @@
 -- `soundness::shares::thread_balance` meets its contract. The invariant: the sum is what the thread's actions below a come to.
-use mathlib.Core.Path.{◌≡◌}
 use Prim.Native.Nat.{◌-◌}
-use native.Mathlib.Omega.{arith}
-use borrow.Author.Rules.{rules}
 use Rattle.soundness.specs.Code.Balancing.{Balancing, Balanced}
-use Rattle.soundness.proofs.Balancing.{balanced_none}
 use Rattle.soundness.proofs.shares.thread_balance.Given as goal
 
 abbrev pub invariant-loop-a : goal.invariant-loop-a

@@ -3,7 +3,6 @@ use mathlib.Core.Path.{◌≡◌, ap, ◌∙◌}
 use Prim.Native.Nat.{ℕ}
 use mathlib.Core.List.{List, ◌++◌}
 use mathlib.Core.Bool.{Bool, true, false, not}
-use borrow.Author.Rules.{rules}
 use lib.ListN.{length, take, drop, replicate}
 use Rattle.table.specs.Format.{Table}
 use Rattle.schedule.specs.Links.{Links, walk, laid}

@@ -1,15 +1,15 @@
 -- `soundness::sound::list_sound` meets its contract: the tests are the clauses, in their order.
-use mathlib.Core.Path.{◌≡◌, ◌∙◌, ap, sym}
+use mathlib.Core.Path.{◌≡◌, ◌∙◌, sym}
 use Prim.Native.Nat.{ℕ}
 use mathlib.Core.List.{List}
-use mathlib.Core.Bool.{Bool, ◌&&◌, and_assoc, not}
+use mathlib.Core.Bool.{Bool, ◌&&◌, and_assoc}
 use lib.ListN.{take}
 use lib.Dec.{ltb}
 use Rattle.table.specs.Format.{Table}
 use Rattle.schedule.specs.Sound.{list_follows, in_serial_order, listed}
 use Rattle.order.specs.Words.{all_below, all_in}
 use Rattle.soundness.proofs.Lookups.{few_threads}
-use Rattle.soundness.proofs.Chains.{off, on, cut, pass, second_of}
+use Rattle.soundness.proofs.Chains.{cut, pass, second_of}
 use Rattle.soundness.proofs.sound.list_sound.Goals as goal
 
 -- the two tests are the three clauses

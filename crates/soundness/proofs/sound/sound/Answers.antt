@@ -1,11 +1,10 @@
 -- `soundness::sound::sound` meets its contract: a record is sound where its parts are and its table is a copy of the bytes in use.
-use mathlib.Core.Path.{◌≡◌, sym, ◌∙◌, ap}
+use mathlib.Core.Path.{◌≡◌, sym, ◌∙◌}
 use Prim.Native.Nat.{ℕ, ◌≤◌}
 use mathlib.Core.List.{List}
-use mathlib.Core.Bool.{Bool, true, false, not}
+use mathlib.Core.Bool.{Bool, true, false}
 use native.Mathlib.Omega.{arith}
 use borrow.Author.Rules.{rules}
-use borrow.Author.Tests.{not-false}
 use lib.ListN.{length, replicate}
 use lib.Seq.{length-take-le}
 use Rattle.schedule.specs.declared.Run.{Run}
@@ -14,7 +13,7 @@ use Rattle.schedule.specs.Sound.{sound}
 use Rattle.soundness.specs.declared.Tested.{Tested}
 use Rattle.soundness.specs.Code.Checks.{copy_sound}
 use Rattle.soundness.specs.Tested.{parents_if, sound_on}
-use Rattle.soundness.proofs.Chains.{off, on, skip, last}
+use Rattle.soundness.proofs.Chains.{skip, last}
 use Rattle.soundness.proofs.OnParts.{sound_is}
 use Rattle.soundness.proofs.sound.sound.Goals.{Else-not-copy_sound, Start}
 use Rattle.soundness.proofs.sound.sound.Goals as goal

@@ -1,10 +1,8 @@
 -- `soundness::sound::test_in` meets its contract: the parents stand where the parts are sound, and the rest is cleared.
-use mathlib.Core.Path.{◌≡◌, refl, ap, sym, ◌∙◌}
+use mathlib.Core.Path.{◌≡◌, refl}
 use mathlib.Core.List.{List}
-use mathlib.Core.Bool.{Bool, true, false, not}
+use mathlib.Core.Bool.{Bool, true, false}
 use Prim.Native.Nat.{ℕ}
-use borrow.Author.Rules.{rules}
-use borrow.Author.Tests.{not-true, not-false}
 use lib.ListN.{replicate}
 use Rattle.table.specs.Format.{Table, table_of}
 use Rattle.soundness.specs.Tested.{parents_in, parents_if}

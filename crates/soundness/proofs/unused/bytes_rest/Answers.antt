@@ -1,9 +1,6 @@
 use mathlib.Core.Path.{refl}
-use Prim.Native.Nat.{◌-◌}
 use native.Mathlib.Omega.{arith}
-use borrow.Author.Rules.{rules}
-use lib.ListN.{length}
-use Rattle.order.proofs.Every.{PassedFrom, from_none}
+use Rattle.order.proofs.Every.{from_none}
 use Rattle.soundness.proofs.Filled.{is_zero, rest_more, rest_fails, rest_pass}
 use Rattle.soundness.proofs.unused.bytes_rest.Goals as goal
 

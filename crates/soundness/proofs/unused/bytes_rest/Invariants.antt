@@ -1,11 +1,8 @@
 -- `soundness::unused::bytes_rest` meets its contract. The invariant: the places from `used` to i are 0.
-use mathlib.Core.Path.{refl}
 use Prim.Native.Nat.{◌-◌}
-use native.Mathlib.Omega.{arith}
-use borrow.Author.Rules.{rules}
 use lib.ListN.{length}
-use Rattle.order.proofs.Every.{PassedFrom, from_none}
-use Rattle.soundness.proofs.Filled.{is_zero, rest_more, rest_fails, rest_pass}
+use Rattle.order.proofs.Every.{PassedFrom}
+use Rattle.soundness.proofs.Filled.{is_zero}
 use Rattle.soundness.proofs.unused.bytes_rest.Given as goal
 
 abbrev pub invariant-loop-i : goal.invariant-loop-i

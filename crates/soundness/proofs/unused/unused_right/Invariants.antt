@@ -1,15 +1,7 @@
 -- `soundness::unused::unused_right` meets its contract. The invariant: the threads from n to t are unborn with next action 0.
-use mathlib.Core.Path.{◌≡◌}
-use Prim.Native.Nat.{ℕ, ◌+◌, ◌-◌, ◌<◌}
-use mathlib.Core.List.{List}
-use mathlib.Core.Bool.{false}
-use native.Mathlib.Omega.{arith}
-use borrow.Author.Rules.{rules}
-use borrow.Author.Tests.{ne_eqb}
-use lib.ListN.{get_or}
+use Prim.Native.Nat.{◌-◌}
 use Rattle.schedule.specs.Sound.{unused}
-use Rattle.order.specs.Words.{all_below}
-use Rattle.order.proofs.Every.{from_on, PassedFrom, from_none, from_more, from_fails, from_all}
+use Rattle.order.proofs.Every.{PassedFrom}
 use Rattle.soundness.proofs.unused.unused_right.Given as goal
 
 abbrev pub invariant-loop-t : goal.invariant-loop-t

@@ -1,8 +1,5 @@
-use Prim.Native.Nat.{◌-◌}
 use native.Mathlib.Omega.{arith}
-use borrow.Author.Rules.{rules}
-use lib.ListN.{length}
-use Rattle.order.proofs.Every.{PassedFrom, from_none}
+use Rattle.order.proofs.Every.{from_none}
 use Rattle.soundness.proofs.Filled.{is_zero, rest_more, zeros_fail, zeros_pass}
 use Rattle.soundness.proofs.unused.zero_amounts.Goals as goal
 

@@ -1,10 +1,8 @@
 -- `soundness::unused::zero_amounts` meets its contract. The invariant: the places below t are 0.
 use Prim.Native.Nat.{◌-◌}
-use native.Mathlib.Omega.{arith}
-use borrow.Author.Rules.{rules}
 use lib.ListN.{length}
-use Rattle.order.proofs.Every.{PassedFrom, from_none}
-use Rattle.soundness.proofs.Filled.{is_zero, rest_more, zeros_fail, zeros_pass}
+use Rattle.order.proofs.Every.{PassedFrom}
+use Rattle.soundness.proofs.Filled.{is_zero}
 use Rattle.soundness.proofs.unused.zero_amounts.Given as goal
 
 abbrev pub invariant-loop-t : goal.invariant-loop-t
