@@ -6,9 +6,13 @@ use std::io;
 use std::io::Write;
 use streams::read_full;
 
+// A byte more than sixteen of the longest tables with their lengths and the count, so that a longer input is refused.
+fn input_buffer() -> [u8; 589954] {
+    [0; 589954]
+}
+
 fn main(rt: HostRuntime) -> io::Result<()> {
-    // A byte more than sixteen of the longest tables with their lengths and the count, so that a longer input is refused.
-    let mut input = [0u8; 589954];
+    let mut input = input_buffer();
     let n = read_full(&mut rt.stdin(), &mut input)?;
     let mut bytes = [0u8; 36868];
     let answer = joining::join_given(&input[..n], &mut bytes);
