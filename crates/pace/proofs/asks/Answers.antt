@@ -2,6 +2,7 @@
 use mathlib.Core.Path.{sym, ◌∙◌}
 use native.Mathlib.Omega.{arith}
 use Rattle.pace.proofs.Steps.{asked_in, asked_past}
+use borrow.Author.Rules.{rules}
 use Rattle.pace.proofs.asks.Goals as goal
 
 pub returns-then-w-lt16 : goal.returns-then-w-lt16

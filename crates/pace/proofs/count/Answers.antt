@@ -1,6 +1,7 @@
 use mathlib.Core.Path.{◌≡◌, sym, ◌∙◌}
-use Prim.Native.Nat.{◌+◌, ◌*◌}
+use Prim.Native.Nat.{◌+◌, ◌*◌, ◌-◌, ◌≤◌}
 use native.Mathlib.Omega.{arith}
+use Rattle.pace.specs.Pace.{counted}
 use Rattle.pace.proofs.Steps.{count_step, count_end}
 use Rattle.pace.proofs.count.Goals as goal
 

@@ -1,7 +1,9 @@
 -- `pace::count` meets its contract: what is counted and then the rest is the whole.
-use mathlib.Core.Path.{◌≡◌}
+use mathlib.Core.Path.{◌≡◌, sym, ◌∙◌}
 use Prim.Native.Nat.{◌+◌, ◌*◌, ◌-◌, ◌≤◌}
+use native.Mathlib.Omega.{arith}
 use Rattle.pace.specs.Pace.{counted}
+use Rattle.pace.proofs.Steps.{count_step, count_end}
 use Rattle.pace.proofs.count.Given as goal
 
 abbrev pub invariant-loop-x : goal.invariant-loop-x

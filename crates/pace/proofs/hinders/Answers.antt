@@ -2,6 +2,7 @@
 use mathlib.Core.Path.{sym, ◌∙◌}
 use native.Mathlib.Omega.{arith}
 use Rattle.pace.proofs.Steps.{number_30, number_may}
+use borrow.Author.Rules.{rules}
 use Rattle.pace.proofs.hinders.Goals as goal
 
 pub returns-then-pace-w : goal.returns-then-pace-w

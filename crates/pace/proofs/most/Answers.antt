@@ -1,6 +1,7 @@
 use mathlib.Core.Path.{◌≡◌, ◌∙◌}
-use Prim.Native.Nat.{◌+◌, ◌*◌}
+use Prim.Native.Nat.{◌+◌, ◌*◌, ◌-◌, ◌≤◌, max}
 use native.Mathlib.Omega.{arith}
+use Rattle.pace.specs.Pace.{most_from}
 use Rattle.pace.proofs.Steps.{most_step, most_end}
 use Rattle.pace.proofs.most.Goals as goal
 

@@ -1,7 +1,9 @@
 -- `pace::most` meets its contract: the greatest so far and of the numbers left is the greatest of all.
-use mathlib.Core.Path.{◌≡◌}
+use mathlib.Core.Path.{◌≡◌, ◌∙◌}
 use Prim.Native.Nat.{◌+◌, ◌*◌, ◌-◌, ◌≤◌, max}
+use native.Mathlib.Omega.{arith}
 use Rattle.pace.specs.Pace.{most_from}
+use Rattle.pace.proofs.Steps.{most_step, most_end}
 use Rattle.pace.proofs.most.Given as goal
 
 abbrev pub invariant-loop-x : goal.invariant-loop-x

@@ -1,6 +1,8 @@
 -- `pace::next` meets its contract: the worker after that of the latest turn, or worker 0.
 use mathlib.Core.Path.{sym}
+use native.Mathlib.Omega.{arith}
 use Rattle.pace.proofs.Steps.{next_after, next_first}
+use borrow.Author.Rules.{rules}
 use Rattle.pace.proofs.next.Goals as goal
 
 pub returns-then-after-pace : goal.returns-then-after-pace

@@ -3,6 +3,7 @@ use mathlib.Core.Path.{sym, ap, ◌∙◌}
 use native.Mathlib.Omega.{arith}
 use Rattle.pace.specs.Pace.{paced}
 use Rattle.pace.proofs.Steps.{note_30, note_0}
+use borrow.Author.Rules.{rules}
 use Rattle.pace.proofs.note.Goals as goal
 
 pub returns-then-pace-w : goal.returns-then-pace-w

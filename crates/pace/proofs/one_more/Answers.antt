@@ -2,6 +2,7 @@
 use mathlib.Core.Path.{sym}
 use mathlib.Core.Logic.{inl, inr}
 use Rattle.pace.proofs.Steps.{one_more_stays, one_more_counts}
+use borrow.Author.Rules.{rules}
 use Rattle.pace.proofs.one_more.Goals as goal
 
 pub returns-then-n-eq0 : goal.returns-then-n-eq0

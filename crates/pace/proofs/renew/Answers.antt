@@ -1,6 +1,7 @@
 use mathlib.Core.Path.{◌≡◌, sym, ◌∙◌}
-use Prim.Native.Nat.{◌+◌, ◌*◌}
+use Prim.Native.Nat.{◌+◌, ◌*◌, ◌-◌, ◌≤◌}
 use native.Mathlib.Omega.{arith}
+use Rattle.pace.specs.Pace.{renewed}
 use Rattle.pace.proofs.Steps.{renew_step, renew_end}
 use Rattle.pace.proofs.renew.Goals as goal
 

@@ -3,6 +3,7 @@ use mathlib.Core.Path.{sym}
 use mathlib.Core.Logic.{inl, inr}
 use native.Mathlib.Omega.{arith}
 use Rattle.pace.proofs.Steps.{start_20, start_41, start_0}
+use borrow.Author.Rules.{rules}
 use Rattle.pace.proofs.start.Goals as goal
 
 pub returns-then-p-eq0 : goal.returns-then-p-eq0

@@ -2,6 +2,7 @@
 use mathlib.Core.Path.{sym}
 use native.Mathlib.Omega.{arith}
 use Rattle.pace.proofs.Steps.{took_in, took_past}
+use borrow.Author.Rules.{rules}
 use Rattle.pace.proofs.took.Goals as goal
 
 pub returns-then-w-lt16 : goal.returns-then-w-lt16

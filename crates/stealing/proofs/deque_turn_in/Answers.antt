@@ -1,10 +1,12 @@
 -- `stealing::deque_turn_in` meets its contract: 32, 30, 31, 49, then the turn.
-use mathlib.Core.Path.{sym, ◌∙◌}
+use mathlib.Core.Path.{◌≡◌, sym, ◌∙◌}
 use lib.ListN.{get_or}
-use Rattle.run_memory.specs.Memory.{moved_in}
+use Rattle.run_memory.specs.Memory.{Memory, moved_in}
 use Rattle.run_memory.specs.Blocks.{memory_of}
+use Rattle.stealing.specs.StealingMemory.{deque_hindrance}
 use Rattle.stealing.proofs.Goes.{spoke}
 use Rattle.stealing.proofs.Steals.{asked_hindrance, none_before, hindered, goes_on}
+use borrow.Author.Rules.{rules}
 use Rattle.stealing.proofs.deque_turn_in.Goals as goal
 
 pub returns-then-number-ne0 : goal.returns-then-number-ne0

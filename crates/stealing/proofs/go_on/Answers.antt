@@ -1,5 +1,5 @@
 -- `stealing::go_on` meets its contract.
-use mathlib.Core.Path.{◌≡◌, refl, sym, ◌∙◌}
+use mathlib.Core.Path.{◌≡◌, refl, sym, ap, ◌∙◌}
 use Prim.Native.Nat.{ℕ, ◌+◌, ◌<◌}
 use mathlib.Core.Bool.{Bool, true, ◌&&◌}
 use Rattle.table.proofs.Tests.{and_both}
@@ -12,6 +12,7 @@ use Rattle.array_machine.proofs.Leaves.{fits16, fits_and}
 use Rattle.run_memory.specs.Blocks.{bytes_in, words_in, numbers_in, sums_in, memory_of}
 use Rattle.run_memory.proofs.Takes.{codes, arguments}
 use Rattle.stealing.proofs.Goes.{spoke, counted_as, no_thread_read, ends_read, other_read, fork_unfit_read, fork_read, wait_read, join_read}
+use borrow.Author.Rules.{rules}
 use Rattle.stealing.proofs.go_on.Goals.{then-code-eq-JOIN+else-runs_on, else-code-eq-JOIN}
 use Rattle.stealing.proofs.go_on.Goals as goal
 

@@ -1,6 +1,7 @@
 -- `stealing::hindrance` meets its contract.
 use mathlib.Core.Path.{sym, ◌∙◌}
 use Rattle.stealing.proofs.Steals.{hindered_before, choice_here, choice_none}
+use borrow.Author.Rules.{rules}
 use Rattle.stealing.proofs.hindrance.Goals as goal
 
 pub returns-then-number-ne0 : goal.returns-then-number-ne0

@@ -6,7 +6,8 @@ use mathlib.Core.List.{List}
 use mathlib.Core.Bool.{true, false}
 use lib.ListN.{length}
 use Rattle.table.specs.Format.{table_of}
-use Rattle.run_memory.specs.Memory.{Memory, worker_in}
+use Rattle.array_machine.specs.Counted.{room_for}
+use Rattle.run_memory.specs.Memory.{Memory, worker_in, moved_in}
 use Rattle.run_memory.specs.Blocks.{part, bytes_in, words_in, numbers_in, sums_in, memory_of}
 use Rattle.run_memory.proofs.Parts.{part_length}
 use Rattle.stealing.specs.StealingMemory.{deque_taken_in}
@@ -15,6 +16,7 @@ use Rattle.run_memory.proofs.Takes.{codes, arguments}
 use Rattle.stealing.proofs.Goes.{spoke, counted_as}
 use Rattle.run_memory.proofs.Takes.{asked_room}
 use Rattle.stealing.proofs.Steals.{Roomy, roomy, ready_read, without_room, too_far, idles, steal_unfit, steals, stolen_going}
+use borrow.Author.Rules.{rules}
 use Rattle.stealing.proofs.take.Goals.{then-not-holds+else-c-ge16+else-not-is_ready+else-not-action_fits, else-not-holds, After-action_fits, Else-not-room_for, Joined-not-holds, Then-not-holds}
 use Rattle.stealing.proofs.take.Goals as goal
 

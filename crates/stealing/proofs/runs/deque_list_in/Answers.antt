@@ -1,8 +1,10 @@
 -- `stealing::runs::deque_list_in` meets its contract: 32 first, then the run.
 use mathlib.Core.Path.{sym, ◌∙◌}
+use Rattle.run_memory.specs.Memory.{Memory}
 use Rattle.run_memory.specs.Blocks.{memory_of}
 use Rattle.run_memory.proofs.Drives.{stopped_as_lem}
 use Rattle.stealing.proofs.PairDrives.{full_list, driven_list}
+use borrow.Author.Rules.{rules}
 use Rattle.stealing.proofs.runs.deque_list_in.Goals as goal
 
 pub returns-then-total_at-eq18446744073709551615 : goal.returns-then-total_at-eq18446744073709551615

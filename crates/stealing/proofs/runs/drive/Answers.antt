@@ -1,8 +1,14 @@
-use mathlib.Core.Path.{refl, sym, subst, ◌∙◌}
-use Prim.Native.Nat.{ℕ, ◌/◌, ◌≤◌, ◌<◌}
+use mathlib.Core.Path.{◌≡◌, refl, sym, subst, ◌∙◌}
+use Prim.Native.Nat.{ℕ, ◌-◌, ◌/◌, ◌≤◌, ◌<◌}
+use mathlib.Core.List.{List}
+use native.Mathlib.Omega.{arith}
+use borrow.Author.Rules.{rules}
 use lib.ListN.{length}
+use Rattle.run_memory.specs.Memory.{Memory}
+use Rattle.run_memory.specs.Blocks.{memory_of}
+use Rattle.deques.specs.DequeRuns.{pair_at}
 use Rattle.run_memory.proofs.Drives.{stopped_as_lem}
-use Rattle.stealing.proofs.PairDrives.{first_along, spent, root_stops, hindered, again, worker_read, choice_read}
+use Rattle.stealing.proofs.PairDrives.{Along, first_along, spent, root_stops, hindered, again, worker_read, choice_read}
 use Rattle.stealing.proofs.runs.drive.Goals.{In-loop-i}
 use Rattle.stealing.proofs.runs.drive.Goals as goal
 
