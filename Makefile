@@ -3,7 +3,7 @@ PREFIX = /usr/local
 DESTDIR =
 
 help:
-	@echo 'make check      prove everything from nothing and run all tests: .ci/run, some twenty-five minutes'
+	@echo 'make check      prove everything and run all tests: .ci/run, an hour or more where nothing is kept'
 	@echo 'make build      prove and build the programs and the archives, with progress (needs rt)'
 	@echo 'make install    the command, headers, archive, manual and completions, from dist/, to PREFIX ($(PREFIX))'
 	@echo 'make uninstall  remove them from PREFIX'
