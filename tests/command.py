@@ -853,7 +853,7 @@ def builds(folder):
     shutil.copy(TOP / 'dist/KIT', folder / 'kit/KIT-ID')
     environment = {**os.environ, 'PATH': '%s:%s' % (tools, os.environ['PATH'])}
     here, count, crates = top / 'tools/wivakkol', len(proving.programs()), len(proving.closure(proving.programs()))
-    first = 'wivakkol: proving and building %d programs, from nothing some fifteen minutes with two cores' % count
+    first = 'wivakkol: proving and building %d programs, from nothing half an hour or more' % count
     (top / 'broken').touch()
     out, told, status = call('check', '--build', 'examples/e.text', command=here, env=environment)
     expect('rt fails', (out, told.split('\n')[0], told.split('\n')[-2], status),

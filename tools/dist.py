@@ -165,7 +165,7 @@ def program(name):
 
 def emptied(target):
     """Datalayout and triple of a target, as the compiler has them."""
-    text = run([compiler() / 'clang', '--target=' + target, '-S', '-emit-llvm', '-x', 'c', '/dev/null', '-o', '-']).decode()
+    text = run([compiler() / 'clang', '--target=' + target, '-S', '-emit-llvm', '-x', 'c', os.devnull, '-o', '-']).decode()
     return [re.search('^target %s = ".*"$' % word, text, re.M)[0] for word in ('datalayout', 'triple')]
 
 
