@@ -1,4 +1,5 @@
 -- What a turn works on, the lent arrays, the totals and the worker's own record, as a state with that one worker; and what a sound run gives such a part.
+use Rattle.std.specs.Prelude.{Ok}
 use mathlib.Core.Path.{◌≡◌}
 use Prim.Native.Nat.{ℕ, ◌<◌}
 use mathlib.Core.List.{List, [], ◌∷◌}
@@ -6,7 +7,6 @@ use Rattle.table.specs.Sum.{pick}
 use Rattle.table.specs.Format.{Table, table_of}
 use Rattle.table.specs.Rules.{Rules}
 use Rattle.table.specs.Pass.{first_found}
-use Rattle.table.specs.declared.Found.TheVariants.{Nothing}
 use Rattle.schedule.specs.declared.Worker.{Worker}
 use Rattle.schedule.specs.Machine.{State, Stepped, stepped, worker_of, act, turn_free}
 use Rattle.schedule.specs.Links.{laid, LinkedAs}
@@ -60,7 +60,7 @@ pub record Sits (s : List ℕ) (n K : ℕ) (A : Arrays) (totals : Totals) (worke
   pub p : ℕ
   pub w : ℕ
   pub below : w < p
-  pub settings : first_found (setting_passes p K) ≡ Nothing
+  pub settings : first_found (setting_passes p K) ≡ Ok tt
   pub state : State
   pub sound : SoundState (table_of s) p K state
   pub same_next : state.next ≡ A.next

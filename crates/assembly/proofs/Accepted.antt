@@ -1,4 +1,5 @@
 -- What the two calls and their laws use of an accepted table.
+use Rattle.std.specs.Prelude.{Ok}
 use Prim.Native.Nat.{ℕ, ◌+◌, ◌*◌, ◌≤◌}
 use mathlib.Core.Path.{◌≡◌, refl, ap, ◌∙◌}
 use mathlib.Core.List.{List}
@@ -8,7 +9,6 @@ use Rattle.table.specs.Format.{threads_of, actions_of, table_of}
 use Rattle.table.specs.Rules.{Rules}
 use Rattle.table.specs.Load.{loaded}
 use Rattle.table.specs.declared.Facts.{Facts}
-use Rattle.table.specs.declared.Loaded.TheVariants.{Accepted}
 use Rattle.table.proofs.Sizes.{sizes}
 use Rattle.table.proofs.Bodies.{counts_all}
 use Rattle.table.proofs.Passes.{accepted_exactly, accepted_facts}
@@ -22,10 +22,10 @@ pub record Shape (s : List ℕ) : Type 0 where
   pub long : length s ≡ 4 + 4 * threads_of s + 4 * actions_of s
   pub counts : sum_to (table_of s).count (threads_of s) ≡ actions_of s
 
-pub keeps_rules : (s : List ℕ) (f : Facts) → loaded s ≡ Accepted f → Rules s
-keeps_rules s f e = (accepted_exactly s).0 (e ∙ ap Accepted (accepted_facts s f e))
+pub keeps_rules : (s : List ℕ) (f : Facts) → loaded s ≡ Ok f → Rules s
+keeps_rules s f e = (accepted_exactly s).0 (e ∙ ap Ok (accepted_facts s f e))
 
-pub shape : (s : List ℕ) (f : Facts) → loaded s ≡ Accepted f → Shape s
+pub shape : (s : List ℕ) (f : Facts) → loaded s ≡ Ok f → Shape s
 unfolding table_of
 shape s f e =
     let r = keeps_rules s f e in

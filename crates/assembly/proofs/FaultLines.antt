@@ -1,4 +1,6 @@
 -- No line of a text is far: neither that of a fault nor that of a refusal.
+use Rattle.std.specs.Prelude.{Err, Ok, Result}
+use Rattle.table.specs.declared.Facts.{Facts}
 use Prim.Native.Nat.{ℕ, suc, ◌+◌, ◌-◌, ◌≤◌}
 use native.Mathlib.Omega.{arith}
 use mathlib.Core.Path.{◌≡◌, refl}
@@ -10,8 +12,6 @@ use lib.ListN.{length, length-map}
 use Rattle.table.specs.Sum.{pick}
 use Rattle.table.specs.Load.{loaded}
 use Rattle.table.specs.declared.Refusal.{Refusal}
-use Rattle.table.specs.declared.Loaded.{Loaded}
-use Rattle.table.specs.declared.Loaded.TheVariants.{Accepted, Refused}
 use Rattle.assembly.specs.Words.{onto, parts, is_newline, lines_of}
 use Rattle.assembly.specs.Said.{line_said, saids}
 use Rattle.assembly.specs.Assembly.{counted_by, onward, checked_from, checked, table_bytes, longest_text, left_after, line_that, names_thread, is_thread, is_action, refused_at, judged, sizes_outside, answered, assembled}
@@ -76,10 +76,10 @@ line_of TooLong = 0
 line_of (Malformed line e) = line
 line_of (Rejected r line) = line
 
-judged_near : (y : Loaded) (l : List Said) → line_of (judged y l) ≤ 1 + length l
+judged_near : (y : Result Facts Refusal) (l : List Said) → line_of (judged y l) ≤ 1 + length l
 unfolding line_of
-judged_near (Accepted f) l = omega arith
-judged_near (Refused r) l = refused_near r l
+judged_near (Ok f) l = omega arith
+judged_near (Err r) l = refused_near r l
 
 answered_near : (c : Checked) (l : List Said) → fault_line c ≤ 1 + length l → line_of (answered c l) ≤ 1 + length l
 unfolding line_of

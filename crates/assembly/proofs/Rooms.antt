@@ -1,4 +1,7 @@
 -- What fits a buffer of some length; the longest table fits 36,868 bytes, the longest text 266,240.
+use Rattle.std.specs.Prelude.{Err, Ok, Result}
+use Rattle.table.specs.declared.Facts.{Facts}
+use Rattle.table.specs.declared.Refusal.{Refusal}
 use Prim.Native.Nat.{ℕ, ◌+◌, ◌*◌, ◌≤◌, ◌<◌}
 use native.Mathlib.Omega.{arith}
 use mathlib.Core.Path.{◌≡◌, refl, sym, ap, ◌∙◌}
@@ -10,15 +13,12 @@ use lib.ListN.{length}
 use Rattle.table.specs.Sum.{pick}
 use Rattle.table.specs.Format.{table_of}
 use Rattle.table.specs.Load.{loaded}
-use Rattle.table.specs.declared.Loaded.{Loaded}
-use Rattle.table.specs.declared.Loaded.TheVariants.{Accepted, Refused}
 use Rattle.assembly.specs.Said.{saids}
 use Rattle.assembly.specs.Assembly.{checked, longest_text, sizes_outside, bytes_by, bytes_needed, or_short, kept_if_short, assembled, assembling, assembled_in, assembling_in}
 use Rattle.assembly.specs.Disassembly.{most_of, or_short_text, disassembled, disassembling, disassembled_in, disassembling_in}
 use Rattle.assembly.specs.declared.Assembled.{Assembled}
 use Rattle.assembly.specs.declared.Assembling.{Assembling}
 use Rattle.assembly.specs.declared.Assembling.TheVariants.{Answered, Short}
-use Rattle.assembly.specs.declared.Disassembled.{Disassembled}
 use Rattle.assembly.specs.declared.Disassembling.{Disassembling}
 use Rattle.assembly.specs.declared.Disassembling.TheVariants.{Answered as Told, Short as Lacks}
 use Rattle.assembly.specs.declared.check.Checked.{Checked}
@@ -34,10 +34,10 @@ fits room k h d = rw (le-ltb room k h) (ap Answered d)
 pub lacks : (room k : ℕ) {j : ℕ} (a : Assembled) → room < k → j ≡ k → Short j ≡ or_short room k a
 lacks room k a h e = rw (lt-ltb room k h) (ap Short e)
 
-pub fits_text : (room k : ℕ) {x a : Disassembled} → k ≤ room → x ≡ a → Told x ≡ or_short_text room k a
+pub fits_text : (room k : ℕ) {x a : Result ℕ Refusal} → k ≤ room → x ≡ a → Told x ≡ or_short_text room k a
 fits_text room k h d = rw (le-ltb room k h) (ap Told d)
 
-pub lacks_text : (room k : ℕ) {j : ℕ} (a : Disassembled) → room < k → j ≡ k → Lacks j ≡ or_short_text room k a
+pub lacks_text : (room k : ℕ) {j : ℕ} (a : Result ℕ Refusal) → room < k → j ≡ k → Lacks j ≡ or_short_text room k a
 lacks_text room k a h e = rw (lt-ltb room k h) (ap Lacks e)
 
 pub put_in_lem : (k : ℕ) (out : List ℕ) {o w : List ℕ} → k ≤ length out → o ≡ w → o ≡ kept_if_short k out w
@@ -94,9 +94,9 @@ most_text_lem : (s : List ℕ) → most_of (loaded s) (table_of s) ≤ 266240
 unfolding table_of
 most_text_lem s = go (loaded s) refl
   where
-    go : (y : Loaded) → loaded s ≡ y → most_of y (table_of s) ≤ 266240
-    go (Accepted f) e = let h = shape s f e in omega (arith, h.threads, h.actions)
-    go (Refused r) e = omega arith
+    go : (y : Result Facts Refusal) → loaded s ≡ y → most_of y (table_of s) ≤ 266240
+    go (Ok f) e = let h = shape s f e in omega (arith, h.threads, h.actions)
+    go (Err r) e = omega arith
 
 module _ (s out : List ℕ) (room : 266240 ≤ length out) where
   enough_text : most_of (loaded s) (table_of s) ≤ length out
@@ -110,7 +110,7 @@ module _ (s out : List ℕ) (room : 266240 ≤ length out) where
   unfolding disassembling_in
   ample_text_in = sym (put_in_lem (most_of (loaded s) (table_of s)) out enough_text refl)
 
-  pub told_whole : (x : Disassembling) (a : Disassembled) (o : List ℕ) → x ≡ Told a → x ≡ disassembling (length out) s → o ≡ disassembling_in s out → (a ≡ disassembled s) × (o ≡ disassembled_in s out)
+  pub told_whole : (x : Disassembling) (a : Result ℕ Refusal) (o : List ℕ) → x ≡ Told a → x ≡ disassembling (length out) s → o ≡ disassembling_in s out → (a ≡ disassembled s) × (o ≡ disassembled_in s out)
   told_whole x a o e q w =
       let p : Told a ≡ Told (disassembled s) = sym e ∙ q ∙ ample_text in
       let v : a ≡ disassembled s = cc in

@@ -1,4 +1,5 @@
 -- Assembling what was disassembled gives the table back, for every accepted table.
+use Rattle.std.specs.Prelude.{Ok}
 use Prim.Native.Nat.{ℕ, zero, suc, ◌+◌, ◌-◌, ◌*◌, ◌%◌, ◌≤◌, ◌<◌}
 use native.Mathlib.Nat.{add_assoc, mod-eq_of_lt}
 use native.Mathlib.Omega.{arith}
@@ -13,7 +14,6 @@ use Rattle.table.specs.Format.{Kind, end, work, alloc, free, fork, join, unknown
 use Rattle.table.specs.Checks.{argument_fits, argument_wrong, owner}
 use Rattle.table.specs.Load.{loaded}
 use Rattle.table.specs.declared.Facts.{Facts}
-use Rattle.table.specs.declared.Loaded.TheVariants.{Accepted}
 use Rattle.table.proofs.Parts.{code_in_table}
 use Rattle.table.proofs.Bodies.{first_is, body_within, kind_known}
 use Rattle.text.specs.Text.{ascii, decimal, newline}
@@ -248,7 +248,7 @@ pub record AssemblesTo (text table : List ℕ) : Type 0 where
   pub buffer : (out : List ℕ) → assembled_in text out ≡ over table out
 
 -- the text of an accepted table is assembled to that table
-pub assembled_back : (s : List ℕ) → Bytes s → (f : Facts) → loaded s ≡ Accepted f → AssemblesTo (text_of (table_of s)) s
+pub assembled_back : (s : List ℕ) → Bytes s → (f : Facts) → loaded s ≡ Ok f → AssemblesTo (text_of (table_of s)) s
 unfolding assembled assembled_in
 assembled_back s bytes f e =
     let z = shape s f e in

@@ -1,4 +1,6 @@
 -- Texts that differ only in comments, blank lines and blanks assemble to the same table.
+use Rattle.std.specs.Prelude.{Err, Ok, Result}
+use Rattle.table.specs.declared.Refusal.{Refusal}
 use Prim.Native.Nat.{ℕ, suc, ◌+◌, ◌≤◌}
 use native.Mathlib.Omega.{arith}
 use mathlib.Core.Path.{◌≡◌, refl, sym, ap, ◌∙◌}
@@ -11,8 +13,6 @@ use Rattle.table.specs.Sum.{pick}
 use Rattle.table.specs.Pass.{refusal}
 use Rattle.table.specs.Load.{loaded}
 use Rattle.table.specs.declared.Facts.{Facts}
-use Rattle.table.specs.declared.Loaded.{Loaded}
-use Rattle.table.specs.declared.Loaded.TheVariants.{Accepted, Refused}
 use Rattle.assembly.specs.Words.{no_number, number_in, lines_of, words_of}
 use Rattle.assembly.specs.Said.{is_bare, thread_code, no_code, code_of_word, said_last, said_after, said_by, meaning_of, saids, with_words, word_lines}
 use Rattle.assembly.specs.Assembly.{checked_from, checked, is_thread, is_action, how_many, body_count, pair_row, entries_from, action_rows, actions_in, table_bytes, longest_text, sizes_outside, judged, answered, assembled, assembled_in}
@@ -156,16 +156,16 @@ pub record Assembles (s : List ℕ) (k : ℕ) : Type 0 where
   pub short : length s ≤ longest_text
   pub well_formed : checked (saids s) ≡ WellFormed threads actions
   pub sized : sizes_outside threads actions ≡ false
-  pub accepted : loaded (table_bytes (saids s)) ≡ Accepted facts
+  pub accepted : loaded (table_bytes (saids s)) ≡ Ok facts
   pub long : k ≡ length (table_bytes (saids s))
 
 pub assembles : (s : List ℕ) (k : ℕ) → assembled s ≡ Written k → Assembles s k
 unfolding assembled
 assembles s k q = by_length (ltb longest_text (length s)) refl
   where
-    by_loaded : (n m : ℕ) (y : Loaded) → length s ≤ longest_text → checked (saids s) ≡ WellFormed n m → sizes_outside n m ≡ false → loaded (table_bytes (saids s)) ≡ y → judged y (saids s) ≡ Written k → Assembles s k
-    by_loaded n m (Accepted f) h c i e r = record { threads = n; actions = m; facts = f; short = h; well_formed = c; sized = i; accepted = e; long = cc }
-    by_loaded n m (Refused x) h c i e r = absurd (let z : ◌≡◌ {A = ℕ} 0 1 = cc in omega arith)
+    by_loaded : (n m : ℕ) (y : Result Facts Refusal) → length s ≤ longest_text → checked (saids s) ≡ WellFormed n m → sizes_outside n m ≡ false → loaded (table_bytes (saids s)) ≡ y → judged y (saids s) ≡ Written k → Assembles s k
+    by_loaded n m (Ok f) h c i e r = record { threads = n; actions = m; facts = f; short = h; well_formed = c; sized = i; accepted = e; long = cc }
+    by_loaded n m (Err x) h c i e r = absurd (let z : ◌≡◌ {A = ℕ} 0 1 = cc in omega arith)
 
     by_size : (n m : ℕ) (b : Bool) → length s ≤ longest_text → checked (saids s) ≡ WellFormed n m → sizes_outside n m ≡ b
         → pick b (Rejected (refusal 2 0) 0) (judged (loaded (table_bytes (saids s))) (saids s)) ≡ Written k → Assembles s k

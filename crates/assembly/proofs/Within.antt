@@ -1,4 +1,7 @@
 -- What is written lies within the buffer.
+use Rattle.std.specs.Prelude.{Err, Ok, Result}
+use Rattle.table.specs.declared.Facts.{Facts}
+use Rattle.table.specs.declared.Refusal.{Refusal}
 use Prim.Native.Nat.{ℕ, ◌≤◌}
 use native.Mathlib.Omega.{arith}
 use mathlib.Core.Path.{◌≡◌, ap, ◌∙◌}
@@ -7,13 +10,10 @@ use borrow.Author.Tests.{le-ltb}
 use lib.ListN.{length, drop, length-append}
 use Rattle.table.specs.Format.{table_of}
 use Rattle.table.specs.Load.{loaded}
-use Rattle.table.specs.declared.Loaded.{Loaded}
-use Rattle.table.specs.declared.Loaded.TheVariants.{Accepted, Refused}
 use Rattle.assembly.specs.Said.{saids}
 use Rattle.assembly.specs.Assembly.{table_bytes, over, longest_text, assembled, assembled_in}
 use Rattle.assembly.specs.Disassembly.{text_of, listed_as, listed_in, disassembled, disassembled_in}
 use Rattle.assembly.specs.declared.Assembled.TheVariants.{Written}
-use Rattle.assembly.specs.declared.Disassembled.TheVariants.{Listed}
 use Rattle.assembly.proofs.SameWords.{assembles}
 
 over_within : (front out o : List ℕ) → o ≡ over front out → length front ≤ length o
@@ -26,12 +26,12 @@ written_within s out o k q e =
     let w : o ≡ over (table_bytes (saids s)) out = e ∙ rw (le-ltb longest_text (length s) a.short, a.well_formed, a.sized) in
     omega (arith, a.long, over_within (table_bytes (saids s)) out o w)
 
-pub listed_within : (s out o : List ℕ) (k : ℕ) → disassembled s ≡ Listed k → o ≡ disassembled_in s out → k ≤ length o
+pub listed_within : (s out o : List ℕ) (k : ℕ) → disassembled s ≡ Ok k → o ≡ disassembled_in s out → k ≤ length o
 unfolding disassembled disassembled_in
 listed_within s out o k q e = go (loaded s) q e
   where
-    go : (y : Loaded) → listed_as y (table_of s) ≡ Listed k → o ≡ listed_in y (table_of s) out → k ≤ length o
-    go (Accepted f) r w =
+    go : (y : Result Facts Refusal) → listed_as y (table_of s) ≡ Ok k → o ≡ listed_in y (table_of s) out → k ≤ length o
+    go (Ok f) r w =
         let x : k ≡ length (text_of (table_of s)) = cc in
         omega (arith, x, over_within (text_of (table_of s)) out o w)
-    go (Refused x) r w = absurd (let z : ◌≡◌ {A = ℕ} 0 1 = cc in omega arith)
+    go (Err x) r w = absurd (let z : ◌≡◌ {A = ℕ} 0 1 = cc in omega arith)

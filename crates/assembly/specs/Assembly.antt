@@ -1,13 +1,12 @@
 -- What a text assembles to: the first line that says what it should not, or the table's bytes and what loading them answers.
-use Rattle.std.specs.Prelude.{ℕ, suc, ◌+◌, ◌-◌, ◌*◌, ◌/◌, ◌%◌, Bool, true, false, ◌&&◌, ◌||◌, eqb, ltb, length, drop}
+use Rattle.std.specs.Prelude.{ℕ, suc, ◌+◌, ◌-◌, ◌*◌, ◌/◌, ◌%◌, Bool, true, false, ◌&&◌, ◌||◌, eqb, ltb, length, drop, Err, Ok, Result}
+use Rattle.table.specs.declared.Facts.{Facts}
 use mathlib.Core.List.{List, [], ◌∷◌, ◌++◌, flatten}
 use Rattle.table.specs.Sum.{pick}
 use Rattle.table.specs.Pass.{refusal}
 use Rattle.table.specs.Checks.{outside, max_threads, max_actions}
 use Rattle.table.specs.Load.{loaded}
 use Rattle.table.specs.declared.Refusal.{Refusal}
-use Rattle.table.specs.declared.Loaded.{Loaded}
-use Rattle.table.specs.declared.Loaded.TheVariants.{Accepted, Refused}
 use Rattle.assembly.specs.Said.{saids}
 use Rattle.assembly.specs.declared.Expected.TheVariants.{NextThread}
 use Rattle.assembly.specs.declared.Said.{Said}
@@ -127,9 +126,9 @@ names_thread number = eqb number 4 || eqb number 11
 unfoldable pub refused_at : Refusal → List Said → ℕ
 refused_at r l = pick (names_thread r.number) (line_that is_thread 1 r.place l) (line_that is_action 1 r.place l)
 
-abbrev pub judged : Loaded → List Said → Assembled
-judged (Accepted f) l = Written (length (table_bytes l))
-judged (Refused r) l = Rejected r (refused_at r l)
+abbrev pub judged : Result Facts Refusal → List Said → Assembled
+judged (Ok f) l = Written (length (table_bytes l))
+judged (Err r) l = Rejected r (refused_at r l)
 
 -- 2: "n or m outside its range", which no line tells
 abbrev pub sizes_outside : ℕ → ℕ → Bool

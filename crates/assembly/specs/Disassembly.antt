@@ -1,15 +1,13 @@
 -- The text of a table: each thread's line, and its actions one to a line, each with its number as a comment.
-use Rattle.std.specs.Prelude.{ℕ, zero, suc, ◌+◌, ◌*◌, ltb, length}
+use Rattle.std.specs.Prelude.{ℕ, zero, suc, ◌+◌, ◌*◌, ltb, length, Err, Ok, Result}
+use Rattle.table.specs.declared.Facts.{Facts}
+use Rattle.table.specs.declared.Refusal.{Refusal}
 use mathlib.Core.List.{List, [], ◌∷◌, ◌++◌, flatten}
 use Rattle.table.specs.Sum.{pick}
 use Rattle.table.specs.Format.{Table, table_of, Kind, end, work, alloc, free, fork, join, unknown, kind_of}
 use Rattle.table.specs.Load.{loaded}
-use Rattle.table.specs.declared.Loaded.{Loaded}
-use Rattle.table.specs.declared.Loaded.TheVariants.{Accepted, Refused}
 use Rattle.text.specs.Text.{ascii, decimal, newline}
 use Rattle.assembly.specs.Assembly.{over, kept_if_short}
-use Rattle.assembly.specs.declared.Disassembled.{Disassembled}
-use Rattle.assembly.specs.declared.Disassembled.TheVariants.{Listed, Refused as Rejected}
 use Rattle.assembly.specs.declared.Disassembling.{Disassembling}
 use Rattle.assembly.specs.declared.Disassembling.TheVariants.{Answered, Short}
 
@@ -56,17 +54,17 @@ threads_texts T (suc k) = threads_texts T k ++ whole_texts T k
 unfoldable pub text_of : Table → List ℕ
 text_of T = flatten (threads_texts T T.threads)
 
-abbrev pub listed_as : Loaded → Table → Disassembled
-listed_as (Accepted f) T = Listed (length (text_of T))
-listed_as (Refused r) T = Rejected r
+abbrev pub listed_as : Result Facts Refusal → Table → Result ℕ Refusal
+listed_as (Ok f) T = Ok (length (text_of T))
+listed_as (Err r) T = Err r
 
-unfoldable pub disassembled : List ℕ → Disassembled
+unfoldable pub disassembled : List ℕ → Result ℕ Refusal
 disassembled s = listed_as (loaded s) (table_of s)
 
 -- the lent buffer afterwards
-abbrev pub listed_in : Loaded → Table → List ℕ → List ℕ
-listed_in (Accepted f) T out = over (text_of T) out
-listed_in (Refused r) T out = out
+abbrev pub listed_in : Result Facts Refusal → Table → List ℕ → List ℕ
+listed_in (Ok f) T out = over (text_of T) out
+listed_in (Err r) T out = out
 
 unfoldable pub disassembled_in : List ℕ → List ℕ → List ℕ
 disassembled_in s out = listed_in (loaded s) (table_of s) out
@@ -78,11 +76,11 @@ abbrev pub most_text : Table → ℕ
 most_text T = 12 * T.threads + 31 * T.actions
 
 -- none where the table is refused
-abbrev pub most_of : Loaded → Table → ℕ
-most_of (Accepted f) T = most_text T
-most_of (Refused r) T = 0
+abbrev pub most_of : Result Facts Refusal → Table → ℕ
+most_of (Ok f) T = most_text T
+most_of (Err r) T = 0
 
-abbrev pub or_short_text : ℕ → ℕ → Disassembled → Disassembling
+abbrev pub or_short_text : ℕ → ℕ → Result ℕ Refusal → Disassembling
 or_short_text room k a = pick (ltb room k) (Short k) (Answered a)
 
 unfoldable pub disassembling : ℕ → List ℕ → Disassembling

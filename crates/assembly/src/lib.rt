@@ -11,13 +11,12 @@ pub mod scan;
 pub mod unseen;
 pub mod word;
 
-ghost use Rattle.std.specs.Prelude.{◌≡◌, length, replicate};
+ghost use Rattle.std.specs.Prelude.{◌≡◌, length, replicate, Ok};
 ghost use Rattle.table.specs.Checks.{outside as is_outside};
 ghost use Rattle.table.specs.Format.{table_of};
 ghost use Rattle.assembly.specs.Said.{saids};
 ghost use Rattle.assembly.specs.declared.check.Checked.TheVariants.{WellFormed};
 ghost use Rattle.assembly.specs.Assembly.{assembled, assembled_in, answered, written_in, sizes_outside, over, bytes_by, or_short, kept_if_short, assembling, assembling_in};
-ghost use Rattle.assembly.specs.declared.Disassembled.TheVariants.{Listed};
 ghost use Rattle.assembly.specs.Disassembly.{text_of, most_text, or_short_text, disassembled, disassembled_in, disassembling, disassembling_in};
 ghost use Rattle.assembly.specs.Code.Steps.{Sized, Listable};
 
@@ -27,7 +26,7 @@ use listing::put_threads;
 use place::refused_at;
 use rows::put_table;
 use table::read::{actions, threads};
-use table::{Loaded, Refusal};
+use table::Refusal;
 
 // What should have stood on a line: a keyword, a number of at most 24 bits, the line's end, or the next thread by its number.
 #[derive(Clone, Copy)]
@@ -57,13 +56,6 @@ pub enum Assembled {
     Refused(Refusal, usize),
 }
 
-// A text of so many bytes, or the table's refusal.
-#[derive(Drop)]
-pub enum Disassembled {
-    Listed(usize),
-    Refused(Refusal),
-}
-
 // What a text answers with a buffer of some length: the same, or how many bytes the table has where the buffer has fewer.
 #[derive(Drop)]
 pub enum Assembling {
@@ -74,7 +66,7 @@ pub enum Assembling {
 // What a table answers likewise. The bytes are such that the text of every table of as many threads and actions fits: 12 for a thread and 31 for an action.
 #[derive(Drop)]
 pub enum Disassembling {
-    Answered(Disassembled),
+    Answered(Result<usize, Refusal>),
     Short(usize),
 }
 
@@ -185,14 +177,14 @@ fn write_table(
     let k = put_table(out, text, n, m);
     let loaded = facts::load_in(&out[..k], rises, falls, peaks, depths);
     match loaded {
-        Loaded::Accepted(_) => Assembling::Answered(Assembled::Written(k)),
-        Loaded::Refused(r) => { Assembling::Answered(Assembled::Refused(r, refused_at(text, r))) }
+        Ok(_) => Assembling::Answered(Assembled::Written(k)),
+        Err(r) => { Assembling::Answered(Assembled::Refused(r, refused_at(text, r))) }
     }
 }
 
 // The text of a table, one action to a line, at the start of the buffer, which is as it was where the table is refused. No text is longer than the buffer: 12 bytes for each of 1,024
 // threads and 31 for each of 8,192 actions.
-pub fn disassemble(bytes: &[u8], out: &mut [u8; 266240]) -> Disassembled
+pub fn disassemble(bytes: &[u8], out: &mut [u8; 266240]) -> Result<usize, Refusal>
     ensures value { result ≡ disassembled bytes.now }
     ensures out_after { out.new ≡ disassembled_in bytes.now out.old }
 {
@@ -204,7 +196,7 @@ pub fn disassemble(bytes: &[u8], out: &mut [u8; 266240]) -> Disassembled
     match answer {
         Disassembling::Answered(a) => a,
         // No text is longer than the buffer.
-        Disassembling::Short(_) => Disassembled::Listed(0),
+        Disassembling::Short(_) => Ok(0),
     }
 }
 
@@ -223,15 +215,15 @@ pub fn disassemble_in(
 {
     let loaded = facts::load_in(bytes, rises, falls, peaks, depths);
     match loaded {
-        Loaded::Refused(r) => Disassembling::Answered(Disassembled::Refused(r)),
-        Loaded::Accepted(_) => write_text(bytes, out),
+        Err(r) => Disassembling::Answered(Err(r)),
+        Ok(_) => write_text(bytes, out),
     }
 }
 
 // The text of an accepted table, where the buffer has bytes enough.
 fn write_text(bytes: &[u8], out: &mut [u8]) -> Disassembling
     requires { Listable bytes.now }
-    ensures value { result ≡ or_short_text (length out.old) (most_text (table_of bytes.now)) (Listed (length (text_of (table_of bytes.now)))) }
+    ensures value { result ≡ or_short_text (length out.old) (most_text (table_of bytes.now)) (Ok (length (text_of (table_of bytes.now)))) }
     ensures out_after { out.new ≡ kept_if_short (most_text (table_of bytes.now)) out.old (over (text_of (table_of bytes.now)) out.old) }
 {
     let n = threads(bytes);
@@ -239,5 +231,5 @@ fn write_text(bytes: &[u8], out: &mut [u8]) -> Disassembling
     if out.len() < most {
         return Disassembling::Short(most);
     }
-    Disassembling::Answered(Disassembled::Listed(put_threads(out, bytes, n)))
+    Disassembling::Answered(Ok(put_threads(out, bytes, n)))
 }

@@ -48,12 +48,10 @@ fn put_body(out: &mut [u8], at: usize, table: &[u8], n: usize, from: usize, coun
     ensures { Puts out.old at out.new result (body_texts (table_of table.now) from count) (31 * count) }
 {
     let mut at = at;
-    let mut i = 0;
-    while i < count {
+    for i in 0..count {
         let a = from + i;
         at = put_action(out, at, code(table, n, a), argument(table, n, a));
         at = put_number(out, at, a);
-        i += 1;
     }
     at
 }
@@ -73,11 +71,9 @@ pub(crate) fn put_threads(out: &mut [u8], table: &[u8], n: usize) -> usize
     ensures { Puts out.old 0 out.new result (threads_texts (table_of table.now) n) (12 * n + 31 * sum_to (table_of table.now).count n) }
 {
     let mut at = 0;
-    let mut t = 0;
-    while t < n {
+    for t in 0..n {
         at = put_thread(out, at, t);
         at = put_body(out, at, table, n, first(table, t), count(table, t));
-        t += 1;
     }
     at
 }

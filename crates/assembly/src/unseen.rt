@@ -20,14 +20,12 @@ fn after_lines(text: &[u8], k: usize) -> usize
     ensures { After text.now k result }
 {
     let mut at = 0;
-    let mut i = 0;
-    while i < k {
+    for i in 0..k {
         let end = at + span(&text[at..], Class::Line);
         if text.len() <= end {
             return text.len();
         }
         at = end + 1;
-        i += 1;
     }
     at
 }

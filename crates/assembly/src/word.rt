@@ -31,12 +31,10 @@ pub fn same(a: &[u8], b: &[u8]) -> bool
     if a.len() != b.len() {
         return false;
     }
-    let mut i = 0;
-    while i < a.len() {
+    for i in 0..a.len() {
         if a[i] != b[i] {
             return false;
         }
-        i += 1;
     }
     true
 }
@@ -98,10 +96,8 @@ pub(crate) fn number(w: &[u8]) -> usize
         return NO_NUMBER;
     }
     let mut v = 0;
-    let mut i = 0;
-    while i < w.len() {
+    for i in 0..w.len() {
         v = next_value(v, w[i]);
-        i += 1;
     }
     v
 }

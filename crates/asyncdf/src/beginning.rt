@@ -42,10 +42,8 @@ fn copy(bytes: &[u8], out: &mut [u8; 36868])
     requires { (length bytes.now ≤ 36868) × (out.old ≡ replicate 36868 0) }
     ensures { out.new ≡ filled 36868 bytes.now }
 {
-    let mut i = 0;
-    while i < bytes.len() {
+    for i in 0..bytes.len() {
         out[i] = bytes[i];
-        i += 1;
     }
 }
 

@@ -24,9 +24,9 @@ use crate::beginning::{blank, start};
 use run_memory::packing::{pack, unpack};
 use run_memory::runs::{Stop, list_in, rounds_in};
 use run_memory::turn_in;
-use schedule::{Beginning, Begun, Ran, Report, Run, Turned, Turning};
+use schedule::{Begun, Ran, Report, Run, Turned, Turning};
 use soundness::{accept, test};
-use table::{Found, Refusal};
+use table::Refusal;
 
 mod beginning;
 
@@ -40,21 +40,21 @@ pub fn begin(bytes: &[u8], p: u8, quota: u32) -> Begun
     let mut filled = [0u8; 36868];
     let filling = accept(bytes, p, quota, &mut filled[..], &mut next, &mut parents);
     let found = filling.found;
-    if let Found::At(x) = found {
+    if let Err(x) = found {
         return Begun {
-            answer: Beginning::Refused(x),
+            answer: Err(x),
             run: blank(),
         };
     }
     let k = filling.bytes;
     if k == 0 {
         return Begun {
-            answer: Beginning::Begun,
+            answer: Ok(()),
             run: start(bytes, next, p, quota),
         };
     }
     Begun {
-        answer: Beginning::Begun,
+        answer: Ok(()),
         run: start(&filled[..k], next, p, quota),
     }
 }

@@ -9,7 +9,6 @@ use schedule::{Reply, Report, Run, Turning};
 use std::io;
 use std::io::Write;
 use streams::read_full;
-use table::Loaded;
 
 fn wide(x: u8) -> u32
     ensures { result < 256 }
@@ -33,8 +32,8 @@ fn load_once(bytes: &[u8], total: u64) -> u64 {
     }
     let loaded = facts::load(bytes);
     match loaded {
-        Loaded::Accepted(facts) => facts.depth as u64 + facts.nested as u64,
-        Loaded::Refused(refusal) => refusal.number as u64,
+        Ok(facts) => facts.depth as u64 + facts.nested as u64,
+        Err(refusal) => refusal.number as u64,
     }
 }
 

@@ -3,6 +3,7 @@
 -- What it cites, in crates/schedule/specs: `begin` (Begin) answers with the record of an accepted beginning; `after_calls` and `row_of_calls` (Calls) are the record that a list of calls
 -- leaves and its row of turns; `row_memory` and `peak_memory` (Memory) are what the row's turns hold, from the replies and the table alone; `row_sum` (Memory) sums the allocs
 -- or the frees done; `Keeps` (Memory) is the rule with b; `limit` (Memory) is S1 + b·K·(p − 1)·(D − 1), with S1 and D of crates/table/specs.
+use Rattle.std.specs.Prelude.{Ok}
 use mathlib.Core.Path.{◌≡◌, sym, ap, ◌∙◌}
 use Prim.Native.Nat.{ℕ, ◌+◌, ◌-◌, ◌*◌, ◌≤◌, ◌<◌}
 use mathlib.Core.List.{List, [], ◌++◌, append-nil, Memᴰ}
@@ -11,7 +12,6 @@ use Rattle.table.specs.Checks.{alloc_of, free_of}
 use Rattle.table.specs.Serial.{S1}
 use Rattle.table.specs.Level.{D}
 use Rattle.schedule.specs.declared.Run.{Run}
-use Rattle.schedule.specs.declared.Beginning.TheVariants.{Begun as started}
 use Rattle.schedule.specs.Machine.{State}
 use Rattle.schedule.specs.Begin.{begin}
 use Rattle.schedule.specs.Calls.{Call, after_calls, row_of_calls}
@@ -38,7 +38,7 @@ pub record MemoryLimit (T : Table) (p K b : ℕ) (r : Run) (row : List ℕ) : Ty
 
 -- "users may rely on the memory and thread limits with D and N of the filled-out table" (N6), whose S1 is the given table's (`peak`): for every accepted table, p and K, every b at least 1
 -- and every list of calls from the record of the beginning
-pub memory_limit : (s : List ℕ) (p K : ℕ) (r : Run) → begin s p K ≡ record { answer = started; run = r } → (b : ℕ) → 1 ≤ b → (calls : List Call)
+pub memory_limit : (s : List ℕ) (p K : ℕ) (r : Run) → begin s p K ≡ record { answer = Ok tt; run = r } → (b : ℕ) → 1 ≤ b → (calls : List Call)
     → MemoryLimit (table_of (filled_out s K)) p K b (after_calls calls r) (row_of_calls calls r)
 memory_limit s p K r e b g calls =
     let T : Table = table_of (filled_out s K) in
@@ -62,12 +62,12 @@ memory_limit s p K r e b g calls =
     }
 
 -- "S1 is the same as before filling": the limit with S1 of the table as given
-pub limit_given : (s : List ℕ) (p K : ℕ) (r : Run) → begin s p K ≡ record { answer = started; run = r } → (b : ℕ)
+pub limit_given : (s : List ℕ) (p K : ℕ) (r : Run) → begin s p K ≡ record { answer = Ok tt; run = r } → (b : ℕ)
     → limit (table_of (filled_out s K)) p K b ≡ S1 (table_of s) + b * K * (p - 1) * (D (table_of (filled_out s K)) - 1)
 unfolding limit
 limit_given s p K r e b = rw (begin_started s p K r e).filling.peak
 
 -- The statement with no word of filling: where no alloc is above K (`Within`, crates/order/proofs/Lawful) the table as given is the one that runs, and the limit is its own.
-pub memory_limit_given : (s : List ℕ) (p K : ℕ) (r : Run) → begin s p K ≡ record { answer = started; run = r } → Within (table_of s) K → (b : ℕ) → 1 ≤ b → (calls : List Call)
+pub memory_limit_given : (s : List ℕ) (p K : ℕ) (r : Run) → begin s p K ≡ record { answer = Ok tt; run = r } → Within (table_of s) K → (b : ℕ) → 1 ≤ b → (calls : List Call)
     → MemoryLimit (table_of s) p K b (after_calls calls r) (row_of_calls calls r)
 memory_limit_given s p K r e n b g calls = rw (in_place s K n) at (memory_limit s p K r e b g calls)

@@ -3,6 +3,7 @@
 -- What it cites, in crates/schedule/specs: `begin` (Begin) answers with the record of an accepted beginning; `row_of_calls` (Calls) is the row of turns of a list of calls; `replies`
 -- (Memory) are the replies of a row; `not_idle` (Most) counts those that aren't idle; `rounds_run` (Runs) is a run in rounds, and `turns_in` (Calls) the number that it reports. `turns_of` (crates/order/specs/Turns) is
 -- m + A + J.
+use Rattle.std.specs.Prelude.{Ok}
 use mathlib.Core.Path.{◌≡◌, refl, ap}
 use Prim.Native.Nat.{ℕ, zero, suc, ◌+◌, ◌*◌, ◌^◌, ◌≤◌, ◌<◌}
 use native.Mathlib.Nat.{mul-le-mul, mul-le-mul_left, one-mul}
@@ -16,7 +17,6 @@ use Rattle.table.specs.Sum.{pick, sum_to}
 use Rattle.table.specs.Format.{alloc, join, is, Table, kind, table_of}
 use Rattle.table.proofs.Sums.{sum_to_le}
 use Rattle.schedule.specs.declared.Run.{Run}
-use Rattle.schedule.specs.declared.Beginning.TheVariants.{Begun as started}
 use Rattle.schedule.specs.declared.Report.TheVariants.{Finished}
 use Rattle.schedule.specs.Machine.{State, ready, waiting, ended, status_of, turn_of}
 use Rattle.schedule.specs.Record.{table_in, state_of}
@@ -110,7 +110,7 @@ sound_turns r h calls =
     (calls_left r h calls).workers_below
 
 -- "in a run from its beginning the turns that aren't idle are at most m + A + J": for every accepted table, p and K and every list of calls from the record of the beginning
-pub turns_most : (s : List ℕ) (p K : ℕ) (r : Run) → begin s p K ≡ record { answer = started; run = r } → (calls : List Call)
+pub turns_most : (s : List ℕ) (p K : ℕ) (r : Run) → begin s p K ≡ record { answer = Ok tt; run = r } → (calls : List Call)
     → not_idle (replies (table_of (filled_out s K)) K (start_state (table_of (filled_out s K))) (row_of_calls calls r)) ≤ turns_of (table_of (filled_out s K))
 turns_most s p K r e calls =
     let (t, w, q, st) = start_state_lem s p K r e in
@@ -126,7 +126,7 @@ sound_rounds r h limit b few =
     sound_finishes r h limit few (omega (arith, b, mul-le-mul_left r.workers (potential_most (table_in r) (state_of r))))
 
 -- "from the beginning L = p × (m + A + J) turns in rounds always reply finished"
-pub rounds_finish : (s : List ℕ) (p K : ℕ) (r : Run) → begin s p K ≡ record { answer = started; run = r } → (k : ℕ) × ((rounds_run r (p * turns_of (table_of (filled_out s K)))).report ≡ Finished k)
+pub rounds_finish : (s : List ℕ) (p K : ℕ) (r : Run) → begin s p K ≡ record { answer = Ok tt; run = r } → (k : ℕ) × ((rounds_run r (p * turns_of (table_of (filled_out s K)))).report ≡ Finished k)
 unfolding start_state
 rounds_finish s p K r e =
     let h : Sound r = begin_sound s p K r e in
@@ -139,7 +139,7 @@ rounds_finish s p K r e =
 
 -- "in rounds .. a run takes turns until the root's end or L of them": there is one number of turns, at most p × (m + A + J) of the table as run, after which the root has ended; with a limit not below it
 -- a run in rounds from the beginning says finished with it, with a lower one spent with all of them
-pub rounds_number : (s : List ℕ) (p K : ℕ) (r : Run) → begin s p K ≡ record { answer = started; run = r }
+pub rounds_number : (s : List ℕ) (p K : ℕ) (r : Run) → begin s p K ≡ record { answer = Ok tt; run = r }
     → (k : ℕ) × (k ≤ p * turns_of (table_of (filled_out s K))) × FinishesAfter r k
 rounds_number s p K r e =
     let (k, f) = rounds_finish s p K r e in
@@ -147,7 +147,7 @@ rounds_number s p K r e =
     (k, a.0, a.1)
 
 -- so the number that it reports is at most p × (m + A + J), whatever its limit
-pub rounds_turns : (s : List ℕ) (p K : ℕ) (r : Run) → begin s p K ≡ record { answer = started; run = r } → (limit : ℕ)
+pub rounds_turns : (s : List ℕ) (p K : ℕ) (r : Run) → begin s p K ≡ record { answer = Ok tt; run = r } → (limit : ℕ)
     → turns_in (rounds_run r limit).report ≤ p * turns_of (table_of (filled_out s K))
 rounds_turns s p K r e limit = go (rounds_number s p K r e)
   where

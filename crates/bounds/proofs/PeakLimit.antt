@@ -3,6 +3,7 @@
 --
 -- What it cites: `begin`, `after_calls`, `row_of_calls`, `row_memory`, `peak_memory`, `Keeps` and `limit` as the memory limit of demand 3 does (Limit); `workers_peak` is S_p and `Light` that no
 -- entered unended thread has a load above r (specs/Peak of crates/peaks); `stretch`, `covered`, `resting_peak` and `useful_limit` are in specs/Rests there.
+use Rattle.std.specs.Prelude.{Ok}
 use mathlib.Core.Path.{◌≡◌, refl, sym, ap, ◌∙◌}
 use Prim.Native.Nat.{ℕ, suc, ◌+◌, ◌*◌, ◌-◌, ◌≤◌, ◌<◌}
 use native.Mathlib.Omega.{arith}
@@ -16,7 +17,6 @@ use Rattle.table.specs.Rules.{Rules}
 use Rattle.schedule.specs.declared.Run.{Run}
 use Rattle.schedule.specs.declared.Reply.{Reply}
 use Rattle.schedule.specs.declared.Begun.{Begun}
-use Rattle.schedule.specs.declared.Beginning.TheVariants.{Begun as started}
 use Rattle.schedule.specs.Machine.{State}
 use Rattle.schedule.specs.Begin.{begin, start_state}
 use Rattle.schedule.specs.Calls.{Call, after_calls, row_of_calls}
@@ -91,7 +91,7 @@ pub record UsefulLimit (T : Table) (p K b : ℕ) (r : Run) (row : List ℕ) : Ty
   -- where K is at least what every stretch draws no turn replied quota
   pub quiet : stretch T K ≤ K → (q : Reply) → Memᴰ q (replies T K (start_state T) row) → NoQuota q
 
-module _ (s : List ℕ) (p K : ℕ) (r : Run) (e : begin s p K ≡ record { answer = started; run = r }) (calls : List Call) where
+module _ (s : List ℕ) (p K : ℕ) (r : Run) (e : begin s p K ≡ record { answer = Ok tt; run = r }) (calls : List Call) where
   -- the table that runs (N6)
   abbrev T : Table
   T = table_of (filled_out s K)
@@ -148,7 +148,7 @@ module _ (s : List ℕ) (p K : ℕ) (r : Run) (e : begin s p K ≡ record { answ
 -- ---- of the table as given
 
 -- the table, p and K of an accepted beginning
-module _ (s : List ℕ) (p K : ℕ) (e : (begin s p K).answer ≡ started) where
+module _ (s : List ℕ) (p K : ℕ) (e : (begin s p K).answer ≡ Ok tt) where
   begun : Rules s × (Fits p K × Room (table_of s) K)
   begun = (begun_exactly s p K).0 e
 
@@ -166,7 +166,7 @@ module _ (s : List ℕ) (p K : ℕ) (e : (begin s p K).answer ≡ started) where
       sym (enough_workers U (lawful (filled_out s K) f) q (omega arith)) ∙ given_workers q ∙ enough_workers T (lawful s begun.0) q (omega arith)
 
 -- what every list of calls from the beginning holds, and ever held, is within the peak of p workers of the table as given
-pub peak_given : (s : List ℕ) (p K : ℕ) (r : Run) → begin s p K ≡ record { answer = started; run = r } → (calls : List Call)
+pub peak_given : (s : List ℕ) (p K : ℕ) (r : Run) → begin s p K ≡ record { answer = Ok tt; run = r } → (calls : List Call)
     → ((after_calls calls r).held ≤ workers_peak (table_of s) p) × ((after_calls calls r).highest ≤ workers_peak (table_of s) p)
 peak_given s p K r e calls =
     let w = (peak_limit s p K r e calls).within in

@@ -1,4 +1,5 @@
 -- One run in rounds from an accepted beginning is within the limits with b = 1, with no condition on its turns: rounds keep the rule with 1 (Rounds), and its row is rounds.
+use Rattle.std.specs.Prelude.{Ok}
 use mathlib.Core.Path.{◌≡◌, refl, sym}
 use Prim.Native.Nat.{ℕ, ◌+◌, ◌-◌, ◌*◌, ◌≤◌}
 use native.Mathlib.Omega.{arith}
@@ -10,7 +11,6 @@ use Rattle.table.specs.Serial.{S1}
 use Rattle.table.specs.Nested.{N}
 use Rattle.table.specs.Level.{D}
 use Rattle.schedule.specs.declared.Run.{Run}
-use Rattle.schedule.specs.declared.Beginning.TheVariants.{Begun as started}
 use Rattle.schedule.specs.Record.{list_in}
 use Rattle.order.proofs.Lawful.{Within}
 use Rattle.filling.specs.Filled.{filled_out}
@@ -58,7 +58,7 @@ within_rounds {T} {p} {K} {r} {row} m t k =
     }
 
 -- for every accepted table, p and K, and one run in rounds of any length from the record of the beginning
-pub rounds_limit : (s : List ℕ) (p K : ℕ) (r : Run) → begin s p K ≡ record { answer = started; run = r } → (turns : ℕ) → RoundsLimit (table_of (filled_out s K)) p K (rounds_run r turns).run
+pub rounds_limit : (s : List ℕ) (p K : ℕ) (r : Run) → begin s p K ≡ record { answer = Ok tt; run = r } → (turns : ℕ) → RoundsLimit (table_of (filled_out s K)) p K (rounds_run r turns).run
 unfolding after_calls after_call
 rounds_limit s p K r e turns =
     let workers : r.workers ≡ p = (start_state_lem s p K r e).1 in
@@ -67,6 +67,6 @@ rounds_limit s p K r e turns =
     within_rounds (memory_limit s p K r e 1 (omega arith) calls) (thread_limit_lem s p K r e 1 (omega arith) calls) (rounds_row_keeps r some turns)
 
 -- where no alloc is above K, of the table as given
-pub rounds_limit_given : (s : List ℕ) (p K : ℕ) (r : Run) → begin s p K ≡ record { answer = started; run = r } → Within (table_of s) K → (turns : ℕ)
+pub rounds_limit_given : (s : List ℕ) (p K : ℕ) (r : Run) → begin s p K ≡ record { answer = Ok tt; run = r } → Within (table_of s) K → (turns : ℕ)
     → RoundsLimit (table_of s) p K (rounds_run r turns).run
 rounds_limit_given s p K r e n turns = rw (in_place s K n) at (rounds_limit s p K r e turns)

@@ -3,6 +3,7 @@
 -- What it cites, in crates/schedule/specs: `begin` (Begin) answers with the record of an accepted beginning; `after_calls` and `row_of_calls` (Calls) are the record that a list of calls
 -- leaves and its row of turns; `listed_after` (Threads) is how many threads the list has after a row; `Keeps` (Memory) is the rule with b; `thread_limit` (Threads) is
 -- N + b·(p − 1)·(D − 1), with N and D of crates/table/specs.
+use Rattle.std.specs.Prelude.{Ok}
 use mathlib.Core.Path.{◌≡◌, ap}
 use Prim.Native.Nat.{ℕ, ◌≤◌}
 use mathlib.Core.List.{List, ◌++◌}
@@ -10,7 +11,6 @@ use lib.ListN.{length}
 use Rattle.table.specs.Format.{Table, table_of}
 use Rattle.table.specs.Nested.{N}
 use Rattle.schedule.specs.declared.Run.{Run}
-use Rattle.schedule.specs.declared.Beginning.TheVariants.{Begun as started}
 use Rattle.schedule.specs.Machine.{State}
 use Rattle.schedule.specs.Record.{list_in}
 use Rattle.order.proofs.Lawful.{Within}
@@ -33,7 +33,7 @@ pub record ThreadLimit (T : Table) (p K b : ℕ) (r : Run) (row : List ℕ) : Ty
   pub alone : p ≡ 1 → (front rest : List ℕ) → row ≡ front ++ rest → listed_after T K front ≤ N T
 
 -- for every accepted table, p and K, every b at least 1 and every list of calls from the record of the beginning
-pub thread_limit_lem : (s : List ℕ) (p K : ℕ) (r : Run) → begin s p K ≡ record { answer = started; run = r } → (b : ℕ) → 1 ≤ b → (calls : List Call)
+pub thread_limit_lem : (s : List ℕ) (p K : ℕ) (r : Run) → begin s p K ≡ record { answer = Ok tt; run = r } → (b : ℕ) → 1 ≤ b → (calls : List Call)
     → ThreadLimit (table_of (filled_out s K)) p K b (after_calls calls r) (row_of_calls calls r)
 unfolding listed_after
 thread_limit_lem s p K r e b g calls =
@@ -47,6 +47,6 @@ thread_limit_lem s p K r e b g calls =
     }
 
 -- where no alloc is above K, of the table as given
-pub thread_limit_given : (s : List ℕ) (p K : ℕ) (r : Run) → begin s p K ≡ record { answer = started; run = r } → Within (table_of s) K → (b : ℕ) → 1 ≤ b → (calls : List Call)
+pub thread_limit_given : (s : List ℕ) (p K : ℕ) (r : Run) → begin s p K ≡ record { answer = Ok tt; run = r } → Within (table_of s) K → (b : ℕ) → 1 ≤ b → (calls : List Call)
     → ThreadLimit (table_of s) p K b (after_calls calls r) (row_of_calls calls r)
 thread_limit_given s p K r e n b g calls = rw (in_place s K n) at (thread_limit_lem s p K r e b g calls)

@@ -7,11 +7,10 @@
 ghost use Rattle.std.specs.Prelude.{◌<◌, IfOk};
 ghost use Rattle.io.specs.Counts.{IsPrefixLen};
 
-use chart::Charted;
 use pace::kept;
 use pacing::Pace;
 use preview::Previewed;
-use schedule::{Beginning, Reply, Report, Run, Turning, Worker};
+use schedule::{Reply, Report, Run, Turning, Worker};
 use std::io;
 use std::io::Write;
 use streams::read_full;
@@ -99,10 +98,10 @@ fn tell_reply(rt: &HostRuntime, reply: Reply) -> io::Result<()> {
     Ok(())
 }
 
-fn tell_beginning(rt: &HostRuntime, answer: Beginning) -> io::Result<()> {
+fn tell_beginning(rt: &HostRuntime, answer: Result<(), Refusal>) -> io::Result<()> {
     match answer {
-        Beginning::Begun => say(rt, b"begun")?,
-        Beginning::Refused(x) => {
+        Ok(()) => say(rt, b"begun")?,
+        Err(x) => {
             say(rt, b"refused")?;
             tell_refusal(rt, x)?;
         }
@@ -143,10 +142,8 @@ fn mix_thread(before: u64, next: u16, status: u8, amount: u64, left: u16, right:
 
 fn mix_table(before: u64, table: &[u8; 36868]) -> u64 {
     let mut sum = before;
-    let mut i = 0;
-    while i < 36868 {
+    for i in 0..36868 {
         sum = mix_byte(sum, table[i]);
-        i += 1;
     }
     sum
 }
@@ -160,10 +157,8 @@ fn mix_threads(
     right: &[u16; 1024],
 ) -> u64 {
     let mut sum = before;
-    let mut t = 0;
-    while t < 1024 {
+    for t in 0..1024 {
         sum = mix_thread(sum, next[t], status[t], amounts[t], left[t], right[t]);
-        t += 1;
     }
     sum
 }
@@ -175,10 +170,8 @@ fn mix_worker(before: u64, x: Worker) -> u64 {
 
 fn mix_workers(before: u64, workers: [Worker; 16]) -> u64 {
     let mut sum = before;
-    let mut w = 0;
-    while w < 16 {
+    for w in 0..16 {
         sum = mix_worker(sum, workers[w]);
-        w += 1;
     }
     sum
 }
@@ -360,8 +353,8 @@ fn call_line(rt: &HostRuntime, run: Run) -> io::Result<Run> {
     let mut line = [0u8; 85];
     let charted = chart::wall_line(run, &mut line);
     match charted {
-        Charted::Written => say_line(rt, &line)?,
-        Charted::Refused(x) => {
+        Ok(()) => say_line(rt, &line)?,
+        Err(x) => {
             say(rt, b"refused")?;
             tell_refusal(rt, x)?;
         }
@@ -440,10 +433,8 @@ struct Beside {
 
 fn mix_pace(numbers: &[u32; 260]) -> u64 {
     let mut sum = 0;
-    let mut i = 0;
-    while i < 260 {
+    for i in 0..260 {
         sum = mix_number(sum, numbers[i]);
-        i += 1;
     }
     sum
 }

@@ -1,4 +1,5 @@
 -- The canonical form of an accepted table is accepted with the same facts, and comparing by it is an order up to renaming.
+use Rattle.std.specs.Prelude.{Ok}
 use Prim.Native.Nat.{ℕ, suc, ◌+◌, ◌≤◌, ◌<◌}
 use native.Mathlib.Omega.{arith}
 use mathlib.Core.Path.{◌≡◌, refl, sym, ap, ◌∙◌}
@@ -12,7 +13,6 @@ use Rattle.table.specs.Serial.{serial_order, S1}
 use Rattle.table.specs.Level.{level, D}
 use Rattle.table.specs.Nested.{nest, N}
 use Rattle.table.specs.declared.Facts.{Facts}
-use Rattle.table.specs.declared.Loaded.TheVariants.{Accepted}
 use Rattle.table.proofs.Bodies.{first_within, end_within}
 use Rattle.table.proofs.Serial.{serial_length}
 use Rattle.table.proofs.Levels.{level_root}
@@ -95,8 +95,8 @@ renamed_facts T U k j r q =
 
 -- ---- the form of an accepted table
 
-pub lawful_of : (s : List ℕ) (f : Facts) → loaded s ≡ Accepted f → Lawful (table_of s)
-lawful_of s f h = lawful s ((accepted_exactly s).0 (h ∙ ap Accepted (accepted_facts s f h)))
+pub lawful_of : (s : List ℕ) (f : Facts) → loaded s ≡ Ok f → Lawful (table_of s)
+lawful_of s f h = lawful s ((accepted_exactly s).0 (h ∙ ap Ok (accepted_facts s f h)))
 
 pub lawful_keeps : (T : Table) → Lawful T → Keeps T
 lawful_keeps T l = record { contents = l.contents; bodies = l.bodies; nesting = l.nesting; forking = l.forking; balances = l.balances; some = l.some_thread }
@@ -116,7 +116,7 @@ module _ (T : Table) (l : Lawful T) (s : Short T) where
   pub form_facts : facts_of (form T l s) ≡ facts_of T
   form_facts = renamed_facts T (form T l s) (lawful_keeps T l) form_keeps (form_renames T l s) (back_renames T l s)
 
-  pub form_loaded : loaded (written (canonical_bodies T)) ≡ Accepted (facts_of T)
+  pub form_loaded : loaded (written (canonical_bodies T)) ≡ Ok (facts_of T)
   unfolding facts_of
   form_loaded =
       let r = form_reads T l s in
@@ -125,27 +125,27 @@ module _ (T : Table) (l : Lawful T) (s : Short T) where
       let some_action : 0 < T.actions = omega (arith, first_within T l.contents 0 l.some_thread) in
       written_loaded (canonical_bodies T) (omega (arith, r.threads, n, l.some_thread)) (omega (arith, r.threads, n, l.few_threads))
       (omega (arith, r.actions, m)) (omega (arith, r.actions, m, l.few_actions)) form_keeps
-      ∙ ap Accepted form_facts
+      ∙ ap Ok form_facts
 
-pub canonical_loaded : (s : List ℕ) (f : Facts) → loaded s ≡ Accepted f → loaded (canonical s) ≡ Accepted f
+pub canonical_loaded : (s : List ℕ) (f : Facts) → loaded s ≡ Ok f → loaded (canonical s) ≡ Ok f
 unfolding canonical
-canonical_loaded s f h = form_loaded (table_of s) (lawful_of s f h) (argument_short s) ∙ ap Accepted (sym (accepted_facts s f h))
+canonical_loaded s f h = form_loaded (table_of s) (lawful_of s f h) (argument_short s) ∙ ap Ok (sym (accepted_facts s f h))
 
 -- "equal bytes in this form exactly when one becomes the other by renaming threads"
-pub canonical_exactly : (s u : List ℕ) (f g : Facts) → loaded s ≡ Accepted f → loaded u ≡ Accepted g → (canonical s ≡ canonical u) ↔ Renames (table_of s) (table_of u)
+pub canonical_exactly : (s u : List ℕ) (f g : Facts) → loaded s ≡ Ok f → loaded u ≡ Ok g → (canonical s ≡ canonical u) ↔ Renames (table_of s) (table_of u)
 unfolding canonical
 canonical_exactly s u f g h k = forms_equal (table_of s) (table_of u) (lawful_of s f h) (argument_short s) (lawful_of u g k) (argument_short u)
 
 -- "doing it twice changes nothing"
-pub canonical_twice : (s : List ℕ) (f : Facts) → loaded s ≡ Accepted f → canonical (canonical s) ≡ canonical s
+pub canonical_twice : (s : List ℕ) (f : Facts) → loaded s ≡ Ok f → canonical (canonical s) ≡ canonical s
 unfolding canonical
 canonical_twice s f h = ap written (form_twice (table_of s) (lawful_of s f h) (argument_short s))
 
 -- renamed tables have the same facts
-pub renamed_loaded : (s u : List ℕ) (f g : Facts) → loaded s ≡ Accepted f → loaded u ≡ Accepted g → Renames (table_of s) (table_of u) → f ≡ g
+pub renamed_loaded : (s u : List ℕ) (f g : Facts) → loaded s ≡ Ok f → loaded u ≡ Ok g → Renames (table_of s) (table_of u) → f ≡ g
 renamed_loaded s u f g h k r =
     let e : canonical s ≡ canonical u = (canonical_exactly s u f g h k).1 r in
-    let p : Accepted f ≡ Accepted g = sym (canonical_loaded s f h) ∙ ap loaded e ∙ canonical_loaded u g k in
+    let p : Ok f ≡ Ok g = sym (canonical_loaded s f h) ∙ ap loaded e ∙ canonical_loaded u g k in
     cc
 
 -- ---- comparing
@@ -181,7 +181,7 @@ compare_first s u = (
   order_smaller (canonical s) (canonical u),
 )
 
-pub compare_equal : (s u : List ℕ) (f g : Facts) → loaded s ≡ Accepted f → loaded u ≡ Accepted g → (compare_tables s u ≡ equal) ↔ Renames (table_of s) (table_of u)
+pub compare_equal : (s u : List ℕ) (f g : Facts) → loaded s ≡ Ok f → loaded u ≡ Ok g → (compare_tables s u ≡ equal) ↔ Renames (table_of s) (table_of u)
 compare_equal s u f g h k = (
   (λ e. (canonical_exactly s u f g h k).0 (order_equal (canonical s) (canonical u) e)),
   (λ r. let e : canonical s ≡ canonical u = (canonical_exactly s u f g h k).1 r in rw e (order_refl (canonical u))),

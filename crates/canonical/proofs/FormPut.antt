@@ -1,4 +1,6 @@
 -- What code puts for an accepted table is its canonical form, at the start of a buffer that has room for every table.
+use Rattle.std.specs.Prelude.{Err, Ok, Result, ⊤}
+use Rattle.table.specs.declared.Refusal.{Refusal}
 use mathlib.Core.Path.{◌≡◌, refl, sym, ap, ◌∙◌}
 use Prim.Native.Nat.{ℕ, ◌≤◌, ◌<◌}
 use mathlib.Core.List.{List, [], ◌∷◌, flatten, Memᴰ}
@@ -8,8 +10,6 @@ use lib.Seq.{take_at}
 use Rattle.table.specs.Format.{threads_of, first_of, count_of, table_of}
 use Rattle.table.specs.Written.{table_rows, written}
 use Rattle.table.specs.Load.{if_found}
-use Rattle.table.specs.declared.Found.{Found}
-use Rattle.table.specs.declared.Found.TheVariants.{Nothing, At}
 use Rattle.table.proofs.Tests.{no_way}
 use Rattle.table.proofs.Bodies.{body_within}
 use Rattle.table.proofs.Passes.{passes_rules}
@@ -21,7 +21,6 @@ use Rattle.order.proofs.Lawful.{Lawful, lawful}
 use Rattle.rows.specs.Rows.{over, ordered_rows, named_by}
 use Rattle.canonical.specs.Canonical.{thread_order, new_number, canonical_bodies, canonical}
 use Rattle.canonical.specs.Answers.{found_in, formed_by, formed, formed_in}
-use Rattle.canonical.specs.declared.Formed.TheVariants.{Written}
 use Rattle.canonical.specs.Code.NumbersOf.{numbers_of, order_of}
 use Rattle.canonical.specs.Code.Rows.{Accepts, form_rows}
 use Rattle.canonical.proofs.Renaming.{order_below}
@@ -80,10 +79,10 @@ pub over_front : (front out o : List ℕ) (k : ℕ) → k ≡ length front → o
 over_front front out o k e p = rw p (take_at front (drop (length front) out) k (sym e))
 
 -- a form that is written lies within its buffer
-pub formed_within : (s out o : List ℕ) (k : ℕ) → formed s ≡ Written k → o ≡ formed_in s out → k ≤ length o
+pub formed_within : (s out o : List ℕ) (k : ℕ) → formed s ≡ Ok k → o ≡ formed_in s out → k ≤ length o
 unfolding formed formed_in
 formed_within s out o k e p = go (found_in s) e p
   where
-    go : (f : Found) → formed_by f (length (canonical s)) ≡ Written k → o ≡ if_found f out (over (canonical s) out) → k ≤ length o
-    go Nothing e p = let z : k ≡ length (canonical s) = cc in over_within (canonical s) out o k z p
-    go (At r) e p = absurd (no_way (cc))
+    go : (f : Result ⊤ Refusal) → formed_by f (length (canonical s)) ≡ Ok k → o ≡ if_found f out (over (canonical s) out) → k ≤ length o
+    go (Ok _) e p = let z : k ≡ length (canonical s) = cc in over_within (canonical s) out o k z p
+    go (Err r) e p = absurd (no_way (cc))

@@ -1,30 +1,27 @@
 -- What the two calls answer to any bytes, and what they leave in the lent buffers.
-use Rattle.std.specs.Prelude.{ℕ, List, length}
+use Rattle.std.specs.Prelude.{ℕ, List, length, Err, Ok, Result, ⊤}
+use Rattle.table.specs.declared.Refusal.{Refusal}
 use Rattle.table.specs.Pass.{first_found}
 use Rattle.table.specs.Checks.{passes}
 use Rattle.table.specs.Load.{found_number, found_place, if_found}
-use Rattle.table.specs.declared.Found.{Found}
-use Rattle.table.specs.declared.Found.TheVariants.{Nothing, At}
 use Rattle.rows.specs.Rows.{over}
 use Rattle.canonical.specs.Canonical.{canonical}
 use Rattle.canonical.specs.Order.{Ordered, before, equal, after, compare_tables}
-use Rattle.canonical.specs.declared.Formed.{Formed}
-use Rattle.canonical.specs.declared.Formed.TheVariants.{Written, Refused}
 use Rattle.canonical.specs.declared.Compared.{Compared}
 use Rattle.canonical.specs.declared.Compared.TheVariants.{Before, Equal, After, Refused as RefusedOf}
 
 -- what the checks find in a table
-abbrev pub found_in : List ℕ → Found
+abbrev pub found_in : List ℕ → Result ⊤ Refusal
 found_in s = first_found (passes s)
 
 -- ---- the form
 
 -- "each accepted table": its form of so many bytes; "A refused table gives its own number and place"
-abbrev pub formed_by : Found → ℕ → Formed
-formed_by Nothing k = Written k
-formed_by (At r) k = Refused r
+abbrev pub formed_by : Result ⊤ Refusal → ℕ → Result ℕ Refusal
+formed_by (Ok _) k = Ok k
+formed_by (Err r) k = Err r
 
-unfoldable pub formed : List ℕ → Formed
+unfoldable pub formed : List ℕ → Result ℕ Refusal
 formed s = formed_by (found_in s) (length (canonical s))
 
 -- the buffer afterwards: the form at its start, or as it was
@@ -37,9 +34,9 @@ pub record FormValues : Type 0 where
   pub place : ℕ
   pub size : ℕ
 
-abbrev pub form_values_of : Formed → FormValues
-form_values_of (Written k) = record { number = 0; place = 0; size = k }
-form_values_of (Refused r) = record { number = r.number; place = r.place; size = 0 }
+abbrev pub form_values_of : Result ℕ Refusal → FormValues
+form_values_of (Ok k) = record { number = 0; place = 0; size = k }
+form_values_of (Err r) = record { number = r.number; place = r.place; size = 0 }
 
 -- the same values from the checks and the table alone
 unfoldable pub form_values : List ℕ → FormValues
@@ -53,10 +50,10 @@ said equal = Equal
 said after = After
 
 -- "A refused table gives its own number and place, the first table's before the second's"; the tables are counted from 0
-abbrev pub compared_by : Found → Found → Ordered → Compared
-compared_by (At r) g o = RefusedOf 0 r
-compared_by Nothing (At r) o = RefusedOf 1 r
-compared_by Nothing Nothing o = said o
+abbrev pub compared_by : Result ⊤ Refusal → Result ⊤ Refusal → Ordered → Compared
+compared_by (Err r) g o = RefusedOf 0 r
+compared_by (Ok _) (Err r) o = RefusedOf 1 r
+compared_by (Ok _) (Ok _) o = said o
 
 unfoldable pub compared : List ℕ → List ℕ → Compared
 compared s u = compared_by (found_in s) (found_in u) (compare_tables s u)

@@ -18,15 +18,8 @@ ghost use Rattle.canonical.specs.Answers.{said, formed, formed_in, form_values, 
 
 use bytes::byte_order;
 use checks::check_in;
-use table::{Found, Refusal};
+use table::Refusal;
 use write::write_form;
-
-// A form of so many bytes, or the table's refusal.
-#[derive(Drop)]
-pub enum Formed {
-    Written(usize),
-    Refused(Refusal),
-}
 
 // How the first table stands to the second, or which of the two is refused, counted from 0.
 #[derive(Drop)]
@@ -38,7 +31,7 @@ pub enum Compared {
 }
 
 // The canonical form of a table, at the start of the buffer, which is as it was where the table is refused.
-pub fn form(table: &[u8], out: &mut [u8; 36868]) -> Formed
+pub fn form(table: &[u8], out: &mut [u8; 36868]) -> Result<usize, Refusal>
     ensures value { result ≡ formed table.now }
     ensures result_value { form_values_of result ≡ form_values table.now }
     ensures out_after { out.new ≡ formed_in table.now out.old }
@@ -58,7 +51,7 @@ pub fn form_in(
     falls: &mut [u64; 1024],
     names: &mut [u16; 1024],
     order: &mut [u16; 1024],
-) -> Formed
+) -> Result<usize, Refusal>
     ensures value { result ≡ formed table.now }
     ensures result_value { form_values_of result ≡ form_values table.now }
     ensures out_after { out.new ≡ formed_in table.now out.old }
@@ -68,11 +61,11 @@ pub fn form_in(
     *names = [0; 1024];
     *order = [0; 1024];
     let found = check_in(table, rises, falls);
-    if let Found::At(r) = found {
-        return Formed::Refused(r);
+    if let Err(r) = found {
+        return Err(r);
     }
     let k = write_form(table, out, names, order);
-    Formed::Written(k)
+    Ok(k)
 }
 
 // Two tables compared by the bytes of their forms, the first difference deciding. The forms are then at the starts of the two buffers, which are as they were where a table is refused.
@@ -112,11 +105,11 @@ pub fn compare_in(
     *names = [0; 1024];
     *order = [0; 1024];
     let found = check_in(first, rises, falls);
-    if let Found::At(r) = found {
+    if let Err(r) = found {
         return Compared::Refused(0, r);
     }
     let found = check_in(second, rises, falls);
-    if let Found::At(r) = found {
+    if let Err(r) = found {
         return Compared::Refused(1, r);
     }
     compare_forms(first, second, a, b, names, order)

@@ -8,7 +8,7 @@ ghost use Rattle.canonical.specs.Lines.{compared_line, compare_line};
 
 use crate::{Compared, compare};
 use table::read::word;
-use table::{Loaded, Refusal, lesser};
+use table::{Refusal, lesser};
 use text::{put_refused_of, put_word, table_line};
 
 fn compared_line(answer: Compared, out: &mut [u8; 80]) -> usize
@@ -38,7 +38,7 @@ pub fn compare_line(input: &[u8], out: &mut [u8; 80]) -> usize
 {
     if input.len() < 4 {
         return table_line(
-            Loaded::Refused(Refusal {
+            Err(Refusal {
                 number: 33,
                 place: 0,
             }),

@@ -46,11 +46,9 @@ fn forked_sizes(actions: &[u8], first: usize, count: usize, sizes: &[u16; 1024])
     ensures { Read (forked_sizes (code_at actions.now) (argument_at actions.now) sizes.now first count) (2 ^ 32) result }
 {
     let mut total = 0;
-    let mut i = 0;
-    while i < count {
+    for i in 0..count {
         let action = action_in(actions, first + i);
         total += fork_size(action.code, action.argument, sizes);
-        i += 1;
     }
     total
 }
@@ -95,11 +93,9 @@ fn number_walk(
         ≡ number_body cut16 (code_at actions.now) (argument_at actions.now) sizes.now first count (numbered new.old start) }
 {
     let mut next = start;
-    let mut i = 0;
-    while i < count {
+    for i in 0..count {
         let action = action_in(actions, first + i);
         next = number_step(action.code, action.argument, next, sizes, new);
-        i += 1;
     }
     next
 }
@@ -115,11 +111,9 @@ pub(crate) fn numbers_in(table: &[u8], sizes: &mut [u16; 1024], new: &mut [u16; 
     }
     let actions = bodies(table, n);
     fill_sizes(table, n, actions, sizes);
-    let mut t = 0;
-    while t < n {
+    for t in 0..n {
         let start = 1 + number_at(new, t);
         number_walk(actions, first(table, t), count(table, t), start, sizes, new);
-        t += 1;
     }
 }
 
@@ -129,10 +123,8 @@ pub(crate) fn order_in(names: &[u16; 1024], n: usize, order: &mut [u16; 1024])
     ensures { order.new ≡ order_of names.now n }
 {
     *order = [0; 1024];
-    let mut t = 0;
-    while t < n {
+    for t in 0..n {
         let at = number_at(names, t);
         put_number(order, at, t);
-        t += 1;
     }
 }

@@ -1,11 +1,9 @@
 // Reads a table on standard input and writes its canonical form. Where it is refused, nothing is written but a line on standard error that says why.
 #![tactic(auto)]
 
-use canonical::Formed;
 use std::io;
 use std::io::Write;
 use streams::{large_buffer, read_full};
-use table::Loaded;
 
 fn main(rt: HostRuntime) -> io::Result<()> {
     // More than the longest table: what lies beyond is refused for its length all the same.
@@ -14,10 +12,10 @@ fn main(rt: HostRuntime) -> io::Result<()> {
     let mut bytes = [0u8; 36868];
     let answer = canonical::form(&buffer[..n], &mut bytes);
     match answer {
-        Formed::Written(k) => { rt.stdout().write_all(&bytes[..k]) }
-        Formed::Refused(r) => {
+        Ok(k) => { rt.stdout().write_all(&bytes[..k]) }
+        Err(r) => {
             let mut line = [0u8; 80];
-            let k = text::table_line(Loaded::Refused(r), &mut line);
+            let k = text::table_line(Err(r), &mut line);
             rt.stderr().write_all(&line[..k])
         }
     }

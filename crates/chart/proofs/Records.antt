@@ -1,4 +1,6 @@
 -- The line of every record that passes 32 and 43: each number fits its columns, so that the line has its width and is read back; and the call's answer, check by check.
+use Rattle.std.specs.Prelude.{Err, Ok, Result, ⊤}
+use Rattle.table.specs.declared.Refusal.{Refusal}
 use mathlib.Core.Path.{◌≡◌, refl, sym, ap, ◌∙◌}
 use Prim.Native.Nat.{ℕ, suc, ◌+◌, ◌^◌, ◌≤◌, ◌<◌}
 use native.Mathlib.Omega.{arith}
@@ -10,8 +12,6 @@ use lib.ListN.{length, get_or, drop_of_length-le}
 use Rattle.table.specs.Sum.{pick}
 use Rattle.table.specs.Pass.{refusal, try_at}
 use Rattle.table.specs.Load.{found_number, found_place}
-use Rattle.table.specs.declared.Found.{Found}
-use Rattle.table.specs.declared.Found.TheVariants.{Nothing, At}
 use Rattle.text.specs.Text.{buffer_at}
 use Rattle.text.specs.Puts.{put_all, Puts}
 use Rattle.text.proofs.Putting.{puts_whole}
@@ -25,7 +25,6 @@ use Rattle.schedule.proofs.Sound.Tests.{sound_exactly}
 use Rattle.schedule.proofs.Stores.{steady_lawful, steady_facts}
 use Rattle.schedule.proofs.Soundness.{held_fits}
 use Rattle.soundness.proofs.Passed.{has_workers, no_workers}
-use Rattle.chart.specs.declared.Charted.TheVariants.{Written, Refused}
 use Rattle.chart.specs.Chart.{thread, none, absent, cells_from, figures, line_texts, line_of, read_back, most_turns, too_many, chart_checks, charted_as, charted, charted_values, line_values}
 use Rattle.chart.proofs.Reading.{CellFits, CellsFit, Fits, line_width, line_newline, line_read}
 
@@ -93,7 +92,7 @@ module _ (r : Run) (e : unsound r ≡ false) (t : too_many r ≡ false) where
 -- ---- the answer
 
 module _ (r : Run) where
-  pub charted_unsound : unsound r ≡ true → Refused (refusal 32 0) ≡ charted r
+  pub charted_unsound : unsound r ≡ true → Err (refusal 32 0) ≡ charted r
   unfolding charted chart_checks try_at
   charted_unsound e = rw e
 
@@ -106,11 +105,11 @@ module _ (r : Run) where
     unfolding too_many
     few h = le-ltb most_turns r.turns h
 
-    pub charted_many : too_many r ≡ true → Refused (refusal 43 0) ≡ charted r
+    pub charted_many : too_many r ≡ true → Err (refusal 43 0) ≡ charted r
     unfolding charted chart_checks try_at
     charted_many t = rw (e, t)
 
-    pub charted_written : too_many r ≡ false → Written ≡ charted r
+    pub charted_written : too_many r ≡ false → (Ok tt) ≡ charted r
     unfolding charted chart_checks try_at
     charted_written t = rw (e, t)
 
@@ -119,12 +118,12 @@ module _ (r : Run) where
   unfolding charted line_values
   charted_values_lem = go (try_at (chart_checks r) 0)
     where
-      go : (f : Found) → charted_values (charted_as f) ≡ record { number = found_number f; place = found_place f }
-      go Nothing = refl
-      go (At x) = refl
+      go : (f : Result ⊤ Refusal) → charted_values (charted_as f) ≡ record { number = found_number f; place = found_place f }
+      go (Ok _) = refl
+      go (Err x) = refl
 
 -- a record that is sound but for its turns taken, of which there are not too many, has its line
-pub steady_written : (r : Run) → Steady r → r.turns ≤ most_turns → charted r ≡ Written
+pub steady_written : (r : Run) → Steady r → r.turns ≤ most_turns → charted r ≡ Ok tt
 steady_written r h t = let e = steady_passes r h t in sym (charted_written r e (few r e t))
 
 -- the line fills a buffer of its width

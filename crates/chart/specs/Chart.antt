@@ -1,17 +1,14 @@
 -- The wall chart (change request N5): what a line shows of a record, the line's text, and how each number is read back from its columns.
-use Rattle.std.specs.Prelude.{ℕ, zero, suc, ◌+◌, ◌-◌, ◌*◌, Bool, length, get_or, take, drop, replicate, eqb, ltb}
+use Rattle.std.specs.Prelude.{ℕ, zero, suc, ◌+◌, ◌-◌, ◌*◌, Bool, length, get_or, take, drop, replicate, eqb, ltb, Err, Ok, Result, ⊤}
+use Rattle.table.specs.declared.Refusal.{Refusal}
 use mathlib.Core.List.{List, [], ◌∷◌, ◌++◌, flatten}
 use Rattle.table.specs.Sum.{pick}
 use Rattle.table.specs.Pass.{Check, try_at}
 use Rattle.table.specs.Load.{found_number, found_place}
-use Rattle.table.specs.declared.Found.{Found}
-use Rattle.table.specs.declared.Found.TheVariants.{Nothing, At}
 use Rattle.text.specs.Text.{ascii, decimal, newline}
 use Rattle.schedule.specs.declared.Worker.{Worker}
 use Rattle.schedule.specs.declared.Run.{Run}
 use Rattle.schedule.specs.Turn.{unsound}
-use Rattle.chart.specs.declared.Charted.{Charted}
-use Rattle.chart.specs.declared.Charted.TheVariants.{Written, Refused}
 
 -- ---- what is shown
 
@@ -106,17 +103,17 @@ too_many r = ltb most_turns r.turns
 unfoldable pub chart_checks : Run → List Check
 chart_checks r = record { number = 32; applies = λ i. unsound r } ∷ record { number = 43; applies = λ i. too_many r } ∷ []
 
-abbrev pub charted_as : Found → Charted
-charted_as Nothing = Written
-charted_as (At x) = Refused x
+abbrev pub charted_as : Result ⊤ Refusal → Result ⊤ Refusal
+charted_as (Ok _) = Ok tt
+charted_as (Err x) = Err x
 
-unfoldable pub charted : Run → Charted
+unfoldable pub charted : Run → Result ⊤ Refusal
 charted r = charted_as (try_at (chart_checks r) 0)
 
 -- the lent buffer after the call: the line, or what stood there, "with no line written"
-abbrev pub charted_in : Charted → Run → List ℕ → List ℕ
-charted_in Written r out = line_of r
-charted_in (Refused x) r out = out
+abbrev pub charted_in : Result ⊤ Refusal → Run → List ℕ → List ℕ
+charted_in (Ok _) r out = line_of r
+charted_in (Err x) r out = out
 
 -- ---- the paper's number and place
 
@@ -125,9 +122,9 @@ pub record LineValues : Type 0 where
   pub number : ℕ
   pub place : ℕ
 
-abbrev pub charted_values : Charted → LineValues
-charted_values Written = record { number = 0; place = 0 }
-charted_values (Refused x) = record { number = x.number; place = x.place }
+abbrev pub charted_values : Result ⊤ Refusal → LineValues
+charted_values (Ok _) = record { number = 0; place = 0 }
+charted_values (Err x) = record { number = x.number; place = x.place }
 
 -- from the checks alone
 unfoldable pub line_values : Run → LineValues

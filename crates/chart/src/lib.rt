@@ -15,33 +15,26 @@ pub use line::put_line;
 // The most turns taken that a line shows.
 pub const MOST_TURNS: u64 = 999_999;
 
-// Whether a line was written.
-#[derive(Drop)]
-pub enum Charted {
-    Written,
-    Refused(Refusal),
-}
-
 // The line of a record that passes 32 and 43; on either the buffer is as it was.
-pub fn wall_line(run: Run, out: &mut [u8; 85]) -> Charted
+pub fn wall_line(run: Run, out: &mut [u8; 85]) -> Result<(), Refusal>
     ensures value { result ≡ charted run }
     ensures result_value { charted_values result ≡ line_values run }
     ensures out_after { out.new ≡ charted_in (charted run) run out.old }
 {
     let tested = test(run);
     if !tested.passed {
-        return Charted::Refused(Refusal {
+        return Err(Refusal {
             number: 32,
             place: 0,
         });
     }
     if MOST_TURNS < run.turns {
-        return Charted::Refused(Refusal {
+        return Err(Refusal {
             number: 43,
             place: 0,
         });
     }
     let workers = run.worker;
     put_line(out, 0, run.turns, run.workers, workers, run.held);
-    Charted::Written
+    Ok(())
 }

@@ -45,11 +45,9 @@ fn put_cells(out: &mut [u8], at: usize, p: usize, workers: [Worker; 16]) -> usiz
     ensures { buffer_at out.new result ≡ put_all (buffer_at out.old at) (cells_texts (cells_from p 0 workers)) }
 {
     let mut at = at;
-    let mut w = 0;
-    while w < 16 {
+    for w in 0..16 {
         let worker = workers[w];
         at = put_cell(out, at, p, w, worker);
-        w += 1;
     }
     at
 }

@@ -1,4 +1,6 @@
 -- The least number that passes a test, against the least place at which a check applies.
+use Rattle.std.specs.Prelude.{Err, Ok, Result, ⊤}
+use Rattle.table.specs.declared.Refusal.{Refusal}
 use mathlib.Core.Path.{◌≡◌, refl, sym, ap, ◌∙◌}
 use Prim.Native.Nat.{ℕ, zero, suc, ◌+◌, ◌≤◌, ◌<◌}
 use mathlib.Core.List.{[], ◌∷◌}
@@ -10,8 +12,6 @@ use borrow.Author.Tests.{lt-ltb, le-ltb, eq-eqb, ne_eqb}
 use lib.Dec.{ltb, eqb}
 use Rattle.table.specs.Sum.{pick}
 use Rattle.table.specs.Pass.{Check, or_else, refusal, try_at, try_from}
-use Rattle.table.specs.declared.Found.{Found}
-use Rattle.table.specs.declared.Found.TheVariants.{Nothing, At}
 use Rattle.table.proofs.Trying.{or_else_last, try_from_split}
 use Rattle.checks.specs.Code.Steps.{least_next, least_that}
 
@@ -31,21 +31,21 @@ least_cong f g (suc k) h = rw (least_cong f g k (λ i l. h i (omega arith)), h k
 
 -- one place more
 place_more : (c : Check) (from k : ℕ)
-    → try_from (c ∷ []) from (suc k) ≡ or_else (try_from (c ∷ []) from k) (pick (c.applies (from + k)) (At (refusal c.number (from + k))) Nothing)
+    → try_from (c ∷ []) from (suc k) ≡ or_else (try_from (c ∷ []) from k) (pick (c.applies (from + k)) (Err (refusal c.number (from + k))) (Ok tt))
 unfolding try_from try_at
 place_more c from k =
     ap (try_from (c ∷ []) from) (sym (add-one k))
     ∙ try_from_split (c ∷ []) from k 1
     ∙ ap (or_else (try_from (c ∷ []) from k)) (or_else_last _)
 
-least_more : (number from k least : ℕ) (g : Found) (t : Bool) → least ≤ k → g ≡ pick (ltb least k) (At (refusal number (from + least))) Nothing
-    → or_else g (pick t (At (refusal number (from + k))) Nothing)
-    ≡ pick (ltb (least_next t k least) (suc k)) (At (refusal number (from + least_next t k least))) Nothing
+least_more : (number from k least : ℕ) (g : Result ⊤ Refusal) (t : Bool) → least ≤ k → g ≡ pick (ltb least k) (Err (refusal number (from + least))) (Ok tt)
+    → or_else g (pick t (Err (refusal number (from + k))) (Ok tt))
+    ≡ pick (ltb (least_next t k least) (suc k)) (Err (refusal number (from + least_next t k least))) (Ok tt)
 least_more number from k least g t h e = go t (ℕ_discrete least k)
   where
     go : (t : Bool) → Dec (least ≡ k)
-        → or_else g (pick t (At (refusal number (from + k))) Nothing)
-        ≡ pick (ltb (least_next t k least) (suc k)) (At (refusal number (from + least_next t k least))) Nothing
+        → or_else g (pick t (Err (refusal number (from + k))) (Ok tt))
+        ≡ pick (ltb (least_next t k least) (suc k)) (Err (refusal number (from + least_next t k least))) (Ok tt)
     go true (yes d) = rw (e, d, le-ltb k k (omega arith), eq-eqb k k refl, lt-ltb k (suc k) (omega arith))
     go false (yes d) = rw (e, d, le-ltb k k (omega arith), eq-eqb k k refl, le-ltb (k + 1) (suc k) (omega arith))
     go t (no d) =
@@ -55,7 +55,7 @@ least_more number from k least g t h e = go t (ℕ_discrete least k)
 -- what one check finds among k places is at the least that passes its test
 pub least_found : (c : Check) (from k : ℕ)
     → try_from (c ∷ []) from k
-    ≡ pick (ltb (least_that (λ i. c.applies (from + i)) k) k) (At (refusal c.number (from + least_that (λ i. c.applies (from + i)) k))) Nothing
+    ≡ pick (ltb (least_that (λ i. c.applies (from + i)) k) k) (Err (refusal c.number (from + least_that (λ i. c.applies (from + i)) k))) (Ok tt)
 unfolding least_that try_from
 least_found c from zero = refl
 least_found c from (suc k) =

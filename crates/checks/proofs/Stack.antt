@@ -1,4 +1,6 @@
 -- The second pass over plain lists: from action to action, the children that stand open and the marks of the threads forked are those of the rules.
+use Rattle.std.specs.Prelude.{Err, Ok, Result, ⊤}
+use Rattle.table.specs.declared.Refusal.{Refusal}
 use mathlib.Core.Path.{◌≡◌, refl, sym, ap, ◌∙◌}
 use Prim.Native.Nat.{ℕ, zero, suc, ◌+◌, ◌≤◌, ◌<◌}
 use mathlib.Core.List.{List, [], ◌∷◌}
@@ -15,8 +17,6 @@ use Rattle.table.specs.Format.{Kind, end, work, alloc, free, fork, join, unknown
 use Rattle.table.specs.Pass.{try_at, refusal}
 use Rattle.table.specs.Checks.{forks, forked_below, forked_before, opened, open_before, is_latest, is_empty, join_not_latest, end_with_open, second_pass}
 use Rattle.checks.specs.Code.Steps.{Nesting, nest, nest_at}
-use Rattle.table.specs.declared.Found.{Found}
-use Rattle.table.specs.declared.Found.TheVariants.{Nothing, At}
 use Rattle.table.proofs.Tests.{same_is}
 
 -- ---- how many threads are marked
@@ -41,20 +41,20 @@ count_set (b ∷ l) (suc x) h e = omega (arith, count_set l x (omega arith) e)
 -- ---- one action
 
 -- what the pass's checks say at an action of kind k with argument x, where the children l stand open and b says whether x was forked
-abbrev verdict : Kind → ℕ → List ℕ → Bool → ℕ → Found
+abbrev verdict : Kind → ℕ → List ℕ → Bool → ℕ → Result ⊤ Refusal
 verdict k x l b a =
-    pick (is fork k && b) (At (refusal 8 a))
-    (pick (is join k && not (is_latest x l)) (At (refusal 9 a))
-    (pick (is end k && not (is_empty l)) (At (refusal 9 a)) Nothing))
+    pick (is fork k && b) (Err (refusal 8 a))
+    (pick (is join k && not (is_latest x l)) (Err (refusal 9 a))
+    (pick (is end k && not (is_empty l)) (Err (refusal 9 a)) (Ok tt)))
 
 -- an action opens a child, or it opens none, or a check applies
 data Step (k : Kind) (x : ℕ) (l : List ℕ) (forked : List Bool) (a : ℕ) : Type 0 where
   opens : k ≡ fork → get_or forked x false ≡ false → nest_at k x l forked ≡ nest 0 (x ∷ l) (set forked x true)
-      → verdict k x l (get_or forked x false) a ≡ Nothing → Step k x l forked a
+      → verdict k x l (get_or forked x false) a ≡ Ok tt → Step k x l forked a
   keeps : is fork k ≡ false → length (opened k x l) ≤ length l → nest_at k x l forked ≡ nest 0 (opened k x l) forked
-      → verdict k x l (get_or forked x false) a ≡ Nothing → Step k x l forked a
+      → verdict k x l (get_or forked x false) a ≡ Ok tt → Step k x l forked a
   stops : (number : ℕ) → nest_at k x l forked ≡ nest (suc number) l forked
-      → verdict k x l (get_or forked x false) a ≡ At (refusal (suc number) a) → Step k x l forked a
+      → verdict k x l (get_or forked x false) a ≡ Err (refusal (suc number) a) → Step k x l forked a
 
 step : (k : Kind) (x : ℕ) (l : List ℕ) (forked : List Bool) (a : ℕ) → Step k x l forked a
 unfolding is code_of nest_at
@@ -148,19 +148,19 @@ module _ (T : Table) (a : ℕ) (l : List ℕ) (forked : List Bool) (s : Stacked 
     forked_is : {N : Nesting} → nest_at (kind T a) (T.argument a) l forked ≡ N → forked' ≡ N.forked
     forked_is n = ap (λ (w : Nesting). w.forked) (e ∙ n)
 
-    pub stacked_stops : (number ≡ 0 → ⊥) → try_at (second_pass T).checks a ≡ At (refusal number a)
+    pub stacked_stops : (number ≡ 0 → ⊥) → try_at (second_pass T).checks a ≡ Err (refusal number a)
     stacked_stops d = verdict_is ∙ go (step (kind T a) (T.argument a) l forked a)
       where
-        go : Step (kind T a) (T.argument a) l forked a → verdict (kind T a) (T.argument a) l (get_or forked (T.argument a) false) a ≡ At (refusal number a)
+        go : Step (kind T a) (T.argument a) l forked a → verdict (kind T a) (T.argument a) l (get_or forked (T.argument a) false) a ≡ Err (refusal number a)
         go (opens k m n v) = absurd (d (number_is n))
         go (keeps f h n v) = absurd (d (number_is n))
         go (stops k n v) = rw (number_is n) v
 
     module _ (z : number ≡ 0) where
-      pub stacked_passes : try_at (second_pass T).checks a ≡ Nothing
+      pub stacked_passes : try_at (second_pass T).checks a ≡ Ok tt
       stacked_passes = verdict_is ∙ go (step (kind T a) (T.argument a) l forked a)
         where
-          go : Step (kind T a) (T.argument a) l forked a → verdict (kind T a) (T.argument a) l (get_or forked (T.argument a) false) a ≡ Nothing
+          go : Step (kind T a) (T.argument a) l forked a → verdict (kind T a) (T.argument a) l (get_or forked (T.argument a) false) a ≡ Ok tt
           go (opens k m n v) = v
           go (keeps f h n v) = v
           go (stops k n v) = absurd (omega (arith, number_is n))

@@ -6,10 +6,11 @@ ghost use Rattle.table.specs.Checks.{balance_pass};
 ghost use Rattle.table.specs.Code.Steps.{Nested, WalkReady, child_amount};
 ghost use Rattle.checks.specs.Code.Steps.{least_next, balance_of};
 
+use table::Refusal;
 use crate::refuse;
 use table::kinds::{JOIN, alloc_of, free_of};
 use table::read::{action_in, body_of, count, first};
-use table::{Found, lesser};
+use table::lesser;
 
 // What a body draws and gives back, and its first action after which it has given back more (its count of actions, if there is none).
 #[derive(Drop)]
@@ -47,15 +48,13 @@ fn balance_walk(body: &[u8], count: usize, rises: &[u64; 1024], falls: &[u64; 10
     let mut rise: u64 = 0;
     let mut fall: u64 = 0;
     let mut below = 0;
-    let mut i = 0;
-    while i < stop {
+    for i in 0..stop {
         let action = action_in(body, i);
         let k = action.code;
         let x = action.argument;
         rise += alloc_of(k, x) + child_amount(k, x, rises);
         fall += free_of(k, x) + child_amount(k, x, falls);
         below = least_next(rise < fall, i, below);
-        i += 1;
     }
     Balance { rise, fall, below }
 }
@@ -67,7 +66,7 @@ pub(crate) fn balances(
     m: usize,
     rises: &mut [u64; 1024],
     falls: &mut [u64; 1024],
-) -> Found
+) -> Result<(), Refusal>
     requires { Nested table.now n m }
     ensures { result ≡ try_pass (balance_pass (table_of table.now)) }
 {
@@ -90,5 +89,5 @@ pub(crate) fn balances(
     if lowest < m {
         return refuse(10, lowest);
     }
-    Found::Nothing
+    Ok(())
 }

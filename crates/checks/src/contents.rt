@@ -5,8 +5,8 @@ ghost use Rattle.table.specs.Pass.{try_pass, or_else};
 ghost use Rattle.table.specs.Checks.{entries_pass, total_pass};
 ghost use Rattle.table.specs.Code.Steps.{Headed};
 
+use table::Refusal;
 use crate::refuse;
-use table::Found;
 use table::read::{count, first};
 
 // An entry that does not begin at the sum of the earlier counts, or has no action.
@@ -16,23 +16,21 @@ fn entry_wrong(first: usize, count: usize, sum: usize) -> bool
     first != sum || count == 0
 }
 
-pub(crate) fn contents(table: &[u8], n: usize, m: usize) -> Found
+pub(crate) fn contents(table: &[u8], n: usize, m: usize) -> Result<(), Refusal>
     requires { Headed table.now n m }
     ensures { result ≡ or_else (try_pass (entries_pass (table_of table.now))) (try_pass (total_pass (table_of table.now))) }
 {
     let mut sum = 0;
-    let mut t = 0;
-    while t < n {
+    for t in 0..n {
         let first = first(table, t);
         let count = count(table, t);
         if entry_wrong(first, count, sum) {
             return refuse(4, t);
         }
         sum += count;
-        t += 1;
     }
     if sum != m {
         return refuse(4, n);
     }
-    Found::Nothing
+    Ok(())
 }

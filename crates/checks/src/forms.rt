@@ -7,9 +7,10 @@ ghost use Rattle.table.specs.Checks.{first_pass};
 ghost use Rattle.table.specs.Code.Steps.{Laid};
 ghost use Rattle.checks.specs.Code.Steps.{form_at, Reached, Holding};
 
+use table::Refusal;
 use crate::refuse;
 use table::read::{action_in, bodies, count};
-use table::{Found, lesser};
+use table::lesser;
 
 // An action that is no end: its argument fits, and it is not the last.
 fn inner(fits: bool, last: bool) -> u8
@@ -77,7 +78,7 @@ fn span_at(table: &[u8], n: usize, m: usize, at: Span, a: usize) -> Span
     }
 }
 
-pub(crate) fn first_pass(table: &[u8], n: usize, m: usize) -> Found
+pub(crate) fn first_pass(table: &[u8], n: usize, m: usize) -> Result<(), Refusal>
     requires { Laid table.now n m }
     ensures { result ≡ try_pass (first_pass (table_of table.now)) }
 {
@@ -88,8 +89,7 @@ pub(crate) fn first_pass(table: &[u8], n: usize, m: usize) -> Found
         own: 0,
         stop: count(table, 0),
     };
-    let mut a = 0;
-    while a < stop {
+    for a in 0..stop {
         span = span_at(table, n, m, span, a);
         let action = action_in(actions, a);
         let number = form_at(
@@ -102,7 +102,6 @@ pub(crate) fn first_pass(table: &[u8], n: usize, m: usize) -> Found
         if number != 0 {
             return refuse(number, a);
         }
-        a += 1;
     }
-    Found::Nothing
+    Ok(())
 }

@@ -3,8 +3,8 @@ ghost use Rattle.std.specs.Prelude.{◌≡◌, ◌||◌};
 ghost use Rattle.table.specs.Pass.{try_pass};
 ghost use Rattle.table.specs.Checks.{head_pass, outside as is_outside};
 
+use table::Refusal;
 use crate::refuse;
-use table::Found;
 use table::read::{actions, threads};
 
 fn outside(low: usize, high: usize, x: usize) -> bool
@@ -19,7 +19,7 @@ fn out_of_range(n: usize, m: usize) -> bool
     outside(1, 1024, n) || outside(1, 8192, m)
 }
 
-pub(crate) fn head(table: &[u8]) -> Found
+pub(crate) fn head(table: &[u8]) -> Result<(), Refusal>
     ensures { result ≡ try_pass (head_pass table.now) }
 {
     if table.len() < 4 {
@@ -33,5 +33,5 @@ pub(crate) fn head(table: &[u8]) -> Found
     if table.len() != 4 + 4 * n + 4 * m {
         return refuse(3, 0);
     }
-    Found::Nothing
+    Ok(())
 }

@@ -7,7 +7,7 @@ mod forms;
 mod head;
 mod nest;
 
-ghost use Rattle.std.specs.Prelude.{◌≡◌, ◌<◌, replicate};
+ghost use Rattle.std.specs.Prelude.{◌≡◌, ◌<◌, replicate, Err};
 ghost use Rattle.table.specs.Format.{table_of};
 ghost use Rattle.table.specs.Pass.{first_found, refusal};
 ghost use Rattle.table.specs.Checks.{passes, shape_passes};
@@ -19,10 +19,10 @@ use forms::first_pass;
 use head::head;
 use nest::nesting;
 use table::read::{actions, threads};
-use table::{Found, Refusal};
+use table::Refusal;
 
 // Of any bytes: the check that refuses them, if one does.
-pub fn check(table: &[u8]) -> Found
+pub fn check(table: &[u8]) -> Result<(), Refusal>
     ensures { result ≡ first_found (passes table.now) }
 {
     let mut rises = [0u64; 1024];
@@ -31,7 +31,7 @@ pub fn check(table: &[u8]) -> Found
 }
 
 // The same in lent working memory, which may hold anything and is left cleared.
-pub fn check_in(table: &[u8], rises: &mut [u64; 1024], falls: &mut [u64; 1024]) -> Found
+pub fn check_in(table: &[u8], rises: &mut [u64; 1024], falls: &mut [u64; 1024]) -> Result<(), Refusal>
     ensures value { result ≡ first_found (passes table.now) }
     ensures rises_after { (rises.new ≡ replicate 1024 0) × (falls.new ≡ replicate 1024 0) }
 {
@@ -42,43 +42,43 @@ pub fn check_in(table: &[u8], rises: &mut [u64; 1024], falls: &mut [u64; 1024]) 
 }
 
 // Checks 1 to 11, the working memory left as they used it.
-fn all_checks(table: &[u8], rises: &mut [u64; 1024], falls: &mut [u64; 1024]) -> Found
+fn all_checks(table: &[u8], rises: &mut [u64; 1024], falls: &mut [u64; 1024]) -> Result<(), Refusal>
     ensures { result ≡ first_found (passes table.now) }
 {
     let found = head(table);
-    if let Found::At(_) = found {
+    if let Err(_) = found {
         return found;
     }
     let n = threads(table);
     let m = actions(table);
     let found = shape(table, n, m, rises);
-    if let Found::At(_) = found {
+    if let Err(_) = found {
         return found;
     }
     balances(table, n, m, rises, falls)
 }
 
 // Checks 4 to 9 and 11, the open children kept in `stack`.
-fn shape(table: &[u8], n: usize, m: usize, stack: &mut [u64; 1024]) -> Found
+fn shape(table: &[u8], n: usize, m: usize, stack: &mut [u64; 1024]) -> Result<(), Refusal>
     requires { Headed table.now n m }
     ensures { result ≡ first_found (shape_passes (table_of table.now)) }
 {
     let found = contents(table, n, m);
-    if let Found::At(_) = found {
+    if let Err(_) = found {
         return found;
     }
     let found = first_pass(table, n, m);
-    if let Found::At(_) = found {
+    if let Err(_) = found {
         return found;
     }
     nesting(table, n, m, stack)
 }
 
-pub(crate) fn refuse(number: u8, place: usize) -> Found
+pub(crate) fn refuse(number: u8, place: usize) -> Result<(), Refusal>
     requires { place < 65536 }
-    ensures { result ≡ Found.At (refusal number place) }
+    ensures { result ≡ Err (refusal number place) }
 {
-    Found::At(Refusal {
+    Err(Refusal {
         number,
         place: place as u16,
     })

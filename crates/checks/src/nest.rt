@@ -1,14 +1,15 @@
 // Checks 8, 9 and 11: every thread but the root is forked once, and joins close forks, the latest first.
-ghost use Rattle.std.specs.Prelude.{◌≡◌, ℕ, pred, ◌≤◌, ◌∷◌, [], false, get_or, replicate};
+ghost use Rattle.std.specs.Prelude.{◌≡◌, ℕ, pred, ◌≤◌, ◌∷◌, [], false, get_or, replicate, Ok};
 ghost use Rattle.table.specs.Format.{kind_of, table_of};
 ghost use Rattle.table.specs.Pass.{try_pass, try_from, or_else};
 ghost use Rattle.table.specs.Checks.{second_pass, forked_pass, forked_below};
 ghost use Rattle.table.specs.Code.Steps.{Formed};
 ghost use Rattle.checks.specs.Code.Steps.{NestReady, NestDone, unmarked};
 
+use table::Refusal;
 use crate::refuse;
 use table::read::{action_in, bodies};
-use table::{Found, lesser};
+use table::lesser;
 
 // The number of the check that an action breaks, 0 if none; and where the stack of open children then begins.
 #[derive(Drop)]
@@ -62,53 +63,49 @@ fn second_pass(
     m: usize,
     stack: &mut [u64; 1024],
     forked: &mut [bool; 1024],
-) -> Found
+) -> Result<(), Refusal>
     requires formed { Formed table.now n m }
     requires forked_value { forked.old ≡ replicate 1024 false }
     ensures value { result ≡ try_pass (second_pass (table_of table.now)) }
-    ensures false_after { result ≡ Found.Nothing → (t : ℕ) → get_or forked.new t false ≡ forked_below (table_of table.now) m t }
+    ensures false_after { result ≡ Ok tt → (t : ℕ) → get_or forked.new t false ≡ forked_below (table_of table.now) m t }
 {
     let actions = bodies(table, n);
     // m, in a form by which the compiler knows that every action is there
     let stop = lesser(m, actions.len() / 4);
     *stack = [0; 1024];
     let mut top = 1024;
-    let mut a = 0;
-    while a < stop {
+    for a in 0..stop {
         let action = action_in(actions, a);
         let next = nest_at(action.code, action.argument, top, stack, forked);
         if next.number != 0 {
             return refuse(next.number, a);
         }
         top = next.top;
-        a += 1;
     }
-    Found::Nothing
+    Ok(())
 }
 
 // The lowest thread other than 0 that is not marked.
-fn never_forked(n: usize, forked: &[bool; 1024]) -> Found
+fn never_forked(n: usize, forked: &[bool; 1024]) -> Result<(), Refusal>
     requires { n ≤ 1024 }
     ensures { result ≡ try_from (unmarked forked.now ∷ []) 1 (pred n) }
 {
-    let mut t = 1;
-    while t < n {
+    for t in 1..n {
         if !forked[t] {
             return refuse(11, t);
         }
-        t += 1;
     }
-    Found::Nothing
+    Ok(())
 }
 
 // The open children are kept in `stack`, whatever it held.
-pub(crate) fn nesting(table: &[u8], n: usize, m: usize, stack: &mut [u64; 1024]) -> Found
+pub(crate) fn nesting(table: &[u8], n: usize, m: usize, stack: &mut [u64; 1024]) -> Result<(), Refusal>
     requires { Formed table.now n m }
     ensures { result ≡ or_else (try_pass (second_pass (table_of table.now))) (try_pass (forked_pass (table_of table.now))) }
 {
     let mut forked = [false; 1024];
     let found = second_pass(table, n, m, stack, &mut forked);
-    if let Found::At(_) = found {
+    if let Err(_) = found {
         return found;
     }
     never_forked(n, &forked)

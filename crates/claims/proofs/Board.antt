@@ -1,5 +1,7 @@
 -- What a quota that is given is good for, by N1 (`maxquota`) and by the useful limit (`fitquota`): a run with it is accepted, and after every row of its turns that keeps the rule with b no more
 -- than M is held; where b is 0 a quota that fits asks nothing of the turns.
+use Rattle.std.specs.Prelude.{Err, Ok, Result}
+use Rattle.table.specs.declared.Refusal.{Refusal}
 use mathlib.Core.Path.{◌≡◌, refl, sym, ap, ap₂, subst, ◌∙◌}
 use Prim.Native.Nat.{ℕ, ◌≤◌}
 use native.Mathlib.Omega.{arith}
@@ -12,18 +14,14 @@ use denote.MutBor.{MutBor}
 use denote.Triple.Clauses.{AtExit}
 use borrow.Fn.Kinds.{ended_of}
 use Rattle.table.specs.Format.{Table, table_of}
-use Rattle.table.specs.declared.Found.TheVariants.{Nothing}
 use Rattle.schedule.specs.declared.Run.{Run}
 use Rattle.schedule.specs.declared.Begun.{Begun}
-use Rattle.schedule.specs.declared.Beginning.TheVariants.{Begun as started}
 use Rattle.filling.specs.Filled.{filled_out}
 use Rattle.schedule.specs.Begin.{begin, start_run}
 use Rattle.schedule.specs.Calls.{Call, after_calls, row_of_calls, Answer}
 use Rattle.schedule.specs.Memory.{row_memory, peak_memory, Keeps}
 use Rattle.bounds.proofs.Limit.{MemoryLimit, memory_limit}
 use Rattle.bounds.proofs.PeakLimit.{Ruled, UsefulLimit, useful_limit_lem}
-use Rattle.quota.specs.declared.Quoted.{Quoted}
-use Rattle.quota.specs.declared.Quoted.TheVariants.{Given, Refused}
 use Rattle.quota.specs.Quota.{quoted, QuotaValues, values_of, values_for}
 use Rattle.quota.proofs.Answers.{given_exactly}
 use Rattle.quota.proofs.Checks.{values_are}
@@ -58,7 +56,7 @@ pub record WithinBoard (Rule : List ℕ → Type 0) (T : Table) (K M : ℕ) (r :
 
 -- By value: a beginning accepts, and after every history of calls from its record the board is kept.
 pub record Served (Rule : List ℕ → Type 0) (s : List ℕ) (K M : ℕ) (x : Begun) : Type 0 where
-  pub accepted : x.answer ≡ started
+  pub accepted : x.answer ≡ Ok tt
   pub within : {calls : List Call} {answers : List Answer} {row : List ℕ} {r : Run} → History x.run calls answers row r → WithinBoard Rule (table_of s) K M r row
 
 -- From C: the same of a beginning in lent memory, with any buffer, an empty one too, and of the record that stands in the memory left; the table as given runs.
@@ -68,7 +66,7 @@ pub record LentServed (Rule : List ℕ → Type 0) (s : List ℕ) (K M : ℕ) (a
   pub within : {l : List LentCall} {answers : List Returned} {row : List ℕ} {N : Memory} → LentHistory s a.memory l answers row N → WithinBoard Rule (table_of s) K M (run_in s N) row
 
 -- with a quota in the range a beginning on lent memory is accepted, whatever the room
-filling_begins : (s : List ℕ) (p K : ℕ) → Begins s p K → (begin_filling s p K).found ≡ Nothing
+filling_begins : (s : List ℕ) (p K : ℕ) → Begins s p K → (begin_filling s p K).found ≡ Ok tt
 unfolding begin_filling
 filling_begins s p K g = g.found
 
@@ -86,7 +84,7 @@ module _ (s : List ℕ) (p K M : ℕ) (g : Begins s p K) (Rule : List ℕ → Ty
 
   served : {x : Begun} → by_value.BeginSays s p K x → Served Rule s K M x
   served {x} h =
-      let a : x ≡ record { answer = started; run = start_run s p K } = by_value.begin_is h ∙ g.begun in
+      let a : x ≡ record { answer = Ok tt; run = start_run s p K } = by_value.begin_is h ∙ g.begun in
       record {
         accepted = ap (λ (z : Begun). z.answer) a;
         within = λ {calls} {answers} {row} {r} t. let d = history_is t in same calls (ap (λ (z : Begun). z.run) a) d.record_is d.row_is;
@@ -108,14 +106,14 @@ module _ (s : List ℕ) (p K M : ℕ) (g : Begins s p K) (Rule : List ℕ → Ty
 -- ---- the largest quota (N1)
 
 -- N1 looks at K from the largest alloc up: nothing is above such a K, and the table as given runs
-pub quota_begins : (s : List ℕ) (p b M K : ℕ) → quoted s p b M ≡ Given K → Begins s p K
+pub quota_begins : (s : List ℕ) (p b M K : ℕ) → quoted s p b M ≡ Ok K → Begins s p K
 quota_begins s p b M K e =
     let g = (given_exactly s p b M K).0 e in
     range_begins s p K g.0.rules g.0.some_worker g.0.few_workers g.1.in_range
 
 -- for every quota that is given and every list of calls from the record of the beginning with it
-pub quota_serves : (s : List ℕ) (p b M K : ℕ) → quoted s p b M ≡ Given K
-    → (begin s p K ≡ record { answer = started; run = start_run s p K })
+pub quota_serves : (s : List ℕ) (p b M K : ℕ) → quoted s p b M ≡ Ok K
+    → (begin s p K ≡ record { answer = Ok tt; run = start_run s p K })
     × ((calls : List Call) → WithinBoard (Keeps b) (table_of s) K M (after_calls calls (start_run s p K)) (row_of_calls calls (start_run s p K)))
 quota_serves s p b M K e =
     let g = (given_exactly s p b M K).0 e in
@@ -132,28 +130,28 @@ quota_serves s p b M K e =
     )
 
 -- `quota::largest_quota(bytes, p, b, M)` answered q
-pub record QuotaSays (s : List ℕ) (p b M : ℕ) (q : Quoted) : Type 0 where
+pub record QuotaSays (s : List ℕ) (p b M : ℕ) (q : Result ℕ Refusal) : Type 0 where
   pub lifetimes : Lfts 1
   pub bytes : Bor (List ℕ)
   pub lent : bytes.now ≡ s
   pub exit : AtExit (ended_of 1 quota_kinds.ps quota_kinds.r) lifetimes
   pub promised : quota_promise.Learnt lifetimes (bytes, (p, (b, (M, tt)))) q exit
 
-pub quota_is : {s : List ℕ} {p b M : ℕ} {q : Quoted} → QuotaSays s p b M q → q ≡ quoted s p b M
+pub quota_is : {s : List ℕ} {p b M : ℕ} {q : Result ℕ Refusal} → QuotaSays s p b M q → q ≡ quoted s p b M
 quota_is {s} {p} {b} {M} h = h.promised.0 ∙ ap (λ (l : List ℕ). quoted l p b M) h.lent
 
 -- `wivakkol_quota` puts the quota of `values_for` into its row, 0 where none is given
-pub row_given : (s : List ℕ) (p b M K : ℕ) → (values_for s p b M).quota ≡ K → 1 ≤ K → quoted s p b M ≡ Given K
+pub row_given : (s : List ℕ) (p b M K : ℕ) → (values_for s p b M).quota ≡ K → 1 ≤ K → quoted s p b M ≡ Ok K
 row_given s p b M K e h = go (quoted s p b M) (values_are s p b M {x = quoted s p b M} refl).1
   where
-    go : (q : Quoted) → values_of q ≡ values_for s p b M → q ≡ Given K
-    go (Given L) d = ap Given (ap (λ (v : QuotaValues). v.quota) d ∙ e)
-    go (Refused r) d = absurd (omega (arith, h, e, ap (λ (v : QuotaValues). v.quota) d))
+    go : (q : Result ℕ Refusal) → values_of q ≡ values_for s p b M → q ≡ Ok K
+    go (Ok L) d = ap Ok (ap (λ (v : QuotaValues). v.quota) d ∙ e)
+    go (Err r) d = absurd (omega (arith, h, e, ap (λ (v : QuotaValues). v.quota) d))
 
-pub code_quota_serves : {s : List ℕ} {p : ℕ} (b : ℕ) {M K : ℕ} → quoted s p b M ≡ Given K → {x : Begun} → by_value.BeginSays s p K x → Served (Keeps b) s K M x
+pub code_quota_serves : {s : List ℕ} {p : ℕ} (b : ℕ) {M K : ℕ} → quoted s p b M ≡ Ok K → {x : Begun} → by_value.BeginSays s p K x → Served (Keeps b) s K M x
 code_quota_serves {s} {p} b {M} {K} e h = served s p K M (quota_begins s p b M K e) (Keeps b) (quota_serves s p b M K e).1 h
 
-pub lent_code_quota_serves : {s : List ℕ} {p : ℕ} (b : ℕ) {M K : ℕ} → quoted s p b M ≡ Given K → {out filled : List ℕ} {a : Left} → from_c.BeginSays s p K out a filled → LentServed (Keeps b) s K M a filled
+pub lent_code_quota_serves : {s : List ℕ} {p : ℕ} (b : ℕ) {M K : ℕ} → quoted s p b M ≡ Ok K → {out filled : List ℕ} {a : Left} → from_c.BeginSays s p K out a filled → LentServed (Keeps b) s K M a filled
 lent_code_quota_serves {s} {p} b {M} {K} e h = lent_served s p K M (quota_begins s p b M K e) (Keeps b) (quota_serves s p b M K e).1 h
 
 -- ---- the quota that fits: of b at least 1 rows that keep the rule with b are asked for, of b 0 nothing

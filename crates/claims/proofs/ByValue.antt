@@ -2,6 +2,7 @@
 -- their own `ensures`, as the check reads it (`Learnt`), of the arguments and the answer. `history_is`: the record, the answers and the row of turns are those of the definitions.
 -- `history_exists`: every list of calls has one. `code_limit` and `code_threads`: and so the memory limit and the limit on the threads in the list (crates/bounds/proofs, Limit and
 -- ThreadLimit) hold of them, with the filled-out table (N6); `code_turns` and `code_finishes`: and how many turns there are at most (N8, Most).
+use Rattle.std.specs.Prelude.{Ok}
 use mathlib.Core.Path.{◌≡◌, refl, sym, ap, ap₂, subst, ◌∙◌}
 use Prim.Native.Nat.{ℕ, ◌*◌, ◌%◌, ◌≤◌}
 use mathlib.Core.List.{List, [], ◌∷◌, ◌++◌}
@@ -13,7 +14,6 @@ use borrow.Fn.Kinds.{ended_of}
 use Rattle.table.specs.Format.{table_of}
 use Rattle.schedule.specs.declared.Run.{Run}
 use Rattle.schedule.specs.declared.Begun.{Begun}
-use Rattle.schedule.specs.declared.Beginning.TheVariants.{Begun as started}
 use Rattle.schedule.specs.declared.Turned.{Turned}
 use Rattle.schedule.specs.declared.Ran.{Ran}
 use Rattle.schedule.specs.declared.Report.TheVariants.{Finished}
@@ -166,29 +166,29 @@ history_exists r (c ∷ calls) = next (called r c) (history_exists (after_call c
 -- ---- the limits
 
 -- what holds of the record and of the row that the definitions give, from the beginning on, holds of a history's
-pub history_holds : {s : List ℕ} {p K : ℕ} {b : Begun} → BeginSays s p K b → b.answer ≡ started
+pub history_holds : {s : List ℕ} {p K : ℕ} {b : Begun} → BeginSays s p K b → b.answer ≡ Ok tt
     → {calls : List Call} {answers : List Answer} {row : List ℕ} {r : Run} → History b.run calls answers row r
-    → (P : Run → List ℕ → Type 0) → (begin s p K ≡ record { answer = started; run = b.run } → P (after_calls calls b.run) (row_of_calls calls b.run)) → P r row
+    → (P : Run → List ℕ → Type 0) → (begin s p K ≡ record { answer = Ok tt; run = b.run } → P (after_calls calls b.run) (row_of_calls calls b.run)) → P r row
 history_holds {s} {p} {K} {b} h e {calls} {answers} {row} {r} t P given =
     let d = history_is t in
-    let f : begin s p K ≡ record { answer = started; run = b.run } = sym (begin_is h) ∙ (λ i. record { answer = e i; run = b.run }) in
+    let f : begin s p K ≡ record { answer = Ok tt; run = b.run } = sym (begin_is h) ∙ (λ i. record { answer = e i; run = b.run }) in
     subst (λ (x : Run). P x row) (sym d.record_is) (subst (λ (x : List ℕ). P (after_calls calls b.run) x) (sym d.row_is) (given f))
 
 -- Demand 3. Beginning accepted the bytes, p and K; the calls of any history followed. Of the record that they left and of the row of their turns the memory limit holds, for every b at
 -- least 1.
-pub code_limit : {s : List ℕ} {p K : ℕ} {b : Begun} → BeginSays s p K b → b.answer ≡ started
+pub code_limit : {s : List ℕ} {p K : ℕ} {b : Begun} → BeginSays s p K b → b.answer ≡ Ok tt
     → {calls : List Call} {answers : List Answer} {row : List ℕ} {r : Run} → History b.run calls answers row r
     → (most : ℕ) → 1 ≤ most → MemoryLimit (table_of (filled_out s K)) p K most r row
 code_limit {s} {p} {K} {b} h e {calls} t most g = history_holds h e t (MemoryLimit (table_of (filled_out s K)) p K most) (λ f. memory_limit s p K b.run f most g calls)
 
 -- N2: and so does the limit on the threads in the list
-pub code_threads : {s : List ℕ} {p K : ℕ} {b : Begun} → BeginSays s p K b → b.answer ≡ started
+pub code_threads : {s : List ℕ} {p K : ℕ} {b : Begun} → BeginSays s p K b → b.answer ≡ Ok tt
     → {calls : List Call} {answers : List Answer} {row : List ℕ} {r : Run} → History b.run calls answers row r
     → (most : ℕ) → 1 ≤ most → ThreadLimit (table_of (filled_out s K)) p K most r row
 code_threads {s} {p} {K} {b} h e {calls} t most g = history_holds h e t (ThreadLimit (table_of (filled_out s K)) p K most) (λ f. thread_limit_lem s p K b.run f most g calls)
 
 -- N8: the turns of the row that aren't idle are at most m + A + J of the table as run
-pub code_turns : {s : List ℕ} {p K : ℕ} {b : Begun} → BeginSays s p K b → b.answer ≡ started
+pub code_turns : {s : List ℕ} {p K : ℕ} {b : Begun} → BeginSays s p K b → b.answer ≡ Ok tt
     → {calls : List Call} {answers : List Answer} {row : List ℕ} {r : Run} → History b.run calls answers row r
     → not_idle (replies (table_of (filled_out s K)) K (start_state (table_of (filled_out s K))) row) ≤ turns_of (table_of (filled_out s K))
 code_turns {s} {p} {K} {b} h e {calls} t =
@@ -196,9 +196,9 @@ code_turns {s} {p} {K} {b} h e {calls} t =
     (λ f. turns_most s p K b.run f calls)
 
 -- and "from the beginning L = p × (m + A + J) turns in rounds always reply finished"
-pub code_finishes : {s : List ℕ} {p K : ℕ} {b : Begun} → BeginSays s p K b → b.answer ≡ started → {d : Ran} → RoundsSays b.run (p * turns_of (table_of (filled_out s K))) d
+pub code_finishes : {s : List ℕ} {p K : ℕ} {b : Begun} → BeginSays s p K b → b.answer ≡ Ok tt → {d : Ran} → RoundsSays b.run (p * turns_of (table_of (filled_out s K))) d
     → (k : ℕ) × (d.report ≡ Finished k)
 code_finishes {s} {p} {K} {b} h e {d} k =
-    let f : begin s p K ≡ record { answer = started; run = b.run } = sym (begin_is h) ∙ (λ i. record { answer = e i; run = b.run }) in
+    let f : begin s p K ≡ record { answer = Ok tt; run = b.run } = sym (begin_is h) ∙ (λ i. record { answer = e i; run = b.run }) in
     let (n, q) = rounds_finish s p K b.run f in
     (n, ap (λ (x : Ran). x.report) (rounds_is k) ∙ q)

@@ -1,4 +1,6 @@
 -- No call changes a run's table.
+use Rattle.std.specs.Prelude.{Err, Ok, Result, ⊤}
+use Rattle.table.specs.declared.Refusal.{Refusal}
 use mathlib.Core.Path.{◌≡◌, refl, ◌∙◌}
 use Prim.Native.Nat.{ℕ, zero, suc, ◌-◌, ◌^◌, ◌%◌}
 use mathlib.Core.List.{List, [], ◌∷◌}
@@ -7,8 +9,6 @@ use lib.ListN.{length, get_or}
 use lib.Dec.{eqb}
 use Rattle.table.specs.Sum.{pick}
 use Rattle.table.specs.Pass.{refusal, try_at}
-use Rattle.table.specs.declared.Found.{Found}
-use Rattle.table.specs.declared.Found.TheVariants.{Nothing, At}
 use Rattle.schedule.specs.declared.Run.{Run}
 use Rattle.schedule.specs.declared.Report.TheVariants.{Finished, Spent, Refused}
 use Rattle.schedule.specs.declared.Ran.{Ran}
@@ -36,9 +36,9 @@ call_bytes : (c : Call) (r : Run) → bytes_of (after_call c r) ≡ bytes_of r
 unfolding after_call turned list_run rounds_run
 call_bytes (turn w) r = go (try_at (turn_checks r w) 0)
   where
-    go : (f : Found) → bytes_of (turned_as f r (passed_in r w) (step_run r w)).run ≡ bytes_of r
-    go Nothing = refl
-    go (At x) = refl
+    go : (f : Result ⊤ Refusal) → bytes_of (turned_as f r (passed_in r w) (step_run r w)).run ≡ bytes_of r
+    go (Ok _) = refl
+    go (Err x) = refl
 call_bytes (over_list l) r = go (unsound r)
   where
     go : (a : Bool) → bytes_of (pick a (ran (Refused 0 (refusal 32 0)) r) (drive (λ i. get_or l i 0) (length l) 0 r)).run ≡ bytes_of r

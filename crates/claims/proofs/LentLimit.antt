@@ -1,4 +1,6 @@
 -- A beginning in lent memory stands, every list of calls on it is that list on the record, answers included, and so the memory limit and the limit on the threads in the list hold of it.
+use Rattle.std.specs.Prelude.{Err, Ok, Result, ⊤}
+use Rattle.table.specs.declared.Refusal.{Refusal}
 use mathlib.Core.Path.{◌≡◌, refl, sym, ap, ap₂, subst, ◌∙◌}
 use Prim.Native.Nat.{ℕ, ◌%◌, ◌≤◌}
 use native.Mathlib.Omega.{arith}
@@ -13,11 +15,8 @@ use Rattle.table.specs.Sum.{pick}
 use Rattle.table.specs.Format.{table_of}
 use Rattle.table.proofs.Tests.{no_way}
 use Rattle.table.specs.Pass.{try_at}
-use Rattle.table.specs.declared.Found.{Found}
-use Rattle.table.specs.declared.Found.TheVariants.{Nothing, At}
 use Rattle.schedule.specs.declared.Run.{Run}
 use Rattle.schedule.specs.declared.Begun.{Begun}
-use Rattle.schedule.specs.declared.Beginning.TheVariants.{Begun as started}
 use Rattle.schedule.specs.Links.{no_thread, walk, LinkedAs}
 use Rattle.schedule.specs.Actives.{actives}
 use Rattle.schedule.specs.Record.{max_workers}
@@ -75,10 +74,10 @@ unfolding workers_from
 start_run_lem s p K = is_start s p K refl refl
 
 -- no check has the number 0, and neither has too little room
-numbered : (f : Found) (short : Bool) (bytes : ℕ) (M : Memory) → Numbered f → (lent_begun_as f short bytes M).number ≡ 0 → (f ≡ Nothing) × (short ≡ false)
-numbered Nothing true bytes M h e = absurd (omega (arith, e))
-numbered Nothing false bytes M h e = (refl, refl)
-numbered (At x) short bytes M h e = let z : At x ≡ Nothing = h e in no_way (cc)
+numbered : (f : Result ⊤ Refusal) (short : Bool) (bytes : ℕ) (M : Memory) → Numbered f → (lent_begun_as f short bytes M).number ≡ 0 → (f ≡ Ok tt) × (short ≡ false)
+numbered (Ok _) true bytes M h e = absurd (omega (arith, e))
+numbered (Ok _) false bytes M h e = (refl, refl)
+numbered (Err x) short bytes M h e = let z : Err x ≡ (Ok tt) = h e in no_way (cc)
 
 module _ (s : List ℕ) (p K room : ℕ) where
   abbrev F : List ℕ
@@ -88,11 +87,11 @@ module _ (s : List ℕ) (p K room : ℕ) where
     abbrev r : Filling
     r = begin_filling s p K
 
-    none : (r.found ≡ Nothing) × (ltb room r.bytes ≡ false)
+    none : (r.found ≡ Ok tt) × (ltb room r.bytes ≡ false)
     unfolding lent_begin begin_filling
     none = numbered r.found (ltb room r.bytes) r.bytes (start_memory F p K) (begin_numbered s p K) e
 
-    pub found_none : begin_found s p K ≡ Nothing
+    pub found_none : begin_found s p K ≡ Ok tt
     unfolding begin_filling
     found_none = none.0
 
@@ -100,7 +99,7 @@ module _ (s : List ℕ) (p K room : ℕ) where
     room_so = ltb-false room r.bytes none.1
 
     -- the run is begun, and its memory is the start's
-    pub begun_so : begin s p K ≡ record { answer = started; run = run_in F (start_memory F p K) }
+    pub begun_so : begin s p K ≡ record { answer = Ok tt; run = run_in F (start_memory F p K) }
     unfolding begin
     begun_so = rw (found_none, start_run_lem F p K)
 
@@ -135,9 +134,9 @@ module _ (s : List ℕ) (p K room : ℕ) where
 -- ---- lists of calls
 
 -- a turn was taken where it was not refused
-found_row : (f : Found) → Numbered f → (r : Run) (k : ℕ) (d : Stepped) (w : ℕ) → pick (eqb (found_number f) 0) (w ∷ []) [] ≡ turn_row (turned_as f r k d).answer w
-found_row Nothing h r k d w = refl
-found_row (At x) h r k d w = rw (ne_eqb x.number 0 (λ e. let z : At x ≡ Nothing = h e in no_way (cc)))
+found_row : (f : Result ⊤ Refusal) → Numbered f → (r : Run) (k : ℕ) (d : Stepped) (w : ℕ) → pick (eqb (found_number f) 0) (w ∷ []) [] ≡ turn_row (turned_as f r k d).answer w
+found_row (Ok _) h r k d w = refl
+found_row (Err x) h r k d w = rw (ne_eqb x.number 0 (λ e. let z : Err x ≡ (Ok tt) = h e in no_way (cc)))
 
 turned_row : (r : Run) (w : ℕ) → pick (eqb (turn_values r w).number 0) (w ∷ []) [] ≡ turn_row (turned r w).answer w
 unfolding turned turn_values
@@ -255,11 +254,11 @@ module _ (s : List ℕ) (p K room : ℕ) (e : (lent_begin s p K room).number ≡
   pub begun_stands : Stands (filled_out s K) (lent_begin s p K room).memory
   begun_stands = subst (λ (M : Memory). Stands (filled_out s K) M) (sym (memory_so s p K room e)) (start_stands s p K room e)
 
-  pub begun_there : begin s p K ≡ record { answer = started; run = run_in (filled_out s K) (lent_begin s p K room).memory }
-  begun_there = begun_so s p K room e ∙ ap (λ (M : Memory). record { answer = started; run = run_in (filled_out s K) M }) (sym (memory_so s p K room e))
+  pub begun_there : begin s p K ≡ record { answer = Ok tt; run = run_in (filled_out s K) (lent_begin s p K room).memory }
+  begun_there = begun_so s p K room e ∙ ap (λ (M : Memory). record { answer = Ok tt; run = run_in (filled_out s K) M }) (sym (memory_so s p K room e))
 
-  pub begun_record : begin s p K ≡ record { answer = started; run = (begin s p K).run }
-  begun_record = begun_there ∙ (λ i. record { answer = started; run = sym (ap (λ (x : Begun). x.run) begun_there) i })
+  pub begun_record : begin s p K ≡ record { answer = Ok tt; run = (begin s p K).run }
+  begun_record = begun_there ∙ (λ i. record { answer = Ok tt; run = sym (ap (λ (x : Begun). x.run) begun_there) i })
 
   module _ (l : List LentCall) where
     abbrev left : Run

@@ -1,16 +1,15 @@
 -- Marks (N11): the limits on memory, on threads and on turns over every list of calls with marks in it from a beginning, with the turns that led to the mark and those since.
+use Rattle.std.specs.Prelude.{Err, Ok, Result, ⊤}
+use Rattle.table.specs.declared.Refusal.{Refusal}
 use mathlib.Core.Path.{◌≡◌, refl, sym, ap, ap₂, subst, ◌∙◌}
 use Prim.Native.Nat.{ℕ, ◌≤◌}
 use mathlib.Core.List.{List, [], ◌∷◌}
 use Rattle.table.specs.Format.{Table, table_of}
 use Rattle.table.specs.Pass.{try_at}
-use Rattle.table.specs.declared.Found.{Found}
-use Rattle.table.specs.declared.Found.TheVariants.{Nothing, At}
 use Rattle.order.specs.Turns.{turns_of}
 use Rattle.filling.specs.Filled.{filled_out}
 use Rattle.schedule.specs.declared.Run.{Run}
 use Rattle.schedule.specs.declared.Begun.{Begun}
-use Rattle.schedule.specs.declared.Beginning.TheVariants.{Begun as started}
 use Rattle.schedule.specs.Begin.{begin, start_state}
 use Rattle.schedule.specs.Calls.{Call, after_calls, row_of_calls, Answer}
 use Rattle.schedule.specs.Memory.{replies}
@@ -29,7 +28,7 @@ use Rattle.claims.proofs.ByValue.{BeginSays, Called, begin_is}
 
 -- ---- on the definitions
 
-module _ (s : List ℕ) (p K : ℕ) (r : Run) (e : begin s p K ≡ record { answer = started; run = r }) (cs : List MarkCall) where
+module _ (s : List ℕ) (p K : ℕ) (r : Run) (e : begin s p K ≡ record { answer = Ok tt; run = r }) (cs : List MarkCall) where
   abbrev T : Table
   T = table_of (filled_out s K)
 
@@ -115,9 +114,9 @@ call_is {m} (by_set {i} h) =
       row_is = refl;
     }
   where
-    set_run : (f : Found) → marked m.run (set_as f i m).marks ≡ set_as f i m
-    set_run Nothing = refl
-    set_run (At x) = refl
+    set_run : (f : Result ⊤ Refusal) → marked m.run (set_as f i m).marks ≡ set_as f i m
+    set_run (Ok _) = refl
+    set_run (Err x) = refl
 call_is {m} (by_back {i} h) =
     record {
       left_is = ap (λ (q : Run). marked q m.marks) h.run ∙ back_marks (try_at (back_checks m i) 0);
@@ -126,9 +125,9 @@ call_is {m} (by_back {i} h) =
       row_is = refl;
     }
   where
-    back_marks : (f : Found) → marked (back_as f i m).run m.marks ≡ back_as f i m
-    back_marks Nothing = refl
-    back_marks (At x) = refl
+    back_marks : (f : Result ⊤ Refusal) → marked (back_as f i m).run m.marks ≡ back_as f i m
+    back_marks (Ok _) = refl
+    back_marks (Err x) = refl
 
 pub mark_history_is : {m : Marked} {w : Led ℕ} {cs : List MarkCall} {xs : List MarkAnswer} {m' : Marked} {w' : Led ℕ} → MarkHistory m w cs xs m' w' → MarkDefined m w cs xs m' w'
 unfolding after_marks mark_answers_of turns_to
@@ -148,14 +147,14 @@ unfolding after_mark
 called m (moving c) = by_call (by_value.called m.run c)
 called m (setting i) = go (try_at (set_checks m i) 0) (by_set (record { values = refl; marks = refl }))
   where
-    go : (f : Found) → MarkCalled m (setting i) (values (set_values m i)) [] (marked m.run (set_as f i m).marks) → MarkCalled m (setting i) (values (set_values m i)) [] (set_as f i m)
-    go Nothing h = h
-    go (At x) h = h
+    go : (f : Result ⊤ Refusal) → MarkCalled m (setting i) (values (set_values m i)) [] (marked m.run (set_as f i m).marks) → MarkCalled m (setting i) (values (set_values m i)) [] (set_as f i m)
+    go (Ok _) h = h
+    go (Err x) h = h
 called m (going i) = go (try_at (back_checks m i) 0) (by_back (record { values = refl; run = refl }))
   where
-    go : (f : Found) → MarkCalled m (going i) (values (back_values m i)) [] (marked (back_as f i m).run m.marks) → MarkCalled m (going i) (values (back_values m i)) [] (back_as f i m)
-    go Nothing h = h
-    go (At x) h = h
+    go : (f : Result ⊤ Refusal) → MarkCalled m (going i) (values (back_values m i)) [] (marked (back_as f i m).run m.marks) → MarkCalled m (going i) (values (back_values m i)) [] (back_as f i m)
+    go (Ok _) h = h
+    go (Err x) h = h
 
 number_answered : (c : MarkCall) (m : Marked) → number_in (mark_answer_of c m) ≡ number_of c m
 number_answered (moving c) m = refl
@@ -173,9 +172,9 @@ mark_history_exists m w (c ∷ cs) =
 
 -- Beginning accepted the bytes, p and K; no mark was set; the calls of any history with marks followed. Both limits and the count of turns hold of the run that they left, with the turns that
 -- led to it as the answers have it.
-module _ {s : List ℕ} {p K : ℕ} {b : Begun} (h : BeginSays s p K b) (e : b.answer ≡ started) {cs : List MarkCall} {xs : List MarkAnswer} {m : Marked} {w : Led ℕ}
+module _ {s : List ℕ} {p K : ℕ} {b : Begun} (h : BeginSays s p K b) (e : b.answer ≡ Ok tt) {cs : List MarkCall} {xs : List MarkAnswer} {m : Marked} {w : Led ℕ}
     (t : MarkHistory (unmarked b.run) nowhere cs xs m w) where
-  begun : begin s p K ≡ record { answer = started; run = b.run }
+  begun : begin s p K ≡ record { answer = Ok tt; run = b.run }
   begun = sym (begin_is h) ∙ (λ i. record { answer = e i; run = b.run })
 
   history_holds : (P : Run → List ℕ → Type 0) → P (after_marks cs (unmarked b.run)).run (row_of_marks cs b.run) → P m.run w.here

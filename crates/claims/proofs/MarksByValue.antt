@@ -1,6 +1,8 @@
 -- Marks by value (N11): the run goes by value, and the marks are lent. A history is a list of calls, each on the run and the lent marks that the last one left, of which nothing is known
 -- but what the calls promise. `code_mark_history_exists`, `code_begun_history_exists`: every list of calls has one. `history_is_promised`: from a run on, with no mark set, it is a history
 -- of runs with marks (Marks). `code_marked_limit`, `-threads` and `-turns`: and so the limits hold.
+use Rattle.std.specs.Prelude.{Err, Ok, Result, ⊤}
+use Rattle.table.specs.declared.Refusal.{Refusal}
 use mathlib.Core.Path.{◌≡◌, refl, sym, ap, subst, ◌∙◌}
 use Prim.Native.Nat.{ℕ, ◌≤◌}
 use mathlib.Core.List.{List, [], ◌∷◌}
@@ -15,13 +17,10 @@ use borrow.Fn.Kinds.{ended_of}
 use Rattle.table.specs.Sum.{pick}
 use Rattle.table.specs.Format.{Table, table_of}
 use Rattle.table.specs.Pass.{refusal, try_at}
-use Rattle.table.specs.declared.Found.{Found}
-use Rattle.table.specs.declared.Found.TheVariants.{Nothing, At}
 use Rattle.order.specs.Turns.{turns_of}
 use Rattle.filling.specs.Filled.{filled_out}
 use Rattle.schedule.specs.declared.Run.{Run}
 use Rattle.schedule.specs.declared.Begun.{Begun}
-use Rattle.schedule.specs.declared.Beginning.TheVariants.{Begun as started}
 use Rattle.schedule.specs.Begin.{begin, start_state}
 use Rattle.schedule.specs.Record.{bytes_of}
 use Rattle.schedule.specs.Memory.{replies}
@@ -39,8 +38,6 @@ use Rattle.marks.proofs.Marked.{Follows, mark_follows, unmarked_follows}
 use Rattle.wivakkol_marks.specs.LentMarks.{Marks, marks_of, lent_mark}
 use Rattle.wivakkol_marks.specs.MarkedIn.{marks_in}
 use Rattle.wivakkol_marks.proofs.MarkRefines.{unmark_refines}
-use Rattle.marking.specs.declared.Marking.{Marking}
-use Rattle.marking.specs.declared.Marking.TheVariants.{Done, Refused}
 use Rattle.marking.specs.declared.Gone.{Gone}
 use Rattle.marking.specs.Marking.{marking_values, is_done, marked_by, marks_after}
 use Rattle.marking.proofs.Values.{after_marks_lem}
@@ -100,7 +97,7 @@ abbrev marks_lent : MarkRefs → Marks
 marks_lent refs = marks_of refs.set.now refs.mark_bytes.now refs.mark_words.now refs.mark_numbers.now refs.mark_sums.now
 
 -- `marking::set_mark(r, i, ..)`, lent marks K, answered x and left the marks K'
-pub record SetLearnt (r : Run) (i : ℕ) (K : Marks) (x : Marking) (K' : Marks) : Type 0 where
+pub record SetLearnt (r : Run) (i : ℕ) (K : Marks) (x : Result ⊤ Refusal) (K' : Marks) : Type 0 where
   pub lifetimes : Lfts 19
   pub refs : MarkRefs
   pub exit : AtExit (ended_of 19 set_kinds.ps set_kinds.r) lifetimes
@@ -116,7 +113,7 @@ pub record BackLearnt (r : Run) (i : ℕ) (K : Marks) (g : Gone) : Type 0 where
   pub lent_marks : marks_lent refs ≡ K
   pub promised : back_promise.Learnt lifetimes (r, (i, (as_bor refs.set, (as_bor refs.mark_bytes, (as_bor refs.mark_words, (as_bor refs.mark_numbers, (as_bor refs.mark_sums, (refs.spare_bytes, (refs.spare_words, (refs.spare_numbers, (refs.spare_sums, (refs.next, (refs.status, (refs.amounts, (refs.left, (refs.right, (refs.rises, (refs.falls, (refs.forks, (refs.seen, (refs.list, tt))))))))))))))))))))) g exit
 
-set_says : {r : Run} {i : ℕ} {K : Marks} {x : Marking} {K' : Marks} → SetLearnt r i K x K' → SetSays r i K (marking_values x) K'
+set_says : {r : Run} {i : ℕ} {K : Marks} {x : Result ⊤ Refusal} {K' : Marks} → SetLearnt r i K x K' → SetSays r i K (marking_values x) K'
 set_says {r} {i} {K} h =
     record {
       values = h.promised.0 ∙ ap (λ (k : Marks). set_values (marked r (marks_in (bytes_of r) k)) i) h.lent_marks;
@@ -137,7 +134,7 @@ back_says {r} {i} {K} h =
 -- one call on a run and the lent marks. A call that moves the run is not lent the marks; setting a mark takes the run as it is, and going back only reads the marks.
 pub data MarkCalled (r : Run) (K : Marks) : MarkCall → MarkAnswer → List ℕ → Run → Marks → Type 0 where
   by_call : {c : Call} {x : Answer} {row : List ℕ} {r' : Run} → Called r c x row r' → MarkCalled r K (moving c) (moved x) row r' K
-  by_set : {i : ℕ} {x : Marking} {K' : Marks} → SetLearnt r i K x K' → MarkCalled r K (setting i) (values (marking_values x)) [] r K'
+  by_set : {i : ℕ} {x : Result ⊤ Refusal} {K' : Marks} → SetLearnt r i K x K' → MarkCalled r K (setting i) (values (marking_values x)) [] r K'
   by_back : {i : ℕ} {g : Gone} → BackLearnt r i K g → MarkCalled r K (going i) (values (marking_values g.answer)) [] g.run K
 
 -- calls one after the other: their answers, the turns that led to the run and to its marks, as the answers have it, and the run and the marks that they leave
@@ -148,21 +145,21 @@ pub data MarkHistory : Run → Marks → Led ℕ → List MarkCall → List Mark
 
 -- ---- every list of calls has a history: the answers
 
-marking_of : Found → Marking
-marking_of Nothing = Done
-marking_of (At y) = Refused y
+marking_of : Result ⊤ Refusal → Result ⊤ Refusal
+marking_of (Ok _) = Ok tt
+marking_of (Err y) = Err y
 
-marking_values_lem : (f : Found) → marking_values (marking_of f) ≡ mark_values f
+marking_values_lem : (f : Result ⊤ Refusal) → marking_values (marking_of f) ≡ mark_values f
 unfolding marking_of
-marking_values_lem Nothing = refl
-marking_values_lem (At y) = refl
+marking_values_lem (Ok _) = refl
+marking_values_lem (Err y) = refl
 
 set_done : (m : Marked) (i : ℕ) → is_done (marking_of (try_at (set_checks m i) 0)) ≡ eqb (marking_values (marking_of (try_at (set_checks m i) 0))).number 0
 unfolding try_at marking_of
 set_done m i = go (bad_marked m) (not (ltb i 8))
   where
     go : (a b : Bool)
-        → is_done (marking_of (pick a (At (refusal 32 0)) (pick b (At (refusal 45 0)) Nothing))) ≡ eqb (marking_values (marking_of (pick a (At (refusal 32 0)) (pick b (At (refusal 45 0)) Nothing)))).number 0
+        → is_done (marking_of (pick a (Err (refusal 32 0)) (pick b (Err (refusal 45 0)) (Ok tt)))) ≡ eqb (marking_values (marking_of (pick a (Err (refusal 32 0)) (pick b (Err (refusal 45 0)) (Ok tt))))).number 0
     go true b = refl
     go false true = refl
     go false false = refl
@@ -172,8 +169,8 @@ unfolding try_at marking_of
 back_done m i = go (bad_marked m) (not (ltb i 8)) (not (is_set (mark_of m i)))
   where
     go : (a b c : Bool)
-        → is_done (marking_of (pick a (At (refusal 32 0)) (pick b (At (refusal 45 0)) (pick c (At (refusal 46 0)) Nothing))))
-        ≡ eqb (marking_values (marking_of (pick a (At (refusal 32 0)) (pick b (At (refusal 45 0)) (pick c (At (refusal 46 0)) Nothing))))).number 0
+        → is_done (marking_of (pick a (Err (refusal 32 0)) (pick b (Err (refusal 45 0)) (pick c (Err (refusal 46 0)) (Ok tt)))))
+        ≡ eqb (marking_values (marking_of (pick a (Err (refusal 32 0)) (pick b (Err (refusal 45 0)) (pick c (Err (refusal 46 0)) (Ok tt)))))).number 0
     go true b c = refl
     go false true c = refl
     go false false true = refl
@@ -341,7 +338,7 @@ module _ (start : Run) where
 
 -- Beginning accepted the bytes, p and K; the marks were cleared ("none set at the beginning"); the calls of any history with marks followed. Both limits and the count of turns hold of the run
 -- that they left, with the turns that led to it as the answers have it.
-module _ {s : List ℕ} {p K : ℕ} {b : Begun} (h : BeginSays s p K b) (e : b.answer ≡ started) {marks : Marks} (u : UnmarkSays marks) {cs : List MarkCall} {xs : List MarkAnswer} {r : Run}
+module _ {s : List ℕ} {p K : ℕ} {b : Begun} (h : BeginSays s p K b) (e : b.answer ≡ Ok tt) {marks : Marks} (u : UnmarkSays marks) {cs : List MarkCall} {xs : List MarkAnswer} {r : Run}
     {left : Marks} {w : Led ℕ} (t : MarkHistory b.run marks nowhere cs xs r left w) where
   abbrev T : Table
   T = table_of (filled_out s K)

@@ -1,6 +1,7 @@
 -- The peak of p workers, from the functions' own promises: over every list of calls from an accepted beginning, refused ones included, memory held and its highest are at most S_p of the
 -- table that runs, whatever K and whatever the order of the turns (`code_peak`, `lent_code_peak`); and at most the useful limit, for b at least 1 after each front part that keeps the rule with
 -- b, for b 0 after every one (`code_useful`, `lent_code_useful`); and at most C and CE, the sharper limits for every order of turns (`code_every_order`, `lent_code_every_order`).
+use Rattle.std.specs.Prelude.{Ok}
 use mathlib.Core.Path.{◌≡◌, sym, ap, subst, ◌∙◌}
 use Prim.Native.Nat.{ℕ}
 use mathlib.Core.List.{List}
@@ -8,7 +9,6 @@ use lib.ListN.{length}
 use Rattle.table.specs.Format.{table_of}
 use Rattle.schedule.specs.declared.Run.{Run}
 use Rattle.schedule.specs.declared.Begun.{Begun}
-use Rattle.schedule.specs.declared.Beginning.TheVariants.{Begun as started}
 use Rattle.schedule.specs.Begin.{begin}
 use Rattle.schedule.specs.Calls.{Call, after_calls, row_of_calls, Answer}
 use Rattle.filling.specs.Filled.{filled_out}
@@ -26,7 +26,7 @@ use Rattle.claims.proofs.FromC.{LentHistory, begun_code_refines}
 
 -- ---- by value
 
-module _ {s : List ℕ} {p K : ℕ} {b : Begun} (h : by_value.BeginSays s p K b) (e : b.answer ≡ started) {calls : List Call} {answers : List Answer} {row : List ℕ} {r : Run}
+module _ {s : List ℕ} {p K : ℕ} {b : Begun} (h : by_value.BeginSays s p K b) (e : b.answer ≡ Ok tt) {calls : List Call} {answers : List Answer} {row : List ℕ} {r : Run}
     (t : by_value.History b.run calls answers row r) where
   pub code_peak : PeakLimit (table_of (filled_out s K)) p K r row
   code_peak = by_value.history_holds h e t (PeakLimit (table_of (filled_out s K)) p K) (λ f. peak_limit s p K b.run f calls)
@@ -43,7 +43,7 @@ module _ {s : List ℕ} {p K : ℕ} {out filled : List ℕ} {a : Answered} (h : 
     {M : Memory} (t : LentHistory (table_that_runs s a filled) a.memory l answers row M) where
   -- what holds of the record and of the row that the definitions give, from the beginning on, holds of the record that stands in the memory left and of the turns taken
   lent_holds : (P : Run → List ℕ → Type 0)
-      → (begin s p K ≡ record { answer = started; run = (begin s p K).run } → P (after_calls (moves_of l) (begin s p K).run) (row_of_calls (moves_of l) (begin s p K).run))
+      → (begin s p K ≡ record { answer = Ok tt; run = (begin s p K).run } → P (after_calls (moves_of l) (begin s p K).run) (row_of_calls (moves_of l) (begin s p K).run))
       → P (run_in (table_that_runs s a filled) M) row
   lent_holds P given =
       let c = begun_code_refines h e t in

@@ -1,5 +1,6 @@
 -- One run in rounds from an accepted beginning, by value and from C, from the functions' own promises: rounds keep the rule with 1, so that no condition on the turns is left. Short runs in
 -- rounds one after the other break it (`short_rounds_break`, crates/bounds/proofs/Rounds).
+use Rattle.std.specs.Prelude.{Ok}
 use mathlib.Core.Path.{◌≡◌, sym, ap, subst, ◌∙◌}
 use Prim.Native.Nat.{ℕ, ◌*◌, ◌≤◌}
 use mathlib.Core.List.{List, [], ◌∷◌}
@@ -7,7 +8,6 @@ use lib.ListN.{length, get_or}
 use Rattle.table.specs.Format.{table_of}
 use Rattle.schedule.specs.declared.Run.{Run}
 use Rattle.schedule.specs.declared.Begun.{Begun}
-use Rattle.schedule.specs.declared.Beginning.TheVariants.{Begun as started}
 use Rattle.schedule.specs.declared.Ran.{Ran}
 use Rattle.schedule.specs.declared.Report.{Report}
 use Rattle.filling.specs.Filled.{filled_out}
@@ -18,7 +18,6 @@ use Rattle.schedule.proofs.Runs.Histories.{begin_started}
 use Rattle.order.specs.Turns.{turns_of}
 use Rattle.bounds.proofs.Most.{rounds_finish}
 use Rattle.bounds.proofs.RoundsLimit.{RoundsLimit, rounds_limit, rounds_row_keeps}
-use Rattle.quota.specs.declared.Quoted.TheVariants.{Given}
 use Rattle.quota.specs.Quota.{quoted}
 use Rattle.run_memory.specs.Memory.{Memory, Answer}
 use Rattle.run_memory.specs.Stands.{run_in}
@@ -34,10 +33,10 @@ use Rattle.claims.proofs.Board.{quota_begins, lent_begins, quota_serves}
 
 -- By value: `asyncdf::begin` accepted, and `asyncdf::run_rounds` followed on its record, with any limit. Memory held and its highest are at most S1 + K·(p − 1)·(D − 1), and the threads in the
 -- list at most N + (p − 1)·(D − 1), with D and N of the filled-out table.
-pub code_rounds_limit : {s : List ℕ} {p K : ℕ} {b : Begun} → by_value.BeginSays s p K b → b.answer ≡ started → {turns : ℕ} {d : Ran} → by_value.RoundsSays b.run turns d
+pub code_rounds_limit : {s : List ℕ} {p K : ℕ} {b : Begun} → by_value.BeginSays s p K b → b.answer ≡ Ok tt → {turns : ℕ} {d : Ran} → by_value.RoundsSays b.run turns d
     → RoundsLimit (table_of (filled_out s K)) p K d.run
 code_rounds_limit {s} {p} {K} {b} h e {turns} {d} k =
-    let f : begin s p K ≡ record { answer = started; run = b.run } = sym (by_value.begin_is h) ∙ (λ i. record { answer = e i; run = b.run }) in
+    let f : begin s p K ≡ record { answer = Ok tt; run = b.run } = sym (by_value.begin_is h) ∙ (λ i. record { answer = e i; run = b.run }) in
     subst (λ (x : Ran). RoundsLimit (table_of (filled_out s K)) p K x.run) (sym (by_value.rounds_is k)) (rounds_limit s p K b.run f turns)
 
 -- the record that one run in rounds from C leaves is that of document 01's run
@@ -77,7 +76,7 @@ pub record WithinMemory (M : ℕ) (r : Run) : Type 0 where
   pub highest : r.highest ≤ M
 
 -- The quota that is given for p, b 1 and M serves every run in rounds from its beginning.
-pub quota_serves_rounds : (s : List ℕ) (p M K : ℕ) → quoted s p 1 M ≡ Given K → (turns : ℕ) → WithinMemory M (rounds_run (start_run s p K) turns).run
+pub quota_serves_rounds : (s : List ℕ) (p M K : ℕ) → quoted s p 1 M ≡ Ok K → (turns : ℕ) → WithinMemory M (rounds_run (start_run s p K) turns).run
 unfolding after_calls after_call start_run
 quota_serves_rounds s p M K e turns =
     let i = begin_started s p K (start_run s p K) (quota_begins s p 1 M K e).begun in
@@ -86,12 +85,12 @@ quota_serves_rounds s p M K e turns =
 
 -- By value: the beginning with it accepts, and so it is for every run in rounds on its record.
 pub record RoundsServed (M : ℕ) (b : Begun) : Type 0 where
-  pub accepted : b.answer ≡ started
+  pub accepted : b.answer ≡ Ok tt
   pub within : {turns : ℕ} {d : Ran} → by_value.RoundsSays b.run turns d → WithinMemory M d.run
 
-pub code_quota_serves_rounds : {s : List ℕ} {p M K : ℕ} → quoted s p 1 M ≡ Given K → {b : Begun} → by_value.BeginSays s p K b → RoundsServed M b
+pub code_quota_serves_rounds : {s : List ℕ} {p M K : ℕ} → quoted s p 1 M ≡ Ok K → {b : Begun} → by_value.BeginSays s p K b → RoundsServed M b
 code_quota_serves_rounds {s} {p} {M} {K} e {b} h =
-    let a : b ≡ record { answer = started; run = start_run s p K } = by_value.begin_is h ∙ (quota_begins s p 1 M K e).begun in
+    let a : b ≡ record { answer = Ok tt; run = start_run s p K } = by_value.begin_is h ∙ (quota_begins s p 1 M K e).begun in
     record {
       accepted = ap (λ (x : Begun). x.answer) a;
       within = λ {turns} {d} k.
@@ -103,7 +102,7 @@ pub record LentRoundsServed (s : List ℕ) (M : ℕ) (a : Answer) : Type 0 where
   pub accepted : a.number ≡ 0
   pub within : {turns : ℕ} {d : Answer} → from_c.RoundsSays s turns a.memory d → WithinMemory M (run_in s d.memory)
 
-pub lent_code_quota_serves_rounds : {s : List ℕ} {p M K : ℕ} → quoted s p 1 M ≡ Given K → {out filled : List ℕ} {a : Answer} → from_c.BeginSays s p K out a filled → LentRoundsServed s M a
+pub lent_code_quota_serves_rounds : {s : List ℕ} {p M K : ℕ} → quoted s p 1 M ≡ Ok K → {out filled : List ℕ} {a : Answer} → from_c.BeginSays s p K out a filled → LentRoundsServed s M a
 lent_code_quota_serves_rounds {s} {p} {M} {K} e {out} {filled} {a} h =
     let n : a.number ≡ 0 = ap (λ (x : Answer). x.number) (from_c.begin_is h) ∙ lent_begins s p K (quota_begins s p 1 M K e) (length out) in
     let i : table_that_runs s a filled ≡ s = runs_so h n ∙ (quota_begins s p 1 M K e).in_place in

@@ -1,4 +1,6 @@
 -- A turn, a run and an opening leave memory whose rows have the lengths that they had, and a beginning leaves such memory.
+use Rattle.std.specs.Prelude.{Err, Ok, Result, ⊤}
+use Rattle.table.specs.declared.Refusal.{Refusal}
 use mathlib.Core.Path.{◌≡◌, refl, subst, ◌∙◌}
 use Prim.Native.Nat.{ℕ, zero, suc, ◌+◌, ◌-◌, ◌^◌, ◌≤◌}
 use native.Mathlib.Omega.{arith}
@@ -8,8 +10,6 @@ use lib.Dec.{leb, ltb, eqb}
 use lib.ListN.{length, get_or, set, replicate, length-set, length-replicate}
 use Rattle.table.specs.Sum.{pick}
 use Rattle.table.specs.Format.{Kind, end, work, alloc, free, fork, join, unknown, Table, kind, table_of}
-use Rattle.table.specs.declared.Found.{Found}
-use Rattle.table.specs.declared.Found.TheVariants.{Nothing, At}
 use Rattle.schedule.specs.declared.Worker.{Worker}
 use Rattle.schedule.specs.declared.Reply.TheVariants.{Idle, Done, Quota, Wait}
 use Rattle.schedule.specs.Machine.{drawn, parent_of, ready, held, waiting, ended, nobody}
@@ -304,11 +304,11 @@ pub begin_shaped : (s : List ℕ) (p K room : ℕ) → Shaped (lent_begin s p K 
 unfolding lent_begin
 begin_shaped s p K room = go (begin_filling s p K).found refl (ltb room (begin_filling s p K).bytes) refl
   where
-    go : (f : Found) → (begin_filling s p K).found ≡ f → (b : Bool) → ltb room (begin_filling s p K).bytes ≡ b
+    go : (f : Result ⊤ Refusal) → (begin_filling s p K).found ≡ f → (b : Bool) → ltb room (begin_filling s p K).bytes ≡ b
         → Shaped (lent_begun_as f b (begin_filling s p K).bytes (start_memory (filled_out s K) p K)).memory
-    go (At x) e b c = blank_shaped
-    go Nothing e true c = blank_shaped
-    go Nothing e false c =
+    go (Err x) e b c = blank_shaped
+    go (Ok _) e true c = blank_shaped
+    go (Ok _) e false c =
         let begun : (lent_begin s p K room).number ≡ 0 = rw (e, c) in
         let few = few_so (filled_out s K) (start_memory (filled_out s K) p K) (start_stands s p K room begun).steady in
         record {

@@ -1,5 +1,6 @@
 -- The limits of DFDeques over every list of calls from a beginning, refused ones included: on the table that runs (N6), whatever the order of the turns and the choices; the peaks also of the table
 -- as given (`deque_given`). The parallel peak bounds every sound record too (`deque_parallel_record`).
+use Rattle.std.specs.Prelude.{Ok}
 use mathlib.Core.Path.{◌≡◌, sym, ap, subst, ◌∙◌}
 use Prim.Native.Nat.{ℕ, suc, ◌+◌, ◌*◌, ◌≤◌, ◌<◌}
 use native.Mathlib.Omega.{arith}
@@ -13,7 +14,6 @@ use Rattle.table.specs.Serial.{S1}
 use Rattle.filling.specs.Filled.{filled_out}
 use Rattle.order.specs.Order.{number_of}
 use Rattle.order.proofs.Lawful.{Lawful, Within, lawful}
-use Rattle.schedule.specs.declared.Beginning.TheVariants.{Begun as started}
 use Rattle.schedule.specs.Begin.{begin}
 use Rattle.schedule.specs.Record.{bytes_of, table_in}
 use Rattle.schedule.specs.Machine.{State, waiting, ended, next_of, status_of, worker_of, parent_of}
@@ -108,7 +108,7 @@ pub record DequeLimit (T : Table) (p K : ℕ) (r : DequeRun) (row : List Pair) :
   pub fronts : (front rest : List Pair) → row ≡ front ++ rest → RowLaws T p K (row_deques T K (start_deques T) front) front
 
 -- for every accepted table, p and K, and every list of calls from the record of the beginning
-pub deque_limit_lem : (s : List ℕ) (p K : ℕ) (r : DequeRun) → deque_begin s p K ≡ record { answer = started; run = r } → (calls : List DequeCall)
+pub deque_limit_lem : (s : List ℕ) (p K : ℕ) (r : DequeRun) → deque_begin s p K ≡ record { answer = Ok tt; run = r } → (calls : List DequeCall)
     → DequeLimit (table_of (filled_out s K)) p K (after_deque_calls calls r) (pairs_of_calls calls r)
 deque_limit_lem s p K r e calls =
     let t : TracedDeques s p K r calls = deque_calls_traced s p K r e calls in
@@ -138,7 +138,7 @@ pub record DequeParallel (T : Table) (K : ℕ) (r : DequeRun) (row : List Pair) 
       → ((row_deques T K (start_deques T) front).state.held ≤ parallel_peak T) × ((row_deques T K (start_deques T) front).state.highest ≤ parallel_peak T)
 
 -- for every accepted table, p and K, and every list of calls from the record of the beginning
-pub deque_parallel : (s : List ℕ) (p K : ℕ) (r : DequeRun) → deque_begin s p K ≡ record { answer = started; run = r } → (calls : List DequeCall)
+pub deque_parallel : (s : List ℕ) (p K : ℕ) (r : DequeRun) → deque_begin s p K ≡ record { answer = Ok tt; run = r } → (calls : List DequeCall)
     → DequeParallel (table_of (filled_out s K)) K (after_deque_calls calls r) (pairs_of_calls calls r)
 deque_parallel s p K r e calls =
     let d : DequeLimit (table_of (filled_out s K)) p K (after_deque_calls calls r) (pairs_of_calls calls r) = deque_limit_lem s p K r e calls in
@@ -151,10 +151,10 @@ deque_parallel s p K r e calls =
     }
 
 -- with the peaks of the table as given: those of p + 1 workers (`HeldLimits.workers`), and the parallel one
-pub deque_given : (s : List ℕ) (p K : ℕ) (r : DequeRun) → deque_begin s p K ≡ record { answer = started; run = r } → (calls : List DequeCall)
+pub deque_given : (s : List ℕ) (p K : ℕ) (r : DequeRun) → deque_begin s p K ≡ record { answer = Ok tt; run = r } → (calls : List DequeCall)
     → ((after_deque_calls calls r).run.highest ≤ workers_peak (table_of s) (suc p)) × ((after_deque_calls calls r).run.highest ≤ parallel_peak (table_of s))
 deque_given s p K r e calls =
-    let b : (begin s p K).answer ≡ started = sym (deque_begin_answer s p K) ∙ ap (λ (x : DequeBegun). x.answer) e in (
+    let b : (begin s p K).answer ≡ (Ok tt) = sym (deque_begin_answer s p K) ∙ ap (λ (x : DequeBegun). x.answer) e in (
       omega (arith, (deque_limit_lem s p K r e calls).highest.workers, given_workers s p K b (suc p)),
       omega (arith, (deque_parallel s p K r e calls).within.1, given_parallel s p K b),
     )

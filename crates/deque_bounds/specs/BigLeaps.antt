@@ -1,10 +1,9 @@
 -- With an alloc above K the limit by leaps is false too, and without a leap: two workers in turn, K 1, hold more than demand 3's limit of the table that runs.
 -- The dummies that stand before threads 0's, 1's and 2's allocs keep the deque, so that one steal each holds 7, 7 and 3 while threads 3 and 4 have only begun; then those two draw in turn.
-use Rattle.std.specs.Prelude.{◌≡◌, refl, ℕ, true, replicate}
+use Rattle.std.specs.Prelude.{◌≡◌, refl, ℕ, true, replicate, Ok}
 use mathlib.Core.List.{List, [], ◌∷◌, ◌++◌, map, flatten}
 use Rattle.table.specs.Sum.{sum_to, sum_over, greatest, any_below}
 use Rattle.table.specs.Format.{code_of, kind_of, is, Table, table_of}
-use Rattle.table.specs.declared.Found.TheVariants.{Nothing}
 use Rattle.table.specs.Pass.{try_at, try_from, try_pass, first_found}
 use Rattle.table.specs.Checks.{entry_wrong, total_wrong, owner_below, kind_unknown, argument_wrong, end_misplaced, forked_below, forked_before, open_before, join_not_latest, end_with_open, never_forked, alloc_of, free_of, whole_within, balance, balance_below0, passes}
 use Rattle.table.specs.Level.{fork_below, fork_of, before_it, joined_end, depends_on, level_within, D}
@@ -79,10 +78,10 @@ unfolding keeps at_most until_next all_in count_in rounds
 five_keeps = refl
 
 -- the table given is accepted, and a run of it begins
-pub five_accepted : first_found (passes five_bytes) ≡ Nothing
+pub five_accepted : first_found (passes five_bytes) ≡ Ok tt
 unfolding entry_rows action_rows table_rows written flatten sum_to sum_over greatest any_below code_of kind_of is table_of try_at try_from try_pass first_found entry_wrong total_wrong owner_below kind_unknown argument_wrong end_misplaced forked_below forked_before open_before join_not_latest end_with_open never_forked alloc_of free_of whole_within balance balance_below0 passes
 five_accepted = refl
 
-pub five_begins : first_found (begin_passes (table_of five_bytes) 2 1) ≡ Nothing
+pub five_begins : first_found (begin_passes (table_of five_bytes) 2 1) ≡ Ok tt
 unfolding entry_rows action_rows table_rows written flatten sum_to sum_over greatest any_below code_of kind_of is table_of try_at try_from try_pass first_found alloc_of big dummies new_threads new_actions overfull
 five_begins = refl

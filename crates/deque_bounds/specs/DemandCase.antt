@@ -1,9 +1,8 @@
 -- Demand 3's limit does not hold for DFDeques with every choice: a row of two workers that keeps the rule with 1, over a table of 8 threads and 72 actions, whose memory held passes it.
 -- Choice 1 leaps past thread 1's deque until thread 4's part holds 23 of its 24, and then choice 0 does thread 1's part.
-use Rattle.std.specs.Prelude.{◌≡◌, refl, ℕ, zero, suc, List, [], ◌∷◌, ◌++◌, map, true, replicate}
+use Rattle.std.specs.Prelude.{◌≡◌, refl, ℕ, zero, suc, List, [], ◌∷◌, ◌++◌, map, true, replicate, Ok}
 use Rattle.table.specs.Sum.{sum_to, sum_over, greatest, any_below}
 use Rattle.table.specs.Format.{end, alloc, free, fork, join, code_of, kind_of, is, Table, table_of}
-use Rattle.table.specs.declared.Found.TheVariants.{Nothing}
 use Rattle.table.specs.Pass.{try_at, try_from, try_pass, first_found}
 use Rattle.table.specs.Checks.{entry_wrong, total_wrong, owner_below, kind_unknown, argument_wrong, end_misplaced, forked_below, forked_before, open_before, join_not_latest, end_with_open, never_forked, alloc_of, free_of, whole_within, balance, balance_below0, passes}
 use Rattle.table.specs.Level.{fork_below, fork_of, before_it, joined_end, depends_on, level_within, D}
@@ -61,10 +60,10 @@ unfolding keeps at_most until_next all_in count_in rounds
 leaping_keeps = refl
 
 -- the table is accepted, and no alloc is above K
-pub parted_accepted : first_found (passes parted_bytes) ≡ Nothing
+pub parted_accepted : first_found (passes parted_bytes) ≡ Ok tt
 unfolding sum_to sum_over greatest any_below code_of kind_of is table_of try_at try_from try_pass first_found entry_wrong total_wrong owner_below kind_unknown argument_wrong end_misplaced forked_below forked_before open_before join_not_latest end_with_open never_forked alloc_of free_of whole_within balance balance_below0 passes
 parted_accepted = refl
 
-pub parted_within : first_found (begin_passes parted 2 1) ≡ Nothing
+pub parted_within : first_found (begin_passes parted 2 1) ≡ Ok tt
 unfolding sum_to sum_over greatest any_below code_of kind_of is table_of try_at try_from try_pass first_found alloc_of big overfull
 parted_within = refl

@@ -1,8 +1,7 @@
 -- S1 + K·(N − 1) is met: a row of one worker that holds K more than the serial peak, which 01 promises of one worker by AsyncDF.
-use Rattle.std.specs.Prelude.{◌≡◌, refl, ℕ, ◌+◌, ◌-◌, ◌*◌, List, [], ◌∷◌}
+use Rattle.std.specs.Prelude.{◌≡◌, refl, ℕ, ◌+◌, ◌-◌, ◌*◌, List, [], ◌∷◌, Ok}
 use Rattle.table.specs.Sum.{sum_to, sum_over, greatest, greatest_to, any_below}
 use Rattle.table.specs.Format.{end, alloc, free, fork, join, code_of, kind_of, is, Table, table_of}
-use Rattle.table.specs.declared.Found.TheVariants.{Nothing}
 use Rattle.table.specs.Pass.{try_at, try_from, try_pass, first_found}
 use Rattle.table.specs.Checks.{entry_wrong, total_wrong, owner_below, kind_unknown, argument_wrong, end_misplaced, forked_below, forked_before, open_before, join_not_latest, end_with_open, never_forked, alloc_of, free_of, whole_within, balance, balance_below0, passes}
 use Rattle.table.specs.Level.{fork_below}
@@ -44,6 +43,6 @@ pub tight_serial : S1 tight ≡ 2
 unfolding S1 peak_of held_after fronts serial_within greatest sum_over alloc_of free_of kind_of code_of is sum_to any_below table_of
 tight_serial = refl
 
-pub tight_accepted : first_found (passes tight_bytes) ≡ Nothing
+pub tight_accepted : first_found (passes tight_bytes) ≡ Ok tt
 unfolding sum_to sum_over greatest any_below code_of kind_of is table_of try_at try_from try_pass first_found entry_wrong total_wrong owner_below kind_unknown argument_wrong end_misplaced forked_below forked_before open_before join_not_latest end_with_open never_forked alloc_of free_of whole_within balance balance_below0 passes
 tight_accepted = refl

@@ -2,6 +2,7 @@
 -- their own `ensures`, as the check reads it (`Learnt`), of the arguments and the answer. `history_is`: the record, the answers and the row of pairs are those of the definitions.
 -- `history_exists`: every list of calls has one. `code_follows`: and so from an accepted beginning, refused calls included, the record is sound but for its turns taken, its
 -- deques are those of the row, and every pair's worker and choice are below p; `code_once`, `code_owns` and `code_in_use`: the partition and the ownership of N13.
+use Rattle.std.specs.Prelude.{Ok}
 use mathlib.Core.Path.{◌≡◌, refl, sym, ap, ap₂, subst, ◌∙◌}
 use Prim.Native.Nat.{ℕ, ◌<◌}
 use mathlib.Core.List.{List, [], ◌∷◌, ◌++◌, Memᴰ}
@@ -11,7 +12,6 @@ use denote.Triple.Clauses.{AtExit}
 use borrow.Fn.Kinds.{ended_of}
 use Rattle.table.specs.Format.{table_of}
 use Rattle.filling.specs.Filled.{filled_out}
-use Rattle.schedule.specs.declared.Beginning.TheVariants.{Begun as started}
 use Rattle.schedule.specs.Calls.{turns_in}
 use Rattle.schedule.specs.Record.{table_in, max_workers}
 use Rattle.deques.specs.declared.DequeRun.{DequeRun}
@@ -151,12 +151,12 @@ history_exists r (c ∷ calls) = next (called r c) (history_exists (after_deque_
 -- ---- from an accepted beginning
 
 -- what holds of the record and of the row that the definitions give, from the beginning on, holds of a history's
-pub history_holds : {s : List ℕ} {p K : ℕ} {b : DequeBegun} → BeginSays s p K b → b.answer ≡ started
+pub history_holds : {s : List ℕ} {p K : ℕ} {b : DequeBegun} → BeginSays s p K b → b.answer ≡ Ok tt
     → {calls : List DequeCall} {answers : List DequeAnswer} {row : List Pair} {r : DequeRun} → History b.run calls answers row r
-    → (P : DequeRun → List Pair → Type 0) → (deque_begin s p K ≡ record { answer = started; run = b.run } → P (after_deque_calls calls b.run) (pairs_of_calls calls b.run)) → P r row
+    → (P : DequeRun → List Pair → Type 0) → (deque_begin s p K ≡ record { answer = Ok tt; run = b.run } → P (after_deque_calls calls b.run) (pairs_of_calls calls b.run)) → P r row
 history_holds {s} {p} {K} {b} h e {calls} {answers} {row} {r} t P given =
     let d = history_is t in
-    let f : deque_begin s p K ≡ record { answer = started; run = b.run } = sym (begin_is h) ∙ (λ i. record { answer = e i; run = b.run }) in
+    let f : deque_begin s p K ≡ record { answer = Ok tt; run = b.run } = sym (begin_is h) ∙ (λ i. record { answer = e i; run = b.run }) in
     subst (λ (x : DequeRun). P x row) (sym d.record_is) (subst (λ (x : List Pair). P (after_deque_calls calls b.run) x) (sym d.row_is) (given f))
 
 -- what a history leaves: the record is sound but for its turns taken, its deques are those that the turns of the row make of the start's, and each pair's worker and choice are below p
@@ -165,14 +165,14 @@ pub record Follows (s : List ℕ) (p K : ℕ) (r : DequeRun) (row : List Pair) :
   pub below : (g : Pair) → Memᴰ g row → (g.worker < p) × (g.choice < p)
   pub deques : deques_of r ≡ row_deques (table_of (filled_out s K)) K (start_deques (table_of (filled_out s K))) row
 
-pub code_follows : {s : List ℕ} {p K : ℕ} {b : DequeBegun} → BeginSays s p K b → b.answer ≡ started
+pub code_follows : {s : List ℕ} {p K : ℕ} {b : DequeBegun} → BeginSays s p K b → b.answer ≡ Ok tt
     → {calls : List DequeCall} {answers : List DequeAnswer} {row : List Pair} {r : DequeRun} → History b.run calls answers row r → Follows s p K r row
 code_follows {s} {p} {K} {b} h e {calls} t =
     history_holds h e t (Follows s p K) (λ f. let d = deque_calls_traced s p K b.run f calls in record { steady = d.steady; below = d.below; deques = d.deques })
 
 -- ---- "every thread of the table is exactly one of these", "A worker owns one deque while it holds a thread and otherwise none", "an owner or a thread"
 
-module _ {s : List ℕ} {p K : ℕ} {b : DequeBegun} (h : BeginSays s p K b) (e : b.answer ≡ started) {calls : List DequeCall} {answers : List DequeAnswer} {row : List Pair} {r : DequeRun}
+module _ {s : List ℕ} {p K : ℕ} {b : DequeBegun} (h : BeginSays s p K b) (e : b.answer ≡ Ok tt) {calls : List DequeCall} {answers : List DequeAnswer} {row : List Pair} {r : DequeRun}
     (t : History b.run calls answers row r) where
   pub code_once : (u : ℕ) → u < (table_in r.run).threads → places_of r.run.status (deques_in r) u ≡ 1
   code_once = thread_once r (code_follows h e t).steady

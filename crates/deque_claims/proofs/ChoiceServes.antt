@@ -1,5 +1,6 @@
 -- What `dequelimit` gives serves: over every history of calls from a beginning with the same p and K whose choices are below c, refused ones included, memory held and its highest are at most
 -- its first number, and with choices 0 at most its second. So do the numbers that `wivakkol_deque_limit_on` puts into its row (`limit_call_serves`).
+use Rattle.std.specs.Prelude.{Ok}
 use mathlib.Core.Path.{◌≡◌, refl, sym, ◌∙◌}
 use Prim.Native.Nat.{ℕ, ◌≤◌}
 use mathlib.Core.List.{List, [], ◌∷◌}
@@ -9,7 +10,6 @@ use denote.Ref.{Bor}
 use denote.MutBor.{MutBor}
 use denote.Triple.Clauses.{AtExit}
 use borrow.Fn.Kinds.{ended_of}
-use Rattle.schedule.specs.declared.Beginning.TheVariants.{Begun as started}
 use Rattle.run_memory.specs.Memory.{Memory, Answer}
 use Rattle.deques.specs.declared.DequeRun.{DequeRun}
 use Rattle.deques.specs.declared.DequeBegun.{DequeBegun}
@@ -17,7 +17,6 @@ use Rattle.deques.specs.DequeRuns.{Pair}
 use Rattle.deques.specs.DequeCalls.{DequeCall}
 use Rattle.deque_bounds.proofs.HeldLimits.{Choices}
 use Rattle.deque_limit.specs.declared.Bounds.{Bounds}
-use Rattle.deque_limit.specs.declared.ChoiceLimits.TheVariants.{Given}
 use Rattle.deque_limit.specs.ChoiceLimit.{choice_limits, choice_limits_in, choice_limits_into}
 use Rattle.deque_limit.proofs.Holds.{answer_holds, near_holds}
 use Rattle.stealing.specs.StealingMemory.{deque_run_in}
@@ -39,13 +38,13 @@ pub record Served (c : ℕ) (x : Bounds) (r : DequeRun) (row : List Pair) : Type
   pub near : Choices 1 row → (r.run.held ≤ x.near) × (r.run.highest ≤ x.near)
 
 -- by value
-pub code_choices_serve : (s : List ℕ) (p K c : ℕ) (x : Bounds) → choice_limits s p K c ≡ Given x → {b : DequeBegun} → by_value.BeginSays s p K b → b.answer ≡ started
+pub code_choices_serve : (s : List ℕ) (p K c : ℕ) (x : Bounds) → choice_limits s p K c ≡ Ok x → {b : DequeBegun} → by_value.BeginSays s p K b → b.answer ≡ Ok tt
     → {calls : List DequeCall} {answers : List DequeAnswer} {row : List Pair} {r : DequeRun} → by_value.History b.run calls answers row r → Served c x r row
 code_choices_serve s p K c x e h i {calls} {answers} {row} {r} t =
     record { below = answer_holds s p K c x e r row (code_deque_limit h i t); near = near_holds s p K c x e r row (code_deque_limit h i t) }
 
 -- from C
-pub lent_code_choices_serve : (s : List ℕ) (p K c : ℕ) (x : Bounds) → choice_limits s p K c ≡ Given x → {out filled : List ℕ} {a : Answer} → BeginSays s p K out a filled → a.number ≡ 0
+pub lent_code_choices_serve : (s : List ℕ) (p K c : ℕ) (x : Bounds) → choice_limits s p K c ≡ Ok x → {out filled : List ℕ} {a : Answer} → BeginSays s p K out a filled → a.number ≡ 0
     → {l : List LentDequeCall} {answers : List Returned} {row : List Pair} {M : Memory} → DequeHistory (table_that_runs s a filled) a.memory l answers row M
     → Served c x (deque_run_in (table_that_runs s a filled) M) row
 lent_code_choices_serve s p K c x e {out} {filled} {a} h i {l} {answers} {row} {M} t =

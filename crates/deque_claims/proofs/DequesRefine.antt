@@ -1,4 +1,6 @@
 -- A beginning in lent memory stands as a run of DFDeques, and every list of calls on memory where one stands is that list on the record, answers included.
+use Rattle.std.specs.Prelude.{Err, Ok, Result}
+use Rattle.table.specs.declared.Refusal.{Refusal}
 use mathlib.Core.Path.{◌≡◌, refl, sym, ap, ap₂, subst, ◌∙◌}
 use Prim.Native.Nat.{ℕ}
 use mathlib.Core.List.{List, [], ◌∷◌, ◌++◌}
@@ -6,18 +8,15 @@ use mathlib.Core.Bool.{Bool, true, false}
 use lib.Dec.{eqb}
 use Rattle.table.specs.Sum.{pick}
 use Rattle.table.specs.Pass.{refusal, try_at}
-use Rattle.table.specs.declared.Found.TheVariants.{Nothing, At}
 use Rattle.schedule.specs.declared.Reply.{Reply}
 use Rattle.schedule.specs.declared.Reply.TheVariants.{Idle, Done, Quota, Wait}
 use Rattle.schedule.specs.Turn.{root_ended, no_worker}
-use Rattle.schedule.specs.declared.Beginning.TheVariants.{Begun as started}
 use Rattle.schedule.specs.Answers.{reply_values}
 use Rattle.filling.specs.Filled.{filled_out}
 use Rattle.run_memory.specs.Memory.{Memory}
 use Rattle.wivakkol.specs.Lent.{lent_begin}
 use Rattle.deques.specs.declared.DequeRun.{DequeRun}
 use Rattle.deques.specs.declared.DequeBegun.{DequeBegun}
-use Rattle.deques.specs.declared.DequeTurning.{DequeTurning}
 use Rattle.deques.specs.DequeTurn.{unsound_deques, no_choice, deque_checks, step_deques, deque_turned_as, deque_turned}
 use Rattle.deques.specs.DequeRuns.{pair, pair_at, pairs_run}
 use Rattle.deques.specs.DequeBegin.{deque_begin}
@@ -39,12 +38,12 @@ module _ (s : List ℕ) (p K room : ℕ) (e : (lent_begin s p K room).number ≡
   pub begun_deques_stand : DequesStand (filled_out s K) (lent_begin s p K room).memory
   begun_deques_stand = subst (λ (M : Memory). DequesStand (filled_out s K) M) (sym (memory_so s p K room e)) (start_deques_stand s p K (found_none s p K room e))
 
-  pub begun_deques_there : deque_begin s p K ≡ record { answer = started; run = deque_run_in (filled_out s K) (lent_begin s p K room).memory }
+  pub begun_deques_there : deque_begin s p K ≡ record { answer = Ok tt; run = deque_run_in (filled_out s K) (lent_begin s p K room).memory }
   begun_deques_there =
-      deque_begun_so s p K (found_none s p K room e) ∙ ap (λ (M : Memory). record { answer = started; run = deque_run_in (filled_out s K) M }) (sym (memory_so s p K room e))
+      deque_begun_so s p K (found_none s p K room e) ∙ ap (λ (M : Memory). record { answer = Ok tt; run = deque_run_in (filled_out s K) M }) (sym (memory_so s p K room e))
 
-  pub begun_deques_record : deque_begin s p K ≡ record { answer = started; run = (deque_begin s p K).run }
-  begun_deques_record = begun_deques_there ∙ (λ i. record { answer = started; run = sym (ap (λ (x : DequeBegun). x.run) begun_deques_there) i })
+  pub begun_deques_record : deque_begin s p K ≡ record { answer = Ok tt; run = (deque_begin s p K).run }
+  begun_deques_record = begun_deques_there ∙ (λ i. record { answer = Ok tt; run = sym (ap (λ (x : DequeBegun). x.run) begun_deques_there) i })
 
 -- ---- the row of turns
 
@@ -60,8 +59,8 @@ unfolding deque_turned deque_checks try_at
 turned_row r w c = go (unsound_deques r) (no_worker r.run w) (root_ended r.run) (no_choice r c)
   where
     go : (x y z v : Bool)
-        → let a : DequeTurning =
-        (deque_turned_as (pick x (At (refusal 32 0)) (pick y (At (refusal 30 0)) (pick z (At (refusal 31 0)) (pick v (At (refusal 49 0)) Nothing)))) r (step_deques r w c)).answer in
+        → let a : Result Reply Refusal =
+        (deque_turned_as (pick x (Err (refusal 32 0)) (pick y (Err (refusal 30 0)) (pick z (Err (refusal 31 0)) (pick v (Err (refusal 49 0)) (Ok tt))))) r (step_deques r w c)).answer in
         pick (eqb (deque_turning_values a).number 0) (pair w c ∷ []) [] ≡ deque_turn_row a (pair w c)
     go true y z v = refl
     go false true z v = refl

@@ -1,6 +1,7 @@
 -- Demand 1 for DFDeques from C, in two calls. A turn and a list do not test whether what they are lent is sound: opening does. Opening answers 32 exactly where the call on the record would
 -- (`OpenAnswers`), and after an opening that answered 0 every call is DFDeques' on the record that stands there, refusals included (`AfterOpen`). The two together, from the functions' own
 -- promises: `opened_code_refines`.
+use Rattle.std.specs.Prelude.{Err}
 use mathlib.Core.Path.{◌≡◌, refl, sym, ap, subst, ◌∙◌}
 use mathlib.Core.Logic.{◌↔◌}
 use Prim.Native.Nat.{ℕ}
@@ -16,7 +17,6 @@ use Rattle.run_memory.specs.Stands.{truths}
 use Rattle.deques.specs.declared.DequeRun.{DequeRun}
 use Rattle.deques.specs.declared.DequeRan.{DequeRan}
 use Rattle.deques.specs.declared.DequeTurned.{DequeTurned}
-use Rattle.deques.specs.declared.DequeTurning.TheVariants.{Refused as refused_turn}
 use Rattle.deques.specs.DequeTurn.{unsound_deques, no_choice, deque_checks, deque_turned}
 use Rattle.deques.specs.DequeRuns.{Pair, deque_ran, pairs_run}
 use Rattle.deques.specs.DequeValues.{deque_turn_values}
@@ -66,7 +66,7 @@ check_applies : (x : Bool) → ◌≡◌ {A = ℕ} (pick x 32 0) 32 → x ≡ tr
 check_applies true e = refl
 check_applies false e = absurd (omega (arith, e))
 
-turn_so : (r : DequeRun) → unsound_deques r ≡ true → (w c : ℕ) → deque_turned r w c ≡ record { answer = refused_turn (refusal 32 0); run = r }
+turn_so : (r : DequeRun) → unsound_deques r ≡ true → (w c : ℕ) → deque_turned r w c ≡ record { answer = Err (refusal 32 0); run = r }
 unfolding deque_turned deque_checks try_at
 turn_so r e w c = rw e
 

@@ -1,15 +1,16 @@
 -- What the calls of a list answer, from the definitions on the record.
-use Rattle.std.specs.Prelude.{List, [], ◌∷◌}
+use Rattle.std.specs.Prelude.{List, [], ◌∷◌, Result}
+use Rattle.schedule.specs.declared.Reply.{Reply}
+use Rattle.table.specs.declared.Refusal.{Refusal}
 use Rattle.schedule.specs.declared.Report.{Report}
 use Rattle.deques.specs.declared.DequeRun.{DequeRun}
-use Rattle.deques.specs.declared.DequeTurning.{DequeTurning}
 use Rattle.deques.specs.DequeTurn.{deque_turned}
 use Rattle.deques.specs.DequeRuns.{pairs_run}
 use Rattle.deques.specs.DequeCalls.{DequeCall, turn, over_pairs, after_deque_call}
 
 -- what a call answers besides the record
 pub data DequeAnswer : Type 0 where
-  turning : DequeTurning → DequeAnswer
+  turning : Result Reply Refusal → DequeAnswer
   report : Report → DequeAnswer
 
 abbrev pub deque_answer_of : DequeCall → DequeRun → DequeAnswer

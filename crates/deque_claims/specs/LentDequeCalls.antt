@@ -1,13 +1,14 @@
 -- Lists of calls of DFDeques on a run in lent memory: the memory that they leave, what they return, and the row of the pairs whose turns were taken; and the same from the definitions on the
 -- record.
-use Rattle.std.specs.Prelude.{ℕ, List, [], ◌∷◌, ◌++◌, eqb, get_or}
+use Rattle.std.specs.Prelude.{ℕ, List, [], ◌∷◌, ◌++◌, eqb, get_or, Result}
+use Rattle.schedule.specs.declared.Reply.{Reply}
+use Rattle.table.specs.declared.Refusal.{Refusal}
 use Rattle.table.specs.Sum.{pick}
 use Rattle.schedule.specs.declared.Report.{Report}
 use Rattle.schedule.specs.Answers.{report_values}
 use Rattle.run_memory.specs.Memory.{Memory, said_code, Answer}
 use Rattle.run_memory.specs.Stands.{values_row}
 use Rattle.deques.specs.declared.DequeRun.{DequeRun}
-use Rattle.deques.specs.declared.DequeTurning.{DequeTurning}
 use Rattle.deques.specs.DequeTurn.{unsound_deques, deque_turned}
 use Rattle.deques.specs.DequeRuns.{Pair, pair, pair_at, pairs_run}
 use Rattle.deques.specs.DequeValues.{deque_turning_values}
@@ -59,7 +60,7 @@ deque_moves_of (moving c ∷ l) = c ∷ deque_moves_of l
 deque_moves_of (opening ∷ l) = deque_moves_of l
 
 -- an answer's number and values, as C gets them
-abbrev pub turning_numbers : DequeTurning → Returned
+abbrev pub turning_numbers : Result Reply Refusal → Returned
 turning_numbers x = let v = deque_turning_values x in returned v.number (values_row v)
 
 abbrev pub report_numbers : Report → Returned

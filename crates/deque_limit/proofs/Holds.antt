@@ -1,5 +1,7 @@
 -- What `dequelimit` prints is a limit: where every choice of a row of turns is below c, no memory that the limits of DFDeques bound is above `choice_limit`; with choices 0 none is above
 -- `near_limit`.
+use Rattle.std.specs.Prelude.{Err, Ok, Result, ⊤}
+use Rattle.table.specs.declared.Refusal.{Refusal}
 use mathlib.Core.Path.{◌≡◌, refl, ap, subst}
 use Prim.Native.Nat.{ℕ, ◌+◌, ◌-◌, ◌*◌, ◌≤◌, ◌<◌, min}
 use native.Mathlib.Omega.{arith}
@@ -13,22 +15,18 @@ use Rattle.table.specs.Pass.{first_found}
 use Rattle.table.specs.Checks.{alloc_of}
 use Rattle.table.specs.Nested.{N}
 use Rattle.table.specs.Serial.{S1}
-use Rattle.table.specs.declared.Found.{Found}
-use Rattle.table.specs.declared.Found.TheVariants.{Nothing, At}
 use Rattle.table.proofs.Tests.{no_way}
 use Rattle.order.proofs.Lawful.{Within}
 use Rattle.filling.specs.Filled.{big, filled_out}
 use Rattle.filling.proofs.FilledTable.{any_false}
 use Rattle.peaks.specs.Peak.{peak_at}
 use Rattle.deques.specs.DequeRuns.{Pair}
-use Rattle.schedule.specs.declared.Beginning.TheVariants.{Begun as started}
 use Rattle.deques.specs.declared.DequeRun.{DequeRun}
 use Rattle.deques.specs.DequeBegin.{deque_begin}
 use Rattle.deques.specs.DequeCalls.{DequeCall, after_deque_calls, pairs_of_calls}
 use Rattle.deque_bounds.proofs.HeldLimits.{Choices, HeldLimits}
 use Rattle.deque_bounds.proofs.CallLimits.{DequeLimit, deque_limit_lem}
 use Rattle.deque_limit.specs.declared.Bounds.{Bounds}
-use Rattle.deque_limit.specs.declared.ChoiceLimits.TheVariants.{Given}
 use Rattle.deque_limit.specs.ChoiceLimit.{near_limit, choice_limit, bounds_of, choice_passes, choices_as, choice_limits}
 
 module _ (T : Table) (p K : ℕ) (row : List Pair) (x : ℕ) (l : HeldLimits T p K row x) where
@@ -52,11 +50,11 @@ module _ (T : Table) (p K : ℕ) (row : List Pair) (x : ℕ) (l : HeldLimits T p
 
 -- ---- over lists of calls
 
-given_is : (f : Found) (y x : Bounds) → choices_as f y ≡ Given x → y ≡ x
-given_is Nothing y x e = cc
-given_is (At r) y x e = no_way (cc)
+given_is : (f : Result ⊤ Refusal) (y x : Bounds) → choices_as f y ≡ Ok x → y ≡ x
+given_is (Ok _) y x e = cc
+given_is (Err r) y x e = no_way (cc)
 
-module _ (s : List ℕ) (p K c : ℕ) (x : Bounds) (e : choice_limits s p K c ≡ Given x) where
+module _ (s : List ℕ) (p K c : ℕ) (x : Bounds) (e : choice_limits s p K c ≡ Ok x) where
   said : bounds_of (table_of (filled_out s K)) K c ≡ x
   unfolding choice_limits
   said = given_is (first_found (choice_passes s p K c)) (bounds_of (table_of (filled_out s K)) K c) x e
@@ -78,10 +76,10 @@ module _ (s : List ℕ) (p K c : ℕ) (x : Bounds) (e : choice_limits s p K c �
         (rw (← d) (near_limits (table_of (filled_out s K)) p K row r.run.held l.held h), rw (← d) (near_limits (table_of (filled_out s K)) p K row r.run.highest l.highest h))
 
   -- for every list of calls from the record of the beginning
-  pub calls_hold : (r : DequeRun) → deque_begin s p K ≡ record { answer = started; run = r } → (calls : List DequeCall) → Choices c (pairs_of_calls calls r)
+  pub calls_hold : (r : DequeRun) → deque_begin s p K ≡ record { answer = Ok tt; run = r } → (calls : List DequeCall) → Choices c (pairs_of_calls calls r)
       → ((after_deque_calls calls r).run.held ≤ x.memory) × ((after_deque_calls calls r).run.highest ≤ x.memory)
   calls_hold r b calls h = answer_holds (after_deque_calls calls r) (pairs_of_calls calls r) (deque_limit_lem s p K r b calls) h
 
-  pub calls_near : (r : DequeRun) → deque_begin s p K ≡ record { answer = started; run = r } → (calls : List DequeCall) → Choices 1 (pairs_of_calls calls r)
+  pub calls_near : (r : DequeRun) → deque_begin s p K ≡ record { answer = Ok tt; run = r } → (calls : List DequeCall) → Choices 1 (pairs_of_calls calls r)
       → ((after_deque_calls calls r).run.held ≤ x.near) × ((after_deque_calls calls r).run.highest ≤ x.near)
   calls_near r b calls h = near_holds (after_deque_calls calls r) (pairs_of_calls calls r) (deque_limit_lem s p K r b calls) h

@@ -1,5 +1,7 @@
 -- Worked cases, computed on the definitions.
-use Rattle.std.specs.Prelude.{◌≡◌, refl, ℕ}
+use Rattle.std.specs.Prelude.{◌≡◌, refl, ℕ, Err, Ok, Result}
+use Rattle.deque_limit.specs.declared.Bounds.{Bounds}
+use Rattle.table.specs.declared.Refusal.{Refusal}
 use mathlib.Core.List.{List, [], ◌∷◌, flatten, map}
 use Rattle.table.specs.Sum.{sum_to, sum_over, greatest, greatest_to, any_below}
 use Rattle.table.specs.Format.{code_of, kind_of, is, table_of}
@@ -13,8 +15,6 @@ use Rattle.table.specs.Written.{entry_rows, action_rows, table_rows, written}
 use Rattle.table.specs.Cases.{E, overfreed}
 use Rattle.filling.specs.Filled.{big, dummies, new_threads, new_actions, tree_of, sum_before, root_of, filled_from, old_bodies, trees_along, filled_bodies, filled_out, overfull}
 use Rattle.peaks.specs.Peak.{fresh, gain, most, peak_there, peak_within}
-use Rattle.deque_limit.specs.declared.ChoiceLimits.{ChoiceLimits}
-use Rattle.deque_limit.specs.declared.ChoiceLimits.TheVariants.{Given, Refused}
 use Rattle.deque_limit.specs.ChoiceLimit.{near_limit, choice_limit, bounds_of, choice_limits}
 
 pub record ChoiceCase : Type 0 where
@@ -22,13 +22,13 @@ pub record ChoiceCase : Type 0 where
   pub workers : ℕ
   pub quota : ℕ
   pub choices : ℕ
-  pub answer : ChoiceLimits
+  pub answer : Result Bounds Refusal
 
-abbrev said : ℕ → ℕ → ℕ → ChoiceLimits → ChoiceCase
+abbrev said : ℕ → ℕ → ℕ → Result Bounds Refusal → ChoiceCase
 said p K c x = record { bytes = E; workers = p; quota = K; choices = c; answer = x }
 
-abbrev two : ℕ → ℕ → ChoiceLimits
-two memory near = Given (record { memory = memory; near = near })
+abbrev two : ℕ → ℕ → Result Bounds Refusal
+two memory near = Ok (record { memory = memory; near = near })
 
 unfoldable pub choice_cases : List ChoiceCase
 unfolding code_of
@@ -38,13 +38,13 @@ choice_cases =
     -- with K 5 E runs filled out
     ∷ said 2 5 1 (two 12 12)
     -- the order of the checks: the table's own, 20, 49, 21
-    ∷ record { bytes = overfreed; workers = 0; quota = 0; choices = 0; answer = Refused (refusal 10 1) }
-    ∷ said 0 0 0 (Refused (refusal 20 0))
-    ∷ said 17 0 18 (Refused (refusal 20 0))
-    ∷ said 2 0 0 (Refused (refusal 49 0))
-    ∷ said 2 0 3 (Refused (refusal 49 0))
-    ∷ said 2 0 2 (Refused (refusal 21 0))
-    ∷ said 2 16777216 1 (Refused (refusal 21 0))
+    ∷ record { bytes = overfreed; workers = 0; quota = 0; choices = 0; answer = Err (refusal 10 1) }
+    ∷ said 0 0 0 (Err (refusal 20 0))
+    ∷ said 17 0 18 (Err (refusal 20 0))
+    ∷ said 2 0 0 (Err (refusal 49 0))
+    ∷ said 2 0 3 (Err (refusal 49 0))
+    ∷ said 2 0 2 (Err (refusal 21 0))
+    ∷ said 2 16777216 1 (Err (refusal 21 0))
     ∷ []
 
 pub choices_worked : map (λ (x : ChoiceCase). choice_limits x.bytes x.workers x.quota x.choices) choice_cases ≡ map (λ (x : ChoiceCase). x.answer) choice_cases

@@ -21,12 +21,6 @@ pub struct Bounds {
     pub near: u64,
 }
 
-#[derive(Drop)]
-pub enum ChoiceLimits {
-    Given(Bounds),
-    Refused(Refusal),
-}
-
 // The limit for choices below c, of the table that runs. The table is filled out into the buffer, where it has to be; 36,868 bytes are always enough. The working memory may hold anything and
 // is left cleared.
 pub fn choice_limit_in(
@@ -41,7 +35,7 @@ pub fn choice_limit_in(
     depths: &mut [u16; 1024],
     peaks: &mut [u64; 17408],
     rows: &mut [u64; 17408],
-) -> ChoiceLimits
+) -> Result<Bounds, Refusal>
     ensures value { result ≡ choice_limits_in table.now p quota c (length filled.old) }
     ensures filled_after { filled.new ≡ choice_limits_into table.now p quota c filled.old }
     ensures rises_after { (rises.new ≡ replicate 1024 0) × (falls.new ≡ replicate 1024 0) × (serials.new ≡ replicate 1024 0) × (depths.new ≡ replicate 1024 0)

@@ -1,16 +1,16 @@
 // What `dequelimit` says: the checks in their order, the table that runs, and its numbers.
-ghost use Rattle.std.specs.Prelude.{◌≡◌, length};
+ghost use Rattle.std.specs.Prelude.{◌≡◌, length, Ok};
 ghost use Rattle.table.specs.Format.{table_of};
 ghost use Rattle.table.specs.Rules.{Rules};
 ghost use Rattle.deque_limit.specs.ChoiceLimit.{bounds_of, choice_limits_in, choice_limits_into};
 ghost use Rattle.deque_limit.specs.Asked.{Asked};
 
-use crate::ChoiceLimits;
+use crate::Bounds;
 use crate::numbers::numbers;
 use filling::fill_in;
 use quota::outside;
 use soundness::begin_fault;
-use table::{Found, Loaded, Refusal};
+use table::Refusal;
 use useful_limit::wide_fault;
 
 // Of the bytes of an accepted table.
@@ -24,15 +24,15 @@ fn numbers_for(
     depths: &mut [u16; 1024],
     peaks: &mut [u64; 17408],
     rows: &mut [u64; 17408],
-) -> ChoiceLimits
+) -> Result<Bounds, Refusal>
     requires { Rules table.now × Asked quota c }
-    ensures { result ≡ ChoiceLimits.Given (bounds_of (table_of table.now) quota c) }
+    ensures { result ≡ Ok (bounds_of (table_of table.now) quota c) }
 {
     let loaded = facts::load_in(table, rises, falls, serials, depths);
     match loaded {
-        Loaded::Refused(r) => ChoiceLimits::Refused(r),
-        Loaded::Accepted(facts) => {
-            ChoiceLimits::Given(numbers(table, facts, quota, c, rises, falls, peaks, rows))
+        Err(r) => Err(r),
+        Ok(facts) => {
+            Ok(numbers(table, facts, quota, c, rises, falls, peaks, rows))
         }
     }
 }
@@ -50,24 +50,24 @@ pub(crate) fn choice_answer(
     depths: &mut [u16; 1024],
     peaks: &mut [u64; 17408],
     rows: &mut [u64; 17408],
-) -> ChoiceLimits
+) -> Result<Bounds, Refusal>
     ensures value { result ≡ choice_limits_in table.now p quota c (length filled.old) }
     ensures filled_after { filled.new ≡ choice_limits_into table.now p quota c filled.old }
 {
     if outside(1, p as u32, c) {
-        return ChoiceLimits::Refused(wide_fault(table, p, 49, rises, falls));
+        return Err(wide_fault(table, p, 49, rises, falls));
     }
     let filling = begin_fault(table, p, quota, rises, falls);
     let found = filling.found;
-    if let Found::At(r) = found {
-        return ChoiceLimits::Refused(r);
+    if let Err(r) = found {
+        return Err(r);
     }
     let k = filling.bytes;
     if k == 0 {
         return numbers_for(table, quota, c, rises, falls, serials, depths, peaks, rows);
     }
     if filled.len() < k {
-        return ChoiceLimits::Refused(Refusal {
+        return Err(Refusal {
             number: 61,
             place: 0,
         });

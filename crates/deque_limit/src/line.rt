@@ -3,14 +3,14 @@ ghost use Rattle.std.specs.Prelude.{◌≡◌, ◌≤◌, ◌++◌, length, drop
 ghost use Rattle.deque_limit.specs.ChoiceLimit.{choice_limits};
 ghost use Rattle.deque_limit.specs.Line.{choices_to, bounds_line, choices_line};
 
-use crate::{Bounds, ChoiceLimits, choice_limit_in};
+use crate::{Bounds, choice_limit_in};
 use table::read::byte;
-use table::{Loaded, Refusal};
+use table::Refusal;
 use text::{put_labelled, put_word};
 use useful_limit::line::{number_in, quota_in};
 
 // In working memory of its own.
-fn answer_whole(table: &[u8], p: u8, quota: u32, c: u32) -> ChoiceLimits
+fn answer_whole(table: &[u8], p: u8, quota: u32, c: u32) -> Result<Bounds, Refusal>
     ensures { result ≡ choice_limits table.now p quota c }
 {
     let mut filled = [0u8; 36868];
@@ -36,11 +36,11 @@ fn answer_whole(table: &[u8], p: u8, quota: u32, c: u32) -> ChoiceLimits
 }
 
 // Check 33, and the answer where it does not apply.
-pub(crate) fn answer_to(input: &[u8]) -> ChoiceLimits
+pub(crate) fn answer_to(input: &[u8]) -> Result<Bounds, Refusal>
     ensures { result ≡ choices_to input.now }
 {
     if input.len() < 8 {
-        return ChoiceLimits::Refused(Refusal {
+        return Err(Refusal {
             number: 33,
             place: 0,
         });
@@ -64,13 +64,13 @@ fn bounds_line(x: Bounds, out: &mut [u8; 80]) -> usize
 }
 
 // The line of an answer, and its length.
-pub(crate) fn answer_line(answer: ChoiceLimits, out: &mut [u8; 80]) -> usize
+pub(crate) fn answer_line(answer: Result<Bounds, Refusal>, out: &mut [u8; 80]) -> usize
     ensures value { result ≡ length (choices_line answer) }
     ensures out_after { out.new ≡ choices_line answer ++ drop result out.old }
     ensures upper_bound { result ≤ 64 }
 {
     match answer {
-        ChoiceLimits::Given(x) => bounds_line(x, out),
-        ChoiceLimits::Refused(refusal) => text::table_line(Loaded::Refused(refusal), out),
+        Ok(x) => bounds_line(x, out),
+        Err(refusal) => text::table_line(Err(refusal), out),
     }
 }

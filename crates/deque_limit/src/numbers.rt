@@ -8,7 +8,7 @@ ghost use Rattle.deque_limit.specs.ChoiceLimit.{near_limit, bounds_of};
 ghost use Rattle.deque_limit.specs.Asked.{Asked, Small};
 
 use crate::Bounds;
-use peak_walk::{Peaked, peak_in};
+use peak_walk::peak_in;
 use quota::allocs::least_quota;
 use table::Facts;
 use useful_limit::lower;
@@ -27,8 +27,8 @@ fn peak_at(
 {
     let answer = peak_in(table, load, false, rises, falls, peaks, rows);
     match answer {
-        Peaked::Given(peak) => peak,
-        Peaked::Refused(_) => 0,
+        Ok(peak) => peak,
+        Err(_) => 0,
     }
 }
 

@@ -1,4 +1,6 @@
 -- The listing with turns as they are defined, each with its test of the whole record, is the one that the worked cases compute.
+use Rattle.std.specs.Prelude.{Err, Ok, Result, ⊤}
+use Rattle.table.specs.declared.Refusal.{Refusal}
 use mathlib.Core.Path.{◌≡◌, refl, ap, ◌∙◌}
 use Prim.Native.Nat.{ℕ, zero, suc, ◌+◌, ◌-◌, ◌/◌, ◌^◌, ◌≤◌, ◌<◌}
 use mathlib.Core.List.{List, [], ◌∷◌, map, flatten}
@@ -7,11 +9,6 @@ use native.Mathlib.Omega.{arith}
 use lib.ListN.{length, drop, length-take}
 use Rattle.table.specs.Sum.{pick}
 use Rattle.table.specs.Pass.{try_at}
-use Rattle.table.specs.declared.Found.{Found}
-use Rattle.table.specs.declared.Found.TheVariants.{Nothing, At}
-use Rattle.schedule.specs.declared.Beginning.{Beginning}
-use Rattle.schedule.specs.declared.Beginning.TheVariants.{Begun as started}
-use Rattle.schedule.specs.declared.Beginning.TheVariants.{Refused as refused_beginning}
 use Rattle.schedule.specs.Begin.{start_state}
 use Rattle.schedule.specs.Listing.{Listing}
 use Rattle.lines.specs.Lines.{texts_of}
@@ -35,9 +32,9 @@ turned_turns : (r : DequeRun) (w c : ℕ) → (deque_turned r w c).run.run.turns
 unfolding deque_turned
 turned_turns r w c = go (try_at (deque_checks r w c) 0)
   where
-    go : (f : Found) → (deque_turned_as f r (step_deques r w c)).run.run.turns ≤ suc r.run.turns
-    go Nothing = omega (arith, moved_turns r (pair w c))
-    go (At x) = omega arith
+    go : (f : Result ⊤ Refusal) → (deque_turned_as f r (step_deques r w c)).run.run.turns ≤ suc r.run.turns
+    go (Ok _) = omega (arith, moved_turns r (pair w c))
+    go (Err x) = omega arith
 
 pairs_sound : (who : ℕ → Pair) (k i : ℕ) (r : DequeRun) → SteadyDeques r → r.run.turns + k < 2 ^ 64 - 1 → pairs_by deque_turned who k i r ≡ pairs_by deque_turned_sound who k i r
 unfolding pairs_by
@@ -50,11 +47,11 @@ pairs_sound who (suc k) i r h n =
     rw (ih, e)
 
 -- from an accepted beginning
-begun_sound : (t : List ℕ) (p K : ℕ) (order : List ℕ) → (deque_begin t p K).answer ≡ started → length order ≤ 4096 → order_by deque_turned (deque_begin t p K).run order ≡ order_by deque_turned_sound (deque_begin t p K).run order
+begun_sound : (t : List ℕ) (p K : ℕ) (order : List ℕ) → (deque_begin t p K).answer ≡ Ok tt → length order ≤ 4096 → order_by deque_turned (deque_begin t p K).run order ≡ order_by deque_turned_sound (deque_begin t p K).run order
 unfolding start_state
 begun_sound t p K order e n =
     let r : DequeRun = (deque_begin t p K).run in
-    let b : deque_begin t p K ≡ record { answer = started; run = r } = λ i. record { answer = e i; run = r } in
+    let b : deque_begin t p K ≡ record { answer = Ok tt; run = r } = λ i. record { answer = e i; run = r } in
     let z : r.run.turns ≡ 0 = ap (λ (d : Deques). d.state.turns) (start_values t p K r (deque_begin_started t p K r b)).3 in
     pairs_sound (pair_at order) (length order / 2) 0 r (deque_begin_sound t p K r b).steady (omega (arith, z, n))
 
@@ -62,11 +59,11 @@ listed_sound : (t : List ℕ) (p K : ℕ) (order : List ℕ) → length order �
 unfolding deque_listed_by
 listed_sound t p K order k = go (deque_begin t p K).answer refl
   where
-    go : (a : Beginning) → (deque_begin t p K).answer ≡ a
+    go : (a : Result ⊤ Refusal) → (deque_begin t p K).answer ≡ a
         → begun_then a (header_of (deque_begin t p K).run.run ∷ texts_of (order_by deque_turned (deque_begin t p K).run order))
         ≡ begun_then a (header_of (deque_begin t p K).run.run ∷ texts_of (order_by deque_turned_sound (deque_begin t p K).run order))
-    go started e = ap (λ (x : Listing). header_of (deque_begin t p K).run.run ∷ texts_of x) (begun_sound t p K order e k)
-    go (refused_beginning x) e = refl
+    go (Ok _) e = ap (λ (x : Listing). header_of (deque_begin t p K).run.run ∷ texts_of x) (begun_sound t p K order e k)
+    go (Err x) e = refl
 
 pub deque_listing_sound : (s : List ℕ) → deque_listing_of s ≡ deque_listing_by deque_turned_sound s
 unfolding deque_listing_by

@@ -1,4 +1,5 @@
 -- The texts of the turns of an order, turn by turn, and what the loop over the order keeps: whoever puts the texts of the rest puts those of the whole.
+use Rattle.std.specs.Prelude.{Err, Ok}
 use Prim.Native.Nat.{ℕ, zero, suc, ◌+◌, ◌-◌, ◌*◌, ◌/◌, ◌≤◌, ◌<◌}
 use native.Mathlib.Numerals.{add-one}
 use native.Mathlib.Omega.{arith}
@@ -26,7 +27,6 @@ use Rattle.run_memory.specs.Memory.{Memory, moved_in, Told}
 use Rattle.run_memory.specs.Stands.{run_in}
 use Rattle.deques.specs.declared.DequeRun.{DequeRun}
 use Rattle.deques.specs.declared.DequeTurned.{DequeTurned}
-use Rattle.deques.specs.declared.DequeTurning.TheVariants.{Taken, Refused}
 use Rattle.deques.specs.DequeTurn.{unsound_deques, deque_turned}
 use Rattle.deques.specs.DequeRuns.{Pair, pair, pair_at}
 use Rattle.stealing.specs.StealingMemory.{deque_turn_in, deque_run_in, DequesStand}
@@ -46,11 +46,11 @@ rest_ended order zero i r e = refl
 rest_ended order (suc k) i r e = rw e
 
 module _ (order : List ℕ) (k i : ℕ) (r : DequeRun) {t : DequeTurned} (going : root_ended r.run ≡ false) (e : t ≡ deque_turned r (pair_at order i).worker (pair_at order i).choice) where
-  rest_refused : {x : Refusal} → t.answer ≡ Refused x → rest_texts order (suc k) i r ≡ refused_line x ∷ []
+  rest_refused : {x : Refusal} → t.answer ≡ Err x → rest_texts order (suc k) i r ≡ refused_line x ∷ []
   unfolding rest_texts pairs_by lines_then last_texts
   rest_refused q = rw (going, ← e, q)
 
-  rest_taken : {x : Reply} → t.answer ≡ Taken x
+  rest_taken : {x : Reply} → t.answer ≡ Ok x
       → rest_texts order (suc k) i r ≡ turn_texts (line t.run.run.turns (pair_at order i).worker (told_by x t.run.run) t.run.run.held) ++ rest_texts order k (suc i) t.run
   unfolding rest_texts pairs_by lines_then
   rest_taken q = rw (going, ← e, q)
@@ -96,10 +96,10 @@ module _ {order out₀ : List ℕ} {at₀ : ℕ} {run₀ : DequeRun} {out : List
     one_more : (k : ℕ) × (i + suc k ≡ length order / 2)
     one_more = (length order / 2 - suc i, omega (arith, h))
 
-    pub refused : (x : Refusal) {o : List ℕ} {r : ℕ} → t.answer ≡ Refused x → Puts out at o r (refused_line x ∷ []) 64 → Whole o r
+    pub refused : (x : Refusal) {o : List ℕ} {r : ℕ} → t.answer ≡ Err x → Puts out at o r (refused_line x ∷ []) 64 → Whole o r
     refused x q p = let (k, s) = one_more in whole (suc k) s (rest_refused order k i run going e q) p
 
-    pub again : {x : Reply} {o : List ℕ} {r : ℕ} → t.answer ≡ Taken x → length o ≡ length out
+    pub again : {x : Reply} {o : List ℕ} {r : ℕ} → t.answer ≡ Ok x → length o ≡ length out
         → Puts out at o r (turn_texts (line t.run.run.turns (pair_at order i).worker (told_by x t.run.run) t.run.run.held)) 64
         → Listed order out₀ at₀ run₀ o t.run r (i + 1)
     again q l p =

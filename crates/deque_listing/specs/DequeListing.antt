@@ -1,5 +1,7 @@
 -- What `dequelist` prints, from the bytes that it reads: the listing of a run of DFDeques, its input and its lines as `turnlist`'s, "two bytes a turn, worker and choice".
-use Rattle.std.specs.Prelude.{ℕ, zero, suc, ◌/◌, length}
+use Rattle.std.specs.Prelude.{ℕ, zero, suc, ◌/◌, length, Err, Ok, Result}
+use Rattle.schedule.specs.declared.Reply.{Reply}
+use Rattle.table.specs.declared.Refusal.{Refusal}
 use mathlib.Core.List.{List, [], ◌∷◌, flatten}
 use Rattle.table.specs.Sum.{pick}
 use Rattle.schedule.specs.Turn.{root_ended}
@@ -8,17 +10,14 @@ use Rattle.lines.specs.Lines.{texts_of}
 use Rattle.listing.specs.Listing.{workers_in, quota_in, order_in, table_after, input_wrong, begun_then, header_of, wrong_input}
 use Rattle.deques.specs.declared.DequeRun.{DequeRun}
 use Rattle.deques.specs.declared.DequeTurned.{DequeTurned}
-use Rattle.deques.specs.declared.DequeTurning.{DequeTurning}
-use Rattle.deques.specs.declared.DequeTurning.TheVariants.{Taken}
-use Rattle.deques.specs.declared.DequeTurning.TheVariants.{Refused as refused_turn}
 use Rattle.deques.specs.DequeBegin.{deque_begin}
 use Rattle.deques.specs.DequeTurn.{unsound_deques, deque_turned}
 use Rattle.deques.specs.DequeRuns.{Pair, pair_at}
 
 -- the line of a turn and the lines after it; a refusal is the last line
-abbrev pub pair_then : DequeTurning → ℕ → DequeRun → Listing → Listing
-pair_then (Taken x) w r rest = listing (line r.run.turns w (told_by x r.run) r.run.held ∷ rest.lines) rest.last
-pair_then (refused_turn x) w r rest = listing [] (refused x.number x.place)
+abbrev pub pair_then : Result Reply Refusal → ℕ → DequeRun → Listing → Listing
+pair_then (Ok x) w r rest = listing (line r.run.turns w (told_by x r.run) r.run.held ∷ rest.lines) rest.last
+pair_then (Err x) w r rest = listing [] (refused x.number x.place)
 
 -- k turns more after i turns, the pair of turn i given by `who`, one after the other up to the root's end or a refusal
 unfoldable pub pairs_by : (DequeRun → ℕ → ℕ → DequeTurned) → (ℕ → Pair) → ℕ → ℕ → DequeRun → Listing

@@ -11,8 +11,6 @@ ghost use Rattle.deque_listing.specs.DequeListing.{deque_listed_by, deque_listin
 
 use lines::put_answer;
 use listing::{input_wrong, put_header, put_wrong, quota_in};
-use schedule::Beginning;
-use table::Loaded;
 use table::read::{byte, word};
 use turns::list_pairs;
 
@@ -22,8 +20,8 @@ fn put_listing(table: &[u8], p: u8, quota: u32, order: &[u8], out: &mut [u8]) ->
 {
     let begun = dfdeques::deque_begin(table, p, quota);
     let answer = begun.answer;
-    if let Beginning::Refused(refusal) = answer {
-        return put_answer(out, 0, Loaded::Refused(refusal));
+    if let Err(refusal) = answer {
+        return put_answer(out, 0, Err(refusal));
     }
     let run = begun.run;
     let record = run.run;

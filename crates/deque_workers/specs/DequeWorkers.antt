@@ -1,10 +1,10 @@
 -- Workers that take turns of one run of DFDeques and do its actions, as events in any order (docs/WORKERS.md, rules 1 to 4).
-use Rattle.std.specs.Prelude.{◌≡◌, ℕ, List, [], ◌∷◌}
+use Rattle.std.specs.Prelude.{◌≡◌, ℕ, List, [], ◌∷◌, Err, Ok, Result}
+use Rattle.schedule.specs.declared.Reply.{Reply}
+use Rattle.table.specs.declared.Refusal.{Refusal}
 use Rattle.table.specs.Format.{Table}
 use Rattle.schedule.specs.Record.{table_in}
 use Rattle.deques.specs.declared.DequeRun.{DequeRun}
-use Rattle.deques.specs.declared.DequeTurning.{DequeTurning}
-use Rattle.deques.specs.declared.DequeTurning.TheVariants.{Taken, Refused}
 use Rattle.deques.specs.DequeTurn.{deque_turned}
 use Rattle.deques.specs.DequeRuns.{Pair}
 use Rattle.deques.specs.DequeCalls.{DequeCall}
@@ -25,9 +25,9 @@ abbrev pub starting_deques : DequeRun → DequeWorkers
 starting_deques r = record { run = r; real = no_memory }
 
 -- a refused turn changes nothing
-abbrev pub deque_effect_in : Table → DequeTurning → Effect
-deque_effect_in T (Taken x) = effect_of T x
-deque_effect_in T (Refused x) = nothing
+abbrev pub deque_effect_in : Table → Result Reply Refusal → Effect
+deque_effect_in T (Ok x) = effect_of T x
+deque_effect_in T (Err x) = nothing
 
 unfoldable pub after_deque_event : DequeEvent → DequeWorkers → DequeWorkers
 after_deque_event (turn w c) s =

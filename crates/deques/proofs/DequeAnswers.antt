@@ -1,4 +1,6 @@
 -- Every call's answer has the number and the values that follow from its checks, its turns and their replies.
+use Rattle.std.specs.Prelude.{Err, Ok, Result, ⊤}
+use Rattle.table.specs.declared.Refusal.{Refusal}
 use mathlib.Core.Path.{◌≡◌, refl, sym, ap, ◌∙◌, fun_ext}
 use Prim.Native.Nat.{ℕ, zero, suc, ◌+◌, ◌-◌, ◌/◌, ◌^◌}
 use native.Mathlib.Nat.{zero-add, suc-add, add-zero, add-suc}
@@ -13,8 +15,6 @@ use Rattle.table.specs.Format.{table_of}
 use Rattle.table.specs.Pass.{refusal, try_at, first_found}
 use Rattle.table.specs.Checks.{passes}
 use Rattle.table.specs.Load.{if_found}
-use Rattle.table.specs.declared.Found.{Found}
-use Rattle.table.specs.declared.Found.TheVariants.{Nothing, At}
 use Rattle.filling.specs.Filled.{filled_out}
 use Rattle.schedule.specs.declared.Reply.{Reply}
 use Rattle.schedule.specs.declared.Reply.TheVariants.{Idle, Done, Quota, Wait}
@@ -27,7 +27,6 @@ use Rattle.schedule.specs.Values.{said_values, begin_values, first_that}
 use Rattle.deques.specs.declared.DequeRun.{DequeRun}
 use Rattle.deques.specs.declared.DequeRan.{DequeRan}
 use Rattle.deques.specs.Deques.{DequeStep}
-use Rattle.deques.specs.declared.DequeTurning.TheVariants.{Refused as refused_turn}
 use Rattle.deques.specs.DequeRecord.{blank_deques}
 use Rattle.deques.specs.DequeSound.{deque_sound}
 use Rattle.deques.specs.DequeBegin.{start_deque_run, deque_begun_as, deque_begin}
@@ -42,22 +41,22 @@ pub deque_begin_values : (s : List ℕ) (p K : ℕ) → beginning_values (deque_
 unfolding deque_begin begin_values
 deque_begin_values s p K = go (first_found (passes s ++ begin_passes (table_of s) p K))
   where
-    go : (found : Found) → beginning_values (deque_begun_as found (start_deque_run (filled_out s K) p K)).answer ≡ said_values found begun 0 0 0
-    go Nothing = refl
-    go (At x) = refl
+    go : (found : Result ⊤ Refusal) → beginning_values (deque_begun_as found (start_deque_run (filled_out s K) p K)).answer ≡ said_values found begun 0 0 0
+    go (Ok _) = refl
+    go (Err x) = refl
 
 pub deque_turn_values_lem : (r : DequeRun) (w c : ℕ) → deque_turning_values (deque_turned r w c).answer ≡ deque_turn_values r w c
 unfolding deque_turned deque_turn_values
 deque_turn_values_lem r w c = go (try_at (deque_checks r w c) 0) (step_deques r w c) (step_deques r w c).reply refl
   where
-    go : (found : Found) (d : DequeStep) (x : Reply) → d.reply ≡ x
+    go : (found : Result ⊤ Refusal) (d : DequeStep) (x : Reply) → d.reply ≡ x
         → deque_turning_values (deque_turned_as found r d).answer
         ≡ said_values found (reply_values d.reply).said (reply_values d.reply).thread (reply_values d.reply).value (if_found found 0 1)
-    go (At y) d x e = refl
-    go Nothing d Idle e = rw e
-    go Nothing d (Done t a) e = rw e
-    go Nothing d (Quota t a) e = rw e
-    go Nothing d (Wait t c) e = rw e
+    go (Err y) d x e = refl
+    go (Ok _) d Idle e = rw e
+    go (Ok _) d (Done t a) e = rw e
+    go (Ok _) d (Quota t a) e = rw e
+    go (Ok _) d (Wait t c) e = rw e
 
 -- ---- runs
 
@@ -72,7 +71,7 @@ first_same g h e k = ap (λ (x : ℕ → Bool). first_that x k) (fun_ext e)
 
 -- the values of a run that stops after n of k turns, i turns having gone before: the record that they left, and the pair of the next
 abbrev stopped : ℕ → ℕ → ℕ → DequeRun → Pair → Values
-stopped i n k left g = said_values (pick (eqb n k || root_ended left.run) Nothing (try_at (pair_checks left g) 0)) (pick (root_ended left.run) finished spent) 0 0 (i + n)
+stopped i n k left g = said_values (pick (eqb n k || root_ended left.run) (Ok tt) (try_at (pair_checks left g) 0)) (pick (root_ended left.run) finished spent) 0 0 (i + n)
 
 stopped_next : (i n k : ℕ) (left : DequeRun) (g : Pair) → stopped i (suc n) (suc k) left g ≡ stopped (suc i) n k left g
 stopped_next i n k left g = rw (eqb-suc-suc, add-suc, suc-add)
@@ -88,7 +87,7 @@ module _ (f : ℕ → Pair) (k : ℕ) (r : DequeRun) where
   taken_none e = rw e
 
   stop_now : (i : ℕ) → stops_before r (f 0) ≡ true
-      → from i f (suc k) r ≡ said_values (pick (root_ended r.run) Nothing (try_at (pair_checks r (f 0)) 0)) (pick (root_ended r.run) finished spent) 0 0 i
+      → from i f (suc k) r ≡ said_values (pick (root_ended r.run) (Ok tt) (try_at (pair_checks r (f 0)) 0)) (pick (root_ended r.run) finished spent) 0 0 i
   unfolding after_pairs
   stop_now i e = ap (λ (n : ℕ). stopped i n (suc k) (after_pairs f n r) (f n)) (taken_none e) ∙ rw (eqb-zero-suc, add-zero)
 
@@ -109,7 +108,7 @@ stops_by : (r : DequeRun) (g : Pair) → stops_before r g ≡ (root_ended r.run 
 unfolding stops_before pair_checks try_at
 stops_by r g = ap (λ (b : Bool). root_ended r.run || b) (go (eqb r.run.turns (2 ^ 64 - 1)) (no_worker r.run g.worker) (no_choice r g.choice))
   where
-    go : (c d e : Bool) → if_found (pick c (At (refusal 32 0)) (pick d (At (refusal 30 0)) (pick e (At (refusal 49 0)) Nothing))) true false ≡ (c || (d || e))
+    go : (c d e : Bool) → if_found (pick c (Err (refusal 32 0)) (pick d (Err (refusal 30 0)) (pick e (Err (refusal 49 0)) (Ok tt)))) true false ≡ (c || (d || e))
     go true d e = refl
     go false true e = refl
     go false false true = refl
@@ -139,7 +138,7 @@ drive_values : (who f : ℕ → Pair) (k i : ℕ) (r : DequeRun) → ((n : ℕ) 
 unfolding drive_deques pairs_taken first_that after_pairs
 drive_values who f zero i r h = rw add-zero (go (root_ended r.run))
   where
-    go : (b : Bool) → report_values (pick b (Finished i) (Spent i)) ≡ said_values Nothing (pick b finished spent) 0 0 i
+    go : (b : Bool) → report_values (pick b (Finished i) (Spent i)) ≡ said_values (Ok tt) (pick b finished spent) 0 0 i
     go true = refl
     go false = refl
 drive_values who f (suc k) i r h =
@@ -147,7 +146,7 @@ drive_values who f (suc k) i r h =
     (drive_values who (λ n. f (suc n)) k (suc i) (deque_moved r (f 0)) (λ n. ap who (suc-add i n ∙ sym (add-suc i n)) ∙ h (suc n)))
 
 -- from its first turn on, the checks before it having found nothing
-run_values_lem : (who : ℕ → Pair) (k : ℕ) (r : DequeRun) → report_values (drive_deques who k 0 r).report ≡ driven_values Nothing who k r
+run_values_lem : (who : ℕ → Pair) (k : ℕ) (r : DequeRun) → report_values (drive_deques who k 0 r).report ≡ driven_values (Ok tt) who k r
 unfolding driven_values pairs_stopped_by
 run_values_lem who k r = drive_values who who k 0 r (λ n. ap who (zero-add n)) ∙ rw zero-add
 
@@ -159,11 +158,11 @@ pairs_values_lem r l = go (unsound_deques r) (run_values_lem (pair_at l) (length
     whole : DequeRan
     whole = drive_deques (pair_at l) (length l / 2) 0 r
 
-    values : Found → Values
+    values : Result ⊤ Refusal → Values
     values before = driven_values before (pair_at l) (length l / 2) r
 
-    go : (b : Bool) → report_values whole.report ≡ values Nothing
-        → report_values (pick b (deque_ran (Refused 0 (refusal 32 0)) r) whole).report ≡ values (pick b (At (refusal 32 0)) Nothing)
+    go : (b : Bool) → report_values whole.report ≡ values (Ok tt)
+        → report_values (pick b (deque_ran (Refused 0 (refusal 32 0)) r) whole).report ≡ values (pick b (Err (refusal 32 0)) (Ok tt))
     go true e = refl
     go false e = e
 
@@ -190,7 +189,7 @@ unfolding blank_deques blank
 blank_turns = ne_eqb 0 (2 ^ 64 - 1) (λ e. omega arith)
 
 -- "any turn .. on it gets 30"
-pub deque_blank_turn : (w c : ℕ) → deque_turned blank_deques w c ≡ record { answer = refused_turn (refusal 30 0); run = blank_deques }
+pub deque_blank_turn : (w c : ℕ) → deque_turned blank_deques w c ≡ record { answer = Err (refusal 30 0); run = blank_deques }
 unfolding deque_turned deque_checks try_at no_worker
 deque_blank_turn w c = rw (blank_passes, no_worker_lem w)
 

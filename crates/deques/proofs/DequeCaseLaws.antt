@@ -1,4 +1,6 @@
 -- The worked cases hold of turns and runs as they are defined, each with its test of the whole record.
+use Rattle.std.specs.Prelude.{Err, Ok, Result, ⊤}
+use Rattle.table.specs.declared.Refusal.{Refusal}
 use mathlib.Core.Path.{◌≡◌, refl, ap, ◌∙◌}
 use Prim.Native.Nat.{ℕ, suc, ◌+◌, ◌-◌, ◌^◌, ◌≤◌, ◌<◌}
 use native.Mathlib.Omega.{arith}
@@ -8,13 +10,10 @@ use lib.ListN.{length}
 use lib.Dec.{ltb}
 use borrow.Author.Tests.{ltb-true}
 use Rattle.table.specs.Pass.{try_at}
-use Rattle.table.specs.declared.Found.{Found}
-use Rattle.table.specs.declared.Found.TheVariants.{Nothing, At}
 use Rattle.table.specs.Cases.{E}
 use Rattle.order.proofs.Words.{and_exactly}
 use Rattle.schedule.specs.Begin.{start_state}
 use Rattle.deques.specs.Deques.{Deques}
-use Rattle.schedule.specs.declared.Beginning.TheVariants.{Begun as started}
 use Rattle.schedule.specs.Answers.{report_values}
 use Rattle.deques.specs.declared.DequeRun.{DequeRun}
 use Rattle.deques.specs.declared.DequeTurned.{DequeTurned}
@@ -42,9 +41,9 @@ turned_turns : (r : DequeRun) (w c : ℕ) → (deque_turned r w c).run.run.turns
 unfolding deque_turned
 turned_turns r w c = go (try_at (deque_checks r w c) 0)
   where
-    go : (f : Found) → (deque_turned_as f r (step_deques r w c)).run.run.turns ≤ suc r.run.turns
-    go Nothing = omega (arith, moved_turns r (pair w c))
-    go (At x) = omega arith
+    go : (f : Result ⊤ Refusal) → (deque_turned_as f r (step_deques r w c)).run.run.turns ≤ suc r.run.turns
+    go (Ok _) = omega (arith, moved_turns r (pair w c))
+    go (Err x) = omega arith
 
 said_same : (r : DequeRun) → SteadyDeques r → (order : List Pair) (g : Pair) → r.run.turns + length order < 2 ^ 64 - 1 → said_after deque_turned r order g ≡ said_after deque_turned_sound r order g
 said_same r h [] g n =
@@ -53,7 +52,7 @@ said_same r h (p ∷ order) g n =
     said_same (deque_turned r p.worker p.choice).run (deque_turn_steady r p.worker p.choice h) order g (omega (arith, n, turned_turns r p.worker p.choice))
     ∙ ap (λ (x : DequeTurned). said_after deque_turned_sound x.run order g) (deque_turned_sound_lem r p.worker p.choice (record { steady = h; turns = omega (arith, n) }))
 
-begun : deque_begin E 2 6 ≡ record { answer = started; run = start_e }
+begun : deque_begin E 2 6 ≡ record { answer = Ok tt; run = start_e }
 begun = λ i. record { answer = begins_E i; run = start_e }
 
 start_sound : SoundDeques start_e

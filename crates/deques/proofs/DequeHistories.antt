@@ -1,4 +1,5 @@
 -- Lists of calls of DFDeques: a beginning's record is sound, calls keep it so (turns taken apart, at its limit), and what a list of calls leaves are the deques after its row.
+use Rattle.std.specs.Prelude.{Err, Ok, Result, ⊤}
 use mathlib.Core.Path.{◌≡◌, refl, sym, ap, ◌∙◌}
 use Prim.Native.Nat.{ℕ, zero, suc, ◌+◌, ◌-◌, ◌/◌, ◌^◌, ◌≤◌, ◌<◌}
 use native.Mathlib.Omega.{arith}
@@ -14,13 +15,9 @@ use Rattle.table.specs.Format.{Table, table_of}
 use Rattle.table.specs.Pass.{refusal, first_found, try_at}
 use Rattle.table.specs.Checks.{passes}
 use Rattle.table.specs.Rules.{Rules}
-use Rattle.table.specs.declared.Found.{Found}
-use Rattle.table.specs.declared.Found.TheVariants.{Nothing, At}
 use Rattle.table.specs.declared.Refusal.{Refusal}
 use Rattle.table.proofs.Tests.{no_way}
 use Rattle.table.proofs.Trying.{try_at_nothing}
-use Rattle.schedule.specs.declared.Beginning.TheVariants.{Begun as started}
-use Rattle.schedule.specs.declared.Beginning.TheVariants.{Refused as refused_beginning}
 use Rattle.schedule.specs.declared.Report.{Report}
 use Rattle.schedule.specs.declared.Report.TheVariants.{Finished, Spent, Refused}
 use Rattle.schedule.specs.declared.Run.{Run}
@@ -39,7 +36,6 @@ use Rattle.schedule.proofs.Runs.Histories.{start_steady}
 use Rattle.schedule.proofs.Stores.{Fits}
 use Rattle.deques.specs.declared.DequeRun.{DequeRun}
 use Rattle.deques.specs.declared.DequeBegun.{DequeBegun}
-use Rattle.deques.specs.declared.DequeTurning.TheVariants.{Refused as refused_turn}
 use Rattle.deques.specs.declared.DequeRan.{DequeRan}
 use Rattle.deques.specs.Deques.{Deques, start_deques, bottom, deque_turn}
 use Rattle.deques.specs.DequeRecord.{deques_of, blank_deques}
@@ -59,33 +55,33 @@ pub record StartedDeques (s : List ℕ) (p K : ℕ) (r : DequeRun) : Type 0 wher
   pub lawful : Lawful (table_of (filled_out s K))
   pub settings : Fits p K
 
-pub deque_begin_started : (s : List ℕ) (p K : ℕ) (r : DequeRun) → deque_begin s p K ≡ record { answer = started; run = r } → StartedDeques s p K r
+pub deque_begin_started : (s : List ℕ) (p K : ℕ) (r : DequeRun) → deque_begin s p K ≡ record { answer = Ok tt; run = r } → StartedDeques s p K r
 unfolding deque_begin
 deque_begin_started s p K r e = go (first_found (passes s ++ begin_passes (table_of s) p K)) refl e
   where
-    go : (f : Found) → first_found (passes s ++ begin_passes (table_of s) p K) ≡ f → deque_begun_as f (start_deque_run (filled_out s K) p K) ≡ record { answer = started; run = r } → StartedDeques s p K r
-    go Nothing n q =
+    go : (f : Result ⊤ Refusal) → first_found (passes s ++ begin_passes (table_of s) p K) ≡ f → deque_begun_as f (start_deque_run (filled_out s K) p K) ≡ record { answer = Ok tt; run = r } → StartedDeques s p K r
+    go (Ok _) n q =
         let (a, f, x) = silent_runs s p K n in
         record { is_start = sym (ap (λ (x : DequeBegun). x.run) q); filling = x; lawful = lawful (filled_out s K) x.rules; settings = f }
-    go (At x) n q = let z = ap (λ (y : DequeBegun). y.answer) q in no_way (cc)
+    go (Err x) n q = let z = ap (λ (y : DequeBegun). y.answer) q in no_way (cc)
 
 -- the checks of a beginning are AsyncDF's
 pub deque_begin_answer : (s : List ℕ) (p K : ℕ) → (deque_begin s p K).answer ≡ (begin s p K).answer
 unfolding deque_begin begin
 deque_begin_answer s p K = go (first_found (passes s ++ begin_passes (table_of s) p K))
   where
-    go : (f : Found) → (deque_begun_as f (start_deque_run (filled_out s K) p K)).answer ≡ (begun_as f (start_run (filled_out s K) p K)).answer
-    go Nothing = refl
-    go (At x) = refl
+    go : (f : Result ⊤ Refusal) → (deque_begun_as f (start_deque_run (filled_out s K) p K)).answer ≡ (begun_as f (start_run (filled_out s K) p K)).answer
+    go (Ok _) = refl
+    go (Err x) = refl
 
 -- "A refused beginning hands back the blank record"
-pub deque_begin_refused_record : (s : List ℕ) (p K : ℕ) (x : Refusal) → (deque_begin s p K).answer ≡ refused_beginning x → (deque_begin s p K).run ≡ blank_deques
+pub deque_begin_refused_record : (s : List ℕ) (p K : ℕ) (x : Refusal) → (deque_begin s p K).answer ≡ Err x → (deque_begin s p K).run ≡ blank_deques
 unfolding deque_begin
 deque_begin_refused_record s p K x e = go (first_found (passes s ++ begin_passes (table_of s) p K)) e
   where
-    go : (f : Found) → (deque_begun_as f (start_deque_run (filled_out s K) p K)).answer ≡ refused_beginning x → (deque_begun_as f (start_deque_run (filled_out s K) p K)).run ≡ blank_deques
-    go Nothing q = no_way (cc)
-    go (At y) q = refl
+    go : (f : Result ⊤ Refusal) → (deque_begun_as f (start_deque_run (filled_out s K) p K)).answer ≡ Err x → (deque_begun_as f (start_deque_run (filled_out s K) p K)).run ≡ blank_deques
+    go (Ok _) q = no_way (cc)
+    go (Err y) q = refl
 
 module _ (s : List ℕ) (p K : ℕ) where
   -- the record of the start is AsyncDF's, with the root as the one bottom
@@ -103,7 +99,7 @@ module _ (s : List ℕ) (p K : ℕ) where
   start_read l = stored_back (table_of s) l p K (start_deques (table_of s)) (start_kept (table_of s) l p K) (start_run s p K) refl
 
   -- a record with the table given, whatever its allocs
-  pub start_steady_deques : Rules s → first_found (setting_passes p K) ≡ Nothing → SteadyDeques (start_deque_run s p K)
+  pub start_steady_deques : Rules s → first_found (setting_passes p K) ≡ Ok tt → SteadyDeques (start_deque_run s p K)
   unfolding start_deque_run start_run
   start_steady_deques h f =
       let r : Run = start_run s p K in
@@ -133,7 +129,7 @@ start_values s p K r b =
     let f : List ℕ = filled_out s K in
     rw b.is_start (start_copy f p K, start_workers f p K, start_quota f p K, start_read f p K b.lawful)
 
-pub deque_begin_sound : (s : List ℕ) (p K : ℕ) (r : DequeRun) → deque_begin s p K ≡ record { answer = started; run = r } → SoundDeques r
+pub deque_begin_sound : (s : List ℕ) (p K : ℕ) (r : DequeRun) → deque_begin s p K ≡ record { answer = Ok tt; run = r } → SoundDeques r
 deque_begin_sound s p K r e =
     let b : StartedDeques s p K r = deque_begin_started s p K r e in
     rw b.is_start
@@ -258,7 +254,7 @@ drive_goes who (suc k) i r h =
     go false false false false e q ih = steps who k i r rest h (worker_there r (who i).worker e) (choice_there r (who i).choice q) (ih e)
 
 -- a turn that is taken has a worker and a choice below p
-turn_below : (r : DequeRun) (w c : ℕ) → try_at (deque_checks r w c) 0 ≡ Nothing → (w < r.run.workers) × (c < r.run.workers)
+turn_below : (r : DequeRun) (w c : ℕ) → try_at (deque_checks r w c) 0 ≡ Ok tt → (w < r.run.workers) × (c < r.run.workers)
 unfolding deque_checks
 turn_below r w c e =
     let s = (try_at_nothing (deque_checks r w c) 0).0 e in
@@ -268,11 +264,11 @@ turn_goes : (r : DequeRun) (w c : ℕ) → SteadyDeques r → Goes r (deque_turn
 unfolding deque_turned
 turn_goes r w c h = go (try_at (deque_checks r w c) 0) refl
   where
-    go : (f : Found) → try_at (deque_checks r w c) 0 ≡ f → Goes r (deque_turn_row (deque_turned_as f r (step_deques r w c)).answer (pair w c)) (deque_turned_as f r (step_deques r w c)).run
-    go Nothing e =
+    go : (f : Result ⊤ Refusal) → try_at (deque_checks r w c) 0 ≡ f → Goes r (deque_turn_row (deque_turned_as f r (step_deques r w c)).answer (pair w c)) (deque_turned_as f r (step_deques r w c)).run
+    go (Ok _) e =
         let b : (w < r.run.workers) × (c < r.run.workers) = turn_below r w c e in
         record { left = left_step r (pair w c) [] (deque_moved r (pair w c)) h b.0 b.1 (left_none (deque_moved r (pair w c))); steady = moved_steady r h (pair w c) b.0 }
-    go (At x) e = goes_none r h
+    go (Err x) e = goes_none r h
 
 pairs_goes : (r : DequeRun) (l : List ℕ) → SteadyDeques r → Goes r (pairs_from (pair_at l) 0 (turns_in (pairs_run r l).report)) (pairs_run r l).run
 unfolding pairs_run pairs_from
@@ -316,29 +312,29 @@ deque_calls_left r h (c ∷ calls) =
     (deque_calls_left (after_deque_call c r) g.steady calls)
 
 -- a refused turn leaves the record as it was
-pub deque_turn_refused : (r : DequeRun) (w c : ℕ) (x : Refusal) → (deque_turned r w c).answer ≡ refused_turn x → (deque_turned r w c).run ≡ r
+pub deque_turn_refused : (r : DequeRun) (w c : ℕ) (x : Refusal) → (deque_turned r w c).answer ≡ Err x → (deque_turned r w c).run ≡ r
 unfolding deque_turned
 deque_turn_refused r w c x e = go (try_at (deque_checks r w c) 0) e
   where
-    go : (f : Found) → (deque_turned_as f r (step_deques r w c)).answer ≡ refused_turn x → (deque_turned_as f r (step_deques r w c)).run ≡ r
-    go Nothing e = no_way (cc)
-    go (At y) e = refl
+    go : (f : Result ⊤ Refusal) → (deque_turned_as f r (step_deques r w c)).answer ≡ Err x → (deque_turned_as f r (step_deques r w c)).run ≡ r
+    go (Ok _) e = no_way (cc)
+    go (Err y) e = refl
 
 -- of a beginning and a list of calls: the deques left are those after the row of its turns, from the start on; the record is sound but for its turns taken
 pub record TracedDeques (s : List ℕ) (p K : ℕ) (r : DequeRun) (calls : List DequeCall) : Type 0 where
-  pub started : StartedDeques s p K r
+  pub (Ok tt) : StartedDeques s p K r
   pub steady : SteadyDeques (after_deque_calls calls r)
   pub below : (g : Pair) → Memᴰ g (pairs_of_calls calls r) → (g.worker < p) × (g.choice < p)
   pub deques : deques_of (after_deque_calls calls r) ≡ row_deques (table_of (filled_out s K)) K (start_deques (table_of (filled_out s K))) (pairs_of_calls calls r)
 
-pub deque_calls_traced : (s : List ℕ) (p K : ℕ) (r : DequeRun) → deque_begin s p K ≡ record { answer = started; run = r } → (calls : List DequeCall) → TracedDeques s p K r calls
+pub deque_calls_traced : (s : List ℕ) (p K : ℕ) (r : DequeRun) → deque_begin s p K ≡ record { answer = Ok tt; run = r } → (calls : List DequeCall) → TracedDeques s p K r calls
 deque_calls_traced s p K r e calls =
     let b : StartedDeques s p K r = deque_begin_started s p K r e in
     let h : SteadyDeques r = (deque_begin_sound s p K r e).steady in
     let l : LeftDeques r (pairs_of_calls calls r) (after_deque_calls calls r) = deque_calls_left r h calls in
     let o = start_values s p K r b in
     record {
-      started = b;
+      (Ok _) = b;
       steady = deque_calls_steady r h calls;
       below = λ g m. rw o.1 at (l.below g m);
       deques = l.deques ∙ rw (o.0, o.2, o.3);

@@ -1,4 +1,5 @@
 -- The record and its deques: what is stored is read back, deques that are kept stored give a sound record, and a turn keeps it so.
+use Rattle.std.specs.Prelude.{Ok}
 use mathlib.Core.Path.{◌≡◌, refl, sym, ap, subst}
 use Prim.Native.Nat.{ℕ, suc, ◌+◌, ◌<◌}
 use native.Mathlib.Omega.{arith}
@@ -12,7 +13,6 @@ use borrow.Author.Tests.{ne_eqb}
 use Rattle.table.specs.Sum.{pick}
 use Rattle.table.specs.Rules.{Rules}
 use Rattle.table.specs.Pass.{first_found}
-use Rattle.table.specs.declared.Found.TheVariants.{Nothing}
 use Rattle.table.specs.Format.{Kind, end, work, alloc, free, fork, join, unknown, Table, kind}
 use Rattle.schedule.specs.declared.Run.{Run}
 use Rattle.schedule.specs.Memory.{count_in}
@@ -127,7 +127,7 @@ moved_turns r g = (still r g).turns
 -- ---- a sound record
 
 -- deques that are kept, in a record with a table that keeps the rules
-module _ (r : Run) (rules : Rules (bytes_of r)) (settings : first_found (setting_passes r.workers r.quota) ≡ Nothing) (size : length (bytes_of r) ≡ r.length)
+module _ (r : Run) (rules : Rules (bytes_of r)) (settings : first_found (setting_passes r.workers r.quota) ≡ Ok tt) (size : length (bytes_of r) ≡ r.length)
     (rest : r.table ≡ filled max_bytes (bytes_of r)) (d : Deques) (k : Kept (table_in r) r.workers r.quota d) where
   back : deques_in (deque_stored r d) ≡ d.deques
   back = stored_deques (table_in r) (lawful (bytes_of r) rules) r.workers r.quota d k r

@@ -1,4 +1,5 @@
 -- The executable tests are the records: `deque_sound` is true exactly of the sound records, `is_blank_deques` exactly of the blank one.
+use Rattle.std.specs.Prelude.{Ok}
 use mathlib.Core.Path.{◌≡◌, refl, ap}
 use mathlib.Core.Logic.Iff
 use mathlib.Core.Logic.{◌↔◌, ◌⊎◌, inl, inr}
@@ -17,7 +18,6 @@ use Rattle.schedule.specs.declared.Worker.{Worker}
 use Rattle.schedule.specs.Links.{Links}
 use Rattle.schedule.specs.Memory.{count_in}
 use Rattle.table.specs.Rules.{Rules}
-use Rattle.table.specs.declared.Found.TheVariants.{Nothing}
 use Rattle.schedule.specs.Record.{max_bytes, set_of, bytes_of, table_in}
 use Rattle.schedule.specs.Begin.{setting_passes}
 use Rattle.schedule.specs.Sound.{Common, common_sound, same_links}
@@ -106,7 +106,7 @@ same_links_exactly k l =
 pub record_exactly : (r : DequeRun)
     → (record_sound r ≡ true)
     ↔ ((Rules (bytes_of r.run)
-    × ((first_found (setting_passes r.run.workers r.run.quota) ≡ Nothing)
+    × ((first_found (setting_passes r.run.workers r.run.quota) ≡ Ok tt)
     × (Common (table_in r.run) r.run.workers r.run.quota r.run.next r.run.status r.run.amounts r.run.worker r.run.held r.run.highest
     × (r.run.busy ≡ set_of r.run.worker))))
     × ((length (bytes_of r.run) ≡ r.run.length) × ((r.run.table ≡ filled max_bytes (bytes_of r.run)) × (r.run.turns < 2 ^ 64 - 1))))

@@ -1,10 +1,10 @@
 -- Lists of calls of DFDeques, the record that they leave and the row of pairs that they lay end to end.
-use Rattle.std.specs.Prelude.{ℕ, zero, suc, ◌+◌, List, [], ◌∷◌, ◌++◌}
+use Rattle.std.specs.Prelude.{ℕ, zero, suc, ◌+◌, List, [], ◌∷◌, ◌++◌, Err, Ok, Result}
+use Rattle.schedule.specs.declared.Reply.{Reply}
+use Rattle.table.specs.declared.Refusal.{Refusal}
 use Rattle.table.specs.Format.{Table}
 use Rattle.schedule.specs.Calls.{turns_in}
 use Rattle.deques.specs.declared.DequeRun.{DequeRun}
-use Rattle.deques.specs.declared.DequeTurning.{DequeTurning}
-use Rattle.deques.specs.declared.DequeTurning.TheVariants.{Taken, Refused}
 use Rattle.deques.specs.Deques.{Deques, deque_turn}
 use Rattle.deques.specs.DequeTurn.{deque_turned}
 use Rattle.deques.specs.DequeRuns.{Pair, pair, pair_at, pairs_run}
@@ -19,9 +19,9 @@ unfoldable pub after_deque_call : DequeCall → DequeRun → DequeRun
 after_deque_call (turn w c) r = (deque_turned r w c).run
 after_deque_call (over_pairs l) r = (pairs_run r l).run
 
-abbrev pub deque_turn_row : DequeTurning → Pair → List Pair
-deque_turn_row (Taken x) g = g ∷ []
-deque_turn_row (Refused x) g = []
+abbrev pub deque_turn_row : Result Reply Refusal → Pair → List Pair
+deque_turn_row (Ok x) g = g ∷ []
+deque_turn_row (Err x) g = []
 
 -- the pairs of k turns from turn i on
 unfoldable pub pairs_from : (ℕ → Pair) → ℕ → ℕ → List Pair

@@ -1,8 +1,7 @@
 -- A sound record of DFDeques: "sound by 01's rules and N9's, with these statements in place of those on the list".
-use Rattle.std.specs.Prelude.{◌≡◌, ℕ, ◌-◌, ◌^◌, ◌<◌, List, [], ◌∷◌, ◌++◌, Bool, true, not, ◌&&◌, ◌||◌, length, ltb, eqb}
+use Rattle.std.specs.Prelude.{◌≡◌, ℕ, ◌-◌, ◌^◌, ◌<◌, List, [], ◌∷◌, ◌++◌, Bool, true, not, ◌&&◌, ◌||◌, length, ltb, eqb, Ok}
 use Rattle.table.specs.Pass.{first_found}
 use Rattle.table.specs.Rules.{Rules}
-use Rattle.table.specs.declared.Found.TheVariants.{Nothing}
 use Rattle.schedule.specs.declared.Worker.{Worker}
 use Rattle.schedule.specs.Links.{laid}
 use Rattle.schedule.specs.Record.{max_workers, max_bytes, set_of, bytes_of, table_in, links_in}
@@ -19,7 +18,7 @@ use Rattle.deques.specs.DequeRecord.{bottoms_in, deques_in, deques_of, lines_for
 pub record SteadyDeques (r : DequeRun) : Type 0 where
   -- "its table passes 1 to 11 and its p and K pass 20" and 21; a record's table counts as filled out already (N6)
   pub table : Rules (bytes_of r.run)
-  pub settings : first_found (setting_passes r.run.workers r.run.quota) ≡ Nothing
+  pub settings : first_found (setting_passes r.run.workers r.run.quota) ≡ Ok tt
   pub common : Common (table_in r.run) r.run.workers r.run.quota r.run.next r.run.status r.run.amounts r.run.worker r.run.held r.run.highest
   -- "and the set agrees"
   pub set : r.run.busy ≡ set_of r.run.worker

@@ -1,12 +1,10 @@
 -- A turn of DFDeques on any record whatever: 32, 30, 31, 49, or the reply and the record after.
-use Rattle.std.specs.Prelude.{ℕ, List, [], ◌∷◌, Bool, not, ◌&&◌, ltb}
+use Rattle.std.specs.Prelude.{ℕ, List, [], ◌∷◌, Bool, not, ◌&&◌, ltb, Err, Ok, Result, ⊤}
+use Rattle.table.specs.declared.Refusal.{Refusal}
 use Rattle.table.specs.Pass.{Check, try_at}
-use Rattle.table.specs.declared.Found.{Found}
-use Rattle.table.specs.declared.Found.TheVariants.{Nothing, At}
 use Rattle.schedule.specs.Record.{table_in}
 use Rattle.schedule.specs.Turn.{root_ended, no_worker}
 use Rattle.deques.specs.declared.DequeRun.{DequeRun}
-use Rattle.deques.specs.declared.DequeTurning.TheVariants.{Taken, Refused}
 use Rattle.deques.specs.declared.DequeTurned.{DequeTurned}
 use Rattle.deques.specs.Deques.{DequeStep, deque_turn}
 use Rattle.deques.specs.DequeRecord.{deques_of, deque_stored}
@@ -33,9 +31,9 @@ deque_checks r w c =
 unfoldable pub step_deques : DequeRun → ℕ → ℕ → DequeStep
 step_deques r w c = deque_turn (table_in r.run) r.run.quota w c (deques_of r)
 
-abbrev pub deque_turned_as : Found → DequeRun → DequeStep → DequeTurned
-deque_turned_as Nothing r s = record { answer = Taken s.reply; run = deque_stored r.run s.after }
-deque_turned_as (At x) r s = record { answer = Refused x; run = r }
+abbrev pub deque_turned_as : Result ⊤ Refusal → DequeRun → DequeStep → DequeTurned
+deque_turned_as (Ok _) r s = record { answer = Ok s.reply; run = deque_stored r.run s.after }
+deque_turned_as (Err x) r s = record { answer = Err x; run = r }
 
 -- "A refused turn hands back its record untouched."
 unfoldable pub deque_turned : DequeRun → ℕ → ℕ → DequeTurned

@@ -1,5 +1,5 @@
 -- What single turns of DFDeques and runs over pairs answer on E, p 2, K 6, computed on the definitions.
-use Rattle.std.specs.Prelude.{◌≡◌, refl, ℕ, ◌/◌, List, [], ◌∷◌, map, length}
+use Rattle.std.specs.Prelude.{◌≡◌, refl, ℕ, ◌/◌, List, [], ◌∷◌, map, length, Ok}
 use Rattle.table.specs.Sum.{sum_to, any_below}
 use Rattle.table.specs.Format.{code_of, kind_of, is, table_of}
 use Rattle.table.specs.Pass.{Check, refusal, try_at, try_from, try_pass, first_found}
@@ -9,7 +9,6 @@ use Rattle.table.specs.Level.{fork_below}
 use Rattle.table.specs.Cases.{E}
 use Rattle.filling.specs.Filled.{big, overfull, filled_out}
 use Rattle.order.specs.Firsts.{firsts}
-use Rattle.schedule.specs.declared.Beginning.TheVariants.{Begun as started}
 use Rattle.schedule.specs.Machine.{left_of, without, waits_for, woken, act_by, act, taken}
 use Rattle.schedule.specs.Links.{walk, right_in, left_after}
 use Rattle.schedule.specs.Record.{set_of}
@@ -76,7 +75,7 @@ deque_turn_cases =
 abbrev pub start_e : DequeRun
 start_e = (deque_begin E 2 6).run
 
-pub begins_E : (deque_begin E 2 6).answer ≡ started
+pub begins_E : (deque_begin E 2 6).answer ≡ Ok tt
 unfolding sum_to any_below code_of kind_of is table_of try_at try_from try_pass first_found entry_wrong total_wrong owner_below kind_unknown argument_wrong end_misplaced forked_below forked_before open_before join_not_latest end_with_open never_forked alloc_of free_of whole_within balance balance_below0 passes big overfull deque_begin
 begins_E = refl
 

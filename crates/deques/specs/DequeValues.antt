@@ -1,31 +1,29 @@
 -- The paper's numbers and values for each case of the answers of DFDeques, and the same from a call's checks, its turns and their replies, with no answer between (proofs/DequeAnswers). A
 -- beginning's and a report's are AsyncDF's.
-use Rattle.std.specs.Prelude.{ℕ, zero, suc, ◌-◌, ◌/◌, ◌^◌, List, [], ◌∷◌, Bool, true, false, ◌||◌, length, eqb}
+use Rattle.std.specs.Prelude.{ℕ, zero, suc, ◌-◌, ◌/◌, ◌^◌, List, [], ◌∷◌, Bool, true, false, ◌||◌, length, eqb, Err, Ok, Result, ⊤}
+use Rattle.schedule.specs.declared.Reply.{Reply}
+use Rattle.table.specs.declared.Refusal.{Refusal}
 use Rattle.table.specs.Sum.{pick}
 use Rattle.table.specs.Pass.{Check, or_else, try_at}
 use Rattle.table.specs.Load.{if_found}
-use Rattle.table.specs.declared.Found.{Found}
-use Rattle.table.specs.declared.Found.TheVariants.{Nothing}
 use Rattle.schedule.specs.Turn.{root_ended, no_worker}
 use Rattle.schedule.specs.Answers.{finished, spent, Values, reply_values, refusing}
 use Rattle.schedule.specs.Values.{said_values, first_that}
 use Rattle.deques.specs.declared.DequeRun.{DequeRun}
-use Rattle.deques.specs.declared.DequeTurning.{DequeTurning}
-use Rattle.deques.specs.declared.DequeTurning.TheVariants.{Taken, Refused}
 use Rattle.deques.specs.DequeTurn.{unsound_deques, no_choice, deque_checks, step_deques}
 use Rattle.deques.specs.DequeRuns.{Pair, pair_at, deque_moved}
 
 -- the reply has no number of N7: it stays 0
-abbrev pub deque_turning_values : DequeTurning → Values
-deque_turning_values (Taken x) = reply_values x
-deque_turning_values (Refused x) = refusing x 0
+abbrev pub deque_turning_values : Result Reply Refusal → Values
+deque_turning_values (Ok x) = reply_values x
+deque_turning_values (Err x) = refusing x 0
 
 -- ---- a turn
 
 -- 32, 30, 31, 49, or what the machine's reply says; a refused turn is not taken
 unfoldable pub deque_turn_values : DequeRun → ℕ → ℕ → Values
 deque_turn_values r w c =
-    let found : Found = try_at (deque_checks r w c) 0 in
+    let found : Result ⊤ Refusal = try_at (deque_checks r w c) 0 in
     let reply : Values = reply_values (step_deques r w c).reply in
     said_values found reply.said reply.thread reply.value (if_found found 0 1)
 
@@ -53,14 +51,14 @@ unfoldable pub pairs_taken : (ℕ → Pair) → ℕ → DequeRun → ℕ
 pairs_taken who k r = first_that (λ n. stops_before (after_pairs who n r) (who n)) k
 
 -- what refuses the turn after them, if one is to go and the root has not ended
-unfoldable pub pairs_stopped_by : (ℕ → Pair) → ℕ → DequeRun → Found
+unfoldable pub pairs_stopped_by : (ℕ → Pair) → ℕ → DequeRun → Result ⊤ Refusal
 pairs_stopped_by who k r =
     let n : ℕ = pairs_taken who k r in
     let left : DequeRun = after_pairs who n r in
-    pick (eqb n k || root_ended left.run) Nothing (try_at (pair_checks left (who n)) 0)
+    pick (eqb n k || root_ended left.run) (Ok tt) (try_at (pair_checks left (who n)) 0)
 
 -- what the checks before the first turn have found is given
-unfoldable pub driven_values : Found → (ℕ → Pair) → ℕ → DequeRun → Values
+unfoldable pub driven_values : Result ⊤ Refusal → (ℕ → Pair) → ℕ → DequeRun → Values
 driven_values before who k r =
     let n : ℕ = pairs_taken who k r in
     said_values (or_else before (pairs_stopped_by who k r)) (pick (root_ended (after_pairs who n r).run) finished spent) 0 0 (if_found before 0 n)

@@ -1,7 +1,7 @@
 // DFDeques, the thesis's second scheduler (change request N13): the types of its runs. No calls stand here: the definitions of specs/ speak of these types, and the code above promises to equal them.
 #![tactic(auto)]
 
-use schedule::{Beginning, Reply, Report, Run};
+use schedule::{Reply, Report, Run};
 use table::Refusal;
 
 // The record of a run of DFDeques.
@@ -18,20 +18,13 @@ pub struct DequeRun {
 // Beginning: the run, or the blank record.
 #[derive(Drop)]
 pub struct DequeBegun {
-    pub answer: Beginning,
+    pub answer: Result<(), Refusal>,
     pub run: DequeRun,
-}
-
-// A single turn: its reply, without the number of threads that AsyncDF's search passes over.
-#[derive(Drop)]
-pub enum DequeTurning {
-    Taken(Reply),
-    Refused(Refusal),
 }
 
 #[derive(Drop)]
 pub struct DequeTurned {
-    pub answer: DequeTurning,
+    pub answer: Result<Reply, Refusal>,
     pub run: DequeRun,
 }
 

@@ -59,14 +59,12 @@ fn in_lines(
     ensures { result ≡ in_lines (bottom_at under.now first) status.now true (take len row.now) }
 {
     let mut begins = true;
-    let mut i = 0;
-    while i < len {
+    for i in 0..len {
         let t = row[i];
         if !fits_line(status[t as usize], begins) {
             return false;
         }
         begins = is_bottom(under, first, t);
-        i += 1;
     }
     begins
 }
@@ -83,12 +81,10 @@ fn marks_right(n: usize, status: &[u8; 1024], marks: &[bool; 1024]) -> bool
     requires { n ≤ 1024 }
     ensures { result ≡ all_below (λ t. agree (get_or marks.now t false) (is_ready status.now t || is_held status.now t)) n }
 {
-    let mut t = 0;
-    while t < n {
+    for t in 0..n {
         if marks[t] != stands(status[t]) {
             return false;
         }
-        t += 1;
     }
     true
 }

@@ -6,12 +6,12 @@
 ghost use Rattle.std.specs.Prelude.{◌<◌};
 ghost use Rattle.io.specs.Counts.{IsPrefixLen};
 
-use canonical::Formed;
+use table::Facts;
+use table::Refusal;
 use joining::Joined;
 use std::io;
 use std::io::Write;
 use streams::read_full;
-use table::Loaded;
 
 fn wide(x: u8) -> usize
     ensures { result < 256 }
@@ -48,7 +48,7 @@ fn label(rt: &HostRuntime, buffer: &mut [u8]) -> io::Result<()> {
 }
 
 // A table's facts, or its refusal.
-fn facts_answer(rt: &HostRuntime, answer: Loaded) -> io::Result<()> {
+fn facts_answer(rt: &HostRuntime, answer: Result<Facts, Refusal>) -> io::Result<()> {
     let mut line = [0u8; 80];
     let k = text::facts_line(answer, &mut line);
     rt.stdout().write_all(&line[..k])
@@ -70,8 +70,8 @@ fn form_answer(rt: &HostRuntime, buffer: &mut [u8]) -> io::Result<()> {
     let mut table = [0u8; 36868];
     let answer = canonical::form(&buffer[..n], &mut table);
     match answer {
-        Formed::Written(k) => table_answer(rt, &table[..k])?,
-        Formed::Refused(r) => facts_answer(rt, Loaded::Refused(r))?,
+        Ok(k) => table_answer(rt, &table[..k])?,
+        Err(r) => facts_answer(rt, Err(r))?,
     }
     Ok(())
 }
@@ -91,7 +91,7 @@ fn join_answer(rt: &HostRuntime, buffer: &mut [u8]) -> io::Result<()> {
     let answer = joining::join_given(&buffer[..n], &mut table);
     let size = joining::joined_size(answer);
     if let Joined::Written(facts) = answer {
-        facts_answer(rt, Loaded::Accepted(facts))?;
+        facts_answer(rt, Ok(facts))?;
         table_answer(rt, &table[..size])?;
     }
     let mut line = [0u8; 80];

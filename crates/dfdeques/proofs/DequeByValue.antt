@@ -1,4 +1,5 @@
 -- A call by value on a record that passed check 32 is the call in the memory into which the record was packed: on a sound record by the law of refinement, and on the blank one at once.
+use Rattle.std.specs.Prelude.{Err, Ok}
 use mathlib.Core.Path.{◌≡◌, refl, sym, ap, ◌∙◌}
 use Prim.Native.Nat.{ℕ, ◌-◌, ◌^◌, ◌/◌, ◌≤◌, ◌<◌}
 use native.Mathlib.Omega.{arith}
@@ -23,7 +24,6 @@ use Rattle.run_memory.specs.Runs.{Stopped, stopped, over_in, report_of}
 use Rattle.deques.specs.declared.DequeRun.{DequeRun}
 use Rattle.deques.specs.declared.DequeBegun.{DequeBegun}
 use Rattle.deques.specs.declared.DequeTurned.{DequeTurned}
-use Rattle.deques.specs.declared.DequeTurning.TheVariants.{Taken, Refused}
 use Rattle.deques.specs.declared.DequeRan.{DequeRan}
 use Rattle.deques.specs.DequeRecord.{blank_deques}
 use Rattle.deques.specs.DequeSound.{SoundDeques}
@@ -41,7 +41,7 @@ use Rattle.dfdeques.proofs.DequePacked.{deque_unmoved, deque_room, deque_back, d
 use Rattle.dfdeques.proofs.DequeKeeps.{turn_keeps, list_keeps, no_deque_turn, no_pairs}
 
 abbrev pub deque_refused : ℕ → DequeRun → DequeTurned
-deque_refused n r = record { answer = Refused (refusal n 0); run = r }
+deque_refused n r = record { answer = Err (refusal n 0); run = r }
 
 -- ---- a record that check 32 refuses
 
@@ -143,15 +143,15 @@ module _ (run : DequeRun) (e : unsound_deques run ≡ false) (parents : List ℕ
           ap (deque_refused t.number) (sym k) ∙ q
 
   pub deque_taken : (w c : ℕ) {t : Told} {r : DequeRun} → t ≡ deque_turn_in s w c M → t.number ≡ 0 → r ≡ deque_record_of run t.memory
-      → record { answer = Taken t.reply; run = r } ≡ deque_turned run w c
-  deque_taken w c {t} f d b = ap (λ (x : DequeRun). record { answer = Taken t.reply; run = x }) b ∙ go (ℕ_discrete run.run.workers 0)
+      → record { answer = Ok t.reply; run = r } ≡ deque_turned run w c
+  deque_taken w c {t} f d b = ap (λ (x : DequeRun). record { answer = Ok t.reply; run = x }) b ∙ go (ℕ_discrete run.run.workers 0)
     where
-      go : Dec (run.run.workers ≡ 0) → record { answer = Taken t.reply; run = deque_record_of run t.memory } ≡ deque_turned run w c
+      go : Dec (run.run.workers ≡ 0) → record { answer = Ok t.reply; run = deque_record_of run t.memory } ≡ deque_turned run w c
       go (yes n) = absurd (let k : t.number ≡ 30 = ap (λ (x : Told). x.number) (f ∙ no_deque_turn s M (workers_none n) (turns_few n) w c) in omega (arith, k, d))
       go (no n) =
           let v = turn_value n w c f in
           let b = back n t.memory (ap (λ (x : Told). x.memory.settings) f ∙ (turn_keeps s w c M).settings) in
-          ap (λ (x : DequeRun). record { answer = Taken t.reply; run = x }) b ∙ (rw d at v)
+          ap (λ (x : DequeRun). record { answer = Ok t.reply; run = x }) b ∙ (rw d at v)
 
   abbrev value : Stopped → DequeRan
   value d = deque_ran (report_of d.number d.finished d.turns) (deque_record_of run d.memory)

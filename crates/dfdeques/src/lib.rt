@@ -2,22 +2,21 @@
 // crates/deques. A turn and a run pack the record into the blocks of crates/run_memory, take their turns there (crates/stealing), and read it back.
 #![tactic(auto)]
 
-ghost use Rattle.std.specs.Prelude.{◌≡◌};
+ghost use Rattle.std.specs.Prelude.{◌≡◌, Err};
 ghost use Rattle.table.specs.Pass.{refusal};
 ghost use Rattle.schedule.specs.declared.Report.TheVariants.{Refused as Stopped};
 ghost use Rattle.schedule.specs.Answers.{beginning_values, report_values};
 ghost use Rattle.schedule.specs.Values.{begin_values};
-ghost use Rattle.deques.specs.declared.DequeTurning.TheVariants.{Refused};
 ghost use Rattle.deques.specs.DequeBegin.{deque_begin};
 ghost use Rattle.deques.specs.DequeTurn.{deque_turned as turned_of};
 ghost use Rattle.deques.specs.DequeRuns.{deque_ran, pairs_run};
 ghost use Rattle.deques.specs.DequeValues.{deque_turning_values, deque_turn_values, pairs_values};
 
 use asyncdf::report_of;
-use deques::{DequeBegun, DequeRan, DequeRun, DequeTurned, DequeTurning};
+use deques::{DequeBegun, DequeRan, DequeRun, DequeTurned };
 use links::NO_THREAD;
 use packing::{pack_deques, unpack_deques};
-use schedule::{Beginning, Report};
+use schedule::Report;
 use stealing::deque_turn_in;
 use stealing::runs::deque_list_in;
 use table::Refusal;
@@ -34,9 +33,9 @@ pub fn deque_begin(bytes: &[u8], p: u8, quota: u32) -> DequeBegun
     let begun = asyncdf::begin(bytes, p, quota);
     let answer = begun.answer;
     let run = begun.run;
-    if let Beginning::Refused(x) = answer {
+    if let Err(x) = answer {
         return DequeBegun {
-            answer: Beginning::Refused(x),
+            answer: Err(x),
             run: DequeRun {
                 run,
                 under: [0; 1024],
@@ -46,7 +45,7 @@ pub fn deque_begin(bytes: &[u8], p: u8, quota: u32) -> DequeBegun
         };
     }
     DequeBegun {
-        answer: Beginning::Begun,
+        answer: Ok(()),
         run: DequeRun {
             run,
             under: [NO_THREAD; 1024],
@@ -57,10 +56,10 @@ pub fn deque_begin(bytes: &[u8], p: u8, quota: u32) -> DequeBegun
 }
 
 fn refused(number: u8, run: DequeRun) -> DequeTurned
-    ensures { result ≡ record { answer = Refused (refusal number 0); run = run } }
+    ensures { result ≡ record { answer = Err (refusal number 0); run = run } }
 {
     DequeTurned {
-        answer: DequeTurning::Refused(Refusal { number, place: 0 }),
+        answer: Err(Refusal { number, place: 0 }),
         run,
     }
 }
@@ -106,7 +105,7 @@ pub fn deque_turn(run: DequeRun, w: u8, c: u8) -> DequeTurned
     let after = unpack_deques(run, &bytes, &words, &numbers, &sums);
     let reply = spoken.reply;
     DequeTurned {
-        answer: DequeTurning::Taken(reply),
+        answer: Ok(reply),
         run: after,
     }
 }

@@ -1,4 +1,6 @@
 -- A table that no check refuses keeps every rule, and its facts are small.
+use Rattle.std.specs.Prelude.{Err, Ok, Result, ⊤}
+use Rattle.facts.specs.declared.Weighed.{Weighed}
 use mathlib.Core.Path.{◌≡◌, refl, ap, ◌∙◌}
 use Prim.Native.Nat.{ℕ, ◌≤◌, ◌<◌}
 use mathlib.Core.List.{List}
@@ -14,10 +16,6 @@ use Rattle.table.specs.Nested.{N}
 use Rattle.table.specs.Load.{facts_of, answer, loaded, table_values, values_of}
 use Rattle.table.specs.declared.Facts.{Facts}
 use Rattle.table.specs.declared.Refusal.{Refusal}
-use Rattle.table.specs.declared.Found.{Found}
-use Rattle.table.specs.declared.Found.TheVariants.{Nothing, At}
-use Rattle.table.specs.declared.Loaded.{Loaded}
-use Rattle.table.specs.declared.Loaded.TheVariants.{Accepted, Refused}
 use Rattle.table.proofs.Sizes.{Sizes, sizes}
 use Rattle.table.proofs.Passes.{passes_rules}
 use Rattle.table.proofs.Amounts.{whole_serial}
@@ -27,8 +25,6 @@ use Rattle.table.proofs.NestedThreads.{nested_few}
 use Rattle.table.proofs.Values.{table_values_lem}
 use Rattle.facts.specs.Code.Steps.{Kept}
 use Rattle.facts.specs.Weigh.{left_of, weigh, weighed_by, weighing}
-use Rattle.facts.specs.declared.Weighing.{Weighing}
-use Rattle.facts.specs.declared.Weighing.TheVariants.{Accepted as weighed, Refused as unweighed}
 use Rattle.facts.proofs.EndLevels.{by_rules, in_threads, few_threads, few_actions}
 
 kept_by : {s : List ℕ} {n m : ℕ} → Rules s → n ≡ threads_of s → m ≡ actions_of s → Kept s n m
@@ -45,7 +41,7 @@ kept_by r e d =
       balances = r.balances;
     }
 
-pub kept : (s : List ℕ) {n m : ℕ} → first_found (passes s) ≡ Nothing → n ≡ threads_of s → m ≡ actions_of s → Kept s n m
+pub kept : (s : List ℕ) {n m : ℕ} → first_found (passes s) ≡ Ok tt → n ≡ threads_of s → m ≡ actions_of s → Kept s n m
 kept s e = kept_by ((passes_rules s).0 e)
 
 module _ {s : List ℕ} {n m : ℕ} (k : Kept s n m) where
@@ -77,25 +73,25 @@ module _ {s : List ℕ} {n m : ℕ} (k : Kept s n m) where
 
 -- ---- the answers
 
-abbrev pub unweigh : Weighing → Loaded
-unweigh (weighed w) = Accepted w.facts
-unweigh (unweighed r) = Refused r
+abbrev pub unweigh : Result Weighed Refusal → Result Facts Refusal
+unweigh (Ok w) = Ok w.facts
+unweigh (Err r) = Err r
 
 module _ (s : List ℕ) where
-  pub refused : {r : Refusal} → first_found (passes s) ≡ At r → Refused r ≡ loaded s
+  pub refused : {r : Refusal} → first_found (passes s) ≡ Err r → Err r ≡ loaded s
   unfolding loaded
   refused e = rw e
 
-  pub accepted : {f : Facts} → first_found (passes s) ≡ Nothing → f ≡ facts_of (table_of s) → Accepted f ≡ loaded s
+  pub accepted : {f : Facts} → first_found (passes s) ≡ Ok tt → f ≡ facts_of (table_of s) → Ok f ≡ loaded s
   unfolding loaded
   accepted e f = rw (e, f)
 
-  pub weighed_not : {r : Refusal} → first_found (passes s) ≡ At r → unweighed r ≡ weighing s
+  pub weighed_not : {r : Refusal} → first_found (passes s) ≡ Err r → Err r ≡ weighing s
   unfolding weighing
   weighed_not e = rw e
 
-  pub weighed_is : {f : Facts} {left : ℕ} → first_found (passes s) ≡ Nothing → f ≡ facts_of (table_of s) → left ≡ left_of (table_of s)
-      → weighed (record { facts = f; left = left }) ≡ weighing s
+  pub weighed_is : {f : Facts} {left : ℕ} → first_found (passes s) ≡ Ok tt → f ≡ facts_of (table_of s) → left ≡ left_of (table_of s)
+      → Ok (record { facts = f; left = left }) ≡ weighing s
   unfolding weighing
   weighed_is e f l = rw (e, f, l)
 
@@ -104,10 +100,10 @@ module _ (s : List ℕ) where
   unfolding weighing loaded
   unweigh_is = go (first_found (passes s))
     where
-      go : (found : Found) → unweigh (weighed_by found (weigh (table_of s))) ≡ answer found (facts_of (table_of s))
-      go Nothing = refl
-      go (At r) = refl
+      go : (found : Result ⊤ Refusal) → unweigh (weighed_by found (weigh (table_of s))) ≡ answer found (facts_of (table_of s))
+      go (Ok _) = refl
+      go (Err r) = refl
 
   -- and its values
-  pub answered : {x : Loaded} → x ≡ loaded s → (x ≡ loaded s) × (values_of x ≡ table_values s)
+  pub answered : {x : Result Facts Refusal} → x ≡ loaded s → (x ≡ loaded s) × (values_of x ≡ table_values s)
   answered e = (e, ap values_of e ∙ table_values_lem s)

@@ -64,11 +64,9 @@ fn depth_walk(body: &[u8], count: usize, depths: &mut [u16; 1024]) -> usize
         ≡ body_depth cut16 (code_at body.now) (argument_at body.now) 0 count (reached depths.old 0) }
 {
     let mut last = 0;
-    let mut i = 0;
-    while i < count {
+    for i in 0..count {
         let action = action_in(body, i);
         last = depth_step(action.code, action.argument, last, depths);
-        i += 1;
     }
     last
 }

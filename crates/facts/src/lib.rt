@@ -16,7 +16,7 @@ use level::depth;
 use nested::nested_levels;
 use peak::serial_amounts;
 use table::read::{actions, threads};
-use table::{Facts, Found, Loaded, Refusal};
+use table::{Facts, Refusal};
 
 // An accepted table's facts, and what its serial run holds at its end.
 #[derive(Drop)]
@@ -25,20 +25,14 @@ pub struct Weighed {
     pub left: u64,
 }
 
-#[derive(Drop)]
-pub enum Weighing {
-    Accepted(Weighed),
-    Refused(Refusal),
-}
-
 // The answer to any bytes: accepted with the facts, or refused by number and place.
-pub fn load(table: &[u8]) -> Loaded
+pub fn load(table: &[u8]) -> Result<Facts, Refusal>
     ensures value { result ≡ loaded table.now }
     ensures result_value { values_of result ≡ table_values table.now }
 {
     let found = check(table);
-    if let Found::At(r) = found {
-        return Loaded::Refused(r);
+    if let Err(r) = found {
+        return Err(r);
     }
     let n = threads(table);
     let m = actions(table);
@@ -49,7 +43,7 @@ pub fn load(table: &[u8]) -> Loaded
     let depth = depth(table, n, m);
     let mut levels = [0u16; 1024];
     let nested = nested_levels(table, n, m, &mut levels);
-    Loaded::Accepted(Facts {
+    Ok(Facts {
         threads: n as u16,
         actions: m as u16,
         peak: amounts.peak,
@@ -65,18 +59,18 @@ pub fn load_in(
     falls: &mut [u64; 1024],
     peaks: &mut [u64; 1024],
     depths: &mut [u16; 1024],
-) -> Loaded
+) -> Result<Facts, Refusal>
     ensures value { result ≡ loaded table.now }
     ensures result_value { values_of result ≡ table_values table.now }
     ensures rises_after { (rises.new ≡ replicate 1024 0) × (falls.new ≡ replicate 1024 0) × (peaks.new ≡ replicate 1024 0) × (depths.new ≡ replicate 1024 0) }
 {
     let answer = weigh_in(table, rises, falls, peaks, depths);
     match answer {
-        Weighing::Accepted(w) => {
+        Ok(w) => {
             let facts = w.facts;
-            Loaded::Accepted(facts)
+            Ok(facts)
         }
-        Weighing::Refused(r) => Loaded::Refused(r),
+        Err(r) => Err(r),
     }
 }
 
@@ -87,7 +81,7 @@ pub fn weigh_in(
     falls: &mut [u64; 1024],
     peaks: &mut [u64; 1024],
     depths: &mut [u16; 1024],
-) -> Weighing
+) -> Result<Weighed, Refusal>
     ensures value { result ≡ weighing table.now }
     ensures rises_after { (rises.new ≡ replicate 1024 0) × (falls.new ≡ replicate 1024 0) × (peaks.new ≡ replicate 1024 0) × (depths.new ≡ replicate 1024 0) }
 {
@@ -106,12 +100,12 @@ fn weigh(
     falls: &mut [u64; 1024],
     peaks: &mut [u64; 1024],
     depths: &mut [u16; 1024],
-) -> Weighing
+) -> Result<Weighed, Refusal>
     ensures { result ≡ weighing table.now }
 {
     let found = check_in(table, rises, falls);
-    if let Found::At(r) = found {
-        return Weighing::Refused(r);
+    if let Err(r) = found {
+        return Err(r);
     }
     let n = threads(table);
     let m = actions(table);
@@ -125,7 +119,7 @@ fn weigh(
         depth: depth as u16,
         nested: nested as u16,
     };
-    Weighing::Accepted(Weighed {
+    Ok(Weighed {
         facts,
         left: amounts.left,
     })

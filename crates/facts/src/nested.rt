@@ -42,15 +42,13 @@ pub(crate) fn nested_levels(table: &[u8], n: usize, m: usize, levels: &mut [u16;
     *levels = [1; 1024];
     let mut deepest = 1;
     let mut t = 0;
-    let mut a = 0;
-    while a < stop {
+    for a in 0..stop {
         let action = action_in(actions, a);
         let k = action.code;
         let c = action.argument;
         let level = levels[t] as usize;
         deepest = fork_level(k, c, level, deepest, levels);
         t = next_thread(k, t);
-        a += 1;
     }
     deepest
 }

@@ -46,15 +46,13 @@ fn peak_walk(
     let mut rise: u64 = 0;
     let mut fall: u64 = 0;
     let mut peak: u64 = 0;
-    let mut i = 0;
-    while i < stop {
+    for i in 0..stop {
         let action = action_in(body, i);
         let k = action.code;
         let x = action.argument;
         peak = larger(peak, rise - fall + child_amount(k, x, peaks));
         rise += alloc_of(k, x) + child_amount(k, x, rises);
         fall += free_of(k, x) + child_amount(k, x, falls);
-        i += 1;
     }
     Walk { rise, fall, peak }
 }

@@ -5,11 +5,10 @@
 ghost use Rattle.std.specs.Prelude.{◌<◌};
 ghost use Rattle.io.specs.Counts.{IsPrefixLen};
 
-use filling::Answer;
 use std::io;
 use std::io::Write;
 use streams::read_full;
-use table::{Loaded, Refusal};
+use table::Refusal;
 
 fn wide(x: u8) -> usize
     ensures { result < 256 }
@@ -59,7 +58,7 @@ fn table_answer(rt: &HostRuntime, table: &[u8]) -> io::Result<()> {
 
 fn refused(rt: &HostRuntime, refusal: Refusal) -> io::Result<()> {
     let mut line = [0u8; 80];
-    let k = text::facts_line(Loaded::Refused(refusal), &mut line);
+    let k = text::facts_line(Err(refusal), &mut line);
     rt.stdout().write_all(&line[..k])
 }
 
@@ -69,8 +68,8 @@ fn fill_answer(rt: &HostRuntime, buffer: &mut [u8]) -> io::Result<()> {
     let mut table = [0u8; 36868];
     let answer = filling::fill_input(&buffer[..n], &mut table);
     match answer {
-        Answer::Filled(k) => table_answer(rt, &table[..k])?,
-        Answer::Refused(refusal) => refused(rt, refusal)?,
+        Ok(k) => table_answer(rt, &table[..k])?,
+        Err(refusal) => refused(rt, refusal)?,
     }
     Ok(())
 }

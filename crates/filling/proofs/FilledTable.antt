@@ -1,4 +1,5 @@
 -- The filled-out table, as bytes: it passes every check (fill-rules), its counts (fill-counts) and size (fill-size, room-enough), when 44 is silent (room-exactly), and that nothing big leaves the table as given (in_place).
+use Rattle.std.specs.Prelude.{Ok}
 use Prim.Native.Nat.{ℕ, zero, suc, ◌+◌, ◌*◌, ◌≤◌, ◌<◌}
 use native.Mathlib.Omega.{arith}
 use mathlib.Core.Path.{◌≡◌, refl, ◌∙◌}
@@ -11,7 +12,6 @@ use lib.ListN.{length}
 use Rattle.table.specs.Sum.{pick, sum_to, sum_over, any_below}
 use Rattle.table.specs.Format.{Table, table_of, threads_of, actions_of}
 use Rattle.table.specs.Pass.{try_pass}
-use Rattle.table.specs.declared.Found.TheVariants.{Nothing}
 use Rattle.table.specs.Checks.{alloc_of}
 use Rattle.table.specs.Rules.{HeadRules, Rules}
 use Rattle.table.proofs.Sums.{sum_to_zero, sum_to_part}
@@ -87,7 +87,7 @@ module _ (T : Table) (K : ℕ) where
       go false = refl
 
   -- 44 is silent exactly where the filled-out table is within the limits
-  pub room_exactly : T.threads ≤ 1024 → T.actions ≤ 8192 → (try_pass (fill_pass T K) ≡ Nothing) ↔ Fits T K
+  pub room_exactly : T.threads ≤ 1024 → T.actions ≤ 8192 → (try_pass (fill_pass T K) ≡ Ok tt) ↔ Fits T K
   room_exactly n m =
       let z = try_pass_from_0 T.actions (fill_pass T K).checks in
       ((λ e. silent_fits n m (z.0 e).0), (λ r. z.1 (fits_silent r, tt)))

@@ -1,4 +1,5 @@
 -- What is found before anything is built, and what then is known: the cases of `filling_of` and of `filled_into`.
+use Rattle.std.specs.Prelude.{Err, Ok, Result, ⊤}
 use Prim.Native.Nat.{ℕ, suc, ◌+◌, ◌*◌, ◌≤◌, ◌<◌}
 use native.Mathlib.Nat.{zero-add}
 use native.Mathlib.Omega.{arith}
@@ -15,8 +16,6 @@ use Rattle.table.specs.Pass.{or_else, refusal, try_at, try_from, try_pass, first
 use Rattle.table.specs.Rules.{Rules}
 use Rattle.table.specs.Written.{table_rows, written}
 use Rattle.table.specs.declared.Refusal.{Refusal}
-use Rattle.table.specs.declared.Found.{Found}
-use Rattle.table.specs.declared.Found.TheVariants.{Nothing, At}
 use Rattle.table.proofs.Tests.{no_way, or_neither, and_both}
 use Rattle.table.proofs.Trying.{or_else_last}
 use Rattle.table.proofs.Passes.{first_found_append, passes_rules}
@@ -30,49 +29,47 @@ use Rattle.text.proofs.Putting.{puts_whole}
 use Rattle.text.proofs.Placing.{placed_fits}
 use Rattle.filling.specs.declared.Total.{Total}
 use Rattle.filling.specs.declared.Filling.{Filling}
-use Rattle.filling.specs.declared.Answer.{Answer}
-use Rattle.filling.specs.declared.Answer.TheVariants.{Filled, Refused}
 use Rattle.filling.specs.Filled.{big, new_threads, filled_bodies, filled_out, threads_to, actions_to, fill_pass}
 use Rattle.filling.specs.Filling.{total_as, total_of, quota_pass, fill_found, fills_out, filling_of, filled_into, answer_of, whole_into, answer_to, answered_in}
 use Rattle.filling.specs.Code.Steps.{Ready}
 use Rattle.filling.proofs.Trees.{dummies_two, new_threads_lem}
 use Rattle.filling.proofs.FilledTable.{Fits, room_exactly, any_false, none_new, fill_size, room_enough}
 
-found_of : (T : Table) (K : ℕ) (f : Found) → (total_as T K f).found ≡ f
-found_of T K Nothing = refl
-found_of T K (At x) = refl
+found_of : (T : Table) (K : ℕ) (f : Result ⊤ Refusal) → (total_as T K f).found ≡ f
+found_of T K (Ok _) = refl
+found_of T K (Err x) = refl
 
 module _ (s : List ℕ) (K : ℕ) where
   abbrev T : Table
   T = table_of s
 
-  found_is : fill_found s K ≡ or_else (first_found (passes s)) (or_else (try_pass (quota_pass K)) (or_else (try_pass (fill_pass T K)) Nothing))
+  found_is : fill_found s K ≡ or_else (first_found (passes s)) (or_else (try_pass (quota_pass K)) (or_else (try_pass (fill_pass T K)) (Ok tt)))
   unfolding first_found
   found_is = first_found_append (passes s) (quota_pass K ∷ fill_pass T K ∷ [])
 
-  quota_is : try_pass (quota_pass K) ≡ pick (outside 1 16777215 K) (At (refusal 21 0)) Nothing
+  quota_is : try_pass (quota_pass K) ≡ pick (outside 1 16777215 K) (Err (refusal 21 0)) (Ok tt)
   unfolding try_pass try_from try_at
   quota_is = go (outside 1 16777215 K)
     where
-      go : (b : Bool) → or_else (pick b (At (refusal 21 0)) Nothing) Nothing ≡ pick b (At (refusal 21 0)) Nothing
+      go : (b : Bool) → or_else (pick b (Err (refusal 21 0)) (Ok tt)) (Ok tt) ≡ pick b (Err (refusal 21 0)) (Ok tt)
       go true = refl
       go false = refl
 
-  refused : (f : Found) (x : Refusal) → f ≡ At x → fill_found s K ≡ At x → ◌≡◌ {A = Filling} (record { found = f; bytes = 0 }) (filling_of s K)
+  refused : (f : Result ⊤ Refusal) (x : Refusal) → f ≡ Err x → fill_found s K ≡ Err x → ◌≡◌ {A = Filling} (record { found = f; bytes = 0 }) (filling_of s K)
   unfolding filling_of
   refused f x e h = rw (e, h)
 
   -- by a check of the table
-  pub refused_table : (f : Found) (x : Refusal) → f ≡ first_found (passes s) → f ≡ At x → ◌≡◌ {A = Filling} (record { found = f; bytes = 0 }) (filling_of s K)
+  pub refused_table : (f : Result ⊤ Refusal) (x : Refusal) → f ≡ first_found (passes s) → f ≡ Err x → ◌≡◌ {A = Filling} (record { found = f; bytes = 0 }) (filling_of s K)
   refused_table f x e d =
-      let h : first_found (passes s) ≡ At x = sym e ∙ d in
+      let h : first_found (passes s) ≡ Err x = sym e ∙ d in
       refused f x d (found_is ∙ rw h)
 
   -- by 21
-  pub refused_quota : (f : Found) → first_found (passes s) ≡ Nothing → outside 1 16777215 K ≡ true → f ≡ At (refusal 21 0) → ◌≡◌ {A = Filling} (record { found = f; bytes = 0 }) (filling_of s K)
+  pub refused_quota : (f : Result ⊤ Refusal) → first_found (passes s) ≡ Ok tt → outside 1 16777215 K ≡ true → f ≡ Err (refusal 21 0) → ◌≡◌ {A = Filling} (record { found = f; bytes = 0 }) (filling_of s K)
   refused_quota f p o e = refused f (refusal 21 0) e (found_is ∙ rw (p, quota_is, o))
 
-  module _ (p : first_found (passes s) ≡ Nothing) (o : outside 1 16777215 K ≡ false) where
+  module _ (p : first_found (passes s) ≡ Ok tt) (o : outside 1 16777215 K ≡ false) where
     found_fill : fill_found s K ≡ try_pass (fill_pass T K)
     found_fill = found_is ∙ rw (p, quota_is, o, or_else_last (try_pass (fill_pass T K)))
 
@@ -81,11 +78,11 @@ module _ (s : List ℕ) (K : ℕ) where
       found_total = ap (λ (x : Total). x.found) e ∙ found_of T K (try_pass (fill_pass T K))
 
       -- by 44
-      pub refused_full : (f : Found) (x : Refusal) → f ≡ t.found → f ≡ At x → ◌≡◌ {A = Filling} (record { found = f; bytes = 0 }) (filling_of s K)
+      pub refused_full : (f : Result ⊤ Refusal) (x : Refusal) → f ≡ t.found → f ≡ Err x → ◌≡◌ {A = Filling} (record { found = f; bytes = 0 }) (filling_of s K)
       refused_full f x d q = refused f x q (found_fill ∙ sym found_total ∙ sym d ∙ q)
 
-      module _ (f : Found) (d : f ≡ t.found) (q : f ≡ Nothing) where
-        silent : try_pass (fill_pass T K) ≡ Nothing
+      module _ (f : Result ⊤ Refusal) (d : f ≡ t.found) (q : f ≡ Ok tt) where
+        silent : try_pass (fill_pass T K) ≡ Ok tt
         silent = sym found_total ∙ sym d ∙ q
 
         pub total_is : (t.threads ≡ threads_to T K T.actions) × (t.actions ≡ actions_to T K T.actions)
@@ -149,20 +146,20 @@ pub ready_total : (s : List ℕ) (n K : ℕ) → Ready s n K → (t : Total) →
     → (t.threads ≡ threads_to (table_of s) K (table_of s).actions) × (t.actions ≡ actions_to (table_of s) K (table_of s).actions)
 ready_total s n K r t e =
     let l : Lawful (table_of s) = lawful s r.rules in
-    let q : try_pass (fill_pass (table_of s) K) ≡ Nothing = (room_exactly (table_of s) K l.few_threads l.few_actions).1 (record { threads = r.few_threads; actions = r.few_actions }) in
+    let q : try_pass (fill_pass (table_of s) K) ≡ (Ok tt) = (room_exactly (table_of s) K l.few_threads l.few_actions).1 (record { threads = r.few_threads; actions = r.few_actions }) in
     rw (e, q) (refl, refl)
 
 -- where nothing is found
-pub found_ready : (s : List ℕ) (K : ℕ) → fill_found s K ≡ Nothing → (n : ℕ) → n ≡ (table_of s).threads → Ready s n K
+pub found_ready : (s : List ℕ) (K : ℕ) → fill_found s K ≡ Ok tt → (n : ℕ) → n ≡ (table_of s).threads → Ready s n K
 found_ready s K z n h = go (first_found (passes s)) refl (outside 1 16777215 K) refl (try_pass (fill_pass (table_of s) K)) refl
   where
-    go : (f : Found) → first_found (passes s) ≡ f → (b : Bool) → outside 1 16777215 K ≡ b → (g : Found) → try_pass (fill_pass (table_of s) K) ≡ g → Ready s n K
-    go (At x) p b o g q = let y : fill_found s K ≡ At x = found_is s K ∙ rw p in no_way (cc)
-    go Nothing p true o g q = let y : fill_found s K ≡ At (refusal 21 0) = found_is s K ∙ rw (p, quota_is s K, o) in no_way (cc)
-    go Nothing p false o (At x) q = let y : fill_found s K ≡ At x = found_fill s K p o ∙ q in no_way (cc)
-    go Nothing p false o Nothing q =
-        let y : (total_of (table_of s) K).found ≡ Nothing = found_of (table_of s) K (try_pass (fill_pass (table_of s) K)) ∙ q in
-        ready s K p o (total_of (table_of s) K) refl Nothing (sym y) refl n h
+    go : (f : Result ⊤ Refusal) → first_found (passes s) ≡ f → (b : Bool) → outside 1 16777215 K ≡ b → (g : Result ⊤ Refusal) → try_pass (fill_pass (table_of s) K) ≡ g → Ready s n K
+    go (Err x) p b o g q = let y : fill_found s K ≡ Err x = found_is s K ∙ rw p in no_way (cc)
+    go (Ok _) p true o g q = let y : fill_found s K ≡ Err (refusal 21 0) = found_is s K ∙ rw (p, quota_is s K, o) in no_way (cc)
+    go (Ok _) p false o (Err x) q = let y : fill_found s K ≡ Err x = found_fill s K p o ∙ q in no_way (cc)
+    go (Ok _) p false o (Ok _) q =
+        let y : (total_of (table_of s) K).found ≡ (Ok tt) = found_of (table_of s) K (try_pass (fill_pass (table_of s) K)) ∙ q in
+        ready s K p o (total_of (table_of s) K) refl (Ok tt) (sym y) refl n h
 
 -- ---- the buffer
 
@@ -171,14 +168,14 @@ module _ (s : List ℕ) (K : ℕ) (out : List ℕ) (r : Filling) (e : r ≡ fill
   unfolding filling_of
   bytes_is = ap (λ (x : Filling). x.bytes) e
 
-  known : fills_out s K ≡ true → (fill_found s K ≡ Nothing) × (any_below (big (table_of s) K) (table_of s).actions ≡ true)
+  known : fills_out s K ≡ true → (fill_found s K ≡ Ok tt) × (any_below (big (table_of s) K) (table_of s).actions ≡ true)
   known w =
       let (i, j) = and_both (is_nothing (fill_found s K)) (any_below (big (table_of s) K) (table_of s).actions) w in
       (nothing (fill_found s K) i, j)
     where
-      nothing : (f : Found) → is_nothing f ≡ true → f ≡ Nothing
-      nothing Nothing q = refl
-      nothing (At x) q = no_way (cc)
+      nothing : (f : Result ⊤ Refusal) → is_nothing f ≡ true → f ≡ Ok tt
+      nothing (Ok _) q = refl
+      nothing (Err x) q = no_way (cc)
 
   pub untouched : r.bytes ≡ 0 → out ≡ filled_into s K out
   unfolding filled_into
@@ -224,14 +221,14 @@ module _ (s : List ℕ) (K : ℕ) (out o : List ℕ) (room : length out ≡ 3686
   unfolding filling_of
   found_of_filling = ap (λ (x : Filling). x.found) e
 
-  pub whole_refused : (f : Found) (x : Refusal) → f ≡ r.found → f ≡ At x → (Refused x ≡ answer_of s K) × (o ≡ whole_into s K out)
+  pub whole_refused : (f : Result ⊤ Refusal) (x : Refusal) → f ≡ r.found → f ≡ Err x → (Err x ≡ answer_of s K) × (o ≡ whole_into s K out)
   unfolding filled_into
   whole_refused f x d q =
-      let z : fill_found s K ≡ At x = sym found_of_filling ∙ sym d ∙ q in
+      let z : fill_found s K ≡ Err x = sym found_of_filling ∙ sym d ∙ q in
       (rw z, p ∙ rw z)
 
-  module _ (f : Found) (d : f ≡ r.found) (q : f ≡ Nothing) where
-    nothing : fill_found s K ≡ Nothing
+  module _ (f : Result ⊤ Refusal) (d : f ≡ r.found) (q : f ≡ Ok tt) where
+    nothing : fill_found s K ≡ Ok tt
     nothing = sym found_of_filling ∙ sym d ∙ q
 
     y : Ready s (table_of s).threads K
@@ -240,7 +237,7 @@ module _ (s : List ℕ) (K : ℕ) (out o : List ℕ) (room : length out ≡ 3686
     fits : length (filled_out s K) ≤ 36868
     fits = room_enough s K y.rules y.some (record { threads = y.few_threads; actions = y.few_actions })
 
-    pub whole_filled : (r.bytes ≡ 0 → ⊥) → (Filled r.bytes ≡ answer_of s K) × (o ≡ whole_into s K out)
+    pub whole_filled : (r.bytes ≡ 0 → ⊥) → (Ok r.bytes ≡ answer_of s K) × (o ≡ whole_into s K out)
     unfolding filled_into
     whole_filled h =
         let w : fills_out s K ≡ true = fills s K out r e h in
@@ -257,7 +254,7 @@ module _ (s : List ℕ) (K : ℕ) (out o : List ℕ) (room : length out ≡ 3686
         go false w = refl
 
     -- the table as given
-    pub whole_in_place : r.bytes ≡ 0 → (o' : List ℕ) (j : ℕ) → buffer_at o' j ≡ placed o 0 s → (Filled j ≡ answer_of s K) × (o' ≡ whole_into s K out)
+    pub whole_in_place : r.bytes ≡ 0 → (o' : List ℕ) (j : ℕ) → buffer_at o' j ≡ placed o 0 s → (Ok j ≡ answer_of s K) × (o' ≡ whole_into s K out)
     unfolding filled_into filled_out
     whole_in_place h o' j u =
         let w : fills_out s K ≡ false = none h in
@@ -267,10 +264,10 @@ module _ (s : List ℕ) (K : ℕ) (out o : List ℕ) (room : length out ≡ 3686
         let z : o ≡ out = p ∙ rw w in
         let v : buffer_at o' j ≡ placed out 0 s = rw z at u in
         let b : buffer_at o' j ≡ buffer_at (s ++ drop (length s) out) (length s) = v ∙ placed_fits out 0 s (omega (arith, room)) ∙ simp zero-add in
-        (rw (nothing, g) (ap (λ (x : Buffer). Filled x.next) b), rw (nothing, g) (ap (λ (x : Buffer). x.bytes) b))
+        (rw (nothing, g) (ap (λ (x : Buffer). Ok x.next) b), rw (nothing, g) (ap (λ (x : Buffer). x.bytes) b))
 
 -- what the program writes lies within its buffer
-pub answer_within : (input out o : List ℕ) (r : Answer) (k : ℕ) → r ≡ answer_to input → r ≡ Filled k → o ≡ answered_in input out → k ≤ length o
+pub answer_within : (input out o : List ℕ) (r : Result ℕ Refusal) (k : ℕ) → r ≡ answer_to input → r ≡ Ok k → o ≡ answered_in input out → k ≤ length o
 unfolding answer_to answered_in
 answer_within input out o r k d e w = rw w (go (ltb (length input) 3) (fill_found s K) refl refl)
   where
@@ -280,11 +277,11 @@ answer_within input out o r k d e w = rw w (go (ltb (length input) 3) (fill_foun
     K : ℕ
     K = u24_at input 0
 
-    go : (b : Bool) (f : Found) → ltb (length input) 3 ≡ b → fill_found s K ≡ f → k ≤ length (answered_in input out)
-    go true f p q = let y : answer_to input ≡ Refused (refusal 33 0) = rw p in no_way (cc)
-    go false (At x) p q = let y : answer_to input ≡ Refused x = rw (p, q) in no_way (cc)
-    go false Nothing p q =
-        let y : answer_to input ≡ Filled (length (filled_out s K)) = rw (p, q) in
-        let z : Filled (length (filled_out s K)) ≡ Filled k = sym y ∙ sym d ∙ e in
+    go : (b : Bool) (f : Result ⊤ Refusal) → ltb (length input) 3 ≡ b → fill_found s K ≡ f → k ≤ length (answered_in input out)
+    go true f p q = let y : answer_to input ≡ Err (refusal 33 0) = rw p in no_way (cc)
+    go false (Err x) p q = let y : answer_to input ≡ Err x = rw (p, q) in no_way (cc)
+    go false (Ok _) p q =
+        let y : answer_to input ≡ Ok (length (filled_out s K)) = rw (p, q) in
+        let z : Ok (length (filled_out s K)) ≡ Ok k = sym y ∙ sym d ∙ e in
         let u : length (filled_out s K) ≡ k = cc in
         rw (p, q) (omega (arith, u, length-append (filled_out s K) (drop (length (filled_out s K)) out)))

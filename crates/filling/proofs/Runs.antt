@@ -1,12 +1,11 @@
 -- All that the requests say of the table that a beginning runs, where the table's own checks, 21 and 44 are silent.
+use Rattle.std.specs.Prelude.{Ok}
 use Prim.Native.Nat.{ℕ, ◌+◌, ◌≤◌}
 use mathlib.Core.Path.{◌≡◌}
 use mathlib.Core.List.{List}
 use Rattle.table.specs.Sum.{sum_to}
 use Rattle.table.specs.Format.{table_of}
 use Rattle.table.specs.Pass.{try_pass}
-use Rattle.table.specs.declared.Found.TheVariants.{Nothing}
-use Rattle.table.specs.declared.Loaded.TheVariants.{Accepted}
 use Rattle.table.specs.Load.{loaded, facts_of}
 use Rattle.table.specs.Rules.{Rules}
 use Rattle.table.specs.Serial.{S1}
@@ -22,14 +21,14 @@ use Rattle.filling.proofs.Turns.{fill_turns}
 
 pub record Runs (s : List ℕ) (K : ℕ) : Type 0 where
   pub rules : Rules (filled_out s K)
-  pub accepted : loaded (filled_out s K) ≡ Accepted (facts_of (table_of (filled_out s K)))
+  pub accepted : loaded (filled_out s K) ≡ Ok (facts_of (table_of (filled_out s K)))
   pub threads : (table_of (filled_out s K)).threads ≡ threads_to (table_of s) K (table_of s).actions
   pub actions : (table_of (filled_out s K)).actions ≡ actions_to (table_of s) K (table_of s).actions
   pub peak : S1 (table_of (filled_out s K)) ≡ S1 (table_of s)
   pub turns : turns_of (table_of (filled_out s K)) ≡ turns_of (table_of s) + sum_to (new_turns (table_of s) K) (table_of s).actions
   pub delayed : Delayed (table_of (filled_out s K)) (drawn_cost (table_of (filled_out s K)) K)
 
-pub fill_runs : (s : List ℕ) (K : ℕ) → Rules s → 1 ≤ K → try_pass (fill_pass (table_of s) K) ≡ Nothing → Runs s K
+pub fill_runs : (s : List ℕ) (K : ℕ) → Rules s → 1 ≤ K → try_pass (fill_pass (table_of s) K) ≡ Ok tt → Runs s K
 fill_runs s K r k e =
     let l : Lawful (table_of s) = lawful s r in
     let fits : Fits (table_of s) K = (room_exactly (table_of s) K l.few_threads l.few_actions).0 e in

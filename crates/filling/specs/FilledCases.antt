@@ -1,12 +1,11 @@
 -- Filled-out tables, by computation.
-use Rattle.std.specs.Prelude.{◌≡◌, refl, ℕ}
+use Rattle.std.specs.Prelude.{◌≡◌, refl, ℕ, Err, Ok}
 use mathlib.Core.List.{List, [], ◌∷◌, flatten}
 use Rattle.table.specs.Sum.{sum_to, sum_over, greatest, any_below, greatest_to}
 use Rattle.table.specs.Format.{is, code_of, kind_of, table_of}
 use Rattle.table.specs.Checks.{entry_wrong, total_wrong, owner_below, kind_unknown, argument_wrong, end_misplaced, forked_below, forked_before}
 use Rattle.table.specs.Checks.{open_before, join_not_latest, end_with_open, never_forked, alloc_of, free_of, whole_within, balance, balance_below0, passes}
 use Rattle.table.specs.Pass.{try_at, try_from, try_pass, first_found, refusal}
-use Rattle.table.specs.declared.Found.TheVariants.{Nothing, At}
 use Rattle.table.specs.Serial.{serial_within, fronts, held_after, peak_of, S1}
 use Rattle.table.specs.Level.{fork_below, fork_of, before_it, joined_end, depends_on, level_within, D}
 use Rattle.table.specs.Nested.{nest_within, N}
@@ -66,7 +65,7 @@ two9_filled = refl
 abbrev pub two400 : List ℕ
 two400 = written ((act 4 1 ∷ act 2 400 ∷ act 5 1 ∷ act 0 0 ∷ []) ∷ (act 2 400 ∷ act 3 400 ∷ act 0 0 ∷ []) ∷ [])
 
-pub two400_full : try_pass (fill_pass (table_of two400) 1) ≡ At (refusal 44 4)
+pub two400_full : try_pass (fill_pass (table_of two400) 1) ≡ Err (refusal 44 4)
 unfolding entry_rows action_rows table_rows written flatten kind_of code_of is table_of sum_to alloc_of big dummies new_threads new_actions overfull try_pass try_from try_at
 two400_full = refl
 
@@ -74,11 +73,11 @@ abbrev pub one : ℕ → List ℕ
 one x = written ((act 2 x ∷ act 0 0 ∷ []) ∷ [])
 
 -- K 1: alloc 512, end: n 1,024, m 3,583; 513: 44 at 0
-pub most_full : try_pass (fill_pass (table_of (one 513)) 1) ≡ At (refusal 44 0)
+pub most_full : try_pass (fill_pass (table_of (one 513)) 1) ≡ Err (refusal 44 0)
 unfolding entry_rows action_rows table_rows written flatten kind_of code_of is table_of sum_to alloc_of big dummies new_threads new_actions overfull try_pass try_from try_at
 most_full = refl
 
-pub most_fits : try_pass (fill_pass (table_of (one 512)) 1) ≡ Nothing
+pub most_fits : try_pass (fill_pass (table_of (one 512)) 1) ≡ Ok tt
 unfolding entry_rows action_rows table_rows written flatten kind_of code_of is table_of sum_to alloc_of big dummies new_threads new_actions overfull try_pass try_from try_at
 most_fits = refl
 

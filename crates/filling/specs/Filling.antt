@@ -1,22 +1,19 @@
 -- What the calls of this crate answer.
-use Rattle.std.specs.Prelude.{ℕ, List, [], ◌∷◌, ◌++◌, Bool, ◌&&◌, ltb, leb, length, drop}
+use Rattle.std.specs.Prelude.{ℕ, List, [], ◌∷◌, ◌++◌, Bool, ◌&&◌, ltb, leb, length, drop, Err, Ok, Result, ⊤}
+use Rattle.table.specs.declared.Refusal.{Refusal}
 use Rattle.table.specs.Sum.{pick, any_below}
 use Rattle.table.specs.Format.{Table, table_of, u24_at}
 use Rattle.table.specs.Checks.{outside, passes}
 use Rattle.table.specs.Pass.{Pass, refusal, try_pass, first_found}
-use Rattle.table.specs.declared.Found.{Found}
-use Rattle.table.specs.declared.Found.TheVariants.{Nothing, At}
 use Rattle.order.specs.Words.{is_nothing}
 use Rattle.filling.specs.declared.Total.{Total}
 use Rattle.filling.specs.declared.Filling.{Filling}
-use Rattle.filling.specs.declared.Answer.{Answer}
-use Rattle.filling.specs.declared.Answer.TheVariants.{Filled, Refused}
 use Rattle.filling.specs.Filled.{big, filled_out, threads_to, actions_to, fill_pass}
 
 -- the threads and actions of the filled-out table; 44 and zeros where it would pass a limit
-abbrev pub total_as : Table → ℕ → Found → Total
-total_as T K Nothing = record { found = Nothing; threads = threads_to T K T.actions; actions = actions_to T K T.actions }
-total_as T K (At x) = record { found = At x; threads = 0; actions = 0 }
+abbrev pub total_as : Table → ℕ → Result ⊤ Refusal → Total
+total_as T K (Ok _) = record { found = Ok tt; threads = threads_to T K T.actions; actions = actions_to T K T.actions }
+total_as T K (Err x) = record { found = Err x; threads = 0; actions = 0 }
 
 abbrev pub total_of : Table → ℕ → Total
 total_of T K = total_as T K (try_pass (fill_pass T K))
@@ -26,7 +23,7 @@ abbrev pub quota_pass : ℕ → Pass
 quota_pass K = record { from = 0; places = 1; checks = record { number = 21; applies = λ i. outside 1 16777215 K } ∷ [] }
 
 -- the table's own checks, 21 and 44
-abbrev pub fill_found : List ℕ → ℕ → Found
+abbrev pub fill_found : List ℕ → ℕ → Result ⊤ Refusal
 fill_found s K = first_found (passes s ++ (quota_pass K ∷ fill_pass (table_of s) K ∷ []))
 
 -- no check applies, and some alloc is above K; else the table is refused, or runs in place
@@ -44,11 +41,11 @@ filled_into s K out = pick (fills_out s K && leb (length (filled_out s K)) (leng
 -- ---- the program
 
 -- the bytes of the table that runs, or what is found
-abbrev pub answer_as : Found → ℕ → Answer
-answer_as Nothing k = Filled k
-answer_as (At r) k = Refused r
+abbrev pub answer_as : Result ⊤ Refusal → ℕ → Result ℕ Refusal
+answer_as (Ok _) k = Ok k
+answer_as (Err r) k = Err r
 
-abbrev pub answer_of : List ℕ → ℕ → Answer
+abbrev pub answer_of : List ℕ → ℕ → Result ℕ Refusal
 answer_of s K = answer_as (fill_found s K) (length (filled_out s K))
 
 -- the table that runs, in place or filled out, at the start of a buffer; the buffer as it was where a check applies
@@ -56,8 +53,8 @@ abbrev pub whole_into : List ℕ → ℕ → List ℕ → List ℕ
 whole_into s K out = pick (is_nothing (fill_found s K)) (filled_out s K ++ drop (length (filled_out s K)) out) out
 
 -- the input of `filltable`: K (3 bytes) and a table; 33 where it is under 3 bytes
-unfoldable pub answer_to : List ℕ → Answer
-answer_to input = pick (ltb (length input) 3) (Refused (refusal 33 0)) (answer_of (drop 3 input) (u24_at input 0))
+unfoldable pub answer_to : List ℕ → Result ℕ Refusal
+answer_to input = pick (ltb (length input) 3) (Err (refusal 33 0)) (answer_of (drop 3 input) (u24_at input 0))
 
 unfoldable pub answered_in : List ℕ → List ℕ → List ℕ
 answered_in input out = pick (ltb (length input) 3) out (whole_into (drop 3 input) (u24_at input 0) out)

@@ -1,5 +1,5 @@
 // 44, counted before anything is built: the number of dummies reaches 16 million.
-ghost use Rattle.std.specs.Prelude.{◌≡◌, ◌<◌, ◌+◌, ◌-◌, ◌*◌, ◌/◌, ◌&&◌, ◌||◌, ltb};
+ghost use Rattle.std.specs.Prelude.{◌≡◌, ◌<◌, ◌+◌, ◌-◌, ◌*◌, ◌/◌, ◌&&◌, ◌||◌, ltb, Err};
 ghost use Rattle.table.specs.Format.{table_of};
 ghost use Rattle.table.specs.Checks.{alloc_of};
 ghost use Rattle.table.specs.Pass.{refusal};
@@ -8,13 +8,13 @@ ghost use Rattle.filling.specs.Filling.{total_of};
 
 use crate::Total;
 use table::kinds::ALLOC;
-use table::{Found, Refusal, read};
+use table::{Refusal, read};
 
-pub(crate) fn refuse(number: u8, place: usize) -> Found
+pub(crate) fn refuse(number: u8, place: usize) -> Result<(), Refusal>
     requires { place < 65536 }
-    ensures { result ≡ Found.At (refusal number place) }
+    ensures { result ≡ Err (refusal number place) }
 {
-    Found::At(Refusal {
+    Err(Refusal {
         number,
         place: place as u16,
     })
@@ -87,8 +87,7 @@ pub fn count(table: &[u8], quota: u32) -> Total
     let most = quota as usize;
     let mut threads = n;
     let mut actions = m;
-    let mut a = 0;
-    while a < m {
+    for a in 0..m {
         let x = amount(table, n, a);
         threads += new_threads(x, most);
         actions += new_actions(x, most);
@@ -99,10 +98,9 @@ pub fn count(table: &[u8], quota: u32) -> Total
                 actions: 0,
             };
         }
-        a += 1;
     }
     Total {
-        found: Found::Nothing,
+        found: Ok(()),
         threads,
         actions,
     }

@@ -4,9 +4,9 @@ ghost use Rattle.table.specs.Format.{u24_at};
 ghost use Rattle.table.specs.Sum.{Read};
 ghost use Rattle.filling.specs.Filling.{answer_of, whole_into, answer_to, answered_in};
 
-use crate::{Answer, fill_in};
+use crate::fill_in;
 use table::read::{byte, word};
-use table::{Found, Refusal};
+use table::Refusal;
 use text::put_word;
 
 // K, 24 bits.
@@ -23,7 +23,7 @@ fn wide(x: u8) -> usize
 }
 
 // The table that runs, in place or filled out, at the start of the buffer; the buffer is as it was where a check applies.
-fn fill_whole(table: &[u8], quota: u32, out: &mut [u8; 36868]) -> Answer
+fn fill_whole(table: &[u8], quota: u32, out: &mut [u8; 36868]) -> Result<usize, Refusal>
     ensures value { result ≡ answer_of table.now quota }
     ensures out_after { out.new ≡ whole_into table.now quota out.old }
 {
@@ -31,23 +31,23 @@ fn fill_whole(table: &[u8], quota: u32, out: &mut [u8; 36868]) -> Answer
     let mut falls = [0u64; 1024];
     let filling = fill_in(table, quota, out, &mut rises, &mut falls);
     let found = filling.found;
-    if let Found::At(refusal) = found {
-        return Answer::Refused(refusal);
+    if let Err(refusal) = found {
+        return Err(refusal);
     }
     if filling.bytes == 0 {
         let k = put_word(out, 0, table);
-        return Answer::Filled(k);
+        return Ok(k);
     }
-    Answer::Filled(filling.bytes)
+    Ok(filling.bytes)
 }
 
 // The same of what `filltable` reads.
-pub fn fill_input(input: &[u8], out: &mut [u8; 36868]) -> Answer
+pub fn fill_input(input: &[u8], out: &mut [u8; 36868]) -> Result<usize, Refusal>
     ensures value { result ≡ answer_to input.now }
     ensures out_after { out.new ≡ answered_in input.now out.old }
 {
     if input.len() < 3 {
-        return Answer::Refused(Refusal {
+        return Err(Refusal {
             number: 33,
             place: 0,
         });

@@ -40,10 +40,8 @@ fn thread_sum(table: &[u8], n: usize, quota: usize, t: usize, sums: &[u64; 1024]
     let first = read::first(table, t);
     let count = read::count(table, t);
     let mut total = 0;
-    let mut k = 0;
-    while k < count {
+    for k in 0..count {
         total += step(table, n, quota, first + k, sums);
-        k += 1;
     }
     total
 }
@@ -136,12 +134,10 @@ pub(crate) fn fill_starts(
     starts[0] = n as u64;
     let m = read::actions(table);
     let mut place = Place { thread: 0, root: n };
-    let mut a = 0;
-    while a < m {
+    for a in 0..m {
         note_start(table, n, a, place.root, starts);
         note_size(table, n, quota, a, place.root, sums);
         place = place_after(table, n, quota, a, place, sums, starts);
-        a += 1;
     }
 }
 
@@ -169,9 +165,7 @@ pub(crate) fn fill_sizes(table: &[u8], n: usize, quota: usize, total: usize, sum
     ensures sums_2 { Sums (table_of table.now) quota sums.new 0 }
     ensures sizes { Sizes (table_of table.now) quota sums.new }
 {
-    let mut c = n;
-    while c < total {
+    for c in n..total {
         split(c, sums);
-        c += 1;
     }
 }

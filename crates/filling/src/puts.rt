@@ -72,11 +72,9 @@ fn put_bodies(
     let m = read::actions(table);
     let mut at = at;
     let mut place = Place { thread: 0, root: n };
-    let mut a = 0;
-    while a < m {
+    for a in 0..m {
         at = put_step(out, at, table, n, quota, a, place.root);
         place = place_after(table, n, quota, a, place, sums, starts);
-        a += 1;
     }
     at
 }
@@ -114,10 +112,8 @@ fn put_trees(
     ensures { buffer_at out.new result ≡ put_all (buffer_at out.old at) (action_rows (flatten (trees_along (table_of table.now) quota (table_of table.now).threads (serial_order (table_of table.now))))) }
 {
     let mut at = at;
-    let mut c = n;
-    while c < total {
+    for c in n..total {
         at = put_tree(out, at, c, sums[c] as usize);
-        c += 1;
     }
     at
 }
@@ -138,10 +134,8 @@ fn body_count(table: &[u8], n: usize, quota: usize, t: usize) -> usize
     let first = read::first(table, t);
     let count = read::count(table, t);
     let mut total = 0;
-    let mut k = 0;
-    while k < count {
+    for k in 0..count {
         total += width(amount(table, n, first + k), quota);
-        k += 1;
     }
     total
 }
@@ -175,12 +169,10 @@ fn put_entries(
 {
     let mut at = at;
     let mut first = 0;
-    let mut c = 0;
-    while c < total {
+    for c in 0..total {
         let count = count_of(table, n, quota, c, sums);
         at = put_pair(out, at, first, count);
         first += count;
-        c += 1;
     }
     at
 }

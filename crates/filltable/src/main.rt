@@ -1,11 +1,9 @@
 // Reads K (3 bytes) and a table on standard input and writes the table that runs with that quota: filled out where an alloc is above it, else as it is. Where there is none, nothing is written but a line on standard error that says why.
 #![tactic(auto)]
 
-use filling::Answer;
 use std::io;
 use std::io::Write;
 use streams::{large_buffer, read_full};
-use table::Loaded;
 
 fn main(rt: HostRuntime) -> io::Result<()> {
     // More than the longest input: what lies beyond is refused for its length all the same.
@@ -14,10 +12,10 @@ fn main(rt: HostRuntime) -> io::Result<()> {
     let mut table = [0u8; 36868];
     let answer = filling::fill_input(&buffer[..n], &mut table);
     match answer {
-        Answer::Filled(k) => { rt.stdout().write_all(&table[..k]) }
-        Answer::Refused(refusal) => {
+        Ok(k) => { rt.stdout().write_all(&table[..k]) }
+        Err(refusal) => {
             let mut line = [0u8; 80];
-            let k = text::facts_line(Loaded::Refused(refusal), &mut line);
+            let k = text::facts_line(Err(refusal), &mut line);
             rt.stderr().write_all(&line[..k])
         }
     }

@@ -1,4 +1,5 @@
 -- A line of the front by its number, and a step that has nothing to do with the order.
+use Rattle.std.specs.Prelude.{Err, Ok, Result}
 use Prim.Native.Nat.{ℕ}
 use native.Mathlib.Omega.{arith}
 use mathlib.Core.Path.{◌≡◌, refl, ap}
@@ -6,17 +7,15 @@ use mathlib.Core.List.{List}
 use Rattle.inputs.specs.Front.{Front, Step, goes, given_to}
 use Rattle.inputs.specs.Code.Steps.{Plainly, Stepping, front_is, held_by}
 use Rattle.inputs.specs.declared.Wanted.{Wanted}
-use Rattle.inputs.specs.declared.number.Figure.{Figure}
-use Rattle.inputs.specs.declared.number.Figure.TheVariants.{Given, Stopped}
 use Rattle.inputs.specs.declared.front.Front.{Front as Kept}
 use Rattle.inputs.specs.declared.front.Step.{Step as Taken}
 use Rattle.inputs.specs.declared.front.Step.TheVariants.{Goes, Stops}
 
-module _ (f : ℕ → Front) (k : Figure) where
-  pub given_goes : {x : ℕ} {g : Kept} → k ≡ Given x → ((buf : List ℕ) → front_is g buf ≡ f x) → held_by g ≡ 0 → Plainly (Goes g) (given_to f k)
+module _ (f : ℕ → Front) (k : Result ℕ Wanted) where
+  pub given_goes : {x : ℕ} {g : Kept} → k ≡ Ok x → ((buf : List ℕ) → front_is g buf ≡ f x) → held_by g ≡ 0 → Plainly (Goes g) (given_to f k)
   given_goes q e z = record { value = λ buf. rw q (ap goes (e buf)); none = z }
 
-  pub given_stops : {e : Wanted} → k ≡ Stopped e → Plainly (Stops e) (given_to f k)
+  pub given_stops : {e : Wanted} → k ≡ Err e → Plainly (Stops e) (given_to f k)
   given_stops q = record { value = λ buf. rw q; none = refl }
 
 pub stepping_as : {r : Taken} {buf : List ℕ} {s t : Step} → s ≡ t → Stepping r buf s → Stepping r buf t

@@ -1,4 +1,6 @@
 -- The numbers of a text are read back from the front of its input, and what follows the front is the table that the rest of the text assembles to.
+use Rattle.std.specs.Prelude.{Err, None, Ok, Option, Result, Some}
+use Rattle.inputs.specs.declared.Wanted.{Wanted}
 use Prim.Native.Nat.{ℕ, suc, ◌+◌, ◌*◌, ◌/◌, ◌%◌, ◌≤◌}
 use native.Mathlib.Omega.{arith}
 use mathlib.Core.Path.{◌≡◌, refl, sym}
@@ -20,19 +22,15 @@ use Rattle.assembly.specs.Unseen.{after_lines}
 use Rattle.inputs.specs.Front.{Front, nothing, workers, quota, between, turns, rounds, board, Step, goes, stops, ends, Order, listed, broken, max_order, most8, most24, most32, most64, added_by, added, onward_order, order_from, given_to, ordered_to, step_with, step_of, Fronted, whole, fault, at_end, onward, front_from, front_of}
 use Rattle.inputs.specs.Input.{front_texts, input_bytes, made, made_in}
 use Rattle.inputs.specs.declared.Wanted.TheVariants.{FewerWorkers}
-use Rattle.inputs.specs.declared.number.Number.{Number}
-use Rattle.inputs.specs.declared.number.Number.TheVariants.{Value, NoNumber}
-use Rattle.inputs.specs.declared.number.Figure.{Figure}
-use Rattle.inputs.specs.declared.number.Figure.TheVariants.{Given, Stopped}
 use Rattle.inputs.specs.declared.Made.TheVariants.{Written as Filled}
 use Rattle.inputs.proofs.Tables.{table_written}
 use Rattle.inputs.proofs.Within.{makes, made_over}
 
 -- ---- every number fits its field
 
-abbrev NumberWithin : ℕ → Number → Type 0
-NumberWithin most (Value x) = x ≤ most
-NumberWithin most NoNumber = Unit {0}
+abbrev NumberWithin : ℕ → Option ℕ → Type 0
+NumberWithin most (Some x) = x ≤ most
+NumberWithin most None = Unit {0}
 
 value_within : (most v : ℕ) (w : List ℕ) → v ≤ most → NumberWithin most (value_from most v w)
 unfolding value_from
@@ -40,7 +38,7 @@ value_within most v [] h = h
 value_within most v (b ∷ w) h = go (is_digit b) (leb (next_value v b) most) refl (λ l. value_within most (next_value v b) w l)
   where
     go : (s t : Bool) → leb (next_value v b) most ≡ t → (next_value v b ≤ most → NumberWithin most (value_from most (next_value v b) w))
-        → NumberWithin most (pick (s && t) (value_from most (next_value v b) w) NoNumber)
+        → NumberWithin most (pick (s && t) (value_from most (next_value v b) w) None)
     go true true e r = r (leb-true (next_value v b) most e)
     go true false e r = tt
     go false t e r = tt
@@ -49,23 +47,23 @@ number_within : (most : ℕ) (w : List ℕ) → NumberWithin most (number_in mos
 unfolding number_in
 number_within most w = go (zero_led w)
   where
-    go : (t : Bool) → NumberWithin most (pick t NoNumber (value_from most 0 w))
+    go : (t : Bool) → NumberWithin most (pick t None (value_from most 0 w))
     go true = tt
     go false = value_within most 0 w (omega arith)
 
-abbrev FigureWithin : ℕ → Figure → Type 0
-FigureWithin most (Given x) = x ≤ most
-FigureWithin most (Stopped e) = Unit {0}
+abbrev FigureWithin : ℕ → Result ℕ Wanted → Type 0
+FigureWithin most (Ok x) = x ≤ most
+FigureWithin most (Err e) = Unit {0}
 
 figure_within : (most : ℕ) (ws : List (List ℕ)) → FigureWithin most (figure_of most ws)
 unfolding figure_of
 figure_within most [] = tt
 figure_within most (w ∷ ws) = go (number_in most w) ws (number_within most w)
   where
-    go : (x : Number) (ws : List (List ℕ)) → NumberWithin most x → FigureWithin most (figure_by most x ws)
-    go (Value x) [] h = h
-    go (Value x) (u ∷ us) h = tt
-    go NoNumber us h = tt
+    go : (x : Option ℕ) (ws : List (List ℕ)) → NumberWithin most x → FigureWithin most (figure_by most x ws)
+    go (Some x) [] h = h
+    go (Some x) (u ∷ us) h = tt
+    go None us h = tt
 
 abbrev OrderWithin : Order → Type 0
 OrderWithin (listed o) = length o ≤ max_order
@@ -75,9 +73,9 @@ added_within : (o w : List ℕ) → OrderWithin (added o w)
 unfolding added
 added_within o w = go (ltb (length o) max_order) (number_in most8 w) refl
   where
-    go : (t : Bool) (x : Number) → ltb (length o) max_order ≡ t → OrderWithin (pick t (added_by x o) (broken FewerWorkers))
-    go true (Value x) e = omega (arith, ltb-true (length o) max_order e, length-append o (x ∷ []))
-    go true NoNumber e = tt
+    go : (t : Bool) (x : Option ℕ) → ltb (length o) max_order ≡ t → OrderWithin (pick t (added_by x o) (broken FewerWorkers))
+    go true (Some x) e = omega (arith, ltb-true (length o) max_order e, length-append o (x ∷ []))
+    go true None e = tt
     go false x e = tt
 
 order_within : (ws : List (List ℕ)) (o : List ℕ) → length o ≤ max_order → OrderWithin (order_from o ws)
@@ -108,9 +106,9 @@ either : (t : Bool) (a b : Step) → StepWithin a → StepWithin b → StepWithi
 either true a b x y = x
 either false a b x y = y
 
-given_within : (f : ℕ → Front) (most : ℕ) (x : Figure) → FigureWithin most x → ((x : ℕ) → x ≤ most → InRange (f x)) → StepWithin (given_to f x)
-given_within f most (Given x) h g = g x h
-given_within f most (Stopped e) h g = tt
+given_within : (f : ℕ → Front) (most : ℕ) (x : Result ℕ Wanted) → FigureWithin most x → ((x : ℕ) → x ≤ most → InRange (f x)) → StepWithin (given_to f x)
+given_within f most (Ok x) h g = g x h
+given_within f most (Err e) h g = tt
 
 ordered_within : (p K : ℕ) (x : Order) → OrderWithin x → p ≤ most8 → K ≤ most24 → StepWithin (ordered_to p K x)
 ordered_within p K (listed o) h a b = (a, (b, h))

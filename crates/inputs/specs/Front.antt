@@ -1,15 +1,11 @@
 -- The lines in front of a table's text: workers, then quota and an order, quota and a limit, or between and memory.
-use Rattle.std.specs.Prelude.{ℕ, suc, List, [], ◌∷◌, ◌++◌, ltb, length}
+use Rattle.std.specs.Prelude.{ℕ, suc, List, [], ◌∷◌, ◌++◌, ltb, length, Err, None, Ok, Option, Result, Some}
 use Rattle.table.specs.Sum.{pick}
 use Rattle.text.specs.Text.{ascii}
 use Rattle.assembly.specs.Words.{lines_of, words_of, same}
 use Rattle.inputs.specs.Number.{number_in, figure_of}
 use Rattle.inputs.specs.declared.Wanted.{Wanted}
 use Rattle.inputs.specs.declared.Wanted.TheVariants.{Workers, QuotaOrBetween, OrderOrLimit, Memory, Number as NumberTo, FewerWorkers}
-use Rattle.inputs.specs.declared.number.Number.{Number}
-use Rattle.inputs.specs.declared.number.Number.TheVariants.{Value, NoNumber}
-use Rattle.inputs.specs.declared.number.Figure.{Figure}
-use Rattle.inputs.specs.declared.number.Figure.TheVariants.{Given, Stopped}
 
 -- ---- what the lines so far have given
 
@@ -49,9 +45,9 @@ most32 = 4294967295
 abbrev pub most64 : ℕ
 most64 = 18446744073709551615
 
-abbrev pub added_by : Number → List ℕ → Order
-added_by (Value x) o = listed (o ++ (x ∷ []))
-added_by NoNumber o = broken (NumberTo most8)
+abbrev pub added_by : Option ℕ → List ℕ → Order
+added_by (Some x) o = listed (o ++ (x ∷ []))
+added_by None o = broken (NumberTo most8)
 
 -- one worker more
 unfoldable pub added : List ℕ → List ℕ → Order
@@ -68,9 +64,9 @@ order_from o (w ∷ ws) = onward_order (added o w) (λ (o : List ℕ). order_fro
 
 -- ---- a line
 
-abbrev pub given_to : (ℕ → Front) → Figure → Step
-given_to f (Given x) = goes (f x)
-given_to f (Stopped e) = stops e
+abbrev pub given_to : (ℕ → Front) → Result ℕ Wanted → Step
+given_to f (Ok x) = goes (f x)
+given_to f (Err e) = stops e
 
 abbrev pub ordered_to : ℕ → ℕ → Order → Step
 ordered_to p K (listed o) = goes (turns p K o)

@@ -6,8 +6,8 @@ ghost use Rattle.inputs.specs.Front.{most8, most24, most32, most64, workers, quo
 ghost use Rattle.inputs.specs.Code.Steps.{Room, Plainly, Stepping, front_is, held_by};
 
 use crate::Wanted;
-use crate::number::{Figure, read_figure};
-use crate::order::{Ordered, order_line};
+use crate::number::read_figure;
+use crate::order::order_line;
 use assembly::scan::{Class, span};
 use assembly::word::{first_word, same};
 
@@ -37,8 +37,8 @@ fn workers_line(rest: &[u8]) -> Step
 {
     let given = read_figure(rest, 255);
     match given {
-        Figure::Given(p) => Step::Goes(Front::Workers(p)),
-        Figure::Stopped(e) => Step::Stops(e),
+        Ok(p) => Step::Goes(Front::Workers(p)),
+        Err(e) => Step::Stops(e),
     }
 }
 
@@ -48,8 +48,8 @@ fn quota_line(p: u64, rest: &[u8]) -> Step
 {
     let given = read_figure(rest, 16777215);
     match given {
-        Figure::Given(k) => Step::Goes(Front::Quota(p, k)),
-        Figure::Stopped(e) => Step::Stops(e),
+        Ok(k) => Step::Goes(Front::Quota(p, k)),
+        Err(e) => Step::Stops(e),
     }
 }
 
@@ -59,8 +59,8 @@ fn between_line(p: u64, rest: &[u8]) -> Step
 {
     let given = read_figure(rest, 4294967295);
     match given {
-        Figure::Given(b) => Step::Goes(Front::Between(p, b)),
-        Figure::Stopped(e) => Step::Stops(e),
+        Ok(b) => Step::Goes(Front::Between(p, b)),
+        Err(e) => Step::Stops(e),
     }
 }
 
@@ -70,8 +70,8 @@ fn limit_line(p: u64, k: u64, rest: &[u8]) -> Step
 {
     let given = read_figure(rest, 4294967295);
     match given {
-        Figure::Given(l) => Step::Goes(Front::Rounds(p, k, l)),
-        Figure::Stopped(e) => Step::Stops(e),
+        Ok(l) => Step::Goes(Front::Rounds(p, k, l)),
+        Err(e) => Step::Stops(e),
     }
 }
 
@@ -81,8 +81,8 @@ fn memory_line(p: u64, b: u64, rest: &[u8]) -> Step
 {
     let given = read_figure(rest, 18446744073709551615);
     match given {
-        Figure::Given(m) => Step::Goes(Front::Board(p, b, m)),
-        Figure::Stopped(e) => Step::Stops(e),
+        Ok(m) => Step::Goes(Front::Board(p, b, m)),
+        Err(e) => Step::Stops(e),
     }
 }
 
@@ -93,8 +93,8 @@ fn turns_line(p: u64, k: u64, n: usize, rest: &[u8], order: &mut [u8]) -> Step
 {
     let ordered = order_line(rest, order, n);
     match ordered {
-        Ordered::Listed(j) => Step::Goes(Front::Turns(p, k, j)),
-        Ordered::Broken(e) => Step::Stops(e),
+        Ok(j) => Step::Goes(Front::Turns(p, k, j)),
+        Err(e) => Step::Stops(e),
     }
 }
 

@@ -26,7 +26,7 @@ pub enum Wanted {
     QuotaOrBetween,
     OrderOrLimit,
     Memory,
-    Number(u64),
+    Option<u64>(u64),
     LineEnd,
     FewerWorkers,
 }
@@ -56,8 +56,8 @@ pub fn assemble(text: &[u8], out: &mut [u8; 40970]) -> Made
     let at = read.at;
     let end = read.end;
     match end {
-        End::Fault(e) => Made::Malformed(lines + 1, e),
-        End::Whole(front) => add_table(&text[at..], front, &order, lines, out),
+        Err(e) => Made::Malformed(lines + 1, e),
+        Ok(front) => add_table(&text[at..], front, &order, lines, out),
     }
 }
 

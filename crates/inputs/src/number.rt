@@ -7,19 +7,6 @@ ghost use Rattle.inputs.specs.Code.Steps.{Numbered};
 use crate::Wanted;
 use assembly::word::{first_word, zero_led};
 
-#[derive(Drop)]
-pub(crate) enum Number {
-    Value(u64),
-    NoNumber,
-}
-
-// One number, or what should have stood there.
-#[derive(Drop)]
-pub(crate) enum Figure {
-    Given(u64),
-    Stopped(Wanted),
-}
-
 // A digit after which the number is still at most so much.
 fn goes_on(v: u64, b: u8, most: u64) -> bool
     ensures { result ≡ (is_digit b && leb (10 * v + (b - 48)) most) }
@@ -38,49 +25,47 @@ fn goes_on(v: u64, b: u8, most: u64) -> bool
 }
 
 // A word's number, in decimal as one writes it.
-pub(crate) fn read_number(w: &[u8], most: u64) -> Number
+pub(crate) fn read_number(w: &[u8], most: u64) -> Option<u64>
     ensures { Numbered most w.now result }
 {
     if zero_led(w) {
-        return Number::NoNumber;
+        return None;
     }
     let mut v: u64 = 0;
-    let mut i = 0;
-    while i < w.len() {
+    for i in 0..w.len() {
         let b = w[i];
         if !goes_on(v, b, most) {
-            return Number::NoNumber;
+            return None;
         }
         v = 10 * v + (b - b'0') as u64;
-        i += 1;
     }
-    Number::Value(v)
+    Some(v)
 }
 
 // The number that stands after a keyword, alone.
-pub(crate) fn read_figure(rest: &[u8], most: u64) -> Figure
+pub(crate) fn read_figure(rest: &[u8], most: u64) -> Result<u64, Wanted>
     ensures { result ≡ figure_of most (words_in rest.now) }
 {
     let word = first_word(rest);
     let start = word.start;
     let end = word.end;
     if start == end {
-        return Figure::Stopped(Wanted::Number(most));
+        return Err(Wanted::Option<u64>(most));
     }
     let x = read_number(&rest[start..end], most);
     match x {
-        Number::NoNumber => Figure::Stopped(Wanted::Number(most)),
-        Number::Value(x) => figure_last(x, &rest[end..]),
+        None => Err(Wanted::Option<u64>(most)),
+        Some(x) => figure_last(x, &rest[end..]),
     }
 }
 
 // A number, and what stands after it.
-fn figure_last(x: u64, rest: &[u8]) -> Figure
+fn figure_last(x: u64, rest: &[u8]) -> Result<u64, Wanted>
     ensures { result ≡ figure_last x (words_in rest.now) }
 {
     let more = first_word(rest);
     if more.start != more.end {
-        return Figure::Stopped(Wanted::LineEnd);
+        return Err(Wanted::LineEnd);
     }
-    Figure::Given(x)
+    Ok(x)
 }

@@ -5,36 +5,29 @@ ghost use Rattle.inputs.specs.Front.{added, order_from};
 ghost use Rattle.inputs.specs.Code.Steps.{Room, Ordering};
 
 use crate::Wanted;
-use crate::number::{Number, read_number};
+use crate::number::read_number;
 use assembly::word::first_word;
 
-// So many workers, or what should have stood there.
-#[derive(Drop)]
-pub(crate) enum Ordered {
-    Listed(usize),
-    Broken(Wanted),
-}
-
 // One worker more, after n.
-fn add_worker(w: &[u8], order: &mut [u8], n: usize) -> Ordered
+fn add_worker(w: &[u8], order: &mut [u8], n: usize) -> Result<usize, Wanted>
     requires { Room order.old n }
     ensures { Ordering result order.new (added (take n order.old) w.now) }
 {
     if n == 4096 {
-        return Ordered::Broken(Wanted::FewerWorkers);
+        return Err(Wanted::FewerWorkers);
     }
     let worker = read_number(w, 255);
     match worker {
-        Number::NoNumber => Ordered::Broken(Wanted::Number(255)),
-        Number::Value(x) => {
+        None => Err(Wanted::Option<u64>(255)),
+        Some(x) => {
             order[n] = x as u8;
-            Ordered::Listed(n + 1)
+            Ok(n + 1)
         }
     }
 }
 
 // The workers on a line after `order`, after n.
-pub(crate) fn order_line(rest: &[u8], order: &mut [u8], n: usize) -> Ordered
+pub(crate) fn order_line(rest: &[u8], order: &mut [u8], n: usize) -> Result<usize, Wanted>
     requires { Room order.old n }
     ensures { Ordering result order.new (order_from (take n order.old) (words_in rest.now)) }
 {
@@ -46,16 +39,16 @@ pub(crate) fn order_line(rest: &[u8], order: &mut [u8], n: usize) -> Ordered
         let start = word.start;
         let end = word.end;
         if start == end {
-            return Ordered::Listed(n);
+            return Ok(n);
         }
         let ordered = add_worker(&part[start..end], order, n);
         match ordered {
-            Ordered::Broken(e) => return Ordered::Broken(e),
-            Ordered::Listed(k) => {
+            Err(e) => return Err(e),
+            Ok(k) => {
                 n = k;
             }
         }
         at += end;
     }
-    Ordered::Listed(n)
+    Ok(n)
 }

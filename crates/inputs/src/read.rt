@@ -6,17 +6,10 @@ use crate::Wanted;
 use crate::front::{Front, Step, take_line};
 use assembly::scan::{Class, span};
 
-// The front, or what should have stood on a line.
-#[derive(Drop)]
-pub(crate) enum End {
-    Whole(Front),
-    Fault(Wanted),
-}
-
 // With the lines that were passed, and where the next one begins.
 #[derive(Drop)]
 pub(crate) struct Read {
-    pub(crate) end: End,
+    pub(crate) end: Result<Front, Wanted>,
     pub(crate) lines: usize,
     pub(crate) at: usize,
 }
@@ -41,17 +34,17 @@ fn next_line(text: &[u8], end: usize) -> usize
 }
 
 // The text ends here.
-fn at_end(front: Front) -> End
+fn at_end(front: Front) -> Result<Front, Wanted>
     ensures { Ending front result }
 {
     match front {
-        Front::Nothing => End::Fault(Wanted::Workers),
-        Front::Workers(_) => End::Fault(Wanted::QuotaOrBetween),
-        Front::Quota(_, _) => End::Fault(Wanted::OrderOrLimit),
-        Front::Between(_, _) => End::Fault(Wanted::Memory),
-        Front::Turns(_, _, _) => End::Whole(front),
-        Front::Rounds(_, _, _) => End::Whole(front),
-        Front::Board(_, _, _) => End::Whole(front),
+        Front::Nothing => Err(Wanted::Workers),
+        Front::Workers(_) => Err(Wanted::QuotaOrBetween),
+        Front::Quota(_, _) => Err(Wanted::OrderOrLimit),
+        Front::Between(_, _) => Err(Wanted::Memory),
+        Front::Turns(_, _, _) => Ok(front),
+        Front::Rounds(_, _, _) => Ok(front),
+        Front::Board(_, _, _) => Ok(front),
     }
 }
 
@@ -68,14 +61,14 @@ pub(crate) fn read_front(text: &[u8], order: &mut [u8]) -> Read
         match step {
             Step::Stops(e) => {
                 return Read {
-                    end: End::Fault(e),
+                    end: Err(e),
                     lines,
                     at,
                 };
             }
             Step::Ends(f) => {
                 return Read {
-                    end: End::Whole(f),
+                    end: Ok(f),
                     lines,
                     at,
                 };

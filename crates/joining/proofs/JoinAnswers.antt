@@ -1,4 +1,6 @@
 -- The answer by what weighing the parts gives, the buffer, and the values without the answer.
+use Rattle.std.specs.Prelude.{Err, Ok, Result, ⊤}
+use Rattle.table.specs.declared.Refusal.{Refusal}
 use mathlib.Core.Path.{◌≡◌, refl, sym, ap, ◌∙◌}
 use Prim.Native.Nat.{ℕ, suc, ◌+◌, ◌*◌, ◌≤◌}
 use mathlib.Core.List.{List, [], ◌∷◌, map, flatten}
@@ -13,8 +15,6 @@ use Rattle.table.specs.Pass.{first_found, refusal}
 use Rattle.table.specs.Checks.{passes}
 use Rattle.table.specs.Load.{facts_of}
 use Rattle.table.specs.declared.Facts.{Facts}
-use Rattle.table.specs.declared.Found.{Found}
-use Rattle.table.specs.declared.Found.TheVariants.{Nothing, At}
 use Rattle.table.proofs.ReadBack.{bytes_length}
 use Rattle.text.specs.Text.{buffer_at}
 use Rattle.text.specs.Puts.{put_all}
@@ -76,10 +76,10 @@ unfolding first_refused first_values
 first_values_lem [] i x = refl
 first_values_lem (s ∷ ps) i x = go (first_found (passes s)) (first_values_lem ps (suc i) x)
   where
-    go : (f : Found) → join_values_of (first_refused (suc i) ps x) ≡ first_values (suc i) ps (join_values_of x)
+    go : (f : Result ⊤ Refusal) → join_values_of (first_refused (suc i) ps x) ≡ first_values (suc i) ps (join_values_of x)
         → join_values_of (in_part f i (first_refused (suc i) ps x)) ≡ part_values f i (first_values (suc i) ps (join_values_of x))
-    go Nothing ih = ih
-    go (At r) ih = refl
+    go (Ok _) ih = ih
+    go (Err r) ih = refl
 
 with_values : (f : Facts) → join_values_of (joined_with f) ≡ pick (is_too_large f) (refused_values (refusal 48 0) 0) (whole_values f)
 with_values f = go (is_too_large f)

@@ -1,4 +1,5 @@
 -- Exactly when each answer is given; what is written passes every table check with the facts of the answer.
+use Rattle.std.specs.Prelude.{Err, Ok, Result, ⊤}
 use mathlib.Core.Path.{◌≡◌, refl, ap, ◌∙◌}
 use Prim.Native.Nat.{ℕ, zero, suc, ◌+◌, ◌*◌, ◌<◌}
 use mathlib.Core.List.{List, [], ◌∷◌, map}
@@ -13,9 +14,6 @@ use Rattle.table.specs.Checks.{passes}
 use Rattle.table.specs.Load.{loaded, facts_of}
 use Rattle.table.specs.declared.Facts.{Facts}
 use Rattle.table.specs.declared.Refusal.{Refusal}
-use Rattle.table.specs.declared.Found.{Found}
-use Rattle.table.specs.declared.Found.TheVariants.{Nothing, At}
-use Rattle.table.specs.declared.Loaded.TheVariants.{Accepted, Refused as Rejected}
 use Rattle.table.proofs.Passes.{found_exactly, passes_rules, accepted_exactly, accepted_facts, refused_exactly}
 use Rattle.table.proofs.Sizes.{Sizes, sizes}
 use Rattle.joining.specs.Joining.{joined_bytes, weighed, joined_facts}
@@ -28,7 +26,7 @@ use Rattle.joining.proofs.Splits.{parts_length}
 
 -- a table is accepted
 abbrev pub Accepts : List ℕ → Type 0
-Accepts s = loaded s ≡ Accepted (facts_of (table_of s))
+Accepts s = loaded s ≡ Ok (facts_of (table_of s))
 
 -- the first i parts are accepted
 abbrev pub AcceptedTo : List (List ℕ) → ℕ → Type 0
@@ -41,7 +39,7 @@ AllAccepted ps = AcceptedTo ps (length ps)
 -- "each part's own number and place, first part first": part i is there, it is refused with r, and those before it are accepted
 pub record RefusedFirst (ps : List (List ℕ)) (i : ℕ) (r : Refusal) : Type 0 where
   pub there : i < length ps
-  pub refused : loaded (get_or ps i []) ≡ Rejected r
+  pub refused : loaded (get_or ps i []) ≡ Err r
   pub before : AcceptedTo ps i
 
 -- the joined table's facts, from the parts alone
@@ -64,10 +62,10 @@ pub record Exactly (ls s : List ℕ) : Type 0 where
 -- ---- a part
 
 module _ (s : List ℕ) where
-  accepted_found : Accepts s ↔ (first_found (passes s) ≡ Nothing)
+  accepted_found : Accepts s ↔ (first_found (passes s) ≡ Ok tt)
   accepted_found = Iff.trans (accepted_exactly s) (Iff.symm (passes_rules s))
 
-  refused_found : (r : Refusal) → (loaded s ≡ Rejected r) ↔ (first_found (passes s) ≡ At r)
+  refused_found : (r : Refusal) → (loaded s ≡ Err r) ↔ (first_found (passes s) ≡ Err r)
   refused_found r = Iff.trans (refused_exactly s r) (Iff.symm (found_exactly (passes s) r))
 
 -- ---- all parts
@@ -85,10 +83,10 @@ became : (ps : List (List ℕ)) → Became ps
 became [] = all (λ i l. absurd (omega arith))
 became (s ∷ ps) = go (first_found (passes s)) refl (became ps)
   where
-    go : (f : Found) → first_found (passes s) ≡ f → Became ps → Became (s ∷ ps)
-    go Nothing e (all a) = all (accepted_more s ps (length ps) ((accepted_found s).1 e) a)
-    go Nothing e (one i r p) = one (suc i) r (record { there = omega (arith, p.there); refused = p.refused; before = accepted_more s ps i ((accepted_found s).1 e) p.before })
-    go (At r) e w = one 0 r (record { there = omega arith; refused = (refused_found s r).1 e; before = λ j l. absurd (omega arith) })
+    go : (f : Result ⊤ Refusal) → first_found (passes s) ≡ f → Became ps → Became (s ∷ ps)
+    go (Ok _) e (all a) = all (accepted_more s ps (length ps) ((accepted_found s).1 e) a)
+    go (Ok _) e (one i r p) = one (suc i) r (record { there = omega (arith, p.there); refused = p.refused; before = accepted_more s ps i ((accepted_found s).1 e) p.before })
+    go (Err r) e w = one 0 r (record { there = omega arith; refused = (refused_found s r).1 e; before = λ j l. absurd (omega arith) })
 
 none_refused : (ps : List (List ℕ)) (k : ℕ) (x : Joined) → AllAccepted ps → first_refused k ps x ≡ x
 unfolding first_refused
@@ -162,12 +160,12 @@ module _ (ls s : List ℕ) where
       }
 
   -- "The result passes every table check", with the facts of the answer
-  pub joined_passes : (f : Facts) → joined ls s ≡ Written f → loaded (joined_bytes (parts_of ls s)) ≡ Accepted f
+  pub joined_passes : (f : Facts) → joined ls s ≡ Written f → loaded (joined_bytes (parts_of ls s)) ≡ Ok f
   joined_passes f h =
       let e = (joined_exactly.written f).0 h in
       let v = lent ls s e.0 in
       let k = few_of _ _ e.2 in
-      joined_whole (parts_of ls s) (omega (arith, v.some, parts_length ls s)) (λ i l. (facts_of (table_of (get_or (parts_of ls s) i [])), e.1 i l)) k.0 k.1 ∙ ap Accepted e.3
+      joined_whole (parts_of ls s) (omega (arith, v.some, parts_length ls s)) (λ i l. (facts_of (table_of (get_or (parts_of ls s) i [])), e.1 i l)) k.0 k.1 ∙ ap Ok e.3
 
   -- head, entries and actions
   pub joined_size_lem : (f : Facts) → joined ls s ≡ Written f → length (joined_bytes (parts_of ls s)) ≡ 4 + 4 * f.threads + 4 * f.actions
@@ -175,7 +173,7 @@ module _ (ls s : List ℕ) where
   joined_size_lem f h =
       let p = joined_passes f h in
       let e = accepted_facts (joined_bytes (parts_of ls s)) f p in
-      let r = (accepted_exactly (joined_bytes (parts_of ls s))).0 (p ∙ ap Accepted e) in
+      let r = (accepted_exactly (joined_bytes (parts_of ls s))).0 (p ∙ ap Ok e) in
       let z : Sizes (joined_bytes (parts_of ls s)) (threads_of (joined_bytes (parts_of ls s))) (actions_of (joined_bytes (parts_of ls s))) =
       sizes (record { head = r.head; threads = refl; actions = refl }) in
       rw e z.total

@@ -1,4 +1,5 @@
 -- Several accepted tables as one: the result passes every check, and its facts are those from the parts alone.
+use Rattle.std.specs.Prelude.{Ok}
 use Prim.Native.Nat.{ℕ, zero, suc, ◌+◌, ◌*◌, ◌≤◌, ◌<◌}
 use native.Mathlib.Omega.{arith}
 use mathlib.Core.Path.{◌≡◌, refl, ap, ◌∙◌}
@@ -11,7 +12,6 @@ use Rattle.table.specs.Serial.{S1}
 use Rattle.table.specs.Level.{D}
 use Rattle.table.specs.Nested.{N}
 use Rattle.table.specs.declared.Facts.{Facts}
-use Rattle.table.specs.declared.Loaded.TheVariants.{Accepted}
 use Rattle.table.proofs.Passes.{accepted_exactly, accepted_facts}
 use Rattle.order.proofs.Lawful.{Lawful, lawful}
 use Rattle.table.specs.Written.{Action, written}
@@ -35,8 +35,8 @@ use Rattle.parts.proofs.JoinBodies.{actions_over, joined_actions, joined_threads
 pub lawful_keeps : (T : Table) → Lawful T → Keeps T
 lawful_keeps T l = record { contents = l.contents; bodies = l.bodies; nesting = l.nesting; forking = l.forking; balances = l.balances; some = l.some_thread }
 
-accepted_keeps : (s : List ℕ) (f : Facts) → loaded s ≡ Accepted f → Keeps (table_of s)
-accepted_keeps s f h = lawful_keeps (table_of s) (lawful s ((accepted_exactly s).0 (h ∙ ap Accepted (accepted_facts s f h))))
+accepted_keeps : (s : List ℕ) (f : Facts) → loaded s ≡ Ok f → Keeps (table_of s)
+accepted_keeps s f h = lawful_keeps (table_of s) (lawful s ((accepted_exactly s).0 (h ∙ ap Ok (accepted_facts s f h))))
 
 abbrev pub bodies_over : List (List ℕ) → List (List (List Action))
 bodies_over ps = map (λ (s : List ℕ). bodies_in (table_of s)) ps
@@ -138,7 +138,7 @@ module _ (ps : List (List ℕ)) (keeps : (i : ℕ) → i < length ps → Keeps (
 joined_loaded : (ps : List (List ℕ)) → ((i : ℕ) → i < length ps → Keeps (table_of (get_or ps i []))) → threads_in (map weighed ps) < 65536
     → (facts_of (table_of (joined_bytes ps))).threads ≡ (joined_facts (map weighed ps)).threads → (facts_of (table_of (joined_bytes ps))).actions ≡ (joined_facts (map weighed ps)).actions
     → (joined_facts (map weighed ps)).threads ≤ 1024 → (joined_facts (map weighed ps)).actions ≤ 8192
-    → loaded (joined_bytes ps) ≡ Accepted (facts_of (table_of (joined_bytes ps)))
+    → loaded (joined_bytes ps) ≡ Ok (facts_of (table_of (joined_bytes ps)))
 unfolding joined_bytes facts_of
 joined_loaded ps keeps short n m few few_actions =
     let bs : List (List Action) = joined_bodies (bodies_over ps) in
@@ -152,13 +152,13 @@ unfolding joined_facts
 joined_threads_are ws = refl
 
 -- "The result passes every table check": every check and all facts in one line
-pub joined_whole : (ps : List (List ℕ)) → 0 < length ps → ((i : ℕ) → i < length ps → (f : Facts) × (loaded (get_or ps i []) ≡ Accepted f))
+pub joined_whole : (ps : List (List ℕ)) → 0 < length ps → ((i : ℕ) → i < length ps → (f : Facts) × (loaded (get_or ps i []) ≡ Ok f))
     → (joined_facts (map weighed ps)).threads ≤ 1024 → (joined_facts (map weighed ps)).actions ≤ 8192
-    → loaded (joined_bytes ps) ≡ Accepted (joined_facts (map weighed ps))
+    → loaded (joined_bytes ps) ≡ Ok (joined_facts (map weighed ps))
 unfolding table_of facts_of
 joined_whole ps some parts few few_actions =
     let keeps : (i : ℕ) → i < length ps → Keeps (table_of (get_or ps i [])) = λ i h. accepted_keeps (get_or ps i []) (parts i h).0 (parts i h).1 in
     let short : threads_in (map weighed ps) < 65536 = omega (arith, joined_threads_are (map weighed ps)) in
     let e : facts_of (table_of (joined_bytes ps)) ≡ joined_facts (map weighed ps) = facts_join ps keeps short some in
     let n : (table_of (joined_bytes ps)).threads ≡ (joined_facts (map weighed ps)).threads = ap (λ (f : Facts). f.threads) e in
-    joined_loaded ps keeps short n (ap (λ (f : Facts). f.actions) e) few few_actions ∙ ap Accepted e
+    joined_loaded ps keeps short n (ap (λ (f : Facts). f.actions) e) few few_actions ∙ ap Ok e

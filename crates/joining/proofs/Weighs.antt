@@ -1,4 +1,6 @@
 -- The totals over the parts are the joined table's facts, and small; the first part that is refused.
+use Rattle.std.specs.Prelude.{Err, Ok, Result, ⊤}
+use Rattle.table.specs.declared.Refusal.{Refusal}
 use mathlib.Core.Path.{◌≡◌, refl, sym}
 use Prim.Native.Nat.{ℕ, suc, ◌+◌, ◌*◌, ◌≤◌, max}
 use mathlib.Core.List.{List, [], ◌∷◌, map}
@@ -10,8 +12,6 @@ use Rattle.table.specs.Pass.{first_found}
 use Rattle.table.specs.Checks.{alloc_of, passes}
 use Rattle.table.specs.Serial.{S1}
 use Rattle.table.specs.Load.{facts_of}
-use Rattle.table.specs.declared.Found.{Found}
-use Rattle.table.specs.declared.Found.TheVariants.{Nothing, At}
 use Rattle.table.proofs.Tests.{no_way}
 use Rattle.table.proofs.Passes.{passes_rules}
 use Rattle.table.proofs.Peaks.{peak_bound}
@@ -20,7 +20,6 @@ use Rattle.table.proofs.ReadBack.{argument_short}
 use Rattle.order.proofs.Lawful.{Lawful, lawful}
 use Rattle.facts.specs.Weigh.{weigh, weighed_by, weighing}
 use Rattle.facts.specs.declared.Weighed.{Weighed}
-use Rattle.facts.specs.declared.Weighing.TheVariants.{Accepted}
 use Rattle.facts.proofs.Accepted.{kept, shallow, few_levels}
 use Rattle.parts.specs.Joined.{deepest}
 use Rattle.joining.specs.Joining.{weighed, threads_in, actions_in, peak_from, joined_facts}
@@ -35,7 +34,7 @@ use Rattle.joining.proofs.JoinRows.{AllFit}
 -- ---- one part
 
 -- what no check refuses
-accepted_lawful : (s : List ℕ) → first_found (passes s) ≡ Nothing → Lawful (table_of s)
+accepted_lawful : (s : List ℕ) → first_found (passes s) ≡ Ok tt → Lawful (table_of s)
 accepted_lawful s e = lawful s ((passes_rules s).0 e)
 
 alloc_small : (s : List ℕ) (a : ℕ) → alloc_of (table_of s) a ≤ 16777215
@@ -46,7 +45,7 @@ serial_small : (s : List ℕ) → Lawful (table_of s) → S1 (table_of s) ≤ 16
 unfolding S1
 serial_small s l = peak_bound (table_of s) l.contents l.bodies l.nesting l.balances 16777215 (λ a h. alloc_small s a) 0 l.some_thread
 
-pub weigh_small : (s : List ℕ) → first_found (passes s) ≡ Nothing → SmallPart (weigh (table_of s))
+pub weigh_small : (s : List ℕ) → first_found (passes s) ≡ Ok tt → SmallPart (weigh (table_of s))
 unfolding facts_of
 weigh_small s e =
     let l = accepted_lawful s e in
@@ -117,11 +116,11 @@ unfolding weights_from first_refused totals_from weighing
 weights_answer [] i k t = refl
 weights_answer (s ∷ ps) i k t = go (first_found (passes s)) (weights_answer ps (suc i) k (add_part i t (weighed s)))
   where
-    go : (f : Found) → answered (weights_from (suc i) (add_part i t (weighed s)) ps) k ≡ first_refused (suc i) ps (joined_with (facts_from k (totals_from (suc i) (add_part i t (weighed s)) (map weighed ps))))
+    go : (f : Result ⊤ Refusal) → answered (weights_from (suc i) (add_part i t (weighed s)) ps) k ≡ first_refused (suc i) ps (joined_with (facts_from k (totals_from (suc i) (add_part i t (weighed s)) (map weighed ps))))
         → answered (weights_by (weighed_by f (weigh (table_of s))) i t (λ (u : Totals). weights_from (suc i) u ps)) k
         ≡ Rattle.joining.specs.Answers.in_part f i (first_refused (suc i) ps (joined_with (facts_from k (totals_from (suc i) (add_part i t (weighed s)) (map weighed ps)))))
-    go Nothing ih = ih
-    go (At r) ih = refl
+    go (Ok _) ih = ih
+    go (Err r) ih = refl
 
 -- parts that were all weighed are all accepted, and their totals small
 pub record Weighs (ps : List (List ℕ)) (i : ℕ) (t u : Totals) : Type 0 where
@@ -137,18 +136,18 @@ all_weighed [] i t u a e =
     record { fit = tt; small = rw (z, ← q) a; total = sym q }
 all_weighed (s ∷ ps) i t u a e = go (first_found (passes s)) refl e (λ b. all_weighed ps (suc i) (add_part i t (weighed s)) u b)
   where
-    go : (f : Found) → first_found (passes s) ≡ f → weights_by (weighed_by f (weigh (table_of s))) i t (λ (x : Totals). weights_from (suc i) x ps) ≡ All u
+    go : (f : Result ⊤ Refusal) → first_found (passes s) ≡ f → weights_by (weighed_by f (weigh (table_of s))) i t (λ (x : Totals). weights_from (suc i) x ps) ≡ All u
         → (Small (suc i) (add_part i t (weighed s)) → weights_from (suc i) (add_part i t (weighed s)) ps ≡ All u → Weighs ps (suc i) (add_part i t (weighed s)) u) → Weighs (s ∷ ps) i t u
-    go Nothing q d ih =
+    go (Ok _) q d ih =
         let r = ih (add_small i t (weighed s) a (weigh_small s q)) d in
         let z : i + suc (length ps) ≡ suc i + length ps = omega arith in
         record { fit = (lawful_keeps (table_of s) (accepted_lawful s q), r.fit); small = rw z r.small; total = r.total }
-    go (At x) q d ih = absurd (no_way (cc))
+    go (Err x) q d ih = absurd (no_way (cc))
 
-pub weighing_small : (s : List ℕ) (w : Weighed) → weighing s ≡ Accepted w → SmallPart w
+pub weighing_small : (s : List ℕ) (w : Weighed) → weighing s ≡ Ok w → SmallPart w
 unfolding weighing
 weighing_small s w e = go (first_found (passes s)) refl e
   where
-    go : (f : Found) → first_found (passes s) ≡ f → weighed_by f (weigh (table_of s)) ≡ Accepted w → SmallPart w
-    go Nothing q d = let z : weigh (table_of s) ≡ w = cc in rw (← z) (weigh_small s q)
-    go (At r) q d = absurd (no_way (cc))
+    go : (f : Result ⊤ Refusal) → first_found (passes s) ≡ f → weighed_by f (weigh (table_of s)) ≡ Ok w → SmallPart w
+    go (Ok _) q d = let z : weigh (table_of s) ≡ w = cc in rw (← z) (weigh_small s q)
+    go (Err r) q d = absurd (no_way (cc))

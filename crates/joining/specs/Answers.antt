@@ -1,12 +1,10 @@
 -- What joining answers to any bytes and lengths, and what it leaves in the lent buffer.
-use Rattle.std.specs.Prelude.{ℕ, suc, ◌+◌, List, [], ◌∷◌, map, Bool, not, ◌||◌, ltb, eqb, length, take, drop}
+use Rattle.std.specs.Prelude.{ℕ, suc, ◌+◌, List, [], ◌∷◌, map, Bool, not, ◌||◌, ltb, eqb, length, take, drop, Err, Ok, Result, ⊤}
 use Rattle.table.specs.Sum.{pick}
 use Rattle.table.specs.Pass.{first_found, refusal}
 use Rattle.table.specs.Checks.{max_threads, max_actions, passes}
 use Rattle.table.specs.declared.Facts.{Facts}
 use Rattle.table.specs.declared.Refusal.{Refusal}
-use Rattle.table.specs.declared.Found.{Found}
-use Rattle.table.specs.declared.Found.TheVariants.{Nothing, At}
 use Rattle.rows.specs.Rows.{over}
 use Rattle.joining.specs.Joining.{joined_bytes, weighed, joined_facts}
 use Rattle.joining.specs.declared.Joined.{Joined}
@@ -29,9 +27,9 @@ unfoldable pub parts_wrong : List ℕ → List ℕ → Bool
 parts_wrong ls s = eqb (length ls) 0 || (ltb max_parts (length ls) || not (eqb (sum_of ls) (length s)))
 
 -- "then each part's own number and place, first part first", parts counted from i; what follows where none is refused
-abbrev pub in_part : Found → ℕ → Joined → Joined
-in_part Nothing i rest = rest
-in_part (At r) i rest = InPart i r
+abbrev pub in_part : Result ⊤ Refusal → ℕ → Joined → Joined
+in_part (Ok _) i rest = rest
+in_part (Err r) i rest = InPart i r
 
 unfoldable pub first_refused : ℕ → List (List ℕ) → Joined → Joined
 first_refused i [] rest = rest
@@ -82,9 +80,9 @@ join_values_of (Refused r) = refused_values r 0
 join_values_of (InPart i r) = refused_values r i
 
 -- the same values without the answer: 47, the first part that is refused, 48, or the facts
-abbrev pub part_values : Found → ℕ → JoinValues → JoinValues
-part_values Nothing i rest = rest
-part_values (At r) i rest = refused_values r i
+abbrev pub part_values : Result ⊤ Refusal → ℕ → JoinValues → JoinValues
+part_values (Ok _) i rest = rest
+part_values (Err r) i rest = refused_values r i
 
 unfoldable pub first_values : ℕ → List (List ℕ) → JoinValues → JoinValues
 first_values i [] rest = rest

@@ -8,7 +8,7 @@ ghost use Rattle.joining.specs.Given.{length_in, lengths_to, joined_given, given
 
 use crate::{Joined, join};
 use table::read::{byte, word};
-use table::{Loaded, Refusal};
+use table::Refusal;
 use text::{put_refused_of, table_line};
 
 fn wide(x: u8) -> usize
@@ -32,10 +32,8 @@ fn lengths_to(input: &[u8], k: usize) -> [u32; 16]
     ensures result_value { take k result ≡ lengths_to input.now k }
 {
     let mut lengths = [0u32; 16];
-    let mut i = 0;
-    while i < k {
+    for i in 0..k {
         lengths[i] = length_in(input, i);
-        i += 1;
     }
     lengths
 }
@@ -83,7 +81,7 @@ pub fn join_line(answer: Joined, out: &mut [u8; 80]) -> usize
 {
     match answer {
         Joined::Written(_) => 0,
-        Joined::Refused(r) => table_line(Loaded::Refused(r), out),
+        Joined::Refused(r) => table_line(Err(r), out),
         Joined::InPart(i, r) => put_refused_of(out, r, b" part ", i),
     }
 }

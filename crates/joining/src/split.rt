@@ -16,10 +16,8 @@ fn sum_to(lengths: &[u32], k: usize) -> usize
     ensures { result ≡ sum_of (take k lengths.now) }
 {
     let mut sum = 0;
-    let mut i = 0;
-    while i < k {
+    for i in 0..k {
         sum += wide(lengths[i]);
-        i += 1;
     }
     sum
 }

@@ -4,7 +4,7 @@ ghost use Rattle.joining.specs.Answers.{parts_of};
 ghost use Rattle.joining.specs.Code.Steps.{Lent, Small, SmallPart, no_part, add_part, weights_from};
 
 use crate::split::part_at;
-use facts::{Weighed, Weighing, weigh_in};
+use facts::{Weighed, weigh_in};
 use table::{Refusal, larger};
 
 // Totals over some parts: `held` is what they leave, `peak` and `depth` count where they stand.
@@ -64,17 +64,15 @@ pub(crate) fn weigh_parts(
         depth: 0,
         nested: 0,
     };
-    let mut i = 0;
-    while i < lengths.len() {
+    for i in 0..lengths.len() {
         let part = part_at(tables, lengths, i);
         let answer = weigh_in(part, rises, falls, peaks, depths);
         match answer {
-            Weighing::Refused(r) => return Weights::Refused(i, r),
-            Weighing::Accepted(w) => {
+            Err(r) => return Weights::Refused(i, r),
+            Ok(w) => {
                 totals = add_part(totals, w, i);
             }
         }
-        i += 1;
     }
     Weights::All(totals)
 }

@@ -18,12 +18,10 @@ fn put_part_entries(out: &mut [u8], at: usize, tables: &[u8], lengths: &[u32]) -
 {
     let mut at = at;
     let mut before = 2 * lengths.len() + 1;
-    let mut i = 0;
-    while i < lengths.len() {
+    for i in 0..lengths.len() {
         let part = part_at(tables, lengths, i);
         at = put_entries(out, at, part, before as u16);
         before += actions(part);
-        i += 1;
     }
     at
 }
@@ -35,12 +33,10 @@ fn put_part_actions(out: &mut [u8], at: usize, tables: &[u8], lengths: &[u32]) -
 {
     let mut at = at;
     let mut root = 1;
-    let mut i = 0;
-    while i < lengths.len() {
+    for i in 0..lengths.len() {
         let part = part_at(tables, lengths, i);
         at = put_moved(out, at, part, root as u16);
         root += threads(part);
-        i += 1;
     }
     at
 }
@@ -52,11 +48,9 @@ fn put_forks(out: &mut [u8], at: usize, tables: &[u8], lengths: &[u32]) -> usize
 {
     let mut at = at;
     let mut root = 1;
-    let mut i = 0;
-    while i < lengths.len() {
+    for i in 0..lengths.len() {
         at = put_action(out, at, 4, root);
         root += threads(part_at(tables, lengths, i));
-        i += 1;
     }
     at
 }

@@ -9,12 +9,13 @@ ghost use Rattle.schedule.specs.Listing.{line, told_with, last_with};
 ghost use Rattle.lines.specs.Lines.{kind_word, pair_texts, told_texts, turn_texts, totals_texts, last_texts};
 ghost use Rattle.text.specs.Puts.{Puts};
 
+use table::Facts;
 use schedule::Reply;
-use table::{Loaded, Refusal};
+use table::Refusal;
 use text::{put_labelled, put_number, put_word};
 
 // The line of a table's answer: its facts, or a refusal.
-pub fn put_answer(out: &mut [u8], at: usize, answer: Loaded) -> usize
+pub fn put_answer(out: &mut [u8], at: usize, answer: Result<Facts, Refusal>) -> usize
     ensures { Puts out.old at out.new result (line_of answer ∷ []) 64 }
 {
     let mut line = [0u8; 80];
@@ -26,7 +27,7 @@ pub fn put_answer(out: &mut [u8], at: usize, answer: Loaded) -> usize
 pub fn put_refused(out: &mut [u8], at: usize, number: u8) -> usize
     ensures { Puts out.old at out.new result (refused_line (refusal number 0) ∷ []) 64 }
 {
-    put_answer(out, at, Loaded::Refused(Refusal { number, place: 0 }))
+    put_answer(out, at, Err(Refusal { number, place: 0 }))
 }
 
 // A kind's name, from its code.

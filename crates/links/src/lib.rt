@@ -115,8 +115,7 @@ pub fn fill_actives(
     let mut first = NO_THREAD;
     let mut last = NO_THREAD;
     let mut t = leftmost;
-    let mut passed: usize = 0;
-    while passed < 1024 {
+    for passed in 0usize..1024 {
         if NO_THREAD <= t {
             break;
         }
@@ -125,7 +124,6 @@ pub fn fill_actives(
             last = t;
         }
         t = right[t as usize];
-        passed += 1;
     }
     first
 }
@@ -150,12 +148,10 @@ fn same(a: &[u16], b: &[u16]) -> bool
     requires { length a.now ≡ length b.now }
     ensures { result ≡ same_list a.now b.now }
 {
-    let mut i = 0;
-    while i < a.len() {
+    for i in 0..a.len() {
         if a[i] != b[i] {
             return false;
         }
-        i += 1;
     }
     true
 }

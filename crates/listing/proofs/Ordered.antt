@@ -1,4 +1,5 @@
 -- The texts of the turns of an order, of a listing or of a chart, turn by turn, and what the loop over the order keeps: whoever puts the texts of the rest puts those of the whole.
+use Rattle.std.specs.Prelude.{Err, Ok}
 use Prim.Native.Nat.{ℕ, suc, ◌+◌, ◌*◌, ◌≤◌, ◌<◌}
 use native.Mathlib.Numerals.{add-one}
 use native.Mathlib.Omega.{arith}
@@ -18,8 +19,6 @@ use Rattle.schedule.specs.Listing.{line, told_by, last_with, last_of}
 use Rattle.lines.specs.Lines.{last_texts, lines_then}
 use Rattle.text.specs.Puts.{Puts}
 use Rattle.text.proofs.Putting.{puts_within, puts_more}
-use Rattle.chart.specs.declared.Charted.TheVariants.{Written}
-use Rattle.chart.specs.declared.Charted.TheVariants.{Refused as refused_it}
 use Rattle.chart.specs.Chart.{figures, charted}
 use Rattle.listing.specs.Sheets.{turns_texts, widest, after_texts, over_texts}
 
@@ -45,11 +44,11 @@ module _ (r : Run) (w : ℕ) {t : Turned} (going : root_ended r ≡ false) (e : 
 
   module _ {x : Reply} {k : ℕ} (q : t.answer ≡ Taken x k) where
     -- a chart's line of the record after the turn is refused
-    pub texts_many : (order : List ℕ) {z : Refusal} → charted t.run ≡ refused_it z → turns_texts true r (w ∷ order) ≡ refused_line z ∷ []
+    pub texts_many : (order : List ℕ) {z : Refusal} → charted t.run ≡ Err z → turns_texts true r (w ∷ order) ≡ refused_line z ∷ []
     unfolding turns_texts
     texts_many order h = rw (going, ← e, q, h)
 
-    texts_taken : (chart : Bool) (order : List ℕ) → (chart ≡ true → charted t.run ≡ Written)
+    texts_taken : (chart : Bool) (order : List ℕ) → (chart ≡ true → charted t.run ≡ Ok tt)
         → turns_texts chart r (w ∷ order) ≡ after_texts chart (figures t.run) (line t.run.turns w (told_by x t.run) t.run.held) ++ turns_texts chart t.run order
     unfolding turns_texts lines_then
     texts_taken true order h = rw (going, ← e, q, h refl)
@@ -103,7 +102,7 @@ module _ {chart : Bool} {order out₀ : List ℕ} {at₀ : ℕ} {run₀ : Run} {
 
     -- a turn
     pub again : {t : Turned} {o : List ℕ} {r : ℕ} {x : Reply} {k : ℕ} → root_ended run ≡ false → t ≡ turned run (get_or order i 0) → t.answer ≡ Taken x k
-        → (chart ≡ true → charted t.run ≡ Written) → length o ≡ length out
+        → (chart ≡ true → charted t.run ≡ Ok tt) → length o ≡ length out
         → Puts out at o r (after_texts chart (figures t.run) (line t.run.turns (get_or order i 0) (told_by x t.run) t.run.held)) (widest chart)
         → Listed chart order out₀ at₀ run₀ o t.run r (i + 1)
     again going e q c l p =

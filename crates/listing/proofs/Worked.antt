@@ -1,4 +1,6 @@
 -- The listing and the chart with turns and lines as they are defined, each with its test of the whole record, are those that the worked cases compute.
+use Rattle.std.specs.Prelude.{Err, Ok, Result, ⊤}
+use Rattle.table.specs.declared.Refusal.{Refusal}
 use mathlib.Core.Path.{◌≡◌, refl, ap, ◌∙◌}
 use Prim.Native.Nat.{ℕ, ◌+◌, ◌^◌, ◌≤◌, ◌<◌}
 use mathlib.Core.List.{List, [], ◌∷◌, map, flatten}
@@ -6,9 +8,6 @@ use mathlib.Core.Bool.{Bool, true, false}
 use native.Mathlib.Omega.{arith}
 use lib.ListN.{length, drop, length-take}
 use Rattle.table.specs.Sum.{pick}
-use Rattle.schedule.specs.declared.Beginning.{Beginning}
-use Rattle.schedule.specs.declared.Beginning.TheVariants.{Begun as started}
-use Rattle.schedule.specs.declared.Beginning.TheVariants.{Refused as refused_beginning}
 use Rattle.schedule.specs.declared.Run.{Run}
 use Rattle.schedule.specs.Begin.{begin}
 use Rattle.schedule.specs.Sound.{Steady}
@@ -18,7 +17,6 @@ use Rattle.schedule.specs.Cases.{turned_sound}
 use Rattle.schedule.proofs.Runs.Histories.{turn_steady}
 use Rattle.schedule.proofs.CaseLaws.{turned_sound_lem, turned_turns, begun_fresh, begun_turned}
 use Rattle.lines.specs.Lines.{texts_of}
-use Rattle.chart.specs.declared.Charted.TheVariants.{Written}
 use Rattle.chart.specs.Chart.{most_turns, charted}
 use Rattle.chart.specs.Turns.{later_lines, chart_by}
 use Rattle.chart.proofs.Records.{steady_written}
@@ -31,11 +29,11 @@ listed_sound : (t : List ℕ) (p K : ℕ) (order : List ℕ) → length order < 
 unfolding listed_by
 listed_sound t p K order k = go (begin t p K).answer refl
   where
-    go : (a : Beginning) → (begin t p K).answer ≡ a
+    go : (a : Result ⊤ Refusal) → (begin t p K).answer ≡ a
         → begun_then a (header_of (begin t p K).run ∷ texts_of (turns_by root_ended turned (begin t p K).run order))
         ≡ begun_then a (header_of (begin t p K).run ∷ texts_of (turns_by root_ended turned_sound (begin t p K).run order))
-    go started e = ap (λ (x : Listing). header_of (begin t p K).run ∷ texts_of x) (begun_turned root_ended t p K order k e)
-    go (refused_beginning x) e = refl
+    go (Ok _) e = ap (λ (x : Listing). header_of (begin t p K).run ∷ texts_of x) (begun_turned root_ended t p K order k e)
+    go (Err x) e = refl
 
 pub listing_sound : (s : List ℕ) → listing_of s ≡ listing_by turned_sound s
 unfolding listing_by
@@ -64,7 +62,7 @@ lines_sound [] r h k = refl
 lines_sound (w ∷ order) r h k =
     let e : turned r w ≡ turned_sound r w = turned_sound_lem r w (record { steady = h; turns = omega arith }) in
     let g : Steady (turned r w).run = turn_steady r w h in
-    let c : charted (turned r w).run ≡ Written = steady_written (turned r w).run g (omega (arith, turned_turns r w)) in
+    let c : charted (turned r w).run ≡ (Ok tt) = steady_written (turned r w).run g (omega (arith, turned_turns r w)) in
     let ih = lines_sound order (turned r w).run g (omega (arith, turned_turns r w)) in
     rw (c, ih, e)
 
@@ -72,12 +70,12 @@ walled_sound : (t : List ℕ) (p K : ℕ) (order : List ℕ) → length order �
 unfolding walled_by
 walled_sound t p K order k = go (begin t p K).answer refl
   where
-    go : (a : Beginning) → (begin t p K).answer ≡ a
+    go : (a : Result ⊤ Refusal) → (begin t p K).answer ≡ a
         → begun_then a (chart_by charted turned (begin t p K).run order) ≡ begun_then a (chart_by always turned_sound (begin t p K).run order)
-    go started e =
+    go (Ok _) e =
         let f = begun_fresh t p K e in
         rw (steady_written (begin t p K).run f.0 (omega (arith, f.1)), lines_sound order (begin t p K).run f.0 (omega (arith, f.1)))
-    go (refused_beginning x) e = refl
+    go (Err x) e = refl
 
 -- a chart that `wallchart` prints has no line refused by 32 or 43
 pub wall_sound : (s : List ℕ) → wall_of s ≡ wall_by always turned_sound s

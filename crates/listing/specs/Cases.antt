@@ -1,6 +1,7 @@
 -- What `turnlist` prints on document 01's worked cases that bear a star, and on rows of our own, as two tables with one theorem over both, computed on the definitions; and what `wallchart`
 -- prints on some of them.
-use Rattle.std.specs.Prelude.{◌≡◌, refl, ℕ, length}
+use Rattle.std.specs.Prelude.{◌≡◌, refl, ℕ, length, Ok, Result, ⊤}
+use Rattle.table.specs.declared.Refusal.{Refusal}
 use mathlib.Core.List.{List, [], ◌∷◌, ◌++◌, map, flatten}
 use Rattle.table.specs.Sum.{sum_to, sum_over, greatest, any_below}
 use Rattle.table.specs.Format.{code_of, kind_of, is, table_of}
@@ -24,8 +25,6 @@ use Rattle.schedule.specs.Turn.{root_ended, no_worker, step_run}
 use Rattle.schedule.specs.Cases.{turned_sound, order_e, order_filled, order_wait}
 use Rattle.lines.specs.Lines.{kind_word, told_texts, turn_texts, last_texts, lines_then}
 use Rattle.schedule.specs.declared.Run.{Run}
-use Rattle.chart.specs.declared.Charted.{Charted}
-use Rattle.chart.specs.declared.Charted.TheVariants.{Written}
 use Rattle.chart.specs.Chart.{cells_from, right_texts, cell_texts, cells_texts, line_texts}
 use Rattle.listing.specs.Listing.{input_wrong, listed_by, listing_by, walled_by, wall_by}
 
@@ -254,8 +253,8 @@ wall_cases =
     ∷ []
 
 -- every record has its line; it has on every row (`walls_worked`, proofs/Worked)
-abbrev pub always : Run → Charted
-always r = Written
+abbrev pub always : Run → Result ⊤ Refusal
+always r = Ok tt
 
 pub walls : Worked (wall_by always turned_sound) wall_cases
 unfolding wall_cases flatten input_wrong walled_by wall_by line_texts cells_texts cell_texts right_texts cells_from refused_line decimal digits_of loaded facts_of sum_to sum_over greatest any_below code_of kind_of is table_of try_at try_from try_pass first_found entry_wrong total_wrong owner_below kind_unknown argument_wrong end_misplaced forked_below forked_before open_before join_not_latest end_with_open never_forked alloc_of free_of whole_within balance balance_below0 passes serial_within fronts held_after peak_of S1 fork_below fork_of before_it joined_end depends_on level_within D left_of without waits_for woken act_by act leftmost taken turn_free turn_of set_of entry_rows action_rows table_rows written_table big dummies new_threads new_actions tree_of sum_before root_of filled_from old_bodies trees_along filled_bodies filled_out overfull firsts walk right_in start_state start_run begin root_ended no_worker step_run

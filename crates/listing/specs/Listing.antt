@@ -1,5 +1,6 @@
 -- What `turnlist`, `runrounds` and `wallchart` print, from the bytes that they read (document 01, "The turn listing"; change request N5).
-use Rattle.std.specs.Prelude.{ℕ, ◌+◌, ◌*◌, Bool, ◌||◌, length, get_or, take, drop, ltb}
+use Rattle.std.specs.Prelude.{ℕ, ◌+◌, ◌*◌, Bool, ◌||◌, length, get_or, take, drop, ltb, Err, Ok, Result, ⊤}
+use Rattle.table.specs.declared.Refusal.{Refusal}
 use mathlib.Core.List.{List, [], ◌∷◌, flatten}
 use Rattle.table.specs.Sum.{pick}
 use Rattle.table.specs.Format.{u16_at, u24_at}
@@ -8,9 +9,6 @@ use Rattle.table.specs.Load.{loaded}
 use Rattle.text.specs.Text.{line_of, refused_line}
 use Rattle.schedule.specs.declared.Run.{Run}
 use Rattle.schedule.specs.declared.Turned.{Turned}
-use Rattle.schedule.specs.declared.Beginning.{Beginning}
-use Rattle.schedule.specs.declared.Beginning.TheVariants.{Begun as started}
-use Rattle.schedule.specs.declared.Beginning.TheVariants.{Refused as refused_beginning}
 use Rattle.schedule.specs.declared.Ran.{Ran}
 use Rattle.schedule.specs.Record.{bytes_of}
 use Rattle.schedule.specs.Begin.{begin}
@@ -18,7 +16,6 @@ use Rattle.schedule.specs.Turn.{root_ended, turned}
 use Rattle.schedule.specs.Runs.{rounds_run}
 use Rattle.schedule.specs.Listing.{turns_by}
 use Rattle.lines.specs.Lines.{texts_of, report_texts}
-use Rattle.chart.specs.declared.Charted.{Charted}
 use Rattle.chart.specs.Chart.{charted}
 use Rattle.chart.specs.Turns.{chart_by}
 
@@ -48,9 +45,9 @@ unfoldable pub input_wrong : List ℕ → Bool
 input_wrong s = ltb (length s) 6 || (ltb max_order (order_length s) || ltb (length s) (6 + order_length s))
 
 -- "Refusals 1 to 22 and 33 are the only line": the beginning's, the table's among them
-abbrev pub begun_then : Beginning → List (List ℕ) → List (List ℕ)
-begun_then started rest = rest
-begun_then (refused_beginning x) rest = refused_line x ∷ []
+abbrev pub begun_then : Result ⊤ Refusal → List (List ℕ) → List (List ℕ)
+begun_then (Ok _) rest = rest
+begun_then (Err x) rest = refused_line x ∷ []
 
 -- the header, "n, m, S1, D": "records and the listing's header name the filled-out table" (N6)
 abbrev pub header_of : Run → List ℕ
@@ -74,11 +71,11 @@ listing_of = listing_by turned
 -- ---- the wall chart of a run over an order
 
 -- a line for the record of the beginning and one after each turn
-unfoldable pub walled_by : (Run → Charted) → (Run → ℕ → Turned) → List ℕ → ℕ → ℕ → List ℕ → List (List ℕ)
+unfoldable pub walled_by : (Run → Result ⊤ Refusal) → (Run → ℕ → Turned) → List ℕ → ℕ → ℕ → List ℕ → List (List ℕ)
 walled_by line turn t p K order = begun_then (begin t p K).answer (chart_by line turn (begin t p K).run order)
 
 -- the input and its check are the listing's
-unfoldable pub wall_by : (Run → Charted) → (Run → ℕ → Turned) → List ℕ → List ℕ
+unfoldable pub wall_by : (Run → Result ⊤ Refusal) → (Run → ℕ → Turned) → List ℕ → List ℕ
 wall_by line turn s = flatten (pick (input_wrong s) wrong_input (walled_by line turn (table_after s) (workers_in s) (quota_in s) (order_in s)))
 
 abbrev pub wall_of : List ℕ → List ℕ
@@ -96,9 +93,9 @@ printed_texts chart s =
 abbrev pub limit_in : List ℕ → ℕ
 limit_in s = u16_at s 4 + 65536 * u16_at s 6
 
-abbrev pub rounds_after : Beginning → Ran → List (List ℕ)
-rounds_after started x = report_texts x.report x.run
-rounds_after (refused_beginning x) r = refused_line x ∷ []
+abbrev pub rounds_after : Result ⊤ Refusal → Ran → List (List ℕ)
+rounds_after (Ok _) x = report_texts x.report x.run
+rounds_after (Err x) r = refused_line x ∷ []
 
 unfoldable pub rounded_texts : List ℕ → ℕ → ℕ → ℕ → List (List ℕ)
 rounded_texts t p K L = rounds_after (begin t p K).answer (rounds_run (begin t p K).run L)

@@ -6,8 +6,7 @@ ghost use Rattle.listing.specs.Listing.{rounded_texts};
 ghost use Rattle.text.specs.Puts.{Puts};
 
 use lines::{put_answer, put_totals};
-use schedule::{Beginning, Report, Run};
-use table::Loaded;
+use schedule::{Report, Run};
 use text::{put_labelled, put_word};
 
 // Memory held, and the line's end.
@@ -30,7 +29,7 @@ fn put_report(out: &mut [u8], report: Report, run: Run) -> usize
             let at = put_totals(out, 0, b"spent ", turns, run.highest);
             put_held(out, at, run.held)
         }
-        Report::Refused(_, refusal) => put_answer(out, 0, Loaded::Refused(refusal)),
+        Report::Refused(_, refusal) => put_answer(out, 0, Err(refusal)),
     }
 }
 
@@ -40,8 +39,8 @@ pub(crate) fn put_rounds(table: &[u8], p: u8, quota: u32, limit: u32, out: &mut 
 {
     let begun = asyncdf::begin(table, p, quota);
     let answer = begun.answer;
-    if let Beginning::Refused(refusal) = answer {
-        return put_answer(out, 0, Loaded::Refused(refusal));
+    if let Err(refusal) = answer {
+        return put_answer(out, 0, Err(refusal));
     }
     let run = begun.run;
     let ran = asyncdf::run_rounds(run, limit);

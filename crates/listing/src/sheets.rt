@@ -9,8 +9,6 @@ ghost use Rattle.text.specs.Puts.{Puts};
 
 use crate::{chart_turns, list_turns};
 use lines::put_answer;
-use schedule::Beginning;
-use table::Loaded;
 
 // The header: the facts of a table.
 pub fn put_header(table: &[u8], out: &mut [u8]) -> usize
@@ -26,8 +24,8 @@ pub(crate) fn put_listing(table: &[u8], p: u8, quota: u32, order: &[u8], out: &m
 {
     let begun = asyncdf::begin(table, p, quota);
     let answer = begun.answer;
-    if let Beginning::Refused(refusal) = answer {
-        return put_answer(out, 0, Loaded::Refused(refusal));
+    if let Err(refusal) = answer {
+        return put_answer(out, 0, Err(refusal));
     }
     let run = begun.run;
     let length = run.length as usize;
@@ -42,8 +40,8 @@ pub(crate) fn put_chart(table: &[u8], p: u8, quota: u32, order: &[u8], out: &mut
 {
     let begun = asyncdf::begin(table, p, quota);
     let answer = begun.answer;
-    if let Beginning::Refused(refusal) = answer {
-        return put_answer(out, 0, Loaded::Refused(refusal));
+    if let Err(refusal) = answer {
+        return put_answer(out, 0, Err(refusal));
     }
     let run = begun.run;
     chart_turns(run, order, out, 0)

@@ -1,4 +1,5 @@
 -- A call by value packs the record, makes the call on the lent marks and reads the record back: what it answers is N11's on the record.
+use Rattle.std.specs.Prelude.{Err}
 use mathlib.Core.Path.{◌≡◌, refl, sym, ap, subst, ◌∙◌}
 use Prim.Native.Nat.{ℕ, ◌≤◌, ◌<◌}
 use native.Mathlib.Omega.{arith}
@@ -10,7 +11,6 @@ use lib.Dec.{eqb}
 use lib.ListN.{length, get_or, replicate, length-take}
 use Rattle.table.specs.Sum.{pick}
 use Rattle.table.specs.Pass.{refusal, try_at}
-use Rattle.table.specs.declared.Found.TheVariants.{At}
 use Rattle.order.specs.Words.{filled, same_list}
 use Rattle.schedule.specs.declared.Worker.{Worker}
 use Rattle.schedule.specs.declared.Run.{Run}
@@ -242,11 +242,11 @@ restored_run {run} {M} h d {r} {p} {K} e f g =
 -- ---- a record that does not
 
 module _ (run : Run) (e : unsound run ≡ true) (K : Marks) (i : ℕ) where
-  set_found_lem : try_at (set_checks (marked_by run K) i) 0 ≡ At (refusal 32 0)
+  set_found_lem : try_at (set_checks (marked_by run K) i) 0 ≡ Err (refusal 32 0)
   unfolding try_at bad_marked
   set_found_lem = rw e
 
-  back_found_lem : try_at (back_checks (marked_by run K) i) 0 ≡ At (refusal 32 0)
+  back_found_lem : try_at (back_checks (marked_by run K) i) 0 ≡ Err (refusal 32 0)
   unfolding try_at bad_marked
   back_found_lem = rw e
 

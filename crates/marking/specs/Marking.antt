@@ -1,5 +1,6 @@
 -- What setting a mark and going back to one answer by value, with the marks in lent memory (N11).
-use Rattle.std.specs.Prelude.{ℕ, Bool, true, false}
+use Rattle.std.specs.Prelude.{ℕ, Bool, true, false, Err, Ok, Result, ⊤}
+use Rattle.table.specs.declared.Refusal.{Refusal}
 use Rattle.schedule.specs.declared.Run.{Run}
 use Rattle.table.specs.Sum.{pick}
 use Rattle.schedule.specs.Record.{bytes_of}
@@ -9,18 +10,16 @@ use Rattle.run_memory.specs.Packing.{memory_for}
 use Rattle.marks.specs.Marks.{Marked, marked, MarkValues}
 use Rattle.wivakkol_marks.specs.LentMarks.{Marks, lent_mark}
 use Rattle.wivakkol_marks.specs.MarkedIn.{marks_in}
-use Rattle.marking.specs.declared.Marking.{Marking}
-use Rattle.marking.specs.declared.Marking.TheVariants.{Done, Refused}
 
 -- number and place, 0 and 0 where nothing is refused
-abbrev pub marking_values : Marking → MarkValues
-marking_values Done = record { number = 0; place = 0 }
-marking_values (Refused x) = record { number = x.number; place = x.place }
+abbrev pub marking_values : Result ⊤ Refusal → MarkValues
+marking_values (Ok _) = record { number = 0; place = 0 }
+marking_values (Err x) = record { number = x.number; place = x.place }
 
 -- .. and which of the two it is: done exactly where the number is 0
-abbrev pub is_done : Marking → Bool
-is_done Done = true
-is_done (Refused x) = false
+abbrev pub is_done : Result ⊤ Refusal → Bool
+is_done (Ok _) = true
+is_done (Err x) = false
 
 -- a run, and the marks that stand in the lent memory: each is read with the run's own table
 abbrev pub marked_by : Run → Marks → Marked

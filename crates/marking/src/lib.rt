@@ -22,16 +22,10 @@ use soundness::test;
 use table::Refusal;
 use wivakkol_marks::clear;
 
-#[derive(Drop)]
-pub enum Marking {
-    Done,
-    Refused(Refusal),
-}
-
 // The run after going back; as it was where that is refused.
 #[derive(Drop)]
 pub struct Gone {
-    pub answer: Marking,
+    pub answer: Result<(), Refusal>,
     pub run: Run,
 }
 
@@ -42,16 +36,16 @@ struct Packed {
     run: Run,
 }
 
-fn answer_of(number: u32) -> Marking
+fn answer_of(number: u32) -> Result<(), Refusal>
     requires { number < 256 }
     ensures result_value { marking_values result ≡ numbered number }
     ensures result_value_2 { is_done result ≡ eqb (marking_values result).number 0 }
 {
     if number == 0 {
-        return Marking::Done;
+        return Ok(());
     }
     let number = number as u8;
-    Marking::Refused(Refusal { number, place: 0 })
+    Err(Refusal { number, place: 0 })
 }
 
 const NOBODY: Worker = Worker {
@@ -276,7 +270,7 @@ pub fn set_mark(
     forks: &mut [u16; 1024],
     seen: &mut [u16; 1024],
     list: &mut [u16; 1024],
-) -> Marking
+) -> Result<(), Refusal>
     ensures result_value { marking_values result ≡ set_values (marked_by run (marks_of set.old markbytes.old markwords.old marknumbers.old marksums.old)) i }
     ensures marksums_after { marks_in (bytes_of run) (marks_of set.new markbytes.new markwords.new marknumbers.new marksums.new) ≡ (set_as (try_at (set_checks (marked_by run (marks_of set.old markbytes.old markwords.old marknumbers.old marksums.old)) i) 0) i (marked_by run (marks_of set.old markbytes.old markwords.old marknumbers.old marksums.old))).marks }
     ensures cleared { Cleared sparebytes.new sparewords.new sparenumbers.new sparesums.new next.new status.new amounts.new left.new right.new rises.new falls.new forks.new seen.new list.new }

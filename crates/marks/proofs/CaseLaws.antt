@@ -1,4 +1,6 @@
 -- From a beginning, after single turns and marks set and gone back to, the run and its marks are sound: 32 does not apply, and the worked cases hold of the definitions.
+use Rattle.std.specs.Prelude.{Err, Ok, Result, ⊤}
+use Rattle.table.specs.declared.Refusal.{Refusal}
 use mathlib.Core.Path.{◌≡◌, refl, ap, ap₂, ◌∙◌}
 use Prim.Native.Nat.{ℕ, zero, suc, ◌+◌, ◌-◌, ◌^◌, ◌<◌}
 use native.Mathlib.Omega.{arith}
@@ -13,13 +15,10 @@ use Rattle.table.specs.Checks.{entry_wrong, total_wrong, owner_below, kind_unkno
 use Rattle.table.specs.Checks.{open_before, join_not_latest, end_with_open, never_forked, alloc_of, free_of, whole_within, balance, balance_below0, passes}
 use Rattle.table.specs.Load.{found_number}
 use Rattle.table.specs.Cases.{E}
-use Rattle.table.specs.declared.Found.{Found}
-use Rattle.table.specs.declared.Found.TheVariants.{Nothing, At}
 use Rattle.table.proofs.Tests.{no_way}
 use Rattle.filling.specs.Filled.{big, filled_out, overfull}
 use Rattle.schedule.specs.declared.Run.{Run}
 use Rattle.schedule.specs.declared.Turned.{Turned}
-use Rattle.schedule.specs.declared.Beginning.TheVariants.{Begun as started}
 use Rattle.schedule.specs.Begin.{begin}
 use Rattle.schedule.specs.Sound.{Steady, Sound}
 use Rattle.schedule.specs.Turn.{unsound}
@@ -73,17 +72,17 @@ module _ (k : ℕ) where
   fresh_set (x ∷ ms) (suc i) r f h zero = h 0
   fresh_set (x ∷ ms) (suc i) r f h (suc j) = fresh_set ms i r f (λ n. h (suc n)) j
 
-  set_fresh : (x : Found) (i : ℕ) (m : Marked) → AllFresh k m → AllFresh k (set_as x i m)
-  set_fresh Nothing i m h = record { run = h.run; marks = fresh_set m.marks i m.run h.run h.marks }
-  set_fresh (At x) i m h = h
+  set_fresh : (x : Result ⊤ Refusal) (i : ℕ) (m : Marked) → AllFresh k m → AllFresh k (set_as x i m)
+  set_fresh (Ok _) i m h = record { run = h.run; marks = fresh_set m.marks i m.run h.run h.marks }
+  set_fresh (Err x) i m h = h
 
   run_at_lem : (x : Mark) (r : Run) → FreshMark k x → Fresh k r → Fresh k (run_at x r)
   run_at_lem unset r h f = f
   run_at_lem (kept q) r h f = h
 
-  back_fresh : (x : Found) (i : ℕ) (m : Marked) → AllFresh k m → AllFresh k (back_as x i m)
-  back_fresh Nothing i m h = record { run = run_at_lem (mark_of m i) m.run (h.marks i) h.run; marks = h.marks }
-  back_fresh (At x) i m h = h
+  back_fresh : (x : Result ⊤ Refusal) (i : ℕ) (m : Marked) → AllFresh k m → AllFresh k (back_as x i m)
+  back_fresh (Ok _) i m h = record { run = run_at_lem (mark_of m i) m.run (h.marks i) h.run; marks = h.marks }
+  back_fresh (Err x) i m h = h
 
 less : (k : ℕ) (r : Run) → Fresh (suc k) r → Fresh k r
 less k r h = record { steady = h.steady; room = omega (arith, h.room) }
@@ -138,16 +137,16 @@ same k (moving (in_rounds limit)) m s h = no_way cc
 same k (setting i) m s h =
     let e = set_checked m i (none_bad (suc k) m h) in
     record {
-      after = ap (λ (x : Found). set_as x i m) e;
-      led = λ l. ap (λ (x : Found). set_led x i l) e;
+      after = ap (λ (x : Result ⊤ Refusal). set_as x i m) e;
+      led = λ l. ap (λ (x : Result ⊤ Refusal). set_led x i l) e;
       number = ap found_number e;
       fresh = set_fresh k (try_at (set_checks m i) 0) i m (less_all k m h);
     }
 same k (going i) m s h =
     let e = back_checked m i (none_bad (suc k) m h) in
     record {
-      after = ap (λ (x : Found). back_as x i m) e;
-      led = λ l. ap (λ (x : Found). back_led x i l) e;
+      after = ap (λ (x : Result ⊤ Refusal). back_as x i m) e;
+      led = λ l. ap (λ (x : Result ⊤ Refusal). back_led x i l) e;
       number = ap found_number e;
       fresh = back_fresh k (try_at (back_checks m i) 0) i m (less_all k m h);
     }
@@ -198,7 +197,7 @@ seen_all r h z (c ∷ l) q =
     none : (i : ℕ) → FreshMark (suc (length c.calls)) (get_or (replicate 8 unset) i unset)
     none i = rw (get_d_alike 8 i unset) tt
 
-begun_E : (begin E 2 6).answer ≡ started
+begun_E : (begin E 2 6).answer ≡ Ok tt
 unfolding sum_to any_below code_of kind_of is table_of try_at try_from try_pass first_found entry_wrong total_wrong owner_below kind_unknown argument_wrong end_misplaced forked_below forked_before open_before join_not_latest end_with_open never_forked alloc_of free_of whole_within balance balance_below0 passes big overfull filled_out begin
 begun_E = refl
 

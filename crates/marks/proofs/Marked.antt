@@ -1,4 +1,6 @@
 -- A run with marks is at each point a run without: the one that the calls led to.
+use Rattle.std.specs.Prelude.{Err, Ok, Result, ⊤}
+use Rattle.table.specs.declared.Refusal.{Refusal}
 use mathlib.Core.Path.{◌≡◌, refl, sym, ap, ◌∙◌}
 use Prim.Native.Nat.{ℕ, zero, suc}
 use mathlib.Core.List.{List, [], ◌∷◌, ◌++◌}
@@ -6,8 +8,6 @@ use mathlib.Core.Bool.{true}
 use native.Mathlib.Omega.{arith}
 use lib.ListN.{length, get_or, set, replicate, length-set}
 use Rattle.table.specs.Pass.{try_at}
-use Rattle.table.specs.declared.Found.{Found}
-use Rattle.table.specs.declared.Found.TheVariants.{Nothing, At}
 use borrow.Author.Tests.{not-false}
 use Rattle.table.proofs.Tests.{no_way}
 use Rattle.table.proofs.Trying.{try_at_nothing}
@@ -43,22 +43,22 @@ module _ (r : Run) where
   right_set (x ∷ ms) (y ∷ ls) (suc i) q l e n h zero = h 0
   right_set (x ∷ ms) (y ∷ ls) (suc i) q l e n h (suc j) = right_set ms ls i q l e (omega arith) (λ k. h (suc k)) j
 
-  set_follows : (x : Found) (i : ℕ) (m : Marked) (l : Led Call) → Follows r m l → Follows r (set_as x i m) (set_led x i l)
-  set_follows Nothing i m l f =
+  set_follows : (x : Result ⊤ Refusal) (i : ℕ) (m : Marked) (l : Led Call) → Follows r m l → Follows r (set_as x i m) (set_led x i l)
+  set_follows (Ok _) i m l f =
       record {
         run = f.run;
         marks = right_set m.marks l.marks i m.run l.here f.run f.size f.marks;
         size = length-set m.marks i (kept m.run) ∙ f.size ∙ sym (length-set l.marks i l.here);
       }
-  set_follows (At x) i m l f = f
+  set_follows (Err x) i m l f = f
 
-  back_follows : (x : Found) (i : ℕ) (m : Marked) (l : Led Call) → is_set (mark_of m i) ≡ true → Follows r m l → Follows r (back_as x i m) (back_led x i l)
-  back_follows Nothing i m l h f = record { run = at (mark_of m i) h (f.marks i); marks = f.marks; size = f.size }
+  back_follows : (x : Result ⊤ Refusal) (i : ℕ) (m : Marked) (l : Led Call) → is_set (mark_of m i) ≡ true → Follows r m l → Follows r (back_as x i m) (back_led x i l)
+  back_follows (Ok _) i m l h f = record { run = at (mark_of m i) h (f.marks i); marks = f.marks; size = f.size }
     where
       at : (k : Mark) → is_set k ≡ true → Right r k (get_or l.marks i []) → run_at k m.run ≡ after_calls (get_or l.marks i []) r
       at unset h g = no_way cc
       at (kept q) h g = g
-  back_follows (At x) i m l h f = f
+  back_follows (Err x) i m l h f = f
 
   pub mark_follows : (c : MarkCall) (m : Marked) (l : Led Call) → Follows r m l → Follows r (after_mark c m) (led_by c m l)
   unfolding after_mark led_by
@@ -66,9 +66,9 @@ module _ (r : Run) where
   mark_follows (setting i) m l f = set_follows (try_at (set_checks m i) 0) i m l f
   mark_follows (going i) m l f = went (try_at (back_checks m i) 0) refl
     where
-      went : (x : Found) → try_at (back_checks m i) 0 ≡ x → Follows r (back_as x i m) (back_led x i l)
-      went Nothing e = back_follows Nothing i m l (not-false _ ((try_at_nothing (back_checks m i) 0).0 e).1.1.0) f
-      went (At y) e = f
+      went : (x : Result ⊤ Refusal) → try_at (back_checks m i) 0 ≡ x → Follows r (back_as x i m) (back_led x i l)
+      went (Ok _) e = back_follows (Ok tt) i m l (not-false _ ((try_at_nothing (back_checks m i) 0).0 e).1.1.0) f
+      went (Err y) e = f
 
   pub unmarked_follows : Follows r (unmarked r) nowhere
   unfolding after_calls

@@ -1,4 +1,6 @@
 -- The turns that led to a run and to its marks, told from the answers, are the rows of the calls that led there.
+use Rattle.std.specs.Prelude.{Err, Ok, Result, ⊤}
+use Rattle.table.specs.declared.Refusal.{Refusal}
 use mathlib.Core.Path.{◌≡◌, refl, sym, ap, ◌∙◌}
 use Prim.Native.Nat.{ℕ, zero, suc}
 use mathlib.Core.List.{List, [], ◌∷◌, ◌++◌, map, append-nil, append_assoc}
@@ -8,8 +10,6 @@ use lib.Dec.{ltb, eqb}
 use Rattle.table.specs.Sum.{pick}
 use Rattle.table.specs.Pass.{refusal, try_at}
 use Rattle.table.specs.Load.{found_number}
-use Rattle.table.specs.declared.Found.{Found}
-use Rattle.table.specs.declared.Found.TheVariants.{Nothing, At}
 use Rattle.order.specs.Words.{is_nothing}
 use Rattle.schedule.specs.declared.Run.{Run}
 use Rattle.schedule.specs.Calls.{Call, after_call, after_calls, row_of, row_of_calls}
@@ -38,18 +38,18 @@ map_at f e (x ∷ l) zero = refl
 map_at f e (x ∷ l) (suc i) = map_at f e l i
 
 -- a number tells whether something was found: no check has 0
-tells : (b : Bool) (n : ℕ) (f : Found) → eqb n 0 ≡ false → eqb (found_number f) 0 ≡ is_nothing f
-    → eqb (found_number (pick b (At (refusal n 0)) f)) 0 ≡ is_nothing (pick b (At (refusal n 0)) f)
+tells : (b : Bool) (n : ℕ) (f : Result ⊤ Refusal) → eqb n 0 ≡ false → eqb (found_number f) 0 ≡ is_nothing f
+    → eqb (found_number (pick b (Err (refusal n 0)) f)) 0 ≡ is_nothing (pick b (Err (refusal n 0)) f)
 tells true n f e h = e
 tells false n f e h = h
 
 set_tells : (m : Marked) (i : ℕ) → eqb (number_of (setting i) m) 0 ≡ is_nothing (try_at (set_checks m i) 0)
 unfolding try_at set_values
-set_tells m i = tells (bad_marked m) 32 _ refl (tells (not (ltb i max_marks)) 45 Nothing refl refl)
+set_tells m i = tells (bad_marked m) 32 _ refl (tells (not (ltb i max_marks)) 45 (Ok tt) refl refl)
 
 back_tells : (m : Marked) (i : ℕ) → eqb (number_of (going i) m) 0 ≡ is_nothing (try_at (back_checks m i) 0)
 unfolding try_at back_values
-back_tells m i = tells (bad_marked m) 32 _ refl (tells (not (ltb i max_marks)) 45 _ refl (tells (not (is_set (mark_of m i))) 46 Nothing refl refl))
+back_tells m i = tells (bad_marked m) 32 _ refl (tells (not (ltb i max_marks)) 45 _ refl (tells (not (is_set (mark_of m i))) 46 (Ok tt) refl refl))
 
 no_calls : (r : Run) → row_of_calls [] r ≡ []
 unfolding row_of_calls
@@ -61,14 +61,14 @@ turns_led r (moving c) m l f =
     ap (λ (row : List ℕ). led row (rows_of r l).marks) (ap (λ (q : Run). row_of_calls l.here r ++ row_of c q) f.run ∙ sym (append_row l.here c r))
 turns_led r (setting i) m l f = rw (set_tells m i) (go (try_at (set_checks m i) 0))
   where
-    go : (x : Found) → pick (is_nothing x) (set_led Nothing i (rows_of r l)) (rows_of r l) ≡ rows_of r (set_led x i l)
-    go Nothing = ap (led (rows_of r l).here) (sym (map_set (λ (c : List Call). row_of_calls c r) l.marks i l.here))
-    go (At x) = refl
+    go : (x : Result ⊤ Refusal) → pick (is_nothing x) (set_led (Ok tt) i (rows_of r l)) (rows_of r l) ≡ rows_of r (set_led x i l)
+    go (Ok _) = ap (led (rows_of r l).here) (sym (map_set (λ (c : List Call). row_of_calls c r) l.marks i l.here))
+    go (Err x) = refl
 turns_led r (going i) m l f = rw (back_tells m i) (go (try_at (back_checks m i) 0))
   where
-    go : (x : Found) → pick (is_nothing x) (back_led Nothing i (rows_of r l)) (rows_of r l) ≡ rows_of r (back_led x i l)
-    go Nothing = ap (λ (row : List ℕ). led row (rows_of r l).marks) (map_at (λ (c : List Call). row_of_calls c r) (no_calls r) l.marks i)
-    go (At x) = refl
+    go : (x : Result ⊤ Refusal) → pick (is_nothing x) (back_led (Ok tt) i (rows_of r l)) (rows_of r l) ≡ rows_of r (back_led x i l)
+    go (Ok _) = ap (λ (row : List ℕ). led row (rows_of r l).marks) (map_at (λ (c : List Call). row_of_calls c r) (no_calls r) l.marks i)
+    go (Err x) = refl
 
 module _ (r : Run) where
   turns_led_from : (cs : List MarkCall) (m : Marked) (l : Led Call) → Follows r m l → turns_to cs m (rows_of r l) ≡ rows_of r (led_to cs m l)

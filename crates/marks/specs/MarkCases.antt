@@ -1,5 +1,6 @@
 -- Marks on worked cases, computed on the definitions.
-use Rattle.std.specs.Prelude.{◌≡◌, refl, ℕ, List, [], ◌∷◌, ◌++◌, map, not, set, replicate, ltb}
+use Rattle.std.specs.Prelude.{◌≡◌, refl, ℕ, List, [], ◌∷◌, ◌++◌, map, not, set, replicate, ltb, Err, Ok, Result, ⊤}
+use Rattle.table.specs.declared.Refusal.{Refusal}
 use Rattle.table.specs.Sum.{sum_to, any_below}
 use Rattle.table.specs.Format.{code_of, kind_of, is, table_of}
 use Rattle.table.specs.Pass.{Check, refusal, try_at, try_from, try_pass, first_found}
@@ -8,8 +9,6 @@ use Rattle.table.specs.Checks.{open_before, join_not_latest, end_with_open, neve
 use Rattle.table.specs.Level.{fork_below}
 use Rattle.table.specs.Load.{found_number}
 use Rattle.table.specs.Cases.{E}
-use Rattle.table.specs.declared.Found.{Found}
-use Rattle.table.specs.declared.Found.TheVariants.{Nothing, At}
 use Rattle.schedule.specs.declared.Run.{Run}
 use Rattle.schedule.specs.Machine.{left_of, without, waits_for, woken, act_by, act, leftmost, taken, turn_free, turn_of, passed_by}
 use Rattle.schedule.specs.Record.{set_of, blank}
@@ -36,7 +35,7 @@ sound_checks m (going i) =
     ∷ record { number = 46; applies = λ j. not (is_set (mark_of m i)) }
     ∷ []
 
-abbrev pub found : Marked → MarkCall → Found
+abbrev pub found : Marked → MarkCall → Result ⊤ Refusal
 found m c = try_at (sound_checks m c) 0
 
 abbrev pub after_sound : MarkCall → Marked → Marked
@@ -129,11 +128,11 @@ abbrev pub marked_damaged : Marked
 marked_damaged = marked blank (set marked_blank.marks 5 (kept damaged))
 
 -- "In these two calls 32 looks at the run and at every set mark", also at one that the call does not name, and before 45 and 46; the blank record may be marked and gone back to
-pub damage_worked : (try_at (set_checks (unmarked blank) 1) 0 ≡ Nothing)
-    × (try_at (back_checks marked_blank 1) 0 ≡ Nothing)
-    × (try_at (set_checks marked_damaged 5) 0 ≡ At (refusal 32 0))
-    × (try_at (back_checks marked_damaged 1) 0 ≡ At (refusal 32 0))
-    × (try_at (set_checks marked_damaged 8) 0 ≡ At (refusal 32 0))
-    × (try_at (back_checks marked_damaged 2) 0 ≡ At (refusal 32 0))
+pub damage_worked : (try_at (set_checks (unmarked blank) 1) 0 ≡ Ok tt)
+    × (try_at (back_checks marked_blank 1) 0 ≡ Ok tt)
+    × (try_at (set_checks marked_damaged 5) 0 ≡ Err (refusal 32 0))
+    × (try_at (back_checks marked_damaged 1) 0 ≡ Err (refusal 32 0))
+    × (try_at (set_checks marked_damaged 8) 0 ≡ Err (refusal 32 0))
+    × (try_at (back_checks marked_damaged 2) 0 ≡ Err (refusal 32 0))
 unfolding sum_to any_below code_of kind_of is table_of try_at try_from try_pass first_found entry_wrong total_wrong owner_below kind_unknown argument_wrong end_misplaced forked_below forked_before open_before join_not_latest end_with_open never_forked alloc_of free_of whole_within balance balance_below0 passes start_state start_run blank bad_marked unsound sound common_sound is_blank same_list all_below
 damage_worked = (refl, refl, refl, refl, refl, refl)

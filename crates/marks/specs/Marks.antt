@@ -1,10 +1,9 @@
 -- Marks to come back to (N11): eight beside a run, and two calls, which set one and go back to one.
-use Rattle.std.specs.Prelude.{ℕ, List, [], ◌∷◌, ◌++◌, Bool, true, false, not, ◌||◌, get_or, set, replicate, ltb, eqb}
+use Rattle.std.specs.Prelude.{ℕ, List, [], ◌∷◌, ◌++◌, Bool, true, false, not, ◌||◌, get_or, set, replicate, ltb, eqb, Err, Ok, Result, ⊤}
+use Rattle.table.specs.declared.Refusal.{Refusal}
 use Rattle.table.specs.Sum.{pick, any_below}
 use Rattle.table.specs.Pass.{Check, try_at}
 use Rattle.table.specs.Load.{found_number, found_place}
-use Rattle.table.specs.declared.Found.{Found}
-use Rattle.table.specs.declared.Found.TheVariants.{Nothing, At}
 use Rattle.schedule.specs.declared.Run.{Run}
 use Rattle.schedule.specs.Turn.{unsound}
 use Rattle.schedule.specs.Calls.{Call, after_call, row_of, row_of_calls}
@@ -64,7 +63,7 @@ pub record MarkValues : Type 0 where
   pub number : ℕ
   pub place : ℕ
 
-abbrev pub mark_values : Found → MarkValues
+abbrev pub mark_values : Result ⊤ Refusal → MarkValues
 mark_values x = record { number = found_number x; place = found_place x }
 
 unfoldable pub set_values : Marked → ℕ → MarkValues
@@ -74,9 +73,9 @@ unfoldable pub back_values : Marked → ℕ → MarkValues
 back_values m i = mark_values (try_at (back_checks m i) 0)
 
 -- "Setting one stores the run as it is"; "Setting again replaces". Refused, nothing changes.
-abbrev pub set_as : Found → ℕ → Marked → Marked
-set_as Nothing i m = marked m.run (set m.marks i (kept m.run))
-set_as (At x) i m = m
+abbrev pub set_as : Result ⊤ Refusal → ℕ → Marked → Marked
+set_as (Ok _) i m = marked m.run (set m.marks i (kept m.run))
+set_as (Err x) i m = m
 
 -- the run at a mark; the second where it is not set, which no call comes to
 abbrev pub run_at : Mark → Run → Run
@@ -84,9 +83,9 @@ run_at unset r = r
 run_at (kept q) r = q
 
 -- "going back restores exactly that run, turns and peak too, while the marks themselves remain"
-abbrev pub back_as : Found → ℕ → Marked → Marked
-back_as Nothing i m = marked (run_at (mark_of m i) m.run) m.marks
-back_as (At x) i m = m
+abbrev pub back_as : Result ⊤ Refusal → ℕ → Marked → Marked
+back_as (Ok _) i m = marked (run_at (mark_of m i) m.run) m.marks
+back_as (Err x) i m = m
 
 -- ---- lists of calls
 
@@ -115,13 +114,13 @@ pub record Led (A : Type 0) : Type 0 where
 abbrev pub led : {A : Type 0} → List A → List (List A) → Led A
 led l ms = record { here = l; marks = ms }
 
-abbrev pub set_led : {A : Type 0} → Found → ℕ → Led A → Led A
-set_led Nothing i l = led l.here (set l.marks i l.here)
-set_led (At x) i l = l
+abbrev pub set_led : {A : Type 0} → Result ⊤ Refusal → ℕ → Led A → Led A
+set_led (Ok _) i l = led l.here (set l.marks i l.here)
+set_led (Err x) i l = l
 
-abbrev pub back_led : {A : Type 0} → Found → ℕ → Led A → Led A
-back_led Nothing i l = led (get_or l.marks i []) l.marks
-back_led (At x) i l = l
+abbrev pub back_led : {A : Type 0} → Result ⊤ Refusal → ℕ → Led A → Led A
+back_led (Ok _) i l = led (get_or l.marks i []) l.marks
+back_led (Err x) i l = l
 
 -- the calls that led there, after one more
 unfoldable pub led_by : MarkCall → Marked → Led Call → Led Call
@@ -158,8 +157,8 @@ number_of (going i) m = (back_values m i).number
 -- the turns that led there, after a call that laid a row and answered a number: where it set a mark or went back to one, the number is 0
 abbrev pub turns_by : MarkCall → List ℕ → ℕ → Led ℕ → Led ℕ
 turns_by (moving c) row number w = led (w.here ++ row) w.marks
-turns_by (setting i) row number w = pick (eqb number 0) (set_led Nothing i w) w
-turns_by (going i) row number w = pick (eqb number 0) (back_led Nothing i w) w
+turns_by (setting i) row number w = pick (eqb number 0) (set_led (Ok tt) i w) w
+turns_by (going i) row number w = pick (eqb number 0) (back_led (Ok tt) i w) w
 
 unfoldable pub turns_to : List MarkCall → Marked → Led ℕ → Led ℕ
 turns_to [] m w = w

@@ -1,4 +1,5 @@
 -- m + A + J action by action, at most twice the actions; of the table that runs, from the counts of its threads and actions.
+use Rattle.std.specs.Prelude.{Ok}
 use mathlib.Core.Path.{◌≡◌, refl}
 use Prim.Native.Nat.{ℕ, zero, suc, ◌+◌, ◌-◌, ◌*◌, ◌≤◌}
 use native.Mathlib.Omega.{arith}
@@ -10,7 +11,6 @@ use Rattle.table.specs.Sum.{pick, sum_to}
 use Rattle.table.specs.Format.{alloc, join, is, kind_of, Table, kind, table_of}
 use Rattle.table.specs.Pass.{try_pass}
 use Rattle.table.specs.Rules.{Rules}
-use Rattle.table.specs.declared.Found.TheVariants.{Nothing}
 use Rattle.table.proofs.Walks.{is_code}
 use Rattle.order.specs.Turns.{turns_of}
 use Rattle.order.proofs.Lawful.{Lawful, lawful}
@@ -62,7 +62,7 @@ turns_few T = omega (arith, turns_sum T, sum_to_bound (turns_at T) 2 T.actions (
 
 -- ---- of the filled-out table
 
-module _ (s : List ℕ) (K : ℕ) (rules : Rules s) (some : 1 ≤ K) (e : try_pass (fill_pass (table_of s) K) ≡ Nothing) where
+module _ (s : List ℕ) (K : ℕ) (rules : Rules s) (some : 1 ≤ K) (e : try_pass (fill_pass (table_of s) K) ≡ Ok tt) where
   abbrev T : Table
   T = table_of s
 

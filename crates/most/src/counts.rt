@@ -27,10 +27,8 @@ fn given_turns(table: &[u8], n: usize, m: usize) -> usize
     ensures { Read (turns_of (table_of table.now)) 131072 result }
 {
     let mut turns = 0;
-    let mut a = 0;
-    while a < m {
+    for a in 0..m {
         turns += turns_at(table, n, a);
-        a += 1;
     }
     turns
 }

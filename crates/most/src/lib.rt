@@ -4,7 +4,7 @@
 mod counts;
 mod line;
 
-ghost use Rattle.std.specs.Prelude.{◌≡◌, ◌++◌, length, drop, replicate};
+ghost use Rattle.std.specs.Prelude.{◌≡◌, ◌++◌, length, drop, replicate, Err};
 ghost use Rattle.io.specs.Counts.{IsPrefixLen};
 ghost use Rattle.table.specs.Pass.{refusal};
 ghost use Rattle.table.specs.Rules.{Rules};
@@ -16,17 +16,10 @@ ghost use Rattle.most.specs.Code.Steps.{own_most};
 use counts::turns_of;
 use filling::count::count;
 use line::{answer_line, answer_to};
-use table::{Found, Refusal};
-
-// The limit of turns with which a run in rounds always finishes, or the check that applies.
-#[derive(Drop)]
-pub enum Most {
-    Turns(u32),
-    Refused(Refusal),
-}
+use table::Refusal;
 
 // p * (m + A + J) of the table that runs, at most 262,144; refused as a beginning with these is.
-pub fn most_turns(table: &[u8], p: u8, quota: u32) -> Most
+pub fn most_turns(table: &[u8], p: u8, quota: u32) -> Result<u32, Refusal>
     ensures value { result ≡ most_of table.now p quota }
     ensures result_value { most_values_of result ≡ most_values_for table.now p quota }
 {
@@ -42,15 +35,15 @@ pub fn most_turns_in(
     quota: u32,
     rises: &mut [u64; 1024],
     falls: &mut [u64; 1024],
-) -> Most
+) -> Result<u32, Refusal>
     ensures value { result ≡ most_of table.now p quota }
     ensures result_value { most_values_of result ≡ most_values_for table.now p quota }
     ensures rises_after { (rises.new ≡ replicate 1024 0) × (falls.new ≡ replicate 1024 0) }
 {
     let found = checks::check_in(table, rises, falls);
     match found {
-        Found::At(r) => Most::Refused(r),
-        Found::Nothing => turns_for(table, p, quota),
+        Err(r) => Err(r),
+        Ok(()) => turns_for(table, p, quota),
     }
 }
 
@@ -64,7 +57,7 @@ pub fn turns_line(input: &[u8], out: &mut [u8; 80]) -> usize
 }
 
 // Checks 20, 21 and 44 on an accepted table.
-fn turns_for(table: &[u8], p: u8, quota: u32) -> Most
+fn turns_for(table: &[u8], p: u8, quota: u32) -> Result<u32, Refusal>
     requires { Rules table.now }
     ensures { result ≡ own_most table.now p quota }
 {
@@ -77,9 +70,9 @@ fn turns_for(table: &[u8], p: u8, quota: u32) -> Most
     let total = count(table, quota);
     let found = total.found;
     match found {
-        Found::At(r) => Most::Refused(r),
-        Found::Nothing => {
-            Most::Turns((p as u32) * turns_of(table, total.threads, total.actions))
+        Err(r) => Err(r),
+        Ok(()) => {
+            Ok((p as u32) * turns_of(table, total.threads, total.actions))
         }
     }
 }
@@ -90,8 +83,8 @@ fn outside(high: u32, x: u32) -> bool
     x < 1 || high < x
 }
 
-pub(crate) fn refuse(number: u8) -> Most
-    ensures { result ≡ Most.Refused (refusal number 0) }
+pub(crate) fn refuse(number: u8) -> Result<u32, Refusal>
+    ensures { result ≡ Err (refusal number 0) }
 {
-    Most::Refused(Refusal { number, place: 0 })
+    Err(Refusal { number, place: 0 })
 }

@@ -3,8 +3,8 @@ ghost use Rattle.std.specs.Prelude.{◌≡◌, ◌≤◌, ◌++◌, length, drop
 ghost use Rattle.table.specs.Sum.{Read};
 ghost use Rattle.most.specs.Line.{quota_in, most_to, limit_line, most_line};
 
-use crate::{Most, most_turns, refuse};
-use table::Loaded;
+use table::Refusal;
+use crate::{most_turns, refuse};
 use table::read::{byte, word};
 use text::{put_labelled, put_word};
 
@@ -22,7 +22,7 @@ fn quota_in(input: &[u8]) -> u32
 }
 
 // Check 33, and the answer where it does not apply.
-pub(crate) fn answer_to(input: &[u8]) -> Most
+pub(crate) fn answer_to(input: &[u8]) -> Result<u32, Refusal>
     ensures { result ≡ most_to input.now }
 {
     if input.len() < 8 {
@@ -41,13 +41,13 @@ fn limit_line(limit: u32, out: &mut [u8; 80]) -> usize
 }
 
 // The line of an answer, and its length.
-pub(crate) fn answer_line(answer: Most, out: &mut [u8; 80]) -> usize
+pub(crate) fn answer_line(answer: Result<u32, Refusal>, out: &mut [u8; 80]) -> usize
     ensures value { result ≡ length (most_line answer) }
     ensures out_after { out.new ≡ most_line answer ++ drop result out.old }
     ensures upper_bound { result ≤ 64 }
 {
     match answer {
-        Most::Turns(limit) => limit_line(limit, out),
-        Most::Refused(refusal) => text::table_line(Loaded::Refused(refusal), out),
+        Ok(limit) => limit_line(limit, out),
+        Err(refusal) => text::table_line(Err(refusal), out),
     }
 }

@@ -1,4 +1,6 @@
 -- The words in which the tests of a record are written: of each word, what it says when it is true.
+use Rattle.std.specs.Prelude.{Err, Ok, Result, ⊤}
+use Rattle.table.specs.declared.Refusal.{Refusal}
 use mathlib.Core.Path.{◌≡◌, refl, sym, ◌∙◌}
 use mathlib.Core.Logic.Iff
 use mathlib.Core.Logic.{◌↔◌, ◌⊎◌, inl, inr, ⊎_elim}
@@ -12,8 +14,6 @@ use lib.ListN.{length}
 use lib.Dec.{ltb, leb, eqb}
 use borrow.Author.Tests.{ltb-true, lt-ltb, le-ltb, leb-true, le-leb, eqb-true, eqb-false, eq-eqb, ne_eqb, not-true}
 use Rattle.table.specs.Sum.{pick, sum_to}
-use Rattle.table.specs.declared.Found.{Found}
-use Rattle.table.specs.declared.Found.TheVariants.{Nothing, At}
 use Rattle.table.proofs.Tests.{no_way}
 use Rattle.table.proofs.Sums.{sum_to_zero}
 use Rattle.order.specs.Words.{all_below, all_in, member, count_below, agree, place_in, rises_from, rises, same_list, is_nothing}
@@ -103,9 +103,9 @@ eqb_same x y z to back = go (ℕ_discrete x z)
 pub not_eqb_exactly : (a b : ℕ) → (not (eqb a b) ≡ true) ↔ (a ≡ b → ⊥)
 not_eqb_exactly a b = ((λ e. eqb-false a b (not-true _ e)), (λ h. (not_exactly (eqb a b)).1 (ne_eqb a b h)))
 
-pub is_nothing_exactly : (f : Found) → (is_nothing f ≡ true) ↔ (f ≡ Nothing)
-is_nothing_exactly Nothing = ((λ e. refl), (λ e. refl))
-is_nothing_exactly (At x) = ((λ e. cc), (λ e. no_way (cc)))
+pub is_nothing_exactly : (f : Result ⊤ Refusal) → (is_nothing f ≡ true) ↔ (f ≡ Ok tt)
+is_nothing_exactly (Ok _) = ((λ e. refl), (λ e. refl))
+is_nothing_exactly (Err x) = ((λ e. cc), (λ e. no_way (cc)))
 
 -- ---- all of the numbers below, all of a list
 

@@ -1,8 +1,7 @@
 -- Words of tests, and of lists of numbers: all, any, how many, the place of an element, a list that rises, two that are the same, one that is filled up.
-use Rattle.std.specs.Prelude.{ℕ, zero, suc, ◌-◌, List, [], ◌∷◌, ◌++◌, Bool, true, false, not, ◌&&◌, ◌||◌, length, replicate, ltb, eqb}
+use Rattle.std.specs.Prelude.{ℕ, zero, suc, ◌-◌, List, [], ◌∷◌, ◌++◌, Bool, true, false, not, ◌&&◌, ◌||◌, length, replicate, ltb, eqb, Err, Ok, Result, ⊤}
+use Rattle.table.specs.declared.Refusal.{Refusal}
 use Rattle.table.specs.Sum.{pick, sum_to}
-use Rattle.table.specs.declared.Found.{Found}
-use Rattle.table.specs.declared.Found.TheVariants.{Nothing, At}
 
 -- every number below k passes
 unfoldable pub all_below : (ℕ → Bool) → ℕ → Bool
@@ -41,9 +40,9 @@ unfoldable pub rises : (ℕ → ℕ) → List ℕ → Bool
 rises f [] = true
 rises f (x ∷ l) = rises_from f x l
 
-abbrev pub is_nothing : Found → Bool
-is_nothing Nothing = true
-is_nothing (At x) = false
+abbrev pub is_nothing : Result ⊤ Refusal → Bool
+is_nothing (Ok _) = true
+is_nothing (Err x) = false
 
 unfoldable pub same_list : List ℕ → List ℕ → Bool
 same_list [] [] = true

@@ -1,5 +1,6 @@
 -- Which action of the table as given an action of the table that runs is: each action as given is the origin of exactly one, of the same kind, argument and thread, in order; and it is read off
 -- the table that runs and K.
+use Rattle.std.specs.Prelude.{Ok}
 use Prim.Native.Nat.{ℕ, zero, suc, ◌+◌, ◌-◌, ◌*◌, ◌/◌, ◌≤◌, ◌<◌}
 use native.Mathlib.Omega.{arith}
 use native.Mathlib.Decide.{dec_lt, ℕ_discrete}
@@ -11,7 +12,6 @@ use borrow.Author.Tests.{le-ltb, le-leb, lt-leb}
 use Rattle.table.specs.Sum.{pick, sum_to, any_below}
 use Rattle.table.specs.Format.{fork, join, is, code_of, Table, table_of, kind}
 use Rattle.table.specs.Checks.{owner, outside, alloc_of}
-use Rattle.table.specs.declared.Found.TheVariants.{Nothing}
 use Rattle.table.specs.Rules.{Rules}
 use Rattle.table.specs.Written.{written}
 use Rattle.table.proofs.Tests.{is_true}
@@ -194,7 +194,7 @@ module _ (T : Table) (K : ℕ) (U : Table) (z : Laid T K U) (l : Lawful T) (some
       go i j a b e f p (no q) (no r) = absurd (omega (arith, e, f, place_rise T K b a (omega (arith, q, r))))
 
 -- of every table and quota that a beginning accepts
-pub origins : (s : List ℕ) (K : ℕ) → fill_found s K ≡ Nothing → Origins (table_of s) K (table_of (filled_out s K))
+pub origins : (s : List ℕ) (K : ℕ) → fill_found s K ≡ Ok tt → Origins (table_of s) K (table_of (filled_out s K))
 unfolding filled_out
 origins s K e = go (any_below (big T K) T.actions) refl
   where

@@ -87,12 +87,10 @@ fn brought(table: &[u8], n: usize, quota: usize, k: usize) -> Counted
 {
     let mut bigs = 0;
     let mut threads = 0;
-    let mut a = 0;
-    while a < k {
+    for a in 0..k {
         let x = amount(table, n, a);
         bigs += above(x, quota);
         threads += new_threads(x, quota);
-        a += 1;
     }
     Counted { bigs, threads }
 }

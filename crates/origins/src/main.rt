@@ -5,11 +5,10 @@ ghost use Rattle.std.specs.Prelude.{◌≡◌};
 ghost use Rattle.table.specs.Format.{u24_at};
 ghost use Rattle.table.specs.Sum.{Read};
 
-use filling::Answer;
 use std::io;
 use std::io::Write;
 use streams::read_full;
-use table::{Loaded, Refusal, read};
+use table::{Refusal, read};
 
 fn wide(x: u8) -> usize
     ensures { Read x 256 result }
@@ -35,17 +34,15 @@ fn print_origin(rt: &HostRuntime, x: u32) -> io::Result<()> {
 
 fn print_origins(rt: &HostRuntime, table: &[u8], quota: u32) -> io::Result<()> {
     let m = read::actions(table);
-    let mut a = 0;
-    while a < m {
+    for a in 0..m {
         print_origin(rt, origin::origin(table, quota, a as u64))?;
-        a += 1;
     }
     Ok(())
 }
 
 fn refused(rt: &HostRuntime, refusal: Refusal) -> io::Result<()> {
     let mut line = [0u8; 80];
-    let k = text::facts_line(Loaded::Refused(refusal), &mut line);
+    let k = text::facts_line(Err(refusal), &mut line);
     rt.stdout().write_all(&line[..k])
 }
 
@@ -54,8 +51,8 @@ fn print_answer(rt: &HostRuntime, input: &[u8]) -> io::Result<()> {
     let mut table = [0u8; 36868];
     let answer = filling::fill_input(input, &mut table);
     match answer {
-        Answer::Filled(k) => print_origins(rt, &table[..k], quota)?,
-        Answer::Refused(refusal) => refused(rt, refusal)?,
+        Ok(k) => print_origins(rt, &table[..k], quota)?,
+        Err(refusal) => refused(rt, refusal)?,
     }
     Ok(())
 }

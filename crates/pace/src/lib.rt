@@ -53,11 +53,9 @@ fn most(pace: &[u32; 260], w: usize) -> u32
 {
     let base = WORKERS * w;
     let mut greatest = 0;
-    let mut x = 0;
-    while x < 16 {
+    for x in 0..16 {
         let n = pace[base + x];
         greatest = larger(greatest, n);
-        x += 1;
     }
     greatest
 }
@@ -92,10 +90,8 @@ fn count(pace: &mut [u32; 260], w: usize)
     ensures { pace.new ≡ counted 16 (16 * w) pace.old }
 {
     let base = WORKERS * w;
-    let mut x = 0;
-    while x < 16 {
+    for x in 0..16 {
         pace[base + x] = one_more(pace[base + x]);
-        x += 1;
     }
 }
 
@@ -104,10 +100,8 @@ fn renew(pace: &mut [u32; 260], w: usize)
     requires { w < 16 }
     ensures { pace.new ≡ renewed 16 w pace.old }
 {
-    let mut v = 0;
-    while v < 16 {
+    for v in 0..16 {
         pace[WORKERS * v + w] = 1;
-        v += 1;
     }
 }
 

@@ -1,5 +1,7 @@
 -- The limits with b and no hypothesis on the row, by value. Every paced call on a record is a call without a pace, of the turns that it took, each of which the pace let through (`move_one`); so
 -- what is proved of those calls holds.
+use Rattle.std.specs.Prelude.{Err, Ok, Result, ⊤}
+use Rattle.table.specs.declared.Refusal.{Refusal}
 use mathlib.Core.Path.{◌≡◌, refl, sym, ap, ap₂, subst, ◌∙◌}
 use Prim.Native.Nat.{ℕ, zero, suc, ◌+◌, ◌-◌, ◌^◌, ◌<◌, ◌≤◌}
 use native.Mathlib.Omega.{arith}
@@ -12,14 +14,11 @@ use borrow.Author.Tests.{not-false, eqb-true, ltb-true}
 use Rattle.table.specs.Sum.{pick}
 use Rattle.table.specs.Format.{table_of}
 use Rattle.table.specs.Pass.{refusal, try_at}
-use Rattle.table.specs.declared.Found.{Found}
-use Rattle.table.specs.declared.Found.TheVariants.{Nothing, At}
 use Rattle.table.proofs.Tests.{no_way}
 use Rattle.order.proofs.Lists.{firsts_take}
 use Rattle.filling.specs.Filled.{filled_out}
 use Rattle.schedule.specs.declared.Run.{Run}
 use Rattle.schedule.specs.declared.Ran.{Ran}
-use Rattle.schedule.specs.declared.Beginning.TheVariants.{Begun as started}
 use Rattle.schedule.specs.declared.Turning.{Turning}
 use Rattle.schedule.specs.declared.Turning.TheVariants.{Taken}
 use Rattle.schedule.specs.declared.Turning.TheVariants.{Refused as refused_turn}
@@ -192,16 +191,16 @@ module _ (r : Run) (P : Pace) where
   unfolding turned
   turned_workers w = go (try_at (turn_checks r w) 0)
     where
-      go : (found : Found) → (turned_as found r (passed_in r w) (step_run r w)).run.workers ≡ r.workers
-      go Nothing = refl
-      go (At x) = refl
+      go : (found : Result ⊤ Refusal) → (turned_as found r (passed_in r w) (step_run r w)).run.workers ≡ r.workers
+      go (Ok _) = refl
+      go (Err x) = refl
 
   below : (w : ℕ) → is_taken (turned r w).answer ≡ true → w < r.workers
   unfolding turned turn_checks try_at no_worker
   below w e = ltb-true w r.workers (go (unsound r) (ltb w r.workers) (root_ended r) e)
     where
       go : (a b c : Bool)
-          → is_taken (turned_as (pick a (At (refusal 32 0)) (pick (not b) (At (refusal 30 0)) (pick c (At (refusal 31 0)) Nothing))) r (passed_in r w) (step_run r w)).answer ≡ true → b ≡ true
+          → is_taken (turned_as (pick a (Err (refusal 32 0)) (pick (not b) (Err (refusal 30 0)) (pick c (Err (refusal 31 0)) (Ok tt)))) r (passed_in r w) (step_run r w)).answer ≡ true → b ≡ true
       go true b c e = no_way (cc)
       go false true c e = refl
       go false false c e = no_way (cc)
@@ -251,7 +250,7 @@ many (c ∷ cs) r P =
 -- ---- the limits
 
 -- for every accepted beginning of a run and of a pace, for the same p, and every list of paced calls, refused ones included
-pub moves_limit : (s : List ℕ) (p K b : ℕ) (r : Run) → begin s p K ≡ record { answer = started; run = r } → (begin_pace p b).answer ≡ started → (calls : List Call)
+pub moves_limit : (s : List ℕ) (p K b : ℕ) (r : Run) → begin s p K ≡ record { answer = Ok tt; run = r } → (begin_pace p b).answer ≡ Ok tt → (calls : List Call)
     → let z : Beside = paced_moves calls r (begin_pace p b).pace in PacedWithin (table_of (filled_out s K)) p K b (moves_row calls r (begin_pace p b).pace) z.run z.pace.numbers
 unfolding start_run
 moves_limit s p K b r e f calls =

@@ -1,4 +1,5 @@
 -- Paced rounds by value from the pace's beginning on, in calls one after the other and no other turns, are never refused with 60, as from C (RoundsPass).
+use Rattle.std.specs.Prelude.{Ok}
 use mathlib.Core.Path.{◌≡◌, sym, subst}
 use Prim.Native.Nat.{ℕ, zero, suc, ◌-◌, ◌^◌}
 use native.Mathlib.Omega.{arith}
@@ -10,7 +11,6 @@ use Rattle.table.specs.Sum.{pick}
 use Rattle.table.specs.Pass.{refusal}
 use Rattle.table.proofs.Tests.{no_way}
 use Rattle.schedule.specs.declared.Run.{Run}
-use Rattle.schedule.specs.declared.Beginning.TheVariants.{Begun as started}
 use Rattle.schedule.specs.declared.Report.{Report}
 use Rattle.schedule.specs.declared.Report.TheVariants.{Finished, Spent, Refused}
 use Rattle.schedule.specs.Turn.{unsound, root_ended, no_worker}
@@ -77,7 +77,7 @@ module _ {p b : ℕ} where
       calls_pass limits limit v.count d.run d.pace v.rounded
 
 -- from a pace that is begun, on any record: no call of rounds after calls of rounds is refused with 60
-pub moves_rounds_pass : (p b : ℕ) → (begin_pace p b).answer ≡ started → (r : Run) (limits : List ℕ) (limit : ℕ)
+pub moves_rounds_pass : (p b : ℕ) → (begin_pace p b).answer ≡ Ok tt → (r : Run) (limits : List ℕ) (limit : ℕ)
     → let z : Beside = paced_moves (map in_rounds limits) r (begin_pace p b).pace in (report_values (paced_rounds_run z.run z.pace limit).report).number ≡ 60 → ⊥
 moves_rounds_pass p b e r limits limit =
     let k = begun_started p b e in

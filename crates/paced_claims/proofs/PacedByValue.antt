@@ -1,6 +1,7 @@
 -- The limits for paced calls by value. A history is a beginning of a run, one of a pace, and paced turns, lists and rounds, each on the record and the pace that the last one left, of which nothing is
 -- known but what the functions' own `ensures` say. `moves_history_is`: record, pace and row are those of the definitions. `moves_exist`: every list of calls has one. `moves_code_limit`: so the limits
 -- with b hold of them, with no hypothesis on the row.
+use Rattle.std.specs.Prelude.{Ok}
 use mathlib.Core.Path.{◌≡◌, refl, sym, ap, ap₂, subst, ◌∙◌}
 use Prim.Native.Nat.{ℕ}
 use mathlib.Core.List.{List, [], ◌∷◌, ◌++◌}
@@ -13,7 +14,6 @@ use Rattle.table.specs.Format.{table_of}
 use Rattle.filling.specs.Filled.{filled_out}
 use Rattle.schedule.specs.declared.Run.{Run}
 use Rattle.schedule.specs.declared.Begun.{Begun}
-use Rattle.schedule.specs.declared.Beginning.TheVariants.{Begun as started}
 use Rattle.schedule.specs.Begin.{begin}
 use Rattle.schedule.specs.Calls.{Call, turn, over_list, in_rounds, turns_in, turn_row}
 use Rattle.claims.proofs.ByValue.{BeginSays, begin_is, begin_says}
@@ -118,12 +118,12 @@ moves_exist s p K b calls = (begin_says s p K, (pace_says p b, moves_history_exi
 -- ---- the limits
 
 -- `asyncdf::begin` and `pacing::begin_pace` began a run and a pace, for the same p, and any paced calls followed, refused ones included
-pub moves_code_limit : {s : List ℕ} {p K b : ℕ} {x : Begun} {q : PaceBegun} → BeginSays s p K x → x.answer ≡ started → PaceSays p b q → q.answer ≡ started
+pub moves_code_limit : {s : List ℕ} {p K b : ℕ} {x : Begun} {q : PaceBegun} → BeginSays s p K x → x.answer ≡ Ok tt → PaceSays p b q → q.answer ≡ Ok tt
     → {calls : List Call} {row : List ℕ} {y : Beside} → MovesHistory x.run q.pace calls row y → PacedWithin (table_of (filled_out s K)) p K b row y.run y.pace.numbers
 moves_code_limit {s} {p} {K} {b} {x} {q} h e g f {calls} {row} {y} t =
     let T = table_of (filled_out s K) in
     let k : q ≡ begin_pace p b = g.promised.0 in
-    let begun : begin s p K ≡ record { answer = started; run = x.run } = sym (begin_is h) ∙ (λ i. record { answer = e i; run = x.run }) in
+    let begun : begin s p K ≡ record { answer = Ok tt; run = x.run } = sym (begin_is h) ∙ (λ i. record { answer = e i; run = x.run }) in
     let c = moves_limit s p K b x.run begun (ap (λ (z : PaceBegun). z.answer) (sym k) ∙ f) calls in
     let d = moves_history_is t in
     let m : y ≡ paced_moves calls x.run (begin_pace p b).pace = d.0 ∙ ap (λ (z : PaceBegun). paced_moves calls x.run z.pace) k in

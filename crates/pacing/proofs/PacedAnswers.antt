@@ -1,4 +1,6 @@
 -- Every paced call's answer has the number and the values that follow from its checks, its turns and their replies.
+use Rattle.std.specs.Prelude.{Err, Ok, Result, ⊤}
+use Rattle.table.specs.declared.Refusal.{Refusal}
 use mathlib.Core.Path.{◌≡◌, refl, sym, ap, ◌∙◌, fun_ext}
 use Prim.Native.Nat.{ℕ, zero, suc, ◌+◌, ◌-◌, ◌^◌}
 use native.Mathlib.Nat.{zero-add, suc-add, add-zero, add-suc}
@@ -9,8 +11,6 @@ use lib.Dec.{ltb, leb, eqb, eqb-zero-suc, eqb-suc-suc}
 use Rattle.table.specs.Sum.{pick}
 use Rattle.table.specs.Pass.{Check, refusal, or_else, try_at}
 use Rattle.table.specs.Load.{if_found}
-use Rattle.table.specs.declared.Found.{Found}
-use Rattle.table.specs.declared.Found.TheVariants.{Nothing, At}
 use Rattle.schedule.specs.declared.Run.{Run}
 use Rattle.schedule.specs.declared.Report.TheVariants.{Finished, Spent, Refused}
 use Rattle.schedule.specs.Turn.{unsound, root_ended, no_worker, turn_checks, step_run, passed_in, turned}
@@ -44,25 +44,25 @@ try_more [] k i = refl
 try_more (d ∷ l) k i = go (d.applies i) (try_more l k i)
   where
     go : (q : Bool) → try_at (l ++ k) i ≡ or_else (try_at l i) (try_at k i)
-        → pick q (At (refusal d.number i)) (try_at (l ++ k) i) ≡ or_else (pick q (At (refusal d.number i)) (try_at l i)) (try_at k i)
+        → pick q (Err (refusal d.number i)) (try_at (l ++ k) i) ≡ or_else (pick q (Err (refusal d.number i)) (try_at l i)) (try_at k i)
     go true e = refl
     go false e = e
 
 -- what the pace says of a turn
-abbrev lets_found : Pace → ℕ → Found
-lets_found P w = pick (eqb (may_number P.numbers w) 0) Nothing (At (refusal (may_number P.numbers w) 0))
+abbrev lets_found : Pace → ℕ → Result ⊤ Refusal
+lets_found P w = pick (eqb (may_number P.numbers w) 0) (Ok tt) (Err (refusal (may_number P.numbers w) 0))
 
 lets_found_lem : (P : Pace) (w : ℕ) → try_at (lets_checks P w) 0 ≡ lets_found P w
 unfolding try_at may_number
 lets_found_lem P w = go (ltb w (workers_in P.numbers)) (may P.numbers w)
   where
-    go : (b c : Bool) → pick (not b) (At (refusal 30 0)) (pick (not c) (At (refusal 60 0)) Nothing) ≡ pick (eqb (pick b (pick c 0 60) 30) 0) Nothing (At (refusal (pick b (pick c 0 60) 30) 0))
+    go : (b c : Bool) → pick (not b) (Err (refusal 30 0)) (pick (not c) (Err (refusal 60 0)) (Ok tt)) ≡ pick (eqb (pick b (pick c 0 60) 30) 0) (Ok tt) (Err (refusal (pick b (pick c 0 60) 30) 0))
     go true true = refl
     go true false = refl
     go false c = refl
 
 -- the values of a turn of which `found` stands in the way
-abbrev said_of : Run → ℕ → Found → Values
+abbrev said_of : Run → ℕ → Result ⊤ Refusal → Values
 said_of r w found =
     let reply : Values = reply_values (step_run r w).reply in
     passing (if_found found 0 (passed_in r w)) (said_values found reply.said reply.thread reply.value (if_found found 0 1))
@@ -79,16 +79,16 @@ module _ (r : Run) (P : Pace) (w : ℕ) where
   unfolding paced_turned turned paced_turn_values
   paced_turn_values_lem = go (try_at (turn_checks r w) 0) refl (eqb (may_number P.numbers w) 0) refl
     where
-      go : (x : Found) → try_at (turn_checks r w) 0 ≡ x → (m : Bool) → eqb (may_number P.numbers w) 0 ≡ m → turning_values (paced_turned r P w).answer ≡ paced_turn_values r P w
-      go (At y) e m f = rw (found_more, e) refl
-      go Nothing e true f = rw (found_more, e, f) (rw e at said_so)
-      go Nothing e false f = rw (found_more, e, f) refl
+      go : (x : Result ⊤ Refusal) → try_at (turn_checks r w) 0 ≡ x → (m : Bool) → eqb (may_number P.numbers w) 0 ≡ m → turning_values (paced_turned r P w).answer ≡ paced_turn_values r P w
+      go (Err y) e m f = rw (found_more, e) refl
+      go (Ok _) e true f = rw (found_more, e, f) (rw e at said_so)
+      go (Ok _) e false f = rw (found_more, e, f) refl
 
 -- ---- runs
 
 -- the values of a run that stops after n of k turns, i turns having gone before: what those left, and the worker of the next
 abbrev stopped : ℕ → ℕ → ℕ → Beside → ℕ → Values
-stopped i n k g w = said_values (pick (eqb n k || root_ended g.run) Nothing (try_at (paced_checks g w) 0)) (pick (root_ended g.run) finished spent) 0 0 (i + n)
+stopped i n k g w = said_values (pick (eqb n k || root_ended g.run) (Ok tt) (try_at (paced_checks g w) 0)) (pick (root_ended g.run) finished spent) 0 0 (i + n)
 
 stopped_next : (i n k : ℕ) (g : Beside) (w : ℕ) → stopped i (suc n) (suc k) g w ≡ stopped (suc i) n k g w
 stopped_next i n k g w = rw (eqb-suc-suc, add-suc, suc-add)
@@ -114,7 +114,7 @@ module _ (f : ℕ → List ℕ → ℕ) (k : ℕ) (g : Beside) where
   taken_none e = rw e
 
   stop_now : (i : ℕ) → paced_stops g (whose f 0 g) ≡ true
-      → from i f (suc k) g ≡ said_values (pick (root_ended g.run) Nothing (try_at (paced_checks g (whose f 0 g)) 0)) (pick (root_ended g.run) finished spent) 0 0 i
+      → from i f (suc k) g ≡ said_values (pick (root_ended g.run) (Ok tt) (try_at (paced_checks g (whose f 0 g)) 0)) (pick (root_ended g.run) finished spent) 0 0 i
   unfolding after_paced
   stop_now i e = ap (λ (n : ℕ). stopped i n (suc k) (after_paced f n g) (whose f n (after_paced f n g))) (taken_none e) ∙ rw (eqb-zero-suc, add-zero)
 
@@ -135,25 +135,25 @@ module _ (f : ℕ → List ℕ → ℕ) (k : ℕ) (g : Beside) where
       ∙ stopped_next i m k _ _
 
 -- whether it stops, by its four tests
-own_found : (r : Run) (w : ℕ) (x : Found) → or_else (try_at (run_checks r w) 0) x ≡ pick (eqb r.turns (2 ^ 64 - 1)) (At (refusal 32 0)) (pick (no_worker r w) (At (refusal 30 0)) x)
+own_found : (r : Run) (w : ℕ) (x : Result ⊤ Refusal) → or_else (try_at (run_checks r w) 0) x ≡ pick (eqb r.turns (2 ^ 64 - 1)) (Err (refusal 32 0)) (pick (no_worker r w) (Err (refusal 30 0)) x)
 unfolding run_checks try_at
 own_found r w x = go (eqb r.turns (2 ^ 64 - 1)) (no_worker r w)
   where
-    go : (c d : Bool) → or_else (pick c (At (refusal 32 0)) (pick d (At (refusal 30 0)) Nothing)) x ≡ pick c (At (refusal 32 0)) (pick d (At (refusal 30 0)) x)
+    go : (c d : Bool) → or_else (pick c (Err (refusal 32 0)) (pick d (Err (refusal 30 0)) (Ok tt))) x ≡ pick c (Err (refusal 32 0)) (pick d (Err (refusal 30 0)) x)
     go true d = refl
     go false true = refl
     go false false = refl
 
-found_by : (g : Beside) (w : ℕ) → try_at (paced_checks g w) 0 ≡ pick (eqb g.run.turns (2 ^ 64 - 1)) (At (refusal 32 0)) (pick (no_worker g.run w) (At (refusal 30 0)) (lets_found g.pace w))
+found_by : (g : Beside) (w : ℕ) → try_at (paced_checks g w) 0 ≡ pick (eqb g.run.turns (2 ^ 64 - 1)) (Err (refusal 32 0)) (pick (no_worker g.run w) (Err (refusal 30 0)) (lets_found g.pace w))
 unfolding paced_checks
 found_by g w = try_more (run_checks g.run w) (lets_checks g.pace w) 0 ∙ ap (or_else (try_at (run_checks g.run w) 0)) (lets_found_lem g.pace w) ∙ own_found g.run w (lets_found g.pace w)
 
 stops_by : (g : Beside) (w : ℕ) → paced_stops g w ≡ (root_ended g.run || (eqb g.run.turns (2 ^ 64 - 1) || (no_worker g.run w || not (eqb (may_number g.pace.numbers w) 0))))
 unfolding paced_stops
 stops_by g w =
-    ap (λ (b : Bool). root_ended g.run || b) (ap (λ (x : Found). if_found x true false) (found_by g w) ∙ go (eqb g.run.turns (2 ^ 64 - 1)) (no_worker g.run w) (eqb (may_number g.pace.numbers w) 0))
+    ap (λ (b : Bool). root_ended g.run || b) (ap (λ (x : Result ⊤ Refusal). if_found x true false) (found_by g w) ∙ go (eqb g.run.turns (2 ^ 64 - 1)) (no_worker g.run w) (eqb (may_number g.pace.numbers w) 0))
   where
-    go : (c d m : Bool) → if_found (pick c (At (refusal 32 0)) (pick d (At (refusal 30 0)) (pick m Nothing (At (refusal (may_number g.pace.numbers w) 0))))) true false ≡ (c || (d || not m))
+    go : (c d m : Bool) → if_found (pick c (Err (refusal 32 0)) (pick d (Err (refusal 30 0)) (pick m (Ok tt) (Err (refusal (may_number g.pace.numbers w) 0))))) true false ≡ (c || (d || not m))
     go true d m = refl
     go false true m = refl
     go false false true = refl
@@ -185,7 +185,7 @@ drive_values : (who f : ℕ → List ℕ → ℕ) (k i : ℕ) (r : Run) (P : Pac
 unfolding paced_drive paced_taken first_that after_paced
 drive_values who f zero i r P h = rw add-zero (go (root_ended r))
   where
-    go : (b : Bool) → report_values (pick b (Finished i) (Spent i)) ≡ said_values Nothing (pick b finished spent) 0 0 i
+    go : (b : Bool) → report_values (pick b (Finished i) (Spent i)) ≡ said_values (Ok tt) (pick b finished spent) 0 0 i
     go true = refl
     go false = refl
 drive_values who f (suc k) i r P h =
@@ -194,7 +194,7 @@ drive_values who f (suc k) i r P h =
     (drive_values who (λ n. f (suc n)) k (suc i) (moved r w) (counted P w) (λ n. ap who (suc-add i n ∙ sym (add-suc i n)) ∙ h (suc n)))
 
 -- what the checks before the first turn find
-before_found : (r : Run) (b : Bool) → try_at (record { number = 32; applies = λ i. unsound r } ∷ record { number = 30; applies = λ i. b } ∷ []) 0 ≡ pick (unsound r) (At (refusal 32 0)) (pick b (At (refusal 30 0)) Nothing)
+before_found : (r : Run) (b : Bool) → try_at (record { number = 32; applies = λ i. unsound r } ∷ record { number = 30; applies = λ i. b } ∷ []) 0 ≡ pick (unsound r) (Err (refusal 32 0)) (pick b (Err (refusal 30 0)) (Ok tt))
 unfolding try_at
 before_found r b = refl
 

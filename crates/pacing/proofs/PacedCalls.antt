@@ -1,4 +1,5 @@
 -- A beginning of a pace and a paced turn, by the answers of the calls below them.
+use Rattle.std.specs.Prelude.{Err, Ok}
 use mathlib.Core.Path.{◌≡◌, refl, ap, ◌∙◌}
 use Prim.Native.Nat.{ℕ, ◌≤◌, ◌<◌}
 use native.Mathlib.Omega.{arith}
@@ -11,8 +12,6 @@ use Rattle.table.specs.Sum.{pick}
 use Rattle.table.specs.Pass.{refusal}
 use Rattle.table.proofs.Tests.{no_way}
 use Rattle.schedule.specs.declared.Run.{Run}
-use Rattle.schedule.specs.declared.Beginning.TheVariants.{Begun}
-use Rattle.schedule.specs.declared.Beginning.TheVariants.{Refused as refused_begin}
 use Rattle.schedule.specs.declared.Turned.{Turned}
 use Rattle.schedule.specs.declared.Turning.{Turning}
 use Rattle.schedule.specs.declared.Turning.TheVariants.{Refused}
@@ -26,7 +25,7 @@ use Rattle.pacing.specs.Pacing.{pace, pace_begun, begin_pace, is_taken, paced_tu
 -- ---- a beginning
 
 abbrev pace_begun_as : Paced → PaceBegun
-pace_begun_as k = pick (eqb k.number 0) (pace_begun Begun (pace k.pace)) (pace_begun (refused_begin (refusal k.number 0)) (pace k.pace))
+pace_begun_as k = pick (eqb k.number 0) (pace_begun (Ok tt) (pace k.pace)) (pace_begun (Err (refusal k.number 0)) (pace k.pace))
 
 module _ (p b : ℕ) where
   abbrev started : Paced
@@ -54,21 +53,21 @@ module _ (p b : ℕ) where
     pub start_small : number < 256
     start_small = omega (arith, ap (λ (k : Paced). k.number) e, small_so)
 
-    pub start_refused : (number ≡ 0 → ⊥) → pace_begun (refused_begin (refusal number 0)) (pace l) ≡ begin_pace p b
+    pub start_refused : (number ≡ 0 → ⊥) → pace_begun (Err (refusal number 0)) (pace l) ≡ begin_pace p b
     start_refused d = (rw (ne_eqb number 0 d) refl) ∙ ap pace_begun_as e ∙ begun_so
 
-    pub start_begun : number ≡ 0 → pace_begun Begun (pace l) ≡ begin_pace p b
+    pub start_begun : number ≡ 0 → pace_begun (Ok tt) (pace l) ≡ begin_pace p b
     start_begun d = (rw (eq-eqb number 0 d) refl) ∙ ap pace_begun_as e ∙ begun_so
 
 -- a pace that is begun is one begun in memory
-pub begun_started : (p b : ℕ) → (begin_pace p b).answer ≡ Begun → ((start_pace p b (replicate 260 0)).number ≡ 0) × ((begin_pace p b).pace.numbers ≡ (start_pace p b (replicate 260 0)).pace)
+pub begun_started : (p b : ℕ) → (begin_pace p b).answer ≡ Ok tt → ((start_pace p b (replicate 260 0)).number ≡ 0) × ((begin_pace p b).pace.numbers ≡ (start_pace p b (replicate 260 0)).pace)
 unfolding start_pace begin_pace
 begun_started p b = go (ltb 0 p && leb p 16) (ltb 0 b && leb b 65535)
   where
     go : (x y : Bool)
-        → (pick x (pick y (pace_begun Begun (pace (blank p b))) (pace_begun (refused_begin (refusal 41 0)) (pace (replicate 260 0)))) (pace_begun (refused_begin (refusal 20 0)) (pace (replicate 260 0)))).answer ≡ Begun
+        → (pick x (pick y (pace_begun (Ok tt) (pace (blank p b))) (pace_begun (Err (refusal 41 0)) (pace (replicate 260 0)))) (pace_begun (Err (refusal 20 0)) (pace (replicate 260 0)))).answer ≡ Ok tt
         → ((pick x (pick y (paced 0 (blank p b)) (paced 41 (replicate 260 0))) (paced 20 (replicate 260 0))).number ≡ 0)
-        × ((pick x (pick y (pace_begun Begun (pace (blank p b))) (pace_begun (refused_begin (refusal 41 0)) (pace (replicate 260 0)))) (pace_begun (refused_begin (refusal 20 0)) (pace (replicate 260 0)))).pace.numbers
+        × ((pick x (pick y (pace_begun (Ok tt) (pace (blank p b))) (pace_begun (Err (refusal 41 0)) (pace (replicate 260 0)))) (pace_begun (Err (refusal 20 0)) (pace (replicate 260 0)))).pace.numbers
         ≡ (pick x (pick y (paced 0 (blank p b)) (paced 41 (replicate 260 0))) (paced 20 (replicate 260 0))).pace)
     go true true e = (refl, refl)
     go true false e = no_way (cc)

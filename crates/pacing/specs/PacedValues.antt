@@ -1,10 +1,9 @@
 -- The number and the values of each paced call from its checks, its turns and their replies, with no answer between. The answers' values are these: proofs/PacedAnswers.
-use Rattle.std.specs.Prelude.{ℕ, zero, suc, List, [], ◌∷◌, ◌++◌, Bool, true, false, not, ◌&&◌, ◌||◌, length, get_or, ltb, leb, eqb}
+use Rattle.std.specs.Prelude.{ℕ, zero, suc, List, [], ◌∷◌, ◌++◌, Bool, true, false, not, ◌&&◌, ◌||◌, length, get_or, ltb, leb, eqb, Ok, Result, ⊤}
+use Rattle.table.specs.declared.Refusal.{Refusal}
 use Rattle.table.specs.Sum.{pick}
 use Rattle.table.specs.Pass.{Check, or_else, try_at}
 use Rattle.table.specs.Load.{if_found}
-use Rattle.table.specs.declared.Found.{Found}
-use Rattle.table.specs.declared.Found.TheVariants.{Nothing}
 use Rattle.schedule.specs.declared.Run.{Run}
 use Rattle.schedule.specs.Turn.{unsound, root_ended, turn_checks, step_run, passed_in}
 use Rattle.schedule.specs.Runs.{moved}
@@ -28,7 +27,7 @@ lets_checks P w = record { number = 30; applies = λ i. not (ltb w (workers_in P
 -- 32, 30, 31, then the pace's 30 and 60, or what the machine's reply says
 unfoldable pub paced_turn_values : Run → Pace → ℕ → Values
 paced_turn_values r P w =
-    let found : Found = try_at (turn_checks r w ++ lets_checks P w) 0 in
+    let found : Result ⊤ Refusal = try_at (turn_checks r w ++ lets_checks P w) 0 in
     let reply : Values = reply_values (step_run r w).reply in
     passing (if_found found 0 (passed_in r w)) (said_values found reply.said reply.thread reply.value (if_found found 0 1))
 
@@ -68,8 +67,8 @@ unfoldable pub paced_run_values : (ℕ → List ℕ → ℕ) → Bool → ℕ �
 paced_run_values who rounds k g =
     let n : ℕ = paced_taken who k g in
     let left : Beside = after_paced who n g in
-    let before : Found = try_at (record { number = 32; applies = λ i. unsound g.run } ∷ record { number = 30; applies = λ i. rounds && eqb g.run.workers 0 } ∷ []) 0 in
-    let after : Found = pick (eqb n k || root_ended left.run) Nothing (try_at (paced_checks left (who n left.pace.numbers)) 0) in
+    let before : Result ⊤ Refusal = try_at (record { number = 32; applies = λ i. unsound g.run } ∷ record { number = 30; applies = λ i. rounds && eqb g.run.workers 0 } ∷ []) 0 in
+    let after : Result ⊤ Refusal = pick (eqb n k || root_ended left.run) (Ok tt) (try_at (paced_checks left (who n left.pace.numbers)) 0) in
     said_values (or_else before after) (pick (root_ended left.run) finished spent) 0 0 (if_found before 0 n)
 
 unfoldable pub paced_list_values : Run → Pace → List ℕ → Values

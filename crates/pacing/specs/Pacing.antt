@@ -1,11 +1,9 @@
 -- A pace beside a run, by value: the turn and the runs of a record (crates/schedule), where a turn that would break the rule with b is refused, and one that is taken is counted (crates/pace).
-use Rattle.std.specs.Prelude.{ℕ, zero, suc, ◌-◌, ◌^◌, List, Bool, true, false, ◌&&◌, length, get_or, replicate, ltb, leb, eqb}
+use Rattle.std.specs.Prelude.{ℕ, zero, suc, ◌-◌, ◌^◌, List, Bool, true, false, ◌&&◌, length, get_or, replicate, ltb, leb, eqb, Err, Ok, Result, ⊤}
+use Rattle.table.specs.declared.Refusal.{Refusal}
 use Rattle.table.specs.Sum.{pick}
 use Rattle.table.specs.Pass.{refusal}
 use Rattle.schedule.specs.declared.Run.{Run}
-use Rattle.schedule.specs.declared.Beginning.{Beginning}
-use Rattle.schedule.specs.declared.Beginning.TheVariants.{Begun}
-use Rattle.schedule.specs.declared.Beginning.TheVariants.{Refused as refused_begin}
 use Rattle.schedule.specs.declared.Turned.{Turned}
 use Rattle.schedule.specs.declared.Turning.{Turning}
 use Rattle.schedule.specs.declared.Turning.TheVariants.{Taken}
@@ -29,14 +27,14 @@ counted P w = pace (took P.numbers w)
 
 -- ---- a beginning
 
-abbrev pub pace_begun : Beginning → Pace → PaceBegun
+abbrev pub pace_begun : Result ⊤ Refusal → Pace → PaceBegun
 pace_begun x P = record { answer = x; pace = P }
 
 -- 20 where p is not 1 to 16, 41 where b is not 1 to 65,535: then every number is 0
 unfoldable pub begin_pace : ℕ → ℕ → PaceBegun
 begin_pace p b =
     let none : Pace = pace (replicate size 0) in
-    pick (ltb 0 p && leb p 16) (pick (ltb 0 b && leb b 65535) (pace_begun Begun (pace (blank p b))) (pace_begun (refused_begin (refusal 41 0)) none)) (pace_begun (refused_begin (refusal 20 0)) none)
+    pick (ltb 0 p && leb p 16) (pick (ltb 0 b && leb b 65535) (pace_begun (Ok tt) (pace (blank p b))) (pace_begun (Err (refusal 41 0)) none)) (pace_begun (Err (refusal 20 0)) none)
 
 -- ---- a turn
 

@@ -14,7 +14,7 @@ ghost use Rattle.pacing.specs.PacedValues.{pace_values, paced_turn_values, paced
 use asyncdf::{report_of, turn};
 use pace::{hinders, start, took};
 use run_memory::packing::{pack, unpack};
-use schedule::{Beginning, Report, Run, Turning};
+use schedule::{Report, Run, Turning};
 use soundness::test;
 use table::Refusal;
 use wivakkol_pace::runs::run_in;
@@ -28,7 +28,7 @@ pub struct Pace {
 // A pace begun; where that is refused, every number is 0.
 #[derive(Drop)]
 pub struct PaceBegun {
-    pub answer: Beginning,
+    pub answer: Result<(), Refusal>,
     pub pace: Pace,
 }
 
@@ -56,12 +56,12 @@ pub fn begin_pace(p: u8, b: u32) -> PaceBegun
     if number != 0 {
         let number = number as u8;
         return PaceBegun {
-            answer: Beginning::Refused(Refusal { number, place: 0 }),
+            answer: Err(Refusal { number, place: 0 }),
             pace: Pace { numbers },
         };
     }
     PaceBegun {
-        answer: Beginning::Begun,
+        answer: Ok(()),
         pace: Pace { numbers },
     }
 }

@@ -1,4 +1,5 @@
 -- The head of what is written: checks 1 to 3.
+use Rattle.std.specs.Prelude.{Ok}
 use Prim.Native.Nat.{◌+◌, ◌*◌, ◌≤◌, ◌<◌}
 use native.Mathlib.Omega.{arith}
 use mathlib.Core.Path.{◌≡◌}
@@ -8,7 +9,6 @@ use borrow.Author.Tests.{le-ltb, eq-eqb}
 use Rattle.table.specs.Format.{threads_of, actions_of, table_of}
 use Rattle.table.specs.Rules.{HeadRules}
 use Rattle.table.specs.Load.{loaded, facts_of}
-use Rattle.table.specs.declared.Loaded.TheVariants.{Accepted}
 use Rattle.table.proofs.Passes.{accepted_exactly}
 use Rattle.table.specs.Written.{Action, written}
 use Rattle.parts.specs.Kept.{Keeps}
@@ -27,7 +27,7 @@ module _ (bs : List (List Action)) (some : 0 < length bs) (few : length bs ≤ 1
       }
 
   -- what is written within the limits is accepted where it keeps the other rules
-  pub written_loaded : Keeps (table_of (written bs)) → loaded (written bs) ≡ Accepted (facts_of (table_of (written bs)))
+  pub written_loaded : Keeps (table_of (written bs)) → loaded (written bs) ≡ Ok (facts_of (table_of (written bs)))
   written_loaded k =
       (accepted_exactly (written bs)).1
       (record { head = written_head; contents = k.contents; bodies = k.bodies; nesting = k.nesting; forking = k.forking; balances = k.balances })

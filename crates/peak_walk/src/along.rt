@@ -43,13 +43,11 @@ pub fn stretch(table: &[u8], quota: u32) -> u64
     let m = read::actions(table);
     let mut best = 0;
     let mut before = 0;
-    let mut a = 0;
-    while a < m {
+    for a in 0..m {
         let k = read::code(table, n, a);
         let x = drawn_of(quota, alloc_of(k, read::argument(table, n, a)));
         best = larger(best, before + x);
         before = since(ends_stretch(k), before, x);
-        a += 1;
     }
     best
 }
@@ -63,15 +61,13 @@ pub fn rise(table: &[u8]) -> u64
     let mut best = 0;
     let mut up = 0;
     let mut down = 0;
-    let mut a = 0;
-    while a < m {
+    for a in 0..m {
         best = larger(best, less(up, down));
         let k = read::code(table, n, a);
         let x = read::argument(table, n, a);
         let rests = may_after(table, n, true, a);
         up = since(rests, up, alloc_of(k, x));
         down = since(rests, down, free_of(k, x));
-        a += 1;
     }
     best
 }

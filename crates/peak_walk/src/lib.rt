@@ -14,14 +14,7 @@ use checks::check_in;
 use fill::peak_of;
 use parallel::best_of;
 use table::read::threads;
-use table::{Found, Refusal};
-
-// The peak, or the check that applies.
-#[derive(Drop)]
-pub enum Peaked {
-    Given(u64),
-    Refused(Refusal),
-}
+use table::Refusal;
 
 // Over all places, or over resting places alone. The working memory may hold anything and is left cleared.
 pub fn peak_in(
@@ -32,7 +25,7 @@ pub fn peak_in(
     falls: &mut [u64; 1024],
     peaks: &mut [u64; 17408],
     rows: &mut [u64; 17408],
-) -> Peaked
+) -> Result<u64, Refusal>
     ensures value { result ≡ peaked table.now load resting }
     ensures rises_after { (rises.new ≡ replicate 1024 0) × (falls.new ≡ replicate 1024 0) × (peaks.new ≡ replicate 17408 0) × (rows.new ≡ replicate 17408 0) }
 {
@@ -53,15 +46,15 @@ fn answer(
     falls: &mut [u64; 1024],
     peaks: &mut [u64; 17408],
     rows: &mut [u64; 17408],
-) -> Peaked
+) -> Result<u64, Refusal>
     ensures { result ≡ peaked table.now load resting }
 {
     let found = check_in(table, rises, falls);
-    if let Found::At(r) = found {
-        return Peaked::Refused(r);
+    if let Err(r) = found {
+        return Err(r);
     }
     if 16 < load {
-        return Peaked::Refused(Refusal {
+        return Err(Refusal {
             number: 20,
             place: 0,
         });
@@ -70,7 +63,7 @@ fn answer(
     *peaks = [0; 17408];
     *rows = [0; 17408];
     let n = threads(table);
-    Peaked::Given(peak_of(
+    Ok(peak_of(
         table,
         n,
         load as usize,
@@ -82,16 +75,16 @@ fn answer(
 }
 
 // The parallel peak: every open child at its best. The working memory may hold anything and is left cleared.
-pub fn parallel_in(table: &[u8], rises: &mut [u64; 1024], falls: &mut [u64; 1024]) -> Peaked
+pub fn parallel_in(table: &[u8], rises: &mut [u64; 1024], falls: &mut [u64; 1024]) -> Result<u64, Refusal>
     ensures value { result ≡ paralleled table.now }
     ensures rises_after { (rises.new ≡ replicate 1024 0) × (falls.new ≡ replicate 1024 0) }
 {
     let found = check_in(table, rises, falls);
-    if let Found::At(r) = found {
-        return Peaked::Refused(r);
+    if let Err(r) = found {
+        return Err(r);
     }
     let peak = best_of(table, threads(table), &mut rises[..], &mut falls[..]);
     *rises = [0; 1024];
     *falls = [0; 1024];
-    Peaked::Given(peak)
+    Ok(peak)
 }

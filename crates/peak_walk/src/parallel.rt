@@ -61,13 +61,11 @@ fn pass_body(table: &[u8], n: usize, t: usize, bests: &[u64], finals: &[u64]) ->
         children: 0,
         most: 0,
     };
-    let mut i = 0;
-    while i < count {
+    for i in 0..count {
         let a = first + i;
         let k = read::code(table, n, a);
         let x = read::argument(table, n, a);
         w = pass_on(bests, finals, k, x, w);
-        i += 1;
     }
     w
 }

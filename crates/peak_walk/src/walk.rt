@@ -150,14 +150,12 @@ pub(crate) fn walk_body(
         best: 0,
         depth: 0,
     };
-    let mut i = 0;
-    while i < count {
+    for i in 0..count {
         let a = first + i;
         let may = may_after(table, n, resting, a);
         let k = read::code(table, n, a);
         let x = read::argument(table, n, a);
         w = step(peaks, finals, rows, r, may, k, x, w);
-        i += 1;
     }
     w
 }

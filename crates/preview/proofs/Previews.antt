@@ -1,4 +1,5 @@
 -- What a preview shows is what the turn then gives, number by number; its values are those of the checks and of the machine's step.
+use Rattle.std.specs.Prelude.{Err, Ok, Result, ⊤}
 use mathlib.Core.Path.{◌≡◌, refl, sym, ap, ◌∙◌}
 use Prim.Native.Nat.{ℕ, ◌^◌, ◌≤◌, ◌<◌}
 use native.Mathlib.Omega.{arith}
@@ -11,8 +12,6 @@ use Rattle.table.specs.Sum.{pick}
 use Rattle.table.specs.Pass.{refusal, try_at}
 use Rattle.table.specs.Load.{if_found}
 use Rattle.table.specs.declared.Refusal.{Refusal}
-use Rattle.table.specs.declared.Found.{Found}
-use Rattle.table.specs.declared.Found.TheVariants.{Nothing, At}
 use Rattle.table.proofs.Tests.{no_way}
 use Rattle.schedule.specs.declared.Run.{Run}
 use Rattle.schedule.specs.declared.Reply.{Reply}
@@ -66,9 +65,9 @@ pub preview_refused : (r : Run) (w : ℕ) {x : Refusal} → preview_of r w ≡ R
 unfolding preview_of turned
 preview_refused r w {x} e = go (try_at (turn_checks r w) 0) refl
   where
-    go : (f : Found) → try_at (turn_checks r w) 0 ≡ f → ((turned_as f r (passed_in r w) (step_run r w)).answer ≡ refused_turn x) × ((turned_as f r (passed_in r w) (step_run r w)).run ≡ r)
-    go Nothing i = let d : Would _ _ _ _ _ ≡ Refused x = rw i at e in no_way cc
-    go (At y) i = let d : Refused y ≡ Refused x = rw i at e in (let u : y ≡ x = cc in rw u, refl)
+    go : (f : Result ⊤ Refusal) → try_at (turn_checks r w) 0 ≡ f → ((turned_as f r (passed_in r w) (step_run r w)).answer ≡ refused_turn x) × ((turned_as f r (passed_in r w) (step_run r w)).run ≡ r)
+    go (Ok _) i = let d : Would _ _ _ _ _ ≡ Refused x = rw i at e in no_way cc
+    go (Err y) i = let d : Refused y ≡ Refused x = rw i at e in (let u : y ≡ x = cc in rw u, refl)
 
 -- ---- the values
 
@@ -76,7 +75,7 @@ pub preview_values_lem : (r : Run) (w : ℕ) → shown_values (preview_of r w) �
 unfolding preview_of preview_values turned
 preview_values_lem r w = go (try_at (turn_checks r w) 0) refl
   where
-    go : (f : Found) → try_at (turn_checks r w) 0 ≡ f
+    go : (f : Result ⊤ Refusal) → try_at (turn_checks r w) 0 ≡ f
         → shown_values (preview_as (turned_as f r (passed_in r w) (step_run r w)).answer (turned_as f r (passed_in r w) (step_run r w)).run w)
         ≡ record {
           said = turn_values r w;
@@ -84,7 +83,7 @@ preview_values_lem r w = go (try_at (turn_checks r w) 0) refl
           highest = if_found f 0 (step_run r w).state.highest;
           quota = if_found f 0 (worker_of (step_run r w).state w).quota;
         }
-    go Nothing i =
+    go (Ok _) i =
         let t : turning_values (Taken (step_run r w).reply (passed_in r w)) ≡ turn_values r w = rw i at (turn_values_lem r w) in
         ap
         (λ (v : Values).
@@ -95,7 +94,7 @@ preview_values_lem r w = go (try_at (turn_checks r w) 0) refl
           quota = (worker_of (step_run r w).state w).quota;
         })
         t
-    go (At y) i =
+    go (Err y) i =
         let t : turning_values (refused_turn y) ≡ turn_values r w = rw i at (turn_values_lem r w) in
         ap (λ (v : Values). record { said = v; held = 0; highest = 0; quota = 0 }) t
 

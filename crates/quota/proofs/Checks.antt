@@ -1,4 +1,5 @@
 -- The answer on an accepted table, check by check, and that an accepted table has a depth.
+use Rattle.std.specs.Prelude.{Err, Ok, Result, ⊤}
 use mathlib.Core.Path.{◌≡◌, refl, ap, ◌∙◌}
 use Prim.Native.Nat.{ℕ, ◌-◌, ◌*◌, ◌≤◌, ◌<◌}
 use native.Mathlib.Omega.{arith}
@@ -14,17 +15,11 @@ use Rattle.table.specs.Level.{D}
 use Rattle.table.specs.Load.{facts_of, loaded}
 use Rattle.table.specs.declared.Facts.{Facts}
 use Rattle.table.specs.declared.Refusal.{Refusal}
-use Rattle.table.specs.declared.Found.{Found}
-use Rattle.table.specs.declared.Found.TheVariants.{Nothing, At}
-use Rattle.table.specs.declared.Loaded.TheVariants.{Accepted as accepted}
-use Rattle.table.specs.declared.Loaded.TheVariants.{Refused as refused}
 use Rattle.table.proofs.Bodies.{end_within}
 use Rattle.table.proofs.Levels.{level_is}
 use Rattle.table.proofs.Passes.{found_exactly, passes_rules, accepted_exactly, accepted_facts, refused_exactly}
 use Rattle.schedule.specs.Record.{max_workers}
 use Rattle.order.proofs.Lawful.{Lawful, lawful}
-use Rattle.quota.specs.declared.Quoted.{Quoted}
-use Rattle.quota.specs.declared.Quoted.TheVariants.{Given, Refused}
 use Rattle.quota.specs.Quota.{least_quota, cost_of, most_within, most_quota, no_quota, max_gap, quota_passes, answered_by, quoted, values_of, quota_values_with, values_for}
 use Rattle.quota.specs.Code.Steps.{Accepted, own_answer}
 use Rattle.quota.proofs.Answers.{found_own}
@@ -32,25 +27,25 @@ use Rattle.quota.proofs.Answers.{found_own}
 -- ---- check by check
 
 module _ (s : List ℕ) (p b M : ℕ) where
-  pub many_workers : outside 1 max_workers p ≡ true → Refused (refusal 20 0) ≡ own_answer s p b M
+  pub many_workers : outside 1 max_workers p ≡ true → Err (refusal 20 0) ≡ own_answer s p b M
   unfolding own_answer try_pass try_from try_at
   many_workers h = rw h
 
-  pub wide_gap : outside 1 max_workers p ≡ false → outside 1 max_gap b ≡ true → Refused (refusal 41 0) ≡ own_answer s p b M
+  pub wide_gap : outside 1 max_workers p ≡ false → outside 1 max_gap b ≡ true → Err (refusal 41 0) ≡ own_answer s p b M
   unfolding own_answer try_pass try_from try_at
   wide_gap h k = rw (h, k)
 
   module _ (h : outside 1 max_workers p ≡ false) (k : outside 1 max_gap b ≡ false) where
-    pub little_memory : M < S1 (table_of s) → Refused (refusal 42 0) ≡ own_answer s p b M
+    pub little_memory : M < S1 (table_of s) → Err (refusal 42 0) ≡ own_answer s p b M
     unfolding own_answer try_pass try_from try_at no_quota
     little_memory l = rw (h, k, lt-ltb M (S1 (table_of s)) l)
 
     module _ (l : S1 (table_of s) ≤ M) where
-      pub below_least : most_quota (table_of s) p b M < least_quota (table_of s) → Refused (refusal 42 0) ≡ own_answer s p b M
+      pub below_least : most_quota (table_of s) p b M < least_quota (table_of s) → Err (refusal 42 0) ≡ own_answer s p b M
       unfolding own_answer try_pass try_from try_at no_quota
       below_least g = rw (h, k, le-ltb M (S1 (table_of s)) l, lt-ltb (most_quota (table_of s) p b M) (least_quota (table_of s)) g)
 
-      pub at_most : least_quota (table_of s) ≤ most_quota (table_of s) p b M → Given (most_quota (table_of s) p b M) ≡ own_answer s p b M
+      pub at_most : least_quota (table_of s) ≤ most_quota (table_of s) p b M → Ok (most_quota (table_of s) p b M) ≡ own_answer s p b M
       unfolding own_answer try_pass try_from try_at no_quota
       at_most g = rw (h, k, le-ltb M (S1 (table_of s)) l, le-ltb (most_quota (table_of s) p b M) (least_quota (table_of s)) g)
 
@@ -80,13 +75,13 @@ module _ {s : List ℕ} {f : Facts} (a : Accepted s f) where
 -- ---- the whole answer
 
 -- the answer to a table that its own checks refuse
-pub refused_own : (s : List ℕ) (p b M : ℕ) (r : Refusal) → loaded s ≡ refused r → Refused r ≡ quoted s p b M
+pub refused_own : (s : List ℕ) (p b M : ℕ) (r : Refusal) → loaded s ≡ Err r → Err r ≡ quoted s p b M
 unfolding quoted
 refused_own s p b M r e =
-    let f : first_found (passes s) ≡ At r = (found_exactly (passes s) r).1 ((refused_exactly s r).0 e) in
+    let f : first_found (passes s) ≡ Err r = (found_exactly (passes s) r).1 ((refused_exactly s r).0 e) in
     rw (found_own s p b M, f)
 
-pub accepted_own : (s : List ℕ) (f : Facts) → loaded s ≡ accepted f → Accepted s f
+pub accepted_own : (s : List ℕ) (f : Facts) → loaded s ≡ Ok f → Accepted s f
 accepted_own s f e =
     let d : f ≡ facts_of (table_of s) = accepted_facts s f e in
     record { rules = (accepted_exactly s).0 (cc); facts = d }
@@ -97,10 +92,10 @@ unfolding quoted own_answer
 own_whole s p b M r = rw (found_own s p b M, (passes_rules s).1 r)
 
 -- its values are those that the checks give
-values_found : (f : Found) (K : ℕ) → values_of (answered_by f K) ≡ quota_values_with f K
-values_found Nothing K = refl
-values_found (At r) K = refl
+values_found : (f : Result ⊤ Refusal) (K : ℕ) → values_of (answered_by f K) ≡ quota_values_with f K
+values_found (Ok _) K = refl
+values_found (Err r) K = refl
 
-pub values_are : (s : List ℕ) (p b M : ℕ) {x : Quoted} → x ≡ quoted s p b M → (x ≡ quoted s p b M) × (values_of x ≡ values_for s p b M)
+pub values_are : (s : List ℕ) (p b M : ℕ) {x : Result ℕ Refusal} → x ≡ quoted s p b M → (x ≡ quoted s p b M) × (values_of x ≡ values_for s p b M)
 unfolding quoted values_for
 values_are s p b M e = (e, ap values_of e ∙ values_found (first_found (quota_passes s p b M)) (most_quota (table_of s) p b M))

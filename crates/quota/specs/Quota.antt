@@ -1,6 +1,7 @@
 -- The largest quota for a board (N1): "From a table, p, b and memory M (64 bits) give the largest K from the table's largest alloc (1 if it has none) up to 16,777,215 for which the
 -- bound of demand 3 is at most M."
-use Rattle.std.specs.Prelude.{ℕ, ◌-◌, ◌*◌, ◌/◌, ◌≤◌, ◌<◌, max, min, List, [], ◌∷◌, ◌++◌, Bool, ◌||◌, ltb, eqb}
+use Rattle.std.specs.Prelude.{ℕ, ◌-◌, ◌*◌, ◌/◌, ◌≤◌, ◌<◌, max, min, List, [], ◌∷◌, ◌++◌, Bool, ◌||◌, ltb, eqb, Err, Ok, Result, ⊤}
+use Rattle.table.specs.declared.Refusal.{Refusal}
 use Rattle.table.specs.Sum.{pick, greatest_to}
 use Rattle.table.specs.Format.{Table, table_of}
 use Rattle.table.specs.Pass.{Pass, first_found}
@@ -9,13 +10,9 @@ use Rattle.table.specs.Rules.{Rules}
 use Rattle.table.specs.Serial.{S1}
 use Rattle.table.specs.Level.{D}
 use Rattle.table.specs.Load.{found_number, found_place, if_found}
-use Rattle.table.specs.declared.Found.{Found}
-use Rattle.table.specs.declared.Found.TheVariants.{Nothing, At}
 use Rattle.schedule.specs.Record.{max_workers}
 use Rattle.schedule.specs.Begin.{max_quota}
 use Rattle.schedule.specs.Memory.{limit}
-use Rattle.quota.specs.declared.Quoted.{Quoted}
-use Rattle.quota.specs.declared.Quoted.TheVariants.{Given, Refused}
 
 -- ---- the largest, as the request says it
 
@@ -80,12 +77,12 @@ quota_pass T p b M =
 abbrev pub quota_passes : List ℕ → ℕ → ℕ → ℕ → List Pass
 quota_passes s p b M = passes s ++ (quota_pass (table_of s) p b M ∷ [])
 
-abbrev pub answered_by : Found → ℕ → Quoted
-answered_by Nothing K = Given K
-answered_by (At r) K = Refused r
+abbrev pub answered_by : Result ⊤ Refusal → ℕ → Result ℕ Refusal
+answered_by (Ok _) K = Ok K
+answered_by (Err r) K = Err r
 
 -- what is answered to any bytes, p, b and M
-unfoldable pub quoted : List ℕ → ℕ → ℕ → ℕ → Quoted
+unfoldable pub quoted : List ℕ → ℕ → ℕ → ℕ → Result ℕ Refusal
 quoted s p b M = answered_by (first_found (quota_passes s p b M)) (most_quota (table_of s) p b M)
 
 -- the checks before 42 pass
@@ -104,12 +101,12 @@ pub record QuotaValues : Type 0 where
   pub place : ℕ
   pub quota : ℕ
 
-abbrev pub values_of : Quoted → QuotaValues
-values_of (Given K) = record { number = 0; place = 0; quota = K }
-values_of (Refused r) = record { number = r.number; place = r.place; quota = 0 }
+abbrev pub values_of : Result ℕ Refusal → QuotaValues
+values_of (Ok K) = record { number = 0; place = 0; quota = K }
+values_of (Err r) = record { number = r.number; place = r.place; quota = 0 }
 
 -- the same from the checks and the numbers alone
-abbrev pub quota_values_with : Found → ℕ → QuotaValues
+abbrev pub quota_values_with : Result ⊤ Refusal → ℕ → QuotaValues
 quota_values_with found K = record { number = found_number found; place = found_place found; quota = if_found found 0 K }
 
 unfoldable pub values_for : List ℕ → ℕ → ℕ → ℕ → QuotaValues

@@ -33,10 +33,8 @@ pub fn least_quota(table: &[u8]) -> usize
     let n = threads(table);
     let m = actions(table);
     let mut least = 1;
-    let mut a = 0;
-    while a < m {
+    for a in 0..m {
         least = greater(least, alloc_at(table, n, a));
-        a += 1;
     }
     least
 }

@@ -4,7 +4,7 @@
 pub mod allocs;
 pub mod line;
 
-ghost use Rattle.std.specs.Prelude.{◌≡◌, ◌-◌, ◌*◌, ◌++◌, length, drop, replicate};
+ghost use Rattle.std.specs.Prelude.{◌≡◌, ◌-◌, ◌*◌, ◌++◌, length, drop, replicate, Err};
 ghost use Rattle.io.specs.Counts.{IsPrefixLen};
 ghost use Rattle.table.specs.Pass.{refusal};
 ghost use Rattle.table.specs.Checks.{outside as is_outside};
@@ -14,24 +14,17 @@ ghost use Rattle.quota.specs.Code.Steps.{Ready, Accepted, own_answer};
 
 use allocs::least_quota;
 use line::{answer_line, answer_to};
-use table::{Facts, Loaded, Refusal};
-
-// The largest quota that serves, or the check that applies.
-#[derive(Drop)]
-pub enum Quoted {
-    Given(u32),
-    Refused(Refusal),
-}
+use table::{Facts, Refusal};
 
 // The largest K from the table's largest alloc up to 16,777,215 for which the bound on memory held is at most what there is.
-pub fn largest_quota(table: &[u8], p: u8, b: u32, memory: u64) -> Quoted
+pub fn largest_quota(table: &[u8], p: u8, b: u32, memory: u64) -> Result<u32, Refusal>
     ensures value { result ≡ quoted table.now p b memory }
     ensures result_value { values_of result ≡ values_for table.now p b memory }
 {
     let loaded = facts::load(table);
     match loaded {
-        Loaded::Refused(r) => Quoted::Refused(r),
-        Loaded::Accepted(facts) => quota_for(table, facts, p, b, memory),
+        Err(r) => Err(r),
+        Ok(facts) => quota_for(table, facts, p, b, memory),
     }
 }
 
@@ -45,15 +38,15 @@ pub fn largest_quota_in(
     falls: &mut [u64; 1024],
     peaks: &mut [u64; 1024],
     depths: &mut [u16; 1024],
-) -> Quoted
+) -> Result<u32, Refusal>
     ensures value { result ≡ quoted table.now p b memory }
     ensures result_value { values_of result ≡ values_for table.now p b memory }
     ensures rises_after { (rises.new ≡ replicate 1024 0) × (falls.new ≡ replicate 1024 0) × (peaks.new ≡ replicate 1024 0) × (depths.new ≡ replicate 1024 0) }
 {
     let loaded = facts::load_in(table, rises, falls, peaks, depths);
     match loaded {
-        Loaded::Refused(r) => Quoted::Refused(r),
-        Loaded::Accepted(facts) => quota_for(table, facts, p, b, memory),
+        Err(r) => Err(r),
+        Ok(facts) => quota_for(table, facts, p, b, memory),
     }
 }
 
@@ -67,7 +60,7 @@ pub fn quota_line(input: &[u8], out: &mut [u8; 80]) -> usize
 }
 
 // Checks 20, 41 and 42 on an accepted table.
-fn quota_for(table: &[u8], facts: Facts, p: u8, b: u32, memory: u64) -> Quoted
+fn quota_for(table: &[u8], facts: Facts, p: u8, b: u32, memory: u64) -> Result<u32, Refusal>
     requires { Accepted table.now facts }
     ensures { result ≡ own_answer table.now p b memory }
 {
@@ -85,7 +78,7 @@ fn quota_for(table: &[u8], facts: Facts, p: u8, b: u32, memory: u64) -> Quoted
     if (most as usize) < least_quota(table) {
         return refuse(42);
     }
-    Quoted::Given(most)
+    Ok(most)
 }
 
 // Below a range of numbers, or above it.
@@ -95,10 +88,10 @@ pub fn outside(low: u32, high: u32, x: u32) -> bool
     x < low || high < x
 }
 
-pub(crate) fn refuse(number: u8) -> Quoted
-    ensures { result ≡ Quoted.Refused (refusal number 0) }
+pub(crate) fn refuse(number: u8) -> Result<u32, Refusal>
+    ensures { result ≡ Err (refusal number 0) }
 {
-    Quoted::Refused(Refusal { number, place: 0 })
+    Err(Refusal { number, place: 0 })
 }
 
 // What each unit of quota adds to the bound. With b below 2^16, p at most 16 and D at most 8,192 it is below 2^33, and times any K below 2^57; here no product with K is made.

@@ -4,8 +4,8 @@ ghost use Rattle.table.specs.Format.{u32_at};
 ghost use Rattle.table.specs.Sum.{Read};
 ghost use Rattle.quota.specs.Line.{gap_in, memory_in, answer_to, given_line, quota_line};
 
-use crate::{Quoted, largest_quota, refuse};
-use table::Loaded;
+use table::Refusal;
+use crate::{largest_quota, refuse};
 use table::read::{byte, word};
 use text::{put_labelled, put_word};
 
@@ -32,7 +32,7 @@ pub fn memory_in(input: &[u8]) -> u64
 }
 
 // Check 33, and the answer where it does not apply.
-pub(crate) fn answer_to(input: &[u8]) -> Quoted
+pub(crate) fn answer_to(input: &[u8]) -> Result<u32, Refusal>
     ensures { result ≡ answer_to input.now }
 {
     if input.len() < 13 {
@@ -56,13 +56,13 @@ fn given_line(quota: u32, out: &mut [u8; 80]) -> usize
 }
 
 // The line of an answer, and its length.
-pub(crate) fn answer_line(answer: Quoted, out: &mut [u8; 80]) -> usize
+pub(crate) fn answer_line(answer: Result<u32, Refusal>, out: &mut [u8; 80]) -> usize
     ensures value { result ≡ length (quota_line answer) }
     ensures out_after { out.new ≡ quota_line answer ++ drop result out.old }
     ensures upper_bound { result ≤ 64 }
 {
     match answer {
-        Quoted::Given(quota) => given_line(quota, out),
-        Quoted::Refused(refusal) => text::table_line(Loaded::Refused(refusal), out),
+        Ok(quota) => given_line(quota, out),
+        Err(refusal) => text::table_line(Err(refusal), out),
     }
 }

@@ -75,12 +75,10 @@ fn put_body(
     ensures { buffer_at out.new result ≡ put_all (buffer_at out.old at) (renamed_rows actions.now (named_by names.now) first count) }
 {
     let mut at = at;
-    let mut i = 0;
-    while i < count {
+    for i in 0..count {
         let action = action_in(actions, first + i);
         let x = named(action.code, action.argument, names);
         at = put_action(out, at, action.code, x);
-        i += 1;
     }
     at
 }
@@ -100,12 +98,10 @@ pub fn put_ordered(out: &mut [u8], at: usize, table: &[u8], order: &[u16]) -> us
 {
     let mut at = at;
     let mut before = 0;
-    let mut i = 0;
-    while i < order.len() {
+    for i in 0..order.len() {
         let size = count(table, wide(order[i]));
         at = put_pair(out, at, before, size);
         before = (before + size) % 65536;
-        i += 1;
     }
     at
 }
@@ -116,10 +112,8 @@ pub fn put_bodies(out: &mut [u8], at: usize, table: &[u8], order: &[u16], names:
         ≡ put_all (buffer_at out.old at) (ordered_rows table.now (named_by names.now) order.now) }
 {
     let mut at = at;
-    let mut i = 0;
-    while i < order.len() {
+    for i in 0..order.len() {
         at = put_named(out, at, table, wide(order[i]), names);
-        i += 1;
     }
     at
 }
@@ -140,12 +134,10 @@ fn put_actions(out: &mut [u8], at: usize, actions: &[u8], count: usize, o: usize
     ensures { buffer_at out.new result ≡ put_all (buffer_at out.old at) (renamed_rows actions.now (moved_by o) 0 count) }
 {
     let mut at = at;
-    let mut i = 0;
-    while i < count {
+    for i in 0..count {
         let action = action_in(actions, i);
         let x = moved(action.code, action.argument, o);
         at = put_action(out, at, action.code, x);
-        i += 1;
     }
     at
 }
@@ -165,10 +157,8 @@ pub fn put_entries(out: &mut [u8], at: usize, table: &[u8], o: u16) -> usize
     let n = threads(table);
     let before = wide(o);
     let mut at = at;
-    let mut t = 0;
-    while t < n {
+    for t in 0..n {
         at = put_pair(out, at, before + first(table, t), count(table, t));
-        t += 1;
     }
     at
 }

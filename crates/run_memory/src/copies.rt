@@ -73,10 +73,8 @@ pub fn workers_out(bytes: &[u8; 1040], words: &[u16; 6163], numbers: &[u32; 18])
         thread: 0,
         quota: 0,
     }; 16];
-    let mut w = 0;
-    while w < 16 {
+    for w in 0..16 {
         workers[w] = worker_at(bytes, words, numbers, w);
-        w += 1;
     }
     workers
 }
@@ -87,10 +85,8 @@ fn copy_words(from: &[u16], start: usize, to: &mut [u16], at: usize, n: usize)
     requires n_in_bounds_2 { at + n ≤ length to.old }
     ensures { to.new ≡ paste to.old at (drop start from.now) n }
 {
-    let mut i = 0;
-    while i < n {
+    for i in 0..n {
         to[at + i] = from[start + i];
-        i += 1;
     }
 }
 
@@ -99,10 +95,8 @@ fn copy_bytes(from: &[u8], to: &mut [u8], n: usize)
     requires n_in_bounds_2 { n ≤ length to.old }
     ensures { to.new ≡ paste to.old 0 from.now n }
 {
-    let mut i = 0;
-    while i < n {
+    for i in 0..n {
         to[i] = from[i];
-        i += 1;
     }
 }
 
@@ -111,10 +105,8 @@ fn copy_sums(from: &[u64], to: &mut [u64], n: usize)
     requires n_in_bounds_2 { n ≤ length to.old }
     ensures { to.new ≡ paste to.old 0 from.now n }
 {
-    let mut i = 0;
-    while i < n {
+    for i in 0..n {
         to[i] = from[i];
-        i += 1;
     }
 }
 
@@ -127,12 +119,10 @@ fn copy_workers_in(bytes: &mut [u8], words: &mut [u16], numbers: &mut [u32], wor
     ensures words_after { words.new ≡ paste words.old 6144 (of_workers (λ x. x.thread) workers) 16 }
     ensures numbers_after { numbers.new ≡ paste numbers.old 2 (of_workers (λ x. x.quota) workers) 16 }
 {
-    let mut w = 0;
-    while w < 16 {
+    for w in 0..16 {
         let worker = workers[w];
         bytes[1024 + w] = as_number(worker.holds);
         words[6144 + w] = worker.thread;
         numbers[2 + w] = worker.quota;
-        w += 1;
     }
 }

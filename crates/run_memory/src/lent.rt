@@ -16,12 +16,10 @@ pub fn workers(p: u32) -> u8
 pub fn truths_right(holds: &[u8; 16]) -> bool
     ensures { result ≡ truths holds.now }
 {
-    let mut w = 0;
-    while w < 16 {
+    for w in 0..16 {
         if 1 < holds[w] {
             return false;
         }
-        w += 1;
     }
     true
 }
@@ -47,10 +45,8 @@ pub fn workers_at(holds: &[u8; 16], threads: &[u16; 16], quotas: &[u32; 16]) -> 
         thread: 0,
         quota: 0,
     }; 16];
-    let mut w = 0;
-    while w < 16 {
+    for w in 0..16 {
         records[w] = worker_at(holds, threads, quotas, w);
-        w += 1;
     }
     records
 }

@@ -1,4 +1,6 @@
 -- The worked cases hold of turns as they are defined, each with its test of the whole record.
+use Rattle.std.specs.Prelude.{Err, Ok, Result, ⊤}
+use Rattle.table.specs.declared.Refusal.{Refusal}
 use mathlib.Core.Path.{◌≡◌, refl, ap, ◌∙◌}
 use Prim.Native.Nat.{ℕ, suc, ◌+◌, ◌-◌, ◌^◌, ◌≤◌, ◌<◌}
 use native.Mathlib.Omega.{arith}
@@ -9,12 +11,7 @@ use lib.Dec.{ltb, leb, eqb}
 use Rattle.table.specs.Sum.{pick}
 use Rattle.table.specs.Format.{Kind, end, work, alloc, free, fork, join, unknown, Table}
 use Rattle.table.specs.Pass.{try_at}
-use Rattle.table.specs.declared.Found.{Found}
-use Rattle.table.specs.declared.Found.TheVariants.{Nothing, At}
 use Rattle.schedule.specs.declared.Run.{Run}
-use Rattle.schedule.specs.declared.Beginning.{Beginning}
-use Rattle.schedule.specs.declared.Beginning.TheVariants.{Begun as started}
-use Rattle.schedule.specs.declared.Beginning.TheVariants.{Refused as refused_beginning}
 use Rattle.schedule.specs.Machine.{State, drawn, ended, status_of, worker_of, parent_of, waits_for, woken, Stepped, act_by, act, leftmost, taken, turn_free, turn_of}
 use Rattle.schedule.specs.Record.{table_in, state_of}
 use Rattle.schedule.specs.Begin.{start_state, begin}
@@ -76,18 +73,18 @@ pub turned_turns : (r : Run) (w : ℕ) → (turned r w).run.turns ≤ suc r.turn
 unfolding turned step_run
 turned_turns r w = go (try_at (turn_checks r w) 0)
   where
-    go : (f : Found) → (turned_as f r (passed_in r w) (step_run r w)).run.turns ≤ suc r.turns
-    go Nothing = omega (arith, turn_turns (table_in r) r.quota w (state_of r))
-    go (At x) = omega arith
+    go : (f : Result ⊤ Refusal) → (turned_as f r (passed_in r w) (step_run r w)).run.turns ≤ suc r.turns
+    go (Ok _) = omega (arith, turn_turns (table_in r) r.quota w (state_of r))
+    go (Err x) = omega arith
 
 -- ---- the runs
 
 -- an accepted beginning's record is sound, with no turn taken
-pub begun_fresh : (s : List ℕ) (p K : ℕ) → (begin s p K).answer ≡ started → Steady (begin s p K).run × ((begin s p K).run.turns ≡ 0)
+pub begun_fresh : (s : List ℕ) (p K : ℕ) → (begin s p K).answer ≡ Ok tt → Steady (begin s p K).run × ((begin s p K).run.turns ≡ 0)
 unfolding start_state
 begun_fresh s p K e =
     let r : Run = (begin s p K).run in
-    let b : begin s p K ≡ record { answer = started; run = r } = λ i. record { answer = e i; run = r } in
+    let b : begin s p K ≡ record { answer = Ok tt; run = r } = λ i. record { answer = e i; run = r } in
     ((begin_sound s p K r b).steady, ap (λ (st : State). st.turns) (start_state_lem s p K r b).3)
 
 module _ (stop : Run → Bool) where
@@ -100,7 +97,7 @@ module _ (stop : Run → Bool) where
       rw (ih, e)
 
   -- the same for the turns of an accepted beginning
-  pub begun_turned : (s : List ℕ) (p K : ℕ) (order : List ℕ) → length order < 2 ^ 64 → (begin s p K).answer ≡ started
+  pub begun_turned : (s : List ℕ) (p K : ℕ) (order : List ℕ) → length order < 2 ^ 64 → (begin s p K).answer ≡ Ok tt
       → turns_by stop turned (begin s p K).run order ≡ turns_by stop turned_sound (begin s p K).run order
   begun_turned s p K order k e = let f = begun_fresh s p K e in turns_sound order (begin s p K).run f.0 (omega (arith, f.1))
 
@@ -108,10 +105,10 @@ module _ (stop : Run → Bool) where
   pub ran_turned : (s : List ℕ) (p K : ℕ) (order : List ℕ) → length order < 2 ^ 64 → ran_by stop turned s p K order ≡ ran_by stop turned_sound s p K order
   ran_turned s p K order k = go (begin s p K).answer refl
     where
-      go : (a : Beginning) → (begin s p K).answer ≡ a
+      go : (a : Result ⊤ Refusal) → (begin s p K).answer ≡ a
           → begin_then a (turns_by stop turned (begin s p K).run order) ≡ begin_then a (turns_by stop turned_sound (begin s p K).run order)
-      go started e = begun_turned s p K order k e
-      go (refused_beginning x) e = refl
+      go (Ok _) e = begun_turned s p K order k e
+      go (Err x) e = refl
 
 -- what a single turn says after an order's turns
 said_sound : (order : List ℕ) (w : ℕ) (r : Run) → Steady r → r.turns + length order < 2 ^ 64 - 1 → said_after turned r order w ≡ said_after turned_sound r order w
@@ -127,9 +124,9 @@ said_same c k = go (begin c.bytes c.workers c.quota).answer refl
     after : (Run → ℕ → Turned) → Values
     after turn = said_after turn (begin c.bytes c.workers c.quota).run c.order c.worker
 
-    go : (a : Beginning) → (begin c.bytes c.workers c.quota).answer ≡ a → begin_saying a (after turned) ≡ begin_saying a (after turned_sound)
-    go started e = let f = begun_fresh c.bytes c.workers c.quota e in said_sound c.order c.worker _ f.0 (omega (arith, f.1))
-    go (refused_beginning x) e = refl
+    go : (a : Result ⊤ Refusal) → (begin c.bytes c.workers c.quota).answer ≡ a → begin_saying a (after turned) ≡ begin_saying a (after turned_sound)
+    go (Ok _) e = let f = begun_fresh c.bytes c.workers c.quota e in said_sound c.order c.worker _ f.0 (omega (arith, f.1))
+    go (Err x) e = refl
 
 -- ---- the tables of cases
 

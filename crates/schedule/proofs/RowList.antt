@@ -5,6 +5,8 @@
 -- `old_after` and `old_said` (RowList) are the same of a run that keeps its list in a row of numbers; `after_calls` and `row_of_calls` (Calls) are the record that a list of calls leaves and its row of
 -- turns. `answers_of` (Calls) are what the calls answer, and `old_answers` (OldRuns) the same on a record in the old layout: `all_answers` says that they agree, in replies, finished, spent and refusals
 -- with their turns, of any list of calls from any beginning.
+use Rattle.std.specs.Prelude.{Err, Ok, Result, ⊤}
+use Rattle.table.specs.declared.Refusal.{Refusal}
 use mathlib.Core.Path.{◌≡◌, refl, sym, ap, ◌∙◌}
 use Prim.Native.Nat.{ℕ, zero, suc, ◌-◌, ◌^◌, ◌%◌, ◌<◌}
 use native.Mathlib.Omega.{arith}
@@ -15,17 +17,12 @@ use lib.Dec.{eqb}
 use borrow.Author.Tests.{eq-eqb, le-ltb}
 use Rattle.table.specs.Sum.{pick}
 use Rattle.table.specs.Pass.{refusal, try_at}
-use Rattle.table.specs.declared.Found.{Found}
-use Rattle.table.specs.declared.Found.TheVariants.{Nothing, At}
 use Rattle.table.specs.Format.{Table}
 use Rattle.schedule.specs.declared.Run.{Run}
 use Rattle.schedule.specs.declared.Ran.{Ran}
 use Rattle.schedule.specs.declared.Turned.{Turned}
 use Rattle.schedule.specs.declared.Turning.TheVariants.{Taken}
 use Rattle.schedule.specs.declared.Turning.TheVariants.{Refused as refused_turn}
-use Rattle.schedule.specs.declared.Beginning.{Beginning}
-use Rattle.schedule.specs.declared.Beginning.TheVariants.{Begun as started}
-use Rattle.schedule.specs.declared.Beginning.TheVariants.{Refused as refused_beginning}
 use Rattle.schedule.specs.declared.Report.TheVariants.{Finished, Spent, Refused}
 use Rattle.schedule.specs.Machine.{State, with_list, turn_of, passed_by}
 use Rattle.table.specs.Checks.{max_threads}
@@ -205,8 +202,8 @@ turn_same r h w = rw (same_unsound r h) (go (unsound r) (no_worker r w) (root_en
   where
     go : (a b c : Bool) → no_worker r w ≡ b
         → SameTurned
-        (old_turned_as (pick a (At (refusal 32 0)) (pick b (At (refusal 30 0)) (pick c (At (refusal 31 0)) Nothing))) (old_of r) (passed_by w (old_state (old_of r))) (old_step (old_of r) w))
-        (turned_as (pick a (At (refusal 32 0)) (pick b (At (refusal 30 0)) (pick c (At (refusal 31 0)) Nothing))) r (passed_in r w) (step_run r w))
+        (old_turned_as (pick a (Err (refusal 32 0)) (pick b (Err (refusal 30 0)) (pick c (Err (refusal 31 0)) (Ok tt)))) (old_of r) (passed_by w (old_state (old_of r))) (old_step (old_of r) w))
+        (turned_as (pick a (Err (refusal 32 0)) (pick b (Err (refusal 30 0)) (pick c (Err (refusal 31 0)) (Ok tt)))) r (passed_in r w) (step_run r w))
     go true b c e = record { answer = refl; run = refl }
     go false true c e = record { answer = refl; run = refl }
     go false false true e = record { answer = refl; run = refl }
@@ -242,7 +239,7 @@ old_answers_lem r h (c ∷ calls) =
     }
 
 -- from a beginning
-pub begin_answers : (s : List ℕ) (p K : ℕ) (r : Run) → begin s p K ≡ record { answer = started; run = r } → (calls : List Call) → SameCalls r (old_of r) calls
+pub begin_answers : (s : List ℕ) (p K : ℕ) (r : Run) → begin s p K ≡ record { answer = Ok tt; run = r } → (calls : List Call) → SameCalls r (old_of r) calls
 begin_answers s p K r e calls = old_answers_lem r (begin_sound s p K r e).steady calls
 
 -- ---- the blank record, that a refused beginning hands back
@@ -283,13 +280,13 @@ old_blank_none : old_blank.workers ≡ 0
 unfolding old_blank
 old_blank_none = refl
 
-old_blank_found : (w : ℕ) → try_at (old_checks old_blank w) 0 ≡ At (refusal 30 0)
+old_blank_found : (w : ℕ) → try_at (old_checks old_blank w) 0 ≡ Err (refusal 30 0)
 unfolding try_at old_checks
 old_blank_found w = rw (old_blank_passes, old_blank_worker w)
 
 old_turned_blank : (w : ℕ) → old_turned old_blank w ≡ record { answer = refused_turn (refusal 30 0); run = old_blank }
 unfolding old_turned
-old_turned_blank w = ap (λ (f : Found). old_turned_as f old_blank (passed_by w (old_state old_blank)) (old_step old_blank w)) (old_blank_found w)
+old_turned_blank w = ap (λ (f : Result ⊤ Refusal). old_turned_as f old_blank (passed_by w (old_state old_blank)) (old_step old_blank w)) (old_blank_found w)
 
 old_list_none : old_list_run old_blank [] ≡ old_ran (Spent 0) old_blank
 unfolding old_list_run old_drive
@@ -329,9 +326,9 @@ blank_answers (c ∷ calls) =
 pub all_answers : (s : List ℕ) (p K : ℕ) (calls : List Call) → old_answers calls (old_begun s p K) ≡ answers_of calls (begin s p K).run
 all_answers s p K calls = go (begin s p K).answer refl
   where
-    go : (b : Beginning) → (begin s p K).answer ≡ b → old_answers calls (old_begun s p K) ≡ answers_of calls (begin s p K).run
-    go started e =
-        let f : begin s p K ≡ record { answer = started; run = (begin s p K).run } = λ i. record { answer = e i; run = (begin s p K).run } in
-        ap (old_answers calls) (ap (λ (x : Beginning). begun_in x (begin s p K).run) e) ∙ (begin_answers s p K (begin s p K).run f calls).answers
-    go (refused_beginning x) e =
-        ap (old_answers calls) (ap (λ (y : Beginning). begun_in y (begin s p K).run) e) ∙ (blank_answers calls).0 ∙ ap (answers_of calls) (sym (begin_refused_record s p K x e))
+    go : (b : Result ⊤ Refusal) → (begin s p K).answer ≡ b → old_answers calls (old_begun s p K) ≡ answers_of calls (begin s p K).run
+    go (Ok _) e =
+        let f : begin s p K ≡ record { answer = Ok tt; run = (begin s p K).run } = λ i. record { answer = e i; run = (begin s p K).run } in
+        ap (old_answers calls) (ap (λ (x : Result ⊤ Refusal). begun_in x (begin s p K).run) e) ∙ (begin_answers s p K (begin s p K).run f calls).answers
+    go (Err x) e =
+        ap (old_answers calls) (ap (λ (y : Result ⊤ Refusal). begun_in y (begin s p K).run) e) ∙ (blank_answers calls).0 ∙ ap (answers_of calls) (sym (begin_refused_record s p K x e))

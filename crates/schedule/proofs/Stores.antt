@@ -1,4 +1,5 @@
 -- The record and its state: what is stored is read back, a sound state stored gives a sound record, and what 20 and 21 say.
+use Rattle.std.specs.Prelude.{Ok}
 use mathlib.Core.Path.{◌≡◌, refl, sym, ap}
 use Prim.Native.Nat.{ℕ, ◌≤◌, ◌<◌}
 use native.Mathlib.Omega.{arith}
@@ -6,7 +7,6 @@ use mathlib.Core.List.{[], ◌∷◌}
 use Rattle.table.specs.Format.{Table}
 use Rattle.table.specs.Pass.{first_found}
 use Rattle.table.specs.Checks.{max_threads, outside}
-use Rattle.table.specs.declared.Found.TheVariants.{Nothing}
 use Rattle.table.proofs.Sizes.{inside}
 use Rattle.table.proofs.Passes.{try_pass_from_0, first_found_nothing}
 use Rattle.schedule.specs.declared.Run.{Run}
@@ -32,7 +32,7 @@ pub record Fits (p K : ℕ) : Type 0 where
   pub some_quota : 1 ≤ K
   pub few_quota : K ≤ 16777215
 
-pub setting_fits : (p K : ℕ) → first_found (setting_passes p K) ≡ Nothing → Fits p K
+pub setting_fits : (p K : ℕ) → first_found (setting_passes p K) ≡ Ok tt → Fits p K
 setting_fits p K e =
     let h = (first_found_nothing (setting_passes p K)).0 e in
     let g = (try_pass_from_0 1 (record { number = 20; applies = λ i. outside 1 max_workers p } ∷ record { number = 21; applies = λ i. outside 1 max_quota K } ∷ [])).0 h.0 in

@@ -1,4 +1,5 @@
 -- What document 01's reviewer tries, and why none of it is the machine: laws of every run, and the first two turns of E.
+use Rattle.std.specs.Prelude.{Ok}
 use mathlib.Core.Path.{◌≡◌, refl, sym, ap, subst, ◌∙◌}
 use Prim.Native.Nat.{ℕ, zero, suc, ◌+◌, ◌-◌, ◌^◌, ◌%◌, ◌<◌}
 use native.Mathlib.Omega.{arith}
@@ -13,7 +14,6 @@ use Rattle.table.specs.Checks.{entry_wrong, total_wrong, owner_below, kind_unkno
 use Rattle.table.specs.Checks.{open_before, join_not_latest, end_with_open, never_forked, alloc_of, free_of, whole_within, balance, balance_below0, passes}
 use Rattle.table.specs.Level.{fork_below}
 use Rattle.table.specs.Cases.{E}
-use Rattle.table.specs.declared.Found.TheVariants.{Nothing}
 use Rattle.table.proofs.Tests.{no_way}
 use Rattle.table.proofs.Passes.{passes_rules}
 use Rattle.schedule.specs.declared.Run.{Run}
@@ -31,7 +31,6 @@ use Rattle.order.specs.Firsts.{firsts}
 use Rattle.schedule.specs.Links.{walk, right_in}
 use Rattle.schedule.specs.Turn.{unsound, root_ended, no_worker, step_run, turned, passed_in}
 use Rattle.schedule.specs.Runs.{ran, moved, drive, list_run, rounds_run}
-use Rattle.schedule.specs.declared.Beginning.TheVariants.{Begun as started}
 use Rattle.schedule.specs.Sound.{Steady, Sound}
 use Rattle.schedule.specs.Calls.{turns_in}
 use Rattle.schedule.specs.Memory.{limit}
@@ -148,7 +147,7 @@ list_counted r l = go (unsound r)
 abbrev handmade : Run
 handmade = start_run wide 2 1
 
-handmade_passes : (first_found (passes wide) ≡ Nothing) × (first_found (setting_passes 2 1) ≡ Nothing) × (handmade.turns ≡ 0)
+handmade_passes : (first_found (passes wide) ≡ Ok tt) × (first_found (setting_passes 2 1) ≡ Ok tt) × (handmade.turns ≡ 0)
 unfolding wide sum_to any_below code_of kind_of is table_of try_at try_from try_pass first_found entry_wrong total_wrong owner_below kind_unknown argument_wrong end_misplaced forked_below forked_before open_before join_not_latest end_with_open never_forked alloc_of free_of whole_within balance balance_below0 passes set_of firsts start_state start_run
 handmade_passes = (refl, refl, refl)
 
@@ -176,7 +175,7 @@ record Seen (turn : Run → ℕ → Turned) : Type 0 where
   unended : root_ended (turn begun_e 0).run ≡ false
   counted : (turn begun_e 0).run.turns ≡ 1
 
-begins_e : ((begin E 2 6).answer ≡ started) × (begun_e.turns ≡ 0)
+begins_e : ((begin E 2 6).answer ≡ Ok tt) × (begun_e.turns ≡ 0)
 unfolding sum_to any_below code_of kind_of is table_of try_at try_from try_pass first_found entry_wrong total_wrong owner_below kind_unknown argument_wrong end_misplaced forked_below forked_before open_before join_not_latest end_with_open never_forked alloc_of free_of whole_within balance balance_below0 passes set_of big overfull filled_out firsts walk right_in start_state start_run begin
 begins_e = (refl, refl)
 

@@ -1,11 +1,8 @@
 -- The paper's numbers and values for each case of the answers.
-use Rattle.std.specs.Prelude.{ℕ}
+use Rattle.std.specs.Prelude.{ℕ, Err, Ok, Result, ⊤}
 use Rattle.table.specs.declared.Refusal.{Refusal}
 use Rattle.schedule.specs.declared.Reply.{Reply}
 use Rattle.schedule.specs.declared.Reply.TheVariants.{Idle, Done, Quota, Wait}
-use Rattle.schedule.specs.declared.Beginning.{Beginning}
-use Rattle.schedule.specs.declared.Beginning.TheVariants.{Begun}
-use Rattle.schedule.specs.declared.Beginning.TheVariants.{Refused as refused_begin}
 use Rattle.schedule.specs.declared.Turning.{Turning}
 use Rattle.schedule.specs.declared.Turning.TheVariants.{Taken}
 use Rattle.schedule.specs.declared.Turning.TheVariants.{Refused as refused_turn}
@@ -38,9 +35,9 @@ reply_values (Done t a) = saying done t a 1
 reply_values (Quota t x) = saying quota t x 1
 reply_values (Wait t c) = saying wait t c 1
 
-abbrev pub beginning_values : Beginning → Values
-beginning_values Begun = saying begun 0 0 0
-beginning_values (refused_begin x) = refusing x 0
+abbrev pub beginning_values : Result ⊤ Refusal → Values
+beginning_values (Ok _) = saying begun 0 0 0
+beginning_values (Err x) = refusing x 0
 
 -- with how many threads a turn passed over (N7)
 abbrev pub passing : ℕ → Values → Values

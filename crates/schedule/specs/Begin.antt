@@ -1,13 +1,11 @@
 -- Beginning a run: the table's own checks, then 20, 21 and 44; the record that it gives, of the filled-out table (document 01, "The run" and "Where each check stands"; N6).
-use Rattle.std.specs.Prelude.{ℕ, List, [], ◌∷◌, ◌++◌, length, replicate, set}
+use Rattle.std.specs.Prelude.{ℕ, List, [], ◌∷◌, ◌++◌, length, replicate, set, Err, Ok, Result, ⊤}
+use Rattle.table.specs.declared.Refusal.{Refusal}
 use Rattle.table.specs.Format.{Table, table_of}
 use Rattle.table.specs.Pass.{Pass, first_found}
 use Rattle.table.specs.Checks.{max_threads, outside, passes}
-use Rattle.table.specs.declared.Found.{Found}
-use Rattle.table.specs.declared.Found.TheVariants.{Nothing, At}
 use Rattle.schedule.specs.declared.Run.{Run}
 use Rattle.schedule.specs.declared.Begun.{Begun}
-use Rattle.schedule.specs.declared.Beginning.TheVariants.{Begun as started, Refused}
 use Rattle.schedule.specs.Machine.{State, nobody, ready}
 use Rattle.order.specs.Firsts.{firsts}
 use Rattle.schedule.specs.Record.{max_workers, max_bytes, blank, stored}
@@ -63,9 +61,9 @@ start_run s p K =
     })
     (start_state (table_of s))
 
-abbrev pub begun_as : Found → Run → Begun
-begun_as Nothing r = record { answer = started; run = r }
-begun_as (At x) r = record { answer = Refused x; run = blank }
+abbrev pub begun_as : Result ⊤ Refusal → Run → Begun
+begun_as (Ok _) r = record { answer = Ok tt; run = r }
+begun_as (Err x) r = record { answer = Err x; run = blank }
 
 -- what beginning from bytes, p and K answers: "A refused beginning hands back the blank record"; "Replies, records .. name the filled-out table" (N6)
 unfoldable pub begin : List ℕ → ℕ → ℕ → Begun

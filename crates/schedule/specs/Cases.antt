@@ -1,5 +1,6 @@
 -- Document 01's worked cases on runs that bear a star, and rows of our own, as two tables with one theorem over both, computed on the definitions.
-use Rattle.std.specs.Prelude.{◌≡◌, refl, ℕ, Bool, false, replicate}
+use Rattle.std.specs.Prelude.{◌≡◌, refl, ℕ, Bool, false, replicate, Err, Ok, Result, ⊤}
+use Rattle.table.specs.declared.Refusal.{Refusal}
 use mathlib.Core.List.{List, [], ◌∷◌, ◌++◌, map, flatten}
 use Rattle.table.specs.Sum.{sum_to, any_below}
 use Rattle.table.specs.Format.{end, work, alloc, free, fork, join, code_of, kind_of, is, table_of}
@@ -13,9 +14,6 @@ use Rattle.table.specs.Written.{written as written_table}
 use Rattle.table.specs.Cases.{written, E, least, two_allocs}
 use Rattle.table.specs.Cases.{act as action}
 use Rattle.schedule.specs.declared.Run.{Run}
-use Rattle.schedule.specs.declared.Beginning.{Beginning}
-use Rattle.schedule.specs.declared.Beginning.TheVariants.{Begun as started}
-use Rattle.schedule.specs.declared.Beginning.TheVariants.{Refused as refused_beginning}
 use Rattle.schedule.specs.declared.Turned.{Turned}
 use Rattle.schedule.specs.Machine.{left_of, without, waits_for, woken, act_by, act, leftmost, taken, turn_free, turn_of}
 use Rattle.schedule.specs.Record.{set_of}
@@ -28,9 +26,9 @@ use Rattle.schedule.specs.Listing.{idle, did, quota, wait, Line, line, Last, don
 
 -- ---- runs from a beginning
 
-abbrev pub begin_then : Beginning → Listing → Listing
-begin_then started rest = rest
-begin_then (refused_beginning x) rest = listing [] (refused x.number x.place)
+abbrev pub begin_then : Result ⊤ Refusal → Listing → Listing
+begin_then (Ok _) rest = rest
+begin_then (Err x) rest = listing [] (refused x.number x.place)
 
 -- a beginning and then turns
 abbrev pub ran_by : (Run → Bool) → (Run → ℕ → Turned) → List ℕ → ℕ → ℕ → List ℕ → Listing

@@ -1,21 +1,17 @@
 -- The run record as it was before N10, its list "the row of numbers" and their count, and document 01's calls on it: soundness, a turn, runs, what they answer. For a record with links to be held against,
 -- call by call (proofs/RowList); RowList has the same turn by turn.
-use Rattle.std.specs.Prelude.{ℕ, zero, suc, ◌-◌, ◌^◌, ◌%◌, List, [], ◌∷◌, Bool, not, ◌&&◌, length, take, get_or, replicate, ltb, eqb}
+use Rattle.std.specs.Prelude.{ℕ, zero, suc, ◌-◌, ◌^◌, ◌%◌, List, [], ◌∷◌, Bool, not, ◌&&◌, length, take, get_or, replicate, ltb, eqb, Err, Ok, Result, ⊤}
+use Rattle.table.specs.declared.Refusal.{Refusal}
 use Rattle.table.specs.Sum.{pick}
 use Rattle.table.specs.Format.{Table, table_of}
 use Rattle.table.specs.Pass.{Check, refusal, try_at}
 use Rattle.table.specs.Checks.{max_threads}
-use Rattle.table.specs.declared.Found.{Found}
-use Rattle.table.specs.declared.Found.TheVariants.{Nothing, At}
 use Rattle.order.specs.Words.{same_list, filled}
 use Rattle.schedule.specs.declared.Run.{Run}
 use Rattle.schedule.specs.declared.Worker.{Worker}
 use Rattle.schedule.specs.declared.Turning.{Turning}
 use Rattle.schedule.specs.declared.Turning.TheVariants.{Taken}
 use Rattle.schedule.specs.declared.Turning.TheVariants.{Refused as refused_turn}
-use Rattle.schedule.specs.declared.Beginning.{Beginning}
-use Rattle.schedule.specs.declared.Beginning.TheVariants.{Begun as started}
-use Rattle.schedule.specs.declared.Beginning.TheVariants.{Refused as refused_beginning}
 use Rattle.schedule.specs.declared.Report.{Report}
 use Rattle.schedule.specs.declared.Report.TheVariants.{Finished, Spent, Refused}
 use Rattle.schedule.specs.Machine.{State, Stepped, ended, status_of, nobody, turn_of, passed_by}
@@ -194,9 +190,9 @@ pub record OldTurned : Type 0 where
   pub answer : Turning
   pub run : OldRun
 
-abbrev pub old_turned_as : Found → OldRun → ℕ → Stepped → OldTurned
-old_turned_as Nothing o k s = record { answer = Taken s.reply k; run = old_stored o s.state }
-old_turned_as (At x) o k s = record { answer = refused_turn x; run = o }
+abbrev pub old_turned_as : Result ⊤ Refusal → OldRun → ℕ → Stepped → OldTurned
+old_turned_as (Ok _) o k s = record { answer = Taken s.reply k; run = old_stored o s.state }
+old_turned_as (Err x) o k s = record { answer = refused_turn x; run = o }
 
 -- "A refused turn hands back its record untouched."
 unfoldable pub old_turned : OldRun → ℕ → OldTurned
@@ -253,9 +249,9 @@ old_after_calls (c ∷ cs) o = old_after_calls cs (old_after_call c o)
 
 -- ---- a beginning
 
-abbrev pub begun_in : Beginning → Run → OldRun
-begun_in started r = old_of r
-begun_in (refused_beginning x) r = old_blank
+abbrev pub begun_in : Result ⊤ Refusal → Run → OldRun
+begun_in (Ok _) r = old_of r
+begun_in (Err x) r = old_blank
 
 -- the record of a beginning; a refused one "hands back the blank record"
 abbrev pub old_begun : List ℕ → ℕ → ℕ → OldRun

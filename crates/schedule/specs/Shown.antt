@@ -1,8 +1,8 @@
 -- The paper's number and values of a turn shown before it is taken (N4): "the reply that a turn would give and, after it, memory held, its highest and the worker's quota left".
-use Rattle.std.specs.Prelude.{ℕ}
+use Rattle.std.specs.Prelude.{ℕ, Result, ⊤}
+use Rattle.table.specs.declared.Refusal.{Refusal}
 use Rattle.table.specs.Pass.{try_at}
 use Rattle.table.specs.Load.{if_found}
-use Rattle.table.specs.declared.Found.{Found}
 use Rattle.schedule.specs.declared.Run.{Run}
 use Rattle.schedule.specs.Machine.{worker_of}
 use Rattle.schedule.specs.Turn.{turn_checks, step_run}
@@ -19,7 +19,7 @@ pub record Shown : Type 0 where
 -- from the turn's checks and the machine's step alone
 unfoldable pub preview_values : Run → ℕ → Shown
 preview_values r w =
-    let found : Found = try_at (turn_checks r w) 0 in
+    let found : Result ⊤ Refusal = try_at (turn_checks r w) 0 in
     record {
       said = turn_values r w;
       held = if_found found 0 (step_run r w).state.held;

@@ -1,12 +1,11 @@
 -- A sound record (document 01, "A record is sound if .."): each clause of the paragraph as a test, the record of all of them, and one executable test.
-use Rattle.std.specs.Prelude.{◌≡◌, ℕ, ◌+◌, ◌-◌, ◌^◌, ◌<◌, ◌≤◌, List, Bool, true, not, ◌&&◌, ◌||◌, length, get_or, ltb, leb, eqb}
+use Rattle.std.specs.Prelude.{◌≡◌, ℕ, ◌+◌, ◌-◌, ◌^◌, ◌<◌, ◌≤◌, List, Bool, true, not, ◌&&◌, ◌||◌, length, get_or, ltb, leb, eqb, Ok}
 use Rattle.table.specs.Sum.{pick, sum_to, any_below}
 use Rattle.table.specs.Format.{join, is, Table, kind, table_of}
 use Rattle.table.specs.Pass.{first_found}
 use Rattle.table.specs.Checks.{max_threads, owner, end_of, alloc_of, free_of, part_of, passes}
 use Rattle.table.specs.Rules.{Rules}
 use Rattle.table.specs.Level.{fork_below, depends_on}
-use Rattle.table.specs.declared.Found.TheVariants.{Nothing}
 use Rattle.schedule.specs.declared.Worker.{Worker}
 use Rattle.schedule.specs.declared.Run.{Run}
 use Rattle.schedule.specs.Machine.{State, unborn, held, waiting, ended, nobody}
@@ -169,7 +168,7 @@ pub record SoundState (T : Table) (p K : ℕ) (st : State) : Type 0 where
 pub record Steady (r : Run) : Type 0 where
   -- "its table passes 1 to 11 and its p and K pass 20 to 22", of which 22 "no longer occurs" (N6): a record's table counts as filled out already
   pub table : Rules (bytes_of r)
-  pub settings : first_found (setting_passes r.workers r.quota) ≡ Nothing
+  pub settings : first_found (setting_passes r.workers r.quota) ≡ Ok tt
   pub state : SoundState (table_in r) r.workers r.quota (state_of r)
   -- "and the set agrees"
   pub set : r.busy ≡ set_of r.worker

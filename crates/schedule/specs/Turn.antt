@@ -1,8 +1,7 @@
 -- A turn on any record whatever: 32, 30, 31, or the reply and the record after (document 01, "Where each check stands").
-use Rattle.std.specs.Prelude.{ℕ, List, [], ◌∷◌, Bool, not, ◌&&◌, length, get_or, ltb, eqb}
+use Rattle.std.specs.Prelude.{ℕ, List, [], ◌∷◌, Bool, not, ◌&&◌, length, get_or, ltb, eqb, Err, Ok, Result, ⊤}
+use Rattle.table.specs.declared.Refusal.{Refusal}
 use Rattle.table.specs.Pass.{Check, try_at}
-use Rattle.table.specs.declared.Found.{Found}
-use Rattle.table.specs.declared.Found.TheVariants.{Nothing, At}
 use Rattle.schedule.specs.declared.Run.{Run}
 use Rattle.schedule.specs.declared.Worker.{Worker}
 use Rattle.schedule.specs.declared.Turning.TheVariants.{Taken, Refused}
@@ -64,9 +63,9 @@ step_run r w = turn_of (table_in r) r.quota w (state_of r)
 unfoldable pub passed_in : Run → ℕ → ℕ
 passed_in r w = passed_by w (state_of r)
 
-abbrev pub turned_as : Found → Run → ℕ → Stepped → Turned
-turned_as Nothing r k s = record { answer = Taken s.reply k; run = stored r s.state }
-turned_as (At x) r k s = record { answer = Refused x; run = r }
+abbrev pub turned_as : Result ⊤ Refusal → Run → ℕ → Stepped → Turned
+turned_as (Ok _) r k s = record { answer = Taken s.reply k; run = stored r s.state }
+turned_as (Err x) r k s = record { answer = Refused x; run = r }
 
 -- "A refused turn hands back its record untouched."
 unfoldable pub turned : Run → ℕ → Turned

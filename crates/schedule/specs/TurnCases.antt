@@ -1,5 +1,6 @@
 -- What single turns answer on document 01's worked cases that bear a star, and on a row of our own, as two tables with one theorem over both, computed on the definitions.
-use Rattle.std.specs.Prelude.{◌≡◌, refl, ℕ, List, [], ◌∷◌, map}
+use Rattle.std.specs.Prelude.{◌≡◌, refl, ℕ, List, [], ◌∷◌, map, Err, Ok, Result, ⊤}
+use Rattle.table.specs.declared.Refusal.{Refusal}
 use Rattle.table.specs.Sum.{sum_to, any_below}
 use Rattle.table.specs.Format.{code_of, kind_of, is, table_of}
 use Rattle.table.specs.Pass.{refusal, try_at, try_from, try_pass, first_found}
@@ -8,9 +9,6 @@ use Rattle.table.specs.Checks.{open_before, join_not_latest, end_with_open, neve
 use Rattle.table.specs.Level.{fork_below}
 use Rattle.table.specs.Cases.{E, two_allocs}
 use Rattle.schedule.specs.declared.Run.{Run}
-use Rattle.schedule.specs.declared.Beginning.{Beginning}
-use Rattle.schedule.specs.declared.Beginning.TheVariants.{Begun as started}
-use Rattle.schedule.specs.declared.Beginning.TheVariants.{Refused as refused_beginning}
 use Rattle.schedule.specs.declared.Turned.{Turned}
 use Rattle.schedule.specs.Machine.{left_of, without, waits_for, woken, act_by, act, leftmost, taken, turn_free, turn_of, passed_by}
 use Rattle.schedule.specs.Record.{set_of}
@@ -27,9 +25,9 @@ abbrev pub said_after : (Run → ℕ → Turned) → Run → List ℕ → ℕ �
 said_after turn r [] w = turning_values (turn r w).answer
 said_after turn r (v ∷ order) w = said_after turn (turn r v).run order w
 
-abbrev pub begin_saying : Beginning → Values → Values
-begin_saying started x = x
-begin_saying (refused_beginning y) x = refusing y 0
+abbrev pub begin_saying : Result ⊤ Refusal → Values → Values
+begin_saying (Ok _) x = x
+begin_saying (Err y) x = refusing y 0
 
 -- the table's bytes, p, K, an order of workers, the worker of the turn after it, and what that turn says
 pub record TurnCase : Type 0 where

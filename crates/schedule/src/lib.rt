@@ -49,16 +49,9 @@ pub enum Reply {
     Wait { thread: u16, child: u16 },
 }
 
-// Beginning: the run, or the blank record.
-#[derive(Drop)]
-pub enum Beginning {
-    Begun,
-    Refused(Refusal),
-}
-
 #[derive(Drop)]
 pub struct Begun {
-    pub answer: Beginning,
+    pub answer: Result<(), Refusal>,
     pub run: Run,
 }
 

@@ -2,6 +2,7 @@
 --
 -- What it cites: `begin`, `after_calls`, `row_of_calls`, `row_memory` and `peak_memory` as the memory limit of demand 3 does (proofs/Limit of crates/bounds); `quota_peak` is C, `any_quota_peak` is C0 and
 -- `rests_under` a resting place under K (specs/Off); `need_peak` is CE and `LightNeed` is (W) (specs/Need); `workers_peak`, `stretch` and `resting_peak` are in specs/Peak and specs/Rests of crates/peaks.
+use Rattle.std.specs.Prelude.{Ok}
 use mathlib.Core.Path.{◌≡◌, sym, ap, ◌∙◌}
 use Prim.Native.Nat.{ℕ, ◌-◌, ◌≤◌, ◌<◌}
 use mathlib.Core.List.{List, [], ◌++◌, append-nil}
@@ -10,7 +11,6 @@ use lib.ListN.{get_or}
 use Rattle.table.specs.Format.{Table, table_of}
 use Rattle.order.specs.Words.{count_below}
 use Rattle.schedule.specs.declared.Run.{Run}
-use Rattle.schedule.specs.declared.Beginning.TheVariants.{Begun as started}
 use Rattle.schedule.specs.Machine.{State}
 use Rattle.schedule.specs.Begin.{begin}
 use Rattle.schedule.specs.Calls.{Call, after_calls, row_of_calls}
@@ -56,7 +56,7 @@ pub record EveryOrder (T : Table) (p K : ℕ) (r : Run) (row : List ℕ) : Type 
   pub quota : QuotaLimit T p K r row
   pub need : NeedLimit T p K r row
 
-module _ (s : List ℕ) (p K : ℕ) (r : Run) (e : begin s p K ≡ record { answer = started; run = r }) (calls : List Call) where
+module _ (s : List ℕ) (p K : ℕ) (r : Run) (e : begin s p K ≡ record { answer = Ok tt; run = r }) (calls : List Call) where
   -- the table that runs (N6)
   abbrev T : Table
   T = table_of (filled_out s K)

@@ -1,4 +1,5 @@
 -- A beginning: what its checks find and how many bytes the filled-out table has, and what is then in the lent buffer.
+use Rattle.std.specs.Prelude.{Err, Ok, Result, ⊤}
 use mathlib.Core.Path.{◌≡◌, refl, sym, ap, ◌∙◌}
 use Prim.Native.Nat.{ℕ, ◌≤◌, ◌<◌}
 use native.Mathlib.Omega.{arith}
@@ -14,8 +15,6 @@ use Rattle.table.specs.Pass.{refusal, or_else, try_at, try_from, try_pass, first
 use Rattle.table.specs.Checks.{outside, passes}
 use Rattle.table.specs.Rules.{Rules}
 use Rattle.table.specs.declared.Refusal.{Refusal}
-use Rattle.table.specs.declared.Found.{Found}
-use Rattle.table.specs.declared.Found.TheVariants.{Nothing, At}
 use Rattle.table.proofs.Passes.{first_found_append}
 use Rattle.table.proofs.Sizes.{Sizes, sizes}
 use Rattle.order.specs.Words.{is_nothing}
@@ -31,11 +30,11 @@ use Rattle.soundness.specs.Tested.{parents_if, next_if, begin_found, begin_filli
 -- ---- what is found
 
 module _ (s : List ℕ) (p K : ℕ) where
-  found_is : begin_found s p K ≡ or_else (first_found (passes s)) (or_else (pick (outside 1 16 p) (At (refusal 20 0)) (pick (outside 1 16777215 K) (At (refusal 21 0)) Nothing)) (first_found (fill_pass (table_of s) K ∷ [])))
+  found_is : begin_found s p K ≡ or_else (first_found (passes s)) (or_else (pick (outside 1 16 p) (Err (refusal 20 0)) (pick (outside 1 16777215 K) (Err (refusal 21 0)) (Ok tt))) (first_found (fill_pass (table_of s) K ∷ [])))
   unfolding first_found try_pass try_from try_at
-  found_is = first_found_append (passes s) (begin_passes (table_of s) p K) ∙ ap (λ (f : Found). or_else (first_found (passes s)) (or_else f (first_found (fill_pass (table_of s) K ∷ [])))) (go (outside 1 16 p) (outside 1 16777215 K))
+  found_is = first_found_append (passes s) (begin_passes (table_of s) p K) ∙ ap (λ (f : Result ⊤ Refusal). or_else (first_found (passes s)) (or_else f (first_found (fill_pass (table_of s) K ∷ [])))) (go (outside 1 16 p) (outside 1 16777215 K))
     where
-      go : (b c : Bool) → or_else (pick b (At (refusal 20 0)) (pick c (At (refusal 21 0)) Nothing)) Nothing ≡ pick b (At (refusal 20 0)) (pick c (At (refusal 21 0)) Nothing)
+      go : (b c : Bool) → or_else (pick b (Err (refusal 20 0)) (pick c (Err (refusal 21 0)) (Ok tt))) (Ok tt) ≡ pick b (Err (refusal 20 0)) (pick c (Err (refusal 21 0)) (Ok tt))
       go true c = refl
       go false true = refl
       go false false = refl
@@ -43,9 +42,9 @@ module _ (s : List ℕ) (p K : ℕ) where
   -- with p in its range, what the filling finds
   found_filling : outside 1 16 p ≡ false → begin_found s p K ≡ fill_found s K
   unfolding first_found try_pass try_from try_at
-  found_filling h = found_is ∙ rw h (sym (first_found_append (passes s) (quota_pass K ∷ fill_pass (table_of s) K ∷ []) ∙ ap (λ (f : Found). or_else (first_found (passes s)) (or_else f (first_found (fill_pass (table_of s) K ∷ [])))) (go (outside 1 16777215 K))))
+  found_filling h = found_is ∙ rw h (sym (first_found_append (passes s) (quota_pass K ∷ fill_pass (table_of s) K ∷ []) ∙ ap (λ (f : Result ⊤ Refusal). or_else (first_found (passes s)) (or_else f (first_found (fill_pass (table_of s) K ∷ [])))) (go (outside 1 16777215 K))))
     where
-      go : (c : Bool) → or_else (pick c (At (refusal 21 0)) Nothing) Nothing ≡ pick c (At (refusal 21 0)) Nothing
+      go : (c : Bool) → or_else (pick c (Err (refusal 21 0)) (Ok tt)) (Ok tt) ≡ pick c (Err (refusal 21 0)) (Ok tt)
       go true = refl
       go false = refl
 
@@ -53,18 +52,18 @@ module _ (s : List ℕ) (p K : ℕ) where
   unfolding filling_of begin_filling
   measured h = rw (found_filling h)
 
-  refused : (f : Found) (x : Refusal) → f ≡ At x → begin_found s p K ≡ At x → ◌≡◌ {A = Filling} (record { found = f; bytes = 0 }) (begin_filling s p K)
+  refused : (f : Result ⊤ Refusal) (x : Refusal) → f ≡ Err x → begin_found s p K ≡ Err x → ◌≡◌ {A = Filling} (record { found = f; bytes = 0 }) (begin_filling s p K)
   unfolding begin_filling
   refused f x e h = rw (e, h)
 
   -- by a check of the table
-  pub refused_table : (f : Found) (x : Refusal) → f ≡ first_found (passes s) → f ≡ At x → ◌≡◌ {A = Filling} (record { found = f; bytes = 0 }) (begin_filling s p K)
+  pub refused_table : (f : Result ⊤ Refusal) (x : Refusal) → f ≡ first_found (passes s) → f ≡ Err x → ◌≡◌ {A = Filling} (record { found = f; bytes = 0 }) (begin_filling s p K)
   refused_table f x e d =
-      let h : first_found (passes s) ≡ At x = sym e ∙ d in
+      let h : first_found (passes s) ≡ Err x = sym e ∙ d in
       refused f x d (found_is ∙ rw h)
 
   -- by 20
-  pub refused_workers : (f : Found) → first_found (passes s) ≡ Nothing → outside 1 16 p ≡ true → f ≡ At (refusal 20 0) → ◌≡◌ {A = Filling} (record { found = f; bytes = 0 }) (begin_filling s p K)
+  pub refused_workers : (f : Result ⊤ Refusal) → first_found (passes s) ≡ Ok tt → outside 1 16 p ≡ true → f ≡ Err (refusal 20 0) → ◌≡◌ {A = Filling} (record { found = f; bytes = 0 }) (begin_filling s p K)
   refused_workers f n o e = refused f (refusal 20 0) e (found_is ∙ rw (n, o))
 
 -- ---- what is filled in
@@ -77,14 +76,14 @@ Fills s p K out buffer next parents =
 
 module _ (s : List ℕ) (p K : ℕ) (out : List ℕ) where
   -- a check applies
-  pub fills_nothing : (r : Filling) → r ≡ begin_filling s p K → (x : Refusal) → r.found ≡ At x → Fills s p K out out (replicate 1024 0) (replicate 1024 0)
+  pub fills_nothing : (r : Filling) → r ≡ begin_filling s p K → (x : Refusal) → r.found ≡ Err x → Fills s p K out out (replicate 1024 0) (replicate 1024 0)
   unfolding begin_filling
   fills_nothing r e x d =
-      let h : begin_found s p K ≡ At x = sym (ap (λ (y : Filling). y.found) e) ∙ d in
+      let h : begin_found s p K ≡ Err x = sym (ap (λ (y : Filling). y.found) e) ∙ d in
       rw h (refl, (refl, refl))
 
-  module _ (r : Filling) (e : r ≡ begin_filling s p K) (d : r.found ≡ Nothing) where
-    silent : begin_found s p K ≡ Nothing
+  module _ (r : Filling) (e : r ≡ begin_filling s p K) (d : r.found ≡ Ok tt) where
+    silent : begin_found s p K ≡ Ok tt
     unfolding begin_filling
     silent = sym (ap (λ (y : Filling). y.found) e) ∙ d
 
@@ -99,7 +98,7 @@ module _ (s : List ℕ) (p K : ℕ) (out : List ℕ) where
         let z : Sizes (filled_out s K) (threads_of (filled_out s K)) (actions_of (filled_out s K)) = sizes (record { head = runs.rules.head; threads = refl; actions = refl }) in
         (omega (arith, z), omega (arith, z))
 
-    found_fill : fill_found s K ≡ Nothing
+    found_fill : fill_found s K ≡ Ok tt
     found_fill =
         let f : Fits p K = (silent_runs s p K silent).1 in
         sym (found_filling s p K (rw (le-ltb p 1 f.some_worker, le-ltb 16 p f.few_workers))) ∙ silent

@@ -1,10 +1,10 @@
 -- What the tests of a record answer: whether it passes, and each thread's parent, which the turns after it look up.
-use Rattle.std.specs.Prelude.{ℕ, ◌-◌, ◌^◌, List, ◌++◌, Bool, not, ◌&&◌, length, get_or, replicate, ltb, leb, eqb}
+use Rattle.std.specs.Prelude.{ℕ, ◌-◌, ◌^◌, List, ◌++◌, Bool, not, ◌&&◌, length, get_or, replicate, ltb, leb, eqb, Result, ⊤}
+use Rattle.table.specs.declared.Refusal.{Refusal}
 use Rattle.table.specs.Sum.{pick, any_below}
 use Rattle.table.specs.Format.{Table, table_of}
 use Rattle.table.specs.Pass.{first_found}
 use Rattle.table.specs.Checks.{max_threads, passes}
-use Rattle.table.specs.declared.Found.{Found}
 use Rattle.schedule.specs.declared.Worker.{Worker}
 use Rattle.schedule.specs.declared.Run.{Run}
 use Rattle.schedule.specs.Machine.{parent_of, nobody}
@@ -33,7 +33,7 @@ abbrev pub next_if : Bool → Table → List ℕ
 next_if q T = pick q (filled max_threads (firsts T.first 0 T.threads)) (replicate max_threads 0)
 
 -- what the checks of a beginning find: the table's own, then 20, 21, 44
-abbrev pub begin_found : List ℕ → ℕ → ℕ → Found
+abbrev pub begin_found : List ℕ → ℕ → ℕ → Result ⊤ Refusal
 begin_found s p K = first_found (passes s ++ begin_passes (table_of s) p K)
 
 -- and how many bytes the filled-out table has, 0 where a check applies or nothing is above K: then the table as given runs

@@ -24,13 +24,11 @@ fn thread_sums(table: &[u8], n: usize, t: usize, stop: usize, before: Sums) -> S
 {
     let mut allocs = before.allocs;
     let mut frees = before.frees;
-    let mut a = read::first(table, t);
-    while a < stop {
+    for a in read::first(table, t)..stop {
         let k = read::code(table, n, a);
         let x = read::argument(table, n, a);
         allocs += alloc_of(k, x);
         frees += free_of(k, x);
-        a += 1;
     }
     Sums { allocs, frees }
 }
@@ -51,11 +49,9 @@ pub(crate) fn held_right(
         allocs: 0,
         frees: 0,
     };
-    let mut t = 0;
-    while t < n {
+    for t in 0..n {
         let stop = done_to(t, next, status);
         sums = thread_sums(table, n, t, stop, sums);
-        t += 1;
     }
     let allocs = sums.allocs;
     let frees = sums.frees;

@@ -1,5 +1,5 @@
 // The checks of a beginning, the table's own and 20, 21, 44, and what a run begins with.
-ghost use Rattle.std.specs.Prelude.{◌≡◌, ◌<◌, replicate};
+ghost use Rattle.std.specs.Prelude.{◌≡◌, ◌<◌, replicate, Err};
 ghost use Rattle.table.specs.Format.{table_of};
 ghost use Rattle.table.specs.Rules.{Rules};
 ghost use Rattle.table.specs.Pass.{first_found, refusal};
@@ -12,13 +12,13 @@ ghost use Rattle.soundness.specs.Tested.{parents_in, begin_filling};
 
 use crate::bodies::fill_forks;
 use filling::{Filling, measure};
-use table::{Found, Refusal, read};
+use table::{Refusal, read};
 
-fn refuse(number: u8, place: usize) -> Found
+fn refuse(number: u8, place: usize) -> Result<(), Refusal>
     requires { place < 65536 }
-    ensures { result ≡ Found.At (refusal number place) }
+    ensures { result ≡ Err (refusal number place) }
 {
-    Found::At(Refusal {
+    Err(Refusal {
         number,
         place: place as u16,
     })
@@ -31,7 +31,7 @@ fn outside(low: u32, high: u32, x: u32) -> bool
 }
 
 // 20: "p outside 1 to 16"; 21: "K outside its range".
-pub fn settings_fault(p: u8, quota: u32) -> Found
+pub fn settings_fault(p: u8, quota: u32) -> Result<(), Refusal>
     ensures { result ≡ first_found (setting_passes p quota) }
 {
     if outside(1, 16, p as u32) {
@@ -40,7 +40,7 @@ pub fn settings_fault(p: u8, quota: u32) -> Found
     if outside(1, 16777215, quota) {
         return refuse(21, 0);
     }
-    Found::Nothing
+    Ok(())
 }
 
 // The table's own checks, then 20, 21 and 44, over any bytes; and how many bytes the filled-out table has, 0 where the table as given runs. The working memory may hold anything, and is
@@ -57,7 +57,7 @@ pub fn begin_fault(
 {
     if outside(1, 16, p as u32) {
         let found = checks::check_in(table, rises, falls);
-        if let Found::At(_) = found {
+        if let Err(_) = found {
             return Filling { found, bytes: 0 };
         }
         return Filling {
@@ -74,10 +74,8 @@ pub(crate) fn fill_next(bytes: &[u8], n: usize, next: &mut [u16; 1024])
     requires next_value { next.old ≡ replicate 1024 0 }
     ensures { next.new ≡ filled 1024 (firsts (table_of bytes.now).first 0 n) }
 {
-    let mut t = 0;
-    while t < n {
+    for t in 0..n {
         next[t] = read::first(bytes, t) as u16;
-        t += 1;
     }
 }
 

@@ -46,12 +46,10 @@ pub(crate) fn next_in_bodies(table: &[u8], n: usize, next: &[u16; 1024]) -> bool
     requires { Accepted table.now n }
     ensures { result ≡ all_below (next_in_body (table_of table.now) next.now) n }
 {
-    let mut t = 0;
-    while t < n {
+    for t in 0..n {
         if !next_in_body(table, t, next) {
             return false;
         }
-        t += 1;
     }
     true
 }
@@ -86,14 +84,12 @@ pub(crate) fn fill_forks(table: &[u8], n: usize, forks: &mut [u16; 1024], parent
     ensures parents_after { parents.new ≡ parents_in (table_of table.now) }
 {
     let mut a = 0;
-    let mut t = 0;
-    while t < n {
+    for t in 0..n {
         let stop = a + read::count(table, t);
         while a < stop {
             note_fork(table, n, t, a, forks, parents);
             a += 1;
         }
-        t += 1;
     }
 }
 
@@ -165,12 +161,10 @@ fn thread_in_order(
     if is_unborn(t, forks, parents, next, status) {
         return stop <= first;
     }
-    let mut a = first;
-    while a < stop {
+    for a in first..stop {
         if !join_done(table, n, a, next, status) {
             return false;
         }
-        a += 1;
     }
     true
 }
@@ -190,12 +184,10 @@ pub(crate) fn in_order(
     requires parents { Parents (table_of table.now) parents.now }
     ensures { result ≡ all_below (in_order (table_of table.now) next.now status.now) (table_of table.now).actions }
 {
-    let mut t = 0;
-    while t < n {
+    for t in 0..n {
         if !thread_in_order(table, n, t, forks, parents, next, status) {
             return false;
         }
-        t += 1;
     }
     true
 }
@@ -240,12 +232,10 @@ pub(crate) fn statuses_follow(
     requires parents { Parents (table_of table.now) parents.now }
     ensures { result ≡ all_below (status_follows (table_of table.now) next.now status.now) n }
 {
-    let mut t = 0;
-    while t < n {
+    for t in 0..n {
         if !status_follows(table, t, forks, parents, next, status) {
             return false;
         }
-        t += 1;
     }
     true
 }
@@ -279,12 +269,10 @@ pub(crate) fn waits_at_joins(
     requires placed { Placed table.now n next.now }
     ensures { result ≡ all_below (waits_at_join (table_of table.now) next.now status.now) n }
 {
-    let mut t = 0;
-    while t < n {
+    for t in 0..n {
         if !waits_at_join(table, n, t, next, status) {
             return false;
         }
-        t += 1;
     }
     true
 }

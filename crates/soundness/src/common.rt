@@ -16,7 +16,7 @@ use crate::holders::{busy_right, one_holder_each, workers_right};
 use crate::shares::amounts_right;
 use crate::unused::unused_right;
 use schedule::Worker;
-use table::{Found, read};
+use table::read;
 
 // Next actions, the order of what is done, statuses, waiting threads, threads not in use.
 fn threads_sound(
@@ -82,7 +82,7 @@ fn common_holds(
     ensures { result ≡ common_sound table.now p quota next.now status.now amounts.now workers busy held highest }
 {
     let found = settings_fault(p, quota);
-    if let Found::At(_) = found {
+    if let Err(_) = found {
         return false;
     }
     if !threads_sound(table, n, forks, parents, next, status) {
@@ -124,7 +124,7 @@ fn common_parts(
     *forks = [0; 1024];
     *parents = [0; 1024];
     let found = checks::check_in(table, rises, falls);
-    if let Found::At(_) = found {
+    if let Err(_) = found {
         return false;
     }
     let n = read::threads(table);

@@ -20,12 +20,10 @@ fn counts_right(n: usize, status: &[u8; 1024], counts: &[u8; 1024]) -> bool
     requires { n ≤ 1024 }
     ensures { result ≡ all_below (λ t. eqb (get_or counts.now t 0) (holders_wanted (get_or status.now t 0))) n }
 {
-    let mut t = 0;
-    while t < n {
+    for t in 0..n {
         if counts[t] != holders_wanted(status[t]) {
             return false;
         }
-        t += 1;
     }
     true
 }
@@ -65,12 +63,10 @@ fn worker_right(n: usize, p: u8, quota: u32, w: usize, x: Worker) -> bool
 pub(crate) fn workers_right(n: usize, p: u8, quota: u32, workers: [Worker; 16]) -> bool
     ensures { result ≡ all_below (worker_right n p quota workers) 16 }
 {
-    let mut w = 0;
-    while w < 16 {
+    for w in 0..16 {
         if !worker_right(n, p, quota, w, workers[w]) {
             return false;
         }
-        w += 1;
     }
     true
 }

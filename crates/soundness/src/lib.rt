@@ -11,7 +11,6 @@ use crate::blank::is_blank;
 use crate::sound::sound;
 use filling::{Filling, fill_in};
 use schedule::Run;
-use table::Found;
 
 mod amounts;
 mod beginning;
@@ -81,7 +80,7 @@ pub fn accept_in(
     *parents = [0; 1024];
     let filling = begin_fault(table, p, quota, rises, falls);
     let found = filling.found;
-    if let Found::At(_) = found {
+    if let Err(_) = found {
         return filling;
     }
     let k = filling.bytes;

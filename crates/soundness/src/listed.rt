@@ -14,14 +14,12 @@ fn mark_listed(n: usize, list: &[u16; 1024], len: usize, marks: &mut [bool; 1024
     ensures false_after { result ≡ true → (t : ℕ) → get_or marks.new t false ≡ member t (take len list.now) }
 {
     let threads = n as u16;
-    let mut i = 0;
-    while i < len {
+    for i in 0..len {
         let t = list[i];
         if threads <= t {
             return false;
         }
         marks[t as usize] = true;
-        i += 1;
     }
     true
 }
@@ -37,12 +35,10 @@ fn marks_right(n: usize, status: &[u8; 1024], marks: &[bool; 1024]) -> bool
     requires { n ≤ 1024 }
     ensures { result ≡ all_below (λ t. agree (get_or marks.now t false) (live_in status.now t)) n }
 {
-    let mut t = 0;
-    while t < n {
+    for t in 0..n {
         if marks[t] != is_live(status[t]) {
             return false;
         }
-        t += 1;
     }
     true
 }

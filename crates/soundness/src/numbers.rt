@@ -35,10 +35,8 @@ fn thread_length(table: &[u8], n: usize, t: usize, lengths: &[u16; 1024]) -> usi
 {
     let last = end_of(table, t);
     let mut total = 1;
-    let mut a = read::first(table, t);
-    while a < last {
+    for a in read::first(table, t)..last {
         total += span(table, n, a, lengths);
-        a += 1;
     }
     total
 }
@@ -89,10 +87,8 @@ fn advance(
     ensures { NumbersTo (table_of table.now) (owner (table_of table.now) from) to result numbers.old numbers.new }
 {
     let mut number = start;
-    let mut a = from;
-    while a < to {
+    for a in from..to {
         number = pass(table, n, a, number, numbers);
-        a += 1;
     }
     number
 }
@@ -130,10 +126,8 @@ fn fill_numbers(table: &[u8], n: usize, next: &[u16; 1024], numbers: &mut [u16; 
 {
     numbers[0] = 0;
     let mut first = 0;
-    let mut t = 0;
-    while t < n {
+    for t in 0..n {
         first = number_thread(table, n, t, first, next, numbers);
-        t += 1;
     }
 }
 

@@ -44,10 +44,8 @@ fn thread_balance(table: &[u8], n: usize, t: usize, stop: usize, balances: &[u64
     ensures { Balanced table.now t stop stop result }
 {
     let mut sum = 0;
-    let mut a = read::first(table, t);
-    while a < stop {
+    for a in read::first(table, t)..stop {
         sum = balance_after(table, n, t, stop, a, sum, balances);
-        a += 1;
     }
     sum
 }
@@ -107,15 +105,11 @@ fn clear_joined(
     requires balances { Balances (table_of table.now) next.now status.now amounts.old 0 }
     ensures { amounts.new ≡ shares_in (table_of table.now) next.now status.now }
 {
-    let mut t = 0;
-    while t < n {
+    for t in 0..n {
         let stop = done_to(t, next, status);
-        let mut a = read::first(table, t);
-        while a < stop {
+        for a in read::first(table, t)..stop {
             clear_child(table, n, a, next, status, amounts);
-            a += 1;
         }
-        t += 1;
     }
 }
 
@@ -124,12 +118,10 @@ fn same_amounts(amounts: &[u64], others: &[u64; 1024]) -> bool
     requires { (length amounts.now ≡ 1024) × (length others.now ≡ 1024) }
     ensures { result ≡ same_list amounts.now others.now }
 {
-    let mut t = 0;
-    while t < 1024 {
+    for t in 0..1024 {
         if amounts[t] != others[t] {
             return false;
         }
-        t += 1;
     }
     true
 }

@@ -10,15 +10,13 @@ pub(crate) fn unused_right(n: usize, next: &[u16], status: &[u8]) -> bool
     requires { (length next.now ≡ 1024) × (length status.now ≡ 1024) }
     ensures { result ≡ all_below (λ t. ltb t n || unused next.now status.now t) 1024 }
 {
-    let mut t = n;
-    while t < 1024 {
+    for t in n..1024 {
         if status[t] != UNBORN {
             return false;
         }
         if next[t] != 0 {
             return false;
         }
-        t += 1;
     }
     true
 }
@@ -27,12 +25,10 @@ pub(crate) fn unused_right(n: usize, next: &[u16], status: &[u8]) -> bool
 pub fn bytes_rest(bytes: &[u8], used: usize) -> bool
     ensures { result ≡ same_list bytes.now (filled (length bytes.now) (take used bytes.now)) }
 {
-    let mut i = used;
-    while i < bytes.len() {
+    for i in used..bytes.len() {
         if bytes[i] != 0 {
             return false;
         }
-        i += 1;
     }
     true
 }
@@ -41,12 +37,10 @@ pub fn bytes_rest(bytes: &[u8], used: usize) -> bool
 pub(crate) fn zero_numbers(l: &[u16]) -> bool
     ensures { result ≡ same_list l.now (replicate (length l.now) 0) }
 {
-    let mut t = 0;
-    while t < l.len() {
+    for t in 0..l.len() {
         if l[t] != 0 {
             return false;
         }
-        t += 1;
     }
     true
 }
@@ -55,12 +49,10 @@ pub(crate) fn zero_numbers(l: &[u16]) -> bool
 pub(crate) fn zero_amounts(l: &[u64]) -> bool
     ensures { result ≡ same_list l.now (replicate (length l.now) 0) }
 {
-    let mut t = 0;
-    while t < l.len() {
+    for t in 0..l.len() {
         if l[t] != 0 {
             return false;
         }
-        t += 1;
     }
     true
 }

@@ -1,4 +1,5 @@
 -- A worker that goes on with its thread, on arrays in which the deques stand: its action leaves the reply and the state of `act_deques`, and the deques stand in the arrays after it.
+use Rattle.std.specs.Prelude.{Ok}
 use mathlib.Core.Path.{◌≡◌, refl, sym, ap, subst, fun_ext, ◌∙◌}
 use Prim.Native.Nat.{ℕ, ◌+◌, ◌-◌, ◌^◌, ◌≤◌, ◌<◌}
 use mathlib.Core.List.Memᴰ
@@ -16,7 +17,6 @@ use Rattle.table.specs.Format.{Kind, end, work, alloc, free, fork, join, unknown
 use Rattle.table.specs.Rules.{Rules}
 use Rattle.table.specs.Level.{fork_below}
 use Rattle.table.specs.Pass.{first_found}
-use Rattle.table.specs.declared.Found.TheVariants.{Nothing}
 use Rattle.table.proofs.Bodies.{kind_known}
 use Rattle.schedule.specs.declared.Worker.{Worker}
 use Rattle.schedule.specs.declared.Reply.{Reply}
@@ -69,7 +69,7 @@ pub record Follows (w : ℕ) (workers : List Worker) (turns : ℕ) (o : Outcome)
 pub linked_by_lem : (k : Links) (l l' : List ℕ) → l' ≡ l → LinkedAs k l → LinkedAs k l'
 linked_by_lem k l l' e h = subst (λ (z : List ℕ). LinkedAs k z) (sym e) h
 
-module _ (s : List ℕ) (rules : Rules s) (p K : ℕ) (begins : first_found (setting_passes p K) ≡ Nothing) (parents : List ℕ) (par : Parents (table_of s) parents)
+module _ (s : List ℕ) (rules : Rules s) (p K : ℕ) (begins : first_found (setting_passes p K) ≡ Ok tt) (parents : List ℕ) (par : Parents (table_of s) parents)
     (w : ℕ) (below : w < p) (A : Arrays) (totals : Totals) (workers : List Worker) (turns : ℕ) (front rest : List Deque) (k : List ℕ)
     (clear : owned_by w front ≡ 0) (alone : owned_by w rest ≡ 0)
     (X : Kept (table_of s) p K (over (state_at A totals workers turns) (front ++ deque w k ∷ rest)))
@@ -479,7 +479,7 @@ module _ (s : List ℕ) (rules : Rules s) (p K : ℕ) (begins : first_found (set
   acts_here = rw (lt-ltb t 1024 small) (by_kind (kind (table_of s) a) refl)
 
 -- a worker that goes on with its thread, on arrays in which the deques stand
-module _ (s : List ℕ) (rules : Rules s) (p K : ℕ) (begins : first_found (setting_passes p K) ≡ Nothing) (parents : List ℕ) (par : Parents (table_of s) parents)
+module _ (s : List ℕ) (rules : Rules s) (p K : ℕ) (begins : first_found (setting_passes p K) ≡ Ok tt) (parents : List ℕ) (par : Parents (table_of s) parents)
     (w : ℕ) (below : w < p) (A : Arrays) (totals : Totals) (workers : List Worker) (turns : ℕ) where
   pub acts_follow : (ds : List Deque) → Kept (table_of s) p K (over (state_at A totals workers turns) ds) → LaidOut A totals (thread_of workers) ds → (get_or workers w nobody).holds ≡ true
       → Follows w workers turns (deque_in (table_of s) K parents A totals (get_or workers w nobody)) (act_deques (table_of s) K w (state_at A totals workers turns) ds)

@@ -1,4 +1,5 @@
 -- On memory in which a record of DFDeques stands, a turn is DFDeques': what is told, read as a turn of the record, is the record's turn, and the record after it stands in the memory left.
+use Rattle.std.specs.Prelude.{Err, Ok}
 use mathlib.Core.Path.{◌≡◌, refl, sym, ap, subst, ◌∙◌}
 use Prim.Native.Nat.{ℕ, suc, ◌+◌, ◌-◌, ◌^◌, ◌≤◌, ◌<◌}
 use native.Mathlib.Omega.{arith}
@@ -30,7 +31,6 @@ use Rattle.run_memory.specs.Stands.{workers_in, settled, run_in}
 use Rattle.run_memory.proofs.Refines.{sixteen, own_worker, truths_set, workers_after}
 use Rattle.deques.specs.declared.DequeRun.{DequeRun}
 use Rattle.deques.specs.declared.DequeTurned.{DequeTurned}
-use Rattle.deques.specs.declared.DequeTurning.TheVariants.{Taken, Refused}
 use Rattle.deques.specs.Deques.{DequeStep, over, deque_turn}
 use Rattle.deques.specs.Lines.{lines_of, bottoms_of, thread_of}
 use Rattle.deques.specs.DequeRecord.{deques_in, deques_of, lines_for, bottoms_for, deque_stored, blank_deques}
@@ -68,7 +68,7 @@ deques_room r h k e = rw ((deque_sound_exactly r).1 (record { steady = h; turns 
 
 -- what is told of a turn, read as a turn of the record
 abbrev pub deque_turned_by : List ℕ → Told → DequeTurned
-deque_turned_by s t = record { answer = pick (eqb t.number 0) (Taken t.reply) (Refused (refusal t.number 0)); run = deque_run_in s t.memory }
+deque_turned_by s t = record { answer = pick (eqb t.number 0) (Ok t.reply) (Err (refusal t.number 0)); run = deque_run_in s t.memory }
 
 pub record TurnsDeques (s : List ℕ) (r : DequeRun) (w c : ℕ) (t : Told) : Type 0 where
   pub as_turned : deque_turned_by s t ≡ deque_turned r w c
@@ -206,16 +206,16 @@ module _ (s : List ℕ) (M : Memory) (h : DequesStand s M) (w c : ℕ) where
     unfolding deque_turn_in
     told_so e = rw e taken_told
 
-    turned_taken : root_ended (run_in s M) ≡ false → record { answer = Taken O.reply; run = deque_run_in s (memory_after M w z) } ≡ deque_turned r w c
+    turned_taken : root_ended (run_in s M) ≡ false → record { answer = Ok O.reply; run = deque_run_in s (memory_after M w z) } ≡ deque_turned r w c
     unfolding deque_turned deque_checks try_at no_worker no_choice
     turned_taken o =
-        (λ j. record { answer = Taken (F.reply j); run = after j })
+        (λ j. record { answer = Ok (F.reply j); run = after j })
         ∙ rw (deques_room r h.steady h.turns_fit room, lt-ltb w p b, o, lt-ltb c p i)
 
   -- ---- refusals of the record
 
   abbrev refused_as : ℕ → DequeTurned
-  refused_as k = record { answer = Refused (refusal k 0); run = r }
+  refused_as k = record { answer = Err (refusal k 0); run = r }
 
   refuses_32 : unsound_deques r ≡ true → refused_as 32 ≡ deque_turned r w c
   unfolding deque_turned deque_checks try_at
@@ -258,7 +258,7 @@ module _ (s : List ℕ) (M : Memory) (h : DequesStand s M) (w c : ℕ) where
   deque_turn_refines = go (eqb (moved_in M).turns (2 ^ 64 - 1)) refl (ltb w (get_or M.settings 0 0)) refl (eqb (get_or M.arrays.status 0 0) ended) refl (ltb c (get_or M.settings 0 0)) refl
     where
       stop : (k : ℕ) → deque_hindrance (moved_in M).turns (get_or M.settings 0 0) w c (get_or M.arrays.status 0 0) ≡ suc k
-          → record { answer = Refused (refusal (suc k) 0); run = r } ≡ deque_turned r w c → TurnsDeques s r w c (deque_turn_in s w c M)
+          → record { answer = Err (refusal (suc k) 0); run = r } ≡ deque_turned r w c → TurnsDeques s r w c (deque_turn_in s w c M)
       stop k e d =
           subst (λ (t : Told). TurnsDeques s r w c t) (sym (hindered_so k e))
           (record { as_turned = rw (ne_eqb (suc k) 0 (λ y. omega (arith, y))) d; stands = h })

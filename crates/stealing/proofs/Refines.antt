@@ -1,4 +1,5 @@
 -- A turn on arrays in which the deques stand is the turn of DFDeques: the same reply, everything fits, and the deques after the turn stand in the arrays after it.
+use Rattle.std.specs.Prelude.{Ok}
 use mathlib.Core.Path.{◌≡◌, refl, sym, ap, subst, ◌∙◌}
 use Prim.Native.Nat.{ℕ, suc, ◌+◌, ◌≤◌, ◌<◌}
 use mathlib.Core.List.{List, [], ◌∷◌}
@@ -13,7 +14,6 @@ use Rattle.table.specs.Sum.{pick}
 use Rattle.table.specs.Format.{table_of}
 use Rattle.table.specs.Rules.{Rules}
 use Rattle.table.specs.Pass.{first_found}
-use Rattle.table.specs.declared.Found.TheVariants.{Nothing}
 use Rattle.table.proofs.Tests.{no_way}
 use Rattle.schedule.specs.declared.Worker.{Worker}
 use Rattle.schedule.specs.declared.Reply.TheVariants.{Idle}
@@ -50,7 +50,7 @@ goes_there i j k f o v z y a b c d = rw (a, b, c, d)
 goes_idle : (i j : Bool) (o z y : Outcome) → i ≡ true → j ≡ false → pick i (pick j o z) y ≡ z
 goes_idle i j o z y a b = rw (a, b)
 
-module _ (s : List ℕ) (rules : Rules s) (p K : ℕ) (begins : first_found (setting_passes p K) ≡ Nothing) (parents : List ℕ) (par : Parents (table_of s) parents)
+module _ (s : List ℕ) (rules : Rules s) (p K : ℕ) (begins : first_found (setting_passes p K) ≡ Ok tt) (parents : List ℕ) (par : Parents (table_of s) parents)
     (w : ℕ) (below : w < p) (A : Arrays) (totals : Totals) (workers : List Worker) (turns : ℕ) (ds : List Deque)
     (X : Kept (table_of s) p K (over (state_at A totals workers turns) ds)) (L : LaidOut A totals (thread_of workers) ds) (c : ℕ) (c16 : c < 16) where
   abbrev st : State

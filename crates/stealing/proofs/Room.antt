@@ -1,4 +1,5 @@
 -- On the arrays of a state that keeps what any kind of run keeps every number fits: AsyncDF's laws, at the same arrays with the links that its list would have.
+use Rattle.std.specs.Prelude.{Ok}
 use mathlib.Core.Path.{◌≡◌, refl, sym}
 use Prim.Native.Nat.{ℕ, ◌<◌}
 use mathlib.Core.List.{List, []}
@@ -6,7 +7,6 @@ use lib.ListN.{get_or}
 use Rattle.table.specs.Format.{Table, table_of}
 use Rattle.table.specs.Rules.{Rules}
 use Rattle.table.specs.Pass.{first_found}
-use Rattle.table.specs.declared.Found.TheVariants.{Nothing}
 use Rattle.schedule.specs.declared.Worker.{Worker}
 use Rattle.schedule.specs.Machine.{State, nobody}
 use Rattle.schedule.specs.Links.{Links, laid}
@@ -28,7 +28,7 @@ abbrev pub state_at : Arrays → Totals → List Worker → ℕ → State
 state_at A totals workers turns =
     record { next = A.next; status = A.status; amounts = A.amounts; list = []; workers = workers; held = totals.held; highest = totals.highest; turns = turns }
 
-module _ (s : List ℕ) (rules : Rules s) (p K : ℕ) (begins : first_found (setting_passes p K) ≡ Nothing) (w : ℕ) (below : w < p) (A : Arrays) (totals : Totals) (workers : List Worker)
+module _ (s : List ℕ) (rules : Rules s) (p K : ℕ) (begins : first_found (setting_passes p K) ≡ Ok tt) (w : ℕ) (below : w < p) (A : Arrays) (totals : Totals) (workers : List Worker)
     (turns : ℕ) (c : CommonIn (table_of s) p K (state_at A totals workers turns)) where
   abbrev T : Table
   T = table_of s

@@ -15,13 +15,11 @@ pub(crate) fn bottom_at(words: &[u16; 6163], c: usize) -> u16
     ensures { result ≡ along_by c ((words_in words.now).rows 5) (words_in words.now).first }
 {
     let mut b = head_at(words, FIRST);
-    let mut i = 0;
-    while i < c {
+    for i in 0..c {
         if NO_THREAD <= b {
             break;
         }
         b = row_at(words, OVER, b);
-        i += 1;
     }
     b
 }

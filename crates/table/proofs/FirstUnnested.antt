@@ -1,4 +1,6 @@
 -- A table is refused with 9 at action a exactly when no earlier check applies and a is the first action that breaks the paper's sentence on joins and ends.
+use Rattle.std.specs.Prelude.{Err, Ok, Result, ⊤}
+use Rattle.table.specs.declared.Facts.{Facts}
 use mathlib.Core.Path.{◌≡◌, refl, sym, ◌∙◌, ap}
 use mathlib.Core.Logic.{◌↔◌, ◌⊎◌, inl, inr}
 use Prim.Native.Nat.{ℕ, zero, suc, ◌+◌, ◌-◌, ◌≤◌, ◌<◌}
@@ -17,11 +19,7 @@ use Rattle.table.specs.Rules.{ContentRules, BodyRules}
 use Rattle.table.specs.JobTable.{Sized, InBody, Latest, BreaksNesting, not_latest, left_unjoined, FirstUnnested}
 use Rattle.table.specs.Load.{TableValues, values_of, loaded}
 use Rattle.table.specs.Cases.{swapped, refused, cases, worked}
-use Rattle.table.specs.declared.Loaded.{Loaded}
 use Rattle.table.specs.declared.Refusal.{Refusal}
-use Rattle.table.specs.declared.Found.{Found}
-use Rattle.table.specs.declared.Found.TheVariants.{Nothing, At}
-use Rattle.table.specs.declared.Loaded.TheVariants.{Accepted, Refused}
 use Rattle.table.proofs.Tests.{no_way, and_both, is_true, same_is}
 use Rattle.table.proofs.Trying.{Each, each_at, Leads, found, found_at, try_at_nothing, try_at_at, nothing_try_from, try_from_split, Lowest, try_from_at, Silent}
 use Rattle.table.proofs.Passes.{head_rules, content_rules, body_rules, found_exactly, refused_exactly}
@@ -113,28 +111,28 @@ module _ (T : Table) (c : ContentRules T) (b : BodyRules T) (a : ℕ) (h : a < T
 -- ---- the passes
 
 -- what is found at a place is found in a pass where nothing is found below it
-pass_at : (cs : List Check) (k a : ℕ) (r : Refusal) → a < k → ((j : ℕ) → j < a → try_at cs j ≡ Nothing) → try_at cs a ≡ At r → try_from cs 0 k ≡ At r
+pass_at : (cs : List Check) (k a : ℕ) (r : Refusal) → a < k → ((j : ℕ) → j < a → try_at cs j ≡ Ok tt) → try_at cs a ≡ Err r → try_from cs 0 k ≡ Err r
 unfolding try_from
 pass_at cs k a r h below e =
     let d : k ≡ a + suc (k - suc a) = omega arith in
-    let z : try_from cs 0 a ≡ Nothing = nothing_try_from cs 0 a (λ j l m. below j (omega arith)) in
+    let z : try_from cs 0 a ≡ (Ok tt) = nothing_try_from cs 0 a (λ j l m. below j (omega arith)) in
     let i : 0 + a ≡ a = omega arith in
     rw (d, try_from_split cs 0 a (suc (k - suc a)), z, i, e)
 
 -- the second pass at an action
-second_nine : (T : Table) (a : ℕ) → forked_before T a ≡ false → (join_not_latest T a ≡ true) ⊎ (end_with_open T a ≡ true) → try_at (second_pass T).checks a ≡ At (refusal 9 a)
+second_nine : (T : Table) (a : ℕ) → forked_before T a ≡ false → (join_not_latest T a ≡ true) ⊎ (end_with_open T a ≡ true) → try_at (second_pass T).checks a ≡ Err (refusal 9 a)
 unfolding try_at
 second_nine T a f (inl j) = rw (f, j)
 second_nine T a f (inr e) = go (join_not_latest T a) refl
   where
-    go : (s : Bool) → join_not_latest T a ≡ s → try_at (second_pass T).checks a ≡ At (refusal 9 a)
+    go : (s : Bool) → join_not_latest T a ≡ s → try_at (second_pass T).checks a ≡ Err (refusal 9 a)
     go true q = rw (f, q)
     go false q = rw (f, q, e)
 
-second_silent : (T : Table) (j : ℕ) → try_at (second_pass T).checks j ≡ Nothing → (forked_before T j ≡ false) × (join_not_latest T j ≡ false) × (end_with_open T j ≡ false)
+second_silent : (T : Table) (j : ℕ) → try_at (second_pass T).checks j ≡ Ok tt → (forked_before T j ≡ false) × (join_not_latest T j ≡ false) × (end_with_open T j ≡ false)
 second_silent T j e = let q : Silent (second_pass T).checks j = (try_at_nothing (second_pass T).checks j).0 e in (q.0, q.1.0, q.1.1.0)
 
-silent_second : (T : Table) (j : ℕ) → forked_before T j ≡ false → join_not_latest T j ≡ false → end_with_open T j ≡ false → try_at (second_pass T).checks j ≡ Nothing
+silent_second : (T : Table) (j : ℕ) → forked_before T j ≡ false → join_not_latest T j ≡ false → end_with_open T j ≡ false → try_at (second_pass T).checks j ≡ Ok tt
 silent_second T j f q e = (try_at_nothing (second_pass T).checks j).1 (f, (q, (e, tt)))
 
 -- 9 is found by the second pass alone, after its 8
@@ -144,62 +142,62 @@ row_nine T a =
     ((λ n t. absurd (omega arith)), ((λ n t. inl t), ((λ n t. inr t), tt)))
 
 -- what a pass finds
-pass_finds : (p : Pass) (r : Refusal) → try_pass p ≡ At r → Lowest p.checks p.from p.places r
+pass_finds : (p : Pass) (r : Refusal) → try_pass p ≡ Err r → Lowest p.checks p.from p.places r
 unfolding try_pass
 pass_finds p r e = try_from_at p.checks p.from p.places r e
 
-row_finds : (cs : List Check) (a n : ℕ) → try_at cs a ≡ At (refusal n a) → (j : ℕ) × (c : Check) × (get_elem? cs j ≡ some c) × (c.number ≡ n) × (c.applies a ≡ true)
+row_finds : (cs : List Check) (a n : ℕ) → try_at cs a ≡ Err (refusal n a) → (j : ℕ) × (c : Check) × (get_elem? cs j ≡ some c) × (c.number ≡ n) × (c.applies a ≡ true)
 row_finds cs a n e =
     let l : Leads (found a) cs (refusal n a) = try_at_at cs a (refusal n a) e in
     let (t, q) = found_at (l.element.applies a) (refusal l.element.number a) (refusal n a) l.finds in
     (l.index, l.element, l.there, ap (λ (x : Refusal). x.number) q, t)
 
 -- a pass with no row of that number finds none of it
-pass_without : (n a : ℕ) (p : Pass) → Each (λ c. c.number ≡ n → ⊥) p.checks → try_pass p ≡ At (refusal n a) → ⊥
+pass_without : (n a : ℕ) (p : Pass) → Each (λ c. c.number ≡ n → ⊥) p.checks → try_pass p ≡ Err (refusal n a) → ⊥
 pass_without n a p f e =
     let (j, c, there, k, t) = row_finds p.checks a n (pass_finds p (refusal n a) e).here in
     each_at (λ c. c.number ≡ n → ⊥) p.checks f j c there k
 
-either : (f g : Found) (r : Refusal) → or_else f g ≡ At r → (f ≡ At r) ⊎ ((f ≡ Nothing) × (g ≡ At r))
-either Nothing g r e = inr (refl, e)
-either (At q) g r e = inl e
+either : (f g : Result ⊤ Refusal) (r : Refusal) → or_else f g ≡ Err r → (f ≡ Err r) ⊎ ((f ≡ Ok tt) × (g ≡ Err r))
+either (Ok _) g r e = inr (refl, e)
+either (Err q) g r e = inl e
 
 -- a pass that cannot have found it, and so found nothing
-passed_by : (n a : ℕ) (p : Pass) (g : Found) → Each (λ c. c.number ≡ n → ⊥) p.checks → or_else (try_pass p) g ≡ At (refusal n a) → (try_pass p ≡ Nothing) × (g ≡ At (refusal n a))
+passed_by : (n a : ℕ) (p : Pass) (g : Result ⊤ Refusal) → Each (λ c. c.number ≡ n → ⊥) p.checks → or_else (try_pass p) g ≡ Err (refusal n a) → (try_pass p ≡ Ok tt) × (g ≡ Err (refusal n a))
 passed_by n a p g f e = go (either (try_pass p) g (refusal n a) e)
   where
-    go : (try_pass p ≡ At (refusal n a)) ⊎ ((try_pass p ≡ Nothing) × (g ≡ At (refusal n a))) → (try_pass p ≡ Nothing) × (g ≡ At (refusal n a))
+    go : (try_pass p ≡ Err (refusal n a)) ⊎ ((try_pass p ≡ Ok tt) × (g ≡ Err (refusal n a))) → (try_pass p ≡ Ok tt) × (g ≡ Err (refusal n a))
     go (inl q) = absurd (pass_without n a p f q)
     go (inr q) = q
 
 record PassesNine (s : List ℕ) (a : ℕ) : Type 0 where
-  head : try_pass (head_pass s) ≡ Nothing
-  entries : try_pass (entries_pass (table_of s)) ≡ Nothing
-  total : try_pass (total_pass (table_of s)) ≡ Nothing
-  first : try_pass (first_pass (table_of s)) ≡ Nothing
-  second : try_pass (second_pass (table_of s)) ≡ At (refusal 9 a)
+  head : try_pass (head_pass s) ≡ Ok tt
+  entries : try_pass (entries_pass (table_of s)) ≡ Ok tt
+  total : try_pass (total_pass (table_of s)) ≡ Ok tt
+  first : try_pass (first_pass (table_of s)) ≡ Ok tt
+  second : try_pass (second_pass (table_of s)) ≡ Err (refusal 9 a)
 
-passes_nine : (s : List ℕ) (a : ℕ) → (first_found (passes s) ≡ At (refusal 9 a)) ↔ PassesNine s a
+passes_nine : (s : List ℕ) (a : ℕ) → (first_found (passes s) ≡ Err (refusal 9 a)) ↔ PassesNine s a
 unfolding passes first_found
 passes_nine s a = (to, from)
   where
     T : Table
     T = table_of s
 
-    after : Found
-    after = or_else (try_pass (forked_pass T)) (or_else (try_pass (balance_pass T)) Nothing)
+    after : Result ⊤ Refusal
+    after = or_else (try_pass (forked_pass T)) (or_else (try_pass (balance_pass T)) (Ok tt))
 
-    last : or_else (try_pass (second_pass T)) after ≡ At (refusal 9 a) → try_pass (second_pass T) ≡ At (refusal 9 a)
+    last : or_else (try_pass (second_pass T)) after ≡ Err (refusal 9 a) → try_pass (second_pass T) ≡ Err (refusal 9 a)
     last e = go (either (try_pass (second_pass T)) after (refusal 9 a) e)
       where
-        go : (try_pass (second_pass T) ≡ At (refusal 9 a)) ⊎ ((try_pass (second_pass T) ≡ Nothing) × (after ≡ At (refusal 9 a))) → try_pass (second_pass T) ≡ At (refusal 9 a)
+        go : (try_pass (second_pass T) ≡ Err (refusal 9 a)) ⊎ ((try_pass (second_pass T) ≡ Ok tt) × (after ≡ Err (refusal 9 a))) → try_pass (second_pass T) ≡ Err (refusal 9 a)
         go (inl q) = q
         go (inr q) =
-            let f = passed_by 9 a (forked_pass T) (or_else (try_pass (balance_pass T)) Nothing) ((λ n. omega arith), tt) q.1 in
-            let b = passed_by 9 a (balance_pass T) Nothing ((λ n. omega arith), tt) f.1 in
+            let f = passed_by 9 a (forked_pass T) (or_else (try_pass (balance_pass T)) (Ok tt)) ((λ n. omega arith), tt) q.1 in
+            let b = passed_by 9 a (balance_pass T) (Ok tt) ((λ n. omega arith), tt) f.1 in
             no_way (cc b.1)
 
-    to : first_found (passes s) ≡ At (refusal 9 a) → PassesNine s a
+    to : first_found (passes s) ≡ Err (refusal 9 a) → PassesNine s a
     to e =
         let h = passed_by 9 a (head_pass s) _ ((λ n. omega arith), ((λ n. omega arith), ((λ n. omega arith), tt))) e in
         let c = passed_by 9 a (entries_pass T) _ ((λ n. omega arith), tt) h.1 in
@@ -207,7 +205,7 @@ passes_nine s a = (to, from)
         let f = passed_by 9 a (first_pass T) _ ((λ n. omega arith), ((λ n. omega arith), ((λ n. omega arith), tt))) t.1 in
         record { head = h.0; entries = c.0; total = t.0; first = f.0; second = last f.1 }
 
-    from : PassesNine s a → first_found (passes s) ≡ At (refusal 9 a)
+    from : PassesNine s a → first_found (passes s) ≡ Err (refusal 9 a)
     from p = rw (p.head, p.entries, p.total, p.first, p.second)
 
 -- ---- the statement
@@ -302,7 +300,7 @@ module _ (s : List ℕ) (a : ℕ) where
       no_end j l c b h n true e = absurd (f.kept j l (end_breaks T c b j (omega arith) (silent_nested T j n) e))
 
 -- "A join names the latest child that its thread has forked and not yet joined; at its end a thread has none left unjoined.": 9 exactly at the first action that breaks it, where no earlier check applies
-pub refused_nine : (s : List ℕ) (a : ℕ) → (loaded s ≡ Refused (refusal 9 a)) ↔ FirstUnnested s a
+pub refused_nine : (s : List ℕ) (a : ℕ) → (loaded s ≡ Err (refusal 9 a)) ↔ FirstUnnested s a
 refused_nine s a =
     let e = refused_exactly s (refusal 9 a) in
     let f = found_exactly (passes s) (refusal 9 a) in
@@ -319,13 +317,13 @@ swapped_row = cc worked
 pub swapped_unnested : FirstUnnested swapped 2
 swapped_unnested = (refused_nine swapped 2).0 (go (loaded swapped) refl)
   where
-    go : (a : Loaded) → loaded swapped ≡ a → loaded swapped ≡ Refused (refusal 9 2)
-    go (Accepted f) e =
+    go : (a : Result Facts Refusal) → loaded swapped ≡ a → loaded swapped ≡ Err (refusal 9 2)
+    go (Ok f) e =
         let v : values_of (loaded swapped) ≡ (refused swapped 9 2).values = swapped_row in
-        absurd (omega (arith, ap (λ (v : TableValues). v.number) v, ap (λ (a : Loaded). (values_of a).number) e))
-    go (Refused r) e =
+        absurd (omega (arith, ap (λ (v : TableValues). v.number) v, ap (λ (a : Result Facts Refusal). (values_of a).number) e))
+    go (Err r) e =
         let v : values_of (loaded swapped) ≡ (refused swapped 9 2).values = swapped_row in
-        let n : r.number ≡ 9 = sym (ap (λ (a : Loaded). (values_of a).number) e) ∙ ap (λ (v : TableValues). v.number) v in
-        let q : r.place ≡ 2 = sym (ap (λ (a : Loaded). (values_of a).place) e) ∙ ap (λ (v : TableValues). v.place) v in
+        let n : r.number ≡ 9 = sym (ap (λ (a : Result Facts Refusal). (values_of a).number) e) ∙ ap (λ (v : TableValues). v.number) v in
+        let q : r.place ≡ 2 = sym (ap (λ (a : Result Facts Refusal). (values_of a).place) e) ∙ ap (λ (v : TableValues). v.place) v in
         let d : r ≡ refusal 9 2 = λ i. record { number = n i; place = q i } in
-        e ∙ ap Refused d
+        e ∙ ap Err d

@@ -1,4 +1,6 @@
 -- A table is accepted exactly when it is a job table in the paper's words, and then with its n, m, S1 and D.
+use Rattle.std.specs.Prelude.{Err, Ok, Result}
+use Rattle.table.specs.declared.Refusal.{Refusal}
 use mathlib.Core.Path.{◌≡◌, refl, sym, ◌∙◌}
 use mathlib.Core.Logic.{◌↔◌}
 use Prim.Native.Nat.{ℕ, ◌<◌}
@@ -11,8 +13,6 @@ use Rattle.table.specs.Load.{facts_of, loaded}
 use Rattle.table.specs.declared.Facts.{Facts}
 use Rattle.table.specs.Cases.{E, overfreed}
 use Rattle.table.specs.Wrong.{refuses_all_wrong, accepts_all_wrong}
-use Rattle.table.specs.declared.Loaded.{Loaded}
-use Rattle.table.specs.declared.Loaded.TheVariants.{Accepted, Refused}
 use Rattle.table.proofs.Passes.{accepted_exactly, accepted_facts}
 use Rattle.table.proofs.Balances.{balance_is, balance_only, balance_natural}
 use Rattle.table.proofs.WellFormed.{head_sized, contents_laid, laid_contents, bodies_exactly}
@@ -78,7 +78,7 @@ parent_lower s j t c a q =
     p.0
 
 -- what loading accepts: the job tables, each with its own facts
-pub accepted_job_table : (s : List ℕ) (f : Facts) → (loaded s ≡ Accepted f) ↔ (JobTable s × (f ≡ facts_of (table_of s)))
+pub accepted_job_table : (s : List ℕ) (f : Facts) → (loaded s ≡ Ok f) ↔ (JobTable s × (f ≡ facts_of (table_of s)))
 accepted_job_table s f = (
   (λ h.
       let e : f ≡ facts_of (table_of s) = accepted_facts s f h in
@@ -91,9 +91,9 @@ accepted_job_table s f = (
 pub e_job_table : JobTable E
 e_job_table = go (loaded E) refl
   where
-    go : (a : Loaded) → loaded E ≡ a → JobTable E
-    go (Accepted f) e = ((accepted_job_table E f).0 e).0
-    go (Refused r) e = absurd (refuses_all_wrong r e)
+    go : (a : Result Facts Refusal) → loaded E ≡ a → JobTable E
+    go (Ok f) e = ((accepted_job_table E f).0 e).0
+    go (Err r) e = absurd (refuses_all_wrong r e)
 
 pub overfreed_no_job_table : JobTable overfreed → ⊥
 overfreed_no_job_table j = accepts_all_wrong (facts_of (table_of overfreed)) ((accepted_job_table overfreed (facts_of (table_of overfreed))).1 (j, refl))

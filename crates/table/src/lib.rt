@@ -23,19 +23,6 @@ pub struct Refusal {
     pub place: u16,
 }
 
-#[derive(Drop)]
-pub enum Loaded {
-    Accepted(Facts),
-    Refused(Refusal),
-}
-
-// What a pass over the table finds.
-#[derive(Clone, Copy)]
-pub enum Found {
-    Nothing,
-    At(Refusal),
-}
-
 // The larger of two amounts.
 pub fn larger(a: u64, b: u64) -> u64
     ensures { result ≡ max a b }

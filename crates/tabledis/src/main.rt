@@ -1,11 +1,9 @@
 // Reads a table on standard input and writes its text. Where it is refused, nothing is written but a line on standard error that says why.
 #![tactic(auto)]
 
-use assembly::Disassembled;
 use std::io;
 use std::io::Write;
 use streams::{large_buffer, read_full};
-use table::Loaded;
 
 fn main(rt: HostRuntime) -> io::Result<()> {
     // More than the longest table: what lies beyond is refused for its length all the same.
@@ -14,10 +12,10 @@ fn main(rt: HostRuntime) -> io::Result<()> {
     let mut listing = [0u8; 266240];
     let answer = assembly::disassemble(&buffer[..n], &mut listing);
     match answer {
-        Disassembled::Listed(k) => { rt.stdout().write_all(&listing[..k]) }
-        Disassembled::Refused(r) => {
+        Ok(k) => { rt.stdout().write_all(&listing[..k]) }
+        Err(r) => {
             let mut line = [0u8; 80];
-            let k = text::table_line(Loaded::Refused(r), &mut line);
+            let k = text::table_line(Err(r), &mut line);
             rt.stderr().write_all(&line[..k])
         }
     }

@@ -1,12 +1,10 @@
 -- Numbers and lines as text, in ASCII codes, and text that is put into a buffer.
-use Rattle.std.specs.Prelude.{ℕ, zero, suc, ◌+◌, ◌/◌, ◌%◌, ◌≡◌, refl, List, [], ◌∷◌, ◌++◌, cond, leb, length, take, drop}
+use Rattle.std.specs.Prelude.{ℕ, zero, suc, ◌+◌, ◌/◌, ◌%◌, ◌≡◌, refl, List, [], ◌∷◌, ◌++◌, cond, leb, length, take, drop, Err, Ok, Result}
 use Prim.Native.Char.{code}
 use Prim.Native.String.{String}
 use Prim.Native.String.{[] as none, ◌∷◌ as ◌then◌}
 use Rattle.table.specs.declared.Facts.{Facts}
 use Rattle.table.specs.declared.Refusal.{Refusal}
-use Rattle.table.specs.declared.Loaded.{Loaded}
-use Rattle.table.specs.declared.Loaded.TheVariants.{Accepted, Refused}
 
 -- ---- a text
 
@@ -79,25 +77,25 @@ abbrev pub refused_of : Refusal → List ℕ → ℕ → List (List ℕ)
 refused_of r label i = refused_word ∷ decimal r.number ∷ space ∷ decimal r.place ∷ label ∷ decimal i ∷ newline ∷ []
 
 -- the only line or the header of a listing
-abbrev pub line_of : Loaded → List ℕ
-line_of (Accepted f) = accepted_line f
-line_of (Refused r) = refused_line r
+abbrev pub line_of : Result Facts Refusal → List ℕ
+line_of (Ok f) = accepted_line f
+line_of (Err r) = refused_line r
 
 -- the line that tells all that loading answered
-abbrev pub facts_line_of : Loaded → List ℕ
-facts_line_of (Accepted f) = nested_line f
-facts_line_of (Refused r) = refused_line r
+abbrev pub facts_line_of : Result Facts Refusal → List ℕ
+facts_line_of (Ok f) = nested_line f
+facts_line_of (Err r) = refused_line r
 
-accepted_example : line_of (Accepted (record { threads = 3; actions = 12; peak = 6; depth = 8; nested = 2 })) ≡ ascii "table 3 12 serial 6 depth 8\n"
+accepted_example : line_of (Ok (record { threads = 3; actions = 12; peak = 6; depth = 8; nested = 2 })) ≡ ascii "table 3 12 serial 6 depth 8\n"
 unfolding accepted_line decimal digits_of
 accepted_example = refl
 
-nested_example : facts_line_of (Accepted (record { threads = 3; actions = 12; peak = 6; depth = 8; nested = 2 }))
+nested_example : facts_line_of (Ok (record { threads = 3; actions = 12; peak = 6; depth = 8; nested = 2 }))
     ≡ ascii "table 3 12 serial 6 depth 8 nested 2\n"
 unfolding nested_line decimal digits_of
 nested_example = refl
 
-refused_example : line_of (Refused (record { number = 10; place = 1 })) ≡ ascii "refused 10 1\n"
+refused_example : line_of (Err (record { number = 10; place = 1 })) ≡ ascii "refused 10 1\n"
 unfolding refused_line decimal digits_of
 refused_example = refl
 

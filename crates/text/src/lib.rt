@@ -7,7 +7,7 @@ ghost use Rattle.text.specs.Text.{decimal, line_of, facts_line_of, facts_text, a
 ghost use Rattle.text.specs.Puts.{put_all};
 ghost use Rattle.text.specs.Text.{refused_of};
 
-use table::{Facts, Loaded, Refusal};
+use table::{Facts, Refusal};
 
 // Puts a word at a position, and answers the position after it. A word that does not fit is not put.
 pub fn put_word(out: &mut [u8], at: usize, word: &[u8]) -> usize
@@ -45,27 +45,27 @@ pub fn put_labelled(out: &mut [u8], at: usize, label: &[u8], n: u64) -> usize
 }
 
 // The line that tells what loading a table answered as a listing does, and its length.
-pub fn table_line(answer: Loaded, out: &mut [u8; 80]) -> usize
+pub fn table_line(answer: Result<Facts, Refusal>, out: &mut [u8; 80]) -> usize
     ensures value { result ≡ length (line_of answer) }
     ensures out_after { out.new ≡ line_of answer ++ drop result out.old }
     ensures prefix_len { IsPrefixLen result out.new }
     ensures upper_bound { result ≤ 64 }
 {
     match answer {
-        Loaded::Accepted(facts) => accepted_line(facts, out),
-        Loaded::Refused(refusal) => refused_line(refusal, out),
+        Ok(facts) => accepted_line(facts, out),
+        Err(refusal) => refused_line(refusal, out),
     }
 }
 
 // The line that tells all of it, and its length.
-pub fn facts_line(answer: Loaded, out: &mut [u8; 80]) -> usize
+pub fn facts_line(answer: Result<Facts, Refusal>, out: &mut [u8; 80]) -> usize
     ensures value { result ≡ length (facts_line_of answer) }
     ensures out_after { out.new ≡ facts_line_of answer ++ drop result out.old }
     ensures prefix_len { IsPrefixLen result out.new }
 {
     match answer {
-        Loaded::Accepted(facts) => nested_line(facts, out),
-        Loaded::Refused(refusal) => refused_line(refusal, out),
+        Ok(facts) => nested_line(facts, out),
+        Err(refusal) => refused_line(refusal, out),
     }
 }
 

@@ -1,4 +1,5 @@
 -- The answer to any bytes, check by check.
+use Rattle.std.specs.Prelude.{Err}
 use mathlib.Core.Path.{◌≡◌, sym, ◌∙◌}
 use Prim.Native.Nat.{ℕ, ◌≤◌, ◌<◌}
 use mathlib.Core.List.{List, [], ◌∷◌}
@@ -11,8 +12,6 @@ use Rattle.table.specs.Checks.{outside, passes}
 use Rattle.table.specs.Rules.{Rules}
 use Rattle.table.specs.Load.{loaded}
 use Rattle.table.specs.declared.Refusal.{Refusal}
-use Rattle.table.specs.declared.Found.TheVariants.{Nothing, At}
-use Rattle.table.specs.declared.Loaded.TheVariants.{Refused as refused}
 use Rattle.table.proofs.Trying.{or_else_last}
 use Rattle.table.proofs.Passes.{first_found_append, found_exactly, passes_rules, refused_exactly}
 use Rattle.schedule.specs.Record.{max_workers}
@@ -47,10 +46,10 @@ module _ (s : List ℕ) (p b M : ℕ) where
   unfolding first_found
   found_own = first_found_append (passes s) (settings (workers_check p ∷ gap_check b ∷ []) ∷ []) ∙ rw (or_else_last (try_pass (settings (workers_check p ∷ gap_check b ∷ []))))
 
-  pub refused_own : (r : Refusal) → loaded s ≡ refused r → Refused r ≡ fitted s p b M
+  pub refused_own : (r : Refusal) → loaded s ≡ Err r → Refused r ≡ fitted s p b M
   unfolding fitted
   refused_own r e =
-      let f : first_found (passes s) ≡ At r = (found_exactly (passes s) r).1 ((refused_exactly s r).0 e) in
+      let f : first_found (passes s) ≡ Err r = (found_exactly (passes s) r).1 ((refused_exactly s r).0 e) in
       rw (found_own, f)
 
   pub own_whole : Rules s → own_answer s p b M ≡ fitted s p b M

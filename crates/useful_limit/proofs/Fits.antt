@@ -1,5 +1,6 @@
 -- What `fitquota` answers is what is asked: the largest quota in the range whose useful limit is at most M, and that limit (`fit_exactly`); or, where there is none, the least that any in the
 -- range needs, and the least such quota (`short_exactly`).
+use Rattle.std.specs.Prelude.{Err, Ok, Result, ⊤}
 use mathlib.Core.Path.{◌≡◌, refl, sym, ap, ◌∙◌}
 use mathlib.Core.Logic.Iff
 use mathlib.Core.Logic.{◌↔◌, ◌⊎◌, inl, inr, by_cases}
@@ -15,8 +16,6 @@ use Rattle.table.specs.Format.{Table, table_of}
 use Rattle.table.specs.Pass.{or_else, refusal, try_pass, first_found}
 use Rattle.table.specs.Checks.{outside, passes}
 use Rattle.table.specs.declared.Refusal.{Refusal}
-use Rattle.table.specs.declared.Found.{Found}
-use Rattle.table.specs.declared.Found.TheVariants.{Nothing, At}
 use Rattle.table.proofs.Tests.{no_way}
 use Rattle.table.proofs.Sizes.{inside}
 use Rattle.table.proofs.Trying.{or_else_nothing, or_else_last}
@@ -138,23 +137,23 @@ module _ (T : Table) (p b M : ℕ) (r : InRange T (least_quota T)) where
 
 -- ---- the answer to any bytes
 
-fitted_fits : (f : Found) (x : Fitted) (K X : ℕ) → (fitted_as f x ≡ Fits K X) ↔ ((f ≡ Nothing) × (x ≡ Fits K X))
-fitted_fits Nothing x K X = ((λ h. (refl, h)), (λ h. h.1))
-fitted_fits (At r) x K X = ((λ h. no_way (cc)), (λ h. no_way (cc)))
+fitted_fits : (f : Result ⊤ Refusal) (x : Fitted) (K X : ℕ) → (fitted_as f x ≡ Fits K X) ↔ ((f ≡ Ok tt) × (x ≡ Fits K X))
+fitted_fits (Ok _) x K X = ((λ h. (refl, h)), (λ h. h.1))
+fitted_fits (Err r) x K X = ((λ h. no_way (cc)), (λ h. no_way (cc)))
 
-fitted_short : (f : Found) (x : Fitted) (K X : ℕ) → (fitted_as f x ≡ Short K X) ↔ ((f ≡ Nothing) × (x ≡ Short K X))
-fitted_short Nothing x K X = ((λ h. (refl, h)), (λ h. h.1))
-fitted_short (At r) x K X = ((λ h. no_way (cc)), (λ h. no_way (cc)))
+fitted_short : (f : Result ⊤ Refusal) (x : Fitted) (K X : ℕ) → (fitted_as f x ≡ Short K X) ↔ ((f ≡ Ok tt) × (x ≡ Short K X))
+fitted_short (Ok _) x K X = ((λ h. (refl, h)), (λ h. h.1))
+fitted_short (Err r) x K X = ((λ h. no_way (cc)), (λ h. no_way (cc)))
 
 module _ (s : List ℕ) (p b : ℕ) where
-  own_passed : (try_pass (settings (workers_check p ∷ gap_check b ∷ [])) ≡ Nothing) ↔ ((outside 1 max_workers p ≡ false) × (ltb max_gap b ≡ false))
+  own_passed : (try_pass (settings (workers_check p ∷ gap_check b ∷ [])) ≡ Ok tt) ↔ ((outside 1 max_workers p ≡ false) × (ltb max_gap b ≡ false))
   own_passed =
       Iff.trans (try_pass_from_0 1 (workers_check p ∷ gap_check b ∷ [])) (
         (λ h. (h.0 0 (omega arith), h.1.0 0 (omega arith))),
         (λ h. ((λ i l. h.0), ((λ i l. h.1), tt))),
       )
 
-  pub all_passed : (first_found (fit_passes s p b) ≡ Nothing) ↔ Asked s p b
+  pub all_passed : (first_found (fit_passes s p b) ≡ Ok tt) ↔ Asked s p b
   unfolding first_found
   all_passed =
       rw (first_found_append (passes s) (settings (workers_check p ∷ gap_check b ∷ []) ∷ []), or_else_last (try_pass (settings (workers_check p ∷ gap_check b ∷ []))))

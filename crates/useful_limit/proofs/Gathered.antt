@@ -1,4 +1,5 @@
 -- The few numbers of an accepted table: that they are small, and what the code's parts come to.
+use Rattle.std.specs.Prelude.{Err, Ok}
 use mathlib.Core.Path.{◌≡◌, refl, sym, ap, ◌∙◌}
 use Prim.Native.Nat.{ℕ, ◌+◌, ◌-◌, ◌*◌, ◌≤◌, ◌<◌}
 use native.Mathlib.Omega.{arith}
@@ -26,7 +27,6 @@ use Rattle.peaks.specs.Rests.{resting_peak, parallel_peak}
 use Rattle.peaks.specs.Rests.{stretch as stretch_of}
 use Rattle.peaks.proofs.PeakSizes.{peak_bound}
 use Rattle.peaks.proofs.OneWorker.{one_worker}
-use Rattle.peak_walk.specs.declared.Peaked.TheVariants.{Given, Refused}
 use Rattle.peak_walk.specs.Peaked.{standing, peaked, paralleled}
 use Rattle.peak_walk.specs.Along.{since_rest, rise_along}
 use Rattle.peak_walk.proofs.RiseAlong.{since_small, rise_along_lem}
@@ -60,28 +60,28 @@ module _ (s : List ℕ) (rules : Rules s) where
 
   -- ---- the code's parts
 
-  pub peak_given : (load : ℕ) (resting : Bool) {v : ℕ} → load ≤ 16 → Given v ≡ peaked s load resting → v ≡ peak_on (table_of s) (standing (table_of s) resting) 0 load
+  pub peak_given : (load : ℕ) (resting : Bool) {v : ℕ} → load ≤ 16 → Ok v ≡ peaked s load resting → v ≡ peak_on (table_of s) (standing (table_of s) resting) 0 load
   unfolding peaked
   peak_given load resting {v} h e =
-      let d : Given v ≡ Given (peak_on T (standing T resting) 0 load) = rw ((passes_rules s).1 rules, le-ltb 16 load h) at e in
+      let d : Ok v ≡ Ok (peak_on T (standing T resting) 0 load) = rw ((passes_rules s).1 rules, le-ltb 16 load h) at e in
       cc
 
-  pub peak_refused : (load : ℕ) (resting : Bool) {x : Refusal} → load ≤ 16 → Refused x ≡ peaked s load resting → ⊥
+  pub peak_refused : (load : ℕ) (resting : Bool) {x : Refusal} → load ≤ 16 → Err x ≡ peaked s load resting → ⊥
   unfolding peaked
   peak_refused load resting {x} h e =
-      let d : Refused x ≡ Given (peak_on T (standing T resting) 0 load) = rw ((passes_rules s).1 rules, le-ltb 16 load h) at e in
+      let d : Err x ≡ Ok (peak_on T (standing T resting) 0 load) = rw ((passes_rules s).1 rules, le-ltb 16 load h) at e in
       no_way (cc)
 
-  pub parallel_given : {v : ℕ} → Given v ≡ paralleled s → v ≡ parallel_peak (table_of s)
+  pub parallel_given : {v : ℕ} → Ok v ≡ paralleled s → v ≡ parallel_peak (table_of s)
   unfolding paralleled
   parallel_given {v} e =
-      let d : Given v ≡ Given (parallel_peak T) = rw ((passes_rules s).1 rules) at e in
+      let d : Ok v ≡ Ok (parallel_peak T) = rw ((passes_rules s).1 rules) at e in
       cc
 
-  pub parallel_refused : {x : Refusal} → Refused x ≡ paralleled s → ⊥
+  pub parallel_refused : {x : Refusal} → Err x ≡ paralleled s → ⊥
   unfolding paralleled
   parallel_refused {x} e =
-      let d : Refused x ≡ Given (parallel_peak T) = rw ((passes_rules s).1 rules) at e in
+      let d : Err x ≡ Ok (parallel_peak T) = rw ((passes_rules s).1 rules) at e in
       no_way (cc)
 
   pub resting_is : (p : ℕ) {x y : ℕ} → x ≡ peak_on (table_of s) (standing (table_of s) true) 0 (p - 1) → y ≡ rise_along (table_of s) → x + p * y ≡ resting_peak (table_of s) p

@@ -1,4 +1,5 @@
 -- What a quota that fits is good for: a beginning with it is accepted, the table as given runs, and its useful limit is at most M.
+use Rattle.std.specs.Prelude.{Ok}
 use mathlib.Core.Path.{◌≡◌}
 use Prim.Native.Nat.{ℕ, ◌≤◌, ◌<◌}
 use native.Mathlib.Omega.{arith}
@@ -8,11 +9,9 @@ use Rattle.table.specs.Format.{Table, table_of}
 use Rattle.table.specs.Pass.{first_found}
 use Rattle.table.specs.Checks.{alloc_of, passes}
 use Rattle.table.specs.Rules.{Rules}
-use Rattle.table.specs.declared.Found.TheVariants.{Nothing}
 use Rattle.table.proofs.Passes.{first_found_append, first_found_nothing, passes_rules, try_pass_from_0}
 use Rattle.filling.specs.Filled.{big, filled_out, overfull}
 use Rattle.filling.proofs.FilledTable.{in_place}
-use Rattle.schedule.specs.declared.Beginning.TheVariants.{Begun as started}
 use Rattle.schedule.specs.Record.{max_workers}
 use Rattle.schedule.specs.Begin.{max_quota, begin_passes, begin, start_run}
 use Rattle.peaks.specs.Rests.{useful_limit}
@@ -24,7 +23,7 @@ use Rattle.useful_limit.specs.Fit.{fitted}
 use Rattle.useful_limit.proofs.Fits.{fit_exactly}
 
 -- no check of a beginning applies to a quota in range
-begin_passed : (T : Table) (p K : ℕ) → 1 ≤ p → p ≤ max_workers → InRange T K → first_found (begin_passes T p K) ≡ Nothing
+begin_passed : (T : Table) (p K : ℕ) → 1 ≤ p → p ≤ max_workers → InRange T K → first_found (begin_passes T p K) ≡ Ok tt
 unfolding big overfull
 begin_passed T p K low high r =
     let l = (least_exactly T K).0 r.low in
@@ -37,15 +36,15 @@ begin_passed T p K low high r =
 pub record Begins (s : List ℕ) (p K : ℕ) : Type 0 where
   pub small : (a : ℕ) → a < (table_of s).actions → alloc_of (table_of s) a ≤ K
   pub in_place : filled_out s K ≡ s
-  pub found : first_found (passes s ++ begin_passes (table_of s) p K) ≡ Nothing
-  pub begun : begin s p K ≡ record { answer = started; run = start_run s p K }
+  pub found : first_found (passes s ++ begin_passes (table_of s) p K) ≡ Ok tt
+  pub begun : begin s p K ≡ record { answer = Ok tt; run = start_run s p K }
 
 pub range_begins : (s : List ℕ) (p K : ℕ) → Rules s → 1 ≤ p → p ≤ max_workers → InRange (table_of s) K → Begins s p K
 unfolding begin
 range_begins s p K rules low high r =
     let small : (a : ℕ) → a < (table_of s).actions → alloc_of (table_of s) a ≤ K = ((least_exactly (table_of s) K).0 r.low).1 in
     let place : filled_out s K ≡ s = in_place s K small in
-    let found : first_found (passes s ++ begin_passes (table_of s) p K) ≡ Nothing =
+    let found : first_found (passes s ++ begin_passes (table_of s) p K) ≡ (Ok tt) =
     rw (first_found_append (passes s) (begin_passes (table_of s) p K), (passes_rules s).1 rules, begin_passed (table_of s) p K low high r) in
     record { small = small; in_place = place; found = found; begun = rw (found, place) }
 

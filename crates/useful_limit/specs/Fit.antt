@@ -1,13 +1,12 @@
 -- What `fitquota` answers to any bytes, p, b and M: first as it is asked, over all K in the range, then as it is computed. `fit_exactly` and `short_exactly` (proofs/Fits) say that the
 -- two are the same.
-use Rattle.std.specs.Prelude.{ℕ, ◌≤◌, ◌<◌, max, List, [], ◌∷◌, ◌++◌, Bool, ◌&&◌, ◌||◌, ltb, leb, eqb}
+use Rattle.std.specs.Prelude.{ℕ, ◌≤◌, ◌<◌, max, List, [], ◌∷◌, ◌++◌, Bool, ◌&&◌, ◌||◌, ltb, leb, eqb, Err, Ok, Result, ⊤}
+use Rattle.table.specs.declared.Refusal.{Refusal}
 use Rattle.table.specs.Sum.{pick}
 use Rattle.table.specs.Format.{Table, table_of}
 use Rattle.table.specs.Pass.{Pass, first_found}
 use Rattle.table.specs.Checks.{passes}
 use Rattle.table.specs.Rules.{Rules}
-use Rattle.table.specs.declared.Found.{Found}
-use Rattle.table.specs.declared.Found.TheVariants.{Nothing, At}
 use Rattle.schedule.specs.Record.{max_workers}
 use Rattle.schedule.specs.Begin.{max_quota}
 use Rattle.peaks.specs.Rests.{stretch, useful_limit}
@@ -78,9 +77,9 @@ own_fit T p b M = pick (no_fit T p b M) (short_with T p b (least_need T p b)) (f
 abbrev pub fit_passes : List ℕ → ℕ → ℕ → List Pass
 fit_passes s p b = passes s ++ (settings (workers_check p ∷ gap_check b ∷ []) ∷ [])
 
-abbrev pub fitted_as : Found → Fitted → Fitted
-fitted_as Nothing x = x
-fitted_as (At r) x = Refused r
+abbrev pub fitted_as : Result ⊤ Refusal → Fitted → Fitted
+fitted_as (Ok _) x = x
+fitted_as (Err r) x = Refused r
 
 unfoldable pub fitted : List ℕ → ℕ → ℕ → ℕ → Fitted
 fitted s p b M = fitted_as (first_found (fit_passes s p b)) (own_fit (table_of s) p b M)

@@ -1,5 +1,7 @@
 -- Worked cases, computed on the definitions.
-use Rattle.std.specs.Prelude.{◌≡◌, refl, ℕ}
+use Rattle.std.specs.Prelude.{◌≡◌, refl, ℕ, Err, Ok, Result}
+use Rattle.useful_limit.specs.declared.Numbers.{Numbers}
+use Rattle.table.specs.declared.Refusal.{Refusal}
 use mathlib.Core.List.{List, [], ◌∷◌, flatten, map}
 use Rattle.table.specs.Sum.{sum_to, sum_over, greatest, greatest_to, any_below}
 use Rattle.table.specs.Format.{code_of, kind_of, is, table_of}
@@ -15,9 +17,6 @@ use Rattle.schedule.specs.Memory.{limit}
 use Rattle.peaks.specs.Peak.{fresh, gain, most, peak_there, peak_within, workers_peak}
 use Rattle.peaks.specs.Rests.{stretch_begins, rests, drawn_before, stretch, covered, rested, rise, R, resting_peak, useful_limit, best_within, parallel_peak}
 use Rattle.quota.specs.Quota.{least_quota, cost_of, most_within, most_quota, no_quota}
-use Rattle.useful_limit.specs.declared.Limits.{Limits}
-use Rattle.useful_limit.specs.declared.Limits.TheVariants.{Given}
-use Rattle.useful_limit.specs.declared.Limits.TheVariants.{Refused as NoLimits}
 use Rattle.useful_limit.specs.declared.Fitted.{Fitted}
 use Rattle.useful_limit.specs.declared.Fitted.TheVariants.{Fits, Short, Refused}
 use Rattle.useful_limit.specs.Limits.{numbers_of, limits}
@@ -30,13 +29,13 @@ pub record LimitsCase : Type 0 where
   pub workers : ℕ
   pub quota : ℕ
   pub gap : ℕ
-  pub answer : Limits
+  pub answer : Result Numbers Refusal
 
-abbrev said : ℕ → ℕ → ℕ → Limits → LimitsCase
+abbrev said : ℕ → ℕ → ℕ → Result Numbers Refusal → LimitsCase
 said p K b x = record { bytes = E; workers = p; quota = K; gap = b; answer = x }
 
-abbrev five : ℕ → ℕ → ℕ → ℕ → ℕ → Limits
-five memory serial peak parallel drawn = Given (record { memory = memory; serial = serial; peak = peak; parallel = parallel; stretch = drawn })
+abbrev five : ℕ → ℕ → ℕ → ℕ → ℕ → Result Numbers Refusal
+five memory serial peak parallel drawn = Ok (record { memory = memory; serial = serial; peak = peak; parallel = parallel; stretch = drawn })
 
 unfoldable pub limits_cases : List LimitsCase
 unfolding code_of
@@ -46,12 +45,12 @@ limits_cases =
     ∷ said 2 5 1 (five 12 6 12 12 0)
     ∷ said 1 6 0 (five 6 6 6 12 6)
     -- the order of the checks: the table's own, 20, 41, 21, 44
-    ∷ record { bytes = overfreed; workers = 0; quota = 0; gap = 65536; answer = NoLimits (refusal 10 1) }
-    ∷ said 0 0 65536 (NoLimits (refusal 20 0))
-    ∷ said 17 0 65536 (NoLimits (refusal 20 0))
-    ∷ said 2 0 65536 (NoLimits (refusal 41 0))
-    ∷ said 2 0 65535 (NoLimits (refusal 21 0))
-    ∷ said 2 16777216 0 (NoLimits (refusal 21 0))
+    ∷ record { bytes = overfreed; workers = 0; quota = 0; gap = 65536; answer = Err (refusal 10 1) }
+    ∷ said 0 0 65536 (Err (refusal 20 0))
+    ∷ said 17 0 65536 (Err (refusal 20 0))
+    ∷ said 2 0 65536 (Err (refusal 41 0))
+    ∷ said 2 0 65535 (Err (refusal 21 0))
+    ∷ said 2 16777216 0 (Err (refusal 21 0))
     ∷ []
 
 pub limits_worked : map (λ (c : LimitsCase). limits c.bytes c.workers c.quota c.gap) limits_cases ≡ map (λ (c : LimitsCase). c.answer) limits_cases

@@ -1,12 +1,11 @@
 -- What `memlimit` says of any bytes, p, K and b: five numbers of the table that runs.
-use Rattle.std.specs.Prelude.{ℕ, List, [], ◌∷◌, ◌++◌, ◌&&◌, length, ltb}
+use Rattle.std.specs.Prelude.{ℕ, List, [], ◌∷◌, ◌++◌, ◌&&◌, length, ltb, Err, Ok, Result, ⊤}
+use Rattle.table.specs.declared.Refusal.{Refusal}
 use Rattle.table.specs.Sum.{pick, any_below}
 use Rattle.table.specs.Format.{Table, table_of}
 use Rattle.table.specs.Pass.{Check, Pass, refusal, first_found}
 use Rattle.table.specs.Checks.{outside, passes}
 use Rattle.table.specs.Serial.{S1}
-use Rattle.table.specs.declared.Found.{Found}
-use Rattle.table.specs.declared.Found.TheVariants.{Nothing, At}
 use Rattle.schedule.specs.Record.{max_workers}
 use Rattle.schedule.specs.Begin.{max_quota}
 use Rattle.order.specs.Words.{is_nothing}
@@ -16,8 +15,6 @@ use Rattle.peaks.specs.Peak.{workers_peak}
 use Rattle.peaks.specs.Rests.{stretch as stretch_of, useful_limit, parallel_peak}
 use Rattle.quota.specs.Quota.{max_gap}
 use Rattle.useful_limit.specs.declared.Numbers.{Numbers}
-use Rattle.useful_limit.specs.declared.Limits.{Limits}
-use Rattle.useful_limit.specs.declared.Limits.TheVariants.{Given, Refused}
 
 -- 20: p outside 1 to 16
 abbrev pub workers_check : ℕ → Check
@@ -43,12 +40,12 @@ unfoldable pub numbers_of : Table → ℕ → ℕ → ℕ → Numbers
 numbers_of T p K b =
     record { memory = useful_limit T p K b; serial = S1 T; peak = workers_peak T p; parallel = parallel_peak T; stretch = stretch_of T K }
 
-abbrev pub limits_as : Found → Numbers → Limits
-limits_as Nothing x = Given x
-limits_as (At r) x = Refused r
+abbrev pub limits_as : Result ⊤ Refusal → Numbers → Result Numbers Refusal
+limits_as (Ok _) x = Ok x
+limits_as (Err r) x = Err r
 
 -- of the table that runs, filled out for K
-unfoldable pub limits : List ℕ → ℕ → ℕ → ℕ → Limits
+unfoldable pub limits : List ℕ → ℕ → ℕ → ℕ → Result Numbers Refusal
 limits s p K b = limits_as (first_found (limit_passes s p K b)) (numbers_of (table_of (filled_out s K)) p K b)
 
 -- ---- in lent memory
@@ -58,8 +55,8 @@ abbrev pub room_for : List ℕ → ℕ → ℕ
 room_for s K = pick (any_below (big (table_of s) K) (table_of s).actions) (length (filled_out s K)) 0
 
 -- 61, after 44: too little room is lent for the filled-out table
-unfoldable pub limits_in : List ℕ → ℕ → ℕ → ℕ → ℕ → Limits
-limits_in s p K b room = pick (is_nothing (first_found (limit_passes s p K b)) && ltb room (room_for s K)) (Refused (refusal 61 0)) (limits s p K b)
+unfoldable pub limits_in : List ℕ → ℕ → ℕ → ℕ → ℕ → Result Numbers Refusal
+limits_in s p K b room = pick (is_nothing (first_found (limit_passes s p K b)) && ltb room (room_for s K)) (Err (refusal 61 0)) (limits s p K b)
 
 -- the lent buffer after it: as it was where a check applies
 abbrev pub limits_into : List ℕ → ℕ → ℕ → ℕ → List ℕ → List ℕ

@@ -1,14 +1,12 @@
 -- What `memlimit` and `fitquota` print, from the bytes that they read; one line out.
-use Rattle.std.specs.Prelude.{◌≡◌, refl, ℕ, List, ◌++◌, length, drop, ltb}
+use Rattle.std.specs.Prelude.{◌≡◌, refl, ℕ, List, ◌++◌, length, drop, ltb, Err, Ok, Result}
+use Rattle.table.specs.declared.Refusal.{Refusal}
 use Rattle.table.specs.Sum.{pick}
 use Rattle.table.specs.Format.{u24_at, u32_at}
 use Rattle.table.specs.Pass.{refusal}
 use Rattle.text.specs.Text.{ascii, digits_of, decimal, newline, refused_line}
 use Rattle.quota.specs.Line.{workers_in, gap_in, memory_in}
 use Rattle.useful_limit.specs.declared.Numbers.{Numbers}
-use Rattle.useful_limit.specs.declared.Limits.{Limits}
-use Rattle.useful_limit.specs.declared.Limits.TheVariants.{Given}
-use Rattle.useful_limit.specs.declared.Limits.TheVariants.{Refused as NoLimits}
 use Rattle.useful_limit.specs.declared.Fitted.{Fitted}
 use Rattle.useful_limit.specs.declared.Fitted.TheVariants.{Fits, Short, Refused}
 use Rattle.useful_limit.specs.Limits.{limits}
@@ -16,8 +14,8 @@ use Rattle.useful_limit.specs.Fit.{fitted}
 
 -- ---- memlimit: the bytes of `runrounds` with b for L, p 1 byte, K 3, b 4, a table; under 8 bytes 33
 
-unfoldable pub limits_to : List ℕ → Limits
-limits_to s = pick (ltb (length s) 8) (NoLimits (refusal 33 0)) (limits (drop 8 s) (workers_in s) (u24_at s 1) (u32_at s 4))
+unfoldable pub limits_to : List ℕ → Result Numbers Refusal
+limits_to s = pick (ltb (length s) 8) (Err (refusal 33 0)) (limits (drop 8 s) (workers_in s) (u24_at s 1) (u32_at s 4))
 
 unfoldable pub numbers_line : Numbers → List ℕ
 numbers_line x =
@@ -25,11 +23,11 @@ numbers_line x =
     ++ decimal x.stretch
     ++ newline
 
-abbrev pub limits_line : Limits → List ℕ
-limits_line (Given x) = numbers_line x
-limits_line (NoLimits r) = refused_line r
+abbrev pub limits_line : Result Numbers Refusal → List ℕ
+limits_line (Ok x) = numbers_line x
+limits_line (Err r) = refused_line r
 
-limits_example : limits_line (Given (record { memory = 12; serial = 6; peak = 12; parallel = 12; stretch = 0 })) ≡ ascii "memory 12 serial 6 peak 12 parallel 12 stretch 0\n"
+limits_example : limits_line (Ok (record { memory = 12; serial = 6; peak = 12; parallel = 12; stretch = 0 })) ≡ ascii "memory 12 serial 6 peak 12 parallel 12 stretch 0\n"
 unfolding numbers_line decimal digits_of
 limits_example = refl
 

@@ -10,7 +10,7 @@ ghost use Rattle.useful_limit.specs.Code.Parts.{Sums, parts_of};
 
 use crate::Parts;
 use peak_walk::along::{rise, stretch};
-use peak_walk::{Peaked, parallel_in, peak_in};
+use peak_walk::{parallel_in, peak_in};
 use quota::allocs::least_quota;
 use table::Facts;
 
@@ -29,8 +29,8 @@ fn peak_at(
 {
     let answer = peak_in(table, load, resting, rises, falls, peaks, rows);
     match answer {
-        Peaked::Given(peak) => peak,
-        Peaked::Refused(_) => 0,
+        Ok(peak) => peak,
+        Err(_) => 0,
     }
 }
 
@@ -57,8 +57,8 @@ pub(crate) fn parallel_at(table: &[u8], rises: &mut [u64; 1024], falls: &mut [u6
 {
     let answer = parallel_in(table, rises, falls);
     match answer {
-        Peaked::Given(peak) => peak,
-        Peaked::Refused(_) => 0,
+        Ok(peak) => peak,
+        Err(_) => 0,
     }
 }
 

@@ -22,7 +22,7 @@ use limit::limit_answer;
 pub use limit::wide_fault;
 use line::{answer_line, answer_to, limit_to, limits_line};
 use quota::outside;
-use table::{Facts, Loaded, Refusal};
+use table::{Facts, Refusal};
 
 // What is said of the table that runs: the useful limit, S1, S_p, the parallel peak, and the most that a stretch draws under K.
 #[derive(Drop)]
@@ -32,12 +32,6 @@ pub struct Numbers {
     pub peak: u64,
     pub parallel: u64,
     pub stretch: u64,
-}
-
-#[derive(Drop)]
-pub enum Limits {
-    Given(Numbers),
-    Refused(Refusal),
 }
 
 // The largest quota and the limit with it; or, where none fits, the quota that needs the least, and how much; or the check that applies.
@@ -74,7 +68,7 @@ pub fn limit_in(
     depths: &mut [u16; 1024],
     peaks: &mut [u64; 17408],
     rows: &mut [u64; 17408],
-) -> Limits
+) -> Result<Numbers, Refusal>
     ensures value { result ≡ limits_in table.now p quota b (length filled.old) }
     ensures filled_after { filled.new ≡ limits_into table.now p quota b filled.old }
     ensures rises_after { (rises.new ≡ replicate 1024 0) × (falls.new ≡ replicate 1024 0) × (serials.new ≡ replicate 1024 0) × (depths.new ≡ replicate 1024 0)
@@ -156,8 +150,8 @@ fn answer(
 {
     let loaded = facts::load_in(table, rises, falls, serials, depths);
     match loaded {
-        Loaded::Refused(r) => Fitted::Refused(r),
-        Loaded::Accepted(facts) => fit_for(table, facts, p, b, memory, rises, falls, peaks, rows),
+        Err(r) => Fitted::Refused(r),
+        Ok(facts) => fit_for(table, facts, p, b, memory, rises, falls, peaks, rows),
     }
 }
 

@@ -1,5 +1,5 @@
 // What `memlimit` says: the checks in their order, the table that runs, and its numbers.
-ghost use Rattle.std.specs.Prelude.{◌≡◌, ◌≤◌, length, replicate};
+ghost use Rattle.std.specs.Prelude.{◌≡◌, ◌≤◌, length, replicate, Ok};
 ghost use Rattle.table.specs.Format.{table_of};
 ghost use Rattle.table.specs.Pass.{first_found};
 ghost use Rattle.table.specs.Checks.{outside as is_outside, passes};
@@ -10,12 +10,12 @@ ghost use Rattle.useful_limit.specs.Code.Parts.{Asked, wide_fault};
 
 use crate::fit::need;
 use crate::gather::{parallel_at, parts};
-use crate::{Limits, Numbers};
+use crate::Numbers;
 use checks::check_in;
 use filling::fill_in;
 use quota::outside;
 use soundness::begin_fault;
-use table::{Facts, Found, Loaded, Refusal};
+use table::{Facts, Refusal};
 
 // Of an accepted table.
 fn numbers(
@@ -56,14 +56,14 @@ fn numbers_for(
     depths: &mut [u16; 1024],
     peaks: &mut [u64; 17408],
     rows: &mut [u64; 17408],
-) -> Limits
+) -> Result<Numbers, Refusal>
     requires { Rules table.now × Asked p quota b }
-    ensures { result ≡ Limits.Given (numbers_of (table_of table.now) p quota b) }
+    ensures { result ≡ Ok (numbers_of (table_of table.now) p quota b) }
 {
     let loaded = facts::load_in(table, rises, falls, serials, depths);
     match loaded {
-        Loaded::Refused(r) => Limits::Refused(r),
-        Loaded::Accepted(facts) => Limits::Given(numbers(
+        Err(r) => Err(r),
+        Ok(facts) => Ok(numbers(
             table, facts, p, quota, b, rises, falls, peaks, rows,
         )),
     }
@@ -81,7 +81,7 @@ pub fn wide_fault(
     ensures rises_after { (rises.new ≡ replicate 1024 0) × (falls.new ≡ replicate 1024 0) }
 {
     let found = check_in(table, rises, falls);
-    if let Found::At(r) = found {
+    if let Err(r) = found {
         return r;
     }
     if outside(1, 16, p as u32) {
@@ -106,17 +106,17 @@ pub(crate) fn limit_answer(
     depths: &mut [u16; 1024],
     peaks: &mut [u64; 17408],
     rows: &mut [u64; 17408],
-) -> Limits
+) -> Result<Numbers, Refusal>
     ensures value { result ≡ limits_in table.now p quota b (length filled.old) }
     ensures filled_after { filled.new ≡ limits_into table.now p quota b filled.old }
 {
     if 65535 < b {
-        return Limits::Refused(wide_fault(table, p, 41, rises, falls));
+        return Err(wide_fault(table, p, 41, rises, falls));
     }
     let filling = begin_fault(table, p, quota, rises, falls);
     let found = filling.found;
-    if let Found::At(r) = found {
-        return Limits::Refused(r);
+    if let Err(r) = found {
+        return Err(r);
     }
     let k = filling.bytes;
     if k == 0 {
@@ -125,7 +125,7 @@ pub(crate) fn limit_answer(
         );
     }
     if filled.len() < k {
-        return Limits::Refused(Refusal {
+        return Err(Refusal {
             number: 61,
             place: 0,
         });

@@ -6,11 +6,11 @@ ghost use Rattle.useful_limit.specs.Limits.{limits};
 ghost use Rattle.useful_limit.specs.Fit.{fitted};
 ghost use Rattle.useful_limit.specs.Line.{limits_to, numbers_line, limits_line, fitted_to, fits_line, short_line, fitted_line};
 
-use crate::{Fitted, Limits, Numbers, fit_in, limit_in, refuse};
+use crate::{Fitted, Numbers, fit_in, limit_in, refuse};
 use lines::put_answer;
 use quota::line::{gap_in, memory_in};
 use table::read::{byte, word};
-use table::{Loaded, Refusal};
+use table::Refusal;
 use text::{put_labelled, put_word};
 
 // In working memory of its own.
@@ -81,14 +81,14 @@ pub(crate) fn answer_line(answer: Fitted, out: &mut [u8; 80]) -> usize
     match answer {
         Fitted::Fits { quota, memory } => fits_line(quota, memory, out),
         Fitted::Short { quota, memory } => short_line(quota, memory, out),
-        Fitted::Refused(refusal) => text::table_line(Loaded::Refused(refusal), out),
+        Fitted::Refused(refusal) => text::table_line(Err(refusal), out),
     }
 }
 
 // ---- memlimit
 
 // In working memory of its own.
-fn limit_whole(table: &[u8], p: u8, quota: u32, b: u32) -> Limits
+fn limit_whole(table: &[u8], p: u8, quota: u32, b: u32) -> Result<Numbers, Refusal>
     ensures { result ≡ limits table.now p quota b }
 {
     let mut filled = [0u8; 36868];
@@ -134,11 +134,11 @@ pub fn number_in(input: &[u8]) -> u32
 }
 
 // Check 33, and the answer where it does not apply.
-pub(crate) fn limit_to(input: &[u8]) -> Limits
+pub(crate) fn limit_to(input: &[u8]) -> Result<Numbers, Refusal>
     ensures { result ≡ limits_to input.now }
 {
     if input.len() < 8 {
-        return Limits::Refused(Refusal {
+        return Err(Refusal {
             number: 33,
             place: 0,
         });
@@ -165,13 +165,13 @@ fn numbers_line(x: Numbers, out: &mut [u8; 160]) -> usize
 }
 
 // The line of an answer, and its length.
-pub(crate) fn limits_line(answer: Limits, out: &mut [u8; 160]) -> usize
+pub(crate) fn limits_line(answer: Result<Numbers, Refusal>, out: &mut [u8; 160]) -> usize
     ensures value { result ≡ length (limits_line answer) }
     ensures out_after { out.new ≡ limits_line answer ++ drop result out.old }
     ensures upper_bound { result ≤ 160 }
 {
     match answer {
-        Limits::Given(x) => numbers_line(x, out),
-        Limits::Refused(refusal) => put_answer(out, 0, Loaded::Refused(refusal)),
+        Ok(x) => numbers_line(x, out),
+        Err(refusal) => put_answer(out, 0, Err(refusal)),
     }
 }

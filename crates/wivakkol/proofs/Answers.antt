@@ -1,4 +1,5 @@
 -- The numbers of each case of an answer are those of the paper's values; and 17 workers are refused as any higher number is.
+use Rattle.std.specs.Prelude.{Err, Ok, Result, ⊤}
 use mathlib.Core.Path.{◌≡◌, refl, ap, ◌∙◌}
 use Prim.Native.Nat.{ℕ, min, ◌≤◌, ◌<◌}
 use native.Mathlib.Decide.{dec_lt}
@@ -13,41 +14,31 @@ use Rattle.table.specs.Checks.{passes}
 use Rattle.table.specs.Load.{table_values, values_of}
 use Rattle.table.specs.declared.Facts.{Facts}
 use Rattle.table.specs.declared.Refusal.{Refusal}
-use Rattle.table.specs.declared.Found.{Found}
-use Rattle.table.specs.declared.Found.TheVariants.{Nothing, At}
-use Rattle.table.specs.declared.Loaded.{Loaded}
-use Rattle.table.specs.declared.Loaded.TheVariants.{Accepted, Refused}
 use Rattle.quota.specs.Quota.{values_for, quota_values_with, most_quota, quota_passes}
 use Rattle.quota.specs.Quota.{values_of as quota_values_of}
-use Rattle.quota.specs.declared.Quoted.{Quoted}
-use Rattle.quota.specs.declared.Quoted.TheVariants.{Given}
-use Rattle.quota.specs.declared.Quoted.TheVariants.{Refused as NoQuota}
 use Rattle.quota.proofs.Answers.{found_own}
 use Rattle.most.specs.Most.{limit_of, most_found, most_values_of, most_values_with, most_values_for}
-use Rattle.most.specs.declared.Most.{Most}
-use Rattle.most.specs.declared.Most.TheVariants.{Turns}
-use Rattle.most.specs.declared.Most.TheVariants.{Refused as NoLimit}
 use Rattle.table.proofs.Passes.{first_found_append}
 use Rattle.schedule.specs.Begin.{begin_passes}
 use Rattle.wivakkol.specs.Rows.{facts_row, quota_row, most_row}
 
 -- ---- a table
 
-module _ (s : List ℕ) (x : Loaded) (e : values_of x ≡ table_values s) where
-  pub accepted_row : (f : Facts) → x ≡ Accepted f
+module _ (s : List ℕ) (x : Result Facts Refusal) (e : values_of x ≡ table_values s) where
+  pub accepted_row : (f : Facts) → x ≡ Ok f
       → (0 ≡ (table_values s).number) × ((0 ∷ f.threads ∷ f.actions ∷ f.peak ∷ f.depth ∷ f.nested ∷ []) ≡ facts_row (table_values s))
   accepted_row f g = rw (← e, g) (refl, refl)
 
-  pub refused_row : (r : Refusal) → x ≡ Refused r
+  pub refused_row : (r : Refusal) → x ≡ Err r
       → (r.number ≡ (table_values s).number) × ((r.place ∷ 0 ∷ 0 ∷ 0 ∷ 0 ∷ 0 ∷ []) ≡ facts_row (table_values s))
   refused_row r g = rw (← e, g) (refl, refl)
 
 -- ---- more workers than there may be
 
 -- where a check applies, the number behind it is not looked at
-unread : {A : Type 0} (g : Found → ℕ → A) → ((r : Refusal) (x y : ℕ) → g (At r) x ≡ g (At r) y) → (f : Found) (r : Refusal) (x y : ℕ) → g (or_else f (At r)) x ≡ g (or_else f (At r)) y
-unread g h Nothing r x y = h r x y
-unread g h (At q) r x y = h q x y
+unread : {A : Type 0} (g : Result ⊤ Refusal → ℕ → A) → ((r : Refusal) (x y : ℕ) → g (Err r) x ≡ g (Err r) y) → (f : Result ⊤ Refusal) (r : Refusal) (x y : ℕ) → g (or_else f (Err r)) x ≡ g (or_else f (Err r)) y
+unread g h (Ok _) r x y = h r x y
+unread g h (Err q) r x y = h q x y
 
 -- what a call hands on in place of p
 pub as_handed : {A : Type 0} (v : ℕ → A) → ((p : ℕ) → 17 ≤ p → v 17 ≡ v p) → (p : ℕ) → v (min p 17) ≡ v p
@@ -58,7 +49,7 @@ as_handed v as_17 p =
 
 module _ (s : List ℕ) (b M : ℕ) where
   -- what the checks find with p above 16
-  too_many : (p : ℕ) → 17 ≤ p → first_found (quota_passes s p b M) ≡ or_else (first_found (passes s)) (At (refusal 20 0))
+  too_many : (p : ℕ) → 17 ≤ p → first_found (quota_passes s p b M) ≡ or_else (first_found (passes s)) (Err (refusal 20 0))
   unfolding try_pass try_from try_at
   too_many p h = found_own s p b M ∙ rw (le-ltb p 1 (omega arith), lt-ltb 16 p (omega arith))
 
@@ -69,7 +60,7 @@ module _ (s : List ℕ) (b M : ℕ) where
       (unread quota_values_with (λ r x y. refl) (first_found (passes s)) (refusal 20 0) (most_quota (table_of s) 17 b M) (most_quota (table_of s) p b M))
 
 module _ (s : List ℕ) (K : ℕ) where
-  most_too_many : (p : ℕ) → 17 ≤ p → most_found s p K ≡ or_else (first_found (passes s)) (At (refusal 20 0))
+  most_too_many : (p : ℕ) → 17 ≤ p → most_found s p K ≡ or_else (first_found (passes s)) (Err (refusal 20 0))
   unfolding first_found try_pass try_from try_at
   most_too_many p h = first_found_append (passes s) (begin_passes (table_of s) p K) ∙ rw (le-ltb p 1 (omega arith), lt-ltb 16 p (omega arith))
 
@@ -81,24 +72,24 @@ module _ (s : List ℕ) (K : ℕ) where
 
 -- ---- a quota
 
-module _ (s : List ℕ) (p w b M : ℕ) (x : Quoted) (e : quota_values_of x ≡ values_for s w b M) (h : w ≡ min p 17) where
+module _ (s : List ℕ) (p w b M : ℕ) (x : Result ℕ Refusal) (e : quota_values_of x ≡ values_for s w b M) (h : w ≡ min p 17) where
   abbrev asked : quota_values_of x ≡ values_for s p b M
   asked = e ∙ rw h (as_handed (λ (x : ℕ). values_for s x b M) (as_17 s b M) p)
 
-  pub given_row : (K : ℕ) → x ≡ Given K → (0 ≡ (values_for s p b M).number) × ((0 ∷ K ∷ []) ≡ quota_row (values_for s p b M))
+  pub given_row : (K : ℕ) → x ≡ Ok K → (0 ≡ (values_for s p b M).number) × ((0 ∷ K ∷ []) ≡ quota_row (values_for s p b M))
   given_row K g = rw (← asked, g) (refl, refl)
 
-  pub no_quota_row : (r : Refusal) → x ≡ NoQuota r → (r.number ≡ (values_for s p b M).number) × ((r.place ∷ 0 ∷ []) ≡ quota_row (values_for s p b M))
+  pub no_quota_row : (r : Refusal) → x ≡ Err r → (r.number ≡ (values_for s p b M).number) × ((r.place ∷ 0 ∷ []) ≡ quota_row (values_for s p b M))
   no_quota_row r g = rw (← asked, g) (refl, refl)
 
 -- ---- a limit of turns
 
-module _ (s : List ℕ) (p w K : ℕ) (x : Most) (e : most_values_of x ≡ most_values_for s w K) (h : w ≡ min p 17) where
+module _ (s : List ℕ) (p w K : ℕ) (x : Result ℕ Refusal) (e : most_values_of x ≡ most_values_for s w K) (h : w ≡ min p 17) where
   abbrev asked_most : most_values_of x ≡ most_values_for s p K
   asked_most = e ∙ rw h (as_handed (λ (x : ℕ). most_values_for s x K) (most_as_17 s K) p)
 
-  pub limit_row_lem : (L : ℕ) → x ≡ Turns L → (0 ≡ (most_values_for s p K).number) × ((0 ∷ L ∷ []) ≡ most_row (most_values_for s p K))
+  pub limit_row_lem : (L : ℕ) → x ≡ Ok L → (0 ≡ (most_values_for s p K).number) × ((0 ∷ L ∷ []) ≡ most_row (most_values_for s p K))
   limit_row_lem L g = rw (← asked_most, g) (refl, refl)
 
-  pub no_limit_row : (r : Refusal) → x ≡ NoLimit r → (r.number ≡ (most_values_for s p K).number) × ((r.place ∷ 0 ∷ []) ≡ most_row (most_values_for s p K))
+  pub no_limit_row : (r : Refusal) → x ≡ Err r → (r.number ≡ (most_values_for s p K).number) × ((r.place ∷ 0 ∷ []) ≡ most_row (most_values_for s p K))
   no_limit_row r g = rw (← asked_most, g) (refl, refl)

@@ -1,4 +1,5 @@
 -- What a beginning in lent memory leaves: more workers than there may be are refused as 17 are; the memory of each case; and when there is room.
+use Rattle.std.specs.Prelude.{Err, Ok}
 use mathlib.Core.Path.{◌≡◌, sym, ap, ◌∙◌}
 use Prim.Native.Nat.{ℕ, min, ◌≤◌, ◌<◌}
 use native.Mathlib.Decide.{dec_lt}
@@ -15,8 +16,6 @@ use Rattle.table.specs.Format.{Table, table_of}
 use Rattle.table.specs.Pass.{refusal, first_found, try_at, try_from, try_pass}
 use Rattle.table.specs.Checks.{passes}
 use Rattle.table.specs.declared.Refusal.{Refusal}
-use Rattle.table.specs.declared.Found.{Found}
-use Rattle.table.specs.declared.Found.TheVariants.{Nothing, At}
 use Rattle.table.proofs.Passes.{first_found_append}
 use Rattle.schedule.specs.Machine.{ready}
 use Rattle.schedule.specs.Links.{no_thread}
@@ -30,11 +29,11 @@ use Rattle.run_memory.specs.Memory.{memory, answer}
 use Rattle.wivakkol.specs.Lent.{blank_memory, no_room, lent_begin}
 
 module _ (s : List ℕ) (K : ℕ) where
-  pub too_many : (p : ℕ) → 17 ≤ p → first_found (setting_passes p K) ≡ At (refusal 20 0)
+  pub too_many : (p : ℕ) → 17 ≤ p → first_found (setting_passes p K) ≡ Err (refusal 20 0)
   unfolding first_found try_pass try_from try_at
   too_many p h = rw (le-ltb p 1 (omega arith), lt-ltb 16 p (omega arith))
 
-  too_many_begun : (p : ℕ) → 17 ≤ p → first_found (begin_passes (table_of s) p K) ≡ At (refusal 20 0)
+  too_many_begun : (p : ℕ) → 17 ≤ p → first_found (begin_passes (table_of s) p K) ≡ Err (refusal 20 0)
   too_many_begun p h = rw (first_found_append (setting_passes p K) (fill_pass (table_of s) K ∷ []), too_many p h)
 
   as_17 : (p : ℕ) → 17 ≤ p → begin_found s 17 K ≡ begin_found s p K
@@ -91,21 +90,21 @@ module _ (s : List ℕ) (p K : ℕ) {w : ℕ} (h : w ≡ min p 17) where
           λ i. answer number row (memory (0 ∷ 0 ∷ []) (q' i) (arrays (n' i) (replicate 1024 0) (replicate 1024 0) (l.0.0 i) (l.0.1 i) (l.1.0 i) (l.1.1 i))
           (z.0.0 i) (z.0.1 i) (z.0.2 i) (z.1.0 i) (z.1.1 i))
 
-      pub refuses : {x : Refusal} {left right under over : List ℕ} → f.found ≡ At x → Linked 0 left right under over
+      pub refuses : {x : Refusal} {left right under over : List ℕ} → f.found ≡ Err x → Linked 0 left right under over
           → answer x.number (x.place ∷ 0 ∷ []) (memory (0 ∷ 0 ∷ []) parents (arrays next (replicate 1024 0) (replicate 1024 0) left right under over) holds threads quotas heads totals)
           ≡ lent_begin s p K room
       unfolding lent_begin begin_filling
       refuses {x} e l =
-          let g : begin_found s p K ≡ At x = sym found_is ∙ e in
+          let g : begin_found s p K ≡ Err x = sym found_is ∙ e in
           nothing_there (begins_is ∙ rw e) l ∙ rw g
 
-      pub lacks : {left right under over : List ℕ} → f.found ≡ Nothing → room < f.bytes → Linked 0 left right under over
+      pub lacks : {left right under over : List ℕ} → f.found ≡ Ok tt → room < f.bytes → Linked 0 left right under over
           → answer no_room (0 ∷ f.bytes ∷ []) (memory (0 ∷ 0 ∷ []) parents (arrays next (replicate 1024 0) (replicate 1024 0) left right under over) holds threads quotas heads totals)
           ≡ lent_begin s p K room
       unfolding lent_begin
       lacks e m l = nothing_there (begins_is ∙ rw (e, lt-leb f.bytes room m)) l ∙ rw (sym (d ∙ handed_filling), e, lt-ltb room f.bytes m)
 
-      pub starts : {left right under over : List ℕ} → f.found ≡ Nothing → f.bytes ≤ room → Linked no_thread left right under over
+      pub starts : {left right under over : List ℕ} → f.found ≡ Ok tt → f.bytes ≤ room → Linked no_thread left right under over
           → answer 0 (0 ∷ f.bytes ∷ []) (memory (p ∷ K ∷ []) parents (arrays next (set (replicate 1024 0) 0 ready) (replicate 1024 0) left right under over) holds threads quotas heads totals)
           ≡ lent_begin s p K room
       unfolding lent_begin

@@ -1,4 +1,6 @@
 -- Every check has a number, and none has 0: where a call answers 0, no check applies.
+use Rattle.std.specs.Prelude.{Err, Ok, Result, ⊤}
+use Rattle.table.specs.declared.Refusal.{Refusal}
 use mathlib.Core.Path.{◌≡◌, refl}
 use Prim.Native.Nat.{ℕ, zero, suc}
 use native.Mathlib.Omega.{arith}
@@ -8,8 +10,6 @@ use Rattle.table.specs.Sum.{pick}
 use Rattle.table.specs.Format.{table_of}
 use Rattle.table.specs.Pass.{Check, Pass, or_else, refusal, try_at, try_from, try_pass, first_found}
 use Rattle.table.specs.Checks.{passes}
-use Rattle.table.specs.declared.Found.{Found}
-use Rattle.table.specs.declared.Found.TheVariants.{Nothing, At}
 use Rattle.table.specs.Load.{found_number}
 use Rattle.schedule.specs.declared.Run.{Run}
 use Rattle.schedule.specs.Begin.{begin_passes}
@@ -17,8 +17,8 @@ use Rattle.schedule.specs.Turn.{turn_checks}
 use Rattle.soundness.specs.Tested.{begin_found}
 
 -- a finding with the number 0 is none
-abbrev pub Numbered : Found → Type 0
-Numbered f = found_number f ≡ 0 → f ≡ Nothing
+abbrev pub Numbered : Result ⊤ Refusal → Type 0
+Numbered f = found_number f ≡ 0 → f ≡ Ok tt
 
 pub data Checks : List Check → Type 0 where
   none : Checks []
@@ -28,16 +28,16 @@ pub data Passes : List Pass → Type 0 where
   end : Passes []
   then : {p : Pass} {ps : List Pass} → Checks p.checks → Passes ps → Passes (p ∷ ps)
 
-either : (f g : Found) → Numbered f → Numbered g → Numbered (or_else f g)
-either Nothing g h k e = k e
-either (At r) g h k e = h e
+either : (f g : Result ⊤ Refusal) → Numbered f → Numbered g → Numbered (or_else f g)
+either (Ok _) g h k e = k e
+either (Err r) g h k e = h e
 
 at_place : (cs : List Check) → Checks cs → (i : ℕ) → Numbered (try_at cs i)
 unfolding try_at
 at_place [] none i = λ e. refl
 at_place (c ∷ cs) (one d t) i = go (c.applies i) (at_place cs t i)
   where
-    go : (b : Bool) → Numbered (try_at cs i) → Numbered (pick b (At (refusal c.number i)) (try_at cs i))
+    go : (b : Bool) → Numbered (try_at cs i) → Numbered (pick b (Err (refusal c.number i)) (try_at cs i))
     go true rest e = absurd (d e)
     go false rest e = rest e
 
@@ -66,7 +66,7 @@ own_numbered s rest t =
     (then (one (number_is 10) none)
     (then (one (number_is 9) none) t))))))
 
-pub begin_numbered : (s : List ℕ) (p K : ℕ) → found_number (begin_found s p K) ≡ 0 → begin_found s p K ≡ Nothing
+pub begin_numbered : (s : List ℕ) (p K : ℕ) → found_number (begin_found s p K) ≡ 0 → begin_found s p K ≡ Ok tt
 begin_numbered s p K =
     all_passes (passes s ++ begin_passes (table_of s) p K)
     (own_numbered s (begin_passes (table_of s) p K) (then (one (number_is 19) (one (number_is 20) none)) (then (one (number_is 43) none) end)))

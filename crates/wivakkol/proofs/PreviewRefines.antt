@@ -1,4 +1,6 @@
 -- On memory in which a record stands, a preview shows what document 01's turn of the record says and leaves.
+use Rattle.std.specs.Prelude.{Err, Ok, Result, ⊤}
+use Rattle.table.specs.declared.Refusal.{Refusal}
 use mathlib.Core.Path.{◌≡◌, refl, sym, ap, ◌∙◌}
 use Prim.Native.Nat.{ℕ, ◌<◌}
 use mathlib.Core.List.{List, [], ◌∷◌, ◌++◌}
@@ -8,8 +10,6 @@ use lib.ListN.{get_or}
 use Rattle.table.specs.Sum.{pick}
 use Rattle.table.specs.Pass.{try_at}
 use Rattle.table.specs.Load.{found_number, if_found}
-use Rattle.table.specs.declared.Found.{Found}
-use Rattle.table.specs.declared.Found.TheVariants.{Nothing, At}
 use Rattle.table.proofs.Tests.{no_way}
 use Rattle.schedule.specs.declared.Run.{Run}
 use Rattle.schedule.specs.Machine.{nobody, worker_of}
@@ -39,21 +39,21 @@ module _ (s : List ℕ) (M : Memory) (h : Stands s M) (w : ℕ) where
   unfolding turn_values
   found_number_lem = (turn_refines s M h w).number
 
-  run_after : try_at (turn_checks r w) 0 ≡ Nothing → run_in s a.memory ≡ stored r (step_run r w).state
+  run_after : try_at (turn_checks r w) 0 ≡ Ok tt → run_in s a.memory ≡ stored r (step_run r w).state
   unfolding turned
   run_after e = (turn_refines s M h w).record_after ∙ rw e
 
   -- the three amounts are those of the record after the turn
-  amounts : (f : Found) → try_at (turn_checks r w) 0 ≡ f
+  amounts : (f : Result ⊤ Refusal) → try_at (turn_checks r w) 0 ≡ f
       → pick (eqb (found_number f) 0) (amounts_in a.memory w) no_amounts
       ≡ if_found f 0 (step_run r w).state.held ∷ if_found f 0 (step_run r w).state.highest ∷ if_found f 0 (worker_of (step_run r w).state w).quota ∷ []
-  amounts Nothing e =
+  amounts (Ok _) e =
       let after = run_after e in
       let worker : worker_in a.memory w ≡ worker_of (step_run r w).state w =
       sym (own_worker a.memory w (small (found_number_lem ∙ ap found_number e))) ∙ ap (λ (x : Run). get_or x.worker w nobody) after in
       λ i. (after i).held ∷ (after i).highest ∷ (worker i).quota ∷ []
-  amounts (At y) e =
-      rw (ne_eqb y.number 0 (λ d. let n : At y ≡ Nothing = (rw e at (turn_numbered r w)) d in no_way (cc)))
+  amounts (Err y) e =
+      rw (ne_eqb y.number 0 (λ d. let n : Err y ≡ (Ok tt) = (rw e at (turn_numbered r w)) d in no_way (cc)))
 
   -- the law of refinement
   pub preview_refines : lent_preview s w M ≡ shown_as (preview_values r w)

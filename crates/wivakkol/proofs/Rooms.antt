@@ -1,4 +1,6 @@
 -- When there is room for the filled-out table: always in 36,868 bytes, and with nothing above the quota in none at all.
+use Rattle.std.specs.Prelude.{Err, Ok, Result, ⊤}
+use Rattle.table.specs.declared.Refusal.{Refusal}
 use mathlib.Core.Path.{◌≡◌, refl}
 use Prim.Native.Nat.{ℕ, ◌≤◌, ◌<◌}
 use native.Mathlib.Omega.{arith}
@@ -11,8 +13,6 @@ use Rattle.table.specs.Sum.{pick, any_below}
 use Rattle.table.specs.Format.{table_of}
 use Rattle.table.specs.Checks.{alloc_of}
 use Rattle.table.proofs.Nesting.{any_below_true}
-use Rattle.table.specs.declared.Found.{Found}
-use Rattle.table.specs.declared.Found.TheVariants.{Nothing, At}
 use Rattle.order.specs.Words.{is_nothing}
 use Rattle.filling.specs.Filled.{big, filled_out}
 use Rattle.filling.specs.Filling.{fill_found, filled_into}
@@ -30,10 +30,10 @@ module _ (s : List ℕ) (p K : ℕ) where
   unfolding begin_filling
   few_bytes = go (begin_found s p K) refl (any_below (big (table_of s) K) (table_of s).actions)
     where
-      go : (f : Found) → begin_found s p K ≡ f → (b : Bool) → pick (is_nothing f && b) (length (filled_out s K)) 0 ≤ 36868
-      go (At x) e b = omega arith
-      go Nothing e false = omega arith
-      go Nothing e true = (sized s p K [] (begin_filling s p K) refl e).1
+      go : (f : Result ⊤ Refusal) → begin_found s p K ≡ f → (b : Bool) → pick (is_nothing f && b) (length (filled_out s K)) 0 ≤ 36868
+      go (Err x) e b = omega arith
+      go (Ok _) e false = omega arith
+      go (Ok _) e true = (sized s p K [] (begin_filling s p K) refl e).1
 
   found_is : (begin_filling s p K).found ≡ begin_found s p K
   unfolding begin_filling

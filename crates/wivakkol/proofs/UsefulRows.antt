@@ -1,4 +1,5 @@
 -- The numbers of each answer of the useful limit and of the quota that fits; and 17 workers are refused as any higher number is.
+use Rattle.std.specs.Prelude.{Err, Ok, Result}
 use mathlib.Core.Path.{◌≡◌, refl, ap, ◌∙◌}
 use Prim.Native.Nat.{ℕ, min, ◌≤◌}
 use native.Mathlib.Omega.{arith}
@@ -8,12 +9,8 @@ use Rattle.table.specs.Format.{table_of}
 use Rattle.table.specs.Pass.{first_found}
 use Rattle.table.specs.Checks.{passes}
 use Rattle.table.specs.declared.Refusal.{Refusal}
-use Rattle.table.specs.declared.Found.TheVariants.{At}
 use Rattle.filling.specs.Filled.{fill_pass}
 use Rattle.useful_limit.specs.declared.Numbers.{Numbers}
-use Rattle.useful_limit.specs.declared.Limits.{Limits}
-use Rattle.useful_limit.specs.declared.Limits.TheVariants.{Given}
-use Rattle.useful_limit.specs.declared.Limits.TheVariants.{Refused as NoLimits}
 use Rattle.useful_limit.specs.declared.Fitted.{Fitted}
 use Rattle.useful_limit.specs.declared.Fitted.TheVariants.{Fits, Short, Refused}
 use Rattle.useful_limit.specs.Limits.{gap_check, quota_check, limit_passes, limits, limits_in, limits_into}
@@ -25,7 +22,7 @@ use Rattle.wivakkol.proofs.Answers.{as_handed}
 -- ---- more workers than there may be
 
 module _ (s : List ℕ) (K b : ℕ) where
-  limit_found : (p : ℕ) → 17 ≤ p → first_found (limit_passes s p K b) ≡ At (many_fault (first_found (passes s)))
+  limit_found : (p : ℕ) → 17 ≤ p → first_found (limit_passes s p K b) ≡ Err (many_fault (first_found (passes s)))
   limit_found p h = many_found s p h (gap_check b ∷ quota_check K ∷ []) (fill_pass (table_of s) K ∷ [])
 
   limit_17 : (room p : ℕ) → 17 ≤ p → limits_in s 17 K b room ≡ limits_in s p K b room
@@ -36,7 +33,7 @@ module _ (s : List ℕ) (K b : ℕ) where
   into_17 out p h = rw (limit_found p h, limit_found 17 (omega arith)) refl
 
   -- what the call on a byte answers is the answer
-  pub limit_handed : (p : ℕ) (out : List ℕ) {w : ℕ} {a : Limits} {buffer : List ℕ} → w ≡ min p 17 → a ≡ limits_in s w K b (length out) → buffer ≡ limits_into s w K b out
+  pub limit_handed : (p : ℕ) (out : List ℕ) {w : ℕ} {a : Result Numbers Refusal} {buffer : List ℕ} → w ≡ min p 17 → a ≡ limits_in s w K b (length out) → buffer ≡ limits_into s w K b out
       → (a ≡ limits_in s p K b (length out)) × (buffer ≡ limits_into s p K b out)
   limit_handed p out d e f = (
     e ∙ ap (λ (x : ℕ). limits_in s x K b (length out)) d ∙ as_handed (λ (x : ℕ). limits_in s x K b (length out)) (limit_17 (length out)) p,
@@ -44,7 +41,7 @@ module _ (s : List ℕ) (K b : ℕ) where
   )
 
 module _ (s : List ℕ) (b M : ℕ) where
-  fit_found : (p : ℕ) → 17 ≤ p → first_found (fit_passes s p b) ≡ At (many_fault (first_found (passes s)))
+  fit_found : (p : ℕ) → 17 ≤ p → first_found (fit_passes s p b) ≡ Err (many_fault (first_found (passes s)))
   fit_found p h = many_found s p h (gap_check b ∷ []) []
 
   fit_17 : (p : ℕ) → 17 ≤ p → fitted s 17 b M ≡ fitted s p b M
@@ -56,11 +53,11 @@ module _ (s : List ℕ) (b M : ℕ) where
 
 -- ---- the rows
 
-module _ {a y : Limits} (e : a ≡ y) where
-  pub limit_given : {x : Numbers} → a ≡ Given x → (0 ≡ limit_number y) × ((0 ∷ x.memory ∷ x.serial ∷ x.peak ∷ x.parallel ∷ x.stretch ∷ []) ≡ limit_row y)
+module _ {a y : Result Numbers Refusal} (e : a ≡ y) where
+  pub limit_given : {x : Numbers} → a ≡ Ok x → (0 ≡ limit_number y) × ((0 ∷ x.memory ∷ x.serial ∷ x.peak ∷ x.parallel ∷ x.stretch ∷ []) ≡ limit_row y)
   limit_given g = rw (← e, g) (refl, refl)
 
-  pub limit_refused : {r : Refusal} → a ≡ NoLimits r → (r.number ≡ limit_number y) × ((r.place ∷ 0 ∷ 0 ∷ 0 ∷ 0 ∷ 0 ∷ []) ≡ limit_row y)
+  pub limit_refused : {r : Refusal} → a ≡ Err r → (r.number ≡ limit_number y) × ((r.place ∷ 0 ∷ 0 ∷ 0 ∷ 0 ∷ 0 ∷ []) ≡ limit_row y)
   limit_refused g = rw (← e, g) (refl, refl)
 
 module _ {a y : Fitted} (e : a ≡ y) where

@@ -1,5 +1,7 @@
 -- A run's line from the memory lent: the checks, the text that fills the lent line, that it has its width and is read back (`lent_line`), and that on a run that stands number and line are the
 -- record's (N5).
+use Rattle.std.specs.Prelude.{Result, ⊤}
+use Rattle.table.specs.declared.Refusal.{Refusal}
 use mathlib.Core.Path.{◌≡◌, refl, sym, ap, ◌∙◌}
 use Prim.Native.Nat.{ℕ, min, ◌≤◌, ◌<◌}
 use native.Mathlib.Omega.{arith}
@@ -17,7 +19,6 @@ use Rattle.schedule.specs.declared.Run.{Run}
 use Rattle.schedule.specs.Turn.{unsound}
 use Rattle.schedule.proofs.Stores.{steady_fits}
 use Rattle.schedule.proofs.Sound.Tests.{sound_exactly}
-use Rattle.chart.specs.declared.Charted.{Charted}
 use Rattle.chart.specs.Chart.{Figures, most_turns, figures_of, figures, line_texts, line_text, read_back, too_many, charted, charted_in, charted_values, line_values}
 use Rattle.chart.proofs.Records.{wall_width, wall_newline, wall_read, line_filled, charted_unsound, charted_many, charted_written, charted_values_lem}
 use Rattle.run_memory.specs.Memory.{Memory, moved_in}
@@ -126,12 +127,12 @@ pub record Lines (s : List ℕ) (M : Memory) (n : ℕ) : Type 0 where
   pub number : n ≡ (line_values (run_in s M)).number
   pub line : (out : List ℕ) → line_after n M out ≡ charted_in (charted (run_in s M)) (run_in s M) out
 
-as_charted : (s : List ℕ) (M : Memory) (n : ℕ) (x : Charted) → x ≡ charted (run_in s M) → n ≡ (charted_values x).number
+as_charted : (s : List ℕ) (M : Memory) (n : ℕ) (x : Result ⊤ Refusal) → x ≡ charted (run_in s M) → n ≡ (charted_values x).number
     → ((out : List ℕ) → line_after n M out ≡ charted_in x (run_in s M) out) → Lines s M n
 as_charted s M n x e d f =
     record {
-      number = d ∙ ap (λ (y : Charted). (charted_values y).number) e ∙ ap (λ y. y.number) (charted_values_lem (run_in s M));
-      line = λ out. f out ∙ ap (λ (y : Charted). charted_in y (run_in s M) out) e;
+      number = d ∙ ap (λ (y : Result ⊤ Refusal). (charted_values y).number) e ∙ ap (λ y. y.number) (charted_values_lem (run_in s M));
+      line = λ out. f out ∙ ap (λ (y : Result ⊤ Refusal). charted_in y (run_in s M) out) e;
     }
 
 -- number and line are those of the record

@@ -1,8 +1,7 @@
 -- What runs over a list and in rounds answer to C, and beginnings in memory that it lends; the turn and the runs themselves are run_memory's (crates/run_memory/specs, Memory and Runs).
-use Rattle.std.specs.Prelude.{ℕ, List, [], ◌∷◌, Bool, true, false, set, replicate, ltb}
+use Rattle.std.specs.Prelude.{ℕ, List, [], ◌∷◌, Bool, true, false, set, replicate, ltb, Err, Ok, Result, ⊤}
+use Rattle.table.specs.declared.Refusal.{Refusal}
 use Rattle.table.specs.Format.{table_of}
-use Rattle.table.specs.declared.Found.{Found}
-use Rattle.table.specs.declared.Found.TheVariants.{Nothing, At}
 use Rattle.schedule.specs.Machine.{ready}
 use Rattle.schedule.specs.Links.{no_thread}
 use Rattle.table.specs.Checks.{max_threads}
@@ -46,10 +45,10 @@ abbrev pub no_room : ℕ
 no_room = 61
 
 -- "A refused beginning hands back the blank record". The row has the place, and the bytes of the filled-out table, 0 where the table as given runs; of the Bool, there is too little room for them.
-abbrev pub lent_begun_as : Found → Bool → ℕ → Memory → Answer
-lent_begun_as (At x) short bytes M = answer x.number (x.place ∷ 0 ∷ []) blank_memory
-lent_begun_as Nothing true bytes M = answer no_room (0 ∷ bytes ∷ []) blank_memory
-lent_begun_as Nothing false bytes M = answer 0 (0 ∷ bytes ∷ []) M
+abbrev pub lent_begun_as : Result ⊤ Refusal → Bool → ℕ → Memory → Answer
+lent_begun_as (Err x) short bytes M = answer x.number (x.place ∷ 0 ∷ []) blank_memory
+lent_begun_as (Ok _) true bytes M = answer no_room (0 ∷ bytes ∷ []) blank_memory
+lent_begun_as (Ok _) false bytes M = answer 0 (0 ∷ bytes ∷ []) M
 
 -- The checks of a beginning, then 61; the run is of the filled-out table ("Replies, records .. name the filled-out table", N6), which the call puts into the buffer of `room` bytes (`begun_into`,
 -- crates/soundness/specs/Tested).

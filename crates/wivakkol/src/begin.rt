@@ -9,7 +9,6 @@ use links::NO_THREAD;
 use run_memory::lent::workers;
 use schedule::statuses::READY;
 use soundness::accept_in;
-use table::Found;
 
 // No worker holds a thread, and nothing is counted.
 fn put_nobody(
@@ -96,7 +95,7 @@ pub fn wivakkol_begin_on(
         falls,
     );
     let found = filling.found;
-    if let Found::At(x) = found {
+    if let Err(x) = found {
         *settings = [0, 0];
         put_links(left, right, under, over, 0);
         *row = [x.place as u64, 0];

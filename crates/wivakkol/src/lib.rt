@@ -7,9 +7,8 @@ ghost use Rattle.table.specs.Load.{table_values};
 ghost use Rattle.quota.specs.Quota.{values_for};
 ghost use Rattle.wivakkol.specs.Rows.{facts_row, quota_row};
 
-use quota::{Quoted, largest_quota_in};
+use quota::largest_quota_in;
 use run_memory::lent::workers;
-use table::Loaded;
 
 // Those that begin, open and run are public, so that `claims` can name their promises.
 pub mod begin;
@@ -40,7 +39,7 @@ pub fn wivakkol_check_on(
 {
     let loaded = facts::load_in(table, rises, falls, peaks, depths);
     match loaded {
-        Loaded::Accepted(f) => {
+        Ok(f) => {
             *row = [
                 0,
                 f.threads as u64,
@@ -51,7 +50,7 @@ pub fn wivakkol_check_on(
             ];
             0
         }
-        Loaded::Refused(r) => {
+        Err(r) => {
             *row = [r.place as u64, 0, 0, 0, 0, 0];
             r.number as u32
         }
@@ -77,11 +76,11 @@ pub fn wivakkol_quota_on(
     let w = workers(p);
     let quoted = largest_quota_in(table, w, b, memory, rises, falls, peaks, depths);
     match quoted {
-        Quoted::Given(k) => {
+        Ok(k) => {
             *row = [0, k as u64];
             0
         }
-        Quoted::Refused(r) => {
+        Err(r) => {
             *row = [r.place as u64, 0];
             r.number as u32
         }

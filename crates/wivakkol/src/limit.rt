@@ -3,7 +3,7 @@ ghost use Rattle.std.specs.Prelude.{◌≡◌, replicate};
 ghost use Rattle.most.specs.Most.{most_values_for};
 ghost use Rattle.wivakkol.specs.Rows.{most_row};
 
-use most::{Most, most_turns_in};
+use most::most_turns_in;
 use run_memory::lent::workers;
 
 // How many turns a run in rounds takes at most, or the check that refuses. The working memory may hold anything, and is left cleared.
@@ -22,11 +22,11 @@ pub fn wivakkol_most_on(
     let w = workers(p);
     let most = most_turns_in(table, w, quota, rises, falls);
     match most {
-        Most::Turns(k) => {
+        Ok(k) => {
             *row = [0, k as u64];
             0
         }
-        Most::Refused(r) => {
+        Err(r) => {
             *row = [r.place as u64, 0];
             r.number as u32
         }

@@ -5,7 +5,7 @@ ghost use Rattle.useful_limit.specs.Fit.{fitted};
 ghost use Rattle.wivakkol.specs.Rows.{limit_number, limit_row, fit_number, fit_row};
 
 use crate::workers;
-use useful_limit::{Fitted, Limits, fit_in, limit_in};
+use useful_limit::{Fitted, fit_in, limit_in};
 
 // The useful limit of the table that runs, S1, S_p, the parallel peak and the largest draw of a stretch, or the check that refuses; 61 where the room for the filled-out table is too little. The
 // working memory of these two calls may hold anything, and is left cleared.
@@ -34,11 +34,11 @@ pub fn wivakkol_limit_on(
         table, w, quota, b, filled, rises, falls, serials, depths, peaks, rows,
     );
     match answer {
-        Limits::Given(x) => {
+        Ok(x) => {
             *row = [0, x.memory, x.serial, x.peak, x.parallel, x.stretch];
             0
         }
-        Limits::Refused(r) => {
+        Err(r) => {
             *row = [r.place as u64, 0, 0, 0, 0, 0];
             r.number as u32
         }

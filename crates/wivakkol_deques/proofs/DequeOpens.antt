@@ -1,5 +1,7 @@
 -- Opening a run of DFDeques: 32 exactly where the record that stands in the memory is neither sound nor blank; the record is as it was, and where it is sound, what is filled beside it is what
 -- the turns look up.
+use Rattle.std.specs.Prelude.{Err, Ok, Result, ⊤}
+use Rattle.table.specs.declared.Refusal.{Refusal}
 use mathlib.Core.Path.{◌≡◌, refl, sym, ap, ◌∙◌}
 use Prim.Native.Nat.{ℕ, suc, zero, min, ◌≤◌, ◌<◌, ◌/◌}
 use native.Mathlib.Omega.{arith}
@@ -15,8 +17,6 @@ use Rattle.table.specs.Sum.{pick}
 use Rattle.table.specs.Format.{table_of}
 use Rattle.table.specs.Pass.{first_found}
 use Rattle.table.specs.Checks.{passes}
-use Rattle.table.specs.declared.Found.{Found}
-use Rattle.table.specs.declared.Found.TheVariants.{Nothing, At}
 use Rattle.order.specs.Words.{filled, all_below, is_nothing, same_list}
 use Rattle.order.proofs.Lists.{filled_front}
 use Rattle.order.proofs.Words.{same_list_exactly, all_below_exactly}
@@ -314,9 +314,9 @@ as_handed v none p =
 too_many : (p K : ℕ) → 17 ≤ p → is_nothing (first_found (setting_passes p K)) ≡ false
 too_many p K h = go (first_found (setting_passes p K)) refl
   where
-    go : (f : Found) → first_found (setting_passes p K) ≡ f → is_nothing f ≡ false
-    go Nothing e = absurd (omega (arith, h, (setting_fits p K e).few_workers))
-    go (At x) e = refl
+    go : (f : Result ⊤ Refusal) → first_found (setting_passes p K) ≡ f → is_nothing f ≡ false
+    go (Ok _) e = absurd (omega (arith, h, (setting_fits p K e).few_workers))
+    go (Err x) e = refl
 
 refused_parts : (a b c d : Bool) → b ≡ false → ((a && (b && c)) && d) ≡ false
 refused_parts true b c d e = rw e

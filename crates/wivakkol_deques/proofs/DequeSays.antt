@@ -1,4 +1,6 @@
 -- On memory in which a record of DFDeques stands, what a turn and a run answer to C is the values of the record's, and the record after it stands in the memory left.
+use Rattle.std.specs.Prelude.{Err, Ok, Result}
+use Rattle.table.specs.declared.Refusal.{Refusal}
 use mathlib.Core.Path.{◌≡◌, refl, ap, ◌∙◌}
 use Prim.Native.Nat.{ℕ}
 use mathlib.Core.List.{List}
@@ -17,9 +19,6 @@ use Rattle.wivakkol.proofs.RunAnswers.{values_run, reported}
 use Rattle.deques.specs.declared.DequeRun.{DequeRun}
 use Rattle.deques.specs.declared.DequeRan.{DequeRan}
 use Rattle.deques.specs.declared.DequeTurned.{DequeTurned}
-use Rattle.deques.specs.declared.DequeTurning.{DequeTurning}
-use Rattle.deques.specs.declared.DequeTurning.TheVariants.{Taken}
-use Rattle.deques.specs.declared.DequeTurning.TheVariants.{Refused as refused_turn}
 use Rattle.deques.specs.DequeTurn.{deque_turned}
 use Rattle.deques.specs.DequeRuns.{pairs_run}
 use Rattle.deques.specs.DequeValues.{deque_turning_values}
@@ -43,16 +42,16 @@ replied (Done t a) = (refl, refl)
 replied (Quota t x) = (refl, refl)
 replied (Wait t c) = (refl, refl)
 
-abbrev turning_of : ℕ → Reply → DequeTurning
-turning_of number x = pick (eqb number 0) (Taken x) (refused_turn (refusal number 0))
+abbrev turning_of : ℕ → Reply → Result Reply Refusal
+turning_of number x = pick (eqb number 0) (Ok x) (Err (refusal number 0))
 
 told_so : (number : ℕ) (x : Reply)
     → (number ≡ (deque_turning_values (turning_of number x)).number) × (pick (eqb number 0) (reply_row x 0) no_row ≡ values_row (deque_turning_values (turning_of number x)))
 told_so number x = go (eqb number 0) refl
   where
     go : (b : Bool) → eqb number 0 ≡ b
-        → (number ≡ (deque_turning_values (pick b (Taken x) (refused_turn (refusal number 0)))).number)
-        × (pick b (reply_row x 0) no_row ≡ values_row (deque_turning_values (pick b (Taken x) (refused_turn (refusal number 0)))))
+        → (number ≡ (deque_turning_values (pick b (Ok x) (Err (refusal number 0)))).number)
+        × (pick b (reply_row x 0) no_row ≡ values_row (deque_turning_values (pick b (Ok x) (Err (refusal number 0)))))
     go true e = (eqb-true _ _ e ∙ (replied x).0, (replied x).1)
     go false e = (refl, refl)
 

@@ -1,12 +1,11 @@
 -- Beginning is AsyncDF's: the memory that it leaves has the record of DFDeques' start, and that record stands there.
+use Rattle.std.specs.Prelude.{Ok}
 use mathlib.Core.Path.{◌≡◌, refl, sym, ◌∙◌}
 use Prim.Native.Nat.{ℕ}
 use native.Mathlib.Omega.{arith}
 use mathlib.Core.List.{List, [], ◌∷◌}
 use Rattle.table.specs.Format.{table_of}
-use Rattle.table.specs.declared.Found.TheVariants.{Nothing}
 use Rattle.order.specs.Words.{all_below}
-use Rattle.schedule.specs.declared.Beginning.TheVariants.{Begun as started}
 use Rattle.schedule.specs.Begin.{start_run}
 use Rattle.schedule.proofs.Linked.Links.{linked_laid}
 use Rattle.filling.specs.Filled.{filled_out}
@@ -30,9 +29,9 @@ start_deque_run_lem s p K =
     let l = linked_laid alone (0 ∷ []) alone_linked in
     (λ i. record { run = r i; under = (l i).left; over = (l i).right; first = (l i).head }) ∙ sym (start_record s p K)
 
-module _ (s : List ℕ) (p K : ℕ) (e : begin_found s p K ≡ Nothing) where
+module _ (s : List ℕ) (p K : ℕ) (e : begin_found s p K ≡ Ok tt) where
   -- a beginning that no check refuses is DFDeques' beginning
-  pub deque_begun_so : deque_begin s p K ≡ record { answer = started; run = deque_run_in (filled_out s K) (start_memory (filled_out s K) p K) }
+  pub deque_begun_so : deque_begin s p K ≡ record { answer = Ok tt; run = deque_run_in (filled_out s K) (start_memory (filled_out s K) p K) }
   unfolding deque_begin
   deque_begun_so = rw (e, start_deque_run_lem (filled_out s K) p K)
 

@@ -1,13 +1,13 @@
 -- What `wivakkol_deque_limit_on` leaves in the numbers lent to it. Its answer is the refusal's number, 0 where there is none; the row has the place, the limit for choices below c and that for choices 0,
 -- both 0 where the call is refused.
-use Rattle.std.specs.Prelude.{ℕ, List, [], ◌∷◌}
-use Rattle.deque_limit.specs.declared.ChoiceLimits.{ChoiceLimits}
-use Rattle.deque_limit.specs.declared.ChoiceLimits.TheVariants.{Given, Refused}
+use Rattle.std.specs.Prelude.{ℕ, List, [], ◌∷◌, Err, Ok, Result}
+use Rattle.deque_limit.specs.declared.Bounds.{Bounds}
+use Rattle.table.specs.declared.Refusal.{Refusal}
 
-abbrev pub choice_number : ChoiceLimits → ℕ
-choice_number (Given x) = 0
-choice_number (Refused r) = r.number
+abbrev pub choice_number : Result Bounds Refusal → ℕ
+choice_number (Ok x) = 0
+choice_number (Err r) = r.number
 
-abbrev pub choice_row : ChoiceLimits → List ℕ
-choice_row (Given x) = 0 ∷ x.memory ∷ x.near ∷ []
-choice_row (Refused r) = r.place ∷ 0 ∷ 0 ∷ []
+abbrev pub choice_row : Result Bounds Refusal → List ℕ
+choice_row (Ok x) = 0 ∷ x.memory ∷ x.near ∷ []
+choice_row (Err r) = r.place ∷ 0 ∷ 0 ∷ []

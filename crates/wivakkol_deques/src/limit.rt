@@ -3,7 +3,7 @@ ghost use Rattle.std.specs.Prelude.{◌≡◌, length, replicate};
 ghost use Rattle.deque_limit.specs.ChoiceLimit.{choice_limits_in, choice_limits_into};
 ghost use Rattle.wivakkol_deques.specs.ChoiceRows.{choice_number, choice_row};
 
-use deque_limit::{ChoiceLimits, choice_limit_in};
+use deque_limit::choice_limit_in;
 use run_memory::lent::workers;
 
 // The limit of the table that runs for choices below c and for choices 0, or the check that refuses; 61 where the room for the filled-out table is too little. The working memory may hold
@@ -33,11 +33,11 @@ pub fn wivakkol_deque_limit_on(
         table, w, quota, c, filled, rises, falls, serials, depths, peaks, rows,
     );
     match answer {
-        ChoiceLimits::Given(x) => {
+        Ok(x) => {
             *row = [0, x.memory, x.near];
             0
         }
-        ChoiceLimits::Refused(r) => {
+        Err(r) => {
             *row = [r.place as u64, 0, 0];
             r.number as u32
         }

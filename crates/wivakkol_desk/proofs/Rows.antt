@@ -1,4 +1,6 @@
 -- An answer's number and row, where the answer is known.
+use Rattle.std.specs.Prelude.{Result}
+use Rattle.table.specs.declared.Refusal.{Refusal}
 use mathlib.Core.Path.{◌≡◌, sym, ap, ◌∙◌}
 use Prim.Native.Nat.{ℕ}
 use mathlib.Core.List.{List, [], ◌∷◌}
@@ -9,7 +11,6 @@ use Rattle.assembly.specs.declared.Assembled.{Assembled}
 use Rattle.assembly.specs.declared.Assembled.TheVariants.{Malformed}
 use Rattle.assembly.specs.declared.Assembling.{Assembling}
 use Rattle.assembly.specs.declared.Assembling.TheVariants.{Answered, Short}
-use Rattle.assembly.specs.declared.Disassembled.{Disassembled}
 use Rattle.assembly.specs.declared.Disassembling.{Disassembling}
 use Rattle.assembly.specs.declared.Disassembling.TheVariants.{Answered as Told, Short as Lacks}
 use Rattle.wivakkol_desk.specs.Rows.{expected_code, expected_thread, unseen_code, number_of, row_of, assemble_number, assemble_row, listed_number, listed_row, disassemble_number, disassemble_row}
@@ -37,7 +38,7 @@ short_row s x y k g q =
     (ap assemble_number z, ap (λ (v : Assembling). assemble_row s v) z)
 
 -- and of a table
-pub told_row : (x y : Disassembling) (a b : Disassembled) → x ≡ Told a → a ≡ b → x ≡ y → (listed_number b ≡ disassemble_number y) × (listed_row b ≡ disassemble_row y)
+pub told_row : (x y : Disassembling) (a b : Result ℕ Refusal) → x ≡ Told a → a ≡ b → x ≡ y → (listed_number b ≡ disassemble_number y) × (listed_row b ≡ disassemble_row y)
 told_row x y a b g d q =
     let z : Told b ≡ y = ap Told (sym d) ∙ sym g ∙ q in
     (ap disassemble_number z, ap disassemble_row z)

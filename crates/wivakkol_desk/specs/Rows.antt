@@ -1,5 +1,6 @@
 -- What the desk's calls return and leave in the rows lent to them: a refusal's number, 0 where there is none; the place, the bytes written or, with 61, needed, and where a text is at fault.
-use Rattle.std.specs.Prelude.{ℕ, List, [], ◌∷◌}
+use Rattle.std.specs.Prelude.{ℕ, List, [], ◌∷◌, Err, Ok, Result}
+use Rattle.table.specs.declared.Refusal.{Refusal}
 use Rattle.assembly.specs.Unseen.{unseen_at}
 use Rattle.assembly.specs.declared.Expected.{Expected}
 use Rattle.assembly.specs.declared.Expected.TheVariants.{Keyword, Number, LineEnd, NextThread}
@@ -9,8 +10,6 @@ use Rattle.assembly.specs.declared.Assembled.{Assembled}
 use Rattle.assembly.specs.declared.Assembled.TheVariants.{Written, TooLong, Malformed, Refused}
 use Rattle.assembly.specs.declared.Assembling.{Assembling}
 use Rattle.assembly.specs.declared.Assembling.TheVariants.{Answered, Short}
-use Rattle.assembly.specs.declared.Disassembled.{Disassembled}
-use Rattle.assembly.specs.declared.Disassembled.TheVariants.{Listed, Refused as Rejected}
 use Rattle.assembly.specs.declared.Disassembling.{Disassembling}
 use Rattle.assembly.specs.declared.Disassembling.TheVariants.{Answered as Told, Short as Lacks}
 
@@ -58,13 +57,13 @@ assemble_row s (Answered a) = row_of s a
 assemble_row s (Short k) = 0 ∷ k ∷ 0 ∷ 0 ∷ 0 ∷ 0 ∷ []
 
 -- of a table: the number, and then the place and the text's bytes
-abbrev pub listed_number : Disassembled → ℕ
-listed_number (Listed k) = 0
-listed_number (Rejected r) = r.number
+abbrev pub listed_number : Result ℕ Refusal → ℕ
+listed_number (Ok k) = 0
+listed_number (Err r) = r.number
 
-abbrev pub listed_row : Disassembled → List ℕ
-listed_row (Listed k) = 0 ∷ k ∷ []
-listed_row (Rejected r) = r.place ∷ 0 ∷ []
+abbrev pub listed_row : Result ℕ Refusal → List ℕ
+listed_row (Ok k) = 0 ∷ k ∷ []
+listed_row (Err r) = r.place ∷ 0 ∷ []
 
 abbrev pub disassemble_number : Disassembling → ℕ
 disassemble_number (Told a) = listed_number a

@@ -9,8 +9,7 @@ ghost use Rattle.wivakkol_desk.specs.Rows.{expected_code, expected_thread, unsee
 
 use assembly::unseen::{Unseen, unseen_at};
 use assembly::{
-    Assembled, Assembling, Disassembled, Disassembling, Expected, assemble_in, disassemble_in,
-};
+    Assembled, Assembling, Disassembling, Expected, assemble_in, disassemble_in };
 
 // What should have stood on a line, 1 to 4, and the thread where it is the next one.
 fn expected_code(e: Expected) -> u64
@@ -122,11 +121,11 @@ pub fn wivakkol_disassemble_on(
     match answer {
         Disassembling::Answered(a) => {
             match a {
-                Disassembled::Listed(k) => {
+                Ok(k) => {
                     *row = [0, k as u64];
                     0
                 }
-                Disassembled::Refused(r) => {
+                Err(r) => {
                     *row = [r.place as u64, 0];
                     r.number as u32
                 }

@@ -1,5 +1,7 @@
 -- Setting a mark and going back to one, in lent memory, are N11's on the records that stand there: numbers, the run and every mark. Asked is that the run's truth values are written as 0 and 1,
 -- as every call leaves them.
+use Rattle.std.specs.Prelude.{Err, Ok, Result, ⊤}
+use Rattle.table.specs.declared.Refusal.{Refusal}
 use mathlib.Core.Path.{◌≡◌, refl, sym, ap, ◌∙◌}
 use mathlib.Core.Logic.{◌≢◌}
 use Prim.Native.Nat.{ℕ, zero, suc, ◌+◌, ◌<◌}
@@ -13,8 +15,6 @@ use lib.Seq.{get_or-set_same, get_or-set_other}
 use borrow.Author.Tests.{ltb-true, eq-eqb, ne_eqb}
 use Rattle.table.specs.Sum.{pick, any_below}
 use Rattle.table.specs.Pass.{refusal, try_at}
-use Rattle.table.specs.declared.Found.{Found}
-use Rattle.table.specs.declared.Found.TheVariants.{Nothing, At}
 use Rattle.order.specs.Words.{all_below}
 use Rattle.order.proofs.Words.{all_below_exactly}
 use Rattle.schedule.specs.declared.Worker.{Worker}
@@ -158,15 +158,15 @@ module _ (s : List ℕ) (M : Memory) (K : Marks) where
         neither (fit_in s M) _ ∙ (λ i. run i || rest i)
 
     module _ (i : ℕ) where
-      abbrev set_found : Bool → Bool → Found
-      set_found a b = pick a (pick b Nothing (At (refusal 45 0))) (At (refusal 32 0))
+      abbrev set_found : Bool → Bool → Result ⊤ Refusal
+      set_found a b = pick a (pick b (Ok tt) (Err (refusal 45 0))) (Err (refusal 32 0))
 
       set_found_lem : try_at (set_checks m i) 0 ≡ set_found (fit_marked s M K) (ltb i 8)
       unfolding try_at
       set_found_lem =
-          ap (λ (q : Bool). pick q (At (refusal 32 0)) (pick (not (ltb i 8)) (At (refusal 45 0)) Nothing)) (sym bad_same) ∙ go (fit_marked s M K) (ltb i 8)
+          ap (λ (q : Bool). pick q (Err (refusal 32 0)) (pick (not (ltb i 8)) (Err (refusal 45 0)) (Ok tt))) (sym bad_same) ∙ go (fit_marked s M K) (ltb i 8)
         where
-          go : (a b : Bool) → pick (not a) (At (refusal 32 0)) (pick (not b) (At (refusal 45 0)) Nothing) ≡ set_found a b
+          go : (a b : Bool) → pick (not a) (Err (refusal 32 0)) (pick (not b) (Err (refusal 45 0)) (Ok tt)) ≡ set_found a b
           go true true = refl
           go true false = refl
           go false b = refl
@@ -184,24 +184,24 @@ module _ (s : List ℕ) (M : Memory) (K : Marks) where
           go true false = refl
           go false b = refl
 
-      abbrev back_found : Bool → Bool → Bool → Found
-      back_found a b c = pick a (pick b (pick c Nothing (At (refusal 46 0))) (At (refusal 45 0))) (At (refusal 32 0))
+      abbrev back_found : Bool → Bool → Bool → Result ⊤ Refusal
+      back_found a b c = pick a (pick b (pick c (Ok tt) (Err (refusal 46 0))) (Err (refusal 45 0))) (Err (refusal 32 0))
 
-      set_here : i < 8 → pick (not (is_set (mark_of m i))) (At (refusal 46 0)) Nothing ≡ pick (is_set_in K i) Nothing (At (refusal 46 0))
-      set_here l = ap (λ (x : Mark). pick (not (is_set x)) (At (refusal 46 0)) Nothing) (mark_here i l) ∙ go (is_set_in K i)
+      set_here : i < 8 → pick (not (is_set (mark_of m i))) (Err (refusal 46 0)) (Ok tt) ≡ pick (is_set_in K i) (Ok tt) (Err (refusal 46 0))
+      set_here l = ap (λ (x : Mark). pick (not (is_set x)) (Err (refusal 46 0)) (Ok tt)) (mark_here i l) ∙ go (is_set_in K i)
         where
-          go : (c : Bool) → pick (not (is_set (pick c (kept (record_in s (mark_in K i))) unset))) (At (refusal 46 0)) Nothing ≡ pick c Nothing (At (refusal 46 0))
+          go : (c : Bool) → pick (not (is_set (pick c (kept (record_in s (mark_in K i))) unset))) (Err (refusal 46 0)) (Ok tt) ≡ pick c (Ok tt) (Err (refusal 46 0))
           go true = refl
           go false = refl
 
       back_found_lem : try_at (back_checks m i) 0 ≡ back_found (fit_marked s M K) (ltb i 8) (is_set_in K i)
       unfolding try_at
       back_found_lem =
-          ap (λ (q : Bool). pick q (At (refusal 32 0)) (pick (not (ltb i 8)) (At (refusal 45 0)) (pick (not (is_set (mark_of m i))) (At (refusal 46 0)) Nothing))) (sym bad_same)
+          ap (λ (q : Bool). pick q (Err (refusal 32 0)) (pick (not (ltb i 8)) (Err (refusal 45 0)) (pick (not (is_set (mark_of m i))) (Err (refusal 46 0)) (Ok tt)))) (sym bad_same)
           ∙ go (fit_marked s M K) (ltb i 8) refl
         where
           go : (a b : Bool) → ltb i 8 ≡ b
-              → pick (not a) (At (refusal 32 0)) (pick (not b) (At (refusal 45 0)) (pick (not (is_set (mark_of m i))) (At (refusal 46 0)) Nothing)) ≡ back_found a b (is_set_in K i)
+              → pick (not a) (Err (refusal 32 0)) (pick (not b) (Err (refusal 45 0)) (pick (not (is_set (mark_of m i))) (Err (refusal 46 0)) (Ok tt))) ≡ back_found a b (is_set_in K i)
           go true true e = set_here (ltb-true i 8 e)
           go true false e = refl
           go false b e = refl
@@ -228,7 +228,7 @@ module _ (s : List ℕ) (M : Memory) (K : Marks) where
 
       pub back_refines : marked_in s (lent_back s i M K).memory K ≡ back_as (try_at (back_checks m i) 0) i m
       unfolding lent_back back_fault
-      back_refines = go (fit_marked s M K) (ltb i 8) refl (is_set_in K i) refl ∙ ap (λ (f : Found). back_as f i m) (sym back_found_lem)
+      back_refines = go (fit_marked s M K) (ltb i 8) refl (is_set_in K i) refl ∙ ap (λ (f : Result ⊤ Refusal). back_as f i m) (sym back_found_lem)
         where
           go : (a b : Bool) → ltb i 8 ≡ b → (c : Bool) → is_set_in K i ≡ c
               → marked_in s (pick (eqb (back_number a b c) 0) (going 0 (lent_open s (mark_in K i)).memory) (going (back_number a b c) M)).memory K ≡ back_as (back_found a b c) i m
@@ -278,7 +278,7 @@ module _ (s : List ℕ) (M : Memory) (K : Marks) where
       -- "Setting one stores the run as it is"; "Setting again replaces"
       pub mark_refines : ((lent_mark s i M K).number ≡ 0 → length K.set ≡ 8) → marked_in s M (lent_mark s i M K).marks ≡ set_as (try_at (set_checks m i) 0) i m
       unfolding lent_mark mark_fault
-      mark_refines n = go (fit_marked s M K) (ltb i 8) refl n ∙ ap (λ (f : Found). set_as f i m) (sym (set_found_lem i))
+      mark_refines n = go (fit_marked s M K) (ltb i 8) refl n ∙ ap (λ (f : Result ⊤ Refusal). set_as f i m) (sym (set_found_lem i))
         where
           go : (a b : Bool) → ltb i 8 ≡ b → ((pick (eqb (set_number i a b) 0) (setting 0 after) (setting (set_number i a b) K)).number ≡ 0 → length K.set ≡ 8)
               → marked_in s M (pick (eqb (set_number i a b) 0) (setting 0 after) (setting (set_number i a b) K)).marks ≡ set_as (set_found i a b) i m

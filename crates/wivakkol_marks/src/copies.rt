@@ -12,10 +12,8 @@ fn copy_bytes(from: &[u8], start: usize, to: &mut [u8], at: usize, n: usize)
     requires n_in_bounds_2 { at + n ≤ length to.old }
     ensures { to.new ≡ paste to.old at (drop start from.now) n }
 {
-    let mut i = 0;
-    while i < n {
+    for i in 0..n {
         to[at + i] = from[start + i];
-        i += 1;
     }
 }
 
@@ -24,10 +22,8 @@ fn copy_words(from: &[u16], start: usize, to: &mut [u16], at: usize, n: usize)
     requires n_in_bounds_2 { at + n ≤ length to.old }
     ensures { to.new ≡ paste to.old at (drop start from.now) n }
 {
-    let mut i = 0;
-    while i < n {
+    for i in 0..n {
         to[at + i] = from[start + i];
-        i += 1;
     }
 }
 
@@ -36,10 +32,8 @@ fn copy_numbers(from: &[u32], start: usize, to: &mut [u32], at: usize, n: usize)
     requires n_in_bounds_2 { at + n ≤ length to.old }
     ensures { to.new ≡ paste to.old at (drop start from.now) n }
 {
-    let mut i = 0;
-    while i < n {
+    for i in 0..n {
         to[at + i] = from[start + i];
-        i += 1;
     }
 }
 
@@ -48,10 +42,8 @@ fn copy_sums(from: &[u64], start: usize, to: &mut [u64], at: usize, n: usize)
     requires n_in_bounds_2 { at + n ≤ length to.old }
     ensures { to.new ≡ paste to.old at (drop start from.now) n }
 {
-    let mut i = 0;
-    while i < n {
+    for i in 0..n {
         to[at + i] = from[start + i];
-        i += 1;
     }
 }
 

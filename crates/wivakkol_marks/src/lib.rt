@@ -96,8 +96,7 @@ fn fit_marks(
 ) -> bool
     ensures { result ≡ fit_marks table.now (marks_of set.now markbytes.now markwords.now marknumbers.now marksums.now) }
 {
-    let mut i = 0;
-    while i < 8 {
+    for i in 0..8 {
         let fits = fit_mark(
             i,
             table,
@@ -124,7 +123,6 @@ fn fit_marks(
         if !fits {
             return false;
         }
-        i += 1;
     }
     true
 }

@@ -30,12 +30,10 @@ const NEITHER: u8 = 0;
 fn truths_right(bytes: &[u8; 1040]) -> bool
     ensures { result ≡ truths (bytes_in bytes.now).holds }
 {
-    let mut w = 0;
-    while w < 16 {
+    for w in 0..16 {
         if 1 < bytes[1024 + w] {
             return false;
         }
-        w += 1;
     }
     true
 }

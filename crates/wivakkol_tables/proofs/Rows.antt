@@ -1,14 +1,15 @@
 -- An answer's number and row are those of its values.
+use Rattle.std.specs.Prelude.{Result, ℕ}
+use Rattle.table.specs.declared.Refusal.{Refusal}
 use mathlib.Core.Path.{◌≡◌, sym, ap, ◌∙◌}
 use Rattle.canonical.specs.Answers.{FormValues, form_values_of, CompareValues, compare_values_of}
-use Rattle.canonical.specs.declared.Formed.{Formed}
 use Rattle.canonical.specs.declared.Compared.{Compared}
 use Rattle.joining.specs.Answers.{JoinValues, join_values_of}
 use Rattle.joining.specs.declared.Joined.{Joined}
 use Rattle.wivakkol_tables.specs.Rows.{form_row, compare_row, join_row}
 
 -- of an answer x that is y, and whose values are v
-pub form_row_lem : (x y : Formed) (v : FormValues) → x ≡ y → form_values_of x ≡ v → ((form_values_of y).number ≡ v.number) × (form_row (form_values_of y) ≡ form_row v)
+pub form_row_lem : (x y : Result ℕ Refusal) (v : FormValues) → x ≡ y → form_values_of x ≡ v → ((form_values_of y).number ≡ v.number) × (form_row (form_values_of y) ≡ form_row v)
 form_row_lem x y v e p =
     let z : form_values_of y ≡ v = ap form_values_of (sym e) ∙ p in
     (ap (λ (w : FormValues). w.number) z, ap form_row z)

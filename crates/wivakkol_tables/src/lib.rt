@@ -8,7 +8,7 @@ ghost use Rattle.canonical.specs.Answers.{formed_in, form_values, compared_in, c
 ghost use Rattle.joining.specs.Answers.{joined_in, join_values};
 ghost use Rattle.wivakkol_tables.specs.Rows.{form_row, compare_row, join_row};
 
-use canonical::{Compared, Formed, compare_in, form_in};
+use canonical::{Compared, compare_in, form_in};
 use joining::{Joined, join_in};
 
 // The canonical form of a table. The working memory of these calls may hold anything, and is left cleared.
@@ -29,11 +29,11 @@ pub fn wivakkol_canonical_on(
 {
     let answer = form_in(table, out, rises, falls, names, order);
     match answer {
-        Formed::Written(k) => {
+        Ok(k) => {
             *row = [0, k as u64];
             0
         }
-        Formed::Refused(r) => {
+        Err(r) => {
             *row = [r.place as u64, 0];
             r.number as u32
         }

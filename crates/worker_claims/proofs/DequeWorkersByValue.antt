@@ -1,12 +1,12 @@
 -- Real memory for the running code of DFDeques, by value: each turn is a call of `dfdeques::deque_turn` on the record that the last one left, of which nothing is known but its promise.
 -- `deque_worked_is`: the record, real memory and the row of pairs are those of the definitions. `deque_worked_exists`: every list of events that keeps rule 4 has one, and so from a beginning every row of pairs (`deque_turns_worked_exist`).
 -- `deque_code_real_memory`: and so all that crates/deque_workers says of real memory holds.
+use Rattle.std.specs.Prelude.{Ok}
 use mathlib.Core.Path.{◌≡◌, refl, sym, ap, ap₂, subst, ◌∙◌}
 use Prim.Native.Nat.{ℕ}
 use mathlib.Core.List.{List, [], ◌∷◌, ◌++◌}
 use Rattle.table.specs.Format.{table_of}
 use Rattle.filling.specs.Filled.{filled_out}
-use Rattle.schedule.specs.declared.Beginning.TheVariants.{Begun as started}
 use Rattle.schedule.specs.Record.{table_in}
 use Rattle.deques.specs.declared.DequeBegun.{DequeBegun}
 use Rattle.deques.specs.declared.DequeTurned.{DequeTurned}
@@ -76,11 +76,11 @@ pub deque_turns_worked_exist : (s : List ℕ) (p K : ℕ) (row : List Pair)
 deque_turns_worked_exist s p K row = (_, (_, deque_begun_worked_exists s p K (deque_in_turn row) (deque_in_turn_orderly row (starting_deques (deque_begin s p K).run) (λ w. refl))))
 
 -- Beginning accepted the bytes, p and K, and any events followed.
-pub deque_code_real_memory : {s : List ℕ} {p K : ℕ} {b : DequeBegun} → BeginSays s p K b → b.answer ≡ started → {l : List DequeEvent} {row : List Pair} {z : DequeWorkers}
+pub deque_code_real_memory : {s : List ℕ} {p K : ℕ} {b : DequeBegun} → BeginSays s p K b → b.answer ≡ Ok tt → {l : List DequeEvent} {row : List Pair} {z : DequeWorkers}
     → DequeWorked (starting_deques b.run) l row z → DequeRealMemory (table_of (filled_out s K)) p K z row
 deque_code_real_memory {s} {p} {K} {b} h e {l} {row} {z} t =
     let d : DefinedDequeWork (starting_deques b.run) l row z = deque_worked_is t in
-    let f : deque_begin s p K ≡ record { answer = started; run = b.run } = sym (begin_is h) ∙ (λ i. record { answer = e i; run = b.run }) in
+    let f : deque_begin s p K ≡ record { answer = Ok tt; run = b.run } = sym (begin_is h) ∙ (λ i. record { answer = e i; run = b.run }) in
     subst (λ (x : DequeWorkers). DequeRealMemory (table_of (filled_out s K)) p K x row) (sym d.state_is)
     (subst (λ (x : List Pair). DequeRealMemory (table_of (filled_out s K)) p K (after_deque_events l (starting_deques b.run)) x) (sym d.row_is)
     (deque_real_memory s p K b.run f l d.orderly))

@@ -2,6 +2,9 @@
 -- say what its worker does. Nothing is known but their promises. `lent_deque_worked_is`: what stands in memory, real memory and the row of pairs are those of the definitions.
 -- `lent_deque_worked_exists`: every list of events that keeps rule 4 has one, and so from a beginning every row of pairs (`lent_deque_turns_worked_exist`). `lent_deque_code_real_memory`: and so all that
 -- crates/deque_workers says of real memory holds.
+use Rattle.std.specs.Prelude.{Err, Ok, Result}
+use Rattle.schedule.specs.declared.Reply.{Reply}
+use Rattle.table.specs.declared.Refusal.{Refusal}
 use mathlib.Core.Path.{◌≡◌, refl, sym, ap, ap₂, subst, ◌∙◌}
 use Prim.Native.Nat.{ℕ, ◌<◌}
 use native.Mathlib.Decide.{ℕ_discrete}
@@ -18,8 +21,6 @@ use Rattle.run_memory.specs.Memory.{Memory, Answer}
 use Rattle.run_memory.specs.Stands.{run_in, values_row}
 use Rattle.deques.specs.declared.DequeRun.{DequeRun}
 use Rattle.deques.specs.declared.DequeBegun.{DequeBegun}
-use Rattle.deques.specs.declared.DequeTurning.{DequeTurning}
-use Rattle.deques.specs.declared.DequeTurning.TheVariants.{Taken, Refused}
 use Rattle.deques.specs.DequeBegin.{deque_begin}
 use Rattle.deques.specs.DequeTurn.{deque_turned}
 use Rattle.deques.specs.DequeRuns.{Pair, pair}
@@ -87,21 +88,21 @@ module _ (u : List ℕ) (M : Memory) (h : DequesStand u M) (w c : ℕ) where
   done_effect : said_in (lent_deque_turn u w c M) ≡ 2 → read_in u (lent_deque_turn u w c M) ≡ deque_effect_in (table_in (run_in u M)) (deque_turned (deque_run_in u M) w c).answer
   done_effect = go (deque_turned (deque_run_in u M) w c).answer refl row_so
     where
-      go : (x : DequeTurning) → (deque_turned (deque_run_in u M) w c).answer ≡ x → (lent_deque_turn u w c M).row ≡ values_row (deque_turning_values x) → said_in (lent_deque_turn u w c M) ≡ 2
+      go : (x : Result Reply Refusal) → (deque_turned (deque_run_in u M) w c).answer ≡ x → (lent_deque_turn u w c M).row ≡ values_row (deque_turning_values x) → said_in (lent_deque_turn u w c M) ≡ 2
           → read_in u (lent_deque_turn u w c M) ≡ deque_effect_in (table_in (run_in u M)) x
-      go (Taken x) e r q =
+      go (Ok x) e r q =
           let there : (t a : ℕ) → x ≡ Done t a → a < (table_of u).actions =
           λ t a i. rw table_is at (deque_action_there (deque_run_in u M) h.steady w c t a (rw i at e)) in
           rw table_is (done_read u x 0 (lent_deque_turn u w c M) (r ∙ ap values_row (unpassed x)) q there)
-      go (Refused y) e r q = absurd (refused_silent y (lent_deque_turn u w c M) r q)
+      go (Err y) e r q = absurd (refused_silent y (lent_deque_turn u w c M) r q)
 
   other_effect : ((lent_deque_turn u w c M).number ≡ 0 → said_in (lent_deque_turn u w c M) ≡ 2 → ⊥) → nothing ≡ deque_effect_in (table_in (run_in u M)) (deque_turned (deque_run_in u M) w c).answer
   other_effect n = go (deque_turned (deque_run_in u M) w c).answer number_is row_so
     where
-      go : (x : DequeTurning) → (lent_deque_turn u w c M).number ≡ (deque_turning_values x).number → (lent_deque_turn u w c M).row ≡ values_row (deque_turning_values x)
+      go : (x : Result Reply Refusal) → (lent_deque_turn u w c M).number ≡ (deque_turning_values x).number → (lent_deque_turn u w c M).row ≡ values_row (deque_turning_values x)
           → nothing ≡ deque_effect_in (table_in (run_in u M)) x
-      go (Taken x) i r = other_nothing (table_in (run_in u M)) x 0 (lent_deque_turn u w c M) (r ∙ ap values_row (unpassed x)) (n (i ∙ reply_number x))
-      go (Refused y) i r = refl
+      go (Ok x) i r = other_nothing (table_in (run_in u M)) x 0 (lent_deque_turn u w c M) (r ∙ ap values_row (unpassed x)) (n (i ∙ reply_number x))
+      go (Err y) i r = refl
 
   module _ (m : Real) where
     -- with the effect read, what stands after the turn is the event's

@@ -1,13 +1,13 @@
 -- Real memory for the running code, by value: each turn is a call of `asyncdf::turn` on the record that the last one left, of which nothing is known but its promise. `worked_is`: the record, real memory
 -- and the row of turns are those of the definitions. `worked_exists`: every list of events that keeps the rule has one, and so from a beginning every row of turns (`turns_worked_exist`). `code_real_memory`: and so all that
 -- crates/workers says of real memory holds.
+use Rattle.std.specs.Prelude.{Ok}
 use mathlib.Core.Path.{◌≡◌, refl, sym, ap, ap₂, subst, ◌∙◌}
 use Prim.Native.Nat.{ℕ}
 use mathlib.Core.List.{List, [], ◌∷◌, ◌++◌}
 use Rattle.table.specs.Format.{table_of}
 use Rattle.filling.specs.Filled.{filled_out}
 use Rattle.schedule.specs.declared.Begun.{Begun}
-use Rattle.schedule.specs.declared.Beginning.TheVariants.{Begun as started}
 use Rattle.schedule.specs.declared.Turned.{Turned}
 use Rattle.schedule.specs.Record.{table_in}
 use Rattle.schedule.specs.Begin.{begin}
@@ -72,10 +72,10 @@ pub turns_worked_exist : (s : List ℕ) (p K : ℕ) (row : List ℕ) → (taken 
 turns_worked_exist s p K row = (_, (_, begun_worked_exists s p K (in_turn row) (in_turn_orderly row (starting (begin s p K).run) (λ w. refl))))
 
 -- Beginning accepted the bytes, p and K, and any events followed.
-pub code_real_memory : {s : List ℕ} {p K : ℕ} {b : Begun} → BeginSays s p K b → b.answer ≡ started → {l : List Event} {row : List ℕ} {z : Workers}
+pub code_real_memory : {s : List ℕ} {p K : ℕ} {b : Begun} → BeginSays s p K b → b.answer ≡ Ok tt → {l : List Event} {row : List ℕ} {z : Workers}
     → Worked (starting b.run) l row z → RealMemory (table_of (filled_out s K)) p K z row
 code_real_memory {s} {p} {K} {b} h e {l} {row} {z} t =
     let d : DefinedWork (starting b.run) l row z = worked_is t in
-    let f : begin s p K ≡ record { answer = started; run = b.run } = sym (begin_is h) ∙ (λ i. record { answer = e i; run = b.run }) in
+    let f : begin s p K ≡ record { answer = Ok tt; run = b.run } = sym (begin_is h) ∙ (λ i. record { answer = e i; run = b.run }) in
     subst (λ (x : Workers). RealMemory (table_of (filled_out s K)) p K x row) (sym d.state_is)
     (subst (λ (x : List ℕ). RealMemory (table_of (filled_out s K)) p K (after_events l (starting b.run)) x) (sym d.row_is) (real_memory s p K b.run f l d.orderly))

@@ -2,6 +2,8 @@
 -- `wivakkol_argument` say what its worker does. Nothing is known but their promises. `lent_worked_is`: what stands in memory, real memory and the row of turns are those of the definitions.
 -- `lent_worked_exists`: every list of events that keeps the rule has one, and so from a beginning every row of turns (`lent_turns_worked_exist`). `lent_code_real_memory`: and so all that
 -- crates/workers says of real memory holds.
+use Rattle.std.specs.Prelude.{Err, Ok, Result, ⊤}
+use Rattle.table.specs.declared.Refusal.{Refusal}
 use mathlib.Core.Path.{◌≡◌, refl, sym, ap, ap₂, subst, ◌∙◌}
 use Prim.Native.Nat.{ℕ, ◌<◌}
 use native.Mathlib.Decide.{ℕ_discrete}
@@ -11,8 +13,6 @@ use lib.ListN.{length}
 use Rattle.table.specs.Sum.{pick}
 use Rattle.table.specs.Format.{kind_of, table_of}
 use Rattle.table.specs.Pass.{try_at}
-use Rattle.table.specs.declared.Found.{Found}
-use Rattle.table.specs.declared.Found.TheVariants.{Nothing, At}
 use Rattle.table.proofs.Tests.{no_way}
 use Rattle.table.proofs.Trying.{try_at_nothing}
 use Rattle.filling.specs.Filled.{filled_out}
@@ -83,11 +83,11 @@ action_there r h w t a k q = go (try_at (turn_checks r w) 0) refl q
     at (idles i z n u v) e = no_way (cc)
     at (tries t' a' x) e = rw (x.acted.answers t a e) x.within
 
-    go : (f : Found) → try_at (turn_checks r w) 0 ≡ f → (turned_as f r (passed_in r w) (step_run r w)).answer ≡ Taken (Done t a) k → a < (table_in r).actions
-    go Nothing e i =
+    go : (f : Result ⊤ Refusal) → try_at (turn_checks r w) 0 ≡ f → (turned_as f r (passed_in r w) (step_run r w)).answer ≡ Taken (Done t a) k → a < (table_in r).actions
+    go (Ok _) e i =
         let b : w < r.workers = ltb-true w r.workers (not-false _ ((try_at_nothing (turn_checks r w) 0).0 e).1.0) in
         at (tried (table_in r) (steady_lawful r h) r.workers r.quota (steady_fits r h).few_workers w b (state_of r) (steady_facts r h)) (cc)
-    go (At y) e i = no_way (cc)
+    go (Err y) e i = no_way (cc)
 
 module _ (u : List ℕ) (M : Memory) (h : Stands u M) (w : ℕ) where
   table_is : table_in (run_in u M) ≡ table_of u

@@ -1,11 +1,11 @@
 -- Rules 2 and 4 are needed: what is computed of turns on sound records holds of turns as they are defined, each with its test of the whole record.
+use Rattle.std.specs.Prelude.{Ok}
 use mathlib.Core.Path.{◌≡◌, refl, ap, ◌∙◌}
 use Prim.Native.Nat.{ℕ, ◌+◌, ◌-◌, ◌^◌, ◌≤◌}
 use native.Mathlib.Omega.{arith}
 use mathlib.Core.List.{List, [], ◌∷◌}
 use mathlib.Core.Bool.{Bool, ◌&&◌}
 use lib.ListN.{length}
-use Rattle.schedule.specs.declared.Beginning.TheVariants.{Begun as started}
 use Rattle.schedule.specs.Begin.{begin}
 use Rattle.schedule.specs.Sound.{Steady}
 use Rattle.schedule.specs.Turn.{turned}
@@ -38,7 +38,7 @@ always_sound test (work w ∷ l) s h k = ap (test (work w) s &&◌) (always_soun
 always_sound test (freed w ∷ l) s h k = ap (test (freed w) s &&◌) (always_sound test l _ h (omega arith))
 
 -- from the beginning
-case_sound : (bytes : List ℕ) (p K : ℕ) (l : List LateEvent) → length l ≤ 2 ^ 64 - 1 → (begin bytes p K).answer ≡ started → case_of turned bytes p K l ≡ case_of turned_sound bytes p K l
+case_sound : (bytes : List ℕ) (p K : ℕ) (l : List LateEvent) → length l ≤ 2 ^ 64 - 1 → (begin bytes p K).answer ≡ Ok tt → case_of turned bytes p K l ≡ case_of turned_sound bytes p K l
 case_sound bytes p K l k e =
     let s : Late = start_late (begin bytes p K).run in
     let f = begun_fresh bytes p K e in
@@ -47,7 +47,7 @@ case_sound bytes p K l k e =
     rw (g, h, late_sound l s f.0 (omega (arith, f.1)))
 
 -- a case that is computed
-of_turns : (bytes : List ℕ) (p K : ℕ) (l : List LateEvent) (c : RuleCase) → length l ≤ 2 ^ 64 - 1 → c.begun ≡ started → case_of turned_sound bytes p K l ≡ c → case_of turned bytes p K l ≡ c
+of_turns : (bytes : List ℕ) (p K : ℕ) (l : List LateEvent) (c : RuleCase) → length l ≤ 2 ^ 64 - 1 → c.begun ≡ Ok tt → case_of turned_sound bytes p K l ≡ c → case_of turned bytes p K l ≡ c
 of_turns bytes p K l c k b e = case_sound bytes p K l k (ap (λ (x : RuleCase). x.begun) e ∙ b) ∙ e
 
 -- Rule 2 broken alone: real memory is 2 where the run's highest is 1; with the free in time it is 1.

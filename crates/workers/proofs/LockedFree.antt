@@ -1,5 +1,7 @@
 -- The limits hold at every moment, also between the turn of a free and the free itself, while the others go on with what is pending for them: no turn comes in between, since the lock is not given back.
 -- Until the free is made, real memory agrees with the record before its turn.
+use Rattle.std.specs.Prelude.{Err, Ok, Result, ⊤}
+use Rattle.table.specs.declared.Refusal.{Refusal}
 use mathlib.Core.Path.{◌≡◌, refl, sym, ◌∙◌}
 use Prim.Native.Nat.{ℕ, ◌+◌, ◌≤◌, ◌<◌}
 use native.Mathlib.Omega.{arith}
@@ -9,12 +11,9 @@ use borrow.Author.Tests.{eq-eqb, ne_eqb}
 use Rattle.table.specs.Sum.{sum_to}
 use Rattle.table.specs.Format.{Table, table_of}
 use Rattle.table.specs.Pass.{try_at}
-use Rattle.table.specs.declared.Found.{Found}
-use Rattle.table.specs.declared.Found.TheVariants.{Nothing, At}
 use Rattle.table.proofs.Sums.{sum_to_zero, sum_to_one}
 use Rattle.table.proofs.Tests.{no_way}
 use Rattle.schedule.specs.declared.Run.{Run}
-use Rattle.schedule.specs.declared.Beginning.TheVariants.{Begun as started}
 use Rattle.schedule.specs.Record.{table_in, state_of}
 use Rattle.schedule.specs.Begin.{begin}
 use Rattle.schedule.specs.Sound.{Steady}
@@ -73,10 +72,10 @@ free_turns : (r : Run) → Steady r → (w t x : ℕ) → effect_in (table_in r)
 unfolding turned
 free_turns r h w t x q = go (try_at (turn_checks r w) 0) refl q
   where
-    go : (f : Found) → try_at (turn_checks r w) 0 ≡ f → effect_in (table_in r) (turned_as f r (passed_in r w) (step_run r w)).answer ≡ frees t x
+    go : (f : Result ⊤ Refusal) → try_at (turn_checks r w) 0 ≡ f → effect_in (table_in r) (turned_as f r (passed_in r w) (step_run r w)).answer ≡ frees t x
         → Turns (table_in r) (frees t x) w (state_of r) (state_of (turned_as f r (passed_in r w) (step_run r w)).run)
-    go Nothing e i = let z : effect_of (table_in r) (step_run r w).reply ≡ frees t x = i in rw z at (taken_turn r h w e)
-    go (At y) e i = no_way (cc)
+    go (Ok _) e i = let z : effect_of (table_in r) (step_run r w).reply ≡ frees t x = i in rw z at (taken_turn r h w e)
+    go (Err y) e i = no_way (cc)
 
 -- ---- events
 
@@ -218,7 +217,7 @@ stands s (locked r h w t x is q owes rest n g) =
 
 -- ---- from a beginning
 
-module _ (s : List ℕ) (p K : ℕ) (r : Run) (e : begin s p K ≡ record { answer = started; run = r }) where
+module _ (s : List ℕ) (p K : ℕ) (r : Run) (e : begin s p K ≡ record { answer = Ok tt; run = r }) where
   -- for every accepted table, p and K and every list of events from the beginning that keeps the rules
   pub locked_memory : (events : List LateEvent) → LateOrderly events (start_late r)
       → LockedMemory (table_of (filled_out s K)) p K (after_late turned events (start_late r)) (row_of_calls (late_calls_of events) r)

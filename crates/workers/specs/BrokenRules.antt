@@ -1,5 +1,6 @@
 -- Rules 2 and 4 of docs/WORKERS.md are needed: two lists of events, each of which breaks one of them alone, and real memory passes the run's highest; in time it does not.
-use Rattle.std.specs.Prelude.{◌≡◌, refl, ℕ, List, [], ◌∷◌, Bool, true, false, ◌&&◌}
+use Rattle.std.specs.Prelude.{◌≡◌, refl, ℕ, List, [], ◌∷◌, Bool, true, false, ◌&&◌, Ok, Result, ⊤}
+use Rattle.table.specs.declared.Refusal.{Refusal}
 use Rattle.table.specs.Sum.{sum_to, any_below}
 use Rattle.table.specs.Format.{end, alloc, free, fork, join, code_of, kind_of, is, table_of}
 use Rattle.table.specs.Pass.{try_at, try_from, try_pass, first_found}
@@ -13,8 +14,6 @@ use Rattle.order.specs.Words.{all_below}
 use Rattle.filling.specs.Filled.{big, filled_out, overfull}
 use Rattle.schedule.specs.declared.Run.{Run}
 use Rattle.schedule.specs.declared.Turned.{Turned}
-use Rattle.schedule.specs.declared.Beginning.{Beginning}
-use Rattle.schedule.specs.declared.Beginning.TheVariants.{Begun as started}
 use Rattle.schedule.specs.Machine.{left_of, without, waits_for, woken, act_by, act, leftmost, taken, turn_free, turn_of, passed_by}
 use Rattle.schedule.specs.Record.{max_workers, set_of}
 use Rattle.schedule.specs.Links.{walk, right_in}
@@ -58,7 +57,7 @@ always test turns (e ∷ l) s = test e s && always test turns l (late_event turn
 
 -- whether the beginning is accepted and either rule kept, what the threads really have together, and the run's highest
 pub record RuleCase : Type 0 where
-  pub begun : Beginning
+  pub begun : Result ⊤ Refusal
   pub one_by_one : Bool
   pub freed_before_lem : Bool
   pub memory : ℕ
@@ -76,7 +75,7 @@ case_of turns bytes p K l =
     }
 
 abbrev pub rule_case : Bool → Bool → ℕ → ℕ → RuleCase
-rule_case one before m h = record { begun = started; one_by_one = one; freed_before_lem = before; memory = m; highest = h }
+rule_case one before m h = record { begun = Ok tt; one_by_one = one; freed_before_lem = before; memory = m; highest = h }
 
 -- thread 0 forks thread 1 and draws 1; thread 1 draws 1 and gives it back
 unfoldable pub late_table : List ℕ

@@ -1,4 +1,6 @@
 -- `assembly::write_table` meets its contract: check 2, the room, the rows, and what loading them answers.
+use Rattle.std.specs.Prelude.{Err, Result}
+use Rattle.table.specs.declared.Facts.{Facts}
 use Prim.Native.Nat.{ℕ, ◌+◌, ◌*◌, ◌≤◌, ◌<◌}
 use native.Mathlib.Omega.{arith}
 use mathlib.Core.Path.{◌≡◌, sym, ap, ◌∙◌}
@@ -9,8 +11,6 @@ use lib.Seq.{take_at, length-take-le}
 use Rattle.table.specs.Pass.{refusal}
 use Rattle.table.specs.Load.{loaded}
 use Rattle.table.specs.declared.Refusal.{Refusal}
-use Rattle.table.specs.declared.Loaded.{Loaded}
-use Rattle.table.specs.declared.Loaded.TheVariants.{Refused}
 use Rattle.text.specs.Text.{buffer_at}
 use Rattle.text.specs.Puts.{put_all}
 use Rattle.assembly.specs.Said.{saids}
@@ -27,7 +27,7 @@ use Rattle.assembly.proofs.TableRows.{in_range, table_put}
 use Rattle.assembly.proofs.Rooms.{fits, lacks, put_in_lem, kept}
 use Rattle.assembly.proofs.write_table.Goals as goal
 
-rejected : (l : List Said) {y : Loaded} {r : Refusal} {j : ℕ} → y ≡ Refused r → j ≡ refused_at r l → Rejected r j ≡ judged y l
+rejected : (l : List Said) {y : Result Facts Refusal} {r : Refusal} {j : ℕ} → y ≡ Err r → j ≡ refused_at r l → Rejected r j ≡ judged y l
 rejected l {r = r} e q = rw e (ap (λ (i : ℕ). Rejected r i) q)
 
 -- an answer and a buffer are those of a well-formed text of n threads and m actions
@@ -70,9 +70,9 @@ module _ (text : List ℕ) (n m : ℕ) (s : List ℕ) (z : Sized text n m) (room
     within : k ≤ length o
     within = omega (arith, placed.0, ap length placed.1, length-append (table_bytes lines) (drop (length (table_bytes lines)) s))
 
-    answers : {x : Assembled} {y : Loaded} → y ≡ loaded (take k o) → x ≡ judged y lines → Answers lines n m s (Answered x) o
+    answers : {x : Assembled} {y : Result Facts Refusal} → y ≡ loaded (take k o) → x ≡ judged y lines → Answers lines n m s (Answered x) o
     answers e d = (
-      fits (length s) (bytes_by (WellFormed n m)) enough (rw inside (d ∙ ap (λ (w : Loaded). judged w lines) (e ∙ ap loaded bytes))),
+      fits (length s) (bytes_by (WellFormed n m)) enough (rw inside (d ∙ ap (λ (w : Result Facts Refusal). judged w lines) (e ∙ ap loaded bytes))),
       put_in_lem (bytes_by (WellFormed n m)) s enough (rw inside placed.1),
     )
 
@@ -106,9 +106,9 @@ slice_bounds-load_in-end-2 c = sym (length-take-le _ _ (within _ _ _ _ c.require
 pub refused_at-requires : goal.refused_at-requires
 refused_at-requires c = c.requires.short
 
-pub returns-in-Accepted : goal.returns-in-Accepted
-returns-in-Accepted c = let both = answers _ _ _ _ c.requires c.if-out-size.false (sym c.sizes_outside.ensures ∙ c.if-sizes_outside.false) _ _ c.put_table-k.ensures c.load_in-loaded.ensures.value
-    (rw c.in-Accepted.is (ap Written (placed _ _ _ _ c.requires c.if-out-size.false (sym c.sizes_outside.ensures ∙ c.if-sizes_outside.false) _ _ c.put_table-k.ensures).0)) in record { value = both.0; out_after = both.1 }
+pub returns-in-Ok : goal.returns-in-Ok
+returns-in-Ok c = let both = answers _ _ _ _ c.requires c.if-out-size.false (sym c.sizes_outside.ensures ∙ c.if-sizes_outside.false) _ _ c.put_table-k.ensures c.load_in-loaded.ensures.value
+    (rw c.in-Ok.is (ap Written (placed _ _ _ _ c.requires c.if-out-size.false (sym c.sizes_outside.ensures ∙ c.if-sizes_outside.false) _ _ c.put_table-k.ensures).0)) in record { value = both.0; out_after = both.1 }
 
 pub returns-in-Refused : goal.returns-in-Refused
 returns-in-Refused c = let both = answers _ _ _ _ c.requires c.if-out-size.false (sym c.sizes_outside.ensures ∙ c.if-sizes_outside.false) _ _ c.put_table-k.ensures c.load_in-loaded.ensures.value

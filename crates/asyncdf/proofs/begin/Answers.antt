@@ -1,4 +1,5 @@
 -- `asyncdf::begin` meets its contract: the blank record where a check applies, else that of the table as given where nothing is above the quota, and of the filled-out table where something is.
+use Rattle.std.specs.Prelude.{Err, Ok}
 use mathlib.Core.Path.{◌≡◌, sym, ap, subst, ◌∙◌}
 use Prim.Native.Nat.{ℕ, ◌≤◌}
 use mathlib.Core.List.{List}
@@ -10,7 +11,6 @@ use lib.ListN.{length, take, replicate, length-replicate}
 use lib.Seq.{length-take-le}
 use Rattle.table.specs.Format.{table_of}
 use Rattle.table.specs.declared.Refusal.{Refusal}
-use Rattle.table.specs.declared.Found.TheVariants.{Nothing, At}
 use Rattle.order.specs.Firsts.{firsts}
 use Rattle.order.specs.Words.{filled}
 use Rattle.filling.specs.declared.Filling.{Filling}
@@ -19,7 +19,6 @@ use Rattle.filling.specs.Filling.{filled_into}
 use Rattle.schedule.specs.Record.{blank}
 use Rattle.schedule.specs.Begin.{begin, start_run}
 use Rattle.schedule.specs.declared.Run.{Run}
-use Rattle.schedule.specs.declared.Beginning.TheVariants.{Begun as started, Refused as refused_begin}
 use Rattle.schedule.proofs.Runs.Values.{begin_values_lem}
 use Rattle.soundness.specs.Tested.{next_if, begin_found, begin_filling, begins, begun_into}
 use Rattle.soundness.proofs.Fillings.{sized, given_runs, size_is, front_is_lem, front_within}
@@ -33,18 +32,18 @@ abbrev start_next : List ℕ → List ℕ
 start_next s = filled 1024 (firsts (table_of s).first 0 (table_of s).threads)
 
 module _ (s : List ℕ) (p K : ℕ) (r : Filling) (e : r ≡ begin_filling s p K) where
-  refused : (x : Refusal) (b : Run) → r.found ≡ At x → b ≡ blank → record { answer = refused_begin x; run = b } ≡ begin s p K
+  refused : (x : Refusal) (b : Run) → r.found ≡ Err x → b ≡ blank → record { answer = Err x; run = b } ≡ begin s p K
   unfolding begin begin_filling
   refused x b d g =
-      let h : begin_found s p K ≡ At x = sym (ap (λ (y : Filling). y.found) e) ∙ d in
+      let h : begin_found s p K ≡ Err x = sym (ap (λ (y : Filling). y.found) e) ∙ d in
       rw (h, g)
 
-  module _ (d : r.found ≡ Nothing) where
-    silent : begin_found s p K ≡ Nothing
+  module _ (d : r.found ≡ Ok tt) where
+    silent : begin_found s p K ≡ Ok tt
     unfolding begin_filling
     silent = sym (ap (λ (y : Filling). y.found) e) ∙ d
 
-    begun : (b : Run) → b ≡ start_run (filled_out s K) p K → record { answer = started; run = b } ≡ begin s p K
+    begun : (b : Run) → b ≡ start_run (filled_out s K) p K → record { answer = Ok tt; run = b } ≡ begin s p K
     unfolding begin
     begun b g = rw (silent, g)
 
@@ -64,7 +63,7 @@ module _ (s : List ℕ) (p K : ℕ) (r : Filling) (e : r ≡ begin_filling s p K
       given_next : (next : List ℕ) → next ≡ next_if (begins s p K (length room)) (table_of (filled_out s K)) → next ≡ start_next s
       given_next next n = next_is (omega arith) next n ∙ ap start_next in_place
 
-      given_begun : (b : Run) → b ≡ start_run s p K → record { answer = started; run = b } ≡ begin s p K
+      given_begun : (b : Run) → b ≡ start_run s p K → record { answer = Ok tt; run = b } ≡ begin s p K
       given_begun b g = begun b (g ∙ ap (λ (l : List ℕ). start_run l p K) (sym in_place))
 
     module _ (z : r.bytes ≡ 0 → ⊥) where
@@ -90,11 +89,11 @@ module _ (s : List ℕ) (p K : ℕ) (r : Filling) (e : r ≡ begin_filling s p K
         front_next : (next : List ℕ) → next ≡ next_if (begins s p K (length room)) (table_of (filled_out s K)) → next ≡ start_next (take r.bytes buffer)
         front_next next n = next_is within next n ∙ ap start_next (sym front)
 
-        front_begun : (b : Run) → b ≡ start_run (take r.bytes buffer) p K → record { answer = started; run = b } ≡ begin s p K
+        front_begun : (b : Run) → b ≡ start_run (take r.bytes buffer) p K → record { answer = Ok tt; run = b } ≡ begin s p K
         front_begun b g = begun b (g ∙ ap (λ (l : List ℕ). start_run l p K) front)
 
-pub returns-in-At : goal.returns-in-At
-returns-in-At c = let a = c.args in let both = begun_answers (refused a.bytes.now a.p a.quota _ c.accept-filling.ensures.value _ _ c.in-At.is c.blank.ensures) in record { value = both.0; answer_value = rw (← begin_values_lem) both.1 }
+pub returns-in-Err : goal.returns-in-Err
+returns-in-Err c = let a = c.args in let both = begun_answers (refused a.bytes.now a.p a.quota _ c.accept-filling.ensures.value _ _ c.in-Err.is c.blank.ensures) in record { value = both.0; answer_value = rw (← begin_values_lem) both.1 }
 
 pub start-requires : goal.start-requires
 start-requires c = let a = c.args in

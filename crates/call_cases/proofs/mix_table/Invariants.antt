@@ -4,6 +4,3 @@ use Rattle.call_cases.proofs.mix_table.Given as goal
 
 abbrev pub invariant-loop-i : goal.invariant-loop-i
 invariant-loop-i l = l.i ≤ 36868
-
-abbrev pub decreases-loop-i : goal.decreases-loop-i
-decreases-loop-i l = 36868 - l.i

@@ -4,6 +4,3 @@ use Rattle.call_cases.proofs.mix_threads.Given as goal
 
 abbrev pub invariant-loop-t : goal.invariant-loop-t
 invariant-loop-t l = l.t ≤ 1024
-
-abbrev pub decreases-loop-t : goal.decreases-loop-t
-decreases-loop-t l = 1024 - l.t

@@ -4,6 +4,3 @@ use Rattle.call_cases.proofs.mix_workers.Given as goal
 
 abbrev pub invariant-loop-w : goal.invariant-loop-w
 invariant-loop-w l = l.w ≤ 16
-
-abbrev pub decreases-loop-w : goal.decreases-loop-w
-decreases-loop-w l = 16 - l.w

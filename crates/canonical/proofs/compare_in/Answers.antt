@@ -4,13 +4,13 @@ use native.Mathlib.Omega.{arith}
 use Rattle.canonical.proofs.Answers.{compare_refused, compare_refused_second, compare_said}
 use Rattle.canonical.proofs.compare_in.Goals as goal
 
-pub returns-in-At : goal.returns-in-At
-returns-in-At c = let d = c.args in
-    let v = compare_refused d.first.now d.second.now d.a.now d.b.now _ (sym c.check_in-found.ensures.value ∙ c.in-At.is) in record { value = v.answer; result_value = v.values; a_after = v.left; b_after = v.left'; rises_after = c.check_in-found.ensures.rises_after; names_after = (refl, refl) }
+pub returns-in-Err : goal.returns-in-Err
+returns-in-Err c = let d = c.args in
+    let v = compare_refused d.first.now d.second.now d.a.now d.b.now _ (sym c.check_in-found.ensures.value ∙ c.in-Err.is) in record { value = v.answer; result_value = v.values; a_after = v.left; b_after = v.left'; rises_after = c.check_in-found.ensures.rises_after; names_after = (refl, refl) }
 
-pub returns-in-At-found : goal.returns-in-At-found
-returns-in-At-found c = let d = c.args in
-    let v = compare_refused_second d.first.now d.second.now d.a.now d.b.now _ (sym c.check_in-found.ensures.value ∙ c.in_default.is) (sym c.check_in-found-2.ensures.value ∙ c.in-At-found.is) in record { value = v.answer; result_value = v.values; a_after = v.left; b_after = v.left'; rises_after = c.check_in-found-2.ensures.rises_after; names_after = (refl, refl) }
+pub returns-in-Err-found : goal.returns-in-Err-found
+returns-in-Err-found c = let d = c.args in
+    let v = compare_refused_second d.first.now d.second.now d.a.now d.b.now _ (sym c.check_in-found.ensures.value ∙ c.in_default.is) (sym c.check_in-found-2.ensures.value ∙ c.in-Err-found.is) in record { value = v.answer; result_value = v.values; a_after = v.left; b_after = v.left'; rises_after = c.check_in-found-2.ensures.rises_after; names_after = (refl, refl) }
 
 pub compare_forms-requires : goal.compare_forms-requires
 compare_forms-requires c = (

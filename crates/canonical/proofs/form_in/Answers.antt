@@ -4,9 +4,9 @@ use native.Mathlib.Omega.{arith}
 use Rattle.canonical.proofs.Answers.{form_refused, form_written}
 use Rattle.canonical.proofs.form_in.Goals as goal
 
-pub returns-in-At : goal.returns-in-At
-returns-in-At c = let d = c.args in
-    let v = form_refused d.table.now d.out.now _ (sym c.check_in-found.ensures.value ∙ c.in-At.is) in record { value = v.answer; result_value = v.values; out_after = v.left; rises_after = c.check_in-found.ensures.rises_after; names_after = (refl, refl) }
+pub returns-in-Err : goal.returns-in-Err
+returns-in-Err c = let d = c.args in
+    let v = form_refused d.table.now d.out.now _ (sym c.check_in-found.ensures.value ∙ c.in-Err.is) in record { value = v.answer; result_value = v.values; out_after = v.left; rises_after = c.check_in-found.ensures.rises_after; names_after = (refl, refl) }
 
 pub write_form-k-requires : goal.write_form-k-requires
 write_form-k-requires c =

@@ -1,4 +1,6 @@
 -- `chart::wall_line` meets its contract, check by check; the line fills the buffer.
+use Rattle.std.specs.Prelude.{Result, ⊤}
+use Rattle.table.specs.declared.Refusal.{Refusal}
 use Prim.Native.Nat.{ℕ}
 use native.Mathlib.Omega.{arith}
 use mathlib.Core.Path.{◌≡◌, refl, ap, ◌∙◌}
@@ -7,7 +9,6 @@ use mathlib.Core.Bool.{false}
 use Rattle.schedule.specs.declared.Run.{Run}
 use Rattle.schedule.specs.Turn.{unsound}
 use Rattle.soundness.proofs.Passed.{test_fails, test_passes}
-use Rattle.chart.specs.declared.Charted.{Charted}
 use Rattle.chart.specs.Chart.{charted, charted_in, charted_values, line_values}
 use Rattle.chart.proofs.Records.{line_filled, many, few, charted_unsound, charted_many, charted_written, charted_values_lem}
 use borrow.Author.Rules.{rules}
@@ -15,9 +16,9 @@ use Rattle.chart.proofs.wall_line.Goals.{Else-not-tested}
 use Rattle.chart.proofs.wall_line.Goals as goal
 
 -- an answer, and the buffer that goes with it
-answers : {x : Charted} (r : Run) (s o : List ℕ) → x ≡ charted r → o ≡ charted_in x r s
+answers : {x : Result ⊤ Refusal} (r : Run) (s o : List ℕ) → x ≡ charted r → o ≡ charted_in x r s
     → (x ≡ charted r) × ((charted_values x ≡ line_values r) × (o ≡ charted_in (charted r) r s))
-answers r s o e f = (e, (ap charted_values e ∙ charted_values_lem r, f ∙ ap (λ (y : Charted). charted_in y r s) e))
+answers r s o e f = (e, (ap charted_values e ∙ charted_values_lem r, f ∙ ap (λ (y : Result ⊤ Refusal). charted_in y r s) e))
 
 -- the record passed the test
 passed : (c : Else-not-tested) → unsound c.args.run ≡ false

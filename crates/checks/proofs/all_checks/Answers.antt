@@ -1,4 +1,5 @@
 -- `checks::all_checks` meets its contract: the head, the passes between and the balances, each the next where the one before found nothing.
+use Rattle.std.specs.Prelude.{Err, Ok}
 use mathlib.Core.Path.{◌≡◌, sym, ◌∙◌}
 use Prim.Native.Nat.{ℕ}
 use mathlib.Core.List.{List}
@@ -7,25 +8,24 @@ use Rattle.table.specs.Pass.{try_pass, first_found}
 use Rattle.table.specs.Checks.{head_pass, balance_pass, passes, shape_passes}
 use Rattle.table.specs.Code.Steps.{Headed, Nested}
 use Rattle.table.specs.declared.Refusal.{Refusal}
-use Rattle.table.specs.declared.Found.TheVariants.{Nothing, At}
 use Rattle.table.proofs.Trying.{or_else_last}
 use Rattle.table.proofs.Passes.{first_found_nothing, first_found_append, head_rules, content_rules, body_rules, nest_rules, fork_rules}
 use Rattle.checks.proofs.all_checks.Goals.{After-actions-m}
 use Rattle.checks.proofs.all_checks.Goals as goal
 
-in_head : (s : List ℕ) {r : Refusal} → try_pass (head_pass s) ≡ At r → At r ≡ first_found (passes s)
+in_head : (s : List ℕ) {r : Refusal} → try_pass (head_pass s) ≡ Err r → Err r ≡ first_found (passes s)
 unfolding passes first_found
 in_head s e = rw e
 
 module _ {s : List ℕ} {n m : ℕ} (h : Headed s n m) where
-  head_passed : try_pass (head_pass s) ≡ Nothing
+  head_passed : try_pass (head_pass s) ≡ Ok tt
   head_passed = (head_rules s).1 h.head
 
-  in_shape : {r : Refusal} → first_found (shape_passes (table_of s)) ≡ At r → At r ≡ first_found (passes s)
+  in_shape : {r : Refusal} → first_found (shape_passes (table_of s)) ≡ Err r → Err r ≡ first_found (passes s)
   unfolding passes first_found
   in_shape e = rw (head_passed, first_found_append (shape_passes (table_of s)), e)
 
-  module _ (e : first_found (shape_passes (table_of s)) ≡ Nothing) where
+  module _ (e : first_found (shape_passes (table_of s)) ≡ Ok tt) where
     nested : Nested s n m
     nested =
         let t = (first_found_nothing (shape_passes (table_of s))).0 e in
@@ -46,16 +46,16 @@ module _ {s : List ℕ} {n m : ℕ} (h : Headed s n m) where
 reached : (c : After-actions-m) → Headed c.args.table.now c.threads-n.result c.actions-m.result
 reached c = record { head = (head_rules _).0 (sym c.head-found.ensures ∙ c.in_default.is); threads = c.threads-n.ensures.value; actions = c.actions-m.ensures.value }
 
-pub returns-in-At : goal.returns-in-At
-returns-in-At c =
-    c.in-At.is ∙ in_head _ (sym c.head-found.ensures ∙ c.in-At.is)
+pub returns-in-Err : goal.returns-in-Err
+returns-in-Err c =
+    c.in-Err.is ∙ in_head _ (sym c.head-found.ensures ∙ c.in-Err.is)
 
 pub shape-found-requires : goal.shape-found-requires
 shape-found-requires c = reached (goal.at.shape-found-requires c).After-actions-m
 
-pub returns-in-At-found : goal.returns-in-At-found
-returns-in-At-found c =
-    c.in-At-found.is ∙ in_shape (reached (goal.at.returns-in-At-found c).After-actions-m) (sym c.shape-found.ensures ∙ c.in-At-found.is)
+pub returns-in-Err-found : goal.returns-in-Err-found
+returns-in-Err-found c =
+    c.in-Err-found.is ∙ in_shape (reached (goal.at.returns-in-Err-found c).After-actions-m) (sym c.shape-found.ensures ∙ c.in-Err-found.is)
 
 pub balances-requires : goal.balances-requires
 balances-requires c =

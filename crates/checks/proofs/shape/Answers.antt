@@ -1,4 +1,5 @@
 -- `checks::shape` meets its contract: each pass is the next where those before it found nothing.
+use Rattle.std.specs.Prelude.{Err, Ok, Result, ⊤}
 use mathlib.Core.Path.{◌≡◌, sym, ◌∙◌}
 use Prim.Native.Nat.{ℕ}
 use mathlib.Core.List.{List}
@@ -7,16 +8,14 @@ use Rattle.table.specs.Pass.{try_pass, first_found, or_else}
 use Rattle.table.specs.Checks.{entries_pass, total_pass, first_pass, second_pass, forked_pass, shape_passes}
 use Rattle.table.specs.Code.Steps.{Headed, Laid, Formed}
 use Rattle.table.specs.declared.Refusal.{Refusal}
-use Rattle.table.specs.declared.Found.{Found}
-use Rattle.table.specs.declared.Found.TheVariants.{Nothing, At}
 use Rattle.table.proofs.Trying.{or_else_nothing, or_else_assoc, or_else_last}
 use Rattle.table.proofs.Passes.{content_rules, body_rules}
 use Rattle.checks.proofs.shape.Goals as goal
 
-abbrev contents_found : Table → Found
+abbrev contents_found : Table → Result ⊤ Refusal
 contents_found T = or_else (try_pass (entries_pass T)) (try_pass (total_pass T))
 
-abbrev nesting_found : Table → Found
+abbrev nesting_found : Table → Result ⊤ Refusal
 nesting_found T = or_else (try_pass (second_pass T)) (try_pass (forked_pass T))
 
 -- the passes in three steps, as the code takes them
@@ -25,36 +24,36 @@ unfolding first_found
 grouped T = rw (or_else_last, or_else_assoc)
 
 module _ {s : List ℕ} {n m : ℕ} (h : Headed s n m) where
-  in_contents : {r : Refusal} → contents_found (table_of s) ≡ At r → contents_found (table_of s) ≡ first_found (shape_passes (table_of s))
+  in_contents : {r : Refusal} → contents_found (table_of s) ≡ Err r → contents_found (table_of s) ≡ first_found (shape_passes (table_of s))
   in_contents e = rw (grouped (table_of s), e)
 
-  module _ (e : contents_found (table_of s) ≡ Nothing) where
+  module _ (e : contents_found (table_of s) ≡ Ok tt) where
     laid : Laid s n m
     laid = record { headed = h; contents = (content_rules (table_of s)).0 ((or_else_nothing _ _).0 e) }
 
-    in_first : {r : Refusal} → try_pass (first_pass (table_of s)) ≡ At r → try_pass (first_pass (table_of s)) ≡ first_found (shape_passes (table_of s))
+    in_first : {r : Refusal} → try_pass (first_pass (table_of s)) ≡ Err r → try_pass (first_pass (table_of s)) ≡ first_found (shape_passes (table_of s))
     in_first d = rw (grouped (table_of s), e, d)
 
-    module _ (d : try_pass (first_pass (table_of s)) ≡ Nothing) where
+    module _ (d : try_pass (first_pass (table_of s)) ≡ Ok tt) where
       formed : Formed s n m
       formed = record { laid = laid; bodies = (body_rules (table_of s)).0 d }
 
       in_nesting : nesting_found (table_of s) ≡ first_found (shape_passes (table_of s))
       in_nesting = rw (grouped (table_of s), e, d)
 
-pub returns-in-At : goal.returns-in-At
-returns-in-At c =
-    c.contents-found.ensures ∙ in_contents c.requires (sym c.contents-found.ensures ∙ c.in-At.is)
+pub returns-in-Err : goal.returns-in-Err
+returns-in-Err c =
+    c.contents-found.ensures ∙ in_contents c.requires (sym c.contents-found.ensures ∙ c.in-Err.is)
 
 pub first_pass-found-requires : goal.first_pass-found-requires
 first_pass-found-requires c =
     laid c.requires (sym c.contents-found.ensures ∙ c.in_default.is)
 
-pub returns-in-At-found : goal.returns-in-At-found
-returns-in-At-found c =
+pub returns-in-Err-found : goal.returns-in-Err-found
+returns-in-Err-found c =
     c.first_pass-found.ensures
     ∙ in_first c.requires (sym c.contents-found.ensures ∙ c.in_default.is)
-    (sym c.first_pass-found.ensures ∙ c.in-At-found.is)
+    (sym c.first_pass-found.ensures ∙ c.in-Err-found.is)
 
 pub nesting-requires : goal.nesting-requires
 nesting-requires c =

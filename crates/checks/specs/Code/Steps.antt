@@ -1,12 +1,11 @@
 -- What the checks' inner functions promise: one step of a pass, and the walk over one body.
-use Rattle.std.specs.Prelude.{◌≡◌, ℕ, zero, suc, ◌+◌, ◌≤◌, ◌<◌, List, ◌∷◌, Bool, true, false, not, ◌&&◌, length, get_or, set, drop, ltb, eqb}
+use Rattle.std.specs.Prelude.{◌≡◌, ℕ, zero, suc, ◌+◌, ◌≤◌, ◌<◌, List, ◌∷◌, Bool, true, false, not, ◌&&◌, length, get_or, set, drop, ltb, eqb, Err, Ok, Result, ⊤}
+use Rattle.table.specs.declared.Refusal.{Refusal}
 use Rattle.table.specs.Sum.{pick, sum_to}
 use Rattle.table.specs.Format.{Kind, end, work, alloc, free, fork, join, unknown, is, Table}
 use Rattle.table.specs.Pass.{Check, refusal}
 use Rattle.table.specs.Checks.{argument_fits, differ, is_latest, is_empty, tail}
 use Rattle.table.specs.Code.Steps.{amount_at}
-use Rattle.table.specs.declared.Found.{Found}
-use Rattle.table.specs.declared.Found.TheVariants.{Nothing, At}
 use Rattle.checks.specs.declared.balance.Balance.{Balance}
 
 -- ---- one action in the first pass: the number of the check that applies, 0 where none does
@@ -30,9 +29,9 @@ pub record Holding (T : Table) (own stop a : ℕ) : Type 0 where
   pub stops : stop ≡ T.first own + T.count own
 
 -- what a number says at a place
-abbrev pub found_at : ℕ → ℕ → Found
-found_at zero place = Nothing
-found_at (suc k) place = At (refusal (suc k) place)
+abbrev pub found_at : ℕ → ℕ → Result ⊤ Refusal
+found_at zero place = Ok tt
+found_at (suc k) place = Err (refusal (suc k) place)
 
 -- ---- one action in the second pass: the number, the children then open, the threads then forked
 

@@ -1,4 +1,5 @@
 -- `deque_listing::put_listing` meets its contract: the beginning's refusal, or the header and the turns.
+use Rattle.std.specs.Prelude.{Ok}
 use mathlib.Core.Path.{◌≡◌, refl, sym, ◌∙◌}
 use Prim.Native.Nat.{ℕ, ◌≤◌}
 use mathlib.Core.List.{List}
@@ -8,7 +9,6 @@ use lib.ListN.{length}
 use lib.Seq.{length-take-le}
 use Rattle.table.specs.Format.{threads_of, actions_of}
 use Rattle.table.proofs.Sizes.{Sizes, sizes}
-use Rattle.schedule.specs.declared.Beginning.TheVariants.{Begun as started}
 use Rattle.schedule.specs.Record.{bytes_of}
 use Rattle.text.proofs.Putting.{puts_more, puts_within}
 use Rattle.deques.specs.declared.DequeBegun.{DequeBegun}
@@ -21,26 +21,26 @@ use Rattle.deque_listing.specs.DequeListing.{order_by, list_pairs, deque_listed_
 use Rattle.deque_listing.proofs.put_listing.Goals as goal
 
 -- an accepted beginning's record is sound
-begun_sound : (s : List ℕ) (p K : ℕ) {x : DequeBegun} → x ≡ deque_begin s p K → x.answer ≡ started → SoundDeques x.run
+begun_sound : (s : List ℕ) (p K : ℕ) {x : DequeBegun} → x ≡ deque_begin s p K → x.answer ≡ Ok tt → SoundDeques x.run
 begun_sound s p K {x} e a = deque_begin_sound s p K x.run (sym e ∙ (λ i. record { answer = a i; run = x.run }))
 
 -- and its turns are listed as they are
-begun_listed : (s : List ℕ) (p K : ℕ) (order : List ℕ) {x : DequeBegun} → x ≡ deque_begin s p K → x.answer ≡ started → list_pairs x.run order ≡ order_by deque_turned x.run order
+begun_listed : (s : List ℕ) (p K : ℕ) (order : List ℕ) {x : DequeBegun} → x ≡ deque_begin s p K → x.answer ≡ Ok tt → list_pairs x.run order ≡ order_by deque_turned x.run order
 unfolding list_pairs unsound_deques
 begun_listed s p K order {x} e a = rw ((deque_sound_exactly x.run).1 (begun_sound s p K e a))
 
 -- its table is within the record
-begun_small : (s : List ℕ) (p K : ℕ) {x : DequeBegun} → x ≡ deque_begin s p K → x.answer ≡ started → x.run.run.length ≤ 36868
+begun_small : (s : List ℕ) (p K : ℕ) {x : DequeBegun} → x ≡ deque_begin s p K → x.answer ≡ Ok tt → x.run.run.length ≤ 36868
 begun_small s p K {x} e a =
     let d : SteadyDeques x.run = (begun_sound s p K e a).steady in
     let b : List ℕ = bytes_of x.run.run in
     let z : Sizes b (threads_of b) (actions_of b) = sizes (record { head = d.table.head; threads = refl; actions = refl }) in
     omega (arith, z, d.table_length)
 
-pub returns-in-Refused : goal.returns-in-Refused
+pub returns-in-Err : goal.returns-in-Err
 unfolding deque_listed_by
-returns-in-Refused c =
-    rw (← c.deque_begin-begun.ensures.value, c.in-Refused.is) (puts_within (omega arith) c.put_answer.ensures)
+returns-in-Err c =
+    rw (← c.deque_begin-begun.ensures.value, c.in-Err.is) (puts_within (omega arith) c.put_answer.ensures)
 
 pub slice_bounds-bytes-end : goal.slice_bounds-bytes-end
 slice_bounds-bytes-end c =

@@ -1,4 +1,5 @@
 -- `dfdeques::deque_begin` meets its contract: the record is AsyncDF's, and the links of the bottoms are those of the root alone, or all 0 in the blank record.
+use Rattle.std.specs.Prelude.{Err, Ok, Result, ⊤}
 use mathlib.Core.Path.{◌≡◌, refl, sym, ap, ◌∙◌}
 use Prim.Native.Nat.{ℕ}
 use mathlib.Core.List.{List, [], ◌∷◌, ◌++◌}
@@ -7,14 +8,11 @@ use lib.ListN.{replicate}
 use Rattle.table.specs.Format.{table_of}
 use Rattle.table.specs.Pass.{first_found}
 use Rattle.table.specs.Checks.{passes}
-use Rattle.table.specs.declared.Found.{Found}
-use Rattle.table.specs.declared.Found.TheVariants.{Nothing, At}
 use Rattle.table.specs.declared.Refusal.{Refusal}
 use Rattle.table.proofs.Tests.{no_way}
 use Rattle.filling.specs.Filled.{filled_out}
 use Rattle.schedule.specs.declared.Run.{Run}
 use Rattle.schedule.specs.declared.Begun.{Begun}
-use Rattle.schedule.specs.declared.Beginning.TheVariants.{Begun as started, Refused}
 use Rattle.schedule.specs.Links.{Links}
 use Rattle.schedule.specs.Record.{blank}
 use Rattle.schedule.specs.Begin.{begin_passes, start_state, start_run, begun_as, begin}
@@ -43,7 +41,7 @@ blanks : with_links blank (record { left = replicate 1024 0; right = replicate 1
 unfolding blank_deques
 blanks = refl
 
-abbrev found : List ℕ → ℕ → ℕ → Found
+abbrev found : List ℕ → ℕ → ℕ → Result ⊤ Refusal
 found s p K = first_found (passes s ++ begin_passes (table_of s) p K)
 
 -- the links of the blank record
@@ -51,28 +49,28 @@ abbrev zeros : Links
 zeros = record { left = replicate 1024 0; right = replicate 1024 0; head = 0 }
 
 module _ (s : List ℕ) (p K : ℕ) (b : Begun) (e : b ≡ begin s p K) where
-  refused : (x : Refusal) → b.answer ≡ Refused x → record { answer = Refused x; run = with_links b.run zeros } ≡ deque_begin s p K
+  refused : (x : Refusal) → b.answer ≡ Err x → record { answer = Err x; run = with_links b.run zeros } ≡ deque_begin s p K
   unfolding begin deque_begin
   refused x d = go (found s p K) e
     where
-      go : (f : Found) → b ≡ begun_as f (start_run (filled_out s K) p K)
-          → record { answer = Refused x; run = with_links b.run zeros } ≡ deque_begun_as f (start_deque_run (filled_out s K) p K)
-      go Nothing e = let z : started ≡ Refused x = sym (ap (λ (y : Begun). y.answer) e) ∙ d in no_way cc
-      go (At y) e =
-          let z : Refused x ≡ Refused y = sym d ∙ ap (λ (y : Begun). y.answer) e in
-          (λ i. record { answer = z i; run = with_links (e i).run zeros }) ∙ ap (λ (r : DequeRun). record { answer = Refused y; run = r }) blanks
+      go : (f : Result ⊤ Refusal) → b ≡ begun_as f (start_run (filled_out s K) p K)
+          → record { answer = Err x; run = with_links b.run zeros } ≡ deque_begun_as f (start_deque_run (filled_out s K) p K)
+      go (Ok _) e = let z : (Ok tt) ≡ Err x = sym (ap (λ (y : Begun). y.answer) e) ∙ d in no_way cc
+      go (Err y) e =
+          let z : Err x ≡ Err y = sym d ∙ ap (λ (y : Begun). y.answer) e in
+          (λ i. record { answer = z i; run = with_links (e i).run zeros }) ∙ ap (λ (r : DequeRun). record { answer = Err y; run = r }) blanks
 
-  begun : b.answer ≡ started → record { answer = started; run = with_links b.run alone } ≡ deque_begin s p K
+  begun : b.answer ≡ Ok tt → record { answer = Ok tt; run = with_links b.run alone } ≡ deque_begin s p K
   unfolding begin deque_begin
   begun d = go (found s p K) e
     where
-      go : (f : Found) → b ≡ begun_as f (start_run (filled_out s K) p K) → record { answer = started; run = with_links b.run alone } ≡ deque_begun_as f (start_deque_run (filled_out s K) p K)
-      go Nothing e =
-          ap (λ (y : Begun). record { answer = started; run = with_links y.run alone }) e ∙ ap (λ (r : DequeRun). record { answer = started; run = r }) (starts (filled_out s K) p K)
-      go (At y) e = let z : started ≡ Refused y = sym d ∙ ap (λ (y : Begun). y.answer) e in no_way cc
+      go : (f : Result ⊤ Refusal) → b ≡ begun_as f (start_run (filled_out s K) p K) → record { answer = Ok tt; run = with_links b.run alone } ≡ deque_begun_as f (start_deque_run (filled_out s K) p K)
+      go (Ok _) e =
+          ap (λ (y : Begun). record { answer = Ok tt; run = with_links y.run alone }) e ∙ ap (λ (r : DequeRun). record { answer = Ok tt; run = r }) (starts (filled_out s K) p K)
+      go (Err y) e = let z : (Ok tt) ≡ Err y = sym d ∙ ap (λ (y : Begun). y.answer) e in no_way cc
 
-pub returns-in-Refused : goal.returns-in-Refused
-returns-in-Refused c = let a = c.args in let both = (begun_answers (refused a.bytes.now a.p a.quota c.begin-begun.result c.begin-begun.ensures.value _ c.in-Refused.is)) in record { value = both.0; answer_value = rw (← deque_begin_values) both.1 }
+pub returns-in-Err : goal.returns-in-Err
+returns-in-Err c = let a = c.args in let both = (begun_answers (refused a.bytes.now a.p a.quota c.begin-begun.result c.begin-begun.ensures.value _ c.in-Err.is)) in record { value = both.0; answer_value = rw (← deque_begin_values) both.1 }
 
 pub returns : goal.returns
 returns c = let a = c.args in let both = (begun_answers (begun a.bytes.now a.p a.quota c.begin-begun.result c.begin-begun.ensures.value c.in_default.is)) in record { value = both.0; answer_value = rw (← deque_begin_values) both.1 }

@@ -1,23 +1,23 @@
 -- `facts::weigh` meets its contract: as `load`, without recursion and with what is left.
+use Rattle.std.specs.Prelude.{Ok}
 use mathlib.Core.Path.{◌≡◌, sym, ◌∙◌}
 use native.Mathlib.Omega.{arith}
 use Rattle.table.specs.Pass.{first_found}
 use Rattle.table.specs.Checks.{passes}
-use Rattle.table.specs.declared.Found.TheVariants.{Nothing}
 use Rattle.facts.specs.Code.Steps.{Kept}
 use Rattle.facts.proofs.Accepted.{kept, small, shallow, few_levels, facts_are, weighed_not, weighed_is}
 use Rattle.facts.proofs.weigh.Goals.{After-actions-m}
 use Rattle.facts.proofs.weigh.Goals as goal
 
 -- the table keeps the rules
-none : (c : After-actions-m) → first_found (passes c.args.table.now) ≡ Nothing
+none : (c : After-actions-m) → first_found (passes c.args.table.now) ≡ Ok tt
 none c = sym c.check_in-found.ensures.value ∙ c.in_default.is
 
 known : (c : After-actions-m) → Kept c.args.table.now c.threads-n.result c.actions-m.result
 known c = kept _ (none c) c.threads-n.ensures.value c.actions-m.ensures.value
 
-pub returns-in-At : goal.returns-in-At
-returns-in-At c = weighed_not c.args.table.now (sym c.check_in-found.ensures.value ∙ c.in-At.is)
+pub returns-in-Err : goal.returns-in-Err
+returns-in-Err c = weighed_not c.args.table.now (sym c.check_in-found.ensures.value ∙ c.in-Err.is)
 
 pub serial_amounts-amounts-requires : goal.serial_amounts-amounts-requires
 serial_amounts-amounts-requires c = known (goal.at.serial_amounts-amounts-requires c).After-actions-m

@@ -15,14 +15,14 @@ threads_not : (s : List ℕ) (x n : ℕ) → (x ≡ n → ⊥) → n ≡ threads
 unfolding table_of
 threads_not s x n e f g = e (g ∙ sym f)
 
-pub returns-in-At : goal.returns-in-At
-returns-in-At c = record { value = refused_table c.args.table.now c.args.quota _ _ c.check_in-found.ensures.value c.in-At.is; rises_after = c.check_in-found.ensures.rises_after }
+pub returns-in-Err : goal.returns-in-Err
+returns-in-Err c = record { value = refused_table c.args.table.now c.args.quota _ _ c.check_in-found.ensures.value c.in-Err.is; rises_after = c.check_in-found.ensures.rises_after }
 
 pub returns-then-outside : goal.returns-then-outside
 returns-then-outside c = record { value = refused_quota c.args.table.now c.args.quota _ (sym c.check_in-found.ensures.value ∙ c.in_default.is) (sym c.outside.ensures ∙ c.if-outside.true) c.refuse.ensures; rises_after = c.check_in-found.ensures.rises_after }
 
-pub returns-in-At-found : goal.returns-in-At-found
-returns-in-At-found c = record { value = refused_full c.args.table.now c.args.quota (sym c.check_in-found.ensures.value ∙ c.in_default.is) (sym c.outside.ensures ∙ c.if-outside.false) _ c.count-total.ensures _ _ refl c.in-At-found.is; rises_after = c.check_in-found.ensures.rises_after }
+pub returns-in-Err-found : goal.returns-in-Err-found
+returns-in-Err-found c = record { value = refused_full c.args.table.now c.args.quota (sym c.check_in-found.ensures.value ∙ c.in_default.is) (sym c.outside.ensures ∙ c.if-outside.false) _ c.count-total.ensures _ _ refl c.in-Err-found.is; rises_after = c.check_in-found.ensures.rises_after }
 
 pub returns-then-total-threads : goal.returns-then-total-threads
 returns-then-total-threads c = let s = c.args.table.now in record {

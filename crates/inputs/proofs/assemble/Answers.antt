@@ -1,4 +1,5 @@
 -- `inputs::assemble` meets its contract: the text is too long, its front is not as it should be, or the table comes after the front.
+use Rattle.std.specs.Prelude.{Err, Ok}
 use native.Mathlib.Omega.{arith}
 use Prim.Native.Nat.{ℕ, suc, ◌+◌, ◌-◌, ◌≤◌, ◌<◌}
 use native.Mathlib.Numerals.{add-one}
@@ -15,7 +16,6 @@ use Rattle.inputs.specs.Input.{with_table, filled_with, made, made_in}
 use Rattle.inputs.specs.Code.Steps.{ReadsFront, Addable, front_is}
 use Rattle.inputs.specs.declared.Wanted.{Wanted}
 use Rattle.inputs.specs.declared.front.Front.{Front as Kept}
-use Rattle.inputs.specs.declared.read.End.TheVariants.{Whole, Fault}
 use Rattle.inputs.specs.declared.read.Read.{Read}
 use Rattle.inputs.specs.declared.Made.{Made}
 use Rattle.inputs.specs.declared.Made.TheVariants.{Malformed, NoTable}
@@ -30,14 +30,14 @@ unfolding made made_in
 too_long s out h = let e = lt-ltb longest_text (length s) h in (rw e, rw e)
 
 module _ (s out buf : List ℕ) (h : length s ≤ longest_text) {r : Read} (d : ReadsFront s buf r) where
-  no_front : {e : Wanted} → r.end ≡ Fault e → Answers s out (Malformed (r.lines + 1) e) out
+  no_front : {e : Wanted} → r.end ≡ Err e → Answers s out (Malformed (r.lines + 1) e) out
   unfolding made made_in
   no_front {e} q =
       let x = le-ltb longest_text (length s) h in
       let y : front_of s ≡ fault (suc r.lines) e = sym d.value ∙ rw q in
       (rw (x, y, add-one), rw (x, y))
 
-  module _ (f : Kept) (q : r.end ≡ Whole f) where
+  module _ (f : Kept) (q : r.end ≡ Ok f) where
     abbrev rest : List ℕ
     rest = take (length s - r.at) (drop r.at s)
 
@@ -79,10 +79,10 @@ pub slice_bounds-add_table-end : goal.slice_bounds-add_table-end
 slice_bounds-add_table-end c = omega (arith, c.read_front-read.ensures.within)
 
 pub add_table-requires : goal.add_table-requires
-add_table-requires c = addable _ _ _ c.if-text-gt-LONGEST.false c.read_front-read.ensures _ c.in-Whole.is (search rules)
+add_table-requires c = addable _ _ _ c.if-text-gt-LONGEST.false c.read_front-read.ensures _ c.in-Ok.is (search rules)
 
-pub returns-in-Fault : goal.returns-in-Fault
-returns-in-Fault c = let both = no_front _ _ _ c.if-text-gt-LONGEST.false c.read_front-read.ensures c.in-Fault.is in record { value = both.0; out_after = both.1 }
+pub returns-in-Err : goal.returns-in-Err
+returns-in-Err c = let both = no_front _ _ _ c.if-text-gt-LONGEST.false c.read_front-read.ensures c.in-Err.is in record { value = both.0; out_after = both.1 }
 
-pub returns-in-Whole : goal.returns-in-Whole
-returns-in-Whole c = let both = with_table_lem _ _ _ c.if-text-gt-LONGEST.false c.read_front-read.ensures _ c.in-Whole.is _ _ c.add_table.ensures.value c.add_table.ensures.out_after in record { value = both.0; out_after = both.1 }
+pub returns-in-Ok : goal.returns-in-Ok
+returns-in-Ok c = let both = with_table_lem _ _ _ c.if-text-gt-LONGEST.false c.read_front-read.ensures _ c.in-Ok.is _ _ c.add_table.ensures.value c.add_table.ensures.out_after in record { value = both.0; out_after = both.1 }

@@ -1,33 +1,28 @@
 -- What the code's inner functions require and promise.
-use Rattle.std.specs.Prelude.{ℕ, suc, ◌+◌, ◌≤◌, ◌≡◌, List, length, take, drop}
+use Rattle.std.specs.Prelude.{ℕ, suc, ◌+◌, ◌≤◌, ◌≡◌, List, length, take, drop, Err, Ok, Option, Result, Some}
+use Rattle.inputs.specs.declared.Wanted.{Wanted}
 use Rattle.assembly.specs.Words.{span_of, in_class}
 use Rattle.assembly.specs.Assembly.{longest_text}
 use Rattle.assembly.specs.declared.scan.Class.TheVariants.{Line}
 use Rattle.inputs.specs.Number.{number_in}
 use Rattle.assembly.specs.Unseen.{after_lines}
 use Rattle.inputs.specs.Front.{Front, nothing, workers, quota, between, turns, rounds, board, Step, goes, stops, ends, Order, listed, broken, max_order, Fronted, whole, fault, at_end, front_of}
-use Rattle.inputs.specs.declared.number.Number.{Number}
-use Rattle.inputs.specs.declared.number.Number.TheVariants.{Value}
-use Rattle.inputs.specs.declared.order.Ordered.{Ordered}
-use Rattle.inputs.specs.declared.order.Ordered.TheVariants.{Listed, Broken}
 use Rattle.inputs.specs.declared.front.Front.{Front as Kept}
 use Rattle.inputs.specs.declared.front.Front.TheVariants.{Nothing, Workers, Quota, Between, Turns, Rounds, Board}
 use Rattle.inputs.specs.declared.front.Step.{Step as Taken}
 use Rattle.inputs.specs.declared.front.Step.TheVariants.{Goes, Stops, Ends}
-use Rattle.inputs.specs.declared.read.End.{End}
-use Rattle.inputs.specs.declared.read.End.TheVariants.{Whole, Fault}
 use Rattle.inputs.specs.declared.read.Read.{Read}
 
 -- a word's number, and its bound
-pub record Numbered (most : ℕ) (w : List ℕ) (r : Number) : Type 0 where
+pub record Numbered (most : ℕ) (w : List ℕ) (r : Option ℕ) : Type 0 where
   pub value : r ≡ number_in most w
-  pub small : (x : ℕ) → r ≡ Value x → x ≤ most
+  pub small : (x : ℕ) → r ≡ Some x → x ≤ most
 
 -- ---- what the code keeps, with the order's bytes in a buffer
 
-abbrev pub order_is : Ordered → List ℕ → Order
-order_is (Listed n) buf = listed (take n buf)
-order_is (Broken e) buf = broken e
+abbrev pub order_is : Result ℕ Wanted → List ℕ → Order
+order_is (Ok n) buf = listed (take n buf)
+order_is (Err e) buf = broken e
 
 abbrev pub front_is : Kept → List ℕ → Front
 front_is Nothing buf = nothing
@@ -43,9 +38,9 @@ step_is (Goes f) buf = goes (front_is f buf)
 step_is (Stops e) buf = stops e
 step_is (Ends f) buf = ends (front_is f buf)
 
-abbrev pub end_is : End → ℕ → List ℕ → Fronted
-end_is (Whole f) k buf = whole (front_is f buf) k
-end_is (Fault e) k buf = fault (suc k) e
+abbrev pub end_is : Result Front Wanted → ℕ → List ℕ → Fronted
+end_is (Ok f) k buf = whole (front_is f buf) k
+end_is (Err e) k buf = fault (suc k) e
 
 -- how many workers a front has in the buffer
 abbrev pub held_by : Kept → ℕ
@@ -57,9 +52,9 @@ held_by (Turns p K n) = n
 held_by (Rounds p K L) = 0
 held_by (Board p b M) = 0
 
-abbrev pub end_held : End → ℕ
-end_held (Whole f) = held_by f
-end_held (Fault e) = 0
+abbrev pub end_held : Result Front Wanted → ℕ
+end_held (Ok f) = held_by f
+end_held (Err e) = 0
 
 -- ---- promises
 
@@ -68,12 +63,12 @@ pub record Room (buf : List ℕ) (n : ℕ) : Type 0 where
   pub full : length buf ≡ max_order
   pub few : n ≤ max_order
 
-abbrev pub order_held : Ordered → ℕ
-order_held (Listed n) = n
-order_held (Broken e) = 0
+abbrev pub order_held : Result ℕ Wanted → ℕ
+order_held (Ok n) = n
+order_held (Err e) = 0
 
 -- an order's answer with the buffer behind it
-pub record Ordering (r : Ordered) (buf : List ℕ) (o : Order) : Type 0 where
+pub record Ordering (r : Result ℕ Wanted) (buf : List ℕ) (o : Order) : Type 0 where
   pub value : order_is r buf ≡ o
   pub few : order_held r ≤ max_order
 
@@ -97,7 +92,7 @@ pub record Lined (s : List ℕ) (at end : ℕ) : Type 0 where
   pub within : end ≤ length s
 
 -- the text ends
-pub record Ending (f : Kept) (r : End) : Type 0 where
+pub record Ending (f : Kept) (r : Result Front Wanted) : Type 0 where
   pub value : (buf : List ℕ) (k : ℕ) → end_is r k buf ≡ at_end (front_is f buf) k
   pub few : end_held r ≤ held_by f
 

@@ -1,10 +1,9 @@
 -- What joining's inner functions promise: the parts lent, and the totals over them.
-use Rattle.std.specs.Prelude.{◌≡◌, ℕ, suc, ◌+◌, ◌*◌, ◌≤◌, ◌<◌, max, List, [], ◌∷◌, length}
+use Rattle.std.specs.Prelude.{◌≡◌, ℕ, suc, ◌+◌, ◌*◌, ◌≤◌, ◌<◌, max, List, [], ◌∷◌, length, Err, Ok, Result}
+use Rattle.table.specs.declared.Refusal.{Refusal}
 use Rattle.table.specs.declared.Facts.{Facts}
 use Rattle.facts.specs.Weigh.{weighing}
 use Rattle.facts.specs.declared.Weighed.{Weighed}
-use Rattle.facts.specs.declared.Weighing.{Weighing}
-use Rattle.facts.specs.declared.Weighing.TheVariants.{Accepted, Refused as Unweighed}
 use Rattle.joining.specs.Answers.{parts_of, sum_of, joined_with}
 use Rattle.joining.specs.Code.Rows.{threads_over, actions_over}
 use Rattle.joining.specs.declared.Joined.{Joined}
@@ -52,9 +51,9 @@ facts_from k t =
     record { threads = suc t.threads; actions = suc (2 * k) + t.actions; peak = t.peak; depth = suc t.depth; nested = suc t.nested }
 
 -- one part weighed, and what follows where it is accepted
-abbrev pub weights_by : Weighing → ℕ → Totals → (Totals → Weights) → Weights
-weights_by (Unweighed r) i t rest = RefusedAt i r
-weights_by (Accepted w) i t rest = rest (add_part i t w)
+abbrev pub weights_by : Result Weighed Refusal → ℕ → Totals → (Totals → Weights) → Weights
+weights_by (Err r) i t rest = RefusedAt i r
+weights_by (Ok w) i t rest = rest (add_part i t w)
 
 unfoldable pub weights_from : ℕ → Totals → List (List ℕ) → Weights
 weights_from i t [] = All t

@@ -8,6 +8,3 @@ use Rattle.links.proofs.fill_actives.Given as goal
 abbrev pub invariant-loop-passed : goal.invariant-loop-passed
 invariant-loop-passed l =
     FilledTo (filled_from 1024 l.status l.right l.leftmost no_thread no_links) 1024 l.status l.right (record { left = l.under; right = l.over; head = l.first }) l.last l.t l.passed
-
-abbrev pub decreases-loop-passed : goal.decreases-loop-passed
-decreases-loop-passed l = 1024 - l.passed

@@ -1,4 +1,5 @@
 -- `listing::chart_turns` meets its contract: the checks of a line, the record's line, and the turns as they are put.
+use Rattle.std.specs.Prelude.{Err}
 use mathlib.Core.Path.{◌≡◌}
 use Prim.Native.Nat.{ℕ, ◌+◌, ◌*◌}
 use mathlib.Core.List.{List, [], ◌∷◌}
@@ -12,7 +13,6 @@ use Rattle.schedule.specs.declared.Run.{Run}
 use Rattle.schedule.specs.Turn.{unsound}
 use Rattle.text.specs.Puts.{put_all, Puts}
 use Rattle.text.proofs.Putting.{puts_within, puts_more}
-use Rattle.chart.specs.declared.Charted.TheVariants.{Refused}
 use Rattle.chart.specs.Chart.{figures, line_texts, too_many, charted}
 use Rattle.chart.specs.Turns.{chart_turns}
 use Rattle.chart.proofs.Records.{wall_width, many, few, charted_unsound, charted_many, charted_written}
@@ -23,7 +23,7 @@ use Rattle.listing.proofs.chart_turns.Goals as goal
 
 module _ (run : Run) (order : List ℕ) {out : List ℕ} {at : ℕ} {o : List ℕ} {r : ℕ} where
   -- no line
-  refused : (number : ℕ) → Refused (refusal number 0) ≡ charted run → Puts out at o r (refused_line (refusal number 0) ∷ []) 64 → Puts out at o r (chart_turns run order) (85 * (length order + 2))
+  refused : (number : ℕ) → Err (refusal number 0) ≡ charted run → Puts out at o r (refused_line (refusal number 0) ∷ []) 64 → Puts out at o r (chart_turns run order) (85 * (length order + 2))
   unfolding chart_turns
   refused number e p = rw (← e) (puts_within (omega arith) p)
 

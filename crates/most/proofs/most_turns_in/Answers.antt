@@ -5,10 +5,10 @@ use Rattle.most.proofs.Answers.{refused_own, own_whole, values_are}
 use Rattle.most.proofs.most_turns_in.Goals as goal
 
 pub turns_for-requires : goal.turns_for-requires
-turns_for-requires c = (passes_rules _).0 (sym c.check_in-found.ensures.value ∙ c.in-Nothing.is)
+turns_for-requires c = (passes_rules _).0 (sym c.check_in-found.ensures.value ∙ c.in-Ok.is)
 
-pub returns-in-At : goal.returns-in-At
-returns-in-At c = let v = values_are _ _ _ (refused_own _ _ _ _ (sym c.check_in-found.ensures.value ∙ c.in-At.is)) in record { value = v.0; result_value = v.1; rises_after = c.check_in-found.ensures.rises_after }
+pub returns-in-Err : goal.returns-in-Err
+returns-in-Err c = let v = values_are _ _ _ (refused_own _ _ _ _ (sym c.check_in-found.ensures.value ∙ c.in-Err.is)) in record { value = v.0; result_value = v.1; rises_after = c.check_in-found.ensures.rises_after }
 
-pub returns-in-Nothing : goal.returns-in-Nothing
-returns-in-Nothing c = let v = values_are _ _ _ (c.turns_for.ensures ∙ own_whole _ _ _ (sym c.check_in-found.ensures.value ∙ c.in-Nothing.is)) in record { value = v.0; result_value = v.1; rises_after = c.check_in-found.ensures.rises_after }
+pub returns-in-Ok : goal.returns-in-Ok
+returns-in-Ok c = let v = values_are _ _ _ (c.turns_for.ensures ∙ own_whole _ _ _ (sym c.check_in-found.ensures.value ∙ c.in-Ok.is)) in record { value = v.0; result_value = v.1; rises_after = c.check_in-found.ensures.rises_after }

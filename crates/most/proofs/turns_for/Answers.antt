@@ -25,7 +25,7 @@ returns-then-outside-2 c = c.refuse-then-outside-2.ensures ∙ wide_quota _ _ _ 
 pub turns_of-requires : goal.turns_of-requires
 turns_of-requires c =
     let a = c.args in
-    count_ready a.table.now a.p a.quota (workers_in_lem (goal.at.turns_of-requires c).Else-outside) (quota_in_lem (goal.at.turns_of-requires c).Else-outside-2) _ c.count-total.ensures c.in-Nothing.is c.requires
+    count_ready a.table.now a.p a.quota (workers_in_lem (goal.at.turns_of-requires c).Else-outside) (quota_in_lem (goal.at.turns_of-requires c).Else-outside-2) _ c.count-total.ensures c.in-Ok.is c.requires
 
 pub overflow_mul-result : goal.overflow_mul-result
 overflow_mul-result c =
@@ -33,10 +33,10 @@ overflow_mul-result c =
     let x : c.turns_of.result ≤ 150000 = omega (arith, c.turns_of.ensures.small) in
     omega (arith, mul-le-mul w.1 x)
 
-pub returns-in-At : goal.returns-in-At
-returns-in-At c =
-    too_full _ _ _ (workers_in_lem (goal.at.returns-in-At c).Else-outside) (quota_in_lem (goal.at.returns-in-At c).Else-outside-2) _ c.count-total.ensures _ c.in-At.is
+pub returns-in-Err : goal.returns-in-Err
+returns-in-Err c =
+    too_full _ _ _ (workers_in_lem (goal.at.returns-in-Err c).Else-outside) (quota_in_lem (goal.at.returns-in-Err c).Else-outside-2) _ c.count-total.ensures _ c.in-Err.is
 
-pub returns-in-Nothing : goal.returns-in-Nothing
-returns-in-Nothing c =
-    at_most _ _ _ (workers_in_lem (goal.at.returns-in-Nothing c).Else-outside) (quota_in_lem (goal.at.returns-in-Nothing c).Else-outside-2) _ c.count-total.ensures c.in-Nothing.is c.requires _ c.turns_of.ensures.value
+pub returns-in-Ok : goal.returns-in-Ok
+returns-in-Ok c =
+    at_most _ _ _ (workers_in_lem (goal.at.returns-in-Ok c).Else-outside) (quota_in_lem (goal.at.returns-in-Ok c).Else-outside-2) _ c.count-total.ensures c.in-Ok.is c.requires _ c.turns_of.ensures.value

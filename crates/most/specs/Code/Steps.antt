@@ -1,10 +1,10 @@
 -- What the inner functions of the code require and promise.
-use Rattle.std.specs.Prelude.{ℕ, ◌+◌, ◌≤◌, List}
+use Rattle.std.specs.Prelude.{ℕ, ◌+◌, ◌≤◌, List, Result}
+use Rattle.table.specs.declared.Refusal.{Refusal}
 use Rattle.table.specs.Sum.{pick}
 use Rattle.table.specs.Format.{alloc, join, is, Table, kind, table_of}
 use Rattle.table.specs.Pass.{first_found}
 use Rattle.schedule.specs.Begin.{begin_passes}
-use Rattle.most.specs.declared.Most.{Most}
 use Rattle.most.specs.Most.{limit_of, most_as}
 
 -- what an action adds to m + A + J
@@ -19,5 +19,5 @@ pub record Counted (T : Table) (threads actions : ℕ) : Type 0 where
   pub few_actions : actions ≤ 8192
 
 -- the answer where the table's own checks pass
-unfoldable pub own_most : List ℕ → ℕ → ℕ → Most
+unfoldable pub own_most : List ℕ → ℕ → ℕ → Result ℕ Refusal
 own_most s p K = most_as (first_found (begin_passes (table_of s) p K)) (limit_of s p K)

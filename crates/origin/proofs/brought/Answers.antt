@@ -62,12 +62,6 @@ new_threads-threads-requires c = record { x_bound = c.amount-x.ensures.small; le
 pub overflow_add-threads : goal.overflow_add-threads
 overflow_add-threads c = let i = c.loop-a.invariant in omega (arith, c.new_threads-threads.ensures.small, i.few_threads, i.within, i.few)
 
-pub overflow_add-a : goal.overflow_add-a
-overflow_add-a c = omega (arith, c.loop-a-test.true, c.loop-a.invariant.few)
-
-pub loop-a-smaller : goal.loop-a-smaller
-loop-a-smaller c = omega (arith, c.loop-a-test.true)
-
 pub loop-a-preserved : goal.loop-a-preserved
 loop-a-preserved c =
     again _ _ _ _ _ _ _ _ _ _ c.loop-a.invariant c.loop-a-test.true c.amount-x.ensures.value c.above-bigs.ensures c.new_threads-threads.ensures

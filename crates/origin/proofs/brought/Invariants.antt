@@ -20,6 +20,3 @@ pub record Inv (s : List ℕ) (K n k bigs threads a : ℕ) : Type 0 where
 
 abbrev pub invariant-loop-a : goal.invariant-loop-a
 invariant-loop-a l = Inv l.table l.quota l.n l.k l.bigs l.threads l.a
-
-abbrev pub decreases-loop-a : goal.decreases-loop-a
-decreases-loop-a l = l.k - l.a

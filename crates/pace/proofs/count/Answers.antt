@@ -35,12 +35,6 @@ offset_bounds-pace-base-in-loop-x c = omega arith
 pub bounds-pace-base-in-loop-x : goal.bounds-pace-base-in-loop-x
 bounds-pace-base-in-loop-x c = omega arith
 
-pub overflow_add-x : goal.overflow_add-x
-overflow_add-x c = omega arith
-
-pub loop-x-smaller : goal.loop-x-smaller
-loop-x-smaller c = omega arith
-
 pub loop-x-preserved : goal.loop-x-preserved
 loop-x-preserved c =
     let d = c.args in

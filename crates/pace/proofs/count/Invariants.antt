@@ -8,6 +8,3 @@ use Rattle.pace.proofs.count.Given as goal
 
 abbrev pub invariant-loop-x : goal.invariant-loop-x
 invariant-loop-x l = (l.x ≤ 16) × (counted (16 - l.x) (16 * l.w + l.x) l.pace ≡ counted 16 (16 * l.w) l.initial.pace)
-
-abbrev pub decreases-loop-x : goal.decreases-loop-x
-decreases-loop-x l = 16 - l.x

@@ -26,12 +26,6 @@ bounds-pace-base c = omega arith
 pub larger-greatest-requires : goal.larger-greatest-requires
 larger-greatest-requires c = tt
 
-pub overflow_add-x : goal.overflow_add-x
-overflow_add-x c = omega arith
-
-pub loop-x-smaller : goal.loop-x-smaller
-loop-x-smaller c = omega arith
-
 pub loop-x-preserved : goal.loop-x-preserved
 loop-x-preserved c =
     let d = c.args in

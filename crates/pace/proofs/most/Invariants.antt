@@ -9,6 +9,3 @@ use Rattle.pace.proofs.most.Given as goal
 abbrev pub invariant-loop-x : goal.invariant-loop-x
 invariant-loop-x l =
     (l.x ≤ 16) × (max l.greatest (most_from (16 - l.x) (16 * l.w + l.x) l.pace) ≡ most_from 16 (16 * l.w) l.pace)
-
-abbrev pub decreases-loop-x : goal.decreases-loop-x
-decreases-loop-x l = 16 - l.x

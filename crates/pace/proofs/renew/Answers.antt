@@ -23,12 +23,6 @@ offset_bounds-pace-v c = omega arith
 pub bounds-pace-v : goal.bounds-pace-v
 bounds-pace-v c = omega arith
 
-pub overflow_add-v : goal.overflow_add-v
-overflow_add-v c = omega arith
-
-pub loop-v-smaller : goal.loop-v-smaller
-loop-v-smaller c = omega arith
-
 pub loop-v-preserved : goal.loop-v-preserved
 loop-v-preserved c =
     (omega arith, renew_step c.loop-v.v (omega arith) c.loop-v.pace c.args.w ∙ c.loop-v.invariant.1)

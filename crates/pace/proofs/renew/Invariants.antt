@@ -8,6 +8,3 @@ use Rattle.pace.proofs.renew.Given as goal
 
 abbrev pub invariant-loop-v : goal.invariant-loop-v
 invariant-loop-v l = (l.v ≤ 16) × (renewed (16 - l.v) (16 * l.v + l.w) l.pace ≡ renewed 16 l.w l.initial.pace)
-
-abbrev pub decreases-loop-v : goal.decreases-loop-v
-decreases-loop-v l = 16 - l.v

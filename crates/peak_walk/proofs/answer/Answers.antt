@@ -1,19 +1,19 @@
 -- `peak_walk::answer` meets its contract: the table's own checks, then the load's.
+use Rattle.std.specs.Prelude.{Ok}
 use Rattle.std.proofs.Common.{◌≡◌, sym, ◌∙◌, rules}
 use Rattle.table.specs.Pass.{first_found}
 use Rattle.table.specs.Checks.{passes}
-use Rattle.table.specs.declared.Found.TheVariants.{Nothing}
 use Rattle.peak_walk.proofs.Answers.{refused, too_high, given, accepted, right_start}
 use Rattle.peak_walk.proofs.answer.Goals.{In_default}
 use Rattle.peak_walk.proofs.answer.Goals as goal
 
 -- the table keeps the rules
-silent : (c : In_default) → first_found (passes c.args.table.now) ≡ Nothing
+silent : (c : In_default) → first_found (passes c.args.table.now) ≡ Ok tt
 silent c = sym c.check_in-found.ensures.value ∙ c.in_default.is
 
-pub returns-in-At : goal.returns-in-At
-returns-in-At c =
-    refused _ _ _ (sym c.check_in-found.ensures.value ∙ c.in-At.is)
+pub returns-in-Err : goal.returns-in-Err
+returns-in-Err c =
+    refused _ _ _ (sym c.check_in-found.ensures.value ∙ c.in-Err.is)
 
 pub returns-then-load-gt16 : goal.returns-then-load-gt16
 returns-then-load-gt16 c = too_high _ _ _ (silent (goal.at.returns-then-load-gt16 c).In_default) c.if-load-gt16.true

@@ -4,11 +4,11 @@ use Rattle.quota.proofs.Checks.{refused_own, accepted_own, own_whole, values_are
 use Rattle.quota.proofs.largest_quota_in.Goals as goal
 
 pub quota_for-requires : goal.quota_for-requires
-quota_for-requires c = accepted_own _ _ (sym c.load_in-loaded.ensures.value ∙ c.in-Accepted.is)
+quota_for-requires c = accepted_own _ _ (sym c.load_in-loaded.ensures.value ∙ c.in-Ok.is)
 
-pub returns-in-Refused : goal.returns-in-Refused
-returns-in-Refused c = let v = values_are _ _ _ _ (refused_own _ _ _ _ _ (sym c.load_in-loaded.ensures.value ∙ c.in-Refused.is)) in record { value = v.0; result_value = v.1; rises_after = c.load_in-loaded.ensures.rises_after }
+pub returns-in-Err : goal.returns-in-Err
+returns-in-Err c = let v = values_are _ _ _ _ (refused_own _ _ _ _ _ (sym c.load_in-loaded.ensures.value ∙ c.in-Err.is)) in record { value = v.0; result_value = v.1; rises_after = c.load_in-loaded.ensures.rises_after }
 
-pub returns-in-Accepted : goal.returns-in-Accepted
-returns-in-Accepted c = let a = accepted_own _ _ (sym c.load_in-loaded.ensures.value ∙ c.in-Accepted.is) in
+pub returns-in-Ok : goal.returns-in-Ok
+returns-in-Ok c = let a = accepted_own _ _ (sym c.load_in-loaded.ensures.value ∙ c.in-Ok.is) in
     let v = values_are _ _ _ _ (c.quota_for.ensures ∙ own_whole _ _ _ _ a.rules) in record { value = v.0; result_value = v.1; rises_after = c.load_in-loaded.ensures.rises_after }

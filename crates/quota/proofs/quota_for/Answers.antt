@@ -1,4 +1,5 @@
 -- `quota::quota_for` meets its contract: the answer, check by check.
+use Rattle.std.specs.Prelude.{Ok}
 use mathlib.Core.Path.{◌≡◌, sym, ap, ◌∙◌}
 use Prim.Native.Nat.{ℕ, ◌-◌, ◌≤◌}
 use mathlib.Core.Bool.{false}
@@ -7,7 +8,6 @@ use Rattle.table.specs.Format.{table_of}
 use Rattle.table.specs.Checks.{outside}
 use Rattle.table.specs.Serial.{S1}
 use Rattle.table.proofs.Sizes.{inside}
-use Rattle.quota.specs.declared.Quoted.TheVariants.{Given}
 use Rattle.quota.specs.Quota.{most_within, most_quota}
 use Rattle.quota.proofs.Checks.{many_workers, wide_gap, little_memory, below_least, at_most, depth_some, peak_is, depth_is, most_is}
 use Rattle.quota.proofs.quota_for.Goals.{After-most_within-most, Else-memory-peak, Else-outside, Else-outside-2}
@@ -55,5 +55,5 @@ returns-then-most-least_quota c =
 
 pub returns : goal.returns
 returns c =
-    ap Given (most_found_lem (goal.at.returns c).After-most_within-most)
+    ap Ok (most_found_lem (goal.at.returns c).After-most_within-most)
     ∙ at_most _ _ _ _ (workers_in_lem (goal.at.returns c).Else-outside) (gap_in_lem (goal.at.returns c).Else-outside-2) (peak_in (goal.at.returns c).Else-memory-peak) (omega (arith, most_found_lem (goal.at.returns c).After-most_within-most, c.least_quota.ensures, c.if-most-least_quota.false))

@@ -1,11 +1,11 @@
 -- What the inner functions of the code require and promise.
-use Rattle.std.specs.Prelude.{◌≡◌, ℕ, ◌≤◌, List}
+use Rattle.std.specs.Prelude.{◌≡◌, ℕ, ◌≤◌, List, Result}
+use Rattle.table.specs.declared.Refusal.{Refusal}
 use Rattle.table.specs.Format.{table_of}
 use Rattle.table.specs.Pass.{try_pass}
 use Rattle.table.specs.Rules.{Rules}
 use Rattle.table.specs.Load.{facts_of}
 use Rattle.table.specs.declared.Facts.{Facts}
-use Rattle.quota.specs.declared.Quoted.{Quoted}
 use Rattle.quota.specs.Quota.{most_quota, max_gap, quota_pass, answered_by}
 
 -- a table that passes its own checks, with its facts
@@ -21,5 +21,5 @@ pub record Ready (p b depth : ℕ) : Type 0 where
   pub some_depth : 1 ≤ depth
 
 -- the answer where the table's own checks pass
-unfoldable pub own_answer : List ℕ → ℕ → ℕ → ℕ → Quoted
+unfoldable pub own_answer : List ℕ → ℕ → ℕ → ℕ → Result ℕ Refusal
 own_answer s p b M = answered_by (try_pass (quota_pass (table_of s) p b M)) (most_quota (table_of s) p b M)

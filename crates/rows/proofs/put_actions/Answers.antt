@@ -17,12 +17,6 @@ loop-i-init c =
 pub moved-x-requires : goal.moved-x-requires
 moved-x-requires c = (c.action_in-action.ensures.read.small, c.requires.1)
 
-pub overflow_add-i : goal.overflow_add-i
-overflow_add-i c = omega (arith, c.loop-i-test.true)
-
-pub loop-i-smaller : goal.loop-i-smaller
-loop-i-smaller c = omega (arith, c.loop-i-test.true)
-
 pub loop-i-preserved : goal.loop-i-preserved
 loop-i-preserved c =
     let d = c.args in

@@ -12,6 +12,3 @@ pub record Inv (out₀ : List ℕ) (at₀ : ℕ) (s order names out : List ℕ) 
 
 abbrev pub invariant-loop-i : goal.invariant-loop-i
 invariant-loop-i l = Inv l.initial.out l.initial.at l.table l.order l.names l.out l.at l.i
-
-abbrev pub decreases-loop-i : goal.decreases-loop-i
-decreases-loop-i l = length l.order - l.i

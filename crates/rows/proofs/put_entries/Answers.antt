@@ -38,12 +38,6 @@ loop-t-init c =
 pub overflow_add-before : goal.overflow_add-before
 overflow_add-before c = omega (arith, c.first.ensures.small, c.wide-before.ensures.small)
 
-pub overflow_add-t : goal.overflow_add-t
-overflow_add-t c = omega (arith, c.loop-t-test.true)
-
-pub loop-t-smaller : goal.loop-t-smaller
-loop-t-smaller c = omega (arith, c.loop-t-test.true)
-
 pub loop-t-preserved : goal.loop-t-preserved
 loop-t-preserved c =
     let d = c.args in

@@ -11,6 +11,3 @@ pub record Inv (out₀ : List ℕ) (at₀ : ℕ) (s : List ℕ) (o n : ℕ) (out
 
 abbrev pub invariant-loop-t : goal.invariant-loop-t
 invariant-loop-t l = Inv l.initial.out l.initial.at l.table l.o l.n l.out l.at l.t
-
-abbrev pub decreases-loop-t : goal.decreases-loop-t
-decreases-loop-t l = l.n - l.t

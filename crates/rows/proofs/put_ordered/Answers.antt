@@ -46,12 +46,6 @@ pub overflow_add-before : goal.overflow_add-before
 overflow_add-before c =
     omega (arith, c.count-size.ensures.small, c.loop-i.invariant.small)
 
-pub overflow_add-i : goal.overflow_add-i
-overflow_add-i c = omega (arith, c.loop-i-test.true)
-
-pub loop-i-smaller : goal.loop-i-smaller
-loop-i-smaller c = omega (arith, c.loop-i-test.true)
-
 pub loop-i-preserved : goal.loop-i-preserved
 loop-i-preserved c =
     let d = c.args in

@@ -13,6 +13,3 @@ pub record Inv (out₀ : List ℕ) (at₀ : ℕ) (s order out : List ℕ) (at be
 
 abbrev pub invariant-loop-i : goal.invariant-loop-i
 invariant-loop-i l = Inv l.initial.out l.initial.at l.table l.order l.out l.at l.before l.i
-
-abbrev pub decreases-loop-i : goal.decreases-loop-i
-decreases-loop-i l = length l.order - l.i

@@ -1,4 +1,5 @@
 -- Lists of calls: a beginning's record is sound, calls keep it so (turns taken apart, at its limit), and what a list of calls leaves is the state after its row.
+use Rattle.std.specs.Prelude.{Err, Ok, Result, ⊤}
 use mathlib.Core.Path.{◌≡◌, refl, sym, ap, ◌∙◌}
 use Prim.Native.Nat.{ℕ, zero, suc, ◌+◌, ◌-◌, ◌^◌, ◌%◌, ◌≤◌, ◌<◌}
 use native.Mathlib.Omega.{arith}
@@ -14,14 +15,11 @@ use Rattle.table.specs.Format.{Table, table_of}
 use Rattle.table.specs.Pass.{refusal, first_found, try_at}
 use Rattle.table.specs.Checks.{max_threads, passes}
 use Rattle.table.specs.Rules.{Rules}
-use Rattle.table.specs.declared.Found.{Found}
-use Rattle.table.specs.declared.Found.TheVariants.{Nothing, At}
 use Rattle.table.specs.declared.Refusal.{Refusal}
 use Rattle.table.proofs.Tests.{no_way}
 use Rattle.table.proofs.Trying.{try_at_nothing}
 use Rattle.schedule.specs.declared.Run.{Run}
 use Rattle.schedule.specs.declared.Begun.{Begun}
-use Rattle.schedule.specs.declared.Beginning.TheVariants.{Begun as started}
 use Rattle.schedule.specs.declared.Turning.TheVariants.{Refused as refused_turn}
 use Rattle.schedule.specs.declared.Report.{Report}
 use Rattle.schedule.specs.declared.Report.TheVariants.{Finished, Spent, Refused}
@@ -60,17 +58,17 @@ pub record Started (s : List ℕ) (p K : ℕ) (r : Run) : Type 0 where
   pub few_workers : p ≤ 16
 
 -- no check applies, and the record is the start's
-begin_accepted : (s : List ℕ) (p K : ℕ) (r : Run) → begin s p K ≡ record { answer = started; run = r }
+begin_accepted : (s : List ℕ) (p K : ℕ) (r : Run) → begin s p K ≡ record { answer = Ok tt; run = r }
     → (r ≡ start_run (filled_out s K) p K) × Runs s K × Fits p K
 unfolding begin
 begin_accepted s p K r e = go (first_found (passes s ++ begin_passes (table_of s) p K)) refl e
   where
-    go : (f : Found) → first_found (passes s ++ begin_passes (table_of s) p K) ≡ f → begun_as f (start_run (filled_out s K) p K) ≡ record { answer = started; run = r }
+    go : (f : Result ⊤ Refusal) → first_found (passes s ++ begin_passes (table_of s) p K) ≡ f → begun_as f (start_run (filled_out s K) p K) ≡ record { answer = Ok tt; run = r }
         → (r ≡ start_run (filled_out s K) p K) × Runs s K × Fits p K
-    go Nothing n q = let (a, f, x) = silent_runs s p K n in (sym (ap (λ (x : Begun). x.run) q), x, f)
-    go (At x) n q = let z = ap (λ (y : Begun). y.answer) q in no_way (cc)
+    go (Ok _) n q = let (a, f, x) = silent_runs s p K n in (sym (ap (λ (x : Begun). x.run) q), x, f)
+    go (Err x) n q = let z = ap (λ (y : Begun). y.answer) q in no_way (cc)
 
-pub begin_started : (s : List ℕ) (p K : ℕ) (r : Run) → begin s p K ≡ record { answer = started; run = r } → Started s p K r
+pub begin_started : (s : List ℕ) (p K : ℕ) (r : Run) → begin s p K ≡ record { answer = Ok tt; run = r } → Started s p K r
 begin_started s p K r e =
     let b = begin_accepted s p K r e in
     let f : Fits p K = b.2 in
@@ -88,7 +86,7 @@ unfolding start_run
 start_bytes s p K = ap table_of (filled_front max_bytes s)
 
 -- a record with the table given, whatever its allocs
-pub start_steady : (s : List ℕ) (p K : ℕ) → Rules s → first_found (setting_passes p K) ≡ Nothing → Steady (start_run s p K)
+pub start_steady : (s : List ℕ) (p K : ℕ) → Rules s → first_found (setting_passes p K) ≡ Ok tt → Steady (start_run s p K)
 unfolding start_run
 start_steady s p K h f =
     let T : Table = table_of s in
@@ -110,7 +108,7 @@ start_turns : (s : List ℕ) (p K : ℕ) → (start_run s p K).turns ≡ 0
 unfolding start_run start_state
 start_turns s p K = refl
 
-pub begin_sound : (s : List ℕ) (p K : ℕ) (r : Run) → begin s p K ≡ record { answer = started; run = r } → Sound r
+pub begin_sound : (s : List ℕ) (p K : ℕ) (r : Run) → begin s p K ≡ record { answer = Ok tt; run = r } → Sound r
 begin_sound s p K r e =
     let b = begin_accepted s p K r e in
     rw b.0 (record { steady = start_steady (filled_out s K) p K b.1.rules ((settings_exactly p K).1 b.2); turns = omega (arith, start_turns (filled_out s K) p K) })
@@ -223,7 +221,7 @@ drive_goes who (suc k) i r h =
     go false false false e ih = steps who k i r rest h (worker_there r (who i) e) (ih e)
 
 -- a turn that is taken is of a worker below p
-turn_worker : (r : Run) (w : ℕ) → try_at (turn_checks r w) 0 ≡ Nothing → w < r.workers
+turn_worker : (r : Run) (w : ℕ) → try_at (turn_checks r w) 0 ≡ Ok tt → w < r.workers
 unfolding turn_checks
 turn_worker r w e = worker_there r w ((try_at_nothing (turn_checks r w) 0).0 e).1.0
 
@@ -231,11 +229,11 @@ turn_goes : (r : Run) (w : ℕ) → Steady r → Goes r (turn_row (turned r w).a
 unfolding turned
 turn_goes r w h = go (try_at (turn_checks r w) 0) refl
   where
-    go : (f : Found) → try_at (turn_checks r w) 0 ≡ f → Goes r (turn_row (turned_as f r (passed_in r w) (step_run r w)).answer w) (turned_as f r (passed_in r w) (step_run r w)).run
-    go Nothing e =
+    go : (f : Result ⊤ Refusal) → try_at (turn_checks r w) 0 ≡ f → Goes r (turn_row (turned_as f r (passed_in r w) (step_run r w)).answer w) (turned_as f r (passed_in r w) (step_run r w)).run
+    go (Ok _) e =
         let b : w < r.workers = turn_worker r w e in
         record { left = left_step r w [] (moved r w) h b (left_none (moved r w)); steady = moved_steady r h w b }
-    go (At x) e = goes_none r h
+    go (Err x) e = goes_none r h
 
 -- a run from its first turn on
 from_start : {who : ℕ → ℕ} {k : ℕ} (r : Run) {d : Ran} → Driven who k 0 r d → Goes r (firsts who 0 (turns_in d.report)) d.run
@@ -294,9 +292,9 @@ pub turn_refused : (r : Run) (w : ℕ) (x : Refusal) → (turned r w).answer ≡
 unfolding turned
 turn_refused r w x e = go (try_at (turn_checks r w) 0) e
   where
-    go : (f : Found) → (turned_as f r (passed_in r w) (step_run r w)).answer ≡ refused_turn x → (turned_as f r (passed_in r w) (step_run r w)).run ≡ r
-    go Nothing e = no_way (cc)
-    go (At y) e = refl
+    go : (f : Result ⊤ Refusal) → (turned_as f r (passed_in r w) (step_run r w)).answer ≡ refused_turn x → (turned_as f r (passed_in r w) (step_run r w)).run ≡ r
+    go (Ok _) e = no_way (cc)
+    go (Err y) e = refl
 
 -- ---- a whole list of calls
 
@@ -320,7 +318,7 @@ calls_steady r h [] = h
 calls_steady r h (c ∷ calls) = calls_steady (after_call c r) (call_goes r h c).steady calls
 
 -- and from a beginning
-pub start_state_lem : (s : List ℕ) (p K : ℕ) (r : Run) → begin s p K ≡ record { answer = started; run = r }
+pub start_state_lem : (s : List ℕ) (p K : ℕ) (r : Run) → begin s p K ≡ record { answer = Ok tt; run = r }
     → (table_in r ≡ table_of (filled_out s K)) × (r.workers ≡ p) × (r.quota ≡ K) × (state_of r ≡ start_state (table_of (filled_out s K)))
 unfolding start_run
 start_state_lem s p K r e =
@@ -330,18 +328,18 @@ start_state_lem s p K r e =
 
 -- of a beginning and a list of calls: the record left is the state after the row, and is sound but for its turns taken; the workers of every front part are below p
 pub record Traced (s : List ℕ) (p K : ℕ) (r : Run) (calls : List Call) : Type 0 where
-  pub started : Started s p K r
+  pub (Ok tt) : Started s p K r
   pub steady : Steady (after_calls calls r)
   pub state : state_of (after_calls calls r) ≡ row_state (table_of (filled_out s K)) K (start_state (table_of (filled_out s K))) (row_of_calls calls r)
   pub below : (front rest : List ℕ) → row_of_calls calls r ≡ front ++ rest → (w : ℕ) → Memᴰ w front → w < p
 
-pub calls_traced : (s : List ℕ) (p K : ℕ) (r : Run) → begin s p K ≡ record { answer = started; run = r } → (calls : List Call) → Traced s p K r calls
+pub calls_traced : (s : List ℕ) (p K : ℕ) (r : Run) → begin s p K ≡ record { answer = Ok tt; run = r } → (calls : List Call) → Traced s p K r calls
 calls_traced s p K r e calls =
     let h : Steady r = (begin_sound s p K r e).steady in
     let c : Left r (row_of_calls calls r) (after_calls calls r) = calls_left r h calls in
     let o = start_state_lem s p K r e in
     record {
-      started = begin_started s p K r e;
+      (Ok _) = begin_started s p K r e;
       steady = calls_steady r h calls;
       state = cc (c.state, o.0, o.2, o.3);
       below = λ front rest d. front_workers (λ w. w < p) (row_of_calls calls r) front rest d (λ w m. omega (arith, c.workers_below w m, o.1));

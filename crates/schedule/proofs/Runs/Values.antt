@@ -1,4 +1,6 @@
 -- Every call's answer has the number and the values that follow from its checks, its turns and their replies.
+use Rattle.std.specs.Prelude.{Err, Ok, Result, ⊤}
+use Rattle.table.specs.declared.Refusal.{Refusal}
 use mathlib.Core.Path.{◌≡◌, refl, sym, ap, ◌∙◌, fun_ext}
 use Prim.Native.Nat.{ℕ, zero, suc, ◌+◌, ◌-◌, ◌^◌, ◌%◌, ◌≤◌, ◌<◌}
 use native.Mathlib.Omega.{arith}
@@ -12,8 +14,6 @@ use Rattle.table.specs.Format.{table_of}
 use Rattle.table.specs.Pass.{refusal, try_at, first_found}
 use Rattle.table.specs.Checks.{passes}
 use Rattle.table.specs.Load.{if_found}
-use Rattle.table.specs.declared.Found.{Found}
-use Rattle.table.specs.declared.Found.TheVariants.{Nothing, At}
 use Rattle.schedule.specs.declared.Run.{Run}
 use Rattle.schedule.specs.declared.Ran.{Ran}
 use Rattle.schedule.specs.declared.Reply.{Reply}
@@ -33,23 +33,23 @@ pub begin_values_lem : (s : List ℕ) (p K : ℕ) → beginning_values (begin s 
 unfolding begin begin_values
 begin_values_lem s p K = go (first_found (passes s ++ begin_passes (table_of s) p K))
   where
-    go : (found : Found) → beginning_values (begun_as found (start_run (filled_out s K) p K)).answer ≡ said_values found begun 0 0 0
-    go Nothing = refl
-    go (At x) = refl
+    go : (found : Result ⊤ Refusal) → beginning_values (begun_as found (start_run (filled_out s K) p K)).answer ≡ said_values found begun 0 0 0
+    go (Ok _) = refl
+    go (Err x) = refl
 
 pub turn_values_lem : (r : Run) (w : ℕ) → turning_values (turned r w).answer ≡ turn_values r w
 unfolding turned turn_values
 turn_values_lem r w = go (try_at (turn_checks r w) 0) (step_run r w) (step_run r w).reply refl
   where
-    go : (found : Found) (d : Stepped) (x : Reply) → d.reply ≡ x
+    go : (found : Result ⊤ Refusal) (d : Stepped) (x : Reply) → d.reply ≡ x
         → turning_values (turned_as found r (passed_in r w) d).answer
         ≡ passing (if_found found 0 (passed_in r w))
         (said_values found (reply_values d.reply).said (reply_values d.reply).thread (reply_values d.reply).value (if_found found 0 1))
-    go (At y) d x e = refl
-    go Nothing d Idle e = rw e
-    go Nothing d (Done t a) e = rw e
-    go Nothing d (Quota t a) e = rw e
-    go Nothing d (Wait t c) e = rw e
+    go (Err y) d x e = refl
+    go (Ok _) d Idle e = rw e
+    go (Ok _) d (Done t a) e = rw e
+    go (Ok _) d (Quota t a) e = rw e
+    go (Ok _) d (Wait t c) e = rw e
 
 -- ---- runs
 
@@ -91,7 +91,7 @@ taken_first who k r = first_that_lem (λ n. stops (after_turns who n r) (who n))
 
 -- the values of a run that stops after n of k turns, i turns having gone before: the record that they left, and the worker of the next
 abbrev stopped : ℕ → ℕ → ℕ → Run → ℕ → Values
-stopped i n k left w = said_values (pick (eqb n k || root_ended left) Nothing (try_at (run_checks left w) 0)) (pick (root_ended left) finished spent) 0 0 (i + n)
+stopped i n k left w = said_values (pick (eqb n k || root_ended left) (Ok tt) (try_at (run_checks left w) 0)) (pick (root_ended left) finished spent) 0 0 (i + n)
 
 stopped_next : (i n k : ℕ) (left : Run) (w : ℕ) → stopped i (suc n) (suc k) left w ≡ stopped (suc i) n k left w
 stopped_next i n k left w = rw (eqb-suc-suc, add-suc, suc-add)
@@ -107,7 +107,7 @@ module _ (f : ℕ → ℕ) (k : ℕ) (r : Run) where
   taken_none e = rw e
 
   stop_now : (i : ℕ) → stops r (f 0) ≡ true
-      → from i f (suc k) r ≡ said_values (pick (root_ended r) Nothing (try_at (run_checks r (f 0)) 0)) (pick (root_ended r) finished spent) 0 0 i
+      → from i f (suc k) r ≡ said_values (pick (root_ended r) (Ok tt) (try_at (run_checks r (f 0)) 0)) (pick (root_ended r) finished spent) 0 0 i
   unfolding after_turns
   stop_now i e = ap (λ (n : ℕ). stopped i n (suc k) (after_turns f n r) (f n)) (taken_none e) ∙ rw (eqb-zero-suc, add-zero)
 
@@ -128,7 +128,7 @@ stops_by : (r : Run) (w : ℕ) → stops r w ≡ (root_ended r || (eqb r.turns (
 unfolding stops run_checks try_at
 stops_by r w = ap (λ (b : Bool). root_ended r || b) (go (eqb r.turns (2 ^ 64 - 1)) (no_worker r w))
   where
-    go : (c d : Bool) → if_found (pick c (At (refusal 32 0)) (pick d (At (refusal 30 0)) Nothing)) true false ≡ (c || d)
+    go : (c d : Bool) → if_found (pick c (Err (refusal 32 0)) (pick d (Err (refusal 30 0)) (Ok tt))) true false ≡ (c || d)
     go true d = refl
     go false true = refl
     go false false = refl
@@ -150,7 +150,7 @@ drive_values : (who f : ℕ → ℕ) (k i : ℕ) (r : Run) → ((n : ℕ) → wh
 unfolding drive turns_taken first_that after_turns
 drive_values who f zero i r h = rw add-zero (go (root_ended r))
   where
-    go : (b : Bool) → report_values (pick b (Finished i) (Spent i)) ≡ said_values Nothing (pick b finished spent) 0 0 i
+    go : (b : Bool) → report_values (pick b (Finished i) (Spent i)) ≡ said_values (Ok tt) (pick b finished spent) 0 0 i
     go true = refl
     go false = refl
 drive_values who f (suc k) i r h =
@@ -158,7 +158,7 @@ drive_values who f (suc k) i r h =
     (drive_values who (λ n. f (suc n)) k (suc i) (moved r (f 0)) (λ n. ap who (suc-add i n ∙ sym (add-suc i n)) ∙ h (suc n)))
 
 -- from its first turn on, the checks before it having found nothing
-run_values_lem : (who : ℕ → ℕ) (k : ℕ) (r : Run) → report_values (drive who k 0 r).report ≡ run_values Nothing who k r
+run_values_lem : (who : ℕ → ℕ) (k : ℕ) (r : Run) → report_values (drive who k 0 r).report ≡ run_values (Ok tt) who k r
 unfolding run_values stopped_by
 run_values_lem who k r = drive_values who who k 0 r (λ n. ap who (zero-add n)) ∙ rw zero-add
 
@@ -170,11 +170,11 @@ list_values_lem r l = go (unsound r) (run_values_lem (λ i. get_or l i 0) (lengt
     whole : Ran
     whole = drive (λ i. get_or l i 0) (length l) 0 r
 
-    values : Found → Values
+    values : Result ⊤ Refusal → Values
     values before = run_values before (λ i. get_or l i 0) (length l) r
 
-    go : (b : Bool) → report_values whole.report ≡ values Nothing
-        → report_values (pick b (ran (Refused 0 (refusal 32 0)) r) whole).report ≡ values (pick b (At (refusal 32 0)) Nothing)
+    go : (b : Bool) → report_values whole.report ≡ values (Ok tt)
+        → report_values (pick b (ran (Refused 0 (refusal 32 0)) r) whole).report ≡ values (pick b (Err (refusal 32 0)) (Ok tt))
     go true e = refl
     go false e = e
 
@@ -185,12 +185,12 @@ rounds_values_lem r limit = go (unsound r) (eqb r.workers 0) (run_values_lem (λ
     whole : Ran
     whole = drive (λ i. i % r.workers) limit 0 r
 
-    values : Found → Values
+    values : Result ⊤ Refusal → Values
     values before = run_values before (λ i. i % r.workers) limit r
 
-    go : (b c : Bool) → report_values whole.report ≡ values Nothing
+    go : (b c : Bool) → report_values whole.report ≡ values (Ok tt)
         → report_values (pick b (ran (Refused 0 (refusal 32 0)) r) (pick c (ran (Refused 0 (refusal 30 0)) r) whole)).report
-        ≡ values (pick b (At (refusal 32 0)) (pick c (At (refusal 30 0)) Nothing))
+        ≡ values (pick b (Err (refusal 32 0)) (pick c (Err (refusal 30 0)) (Ok tt)))
     go true c e = refl
     go false true e = refl
     go false false e = e

@@ -16,9 +16,9 @@ use Rattle.soundness.proofs.accept_in.Goals as goal
 said : {A B C D E : Type 0} → A → E → B × (C × D) → A × (B × (C × (D × E)))
 said e k f = (e, (f.0, (f.1.0, (f.1.1, k))))
 
-pub returns-in-At : goal.returns-in-At
-returns-in-At c = let a = c.args in
-    let e = c.begin_fault-filling.ensures in let both = said e.value e.rises_after (fills_nothing a.table.now a.p a.quota a.filled.now _ e.value _ c.in-At.is) in record { value = both.0; filled_after = both.1.0; next_after = both.1.1.0; parents_after = both.1.1.1.0; rises_after = both.1.1.1.1 }
+pub returns-in-Err : goal.returns-in-Err
+returns-in-Err c = let a = c.args in
+    let e = c.begin_fault-filling.ensures in let both = said e.value e.rises_after (fills_nothing a.table.now a.p a.quota a.filled.now _ e.value _ c.in-Err.is) in record { value = both.0; filled_after = both.1.0; next_after = both.1.1.0; parents_after = both.1.1.1.0; rises_after = both.1.1.1.1 }
 
 pub fill_start-requires : goal.fill_start-requires
 fill_start-requires c = let a = c.args in record { rules = given_rules a.table.now a.p a.quota a.filled.now _ c.begin_fault-filling.ensures.value c.in_default.is; next_value = (refl, refl) }

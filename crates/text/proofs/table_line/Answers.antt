@@ -6,22 +6,22 @@ use Rattle.io.specs.Counts.{IsPrefixLen}
 use Rattle.text.proofs.Placing.{counts}
 use Rattle.text.proofs.table_line.Goals as goal
 
-pub returns-in-Accepted : goal.returns-in-Accepted
-returns-in-Accepted c =
+pub returns-in-Ok : goal.returns-in-Ok
+returns-in-Ok c =
     let e = c.accepted_line.ensures in
     let p : IsPrefixLen c.accepted_line.result c.accepted_line.new.out = counts c.accepted_line.new.out c.accepted_line.result (omega (arith, e.value, simp length-append at (ap length e.out_after))) in
-    rw c.in-Accepted.is record {
+    rw c.in-Ok.is record {
       value = e.value;
       out_after = e.out_after;
       prefix_len = p;
       upper_bound = e.upper_bound;
     }
 
-pub returns-in-Refused : goal.returns-in-Refused
-returns-in-Refused c =
+pub returns-in-Err : goal.returns-in-Err
+returns-in-Err c =
     let e = c.refused_line.ensures in
     let p : IsPrefixLen c.refused_line.result c.refused_line.new.out = counts c.refused_line.new.out c.refused_line.result (omega (arith, e.value, simp length-append at (ap length e.out_after))) in
-    rw c.in-Refused.is record {
+    rw c.in-Err.is record {
       value = e.value;
       out_after = e.out_after;
       prefix_len = p;

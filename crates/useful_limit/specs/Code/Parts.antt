@@ -1,12 +1,10 @@
 -- What `fitquota` and `memlimit` answer, from a few numbers of a table.
-use Rattle.std.specs.Prelude.{ℕ, ◌+◌, ◌-◌, ◌*◌, ◌≤◌, ◌<◌, min, max, Bool, ◌&&◌, ◌||◌, List, [], ◌∷◌, leb, ltb, eqb}
+use Rattle.std.specs.Prelude.{ℕ, ◌+◌, ◌-◌, ◌*◌, ◌≤◌, ◌<◌, min, max, Bool, ◌&&◌, ◌||◌, List, [], ◌∷◌, leb, ltb, eqb, Err, Ok, Result, ⊤}
 use Rattle.table.specs.Sum.{pick}
 use Rattle.table.specs.Format.{Table, table_of}
 use Rattle.table.specs.Pass.{refusal, try_pass}
 use Rattle.table.specs.Serial.{S1}
 use Rattle.table.specs.declared.Refusal.{Refusal}
-use Rattle.table.specs.declared.Found.{Found}
-use Rattle.table.specs.declared.Found.TheVariants.{Nothing, At}
 use Rattle.schedule.specs.Begin.{max_quota}
 use Rattle.peaks.specs.Peak.{workers_peak}
 use Rattle.peaks.specs.Rests.{resting_peak}
@@ -84,6 +82,6 @@ pub record Asked (p K b : ℕ) : Type 0 where
   pub small_gap : b ≤ max_gap
 
 -- where a number behind p is out of its range: the table's own check, or 20, or that number's
-abbrev pub wide_fault : Found → Bool → ℕ → Refusal
-wide_fault (At r) q k = r
-wide_fault Nothing q k = refusal (pick q 20 k) 0
+abbrev pub wide_fault : Result ⊤ Refusal → Bool → ℕ → Refusal
+wide_fault (Err r) q k = r
+wide_fault (Ok _) q k = refusal (pick q 20 k) 0

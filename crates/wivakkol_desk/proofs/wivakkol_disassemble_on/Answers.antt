@@ -2,12 +2,12 @@
 use Rattle.wivakkol_desk.proofs.Rows.{told_row, lacks_row}
 use Rattle.wivakkol_desk.proofs.wivakkol_disassemble_on.Goals as goal
 
-pub returns-in-Listed : goal.returns-in-Listed
-returns-in-Listed c = let v = told_row _ _ _ _ c.in-Answered.is c.in-Listed.is c.disassemble_in-answer.ensures.value in
+pub returns-in-Ok : goal.returns-in-Ok
+returns-in-Ok c = let v = told_row _ _ _ _ c.in-Answered.is c.in-Ok.is c.disassemble_in-answer.ensures.value in
     record { value = v.0; row_after = v.1; out_after = c.disassemble_in-answer.ensures.out_after; rises_after = c.disassemble_in-answer.ensures.rises_after }
 
-pub returns-in-Refused : goal.returns-in-Refused
-returns-in-Refused c = let v = told_row _ _ _ _ c.in-Answered.is c.in-Refused.is c.disassemble_in-answer.ensures.value in
+pub returns-in-Err : goal.returns-in-Err
+returns-in-Err c = let v = told_row _ _ _ _ c.in-Answered.is c.in-Err.is c.disassemble_in-answer.ensures.value in
     record { value = v.0; row_after = v.1; out_after = c.disassemble_in-answer.ensures.out_after; rises_after = c.disassemble_in-answer.ensures.rises_after }
 
 pub returns-in-Short : goal.returns-in-Short

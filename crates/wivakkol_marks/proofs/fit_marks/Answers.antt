@@ -17,12 +17,6 @@ unfolding fit_marks
 returns-then-not-fits c =
     passed_stop c.loop-i.invariant c.loop-i-test.true c.fit_mark-fits.ensures (ap not c.if-not-fits.true)
 
-pub overflow_add-i : goal.overflow_add-i
-overflow_add-i c = omega (arith, c.loop-i-test.true)
-
-pub loop-i-smaller : goal.loop-i-smaller
-loop-i-smaller c = omega (arith, c.loop-i-test.true)
-
 pub loop-i-preserved : goal.loop-i-preserved
 loop-i-preserved c = passed_next c.loop-i.invariant c.fit_mark-fits.ensures (ap not c.if-not-fits.false)
 

@@ -9,6 +9,3 @@ use Rattle.wivakkol_marks.proofs.fit_marks.Given as goal
 abbrev pub invariant-loop-i : goal.invariant-loop-i
 invariant-loop-i l =
     Passed (λ j. not (is_set_in (marks_of l.set l.markbytes l.markwords l.marknumbers l.marksums) j) || fit_in l.table (mark_in (marks_of l.set l.markbytes l.markwords l.marknumbers l.marksums) j)) l.i
-
-abbrev pub decreases-loop-i : goal.decreases-loop-i
-decreases-loop-i l = 8 - l.i

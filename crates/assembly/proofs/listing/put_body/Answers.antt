@@ -49,12 +49,6 @@ put_action-at-requires c = c.argument.ensures.small
 pub put_number-at-requires : goal.put_number-at-requires
 put_number-at-requires c = omega (arith, c.requires.1, c.requires.2, c.loop-i.invariant.within)
 
-pub overflow_add-i : goal.overflow_add-i
-overflow_add-i c = omega arith
-
-pub loop-i-smaller : goal.loop-i-smaller
-loop-i-smaller c = omega arith
-
 pub loop-i-preserved : goal.loop-i-preserved
 loop-i-preserved c = again _ _ _ _ _ _ _ _ c.loop-i.invariant c.loop-i-test.true c.requires.0 c.code.ensures c.argument.ensures.value (search rules) c.put_action-at.ensures (search rules) c.put_number-at.ensures
 

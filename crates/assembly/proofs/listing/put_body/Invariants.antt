@@ -15,6 +15,3 @@ pub record Inv (out₀ : List ℕ) (at₀ : ℕ) (table : List ℕ) (from count 
 
 abbrev pub invariant-loop-i : goal.invariant-loop-i
 invariant-loop-i l = Inv l.initial.out l.initial.at l.table l.from l.count l.out l.at l.i
-
-abbrev pub decreases-loop-i : goal.decreases-loop-i
-decreases-loop-i l = l.count - l.i

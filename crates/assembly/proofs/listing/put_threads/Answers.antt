@@ -39,12 +39,6 @@ put_thread-at-requires c = omega (arith, c.requires.1, c.loop-t-test.true)
 pub put_body-at-requires : goal.put_body-at-requires
 put_body-at-requires c = (c.requires.0, c.first.ensures.small, c.count.ensures.small)
 
-pub overflow_add-t : goal.overflow_add-t
-overflow_add-t c = omega (arith, c.requires.1)
-
-pub loop-t-smaller : goal.loop-t-smaller
-loop-t-smaller c = omega arith
-
 pub loop-t-preserved : goal.loop-t-preserved
 loop-t-preserved c = again _ _ _ _ _ _ c.loop-t.invariant c.loop-t-test.true c.put_thread-at.ensures c.first.ensures.value c.count.ensures.value c.put_body-at.ensures (search rules) (search rules)
 

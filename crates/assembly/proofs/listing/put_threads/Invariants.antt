@@ -16,6 +16,3 @@ pub record Inv (out₀ table : List ℕ) (n : ℕ) (out : List ℕ) (at t : ℕ)
 
 abbrev pub invariant-loop-t : goal.invariant-loop-t
 invariant-loop-t l = Inv l.initial.out l.table l.n l.out l.at l.t
-
-abbrev pub decreases-loop-t : goal.decreases-loop-t
-decreases-loop-t l = l.n - l.t

@@ -81,12 +81,6 @@ returns-then-text-end c = ends _ _ _ _ _ c.loop-i.invariant c.span.ensures c.loo
 pub overflow_add-at : goal.overflow_add-at
 overflow_add-at c = omega (arith, c.if-text-end.false)
 
-pub overflow_add-i : goal.overflow_add-i
-overflow_add-i c = omega (arith, c.loop-i-test.true)
-
-pub loop-i-smaller : goal.loop-i-smaller
-loop-i-smaller c = omega (arith, c.loop-i-test.true)
-
 pub loop-i-preserved : goal.loop-i-preserved
 loop-i-preserved c = again _ _ _ _ _ c.loop-i.invariant c.span.ensures c.loop-i-test.true c.if-text-end.false
 

@@ -50,12 +50,6 @@ bounds-w-i c = omega arith
 pub next_value-v-requires : goal.next_value-v-requires
 next_value-v-requires c = c.loop-i.invariant.small
 
-pub overflow_add-i : goal.overflow_add-i
-overflow_add-i c = omega arith
-
-pub loop-i-smaller : goal.loop-i-smaller
-loop-i-smaller c = omega arith
-
 pub loop-i-preserved : goal.loop-i-preserved
 loop-i-preserved c = again _ _ _ c.loop-i.invariant c.loop-i-test.true c.next_value-v.ensures
 

@@ -59,12 +59,6 @@ bounds-b-i c = omega (arith, c.loop-i.invariant.long)
 pub returns-then-a-i : goal.returns-then-a-i
 returns-then-a-i c = differ _ _ _ c.loop-i.invariant c.loop-i-test.true c.if-a-i.true
 
-pub overflow_add-i : goal.overflow_add-i
-overflow_add-i c = omega arith
-
-pub loop-i-smaller : goal.loop-i-smaller
-loop-i-smaller c = omega arith
-
 pub loop-i-preserved : goal.loop-i-preserved
 loop-i-preserved c = again _ _ _ c.loop-i.invariant c.loop-i-test.true c.if-a-i.false
 

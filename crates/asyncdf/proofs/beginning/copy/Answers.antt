@@ -34,12 +34,6 @@ bounds-bytes-i c = c.loop-i-test.true
 pub bounds-out-i : goal.bounds-out-i
 bounds-out-i c = omega arith
 
-pub overflow_add-i : goal.overflow_add-i
-overflow_add-i c = omega arith
-
-pub loop-i-smaller : goal.loop-i-smaller
-loop-i-smaller c = omega arith
-
 pub loop-i-preserved : goal.loop-i-preserved
 loop-i-preserved c = again c.loop-i.invariant c.loop-i-test.true
 

@@ -40,12 +40,6 @@ fork_size-total-requires c = c.loop-i.invariant.sized
 pub overflow_add-total : goal.overflow_add-total
 overflow_add-total c = omega (arith, c.fork_size-total.ensures.small, c.loop-i.invariant.low, c.loop-i.invariant.within, c.loop-i.invariant.body)
 
-pub overflow_add-i : goal.overflow_add-i
-overflow_add-i c = omega (arith, c.loop-i.invariant.within, c.loop-i.invariant.body)
-
-pub loop-i-smaller : goal.loop-i-smaller
-loop-i-smaller c = omega (arith, c.loop-i-test.true)
-
 pub loop-i-preserved : goal.loop-i-preserved
 loop-i-preserved c =
     let d = c.args in

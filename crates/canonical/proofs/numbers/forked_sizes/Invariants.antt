@@ -17,6 +17,3 @@ pub record Inv (l : List ℕ) (first count : ℕ) (sizes : List ℕ) (total i : 
 
 abbrev pub invariant-loop-i : goal.invariant-loop-i
 invariant-loop-i l = Inv l.actions l.first l.count l.sizes l.total l.i
-
-abbrev pub decreases-loop-i : goal.decreases-loop-i
-decreases-loop-i l = l.count - l.i

@@ -57,12 +57,6 @@ number_step-next-requires c =
     let v = c.loop-i.invariant in
     (v.sizes_sized, v.sized, omega (arith, v.low, v.within, v.small, v.body))
 
-pub overflow_add-i : goal.overflow_add-i
-overflow_add-i c = omega (arith, c.loop-i.invariant.within, c.loop-i.invariant.body)
-
-pub loop-i-smaller : goal.loop-i-smaller
-loop-i-smaller c = omega (arith, c.loop-i-test.true)
-
 pub loop-i-preserved : goal.loop-i-preserved
 loop-i-preserved c =
     let d = c.args in

@@ -23,6 +23,3 @@ pub record Inv (l : List ℕ) (first count start : ℕ) (sizes new₀ new : List
 
 abbrev pub invariant-loop-i : goal.invariant-loop-i
 invariant-loop-i l = Inv l.actions l.first l.count l.start l.sizes l.initial.new l.new l.next l.i
-
-abbrev pub decreases-loop-i : goal.decreases-loop-i
-decreases-loop-i l = l.count - l.i

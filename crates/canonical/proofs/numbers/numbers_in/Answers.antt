@@ -72,12 +72,6 @@ pub number_walk-requires : goal.number_walk-requires
 number_walk-requires c =
     (sizes_sized c.args.table.now c.threads-n.result c.bodies-actions.result.now _ c.loop-t.new c.loop-t.t c.loop-t.invariant, c.loop-t.invariant.sized, omega (arith, c.number_at-start.ensures.small), record { first_small = c.first.ensures.small; count_small = c.count.ensures.small })
 
-pub overflow_add-t : goal.overflow_add-t
-overflow_add-t c = omega (arith, c.loop-t.invariant.within, c.loop-t.invariant.roomy)
-
-pub loop-t-smaller : goal.loop-t-smaller
-loop-t-smaller c = omega (arith, c.loop-t-test.true)
-
 pub loop-t-preserved : goal.loop-t-preserved
 loop-t-preserved c =
     again c.args.table.now c.threads-n.result c.bodies-actions.result.now _ c.loop-t.new c.loop-t.t c.loop-t.invariant c.loop-t-test.true

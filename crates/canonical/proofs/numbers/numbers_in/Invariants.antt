@@ -18,6 +18,3 @@ pub record Inv (s : List ℕ) (n : ℕ) (actions sizes new : List ℕ) (t : ℕ)
 
 abbrev pub invariant-loop-t : goal.invariant-loop-t
 invariant-loop-t l = Inv l.table l.n l.actions l.sizes l.new l.t
-
-abbrev pub decreases-loop-t : goal.decreases-loop-t
-decreases-loop-t l = l.n - l.t

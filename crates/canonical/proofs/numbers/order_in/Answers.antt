@@ -32,12 +32,6 @@ number_at-at-requires c = c.requires.0
 pub put_number-requires : goal.put_number-requires
 put_number-requires c = ap length c.loop-t.invariant.same ∙ order_sized c.args.names.now c.loop-t.t
 
-pub overflow_add-t : goal.overflow_add-t
-overflow_add-t c = omega (arith, c.loop-t-test.true)
-
-pub loop-t-smaller : goal.loop-t-smaller
-loop-t-smaller c = omega (arith, c.loop-t-test.true)
-
 pub loop-t-preserved : goal.loop-t-preserved
 loop-t-preserved c =
     again c.args.names.now c.args.n c.loop-t.order c.loop-t.t c.loop-t.invariant c.loop-t-test.true c.number_at-at.result c.number_at-at.ensures.value _

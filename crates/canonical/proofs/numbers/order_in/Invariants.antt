@@ -11,6 +11,3 @@ pub record Inv (names : List ℕ) (n : ℕ) (order : List ℕ) (t : ℕ) : Type 
 
 abbrev pub invariant-loop-t : goal.invariant-loop-t
 invariant-loop-t l = Inv l.names l.n l.order l.t
-
-abbrev pub decreases-loop-t : goal.decreases-loop-t
-decreases-loop-t l = l.n - l.t

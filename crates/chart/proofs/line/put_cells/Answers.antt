@@ -44,12 +44,6 @@ offset_bounds-workers-w c = omega arith
 pub bounds-workers-w : goal.bounds-workers-w
 bounds-workers-w c = omega arith
 
-pub overflow_add-w : goal.overflow_add-w
-overflow_add-w c = omega arith
-
-pub loop-w-smaller : goal.loop-w-smaller
-loop-w-smaller c = omega arith
-
 pub loop-w-preserved : goal.loop-w-preserved
 loop-w-preserved c =
     again (search rules) c.loop-w.invariant c.loop-w-test.true (omega arith) c.put_cell-at.ensures

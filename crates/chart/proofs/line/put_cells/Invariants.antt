@@ -20,6 +20,3 @@ pub record Inv (p : ℕ) (workers : List Worker) (out₀ : List ℕ) (at₀ : �
 
 abbrev pub invariant-loop-w : goal.invariant-loop-w
 invariant-loop-w l = Inv l.p l.workers l.initial.out l.initial.at l.out l.at l.w
-
-abbrev pub decreases-loop-w : goal.decreases-loop-w
-decreases-loop-w l = 16 - l.w

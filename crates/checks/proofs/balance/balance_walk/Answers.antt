@@ -84,12 +84,6 @@ overflow_add-fall c = omega (arith, fallen (goal.at.overflow_add-fall c).After-c
 pub overflow_add-fall-in-loop-i : goal.overflow_add-fall-in-loop-i
 overflow_add-fall-in-loop-i c = omega (arith, fallen (goal.at.overflow_add-fall-in-loop-i c).After-child_amount-in-loop-i)
 
-pub overflow_add-i : goal.overflow_add-i
-overflow_add-i c = omega arith
-
-pub loop-i-smaller : goal.loop-i-smaller
-loop-i-smaller c = omega arith
-
 pub loop-i-preserved : goal.loop-i-preserved
 loop-i-preserved c =
     let v = c.loop-i.invariant in

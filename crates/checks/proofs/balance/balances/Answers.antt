@@ -1,3 +1,5 @@
+use Rattle.std.specs.Prelude.{Err, Ok, Result, ⊤}
+use Rattle.table.specs.declared.Refusal.{Refusal}
 use mathlib.Core.Path.{◌≡◌, refl, sym, ap, ◌∙◌}
 use Prim.Native.Nat.{ℕ, suc, ◌+◌, ◌-◌, ◌*◌, ◌<◌, ◌≤◌}
 use mathlib.Core.List.{List}
@@ -13,8 +15,6 @@ use Rattle.table.specs.Rules.{ContentRules, BodyRules}
 use Rattle.table.specs.Code.Steps.{Nested, Filled, WalkReady, amount_at}
 use Rattle.checks.specs.Code.Steps.{overdrawn, balance_of}
 use Rattle.checks.specs.declared.balance.Balance.{Balance}
-use Rattle.table.specs.declared.Found.{Found}
-use Rattle.table.specs.declared.Found.TheVariants.{Nothing, At}
 use Rattle.table.proofs.Tests.{negative_is}
 use Rattle.table.proofs.Sizes.{sizes}
 use Rattle.table.proofs.Trying.{try_from_split, try_from_last, try_from_all}
@@ -44,7 +44,7 @@ start {s} {n} {m} r bytes p q =
 
 -- after the loop all places are tried
 ends : {s : List ℕ} {n m : ℕ} {rises falls : List ℕ} {lowest t : ℕ} → Inv s n m rises falls lowest t → t ≤ 0
-    → {r : Found} → r ≡ pick (ltb lowest m) (At (refusal 10 lowest)) Nothing → r ≡ try_pass (balance_pass (table_of s))
+    → {r : Result ⊤ Refusal} → r ≡ pick (ltb lowest m) (Err (refusal 10 lowest)) (Ok tt) → r ≡ try_pass (balance_pass (table_of s))
 unfolding try_pass table_of sum_to
 ends {s} {m = m} {t = t} v h d =
     let e : t ≡ 0 = omega arith in
@@ -124,7 +124,7 @@ module _ {s : List ℕ} {n m : ℕ} {rises falls : List ℕ} {lowest t u first c
 
   module _ (r : Balance) (e : r ≡ balance_of body rises falls count) where
     -- what is found in this body
-    body_found : try_from (balance_pass (table_of s)).checks ((table_of s).first u) count ≡ pick (ltb r.below count) (At (refusal 10 (first + r.below))) Nothing
+    body_found : try_from (balance_pass (table_of s)).checks ((table_of s).first u) count ≡ pick (ltb r.below count) (Err (refusal 10 (first + r.below))) (Ok tt)
     unfolding table_of balance_of
     body_found =
         rw (e, w.body_is, w.count_at, w.first_at, least_cong (overdrawn (body_of s u) rises falls) (λ i. balance_below0 (table_of s) (first_of s u + i)) (count_of s u) overdrawn_is)
@@ -132,7 +132,7 @@ module _ {s : List ℕ} {n m : ℕ} {rises falls : List ℕ} {lowest t u first c
 
     -- and from this body on
     found_next : try_from (balance_pass (table_of s)).checks (counts_below (table_of s) u) (m - counts_below (table_of s) u)
-        ≡ or_else (pick (ltb r.below count) (At (refusal 10 (first + r.below))) Nothing) (pick (ltb lowest m) (At (refusal 10 lowest)) Nothing)
+        ≡ or_else (pick (ltb r.below count) (Err (refusal 10 (first + r.below))) (Ok tt)) (pick (ltb lowest m) (Err (refusal 10 lowest)) (Ok tt))
     unfolding sum_to table_of
     found_next =
         let f : ℕ = counts_below (table_of s) u in
@@ -142,7 +142,7 @@ module _ {s : List ℕ} {n m : ℕ} {rises falls : List ℕ} {lowest t u first c
         rw j (try_from_split (balance_pass (table_of s)).checks f count (m - (f + count)) ∙ rw (rw a at body_found, rw g at w.inv.found))
 
     again : (lowest' : ℕ)
-        → try_from (balance_pass (table_of s)).checks (counts_below (table_of s) u) (m - counts_below (table_of s) u) ≡ pick (ltb lowest' m) (At (refusal 10 lowest')) Nothing
+        → try_from (balance_pass (table_of s)).checks (counts_below (table_of s) u) (m - counts_below (table_of s) u) ≡ pick (ltb lowest' m) (Err (refusal 10 lowest')) (Ok tt)
         → Inv s n m (set rises u r.rise) (set falls u r.fall) lowest' u
     unfolding table_of balance_of alloc_of free_of
     again lowest' f =

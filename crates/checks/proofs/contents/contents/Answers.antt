@@ -1,3 +1,4 @@
+use Rattle.std.specs.Prelude.{Err, Ok}
 use mathlib.Core.Path.{◌≡◌, refl, sym, ◌∙◌}
 use Prim.Native.Nat.{ℕ, ◌+◌, ◌<◌, ◌≤◌}
 use mathlib.Core.List.{List}
@@ -11,7 +12,6 @@ use Rattle.table.specs.Format.{table_of, threads_of, actions_of}
 use Rattle.table.specs.Pass.{try_at, try_from, try_pass, or_else, refusal}
 use Rattle.table.specs.Checks.{counts_below, entry_wrong, total_wrong, entries_pass, total_pass}
 use Rattle.table.specs.Code.Steps.{Headed}
-use Rattle.table.specs.declared.Found.TheVariants.{Nothing, At}
 use Rattle.table.proofs.Sizes.{sizes}
 use Rattle.table.proofs.Trying.{try_from_next, try_from_here, try_from_last, try_from_all}
 use Rattle.checks.proofs.contents.contents.Invariants.{Inv}
@@ -42,7 +42,7 @@ module _ {s : List ℕ} {n m sum t first count : ℕ} (i : Inv s n m sum t) (h :
         remains = sym (try_from_next _ t n h (simp (← e, ← d, ← i.counted, w))) ∙ i.remains;
       }
 
-  stops : (not (eqb first sum) || eqb count 0) ≡ true → At (refusal 4 t) ≡ or_else (try_pass (entries_pass (table_of s))) (try_pass (total_pass (table_of s)))
+  stops : (not (eqb first sum) || eqb count 0) ≡ true → Err (refusal 4 t) ≡ or_else (try_pass (entries_pass (table_of s))) (try_pass (total_pass (table_of s)))
   unfolding table_of try_at entry_wrong
   stops w = rw (← i.remains, try_from_here (entries_pass (table_of s)).checks t n h (refusal 4 t) (simp (← e, ← d, ← i.counted, w)))
 
@@ -50,16 +50,16 @@ module _ {s : List ℕ} {n m sum t : ℕ} (i : Inv s n m sum t) (h : n ≤ t) wh
   at_end_lem : t ≡ n
   at_end_lem = omega arith
 
-  none : try_pass (entries_pass (table_of s)) ≡ Nothing
+  none : try_pass (entries_pass (table_of s)) ≡ Ok tt
   none = sym i.remains ∙ try_from_last _ t n at_end_lem
 
-  unequal : (sum ≡ m → ⊥) → At (refusal 4 n) ≡ or_else (try_pass (entries_pass (table_of s))) (try_pass (total_pass (table_of s)))
+  unequal : (sum ≡ m → ⊥) → Err (refusal 4 n) ≡ or_else (try_pass (entries_pass (table_of s))) (try_pass (total_pass (table_of s)))
   unfolding table_of try_pass try_from try_at total_wrong
   unequal w =
       let k : counts_below (table_of s) (threads_of s) ≡ actions_of s → ⊥ = λ q. w (cc at_end_lem) in
       rw none (simp (ne_eqb _ _ k, i.headed.threads))
 
-  equal : sum ≡ m → Nothing ≡ or_else (try_pass (entries_pass (table_of s))) (try_pass (total_pass (table_of s)))
+  equal : sum ≡ m → (Ok tt) ≡ or_else (try_pass (entries_pass (table_of s))) (try_pass (total_pass (table_of s)))
   unfolding table_of try_pass try_from try_at total_wrong
   equal w =
       let k : counts_below (table_of s) (threads_of s) ≡ actions_of s = cc at_end_lem in
@@ -76,12 +76,6 @@ returns-then-entry_wrong c =
 
 pub overflow_add-sum : goal.overflow_add-sum
 overflow_add-sum c = omega arith
-
-pub overflow_add-t : goal.overflow_add-t
-overflow_add-t c = omega arith
-
-pub loop-t-smaller : goal.loop-t-smaller
-loop-t-smaller c = omega arith
 
 pub loop-t-preserved : goal.loop-t-preserved
 loop-t-preserved c =

@@ -19,6 +19,3 @@ pub record Inv (s : List ℕ) (n m sum t : ℕ) : Type 0 where
 
 abbrev pub invariant-loop-t : goal.invariant-loop-t
 invariant-loop-t l = Inv l.table l.n l.m l.sum l.t
-
-abbrev pub decreases-loop-t : goal.decreases-loop-t
-decreases-loop-t l = l.n - l.t

@@ -1,3 +1,4 @@
+use Rattle.std.specs.Prelude.{Err, Ok}
 use mathlib.Core.Path.{◌≡◌, refl, sym, ap, ◌∙◌}
 use Prim.Native.Nat.{ℕ, zero, suc, pred, ◌+◌, ◌<◌}
 use mathlib.Core.List.{List}
@@ -12,7 +13,6 @@ use Rattle.table.specs.Pass.{try_at, try_pass, refusal}
 use Rattle.table.specs.Checks.{first_pass, kind_unknown, argument_wrong, end_misplaced, argument_fits, differ, end_of, owner}
 use Rattle.table.specs.Code.Steps.{Laid}
 use Rattle.checks.specs.Code.Steps.{Holding, form_at, found_at}
-use Rattle.table.specs.declared.Found.TheVariants.{Nothing, At}
 use Rattle.table.proofs.Sizes.{Sizes, sizes}
 use Rattle.table.proofs.Trying.{try_from_next, try_from_here, try_from_last, try_from_all}
 use Rattle.table.proofs.Bodies.{first_is, owner_is}
@@ -20,7 +20,7 @@ use Rattle.table.proofs.Parts.{bodies_from_lem, bodies_length}
 use Rattle.checks.proofs.forms.first_pass.Invariants.{Inv}
 use Rattle.checks.proofs.forms.first_pass.Goals as goal
 
-numbered : (b d e : Bool) (a : ℕ) → pick b (At (refusal 5 a)) (pick d (At (refusal 6 a)) (pick e (At (refusal 7 a)) Nothing)) ≡ found_at (pick b 5 (pick d 6 (pick e 7 0))) a
+numbered : (b d e : Bool) (a : ℕ) → pick b (Err (refusal 5 a)) (pick d (Err (refusal 6 a)) (pick e (Err (refusal 7 a)) (Ok tt))) ≡ found_at (pick b 5 (pick d 6 (pick e 7 0))) a
 numbered true d e a = refl
 numbered false true e a = refl
 numbered false false true a = refl
@@ -65,7 +65,7 @@ start {s} {actions} {n = n} {m = m} l b e =
       remains = rw l.headed.actions (try_from_all _ _);
     }
 
-number_at : (k a : ℕ) → (k ≡ 0 → ⊥) → found_at k a ≡ At (refusal k a)
+number_at : (k a : ℕ) → (k ≡ 0 → ⊥) → found_at k a ≡ Err (refusal k a)
 number_at zero a h = absurd (h refl)
 number_at (suc k) a h = refl
 
@@ -75,7 +75,7 @@ module _ {s actions : List ℕ} {n m own stop own' stop' a k x number : ℕ} (i 
   unfolding table_of
   found = rw (en, ek, ex, i.part) (formed s n m own' stop' a i.laid g)
 
-  stops : (number ≡ 0 → ⊥) → At (refusal number a) ≡ try_pass (first_pass (table_of s))
+  stops : (number ≡ 0 → ⊥) → Err (refusal number a) ≡ try_pass (first_pass (table_of s))
   stops w = sym (try_from_here (first_pass (table_of s)).checks a m h (refusal number a) (found ∙ number_at number a w)) ∙ i.remains
 
   again : number ≡ 0 → Inv s actions n m own' stop' (a + 1)
@@ -105,9 +105,6 @@ loop-a-init c =
 pub span_at-span-requires : goal.span_at-span-requires
 span_at-span-requires c = let i = c.loop-a.invariant in record { laid = i.0.laid; reached = i.0.reached (omega (arith, i.1, c.loop-a-test.true)) }
 
-pub overflow_add-a : goal.overflow_add-a
-overflow_add-a c = omega arith
-
 pub returns-then-number-ne0 : goal.returns-then-number-ne0
 returns-then-number-ne0 c =
     c.refuse.ensures
@@ -116,9 +113,6 @@ returns-then-number-ne0 c =
 
 pub overflow_add-a-in-loop-a : goal.overflow_add-a-in-loop-a
 overflow_add-a-in-loop-a c = omega arith
-
-pub loop-a-smaller : goal.loop-a-smaller
-loop-a-smaller c = omega (arith, c.loop-a.invariant.1)
 
 pub loop-a-preserved : goal.loop-a-preserved
 loop-a-preserved c =

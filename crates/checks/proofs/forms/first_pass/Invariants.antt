@@ -22,6 +22,3 @@ pub record Inv (s actions : List ℕ) (n m own stop a : ℕ) : Type 0 where
 
 abbrev pub invariant-loop-a : goal.invariant-loop-a
 invariant-loop-a l = Inv l.table l.actions l.n l.m l.span.own l.span.stop l.a × (l.stop ≡ l.m)
-
-abbrev pub decreases-loop-a : goal.decreases-loop-a
-decreases-loop-a l = l.m - l.a

@@ -1,4 +1,5 @@
 -- `checks::head::head` meets its contract: each way out is the first of the three checks that applies.
+use Rattle.std.specs.Prelude.{Err, Ok}
 use mathlib.Core.Path.{◌≡◌, sym, ◌∙◌}
 use Prim.Native.Nat.{ℕ, ◌+◌, ◌*◌, ◌<◌, ◌≤◌}
 use mathlib.Core.List.{List}
@@ -8,24 +9,23 @@ use lib.ListN.{length}
 use Rattle.table.specs.Format.{threads_of, actions_of}
 use Rattle.table.specs.Pass.{try_at, try_from, try_pass, refusal}
 use Rattle.table.specs.Checks.{head_pass, outside}
-use Rattle.table.specs.declared.Found.TheVariants.{Nothing, At}
 use Rattle.checks.proofs.head.head.Goals as goal
 
 module _ (s : List ℕ) where
-  short : length s < 4 → try_pass (head_pass s) ≡ At (refusal 1 0)
+  short : length s < 4 → try_pass (head_pass s) ≡ Err (refusal 1 0)
   unfolding try_pass try_from try_at
   short h = simp (lt-ltb _ _ h)
 
   module _ (n m : ℕ) (long : 4 ≤ length s) (e : n ≡ threads_of s) (d : m ≡ actions_of s) where
-    ranged : (outside 1 1024 n || outside 1 8192 m) ≡ true → try_pass (head_pass s) ≡ At (refusal 2 0)
+    ranged : (outside 1 1024 n || outside 1 8192 m) ≡ true → try_pass (head_pass s) ≡ Err (refusal 2 0)
     unfolding try_pass try_from try_at
     ranged h = simp (le-ltb _ _ long, ← e, ← d, h)
 
-    sized : (outside 1 1024 n || outside 1 8192 m) ≡ false → (length s ≡ 4 + 4 * n + 4 * m → ⊥) → try_pass (head_pass s) ≡ At (refusal 3 0)
+    sized : (outside 1 1024 n || outside 1 8192 m) ≡ false → (length s ≡ 4 + 4 * n + 4 * m → ⊥) → try_pass (head_pass s) ≡ Err (refusal 3 0)
     unfolding try_pass try_from try_at
     sized h k = simp (le-ltb _ _ long, ← e, ← d, h, ne_eqb _ _ k)
 
-    passed : (outside 1 1024 n || outside 1 8192 m) ≡ false → length s ≡ 4 + 4 * n + 4 * m → try_pass (head_pass s) ≡ Nothing
+    passed : (outside 1 1024 n || outside 1 8192 m) ≡ false → length s ≡ 4 + 4 * n + 4 * m → try_pass (head_pass s) ≡ Ok tt
     unfolding try_pass try_from try_at
     passed h k = simp (le-ltb _ _ long, ← e, ← d, h, eq-eqb _ _ k)
 

@@ -1,5 +1,6 @@
 -- `checks::nest::nesting` meets its contract: where the second pass finds nothing, the marks that it leaves are the threads forked, so that the threads without one are
 -- those of check 11.
+use Rattle.std.specs.Prelude.{Err, Ok}
 use mathlib.Core.Path.{◌≡◌, sym, ◌∙◌}
 use Prim.Native.Nat.{ℕ, pred}
 use mathlib.Core.List.{List, [], ◌∷◌}
@@ -12,7 +13,6 @@ use Rattle.table.specs.Checks.{forked_below, never_forked, second_pass, forked_p
 use Rattle.table.specs.Code.Steps.{Formed}
 use Rattle.checks.specs.Code.Steps.{unmarked}
 use Rattle.table.specs.declared.Refusal.{Refusal}
-use Rattle.table.specs.declared.Found.TheVariants.{Nothing, At}
 use Rattle.table.proofs.Sizes.{sizes}
 use Rattle.checks.proofs.nest.nesting.Goals as goal
 
@@ -22,19 +22,19 @@ unfolding table_of try_pass never_forked
 forked_found s n m h forked w = simp (w, h.laid.headed.threads, h.laid.headed.actions)
 
 module _ (s : List ℕ) where
-  refused : (r : Refusal) → try_pass (second_pass (table_of s)) ≡ At r
+  refused : (r : Refusal) → try_pass (second_pass (table_of s)) ≡ Err r
       → try_pass (second_pass (table_of s)) ≡ or_else (try_pass (second_pass (table_of s))) (try_pass (forked_pass (table_of s)))
   refused r e = rw e
 
-  passed : (n m : ℕ) → Formed s n m → (forked : List Bool) → try_pass (second_pass (table_of s)) ≡ Nothing
+  passed : (n m : ℕ) → Formed s n m → (forked : List Bool) → try_pass (second_pass (table_of s)) ≡ Ok tt
       → ((t : ℕ) → get_or forked t false ≡ forked_below (table_of s) m t)
       → try_from (unmarked forked ∷ []) 1 (pred n) ≡ or_else (try_pass (second_pass (table_of s))) (try_pass (forked_pass (table_of s)))
   passed n m h forked e w = rw e (forked_found s n m h forked w)
 
-pub returns-in-At : goal.returns-in-At
-returns-in-At c =
+pub returns-in-Err : goal.returns-in-Err
+returns-in-Err c =
     c.second_pass-found.ensures.value
-    ∙ refused c.args.table.now _ (sym c.second_pass-found.ensures.value ∙ c.in-At.is)
+    ∙ refused c.args.table.now _ (sym c.second_pass-found.ensures.value ∙ c.in-Err.is)
 
 pub never_forked-requires : goal.never_forked-requires
 never_forked-requires c = omega (arith, sizes c.requires.laid.headed)

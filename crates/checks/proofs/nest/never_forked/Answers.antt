@@ -1,3 +1,4 @@
+use Rattle.std.specs.Prelude.{Err, Ok}
 use mathlib.Core.Path.{◌≡◌, sym, ◌∙◌}
 use Prim.Native.Nat.{ℕ, pred, ◌+◌, ◌-◌, ◌<◌, ◌≤◌}
 use mathlib.Core.List.{List, [], ◌∷◌}
@@ -6,7 +7,6 @@ use native.Mathlib.Omega.{arith}
 use lib.ListN.{get_or}
 use Rattle.table.specs.Pass.{try_at, try_from, refusal}
 use Rattle.checks.specs.Code.Steps.{unmarked}
-use Rattle.table.specs.declared.Found.TheVariants.{Nothing, At}
 use Rattle.table.proofs.Trying.{try_from_next, try_from_here}
 use Rattle.checks.proofs.nest.never_forked.Invariants.{Inv}
 use Rattle.checks.proofs.nest.never_forked.Goals as goal
@@ -21,11 +21,11 @@ module _ {n : ℕ} {forked : List Bool} {t : ℕ} (i : Inv n forked t) where
   unfolding try_at
   again h e = record { small = i.small; remains = sym (try_from_next _ t n h (rw e)) ∙ i.remains }
 
-  stops : t < n → not (get_or forked t false) ≡ true → At (refusal 11 t) ≡ try_from (unmarked forked ∷ []) 1 (pred n)
+  stops : t < n → not (get_or forked t false) ≡ true → Err (refusal 11 t) ≡ try_from (unmarked forked ∷ []) 1 (pred n)
   unfolding try_at
   stops h e = sym (try_from_here _ t n h (refusal 11 t) (rw e)) ∙ i.remains
 
-  none : n ≤ t → Nothing ≡ try_from (unmarked forked ∷ []) 1 (pred n)
+  none : n ≤ t → (Ok tt) ≡ try_from (unmarked forked ∷ []) 1 (pred n)
   unfolding try_from
   none h =
       let z : n - t ≡ 0 = omega arith in
@@ -43,12 +43,6 @@ refuse-requires c = omega arith
 pub returns-then-not-forked-t : goal.returns-then-not-forked-t
 returns-then-not-forked-t c =
     c.refuse.ensures ∙ stops c.loop-t.invariant c.loop-t-test.true (rw c.if-not-forked-t.true)
-
-pub overflow_add-t : goal.overflow_add-t
-overflow_add-t c = omega arith
-
-pub loop-t-smaller : goal.loop-t-smaller
-loop-t-smaller c = omega arith
 
 pub loop-t-preserved : goal.loop-t-preserved
 loop-t-preserved c =

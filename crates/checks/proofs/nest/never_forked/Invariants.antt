@@ -13,6 +13,3 @@ pub record Inv (n : ℕ) (forked : List Bool) (t : ℕ) : Type 0 where
 
 abbrev pub invariant-loop-t : goal.invariant-loop-t
 invariant-loop-t l = Inv l.n l.forked l.t
-
-abbrev pub decreases-loop-t : goal.decreases-loop-t
-decreases-loop-t l = l.n - l.t

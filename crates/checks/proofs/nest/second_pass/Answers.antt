@@ -1,3 +1,5 @@
+use Rattle.std.specs.Prelude.{Err, Ok, Result, ⊤}
+use Rattle.table.specs.declared.Refusal.{Refusal}
 use mathlib.Core.Path.{◌≡◌, sym, ◌∙◌}
 use Prim.Native.Nat.{ℕ, ◌+◌, ◌<◌, ◌≤◌}
 use mathlib.Core.List.{List}
@@ -10,8 +12,6 @@ use Rattle.table.specs.Pass.{try_pass, refusal}
 use Rattle.table.specs.Checks.{second_pass, forked_below}
 use Rattle.table.specs.Code.Steps.{Formed}
 use Rattle.checks.specs.Code.Steps.{nest, nest_at, NestReady, NestDone}
-use Rattle.table.specs.declared.Found.{Found}
-use Rattle.table.specs.declared.Found.TheVariants.{Nothing, At}
 use Rattle.table.proofs.Tests.{no_way}
 use Rattle.table.proofs.Trying.{try_from_next, try_from_here, try_from_last, try_from_all}
 use Rattle.table.proofs.Sizes.{sizes}
@@ -71,7 +71,7 @@ module _ {s actions : List ℕ} {n m : ℕ} {forked : List Bool} {stack : List �
       done : nest number (drop top' stack') forked' ≡ nest_at (kind (table_of s) a) ((table_of s).argument a) (drop top stack) forked
       done = rw (kind_is, argument_is) at o.done
 
-      stops : (number ≡ 0 → ⊥) → At (refusal number a) ≡ try_pass (second_pass (table_of s))
+      stops : (number ≡ 0 → ⊥) → Err (refusal number a) ≡ try_pass (second_pass (table_of s))
       stops z = sym (try_from_here _ a m h (refusal number a) (stacked_stops _ _ _ _ i.before _ _ _ done z)) ∙ i.remains
 
       again : number ≡ 0 → Inv s actions n m forked' stack' top' (a + 1)
@@ -92,13 +92,13 @@ module _ {s actions : List ℕ} {n m : ℕ} {forked : List Bool} {stack : List �
     last : a ≡ m
     last = omega (arith, i.within)
 
-    none : Nothing ≡ try_pass (second_pass (table_of s))
+    none : (Ok tt) ≡ try_pass (second_pass (table_of s))
     none = sym (try_from_last _ a m last) ∙ i.remains
 
     marks : (t : ℕ) → get_or forked t false ≡ forked_below (table_of s) m t
     marks t = rw last at (i.before.marks t)
 
-refused : {f : Found} {number place : ℕ} {A : Type 0} → f ≡ At (refusal number place) → f ≡ Nothing → A
+refused : {f : Result ⊤ Refusal} {number place : ℕ} {A : Type 0} → f ≡ Err (refusal number place) → f ≡ Ok tt → A
 refused e z = no_way cc
 
 pub loop-a-init : goal.loop-a-init
@@ -121,12 +121,6 @@ returns-then-next-ne0 c = record {
       c.nest_at-next.ensures c.if-next-ne0.true;
   false_after = refused c.refuse.ensures;
 }
-
-pub overflow_add-a : goal.overflow_add-a
-overflow_add-a c = omega (arith, c.loop-a.invariant.0.sizes)
-
-pub loop-a-smaller : goal.loop-a-smaller
-loop-a-smaller c = omega (arith, c.loop-a.invariant.1, c.loop-a-test.true)
 
 pub loop-a-preserved : goal.loop-a-preserved
 loop-a-preserved c =

@@ -10,9 +10,9 @@ use Rattle.deque_limit.proofs.limit.choice_answer.Goals as goal
 pub returns-then-outside : goal.returns-then-outside
 returns-then-outside c = let a = c.args in let both = answer_wide a.table.now a.p a.quota a.c a.filled.now (sym c.outside.ensures ∙ c.if-outside.true) c.wide_fault.ensures.value in record { value = both.0; filled_after = both.1 }
 
-pub returns-in-At : goal.returns-in-At
-returns-in-At c = let a = c.args in
-    let e = c.begin_fault-filling.ensures.value in let both = answer_found a.table.now a.p a.quota a.c a.filled.now (sym c.outside.ensures ∙ c.if-outside.false) _ e c.in-At.is in record { value = both.0; filled_after = both.1 }
+pub returns-in-Err : goal.returns-in-Err
+returns-in-Err c = let a = c.args in
+    let e = c.begin_fault-filling.ensures.value in let both = answer_found a.table.now a.p a.quota a.c a.filled.now (sym c.outside.ensures ∙ c.if-outside.false) _ e c.in-Err.is in record { value = both.0; filled_after = both.1 }
 
 pub numbers_for-requires : goal.numbers_for-requires
 numbers_for-requires c =

@@ -1,4 +1,5 @@
 -- `deque_limit::line::answer_to` meets its contract: what follows the eight bytes is the table.
+use Rattle.std.specs.Prelude.{Err}
 use mathlib.Core.Path.{◌≡◌, ◌∙◌}
 use Prim.Native.Nat.{ℕ, ◌-◌, ◌≤◌, ◌<◌}
 use mathlib.Core.List.{List}
@@ -8,14 +9,13 @@ use Rattle.table.specs.Format.{u24_at, u32_at}
 use Rattle.table.specs.Pass.{refusal}
 use Rattle.table.proofs.Parts.{rest_part}
 use Rattle.quota.specs.Line.{workers_in}
-use Rattle.deque_limit.specs.declared.ChoiceLimits.TheVariants.{Refused}
 use Rattle.deque_limit.specs.ChoiceLimit.{choice_limits}
 use Rattle.deque_limit.specs.Line.{choices_to}
 use borrow.Author.Rules.{rules}
 use Rattle.deque_limit.proofs.line.answer_to.Goals as goal
 
 module _ (s : List ℕ) where
-  short : length s < 8 → Refused (refusal 33 0) ≡ choices_to s
+  short : length s < 8 → Err (refusal 33 0) ≡ choices_to s
   unfolding choices_to
   short h = rw (lt-ltb (length s) 8 h)
 

@@ -34,14 +34,6 @@ returns-then-not-fits_line c =
 pub is_bottom-begins-requires : goal.is_bottom-begins-requires
 is_bottom-begins-requires c = low (goal.at.is_bottom-begins-requires c).In-loop-i
 
-pub overflow_add-i : goal.overflow_add-i
-overflow_add-i c =
-    omega (arith, c.loop-i-test.true, c.loop-i.invariant.threads.fits)
-
-pub loop-i-smaller : goal.loop-i-smaller
-loop-i-smaller c =
-    omega (arith, c.loop-i-test.true)
-
 pub loop-i-preserved : goal.loop-i-preserved
 loop-i-preserved c =
     fits_on c.loop-i.invariant c.loop-i-test.true c.fits_line.ensures (ap not c.if-not-fits_line.false) c.is_bottom-begins.ensures

@@ -9,6 +9,3 @@ use Rattle.dequetest.proofs.lines.in_lines.Given as goal
 
 abbrev pub invariant-loop-i : goal.invariant-loop-i
 invariant-loop-i l = FitsTo (bottom_at l.under l.first) l.status l.row l.len l.begins l.i
-
-abbrev pub decreases-loop-i : goal.decreases-loop-i
-decreases-loop-i l = l.len - l.i

@@ -19,6 +19,3 @@ test status marks t = agree (get_or marks t false) (is_ready status t || is_held
 
 abbrev pub invariant-loop-t : goal.invariant-loop-t
 invariant-loop-t l = Passed (test l.status l.marks) l.t
-
-abbrev pub decreases-loop-t : goal.decreases-loop-t
-decreases-loop-t l = l.n - l.t

@@ -1,4 +1,5 @@
 -- `dequetest::sound::sound_parts` meets its contract: the common part comes first, then turns taken, then the deques.
+use Rattle.std.specs.Prelude.{Ok}
 use Rattle.std.proofs.Common.{not}
 use mathlib.Core.Path.{◌≡◌, ap, ◌∙◌}
 use Prim.Native.Nat.{ℕ, ◌<◌, ◌≤◌}
@@ -12,7 +13,6 @@ use lib.Dec.{ltb}
 use Rattle.table.specs.Format.{threads_of, table_of}
 use Rattle.table.specs.Pass.{first_found}
 use Rattle.table.specs.Checks.{passes}
-use Rattle.table.specs.declared.Found.TheVariants.{Nothing}
 use Rattle.table.proofs.Passes.{passes_rules}
 use Rattle.schedule.specs.declared.Worker.{Worker}
 use Rattle.schedule.specs.Links.{Links}
@@ -52,7 +52,7 @@ module _ (s : List ℕ) (p K : ℕ) (next status amounts : List ℕ) (workers : 
     all_sound e a h n f = pass e (pass (lt-ltb turns 18446744073709551615 (omega (arith, n, f))) (h ∙ ap stand a))
 
   module _ (e : shared ≡ true) where
-    no_check : first_found (passes s) ≡ Nothing
+    no_check : first_found (passes s) ≡ Ok tt
     unfolding common_sound
     no_check = (is_nothing_exactly _).0 (first_of _ _ e)
 

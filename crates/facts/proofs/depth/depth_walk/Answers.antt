@@ -49,12 +49,6 @@ depth_step-last-requires c =
     let v = c.loop-i.invariant in
     (v.sized, omega (arith, v.low, v.within, v.few))
 
-pub overflow_add-i : goal.overflow_add-i
-overflow_add-i c = omega (arith, c.loop-i.invariant.within, c.loop-i.invariant.few)
-
-pub loop-i-smaller : goal.loop-i-smaller
-loop-i-smaller c = omega (arith, c.loop-i-test.true)
-
 pub loop-i-preserved : goal.loop-i-preserved
 loop-i-preserved c =
     let d = c.args in

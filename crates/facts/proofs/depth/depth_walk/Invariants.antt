@@ -19,6 +19,3 @@ pub record Inv (l : List ℕ) (count : ℕ) (depths₀ depths : List ℕ) (last 
 
 abbrev pub invariant-loop-i : goal.invariant-loop-i
 invariant-loop-i l = Inv l.body l.count l.initial.depths l.depths l.last l.i
-
-abbrev pub decreases-loop-i : goal.decreases-loop-i
-decreases-loop-i l = l.count - l.i

@@ -124,12 +124,6 @@ pub next_thread-t-requires : goal.next_thread-t-requires
 next_thread-t-requires c =
     thread_below c.loop-a.invariant.0 (omega (arith, c.loop-a.invariant.1, c.loop-a-test.true))
 
-pub overflow_add-a : goal.overflow_add-a
-overflow_add-a c = omega arith
-
-pub loop-a-smaller : goal.loop-a-smaller
-loop-a-smaller c = omega (arith, c.loop-a.invariant.1)
-
 pub loop-a-preserved : goal.loop-a-preserved
 loop-a-preserved c =
     let v = c.loop-a.invariant in (

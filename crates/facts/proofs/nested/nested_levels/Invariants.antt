@@ -18,6 +18,3 @@ pub record Inv (s actions : List ℕ) (n m : ℕ) (levels : List ℕ) (deepest t
 
 abbrev pub invariant-loop-a : goal.invariant-loop-a
 invariant-loop-a l = Inv l.table l.actions l.n l.m l.levels l.deepest l.t l.a × (l.stop ≡ l.m)
-
-abbrev pub decreases-loop-a : goal.decreases-loop-a
-decreases-loop-a l = l.m - l.a

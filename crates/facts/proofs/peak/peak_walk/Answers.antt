@@ -94,12 +94,6 @@ overflow_add-fall c = omega (arith, (fallen_next (goal.at.overflow_add-fall c).A
 pub overflow_add-fall-in-loop-i : goal.overflow_add-fall-in-loop-i
 overflow_add-fall-in-loop-i c = omega (arith, (fallen_next (goal.at.overflow_add-fall-in-loop-i c).After-child_amount-in-loop-i-2).small)
 
-pub overflow_add-i : goal.overflow_add-i
-overflow_add-i c = omega arith
-
-pub loop-i-smaller : goal.loop-i-smaller
-loop-i-smaller c = omega arith
-
 pub loop-i-preserved : goal.loop-i-preserved
 loop-i-preserved c =
     let w = c.loop-i.invariant in

@@ -18,6 +18,3 @@ pub record Inv (l : List ℕ) (count : ℕ) (rises falls peaks : List ℕ) (rise
 
 abbrev pub invariant-loop-i : goal.invariant-loop-i
 invariant-loop-i l = Inv l.body l.count l.rises l.falls l.peaks l.rise l.fall l.peak l.i × (l.stop ≡ l.count)
-
-abbrev pub decreases-loop-i : goal.decreases-loop-i
-decreases-loop-i l = l.count - l.i

@@ -1,3 +1,5 @@
+use Rattle.std.specs.Prelude.{Err, Ok, Result, ⊤}
+use Rattle.table.specs.declared.Refusal.{Refusal}
 use mathlib.Core.Path.{◌≡◌, refl, sym, ◌∙◌}
 use Prim.Native.Nat.{ℕ, suc, ◌+◌, ◌-◌, ◌*◌, ◌/◌, ◌≤◌, ◌<◌}
 use mathlib.Core.List.{List}
@@ -10,8 +12,6 @@ use Rattle.table.specs.Sum.{pick, sum_to, Read}
 use Rattle.table.specs.Format.{Table, threads_of, actions_of, table_of}
 use Rattle.table.specs.Checks.{alloc_of}
 use Rattle.table.specs.Pass.{refusal, try_at, try_pass}
-use Rattle.table.specs.declared.Found.{Found}
-use Rattle.table.specs.declared.Found.TheVariants.{Nothing, At}
 use Rattle.table.proofs.Tests.{or_neither}
 use Rattle.table.proofs.Trying.{try_from_next, try_from_here, try_from_last, try_from_all}
 use Rattle.filling.specs.declared.Total.{Total}
@@ -38,11 +38,11 @@ module _ (s : List ℕ) (K n m threads actions a x y z : ℕ) (i : Inv s K n m t
   full_is = rw (← threads_next, ← actions_next, ← e)
 
   module _ (h : a < m) where
-    stops : (ltb K x && (ltb 1024 (threads + y) || ltb 8192 (actions + z))) ≡ true → (f : Found) → f ≡ At (refusal 44 a)
+    stops : (ltb K x && (ltb 1024 (threads + y) || ltb 8192 (actions + z))) ≡ true → (f : Result ⊤ Refusal) → f ≡ Err (refusal 44 a)
         → ◌≡◌ {A = Total} (record { found = f; threads = 0; actions = 0 }) (total_of T K)
     unfolding try_at
     stops w f q =
-        let t : try_pass (fill_pass T K) ≡ At (refusal 44 a) = sym i.remains ∙ try_from_here (checks T K) a m h (refusal 44 a) (rw (full_is ∙ w)) in
+        let t : try_pass (fill_pass T K) ≡ Err (refusal 44 a) = sym i.remains ∙ try_from_here (checks T K) a m h (refusal 44 a) (rw (full_is ∙ w)) in
         rw (t, q)
 
     again : (ltb K x && (ltb 1024 (threads + y) || ltb 8192 (actions + z))) ≡ false → Inv s K n m (threads + y) (actions + z) (a + 1)
@@ -86,9 +86,9 @@ start s K n m r q =
     }
 
 done : (s : List ℕ) (K n m threads actions a : ℕ) → Inv s K n m threads actions a → m ≤ a
-    → ◌≡◌ {A = Total} (record { found = Nothing; threads = threads; actions = actions }) (total_of (table_of s) K)
+    → ◌≡◌ {A = Total} (record { found = Ok tt; threads = threads; actions = actions }) (total_of (table_of s) K)
 done s K n m threads actions a i h =
-    let t : try_pass (fill_pass (table_of s) K) ≡ Nothing = sym i.remains ∙ try_from_last (checks (table_of s) K) a m (omega (arith, i.within)) in
+    let t : try_pass (fill_pass (table_of s) K) ≡ (Ok tt) = sym i.remains ∙ try_from_last (checks (table_of s) K) a m (omega (arith, i.within)) in
     let e : a ≡ (table_of s).actions = omega (arith, i.within, i.is_actions) in
     let n : threads ≡ threads_to (table_of s) K (table_of s).actions = rw e at i.now_threads in
     let m : actions ≡ actions_to (table_of s) K (table_of s).actions = rw e at i.now_actions in
@@ -119,12 +119,6 @@ pub returns-then-is_full : goal.returns-then-is_full
 returns-then-is_full c =
     stops _ _ _ _ _ _ _ _ _ _ c.loop-a.invariant c.amount-x.ensures.value c.new_threads-threads.ensures.value c.new_actions-actions.ensures.value
     c.loop-a-test.true (sym c.is_full.ensures ∙ c.if-is_full.true) _ c.refuse.ensures
-
-pub overflow_add-a : goal.overflow_add-a
-overflow_add-a c = omega (arith, c.loop-a-test.true, c.loop-a.invariant.small)
-
-pub loop-a-smaller : goal.loop-a-smaller
-loop-a-smaller c = omega (arith, c.loop-a-test.true)
 
 pub loop-a-preserved : goal.loop-a-preserved
 loop-a-preserved c =

@@ -23,6 +23,3 @@ pub record Inv (s : List ℕ) (K n m threads actions a : ℕ) : Type 0 where
 
 abbrev pub invariant-loop-a : goal.invariant-loop-a
 invariant-loop-a l = Inv l.table l.quota l.n l.m l.threads l.actions l.a
-
-abbrev pub decreases-loop-a : goal.decreases-loop-a
-decreases-loop-a l = l.m - l.a

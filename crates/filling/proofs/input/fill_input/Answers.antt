@@ -1,4 +1,6 @@
 -- `filling::input::fill_input` meets its contract.
+use Rattle.std.specs.Prelude.{Err, Result}
+use Rattle.table.specs.declared.Refusal.{Refusal}
 use mathlib.Core.Path.{◌≡◌}
 use Prim.Native.Nat.{ℕ, ◌-◌, ◌≤◌, ◌<◌}
 use mathlib.Core.List.{List}
@@ -7,16 +9,14 @@ use borrow.Author.Tests.{lt-ltb, le-ltb}
 use Rattle.table.specs.Format.{u24_at}
 use Rattle.table.specs.Pass.{refusal}
 use Rattle.table.proofs.Parts.{rest_part}
-use Rattle.filling.specs.declared.Answer.{Answer}
-use Rattle.filling.specs.declared.Answer.TheVariants.{Refused}
 use Rattle.filling.specs.Filling.{answer_of, whole_into, answer_to, answered_in}
 use Rattle.filling.proofs.input.fill_input.Goals as goal
 
-short : (input out : List ℕ) → length input < 3 → (Refused (refusal 33 0) ≡ answer_to input) × (out ≡ answered_in input out)
+short : (input out : List ℕ) → length input < 3 → (Err (refusal 33 0) ≡ answer_to input) × (out ≡ answered_in input out)
 unfolding answer_to answered_in
 short input out h = let z = lt-ltb (length input) 3 h in (rw z, rw z)
 
-long : (input out o : List ℕ) (K : ℕ) (r : Answer) → 3 ≤ length input → K ≡ u24_at input 0 → r ≡ answer_of (take (length input - 3) (drop 3 input)) K
+long : (input out o : List ℕ) (K : ℕ) (r : Result ℕ Refusal) → 3 ≤ length input → K ≡ u24_at input 0 → r ≡ answer_of (take (length input - 3) (drop 3 input)) K
     → o ≡ whole_into (take (length input - 3) (drop 3 input)) K out → (r ≡ answer_to input) × (o ≡ answered_in input out)
 unfolding answer_to answered_in
 long input out o K r h e p q =

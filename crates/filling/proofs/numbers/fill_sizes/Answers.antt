@@ -56,12 +56,6 @@ loop-c-init c =
 pub split-requires : goal.split-requires
 split-requires c = let both = asks _ _ _ _ _ _ c.loop-c.invariant c.loop-c-test.true in record { c_bound = both.0; c_bound_2 = both.1 }
 
-pub overflow_add-c : goal.overflow_add-c
-overflow_add-c c = omega (arith, c.loop-c-test.true)
-
-pub loop-c-smaller : goal.loop-c-smaller
-loop-c-smaller c = omega (arith, c.loop-c-test.true)
-
 pub loop-c-preserved : goal.loop-c-preserved
 loop-c-preserved c = again _ _ _ _ _ _ c.loop-c.invariant _ c.loop-c-test.true c.split.ensures
 

@@ -16,6 +16,3 @@ pub record Inv (s : List ℕ) (n K total : ℕ) (sums : List ℕ) (c : ℕ) : Ty
 
 abbrev pub invariant-loop-c : goal.invariant-loop-c
 invariant-loop-c l = Inv l.table l.n l.quota l.total l.sums l.c
-
-abbrev pub decreases-loop-c : goal.decreases-loop-c
-decreases-loop-c l = l.total - l.c

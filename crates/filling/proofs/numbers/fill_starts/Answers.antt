@@ -80,12 +80,6 @@ pub place_after-place-requires : goal.place_after-place-requires
 place_after-place-requires c = let i = c.loop-a.invariant in
     let h = c.loop-a-test.true in record { ready = i.ready; a_bound = inside _ _ _ _ _ _ _ _ _ i h; at = here _ _ _ _ _ _ _ _ _ i h; sums = (sums_after _ _ _ _ _ _ _ _ _ i h _ _ c.note_start.ensures c.note_size.ensures).0; starts = starts_after _ _ _ _ _ _ _ _ _ i h _ _ c.note_start.ensures c.note_size.ensures }
 
-pub overflow_add-a : goal.overflow_add-a
-overflow_add-a c = omega (arith, c.loop-a-test.true)
-
-pub loop-a-smaller : goal.loop-a-smaller
-loop-a-smaller c = omega (arith, c.loop-a-test.true)
-
 pub loop-a-preserved : goal.loop-a-preserved
 loop-a-preserved c =
     again _ _ _ _ _ _ _ _ _ c.loop-a.invariant c.loop-a-test.true _ _ c.note_start.ensures c.note_size.ensures _ _ c.place_after-place.ensures

@@ -17,6 +17,3 @@ pub record Inv (s : List ℕ) (n K m : ℕ) (sums starts : List ℕ) (thread roo
 
 abbrev pub invariant-loop-a : goal.invariant-loop-a
 invariant-loop-a l = Inv l.table l.n l.quota l.m l.sums l.starts l.place.thread l.place.root l.a
-
-abbrev pub decreases-loop-a : goal.decreases-loop-a
-decreases-loop-a l = l.m - l.a

@@ -81,12 +81,6 @@ pub overflow_add-total : goal.overflow_add-total
 overflow_add-total c =
     omega (arith, small c.args.table.now _ _ _ c.args.sums.now _ _ _ _ c.loop-k.invariant, c.step-total.ensures.small)
 
-pub overflow_add-k : goal.overflow_add-k
-overflow_add-k c = omega (arith, c.loop-k.invariant.few, c.loop-k-test.true)
-
-pub loop-k-smaller : goal.loop-k-smaller
-loop-k-smaller c = omega (arith, c.loop-k-test.true)
-
 pub loop-k-preserved : goal.loop-k-preserved
 loop-k-preserved c = again _ _ _ _ _ _ _ _ _ c.loop-k.invariant _ c.loop-k-test.true c.step-total.ensures.value
 

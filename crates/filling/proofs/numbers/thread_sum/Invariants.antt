@@ -21,6 +21,3 @@ pub record Inv (s : List ℕ) (n K t : ℕ) (sums : List ℕ) (first count total
 
 abbrev pub invariant-loop-k : goal.invariant-loop-k
 invariant-loop-k l = Inv l.table l.n l.quota l.t l.sums l.first l.count l.total l.k
-
-abbrev pub decreases-loop-k : goal.decreases-loop-k
-decreases-loop-k l = l.count - l.k

@@ -82,12 +82,6 @@ amount-requires c = c.loop-k.invariant.ready.threads
 pub overflow_add-total : goal.overflow_add-total
 overflow_add-total c = omega (arith, small _ _ _ _ _ _ _ _ c.loop-k.invariant, three c.args.quota c.amount.result _ c.width-total.ensures)
 
-pub overflow_add-k : goal.overflow_add-k
-overflow_add-k c = omega (arith, c.loop-k-test.true)
-
-pub loop-k-smaller : goal.loop-k-smaller
-loop-k-smaller c = omega (arith, c.loop-k-test.true)
-
 pub loop-k-preserved : goal.loop-k-preserved
 loop-k-preserved c = again _ _ _ _ _ _ _ _ c.loop-k.invariant _ _ c.loop-k-test.true c.amount.ensures.value c.width-total.ensures
 

@@ -20,6 +20,3 @@ pub record Inv (s : List ℕ) (n K t first count total k : ℕ) : Type 0 where
 
 abbrev pub invariant-loop-k : goal.invariant-loop-k
 invariant-loop-k l = Inv l.table l.n l.quota l.t l.first l.count l.total l.k
-
-abbrev pub decreases-loop-k : goal.decreases-loop-k
-decreases-loop-k l = l.count - l.k

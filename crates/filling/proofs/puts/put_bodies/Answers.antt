@@ -71,12 +71,6 @@ pub place_after-place-requires : goal.place_after-place-requires
 place_after-place-requires c = let i = c.loop-a.invariant in
     let h = c.loop-a-test.true in record { ready = i.ready; a_bound = inside _ _ _ _ _ _ _ _ _ _ _ _ _ i h; at = here _ _ _ _ _ _ _ _ _ _ _ _ _ i h; sums = i.sums_right; starts = starts_here _ _ _ _ _ _ _ _ _ _ _ _ _ i h }
 
-pub overflow_add-a : goal.overflow_add-a
-overflow_add-a c = omega (arith, c.loop-a-test.true)
-
-pub loop-a-smaller : goal.loop-a-smaller
-loop-a-smaller c = omega (arith, c.loop-a-test.true)
-
 pub loop-a-preserved : goal.loop-a-preserved
 loop-a-preserved c = again _ _ _ _ _ _ _ _ _ _ _ _ _ c.loop-a.invariant c.loop-a-test.true _ _ _ _ (omega (arith, c.out-1.given)) c.put_step-at.ensures c.place_after-place.ensures
 

@@ -20,6 +20,3 @@ pub record Inv (s : List ℕ) (n K : ℕ) (sums starts : List ℕ) (m : ℕ) (ou
 
 abbrev pub invariant-loop-a : goal.invariant-loop-a
 invariant-loop-a l = Inv l.table l.n l.quota l.sums l.starts l.m l.initial.out l.initial.at l.out l.at l.place.thread l.place.root l.a
-
-abbrev pub decreases-loop-a : goal.decreases-loop-a
-decreases-loop-a l = l.m - l.a

@@ -67,12 +67,6 @@ pub overflow_add-first : goal.overflow_add-first
 overflow_add-first c =
     omega (arith, small _ _ _ _ _ _ _ _ _ _ _ c.loop-c.invariant, c.count_of-count.ensures.small)
 
-pub overflow_add-c : goal.overflow_add-c
-overflow_add-c c = omega (arith, c.loop-c-test.true)
-
-pub loop-c-smaller : goal.loop-c-smaller
-loop-c-smaller c = omega (arith, c.loop-c-test.true)
-
 pub loop-c-preserved : goal.loop-c-preserved
 loop-c-preserved c =
     again _ _ _ _ _ _ _ _ _ _ _ c.loop-c.invariant c.loop-c-test.true _ _ _ c.count_of-count.ensures (omega (arith, c.out-1.given)) c.put_pair-at.ensures

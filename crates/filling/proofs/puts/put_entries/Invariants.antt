@@ -20,6 +20,3 @@ pub record Inv (s : List ℕ) (n K total : ℕ) (sums out₀ : List ℕ) (at₀ 
 
 abbrev pub invariant-loop-c : goal.invariant-loop-c
 invariant-loop-c l = Inv l.table l.n l.quota l.total l.sums l.initial.out l.initial.at l.out l.at l.first l.c
-
-abbrev pub decreases-loop-c : goal.decreases-loop-c
-decreases-loop-c l = l.total - l.c

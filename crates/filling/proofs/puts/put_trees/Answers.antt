@@ -73,12 +73,6 @@ bounds-sums-c c = (asks _ _ _ _ _ _ _ _ _ _ c.loop-c.invariant c.loop-c-test.tru
 pub put_tree-at-requires : goal.put_tree-at-requires
 put_tree-at-requires c = asks _ _ _ _ _ _ _ _ _ _ c.loop-c.invariant c.loop-c-test.true
 
-pub overflow_add-c : goal.overflow_add-c
-overflow_add-c c = omega (arith, c.loop-c-test.true)
-
-pub loop-c-smaller : goal.loop-c-smaller
-loop-c-smaller c = omega (arith, c.loop-c-test.true)
-
 pub loop-c-preserved : goal.loop-c-preserved
 loop-c-preserved c = again _ _ _ _ _ _ _ _ _ _ c.loop-c.invariant c.loop-c-test.true _ _ (omega (arith, c.out-1.given)) c.put_tree-at.ensures
 

@@ -4,8 +4,8 @@ use Rattle.inputs.specs.Front.{workers}
 use Rattle.inputs.proofs.Given.{given_goes, given_stops}
 use Rattle.inputs.proofs.front.workers_line.Goals as goal
 
-pub returns-in-Given : goal.returns-in-Given
-returns-in-Given c = given_goes workers _ (sym c.read_figure-given.ensures ∙ c.in-Given.is) (λ buf. refl) refl
+pub returns-in-Ok : goal.returns-in-Ok
+returns-in-Ok c = given_goes workers _ (sym c.read_figure-given.ensures ∙ c.in-Ok.is) (λ buf. refl) refl
 
-pub returns-in-Stopped : goal.returns-in-Stopped
-returns-in-Stopped c = given_stops workers _ (sym c.read_figure-given.ensures ∙ c.in-Stopped.is)
+pub returns-in-Err : goal.returns-in-Err
+returns-in-Err c = given_stops workers _ (sym c.read_figure-given.ensures ∙ c.in-Err.is)

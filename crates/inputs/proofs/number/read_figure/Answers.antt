@@ -1,4 +1,5 @@
 -- `inputs::number::read_figure` meets its contract: no word, no number, or a number and what stands after it.
+use Rattle.std.specs.Prelude.{Err, None, Some}
 use native.Mathlib.Omega.{arith}
 use Prim.Native.Nat.{ℕ, ◌-◌, ◌<◌}
 use mathlib.Core.Path.{◌≡◌, sym, ◌∙◌}
@@ -8,12 +9,10 @@ use Rattle.table.proofs.Parts.{rest_part}
 use Rattle.assembly.specs.Words.{words_in, FirstWord}
 use Rattle.inputs.specs.Number.{number_in, figure_last, figure_of}
 use Rattle.inputs.specs.declared.Wanted.TheVariants.{Number as NumberTo}
-use Rattle.inputs.specs.declared.number.Number.TheVariants.{Value, NoNumber}
-use Rattle.inputs.specs.declared.number.Figure.TheVariants.{Stopped}
 use Rattle.inputs.proofs.number.read_figure.Goals as goal
 
 module _ (most : ℕ) (s : List ℕ) (a b : ℕ) (f : FirstWord s a b) where
-  missing : a ≡ b → Stopped (NumberTo most) ≡ figure_of most (words_in s)
+  missing : a ≡ b → Err (NumberTo most) ≡ figure_of most (words_in s)
   unfolding figure_of
   missing e = rw (f.none e)
 
@@ -21,11 +20,11 @@ module _ (most : ℕ) (s : List ℕ) (a b : ℕ) (f : FirstWord s a b) where
     some : a < b
     some = omega (arith, n, f.order)
 
-    wrong : number_in most (take (b - a) (drop a s)) ≡ NoNumber → Stopped (NumberTo most) ≡ figure_of most (words_in s)
+    wrong : number_in most (take (b - a) (drop a s)) ≡ None → Err (NumberTo most) ≡ figure_of most (words_in s)
     unfolding figure_of
     wrong e = rw (f.some some, e)
 
-    right : {x : ℕ} → number_in most (take (b - a) (drop a s)) ≡ Value x → figure_last x (words_in (take (length s - b) (drop b s))) ≡ figure_of most (words_in s)
+    right : {x : ℕ} → number_in most (take (b - a) (drop a s)) ≡ Some x → figure_last x (words_in (take (length s - b) (drop b s))) ≡ figure_of most (words_in s)
     unfolding figure_of
     right e = rw (f.some some, e, rest_part s b)
 
@@ -50,8 +49,8 @@ slice_bounds-figure_last-start c = omega (arith, c.first_word-word.ensures.withi
 pub slice_bounds-figure_last-end : goal.slice_bounds-figure_last-end
 slice_bounds-figure_last-end c = omega (arith, c.first_word-word.ensures.within)
 
-pub returns-in-NoNumber : goal.returns-in-NoNumber
-returns-in-NoNumber c = wrong _ _ _ _ c.first_word-word.ensures c.if-start-end.false (sym c.read_number-x.ensures.value ∙ c.in-NoNumber.is)
+pub returns-in-None : goal.returns-in-None
+returns-in-None c = wrong _ _ _ _ c.first_word-word.ensures c.if-start-end.false (sym c.read_number-x.ensures.value ∙ c.in-None.is)
 
-pub returns-in-Value : goal.returns-in-Value
-returns-in-Value c = c.figure_last.ensures ∙ right _ _ _ _ c.first_word-word.ensures c.if-start-end.false (sym c.read_number-x.ensures.value ∙ c.in-Value.is)
+pub returns-in-Some : goal.returns-in-Some
+returns-in-Some c = c.figure_last.ensures ∙ right _ _ _ _ c.first_word-word.ensures c.if-start-end.false (sym c.read_number-x.ensures.value ∙ c.in-Some.is)

@@ -1,3 +1,4 @@
+use Rattle.std.specs.Prelude.{None, Some}
 use native.Mathlib.Omega.{arith}
 use Prim.Native.Nat.{ℕ, ◌+◌, ◌≤◌, ◌<◌}
 use native.Mathlib.Numerals.{add-one}
@@ -11,7 +12,6 @@ use lib.Seq.{drop-cons}
 use Rattle.assembly.specs.Words.{is_digit, zero_led}
 use Rattle.inputs.specs.Number.{next_value, goes_on, value_from, number_in}
 use Rattle.inputs.specs.Code.Steps.{Numbered}
-use Rattle.inputs.specs.declared.number.Number.TheVariants.{Value, NoNumber}
 use Rattle.inputs.proofs.number.read_number.Invariants.{Digit, Inv}
 use Rattle.inputs.proofs.number.read_number.Goals as goal
 
@@ -25,15 +25,15 @@ digit most v b e =
     let q = both (leb 48 b) (leb b 57) p.0 in
     record { least = leb-true 48 b q.0; greatest = leb-true b 57 q.1; small = leb-true (next_value v b) most p.1 }
 
-none : (most : ℕ) (w : List ℕ) → NoNumber ≡ number_in most w → Numbered most w NoNumber
+none : (most : ℕ) (w : List ℕ) → None ≡ number_in most w → Numbered most w None
 none most w e = record { value = e; small = λ x q. absurd (let z : ◌≡◌ {A = ℕ} 0 1 = cc in omega arith) }
 
-no_number_lem : (most : ℕ) (w : List ℕ) → zero_led w ≡ true → Numbered most w NoNumber
+no_number_lem : (most : ℕ) (w : List ℕ) → zero_led w ≡ true → Numbered most w None
 unfolding number_in
 no_number_lem most w e = none most w (rw e)
 
 module _ (w : List ℕ) (most v i : ℕ) (h : Inv w most v i) where
-  stops : i < length w → goes_on most v (get_or w i 0) ≡ false → Numbered most w NoNumber
+  stops : i < length w → goes_on most v (get_or w i 0) ≡ false → Numbered most w None
   unfolding value_from number_in
   stops l e = none most w (rw h.led (rw (drop-cons w i 0 l, e) at h.rest))
 
@@ -47,7 +47,7 @@ module _ (w : List ℕ) (most v i : ℕ) (h : Inv w most v i) where
         rest = rw add-one (rw (drop-cons w i 0 l, e) at h.rest);
       }
 
-  ends : length w ≤ i → Numbered most w (Value v)
+  ends : length w ≤ i → Numbered most w (Some v)
   unfolding value_from number_in
   ends l =
       record {

@@ -1,3 +1,4 @@
+use Rattle.std.specs.Prelude.{Err, Ok, Result}
 use native.Mathlib.Omega.{arith}
 use Prim.Native.Nat.{ℕ, ◌+◌, ◌-◌, ◌≤◌, ◌<◌}
 use mathlib.Core.Path.{◌≡◌, refl, sym, ap, ◌∙◌}
@@ -9,8 +10,6 @@ use Rattle.assembly.specs.Words.{parts, nonempty, words_in, FirstWord}
 use Rattle.inputs.specs.Front.{Order, onward_order, added, order_from, max_order}
 use Rattle.inputs.specs.Code.Steps.{Ordering}
 use Rattle.inputs.specs.declared.Wanted.{Wanted}
-use Rattle.inputs.specs.declared.order.Ordered.{Ordered}
-use Rattle.inputs.specs.declared.order.Ordered.TheVariants.{Listed, Broken}
 use Rattle.inputs.proofs.order.order_line.Invariants.{Inv}
 use Rattle.inputs.proofs.order.order_line.Goals as goal
 
@@ -19,16 +18,16 @@ abbrev word_at : List ℕ → ℕ → ℕ → ℕ → List ℕ
 word_at s at a b = take (b - a) (drop a (take (length s - at) (drop at s)))
 
 module _ (s buf₀ : List ℕ) (n₀ : ℕ) (buf : List ℕ) (n at : ℕ) (v : Inv s buf₀ n₀ buf n at) where
-  no_more : words_in (drop at s) ≡ [] → Ordering (Listed n) buf (order_from (take n₀ buf₀) (words_in s))
+  no_more : words_in (drop at s) ≡ [] → Ordering (Ok n) buf (order_from (take n₀ buf₀) (words_in s))
   unfolding order_from
   no_more e = record { value = rw e at v.rest; few = v.room.few }
 
-  past : length s ≤ at → Ordering (Listed n) buf (order_from (take n₀ buf₀) (words_in s))
+  past : length s ≤ at → Ordering (Ok n) buf (order_from (take n₀ buf₀) (words_in s))
   unfolding parts nonempty
   past h = no_more (rw (drop_of_length-le s {i = at} h))
 
   module _ (a b : ℕ) (f : FirstWord (take (length s - at) (drop at s)) a b) where
-    none : a ≡ b → Ordering (Listed n) buf (order_from (take n₀ buf₀) (words_in s))
+    none : a ≡ b → Ordering (Ok n) buf (order_from (take n₀ buf₀) (words_in s))
     none e = no_more (rw (rest_part s at) at (f.none e))
 
     word_within : at + b ≤ length s
@@ -46,15 +45,15 @@ module _ (s buf₀ : List ℕ) (n₀ : ℕ) (buf : List ℕ) (n at : ℕ) (v : I
           sym (ap words_in (rest_part s at)) ∙ g ∙ ap (λ (t : List ℕ). word_at s at a b ∷ words_in t) (ap (drop b) (rest_part s at) ∙ drop-drop b at s) in
           rw e
 
-      module _ {r : Ordered} (buf' : List ℕ) (d : Ordering r buf' (added (take n buf) (word_at s at a b))) where
-        broken_off : {e : Wanted} → r ≡ Broken e → Ordering (Broken e) buf' (order_from (take n₀ buf₀) (words_in s))
+      module _ {r : Result ℕ Wanted} (buf' : List ℕ) (d : Ordering r buf' (added (take n buf) (word_at s at a b))) where
+        broken_off : {e : Wanted} → r ≡ Err e → Ordering (Err e) buf' (order_from (take n₀ buf₀) (words_in s))
         broken_off q =
             record {
               value = ap (λ (o : Order). onward_order o (λ (o : List ℕ). order_from o (words_in (drop (at + b) s)))) (rw q at d.value) ∙ sym next ∙ v.rest;
               few = omega arith;
             }
 
-        again : {k : ℕ} → r ≡ Listed k → length buf' ≡ max_order → Inv s buf₀ n₀ buf' k (at + b)
+        again : {k : ℕ} → r ≡ Ok k → length buf' ≡ max_order → Inv s buf₀ n₀ buf' k (at + b)
         again q l =
             record {
               room = record { full = l; few = rw q at d.few };
@@ -89,8 +88,8 @@ slice_bounds-add_worker-end c = omega (arith, c.first_word-word.ensures.within)
 pub add_worker-ordered-requires : goal.add_worker-ordered-requires
 add_worker-ordered-requires c = c.loop-at.invariant.room
 
-pub returns-in-Broken : goal.returns-in-Broken
-returns-in-Broken c = broken_off _ _ _ _ _ _ c.loop-at.invariant _ _ c.first_word-word.ensures c.if-start-end.false _ c.add_worker-ordered.ensures c.in-Broken.is
+pub returns-in-Err : goal.returns-in-Err
+returns-in-Err c = broken_off _ _ _ _ _ _ c.loop-at.invariant _ _ c.first_word-word.ensures c.if-start-end.false _ c.add_worker-ordered.ensures c.in-Err.is
 
 pub overflow_add-at : goal.overflow_add-at
 overflow_add-at c = omega (arith, word_within _ _ _ _ _ _ c.loop-at.invariant _ _ c.first_word-word.ensures)
@@ -99,7 +98,7 @@ pub loop-at-smaller : goal.loop-at-smaller
 loop-at-smaller c = omega (arith, some _ _ _ _ _ _ c.loop-at.invariant _ _ c.first_word-word.ensures c.if-start-end.false, word_within _ _ _ _ _ _ c.loop-at.invariant _ _ c.first_word-word.ensures)
 
 pub loop-at-preserved : goal.loop-at-preserved
-loop-at-preserved c = again _ _ _ _ _ _ c.loop-at.invariant _ _ c.first_word-word.ensures c.if-start-end.false _ c.add_worker-ordered.ensures c.in-Listed.is (omega (arith, c.loop-at.invariant.room.full))
+loop-at-preserved c = again _ _ _ _ _ _ c.loop-at.invariant _ _ c.first_word-word.ensures c.if-start-end.false _ c.add_worker-ordered.ensures c.in-Ok.is (omega (arith, c.loop-at.invariant.room.full))
 
 pub returns : goal.returns
 returns c = past _ _ _ _ _ _ c.loop-at.invariant c.loop-at-test.false

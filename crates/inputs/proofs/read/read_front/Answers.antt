@@ -1,3 +1,4 @@
+use Rattle.std.specs.Prelude.{Err, Ok, Result}
 use native.Mathlib.Omega.{arith}
 use Prim.Native.Nat.{ℕ, suc, ◌+◌, ◌-◌, ◌≤◌, ◌<◌, min}
 use native.Mathlib.Numerals.{add-one}
@@ -12,18 +13,16 @@ use Rattle.inputs.specs.declared.Wanted.{Wanted}
 use Rattle.inputs.specs.declared.front.Front.{Front as Kept}
 use Rattle.inputs.specs.declared.front.Step.{Step as Taken}
 use Rattle.inputs.specs.declared.front.Step.TheVariants.{Goes, Stops, Ends}
-use Rattle.inputs.specs.declared.read.End.{End}
-use Rattle.inputs.specs.declared.read.End.TheVariants.{Whole, Fault}
 use Rattle.inputs.specs.declared.read.Read.{Read}
 use Rattle.inputs.proofs.Lines.{lines_none, line_at, after_next}
 use Rattle.inputs.proofs.read.read_front.Invariants.{Inv}
 use Rattle.inputs.proofs.read.read_front.Goals as goal
 
-abbrev read_to : End → ℕ → ℕ → Read
+abbrev read_to : Result Front Wanted → ℕ → ℕ → Read
 read_to e k at = record { end = e; lines = k; at = at }
 
 module _ (s buf : List ℕ) (f : Kept) (k at : ℕ) (v : Inv s buf f k at) where
-  text_ends : {e : End} → length s ≤ at → Ending f e → ReadsFront s buf (read_to e k at)
+  text_ends : {e : Result Front Wanted} → length s ≤ at → Ending f e → ReadsFront s buf (read_to e k at)
   unfolding front_from
   text_ends h d =
       record {
@@ -50,10 +49,10 @@ module _ (s buf : List ℕ) (f : Kept) (k at : ℕ) (v : Inv s buf f k at) where
         rw (line_at s at end next h d.value refl) in
         ap onwards t.value ∙ sym e ∙ v.rest
 
-    stops_here : {e : Wanted} → r ≡ Stops e → length buf' ≡ max_order → ReadsFront s buf' (read_to (Fault e) k at)
+    stops_here : {e : Wanted} → r ≡ Stops e → length buf' ≡ max_order → ReadsFront s buf' (read_to (Err e) k at)
     stops_here q l = record { value = rw q at stepped; rest = v.place; within = v.within; passed = v.passed; few = omega arith; full = l }
 
-    ends_here : {g : Kept} → r ≡ Ends g → length buf' ≡ max_order → ReadsFront s buf' (read_to (Whole g) k at)
+    ends_here : {g : Kept} → r ≡ Ends g → length buf' ≡ max_order → ReadsFront s buf' (read_to (Ok g) k at)
     ends_here q l = record { value = rw q at stepped; rest = v.place; within = v.within; passed = v.passed; few = rw q at t.few; full = l }
 
     later : at < next

@@ -13,6 +13,3 @@ pub record Inv (input : List ℕ) (k : ℕ) (lengths : List ℕ) (i : ℕ) : Typ
 
 abbrev pub invariant-loop-i : goal.invariant-loop-i
 invariant-loop-i l = Inv l.input l.k l.lengths l.i
-
-abbrev pub decreases-loop-i : goal.decreases-loop-i
-decreases-loop-i l = l.k - l.i

@@ -1,3 +1,4 @@
+use Rattle.std.specs.Prelude.{Err, Ok}
 use mathlib.Core.Path.{◌≡◌, refl, sym, ap, ◌∙◌}
 use Prim.Native.Nat.{ℕ, suc, ◌+◌, ◌≤◌, ◌<◌}
 use mathlib.Core.List.{List, [], ◌∷◌}
@@ -7,7 +8,6 @@ use lib.Seq.{drop-cons, drop-length}
 use Rattle.table.specs.declared.Refusal.{Refusal}
 use Rattle.facts.specs.Weigh.{weighing}
 use Rattle.facts.specs.declared.Weighed.{Weighed}
-use Rattle.facts.specs.declared.Weighing.TheVariants.{Accepted, Refused as Unweighed}
 use Rattle.joining.specs.Answers.{parts_of}
 use Rattle.joining.specs.Code.Steps.{no_part, add_part, weights_from}
 use Rattle.joining.specs.declared.weights.Totals.{Totals}
@@ -31,11 +31,11 @@ module _ (s ls a b c d : List ℕ) (t : Totals) (i : ℕ) (v : Inv s ls a b c d 
   split h = drop-cons (parts_of ls s) i [] (omega (arith, parts_length ls s))
 
   module _ (h : i < length ls) (part : List ℕ) (e : part ≡ get_or (parts_of ls s) i []) where
-    refused : (r : Refusal) → weighing part ≡ Unweighed r → RefusedAt i r ≡ weights_from 0 no_part (parts_of ls s)
+    refused : (r : Refusal) → weighing part ≡ Err r → RefusedAt i r ≡ weights_from 0 no_part (parts_of ls s)
     unfolding weights_from
     refused r q = rw (split h, ← e, q) at v.left
 
-    again : (w : Weighed) → weighing part ≡ Accepted w → (u : Totals) → u ≡ add_part i t w → (a' b' c' d' : List ℕ) → Clear a' b' c' d' → Inv s ls a' b' c' d' u (i + 1)
+    again : (w : Weighed) → weighing part ≡ Ok w → (u : Totals) → u ≡ add_part i t w → (a' b' c' d' : List ℕ) → Clear a' b' c' d' → Inv s ls a' b' c' d' u (i + 1)
     unfolding weights_from
     again w q u p a' b' c' d' z =
         let n : i + 1 ≡ suc i = omega arith in
@@ -66,19 +66,12 @@ returns-in-Refused c = let d = c.args in record { value = refused d.tables.now d
 
 pub add_part-totals-requires : goal.add_part-totals-requires
 add_part-totals-requires c =
-    (c.loop-i.invariant.small, weighing_small _ _ (sym c.weigh_in-answer.ensures.value ∙ c.in-Accepted.is), omega (arith, c.loop-i-test.true, c.requires.few))
-
-pub overflow_add-i : goal.overflow_add-i
-overflow_add-i c =
-    omega (arith, c.loop-i-test.true, c.requires.few)
-
-pub loop-i-smaller : goal.loop-i-smaller
-loop-i-smaller c = omega (arith, c.loop-i-test.true)
+    (c.loop-i.invariant.small, weighing_small _ _ (sym c.weigh_in-answer.ensures.value ∙ c.in-Ok.is), omega (arith, c.loop-i-test.true, c.requires.few))
 
 pub loop-i-preserved : goal.loop-i-preserved
 loop-i-preserved c =
     let d = c.args in
-    again d.tables.now d.lengths.now _ _ _ _ c.loop-i.totals c.loop-i.i c.loop-i.invariant c.loop-i-test.true _ c.part_at-part.ensures _ (sym c.weigh_in-answer.ensures.value ∙ c.in-Accepted.is)
+    again d.tables.now d.lengths.now _ _ _ _ c.loop-i.totals c.loop-i.i c.loop-i.invariant c.loop-i-test.true _ c.part_at-part.ensures _ (sym c.weigh_in-answer.ensures.value ∙ c.in-Ok.is)
     _ c.add_part-totals.ensures _ _ _ _ c.weigh_in-answer.ensures.rises_after
 
 pub returns : goal.returns

@@ -19,6 +19,3 @@ pub record Inv (s ls a b c d : List ℕ) (t : Totals) (i : ℕ) : Type 0 where
 
 abbrev pub invariant-loop-i : goal.invariant-loop-i
 invariant-loop-i l = Inv l.tables l.lengths l.rises l.falls l.peaks l.depths l.totals l.i
-
-abbrev pub decreases-loop-i : goal.decreases-loop-i
-decreases-loop-i l = length l.lengths - l.i

@@ -29,13 +29,6 @@ within c =
 pub overflow_add-root : goal.overflow_add-root
 overflow_add-root c = omega (arith, within (goal.at.overflow_add-root c).After-threads-root)
 
-pub overflow_add-i : goal.overflow_add-i
-overflow_add-i c =
-    omega (arith, c.loop-i-test.true, c.requires.lent.few)
-
-pub loop-i-smaller : goal.loop-i-smaller
-loop-i-smaller c = omega (arith, c.loop-i-test.true)
-
 pub loop-i-preserved : goal.loop-i-preserved
 loop-i-preserved c =
     let d = c.args in

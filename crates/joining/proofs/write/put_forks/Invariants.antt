@@ -8,6 +8,3 @@ use Rattle.joining.proofs.write.put_forks.Given as goal
 
 abbrev pub invariant-loop-i : goal.invariant-loop-i
 invariant-loop-i l = Inv (λ o ps. fork_rows (starts_over o ps)) threads_over l.initial.out l.initial.at 1 (parts_of l.lengths l.tables) l.out l.at l.root l.i
-
-abbrev pub decreases-loop-i : goal.decreases-loop-i
-decreases-loop-i l = length l.lengths - l.i

@@ -28,13 +28,6 @@ overflow_cast-root c = omega (arith, within (goal.at.overflow_cast-root c).After
 pub overflow_add-root : goal.overflow_add-root
 overflow_add-root c = omega (arith, within (goal.at.overflow_add-root c).After-part_at-part, c.threads-root.ensures.small)
 
-pub overflow_add-i : goal.overflow_add-i
-overflow_add-i c =
-    omega (arith, c.loop-i-test.true, c.requires.lent.few)
-
-pub loop-i-smaller : goal.loop-i-smaller
-loop-i-smaller c = omega (arith, c.loop-i-test.true)
-
 pub loop-i-preserved : goal.loop-i-preserved
 loop-i-preserved c =
     let d = c.args in

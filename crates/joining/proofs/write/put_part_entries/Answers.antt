@@ -38,13 +38,6 @@ overflow_cast-before c = omega (arith, within (goal.at.overflow_cast-before c).A
 pub overflow_add-before-in-loop-i : goal.overflow_add-before-in-loop-i
 overflow_add-before-in-loop-i c = omega (arith, within (goal.at.overflow_add-before-in-loop-i c).After-part_at-part, c.actions-before.ensures.small)
 
-pub overflow_add-i : goal.overflow_add-i
-overflow_add-i c =
-    omega (arith, c.loop-i-test.true, c.requires.lent.few)
-
-pub loop-i-smaller : goal.loop-i-smaller
-loop-i-smaller c = omega (arith, c.loop-i-test.true)
-
 pub loop-i-preserved : goal.loop-i-preserved
 loop-i-preserved c =
     let d = c.args in

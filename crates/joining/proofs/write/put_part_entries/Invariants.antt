@@ -8,6 +8,3 @@ use Rattle.joining.proofs.write.put_part_entries.Given as goal
 
 abbrev pub invariant-loop-i : goal.invariant-loop-i
 invariant-loop-i l = Inv entries_over actions_over l.initial.out l.initial.at (suc (2 * length l.lengths)) (parts_of l.lengths l.tables) l.out l.at l.before l.i
-
-abbrev pub decreases-loop-i : goal.decreases-loop-i
-decreases-loop-i l = length l.lengths - l.i

@@ -5,10 +5,10 @@ use Rattle.listing.specs.Listing.{rounded_texts}
 use Rattle.text.proofs.Putting.{puts_within}
 use Rattle.listing.proofs.rounds.put_rounds.Goals as goal
 
-pub returns-in-Refused : goal.returns-in-Refused
+pub returns-in-Err : goal.returns-in-Err
 unfolding rounded_texts
-returns-in-Refused c =
-    rw (← c.begin-begun.ensures.value, c.in-Refused.is) (puts_within (omega arith) c.put_answer.ensures)
+returns-in-Err c =
+    rw (← c.begin-begun.ensures.value, c.in-Err.is) (puts_within (omega arith) c.put_answer.ensures)
 
 pub returns : goal.returns
 unfolding rounded_texts

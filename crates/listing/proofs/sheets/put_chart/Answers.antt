@@ -6,10 +6,10 @@ use Rattle.chart.specs.Turns.{chart_turns}
 use Rattle.listing.specs.Listing.{walled_by}
 use Rattle.listing.proofs.sheets.put_chart.Goals as goal
 
-pub returns-in-Refused : goal.returns-in-Refused
+pub returns-in-Err : goal.returns-in-Err
 unfolding walled_by
-returns-in-Refused c =
-    rw (← c.begin-begun.ensures.value, c.in-Refused.is) (puts_within (omega arith) c.put_answer.ensures)
+returns-in-Err c =
+    rw (← c.begin-begun.ensures.value, c.in-Err.is) (puts_within (omega arith) c.put_answer.ensures)
 
 pub returns : goal.returns
 unfolding walled_by chart_turns

@@ -34,12 +34,6 @@ turns_at-turns-requires c = c.loop-a.invariant.threads
 pub overflow_add-turns : goal.overflow_add-turns
 overflow_add-turns c = let i = c.loop-a.invariant in omega (arith, i.few, i.within, i.actions.small, c.turns_at-turns.ensures.small)
 
-pub overflow_add-a : goal.overflow_add-a
-overflow_add-a c = let i = c.loop-a.invariant in omega (arith, i.within, i.actions.small)
-
-pub loop-a-smaller : goal.loop-a-smaller
-loop-a-smaller c = omega (arith, c.loop-a-test.true)
-
 pub loop-a-preserved : goal.loop-a-preserved
 loop-a-preserved c = again _ _ _ _ _ _ c.loop-a.invariant c.loop-a-test.true c.turns_at-turns.ensures
 

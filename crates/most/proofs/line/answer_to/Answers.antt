@@ -1,4 +1,5 @@
 -- `most::line::answer_to` meets its contract: what follows the eight bytes is the table.
+use Rattle.std.specs.Prelude.{Err}
 use mathlib.Core.Path.{◌≡◌, ◌∙◌}
 use Prim.Native.Nat.{ℕ, ◌-◌, ◌≤◌, ◌<◌}
 use mathlib.Core.List.{List}
@@ -6,13 +7,12 @@ use borrow.Author.Tests.{lt-ltb, le-ltb}
 use lib.ListN.{length, take, drop}
 use Rattle.table.specs.Pass.{refusal}
 use Rattle.table.proofs.Parts.{rest_part}
-use Rattle.most.specs.declared.Most.TheVariants.{Refused}
 use Rattle.most.specs.Most.{most_of}
 use Rattle.most.specs.Line.{workers_in, quota_in, most_to}
 use Rattle.most.proofs.line.answer_to.Goals as goal
 
 module _ (s : List ℕ) where
-  short : length s < 8 → Refused (refusal 33 0) ≡ most_to s
+  short : length s < 8 → Err (refusal 33 0) ≡ most_to s
   unfolding most_to
   short h = rw (lt-ltb (length s) 8 h)
 

@@ -29,12 +29,6 @@ since-down-requires c =
           (free_read _ _ _ _ c.threads-n.ensures.value c.code-k.ensures _ c.argument-x.ensures.value _ c.free_of.ensures),
     )
 
-pub overflow_add-a : goal.overflow_add-a
-overflow_add-a c = omega (arith, c.loop-a-test.true, c.actions-m.ensures.small)
-
-pub loop-a-smaller : goal.loop-a-smaller
-loop-a-smaller c = omega (arith, c.loop-a-test.true)
-
 pub loop-a-preserved : goal.loop-a-preserved
 loop-a-preserved c =
     let e = c.threads-n.ensures.value in

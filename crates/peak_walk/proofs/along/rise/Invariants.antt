@@ -10,6 +10,3 @@ use Rattle.peak_walk.proofs.along.rise.Given as goal
 abbrev pub invariant-loop-a : goal.invariant-loop-a
 invariant-loop-a l =
     (l.a ≤ l.m) × (l.best ≡ greatest_to (λ i. since_rest (table_of l.table) (alloc_of (table_of l.table)) i - since_rest (table_of l.table) (free_of (table_of l.table)) i) l.a) × (l.up ≡ since_rest (table_of l.table) (alloc_of (table_of l.table)) l.a) × (l.down ≡ since_rest (table_of l.table) (free_of (table_of l.table)) l.a)
-
-abbrev pub decreases-loop-a : goal.decreases-loop-a
-decreases-loop-a l = l.m - l.a

@@ -23,12 +23,6 @@ pub since-before-requires : goal.since-before-requires
 since-before-requires c =
     omega (arith, drawn_fits _ _ _ c.loop-a.before c.drawn_of-x.result (omega (arith, c.loop-a-test.true, c.actions-m.ensures.small)) c.loop-a.invariant.2 (draws (goal.at.since-before-requires c).After-drawn_of-x))
 
-pub overflow_add-a : goal.overflow_add-a
-overflow_add-a c = omega (arith, c.loop-a-test.true, c.actions-m.ensures.small)
-
-pub loop-a-smaller : goal.loop-a-smaller
-loop-a-smaller c = omega (arith, c.loop-a-test.true)
-
 pub loop-a-preserved : goal.loop-a-preserved
 loop-a-preserved c = (
   omega (arith, c.loop-a-test.true),

@@ -9,6 +9,3 @@ use Rattle.peak_walk.proofs.along.stretch.Given as goal
 abbrev pub invariant-loop-a : goal.invariant-loop-a
 invariant-loop-a l =
     (l.a ≤ l.m) × (l.best ≡ greatest_to (λ i. drawn_before (table_of l.table) l.quota i + drawn_at (table_of l.table) l.quota i) l.a) × (l.before ≡ drawn_before (table_of l.table) l.quota l.a)
-
-abbrev pub decreases-loop-a : goal.decreases-loop-a
-decreases-loop-a l = l.m - l.a

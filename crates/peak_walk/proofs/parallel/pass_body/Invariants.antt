@@ -7,6 +7,3 @@ use Rattle.peak_walk.proofs.parallel.pass_body.Given as goal
 abbrev pub invariant-loop-i : goal.invariant-loop-i
 invariant-loop-i l =
     (l.i ≤ l.count) × (pass l.w.balance l.w.children l.w.most ≡ passed (code_at (bodies_from l.table l.n)) (argument_at (bodies_from l.table l.n)) l.bests l.finals l.first l.i)
-
-abbrev pub decreases-loop-i : goal.decreases-loop-i
-decreases-loop-i l = l.count - l.i

@@ -8,6 +8,3 @@ use Rattle.peak_walk.proofs.walk.walk_body.Given as goal
 abbrev pub invariant-loop-i : goal.invariant-loop-i
 invariant-loop-i l =
     (l.i ≤ l.count) × (walk l.w.balance l.w.best l.w.depth l.rows ≡ walked (code_at (bodies_from l.table l.n)) (argument_at (bodies_from l.table l.n)) l.resting l.peaks l.finals l.r l.first l.initial.rows l.i)
-
-abbrev pub decreases-loop-i : goal.decreases-loop-i
-decreases-loop-i l = l.count - l.i

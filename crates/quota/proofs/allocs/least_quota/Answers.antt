@@ -31,12 +31,6 @@ loop-a-init c = start _ _ _ c.threads-n.ensures.value c.actions-m.ensures.value 
 pub alloc_at-requires : goal.alloc_at-requires
 alloc_at-requires c = c.loop-a.invariant.threads
 
-pub overflow_add-a : goal.overflow_add-a
-overflow_add-a c = omega (arith, c.loop-a.invariant.some)
-
-pub loop-a-smaller : goal.loop-a-smaller
-loop-a-smaller c = omega arith
-
 pub loop-a-preserved : goal.loop-a-preserved
 loop-a-preserved c = again _ _ _ _ _ _ _ c.loop-a.invariant c.loop-a-test.true c.alloc_at.ensures.value c.greater-least.ensures
 

@@ -16,6 +16,3 @@ pub record Inv (s : List ℕ) (n m least a : ℕ) : Type 0 where
 
 abbrev pub invariant-loop-a : goal.invariant-loop-a
 invariant-loop-a l = Inv l.table l.n l.m l.least l.a
-
-abbrev pub decreases-loop-a : goal.decreases-loop-a
-decreases-loop-a l = l.m - l.a

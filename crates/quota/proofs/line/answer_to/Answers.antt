@@ -1,4 +1,5 @@
 -- `quota::line::answer_to` meets its contract: what follows the thirteen bytes is the table.
+use Rattle.std.specs.Prelude.{Err}
 use mathlib.Core.Path.{◌≡◌, ◌∙◌}
 use Prim.Native.Nat.{ℕ, ◌-◌, ◌≤◌, ◌<◌}
 use mathlib.Core.List.{List}
@@ -6,13 +7,12 @@ use borrow.Author.Tests.{lt-ltb, le-ltb}
 use lib.ListN.{length, take, drop}
 use Rattle.table.specs.Pass.{refusal}
 use Rattle.table.proofs.Parts.{rest_part}
-use Rattle.quota.specs.declared.Quoted.TheVariants.{Refused}
 use Rattle.quota.specs.Quota.{quoted}
 use Rattle.quota.specs.Line.{workers_in, gap_in, memory_in, answer_to}
 use Rattle.quota.proofs.line.answer_to.Goals as goal
 
 module _ (s : List ℕ) where
-  short : length s < 13 → Refused (refusal 33 0) ≡ answer_to s
+  short : length s < 13 → Err (refusal 33 0) ≡ answer_to s
   unfolding answer_to
   short h = rw (lt-ltb (length s) 13 h)
 

@@ -17,6 +17,3 @@ pub record Inv (bytes₀ words₀ numbers₀ : List ℕ) (workers : List Worker)
 
 abbrev pub invariant-loop-w : goal.invariant-loop-w
 invariant-loop-w l = Inv l.initial.bytes l.initial.words l.initial.numbers l.workers l.bytes l.words l.numbers l.w
-
-abbrev pub decreases-loop-w : goal.decreases-loop-w
-decreases-loop-w l = 16 - l.w

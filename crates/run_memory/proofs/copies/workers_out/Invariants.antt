@@ -6,6 +6,3 @@ use Rattle.run_memory.proofs.copies.workers_out.Given as goal
 
 abbrev pub invariant-loop-w : goal.invariant-loop-w
 invariant-loop-w l = Upto (bytes_in l.bytes).holds (words_in l.words).threads (numbers_in l.numbers).quotas l.workers l.w
-
-abbrev pub decreases-loop-w : goal.decreases-loop-w
-decreases-loop-w l = 16 - l.w

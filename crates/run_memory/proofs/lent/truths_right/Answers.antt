@@ -17,12 +17,6 @@ unfolding truths
 returns-then-holds-w-gt1 c =
     passed_fails c.loop-w.invariant c.loop-w-test.true (le-ltb _ 2 c.if-holds-w-gt1.true)
 
-pub overflow_add-w : goal.overflow_add-w
-overflow_add-w c = omega arith
-
-pub loop-w-smaller : goal.loop-w-smaller
-loop-w-smaller c = omega arith
-
 pub loop-w-preserved : goal.loop-w-preserved
 loop-w-preserved c =
     let l : get_or c.args.holds.now c.loop-w.w 0 < 2 = omega (arith, c.if-holds-w-gt1.false) in

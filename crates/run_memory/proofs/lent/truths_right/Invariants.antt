@@ -7,6 +7,3 @@ use Rattle.run_memory.proofs.lent.truths_right.Given as goal
 
 abbrev pub invariant-loop-w : goal.invariant-loop-w
 invariant-loop-w l = Passed (λ i. ltb (get_or l.holds i 0) 2) l.w
-
-abbrev pub decreases-loop-w : goal.decreases-loop-w
-decreases-loop-w l = 16 - l.w

@@ -6,9 +6,6 @@ use Rattle.run_memory.proofs.lent.workers_at.Goals as goal
 pub loop-w-init : goal.loop-w-init
 loop-w-init c = record { size = refl; right = λ i l. absurd (omega (arith, l)) }
 
-pub loop-w-smaller : goal.loop-w-smaller
-loop-w-smaller c = omega arith
-
 pub loop-w-preserved : goal.loop-w-preserved
 loop-w-preserved c = one_more c.loop-w.invariant c.loop-w-test.true _ c.worker_at.ensures
 

@@ -5,6 +5,3 @@ use Rattle.run_memory.proofs.lent.workers_at.Given as goal
 
 abbrev pub invariant-loop-w : goal.invariant-loop-w
 invariant-loop-w l = Upto l.holds l.threads l.quotas l.records l.w
-
-abbrev pub decreases-loop-w : goal.decreases-loop-w
-decreases-loop-w l = 16 - l.w

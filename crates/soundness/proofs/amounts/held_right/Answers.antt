@@ -96,12 +96,6 @@ done_to-stop-requires c = (accepted_body c.loop-t.invariant.accepted c.loop-t-te
 pub thread_sums-sums-requires : goal.thread_sums-sums-requires
 thread_sums-sums-requires c = adds _ _ _ _ _ _ _ c.loop-t.invariant c.loop-t-test.true _ c.done_to-stop.ensures
 
-pub overflow_add-t : goal.overflow_add-t
-overflow_add-t c = omega arith
-
-pub loop-t-smaller : goal.loop-t-smaller
-loop-t-smaller c = omega arith
-
 pub loop-t-preserved : goal.loop-t-preserved
 loop-t-preserved c =
     again _ _ _ _ _ _ _ c.loop-t.invariant c.loop-t-test.true _ c.done_to-stop.ensures _ c.thread_sums-sums.ensures.added c.thread_sums-sums.ensures.added_2

@@ -18,6 +18,3 @@ pub record Inv (s : List ℕ) (n : ℕ) (next status : List ℕ) (held : ℕ) (s
 
 abbrev pub invariant-loop-t : goal.invariant-loop-t
 invariant-loop-t l = Inv l.table l.n l.next l.status l.held l.sums l.t
-
-abbrev pub decreases-loop-t : goal.decreases-loop-t
-decreases-loop-t l = l.n - l.t

@@ -72,12 +72,6 @@ pub overflow_add-frees : goal.overflow_add-frees
 overflow_add-frees c =
     omega (arith, own_small free (kind_of c.code-k.result) c.argument-x.result c.argument-x.ensures.small)
 
-pub overflow_add-a : goal.overflow_add-a
-overflow_add-a c = omega arith
-
-pub loop-a-smaller : goal.loop-a-smaller
-loop-a-smaller c = omega arith
-
 pub loop-a-preserved : goal.loop-a-preserved
 loop-a-preserved c =
     again c.args.table.now _ _ _ _ _ _ _ _ _ _ _ _ c.loop-a.invariant c.loop-a-test.true

@@ -16,6 +16,3 @@ pub record Inv (s : List ℕ) (n t stop allocs₀ frees₀ allocs frees a : ℕ)
 
 abbrev pub invariant-loop-a : goal.invariant-loop-a
 invariant-loop-a l = Inv l.table l.n l.t l.stop l.initial.allocs l.initial.frees l.allocs l.frees l.a
-
-abbrev pub decreases-loop-a : goal.decreases-loop-a
-decreases-loop-a l = l.stop - l.a

@@ -4,8 +4,8 @@ use native.Mathlib.Omega.{arith}
 use Rattle.soundness.proofs.Fillings.{measured, refused_table, refused_workers}
 use Rattle.soundness.proofs.beginning.begin_fault.Goals as goal
 
-pub returns-in-At : goal.returns-in-At
-returns-in-At c = let a = c.args in record { value = refused_table a.table.now a.p a.quota _ _ c.check_in-found.ensures.value c.in-At.is; rises_after = c.check_in-found.ensures.rises_after }
+pub returns-in-Err : goal.returns-in-Err
+returns-in-Err c = let a = c.args in record { value = refused_table a.table.now a.p a.quota _ _ c.check_in-found.ensures.value c.in-Err.is; rises_after = c.check_in-found.ensures.rises_after }
 
 pub refuse-requires : goal.refuse-requires
 refuse-requires c = omega arith

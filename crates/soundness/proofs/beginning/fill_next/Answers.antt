@@ -35,12 +35,6 @@ offset_bounds-next-t c = omega arith
 pub bounds-next-t : goal.bounds-next-t
 bounds-next-t c = omega arith
 
-pub overflow_add-t : goal.overflow_add-t
-overflow_add-t c = omega arith
-
-pub loop-t-smaller : goal.loop-t-smaller
-loop-t-smaller c = omega arith
-
 pub loop-t-preserved : goal.loop-t-preserved
 loop-t-preserved c = again c.loop-t.invariant c.loop-t-test.true c.first.ensures.value
 

@@ -13,6 +13,3 @@ pub record Inv (s : List ℕ) (n : ℕ) (next : List ℕ) (t : ℕ) : Type 0 whe
 
 abbrev pub invariant-loop-t : goal.invariant-loop-t
 invariant-loop-t l = Inv l.bytes l.n l.next l.t
-
-abbrev pub decreases-loop-t : goal.decreases-loop-t
-decreases-loop-t l = l.n - l.t

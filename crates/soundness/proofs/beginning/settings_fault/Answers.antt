@@ -1,23 +1,23 @@
 -- `soundness::beginning::settings_fault` meets its contract, test by test.
+use Rattle.std.specs.Prelude.{Err, Ok}
 use mathlib.Core.Path.{◌≡◌, sym, ◌∙◌}
 use Prim.Native.Nat.{ℕ}
 use mathlib.Core.Bool.{true, false}
 use Rattle.table.specs.Pass.{refusal, try_at, try_from, try_pass, first_found}
 use Rattle.table.specs.Checks.{outside}
-use Rattle.table.specs.declared.Found.TheVariants.{Nothing, At}
 use Rattle.schedule.specs.Begin.{setting_passes}
 use Rattle.soundness.proofs.beginning.settings_fault.Goals as goal
 
 module _ (p K : ℕ) where
-  many_workers : outside 1 16 p ≡ true → At (refusal 20 0) ≡ first_found (setting_passes p K)
+  many_workers : outside 1 16 p ≡ true → Err (refusal 20 0) ≡ first_found (setting_passes p K)
   unfolding first_found try_pass try_from try_at
   many_workers h = rw h
 
-  wide_quota : outside 1 16 p ≡ false → outside 1 16777215 K ≡ true → At (refusal 21 0) ≡ first_found (setting_passes p K)
+  wide_quota : outside 1 16 p ≡ false → outside 1 16777215 K ≡ true → Err (refusal 21 0) ≡ first_found (setting_passes p K)
   unfolding first_found try_pass try_from try_at
   wide_quota h k = rw (h, k)
 
-  in_range : outside 1 16 p ≡ false → outside 1 16777215 K ≡ false → Nothing ≡ first_found (setting_passes p K)
+  in_range : outside 1 16 p ≡ false → outside 1 16777215 K ≡ false → (Ok tt) ≡ first_found (setting_passes p K)
   unfolding first_found try_pass try_from try_at
   in_range h k = rw (h, k)
 

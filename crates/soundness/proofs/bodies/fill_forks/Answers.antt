@@ -106,12 +106,6 @@ pub loop-a-preserved : goal.loop-a-preserved
 loop-a-preserved c =
     again _ _ _ _ _ _ _ c.loop-a.invariant c.loop-a-test.true _ _ c.note_fork.ensures
 
-pub overflow_add-t : goal.overflow_add-t
-overflow_add-t c = omega arith
-
-pub loop-t-smaller : goal.loop-t-smaller
-loop-t-smaller c = omega arith
-
 pub loop-t-preserved : goal.loop-t-preserved
 loop-t-preserved c = leave _ _ _ _ _ _ _ c.loop-a.invariant c.loop-a-test.false
 

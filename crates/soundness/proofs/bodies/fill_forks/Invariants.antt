@@ -31,6 +31,3 @@ decreases-loop-a l = l.stop - l.a
 
 abbrev pub invariant-loop-t : goal.invariant-loop-t
 invariant-loop-t l = Inv l.table l.n l.forks l.parents l.a l.t
-
-abbrev pub decreases-loop-t : goal.decreases-loop-t
-decreases-loop-t l = l.n - l.t

@@ -29,12 +29,6 @@ returns-then-not-thread_in_order c =
     passed_stop c.loop-t.invariant c.loop-t-test.true c.thread_in_order.ensures (ap not c.if-not-thread_in_order.true)
     ∙ all c.args.table.now _ c.args.next.now c.args.status.now c.requires.accepted
 
-pub overflow_add-t : goal.overflow_add-t
-overflow_add-t c = omega arith
-
-pub loop-t-smaller : goal.loop-t-smaller
-loop-t-smaller c = omega arith
-
 pub loop-t-preserved : goal.loop-t-preserved
 loop-t-preserved c =
     passed_next c.loop-t.invariant c.thread_in_order.ensures (ap not c.if-not-thread_in_order.false)

@@ -16,12 +16,6 @@ pub returns-then-not-next_in_body : goal.returns-then-not-next_in_body
 returns-then-not-next_in_body c =
     passed_stop c.loop-t.invariant c.loop-t-test.true c.next_in_body.ensures (ap not c.if-not-next_in_body.true)
 
-pub overflow_add-t : goal.overflow_add-t
-overflow_add-t c = omega arith
-
-pub loop-t-smaller : goal.loop-t-smaller
-loop-t-smaller c = omega arith
-
 pub loop-t-preserved : goal.loop-t-preserved
 loop-t-preserved c =
     passed_next c.loop-t.invariant c.next_in_body.ensures (ap not c.if-not-next_in_body.false)

@@ -7,6 +7,3 @@ use Rattle.soundness.proofs.bodies.next_in_bodies.Given as goal
 
 abbrev pub invariant-loop-t : goal.invariant-loop-t
 invariant-loop-t l = Passed (next_in_body (table_of l.table) l.next) l.t
-
-abbrev pub decreases-loop-t : goal.decreases-loop-t
-decreases-loop-t l = l.n - l.t

@@ -17,12 +17,6 @@ pub returns-then-not-status_follows : goal.returns-then-not-status_follows
 returns-then-not-status_follows c =
     passed_stop c.loop-t.invariant c.loop-t-test.true c.status_follows.ensures (ap not c.if-not-status_follows.true)
 
-pub overflow_add-t : goal.overflow_add-t
-overflow_add-t c = omega arith
-
-pub loop-t-smaller : goal.loop-t-smaller
-loop-t-smaller c = omega arith
-
 pub loop-t-preserved : goal.loop-t-preserved
 loop-t-preserved c =
     passed_next c.loop-t.invariant c.status_follows.ensures (ap not c.if-not-status_follows.false)

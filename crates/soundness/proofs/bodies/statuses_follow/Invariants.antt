@@ -7,6 +7,3 @@ use Rattle.soundness.proofs.bodies.statuses_follow.Given as goal
 
 abbrev pub invariant-loop-t : goal.invariant-loop-t
 invariant-loop-t l = Passed (status_follows (table_of l.table) l.next l.status) l.t
-
-abbrev pub decreases-loop-t : goal.decreases-loop-t
-decreases-loop-t l = l.n - l.t

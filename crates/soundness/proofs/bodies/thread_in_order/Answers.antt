@@ -60,12 +60,6 @@ pub returns-then-not-join_done : goal.returns-then-not-join_done
 returns-then-not-join_done c =
     stopped _ _ _ _ _ _ _ c.loop-a.invariant c.loop-a-test.true _ c.join_done.ensures (ap not c.if-not-join_done.true)
 
-pub overflow_add-a : goal.overflow_add-a
-overflow_add-a c = omega arith
-
-pub loop-a-smaller : goal.loop-a-smaller
-loop-a-smaller c = omega arith
-
 pub loop-a-preserved : goal.loop-a-preserved
 loop-a-preserved c =
     again _ _ _ _ _ _ _ c.loop-a.invariant c.loop-a-test.true _ c.join_done.ensures (ap not c.if-not-join_done.false)

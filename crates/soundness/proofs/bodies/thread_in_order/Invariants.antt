@@ -75,6 +75,3 @@ module _ (s : List ℕ) (n t : ℕ) (next status : List ℕ) (stop a : ℕ) (i :
 
 abbrev pub invariant-loop-a : goal.invariant-loop-a
 invariant-loop-a l = Inv l.table l.n l.t l.next l.status l.stop l.a
-
-abbrev pub decreases-loop-a : goal.decreases-loop-a
-decreases-loop-a l = l.stop - l.a

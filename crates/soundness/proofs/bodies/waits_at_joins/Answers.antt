@@ -15,12 +15,6 @@ pub returns-then-not-waits_at_join : goal.returns-then-not-waits_at_join
 returns-then-not-waits_at_join c =
     passed_stop c.loop-t.invariant c.loop-t-test.true c.waits_at_join.ensures (ap not c.if-not-waits_at_join.true)
 
-pub overflow_add-t : goal.overflow_add-t
-overflow_add-t c = omega arith
-
-pub loop-t-smaller : goal.loop-t-smaller
-loop-t-smaller c = omega arith
-
 pub loop-t-preserved : goal.loop-t-preserved
 loop-t-preserved c =
     passed_next c.loop-t.invariant c.waits_at_join.ensures (ap not c.if-not-waits_at_join.false)

@@ -1,4 +1,5 @@
 -- `soundness::common::common_holds` meets its contract: the tests are the clauses, in their order.
+use Rattle.std.specs.Prelude.{Err, Ok, Result, ⊤}
 use mathlib.Core.Path.{◌≡◌, refl, sym, ◌∙◌}
 use Prim.Native.Nat.{ℕ}
 use mathlib.Core.List.{List}
@@ -9,8 +10,6 @@ use lib.Dec.{ltb, leb, eqb}
 use Rattle.table.specs.Format.{Table, table_of}
 use Rattle.table.specs.Pass.{first_found}
 use Rattle.table.specs.declared.Refusal.{Refusal}
-use Rattle.table.specs.declared.Found.{Found}
-use Rattle.table.specs.declared.Found.TheVariants.{Nothing, At}
 use Rattle.table.proofs.Passes.{passes_rules}
 use Rattle.schedule.specs.declared.Worker.{Worker}
 use Rattle.schedule.specs.Record.{set_of}
@@ -39,7 +38,7 @@ module _ (s : List ℕ) (n p K : ℕ) (next status amounts : List ℕ) (workers 
       && (holders_sound n p K status workers
       && (held_right (table_of s) next status amount && (same_list amounts (shares_in (table_of s) next status) && (leb amount highest && eqb set (set_of workers)))))
 
-  no_settings : {x : Refusal} → first_found (setting_passes p K) ≡ At x → false ≡ common_sound s p K next status amounts workers set amount highest
+  no_settings : {x : Refusal} → first_found (setting_passes p K) ≡ Err x → false ≡ common_sound s p K next status amounts workers set amount highest
   unfolding common_sound
   no_settings h = rw ((passes_rules s).1 k.rules, h) refl
 
@@ -57,7 +56,7 @@ module _ (s : List ℕ) (n p K : ℕ) (next status amounts : List ℕ) (workers 
       (all_below (one_holder status workers) T.threads) (all_below (worker_right T.threads p K workers) 16) (held_right T next status amount) (same_list amounts (shares_in T next status)) (leb amount highest)
       (eqb set (set_of workers)))
 
-  module _ (h : first_found (setting_passes p K) ≡ Nothing) where
+  module _ (h : first_found (setting_passes p K) ≡ Ok tt) where
     begins : sized_tests ≡ common_sound s p K next status amounts workers set amount highest
     unfolding common_sound
     begins = rw ((passes_rules s).1 k.rules, h) (in_parts k.threads)
@@ -72,7 +71,7 @@ module _ (s : List ℕ) (n p K : ℕ) (next status amounts : List ℕ) (workers 
 
 -- past the settings, over threads that are sound
 module _ (s : List ℕ) (n p K : ℕ) (next status amounts : List ℕ) (workers : List Worker) (set amount highest : ℕ) (k : Accepted s n)
-    {x : Found} (f : x ≡ first_found (setting_passes p K)) (d : x ≡ Nothing) (w : length workers ≡ 16)
+    {x : Result ⊤ Refusal} (f : x ≡ first_found (setting_passes p K)) (d : x ≡ Ok tt) (w : length workers ≡ 16)
     {b : Bool} (t : b ≡ threads_sound (table_of s) n next status) (u : b ≡ true) (z : b ≡ true → (length next ≡ 1024) × (length status ≡ 1024)) where
   past_threads : {r : Bool}
       → r ≡ (holders_sound n p K status workers
@@ -95,8 +94,8 @@ module _ (s : List ℕ) (n p K : ℕ) (next status amounts : List ℕ) (workers 
           → r ≡ common_sound s p K next status amounts workers set amount highest
       past_amounts o v e = past_held (pass (sym o ∙ v) e)
 
-pub returns-in-At : goal.returns-in-At
-returns-in-At c = no_settings _ _ _ _ _ _ _ _ _ _ _ c.requires.accepted (sym c.settings_fault-found.ensures ∙ c.in-At.is)
+pub returns-in-Err : goal.returns-in-Err
+returns-in-Err c = no_settings _ _ _ _ _ _ _ _ _ _ _ c.requires.accepted (sym c.settings_fault-found.ensures ∙ c.in-Err.is)
 
 pub returns-then-not-threads_sound : goal.returns-then-not-threads_sound
 returns-then-not-threads_sound c = no_threads _ _ _ _ _ _ _ _ _ _ _ c.requires.accepted (sym c.settings_fault-found.ensures ∙ c.in_default.is) (sym c.threads_sound.ensures.value ∙ c.if-not-threads_sound.true)

@@ -1,4 +1,5 @@
 -- `soundness::common::common_parts` meets its contract: the table's own checks come first, then each thread's parent is noted and the common part tested.
+use Rattle.std.specs.Prelude.{Err, Ok, Result, ⊤}
 use mathlib.Core.Path.{◌≡◌, refl, sym, ◌∙◌}
 use Prim.Native.Nat.{ℕ}
 use mathlib.Core.List.{List}
@@ -10,8 +11,6 @@ use Rattle.table.specs.Pass.{first_found}
 use Rattle.table.specs.Checks.{passes}
 use Rattle.table.specs.Rules.{Rules}
 use Rattle.table.specs.declared.Refusal.{Refusal}
-use Rattle.table.specs.declared.Found.{Found}
-use Rattle.table.specs.declared.Found.TheVariants.{At, Nothing}
 use Rattle.table.proofs.Passes.{passes_rules}
 use Rattle.schedule.specs.declared.Worker.{Worker}
 use Rattle.schedule.specs.Sound.{common_sound}
@@ -22,23 +21,23 @@ use Rattle.soundness.proofs.Noting.{parents_right}
 use Rattle.soundness.proofs.common.common_parts.Goals as goal
 
 module _ (s : List ℕ) where
-  not_sound : (p K : ℕ) (next status amounts : List ℕ) (workers : List Worker) (set amount highest : ℕ) {x : Refusal} → first_found (passes s) ≡ At x
+  not_sound : (p K : ℕ) (next status amounts : List ℕ) (workers : List Worker) (set amount highest : ℕ) {x : Refusal} → first_found (passes s) ≡ Err x
       → false ≡ common_sound s p K next status amounts workers set amount highest
   unfolding common_sound
   not_sound p K next status amounts workers set amount highest h = rw h
 
-  no_parents : {x : Refusal} → first_found (passes s) ≡ At x → replicate 1024 0 ≡ parents_if (is_nothing (first_found (passes s))) (table_of s)
+  no_parents : {x : Refusal} → first_found (passes s) ≡ Err x → replicate 1024 0 ≡ parents_if (is_nothing (first_found (passes s))) (table_of s)
   no_parents h = rw h
 
   its_parents : {l : List ℕ} → Rules s → l ≡ parents_in (table_of s) → l ≡ parents_if (is_nothing (first_found (passes s))) (table_of s)
   its_parents k e = e ∙ rw ((passes_rules s).1 k)
 
-known : {s : List ℕ} {n : ℕ} {x : Found} → x ≡ first_found (passes s) → x ≡ Nothing → n ≡ threads_of s → Accepted s n
+known : {s : List ℕ} {n : ℕ} {x : Result ⊤ Refusal} → x ≡ first_found (passes s) → x ≡ Ok tt → n ≡ threads_of s → Accepted s n
 unfolding table_of
 known {s} f d e = record { rules = (passes_rules s).0 (sym f ∙ d); threads = e }
 
-pub returns-in-At : goal.returns-in-At
-returns-in-At c = let e = sym c.check_in-found.ensures.value ∙ c.in-At.is in record { value = not_sound _ _ _ _ _ _ _ _ _ _ e; parents_after = no_parents _ e; falls_after = c.check_in-found.ensures.rises_after.1 }
+pub returns-in-Err : goal.returns-in-Err
+returns-in-Err c = let e = sym c.check_in-found.ensures.value ∙ c.in-Err.is in record { value = not_sound _ _ _ _ _ _ _ _ _ _ e; parents_after = no_parents _ e; falls_after = c.check_in-found.ensures.rises_after.1 }
 
 pub fill_forks-requires : goal.fill_forks-requires
 fill_forks-requires c = record { accepted = known c.check_in-found.ensures.value c.in_default.is c.threads-n.ensures.value; forks_value = (refl, refl) }

@@ -32,12 +32,6 @@ returns-then-counts-t c =
     let a = c.args in
     passed_fails c.loop-t.invariant c.loop-t-test.true (other a.status.now a.counts.now _ _ c.holders_wanted.ensures c.if-counts-t.true)
 
-pub overflow_add-t : goal.overflow_add-t
-overflow_add-t c = omega arith
-
-pub loop-t-smaller : goal.loop-t-smaller
-loop-t-smaller c = omega arith
-
 pub loop-t-preserved : goal.loop-t-preserved
 loop-t-preserved c =
     passed_more c.loop-t.invariant (same c.args.status.now c.args.counts.now _ _ c.holders_wanted.ensures c.if-counts-t.false)

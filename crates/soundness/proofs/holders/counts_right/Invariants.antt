@@ -13,6 +13,3 @@ test status counts t = eqb (get_or counts t 0) (holders_wanted (get_or status t 
 
 abbrev pub invariant-loop-t : goal.invariant-loop-t
 invariant-loop-t l = Passed (test l.status l.counts) l.t
-
-abbrev pub decreases-loop-t : goal.decreases-loop-t
-decreases-loop-t l = l.n - l.t

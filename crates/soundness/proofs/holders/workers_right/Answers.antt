@@ -13,9 +13,6 @@ unfolding worker_right
 returns-then-not-worker_right c =
     passed_stop c.loop-w.invariant c.loop-w-test.true c.worker_right.ensures (ap not c.if-not-worker_right.true)
 
-pub loop-w-smaller : goal.loop-w-smaller
-loop-w-smaller c = omega arith
-
 pub loop-w-preserved : goal.loop-w-preserved
 unfolding worker_right
 loop-w-preserved c = passed_next c.loop-w.invariant c.worker_right.ensures (ap not c.if-not-worker_right.false)

@@ -6,6 +6,3 @@ use Rattle.soundness.proofs.holders.workers_right.Given as goal
 
 abbrev pub invariant-loop-w : goal.invariant-loop-w
 invariant-loop-w l = Passed (worker_right l.n l.p l.quota l.workers) l.w
-
-abbrev pub decreases-loop-w : goal.decreases-loop-w
-decreases-loop-w l = 16 - l.w

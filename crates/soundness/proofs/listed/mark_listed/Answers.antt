@@ -106,12 +106,6 @@ overflow_cast-marks c = omega arith
 pub bounds-marks-t : goal.bounds-marks-t
 bounds-marks-t c = omega arith
 
-pub overflow_add-i : goal.overflow_add-i
-overflow_add-i c = omega arith
-
-pub loop-i-smaller : goal.loop-i-smaller
-loop-i-smaller c = omega arith
-
 pub loop-i-preserved : goal.loop-i-preserved
 loop-i-preserved c =
     again _ c.args.list.now _ _ _ c.loop-i.invariant c.loop-i-test.true c.if-threads-t.false

@@ -19,6 +19,3 @@ pub record Inv (n : ℕ) (list : List ℕ) (len : ℕ) (marks : List Bool) (i : 
 
 abbrev pub invariant-loop-i : goal.invariant-loop-i
 invariant-loop-i l = Inv l.n l.list l.len l.marks l.i
-
-abbrev pub decreases-loop-i : goal.decreases-loop-i
-decreases-loop-i l = l.len - l.i

@@ -31,12 +31,6 @@ returns-then-marks-t c =
     let a = c.args in
     passed_stop c.loop-t.invariant c.loop-t-test.true (asked a.status.now a.marks.now _ _ c.is_live.ensures) c.if-marks-t.true
 
-pub overflow_add-t : goal.overflow_add-t
-overflow_add-t c = omega arith
-
-pub loop-t-smaller : goal.loop-t-smaller
-loop-t-smaller c = omega arith
-
 pub loop-t-preserved : goal.loop-t-preserved
 loop-t-preserved c =
     passed_next c.loop-t.invariant (asked c.args.status.now c.args.marks.now _ _ c.is_live.ensures) c.if-marks-t.false

@@ -37,12 +37,6 @@ pass-number-requires c =
     let both = ready c.args.table.now _ _ _ _ _ c.args.numbers.now _ c.requires.accepted c.loop-a.invariant c.loop-a-test.true c.requires.from_le_to.1 in
     record { accepted = c.requires.accepted; a_bound = both.0; numbers_to = both.1 }
 
-pub overflow_add-a : goal.overflow_add-a
-overflow_add-a c = omega arith
-
-pub loop-a-smaller : goal.loop-a-smaller
-loop-a-smaller c = omega arith
-
 pub loop-a-preserved : goal.loop-a-preserved
 loop-a-preserved c =
     again c.args.table.now _ _ _ _ _ c.args.numbers.now _ c.requires.accepted c.loop-a.invariant c.loop-a-test.true _ _

@@ -12,6 +12,3 @@ pub record Inv (s : List ℕ) (t to a number : ℕ) (before numbers : List ℕ) 
 
 abbrev pub invariant-loop-a : goal.invariant-loop-a
 invariant-loop-a l = Inv l.table (owner (table_of l.table) l.from) l.to l.a l.number l.initial.numbers l.numbers
-
-abbrev pub decreases-loop-a : goal.decreases-loop-a
-decreases-loop-a l = l.to - l.a

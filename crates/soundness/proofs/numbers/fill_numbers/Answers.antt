@@ -9,12 +9,6 @@ loop-t-init c = numbering_starts _ (accepted_lawful c.requires.accepted) c.args.
 pub number_thread-first-requires : goal.number_thread-first-requires
 number_thread-first-requires c = record { accepted = c.requires.accepted; placed = c.requires.placed; t_lt_n = c.loop-t-test.true; numbering = c.loop-t.invariant }
 
-pub overflow_add-t : goal.overflow_add-t
-overflow_add-t c = omega arith
-
-pub loop-t-smaller : goal.loop-t-smaller
-loop-t-smaller c = omega arith
-
 pub loop-t-preserved : goal.loop-t-preserved
 loop-t-preserved c = c.number_thread-first.ensures
 

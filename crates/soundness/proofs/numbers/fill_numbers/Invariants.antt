@@ -6,6 +6,3 @@ use Rattle.soundness.proofs.numbers.fill_numbers.Given as goal
 
 abbrev pub invariant-loop-t : goal.invariant-loop-t
 invariant-loop-t l = Numbering (table_of l.table) l.next l.t l.first l.numbers
-
-abbrev pub decreases-loop-t : goal.decreases-loop-t
-decreases-loop-t l = l.n - l.t

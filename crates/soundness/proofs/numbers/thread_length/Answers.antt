@@ -63,12 +63,6 @@ span-total-requires c =
 pub overflow_add-total : goal.overflow_add-total
 overflow_add-total c = omega (arith, c.loop-a.invariant, c.span-total.ensures)
 
-pub overflow_add-a : goal.overflow_add-a
-overflow_add-a c = omega arith
-
-pub loop-a-smaller : goal.loop-a-smaller
-loop-a-smaller c = omega arith
-
 pub loop-a-preserved : goal.loop-a-preserved
 loop-a-preserved c = again _ _ _ _ _ c.loop-a.invariant _ c.loop-a-test.true c.span-total.ensures
 

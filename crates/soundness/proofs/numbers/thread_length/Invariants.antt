@@ -18,6 +18,3 @@ pub record Inv (s : List ℕ) (t last total a : ℕ) : Type 0 where
 
 abbrev pub invariant-loop-a : goal.invariant-loop-a
 invariant-loop-a l = Inv l.table l.t l.last l.total l.a
-
-abbrev pub decreases-loop-a : goal.decreases-loop-a
-decreases-loop-a l = l.last - l.a

@@ -17,21 +17,9 @@ loop-a-init c =
 pub clear_child-requires : goal.clear_child-requires
 clear_child-requires c = let i = c.loop-a.invariant in record { accepted = i.accepted; a_bound = clearing_asks _ _ _ _ _ _ _ _ i c.loop-a-test.true; cleared = i.cleared }
 
-pub overflow_add-a : goal.overflow_add-a
-overflow_add-a c = omega arith
-
-pub loop-a-smaller : goal.loop-a-smaller
-loop-a-smaller c = omega arith
-
 pub loop-a-preserved : goal.loop-a-preserved
 loop-a-preserved c =
     clearing_goes _ _ _ _ _ _ _ _ c.loop-a.invariant c.loop-a-test.true _ c.clear_child.ensures
-
-pub overflow_add-t : goal.overflow_add-t
-overflow_add-t c = omega arith
-
-pub loop-t-smaller : goal.loop-t-smaller
-loop-t-smaller c = omega arith
 
 pub loop-t-preserved : goal.loop-t-preserved
 loop-t-preserved c = clearing_leaves _ _ _ _ _ _ _ _ c.loop-a.invariant c.loop-a-test.false

@@ -6,11 +6,5 @@ use Rattle.soundness.proofs.shares.clear_joined.Given as goal
 abbrev pub invariant-loop-a : goal.invariant-loop-a
 invariant-loop-a l = ClearingIn l.table l.n l.next l.status l.t l.stop l.amounts l.a
 
-abbrev pub decreases-loop-a : goal.decreases-loop-a
-decreases-loop-a l = l.stop - l.a
-
 abbrev pub invariant-loop-t : goal.invariant-loop-t
 invariant-loop-t l = Clearing l.table l.n l.next l.status l.amounts l.t
-
-abbrev pub decreases-loop-t : goal.decreases-loop-t
-decreases-loop-t l = l.n - l.t

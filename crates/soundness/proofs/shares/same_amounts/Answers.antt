@@ -13,12 +13,6 @@ returns-then-amounts-t c =
     passed_fails c.loop-t.invariant c.loop-t-test.true (ne_eqb _ _ c.if-amounts-t.true)
     ∙ same_places 1024 c.args.amounts.now c.args.others.now c.requires.0 c.requires.1
 
-pub overflow_add-t : goal.overflow_add-t
-overflow_add-t c = omega arith
-
-pub loop-t-smaller : goal.loop-t-smaller
-loop-t-smaller c = omega arith
-
 pub loop-t-preserved : goal.loop-t-preserved
 loop-t-preserved c = passed_more c.loop-t.invariant (eq-eqb _ _ c.if-amounts-t.false)
 

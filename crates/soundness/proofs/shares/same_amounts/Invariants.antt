@@ -6,6 +6,3 @@ use Rattle.soundness.proofs.shares.same_amounts.Given as goal
 
 abbrev pub invariant-loop-t : goal.invariant-loop-t
 invariant-loop-t l = Passed (same_at l.amounts l.others) l.t
-
-abbrev pub decreases-loop-t : goal.decreases-loop-t
-decreases-loop-t l = 1024 - l.t

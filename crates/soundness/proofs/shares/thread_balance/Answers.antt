@@ -10,12 +10,6 @@ loop-a-init c =
 pub balance_after-sum-requires : goal.balance_after-sum-requires
 balance_after-sum-requires c = record { balancing = c.loop-a.invariant.0; balanced = (c.loop-a.invariant.1, c.loop-a-test.true) }
 
-pub overflow_add-a : goal.overflow_add-a
-overflow_add-a c = omega arith
-
-pub loop-a-smaller : goal.loop-a-smaller
-loop-a-smaller c = omega arith
-
 pub loop-a-preserved : goal.loop-a-preserved
 loop-a-preserved c = (c.loop-a.invariant.0, c.balance_after-sum.ensures)
 

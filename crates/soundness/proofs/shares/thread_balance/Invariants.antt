@@ -5,6 +5,3 @@ use Rattle.soundness.proofs.shares.thread_balance.Given as goal
 
 abbrev pub invariant-loop-a : goal.invariant-loop-a
 invariant-loop-a l = Balancing l.table l.n l.t l.stop l.balances × Balanced l.table l.t l.stop l.a l.sum
-
-abbrev pub decreases-loop-a : goal.decreases-loop-a
-decreases-loop-a l = l.stop - l.a

@@ -1,4 +1,5 @@
 -- `soundness::sound::sound_parts` meets its contract: the common part comes first, then turns taken, then the list and its links.
+use Rattle.std.specs.Prelude.{Ok}
 use mathlib.Core.Path.{◌≡◌, ap, sym, ◌∙◌}
 use Prim.Native.Nat.{ℕ, ◌<◌}
 use mathlib.Core.List.{List}
@@ -10,7 +11,6 @@ use lib.Dec.{ltb}
 use Rattle.table.specs.Format.{threads_of, table_of}
 use Rattle.table.specs.Pass.{first_found}
 use Rattle.table.specs.Checks.{passes}
-use Rattle.table.specs.declared.Found.TheVariants.{Nothing}
 use Rattle.table.proofs.Passes.{passes_rules}
 use Rattle.schedule.specs.declared.Worker.{Worker}
 use Rattle.schedule.specs.Links.{Links, list_of, laid}
@@ -51,7 +51,7 @@ module _ (s : List ℕ) (p K : ℕ) (next status amounts : List ℕ) (workers : 
     all_sound e h n f = pass e (last in_links h (lt-ltb turns 18446744073709551615 (omega (arith, n, f)))) ∙ grouped
 
   module _ (e : shared ≡ true) where
-    no_check : first_found (passes s) ≡ Nothing
+    no_check : first_found (passes s) ≡ Ok tt
     unfolding common_sound
     no_check = (is_nothing_exactly _).0 (first_of _ _ e)
 

@@ -11,9 +11,6 @@ pub returns-then-bytes-i-ne0 : goal.returns-then-bytes-i-ne0
 returns-then-bytes-i-ne0 c =
     rest_fails c.args.bytes.now _ _ refl _ c.loop-i.invariant c.loop-i-test.true c.if-bytes-i-ne0.true
 
-pub loop-i-smaller : goal.loop-i-smaller
-loop-i-smaller c = omega arith
-
 pub loop-i-preserved : goal.loop-i-preserved
 loop-i-preserved c =
     rest_more c.args.bytes.now _ _ c.loop-i.invariant c.if-bytes-i-ne0.false

@@ -7,6 +7,3 @@ use Rattle.soundness.proofs.unused.bytes_rest.Given as goal
 
 abbrev pub invariant-loop-i : goal.invariant-loop-i
 invariant-loop-i l = PassedFrom l.used (is_zero l.bytes) l.i
-
-abbrev pub decreases-loop-i : goal.decreases-loop-i
-decreases-loop-i l = length l.bytes - l.i

@@ -35,9 +35,6 @@ returns-then-next-t-ne0 c =
     moved _ c.args.next.now c.args.status.now _ c.loop-t.invariant c.loop-t-test.true c.if-status-t-ne-UNBORN.false
     c.if-next-t-ne0.true
 
-pub loop-t-smaller : goal.loop-t-smaller
-loop-t-smaller c = omega arith
-
 pub loop-t-preserved : goal.loop-t-preserved
 loop-t-preserved c =
     again _ c.args.next.now c.args.status.now _ c.loop-t.invariant c.if-status-t-ne-UNBORN.false c.if-next-t-ne0.false

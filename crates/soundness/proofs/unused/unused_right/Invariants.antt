@@ -6,6 +6,3 @@ use Rattle.soundness.proofs.unused.unused_right.Given as goal
 
 abbrev pub invariant-loop-t : goal.invariant-loop-t
 invariant-loop-t l = PassedFrom l.n (unused l.next l.status) l.t
-
-abbrev pub decreases-loop-t : goal.decreases-loop-t
-decreases-loop-t l = 1024 - l.t

@@ -10,9 +10,6 @@ pub returns-then-l-t-ne0 : goal.returns-then-l-t-ne0
 returns-then-l-t-ne0 c =
     zeros_fail c.args.l.now _ c.loop-t.invariant c.loop-t-test.true c.if-l-t-ne0.true
 
-pub loop-t-smaller : goal.loop-t-smaller
-loop-t-smaller c = omega arith
-
 pub loop-t-preserved : goal.loop-t-preserved
 loop-t-preserved c =
     rest_more c.args.l.now 0 _ c.loop-t.invariant c.if-l-t-ne0.false

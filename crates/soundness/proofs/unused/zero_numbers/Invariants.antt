@@ -7,6 +7,3 @@ use Rattle.soundness.proofs.unused.zero_numbers.Given as goal
 
 abbrev pub invariant-loop-t : goal.invariant-loop-t
 invariant-loop-t l = PassedFrom 0 (is_zero l.l) l.t
-
-abbrev pub decreases-loop-t : goal.decreases-loop-t
-decreases-loop-t l = length l.l - l.t

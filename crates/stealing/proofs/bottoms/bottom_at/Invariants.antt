@@ -7,6 +7,3 @@ use Rattle.stealing.proofs.bottoms.bottom_at.Given as goal
 
 abbrev pub invariant-loop-i : goal.invariant-loop-i
 invariant-loop-i l = Passed ((words_in l.words).rows 5) (words_in l.words).first l.c l.b l.i
-
-abbrev pub decreases-loop-i : goal.decreases-loop-i
-decreases-loop-i l = l.c - l.i

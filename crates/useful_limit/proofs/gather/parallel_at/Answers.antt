@@ -4,8 +4,8 @@ use Rattle.useful_limit.proofs.Gathered.{parallel_given, parallel_refused}
 use borrow.Author.Rules.{rules}
 use Rattle.useful_limit.proofs.gather.parallel_at.Goals as goal
 
-pub returns-in-Given : goal.returns-in-Given
-returns-in-Given c = parallel_given _ c.requires (sym c.in-Given.is ∙ c.parallel_in-answer.ensures.value)
+pub returns-in-Ok : goal.returns-in-Ok
+returns-in-Ok c = parallel_given _ c.requires (sym c.in-Ok.is ∙ c.parallel_in-answer.ensures.value)
 
-pub returns-in-Refused : goal.returns-in-Refused
-returns-in-Refused c = absurd (parallel_refused _ c.requires (sym c.in-Refused.is ∙ c.parallel_in-answer.ensures.value))
+pub returns-in-Err : goal.returns-in-Err
+returns-in-Err c = absurd (parallel_refused _ c.requires (sym c.in-Err.is ∙ c.parallel_in-answer.ensures.value))

@@ -4,8 +4,8 @@ use Rattle.useful_limit.proofs.Gathered.{peak_given, peak_refused}
 use borrow.Author.Rules.{rules}
 use Rattle.useful_limit.proofs.gather.peak_at.Goals as goal
 
-pub returns-in-Given : goal.returns-in-Given
-returns-in-Given c = peak_given _ c.requires.0 _ _ c.requires.1 (sym c.in-Given.is ∙ c.peak_in-answer.ensures.value)
+pub returns-in-Ok : goal.returns-in-Ok
+returns-in-Ok c = peak_given _ c.requires.0 _ _ c.requires.1 (sym c.in-Ok.is ∙ c.peak_in-answer.ensures.value)
 
-pub returns-in-Refused : goal.returns-in-Refused
-returns-in-Refused c = absurd (peak_refused _ c.requires.0 _ _ c.requires.1 (sym c.in-Refused.is ∙ c.peak_in-answer.ensures.value))
+pub returns-in-Err : goal.returns-in-Err
+returns-in-Err c = absurd (peak_refused _ c.requires.0 _ _ c.requires.1 (sym c.in-Err.is ∙ c.peak_in-answer.ensures.value))

@@ -10,10 +10,10 @@ use Rattle.useful_limit.proofs.limit.limit_answer.Goals as goal
 pub returns-then-b-gt65535 : goal.returns-then-b-gt65535
 returns-then-b-gt65535 c = let a = c.args in let both = answer_wide a.table.now a.p a.quota a.b a.filled.now c.if-b-gt65535.true c.wide_fault.ensures.value in record { value = both.0; filled_after = both.1 }
 
-pub returns-in-At : goal.returns-in-At
-returns-in-At c = let a = c.args in
+pub returns-in-Err : goal.returns-in-Err
+returns-in-Err c = let a = c.args in
     let h = c.if-b-gt65535.false in
-    let e = c.begin_fault-filling.ensures.value in let both = answer_found a.table.now a.p a.quota a.b a.filled.now h _ e c.in-At.is in record { value = both.0; filled_after = both.1 }
+    let e = c.begin_fault-filling.ensures.value in let both = answer_found a.table.now a.p a.quota a.b a.filled.now h _ e c.in-Err.is in record { value = both.0; filled_after = both.1 }
 
 pub numbers_for-requires : goal.numbers_for-requires
 numbers_for-requires c =

@@ -1,4 +1,5 @@
 -- `useful_limit::line::limit_to` meets its contract: what follows the eight bytes is the table.
+use Rattle.std.specs.Prelude.{Err}
 use mathlib.Core.Path.{◌≡◌, ◌∙◌}
 use Prim.Native.Nat.{ℕ, ◌-◌, ◌≤◌, ◌<◌}
 use mathlib.Core.List.{List}
@@ -8,14 +9,13 @@ use Rattle.table.specs.Format.{u24_at, u32_at}
 use Rattle.table.specs.Pass.{refusal}
 use Rattle.table.proofs.Parts.{rest_part}
 use Rattle.quota.specs.Line.{workers_in}
-use Rattle.useful_limit.specs.declared.Limits.TheVariants.{Refused}
 use Rattle.useful_limit.specs.Limits.{limits}
 use Rattle.useful_limit.specs.Line.{limits_to}
 use borrow.Author.Rules.{rules}
 use Rattle.useful_limit.proofs.line.limit_to.Goals as goal
 
 module _ (s : List ℕ) where
-  short : length s < 8 → Refused (refusal 33 0) ≡ limits_to s
+  short : length s < 8 → Err (refusal 33 0) ≡ limits_to s
   unfolding limits_to
   short h = rw (lt-ltb (length s) 8 h)
 

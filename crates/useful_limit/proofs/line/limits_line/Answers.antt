@@ -18,15 +18,15 @@ put_whole s o r t h p =
     let q = line_put s o r t [] (omega (arith, i)) p.put in
     (q.0, (q.1, omega (arith, q.0, i)))
 
-pub returns-in-Given : goal.returns-in-Given
-returns-in-Given c =
+pub returns-in-Ok : goal.returns-in-Ok
+returns-in-Ok c =
     record {
-      value = rw c.in-Given.is c.numbers_line.ensures.value;
-      out_after = rw c.in-Given.is c.numbers_line.ensures.out_after;
+      value = rw c.in-Ok.is c.numbers_line.ensures.value;
+      out_after = rw c.in-Ok.is c.numbers_line.ensures.out_after;
       upper_bound = c.numbers_line.ensures.upper_bound;
     }
 
-pub returns-in-Refused : goal.returns-in-Refused
-returns-in-Refused c =
+pub returns-in-Err : goal.returns-in-Err
+returns-in-Err c =
     let e = put_whole c.args.out.now _ _ _ (omega (arith, c.put_answer-arg-1.given)) c.put_answer.ensures in
-    record { value = rw c.in-Refused.is e.0; out_after = rw c.in-Refused.is e.1.0; upper_bound = e.1.1 }
+    record { value = rw c.in-Err.is e.0; out_after = rw c.in-Err.is e.1.0; upper_bound = e.1.1 }

@@ -5,10 +5,10 @@ use Rattle.wivakkol.proofs.Begins.{handed_into, refuses, lacks, starts}
 use borrow.Author.Rules.{rules}
 use Rattle.wivakkol.proofs.begin.wivakkol_begin_on.Goals as goal
 
-pub returns-in-At : goal.returns-in-At
-returns-in-At c = let s = c.args.table.now in record {
+pub returns-in-Err : goal.returns-in-Err
+returns-in-Err c = let s = c.args.table.now in record {
   totals_after = refuses s c.args.p c.args.quota c.workers.ensures (length c.args.filled.now) c.accept_in-filling.ensures.value c.accept_in-filling.ensures.next_after c.accept_in-filling.ensures.parents_after
-      (c.put_nobody.ensures.holds_after, c.put_nobody.ensures.heads_after) c.in-At.is (c.put_links.ensures.left_after, c.put_links.ensures.under_after);
+      (c.put_nobody.ensures.holds_after, c.put_nobody.ensures.heads_after) c.in-Err.is (c.put_links.ensures.left_after, c.put_links.ensures.under_after);
   filled_after = c.accept_in-filling.ensures.filled_after ∙ handed_into s c.args.p c.args.quota c.workers.ensures c.args.filled.now;
   rises_after = c.accept_in-filling.ensures.rises_after;
 }

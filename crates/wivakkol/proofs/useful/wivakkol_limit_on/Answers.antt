@@ -3,14 +3,14 @@ use borrow.Author.Rules.{rules}
 use Rattle.wivakkol.proofs.UsefulRows.{limit_handed, limit_given, limit_refused}
 use Rattle.wivakkol.proofs.useful.wivakkol_limit_on.Goals as goal
 
-pub returns-in-Given : goal.returns-in-Given
-returns-in-Given c = let a = c.args in
+pub returns-in-Ok : goal.returns-in-Ok
+returns-in-Ok c = let a = c.args in
     let e = c.limit_in-answer.ensures in
     let q = limit_handed a.table.now a.quota a.b a.p a.filled.now c.workers-w.ensures e.value e.filled_after in
-    let r = limit_given q.0 c.in-Given.is in record { value = r.0; row_after = r.1; filled_after = q.1; rises_after = e.rises_after }
+    let r = limit_given q.0 c.in-Ok.is in record { value = r.0; row_after = r.1; filled_after = q.1; rises_after = e.rises_after }
 
-pub returns-in-Refused : goal.returns-in-Refused
-returns-in-Refused c = let a = c.args in
+pub returns-in-Err : goal.returns-in-Err
+returns-in-Err c = let a = c.args in
     let e = c.limit_in-answer.ensures in
     let q = limit_handed a.table.now a.quota a.b a.p a.filled.now c.workers-w.ensures e.value e.filled_after in
-    let r = limit_refused q.0 c.in-Refused.is in record { value = r.0; row_after = r.1; filled_after = q.1; rises_after = e.rises_after }
+    let r = limit_refused q.0 c.in-Err.is in record { value = r.0; row_after = r.1; filled_after = q.1; rises_after = e.rises_after }

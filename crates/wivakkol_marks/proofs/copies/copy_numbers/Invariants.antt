@@ -10,6 +10,3 @@ use Rattle.wivakkol_marks.proofs.copies.copy_numbers.Given as goal
 
 abbrev pub invariant-loop-i : goal.invariant-loop-i
 invariant-loop-i l = Copying l.initial.to l.at (drop l.start l.from) l.n l.to l.i
-
-abbrev pub decreases-loop-i : goal.decreases-loop-i
-decreases-loop-i l = l.n - l.i

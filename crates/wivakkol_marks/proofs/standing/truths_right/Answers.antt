@@ -13,9 +13,6 @@ use Rattle.wivakkol_marks.proofs.standing.truths_right.Goals as goal
 pub loop-w-init : goal.loop-w-init
 loop-w-init c = passed_none
 
-pub overflow_add-w : goal.overflow_add-w
-overflow_add-w c = omega arith
-
 pub bounds-bytes-w : goal.bounds-bytes-w
 bounds-bytes-w c = omega arith
 
@@ -30,9 +27,6 @@ returns-then-bytes-w-gt1 c =
 
 pub overflow_add-w-in-loop-w : goal.overflow_add-w-in-loop-w
 overflow_add-w-in-loop-w c = omega arith
-
-pub loop-w-smaller : goal.loop-w-smaller
-loop-w-smaller c = omega arith
 
 pub loop-w-preserved : goal.loop-w-preserved
 loop-w-preserved c =
