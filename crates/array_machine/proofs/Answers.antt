@@ -1,4 +1,6 @@
 -- What a turn of a record that is sound but for its turns taken answers, by the checks; how many threads it passes over.
+use Rattle.std.specs.Prelude.{Err}
+use Rattle.schedule.specs.Turn.{taken_turn}
 use mathlib.Core.Path.{◌≡◌, refl, ap, ◌∙◌}
 use Prim.Native.Nat.{ℕ, ◌-◌, ◌^◌, ◌≤◌, ◌<◌}
 use native.Mathlib.Omega.{arith}
@@ -10,8 +12,6 @@ use Rattle.table.specs.Pass.{refusal, try_at}
 use Rattle.table.specs.Sum.{pick}
 use Rattle.schedule.specs.declared.Run.{Run}
 use Rattle.schedule.specs.declared.Turned.{Turned}
-use Rattle.schedule.specs.declared.Turning.TheVariants.{Taken}
-use Rattle.schedule.specs.declared.Turning.TheVariants.{Refused as refused_turn}
 use Rattle.schedule.specs.Machine.{worker_of, leftmost, passed_by}
 use Rattle.schedule.specs.Links.{no_thread, seek}
 use Rattle.table.specs.Checks.{max_threads}
@@ -46,7 +46,7 @@ steady_room r h k e = rw ((sound_exactly r).1 (record { steady = h; turns = omeg
 -- ---- a single turn
 
 abbrev pub refused_as : ℕ → Run → Turned
-refused_as number r = record { answer = refused_turn (refusal number 0); run = r }
+refused_as number r = record { answer = Err (refusal number 0); run = r }
 
 module _ (r : Run) (w : ℕ) where
   pub turned_unsound : unsound r ≡ true → refused_as 32 r ≡ turned r w
@@ -63,7 +63,7 @@ module _ (r : Run) (w : ℕ) where
       unfolding turned turn_checks try_at no_worker
       turned_over o = rw (e, lt-ltb w r.workers h, o)
 
-      pub turned_taken : root_ended r ≡ false → record { answer = Taken (step_run r w).reply (passed_in r w); run = moved r w } ≡ turned r w
+      pub turned_taken : root_ended r ≡ false → record { answer = taken_turn (step_run r w).reply (passed_in r w); run = moved r w } ≡ turned r w
       unfolding turned turn_checks try_at no_worker
       turned_taken o = rw (e, lt-ltb w r.workers h, o)
 

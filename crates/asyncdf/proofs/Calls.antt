@@ -1,4 +1,6 @@
 -- A call by value on a record that passed check 32 is the call in the memory into which the record was packed: on a sound record by the law of refinement, and on the blank one at once.
+use Rattle.std.specs.Prelude.{Ok}
+use Rattle.schedule.specs.Turn.{taken_turn}
 use mathlib.Core.Path.{◌≡◌, refl, sym, ap, ◌∙◌}
 use Prim.Native.Nat.{ℕ, ◌-◌, ◌^◌, ◌≤◌, ◌<◌}
 use native.Mathlib.Omega.{arith}
@@ -14,7 +16,6 @@ use Rattle.schedule.specs.declared.Run.{Run}
 use Rattle.schedule.specs.declared.Begun.{Begun}
 use Rattle.schedule.specs.declared.Ran.{Ran}
 use Rattle.schedule.specs.declared.Turned.{Turned}
-use Rattle.schedule.specs.declared.Turning.TheVariants.{Taken}
 use Rattle.schedule.specs.declared.Reply.{Reply}
 use Rattle.schedule.specs.declared.Report.{Report}
 use Rattle.schedule.specs.declared.Report.TheVariants.{Spent, Refused}
@@ -133,17 +134,17 @@ module _ (run : Run) (e : unsound run ≡ false) (parents : List ℕ) (right : S
           ap (refused_as t.number) (sym k) ∙ q
 
   pub turn_taken : (w : ℕ) {t : Told} {k : ℕ} {r : Run} → t ≡ turn_in s w M → t.number ≡ 0 → k ≡ pick (eqb t.number 0) (passed_over M w) 0 → r ≡ record_of run t.memory
-      → record { answer = Taken t.reply k; run = r } ≡ turned run w
+      → record { answer = taken_turn t.reply k; run = r } ≡ turned run w
   turn_taken w {t} {k} f d q b =
       let passed : k ≡ passed_over M w = rw d at q in
-      (λ i. record { answer = Taken t.reply (passed i); run = b i }) ∙ go (ℕ_discrete run.workers 0)
+      (λ i. record { answer = taken_turn t.reply (passed i); run = b i }) ∙ go (ℕ_discrete run.workers 0)
     where
-      go : Dec (run.workers ≡ 0) → record { answer = Taken t.reply (passed_over M w); run = record_of run t.memory } ≡ turned run w
+      go : Dec (run.workers ≡ 0) → record { answer = taken_turn t.reply (passed_over M w); run = record_of run t.memory } ≡ turned run w
       go (yes n) = absurd (let k : t.number ≡ 30 = ap (λ (x : Told). x.number) (f ∙ no_turn s M (workers_none n) (turns_few n) w) in omega (arith, k, d))
       go (no n) =
           let v = turn_value (sound_here n).steady parents m (right (sound_here n)) (fits n) w f in
           let b = turn_record (sound_here n).steady parents m (right (sound_here n)) (fits n) w f in
-          ap (λ (x : Run). record { answer = Taken t.reply (passed_over M w); run = x }) b ∙ (rw d at v)
+          ap (λ (x : Run). record { answer = taken_turn t.reply (passed_over M w); run = x }) b ∙ (rw d at v)
 
   -- ---- runs
 

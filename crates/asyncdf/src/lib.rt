@@ -2,11 +2,10 @@
 // pack the record into the blocks of crates/run_memory, take their turns there, and read it back.
 #![tactic(auto)]
 
-ghost use Rattle.std.specs.Prelude.{◌≡◌};
+ghost use Rattle.std.specs.Prelude.{◌≡◌, Err};
 ghost use Rattle.std.specs.Int.Count.{ones};
 ghost use Rattle.table.specs.Sum.{pick};
 ghost use Rattle.table.specs.Pass.{refusal};
-ghost use Rattle.schedule.specs.declared.Turning.TheVariants.{Refused};
 ghost use Rattle.schedule.specs.declared.Report.TheVariants.{Refused as Stopped};
 ghost use Rattle.schedule.specs.Answers.{beginning_values, turning_values, report_values};
 ghost use Rattle.schedule.specs.Values.{begin_values, turn_values, list_values, rounds_values};
@@ -24,7 +23,7 @@ use crate::beginning::{blank, start};
 use run_memory::packing::{pack, unpack};
 use run_memory::runs::{Stop, list_in, rounds_in};
 use run_memory::turn_in;
-use schedule::{Begun, Ran, Report, Run, Turned, Turning};
+use schedule::{Begun, Ran, Report, Run, Taken, Turned};
 use soundness::{accept, test};
 use table::Refusal;
 
@@ -60,10 +59,10 @@ pub fn begin(bytes: &[u8], p: u8, quota: u32) -> Begun
 }
 
 fn refused(number: u8, run: Run) -> Turned
-    ensures { result ≡ record { answer = Refused (refusal number 0); run = run } }
+    ensures { result ≡ record { answer = Err (refusal number 0); run = run } }
 {
     Turned {
-        answer: Turning::Refused(Refusal { number, place: 0 }),
+        answer: Err(Refusal { number, place: 0 }),
         run,
     }
 }
@@ -106,9 +105,11 @@ pub fn turn(run: Run, w: u8) -> Turned
         return refused(spoken.number as u8, run);
     }
     let after = unpack(run, &bytes, &words, &numbers, &sums);
-    let reply = spoken.reply;
     Turned {
-        answer: Turning::Taken(reply, spoken.passed),
+        answer: Ok(Taken {
+            reply: spoken.reply,
+            passed: spoken.passed,
+        }),
         run: after,
     }
 }

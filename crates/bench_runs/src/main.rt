@@ -5,7 +5,7 @@
 
 ghost use Rattle.std.specs.Prelude.{◌<◌};
 
-use schedule::{Reply, Report, Run, Turning};
+use schedule::{Reply, Report, Run};
 use std::io;
 use std::io::Write;
 use streams::read_full;
@@ -60,10 +60,10 @@ fn turn_once(run: Run, total: u64) -> u64 {
     let turned = asyncdf::turn(run, w);
     let answer = turned.answer;
     match answer {
-        Turning::Taken(reply, passed) => {
-            std::num::wrapping_add_u64(reply_value(reply), passed as u64)
+        Ok(taken) => {
+            std::num::wrapping_add_u64(reply_value(taken.reply), taken.passed as u64)
         }
-        Turning::Refused(refusal) => refusal.number as u64,
+        Err(refusal) => refusal.number as u64,
     }
 }
 

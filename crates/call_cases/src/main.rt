@@ -10,7 +10,7 @@ ghost use Rattle.io.specs.Counts.{IsPrefixLen};
 use pace::kept;
 use pacing::Pace;
 use preview::Previewed;
-use schedule::{Reply, Report, Run, Turning, Worker};
+use schedule::{Reply, Report, Run, Taken, Worker};
 use std::io;
 use std::io::Write;
 use streams::read_full;
@@ -297,13 +297,13 @@ fn put(run: Run, field: u8, i: usize, x: u64) -> Run {
 
 // ---- the calls
 
-fn tell_turning(rt: &HostRuntime, answer: Turning) -> io::Result<()> {
+fn tell_turning(rt: &HostRuntime, answer: Result<Taken, Refusal>) -> io::Result<()> {
     match answer {
-        Turning::Taken(reply, passed) => {
-            tell_reply(rt, reply)?;
-            tell(rt, b" passed ", passed as u64)?;
+        Ok(taken) => {
+            tell_reply(rt, taken.reply)?;
+            tell(rt, b" passed ", taken.passed as u64)?;
         }
-        Turning::Refused(x) => {
+        Err(x) => {
             say(rt, b"refused")?;
             tell_refusal(rt, x)?;
         }

@@ -1,13 +1,11 @@
 -- The chart of a run over an order (change request N5): a line for the record as it stands, and one for the record after each turn.
 use Rattle.std.specs.Prelude.{ℕ, List, [], ◌∷◌, ◌++◌, Err, Ok, Result, ⊤}
+use Rattle.schedule.specs.declared.Taken.{Taken}
 use Rattle.table.specs.declared.Refusal.{Refusal}
 use Rattle.table.specs.Sum.{pick}
 use Rattle.text.specs.Text.{refused_line}
 use Rattle.schedule.specs.declared.Run.{Run}
 use Rattle.schedule.specs.declared.Turned.{Turned}
-use Rattle.schedule.specs.declared.Turning.{Turning}
-use Rattle.schedule.specs.declared.Turning.TheVariants.{Taken}
-use Rattle.schedule.specs.declared.Turning.TheVariants.{Refused as refused_turn}
 use Rattle.schedule.specs.Turn.{root_ended, turned}
 use Rattle.chart.specs.Chart.{figures, line_texts, charted}
 
@@ -17,9 +15,9 @@ line_then (Ok _) r rest = line_texts (figures r) ++ rest
 line_then (Err x) r rest = refused_line x ∷ []
 
 -- what comes after a turn; its refusal is the last line
-abbrev pub turn_then : Turning → List (List ℕ) → List (List ℕ)
-turn_then (Taken x k) rest = rest
-turn_then (refused_turn x) rest = refused_line x ∷ []
+abbrev pub turn_then : Result Taken Refusal → List (List ℕ) → List (List ℕ)
+turn_then (Ok t) rest = rest
+turn_then (Err x) rest = refused_line x ∷ []
 
 -- the lines after each turn of an order's workers, up to the root's end, the order's end or a refusal
 abbrev pub later_lines : (Run → Result ⊤ Refusal) → (Run → ℕ → Turned) → Run → List ℕ → List (List ℕ)

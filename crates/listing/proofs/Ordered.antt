@@ -1,5 +1,6 @@
 -- The texts of the turns of an order, of a listing or of a chart, turn by turn, and what the loop over the order keeps: whoever puts the texts of the rest puts those of the whole.
 use Rattle.std.specs.Prelude.{Err, Ok}
+use Rattle.schedule.specs.Turn.{taken_turn}
 use Prim.Native.Nat.{ℕ, suc, ◌+◌, ◌*◌, ◌≤◌, ◌<◌}
 use native.Mathlib.Numerals.{add-one}
 use native.Mathlib.Omega.{arith}
@@ -13,7 +14,6 @@ use Rattle.text.specs.Text.{refused_line}
 use Rattle.schedule.specs.declared.Run.{Run}
 use Rattle.schedule.specs.declared.Reply.{Reply}
 use Rattle.schedule.specs.declared.Turned.{Turned}
-use Rattle.schedule.specs.declared.Turning.TheVariants.{Taken, Refused}
 use Rattle.schedule.specs.Turn.{root_ended, turned}
 use Rattle.schedule.specs.Listing.{line, told_by, last_with, last_of}
 use Rattle.lines.specs.Lines.{last_texts, lines_then}
@@ -37,12 +37,12 @@ texts_ended false r [] e = refl
 texts_ended false r (w ∷ order) e = rw e
 
 module _ (r : Run) (w : ℕ) {t : Turned} (going : root_ended r ≡ false) (e : t ≡ turned r w) where
-  pub texts_refused : (chart : Bool) (order : List ℕ) {x : Refusal} → t.answer ≡ Refused x → turns_texts chart r (w ∷ order) ≡ refused_line x ∷ []
+  pub texts_refused : (chart : Bool) (order : List ℕ) {x : Refusal} → t.answer ≡ Err x → turns_texts chart r (w ∷ order) ≡ refused_line x ∷ []
   unfolding turns_texts lines_then last_texts
   texts_refused true order q = rw (going, ← e, q)
   texts_refused false order q = rw (going, ← e, q)
 
-  module _ {x : Reply} {k : ℕ} (q : t.answer ≡ Taken x k) where
+  module _ {x : Reply} {k : ℕ} (q : t.answer ≡ taken_turn x k) where
     -- a chart's line of the record after the turn is refused
     pub texts_many : (order : List ℕ) {z : Refusal} → charted t.run ≡ Err z → turns_texts true r (w ∷ order) ≡ refused_line z ∷ []
     unfolding turns_texts
@@ -101,7 +101,7 @@ module _ {chart : Bool} {order out₀ : List ℕ} {at₀ : ℕ} {run₀ : Run} {
     refused x q p = whole (rw (drop-cons order i 0 h) (q (drop (suc i) order))) p
 
     -- a turn
-    pub again : {t : Turned} {o : List ℕ} {r : ℕ} {x : Reply} {k : ℕ} → root_ended run ≡ false → t ≡ turned run (get_or order i 0) → t.answer ≡ Taken x k
+    pub again : {t : Turned} {o : List ℕ} {r : ℕ} {x : Reply} {k : ℕ} → root_ended run ≡ false → t ≡ turned run (get_or order i 0) → t.answer ≡ taken_turn x k
         → (chart ≡ true → charted t.run ≡ Ok tt) → length o ≡ length out
         → Puts out at o r (after_texts chart (figures t.run) (line t.run.turns (get_or order i 0) (told_by x t.run) t.run.held)) (widest chart)
         → Listed chart order out₀ at₀ run₀ o t.run r (i + 1)

@@ -1,6 +1,8 @@
 -- The limits with b and no hypothesis on the row, by value. Every paced call on a record is a call without a pace, of the turns that it took, each of which the pace let through (`move_one`); so
 -- what is proved of those calls holds.
 use Rattle.std.specs.Prelude.{Err, Ok, Result, ⊤}
+use Rattle.schedule.specs.declared.Taken.{Taken}
+use Rattle.schedule.specs.Turn.{taken_turn}
 use Rattle.table.specs.declared.Refusal.{Refusal}
 use mathlib.Core.Path.{◌≡◌, refl, sym, ap, ap₂, subst, ◌∙◌}
 use Prim.Native.Nat.{ℕ, zero, suc, ◌+◌, ◌-◌, ◌^◌, ◌<◌, ◌≤◌}
@@ -19,9 +21,6 @@ use Rattle.order.proofs.Lists.{firsts_take}
 use Rattle.filling.specs.Filled.{filled_out}
 use Rattle.schedule.specs.declared.Run.{Run}
 use Rattle.schedule.specs.declared.Ran.{Ran}
-use Rattle.schedule.specs.declared.Turning.{Turning}
-use Rattle.schedule.specs.declared.Turning.TheVariants.{Taken}
-use Rattle.schedule.specs.declared.Turning.TheVariants.{Refused as refused_turn}
 use Rattle.schedule.specs.declared.Report.{Report}
 use Rattle.schedule.specs.declared.Report.TheVariants.{Finished, Spent, Refused}
 use Rattle.schedule.specs.Begin.{begin, start_run}
@@ -209,15 +208,15 @@ module _ (r : Run) (P : Pace) where
   unfolding paced_turned after_call row_of
   turn_one w = go (turned r w).answer refl (eqb (may_number P.numbers w) 0) refl
     where
-      through : (x : Turning) → (turned r w).answer ≡ x → {l : List ℕ} → Lets r.workers P.numbers (turn_row x w) l → One r P (turn_row x w) (beside (turned r w).run (record { numbers = l }))
-      through x e h = record { call = turn w; record_is = refl; row_is = ap (λ (y : Turning). turn_row y w) e; lets = h; workers = turned_workers w }
+      through : (x : Result Taken Refusal) → (turned r w).answer ≡ x → {l : List ℕ} → Lets r.workers P.numbers (turn_row x w) l → One r P (turn_row x w) (beside (turned r w).run (record { numbers = l }))
+      through x e h = record { call = turn w; record_is = refl; row_is = ap (λ (y : Result Taken Refusal). turn_row y w) e; lets = h; workers = turned_workers w }
 
-      go : (x : Turning) → (turned r w).answer ≡ x → (m : Bool) → eqb (may_number P.numbers w) 0 ≡ m
-          → let d = pick (is_taken x) (pick m (paced_turn x (turned r w).run (counted P w)) (paced_turn (refused_turn (refusal (may_number P.numbers w) 0)) r P)) (paced_turn x (turned r w).run P) in
+      go : (x : Result Taken Refusal) → (turned r w).answer ≡ x → (m : Bool) → eqb (may_number P.numbers w) 0 ≡ m
+          → let d = pick (is_taken x) (pick m (paced_turn x (turned r w).run (counted P w)) (paced_turn (Err (refusal (may_number P.numbers w) 0)) r P)) (paced_turn x (turned r w).run P) in
           One r P (turn_row d.answer w) (after_turn d)
-      go (Taken y k) e true f = through (Taken y k) e (step (below w (ap is_taken e)) (number_lets P.numbers w (eqb-true (may_number P.numbers w) 0 f)) stay)
-      go (Taken y k) e false f = idle r P
-      go (refused_turn y) e m f = through (refused_turn y) e stay
+      go (Ok t) e true f = through (taken_turn t.reply t.passed) e (step (below w (ap is_taken e)) (number_lets P.numbers w (eqb-true (may_number P.numbers w) 0 f)) stay)
+      go (Ok t) e false f = idle r P
+      go (Err y) e m f = through (Err y) e stay
 
   move_one : (c : Call) → One r P (move_row c r P) (paced_move c r P)
   unfolding paced_move move_row paced_list_run paced_rounds_run

@@ -1,5 +1,7 @@
 -- A beginning of a pace and a paced turn, by the answers of the calls below them.
-use Rattle.std.specs.Prelude.{Err, Ok}
+use Rattle.std.specs.Prelude.{Err, Ok, Result}
+use Rattle.table.specs.declared.Refusal.{Refusal}
+use Rattle.schedule.specs.declared.Taken.{Taken}
 use mathlib.Core.Path.{◌≡◌, refl, ap, ◌∙◌}
 use Prim.Native.Nat.{ℕ, ◌≤◌, ◌<◌}
 use native.Mathlib.Omega.{arith}
@@ -13,8 +15,6 @@ use Rattle.table.specs.Pass.{refusal}
 use Rattle.table.proofs.Tests.{no_way}
 use Rattle.schedule.specs.declared.Run.{Run}
 use Rattle.schedule.specs.declared.Turned.{Turned}
-use Rattle.schedule.specs.declared.Turning.{Turning}
-use Rattle.schedule.specs.declared.Turning.TheVariants.{Refused}
 use Rattle.schedule.specs.Turn.{turned}
 use Rattle.pace.specs.Pace.{Paced, paced, blank, start_pace, may_number, took}
 use Rattle.wivakkol_pace.proofs.PacedNumbers.{may_small}
@@ -85,10 +85,10 @@ module _ (r : Run) (P : Pace) (w : ℕ) {t : Turned} (e : t ≡ turned r w) wher
   refused_so d = rw (← e, d) refl
 
   module _ {n : ℕ} (k : n ≡ may_number P.numbers w) where
-    pub held_so : is_taken t.answer ≡ true → (n ≡ 0 → ⊥) → paced_turn (Refused (refusal n 0)) r P ≡ paced_turned r P w
+    pub held_so : is_taken t.answer ≡ true → (n ≡ 0 → ⊥) → paced_turn (Err (refusal n 0)) r P ≡ paced_turned r P w
     unfolding paced_turned
     held_so d m = rw (← e, d, ← k, ne_eqb n 0 m) refl
 
-    pub taken_so : {x : Turning} {l : List ℕ} → t.answer ≡ x → is_taken x ≡ true → n ≡ 0 → l ≡ took P.numbers w → paced_turn x t.run (pace l) ≡ paced_turned r P w
+    pub taken_so : {x : Result Taken Refusal} {l : List ℕ} → t.answer ≡ x → is_taken x ≡ true → n ≡ 0 → l ≡ took P.numbers w → paced_turn x t.run (pace l) ≡ paced_turned r P w
     unfolding paced_turned
     taken_so {x} {l} a d m q = rw (← e, a, d, ← k, m, q) refl

@@ -1,5 +1,7 @@
 -- Paced calls on E with two workers, K 6 and b 1, computed on the definitions: what they report, the turns of the record, and the least b kept.
-use Rattle.std.specs.Prelude.{◌≡◌, refl, ℕ, List, [], ◌∷◌, length, get_or}
+use Rattle.std.specs.Prelude.{◌≡◌, refl, ℕ, List, [], ◌∷◌, length, get_or, Err, Result}
+use Rattle.table.specs.declared.Refusal.{Refusal}
+use Rattle.schedule.specs.declared.Taken.{Taken}
 use Rattle.table.specs.Sum.{sum_to, any_below}
 use Rattle.table.specs.Format.{code_of, kind_of, is, table_of}
 use Rattle.table.specs.Pass.{refusal, try_at}
@@ -7,10 +9,8 @@ use Rattle.table.specs.Checks.{owner_below, alloc_of, free_of, whole_within}
 use Rattle.table.specs.Level.{fork_below}
 use Rattle.table.specs.Cases.{E}
 use Rattle.order.specs.Firsts.{firsts}
-use Rattle.schedule.specs.declared.Turning.{Turning}
 use Rattle.schedule.specs.declared.Report.{Report}
 use Rattle.schedule.specs.declared.Report.TheVariants.{Finished, Refused}
-use Rattle.schedule.specs.declared.Turning.TheVariants.{Refused as refused_turn}
 use Rattle.schedule.specs.Machine.{left_of, without, waits_for, woken, act_by, act, leftmost, taken, turn_free, turn_of, passed_by}
 use Rattle.schedule.specs.Record.{set_of}
 use Rattle.schedule.specs.Begin.{start_state, start_run}
@@ -51,10 +51,10 @@ unfolding code_of sum_to any_below kind_of is table_of owner_below alloc_of free
 rounds_worked = refl
 
 -- a single turn that would break the rule: 60; 30 comes before it, and once the run is over 31
-abbrev answered : ℕ → PacedRan → Turning
+abbrev answered : ℕ → PacedRan → Result Taken Refusal
 answered w d = (paced_by (turned_sound d.run w) d.run d.pace w).answer
 
-turn_worked : (answered 0 (over_list (0 ∷ 1 ∷ 0 ∷ [])) ≡ refused_turn (refusal 60 0)) × (answered 2 (over_list (0 ∷ 1 ∷ 0 ∷ [])) ≡ refused_turn (refusal 30 0))
-    × (answered 1 (in_rounds 99 (over_list [])) ≡ refused_turn (refusal 31 0))
+turn_worked : (answered 0 (over_list (0 ∷ 1 ∷ 0 ∷ [])) ≡ Err (refusal 60 0)) × (answered 2 (over_list (0 ∷ 1 ∷ 0 ∷ [])) ≡ Err (refusal 30 0))
+    × (answered 1 (in_rounds 99 (over_list [])) ≡ Err (refusal 31 0))
 unfolding code_of sum_to any_below kind_of is table_of owner_below alloc_of free_of whole_within fork_below left_of without waits_for woken act_by act leftmost taken turn_free turn_of set_of firsts walk right_in start_state start_run root_ended no_worker step_run passed_by passed_in try_at most_from asked may may_number next_in counted renewed took paced_drive
 turn_worked = (refl, refl, refl)

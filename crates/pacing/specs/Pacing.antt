@@ -1,13 +1,11 @@
 -- A pace beside a run, by value: the turn and the runs of a record (crates/schedule), where a turn that would break the rule with b is refused, and one that is taken is counted (crates/pace).
 use Rattle.std.specs.Prelude.{ℕ, zero, suc, ◌-◌, ◌^◌, List, Bool, true, false, ◌&&◌, length, get_or, replicate, ltb, leb, eqb, Err, Ok, Result, ⊤}
+use Rattle.schedule.specs.declared.Taken.{Taken}
 use Rattle.table.specs.declared.Refusal.{Refusal}
 use Rattle.table.specs.Sum.{pick}
 use Rattle.table.specs.Pass.{refusal}
 use Rattle.schedule.specs.declared.Run.{Run}
 use Rattle.schedule.specs.declared.Turned.{Turned}
-use Rattle.schedule.specs.declared.Turning.{Turning}
-use Rattle.schedule.specs.declared.Turning.TheVariants.{Taken}
-use Rattle.schedule.specs.declared.Turning.TheVariants.{Refused as refused_turn}
 use Rattle.schedule.specs.declared.Report.{Report}
 use Rattle.schedule.specs.declared.Report.TheVariants.{Finished, Spent, Refused}
 use Rattle.schedule.specs.Turn.{unsound, root_ended, no_worker, turned}
@@ -38,11 +36,11 @@ begin_pace p b =
 
 -- ---- a turn
 
-abbrev pub is_taken : Turning → Bool
-is_taken (Taken x k) = true
-is_taken (refused_turn x) = false
+abbrev pub is_taken : Result Taken Refusal → Bool
+is_taken (Ok t) = true
+is_taken (Err x) = false
 
-abbrev pub paced_turn : Turning → Run → Pace → PacedTurned
+abbrev pub paced_turn : Result Taken Refusal → Run → Pace → PacedTurned
 paced_turn x r P = record { answer = x; run = r; pace = P }
 
 -- of a turn that is taken, whether the pace lets it through: 30 where the pace has no such worker, 60 where it would break the rule. One that is refused says so first, as a worker that waits is to hear
@@ -50,7 +48,7 @@ paced_turn x r P = record { answer = x; run = r; pace = P }
 abbrev pub paced_by : Turned → Run → Pace → ℕ → PacedTurned
 paced_by t r P w =
     let number : ℕ = may_number P.numbers w in
-    pick (is_taken t.answer) (pick (eqb number 0) (paced_turn t.answer t.run (counted P w)) (paced_turn (refused_turn (refusal number 0)) r P)) (paced_turn t.answer t.run P)
+    pick (is_taken t.answer) (pick (eqb number 0) (paced_turn t.answer t.run (counted P w)) (paced_turn (Err (refusal number 0)) r P)) (paced_turn t.answer t.run P)
 
 unfoldable pub paced_turned : Run → Pace → ℕ → PacedTurned
 paced_turned r P w = paced_by (turned r w) r P w

@@ -2,10 +2,9 @@
 // that of crates/asyncdf; a run packs the record into the blocks of crates/run_memory, takes its turns there as a call from C does (crates/wivakkol_pace), and reads it back.
 #![tactic(auto)]
 
-ghost use Rattle.std.specs.Prelude.{◌≡◌};
+ghost use Rattle.std.specs.Prelude.{◌≡◌, Err};
 ghost use Rattle.table.specs.Pass.{refusal};
 ghost use Rattle.schedule.specs.declared.Report.TheVariants.{Refused as Stopped};
-ghost use Rattle.schedule.specs.declared.Turning.TheVariants.{Refused};
 ghost use Rattle.schedule.specs.Answers.{beginning_values, turning_values, report_values};
 ghost use Rattle.wivakkol_pace.specs.PacedRuns.{paced_worker};
 ghost use Rattle.pacing.specs.Pacing.{begin_pace, is_taken, paced_turn, paced_turned, paced_ran, paced_run, paced_list_run, paced_rounds_run};
@@ -14,7 +13,7 @@ ghost use Rattle.pacing.specs.PacedValues.{pace_values, paced_turn_values, paced
 use asyncdf::{report_of, turn};
 use pace::{hinders, start, took};
 use run_memory::packing::{pack, unpack};
-use schedule::{Report, Run, Turning};
+use schedule::{Report, Run, Taken};
 use soundness::test;
 use table::Refusal;
 use wivakkol_pace::runs::run_in;
@@ -34,7 +33,7 @@ pub struct PaceBegun {
 
 #[derive(Drop)]
 pub struct PacedTurned {
-    pub answer: Turning,
+    pub answer: Result<Taken, Refusal>,
     pub run: Run,
     pub pace: Pace,
 }
@@ -66,21 +65,21 @@ pub fn begin_pace(p: u8, b: u32) -> PaceBegun
     }
 }
 
-fn is_taken(answer: Turning) -> bool
+fn is_taken(answer: Result<Taken, Refusal>) -> bool
     ensures { result ≡ is_taken answer }
 {
     match answer {
-        Turning::Taken(_, _) => true,
-        Turning::Refused(_) => false,
+        Ok(_) => true,
+        Err(_) => false,
     }
 }
 
 // A turn that the pace does not let through: record and pace as they were.
 fn held_back(run: Run, pace: Pace, number: u8) -> PacedTurned
-    ensures { result ≡ paced_turn (Refused (refusal number 0)) run pace }
+    ensures { result ≡ paced_turn (Err (refusal number 0)) run pace }
 {
     PacedTurned {
-        answer: Turning::Refused(Refusal { number, place: 0 }),
+        answer: Err(Refusal { number, place: 0 }),
         run,
         pace,
     }

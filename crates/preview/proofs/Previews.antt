@@ -1,5 +1,7 @@
 -- What a preview shows is what the turn then gives, number by number; its values are those of the checks and of the machine's step.
 use Rattle.std.specs.Prelude.{Err, Ok, Result, ⊤}
+use Rattle.schedule.specs.declared.Taken.{Taken}
+use Rattle.schedule.specs.Turn.{taken_turn}
 use mathlib.Core.Path.{◌≡◌, refl, sym, ap, ◌∙◌}
 use Prim.Native.Nat.{ℕ, ◌^◌, ◌≤◌, ◌<◌}
 use native.Mathlib.Omega.{arith}
@@ -16,9 +18,6 @@ use Rattle.table.proofs.Tests.{no_way}
 use Rattle.schedule.specs.declared.Run.{Run}
 use Rattle.schedule.specs.declared.Reply.{Reply}
 use Rattle.schedule.specs.declared.Turned.{Turned}
-use Rattle.schedule.specs.declared.Turning.{Turning}
-use Rattle.schedule.specs.declared.Turning.TheVariants.{Taken}
-use Rattle.schedule.specs.declared.Turning.TheVariants.{Refused as refused_turn}
 use Rattle.schedule.specs.Machine.{nobody, worker_of}
 use Rattle.schedule.specs.Record.{bytes_of, table_in}
 use Rattle.schedule.specs.Sound.{Sound}
@@ -46,7 +45,7 @@ use Rattle.preview.specs.Preview.{preview_as, preview_of, shown_values}
 
 -- what a preview says of a turn and the record after it
 pub record Foretold (r : Run) (w : ℕ) (x : Reply) (k h g q : ℕ) : Type 0 where
-  pub answer : (turned r w).answer ≡ Taken x k
+  pub answer : (turned r w).answer ≡ taken_turn x k
   pub held : (turned r w).run.held ≡ h
   pub highest : (turned r w).run.highest ≡ g
   pub quota : (get_or (turned r w).run.worker w nobody).quota ≡ q
@@ -55,17 +54,17 @@ pub preview_taken : (r : Run) (w : ℕ) {x : Reply} {k h g q : ℕ} → preview_
 unfolding preview_of
 preview_taken r w {x} {k} {h} {g} {q} e = go (turned r w).answer refl
   where
-    go : (a : Turning) → (turned r w).answer ≡ a → Foretold r w x k h g q
-    go (Taken y j) i =
-        let d : preview_as (Taken y j) (turned r w).run w ≡ Would x k h g q = rw i at e in
-        record { answer = i ∙ (let u : y ≡ x = cc in let v : j ≡ k = cc in rw (u, v)); held = cc; highest = cc; quota = cc }
-    go (refused_turn y) i = let d : Refused y ≡ Would x k h g q = rw i at e in no_way cc
+    go : (a : Result Taken Refusal) → (turned r w).answer ≡ a → Foretold r w x k h g q
+    go (Ok t) i =
+        let d : preview_as (Ok t) (turned r w).run w ≡ Would x k h g q = rw i at e in
+        record { answer = i ∙ (let u : t.reply ≡ x = cc in let v : t.passed ≡ k = cc in rw (u, v)); held = cc; highest = cc; quota = cc }
+    go (Err y) i = let d : Refused y ≡ Would x k h g q = rw i at e in no_way cc
 
-pub preview_refused : (r : Run) (w : ℕ) {x : Refusal} → preview_of r w ≡ Refused x → ((turned r w).answer ≡ refused_turn x) × ((turned r w).run ≡ r)
+pub preview_refused : (r : Run) (w : ℕ) {x : Refusal} → preview_of r w ≡ Refused x → ((turned r w).answer ≡ Err x) × ((turned r w).run ≡ r)
 unfolding preview_of turned
 preview_refused r w {x} e = go (try_at (turn_checks r w) 0) refl
   where
-    go : (f : Result ⊤ Refusal) → try_at (turn_checks r w) 0 ≡ f → ((turned_as f r (passed_in r w) (step_run r w)).answer ≡ refused_turn x) × ((turned_as f r (passed_in r w) (step_run r w)).run ≡ r)
+    go : (f : Result ⊤ Refusal) → try_at (turn_checks r w) 0 ≡ f → ((turned_as f r (passed_in r w) (step_run r w)).answer ≡ Err x) × ((turned_as f r (passed_in r w) (step_run r w)).run ≡ r)
     go (Ok _) i = let d : Would _ _ _ _ _ ≡ Refused x = rw i at e in no_way cc
     go (Err y) i = let d : Refused y ≡ Refused x = rw i at e in (let u : y ≡ x = cc in rw u, refl)
 
@@ -84,7 +83,7 @@ preview_values_lem r w = go (try_at (turn_checks r w) 0) refl
           quota = if_found f 0 (worker_of (step_run r w).state w).quota;
         }
     go (Ok _) i =
-        let t : turning_values (Taken (step_run r w).reply (passed_in r w)) ≡ turn_values r w = rw i at (turn_values_lem r w) in
+        let t : turning_values (taken_turn (step_run r w).reply (passed_in r w)) ≡ turn_values r w = rw i at (turn_values_lem r w) in
         ap
         (λ (v : Values).
         record {
@@ -95,7 +94,7 @@ preview_values_lem r w = go (try_at (turn_checks r w) 0) refl
         })
         t
     go (Err y) i =
-        let t : turning_values (refused_turn y) ≡ turn_values r w = rw i at (turn_values_lem r w) in
+        let t : turning_values (Err y) ≡ turn_values r w = rw i at (turn_values_lem r w) in
         ap (λ (v : Values). record { said = v; held = 0; highest = 0; quota = 0 }) t
 
 -- ---- as it is foreseen on the blocks
@@ -112,7 +111,7 @@ module _ (s : List ℕ) (M : Memory) (h : Stands s M) (w : ℕ) where
   p = passed_over M w
 
   abbrev turned_by : Bool → Previewed
-  turned_by b = preview_as (pick b (Taken t.reply p) (refused_turn (refusal t.number 0))) (run_in s t.memory) w
+  turned_by b = preview_as (pick b (taken_turn t.reply p) (Err (refusal t.number 0))) (run_in s t.memory) w
 
   abbrev foreseen_by : Bool → Previewed
   foreseen_by b = as_preview (pick b (would t.reply p (get_or t.memory.totals 0 0) (get_or t.memory.totals 1 0) (get_or t.memory.quotas w 0)) (refused t.number))

@@ -1,4 +1,8 @@
 -- On memory in which a record stands, a turn is document 01's: number, row and record are those of the record's turn, and the record after it stands in the memory left.
+use Rattle.std.specs.Prelude.{Err, Result}
+use Rattle.table.specs.declared.Refusal.{Refusal}
+use Rattle.schedule.specs.declared.Taken.{Taken}
+use Rattle.schedule.specs.Turn.{taken_turn}
 use mathlib.Core.Path.{◌≡◌, refl, sym, ap, subst, ◌∙◌}
 use Prim.Native.Nat.{ℕ, zero, suc, ◌+◌, ◌-◌, ◌^◌, ◌<◌}
 use native.Mathlib.Omega.{arith}
@@ -17,9 +21,6 @@ use Rattle.schedule.specs.declared.Run.{Run}
 use Rattle.schedule.specs.declared.Reply.{Reply}
 use Rattle.schedule.specs.declared.Reply.TheVariants.{Idle, Done, Quota, Wait}
 use Rattle.schedule.specs.declared.Turned.{Turned}
-use Rattle.schedule.specs.declared.Turning.{Turning}
-use Rattle.schedule.specs.declared.Turning.TheVariants.{Taken}
-use Rattle.schedule.specs.declared.Turning.TheVariants.{Refused as refused_turn}
 use Rattle.schedule.specs.Machine.{ended, nobody}
 use Rattle.schedule.specs.Links.{no_thread, Sought, seek}
 use Rattle.schedule.specs.Record.{max_bytes, bytes_of, table_in, list_in, state_of}
@@ -115,13 +116,13 @@ module _ (M : Memory) (w : ℕ) (z : Left) (h : w < 16) (a : length M.holds ≡ 
 -- ---- the turn
 
 -- the paper's values of a turn that is taken
-taken_number : (x : Reply) (k : ℕ) → 0 ≡ (turning_values (Taken x k)).number
+taken_number : (x : Reply) (k : ℕ) → 0 ≡ (turning_values (taken_turn x k)).number
 taken_number Idle k = refl
 taken_number (Done t a) k = refl
 taken_number (Quota t y) k = refl
 taken_number (Wait t c) k = refl
 
-taken_row_lem : (x : Reply) (k : ℕ) → reply_row x k ≡ values_row (turning_values (Taken x k))
+taken_row_lem : (x : Reply) (k : ℕ) → reply_row x k ≡ values_row (turning_values (taken_turn x k))
 taken_row_lem Idle k = refl
 taken_row_lem (Done t a) k = refl
 taken_row_lem (Quota t y) k = refl
@@ -129,12 +130,12 @@ taken_row_lem (Wait t c) k = refl
 
 -- what is told of a turn and of the threads that it passes over, read as a turn of the record
 abbrev pub turned_by : List ℕ → Told → ℕ → Turned
-turned_by s t passed = record { answer = pick (eqb t.number 0) (Taken t.reply passed) (refused_turn (refusal t.number 0)); run = run_in s t.memory }
+turned_by s t passed = record { answer = pick (eqb t.number 0) (taken_turn t.reply passed) (Err (refusal t.number 0)); run = run_in s t.memory }
 
 -- its number and its row
 module _ (t : Told) (k : ℕ) where
-  abbrev answered : Bool → Turning
-  answered b = pick b (Taken t.reply k) (refused_turn (refusal t.number 0))
+  abbrev answered : Bool → Result Taken Refusal
+  answered b = pick b (taken_turn t.reply k) (Err (refusal t.number 0))
 
   said_number_lem : t.number ≡ (turning_values (answered (eqb t.number 0))).number
   said_number_lem = go (eqb t.number 0) refl
@@ -217,13 +218,13 @@ module _ (s : List ℕ) (M : Memory) (h : Stands s M) (w : ℕ) where
         ap (λ (l : List Worker). packed_of (settled s M) z.arrays l z.moved) (workers_after M w z few h.holds_size h.threads_size h.quotas_size)
         ∙ sym goes.record_after
 
-    taken_turned : record { answer = Taken z.reply along; run = run_in s (memory_after M w z) } ≡ turned r w
+    taken_turned : record { answer = taken_turn z.reply along; run = run_in s (memory_after M w z) } ≡ turned r w
     taken_turned =
         let u = steady_room r h.steady h.turns_fit room in
         let p : along ≡ passed_in r w =
         one_search (worker_in M w).holds (seek 1024 M.arrays.status M.arrays.right (moved_in M).totals.leftmost) _ (searches_agree s M h)
         ∙ passed_along_lem r w h.steady (ap (λ (x : Worker). passed_along x.holds (seek 1024 M.arrays.status M.arrays.right (moved_in M).totals.leftmost)) (sym (own_worker M w few))) in
-        (λ i. record { answer = Taken (sym goes.reply i) (p i); run = after i }) ∙ turned_taken r w u b o
+        (λ i. record { answer = taken_turn (sym goes.reply i) (p i); run = after i }) ∙ turned_taken r w u b o
 
     stands_so : Stands s (memory_after M w z)
     stands_so =

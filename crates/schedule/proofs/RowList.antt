@@ -6,6 +6,7 @@
 -- turns. `answers_of` (Calls) are what the calls answer, and `old_answers` (OldRuns) the same on a record in the old layout: `all_answers` says that they agree, in replies, finished, spent and refusals
 -- with their turns, of any list of calls from any beginning.
 use Rattle.std.specs.Prelude.{Err, Ok, Result, ⊤}
+use Rattle.schedule.specs.Turn.{taken_turn}
 use Rattle.table.specs.declared.Refusal.{Refusal}
 use mathlib.Core.Path.{◌≡◌, refl, sym, ap, ◌∙◌}
 use Prim.Native.Nat.{ℕ, zero, suc, ◌-◌, ◌^◌, ◌%◌, ◌<◌}
@@ -21,8 +22,6 @@ use Rattle.table.specs.Format.{Table}
 use Rattle.schedule.specs.declared.Run.{Run}
 use Rattle.schedule.specs.declared.Ran.{Ran}
 use Rattle.schedule.specs.declared.Turned.{Turned}
-use Rattle.schedule.specs.declared.Turning.TheVariants.{Taken}
-use Rattle.schedule.specs.declared.Turning.TheVariants.{Refused as refused_turn}
 use Rattle.schedule.specs.declared.Report.TheVariants.{Finished, Spent, Refused}
 use Rattle.schedule.specs.Machine.{State, with_list, turn_of, passed_by}
 use Rattle.table.specs.Checks.{max_threads}
@@ -209,7 +208,7 @@ turn_same r h w = rw (same_unsound r h) (go (unsound r) (no_worker r w) (root_en
     go false false true e = record { answer = refl; run = refl }
     go false false false e =
         record {
-          answer = ap (λ (x : State). Taken (turn_of (table_in r) r.quota w x).reply (passed_by w x)) (state_back r);
+          answer = ap (λ (x : State). taken_turn (turn_of (table_in r) r.quota w x).reply (passed_by w x)) (state_back r);
           run = moved_old r h w (worker_there r w e);
         }
 
@@ -284,7 +283,7 @@ old_blank_found : (w : ℕ) → try_at (old_checks old_blank w) 0 ≡ Err (refus
 unfolding try_at old_checks
 old_blank_found w = rw (old_blank_passes, old_blank_worker w)
 
-old_turned_blank : (w : ℕ) → old_turned old_blank w ≡ record { answer = refused_turn (refusal 30 0); run = old_blank }
+old_turned_blank : (w : ℕ) → old_turned old_blank w ≡ record { answer = Err (refusal 30 0); run = old_blank }
 unfolding old_turned
 old_turned_blank w = ap (λ (f : Result ⊤ Refusal). old_turned_as f old_blank (passed_by w (old_state old_blank)) (old_step old_blank w)) (old_blank_found w)
 

@@ -1,5 +1,8 @@
 -- What document 01's reviewer tries, and why none of it is the machine: laws of every run, and the first two turns of E.
-use Rattle.std.specs.Prelude.{Ok}
+use Rattle.std.specs.Prelude.{Ok, Result}
+use Rattle.table.specs.declared.Refusal.{Refusal}
+use Rattle.schedule.specs.declared.Taken.{Taken}
+use Rattle.schedule.specs.Turn.{taken_turn}
 use mathlib.Core.Path.{◌≡◌, refl, sym, ap, subst, ◌∙◌}
 use Prim.Native.Nat.{ℕ, zero, suc, ◌+◌, ◌-◌, ◌^◌, ◌%◌, ◌<◌}
 use native.Mathlib.Omega.{arith}
@@ -21,8 +24,6 @@ use Rattle.schedule.specs.declared.Ran.{Ran}
 use Rattle.schedule.specs.declared.Report.TheVariants.{Finished, Spent, Refused}
 use Rattle.schedule.specs.declared.Reply.TheVariants.{Idle, Done}
 use Rattle.schedule.specs.declared.Turned.{Turned}
-use Rattle.schedule.specs.declared.Turning.{Turning}
-use Rattle.schedule.specs.declared.Turning.TheVariants.{Taken}
 use Rattle.schedule.specs.Machine.{left_of, without, waits_for, woken, act_by, act, leftmost, taken, turn_free, turn_of, passed_by}
 use Rattle.schedule.specs.Record.{set_of}
 use Rattle.schedule.specs.Begin.{setting_passes, start_state, start_run, begin}
@@ -170,8 +171,8 @@ begun_e = (begin E 2 6).run
 
 -- what the turns say and leave, computed; of a sound record check 32 does not apply
 record Seen (turn : Run → ℕ → Turned) : Type 0 where
-  first : (turn begun_e 0).answer ≡ Taken (Done 0 0) 0
-  second : (turn (turn begun_e 0).run 1).answer ≡ Taken (Done 1 5) 0
+  first : (turn begun_e 0).answer ≡ taken_turn (Done 0 0) 0
+  second : (turn (turn begun_e 0).run 1).answer ≡ taken_turn (Done 1 5) 0
   unended : root_ended (turn begun_e 0).run ≡ false
   counted : (turn begun_e 0).run.turns ≡ 1
 
@@ -201,11 +202,11 @@ seen_turned =
 pub all_at_once_wrong : root_ended (turned begun_e 0).run ≡ true → ⊥
 all_at_once_wrong e = not_both _ e seen_turned.unended
 
-pub always_idle_wrong : (turned (turned begun_e 0).run 1).answer ≡ Taken Idle 0 → ⊥
-always_idle_wrong e = let z = ap (λ (x : Turning). (turning_values x).value) (sym seen_turned.second ∙ e) in omega (arith, z)
+pub always_idle_wrong : (turned (turned begun_e 0).run 1).answer ≡ taken_turn Idle 0 → ⊥
+always_idle_wrong e = let z = ap (λ (x : Result Taken Refusal). (turning_values x).value) (sym seen_turned.second ∙ e) in omega (arith, z)
 
 pub repeated_wrong : (turned (turned begun_e 0).run 1).answer ≡ (turned begun_e 0).answer → ⊥
-repeated_wrong e = let z = ap (λ (x : Turning). (turning_values x).value) (sym seen_turned.second ∙ e ∙ seen_turned.first) in omega (arith, z)
+repeated_wrong e = let z = ap (λ (x : Result Taken Refusal). (turning_values x).value) (sym seen_turned.second ∙ e ∙ seen_turned.first) in omega (arith, z)
 
 pub left_alone_wrong : (turned begun_e 0).run ≡ begun_e → ⊥
 left_alone_wrong e = omega (arith, ap (λ (r : Run). r.turns) e, seen_turned.counted, begins_e.1)

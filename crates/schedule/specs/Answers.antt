@@ -1,11 +1,9 @@
 -- The paper's numbers and values for each case of the answers.
 use Rattle.std.specs.Prelude.{ℕ, Err, Ok, Result, ⊤}
+use Rattle.schedule.specs.declared.Taken.{Taken}
 use Rattle.table.specs.declared.Refusal.{Refusal}
 use Rattle.schedule.specs.declared.Reply.{Reply}
 use Rattle.schedule.specs.declared.Reply.TheVariants.{Idle, Done, Quota, Wait}
-use Rattle.schedule.specs.declared.Turning.{Turning}
-use Rattle.schedule.specs.declared.Turning.TheVariants.{Taken}
-use Rattle.schedule.specs.declared.Turning.TheVariants.{Refused as refused_turn}
 use Rattle.schedule.specs.declared.Report.{Report}
 use Rattle.schedule.specs.declared.Report.TheVariants.{Finished, Spent, Refused}
 
@@ -44,9 +42,9 @@ abbrev pub passing : ℕ → Values → Values
 passing k v =
     record { number = v.number; place = v.place; said = v.said; thread = v.thread; value = v.value; passed = k; turns = v.turns }
 
-abbrev pub turning_values : Turning → Values
-turning_values (Taken x k) = passing k (reply_values x)
-turning_values (refused_turn x) = refusing x 0
+abbrev pub turning_values : Result Taken Refusal → Values
+turning_values (Ok t) = passing t.passed (reply_values t.reply)
+turning_values (Err x) = refusing x 0
 
 -- "replies finished if the root has then ended, spent if not, with their number"; "A run of either sort stopped by a refusal gives it, the number of turns before it"
 abbrev pub report_values : Report → Values

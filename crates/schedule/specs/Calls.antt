@@ -1,9 +1,8 @@
 -- Lists of calls, what they answer, the record that they leave and the row of workers that they lay end to end (document 01, "What demand 3 ranges over").
-use Rattle.std.specs.Prelude.{ℕ, ◌%◌, List, [], ◌∷◌, ◌++◌, take}
+use Rattle.std.specs.Prelude.{ℕ, ◌%◌, List, [], ◌∷◌, ◌++◌, take, Err, Ok, Result}
+use Rattle.table.specs.declared.Refusal.{Refusal}
+use Rattle.schedule.specs.declared.Taken.{Taken}
 use Rattle.schedule.specs.declared.Run.{Run}
-use Rattle.schedule.specs.declared.Turning.{Turning}
-use Rattle.schedule.specs.declared.Turning.TheVariants.{Taken}
-use Rattle.schedule.specs.declared.Turning.TheVariants.{Refused as refused_turn}
 use Rattle.schedule.specs.declared.Report.{Report}
 use Rattle.schedule.specs.declared.Report.TheVariants.{Finished, Spent, Refused}
 use Rattle.order.specs.Firsts.{firsts}
@@ -28,9 +27,9 @@ turns_in (Finished k) = k
 turns_in (Spent k) = k
 turns_in (Refused k x) = k
 
-abbrev pub turn_row : Turning → ℕ → List ℕ
-turn_row (Taken x k) w = w ∷ []
-turn_row (refused_turn x) w = []
+abbrev pub turn_row : Result Taken Refusal → ℕ → List ℕ
+turn_row (Ok t) w = w ∷ []
+turn_row (Err x) w = []
 
 -- "of a single turn, its worker; of a run over a list, as many from the front as it reports; of a run in rounds, as many of 0 to p − 1, again and again, as it reports"
 unfoldable pub row_of : Call → Run → List ℕ
@@ -52,7 +51,7 @@ row_of_calls (c ∷ cs) r = row_of c r ++ row_of_calls cs (after_call c r)
 
 -- what a call answers besides the record
 pub data Answer : Type 0 where
-  turning : Turning → Answer
+  turning : Result Taken Refusal → Answer
   report : Report → Answer
 
 abbrev pub answer_of : Call → Run → Answer

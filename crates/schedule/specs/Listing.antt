@@ -1,12 +1,11 @@
 -- The listing of a run, line by line (document 01, "The turn listing"); its text is crates/listing's.
-use Rattle.std.specs.Prelude.{ℕ, List, [], ◌∷◌, Bool}
+use Rattle.std.specs.Prelude.{ℕ, List, [], ◌∷◌, Bool, Err, Ok, Result}
+use Rattle.table.specs.declared.Refusal.{Refusal}
+use Rattle.schedule.specs.declared.Taken.{Taken}
 use Rattle.table.specs.Sum.{pick}
 use Rattle.table.specs.Format.{Kind, kind}
 use Rattle.schedule.specs.declared.Run.{Run}
 use Rattle.schedule.specs.declared.Turned.{Turned}
-use Rattle.schedule.specs.declared.Turning.{Turning}
-use Rattle.schedule.specs.declared.Turning.TheVariants.{Taken}
-use Rattle.schedule.specs.declared.Turning.TheVariants.{Refused as refused_turn}
 use Rattle.schedule.specs.declared.Reply.{Reply}
 use Rattle.schedule.specs.declared.Reply.TheVariants.{Idle, Done, Quota, Wait}
 use Rattle.schedule.specs.Machine.{next_of}
@@ -64,9 +63,9 @@ told_with (Wait t c) k a = wait t a
 abbrev pub told_by : Reply → Run → Told
 told_by x r = told_with x (kind (table_in r) (action_in x)) (next_of (state_of r) (thread_in x))
 
-abbrev pub turn_then : Turning → ℕ → Run → Listing → Listing
-turn_then (Taken x k) w r rest = listing (line r.turns w (told_by x r) r.held ∷ rest.lines) rest.last
-turn_then (refused_turn x) w r rest = listing [] (refused x.number x.place)
+abbrev pub turn_then : Result Taken Refusal → ℕ → Run → Listing → Listing
+turn_then (Ok t) w r rest = listing (line r.turns w (told_by t.reply r) r.held ∷ rest.lines) rest.last
+turn_then (Err x) w r rest = listing [] (refused x.number x.place)
 
 -- the last line where no turn is refused
 abbrev pub last_with : Bool → ℕ → ℕ → Last

@@ -1,6 +1,8 @@
 -- The run record as it was before N10, its list "the row of numbers" and their count, and document 01's calls on it: soundness, a turn, runs, what they answer. For a record with links to be held against,
 -- call by call (proofs/RowList); RowList has the same turn by turn.
 use Rattle.std.specs.Prelude.{ℕ, zero, suc, ◌-◌, ◌^◌, ◌%◌, List, [], ◌∷◌, Bool, not, ◌&&◌, length, take, get_or, replicate, ltb, eqb, Err, Ok, Result, ⊤}
+use Rattle.schedule.specs.declared.Taken.{Taken}
+use Rattle.schedule.specs.Turn.{taken_turn}
 use Rattle.table.specs.declared.Refusal.{Refusal}
 use Rattle.table.specs.Sum.{pick}
 use Rattle.table.specs.Format.{Table, table_of}
@@ -9,9 +11,6 @@ use Rattle.table.specs.Checks.{max_threads}
 use Rattle.order.specs.Words.{same_list, filled}
 use Rattle.schedule.specs.declared.Run.{Run}
 use Rattle.schedule.specs.declared.Worker.{Worker}
-use Rattle.schedule.specs.declared.Turning.{Turning}
-use Rattle.schedule.specs.declared.Turning.TheVariants.{Taken}
-use Rattle.schedule.specs.declared.Turning.TheVariants.{Refused as refused_turn}
 use Rattle.schedule.specs.declared.Report.{Report}
 use Rattle.schedule.specs.declared.Report.TheVariants.{Finished, Spent, Refused}
 use Rattle.schedule.specs.Machine.{State, Stepped, ended, status_of, nobody, turn_of, passed_by}
@@ -187,12 +186,12 @@ old_checks o w =
     ∷ []
 
 pub record OldTurned : Type 0 where
-  pub answer : Turning
+  pub answer : Result Taken Refusal
   pub run : OldRun
 
 abbrev pub old_turned_as : Result ⊤ Refusal → OldRun → ℕ → Stepped → OldTurned
-old_turned_as (Ok _) o k s = record { answer = Taken s.reply k; run = old_stored o s.state }
-old_turned_as (Err x) o k s = record { answer = refused_turn x; run = o }
+old_turned_as (Ok _) o k s = record { answer = taken_turn s.reply k; run = old_stored o s.state }
+old_turned_as (Err x) o k s = record { answer = Err x; run = o }
 
 -- "A refused turn hands back its record untouched."
 unfoldable pub old_turned : OldRun → ℕ → OldTurned

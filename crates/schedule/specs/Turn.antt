@@ -4,7 +4,8 @@ use Rattle.table.specs.declared.Refusal.{Refusal}
 use Rattle.table.specs.Pass.{Check, try_at}
 use Rattle.schedule.specs.declared.Run.{Run}
 use Rattle.schedule.specs.declared.Worker.{Worker}
-use Rattle.schedule.specs.declared.Turning.TheVariants.{Taken, Refused}
+use Rattle.schedule.specs.declared.Reply.{Reply}
+use Rattle.schedule.specs.declared.Taken.{Taken}
 use Rattle.schedule.specs.declared.Turned.{Turned}
 use Rattle.schedule.specs.Machine.{Stepped, ended, status_of, nobody, turn_of, passed_by}
 use Rattle.schedule.specs.Record.{max_workers, table_in, state_of, stored, blank}
@@ -63,9 +64,13 @@ step_run r w = turn_of (table_in r) r.quota w (state_of r)
 unfoldable pub passed_in : Run → ℕ → ℕ
 passed_in r w = passed_by w (state_of r)
 
+-- the answer of a turn that is taken: its reply, and how many threads it passed over
+abbrev pub taken_turn : Reply → ℕ → Result Taken Refusal
+taken_turn reply passed = Ok (record { reply = reply; passed = passed })
+
 abbrev pub turned_as : Result ⊤ Refusal → Run → ℕ → Stepped → Turned
-turned_as (Ok _) r k s = record { answer = Taken s.reply k; run = stored r s.state }
-turned_as (Err x) r k s = record { answer = Refused x; run = r }
+turned_as (Ok _) r k s = record { answer = taken_turn s.reply k; run = stored r s.state }
+turned_as (Err x) r k s = record { answer = Err x; run = r }
 
 -- "A refused turn hands back its record untouched."
 unfoldable pub turned : Run → ℕ → Turned

@@ -55,16 +55,16 @@ pub struct Begun {
     pub run: Run,
 }
 
-// A single turn: its reply, and how many threads stood left of the one that the worker took, 0 where it took none.
+// A turn that was taken: its reply, and how many threads stood left of the one that the worker took, 0 where it took none.
 #[derive(Clone, Copy)]
-pub enum Turning {
-    Taken(Reply, u16),
-    Refused(Refusal),
+pub struct Taken {
+    pub reply: Reply,
+    pub passed: u16,
 }
 
 #[derive(Drop)]
 pub struct Turned {
-    pub answer: Turning,
+    pub answer: Result<Taken, Refusal>,
     pub run: Run,
 }
 

@@ -3,6 +3,8 @@
 -- `lent_worked_exists`: every list of events that keeps the rule has one, and so from a beginning every row of turns (`lent_turns_worked_exist`). `lent_code_real_memory`: and so all that
 -- crates/workers says of real memory holds.
 use Rattle.std.specs.Prelude.{Err, Ok, Result, ⊤}
+use Rattle.schedule.specs.declared.Taken.{Taken}
+use Rattle.schedule.specs.Turn.{taken_turn}
 use Rattle.table.specs.declared.Refusal.{Refusal}
 use mathlib.Core.Path.{◌≡◌, refl, sym, ap, ap₂, subst, ◌∙◌}
 use Prim.Native.Nat.{ℕ, ◌<◌}
@@ -20,8 +22,6 @@ use Rattle.order.proofs.Lists.{filled_front}
 use Rattle.schedule.specs.declared.Run.{Run}
 use Rattle.schedule.specs.declared.Begun.{Begun}
 use Rattle.schedule.specs.declared.Reply.TheVariants.{Done}
-use Rattle.schedule.specs.declared.Turning.{Turning}
-use Rattle.schedule.specs.declared.Turning.TheVariants.{Taken, Refused}
 use Rattle.schedule.specs.Machine.{Stepped}
 use Rattle.schedule.specs.Record.{max_bytes, table_in, state_of}
 use Rattle.schedule.specs.Begin.{begin}
@@ -75,7 +75,7 @@ standing u M m = record { run = run_in u M; real = m }
 -- ---- the effect of a turn is the one read from its row
 
 -- an action that is said to be done is one of the table's
-action_there : (r : Run) → Steady r → (w t a k : ℕ) → (turned r w).answer ≡ Taken (Done t a) k → a < (table_in r).actions
+action_there : (r : Run) → Steady r → (w t a k : ℕ) → (turned r w).answer ≡ taken_turn (Done t a) k → a < (table_in r).actions
 unfolding turned step_run turn_checks no_worker
 action_there r h w t a k q = go (try_at (turn_checks r w) 0) refl q
   where
@@ -83,7 +83,7 @@ action_there r h w t a k q = go (try_at (turn_checks r w) 0) refl q
     at (idles i z n u v) e = no_way (cc)
     at (tries t' a' x) e = rw (x.acted.answers t a e) x.within
 
-    go : (f : Result ⊤ Refusal) → try_at (turn_checks r w) 0 ≡ f → (turned_as f r (passed_in r w) (step_run r w)).answer ≡ Taken (Done t a) k → a < (table_in r).actions
+    go : (f : Result ⊤ Refusal) → try_at (turn_checks r w) 0 ≡ f → (turned_as f r (passed_in r w) (step_run r w)).answer ≡ taken_turn (Done t a) k → a < (table_in r).actions
     go (Ok _) e i =
         let b : w < r.workers = ltb-true w r.workers (not-false _ ((try_at_nothing (turn_checks r w) 0).0 e).1.0) in
         at (tried (table_in r) (steady_lawful r h) r.workers r.quota (steady_fits r h).few_workers w b (state_of r) (steady_facts r h)) (cc)
@@ -107,20 +107,20 @@ module _ (u : List ℕ) (M : Memory) (h : Stands u M) (w : ℕ) where
   done_effect : said_in (lent_turn u w M) ≡ 2 → read_in u (lent_turn u w M) ≡ effect_in (table_in (run_in u M)) (turned (run_in u M) w).answer
   done_effect = go (turned (run_in u M) w).answer refl row_so
     where
-      go : (x : Turning) → (turned (run_in u M) w).answer ≡ x → (lent_turn u w M).row ≡ values_row (turning_values x) → said_in (lent_turn u w M) ≡ 2
+      go : (x : Result Taken Refusal) → (turned (run_in u M) w).answer ≡ x → (lent_turn u w M).row ≡ values_row (turning_values x) → said_in (lent_turn u w M) ≡ 2
           → read_in u (lent_turn u w M) ≡ effect_in (table_in (run_in u M)) x
-      go (Taken x k) e r q =
-          let there : (t a : ℕ) → x ≡ Done t a → a < (table_of u).actions =
-          λ t a i. rw table_is at (action_there (run_in u M) h.steady w t a k (rw i at e)) in
-          rw table_is (done_read u x k (lent_turn u w M) r q there)
-      go (Refused y) e r q = absurd (refused_silent y (lent_turn u w M) r q)
+      go (Ok y) e r q =
+          let there : (t a : ℕ) → y.reply ≡ Done t a → a < (table_of u).actions =
+          λ t a i. rw table_is at (action_there (run_in u M) h.steady w t a y.passed (rw i at e)) in
+          rw table_is (done_read u y.reply y.passed (lent_turn u w M) r q there)
+      go (Err y) e r q = absurd (refused_silent y (lent_turn u w M) r q)
 
   other_effect : ((lent_turn u w M).number ≡ 0 → said_in (lent_turn u w M) ≡ 2 → ⊥) → nothing ≡ effect_in (table_in (run_in u M)) (turned (run_in u M) w).answer
   other_effect n = go (turned (run_in u M) w).answer number_is row_so
     where
-      go : (x : Turning) → (lent_turn u w M).number ≡ (turning_values x).number → (lent_turn u w M).row ≡ values_row (turning_values x) → nothing ≡ effect_in (table_in (run_in u M)) x
-      go (Taken x k) i r = other_nothing (table_in (run_in u M)) x k (lent_turn u w M) r (n (i ∙ reply_number x))
-      go (Refused y) i r = refl
+      go : (x : Result Taken Refusal) → (lent_turn u w M).number ≡ (turning_values x).number → (lent_turn u w M).row ≡ values_row (turning_values x) → nothing ≡ effect_in (table_in (run_in u M)) x
+      go (Ok t) i r = other_nothing (table_in (run_in u M)) t.reply t.passed (lent_turn u w M) r (n (i ∙ reply_number t.reply))
+      go (Err y) i r = refl
 
   module _ (m : Real) where
     -- with the effect read, what stands after the turn is the event's

@@ -1,9 +1,9 @@
 -- Workers that take turns of one run and do its actions, as events in any order (docs/WORKERS.md, rules 1 to 4).
-use Rattle.std.specs.Prelude.{◌≡◌, ℕ, List, [], ◌∷◌}
+use Rattle.std.specs.Prelude.{◌≡◌, ℕ, List, [], ◌∷◌, Err, Ok, Result}
+use Rattle.table.specs.declared.Refusal.{Refusal}
+use Rattle.schedule.specs.declared.Taken.{Taken}
 use Rattle.table.specs.Format.{Table}
 use Rattle.schedule.specs.declared.Run.{Run}
-use Rattle.schedule.specs.declared.Turning.{Turning}
-use Rattle.schedule.specs.declared.Turning.TheVariants.{Taken, Refused}
 use Rattle.schedule.specs.Record.{table_in}
 use Rattle.schedule.specs.Turn.{turned}
 use Rattle.schedule.specs.Calls.{Call}
@@ -25,9 +25,9 @@ abbrev pub starting : Run → Workers
 starting r = record { run = r; real = no_memory }
 
 -- a refused turn changes nothing
-abbrev pub effect_in : Table → Turning → Effect
-effect_in T (Taken x k) = effect_of T x
-effect_in T (Refused x) = nothing
+abbrev pub effect_in : Table → Result Taken Refusal → Effect
+effect_in T (Ok t) = effect_of T t.reply
+effect_in T (Err x) = nothing
 
 unfoldable pub after_event : Event → Workers → Workers
 after_event (turn w) s = record { run = (turned s.run w).run; real = by_turn (effect_in (table_in s.run) (turned s.run w).answer) w s.real }

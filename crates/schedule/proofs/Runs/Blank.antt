@@ -1,4 +1,5 @@
 -- Document 01's calls on the blank record: "any turn or run in rounds on it gets 30", a run over an empty list is spent, and the blank record is left.
+use Rattle.std.specs.Prelude.{Err}
 use mathlib.Core.Path.{◌≡◌, refl, ap}
 use Prim.Native.Nat.{ℕ}
 use native.Mathlib.Omega.{arith}
@@ -8,7 +9,6 @@ use borrow.Author.Tests.{le-ltb}
 use Rattle.table.specs.Pass.{refusal, try_at}
 use Rattle.schedule.specs.declared.Ran.{Ran}
 use Rattle.schedule.specs.declared.Turned.{Turned}
-use Rattle.schedule.specs.declared.Turning.TheVariants.{Refused as refused_turn}
 use Rattle.schedule.specs.declared.Report.TheVariants.{Spent, Refused}
 use Rattle.schedule.specs.Record.{blank}
 use Rattle.schedule.specs.Sound.{sound}
@@ -30,7 +30,7 @@ blank_open : root_ended blank ≡ false
 unfolding root_ended blank
 blank_open = refl
 
-pub turned_blank : (w : ℕ) → turned blank w ≡ record { answer = refused_turn (refusal 30 0); run = blank }
+pub turned_blank : (w : ℕ) → turned blank w ≡ record { answer = Err (refusal 30 0); run = blank }
 unfolding turned turn_checks try_at no_worker blank
 turned_blank w = rw (blank_tested, le-ltb w 0 (omega arith))
 
@@ -48,7 +48,7 @@ rounds_blank limit = rw blank_tested
 
 -- what a call answers on it
 abbrev pub on_blank : Call → Answer
-on_blank (turn w) = turning (refused_turn (refusal 30 0))
+on_blank (turn w) = turning (Err (refusal 30 0))
 on_blank (over_list []) = report (Spent 0)
 on_blank (over_list (w ∷ l)) = report (Refused 0 (refusal 30 0))
 on_blank (in_rounds limit) = report (Refused 0 (refusal 30 0))

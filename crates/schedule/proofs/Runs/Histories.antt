@@ -20,7 +20,6 @@ use Rattle.table.proofs.Tests.{no_way}
 use Rattle.table.proofs.Trying.{try_at_nothing}
 use Rattle.schedule.specs.declared.Run.{Run}
 use Rattle.schedule.specs.declared.Begun.{Begun}
-use Rattle.schedule.specs.declared.Turning.TheVariants.{Refused as refused_turn}
 use Rattle.schedule.specs.declared.Report.{Report}
 use Rattle.schedule.specs.declared.Report.TheVariants.{Finished, Spent, Refused}
 use Rattle.schedule.specs.declared.Ran.{Ran}
@@ -288,11 +287,11 @@ pub rounds_steady : (r : Run) (limit : ℕ) → Steady r → Steady (rounds_run 
 rounds_steady r limit h = (rounds_goes r limit h).steady
 
 -- a refused turn leaves the record as it was
-pub turn_refused : (r : Run) (w : ℕ) (x : Refusal) → (turned r w).answer ≡ refused_turn x → (turned r w).run ≡ r
+pub turn_refused : (r : Run) (w : ℕ) (x : Refusal) → (turned r w).answer ≡ Err x → (turned r w).run ≡ r
 unfolding turned
 turn_refused r w x e = go (try_at (turn_checks r w) 0) e
   where
-    go : (f : Result ⊤ Refusal) → (turned_as f r (passed_in r w) (step_run r w)).answer ≡ refused_turn x → (turned_as f r (passed_in r w) (step_run r w)).run ≡ r
+    go : (f : Result ⊤ Refusal) → (turned_as f r (passed_in r w) (step_run r w)).answer ≡ Err x → (turned_as f r (passed_in r w) (step_run r w)).run ≡ r
     go (Ok _) e = no_way (cc)
     go (Err y) e = refl
 

@@ -1,3 +1,5 @@
+use Rattle.std.specs.Prelude.{Ok}
+use Rattle.schedule.specs.Turn.{taken_turn}
 use mathlib.Core.Path.{◌≡◌, refl, sym, ap, subst, ◌∙◌}
 use Prim.Native.Nat.{ℕ, ◌+◌, ◌-◌, ◌*◌, ◌≤◌, ◌<◌}
 use mathlib.Core.List.{List, [], ◌∷◌}
@@ -14,7 +16,6 @@ use Rattle.text.specs.Text.{refused_line}
 use Rattle.schedule.specs.declared.Run.{Run}
 use Rattle.schedule.specs.declared.Reply.{Reply}
 use Rattle.schedule.specs.declared.Reply.TheVariants.{Done}
-use Rattle.schedule.specs.declared.Turning.TheVariants.{Taken as taken}
 use Rattle.schedule.specs.Machine.{ended as ended_status}
 use Rattle.schedule.specs.Record.{max_bytes, bytes_of}
 use Rattle.schedule.specs.Turn.{unsound, turned}
@@ -90,7 +91,7 @@ module _ {chart : Bool} {s : List ℕ} {p : ℕ} {order out₀ : List ℕ} {at�
         refused v.listed h (refusal x.number 0) (λ rest. texts_refused here w (root_open here v.drawn.going) e chart rest refl) q
 
     module _ (z : x.number ≡ 0) where
-      takes : record { answer = taken x.reply (passed_over M w); run = there } ≡ turned here w
+      takes : record { answer = taken_turn x.reply (passed_over M w); run = there } ≡ turned here w
       takes = rw z at answered
 
       moves : Moves s M w

@@ -15,7 +15,6 @@ use Rattle.text.specs.Text.{refused_line}
 use Rattle.schedule.specs.declared.Run.{Run}
 use Rattle.schedule.specs.declared.Reply.{Reply}
 use Rattle.schedule.specs.declared.Reply.TheVariants.{Done}
-use Rattle.schedule.specs.declared.Turning.TheVariants.{Taken as taken}
 use Rattle.schedule.specs.Machine.{ended as ended_status}
 use Rattle.schedule.specs.Record.{max_bytes, bytes_of}
 use Rattle.schedule.specs.Turn.{unsound, turned}
