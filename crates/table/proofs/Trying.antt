@@ -73,7 +73,7 @@ first_of_at {A} f (x ∷ l) r h = go (f x) refl (first_of_at f l r) h
         record { index = suc (ih k).index; element = (ih k).element; there = (ih k).there; finds = (ih k).finds; before = before }
       where
         before : (j : ℕ) (y : A) → j < suc (ih k).index → get_elem? (x ∷ l) j ≡ some y → f y ≡ Ok tt
-        before zero y m d = cc
+        before zero y m d = let q : f x ≡ Ok tt = e in cc
         before (suc j) y m d = (ih k).before j y (omega arith) d
     go (Err q) e ih k = record { index = 0; element = x; there = refl; finds = cc; before = λ j y m. absurd (omega arith) }
 
@@ -87,11 +87,11 @@ found_else : (t : Bool) (r : Refusal) (f : Result ⊤ Refusal) → pick t (Err r
 found_else true r f = refl
 found_else false r f = refl
 
-pub found_nothing : (t : Bool) (r : Refusal) → (pick t (Err r) (Ok tt) ≡ Ok tt) ↔ (t ≡ false)
+pub found_nothing : (t : Bool) (r : Refusal) → (pick {A = Result ⊤ Refusal} t (Err r) (Ok tt) ≡ Ok tt) ↔ (t ≡ false)
 found_nothing true r = ((λ h. no_way (cc)), (λ h. no_way (cc)))
 found_nothing false r = ((λ h. refl), (λ h. refl))
 
-pub found_at : (t : Bool) (q r : Refusal) → pick t (Err q) (Ok tt) ≡ Err r → (t ≡ true) × (q ≡ r)
+pub found_at : (t : Bool) (q r : Refusal) → pick {A = Result ⊤ Refusal} t (Err q) (Ok tt) ≡ Err r → (t ≡ true) × (q ≡ r)
 found_at true q r h = (refl, cc)
 found_at false q r h = no_way (cc)
 
@@ -165,7 +165,7 @@ try_from_at cs i (suc k) r h = go (try_at cs i) refl (try_from_at cs (suc i) k r
           low = omega arith;
           high = omega arith;
           here = a.here;
-          below = λ j l m. by_cases (ℕ_discrete i j) (λ t. cc) (λ t. a.below j (omega arith) m);
+          below = λ j l m. by_cases (ℕ_discrete i j) (λ t. let q : try_at cs i ≡ Ok tt = e in cc) (λ t. a.below j (omega arith) m);
         }
     go (Err q) e ih d =
         let p : i ≡ r.place = try_at_place cs i r (e ∙ d) in
