@@ -2,6 +2,36 @@
 ghost use Rattle.std.specs.Prelude.{◌≡◌};
 ghost use Rattle.table.specs.Format.{kind_of, alloc, free, own_amount};
 
+// What an action is, by the code of 8 bits that a table has for it.
+#[derive(Clone, Copy, PartialEq, Eq, Debug)]
+pub enum Kind {
+    End,
+    Work,
+    Alloc,
+    Free,
+    Fork,
+    Join,
+    Unknown,
+}
+
+impl From<u8> for Kind {
+    ghost from_gives = { λ code kind. kind ≡ kind_of code };
+
+    fn from(code: u8) -> Self
+        ensures { result ≡ kind_of code }
+    {
+        match code {
+            0 => Kind::End,
+            1 => Kind::Work,
+            2 => Kind::Alloc,
+            3 => Kind::Free,
+            4 => Kind::Fork,
+            5 => Kind::Join,
+            6..=255 => Kind::Unknown,
+        }
+    }
+}
+
 pub const END: u8 = 0;
 
 pub const ALLOC: u8 = 2;

@@ -1,8 +1,10 @@
 // Numbers, actions and bodies out of bytes. What other crates may call takes any bytes, and reads zeros past their end.
 ghost use Rattle.std.specs.Prelude.{◌≡◌, ◌+◌, ◌*◌, ◌<◌, length, get_or, drop};
-ghost use Rattle.table.specs.Format.{u16_at, threads_of, actions_of, bodies_from, code_at, argument_at, table_of};
+ghost use Rattle.table.specs.Format.{alloc, free, own_amount, kind_of, u16_at, threads_of, actions_of, bodies_from, code_at, argument_at, table_of};
 ghost use Rattle.table.specs.Sum.{Read};
 ghost use Rattle.table.specs.Code.Steps.{DoubleWord};
+
+use crate::kinds::{Kind, alloc_of, free_of};
 
 // The byte at a position.
 pub fn byte(s: &[u8], i: usize) -> u8
@@ -111,6 +113,13 @@ pub fn code(table: &[u8], n: usize, a: usize) -> u8
     code_in(bodies(table, n), a)
 }
 
+// Its kind.
+pub fn kind(table: &[u8], n: usize, a: usize) -> Kind
+    ensures { result ≡ kind_of (code_at (bodies_from table.now n) a) }
+{
+    Kind::from(code(table, n, a))
+}
+
 pub fn argument(table: &[u8], n: usize, a: usize) -> usize
     ensures { Read (argument_at (bodies_from table.now n) a) 16777216 result }
 {
@@ -122,6 +131,28 @@ pub fn argument(table: &[u8], n: usize, a: usize) -> usize
 pub struct Action {
     pub code: u8,
     pub argument: usize,
+}
+
+impl Action {
+    // What it is.
+    pub fn kind(&self) -> Kind
+        ensures { result ≡ kind_of self.now.code }
+    {
+        Kind::from(self.code)
+    }
+
+    // Its alloc, and its free: the argument, and 0 for any other kind.
+    pub fn alloc(&self) -> u64
+        ensures { result ≡ own_amount alloc (kind_of self.now.code) self.now.argument }
+    {
+        alloc_of(self.code, self.argument)
+    }
+
+    pub fn free(&self) -> u64
+        ensures { result ≡ own_amount free (kind_of self.now.code) self.now.argument }
+    {
+        free_of(self.code, self.argument)
+    }
 }
 
 // Action a in a list of actions, both read at once.
