@@ -6,7 +6,8 @@ use native.Mathlib.Omega.{arith}
 use mir.Syntax.{w16, w64}
 use mir.Val.{Fits}
 use borrow.Author.Tests.{ltb-true}
-use Rattle.table.specs.Format.{unknown, kind_of}
+use Rattle.table.specs.Format.{kind_of}
+use Rattle.table.specs.declared.kinds.Kind.TheVariants.{Unknown as unknown}
 use Rattle.table.proofs.Tests.{and_both}
 use Rattle.array_machine.specs.Turn.{next_fits}
 

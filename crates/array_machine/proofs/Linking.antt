@@ -3,7 +3,9 @@ use mathlib.Core.Path.{◌≡◌, refl, sym, ap, subst, ◌∙◌}
 use Prim.Native.Nat.{ℕ}
 use mathlib.Core.List.{List}
 use mathlib.Core.Bool.{true}
-use Rattle.table.specs.Format.{Kind, end, work, alloc, free, fork, join, unknown, Table, kind, table_of}
+use Rattle.table.specs.Format.{Table, kind, table_of}
+use Rattle.table.specs.declared.kinds.Kind.{Kind}
+use Rattle.table.specs.declared.kinds.Kind.TheVariants.{End as end, Work as work, Alloc as alloc, Free as free, Fork as fork, Join as join, Unknown as unknown}
 use Rattle.schedule.specs.declared.Worker.{Worker}
 use Rattle.schedule.specs.Machine.{State, Stepped, stepped, waits_for, act_by, act}
 use Rattle.schedule.specs.Links.{no_thread, Links, LinkedAs, first_ready, seek}

@@ -6,7 +6,9 @@ use mathlib.Core.Bool.{Bool, true, false}
 use lib.ListN.{length, get_or, set}
 use lib.Seq.{get_or-set_same, set-get_or, set-set}
 use lib.Dec.{leb, eqb}
-use Rattle.table.specs.Format.{Kind, end, work, alloc, free, fork, join, unknown, Table, kind}
+use Rattle.table.specs.Format.{Table, kind}
+use Rattle.table.specs.declared.kinds.Kind.{Kind}
+use Rattle.table.specs.declared.kinds.Kind.TheVariants.{End as end, Work as work, Alloc as alloc, Free as free, Fork as fork, Join as join, Unknown as unknown}
 use Rattle.schedule.specs.declared.Worker.{Worker}
 use Rattle.schedule.specs.Machine.{State, Stepped, drawn, stepped, with_list, released, held, ended, next_of, status_of, worker_of, nobody, counted}
 use Rattle.schedule.specs.Machine.{without, waits_for, parent_of, woken, act_by, act, leftmost, taken, turn_free, turn_of}

@@ -7,7 +7,8 @@ use native.Mathlib.Omega.{arith}
 use borrow.Author.Tests.{lt-ltb}
 use lib.ListN.{length, get_or, set}
 use lib.Seq.{get_or-set_same}
-use Rattle.table.specs.Format.{free, fork, join, kind, threads_of, actions_of, table_of}
+use Rattle.table.specs.Format.{kind, threads_of, actions_of, table_of}
+use Rattle.table.specs.declared.kinds.Kind.TheVariants.{Free as free, Fork as fork, Join as join}
 use Rattle.table.proofs.Sizes.{Sizes, sizes}
 use Rattle.table.proofs.Bodies.{fork_below_lem, join_below}
 use Rattle.table.proofs.ReadBack.{argument_short}

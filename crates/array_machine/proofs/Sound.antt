@@ -8,7 +8,9 @@ use borrow.Author.Tests.{lt-ltb, le-leb, eqb-false}
 use lib.ListN.{length, get_or, set}
 use lib.Dec.{eqb, leb}
 use Rattle.table.specs.Sum.{pick}
-use Rattle.table.specs.Format.{Kind, end, work, alloc, free, fork, join, unknown, Table, kind, table_of}
+use Rattle.table.specs.Format.{Table, kind, table_of}
+use Rattle.table.specs.declared.kinds.Kind.{Kind}
+use Rattle.table.specs.declared.kinds.Kind.TheVariants.{End as end, Work as work, Alloc as alloc, Free as free, Fork as fork, Join as join, Unknown as unknown}
 use Rattle.schedule.specs.declared.Worker.{Worker}
 use Rattle.schedule.specs.declared.Reply.TheVariants.{Idle}
 use Rattle.schedule.specs.Machine.{State, drawn, held, ended, ready, leftmost, taken, turn_free, Stepped, stepped, parent_of, waits_for, woken, with_status, act_by, act}

@@ -10,7 +10,9 @@ use borrow.Author.Tests.{eqb-true, not-false, le-ltb}
 use lib.ListN.{length, take, drop, length-drop, length-append, take-append-drop}
 use lib.Seq.{drop-drop, take-add, take_all, get_or-drop}
 use Rattle.table.specs.Sum.{sum_to}
-use Rattle.table.specs.Format.{Kind, end, work, alloc, free, fork, join, unknown, kind_of, kind, Table, u24_at, threads_of, actions_of, table_of}
+use Rattle.table.specs.Format.{kind_of, kind, Table, u24_at, threads_of, actions_of, table_of}
+use Rattle.table.specs.declared.kinds.Kind.{Kind}
+use Rattle.table.specs.declared.kinds.Kind.TheVariants.{End as end, Work as work, Alloc as alloc, Free as free, Fork as fork, Join as join, Unknown as unknown}
 use Rattle.table.specs.Checks.{argument_fits, argument_wrong, owner}
 use Rattle.table.specs.Load.{loaded}
 use Rattle.table.specs.declared.Facts.{Facts}

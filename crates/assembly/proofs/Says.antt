@@ -9,7 +9,9 @@ use borrow.Author.Tests.{ne_eqb}
 use lib.Dec.{eqb}
 use lib.ListN.{length, length-append}
 use lib.Seq.{take-append_seam, drop-append_seam, drop-append-add}
-use Rattle.table.specs.Format.{Kind, end, work, alloc, free, fork, join, unknown, kind_of}
+use Rattle.table.specs.Format.{kind_of}
+use Rattle.table.specs.declared.kinds.Kind.{Kind}
+use Rattle.table.specs.declared.kinds.Kind.TheVariants.{End as end, Work as work, Alloc as alloc, Free as free, Fork as fork, Join as join, Unknown as unknown}
 use Rattle.text.specs.Text.{ascii, digit, decimal}
 use Rattle.assembly.specs.Words.{span_of, parts, nonempty, in_class, words_in, uncommented, no_number, same}
 use Rattle.assembly.specs.Said.{code_of_word, thread_code, said_with, said_by, meaning_of, line_said, saids}

@@ -4,7 +4,9 @@ use Rattle.table.specs.declared.Facts.{Facts}
 use Rattle.table.specs.declared.Refusal.{Refusal}
 use mathlib.Core.List.{List, [], ◌∷◌, ◌++◌, flatten}
 use Rattle.table.specs.Sum.{pick}
-use Rattle.table.specs.Format.{Table, table_of, Kind, end, work, alloc, free, fork, join, unknown, kind_of}
+use Rattle.table.specs.Format.{Table, table_of, kind_of}
+use Rattle.table.specs.declared.kinds.Kind.{Kind}
+use Rattle.table.specs.declared.kinds.Kind.TheVariants.{End as end, Work as work, Alloc as alloc, Free as free, Fork as fork, Join as join, Unknown as unknown}
 use Rattle.table.specs.Load.{loaded}
 use Rattle.text.specs.Text.{ascii, decimal, newline}
 use Rattle.assembly.specs.Assembly.{over, kept_if_short}

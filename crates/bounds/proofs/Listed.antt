@@ -11,7 +11,8 @@ use lib.Dec.{ltb, eqb}
 use lib.ListN.{length}
 use borrow.Author.Tests.{lt-ltb, eq-eqb}
 use Rattle.table.specs.Sum.{pick, any_below}
-use Rattle.table.specs.Format.{fork, is, Table, kind}
+use Rattle.table.specs.Format.{is, Table, kind}
+use Rattle.table.specs.declared.kinds.Kind.TheVariants.{Fork as fork}
 use Rattle.table.specs.Checks.{owner, end_of}
 use Rattle.table.specs.Level.{fork_below, D}
 use Rattle.table.specs.Nested.{nest, N}

@@ -14,7 +14,8 @@ use mathlib.Core.List.{List, [], ◌∷◌}
 use mathlib.Core.Bool.{Bool, true, false, not, ◌&&◌}
 use lib.Dec.{eqb}
 use Rattle.table.specs.Sum.{pick, sum_to}
-use Rattle.table.specs.Format.{alloc, join, is, Table, kind, table_of}
+use Rattle.table.specs.Format.{is, Table, kind, table_of}
+use Rattle.table.specs.declared.kinds.Kind.TheVariants.{Alloc as alloc, Join as join}
 use Rattle.table.proofs.Sums.{sum_to_le}
 use Rattle.schedule.specs.declared.Run.{Run}
 use Rattle.schedule.specs.declared.Report.TheVariants.{Finished}

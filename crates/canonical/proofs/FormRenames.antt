@@ -10,7 +10,8 @@ use lib.Dec.{eqb}
 use lib.ListN.{length, get_or}
 use borrow.Author.Tests.{eqb-true, eqb-false}
 use Rattle.table.specs.Sum.{pick}
-use Rattle.table.specs.Format.{fork, join, Table, kind, table_of}
+use Rattle.table.specs.Format.{Table, kind, table_of}
+use Rattle.table.specs.declared.kinds.Kind.TheVariants.{Fork as fork, Join as join}
 use Rattle.table.specs.Checks.{owner, open_before}
 use Rattle.table.specs.Rules.{ContentRules, BodyRules, NestRules, ForkRules, BalanceRules}
 use Rattle.table.proofs.Bodies.{count_pos, owner_below_lem, owner_first, fork_below_lem, owner_of_first}

@@ -4,7 +4,9 @@ use Prim.Native.Nat.{ℕ, zero, suc, ◌+◌, ◌%◌, ◌≤◌, ◌<◌}
 use mathlib.Core.List.{List, [], ◌∷◌, map, flatten, Memᴰ}
 use native.Mathlib.Omega.{arith}
 use lib.ListN.{length, length-append}
-use Rattle.table.specs.Format.{Kind, end, work, alloc, free, fork, join, unknown, kind, bodies_of, threads_of, actions_of, first_of, count_of, table_of}
+use Rattle.table.specs.Format.{kind, bodies_of, threads_of, actions_of, first_of, count_of, table_of}
+use Rattle.table.specs.declared.kinds.Kind.{Kind}
+use Rattle.table.specs.declared.kinds.Kind.TheVariants.{End as end, Work as work, Alloc as alloc, Free as free, Fork as fork, Join as join, Unknown as unknown}
 use Rattle.table.specs.Written.{Action, pair_row, entry_rows, action_rows, table_rows, body_in}
 use Rattle.table.proofs.Bodies.{body_within, fork_below_lem, join_below}
 use Rattle.table.proofs.ReadBack.{argument_short}

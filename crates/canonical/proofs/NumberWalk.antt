@@ -8,7 +8,9 @@ use mathlib.Core.Bool.{Bool, true, false}
 use lib.ListN.{length, get_or, set, length-set}
 use lib.Seq.{get_or-set_same, get_or-set_other}
 use Rattle.table.specs.Sum.{pick, sum_to}
-use Rattle.table.specs.Format.{Kind, fork, is, kind_of, Table, kind}
+use Rattle.table.specs.Format.{is, kind_of, Table, kind}
+use Rattle.table.specs.declared.kinds.Kind.{Kind}
+use Rattle.table.specs.declared.kinds.Kind.TheVariants.{Fork as fork}
 use Rattle.table.specs.Checks.{owner, counts_below}
 use Rattle.table.proofs.Tests.{no_way, is_true, same_is}
 use Rattle.table.proofs.Bodies.{first_is, first_next, count_pos, body_within, counts_all, body_before, owner_at, owner_end, fork_above, fork_below_lem}

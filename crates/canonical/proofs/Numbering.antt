@@ -7,7 +7,8 @@ use mathlib.Core.Bool.{Bool, true, false}
 use lib.ListN.{length, get_or, length-append}
 use lib.Seq.{get_or-append_seam}
 use Rattle.table.specs.Sum.{pick, sum_to, sum_over}
-use Rattle.table.specs.Format.{end, fork, code_of, is, Table, kind}
+use Rattle.table.specs.Format.{code_of, is, Table, kind}
+use Rattle.table.specs.declared.kinds.Kind.TheVariants.{End as end, Fork as fork}
 use Rattle.table.specs.Checks.{owner, whole}
 use Rattle.table.specs.Serial.{serial, serial_order}
 use Rattle.table.proofs.Tests.{is_true}

@@ -8,7 +8,8 @@ use mathlib.Core.Logic.{◌⊎◌, inl, inr, ⊎_elim}
 use lib.ListN.{length, get_or}
 use borrow.Author.Tests.{eq-eqb, ne_eqb}
 use Rattle.table.specs.Sum.{pick, sum_to}
-use Rattle.table.specs.Format.{fork, is, Table, kind}
+use Rattle.table.specs.Format.{is, Table, kind}
+use Rattle.table.specs.declared.kinds.Kind.TheVariants.{Fork as fork}
 use Rattle.table.specs.Serial.{serial_order}
 use Rattle.table.proofs.Tests.{is_true, same_is}
 use Rattle.table.proofs.Bodies.{first_within}

@@ -1,7 +1,8 @@
 -- The canonical form of a table: "the form in which threads are numbered by the serial order of their forks, the root staying 0".
 use Rattle.std.specs.Prelude.{ℕ, List, [], ◌∷◌, map}
 use Rattle.table.specs.Sum.{pick}
-use Rattle.table.specs.Format.{fork, is, Table, kind, table_of}
+use Rattle.table.specs.Format.{is, Table, kind, table_of}
+use Rattle.table.specs.declared.kinds.Kind.TheVariants.{Fork as fork}
 use Rattle.table.specs.Serial.{serial_order}
 use Rattle.order.specs.Words.{place_in}
 use Rattle.table.specs.Written.{Action, body_in, written}

@@ -13,7 +13,9 @@ use lib.ListN.{length, get_or, set, replicate, length-set, length-replicate}
 use lib.Seq.{get_or-set_same, get_or-set_other}
 use lib.Dec.{eqb}
 use Rattle.table.specs.Sum.{pick, any_below}
-use Rattle.table.specs.Format.{Kind, end, work, alloc, free, fork, join, unknown, code_of, is, Table, kind}
+use Rattle.table.specs.Format.{code_of, is, Table, kind}
+use Rattle.table.specs.declared.kinds.Kind.{Kind}
+use Rattle.table.specs.declared.kinds.Kind.TheVariants.{End as end, Work as work, Alloc as alloc, Free as free, Fork as fork, Join as join, Unknown as unknown}
 use Rattle.table.specs.Pass.{try_at, refusal}
 use Rattle.table.specs.Checks.{forks, forked_below, forked_before, opened, open_before, is_latest, is_empty, join_not_latest, end_with_open, second_pass}
 use Rattle.checks.specs.Code.Steps.{Nesting, nest, nest_at}

@@ -1,6 +1,7 @@
 // Check 10: no thread's balance falls below 0. A thread's rise and fall, its own and those of the children it joins, are kept for its parent.
 ghost use Rattle.std.specs.Prelude.{◌≡◌, ◌<◌};
-ghost use Rattle.table.specs.Format.{kind_of, table_of, join};
+ghost use Rattle.table.specs.Format.{kind_of, table_of};
+ghost use Rattle.table.specs.declared.kinds.Kind.TheVariants.{Join as join};
 ghost use Rattle.table.specs.Pass.{try_pass};
 ghost use Rattle.table.specs.Checks.{balance_pass};
 ghost use Rattle.table.specs.Code.Steps.{Nested, WalkReady, child_amount};

@@ -8,7 +8,8 @@ use mathlib.Core.List.Memᴰ
 use mathlib.Core.List.{List, [], ◌∷◌, ◌++◌, Memᴰ}
 use mathlib.Core.Bool.{true, false}
 use lib.ListN.{length, get_or}
-use Rattle.table.specs.Format.{Table, kind, join, table_of}
+use Rattle.table.specs.Format.{Table, kind, table_of}
+use Rattle.table.specs.declared.kinds.Kind.TheVariants.{Join as join}
 use Rattle.table.specs.Nested.{N}
 use Rattle.table.specs.Serial.{S1}
 use Rattle.filling.specs.Filled.{filled_out}

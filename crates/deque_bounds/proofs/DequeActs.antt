@@ -8,7 +8,8 @@ use mathlib.Core.Bool.{Bool, true, false}
 use mathlib.Core.Logic.{◌⊎◌, inl, inr}
 use borrow.Author.Tests.{eq-eqb}
 use Rattle.table.specs.Sum.{pick, sum_over}
-use Rattle.table.specs.Format.{end, fork, join, is, Table, kind}
+use Rattle.table.specs.Format.{is, Table, kind}
+use Rattle.table.specs.declared.kinds.Kind.TheVariants.{End as end, Fork as fork, Join as join}
 use Rattle.table.specs.Checks.{owner, end_of, open_before}
 use Rattle.table.proofs.Tests.{no_way, is_true, same_is}
 use Rattle.table.proofs.Bodies.{end_within, end_last, owner_of_end, owner_first, fork_above, fork_below_lem}

@@ -10,7 +10,8 @@ use lib.ListN.{length, get_or}
 use lib.Dec.{ltb, eqb}
 use borrow.Author.Tests.{eqb-true, lt-ltb}
 use Rattle.table.specs.Sum.{pick}
-use Rattle.table.specs.Format.{join, Table, kind}
+use Rattle.table.specs.Format.{Table, kind}
+use Rattle.table.specs.declared.kinds.Kind.TheVariants.{Join as join}
 use Rattle.table.specs.Checks.{owner, alloc_of}
 use Rattle.table.specs.Nested.{nest}
 use Rattle.table.specs.Level.{fork_below}

@@ -12,7 +12,8 @@ use lib.Seq.{get_or-set_same, get_or-set_other}
 use lib.Dec.{ltb, eqb}
 use borrow.Author.Tests.{lt-ltb, le-ltb}
 use Rattle.table.specs.Sum.{pick, sum_over}
-use Rattle.table.specs.Format.{fork, Table, kind}
+use Rattle.table.specs.Format.{Table, kind}
+use Rattle.table.specs.declared.kinds.Kind.TheVariants.{Fork as fork}
 use Rattle.table.specs.Checks.{owner, open_before, tail}
 use Rattle.table.proofs.Tests.{no_way}
 use Rattle.table.proofs.Bodies.{fork_below_lem}

@@ -8,7 +8,8 @@ use native.Mathlib.Omega.{arith}
 use lib.ListN.{get_or}
 use lib.Dec.{ltb, eqb}
 use Rattle.table.specs.Sum.{pick}
-use Rattle.table.specs.Format.{free, Table}
+use Rattle.table.specs.Format.{Table}
+use Rattle.table.specs.declared.kinds.Kind.TheVariants.{Free as free}
 use Rattle.table.specs.Checks.{owner, alloc_of}
 use Rattle.schedule.specs.declared.Worker.{Worker}
 use Rattle.schedule.specs.Machine.{State, ready, held, nobody, next_of, status_of, worker_of}

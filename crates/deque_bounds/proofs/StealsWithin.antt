@@ -7,7 +7,8 @@ use mathlib.Core.List.{List, [], ◌∷◌, ◌++◌, Memᴰ}
 use mathlib.Core.Logic.{◌⊎◌, inl, inr}
 use lib.Dec.{ltb}
 use Rattle.table.specs.Sum.{pick}
-use Rattle.table.specs.Format.{fork, join, Table, kind}
+use Rattle.table.specs.Format.{Table, kind}
+use Rattle.table.specs.declared.kinds.Kind.TheVariants.{Fork as fork, Join as join}
 use Rattle.table.specs.Checks.{owner, end_of}
 use Rattle.table.specs.Level.{level}
 use Rattle.table.specs.Nested.{nest}

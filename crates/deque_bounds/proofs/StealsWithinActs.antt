@@ -9,7 +9,8 @@ use native.Mathlib.Omega.{arith}
 use native.Mathlib.Decide.{ℕ_discrete}
 use lib.Dec.{eqb}
 use borrow.Author.Tests.{eqb-false, lt-ltb}
-use Rattle.table.specs.Format.{end, fork, join, is, Table, kind}
+use Rattle.table.specs.Format.{is, Table, kind}
+use Rattle.table.specs.declared.kinds.Kind.TheVariants.{End as end, Fork as fork, Join as join}
 use Rattle.table.specs.Checks.{owner, end_of}
 use Rattle.table.specs.Nested.{nest}
 use Rattle.table.proofs.Tests.{no_way}

@@ -10,7 +10,8 @@ use lib.ListN.{length, get_or, set}
 use lib.Dec.{ltb, eqb}
 use borrow.Author.Tests.{eqb-false, lt-ltb}
 use Rattle.table.specs.Sum.{pick}
-use Rattle.table.specs.Format.{free, Table}
+use Rattle.table.specs.Format.{Table}
+use Rattle.table.specs.declared.kinds.Kind.TheVariants.{Free as free}
 use Rattle.table.specs.Checks.{owner}
 use Rattle.table.specs.Nested.{nest}
 use Rattle.table.proofs.Tests.{no_way}

@@ -2,7 +2,8 @@
 -- Choice 1 leaps past thread 1's deque until thread 4's part holds 23 of its 24, and then choice 0 does thread 1's part.
 use Rattle.std.specs.Prelude.{◌≡◌, refl, ℕ, zero, suc, List, [], ◌∷◌, ◌++◌, map, true, replicate, Ok}
 use Rattle.table.specs.Sum.{sum_to, sum_over, greatest, any_below}
-use Rattle.table.specs.Format.{end, alloc, free, fork, join, code_of, kind_of, is, Table, table_of}
+use Rattle.table.specs.Format.{code_of, kind_of, is, Table, table_of}
+use Rattle.table.specs.declared.kinds.Kind.TheVariants.{End as end, Alloc as alloc, Free as free, Fork as fork, Join as join}
 use Rattle.table.specs.Pass.{try_at, try_from, try_pass, first_found}
 use Rattle.table.specs.Checks.{entry_wrong, total_wrong, owner_below, kind_unknown, argument_wrong, end_misplaced, forked_below, forked_before, open_before, join_not_latest, end_with_open, never_forked, alloc_of, free_of, whole_within, balance, balance_below0, passes}
 use Rattle.table.specs.Level.{fork_below, fork_of, before_it, joined_end, depends_on, level_within, D}

@@ -1,7 +1,8 @@
 -- S1 + K·(N − 1) is met: a row of one worker that holds K more than the serial peak, which 01 promises of one worker by AsyncDF.
 use Rattle.std.specs.Prelude.{◌≡◌, refl, ℕ, ◌+◌, ◌-◌, ◌*◌, List, [], ◌∷◌, Ok}
 use Rattle.table.specs.Sum.{sum_to, sum_over, greatest, greatest_to, any_below}
-use Rattle.table.specs.Format.{end, alloc, free, fork, join, code_of, kind_of, is, Table, table_of}
+use Rattle.table.specs.Format.{code_of, kind_of, is, Table, table_of}
+use Rattle.table.specs.declared.kinds.Kind.TheVariants.{End as end, Alloc as alloc, Free as free, Fork as fork, Join as join}
 use Rattle.table.specs.Pass.{try_at, try_from, try_pass, first_found}
 use Rattle.table.specs.Checks.{entry_wrong, total_wrong, owner_below, kind_unknown, argument_wrong, end_misplaced, forked_below, forked_before, open_before, join_not_latest, end_with_open, never_forked, alloc_of, free_of, whole_within, balance, balance_below0, passes}
 use Rattle.table.specs.Level.{fork_below}

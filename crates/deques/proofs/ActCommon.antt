@@ -5,7 +5,9 @@ use mathlib.Core.List.{List}
 use mathlib.Core.Bool.{Bool, true, false}
 use lib.Dec.{leb, eqb}
 use Rattle.table.specs.Sum.{pick}
-use Rattle.table.specs.Format.{Kind, end, work, alloc, free, fork, join, unknown, Table, kind}
+use Rattle.table.specs.Format.{Table, kind}
+use Rattle.table.specs.declared.kinds.Kind.{Kind}
+use Rattle.table.specs.declared.kinds.Kind.TheVariants.{End as end, Work as work, Alloc as alloc, Free as free, Fork as fork, Join as join, Unknown as unknown}
 use Rattle.schedule.specs.Machine.{State, ended, status_of, worker_of, parent_of, next_of, with_list, with_status, released, waits_for, woken, Stepped, stepped, act_by, act, left_of, without, drawn}
 use Rattle.schedule.specs.Sound.{Common, SoundState}
 use Rattle.order.proofs.Lawful.{Lawful}

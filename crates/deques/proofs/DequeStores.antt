@@ -13,7 +13,9 @@ use borrow.Author.Tests.{ne_eqb}
 use Rattle.table.specs.Sum.{pick}
 use Rattle.table.specs.Rules.{Rules}
 use Rattle.table.specs.Pass.{first_found}
-use Rattle.table.specs.Format.{Kind, end, work, alloc, free, fork, join, unknown, Table, kind}
+use Rattle.table.specs.Format.{Table, kind}
+use Rattle.table.specs.declared.kinds.Kind.{Kind}
+use Rattle.table.specs.declared.kinds.Kind.TheVariants.{End as end, Work as work, Alloc as alloc, Free as free, Fork as fork, Join as join, Unknown as unknown}
 use Rattle.schedule.specs.declared.Run.{Run}
 use Rattle.schedule.specs.Memory.{count_in}
 use Rattle.schedule.specs.Machine.{State, ended, next_of, status_of, worker_of, parent_of, with_list, without, left_of, waits_for, woken, released, Stepped, act, act_by, taken, counted, drawn}

@@ -10,7 +10,8 @@ use mathlib.Core.Bool.{Bool, true, false}
 use lib.ListN.{get_or, set, length-set}
 use lib.Seq.{get_or-set_same, get_or-set_other}
 use Rattle.table.specs.Sum.{pick}
-use Rattle.table.specs.Format.{end, fork, join, is, code_of, Table, kind, table_of}
+use Rattle.table.specs.Format.{is, code_of, Table, kind, table_of}
+use Rattle.table.specs.declared.kinds.Kind.TheVariants.{End as end, Fork as fork, Join as join}
 use Rattle.table.specs.Checks.{owner, end_of, open_before}
 use Rattle.table.specs.Rules.{ContentRules, BodyRules, NestRules, ForkRules}
 use Rattle.table.specs.Level.{level}

@@ -5,7 +5,9 @@ use mathlib.Core.List.{List}
 use native.Mathlib.Omega.{arith}
 use lib.ListN.{get_or}
 use Rattle.table.specs.Sum.{pick, sum_to, greatest_to}
-use Rattle.table.specs.Format.{Kind, alloc, free, fork, kind_of, is, Table, kind, table_of, first_of, body_of, code_at, argument_at, own_amount}
+use Rattle.table.specs.Format.{kind_of, is, Table, kind, table_of, first_of, body_of, code_at, argument_at, own_amount}
+use Rattle.table.specs.declared.kinds.Kind.{Kind}
+use Rattle.table.specs.declared.kinds.Kind.TheVariants.{Alloc as alloc, Free as free, Fork as fork}
 use Rattle.table.specs.Checks.{alloc_of, free_of, whole}
 use Rattle.table.specs.Rules.{ContentRules, BodyRules}
 use Rattle.table.specs.Code.Steps.{child_amount, amount_at, Filled, WalkReady}

@@ -1,7 +1,8 @@
 // The number of nested thread levels N: a forked thread is one level below the thread that forks it.
 ghost use Rattle.std.specs.Prelude.{◌≡◌, suc, max, ◌<◌, ◌≤◌, set};
 ghost use Rattle.table.specs.Sum.{pick};
-ghost use Rattle.table.specs.Format.{kind_of, end, fork, is, table_of};
+ghost use Rattle.table.specs.Format.{kind_of, is, table_of};
+ghost use Rattle.table.specs.declared.kinds.Kind.TheVariants.{End as end, Fork as fork};
 ghost use Rattle.table.specs.Nested.{N};
 ghost use Rattle.table.specs.Code.Steps.{Nested};
 

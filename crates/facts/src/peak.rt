@@ -1,7 +1,8 @@
 // The serial peak S1, and what is left: each thread's highest amount, counted from its start, from those of the children it forks.
 ghost use Rattle.std.specs.Prelude.{◌≡◌, ◌<◌};
 ghost use Rattle.table.specs.Sum.{sum_to, greatest_to};
-ghost use Rattle.table.specs.Format.{table_of, kind_of, alloc, free, fork};
+ghost use Rattle.table.specs.Format.{table_of, kind_of};
+ghost use Rattle.table.specs.declared.kinds.Kind.TheVariants.{Alloc as alloc, Free as free, Fork as fork};
 ghost use Rattle.table.specs.Serial.{S1};
 ghost use Rattle.table.specs.Code.Steps.{WalkReady, child_amount, amount_at};
 ghost use Rattle.facts.specs.Code.Steps.{Kept, PeaksReady, top_of};

@@ -9,7 +9,9 @@ use borrow.Author.Tests.{le-ltb}
 use lib.ListN.{length, get_or, take, length-append}
 use lib.Seq.{get_or-take, take_at, take-length, length-take-le}
 use Rattle.table.specs.Sum.{pick, sum_to}
-use Rattle.table.specs.Format.{Kind, alloc, free, fork, join, is, code_of, kind_of, Table, kind}
+use Rattle.table.specs.Format.{is, code_of, kind_of, Table, kind}
+use Rattle.table.specs.declared.kinds.Kind.{Kind}
+use Rattle.table.specs.declared.kinds.Kind.TheVariants.{Alloc as alloc, Free as free, Fork as fork, Join as join}
 use Rattle.table.specs.Checks.{owner, alloc_of, free_of, with_child, whole, part_of, up_to, balance, balance_below0}
 use Rattle.table.specs.Rules.{ContentRules, BodyRules, BalanceRules}
 use Rattle.table.proofs.Sums.{sum_to_cong, sum_to_zero, sum_to_part}

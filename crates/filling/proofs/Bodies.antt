@@ -5,7 +5,9 @@ use mathlib.Core.Path.{◌≡◌, refl}
 use mathlib.Core.List.{List, [], ◌∷◌, ◌++◌, flatten}
 use mathlib.Core.Bool.{true, false, not, ◌&&◌}
 use lib.ListN.{length, get_or}
-use Rattle.table.specs.Format.{Kind, end, join, unknown, is, kind_of}
+use Rattle.table.specs.Format.{is, kind_of}
+use Rattle.table.specs.declared.kinds.Kind.{Kind}
+use Rattle.table.specs.declared.kinds.Kind.TheVariants.{End as end, Join as join, Unknown as unknown}
 use Rattle.table.specs.Checks.{argument_fits, is_latest, is_empty, opened}
 use Rattle.table.specs.Written.{Action}
 use Rattle.table.proofs.ReadBack.{none}

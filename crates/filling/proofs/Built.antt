@@ -9,7 +9,8 @@ use lib.Dec.{eqb}
 use borrow.Author.Tests.{eq-eqb, ne_eqb}
 use lib.ListN.{length, get_or}
 use Rattle.table.specs.Sum.{sum_to}
-use Rattle.table.specs.Format.{end, is, Table, kind}
+use Rattle.table.specs.Format.{is, Table, kind}
+use Rattle.table.specs.declared.kinds.Kind.TheVariants.{End as end}
 use Rattle.table.specs.Checks.{owner, end_of, kind_unknown, argument_wrong, differ, end_misplaced, open_before, join_not_latest, end_with_open}
 use Rattle.table.specs.Rules.{ContentRules, BodyRules}
 use Rattle.table.proofs.Bodies.{first_is, first_next, after_end, end_kind, owner_at, owner_below_lem, owner_first, owner_end}

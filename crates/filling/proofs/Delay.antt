@@ -6,7 +6,8 @@ use mathlib.Core.Bool.{Bool, ◌&&◌}
 use mathlib.Core.Logic.{◌⊎◌}
 use lib.Dec.{eqb}
 use Rattle.table.specs.Sum.{pick, sum_over}
-use Rattle.table.specs.Format.{work, fork, join, is, Table, kind}
+use Rattle.table.specs.Format.{is, Table, kind}
+use Rattle.table.specs.declared.kinds.Kind.TheVariants.{Work as work, Fork as fork, Join as join}
 use Rattle.table.specs.Checks.{owner, alloc_of}
 use Rattle.table.specs.Serial.{serial_order}
 use Rattle.order.specs.Order.{number_of}

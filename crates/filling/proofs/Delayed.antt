@@ -11,7 +11,8 @@ use lib.Dec.{eqb}
 use lib.ListN.{length, get_or}
 use borrow.Author.Tests.{ltb-false, le-ltb, eq-eqb}
 use Rattle.table.specs.Sum.{pick, sum_over, any_below}
-use Rattle.table.specs.Format.{work, fork, is, code_of, kind_of, Table, table_of, kind}
+use Rattle.table.specs.Format.{is, code_of, kind_of, Table, table_of, kind}
+use Rattle.table.specs.declared.kinds.Kind.TheVariants.{Work as work, Fork as fork}
 use Rattle.table.specs.Checks.{owner, alloc_of}
 use Rattle.table.specs.Rules.{Rules}
 use Rattle.table.specs.Serial.{serial, serial_order}

@@ -7,7 +7,8 @@ use mathlib.Core.Bool.{true, false}
 use lib.ListN.{length, get_or, length-append, get_or-append}
 use lib.Seq.{get_or-append-add}
 use Rattle.table.specs.Sum.{sum_over}
-use Rattle.table.specs.Format.{alloc, free, fork, join, is, kind_of, Table, kind}
+use Rattle.table.specs.Format.{is, kind_of, Table, kind}
+use Rattle.table.specs.declared.kinds.Kind.TheVariants.{Alloc as alloc, Free as free, Fork as fork, Join as join}
 use Rattle.table.specs.Checks.{owner, alloc_of, free_of}
 use Rattle.table.specs.Rules.{ContentRules, BodyRules, NestRules, ForkRules}
 use Rattle.table.specs.Serial.{serial_order}

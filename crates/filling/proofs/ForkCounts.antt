@@ -9,7 +9,8 @@ use lib.Dec.{eqb, ltb}
 use borrow.Author.Tests.{eq-eqb, ne_eqb, lt-ltb, le-ltb}
 use lib.ListN.{length, get_or}
 use Rattle.table.specs.Sum.{pick, sum_to, any_below}
-use Rattle.table.specs.Format.{fork, is, Table, kind}
+use Rattle.table.specs.Format.{is, Table, kind}
+use Rattle.table.specs.declared.kinds.Kind.TheVariants.{Fork as fork}
 use Rattle.table.specs.Checks.{forks, forked_below, forked_before, never_forked}
 use Rattle.table.specs.Rules.{ContentRules, BodyRules, NestRules, ForkRules}
 use Rattle.table.proofs.Sums.{sum_to_part, sum_to_zero}

@@ -12,7 +12,8 @@ use lib.ListN.{length, get_or, set, length-set}
 use lib.Seq.{get_or-set_same, get_or-set_other}
 use borrow.Author.Tests.{le-leb, lt-leb}
 use Rattle.table.specs.Sum.{pick, sum_to}
-use Rattle.table.specs.Format.{end, fork, is, code_of, Table, table_of, kind}
+use Rattle.table.specs.Format.{is, code_of, Table, table_of, kind}
+use Rattle.table.specs.declared.kinds.Kind.TheVariants.{End as end, Fork as fork}
 use Rattle.table.specs.Checks.{owner}
 use Rattle.table.specs.Serial.{serial_order}
 use Rattle.table.proofs.Tests.{no_way, Turn, ends, branches, goes, turn, same_is, is_true}

@@ -8,7 +8,9 @@ use lib.Dec.{eqb, ltb}
 use borrow.Author.Tests.{ltb-true, eq-eqb, ne_eqb, lt-ltb, not-false}
 use lib.ListN.{length, get_or, length-append}
 use Rattle.table.specs.Sum.{pick, sum_to, sum_over}
-use Rattle.table.specs.Format.{Kind, end, work, alloc, free, fork, join, unknown, is, code_of, kind_of, Table, kind}
+use Rattle.table.specs.Format.{is, code_of, kind_of, Table, kind}
+use Rattle.table.specs.declared.kinds.Kind.{Kind}
+use Rattle.table.specs.declared.kinds.Kind.TheVariants.{End as end, Work as work, Alloc as alloc, Free as free, Fork as fork, Join as join, Unknown as unknown}
 use Rattle.table.specs.Checks.{owner, end_of, counts_below, kind_unknown, argument_fits, argument_wrong, alloc_of, open_before, join_not_latest, end_with_open}
 use Rattle.table.specs.Serial.{serial_order}
 use Rattle.table.proofs.Sums.{sum_to_cong, sum_to_part}

@@ -7,7 +7,9 @@ use mathlib.Core.List.{List, [], ◌∷◌, ◌++◌, Memᴰ}
 use mathlib.Core.Bool.{Bool, true, false}
 use mathlib.Core.Logic.{◌⊎◌, ⊎_elim}
 use Rattle.table.specs.Sum.{pick, sum_over, greatest, any_below}
-use Rattle.table.specs.Format.{Kind, alloc, free, fork, join, is, code_of, Table, table_of, kind}
+use Rattle.table.specs.Format.{is, code_of, Table, table_of, kind}
+use Rattle.table.specs.declared.kinds.Kind.{Kind}
+use Rattle.table.specs.declared.kinds.Kind.TheVariants.{Alloc as alloc, Free as free, Fork as fork, Join as join}
 use Rattle.table.specs.Checks.{owner, alloc_of, free_of}
 use Rattle.table.specs.Rules.{Rules}
 use Rattle.table.specs.Serial.{serial, serial_order, fronts, held_after, peak_of, S1}

@@ -5,7 +5,8 @@ use mathlib.Core.List.{List}
 use mathlib.Core.Bool.{true, false}
 use native.Mathlib.Omega.{arith}
 use borrow.Author.Tests.{ne_eqb, eq-eqb}
-use Rattle.table.specs.Format.{end, fork, is, kind_of, code_at, argument_at, bodies_from, table_of}
+use Rattle.table.specs.Format.{is, kind_of, code_at, argument_at, bodies_from, table_of}
+use Rattle.table.specs.declared.kinds.Kind.TheVariants.{End as end, Fork as fork}
 use Rattle.table.specs.Sum.{Read}
 use Rattle.table.proofs.Walks.{is_code}
 use Rattle.table.proofs.Parts.{code_from, argument_from}

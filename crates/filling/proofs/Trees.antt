@@ -9,7 +9,8 @@ use lib.Dec.{eqb}
 use borrow.Author.Tests.{ltb-true, eq-eqb, lt-ltb}
 use lib.ListN.{length, length-append}
 use Rattle.table.specs.Sum.{pick}
-use Rattle.table.specs.Format.{alloc, free, is, code_of, kind_of, Table}
+use Rattle.table.specs.Format.{is, code_of, kind_of, Table}
+use Rattle.table.specs.declared.kinds.Kind.TheVariants.{Alloc as alloc, Free as free}
 use Rattle.table.specs.Checks.{alloc_of}
 use Rattle.table.specs.Written.{Action}
 use Rattle.filling.specs.Filled.{act, big, dummies, new_threads, new_actions, half, leaf, fork2, tree_of}

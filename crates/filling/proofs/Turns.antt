@@ -5,7 +5,9 @@ use mathlib.Core.Path.{◌≡◌, refl, ◌∙◌}
 use mathlib.Core.List.{List, [], ◌∷◌, flatten}
 use mathlib.Core.Bool.{Bool, true, false}
 use Rattle.table.specs.Sum.{pick, sum_to, sum_over, any_below}
-use Rattle.table.specs.Format.{Kind, alloc, join, is, code_of, kind_of, Table, table_of, kind}
+use Rattle.table.specs.Format.{is, code_of, kind_of, Table, table_of, kind}
+use Rattle.table.specs.declared.kinds.Kind.{Kind}
+use Rattle.table.specs.declared.kinds.Kind.TheVariants.{Alloc as alloc, Join as join}
 use Rattle.table.specs.Rules.{Rules}
 use Rattle.table.specs.Serial.{serial_order}
 use Rattle.table.proofs.Sums.{sum_to_zero}

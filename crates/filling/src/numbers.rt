@@ -1,6 +1,7 @@
 // The new threads' numbers, without recursion: the sums of whole threads downward, then upward where the roots of each thread begin, and the size of each tree from its parent's.
 ghost use Rattle.std.specs.Prelude.{◌≡◌, ◌+◌, ◌*◌, ◌<◌, true, length, get_or, set};
-ghost use Rattle.table.specs.Format.{table_of, fork, is, kind};
+ghost use Rattle.table.specs.Format.{table_of, is, kind};
+ghost use Rattle.table.specs.declared.kinds.Kind.TheVariants.{Fork as fork};
 ghost use Rattle.table.specs.Checks.{owner};
 ghost use Rattle.table.specs.Sum.{pick, Read};
 ghost use Rattle.filling.specs.Filled.{big, half, dummies, threads_to};

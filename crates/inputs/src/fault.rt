@@ -27,7 +27,7 @@ fn put_wanted(out: &mut [u8], at: usize, e: Wanted) -> usize
         Wanted::QuotaOrBetween => put_word(out, at, b"quota or between"),
         Wanted::OrderOrLimit => put_word(out, at, b"order or limit"),
         Wanted::Memory => put_word(out, at, b"memory"),
-        Wanted::Option<u64>(most) => put_most(out, at, most),
+        Wanted::Number(most) => put_most(out, at, most),
         Wanted::LineEnd => put_word(out, at, b"the end of the line"),
         Wanted::FewerWorkers => put_word(out, at, b"an order of at most 4096 workers"),
     }

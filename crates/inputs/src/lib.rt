@@ -17,7 +17,7 @@ use assembly::Assembled;
 pub use fault::message;
 use front::Front;
 use put::put_input;
-use read::{End, read_front};
+use read::read_front;
 
 // What should have stood on a line of the front: one of its keywords, a number of at most so much, the line's end, or an order of fewer workers.
 #[derive(Drop)]
@@ -26,7 +26,7 @@ pub enum Wanted {
     QuotaOrBetween,
     OrderOrLimit,
     Memory,
-    Option<u64>(u64),
+    Number(u64),
     LineEnd,
     FewerWorkers,
 }

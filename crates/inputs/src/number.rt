@@ -50,11 +50,11 @@ pub(crate) fn read_figure(rest: &[u8], most: u64) -> Result<u64, Wanted>
     let start = word.start;
     let end = word.end;
     if start == end {
-        return Err(Wanted::Option<u64>(most));
+        return Err(Wanted::Number(most));
     }
     let x = read_number(&rest[start..end], most);
     match x {
-        None => Err(Wanted::Option<u64>(most)),
+        None => Err(Wanted::Number(most)),
         Some(x) => figure_last(x, &rest[end..]),
     }
 }

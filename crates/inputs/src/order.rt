@@ -18,7 +18,7 @@ fn add_worker(w: &[u8], order: &mut [u8], n: usize) -> Result<usize, Wanted>
     }
     let worker = read_number(w, 255);
     match worker {
-        None => Err(Wanted::Option<u64>(255)),
+        None => Err(Wanted::Number(255)),
         Some(x) => {
             order[n] = x as u8;
             Ok(n + 1)

@@ -9,7 +9,8 @@ use lib.ListN.{length}
 use lib.IntN.{pos}
 use borrow.Author.Tests.{le-ltb}
 use Rattle.table.specs.Sum.{sum_to, greatest, greatest_to}
-use Rattle.table.specs.Format.{end, fork, is, code_of, Table, kind}
+use Rattle.table.specs.Format.{is, code_of, Table, kind}
+use Rattle.table.specs.declared.kinds.Kind.TheVariants.{End as end, Fork as fork}
 use Rattle.table.specs.Checks.{end_of, alloc_of, free_of, whole, balance}
 use Rattle.table.specs.Serial.{S1}
 use Rattle.table.specs.Level.{level, D}

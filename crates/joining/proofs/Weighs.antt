@@ -7,7 +7,8 @@ use mathlib.Core.List.{List, [], ◌∷◌, map}
 use native.Mathlib.Omega.{arith}
 use lib.ListN.{length}
 use Rattle.table.specs.Sum.{greatest}
-use Rattle.table.specs.Format.{alloc, kind, table_of}
+use Rattle.table.specs.Format.{kind, table_of}
+use Rattle.table.specs.declared.kinds.Kind.TheVariants.{Alloc as alloc}
 use Rattle.table.specs.Pass.{first_found}
 use Rattle.table.specs.Checks.{alloc_of, passes}
 use Rattle.table.specs.Serial.{S1}

@@ -1,7 +1,8 @@
 -- The lines of the programs as text (document 01, "The turn listing"). A line is a row of texts, put one after another.
 use Rattle.std.specs.Prelude.{ℕ, ◌≡◌, refl}
 use mathlib.Core.List.{List, [], ◌∷◌, ◌++◌, flatten}
-use Rattle.table.specs.Format.{Kind, end, work, alloc, free, fork, join, unknown}
+use Rattle.table.specs.declared.kinds.Kind.{Kind}
+use Rattle.table.specs.declared.kinds.Kind.TheVariants.{End as end, Work as work, Alloc as alloc, Free as free, Fork as fork, Join as join, Unknown as unknown}
 use Rattle.table.specs.Pass.{refusal}
 use Rattle.text.specs.Text.{ascii, digits_of, decimal, space, newline, refused_line}
 use Rattle.schedule.specs.declared.Run.{Run}

@@ -8,7 +8,8 @@ use mathlib.Core.Bool.{Bool, true, false}
 use lib.Dec.{eqb}
 use borrow.Author.Tests.{eq-eqb, ne_eqb, eqb-true}
 use Rattle.table.specs.Sum.{pick, sum_to}
-use Rattle.table.specs.Format.{alloc, join, is, kind_of, Table, kind, table_of}
+use Rattle.table.specs.Format.{is, kind_of, Table, kind, table_of}
+use Rattle.table.specs.declared.kinds.Kind.TheVariants.{Alloc as alloc, Join as join}
 use Rattle.table.specs.Pass.{try_pass}
 use Rattle.table.specs.Rules.{Rules}
 use Rattle.table.proofs.Walks.{is_code}

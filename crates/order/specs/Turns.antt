@@ -1,6 +1,8 @@
 -- m + A + J of a table, which is how many turns of a run aren't idle at most (N8).
 use Rattle.std.specs.Prelude.{ℕ, ◌+◌}
-use Rattle.table.specs.Format.{Kind, alloc, join, is, Table, kind}
+use Rattle.table.specs.Format.{is, Table, kind}
+use Rattle.table.specs.declared.kinds.Kind.{Kind}
+use Rattle.table.specs.declared.kinds.Kind.TheVariants.{Alloc as alloc, Join as join}
 use Rattle.order.specs.Words.{count_below}
 
 -- how many actions are of this kind

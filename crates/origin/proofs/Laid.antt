@@ -8,7 +8,8 @@ use lib.Dec.{ltb}
 use lib.ListN.{length}
 use borrow.Author.Tests.{lt-ltb, le-ltb}
 use Rattle.table.specs.Sum.{pick, sum_to}
-use Rattle.table.specs.Format.{fork, join, alloc, is, code_of, Table, kind}
+use Rattle.table.specs.Format.{is, code_of, Table, kind}
+use Rattle.table.specs.declared.kinds.Kind.TheVariants.{Fork as fork, Join as join, Alloc as alloc}
 use Rattle.table.specs.Checks.{owner, alloc_of}
 use Rattle.table.specs.Rules.{ContentRules}
 use Rattle.table.proofs.Sums.{sum_to_zero}

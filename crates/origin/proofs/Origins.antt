@@ -10,7 +10,8 @@ use mathlib.Core.Bool.{Bool, true, false, ◌&&◌, ◌||◌}
 use lib.Dec.{ltb, leb}
 use borrow.Author.Tests.{le-ltb, le-leb, lt-leb}
 use Rattle.table.specs.Sum.{pick, sum_to, any_below}
-use Rattle.table.specs.Format.{fork, join, is, code_of, Table, table_of, kind}
+use Rattle.table.specs.Format.{is, code_of, Table, table_of, kind}
+use Rattle.table.specs.declared.kinds.Kind.TheVariants.{Fork as fork, Join as join}
 use Rattle.table.specs.Checks.{owner, outside, alloc_of}
 use Rattle.table.specs.Rules.{Rules}
 use Rattle.table.specs.Written.{written}

@@ -1,7 +1,8 @@
 -- Which action of the table as given an action of the filled-out table is (change request N6): by the filling's layout, and from the filled-out table and K alone.
 use Rattle.std.specs.Prelude.{ℕ, zero, suc, ◌+◌, ◌-◌, ◌*◌, Bool, ◌&&◌, ◌||◌, eqb, ltb, leb, length}
 use Rattle.table.specs.Sum.{pick, sum_to}
-use Rattle.table.specs.Format.{fork, join, is, Table, kind}
+use Rattle.table.specs.Format.{is, Table, kind}
+use Rattle.table.specs.declared.kinds.Kind.TheVariants.{Fork as fork, Join as join}
 use Rattle.table.specs.Checks.{outside}
 use Rattle.filling.specs.Filled.{big, new_threads, in_front, filled_from}
 

@@ -3,7 +3,8 @@
 
 ghost use Rattle.std.specs.Prelude.{◌≡◌, suc, ◌+◌, ◌-◌, ◌*◌, ◌/◌, ◌≤◌, ◌<◌, ltb, leb, ◌||◌};
 ghost use Rattle.table.specs.Checks.{outside as is_outside, alloc_of};
-ghost use Rattle.table.specs.Format.{fork, join, is, kind_of, table_of};
+ghost use Rattle.table.specs.Format.{is, kind_of, table_of};
+ghost use Rattle.table.specs.declared.kinds.Kind.TheVariants.{Fork as fork, Join as join};
 ghost use Rattle.table.specs.Sum.{pick, sum_to, Read};
 ghost use Rattle.filling.specs.Filled.{new_threads};
 ghost use Rattle.origin.specs.Origin.{bigs_to, bodies_to, put_in, origin_in};

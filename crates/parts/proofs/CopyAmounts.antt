@@ -7,7 +7,9 @@ use mathlib.Core.List.{List, [], ◌∷◌, map, Memᴰ}
 use mathlib.Core.Bool.{Bool, true, false}
 use mathlib.Core.Logic.{⊎_elim}
 use Rattle.table.specs.Sum.{pick, sum_over, greatest}
-use Rattle.table.specs.Format.{Kind, alloc, free, is, Table, kind}
+use Rattle.table.specs.Format.{is, Table, kind}
+use Rattle.table.specs.declared.kinds.Kind.{Kind}
+use Rattle.table.specs.declared.kinds.Kind.TheVariants.{Alloc as alloc, Free as free}
 use Rattle.table.specs.Checks.{alloc_of, free_of}
 use Rattle.table.specs.Rules.{ContentRules, BodyRules}
 use Rattle.table.specs.Serial.{serial, fronts, held_after, peak_of}

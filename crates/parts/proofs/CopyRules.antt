@@ -5,7 +5,9 @@ use mathlib.Core.Path.{◌≡◌, refl, ◌∙◌}
 use mathlib.Core.List.{List, [], ◌∷◌, map}
 use mathlib.Core.Bool.{Bool, true, false}
 use Rattle.table.specs.Sum.{sum_to}
-use Rattle.table.specs.Format.{Kind, end, work, alloc, free, fork, join, unknown, is, Table, kind}
+use Rattle.table.specs.Format.{is, Table, kind}
+use Rattle.table.specs.declared.kinds.Kind.{Kind}
+use Rattle.table.specs.declared.kinds.Kind.TheVariants.{End as end, Work as work, Alloc as alloc, Free as free, Fork as fork, Join as join, Unknown as unknown}
 use Rattle.table.specs.Checks.{owner, tail, opened, open_before, with_child, whole, part_of}
 use Rattle.table.specs.Rules.{ContentRules, BodyRules, NestRules, ForkRules}
 use Rattle.table.specs.Nested.{nest}

@@ -7,7 +7,8 @@ use mathlib.Core.List.{List, [], ◌∷◌}
 use mathlib.Core.Bool.{Bool, true, false, not, ◌&&◌}
 use borrow.Author.Tests.{eq-eqb, lt-ltb, ne_eqb, le-ltb}
 use Rattle.table.specs.Sum.{sum_to, any_below}
-use Rattle.table.specs.Format.{end, fork, join, is, code_of, Table, kind}
+use Rattle.table.specs.Format.{is, code_of, Table, kind}
+use Rattle.table.specs.declared.kinds.Kind.TheVariants.{End as end, Fork as fork, Join as join}
 use Rattle.table.specs.Checks.{owner, end_of, kind_unknown, argument_wrong, end_misplaced, forks, forked_below, forked_before, never_forked, open_before, join_not_latest, end_with_open, alloc_of, free_of, with_child, whole, balance, balance_below0}
 use Rattle.table.specs.Rules.{ContentRules, BodyRules, NestRules, ForkRules, BalanceRules}
 use Rattle.table.proofs.Tests.{no_way, is_true, negative_is}

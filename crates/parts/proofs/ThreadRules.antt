@@ -7,7 +7,9 @@ use mathlib.Core.Bool.{Bool, true, false, not, ◌&&◌}
 use lib.Dec.{eqb}
 use borrow.Author.Tests.{eqb-true, eqb-false, eq-eqb, ne_eqb, lt-ltb, not-false}
 use Rattle.table.specs.Sum.{pick}
-use Rattle.table.specs.Format.{Kind, end, work, alloc, free, fork, join, unknown, is, Table, kind}
+use Rattle.table.specs.Format.{is, Table, kind}
+use Rattle.table.specs.declared.kinds.Kind.{Kind}
+use Rattle.table.specs.declared.kinds.Kind.TheVariants.{End as end, Work as work, Alloc as alloc, Free as free, Fork as fork, Join as join, Unknown as unknown}
 use Rattle.table.specs.Checks.{owner, end_of, kind_unknown, argument_fits, argument_wrong, end_misplaced, is_latest, is_empty, open_before, join_not_latest, end_with_open, alloc_of, free_of, balance, balance_below0}
 use Rattle.table.specs.Rules.{ContentRules, BodyRules, NestRules, BalanceRules}
 use Rattle.table.proofs.Tests.{is_true}

@@ -1,7 +1,9 @@
 -- The balance along a body where the children's final balances are known; and that no number of a walk is too large.
 use Rattle.std.proofs.Common.{◌≡◌, ℕ, suc, ◌+◌, ◌^◌, ◌<◌, ◌≤◌, Bool, true, false, List, get_or, ◌∙◌, arith}
 use Rattle.table.specs.Sum.{pick}
-use Rattle.table.specs.Format.{Kind, end, work, alloc, free, fork, join, unknown, code_of, is, Table, kind}
+use Rattle.table.specs.Format.{code_of, is, Table, kind}
+use Rattle.table.specs.declared.kinds.Kind.{Kind}
+use Rattle.table.specs.declared.kinds.Kind.TheVariants.{End as end, Work as work, Alloc as alloc, Free as free, Fork as fork, Join as join, Unknown as unknown}
 use Rattle.table.specs.Checks.{owner, alloc_of, free_of, whole}
 use Rattle.table.proofs.Bodies.{owner_at, fork_above, fork_below_lem, join_above, join_below}
 use Rattle.table.proofs.Amounts.{action_within, whole_bound}

@@ -3,7 +3,9 @@
 use Rattle.std.proofs.Common.{◌≡◌, ℕ, zero, suc, ◌+◌, ◌-◌, ◌^◌, ◌<◌, ◌≤◌, max, false, List, [], ◌∷◌, get_or, sym, refl, ◌∙◌, add-zero, add-suc, arith}
 use mathlib.Core.List.{Memᴰ}
 use Rattle.table.specs.Sum.{sum_to, sum_over, greatest_to}
-use Rattle.table.specs.Format.{Kind, end, work, alloc, free, fork, join, unknown, code_of, is, Table, kind}
+use Rattle.table.specs.Format.{code_of, is, Table, kind}
+use Rattle.table.specs.declared.kinds.Kind.{Kind}
+use Rattle.table.specs.declared.kinds.Kind.TheVariants.{End as end, Work as work, Alloc as alloc, Free as free, Fork as fork, Join as join, Unknown as unknown}
 use Rattle.table.specs.Checks.{open_before, alloc_of, whole}
 use Rattle.table.proofs.Nesting.{open_first, open_end, open_fork, open_join, open_same}
 use Rattle.table.proofs.NestedThreads.{greatest_under}

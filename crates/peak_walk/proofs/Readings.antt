@@ -1,7 +1,9 @@
 -- What the loops along the actions read and add, against the table's own words.
 use Rattle.std.proofs.Common.{◌≡◌, ℕ, suc, ◌+◌, ◌-◌, ◌<◌, ◌≤◌, max, Bool, true, false, ◌||◌, ltb, List, ap, ◌∙◌, add-one, arith}
 use Rattle.table.specs.Sum.{pick, greatest_to}
-use Rattle.table.specs.Format.{Kind, end, alloc, free, fork, is, kind_of, code_at, argument_at, own_amount, threads_of, actions_of, bodies_from, Table, kind, table_of}
+use Rattle.table.specs.Format.{is, kind_of, code_at, argument_at, own_amount, threads_of, actions_of, bodies_from, Table, kind, table_of}
+use Rattle.table.specs.declared.kinds.Kind.{Kind}
+use Rattle.table.specs.declared.kinds.Kind.TheVariants.{End as end, Alloc as alloc, Free as free, Fork as fork}
 use Rattle.table.specs.Checks.{alloc_of, free_of}
 use Rattle.table.proofs.ReadBack.{argument_short}
 use Rattle.schedule.specs.Machine.{drawn}

@@ -1,7 +1,9 @@
 -- How far a step moves the depth, and that it keeps the rows' length.
 use Rattle.std.proofs.Common.{◌≡◌, ℕ, zero, suc, ◌+◌, ◌-◌, ◌≤◌, Bool, true, false, List, length, refl, ◌∙◌, arith}
 use Rattle.table.specs.Sum.{pick}
-use Rattle.table.specs.Format.{Kind, fork, join, is, kind_of}
+use Rattle.table.specs.Format.{is, kind_of}
+use Rattle.table.specs.declared.kinds.Kind.{Kind}
+use Rattle.table.specs.declared.kinds.Kind.TheVariants.{Fork as fork, Join as join}
 use Rattle.peak_walk.specs.Code.Walk.{depth_after, rows_after, pushed, stepped, walked}
 use Rattle.peak_walk.proofs.OpenRows.{pushed_length}
 

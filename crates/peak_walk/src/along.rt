@@ -1,7 +1,8 @@
 // What is read off the actions one by one, for any bytes: the largest draw of a stretch, and R.
 ghost use Rattle.std.specs.Prelude.{◌≡◌, ◌+◌, ◌<◌, ◌||◌};
 ghost use Rattle.table.specs.Sum.{pick};
-ghost use Rattle.table.specs.Format.{kind_of, end, fork, is, table_of};
+ghost use Rattle.table.specs.Format.{kind_of, is, table_of};
+ghost use Rattle.table.specs.declared.kinds.Kind.TheVariants.{End as end, Fork as fork};
 ghost use Rattle.schedule.specs.Machine.{drawn};
 ghost use Rattle.peaks.specs.Rests.{stretch as stretch_of};
 ghost use Rattle.peak_walk.specs.Along.{rise_along};

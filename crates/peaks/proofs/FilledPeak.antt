@@ -10,7 +10,8 @@ use mathlib.Core.List.{List, ◌∷◌}
 use mathlib.Core.Bool.{Bool, true, false}
 use lib.ListN.{length}
 use Rattle.table.specs.Sum.{pick, sum_to, any_below, greatest_to}
-use Rattle.table.specs.Format.{fork, join, is, code_of, Table, kind, table_of}
+use Rattle.table.specs.Format.{is, code_of, Table, kind, table_of}
+use Rattle.table.specs.declared.kinds.Kind.TheVariants.{Fork as fork, Join as join}
 use Rattle.table.specs.Checks.{opened, open_before}
 use Rattle.table.specs.Rules.{ContentRules, BodyRules, Rules}
 use Rattle.table.specs.Written.{written}

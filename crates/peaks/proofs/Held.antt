@@ -9,7 +9,8 @@ use mathlib.Core.Bool.{Bool, true, false}
 use lib.Dec.{eqb, ltb}
 use borrow.Author.Tests.{eq-eqb, ne_eqb, lt-ltb}
 use Rattle.table.specs.Sum.{pick, sum_to, sum_over, greatest_to}
-use Rattle.table.specs.Format.{end, Table, kind}
+use Rattle.table.specs.Format.{Table, kind}
+use Rattle.table.specs.declared.kinds.Kind.TheVariants.{End as end}
 use Rattle.table.specs.Checks.{open_before, end_of, tail}
 use Rattle.table.proofs.Sums.{sum_to_zero}
 use Rattle.table.proofs.Bodies.{after_end, end_kind}

@@ -5,7 +5,8 @@ use native.Mathlib.Omega.{arith}
 use mathlib.Core.List.{List, [], ◌∷◌}
 use mathlib.Core.Bool.{Bool, true, false}
 use Rattle.table.specs.Sum.{pick, sum_over}
-use Rattle.table.specs.Format.{fork, Table, kind}
+use Rattle.table.specs.Format.{Table, kind}
+use Rattle.table.specs.declared.kinds.Kind.TheVariants.{Fork as fork}
 use Rattle.table.specs.Checks.{owner, open_before, tail}
 use Rattle.table.specs.Level.{fork_below}
 use Rattle.table.proofs.Bodies.{fork_above, fork_below_lem}

@@ -7,7 +7,8 @@ use native.Mathlib.Decide.{dec_lt}
 use mathlib.Core.List.{List, [], ◌∷◌, Memᴰ}
 use mathlib.Core.Bool.{Bool, true, false}
 use Rattle.table.specs.Sum.{sum_to, sum_over, greatest_to}
-use Rattle.table.specs.Format.{end, fork, code_of, is, Table, kind}
+use Rattle.table.specs.Format.{code_of, is, Table, kind}
+use Rattle.table.specs.declared.kinds.Kind.TheVariants.{End as end, Fork as fork}
 use Rattle.table.specs.Checks.{open_before, alloc_of, free_of, whole, end_of}
 use Rattle.table.specs.Serial.{S1}
 use Rattle.table.proofs.Tests.{is_true, fork_no_end}

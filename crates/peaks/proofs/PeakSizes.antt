@@ -6,7 +6,8 @@ use native.Mathlib.Decide.{dec_lt}
 use mathlib.Core.List.{List, [], ◌∷◌, Memᴰ}
 use mathlib.Core.Bool.{Bool, true, false}
 use Rattle.table.specs.Sum.{pick, sum_over}
-use Rattle.table.specs.Format.{fork, Table}
+use Rattle.table.specs.Format.{Table}
+use Rattle.table.specs.declared.kinds.Kind.TheVariants.{Fork as fork}
 use Rattle.table.specs.Checks.{open_before, alloc_of, with_child, whole}
 use Rattle.table.proofs.Sums.{sum_to_part}
 use Rattle.table.proofs.Amounts.{fork_part_open, fork_part_whole, whole_is, whole_bound}

@@ -10,7 +10,8 @@ use lib.ListN.{get_or}
 use lib.Dec.{eqb}
 use borrow.Author.Tests.{eqb-true, eq-eqb, ne_eqb}
 use Rattle.table.specs.Sum.{pick, sum_over}
-use Rattle.table.specs.Format.{end, fork, join, is, Table, kind}
+use Rattle.table.specs.Format.{is, Table, kind}
+use Rattle.table.specs.declared.kinds.Kind.TheVariants.{End as end, Fork as fork, Join as join}
 use Rattle.table.specs.Checks.{open_before, end_of}
 use Rattle.table.proofs.Tests.{is_true}
 use Rattle.table.proofs.Bodies.{owner_at, join_below}

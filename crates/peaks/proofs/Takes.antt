@@ -12,7 +12,8 @@ use lib.ListN.{get_or}
 use lib.Dec.{ltb, eqb}
 use borrow.Author.Tests.{lt-ltb, le-ltb, ltb-true, eqb-false, eq-eqb, ne_eqb}
 use Rattle.table.specs.Sum.{pick, sum_to, sum_over}
-use Rattle.table.specs.Format.{fork, join, Table, kind}
+use Rattle.table.specs.Format.{Table, kind}
+use Rattle.table.specs.declared.kinds.Kind.TheVariants.{Fork as fork, Join as join}
 use Rattle.table.specs.Checks.{owner, end_of, open_before}
 use Rattle.table.proofs.Tests.{no_way, fork_no_end}
 use Rattle.table.proofs.Sums.{sum_to_le}

@@ -8,7 +8,9 @@ use mathlib.Core.Bool.{Bool, true, false, ◌&&◌}
 use lib.Dec.{eqb}
 use borrow.Author.Tests.{eq-eqb, ne_eqb}
 use Rattle.table.specs.Sum.{pick, sum_to, sum_over, any_below}
-use Rattle.table.specs.Format.{Kind, fork, join, is, Table, kind}
+use Rattle.table.specs.Format.{is, Table, kind}
+use Rattle.table.specs.declared.kinds.Kind.{Kind}
+use Rattle.table.specs.declared.kinds.Kind.TheVariants.{Fork as fork, Join as join}
 use Rattle.table.specs.Checks.{open_before}
 use Rattle.table.proofs.Tests.{is_true, same_is}
 use Rattle.table.proofs.Sums.{sum_to_le}

@@ -1,7 +1,8 @@
 -- The peak of p workers: the load of a thread in a state, and the most that a thread and all below it can hold where no thread's load is above r.
 use Rattle.std.specs.Prelude.{◌≡◌, ℕ, zero, suc, ◌+◌, ◌-◌, ◌≤◌, ◌<◌, max, List, [], ◌∷◌, Bool, true, false, get_or, eqb}
 use Rattle.table.specs.Sum.{pick, sum_over, greatest_to}
-use Rattle.table.specs.Format.{fork, is, Table, kind}
+use Rattle.table.specs.Format.{is, Table, kind}
+use Rattle.table.specs.declared.kinds.Kind.TheVariants.{Fork as fork}
 use Rattle.table.specs.Checks.{owner, open_before, tail}
 use Rattle.table.specs.Level.{fork_below}
 use Rattle.schedule.specs.Machine.{ended}

@@ -1,7 +1,8 @@
 -- Worked cases.
 use Rattle.std.specs.Prelude.{◌≡◌, refl, ℕ, List, [], ◌∷◌}
 use Rattle.table.specs.Sum.{sum_to, sum_over, greatest_to}
-use Rattle.table.specs.Format.{alloc, free, fork, join, end, code_of, kind_of, is, table_of}
+use Rattle.table.specs.Format.{code_of, kind_of, is, table_of}
+use Rattle.table.specs.declared.kinds.Kind.TheVariants.{Alloc as alloc, Free as free, Fork as fork, Join as join, End as end}
 use Rattle.table.specs.Checks.{open_before, alloc_of, free_of, whole_within}
 use Rattle.table.specs.Cases.{Action, act, written, E}
 use Rattle.table.specs.Checks.{owner_below}

@@ -1,7 +1,8 @@
 -- Stretches, resting places, the useful limit, and the parallel peak.
 use Rattle.std.specs.Prelude.{ℕ, zero, suc, ◌+◌, ◌-◌, ◌*◌, min, Bool, true, ◌||◌, leb, eqb}
 use Rattle.table.specs.Sum.{pick, sum_to, sum_over, greatest_to}
-use Rattle.table.specs.Format.{end, fork, join, is, Table, kind}
+use Rattle.table.specs.Format.{is, Table, kind}
+use Rattle.table.specs.declared.kinds.Kind.TheVariants.{End as end, Fork as fork, Join as join}
 use Rattle.table.specs.Checks.{alloc_of, free_of, open_before}
 use Rattle.schedule.specs.Machine.{drawn}
 use Rattle.schedule.specs.Memory.{limit}

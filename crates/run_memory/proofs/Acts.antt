@@ -8,7 +8,8 @@ use borrow.Author.Tests.{le-leb, lt-leb, leb-true, ltb-true}
 use lib.ListN.{get_or, set}
 use lib.Dec.{leb, eqb}
 use Rattle.table.specs.Sum.{pick}
-use Rattle.table.specs.Format.{Table, work, alloc, free, unknown}
+use Rattle.table.specs.Format.{Table}
+use Rattle.table.specs.declared.kinds.Kind.TheVariants.{Work as work, Alloc as alloc, Free as free, Unknown as unknown}
 use Rattle.schedule.specs.declared.Worker.{Worker}
 use Rattle.schedule.specs.declared.Reply.TheVariants.{Idle, Done, Quota}
 use Rattle.schedule.specs.Machine.{drawn, ready, held, nobody}

@@ -7,7 +7,8 @@ use borrow.Author.Tests.{lt-ltb, le-ltb, eq-eqb, ne_eqb}
 use lib.ListN.{get_or, set}
 use lib.Dec.{eqb, ltb}
 use Rattle.table.specs.Sum.{pick}
-use Rattle.table.specs.Format.{Table, fork, join, end}
+use Rattle.table.specs.Format.{Table}
+use Rattle.table.specs.declared.kinds.Kind.TheVariants.{Fork as fork, Join as join, End as end}
 use Rattle.schedule.specs.declared.Reply.TheVariants.{Idle, Done, Wait}
 use Rattle.schedule.specs.Machine.{ready, held, waiting, ended, nobody}
 use Rattle.schedule.specs.Links.{link_left, unlink}

@@ -1,7 +1,8 @@
 -- Runs over a list of workers and in rounds, in lent memory, whatever it holds.
 use Rattle.std.specs.Prelude.{ℕ, zero, suc, ◌-◌, ◌^◌, List, [], Bool, true, false, ◌&&◌, length, get_or, eqb}
 use Rattle.table.specs.Sum.{pick}
-use Rattle.table.specs.Format.{end, is, Table, kind}
+use Rattle.table.specs.Format.{is, Table, kind}
+use Rattle.table.specs.declared.kinds.Kind.TheVariants.{End as end}
 use Rattle.table.specs.Pass.{refusal}
 use Rattle.schedule.specs.declared.Report.{Report}
 use Rattle.schedule.specs.declared.Report.TheVariants.{Finished, Spent, Refused}

@@ -2,7 +2,8 @@
 // 3.2 and the text to it. Each function tests first whether what it would write fits; then it writes, and where the worker keeps a thread that it takes, the thread is held from there on.
 ghost use Rattle.std.specs.Prelude.{◌≡◌, true, false, ℕ, ◌+◌, ◌^◌, ◌<◌, get_or};
 ghost use Rattle.table.specs.Sum.{pick};
-ghost use Rattle.table.specs.Format.{Table, code_at, argument_at, kind, work, alloc, free, fork, join, end, unknown};
+ghost use Rattle.table.specs.Format.{Table, code_at, argument_at, kind};
+ghost use Rattle.table.specs.declared.kinds.Kind.TheVariants.{Work as work, Alloc as alloc, Free as free, Fork as fork, Join as join, End as end, Unknown as unknown};
 ghost use Rattle.schedule.specs.declared.Reply.TheVariants.{Idle, Done};
 ghost use Rattle.schedule.specs.Machine.{ended, nobody};
 ghost use Rattle.array_machine.specs.Turn.{waits_in};

@@ -1,7 +1,8 @@
 // A turn shown before it is taken (N4), from lent memory that is only read: "It equals taking the turn on a copy", and nothing is copied.
 ghost use Rattle.std.specs.Prelude.{◌≡◌, true, max, get_or};
 ghost use Rattle.table.specs.Sum.{pick};
-ghost use Rattle.table.specs.Format.{Table, code_at, argument_at, kind, alloc, free, join};
+ghost use Rattle.table.specs.Format.{Table, code_at, argument_at, kind};
+ghost use Rattle.table.specs.declared.kinds.Kind.TheVariants.{Alloc as alloc, Free as free, Join as join};
 ghost use Rattle.schedule.specs.declared.Reply.TheVariants.{Idle};
 ghost use Rattle.run_memory.specs.declared.preview.Foreseen.TheVariants.{Would};
 ghost use Rattle.run_memory.specs.Memory.{taken_in, passed_over};

@@ -9,7 +9,9 @@ use mathlib.Core.Bool.{Bool, true, ◌&&◌}
 use lib.ListN.{length}
 use lib.Dec.{ltb, leb, eqb}
 use Rattle.table.specs.Sum.{pick}
-use Rattle.table.specs.Format.{Kind, end, work, alloc, free, fork, join, unknown, Table}
+use Rattle.table.specs.Format.{Table}
+use Rattle.table.specs.declared.kinds.Kind.{Kind}
+use Rattle.table.specs.declared.kinds.Kind.TheVariants.{End as end, Work as work, Alloc as alloc, Free as free, Fork as fork, Join as join, Unknown as unknown}
 use Rattle.table.specs.Pass.{try_at}
 use Rattle.schedule.specs.declared.Run.{Run}
 use Rattle.schedule.specs.Machine.{State, drawn, ended, status_of, worker_of, parent_of, waits_for, woken, Stepped, act_by, act, leftmost, taken, turn_free, turn_of}

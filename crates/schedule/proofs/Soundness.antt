@@ -10,7 +10,8 @@ use lib.Count.{ones}
 use lib.ListN.{length}
 use borrow.Author.Tests.{eqb-false}
 use Rattle.table.specs.Sum.{pick, sum_to}
-use Rattle.table.specs.Format.{alloc, free, is, kind, table_of}
+use Rattle.table.specs.Format.{is, kind, table_of}
+use Rattle.table.specs.declared.kinds.Kind.TheVariants.{Alloc as alloc, Free as free}
 use Rattle.table.specs.Checks.{end_of, alloc_of}
 use Rattle.table.proofs.ReadBack.{argument_short}
 use Rattle.schedule.specs.declared.Run.{Run}

@@ -10,7 +10,8 @@ use lib.Dec.{ltb, eqb}
 use lib.IntN.{pos, sub_ℕ}
 use borrow.Author.Tests.{lt-ltb, le-ltb, eqb-true}
 use Rattle.table.specs.Sum.{pick, sum_to}
-use Rattle.table.specs.Format.{free, join, is, Table, kind}
+use Rattle.table.specs.Format.{is, Table, kind}
+use Rattle.table.specs.declared.kinds.Kind.TheVariants.{Free as free, Join as join}
 use Rattle.table.specs.Checks.{alloc_of, free_of, whole, balance}
 use Rattle.table.proofs.Sums.{sum_to_cong}
 use Rattle.table.proofs.Tests.{and_both, is_true}

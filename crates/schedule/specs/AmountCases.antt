@@ -1,7 +1,8 @@
 -- What the threads hold after rows of turns, computed on the definitions: a child that ends with a balance and is joined later (change request N9).
 use Rattle.std.specs.Prelude.{◌≡◌, refl, ℕ, List, [], ◌∷◌, map}
 use Rattle.table.specs.Sum.{sum_to, any_below}
-use Rattle.table.specs.Format.{end, work, alloc, free, fork, join, code_of, kind_of, is, table_of}
+use Rattle.table.specs.Format.{code_of, kind_of, is, table_of}
+use Rattle.table.specs.declared.kinds.Kind.TheVariants.{End as end, Work as work, Alloc as alloc, Free as free, Fork as fork, Join as join}
 use Rattle.table.specs.Checks.{owner_below, alloc_of, free_of, whole_within}
 use Rattle.table.specs.Level.{fork_below}
 use Rattle.table.specs.Cases.{written}

@@ -1,7 +1,8 @@
 -- Allocs above K (N6) on worked cases, computed on the definitions: they are done at once, draw nothing and count whole; and with none in front of them to wait for, memory passes the limit.
 use Rattle.std.specs.Prelude.{◌≡◌, refl, ℕ, List, [], ◌∷◌, true}
 use Rattle.table.specs.Sum.{sum_to, sum_over, greatest, any_below}
-use Rattle.table.specs.Format.{end, work, alloc, free, fork, join, code_of, kind_of, is, table_of}
+use Rattle.table.specs.Format.{code_of, kind_of, is, table_of}
+use Rattle.table.specs.declared.kinds.Kind.TheVariants.{End as end, Work as work, Alloc as alloc, Free as free, Fork as fork, Join as join}
 use Rattle.table.specs.Checks.{owner_below, alloc_of, free_of}
 use Rattle.table.specs.Serial.{serial_within, fronts, held_after, peak_of, S1}
 use Rattle.table.specs.Level.{fork_below, fork_of, before_it, joined_end, depends_on, level_within, D}

@@ -3,7 +3,8 @@ use Rattle.std.specs.Prelude.{ℕ, List, [], ◌∷◌, Bool, Err, Ok, Result}
 use Rattle.table.specs.declared.Refusal.{Refusal}
 use Rattle.schedule.specs.declared.Taken.{Taken}
 use Rattle.table.specs.Sum.{pick}
-use Rattle.table.specs.Format.{Kind, kind}
+use Rattle.table.specs.Format.{kind}
+use Rattle.table.specs.declared.kinds.Kind.{Kind}
 use Rattle.schedule.specs.declared.Run.{Run}
 use Rattle.schedule.specs.declared.Turned.{Turned}
 use Rattle.schedule.specs.declared.Reply.{Reply}

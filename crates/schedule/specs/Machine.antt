@@ -1,7 +1,9 @@
 -- A turn of document 01's machine ("The run"), on what turns move: the threads, the list, the workers and the amounts.
 use Rattle.std.specs.Prelude.{ℕ, suc, ◌+◌, ◌-◌, max, List, [], ◌∷◌, Bool, true, false, ◌&&◌, length, get_or, set, leb, eqb}
 use Rattle.table.specs.Sum.{pick}
-use Rattle.table.specs.Format.{Kind, end, work, alloc, free, fork, join, unknown, is, Table, kind}
+use Rattle.table.specs.Format.{is, Table, kind}
+use Rattle.table.specs.declared.kinds.Kind.{Kind}
+use Rattle.table.specs.declared.kinds.Kind.TheVariants.{End as end, Work as work, Alloc as alloc, Free as free, Fork as fork, Join as join, Unknown as unknown}
 use Rattle.table.specs.Checks.{owner}
 use Rattle.table.specs.Level.{fork_below}
 pub use Rattle.filling.specs.Filled.{drawn}

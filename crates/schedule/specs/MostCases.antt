@@ -1,7 +1,8 @@
 -- N8 on worked cases, computed on the definitions: m + A + J of E, and why neither A nor J can go.
 use Rattle.std.specs.Prelude.{◌≡◌, refl, ℕ, ◌%◌, List, [], ◌∷◌}
 use Rattle.table.specs.Sum.{sum_to, any_below}
-use Rattle.table.specs.Format.{end, work, fork, join, code_of, kind_of, is, table_of}
+use Rattle.table.specs.Format.{code_of, kind_of, is, table_of}
+use Rattle.table.specs.declared.kinds.Kind.TheVariants.{End as end, Work as work, Fork as fork, Join as join}
 use Rattle.table.specs.Checks.{owner_below}
 use Rattle.table.specs.Level.{fork_below}
 use Rattle.table.specs.Cases.{act, written, E, two_allocs}

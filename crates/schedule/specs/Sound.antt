@@ -1,7 +1,8 @@
 -- A sound record (document 01, "A record is sound if .."): each clause of the paragraph as a test, the record of all of them, and one executable test.
 use Rattle.std.specs.Prelude.{◌≡◌, ℕ, ◌+◌, ◌-◌, ◌^◌, ◌<◌, ◌≤◌, List, Bool, true, not, ◌&&◌, ◌||◌, length, get_or, ltb, leb, eqb, Ok}
 use Rattle.table.specs.Sum.{pick, sum_to, any_below}
-use Rattle.table.specs.Format.{join, is, Table, kind, table_of}
+use Rattle.table.specs.Format.{is, Table, kind, table_of}
+use Rattle.table.specs.declared.kinds.Kind.TheVariants.{Join as join}
 use Rattle.table.specs.Pass.{first_found}
 use Rattle.table.specs.Checks.{max_threads, owner, end_of, alloc_of, free_of, part_of, passes}
 use Rattle.table.specs.Rules.{Rules}

@@ -6,7 +6,8 @@ use mathlib.Core.Bool.{Bool, true, false, ◌&&◌, ◌||◌}
 use lib.Dec.{ltb}
 use borrow.Author.Tests.{lt-ltb, le-ltb, ltb-true}
 use Rattle.table.specs.Sum.{pick}
-use Rattle.table.specs.Format.{end, alloc, fork, join, code_of, is, Table, kind}
+use Rattle.table.specs.Format.{code_of, is, Table, kind}
+use Rattle.table.specs.declared.kinds.Kind.TheVariants.{End as end, Alloc as alloc, Fork as fork, Join as join}
 use Rattle.table.specs.Checks.{end_of, alloc_of}
 use Rattle.table.proofs.Tests.{no_way, and_both}
 use Rattle.table.proofs.Bodies.{after_end, end_kind}

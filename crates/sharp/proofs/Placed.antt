@@ -10,7 +10,9 @@ use lib.ListN.{length, get_or, set}
 use lib.Seq.{get_or-set_same, get_or-set_other}
 use lib.Dec.{leb, eqb}
 use borrow.Author.Tests.{leb-false}
-use Rattle.table.specs.Format.{Kind, end, work, alloc, free, fork, join, unknown, Table, kind}
+use Rattle.table.specs.Format.{Table, kind}
+use Rattle.table.specs.declared.kinds.Kind.{Kind}
+use Rattle.table.specs.declared.kinds.Kind.TheVariants.{End as end, Work as work, Alloc as alloc, Free as free, Fork as fork, Join as join, Unknown as unknown}
 use Rattle.table.proofs.Bodies.{kind_known}
 use Rattle.schedule.specs.Machine.{drawn, State, unborn, ready, held, waiting, ended, next_of, status_of, worker_of, Stepped, act_by, act, taken}
 use Rattle.order.proofs.Lawful.{Lawful}

@@ -10,7 +10,8 @@ use lib.Dec.{eqb}
 use lib.ListN.{get_or, set, replicate, length-set}
 use lib.Seq.{get_or-set_same, get_or-set_other}
 use Rattle.table.specs.Sum.{pick, sum_to}
-use Rattle.table.specs.Format.{alloc, free, join, code_of, is, kind_of, Table, kind, table_of}
+use Rattle.table.specs.Format.{code_of, is, kind_of, Table, kind, table_of}
+use Rattle.table.specs.declared.kinds.Kind.TheVariants.{Alloc as alloc, Free as free, Join as join}
 use Rattle.table.specs.Checks.{owner, end_of, alloc_of, free_of}
 use Rattle.table.proofs.Walks.{is_code}
 use Rattle.table.proofs.Bodies.{after_end, owner_is, join_above, join_below, body_within}

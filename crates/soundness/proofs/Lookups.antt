@@ -6,7 +6,8 @@ use mathlib.Core.Bool.{true, false}
 use native.Mathlib.Omega.{arith}
 use borrow.Author.Tests.{ne_eqb}
 use lib.ListN.{get_or}
-use Rattle.table.specs.Format.{fork, join, is, kind_of, code_at, argument_at, bodies_from, Table, table_of}
+use Rattle.table.specs.Format.{is, kind_of, code_at, argument_at, bodies_from, Table, table_of}
+use Rattle.table.specs.declared.kinds.Kind.TheVariants.{Fork as fork, Join as join}
 use Rattle.table.specs.Checks.{end_of}
 use Rattle.table.specs.Sum.{Read}
 use Rattle.table.proofs.Walks.{is_code}

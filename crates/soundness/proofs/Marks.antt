@@ -9,7 +9,8 @@ use native.Mathlib.Decide.{ℕ_discrete}
 use lib.ListN.{get_or, set, length-set}
 use lib.Seq.{get_or-set_same, get_or-set_other}
 use Rattle.table.specs.Sum.{sum_to}
-use Rattle.table.specs.Format.{fork, is, code_of, Table, kind}
+use Rattle.table.specs.Format.{is, code_of, Table, kind}
+use Rattle.table.specs.declared.kinds.Kind.TheVariants.{Fork as fork}
 use Rattle.table.specs.Checks.{owner, end_of}
 use Rattle.table.proofs.Tests.{no_way, same_is}
 use Rattle.table.proofs.Bodies.{first_is, after_end, count_pos, end_kind, end_within, owner_is, fork_above, fork_below_lem, fork_later}

@@ -10,7 +10,8 @@ use lib.ListN.{get_or, set, replicate, length-set}
 use lib.Seq.{get_or-set_same, get_or-set_other, ext_get_or}
 use borrow.Author.Tests.{ltb-true}
 use Rattle.table.specs.Sum.{pick, sum_to}
-use Rattle.table.specs.Format.{fork, Table, kind}
+use Rattle.table.specs.Format.{Table, kind}
+use Rattle.table.specs.declared.kinds.Kind.TheVariants.{Fork as fork}
 use Rattle.table.specs.Checks.{owner, forks}
 use Rattle.table.specs.Level.{fork_below}
 use Rattle.table.proofs.Bodies.{first_is, count_pos, owner_is, owner_below_lem, fork_above, fork_below_lem}

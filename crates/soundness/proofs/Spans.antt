@@ -5,7 +5,8 @@ use mathlib.Core.Bool.{false}
 use native.Mathlib.Numerals.{add-one}
 use native.Mathlib.Omega.{arith}
 use lib.ListN.{length, length-append}
-use Rattle.table.specs.Format.{end, fork, is, Table, kind}
+use Rattle.table.specs.Format.{is, Table, kind}
+use Rattle.table.specs.declared.kinds.Kind.TheVariants.{End as end, Fork as fork}
 use Rattle.table.specs.Checks.{owner, end_of}
 use Rattle.table.specs.Serial.{serial}
 use Rattle.table.proofs.Bodies.{after_end, first_within, end_within, end_kind, owner_is, owner_of_end, fork_above, fork_below_lem, next_within}

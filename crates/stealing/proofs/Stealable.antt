@@ -7,7 +7,9 @@ use borrow.Author.Tests.{lt-ltb, le-leb, ltb-false}
 use lib.Dec.{ltb, leb, eqb}
 use lib.ListN.{get_or, set}
 use Rattle.table.specs.Sum.{pick}
-use Rattle.table.specs.Format.{Kind, join, Table, kind_of}
+use Rattle.table.specs.Format.{Table, kind_of}
+use Rattle.table.specs.declared.kinds.Kind.{Kind}
+use Rattle.table.specs.declared.kinds.Kind.TheVariants.{Join as join}
 use Rattle.schedule.specs.Machine.{drawn, ready, held, ended}
 use Rattle.array_machine.specs.Arrays.{Arrays, with_statuses}
 use Rattle.array_machine.specs.Turn.{Outcome, next_fits, amount_fits, act_on, act_in}

@@ -3,7 +3,9 @@
 -- of the arrays' or a number that the turn would write does not fit into its place, nothing moves. On the arrays of a sound run all fit, and the turn is `deque_turn` (proofs/Refines).
 use Rattle.std.specs.Prelude.{ℕ, zero, suc, List, Bool, true, not, ◌&&◌, ◌||◌, get_or, set, ltb, eqb}
 use Rattle.table.specs.Sum.{pick}
-use Rattle.table.specs.Format.{Kind, end, work, alloc, free, fork, join, unknown, Table, kind}
+use Rattle.table.specs.Format.{Table, kind}
+use Rattle.table.specs.declared.kinds.Kind.{Kind}
+use Rattle.table.specs.declared.kinds.Kind.TheVariants.{End as end, Work as work, Alloc as alloc, Free as free, Fork as fork, Join as join, Unknown as unknown}
 use Rattle.table.specs.Checks.{max_threads}
 use Rattle.schedule.specs.declared.Worker.{Worker}
 use Rattle.schedule.specs.declared.Reply.{Reply}

@@ -6,7 +6,8 @@ use lib.ListN.{length}
 use native.Mathlib.Omega.{arith}
 use native.Mathlib.Nat.{add-suc, add-zero, mul-le-mul_left}
 use Rattle.table.specs.Sum.{pick, sum_to, sum_over}
-use Rattle.table.specs.Format.{end, fork, join, code_of, is, Table, kind}
+use Rattle.table.specs.Format.{code_of, is, Table, kind}
+use Rattle.table.specs.declared.kinds.Kind.TheVariants.{End as end, Fork as fork, Join as join}
 use Rattle.table.specs.Checks.{owner, end_of, open_before, with_child, whole_within, whole, part_of}
 use Rattle.table.specs.Rules.{ContentRules, BodyRules, NestRules}
 use Rattle.table.specs.Serial.{serial}

@@ -9,7 +9,9 @@ use native.Mathlib.Omega.{arith}
 use borrow.Author.Tests.{le-ltb}
 use lib.IntN.{ℤ, pos, negsuc, neg_ℤ, sub_ℕ, ◌+ℤ◌, +ℤ_idl, +ℤ_assoc, +ℤ_comm, neg_ℤ-+ℤ}
 use Rattle.table.specs.Sum.{pick, sum_to}
-use Rattle.table.specs.Format.{Kind, end, work, alloc, free, fork, join, unknown, code_of, is, Table, kind}
+use Rattle.table.specs.Format.{code_of, is, Table, kind}
+use Rattle.table.specs.declared.kinds.Kind.{Kind}
+use Rattle.table.specs.declared.kinds.Kind.TheVariants.{End as end, Work as work, Alloc as alloc, Free as free, Fork as fork, Join as join, Unknown as unknown}
 use Rattle.table.specs.Checks.{owner, end_of, alloc_of, free_of, with_child, whole, part_of, balance, negative, balance_below0}
 use Rattle.table.specs.Rules.{ContentRules, BodyRules}
 use Rattle.table.specs.JobTable.{InBody, sum_signed, moves, moves_at, IsBalance}

@@ -7,7 +7,9 @@ use native.Mathlib.Omega.{arith}
 use lib.Dec.{ltb, leb, eqb}
 use borrow.Author.Tests.{le-leb, lt-leb, eqb-true, eqb-false, eq-eqb, not-false}
 use Rattle.table.specs.Sum.{pick, sum_to}
-use Rattle.table.specs.Format.{Kind, end, fork, join, unknown, is, Table, kind}
+use Rattle.table.specs.Format.{is, Table, kind}
+use Rattle.table.specs.declared.kinds.Kind.{Kind}
+use Rattle.table.specs.declared.kinds.Kind.TheVariants.{End as end, Fork as fork, Join as join, Unknown as unknown}
 use Rattle.table.specs.Checks.{counts_below, entry_wrong, total_wrong, owner_below, owner, end_of, kind_unknown, argument_fits, argument_wrong, end_misplaced}
 use Rattle.table.specs.Rules.{ContentRules, BodyRules}
 use Rattle.table.proofs.Sums.{sum_to_part}

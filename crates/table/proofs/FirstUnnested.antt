@@ -12,7 +12,8 @@ use native.Mathlib.Omega.{arith}
 use lib.ListN.{get_elem?}
 use borrow.Author.Tests.{not-true, not-false}
 use Rattle.table.specs.Sum.{any_below}
-use Rattle.table.specs.Format.{end, fork, join, is, Table, kind, table_of}
+use Rattle.table.specs.Format.{is, Table, kind, table_of}
+use Rattle.table.specs.declared.kinds.Kind.TheVariants.{End as end, Fork as fork, Join as join}
 use Rattle.table.specs.Pass.{Check, Pass, or_else, refusal, try_at, try_from, try_pass, first_found}
 use Rattle.table.specs.Checks.{owner, forks, forked_below, forked_before, tail, open_before, is_latest, is_empty, join_not_latest, end_with_open, head_pass, entries_pass, total_pass, first_pass, second_pass, forked_pass, balance_pass, passes}
 use Rattle.table.specs.Rules.{ContentRules, BodyRules}

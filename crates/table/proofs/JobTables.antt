@@ -5,7 +5,8 @@ use mathlib.Core.Path.{◌≡◌, refl, sym, ◌∙◌}
 use mathlib.Core.Logic.{◌↔◌}
 use Prim.Native.Nat.{ℕ, ◌<◌}
 use mathlib.Core.List.{List}
-use Rattle.table.specs.Format.{fork, Table, table_of}
+use Rattle.table.specs.Format.{Table, table_of}
+use Rattle.table.specs.declared.kinds.Kind.TheVariants.{Fork as fork}
 use Rattle.table.specs.Checks.{balance}
 use Rattle.table.specs.Rules.{ContentRules, BodyRules, NestRules, ForkRules, BalanceRules, Rules}
 use Rattle.table.specs.JobTable.{Sized, Names, Balanced, JobTable}

@@ -9,7 +9,8 @@ use mathlib.Core.Logic.{⊎_elim}
 use mathlib.Core.Bool.{Bool, true, false}
 use borrow.Author.Tests.{eq-eqb, ne_eqb}
 use Rattle.table.specs.Sum.{greatest}
-use Rattle.table.specs.Format.{end, fork, join, is, Table, kind}
+use Rattle.table.specs.Format.{is, Table, kind}
+use Rattle.table.specs.declared.kinds.Kind.TheVariants.{End as end, Fork as fork, Join as join}
 use Rattle.table.specs.Checks.{owner, end_of}
 use Rattle.table.specs.Rules.{ContentRules, BodyRules, NestRules, ForkRules}
 use Rattle.table.specs.Level.{fork_of, before_it, joined_end, depends_on, level_within, level}

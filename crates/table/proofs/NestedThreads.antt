@@ -6,7 +6,8 @@ use native.Mathlib.Decide.{dec_lt}
 use mathlib.Core.List.{List, [], ◌∷◌, Memᴰ}
 use lib.ListN.{length}
 use Rattle.table.specs.Sum.{greatest_to}
-use Rattle.table.specs.Format.{fork, Table, kind}
+use Rattle.table.specs.Format.{Table, kind}
+use Rattle.table.specs.declared.kinds.Kind.TheVariants.{Fork as fork}
 use Rattle.table.specs.Checks.{owner}
 use Rattle.table.specs.Rules.{ContentRules, BodyRules, NestRules, ForkRules}
 use Rattle.table.specs.Level.{fork_below}

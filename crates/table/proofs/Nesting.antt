@@ -10,7 +10,9 @@ use native.Mathlib.Omega.{arith}
 use lib.Dec.{eqb}
 use borrow.Author.Tests.{eqb-true, eq-eqb, not-false}
 use Rattle.table.specs.Sum.{pick, sum_to, any_below}
-use Rattle.table.specs.Format.{Kind, end, work, alloc, free, fork, join, unknown, code_of, is, Table, kind}
+use Rattle.table.specs.Format.{code_of, is, Table, kind}
+use Rattle.table.specs.declared.kinds.Kind.{Kind}
+use Rattle.table.specs.declared.kinds.Kind.TheVariants.{End as end, Work as work, Alloc as alloc, Free as free, Fork as fork, Join as join, Unknown as unknown}
 use Rattle.table.specs.Checks.{owner, forks, forked_below, forked_before, tail, opened, open_before, is_latest, is_empty, join_not_latest, end_with_open, never_forked}
 use Rattle.table.specs.Rules.{ContentRules, BodyRules, NestRules, ForkRules}
 use Rattle.table.specs.Level.{fork_below}

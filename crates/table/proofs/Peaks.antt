@@ -8,7 +8,9 @@ use native.Mathlib.Nat.{add-suc, add-zero}
 use native.Mathlib.Decide.{dec_lt}
 use borrow.Author.Tests.{ltb-false}
 use Rattle.table.specs.Sum.{pick, sum_to, sum_over, greatest, greatest_to}
-use Rattle.table.specs.Format.{Kind, end, alloc, free, fork, code_of, is, Table, kind}
+use Rattle.table.specs.Format.{code_of, is, Table, kind}
+use Rattle.table.specs.declared.kinds.Kind.{Kind}
+use Rattle.table.specs.declared.kinds.Kind.TheVariants.{End as end, Alloc as alloc, Free as free, Fork as fork}
 use Rattle.table.specs.Checks.{open_before, alloc_of, free_of, whole, part_of, balance, balance_below0}
 use Rattle.table.specs.Rules.{ContentRules, BodyRules, NestRules, BalanceRules}
 use Rattle.table.specs.Serial.{serial, held_after, fronts, peak_of}

@@ -7,7 +7,9 @@ use lib.Dec.{ltb}
 use lib.IntN.{sub_ℕ, pos, negsuc}
 use borrow.Author.Tests.{ltb-true, eqb-true, eq-eqb, not-false}
 use Rattle.table.specs.Sum.{pick}
-use Rattle.table.specs.Format.{Kind, end, work, alloc, free, fork, join, unknown, kind_of, code_of, is}
+use Rattle.table.specs.Format.{kind_of, code_of, is}
+use Rattle.table.specs.declared.kinds.Kind.{Kind}
+use Rattle.table.specs.declared.kinds.Kind.TheVariants.{End as end, Work as work, Alloc as alloc, Free as free, Fork as fork, Join as join, Unknown as unknown}
 use Rattle.table.specs.Checks.{differ, negative}
 
 -- from a contradiction between numbers, as `cc` finds one, anything

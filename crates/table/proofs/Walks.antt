@@ -10,7 +10,9 @@ use lib.Dec.{eqb}
 use lib.ListN.{get_or, set, length-drop, length-set}
 use lib.Seq.{get_or-drop, get_or-set_same, get_or-set_other}
 use Rattle.table.specs.Sum.{pick, sum_to}
-use Rattle.table.specs.Format.{Kind, alloc, free, code_of, kind_of, is, code_at, argument_at, threads_of, actions_of, first_of, count_of, bodies_of, body_of, Table, table_of, kind, own_amount}
+use Rattle.table.specs.Format.{code_of, kind_of, is, code_at, argument_at, threads_of, actions_of, first_of, count_of, bodies_of, body_of, Table, table_of, kind, own_amount}
+use Rattle.table.specs.declared.kinds.Kind.{Kind}
+use Rattle.table.specs.declared.kinds.Kind.TheVariants.{Alloc as alloc, Free as free}
 use Rattle.table.specs.Checks.{with_child, whole}
 use Rattle.table.specs.Rules.{ContentRules, BodyRules}
 use Rattle.table.specs.Code.Steps.{child_amount, amount_at, WalkReady, Filled, Headed, Formed}

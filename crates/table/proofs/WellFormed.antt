@@ -10,7 +10,9 @@ use borrow.Author.Tests.{le-ltb, lt-ltb, le-leb, leb-true, ltb-true, eqb-true, e
 use lib.Dec.{ltb, eqb}
 use lib.ListN.{length}
 use Rattle.table.specs.Sum.{sum_to}
-use Rattle.table.specs.Format.{Kind, end, work, alloc, free, fork, join, unknown, code_of, kind_of, is, Table, kind, threads_of, actions_of}
+use Rattle.table.specs.Format.{code_of, kind_of, is, Table, kind, threads_of, actions_of}
+use Rattle.table.specs.declared.kinds.Kind.{Kind}
+use Rattle.table.specs.declared.kinds.Kind.TheVariants.{End as end, Work as work, Alloc as alloc, Free as free, Fork as fork, Join as join, Unknown as unknown}
 use Rattle.table.specs.Checks.{outside, counts_below, entry_wrong, total_wrong, owner, end_of, kind_unknown, argument_fits, argument_wrong, differ, end_misplaced}
 use Rattle.table.specs.Rules.{HeadRules, ContentRules, BodyRules}
 use Rattle.table.specs.Code.Steps.{Headed}

@@ -1,7 +1,9 @@
 -- Document 01's worked cases on tables that bear a star, as rows of one table with one theorem over all of them, computed on the definitions.
 use Rattle.std.specs.Prelude.{◌≡◌, refl, ℕ, ◌+◌, ◌/◌, ◌%◌, List, [], ◌∷◌, ◌++◌, map, length}
 use Rattle.table.specs.Sum.{sum_to, sum_over, greatest, any_below, greatest_to}
-use Rattle.table.specs.Format.{Kind, end, work, alloc, free, fork, join, code_of, kind_of, is, table_of}
+use Rattle.table.specs.Format.{code_of, kind_of, is, table_of}
+use Rattle.table.specs.declared.kinds.Kind.{Kind}
+use Rattle.table.specs.declared.kinds.Kind.TheVariants.{End as end, Work as work, Alloc as alloc, Free as free, Fork as fork, Join as join}
 use Rattle.table.specs.Pass.{try_at, try_from, try_pass, first_found}
 use Rattle.table.specs.Checks.{entry_wrong, total_wrong, owner_below, kind_unknown, argument_wrong, end_misplaced, forked_below, forked_before}
 use Rattle.table.specs.Checks.{open_before, join_not_latest, end_with_open, never_forked, alloc_of, free_of, whole_within, balance, balance_below0, passes}

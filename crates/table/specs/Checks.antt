@@ -2,7 +2,9 @@
 use Rattle.std.specs.Prelude.{ℕ, zero, suc, pred, ◌+◌, ◌-◌, ◌*◌, List, [], ◌∷◌, ◌++◌, Bool, true, false, not, ◌&&◌, ◌||◌, length, ltb, leb, eqb, ℤ, pos, negsuc}
 use Rattle.std.proofs.Math.IntN.{sub_ℕ}
 use Rattle.table.specs.Sum.{pick, sum_to, any_below}
-use Rattle.table.specs.Format.{Kind, is, end, work, alloc, free, fork, join, unknown, Table, kind, threads_of, actions_of, table_of}
+use Rattle.table.specs.Format.{is, Table, kind, threads_of, actions_of, table_of}
+use Rattle.table.specs.declared.kinds.Kind.{Kind}
+use Rattle.table.specs.declared.kinds.Kind.TheVariants.{End as end, Work as work, Alloc as alloc, Free as free, Fork as fork, Join as join, Unknown as unknown}
 use Rattle.table.specs.Pass.{Pass}
 
 -- ---- the head

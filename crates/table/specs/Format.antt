@@ -1,8 +1,8 @@
 -- The byte format of a job table (document 01, "The job table"), read as functions of thread and action numbers.
 use Rattle.std.specs.Prelude.{ℕ, zero, suc, ◌+◌, ◌*◌, ◌%◌, List, Bool, get_or, drop, eqb}
 use Rattle.table.specs.Sum.{pick}
-pub use Rattle.table.specs.declared.kinds.Kind.{Kind}
-pub use Rattle.table.specs.declared.kinds.Kind.TheVariants.{End as end, Work as work, Alloc as alloc, Free as free, Fork as fork, Join as join, Unknown as unknown}
+use Rattle.table.specs.declared.kinds.Kind.{Kind}
+use Rattle.table.specs.declared.kinds.Kind.TheVariants.{End as end, Work as work, Alloc as alloc, Free as free, Fork as fork, Join as join, Unknown as unknown}
 
 -- "Kinds: 0 end, 1 work ..; 2 alloc, 3 free ..; 4 fork, 5 join .."
 unfoldable pub kind_of : ℕ → Kind

@@ -2,7 +2,9 @@
 use Rattle.std.specs.Prelude.{◌≡◌, refl, ℕ, zero, suc, ◌≤◌, ◌<◌, List, [], ◌∷◌, map, pos, negsuc}
 use Rattle.std.proofs.Common.{sym, arith}
 use Rattle.table.specs.Sum.{sum_to}
-use Rattle.table.specs.Format.{Kind, end, free, fork, join, code_of, kind_of, is, table_of}
+use Rattle.table.specs.Format.{code_of, kind_of, is, table_of}
+use Rattle.table.specs.declared.kinds.Kind.{Kind}
+use Rattle.table.specs.declared.kinds.Kind.TheVariants.{End as end, Free as free, Fork as fork, Join as join}
 use Rattle.table.specs.Checks.{owner_below, alloc_of, free_of, whole_within, balance}
 use Rattle.table.specs.JobTable.{Names, Unjoined, Latest}
 use Rattle.table.specs.Cases.{act, written, E}

@@ -1,7 +1,9 @@
 -- A job table in the words of document 01, "The job table", said of the numbers that specs/Format reads off the bytes and without any of the checks. That a
 -- table is accepted exactly when it is one is `accepted_job_table` (proofs/JobTables). At the end, in the same words, where 9 is given.
 use Rattle.std.specs.Prelude.{◌≡◌, ℕ, zero, suc, ◌+◌, ◌*◌, ◌≤◌, ◌<◌, List, length, ℤ, pos, neg_ℤ, ◌+ℤ◌}
-use Rattle.table.specs.Format.{Kind, end, work, alloc, free, fork, join, unknown, Table, kind, threads_of, actions_of, table_of}
+use Rattle.table.specs.Format.{Table, kind, threads_of, actions_of, table_of}
+use Rattle.table.specs.declared.kinds.Kind.{Kind}
+use Rattle.table.specs.declared.kinds.Kind.TheVariants.{End as end, Work as work, Alloc as alloc, Free as free, Fork as fork, Join as join, Unknown as unknown}
 use Rattle.table.specs.Checks.{end_of}
 
 -- ---- the bytes

@@ -1,7 +1,8 @@
 -- Dependencies, levels and the depth D (document 01, "Serial order, peak, depth").
 use Rattle.std.specs.Prelude.{ℕ, zero, suc, pred, List, [], ◌∷◌, ◌++◌, eqb}
 use Rattle.table.specs.Sum.{pick, greatest}
-use Rattle.table.specs.Format.{join, is, Table, kind}
+use Rattle.table.specs.Format.{is, Table, kind}
+use Rattle.table.specs.declared.kinds.Kind.TheVariants.{Join as join}
 use Rattle.table.specs.Checks.{owner, end_of, forks}
 
 -- the action below a that forks thread c (the last, where there are several; 0 where there is none)

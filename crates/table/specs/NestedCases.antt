@@ -1,7 +1,8 @@
 -- The number of nested thread levels on small tables, as rows of one table with one theorem over all of them, computed on the definitions. (Loading's own rows, specs/Cases, have N too.)
 use Rattle.std.specs.Prelude.{◌≡◌, refl, ℕ, List, [], ◌∷◌, map}
 use Rattle.table.specs.Sum.{greatest_to}
-use Rattle.table.specs.Format.{end, fork, join, code_of, kind_of, is, table_of}
+use Rattle.table.specs.Format.{code_of, kind_of, is, table_of}
+use Rattle.table.specs.declared.kinds.Kind.TheVariants.{End as end, Fork as fork, Join as join}
 use Rattle.table.specs.Checks.{owner_below}
 use Rattle.table.specs.Level.{fork_below}
 use Rattle.table.specs.Nested.{nest_within, N}

@@ -1,7 +1,9 @@
 -- Serial order and the serial peak S1 (document 01, "Serial order, peak, depth").
 use Rattle.std.specs.Prelude.{ℕ, zero, suc, ◌-◌, List, [], ◌∷◌, ◌++◌, map}
 use Rattle.table.specs.Sum.{sum_over, greatest}
-use Rattle.table.specs.Format.{Kind, end, work, alloc, free, fork, join, unknown, Table, kind}
+use Rattle.table.specs.Format.{Table, kind}
+use Rattle.table.specs.declared.kinds.Kind.{Kind}
+use Rattle.table.specs.declared.kinds.Kind.TheVariants.{End as end, Work as work, Alloc as alloc, Free as free, Fork as fork, Join as join, Unknown as unknown}
 use Rattle.table.specs.Checks.{alloc_of, free_of}
 
 -- The actions from an action of the kind given to its thread's end: "a forked child runs to its end, its own children included, before the thread

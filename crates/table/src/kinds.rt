@@ -1,6 +1,7 @@
 // "Kinds: 0 end, 1 work ..; 2 alloc, 3 free ..; 4 fork, 5 join ..", those that other crates ask for.
 ghost use Rattle.std.specs.Prelude.{◌≡◌};
-ghost use Rattle.table.specs.Format.{kind_of, alloc, free, own_amount};
+ghost use Rattle.table.specs.Format.{kind_of, own_amount};
+ghost use Rattle.table.specs.declared.kinds.Kind.TheVariants.{Alloc as alloc, Free as free};
 
 // What an action is, by the code of 8 bits that a table has for it.
 #[derive(Clone, Copy, PartialEq, Eq, Debug)]

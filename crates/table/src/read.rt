@@ -1,6 +1,7 @@
 // Numbers, actions and bodies out of bytes. What other crates may call takes any bytes, and reads zeros past their end.
 ghost use Rattle.std.specs.Prelude.{◌≡◌, ◌+◌, ◌*◌, ◌<◌, length, get_or, drop};
-ghost use Rattle.table.specs.Format.{alloc, free, own_amount, kind_of, u16_at, threads_of, actions_of, bodies_from, code_at, argument_at, table_of};
+ghost use Rattle.table.specs.Format.{own_amount, kind_of, u16_at, threads_of, actions_of, bodies_from, code_at, argument_at, table_of};
+ghost use Rattle.table.specs.declared.kinds.Kind.TheVariants.{Alloc as alloc, Free as free};
 ghost use Rattle.table.specs.Sum.{Read};
 ghost use Rattle.table.specs.Code.Steps.{DoubleWord};
 

@@ -9,7 +9,8 @@ use mathlib.Core.Bool.{Bool, true, false}
 use lib.Dec.{eqb}
 use borrow.Author.Tests.{le-ltb}
 use Rattle.table.specs.Sum.{pick, greatest_to}
-use Rattle.table.specs.Format.{alloc, is, kind, Table, table_of}
+use Rattle.table.specs.Format.{is, kind, Table, table_of}
+use Rattle.table.specs.declared.kinds.Kind.TheVariants.{Alloc as alloc}
 use Rattle.table.specs.Checks.{alloc_of, free_of, passes}
 use Rattle.table.specs.Rules.{Rules}
 use Rattle.table.specs.Serial.{S1}

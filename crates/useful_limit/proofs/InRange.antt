@@ -9,7 +9,8 @@ use mathlib.Core.Bool.{Bool, true, false, ◌&&◌}
 use lib.Dec.{leb, ltb, eqb}
 use borrow.Author.Tests.{le-ltb, leb-true, leb-false, le-leb, lt-leb, ltb-true, ltb-false, eqb-false}
 use Rattle.table.specs.Sum.{pick, greatest_to}
-use Rattle.table.specs.Format.{alloc, is, Table, kind, table_of}
+use Rattle.table.specs.Format.{is, Table, kind, table_of}
+use Rattle.table.specs.declared.kinds.Kind.TheVariants.{Alloc as alloc}
 use Rattle.table.specs.Checks.{alloc_of}
 use Rattle.table.proofs.ReadBack.{argument_short}
 use Rattle.schedule.specs.Begin.{max_quota}

@@ -1,7 +1,9 @@
 -- The new numbers without recursion: sizes of subtrees from the highest thread down, numbers from the root up.
 use Rattle.std.specs.Prelude.{ℕ, zero, suc, ◌+◌, ◌%◌, List, get_or, set}
 use Rattle.table.specs.Sum.{pick, sum_to}
-use Rattle.table.specs.Format.{Kind, fork, is, kind_of, Table}
+use Rattle.table.specs.Format.{is, kind_of, Table}
+use Rattle.table.specs.declared.kinds.Kind.{Kind}
+use Rattle.table.specs.declared.kinds.Kind.TheVariants.{Fork as fork}
 
 -- 16 bits
 abbrev pub cut16 : ℕ → ℕ

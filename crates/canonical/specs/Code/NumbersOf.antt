@@ -1,7 +1,8 @@
 -- What the walks for the new numbers answer to any bytes.
 use Rattle.std.specs.Prelude.{ℕ, zero, suc, ◌+◌, ◌≤◌, ◌<◌, ◌≡◌, List, ltb, get_or, set, replicate}
 use Rattle.table.specs.Sum.{pick}
-use Rattle.table.specs.Format.{Kind, threads_of, bodies_from, table_of}
+use Rattle.table.specs.Format.{threads_of, bodies_from, table_of}
+use Rattle.table.specs.declared.kinds.Kind.{Kind}
 use Rattle.canonical.specs.Code.NumberWalk.{cut16}
 use Rattle.canonical.specs.Code.NumberWalk.{Numbered, step_number, numbers_in}
 

@@ -2,7 +2,9 @@
 use Rattle.std.specs.Prelude.{◌≡◌, ℕ, zero, suc, ◌+◌, ◌≤◌, ◌<◌, List, ◌∷◌, Bool, true, false, not, ◌&&◌, length, get_or, set, drop, ltb, eqb, Err, Ok, Result, ⊤}
 use Rattle.table.specs.declared.Refusal.{Refusal}
 use Rattle.table.specs.Sum.{pick, sum_to}
-use Rattle.table.specs.Format.{Kind, end, work, alloc, free, fork, join, unknown, is, Table}
+use Rattle.table.specs.Format.{is, Table}
+use Rattle.table.specs.declared.kinds.Kind.{Kind}
+use Rattle.table.specs.declared.kinds.Kind.TheVariants.{End as end, Work as work, Alloc as alloc, Free as free, Fork as fork, Join as join, Unknown as unknown}
 use Rattle.table.specs.Pass.{Check, refusal}
 use Rattle.table.specs.Checks.{argument_fits, differ, is_latest, is_empty, tail}
 use Rattle.table.specs.Code.Steps.{amount_at}

@@ -2,7 +2,9 @@
 -- walked. `depth_walked` (proofs/DepthWalk) ties it to D.
 use Rattle.std.specs.Prelude.{ℕ, zero, suc, ◌+◌, ◌%◌, ◌≤◌, max, ◌≡◌, List, get_or, set}
 use Rattle.table.specs.Sum.{pick}
-use Rattle.table.specs.Format.{Kind, fork, join, is, kind_of, Table}
+use Rattle.table.specs.Format.{is, kind_of, Table}
+use Rattle.table.specs.declared.kinds.Kind.{Kind}
+use Rattle.table.specs.declared.kinds.Kind.TheVariants.{Fork as fork, Join as join}
 
 -- A thread above the one that is walked has in the list its own depth, and from its fork on the depth of its end counted from the first action of the thread that forked it; `last` is the
 -- depth of the latest action, counted from there too.

@@ -1,7 +1,9 @@
 -- What the code's inner functions promise: an accepted table, what a body holds at most, and the walk for levels.
 use Rattle.std.specs.Prelude.{◌≡◌, ℕ, suc, ◌+◌, ◌-◌, ◌^◌, ◌≤◌, ◌<◌, max, List, length, get_or}
 use Rattle.table.specs.Sum.{pick, sum_to}
-use Rattle.table.specs.Format.{Kind, alloc, free, fork, join, is, kind_of, code_at, argument_at, Table, table_of}
+use Rattle.table.specs.Format.{is, kind_of, code_at, argument_at, Table, table_of}
+use Rattle.table.specs.declared.kinds.Kind.{Kind}
+use Rattle.table.specs.declared.kinds.Kind.TheVariants.{Alloc as alloc, Free as free, Fork as fork, Join as join}
 use Rattle.table.specs.Checks.{end_of}
 use Rattle.table.specs.Rules.{BalanceRules}
 use Rattle.table.specs.Level.{level}

@@ -1,7 +1,8 @@
 -- What the steps of the filling promise to each other.
 use Rattle.std.specs.Prelude.{◌≡◌, ℕ, suc, ◌+◌, ◌-◌, ◌*◌, ◌≤◌, ◌<◌, List, [], ◌∷◌, true, length, get_or, set, ltb, leb}
 use Rattle.table.specs.Sum.{pick}
-use Rattle.table.specs.Format.{fork, Table, table_of, kind}
+use Rattle.table.specs.Format.{Table, table_of, kind}
+use Rattle.table.specs.declared.kinds.Kind.TheVariants.{Fork as fork}
 use Rattle.table.specs.Checks.{owner, with_child, whole}
 use Rattle.table.specs.Rules.{Rules}
 use Rattle.table.specs.Code.Steps.{Filled}

@@ -2,7 +2,8 @@
 use mathlib.Core.Path.{◌≡◌, refl}
 use Prim.Native.Nat.{ℕ, zero, suc, ◌≤◌}
 use native.Mathlib.Omega.{arith}
-use Rattle.table.specs.Format.{end, work, alloc, free, fork, join, unknown, kind_of}
+use Rattle.table.specs.Format.{kind_of}
+use Rattle.table.specs.declared.kinds.Kind.TheVariants.{End as end, Work as work, Alloc as alloc, Free as free, Fork as fork, Join as join, Unknown as unknown}
 use Rattle.lines.specs.Lines.{kind_word}
 use Rattle.text.proofs.Putting.{puts_word, puts_within}
 use Rattle.lines.proofs.put_kind.Goals as goal

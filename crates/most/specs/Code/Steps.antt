@@ -2,7 +2,8 @@
 use Rattle.std.specs.Prelude.{ℕ, ◌+◌, ◌≤◌, List, Result}
 use Rattle.table.specs.declared.Refusal.{Refusal}
 use Rattle.table.specs.Sum.{pick}
-use Rattle.table.specs.Format.{alloc, join, is, Table, kind, table_of}
+use Rattle.table.specs.Format.{is, Table, kind, table_of}
+use Rattle.table.specs.declared.kinds.Kind.TheVariants.{Alloc as alloc, Join as join}
 use Rattle.table.specs.Pass.{first_found}
 use Rattle.schedule.specs.Begin.{begin_passes}
 use Rattle.most.specs.Most.{limit_of, most_as}

@@ -4,7 +4,8 @@ use Prim.Native.Nat.{ℕ, ◌≤◌, ◌<◌}
 use mathlib.Core.Bool.{Bool, true, false, ◌||◌}
 use lib.Dec.{leb}
 use borrow.Author.Tests.{le-leb, lt-leb}
-use Rattle.table.specs.Format.{fork, join, is, kind_of, Table, table_of}
+use Rattle.table.specs.Format.{is, kind_of, Table, table_of}
+use Rattle.table.specs.declared.kinds.Kind.TheVariants.{Fork as fork, Join as join}
 use Rattle.table.proofs.Parts.{code_from, argument_from}
 use Rattle.origin.specs.Origin.{bodies_to, put_in}
 use Rattle.origin.proofs.is_put_in.Goals as goal

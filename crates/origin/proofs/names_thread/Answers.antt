@@ -5,7 +5,8 @@ use mathlib.Core.Bool.{◌||◌}
 use native.Mathlib.Omega.{arith}
 use lib.Dec.{eqb}
 use borrow.Author.Tests.{eq-eqb, ne_eqb}
-use Rattle.table.specs.Format.{fork, join, is, kind_of}
+use Rattle.table.specs.Format.{is, kind_of}
+use Rattle.table.specs.declared.kinds.Kind.TheVariants.{Fork as fork, Join as join}
 use Rattle.table.proofs.Walks.{is_code}
 use Rattle.origin.proofs.names_thread.Goals as goal
 

@@ -1,7 +1,9 @@
 -- What the walks for the parallel peak promise: a number of 64 bits for each thread, the best that it and those below it may hold. `pass_right` (proofs/Passed) ties them to `best`.
 use Rattle.std.specs.Prelude.{◌≡◌, ℕ, zero, suc, ◌+◌, ◌-◌, ◌<◌, ◌≤◌, max, List, length, slice_index}
 use Rattle.table.specs.Sum.{pick}
-use Rattle.table.specs.Format.{Kind, fork, join, is, kind_of, Table}
+use Rattle.table.specs.Format.{is, kind_of, Table}
+use Rattle.table.specs.declared.kinds.Kind.{Kind}
+use Rattle.table.specs.declared.kinds.Kind.TheVariants.{Fork as fork, Join as join}
 use Rattle.peaks.specs.Peak.{final}
 use Rattle.peaks.specs.Rests.{best}
 use Rattle.peak_walk.specs.Code.Walk.{cut, balance_after}

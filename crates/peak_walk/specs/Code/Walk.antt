@@ -2,7 +2,9 @@
 -- hold at most by how many of them are unended. `walk_right_lem` (proofs/Walked) ties them to the peaks.
 use Rattle.std.specs.Prelude.{◌≡◌, ℕ, zero, suc, ◌+◌, ◌-◌, ◌*◌, ◌%◌, ◌^◌, ◌<◌, ◌≤◌, max, Bool, true, ◌||◌, List, length, slice_index, slice_set}
 use Rattle.table.specs.Sum.{pick, greatest_to}
-use Rattle.table.specs.Format.{Kind, end, alloc, free, fork, join, is, kind_of, Table, table_of}
+use Rattle.table.specs.Format.{is, kind_of, Table, table_of}
+use Rattle.table.specs.declared.kinds.Kind.{Kind}
+use Rattle.table.specs.declared.kinds.Kind.TheVariants.{End as end, Alloc as alloc, Free as free, Fork as fork, Join as join}
 use Rattle.table.specs.Rules.{Rules}
 use Rattle.peaks.specs.Peak.{final, peak_on}
 use Rattle.peak_walk.specs.Peaked.{standing}

@@ -1,7 +1,8 @@
 -- What a worker's action leaves in lent memory.
 use Rattle.std.specs.Prelude.{◌≡◌, ℕ, ◌+◌, ◌^◌, ◌<◌, List, [], ◌∷◌, Bool, true, false, get_or, set}
 use Rattle.table.specs.Sum.{pick}
-use Rattle.table.specs.Format.{Kind, Table}
+use Rattle.table.specs.Format.{Table}
+use Rattle.table.specs.declared.kinds.Kind.{Kind}
 use Rattle.schedule.specs.declared.Worker.{Worker}
 use Rattle.schedule.specs.declared.Reply.{Reply}
 use Rattle.schedule.specs.declared.Reply.TheVariants.{Idle}

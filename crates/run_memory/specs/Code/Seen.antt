@@ -1,7 +1,8 @@
 -- What a preview shows of an action alone.
 use Rattle.std.specs.Prelude.{ℕ, get_or, true, false}
 use Rattle.table.specs.Sum.{pick}
-use Rattle.table.specs.Format.{Kind, Table}
+use Rattle.table.specs.Format.{Table}
+use Rattle.table.specs.declared.kinds.Kind.{Kind}
 use Rattle.schedule.specs.declared.Reply.{Reply}
 use Rattle.schedule.specs.declared.Reply.TheVariants.{Idle}
 use Rattle.array_machine.specs.Turn.{Outcome, act_on}

@@ -8,7 +8,8 @@ use mathlib.Core.Logic.{◌⊎◌}
 use lib.ListN.{length, get_or}
 use lib.Dec.{ltb, eqb}
 use Rattle.table.specs.Sum.{pick}
-use Rattle.table.specs.Format.{join, Table, kind}
+use Rattle.table.specs.Format.{Table, kind}
+use Rattle.table.specs.declared.kinds.Kind.TheVariants.{Join as join}
 use Rattle.schedule.specs.Machine.{State, ready, held, ended, next_of, status_of, worker_of, leftmost, turn_of}
 use Rattle.order.specs.Order.{number_of}
 

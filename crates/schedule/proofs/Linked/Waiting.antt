@@ -7,7 +7,8 @@ use native.Mathlib.Decide.{ℕ_discrete, dec_lt}
 use mathlib.Core.List.{Memᴰ}
 use mathlib.Core.Bool.{Bool, true, false}
 use mathlib.Core.Logic.{◌⊎◌, inl, inr}
-use Rattle.table.specs.Format.{end, fork, join, is, Table, kind}
+use Rattle.table.specs.Format.{is, Table, kind}
+use Rattle.table.specs.declared.kinds.Kind.TheVariants.{End as end, Fork as fork, Join as join}
 use Rattle.table.specs.Checks.{open_before, owner, end_of}
 use Rattle.table.specs.Level.{fork_below}
 use Rattle.table.specs.JobTable.{Names, Unjoined, Latest}

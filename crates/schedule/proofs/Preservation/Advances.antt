@@ -6,7 +6,8 @@ use mathlib.Core.Bool.{false}
 use native.Mathlib.Omega.{arith}
 use lib.ListN.{length, set, length-set}
 use lib.Seq.{get_or-set_same, get_or-set_other}
-use Rattle.table.specs.Format.{end, alloc, free, fork, join, is, Table, kind}
+use Rattle.table.specs.Format.{is, Table, kind}
+use Rattle.table.specs.declared.kinds.Kind.TheVariants.{End as end, Alloc as alloc, Free as free, Fork as fork, Join as join}
 use Rattle.table.specs.Checks.{owner, end_of, alloc_of, free_of}
 use Rattle.table.specs.Level.{fork_below}
 use Rattle.table.proofs.Tests.{no_way, same_is}

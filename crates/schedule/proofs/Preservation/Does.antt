@@ -7,7 +7,8 @@ use native.Mathlib.Decide.{ℕ_discrete}
 use native.Mathlib.Omega.{arith}
 use lib.Dec.{eqb}
 use borrow.Author.Tests.{eqb-false, ne_eqb}
-use Rattle.table.specs.Format.{fork, Table, kind}
+use Rattle.table.specs.Format.{Table, kind}
+use Rattle.table.specs.declared.kinds.Kind.TheVariants.{Fork as fork}
 use Rattle.table.specs.Checks.{owner, alloc_of, free_of}
 use Rattle.table.specs.Level.{fork_below, depends_on}
 use Rattle.table.proofs.Sums.{sum_to_one}

@@ -11,7 +11,8 @@ use lib.Dec.{leb, eqb}
 use lib.Seq.{get_or-set_same, get_or-set_other}
 use borrow.Author.Tests.{eqb-true, eq-eqb, ne_eqb}
 use Rattle.table.specs.Sum.{pick}
-use Rattle.table.specs.Format.{end, fork, join, code_of, is, Table, kind}
+use Rattle.table.specs.Format.{code_of, is, Table, kind}
+use Rattle.table.specs.declared.kinds.Kind.TheVariants.{End as end, Fork as fork, Join as join}
 use Rattle.table.specs.Checks.{owner_below, owner, end_of, alloc_of, free_of, open_before}
 use Rattle.table.specs.Level.{fork_below, depends_on}
 use Rattle.table.proofs.Tests.{no_way, and_both, same_is}

@@ -7,7 +7,8 @@ use lib.ListN.{length, length-set}
 use lib.Seq.{get_or-set_same, get_or-set_other}
 use lib.Dec.{eqb}
 use borrow.Author.Tests.{eqb-true, eq-eqb, ne_eqb}
-use Rattle.table.specs.Format.{join, Table, kind}
+use Rattle.table.specs.Format.{Table, kind}
+use Rattle.table.specs.declared.kinds.Kind.TheVariants.{Join as join}
 use Rattle.table.specs.Checks.{owner, alloc_of, free_of}
 use Rattle.table.proofs.Tests.{no_way}
 use Rattle.table.proofs.Sums.{sum_to_cong}

@@ -9,7 +9,8 @@ use native.Mathlib.Omega.{arith}
 use native.Mathlib.Decide.{ℕ_discrete}
 use borrow.Author.Tests.{eqb-true, eq-eqb, ne_eqb}
 use Rattle.table.specs.Sum.{any_below}
-use Rattle.table.specs.Format.{alloc, free, join, code_of, is, Table, kind}
+use Rattle.table.specs.Format.{code_of, is, Table, kind}
+use Rattle.table.specs.declared.kinds.Kind.TheVariants.{Alloc as alloc, Free as free, Join as join}
 use Rattle.table.specs.Checks.{owner, alloc_of, free_of}
 use Rattle.table.proofs.Tests.{no_way, and_both, is_true, same_is}
 use Rattle.table.proofs.Bodies.{after_end, join_above, join_below}

@@ -9,7 +9,9 @@ use lib.Dec.{leb, eqb}
 use lib.Seq.{get_or-set_same}
 use borrow.Author.Tests.{eqb-false}
 use Rattle.table.specs.Sum.{pick}
-use Rattle.table.specs.Format.{Kind, end, work, alloc, free, fork, join, unknown, code_of, is, Table, kind}
+use Rattle.table.specs.Format.{code_of, is, Table, kind}
+use Rattle.table.specs.declared.kinds.Kind.{Kind}
+use Rattle.table.specs.declared.kinds.Kind.TheVariants.{End as end, Work as work, Alloc as alloc, Free as free, Fork as fork, Join as join, Unknown as unknown}
 use Rattle.table.specs.Checks.{alloc_of, free_of}
 use Rattle.schedule.specs.declared.Worker.{Worker}
 use Rattle.schedule.specs.Machine.{State, drawn, Stepped, with_status, with_list, released, ready, held, ended, next_of, status_of, worker_of, nobody}

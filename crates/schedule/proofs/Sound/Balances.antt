@@ -4,7 +4,8 @@ use Prim.Native.Nat.{ℕ, suc, ◌+◌, ◌*◌, ◌≤◌, ◌<◌}
 use mathlib.Core.Bool.{false}
 use native.Mathlib.Omega.{arith}
 use Rattle.table.specs.Sum.{sum_to}
-use Rattle.table.specs.Format.{free, join, code_of, is, Table, kind}
+use Rattle.table.specs.Format.{code_of, is, Table, kind}
+use Rattle.table.specs.declared.kinds.Kind.TheVariants.{Free as free, Join as join}
 use Rattle.table.specs.Checks.{alloc_of, free_of, with_child, whole, part_of}
 use Rattle.table.proofs.Bodies.{join_below}
 use Rattle.table.proofs.Amounts.{action_within, whole_is, part_of_bound}

@@ -9,7 +9,8 @@ use lib.ListN.{get_or}
 use lib.Dec.{eqb}
 use borrow.Author.Tests.{eqb-true, eqb-false}
 use Rattle.table.specs.Sum.{pick}
-use Rattle.table.specs.Format.{join, Table, kind}
+use Rattle.table.specs.Format.{Table, kind}
+use Rattle.table.specs.declared.kinds.Kind.TheVariants.{Join as join}
 use Rattle.table.specs.Checks.{end_of, alloc_of, free_of}
 use Rattle.table.specs.Level.{fork_below, depends_on}
 use Rattle.table.proofs.Tests.{is_true, same_is}

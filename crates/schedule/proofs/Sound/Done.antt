@@ -9,7 +9,8 @@ use native.Mathlib.Decide.{ℕ_discrete, dec_lt}
 use native.Mathlib.Omega.{arith}
 use lib.Dec.{ltb, eqb}
 use borrow.Author.Tests.{ltb-true, eqb-true, eq-eqb, ne_eqb, lt-ltb, le-ltb}
-use Rattle.table.specs.Format.{end, fork, join, is, Table, kind}
+use Rattle.table.specs.Format.{is, Table, kind}
+use Rattle.table.specs.declared.kinds.Kind.TheVariants.{End as end, Fork as fork, Join as join}
 use Rattle.table.specs.Checks.{owner, end_of}
 use Rattle.table.specs.Level.{fork_below, depends_on}
 use Rattle.table.proofs.Tests.{no_way, and_both, is_true}

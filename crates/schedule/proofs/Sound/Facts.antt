@@ -9,7 +9,8 @@ use mathlib.Core.Logic.{◌↔◌}
 use lib.ListN.{length, get_or}
 use lib.Dec.{ltb}
 use borrow.Author.Tests.{ltb-true, lt-ltb}
-use Rattle.table.specs.Format.{join, Table, kind}
+use Rattle.table.specs.Format.{Table, kind}
+use Rattle.table.specs.declared.kinds.Kind.TheVariants.{Join as join}
 use Rattle.table.specs.Checks.{end_of, alloc_of, free_of}
 use Rattle.table.specs.Level.{fork_below, depends_on}
 use Rattle.schedule.specs.declared.Worker.{Worker}

@@ -8,7 +8,8 @@ use native.Mathlib.Omega.{arith}
 use native.Mathlib.Decide.{ℕ_discrete, dec_lt}
 use borrow.Author.Tests.{lt-ltb, le-ltb, eqb-true, eq-eqb, ne_eqb}
 use Rattle.table.specs.Sum.{pick, sum_to}
-use Rattle.table.specs.Format.{free, join, is, Table, kind}
+use Rattle.table.specs.Format.{is, Table, kind}
+use Rattle.table.specs.declared.kinds.Kind.TheVariants.{Free as free, Join as join}
 use Rattle.table.specs.Checks.{owner, end_of, counts_below, alloc_of, free_of, with_child, whole, part_of}
 use Rattle.table.specs.Level.{depends_on}
 use Rattle.table.proofs.Tests.{and_both, is_true}

@@ -1,7 +1,9 @@
 -- What an action does to the links of the list and to those of the second list, by its kind: thread t acts, and x is the action's argument.
 use Rattle.std.specs.Prelude.{ℕ, eqb}
 use Rattle.table.specs.Sum.{pick}
-use Rattle.table.specs.Format.{Kind, end, work, alloc, free, fork, join, unknown, Table}
+use Rattle.table.specs.Format.{Table}
+use Rattle.table.specs.declared.kinds.Kind.{Kind}
+use Rattle.table.specs.declared.kinds.Kind.TheVariants.{End as end, Work as work, Alloc as alloc, Free as free, Fork as fork, Join as join, Unknown as unknown}
 use Rattle.schedule.specs.Machine.{State, ended, status_of, with_status, parent_of, waits_for}
 use Rattle.schedule.specs.Links.{Links, link_left, unlink}
 

@@ -1,7 +1,8 @@
 -- How the code finds what each thread holds: first each thread's balance so far, the children's before their parents'; then the threads that are joined have nothing.
 use Rattle.std.specs.Prelude.{◌≡◌, ℕ, ◌+◌, ◌-◌, ◌≤◌, ◌<◌, List, Bool, ◌&&◌, eqb, length, get_or}
 use Rattle.table.specs.Sum.{pick, any_below}
-use Rattle.table.specs.Format.{join, is, Table, kind, table_of}
+use Rattle.table.specs.Format.{is, Table, kind, table_of}
+use Rattle.table.specs.declared.kinds.Kind.TheVariants.{Join as join}
 use Rattle.schedule.specs.Sound.{done_in, balance_to, progress_in}
 use Rattle.soundness.specs.Code.Checks.{Accepted}
 

@@ -1,7 +1,8 @@
 -- What the code's tests of soundness say: each is one clause of the definition, over the parts of the record that it looks at.
 use Rattle.std.specs.Prelude.{◌≡◌, ℕ, ◌+◌, ◌<◌, ◌≤◌, List, Bool, true, not, ◌&&◌, ◌||◌, ltb, eqb, length, get_or, replicate}
 use Rattle.table.specs.Sum.{pick}
-use Rattle.table.specs.Format.{fork, join, is, Table, kind, table_of}
+use Rattle.table.specs.Format.{is, Table, kind, table_of}
+use Rattle.table.specs.declared.kinds.Kind.TheVariants.{Fork as fork, Join as join}
 use Rattle.table.specs.Checks.{max_threads, owner, end_of}
 use Rattle.table.specs.Rules.{Rules}
 use Rattle.table.specs.Serial.{serial}

@@ -1,6 +1,7 @@
 -- What the walk that finds the 1DF-numbers has done at a place: one array has first the threads' lengths, then their first actions' numbers, then their next actions'.
 use Rattle.std.specs.Prelude.{◌≡◌, ℕ, suc, ◌≤◌, ◌<◌, List, length, get_or}
-use Rattle.table.specs.Format.{fork, Table, kind}
+use Rattle.table.specs.Format.{Table, kind}
+use Rattle.table.specs.declared.kinds.Kind.TheVariants.{Fork as fork}
 use Rattle.table.specs.Checks.{counts_below, end_of}
 use Rattle.table.specs.Serial.{serial}
 use Rattle.order.specs.Order.{number_of}

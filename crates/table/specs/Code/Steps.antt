@@ -1,7 +1,9 @@
 -- What the code's inner functions promise here and in the crates of the checks and of the facts: four bytes as a number, what has been checked, and the sums of a walk over one body.
 use Rattle.std.specs.Prelude.{◌≡◌, ℕ, ◌+◌, ◌*◌, ◌^◌, ◌≤◌, ◌<◌, List, length, get_or}
 use Rattle.table.specs.Sum.{pick, sum_to}
-use Rattle.table.specs.Format.{Kind, alloc, free, is, kind_of, u32_at, code_at, argument_at, threads_of, actions_of, Table, table_of, own_amount}
+use Rattle.table.specs.Format.{is, kind_of, u32_at, code_at, argument_at, threads_of, actions_of, Table, table_of, own_amount}
+use Rattle.table.specs.declared.kinds.Kind.{Kind}
+use Rattle.table.specs.declared.kinds.Kind.TheVariants.{Alloc as alloc, Free as free}
 use Rattle.table.specs.Rules.{HeadRules, ContentRules, BodyRules, NestRules, ForkRules}
 
 -- a number r that is the four bytes from i on, each below 256

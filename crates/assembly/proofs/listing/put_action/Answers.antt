@@ -2,7 +2,8 @@
 use mathlib.Core.Path.{◌≡◌, refl}
 use Prim.Native.Nat.{ℕ, zero, suc, ◌≤◌}
 use native.Mathlib.Omega.{arith}
-use Rattle.table.specs.Format.{unknown, kind_of}
+use Rattle.table.specs.Format.{kind_of}
+use Rattle.table.specs.declared.kinds.Kind.TheVariants.{Unknown as unknown}
 use Rattle.text.specs.Text.{ascii}
 use Rattle.text.proofs.Putting.{puts_none, puts_word, puts_within}
 use Rattle.assembly.specs.Disassembly.{action_texts}

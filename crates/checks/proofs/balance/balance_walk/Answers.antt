@@ -6,7 +6,8 @@ use native.Mathlib.Omega.{arith}
 use native.Mathlib.Nat.{min-eq_left}
 use lib.Dec.{ltb}
 use Rattle.table.specs.Sum.{sum_to}
-use Rattle.table.specs.Format.{alloc, free, join, kind_of}
+use Rattle.table.specs.Format.{kind_of}
+use Rattle.table.specs.declared.kinds.Kind.TheVariants.{Alloc as alloc, Free as free, Join as join}
 use Rattle.table.specs.Code.Steps.{WalkReady, amount_at}
 use Rattle.checks.specs.Code.Steps.{least_that, least_next, overdrawn, balance_of}
 use Rattle.table.proofs.Walks.{Summed, sum_next, child_small}

@@ -3,7 +3,7 @@ use mathlib.Core.Path.{◌≡◌}
 use Prim.Native.Nat.{ℕ, ◌-◌, ◌≤◌}
 use mathlib.Core.List.{List}
 use Rattle.table.specs.Sum.{sum_to}
-use Rattle.table.specs.Format.{alloc, free, join}
+use Rattle.table.specs.declared.kinds.Kind.TheVariants.{Alloc as alloc, Free as free, Join as join}
 use Rattle.table.specs.Code.Steps.{WalkReady, amount_at}
 use Rattle.checks.specs.Code.Steps.{least_that, overdrawn}
 use Rattle.checks.proofs.balance.balance_walk.Given as goal

@@ -8,7 +8,9 @@ use borrow.Author.Tests.{lt-ltb, le-ltb}
 use lib.Dec.{ltb}
 use lib.ListN.{length, get_or, set, drop}
 use Rattle.table.specs.Sum.{pick, sum_to}
-use Rattle.table.specs.Format.{Kind, alloc, free, join, kind, bodies_from, body_of, table_of, first_of, count_of, own_amount}
+use Rattle.table.specs.Format.{kind, bodies_from, body_of, table_of, first_of, count_of, own_amount}
+use Rattle.table.specs.declared.kinds.Kind.{Kind}
+use Rattle.table.specs.declared.kinds.Kind.TheVariants.{Alloc as alloc, Free as free, Join as join}
 use Rattle.table.specs.Pass.{try_from, try_pass, or_else, refusal}
 use Rattle.table.specs.Checks.{counts_below, alloc_of, free_of, whole, part_of, balance, balance_below0, balance_pass}
 use Rattle.table.specs.Rules.{ContentRules, BodyRules}

@@ -8,7 +8,9 @@ use native.Mathlib.Nat.{min-eq_left}
 use borrow.Author.Tests.{eqb-true, eqb-false, eq-eqb, ne_eqb}
 use lib.Dec.{eqb}
 use Rattle.table.specs.Sum.{pick, sum_to}
-use Rattle.table.specs.Format.{Kind, end, unknown, is, kind, kind_of, table_of, threads_of, bodies_from, bodies_of, code_at, argument_at}
+use Rattle.table.specs.Format.{is, kind, kind_of, table_of, threads_of, bodies_from, bodies_of, code_at, argument_at}
+use Rattle.table.specs.declared.kinds.Kind.{Kind}
+use Rattle.table.specs.declared.kinds.Kind.TheVariants.{End as end, Unknown as unknown}
 use Rattle.table.specs.Pass.{try_at, try_pass, refusal}
 use Rattle.table.specs.Checks.{first_pass, kind_unknown, argument_wrong, end_misplaced, argument_fits, differ, end_of, owner}
 use Rattle.table.specs.Code.Steps.{Laid}
@@ -111,8 +113,8 @@ returns-then-number-ne0 c =
     ∙ stops c.loop-a.invariant.0 (omega (arith, c.loop-a.invariant.1, c.loop-a-test.true)) c.span_at-span.ensures
     c.action_in-action.ensures.code_value c.action_in-action.ensures.read.value c.form_at-number.ensures c.if-number-ne0.true
 
-pub overflow_add-a-in-loop-a : goal.overflow_add-a-in-loop-a
-overflow_add-a-in-loop-a c = omega arith
+pub overflow_add-a : goal.overflow_add-a-in-loop-a
+overflow_add-a c = omega arith
 
 pub loop-a-preserved : goal.loop-a-preserved
 loop-a-preserved c =

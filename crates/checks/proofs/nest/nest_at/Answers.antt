@@ -8,7 +8,8 @@ use native.Mathlib.Omega.{arith}
 use borrow.Author.Tests.{eq-eqb, ne_eqb}
 use lib.ListN.{length, get_or, set, drop, length-set, drop_of_length-le}
 use lib.Seq.{drop-cons, drop-set-lt, get_or-set_same}
-use Rattle.table.specs.Format.{Kind, kind_of}
+use Rattle.table.specs.Format.{kind_of}
+use Rattle.table.specs.declared.kinds.Kind.{Kind}
 use Rattle.checks.specs.Code.Steps.{nest, nest_at, NestReady, NestDone}
 use Rattle.checks.proofs.nest.nest_at.Goals as goal
 

@@ -7,7 +7,8 @@ use mathlib.Core.Bool.{Bool, false}
 use native.Mathlib.Omega.{arith}
 use native.Mathlib.Nat.{min-eq_left}
 use lib.ListN.{length, get_or, replicate, drop, length-drop, length-replicate, drop_of_length-le}
-use Rattle.table.specs.Format.{fork, kind_of, table_of, kind, code_at, argument_at, actions_of, bodies_from, bodies_of}
+use Rattle.table.specs.Format.{kind_of, table_of, kind, code_at, argument_at, actions_of, bodies_from, bodies_of}
+use Rattle.table.specs.declared.kinds.Kind.TheVariants.{Fork as fork}
 use Rattle.table.specs.Pass.{try_pass, refusal}
 use Rattle.table.specs.Checks.{second_pass, forked_below}
 use Rattle.table.specs.Code.Steps.{Formed}

@@ -7,7 +7,8 @@ use native.Mathlib.Omega.{arith}
 use lib.ListN.{get_or, set}
 use borrow.Author.Tests.{eq-eqb, ne_eqb}
 use Rattle.table.specs.Sum.{pick}
-use Rattle.table.specs.Format.{join, is, kind_of}
+use Rattle.table.specs.Format.{is, kind_of}
+use Rattle.table.specs.declared.kinds.Kind.TheVariants.{Join as join}
 use Rattle.table.proofs.Walks.{is_code}
 use Rattle.facts.specs.Code.DepthWalk.{reached, after_last, cut16, Stepped}
 use Rattle.facts.proofs.depth.depth_step.Goals as goal

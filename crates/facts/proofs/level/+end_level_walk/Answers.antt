@@ -5,7 +5,8 @@ use mathlib.Core.Bool.{false}
 use native.Mathlib.Omega.{arith}
 use borrow.Author.Tests.{ne_eqb}
 use lib.ListN.{get_or, set, drop}
-use Rattle.table.specs.Format.{fork, join, kind_of, is, kind, code_at, argument_at, bodies_from, body_of, table_of}
+use Rattle.table.specs.Format.{kind_of, is, kind, code_at, argument_at, bodies_from, body_of, table_of}
+use Rattle.table.specs.declared.kinds.Kind.TheVariants.{Fork as fork, Join as join}
 use Rattle.table.specs.Level.{level}
 use Rattle.table.specs.Code.Steps.{Nested}
 use Rattle.facts.specs.Code.Steps.{Starts, EndLevels, Walked, next_level}

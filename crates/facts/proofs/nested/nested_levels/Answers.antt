@@ -6,7 +6,8 @@ use native.Mathlib.Omega.{arith}
 use native.Mathlib.Nat.{min-eq_left}
 use lib.ListN.{get_or, set, replicate}
 use Rattle.table.specs.Sum.{pick}
-use Rattle.table.specs.Format.{end, fork, is, kind_of, Table, table_of, kind, code_at, argument_at, bodies_of, bodies_from}
+use Rattle.table.specs.Format.{is, kind_of, Table, table_of, kind, code_at, argument_at, bodies_of, bodies_from}
+use Rattle.table.specs.declared.kinds.Kind.TheVariants.{End as end, Fork as fork}
 use Rattle.table.specs.Rules.{ContentRules, BodyRules, NestRules, ForkRules}
 use Rattle.table.specs.Nested.{N}
 use Rattle.table.specs.Code.Steps.{Nested}

@@ -5,7 +5,8 @@ use native.Mathlib.Numerals.{add-one}
 use native.Mathlib.Omega.{arith}
 use borrow.Author.Tests.{eq-eqb, ne_eqb}
 use Rattle.table.specs.Sum.{pick}
-use Rattle.table.specs.Format.{end, is, kind_of}
+use Rattle.table.specs.Format.{is, kind_of}
+use Rattle.table.specs.declared.kinds.Kind.TheVariants.{End as end}
 use Rattle.table.proofs.Walks.{is_code}
 use Rattle.facts.proofs.nested.next_thread.Goals as goal
 

@@ -7,7 +7,8 @@ use native.Mathlib.Omega.{arith}
 use native.Mathlib.Nat.{min-eq_left}
 use lib.ListN.{get_or}
 use Rattle.table.specs.Sum.{pick, sum_to, greatest_to}
-use Rattle.table.specs.Format.{alloc, free, fork, kind_of, is, code_at, argument_at}
+use Rattle.table.specs.Format.{kind_of, is, code_at, argument_at}
+use Rattle.table.specs.declared.kinds.Kind.TheVariants.{Alloc as alloc, Free as free, Fork as fork}
 use Rattle.table.specs.Code.Steps.{child_amount, amount_at, WalkReady}
 use Rattle.facts.specs.Code.Steps.{top_of, PeaksReady}
 use Rattle.table.proofs.Tests.{is_true}

@@ -3,7 +3,7 @@ use mathlib.Core.Path.{◌≡◌}
 use Prim.Native.Nat.{ℕ, ◌-◌, ◌≤◌}
 use mathlib.Core.List.{List}
 use Rattle.table.specs.Sum.{sum_to, greatest_to}
-use Rattle.table.specs.Format.{alloc, free, fork}
+use Rattle.table.specs.declared.kinds.Kind.TheVariants.{Alloc as alloc, Free as free, Fork as fork}
 use Rattle.table.specs.Code.Steps.{amount_at, WalkReady}
 use Rattle.facts.specs.Code.Steps.{top_of, PeaksReady}
 use Rattle.facts.proofs.peak.peak_walk.Given as goal

@@ -4,7 +4,8 @@ use mathlib.Core.List.{List}
 use native.Mathlib.Omega.{arith}
 use lib.ListN.{length, get_or, set, drop}
 use Rattle.table.specs.Sum.{sum_to, greatest_to}
-use Rattle.table.specs.Format.{alloc, free, fork, table_of, body_of, bodies_from}
+use Rattle.table.specs.Format.{table_of, body_of, bodies_from}
+use Rattle.table.specs.declared.kinds.Kind.TheVariants.{Alloc as alloc, Free as free, Fork as fork}
 use Rattle.table.specs.Checks.{alloc_of, free_of, whole}
 use Rattle.table.specs.Serial.{S1}
 use Rattle.table.specs.Code.Steps.{Headed, Filled, WalkReady, amount_at}

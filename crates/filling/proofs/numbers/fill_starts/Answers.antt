@@ -5,7 +5,8 @@ use mathlib.Core.Bool.{true}
 use native.Mathlib.Omega.{arith}
 use lib.ListN.{length, set}
 use Rattle.table.specs.Sum.{pick, Read}
-use Rattle.table.specs.Format.{fork, is, Table, table_of, actions_of, kind}
+use Rattle.table.specs.Format.{is, Table, table_of, actions_of, kind}
+use Rattle.table.specs.declared.kinds.Kind.TheVariants.{Fork as fork}
 use Rattle.filling.specs.Filled.{big, dummies}
 use Rattle.filling.specs.Code.Steps.{Ready, Sums, RootsTo, Starts, At}
 use Rattle.filling.proofs.Numbering.{starts_root, at_first, child_in, big_root, starts_next, sized_next}

@@ -5,7 +5,8 @@ use mathlib.Core.List.{List}
 use mathlib.Core.Bool.{true, false}
 use lib.ListN.{set}
 use Rattle.table.specs.Sum.{pick}
-use Rattle.table.specs.Format.{fork, is, Table, table_of, kind}
+use Rattle.table.specs.Format.{is, Table, table_of, kind}
+use Rattle.table.specs.declared.kinds.Kind.TheVariants.{Fork as fork}
 use Rattle.filling.proofs.Reading.{code_read, argument_read, fork_code, is_fork, not_fork}
 use Rattle.filling.proofs.numbers.note_start.Goals as goal
 

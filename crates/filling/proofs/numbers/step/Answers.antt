@@ -6,7 +6,8 @@ use native.Mathlib.Omega.{arith}
 use lib.ListN.{get_or}
 use lib.Dec.{ltb}
 use Rattle.table.specs.Sum.{pick, Read}
-use Rattle.table.specs.Format.{fork, Table, table_of, kind}
+use Rattle.table.specs.Format.{Table, table_of, kind}
+use Rattle.table.specs.declared.kinds.Kind.TheVariants.{Fork as fork}
 use Rattle.table.specs.Checks.{owner, alloc_of}
 use Rattle.filling.specs.Filled.{big, dummies, new_threads}
 use Rattle.filling.specs.Code.Steps.{Ready, new_of, root_step, Sums}

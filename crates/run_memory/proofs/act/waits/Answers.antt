@@ -7,7 +7,8 @@ use native.Mathlib.Omega.{arith}
 use borrow.Author.Tests.{eq-eqb, ne_eqb}
 use lib.Dec.{eqb}
 use lib.ListN.{get_or}
-use Rattle.table.specs.Format.{Table, code_at, argument_at, join, is, kind, kind_of}
+use Rattle.table.specs.Format.{Table, code_at, argument_at, is, kind, kind_of}
+use Rattle.table.specs.declared.kinds.Kind.TheVariants.{Join as join}
 use Rattle.table.proofs.Walks.{is_code}
 use Rattle.schedule.specs.Machine.{waiting}
 use Rattle.array_machine.specs.Turn.{waits_in}

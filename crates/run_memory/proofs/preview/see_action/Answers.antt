@@ -3,7 +3,8 @@ use mathlib.Core.Path.{◌≡◌, refl, sym, ◌∙◌}
 use Prim.Native.Nat.{ℕ, ◌≤◌}
 use mathlib.Core.List.{List}
 use native.Mathlib.Omega.{arith}
-use Rattle.table.specs.Format.{Table, kind, kind_of, unknown, code_at, argument_at}
+use Rattle.table.specs.Format.{Table, kind, kind_of, code_at, argument_at}
+use Rattle.table.specs.declared.kinds.Kind.TheVariants.{Unknown as unknown}
 use Rattle.array_machine.proofs.Leaves.{code_unknown}
 use Rattle.run_memory.specs.declared.preview.Seen.{Seen}
 use Rattle.run_memory.specs.Memory.{Memory}

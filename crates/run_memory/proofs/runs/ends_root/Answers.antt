@@ -6,7 +6,8 @@ use mathlib.Core.Bool.{false}
 use native.Mathlib.Omega.{arith}
 use borrow.Author.Tests.{eq-eqb, ne_eqb}
 use lib.Dec.{eqb}
-use Rattle.table.specs.Format.{Table, threads_of, table_of, end, is, kind, kind_of, code_at, bodies_from}
+use Rattle.table.specs.Format.{Table, threads_of, table_of, is, kind, kind_of, code_at, bodies_from}
+use Rattle.table.specs.declared.kinds.Kind.TheVariants.{End as end}
 use Rattle.table.proofs.Parts.{code_from}
 use Rattle.table.proofs.Walks.{is_code}
 use Rattle.run_memory.specs.Runs.{ends_root}

@@ -4,7 +4,9 @@ use mathlib.Core.List.{List}
 use native.Mathlib.Numerals.{add-one}
 use native.Mathlib.Omega.{arith}
 use Rattle.table.specs.Sum.{sum_to, Read}
-use Rattle.table.specs.Format.{Kind, alloc, free, kind_of, Table, kind, table_of, own_amount}
+use Rattle.table.specs.Format.{kind_of, Table, kind, table_of, own_amount}
+use Rattle.table.specs.declared.kinds.Kind.{Kind}
+use Rattle.table.specs.declared.kinds.Kind.TheVariants.{Alloc as alloc, Free as free}
 use Rattle.table.specs.Checks.{alloc_of, free_of}
 use Rattle.table.proofs.Walks.{own_small}
 use Rattle.soundness.specs.Code.Adding.{Adds, Added}

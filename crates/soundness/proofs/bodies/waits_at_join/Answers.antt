@@ -8,7 +8,8 @@ use borrow.Author.Rules.{rules}
 use borrow.Author.Tests.{eq-eqb, ne_eqb}
 use lib.Dec.{eqb}
 use lib.ListN.{get_or}
-use Rattle.table.specs.Format.{join, kind, table_of}
+use Rattle.table.specs.Format.{kind, table_of}
+use Rattle.table.specs.declared.kinds.Kind.TheVariants.{Join as join}
 use Rattle.table.proofs.Bodies.{join_below}
 use Rattle.schedule.specs.Machine.{waiting, ended}
 use Rattle.schedule.specs.Sound.{waits_at_join}

@@ -1,6 +1,8 @@
 -- `Kind::from` meets its contract: each arm's kind is the definition's at that code.
 use Rattle.std.proofs.Common.{◌≡◌, ℕ, zero, suc, ◌≤◌, refl, arith}
-use Rattle.table.specs.Format.{Kind, kind_of, unknown}
+use Rattle.table.specs.Format.{kind_of}
+use Rattle.table.specs.declared.kinds.Kind.{Kind}
+use Rattle.table.specs.declared.kinds.Kind.TheVariants.{Unknown as unknown}
 use Rattle.table.proofs.kinds.KindFromU8.from.Goals as goal
 
 at_unknown : (k : ℕ) → 6 ≤ k → unknown ≡ kind_of k
