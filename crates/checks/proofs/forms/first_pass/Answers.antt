@@ -113,7 +113,7 @@ returns-then-number-ne0 c =
     ∙ stops c.loop-a.invariant.0 (omega (arith, c.loop-a.invariant.1, c.loop-a-test.true)) c.span_at-span.ensures
     c.action_in-action.ensures.code_value c.action_in-action.ensures.read.value c.form_at-number.ensures c.if-number-ne0.true
 
-pub overflow_add-a : goal.overflow_add-a-in-loop-a
+pub overflow_add-a : goal.overflow_add-a
 overflow_add-a c = omega arith
 
 pub loop-a-preserved : goal.loop-a-preserved
