@@ -61,8 +61,8 @@ loop-i-init c =
 pub part_at-part-requires : goal.part_at-part-requires
 part_at-part-requires c = (c.requires, c.loop-i-test.true)
 
-pub returns-in-Refused : goal.returns-in-Refused
-returns-in-Refused c = let d = c.args in record { value = refused d.tables.now d.lengths.now _ _ _ _ c.loop-i.totals c.loop-i.i c.loop-i.invariant c.loop-i-test.true _ c.part_at-part.ensures _ (sym c.weigh_in-answer.ensures.value ∙ c.in-Refused.is); rises_after = c.weigh_in-answer.ensures.rises_after }
+pub returns-in-Err : goal.returns-in-Refused
+returns-in-Err c = let d = c.args in record { value = refused d.tables.now d.lengths.now _ _ _ _ c.loop-i.totals c.loop-i.i c.loop-i.invariant c.loop-i-test.true _ c.part_at-part.ensures _ (sym c.weigh_in-answer.ensures.value ∙ c.in-Err.is); rises_after = c.weigh_in-answer.ensures.rises_after }
 
 pub add_part-totals-requires : goal.add_part-totals-requires
 add_part-totals-requires c =
