@@ -1,6 +1,7 @@
 // Job tables: what each byte says, as document 01 has it. The checks that accept a table or refuse it are a crate of their own, `checks`.
 #![tactic(auto)]
 
+pub mod front;
 pub mod kinds;
 pub mod read;
 
