@@ -322,7 +322,7 @@ deque_turn_refused r w c x e = go (try_at (deque_checks r w c) 0) e
 
 -- of a beginning and a list of calls: the deques left are those after the row of its turns, from the start on; the record is sound but for its turns taken
 pub record TracedDeques (s : List ℕ) (p K : ℕ) (r : DequeRun) (calls : List DequeCall) : Type 0 where
-  pub (Ok tt) : StartedDeques s p K r
+  pub started : StartedDeques s p K r
   pub steady : SteadyDeques (after_deque_calls calls r)
   pub below : (g : Pair) → Memᴰ g (pairs_of_calls calls r) → (g.worker < p) × (g.choice < p)
   pub deques : deques_of (after_deque_calls calls r) ≡ row_deques (table_of (filled_out s K)) K (start_deques (table_of (filled_out s K))) (pairs_of_calls calls r)
@@ -334,7 +334,7 @@ deque_calls_traced s p K r e calls =
     let l : LeftDeques r (pairs_of_calls calls r) (after_deque_calls calls r) = deque_calls_left r h calls in
     let o = start_values s p K r b in
     record {
-      (Ok _) = b;
+      started = b;
       steady = deque_calls_steady r h calls;
       below = λ g m. rw o.1 at (l.below g m);
       deques = l.deques ∙ rw (o.0, o.2, o.3);

@@ -5,7 +5,7 @@ use mathlib.Core.Path.{◌≡◌, refl, sym, ap, subst, ◌∙◌}
 use mathlib.Core.List.Memᴰ
 use mathlib.Core.List.{List, [], ◌∷◌, ◌++◌, Memᴰ}
 use mathlib.Core.Bool.{Bool, true, false}
-use mathlib.Core.Logic.{◌⊎◌, ⊎_elim}
+use mathlib.Core.Logic.{⊎_elim}
 use Rattle.table.specs.Sum.{pick, sum_over, greatest, any_below}
 use Rattle.table.specs.Format.{is, code_of, Table, table_of, kind}
 use Rattle.table.specs.declared.kinds.Kind.{Kind}

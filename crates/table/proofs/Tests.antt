@@ -1,11 +1,11 @@
 -- Tests and kinds: what the two ways through `||` and `&&` say, that the test `is` is equality, what a choice by a test is, and how the kinds part.
-use mathlib.Core.Path.{◌≡◌, refl, sym}
+use mathlib.Core.Path.{◌≡◌, refl, sym, ◌∙◌}
 use Prim.Native.Nat.{ℕ, suc, ◌-◌, ◌<◌}
 use mathlib.Core.Bool.{Bool, true, false, not, ◌&&◌, ◌||◌, cond}
 use native.Mathlib.Omega.{arith}
 use lib.Dec.{ltb}
 use lib.IntN.{sub_ℕ, pos, negsuc}
-use borrow.Author.Tests.{ltb-true, eqb-true, eq-eqb, not-false}
+use borrow.Author.Tests.{ltb-true, eqb-true, eq-eqb, ne_eqb, not-false}
 use Rattle.table.specs.Sum.{pick}
 use Rattle.table.specs.Format.{kind_of, code_of, is}
 use Rattle.table.specs.declared.kinds.Kind.{Kind}
@@ -61,6 +61,11 @@ is_true j k e =
 pub same_is : (j k : Kind) → k ≡ j → is j k ≡ true
 unfolding is
 same_is j k e = eq-eqb (code_of j) (code_of k) cc
+
+pub other_is : (j k : Kind) → (k ≡ j → ⊥) → is j k ≡ false
+unfolding is
+other_is j k d =
+    ne_eqb (code_of j) (code_of k) (λ e. d (sym (kind_of_code_of k) ∙ rw (← e) (kind_of_code_of j)))
 
 -- a choice of two amounts that are equal where the test holds
 pub pick_same : (j k : Kind) (x y : ℕ) → (k ≡ j → x ≡ y) → pick (is j k) x 0 ≡ pick (is j k) y 0

@@ -38,7 +38,7 @@ step_is (Goes f) buf = goes (front_is f buf)
 step_is (Stops e) buf = stops e
 step_is (Ends f) buf = ends (front_is f buf)
 
-abbrev pub end_is : Result Front Wanted → ℕ → List ℕ → Fronted
+abbrev pub end_is : Result Kept Wanted → ℕ → List ℕ → Fronted
 end_is (Ok f) k buf = whole (front_is f buf) k
 end_is (Err e) k buf = fault (suc k) e
 
@@ -52,7 +52,7 @@ held_by (Turns p K n) = n
 held_by (Rounds p K L) = 0
 held_by (Board p b M) = 0
 
-abbrev pub end_held : Result Front Wanted → ℕ
+abbrev pub end_held : Result Kept Wanted → ℕ
 end_held (Ok f) = held_by f
 end_held (Err e) = 0
 
@@ -92,7 +92,7 @@ pub record Lined (s : List ℕ) (at end : ℕ) : Type 0 where
   pub within : end ≤ length s
 
 -- the text ends
-pub record Ending (f : Kept) (r : Result Front Wanted) : Type 0 where
+pub record Ending (f : Kept) (r : Result Kept Wanted) : Type 0 where
   pub value : (buf : List ℕ) (k : ℕ) → end_is r k buf ≡ at_end (front_is f buf) k
   pub few : end_held r ≤ held_by f
 

@@ -18,11 +18,11 @@ use Rattle.inputs.proofs.Lines.{lines_none, line_at, after_next}
 use Rattle.inputs.proofs.read.read_front.Invariants.{Inv}
 use Rattle.inputs.proofs.read.read_front.Goals as goal
 
-abbrev read_to : Result Front Wanted → ℕ → ℕ → Read
+abbrev read_to : Result Kept Wanted → ℕ → ℕ → Read
 read_to e k at = record { end = e; lines = k; at = at }
 
 module _ (s buf : List ℕ) (f : Kept) (k at : ℕ) (v : Inv s buf f k at) where
-  text_ends : {e : Result Front Wanted} → length s ≤ at → Ending f e → ReadsFront s buf (read_to e k at)
+  text_ends : {e : Result Kept Wanted} → length s ≤ at → Ending f e → ReadsFront s buf (read_to e k at)
   unfolding front_from
   text_ends h d =
       record {
