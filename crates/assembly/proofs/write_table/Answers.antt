@@ -110,6 +110,6 @@ pub returns-in-Ok : goal.returns-in-Ok
 returns-in-Ok c = let both = answers _ _ _ _ c.requires c.if-out-size.false (sym c.sizes_outside.ensures ∙ c.if-sizes_outside.false) _ _ c.put_table-k.ensures c.load_in-loaded.ensures.value
     (rw c.in-Ok.is (ap Written (placed _ _ _ _ c.requires c.if-out-size.false (sym c.sizes_outside.ensures ∙ c.if-sizes_outside.false) _ _ c.put_table-k.ensures).0)) in record { value = both.0; out_after = both.1 }
 
-pub returns-in-Refused : goal.returns-in-Refused
-returns-in-Refused c = let both = answers _ _ _ _ c.requires c.if-out-size.false (sym c.sizes_outside.ensures ∙ c.if-sizes_outside.false) _ _ c.put_table-k.ensures c.load_in-loaded.ensures.value
-    (rejected _ c.in-Refused.is c.refused_at.ensures) in record { value = both.0; out_after = both.1 }
+pub returns-in-Err : goal.returns-in-Refused
+returns-in-Err c = let both = answers _ _ _ _ c.requires c.if-out-size.false (sym c.sizes_outside.ensures ∙ c.if-sizes_outside.false) _ _ c.put_table-k.ensures c.load_in-loaded.ensures.value
+    (rejected _ c.in-Err.is c.refused_at.ensures) in record { value = both.0; out_after = both.1 }

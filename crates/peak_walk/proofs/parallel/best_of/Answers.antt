@@ -7,9 +7,6 @@ use Rattle.peak_walk.proofs.parallel.best_of.Goals as goal
 pub loop-t-init : goal.loop-t-init
 loop-t-init c = (omega arith, c.requires.bests)
 
-pub overflow_sub-t : goal.overflow_sub-t
-overflow_sub-t c = omega (arith, c.loop-t-test.true)
-
 pub loop-t-preserved : goal.loop-t-preserved
 loop-t-preserved c =
     let a = c.args in

@@ -7,6 +7,3 @@ use Rattle.peak_walk.proofs.parallel.best_of.Given as goal
 
 abbrev pub invariant-loop-t : goal.invariant-loop-t
 invariant-loop-t l = (l.t ≤ l.n) × Bests (table_of l.table) l.bests l.finals l.t
-
-abbrev pub decreases-loop-t : goal.decreases-loop-t
-decreases-loop-t l = l.t

@@ -6,6 +6,3 @@ use Rattle.peak_walk.proofs.row.row_greatest.Given as goal
 
 abbrev pub invariant-loop-j : goal.invariant-loop-j
 invariant-loop-j l = (l.j ≤ suc l.r) × Small l.r 0 l.d × (l.best ≡ greatest_to (λ i. get_or l.rows (slot l.d i) 0) l.j)
-
-abbrev pub decreases-loop-j : goal.decreases-loop-j
-decreases-loop-j l = suc l.r - l.j
