@@ -81,7 +81,7 @@ pub fn count(table: &[u8], quota: u32) -> Result<Total, Refusal>
         threads += new_threads(x, most);
         actions += new_actions(x, most);
         if is_full(x, most, threads, actions) {
-            return Err(Refusal::new(44, a));
+            return Err(Refusal::new(44, a as u16));
         }
     }
     Ok(Total { threads, actions })

@@ -5,7 +5,7 @@ pub mod front;
 pub mod kinds;
 pub mod read;
 
-ghost use Rattle.std.specs.Prelude.{◌≡◌, ◌<◌, max, min};
+ghost use Rattle.std.specs.Prelude.{◌≡◌, max, min};
 ghost use Rattle.table.specs.Checks.{outside as is_outside};
 ghost use Rattle.table.specs.Pass.{refusal};
 
@@ -27,14 +27,10 @@ pub struct Refusal {
 }
 
 impl Refusal {
-    pub fn new(number: u8, place: usize) -> Refusal
-        requires { place < 65536 }
+    pub fn new(number: u8, place: u16) -> Refusal
         ensures { result ≡ refusal number place }
     {
-        Refusal {
-            number,
-            place: place as u16,
-        }
+        Refusal { number, place }
     }
 }
 

@@ -110,8 +110,8 @@ new_actions-actions-requires c = record { x_bound = c.amount-x.ensures.small; qu
 pub overflow_add-actions : goal.overflow_add-actions
 overflow_add-actions c = omega (arith, c.new_actions-actions.ensures.small, c.loop-a.invariant.actions_small)
 
-pub new-requires : goal.new-requires
-new-requires c = omega (arith, c.loop-a-test.true, c.loop-a.invariant.small)
+pub overflow_cast-a : goal.overflow_cast-a
+overflow_cast-a c = omega (arith, c.loop-a-test.true, c.loop-a.invariant.small)
 
 pub returns-then-is_full : goal.returns-then-is_full
 returns-then-is_full c =
