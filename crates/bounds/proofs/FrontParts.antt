@@ -17,11 +17,6 @@ unfolding Keeps
 keeps_front b row front rest e k before stretch after w v d n =
     k before stretch (after ++ rest) w v (e ∙ rw d (simp append_assoc)) n
 
--- the greatest amount after a front part is within what bounds them all
-pub peak_within_lem : (T : Table) (K B : ℕ) (row : List ℕ) → ((front rest : List ℕ) → row ≡ front ++ rest → row_memory T K front ≤ B) → peak_memory T K row ≤ B
-unfolding peak_memory
-peak_within_lem T K B row h = greatest_bound (row_memory T K) (front_rows row) B (λ front m. let r = front_rest row front m in h front r.0 r.1)
-
 module _ (T : Table) (l : Lawful T) (p K : ℕ) (some : 1 ≤ p) (few : p ≤ 16) (delayed : Delayed T (drawn_cost T K)) (row : List ℕ) (h : (w : ℕ) → Memᴰ w row → w < p) where
   front_below : (front rest : List ℕ) → row ≡ front ++ rest → (w : ℕ) → Memᴰ w front → w < p
   front_below front rest e = front_workers (λ w. w < p) row front rest e h

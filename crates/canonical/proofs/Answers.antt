@@ -1,6 +1,6 @@
 -- The answers and the buffers by what the checks find; which tables are refused; the values without the answer.
 use Rattle.std.specs.Prelude.{Err, Ok, Result, ⊤}
-use mathlib.Core.Path.{◌≡◌, refl, ap, ◌∙◌}
+use mathlib.Core.Path.{◌≡◌, ap}
 use Prim.Native.Nat.{ℕ}
 use mathlib.Core.List.{List}
 use mathlib.Core.Logic.{◌↔◌}
@@ -10,10 +10,10 @@ use Rattle.table.specs.Format.{table_of}
 use Rattle.table.specs.declared.Refusal.{Refusal}
 use Rattle.rows.specs.Rows.{over}
 use Rattle.canonical.specs.Canonical.{canonical}
-use Rattle.canonical.specs.Order.{Ordered, before, equal, after, compare_tables}
-use Rattle.canonical.specs.Answers.{found_in, formed, formed_in, form_values, form_values_of, said, compared, compared_in, compare_values, compare_values_of}
-use Rattle.canonical.specs.declared.Compared.{Compared}
-use Rattle.canonical.specs.declared.Compared.TheVariants.{Refused as RefusedOf}
+use Rattle.std.specs.declared.cmp.Ordering.{Ordering}
+use Rattle.canonical.specs.Order.{compare_tables}
+use Rattle.canonical.specs.Answers.{found_in, formed, formed_in, form_values, form_values_of, compared, compared_in, compare_values, compare_values_of}
+use Rattle.canonical.specs.declared.RefusedTable.{RefusedTable}
 
 -- ---- the form
 
@@ -33,30 +33,25 @@ form_written s out e k o p q = record { answer = rw (e, p); values = rw (e, p); 
 
 -- ---- two tables
 
-pub record Compares (s u a b : List ℕ) (r : Compared) (a' b' : List ℕ) : Type 0 where
+pub record Compares (s u a b : List ℕ) (r : Result Ordering RefusedTable) (a' b' : List ℕ) : Type 0 where
   pub answer : r ≡ compared s u
   pub values : compare_values_of r ≡ compare_values s u
   pub left : a' ≡ compared_in s u (canonical s) a
   pub left' : b' ≡ compared_in s u (canonical u) b
 
 module _ (s u a b : List ℕ) where
-  pub compare_refused : (r : Refusal) → found_in s ≡ Err r → Compares s u a b (RefusedOf 0 r) a b
+  pub compare_refused : (r : Refusal) → found_in s ≡ Err r → Compares s u a b (Err (record { table = 0; refusal = r })) a b
   unfolding compared compare_values compared_in
   compare_refused r e = record { answer = rw e; values = rw e; left = rw e; left' = rw e }
 
-  pub compare_refused_second : (r : Refusal) → found_in s ≡ Ok tt → found_in u ≡ Err r → Compares s u a b (RefusedOf 1 r) a b
+  pub compare_refused_second : (r : Refusal) → found_in s ≡ Ok tt → found_in u ≡ Err r → Compares s u a b (Err (record { table = 1; refusal = r })) a b
   unfolding compared compare_values compared_in
   compare_refused_second r e f = record { answer = rw (e, f); values = rw (e, f); left = rw (e, f); left' = rw (e, f) }
 
-  pub compare_said : found_in s ≡ Ok tt → found_in u ≡ Ok tt → (r : Compared) (a' b' : List ℕ) → r ≡ said (compare_tables s u) → a' ≡ over (canonical s) a → b' ≡ over (canonical u) b
+  pub compare_said : found_in s ≡ Ok tt → found_in u ≡ Ok tt → (r : Result Ordering RefusedTable) (a' b' : List ℕ) → r ≡ Ok (compare_tables s u) → a' ≡ over (canonical s) a → b' ≡ over (canonical u) b
       → Compares s u a b r a' b'
   unfolding compared compare_values compared_in
-  compare_said e f r a' b' p q w = record { answer = rw (e, f) p; values = rw (e, f) (ap compare_values_of p ∙ go (compare_tables s u)); left = rw (e, f) q; left' = rw (e, f) w }
-    where
-      go : (o : Ordered) → compare_values_of (said o) ≡ record { number = 0; place = 0; said = Rattle.canonical.specs.Answers.said_number o; table = 0 }
-      go before = refl
-      go equal = refl
-      go after = refl
+  compare_said e f r a' b' p q w = record { answer = rw (e, f) p; values = rw (e, f) (ap compare_values_of p); left = rw (e, f) q; left' = rw (e, f) w }
 
 -- ---- exactly the refused tables are refused, with their own number and place
 

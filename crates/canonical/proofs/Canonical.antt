@@ -25,7 +25,8 @@ use Rattle.parts.specs.Kept.{Keeps}
 use Rattle.parts.proofs.Short.{Short}
 use Rattle.canonical.specs.Renames.{Renames}
 use Rattle.canonical.specs.Canonical.{canonical_bodies, canonical}
-use Rattle.canonical.specs.Order.{before, equal, swapped, compare_tables, SmallerAt}
+use Rattle.std.specs.declared.cmp.Ordering.TheVariants.{Less, Equal}
+use Rattle.canonical.specs.Order.{swapped, compare_tables, SmallerAt}
 use Rattle.table.proofs.ReadBack.{argument_short, threads_back, actions_back, bytes_length}
 use Rattle.parts.proofs.HeadRule.{written_loaded}
 use Rattle.parts.proofs.CopyLaws.{copy_first, copy_end, copy_serial, copy_level}
@@ -175,13 +176,13 @@ unfolding canonical
 no_front s u z = written_front (canonical_bodies (table_of s)) (canonical_bodies (table_of u)) z
 
 -- "the first difference deciding"
-pub compare_first : (s u : List ℕ) → (compare_tables s u ≡ before → SmallerAt (canonical s) (canonical u)) × (SmallerAt (canonical s) (canonical u) → compare_tables s u ≡ before)
+pub compare_first : (s u : List ℕ) → (compare_tables s u ≡ Less → SmallerAt (canonical s) (canonical u)) × (SmallerAt (canonical s) (canonical u) → compare_tables s u ≡ Less)
 compare_first s u = (
   (λ h. ⊎_elim (λ (z : SmallerAt (canonical s) (canonical u)). z) (λ (z : Front (canonical s) (canonical u)). absurd (no_front s u z)) (order_found (canonical s) (canonical u) h)),
   order_smaller (canonical s) (canonical u),
 )
 
-pub compare_equal : (s u : List ℕ) (f g : Facts) → loaded s ≡ Ok f → loaded u ≡ Ok g → (compare_tables s u ≡ equal) ↔ Renames (table_of s) (table_of u)
+pub compare_equal : (s u : List ℕ) (f g : Facts) → loaded s ≡ Ok f → loaded u ≡ Ok g → (compare_tables s u ≡ Equal) ↔ Renames (table_of s) (table_of u)
 compare_equal s u f g h k = (
   (λ e. (canonical_exactly s u f g h k).0 (order_equal (canonical s) (canonical u) e)),
   (λ r. let e : canonical s ≡ canonical u = (canonical_exactly s u f g h k).1 r in rw e (order_refl (canonical u))),
@@ -190,5 +191,5 @@ compare_equal s u f g h k = (
 pub compare_swap : (s u : List ℕ) → compare_tables u s ≡ swapped (compare_tables s u)
 compare_swap s u = order_swap (canonical s) (canonical u)
 
-pub compare_trans : (s u v : List ℕ) → compare_tables s u ≡ before → compare_tables u v ≡ before → compare_tables s v ≡ before
+pub compare_trans : (s u v : List ℕ) → compare_tables s u ≡ Less → compare_tables u v ≡ Less → compare_tables s v ≡ Less
 compare_trans s u v h k = order_trans (canonical s) (canonical u) (canonical v) h k

@@ -13,7 +13,9 @@ use Rattle.text.proofs.Placing.{line_put}
 use Rattle.rows.specs.Rows.{over}
 use Rattle.canonical.specs.Answers.{compared}
 use Rattle.canonical.specs.Lines.{compared_line, first_table, second_table, compare_line}
-use Rattle.canonical.specs.declared.Compared.{Compared}
+use Rattle.std.specs.Prelude.{Result}
+use Rattle.std.specs.declared.cmp.Ordering.{Ordering}
+use Rattle.canonical.specs.declared.RefusedTable.{RefusedTable}
 
 module _ (s : List ℕ) (long : length s ≡ 80) where
   -- one word that fits
@@ -44,7 +46,7 @@ pub short_told : (input s o : List ℕ) (r : ℕ) → length input < 4 → r ≡
 unfolding compare_line
 short_told input s o r h e p = rw (lt-ltb (length input) 4 h) (e, p ∙ ap (λ (k : ℕ). refused_line (refusal 33 0) ++ drop k s) e)
 
-pub tables_told : (input first second s o : List ℕ) (r : ℕ) → 4 ≤ length input → first ≡ first_table input → second ≡ second_table input → (x : Compared) → x ≡ compared first second
+pub tables_told : (input first second s o : List ℕ) (r : ℕ) → 4 ≤ length input → first ≡ first_table input → second ≡ second_table input → (x : Result Ordering RefusedTable) → x ≡ compared first second
     → r ≡ length (compared_line x) → o ≡ over (compared_line x) s → (r ≡ length (compare_line input)) × (o ≡ over (compare_line input) s)
 unfolding compare_line
 tables_told input first second s o r h e f x g p q =

@@ -1,14 +1,15 @@
 -- What the two calls answer to any bytes, and what they leave in the lent buffers.
 use Rattle.std.specs.Prelude.{ℕ, List, length, Err, Ok, Result, ⊤}
+use Rattle.std.specs.declared.cmp.Ordering.{Ordering}
+use Rattle.std.specs.declared.cmp.Ordering.TheVariants.{Less, Equal, Greater}
 use Rattle.table.specs.declared.Refusal.{Refusal}
 use Rattle.table.specs.Pass.{first_found}
 use Rattle.table.specs.Checks.{passes}
 use Rattle.table.specs.Load.{found_number, found_place, if_found}
 use Rattle.rows.specs.Rows.{over}
 use Rattle.canonical.specs.Canonical.{canonical}
-use Rattle.canonical.specs.Order.{Ordered, before, equal, after, compare_tables}
-use Rattle.canonical.specs.declared.Compared.{Compared}
-use Rattle.canonical.specs.declared.Compared.TheVariants.{Before, Equal, After, Refused as RefusedOf}
+use Rattle.canonical.specs.Order.{compare_tables}
+use Rattle.canonical.specs.declared.RefusedTable.{RefusedTable}
 
 -- what the checks find in a table
 abbrev pub found_in : List ℕ → Result ⊤ Refusal
@@ -44,18 +45,13 @@ form_values s = record { number = found_number (found_in s); place = found_place
 
 -- ---- two tables compared
 
-abbrev pub said : Ordered → Compared
-said before = Before
-said equal = Equal
-said after = After
-
 -- "A refused table gives its own number and place, the first table's before the second's"; the tables are counted from 0
-abbrev pub compared_by : Result ⊤ Refusal → Result ⊤ Refusal → Ordered → Compared
-compared_by (Err r) g o = RefusedOf 0 r
-compared_by (Ok _) (Err r) o = RefusedOf 1 r
-compared_by (Ok _) (Ok _) o = said o
+abbrev pub compared_by : Result ⊤ Refusal → Result ⊤ Refusal → Ordering → Result Ordering RefusedTable
+compared_by (Err r) g o = Err (record { table = 0; refusal = r })
+compared_by (Ok _) (Err r) o = Err (record { table = 1; refusal = r })
+compared_by (Ok _) (Ok _) o = Ok o
 
-unfoldable pub compared : List ℕ → List ℕ → Compared
+unfoldable pub compared : List ℕ → List ℕ → Result Ordering RefusedTable
 compared s u = compared_by (found_in s) (found_in u) (compare_tables s u)
 
 -- a buffer afterwards, of two tables: a form at its start where neither is refused, else as it was
@@ -69,16 +65,14 @@ pub record CompareValues : Type 0 where
   pub said : ℕ
   pub table : ℕ
 
-abbrev pub said_number : Ordered → ℕ
-said_number before = 1
-said_number equal = 2
-said_number after = 3
+abbrev pub said_number : Ordering → ℕ
+said_number Less = 1
+said_number Equal = 2
+said_number Greater = 3
 
-abbrev pub compare_values_of : Compared → CompareValues
-compare_values_of Before = record { number = 0; place = 0; said = 1; table = 0 }
-compare_values_of Equal = record { number = 0; place = 0; said = 2; table = 0 }
-compare_values_of After = record { number = 0; place = 0; said = 3; table = 0 }
-compare_values_of (RefusedOf t r) = record { number = r.number; place = r.place; said = 0; table = t }
+abbrev pub compare_values_of : Result Ordering RefusedTable → CompareValues
+compare_values_of (Ok o) = record { number = 0; place = 0; said = said_number o; table = 0 }
+compare_values_of (Err e) = record { number = e.refusal.number; place = e.refusal.place; said = 0; table = e.table }
 
 -- the same values from the checks and the two forms alone
 unfoldable pub compare_values : List ℕ → List ℕ → CompareValues

@@ -1,25 +1,24 @@
 -- Comparing two tables by the bytes of their canonical forms (change request N14).
 use Rattle.std.specs.Prelude.{◌≡◌, ℕ, ◌<◌, List, [], ◌∷◌, ltb, length, get_or}
+use Rattle.std.specs.declared.cmp.Ordering.{Ordering}
+use Rattle.std.specs.declared.cmp.Ordering.TheVariants.{Less, Equal, Greater}
 use Rattle.table.specs.Sum.{pick}
 use Rattle.canonical.specs.Canonical.{canonical}
 
 -- "before, equal or after"
-pub data Ordered : Type 0 where
-  before equal after : Ordered
-
-abbrev pub swapped : Ordered → Ordered
-swapped before = after
-swapped equal = equal
-swapped after = before
+abbrev pub swapped : Ordering → Ordering
+swapped Less = Greater
+swapped Equal = Equal
+swapped Greater = Less
 
 -- "the first difference deciding"; what ends first comes first, which two canonical forms never need (`no_front`)
-unfoldable pub byte_order : List ℕ → List ℕ → Ordered
-byte_order [] [] = equal
-byte_order [] (y ∷ l) = before
-byte_order (x ∷ k) [] = after
-byte_order (x ∷ k) (y ∷ l) = pick (ltb x y) before (pick (ltb y x) after (byte_order k l))
+unfoldable pub byte_order : List ℕ → List ℕ → Ordering
+byte_order [] [] = Equal
+byte_order [] (y ∷ l) = Less
+byte_order (x ∷ k) [] = Greater
+byte_order (x ∷ k) (y ∷ l) = pick (ltb x y) Less (pick (ltb y x) Greater (byte_order k l))
 
-abbrev pub compare_tables : List ℕ → List ℕ → Ordered
+abbrev pub compare_tables : List ℕ → List ℕ → Ordering
 compare_tables s u = byte_order (canonical s) (canonical u)
 
 -- a first place at which the first list has the smaller byte

@@ -1,7 +1,6 @@
 // The same design under other numbers: a table's canonical form, and two tables compared by it.
 #![tactic(auto)]
 
-mod bytes;
 mod line;
 
 pub use line::compare_line;
@@ -14,20 +13,18 @@ ghost use Rattle.rows.specs.Rows.{over};
 ghost use Rattle.canonical.specs.Canonical.{canonical};
 ghost use Rattle.canonical.specs.Order.{compare_tables};
 ghost use Rattle.canonical.specs.Code.Rows.{Accepts};
-ghost use Rattle.canonical.specs.Answers.{said, formed, formed_in, form_values, form_values_of, compared, compared_in, compare_values, compare_values_of};
+ghost use Rattle.canonical.specs.Answers.{formed, formed_in, form_values, form_values_of, compared, compared_in, compare_values, compare_values_of};
 
-use bytes::byte_order;
 use checks::check_in;
+use std::cmp::Ordering;
 use table::Refusal;
 use write::write_form;
 
-// How the first table stands to the second, or which of the two is refused, counted from 0.
-#[derive(Drop)]
-pub enum Compared {
-    Before,
-    Equal,
-    After,
-    Refused(usize, Refusal),
+// Which of two tables is refused, counted from 0.
+#[derive(Clone, Copy)]
+pub struct RefusedTable {
+    pub table: usize,
+    pub refusal: Refusal,
 }
 
 // The canonical form of a table, at the start of the buffer, which is as it was where the table is refused.
@@ -60,16 +57,17 @@ pub fn form_in(
 {
     *names = [0; 1024];
     *order = [0; 1024];
-    let found = check_in(table, rises, falls);
-    if let Err(r) = found {
-        return Err(r);
-    }
-    let k = write_form(table, out, names, order);
-    Ok(k)
+    check_in(table, rises, falls)?;
+    Ok(write_form(table, out, names, order))
 }
 
-// Two tables compared by the bytes of their forms, the first difference deciding. The forms are then at the starts of the two buffers, which are as they were where a table is refused.
-pub fn compare(first: &[u8], second: &[u8], a: &mut [u8; 36868], b: &mut [u8; 36868]) -> Compared
+// How the first table stands to the second by the bytes of their forms, the first difference deciding. The forms are then at the starts of the two buffers, which are as they were where a table is refused.
+pub fn compare(
+    first: &[u8],
+    second: &[u8],
+    a: &mut [u8; 36868],
+    b: &mut [u8; 36868],
+) -> Result<Ordering, RefusedTable>
     ensures value { result ≡ compared first.now second.now }
     ensures result_value { compare_values_of result ≡ compare_values first.now second.now }
     ensures a_after { a.new ≡ compared_in first.now second.now (canonical first.now) a.old }
@@ -94,7 +92,7 @@ pub fn compare_in(
     falls: &mut [u64; 1024],
     names: &mut [u16; 1024],
     order: &mut [u16; 1024],
-) -> Compared
+) -> Result<Ordering, RefusedTable>
     ensures value { result ≡ compared first.now second.now }
     ensures result_value { compare_values_of result ≡ compare_values first.now second.now }
     ensures a_after { a.new ≡ compared_in first.now second.now (canonical first.now) a.old }
@@ -104,15 +102,13 @@ pub fn compare_in(
 {
     *names = [0; 1024];
     *order = [0; 1024];
-    let found = check_in(first, rises, falls);
-    if let Err(r) = found {
-        return Compared::Refused(0, r);
+    if let Err(refusal) = check_in(first, rises, falls) {
+        return Err(RefusedTable { table: 0, refusal });
     }
-    let found = check_in(second, rises, falls);
-    if let Err(r) = found {
-        return Compared::Refused(1, r);
+    if let Err(refusal) = check_in(second, rises, falls) {
+        return Err(RefusedTable { table: 1, refusal });
     }
-    compare_forms(first, second, a, b, names, order)
+    Ok(compare_forms(first, second, a, b, names, order))
 }
 
 // Two accepted tables.
@@ -123,14 +119,14 @@ fn compare_forms(
     b: &mut [u8],
     names: &mut [u16; 1024],
     order: &mut [u16; 1024],
-) -> Compared
+) -> Ordering
     requires { (Accepts first.now × (36868 ≤ length a.old)) × (Accepts second.now × (36868 ≤ length b.old)) }
-    ensures value { result ≡ said (compare_tables first.now second.now) }
+    ensures value { result ≡ compare_tables first.now second.now }
     ensures a_after { a.new ≡ over (canonical first.now) a.old }
     ensures b_after { b.new ≡ over (canonical second.now) b.old }
     ensures names_after { (names.new ≡ replicate 1024 0) × (order.new ≡ replicate 1024 0) }
 {
     let k = write_form(first, a, names, order);
     let l = write_form(second, b, names, order);
-    byte_order(&a[..k], &b[..l])
+    a[..k].cmp(&b[..l])
 }

@@ -1,25 +1,33 @@
 // The line that tells how two tables compare.
-ghost use Rattle.std.specs.Prelude.{◌≡◌, length};
+ghost use Rattle.std.specs.Prelude.{◌≡◌, length, Err};
 ghost use Rattle.io.specs.Counts.{IsPrefixLen};
 ghost use Rattle.table.specs.Sum.{Read};
 ghost use Rattle.table.specs.Format.{u32_at};
 ghost use Rattle.rows.specs.Rows.{over};
 ghost use Rattle.canonical.specs.Lines.{compared_line, compare_line};
 
-use crate::{Compared, compare};
+use crate::{RefusedTable, compare};
+use std::cmp::Ordering;
+use table::Refusal;
 use table::read::word;
-use table::{Refusal, lesser};
 use text::{put_refused_of, put_word, table_line};
 
-fn compared_line(answer: Compared, out: &mut [u8; 80]) -> usize
+fn put_refused(out: &mut [u8; 80], refused: RefusedTable) -> usize
+    ensures value { result ≡ length (compared_line (Err refused)) }
+    ensures out_after { out.new ≡ over (compared_line (Err refused)) out.old }
+{
+    put_refused_of(out, refused.refusal, b" table ", refused.table)
+}
+
+fn compared_line(answer: Result<Ordering, RefusedTable>, out: &mut [u8; 80]) -> usize
     ensures value { result ≡ length (compared_line answer) }
     ensures out_after { out.new ≡ over (compared_line answer) out.old }
 {
     match answer {
-        Compared::Before => put_word(out, 0, b"before\n"),
-        Compared::Equal => put_word(out, 0, b"equal\n"),
-        Compared::After => put_word(out, 0, b"after\n"),
-        Compared::Refused(t, r) => put_refused_of(out, r, b" table ", t),
+        Ok(Ordering::Less) => put_word(out, 0, b"before\n"),
+        Ok(Ordering::Equal) => put_word(out, 0, b"equal\n"),
+        Ok(Ordering::Greater) => put_word(out, 0, b"after\n"),
+        Err(refused) => put_refused(out, refused),
     }
 }
 
@@ -46,7 +54,7 @@ pub fn compare_line(input: &[u8], out: &mut [u8; 80]) -> usize
         );
     }
     let rest = &input[4..];
-    let k = lesser(double_word(input), rest.len());
+    let k = double_word(input).min(rest.len());
     let mut a = [0u8; 36868];
     let mut b = [0u8; 36868];
     let answer = compare(&rest[..k], &rest[k..], &mut a, &mut b);

@@ -74,9 +74,7 @@ pub(crate) fn balances(
     *rises = [0; 1024];
     *falls = [0; 1024];
     let mut lowest = m;
-    let mut t = n;
-    while 0 < t {
-        t -= 1;
+    for t in (0..n).rev() {
         let first = first(table, t);
         let count = count(table, t);
         let body = body_of(table, n, t);

@@ -33,13 +33,10 @@ use Rattle.deque_bounds.proofs.Between.{between_done}
 use Rattle.schedule.specs.Machine.{taken, drawn}
 use Rattle.bounds.proofs.Draws.{spent_beyond, stands_beyond, left_beyond}
 use Rattle.table.proofs.Sums.{sum_to_one}
+use Rattle.table.proofs.Tests.{pick_most}
 
 abbrev pub left_over : Table → State → ℕ → ℕ
 left_over T s v = spent_beyond T (alloc_of T) s v + left_beyond T (λ u. (worker_of s u).quota) s v
-
-pick_most : (q : Bool) (x : ℕ) → pick q x 0 ≤ x
-pick_most true x = omega arith
-pick_most false x = omega arith
 
 -- ---- an action
 

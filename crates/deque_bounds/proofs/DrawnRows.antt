@@ -35,17 +35,13 @@ use Rattle.schedule.specs.Machine.{taken, counted}
 use Rattle.schedule.specs.Begin.{start_state}
 use Rattle.schedule.proofs.Preservation.Turns.{either}
 use Rattle.schedule.proofs.Preservation.Starts.{start_undone, start_worker}
-use Rattle.bounds.proofs.Draws.{spent_beyond, stands_beyond, left_beyond}
+use Rattle.bounds.proofs.Draws.{spent_beyond, stands_beyond, left_beyond, pick_product}
 use Rattle.schedule.proofs.Bounds.Acts.{set_ended}
 use Rattle.schedule.proofs.Sound.Done.{done_alike}
 use Rattle.table.proofs.Sums.{sum_to_cong, sum_to_one, sum_to_zero}
 use lib.Seq.{get_or-set_same, get_or-set_other}
 use native.Mathlib.Nat.{mul-zero, mul-one, mul-add}
 use Rattle.deque_bounds.proofs.Drawn.{left_over, act_draws, undone_act}
-
-pick_product : (q : Bool) (x : ℕ) → x * pick q 1 0 ≡ pick q x 0
-pick_product true x = mul-one x
-pick_product false x = mul-zero x
 
 counted_left : (T : Table) (s : State) (v : ℕ) → left_over T (counted s) v ≡ left_over T s v
 unfolding spent_beyond left_beyond stands_beyond

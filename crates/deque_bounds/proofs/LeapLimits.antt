@@ -52,6 +52,7 @@ use mathlib.Core.List.{reverse_aux}
 use native.Mathlib.Nat.{mul-suc, mul-zero, mul-one, one-mul, mul-le-mul_left, mul-le-mul_right, mul-add, mul_assoc, mul_comm}
 use Rattle.deques.proofs.Counts.{owned_append}
 use Rattle.deque_bounds.proofs.StealsWithinTurns.{steals_within_same}
+use Rattle.bounds.proofs.Bound.{quota_first}
 
 -- ---- levels and nesting
 
@@ -114,9 +115,6 @@ within_depth j B v (suc m) lp (suc d) b i h k =
   where
     at_least : (B m : ℕ) → 1 ≤ B → m ≤ B * m
     at_least B m b = let z : 1 * m ≤ B * m = mul-le-mul_right m b in omega (arith, z, one-mul m)
-
-quota_first : (b K q d : ℕ) → b * K * q * d ≡ K * (b * q * d)
-quota_first b K q d = rw (mul_comm b K, mul_assoc K b q, mul_assoc K (b * q) d)
 
 owned_in : (front : List Deque) (d : Deque) (rest ds : List Deque) → ds ≡ front ++ d ∷ rest → (o : ℕ) → d.owner ≡ o → 1 ≤ owned_by o ds
 unfolding owned_by

@@ -46,6 +46,7 @@ use Rattle.deques.specs.DequeRuns.{Pair, pair, pair_at, deque_ran, deque_moved, 
 use Rattle.deques.specs.DequeCalls.{DequeCall, turn, over_pairs, deque_turn_row, pairs_from, after_deque_call, pairs_of, after_deque_calls, pairs_of_calls, row_deques}
 use Rattle.deques.specs.Lines.{lines_of, bottoms_of}
 use Rattle.deques.proofs.DequeStores.{start_kept, stored_back, stored_steady, moved_steady, moved_deques}
+use Rattle.schedule.proofs.Runs.Histories.{start_bytes}
 
 -- ---- what a beginning gives
 
@@ -89,10 +90,6 @@ module _ (s : List ℕ) (p K : ℕ) where
   unfolding start_deque_run start_run start_state lines_of bottoms_of bottom
   start_record = refl
 
-  start_table : table_in (start_run s p K) ≡ table_of s
-  unfolding start_run
-  start_table = ap table_of (filled_front 36868 s)
-
   -- the deques of the start are read off its record
   pub start_read : Lawful (table_of s) → deques_of (start_deque_run s p K) ≡ start_deques (table_of s)
   unfolding start_deque_run
@@ -104,11 +101,11 @@ module _ (s : List ℕ) (p K : ℕ) where
   start_steady_deques h f =
       let r : Run = start_run s p K in
       let x : Steady r = start_steady s p K h f in
-      stored_steady r x.table x.settings x.table_length x.table_rest (start_deques (table_of s)) (rw start_table (start_kept (table_of s) (lawful s h) p K))
+      stored_steady r x.table x.settings x.table_length x.table_rest (start_deques (table_of s)) (rw (start_bytes s p K) (start_kept (table_of s) (lawful s h) p K))
 
   start_copy : table_in (start_deque_run s p K).run ≡ table_of s
   unfolding start_deque_run
-  start_copy = start_table
+  start_copy = start_bytes s p K
 
   start_workers : (start_deque_run s p K).run.workers ≡ p
   unfolding start_deque_run start_run

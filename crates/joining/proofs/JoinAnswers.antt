@@ -25,13 +25,13 @@ use Rattle.joining.specs.Joining.{joined_bytes, weighed, threads_in, actions_in,
 use Rattle.joining.specs.Answers.{parts_of, sum_of, parts_wrong, in_part, first_refused, too_large as is_too_large, joined_with, joined, join_values_of, join_values, refused_values, whole_values, part_values, first_values}
 use Rattle.joining.specs.Code.Rows.{threads_over, actions_over, joined_rows}
 use Rattle.joining.specs.Code.Steps.{Lent, LentFew, Small, no_part, totals_from, facts_from, weights_from, answered, AllWeighed}
-use Rattle.joining.specs.declared.Joined.{Joined}
-use Rattle.joining.specs.declared.Joined.TheVariants.{Written, Refused}
 use Rattle.joining.specs.declared.weights.Totals.{Totals}
 use Rattle.joining.proofs.JoinedWhole.{bodies_over}
 use Rattle.joining.proofs.JoinRows.{joined_size_lem, joined_count, joined_bytes_lem}
 use Rattle.joining.proofs.Splits.{parts_length}
 use Rattle.joining.proofs.Weighs.{Weighs, all_weighed, total_threads, total_actions, totals_joined, weights_answer}
+use Rattle.joining.specs.declared.JoinError.{JoinError}
+use Rattle.joining.specs.declared.JoinError.TheVariants.{Whole}
 
 -- ---- 47
 
@@ -65,13 +65,13 @@ answer_is ls s e =
     (weights_answer (parts_of ls s) 0 (length ls) no_part
     ∙ ap (λ (f : Facts). first_refused 0 (parts_of ls s) (joined_with f)) (ap (λ (k : ℕ). facts_from k (totals_from 0 no_part (map weighed (parts_of ls s)))) (sym (parts_length ls s)) ∙ facts_are (parts_of ls s)))
 
-pub wrong_is : (ls s : List ℕ) → parts_wrong ls s ≡ true → Refused (refusal 47 0) ≡ joined ls s
+pub wrong_is : (ls s : List ℕ) → parts_wrong ls s ≡ true → Err (Whole (refusal 47 0)) ≡ joined ls s
 unfolding joined
 wrong_is ls s e = rw e
 
 -- ---- the values
 
-first_values_lem : (ps : List (List ℕ)) (i : ℕ) (x : Joined) → join_values_of (first_refused i ps x) ≡ first_values i ps (join_values_of x)
+first_values_lem : (ps : List (List ℕ)) (i : ℕ) (x : Result Facts JoinError) → join_values_of (first_refused i ps x) ≡ first_values i ps (join_values_of x)
 unfolding first_refused first_values
 first_values_lem [] i x = refl
 first_values_lem (s ∷ ps) i x = go (first_found (passes s)) (first_values_lem ps (suc i) x)
@@ -84,7 +84,7 @@ first_values_lem (s ∷ ps) i x = go (first_found (passes s)) (first_values_lem 
 with_values : (f : Facts) → join_values_of (joined_with f) ≡ pick (is_too_large f) (refused_values (refusal 48 0) 0) (whole_values f)
 with_values f = go (is_too_large f)
   where
-    go : (b : Bool) → join_values_of (pick b (Refused (refusal 48 0)) (Written f)) ≡ pick b (refused_values (refusal 48 0) 0) (whole_values f)
+    go : (b : Bool) → join_values_of (pick {A = Result Facts JoinError} b (Err (Whole (refusal 48 0))) (Ok f)) ≡ pick b (refused_values (refusal 48 0) 0) (whole_values f)
     go true = refl
     go false = refl
 
@@ -92,7 +92,7 @@ pub values_are : (ls s : List ℕ) → join_values_of (joined ls s) ≡ join_val
 unfolding joined join_values
 values_are ls s = go (parts_wrong ls s)
   where
-    go : (b : Bool) → join_values_of (pick b (Refused (refusal 47 0)) (first_refused 0 (parts_of ls s) (joined_with (joined_facts (map weighed (parts_of ls s))))))
+    go : (b : Bool) → join_values_of (pick b (Err (Whole (refusal 47 0))) (first_refused 0 (parts_of ls s) (joined_with (joined_facts (map weighed (parts_of ls s))))))
         ≡ pick b (refused_values (refusal 47 0) 0) (first_values 0 (parts_of ls s) (pick (is_too_large (joined_facts (map weighed (parts_of ls s)))) (refused_values (refusal 48 0) 0) (whole_values (joined_facts (map weighed (parts_of ls s))))))
     go true = refl
     go false = first_values_lem (parts_of ls s) 0 (joined_with (joined_facts (map weighed (parts_of ls s)))) ∙ ap (first_values 0 (parts_of ls s)) (with_values (joined_facts (map weighed (parts_of ls s))))
@@ -181,11 +181,11 @@ module _ (k : ℕ) (t : Totals) where
   same_m : 2 * k + 1 + t.actions ≡ suc (2 * k) + t.actions
   same_m = omega arith
 
-  pub too_large : (ltb 1024 (1 + t.threads) || ltb 8192 (2 * k + 1 + t.actions)) ≡ true → Refused (refusal 48 0) ≡ joined_with (facts_from k t)
+  pub too_large : (ltb 1024 (1 + t.threads) || ltb 8192 (2 * k + 1 + t.actions)) ≡ true → Err (Whole (refusal 48 0)) ≡ joined_with (facts_from k t)
   too_large e = let z : is_too_large (facts_from k t) ≡ true = rw (same_n, same_m) at e in rw z
 
   pub fits_in : (ltb 1024 (1 + t.threads) || ltb 8192 (2 * k + 1 + t.actions)) ≡ false
-      → Written (record { threads = 1 + t.threads; actions = 2 * k + 1 + t.actions; peak = t.peak; depth = 1 + t.depth; nested = 1 + t.nested }) ≡ joined_with (facts_from k t)
+      → Ok (record { threads = 1 + t.threads; actions = 2 * k + 1 + t.actions; peak = t.peak; depth = 1 + t.depth; nested = 1 + t.nested }) ≡ joined_with (facts_from k t)
   fits_in e =
       let z : is_too_large (facts_from k t) ≡ false = rw (same_n, same_m) at e in
       let d : 1 + t.depth ≡ suc t.depth = omega arith in

@@ -19,10 +19,11 @@ use Rattle.rows.specs.Rows.{over}
 use Rattle.joining.specs.Joining.{joined_bytes}
 use Rattle.joining.specs.Answers.{parts_of, parts_wrong, joined, joined_in, left_by, join_values, join_values_of}
 use Rattle.joining.specs.Given.{count_in, length_in, lengths_to, lengths_in, tables_in, input_short, joined_given, given_in, given_values, joined_size}
-use Rattle.joining.specs.declared.Joined.{Joined}
-use Rattle.joining.specs.declared.Joined.TheVariants.{Written, Refused, InPart}
 use Rattle.joining.proofs.JoinAnswers.{wrong_is, values_are}
 use Rattle.joining.proofs.JoinedExactly.{joined_size_lem}
+use Rattle.joining.specs.declared.JoinError.{JoinError}
+use Rattle.joining.specs.declared.JoinError.TheVariants.{Whole}
+use Rattle.std.specs.Prelude.{Err, Ok, Result}
 
 -- ---- the input
 
@@ -41,19 +42,19 @@ lengths_length input (suc k) = omega (arith, length-append (lengths_to input k) 
 
 -- ---- the answer
 
-pub record Says (input out : List ℕ) (x : Joined) (o : List ℕ) : Type 0 where
+pub record Says (input out : List ℕ) (x : Result Facts JoinError) (o : List ℕ) : Type 0 where
   pub answer : x ≡ joined_given input
   pub values : join_values_of x ≡ given_values input
   pub left : o ≡ given_in input out
 
 module _ (input out : List ℕ) where
-  pub short_said : length input < 1 + 4 * count_in input → Says input out (Refused (refusal 47 0)) out
+  pub short_said : length input < 1 + 4 * count_in input → Says input out (Err (Whole (refusal 47 0))) out
   unfolding joined_given given_values given_in
   short_said h =
       let z : input_short input ≡ true = lt-ltb (length input) (1 + 4 * count_in input) h in
       record { answer = rw z; values = rw z; left = rw z }
 
-  pub whole_said : (x : Joined) (o : List ℕ) → 1 + 4 * count_in input ≤ length input → x ≡ joined (lengths_in input) (tables_in input)
+  pub whole_said : (x : Result Facts JoinError) (o : List ℕ) → 1 + 4 * count_in input ≤ length input → x ≡ joined (lengths_in input) (tables_in input)
       → join_values_of x ≡ join_values (lengths_in input) (tables_in input) → o ≡ joined_in (lengths_in input) (tables_in input) out → Says input out x o
   unfolding joined_given given_values given_in
   whole_said x o h e v p =
@@ -67,16 +68,16 @@ module _ (input out : List ℕ) where
       rw (ne_eqb (length (lengths_in input)) 0 (λ e. absurd (omega (arith, e, n))), lt-ltb 16 (length (lengths_in input)) (omega (arith, n)))
 
   -- more than sixteen
-  pub many_said : 16 < count_in input → Says input out (Refused (refusal 47 0)) out
+  pub many_said : 16 < count_in input → Says input out (Err (Whole (refusal 47 0))) out
   unfolding joined_in
   many_said h = go (dec_lt (length input) (1 + 4 * count_in input))
     where
-      w : Refused (refusal 47 0) ≡ joined (lengths_in input) (tables_in input)
+      w : Err (Whole (refusal 47 0)) ≡ joined (lengths_in input) (tables_in input)
       w = wrong_is (lengths_in input) (tables_in input) (too_many h)
 
-      go : Dec (length input < 1 + 4 * count_in input) → Says input out (Refused (refusal 47 0)) out
+      go : Dec (length input < 1 + 4 * count_in input) → Says input out (Err (Whole (refusal 47 0))) out
       go (yes s) = short_said s
-      go (no s) = whole_said (Refused (refusal 47 0)) out (omega (arith, s)) w (ap join_values_of w ∙ values_are (lengths_in input) (tables_in input)) (rw (← w))
+      go (no s) = whole_said (Err (Whole (refusal 47 0))) out (omega (arith, s)) w (ap join_values_of w ∙ values_are (lengths_in input) (tables_in input)) (rw (← w))
 
 -- ---- what is written
 
@@ -88,24 +89,23 @@ module _ (input out : List ℕ) where
   abbrev table : List ℕ
   table = joined_bytes (parts_of (lengths_in input) (tables_in input))
 
-  front : (f : Facts) → joined_given input ≡ Written f → (joined_size (Written f) ≡ length table) × (given_in input out ≡ over table out)
+  front : (f : Facts) → joined_given input ≡ Ok f → (joined_size (Ok f) ≡ length table) × (given_in input out ≡ over table out)
   unfolding joined_given given_in joined_in
   front f h = go (input_short input) refl h
     where
-      go : (b : Bool) → input_short input ≡ b → pick b (Refused (refusal 47 0)) (joined (lengths_in input) (tables_in input)) ≡ Written f
-          → (joined_size (Written f) ≡ length table) × (pick b out (left_by (joined (lengths_in input) (tables_in input)) table out) ≡ over table out)
+      go : (b : Bool) → input_short input ≡ b → pick {A = Result Facts JoinError} b (Err (Whole (refusal 47 0))) (joined (lengths_in input) (tables_in input)) ≡ Ok f
+          → (joined_size (Ok f) ≡ length table) × (pick b out (left_by (joined (lengths_in input) (tables_in input)) table out) ≡ over table out)
       go true e d = absurd (no_way (cc))
       go false e d = (sym (joined_size_lem (lengths_in input) (tables_in input) f d), rw d)
 
   -- a program that writes so many bytes of the buffer writes the joined table
-  pub given_table : (f : Facts) → joined_given input ≡ Written f → take (joined_size (Written f)) (given_in input out) ≡ joined_bytes (parts_of (lengths_in input) (tables_in input))
-  given_table f h = let p = front f h in rw p.1 (over_front table out (joined_size (Written f)) p.0).0
+  pub given_table : (f : Facts) → joined_given input ≡ Ok f → take (joined_size (Ok f)) (given_in input out) ≡ joined_bytes (parts_of (lengths_in input) (tables_in input))
+  given_table f h = let p = front f h in rw p.1 (over_front table out (joined_size (Ok f)) p.0).0
 
   -- which the buffer has
-  pub given_within : (x : Joined) (o : List ℕ) (k : ℕ) → x ≡ joined_given input → o ≡ given_in input out → k ≡ joined_size x → IsPrefixLen k o
+  pub given_within : (x : Result Facts JoinError) (o : List ℕ) (k : ℕ) → x ≡ joined_given input → o ≡ given_in input out → k ≡ joined_size x → IsPrefixLen k o
   given_within x o k h p e = counts o k (go x (sym h) e)
     where
-      go : (y : Joined) → joined_given input ≡ y → k ≡ joined_size y → k ≤ length o
-      go (Written f) g e = let w = front f g in rw (p ∙ w.1) (over_front table out k (e ∙ w.0)).1
-      go (Refused r) g e = omega arith
-      go (InPart i r) g e = omega arith
+      go : (y : Result Facts JoinError) → joined_given input ≡ y → k ≡ joined_size y → k ≤ length o
+      go (Ok f) g e = let w = front f g in rw (p ∙ w.1) (over_front table out k (e ∙ w.0)).1
+      go (Err x) g e = omega arith

@@ -27,7 +27,6 @@ use Rattle.joining.specs.Joining.{weighed, threads_in, actions_in, peak_from, jo
 use Rattle.joining.specs.Answers.{first_refused, joined_with}
 use Rattle.joining.specs.Code.Steps.{no_part, add_part, totals_from, facts_from, weights_by, weights_from, answered, Small, SmallPart}
 use Rattle.joining.specs.declared.weights.Totals.{Totals}
-use Rattle.joining.specs.declared.weights.Weights.TheVariants.{All}
 use Rattle.joining.proofs.JoinFacts.{left_peak}
 use Rattle.joining.proofs.JoinedWhole.{lawful_keeps}
 use Rattle.joining.proofs.JoinRows.{AllFit}
@@ -129,7 +128,7 @@ pub record Weighs (ps : List (List ℕ)) (i : ℕ) (t u : Totals) : Type 0 where
   pub small : Small (i + length ps) u
   pub total : u ≡ totals_from i t (map weighed ps)
 
-pub all_weighed : (ps : List (List ℕ)) (i : ℕ) (t u : Totals) → Small i t → weights_from i t ps ≡ All u → Weighs ps i t u
+pub all_weighed : (ps : List (List ℕ)) (i : ℕ) (t u : Totals) → Small i t → weights_from i t ps ≡ Ok u → Weighs ps i t u
 unfolding weights_from AllFit weighing totals_from
 all_weighed [] i t u a e =
     let z : i + 0 ≡ i = omega arith in
@@ -137,8 +136,8 @@ all_weighed [] i t u a e =
     record { fit = tt; small = rw (z, ← q) a; total = sym q }
 all_weighed (s ∷ ps) i t u a e = go (first_found (passes s)) refl e (λ b. all_weighed ps (suc i) (add_part i t (weighed s)) u b)
   where
-    go : (f : Result ⊤ Refusal) → first_found (passes s) ≡ f → weights_by (weighed_by f (weigh (table_of s))) i t (λ (x : Totals). weights_from (suc i) x ps) ≡ All u
-        → (Small (suc i) (add_part i t (weighed s)) → weights_from (suc i) (add_part i t (weighed s)) ps ≡ All u → Weighs ps (suc i) (add_part i t (weighed s)) u) → Weighs (s ∷ ps) i t u
+    go : (f : Result ⊤ Refusal) → first_found (passes s) ≡ f → weights_by (weighed_by f (weigh (table_of s))) i t (λ (x : Totals). weights_from (suc i) x ps) ≡ Ok u
+        → (Small (suc i) (add_part i t (weighed s)) → weights_from (suc i) (add_part i t (weighed s)) ps ≡ Ok u → Weighs ps (suc i) (add_part i t (weighed s)) u) → Weighs (s ∷ ps) i t u
     go (Ok _) q d ih =
         let r = ih (add_small i t (weighed s) a (weigh_small s q)) d in
         let z : i + suc (length ps) ≡ suc i + length ps = omega arith in

@@ -7,8 +7,8 @@ use Rattle.table.specs.declared.Facts.{Facts}
 use Rattle.table.specs.declared.Refusal.{Refusal}
 use Rattle.rows.specs.Rows.{over}
 use Rattle.joining.specs.Joining.{joined_bytes, weighed, joined_facts}
-use Rattle.joining.specs.declared.Joined.{Joined}
-use Rattle.joining.specs.declared.Joined.TheVariants.{Written, Refused, InPart}
+use Rattle.joining.specs.declared.JoinError.{JoinError}
+use Rattle.joining.specs.declared.JoinError.TheVariants.{Whole, InPart}
 
 -- "lent back to back with a list of their lengths"
 unfoldable pub parts_of : List ℕ → List ℕ → List (List ℕ)
@@ -27,11 +27,11 @@ unfoldable pub parts_wrong : List ℕ → List ℕ → Bool
 parts_wrong ls s = eqb (length ls) 0 || (ltb max_parts (length ls) || not (eqb (sum_of ls) (length s)))
 
 -- "then each part's own number and place, first part first", parts counted from i; what follows where none is refused
-abbrev pub in_part : Result ⊤ Refusal → ℕ → Joined → Joined
+abbrev pub in_part : Result ⊤ Refusal → ℕ → Result Facts JoinError → Result Facts JoinError
 in_part (Ok _) i rest = rest
-in_part (Err r) i rest = InPart i r
+in_part (Err r) i rest = Err (InPart i r)
 
-unfoldable pub first_refused : ℕ → List (List ℕ) → Joined → Joined
+unfoldable pub first_refused : ℕ → List (List ℕ) → Result Facts JoinError → Result Facts JoinError
 first_refused i [] rest = rest
 first_refused i (s ∷ ps) rest = in_part (first_found (passes s)) i (first_refused (suc i) ps rest)
 
@@ -40,17 +40,16 @@ abbrev pub too_large : Facts → Bool
 too_large f = ltb max_threads f.threads || ltb max_actions f.actions
 
 -- what is joined, where every part is accepted
-abbrev pub joined_with : Facts → Joined
-joined_with f = pick (too_large f) (Refused (refusal 48 0)) (Written f)
+abbrev pub joined_with : Facts → Result Facts JoinError
+joined_with f = pick (too_large f) (Err (Whole (refusal 48 0))) (Ok f)
 
-unfoldable pub joined : List ℕ → List ℕ → Joined
-joined ls s = pick (parts_wrong ls s) (Refused (refusal 47 0)) (first_refused 0 (parts_of ls s) (joined_with (joined_facts (map weighed (parts_of ls s)))))
+unfoldable pub joined : List ℕ → List ℕ → Result Facts JoinError
+joined ls s = pick (parts_wrong ls s) (Err (Whole (refusal 47 0))) (first_refused 0 (parts_of ls s) (joined_with (joined_facts (map weighed (parts_of ls s)))))
 
 -- the buffer afterwards: the joined table at its start, or as it was
-abbrev pub left_by : Joined → List ℕ → List ℕ → List ℕ
-left_by (Written f) bytes out = over bytes out
-left_by (Refused r) bytes out = out
-left_by (InPart i r) bytes out = out
+abbrev pub left_by : Result Facts JoinError → List ℕ → List ℕ → List ℕ
+left_by (Ok f) bytes out = over bytes out
+left_by (Err e) bytes out = out
 
 unfoldable pub joined_in : List ℕ → List ℕ → List ℕ → List ℕ
 joined_in ls s out = left_by (joined ls s) (joined_bytes (parts_of ls s)) out
@@ -74,10 +73,10 @@ abbrev pub whole_values : Facts → JoinValues
 whole_values f =
     record { number = 0; place = 0; threads = f.threads; actions = f.actions; peak = f.peak; depth = f.depth; nested = f.nested; part = 0 }
 
-abbrev pub join_values_of : Joined → JoinValues
-join_values_of (Written f) = whole_values f
-join_values_of (Refused r) = refused_values r 0
-join_values_of (InPart i r) = refused_values r i
+abbrev pub join_values_of : Result Facts JoinError → JoinValues
+join_values_of (Ok f) = whole_values f
+join_values_of (Err (Whole r)) = refused_values r 0
+join_values_of (Err (InPart i r)) = refused_values r i
 
 -- the same values without the answer: 47, the first part that is refused, 48, or the facts
 abbrev pub part_values : Result ⊤ Refusal → ℕ → JoinValues → JoinValues

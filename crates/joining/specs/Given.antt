@@ -6,8 +6,10 @@ use Rattle.table.specs.Format.{u32_at}
 use Rattle.table.specs.Pass.{refusal}
 use Rattle.text.specs.Text.{ascii, decimal, digits_of, refused_line, refused_of}
 use Rattle.joining.specs.Answers.{joined, joined_in, JoinValues, join_values, refused_values}
-use Rattle.joining.specs.declared.Joined.{Joined}
-use Rattle.joining.specs.declared.Joined.TheVariants.{Written, Refused, InPart}
+use Rattle.joining.specs.declared.JoinError.{JoinError}
+use Rattle.joining.specs.declared.JoinError.TheVariants.{Whole, InPart}
+use Rattle.std.specs.Prelude.{Err, Ok, Result}
+use Rattle.table.specs.declared.Facts.{Facts}
 
 -- ---- the input
 
@@ -37,8 +39,8 @@ input_short input = ltb (length input) (1 + 4 * count_in input)
 
 -- ---- the answer, the buffer afterwards, and the answer's values: 47 where the input is short, else what joining its tables gives
 
-unfoldable pub joined_given : List ℕ → Joined
-joined_given input = pick (input_short input) (Refused (refusal 47 0)) (joined (lengths_in input) (tables_in input))
+unfoldable pub joined_given : List ℕ → Result Facts JoinError
+joined_given input = pick (input_short input) (Err (Whole (refusal 47 0))) (joined (lengths_in input) (tables_in input))
 
 unfoldable pub given_in : List ℕ → List ℕ → List ℕ
 given_in input out = pick (input_short input) out (joined_in (lengths_in input) (tables_in input) out)
@@ -49,21 +51,20 @@ given_values input = pick (input_short input) (refused_values (refusal 47 0) 0) 
 -- ---- what is written
 
 -- so many bytes of the buffer are the joined table: head, entries and actions, 4 bytes each
-abbrev pub joined_size : Joined → ℕ
-joined_size (Written f) = 4 + 4 * f.threads + 4 * f.actions
-joined_size (Refused r) = 0
-joined_size (InPart i r) = 0
+abbrev pub joined_size : Result Facts JoinError → ℕ
+joined_size (Ok f) = 4 + 4 * f.threads + 4 * f.actions
+joined_size (Err e) = 0
 
 -- the line of a refusal, with the part that it is of; none where a table is written
-unfoldable pub join_line : Joined → List ℕ
-join_line (Written f) = []
-join_line (Refused r) = refused_line r
-join_line (InPart i r) = flatten (refused_of r (ascii " part ") i)
+unfoldable pub join_line : Result Facts JoinError → List ℕ
+join_line (Ok f) = []
+join_line (Err (Whole r)) = refused_line r
+join_line (Err (InPart i r)) = flatten (refused_of r (ascii " part ") i)
 
-refused_example : join_line (Refused (refusal 47 0)) ≡ ascii "refused 47 0\n"
+refused_example : join_line (Err (Whole (refusal 47 0))) ≡ ascii "refused 47 0\n"
 unfolding join_line refused_line decimal digits_of
 refused_example = refl
 
-part_example : join_line (InPart 1 (refusal 10 1)) ≡ ascii "refused 10 1 part 1\n"
+part_example : join_line (Err (InPart 1 (refusal 10 1))) ≡ ascii "refused 10 1 part 1\n"
 unfolding join_line decimal digits_of flatten
 part_example = refl

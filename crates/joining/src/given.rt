@@ -6,9 +6,9 @@ ghost use Rattle.rows.specs.Rows.{over};
 ghost use Rattle.joining.specs.Answers.{join_values_of};
 ghost use Rattle.joining.specs.Given.{length_in, lengths_to, joined_given, given_in, given_values, joined_size, join_line};
 
-use crate::{Joined, join};
+use crate::{JoinError, join};
 use table::read::{byte, word};
-use table::Refusal;
+use table::{Facts, Refusal};
 use text::{put_refused_of, table_line};
 
 fn wide(x: u8) -> usize
@@ -39,49 +39,50 @@ fn lengths_to(input: &[u8], k: usize) -> [u32; 16]
 }
 
 // An input of a count (1 byte), so many lengths (4 bytes each) and the tables, joined as `join` joins them; 47 where it is short of count or lengths.
-pub fn join_given(input: &[u8], out: &mut [u8; 36868]) -> Joined
+pub fn join_given(input: &[u8], out: &mut [u8; 36868]) -> Result<Facts, JoinError>
     ensures value { result ≡ joined_given input.now }
     ensures result_value { join_values_of result ≡ given_values input.now }
     ensures out_after { out.new ≡ given_in input.now out.old }
 {
     let count = wide(byte(input, 0));
     if 16 < count {
-        return Joined::Refused(Refusal {
+        return Err(JoinError::Whole(Refusal {
             number: 47,
             place: 0,
-        });
+        }));
     }
     let start = 4 * count + 1;
     if input.len() < start {
-        return Joined::Refused(Refusal {
+        return Err(JoinError::Whole(Refusal {
             number: 47,
             place: 0,
-        });
+        }));
     }
     let lengths = lengths_to(input, count);
     join(&input[start..], &lengths[..count], out)
 }
 
 // How many bytes the joined table has, 0 where there is none.
-pub fn joined_size(answer: Joined) -> usize
+pub fn joined_size(answer: Result<Facts, JoinError>) -> usize
     ensures { result ≡ joined_size answer }
 {
     match answer {
-        Joined::Written(f) => 4 + 4 * f.threads as usize + 4 * f.actions as usize,
-        Joined::Refused(_) => 0,
-        Joined::InPart(_, _) => 0,
+        Ok(f) => 4 + 4 * f.threads as usize + 4 * f.actions as usize,
+        Err(_) => 0,
     }
 }
 
 // The line that says why there is none, and its length; no line where there is one.
-pub fn join_line(answer: Joined, out: &mut [u8; 80]) -> usize
+pub fn join_line(answer: Result<Facts, JoinError>, out: &mut [u8; 80]) -> usize
     ensures value { result ≡ length (join_line answer) }
     ensures out_after { out.new ≡ over (join_line answer) out.old }
     ensures prefix_len { IsPrefixLen result out.new }
 {
     match answer {
-        Joined::Written(_) => 0,
-        Joined::Refused(r) => table_line(Err(r), out),
-        Joined::InPart(i, r) => put_refused_of(out, r, b" part ", i),
+        Ok(_) => 0,
+        Err(e) => match e {
+            JoinError::Whole(r) => table_line(Err(r), out),
+            JoinError::InPart(i, r) => put_refused_of(out, r, b" part ", i),
+        },
     }
 }

@@ -17,19 +17,18 @@ ghost use Rattle.joining.specs.Code.Steps.{Lent, AllWeighed, facts_from};
 
 use split::parts_wrong;
 use table::{Facts, Refusal};
-use weights::{Totals, Weights, weigh_parts};
+use weights::{Totals, weigh_parts};
 use write::put_joined;
 
-// The joined table's facts; a refusal of the parts as a whole; or a part's own refusal, the parts counted from 0.
+// Why there is no joined table: a refusal of the parts as a whole; or a part's own refusal, the parts counted from 0.
 #[derive(Clone, Copy)]
-pub enum Joined {
-    Written(Facts),
-    Refused(Refusal),
+pub enum JoinError {
+    Whole(Refusal),
     InPart(usize, Refusal),
 }
 
-// Tables that are lent back to back, with their lengths, as one table at the start of the buffer, which is as it was where there is a refusal.
-pub fn join(tables: &[u8], lengths: &[u32], out: &mut [u8; 36868]) -> Joined
+// The facts of tables that are lent back to back, with their lengths, as one table at the start of the buffer, which is as it was where there is a refusal.
+pub fn join(tables: &[u8], lengths: &[u32], out: &mut [u8; 36868]) -> Result<Facts, JoinError>
     ensures value { result ≡ joined lengths.now tables.now }
     ensures result_value { join_values_of result ≡ join_values lengths.now tables.now }
     ensures out_after { out.new ≡ joined_in lengths.now tables.now out.old }
@@ -58,7 +57,7 @@ pub fn join_in(
     falls: &mut [u64; 1024],
     peaks: &mut [u64; 1024],
     depths: &mut [u16; 1024],
-) -> Joined
+) -> Result<Facts, JoinError>
     ensures value { result ≡ joined lengths.now tables.now }
     ensures result_value { join_values_of result ≡ join_values lengths.now tables.now }
     ensures out_after { out.new ≡ joined_in lengths.now tables.now out.old }
@@ -69,16 +68,13 @@ pub fn join_in(
     *peaks = [0; 1024];
     *depths = [0; 1024];
     if parts_wrong(tables, lengths) {
-        return Joined::Refused(Refusal {
+        return Err(JoinError::Whole(Refusal {
             number: 47,
             place: 0,
-        });
+        }));
     }
-    let weights = weigh_parts(tables, lengths, rises, falls, peaks, depths);
-    match weights {
-        Weights::Refused(i, r) => Joined::InPart(i, r),
-        Weights::All(totals) => join_parts(tables, lengths, totals, out),
-    }
+    let totals = weigh_parts(tables, lengths, rises, falls, peaks, depths)?;
+    join_parts(tables, lengths, totals, out)
 }
 
 // Check 48.
@@ -89,7 +85,12 @@ fn too_large(n: usize, m: usize) -> bool
 }
 
 // Accepted parts.
-fn join_parts(tables: &[u8], lengths: &[u32], totals: Totals, out: &mut [u8]) -> Joined
+fn join_parts(
+    tables: &[u8],
+    lengths: &[u32],
+    totals: Totals,
+    out: &mut [u8],
+) -> Result<Facts, JoinError>
     requires { Lent lengths.now tables.now × AllWeighed (parts_of lengths.now tables.now) totals × (36868 ≤ length out.old) }
     ensures value { result ≡ joined_with (facts_from (length lengths.now) totals) }
     ensures out_after { out.new ≡ left_by result (joined_bytes (parts_of lengths.now tables.now)) out.old }
@@ -97,13 +98,13 @@ fn join_parts(tables: &[u8], lengths: &[u32], totals: Totals, out: &mut [u8]) ->
     let n = 1 + totals.threads as usize;
     let m = 2 * lengths.len() + 1 + totals.actions as usize;
     if too_large(n, m) {
-        return Joined::Refused(Refusal {
+        return Err(JoinError::Whole(Refusal {
             number: 48,
             place: 0,
-        });
+        }));
     }
     put_joined(out, tables, lengths, n, m);
-    Joined::Written(Facts {
+    Ok(Facts {
         threads: n as u16,
         actions: m as u16,
         peak: totals.peak,

@@ -3,9 +3,9 @@ ghost use Rattle.std.specs.Prelude.{◌≡◌, ◌<◌, replicate};
 ghost use Rattle.joining.specs.Answers.{parts_of};
 ghost use Rattle.joining.specs.Code.Steps.{Lent, Small, SmallPart, no_part, add_part, weights_from};
 
+use crate::JoinError;
 use crate::split::part_at;
 use facts::{Weighed, weigh_in};
-use table::{Refusal, larger};
 
 // Totals over some parts: `held` is what they leave, `peak` and `depth` count where they stand.
 #[derive(Drop)]
@@ -18,12 +18,6 @@ pub(crate) struct Totals {
     pub(crate) nested: u64,
 }
 
-#[derive(Drop)]
-pub(crate) enum Weights {
-    All(Totals),
-    Refused(usize, Refusal),
-}
-
 // Part i beside those before it.
 fn add_part(t: Totals, w: Weighed, i: usize) -> Totals
     requires { Small i t × SmallPart w × (i < 16) }
@@ -33,9 +27,9 @@ fn add_part(t: Totals, w: Weighed, i: usize) -> Totals
         threads: t.threads + w.facts.threads as u64,
         actions: t.actions + w.facts.actions as u64,
         held: t.held + w.left,
-        peak: larger(t.peak, t.held + w.facts.peak),
-        depth: larger(t.depth, 2 * (i as u64 + 1) + w.facts.depth as u64),
-        nested: larger(t.nested, w.facts.nested as u64),
+        peak: t.peak.max(t.held + w.facts.peak),
+        depth: t.depth.max(2 * (i as u64 + 1) + w.facts.depth as u64),
+        nested: t.nested.max(w.facts.nested as u64),
     }
 }
 
@@ -47,7 +41,7 @@ pub(crate) fn weigh_parts(
     falls: &mut [u64; 1024],
     peaks: &mut [u64; 1024],
     depths: &mut [u16; 1024],
-) -> Weights
+) -> Result<Totals, JoinError>
     requires { Lent lengths.now tables.now }
     ensures value { result ≡ weights_from 0 no_part (parts_of lengths.now tables.now) }
     ensures rises_after { (rises.new ≡ replicate 1024 0) × (falls.new ≡ replicate 1024 0) × (peaks.new ≡ replicate 1024 0) × (depths.new ≡ replicate 1024 0) }
@@ -68,11 +62,11 @@ pub(crate) fn weigh_parts(
         let part = part_at(tables, lengths, i);
         let answer = weigh_in(part, rises, falls, peaks, depths);
         match answer {
-            Err(r) => return Weights::Refused(i, r),
+            Err(r) => return Err(JoinError::InPart(i, r)),
             Ok(w) => {
                 totals = add_part(totals, w, i);
             }
         }
     }
-    Weights::All(totals)
+    Ok(totals)
 }

@@ -62,9 +62,7 @@ fn put_joins(out: &mut [u8], at: usize, tables: &[u8], lengths: &[u32], n: usize
 {
     let mut at = at;
     let mut root = n;
-    let mut i = lengths.len();
-    while 0 < i {
-        i -= 1;
+    for i in (0..lengths.len()).rev() {
         root -= threads(part_at(tables, lengths, i));
         at = put_action(out, at, 5, root);
     }

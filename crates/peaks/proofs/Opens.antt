@@ -22,13 +22,6 @@ use Rattle.order.proofs.Lawful.{Lawful}
 unfoldable pub reach : Table → (ℕ → ℕ) → ℕ → ℕ → ℕ
 reach T weight t k = balance_to T t k + sum_over weight (open_before T (T.first t + k))
 
--- ---- greatest elements
-
-pub greatest_same : (f g : ℕ → ℕ) (k : ℕ) → ((i : ℕ) → i < k → f i ≡ g i) → greatest_to f k ≡ greatest_to g k
-unfolding greatest_to
-greatest_same f g zero h = refl
-greatest_same f g (suc k) h = omega (arith, greatest_same f g k (λ i p. h i (omega arith)), h k (omega arith))
-
 -- ---- the children that stand open
 
 -- the head of a list of open children was forked by thread t when the others stood open

@@ -32,11 +32,8 @@ use Rattle.sharp.proofs.Unheld.{unheld_start, unheld_row}
 use Rattle.sharp.proofs.OffHeld.{few_held, off_held}
 use Rattle.sharp.proofs.NeedLaw.{row_need_light}
 use Rattle.sharp.proofs.NeedHeld.{need_held}
-
--- the greatest amount after a front part is within what bounds them all
-pub peak_within_lem : (T : Table) (K B : ℕ) (row : List ℕ) → ((front rest : List ℕ) → row ≡ front ++ rest → row_memory T K front ≤ B) → peak_memory T K row ≤ B
-unfolding peak_memory
-peak_within_lem T K B row h = greatest_bound (row_memory T K) (front_rows row) B (λ front m. let r = front_rest row front m in h front r.0 r.1)
+use Rattle.table.proofs.Tests.{pick_most}
+use Rattle.schedule.proofs.Runs.Rows.{peak_within_lem}
 
 -- at most p threads are off where those that nobody holds are not
 few_off : (T : Table) (p K : ℕ) (st : State) → Facts T p K st → ((t : ℕ) → t < T.threads → Stands (status_of st t) → rests_under T K (next_of st t) ≡ true)
@@ -50,12 +47,8 @@ few_off T p K st f placed =
           (λ t h. go t h (ℕ_discrete (status_of st t) held) (is_off T K st.next st.status t) refl),
     )
   where
-    most : (q : Bool) → pick q 1 0 ≤ 1
-    most true = omega arith
-    most false = omega arith
-
     go : (t : ℕ) → t < T.threads → Dec (status_of st t ≡ held) → (q : Bool) → is_off T K st.next st.status t ≡ q → pick q 1 0 ≤ pick (eqb (status_of st t) held) 1 0
-    go t h (yes e) q i = rw (eq-eqb (status_of st t) held e) (most q)
+    go t h (yes e) q i = rw (eq-eqb (status_of st t) held e) (pick_most q 1)
     go t h (no n) false i = omega arith
     go t h (no n) true i =
         let (a, b) = and_both (not (eqb (status_of st t) unborn) && not (eqb (status_of st t) ended)) _ i in

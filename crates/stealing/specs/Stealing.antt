@@ -22,7 +22,7 @@ use Rattle.deques.specs.Lines.{linked_in}
 
 -- ---- the bottoms
 
--- the bottom c places on from b, noThread and more where there is none
+-- the bottom c places on from b, `no_thread` and more where there is none
 unfoldable pub along_by : ℕ → List ℕ → ℕ → ℕ
 along_by zero over b = b
 along_by (suc c) over b =

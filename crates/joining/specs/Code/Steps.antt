@@ -6,11 +6,9 @@ use Rattle.facts.specs.Weigh.{weighing}
 use Rattle.facts.specs.declared.Weighed.{Weighed}
 use Rattle.joining.specs.Answers.{parts_of, sum_of, joined_with}
 use Rattle.joining.specs.Code.Rows.{threads_over, actions_over}
-use Rattle.joining.specs.declared.Joined.{Joined}
-use Rattle.joining.specs.declared.Joined.TheVariants.{InPart}
 use Rattle.joining.specs.declared.weights.Totals.{Totals}
-use Rattle.joining.specs.declared.weights.Weights.{Weights}
-use Rattle.joining.specs.declared.weights.Weights.TheVariants.{All, Refused as RefusedAt}
+use Rattle.joining.specs.declared.JoinError.{JoinError}
+use Rattle.joining.specs.declared.JoinError.TheVariants.{InPart}
 
 -- 47 does not apply
 pub record Lent (ls s : List ℕ) : Type 0 where
@@ -51,18 +49,18 @@ facts_from k t =
     record { threads = suc t.threads; actions = suc (2 * k) + t.actions; peak = t.peak; depth = suc t.depth; nested = suc t.nested }
 
 -- one part weighed, and what follows where it is accepted
-abbrev pub weights_by : Result Weighed Refusal → ℕ → Totals → (Totals → Weights) → Weights
-weights_by (Err r) i t rest = RefusedAt i r
+abbrev pub weights_by : Result Weighed Refusal → ℕ → Totals → (Totals → Result Totals JoinError) → Result Totals JoinError
+weights_by (Err r) i t rest = Err (InPart i r)
 weights_by (Ok w) i t rest = rest (add_part i t w)
 
-unfoldable pub weights_from : ℕ → Totals → List (List ℕ) → Weights
-weights_from i t [] = All t
+unfoldable pub weights_from : ℕ → Totals → List (List ℕ) → Result Totals JoinError
+weights_from i t [] = Ok t
 weights_from i t (s ∷ ps) = weights_by (weighing s) i t (λ (u : Totals). weights_from (suc i) u ps)
 
 -- the answer to k parts that were weighed
-abbrev pub answered : Weights → ℕ → Joined
-answered (RefusedAt i r) k = InPart i r
-answered (All t) k = joined_with (facts_from k t)
+abbrev pub answered : Result Totals JoinError → ℕ → Result Facts JoinError
+answered (Err e) k = Err e
+answered (Ok t) k = joined_with (facts_from k t)
 
 -- totals over i accepted parts are small
 pub record Small (i : ℕ) (t : Totals) : Type 0 where
@@ -84,4 +82,4 @@ pub record SmallPart (w : Weighed) : Type 0 where
 
 -- the totals of parts that are all accepted
 pub record AllWeighed (ps : List (List ℕ)) (t : Totals) : Type 0 where
-  pub weighed : weights_from 0 no_part ps ≡ All t
+  pub weighed : weights_from 0 no_part ps ≡ Ok t

@@ -80,7 +80,7 @@ begin_started s p K r e =
       few_workers = f.few_workers;
     }
 
-start_bytes : (s : List ℕ) (p K : ℕ) → table_in (start_run s p K) ≡ table_of s
+pub start_bytes : (s : List ℕ) (p K : ℕ) → table_in (start_run s p K) ≡ table_of s
 unfolding start_run
 start_bytes s p K = ap table_of (filled_front max_bytes s)
 

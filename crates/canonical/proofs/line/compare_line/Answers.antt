@@ -27,17 +27,17 @@ returns-then-input-lt4 c = let d = c.args in
     let p = short_told d.input.now d.out.now _ _ c.if-input-lt4.true c.table_line.ensures.value c.table_line.ensures.out_after in record { value = p.0; out_after = p.1; prefix_len = c.table_line.ensures.prefix_len }
 
 pub slice_bounds-compare-end : goal.slice_bounds-compare-end
-slice_bounds-compare-end c = sym (length-take-le _ _ (omega (arith, c.lesser-k.ensures)))
+slice_bounds-compare-end c = sym (length-take-le _ _ (omega (arith, c.min-k.ensures)))
 
 pub returns : goal.returns
 returns c = let d = c.args in
     let s : List ℕ = d.input.now in
-    let k : ℕ = c.lesser-k.result in
+    let k : ℕ = c.min-k.result in
     let n : ℕ = c.double_word.result in
     let v : n ≡ u32_at s 0 = c.double_word.ensures.value in
     let r : List ℕ = take (length s - 4) (drop 4 s) in
     let z : r ≡ drop 4 s = part_all s 4 in
-    let m : k ≡ min n (length r) = c.lesser-k.ensures in
+    let m : k ≡ min n (length r) = c.min-k.ensures in
     let x : c.compare-answer.result ≡ compared (take k r) (take (length r - k) (drop k r)) = c.compare-answer.ensures.value in
     let first : take k r ≡ first_table s = first_is (u32_at s 0) n k r v m ∙ ap (take (u32_at s 0)) z in
     let second : take (length r - k) (drop k r) ≡ second_table s = part_all r k ∙ second_is (u32_at s 0) n k r v m ∙ ap (drop (u32_at s 0)) z in

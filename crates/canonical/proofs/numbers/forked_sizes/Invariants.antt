@@ -1,6 +1,6 @@
 -- `canonical::numbers::forked_sizes` meets its contract. The invariant: the total is that of the actions before i.
 use mathlib.Core.Path.{◌≡◌}
-use Prim.Native.Nat.{ℕ, ◌-◌, ◌*◌, ◌≤◌}
+use Prim.Native.Nat.{ℕ, ◌*◌, ◌≤◌}
 use mathlib.Core.List.{List}
 use lib.ListN.{length}
 use Rattle.table.specs.Format.{code_at, argument_at}

@@ -1,6 +1,6 @@
 -- `canonical::numbers::order_in` meets its contract. The invariant: the threads passed are at their numbers.
 use mathlib.Core.Path.{◌≡◌}
-use Prim.Native.Nat.{ℕ, ◌-◌, ◌≤◌}
+use Prim.Native.Nat.{ℕ, ◌≤◌}
 use mathlib.Core.List.{List}
 use Rattle.canonical.specs.Code.NumbersOf.{order_of}
 use Rattle.canonical.proofs.numbers.order_in.Given as goal

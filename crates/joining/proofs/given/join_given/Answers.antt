@@ -8,9 +8,11 @@ use lib.Seq.{length-take-le}
 use Rattle.table.proofs.Parts.{rest_part}
 use Rattle.joining.specs.Answers.{joined, joined_in, join_values, join_values_of}
 use Rattle.joining.specs.Given.{count_in, lengths_to, lengths_in, tables_in}
-use Rattle.joining.specs.declared.Joined.{Joined}
 use Rattle.joining.proofs.JoinGiven.{Says, short_said, many_said, whole_said}
 use Rattle.joining.proofs.given.join_given.Goals as goal
+use Rattle.joining.specs.declared.JoinError.{JoinError}
+use Rattle.std.specs.Prelude.{Result}
+use Rattle.table.specs.declared.Facts.{Facts}
 
 module _ (input : List ℕ) (k : ℕ) (count : k ≡ count_in input) (lengths : List ℕ) (read : take k lengths ≡ lengths_to input k) where
   lengths_are : take k lengths ≡ lengths_in input
@@ -21,7 +23,7 @@ module _ (input : List ℕ) (k : ℕ) (count : k ≡ count_in input) (lengths : 
       let z : 4 * k + 1 ≡ 1 + 4 * count_in input = omega (arith, count) in
       rest_part input (4 * k + 1) ∙ ap (λ (n : ℕ). drop n input) z
 
-  said : (out : List ℕ) (x : Joined) (o : List ℕ) → 4 * k + 1 ≤ length input → x ≡ joined (take k lengths) (take (length input - (4 * k + 1)) (drop (4 * k + 1) input))
+  said : (out : List ℕ) (x : Result Facts JoinError) (o : List ℕ) → 4 * k + 1 ≤ length input → x ≡ joined (take k lengths) (take (length input - (4 * k + 1)) (drop (4 * k + 1) input))
       → join_values_of x ≡ join_values (take k lengths) (take (length input - (4 * k + 1)) (drop (4 * k + 1) input))
       → o ≡ joined_in (take k lengths) (take (length input - (4 * k + 1)) (drop (4 * k + 1) input)) out → Says input out x o
   said out x o h e v p = whole_said input out x o (omega (arith, count)) (rw (lengths_are, tables_are) at e) (rw (lengths_are, tables_are) at v) (rw (lengths_are, tables_are) at p)

@@ -1,6 +1,6 @@
 -- `joining::given::lengths_to` meets its contract. The invariant: the first i places have the first i lengths.
 use mathlib.Core.Path.{◌≡◌}
-use Prim.Native.Nat.{ℕ, ◌-◌, ◌≤◌}
+use Prim.Native.Nat.{ℕ, ◌≤◌}
 use mathlib.Core.List.{List}
 use lib.ListN.{length, take}
 use Rattle.joining.specs.Given.{lengths_to}

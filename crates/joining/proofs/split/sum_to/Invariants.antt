@@ -1,6 +1,6 @@
 -- `joining::split::sum_to` meets its contract. The invariant: the sum of the lengths passed, each of 32 bits.
 use mathlib.Core.Path.{◌≡◌}
-use Prim.Native.Nat.{ℕ, ◌-◌, ◌*◌, ◌≤◌}
+use Prim.Native.Nat.{ℕ, ◌*◌, ◌≤◌}
 use mathlib.Core.List.{List}
 use lib.ListN.{take}
 use Rattle.joining.specs.Answers.{sum_of}

@@ -16,4 +16,4 @@ added i t w p d n e f g =
 pub returns : goal.returns
 returns c =
     let b = c.args in
-    added b.i b.t b.w _ _ _ c.larger.ensures c.larger-2.ensures c.larger-3.ensures
+    added b.i b.t b.w _ _ _ c.max.ensures c.max-2.ensures c.max-3.ensures

@@ -11,11 +11,11 @@ use Rattle.facts.specs.declared.Weighed.{Weighed}
 use Rattle.joining.specs.Answers.{parts_of}
 use Rattle.joining.specs.Code.Steps.{no_part, add_part, weights_from}
 use Rattle.joining.specs.declared.weights.Totals.{Totals}
-use Rattle.joining.specs.declared.weights.Weights.TheVariants.{All, Refused as RefusedAt}
 use Rattle.joining.proofs.Splits.{parts_length}
 use Rattle.joining.proofs.Weighs.{weighing_small, add_small}
 use Rattle.joining.proofs.weights.weigh_parts.Invariants.{Clear, Inv}
 use Rattle.joining.proofs.weights.weigh_parts.Goals as goal
+use Rattle.joining.specs.declared.JoinError.TheVariants.{InPart}
 
 start : (s ls : List ℕ) → Inv s ls (replicate 1024 0) (replicate 1024 0) (replicate 1024 0) (replicate 1024 0) no_part 0
 start s ls =
@@ -31,7 +31,7 @@ module _ (s ls a b c d : List ℕ) (t : Totals) (i : ℕ) (v : Inv s ls a b c d 
   split h = drop-cons (parts_of ls s) i [] (omega (arith, parts_length ls s))
 
   module _ (h : i < length ls) (part : List ℕ) (e : part ≡ get_or (parts_of ls s) i []) where
-    refused : (r : Refusal) → weighing part ≡ Err r → RefusedAt i r ≡ weights_from 0 no_part (parts_of ls s)
+    refused : (r : Refusal) → weighing part ≡ Err r → Err (InPart i r) ≡ weights_from 0 no_part (parts_of ls s)
     unfolding weights_from
     refused r q = rw (split h, ← e, q) at v.left
 
@@ -46,7 +46,7 @@ module _ (s ls a b c d : List ℕ) (t : Totals) (i : ℕ) (v : Inv s ls a b c d 
           left = rw (n, p) (rw (split h, ← e, q) at v.left);
         }
 
-  ends : length ls ≤ i → All t ≡ weights_from 0 no_part (parts_of ls s)
+  ends : length ls ≤ i → Ok t ≡ weights_from 0 no_part (parts_of ls s)
   unfolding weights_from
   ends h =
       let z : i ≡ length (parts_of ls s) = omega (arith, v.within, parts_length ls s) in
@@ -61,8 +61,8 @@ loop-i-init c =
 pub part_at-part-requires : goal.part_at-part-requires
 part_at-part-requires c = (c.requires, c.loop-i-test.true)
 
-pub returns-in-Refused : goal.returns-in-Refused
-returns-in-Refused c = let d = c.args in record { value = refused d.tables.now d.lengths.now _ _ _ _ c.loop-i.totals c.loop-i.i c.loop-i.invariant c.loop-i-test.true _ c.part_at-part.ensures _ (sym c.weigh_in-answer.ensures.value ∙ c.in-Refused.is); rises_after = c.weigh_in-answer.ensures.rises_after }
+pub returns-in-Err : goal.returns-in-Err
+returns-in-Err c = let d = c.args in record { value = refused d.tables.now d.lengths.now _ _ _ _ c.loop-i.totals c.loop-i.i c.loop-i.invariant c.loop-i-test.true _ c.part_at-part.ensures _ (sym c.weigh_in-answer.ensures.value ∙ c.in-Err.is); rises_after = c.weigh_in-answer.ensures.rises_after }
 
 pub add_part-totals-requires : goal.add_part-totals-requires
 add_part-totals-requires c =

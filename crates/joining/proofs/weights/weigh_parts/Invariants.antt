@@ -1,6 +1,6 @@
 -- `joining::weights::weigh_parts` meets its contract. The invariant: the weights of the parts that are left, from the totals so far, are those of all.
 use mathlib.Core.Path.{◌≡◌}
-use Prim.Native.Nat.{ℕ, ◌-◌, ◌≤◌}
+use Prim.Native.Nat.{ℕ, ◌≤◌}
 use mathlib.Core.List.{List}
 use lib.ListN.{length, drop, replicate}
 use Rattle.joining.specs.Answers.{parts_of}

@@ -1,6 +1,4 @@
 -- `joining::write::put_forks` meets its contract. The invariant is OverParts'.
-use Prim.Native.Nat.{◌-◌}
-use lib.ListN.{length}
 use Rattle.joining.specs.Answers.{parts_of}
 use Rattle.joining.specs.Code.Rows.{starts_over, fork_rows, threads_over}
 use Rattle.joining.proofs.OverParts.{Inv}

@@ -1,6 +1,4 @@
 -- `joining::write::put_part_actions` meets its contract. The invariant is OverParts'.
-use Prim.Native.Nat.{◌-◌}
-use lib.ListN.{length}
 use Rattle.joining.specs.Answers.{parts_of}
 use Rattle.joining.specs.Code.Rows.{moved_over, threads_over}
 use Rattle.joining.proofs.OverParts.{Inv}

@@ -1,5 +1,5 @@
 -- `joining::write::put_part_entries` meets its contract. The invariant is OverParts'.
-use Prim.Native.Nat.{suc, ◌-◌, ◌*◌}
+use Prim.Native.Nat.{suc, ◌*◌}
 use lib.ListN.{length}
 use Rattle.joining.specs.Answers.{parts_of}
 use Rattle.joining.specs.Code.Rows.{entries_over, actions_over}
