@@ -7,8 +7,9 @@ use Rattle.assembly.specs.Said.{saids}
 use Rattle.assembly.specs.Assembly.{is_thread, is_action, body_count, longest_text, checked}
 use Rattle.assembly.specs.Unseen.{after_lines}
 use Rattle.assembly.specs.declared.Said.{Said}
-use Rattle.assembly.specs.declared.check.Checked.TheVariants.{WellFormed}
 use Rattle.assembly.specs.declared.line.Line.{Line}
+use Rattle.std.specs.Prelude.{Ok}
+use Rattle.assembly.specs.Assembly.{counts_of}
 
 pub record Valued (w : List ℕ) (r : ℕ) : Type 0 where
   pub value : r ≡ number_in w
@@ -37,7 +38,7 @@ pub record CountsBody (s : List ℕ) (at r : ℕ) : Type 0 where
 -- a well-formed text's counts
 pub record Sized (s : List ℕ) (n m : ℕ) : Type 0 where
   pub short : length s ≤ longest_text
-  pub counts : checked (saids s) ≡ WellFormed n m
+  pub counts : checked (saids s) ≡ Ok (counts_of n m)
 
 -- a word and a number that make a line of at most 15 bytes
 pub record Operand (w : List ℕ) (x : ℕ) : Type 0 where
