@@ -1,8 +1,9 @@
 -- What the code's inner functions require and promise.
-use Rattle.std.specs.Prelude.{ℕ, ◌≤◌, ◌<◌, ◌≡◌, List, ◌∷◌, Bool, true, false, length, drop}
+use Rattle.std.specs.Prelude.{ℕ, ◌≤◌, ◌<◌, ◌≡◌, List, ◌∷◌, Bool, true, false, length, drop, Option, Some}
 use Rattle.table.specs.Sum.{sum_to}
 use Rattle.table.specs.Format.{threads_of, actions_of, table_of}
-use Rattle.assembly.specs.Words.{no_number, number_in}
+use Rattle.assembly.specs.Words.{no_number}
+use Rattle.assembly.specs.Upto.{number_in}
 use Rattle.assembly.specs.Said.{saids}
 use Rattle.assembly.specs.Assembly.{is_thread, is_action, body_count, longest_text, checked}
 use Rattle.assembly.specs.Unseen.{after_lines}
@@ -11,9 +12,10 @@ use Rattle.assembly.specs.declared.line.Line.{Line}
 use Rattle.std.specs.Prelude.{Ok}
 use Rattle.assembly.specs.Assembly.{counts_of}
 
-pub record Valued (w : List ℕ) (r : ℕ) : Type 0 where
-  pub value : r ≡ number_in w
-  pub small : r ≤ no_number
+-- a word's number, and its bound
+pub record Numbered (most : ℕ) (w : List ℕ) (r : Option ℕ) : Type 0 where
+  pub value : r ≡ number_in most w
+  pub small : (x : ℕ) → r ≡ Some x → x ≤ most
 
 -- the line that begins at a position, and where the next one begins
 pub record Reads (s : List ℕ) (at : ℕ) (r : Line) : Type 0 where
