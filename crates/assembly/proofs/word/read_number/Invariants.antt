@@ -1,12 +1,12 @@
--- `inputs::number::read_number` meets its contract. The invariant: the rest, read on from v, has the word's value, and v is at most as much as it may be.
+-- `assembly::word::read_number` meets its contract. The invariant: the rest, read on from v, has the word's value, and v is at most as much as it may be.
 use Prim.Native.Nat.{ℕ, ◌≤◌}
 use mathlib.Core.Path.{◌≡◌}
 use mathlib.Core.List.{List}
 use mathlib.Core.Bool.{false}
 use lib.ListN.{length, drop}
 use Rattle.assembly.specs.Words.{zero_led}
-use Rattle.inputs.specs.Number.{next_value, value_from}
-use Rattle.inputs.proofs.number.read_number.Given as goal
+use Rattle.assembly.specs.Upto.{next_value, value_from}
+use Rattle.assembly.proofs.word.read_number.Given as goal
 
 pub record Inv (w : List ℕ) (most v i : ℕ) : Type 0 where
   pub within : i ≤ length w
@@ -20,5 +20,5 @@ pub record Digit (most v b : ℕ) : Type 0 where
   pub greatest : b ≤ 57
   pub small : next_value v b ≤ most
 
-abbrev pub invariant-loop-i : goal.invariant-loop-i
-invariant-loop-i l = Inv l.w l.most l.v l.i
+abbrev pub invariant-loop-b : goal.invariant-loop-b
+invariant-loop-b l = Inv l.w l.most l.v l.b-index

@@ -10,10 +10,10 @@ use lib.Dec.{leb}
 use lib.ListN.{length, get_or, drop_of_length-le}
 use lib.Seq.{drop-cons}
 use Rattle.assembly.specs.Words.{is_digit, zero_led}
-use Rattle.inputs.specs.Number.{next_value, goes_on, value_from, number_in}
-use Rattle.inputs.specs.Code.Steps.{Numbered}
-use Rattle.inputs.proofs.number.read_number.Invariants.{Digit, Inv}
-use Rattle.inputs.proofs.number.read_number.Goals as goal
+use Rattle.assembly.specs.Upto.{next_value, goes_on, value_from, number_in}
+use Rattle.assembly.specs.Code.Steps.{Numbered}
+use Rattle.assembly.proofs.word.read_number.Invariants.{Digit, Inv}
+use Rattle.assembly.proofs.word.read_number.Goals as goal
 
 both : (s t : Bool) → (s && t) ≡ true → (s ≡ true) × (t ≡ true)
 both true t e = (refl, e)
@@ -58,26 +58,26 @@ module _ (w : List ℕ) (most v i : ℕ) (h : Inv w most v i) where
 pub returns-then-zero_led : goal.returns-then-zero_led
 returns-then-zero_led c = no_number_lem _ _ (sym c.zero_led.ensures ∙ c.if-zero_led.true)
 
-pub loop-i-init : goal.loop-i-init
-loop-i-init c = record { within = omega arith; small = omega arith; led = sym c.zero_led.ensures ∙ c.if-zero_led.false; rest = refl }
+pub loop-b-init : goal.loop-b-init
+loop-b-init c = record { within = omega arith; small = omega arith; led = sym c.zero_led.ensures ∙ c.if-zero_led.false; rest = refl }
 
 pub returns-then-not-goes_on : goal.returns-then-not-goes_on
-returns-then-not-goes_on c = stops _ _ _ _ c.loop-i.invariant c.loop-i-test.true (sym c.goes_on.ensures ∙ c.if-not-goes_on.true)
+returns-then-not-goes_on c = stops _ _ _ _ c.loop-b.invariant c.loop-b-test.true (sym c.goes_on.ensures ∙ c.if-not-goes_on.true)
 
 pub overflow_mul-v : goal.overflow_mul-v
-overflow_mul-v c = omega (arith, (digit c.args.most c.loop-i.v (get_or c.args.w.now c.loop-i.i 0) (sym c.goes_on.ensures ∙ c.if-not-goes_on.false)).small)
+overflow_mul-v c = omega (arith, (digit c.args.most c.loop-b.v (get_or c.args.w.now c.loop-b.b-index 0) (sym c.goes_on.ensures ∙ c.if-not-goes_on.false)).small)
 
 pub overflow_sub-v : goal.overflow_sub-v
-overflow_sub-v c = omega (arith, (digit c.args.most c.loop-i.v (get_or c.args.w.now c.loop-i.i 0) (sym c.goes_on.ensures ∙ c.if-not-goes_on.false)).least)
+overflow_sub-v c = omega (arith, (digit c.args.most c.loop-b.v (get_or c.args.w.now c.loop-b.b-index 0) (sym c.goes_on.ensures ∙ c.if-not-goes_on.false)).least)
 
 pub overflow_cast-v : goal.overflow_cast-v
-overflow_cast-v c = omega (arith, (digit c.args.most c.loop-i.v (get_or c.args.w.now c.loop-i.i 0) (sym c.goes_on.ensures ∙ c.if-not-goes_on.false)).greatest)
+overflow_cast-v c = omega (arith, (digit c.args.most c.loop-b.v (get_or c.args.w.now c.loop-b.b-index 0) (sym c.goes_on.ensures ∙ c.if-not-goes_on.false)).greatest)
 
 pub overflow_add-v : goal.overflow_add-v
-overflow_add-v c = omega (arith, (digit c.args.most c.loop-i.v (get_or c.args.w.now c.loop-i.i 0) (sym c.goes_on.ensures ∙ c.if-not-goes_on.false)).least, (digit c.args.most c.loop-i.v (get_or c.args.w.now c.loop-i.i 0) (sym c.goes_on.ensures ∙ c.if-not-goes_on.false)).small)
+overflow_add-v c = omega (arith, (digit c.args.most c.loop-b.v (get_or c.args.w.now c.loop-b.b-index 0) (sym c.goes_on.ensures ∙ c.if-not-goes_on.false)).least, (digit c.args.most c.loop-b.v (get_or c.args.w.now c.loop-b.b-index 0) (sym c.goes_on.ensures ∙ c.if-not-goes_on.false)).small)
 
-pub loop-i-preserved : goal.loop-i-preserved
-loop-i-preserved c = again _ _ _ _ c.loop-i.invariant c.loop-i-test.true (sym c.goes_on.ensures ∙ c.if-not-goes_on.false)
+pub loop-b-preserved : goal.loop-b-preserved
+loop-b-preserved c = again _ _ _ _ c.loop-b.invariant c.loop-b-test.true (sym c.goes_on.ensures ∙ c.if-not-goes_on.false)
 
 pub returns : goal.returns
-returns c = ends _ _ _ _ c.loop-i.invariant c.loop-i-test.false
+returns c = ends _ _ _ _ c.loop-b.invariant c.loop-b-test.false

@@ -1,40 +1,14 @@
 // A table's bytes, a row of four at a time: the head, an entry for each thread, the actions.
 ghost use Rattle.std.specs.Prelude.{◌≡◌, ◌≤◌, length, drop};
-ghost use Rattle.text.specs.Text.{buffer_at, placed};
+ghost use Rattle.text.specs.Text.{buffer_at};
 ghost use Rattle.text.specs.Puts.{put_all};
 ghost use Rattle.assembly.specs.Said.{saids};
-ghost use Rattle.assembly.specs.Assembly.{pair_row, action_row, entry_rows, actions_after, entries_from, action_rows, actions_in, table_rows, longest_text};
+ghost use Rattle.assembly.specs.Assembly.{entry_rows, actions_after, entries_from, action_rows, actions_in, table_rows, longest_text};
 ghost use Rattle.assembly.specs.Code.Steps.{CountsBody};
 
 use crate::Said;
 use crate::line::{is_of, read_line};
-use text::put_word;
-
-// Two numbers of 16 bits.
-fn put_pair(out: &mut [u8], at: usize, a: usize, b: usize) -> usize
-    ensures { buffer_at out.new result ≡ placed out.old at (pair_row a b) }
-{
-    let row = [
-        (a % 256) as u8,
-        (a / 256 % 256) as u8,
-        (b % 256) as u8,
-        (b / 256 % 256) as u8,
-    ];
-    put_word(out, at, &row)
-}
-
-// A kind's code, and an argument of 24 bits.
-fn put_action(out: &mut [u8], at: usize, k: u8, x: usize) -> usize
-    ensures { buffer_at out.new result ≡ placed out.old at (action_row k x) }
-{
-    let row = [
-        k,
-        (x % 256) as u8,
-        (x / 256 % 256) as u8,
-        (x / 65536 % 256) as u8,
-    ];
-    put_word(out, at, &row)
-}
+use rows::{put_action, put_pair};
 
 // The actions before the next thread, from a position on.
 fn body_count(text: &[u8], at: usize) -> usize

@@ -1,11 +1,11 @@
--- `inputs::number::goes_on` meets its contract: a byte below 0, a byte above 9, and a digit, whose sum is compared by a division.
+-- `assembly::word::goes_on` meets its contract: a byte below 0, a byte above 9, and a digit, whose sum is compared by a division.
 use native.Mathlib.Omega.{arith}
 use Prim.Native.Nat.{ℕ, ◌+◌, ◌-◌, ◌*◌, ◌/◌, ◌≤◌}
 use mathlib.Core.Path.{◌≡◌, refl, sym}
 use mathlib.Core.Bool.{Bool, true, false}
 use borrow.Author.Tests.{leb-true, leb-false, le-leb, lt-leb}
 use lib.Dec.{leb}
-use Rattle.inputs.proofs.number.goes_on.Goals as goal
+use Rattle.assembly.proofs.word.goes_on.Goals as goal
 
 divided : (v d most : ℕ) → d ≤ most → leb v ((most - d) / 10) ≡ leb (10 * v + d) most
 divided v d most h = go (leb v ((most - d) / 10)) refl

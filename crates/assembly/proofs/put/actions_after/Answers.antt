@@ -1,7 +1,7 @@
--- `assembly::rows::actions_after` meets its contract: an action counts.
+-- `assembly::put::actions_after` meets its contract: an action counts.
 use mathlib.Core.Path.{sym, ◌∙◌}
 use native.Mathlib.Omega.{arith}
-use Rattle.assembly.proofs.rows.actions_after.Goals as goal
+use Rattle.assembly.proofs.put.actions_after.Goals as goal
 
 pub overflow_add-result : goal.overflow_add-result
 overflow_add-result c = omega (arith, c.requires)

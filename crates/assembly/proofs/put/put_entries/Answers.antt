@@ -14,8 +14,8 @@ use Rattle.assembly.specs.declared.Said.{Said}
 use Rattle.assembly.specs.declared.line.Line.{Line}
 use Rattle.assembly.proofs.Lines.{said_none}
 use borrow.Author.Rules.{rules}
-use Rattle.assembly.proofs.rows.put_entries.Invariants.{Inv}
-use Rattle.assembly.proofs.rows.put_entries.Goals as goal
+use Rattle.assembly.proofs.put.put_entries.Invariants.{Inv}
+use Rattle.assembly.proofs.put.put_entries.Goals as goal
 
 one_more : (x : Said) (a : ℕ) → actions_after x a ≤ a + 1
 one_more x a = go (is_action x)

@@ -10,8 +10,8 @@ use Rattle.assembly.specs.Code.Steps.{Reads, CountsBody}
 use Rattle.assembly.specs.declared.Said.{Said}
 use Rattle.assembly.specs.declared.line.Line.{Line}
 use Rattle.assembly.proofs.Lines.{said_none}
-use Rattle.assembly.proofs.rows.body_count.Invariants.{Inv}
-use Rattle.assembly.proofs.rows.body_count.Goals as goal
+use Rattle.assembly.proofs.put.body_count.Invariants.{Inv}
+use Rattle.assembly.proofs.put.body_count.Goals as goal
 
 at_thread : (x : Said) (l : List Said) → is_thread x ≡ true → body_count (x ∷ l) ≡ 0
 unfolding body_count

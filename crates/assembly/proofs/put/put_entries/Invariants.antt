@@ -1,4 +1,4 @@
--- `assembly::rows::put_entries` meets its contract. The invariant: whoever puts the entries of the rest puts all of them.
+-- `assembly::put::put_entries` meets its contract. The invariant: whoever puts the entries of the rest puts all of them.
 use Prim.Native.Nat.{ℕ, ◌-◌, ◌≤◌}
 use mathlib.Core.Path.{◌≡◌}
 use mathlib.Core.List.{List}
@@ -7,7 +7,7 @@ use Rattle.text.specs.Text.{buffer_at}
 use Rattle.text.specs.Puts.{put_all}
 use Rattle.assembly.specs.Said.{saids}
 use Rattle.assembly.specs.Assembly.{entries_from, longest_text}
-use Rattle.assembly.proofs.rows.put_entries.Given as goal
+use Rattle.assembly.proofs.put.put_entries.Given as goal
 
 pub record Inv (out₀ : List ℕ) (at₀ : ℕ) (text out : List ℕ) (at from a : ℕ) : Type 0 where
   pub short : length text ≤ longest_text

@@ -1,5 +1,5 @@
--- `assembly::rows::put_row` meets its contract: an action has a row, any other line has none.
-use Rattle.assembly.proofs.rows.put_row.Goals as goal
+-- `assembly::put::put_row` meets its contract: an action has a row, any other line has none.
+use Rattle.assembly.proofs.put.put_row.Goals as goal
 
 pub returns-in-Nothing : goal.returns-in-Nothing
 returns-in-Nothing c = rw c.in-Nothing.is

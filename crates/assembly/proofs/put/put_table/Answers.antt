@@ -1,4 +1,4 @@
--- `assembly::rows::put_table` meets its contract: the head, the entries and the actions, one after another.
+-- `assembly::put::put_table` meets its contract: the head, the entries and the actions, one after another.
 use Prim.Native.Nat.{ℕ}
 use mathlib.Core.Path.{◌≡◌, sym, ap, ◌∙◌}
 use mathlib.Core.List.{List, ◌∷◌, ◌++◌, foldl-append}
@@ -6,7 +6,7 @@ use Rattle.text.specs.Text.{Buffer, buffer_at, placed, placed_next}
 use Rattle.text.specs.Puts.{put_all}
 use Rattle.assembly.specs.Said.{saids}
 use Rattle.assembly.specs.Assembly.{pair_row, entries_from, actions_in}
-use Rattle.assembly.proofs.rows.put_table.Goals as goal
+use Rattle.assembly.proofs.put.put_table.Goals as goal
 
 all : (s o p q : List ℕ) (j k r : ℕ) (row : List ℕ) (es bs : List (List ℕ)) → buffer_at o j ≡ placed s 0 row → buffer_at p k ≡ put_all (buffer_at o j) es → buffer_at q r ≡ put_all (buffer_at p k) bs
     → buffer_at q r ≡ put_all (buffer_at s 0) (row ∷ es ++ bs)

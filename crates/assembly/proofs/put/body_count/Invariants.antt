@@ -1,11 +1,11 @@
--- `assembly::rows::body_count` meets its contract. The invariant: the actions passed and those of the rest are all of them.
+-- `assembly::put::body_count` meets its contract. The invariant: the actions passed and those of the rest are all of them.
 use Prim.Native.Nat.{ℕ, ◌+◌, ◌-◌, ◌≤◌}
 use mathlib.Core.Path.{◌≡◌}
 use mathlib.Core.List.{List}
 use lib.ListN.{length, drop}
 use Rattle.assembly.specs.Said.{saids}
 use Rattle.assembly.specs.Assembly.{body_count}
-use Rattle.assembly.proofs.rows.body_count.Given as goal
+use Rattle.assembly.proofs.put.body_count.Given as goal
 
 pub record Inv (s : List ℕ) (from at count : ℕ) : Type 0 where
   pub passed : count ≤ at

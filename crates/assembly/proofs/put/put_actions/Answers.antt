@@ -12,8 +12,8 @@ use Rattle.assembly.specs.declared.Said.{Said}
 use Rattle.assembly.specs.declared.line.Line.{Line}
 use Rattle.assembly.proofs.Lines.{said_none}
 use borrow.Author.Rules.{rules}
-use Rattle.assembly.proofs.rows.put_actions.Invariants.{Inv}
-use Rattle.assembly.proofs.rows.put_actions.Goals as goal
+use Rattle.assembly.proofs.put.put_actions.Invariants.{Inv}
+use Rattle.assembly.proofs.put.put_actions.Goals as goal
 
 module _ (out₀ : List ℕ) (at₀ : ℕ) (text out : List ℕ) (at from : ℕ) (v : Inv out₀ at₀ text out at from) where
   again : {r : Line} {o : List ℕ} {k : ℕ} → Reads text from r → length o ≡ length out → buffer_at o k ≡ put_all (buffer_at out at) (action_rows r.said) → Inv out₀ at₀ text o k r.next
