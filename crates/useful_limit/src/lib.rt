@@ -40,6 +40,7 @@ pub enum Fitted {
 }
 
 // Of a table, p and b: S1, what each unit of quota adds to demand 3's limit, whether b is 0, S_p, the peak over resting places, the most that a stretch draws under a quota, and the least quota.
+// `free` is no flag beside `cost`: with b 0 the cost is 0, and so it is for one worker, where the rule stands.
 #[derive(Clone, Copy)]
 pub(crate) struct Parts {
     pub(crate) serial: u64,
@@ -52,7 +53,7 @@ pub(crate) struct Parts {
 }
 
 // The useful limit of the table that runs, and what it is made of. The table is filled out into the buffer, where it has to be; 36,868 bytes are always enough. The working memory may hold
-// anything and is left cleared.
+// anything and is left cleared. Six arrays by themselves and no struct: C lends each.
 pub fn limit_in(
     table: &[u8],
     p: u8,
