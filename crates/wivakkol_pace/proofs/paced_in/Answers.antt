@@ -5,7 +5,7 @@ use mathlib.Core.List.{List}
 use mathlib.Core.Bool.{Bool, ◌&&◌}
 use lib.Dec.{eqb}
 use borrow.Author.Tests.{ne_eqb}
-use Rattle.std.specs.Prelude.{Err, Ok, Result, ⊤}
+use Rattle.std.specs.Prelude.{Err, Ok, Result}
 use Rattle.table.specs.Sum.{pick}
 use Rattle.schedule.specs.declared.Taken.{Taken}
 use Rattle.schedule.specs.declared.Reply.TheVariants.{Idle}

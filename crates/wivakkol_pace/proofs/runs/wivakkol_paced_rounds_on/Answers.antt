@@ -2,7 +2,6 @@
 use mathlib.Core.Path.{◌∙◌}
 use Rattle.run_memory.specs.Blocks.{memory_of}
 use Rattle.wivakkol_pace.proofs.PacedDrives.{put, rounds_is}
-use borrow.Author.Rules.{rules}
 use Rattle.wivakkol_pace.proofs.runs.wivakkol_paced_rounds_on.Goals as goal
 
 pub returns : goal.returns
