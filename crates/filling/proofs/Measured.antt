@@ -34,6 +34,10 @@ use Rattle.filling.specs.Code.Steps.{Ready}
 use Rattle.filling.proofs.Trees.{dummies_two, new_threads_lem}
 use Rattle.filling.proofs.FilledTable.{Fits, room_exactly, any_false, none_new, fill_size, room_enough}
 
+pub total_full : (T : Table) (K : ℕ) (f : Result ⊤ Refusal) {x : Refusal} → Err x ≡ total_as T K f → f ≡ Err x
+total_full T K (Ok _) e = no_way (cc)
+total_full T K (Err y) {x} e = let q : x ≡ y = cc in rw q
+
 -- where nothing is found, the counts are these
 pub total_silent : (T : Table) (K : ℕ) (f : Result ⊤ Refusal) {t : Total} → Ok t ≡ total_as T K f
     → (f ≡ Ok tt) × ((t.threads ≡ threads_to T K T.actions) × (t.actions ≡ actions_to T K T.actions))
@@ -99,11 +103,7 @@ found_ready s K z n h = go (first_found (passes s)) refl (outside 1 16777215 K) 
 
 pub total_refused : (s : List ℕ) (K : ℕ) {x : Refusal} → Err x ≡ total_as (table_of s) K (fill_found s K) → Err x ≡ filling_of s K
 unfolding filling_of
-total_refused s K {x} e = rw (go (fill_found s K) e)
-  where
-    go : (f : Result ⊤ Refusal) → Err x ≡ total_as (table_of s) K f → f ≡ Err x
-    go (Ok _) d = no_way (cc)
-    go (Err y) d = let q : x ≡ y = cc in rw q
+total_refused s K e = rw (total_full (table_of s) K (fill_found s K) e)
 
 module _ (s : List ℕ) (K : ℕ) {t : Total} (e : Ok t ≡ total_as (table_of s) K (fill_found s K)) where
   pub silent : fill_found s K ≡ Ok tt
