@@ -1,7 +1,7 @@
 -- No line of a text is far: neither that of a fault nor that of a refusal.
 use Rattle.std.specs.Prelude.{Err, Ok, Result}
 use Rattle.table.specs.declared.Facts.{Facts}
-use Prim.Native.Nat.{ℕ, suc, ◌+◌, ◌-◌, ◌≤◌}
+use Prim.Native.Nat.{ℕ, suc, ◌+◌, ◌≤◌}
 use native.Mathlib.Omega.{arith}
 use mathlib.Core.Path.{◌≡◌, refl}
 use mathlib.Core.List.{List, [], ◌∷◌}
@@ -20,8 +20,8 @@ use Rattle.assembly.specs.declared.check.Counting.{Counting}
 use Rattle.assembly.specs.declared.check.Counting.TheVariants.{Counted, Stopped}
 use Rattle.assembly.specs.declared.check.Checked.{Checked}
 use Rattle.assembly.specs.declared.check.Checked.TheVariants.{WellFormed, Fault}
-use Rattle.assembly.specs.declared.Assembled.{Assembled}
-use Rattle.assembly.specs.declared.Assembled.TheVariants.{Written, TooLong, Malformed, Refused as Rejected}
+use Rattle.assembly.specs.declared.AssemblyError.{AssemblyError}
+use Rattle.assembly.specs.declared.AssemblyError.TheVariants.{TooLong, Malformed, Refused}
 
 parts_length : (p : ℕ → Bool) (s : List ℕ) → length (parts p s) ≤ length s
 unfolding parts
@@ -70,11 +70,11 @@ refused_near r l = go (names_thread r.number)
     go false = line_near is_action l 1 r.place
 
 -- the line that an answer names, 0 where it names none
-unfoldable pub line_of : Assembled → ℕ
-line_of (Written k) = 0
-line_of TooLong = 0
-line_of (Malformed line e) = line
-line_of (Rejected r line) = line
+unfoldable pub line_of : Result ℕ AssemblyError → ℕ
+line_of (Ok k) = 0
+line_of (Err TooLong) = 0
+line_of (Err (Malformed line e)) = line
+line_of (Err (Refused r line)) = line
 
 judged_near : (y : Result Facts Refusal) (l : List Said) → line_of (judged y l) ≤ 1 + length l
 unfolding line_of
@@ -86,7 +86,7 @@ unfolding line_of
 answered_near (Fault line e) l h = h
 answered_near (WellFormed n m) l h = go (sizes_outside n m)
   where
-    go : (t : Bool) → line_of (pick t (Rejected (record { number = 2; place = 0 }) 0) (judged (loaded (table_bytes l)) l)) ≤ 1 + length l
+    go : (t : Bool) → line_of (pick t (Err (Refused (record { number = 2; place = 0 }) 0)) (judged (loaded (table_bytes l)) l)) ≤ 1 + length l
     go true = omega arith
     go false = judged_near (loaded (table_bytes l)) l
 
@@ -94,7 +94,7 @@ pub line_small : (s : List ℕ) → line_of (assembled s) ≤ suc longest_text
 unfolding assembled line_of
 line_small s = go (ltb longest_text (length s)) refl
   where
-    go : (t : Bool) → ltb longest_text (length s) ≡ t → line_of (pick t TooLong (answered (checked (saids s)) (saids s))) ≤ suc longest_text
+    go : (t : Bool) → ltb longest_text (length s) ≡ t → line_of (pick t (Err TooLong) (answered (checked (saids s)) (saids s))) ≤ suc longest_text
     go true e = omega arith
     go false e =
         omega (arith, answered_near (checked (saids s)) (saids s) (fault_near (saids s) 1 0 0), saids_length s, ltb-false longest_text (length s) e)

@@ -14,31 +14,22 @@ use Rattle.table.specs.Sum.{pick}
 use Rattle.table.specs.Format.{table_of}
 use Rattle.table.specs.Load.{loaded}
 use Rattle.assembly.specs.Said.{saids}
-use Rattle.assembly.specs.Assembly.{checked, longest_text, sizes_outside, bytes_by, bytes_needed, or_short, kept_if_short, assembled, assembling, assembled_in, assembling_in}
-use Rattle.assembly.specs.Disassembly.{most_of, or_short_text, disassembled, disassembling, disassembled_in, disassembling_in}
-use Rattle.assembly.specs.declared.Assembled.{Assembled}
-use Rattle.assembly.specs.declared.Assembling.{Assembling}
-use Rattle.assembly.specs.declared.Assembling.TheVariants.{Answered, Short}
-use Rattle.assembly.specs.declared.Disassembling.{Disassembling}
-use Rattle.assembly.specs.declared.Disassembling.TheVariants.{Answered as Told, Short as Lacks}
+use Rattle.assembly.specs.Assembly.{needing, checked, longest_text, sizes_outside, bytes_by, bytes_needed, or_short, kept_if_short, assembled, assembling, assembled_in, assembling_in}
+use Rattle.assembly.specs.Disassembly.{most_of, disassembled, disassembling, disassembled_in, disassembling_in}
 use Rattle.assembly.specs.declared.check.Checked.{Checked}
 use Rattle.assembly.specs.declared.check.Checked.TheVariants.{WellFormed, Fault}
 use Rattle.assembly.proofs.TableRows.{in_range}
 use Rattle.assembly.proofs.Accepted.{shape}
+use Rattle.assembly.specs.declared.AssemblyError.{AssemblyError}
+use Rattle.assembly.specs.declared.Short.{Short}
 
 -- ---- an answer, or the bytes that are lacking
 
-pub fits : (room k : ℕ) {x a : Assembled} → k ≤ room → x ≡ a → Answered x ≡ or_short room k a
-fits room k h d = rw (le-ltb room k h) (ap Answered d)
+pub fits : {E : Type 0} (room k : ℕ) {x a : Result ℕ E} → k ≤ room → x ≡ a → Ok x ≡ or_short room k a
+fits room k h d = rw (le-ltb room k h) (ap Ok d)
 
-pub lacks : (room k : ℕ) {j : ℕ} (a : Assembled) → room < k → j ≡ k → Short j ≡ or_short room k a
-lacks room k a h e = rw (lt-ltb room k h) (ap Short e)
-
-pub fits_text : (room k : ℕ) {x a : Result ℕ Refusal} → k ≤ room → x ≡ a → Told x ≡ or_short_text room k a
-fits_text room k h d = rw (le-ltb room k h) (ap Told d)
-
-pub lacks_text : (room k : ℕ) {j : ℕ} (a : Result ℕ Refusal) → room < k → j ≡ k → Lacks j ≡ or_short_text room k a
-lacks_text room k a h e = rw (lt-ltb room k h) (ap Lacks e)
+pub lacks : {E : Type 0} (room k : ℕ) {j : ℕ} (a : Result ℕ E) → room < k → j ≡ k → Err (needing j) ≡ or_short room k a
+lacks room k a h e = rw (lt-ltb room k h) (ap (λ (i : ℕ). Err (needing i)) e)
 
 pub put_in_lem : (k : ℕ) (out : List ℕ) {o w : List ℕ} → k ≤ length out → o ≡ w → o ≡ kept_if_short k out w
 put_in_lem k out h d = rw (le-ltb (length out) k h) d
@@ -69,7 +60,7 @@ module _ (s out : List ℕ) (room : 36868 ≤ length out) where
   enough : bytes_needed s ≤ length out
   enough = omega (arith, bytes_most s, room)
 
-  ample : assembling (length out) s ≡ Answered (assembled s)
+  ample : assembling (length out) s ≡ Ok (assembled s)
   unfolding assembling
   ample = sym (fits (length out) (bytes_needed s) enough refl)
 
@@ -77,15 +68,15 @@ module _ (s out : List ℕ) (room : 36868 ≤ length out) where
   unfolding assembling_in
   ample_in = sym (put_in_lem (bytes_needed s) out enough refl)
 
-  pub answered_whole : (x : Assembling) (a : Assembled) (o : List ℕ) → x ≡ Answered a → x ≡ assembling (length out) s → o ≡ assembling_in s out → (a ≡ assembled s) × (o ≡ assembled_in s out)
+  pub answered_whole : (x : Result (Result ℕ AssemblyError) Short) (a : Result ℕ AssemblyError) (o : List ℕ) → x ≡ Ok a → x ≡ assembling (length out) s → o ≡ assembling_in s out → (a ≡ assembled s) × (o ≡ assembled_in s out)
   answered_whole x a o e q w =
-      let p : Answered a ≡ Answered (assembled s) = sym e ∙ q ∙ ample in
+      let p : Ok a ≡ Ok (assembled s) = sym e ∙ q ∙ ample in
       let v : a ≡ assembled s = cc in
       (v, w ∙ ample_in)
 
-  pub never_short : (x : Assembling) (k : ℕ) → x ≡ Short k → x ≡ assembling (length out) s → ◌≡◌ {A = ℕ} 0 1
+  pub never_short : (x : Result (Result ℕ AssemblyError) Short) (k : ℕ) → x ≡ Err (needing k) → x ≡ assembling (length out) s → ◌≡◌ {A = ℕ} 0 1
   never_short x k e q =
-      let p : Short k ≡ Answered (assembled s) = sym e ∙ q ∙ ample in
+      let p : Err (needing k) ≡ Ok (assembled s) = sym e ∙ q ∙ ample in
       cc
 
 -- ---- the longest text
@@ -102,21 +93,21 @@ module _ (s out : List ℕ) (room : 266240 ≤ length out) where
   enough_text : most_of (loaded s) (table_of s) ≤ length out
   enough_text = omega (arith, most_text_lem s, room)
 
-  ample_text : disassembling (length out) s ≡ Told (disassembled s)
+  ample_text : disassembling (length out) s ≡ Ok (disassembled s)
   unfolding disassembling
-  ample_text = sym (fits_text (length out) (most_of (loaded s) (table_of s)) enough_text refl)
+  ample_text = sym (fits (length out) (most_of (loaded s) (table_of s)) enough_text refl)
 
   ample_text_in : disassembling_in s out ≡ disassembled_in s out
   unfolding disassembling_in
   ample_text_in = sym (put_in_lem (most_of (loaded s) (table_of s)) out enough_text refl)
 
-  pub told_whole : (x : Disassembling) (a : Result ℕ Refusal) (o : List ℕ) → x ≡ Told a → x ≡ disassembling (length out) s → o ≡ disassembling_in s out → (a ≡ disassembled s) × (o ≡ disassembled_in s out)
+  pub told_whole : (x : Result (Result ℕ Refusal) Short) (a : Result ℕ Refusal) (o : List ℕ) → x ≡ Ok a → x ≡ disassembling (length out) s → o ≡ disassembling_in s out → (a ≡ disassembled s) × (o ≡ disassembled_in s out)
   told_whole x a o e q w =
-      let p : Told a ≡ Told (disassembled s) = sym e ∙ q ∙ ample_text in
+      let p : Ok a ≡ Ok (disassembled s) = sym e ∙ q ∙ ample_text in
       let v : a ≡ disassembled s = cc in
       (v, w ∙ ample_text_in)
 
-  pub text_never_short : (x : Disassembling) (k : ℕ) → x ≡ Lacks k → x ≡ disassembling (length out) s → ◌≡◌ {A = ℕ} 0 1
+  pub text_never_short : (x : Result (Result ℕ Refusal) Short) (k : ℕ) → x ≡ Err (needing k) → x ≡ disassembling (length out) s → ◌≡◌ {A = ℕ} 0 1
   text_never_short x k e q =
-      let p : Lacks k ≡ Told (disassembled s) = sym e ∙ q ∙ ample_text in
+      let p : Err (needing k) ≡ Ok (disassembled s) = sym e ∙ q ∙ ample_text in
       cc

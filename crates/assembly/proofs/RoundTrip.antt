@@ -1,6 +1,6 @@
 -- Assembling what was disassembled gives the table back, for every accepted table.
 use Rattle.std.specs.Prelude.{Ok}
-use Prim.Native.Nat.{ℕ, zero, suc, ◌+◌, ◌-◌, ◌*◌, ◌%◌, ◌≤◌, ◌<◌}
+use Prim.Native.Nat.{ℕ, zero, suc, ◌+◌, ◌*◌, ◌%◌, ◌≤◌, ◌<◌}
 use native.Mathlib.Nat.{add_assoc, mod-eq_of_lt}
 use native.Mathlib.Omega.{arith}
 use mathlib.Core.Path.{◌≡◌, refl, sym, ap, ◌∙◌}
@@ -25,7 +25,6 @@ use Rattle.assembly.specs.Words.{parts, no_number}
 use Rattle.assembly.specs.Said.{saids}
 use Rattle.assembly.specs.Assembly.{checked_from, pair_row, action_row, entries_from, actions_in, table_bytes, over, longest_text, assembled, assembled_in}
 use Rattle.assembly.specs.Disassembly.{thread_texts, operand_texts, action_texts, number_texts, line_texts, body_texts, threads_texts, text_of}
-use Rattle.assembly.specs.declared.Assembled.TheVariants.{Written}
 use Rattle.assembly.specs.declared.Said.TheVariants.{Thread, Action}
 use Rattle.assembly.specs.declared.check.Checked.TheVariants.{WellFormed}
 use Rattle.assembly.proofs.Accepted.{Shape, shape}
@@ -246,7 +245,7 @@ module _ (s : List ℕ) (bytes : Bytes s) (z : Shape s) where
 -- ---- the theorem
 
 pub record AssemblesTo (text table : List ℕ) : Type 0 where
-  pub answer : assembled text ≡ Written (length table)
+  pub answer : assembled text ≡ Ok (length table)
   pub buffer : (out : List ℕ) → assembled_in text out ≡ over table out
 
 -- the text of an accepted table is assembled to that table
@@ -259,6 +258,6 @@ assembled_back s bytes f e =
     let back = table_back s bytes z in
     let counts : checked_from 1 0 0 (table_saids (table_of s) (threads_of s)) ≡ WellFormed (threads_of s) (actions_of s) = table_checked (table_of s) (threads_of s) 1 ∙ ap (WellFormed (threads_of s)) z.counts in
     record {
-      answer = rw (short, says, counts, z.rules.head.ranged, back, e) (ap Written (ap length back));
+      answer = rw (short, says, counts, z.rules.head.ranged, back, e) (ap Ok (ap length back));
       buffer = λ out. rw (short, says, counts, z.rules.head.ranged, back);
     }

@@ -19,10 +19,10 @@ use Rattle.assembly.specs.Assembly.{checked_from, checked, is_thread, is_action,
 use Rattle.assembly.specs.declared.Expected.{Expected}
 use Rattle.assembly.specs.declared.Said.{Said}
 use Rattle.assembly.specs.declared.Said.TheVariants.{Nothing, Thread, Action, Expects}
-use Rattle.assembly.specs.declared.Assembled.TheVariants.{Written, TooLong, Refused as Rejected}
 use Rattle.assembly.specs.declared.check.Checked.{Checked}
 use Rattle.assembly.specs.declared.check.Checked.TheVariants.{WellFormed, Fault}
 use Rattle.assembly.proofs.Counts.{no_fault}
+use Rattle.assembly.specs.declared.AssemblyError.TheVariants.{TooLong, Refused}
 
 -- ---- the lines that say something
 
@@ -159,35 +159,35 @@ pub record Assembles (s : List ℕ) (k : ℕ) : Type 0 where
   pub accepted : loaded (table_bytes (saids s)) ≡ Ok facts
   pub long : k ≡ length (table_bytes (saids s))
 
-pub assembles : (s : List ℕ) (k : ℕ) → assembled s ≡ Written k → Assembles s k
+pub assembles : (s : List ℕ) (k : ℕ) → assembled s ≡ Ok k → Assembles s k
 unfolding assembled
 assembles s k q = by_length (ltb longest_text (length s)) refl
   where
-    by_loaded : (n m : ℕ) (y : Result Facts Refusal) → length s ≤ longest_text → checked (saids s) ≡ WellFormed n m → sizes_outside n m ≡ false → loaded (table_bytes (saids s)) ≡ y → judged y (saids s) ≡ Written k → Assembles s k
+    by_loaded : (n m : ℕ) (y : Result Facts Refusal) → length s ≤ longest_text → checked (saids s) ≡ WellFormed n m → sizes_outside n m ≡ false → loaded (table_bytes (saids s)) ≡ y → judged y (saids s) ≡ Ok k → Assembles s k
     by_loaded n m (Ok f) h c i e r = record { threads = n; actions = m; facts = f; short = h; well_formed = c; sized = i; accepted = e; long = cc }
     by_loaded n m (Err x) h c i e r = absurd (let z : ◌≡◌ {A = ℕ} 0 1 = cc in omega arith)
 
     by_size : (n m : ℕ) (b : Bool) → length s ≤ longest_text → checked (saids s) ≡ WellFormed n m → sizes_outside n m ≡ b
-        → pick b (Rejected (refusal 2 0) 0) (judged (loaded (table_bytes (saids s))) (saids s)) ≡ Written k → Assembles s k
+        → pick b (Err (Refused (refusal 2 0) 0)) (judged (loaded (table_bytes (saids s))) (saids s)) ≡ Ok k → Assembles s k
     by_size n m true h c i r = absurd (let z : ◌≡◌ {A = ℕ} 0 1 = cc in omega arith)
     by_size n m false h c i r = by_loaded n m (loaded (table_bytes (saids s))) h c i refl r
 
-    by_check : (y : Checked) → length s ≤ longest_text → checked (saids s) ≡ y → answered y (saids s) ≡ Written k → Assembles s k
+    by_check : (y : Checked) → length s ≤ longest_text → checked (saids s) ≡ y → answered y (saids s) ≡ Ok k → Assembles s k
     by_check (Fault line e) h c r = absurd (let z : ◌≡◌ {A = ℕ} 0 1 = cc in omega arith)
     by_check (WellFormed n m) h c r = by_size n m (sizes_outside n m) h c refl r
 
     by_length : (b : Bool) → ltb longest_text (length s) ≡ b → Assembles s k
-    by_length true e = absurd (let r : TooLong ≡ Written k = rw e at q in let z : ◌≡◌ {A = ℕ} 0 1 = cc in omega arith)
+    by_length true e = absurd (let r : (Err TooLong) ≡ Ok k = rw e at q in let z : ◌≡◌ {A = ℕ} 0 1 = cc in omega arith)
     by_length false e = by_check (checked (saids s)) (ltb-false longest_text (length s) e) refl (rw e at q)
 
 -- ---- the theorem
 
 pub record SameTable (s t : List ℕ) (k : ℕ) : Type 0 where
-  pub answer : assembled t ≡ Written k
+  pub answer : assembled t ≡ Ok k
   pub buffer : (out : List ℕ) → assembled_in s out ≡ assembled_in t out
 
 -- the same words on the lines that have any
-pub same_words : (s t : List ℕ) (k : ℕ) → word_lines s ≡ word_lines t → length t ≤ longest_text → assembled s ≡ Written k → SameTable s t k
+pub same_words : (s t : List ℕ) (k : ℕ) → word_lines s ≡ word_lines t → length t ≤ longest_text → assembled s ≡ Ok k → SameTable s t k
 unfolding assembled assembled_in
 same_words s t k e h q =
     let a = assembles s k q in
@@ -200,6 +200,6 @@ same_words s t k e h q =
     let long = le-ltb longest_text (length s) a.short in
     let short = le-ltb longest_text (length t) h in
     record {
-      answer = rw (short, counts, a.sized, ← same, a.accepted) (ap Written (ap length (sym same) ∙ sym a.long));
+      answer = rw (short, counts, a.sized, ← same, a.accepted) (ap Ok (ap length (sym same) ∙ sym a.long));
       buffer = λ out. rw (long, short, counts, a.well_formed, a.sized, same);
     }

@@ -13,13 +13,12 @@ use Rattle.table.specs.Load.{loaded}
 use Rattle.assembly.specs.Said.{saids}
 use Rattle.assembly.specs.Assembly.{table_bytes, over, longest_text, assembled, assembled_in}
 use Rattle.assembly.specs.Disassembly.{text_of, listed_as, listed_in, disassembled, disassembled_in}
-use Rattle.assembly.specs.declared.Assembled.TheVariants.{Written}
 use Rattle.assembly.proofs.SameWords.{assembles}
 
 over_within : (front out o : List ℕ) → o ≡ over front out → length front ≤ length o
 over_within front out o e = omega (arith, ap length e, length-append front (drop (length front) out))
 
-pub written_within : (s out o : List ℕ) (k : ℕ) → assembled s ≡ Written k → o ≡ assembled_in s out → k ≤ length o
+pub written_within : (s out o : List ℕ) (k : ℕ) → assembled s ≡ Ok k → o ≡ assembled_in s out → k ≤ length o
 unfolding assembled_in
 written_within s out o k q e =
     let a = assembles s k q in

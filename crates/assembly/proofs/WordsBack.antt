@@ -16,7 +16,6 @@ use Rattle.assembly.specs.Assembly.{checked_from, is_thread, is_action, how_many
 use Rattle.assembly.specs.Disassembly.{text_of}
 use Rattle.assembly.specs.declared.Said.{Said}
 use Rattle.assembly.specs.declared.Said.TheVariants.{Nothing, Thread, Action, Expects}
-use Rattle.assembly.specs.declared.Assembled.TheVariants.{Written}
 use Rattle.assembly.specs.declared.check.Checked.TheVariants.{WellFormed}
 use Rattle.assembly.proofs.Counts.{no_fault, totals}
 use Rattle.assembly.proofs.TableRows.{entries_length, in_range}
@@ -25,6 +24,7 @@ use Rattle.assembly.proofs.Back.{Bytes, table_saids, table_checked}
 use Rattle.assembly.proofs.RoundTrip.{text_says, table_back}
 use Rattle.assembly.proofs.SameWords.{spoken, Speaks, speaks_thread, speaks_action, speaks_expects, speaks_kept, speaks, table_spoken, checked_spoken, assembles}
 use Rattle.assembly.proofs.Exact.{Exact, SomeBytes, words_for, meaning_exact, nonempty_some}
+use Rattle.std.specs.Prelude.{Ok}
 
 -- ---- lines without a fault
 
@@ -322,7 +322,7 @@ one_reading l r n m n' m' a b e =
 -- ---- the theorem
 
 -- the text of an assembled table has the words of the text that was assembled
-pub words_back : (s : List ℕ) (k : ℕ) → assembled s ≡ Written k → word_lines (text_of (table_of (table_bytes (saids s)))) ≡ word_lines s
+pub words_back : (s : List ℕ) (k : ℕ) → assembled s ≡ Ok k → word_lines (text_of (table_of (table_bytes (saids s)))) ≡ word_lines s
 words_back s k q =
     let a = assembles s k q in
     let n = a.threads in

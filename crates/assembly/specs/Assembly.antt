@@ -15,10 +15,9 @@ use Rattle.assembly.specs.declared.check.Counting.{Counting}
 use Rattle.assembly.specs.declared.check.Counting.TheVariants.{Counted, Stopped}
 use Rattle.assembly.specs.declared.check.Checked.{Checked}
 use Rattle.assembly.specs.declared.check.Checked.TheVariants.{WellFormed, Fault}
-use Rattle.assembly.specs.declared.Assembled.{Assembled}
-use Rattle.assembly.specs.declared.Assembled.TheVariants.{Written, TooLong, Malformed, Refused as Rejected}
-use Rattle.assembly.specs.declared.Assembling.{Assembling}
-use Rattle.assembly.specs.declared.Assembling.TheVariants.{Answered, Short}
+use Rattle.assembly.specs.declared.AssemblyError.{AssemblyError}
+use Rattle.assembly.specs.declared.AssemblyError.TheVariants.{TooLong, Malformed, Refused}
+use Rattle.assembly.specs.declared.Short.{Short}
 
 -- ---- well-formed texts
 
@@ -126,20 +125,20 @@ names_thread number = eqb number 4 || eqb number 11
 unfoldable pub refused_at : Refusal → List Said → ℕ
 refused_at r l = pick (names_thread r.number) (line_that is_thread 1 r.place l) (line_that is_action 1 r.place l)
 
-abbrev pub judged : Result Facts Refusal → List Said → Assembled
-judged (Ok f) l = Written (length (table_bytes l))
-judged (Err r) l = Rejected r (refused_at r l)
+abbrev pub judged : Result Facts Refusal → List Said → Result ℕ AssemblyError
+judged (Ok f) l = Ok (length (table_bytes l))
+judged (Err r) l = Err (Refused r (refused_at r l))
 
 -- 2: "n or m outside its range", which no line tells
 abbrev pub sizes_outside : ℕ → ℕ → Bool
 sizes_outside n m = outside 1 max_threads n || outside 1 max_actions m
 
-abbrev pub answered : Checked → List Said → Assembled
-answered (Fault line e) l = Malformed line e
-answered (WellFormed n m) l = pick (sizes_outside n m) (Rejected (refusal 2 0) 0) (judged (loaded (table_bytes l)) l)
+abbrev pub answered : Checked → List Said → Result ℕ AssemblyError
+answered (Fault line e) l = Err (Malformed line e)
+answered (WellFormed n m) l = pick (sizes_outside n m) (Err (Refused (refusal 2 0) 0)) (judged (loaded (table_bytes l)) l)
 
-unfoldable pub assembled : List ℕ → Assembled
-assembled s = pick (ltb longest_text (length s)) TooLong (answered (checked (saids s)) (saids s))
+unfoldable pub assembled : List ℕ → Result ℕ AssemblyError
+assembled s = pick (ltb longest_text (length s)) (Err TooLong) (answered (checked (saids s)) (saids s))
 
 -- the lent buffer afterwards: the table, refused or not, where the text is well-formed and n and m are in range; else as it was
 abbrev pub over : List ℕ → List ℕ → List ℕ
@@ -163,10 +162,13 @@ unfoldable pub bytes_needed : List ℕ → ℕ
 bytes_needed s = pick (ltb longest_text (length s)) 0 (bytes_by (checked (saids s)))
 
 -- an answer for which a buffer of `room` bytes needs k of them
-abbrev pub or_short : ℕ → ℕ → Assembled → Assembling
-or_short room k a = pick (ltb room k) (Short k) (Answered a)
+abbrev pub needing : ℕ → Short
+needing k = record { needed = k }
 
-unfoldable pub assembling : ℕ → List ℕ → Assembling
+abbrev pub or_short : {E : Type 0} → ℕ → ℕ → Result ℕ E → Result (Result ℕ E) Short
+or_short room k a = pick (ltb room k) (Err (needing k)) (Ok a)
+
+unfoldable pub assembling : ℕ → List ℕ → Result (Result ℕ AssemblyError) Short
 assembling room s = or_short room (bytes_needed s) (assembled s)
 
 -- the buffer afterwards, as it was where it has fewer than k bytes

@@ -1,17 +1,15 @@
 -- The text of a table: each thread's line, and its actions one to a line, each with its number as a comment.
-use Rattle.std.specs.Prelude.{ℕ, zero, suc, ◌+◌, ◌*◌, ltb, length, Err, Ok, Result}
+use Rattle.std.specs.Prelude.{ℕ, zero, suc, ◌+◌, ◌*◌, length, Err, Ok, Result}
 use Rattle.table.specs.declared.Facts.{Facts}
 use Rattle.table.specs.declared.Refusal.{Refusal}
 use mathlib.Core.List.{List, [], ◌∷◌, ◌++◌, flatten}
-use Rattle.table.specs.Sum.{pick}
 use Rattle.table.specs.Format.{Table, table_of, kind_of}
 use Rattle.table.specs.declared.kinds.Kind.{Kind}
 use Rattle.table.specs.declared.kinds.Kind.TheVariants.{End as end, Work as work, Alloc as alloc, Free as free, Fork as fork, Join as join, Unknown as unknown}
 use Rattle.table.specs.Load.{loaded}
 use Rattle.text.specs.Text.{ascii, decimal, newline}
-use Rattle.assembly.specs.Assembly.{over, kept_if_short}
-use Rattle.assembly.specs.declared.Disassembling.{Disassembling}
-use Rattle.assembly.specs.declared.Disassembling.TheVariants.{Answered, Short}
+use Rattle.assembly.specs.Assembly.{over, or_short, kept_if_short}
+use Rattle.assembly.specs.declared.Short.{Short}
 
 -- "thread 0"
 abbrev pub thread_texts : ℕ → List (List ℕ)
@@ -82,11 +80,8 @@ abbrev pub most_of : Result Facts Refusal → Table → ℕ
 most_of (Ok f) T = most_text T
 most_of (Err r) T = 0
 
-abbrev pub or_short_text : ℕ → ℕ → Result ℕ Refusal → Disassembling
-or_short_text room k a = pick (ltb room k) (Short k) (Answered a)
-
-unfoldable pub disassembling : ℕ → List ℕ → Disassembling
-disassembling room s = or_short_text room (most_of (loaded s) (table_of s)) (disassembled s)
+unfoldable pub disassembling : ℕ → List ℕ → Result (Result ℕ Refusal) Short
+disassembling room s = or_short room (most_of (loaded s) (table_of s)) (disassembled s)
 
 unfoldable pub disassembling_in : List ℕ → List ℕ → List ℕ
 disassembling_in s out = kept_if_short (most_of (loaded s) (table_of s)) out (disassembled_in s out)

@@ -11,8 +11,9 @@ use Rattle.assembly.specs.declared.unseen.Unseen.{Unseen}
 use Rattle.assembly.specs.declared.unseen.Unseen.TheVariants.{Nothing, Return, Mark}
 use Rattle.assembly.specs.declared.Expected.{Expected}
 use Rattle.assembly.specs.declared.Expected.TheVariants.{Keyword, Number, LineEnd, NextThread}
-use Rattle.assembly.specs.declared.Assembled.{Assembled}
-use Rattle.assembly.specs.declared.Assembled.TheVariants.{Written, TooLong, Malformed, Refused}
+use Rattle.assembly.specs.declared.AssemblyError.{AssemblyError}
+use Rattle.assembly.specs.declared.AssemblyError.TheVariants.{TooLong, Malformed, Refused}
+use Rattle.std.specs.Prelude.{Err, Ok, Result}
 
 unfoldable pub expected_texts : Expected → List (List ℕ)
 expected_texts Keyword = ascii "thread, alloc, free, fork, join, work or end" ∷ []
@@ -44,23 +45,23 @@ unfoldable pub refused_texts : Refusal → ℕ → List (List ℕ)
 refused_texts r line = (ascii "refused " ∷ decimal r.number ∷ []) ++ ((ascii " " ∷ decimal r.place ∷ []) ++ (line_texts line ++ (newline ∷ [])))
 
 -- of a text s
-unfoldable pub message_texts : List ℕ → Assembled → List (List ℕ)
-message_texts s (Written k) = []
-message_texts s TooLong = ascii "text above 262144 bytes\n" ∷ []
-message_texts s (Malformed line e) = fault_texts line (unseen_at s line) (expected_texts e)
-message_texts s (Refused r line) = refused_texts r line
+unfoldable pub message_texts : List ℕ → Result ℕ AssemblyError → List (List ℕ)
+message_texts s (Ok k) = []
+message_texts s (Err TooLong) = ascii "text above 262144 bytes\n" ∷ []
+message_texts s (Err (Malformed line e)) = fault_texts line (unseen_at s line) (expected_texts e)
+message_texts s (Err (Refused r line)) = refused_texts r line
 
-abbrev pub message_of : List ℕ → Assembled → List ℕ
+abbrev pub message_of : List ℕ → Result ℕ AssemblyError → List ℕ
 message_of s a = flatten (message_texts s a)
 
-malformed_example : message_of (ascii "thread 0\nend\nthread 2\n") (Malformed 3 (NextThread 1)) ≡ ascii "line 3: expected thread 1\n"
+malformed_example : message_of (ascii "thread 0\nend\nthread 2\n") (Err (Malformed 3 (NextThread 1))) ≡ ascii "line 3: expected thread 1\n"
 unfolding message_texts fault_texts expected_texts unseen_texts unseen_in after_lines span_of same flatten decimal digits_of
 malformed_example = refl
 
-return_example : message_of (ascii "thread 0" ++ (13 ∷ 10 ∷ [])) (Malformed 1 Number) ≡ ascii "line 1: a carriage return; lines end with a newline alone\n"
+return_example : message_of (ascii "thread 0" ++ (13 ∷ 10 ∷ [])) (Err (Malformed 1 Number)) ≡ ascii "line 1: a carriage return; lines end with a newline alone\n"
 unfolding message_texts fault_texts expected_texts unseen_texts unseen_in after_lines span_of same flatten decimal digits_of
 return_example = refl
 
-refused_example : message_of [] (Refused (refusal 9 2) 4) ≡ ascii "refused 9 2 line 4\n"
+refused_example : message_of [] (Err (Refused (refusal 9 2) 4)) ≡ ascii "refused 9 2 line 4\n"
 unfolding message_texts refused_texts flatten decimal digits_of
 refused_example = refl

@@ -8,7 +8,7 @@ ghost use Rattle.assembly.specs.Message.{expected_texts, unseen_texts, reason_te
 ghost use Rattle.assembly.specs.Unseen.{unseen_at};
 
 use crate::unseen::{Unseen, unseen_at};
-use crate::{Assembled, Expected};
+use crate::{AssemblyError, Expected};
 use text::{put_labelled, put_word};
 
 // The next thread by its number.
@@ -90,19 +90,21 @@ fn put_refused(out: &mut [u8], number: u8, place: u16, line: usize) -> usize
     put_word(out, at, b"\n")
 }
 
-fn put_message(text: &[u8], out: &mut [u8], answer: Assembled) -> usize
+fn put_message(text: &[u8], out: &mut [u8], answer: Result<usize, AssemblyError>) -> usize
     ensures { Puts out.old 0 out.new result (message_texts text.now answer) 96 }
 {
     match answer {
-        Assembled::Written(_) => 0,
-        Assembled::TooLong => put_word(out, 0, b"text above 262144 bytes\n"),
-        Assembled::Malformed(line, e) => put_malformed(text, out, line, e),
-        Assembled::Refused(r, line) => put_refused(out, r.number, r.place, line),
+        Ok(_) => 0,
+        Err(error) => match error {
+            AssemblyError::TooLong => put_word(out, 0, b"text above 262144 bytes\n"),
+            AssemblyError::Malformed(line, e) => put_malformed(text, out, line, e),
+            AssemblyError::Refused(r, line) => put_refused(out, r.number, r.place, line),
+        },
     }
 }
 
 // The line that is said of a text with this answer, and its length; none where there is a table.
-pub fn message(text: &[u8], answer: Assembled, out: &mut [u8; 96]) -> usize
+pub fn message(text: &[u8], answer: Result<usize, AssemblyError>, out: &mut [u8; 96]) -> usize
     ensures value { result ≡ length (message_of text.now answer) }
     ensures out_after { out.new ≡ message_of text.now answer ++ drop result out.old }
     ensures prefix_len { IsPrefixLen result out.new }

@@ -17,7 +17,7 @@ ghost use Rattle.table.specs.Format.{table_of};
 ghost use Rattle.assembly.specs.Said.{saids};
 ghost use Rattle.assembly.specs.declared.check.Checked.TheVariants.{WellFormed};
 ghost use Rattle.assembly.specs.Assembly.{assembled, assembled_in, answered, written_in, sizes_outside, over, bytes_by, or_short, kept_if_short, assembling, assembling_in};
-ghost use Rattle.assembly.specs.Disassembly.{text_of, most_text, or_short_text, disassembled, disassembled_in, disassembling, disassembling_in};
+ghost use Rattle.assembly.specs.Disassembly.{text_of, most_text, disassembled, disassembled_in, disassembling, disassembling_in};
 ghost use Rattle.assembly.specs.Code.Steps.{Sized, Listable};
 
 use check::{Checked, check};
@@ -25,8 +25,8 @@ pub use fault::{message, put_unseen};
 use listing::put_threads;
 use place::refused_at;
 use rows::put_table;
-use table::read::{actions, threads};
 use table::Refusal;
+use table::read::{actions, threads};
 
 // What should have stood on a line: a keyword, a number of at most 24 bits, the line's end, or the next thread by its number.
 #[derive(Clone, Copy)]
@@ -46,35 +46,26 @@ pub(crate) enum Said {
     Expects(Expected),
 }
 
-// A table of so many bytes; a text of more than 262,144 bytes; a line that is not as it should be; or a table that is refused, with the line of the thread or action at which it is,
-// 0 where no line tells.
-#[derive(Drop)]
-pub enum Assembled {
-    Written(usize),
+// Why a text gives no table: it has more than 262,144 bytes; a line is not as it should be; or the table is refused, with the line of the thread or action at which it is, 0 where no line
+// tells.
+#[derive(Clone, Copy)]
+pub enum AssemblyError {
     TooLong,
     Malformed(usize, Expected),
     Refused(Refusal, usize),
 }
 
-// What a text answers with a buffer of some length: the same, or how many bytes the table has where the buffer has fewer.
-#[derive(Drop)]
-pub enum Assembling {
-    Answered(Assembled),
-    Short(usize),
-}
-
-// What a table answers likewise. The bytes are such that the text of every table of as many threads and actions fits: 12 for a thread and 31 for an action.
-#[derive(Drop)]
-pub enum Disassembling {
-    Answered(Result<usize, Refusal>),
-    Short(usize),
+// A buffer has fewer bytes than are needed, which are so many.
+#[derive(Clone, Copy)]
+pub struct Short {
+    pub needed: usize,
 }
 
 // The longest text that is read.
 const LONGEST: usize = 262144;
 
-// The table of a text, at the start of the buffer. The buffer is as it was where the text is too long or not well-formed, or n or m is outside its range.
-pub fn assemble(text: &[u8], out: &mut [u8; 36868]) -> Assembled
+// The length of a text's table, which is at the start of the buffer. The buffer is as it was where the text is too long or not well-formed, or n or m is outside its range.
+pub fn assemble(text: &[u8], out: &mut [u8; 36868]) -> Result<usize, AssemblyError>
     ensures value { result ≡ assembled text.now }
     ensures out_after { out.new ≡ assembled_in text.now out.old }
 {
@@ -84,9 +75,9 @@ pub fn assemble(text: &[u8], out: &mut [u8; 36868]) -> Assembled
     let mut depths = [0u16; 1024];
     let answer = assemble_on(text, out, &mut rises, &mut falls, &mut peaks, &mut depths);
     match answer {
-        Assembling::Answered(a) => a,
+        Ok(a) => a,
         // No table is longer than the buffer.
-        Assembling::Short(_) => Assembled::TooLong,
+        Err(_) => Err(AssemblyError::TooLong),
     }
 }
 
@@ -98,7 +89,7 @@ pub fn assemble_in(
     falls: &mut [u64; 1024],
     peaks: &mut [u64; 1024],
     depths: &mut [u16; 1024],
-) -> Assembling
+) -> Result<Result<usize, AssemblyError>, Short>
     ensures value { result ≡ assembling (length out.old) text.now }
     ensures out_after { out.new ≡ assembling_in text.now out.old }
     ensures rises_after { (rises.new ≡ replicate 1024 0) × (falls.new ≡ replicate 1024 0) × (peaks.new ≡ replicate 1024 0) × (depths.new ≡ replicate 1024 0) }
@@ -119,16 +110,16 @@ fn assemble_on(
     falls: &mut [u64; 1024],
     peaks: &mut [u64; 1024],
     depths: &mut [u16; 1024],
-) -> Assembling
+) -> Result<Result<usize, AssemblyError>, Short>
     ensures value { result ≡ assembling (length out.old) text.now }
     ensures out_after { out.new ≡ assembling_in text.now out.old }
 {
     if LONGEST < text.len() {
-        return Assembling::Answered(Assembled::TooLong);
+        return Ok(Err(AssemblyError::TooLong));
     }
     let checked = check(text);
     match checked {
-        Checked::Fault(line, e) => Assembling::Answered(Assembled::Malformed(line, e)),
+        Checked::Fault(line, e) => Ok(Err(AssemblyError::Malformed(line, e))),
         Checked::WellFormed(n, m) => { write_table(text, n, m, out, rises, falls, peaks, depths) }
     }
 }
@@ -156,29 +147,27 @@ fn write_table(
     falls: &mut [u64; 1024],
     peaks: &mut [u64; 1024],
     depths: &mut [u16; 1024],
-) -> Assembling
+) -> Result<Result<usize, AssemblyError>, Short>
     requires { Sized text.now n m }
     ensures value { result ≡ or_short (length out.old) (bytes_by (WellFormed n m)) (answered (WellFormed n m) (saids text.now)) }
     ensures out_after { out.new ≡ kept_if_short (bytes_by (WellFormed n m)) out.old (written_in (WellFormed n m) (saids text.now) out.old) }
 {
     if sizes_outside(n, m) {
-        return Assembling::Answered(Assembled::Refused(
-            Refusal {
-                number: 2,
-                place: 0,
-            },
-            0,
-        ));
+        let refusal = Refusal {
+            number: 2,
+            place: 0,
+        };
+        return Ok(Err(AssemblyError::Refused(refusal, 0)));
     }
     let size = 4 + 4 * n + 4 * m;
     if out.len() < size {
-        return Assembling::Short(size);
+        return Err(Short { needed: size });
     }
     let k = put_table(out, text, n, m);
     let loaded = facts::load_in(&out[..k], rises, falls, peaks, depths);
     match loaded {
-        Ok(_) => Assembling::Answered(Assembled::Written(k)),
-        Err(r) => { Assembling::Answered(Assembled::Refused(r, refused_at(text, r))) }
+        Ok(_) => Ok(Ok(k)),
+        Err(r) => Ok(Err(AssemblyError::Refused(r, refused_at(text, r)))),
     }
 }
 
@@ -194,13 +183,14 @@ pub fn disassemble(bytes: &[u8], out: &mut [u8; 266240]) -> Result<usize, Refusa
     let mut depths = [0u16; 1024];
     let answer = disassemble_in(bytes, out, &mut rises, &mut falls, &mut peaks, &mut depths);
     match answer {
-        Disassembling::Answered(a) => a,
+        Ok(a) => a,
         // No text is longer than the buffer.
-        Disassembling::Short(_) => Ok(0),
+        Err(_) => Ok(0),
     }
 }
 
-// The same in a buffer of any length, which is as it was where it has too few bytes, and in lent working memory, which may hold anything and is left cleared.
+// The same in a buffer of any length, which is as it was where it has too few bytes, and in lent working memory, which may hold anything and is left cleared. The bytes needed are such that
+// the text of every table of as many threads and actions fits: 12 for a thread and 31 for an action.
 pub fn disassemble_in(
     bytes: &[u8],
     out: &mut [u8],
@@ -208,28 +198,28 @@ pub fn disassemble_in(
     falls: &mut [u64; 1024],
     peaks: &mut [u64; 1024],
     depths: &mut [u16; 1024],
-) -> Disassembling
+) -> Result<Result<usize, Refusal>, Short>
     ensures value { result ≡ disassembling (length out.old) bytes.now }
     ensures out_after { out.new ≡ disassembling_in bytes.now out.old }
     ensures rises_after { (rises.new ≡ replicate 1024 0) × (falls.new ≡ replicate 1024 0) × (peaks.new ≡ replicate 1024 0) × (depths.new ≡ replicate 1024 0) }
 {
     let loaded = facts::load_in(bytes, rises, falls, peaks, depths);
     match loaded {
-        Err(r) => Disassembling::Answered(Err(r)),
+        Err(r) => Ok(Err(r)),
         Ok(_) => write_text(bytes, out),
     }
 }
 
 // The text of an accepted table, where the buffer has bytes enough.
-fn write_text(bytes: &[u8], out: &mut [u8]) -> Disassembling
+fn write_text(bytes: &[u8], out: &mut [u8]) -> Result<Result<usize, Refusal>, Short>
     requires { Listable bytes.now }
-    ensures value { result ≡ or_short_text (length out.old) (most_text (table_of bytes.now)) (Ok (length (text_of (table_of bytes.now)))) }
+    ensures value { result ≡ or_short (length out.old) (most_text (table_of bytes.now)) (Ok (length (text_of (table_of bytes.now)))) }
     ensures out_after { out.new ≡ kept_if_short (most_text (table_of bytes.now)) out.old (over (text_of (table_of bytes.now)) out.old) }
 {
     let n = threads(bytes);
     let most = 12 * n + 31 * actions(bytes);
     if out.len() < most {
-        return Disassembling::Short(most);
+        return Err(Short { needed: most });
     }
-    Disassembling::Answered(Ok(put_threads(out, bytes, n)))
+    Ok(Ok(put_threads(out, bytes, n)))
 }

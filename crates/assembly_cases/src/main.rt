@@ -5,8 +5,6 @@
 ghost use Rattle.std.specs.Prelude.{◌<◌};
 ghost use Rattle.io.specs.Counts.{IsPrefixLen};
 
-use assembly::Assembled;
-use inputs::Made;
 use std::io;
 use std::io::Write;
 use streams::read_full;
@@ -57,7 +55,7 @@ fn answer_table(rt: &HostRuntime, buffer: &mut [u8]) -> io::Result<()> {
     let n = read_full(&mut rt.stdin(), buffer)?;
     let mut table = [0u8; 36868];
     let answer = assembly::assemble(&buffer[..n], &mut table);
-    if let Assembled::Written(k) = answer {
+    if let Ok(k) = answer {
         facts(rt, &table[..k])?;
         return Ok(());
     }
@@ -71,7 +69,7 @@ fn answer_input(rt: &HostRuntime, buffer: &mut [u8]) -> io::Result<()> {
     let n = read_full(&mut rt.stdin(), buffer)?;
     let mut input = [0u8; 40970];
     let answer = inputs::assemble(&buffer[..n], &mut input);
-    if let Made::Written(k) = answer {
+    if let Ok(k) = answer {
         rt.stdout().write_all(&input[..k])?;
         rt.stdout().write_all(b"\n")?;
         return Ok(());

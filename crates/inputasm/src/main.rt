@@ -1,7 +1,6 @@
 // Reads a text on standard input, a few lines and a table's text, and writes the input of a program. Where there is none, nothing is written but a line on standard error that says why.
 #![tactic(auto)]
 
-use inputs::Made;
 use std::io;
 use std::io::Write;
 use streams::read_full;
@@ -12,7 +11,7 @@ fn main(rt: HostRuntime) -> io::Result<()> {
     let n = read_full(&mut rt.stdin(), &mut text)?;
     let mut input = [0u8; 40970];
     let answer = inputs::assemble(&text[..n], &mut input);
-    if let Made::Written(k) = answer {
+    if let Ok(k) = answer {
         rt.stdout().write_all(&input[..k])?;
         return Ok(());
     }

@@ -16,13 +16,12 @@ use Rattle.assembly.specs.Words.{is_digit, zero_led, same, lines_of, words_of}
 use Rattle.text.specs.Text.{ascii}
 use Rattle.assembly.specs.Said.{saids}
 use Rattle.assembly.specs.Assembly.{table_bytes, over, assembled, assembled_in}
-use Rattle.assembly.specs.declared.Assembled.TheVariants.{Written}
 use Rattle.inputs.specs.Number.{next_value, value_from, number_in, figure_by, figure_of}
 use Rattle.assembly.specs.Unseen.{after_lines}
 use Rattle.inputs.specs.Front.{Front, nothing, workers, quota, between, turns, rounds, board, Step, goes, stops, ends, Order, listed, broken, max_order, most8, most24, most32, most64, added_by, added, onward_order, order_from, given_to, ordered_to, step_with, step_of, Fronted, whole, fault, at_end, onward, front_from, front_of}
 use Rattle.inputs.specs.Input.{front_texts, input_bytes, made, made_in}
 use Rattle.inputs.specs.declared.Wanted.TheVariants.{FewerWorkers}
-use Rattle.inputs.specs.declared.Made.TheVariants.{Written as Filled}
+use Rattle.std.specs.Prelude.{Ok}
 use Rattle.inputs.proofs.Tables.{table_written}
 use Rattle.inputs.proofs.Within.{makes, made_over}
 
@@ -184,7 +183,7 @@ pub record BoardBack (i : List ℕ) (p b M : ℕ) (t : List ℕ) : Type 0 where
 -- a text of a table, and the bytes that are put for it
 pub record TableBack (s : List ℕ) : Type 0 where
   pub size : ℕ
-  pub written : assembled s ≡ Written size
+  pub written : assembled s ≡ Ok size
   pub bytes : (out : List ℕ) → take size (assembled_in s out) ≡ table_bytes (saids s)
 
 -- a number by its bytes, a pair of bytes at a time
@@ -244,7 +243,7 @@ module _ (t : List ℕ) where
 
 -- ---- the theorems: a text with an input of k bytes, which stands in a lent buffer
 
-module _ (s out : List ℕ) (k : ℕ) (q : made s ≡ Filled k) where
+module _ (s out : List ℕ) (k : ℕ) (q : made s ≡ Ok k) where
   -- the input as it stands there
   abbrev input : List ℕ
   input = take k (made_in s out)
@@ -272,5 +271,5 @@ module _ (s out : List ℕ) (k : ℕ) (q : made s ≡ Filled k) where
   table_back f n e =
       let m = makes s k q in
       let b : m.lines ≡ n = cc in
-      let w : assembled (after_lines n s) ≡ Written m.size = rw (← b) m.tabled in
+      let w : assembled (after_lines n s) ≡ Ok m.size = rw (← b) m.tabled in
       record { size = m.size; written = w; bytes = λ o. table_written (after_lines n s) o (assembled_in (after_lines n s) o) m.size w refl }

@@ -10,7 +10,7 @@ use Rattle.text.specs.Puts.{Puts}
 use Rattle.text.proofs.Putting.{flatten_append, puts_whole}
 use Rattle.assembly.specs.Said.{saids}
 use Rattle.assembly.specs.Assembly.{table_bytes, over, longest_text, assembled, assembled_in}
-use Rattle.assembly.specs.declared.Assembled.TheVariants.{Written}
+use Rattle.std.specs.Prelude.{Ok}
 use Rattle.assembly.proofs.Counts.{totals}
 use Rattle.assembly.proofs.TableRows.{table_length, in_range}
 use Rattle.assembly.proofs.SameWords.{assembles}
@@ -18,7 +18,7 @@ use Rattle.inputs.specs.Front.{Front}
 use Rattle.inputs.specs.Input.{front_texts, input_bytes}
 
 -- the table that was written
-pub table_written : (s out o : List ℕ) (k : ℕ) → assembled s ≡ Written k → o ≡ assembled_in s out → take k o ≡ table_bytes (saids s)
+pub table_written : (s out o : List ℕ) (k : ℕ) → assembled s ≡ Ok k → o ≡ assembled_in s out → take k o ≡ table_bytes (saids s)
 unfolding assembled_in
 table_written s out o k q e =
     let a = assembles s k q in
@@ -26,7 +26,7 @@ table_written s out o k q e =
     rw w (take_at (table_bytes (saids s)) (drop (length (table_bytes (saids s))) out) k (sym a.long))
 
 -- no table is longer than 1,024 threads and 8,192 actions make it
-pub table_small : (s : List ℕ) (k : ℕ) → assembled s ≡ Written k → k ≤ 36868
+pub table_small : (s : List ℕ) (k : ℕ) → assembled s ≡ Ok k → k ≤ 36868
 table_small s k q =
     let a = assembles s k q in
     let c = totals (saids s) 1 0 0 a.threads a.actions a.well_formed in

@@ -1,15 +1,15 @@
 -- The input of a text: the front's numbers as bytes, and the table that the rest of the text assembles to.
-use Rattle.std.specs.Prelude.{ℕ, ◌+◌, ◌/◌, ◌%◌, eqb, ltb, length, take}
+use Rattle.std.specs.Prelude.{ℕ, ◌+◌, ◌/◌, ◌%◌, eqb, ltb, length, take, Err, Ok, Result}
 use mathlib.Core.List.{List, [], ◌∷◌, ◌++◌, flatten}
 use Rattle.table.specs.Sum.{pick}
 use Rattle.assembly.specs.Said.{saids}
 use Rattle.assembly.specs.Assembly.{table_bytes, over, longest_text, assembled}
-use Rattle.assembly.specs.declared.Assembled.{Assembled}
-use Rattle.assembly.specs.declared.Assembled.TheVariants.{Written, TooLong, Malformed, Refused}
+use Rattle.assembly.specs.declared.AssemblyError.{AssemblyError}
+use Rattle.assembly.specs.declared.AssemblyError.TheVariants.{TooLong, Malformed, Refused}
 use Rattle.assembly.specs.Unseen.{after_lines}
 use Rattle.inputs.specs.Front.{Front, nothing, workers, quota, between, turns, rounds, board, Fronted, whole, fault, front_of}
-use Rattle.inputs.specs.declared.Made.{Made}
-use Rattle.inputs.specs.declared.Made.TheVariants.{Written as Filled, Malformed as WrongFront, NoTable}
+use Rattle.inputs.specs.declared.InputError.{InputError}
+use Rattle.inputs.specs.declared.InputError.TheVariants.{Malformed as WrongFront, NoTable}
 
 -- ---- the bytes
 
@@ -44,25 +44,23 @@ abbrev pub later : ℕ → ℕ → ℕ
 later k line = pick (eqb line 0) 0 (k + line)
 
 -- with what is answered to the table's text
-abbrev pub with_table : Front → ℕ → List ℕ → Assembled → Made
-with_table f k s (Written n) = Filled (length (input_bytes f s))
-with_table f k s TooLong = NoTable TooLong
-with_table f k s (Malformed line e) = NoTable (Malformed (later k line) e)
-with_table f k s (Refused r line) = NoTable (Refused r (later k line))
+abbrev pub with_table : Front → ℕ → List ℕ → Result ℕ AssemblyError → Result ℕ InputError
+with_table f k s (Ok n) = Ok (length (input_bytes f s))
+with_table f k s (Err TooLong) = Err (NoTable TooLong)
+with_table f k s (Err (Malformed line e)) = Err (NoTable (Malformed (later k line) e))
+with_table f k s (Err (Refused r line)) = Err (NoTable (Refused r (later k line)))
 
-abbrev pub made_by : Fronted → List ℕ → Made
-made_by (fault line e) s = WrongFront line e
+abbrev pub made_by : Fronted → List ℕ → Result ℕ InputError
+made_by (fault line e) s = Err (WrongFront line e)
 made_by (whole f k) s = with_table f k (after_lines k s) (assembled (after_lines k s))
 
-unfoldable pub made : List ℕ → Made
-made s = pick (ltb longest_text (length s)) (NoTable TooLong) (made_by (front_of s) s)
+unfoldable pub made : List ℕ → Result ℕ InputError
+made s = pick (ltb longest_text (length s)) (Err (NoTable TooLong)) (made_by (front_of s) s)
 
 -- the lent buffer afterwards: the input at its start, and as it was where there is none
-abbrev pub filled_with : Assembled → Front → List ℕ → List ℕ → List ℕ
-filled_with (Written n) f s out = over (input_bytes f s) out
-filled_with TooLong f s out = out
-filled_with (Malformed line e) f s out = out
-filled_with (Refused r line) f s out = out
+abbrev pub filled_with : Result ℕ AssemblyError → Front → List ℕ → List ℕ → List ℕ
+filled_with (Ok n) f s out = over (input_bytes f s) out
+filled_with (Err e) f s out = out
 
 abbrev pub filled_by : Fronted → List ℕ → List ℕ → List ℕ
 filled_by (fault line e) s out = out

@@ -7,7 +7,7 @@ ghost use Rattle.assembly.specs.Unseen.{unseen_at};
 ghost use Rattle.assembly.specs.Message.{reason_texts, fault_texts};
 ghost use Rattle.inputs.specs.Message.{wanted_texts, said};
 
-use crate::{Made, Wanted};
+use crate::{InputError, Wanted};
 use assembly::put_unseen;
 use assembly::unseen::{Unseen, unseen_at};
 use text::{put_labelled, put_word};
@@ -60,14 +60,16 @@ fn put_malformed(text: &[u8], out: &mut [u8], line: usize, e: Wanted) -> usize
 }
 
 // The line that is said of a text with this answer, and its length; none where there is an input.
-pub fn message(text: &[u8], answer: Made, out: &mut [u8; 96]) -> usize
+pub fn message(text: &[u8], answer: Result<usize, InputError>, out: &mut [u8; 96]) -> usize
     ensures value { result ≡ length (said text.now answer) }
     ensures out_after { out.new ≡ said text.now answer ++ drop result out.old }
     ensures prefix_len { IsPrefixLen result out.new }
 {
     match answer {
-        Made::Written(_) => 0,
-        Made::Malformed(line, e) => put_malformed(text, out, line, e),
-        Made::NoTable(a) => assembly::message(text, a, out),
+        Ok(_) => 0,
+        Err(error) => match error {
+            InputError::Malformed(line, e) => put_malformed(text, out, line, e),
+            InputError::NoTable(e) => assembly::message(text, Err(e), out),
+        },
     }
 }

@@ -23,83 +23,64 @@ pub(crate) enum Front {
     Board(u64, u64, u64),
 }
 
-// A line is taken, is not as it should be, or belongs to the table.
+// A line is taken, or belongs to the table.
 #[derive(Drop)]
 pub(crate) enum Step {
     Goes(Front),
-    Stops(Wanted),
     Ends(Front),
 }
 
 // The line of p.
-fn workers_line(rest: &[u8]) -> Step
+fn workers_line(rest: &[u8]) -> Result<Step, Wanted>
     ensures { Plainly result (given_to workers (figure_of most8 (words_in rest.now))) }
 {
-    let given = read_figure(rest, 255);
-    match given {
-        Ok(p) => Step::Goes(Front::Workers(p)),
-        Err(e) => Step::Stops(e),
-    }
+    let p = read_figure(rest, 255)?;
+    Ok(Step::Goes(Front::Workers(p)))
 }
 
 // Of K.
-fn quota_line(p: u64, rest: &[u8]) -> Step
+fn quota_line(p: u64, rest: &[u8]) -> Result<Step, Wanted>
     ensures { Plainly result (given_to (quota p) (figure_of most24 (words_in rest.now))) }
 {
-    let given = read_figure(rest, 16777215);
-    match given {
-        Ok(k) => Step::Goes(Front::Quota(p, k)),
-        Err(e) => Step::Stops(e),
-    }
+    let k = read_figure(rest, 16777215)?;
+    Ok(Step::Goes(Front::Quota(p, k)))
 }
 
 // Of b.
-fn between_line(p: u64, rest: &[u8]) -> Step
+fn between_line(p: u64, rest: &[u8]) -> Result<Step, Wanted>
     ensures { Plainly result (given_to (between p) (figure_of most32 (words_in rest.now))) }
 {
-    let given = read_figure(rest, 4294967295);
-    match given {
-        Ok(b) => Step::Goes(Front::Between(p, b)),
-        Err(e) => Step::Stops(e),
-    }
+    let b = read_figure(rest, 4294967295)?;
+    Ok(Step::Goes(Front::Between(p, b)))
 }
 
 // Of L.
-fn limit_line(p: u64, k: u64, rest: &[u8]) -> Step
+fn limit_line(p: u64, k: u64, rest: &[u8]) -> Result<Step, Wanted>
     ensures { Plainly result (given_to (rounds p k) (figure_of most32 (words_in rest.now))) }
 {
-    let given = read_figure(rest, 4294967295);
-    match given {
-        Ok(l) => Step::Goes(Front::Rounds(p, k, l)),
-        Err(e) => Step::Stops(e),
-    }
+    let l = read_figure(rest, 4294967295)?;
+    Ok(Step::Goes(Front::Rounds(p, k, l)))
 }
 
 // Of M.
-fn memory_line(p: u64, b: u64, rest: &[u8]) -> Step
+fn memory_line(p: u64, b: u64, rest: &[u8]) -> Result<Step, Wanted>
     ensures { Plainly result (given_to (board p b) (figure_of most64 (words_in rest.now))) }
 {
-    let given = read_figure(rest, 18446744073709551615);
-    match given {
-        Ok(m) => Step::Goes(Front::Board(p, b, m)),
-        Err(e) => Step::Stops(e),
-    }
+    let m = read_figure(rest, 18446744073709551615)?;
+    Ok(Step::Goes(Front::Board(p, b, m)))
 }
 
 // Of an order, which has n workers already.
-fn turns_line(p: u64, k: u64, n: usize, rest: &[u8], order: &mut [u8]) -> Step
+fn turns_line(p: u64, k: u64, n: usize, rest: &[u8], order: &mut [u8]) -> Result<Step, Wanted>
     requires { Room order.old n }
     ensures { Stepping result order.new (ordered_to p k (order_from (take n order.old) (words_in rest.now))) }
 {
-    let ordered = order_line(rest, order, n);
-    match ordered {
-        Ok(j) => Step::Goes(Front::Turns(p, k, j)),
-        Err(e) => Step::Stops(e),
-    }
+    let j = order_line(rest, order, n)?;
+    Ok(Step::Goes(Front::Turns(p, k, j)))
 }
 
 // After the line of p: K, or b.
-fn after_workers(p: u64, w: &[u8], rest: &[u8]) -> Step
+fn after_workers(p: u64, w: &[u8], rest: &[u8]) -> Result<Step, Wanted>
     ensures { Plainly result (step_with (workers p) w.now (words_in rest.now)) }
 {
     if same(w, b"quota") {
@@ -108,11 +89,11 @@ fn after_workers(p: u64, w: &[u8], rest: &[u8]) -> Step
     if same(w, b"between") {
         return between_line(p, rest);
     }
-    Step::Stops(Wanted::QuotaOrBetween)
+    Err(Wanted::QuotaOrBetween)
 }
 
 // After the line of K: an order, or L.
-fn after_quota(p: u64, k: u64, w: &[u8], rest: &[u8], order: &mut [u8]) -> Step
+fn after_quota(p: u64, k: u64, w: &[u8], rest: &[u8], order: &mut [u8]) -> Result<Step, Wanted>
     requires { Room order.old 0 }
     ensures { Stepping result order.new (step_with (quota p k) w.now (words_in rest.now)) }
 {
@@ -122,11 +103,11 @@ fn after_quota(p: u64, k: u64, w: &[u8], rest: &[u8], order: &mut [u8]) -> Step
     if same(w, b"limit") {
         return limit_line(p, k, rest);
     }
-    Step::Stops(Wanted::OrderOrLimit)
+    Err(Wanted::OrderOrLimit)
 }
 
 // A line's first word, and what stands after it.
-fn after(front: Front, w: &[u8], rest: &[u8], order: &mut [u8]) -> Step
+fn after(front: Front, w: &[u8], rest: &[u8], order: &mut [u8]) -> Result<Step, Wanted>
     requires { Room order.old (held_by front) }
     ensures { Stepping result order.new (step_with (front_is front order.old) w.now (words_in rest.now)) }
 {
@@ -135,7 +116,7 @@ fn after(front: Front, w: &[u8], rest: &[u8], order: &mut [u8]) -> Step
             if same(w, b"workers") {
                 return workers_line(rest);
             }
-            Step::Stops(Wanted::Workers)
+            Err(Wanted::Workers)
         }
         Front::Workers(p) => after_workers(p, w, rest),
         Front::Quota(p, k) => after_quota(p, k, w, rest, order),
@@ -143,21 +124,21 @@ fn after(front: Front, w: &[u8], rest: &[u8], order: &mut [u8]) -> Step
             if same(w, b"memory") {
                 return memory_line(p, b, rest);
             }
-            Step::Stops(Wanted::Memory)
+            Err(Wanted::Memory)
         }
         Front::Turns(p, k, n) => {
             if same(w, b"order") {
                 return turns_line(p, k, n, rest, order);
             }
-            Step::Ends(front)
+            Ok(Step::Ends(front))
         }
-        Front::Rounds(_, _, _) => Step::Ends(front),
-        Front::Board(_, _, _) => Step::Ends(front),
+        Front::Rounds(_, _, _) => Ok(Step::Ends(front)),
+        Front::Board(_, _, _) => Ok(Step::Ends(front)),
     }
 }
 
 // A line without its newline; one without words changes nothing.
-pub(crate) fn take_line(front: Front, line: &[u8], order: &mut [u8]) -> Step
+pub(crate) fn take_line(front: Front, line: &[u8], order: &mut [u8]) -> Result<Step, Wanted>
     requires { Room order.old (held_by front) }
     ensures { Stepping result order.new (step_of (front_is front order.old) (words_of line.now)) }
 {
@@ -167,7 +148,7 @@ pub(crate) fn take_line(front: Front, line: &[u8], order: &mut [u8]) -> Step
     let start = word.start;
     let end = word.end;
     if start == end {
-        return Step::Goes(front);
+        return Ok(Step::Goes(front));
     }
     after(front, &s[start..end], &s[end..], order)
 }

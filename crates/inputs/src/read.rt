@@ -59,23 +59,25 @@ pub(crate) fn read_front(text: &[u8], order: &mut [u8]) -> Read
         let end = line_end(text, at);
         let step = take_line(front, &text[at..end], order);
         match step {
-            Step::Stops(e) => {
+            Err(e) => {
                 return Read {
                     end: Err(e),
                     lines,
                     at,
                 };
             }
-            Step::Ends(f) => {
-                return Read {
-                    end: Ok(f),
-                    lines,
-                    at,
-                };
-            }
-            Step::Goes(f) => {
-                front = f;
-            }
+            Ok(step) => match step {
+                Step::Ends(f) => {
+                    return Read {
+                        end: Ok(f),
+                        lines,
+                        at,
+                    };
+                }
+                Step::Goes(f) => {
+                    front = f;
+                }
+            },
         }
         lines += 1;
         at = next_line(text, end);

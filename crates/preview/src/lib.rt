@@ -80,15 +80,13 @@ pub fn preview(run: Run, w: u8) -> Previewed
     ensures value { result ≡ preview_of run w }
     ensures result_value { shown_values result ≡ preview_values run w }
 {
-    let tested = test(run);
-    if !tested.passed {
+    let Some(parents) = test(run) else {
         return Previewed::Refused(refused(32));
-    }
+    };
     // the blank record
     if run.workers == 0 {
         return Previewed::Refused(refused(30));
     }
-    let parents = tested.parents;
     let foreseen = foresee(run, &parents, w);
     let Foreseen::Would {
         reply,

@@ -10,19 +10,18 @@ use lib.ListN.{length, take, drop, replicate, length-append}
 use lib.Seq.{take-append_seam}
 use borrow.Author.Tests.{le-ltb, le-leb, lt-leb}
 use Rattle.table.specs.Sum.{pick, any_below}
-use Rattle.table.specs.Format.{Table, threads_of, actions_of, table_of}
+use Rattle.table.specs.Format.{threads_of, actions_of, table_of}
 use Rattle.table.specs.Pass.{refusal, or_else, try_at, try_from, try_pass, first_found}
 use Rattle.table.specs.Checks.{outside, passes}
 use Rattle.table.specs.Rules.{Rules}
 use Rattle.table.specs.declared.Refusal.{Refusal}
 use Rattle.table.proofs.Passes.{first_found_append}
 use Rattle.table.proofs.Sizes.{Sizes, sizes}
-use Rattle.order.specs.Words.{is_nothing}
 use Rattle.filling.specs.declared.Filling.{Filling}
 use Rattle.filling.specs.Filled.{big, filled_out, fill_pass}
 use Rattle.filling.specs.Filling.{quota_pass, fill_found, filling_of, filled_into}
 use Rattle.filling.proofs.Runs.{Runs}
-use Rattle.schedule.specs.Begin.{setting_passes, begin_passes}
+use Rattle.schedule.specs.Begin.{begin_passes}
 use Rattle.schedule.proofs.Stores.{Fits}
 use Rattle.schedule.proofs.Beginnings.{silent_runs}
 use Rattle.soundness.specs.Tested.{parents_if, next_if, begin_found, begin_filling, begins, begun_into}

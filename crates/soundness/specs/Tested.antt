@@ -1,5 +1,5 @@
 -- What the tests of a record answer: whether it passes, and each thread's parent, which the turns after it look up.
-use Rattle.std.specs.Prelude.{ℕ, ◌-◌, ◌^◌, List, ◌++◌, Bool, not, ◌&&◌, length, get_or, replicate, ltb, leb, eqb, Result, ⊤}
+use Rattle.std.specs.Prelude.{ℕ, ◌-◌, ◌^◌, List, ◌++◌, Bool, ◌&&◌, length, get_or, replicate, ltb, leb, eqb, Option, None, Some, Result, ⊤}
 use Rattle.table.specs.declared.Refusal.{Refusal}
 use Rattle.table.specs.Sum.{pick, any_below}
 use Rattle.table.specs.Format.{Table, table_of}
@@ -18,7 +18,6 @@ use Rattle.schedule.specs.Begin.{begin_passes}
 use Rattle.order.specs.Firsts.{firsts}
 use Rattle.schedule.specs.Sound.{common_sound, listed, same_links, sound}
 use Rattle.schedule.specs.Turn.{is_nobody, unsound}
-use Rattle.soundness.specs.declared.Tested.{Tested}
 
 -- the parents of a table's threads, 0 from n on
 unfoldable pub parents_in : Table → List ℕ
@@ -52,9 +51,9 @@ begins s p K room = is_nothing (begin_found s p K) && leb (begin_filling s p K).
 abbrev pub begun_into : List ℕ → ℕ → ℕ → List ℕ → List ℕ
 begun_into s p K out = pick (is_nothing (begin_found s p K)) (filled_into s K out) out
 
--- of a record: 32, "record not sound and not blank"; the parents where it is sound
-unfoldable pub tested : Run → Tested
-tested r = record { passed = not (unsound r); parents = parents_if (sound r) (table_in r) }
+-- of a record: nothing where 32 applies, "record not sound and not blank"; else the parents, those of the blank record 0
+unfoldable pub tested : Run → Option (List ℕ)
+tested r = pick (unsound r) None (Some (parents_if (sound r) (table_in r)))
 
 -- what a sound record says of its parts, over the table's bytes: all clauses but those on the copy of the table in the record (`sound_is`, proofs/OnParts)
 unfoldable pub sound_on : List ℕ → ℕ → ℕ → List ℕ → List ℕ → List ℕ → Links → List Worker → ℕ → ℕ → ℕ → ℕ → Bool

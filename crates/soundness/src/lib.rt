@@ -30,13 +30,6 @@ pub use common::test_common;
 pub use sound::{copy_sound, test_in};
 pub use unused::bytes_rest;
 
-// Whether a test passed, and each thread's parent, which the turns after it look up.
-#[derive(Drop)]
-pub struct Tested {
-    pub passed: bool,
-    pub parents: [u16; 1024],
-}
-
 // The checks of a table and of a beginning with it. Where none applies, the filled-out table in `filled` if something is above the quota, and the next actions that the run begins with and
 // each thread's parent, of the table that runs; else, and where the room is too little, nothing is written there and these are zeros.
 pub fn accept(
@@ -96,16 +89,12 @@ pub fn accept_in(
     filling
 }
 
-// 32 does not apply: the record is sound, or blank.
-pub fn test(run: Run) -> Tested
+// Where 32 does not apply, the record being sound or blank, each thread's parent, which the turns after it look up.
+pub fn test(run: Run) -> Option<[u16; 1024]>
     ensures { result ≡ tested run }
 {
-    let found = sound(run);
-    if found.passed {
-        return found;
+    if let Some(parents) = sound(run) {
+        return Some(parents);
     }
-    Tested {
-        passed: is_blank(run),
-        parents: [0; 1024],
-    }
+    if is_blank(run) { Some([0; 1024]) } else { None }
 }

@@ -1,10 +1,11 @@
 // Job tables: what each byte says, as document 01 has it. The checks that accept a table or refuse it are a crate of their own, `checks`.
 #![tactic(auto)]
 
+pub mod front;
 pub mod kinds;
 pub mod read;
 
-ghost use Rattle.std.specs.Prelude.{◌≡◌, ◌<◌, max, min};
+ghost use Rattle.std.specs.Prelude.{◌≡◌, max, min};
 ghost use Rattle.table.specs.Checks.{outside as is_outside};
 ghost use Rattle.table.specs.Pass.{refusal};
 
@@ -26,14 +27,10 @@ pub struct Refusal {
 }
 
 impl Refusal {
-    pub fn new(number: u8, place: usize) -> Refusal
-        requires { place < 65536 }
+    pub fn new(number: u8, place: u16) -> Refusal
         ensures { result ≡ refusal number place }
     {
-        Refusal {
-            number,
-            place: place as u16,
-        }
+        Refusal { number, place }
     }
 }
 

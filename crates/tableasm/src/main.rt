@@ -1,7 +1,6 @@
 // Reads the text of a table on standard input and writes the table. Where there is none, nothing is written but a line on standard error that says why.
 #![tactic(auto)]
 
-use assembly::Assembled;
 use std::io;
 use std::io::Write;
 use streams::read_full;
@@ -12,7 +11,7 @@ fn main(rt: HostRuntime) -> io::Result<()> {
     let n = read_full(&mut rt.stdin(), &mut text)?;
     let mut table = [0u8; 36868];
     let answer = assembly::assemble(&text[..n], &mut table);
-    if let Assembled::Written(k) = answer {
+    if let Ok(k) = answer {
         rt.stdout().write_all(&table[..k])?;
         return Ok(());
     }

@@ -8,22 +8,23 @@ use lib.ListN.{length}
 use Rattle.assembly.specs.Said.{saids}
 use Rattle.assembly.specs.Assembly.{checked, longest_text, answered, written_in, assembled, assembled_in, bytes_by, bytes_needed, or_short, kept_if_short, assembling, assembling_in}
 use Rattle.assembly.specs.declared.Expected.{Expected}
-use Rattle.assembly.specs.declared.Assembled.TheVariants.{TooLong, Malformed}
-use Rattle.assembly.specs.declared.Assembling.{Assembling}
-use Rattle.assembly.specs.declared.Assembling.TheVariants.{Answered}
 use Rattle.assembly.specs.declared.check.Checked.{Checked}
 use Rattle.assembly.specs.declared.check.Checked.TheVariants.{Fault}
 use Rattle.assembly.proofs.Rooms.{fits, put_in_lem}
 use Rattle.assembly.proofs.assemble_on.Goals as goal
+use Rattle.assembly.specs.declared.AssemblyError.{AssemblyError}
+use Rattle.assembly.specs.declared.AssemblyError.TheVariants.{TooLong, Malformed}
+use Rattle.assembly.specs.declared.Short.{Short}
+use Rattle.std.specs.Prelude.{Err, Ok, Result}
 
 module _ (s out : List ℕ) where
-  long : longest_text < length s → (Answered TooLong ≡ assembling (length out) s) × (out ≡ assembling_in s out)
+  long : longest_text < length s → (Ok (Err TooLong) ≡ assembling (length out) s) × (out ≡ assembling_in s out)
   unfolding assembling assembling_in bytes_needed assembled assembled_in
   long h =
       let t = lt-ltb longest_text (length s) h in
       (rw t (fits (length out) 0 (omega arith) refl), rw t (put_in_lem 0 out (omega arith) refl))
 
-  short : {x : Assembling} {o : List ℕ} {y : Checked} → length s ≤ longest_text → y ≡ checked (saids s)
+  short : {x : Result (Result ℕ AssemblyError) Short} {o : List ℕ} {y : Checked} → length s ≤ longest_text → y ≡ checked (saids s)
       → x ≡ or_short (length out) (bytes_by y) (answered y (saids s)) → o ≡ kept_if_short (bytes_by y) out (written_in y (saids s) out)
       → (x ≡ assembling (length out) s) × (o ≡ assembling_in s out)
   unfolding assembling assembling_in bytes_needed assembled assembled_in
@@ -33,7 +34,7 @@ module _ (s out : List ℕ) where
   )
 
   fault : {line : ℕ} {e : Expected} → length s ≤ longest_text → Fault line e ≡ checked (saids s)
-      → (Answered (Malformed line e) ≡ assembling (length out) s) × (out ≡ assembling_in s out)
+      → (Ok (Err (Malformed line e)) ≡ assembling (length out) s) × (out ≡ assembling_in s out)
   fault h q = short h q (fits (length out) 0 (omega arith) refl) (put_in_lem 0 out (omega arith) refl)
 
 pub returns-then-text-gt-LONGEST : goal.returns-then-text-gt-LONGEST

@@ -9,25 +9,25 @@ use lib.ListN.{length}
 use Rattle.table.specs.Format.{table_of}
 use Rattle.table.specs.Load.{loaded}
 use Rattle.table.specs.declared.Refusal.{Refusal}
-use Rattle.assembly.specs.Assembly.{kept_if_short}
-use Rattle.assembly.specs.Disassembly.{listed_as, listed_in, disassembled, disassembled_in, most_of, or_short_text, disassembling, disassembling_in}
-use Rattle.assembly.specs.declared.Disassembling.{Disassembling}
-use Rattle.assembly.specs.declared.Disassembling.TheVariants.{Answered}
+use Rattle.assembly.specs.Assembly.{or_short, kept_if_short}
+use Rattle.assembly.specs.Disassembly.{listed_as, listed_in, disassembled, disassembled_in, most_of, disassembling, disassembling_in}
 use Rattle.assembly.proofs.Accepted.{shape}
-use Rattle.assembly.proofs.Rooms.{fits_text, put_in_lem}
+use Rattle.assembly.proofs.Rooms.{fits, put_in_lem}
 use Rattle.assembly.proofs.disassemble_in.Goals as goal
+use Rattle.assembly.specs.declared.Short.{Short}
+use Rattle.std.specs.Prelude.{Ok}
 
 module _ (s out : List ℕ) where
-  answers : {x : Disassembling} {o : List ℕ} {y : Result Facts Refusal} → y ≡ loaded s → x ≡ or_short_text (length out) (most_of y (table_of s)) (listed_as y (table_of s))
+  answers : {x : Result (Result ℕ Refusal) Short} {o : List ℕ} {y : Result Facts Refusal} → y ≡ loaded s → x ≡ or_short (length out) (most_of y (table_of s)) (listed_as y (table_of s))
       → o ≡ kept_if_short (most_of y (table_of s)) out (listed_in y (table_of s) out) → (x ≡ disassembling (length out) s) × (o ≡ disassembling_in s out)
   unfolding disassembling disassembling_in disassembled disassembled_in
   answers e a w = (
-    a ∙ ap (λ (z : Result Facts Refusal). or_short_text (length out) (most_of z (table_of s)) (listed_as z (table_of s))) e,
+    a ∙ ap (λ (z : Result Facts Refusal). or_short (length out) (most_of z (table_of s)) (listed_as z (table_of s))) e,
     w ∙ ap (λ (z : Result Facts Refusal). kept_if_short (most_of z (table_of s)) out (listed_in z (table_of s) out)) e,
   )
 
-  refused : {r : Refusal} → Err r ≡ loaded s → (Answered (Err r) ≡ disassembling (length out) s) × (out ≡ disassembling_in s out)
-  refused e = answers e (fits_text (length out) 0 (omega arith) refl) (put_in_lem 0 out (omega arith) refl)
+  refused : {r : Refusal} → Err r ≡ loaded s → (Ok (Err r) ≡ disassembling (length out) s) × (out ≡ disassembling_in s out)
+  refused e = answers e (fits (length out) 0 (omega arith) refl) (put_in_lem 0 out (omega arith) refl)
 
 pub write_text-requires : goal.write_text-requires
 write_text-requires c =

@@ -14,30 +14,30 @@ use Rattle.table.specs.declared.Refusal.{Refusal}
 use Rattle.text.specs.Text.{buffer_at}
 use Rattle.text.specs.Puts.{put_all}
 use Rattle.assembly.specs.Said.{saids}
-use Rattle.assembly.specs.Assembly.{table_rows, table_bytes, over, sizes_outside, refused_at, judged, answered, written_in, bytes_by, or_short, kept_if_short}
+use Rattle.assembly.specs.Assembly.{needing, table_rows, table_bytes, over, sizes_outside, refused_at, judged, answered, written_in, bytes_by, or_short, kept_if_short}
 use Rattle.assembly.specs.Code.Steps.{Sized}
-use Rattle.assembly.specs.declared.Assembled.{Assembled}
-use Rattle.assembly.specs.declared.Assembled.TheVariants.{Written, Refused as Rejected}
-use Rattle.assembly.specs.declared.Assembling.{Assembling}
-use Rattle.assembly.specs.declared.Assembling.TheVariants.{Answered, Short}
 use Rattle.assembly.specs.declared.Said.{Said}
 use Rattle.assembly.specs.declared.check.Checked.TheVariants.{WellFormed}
 use Rattle.assembly.proofs.Counts.{totals}
 use Rattle.assembly.proofs.TableRows.{in_range, table_put}
 use Rattle.assembly.proofs.Rooms.{fits, lacks, put_in_lem, kept}
 use Rattle.assembly.proofs.write_table.Goals as goal
+use Rattle.assembly.specs.declared.AssemblyError.{AssemblyError}
+use Rattle.assembly.specs.declared.AssemblyError.TheVariants.{Refused}
+use Rattle.assembly.specs.declared.Short.{Short}
+use Rattle.std.specs.Prelude.{Ok}
 
-rejected : (l : List Said) {y : Result Facts Refusal} {r : Refusal} {j : ℕ} → y ≡ Err r → j ≡ refused_at r l → Rejected r j ≡ judged y l
-rejected l {r = r} e q = rw e (ap (λ (i : ℕ). Rejected r i) q)
+rejected : (l : List Said) {y : Result Facts Refusal} {r : Refusal} {j : ℕ} → y ≡ Err r → j ≡ refused_at r l → Err (Refused r j) ≡ judged y l
+rejected l {r = r} e q = rw e (ap (λ (i : ℕ). Err (Refused r i)) q)
 
 -- an answer and a buffer are those of a well-formed text of n threads and m actions
-abbrev Answers : List Said → ℕ → ℕ → List ℕ → Assembling → List ℕ → Type 0
+abbrev Answers : List Said → ℕ → ℕ → List ℕ → Result (Result ℕ AssemblyError) Short → List ℕ → Type 0
 Answers l n m s x o =
     (x ≡ or_short (length s) (bytes_by (WellFormed n m)) (answered (WellFormed n m) l)) × (o ≡ kept_if_short (bytes_by (WellFormed n m)) s (written_in (WellFormed n m) l s))
 
 module _ (l : List Said) (n m : ℕ) (s : List ℕ) where
   -- check 2
-  outside : sizes_outside n m ≡ true → Answers l n m s (Answered (Rejected (refusal 2 0) 0)) s
+  outside : sizes_outside n m ≡ true → Answers l n m s (Ok (Err (Refused (refusal 2 0) 0))) s
   outside e =
       let none : bytes_by (WellFormed n m) ≤ length s = rw e (omega arith) in
       (fits (length s) (bytes_by (WellFormed n m)) none (rw e), put_in_lem (bytes_by (WellFormed n m)) s none (rw e))
@@ -46,7 +46,7 @@ module _ (l : List Said) (n m : ℕ) (s : List ℕ) where
     bytes_are : 4 + 4 * n + 4 * m ≡ bytes_by (WellFormed n m)
     bytes_are = rw inside
 
-    short : length s < 4 + 4 * n + 4 * m → Answers l n m s (Short (4 + 4 * n + 4 * m)) s
+    short : length s < 4 + 4 * n + 4 * m → Answers l n m s (Err (needing (4 + 4 * n + 4 * m))) s
     short h =
         let more : length s < bytes_by (WellFormed n m) = rw inside h in
         (lacks (length s) (bytes_by (WellFormed n m)) (answered (WellFormed n m) l) more bytes_are, kept (bytes_by (WellFormed n m)) s (written_in (WellFormed n m) l s) more)
@@ -70,7 +70,7 @@ module _ (text : List ℕ) (n m : ℕ) (s : List ℕ) (z : Sized text n m) (room
     within : k ≤ length o
     within = omega (arith, placed.0, ap length placed.1, length-append (table_bytes lines) (drop (length (table_bytes lines)) s))
 
-    answers : {x : Assembled} {y : Result Facts Refusal} → y ≡ loaded (take k o) → x ≡ judged y lines → Answers lines n m s (Answered x) o
+    answers : {x : Result ℕ AssemblyError} {y : Result Facts Refusal} → y ≡ loaded (take k o) → x ≡ judged y lines → Answers lines n m s (Ok x) o
     answers e d = (
       fits (length s) (bytes_by (WellFormed n m)) enough (rw inside (d ∙ ap (λ (w : Result Facts Refusal). judged w lines) (e ∙ ap loaded bytes))),
       put_in_lem (bytes_by (WellFormed n m)) s enough (rw inside placed.1),
@@ -108,8 +108,8 @@ refused_at-requires c = c.requires.short
 
 pub returns-in-Ok : goal.returns-in-Ok
 returns-in-Ok c = let both = answers _ _ _ _ c.requires c.if-out-size.false (sym c.sizes_outside.ensures ∙ c.if-sizes_outside.false) _ _ c.put_table-k.ensures c.load_in-loaded.ensures.value
-    (rw c.in-Ok.is (ap Written (placed _ _ _ _ c.requires c.if-out-size.false (sym c.sizes_outside.ensures ∙ c.if-sizes_outside.false) _ _ c.put_table-k.ensures).0)) in record { value = both.0; out_after = both.1 }
+    (rw c.in-Ok.is (ap Ok (placed _ _ _ _ c.requires c.if-out-size.false (sym c.sizes_outside.ensures ∙ c.if-sizes_outside.false) _ _ c.put_table-k.ensures).0)) in record { value = both.0; out_after = both.1 }
 
-pub returns-in-Err : goal.returns-in-Refused
+pub returns-in-Err : goal.returns-in-Err
 returns-in-Err c = let both = answers _ _ _ _ c.requires c.if-out-size.false (sym c.sizes_outside.ensures ∙ c.if-sizes_outside.false) _ _ c.put_table-k.ensures c.load_in-loaded.ensures.value
     (rejected _ c.in-Err.is c.refused_at.ensures) in record { value = both.0; out_after = both.1 }

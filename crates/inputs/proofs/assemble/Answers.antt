@@ -1,5 +1,5 @@
 -- `inputs::assemble` meets its contract: the text is too long, its front is not as it should be, or the table comes after the front.
-use Rattle.std.specs.Prelude.{Err, Ok}
+use Rattle.std.specs.Prelude.{Err, Ok, Result}
 use native.Mathlib.Omega.{arith}
 use Prim.Native.Nat.{ℕ, suc, ◌+◌, ◌-◌, ◌≤◌, ◌<◌}
 use native.Mathlib.Numerals.{add-one}
@@ -9,7 +9,7 @@ use borrow.Author.Tests.{lt-ltb, le-ltb}
 use lib.ListN.{length, take, drop, length-drop}
 use Rattle.table.proofs.Parts.{rest_part}
 use Rattle.assembly.specs.Assembly.{longest_text, assembled}
-use Rattle.assembly.specs.declared.Assembled.TheVariants.{TooLong}
+use Rattle.assembly.specs.declared.AssemblyError.TheVariants.{TooLong}
 use Rattle.assembly.specs.Unseen.{after_lines}
 use Rattle.inputs.specs.Front.{whole, fault, front_of}
 use Rattle.inputs.specs.Input.{with_table, filled_with, made, made_in}
@@ -17,20 +17,20 @@ use Rattle.inputs.specs.Code.Steps.{ReadsFront, Addable, front_is}
 use Rattle.inputs.specs.declared.Wanted.{Wanted}
 use Rattle.inputs.specs.declared.front.Front.{Front as Kept}
 use Rattle.inputs.specs.declared.read.Read.{Read}
-use Rattle.inputs.specs.declared.Made.{Made}
-use Rattle.inputs.specs.declared.Made.TheVariants.{Malformed, NoTable}
+use Rattle.inputs.specs.declared.InputError.{InputError}
+use Rattle.inputs.specs.declared.InputError.TheVariants.{Malformed, NoTable}
 use borrow.Author.Rules.{rules}
 use Rattle.inputs.proofs.assemble.Goals as goal
 
-abbrev Answers : List ℕ → List ℕ → Made → List ℕ → Type 0
+abbrev Answers : List ℕ → List ℕ → Result ℕ InputError → List ℕ → Type 0
 Answers s out r o = (r ≡ made s) × (o ≡ made_in s out)
 
-too_long : (s out : List ℕ) → longest_text < length s → Answers s out (NoTable TooLong) out
+too_long : (s out : List ℕ) → longest_text < length s → Answers s out (Err (NoTable TooLong)) out
 unfolding made made_in
 too_long s out h = let e = lt-ltb longest_text (length s) h in (rw e, rw e)
 
 module _ (s out buf : List ℕ) (h : length s ≤ longest_text) {r : Read} (d : ReadsFront s buf r) where
-  no_front : {e : Wanted} → r.end ≡ Err e → Answers s out (Malformed (r.lines + 1) e) out
+  no_front : {e : Wanted} → r.end ≡ Err e → Answers s out (Err (Malformed (r.lines + 1) e)) out
   unfolding made made_in
   no_front {e} q =
       let x = le-ltb longest_text (length s) h in
@@ -53,7 +53,7 @@ module _ (s out buf : List ℕ) (h : length s ≤ longest_text) {r : Read} (d : 
           wide = wide;
         }
 
-    with_table_lem : (x : Made) (o : List ℕ) → x ≡ with_table (front_is f buf) r.lines rest (assembled rest) → o ≡ filled_with (assembled rest) (front_is f buf) rest out → Answers s out x o
+    with_table_lem : (x : Result ℕ InputError) (o : List ℕ) → x ≡ with_table (front_is f buf) r.lines rest (assembled rest) → o ≡ filled_with (assembled rest) (front_is f buf) rest out → Answers s out x o
     unfolding made made_in
     with_table_lem x o a b =
         let z = le-ltb longest_text (length s) h in

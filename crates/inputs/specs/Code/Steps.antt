@@ -10,7 +10,7 @@ use Rattle.inputs.specs.Front.{Front, nothing, workers, quota, between, turns, r
 use Rattle.inputs.specs.declared.front.Front.{Front as Kept}
 use Rattle.inputs.specs.declared.front.Front.TheVariants.{Nothing, Workers, Quota, Between, Turns, Rounds, Board}
 use Rattle.inputs.specs.declared.front.Step.{Step as Taken}
-use Rattle.inputs.specs.declared.front.Step.TheVariants.{Goes, Stops, Ends}
+use Rattle.inputs.specs.declared.front.Step.TheVariants.{Goes, Ends}
 use Rattle.inputs.specs.declared.read.Read.{Read}
 
 -- a word's number, and its bound
@@ -33,12 +33,12 @@ front_is (Turns p K n) buf = turns p K (take n buf)
 front_is (Rounds p K L) buf = rounds p K L
 front_is (Board p b M) buf = board p b M
 
-abbrev pub step_is : Taken → List ℕ → Step
-step_is (Goes f) buf = goes (front_is f buf)
-step_is (Stops e) buf = stops e
-step_is (Ends f) buf = ends (front_is f buf)
+abbrev pub step_is : Result Taken Wanted → List ℕ → Step
+step_is (Ok (Goes f)) buf = goes (front_is f buf)
+step_is (Err e) buf = stops e
+step_is (Ok (Ends f)) buf = ends (front_is f buf)
 
-abbrev pub end_is : Result Front Wanted → ℕ → List ℕ → Fronted
+abbrev pub end_is : Result Kept Wanted → ℕ → List ℕ → Fronted
 end_is (Ok f) k buf = whole (front_is f buf) k
 end_is (Err e) k buf = fault (suc k) e
 
@@ -52,7 +52,7 @@ held_by (Turns p K n) = n
 held_by (Rounds p K L) = 0
 held_by (Board p b M) = 0
 
-abbrev pub end_held : Result Front Wanted → ℕ
+abbrev pub end_held : Result Kept Wanted → ℕ
 end_held (Ok f) = held_by f
 end_held (Err e) = 0
 
@@ -72,17 +72,17 @@ pub record Ordering (r : Result ℕ Wanted) (buf : List ℕ) (o : Order) : Type 
   pub value : order_is r buf ≡ o
   pub few : order_held r ≤ max_order
 
-abbrev pub step_held : Taken → ℕ
-step_held (Goes f) = held_by f
-step_held (Stops e) = 0
-step_held (Ends f) = held_by f
+abbrev pub step_held : Result Taken Wanted → ℕ
+step_held (Ok (Goes f)) = held_by f
+step_held (Err e) = 0
+step_held (Ok (Ends f)) = held_by f
 
-pub record Stepping (r : Taken) (buf : List ℕ) (s : Step) : Type 0 where
+pub record Stepping (r : Result Taken Wanted) (buf : List ℕ) (s : Step) : Type 0 where
   pub value : step_is r buf ≡ s
   pub few : step_held r ≤ max_order
 
 -- a step that has nothing to do with the order
-pub record Plainly (r : Taken) (s : Step) : Type 0 where
+pub record Plainly (r : Result Taken Wanted) (s : Step) : Type 0 where
   pub value : (buf : List ℕ) → step_is r buf ≡ s
   pub none : step_held r ≡ 0
 
@@ -92,7 +92,7 @@ pub record Lined (s : List ℕ) (at end : ℕ) : Type 0 where
   pub within : end ≤ length s
 
 -- the text ends
-pub record Ending (f : Kept) (r : Result Front Wanted) : Type 0 where
+pub record Ending (f : Kept) (r : Result Kept Wanted) : Type 0 where
   pub value : (buf : List ℕ) (k : ℕ) → end_is r k buf ≡ at_end (front_is f buf) k
   pub few : end_held r ≤ held_by f
 

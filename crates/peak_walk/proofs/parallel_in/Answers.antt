@@ -1,6 +1,6 @@
 -- `peak_walk::parallel_in` meets its contract: the table's own checks first.
 use Rattle.std.specs.Prelude.{Ok, Err}
-use Rattle.std.proofs.Common.{◌≡◌, sym, ap, refl, ◌∙◌, rules}
+use Rattle.std.proofs.Common.{◌≡◌, sym, ap, refl, ◌∙◌}
 use Rattle.std.proofs.lemmas.Result.{err_from_is_err_and}
 use Rattle.table.specs.Pass.{first_found}
 use Rattle.table.specs.Checks.{passes}

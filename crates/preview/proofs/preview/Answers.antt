@@ -27,32 +27,32 @@ module _ (r : Run) (w : ℕ) {f : Foreseen} (e : as_preview f ≡ preview_of r w
   is_refused : {n : ℕ} {y : Refusal} → f ≡ refused n → y ≡ refusal_of f → Refused y ≡ preview_of r w
   is_refused i d = ap Refused (d ∙ ap refusal_of i) ∙ (ap as_preview (sym i) ∙ e)
 
-pub returns-then-not-tested : goal.returns-then-not-tested
-returns-then-not-tested c =
-    let both = both c.args.run c.args.w (ap Refused c.refused.ensures ∙ shows_unsound c.args.run c.args.w (test_fails _ c.test-tested.ensures c.if-not-tested.true)) in
+pub returns-in_default : goal.returns-in_default
+returns-in_default c =
+    let both = both c.args.run c.args.w (ap Refused c.refused.ensures ∙ shows_unsound c.args.run c.args.w (test_fails _ c.in_default.ensures)) in
     record { value = both.0; result_value = both.1 }
 
 pub returns-then-run-eq0 : goal.returns-then-run-eq0
 returns-then-run-eq0 c =
-    let both = both c.args.run c.args.w (ap Refused c.refused-then-run-eq0.ensures ∙ shows_none c.args.run c.args.w (test_passes _ c.test-tested.ensures c.if-not-tested.false) (omega (arith, c.if-run-eq0.true))) in
+    let both = both c.args.run c.args.w (ap Refused c.refused-then-run-eq0.ensures ∙ shows_none c.args.run c.args.w (test_passes _ _ c.in-Some.ensures) (omega (arith, c.if-run-eq0.true))) in
     record { value = both.0; result_value = both.1 }
 
 pub foresee-foreseen-requires : goal.foresee-foreseen-requires
-foresee-foreseen-requires c = (has_workers _ (test_passes _ c.test-tested.ensures c.if-not-tested.false) (omega (arith, c.if-run-eq0.false))).steady
+foresee-foreseen-requires c = (has_workers _ (test_passes _ _ c.in-Some.ensures) (omega (arith, c.if-run-eq0.false))).steady
 
 pub refusal_of-requires : goal.refusal_of-requires
 refusal_of-requires c =
-    let h = has_workers _ (test_passes _ c.test-tested.ensures c.if-not-tested.false) (omega (arith, c.if-run-eq0.false)) in
-    small_refusal c.args.run c.args.w h (test_parents _ c.test-tested.ensures h) (search rules) c.foresee-foreseen.ensures
+    let h = has_workers _ (test_passes _ _ c.in-Some.ensures) (omega (arith, c.if-run-eq0.false)) in
+    small_refusal c.args.run c.args.w h (test_parents _ _ c.in-Some.ensures h) (search rules) c.foresee-foreseen.ensures
 
 pub returns-in_default : goal.returns-in_default
 returns-in_default c =
-    let h = has_workers _ (test_passes _ c.test-tested.ensures c.if-not-tested.false) (omega (arith, c.if-run-eq0.false)) in
-    let both = both c.args.run c.args.w (is_refused c.args.run c.args.w (foreseen_preview c.args.run c.args.w h (test_parents _ c.test-tested.ensures h) (search rules) c.foresee-foreseen.ensures) c.in_default.is c.refusal_of.ensures) in
+    let h = has_workers _ (test_passes _ _ c.in-Some.ensures) (omega (arith, c.if-run-eq0.false)) in
+    let both = both c.args.run c.args.w (is_refused c.args.run c.args.w (foreseen_preview c.args.run c.args.w h (test_parents _ _ c.in-Some.ensures h) (search rules) c.foresee-foreseen.ensures) c.in_default.is c.refusal_of.ensures) in
     record { value = both.0; result_value = both.1 }
 
 pub returns : goal.returns
 returns c =
-    let h = has_workers _ (test_passes _ c.test-tested.ensures c.if-not-tested.false) (omega (arith, c.if-run-eq0.false)) in
-    let both = both c.args.run c.args.w (is_taken c.args.run c.args.w (foreseen_preview c.args.run c.args.w h (test_parents _ c.test-tested.ensures h) (search rules) c.foresee-foreseen.ensures) c.in-Would.is) in
+    let h = has_workers _ (test_passes _ _ c.in-Some.ensures) (omega (arith, c.if-run-eq0.false)) in
+    let both = both c.args.run c.args.w (is_taken c.args.run c.args.w (foreseen_preview c.args.run c.args.w h (test_parents _ _ c.in-Some.ensures h) (search rules) c.foresee-foreseen.ensures) c.in-Would.is) in
     record { value = both.0; result_value = both.1 }

@@ -4,7 +4,6 @@ use mathlib.Core.Path.{refl, sym, ap, subst, ◌∙◌}
 use Prim.Native.Nat.{ℕ}
 use mathlib.Core.List.{List}
 use mathlib.Core.Bool.{true}
-use borrow.Author.Rules.{rules}
 use lib.Seq.{length-take-le}
 use Rattle.table.specs.Format.{table_of}
 use Rattle.table.specs.Rules.{Rules}

@@ -6,7 +6,7 @@ use mathlib.Core.List.{List}
 use mathlib.Core.Bool.{Bool, true, false}
 use lib.ListN.{length, get_or, drop, drop_of_length-le}
 use lib.Seq.{drop-cons}
-use Rattle.assembly.specs.Words.{span_of, in_class, Spans}
+use Rattle.assembly.specs.Words.{span_of, Spans}
 use Rattle.assembly.proofs.Parts.{span_here, span_stops}
 use Rattle.assembly.proofs.scan.span.Invariants.{Inv}
 use Rattle.assembly.proofs.scan.span.Goals as goal

@@ -1,5 +1,5 @@
 -- `assembly::word::number` meets its contract. The invariant: the rest, read on from v, has the word's value.
-use Prim.Native.Nat.{ℕ, ◌-◌, ◌≤◌}
+use Prim.Native.Nat.{ℕ, ◌≤◌}
 use mathlib.Core.Path.{◌≡◌}
 use mathlib.Core.List.{List}
 use mathlib.Core.Bool.{false}

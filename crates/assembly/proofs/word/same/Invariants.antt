@@ -1,5 +1,5 @@
 -- `assembly::word::same` meets its contract. The invariant: the lists are the same exactly where what is left of them is.
-use Prim.Native.Nat.{ℕ, ◌-◌, ◌≤◌}
+use Prim.Native.Nat.{ℕ, ◌≤◌}
 use mathlib.Core.Path.{◌≡◌}
 use mathlib.Core.List.{List}
 use lib.ListN.{length, drop}

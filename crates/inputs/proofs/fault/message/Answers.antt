@@ -19,14 +19,14 @@ told s o r ts h p =
     let q = puts_whole h p in
     (q.0, (q.1, counts o r (omega (arith, q.0, ap length q.1, length-append (flatten ts) (drop r s)))))
 
-pub returns-in-Written : goal.returns-in-Written
-returns-in-Written c = record { value = rw c.in-Written.is refl; out_after = rw c.in-Written.is refl; prefix_len = none c.args.out.now }
+pub returns-in-Ok : goal.returns-in-Ok
+returns-in-Ok c = record { value = rw c.in-Ok.is refl; out_after = rw c.in-Ok.is refl; prefix_len = none c.args.out.now }
 
 pub returns-in-Malformed : goal.returns-in-Malformed
 returns-in-Malformed c =
     let both = told _ _ _ _ (search rules) c.put_malformed.ensures in
-    record { value = rw c.in-Malformed.is both.0; out_after = rw c.in-Malformed.is both.1.0; prefix_len = both.1.1 }
+    record { value = rw (c.in-Err.is, c.in-Malformed.is) both.0; out_after = rw (c.in-Err.is, c.in-Malformed.is) both.1.0; prefix_len = both.1.1 }
 
 pub returns-in-NoTable : goal.returns-in-NoTable
 returns-in-NoTable c =
-    record { value = rw c.in-NoTable.is c.message.ensures.value; out_after = rw c.in-NoTable.is c.message.ensures.out_after; prefix_len = c.message.ensures.prefix_len }
+    record { value = rw (c.in-Err.is, c.in-NoTable.is) c.message.ensures.value; out_after = rw (c.in-Err.is, c.in-NoTable.is) c.message.ensures.out_after; prefix_len = c.message.ensures.prefix_len }

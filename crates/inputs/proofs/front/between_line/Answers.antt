@@ -2,10 +2,11 @@
 use mathlib.Core.Path.{refl, sym, ◌∙◌}
 use Rattle.inputs.specs.Front.{between}
 use Rattle.inputs.proofs.Given.{given_goes, given_stops}
+use Rattle.std.proofs.lemmas.Result.{err_from_is_err_and}
 use Rattle.inputs.proofs.front.between_line.Goals as goal
 
-pub returns-in-Ok : goal.returns-in-Ok
-returns-in-Ok c = given_goes (between c.args.p) _ (sym c.read_figure-given.ensures ∙ c.in-Ok.is) (λ buf. refl) refl
+pub returns : goal.returns
+returns c = given_goes (between c.args.p) _ (sym c.read_figure.ensures ∙ c.in_ok-b.was) (λ buf. refl) refl
 
-pub returns-in-Err : goal.returns-in-Err
-returns-in-Err c = given_stops (between c.args.p) _ (sym c.read_figure-given.ensures ∙ c.in-Err.is)
+pub returns-in_err-b : goal.returns-in_err-b
+returns-in_err-b c = let q = err_from_is_err_and c.from_residual.result c.from_residual.ensures.1 in rw (q.1, q.2) (given_stops (between c.args.p) _ (sym c.read_figure.ensures ∙ c.in_err-b.was))

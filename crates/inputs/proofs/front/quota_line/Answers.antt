@@ -2,10 +2,11 @@
 use mathlib.Core.Path.{refl, sym, ◌∙◌}
 use Rattle.inputs.specs.Front.{quota}
 use Rattle.inputs.proofs.Given.{given_goes, given_stops}
+use Rattle.std.proofs.lemmas.Result.{err_from_is_err_and}
 use Rattle.inputs.proofs.front.quota_line.Goals as goal
 
-pub returns-in-Ok : goal.returns-in-Ok
-returns-in-Ok c = given_goes (quota c.args.p) _ (sym c.read_figure-given.ensures ∙ c.in-Ok.is) (λ buf. refl) refl
+pub returns : goal.returns
+returns c = given_goes (quota c.args.p) _ (sym c.read_figure.ensures ∙ c.in_ok-k.was) (λ buf. refl) refl
 
-pub returns-in-Err : goal.returns-in-Err
-returns-in-Err c = given_stops (quota c.args.p) _ (sym c.read_figure-given.ensures ∙ c.in-Err.is)
+pub returns-in_err-k : goal.returns-in_err-k
+returns-in_err-k c = let q = err_from_is_err_and c.from_residual.result c.from_residual.ensures.1 in rw (q.1, q.2) (given_stops (quota c.args.p) _ (sym c.read_figure.ensures ∙ c.in_err-k.was))

@@ -14,12 +14,13 @@ use Rattle.inputs.specs.declared.front.Front.{Front as Kept}
 use Rattle.inputs.specs.declared.front.Step.TheVariants.{Goes}
 use Rattle.inputs.proofs.Given.{stepping_as}
 use Rattle.inputs.proofs.front.take_line.Goals as goal
+use Rattle.std.specs.Prelude.{Ok}
 
 module _ (l : List ℕ) (p a b : ℕ) (v : Spans (in_class Plain) l p) (f : FirstWord (take p l) a b) where
   no_words : a ≡ b → words_of l ≡ []
   no_words e = rw (← v.value) (f.none e)
 
-  unchanged : (g : Kept) (buf : List ℕ) → Room buf (held_by g) → a ≡ b → Stepping (Goes g) buf (step_of (front_is g buf) (words_of l))
+  unchanged : (g : Kept) (buf : List ℕ) → Room buf (held_by g) → a ≡ b → Stepping (Ok (Goes g)) buf (step_of (front_is g buf) (words_of l))
   unchanged g buf r e = record { value = rw (no_words e); few = r.few }
 
   by_word : (g : Front) → (a ≡ b → ⊥)

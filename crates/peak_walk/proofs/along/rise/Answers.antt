@@ -1,8 +1,6 @@
 use Rattle.peak_walk.proofs.Readings.{up_fits, down_fits, alloc_read, free_read, read_code, read_argument, may_in, rests_read, since_next, greatest_more, rise_whole}
-use Rattle.std.proofs.Common.{◌≡◌, ◌-◌, ◌≤◌, refl, ◌∙◌, arith, rules}
+use Rattle.std.proofs.Common.{◌-◌, refl, ◌∙◌, arith}
 use Rattle.table.specs.Sum.{greatest_to}
-use Rattle.table.specs.Format.{table_of}
-use Rattle.table.specs.Checks.{alloc_of, free_of}
 use Rattle.peak_walk.specs.Along.{since_rest}
 use Rattle.peak_walk.proofs.along.rise.Goals as goal
 

@@ -1,8 +1,8 @@
 use Rattle.peak_walk.proofs.Readings.{drawn_fits, kind_read, alloc_read, drawn_read, read_code, read_argument, ends_in, drawn_next, greatest_more, stretch_whole}
-use Rattle.std.proofs.Common.{◌≡◌, ◌+◌, ◌-◌, ◌≤◌, refl, arith, rules}
+use Rattle.std.proofs.Common.{◌≡◌, ◌+◌, refl, arith}
 use Rattle.table.specs.Sum.{greatest_to}
 use Rattle.table.specs.Format.{table_of}
-use Rattle.peaks.specs.Rests.{drawn_at, drawn_before, stretch}
+use Rattle.peaks.specs.Rests.{drawn_at, drawn_before}
 use Rattle.peak_walk.proofs.along.stretch.Goals.{After-drawn_of-x}
 use Rattle.peak_walk.proofs.along.stretch.Goals as goal
 

@@ -1,4 +1,4 @@
-use Rattle.std.proofs.Common.{◌≡◌, suc, ◌-◌, ◌≤◌, sym, ◌∙◌, subst, arith, rules}
+use Rattle.std.proofs.Common.{◌≡◌, suc, ◌-◌, sym, ◌∙◌, subst, arith}
 use Rattle.table.specs.Format.{table_of}
 use Rattle.peak_walk.specs.Code.Parallel.{Bests}
 use Rattle.peak_walk.proofs.PassedDown.{passed_down, root_best}

@@ -1,4 +1,4 @@
-use Rattle.std.proofs.Common.{◌≡◌, ℕ, ◌+◌, ◌-◌, ◌≤◌, List, refl, ◌∙◌, add-one, arith, rules}
+use Rattle.std.proofs.Common.{◌≡◌, ℕ, ◌+◌, List, refl, ◌∙◌, add-one, arith}
 use Rattle.table.specs.Format.{kind_of, code_at, argument_at, bodies_from}
 use Rattle.peak_walk.proofs.Readings.{read_code, read_argument}
 use Rattle.peak_walk.specs.Code.Parallel.{Passed, pass, passed_on, passed}

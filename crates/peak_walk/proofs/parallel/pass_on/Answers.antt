@@ -1,6 +1,5 @@
 -- `peak_walk::parallel::pass_on` meets its contract.
-use Rattle.std.proofs.Common.{refl, ◌≡◌, ℕ, ◌+◌, ◌%◌, ◌^◌, max, List, rules}
-use Rattle.table.specs.Format.{kind_of}
+use Rattle.std.proofs.Common.{refl, ◌≡◌, ℕ, ◌+◌, ◌%◌, ◌^◌, max, List}
 use Rattle.table.specs.declared.kinds.Kind.{Kind}
 use Rattle.peak_walk.specs.Code.Walk.{balance_after}
 use Rattle.peak_walk.specs.Code.Parallel.{children_after, pass, passed_on}

@@ -1,6 +1,6 @@
-use Rattle.std.proofs.Common.{◌≡◌, ℕ, suc, ◌+◌, ◌-◌, ◌*◌, ◌≤◌, max, List, get_or, refl, ◌∙◌, add-one, arith, rules}
+use Rattle.std.proofs.Common.{◌≡◌, ℕ, suc, ◌+◌, ◌*◌, max, List, get_or, refl, ◌∙◌, add-one, arith}
 use Rattle.table.specs.Sum.{greatest_to}
-use Rattle.peak_walk.specs.Code.Walk.{Small, slot}
+use Rattle.peak_walk.specs.Code.Walk.{slot}
 use Rattle.peak_walk.proofs.row.row_greatest.Goals as goal
 
 again : (rows : List ℕ) (d j best x v : ℕ) → best ≡ greatest_to (λ i. get_or rows (slot d i) 0) j → x ≡ get_or rows (17 * d + j) 0 → v ≡ max best x

@@ -1,5 +1,5 @@
 -- `peak_walk::rows::row_greatest` meets its contract. The invariant: the greatest of the numbers before j.
-use Rattle.std.proofs.Common.{◌≡◌, ℕ, suc, ◌+◌, ◌-◌, ◌*◌, ◌≤◌, max, List, get_or, refl, ◌∙◌, add-one, arith, rules}
+use Rattle.std.proofs.Common.{◌≡◌, suc, ◌≤◌, get_or}
 use Rattle.table.specs.Sum.{greatest_to}
 use Rattle.peak_walk.specs.Code.Walk.{Small, slot}
 use Rattle.peak_walk.proofs.row.row_greatest.Given as goal

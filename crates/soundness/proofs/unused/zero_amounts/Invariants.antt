@@ -1,6 +1,4 @@
 -- `soundness::unused::zero_amounts` meets its contract. The invariant: the places below t are 0.
-use Prim.Native.Nat.{◌-◌}
-use lib.ListN.{length}
 use Rattle.order.proofs.Every.{PassedFrom}
 use Rattle.soundness.proofs.Filled.{is_zero}
 use Rattle.soundness.proofs.unused.zero_amounts.Given as goal

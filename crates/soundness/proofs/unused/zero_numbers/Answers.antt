@@ -1,4 +1,3 @@
-use native.Mathlib.Omega.{arith}
 use Rattle.order.proofs.Every.{from_none}
 use Rattle.soundness.proofs.Filled.{is_zero, rest_more, zeros_fail, zeros_pass}
 use Rattle.soundness.proofs.unused.zero_numbers.Goals as goal
