@@ -41,14 +41,22 @@ module _ (r : Run) (e : unsound r ≡ false) where
       go true i = absurd (omega (arith, (steady_fits r ((sound_exactly r).0 i).steady).some_worker))
       go false i = (blank_exactly r).0 (not-false (is_blank r) (rw i at e))
 
--- a test that gives nothing, and one that gives something
-none_given : (q : Bool) (l : List ℕ) → None ≡ pick {A = Option (List ℕ)} q None (Some l) → q ≡ true
+-- what a test gives: nothing, or something
+pub none_given : (q : Bool) (l : List ℕ) → None ≡ pick {A = Option (List ℕ)} q None (Some l) → q ≡ true
 none_given true l e = refl
 none_given false l e = cc
 
-some_given : (q : Bool) (k l : List ℕ) → Some k ≡ pick {A = Option (List ℕ)} q None (Some l) → (q ≡ false) × (k ≡ l)
+pub some_given : (q : Bool) (k l : List ℕ) → Some k ≡ pick {A = Option (List ℕ)} q None (Some l) → (q ≡ false) × (k ≡ l)
 some_given true k l e = cc
 some_given false k l e = (refl, (cc))
+
+pub some_found : (q : Bool) (l k : List ℕ) → Some k ≡ pick {A = Option (List ℕ)} q (Some l) None → (q ≡ true) × (k ≡ l)
+some_found true l k e = (refl, (cc))
+some_found false l k e = cc
+
+pub none_found : (q : Bool) (l : List ℕ) → None ≡ pick {A = Option (List ℕ)} q (Some l) None → q ≡ false
+none_found true l e = cc
+none_found false l e = refl
 
 -- what the test of a record says of it
 module _ (r : Run) where
@@ -61,6 +69,9 @@ module _ (r : Run) where
     unfolding tested
     test_passes = (some_given (unsound r) parents (parents_if (sound r) (table_in r)) e).0
 
-    pub test_parents : Sound r → Parents (table_in r) parents
+    pub test_gives : parents ≡ parents_if (sound r) (table_in r)
     unfolding tested
-    test_parents h = parents_right (table_in r) ((some_given (unsound r) parents (parents_if (sound r) (table_in r)) e).1 ∙ rw ((sound_exactly r).1 h))
+    test_gives = (some_given (unsound r) parents (parents_if (sound r) (table_in r)) e).1
+
+    pub test_parents : Sound r → Parents (table_in r) parents
+    test_parents h = parents_right (table_in r) (test_gives ∙ rw ((sound_exactly r).1 h))

@@ -6,12 +6,9 @@ use Rattle.assembly.specs.declared.Expected.{Expected}
 use Rattle.assembly.specs.declared.Expected.TheVariants.{Keyword, Number, LineEnd, NextThread}
 use Rattle.assembly.specs.declared.unseen.Unseen.{Unseen}
 use Rattle.assembly.specs.declared.unseen.Unseen.TheVariants.{Nothing, Return, Mark}
-use Rattle.assembly.specs.declared.Assembled.{Assembled}
-use Rattle.assembly.specs.declared.Assembled.TheVariants.{Written, TooLong, Malformed, Refused}
-use Rattle.assembly.specs.declared.Assembling.{Assembling}
-use Rattle.assembly.specs.declared.Assembling.TheVariants.{Answered, Short}
-use Rattle.assembly.specs.declared.Disassembling.{Disassembling}
-use Rattle.assembly.specs.declared.Disassembling.TheVariants.{Answered as Told, Short as Lacks}
+use Rattle.assembly.specs.declared.AssemblyError.{AssemblyError}
+use Rattle.assembly.specs.declared.AssemblyError.TheVariants.{TooLong, Malformed, Refused}
+use Rattle.assembly.specs.declared.Short.{Short}
 
 -- what should have stood on a line: a keyword, a number, the line's end or the next thread
 abbrev pub expected_code : Expected → ℕ
@@ -34,27 +31,27 @@ unseen_code Return = 1
 unseen_code Mark = 2
 
 -- 62: a text that is too long; 63: a line that is not as it should be
-abbrev pub number_of : Assembled → ℕ
-number_of (Written k) = 0
-number_of TooLong = 62
-number_of (Malformed line e) = 63
-number_of (Refused r line) = r.number
+abbrev pub number_of : Result ℕ AssemblyError → ℕ
+number_of (Ok k) = 0
+number_of (Err TooLong) = 62
+number_of (Err (Malformed line e)) = 63
+number_of (Err (Refused r line)) = r.number
 
 -- of a text s: the place, the table's bytes, the line, what was expected there, which thread, and what an editor may not show
-abbrev pub row_of : List ℕ → Assembled → List ℕ
-row_of s (Written k) = 0 ∷ k ∷ 0 ∷ 0 ∷ 0 ∷ 0 ∷ []
-row_of s TooLong = 0 ∷ 0 ∷ 0 ∷ 0 ∷ 0 ∷ 0 ∷ []
-row_of s (Malformed line e) = 0 ∷ 0 ∷ line ∷ expected_code e ∷ expected_thread e ∷ unseen_code (unseen_at s line) ∷ []
-row_of s (Refused r line) = r.place ∷ 0 ∷ line ∷ 0 ∷ 0 ∷ 0 ∷ []
+abbrev pub row_of : List ℕ → Result ℕ AssemblyError → List ℕ
+row_of s (Ok k) = 0 ∷ k ∷ 0 ∷ 0 ∷ 0 ∷ 0 ∷ []
+row_of s (Err TooLong) = 0 ∷ 0 ∷ 0 ∷ 0 ∷ 0 ∷ 0 ∷ []
+row_of s (Err (Malformed line e)) = 0 ∷ 0 ∷ line ∷ expected_code e ∷ expected_thread e ∷ unseen_code (unseen_at s line) ∷ []
+row_of s (Err (Refused r line)) = r.place ∷ 0 ∷ line ∷ 0 ∷ 0 ∷ 0 ∷ []
 
 -- 61: the buffer has too few bytes, and the row says how many there must be
-abbrev pub assemble_number : Assembling → ℕ
-assemble_number (Answered a) = number_of a
-assemble_number (Short k) = 61
+abbrev pub assemble_number : Result (Result ℕ AssemblyError) Short → ℕ
+assemble_number (Ok a) = number_of a
+assemble_number (Err e) = 61
 
-abbrev pub assemble_row : List ℕ → Assembling → List ℕ
-assemble_row s (Answered a) = row_of s a
-assemble_row s (Short k) = 0 ∷ k ∷ 0 ∷ 0 ∷ 0 ∷ 0 ∷ []
+abbrev pub assemble_row : List ℕ → Result (Result ℕ AssemblyError) Short → List ℕ
+assemble_row s (Ok a) = row_of s a
+assemble_row s (Err e) = 0 ∷ e.needed ∷ 0 ∷ 0 ∷ 0 ∷ 0 ∷ []
 
 -- of a table: the number, and then the place and the text's bytes
 abbrev pub listed_number : Result ℕ Refusal → ℕ
@@ -65,10 +62,10 @@ abbrev pub listed_row : Result ℕ Refusal → List ℕ
 listed_row (Ok k) = 0 ∷ k ∷ []
 listed_row (Err r) = r.place ∷ 0 ∷ []
 
-abbrev pub disassemble_number : Disassembling → ℕ
-disassemble_number (Told a) = listed_number a
-disassemble_number (Lacks k) = 61
+abbrev pub disassemble_number : Result (Result ℕ Refusal) Short → ℕ
+disassemble_number (Ok a) = listed_number a
+disassemble_number (Err e) = 61
 
-abbrev pub disassemble_row : Disassembling → List ℕ
-disassemble_row (Told a) = listed_row a
-disassemble_row (Lacks k) = 0 ∷ k ∷ []
+abbrev pub disassemble_row : Result (Result ℕ Refusal) Short → List ℕ
+disassemble_row (Ok a) = listed_row a
+disassemble_row (Err e) = 0 ∷ e.needed ∷ []

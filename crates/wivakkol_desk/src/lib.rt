@@ -5,11 +5,11 @@
 ghost use Rattle.std.specs.Prelude.{◌≡◌, length, replicate};
 ghost use Rattle.assembly.specs.Assembly.{assembling, assembling_in};
 ghost use Rattle.assembly.specs.Disassembly.{disassembling, disassembling_in};
-ghost use Rattle.wivakkol_desk.specs.Rows.{expected_code, expected_thread, unseen_code, number_of, row_of, assemble_number, assemble_row, disassemble_number, disassemble_row};
+ghost use Rattle.wivakkol_desk.specs.Rows.{expected_code, expected_thread, unseen_code, number_of, row_of, listed_number, listed_row, assemble_number, assemble_row, disassemble_number, disassemble_row};
 
 use assembly::unseen::{Unseen, unseen_at};
-use assembly::{
-    Assembled, Assembling, Disassembling, Expected, assemble_in, disassemble_in };
+use assembly::{AssemblyError, Expected, assemble_in, disassemble_in};
+use table::Refusal;
 
 // What should have stood on a line, 1 to 4, and the thread where it is the next one.
 fn expected_code(e: Expected) -> u64
@@ -45,33 +45,52 @@ fn unseen_code(unseen: Unseen) -> u64
 }
 
 // The number and row of an answer for which the buffer had room.
-fn answer_row(text: &[u8], answer: Assembled, row: &mut [u64; 6]) -> u32
+fn answer_row(text: &[u8], answer: Result<usize, AssemblyError>, row: &mut [u64; 6]) -> u32
     ensures value { result ≡ number_of answer }
     ensures row_after { row.new ≡ row_of text.now answer }
 {
     match answer {
-        Assembled::Written(k) => {
+        Ok(k) => {
             *row = [0, k as u64, 0, 0, 0, 0];
             0
         }
-        Assembled::TooLong => {
-            *row = [0, 0, 0, 0, 0, 0];
-            62
+        Err(error) => match error {
+            AssemblyError::TooLong => {
+                *row = [0, 0, 0, 0, 0, 0];
+                62
+            }
+            AssemblyError::Malformed(line, e) => {
+                let unseen = unseen_code(unseen_at(text, line));
+                *row = [
+                    0,
+                    0,
+                    line as u64,
+                    expected_code(e),
+                    expected_thread(e),
+                    unseen,
+                ];
+                63
+            }
+            AssemblyError::Refused(r, line) => {
+                *row = [r.place as u64, 0, line as u64, 0, 0, 0];
+                r.number as u32
+            }
+        },
+    }
+}
+
+// The same of a table.
+fn listed_row(answer: Result<usize, Refusal>, row: &mut [u64; 2]) -> u32
+    ensures value { result ≡ listed_number answer }
+    ensures row_after { row.new ≡ listed_row answer }
+{
+    match answer {
+        Ok(k) => {
+            *row = [0, k as u64];
+            0
         }
-        Assembled::Malformed(line, e) => {
-            let unseen = unseen_code(unseen_at(text, line));
-            *row = [
-                0,
-                0,
-                line as u64,
-                expected_code(e),
-                expected_thread(e),
-                unseen,
-            ];
-            63
-        }
-        Assembled::Refused(r, line) => {
-            *row = [r.place as u64, 0, line as u64, 0, 0, 0];
+        Err(r) => {
+            *row = [r.place as u64, 0];
             r.number as u32
         }
     }
@@ -94,9 +113,9 @@ pub fn wivakkol_assemble_on(
 {
     let answer = assemble_in(text, out, rises, falls, peaks, depths);
     match answer {
-        Assembling::Answered(a) => answer_row(text, a, row),
-        Assembling::Short(k) => {
-            *row = [0, k as u64, 0, 0, 0, 0];
+        Ok(a) => answer_row(text, a, row),
+        Err(short) => {
+            *row = [0, short.needed as u64, 0, 0, 0, 0];
             61
         }
     }
@@ -119,20 +138,9 @@ pub fn wivakkol_disassemble_on(
 {
     let answer = disassemble_in(table, out, rises, falls, peaks, depths);
     match answer {
-        Disassembling::Answered(a) => {
-            match a {
-                Ok(k) => {
-                    *row = [0, k as u64];
-                    0
-                }
-                Err(r) => {
-                    *row = [r.place as u64, 0];
-                    r.number as u32
-                }
-            }
-        }
-        Disassembling::Short(k) => {
-            *row = [0, k as u64];
+        Ok(a) => listed_row(a, row),
+        Err(short) => {
+            *row = [0, short.needed as u64];
             61
         }
     }

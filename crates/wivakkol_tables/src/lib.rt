@@ -4,12 +4,13 @@
 
 ghost use Rattle.std.specs.Prelude.{◌≡◌, replicate};
 ghost use Rattle.canonical.specs.Canonical.{canonical as form_of};
-ghost use Rattle.canonical.specs.Answers.{formed_in, form_values, compared_in, compare_values};
+ghost use Rattle.canonical.specs.Answers.{formed_in, form_values, compared_in, compare_values, said_number};
 ghost use Rattle.joining.specs.Answers.{joined_in, join_values};
 ghost use Rattle.wivakkol_tables.specs.Rows.{form_row, compare_row, join_row};
 
-use canonical::{Compared, compare_in, form_in};
-use joining::{Joined, join_in};
+use canonical::{compare_in, form_in};
+use joining::{JoinError, join_in};
+use std::cmp::Ordering;
 
 // The canonical form of a table. The working memory of these calls may hold anything, and is left cleared.
 pub fn wivakkol_canonical_on(
@@ -40,6 +41,17 @@ pub fn wivakkol_canonical_on(
     }
 }
 
+// 1 before, 2 equal, 3 after.
+fn said_number(order: Ordering) -> u64
+    ensures { result ≡ said_number order }
+{
+    match order {
+        Ordering::Less => 1,
+        Ordering::Equal => 2,
+        Ordering::Greater => 3,
+    }
+}
+
 // Two tables compared by the bytes of their forms.
 pub fn wivakkol_compare_on(
     first: &[u8],
@@ -61,21 +73,13 @@ pub fn wivakkol_compare_on(
 {
     let answer = compare_in(first, second, a, b, rises, falls, names, order);
     match answer {
-        Compared::Before => {
-            *row = [0, 1, 0];
+        Ok(order) => {
+            *row = [0, said_number(order), 0];
             0
         }
-        Compared::Equal => {
-            *row = [0, 2, 0];
-            0
-        }
-        Compared::After => {
-            *row = [0, 3, 0];
-            0
-        }
-        Compared::Refused(t, r) => {
-            *row = [r.place as u64, 0, t as u64];
-            r.number as u32
+        Err(e) => {
+            *row = [e.refusal.place as u64, 0, e.table as u64];
+            e.refusal.number as u32
         }
     }
 }
@@ -98,7 +102,7 @@ pub fn wivakkol_join_on(
 {
     let answer = join_in(tables, lengths, out, rises, falls, peaks, depths);
     match answer {
-        Joined::Written(f) => {
+        Ok(f) => {
             *row = [
                 0,
                 f.threads as u64,
@@ -110,13 +114,15 @@ pub fn wivakkol_join_on(
             ];
             0
         }
-        Joined::Refused(r) => {
-            *row = [r.place as u64, 0, 0, 0, 0, 0, 0];
-            r.number as u32
-        }
-        Joined::InPart(i, r) => {
-            *row = [r.place as u64, 0, 0, 0, 0, 0, i as u64];
-            r.number as u32
-        }
+        Err(e) => match e {
+            JoinError::Whole(r) => {
+                *row = [r.place as u64, 0, 0, 0, 0, 0, 0];
+                r.number as u32
+            }
+            JoinError::InPart(i, r) => {
+                *row = [r.place as u64, 0, 0, 0, 0, 0, i as u64];
+                r.number as u32
+            }
+        },
     }
 }

@@ -1,6 +1,6 @@
 -- `soundness::test` meets its contract: a sound record has its parents noted, and one that is not sound passes where it is blank.
 use Rattle.std.specs.Prelude.{Option, None, Some}
-use mathlib.Core.Path.{◌≡◌, refl, sym, ◌∙◌}
+use mathlib.Core.Path.{◌≡◌, sym, ◌∙◌}
 use Prim.Native.Nat.{ℕ}
 use mathlib.Core.List.{List}
 use mathlib.Core.Bool.{Bool, true, false}
@@ -11,19 +11,12 @@ use Rattle.schedule.specs.Record.{table_in}
 use Rattle.schedule.specs.Sound.{sound}
 use Rattle.schedule.specs.Turn.{is_blank, unsound}
 use Rattle.soundness.specs.Tested.{parents_in, tested}
+use Rattle.soundness.proofs.Passed.{some_found, none_found}
 use Rattle.soundness.proofs.test.Goals as goal
 
 -- what is found of a record that may be sound
 abbrev found : Run → Option (List ℕ)
 found r = pick {A = Option (List ℕ)} (sound r) (Some (parents_in (table_in r))) None
-
-some_found : (q : Bool) (l k : List ℕ) → Some k ≡ pick {A = Option (List ℕ)} q (Some l) None → (q ≡ true) × (k ≡ l)
-some_found true l k e = (refl, (cc))
-some_found false l k e = cc
-
-none_found : (q : Bool) (l : List ℕ) → None ≡ pick {A = Option (List ℕ)} q (Some l) None → q ≡ false
-none_found true l e = cc
-none_found false l e = refl
 
 module _ (r : Run) where
   is_sound : (l : List ℕ) → Some l ≡ found r → Some l ≡ tested r
